@@ -7,3 +7,6 @@ pub mod MakingLemmas
 pub mod ObjectRows
 pub mod LeafRows
 pub mod KeyRows
+pub mod LooseValues
+pub mod HandleValues
+pub mod PreparedLemmas

@@ -13,7 +13,7 @@ use Rattle.jsonb_c.specs.Names.{WithNames, dropped_names, picked_names}
 use Rattle.jsonb_c.specs.Private.NameColumns.{HasNames}
 use Rattle.jsonb_c.specs.declared.status.Status.{Status}
 
--- the set and the names behind are the names
+-- the set and the names after are the names
 abbrev pub Gathers : TextSet → List (Bor (List ℕ)) → List (Bor (List ℕ)) → Type 0
 Gathers set left names = (q : List ℕ)
     → (is_in set q || list_any (λ name. bytes_eq name q) (map (λ n. n.now) left)) ≡ list_any (λ name. bytes_eq name q) (map (λ n. n.now) names)

@@ -11,7 +11,7 @@ use Rattle.jsonb_c.specs.Names.{name_of, in_front, names_of, WithNames}
 use Rattle.jsonb_c.specs.declared.status.Status.{Status}
 use Rattle.jsonb_c.specs.declared.status.Status.TheVariants.{NotUtf8, Refused}
 
--- the names that are read so far, with those of the rows behind
+-- the names that are read so far, with those of the rows after
 abbrev pub behind : List (List ℕ) → Result (List (List ℕ)) Status → Result (List (List ℕ)) Status
 behind names (Ok others) = Ok (names ++ others)
 behind names (Err cause) = Err cause
@@ -77,7 +77,7 @@ not_utf8 bytes false is other = is
 pub name_err : (row : Option (List ℕ)) (bytes : List ℕ) → row ≡ Some bytes → ¬ (IsUtf8 bytes) → name_of row ≡ Err NotUtf8
 name_err row bytes is other = rw (is, not_utf8 bytes (is_utf8 bytes) refl other) refl
 
--- the name is put behind the others, where there is memory for it
+-- the name is put after the others, if there is memory for it
 pub pushed_name : (old new : List (Bor (List ℕ))) (name : Bor (List ℕ)) (b : Bool) → new ≡ cond b (old ++ name ∷ []) old → b ≡ true
     → map (λ n. n.now) new ≡ map (λ n. n.now) old ++ name.now ∷ []
 pushed_name old new name b is done = rw (is, done) (map-append (λ n. n.now) old (name ∷ []))

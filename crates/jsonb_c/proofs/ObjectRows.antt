@@ -89,7 +89,7 @@ pub record PutSoFar (form : Form) (es : List (List ℕ × EntryParts)) (i : ℕ)
 pub none_put : (form : Form) (es : List (List ℕ × EntryParts)) (rows : List (List ℕ × Tree)) → es ≡ [] → PutSoFar form es 0 rows
 none_put form es rows is = record { held = []; holds = rw is tt; count = refl; left = refl; short = λ h. tt }
 
--- what a push of the next row answers
+-- what a push of the next row returns
 abbrev pub PutStep : Form → List (List ℕ × EntryParts) → ℕ → List (List ℕ × Tree) → Result (Unit {0}) Error → Type 0
 PutStep form after i rows r = MatchResult r (λ _. PutSoFar form after (i + 1) rows)
     (λ e. (IsOutOfMemory or TooLarge when IsTooLarge form (object (pairs_of rows))) e ⊎ (put_rows [] rows ≡ Err e))
@@ -147,7 +147,7 @@ pub all_put : (form : Form) (es : List (List ℕ × EntryParts)) (i : ℕ) (rows
     → PutSoFar form es i rows → (ps : List (List ℕ × Tree)) × HoldsPairs form es ps × (put_rows [] rows ≡ Ok ps)
 all_put form es i rows none so_far = (so_far.held, so_far.holds, sym so_far.left ∙ rw none refl)
 
--- ---- names beside documents
+-- ---- names next to documents
 
 abbrev pub texts : List (Bor (List ℕ)) → List (List ℕ)
 texts names = map (λ name. name.now) names
@@ -171,7 +171,7 @@ rows_end (name ∷ names) [] (suc i) le = refl
 rows_end (name ∷ names) (t ∷ ts) zero le = absurd (omega arith)
 rows_end (name ∷ names) (t ∷ ts) (suc i) le = rows_end names ts i (omega arith)
 
--- what a push of the next name with the document in its row answers
+-- the result of pushing the next name with the document in its row
 pub put_row : (form : Form) (before after : List (List ℕ × EntryParts)) (i : ℕ) (names : List (Bor (List ℕ))) (d : Bor (List ℕ))
     (column : List (Option (List ℕ))) (ts : List Tree) (document : List ℕ) (r : Result (Unit {0}) Error)
     → AllZip (IsRowOf form) column ts → slice_get column i ≡ Some (Some document) → i < length names

@@ -1,4 +1,4 @@
--- How answers lie in the caller's memory, and which status says so.
+-- Results written to the caller's memory, and the status of each.
 use Rattle.std.specs.Prelude.{◌≡◌, ◌⊎◌, ◌≤◌, ◌<◌, ◌++◌, ℕ, Bool, true, false, List, drop, length, Option, Some, None, Result, Ok, Err, IfErr}
 use Rattle.jsonb_doc.specs.declared.error.Error.{Error}
 use Rattle.jsonb_doc.specs.Payload.{Form}
@@ -7,32 +7,33 @@ use Rattle.jsonb_doc.specs.Tree.{Tree}
 use Rattle.jsonb.specs.Compare.{Truth}
 use Rattle.jsonb_c.specs.Status.{ok, none, buffer_too_small, status_of}
 
--- what a call has to hand over: bytes, or that there are none, or why not
+-- The result of a call: bytes, `None`, or an error.
 abbrev pub Answer : Type 0
 Answer = Result (Option (List ℕ)) Error
 
--- bytes that are there in any case, as an answer
+-- Bytes that always exist, as a result.
 abbrev pub whole : Result (List ℕ) Error → Answer
 whole (Ok bytes) = Ok (Some bytes)
 whole (Err e) = Err e
 
 -- ---- the caller's buffer
 
--- the list begins with the new members, and is behind them as it was
+-- Holds if the list begins with the new members, and is unchanged after them.
 abbrev pub IsWritten : {A : Type 0} → List A → List A → List A → Type 0
 IsWritten written old new = (length written ≤ length old) × (new ≡ written ++ drop (length written) old)
 
--- The bytes are handed over: the length is theirs. They are written, or the buffer is too small, and as it was.
+-- Holds if the bytes are delivered: the length is theirs, and they are written, or the buffer is too small and
+-- unchanged.
 abbrev pub DeliversBytes : List ℕ → List ℕ → List ℕ → ℕ → ℕ → Type 0
 DeliversBytes bytes old new len status = (len ≡ length bytes)
     × (((status ≡ ok) × IsWritten bytes old new)
     ⊎ ((status ≡ buffer_too_small) × (length old < length bytes) × (new ≡ old)))
 
--- nothing is handed over, for this cause, and the buffer is as it was
+-- Holds if nothing is delivered, with this status, and the buffer is unchanged.
 abbrev pub DeliversNothing : ℕ → List ℕ → List ℕ → ℕ → ℕ → Type 0
 DeliversNothing cause old new len status = (len ≡ 0) × (new ≡ old) × (status ≡ cause)
 
--- the answer is handed over, with the buffer as it was where there are no bytes
+-- Holds if the result is delivered; the buffer is unchanged if there are no bytes.
 abbrev pub Delivers : Answer → List ℕ → List ℕ → ℕ → ℕ → Type 0
 Delivers (Ok (Some bytes)) old new len status = DeliversBytes bytes old new len status
 Delivers (Ok None) old new len status = DeliversNothing none old new len status
@@ -40,28 +41,28 @@ Delivers (Err e) old new len status = DeliversNothing (status_of e) old new len 
 
 -- ---- one value
 
--- 0 is false, 1 is true
+-- 0 for false, 1 for true.
 abbrev pub bool_byte : Bool → ℕ
 bool_byte false = 0
 bool_byte true = 1
 
--- 0 is false, 1 is true, 2 is unknown
+-- 0 for false, 1 for true, 2 for unknown.
 abbrev pub truth_byte : Truth → ℕ
 truth_byte (Some b) = bool_byte b
 truth_byte None = 2
 
--- the value is handed over; it is as it was where the call is refused
+-- Holds if the value is delivered; it is unchanged if the call fails.
 abbrev pub Shows : {A : Type 0} → Result A Error → A → A → ℕ → Type 0
 Shows (Ok x) old new status = (new ≡ x) × (status ≡ ok)
 Shows (Err e) old new status = (new ≡ old) × (status ≡ status_of e)
 
--- the same of a value that may not be there
+-- Holds if a value that may be `None` is delivered; it is unchanged if there is none or the call fails.
 abbrev pub ShowsFound : {A : Type 0} → Result (Option A) Error → A → A → ℕ → Type 0
 ShowsFound (Ok (Some x)) old new status = (new ≡ x) × (status ≡ ok)
 ShowsFound (Ok None) old new status = (new ≡ old) × (status ≡ none)
 ShowsFound (Err e) old new status = (new ≡ old) × (status ≡ status_of e)
 
--- the same of a truth, as its byte
+-- Holds if the Boolean is delivered as its byte; it is unchanged if the call fails.
 abbrev pub ShowsTruth : Result Truth Error → ℕ → ℕ → ℕ → Type 0
 ShowsTruth (Ok truth) old new status = (new ≡ truth_byte truth) × (status ≡ ok)
 ShowsTruth (Err e) old new status = (new ≡ old) × (status ≡ status_of e)
@@ -77,31 +78,31 @@ ShowsFoundBool (Err e) old new status = (new ≡ old) × (status ≡ status_of e
 
 -- ---- what a call promises
 
--- of a document that decodes, in whatever form
+-- Holds for a document that decodes, in any form.
 abbrev pub OfDocument : {A : Type 0} → List ℕ → (Form → Tree → A → Type 0) → A → Type 0
 OfDocument document Promise answer = (form : Form) (t : Tree) → Decodes form document t → Promise form t answer
 
--- of two documents that decode in one form
+-- Holds for two documents that decode in one form.
 abbrev pub OfDocuments : {A : Type 0} → List ℕ → List ℕ → (Form → Tree → Tree → A → Type 0) → A → Type 0
 OfDocuments document other Promise answer =
     (form : Form) (t u : Tree) → Decodes form document t → Decodes form other u → Promise form t u answer
 
--- of two documents that decode, each in a form of its own
+-- Holds for two documents that decode, each in its own form.
 abbrev pub OfBoth : {A : Type 0} → List ℕ → List ℕ → (Form → Tree → Tree → A → Type 0) → A → Type 0
 OfBoth document other Promise answer = (form other_form : Form) (t u : Tree)
     → Decodes form document t → Decodes other_form other u → Promise form t u answer
 
--- There is such an answer, which is refused for no other cause, and it is handed over so.
+-- Holds if there is such a result, which fails only with the stated errors, and it is delivered.
 abbrev pub HandsOver : {A : Type 0} → (Result A Error → Type 0) → (Error → Type 0) → (Result A Error → Type 0) → Type 0
 HandsOver {A} IsAnswer Refusals IsShown =
     (answer : Result A Error) × IsAnswer answer × IfErr answer Refusals × IsShown answer
 
--- bytes that are there in any case
+-- Holds if bytes that always exist are delivered.
 abbrev pub HandsOverBytes : (Result (List ℕ) Error → Type 0) → (Error → Type 0) → List ℕ → List ℕ → ℕ → ℕ → Type 0
 HandsOverBytes IsAnswer Refusals old new len status =
     HandsOver IsAnswer Refusals (λ answer. Delivers (whole answer) old new len status)
 
--- bytes that may not be there
+-- Holds if bytes that may be `None` are delivered.
 abbrev pub HandsOverFound : (Answer → Type 0) → (Error → Type 0) → List ℕ → List ℕ → ℕ → ℕ → Type 0
 HandsOverFound IsAnswer Refusals old new len status =
     HandsOver IsAnswer Refusals (λ answer. Delivers answer old new len status)

@@ -1,4 +1,4 @@
--- What the calls on one document answer.
+-- Results of the functions on one document.
 use Rattle.std.specs.Prelude.{◌≡◌, ◌⊎◌, ◌≤◌, ◌<◌, ◌^◌, ◌↔◌, ◌||◌, not, ℕ, ℤ, pos, FitsSigned, Bool, true, false, IsTrue, List, length, Option, Some, None, Result, Ok, Err, MatchResult, MatchOption}
 use Rattle.std.specs.Int.{Width, w8, w16, w64}
 use Rattle.jsonb_doc.specs.declared.error.Error.{Error}
@@ -28,14 +28,14 @@ use Rattle.jsonb_c.specs.Answers.{Answer, OfDocument, OfDocuments}
 
 -- ---- paths
 
--- the answer of a path, where the text is one; else the path is refused, unless memory is before
+-- Holds for the result of a path, if the text is one; otherwise the path fails, unless an allocation fails first.
 abbrev pub ByPath : {P A : Type 0} → Error → Option P → (P → Result A Error → Type 0) → Result A Error → Type 0
 ByPath refusal None Promise answer = (answer ≡ Err OutOfMemory) ⊎ (answer ≡ Err refusal)
 ByPath refusal (Some path) Promise answer = Promise path answer
 
 -- ---- key paths
 
--- the part at the place that the steps meet, where the path is a key path
+-- Holds if the result is the value at the location of the steps, if the path is a key path.
 abbrev pub Gets : Option (List Key) → List ℕ → Answer → Type 0
 Gets read document answer =
     ByPath InvalidKeyPath read
@@ -47,45 +47,46 @@ abbrev pub mode_of : Bool → Mode
 mode_of true = Strict
 mode_of false = Lax
 
--- the answer of a path that was read, by its one meaning
+-- Holds for the result of a parsed path, by its meaning.
 abbrev pub ByMeaning : {A : Type 0} → Mode → List ℕ → Option (List Step)
     → (Form → Outcome (List Tree) → Result A Error → Type 0) → Result A Error → Type 0
 ByMeaning mode document read Promise answer =
     ByPath InvalidJsonPath read (λ path. OfDocument document (λ form t. Promise form (meaning mode path t))) answer
 
--- one document of what the path selects, where there is one to pick
+-- Holds if the result is a document of the picked item, if there is one.
 abbrev pub PicksItem : (List Tree → Option Tree) → Mode → List ℕ → Option (List Step) → Answer → Type 0
 PicksItem pick mode document read answer = ByMeaning mode document read (IsPicked pick) answer
 
--- what the path says of the document as a predicate, unless memory is refused
+-- Holds if the result is that of the path as a predicate, unless an allocation fails.
 abbrev pub Says : Mode → Option (List Step) → List ℕ → Result Truth Error → Type 0
 Says mode read document answer = ByPath InvalidJsonPath read (λ path. IsTruthOf mode path document) answer
 
 -- ---- parts
 
--- a document of the part that there is, or none where there is none, which takes no memory
+-- Holds if the result is a document of the value, or `None` if there is none, which is not allocated.
 abbrev pub Finds : Form → Option Tree → Answer → Type 0
 Finds form wanted answer = MakesOption form wanted answer × (wanted ≡ None → answer ≡ Ok None)
 
 -- ---- edits
 
--- the document as it is, in memory of its own
+-- Holds if the result is a copy of the document.
 abbrev pub KeepsBytes : List ℕ → Result (List ℕ) Error → Type 0
 KeepsBytes document answer = MatchResult answer (λ made. made ≡ document) IsOutOfMemory
 
--- a document of what there is to make; where there is nothing, this refusal
+-- Holds if the result is a document of what is built; if there is nothing, this error.
 abbrev pub MakesOr : Error → Form → Option Tree → Result (List ℕ) Error → Type 0
 MakesOr refusal form wanted answer = MatchOption wanted (answer ≡ Err refusal) (λ t. Makes form t answer)
 
--- The document without the element that the index means. Where it means none the bytes are the same.
+-- Holds if the result is the document without the element that the index denotes. If it denotes none, the bytes are the
+-- same.
 pub record DeletesIndex (index : ℤ) (document : List ℕ) (answer : Result (List ℕ) Error) : Type 0 where
   pub deleted : OfDocument document (λ form t. MakesOr InvalidJsonType form (without_index index t)) answer
   pub unchanged : (form : Form) (ts : Trees) → Decodes form document (array ts)
       → index_position (length (elements ts)) index ≡ None
       → KeepsBytes document answer
 
--- The document without the place that the steps meet. Where they meet no part the bytes are the same; a scalar has no
--- places.
+-- Holds if the result is the document without the value at the steps. If they select nothing, the bytes are the same; a
+-- scalar has no children.
 pub record DeletesPlace (steps : List Key) (document : List ℕ) (answer : Result (List ℕ) Error) : Type 0 where
   pub scalar : OfDocument document (λ form t said. IsTrue (is_json_scalar t)
       → (said ≡ Err OutOfMemory) ⊎ (said ≡ Err InvalidJsonType)) answer
@@ -94,7 +95,8 @@ pub record DeletesPlace (steps : List Key) (document : List ℕ) (answer : Resul
   pub same : OfDocument document (λ form t said. IsTrue (not (is_json_scalar t)) → MeetNoPart steps t
       → KeepsBytes document said) answer
 
--- The object with the pair. Where the key is there and its value isn't to be replaced, the call is refused.
+-- Holds if the result is the object with the member. If the key exists and its value is not to be replaced, the call
+-- fails.
 pub record InsertsPair (name : List ℕ) (update : Bool) (document value : List ℕ)
     (answer : Result (List ℕ) Error) : Type 0 where
   pub inserted : OfDocuments document value (λ form t v said. IsTrue (update || not (has_name name t))
@@ -104,16 +106,16 @@ pub record InsertsPair (name : List ℕ) (update : Bool) (document value : List 
 
 -- ---- casts
 
--- the number, where it is whole and fits 64 bits with a sign
+-- Holds if the result is the number, if it is an integer that fits in a signed 64-bit word.
 abbrev pub FindsSigned : Tree → Option ℤ → Type 0
 FindsSigned t found = MatchOption found ((z : ℤ) → IsWholeNumber t z → FitsSigned w64 z → ⊥) (λ z. IsWholeNumber t z)
 
--- the number, where it is whole and fits 64 bits without a sign
+-- Holds if the result is the number, if it is an integer that fits in an unsigned 64-bit word.
 abbrev pub FindsUnsigned : Tree → Option ℕ → Type 0
 FindsUnsigned t found =
     MatchOption found ((n : ℕ) → IsWholeNumber t (pos n) → n < 2 ^ 64 → ⊥) (λ n. IsWholeNumber t (pos n))
 
--- the text that there is, which takes memory, or the refusal
+-- Holds if the result is the string, which is allocated, or the error.
 abbrev pub IsTextOf : Option (List ℕ) → Result (List ℕ) Error → Type 0
 IsTextOf (Some wanted) answer = MatchResult answer (λ s. s ≡ wanted) IsOutOfMemory
 IsTextOf None answer = answer ≡ Err InvalidCast
@@ -124,7 +126,7 @@ abbrev pub width_of : Bool → Width
 width_of true = w16
 width_of false = w8
 
--- the key of the document's tree; the refusal is that an item lies too deep for a key
+-- Holds if the result is the key of the document's tree; it fails if an item is too deep for a key.
 abbrev pub IsSortableKey : Width → Tree → Result (List ℕ) Error → Type 0
 IsSortableKey w t (Ok bytes) = (bytes ≡ sortable_key w t 0) × (deepest t < depths w)
 IsSortableKey w t (Err e) = (e ≡ OutOfMemory) ⊎ ((e ≡ TooDeep) × (depths w ≤ deepest t))
@@ -140,7 +142,7 @@ IsEqualityKeyOf document answer =
 
 -- ---- `check`
 
--- the bytes are a document, or the status says why they are none
+-- Holds if the bytes are a document, or the status is the error of `check`.
 abbrev pub IsCheckOf : List ℕ → ℕ → Type 0
 IsCheckOf document status = ((status ≡ ok) ↔ ((t : Tree) × Decodes any document t))
     × ((status ≡ status_of UnsupportedNumber) ↔ IsUnsupportedDocument document)

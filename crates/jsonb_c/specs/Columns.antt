@@ -1,4 +1,4 @@
--- Columns: rows of documents in one buffer, and what the calls write for them.
+-- Columns: rows of documents in one buffer, and what is written for them.
 use Rattle.std.specs.Prelude.{◌≡◌, ◌⊎◌, ◌<◌, ◌+◌, ◌-◌, nat_le, ℕ, List, [], ◌∷◌, map, flat_map, take, length, slice_range, slice_get, Option, Some, None, Result, Ok, Err, if◌then◌else◌, ⊤}
 use Rattle.std.specs.List.{AllZip}
 use Rattle.jsonb_doc.specs.declared.error.Error.{Error}
@@ -9,23 +9,23 @@ use Rattle.jsonb_c.specs.declared.column.join.Progress.{Progress}
 
 -- ---- rows
 
--- the bytes between two offsets, which are to rise and to lie within the data
+-- The bytes between two offsets, which must be in order and within the data.
 abbrev pub row : List ℕ → ℕ → ℕ → Option (List ℕ)
 row bytes from to =
     if nat_le from to then (if nat_le to (length bytes) then Some (slice_range bytes from to) else None) else None
 
--- the rows between each offset and the next
+-- The rows between each offset and the next.
 abbrev pub rows : List ℕ → List ℕ → List (Option (List ℕ))
 rows bytes (from ∷ to ∷ others) = row bytes from to ∷ rows bytes (to ∷ others)
 rows bytes _ = []
 
--- ---- what stands in the answer for a row
+-- ---- what the result holds for a row
 
--- what a call answers of a document: a value, that there is none, or a refusal
+-- The result of a call for a document: a value, `None`, or an error.
 abbrev pub Found : Type 0 → Type 0
 Found A = Result (Option A) Error
 
--- what came of a row: none where its offsets are wrong
+-- The result of a row, or `None` if its offsets are wrong.
 abbrev pub Cell : Type 0 → Type 0
 Cell A = Option (Found A)
 
@@ -35,7 +35,7 @@ cell_status (Some (Ok (Some x))) = ok
 cell_status (Some (Ok None)) = none
 cell_status (Some (Err e)) = status_of e
 
--- the value of the row, and another one where it has none
+-- The value of the row, and another one if it has none.
 abbrev pub cell_value : {A : Type 0} → A → Cell A → A
 cell_value other (Some (Ok (Some x))) = x
 cell_value other _ = other
@@ -43,19 +43,19 @@ cell_value other _ = other
 abbrev pub cell_bytes : Cell (List ℕ) → List ℕ
 cell_bytes cell = cell_value [] cell
 
--- the cell is as said of the row's document
+-- Holds if the cell has this result for the row's document.
 abbrev pub IsCell : {A : Type 0} → (List ℕ → Found A → Type 0) → Option (List ℕ) → Cell A → Type 0
 IsCell IsAnswerTo None None = ⊤
 IsCell IsAnswerTo (Some document) (Some answer) = IsAnswerTo document answer
 IsCell IsAnswerTo _ _ = ⊥
 
--- the cells are those of the first rows
+-- Holds if the cells are those of the first rows.
 abbrev pub AreCells : {A : Type 0} → (List ℕ → Found A → Type 0) → List (Option (List ℕ)) → List (Cell A) → Type 0
 AreCells IsAnswerTo column cells = AllZip (IsCell IsAnswerTo) (take (length cells) column) cells
 
 -- ---- a status a row
 
--- the first rows are done: their statuses are written, and nothing behind
+-- Holds if the first rows are done: their statuses are written, and nothing after.
 pub record Checked {A : Type 0} (IsAnswerTo : List ℕ → Found A → Type 0) (column : List (Option (List ℕ)))
     (old_statuses new_statuses : List ℕ) (done : ℕ) : Type 0 where
   pub cells : List (Cell A)
@@ -63,7 +63,7 @@ pub record Checked {A : Type 0} (IsAnswerTo : List ℕ → Found A → Type 0) (
   pub answers : AreCells IsAnswerTo column cells
   pub statuses : IsWritten (map cell_status cells) old_statuses new_statuses
 
--- all rows are done, or as many as the buffer has room for
+-- Holds if all rows are done, or as many as fit in the buffer.
 abbrev pub Ends : ℕ → ℕ → ℕ → ℕ → Type 0
 Ends all room done status =
     ((status ≡ ok) × (done ≡ all)) ⊎ ((status ≡ buffer_too_small) × (done < all) × (done ≡ room))
@@ -75,11 +75,11 @@ ChecksRows IsAnswerTo column old_statuses new_statuses done status =
 
 -- ---- a value and a status a row
 
--- the caller's memory for values and statuses
+-- The caller's memory for values and statuses.
 abbrev pub ValueRoom : Type 0 → Type 0
 ValueRoom A = List A × List ℕ
 
--- the first rows are done: their values and statuses are written, and nothing behind
+-- Holds if the first rows are done: their values and statuses are written, and nothing after.
 pub record Filled {A : Type 0} (IsAnswerTo : List ℕ → Found A → Type 0) (other : A) (column : List (Option (List ℕ)))
     (old new : ValueRoom A) (done : ℕ) : Type 0 where
   pub cells : List (Cell A)
@@ -88,7 +88,7 @@ pub record Filled {A : Type 0} (IsAnswerTo : List ℕ → Found A → Type 0) (o
   pub values : IsWritten (map (cell_value other) cells) old.0 new.0
   pub statuses : IsWritten (map cell_status cells) old.1 new.1
 
--- all rows are done, or as many as the shorter buffer has room for
+-- Holds if all rows are done, or as many as fit in the shorter buffer.
 abbrev pub EndsOfTwo : ℕ → ℕ → ℕ → ℕ → ℕ → Type 0
 EndsOfTwo all room other_room done status = ((status ≡ ok) × (done ≡ all))
     ⊎ ((status ≡ buffer_too_small) × (done < all) × ((done ≡ room) ⊎ (done ≡ other_room)))
@@ -100,17 +100,17 @@ FillsRows IsAnswerTo other column old new done status =
 
 -- ---- bytes and a status a row
 
--- the caller's memory for bytes, positions and statuses
+-- The caller's memory for bytes, offsets and statuses.
 abbrev pub BytesRoom : Type 0
 BytesRoom = List ℕ × List ℕ × List ℕ
 
--- where the bytes of each cell end
+-- The offsets at which the bytes of the cells end.
 abbrev pub ends : ℕ → List (Cell (List ℕ)) → List ℕ
 ends at [] = []
 ends at (cell ∷ cells) = (at + length (cell_bytes cell)) ∷ ends (at + length (cell_bytes cell)) cells
 
--- The first rows are done: their bytes are written one behind the other, with the offsets between them and their
--- statuses.
+-- Holds if the first rows are done: their bytes are written one after the other, with the offsets between them and
+-- their statuses.
 pub record Joined (IsAnswerTo : List ℕ → Found (List ℕ) → Type 0) (column : List (Option (List ℕ)))
     (old new : BytesRoom)
     (done total : ℕ) : Type 0 where
@@ -122,20 +122,20 @@ pub record Joined (IsAnswerTo : List ℕ → Found (List ℕ) → Type 0) (colum
   pub positions : IsWritten (0 ∷ ends 0 cells) old.1 new.1
   pub statuses : IsWritten (map cell_status cells) old.2 new.2
 
--- the bytes of the next row, of which the length is said, have no room
+-- Holds if the bytes of the next row, whose length is reported, do not fit.
 abbrev pub LacksRoom : (List ℕ → Found (List ℕ) → Type 0) → List (Option (List ℕ)) → ℕ → Progress → ℕ → Type 0
 LacksRoom IsAnswerTo column room progress status = (status ≡ buffer_too_small) × (room < progress.bytes + progress.next)
     × ((document : Option (List ℕ)) × (cell : Cell (List ℕ)) × (slice_get column progress.rows ≡ Some document)
     × IsCell IsAnswerTo document cell × (progress.next ≡ length (cell_bytes cell)))
 
--- the bytes of the first rows are written, where there is room for the first offset
+-- Holds if the bytes of the first rows are written, if there is space for the first offset.
 abbrev pub JoinsSome : (List ℕ → Found (List ℕ) → Type 0) → List (Option (List ℕ)) → BytesRoom → BytesRoom → Progress
     → ℕ → Type 0
 JoinsSome IsAnswerTo column old new progress status = Joined IsAnswerTo column old new progress.rows progress.bytes
     × (((progress.next ≡ 0) × EndsOfTwo (length column) (length old.1 - 1) (length old.2) progress.rows status)
     ⊎ LacksRoom IsAnswerTo column (length old.0) progress status)
 
--- nothing is written
+-- Holds if nothing is written.
 abbrev pub IsUntouched : BytesRoom → BytesRoom → Progress → Type 0
 IsUntouched old new progress = (progress.rows ≡ 0) × (progress.bytes ≡ 0) × (progress.next ≡ 0) × (new ≡ old)
 
@@ -147,11 +147,11 @@ JoinsRows IsAnswerTo column old new progress status =
 
 -- ---- calls with a path
 
--- the call is refused for this cause or for want of memory, before any row
+-- Holds if the call fails with this error or because an allocation fails, before any row.
 abbrev pub IsRefused : Error → ℕ → Type 0
 IsRefused e status = (status ≡ status_of e) ⊎ (status ≡ status_of OutOfMemory)
 
--- The rows are filled by the path, where the text is one; else nothing is written.
+-- Holds if the rows are filled by the path, if the text is one; otherwise nothing is written.
 abbrev pub FillsByPath : {P A : Type 0} → Error → Option P → (P → List ℕ → Found A → Type 0) → A
     → List (Option (List ℕ))
     → ValueRoom A → ValueRoom A → ℕ → ℕ → Type 0

@@ -1,4 +1,4 @@
--- The kinds of documents, and their numbers.
+-- The types of documents, and their numbers.
 use Rattle.std.specs.Prelude.{ℕ}
 use Rattle.jsonb_doc.specs.Extension.{Extension, binary, date, timestamp, timestamp_tz, interval}
 use Rattle.jsonb_doc.specs.Number.{Variant, int64, uint64, decimal64, decimal128}

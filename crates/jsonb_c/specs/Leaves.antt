@@ -12,15 +12,15 @@ use Rattle.jsonb_c.specs.Status.{ok, buffer_too_small, status_of}
 use Rattle.jsonb_c.specs.Answers.{IsWritten}
 use Rattle.jsonb_c.specs.declared.leaves.LeafSizes.{LeafSizes}
 
--- the text of a key path, and a document
+-- The text of a key path, and a document.
 abbrev pub LeafRow : Type 0
 LeafRow = List ℕ × List ℕ
 
--- the text of the path to the leaf, and a document of the leaf
+-- Holds if these are the text of the path to the leaf, and a document of the leaf.
 abbrev pub IsRowOfLeaf : Form → Leaf → LeafRow → Type 0
 IsRowOfLeaf form leaf row = (row.0 ≡ key_path_text leaf.0) × Decodes form row.1 leaf.1
 
--- a row for each leaf, in stored order
+-- Holds if the result is a row for each leaf, in stored order.
 abbrev pub AreLeavesOf : Form → Tree → Result (List LeafRow) Error → Type 0
 AreLeavesOf form t answer =
     MatchResult answer (λ found. AllZip (IsRowOfLeaf form) (leaves false t) found) IsOutOfMemory
@@ -33,32 +33,32 @@ documents_of found = map (λ row. row.1) found
 
 -- ---- a column that is written at once
 
--- where each row begins, and where the last one ends
+-- The offset at which each row begins, and at which the last one ends.
 abbrev pub positions_from : ℕ → List (List ℕ) → List ℕ
 positions_from at [] = at ∷ []
 positions_from at (row ∷ rows) = at ∷ positions_from (at + length row) rows
 
--- a column in the caller's memory: its bytes, and its positions
+-- A column in the caller's memory: its bytes, and its offsets.
 abbrev pub Buffers : Type 0
 Buffers = List ℕ × List ℕ
 
--- the buffers take the rows and the positions between them
+-- Holds if the rows and the offsets between them fit in the buffers.
 abbrev pub HasRoom : List (List ℕ) → Buffers → Type 0
 HasRoom rows column = (length (concat rows) ≤ length column.0) × (length rows < length column.1)
 
--- the rows are written one behind the other, with the positions between them
+-- Holds if the rows are written one after the other, with the offsets between them.
 abbrev pub IsWrittenColumn : List (List ℕ) → Buffers → Buffers → Type 0
 IsWrittenColumn rows old new = IsWritten (concat rows) old.0 new.0 × IsWritten (positions_from 0 rows) old.1 new.1
 
 -- ---- both columns
 
--- how many rows there are, and how many bytes each column has
+-- Holds for the number of rows, and the number of bytes of each column.
 abbrev pub AreSizesOf : LeafSizes → List LeafRow → Type 0
 AreSizesOf sizes found = (sizes.rows ≡ length found) × (sizes.path_bytes ≡ length (concat (paths_of found)))
     × (sizes.document_bytes ≡ length (concat (documents_of found)))
 
--- Rows are handed over as two columns, and their sizes are said. Both are written, or they have no room, and nothing
--- is.
+-- Holds if rows are delivered as two columns, and their sizes are reported. Both are written, or they do not fit, and
+-- nothing is.
 abbrev pub DeliversRows : List LeafRow → Buffers → Buffers → Buffers → Buffers → LeafSizes → ℕ → Type 0
 DeliversRows found old_paths new_paths old_documents new_documents sizes status = AreSizesOf sizes found
     × (((status ≡ ok) × IsWrittenColumn (paths_of found) old_paths new_paths
@@ -67,7 +67,7 @@ DeliversRows found old_paths new_paths old_documents new_documents sizes status 
     × (HasRoom (paths_of found) old_paths → HasRoom (documents_of found) old_documents → ⊥)
     × (new_paths ≡ old_paths) × (new_documents ≡ old_documents)))
 
--- the same, or nothing is handed over
+-- Holds if rows are delivered as two columns, or nothing is.
 abbrev pub DeliversLeaves : Result (List LeafRow) Error → Buffers → Buffers → Buffers → Buffers → LeafSizes → ℕ → Type 0
 DeliversLeaves (Ok found) old_paths new_paths old_documents new_documents sizes status =
     DeliversRows found old_paths new_paths old_documents new_documents sizes status

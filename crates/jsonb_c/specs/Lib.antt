@@ -1,5 +1,6 @@
 pub mod Status
 pub mod StatusNames
+pub mod Version
 pub mod Answers
 pub mod Calls
 pub mod Kinds
@@ -9,4 +10,6 @@ pub mod Names
 pub mod Views
 pub mod Making
 pub mod Leaves
+pub mod Handles
+pub mod Prepared
 pub mod Private

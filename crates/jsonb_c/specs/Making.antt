@@ -1,4 +1,4 @@
--- What the calls that make and count documents answer.
+-- Results of the functions that build and count documents.
 use Rattle.std.specs.Prelude.{◌≡◌, ◌⊎◌, ◌+ℤ◌, ◌*ℤ◌, ◌^◌, ℕ, ℤ, pos, Bool, true, ◌&&◌, List, [], ◌∷◌, length, Option, Some, None, option_map, is_some, slice_get, Result, Ok, Err, FitsSigned, MatchOption, MatchResult, IsSomeAnd, ◌<◌, if◌then◌else◌}
 use Rattle.std.specs.Int.{w64}
 use Rattle.jsonb_doc.specs.declared.error.Error.{Error}
@@ -16,36 +16,36 @@ use Rattle.jsonb_c.specs.Answers.{DeliversNothing, IsWritten}
 
 -- ---- one value
 
--- a document of the tree, in its shortest form
+-- Holds if the result is a document of the tree, in its shortest form.
 abbrev pub Encodes : Tree → Result (List ℕ) Error → Type 0
 Encodes t answer = (form : Form) → MatchResult answer (λ made. Decodes form made t) (IsOutOfMemoryOrTooLarge form t)
 
--- the whole value of two halves, of which the lower is unsigned
+-- The integer of two halves, of which the lower is unsigned.
 abbrev pub whole_of : ℤ → ℕ → ℤ
 whole_of high low = (high *ℤ pos (2 ^ 64)) +ℤ pos low
 
--- two halves and a scale that are the parts of the number
+-- Holds for two halves and a scale that are the parts of the number.
 abbrev pub ArePartsOf : ℤ × ℕ × ℕ → Number → Type 0
 ArePartsOf parts n = (whole_of parts.0 parts.1 ≡ n.whole) × (parts.2 ≡ n.scale)
 
--- the decimal of a whole value and a scale: of 64 bits where the value fits, else of 128
+-- Holds for the decimal of an integer and a scale: of 64 bits if the value fits, otherwise of 128.
 abbrev pub IsDecimalOf : ℤ → ℕ → Tree → Type 0
 IsDecimalOf whole scale t = (FitsSigned w64 whole × (t ≡ number (number_from decimal64 whole scale)))
     ⊎ ((FitsSigned w64 whole → ⊥) × (t ≡ number (number_from decimal128 whole scale)))
 
 -- ---- an array of a column
 
--- no offset falls or passes the data
+-- Whether no offset decreases or exceeds the data.
 abbrev pub is_placed : List (Option (List ℕ)) → Bool
 is_placed [] = true
 is_placed (row ∷ rows) = is_some row && is_placed rows
 
--- the row is a document of the tree
+-- Holds if the row is a document of the tree.
 abbrev pub IsRowOf : Form → Option (List ℕ) → Tree → Type 0
 IsRowOf form (Some document) t = Decodes form document t
 IsRowOf form None t = ⊥
 
--- an array of the rows
+-- Holds if the result is an array of the rows.
 abbrev pub MakesArray : List (Option (List ℕ)) → Result (List ℕ) Error → Type 0
 MakesArray column answer = (form : Form) (ts : List Tree) → AllZip (IsRowOf form) column ts
     → MatchResult answer (λ made. Decodes form made (array (trees_of ts)))
@@ -53,43 +53,43 @@ MakesArray column answer = (form : Form) (ts : List Tree) → AllZip (IsRowOf fo
 
 -- ---- an object of two columns
 
--- the pairs with those of the rows put in, one row after the other; the first name that is there already is refused
+-- The members with those of the rows added, one row after the other; the first key that exists already is an error.
 abbrev pub put_rows : List (List ℕ × Tree) → List (List ℕ × Tree) → Outcome (List (List ℕ × Tree))
 put_rows ps [] = Ok ps
 put_rows ps (row ∷ rows) =
     if has_key row.0 ps then Err ObjectDuplicateKey else put_rows (insert_pair row.0 row.1 ps) rows
 
--- an object of the pairs in the rows; refused for its size only where a document of so many and such pairs passes the
--- limits
+-- Holds if the result is an object of the members in the rows; `TooLarge` only if a document of that many members of
+-- these sizes exceeds the limits.
 abbrev pub IsObjectOf : Form → List (List ℕ × Tree) → Result (List ℕ) Error → Type 0
 IsObjectOf form rows answer = Gives (λ made ps. Decodes form made (object (pairs_of ps)))
     (IsOutOfMemory or TooLarge when IsTooLarge form (object (pairs_of rows))) answer (put_rows [] rows)
 
--- the same of names beside a column of documents
+-- Holds if the result is an object of keys and a column of documents.
 abbrev pub MakesObject : List (List ℕ) → List (Option (List ℕ)) → Result (List ℕ) Error → Type 0
 MakesObject names column answer =
     (form : Form) (ts : List Tree) → AllZip (IsRowOf form) column ts → IsObjectOf form (zip names ts) answer
 
 -- ---- counts
 
--- how many elements or pairs a container has
+-- The number of elements or members of a container.
 abbrev pub children_count : Tree → Option ℕ
 children_count t = option_map length (children_of t)
 
 -- ---- pairs
 
--- the pairs of an object
+-- The members of an object.
 abbrev pub pairs_in : Tree → List (List ℕ × Tree)
 pairs_in (object ps) = members ps
 pairs_in _ = []
 
--- the pair at a position: its key, and a document of its value
+-- Holds if the result is the member at a position: its key, and a document of its value.
 abbrev pub FindsPair : Form → ℕ → Tree → Result (Option (List ℕ × List ℕ)) Error → Type 0
 FindsPair form index t answer = MatchOption (slice_get (pairs_in t) index) (answer ≡ Ok None)
     (λ p. MatchResult answer (λ found. IsSomeAnd found (λ made. (made.0 ≡ p.0) × Decodes form made.1 p.1))
     (IsOutOfMemoryOrTooLarge form p.1))
 
--- Two lists of bytes are handed over, each into a buffer of its own; neither is written where one has no room.
+-- Holds if two lists of bytes are delivered, each to its buffer; neither is written if one does not fit.
 abbrev pub DeliversBoth : List ℕ → List ℕ → List ℕ → List ℕ → ℕ → List ℕ → List ℕ → ℕ → ℕ → Type 0
 DeliversBoth key value old_key new_key key_len old_value new_value value_len status =
     (key_len ≡ length key) × (value_len ≡ length value)
@@ -97,7 +97,7 @@ DeliversBoth key value old_key new_key key_len old_value new_value value_len sta
     ⊎ ((status ≡ buffer_too_small) × ((length old_key < length key) ⊎ (length old_value < length value))
     × (new_key ≡ old_key) × (new_value ≡ old_value)))
 
--- neither is handed over
+-- Holds if neither is delivered.
 abbrev pub DeliversNeither : ℕ → List ℕ → List ℕ → ℕ → List ℕ → List ℕ → ℕ → ℕ → Type 0
 DeliversNeither cause old_key new_key key_len old_value new_value value_len status =
     DeliversNothing cause old_key new_key key_len status × DeliversNothing cause old_value new_value value_len status

@@ -12,7 +12,7 @@ use Rattle.jsonb_c.specs.Status.{code}
 use Rattle.jsonb_c.specs.declared.status.Status.{Status}
 use Rattle.jsonb_c.specs.declared.status.Status.TheVariants.{BadOffsets, NotUtf8, Refused}
 
--- the name in a row, which is to be UTF-8
+-- The name in a row, which must be UTF-8.
 abbrev pub name_of : Option (List ℕ) → Result (List ℕ) Status
 name_of None = Err BadOffsets
 name_of (Some bytes) = if is_utf8 bytes then Ok bytes else Err NotUtf8
@@ -22,25 +22,25 @@ in_front (Ok name) (Ok names) = Ok (name ∷ names)
 in_front (Ok name) (Err cause) = Err cause
 in_front (Err cause) others = Err cause
 
--- the names in the rows, or what is wrong with the first that holds none
+-- The names in the rows, or the status of the first row without one.
 abbrev pub names_of : List (Option (List ℕ)) → Result (List (List ℕ)) Status
 names_of [] = Ok []
 names_of (row ∷ rows) = in_front (name_of row) (names_of rows)
 
--- the call is answered by the names, or it is refused for what is wrong with them
+-- Holds if the result is that of the names, or the status if they cannot be read.
 abbrev pub ByNames : Result (List (List ℕ)) Status → (List (List ℕ) → Type 0) → (Status → Type 0) → Type 0
 ByNames (Ok names) Answered IsRefused = Answered names
 ByNames (Err cause) Answered IsRefused = IsRefused cause
 
--- the same, unless there is no memory for the names
+-- Holds if the result is that of the names, or the status if they cannot be read, unless their allocation fails.
 abbrev pub WithNames : Result (List (List ℕ)) Status → (List (List ℕ) → Type 0) → (Status → Type 0) → Type 0
 WithNames names Answered IsRefused = ByNames names Answered IsRefused ⊎ IsRefused (Refused OutOfMemory)
 
--- the value is as it was, and the status is the cause's
+-- Holds if the value is unchanged, and the status is this one.
 abbrev pub IsAsItWas : {A : Type 0} → A → A → ℕ → Status → Type 0
 IsAsItWas old new status cause = (new ≡ old) × (status ≡ code cause)
 
--- whether the document has the names is handed over, as `has` says
+-- Holds if the Boolean whether the document has the names, by `has`, is delivered.
 abbrev pub ShowsKeys : (List (List ℕ) → Tree → Bool) → List ℕ → Result (List (List ℕ)) Status → ℕ → ℕ → ℕ → Type 0
 ShowsKeys has document names old new status = WithNames names (λ wanted. HandsOverBool
     (OfDocument document (λ form t said. IsOkAnd said (λ b. b ≡ has wanted t))) IsDecodingError old new status)
@@ -48,15 +48,15 @@ ShowsKeys has document names old new status = WithNames names (λ wanted. HandsO
 
 -- ---- sets of names
 
--- an object's pairs whose keys are among the names
+-- The object of the members whose keys are among the names.
 abbrev pub picked_names : List (List ℕ) → Tree → Option Tree
 picked_names names t = with_pairs (λ ps. filter (λ p. list_any (λ name. bytes_eq name p.0) names) ps) t
 
--- an object's pairs whose keys are not among the names
+-- The object of the members whose keys are not among the names.
 abbrev pub dropped_names : List (List ℕ) → Tree → Option Tree
 dropped_names names t = with_pairs (λ ps. filter (λ p. not (list_any (λ name. bytes_eq name p.0) names)) ps) t
 
--- the object of the pairs that are kept is handed over
+-- Holds if the object of the remaining members is delivered.
 abbrev pub DeliversPairs : (List (List ℕ) → Tree → Option Tree) → List ℕ → Result (List (List ℕ)) Status
     → List ℕ → List ℕ → ℕ → ℕ → Type 0
 DeliversPairs kept document names old new len status = WithNames names (λ wanted. HandsOverBytes

@@ -1,4 +1,5 @@
--- What the contracts of private functions say beyond the words of the others. No public clause cites these.
+-- Definitions that only contracts of private functions use. No public clause cites them.
+pub mod Boxes
 pub mod Buffers
 pub mod ByHand
 pub mod LeafColumns

@@ -1,4 +1,4 @@
--- What each call on a column answers of a row.
+-- Results of each call on a column for a row.
 use Rattle.std.specs.Prelude.{◌≡◌, ℕ, ℤ, List, Option, Some, Result, Ok, Err, IfErr, IsOkAnd, string_bytes}
 use Rattle.std.specs.Int.{Width}
 use Rattle.jsonb_doc.specs.declared.error.Error.{Error}
@@ -20,28 +20,28 @@ use Rattle.jsonb.specs.SelectorAnswers.{IsFound, IsPicked, IsTruthOf}
 use Rattle.jsonb_c.specs.Columns.{Found, cell_status}
 use Rattle.jsonb_c.specs.Views.{vec_answer}
 
--- the value, written so
+-- The value, in its written form.
 abbrev pub found : {A B : Type 0} → (A → B) → Result A Error → Found B
 found written (Ok x) = Ok (Some (written x))
 found written (Err e) = Err e
 
--- There is such an answer, which is refused for no other cause, and it is written so.
+-- Holds if there is such a result, which fails only with the stated errors, and it is written.
 abbrev pub Writes : {A B : Type 0} → (Result A Error → Type 0) → (Error → Type 0) → (A → B) → Found B → Type 0
 Writes {A} IsAnswer Refusals written row =
     (answer : Result A Error) × IsAnswer answer × IfErr answer Refusals × (row ≡ found written answer)
 
--- ---- truths
+-- ---- Booleans
 
--- whether the path selects anything
+-- Holds if the result is whether the path selects an item.
 abbrev pub TellsExistence : Mode → List Step → List ℕ → Found ℕ → Type 0
 TellsExistence mode path document row =
     Writes (OfDocument document (λ form t. IsFound form (meaning mode path t))) (IsSelectionError mode) bool_byte row
 
--- what the path says
+-- Holds if the result is that of the path as a predicate.
 abbrev pub TellsTruth : Mode → List Step → List ℕ → Found ℕ → Type 0
 TellsTruth mode path document row = Writes (IsTruthOf mode path document) (IsSelectionError mode) truth_byte row
 
--- whether the document contains the other
+-- Holds if the result is whether the document contains the other one.
 abbrev pub TellsContainment : List ℕ → List ℕ → Found ℕ → Type 0
 TellsContainment wanted document row =
     Writes (OfBoth document wanted (λ form t u answer. IsOkAnd answer (λ b. b ≡ contains t u)))
@@ -49,7 +49,7 @@ TellsContainment wanted document row =
 
 -- ---- `check`
 
--- whether the bytes are a document, or why they are none
+-- Holds if the bytes are a document, or the result is the error of `check`.
 abbrev pub ChecksDocument : List ℕ → Found (Unit {0}) → Type 0
 ChecksDocument document row = IsCheckOf document (cell_status (Some row))
 
@@ -78,18 +78,18 @@ WritesEqualityKey document row =
 
 -- ---- documents
 
--- the part at the place that the steps meet
+-- Holds if the result is the value at the location of the steps.
 abbrev pub FindsPart : List Key → List ℕ → Found (List ℕ) → Type 0
 FindsPart steps document row =
     OfDocument document (λ form t. MakesOption form (tree_at_steps steps t)) row
     × IfErr row (IsDecodingError or OutOfMemory or TooLarge)
 
--- the document without the place that the steps meet
+-- Holds if the result is the document without the value at the steps.
 abbrev pub DeletesPart : List Key → List ℕ → Found (List ℕ) → Type 0
 DeletesPart steps document row =
     Writes (DeletesPlace steps document) (IsDecodingError or OutOfMemory or InvalidJsonType) (λ made. made) row
 
--- one document of what the path selects
+-- Holds if the result is one document of what the path selects.
 abbrev pub SelectsItem : Mode → (List Tree → Option Tree) → List Step → List ℕ → Found (List ℕ) → Type 0
 SelectsItem mode pick path document row =
     OfDocument document (λ form t. IsPicked pick form (meaning mode path t)) row × IfErr row (IsDocumentError mode)

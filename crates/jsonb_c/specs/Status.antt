@@ -4,15 +4,16 @@ use Rattle.jsonb_doc.specs.declared.error.Error.{Error}
 use Rattle.jsonb_doc.specs.declared.error.Error.TheVariants.{InvalidJsonb, UnsupportedNumber, InvalidJsonPath, InvalidKeyPath, InvalidCast, InvalidObject, InvalidJsonType, ObjectDuplicateKey, Arithmetic, TooLarge, TooDeep, OutOfMemory, StrictPath}
 use Rattle.jsonb_doc.specs.declared.error.ArithmeticFault.TheVariants.{Overflow, ZeroDivisor, Inexact, DecimalOperand}
 use Rattle.jsonb_c.specs.declared.status.Status.{Status}
-use Rattle.jsonb_c.specs.declared.status.Status.TheVariants.{Answered, Absent, BufferTooSmall, BadOffsets, NotUtf8, Refused}
+use Rattle.jsonb_c.specs.declared.status.Status.TheVariants.{Answered, Absent, BufferTooSmall, BadOffsets, NotUtf8, NoPath, Refused}
 
--- the number of a status
+-- The number of a status.
 abbrev pub code : Status → ℕ
 code Answered = 0
 code Absent = 1
 code BufferTooSmall = 2
 code BadOffsets = 3
 code NotUtf8 = 4
+code NoPath = 5
 code (Refused InvalidJsonb) = 16
 code (Refused UnsupportedNumber) = 17
 code (Refused InvalidJsonPath) = 18
@@ -30,26 +31,30 @@ code (Refused (Arithmetic ZeroDivisor)) = 49
 code (Refused (Arithmetic Inexact)) = 50
 code (Refused (Arithmetic DecimalOperand)) = 51
 
--- the call is answered
+-- The call succeeded.
 abbrev pub ok : ℕ
 ok = code Answered
 
--- there is no such part
+-- There is no such value.
 abbrev pub none : ℕ
 none = code Absent
 
--- the answer is longer than the buffer
+-- The result is longer than the buffer.
 abbrev pub buffer_too_small : ℕ
 buffer_too_small = code BufferTooSmall
 
--- offsets fall, or pass the data
+-- Offsets decrease, or exceed the data.
 abbrev pub bad_offsets : ℕ
 bad_offsets = code BadOffsets
 
--- a name is no UTF-8
+-- A name is not UTF-8.
 abbrev pub not_utf8 : ℕ
 not_utf8 = code NotUtf8
 
--- a refusal
+-- The handle keeps no such path.
+abbrev pub no_path : ℕ
+no_path = code NoPath
+
+-- An error.
 abbrev pub status_of : Error → ℕ
 status_of e = code (Refused e)

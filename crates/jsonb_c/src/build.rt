@@ -1,4 +1,4 @@
-//! Documents made of values, and of columns.
+//! Documents built from values, and from columns.
 
 ghost use Rattle.std.specs.Prelude.{◌≡◌, IfErr, IsUtf8, MatchResult, true, false, length, pos};
 ghost use Rattle.jsonb_doc.specs.Answer.{IsDecodingError, IsOutOfMemory, IsOutOfMemoryOrTooLarge, ◌or◌};
@@ -24,17 +24,17 @@ use crate::status::Status;
 use jsonb::{ArrayBuilder, Decimal64, Decimal128, Error, Item, Number, encode_item};
 use std::alloc::Global;
 
-/// A null.
+/// Returns null as a document.
 #[unsafe(no_mangle)]
-pub extern "C" fn jsonb_from_null(alloc: Global, out: &mut [u8], out_len: &mut usize) -> u32
+pub extern "C" fn jdoc_from_null(alloc: Global, out: &mut [u8], out_len: &mut usize) -> u32
     ensures { HandsOverBytes (Encodes spec.null) (IsOutOfMemory or TooLarge) out.old out.new out_len.new result }
 {
     deliver_item(alloc, &Item::Null, out, out_len)
 }
 
-/// A truth value.
+/// Returns a Boolean as a document.
 #[unsafe(no_mangle)]
-pub extern "C" fn jsonb_from_bool(
+pub extern "C" fn jdoc_from_bool(
     alloc: Global,
     value: bool,
     out: &mut [u8],
@@ -46,9 +46,9 @@ pub extern "C" fn jsonb_from_bool(
     deliver_item(alloc, &Item::Boolean(value), out, out_len)
 }
 
-/// A signed integer.
+/// Returns a signed integer as a document.
 #[unsafe(no_mangle)]
-pub extern "C" fn jsonb_from_i64(
+pub extern "C" fn jdoc_from_i64(
     alloc: Global,
     value: i64,
     out: &mut [u8],
@@ -60,9 +60,9 @@ pub extern "C" fn jsonb_from_i64(
     deliver_item(alloc, &Item::Number(Number::Int64(value)), out, out_len)
 }
 
-/// An unsigned integer.
+/// Returns an unsigned integer as a document.
 #[unsafe(no_mangle)]
-pub extern "C" fn jsonb_from_u64(
+pub extern "C" fn jdoc_from_u64(
     alloc: Global,
     value: u64,
     out: &mut [u8],
@@ -74,9 +74,9 @@ pub extern "C" fn jsonb_from_u64(
     deliver_item(alloc, &Item::Number(Number::UInt64(value)), out, out_len)
 }
 
-/// A decimal: a whole value of two halves, `high * 2^64 + low`, over ten to the power of the scale.
+/// Returns a decimal as a document: an integer of two halves, `high * 2^64 + low`, over ten to the power of the scale.
 #[unsafe(no_mangle)]
-pub extern "C" fn jsonb_from_decimal(
+pub extern "C" fn jdoc_from_decimal(
     alloc: Global,
     high: i64,
     low: u64,
@@ -91,14 +91,14 @@ pub extern "C" fn jsonb_from_decimal(
     deliver_item(alloc, &Item::Number(number), out, out_len)
 }
 
-/// The whole value of two halves.
+/// Returns the integer of two halves.
 fn whole_of(high: i64, low: u64) -> i128
     ensures { result ≡ whole_of high low }
 {
     i128::from(high) * 18_446_744_073_709_551_616 + i128::from(low)
 }
 
-/// The decimal of 64 bits where the value fits, else of 128.
+/// Returns the 64-bit decimal if the value fits, otherwise the 128-bit decimal.
 fn decimal(value: i128, scale: u8) -> Number
     ensures { (t : Tree) → IsDecimalOf value scale t → t ≡ spec.number (number_view result) }
 {
@@ -108,9 +108,9 @@ fn decimal(value: i128, scale: u8) -> Number
     }
 }
 
-/// A text, which is to be UTF-8.
+/// Returns a string as a document. It must be UTF-8.
 #[unsafe(no_mangle)]
-pub extern "C" fn jsonb_from_str(
+pub extern "C" fn jdoc_from_str(
     alloc: Global,
     text: &[u8],
     out: &mut [u8],
@@ -127,7 +127,7 @@ pub extern "C" fn jsonb_from_str(
     deliver_item(alloc, &Item::String(text), out, out_len)
 }
 
-/// Hands a document of an item over.
+/// Writes the document of an item to the caller's buffer.
 fn deliver_item(alloc: Global, item: &Item<'_>, out: &mut [u8], out_len: &mut usize) -> u32
     ensures { (t : Tree) → ((form : Form) → StandsFor form item.now t)
         → HandsOverBytes (Encodes t) (IsOutOfMemory or TooLarge) out.old out.new out_len.new result }
@@ -135,9 +135,9 @@ fn deliver_item(alloc: Global, item: &Item<'_>, out: &mut [u8], out_len: &mut us
     deliver_vec(encode_item(alloc, item), out, out_len)
 }
 
-/// An array of the documents of a column.
+/// Returns an array of the documents of a column.
 #[unsafe(no_mangle)]
-pub extern "C" fn jsonb_array_from_column(
+pub extern "C" fn jdoc_array_from_column(
     alloc: Global,
     bytes: &[u8],
     offsets: &[u64],
@@ -158,7 +158,7 @@ pub extern "C" fn jsonb_array_from_column(
     }
 }
 
-/// An array of the rows, each of which has a place.
+/// Returns an array of the rows, whose offsets must be right.
 fn array_of(alloc: Global, column: &Column<'_>) -> Result<Vec<u8>, Error>
     ensures array { MakesArray column.now (vec_answer result) }
     ensures errors { IfErr result (IsDecodingError or OutOfMemory or TooLarge) }

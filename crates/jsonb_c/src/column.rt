@@ -1,4 +1,4 @@
-//! Calls on columns: rows of documents in one buffer, answered row by row.
+//! Functions on columns: rows of documents in one buffer, processed row by row.
 
 ghost use Rattle.jsonb_c.specs.Columns.{row};
 ghost use Rattle.std.specs.Prelude.{◌≡◌, ◌<◌, Some, length, option_copied, slice_get};
@@ -7,7 +7,7 @@ mod asked;
 mod call;
 mod casts;
 mod check;
-mod documents;
+pub(crate) mod documents;
 mod fill;
 mod join;
 mod keys;
@@ -37,21 +37,21 @@ impl<'a> Column<'a> {
     ghost use Rattle.jsonb_c.specs.Columns.{rows};
     ghost use Rattle.jsonb_c.specs.Making.{is_placed};
 
-    /// The rows between the offsets.
+    /// Returns the rows between the offsets.
     pub(crate) fn new(bytes: &'a [u8], offsets: &'a [u64]) -> Column<'a>
         ensures { result ≡ rows bytes.entry.now offsets.entry.now }
     {
         Column { bytes, offsets }
     }
 
-    /// How many rows there are.
+    /// Returns the number of rows.
     pub(crate) fn len(&self) -> usize
         ensures { result ≡ length self.now }
     {
         self.offsets.len().saturating_sub(1)
     }
 
-    /// Whether no offset falls or passes the data.
+    /// Returns `true` if no offset decreases or exceeds the data.
     pub(crate) fn is_placed(&self) -> bool
         ensures { result ≡ is_placed self.now }
     {
@@ -64,7 +64,7 @@ impl<'a> Column<'a> {
         true
     }
 
-    /// The bytes of a row; none where its offsets fall, or pass the data.
+    /// Returns the bytes of a row, or `None` if its offsets decrease or exceed the data.
     pub(crate) fn row(&self, index: usize) -> Option<&'a [u8]>
         requires { index < length self.now }
         ensures { slice_get self.now index ≡ Some (option_copied result) }
@@ -73,7 +73,7 @@ impl<'a> Column<'a> {
     }
 }
 
-/// The bytes between two offsets, which are to rise and to lie within them.
+/// Returns the bytes between two offsets, which must be in order and within them.
 fn between(bytes: &[u8], from: u64, to: u64) -> Option<&[u8]>
     ensures { option_copied result ≡ row bytes.now from to }
 {

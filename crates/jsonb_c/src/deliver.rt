@@ -1,4 +1,4 @@
-//! Answers that go into the caller's memory.
+//! Results written to the caller's memory.
 
 ghost use Rattle.std.specs.Prelude.{◌≡◌, ◌≤◌, ◌+◌, ◌++◌, take, drop, length};
 ghost use Rattle.jsonb_c.specs.Status.{code};
@@ -10,8 +10,8 @@ ghost use Rattle.jsonb_c.specs.Private.Views.{found_text, text_answer};
 use crate::status::Status;
 use jsonb::{Error, OwnedJsonb};
 
-/// Writes the bytes to a place in the buffer, where there is room behind it for them; answers whether there is.
-pub(crate) fn place(bytes: &[u8], out: &mut [u8], at: usize) -> bool
+/// Writes the bytes at an offset of the buffer if they fit; returns whether they do.
+pub(crate) fn write_at(bytes: &[u8], out: &mut [u8], at: usize) -> bool
     ensures { Places bytes.now at out.old out.new result }
 {
     let Some(room) = out.len().checked_sub(at) else {
@@ -24,7 +24,7 @@ pub(crate) fn place(bytes: &[u8], out: &mut [u8], at: usize) -> bool
     true
 }
 
-/// Hands a part over that was found, or that there is none, or why there is no answer.
+/// Stores the document of a value, or returns the status if there is none or the call failed.
 pub(crate) fn deliver(
     answer: Result<Option<OwnedJsonb>, Error>,
     out: &mut [u8],
@@ -39,7 +39,7 @@ pub(crate) fn deliver(
     }
 }
 
-/// Hands a document over that was made, or why there is none.
+/// Stores a document, or returns the status of the error.
 pub(crate) fn deliver_made(
     answer: Result<OwnedJsonb, Error>,
     out: &mut [u8],
@@ -53,7 +53,7 @@ pub(crate) fn deliver_made(
     }
 }
 
-/// Hands bytes over that were made, or why there are none.
+/// Stores bytes, or returns the status of the error.
 pub(crate) fn deliver_vec(
     answer: Result<Vec<u8>, Error>,
     out: &mut [u8],
@@ -67,19 +67,19 @@ pub(crate) fn deliver_vec(
     }
 }
 
-/// Hands bytes over.
+/// Stores bytes in the caller's buffer, and returns the status.
 pub(crate) fn deliver_bytes(bytes: &[u8], out: &mut [u8], out_len: &mut usize) -> u32
     ensures { DeliversBytes bytes.now out.old out.new out_len.new result }
 {
     *out_len = bytes.len();
-    if place(bytes, out, 0) {
+    if write_at(bytes, out, 0) {
         Status::Answered.to_u32()
     } else {
         Status::BufferTooSmall.to_u32()
     }
 }
 
-/// Hands nothing over.
+/// Stores nothing, and returns the status.
 pub(crate) fn deliver_nothing(cause: Status, out_len: &mut usize) -> u32
     ensures len { out_len.new ≡ 0 }
     ensures status { result ≡ code cause }
@@ -88,7 +88,7 @@ pub(crate) fn deliver_nothing(cause: Status, out_len: &mut usize) -> u32
     cause.to_u32()
 }
 
-/// A truth as a byte.
+/// Returns a Boolean as a byte.
 pub(crate) fn truth_byte(truth: Option<bool>) -> u8
     ensures { result ≡ truth_byte truth }
 {
@@ -104,8 +104,8 @@ pub(crate) fn bool_byte(value: bool) -> u8
     u8::from(value)
 }
 
-/// Hands a truth over, which may be unknown, or why there is none.
-pub(crate) fn show_truth(answer: Result<Option<bool>, Error>, truth: &mut u8) -> u32
+/// Stores a three-valued result, or returns the status of the error.
+pub(crate) fn store_truth(answer: Result<Option<bool>, Error>, truth: &mut u8) -> u32
     ensures { ShowsTruth answer truth.old truth.new result }
 {
     match answer {
@@ -117,8 +117,8 @@ pub(crate) fn show_truth(answer: Result<Option<bool>, Error>, truth: &mut u8) ->
     }
 }
 
-/// Hands a truth over, or why there is none.
-pub(crate) fn show_bool(answer: Result<bool, Error>, truth: &mut u8) -> u32
+/// Stores a Boolean, or returns the status of the error.
+pub(crate) fn store_bool(answer: Result<bool, Error>, truth: &mut u8) -> u32
     ensures { ShowsBool answer truth.old truth.new result }
 {
     match answer {
@@ -130,8 +130,8 @@ pub(crate) fn show_bool(answer: Result<bool, Error>, truth: &mut u8) -> u32
     }
 }
 
-/// Hands a truth over that was found, or that there is none, or why there is no answer.
-pub(crate) fn show_found_bool(answer: Result<Option<bool>, Error>, truth: &mut u8) -> u32
+/// Stores a Boolean, or returns the status if there is none or the call failed.
+pub(crate) fn store_found_bool(answer: Result<Option<bool>, Error>, truth: &mut u8) -> u32
     ensures { ShowsFoundBool answer truth.old truth.new result }
 {
     match answer {
@@ -144,8 +144,8 @@ pub(crate) fn show_found_bool(answer: Result<Option<bool>, Error>, truth: &mut u
     }
 }
 
-/// Hands a value over, or why there is none.
-pub(crate) fn show<T: Copy>(answer: Result<T, Error>, out: &mut T) -> u32
+/// Stores a value, or returns the status of the error.
+pub(crate) fn store<T: Copy>(answer: Result<T, Error>, out: &mut T) -> u32
     ensures { Shows answer out.old out.new result }
 {
     match answer {
@@ -157,8 +157,8 @@ pub(crate) fn show<T: Copy>(answer: Result<T, Error>, out: &mut T) -> u32
     }
 }
 
-/// Hands a value over that was found, or that there is none, or why there is no answer.
-pub(crate) fn show_found<T: Copy>(answer: Result<Option<T>, Error>, out: &mut T) -> u32
+/// Stores a value, or returns the status if there is none or the call failed.
+pub(crate) fn store_found<T: Copy>(answer: Result<Option<T>, Error>, out: &mut T) -> u32
     ensures { ShowsFound answer out.old out.new result }
 {
     match answer {
@@ -171,7 +171,7 @@ pub(crate) fn show_found<T: Copy>(answer: Result<Option<T>, Error>, out: &mut T)
     }
 }
 
-/// Hands the bytes of a text over, or why there is none.
+/// Stores the bytes of a string, or returns the status of the error.
 pub(crate) fn deliver_text(
     answer: Result<String, Error>,
     out: &mut [u8],
@@ -185,7 +185,7 @@ pub(crate) fn deliver_text(
     }
 }
 
-/// Hands the bytes of a text over that was found, or that there is none, or why there is no answer.
+/// Stores the bytes of a string, or returns the status if there is none or the call failed.
 pub(crate) fn deliver_found_text(
     answer: Result<Option<&str>, Error>,
     out: &mut [u8],

@@ -1,4 +1,4 @@
-//! Calls on one document.
+//! Functions on one document.
 
 pub(crate) mod casts;
 pub(crate) mod check;

@@ -17,7 +17,7 @@ use crate::status::Status;
 use jsonb::{Error, KeyPaths, OwnedJsonb, RawJsonb};
 use std::alloc::Global;
 
-/// How many leaves there are, and how many bytes their key paths and their documents have.
+/// The number of leaves, and the numbers of bytes of their key paths and their documents.
 #[repr(C)]
 #[derive(Clone, Copy)]
 pub struct LeafSizes {
@@ -26,10 +26,10 @@ pub struct LeafSizes {
     pub document_bytes: usize,
 }
 
-/// The leaves of a document in stored order: a column of key paths as texts, and a column of documents. Nothing is
-/// written where one of the buffers is too small.
+/// Returns the leaves of a document in stored order: a column of key paths as text, and a column of documents. Writes
+/// nothing if one of the buffers is too small.
 #[unsafe(no_mangle)]
-pub extern "C" fn jsonb_leaves(
+pub extern "C" fn jdoc_leaves(
     alloc: Global,
     document: &[u8],
     paths: &mut [u8],
@@ -66,7 +66,7 @@ pub extern "C" fn jsonb_leaves(
     }
 }
 
-/// A column that is made: rows one behind the other, and the positions between them.
+/// A column being built: rows one after the other, and the offsets between them.
 #[derive(Drop)]
 struct MadeColumn {
     bytes: Vec<u8>,
@@ -74,7 +74,7 @@ struct MadeColumn {
 }
 
 impl MadeColumn {
-    /// A column without rows.
+    /// Creates a column without rows.
     fn new(alloc: Global) -> Result<MadeColumn, Error>
         ensures { MatchResult result (λ column. HasRows column []) IsOutOfMemory }
     {
@@ -86,7 +86,7 @@ impl MadeColumn {
         })
     }
 
-    /// One row more.
+    /// Appends a row.
     fn push(&mut self, row: &[u8]) -> Result<(), Error>
         ensures rows { (rows : List (List ℕ)) → HasRows self.old rows
             → IfOk result (λ _. HasRows self.new (rows ++ row.now ∷ [])) }
@@ -97,7 +97,7 @@ impl MadeColumn {
         Ok(())
     }
 
-    /// Whether the buffers take the column.
+    /// Returns `true` if the column fits in the buffers.
     fn has_room(&self, bytes: &[u8], positions: &[u64]) -> bool
         ensures { result ≡ (nat_le (length self.now.bytes.items) (length bytes.now)
             && nat_le (length self.now.positions.items) (length positions.now)) }
@@ -105,7 +105,7 @@ impl MadeColumn {
         self.bytes.len() <= bytes.len() && self.positions.len() <= positions.len()
     }
 
-    /// Writes the column into buffers that take it.
+    /// Writes the column to buffers in which it fits.
     fn write(&self, bytes: &mut [u8], positions: &mut [u64])
         requires bytes { length self.now.bytes.items ≤ length bytes.old }
         requires positions { length self.now.positions.items ≤ length positions.old }
@@ -125,7 +125,7 @@ struct LeafColumns {
 }
 
 impl LeafColumns {
-    /// How large the columns are.
+    /// Returns the sizes of the columns.
     fn sizes(&self) -> LeafSizes
         ensures rows { (found : List LeafRow) → HasLeaves self.now found → result.rows ≡ length found }
         ensures path_bytes { result.path_bytes ≡ length self.now.paths.bytes.items }
@@ -138,7 +138,7 @@ impl LeafColumns {
         }
     }
 
-    /// One leaf more.
+    /// Appends a leaf.
     fn push(
         &mut self,
         alloc: Global,
@@ -156,7 +156,7 @@ impl LeafColumns {
     }
 }
 
-/// The leaves of a document, as columns.
+/// Returns the leaves of a document as columns.
 fn leaf_columns(alloc: Global, document: &[u8]) -> Result<LeafColumns, Error>
     ensures leaves { MatchResult result
         (λ columns. (found : List LeafRow) × HasLeaves columns found

@@ -1,10 +1,10 @@
 //! The library for C: documents one by one, and in columns.
 //!
-//! Bytes come as a pointer and a length, answers go into the caller's buffers, and each call gives a status, which
-//! `bindings/c/jsonb.h` names.
+//! Bytes are passed as a pointer and a length, results are written to the caller's buffers, and each call returns a
+//! status, which `bindings/c/jdoc.h` names.
 #![tactic(auto)]
 
-/// A table of a test: each row stands in a line, and is a tuple.
+/// A table of a test: each row is a line, and a tuple.
 #[cfg(test)]
 macro_rules! rows {
     ($($($part:expr),+;)+) => { [$(($($part),+)),+] };
@@ -14,9 +14,13 @@ mod build;
 mod column;
 mod deliver;
 mod document;
+mod keypath;
 mod leaves;
+mod path;
+mod prepared;
 mod read;
 mod status;
 mod status_name;
 #[cfg(test)]
 mod tests;
+mod version;

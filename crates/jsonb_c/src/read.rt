@@ -1,4 +1,4 @@
-//! Containers read apart.
+//! Reading containers by position.
 
 ghost use Rattle.std.specs.Prelude.{◌≡◌, ℕ, List, Option, Result, IfErr, IsOkAnd};
 ghost use Rattle.jsonb_doc.specs.Answer.{IsDecodingError, ◌or◌};
@@ -8,20 +8,20 @@ ghost use Rattle.jsonb_c.specs.Answers.{HandsOver, OfDocument, ShowsFound};
 ghost use Rattle.jsonb_c.specs.Making.{DeliversPair, FindsPair, children_count};
 ghost use Rattle.jsonb_c.specs.Private.Views.{pair_answer};
 
-use crate::deliver::{place, show_found};
+use crate::deliver::{store_found, write_at};
 use crate::status::Status;
 use jsonb::{Error, Item, encode_item, pairs, root_item};
 use jsonb_doc::{array_elements, object_pairs};
 use std::alloc::Global;
 
-/// How many elements an array has, or pairs an object.
+/// Returns the number of elements of an array, or of members of an object.
 #[unsafe(no_mangle)]
-pub extern "C" fn jsonb_len(document: &[u8], len: &mut usize) -> u32
+pub extern "C" fn jdoc_len(document: &[u8], len: &mut usize) -> u32
     ensures { HandsOver
         (OfDocument document.now (λ form t answer. IsOkAnd answer (λ found. found ≡ children_count t)))
         IsDecodingError (λ answer. ShowsFound answer len.old len.new result) }
 {
-    show_found(children_count(document), len)
+    store_found(children_count(document), len)
 }
 
 fn children_count(document: &[u8]) -> Result<Option<usize>, Error>
@@ -36,10 +36,10 @@ fn children_count(document: &[u8]) -> Result<Option<usize>, Error>
     }
 }
 
-/// A pair of an object by its position, in the order of the keys: its key into one buffer, its value as a document into
-/// the other. Nothing is written where either is too small.
+/// Returns a member of an object by its position, in the order of the keys: its key in one buffer, its value as a
+/// document in the other. Writes nothing if either is too small.
 #[unsafe(no_mangle)]
-pub extern "C" fn jsonb_pair(
+pub extern "C" fn jdoc_pair(
     alloc: Global,
     document: &[u8],
     index: usize,
@@ -105,7 +105,7 @@ fn deliver_pair(
             let name = found.key.as_bytes();
             *key_len = name.len();
             *value_len = found.value.len();
-            if key.len() < name.len() || !place(&found.value, value, 0) {
+            if key.len() < name.len() || !write_at(&found.value, value, 0) {
                 return Status::BufferTooSmall.to_u32();
             }
             key[..name.len()].copy_from_slice(name);

@@ -1,29 +1,31 @@
-//! How a call ended: the statuses, and their numbers.
+//! Results of calls: the statuses, and their numbers.
 
 ghost use Rattle.std.specs.Prelude.{◌≡◌};
 ghost use Rattle.jsonb_c.specs.Status.{code, status_of};
 
 use jsonb::{ArithmeticFault, Error};
 
-/// How a call ended.
+/// The result of a call.
 #[derive(Clone, Copy, Debug, PartialEq, Eq)]
 pub(crate) enum Status {
-    /// The call is answered.
+    /// The call succeeded.
     Answered,
-    /// There is no such part.
+    /// There is no such value.
     Absent,
-    /// The buffer is too small for the answer.
+    /// The buffer is too small for the result.
     BufferTooSmall,
-    /// Offsets fall, or pass the data.
+    /// Offsets decrease, or exceed the data.
     BadOffsets,
-    /// A name is no UTF-8.
+    /// A name is not UTF-8.
     NotUtf8,
-    /// The call is refused.
+    /// The handle keeps no such path.
+    NoPath,
+    /// The call failed.
     Refused(Error),
 }
 
 impl Status {
-    /// The number of the status.
+    /// Returns the number of the status.
     pub(crate) fn to_u8(self) -> u8
         ensures { result ≡ code self }
     {
@@ -33,11 +35,12 @@ impl Status {
             Status::BufferTooSmall => 2,
             Status::BadOffsets => 3,
             Status::NotUtf8 => 4,
+            Status::NoPath => 5,
             Status::Refused(error) => refusal_code(error),
         }
     }
 
-    /// The number of the status, as calls answer it.
+    /// Returns the number of the status.
     pub(crate) fn to_u32(self) -> u32
         ensures { result ≡ code self }
     {
@@ -45,7 +48,7 @@ impl Status {
     }
 }
 
-/// The number of a refusal.
+/// Returns the number of an error.
 fn refusal_code(error: Error) -> u8
     ensures { result ≡ status_of error }
 {

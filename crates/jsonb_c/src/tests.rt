@@ -1,13 +1,13 @@
 //! Worked rows of the calls that make documents and read them apart.
 
-use crate::build::object::jsonb_object_from_columns;
+use crate::build::object::jdoc_object_from_columns;
 use crate::build::{
-    jsonb_array_from_column, jsonb_from_bool, jsonb_from_decimal, jsonb_from_i64, jsonb_from_null,
-    jsonb_from_str, jsonb_from_u64,
+    jdoc_array_from_column, jdoc_from_bool, jdoc_from_decimal, jdoc_from_i64, jdoc_from_null,
+    jdoc_from_str, jdoc_from_u64,
 };
-use crate::document::decimal::jsonb_as_decimal;
-use crate::leaves::{LeafSizes, jsonb_leaves};
-use crate::read::{jsonb_len, jsonb_pair};
+use crate::document::decimal::jdoc_as_decimal;
+use crate::leaves::{LeafSizes, jdoc_leaves};
+use crate::read::{jdoc_len, jdoc_pair};
 use std::alloc::Global;
 
 const OK: u32 = 0;
@@ -37,7 +37,7 @@ impl Answer {
         }
     }
 
-    /// Whether these bytes were handed over, and what is behind them is as it was.
+    /// Returns whether these bytes were delivered, and what follows them is unchanged.
     fn is(&self, wanted: &[u8]) -> bool {
         self.out.starts_with(wanted)
             && self.len == wanted.len()
@@ -57,13 +57,13 @@ macro_rules! assert_gives {
 #[test]
 fn values(rt: HostRuntime) {
     let alloc = rt.alloc();
-    assert_gives!(rt; jsonb_from_null(alloc), OK, b"\x20\0\0\0\0\0\0\0");
-    assert_gives!(rt; jsonb_from_bool(alloc, true), OK, b"\x20\0\0\0\x40\0\0\0");
-    assert_gives!(rt; jsonb_from_i64(alloc, -100), OK, b"\x20\0\0\0\x20\0\0\x02\x40\x9c");
-    assert_gives!(rt; jsonb_from_u64(alloc, 1), OK, b"\x20\0\0\0\x20\0\0\x02\x50\x01");
-    assert_gives!(rt; jsonb_from_decimal(alloc, 0, 1234, 2), OK, b"\x20\0\0\0\x20\0\0\x0a\x70\0\0\0\0\0\0\x04\xd2\x02");
-    assert_gives!(rt; jsonb_from_str(alloc, b"adf"), OK, b"\x20\0\0\0\x10\0\0\x03adf");
-    assert_gives!(rt; jsonb_from_str(alloc, b"\xff"), NOT_UTF8, b"");
+    assert_gives!(rt; jdoc_from_null(alloc), OK, b"\x20\0\0\0\0\0\0\0");
+    assert_gives!(rt; jdoc_from_bool(alloc, true), OK, b"\x20\0\0\0\x40\0\0\0");
+    assert_gives!(rt; jdoc_from_i64(alloc, -100), OK, b"\x20\0\0\0\x20\0\0\x02\x40\x9c");
+    assert_gives!(rt; jdoc_from_u64(alloc, 1), OK, b"\x20\0\0\0\x20\0\0\x02\x50\x01");
+    assert_gives!(rt; jdoc_from_decimal(alloc, 0, 1234, 2), OK, b"\x20\0\0\0\x20\0\0\x0a\x70\0\0\0\0\0\0\x04\xd2\x02");
+    assert_gives!(rt; jdoc_from_str(alloc, b"adf"), OK, b"\x20\0\0\0\x10\0\0\x03adf");
+    assert_gives!(rt; jdoc_from_str(alloc, b"\xff"), NOT_UTF8, b"");
 }
 
 /// null and 1
@@ -78,7 +78,7 @@ static ARRAYS: [(&[u64], u32, &[u8]); 2] = rows! {
 #[test]
 fn arrays(rt: HostRuntime) {
     for (offsets, status, array) in &ARRAYS {
-        assert_gives!(rt; jsonb_array_from_column(rt.alloc(), NULL_AND_ONE, offsets), *status, array);
+        assert_gives!(rt; jdoc_array_from_column(rt.alloc(), NULL_AND_ONE, offsets), *status, array);
     }
 }
 
@@ -96,7 +96,7 @@ fn decimals(rt: HostRuntime) {
         let mut high = 9;
         let mut low = 9;
         let mut scale = 9;
-        let status = jsonb_as_decimal(document, &mut high, &mut low, &mut scale);
+        let status = jdoc_as_decimal(document, &mut high, &mut low, &mut scale);
         let is_so = status == *wanted && (high, low, scale) == *parts;
         assert!(rt; is_so, "{document:?}");
     }
@@ -108,8 +108,8 @@ static OBJECT: &[u8] = b"\x40\0\0\x02\x10\0\0\x01\x10\0\0\x01\x20\0\0\x02\0\0\0\
 #[test]
 fn counts(rt: HostRuntime) {
     let mut len = 9;
-    assert!(rt; jsonb_len(OBJECT, &mut len) == OK && len == 2);
-    assert!(rt; jsonb_len(b"\x20\0\0\0\0\0\0\0", &mut len) == NONE);
+    assert!(rt; jdoc_len(OBJECT, &mut len) == OK && len == 2);
+    assert!(rt; jdoc_len(b"\x20\0\0\0\0\0\0\0", &mut len) == NONE);
 }
 
 /// Places of pairs in the object, the status, the key and the value.
@@ -124,7 +124,7 @@ fn pairs(rt: HostRuntime) {
     for (index, wanted, name, document) in &PAIRS {
         let mut key = Answer::new();
         let mut value = Answer::new();
-        let status = jsonb_pair(
+        let status = jdoc_pair(
             rt.alloc(),
             OBJECT,
             *index,
@@ -142,7 +142,7 @@ fn pairs(rt: HostRuntime) {
 fn a_pair_without_room(rt: HostRuntime) {
     let mut key_len = 9;
     let mut value = Answer::new();
-    let status = jsonb_pair(
+    let status = jdoc_pair(
         rt.alloc(),
         OBJECT,
         0,
@@ -169,14 +169,14 @@ static OBJECTS: [(&[u8], &[u64], u32, &[u8]); 5] = rows! {
 #[test]
 fn objects_of_columns(rt: HostRuntime) {
     for (names, offsets, status, object) in &OBJECTS {
-        assert_gives!(rt; jsonb_object_from_columns(rt.alloc(), names, offsets, ONE_AND_NULL, &[0, 10, 18]), *status, object);
+        assert_gives!(rt; jdoc_object_from_columns(rt.alloc(), names, offsets, ONE_AND_NULL, &[0, 10, 18]), *status, object);
     }
 }
 
 /// `{"a b":[1]}`
 static ONE_LEAF: &[u8] = b"\x40\0\0\x01\x10\0\0\x03\x50\0\0\x0aa b\x80\0\0\x01\x20\0\0\x02\x50\x01";
 
-/// A caller's buffers for leaves, but for the documents' positions.
+/// A caller's buffers for leaves, except for the documents' offsets.
 #[derive(Clone, Copy)]
 struct LeafBuffers {
     paths: Answer,
@@ -185,7 +185,7 @@ struct LeafBuffers {
     rows: usize,
 }
 
-/// The leaf, and the status.
+/// Returns the leaf, and the status.
 fn leaf(alloc: Global, positions: &mut [u64]) -> (LeafBuffers, u32) {
     let mut paths = Answer::new();
     let mut documents = Answer::new();
@@ -195,7 +195,7 @@ fn leaf(alloc: Global, positions: &mut [u64]) -> (LeafBuffers, u32) {
         path_bytes: 9,
         document_bytes: 9,
     };
-    let status = jsonb_leaves(
+    let status = jdoc_leaves(
         alloc,
         ONE_LEAF,
         &mut paths.out,

@@ -4,13 +4,14 @@ use Rattle.jsonb_doc.specs.declared.error.Error.{Error}
 use Rattle.jsonb_c.specs.Columns.{Cell, Found}
 use Rattle.jsonb_c.specs.Status.{ok, buffer_too_small}
 
--- the bytes stand at a place in the buffer, which is else as it was; or they have no room there, and it is as it was
+-- the bytes are at an offset in the buffer, which is otherwise unchanged; or they do not fit there, and it is
+-- unchanged
 abbrev pub Places : List ℕ → ℕ → List ℕ → List ℕ → Bool → Type 0
 Places bytes at old new true =
     (at + length bytes ≤ length old) × (new ≡ take at old ++ (bytes ++ drop (at + length bytes) old))
 Places bytes at old new false = (length old < at + length bytes) × (new ≡ old)
 
--- the status of a call that did so many rows of all
+-- the status of a call that completed this many rows of all
 abbrev pub EndsAs : ℕ → ℕ → ℕ → Type 0
 EndsAs done all status = ((all ≤ done) × (status ≡ ok)) ⊎ ((done < all) × (status ≡ buffer_too_small))
 
@@ -25,7 +26,7 @@ written_answer (Ok true) bytes = Ok (Some bytes)
 written_answer (Ok false) bytes = Ok None
 written_answer (Err e) bytes = Err e
 
--- the same, and none where the row's offsets are wrong
+-- the result of a row, and none if the row's offsets are wrong
 abbrev pub written_cell : Option (Result Bool Error) → List ℕ → Cell (List ℕ)
 written_cell None bytes = None
 written_cell (Some answer) bytes = Some (written_answer answer bytes)

@@ -1,4 +1,4 @@
--- What a path tells or makes of a row, also one that is built by hand: by each meaning that it has.
+-- The result of a path for a row, also of one built by hand: by each meaning that it has.
 use Rattle.std.specs.Prelude.{ℕ, List, Option, IfErr}
 use Rattle.jsonb_doc.specs.Tree.{Tree}
 use Rattle.jsonb.specs.KeyPathGrammar.{Key}
@@ -9,8 +9,8 @@ use Rattle.jsonb.specs.declared.selector.document.Mode.{Mode}
 use Rattle.jsonb_c.specs.Answers.{bool_byte}
 use Rattle.jsonb_c.specs.Columns.{Found}
 use Rattle.jsonb_c.specs.Rows.{DeletesPart, FindsPart, TellsExistence, TellsTruth, Writes}
-use Rattle.jsonb_c.specs.declared.column.documents.Wanted.{Wanted}
-use Rattle.jsonb_c.specs.declared.column.documents.Wanted.TheVariants.{Part, Rest}
+use Rattle.jsonb_c.specs.declared.column.documents.Operation.{Operation}
+use Rattle.jsonb_c.specs.declared.column.documents.Operation.TheVariants.{Part, Rest}
 use Rattle.jsonb_c.specs.declared.column.truths.Question.{Question}
 use Rattle.jsonb_c.specs.declared.column.truths.Question.TheVariants.{Existence, Truth}
 
@@ -19,12 +19,12 @@ abbrev pub TellsExistenceBy : Mode → List Step → List ℕ → Found ℕ → 
 TellsExistenceBy mode path document row =
     Writes (ByMeanings mode document path IsFound) (IsSelectionError mode) bool_byte row
 
--- what the path tells
+-- the result of the path as a predicate
 abbrev pub TellsBy : Question → Mode → List Step → List ℕ → Found ℕ → Type 0
 TellsBy Existence = TellsExistenceBy
 TellsBy Truth = TellsTruth
 
--- the same of a path that was read
+-- Holds if the row has the result for a parsed path.
 abbrev pub told : Question → Mode → List Step → List ℕ → Found ℕ → Type 0
 told Existence = TellsExistence
 told Truth = TellsTruth
@@ -36,7 +36,7 @@ SelectsItemBy mode pick path document row =
 
 -- ---- key paths
 
--- the part at the place that the steps meet, or the document without it
-abbrev pub place_of : Wanted → List Key → List ℕ → Found (List ℕ) → Type 0
+-- the value at the location of the steps, or the document without it
+abbrev pub place_of : Operation → List Key → List ℕ → Found (List ℕ) → Type 0
 place_of Part = FindsPart
 place_of Rest = DeletesPart

@@ -21,7 +21,7 @@ IsNameOf answer row = MatchResult answer (λ name. name_of row ≡ Ok name.now) 
 abbrev pub HasNames : TextSet → List (List ℕ) → Type 0
 HasNames set names = (q : List ℕ) → is_in set q ≡ list_any (λ name. bytes_eq name q) names
 
--- whether so many of the names are there
+-- whether all, or any, of the names are present
 abbrev pub has_keys : Quantity → List (List ℕ) → Tree → Bool
 has_keys All = has_all
 has_keys Any = has_any

@@ -1,4 +1,4 @@
-//! Objects made of a column of names and a column of documents.
+//! Objects built from a column of keys and a column of documents.
 
 ghost use Rattle.std.specs.Prelude.{◌≡◌, IfErr, false, length, map, true};
 ghost use Rattle.jsonb_doc.specs.Answer.{IsDecodingError, ◌or◌};
@@ -17,9 +17,9 @@ use crate::status::Status;
 use jsonb::{Error, ObjectBuilder};
 use std::alloc::Global;
 
-/// An object of names and documents, row by row.
+/// Returns an object of keys and documents, row by row.
 #[unsafe(no_mangle)]
-pub extern "C" fn jsonb_object_from_columns(
+pub extern "C" fn jdoc_object_from_columns(
     alloc: Global,
     names: &[u8],
     name_offsets: &[u64],
@@ -50,7 +50,7 @@ pub extern "C" fn jsonb_object_from_columns(
     }
 }
 
-/// An object of the names, each with the document in its row.
+/// Returns an object of the keys, each with the document in its row.
 fn object_of(alloc: Global, names: &[&str], documents: &Column<'_>) -> Result<Vec<u8>, Error>
     requires { length names.now ≡ length documents.now }
     ensures object { MakesObject (map (λ name. name.now) names.now) documents.now (vec_answer result) }

@@ -1,4 +1,4 @@
-//! What a call asks of each row, and what came of a row.
+//! A call on each row, and its result.
 
 ghost use Rattle.std.specs.Prelude.{◌≡◌, ℕ, List, option_copied};
 ghost use Rattle.jsonb_c.specs.Columns.{IsCell, cell_bytes, cell_status, cell_value};
@@ -8,22 +8,22 @@ use crate::status::Status;
 use jsonb::Error;
 use std::alloc::Global;
 
-/// What a call asks of each row.
+/// A type that is called on each row and returns a value.
 pub(crate) trait RowCall<A> {
     ghost use Rattle.std.specs.Prelude.{ℕ, List};
     ghost use Rattle.jsonb_c.specs.Columns.{Found};
 
     ghost IsAnswerTo: { Self → List ℕ → Found A → Type 0 };
 
-    /// What the call answers of a row's document.
+    /// Returns the result of the call for a row's document.
     fn answer(&self, alloc: Global, document: &[u8]) -> Result<Option<A>, Error>
         ensures { IsAnswerTo self.now document.now result };
 }
 
-/// What came of a row: none where its offsets are wrong.
+/// Returns the result of a row, or `None` if its offsets are wrong.
 pub(crate) type Cell<A> = Option<Result<Option<A>, Error>>;
 
-/// Asks a row.
+/// Calls on a row.
 pub(crate) fn ask<A, C: RowCall<A>>(alloc: Global, call: &C, row: Option<&[u8]>) -> Cell<A>
     ensures { IsCell (C.IsAnswerTo call.now) (option_copied row.entry) result }
 {
@@ -31,7 +31,7 @@ pub(crate) fn ask<A, C: RowCall<A>>(alloc: Global, call: &C, row: Option<&[u8]>)
     Some(call.answer(alloc, document))
 }
 
-/// The status of a row.
+/// Returns the status of a row.
 pub(crate) fn cell_status<A>(cell: &Cell<A>) -> u8
     ensures { result ≡ cell_status cell.now }
 {
@@ -44,7 +44,7 @@ pub(crate) fn cell_status<A>(cell: &Cell<A>) -> u8
     status.to_u8()
 }
 
-/// The value of a row, and another one where it has none.
+/// Returns the value of a row, or another one if it has none.
 pub(crate) fn cell_value<A: Copy>(cell: &Cell<A>, other: A) -> A
     ensures { result ≡ cell_value other cell.now }
 {
@@ -54,7 +54,7 @@ pub(crate) fn cell_value<A: Copy>(cell: &Cell<A>, other: A) -> A
     }
 }
 
-/// What a call writes for each row.
+/// A type that is called on each row and writes bytes.
 pub(crate) trait RowWriter {
     ghost use Rattle.std.specs.Prelude.{ℕ, List};
     ghost use Rattle.jsonb_c.specs.Columns.{Found};
@@ -62,15 +62,16 @@ pub(crate) trait RowWriter {
 
     ghost IsAnswerTo: { Self → List ℕ → Found (List ℕ) → Type 0 };
 
-    /// Writes what the call answers of a row's document over what the buffer holds; answers whether there is anything.
+    /// Replaces the contents of the buffer by the result of the call for a row's document. Returns whether there is
+    /// one.
     fn write(&self, alloc: Global, document: &[u8], out: &mut Vec<u8>) -> Result<bool, Error>
         ensures { IsAnswerTo self.now document.now (written_answer result out.new.items) };
 }
 
-/// What came of a row whose bytes lie in a buffer: whether there are any, none where its offsets are wrong.
+/// Whether a row, whose bytes are in a buffer, has a result, or `None` if its offsets are wrong.
 pub(crate) type Written = Option<Result<bool, Error>>;
 
-/// Asks a row for its bytes.
+/// Calls on a row for its bytes.
 pub(crate) fn ask_for_bytes<C: RowWriter>(
     alloc: Global,
     call: &C,
@@ -83,7 +84,7 @@ pub(crate) fn ask_for_bytes<C: RowWriter>(
     Some(call.write(alloc, document, out))
 }
 
-/// The status of a row.
+/// Returns the status of a row.
 pub(crate) fn written_status(cell: Written) -> u8
     ensures { (bytes : List ℕ) → result ≡ cell_status (written_cell cell bytes) }
 {
@@ -96,7 +97,7 @@ pub(crate) fn written_status(cell: Written) -> u8
     status.to_u8()
 }
 
-/// The bytes of a row, which has none where it has no answer.
+/// Returns the bytes of a row, and none if it has no result.
 pub(crate) fn written_bytes(cell: Written, bytes: &[u8]) -> &[u8]
     ensures { result.now ≡ cell_bytes (written_cell cell bytes.entry.now) }
 {
@@ -106,7 +107,7 @@ pub(crate) fn written_bytes(cell: Written, bytes: &[u8]) -> &[u8]
     }
 }
 
-/// How a call ended that did so many rows of all.
+/// Returns the status of a call that completed this many rows of all.
 pub(crate) fn end_of(done: usize, all: usize) -> u32
     ensures { EndsAs done all result }
 {

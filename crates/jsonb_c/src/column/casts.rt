@@ -1,4 +1,4 @@
-//! Each row as an integer or as a text.
+//! Each row as an integer or as a string.
 
 ghost use Rattle.std.specs.Prelude.{IfErr, pos};
 ghost use Rattle.jsonb_doc.specs.Answer.{IsDecodingError, ◌or◌};
@@ -36,7 +36,7 @@ fn i64_of(document: &[u8]) -> Result<i64, Error>
     RawJsonb::new(document).to_i64()
 }
 
-/// A document as a text.
+/// A document as a string.
 #[derive(Clone, Copy)]
 struct ToText;
 
@@ -59,9 +59,9 @@ fn text_of(alloc: Global, document: &[u8]) -> Result<String, Error>
     RawJsonb::new(document).to_str(alloc)
 }
 
-/// Each document as an `i64`, as `jsonb_to_i64` casts it; 0 where it is refused.
+/// Casts each document to an `i64`, as `jdoc_to_i64` does; 0 if that fails.
 #[unsafe(no_mangle)]
-pub extern "C" fn jsonb_column_to_i64(
+pub extern "C" fn jdoc_column_to_i64(
     alloc: Global,
     bytes: &[u8],
     offsets: &[u64],
@@ -75,9 +75,9 @@ pub extern "C" fn jsonb_column_to_i64(
     Column::new(bytes, offsets).fill(alloc, &ToI64, 0, numbers, statuses, done)
 }
 
-/// Each document as a text, as `jsonb_to_str` casts it.
+/// Casts each document to a string, as `jdoc_to_str` does.
 #[unsafe(no_mangle)]
-pub extern "C" fn jsonb_column_to_str(
+pub extern "C" fn jdoc_column_to_str(
     alloc: Global,
     bytes: &[u8],
     offsets: &[u64],

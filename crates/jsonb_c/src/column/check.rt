@@ -23,9 +23,9 @@ impl RowCall<()> for Checks {
     }
 }
 
-/// Whether each row is a document, or why it is none: the statuses are the answer.
+/// Checks whether each row is a document: the statuses are the result.
 #[unsafe(no_mangle)]
-pub extern "C" fn jsonb_column_check(
+pub extern "C" fn jdoc_column_check(
     alloc: Global,
     bytes: &[u8],
     offsets: &[u64],

@@ -1,4 +1,4 @@
-//! A document a row: what a path selects, the part at a place, and the document without it.
+//! A document per row: what a path selects, the value at a location, and the document without it.
 
 ghost use Rattle.std.specs.Prelude.{◌≡◌, IfErr, Ok};
 ghost use Rattle.jsonb_doc.specs.Answer.{IsDecodingError, ◌or◌};
@@ -19,9 +19,9 @@ ghost use Rattle.jsonb_c.specs.Rows.{DeletesPart, FindsPart, SelectsItem};
 ghost use Rattle.jsonb_c.specs.Views.{one_array};
 ghost use Rattle.jsonb_c.specs.Private.Views.{pick_of};
 
-use super::asked::Asked;
+use super::asked::PathColumn;
 use super::call::RowWriter;
-use super::join::{Progress, do_nothing};
+use super::join::{Progress, fail_join};
 use crate::document::select::{Pick, pick_by_path};
 use crate::status::Status;
 use jsonb::{Error, JsonPath, KeyPaths, OwnedJsonb, RawJsonb, parse_json_path, parse_key_paths};
@@ -50,7 +50,7 @@ impl RowWriter for Selects<'_> {
     }
 }
 
-/// Writes a document that was found.
+/// Writes a document that was found. Returns whether there is one.
 fn write_found(document: Option<OwnedJsonb>, out: &mut Vec<u8>) -> bool
     ensures { written_answer (Ok result) out.new.items ≡ Ok document }
 {
@@ -63,20 +63,20 @@ fn write_found(document: Option<OwnedJsonb>, out: &mut Vec<u8>) -> bool
     }
 }
 
-/// What is wanted of a place.
+/// The operation at a location.
 #[derive(Clone, Copy)]
-enum Wanted {
-    /// The part there.
+enum Operation {
+    /// Returns the value there.
     Part,
-    /// The document without it.
+    /// Returns the document without it.
     Rest,
 }
 
-/// The part at a place, or the document without it.
+/// The value at a location, or the document without it.
 #[derive(Drop)]
 struct AtPlace<'p> {
     steps: KeyPaths<'p>,
-    wanted: Wanted,
+    wanted: Operation,
 }
 
 impl RowWriter for AtPlace<'_> {
@@ -87,11 +87,11 @@ impl RowWriter for AtPlace<'_> {
 
     fn write(&self, alloc: Global, document: &[u8], out: &mut Vec<u8>) -> Result<bool, Error> {
         match self.wanted {
-            Wanted::Part => {
+            Operation::Part => {
                 let part = part_at(alloc, document, &self.steps)?;
                 Ok(write_found(part, out))
             }
-            Wanted::Rest => {
+            Operation::Rest => {
                 let left = without_part(alloc, document, &self.steps)?;
                 *out = left.to_vec();
                 Ok(true)
@@ -100,7 +100,7 @@ impl RowWriter for AtPlace<'_> {
     }
 }
 
-fn part_at<'a>(
+pub(crate) fn part_at<'a>(
     alloc: Global,
     document: &'a [u8],
     steps: &'a KeyPaths<'a>,
@@ -112,7 +112,7 @@ fn part_at<'a>(
     RawJsonb::new(document).get_by_keypath(alloc, steps.paths.iter())
 }
 
-fn without_part<'a>(
+pub(crate) fn without_part<'a>(
     alloc: Global,
     document: &'a [u8],
     steps: &'a KeyPaths<'a>,
@@ -123,9 +123,9 @@ fn without_part<'a>(
     RawJsonb::new(document).delete_by_keypath(alloc, steps.paths.iter())
 }
 
-/// The part of each document at the place that a key path meets.
+/// Returns the value of each document at a key path.
 #[unsafe(no_mangle)]
-pub extern "C" fn jsonb_column_get(
+pub extern "C" fn jdoc_column_get(
     alloc: Global,
     bytes: &[u8],
     offsets: &[u64],
@@ -138,13 +138,13 @@ pub extern "C" fn jsonb_column_get(
     ensures { JoinsByPath InvalidKeyPath (key_path path.now) FindsPart (rows bytes.now offsets.now)
         (out.old, positions.old, statuses.old) (out.new, positions.new, statuses.new) progress.new result }
 {
-    let asked = Asked::new(alloc, bytes, offsets, path);
-    asked.place(Wanted::Part, out, positions, statuses, progress)
+    let asked = PathColumn::new(alloc, bytes, offsets, path);
+    asked.place(Operation::Part, out, positions, statuses, progress)
 }
 
-/// Each document without the place that a key path meets.
+/// Returns each document without the value at a key path.
 #[unsafe(no_mangle)]
-pub extern "C" fn jsonb_column_delete_by_keypath(
+pub extern "C" fn jdoc_column_delete_by_keypath(
     alloc: Global,
     bytes: &[u8],
     offsets: &[u64],
@@ -157,13 +157,13 @@ pub extern "C" fn jsonb_column_delete_by_keypath(
     ensures { JoinsByPath InvalidKeyPath (key_path path.now) DeletesPart (rows bytes.now offsets.now)
         (out.old, positions.old, statuses.old) (out.new, positions.new, statuses.new) progress.new result }
 {
-    let asked = Asked::new(alloc, bytes, offsets, path);
-    asked.place(Wanted::Rest, out, positions, statuses, progress)
+    let asked = PathColumn::new(alloc, bytes, offsets, path);
+    asked.place(Operation::Rest, out, positions, statuses, progress)
 }
 
-/// The first item that a JSON path selects of each document.
+/// Returns the first item that a JSON path selects of each document.
 #[unsafe(no_mangle)]
-pub extern "C" fn jsonb_column_select_first(
+pub extern "C" fn jdoc_column_select_first(
     alloc: Global,
     bytes: &[u8],
     offsets: &[u64],
@@ -178,13 +178,13 @@ pub extern "C" fn jsonb_column_select_first(
         (rows bytes.now offsets.now)
         (out.old, positions.old, statuses.old) (out.new, positions.new, statuses.new) progress.new result }
 {
-    let asked = Asked::new(alloc, bytes, offsets, path);
+    let asked = PathColumn::new(alloc, bytes, offsets, path);
     asked.select(strict, Pick::First, out, positions, statuses, progress)
 }
 
-/// The only item that a JSON path selects of each document, or one array of several.
+/// Returns the item that a JSON path selects of each document if it is the only one, or an array if there are several.
 #[unsafe(no_mangle)]
-pub extern "C" fn jsonb_column_select_value(
+pub extern "C" fn jdoc_column_select_value(
     alloc: Global,
     bytes: &[u8],
     offsets: &[u64],
@@ -199,13 +199,13 @@ pub extern "C" fn jsonb_column_select_value(
         (rows bytes.now offsets.now)
         (out.old, positions.old, statuses.old) (out.new, positions.new, statuses.new) progress.new result }
 {
-    let asked = Asked::new(alloc, bytes, offsets, path);
+    let asked = PathColumn::new(alloc, bytes, offsets, path);
     asked.select(strict, Pick::Value, out, positions, statuses, progress)
 }
 
-/// One array of the items that a JSON path selects of each document.
+/// Returns an array of the items that a JSON path selects of each document.
 #[unsafe(no_mangle)]
-pub extern "C" fn jsonb_column_select_array(
+pub extern "C" fn jdoc_column_select_array(
     alloc: Global,
     bytes: &[u8],
     offsets: &[u64],
@@ -220,15 +220,15 @@ pub extern "C" fn jsonb_column_select_array(
         (rows bytes.now offsets.now)
         (out.old, positions.old, statuses.old) (out.new, positions.new, statuses.new) progress.new result }
 {
-    let asked = Asked::new(alloc, bytes, offsets, path);
+    let asked = PathColumn::new(alloc, bytes, offsets, path);
     asked.select(strict, Pick::Array, out, positions, statuses, progress)
 }
 
-impl Asked<'_> {
-    /// What is wanted of the place that the path, a key path, meets in each row.
+impl PathColumn<'_> {
+    /// Applies the operation at the key path to each row.
     fn place(
         &self,
-        wanted: Wanted,
+        wanted: Operation,
         out: &mut [u8],
         positions: &mut [u64],
         statuses: &mut [u8],
@@ -243,11 +243,11 @@ impl Asked<'_> {
                 self.column
                     .join(self.alloc, &call, out, positions, statuses, progress)
             }
-            Err(error) => do_nothing(Status::Refused(error), progress),
+            Err(error) => fail_join(Status::Refused(error), progress),
         }
     }
 
-    /// The document of the items that the path, a JSON path, selects of each row.
+    /// Writes the document of the items that the path, a JSON path, selects of each row.
     fn select(
         &self,
         strict: bool,
@@ -267,7 +267,7 @@ impl Asked<'_> {
                 self.column
                     .join(self.alloc, &call, out, positions, statuses, progress)
             }
-            Err(error) => do_nothing(Status::Refused(error), progress),
+            Err(error) => fail_join(Status::Refused(error), progress),
         }
     }
 }

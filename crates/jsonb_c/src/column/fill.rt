@@ -1,4 +1,4 @@
-//! Answers of one value a row, and of none.
+//! Results of one value per row, and of none.
 
 ghost use Rattle.std.specs.Prelude.{◌≡◌};
 ghost use Rattle.jsonb_c.specs.Columns.{ChecksRows, FillsRows};
@@ -11,7 +11,7 @@ use jsonb::Error;
 use std::alloc::Global;
 
 impl Column<'_> {
-    /// Writes a status a row.
+    /// Writes a status per row.
     pub(crate) fn check<A: Drop, C: RowCall<A>>(
         &self,
         alloc: Global,
@@ -31,7 +31,7 @@ impl Column<'_> {
         end_of(room, rows)
     }
 
-    /// Writes a value and a status a row: `other` where a row has no value.
+    /// Writes a value and a status per row: `other` if a row has no value.
     pub(crate) fn fill<A: Copy, C: RowCall<A>>(
         &self,
         alloc: Global,
@@ -56,8 +56,8 @@ impl Column<'_> {
     }
 }
 
-/// Does no row.
-pub(crate) fn refuse_rows(error: Error, done: &mut usize) -> u32
+/// Returns the status of a call that processed no row.
+pub(crate) fn fail_column(error: Error, done: &mut usize) -> u32
     ensures done { done.new ≡ 0 }
     ensures status { result ≡ status_of error }
 {

@@ -1,4 +1,4 @@
-//! Answers of bytes, one behind the other.
+//! Results of bytes, in one buffer with offsets.
 
 ghost use Rattle.std.specs.Prelude.{◌≡◌};
 ghost use Rattle.jsonb_c.specs.Columns.{JoinsRows};
@@ -6,12 +6,11 @@ ghost use Rattle.jsonb_c.specs.Status.{code};
 
 use super::Column;
 use super::call::{RowWriter, ask_for_bytes, end_of, written_bytes, written_status};
-use crate::deliver::place;
+use crate::deliver::write_at;
 use crate::status::Status;
 use std::alloc::Global;
 
-/// How far a call on a column came: rows and bytes that are done, and how long the answer of the row is that had no
-/// room.
+/// The progress of a call on a column: the rows and bytes that are done, and the length of the row that did not fit.
 #[repr(C)]
 #[derive(Clone, Copy)]
 pub struct Progress {
@@ -21,7 +20,7 @@ pub struct Progress {
 }
 
 impl Column<'_> {
-    /// The answers' bytes, the offsets between them, and a status a row.
+    /// Writes the bytes of the results, the offsets between them, and a status per row.
     pub(crate) fn join<C: RowWriter>(
         &self,
         alloc: Global,
@@ -35,7 +34,7 @@ impl Column<'_> {
             (out.old, positions.old, statuses.old) (out.new, positions.new, statuses.new) progress.new result }
     {
         if positions.is_empty() {
-            return do_nothing(Status::BufferTooSmall, progress);
+            return fail_join(Status::BufferTooSmall, progress);
         }
         let rows = self.len();
         let room = rows.min(positions.len() - 1).min(statuses.len());
@@ -45,7 +44,7 @@ impl Column<'_> {
         for index in 0..room {
             let cell = ask_for_bytes(alloc, call, self.row(index), &mut buffer);
             let made = written_bytes(cell, &buffer);
-            if !place(made, out, at) {
+            if !write_at(made, out, at) {
                 *progress = Progress {
                     rows: index,
                     bytes: at,
@@ -66,8 +65,8 @@ impl Column<'_> {
     }
 }
 
-/// Does no row.
-pub(crate) fn do_nothing(cause: Status, progress: &mut Progress) -> u32
+/// Returns the status of a call that processed no row, and its empty progress.
+pub(crate) fn fail_join(cause: Status, progress: &mut Progress) -> u32
     ensures rows { progress.new.rows ≡ 0 }
     ensures bytes { progress.new.bytes ≡ 0 }
     ensures next { progress.new.next ≡ 0 }

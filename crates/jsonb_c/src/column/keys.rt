@@ -1,4 +1,4 @@
-//! A key a row.
+//! A key per row.
 
 ghost use Rattle.jsonb_c.specs.Calls.{width_of};
 ghost use Rattle.jsonb_c.specs.Columns.{JoinsRows, rows};
@@ -42,9 +42,9 @@ impl RowWriter for EqualityKeys {
     }
 }
 
-/// The sortable key of each document, with depths in one byte, or in two where it is to be wide.
+/// Returns the sortable key of each document, with one-byte depths, or two-byte depths if it is wide.
 #[unsafe(no_mangle)]
-pub extern "C" fn jsonb_column_key(
+pub extern "C" fn jdoc_column_key(
     alloc: Global,
     bytes: &[u8],
     offsets: &[u64],
@@ -61,9 +61,9 @@ pub extern "C" fn jsonb_column_key(
     Column::new(bytes, offsets).join(alloc, &keys, out, positions, statuses, progress)
 }
 
-/// The equality key of each document.
+/// Returns the equality key of each document.
 #[unsafe(no_mangle)]
-pub extern "C" fn jsonb_column_equality_key(
+pub extern "C" fn jdoc_column_equality_key(
     alloc: Global,
     bytes: &[u8],
     offsets: &[u64],

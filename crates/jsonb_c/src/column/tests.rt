@@ -1,14 +1,14 @@
-//! Worked rows of the calls on columns: documents, a damaged one, and a row whose offsets fall.
+//! Example rows of the functions on columns: documents, a damaged one, and a row whose offsets decrease.
 
-use super::casts::{jsonb_column_to_i64, jsonb_column_to_str};
-use super::check::jsonb_column_check;
+use super::casts::{jdoc_column_to_i64, jdoc_column_to_str};
+use super::check::jdoc_column_check;
 use super::documents::{
-    jsonb_column_delete_by_keypath, jsonb_column_get, jsonb_column_select_array,
-    jsonb_column_select_first, jsonb_column_select_value,
+    jdoc_column_delete_by_keypath, jdoc_column_get, jdoc_column_select_array,
+    jdoc_column_select_first, jdoc_column_select_value,
 };
 use super::join::Progress;
-use super::keys::{jsonb_column_equality_key, jsonb_column_key};
-use super::truths::{jsonb_column_contains, jsonb_column_exists, jsonb_column_match};
+use super::keys::{jdoc_column_equality_key, jdoc_column_key};
+use super::truths::{jdoc_column_contains, jdoc_column_exists, jdoc_column_match};
 use std::alloc::Global;
 
 const OK: u32 = 0;
@@ -17,7 +17,7 @@ const BUFFER_TOO_SMALL: u32 = 2;
 
 const INVALID_JSON_PATH: u32 = 18;
 
-/// `{"a":1}`, bytes that end within a header, `{"a":2}`, and behind them a row whose offsets fall.
+/// `{"a":1}`, bytes that end within a header, `{"a":2}`, and after them a row whose offsets decrease.
 static ROWS: &[u8] =
     b"\x40\0\0\x01\x10\0\0\x01\x20\0\0\x02a\x50\x01\x80\0\0\x40\0\0\x01\x10\0\0\x01\x20\0\0\x02a\x50\x02";
 
@@ -38,7 +38,7 @@ static SCALARS: &[u8] = b"\x20\0\0\0\0\0\0\0\x20\0\0\0\x10\0\0\x017\x20\0\0\0\x2
 
 static SCALAR_OFFSETS: [u64; 4] = [0, 8, 17, 27];
 
-/// Makes a call that gives a truth a row, and asserts the truths and the statuses of all four.
+/// Makes a call that returns a Boolean per row, and asserts the results and the statuses of all four.
 macro_rules! assert_tells {
     ($rt:ident; $call:ident($($word:expr),*), $truths:expr) => {{
         let mut truths = [9; 4];
@@ -52,20 +52,20 @@ macro_rules! assert_tells {
 #[test]
 fn truths(rt: HostRuntime) {
     let alloc = rt.alloc();
-    assert_tells!(rt; jsonb_column_match(alloc, ROWS, &OFFSETS, b"$.a > 1", false), [0, 2, 1, 2]);
-    assert_tells!(rt; jsonb_column_exists(alloc, ROWS, &OFFSETS, b"$.a?(@ > 1)", false), [0, 2, 1, 2]);
-    assert_tells!(rt; jsonb_column_contains(alloc, ROWS, &OFFSETS, A_ONE), [1, 2, 0, 2]);
+    assert_tells!(rt; jdoc_column_match(alloc, ROWS, &OFFSETS, b"$.a > 1", false), [0, 2, 1, 2]);
+    assert_tells!(rt; jdoc_column_exists(alloc, ROWS, &OFFSETS, b"$.a?(@ > 1)", false), [0, 2, 1, 2]);
+    assert_tells!(rt; jdoc_column_contains(alloc, ROWS, &OFFSETS, A_ONE), [1, 2, 0, 2]);
 }
 
 #[test]
 fn checks(rt: HostRuntime) {
     let mut statuses = [9; 4];
     let mut done = 9;
-    let status = jsonb_column_check(rt.alloc(), ROWS, &OFFSETS, &mut statuses, &mut done);
+    let status = jdoc_column_check(rt.alloc(), ROWS, &OFFSETS, &mut statuses, &mut done);
     assert!(rt; (status, done) == (OK, 4) && statuses == STATUSES);
 }
 
-/// Paths, the status of a call with room for two truths, and how many rows are done.
+/// Paths, the status of a call with space for two results, and the number of rows that are done.
 static OF_FEWER_ROWS: [(&[u8], u32, usize); 2] = rows! {
     b"$.a > 1", BUFFER_TOO_SMALL, 2;
     b"$.", INVALID_JSON_PATH, 0;
@@ -77,7 +77,7 @@ fn truths_of_fewer_rows(rt: HostRuntime) {
     let mut statuses = [9; 4];
     let mut done = 9;
     for (path, status, rows) in &OF_FEWER_ROWS {
-        let ended = jsonb_column_match(
+        let ended = jdoc_column_match(
             rt.alloc(),
             ROWS,
             &OFFSETS,
@@ -118,7 +118,7 @@ impl Answer {
         }
     }
 
-    /// Whether these bytes were written for these rows, and what is behind them is as it was.
+    /// Returns whether these bytes were written for these rows, and what follows them is unchanged.
     fn is(&self, bytes: &[u8], positions: [u64; 5], statuses: [u8; 4]) -> bool {
         self.out.starts_with(bytes)
             && self.out.iter().skip(bytes.len()).all(|byte| *byte == 9)
@@ -138,24 +138,24 @@ macro_rules! assert_joins {
     }};
 }
 
-/// Where the answers for the rows end that give a document of ten bytes each.
+/// Ends of the results for the rows that have a document of ten bytes each.
 static ENDS: [u64; 5] = [0, 10, 10, 20, 20];
 
 #[test]
 fn documents(rt: HostRuntime) {
     let alloc = rt.alloc();
-    assert_joins!(rt; jsonb_column_get(alloc, ROWS, &OFFSETS, b"{a}"), ONE_AND_TWO, ENDS, STATUSES);
-    assert_joins!(rt; jsonb_column_delete_by_keypath(alloc, ROWS, &OFFSETS, b"{a}"),
+    assert_joins!(rt; jdoc_column_get(alloc, ROWS, &OFFSETS, b"{a}"), ONE_AND_TWO, ENDS, STATUSES);
+    assert_joins!(rt; jdoc_column_delete_by_keypath(alloc, ROWS, &OFFSETS, b"{a}"),
         b"\x40\0\0\0\x40\0\0\0", [0, 4, 4, 8, 8], STATUSES);
-    assert_joins!(rt; jsonb_column_select_first(alloc, ROWS, &OFFSETS, b"$.a", true), ONE_AND_TWO, ENDS, STATUSES);
-    assert_joins!(rt; jsonb_column_select_value(alloc, ROWS, &OFFSETS, b"$.a", false), ONE_AND_TWO, ENDS, STATUSES);
-    assert_joins!(rt; jsonb_column_select_array(alloc, ROWS, &OFFSETS, b"$.a", false), ONES_AND_TWOS, ENDS, STATUSES);
+    assert_joins!(rt; jdoc_column_select_first(alloc, ROWS, &OFFSETS, b"$.a", true), ONE_AND_TWO, ENDS, STATUSES);
+    assert_joins!(rt; jdoc_column_select_value(alloc, ROWS, &OFFSETS, b"$.a", false), ONE_AND_TWO, ENDS, STATUSES);
+    assert_joins!(rt; jdoc_column_select_array(alloc, ROWS, &OFFSETS, b"$.a", false), ONES_AND_TWOS, ENDS, STATUSES);
 }
 
-/// The members `a` of rows that end there, in a buffer of 15 bytes, and the status.
+/// Returns the members `a` of rows that end there, in a buffer of 15 bytes, and the status.
 fn get_a(alloc: Global, offsets: &[u64], out: &mut [u8; 15]) -> (Answer, u32) {
     let mut a = Answer::new();
-    let status = jsonb_column_get(
+    let status = jdoc_column_get(
         alloc,
         ROWS,
         offsets,
@@ -187,7 +187,7 @@ fn casts(rt: HostRuntime) {
     let mut numbers = [9; 3];
     let mut statuses = [9; 3];
     let mut done = 9;
-    let status = jsonb_column_to_i64(
+    let status = jdoc_column_to_i64(
         alloc,
         SCALARS,
         &SCALAR_OFFSETS,
@@ -196,14 +196,14 @@ fn casts(rt: HostRuntime) {
         &mut done,
     );
     assert!(rt; status == OK && numbers == [0, 7, 8] && statuses == [20, 0, 0]);
-    assert_joins!(rt; jsonb_column_to_str(alloc, SCALARS, &SCALAR_OFFSETS), b"78", [0, 0, 1, 2, 9], [20, 0, 0, 9]);
+    assert_joins!(rt; jdoc_column_to_str(alloc, SCALARS, &SCALAR_OFFSETS), b"78", [0, 0, 1, 2, 9], [20, 0, 0, 9]);
 }
 
 #[test]
 fn keys_of_a_null(rt: HostRuntime) {
     let alloc = rt.alloc();
     let null = &SCALAR_OFFSETS[..2];
-    assert_joins!(rt; jsonb_column_key(alloc, SCALARS, null, false), b"\x00\x08", [0, 2, 9, 9, 9], [0, 9, 9, 9]);
-    assert_joins!(rt; jsonb_column_key(alloc, SCALARS, null, true), b"\x00\x00\x08", [0, 3, 9, 9, 9], [0, 9, 9, 9]);
-    assert_joins!(rt; jsonb_column_equality_key(alloc, SCALARS, null), b"\x08", [0, 1, 9, 9, 9], [0, 9, 9, 9]);
+    assert_joins!(rt; jdoc_column_key(alloc, SCALARS, null, false), b"\x00\x08", [0, 2, 9, 9, 9], [0, 9, 9, 9]);
+    assert_joins!(rt; jdoc_column_key(alloc, SCALARS, null, true), b"\x00\x00\x08", [0, 3, 9, 9, 9], [0, 9, 9, 9]);
+    assert_joins!(rt; jdoc_column_equality_key(alloc, SCALARS, null), b"\x08", [0, 1, 9, 9, 9], [0, 9, 9, 9]);
 }

@@ -1,4 +1,4 @@
-//! Calls that give a truth a row: 0 for false, 1 for true, 2 where it is unknown or the row is refused.
+//! Functions that return a Boolean per row: 0 for false, 1 for true, 2 if it is unknown or the row fails.
 
 ghost use Rattle.std.specs.Prelude.{◌≡◌, IfErr, IsOkAnd};
 ghost use Rattle.jsonb_doc.specs.Answer.{IsDecodingError};
@@ -12,35 +12,35 @@ ghost use Rattle.jsonb_c.specs.Private.ByHand.{told};
 ghost use Rattle.jsonb_c.specs.Rows.{TellsContainment, TellsExistence, TellsTruth};
 
 use super::Column;
-use super::asked::Asked;
+use super::asked::PathColumn;
 use super::call::RowCall;
-use super::fill::refuse_rows;
+use super::fill::fail_column;
 use crate::deliver::{bool_byte, truth_byte};
 use crate::document::select::{exists_by_path, match_by_path};
 use jsonb::{Error, JsonPath, RawJsonb, parse_json_path};
 use std::alloc::Global;
 
-/// The byte of a row without a truth.
+/// The byte of a row without a result.
 const UNKNOWN: u8 = 2;
 
-/// What is asked of a path.
+/// The property of a path that is evaluated for each row.
 #[derive(Clone, Copy)]
 enum Question {
-    /// Whether it selects anything.
+    /// Whether the path selects an item.
     Existence,
-    /// What it says.
+    /// The result of the path as a predicate.
     Truth,
 }
 
-/// What a path tells of a document.
+/// The result of a path for a document.
 #[derive(Drop)]
-struct Tells<'p> {
+struct PathQuery<'p> {
     path: JsonPath<'p>,
     strict: bool,
     question: Question,
 }
 
-impl RowCall<u8> for Tells<'_> {
+impl RowCall<u8> for PathQuery<'_> {
     ghost use Rattle.jsonb.specs.PathViews.{path_view};
     ghost use Rattle.jsonb_c.specs.Calls.{mode_of};
     ghost use Rattle.jsonb_c.specs.Private.ByHand.{TellsBy};
@@ -87,9 +87,9 @@ fn contains(document: &[u8], wanted: &[u8]) -> Result<bool, Error>
     RawJsonb::new(document).contains(&RawJsonb::new(wanted))
 }
 
-/// Whether a JSON path selects anything of each document.
+/// Returns whether a JSON path selects an item of each document.
 #[unsafe(no_mangle)]
-pub extern "C" fn jsonb_column_exists(
+pub extern "C" fn jdoc_column_exists(
     alloc: Global,
     bytes: &[u8],
     offsets: &[u64],
@@ -102,13 +102,13 @@ pub extern "C" fn jsonb_column_exists(
     ensures { FillsByPath InvalidJsonPath (json_path path.now) (TellsExistence (mode_of strict)) 2
         (rows bytes.now offsets.now) (truths.old, statuses.old) (truths.new, statuses.new) done.new result }
 {
-    let asked = Asked::new(alloc, bytes, offsets, path);
+    let asked = PathColumn::new(alloc, bytes, offsets, path);
     asked.tell(strict, Question::Existence, truths, statuses, done)
 }
 
-/// What a JSON path says of each document.
+/// Returns the result of a JSON path as a predicate for each document.
 #[unsafe(no_mangle)]
-pub extern "C" fn jsonb_column_match(
+pub extern "C" fn jdoc_column_match(
     alloc: Global,
     bytes: &[u8],
     offsets: &[u64],
@@ -121,12 +121,12 @@ pub extern "C" fn jsonb_column_match(
     ensures { FillsByPath InvalidJsonPath (json_path path.now) (TellsTruth (mode_of strict)) 2
         (rows bytes.now offsets.now) (truths.old, statuses.old) (truths.new, statuses.new) done.new result }
 {
-    let asked = Asked::new(alloc, bytes, offsets, path);
+    let asked = PathColumn::new(alloc, bytes, offsets, path);
     asked.tell(strict, Question::Truth, truths, statuses, done)
 }
 
-impl Asked<'_> {
-    /// What the path, a JSON path, tells of each row.
+impl PathColumn<'_> {
+    /// Evaluates the JSON path on each row.
     fn tell(
         &self,
         strict: bool,
@@ -140,7 +140,7 @@ impl Asked<'_> {
     {
         match parse_json_path(self.alloc, self.path) {
             Ok(path) => {
-                let call = Tells {
+                let call = PathQuery {
                     path,
                     strict,
                     question,
@@ -148,14 +148,14 @@ impl Asked<'_> {
                 self.column
                     .fill(self.alloc, &call, UNKNOWN, truths, statuses, done)
             }
-            Err(error) => refuse_rows(error, done),
+            Err(error) => fail_column(error, done),
         }
     }
 }
 
-/// Whether each document contains the other one.
+/// Returns whether each document contains the other one.
 #[unsafe(no_mangle)]
-pub extern "C" fn jsonb_column_contains(
+pub extern "C" fn jdoc_column_contains(
     alloc: Global,
     bytes: &[u8],
     offsets: &[u64],

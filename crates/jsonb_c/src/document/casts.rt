@@ -1,4 +1,4 @@
-//! Documents as truth values, integers and texts.
+//! Documents as Booleans, integers and strings.
 
 ghost use Rattle.std.specs.Prelude.{◌≡◌, IfErr, IsOkAnd};
 ghost use Rattle.jsonb_doc.specs.Answer.{IsDecodingError, ◌or◌};
@@ -10,41 +10,41 @@ ghost use Rattle.jsonb_c.specs.Calls.{FindsSigned, FindsUnsigned, IsTextOf};
 ghost use Rattle.jsonb_c.specs.Private.Views.{found_text, text_answer};
 
 use crate::deliver::{
-    deliver_found_text, deliver_text, show, show_bool, show_found, show_found_bool,
+    deliver_found_text, deliver_text, store, store_bool, store_found, store_found_bool,
 };
 use jsonb::{Error, Item, RawJsonb, root_item};
 use std::alloc::Global;
 
-/// The truth value, where the document is one.
+/// Returns the Boolean, if the root is one.
 #[unsafe(no_mangle)]
-pub extern "C" fn jsonb_as_bool(document: &[u8], truth: &mut u8) -> u32
+pub extern "C" fn jdoc_as_bool(document: &[u8], truth: &mut u8) -> u32
     ensures { HandsOver (OfDocument document.now (λ form t answer. IsOkAnd answer (λ found. found ≡ boolean_in t)))
         IsDecodingError (λ answer. ShowsFoundBool answer truth.old truth.new result) }
 {
-    show_found_bool(RawJsonb::new(document).as_bool(), truth)
+    store_found_bool(RawJsonb::new(document).as_bool(), truth)
 }
 
-/// The number as an `i64`, where it is whole and fits.
+/// Returns the number as an `i64`, if the root is an integer that fits.
 #[unsafe(no_mangle)]
-pub extern "C" fn jsonb_as_i64(document: &[u8], number: &mut i64) -> u32
+pub extern "C" fn jdoc_as_i64(document: &[u8], number: &mut i64) -> u32
     ensures { HandsOver (OfDocument document.now (λ form t answer. IsOkAnd answer (FindsSigned t))) IsDecodingError
         (λ answer. ShowsFound answer number.old number.new result) }
 {
-    show_found(RawJsonb::new(document).as_i64(), number)
+    store_found(RawJsonb::new(document).as_i64(), number)
 }
 
-/// The number as a `u64`, where it is whole and fits.
+/// Returns the number as a `u64`, if the root is an integer that fits.
 #[unsafe(no_mangle)]
-pub extern "C" fn jsonb_as_u64(document: &[u8], number: &mut u64) -> u32
+pub extern "C" fn jdoc_as_u64(document: &[u8], number: &mut u64) -> u32
     ensures { HandsOver (OfDocument document.now (λ form t answer. IsOkAnd answer (FindsUnsigned t))) IsDecodingError
         (λ answer. ShowsFound answer number.old number.new result) }
 {
-    show_found(RawJsonb::new(document).as_u64(), number)
+    store_found(RawJsonb::new(document).as_u64(), number)
 }
 
-/// The bytes of the text, where the document is one.
+/// Returns the bytes of the string, if the root is one.
 #[unsafe(no_mangle)]
-pub extern "C" fn jsonb_as_str(document: &[u8], out: &mut [u8], out_len: &mut usize) -> u32
+pub extern "C" fn jdoc_as_str(document: &[u8], out: &mut [u8], out_len: &mut usize) -> u32
     ensures { HandsOverFound (OfDocument document.now (λ form t answer. IsOkAnd answer (λ found. found ≡ text_in t)))
         IsDecodingError out.old out.new out_len.new result }
 {
@@ -62,36 +62,36 @@ fn as_str(document: &[u8]) -> Result<Option<&str>, Error>
     }
 }
 
-/// The truth value, which is also read from texts.
+/// Returns the Boolean, which is also cast from strings.
 #[unsafe(no_mangle)]
-pub extern "C" fn jsonb_to_bool(document: &[u8], truth: &mut u8) -> u32
+pub extern "C" fn jdoc_to_bool(document: &[u8], truth: &mut u8) -> u32
     ensures { HandsOverBool (OfDocument document.now (λ form t. CastsToBool t)) (IsDecodingError or InvalidCast)
         truth.old truth.new result }
 {
-    show_bool(RawJsonb::new(document).to_bool(), truth)
+    store_bool(RawJsonb::new(document).to_bool(), truth)
 }
 
-/// The document as an `i64`: a truth value as 1 or 0, a number rounded, a text as it reads.
+/// Casts the document to an `i64`: a Boolean to 1 or 0, a number rounded, a string parsed.
 #[unsafe(no_mangle)]
-pub extern "C" fn jsonb_to_i64(document: &[u8], number: &mut i64) -> u32
+pub extern "C" fn jdoc_to_i64(document: &[u8], number: &mut i64) -> u32
     ensures { HandsOver (OfDocument document.now (λ form t. CastsToI64 t)) (IsDecodingError or InvalidCast)
         (λ answer. Shows answer number.old number.new result) }
 {
-    show(RawJsonb::new(document).to_i64(), number)
+    store(RawJsonb::new(document).to_i64(), number)
 }
 
-/// The document as a `u64`: a truth value as 1 or 0, a number rounded, a text as it reads.
+/// Casts the document to a `u64`: a Boolean to 1 or 0, a number rounded, a string parsed.
 #[unsafe(no_mangle)]
-pub extern "C" fn jsonb_to_u64(document: &[u8], number: &mut u64) -> u32
+pub extern "C" fn jdoc_to_u64(document: &[u8], number: &mut u64) -> u32
     ensures { HandsOver (OfDocument document.now (λ form t. CastsToU64 t)) (IsDecodingError or InvalidCast)
         (λ answer. Shows answer number.old number.new result) }
 {
-    show(RawJsonb::new(document).to_u64(), number)
+    store(RawJsonb::new(document).to_u64(), number)
 }
 
-/// The document as a text: a truth value, a number in decimal, a text as it is.
+/// Casts the document to a string: a Boolean, a number in decimal, a string unchanged.
 #[unsafe(no_mangle)]
-pub extern "C" fn jsonb_to_str(
+pub extern "C" fn jdoc_to_str(
     alloc: Global,
     document: &[u8],
     out: &mut [u8],

@@ -4,9 +4,9 @@ ghost use Rattle.jsonb_c.specs.Calls.{IsCheckOf};
 
 use crate::status::Status;
 
-/// Whether the bytes are a document, or why they are none.
+/// Returns the status for these bytes: success if and only if they are a document, otherwise the error.
 #[unsafe(no_mangle)]
-pub extern "C" fn jsonb_check(document: &[u8]) -> u32
+pub extern "C" fn jdoc_check(document: &[u8]) -> u32
     ensures { IsCheckOf document.now result }
 {
     match jsonb::check(document) {

@@ -1,4 +1,4 @@
-//! A number as its whole value and its scale.
+//! A number as an integer and a scale.
 
 ghost use Rattle.std.specs.Prelude.{◌≡◌, IfErr, IsOkAnd};
 ghost use Rattle.jsonb_doc.specs.Answer.{IsDecodingError, SameOption};
@@ -11,13 +11,13 @@ use crate::status::Status;
 use jsonb::{Decimal128, Error, Number, RawJsonb};
 use std::marker::Model;
 
-/// What the upper half of a whole value counts.
+/// The value of one in the upper half of an integer.
 const UPPER_UNIT: i128 = 18_446_744_073_709_551_616;
 
-/// The number of a document, as `jsonb_from_decimal` takes it: a whole value of two halves, `high * 2^64 + low`, over
-/// ten to the power of the scale. A whole number has the scale 0.
+/// Returns the number of a document, as `jdoc_from_decimal` takes it: an integer of two halves, `high * 2^64 + low`,
+/// over ten to the power of the scale, which is 0 for an integer.
 #[unsafe(no_mangle)]
-pub extern "C" fn jsonb_as_decimal(
+pub extern "C" fn jdoc_as_decimal(
     document: &[u8],
     high: &mut i64,
     low: &mut u64,
@@ -40,7 +40,7 @@ pub extern "C" fn jsonb_as_decimal(
     }
 }
 
-/// A number over ten to the power of its scale, with its whole value in two halves.
+/// A number over ten to the power of its scale, with its integer in two halves.
 #[derive(Drop)]
 struct Parts {
     high: i64,
@@ -67,7 +67,7 @@ fn as_parts(document: &[u8]) -> Result<Option<Parts>, Error>
     }
 }
 
-/// The number as a decimal.
+/// Returns the number as a decimal.
 fn decimal_of(number: Number) -> Decimal128
     ensures whole { result.value ≡ (number_parts number).whole }
     ensures scale { result.scale ≡ (number_parts number).scale }
@@ -89,7 +89,7 @@ fn decimal_of(number: Number) -> Decimal128
     }
 }
 
-/// The halves of the whole value, and the scale.
+/// Returns the halves of the integer, and the scale.
 fn parts_of(decimal: Decimal128) -> Parts
     ensures { ArePartsOf result (decimal128_parts decimal) }
 {

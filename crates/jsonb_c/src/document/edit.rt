@@ -1,4 +1,4 @@
-//! Documents made of others.
+//! Documents derived from others.
 
 ghost use Rattle.std.specs.Prelude.{IfErr};
 ghost use Rattle.std.specs.Str.{IsUtf8};
@@ -19,9 +19,9 @@ use crate::status::Status;
 use jsonb::{Error, OwnedJsonb, RawJsonb, parse_key_paths};
 use std::alloc::Global;
 
-/// The document without the place that a key path meets.
+/// Returns the document without the value at a key path.
 #[unsafe(no_mangle)]
-pub extern "C" fn jsonb_delete_by_keypath(
+pub extern "C" fn jdoc_delete_by_keypath(
     alloc: Global,
     document: &[u8],
     path: &[u8],
@@ -43,9 +43,9 @@ fn delete_by_keypath(alloc: Global, document: &[u8], path: &[u8]) -> Result<Owne
     RawJsonb::new(document).delete_by_keypath(alloc, steps.paths.iter())
 }
 
-/// The object without the key, or the array without the texts that are the name.
+/// Returns the object without the key, or the array without the strings equal to the name.
 #[unsafe(no_mangle)]
-pub extern "C" fn jsonb_delete_by_name(
+pub extern "C" fn jdoc_delete_by_name(
     alloc: Global,
     document: &[u8],
     name: &[u8],
@@ -64,9 +64,9 @@ pub extern "C" fn jsonb_delete_by_name(
     deliver_made(document.delete_by_name(alloc, name), out, out_len)
 }
 
-/// The array without the element that an index means, counted from the end where it is negative.
+/// Returns the array without the element at an index, counted from the end if negative.
 #[unsafe(no_mangle)]
-pub extern "C" fn jsonb_delete_by_index(
+pub extern "C" fn jdoc_delete_by_index(
     alloc: Global,
     document: &[u8],
     index: i32,
@@ -80,9 +80,9 @@ pub extern "C" fn jsonb_delete_by_index(
     deliver_made(document.delete_by_index(alloc, index), out, out_len)
 }
 
-/// Two objects as one, or the elements of two documents as one array.
+/// Returns the members of two objects as one object, or the elements of two documents as one array.
 #[unsafe(no_mangle)]
-pub extern "C" fn jsonb_concat(
+pub extern "C" fn jdoc_concat(
     alloc: Global,
     document: &[u8],
     other: &[u8],
@@ -96,10 +96,10 @@ pub extern "C" fn jsonb_concat(
     deliver_made(document.concat(alloc, &RawJsonb::new(other)), out, out_len)
 }
 
-/// The array with the root of another document as one element more, at a position that counts from the end where it
-/// is negative.
+/// Returns the array with the root of another document as one more element, at a position that counts from the end if
+/// negative.
 #[unsafe(no_mangle)]
-pub extern "C" fn jsonb_array_insert(
+pub extern "C" fn jdoc_array_insert(
     alloc: Global,
     document: &[u8],
     value: &[u8],
@@ -115,9 +115,9 @@ pub extern "C" fn jsonb_array_insert(
     deliver_made(made, out, out_len)
 }
 
-/// The object with one pair more, or with another value under the key where it is to be updated.
+/// Returns the object with one more member, or with another value for the key if it is to be updated.
 #[unsafe(no_mangle)]
-pub extern "C" fn jsonb_object_insert(
+pub extern "C" fn jdoc_object_insert(
     alloc: Global,
     document: &[u8],
     value: &[u8],
@@ -139,9 +139,9 @@ pub extern "C" fn jsonb_object_insert(
     deliver_made(made, out, out_len)
 }
 
-/// The document without the pairs whose value is null, at every depth.
+/// Returns the document without the members whose value is null, at every depth.
 #[unsafe(no_mangle)]
-pub extern "C" fn jsonb_strip_nulls(
+pub extern "C" fn jdoc_strip_nulls(
     alloc: Global,
     document: &[u8],
     out: &mut [u8],

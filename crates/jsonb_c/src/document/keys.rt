@@ -12,9 +12,9 @@ use crate::deliver::deliver_vec;
 use jsonb::{Error, RawJsonb};
 use std::alloc::Global;
 
-/// The sortable key, with depths in one byte, or in two where it is to be wide.
+/// Returns the sortable key, with one-byte depths, or two-byte depths if it is wide.
 #[unsafe(no_mangle)]
-pub extern "C" fn jsonb_sort_key(
+pub extern "C" fn jdoc_sort_key(
     alloc: Global,
     document: &[u8],
     wide: bool,
@@ -27,7 +27,7 @@ pub extern "C" fn jsonb_sort_key(
     deliver_vec(sort_key(alloc, document, wide), out, out_len)
 }
 
-/// The sortable key of a document.
+/// Returns the sortable key of a document.
 pub(crate) fn sort_key(alloc: Global, document: &[u8], wide: bool) -> Result<Vec<u8>, Error>
     ensures key { IsSortableKeyOf (width_of wide) document.now (vec_answer result) }
     ensures errors { IfErr result (IsDecodingError or OutOfMemory or TooDeep) }
@@ -40,7 +40,7 @@ pub(crate) fn sort_key(alloc: Global, document: &[u8], wide: bool) -> Result<Vec
     }
 }
 
-/// The same, written over what a vector holds.
+/// Replaces the contents of a vector by the sortable key of a document.
 pub(crate) fn write_sort_key(
     alloc: Global,
     document: &[u8],
@@ -58,9 +58,9 @@ pub(crate) fn write_sort_key(
     }
 }
 
-/// The equality key.
+/// Returns the equality key.
 #[unsafe(no_mangle)]
-pub extern "C" fn jsonb_equality_key(
+pub extern "C" fn jdoc_equality_key(
     alloc: Global,
     document: &[u8],
     out: &mut [u8],
@@ -72,7 +72,7 @@ pub extern "C" fn jsonb_equality_key(
     deliver_vec(equality_key(alloc, document), out, out_len)
 }
 
-/// The equality key of a document.
+/// Returns the equality key of a document.
 pub(crate) fn equality_key(alloc: Global, document: &[u8]) -> Result<Vec<u8>, Error>
     ensures key { IsEqualityKeyOf document.now (vec_answer result) }
     ensures errors { IfErr result (IsDecodingError or OutOfMemory) }
@@ -80,7 +80,7 @@ pub(crate) fn equality_key(alloc: Global, document: &[u8]) -> Result<Vec<u8>, Er
     RawJsonb::new(document).equality_key(alloc)
 }
 
-/// The same, written over what a vector holds.
+/// Replaces the contents of a vector by the equality key of a document.
 pub(crate) fn write_equality_key(
     alloc: Global,
     document: &[u8],

@@ -1,4 +1,4 @@
-//! The kind of a document.
+//! The type of a document.
 
 ghost use Rattle.std.specs.Prelude.{◌≡◌, IfErr, IsOkAnd};
 ghost use Rattle.jsonb_doc.specs.Answer.{IsDecodingError};
@@ -6,31 +6,31 @@ ghost use Rattle.jsonb_doc.specs.View.{extension_view, number_parts};
 ghost use Rattle.jsonb_c.specs.Answers.{HandsOver, OfDocument, Shows};
 ghost use Rattle.jsonb_c.specs.Kinds.{extension_kind, kind_number, number_kind, tree_kind};
 
-use crate::deliver::show;
+use crate::deliver::store;
 use jsonb::{Error, ExtensionValue, Item, Number, root_item};
 
-/// The kinds of documents, by the names of `type_of`.
+/// The types of documents, by the names of `type_of`.
 #[derive(Clone, Copy, Debug, PartialEq, Eq)]
 enum Kind {
     /// The value null.
     Null,
-    /// A truth value.
+    /// A Boolean.
     Boolean,
-    /// A whole number.
+    /// An integer.
     Integer,
     /// A decimal.
     Decimal,
-    /// A text.
+    /// A string.
     String,
     /// A binary value.
     Binary,
-    /// A day.
+    /// A date.
     Date,
-    /// A point in time without a time zone.
+    /// A timestamp without a time zone.
     Timestamp,
-    /// A point in time with a time zone.
+    /// A timestamp with a time zone.
     TimestampTz,
-    /// A length of time.
+    /// An interval.
     Interval,
     /// An array.
     Array,
@@ -59,14 +59,14 @@ impl Kind {
     }
 }
 
-/// The kind of a document.
+/// Returns the type of a document.
 #[unsafe(no_mangle)]
-pub extern "C" fn jsonb_type(document: &[u8], kind: &mut u8) -> u32
+pub extern "C" fn jdoc_type(document: &[u8], kind: &mut u8) -> u32
     ensures { HandsOver
         (OfDocument document.now (λ form t answer. IsOkAnd answer (λ number. number ≡ kind_number (tree_kind t))))
         IsDecodingError (λ answer. Shows answer kind.old kind.new result) }
 {
-    show(kind_of(document), kind)
+    store(kind_of(document), kind)
 }
 
 fn kind_of(document: &[u8]) -> Result<u8, Error>

@@ -1,4 +1,4 @@
-//! Calls that take a column of names.
+//! Functions that take a column of names.
 
 ghost use Rattle.std.specs.Prelude.{◌≡◌, ◌⊎◌, ℕ, List, Err, IfErr, IsOkAnd, MatchResult, Ok, map, option_copied};
 ghost use Rattle.jsonb_doc.specs.Answer.{IsDecodingError, IsOutOfMemory, ◌or◌};
@@ -12,15 +12,16 @@ ghost use Rattle.jsonb_c.specs.Private.NameColumns.{HasNames, IsNameOf, has_keys
 ghost use Rattle.jsonb_c.specs.declared.status.Status.TheVariants.{Refused};
 
 use crate::column::Column;
-use crate::deliver::{deliver_made, deliver_nothing, show_bool};
+use crate::deliver::{deliver_made, deliver_nothing, store_bool};
 use crate::status::Status;
 use jsonb::{Error, OwnedJsonb, RawJsonb};
 use std::alloc::Global;
 use std::collections::BTreeSet;
 
-/// Whether the document has each of the texts: as a key of an object, as an element of an array, or as the root.
+/// Returns whether the document has each of the names: as a key of an object, as an element of an array, or as the
+/// root.
 #[unsafe(no_mangle)]
-pub extern "C" fn jsonb_exists_all_keys(
+pub extern "C" fn jdoc_exists_all_keys(
     alloc: Global,
     document: &[u8],
     names: &[u8],
@@ -29,12 +30,13 @@ pub extern "C" fn jsonb_exists_all_keys(
 ) -> u32
     ensures { ShowsKeys has_all document.now (names_of (rows names.now offsets.now)) truth.old truth.new result }
 {
-    show_keys(alloc, document, names, offsets, Quantity::All, truth)
+    store_exists_keys(alloc, document, names, offsets, Quantity::All, truth)
 }
 
-/// Whether the document has one of the texts: as a key of an object, as an element of an array, or as the root.
+/// Returns whether the document has one of the names: as a key of an object, as an element of an array, or as the
+/// root.
 #[unsafe(no_mangle)]
-pub extern "C" fn jsonb_exists_any_keys(
+pub extern "C" fn jdoc_exists_any_keys(
     alloc: Global,
     document: &[u8],
     names: &[u8],
@@ -43,20 +45,20 @@ pub extern "C" fn jsonb_exists_any_keys(
 ) -> u32
     ensures { ShowsKeys has_any document.now (names_of (rows names.now offsets.now)) truth.old truth.new result }
 {
-    show_keys(alloc, document, names, offsets, Quantity::Any, truth)
+    store_exists_keys(alloc, document, names, offsets, Quantity::Any, truth)
 }
 
-/// How many of the names are to be there.
+/// The number of names that must exist.
 #[derive(Clone, Copy)]
 enum Quantity {
-    /// Each.
+    /// All.
     All,
-    /// One at least.
+    /// At least one.
     Any,
 }
 
-/// Hands over whether the document has so many of the names.
-fn show_keys(
+/// Stores whether the document has all, or any, of the names.
+fn store_exists_keys(
     alloc: Global,
     document: &[u8],
     names: &[u8],
@@ -68,7 +70,7 @@ fn show_keys(
         truth.old truth.new result }
 {
     match read_names(alloc, &Column::new(names, offsets)) {
-        Ok(names) => show_bool(exists_keys(document, &names, quantity), truth),
+        Ok(names) => store_bool(exists_keys(document, &names, quantity), truth),
         Err(cause) => cause.to_u32(),
     }
 }
@@ -85,9 +87,9 @@ fn exists_keys(document: &[u8], names: &[&str], quantity: Quantity) -> Result<bo
     }
 }
 
-/// The object of the pairs whose keys are among the names.
+/// Returns the object of the members whose keys are among the names.
 #[unsafe(no_mangle)]
-pub extern "C" fn jsonb_object_pick(
+pub extern "C" fn jdoc_object_pick(
     alloc: Global,
     document: &[u8],
     names: &[u8],
@@ -101,9 +103,9 @@ pub extern "C" fn jsonb_object_pick(
     deliver_pairs(alloc, document, names, offsets, Chosen::Named, out, out_len)
 }
 
-/// The object without the pairs whose keys are among the names.
+/// Returns the object without the members whose keys are among the names.
 #[unsafe(no_mangle)]
-pub extern "C" fn jsonb_object_delete(
+pub extern "C" fn jdoc_object_delete(
     alloc: Global,
     document: &[u8],
     names: &[u8],
@@ -117,16 +119,16 @@ pub extern "C" fn jsonb_object_delete(
     deliver_pairs(alloc, document, names, offsets, Chosen::Rest, out, out_len)
 }
 
-/// Which pairs of an object are chosen.
+/// The members of an object that are chosen.
 #[derive(Clone, Copy)]
 enum Chosen {
     /// Those whose keys are among the names.
     Named,
-    /// The rest.
+    /// The others.
     Rest,
 }
 
-/// Hands over the object of the pairs that are chosen.
+/// Stores the object of the chosen members.
 fn deliver_pairs(
     alloc: Global,
     document: &[u8],
@@ -162,7 +164,7 @@ fn chosen_object(
     }
 }
 
-/// The names of a column, or why they can't be read.
+/// Returns the names of a column, or the status if they cannot be read.
 pub(crate) fn read_names<'a>(alloc: Global, column: &Column<'a>) -> Result<Vec<&'a str>, Status>
     ensures { MatchResult result (λ names. names_of column.now ≡ Ok (map (λ name. name.now) names.items))
         (λ cause. (cause ≡ Refused OutOfMemory) ⊎ (names_of column.now ≡ Err cause)) }
@@ -177,7 +179,7 @@ pub(crate) fn read_names<'a>(alloc: Global, column: &Column<'a>) -> Result<Vec<&
     Ok(names)
 }
 
-/// The name in a row.
+/// Returns the name in a row.
 fn name_of(row: Option<&[u8]>) -> Result<&str, Status>
     ensures { IsNameOf result (option_copied row.entry) }
 {
@@ -190,7 +192,7 @@ fn name_of(row: Option<&[u8]>) -> Result<&str, Status>
     }
 }
 
-/// The names of a column as a set, or why they can't be read.
+/// Returns the names of a column as a set, or the status if they cannot be read.
 fn read_set<'a>(alloc: Global, column: &Column<'a>) -> Result<BTreeSet<&'a str>, Status>
     ensures { MatchResult result (λ set. IsOkAnd (names_of column.now) (HasNames set))
         (λ cause. (cause ≡ Refused OutOfMemory) ⊎ (names_of column.now ≡ Err cause)) }
@@ -202,7 +204,7 @@ fn read_set<'a>(alloc: Global, column: &Column<'a>) -> Result<BTreeSet<&'a str>,
     }
 }
 
-/// The names as a set.
+/// Returns the names as a set.
 fn set_of<'a>(alloc: Global, names: &[&'a str]) -> Result<BTreeSet<&'a str>, Error>
     ensures { MatchResult result (λ set. HasNames set (map (λ name. name.now) names.now)) IsOutOfMemory }
 {

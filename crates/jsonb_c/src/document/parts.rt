@@ -1,4 +1,4 @@
-//! Parts of a document.
+//! Values in a document.
 
 ghost use Rattle.std.specs.Prelude.{IfErr};
 ghost use Rattle.std.specs.Str.{IsUtf8};
@@ -15,9 +15,9 @@ use crate::status::Status;
 use jsonb::{Error, OwnedJsonb, RawJsonb, parse_key_paths};
 use std::alloc::Global;
 
-/// The element at a position of an array.
+/// Returns the element at a zero-based index of an array.
 #[unsafe(no_mangle)]
-pub extern "C" fn jsonb_get_by_index(
+pub extern "C" fn jdoc_get_by_index(
     alloc: Global,
     document: &[u8],
     index: usize,
@@ -31,10 +31,10 @@ pub extern "C" fn jsonb_get_by_index(
     deliver(document.get_by_index(alloc, index), out, out_len)
 }
 
-/// The value under a name. Where the case of ASCII letters is ignored and no key is the name, that of the first key
-/// that is the name in some case.
+/// Returns the value of a key. With `ignore_case`, if the key itself is missing, returns the value of the first key
+/// that equals it under ASCII case folding.
 #[unsafe(no_mangle)]
-pub extern "C" fn jsonb_get_by_name(
+pub extern "C" fn jdoc_get_by_name(
     alloc: Global,
     document: &[u8],
     name: &[u8],
@@ -54,9 +54,9 @@ pub extern "C" fn jsonb_get_by_name(
     deliver(document.get_by_name(alloc, name, ignore_case), out, out_len)
 }
 
-/// The part at the place that a key path meets.
+/// Returns the value at a key path.
 #[unsafe(no_mangle)]
-pub extern "C" fn jsonb_get_by_keypath(
+pub extern "C" fn jdoc_get_by_keypath(
     alloc: Global,
     document: &[u8],
     path: &[u8],

@@ -1,4 +1,4 @@
-//! What a JSON path selects of a document, and what it says of it.
+//! The items that a JSON path selects of a document, and its result as a predicate.
 
 ghost use Rattle.std.specs.Prelude.{◌≡◌, IfErr};
 ghost use Rattle.jsonb.specs.PathGrammar.{json_path};
@@ -10,13 +10,13 @@ ghost use Rattle.jsonb_c.specs.Answers.{HandsOverBool, HandsOverBytes, HandsOver
 ghost use Rattle.jsonb_c.specs.Private.Views.{pick_of};
 ghost use Rattle.jsonb_c.specs.Calls.{ByMeaning, PicksItem, Says, mode_of};
 
-use crate::deliver::{deliver, deliver_made, show_bool, show_truth};
+use crate::deliver::{deliver, deliver_made, store_bool, store_truth};
 use jsonb::{Error, JsonPath, OwnedJsonb, RawJsonb, Selector, parse_json_path};
 use std::alloc::Global;
 
-/// The only item that a JSON path selects, or one array of several.
+/// Returns the item that a JSON path selects if it is the only one, or an array if there are several.
 #[unsafe(no_mangle)]
-pub extern "C" fn jsonb_select_value(
+pub extern "C" fn jdoc_select_value(
     alloc: Global,
     document: &[u8],
     path: &[u8],
@@ -31,9 +31,9 @@ pub extern "C" fn jsonb_select_value(
     deliver(item, out, out_len)
 }
 
-/// The first item that a JSON path selects.
+/// Returns the first item that a JSON path selects.
 #[unsafe(no_mangle)]
-pub extern "C" fn jsonb_select_first(
+pub extern "C" fn jdoc_select_first(
     alloc: Global,
     document: &[u8],
     path: &[u8],
@@ -48,14 +48,14 @@ pub extern "C" fn jsonb_select_first(
     deliver(item, out, out_len)
 }
 
-/// Which document is made of the items that a path selects.
+/// The document that is made of the items that a path selects.
 #[derive(Clone, Copy)]
 pub(crate) enum Pick {
     /// The first.
     First,
-    /// The only one, or one array of several.
+    /// The only item, or an array of several.
     Value,
-    /// One array.
+    /// An array.
     Array,
 }
 
@@ -73,9 +73,9 @@ fn select_item(
     pick_by_path(alloc, document, &steps, strict, pick)
 }
 
-/// One array of what a JSON path selects.
+/// Returns an array of the items that a JSON path selects.
 #[unsafe(no_mangle)]
-pub extern "C" fn jsonb_select_array(
+pub extern "C" fn jdoc_select_array(
     alloc: Global,
     document: &[u8],
     path: &[u8],
@@ -103,9 +103,9 @@ fn select_array(
     array_by_path(alloc, document, &steps, strict)
 }
 
-/// What a JSON path says of the document: 0 for false, 1 for true, 2 for unknown.
+/// Returns the result of a JSON path as a predicate: 0 for false, 1 for true, 2 for unknown.
 #[unsafe(no_mangle)]
-pub extern "C" fn jsonb_match(
+pub extern "C" fn jdoc_match(
     alloc: Global,
     document: &[u8],
     path: &[u8],
@@ -115,7 +115,7 @@ pub extern "C" fn jsonb_match(
     ensures { HandsOverTruth (Says (mode_of strict) (json_path path.now) document.now)
         (IsSelectionError (mode_of strict)) truth.old truth.new result }
 {
-    show_truth(predicate_match(alloc, document, path, strict), truth)
+    store_truth(predicate_match(alloc, document, path, strict), truth)
 }
 
 fn predicate_match(
@@ -131,7 +131,7 @@ fn predicate_match(
     match_by_path(alloc, document, &steps, strict)
 }
 
-/// A selector of the mode.
+/// Creates a selector in this mode.
 pub(crate) fn selector(alloc: Global, document: &[u8], strict: bool) -> Selector<'_>
     ensures root { root_bytes result ≡ document.now }
     ensures mode { selector_mode result ≡ mode_of strict }
@@ -144,9 +144,9 @@ pub(crate) fn selector(alloc: Global, document: &[u8], strict: bool) -> Selector
     }
 }
 
-/// Whether a JSON path selects anything.
+/// Returns whether a JSON path selects an item.
 #[unsafe(no_mangle)]
-pub extern "C" fn jsonb_exists(
+pub extern "C" fn jdoc_exists(
     alloc: Global,
     document: &[u8],
     path: &[u8],
@@ -156,7 +156,7 @@ pub extern "C" fn jsonb_exists(
     ensures { HandsOverBool (ByMeaning (mode_of strict) document.now (json_path path.now) IsFound)
         (IsSelectionError (mode_of strict)) truth.old truth.new result }
 {
-    show_bool(path_exists(alloc, document, path, strict), truth)
+    store_bool(path_exists(alloc, document, path, strict), truth)
 }
 
 fn path_exists(alloc: Global, document: &[u8], path: &[u8], strict: bool) -> Result<bool, Error>
@@ -167,7 +167,7 @@ fn path_exists(alloc: Global, document: &[u8], path: &[u8], strict: bool) -> Res
     exists_by_path(alloc, document, &steps, strict)
 }
 
-/// What a path that was read selects.
+/// Returns the document of the items that a parsed path selects.
 pub(crate) fn pick_by_path<'a>(
     alloc: Global,
     document: &'a [u8],
@@ -189,7 +189,7 @@ pub(crate) fn pick_by_path<'a>(
     }
 }
 
-/// One array of what a path that was read selects.
+/// Returns an array of the items that a parsed path selects.
 fn array_by_path(
     alloc: Global,
     document: &[u8],
@@ -202,7 +202,7 @@ fn array_by_path(
     selector(alloc, document, strict).select_array(path)
 }
 
-/// What a path that was read says.
+/// Returns the result of a parsed path as a predicate.
 pub(crate) fn match_by_path<'a>(
     alloc: Global,
     document: &'a [u8],
@@ -215,7 +215,7 @@ pub(crate) fn match_by_path<'a>(
     selector(alloc, document, strict).predicate_match(path)
 }
 
-/// Whether a path that was read selects anything.
+/// Returns whether a parsed path selects an item.
 pub(crate) fn exists_by_path<'a>(
     alloc: Global,
     document: &'a [u8],

@@ -9,13 +9,13 @@ ghost use Rattle.jsonb_raw.specs.Documents.{Makes};
 ghost use Rattle.jsonb_raw.specs.Sets.{difference_of, distinct, intersection_of, overlap};
 ghost use Rattle.jsonb_c.specs.Answers.{HandsOverBool, HandsOverBytes, OfBoth, OfDocument};
 
-use crate::deliver::{deliver_made, show_bool};
+use crate::deliver::{deliver_made, store_bool};
 use jsonb::RawJsonb;
 use std::alloc::Global;
 
-/// The array of the first of each group of elements that are equal by value.
+/// Returns the array of the elements without repetitions: of elements that are equal by value the first.
 #[unsafe(no_mangle)]
-pub extern "C" fn jsonb_array_distinct(
+pub extern "C" fn jdoc_array_distinct(
     alloc: Global,
     document: &[u8],
     out: &mut [u8],
@@ -28,9 +28,9 @@ pub extern "C" fn jsonb_array_distinct(
     deliver_made(RawJsonb::new(document).array_distinct(alloc), out, out_len)
 }
 
-/// The array of the elements that another document holds too.
+/// Returns the array of the elements that another document has too.
 #[unsafe(no_mangle)]
-pub extern "C" fn jsonb_array_intersection(
+pub extern "C" fn jdoc_array_intersection(
     alloc: Global,
     document: &[u8],
     other: &[u8],
@@ -45,9 +45,9 @@ pub extern "C" fn jsonb_array_intersection(
     deliver_made(made, out, out_len)
 }
 
-/// The array of the elements that the intersection drops.
+/// Returns the array of the elements that the intersection drops.
 #[unsafe(no_mangle)]
-pub extern "C" fn jsonb_array_except(
+pub extern "C" fn jdoc_array_except(
     alloc: Global,
     document: &[u8],
     other: &[u8],
@@ -62,13 +62,13 @@ pub extern "C" fn jsonb_array_except(
     deliver_made(made, out, out_len)
 }
 
-/// Whether an element equals one of another document.
+/// Returns whether an element equals one of another document.
 #[unsafe(no_mangle)]
-pub extern "C" fn jsonb_array_overlap(document: &[u8], other: &[u8], truth: &mut u8) -> u32
+pub extern "C" fn jdoc_array_overlap(document: &[u8], other: &[u8], truth: &mut u8) -> u32
     ensures { HandsOverBool (OfBoth document.now other.now
         (λ form t u said. IsOkAnd said (λ b. b ≡ overlap (as_elements t) (as_elements u))))
         IsDecodingError truth.old truth.new result }
 {
     let document = RawJsonb::new(document);
-    show_bool(document.array_overlap(&RawJsonb::new(other)), truth)
+    store_bool(document.array_overlap(&RawJsonb::new(other)), truth)
 }

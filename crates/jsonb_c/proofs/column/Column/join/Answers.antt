@@ -3,10 +3,10 @@ use Rattle.jsonb_c.specs.Private.Buffers.{written_cell}
 use Rattle.jsonb_c.proofs.Rows.{joined_more, placed, not_placed, lacks_room}
 use Rattle.jsonb_c.proofs.column.Column.join.Goals as goal
 
-pub returns-then-not-place : goal.returns-then-not-place
-returns-then-not-place g c =
-    let refused : c.place.result ≡ false = search (rules, c.if-not-place.true) in
-    let said = not_placed _ _ _ _ c.place.result refused c.place.ensures in inr (
+pub returns-then-not-write_at : goal.returns-then-not-write_at
+returns-then-not-write_at g c =
+    let refused : c.write_at.result ≡ false = search (rules, c.if-not-write_at.true) in
+    let said = not_placed _ _ _ _ c.write_at.result refused c.write_at.ensures in inr (
       rw said.1 c.loop-index.invariant,
       inr (lacks_room _ _ _ _ _ _ _ (written_cell c.ask_for_bytes-cell.result c.ask_for_bytes-cell.new.out.items) c.row.ensures c.loop-index.invariant
           c.ask_for_bytes-cell.ensures
@@ -17,8 +17,8 @@ pub loop-index-preserved : goal.loop-index-preserved
 loop-index-preserved g c =
     let in_positions : c.loop-index.index + 1 < length c.args.positions.now = omega arith in
     let in_statuses : c.loop-index.index < length c.args.statuses.now = omega arith in
-    let done : c.place.result ≡ true = search (rules, c.if-not-place.false) in
-    let said = placed _ _ _ _ c.place.result done c.place.ensures in
+    let done : c.write_at.result ≡ true = search (rules, c.if-not-write_at.false) in
+    let said = placed _ _ _ _ c.write_at.result done c.write_at.ensures in
     rw (c.written_status.ensures c.ask_for_bytes-cell.new.out.items)
     (joined_more _ _ _ _ _ _ _ _ _ (written_cell c.ask_for_bytes-cell.result c.ask_for_bytes-cell.new.out.items) c.row.ensures in_positions in_statuses
     c.loop-index.invariant
@@ -31,7 +31,7 @@ returns g c =
 
 pub overflow_add-at : goal.overflow_add-at
 overflow_add-at g c =
-    let done : c.place.result ≡ true = search (rules, c.if-not-place.false) in
-    let said = placed _ _ _ _ c.place.result done c.place.ensures in
+    let done : c.write_at.result ≡ true = search (rules, c.if-not-write_at.false) in
+    let said = placed _ _ _ _ c.write_at.result done c.write_at.ensures in
     let within = said.0 in
     omega arith

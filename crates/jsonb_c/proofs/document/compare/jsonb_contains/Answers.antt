@@ -1,9 +1,0 @@
-use Rattle.jsonb_c.proofs.document.compare.jsonb_contains.Goals as goal
-
-pub returns : goal.returns
-returns c = (
-  c.contains.result,
-  λ form other_form t u d e. c.contains.ensures.answer form other_form t u (rw c.new-document.ensures d) (rw c.new.ensures e),
-  c.contains.ensures.errors,
-  c.show_bool.ensures,
-)

@@ -1,0 +1,45 @@
+use Rattle.std.proofs.Common.{◌∙◌, ap, inl, inr, length, refl, Ok, Err}
+use Rattle.jsonb_c.specs.Leaves.{HasRoom, documents_of, paths_of}
+use Rattle.jsonb_c.proofs.LeafRows.{no_room}
+use Rattle.jsonb_c.proofs.leaves.jdoc_leaves.Goals as goal
+use Rattle.jsonb_c.proofs.leaves.jdoc_leaves.Goals.{then-not-has_room-via-then-not-has_room, then-not-has_room-via-else-not-has_room+then-not-has_room-2}
+
+pub returns-then-not-has_room : goal.returns-then-not-has_room
+returns-then-not-has_room c =
+    let (found, has, rows) = c.in-Ok.ensures.leaves in
+    let none : HasRoom (paths_of found) (c.args.paths.now, c.args.path_positions.now)
+    → HasRoom (documents_of found) (c.args.documents.now, c.args.positions.now) → ⊥ =
+    elim c.then-not-has_room.branch [
+      | then-not-has_room-via-then-not-has_room w ↦ λ paths documents.
+          no_room (paths_of found) _ _ c.args.paths.now c.args.path_positions.now _ c.has_room.ensures w.if-not-has_room.true has.0 paths
+      | then-not-has_room-via-else-not-has_room+then-not-has_room-2 w ↦ λ paths documents.
+          no_room (documents_of found) _ _ c.args.documents.now c.args.positions.now _
+          w.has_room-else-not-has_room.ensures w.if-not-has_room-2.true has.1 documents
+    ] in (
+      Ok found,
+      rows,
+      tt,
+      (
+        (c.sizes.ensures.rows found has, c.sizes.ensures.path_bytes ∙ ap length has.0.0, c.sizes.ensures.document_bytes ∙ ap length has.1.0),
+        inr (c.to_u32.ensures, none, refl, refl),
+      ),
+    )
+
+pub returns-else-not-has_room-2 : goal.returns-else-not-has_room-2
+returns-else-not-has_room-2 c =
+    let (found, has, rows) = c.in-Ok.ensures.leaves in (
+      Ok found,
+      rows,
+      tt,
+      (
+        (c.sizes.ensures.rows found has, c.sizes.ensures.path_bytes ∙ ap length has.0.0, c.sizes.ensures.document_bytes ∙ ap length has.1.0),
+        inl (
+          c.to_u32-in-Ok.ensures,
+          (rw has.0.0 at c.write.ensures.bytes, rw has.0.1 at c.write.ensures.positions),
+          (rw has.1.0 at c.write-in-Ok.ensures.bytes, rw has.1.1 at c.write-in-Ok.ensures.positions),
+        ),
+      ),
+    )
+
+pub returns-in-Err : goal.returns-in-Err
+returns-in-Err c = (Err c.in-Err.error, c.in-Err.ensures.leaves, c.in-Err.ensures.errors, (c.to_u32-in-Err.ensures, (refl, refl, refl), refl, refl))

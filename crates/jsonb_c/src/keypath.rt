@@ -1,0 +1,120 @@
+//! Functions on a prepared key path and one document.
+
+ghost use Rattle.std.specs.Prelude.{◌≡◌, MatchOption, Some, None};
+ghost use Rattle.jsonb_doc.specs.Answer.{IsDecodingError, ◌or◌};
+ghost use Rattle.jsonb_doc.specs.declared.error.Error.TheVariants.{InvalidJsonType, InvalidKeyPath, OutOfMemory, TooLarge};
+ghost use Rattle.jsonb_raw.specs.Documents.{MakesOption};
+ghost use Rattle.jsonb_raw.specs.Places.{tree_at_steps};
+ghost use Rattle.jsonb.specs.KeyPathGrammar.{key_path};
+ghost use Rattle.jsonb_c.specs.Answers.{DeliversNothing, HandsOverBytes, HandsOverFound, OfDocument};
+ghost use Rattle.jsonb_c.specs.Calls.{DeletesPlace};
+ghost use Rattle.jsonb_c.specs.Prepared.{Prepares, key_steps};
+ghost use Rattle.jsonb_c.specs.Status.{no_path};
+
+use crate::column::documents::{part_at, without_part};
+use crate::deliver::{deliver, deliver_made, deliver_nothing};
+use crate::prepared::{PathHandle, PreparedPath, parsing};
+use crate::status::Status;
+use std::alloc::Global;
+
+/// Parses a key path and keeps it in the handle, in place of the path that it keeps.
+#[unsafe(no_mangle)]
+pub extern "C" fn jdoc_keypath_read(alloc: Global, text: &[u8], path: &mut PathHandle) -> u32
+    ensures { Prepares InvalidKeyPath (key_path text.now) key_steps path.new.value result }
+{
+    path.keep(alloc, parsing::parse_keys(alloc, text))
+}
+
+/// Drops the path that the handle keeps, if there is one.
+#[unsafe(no_mangle)]
+pub extern "C" fn jdoc_keypath_free(alloc: Global, path: &mut PathHandle)
+    ensures { path.new.value ≡ None }
+{
+    path.clear(alloc);
+}
+
+/// Returns the value at the location of the path.
+#[unsafe(no_mangle)]
+pub extern "C" fn jdoc_keypath_get(
+    alloc: Global,
+    path: &mut PathHandle,
+    document: &[u8],
+    out: &mut [u8],
+    out_len: &mut usize,
+) -> u32
+    ensures kept { path.new.value ≡ path.old.value }
+    ensures part { MatchOption (key_steps path.old.value) (DeliversNothing no_path out.old out.new out_len.new result)
+        (λ steps. HandsOverFound (OfDocument document.now (λ form t. MakesOption form (tree_at_steps steps t)))
+        (IsDecodingError or OutOfMemory or TooLarge) out.old out.new out_len.new result) }
+{
+    let Some(kept) = path.take(alloc) else {
+        return deliver_nothing(Status::NoPath, out_len);
+    };
+    let status = deliver_part(alloc, &kept, document, out, out_len);
+    path.put(kept);
+    status
+}
+
+/// Stores the value at the location of a path, if it is a key path.
+fn deliver_part(
+    alloc: Global,
+    path: &PreparedPath,
+    document: &[u8],
+    out: &mut [u8],
+    out_len: &mut usize,
+) -> u32
+    ensures { MatchOption (key_steps (Some path.now)) (DeliversNothing no_path out.old out.new out_len.new result)
+        (λ steps. HandsOverFound (OfDocument document.now (λ form t. MakesOption form (tree_at_steps steps t)))
+        (IsDecodingError or OutOfMemory or TooLarge) out.old out.new out_len.new result) }
+{
+    match path {
+        PreparedPath::Keys(steps) => {
+            let part = part_at(alloc, document, steps);
+            deliver(part, out, out_len)
+        }
+        PreparedPath::Json(_) => deliver_nothing(Status::NoPath, out_len),
+    }
+}
+
+/// Returns the document without the value at the location of the path.
+#[unsafe(no_mangle)]
+pub extern "C" fn jdoc_keypath_delete(
+    alloc: Global,
+    path: &mut PathHandle,
+    document: &[u8],
+    out: &mut [u8],
+    out_len: &mut usize,
+) -> u32
+    ensures kept { path.new.value ≡ path.old.value }
+    ensures rest { MatchOption (key_steps path.old.value) (DeliversNothing no_path out.old out.new out_len.new result)
+        (λ steps. HandsOverBytes (DeletesPlace steps document.now)
+        (IsDecodingError or OutOfMemory or InvalidJsonType) out.old out.new out_len.new result) }
+{
+    let Some(kept) = path.take(alloc) else {
+        return deliver_nothing(Status::NoPath, out_len);
+    };
+    let status = deliver_rest(alloc, &kept, document, out, out_len);
+    path.put(kept);
+    status
+}
+
+/// Stores the document without the value at the location of a path, if it is a key path.
+fn deliver_rest(
+    alloc: Global,
+    path: &PreparedPath,
+    document: &[u8],
+    out: &mut [u8],
+    out_len: &mut usize,
+) -> u32
+    ensures { MatchOption (key_steps (Some path.now)) (DeliversNothing no_path out.old out.new out_len.new result)
+        (λ steps. HandsOverBytes (DeletesPlace steps document.now)
+        (IsDecodingError or OutOfMemory or InvalidJsonType) out.old out.new out_len.new result) }
+{
+    match path {
+        PreparedPath::Keys(steps) => {
+            let rest = without_part(alloc, document, steps);
+            deliver_made(rest, out, out_len)
+        }
+        PreparedPath::Json(_) => deliver_nothing(Status::NoPath, out_len),
+    }
+}

@@ -1,0 +1,221 @@
+//! Functions on a prepared JSON path and one document.
+
+ghost use Rattle.std.specs.Prelude.{◌≡◌, MatchOption, Some, None};
+ghost use Rattle.jsonb_doc.specs.declared.error.Error.TheVariants.{InvalidJsonPath};
+ghost use Rattle.jsonb.specs.PathGrammar.{json_path};
+ghost use Rattle.jsonb.specs.SelectionErrors.{IsDocumentError, IsSelectionError};
+ghost use Rattle.jsonb.specs.SelectorAnswers.{first_item, single_or_array, IsFound, IsPicked, IsTruthOf, ByMeanings};
+ghost use Rattle.jsonb_c.specs.Answers.{DeliversNothing, HandsOverBool, HandsOverFound, HandsOverTruth};
+ghost use Rattle.jsonb_c.specs.Calls.{mode_of};
+ghost use Rattle.jsonb_c.specs.Prepared.{LacksPath, Prepares, json_steps};
+ghost use Rattle.jsonb_c.specs.Private.Views.{pick_of};
+ghost use Rattle.jsonb_c.specs.Status.{no_path};
+ghost use Rattle.jsonb_c.specs.Views.{one_array};
+
+use crate::deliver::{deliver, deliver_nothing, store_bool, store_truth};
+use crate::document::select::{Pick, exists_by_path, match_by_path, pick_by_path};
+use crate::prepared::{PathHandle, PreparedPath, parsing};
+use crate::status::Status;
+use std::alloc::Global;
+
+/// Parses a JSON path and keeps it in the handle, in place of the path that it keeps.
+#[unsafe(no_mangle)]
+pub extern "C" fn jdoc_path_read(alloc: Global, text: &[u8], path: &mut PathHandle) -> u32
+    ensures { Prepares InvalidJsonPath (json_path text.now) json_steps path.new.value result }
+{
+    path.keep(alloc, parsing::parse_json(alloc, text))
+}
+
+/// Drops the path that the handle keeps, if there is one.
+#[unsafe(no_mangle)]
+pub extern "C" fn jdoc_path_free(alloc: Global, path: &mut PathHandle)
+    ensures { path.new.value ≡ None }
+{
+    path.clear(alloc);
+}
+
+/// Returns the first item that the path selects.
+#[unsafe(no_mangle)]
+pub extern "C" fn jdoc_path_select_first(
+    alloc: Global,
+    path: &mut PathHandle,
+    document: &[u8],
+    strict: bool,
+    out: &mut [u8],
+    out_len: &mut usize,
+) -> u32
+    ensures kept { path.new.value ≡ path.old.value }
+    ensures item { MatchOption (json_steps path.old.value) (DeliversNothing no_path out.old out.new out_len.new result)
+        (λ steps. HandsOverFound (ByMeanings (mode_of strict) document.now steps (IsPicked first_item))
+        (IsDocumentError (mode_of strict)) out.old out.new out_len.new result) }
+{
+    select(alloc, path, document, strict, Pick::First, out, out_len)
+}
+
+/// Returns the item that the path selects if it is the only one, or an array if there are several.
+#[unsafe(no_mangle)]
+pub extern "C" fn jdoc_path_select_value(
+    alloc: Global,
+    path: &mut PathHandle,
+    document: &[u8],
+    strict: bool,
+    out: &mut [u8],
+    out_len: &mut usize,
+) -> u32
+    ensures kept { path.new.value ≡ path.old.value }
+    ensures item { MatchOption (json_steps path.old.value) (DeliversNothing no_path out.old out.new out_len.new result)
+        (λ steps. HandsOverFound (ByMeanings (mode_of strict) document.now steps (IsPicked single_or_array))
+        (IsDocumentError (mode_of strict)) out.old out.new out_len.new result) }
+{
+    select(alloc, path, document, strict, Pick::Value, out, out_len)
+}
+
+/// Returns an array of the items that the path selects.
+#[unsafe(no_mangle)]
+pub extern "C" fn jdoc_path_select_array(
+    alloc: Global,
+    path: &mut PathHandle,
+    document: &[u8],
+    strict: bool,
+    out: &mut [u8],
+    out_len: &mut usize,
+) -> u32
+    ensures kept { path.new.value ≡ path.old.value }
+    ensures array { MatchOption (json_steps path.old.value) (DeliversNothing no_path out.old out.new out_len.new result)
+        (λ steps. HandsOverFound (ByMeanings (mode_of strict) document.now steps (IsPicked one_array))
+        (IsDocumentError (mode_of strict)) out.old out.new out_len.new result) }
+{
+    select(alloc, path, document, strict, Pick::Array, out, out_len)
+}
+
+/// Stores one document of what the path selects.
+fn select(
+    alloc: Global,
+    path: &mut PathHandle,
+    document: &[u8],
+    strict: bool,
+    pick: Pick,
+    out: &mut [u8],
+    out_len: &mut usize,
+) -> u32
+    ensures kept { path.new.value ≡ path.old.value }
+    ensures item { MatchOption (json_steps path.old.value) (DeliversNothing no_path out.old out.new out_len.new result)
+        (λ steps. HandsOverFound (ByMeanings (mode_of strict) document.now steps (IsPicked (pick_of pick)))
+        (IsDocumentError (mode_of strict)) out.old out.new out_len.new result) }
+{
+    let Some(kept) = path.take(alloc) else {
+        return deliver_nothing(Status::NoPath, out_len);
+    };
+    let status = deliver_item(alloc, &kept, document, strict, pick, out, out_len);
+    path.put(kept);
+    status
+}
+
+/// Stores one document of what a path selects, if it is a JSON path.
+fn deliver_item(
+    alloc: Global,
+    path: &PreparedPath,
+    document: &[u8],
+    strict: bool,
+    pick: Pick,
+    out: &mut [u8],
+    out_len: &mut usize,
+) -> u32
+    ensures { MatchOption (json_steps (Some path.now)) (DeliversNothing no_path out.old out.new out_len.new result)
+        (λ steps. HandsOverFound (ByMeanings (mode_of strict) document.now steps (IsPicked (pick_of pick)))
+        (IsDocumentError (mode_of strict)) out.old out.new out_len.new result) }
+{
+    match path {
+        PreparedPath::Json(steps) => {
+            let item = pick_by_path(alloc, document, steps, strict, pick);
+            deliver(item, out, out_len)
+        }
+        PreparedPath::Keys(_) => deliver_nothing(Status::NoPath, out_len),
+    }
+}
+
+/// Returns whether the path selects an item.
+#[unsafe(no_mangle)]
+pub extern "C" fn jdoc_path_exists(
+    alloc: Global,
+    path: &mut PathHandle,
+    document: &[u8],
+    strict: bool,
+    truth: &mut u8,
+) -> u32
+    ensures kept { path.new.value ≡ path.old.value }
+    ensures exists { MatchOption (json_steps path.old.value) (LacksPath truth.old truth.new result)
+        (λ steps. HandsOverBool (ByMeanings (mode_of strict) document.now steps IsFound)
+        (IsSelectionError (mode_of strict)) truth.old truth.new result) }
+{
+    let Some(kept) = path.take(alloc) else {
+        return Status::NoPath.to_u32();
+    };
+    let status = store_exists(alloc, &kept, document, strict, truth);
+    path.put(kept);
+    status
+}
+
+/// Stores whether a path selects an item, if it is a JSON path.
+fn store_exists(
+    alloc: Global,
+    path: &PreparedPath,
+    document: &[u8],
+    strict: bool,
+    truth: &mut u8,
+) -> u32
+    ensures { MatchOption (json_steps (Some path.now)) (LacksPath truth.old truth.new result)
+        (λ steps. HandsOverBool (ByMeanings (mode_of strict) document.now steps IsFound)
+        (IsSelectionError (mode_of strict)) truth.old truth.new result) }
+{
+    match path {
+        PreparedPath::Json(steps) => {
+            let exists = exists_by_path(alloc, document, steps, strict);
+            store_bool(exists, truth)
+        }
+        PreparedPath::Keys(_) => Status::NoPath.to_u32(),
+    }
+}
+
+/// Returns the result of the path as a predicate: 0 for false, 1 for true, 2 for unknown.
+#[unsafe(no_mangle)]
+pub extern "C" fn jdoc_path_match(
+    alloc: Global,
+    path: &mut PathHandle,
+    document: &[u8],
+    strict: bool,
+    truth: &mut u8,
+) -> u32
+    ensures kept { path.new.value ≡ path.old.value }
+    ensures truth { MatchOption (json_steps path.old.value) (LacksPath truth.old truth.new result)
+        (λ steps. HandsOverTruth (IsTruthOf (mode_of strict) steps document.now)
+        (IsSelectionError (mode_of strict)) truth.old truth.new result) }
+{
+    let Some(kept) = path.take(alloc) else {
+        return Status::NoPath.to_u32();
+    };
+    let status = store_match(alloc, &kept, document, strict, truth);
+    path.put(kept);
+    status
+}
+
+/// Stores the result of a path as a predicate, if it is a JSON path.
+fn store_match(
+    alloc: Global,
+    path: &PreparedPath,
+    document: &[u8],
+    strict: bool,
+    truth: &mut u8,
+) -> u32
+    ensures { MatchOption (json_steps (Some path.now)) (LacksPath truth.old truth.new result)
+        (λ steps. HandsOverTruth (IsTruthOf (mode_of strict) steps document.now)
+        (IsSelectionError (mode_of strict)) truth.old truth.new result) }
+{
+    match path {
+        PreparedPath::Json(steps) => {
+            let said = match_by_path(alloc, document, steps, strict);
+            store_truth(said, truth)
+        }
+        PreparedPath::Keys(_) => Status::NoPath.to_u32(),
+    }
+}

@@ -1,0 +1,58 @@
+//! Parsing of paths that are kept. Their strings are copied, so that the text may be freed.
+
+ghost use Rattle.std.specs.Prelude.{◌≡◌, IsSomeAnd, MatchResult, Some, None};
+ghost use Rattle.jsonb_doc.specs.Answer.{IsOutOfMemory, ◌or◌when◌};
+ghost use Rattle.jsonb_doc.specs.declared.error.Error.TheVariants.{InvalidJsonPath, InvalidKeyPath};
+ghost use Rattle.jsonb.specs.KeyPathGrammar.{key_path};
+ghost use Rattle.jsonb.specs.KeyPathViews.{key_view, key_paths_view};
+ghost use Rattle.jsonb.specs.PathGrammar.{json_path};
+ghost use Rattle.jsonb_c.specs.Prepared.{json_steps, key_steps};
+
+use super::path::PreparedPath;
+use jsonb::{Error, KeyPath, KeyPaths, OwnedKeyPath, parse_json_path, parse_key_paths};
+use std::alloc::Global;
+use std::borrow::CowStr;
+
+/// Parses a JSON path.
+pub(crate) fn parse_json(alloc: Global, text: &[u8]) -> Result<Box<PreparedPath>, Error>
+    ensures { MatchResult result
+        (λ made. IsSomeAnd (json_steps (Some made.value)) (λ steps. json_path text.now ≡ Some steps))
+        (IsOutOfMemory or InvalidJsonPath when (json_path text.now ≡ None)) }
+{
+    let path = parse_json_path(alloc, text)?;
+    let copy = path.to_owned(alloc)?;
+    Ok(Box::new(alloc, PreparedPath::Json(copy))?)
+}
+
+/// Parses a key path.
+pub(crate) fn parse_keys(alloc: Global, text: &[u8]) -> Result<Box<PreparedPath>, Error>
+    ensures { MatchResult result
+        (λ made. IsSomeAnd (key_steps (Some made.value)) (λ steps. key_path text.now ≡ Some steps))
+        (IsOutOfMemory or InvalidKeyPath when (key_path text.now ≡ None)) }
+{
+    let steps = parse_key_paths(alloc, text)?;
+    let copy = owned_steps(alloc, &steps)?;
+    Ok(Box::new(alloc, PreparedPath::Keys(copy))?)
+}
+
+/// Copies steps, with owned strings.
+fn owned_steps(alloc: Global, steps: &KeyPaths<'_>) -> Result<KeyPaths<'static>, Error>
+    ensures { MatchResult result (λ copy. key_paths_view copy ≡ key_paths_view steps.now) IsOutOfMemory }
+{
+    let mut paths = Vec::with_capacity(alloc, steps.paths.len())?;
+    for step in &steps.paths {
+        paths.push(owned_step(alloc, step)?)?;
+    }
+    Ok(KeyPaths { paths })
+}
+
+/// Copies a step, with an owned string.
+fn owned_step(alloc: Global, step: &KeyPath<'_>) -> Result<KeyPath<'static>, Error>
+    ensures { MatchResult result (λ copy. key_view copy ≡ key_view step.now) IsOutOfMemory }
+{
+    match step.to_owned(alloc)? {
+        OwnedKeyPath::Index(index) => Ok(KeyPath::Index(index)),
+        OwnedKeyPath::QuotedName(name) => Ok(KeyPath::QuotedName(CowStr::Owned(name))),
+        OwnedKeyPath::Name(name) => Ok(KeyPath::Name(CowStr::Owned(name))),
+    }
+}
