@@ -3,7 +3,7 @@
 use jsonb::{Error, OwnedJsonb, RawJsonb, parse_key_paths};
 use std::alloc::Global;
 
-/// The setting at a key path such as `{server,port}`, or none.
+/// Returns the setting at a key path such as `{server,port}`, or `None`.
 pub fn setting(
     alloc: Global,
     configuration: &RawJsonb<'_>,
@@ -13,7 +13,7 @@ pub fn setting(
     configuration.get_by_keypath(alloc, steps.paths.iter())
 }
 
-/// The port of the server, or none where it is missing or no whole number of 64 bits.
+/// Returns the port of the server, or `None` if it is missing or not a 64-bit unsigned integer.
 pub fn port(alloc: Global, configuration: &RawJsonb<'_>) -> Result<Option<u64>, Error> {
     match setting(alloc, configuration, "{server,port}")? {
         Some(found) => found.as_raw().as_u64(),
@@ -21,7 +21,7 @@ pub fn port(alloc: Global, configuration: &RawJsonb<'_>) -> Result<Option<u64>, 
     }
 }
 
-/// The configuration without the setting at a key path. It is the same where there is none.
+/// Returns the configuration without the setting at a key path, unchanged if there is none.
 pub fn without_setting(
     alloc: Global,
     configuration: &RawJsonb<'_>,
@@ -31,7 +31,7 @@ pub fn without_setting(
     configuration.delete_by_keypath(alloc, steps.paths.iter())
 }
 
-/// The configuration with this value for a name in a section, new or in place of the old one.
+/// Returns the configuration with this value for a name in a section, new or in place of the old one.
 pub fn with_setting(
     alloc: Global,
     configuration: &RawJsonb<'_>,

@@ -3,9 +3,9 @@
 use jsonb::{Error, RawJsonb, SelectByPath, parse_json_path};
 use std::alloc::Global;
 
-/// The documents of which the condition is true, in their order.
+/// Returns the documents for which the condition is true, in order.
 ///
-/// `InvalidJsonPath` where the text is no path; other refusals are those of the path on a document.
+/// Fails with `InvalidJsonPath` if the condition does not parse, and with the error of its evaluation on a document.
 pub fn matching<'a>(
     alloc: Global,
     documents: &[RawJsonb<'a>],

@@ -1,16 +1,13 @@
 //! An index of documents by two values, over sortable keys.
 //!
-//! Each key is the sortable key of the first value with that of the second one behind it. Such keys order as the pairs
-//! of values do. A value that is missing has the key `00 00`, which no value has and which sorts first.
+//! Each key is composed of the sortable keys of both values. Such keys compare as the pairs of values do. A missing
+//! value is below every other.
 
-use jsonb::{Error, JsonPath, RawJsonb, SelectByPath, parse_json_path};
+use jsonb::{Error, JsonPath, RawJsonb, SelectByPath, parse_json_path, push_column_key};
 use std::alloc::Global;
 use std::collections::BTreeMap;
 
-/// The key of a value that is missing: no kind of item has the number 0.
-const MISSING: [u8; 2] = [0, 0];
-
-/// Which documents have which values at two paths.
+/// The documents by their values at two paths.
 #[derive(Drop)]
 pub struct Index<'p> {
     first: JsonPath<'p>,
@@ -19,7 +16,7 @@ pub struct Index<'p> {
 }
 
 impl<'p> Index<'p> {
-    /// An index on two paths, without documents.
+    /// Creates an index on two paths, without documents.
     pub fn new(alloc: Global, first: &'p str, second: &'p str) -> Result<Index<'p>, Error> {
         Ok(Index {
             first: parse_json_path(alloc, first.as_bytes())?,
@@ -47,7 +44,7 @@ impl<'p> Index<'p> {
         Ok(())
     }
 
-    /// The numbers of the documents whose first value is at least `low` and below `high`, by rising values.
+    /// Returns the numbers of the documents whose first value is at least `low` and below `high`, by ascending values.
     pub fn range(
         &self,
         alloc: Global,
@@ -67,21 +64,15 @@ impl<'p> Index<'p> {
     }
 }
 
-/// Puts the sortable key of the first item that a path selects behind a key.
+/// Appends the first item that a path selects to a composite key.
 fn push_key(
     alloc: Global,
     key: &mut Vec<u8>,
     document: &RawJsonb<'_>,
     path: &JsonPath<'_>,
 ) -> Result<(), Error> {
-    match document.select_first_by_path(alloc, path)? {
-        Some(value) => {
-            let value_key = value.as_raw().convert_to_comparable(alloc)?;
-            key.extend_from_slice(value_key.as_slice())?;
-        }
-        None => key.extend_from_slice(&MISSING)?,
-    }
-    Ok(())
+    let value = document.select_first_by_path(alloc, path)?;
+    push_column_key(alloc, key, value.as_ref().map(|it| it.as_raw()))
 }
 
 #[cfg(test)]

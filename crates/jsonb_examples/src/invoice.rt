@@ -3,9 +3,10 @@
 use jsonb::{Error, Item, Number, ObjectBuilder, OwnedJsonb, RawJsonb, elements};
 use std::alloc::Global;
 
-/// The sum of an array of whole numbers.
+/// Returns the sum of an array of integers.
 ///
-/// `InvalidJsonType` where the root is no array or an element is no number, `Arithmetic` where the sum has no result.
+/// Fails with `InvalidJsonType` if the root is not an array or an element is not a number, and with `Arithmetic` if
+/// the sum has no result.
 pub fn total(amounts: &RawJsonb<'_>) -> Result<Number, Error> {
     let Some(items) = elements(amounts.as_bytes())? else {
         return Err(Error::InvalidJsonType);
@@ -20,7 +21,7 @@ pub fn total(amounts: &RawJsonb<'_>) -> Result<Number, Error> {
     Ok(sum)
 }
 
-/// The object of the amounts and their sum.
+/// Returns the object of the amounts and their sum.
 pub fn invoice(alloc: Global, amounts: &RawJsonb<'_>) -> Result<OwnedJsonb, Error> {
     let mut builder = ObjectBuilder::new(alloc);
     builder.push_document("amounts", amounts.as_bytes())?;

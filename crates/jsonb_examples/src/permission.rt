@@ -2,7 +2,7 @@
 
 use jsonb::{Error, RawJsonb};
 
-/// Whether one of the grants contains what is asked for. It takes no memory.
+/// Returns `true` if one of the grants contains the request. Does not allocate.
 pub fn is_granted(grants: &[RawJsonb<'_>], request: &RawJsonb<'_>) -> Result<bool, Error> {
     for grant in grants {
         if grant.contains(request)? {

@@ -1,4 +1,4 @@
-//! The tables of answers in docs/, run row by row.
+//! The rows of docs/rows/paths.tsv, and of the tables of keys in docs/FORMAT.md.
 
 mod rows;
 
@@ -9,7 +9,7 @@ use jsonb::{
 use std::alloc::Global;
 use std::test::Fail;
 
-/// Documents in hexadecimal with spaces between, or `none`.
+/// Returns documents in hexadecimal with spaces between, or `none`.
 fn documents_text(alloc: Global, found: &[OwnedJsonb]) -> Result<String, Error> {
     let mut text = String::new(alloc);
     for document in found {
@@ -25,14 +25,14 @@ fn documents_text(alloc: Global, found: &[OwnedJsonb]) -> Result<String, Error> 
     Ok(text)
 }
 
-/// What a selector answers to a path's text.
+/// Returns the result of a selector for the text of a path.
 fn selected(alloc: Global, mut selector: Selector<'_>, text: &str) -> Result<String, Error> {
     let path = parse_json_path(alloc, text.as_bytes())?;
     let found = selector.select_values(&path)?;
     documents_text(alloc, found.as_slice())
 }
 
-/// `true`, `false` or `unknown`.
+/// Returns `true`, `false` or `unknown`.
 fn truth(alloc: Global, whole: &RawJsonb<'_>, text: &str) -> Result<&'static str, Error> {
     let path = parse_json_path(alloc, text.as_bytes())?;
     Ok(match whole.path_match(alloc, &path)? {
@@ -42,7 +42,7 @@ fn truth(alloc: Global, whole: &RawJsonb<'_>, text: &str) -> Result<&'static str
     })
 }
 
-/// The document at the place of a key path, or `none`.
+/// Returns the document at the location of a key path, or `none`.
 fn part_at(alloc: Global, whole: &RawJsonb<'_>, text: &str) -> Result<String, Error> {
     let steps = parse_key_paths(alloc, text.as_bytes())?;
     Ok(match whole.get_by_keypath(alloc, steps.paths.iter())? {
@@ -51,7 +51,7 @@ fn part_at(alloc: Global, whole: &RawJsonb<'_>, text: &str) -> Result<String, Er
     })
 }
 
-/// What a path's text prints, or `refused`.
+/// Returns the printed form of a path, or `refused`.
 fn printed(alloc: Global, text: &str) -> Result<String, Error> {
     Ok(match parse_json_path(alloc, text.as_bytes()) {
         Ok(path) => format!(in alloc; "{path}")?,
@@ -59,7 +59,7 @@ fn printed(alloc: Global, text: &str) -> Result<String, Error> {
     })
 }
 
-/// What a key path's text prints, or `refused`.
+/// Returns the printed form of a key path, or `refused`.
 fn printed_key_path(alloc: Global, text: &str) -> Result<String, Error> {
     Ok(match parse_key_paths(alloc, text.as_bytes()) {
         Ok(path) => format!(in alloc; "{path}")?,
@@ -67,7 +67,7 @@ fn printed_key_path(alloc: Global, text: &str) -> Result<String, Error> {
     })
 }
 
-/// The answer to a question of a row.
+/// Returns the result for a row.
 fn answer(alloc: Global, asked: &str, text: &str, whole: &RawJsonb<'_>) -> Result<String, Error> {
     match asked {
         "lax" => selected(alloc, Selector::new(alloc, *whole), text),
@@ -81,12 +81,12 @@ fn answer(alloc: Global, asked: &str, text: &str, whole: &RawJsonb<'_>) -> Resul
     }
 }
 
-/// The first part of a row, and the others.
+/// Returns the first part of a row, and the others.
 fn cut(row: &str) -> Result<(&str, &str), Fail> {
     Ok(row.split_once('\t').ok_or("a row without a tab")?)
 }
 
-/// Whether a row says what is answered.
+/// Returns `true` if the row states the result.
 fn holds(alloc: Global, row: &str) -> Result<bool, Fail> {
     let (asked, rest) = cut(row)?;
     let (text, rest) = cut(rest)?;

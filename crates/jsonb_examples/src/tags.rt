@@ -1,9 +1,9 @@
-//! Tags as sets: arrays of texts without repeats.
+//! Tags as sets: arrays of strings without repeats.
 
 use jsonb::{Error, OwnedJsonb, RawJsonb};
 use std::alloc::Global;
 
-/// The tags of both, each once.
+/// Returns the tags of both, each once.
 pub fn all_tags(
     alloc: Global,
     tags: &RawJsonb<'_>,
@@ -13,7 +13,7 @@ pub fn all_tags(
     joined.as_raw().array_distinct(alloc)
 }
 
-/// The tags that are new, and those that are gone.
+/// Returns the tags that are new, and those that are gone.
 pub fn changes(
     alloc: Global,
     old: &RawJsonb<'_>,

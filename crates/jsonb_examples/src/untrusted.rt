@@ -1,15 +1,15 @@
-//! Documents and paths from strangers: checked first, and each refusal answered by name.
+//! Untrusted documents and paths: checked first, with a status for each error.
 
 use jsonb::{Error, OwnedJsonb, RawJsonb, SelectByPath, parse_json_path};
 use std::alloc::Global;
 
-/// Longer texts are refused unread: each open parenthesis of a path takes room on the stack.
+/// The longest path that is accepted. Evaluating nested filters uses stack in proportion to their nesting.
 const LONGEST_PATH: usize = 1_000;
 
-/// Deeper documents are refused: what is done with a decoded value takes room on the stack for each level.
+/// The depth of the deepest item that is accepted, below the 255 levels of a sortable key.
 const DEEPEST_ITEM: usize = 100;
 
-/// What a path selects of bytes that anybody may have sent.
+/// Returns what a path selects from untrusted bytes.
 pub fn selected(alloc: Global, path: &[u8], bytes: &[u8]) -> Result<Vec<OwnedJsonb>, Error> {
     if path.len() > LONGEST_PATH {
         return Err(Error::InvalidJsonPath);
@@ -20,7 +20,7 @@ pub fn selected(alloc: Global, path: &[u8], bytes: &[u8]) -> Result<Vec<OwnedJso
     document.select_by_path(alloc, &path)
 }
 
-/// The status of HTTP that tells a refusal.
+/// Returns the HTTP status of an error.
 pub fn status(refusal: Error) -> u16 {
     match refusal {
         Error::InvalidJsonb | Error::InvalidJsonPath | Error::InvalidKeyPath => 400,

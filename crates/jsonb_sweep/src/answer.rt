@@ -1,10 +1,10 @@
-//! What a call answered, and what it is to answer.
+//! The result of a call, and the expected one.
 
 use jsonb::{Error, OwnedJsonb};
 use std::alloc::Global;
 use std::fmt::Display;
 
-/// What a call answered.
+/// The result of a call.
 #[derive(Drop)]
 pub enum Answer {
     Nothing,
@@ -15,7 +15,7 @@ pub enum Answer {
     Documents(Vec<OwnedJsonb>),
 }
 
-/// What it is to answer.
+/// The expected result.
 #[derive(Clone, Copy)]
 pub enum Wanted<'a> {
     Nothing,
@@ -24,7 +24,7 @@ pub enum Wanted<'a> {
     Text(&'a str),
     Document(&'a [u8]),
     Documents(&'a [&'a [u8]]),
-    /// So many documents.
+    /// This many documents.
     Count(u64),
 }
 
@@ -49,7 +49,7 @@ impl Answer {
         truth.map_or(Answer::Nothing, Answer::Truth)
     }
 
-    /// What another answer has to be to be the same. Of several documents that is their number alone.
+    /// Returns what an equal result has to be. For several documents that is their number only.
     pub fn as_wanted(&self) -> Wanted<'_> {
         match self {
             Answer::Nothing => Wanted::Nothing,
@@ -61,7 +61,7 @@ impl Answer {
         }
     }
 
-    /// Whether it is what is wanted.
+    /// Returns `true` if the result is the expected one.
     pub fn is(&self, wanted: Wanted<'_>) -> bool {
         match (self, wanted) {
             (Answer::Nothing, Wanted::Nothing) => true,
@@ -79,19 +79,19 @@ impl Answer {
     }
 }
 
-/// Whether these are the documents that are wanted.
+/// Returns `true` if these are the expected documents.
 fn are(documents: &[OwnedJsonb], wanted: &[&[u8]]) -> bool {
     documents.len() == wanted.len()
         && documents.iter().zip(wanted.iter()).all(|(document, wanted)| document.as_raw().as_bytes()
             == *wanted)
 }
 
-/// Whether a call answered this value.
+/// Returns `true` if a call returned this value.
 pub fn is_same<T: PartialEq + Drop>(answer: Result<T, Error>, wanted: &T) -> Result<bool, Error> {
     Ok(answer? == *wanted)
 }
 
-/// Whether a call answered what prints so.
+/// Returns `true` if a call returned what prints so.
 pub fn prints<T: Display + Drop>(
     alloc: Global,
     answer: Result<T, Error>,

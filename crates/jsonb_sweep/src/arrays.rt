@@ -36,7 +36,7 @@ static CASES: [Case; 11] = rows! {
     "delete_by_name of a text", Call::Delete("a"), KEYS, Wanted::Document(ONLY_TEXT_C);
 };
 
-/// Makes each case, and tells what came of it.
+/// Runs each case, and reports its result.
 pub fn cases(rt: &HostRuntime) -> io::Result<()> {
     ask_each(rt, &CASES)
 }

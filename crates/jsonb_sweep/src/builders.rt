@@ -2,17 +2,18 @@
 
 use crate::documents::*;
 use crate::mark::tell;
-use jsonb::{ArrayBuilder, Error, Item, Number, ObjectBuilder, elements, pairs};
+use jsonb::{ArrayBuilder, Error, Item, Number, ObjectBuilder, elements, pairs, root_spot};
 use std::alloc::Global;
 use std::io;
 
 /// `[10,20]`
 const TEN_AND_TWENTY: &[u8] = b"\x80\x00\x00\x02 \x00\x00\x02 \x00\x00\x02P\x0aP\x14";
 
-/// Makes each case of an array's builder, and tells what came of it.
+/// Runs each case of an array's builder, and reports its result.
 pub fn arrays(rt: &HostRuntime) -> io::Result<()> {
     tell(rt, "ArrayBuilder::push_item", array_push_item(rt))?;
     tell(rt, "ArrayBuilder::push_document", array_push_document(rt))?;
+    tell(rt, "ArrayBuilder::push_spot", array_push_spot(rt))?;
     tell(rt, "ArrayBuilder::build", array_build(rt))
 }
 
@@ -29,7 +30,7 @@ fn holds(builder: &ArrayBuilder, count: usize, array: &[u8]) -> Result<bool, Err
     Ok(builder.build()?.as_slice() == array && builder.len() == count)
 }
 
-/// Whether a push of 30 was right, or was refused and left the builder as it was.
+/// Returns `true` if a push of 30 was right, or failed and left the builder unchanged.
 fn has_thirty(builder: &ArrayBuilder, pushed: Result<(), Error>) -> Result<bool, Error> {
     if pushed.is_ok() {
         return holds(builder, 3, TENS);
@@ -53,6 +54,13 @@ fn array_push_document(rt: &HostRuntime) -> Result<bool, Error> {
     has_thirty(&builder, pushed)
 }
 
+fn array_push_spot(rt: &HostRuntime) -> Result<bool, Error> {
+    let mut builder = ten_and_twenty(rt.alloc())?;
+    let thirty = root_spot(THIRTY)?;
+    let pushed = marked!(rt, builder.push_spot(THIRTY, thirty));
+    has_thirty(&builder, pushed)
+}
+
 fn array_build(rt: &HostRuntime) -> Result<bool, Error> {
     let builder = ten_and_twenty(rt.alloc())?;
     let built = marked!(rt, builder.build());
@@ -60,7 +68,7 @@ fn array_build(rt: &HostRuntime) -> Result<bool, Error> {
     Ok(built?.as_slice() == TEN_AND_TWENTY && is_kept)
 }
 
-/// Makes each case of an object's builder, and tells what came of it.
+/// Runs each case of an object's builder, and reports its result.
 pub fn objects(rt: &HostRuntime) -> io::Result<()> {
     tell(rt, "ObjectBuilder::push_item", object_push_item(rt))?;
     tell(rt, "ObjectBuilder::push_document", object_push_document(rt))?;
@@ -92,7 +100,7 @@ fn holds_letters(builder: &ObjectBuilder, has_b: bool, object: &[u8]) -> Result<
     )
 }
 
-/// Whether a push of 9 under `b` was right, or was refused and left the builder as it was.
+/// Returns `true` if a push of 9 with the key `b` was right, or failed and left the builder unchanged.
 fn has_b(builder: &ObjectBuilder, pushed: Result<(), Error>) -> Result<bool, Error> {
     if pushed.is_ok() {
         return holds_letters(builder, true, MORE_LETTERS);
@@ -130,7 +138,7 @@ fn object_build(rt: &HostRuntime) -> Result<bool, Error> {
     Ok(built?.as_slice() == LETTERS && is_kept)
 }
 
-/// Whether a push was right, by whether the builder has what was pushed; or it was refused, and the builder has not.
+/// Returns `true` if a push succeeded and the builder has what was pushed, or failed and it has not.
 fn is_taken(pushed: Result<(), Error>, is_there: bool) -> Result<bool, Error> {
     if is_there {
         return Ok(pushed.is_ok());

@@ -2,7 +2,7 @@
 
 use crate::answer::{Answer, Wanted};
 use crate::mark::tell;
-use jsonb::{Error, RawJsonb};
+use jsonb::{Error, RawJsonb, push_column_key, push_column_key_wide};
 use std::alloc::Global;
 use std::io;
 
@@ -23,7 +23,7 @@ impl Key {
         }
     }
 
-    /// The same into a vector of its own.
+    /// Returns the key, written by the `_into` function into a new vector.
     fn pushed(self, alloc: Global, document: RawJsonb<'_>) -> Result<Vec<u8>, Error> {
         let mut key = Vec::new(alloc);
         match self {
@@ -33,6 +33,22 @@ impl Key {
         }
         Ok(key)
     }
+}
+
+/// Returns the composite key of the document and a missing value.
+fn composite(alloc: Global, document: RawJsonb<'_>) -> Result<Vec<u8>, Error> {
+    let mut key = Vec::new(alloc);
+    push_column_key(alloc, &mut key, Some(document))?;
+    push_column_key(alloc, &mut key, None)?;
+    Ok(key)
+}
+
+/// Returns the wide composite key of the document and a missing value.
+fn composite_wide(alloc: Global, document: RawJsonb<'_>) -> Result<Vec<u8>, Error> {
+    let mut key = Vec::new(alloc);
+    push_column_key_wide(alloc, &mut key, Some(document))?;
+    push_column_key_wide(alloc, &mut key, None)?;
+    Ok(key)
 }
 
 /// A call on a document, with what it takes besides.
@@ -57,6 +73,8 @@ pub enum Call<'a> {
     StripNulls,
     Make(Key),
     Push(Key),
+    Composite,
+    CompositeWide,
     ToStr,
     AsBinary,
 }
@@ -84,6 +102,8 @@ impl Call<'_> {
             }
             Call::Make(key) => return key.made(alloc, on).map(Answer::Bytes),
             Call::Push(key) => return key.pushed(alloc, on).map(Answer::Bytes),
+            Call::Composite => return composite(alloc, on).map(Answer::Bytes),
+            Call::CompositeWide => return composite_wide(alloc, on).map(Answer::Bytes),
             Call::ToStr => return on.to_str(alloc).map(Answer::Text),
             Call::AsBinary => return on.as_binary(alloc).map(Answer::found_bytes),
         };
@@ -91,7 +111,7 @@ impl Call<'_> {
     }
 }
 
-/// Makes the call between the marks. True where it answers what is wanted.
+/// Makes the call between the marks. Returns `true` if its result is the expected one.
 pub fn asked(
     rt: &HostRuntime,
     call: &Call<'_>,
@@ -102,16 +122,16 @@ pub fn asked(
     Ok(answer?.is(wanted))
 }
 
-/// Makes the call, and again between the marks. True where it answers the same.
+/// Makes the call, and again between the marks. Returns `true` if both results are equal.
 pub fn asked_again(rt: &HostRuntime, call: &Call<'_>, document: &[u8]) -> Result<bool, Error> {
     let first = call.answer(rt.alloc(), RawJsonb::new(document))?;
     asked(rt, call, document, first.as_wanted())
 }
 
-/// The name of a case, its call, the document that it is made on, and what it is to answer.
+/// The name of a case, its call, its document, and the expected result.
 pub type Case = (&'static str, Call<'static>, &'static [u8], Wanted<'static>);
 
-/// Makes the call of each case, and tells what came of it.
+/// Makes the call of each case, and reports its result.
 pub fn ask_each(rt: &HostRuntime, cases: &[Case]) -> io::Result<()> {
     for (name, call, document, wanted) in cases {
         tell(rt, *name, asked(rt, call, document, *wanted))?;

@@ -1,4 +1,4 @@
-//! Documents, and the answers of calls on them, made by hand from the format.
+//! Documents, and the results of calls on them, made by hand from the format.
 
 /// `[false,10,{"k":"v"}]`
 pub const MIXED: &[u8] =

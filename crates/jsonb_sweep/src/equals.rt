@@ -1,4 +1,4 @@
-//! Calls on paths, builders and documents that are there already: comparisons, hashes, views, and what builders tell.
+//! Calls on existing paths, builders and documents: comparisons, hashes, views, and queries of builders.
 
 use crate::documents::*;
 use crate::mark::{begin, end, tell};
@@ -9,7 +9,7 @@ use jsonb::{
 use std::hash::{DefaultHasher, Hash, Hasher};
 use std::io;
 
-/// Makes each case of a comparison or a hash, and tells what came of it.
+/// Runs each case of a comparison or a hash, and reports its result.
 pub fn comparisons(rt: &HostRuntime) -> io::Result<()> {
     tell(rt, "Value::eq", values(rt))?;
     tell(rt, "KeyPaths::eq, hash", key_paths(rt))?;
@@ -55,7 +55,7 @@ fn literals(rt: &HostRuntime) -> Result<bool, Error> {
     Ok(marked!(rt, document != truth && truth.partial_cmp(&truth).is_some()))
 }
 
-/// Makes each case of a view, and of what is made without memory, and tells what came of it.
+/// Runs each case of a view, and of what is built without allocating, and reports its result.
 pub fn views(rt: &HostRuntime) -> io::Result<()> {
     tell(rt, "OwnedKeyPath::as_key_path", as_key_path(rt))?;
     tell(rt, "JsonPath::is_predicate", is_predicate(rt))?;

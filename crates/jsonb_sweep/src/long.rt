@@ -1,4 +1,4 @@
-//! Calls on long texts, long paths and deep documents, in which growths come late.
+//! Calls on long strings, long paths and deep documents, whose allocations come late.
 
 use crate::answer::Wanted;
 use crate::call::{Call, Key, asked, asked_again};
@@ -25,7 +25,7 @@ static JSON_PATHS: [Growing; 4] = rows! {
     "index entries", ["$[0", ",1 to last", "]"], ["$[0", ", 1 to last", "]"];
 };
 
-/// Makes the calls on paths of many parts, and tells what came of each.
+/// Makes the calls on paths of many parts, and reports each result.
 pub fn paths(rt: &HostRuntime, count: u64) -> io::Result<()> {
     ask_each(rt, &KEY_PATHS, &KEY_PATH_CALLS, count)?;
     ask_each(rt, &JSON_PATHS, &JSON_PATH_CALLS, count)
@@ -58,7 +58,7 @@ fn of_path(
     call.ask(rt, text.as_bytes(), printed.as_str())
 }
 
-/// A call on a text.
+/// A call on text.
 #[derive(Clone, Copy)]
 enum TextCall {
     Encode,
@@ -105,7 +105,7 @@ static TEXT_CALLS: [(&str, TextCall); 24] = rows! {
     "PathValue::to_owned", TextCall::Part(PartCall::OwnLiteral);
 };
 
-/// Makes the calls on a text of that many times 16 bytes, and tells what came of each.
+/// Makes the calls on text of that many times 16 bytes, and reports each result.
 pub fn texts(rt: &HostRuntime, count: u64) -> io::Result<()> {
     for (name, call) in &TEXT_CALLS {
         let is_right = of_text(rt, *call, count);
@@ -146,7 +146,7 @@ fn own_key_paths(rt: &HostRuntime, text: &str) -> Result<bool, Error> {
     PathCall::OwnKeys.ask(rt, path.as_bytes(), path.as_str())
 }
 
-/// An escape in front makes a text that is read one of its own.
+/// With a leading escape, the parsed string is an owned one.
 fn name(rt: &HostRuntime, text: &str) -> Result<bool, Error> {
     let input = format!(in rt.alloc(); "\\n{text},d")?;
     let wanted = format!(in rt.alloc(); "\n{text}")?;
@@ -165,7 +165,7 @@ static DEEP_CALLS: [(&str, Call<'static>); 3] = rows! {
     "strip_nulls", Call::StripNulls;
 };
 
-/// Makes the calls on a deep document, and tells what came of each.
+/// Makes the calls on a deep document, and reports each result.
 pub fn depths(rt: &HostRuntime, depth: u8) -> io::Result<()> {
     let is_right = key_of_nested(rt, depth);
     tell(

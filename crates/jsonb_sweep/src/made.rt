@@ -1,9 +1,9 @@
-//! Documents and texts of any size, made by the builders and by repeating a part.
+//! Documents and text of any size, built by the builders and by repeating a part.
 
 use jsonb::{ArrayBuilder, Error, Item, Number, ObjectBuilder};
 use std::alloc::Global;
 
-/// An array of that many objects of one pair, whose numbers rise from 0.
+/// An array of that many objects of one member, with numbers from 0.
 pub fn elements(alloc: Global, count: u64) -> Result<Vec<u8>, Error> {
     let mut array = ArrayBuilder::new(alloc);
     for number in 0..count {
@@ -14,7 +14,7 @@ pub fn elements(alloc: Global, count: u64) -> Result<Vec<u8>, Error> {
     array.build()
 }
 
-/// An object of that many pairs, whose numbers rise from 0.
+/// An object of that many members, with numbers from 0.
 pub fn pairs(alloc: Global, count: u64) -> Result<Vec<u8>, Error> {
     let mut object = ObjectBuilder::new(alloc);
     for number in 0..count {
@@ -35,7 +35,7 @@ pub fn nested(alloc: Global, depth: u8) -> Result<Vec<u8>, Error> {
     Ok(document)
 }
 
-/// A text of three parts, the middle one that many times.
+/// Text of three parts, the middle one that many times.
 pub fn repeated(alloc: Global, parts: [&str; 3], count: u64) -> Result<String, Error> {
     let [front, part, end] = parts;
     let mut text = String::from_str(alloc, front)?;

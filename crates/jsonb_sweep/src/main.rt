@@ -1,4 +1,4 @@
-//! Makes each call between two marks, and tells what came of it.
+//! Makes each call between two marks, and reports its result.
 #![tactic(auto)]
 
 /// Makes a call between the marks.
@@ -11,7 +11,7 @@ macro_rules! marked {
     }};
 }
 
-/// Copies a value between the marks. True where the copy is that value.
+/// Copies a value between the marks. Returns `true` if the copy equals it.
 macro_rules! clones {
     ($rt:expr, $value:expr) => {{
         let value = $value;
@@ -20,7 +20,7 @@ macro_rules! clones {
     }};
 }
 
-/// Makes a value own its texts between the marks. True where that is the same value.
+/// Makes a value own its strings between the marks. Returns `true` if the result equals it.
 macro_rules! owns {
     ($rt:expr, $value:expr) => {{
         let value = $value;
@@ -29,7 +29,7 @@ macro_rules! owns {
     }};
 }
 
-/// Makes calls that take no memory, each between marks of its own, and tells what came of them.
+/// Makes calls that do not allocate, each between its own marks, and reports their results.
 macro_rules! tell_free {
     ($rt:expr; $($name:literal: $are_right:expr;)+) => {{
         $($crate::mark::tell($rt, $name, Ok(marked!($rt, $are_right)))?;)+
@@ -37,7 +37,7 @@ macro_rules! tell_free {
     }};
 }
 
-/// A table: each row stands in a line, and is a tuple.
+/// A table: each row is a line, and a tuple.
 macro_rules! rows {
     ($($($part:expr),+;)+) => { [$(($($part),+)),+] };
 }
@@ -46,6 +46,7 @@ mod answer;
 mod arrays;
 mod builders;
 mod call;
+mod deep;
 mod documents;
 mod equals;
 mod long;
@@ -63,25 +64,37 @@ mod selections;
 mod values;
 mod wholes;
 
+use deep::Input;
 use std::{env, io};
 
-/// How many parts documents and texts have that are long enough for growths that come late.
+/// The number of parts of documents and text that are long enough for late allocations.
 const MANY: u64 = 40;
 
 fn main(rt: HostRuntime) -> io::Result<()> {
-    small(&rt)?;
-    without_memory(&rt)?;
-    many_parts(&rt, MANY)?;
-    long::depths(&rt, 40)?;
-    if env::args(&rt)?.count() > 1 {
-        many_parts(&rt, 100_000)?;
-        long::texts(&rt, 1_000_000)?;
-        long::depths(&rt, 255)?;
+    // (In a statement of its own, so that the arguments are freed before the calls are counted.)
+    let word = env::args(&rt)?.nth(1);
+    match word {
+        Some(word) if word.as_str() == "document" => deep::calls(&rt, Input::Document),
+        Some(word) if word.as_str() == "path" => deep::calls(&rt, Input::Path),
+        word => each_call(&rt, word.is_some()),
+    }
+}
+
+/// Makes each call, with `is_large` also on large documents.
+fn each_call(rt: &HostRuntime, is_large: bool) -> io::Result<()> {
+    small(rt)?;
+    without_memory(rt)?;
+    many_parts(rt, MANY)?;
+    long::depths(rt, 40)?;
+    if is_large {
+        many_parts(rt, 100_000)?;
+        long::texts(rt, 1_000_000)?;
+        long::depths(rt, 255)?;
     }
     Ok(())
 }
 
-/// The calls on the documents and texts of their rows.
+/// The calls on the documents and text of their rows.
 fn small(rt: &HostRuntime) -> io::Result<()> {
     values::cases(rt)?;
     builders::arrays(rt)?;
@@ -98,7 +111,7 @@ fn small(rt: &HostRuntime) -> io::Result<()> {
     selections::others(rt)
 }
 
-/// The calls that take no memory.
+/// The calls that do not allocate.
 fn without_memory(rt: &HostRuntime) -> io::Result<()> {
     reads::cases(rt)?;
     scalars::cases(rt)?;
@@ -108,7 +121,7 @@ fn without_memory(rt: &HostRuntime) -> io::Result<()> {
     prints::cases(rt)
 }
 
-/// The calls on documents and texts of that many parts.
+/// The calls on documents and text of that many parts.
 fn many_parts(rt: &HostRuntime, count: u64) -> io::Result<()> {
     many::elements(rt, count)?;
     many::pairs(rt, count)?;

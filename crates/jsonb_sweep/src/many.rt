@@ -1,4 +1,4 @@
-//! Calls on documents of many parts, in which growths come late.
+//! Calls on documents of many items, whose allocations come late.
 
 use crate::answer::Wanted;
 use crate::call::{Call, Key, asked, asked_again};
@@ -45,7 +45,7 @@ impl Kind {
 enum ManyCall {
     /// One that gives the document back.
     Keep(Call<'static>),
-    /// One that answers the same again.
+    /// A call that returns the same result again.
     Again(Call<'static>),
     Intersection,
     Values,
@@ -126,14 +126,14 @@ static OF_OBJECTS: [(&str, ManyCall); 10] = rows! {
     "ObjectBuilder::build", ManyCall::BuildObject;
 };
 
-/// Makes the calls on an array of that many elements, and tells what came of each.
+/// Makes the calls on an array of that many elements, and reports each result.
 pub fn elements(rt: &HostRuntime, count: u64) -> io::Result<()> {
     ask_each(rt, Kind::Elements, count, &ARRAYS_CHANGED)?;
     ask_each(rt, Kind::Elements, count, &KEYS_OF)?;
     ask_each(rt, Kind::Elements, count, &OF_ARRAYS)
 }
 
-/// Makes the calls on an object of that many pairs, and tells what came of each.
+/// Makes the calls on an object of that many members, and reports each result.
 pub fn pairs(rt: &HostRuntime, count: u64) -> io::Result<()> {
     ask_each(rt, Kind::Pairs, count, &OBJECTS_CHANGED)?;
     ask_each(rt, Kind::Pairs, count, &KEYS_OF)?;
@@ -217,7 +217,7 @@ fn keys(rt: &HostRuntime, document: &[u8], count: u64) -> Result<bool, Error> {
     })
 }
 
-/// The keys as an array of texts, one of which is deleted.
+/// The keys as an array of strings, one of which is deleted.
 fn delete_text(rt: &HostRuntime, document: &[u8]) -> Result<bool, Error> {
     let Some(keys) = RawJsonb::new(document).object_keys(rt.alloc())? else {
         return Ok(false);
@@ -255,7 +255,7 @@ enum Given {
     Truth(bool),
 }
 
-/// The name of a selection of many elements, what is asked for, by which path, and what that is to give.
+/// The name of a selection of many elements, its call, its path, and the expected result.
 type Selecting = (&'static str, Selection, &'static [u8], Given);
 
 static SELECTING: [Selecting; 9] = rows! {
@@ -276,7 +276,7 @@ static WAYS: [(&str, Way); 3] = rows! {
     "by path", Way::ByPath;
 };
 
-/// Makes selections of many elements, and tells what came of each.
+/// Makes selections of many elements, and reports each result.
 pub fn selections(rt: &HostRuntime, count: u64) -> io::Result<()> {
     for selecting in &SELECTING {
         for (word, way) in &WAYS {

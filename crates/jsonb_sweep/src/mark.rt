@@ -1,11 +1,11 @@
-//! The marks around a call, and the line that tells what came of it.
+//! The marks around a call, and the line that reports its result.
 
 use jsonb::Error;
 use std::fmt::Display;
 use std::io;
 
-/// Marks where a call begins: from here on growths are counted, and refused. A mark that is not written shows in the
-/// count.
+/// Marks the beginning of a call: from here on allocations are counted, and fail. A mark that is not written shows in
+/// the count.
 pub fn begin(rt: &HostRuntime) {
     let _ = print!(rt; "[");
 }
@@ -15,7 +15,7 @@ pub fn end(rt: &HostRuntime) {
     let _ = print!(rt; "]");
 }
 
-/// Tells whether a case was right, or its call refused for memory. The case holds no memory any more.
+/// Reports whether a case was right, or an allocation of its call failed. The case has freed its memory by then.
 pub fn tell<N: Display + Drop>(
     rt: &HostRuntime,
     name: N,

@@ -5,7 +5,7 @@ use std::alloc::AllocError;
 use std::cmp::Ordering;
 use std::io;
 
-/// Makes the calls, and tells what came of each kind.
+/// Makes the calls, and reports the results of each type.
 pub fn cases(rt: &HostRuntime) -> io::Result<()> {
     tell_free! { rt;
         "Number::add, sub, mul, div, rem, neg": arithmetic(Number::UInt64(20), Number::Int64(-5));

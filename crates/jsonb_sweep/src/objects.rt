@@ -22,7 +22,7 @@ static CASES: [Case; 8] = rows! {
     "delete_by_name", Call::Delete("a"), LETTERS, Wanted::Document(ONLY_C);
 };
 
-/// Makes each case, and tells what came of it.
+/// Runs each case, and reports its result.
 pub fn cases(rt: &HostRuntime) -> io::Result<()> {
     ask_each(rt, &CASES)?;
     tell(rt, "object_pick", Picking::Pick.picks_a(rt, ONLY_A))?;

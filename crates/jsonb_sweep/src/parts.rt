@@ -11,7 +11,7 @@ use std::alloc::Global;
 use std::borrow::CowStr;
 use std::io;
 
-/// A call on a part of a path that has a text.
+/// A call on a part of a path that has a string.
 #[derive(Clone, Copy)]
 pub enum PartCall {
     CloneBorrowedKey,
@@ -50,7 +50,7 @@ impl PartCall {
     }
 }
 
-/// A text of its own.
+/// Returns an owned string.
 fn owned(alloc: Global, text: &str) -> Result<CowStr<'static, Global>, Error> {
     Ok(CowStr::Owned(String::from_str(alloc, text)?))
 }
@@ -105,7 +105,7 @@ static OF_JSON_PATHS: [(&str, PartCall); 7] = rows! {
     "PathValue::to_owned", PartCall::OwnLiteral;
 };
 
-/// Makes each call on a part with this text, and tells what came of it.
+/// Makes each call on a part with this string, and reports its result.
 fn ask_each(rt: &HostRuntime, text: &str, calls: &[(&str, PartCall)]) -> io::Result<()> {
     for (name, call) in calls {
         tell(rt, *name, call.ask(rt, text))?;
@@ -121,7 +121,7 @@ pub fn of_json_paths(rt: &HostRuntime) -> io::Result<()> {
     ask_each(rt, "c", &OF_JSON_PATHS)
 }
 
-/// Makes each case of a token, and tells what came of it.
+/// Runs each case of a token, and reports its result.
 pub fn tokens(rt: &HostRuntime) -> io::Result<()> {
     for (kind, name, quoted) in [
         ("a plain text", b"abc,d".as_slice(), b"\"abc\",d".as_slice()),
@@ -135,19 +135,19 @@ pub fn tokens(rt: &HostRuntime) -> io::Result<()> {
     Ok(())
 }
 
-/// Whether the name in front of `,d` reads as this text.
+/// Returns `true` if the name before `,d` parses as this string.
 pub fn reads_name(rt: &HostRuntime, input: &[u8], text: &str) -> Result<bool, Error> {
     let answer = marked!(rt, read_name(rt.alloc(), input));
     Ok(is_in_front(answer?, text))
 }
 
-/// Whether the quoted text in front of `,d` reads as this one.
+/// Returns `true` if the quoted string before `,d` parses as this one.
 pub fn reads_quoted(rt: &HostRuntime, input: &[u8], text: &str) -> Result<bool, Error> {
     let answer = marked!(rt, read_quoted(rt.alloc(), input));
     Ok(is_in_front(answer?, text))
 }
 
-/// Whether a token is this text with `,d` behind it.
+/// Returns `true` if a token is this string with `,d` after it.
 fn is_in_front(found: Option<(CowStr<'_, Global>, &[u8])>, wanted: &str) -> bool {
     match found {
         Some((text, rest)) => text.as_str() == wanted && rest == b",d".as_slice(),

@@ -1,4 +1,4 @@
-//! The calls on texts of paths: key paths and JSON paths are read, copied, and made to own their texts.
+//! The calls on text of paths: key paths and JSON paths are parsed, copied, and made to own their strings.
 
 use crate::answer::prints;
 use crate::mark::tell;
@@ -34,13 +34,13 @@ pub static JSON_PATH_CALLS: [(&str, PathCall); 3] = rows! {
     "JsonPath::to_owned", PathCall::OwnJson;
 };
 
-/// The key path of a text, with texts of its own.
+/// Parses a key path, with owned strings.
 fn owned(alloc: Global, text: &[u8]) -> Result<OwnedKeyPaths, Error> {
     parse_key_paths(alloc, text)?.to_owned(alloc)
 }
 
 impl PathCall {
-    /// Makes the call on the path of a text. True where what comes of it is that path, which prints so.
+    /// Makes the call on the path of this text. Returns `true` if its result equals that path, and prints so.
     pub fn ask(self, rt: &HostRuntime, text: &[u8], printed: &str) -> Result<bool, Error> {
         let alloc = rt.alloc();
         match self {
@@ -68,7 +68,7 @@ fn as_key_paths(rt: &HostRuntime, text: &[u8]) -> Result<bool, Error> {
     Ok(answer? == parse_key_paths(rt.alloc(), text)?)
 }
 
-/// A kind of texts, one of them, and what it prints as.
+/// A sort of path, the text of one, and its printed form.
 type Row = (&'static str, &'static [u8], &'static str);
 
 static KEY_PATHS: [Row; 3] = rows! {
@@ -85,7 +85,7 @@ static JSON_PATHS: [Row; 4] = rows! {
         "$.store.book[0].abc?(@.x == \"y\\\"\" && exists(@.z[*]?(@.w > -1)))";
 };
 
-/// Makes each call on each text, and tells what came of it.
+/// Makes each call on each text, and reports its result.
 fn ask_each(rt: &HostRuntime, rows: &[Row], calls: &[(&str, PathCall)]) -> io::Result<()> {
     for (kind, text, printed) in rows {
         for (name, call) in calls {

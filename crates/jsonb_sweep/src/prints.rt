@@ -1,4 +1,4 @@
-//! Printing into a text of fixed size.
+//! Printing into text of fixed size.
 
 use crate::documents::*;
 use crate::mark::tell;
@@ -10,7 +10,7 @@ use jsonb::{
 use std::fmt::{Display, Write};
 use std::io;
 
-/// Makes each case, and tells what came of it.
+/// Runs each case, and reports its result.
 pub fn cases(rt: &HostRuntime) -> io::Result<()> {
     let fault = Error::Arithmetic(ArithmeticFault::ZeroDivisor);
     tell(
@@ -31,7 +31,7 @@ pub fn cases(rt: &HostRuntime) -> io::Result<()> {
     tell(rt, "Display of JsonPath", json_paths(rt))
 }
 
-/// Prints a value between the marks. True where that is this text.
+/// Prints a value between the marks. Returns `true` if that is this text.
 fn prints<T: Display>(rt: &HostRuntime, value: &T, text: &str) -> bool {
     let mut printed = ArrayString::<128>::new();
     let written = marked!(rt, write!(printed, "{value}"));

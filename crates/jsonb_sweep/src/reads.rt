@@ -1,4 +1,4 @@
-//! The calls that read documents without memory: checks, roots, iterators, spots, and questions of whole documents.
+//! The calls that read documents without allocating: checks, roots, iterators, spots, and queries of whole documents.
 
 use crate::documents::*;
 use jsonb::{
@@ -7,7 +7,7 @@ use jsonb::{
 };
 use std::io;
 
-/// Makes the calls, and tells what came of each kind.
+/// Makes the calls, and reports the results of each type.
 pub fn cases(rt: &HostRuntime) -> io::Result<()> {
     tell_free! { rt;
         "check": check(PHONES) == Ok(()) && RawJsonb::new(PHONES).check() == Ok(());

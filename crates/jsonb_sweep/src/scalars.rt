@@ -26,7 +26,7 @@ const TIMESTAMP_TZ: &[u8] =
 const INTERVAL: &[u8] =
     b" \x00\x00\x00\x60\x00\x00\x11\x40\x00\x00\x00\x01\x00\x00\x00\x02\x00\x00\x00\x00\x00\x00\x00\x03";
 
-/// Makes the tests and the casts of each scalar, and tells what came of them.
+/// Makes the tests and the casts of each scalar, and reports their results.
 pub fn cases(rt: &HostRuntime) -> io::Result<()> {
     tell_free! { rt;
         "tests and casts of null": of_null(RawJsonb::new(NULL));
@@ -42,7 +42,7 @@ pub fn cases(rt: &HostRuntime) -> io::Result<()> {
     }
 }
 
-/// What the tests of a scalar answer, by the names of the calls behind `is_`: null, boolean, number, string, array,
+/// The results of the tests of a scalar, by the names of the calls after `is_`: null, boolean, number, string, array,
 /// object, extension_value, binary, date, timestamp, timestamp_tz, interval, i64, u64.
 fn tests(scalar: RawJsonb<'_>) -> [Result<bool, Error>; 14] {
     [
@@ -63,7 +63,7 @@ fn tests(scalar: RawJsonb<'_>) -> [Result<bool, Error>; 14] {
     ]
 }
 
-/// Whether the tests at these positions, and those alone, answer true.
+/// Returns `true` if the tests at these positions, and no others, return `true`.
 fn only(scalar: RawJsonb<'_>, positions: &[usize]) -> bool {
     tests(scalar).iter().enumerate().all(|(position, answer)| *answer
         == Ok(positions.contains(&position)))

@@ -7,7 +7,7 @@ use jsonb::{Error, JsonPath, RawJsonb, SelectByPath, Selector, parse_json_path};
 use std::alloc::Global;
 use std::io;
 
-/// What is asked for.
+/// The call of a selection.
 #[derive(Clone, Copy)]
 pub enum Selection {
     Values,
@@ -55,7 +55,7 @@ impl Selection {
     }
 }
 
-/// How a selection is asked for.
+/// The way in which a selection is called.
 #[derive(Clone, Copy)]
 pub enum Way {
     Lax,
@@ -63,7 +63,7 @@ pub enum Way {
     ByPath,
 }
 
-/// What is asked for, by which path, of which document, and what that is to give.
+/// The call, its path, its document, and the expected result.
 pub type Asked<'a> = (Selection, &'static [u8], &'a [u8], Wanted<'a>);
 
 /// Asks between the marks.
@@ -82,7 +82,7 @@ pub fn ask(rt: &HostRuntime, asked: &Asked<'_>, way: Way) -> Result<bool, Error>
     is_given_twice(rt, selector, &path, selection, wanted)
 }
 
-/// Asks a selector between the marks, and again behind them: it answers as a new one.
+/// Calls a selector between the marks, and again after them: it returns what a new one does.
 fn is_given_twice(
     rt: &HostRuntime,
     new: Selector<'_>,
@@ -118,7 +118,7 @@ static CALLS: [(&str, &str, Asked<'static>); 6] = rows! {
         (Selection::Truth, b"$.phones[*].number > 5000000 && exists($.name)", PHONES, Wanted::Truth(true));
 };
 
-/// Makes the six calls, and tells what came of each.
+/// Makes the six calls, and reports each result.
 pub fn calls(rt: &HostRuntime) -> io::Result<()> {
     for (of_selector, of_trait, asked) in &CALLS {
         let is_right = ask(rt, asked, Way::Lax);
@@ -152,7 +152,7 @@ static OTHERS: [(&str, Asked<'static>); 9] = rows! {
     "select_first of none", (Selection::First, b"$.phones[2]", PHONES, Wanted::Nothing);
 };
 
-/// Makes the other selections, and tells what came of each.
+/// Makes the other selections, and reports each result.
 pub fn others(rt: &HostRuntime) -> io::Result<()> {
     for (name, asked) in &OTHERS {
         tell(rt, *name, ask(rt, asked, Way::Lax))?;

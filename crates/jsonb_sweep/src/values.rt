@@ -18,7 +18,7 @@ static DOCUMENTS: [(&str, &[u8]); 6] = [
     ("a nested document", NESTED),
 ];
 
-/// Makes each case, and tells what came of it.
+/// Runs each case, and reports its result.
 pub fn cases(rt: &HostRuntime) -> io::Result<()> {
     for (kind, document) in &DOCUMENTS {
         let is_right = encode(rt, document);
@@ -71,7 +71,7 @@ pub fn clone_own_text(rt: &HostRuntime, text: &str) -> Result<bool, Error> {
     clones!(rt, Value::String(CowStr::Owned(text)))
 }
 
-/// The payload of bytes is a byte of 0 and the bytes. After a refusal what was there is there.
+/// The payload of bytes is a byte of 0 and the bytes. After an error the buffer is unchanged.
 pub fn push_payload(rt: &HostRuntime, bytes: &[u8]) -> Result<bool, Error> {
     let mut payload = Vec::from_slice(rt.alloc(), b"front")?;
     let binary = ExtensionValue::Binary(bytes);

@@ -1,4 +1,4 @@
-//! The calls on whole documents: joining, stripping, keys and texts, and the places of key paths.
+//! The calls on whole documents: concatenation, stripping, keys and strings, and the values of key paths.
 
 use crate::answer::{Answer, Wanted};
 use crate::call::{Call, Case, Key, ask_each, asked};
@@ -33,7 +33,13 @@ const KEY_OF_ARRAY: &[u8] = b"\x00\x07\x01\x04\x81\x03\xe9\x02\x00";
 /// Its wide key.
 const WIDE_KEY_OF_ARRAY: &[u8] = b"\x00\x00\x07\x00\x01\x04\x81\x03\xe9\x02\x00";
 
-static CASES: [Case; 15] = rows! {
+/// The composite key of `[1]` and a missing value.
+const COMPOSITE_KEY: &[u8] = b"\x00\x07\x01\x04\x81\x03\xe9\x02\x00\x00\x00";
+
+/// Its wide form.
+const WIDE_COMPOSITE_KEY: &[u8] = b"\x00\x00\x07\x00\x01\x04\x81\x03\xe9\x02\x00\x00\x00\x00";
+
+static CASES: [Case; 17] = rows! {
     "concat of arrays", Call::Concat(ONE_ELEMENT), TENS, Wanted::Document(TENS_AND_ONE);
     "concat of objects", Call::Concat(ONLY_A), LETTERS, Wanted::Document(LETTERS);
     "strip_nulls", Call::StripNulls, NULLS, Wanted::Document(STRIPPED);
@@ -45,13 +51,15 @@ static CASES: [Case; 15] = rows! {
     "convert_to_comparable_into", Call::Push(Key::Comparable), ONE_ELEMENT, Wanted::Bytes(KEY_OF_ARRAY);
     "convert_to_comparable_wide_into", Call::Push(Key::ComparableWide), ONE_ELEMENT, Wanted::Bytes(WIDE_KEY_OF_ARRAY);
     "equality_key_into", Call::Push(Key::Equality), ONE_ELEMENT, Wanted::Bytes(b"\x07\x00\x00\x00\x01\x04\x81\x03\xe9\x02\x00");
+    "push_column_key", Call::Composite, ONE_ELEMENT, Wanted::Bytes(COMPOSITE_KEY);
+    "push_column_key_wide", Call::CompositeWide, ONE_ELEMENT, Wanted::Bytes(WIDE_COMPOSITE_KEY);
     "to_str of a text", Call::ToStr, V, Wanted::Text("v");
     "to_str of a decimal", Call::ToStr, PRICE, Wanted::Text("12.34");
     "as_binary", Call::AsBinary, BYTES, Wanted::Bytes(b"abc");
     "as_binary of a number", Call::AsBinary, ONE, Wanted::Nothing;
 };
 
-/// Makes each case, and tells what came of it.
+/// Runs each case, and reports its result.
 pub fn cases(rt: &HostRuntime) -> io::Result<()> {
     ask_each(rt, &CASES)?;
     tell(rt, "equality_key", equality_key(rt))?;

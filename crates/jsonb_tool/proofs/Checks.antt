@@ -8,7 +8,7 @@ use Rattle.jsonb.specs.Payload.{any}
 use Rattle.jsonb.specs.Format.{Decodes, WouldDecode}
 use Rattle.jsonb_tool.specs.Output.{IsDamage}
 
--- an error of a check says why the bytes are no document
+-- an error of a check says why the bytes are not a document
 pub damage_of_check : (bytes : List ℕ) (e : Error)
     → IsOk {T = Unit {0}} {E = Error} (Err e) ↔ ((t : Tree) × Decodes any bytes t)
     → IsErrOf {T = Unit {0}} (Err e) UnsupportedNumber

@@ -16,7 +16,7 @@ use Rattle.jsonb.proofs.LeafPlaces.{each_in_place}
 use Rattle.jsonb_tool.specs.Output.{AreLeafLines, ShowsEachLeaf}
 use Rattle.jsonb_tool.specs.Views.{leaf_line, leaf_lines}
 
--- each leaf stands at its place in the tree
+-- each leaf is at its location in the tree
 abbrev AreInPlace : Tree → List Leaf → Type 0
 AreInPlace t all = AllByRecursion (λ leaf. tree_at_steps leaf.0 t ≡ Some leaf.1) all
 

@@ -1,4 +1,4 @@
--- From the answer of a look-up to the lines that show it.
+-- From the result of a look-up to the lines that show it.
 use Rattle.std.proofs.Common.{◌≡◌, ◌++◌, ℕ, List, Option, Some, None, Result, Ok, Err, ◌⊎◌, inl, inr, refl, ap, codes}
 use Rattle.std.specs.Prelude.{Vec}
 use Rattle.std.specs.Int.{w8}
@@ -27,14 +27,14 @@ ShowsTree-found form None (Some d) h = cc
 ShowsTree-found form (Some t) None h = absurd h
 ShowsTree-found form (Some t) (Some d) h = (d, h, refl)
 
--- another refusal than want of memory says that the tree is too large
+-- an error other than `OutOfMemory` means that the tree is too large
 ShowsTree-refused : (form : Form) (o : Option Tree) (e : Error)
     → (e ≡ OutOfMemory → ⊥) → MakesOption form o (Err e) → ShowsTree form o (Err e)
 ShowsTree-refused form None e other h = absurd (other h)
 ShowsTree-refused form (Some t) e other (inl h) = absurd (other h)
 ShowsTree-refused form (Some t) e other (inr h) = h
 
--- the refusal of a look-up in bytes that decode: want of memory, or an outcome on the document
+-- the error of a look-up in bytes that decode: `OutOfMemory`, or an outcome on the document
 ShowsTree-refusals : (bytes : List ℕ) (meant : Tree → Option Tree) (e : Error)
     → ((t : Tree) × Decodes any bytes t)
     → ((form : Form) (t : Tree) → Decodes form bytes t → MakesOption form (meant t) (Err e))
@@ -43,45 +43,45 @@ ShowsTree-refusals bytes meant OutOfMemory decodes h = inl refl
 ShowsTree-refusals bytes meant e decodes h =
     inr (inl (decodes, λ form t d. ShowsTree-refused form (meant t) e (λ q. cc) (h form t d)))
 
--- ---- the outcome of `get`, where its path reads as these steps and the bytes decode
+-- ---- the outcome of `get`, if its path parses as these steps and the bytes decode
 
--- what a look-up by the steps answers
+-- the result of a look-up by the steps
 abbrev pub LooksUp : List Key → List ℕ → Result (Option OwnedJsonb) Error → Type 0
 LooksUp steps bytes r = (form : Form) (t : Tree) → Decodes form bytes t → MakesOption form (tree_at_steps steps t) r
 
--- the lines of `get` where the look-up answered
+-- the lines of `get` if the look-up succeeded
 pub Gets-found : (path bytes : List ℕ) (steps : List Key) (found : Option OwnedJsonb) (lines : List ℕ)
     → key_path path ≡ Some steps → ((t : Tree) × Decodes any bytes t) → LooksUp steps bytes (Ok found)
     → lines ≡ found_text found → ShowsTreeAt (key_path path) bytes (Ok lines)
 Gets-found path bytes steps found lines read decodes looked line =
     rw (read, line) (inl (decodes, λ form t h. ShowsTree-found form (tree_at_steps steps t) found (looked form t h)))
 
--- its refusal where the look-up refused
+-- its error if the look-up failed
 pub Gets-refused : (path bytes : List ℕ) (steps : List Key) (e : Error)
     → key_path path ≡ Some steps → ((t : Tree) × Decodes any bytes t) → LooksUp steps bytes (Err e)
     → (e ≡ OutOfMemory) ⊎ ShowsTreeAt (key_path path) bytes (Err e)
 Gets-refused path bytes steps e read decodes looked =
     rw read (ShowsTree-refusals bytes (tree_at_steps steps) e decodes looked)
 
--- ---- the outcome of `key`, where the bytes decode
+-- ---- the outcome of `key`, if the bytes decode
 
--- what the making of the key answers
+-- the result of building the key
 abbrev pub MakesKeyOf : List ℕ → Result (Vec ℕ Global) Error → Type 0
 MakesKeyOf bytes r = (form : Form) (t : Tree) → Decodes form bytes t → MakesKey w8 t r
 
--- the line of `key` where a key was made
+-- the line of `key` if a key was built
 pub ShowsKeyOf-made : (bytes : List ℕ) (made : Vec ℕ Global) (lines : List ℕ)
     → ((t : Tree) × Decodes any bytes t) → MakesKeyOf bytes (Ok made) → lines ≡ encode_lower made.items ++ codes "\n"
     → ShowsKeyOf bytes (Ok lines)
 ShowsKeyOf-made bytes made lines decodes h line =
     rw line (inl (decodes, λ form t d. let k = h form t d in (ap (λ (xs : List ℕ). encode_lower xs ++ codes "\n") k.0, k.1)))
 
--- a refusal other than want of memory says that the tree is too deep
+-- an error other than `OutOfMemory` means that the tree is too deep
 ShowsKey-refused : (t : Tree) (e : Error) → (e ≡ OutOfMemory → ⊥) → IsOutOfMemoryOrTooDeep (deepest t) (depths w8) e → ShowsKey t (Err e)
 ShowsKey-refused t e other (inl h) = absurd (other h)
 ShowsKey-refused t e other (inr h) = h
 
--- its refusal where no key was made
+-- its error if no key was built
 pub ShowsKeyOf-refused : (bytes : List ℕ) (e : Error)
     → ((t : Tree) × Decodes any bytes t) → MakesKeyOf bytes (Err e)
     → (e ≡ OutOfMemory) ⊎ ShowsKeyOf bytes (Err e)

@@ -22,7 +22,7 @@ use Rattle.jsonb_tool.specs.Views.{found_lines}
 
 -- ---- `select`
 
--- what a selection by the path answers
+-- the result of a selection by the path
 abbrev pub SelectsBy : List Step → List ℕ → Result (Vec OwnedJsonb Global) Error → Type 0
 SelectsBy path bytes r = (form : Form) (top : Tree) (outcome : Result (List Tree) Error) → Decodes form bytes top → Means form Lax path top outcome
     → Gives (λ v ts. AllZip (Decodes form) v.items ts) (IsOutOfMemory or TooLarge when IsOkAnd outcome (Any (IsTooLarge form))) r outcome
@@ -44,7 +44,7 @@ too_large_list : (form : Form) (ts : List Tree) (e : Error) → e ≡ TooLarge �
 too_large_list form [] e is h = absurd (omega (arith, h.2))
 too_large_list form (t ∷ ts) e is h = (is, h)
 
--- another refusal than want of memory is that of the path, or says that a tree is too large
+-- an error other than `OutOfMemory` is that of the path, or means that a tree is too large
 shows_refusal : (form : Form) (o : Result (List Tree) Error) (e : Error) → (e ≡ OutOfMemory → ⊥)
     → Gives (λ (w : Vec OwnedJsonb Global) ts. AllZip (Decodes form) w.items ts) (IsOutOfMemory or TooLarge when IsOkAnd o (Any (IsTooLarge form))) (Err e) o
     → ShowsList form o (Err e)
@@ -57,14 +57,14 @@ shows_refusal form (Err f) e other h = elim h.err [
   | inr is ↦ let same : f ≡ e = cc in rw same refl
 ]
 
--- the lines of `select` where the selection answered
+-- the lines of `select` if the selection succeeded
 pub Selects-found : (text bytes : List ℕ) (path : List Step) (found : Vec OwnedJsonb Global) (lines : List ℕ)
     → json_path text ≡ Some path → ((t : Tree) × Decodes any bytes t) → SelectsBy path bytes (Ok found)
     → lines ≡ found_lines found.items → ShowsSelection (json_path text) bytes (Ok lines)
 Selects-found text bytes path found lines read decodes selected line =
     rw (read, line) (inl (decodes, λ form t d. shows_list form (meaning Lax path t) found (selected form t _ d (read_means form Lax text path t read))))
 
--- its refusal where the selection refused
+-- its error if the selection failed
 pub Selects-refused : (text bytes : List ℕ) (path : List Step) (e : Error)
     → json_path text ≡ Some path → ((t : Tree) × Decodes any bytes t) → SelectsBy path bytes (Err e)
     → (e ≡ OutOfMemory) ⊎ ShowsSelection (json_path text) bytes (Err e)
@@ -74,7 +74,7 @@ Selects-refused text bytes path e read decodes selected =
 
 -- ---- `match`
 
--- what a match by the path answers
+-- the result of a match by the path
 abbrev pub MatchesBy : List Step → List ℕ → Result Truth Error → Type 0
 MatchesBy path bytes r = (form : Form) (top : Tree) → Decodes form bytes top → Gives (λ b c. b ≡ c) IsOutOfMemory r (predicate Lax path top)
 

@@ -1,4 +1,4 @@
--- What comes of a command: the lines that it prints, or its refusal.
+-- The outcome of a command: the lines that it prints, or its error.
 use Rattle.std.specs.Prelude.{◌≡◌, ◌⊎◌, ◌<◌, ◌≤◌, ℕ, true, false, List, [], ◌∷◌, ◌++◌, flat_map, Option, Some, None, Result, Ok, Err, IsSomeAnd, IsOkAnd, IsErrAnd, codes}
 use Rattle.std.specs.Int.{w8}
 use Rattle.std.specs.List.{Any, AllZip}
@@ -24,41 +24,41 @@ use Rattle.jsonb.specs.declared.selector.document.Mode.TheVariants.{Lax}
 use Rattle.hex.specs.Hex.{encode_lower}
 use Rattle.jsonb_tool.specs.Requests.{Request, get, key, leaves, select, path_match}
 
--- the lines that a command prints, each with its line feed, or its refusal
+-- the lines that a command prints, each with its line feed, or its error
 abbrev pub Output : Type 0
 Output = Result (List ℕ) Error
 
--- why bytes are no document: they would be one if each float and each decimal of 256 bits were a number, or not even
+-- why bytes are not a document: they would be one if each float and each 256-bit decimal were a number, or not even
 -- then
 abbrev pub IsDamage : List ℕ → Error → Type 0
 IsDamage bytes UnsupportedNumber = IsUnsupportedDocument bytes
 IsDamage bytes InvalidJsonb = IsNoDocument bytes
 IsDamage bytes _ = ⊥
 
--- The outcome is as said of the tree that the bytes decode to, in each form in which they do.
--- Where they don't decode, it is the refusal that says why.
+-- The outcome satisfies this for the tree that the bytes decode to, in each form in which they do. If they do not
+-- decode, it is the error that says why.
 abbrev pub OnDocument : List ℕ → (Form → Tree → Output → Type 0) → Output → Type 0
 OnDocument bytes IsOutcomeOn outcome =
     (((t : Tree) × Decodes any bytes t)
     × ((form : Form) (t : Tree) → Decodes form bytes t → IsOutcomeOn form t outcome))
     ⊎ IsErrAnd outcome (IsDamage bytes)
 
--- The line is a document of the tree in hexadecimal, or `none` where there is no tree.
--- The refusal is that the tree is too large for a document.
+-- The line is a document of the tree in hexadecimal, or `none` if there is no tree. The error is that the tree is too
+-- large for a document.
 abbrev pub ShowsTree : Form → Option Tree → Output → Type 0
 ShowsTree form None outcome = outcome ≡ Ok (codes "none\n")
 ShowsTree form (Some t) (Ok lines) =
     (bytes : List ℕ) × Decodes form bytes t × (lines ≡ encode_lower bytes ++ codes "\n")
 ShowsTree form (Some t) (Err e) = (e ≡ TooLarge) × IsTooLarge form t
 
--- `get`: the tree at the place that the steps meet, where the path is a key path
+-- `get`: the tree at the location of the steps, if the path is a key path
 abbrev pub ShowsTreeAt : Option (List Key) → List ℕ → Output → Type 0
 ShowsTreeAt None document outcome = outcome ≡ Err InvalidKeyPath
 ShowsTreeAt (Some steps) document outcome =
     OnDocument document (λ form t. ShowsTree form (tree_at_steps steps t)) outcome
 
--- The line is the sortable key of the tree in hexadecimal.
--- The refusal is that an item of the tree lies too deep for a key.
+-- The line is the sortable key of the tree in hexadecimal. The error is that an item of the tree is too deep for a
+-- key.
 abbrev pub ShowsKey : Tree → Output → Type 0
 ShowsKey t (Ok lines) = (lines ≡ encode_lower (sortable.sortable_key w8 t 0) ++ codes "\n") × (deepest t < depths w8)
 ShowsKey t (Err e) = (e ≡ TooDeep) × (depths w8 ≤ deepest t)
@@ -74,13 +74,13 @@ IsLeafLine form t steps line =
     (bytes : List ℕ) × IsSomeAnd (tree_at_steps steps t) (Decodes form bytes)
     × (line ≡ encode_lower bytes ++ codes " " ++ key_path_text steps ++ codes "\n")
 
--- the lines of these leaves of a tree, one behind the other
+-- the lines of these leaves of a tree, one after the other
 abbrev pub AreLeafLines : Form → Tree → List Leaf → List ℕ → Type 0
 AreLeafLines form t [] lines = lines ≡ []
 AreLeafLines form t (leaf ∷ others) lines =
     (line rest : List ℕ) × IsLeafLine form t leaf.0 line × AreLeafLines form t others rest × (lines ≡ line ++ rest)
 
--- the lines of these leaves of a tree, or `none` where there are none
+-- the lines of these leaves of a tree, or `none` if there are none
 abbrev pub ShowsEachLeaf : Form → Tree → List Leaf → List ℕ → Type 0
 ShowsEachLeaf form t [] lines = lines ≡ codes "none\n"
 ShowsEachLeaf form t (leaf ∷ others) lines = AreLeafLines form t (leaf ∷ others) lines
@@ -94,8 +94,8 @@ ShowsLeavesOf document outcome =
 abbrev pub document_line : List ℕ → List ℕ
 document_line bytes = encode_lower bytes ++ codes "\n"
 
--- The lines are documents of the trees in hexadecimal, in order, or `none` where there are no trees.
--- The refusal is that one of the trees is too large for a document.
+-- The lines are documents of the trees in hexadecimal, in order, or `none` if there are no trees. The error is that
+-- one of the trees is too large for a document.
 abbrev pub ShowsTrees : Form → List Tree → Output → Type 0
 ShowsTrees form [] outcome = outcome ≡ Ok (codes "none\n")
 ShowsTrees form (t ∷ ts) (Ok lines) =
@@ -103,12 +103,12 @@ ShowsTrees form (t ∷ ts) (Ok lines) =
     × (lines ≡ flat_map document_line documents)
 ShowsTrees form (t ∷ ts) (Err e) = (e ≡ TooLarge) × Any (IsTooLarge form) (t ∷ ts)
 
--- what a path has on a tree: its list, or its refusal
+-- the meaning of a path on a tree: its list, or its error
 abbrev pub ShowsList : Form → Result (List Tree) Error → Output → Type 0
 ShowsList form (Ok ts) outcome = ShowsTrees form ts outcome
 ShowsList form (Err e) outcome = outcome ≡ Err e
 
--- `select`: the list of the path in lax mode, where it is a path
+-- `select`: the list of the path in lax mode, if it is a path
 abbrev pub ShowsSelection : Option (List Step) → List ℕ → Output → Type 0
 ShowsSelection None document outcome = outcome ≡ Err InvalidJsonPath
 ShowsSelection (Some path) document outcome =
@@ -123,7 +123,7 @@ abbrev pub ShowsTruth : Result Truth Error → Output → Type 0
 ShowsTruth (Ok truth) outcome = outcome ≡ Ok (truth_line truth)
 ShowsTruth (Err e) outcome = outcome ≡ Err e
 
--- `match`: what the path says as a predicate in lax mode, where it is a path
+-- `match`: the result of the path as a predicate in lax mode, if it is a path
 abbrev pub ShowsPredicate : Option (List Step) → List ℕ → Output → Type 0
 ShowsPredicate None document outcome = outcome ≡ Err InvalidJsonPath
 ShowsPredicate (Some path) document outcome = OnDocument document (λ form t. ShowsTruth (predicate Lax path t)) outcome

@@ -1,4 +1,4 @@
--- What the words of a command line ask for.
+-- The requests of command lines.
 use Rattle.std.specs.Prelude.{ℕ, List, [], ◌∷◌, Option, None, option_map, codes, if◌then◌else◌}
 use Rattle.std.specs.Result.{result_ok}
 use Rattle.std.specs.Str.{bytes_eq}
@@ -12,12 +12,12 @@ pub data Request : Type 0 where
   select : List ℕ → List ℕ → Request
   path_match : List ℕ → List ℕ → Request
 
--- the bytes that a text is the hexadecimal of, in either case of letters
+-- the bytes of hexadecimal digits, in either case
 abbrev pub bytes_of : List ℕ → Option (List ℕ)
 bytes_of digits = result_ok (decode_of digits)
 
--- What the words ask for: a command by its name, with as many words as it takes, and hexadecimal for its document.
--- Other words ask for nothing.
+-- The request of the arguments: a command by its name, with as many arguments as it takes, and hexadecimal for its
+-- document. Other arguments are not a request.
 abbrev pub request_of : List (List ℕ) → Option Request
 request_of (name ∷ path ∷ digits ∷ []) =
     if bytes_eq name (codes "get") then option_map (get path) (bytes_of digits)

@@ -26,16 +26,16 @@ pub enum Command<'w> {
 }
 
 impl<'w> Command<'w> {
-    /// The command that the words are, with its document turned to bytes. `None` where they are another command, or
-    /// too few or too many words, or where the document isn't hexadecimal.
+    /// Returns the command of the arguments, with its document decoded from hexadecimal. Returns `None` if they are
+    /// another command, too few or too many, or if the document is not hexadecimal.
     ///
     /// # Errors
     ///
-    /// `OutOfMemory` where memory is refused.
+    /// `OutOfMemory` if an allocation fails.
     ///
-    /// # Cost
+    /// # Complexity
     ///
-    /// Linear in the document's digits. Takes memory for its bytes.
+    /// Linear in the document's digits. Allocates its bytes.
     pub fn read(alloc: Global, words: &'w [String]) -> Result<Option<Command<'w>>, Error>
         ensures value { IfOk result (λ found. option_map request found ≡ request_of (map string_bytes words.now)) }
         ensures err { IfErr result IsOutOfMemory }
@@ -69,7 +69,7 @@ impl<'w> Command<'w> {
     }
 }
 
-/// The bytes that a text is the hexadecimal of, in either case; None where it is none.
+/// Returns the bytes of hexadecimal digits of either case, or `None` for other text.
 fn document_from(alloc: Global, digits: &str) -> Result<Option<Vec<u8>>, Error>
     ensures value { IfOk result (λ found. option_map (λ bytes. bytes.items) found ≡ bytes_of digits.now) }
     ensures err { IfErr result IsOutOfMemory }

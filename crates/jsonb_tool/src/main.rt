@@ -9,13 +9,13 @@ use std::env::Env;
 use std::process::ExitCode;
 use std::{env, io};
 
-/// The status where a write failed, or the arguments can't be read.
+/// The status if a write failed, or the arguments cannot be read.
 const FAULT: u8 = 3;
 
-/// What is printed on standard error where the words are no command.
+/// What is printed to standard error if the arguments are not a command.
 const COMMANDS: &str = "\
 usage: jsonb_tool COMMAND WORD..
-  get KEYPATH HEX   the document at the place that the key path meets, or none
+  get KEYPATH HEX   the value at the key path, as a document, or none
   leaves HEX        a line for each leaf: its document and its key path, or none
   select PATH HEX   a line for each document that the JSON path selects, or none
   match PATH HEX    true, false or unknown, of a path that is one condition
@@ -29,7 +29,7 @@ fn main(rt: HostRuntime) -> ExitCode {
     match tool::run(rt.alloc(), words.as_slice(), &mut io::writer(&rt)) {
         Ok(status) => {
             if status == tool::USAGE {
-                // Where standard error can't be written either, the status alone tells.
+                // If standard error cannot be written either, the status alone reports it.
                 let _unwritten = rt.eprintln(COMMANDS);
             }
             ExitCode::from(status)

@@ -18,15 +18,15 @@ use jsonb::keypath::KeyPaths;
 use jsonb::{Error, OwnedJsonb, RawJsonb, SelectByPath, parse_json_path, parse_key_paths};
 use std::alloc::{AllocError, Global};
 
-/// The lines that a command prints, each with its line feed.
+/// Returns the lines that a command prints, each with its line feed.
 ///
 /// # Errors
 ///
-/// The command's refusal, as docs/PROGRAM.md lists them, or `OutOfMemory` where memory is refused.
+/// The command's error, as docs/PROGRAM.md lists them, or `OutOfMemory` if an allocation fails.
 ///
-/// # Cost
+/// # Complexity
 ///
-/// That of `check` and of the call that the command makes. Takes memory for all lines.
+/// That of `check` and of the call that the command makes. Allocates all lines.
 pub fn output(alloc: Global, command: &Command<'_>) -> Result<String, Error>
     ensures { MatchResult result
         (λ lines. IsOutputOf (request command.now) (Ok (string_bytes lines)))
@@ -152,7 +152,7 @@ fn leaf_line(
     Ok(format!(in alloc; "{digits} {path}\n")?)
 }
 
-/// The line of a truth.
+/// Returns the line of a predicate's result.
 fn truth_line(truth: Option<bool>) -> &'static str
     ensures { result.now ≡ truth_line truth }
 {

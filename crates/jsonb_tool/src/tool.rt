@@ -19,13 +19,13 @@ pub enum ToolFault {
     Write,
 }
 
-/// The exit status behind the lines of a command.
+/// The exit status after the lines of a command.
 const SUCCESS: u8 = 0;
 
-/// The exit status behind a refusal.
+/// The exit status after an error.
 const REFUSED: u8 = 1;
 
-/// The exit status behind `usage`.
+/// The exit status after `usage`.
 pub const USAGE: u8 = 2;
 
 /// What the program writes, and its exit status.
@@ -35,19 +35,19 @@ struct Answer {
     status: u8,
 }
 
-/// Writes the answer to the words, and gives the exit status. `words` are the arguments without the program's name.
-/// docs/PROGRAM.md has the lines.
+/// Writes the output of a command, and returns the exit status. `words` are the arguments without the program's name.
+/// docs/PROGRAM.md lists the output.
 ///
-/// The status is 0 behind the lines of a command, 1 behind `refused: ` with the error's text, and 2 behind `usage`,
-/// for words that are no command. A refused growth is `refused: OutOfMemory`.
+/// The status is 0 after the lines of a command, 1 after `refused: ` with the error's text, and 2 after `usage`, for
+/// arguments that are not a command. A failed allocation prints `refused: OutOfMemory`.
 ///
 /// # Errors
 ///
-/// `ToolFault::Write` where a write fails; how much was written before is not said.
+/// `ToolFault::Write` if a write fails; how much was written before is not specified.
 ///
-/// # Cost
+/// # Complexity
 ///
-/// That of the call that the command makes, and its lines: all are in memory before the first byte is written.
+/// That of the call that the command makes, and of its lines: all are in memory before the first byte is written.
 pub fn run<W: Write>(alloc: Global, words: &[String], out: &mut W) -> Result<u8, ToolFault>
     ensures { IfOk result (λ status. (lines : List ℕ)
         × Appends (W.contents out.old) (W.contents out.new) lines
@@ -60,7 +60,7 @@ pub fn run<W: Write>(alloc: Global, words: &[String], out: &mut W) -> Result<u8,
     }
 }
 
-/// The answer to the words. Where memory is refused it is the line that says so, which takes none.
+/// Returns the output of a command. If an allocation fails it is the line that says so, which is not allocated.
 fn answer_to(alloc: Global, words: &[String]) -> Answer
     ensures { IsAnswer (map string_bytes words.now) (cow_str_bytes result.lines) result.status }
 {
@@ -73,7 +73,7 @@ fn answer_to(alloc: Global, words: &[String]) -> Answer
     }
 }
 
-/// The answer to the words, or that memory was refused.
+/// Returns the output of a command; fails if an allocation fails.
 fn made_answer(alloc: Global, words: &[String]) -> Result<Answer, Error>
     ensures { IfOk result (λ answer.
         IsAnswer (map string_bytes words.now) (cow_str_bytes answer.lines) answer.status) }

@@ -3,13 +3,13 @@
 /// A document and the value that it stands for.
 #[derive(Clone, Copy, Debug)]
 pub struct Document {
-    /// The value as JSON is written, or in words where JSON has none.
+    /// The value as JSON text, or in words if JSON has none.
     pub value: &'static str,
     /// The bytes in hexadecimal. Spaces part the words of 32 bits and the contents.
     pub digits: &'static str,
 }
 
-/// A truth value, a number, and an object of one pair.
+/// A Boolean, a number, and an object of one member.
 pub const MIXED_ARRAY: Document = Document {
     value: "[false, 10, {\"k\":\"v\"}]",
     digits: "80000003 30000000 20000002 5000000e 500a 40000001 10000001 10000001 6b 76",

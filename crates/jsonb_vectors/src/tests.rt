@@ -1,4 +1,4 @@
-//! Each document is one, and is given back whole.
+//! Each document decodes, and round-trips.
 
 mod calls;
 mod damage;

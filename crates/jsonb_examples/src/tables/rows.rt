@@ -1,6 +1,6 @@
-//! The rows of the tables of answers in docs/, as tools/check_quotes.py --write writes them.
+//! The rows of docs/rows/, as tools/check_quotes.py --write writes them.
 
-/// A line for each row, with tabs between: what is asked, the text of a path, a document, and the answer.
+/// A line for each row, with tabs between: what is asked, the text of a path, a document, and the result.
 pub const ROWS: &str = "
 sortable key\t\t2000000000000000\t0008
 sortable key\t\t20000000200000025001\t00048103e90200

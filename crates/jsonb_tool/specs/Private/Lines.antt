@@ -5,7 +5,7 @@ use Rattle.jsonb.specs.Error.{Error}
 use Rattle.jsonb.specs.Error.TheVariants.{OutOfMemory}
 use Rattle.jsonb_tool.specs.Output.{Output}
 
--- The lines are an outcome as said, or the refusal is one, unless it is that memory is refused.
+-- The lines are such an outcome, or the error is one, unless an allocation failed.
 abbrev pub Prints : (Output → Type 0) → Result (String Global) Error → Type 0
 Prints IsOutcome answer =
     MatchResult answer (λ lines. IsOutcome (Ok (string_bytes lines))) (λ e. (e ≡ OutOfMemory) ⊎ IsOutcome (Err e))

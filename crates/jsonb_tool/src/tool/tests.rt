@@ -5,7 +5,7 @@ use std::io;
 use std::io::ErrorKind;
 use std::test::Fail;
 
-/// A table: each row stands in a line, and is a tuple.
+/// A table: each row is a line, and a tuple.
 macro_rules! rows {
     ($($($part:expr),+;)+) => { [$(($($part),+)),+] };
 }
@@ -13,7 +13,7 @@ macro_rules! rows {
 /// `[false, 10, {"k":"v"}]`
 const ARRAY: &str = "8000000330000000200000025000000e500a4000000110000001100000016b76";
 
-/// The same in upper case.
+/// `[false, 10, {"k":"v"}]`, with digits in upper case
 const ARRAY_IN_UPPER_CASE: &str =
     "8000000330000000200000025000000E500A4000000110000001100000016B76";
 
@@ -28,7 +28,7 @@ const ONE_ELEMENT: &str = "80000001200000025001";
 
 const FIVE: &str = "20000000200000025005";
 
-/// A float, which is no number here.
+/// A float, which is not a number here.
 const FLOAT: &str = "2000000020000009603ff8000000000000";
 
 /// Bytes that end within a header.
@@ -58,7 +58,7 @@ fn answers(alloc: Global, texts: &[&str], line: &str, status: u8) -> Result<bool
     Ok(answer == Ok(status) && out.as_slice().strip_suffix(b"\n") == Some(line.as_bytes()))
 }
 
-/// The words of the first row that is answered in another way.
+/// Returns the arguments of the first row with another result.
 fn first_wrong(alloc: Global, rows: &[Row]) -> Result<Option<&'static [&'static str]>, AllocError> {
     for (words, line, status) in rows {
         if !answers(alloc, words, line, *status)? {
@@ -128,7 +128,7 @@ const LEAVES: [Row; 13] = rows! {
     &["leaves", "4000000110000003200000026120625001"], "20000000200000025001 {\"a b\"}", 0;
     // {"":null}
     &["leaves", "400000011000000000000000"], "2000000000000000 {\"\"}", 0;
-    // [10] with its number in two bytes where one would do
+    // [10] with its number in two bytes instead of one
     &["leaves", "800000012000000350000a"], "200000002000000350000a {0}", 0;
     &["leaves", FIVE], "none", 0;
     &["leaves", "80000000"], "none", 0;
@@ -138,7 +138,7 @@ const LEAVES: [Row; 13] = rows! {
     &["leaves", FLOAT], FLOAT_REFUSED, 1;
 };
 
-/// Words that are no command.
+/// Arguments that are not a command.
 const OTHERS: [Row; 30] = rows! {
     &[], "usage", 2;
     &["get"], "usage", 2;
@@ -185,7 +185,7 @@ fn commands_are_answered(rt: HostRuntime) -> Result<(), Fail> {
     Ok(())
 }
 
-/// So many leaves that no test has the time to look each of them up from the root.
+/// A number of leaves that leaves no time to look each of them up from the root.
 const MANY: usize = 200_000;
 
 /// `[null,null,..]`
@@ -220,7 +220,7 @@ fn leaves_of_a_long_array_are_printed_in_one_walk(rt: HostRuntime) -> Result<(),
 /// How a writer does not take what it is given.
 #[derive(Clone, Copy, Debug)]
 enum Break {
-    /// Each write is refused.
+    /// A writer of which each write fails.
     Full,
     /// No byte is taken.
     Zero,
@@ -228,7 +228,7 @@ enum Break {
     Interrupted,
 }
 
-/// Takes so many bytes at a write, and breaks behind the first writes.
+/// A writer that accepts a limited number of bytes at a write, and fails after the first writes.
 #[derive(Drop)]
 struct Breaking {
     at_a_time: usize,
@@ -260,7 +260,7 @@ impl Write for Breaking {
 
 const LINE: &[u8] = b"200000001000000176\n";
 
-/// What a run over a breaking writer answers, and whether it wrote the line.
+/// Returns the result of a run over a failing writer, and whether it wrote the line.
 fn run_over(
     alloc: Global,
     at_a_time: usize,
@@ -278,8 +278,8 @@ fn run_over(
     Ok((answer, out.bytes.as_slice() == LINE))
 }
 
-/// Lets the first write fail, then the second, and so on, until a run meets no failure and has written the line.
-/// Gives the writes that it made, or none where a failure was no fault.
+/// Fails the first write, then the second, and so on, until a run has no failure and has written the line. Returns
+/// the number of its writes, or `None` if a failed write did not fail a run.
 fn writes_made(alloc: Global, at_a_time: usize, how: Break) -> Result<Option<u32>, AllocError> {
     for writes in 0..20 {
         match run_over(alloc, at_a_time, writes, how)? {

@@ -1,9 +1,9 @@
-//! Each call that reads a document, made on some bytes, and whether the documents that the calls answer decode.
+//! Each call that reads a document, made on some bytes, and whether the documents that the calls return decode.
 
 use jsonb::{
     ArrayBuilder, Error, JsonPath, ObjectBuilder, OwnedJsonb, RawJsonb, SelectByPath, Selector,
     child_spots, elements, encode_item, field_spot, keys, pairs, parse_json_path, parse_key_paths,
-    root_item, root_spot, spot_item, to_value, values,
+    push_column_key, push_column_key_wide, root_item, root_spot, spot_item, to_value, values,
 };
 use std::alloc::Global;
 use std::collections::BTreeSet;
@@ -11,7 +11,7 @@ use std::collections::BTreeSet;
 // 1
 const ONE: &[u8] = b"\x20\0\0\0\x20\0\0\x02\x50\x01";
 
-/// What the documents of answers have in common.
+/// What the returned documents have in common.
 #[derive(Drop)]
 pub(super) struct Answers {
     /// Whether each of them decodes.
@@ -26,21 +26,21 @@ impl Answers {
         }
     }
 
-    /// Looks at the document of an answer.
+    /// Checks the document of a result.
     fn one(&mut self, answer: Result<OwnedJsonb, Error>) {
         if let Ok(document) = answer {
             self.look_at(&document);
         }
     }
 
-    /// Looks at the document of an answer that may have none.
+    /// Checks the document of a result that may have none.
     fn found(&mut self, answer: Result<Option<OwnedJsonb>, Error>) {
         if let Ok(Some(document)) = answer {
             self.look_at(&document);
         }
     }
 
-    /// Looks at each document of an answer.
+    /// Checks each document of a result.
     fn each(&mut self, answer: Result<Vec<OwnedJsonb>, Error>) {
         if let Ok(documents) = answer {
             for document in &documents {
@@ -49,7 +49,7 @@ impl Answers {
         }
     }
 
-    /// Looks at the bytes of an answer as a document.
+    /// Checks the bytes of a result as a document.
     fn bytes(&mut self, answer: Result<Vec<u8>, Error>) {
         self.one(answer.map(OwnedJsonb::new));
     }
@@ -149,6 +149,8 @@ pub(super) fn ask_scalars(alloc: Global, raw: &RawJsonb<'_>) {
     let _ = raw.convert_to_comparable_into(alloc, &mut key);
     let _ = raw.convert_to_comparable_wide_into(alloc, &mut key);
     let _ = raw.equality_key_into(alloc, &mut key);
+    let _ = push_column_key(alloc, &mut key, Some(*raw));
+    let _ = push_column_key_wide(alloc, &mut key, Some(*raw));
     let _ = raw.type_of();
     let _ = [
         raw.is_null(),
@@ -236,6 +238,11 @@ pub(super) fn ask_builders(alloc: Global, bytes: &[u8], answers: &mut Answers) {
     let mut array = ArrayBuilder::new(alloc);
     let _ = array.push_document(bytes);
     answers.bytes(array.build());
+    if let Ok(root) = root_spot(bytes) {
+        let mut copies = ArrayBuilder::new(alloc);
+        let _ = copies.push_spot(bytes, root);
+        answers.bytes(copies.build());
+    }
     let mut object = ObjectBuilder::new(alloc);
     let _ = object.push_document("k", bytes);
     answers.bytes(object.build());

@@ -1,4 +1,4 @@
-//! Damaged bytes: each call returns on them, and where they decode, so does each document that a call answers.
+//! Damaged bytes: each call returns on them, and if they decode, so does each document that a call returns.
 
 use super::bytes_of;
 use super::calls::{
@@ -20,7 +20,7 @@ static PATHS: [&str; 8] = [
     "$ + 1",
 ];
 
-/// Whether all calls return on these bytes, with documents that decode where the bytes do.
+/// Returns `true` if all calls return on these bytes, with documents that decode if the bytes do.
 fn answers_decode(alloc: Global, bytes: &[u8]) -> Result<bool, Error> {
     let raw = RawJsonb::new(bytes);
     let mut answers = Answers { decode: true };
@@ -39,7 +39,7 @@ fn answers_decode(alloc: Global, bytes: &[u8]) -> Result<bool, Error> {
     Ok(answers.decode || check(bytes).is_err())
 }
 
-/// The same of the bytes with others from a place on.
+/// Replaces the bytes from a position on, and returns `true` if all calls return on the result.
 fn answers_decode_with(
     alloc: Global,
     bytes: &[u8],
@@ -53,7 +53,7 @@ fn answers_decode_with(
     answers_decode(alloc, &changed)
 }
 
-/// Whether the bytes are no document, and all calls return on them.
+/// Returns `true` if the bytes are not a document, and all calls return on them.
 fn is_refused(alloc: Global, bytes: &[u8]) -> Result<bool, Error> {
     Ok(check(bytes) == Err(Error::InvalidJsonb) && answers_decode(alloc, bytes)?)
 }
@@ -84,7 +84,7 @@ fn a_document_that_is_cut_is_refused(rt: HostRuntime) -> Result<(), Error> {
     Ok(())
 }
 
-/// A byte is changed alone, where the next one stays as it is, or with the next one.
+/// One byte is changed, or it and the next one.
 #[test]
 fn all_calls_return_where_bytes_are_changed(rt: HostRuntime) -> Result<(), Error> {
     for document in &DOCUMENTS {
@@ -130,8 +130,8 @@ fn other_words(word: u32, step: u32) -> [u32; 13] {
     ]
 }
 
-/// Whether answers decode with any other word at a place: one of another entry, or of another header, whose length is a
-/// count.
+/// Returns `true` if results decode with any other word at a position: one of another entry, or of another header,
+/// whose length is a count.
 fn answers_decode_with_words(alloc: Global, bytes: &[u8], at: usize) -> Result<bool, Error> {
     let Some(word) = bytes.get(at..).and_then(|rest| rest.first_chunk::<4>()) else {
         return Ok(true);

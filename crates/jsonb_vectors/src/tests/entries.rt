@@ -1,10 +1,10 @@
-//! Entries that can't be read: an iterator refuses them, and neither ends there nor gives something else.
+//! Entries that cannot be read: an iterator fails on them, and neither ends there nor returns something else.
 
 use crate::tests::bytes_of;
 use jsonb::{Error, elements, keys, pairs, values};
 use std::alloc::{AllocError, Global};
 
-/// Whether an entry is given or refused.
+/// Whether an entry is returned or fails.
 fn mark(is_given: bool) -> char {
     if is_given { '+' } else { '-' }
 }
@@ -33,7 +33,7 @@ fn gone_over(alloc: Global, bytes: &[u8]) -> Result<String, AllocError> {
 
 /// The digits of documents, and what the iterators give.
 static REFUSING: [(&str, &str); 7] = [
-    // [1, bytes that are no text, 2]
+    // [1, bytes that are not UTF-8, 2]
     (
         "80000003 20000002 10000001 20000002 5001 ff 5002",
         "elements +-+",
@@ -50,7 +50,7 @@ static REFUSING: [(&str, &str); 7] = [
     ),
     // [1, 2 without its content]
     ("80000002 20000002 20000002 5001", "elements +-"),
-    // {bytes that are no text: 1, "b": 2}
+    // {bytes that are not UTF-8: 1, "b": 2}
     (
         "40000002 10000001 10000001 20000002 20000002 ff 62 5001 5002",
         "keys -+ values ++ pairs -+",

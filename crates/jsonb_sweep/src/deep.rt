@@ -1,0 +1,47 @@
+//! Values and paths that standard input has, in their text or bytes: for those that are nested deep, under a small stack.
+
+use jsonb::{Error, parse_json_path, root_item, to_value};
+use std::io::{self, Read};
+
+/// What standard input has.
+#[derive(Clone, Copy)]
+pub enum Input {
+    Document,
+    Path,
+}
+
+/// Makes the calls on what standard input has, and prints whether their results are right.
+pub fn calls(rt: &HostRuntime, kind: Input) -> io::Result<()> {
+    let mut input = Vec::new(rt.alloc());
+    rt.reader().read_to_end(&mut input)?;
+    let is_right = match kind {
+        Input::Document => value(rt, &input),
+        Input::Path => path(rt, &input),
+    };
+    println!(rt;
+        "{}",
+        if matches!(is_right, Ok(true)) {
+            "right"
+        } else {
+            "wrong"
+        }
+    )
+}
+
+/// Decodes a document, clones the value, compares both and drops them.
+fn value(rt: &HostRuntime, document: &[u8]) -> Result<bool, Error> {
+    let item = root_item(document)?;
+    let value = to_value(rt.alloc(), &item)?;
+    let copy = value.clone(rt.alloc())?;
+    Ok(copy == value)
+}
+
+/// Parses a path that is as `Display` prints it, clones it twice, compares it, prints it, and drops all.
+fn path(rt: &HostRuntime, text: &[u8]) -> Result<bool, Error> {
+    let path = parse_json_path(rt.alloc(), text)?;
+    let copy = path.clone(rt.alloc())?;
+    let owned = path.to_owned(rt.alloc())?;
+    let printed = format!(in rt.alloc(); "{path}")?;
+    let printed_owned = format!(in rt.alloc(); "{owned}")?;
+    Ok(copy == path && printed.as_bytes() == text && printed_owned.as_bytes() == text)
+}
