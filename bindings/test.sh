@@ -1,6 +1,6 @@
 #!/usr/bin/env bash
-# The tests of the library for C and of what stands on it. Needs crates/jsonb_c/out/libjsonb_c.a (rt lib in crates/jsonb_c), the
-# toolchain's heap file (see bindings/c/Makefile), cc, make and python3; c++ and cargo are used where they are there. The last line
+# The tests of the library for C and of what uses it. Needs crates/jsonb_c/out/libjsonb_c.a (rt lib in crates/jsonb_c), the
+# toolchain's heap file (see bindings/c/Makefile), cc, make and python3; c++ and cargo are used if they are installed. The last line
 # is `N passed, M failed`.
 cd "$(dirname "${BASH_SOURCE[0]}")" || exit 1
 passed=0 failed=0
@@ -29,27 +29,54 @@ count() {
 
 out=$room/out
 count "libraries, examples and tests, without a warning" make -s -j2 -C c OUT="$out" all example bench tests
-export JSONB_LIBRARY=$out/libjsonb.so PYTHONDONTWRITEBYTECODE=1
+export JDOC_LIBRARY=$out/libjdoc.so PYTHONDONTWRITEBYTECODE=1
 python3 tests/rows.py >"$room/rows" || failed=$((failed + 1))
 for kind in "" _refusing _sanitized; do
     count "worked rows$kind" "$out/rows$kind" "$room/rows"
     count "columns$kind" "$out/columns$kind"
 done
+for kind in "" _sanitized; do
+    count "prepared paths in threads$kind" "$out/threads$kind"
+done
+if command -v valgrind >/dev/null; then
+    count "prepared paths under valgrind" valgrind -q --error-exitcode=9 --leak-check=full "$out/threads" 12
+else
+    echo "skipped: prepared paths under valgrind: there is no valgrind"
+fi
 count "header, as C" "$out/header_c"
 if [ -x "$out/header_cpp" ]; then
     count "header, as C++" "$out/header_cpp"
+    count "jdoc.hpp" "$out/cpp"
 else
     echo "skipped: the header as C++: there is no c++"
 fi
 count "example" diff <("$out/example") c/example.txt
+count "example with prepared paths" diff <("$out/prepared") c/prepared.txt
 count "bench" "$out/bench" 1000
+count "names" python3 tests/exports.py "$out"
 count "install" make -s -C c OUT="$out" PREFIX="$room/installed" install
-count "a program by pkg-config" env PKG_CONFIG_PATH="$room/installed/lib/pkgconfig" sh tests/installed.sh "$room/installed"
-count "Python" "${PYTHON:-python3}" python/tests/run.py
+count "install JSON text" make -s -C text OUT="$room/text" JDOC="$out" PREFIX="$room/installed" install
+count "the installed libraries and the manual page" tests/installed.sh "$room/installed"
+export SOURCE_DATE_EPOCH=1700000000 # the release and the tests of Python build the same wheel
+count "release" tests/dist.sh "$out" "$room/release"
+count "JSON text: library and tests, without a warning" make -s -j2 -C text OUT="$room/text" JDOC="$out" all tests
+python3 text/tests/rows.py >"$room/text_rows" || failed=$((failed + 1))
+count "JSON text" "$room/text/text" "$room/text_rows"
+count "JSON text, sanitized" "$room/text/text_sanitized" "$room/text_rows" 20000
+count "SQLite" sqlite/test.sh "$out" "$room/sqlite"
+chmod 711 "$room" # the server of PostgreSQL runs as another user
+count "PostgreSQL" postgres/test.sh "$out" "$room/postgres"
+count "Python" python/test.sh "$out" "$room/release/first/dist"
 if command -v cargo >/dev/null; then
-    count "Rust" env JSONB_LIB_DIR="$out" CARGO_TARGET_DIR="$room/target" cargo test -q --offline --manifest-path rust/Cargo.toml
+    count "Rust" env JDOC_LIB_DIR="$out" JDOC_TEXT_LIB_DIR="$room/text" CARGO_TARGET_DIR="$room/target" \
+        cargo test -q --offline --workspace --manifest-path rust/Cargo.toml
 else
     echo "skipped: Rust: there is no cargo"
+fi
+if [ "$(bindgen --version 2>/dev/null)" = "bindgen 0.60.1" ] && command -v rustfmt >/dev/null; then
+    count "declarations in Rust" rust/sys/generate.sh --check
+else
+    echo "skipped: declarations in Rust as bindgen writes them: there is no bindgen 0.60.1 or no rustfmt"
 fi
 
 echo "$passed passed, $failed failed"

@@ -1,9 +1,9 @@
-/* Rows a second of each call on a column, beside the same call on one document after the other; and what crossing the
- * boundary costs. bench [ROWS]: documents of about 200 bytes; processor time, the best of several rounds.
- * bench ROWS CALL column|one runs a call once on all rows, bench ROWS type jsonb_type, and bench ROWS nothing none: for
+/* Rows a second of each call on a column, compared with the same call on one document after the other; and what a call
+ * costs. bench [ROWS]: documents of about 200 bytes; processor time, the best of several rounds.
+ * bench ROWS CALL column|one|prepared runs a call once on all rows, bench ROWS type jdoc_type, and bench ROWS nothing none: for
  * instructions.py. */
 #define _POSIX_C_SOURCE 199309L
-#include "jsonb.h"
+#include "jdoc.h"
 
 #include <stdio.h>
 #include <stdlib.h>
@@ -11,7 +11,7 @@
 #include <time.h>
 
 enum { ROUNDS = 15, FIELDS = 5 };
-#define TEXT(text) (const uint8_t *)(text), sizeof(text) - 1
+#define TEXT(text) (text), sizeof(text) - 1
 
 static uint8_t *bytes;
 static uint64_t *offsets, *positions;
@@ -81,7 +81,7 @@ static void make_column(size_t count) {
 #define PAIR(name, of_column, of_row)                                                                                  \
     static uint32_t name##_column(void) {                                                                              \
         size_t done = 0;                                                                                               \
-        jsonb_progress progress = {0, 0, 0};                                                                           \
+        jdoc_progress progress = {0, 0, 0};                                                                           \
         uint32_t status = of_column;                                                                                   \
         sum += done + progress.bytes;                                                                                  \
         return status;                                                                                                 \
@@ -92,67 +92,89 @@ static void make_column(size_t count) {
         for (size_t row = 0; row < rows; row++) status |= of_row, sum += len;                                          \
         return status;                                                                                                 \
     }
-PAIR(check, jsonb_column_check(COLUMN, FIXED), jsonb_check(ROW))
-PAIR(exists, jsonb_column_exists(COLUMN, TEXT("$.age"), false, truths, rows, FIXED),
-     jsonb_exists(ROW, TEXT("$.age"), false, truths + row))
-PAIR(exists_last, jsonb_column_exists(COLUMN, TEXT("$.score"), false, truths, rows, FIXED),
-     jsonb_exists(ROW, TEXT("$.score"), false, truths + row))
-PAIR(no_condition, jsonb_column_match(COLUMN, TEXT("$.age"), false, truths, rows, FIXED),
-     jsonb_match(ROW, TEXT("$.age"), false, truths + row))
-PAIR(match, jsonb_column_match(COLUMN, TEXT("$.age < 50"), false, truths, rows, FIXED),
-     jsonb_match(ROW, TEXT("$.age < 50"), false, truths + row))
-PAIR(contains, jsonb_column_contains(COLUMN, bytes, offsets[1], truths, rows, FIXED),
-     jsonb_contains(ROW, bytes, offsets[1], truths + row))
-PAIR(get, jsonb_column_get(COLUMN, TEXT("{age}"), RUNS), jsonb_get_by_keypath(ROW, TEXT("{age}"), OUT))
-PAIR(select_first, jsonb_column_select_first(COLUMN, TEXT("$.name"), false, RUNS),
-     jsonb_select_first(ROW, TEXT("$.name"), false, OUT))
-PAIR(select_value, jsonb_column_select_value(COLUMN, TEXT("$.name"), false, RUNS),
-     jsonb_select_value(ROW, TEXT("$.name"), false, OUT))
-PAIR(select_array, jsonb_column_select_array(COLUMN, TEXT("$.name"), false, RUNS),
-     jsonb_select_array(ROW, TEXT("$.name"), false, OUT))
-PAIR(key, jsonb_column_key(COLUMN, false, RUNS), jsonb_sort_key(ROW, false, OUT))
-PAIR(key_wide, jsonb_column_key(COLUMN, true, RUNS), jsonb_sort_key(ROW, true, OUT))
-PAIR(equality_key, jsonb_column_equality_key(COLUMN, RUNS), jsonb_equality_key(ROW, OUT))
-PAIR(delete, jsonb_column_delete_by_keypath(COLUMN, TEXT("{note}"), RUNS),
-     jsonb_delete_by_keypath(ROW, TEXT("{note}"), OUT))
+PAIR(check, jdoc_column_check(COLUMN, FIXED), jdoc_check(ROW))
+PAIR(exists, jdoc_column_exists(COLUMN, TEXT("$.age"), false, truths, rows, FIXED),
+     jdoc_exists(ROW, TEXT("$.age"), false, truths + row))
+PAIR(exists_last, jdoc_column_exists(COLUMN, TEXT("$.score"), false, truths, rows, FIXED),
+     jdoc_exists(ROW, TEXT("$.score"), false, truths + row))
+PAIR(no_condition, jdoc_column_match(COLUMN, TEXT("$.age"), false, truths, rows, FIXED),
+     jdoc_match(ROW, TEXT("$.age"), false, truths + row))
+PAIR(match, jdoc_column_match(COLUMN, TEXT("$.age < 50"), false, truths, rows, FIXED),
+     jdoc_match(ROW, TEXT("$.age < 50"), false, truths + row))
+PAIR(contains, jdoc_column_contains(COLUMN, bytes, offsets[1], truths, rows, FIXED),
+     jdoc_contains(ROW, bytes, offsets[1], truths + row))
+PAIR(get, jdoc_column_get(COLUMN, TEXT("{age}"), RUNS), jdoc_get_by_keypath(ROW, TEXT("{age}"), OUT))
+PAIR(select_first, jdoc_column_select_first(COLUMN, TEXT("$.name"), false, RUNS),
+     jdoc_select_first(ROW, TEXT("$.name"), false, OUT))
+PAIR(select_value, jdoc_column_select_value(COLUMN, TEXT("$.name"), false, RUNS),
+     jdoc_select_value(ROW, TEXT("$.name"), false, OUT))
+PAIR(select_array, jdoc_column_select_array(COLUMN, TEXT("$.name"), false, RUNS),
+     jdoc_select_array(ROW, TEXT("$.name"), false, OUT))
+PAIR(key, jdoc_column_key(COLUMN, false, RUNS), jdoc_sort_key(ROW, false, OUT))
+PAIR(key_wide, jdoc_column_key(COLUMN, true, RUNS), jdoc_sort_key(ROW, true, OUT))
+PAIR(equality_key, jdoc_column_equality_key(COLUMN, RUNS), jdoc_equality_key(ROW, OUT))
+PAIR(delete, jdoc_column_delete_by_keypath(COLUMN, TEXT("{note}"), RUNS),
+     jdoc_delete_by_keypath(ROW, TEXT("{note}"), OUT))
+
+/* The calls on a prepared path, one document after the other. */
+#define PREPARED(name, kind, text, of_row)                                                                             \
+    static uint32_t name##_prepared(void) {                                                                            \
+        jdoc_##kind path = {0};                                                                                        \
+        size_t len = 0;                                                                                                \
+        uint32_t status = jdoc_##kind##_read(TEXT(text), &path);                                                       \
+        for (size_t row = 0; row < rows; row++) status |= of_row, sum += len;                                          \
+        jdoc_##kind##_free(&path);                                                                                     \
+        return status;                                                                                                 \
+    }
+PREPARED(exists, path, "$.age", jdoc_path_exists(&path, ROW, false, truths + row))
+PREPARED(exists_last, path, "$.score", jdoc_path_exists(&path, ROW, false, truths + row))
+PREPARED(no_condition, path, "$.age", jdoc_path_match(&path, ROW, false, truths + row))
+PREPARED(match, path, "$.age < 50", jdoc_path_match(&path, ROW, false, truths + row))
+PREPARED(get, keypath, "{age}", jdoc_keypath_get(&path, ROW, OUT))
+PREPARED(select_first, path, "$.name", jdoc_path_select_first(&path, ROW, false, OUT))
+PREPARED(select_value, path, "$.name", jdoc_path_select_value(&path, ROW, false, OUT))
+PREPARED(select_array, path, "$.name", jdoc_path_select_array(&path, ROW, false, OUT))
+PREPARED(delete, keypath, "{note}", jdoc_keypath_delete(&path, ROW, OUT))
 
 /* The column of the ages, for the casts. */
 static uint8_t *ages;
 static uint64_t *age_offsets;
 #define AGES ages, age_offsets[rows], age_offsets, rows + 1
 #define AGE  ages + age_offsets[row], age_offsets[row + 1] - age_offsets[row]
-PAIR(to_i64, jsonb_column_to_i64(AGES, numbers, rows, FIXED), jsonb_to_i64(AGE, numbers + row))
-PAIR(to_str, jsonb_column_to_str(AGES, RUNS), jsonb_to_str(AGE, OUT))
+PAIR(to_i64, jdoc_column_to_i64(AGES, numbers, rows, FIXED), jdoc_to_i64(AGE, numbers + row))
+PAIR(to_str, jdoc_column_to_str(AGES, (char *)RUNS), jdoc_to_str(AGE, (char *)OUT))
 
 static uint32_t type_rows(void) {
     uint32_t status = 0;
-    for (size_t row = 0; row < rows; row++) status |= jsonb_type(TEXT("\x80\0\0\0"), truths);
+    for (size_t row = 0; row < rows; row++) status |= jdoc_type((const uint8_t *)"\x80\0\0\0", 4, truths);
     return status;
 }
 
 struct pair {
     const char *name;
-    uint32_t (*column)(void), (*one)(void);
+    uint32_t (*column)(void), (*one)(void), (*prepared)(void);
 };
 #define NAMED(name)                                                                                                    \
-    { #name, name##_column, name##_rows }
+    { #name, name##_column, name##_rows, NULL }
+#define BY_PATH(name)                                                                                                  \
+    { #name, name##_column, name##_rows, name##_prepared }
 static const struct pair pairs[] = {
     NAMED(check),
-    NAMED(no_condition),
-    NAMED(exists),
-    NAMED(exists_last),
-    NAMED(match),
+    BY_PATH(no_condition),
+    BY_PATH(exists),
+    BY_PATH(exists_last),
+    BY_PATH(match),
     NAMED(contains),
     NAMED(to_i64),
-    NAMED(get),
-    NAMED(select_first),
-    NAMED(select_value),
-    NAMED(select_array),
+    BY_PATH(get),
+    BY_PATH(select_first),
+    BY_PATH(select_value),
+    BY_PATH(select_array),
     NAMED(to_str),
     NAMED(key),
     NAMED(key_wide),
     NAMED(equality_key),
-    NAMED(delete),
+    BY_PATH(delete),
 };
 enum { PAIRS = sizeof pairs / sizeof *pairs };
 
@@ -161,7 +183,7 @@ static double measure(uint32_t (*call)(void)) {
     double best = 1e9;
     for (int round = 0; round < ROUNDS; round++) {
         double start = now();
-        if (call() > JSONB_NONE) return -1;
+        if (call() > JDOC_NONE) return -1;
         double took = now() - start;
         if (took < best) best = took;
     }
@@ -170,28 +192,35 @@ static double measure(uint32_t (*call)(void)) {
 
 /* Runs one call once on all rows. */
 static int run_once(const char *call, const char *form) {
-    if (!strcmp(call, "type")) return type_rows() > JSONB_NONE;
+    if (!strcmp(call, "type")) return type_rows() > JDOC_NONE;
     for (size_t i = 0; i < PAIRS; i++)
-        if (!strcmp(pairs[i].name, call)) return (strcmp(form, "one") ? pairs[i].column : pairs[i].one)() > JSONB_NONE;
+        if (!strcmp(pairs[i].name, call)) {
+            uint32_t (*run)(void) = !strcmp(form, "one")        ? pairs[i].one
+                                    : !strcmp(form, "prepared") ? pairs[i].prepared
+                                                                : pairs[i].column;
+            return !run || run() > JDOC_NONE;
+        }
     return strcmp(call, "nothing") != 0;
 }
 
 static void print_table(void) {
     printf("%zu documents of %zu bytes\n\n", rows, bytes_len / rows);
-    printf("| Call | column, ns a row | rows a second | one by one, ns a row | gain |\n|---|---|---|---|---|\n");
+    printf("| Call | column, ns a row | rows a second | one by one, ns a row | gain | prepared, ns a row |\n");
+    printf("|---|---|---|---|---|---|\n");
     for (size_t i = 0; i < PAIRS; i++) {
         double column = measure(pairs[i].column), one = measure(pairs[i].one);
-        printf("| %s | %.0f | %.0f | %.0f | %.2f |\n", pairs[i].name, column, 1e9 / column, one, one / column);
+        printf("| %s | %.0f | %.0f | %.0f | %.2f |", pairs[i].name, column, 1e9 / column, one, one / column);
+        pairs[i].prepared ? printf(" %.0f |\n", measure(pairs[i].prepared)) : puts(" |");
     }
-    printf("\njsonb_type of 4 bytes: %.1f ns a call (%llu)\n", measure(type_rows), (unsigned long long)(sum & 1));
+    printf("\njdoc_type of 4 bytes: %.1f ns a call (%llu)\n", measure(type_rows), (unsigned long long)(sum & 1));
 }
 
 int main(int argc, char **argv) {
     make_column(argc > 1 ? strtoul(argv[1], NULL, 10) : 100000);
-    jsonb_progress progress;
+    jdoc_progress progress;
     ages = malloc(rows * 32), age_offsets = malloc((rows + 1) * 8);
     if (!ages || !age_offsets ||
-        jsonb_column_get(COLUMN, TEXT("{age}"), ages, rows * 32, age_offsets, rows + 1, statuses, rows, &progress))
+        jdoc_column_get(COLUMN, TEXT("{age}"), ages, rows * 32, age_offsets, rows + 1, statuses, rows, &progress))
         return 1;
     if (argc > 2) return run_once(argv[2], argc > 3 ? argv[3] : "");
     print_table();

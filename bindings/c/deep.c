@@ -1,8 +1,8 @@
 /* One call on one deep document or long path: for tools/measure_stack.py.
 
-   deep CALL SHAPE LEVELS makes a document (or a path) of so many levels, makes the call, and prints the status and what was
-   answered. Documents are made front to back, without a call per level. */
-#include "jsonb.h"
+   deep CALL SHAPE LEVELS makes a document (or a path) of that many levels, makes the call, and prints the status and the
+   result. Documents are written front to back, without a call per level. */
+#include "jdoc.h"
 
 #include <stdint.h>
 #include <stdio.h>
@@ -38,7 +38,7 @@ static void put_word(uint8_t *at, uint32_t word)
 typedef enum { ONLY, LAST, FIRST, MIDDLE, PAIR, ALTERNATING, SHAPES } Shape;
 static const char *const SHAPE_NAMES[SHAPES] = {"only", "last", "first", "middle", "pair", "alternating"};
 
-/* Whether a number stands in front of the child, and behind it; and whether the level is an object. */
+/* Whether a number precedes the child, and follows it; and whether the level is an object. */
 static int has_front(Shape shape) { return shape == LAST || shape == MIDDLE; }
 static int has_back(Shape shape) { return shape == FIRST || shape == MIDDLE; }
 
@@ -58,7 +58,7 @@ static size_t back_len(Shape shape) { return 2 * (size_t)has_back(shape); }
 
 static void put_number(uint8_t *at) { at[0] = 0x50, at[1] = 7; }
 
-/* The front of a level whose child has so many bytes. */
+/* The beginning of a level whose child has this many bytes. */
 static void put_front(uint8_t *at, Shape shape, uint32_t child)
 {
     if (shape == PAIR) {
@@ -105,7 +105,7 @@ typedef struct {
     const char *name, *before, *again, *after, *closed;
 } Path;
 
-/* A path is BEFORE, then AGAIN so many times, AFTER, and CLOSED as many times. */
+/* A path is BEFORE, then AGAIN repeated, AFTER, and CLOSED repeated. */
 static const Path PATHS[] = {
     {"open_parentheses", "$?", "(", "", ""},
     {"parentheses", "$?", "(", "@ == 1", ")"},
@@ -141,26 +141,26 @@ typedef struct {
 
 #define DOCUMENT c->document.bytes, c->document.len
 #define OTHER c->other.bytes, c->other.len
-#define PATH c->path.bytes, c->path.len
+#define PATH (const char *)c->path.bytes, c->path.len
 #define OUT c->out.bytes, c->out.len, &c->len
 
 static const uint8_t SMALL[] = {0x80, 0, 0, 1, 0x50, 0, 0, 10, 0x80, 0, 0, 1, 0x20, 0, 0, 2, 0x50, 1};
-static const uint8_t BELOW[] = "$.**";
+static const char BELOW[] = "$.**";
 
-static uint32_t run_check(Case *c) { return jsonb_check(DOCUMENT); }
-static uint32_t run_contains(Case *c) { return jsonb_contains(DOCUMENT, OTHER, &c->truth); }
-static uint32_t run_overlap(Case *c) { return jsonb_array_overlap(DOCUMENT, OTHER, &c->truth); }
-static uint32_t run_sort_key(Case *c) { return jsonb_sort_key(DOCUMENT, false, OUT); }
-static uint32_t run_wide_key(Case *c) { return jsonb_sort_key(DOCUMENT, true, OUT); }
-static uint32_t run_equality_key(Case *c) { return jsonb_equality_key(DOCUMENT, OUT); }
-static uint32_t run_strip_nulls(Case *c) { return jsonb_strip_nulls(DOCUMENT, OUT); }
-static uint32_t run_distinct(Case *c) { return jsonb_array_distinct(DOCUMENT, OUT); }
-static uint32_t run_concat(Case *c) { return jsonb_concat(DOCUMENT, OTHER, OUT); }
-static uint32_t run_get(Case *c) { return jsonb_get_by_keypath(DOCUMENT, PATH, OUT); }
-static uint32_t run_delete(Case *c) { return jsonb_delete_by_keypath(DOCUMENT, PATH, OUT); }
-static uint32_t run_below(Case *c) { return jsonb_exists(DOCUMENT, BELOW, sizeof BELOW - 1, false, &c->truth); }
-static uint32_t run_path(Case *c) { return jsonb_exists(SMALL, sizeof SMALL, PATH, false, &c->truth); }
-static uint32_t run_nothing(Case *c) { return (void)c, JSONB_OK; }
+static uint32_t run_check(Case *c) { return jdoc_check(DOCUMENT); }
+static uint32_t run_contains(Case *c) { return jdoc_contains(DOCUMENT, OTHER, &c->truth); }
+static uint32_t run_overlap(Case *c) { return jdoc_array_overlap(DOCUMENT, OTHER, &c->truth); }
+static uint32_t run_sort_key(Case *c) { return jdoc_sort_key(DOCUMENT, false, OUT); }
+static uint32_t run_wide_key(Case *c) { return jdoc_sort_key(DOCUMENT, true, OUT); }
+static uint32_t run_equality_key(Case *c) { return jdoc_equality_key(DOCUMENT, OUT); }
+static uint32_t run_strip_nulls(Case *c) { return jdoc_strip_nulls(DOCUMENT, OUT); }
+static uint32_t run_distinct(Case *c) { return jdoc_array_distinct(DOCUMENT, OUT); }
+static uint32_t run_concat(Case *c) { return jdoc_concat(DOCUMENT, OTHER, OUT); }
+static uint32_t run_get(Case *c) { return jdoc_get_by_keypath(DOCUMENT, PATH, OUT); }
+static uint32_t run_delete(Case *c) { return jdoc_delete_by_keypath(DOCUMENT, PATH, OUT); }
+static uint32_t run_below(Case *c) { return jdoc_exists(DOCUMENT, BELOW, sizeof BELOW - 1, false, &c->truth); }
+static uint32_t run_path(Case *c) { return jdoc_exists(SMALL, sizeof SMALL, PATH, false, &c->truth); }
+static uint32_t run_nothing(Case *c) { return (void)c, JDOC_OK; }
 
 typedef struct {
     const char *name;
@@ -184,8 +184,8 @@ static const Call *call_named(const char *name)
     return NULL;
 }
 
-/* The buffers of a shape, or of a path. False where there is no such name. A document is beside another that ends with
-   another byte, so that they must be compared to the end, and beside the key path to its innermost item. */
+/* The buffers of a shape, or of a path. False if there is no such name. Next to a document are another one that
+   differs in the last byte, so that they must be compared to the end, and the key path to its innermost item. */
 static bool make(Case *c, const char *shape, size_t levels)
 {
     for (size_t i = 0; i < sizeof PATHS / sizeof *PATHS; i++) {
@@ -213,9 +213,9 @@ int main(int argc, char **argv)
     }
     c.out = buffer_of(4 * (c.document.len + c.other.len) + 64);
     uint32_t status = call->run(&c);
-    uint8_t name[64];
+    char name[64];
     size_t name_len = 0;
-    jsonb_status_name(status, name, sizeof name, &name_len);
-    printf("%.*s %zu %u\n", (int)name_len, (const char *)name, c.len, c.truth);
+    jdoc_status_name(status, name, sizeof name, &name_len);
+    printf("%.*s %zu %u\n", (int)name_len, name, c.len, c.truth);
     return 0;
 }

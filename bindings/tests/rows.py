@@ -1,11 +1,11 @@
 #!/usr/bin/env python3
-"""The worked rows as calls of the C library: what goes in, and what has to come out.
+"""The example rows as calls of the C library: arguments and expected results.
 
     bindings/tests/rows.py > FILE     a line for each row, for bindings/c/tests/rows.c
 
-Answers are documents that were written by hand from the format, or JSON texts that tools/documents.py turns into
+Results are documents that were written by hand from the format, or JSON text that tools/documents.py converts to
 documents; it is written from docs/FORMAT.md and shares nothing with the library. A line is the call, its arguments, `=`,
-the status and the answer; bytes are in hexadecimal, and `-` is no bytes.
+the status and the result; bytes are in hexadecimal, and `-` is empty.
 """
 
 import os
@@ -17,10 +17,10 @@ sys.path.insert(0, os.path.join(os.path.dirname(os.path.abspath(__file__)), ".."
 sys.dont_write_bytecode = True
 import documents
 
-OK, NONE = "JSONB_OK", "JSONB_NONE"
-STRICT_PATH, INVALID_JSON_PATH, INVALID_KEY_PATH = "JSONB_STRICT_PATH", "JSONB_INVALID_JSON_PATH", "JSONB_INVALID_KEY_PATH"
-INVALID_JSONB, UNSUPPORTED_NUMBER = "JSONB_INVALID_JSONB", "JSONB_UNSUPPORTED_NUMBER"
-BAD_OFFSETS, NOT_UTF8 = "JSONB_BAD_OFFSETS", "JSONB_NOT_UTF8"
+OK, NONE = "JDOC_OK", "JDOC_NONE"
+STRICT_PATH, INVALID_JSON_PATH, INVALID_KEY_PATH = "JDOC_STRICT_PATH", "JDOC_INVALID_JSON_PATH", "JDOC_INVALID_KEY_PATH"
+INVALID_JSONB, UNSUPPORTED_NUMBER = "JDOC_INVALID_JSONB", "JDOC_UNSUPPORTED_NUMBER"
+BAD_OFFSETS, NOT_UTF8 = "JDOC_BAD_OFFSETS", "JDOC_NOT_UTF8"
 FALSE, TRUE, UNKNOWN = 0, 1, 2
 
 
@@ -37,11 +37,11 @@ class Row:
 
 
 class Names(list):
-    """A column of texts or of documents."""
+    """A column of strings or of documents."""
 
 
 class Parts(tuple):
-    """The halves of a whole value, and a scale."""
+    """The halves of an integer, and a scale."""
 
 
 @dataclass
@@ -80,13 +80,13 @@ def number(value):
 
 
 def decimal(scale, value, width=8):
-    """A decimal as a document, in the width that is said."""
+    """A decimal as a document, of this width."""
     payload = b"\x70" + value.to_bytes(width, "big", signed=True) + bytes([scale])
     return bytes.fromhex("20000000") + (0x20000000 + len(payload)).to_bytes(4, "big") + payload
 
 
 def nested(depth):
-    """So many arrays, one in the other."""
+    """Nested arrays of this depth."""
     document = bytes.fromhex("80000000")
     for _ in range(depth - 1):
         document = bytes.fromhex("80000001") + (0x50000000 + len(document)).to_bytes(4, "big") + document
@@ -121,7 +121,7 @@ DAMAGED = bytes.fromhex("800000")
 
 
 def table(call, rows):
-    """Rows of one call: its arguments, and then its answer, or its status where there is no answer."""
+    """Rows of one call: its arguments, and then its result, or its status if there is no result."""
     for *arguments, answer in rows:
         is_status = isinstance(answer, str)
         yield Row(call, tuple(arguments), answer if is_status else OK, None if is_status else answer)
@@ -131,7 +131,7 @@ def selections(strict, rows):
     """Rows of one path on one document: the list that it selects as a JSON text, or a status, by all calls that select."""
     for path, document, answer in rows:
         words = (document, path, strict)
-        if answer.startswith("JSONB_"):
+        if answer.startswith("JDOC_"):
             for call in ("select_value", "select_first", "select_array", "exists"):
                 yield Row(call, words, answer)
             continue
@@ -162,16 +162,16 @@ def places():
         (V[1], "k", False, NONE), (V[15], b"\xff", False, NOT_UTF8),
     ])
     yield from table("delete_by_name", [
-        (V[3], "a", V[5]), (number(5), "a", "JSONB_INVALID_JSON_TYPE"), (V[10], "a", json('{"b":[null]}')),
+        (V[3], "a", V[5]), (number(5), "a", "JDOC_INVALID_JSON_TYPE"), (V[10], "a", json('{"b":[null]}')),
         (V[3], b"\xff", NOT_UTF8),
     ])
     yield from table("delete_by_index", [
         (V[5], -2147483648, V[5]), (V[2], -1, json("[10,20]")), (V[2], 0, json("[20,30]")), (V[2], 3, V[2]),
-        (V[10], 0, "JSONB_INVALID_JSON_TYPE"),
+        (V[10], 0, "JDOC_INVALID_JSON_TYPE"),
     ])
     yield from table("delete_by_keypath", [
         (V[1], "{2,k}", bytes.fromhex("80000003300000002000000250000004500a40000000")), (V[1], "{7}", V[1]),
-        (number(5), "{7}", "JSONB_INVALID_JSON_TYPE"), (V[12], "{0}", V[12]), (V[1], "{", INVALID_KEY_PATH),
+        (number(5), "{7}", "JDOC_INVALID_JSON_TYPE"), (V[12], "{0}", V[12]), (V[1], "{", INVALID_KEY_PATH),
     ])
 
 
@@ -184,9 +184,9 @@ def edits():
     ])
     yield from table("object_insert", [
         (V[15], one, "b", False, bytes.fromhex("40000002 10000003 10000001 10000003 20000002 617364 62 616466 5001")),
-        (V[15], one, "asd", False, "JSONB_OBJECT_DUPLICATE_KEY"),
+        (V[15], one, "asd", False, "JDOC_OBJECT_DUPLICATE_KEY"),
         (V[15], one, "asd", True, bytes.fromhex("40000001 10000003 20000002 617364 5001")),
-        (V[5], one, "a", True, "JSONB_INVALID_OBJECT"), (V[15], one, b"\xff", True, NOT_UTF8),
+        (V[5], one, "a", True, "JDOC_INVALID_OBJECT"), (V[15], one, b"\xff", True, NOT_UTF8),
     ])
     yield from table("concat", [
         (V[5], V[9], bytes.fromhex("80000002 20000002 5000000a 5001 80000001 20000002 5001")),
@@ -199,12 +199,12 @@ def edits():
     ])
     yield from table("object_pick", [
         (V[10], Names(["a"]), bytes.fromhex("40000001 10000001 00000000 61")), (V[10], Names(), json("{}")),
-        (V[10], Names(["b", "c", "b"]), json('{"b":[null]}')), (V[5], Names(["a"]), "JSONB_INVALID_OBJECT"),
+        (V[10], Names(["b", "c", "b"]), json('{"b":[null]}')), (V[5], Names(["a"]), "JDOC_INVALID_OBJECT"),
         (V[10], Names([b"\xff"]), NOT_UTF8),
     ])
     yield from table("object_delete", [
         (V[10], Names(["a"]), bytes.fromhex("40000001 10000001 50000008 62 80000001 00000000")),
-        (V[10], Names(), V[10]), (V[5], Names(["a"]), "JSONB_INVALID_OBJECT"),
+        (V[10], Names(), V[10]), (V[5], Names(["a"]), "JDOC_INVALID_OBJECT"),
     ])
 
 
@@ -278,20 +278,20 @@ def scalars():
         (DAMAGED, INVALID_JSONB),
     ])
     yield from table("to_bool", [
-        (json('"YES"'), TRUE), (json('"1"'), "JSONB_INVALID_CAST"), (json("false"), FALSE), (json('"no"'), FALSE),
+        (json('"YES"'), TRUE), (json('"1"'), "JDOC_INVALID_CAST"), (json("false"), FALSE), (json('"no"'), FALSE),
     ])
     yield from table("to_i64", [
-        (decimal(1, 25), 3), (decimal(1, -25), -3), (json('"+5"'), 5), (json('"2.5"'), "JSONB_INVALID_CAST"),
-        (number(2**64 - 1), "JSONB_INVALID_CAST"), (decimal(1, 92233720368547758075, 16), "JSONB_INVALID_CAST"),
+        (decimal(1, 25), 3), (decimal(1, -25), -3), (json('"+5"'), 5), (json('"2.5"'), "JDOC_INVALID_CAST"),
+        (number(2**64 - 1), "JDOC_INVALID_CAST"), (decimal(1, 92233720368547758075, 16), "JDOC_INVALID_CAST"),
         (json("true"), 1), (FLOAT, UNSUPPORTED_NUMBER),
     ])
     yield from table("to_u64", [
-        (json('"-0"'), "JSONB_INVALID_CAST"), (decimal(1, 92233720368547758075, 16), 9223372036854775808),
-        (decimal(1, -4), 0), (decimal(1, -5), "JSONB_INVALID_CAST"),
+        (json('"-0"'), "JDOC_INVALID_CAST"), (decimal(1, 92233720368547758075, 16), 9223372036854775808),
+        (decimal(1, -4), 0), (decimal(1, -5), "JDOC_INVALID_CAST"),
     ])
     yield from table("to_str", [
         (decimal(3, -5), b"-0.005"), (decimal(0, 7), b"7"), (decimal(1, 10), b"1.0"), (json("true"), b"true"),
-        (json('"a"'), b"a"), (V[5], "JSONB_INVALID_CAST"), (FLOAT, UNSUPPORTED_NUMBER),
+        (json('"a"'), b"a"), (V[5], "JDOC_INVALID_CAST"), (FLOAT, UNSUPPORTED_NUMBER),
     ])
 
 
@@ -312,7 +312,7 @@ def keys():
     ]
     yield from table("sort_key", [(document, False, bytes.fromhex(key)) for document, key in narrow])
     yield from table("sort_key", [(document, True, bytes.fromhex(key)) for document, key in wide])
-    yield from table("sort_key", [(nested(257), False, "JSONB_TOO_DEEP"), (FLOAT, False, UNSUPPORTED_NUMBER)])
+    yield from table("sort_key", [(nested(257), False, "JDOC_TOO_DEEP"), (FLOAT, False, UNSUPPORTED_NUMBER)])
     yield from table("equality_key", [
         (number(1), bytes.fromhex("048103e90200")), (decimal(1, 10), bytes.fromhex("048103e90200")),
         (V[5], bytes.fromhex("07 00000001 048103e90200")),
@@ -326,15 +326,15 @@ LAX = [
     ("$[-1]", V[2], "[]"), ("1 == -1", V[5], "[false]"), ("", V[5], "[[1]]"),
     ("$.a\n", json(r'{"a":1,"a\n":2}'), "[2]"), ("$?(@ == 1)", V[3], '[[1,"a"]]'), ("$?(@ == 1)", V[4], "[]"),
     ("$[*]?(-@.a)", EMPTY_ARRAY, "[]"), ("$[*]?(-@.a)", V[5], INVALID_JSON_PATH), ("-$[*]", V[6], "[-1,2]"),
-    ("-$[*]", V[7], "JSONB_OVERFLOW"), ("$ / 2", number(5), "JSONB_INEXACT"), ("$ / 0", number(5), "JSONB_ZERO_DIVISOR"),
+    ("-$[*]", V[7], "JDOC_OVERFLOW"), ("$ / 2", number(5), "JDOC_INEXACT"), ("$ / 0", number(5), "JDOC_ZERO_DIVISOR"),
     ("$ % 3", number(-7), "[-1]"), ("$[0] == 1 || $[1] == 1", V[3], "[null]"), ("$ != null", number(5), "[true]"),
     ("$.phones[*]?(@.number == 3720453)", V[11], '[{"number":3720453,"type":"home"}]'), ("$.**", V[9], "[[[1]],[1],1]"),
     ("$.**{1}", V[9], "[[1]]"), ('$[*]?(@ starts with "a")', V[3], '["a"]'), ("$.*", V[10], "[null,[null]]"),
     ("$[*]?(exists(@.k))", V[1], '[{"k":"v"}]'), ("$.b[*]?(@ == null)", V[10], "[null]"), ("$[*]", V[5], "[1]"),
     ("$[*]", V[2], "[10,20,30]"), ("$[*]", EMPTY_ARRAY, "[]"), ("$ - 1", number(0), "[-1]"), ("7 - 10", V[5], "[-3]"),
-    ("$ * 4294967295", number(2**32), "[18446744069414584320]"), ("$ * $", number(2**32), "JSONB_OVERFLOW"),
-    ("-$", number(-2**63), "[9223372036854775808]"), ("$ % 0", decimal(2, 1234), "JSONB_DECIMAL_OPERAND"),
-    ("$[*] + 1", V[2], INVALID_JSON_PATH), ("-$[*]", json("[1,18446744073709551615]"), "JSONB_OVERFLOW"),
+    ("$ * 4294967295", number(2**32), "[18446744069414584320]"), ("$ * $", number(2**32), "JDOC_OVERFLOW"),
+    ("-$", number(-2**63), "[9223372036854775808]"), ("$ % 0", decimal(2, 1234), "JDOC_DECIMAL_OPERAND"),
+    ("$[*] + 1", V[2], INVALID_JSON_PATH), ("-$[*]", json("[1,18446744073709551615]"), "JDOC_OVERFLOW"),
     ("+$", FLOAT, UNSUPPORTED_NUMBER), ("$[last + 2147483647]", V[2], "[]"),
     ("$[-2147483648 to 2147483647]", V[2], "[10,20,30]"), ("$[last - 2147483647 to last]", V[2], "[10,20,30]"),
     ("(" * 300 + "$ == 1" + ")" * 300, number(1), "[true]"), ("$.a", V[10], "[null]"), ("$.c", V[10], "[]"),
@@ -397,7 +397,7 @@ def making():
     yield from table("object_from_columns", [
         (Names(), Names(), json("{}")), (Names(["asd"]), Names([text]), V[15]),
         (Names(["b", "a"]), Names([json("[null]"), json("null")]), V[10]), (Names(["b", ""]), Names([one, one]), json('{"":1,"b":1}')),
-        (Names(["a", "b", "a"]), Names([one, one, one]), "JSONB_OBJECT_DUPLICATE_KEY"),
+        (Names(["a", "b", "a"]), Names([one, one, one]), "JDOC_OBJECT_DUPLICATE_KEY"),
         (Names(["a", "a"]), Names([one, DAMAGED]), INVALID_JSONB), (Names(["a"]), Names([FLOAT]), UNSUPPORTED_NUMBER),
         (Names(["a"]), Names(), BAD_OFFSETS), (Names(), Names([one]), BAD_OFFSETS), (Names(["a"]), Placed(one, (0, 11)), BAD_OFFSETS),
         (Names([b"\xff"]), Placed(one, (0, 11)), BAD_OFFSETS), (Names([b"\xff"]), Names([one]), NOT_UTF8),
@@ -438,9 +438,26 @@ def leaves():
         yield from table(call, [(FLOAT, UNSUPPORTED_NUMBER), (DAMAGED, INVALID_JSONB), (b"", INVALID_JSONB)])
 
 
+# The calls with a path that have one on a prepared path, of which each row is one too (bindings/c/tests/handles.h).
+PREPARED = {
+    "select_value": ["by_path_select_value"], "select_first": ["by_path_select_first", "by_path_read_again"],
+    "select_array": ["by_path_select_array"], "exists": ["by_path_exists"], "match": ["by_path_match"],
+    "get_by_keypath": ["by_keypath_get"], "delete_by_keypath": ["by_keypath_delete"],
+}
+
+
+def prepared(rows):
+    """The rows, and after each that runs on a prepared path too the rows of it."""
+    for row in rows:
+        yield row
+        for call in PREPARED.get(row.call, []):
+            yield Row(call, row.arguments, row.status, row.answer)
+    yield from table("by_wrong_kind", [(V[10], "$.a", False, "JDOC_NO_PATH"), (V[10], "$.", False, INVALID_JSON_PATH)])
+
+
 def all_rows():
-    for part in (places, edits, places_of_names, sets, scalars, keys, paths, making, reading, leaves):
-        yield from part()
+    parts = (places, edits, places_of_names, sets, scalars, keys, paths, making, reading, leaves)
+    yield from prepared(row for part in parts for row in part())
 
 
 if __name__ == "__main__":

@@ -1,7 +1,7 @@
-/* Each call on a column beside the same call on each of its rows: rooms of every size with guard bytes behind, damaged
- * rows among good ones, positions that fall, repeat and pass the end, and with -DREFUSING each growth refused in turn.
+/* Each call on a column compared with the same call on each of its rows: buffers of every size with guard bytes after them,
+ * damaged rows among good ones, offsets that decrease, repeat and exceed the end, and with -DREFUSING each allocation failed in turn.
  * The last line is `N passed, M failed`. */
-#include "jsonb.h"
+#include "jdoc.h"
 #include "growths.h"
 
 #include <stdio.h>
@@ -9,7 +9,8 @@
 #include <string.h>
 
 enum { FILL = 0xee, GUARD = 4, MOST = 4096, MOST_ROWS = 32 };
-#define TEXT(text) (const uint8_t *)(text), sizeof(text) - 1
+#define TEXT(text)  (text), sizeof(text) - 1
+#define BYTES(text) (const uint8_t *)(text), sizeof(text) - 1
 
 struct column {
     uint8_t bytes[1024];
@@ -41,7 +42,7 @@ static void fill_column(struct column *column) {
     }
 }
 
-/* The same documents with positions that repeat, fall, pass the end, by little and by much. */
+/* These documents with offsets that repeat, decrease, or exceed the end, by little and by much. */
 static void spoil_column(struct column *column) {
     uint64_t end = column->len;
     const uint64_t more[] = {end, end, 3, 35, end + 1, end, UINT64_MAX, (uint64_t)1 << 63, 0, 32, (uint64_t)1 << 32,
@@ -49,7 +50,7 @@ static void spoil_column(struct column *column) {
     for (size_t i = 0; i < sizeof more / sizeof *more; i++) column->offsets[column->offsets_len++] = more[i];
 }
 
-/* What one row gives: its status, and its answer as bytes (of a truth or a number, its own). */
+/* The result of one row: its status, and its bytes (those of a Boolean or a number). */
 struct cell {
     _Alignas(8) uint8_t bytes[256];
     size_t len;
@@ -71,7 +72,7 @@ struct runs {
     size_t positions_len;
     uint8_t *statuses;
     size_t statuses_len;
-    jsonb_progress progress;
+    jdoc_progress progress;
 };
 
 #define COLUMN column->bytes, column->len, column->offsets + first, column->offsets_len - first
@@ -79,7 +80,8 @@ struct runs {
 #define ROWS   rows->statuses, rows->statuses_len, &rows->done
 #define RUNS                                                                                                           \
     runs->out, runs->size, runs->positions, runs->positions_len, runs->statuses, runs->statuses_len, &runs->progress
-#define CELL cell->bytes, sizeof cell->bytes, &cell->len
+#define CELL      cell->bytes, sizeof cell->bytes, &cell->len
+#define TEXT_CELL (char *)cell->bytes, sizeof cell->bytes, &cell->len
 typedef uint32_t fixed_fn(const struct column *column, size_t first, struct rows *rows);
 typedef uint32_t runs_fn(const struct column *column, size_t first, struct runs *runs);
 typedef uint32_t cell_fn(const uint8_t *document, size_t len, struct cell *cell);
@@ -90,43 +92,43 @@ typedef uint32_t cell_fn(const uint8_t *document, size_t len, struct cell *cell)
         cell->len = size;                                                                                              \
         return of_row;                                                                                                 \
     }
-FIXED(check, 0, jsonb_column_check(COLUMN, ROWS), jsonb_check(ROW))
-FIXED(exists, 1, jsonb_column_exists(COLUMN, TEXT("$.k"), false, rows->answers, rows->room, ROWS),
-      jsonb_exists(ROW, TEXT("$.k"), false, cell->bytes))
-FIXED(match, 1, jsonb_column_match(COLUMN, TEXT("$.k > 1"), false, rows->answers, rows->room, ROWS),
-      jsonb_match(ROW, TEXT("$.k > 1"), false, cell->bytes))
-FIXED(match_strict, 1, jsonb_column_match(COLUMN, TEXT("$.k > 1"), true, rows->answers, rows->room, ROWS),
-      jsonb_match(ROW, TEXT("$.k > 1"), true, cell->bytes))
-FIXED(contains, 1, jsonb_column_contains(COLUMN, TEXT("\x80\0\0\1\x20\0\0\2\x50\1"), rows->answers, rows->room, ROWS),
-      jsonb_contains(ROW, TEXT("\x80\0\0\1\x20\0\0\2\x50\1"), cell->bytes))
-FIXED(to_i64, 8, jsonb_column_to_i64(COLUMN, (int64_t *)(void *)rows->answers, rows->room, ROWS),
-      jsonb_to_i64(ROW, (int64_t *)(void *)cell->bytes))
+FIXED(check, 0, jdoc_column_check(COLUMN, ROWS), jdoc_check(ROW))
+FIXED(exists, 1, jdoc_column_exists(COLUMN, TEXT("$.k"), false, rows->answers, rows->room, ROWS),
+      jdoc_exists(ROW, TEXT("$.k"), false, cell->bytes))
+FIXED(match, 1, jdoc_column_match(COLUMN, TEXT("$.k > 1"), false, rows->answers, rows->room, ROWS),
+      jdoc_match(ROW, TEXT("$.k > 1"), false, cell->bytes))
+FIXED(match_strict, 1, jdoc_column_match(COLUMN, TEXT("$.k > 1"), true, rows->answers, rows->room, ROWS),
+      jdoc_match(ROW, TEXT("$.k > 1"), true, cell->bytes))
+FIXED(contains, 1, jdoc_column_contains(COLUMN, BYTES("\x80\0\0\1\x20\0\0\2\x50\1"), rows->answers, rows->room, ROWS),
+      jdoc_contains(ROW, BYTES("\x80\0\0\1\x20\0\0\2\x50\1"), cell->bytes))
+FIXED(to_i64, 8, jdoc_column_to_i64(COLUMN, (int64_t *)(void *)rows->answers, rows->room, ROWS),
+      jdoc_to_i64(ROW, (int64_t *)(void *)cell->bytes))
 
-#define BYTES(name, of_column, of_row)                                                                                 \
+#define BYTES_CALLS(name, of_column, of_row)                                                                                 \
     static uint32_t name##_column(const struct column *column, size_t first, struct runs *runs) { return of_column; }  \
     static uint32_t name##_row(const uint8_t *document, size_t len, struct cell *cell) { return of_row; }
-BYTES(get, jsonb_column_get(COLUMN, TEXT("{k}"), RUNS), jsonb_get_by_keypath(ROW, TEXT("{k}"), CELL))
-BYTES(select_first, jsonb_column_select_first(COLUMN, TEXT("$.**"), false, RUNS),
-      jsonb_select_first(ROW, TEXT("$.**"), false, CELL))
-BYTES(select_value, jsonb_column_select_value(COLUMN, TEXT("$.*"), false, RUNS),
-      jsonb_select_value(ROW, TEXT("$.*"), false, CELL))
-BYTES(select_array, jsonb_column_select_array(COLUMN, TEXT("$.k"), false, RUNS),
-      jsonb_select_array(ROW, TEXT("$.k"), false, CELL))
-BYTES(select_strict, jsonb_column_select_array(COLUMN, TEXT("$.k"), true, RUNS),
-      jsonb_select_array(ROW, TEXT("$.k"), true, CELL))
-BYTES(key, jsonb_column_key(COLUMN, false, RUNS), jsonb_sort_key(ROW, false, CELL))
-BYTES(key_wide, jsonb_column_key(COLUMN, true, RUNS), jsonb_sort_key(ROW, true, CELL))
-BYTES(equality_key, jsonb_column_equality_key(COLUMN, RUNS), jsonb_equality_key(ROW, CELL))
-BYTES(to_str, jsonb_column_to_str(COLUMN, RUNS), jsonb_to_str(ROW, CELL))
-BYTES(delete_by_keypath, jsonb_column_delete_by_keypath(COLUMN, TEXT("{k}"), RUNS),
-      jsonb_delete_by_keypath(ROW, TEXT("{k}"), CELL))
+BYTES_CALLS(get, jdoc_column_get(COLUMN, TEXT("{k}"), RUNS), jdoc_get_by_keypath(ROW, TEXT("{k}"), CELL))
+BYTES_CALLS(select_first, jdoc_column_select_first(COLUMN, TEXT("$.**"), false, RUNS),
+      jdoc_select_first(ROW, TEXT("$.**"), false, CELL))
+BYTES_CALLS(select_value, jdoc_column_select_value(COLUMN, TEXT("$.*"), false, RUNS),
+      jdoc_select_value(ROW, TEXT("$.*"), false, CELL))
+BYTES_CALLS(select_array, jdoc_column_select_array(COLUMN, TEXT("$.k"), false, RUNS),
+      jdoc_select_array(ROW, TEXT("$.k"), false, CELL))
+BYTES_CALLS(select_strict, jdoc_column_select_array(COLUMN, TEXT("$.k"), true, RUNS),
+      jdoc_select_array(ROW, TEXT("$.k"), true, CELL))
+BYTES_CALLS(key, jdoc_column_key(COLUMN, false, RUNS), jdoc_sort_key(ROW, false, CELL))
+BYTES_CALLS(key_wide, jdoc_column_key(COLUMN, true, RUNS), jdoc_sort_key(ROW, true, CELL))
+BYTES_CALLS(equality_key, jdoc_column_equality_key(COLUMN, RUNS), jdoc_equality_key(ROW, CELL))
+BYTES_CALLS(to_str, jdoc_column_to_str(COLUMN, (char *)RUNS), jdoc_to_str(ROW, TEXT_CELL))
+BYTES_CALLS(delete_by_keypath, jdoc_column_delete_by_keypath(COLUMN, TEXT("{k}"), RUNS),
+      jdoc_delete_by_keypath(ROW, TEXT("{k}"), CELL))
 
 struct fixed_call {
     const char *name;
     fixed_fn *column;
     cell_fn *row;
-    size_t width; /* of an answer, in bytes */
-    uint8_t none; /* the first byte of an answer that there is none */
+    size_t width; /* of a result, in bytes */
+    uint8_t none; /* the first byte of a missing result */
 };
 static const struct fixed_call fixed_calls[] = {
     {"check", check_column, check_row, 0, 0},          {"exists", exists_column, exists_row, 1, 2},
@@ -154,11 +156,11 @@ static size_t wanted_cells(const struct column *column, cell_fn *row, const stru
         uint64_t from = column->offsets[i], to = column->offsets[i + 1];
         memset(&cells[i], 0, sizeof cells[i]);
         bool is_inside = from <= to && to <= column->len;
-        cells[i].status = (uint8_t)(is_inside ? row(column->bytes + from, to - from, &cells[i]) : JSONB_BAD_OFFSETS);
+        cells[i].status = (uint8_t)(is_inside ? row(column->bytes + from, to - from, &cells[i]) : JDOC_BAD_OFFSETS);
         if (fixed) {
             cells[i].len = fixed->width;
-            if (cells[i].status != JSONB_OK) memset(cells[i].bytes, 0, fixed->width), cells[i].bytes[0] = fixed->none;
-        } else if (cells[i].status != JSONB_OK) {
+            if (cells[i].status != JDOC_OK) memset(cells[i].bytes, 0, fixed->width), cells[i].bytes[0] = fixed->none;
+        } else if (cells[i].status != JDOC_OK) {
             cells[i].len = 0;
         }
     }
@@ -178,7 +180,7 @@ static void judge(bool right, const char *call, const char *what, size_t room) {
     if (!right) printf("WRONG: %s, %s, room %zu\n", call, what, room);
 }
 
-/* Rows of one width, with room for so many answers and so many statuses. */
+/* Rows of one width, with space for these numbers of results and statuses. */
 static bool fixed_is_right(const struct column *column, const struct fixed_call *call, const struct cell *cells,
                            size_t room, size_t statuses) {
     size_t rows = column->offsets_len - 1, most = call->width && room < statuses ? room : statuses,
@@ -186,7 +188,7 @@ static bool fixed_is_right(const struct column *column, const struct fixed_call 
     struct rows given = {malloc((room + GUARD) * 8), room, malloc(statuses + GUARD), statuses, 99};
     memset(given.answers, FILL, (room + GUARD) * 8), memset(given.statuses, FILL, statuses + GUARD);
     uint32_t status = call->column(column, 0, &given);
-    bool right = given.done == done && status == (uint32_t)(done == rows ? JSONB_OK : JSONB_BUFFER_TOO_SMALL);
+    bool right = given.done == done && status == (uint32_t)(done == rows ? JDOC_OK : JDOC_BUFFER_TOO_SMALL);
     for (size_t i = 0; right && i < done; i++)
         right = given.statuses[i] == cells[i].status &&
                 !memcmp(given.answers + i * call->width, cells[i].bytes, call->width);
@@ -212,7 +214,7 @@ static bool runs_are_right(const struct column *column, const struct bytes_call 
     memset(given.statuses, FILL, statuses + GUARD);
     uint32_t status = call->column(column, first, &given);
     bool is_whole = *done == rows && positions;
-    bool right = status == (uint32_t)(is_whole ? JSONB_OK : JSONB_BUFFER_TOO_SMALL) && given.progress.rows == *done &&
+    bool right = status == (uint32_t)(is_whole ? JDOC_OK : JDOC_BUFFER_TOO_SMALL) && given.progress.rows == *done &&
                  given.progress.bytes == total && given.progress.next == next;
     uint64_t at = 0;
     for (size_t i = 0; right && i < *done; i++) {
@@ -230,7 +232,7 @@ static bool runs_are_right(const struct column *column, const struct bytes_call 
     return right;
 }
 
-/* Goes on behind the rows that are done until all are. */
+/* Continues after the rows that are done until all are. */
 static bool going_on_is_right(const struct column *column, const struct bytes_call *call, const struct cell *cells,
                               size_t size) {
     size_t rows = column->offsets_len - 1;
@@ -280,40 +282,40 @@ static void test_refused_paths(const struct column *column) {
     memset(bytes, FILL, sizeof bytes), memset(places, FILL, sizeof places);
     struct rows given = {bytes, 8, bytes, 8, 99}, *rows = &given;
     struct runs asked = {bytes, 8, places, 8, bytes, 8, {99, 99, 99}}, *runs = &asked;
-    judge(jsonb_column_match(COLUMN, TEXT("$["), false, bytes, 8, ROWS) == JSONB_INVALID_JSON_PATH && rows->done == 0,
+    judge(jdoc_column_match(COLUMN, TEXT("$["), false, bytes, 8, ROWS) == JDOC_INVALID_JSON_PATH && rows->done == 0,
           "match", "path", 0);
-    judge(jsonb_column_exists(COLUMN, TEXT("\xff"), false, bytes, 8, ROWS) == JSONB_INVALID_JSON_PATH, "exists", "path",
+    judge(jdoc_column_exists(COLUMN, TEXT("\xff"), false, bytes, 8, ROWS) == JDOC_INVALID_JSON_PATH, "exists", "path",
           0);
-    judge(jsonb_column_get(COLUMN, TEXT("{"), RUNS) == JSONB_INVALID_KEY_PATH && asked.progress.rows == 0, "get",
+    judge(jdoc_column_get(COLUMN, TEXT("{"), RUNS) == JDOC_INVALID_KEY_PATH && asked.progress.rows == 0, "get",
           "path", 0);
-    judge(jsonb_column_select_value(COLUMN, TEXT("$["), false, RUNS) == JSONB_INVALID_JSON_PATH, "select_value", "path",
+    judge(jdoc_column_select_value(COLUMN, TEXT("$["), false, RUNS) == JDOC_INVALID_JSON_PATH, "select_value", "path",
           0);
-    judge(jsonb_column_select_first(COLUMN, TEXT("@ > 10"), false, RUNS) == JSONB_INVALID_JSON_PATH, "select_first",
+    judge(jdoc_column_select_first(COLUMN, TEXT("@ > 10"), false, RUNS) == JDOC_INVALID_JSON_PATH, "select_first",
           "path", 0);
-    judge(jsonb_column_select_array(COLUMN, TEXT("$.**{300}"), true, RUNS) == JSONB_INVALID_JSON_PATH, "select_array",
+    judge(jdoc_column_select_array(COLUMN, TEXT("$.**{300}"), true, RUNS) == JDOC_INVALID_JSON_PATH, "select_array",
           "path", 0);
-    judge(jsonb_column_delete_by_keypath(COLUMN, TEXT("{\xff}"), RUNS) == JSONB_INVALID_KEY_PATH, "delete", "path", 0);
+    judge(jdoc_column_delete_by_keypath(COLUMN, TEXT("{\xff}"), RUNS) == JDOC_INVALID_KEY_PATH, "delete", "path", 0);
     judge(is_filled(bytes, sizeof bytes) && is_filled(places, sizeof places), "all", "path: nothing written", 0);
 }
 
-/* No offsets, one offset, and NULL with length 0 are no rows. */
+/* No offsets, one offset, and NULL with length 0 have zero rows. */
 static void test_no_rows(void) {
     uint64_t one = 0, position = FILL;
     size_t done = 99;
-    jsonb_progress progress = {99, 99, 99};
-    judge(!jsonb_column_match(NULL, 0, NULL, 0, TEXT("$ == 1"), false, NULL, 0, NULL, 0, &done) && done == 0, "match",
+    jdoc_progress progress = {99, 99, 99};
+    judge(!jdoc_column_match(NULL, 0, NULL, 0, TEXT("$ == 1"), false, NULL, 0, NULL, 0, &done) && done == 0, "match",
           "no offsets", 0);
-    judge(!jsonb_column_match(NULL, 0, &one, 1, TEXT("$ == 1"), false, NULL, 0, NULL, 0, &done) && done == 0, "match",
+    judge(!jdoc_column_match(NULL, 0, &one, 1, TEXT("$ == 1"), false, NULL, 0, NULL, 0, &done) && done == 0, "match",
           "one offset", 0);
-    judge(!jsonb_column_key(NULL, 0, &one, 1, false, NULL, 0, &position, 1, NULL, 0, &progress) && progress.rows == 0 &&
+    judge(!jdoc_column_key(NULL, 0, &one, 1, false, NULL, 0, &position, 1, NULL, 0, &progress) && progress.rows == 0 &&
               position == 0,
           "key", "one offset", 0);
-    judge(jsonb_check(NULL, 0) == JSONB_INVALID_JSONB, "check", "NULL", 0);
-    uint32_t status = jsonb_select_value(TEXT("\x80\0\0\0"), NULL, 0, false, NULL, 0, &done);
-    judge(status == JSONB_BUFFER_TOO_SMALL && done == 4, "select_value", "NULL for the path and the buffer", 0);
+    judge(jdoc_check(NULL, 0) == JDOC_INVALID_JSONB, "check", "NULL", 0);
+    uint32_t status = jdoc_select_value(BYTES("\x80\0\0\0"), NULL, 0, false, NULL, 0, &done);
+    judge(status == JDOC_BUFFER_TOO_SMALL && done == 4, "select_value", "NULL for the path and the buffer", 0);
 }
 
-/* Each growth refused in turn: the rows that met it say so, all others are answered, and nothing is kept. */
+/* Fail each allocation in turn: its rows report it, all others have results, and nothing is leaked. */
 static void test_growths(const struct column *column, const struct bytes_call *call) {
     struct cell cells[MOST_ROWS];
     size_t rows = wanted_cells(column, call->row, NULL, cells);
@@ -326,21 +328,21 @@ static void test_growths(const struct column *column, const struct bytes_call *c
         refuse_growth(-1);
         bool met = growths > refused, right = live_blocks() == 0;
         size_t lacking = 0;
-        for (size_t i = 0; status == JSONB_OK && i < rows; i++) {
+        for (size_t i = 0; status == JDOC_OK && i < rows; i++) {
             size_t len = given.positions[i + 1] - given.positions[i];
-            bool is_refused = given.statuses[i] == JSONB_OUT_OF_MEMORY;
+            bool is_refused = given.statuses[i] == JDOC_OUT_OF_MEMORY;
             lacking += is_refused;
             right = right && (is_refused ? len == 0
                                          : given.statuses[i] == cells[i].status && len == cells[i].len &&
                                                !memcmp(given.out + given.positions[i], cells[i].bytes, len));
         }
-        if (status != JSONB_OK) right = right && met && status == JSONB_OUT_OF_MEMORY && given.progress.rows == 0;
-        judge(right && (status != JSONB_OK || lacking == met), call->name, "growth refused", (size_t)refused);
+        if (status != JDOC_OK) right = right && met && status == JDOC_OUT_OF_MEMORY && given.progress.rows == 0;
+        judge(right && (status != JDOC_OK || lacking == met), call->name, "growth refused", (size_t)refused);
         free(given.out), free(given.positions), free(given.statuses);
     }
 }
 
-/* The same of rows of one width. A call that reads no path meets no growth. */
+/* Fail each allocation in turn for rows of one width. A call without a path does not allocate. */
 static void test_fixed_growths(const struct column *column, const struct fixed_call *call) {
     struct cell cells[MOST_ROWS];
     size_t rows = wanted_cells(column, call->row, call, cells);
@@ -354,17 +356,17 @@ static void test_fixed_growths(const struct column *column, const struct fixed_c
         refuse_growth(-1);
         bool met = growths > refused, right = live_blocks() == 0;
         size_t lacking = 0;
-        for (size_t i = 0; status == JSONB_OK && i < rows; i++) {
-            bool is_refused = given.statuses[i] == JSONB_OUT_OF_MEMORY;
+        for (size_t i = 0; status == JDOC_OK && i < rows; i++) {
+            bool is_refused = given.statuses[i] == JDOC_OUT_OF_MEMORY;
             lacking += is_refused;
             right = right && (is_refused ? given.answers[i * call->width] == call->none
                                          : given.statuses[i] == cells[i].status &&
                                                !memcmp(given.answers + i * call->width, cells[i].bytes, call->width));
         }
-        if (status != JSONB_OK)
-            right = right && met && status == JSONB_OUT_OF_MEMORY && given.done == 0 &&
+        if (status != JDOC_OK)
+            right = right && met && status == JDOC_OUT_OF_MEMORY && given.done == 0 &&
                     is_filled(given.answers, rows * 8) && is_filled(given.statuses, rows);
-        judge(right && (status != JSONB_OK || lacking == met), call->name, "growth refused", (size_t)refused);
+        judge(right && (status != JDOC_OK || lacking == met), call->name, "growth refused", (size_t)refused);
         free(given.answers), free(given.statuses);
     }
 }

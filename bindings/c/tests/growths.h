@@ -1,4 +1,4 @@
-/* Counts and refuses the growths of the library. Without -DREFUSING nothing is counted and nothing can be refused. */
+/* Counts and fails the allocations of the library. Without -DREFUSING nothing is counted and nothing can fail. */
 #ifndef GROWTHS_H
 #define GROWTHS_H
 

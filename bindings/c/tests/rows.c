@@ -1,9 +1,9 @@
 /* rows FILE: runs each row of a file that bindings/tests/rows.py made, with buffers of every length from 0 to two bytes
- * more than the answer needs and guard bytes behind, and with NULL for what is empty. With -DREFUSING and malloc,
- * realloc and free wrapped (see the Makefile), each growth of each row is refused in turn as well. Each status has to
+ * more than the result needs and guard bytes after it, and with NULL for what is empty. With -DREFUSING and malloc,
+ * realloc and free wrapped (see the Makefile), each allocation of each row is failed in turn as well. Each status has to
  * come at least once. The last line is `N passed, M failed`. */
 #define _POSIX_C_SOURCE 200809L
-#include "jsonb.h"
+#include "jdoc.h"
 #include "growths.h"
 
 #include <ctype.h>
@@ -13,94 +13,101 @@
 
 enum { GUARD = 16, FILL = 0xee, MOST_WORDS = 12, ALL_LENGTHS = 1024 };
 
-/* What a call takes, by its letters: b bytes, c column, f flag, i and s a position, l and u numbers, y a scale; and
- * what it gives: O bytes, T truth, N and W numbers, C count, D the parts of a decimal. */
-typedef uint32_t b_fn(const uint8_t *, size_t);
-typedef uint32_t bT_fn(const uint8_t *, size_t, uint8_t *);
-typedef uint32_t bN_fn(const uint8_t *, size_t, int64_t *);
-typedef uint32_t bW_fn(const uint8_t *, size_t, uint64_t *);
-typedef uint32_t bC_fn(const uint8_t *, size_t, size_t *);
-typedef uint32_t bD_fn(const uint8_t *, size_t, int64_t *, uint64_t *, uint8_t *);
-typedef uint32_t bO_fn(const uint8_t *, size_t, uint8_t *, size_t, size_t *);
-typedef uint32_t bfO_fn(const uint8_t *, size_t, bool, uint8_t *, size_t, size_t *);
-typedef uint32_t bsO_fn(const uint8_t *, size_t, size_t, uint8_t *, size_t, size_t *);
-typedef uint32_t biO_fn(const uint8_t *, size_t, int32_t, uint8_t *, size_t, size_t *);
-typedef uint32_t bbO_fn(const uint8_t *, size_t, const uint8_t *, size_t, uint8_t *, size_t, size_t *);
-typedef uint32_t bbT_fn(const uint8_t *, size_t, const uint8_t *, size_t, uint8_t *);
-typedef uint32_t bbfO_fn(const uint8_t *, size_t, const uint8_t *, size_t, bool, uint8_t *, size_t, size_t *);
-typedef uint32_t bbfT_fn(const uint8_t *, size_t, const uint8_t *, size_t, bool, uint8_t *);
-typedef uint32_t bbiO_fn(const uint8_t *, size_t, const uint8_t *, size_t, int32_t, uint8_t *, size_t, size_t *);
-typedef uint32_t bbbfO_fn(const uint8_t *, size_t, const uint8_t *, size_t, const uint8_t *, size_t, bool, uint8_t *,
-                          size_t, size_t *);
-typedef uint32_t bcO_fn(const uint8_t *, size_t, const uint8_t *, size_t, const uint64_t *, size_t, uint8_t *, size_t,
-                        size_t *);
-typedef uint32_t bcT_fn(const uint8_t *, size_t, const uint8_t *, size_t, const uint64_t *, size_t, uint8_t *);
-typedef uint32_t cO_fn(const uint8_t *, size_t, const uint64_t *, size_t, uint8_t *, size_t, size_t *);
-typedef uint32_t ccO_fn(const uint8_t *, size_t, const uint64_t *, size_t, const uint8_t *, size_t, const uint64_t *,
-                        size_t, uint8_t *, size_t, size_t *);
-typedef uint32_t O_fn(uint8_t *, size_t, size_t *);
-typedef uint32_t fO_fn(bool, uint8_t *, size_t, size_t *);
-typedef uint32_t lO_fn(int64_t, uint8_t *, size_t, size_t *);
-typedef uint32_t uO_fn(uint64_t, uint8_t *, size_t, size_t *);
-typedef uint32_t luyO_fn(int64_t, uint64_t, uint8_t, uint8_t *, size_t, size_t *);
+/* What a call takes, by its letters: b bytes, t text, c a column, n a column of names, f a flag, i and s a position, l
+ * and u numbers, y a scale; and what it returns: O bytes, S a string, T Boolean, N and W numbers, C count, D the parts of a
+ * decimal. */
+#define BYTES_IN  const uint8_t *, size_t
+#define TEXT_IN   const char *, size_t
+#define COLUMN_IN const uint8_t *, size_t, const uint64_t *, size_t
+#define NAMES_IN  const char *, size_t, const uint64_t *, size_t
+#define BYTES_OUT uint8_t *, size_t, size_t *
+#define TEXT_OUT  char *, size_t, size_t *
+typedef enum jdoc_status b_fn(BYTES_IN);
+typedef enum jdoc_status bT_fn(BYTES_IN, uint8_t *);
+typedef enum jdoc_status bN_fn(BYTES_IN, int64_t *);
+typedef enum jdoc_status bW_fn(BYTES_IN, uint64_t *);
+typedef enum jdoc_status bC_fn(BYTES_IN, size_t *);
+typedef enum jdoc_status bD_fn(BYTES_IN, int64_t *, uint64_t *, uint8_t *);
+typedef enum jdoc_status bO_fn(BYTES_IN, BYTES_OUT);
+typedef enum jdoc_status bS_fn(BYTES_IN, TEXT_OUT);
+typedef enum jdoc_status bfO_fn(BYTES_IN, bool, BYTES_OUT);
+typedef enum jdoc_status bsO_fn(BYTES_IN, size_t, BYTES_OUT);
+typedef enum jdoc_status biO_fn(BYTES_IN, int32_t, BYTES_OUT);
+typedef enum jdoc_status bbO_fn(BYTES_IN, BYTES_IN, BYTES_OUT);
+typedef enum jdoc_status bbT_fn(BYTES_IN, BYTES_IN, uint8_t *);
+typedef enum jdoc_status bbiO_fn(BYTES_IN, BYTES_IN, int32_t, BYTES_OUT);
+typedef enum jdoc_status bbtfO_fn(BYTES_IN, BYTES_IN, TEXT_IN, bool, BYTES_OUT);
+typedef enum jdoc_status btO_fn(BYTES_IN, TEXT_IN, BYTES_OUT);
+typedef enum jdoc_status btfO_fn(BYTES_IN, TEXT_IN, bool, BYTES_OUT);
+typedef enum jdoc_status btfT_fn(BYTES_IN, TEXT_IN, bool, uint8_t *);
+typedef enum jdoc_status bnO_fn(BYTES_IN, NAMES_IN, BYTES_OUT);
+typedef enum jdoc_status bnT_fn(BYTES_IN, NAMES_IN, uint8_t *);
+typedef enum jdoc_status cO_fn(COLUMN_IN, BYTES_OUT);
+typedef enum jdoc_status ncO_fn(NAMES_IN, COLUMN_IN, BYTES_OUT);
+typedef enum jdoc_status O_fn(BYTES_OUT);
+typedef enum jdoc_status tO_fn(TEXT_IN, BYTES_OUT);
+typedef enum jdoc_status fO_fn(bool, BYTES_OUT);
+typedef enum jdoc_status lO_fn(int64_t, BYTES_OUT);
+typedef enum jdoc_status uO_fn(uint64_t, BYTES_OUT);
+typedef enum jdoc_status luyO_fn(int64_t, uint64_t, uint8_t, BYTES_OUT);
 
-/* The answers of jsonb_pair and jsonb_leaves as calls of their own: the others have room enough, and are written with this
+/* The results of jdoc_pair and jdoc_leaves as separate calls: the others have room enough, and are written with this
  * one alone. */
 enum { OTHER = 256, WROTE_OTHER = 998 };
 
-static uint32_t answered_beside(uint32_t status, const uint8_t *other, size_t other_len) {
-    size_t written = status == JSONB_OK ? other_len : 0;
+static enum jdoc_status answered_beside(enum jdoc_status status, const uint8_t *other, size_t other_len) {
+    size_t written = status == JDOC_OK ? other_len : 0;
     for (size_t i = written; i < OTHER; i++)
-        if (other[i] != FILL) return WROTE_OTHER;
+        if (other[i] != FILL) return (enum jdoc_status)WROTE_OTHER;
     return status;
 }
 
-static uint32_t jsonb_pair_key(const uint8_t *document, size_t document_len, size_t index, uint8_t *out, size_t size,
-                               size_t *out_len) {
+static enum jdoc_status jdoc_pair_key(const uint8_t *document, size_t document_len, size_t index, uint8_t *out, size_t size,
+                              size_t *out_len) {
     uint8_t other[OTHER];
     size_t other_len = 0;
     memset(other, FILL, sizeof other);
-    uint32_t status = jsonb_pair(document, document_len, index, out, size, out_len, other, OTHER, &other_len);
+    enum jdoc_status status = jdoc_pair(document, document_len, index, (char *)out, size, out_len, other, OTHER, &other_len);
     return answered_beside(status, other, other_len);
 }
 
-static uint32_t jsonb_pair_value(const uint8_t *document, size_t document_len, size_t index, uint8_t *out, size_t size,
-                                 size_t *out_len) {
+static enum jdoc_status jdoc_pair_value(const uint8_t *document, size_t document_len, size_t index, uint8_t *out, size_t size,
+                                size_t *out_len) {
     uint8_t other[OTHER];
     size_t other_len = 0;
     memset(other, FILL, sizeof other);
-    uint32_t status = jsonb_pair(document, document_len, index, other, OTHER, &other_len, out, size, out_len);
+    enum jdoc_status status = jdoc_pair(document, document_len, index, (char *)other, OTHER, &other_len, out, size, out_len);
     return answered_beside(status, other, other_len);
 }
 
 enum leaf_answer { LEAF_PATHS, LEAF_PATH_POSITIONS, LEAF_DOCUMENTS, LEAF_DOCUMENT_POSITIONS, LEAF_ANSWERS };
 
-static uint32_t leaves_by(enum leaf_answer asked, const uint8_t *document, size_t document_len, uint8_t *out,
+static enum jdoc_status leaves_by(enum leaf_answer asked, const uint8_t *document, size_t document_len, uint8_t *out,
                           size_t size, size_t *out_len) {
     _Alignas(8) uint8_t others[LEAF_ANSWERS][OTHER];
     uint8_t *at[LEAF_ANSWERS];
     size_t room[LEAF_ANSWERS];
-    jsonb_leaf_sizes sizes = {99, 99, 99};
+    jdoc_leaf_sizes sizes = {99, 99, 99};
     memset(others, FILL, sizeof others);
     for (int i = 0; i < LEAF_ANSWERS; i++) {
         at[i] = i == (int)asked ? out : others[i];
         room[i] = i == (int)asked ? size : OTHER;
     }
-    uint32_t status = jsonb_leaves(document, document_len, at[0], room[0], (uint64_t *)at[1], room[1] / 8, at[2],
-                                   room[2], (uint64_t *)at[3], room[3] / 8, &sizes);
-    bool is_told = status == JSONB_OK || status == JSONB_BUFFER_TOO_SMALL;
-    if (!is_told && (sizes.rows || sizes.path_bytes || sizes.document_bytes)) return WROTE_OTHER;
+    enum jdoc_status status = jdoc_leaves(document, document_len, (char *)at[0], room[0], (uint64_t *)at[1], room[1] / 8, at[2],
+                                  room[2], (uint64_t *)at[3], room[3] / 8, &sizes);
+    bool is_told = status == JDOC_OK || status == JDOC_BUFFER_TOO_SMALL;
+    if (!is_told && (sizes.rows || sizes.path_bytes || sizes.document_bytes)) return (enum jdoc_status)WROTE_OTHER;
     size_t positions = is_told ? 8 * (sizes.rows + 1) : 0;
     const size_t lens[LEAF_ANSWERS] = {sizes.path_bytes, positions, sizes.document_bytes, positions};
     *out_len = lens[asked];
     for (int i = 0; i < LEAF_ANSWERS; i++)
-        if (i != (int)asked && answered_beside(status, others[i], lens[i]) != status) return WROTE_OTHER;
+        if (i != (int)asked && answered_beside(status, others[i], lens[i]) != status) return (enum jdoc_status)WROTE_OTHER;
     return status;
 }
 
 #define LEAVES_BY(name, asked)                                                                                         \
-    static uint32_t jsonb_leaf_##name(const uint8_t *document, size_t document_len, uint8_t *out, size_t size,         \
-                                      size_t *out_len) {                                                               \
+    static enum jdoc_status jdoc_leaf_##name(const uint8_t *document, size_t document_len, uint8_t *out, size_t size,          \
+                                     size_t *out_len) {                                                                \
         return leaves_by(asked, document, document_len, out, size, out_len);                                           \
     }
 LEAVES_BY(paths, LEAF_PATHS)
@@ -108,11 +115,12 @@ LEAVES_BY(path_positions, LEAF_PATH_POSITIONS)
 LEAVES_BY(documents, LEAF_DOCUMENTS)
 LEAVES_BY(document_positions, LEAF_DOCUMENT_POSITIONS)
 
+#include "handles.h"
+
 #define SHAPES(X)                                                                                                      \
     X(b)                                                                                                               \
-    X(bT)                                                                                                              \
-    X(bN) X(bW) X(bC) X(bD) X(bO) X(bfO) X(bsO) X(biO) X(bbO) X(bbT) X(bbfO) X(bbfT) X(bbiO) X(bbbfO) X(bcO) X(bcT) X(cO)    \
-        X(ccO) X(O) X(fO) X(lO) X(uO) X(luyO)
+    X(bT) X(bN) X(bW) X(bC) X(bD) X(bO) X(bS) X(bfO) X(bsO) X(biO) X(bbO) X(bbT) X(bbiO) X(bbtfO) X(btO) X(btfO)       \
+        X(btfT) X(bnO) X(bnT) X(cO) X(ncO) X(O) X(tO) X(fO) X(lO) X(uO) X(luyO)
 #define SHAPE_NAME(s)    SHAPE_##s,
 #define SHAPE_FIELD(s)   s##_fn *s;
 #define SHAPE_LETTERS(s) #s,
@@ -126,7 +134,7 @@ struct call {
         SHAPES(SHAPE_FIELD)
     } function;
 };
-#define CALL(call, s) {#call, SHAPE_##s, {.s = jsonb_##call}},
+#define CALL(call, s) {#call, SHAPE_##s, {.s = jdoc_##call}},
 static const struct call calls[] = {
 #include "calls.h"
 };
@@ -173,35 +181,40 @@ static struct result run(const struct row *row, uint8_t *out, size_t size) {
     struct result r = {.len = 99, .truth = FILL, .number = FILL, .whole = FILL, .count = FILL, .scale = FILL};
     const struct bytes *b = row->bytes;
     const struct column *c = row->columns;
-#define B(i) b[i].at, b[i].len
-#define C(i) c[i].bytes.at, c[i].bytes.len, c[i].offsets, c[i].len
-#define OUT  out, size, &r.len
+#define BYTES(i)  b[i].at, b[i].len
+#define TEXT(i)   (const char *)b[i].at, b[i].len
+#define COLUMN(i) c[i].bytes.at, c[i].bytes.len, c[i].offsets, c[i].len
+#define NAMES(i)  (const char *)c[i].bytes.at, c[i].bytes.len, c[i].offsets, c[i].len
+#define OUT       out, size, &r.len
 #define RUN(s, ...)                                                                                                    \
     case SHAPE_##s:                                                                                                    \
         r.status = row->call->function.s(__VA_ARGS__);                                                                 \
         break;
     switch (row->call->shape) {
-        RUN(b, B(0))
-        RUN(bT, B(0), &r.truth)
-        RUN(bN, B(0), &r.number)
-        RUN(bW, B(0), &r.whole)
-        RUN(bC, B(0), &r.count)
-        RUN(bD, B(0), &r.number, &r.whole, &r.scale)
-        RUN(bO, B(0), OUT)
-        RUN(bfO, B(0), row->flag, OUT)
-        RUN(bsO, B(0), (size_t)row->number, OUT)
-        RUN(biO, B(0), (int32_t)row->number, OUT)
-        RUN(bbO, B(0), B(1), OUT)
-        RUN(bbT, B(0), B(1), &r.truth)
-        RUN(bbfO, B(0), B(1), row->flag, OUT)
-        RUN(bbfT, B(0), B(1), row->flag, &r.truth)
-        RUN(bbiO, B(0), B(1), (int32_t)row->number, OUT)
-        RUN(bbbfO, B(0), B(1), B(2), row->flag, OUT)
-        RUN(bcO, B(0), C(0), OUT)
-        RUN(bcT, B(0), C(0), &r.truth)
-        RUN(cO, C(0), OUT)
-        RUN(ccO, C(0), C(1), OUT)
+        RUN(b, BYTES(0))
+        RUN(bT, BYTES(0), &r.truth)
+        RUN(bN, BYTES(0), &r.number)
+        RUN(bW, BYTES(0), &r.whole)
+        RUN(bC, BYTES(0), &r.count)
+        RUN(bD, BYTES(0), &r.number, &r.whole, &r.scale)
+        RUN(bO, BYTES(0), OUT)
+        RUN(bS, BYTES(0), (char *)OUT)
+        RUN(bfO, BYTES(0), row->flag, OUT)
+        RUN(bsO, BYTES(0), (size_t)row->number, OUT)
+        RUN(biO, BYTES(0), (int32_t)row->number, OUT)
+        RUN(bbO, BYTES(0), BYTES(1), OUT)
+        RUN(bbT, BYTES(0), BYTES(1), &r.truth)
+        RUN(bbiO, BYTES(0), BYTES(1), (int32_t)row->number, OUT)
+        RUN(bbtfO, BYTES(0), BYTES(1), TEXT(2), row->flag, OUT)
+        RUN(btO, BYTES(0), TEXT(1), OUT)
+        RUN(btfO, BYTES(0), TEXT(1), row->flag, OUT)
+        RUN(btfT, BYTES(0), TEXT(1), row->flag, &r.truth)
+        RUN(bnO, BYTES(0), NAMES(0), OUT)
+        RUN(bnT, BYTES(0), NAMES(0), &r.truth)
+        RUN(cO, COLUMN(0), OUT)
+        RUN(ncO, NAMES(0), COLUMN(1), OUT)
         RUN(O, OUT)
+        RUN(tO, TEXT(0), OUT)
         RUN(fO, row->flag, OUT)
         RUN(lO, row->number, OUT)
         RUN(uO, row->whole, OUT)
@@ -213,7 +226,7 @@ static struct result run(const struct row *row, uint8_t *out, size_t size) {
     return r;
 }
 
-static bool gives_bytes(const struct row *row) { return strchr(letters[row->call->shape], 'O') != NULL; }
+static bool gives_bytes(const struct row *row) { return strpbrk(letters[row->call->shape], "OS") != NULL; }
 
 /* Reading the file. */
 
@@ -236,9 +249,9 @@ static struct column read_column(const char *bytes, char *offsets) {
 
 static uint32_t read_status(const char *name) {
     for (uint32_t status = 0; status < 64; status++) {
-        uint8_t text[40];
+        char text[40];
         size_t len;
-        if (!jsonb_status_name(status, text, sizeof text, &len) && len == strlen(name) && !memcmp(text, name, len))
+        if (!jdoc_status_name(status, text, sizeof text, &len) && len == strlen(name) && !memcmp(text, name, len))
             return status;
     }
     return UINT32_MAX;
@@ -259,8 +272,8 @@ static bool read_row(struct row *row, char *line) {
     if (count < 3 || !(row->call = find_call(words[0]))) return false;
     for (const char *letter = letters[row->call->shape]; *letter; letter++) {
         if (isupper((unsigned char)*letter)) break;
-        if (*letter == 'b') row->bytes[bytes++] = read_bytes(words[at++]);
-        if (*letter == 'c') row->columns[columns++] = read_column(words[at], words[at + 1]), at += 2;
+        if (strchr("bt", *letter)) row->bytes[bytes++] = read_bytes(words[at++]);
+        if (strchr("cn", *letter)) row->columns[columns++] = read_column(words[at], words[at + 1]), at += 2;
         if (*letter == 'f') row->flag = *words[at++] == '1';
         if (strchr("isl", *letter)) row->number = strtoll(words[at++], NULL, 10);
         if (*letter == 'u') row->whole = strtoull(words[at++], NULL, 10);
@@ -281,7 +294,7 @@ static void free_row(struct row *row) {
 
 /* Judging. */
 
-/* What a value holds that is not answered: FILL, in each of its parts. */
+/* The contents of a value without a result: FILL, in each of its fields. */
 #define UNTOUCHED "238,238,238"
 
 static bool is_filled(const uint8_t *at, size_t len) {
@@ -290,7 +303,7 @@ static bool is_filled(const uint8_t *at, size_t len) {
     return true;
 }
 
-/* Whether the parts are those of a text such as -1,5,2. */
+/* Whether the fields are those of an argument such as -1,5,2. */
 static bool has_parts(const char *answer, const struct result *r) {
     char *rest;
     int64_t high = strtoll(answer, &rest, 10);
@@ -299,7 +312,7 @@ static bool has_parts(const char *answer, const struct result *r) {
 }
 
 static bool has_scalar(const struct row *row, const struct result *r) {
-    bool is_answered = r->status == JSONB_OK;
+    bool is_answered = r->status == JDOC_OK;
     const char *answer = is_answered ? row->answer : UNTOUCHED;
     if (is_answered && !answer) return r->len == 99;
     switch (letters[row->call->shape][strlen(letters[row->call->shape]) - 1]) {
@@ -318,7 +331,7 @@ static bool has_scalar(const struct row *row, const struct result *r) {
     }
 }
 
-/* Whether a call with a buffer of this size gave what it had to; `status` is what it gives where the buffer suffices.
+/* Whether a call with a buffer of this size had the expected result; `status` is its status if the buffer suffices.
  */
 static bool is_right(const struct row *row, uint32_t status, size_t size, long *growths) {
     uint8_t *out = malloc(size + GUARD);
@@ -328,9 +341,9 @@ static bool is_right(const struct row *row, uint32_t status, size_t size, long *
     *growths = stop_counting();
     bool right = has_scalar(row, &r) && live_blocks() == 0;
     if (gives_bytes(row)) {
-        size_t len = status == JSONB_OK ? row->wanted.len : 0;
+        size_t len = status == JDOC_OK ? row->wanted.len : 0;
         bool fits = len <= size;
-        right = right && r.status == (fits ? status : JSONB_BUFFER_TOO_SMALL) && r.len == len;
+        right = right && r.status == (fits ? status : JDOC_BUFFER_TOO_SMALL) && r.len == len;
         size_t written = fits ? len : 0;
         right = right && (!written || !memcmp(out, row->wanted.at, written)) &&
                 is_filled(out + written, size + GUARD - written);
@@ -357,12 +370,12 @@ static bool nulls_are_right(const struct row *row) {
     for (int i = 0; i < 2; i++)
         if (!asked.columns[i].bytes.len) asked.columns[i].bytes.at = NULL;
     struct result r = run(&asked, NULL, 0);
-    size_t len = row->status == JSONB_OK ? row->wanted.len : 0;
-    uint32_t status = gives_bytes(row) && len ? (uint32_t)JSONB_BUFFER_TOO_SMALL : row->status;
+    size_t len = row->status == JDOC_OK ? row->wanted.len : 0;
+    uint32_t status = gives_bytes(row) && len ? (uint32_t)JDOC_BUFFER_TOO_SMALL : row->status;
     return r.status == status && has_scalar(row, &r) && (!gives_bytes(row) || r.len == len);
 }
 
-/* Each growth refused in turn, until a run meets no refusal. */
+/* Fail each allocation in turn, until a run has no failure. */
 static bool every_refusal_is_right(const struct row *row) {
     for (long refused = 0, growths = 1; can_refuse() && growths > refused; refused++) {
         refuse_growth(refused);
@@ -375,7 +388,7 @@ static bool every_refusal_is_right(const struct row *row) {
         growths = stop_counting();
         refuse_growth(-1);
         bool met = growths > refused;
-        bool right = live_blocks() == 0 && r.status == (met ? (uint32_t)JSONB_OUT_OF_MEMORY : row->status) &&
+        bool right = live_blocks() == 0 && r.status == (met ? (uint32_t)JDOC_OUT_OF_MEMORY : row->status) &&
                      has_scalar(row, &r);
         if (met) right = right && is_filled(out, row->wanted.len + GUARD) && (r.len == 0 || r.len == 99);
         free(out);
@@ -384,7 +397,7 @@ static bool every_refusal_is_right(const struct row *row) {
     return true;
 }
 
-/* A text of 2^28 bytes passes the format, and takes no memory to be refused. */
+/* A string of 2^28 bytes exceeds the format, and is rejected without allocating. */
 static bool too_large_is_right(void) {
     enum { PASSES = 1 << 28 };
     uint8_t *text = calloc(PASSES, 1), out[GUARD];
@@ -392,17 +405,17 @@ static bool too_large_is_right(void) {
     struct row row = {.call = find_call("from_str"), .bytes = {{text, PASSES}}};
     struct result r = run(&row, out, sizeof out);
     free(text);
-    return r.status == JSONB_TOO_LARGE && r.len == 0 && is_filled(out, sizeof out);
+    return r.status == JDOC_TOO_LARGE && r.len == 0 && is_filled(out, sizeof out);
 }
 
 static int unreached_statuses(void) {
     int unreached = 0;
     for (uint32_t status = 0; status < sizeof is_reached; status++) {
-        uint8_t name[40];
+        char name[40];
         size_t len;
-        if (jsonb_status_name(status, name, sizeof name, &len) || is_reached[status]) continue;
-        if (status == JSONB_OUT_OF_MEMORY && !can_refuse()) continue;
-        printf("NOT REACHED: %.*s\n", (int)len, (const char *)name);
+        if (jdoc_status_name(status, name, sizeof name, &len) || is_reached[status]) continue;
+        if (status == JDOC_OUT_OF_MEMORY && !can_refuse()) continue;
+        printf("NOT REACHED: %.*s\n", (int)len, name);
         unreached++;
     }
     return unreached;

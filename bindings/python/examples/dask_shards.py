@@ -1,38 +1,68 @@
-"""Documents on several processes with Dask: shards by equality key, a filter, and one order by sortable key.
+"""Queries of documents on the processes of a Dask cluster. The shards are files that the workers map, so that a query sends
+file names and a path, and only results come back.
 
     apt-get install python3-distributed
-    python3 dask_shards.py [DOCUMENTS] [WORKERS..]     prints rows a second for each number of workers
+    python3 dask_shards.py [DOCUMENTS] [SHARDS] [WORKERS..]     prints rows a second for each number of workers
 """
 
+import collections
+import functools
 import heapq
 import random
 import sys
+import tempfile
 import time
-import zlib
 
 from jsonb_paths import Column, dumps
+from jsonb_paths.shards import read_shard, write_shards
 
 
-def sharded(documents, count):
-    """Columns of documents; equal documents (1 and 1.0 are) come to the same."""
-    column = Column(documents)
-    shards = [[] for _ in range(count)]
-    for document, key in zip(column, column.equality_keys()):
-        shards[zlib.crc32(key) % count].append(document)
-    return [Column(it) for it in shards]
+@functools.lru_cache(maxsize=None)
+def column_of(file):
+    """The column of a file, which a worker maps once."""
+    return read_shard(file)
 
 
-def filtered(data, offsets, path, by):
-    """What one worker does: the rows of a shard that meet a condition, with their keys, in the order of the keys."""
-    column = Column.from_buffers(data, offsets)
-    keys = column.get(by).sort_keys(refusals={})
-    return sorted((keys[row] or b"", column[row]) for row, truth in enumerate(column.match(path)) if truth)
+def count(file, path):
+    """How many rows of a shard meet a predicate. Rows that are errors do not."""
+    return column_of(file).match(path, refusals={}).true_count
 
 
-def query(client, shards, path, by):
-    """All documents that meet a condition, in the order of what a key path meets in each."""
-    parts = [client.submit(filtered, bytes(it.data), it.offsets.tobytes(), path, by, pure=False) for it in shards]
-    return [document for _, document in heapq.merge(*client.gather(parts))]
+def filtered(file, path):
+    """The rows of a shard that meet a predicate."""
+    column = column_of(file)
+    return column.filter(column.match(path, refusals={}))
+
+
+def in_order(file, path, by):
+    """The rows of a shard that meet a predicate, in the order of the sortable key of an item, and these keys: two columns."""
+    found = filtered(file, path)
+    keys = [key or b"" for key in found.get(by).sort_keys(refusals={})]
+    order = sorted(range(len(keys)), key=keys.__getitem__)
+    return Column(keys[it] for it in order), Column(found[it] for it in order)
+
+
+def groups(file, by):
+    """How many rows of a shard have each value of an item: by its equality key, since 1 and 1.0 are equal."""
+    return collections.Counter(column_of(file).get(by).equality_keys(refusals={}))
+
+
+def count_all(client, files, path):
+    return sum(client.gather(client.map(count, files, path=path, pure=False)))
+
+
+def filter_all(client, files, path):
+    return client.gather(client.map(filtered, files, path=path, pure=False))
+
+
+def sort_all(client, files, path, by):
+    """All documents that meet a predicate, in the order of what a key path selects in each."""
+    parts = client.gather(client.map(in_order, files, path=path, by=by, pure=False))
+    return [document for _, document in heapq.merge(*(zip(*it) for it in parts), key=lambda pair: pair[0])]
+
+
+def group_all(client, files, by):
+    return sum(client.gather(client.map(groups, files, by=by, pure=False)), collections.Counter())
 
 
 def some_documents(count):
@@ -40,19 +70,31 @@ def some_documents(count):
     return [dumps({"age": source.randrange(100), "name": f"n{it}", "note": "x" * 120}) for it in range(count)]
 
 
+def rows_per_second(call, rows, times=5):
+    call()
+    took = []
+    for _ in range(times):
+        start = time.perf_counter()
+        call()
+        took.append(time.perf_counter() - start)
+    return rows / min(took)
+
+
 def main():
     from distributed import Client, LocalCluster
 
-    count, *workers = [int(it) for it in sys.argv[1:]] or [100_000, 1, 2, 4]
-    documents = some_documents(count)
-    for number in workers:
-        with LocalCluster(n_workers=number, threads_per_worker=1, dashboard_address=None) as cluster, Client(cluster) as client:
-            shards = sharded(documents, number)
-            query(client, shards, "$.age < 50", "{age}")
-            start = time.perf_counter()
-            found = query(client, shards, "$.age < 50", "{age}")
-            took = time.perf_counter() - start
-            print(f"{number} workers: {count / took:,.0f} rows a second, {len(found)} found")
+    rows, shards, *workers = [int(it) for it in sys.argv[1:]] or [100_000, 8, 1, 2, 4]
+    with tempfile.TemporaryDirectory() as folder:
+        files = write_shards(Column(some_documents(rows)), folder, shards)
+        for number in workers:
+            with LocalCluster(n_workers=number, threads_per_worker=1, dashboard_address=None) as cluster, Client(cluster) as client:
+                for name, call in {
+                    "counts": lambda: count_all(client, files, "$.age < 50"),
+                    "rows back": lambda: filter_all(client, files, "$.age < 50"),
+                    "sorted": lambda: sort_all(client, files, "$.age < 50", "{age}"),
+                    "groups": lambda: group_all(client, files, "{age}"),
+                }.items():
+                    print(f"{number} workers, {name}: {rows_per_second(call, rows):,.0f} rows a second")
 
 
 if __name__ == "__main__":

@@ -11,12 +11,12 @@ BY_AGE = "jsonb_key(jsonb_get(document, '{age}'))"
 
 
 def null_of_null(call):
-    """A call that answers NULL where its document is NULL."""
+    """A call that returns NULL if its document is NULL."""
     return lambda document, *words: None if document is None else call(document, *words)
 
 
 def register(connection):
-    """Makes the calls functions of SQL. They are deterministic, so an index may stand on them."""
+    """Makes the calls functions of SQL. They are deterministic, so an index may use them."""
     for name, arguments, call in [
         ("jsonb_get", 2, jsonb_paths.get),
         ("jsonb_select_first", 2, jsonb_paths.select_first),

@@ -1,18 +1,22 @@
-"""JSON values that are kept as bytes: queries and edits without decoding, over a library whose answers are proved.
+"""JSON values kept as bytes: queries and edits without decoding, over a library that is proved.
 
->>> from jsonb_paths import dumps, loads, select
->>> document = dumps({"name": "Fred", "tags": ["new", "red"]})
->>> [loads(it) for it in select(document, '$.tags[*]?(@ starts with "r")')]
-['red']
+>>> from jsonb_paths import Column, Path, from_json, to_json
+>>> document = from_json('{"name":"Fred","tags":["new","red"],"price":12.50}')
+>>> [to_json(it) for it in Path('$.tags[*]?(@ starts with "r")').select(document)]
+['"red"']
+>>> to_json(document)
+'{"name":"Fred","price":12.50,"tags":["new","red"]}'
 
-Calls on one document are in `documents`, on many in `column`, refusals in `errors`.
+Calls on one document are in `documents`, on many in `column`, exceptions in `errors`, files of columns in `shards`.
 """
 
-from .column import Answers, Column
+from ._version import __version__
+from .column import Answers, Column, Numbers, Truths
 from .documents import (
     KINDS,
     array_distinct,
     array_except,
+    array_from_column,
     array_insert,
     array_intersection,
     array_overlap,
@@ -26,20 +30,26 @@ from .documents import (
     delete,
     delete_by_index,
     delete_by_name,
+    dumps,
+    elements,
     equality_key,
     exists,
     exists_all_keys,
     exists_any_keys,
+    from_json,
     get,
     get_by_index,
     get_by_name,
     kind,
     leaves,
+    length,
+    loads,
     match,
     object_delete,
     object_from_columns,
     object_insert,
     object_pick,
+    pairs,
     select,
     select_array,
     select_first,
@@ -48,10 +58,71 @@ from .documents import (
     strip_nulls,
     to_bool,
     to_i64,
+    to_json,
     to_str,
     to_u64,
 )
 from .errors import JsonbError
-from .values import dumps, elements, length, loads, pairs
+from .paths import KeyPath, Path
+from .values import Document, Value
 
-__all__ = [name for name in dir() if not name.startswith("_")]
+__all__ = [
+    "Answers",
+    "Column",
+    "Document",
+    "JsonbError",
+    "KINDS",
+    "KeyPath",
+    "Numbers",
+    "Path",
+    "Truths",
+    "Value",
+    "__version__",
+    "array_distinct",
+    "array_except",
+    "array_from_column",
+    "array_insert",
+    "array_intersection",
+    "array_overlap",
+    "as_bool",
+    "as_decimal",
+    "as_int",
+    "as_str",
+    "check",
+    "concat",
+    "contains",
+    "delete",
+    "delete_by_index",
+    "delete_by_name",
+    "dumps",
+    "elements",
+    "equality_key",
+    "exists",
+    "exists_all_keys",
+    "exists_any_keys",
+    "from_json",
+    "get",
+    "get_by_index",
+    "get_by_name",
+    "kind",
+    "leaves",
+    "length",
+    "loads",
+    "match",
+    "object_delete",
+    "object_from_columns",
+    "object_insert",
+    "object_pick",
+    "pairs",
+    "select",
+    "select_array",
+    "select_first",
+    "select_value",
+    "sort_key",
+    "strip_nulls",
+    "to_bool",
+    "to_i64",
+    "to_json",
+    "to_str",
+    "to_u64",
+]

@@ -1,225 +1,461 @@
-"""Many documents in one buffer, and calls on all of them at once.
+"""Many documents in one buffer, and calls on all of them at once, made without the interpreter's lock.
 
 >>> from jsonb_paths import dumps, loads
 >>> people = Column(dumps({"name": name, "age": age}) for name, age in [("Ann", 31), ("Bob", 47), ("Cy", None)])
+>>> people
+<Column: 3 rows, 93 bytes>
 >>> people.match("$.age > 40")
+<Truths: 3 rows, 1 true, 1 false, 1 null>
+>>> list(people.match("$.age > 40"))
 [False, True, None]
 >>> [it and loads(it) for it in people.get("{name}")]
 ['Ann', 'Bob', 'Cy']
->>> keys = people.get("{age}").sort_keys()
->>> [loads(people[row])["name"] for row in sorted(range(3), key=keys.__getitem__)]
-['Ann', 'Bob', 'Cy']
+>>> [loads(it)["name"] for it in people.filter(people.match("$.age > 40"))]
+['Bob']
 
-A row that is refused raises its refusal, which names the row. Where a dictionary is handed in for the refusals, they are put
-there by their rows, and all other rows are answered:
+A row is None if it is null. A row that is an error raises its exception, which names the row. If the caller passes a dictionary
+for the errors, they are put there by their rows, and all other rows have their results:
 
->>> damaged = Column([dumps([1]), b"???", dumps([2])])
+>>> damaged = Column([dumps([1]), b"???", dumps([2]), None])
 >>> damaged.match("$[0] == 1")
 Traceback (most recent call last):
     ...
-jsonb_paths.errors.InvalidJsonb: row 1: the bytes are no document
->>> refusals = {}
->>> damaged.match("$[0] == 1", refusals=refusals), list(refusals)
-([True, None, False], [1])
+jsonb_paths.errors.InvalidJsonb: row 1: the bytes are not a document
+>>> errors = {}
+>>> list(damaged.match("$[0] == 1", refusals=errors)), list(errors)
+([True, None, False, None], [1])
+
+Other packages read and make columns by the Arrow C data interface, without a copy: `pyarrow.array(column)` and
+`Column.from_arrow(array)`.
 """
 
 from __future__ import annotations
 
-import ctypes
+import pickle
+import sys
 from array import array
-from typing import Any, Dict, Iterable, Iterator, List, Optional, Sequence, Tuple, overload
+from typing import TYPE_CHECKING, Any, Dict, Iterable, Iterator, List, Optional, Protocol, Sequence, Tuple, Union, overload
 
-from ._buffers import View, joined
-from ._library import BUFFER_TOO_SMALL, FUNCTIONS, NONE, OK, Progress, shown, words
-from .documents import truth
+from . import _core
+from .documents import joined
 from .errors import BadOffsets, JsonbError, refusal
 
+if TYPE_CHECKING:
+    import numpy
+    import numpy.typing
+
+    from ._core import KeyPath, Path
+    from .values import Document, Duplicates, Floats
+
+__all__ = ["Answers", "Column", "Numbers", "Truths"]
+
 Refusals = Optional[Dict[int, JsonbError]]
-# The most bytes of a buffer that is made before a call asks for more.
-_MOST_ROOM = 1 << 26
+OK, NONE = 0, 1
 
 
-class Column(Sequence[bytes]):
-    """Documents one behind the other, and the positions between them: the layout of Arrow's large binary arrays."""
+class ArrowArray(Protocol):
+    """An object with the Arrow C data interface: an array of pyarrow, polars or nanoarrow, or a column."""
 
-    def __init__(self, documents: Iterable[Any] = ()):
-        self._take(*joined(documents))
+    def __arrow_c_array__(self, requested_schema: Any = None) -> Tuple[Any, Any]: ...
+
+
+def _positions(offsets: Any) -> memoryview:
+    """Positions as native integers of 64 bits; those of 32 are widened. Floats, other widths and byte orders are an error."""
+    view = memoryview(offsets)
+    form = view.format.lstrip("@=" + ("<" if sys.byteorder == "little" else ">"))
+    if view.ndim != 1 or form not in ("q", "Q", "l", "L", "i", "I"):
+        raise TypeError(f"the positions of a column are integers of 32 or 64 bits in the machine's order, not {view.format!r}")
+    if view.itemsize == 4 or not view.contiguous:
+        return memoryview(array("q", view))
+    return view.cast("B").cast("q")
+
+
+class Column(Sequence[Optional[bytes]]):
+    """Documents one after the other, the positions between them, and bits of the rows that are not null: Arrow's large binary array."""
+
+    __slots__ = ("data", "offsets", "validity")
+    data: memoryview
+    offsets: memoryview
+    validity: Optional[bytes]
+
+    def __init__(self, documents: "Iterable[Optional[Document]]" = ()):
+        rows = list(documents)
+        data, offsets = joined(b"" if it is None else it for it in rows)
+        validity = _core.bits_of(bytes(it is not None for it in rows), 1) if None in rows else None
+        self._take(data, offsets, validity)
 
     @classmethod
-    def from_buffers(cls, data: Any, offsets: Any) -> "Column":
-        """A column over memory as it lies: bytes, memoryview, array, numpy. The offsets are n + 1 numbers of 64 bits. The memory
-        is kept as long as the column is there.
+    def from_buffers(cls, data: "Document", offsets: Any, validity: "Optional[Document]" = None) -> "Column":
+        """Returns a column over memory, without a copy: bytes, memoryview, array, mmap, numpy. The offsets are n + 1 integers of 64
+        bits, or of 32, which are widened. The memory is kept as long as the column is there.
 
-        >>> Column.from_buffers(bytes.fromhex("8000000040000000"), array("Q", [0, 4, 8]))[1].hex()
+        >>> Column.from_buffers(bytes.fromhex("8000000040000000"), array("i", [0, 4, 8]))[1].hex()
         '40000000'
+        >>> Column.from_buffers(b"", array("d", [0.0]))
+        Traceback (most recent call last):
+            ...
+        TypeError: the positions of a column are integers of 32 or 64 bits in the machine's order, not 'd'
         """
         column = cls.__new__(cls)
-        column._take(data, offsets)
+        column._take(data, offsets, None if validity is None else bytes(validity))
         return column
 
-    def _take(self, data: Any, offsets: Any) -> None:
-        self._data, self._offsets = View(data), View(offsets)
-        self.data, self.offsets = memoryview(data).cast("B"), memoryview(offsets).cast("B")
-        if len(self._offsets) % 8:
-            raise BadOffsets(f"{len(self._offsets)} bytes are no numbers of 64 bits")
-        self.offsets = self.offsets.cast("Q")
+    @classmethod
+    def from_json(
+        cls,
+        texts: "Union[bytes, bytearray, memoryview, Iterable[Optional[str]]]",
+        *,
+        floats: "Floats" = "error",
+        duplicates: "Duplicates" = "error",
+        refusals: Refusals = None,
+    ) -> "Column":
+        """Returns a column of documents from JSON text: several str, or the lines of bytes, in which blank lines are not rows.
+
+        >>> Column.from_json(b'{"a":1}\\n[2]\\n')
+        <Column: 2 rows, 25 bytes>
+        """
+        if isinstance(texts, (bytes, bytearray, memoryview)):
+            return cls._from_lines(texts, floats, duplicates, refusals)
+        rows: List[Optional[bytes]] = []
+        faults = {}
+        for row, text in enumerate(texts):
+            try:
+                rows.append(None if text is None else _core.from_json(text, floats=floats, duplicates=duplicates))
+            except JsonbError as fault:
+                faults[row] = type(fault)(fault.what, row, fault.at)
+                rows.append(None)
+        _report(faults, refusals)
+        return cls(rows)
+
+    @classmethod
+    def _from_lines(cls, text: "Document", floats: "Floats", duplicates: "Duplicates", refusals: Refusals) -> "Column":
+        data, offsets, _, wrong = _core.lines_in(text, floats=floats, duplicates=duplicates)
+        _report({row: refusal(status, what, row, at) for row, status, at, what in wrong}, refusals)
+        return cls._without(data, offsets, (row for row, *_ in wrong))
+
+    @classmethod
+    def _without(cls, data: memoryview, offsets: memoryview, nulls: Iterable[int]) -> "Column":
+        """A column whose rows are null at these places."""
+        positions = offsets.cast("B").cast("q")
+        known = bytearray(b"\1" * (len(positions) - 1))
+        for row in nulls:
+            known[row] = 0
+        return cls.from_buffers(data, positions, _core.bits_of(known, 1) if 0 in known else None)
+
+    @classmethod
+    def from_arrow(cls, array: ArrowArray) -> "Column":
+        """Returns a column over an Arrow array of binary or large binary, without a copy of its bytes."""
+        schema, found = array.__arrow_c_array__()
+        form, rows, first, _, validity, places, data = _core.arrow_in(schema, found)
+        if form in "uU":
+            raise TypeError("the Arrow array has texts: Column.from_json(array.to_pylist()) reads them as JSON")
+        offsets = places.cast("q")[first : first + rows + 1]
+        return cls.from_buffers(data, offsets, None if validity is None else _core.bits_of(_core.bytes_of(validity, first, rows), 1))
+
+    def _take(self, data: Any, offsets: Any, validity: Optional[bytes]) -> None:
+        view = memoryview(data)
+        if not view.contiguous:
+            raise TypeError("the bytes of a column are one run of memory")
+        self.data, self.offsets, self.validity = view.cast("B"), _positions(offsets), validity
+        if validity is not None and len(validity) * 8 < len(self):
+            raise ValueError(f"{len(validity)} bytes of validity for {len(self)} rows")
 
     def __len__(self) -> int:
         return max(len(self.offsets) - 1, 0)
 
+    def __repr__(self) -> str:
+        size = self.offsets[-1] - self.offsets[0] if len(self) else 0
+        nulls = f", {self.null_count} null" if self.validity is not None else ""
+        return f"<{type(self).__name__}: {len(self):,} rows, {size:,} bytes{nulls}>"
+
+    def _known(self) -> Optional[bytes]:
+        """A byte for each row, 0 if it is null; None if no row is."""
+        return None if self.validity is None else _core.bytes_of(self.validity, 0, len(self))
+
+    @property
+    def null_count(self) -> int:
+        """How many rows are null."""
+        known = self._known()
+        return 0 if known is None else known.count(0)
+
+    def is_null(self, row: int) -> bool:
+        """Returns whether a row is null."""
+        row = range(len(self))[row]
+        return self.validity is not None and not self.validity[row // 8] >> row % 8 & 1
+
     @overload
-    def __getitem__(self, row: int) -> bytes: ...
+    def __getitem__(self, row: int) -> Optional[bytes]: ...
     @overload
-    def __getitem__(self, row: slice) -> List[bytes]: ...
+    def __getitem__(self, row: slice) -> "Column": ...
     def __getitem__(self, row: Any) -> Any:
         if isinstance(row, slice):
-            return [self[it] for it in range(*row.indices(len(self)))]
-        if not -len(self) <= row < len(self):
-            raise IndexError(f"row {row} of {len(self)}")
-        row %= len(self)
+            return self._slice(row)
+        row = range(len(self))[row]
+        if self.is_null(row):
+            return None
         first, end = self.offsets[row], self.offsets[row + 1]
-        if not first <= end <= len(self.data):
+        if not 0 <= first <= end <= len(self.data):
             raise BadOffsets(f"from {first} to {end} of {len(self.data)} bytes", row)
         return bytes(self.data[first:end])
 
-    def __iter__(self) -> Iterator[bytes]:
+    def _slice(self, rows: slice) -> "Column":
+        """A column over the same memory; a copy if the step is not 1."""
+        chosen = range(*rows.indices(len(self)))
+        if chosen.step != 1:
+            return Column(self[it] for it in chosen)
+        if not len(chosen):
+            return Column()
+        known = self._known()
+        validity = None if known is None else _core.bits_of(known[chosen.start : chosen.stop], 1)
+        return Column.from_buffers(self.data, self.offsets[chosen.start : chosen.stop + 1], validity)
+
+    def __iter__(self) -> Iterator[Optional[bytes]]:
         return (self[row] for row in range(len(self)))
 
+    def __eq__(self, other: object) -> bool:
+        return isinstance(other, Column) and len(self) == len(other) and all(map(lambda one, two: one == two, self, other))
+
+    __hash__ = None  # type: ignore[assignment]
+
+    def __reduce_ex__(self, protocol: Any) -> Any:
+        data, offsets = self.packed()
+        if protocol >= 5:
+            return _unpacked, (pickle.PickleBuffer(data), pickle.PickleBuffer(offsets), self.validity)
+        return _unpacked, (bytes(data), bytes(offsets), self.validity)
+
+    def packed(self) -> Tuple[memoryview, memoryview]:
+        """Returns the bytes of the rows alone, and their positions from 0 on, without a copy of the bytes."""
+        if not len(self):
+            return memoryview(b""), memoryview(bytes(8)).cast("q")
+        first, end = self.offsets[0], self.offsets[-1]
+        if not 0 <= first <= end <= len(self.data):
+            raise BadOffsets(f"from {first} to {end} of {len(self.data)} bytes")
+        offsets = self.offsets if first == 0 else memoryview(array("q", (it - first for it in self.offsets)))
+        return self.data[first:end], offsets
+
+    def filter(self, chosen: "Union[Truths, Sequence[Optional[bool]]]") -> "Column":
+        """Returns the rows that are true, as a new column."""
+        truths = chosen.data if isinstance(chosen, Truths) else bytes(1 if it else 0 for it in chosen)
+        data, offsets = _core.gather(self.data, self.offsets, truths)
+        known = self._known()
+        kept = () if known is None else (is_known for is_known, it in zip(known, truths) if it == 1)
+        return Column._without(data, offsets, (row for row, is_known in enumerate(kept) if not is_known))
+
     def check(self, refusals: Refusals = None) -> None:
-        """Raises where a row is no document."""
-        statuses, done = bytearray(len(self)), ctypes.c_size_t()
-        status = FUNCTIONS["column_check"](*self._words(), *_room(statuses), ctypes.byref(done))
-        _stop(status)
+        """Raises an exception if a row is not a document."""
+        _sort_out(_core.column_check(self.data, self.offsets, self.validity), refusals)
+
+    def exists(self, path: "Union[str, Path]", *, strict: bool = False, refusals: Refusals = None) -> "Truths":
+        """Returns whether a JSON path selects an item, for each row."""
+        return self._truths(*_core.column_exists(self.data, self.offsets, self.validity, *_path(path, strict)), refusals)
+
+    def match(self, path: "Union[str, Path]", *, strict: bool = False, refusals: Refusals = None) -> "Truths":
+        """Returns the value of a JSON path that is a predicate, for each row; None if it is unknown."""
+        return self._truths(*_core.column_match(self.data, self.offsets, self.validity, *_path(path, strict)), refusals)
+
+    def contains(self, other: "Document", *, refusals: Refusals = None) -> "Truths":
+        """Returns whether each row contains a document."""
+        return self._truths(*_core.column_contains(self.data, self.offsets, self.validity, other), refusals)
+
+    def to_i64(self, *, refusals: Refusals = None) -> "Numbers":
+        """Returns each row cast to an int; None if it is null or an error."""
+        numbers, statuses = _core.column_to_i64(self.data, self.offsets, self.validity)
         _sort_out(statuses, refusals)
+        return Numbers(numbers.cast("q"), bytes(statuses))
 
-    def exists(self, path: str, *, strict: bool = False, refusals: Refusals = None) -> List[Optional[bool]]:
-        """Whether a JSON path selects an item, for each row."""
-        return self._truths("column_exists", path, strict, refusals=refusals)
+    def get(self, path: "Union[str, KeyPath]", *, refusals: Refusals = None) -> "Answers":
+        """Returns the item at a key path, for each row."""
+        return self._answers(*_core.column_get(self.data, self.offsets, self.validity, str(path)), refusals)
 
-    def match(self, path: str, *, strict: bool = False, refusals: Refusals = None) -> List[Optional[bool]]:
-        """What a JSON path that is one condition says of each row; None where nothing is known."""
-        return self._truths("column_match", path, strict, refusals=refusals)
+    def select_first(self, path: "Union[str, Path]", *, strict: bool = False, refusals: Refusals = None) -> "Answers":
+        """Returns the first item that a JSON path selects, for each row."""
+        return self._answers(*_core.column_select_first(self.data, self.offsets, self.validity, *_path(path, strict)), refusals)
 
-    def contains(self, other: Any, *, refusals: Refusals = None) -> List[Optional[bool]]:
-        """Whether each row contains a document."""
-        return self._truths("column_contains", other, refusals=refusals)
+    def select_value(self, path: "Union[str, Path]", *, strict: bool = False, refusals: Refusals = None) -> "Answers":
+        """Returns None, the only item that a JSON path selects, or an array of several, for each row."""
+        return self._answers(*_core.column_select_value(self.data, self.offsets, self.validity, *_path(path, strict)), refusals)
 
-    def to_i64(self, *, refusals: Refusals = None) -> "array[int]":
-        """Each row cast to a whole number; 0 for a row that is refused."""
-        numbers = array("q", bytes(8 * len(self)))
-        self._fixed("column_to_i64", numbers, refusals)
-        return numbers
+    def select_array(self, path: "Union[str, Path]", *, strict: bool = False, refusals: Refusals = None) -> "Answers":
+        """Returns an array of all items that a JSON path selects, for each row."""
+        return self._answers(*_core.column_select_array(self.data, self.offsets, self.validity, *_path(path, strict)), refusals)
 
-    def get(self, path: str, *, refusals: Refusals = None) -> "Answers":
-        """The part of each row at the place that a key path meets."""
-        return self._answers("column_get", path, refusals=refusals)
-
-    def select_first(self, path: str, *, strict: bool = False, refusals: Refusals = None) -> "Answers":
-        """The first item that a JSON path selects, for each row."""
-        return self._answers("column_select_first", path, strict, refusals=refusals)
-
-    def select_value(self, path: str, *, strict: bool = False, refusals: Refusals = None) -> "Answers":
-        """None, the one item that a JSON path selects, or an array of several, for each row."""
-        return self._answers("column_select_value", path, strict, refusals=refusals)
-
-    def select_array(self, path: str, *, strict: bool = False, refusals: Refusals = None) -> "Answers":
-        """An array of all items that a JSON path selects, for each row."""
-        return self._answers("column_select_array", path, strict, refusals=refusals)
-
-    def delete(self, path: str, *, refusals: Refusals = None) -> "Answers":
-        """Each row without the place that a key path meets."""
-        return self._answers("column_delete_by_keypath", path, refusals=refusals)
+    def delete(self, path: "Union[str, KeyPath]", *, refusals: Refusals = None) -> "Answers":
+        """Returns each row without the item at a key path."""
+        return self._answers(*_core.column_delete(self.data, self.offsets, self.validity, str(path)), refusals)
 
     def sort_keys(self, *, wide: bool = False, refusals: Refusals = None) -> "Answers":
-        """The sortable key of each row."""
-        return self._answers("column_key", wide, refusals=refusals)
+        """Returns the sortable key of each row."""
+        return self._answers(*_core.column_key(self.data, self.offsets, self.validity, wide), refusals)
 
     def equality_keys(self, *, refusals: Refusals = None) -> "Answers":
-        """The equality key of each row."""
-        return self._answers("column_equality_key", refusals=refusals)
+        """Returns the equality key of each row."""
+        return self._answers(*_core.column_equality_key(self.data, self.offsets, self.validity), refusals)
 
     def to_str(self, *, refusals: Refusals = None) -> List[Optional[str]]:
-        """Each row cast to a text; None for a row that is refused."""
-        return [None if it is None else it.decode() for it in self._answers("column_to_str", refusals=refusals)]
+        """Returns each row cast to a str; None if it is null or an error."""
+        answers = self._answers(*_core.column_to_str(self.data, self.offsets, self.validity), refusals)
+        return [None if it is None else it.decode() for it in answers]
 
-    def _words(self, first: int = 0) -> List[Any]:
-        """The words of the rows from one on."""
-        return [self._data.address, len(self._data), self._offsets.address + 8 * first, max(len(self.offsets) - first, 0)]
+    def to_json_lines(self) -> bytes:
+        """Returns the rows as JSON lines, without those that are null."""
+        known = self._known()
+        statuses = None if known is None else known.translate(bytes([1, 0]) + bytes(254))
+        return _core.lines_out(self.data, self.offsets, statuses, 0)[0]
 
-    def _truths(self, call: str, *arguments: Any, refusals: Refusals) -> List[Optional[bool]]:
-        truths = bytearray(len(self))
-        self._fixed(call, truths, refusals, *arguments)
-        return list(map(truth, truths))
-
-    def _fixed(self, call: str, answers: Any, refusals: Refusals, *arguments: Any) -> None:
-        """A call that writes a byte or a number a row, into room for all rows."""
-        statuses, done = bytearray(len(self)), ctypes.c_size_t()
-        taken, kept = words(call, arguments, behind=1)
-        status = FUNCTIONS[call](*self._words(), *taken, *_room(answers), *_room(statuses), ctypes.byref(done))
-        del kept
-        _stop(status, arguments)
+    def _truths(self, truths: "Document", statuses: "Document", refusals: Refusals) -> "Truths":
         _sort_out(statuses, refusals)
+        return Truths(bytes(truths))
 
-    def _answers(self, call: str, *arguments: Any, refusals: Refusals) -> "Answers":
-        """A call that writes bytes a row. Where its buffer is full it goes on behind the rows that are done."""
-        statuses, positions, parts, first = bytearray(len(self)), array("Q", [0]), [], 0
-        room = min(2 * len(self.data) + 64 * len(self) + 64, _MOST_ROOM)
-        while True:
-            part, ends, progress = self._part(call, arguments, first, room, statuses)
-            parts.append(part)
-            base = positions[-1]
-            positions.extend(array("Q", (base + it for it in ends)) if base else ends)
-            first += progress.rows
-            if first == len(self):
-                break
-            room = max(_MOST_ROOM, progress.next)
+    def _answers(self, data: memoryview, offsets: memoryview, statuses: "Document", refusals: Refusals) -> "Answers":
         _sort_out(statuses, refusals)
-        answers = Answers.from_buffers(b"".join(parts), positions)
-        answers.statuses = bytes(statuses)
+        told = bytes(statuses)
+        validity = _core.bits_of(told, OK) if told.strip(b"\0") else None
+        answers = Answers.__new__(Answers)
+        answers._take(data, offsets.cast("q"), validity)
+        answers.statuses = told
         return answers
 
-    def _part(self, call: str, arguments: Tuple[Any, ...], first: int, room: int, statuses: bytearray) -> Tuple[bytes, Any, Progress]:
-        """The answers of the rows from one on, as far as a buffer of this size has room for them."""
-        taken, kept = words(call, arguments, behind=1)
-        out, progress, ends = ctypes.create_string_buffer(room), Progress(), array("Q", bytes(8 * (len(self) - first + 1)))
-        told = (ctypes.c_uint8 * (len(self) - first)).from_buffer(statuses, first)
-        status = FUNCTIONS[call](*self._words(first), *taken, out, room, *_room(ends), told, len(told), ctypes.byref(progress))
-        del kept
-        if status != BUFFER_TOO_SMALL or (progress.rows == 0 and progress.next <= room):
-            _stop(status, arguments)
-        return ctypes.string_at(out, progress.bytes), ends[1 : progress.rows + 1], progress
+    def __arrow_c_schema__(self) -> Any:
+        return _core.arrow_schema("Z")
+
+    def __arrow_c_array__(self, requested_schema: Any = None) -> Tuple[Any, Any]:
+        """The Arrow PyCapsule interface: a large binary array over the memory of the column."""
+        rows = len(self)
+        offsets = self.offsets if rows else memoryview(bytes(8)).cast("q")
+        if rows and not 0 <= offsets[0] <= offsets[-1] <= len(self.data):
+            raise BadOffsets(f"from {offsets[0]} to {offsets[-1]} of {len(self.data)} bytes")
+        return _core.arrow_schema("Z"), _core.arrow_out(rows, self.null_count, self.validity, offsets, self.data)
+
+
+def _unpacked(data: Any, offsets: Any, validity: Optional[bytes]) -> Column:
+    """A column that was pickled. Buffers that were sent may not be aligned, so the positions are copied."""
+    places = array("q")
+    places.frombytes(memoryview(offsets).cast("B"))
+    return Column.from_buffers(data, places, validity)
 
 
 class Answers(Column):
-    """A column of answers: None for each row without one. `statuses` has a byte a row (see jsonb.h)."""
+    """A column of results: None for each row without one. `statuses` has a byte for each row (see jdoc.h)."""
 
-    statuses: bytes = b""
+    __slots__ = ("statuses",)
+    statuses: bytes
 
+
+class Truths(Sequence[Optional[bool]]):
+    """True, False, or None for unknown, for each row. `data` has a byte for each row: 1, 0 or 2."""
+
+    __slots__ = ("data",)
+    _MEANING = (False, True, None)
+
+    def __init__(self, data: bytes):
+        self.data = data
+
+    def __len__(self) -> int:
+        return len(self.data)
+
+    def __repr__(self) -> str:
+        true, false, null = (f"{self.data.count(it):,} {name}" for it, name in ((1, "true"), (0, "false"), (2, "null")))
+        return f"<Truths: {len(self):,} rows, {true}, {false}, {null}>"
+
+    @overload
+    def __getitem__(self, row: int) -> Optional[bool]: ...
+    @overload
+    def __getitem__(self, row: slice) -> "Truths": ...
     def __getitem__(self, row: Any) -> Any:
-        if not isinstance(row, slice) and self.statuses[row] != OK:
-            return None
-        return super().__getitem__(row)
+        return Truths(self.data[row]) if isinstance(row, slice) else self._MEANING[self.data[row]]
+
+    def __iter__(self) -> Iterator[Optional[bool]]:
+        return map(self._MEANING.__getitem__, self.data)
+
+    def __eq__(self, other: object) -> bool:
+        if isinstance(other, Truths):
+            return self.data == other.data
+        return isinstance(other, Sequence) and list(self) == list(other)
+
+    __hash__ = None  # type: ignore[assignment]
+
+    @property
+    def true_count(self) -> int:
+        """How many rows are true."""
+        return self.data.count(1)
+
+    def to_numpy(self) -> "numpy.typing.NDArray[numpy.bool_]":
+        """Returns whether each row is true; unknown is False."""
+        import numpy
+
+        truths: numpy.typing.NDArray[numpy.bool_] = numpy.frombuffer(self.data, numpy.uint8) == 1
+        return truths
+
+    def __array__(self, dtype: Any = None, copy: Any = None) -> Any:
+        found = self.to_numpy()
+        return found if dtype is None else found.astype(dtype)
+
+    def __arrow_c_schema__(self) -> Any:
+        return _core.arrow_schema("b")
+
+    def __arrow_c_array__(self, requested_schema: Any = None) -> Tuple[Any, Any]:
+        nulls = self.data.count(2)
+        validity = _core.bits_of(self.data.replace(b"\1", b"\0"), 0) if nulls else None
+        return _core.arrow_schema("b"), _core.arrow_out(len(self), nulls, validity, _core.bits_of(self.data, 1))
 
 
-def _room(buffer: Any) -> Tuple[Any, int]:
-    """A buffer of Python's as a place to write to, and for how many rows."""
-    rows = len(buffer)
-    return (ctypes.c_char * (rows * memoryview(buffer).itemsize)).from_buffer(buffer), rows
+class Numbers(Sequence[Optional[int]]):
+    """An int for each row, or None. `data` has them as integers of 64 bits, 0 if there is none."""
+
+    __slots__ = ("data", "statuses")
+
+    def __init__(self, data: memoryview, statuses: bytes):
+        self.data, self.statuses = data, statuses
+
+    def __len__(self) -> int:
+        return len(self.data)
+
+    def __repr__(self) -> str:
+        return f"<Numbers: {len(self):,} rows, {len(self) - self.statuses.count(0):,} null>"
+
+    @overload
+    def __getitem__(self, row: int) -> Optional[int]: ...
+    @overload
+    def __getitem__(self, row: slice) -> "Numbers": ...
+    def __getitem__(self, row: Any) -> Any:
+        if isinstance(row, slice):
+            return Numbers(self.data[row], self.statuses[row])
+        return None if self.statuses[row] else self.data[row]
+
+    def __eq__(self, other: object) -> bool:
+        return isinstance(other, Sequence) and list(self) == list(other)
+
+    __hash__ = None  # type: ignore[assignment]
+
+    def to_numpy(self) -> "numpy.typing.NDArray[numpy.int64]":
+        """Returns the numbers without a copy; rows without one are 0."""
+        import numpy
+
+        return numpy.frombuffer(self.data, numpy.int64)
+
+    def __arrow_c_schema__(self) -> Any:
+        return _core.arrow_schema("l")
+
+    def __arrow_c_array__(self, requested_schema: Any = None) -> Tuple[Any, Any]:
+        nulls = len(self) - self.statuses.count(0)
+        validity = _core.bits_of(self.statuses, 0) if nulls else None
+        return _core.arrow_schema("l"), _core.arrow_out(len(self), nulls, validity, self.data)
 
 
-def _stop(status: int, arguments: Sequence[Any] = ()) -> None:
-    """Raises the refusal of a whole call, as of its path."""
-    if status != OK:
-        raise refusal(status, shown(arguments))
+def _path(path: "Union[str, Path]", strict: bool) -> Tuple[str, bool]:
+    return (path, strict) if isinstance(path, str) else (path.text, strict or path.strict)
 
 
-def _sort_out(statuses: bytearray, refusals: Refusals) -> None:
-    """Raises the refusal of the first row that has one, or puts all into the dictionary that was handed in."""
-    if not statuses.strip(bytes([OK, NONE])):
-        return
-    for row, status in enumerate(statuses):
-        if status not in (OK, NONE):
-            found = refusal(status, row=row)
-            if refusals is None:
-                raise found
-            refusals[row] = found
+def _report(faults: Dict[int, JsonbError], refusals: Refusals) -> None:
+    """Raises the exception of the first row that has one, or puts all into the dictionary that the caller passed."""
+    if refusals is not None:
+        refusals.update(faults)
+    elif faults:
+        raise faults[min(faults)]
+
+
+def _sort_out(statuses: "Document", refusals: Refusals) -> None:
+    """Reports the rows whose status is an error."""
+    told = bytes(statuses)
+    if told.strip(b"\0\1"):
+        _report({row: refusal(status, row=row) for row, status in enumerate(told) if status > NONE}, refusals)

@@ -1,92 +1,97 @@
-"""The refusals of the library: one exception class for each.
+"""The exceptions, one class for each status of the library that is an error.
 
 >>> from jsonb_paths import select
 >>> select(b"", "$.a[")
 Traceback (most recent call last):
     ...
-jsonb_paths.errors.InvalidJsonPath: no JSON path, or it has no value on the document: '$.a['
+jsonb_paths.errors.InvalidJsonPath: not a JSON path, or its evaluation fails: '$.a['
 """
 
 from __future__ import annotations
 
-from typing import ClassVar, Dict, Optional, Type
+from typing import ClassVar, Dict, Optional, Tuple, Type
 
 
 class JsonbError(Exception):
-    """A refusal of the library. `row` is the row of a column that is refused, or None."""
+    """An error of the library. `row` is the row of a column, and `at` the byte of a JSON text, or None."""
 
     status: ClassVar[int] = -1
-    meaning: ClassVar[str] = "refused"
+    meaning: ClassVar[str] = "error"
 
-    def __init__(self, what: str = "", row: Optional[int] = None):
-        self.what, self.row = what, row
-        place = [] if row is None else [f"row {row}"]
+    def __init__(self, what: str = "", row: Optional[int] = None, at: Optional[int] = None):
+        self.what, self.row, self.at = what, row, at
+        place = [f"{name} {it}" for name, it in (("row", row), ("byte", at)) if it is not None]
         super().__init__(": ".join([*place, self.meaning, *([what] if what else [])]))
 
-    def __reduce__(self):
-        return type(self), (self.what, self.row)
+    def __reduce__(self) -> "Tuple[Type[JsonbError], Tuple[str, Optional[int], Optional[int]]]":
+        return type(self), (self.what, self.row, self.at)
+
+
+class InvalidJson(JsonbError, ValueError):
+    status, meaning = 64, "not JSON text"
 
 
 class BadOffsets(JsonbError, ValueError):
-    status, meaning = 3, "positions fall, or pass the bytes"
+    status, meaning = 3, "offsets decrease or exceed the bytes"
 
 
 class NotUtf8(JsonbError, ValueError):
-    status, meaning = 4, "a name or a text is no UTF-8"
+    status, meaning = 4, "a name or a text is not UTF-8"
 
 
 class InvalidJsonb(JsonbError, ValueError):
-    status, meaning = 16, "the bytes are no document"
+    status, meaning = 16, "the bytes are not a document"
 
 
 class UnsupportedNumber(JsonbError, ValueError):
-    status, meaning = 17, "a number that the format does not carry"
+    status, meaning = 17, "a number that the format does not hold"
 
 
 class InvalidJsonPath(JsonbError, ValueError):
-    status, meaning = 18, "no JSON path, or it has no value on the document"
+    status, meaning = 18, "not a JSON path, or its evaluation fails"
 
 
 class InvalidKeyPath(JsonbError, ValueError):
-    status, meaning = 19, "no key path"
+    status, meaning = 19, "not a key path"
 
 
 class InvalidCast(JsonbError, ValueError):
-    status, meaning = 20, "the value can't be cast so"
+    status, meaning = 20, "the value cannot be cast to this type"
 
 
 class InvalidObject(JsonbError, ValueError):
-    status, meaning = 21, "an object is needed"
+    status, meaning = 21, "the value is not an object"
 
 
 class InvalidJsonType(JsonbError, ValueError):
-    status, meaning = 22, "another kind of value is needed"
+    status, meaning = 22, "the value has another type"
 
 
 class ObjectDuplicateKey(JsonbError, KeyError):
     status, meaning = 23, "the object has the key"
 
-    __str__ = Exception.__str__
+    def __str__(self) -> str:
+        return Exception.__str__(self)
 
 
 class TooLarge(JsonbError, OverflowError):
-    status, meaning = 24, "a count or a length passes the format"
+    status, meaning = 24, "a count or a length exceeds the limits of the format"
 
 
 class TooDeep(JsonbError, OverflowError):
-    status, meaning = 25, "an item lies too deep for a sortable key"
+    status, meaning = 25, "an item is too deep for a sortable key"
 
 
 class OutOfMemory(JsonbError, MemoryError):
-    status, meaning = 26, "memory was refused"
+    status, meaning = 26, "an allocation failed"
 
 
 class StrictPath(JsonbError, LookupError):
-    status, meaning = 27, "a strict path asks for what isn't there"
+    status, meaning = 27, "a strict path asks for an item that is not there"
 
 
 class Overflow(JsonbError, OverflowError):
-    status, meaning = 48, "arithmetic: the result has more than 64 bits"
+    status, meaning = 48, "arithmetic: the result does not fit 64 bits"
 
 
 class ZeroDivisor(JsonbError, ZeroDivisionError):
@@ -94,21 +99,21 @@ class ZeroDivisor(JsonbError, ZeroDivisionError):
 
 
 class Inexact(JsonbError, ArithmeticError):
-    status, meaning = 50, "arithmetic: the quotient is not whole"
+    status, meaning = 50, "arithmetic: the quotient is not an integer"
 
 
 class DecimalOperand(JsonbError, ArithmeticError):
     status, meaning = 51, "arithmetic: an operand is a decimal"
 
 
-def _below(base: Type[JsonbError]):
+def _below(base: Type[JsonbError]) -> Dict[int, Type[JsonbError]]:
     return {it.status: it for it in base.__subclasses__()}
 
 
 REFUSALS: Dict[int, Type[JsonbError]] = _below(JsonbError)
 
 
-def refusal(status: int, what: str = "", row: Optional[int] = None) -> JsonbError:
+def refusal(status: int, what: str = "", row: Optional[int] = None, at: Optional[int] = None) -> JsonbError:
     """The exception of a status."""
     known = REFUSALS.get(status)
-    return known(what, row) if known else JsonbError(f"status {status} {what}".rstrip(), row)
+    return known(what, row, at) if known else JsonbError(f"status {status} {what}".rstrip(), row, at)

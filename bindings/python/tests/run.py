@@ -1,5 +1,5 @@
 #!/usr/bin/env python3
-"""Runs the tests and doctests of the package, and the examples. The last line is `N passed, M failed`."""
+"""Runs the tests and doctests of the package that this interpreter imports, and the examples. The last line is `N passed, M failed`."""
 
 import doctest
 import os
@@ -9,14 +9,15 @@ import unittest
 
 sys.dont_write_bytecode = True
 HERE = os.path.dirname(os.path.abspath(__file__))
-sys.path[:0] = [os.path.dirname(HERE), HERE]
+sys.path[:0] = [HERE, os.path.join(HERE, "..", "examples"), os.path.join(HERE, "..", "..", "..", "tools")]
 import jsonb_paths
 
 
 def all_tests():
     suite = unittest.defaultTestLoader.discover(HERE, top_level_dir=HERE)
     for module in pkgutil.iter_modules(jsonb_paths.__path__, "jsonb_paths."):
-        suite.addTests(doctest.DocTestSuite(module.name))
+        if not module.name.endswith("._core"):
+            suite.addTests(doctest.DocTestSuite(module.name))
     suite.addTests(doctest.DocTestSuite("jsonb_paths"))
     return suite
 

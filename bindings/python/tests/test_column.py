@@ -1,18 +1,21 @@
-"""Calls on columns beside the calls on one document, over random documents and memory of every kind."""
+"""Compares calls on columns with calls on one document, over random documents and memory of every kind."""
 
 import array
+import copy
+import pickle
 import random
+import threading
 import unittest
 
 import jsonb_paths
-from jsonb_paths import Column, column, dumps, errors, loads
+from jsonb_paths import Column, Path, dumps, errors, from_json, loads, match
 from test_documents import random_value
 
 DAMAGED = b"\x80\0\0"
 
 
 def one(call, *words, **flags):
-    """What a call on one document answers, or its refusal's class."""
+    """What a call on one document returns, or the class of its exception."""
     try:
         return call(*words, **flags)
     except errors.JsonbError as refusal:
@@ -25,13 +28,15 @@ class Columns(unittest.TestCase):
         self.rows = [dumps(random_value(source)) for _ in range(200)]
         self.rows[17] = self.rows[180] = DAMAGED
         self.rows[60] = b""
+        self.rows[5] = self.rows[6] = self.rows[199] = None
         self.column = Column(self.rows)
 
     def compare(self, call, row, *words, **flags):
         refusals = {}
         answers = getattr(self.column, call)(*words, refusals=refusals, **flags)
+        self.assertEqual(len(answers), len(self.rows))
         for at, document in enumerate(self.rows):
-            wanted = one(row, document, *words, **flags)
+            wanted = None if document is None else one(row, document, *words, **flags)
             self.assertEqual(type(refusals[at]) if at in refusals else answers[at], wanted, (call, at))
             self.assertEqual(at, refusals[at].row if at in refusals else at)
 
@@ -48,15 +53,13 @@ class Columns(unittest.TestCase):
             self.compare(call, getattr(jsonb_paths, call), "$.a", strict=True)
         self.compare("sort_keys", jsonb_paths.sort_key, wide=True)
 
-    def test_a_buffer_that_is_full_is_gone_on_from(self):
-        most, column._MOST_ROOM = column._MOST_ROOM, 50
-        try:
-            self.compare("select_array", jsonb_paths.select_array, "$.**")
-            self.compare("sort_keys", jsonb_paths.sort_key)
-        finally:
-            column._MOST_ROOM = most
+    def test_a_result_longer_than_its_document(self):
+        rows = [dumps([[it] * 20 for it in range(20)])] * 50
+        found = Column(rows).select_array("$.**.**")
+        self.assertEqual(list(found), [jsonb_paths.select_array(rows[0], "$.**.**")] * 50)
+        self.assertGreater(len(found.data), 4 * sum(map(len, rows)))
 
-    def test_a_refusal_is_raised_with_its_row(self):
+    def test_an_error_is_raised_with_its_row(self):
         for call in (self.column.check, self.column.sort_keys, lambda: self.column.match("$.a == 1")):
             with self.assertRaises(errors.InvalidJsonb) as raised:
                 call()
@@ -70,6 +73,105 @@ class Columns(unittest.TestCase):
         ordered = [values[row] for row in sorted(range(len(values)), key=keys.__getitem__)]
         self.assertEqual(ordered, [False, True, -1, 2, 10, "a", "b", {"a": 1}, [], [1], None])
 
+    def test_a_path_object_is_a_path(self):
+        self.assertEqual(self.column.exists(Path("$.a"), refusals={}), self.column.exists("$.a", refusals={}))
+        with self.assertRaises(errors.StrictPath):
+            Column([dumps(1)]).exists(Path("$.a", strict=True))
+
+    def test_threads(self):
+        column = Column([dumps({"age": it % 100, "note": "x" * 50}) for it in range(5_000)])
+        wanted, found = column.match("$.age > 40"), []
+        texts = '{"a":' * 900 + "1" + "}" * 900
+        threads = [threading.Thread(target=lambda: found.append(column.match("$.age > 40") == wanted and from_json(texts))) for _ in range(8)]
+        for it in threads:
+            it.start()
+        for it in threads:
+            it.join()
+        self.assertEqual((len(found), all(found)), (8, True))
+
+    def test_memory_that_others_write_to(self):
+        data, offsets, stop = bytearray(Column(self.rows).data), array.array("q", Column(self.rows).offsets), []
+
+        def scribble():
+            source = random.Random(2)
+            while not stop:
+                row, byte = source.randrange(len(offsets)), source.randrange(len(data))
+                offsets[row], data[byte] = source.choice([0, 1 << 40, -5, len(data)]), source.randrange(256)
+
+        column, writer = Column.from_buffers(data, offsets), threading.Thread(target=scribble)
+        writer.start()
+        calls = [lambda: column.filter([True] * len(column)), column.to_json_lines, lambda: column.match("$.age > 40", refusals={}), lambda: column.get("{a}", refusals={})]
+        for call in calls * 50:
+            one(call)
+        stop.append(True)
+        writer.join()
+
+
+class Rows(unittest.TestCase):
+    rows = [dumps({"age": 31}), None, dumps({"age": 47}), dumps({}), None, dumps([1]), dumps({"age": 50}), dumps(1), None, dumps({"age": 2})]
+
+    def test_nulls_and_slices(self):
+        column = Column(self.rows)
+        self.assertEqual(list(column), self.rows)
+        self.assertEqual((column.null_count, [column.is_null(it) for it in (0, 1, -2)]), (3, [False, True, True]))
+        for first in range(11):
+            for end in range(first, 11):
+                self.assertEqual(list(column[first:end]), self.rows[first:end])
+                self.assertEqual(list(column[first:end].match("$.age > 40")), [it and match(it, "$.age > 40") for it in self.rows[first:end]])
+        self.assertEqual(list(column[::-2]), self.rows[::-2])
+        self.assertEqual([it and loads(it) for it in column.get("{age}")], [31, None, 47, None, None, None, 50, None, None, 2])
+        self.assertEqual(list(column.filter(column.exists("$.age"))), [it for it in self.rows if it and b"age" in it])
+        self.assertEqual(list(column.filter([True] * 10)), self.rows)
+        with self.assertRaises(IndexError):
+            column[10]
+        with self.assertRaises(ValueError):
+            column.filter([True])
+
+    def test_how_they_print(self):
+        column = Column(self.rows)
+        self.assertRegex(repr(column), r"^<Column: 10 rows, \d+ bytes, 3 null>$")
+        self.assertEqual(repr(column.match("$.age > 40")), "<Truths: 10 rows, 2 true, 5 false, 3 null>")
+        self.assertEqual(repr(column.get("{age}").to_i64()), "<Numbers: 10 rows, 6 null>")
+
+    def test_pickles_and_copies(self):
+        column = Column(self.rows)[2:9]
+        for protocol in range(2, 6):
+            self.assertEqual(pickle.loads(pickle.dumps(column, protocol)), column)
+        buffers = []
+        text = pickle.dumps(column, 5, buffer_callback=buffers.append)
+        self.assertEqual(pickle.loads(text, buffers=buffers), column)
+        self.assertEqual(copy.deepcopy(column), column)
+        for path in (Path("$.a", strict=True), jsonb_paths.KeyPath("{a}")):
+            self.assertEqual((pickle.loads(pickle.dumps(path)), hash(copy.copy(path))), (path, hash(path)))
+
+    def test_arrow(self):
+        column = Column(self.rows)
+        self.assertEqual(list(Column.from_arrow(column)), self.rows)
+        for first in range(10):
+            self.assertEqual(list(Column.from_arrow(column[first:])), self.rows[first:])
+        self.assertEqual(list(Column.from_arrow(Column())), [])
+        self.assertEqual(list(Column.from_arrow(column.get("{age}"))), list(column.get("{age}")))
+        schema, found = column.__arrow_c_array__()
+        jsonb_paths._core.arrow_in(schema, found)
+        for wrong in [(schema, found), (found, schema)]:
+            with self.assertRaises(ValueError):
+                jsonb_paths._core.arrow_in(*wrong)
+        with self.assertRaises(TypeError):
+            Column.from_arrow(column.match("$.age > 1"))
+
+    def test_json_lines(self):
+        refusals = {}
+        column = Column.from_json(b'{"a":1}\n\n[1,\n  2 \r\n{"a":1,"a":2}\n[1e99]', refusals=refusals)
+        self.assertEqual([it and loads(it) for it in column], [{"a": 1}, None, 2, None, None])
+        self.assertEqual({row: (type(it).__name__, it.row, it.at) for row, it in refusals.items()},
+                         {1: ("InvalidJson", 1, 3), 3: ("ObjectDuplicateKey", 3, 7), 4: ("UnsupportedNumber", 4, 1)})
+        self.assertEqual(column.to_json_lines(), b'{"a":1}\n2\n')
+        with self.assertRaises(errors.InvalidJson) as raised:
+            Column.from_json(b"1\n]\n")
+        self.assertEqual(raised.exception.row, 1)
+        self.assertEqual([loads(it) for it in Column.from_json(['{"a":1,"a":2}', "0." + "1" * 40], duplicates="last", floats="decimal")][0], {"a": 2})
+        self.assertEqual(list(Column.from_json([None, "1"])), [None, dumps(1)])
+
 
 class Memory(unittest.TestCase):
     ROWS = [dumps([1]), dumps({"a": 2})]
@@ -78,16 +180,34 @@ class Memory(unittest.TestCase):
 
     def test_buffers_of_every_kind(self):
         for data in (self.DATA, bytearray(self.DATA), memoryview(self.DATA), array.array("B", self.DATA)):
-            for offsets in (self.OFFSETS, self.OFFSETS.tobytes(), memoryview(self.OFFSETS), array.array("q", self.OFFSETS)):
-                self.assertEqual([loads(it) for it in Column.from_buffers(data, offsets)], [[1], {"a": 2}])
+            for form in "qQlLiI":
+                for offsets in (array.array(form, self.OFFSETS), memoryview(array.array(form, self.OFFSETS))):
+                    self.assertEqual([loads(it) for it in Column.from_buffers(data, offsets)], [[1], {"a": 2}])
 
-    def test_numpy_where_it_is_there(self):
+    def test_positions_of_another_type(self):
+        odd = memoryview(bytearray(8 * 3 + 1))[1:]
+        odd[:] = self.OFFSETS.tobytes()
+        for wrong in (array.array("d", [0.0]), bytes(16), array.array("h", [0]), self.OFFSETS.tobytes()):
+            with self.assertRaises(TypeError):
+                Column.from_buffers(self.DATA, wrong)
+        with self.assertRaises(TypeError):
+            Column.from_buffers(self.DATA, odd.cast("q")).match("$")
+        for wrong in ([5], [10**9], [10**13], ["text"], 5):
+            with self.assertRaises(TypeError):
+                Column(wrong)
+
+    def test_numpy(self):
         try:
             import numpy
         except ImportError:
-            self.skipTest("numpy is not installed")
+            self.skipTest("numpy is not installed (apt-get install python3-numpy)")
         found = Column.from_buffers(numpy.frombuffer(self.DATA, "u1"), numpy.array(self.OFFSETS, "u8"))
         self.assertEqual(found.exists("$.a"), [False, True])
+        self.assertEqual(numpy.asarray(found.exists("$.a")).tolist(), [False, True])
+        ages = Column(Rows.rows).get("{age}").to_i64()
+        self.assertEqual((int(ages.to_numpy().sum()), list(ages)), (31 + 47 + 50 + 2, [31, None, 47, None, None, None, 50, None, None, 2]))
+        with self.assertRaises(TypeError):
+            Column.from_buffers(b"12345678", numpy.array([0, 8], ">i8"))
 
     def test_wrong_positions_are_named(self):
         falling = Column.from_buffers(self.DATA, array.array("Q", [0, self.FIRST, 3, 2**64 - 1, 2**63, 0, self.FIRST]))
@@ -96,15 +216,23 @@ class Memory(unittest.TestCase):
         self.assertEqual({type(it) for it in refusals.values()}, {errors.BadOffsets})
         with self.assertRaises(errors.BadOffsets):
             falling[1]
-        with self.assertRaises(errors.BadOffsets):
-            Column.from_buffers(b"", b"123")
 
     def test_no_rows(self):
-        for column_of_none in (Column(), Column.from_buffers(b"", b""), Column.from_buffers(b"", bytes(8))):
+        for column_of_none in (Column(), Column.from_buffers(b"", array.array("q")), Column.from_buffers(b"", array.array("q", [0]))):
             self.assertEqual((len(column_of_none), column_of_none.match("$ == 1"), list(column_of_none.sort_keys())), (0, [], []))
             column_of_none.check()
 
-    def test_a_row_without_an_answer_is_none(self):
-        found = Column.from_buffers(self.DATA, self.OFFSETS).get("{a}")
-        self.assertEqual([it and loads(it) for it in found], [None, 2])
-        self.assertEqual([it and loads(it) for it in found[0:2]], [None, 2])
+    def test_bitmaps(self):
+        core = jsonb_paths._core
+        for rows in range(40):
+            known = bytes((it * 7 + rows) % 3 == 1 for it in range(rows))
+            bits = core.bits_of(known, 1)
+            self.assertEqual([bits[it // 8] >> it % 8 & 1 for it in range(rows)], list(known))
+            for first in range(rows + 1):
+                self.assertEqual(core.bytes_of(bits, first, rows - first), known[first:])
+        with self.assertRaises(ValueError):
+            core.bytes_of(b"\1", 1, 8)
+
+
+if __name__ == "__main__":
+    unittest.main()

@@ -1,19 +1,22 @@
-"""The command line: its answers, its exit status and what it says of wrong rows."""
+"""The command line: its results, its exit status and what it says of rows that are errors."""
 
+import contextlib
 import os
+import signal
 import subprocess
 import sys
 import tempfile
+import time
 import unittest
 
-PACKAGE = os.path.join(os.path.dirname(os.path.abspath(__file__)), "..")
+from jsonb_paths import dumps
+
 PEOPLE = '{"name":"Ann","age":31}\n{"name":"Bob","age":47.5,"tags":["x",null]}\n'
+PROGRAM = [sys.executable, "-m", "jsonb_paths"]
 
 
 def run(*words, text=PEOPLE):
-    environment = {**os.environ, "PYTHONPATH": PACKAGE, "PYTHONDONTWRITEBYTECODE": "1"}
-    ran = subprocess.run([sys.executable, "-m", "jsonb_paths", *words], input=text.encode("utf-8", "surrogateescape"),
-                         capture_output=True, env=environment)
+    ran = subprocess.run([*PROGRAM, *words], input=text.encode("utf-8", "surrogateescape"), capture_output=True)
     return ran.returncode, ran.stdout.decode(), ran.stderr.decode(errors="replace")
 
 
@@ -26,23 +29,36 @@ def read_terminal(terminal):
 
 
 class Commands(unittest.TestCase):
-    def test_answers_and_exit_status(self):
+    def test_results_and_exit_status(self):
         for words, text, status, answer in [
             (["select", "$.name"], PEOPLE, 0, '"Ann"\n"Bob"\n'),
-            (["select", "$.tags[*]"], PEOPLE, 1, '"x"\nnull\n'),
-            (["select", "$.none"], PEOPLE, 4, ""),
+            (["select", "-r", "$.name"], PEOPLE, 0, "Ann\nBob\n"),
+            (["select", "$.tags[*]"], PEOPLE, 0, '"x"\nnull\n'),
+            (["select", "-e", "$.tags[*]"], PEOPLE, 1, '"x"\nnull\n'),
+            (["select", "-e", "$.none"], PEOPLE, 4, ""),
+            (["select", "$.none"], PEOPLE, 0, ""),
             (["select", "--strict", "$.name"], PEOPLE, 0, '"Ann"\n"Bob"\n'),
+            (["select", "$[*]", "--limit", "2"], "[1,2]\n[3]\n", 0, "1\n2\n"),
+            (["filter", "$.age > 40"], PEOPLE, 0, '{"age":47.5,"name":"Bob","tags":["x",null]}\n'),
+            (["filter", "$.name == $who", "--arg", "who", 'Ann'], PEOPLE, 0, '{"age":31,"name":"Ann"}\n'),
+            (["filter", '$.name == $who && "$who" != $.name', "--arg", "who", 'A"nn'], '{"name":"A\\"nn"}', 0, '{"name":"A\\"nn"}\n'),
+            (["match", "$.age > $least", "--argjson", "least", "40"], PEOPLE, 0, "false\ntrue\n"),
             (["get", "{age}"], PEOPLE, 0, "31\n47.5\n"),
             (["exists", "$.tags"], PEOPLE, 0, "false\ntrue\n"),
             (["match", "$.age > 40"], PEOPLE, 0, "false\ntrue\n"),
-            (["match", "$.name > 40"], PEOPLE, 1, "null\nnull\n"),
-            (["contains", '{"name":"Ann"}'], PEOPLE, 1, "true\nfalse\n"),
+            (["match", "-e", "$.name > 40"], PEOPLE, 1, "null\nnull\n"),
+            (["contains", '{"name":"Ann"}'], PEOPLE, 0, "true\nfalse\n"),
             (["delete", "{tags}"], PEOPLE, 0, '{"age":31,"name":"Ann"}\n{"age":47.5,"name":"Bob"}\n'),
+            (["keys", "--limit", "1"], PEOPLE, 0, '["age","name"]\n'),
+            (["set", "{age}", '[1.50]', "--limit", "1"], PEOPLE, 0, '{"age":[1.50],"name":"Ann"}\n'),
+            (["set", '{address, "zip code"}', "1", "--limit", "1"], PEOPLE, 0, '{"address":{"zip code":1},"age":31,"name":"Ann"}\n'),
+            (["set", "{a,b,c}", "2"], '{"a":{"b":{"d":1}}}', 0, '{"a":{"b":{"c":2,"d":1}}}\n'),
+            (["insert", "{new}", "null", "--limit", "1"], PEOPLE, 0, '{"age":31,"name":"Ann","new":null}\n'),
             (["key"], "1", 0, '"00048103e90200"\n'),
             (["key", "--wide"], "1", 0, '"0000048103e90200"\n'),
-            (["sort"], '[2]\n"a"\n10\n9.5\nnull', 1, '9.5\n10\n"a"\n[2]\nnull\n'),
+            (["sort"], '[2]\n"a"\n10\n9.5\nnull', 0, '9.5\n10\n"a"\n[2]\nnull\n'),
             (["get", "{a}"], '{"a":\n  1.50}\n\n[2,\n3]\n{"a":"é"}', 0, '1.50\n"é"\n'),
-            (["get", "{a}"], "", 4, ""),
+            (["get", "-e", "{a}"], "", 4, ""),
             (["select", "--", "-$"], "5", 0, "-5\n"),
             (["--help"], "", 0, None),
             (["select", "--help"], "", 0, None),
@@ -55,48 +71,105 @@ class Commands(unittest.TestCase):
         document = "80000001200000025001"
         self.assertEqual(run("select", "--hex", "$[0]", text=document), (0, "20000000200000025001\n", ""))
         self.assertEqual(run("key", "--hex", text=document)[1], "000701048103e90200\n")
+        self.assertEqual(run("select", "--hex", "-e", "$[0]", text=dumps([False]).hex())[:2], (1, dumps(False).hex() + "\n"))
         status, out, said = run("exists", "--hex", "$[0]", text=f"{document}\nxyz\n800000\n{document.upper()}\n")
         self.assertEqual((status, out), (5, "true\ntrue\n"))
         self.assertIn("-:2: InvalidJsonb", said)
         self.assertIn("-:3: InvalidJsonb", said)
 
-    def test_rows_that_are_refused_are_named_and_the_others_answered(self):
-        text = '{"a":1}\n{"a":1e999}\n{"a":\n{"a":NaN}\n{"a":1,"a":2}\n{"a":"\\ud800"}\n\udcff\n{"a":2}\n'
+    def test_rows_that_are_errors_are_named_and_the_others_answered(self):
+        text = '{"a":1}\n{"a":1e999}\n{"a":\n{"a":NaN}\n{"a":1,"a":2}\n{"a":"\\ud800"}\n\udcff\n{"a":1e%s}\n{"a":2}\n' % ("9" * 30)
         status, out, said = run("get", "{a}", text=text)
         self.assertEqual((status, out), (5, "1\n2\n"))
-        for line, word in [(2, "UnsupportedNumber"), (3, "JSONDecodeError"), (4, "UnsupportedNumber"), (5, "ObjectDuplicateKey"),
-                           (6, "NotUtf8"), (7, "JSONDecodeError")]:
+        for line, word in [(2, "UnsupportedNumber"), (3, "InvalidJson"), (4, "InvalidJson"), (5, "ObjectDuplicateKey"), (6, "NotUtf8"), (7, "InvalidJson"),
+                           (8, "UnsupportedNumber")]:
             self.assertRegex(said, rf"-:{line}: {word}: ")
         self.assertIn('    {"a":1e999}\n', said)
+        self.assertNotIn("Traceback", said)
+
+    def test_what_it_shows_of_a_row(self):
+        status, _, said = run("select", "$", text="[1,\x1b[31m%s\n2\n" % ("x" * 10_000))
+        self.assertEqual(status, 5)
+        self.assertNotIn("\x1b", said)
+        self.assertLess(len(said), 1000)
 
     def test_files_are_named_and_left_as_they_are(self):
         with tempfile.TemporaryDirectory() as folder:
             file = os.path.join(folder, "people.json")
             with open(file, "w") as out:
                 out.write('[\n {"age": 1},\n oops\n]')
-            self.assertRegex(run("select", "$", file)[2], rf"{file}:3: JSONDecodeError")
+            self.assertRegex(run("select", "$", file)[2], rf"{file}:3: InvalidJson: byte 16: ")
             with open(file) as kept:
                 self.assertEqual(kept.read(), '[\n {"age": 1},\n oops\n]')
             self.assertEqual(run("select", "$", os.path.join(folder, "none"))[0], 2)
+            self.assertEqual(run("select", "$", folder)[0], 2)
 
-    def test_a_long_input_on_a_terminal_has_a_bar(self):
-        with tempfile.TemporaryDirectory() as folder:
-            file = os.path.join(folder, "long.jsonl")
-            with open(file, "w") as out:
-                out.write('{"text":"%s"}\n' % ("x" * 500) * 5000)
-            terminal, other = os.openpty()
-            words = [sys.executable, "-m", "jsonb_paths", "select", "$.none", file]
-            environment = {**os.environ, "PYTHONPATH": PACKAGE, "PYTHONDONTWRITEBYTECODE": "1"}
-            with subprocess.Popen(words, stdout=subprocess.DEVNULL, stderr=other, env=environment) as ran:
-                os.close(other)
-                said = "".join(iter(lambda: read_terminal(terminal), ""))
-            os.close(terminal)
-        self.assertEqual(ran.returncode, 4)
-        self.assertRegex(said, r"\[#*\.+\] \d+ rows")
+    def test_long_input_comes_in_blocks(self):
+        rows = 60_000
+        text = "".join(f'{{"row":{it},"text":"{"x" * 100}"}}\n' for it in range(rows)).replace('"row":59999', '"row":!')
+        status, out, said = run("get", "{row}", text=text)
+        self.assertEqual((status, out), (5, "".join(f"{it}\n" for it in range(rows - 1))))
+        self.assertIn(f"-:{rows}: InvalidJson", said)
 
     def test_wrong_words(self):
-        for words, status in [([], 2), (["other"], 2), (["select"], 2), (["select", "$["], 3), (["get", "{"], 3), (["contains", "{"], 2),
-                              (["contains", '{"a":1,"a":2}'], 2), (["contains", "[" * 2000 + "]" * 2000], 2), (["select", "\udcff"], 3)]:
+        for words, status in [([], 2), (["other"], 2), (["select"], 2), (["select", "$["], 3), (["get", "{"], 3), (["contains", "{"], 2), (["contains", "5", "--hex"], 2),
+                              (["contains", '{"a":1,"a":2}'], 2), (["contains", "[" * 2000], 2), (["select", "\udcff"], 3), (["select", "$.a == $b"], 3),
+                              (["select", "$", "--argjson", "a", "[1]"], 2), (["select", "$", "--argjson", "a", "x"], 2), (["set", "{a,0}", "1"], 3), (["set", "{}", "1"], 3),
+                              (["select", "$", "--limit", "x"], 2), (["select", "$", "--none"], 2)]:
             got = run(*words)
             self.assertEqual((got[0], got[1]), (status, ""), words)
             self.assertTrue(got[2])
+            self.assertNotIn("Traceback", got[2])
+
+    def test_a_key_that_is_there_is_not_inserted(self):
+        self.assertRegex(run("insert", "{age}", "1")[2], "-:1: ObjectDuplicateKey(.|\n)*-:2: ObjectDuplicateKey")
+
+
+class Streams(unittest.TestCase):
+    def test_streams_that_are_closed_or_full(self):
+        for shell, status in [(">&-", 2), ("<&-", 2), (">/dev/full", 2), ("2>/dev/full", 0)]:
+            line = f'printf "1\\n" | {{ "{sys.executable}" -m jsonb_paths select "$" {shell}; }}'
+            ran = subprocess.run(line, shell=True, capture_output=True)
+            self.assertEqual(ran.returncode, status, shell)
+            self.assertNotIn(b"Traceback", ran.stderr)
+        line = f'printf "1\\n[\\n2\\n" | {{ "{sys.executable}" -m jsonb_paths select "$" 2>/dev/full; }}'
+        self.assertEqual(subprocess.run(line, shell=True, capture_output=True).returncode, 5)
+
+    def test_a_reader_that_has_enough(self):
+        line = f'yes "[1]" | head -n 200000 | {{ "{sys.executable}" -m jsonb_paths select "$[*]"; }} | head -n 1'
+        self.assertEqual(subprocess.run(line, shell=True, capture_output=True).stdout, b"1\n")
+
+    def test_an_interrupt_ends_it(self):
+        with subprocess.Popen([*PROGRAM, "select", "$"], stdin=subprocess.PIPE, stdout=subprocess.DEVNULL, stderr=subprocess.PIPE) as ran:
+            ran.stdin.write(b"1\n" * 3_000_000)  # more than a block, so that it has begun
+            os.kill(ran.pid, signal.SIGINT)
+            with contextlib.suppress(BrokenPipeError):
+                ran.stdin.close()
+            self.assertEqual((ran.wait(60), ran.stderr.read()), (-signal.SIGINT, b""))
+
+    def test_a_long_input_on_a_terminal_has_a_bar(self):
+        try:
+            import tqdm
+        except ImportError:
+            self.skipTest("tqdm is not installed (apt-get install python3-tqdm)")
+        with tempfile.TemporaryDirectory() as folder:
+            file = os.path.join(folder, "long.jsonl")
+            with open(file, "w") as out:
+                out.write('{"text":"%s"}\n' % ("x" * 500) * 10000)
+            terminal, other = os.openpty()
+            with subprocess.Popen([*PROGRAM, "select", "$.none", file], stdout=subprocess.DEVNULL, stderr=other) as ran:
+                os.close(other)
+                said = "".join(iter(lambda: read_terminal(terminal), ""))
+            os.close(terminal)
+        self.assertEqual(ran.returncode, 0)
+        self.assertRegex(said, r"\d%.*/5\.\d+M")
+
+    def test_duplicate_keys_take_linear_time(self):
+        keys = ",".join(f'"k{it}":1' for it in range(200_000))
+        start = time.monotonic()
+        self.assertEqual(run("keys", text='{%s,"k7":2}\n' % keys)[0], 5)
+        self.assertLess(time.monotonic() - start, 60)
+
+
+if __name__ == "__main__":
+    unittest.main()

@@ -1,22 +1,19 @@
 """Calls on one document: what the worked rows of the C tests leave out, which is what Python adds."""
 
 import array
-import ctypes
+import itertools
 import os
 import random
 import subprocess
-import sys
+import threading
 import unittest
 from decimal import Decimal
 
+import documents as model
 import jsonb_paths
 from jsonb_paths import dumps, errors, loads
-from jsonb_paths._buffers import joined
-from jsonb_paths._library import FUNCTIONS, bytes_of, number_of
 
 TOP = os.path.join(os.path.dirname(os.path.abspath(__file__)), "..", "..", "..")
-sys.path.append(os.path.join(TOP, "tools"))
-import documents as model
 
 LINES = os.path.join(TOP, "crates", "jsonb_lines", "out", "jsonb_lines")
 NAMES = ["a", "b", "a b", "é", "k", "0", ""]
@@ -87,10 +84,30 @@ class Arguments(unittest.TestCase):
     def test_any_run_of_memory_is_a_document(self):
         for form in (bytearray(self.DOCUMENT), memoryview(self.DOCUMENT), array.array("B", self.DOCUMENT)):
             self.assertEqual(jsonb_paths.get(form, "{a,1}"), dumps(2))
-        with self.assertRaises(TypeError):
-            jsonb_paths.get(memoryview(self.DOCUMENT)[::2], "{}")
-        with self.assertRaises(TypeError):
-            jsonb_paths.get(None, "{}")
+        released = memoryview(bytearray(8))
+        released.release()
+        for form in (memoryview(self.DOCUMENT)[::2], released, None, 3, 10**13, "text", [self.DOCUMENT]):
+            with self.assertRaises(TypeError):
+                jsonb_paths.get(form, "{}")
+
+    def test_the_length_is_that_of_the_buffer(self):
+        class Long(bytes):
+            def __len__(self):
+                return 1 << 40
+
+        self.assertEqual(loads(Long(dumps(1))), 1)
+        self.assertEqual(jsonb_paths.get(Long(self.DOCUMENT), "{a,1}"), dumps(2))
+
+    def test_arguments_of_another_type(self):
+        for call in [
+            lambda: jsonb_paths.match(self.DOCUMENT, b"$"), lambda: jsonb_paths.get_by_index(self.DOCUMENT, 1.5), lambda: jsonb_paths.get(self.DOCUMENT),
+            lambda: jsonb_paths.match(self.DOCUMENT, "$", True), lambda: jsonb_paths.match(self.DOCUMENT, "$", lax=True), lambda: jsonb_paths.get("{a}", self.DOCUMENT),
+        ]:
+            with self.assertRaises(TypeError):
+                call()
+        for names in ([3], ["a", None], "ab", 5):
+            with self.assertRaises((TypeError, AttributeError)):
+                jsonb_paths.exists_any_keys(self.DOCUMENT, names)
 
     def test_positions_that_do_not_fit_are_refused(self):
         for call, number in ((jsonb_paths.delete_by_index, 2**31), (jsonb_paths.get_by_index, -1), (jsonb_paths.get_by_index, 2**64)):
@@ -195,53 +212,58 @@ class Calls(unittest.TestCase):
                          (None, 2**64 - 1, "x"))
 
 
-class AcrossByCalls(unittest.TestCase):
-    """A value is taken apart and made again by calls of the library alone: without JSON text, and without the format."""
+class Paths(unittest.TestCase):
+    """A Path or a KeyPath, whose path is parsed once, does what the functions do that parse it in each call."""
 
-    def test_every_json_value_crosses_both_ways(self):
-        source = random.Random(5)
-        for value in [random_value(source) for _ in range(300)] + [Decimal(2**127 - 1), Decimal(-(2**127)), -(2**63), 2**64 - 1]:
-            document = dumps(value)
-            self.assertEqual(self.apart(document), value)
-            self.assertEqual(self.made(self.apart(document)), document)
+    CALLS = ["exists", "match", "select", "select_first", "select_value", "select_array"]
 
-    def apart(self, document):
-        kind, read = jsonb_paths.kind(document), {"boolean": "as_bool", "integer": "as_int", "decimal": "as_decimal", "string": "as_str"}
-        count = number_of("len", document) if kind in ("array", "object") else 0
-        if kind == "array":
-            return [self.apart(bytes_of("get_by_index", document, it)) for it in range(count)]
-        if kind == "object":
-            return {key: self.apart(part) for key, part in (self.pair(document, it) for it in range(count))}
-        return None if kind == "null" else getattr(jsonb_paths, read[kind])(document)
+    def outcome(self, call, *arguments, **words):
+        try:
+            return call(*arguments, **words)
+        except errors.JsonbError as error:
+            return type(error), str(error)
 
-    def pair(self, document, index):
-        (key, key_len), (value, value_len) = [(ctypes.create_string_buffer(len(document) + 8), ctypes.c_size_t()) for _ in range(2)]
-        status = FUNCTIONS["pair"](document, len(document), index, key, len(key), ctypes.byref(key_len), value, len(value),
-                                   ctypes.byref(value_len))
-        self.assertEqual(status, 0)
-        return key.raw[: key_len.value].decode(), value.raw[: value_len.value]
+    def test_paths(self):
+        source = random.Random(3)
+        texts = [random_path(source) for _ in range(80)] + ["$.a + 1", "$ / 0", "$", "", "strict $.a", '$."é"']
+        documents = [dumps(random_value(source)) for _ in range(20)] + [b"", b"damaged", b"\x80\x00\x00\x01", dumps(["x" * 2000] * 2)]
+        for text, strict in itertools.product(texts, (False, True)):
+            path = self.outcome(jsonb_paths.Path, text, strict=strict)
+            for document, name in itertools.product(documents, self.CALLS):
+                if isinstance(path, tuple):
+                    self.assertEqual(self.outcome(getattr(jsonb_paths, name), dumps(1), text, strict=strict), path)
+                else:
+                    self.assertEqual(self.outcome(getattr(path, name), document),
+                                     self.outcome(getattr(jsonb_paths, name), document, text, strict=strict), (text, name, document))
 
-    def made(self, value):
-        if value is None:
-            return bytes_of("from_null")
-        if isinstance(value, bool):
-            return bytes_of("from_bool", value)
-        if isinstance(value, int):
-            return bytes_of("from_i64" if value < 0 else "from_u64", value)
-        if isinstance(value, Decimal):
-            sign, digits, exponent = value.as_tuple()
-            whole = int("".join(map(str, digits))) * (-1 if sign else 1)
-            return bytes_of("from_decimal", whole >> 64, whole % 2**64, -exponent)
-        if isinstance(value, str):
-            return bytes_of("from_str", value)
-        if isinstance(value, list):
-            return bytes_of("array_from_column", joined(map(self.made, value)))
-        return bytes_of("object_from_columns", joined(value), joined(map(self.made, value.values())))
+    def test_key_paths(self):
+        source = random.Random(4)
+        documents = [dumps(random_value(source)) for _ in range(60)] + [b"", b"damaged", dumps({"a": "x" * 2000})]
+        for text in ["{}", "{a}", "{0}", "{-1}", "{a,b}", '{"a b",0}', "{k,k,k}"]:
+            path = jsonb_paths.KeyPath(text)
+            for document in documents:
+                self.assertEqual(self.outcome(path.get, document), self.outcome(jsonb_paths.get, document, text))
+                self.assertEqual(self.outcome(path.delete, document), self.outcome(jsonb_paths.delete, document, text))
+
+    def test_threads(self):
+        path, key = jsonb_paths.Path("$.n ? (@ > 1 && @ < 900)"), jsonb_paths.KeyPath("{n}")
+        documents = [dumps({"n": it}) for it in range(1000)]
+        found = []
+
+        def work():
+            found.append(([path.exists(it) for it in documents], [key.get(it) for it in documents]))
+
+        threads = [threading.Thread(target=work) for _ in range(8)]
+        for it in threads:
+            it.start()
+        for it in threads:
+            it.join()
+        self.assertEqual(found, [([1 < it < 900 for it in range(1000)], [dumps(it) for it in range(1000)])] * 8)
 
 
 @unittest.skipUnless(os.path.exists(LINES), "the program jsonb_lines is not built (rt run in crates/jsonb_lines)")
 class BesideTheProgram(unittest.TestCase):
-    """Random documents and paths: the package answers what the program answers."""
+    """Random documents and paths: the package returns what the program prints."""
 
     def setUp(self):
         self.source = random.Random(2)
@@ -252,7 +274,7 @@ class BesideTheProgram(unittest.TestCase):
         return subprocess.run([LINES, *words], input=given, capture_output=True, text=True).stdout.splitlines()
 
     def lines(self, answer, none="none"):
-        """The lines of each document: its answers, or `none`, or its refusal."""
+        """The lines of each document: its results, or `none`, or its error."""
         for document in self.documents:
             try:
                 found = answer(document)

@@ -1,15 +1,17 @@
-"""The examples: SQLite by its own query plan and beside Python's order, Dask where it is installed."""
+"""The examples: SQLite by its query plan and in Python's order, and Dask if it is installed."""
 
+import collections
 import os
+import signal
 import sqlite3
-import sys
+import tempfile
 import unittest
+from decimal import Decimal
 
-from jsonb_paths import loads
-
-sys.path.append(os.path.join(os.path.dirname(os.path.abspath(__file__)), "..", "examples"))
 import dask_shards
 import sqlite_index
+from jsonb_paths import Column, dumps, equality_key, errors, loads
+from jsonb_paths.shards import read_shard, write_shard, write_shards
 
 
 class First(unittest.TestCase):
@@ -17,6 +19,11 @@ class First(unittest.TestCase):
         import first
 
         self.assertEqual(len(first.people), 2)
+
+    def test_json_text(self):
+        import json_text
+
+        self.assertEqual(len(json_text.grown_up), 1)
 
 
 class Sqlite(unittest.TestCase):
@@ -45,18 +52,49 @@ class Sqlite(unittest.TestCase):
         self.assertEqual(sqlite_index.matching(self.connection, "$.age > 90"), wanted)
 
 
+class Shards(unittest.TestCase):
+    def test_files_are_columns(self):
+        rows = [dumps({"age": 1}), None, dumps([2]), dumps("x"), None]
+        with tempfile.TemporaryDirectory() as folder:
+            for column in (Column(rows), Column(rows)[1:4], Column(rows[:1]), Column()):
+                file = write_shard(column, os.path.join(folder, "one.jsonb"))
+                self.assertEqual(list(read_shard(file)), list(column))
+            self.assertEqual([it for file in write_shards(Column(rows), folder, 3) for it in read_shard(file)], rows)
+            file = write_shard(Column(rows), os.path.join(folder, "one.jsonb"))
+            for cut in (0, 10, 63, 80, os.path.getsize(file) - 1):
+                with open(file, "rb") as source, open(os.path.join(folder, "cut"), "wb") as out:
+                    out.write(source.read()[:cut])
+                with self.assertRaises(errors.BadOffsets):
+                    read_shard(out.name)
+
+
 class Dask(unittest.TestCase):
-    def test_shards_are_filtered_and_ordered(self):
+    def setUp(self):
         try:
             from distributed import Client, LocalCluster
         except ImportError:
             self.skipTest("Dask is not installed (apt-get install python3-distributed)")
-        documents = dask_shards.some_documents(2000)
-        with LocalCluster(n_workers=2, threads_per_worker=1, dashboard_address=None) as cluster, Client(cluster) as client:
-            found = dask_shards.query(client, dask_shards.sharded(documents, 2), "$.age < 50", "{age}")
-        ages = [loads(it)["age"] for it in found]
-        self.assertEqual(ages, sorted(age for age in (loads(it)["age"] for it in documents) if age < 50))
+        self.documents = dask_shards.some_documents(2000)
+        folder = tempfile.TemporaryDirectory()
+        self.addCleanup(folder.cleanup)
+        self.files = write_shards(Column(self.documents), folder.name, 6)
+        self.cluster = LocalCluster(n_workers=2, threads_per_worker=1, dashboard_address=None)
+        self.addCleanup(self.cluster.close)
+        self.client = Client(self.cluster)
+        self.addCleanup(self.client.close)
 
-    def test_equal_documents_come_to_the_same_shard(self):
-        shards = dask_shards.sharded(dask_shards.some_documents(100) * 2, 3)
-        self.assertEqual(sum(len(set(it)) for it in shards), 100)
+    def test_queries_run_on_the_workers(self):
+        ages = [loads(it)["age"] for it in self.documents]
+        wanted = [it for it in ages if it < 50]
+        self.assertEqual(dask_shards.count_all(self.client, self.files, "$.age < 50"), len(wanted))
+        found = [loads(it)["age"] for column in dask_shards.filter_all(self.client, self.files, "$.age < 50") for it in column]
+        self.assertEqual(found, wanted)
+        found = [loads(it)["age"] for it in dask_shards.sort_all(self.client, self.files, "$.age < 50", "{age}")]
+        self.assertEqual(found, sorted(wanted))
+        groups = dask_shards.group_all(self.client, self.files, "{age}")
+        self.assertEqual(groups, collections.Counter(equality_key(dumps(it)) for it in ages))
+        self.assertEqual(groups[equality_key(dumps(Decimal("7.0")))], ages.count(7))
+        # A worker that is lost: its work goes to the other one.
+        first = next(iter(self.cluster.workers.values()))
+        os.kill(first.pid, signal.SIGKILL)
+        self.assertEqual(dask_shards.count_all(self.client, self.files, "$.age < 50"), len(wanted))

@@ -1,31 +1,35 @@
-"""The header, the library and the package name the same calls, with the same arguments and statuses."""
+"""The header, the libraries, this package and the crate for Rust name the same calls and statuses."""
 
 import os
+import pathlib
 import re
 import subprocess
 import unittest
 
-from jsonb_paths import _library, documents
-from jsonb_paths._library import CALLS, _find, status_name
-from jsonb_paths.errors import REFUSALS
+import jsonb_paths
+from jsonb_paths import documents
+from jsonb_paths.errors import REFUSALS, InvalidJson
 
 BINDINGS = os.path.join(os.path.dirname(os.path.abspath(__file__)), "..", "..")
-HEADER = os.path.join(BINDINGS, "c", "jsonb.h")
-RUST = os.path.join(BINDINGS, "rust", "src", "lib.rs")
+HEADER = os.path.join(BINDINGS, "c", "jdoc.h")
+LIBRARY = os.environ.get("JDOC_LIBRARY", "")
+RUST = os.path.join(BINDINGS, "rust", "sys", "src", "bindings.rs")
 # The types of the header, as Rust has them.
 RUST_TYPES = {
-    "bytes": "*const u8", "positions": "*const u64", "size": "usize", "size *": "*mut usize", "byte *": "*mut u8",
-    "uint64_t *": "*mut u64", "int64_t *": "*mut i64", "int32_t": "i32", "int64_t": "i64", "uint64_t": "u64", "uint8_t": "u8",
-    "leaf_sizes *": "*mut super::LeafSizes",
+    "const uint8_t *": "*const u8", "const char *": "*const core::ffi::c_char", "const uint64_t *": "*const u64",
+    "size_t": "usize", "size_t *": "*mut usize", "uint8_t *": "*mut u8", "char *": "*mut core::ffi::c_char", "uint64_t *": "*mut u64", "int64_t *": "*mut i64",
+    "int32_t": "i32", "int64_t": "i64", "uint64_t": "u64", "uint32_t": "u32", "uint8_t": "u8", "bool": "bool",
 }
-# How many arguments of C each letter is, and of which types.
-C_TYPES = {
-    "b": ["bytes", "size"], "c": ["bytes", "size", "positions", "size"], "f": ["bool"], "i": ["int32_t"], "s": ["size"],
-    "l": ["int64_t"], "u": ["uint64_t"], "y": ["uint8_t"], "O": ["byte *", "size", "size *"], "T": ["byte *"],
-    "N": ["int64_t *"], "W": ["uint64_t *"], "C": ["size *"], "D": ["int64_t *", "uint64_t *", "byte *"], "S": ["byte *", "size", "size *"],
-    "P": ["byte *", "size", "uint64_t *", "size", "byte *", "size", "progress *"],
-    "L": ["byte *", "size", "uint64_t *", "size"] * 2 + ["leaf_sizes *"],
+# Calls that the package does not make: it writes scalars itself, and reads objects by elements and pairs.
+UNUSED = {
+    "status_name", "pair", "from_null", "from_bool", "from_i64", "from_u64", "from_decimal", "from_str",
 }
+
+
+def rust_type(words):
+    """The type of the header, as Rust has it."""
+    struct = re.fullmatch(r"(const )?(?:struct )?(jdoc_\w+) \*", words)
+    return f"*{'const' if struct[1] else 'mut'} {struct[2]}" if struct else RUST_TYPES[words]
 
 
 def header():
@@ -35,55 +39,60 @@ def header():
 
 def prototypes():
     """Each call of the header and the types of its arguments."""
-    for name, arguments in re.findall(r"uint32_t jsonb_(\w+)\(([^)]*)\);", header()):
-        yield name, [short(it.rsplit(None, 1)[0] + (" *" if "*" in it.rsplit(None, 1)[1] else "")) for it in arguments.split(",")]
+    for name, arguments in re.findall(r"(?:enum jdoc_status|uint32_t|void)\s+jdoc_(\w+)\(([^)]*)\);", header()):
+        words = [re.sub(r"\s+", " ", it).strip() for it in arguments.split(",")]
+        yield name, [re.sub(r"\w+$", "", it).strip() for it in words if it != "void"]
 
 
-def short(c_type):
-    names = {
-        "const uint8_t *": "bytes", "const uint64_t *": "positions", "size_t": "size", "size_t *": "size *",
-        "uint8_t *": "byte *", "jsonb_progress *": "progress *", "jsonb_leaf_sizes *": "leaf_sizes *",
-        "uint32_t": "uint64_t",
-    }
-    c_type = re.sub(r"\s+", " ", c_type).strip()
-    return names.get(c_type, c_type)
-
-
-def rows_types(name):
-    """R: one answer a row, of the type that the call gives."""
-    return ["int64_t *" if name == "column_to_i64" else "byte *", "size", "byte *", "size", "size *"]
+def sources():
+    folder = os.path.join(BINDINGS, "python", "src")
+    return "".join(it.read_text() for it in sorted(pathlib.Path(folder).iterdir()))
 
 
 class Names(unittest.TestCase):
-    def test_header_and_package_have_the_same_calls(self):
-        for name, types in prototypes():
-            wanted = [it for letter in CALLS[name] for it in (rows_types(name) if letter == "R" else C_TYPES[letter])]
-            self.assertEqual(types, wanted, name)
-        self.assertEqual({name for name, _ in prototypes()}, set(CALLS))
+    def test_the_package_makes_each_call_of_the_header(self):
+        made = set(re.findall(r"\bjdoc_(\w+)\b", sources()))
+        self.assertEqual({name for name, _ in prototypes()} - made, UNUSED)
 
-    def test_libraries_export_them_alone(self):
-        for words in (["-D", _find()], ["-g", os.path.join(os.path.dirname(_find()), "libjsonb.a")]):
+    @unittest.skipUnless(os.path.exists(LIBRARY), "JDOC_LIBRARY does not name libjdoc.so")
+    def test_the_libraries_export_the_calls_of_the_header_alone(self):
+        for words in (["-D", LIBRARY], ["-g", os.path.join(os.path.dirname(LIBRARY), "libjdoc.a")]):
             said = subprocess.run(["nm", "--defined-only", *words], capture_output=True, text=True, check=True).stdout
-            exported = {line.split()[-1] for line in said.splitlines() if len(line.split()) == 3}
-            self.assertEqual(exported, {f"jsonb_{name}" for name in CALLS})
+            exported = {line.split()[-1].split("@")[0] for line in said.splitlines() if len(line.split()) == 3 and line.split()[1] == "T"}
+            self.assertEqual(exported, {f"jdoc_{name}" for name, _ in prototypes()})
+
+    def test_the_module_exports_its_start_alone(self):
+        said = subprocess.run(["nm", "-D", "--defined-only", jsonb_paths._core.__file__], capture_output=True, text=True, check=True).stdout
+        self.assertEqual([line.split()[-1] for line in said.splitlines()], ["PyInit__core"])
 
     def test_rust_declares_the_arguments_of_the_header(self):
         with open(RUST) as file:
-            [declared] = re.findall(r"declare! \{(.*?)\n    \}", file.read(), flags=re.S)
-        calls = dict(prototypes())
-        for name, arguments in re.findall(r"jsonb_(\w+)\(([^)]*)\);", declared):
-            wanted = [RUST_TYPES.get(it, it) for it in calls[name]]
-            given = [it.strip() for it in arguments.split(",") if it.strip()]
-            self.assertEqual([{"u32": "u64"}.get(it, it) for it in given], wanted, name)
+            declared = dict(re.findall(r"pub fn jdoc_(\w+)\(([^)]*)\)", file.read()))
+        for name, wanted in prototypes():
+            arguments = [it.split(": ")[1].strip() for it in declared[name].split(",") if it.strip()]
+            self.assertEqual(arguments, [rust_type(it) for it in wanted], name)
 
     def test_statuses_have_the_numbers_and_names_of_the_header(self):
-        listed = {int(number): name for name, number in re.findall(r"(JSONB_(?!KIND)\w+) = (\d+)", header())}
-        self.assertEqual({number: status_name(number) for number in listed}, listed)
-        answers = {_library.OK, _library.NONE, _library.BUFFER_TOO_SMALL}
-        self.assertEqual(set(REFUSALS) | answers, set(listed))
-        for number, kind in REFUSALS.items():
-            self.assertEqual(kind.__name__.upper(), listed[number].replace("JSONB_", "").replace("_", ""))
+        listed = {int(number): name for name, number in re.findall(r"JDOC_((?!KIND)\w+) = (\d+)", header())}
+        known = {number: kind.__name__.upper() for number, kind in REFUSALS.items() if kind is not InvalidJson}
+        self.assertEqual({number: name.replace("_", "") for number, name in listed.items() if name not in ("OK", "NONE", "BUFFER_TOO_SMALL", "NO_PATH")}, known)
+        with open(os.path.join(BINDINGS, "text", "jdoc_text.h")) as file:
+            self.assertIn(f"JDOC_INVALID_JSON = {InvalidJson.status} ", file.read())
 
     def test_kinds_have_the_numbers_of_the_header(self):
-        listed = [name.lower() for name, _ in sorted(re.findall(r"JSONB_KIND_(\w+) = (\d+)", header()), key=lambda it: int(it[1]))]
+        listed = [name.lower() for name, _ in sorted(re.findall(r"JDOC_KIND_(\w+) = (\d+)", header()), key=lambda it: int(it[1]))]
         self.assertEqual(listed, list(documents.KINDS))
+
+    def test_the_version_is_that_of_the_library(self):
+        major, minor, patch = map(int, jsonb_paths.__version__.split("."))
+        self.assertEqual(jsonb_paths._core.LIBRARY_VERSION, major * 1_000_000 + minor * 1_000 + patch)
+
+    def test_what_is_exported_is_written_out(self):
+        self.assertEqual(list(jsonb_paths.__all__), sorted(jsonb_paths.__all__))
+        hidden = {"column", "documents", "errors", "paths", "values", "shards"}
+        public = {name for name in vars(jsonb_paths) if not name.startswith("_")} - hidden | {"__version__"}
+        self.assertEqual(set(jsonb_paths.__all__), public)
+
+
+if __name__ == "__main__":
+    unittest.main()

@@ -1,0 +1,128 @@
+#!/usr/bin/env python3
+"""Compares the SQLite extension with SQLite's own JSON functions over text.
+
+  sqlite.py EXTENSION ROWS small|large [ROUNDS]      microseconds of processor time a row, the best of several rounds in turn
+  sqlite.py EXTENSION ROWS small|large instructions  instructions a row, counted by callgrind: a busy machine changes them little
+
+EXTENSION is a path without its suffix, as bindings/sqlite/out/jdoc.
+"""
+
+import os
+import re
+import sqlite3
+import subprocess
+import sys
+import tempfile
+import time
+
+import documents
+
+KEY = "jdoc_key(jdoc_get(d, '{age}'))"
+HOME = '$.phones[*]?(@.type == "home" && @.number > 5000000)'
+# A title, a query of ours and one of SQLite's. Both return the same, except lengths of bytes.
+QUERIES = [
+    ("read each row", "SELECT count(*), sum(length(d)) FROM t", "SELECT count(*), sum(length(d)) FROM t"),
+    ("$.age > 40", "SELECT count(*) FROM t WHERE jdoc_match(d, '$.age > 40')", "SELECT count(*) FROM t WHERE json_extract(d, '$.age') > 40"),
+    ("the same by a value", "SELECT count(*) FROM t WHERE jdoc_value(d, '{age}') > 40", "SELECT count(*) FROM t WHERE d ->> '$.age' > 40"),
+    ("nested, $.address.city", "SELECT count(*) FROM t WHERE jdoc_match(d, '$.address.city == \"Oslo\"')",
+     "SELECT count(*) FROM t WHERE d ->> '$.address.city' = 'Oslo'"),
+    ("a filter in an array", f"SELECT count(*) FROM t WHERE jdoc_exists(d, '{HOME}')",
+     "SELECT count(*) FROM t WHERE EXISTS (SELECT 1 FROM json_each(d, '$.phones') AS p"
+     " WHERE p.value ->> '$.type' = 'home' AND p.value ->> '$.number' > 5000000)"),
+    ("contains", "SELECT count(*) FROM t WHERE jdoc_contains(d, '{\"active\":true,\"tags\":[\"vip\"]}')",
+     "SELECT count(*) FROM t WHERE d ->> '$.active' = 1 AND EXISTS (SELECT 1 FROM json_each(d, '$.tags') AS p WHERE p.value = 'vip')"),
+    ("one string", "SELECT sum(length(jdoc_value(d, '{email}'))) FROM t", "SELECT sum(length(d ->> '$.email')) FROM t"),
+    ("one child", "SELECT count(jdoc_get(d, '{address}')) FROM t", "SELECT count(d -> '$.address') FROM t"),
+    ("replace a field", "SELECT count(jdoc_set(d, 'score', 1)) FROM t", "SELECT count(json_set(d, '$.score', 1)) FROM t"),
+    ("to JSON text", "SELECT count(jdoc_json(d)) FROM t", "SELECT count(json(d)) FROM t"),
+    ("rows of an array", "SELECT count(*), sum(value) FROM t, jdoc_rows(d, '$.phones[*].number')",
+     "SELECT count(*), sum(value ->> '$.number') FROM t, json_each(d, '$.phones')"),
+    ("sort by a field, no index", f"SELECT sum(n) FROM (SELECT 1 AS n FROM t ORDER BY {KEY} LIMIT 1000)",
+     "SELECT sum(n) FROM (SELECT 1 AS n FROM t ORDER BY d ->> '$.age' LIMIT 1000)"),
+    ("build an index", f"CREATE INDEX i ON t ({KEY})", "CREATE INDEX i ON t (d ->> '$.age')"),
+    ("range by the index", f"SELECT count(*) FROM t WHERE {KEY} BETWEEN jdoc_key(30) AND jdoc_key(32)",
+     "SELECT count(*) FROM t WHERE d ->> '$.age' BETWEEN 30 AND 32"),
+]
+LOAD = ("load from JSON text", "INSERT INTO t SELECT jdoc(text) FROM texts", "INSERT INTO t SELECT json(text) FROM texts")
+
+
+def make(folder, extension, texts):
+    """Two databases, each with the JSON text and with its table, and the bytes a row of each table."""
+    made = {}
+    for name, (_, *loads) in (("jdoc", LOAD), ("SQLite", LOAD)):
+        path = os.path.join(folder, name)
+        db = sqlite3.connect(path)
+        db.enable_load_extension(True)
+        db.load_extension(extension)
+        for pragma in ("journal_mode = OFF", "synchronous = OFF", "cache_size = -400000"):
+            db.execute(f"PRAGMA {pragma}")
+        db.execute("CREATE TABLE texts (text)")
+        db.execute("CREATE TABLE t (d)")
+        db.executemany("INSERT INTO texts VALUES (?)", ((it,) for it in texts))
+        db.commit()
+        before = db.execute("PRAGMA page_count").fetchone()[0]
+        db.execute(loads[name == "SQLite"])
+        db.commit()
+        pages = db.execute("PRAGMA page_count").fetchone()[0] - before
+        made[name] = path, db, pages * db.execute("PRAGMA page_size").fetchone()[0] / len(texts)
+    return made
+
+
+def timed(db, sql):
+    """The seconds of a statement, and what it returns."""
+    if sql.startswith("INSERT"):
+        db.execute("DELETE FROM t")
+    if sql.startswith("CREATE INDEX"):
+        db.execute("DROP INDEX IF EXISTS i")
+    begun = time.process_time()
+    found = db.execute(sql).fetchall()
+    db.commit()
+    return time.process_time() - begun, found
+
+
+def best_times(made, mine, other, rounds):
+    best, found = {}, {}
+    for _ in range(rounds):
+        for name, sql in (("jdoc", mine), ("SQLite", other)):
+            seconds, found[name] = timed(made[name][1], sql)
+            best[name] = min(best.get(name, seconds), seconds)
+    if found["jdoc"] != found["SQLite"] and "read each" not in mine and "length(d)" not in mine:
+        raise SystemExit(f"different results: {mine}: {found}")
+    return best
+
+
+def instructions(extension, path, sql):
+    """The instructions of the sqlite3 shell for a statement."""
+    words = ["valgrind", "--tool=callgrind", "--callgrind-out-file=/dev/null", "sqlite3", "-cmd", f".load {extension}", path, f"BEGIN; {sql}; ROLLBACK"]
+    said = subprocess.run(words, capture_output=True, text=True, check=True)
+    return int(re.search(r"Collected : (\d+)", said.stderr)[1])
+
+
+def measure(extension, rows, size, how, folder):
+    made = make(folder, extension, list(documents.people(rows, size)))
+    counts = how == "instructions"
+    unit = "instructions" if counts else "microseconds of processor time"
+    print(f"{unit} a row; {rows} rows, {size}; SQLite {sqlite3.sqlite_version}\n")
+    print("| Query | jdoc | SQLite | ratio |\n|---|---|---|---|")
+    if counts:
+        for _, db, _ in made.values():
+            db.close()
+        nothing = {name: instructions(extension, it[0], "SELECT 1") for name, it in made.items()}
+    for title, mine, other in [LOAD] + QUERIES:
+        if counts:
+            row = {name: (instructions(extension, made[name][0], sql) - nothing[name]) / rows for name, sql in (("jdoc", mine), ("SQLite", other))}
+        else:
+            row = {name: it / rows * 1e6 for name, it in best_times(made, mine, other, int(how)).items()}
+        form = "{:.0f}" if counts else "{:.2f}"
+        print(f"| {title} | {form.format(row['jdoc'])} | {form.format(row['SQLite'])} | {row['jdoc'] / row['SQLite']:.2f} |", flush=True)
+    print(f"\nbytes a row on disk: {made['jdoc'][2]:.0f}, SQLite {made['SQLite'][2]:.0f}")
+
+
+def main():
+    extension, rows, size = os.path.abspath(sys.argv[1]), int(sys.argv[2]), sys.argv[3]
+    with tempfile.TemporaryDirectory() as folder:
+        measure(extension, rows, size, sys.argv[4] if len(sys.argv) > 4 else "3", folder)
+
+
+if __name__ == "__main__":
+    main()

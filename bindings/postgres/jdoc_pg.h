@@ -1,0 +1,118 @@
+/* jdoc_pg.h - what the files of the PostgreSQL extension share
+ *
+ * A jdoc is a document's bytes in a varlena. No jdoc comes into being unchecked: JSON text and jsonb go through a tape
+ * and jdoc_check, bytes through jdoc_check, and all others are what the library makes.
+ */
+#ifndef JDOC_PG_H
+#define JDOC_PG_H
+
+#include "postgres.h"
+
+#include "fmgr.h"
+#include "utils/memutils.h"
+#if PG_VERSION_NUM >= 160000
+#include "varatt.h"
+#endif
+
+#include "jdoc.h"
+#include "jdoc_text.h"
+#include "sql_path.h"
+
+/* A varlena as the library takes it. */
+#define BYTES(it) (const uint8_t *)VARDATA_ANY(it), (size_t)VARSIZE_ANY_EXHDR(it)
+#define TEXT(it)  (const char *)VARDATA_ANY(it), (size_t)VARSIZE_ANY_EXHDR(it)
+
+/* MEMORY (heap.c) */
+
+/* For the tape, the walk and the writer of text: the current memory context. It raises an error if there is none left,
+ * or if the query is cancelled. */
+extern const jdoc_heap pg_heap;
+
+/* Whether a call of the library has to be made again. The library's allocations fail while an interrupt is pending, so
+ * that a cancelled query ends there; other interrupts are handled here, and the call is repeated. */
+bool interrupted(uint32_t status);
+
+#define RUN(status, call)                                                                                              \
+    do {                                                                                                               \
+        (status) = (call);                                                                                             \
+    } while (interrupted(status))
+
+/* ERRORS AND RESULTS (calls.c) */
+
+/* Raise the error of a status. */
+void fail(uint32_t status) pg_attribute_noreturn();
+
+/* The text[] of names as a column of strings, without its nulls. */
+typedef struct names {
+    char *bytes;
+    uint64_t *offsets;
+    size_t count, len;
+    bool has_null;
+} names;
+
+names names_of(Datum array);
+
+/* What a function was called with, a letter an argument: d a document, p a jdocpath (P: of a function
+ * that returns rows), n `text`, N `text[]`, i an int4, f a
+ * bool. v, a document of variables, has to be empty: paths have none. */
+typedef struct given {
+    bytea *documents[2];
+    int documents_len;
+    jdoc_path *path;
+    jdoc_keypath *keys;
+    bool strict;
+    text *name;
+    names names;
+    int32 index;
+    bool flag;
+} given;
+
+void given_of(FunctionCallInfo fcinfo, const char *letters, given *it);
+
+typedef enum jdoc_status maker(const given *it, uint8_t *out, size_t size, size_t *len);
+typedef enum jdoc_status asker(const given *it, uint8_t *truth);
+
+/* The result of a call as a varlena, NULL if it is JDOC_NONE. With `silent`, or if the call is an operator of paths, an
+ * error that depends on the document is JDOC_NONE. */
+bytea *made_by(const given *it, maker *makes, bool silent);
+
+/* The document that a call makes, as a value of SQL: a string as itself, others as JSON text. NULL: there is none, or it
+ * is null. */
+text *text_by(const given *it, maker *makes);
+
+/* The same as the result of an SQL function. */
+Datum return_made(FunctionCallInfo fcinfo, const char *letters, maker *makes);
+Datum return_truth(FunctionCallInfo fcinfo, const char *letters, asker *asks, bool silent);
+bool is_hidden(uint32_t status, bool silent);
+
+#define D(i)  BYTES(it->documents[i])
+#define NAME  TEXT(it->name)
+#define NAMES it->names.bytes, it->names.len, it->names.offsets, it->names.count + 1
+#define OUT   out, size, len
+
+/* SQL functions that make one call. */
+#define MAKER(name, call)                                                                                              \
+    static enum jdoc_status name(const given *it, uint8_t *out, size_t size, size_t *len) { return call; }
+#define ASKER(name, call)                                                                                              \
+    static enum jdoc_status name(const given *it, uint8_t *truth) { return call; }
+#define MAKES(name, letters, call)                                                                                     \
+    MAKER(name##_call, call)                                                                                           \
+    PG_FUNCTION_INFO_V1(name);                                                                                         \
+    Datum name(PG_FUNCTION_ARGS) { return return_made(fcinfo, letters, name##_call); }
+#define ASKS(name, letters, call)                                                                                      \
+    ASKER(name##_call, call)                                                                                           \
+    PG_FUNCTION_INFO_V1(name);                                                                                         \
+    Datum name(PG_FUNCTION_ARGS) { return return_truth(fcinfo, letters, name##_call, false); }
+
+/* DOCUMENTS (types.c, rows.c, order.c) */
+
+/* The JSON text of a document, with spaces as jsonb has it. */
+char *text_of_document(const uint8_t *document, size_t document_len, size_t *len);
+
+/* The equality key of a document. */
+bytea *equality_key_of(bytea *document);
+
+/* The elements of an array, a row each. */
+Datum return_elements(FunctionCallInfo fcinfo, bytea *(*array_of)(FunctionCallInfo fcinfo));
+
+#endif

@@ -1,0 +1,4 @@
+/* module.c - what makes the library a module of PostgreSQL */
+#include "jdoc_pg.h"
+
+PG_MODULE_MAGIC;

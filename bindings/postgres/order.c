@@ -1,0 +1,204 @@
+/* order.c - the order of documents for btree, and their hashes, of equality keys
+ *
+ * The order is that of sortable keys: Booleans, numbers, strings, objects, arrays, null. Documents are compared item by
+ * item up to the first difference, without their keys, which only extension values need, and numbers with a scale.
+ */
+#include "jdoc_pg.h"
+
+#include "common/hashfn.h"
+#include "miscadmin.h"
+#include "port/pg_bswap.h"
+#include "utils/sortsupport.h"
+
+#include <string.h>
+
+enum { SMALL = 1024, DEPTH = 2, SCALAR_SIZE = 8 + 18 };
+
+/* KEYS: wide ones, so that items may be nested up to 65,535 levels deep */
+
+typedef struct key {
+    uint8_t small[SMALL], *bytes;
+    size_t len;
+} key;
+
+static void key_of(const uint8_t *document, size_t len, key *made) {
+    uint32_t status;
+    RUN(status, jdoc_sort_key(document, len, true, made->small, SMALL, &made->len));
+    made->bytes = made->small;
+    if (status == JDOC_BUFFER_TOO_SMALL) {
+        made->bytes = MemoryContextAllocHuge(CurrentMemoryContext, made->len);
+        RUN(status, jdoc_sort_key(document, len, true, made->bytes, made->len, &made->len));
+    }
+    if (status != JDOC_OK) fail(status);
+}
+
+static void release(key *made) {
+    if (made->bytes != made->small) pfree(made->bytes);
+}
+
+static int compare_bytes(const uint8_t *a, size_t a_len, const uint8_t *b, size_t b_len) {
+    int order = memcmp(a, b, Min(a_len, b_len));
+    return order != 0 ? order : a_len < b_len ? -1 : a_len > b_len;
+}
+
+static int compare_keys(const uint8_t *a, size_t a_len, const uint8_t *b, size_t b_len) {
+    key x, y;
+    int order;
+    key_of(a, a_len, &x);
+    key_of(b, b_len, &y);
+    order = compare_bytes(x.bytes, x.len, y.bytes, y.len);
+    release(&x);
+    release(&y);
+    return order;
+}
+
+/* ITEMS */
+
+/* What sortable keys have for the type of an item. The end of a container comes before all items. */
+static int rank_of(const jdoc_event *item) {
+    static const uint8_t ranks[] = {
+        [JDOC_EVENT_END] = 0,    [JDOC_EVENT_EXTENSION] = 1, [JDOC_EVENT_FALSE] = 2, [JDOC_EVENT_TRUE] = 3,
+        [JDOC_EVENT_NUMBER] = 4, [JDOC_EVENT_STRING] = 5,    [JDOC_EVENT_BEGIN] = 7, [JDOC_EVENT_NULL] = 8,
+    };
+    return ranks[item->kind] - (item->kind == JDOC_EVENT_BEGIN && item->object);
+}
+
+/* The value of an integer's payload. False: it is a decimal. */
+static bool integer_of(const jdoc_event *number, int128 *value) {
+    const uint8_t *at = number->bytes, *end = at + number->len;
+    uint8_t kind = *at++;
+    if (kind != 0 && kind != 0x40 && kind != 0x50) return false;
+    *value = kind == 0x40 && *at >= 0x80 ? -1 : 0;
+    for (; at < end; at++) *value = (int128)((uint128)*value << 8 | *at);
+    return true;
+}
+
+static int compare_numbers(const jdoc_event *a, const jdoc_event *b) {
+    uint8_t x[SCALAR_SIZE], y[SCALAR_SIZE];
+    int128 m, n;
+    if (a->len == b->len && memcmp(a->bytes, b->bytes, a->len) == 0) return 0;
+    if (integer_of(a, &m) && integer_of(b, &n)) return m < n ? -1 : m > n;
+    jdoc_item_write(a, x);
+    jdoc_item_write(b, y);
+    return compare_keys(x, jdoc_item_size(a), y, jdoc_item_size(b));
+}
+
+/* The order of two items of which each has the same place in its document. *known is false if only keys have it. */
+static int compare_items(const jdoc_event *a, const jdoc_event *b, bool *known) {
+    int order = a->has_key && b->has_key ? compare_bytes(a->key, a->key_len, b->key, b->key_len) : 0;
+    if (order == 0) order = rank_of(a) - rank_of(b);
+    if (order != 0) return order;
+    *known = a->kind != JDOC_EVENT_EXTENSION;
+    if (a->kind == JDOC_EVENT_NUMBER) return compare_numbers(a, b);
+    return a->kind == JDOC_EVENT_STRING ? compare_bytes(a->bytes, a->len, b->bytes, b->len) : 0;
+}
+
+static int compare(const bytea *a, const bytea *b) {
+    jdoc_walk x, y;
+    jdoc_event item, other;
+    uint32_t status, other_status;
+    int order = 0;
+    bool known = true;
+    if (VARSIZE_ANY_EXHDR(a) == VARSIZE_ANY_EXHDR(b) &&
+        memcmp(VARDATA_ANY(a), VARDATA_ANY(b), VARSIZE_ANY_EXHDR(a)) == 0)
+        return 0;
+    status = jdoc_walk_init(&x, pg_heap, BYTES(a));
+    other_status = jdoc_walk_init(&y, pg_heap, BYTES(b));
+    while (status == JDOC_OK && other_status == JDOC_OK && order == 0 && known) {
+        CHECK_FOR_INTERRUPTS();
+        status = jdoc_walk_next(&x, &item);
+        other_status = jdoc_walk_next(&y, &other);
+        if (status == JDOC_OK && other_status == JDOC_OK) order = compare_items(&item, &other, &known);
+    }
+    jdoc_walk_free(&x);
+    jdoc_walk_free(&y);
+    if (status != JDOC_OK && status != JDOC_NONE) fail(status);
+    if (other_status != JDOC_OK && other_status != JDOC_NONE) fail(other_status);
+    return known ? order : compare_keys(BYTES(a), BYTES(b));
+}
+
+static int compare_data(Datum a, Datum b) {
+    bytea *x = DatumGetByteaPP(a), *y = DatumGetByteaPP(b);
+    int order = compare(x, y);
+    if ((Pointer)x != DatumGetPointer(a)) pfree(x);
+    if ((Pointer)y != DatumGetPointer(b)) pfree(y);
+    return order;
+}
+
+#define ORDER(name, sign)                                                                                              \
+    PG_FUNCTION_INFO_V1(name);                                                                                         \
+    Datum name(PG_FUNCTION_ARGS) { PG_RETURN_BOOL(compare_data(PG_GETARG_DATUM(0), PG_GETARG_DATUM(1)) sign 0); }
+ORDER(jdoc_sql_eq, ==)
+ORDER(jdoc_sql_ne, !=)
+ORDER(jdoc_sql_lt, <)
+ORDER(jdoc_sql_le, <=)
+ORDER(jdoc_sql_gt, >)
+ORDER(jdoc_sql_ge, >=)
+
+PG_FUNCTION_INFO_V1(jdoc_sql_cmp);
+Datum jdoc_sql_cmp(PG_FUNCTION_ARGS) { PG_RETURN_INT32(compare_data(PG_GETARG_DATUM(0), PG_GETARG_DATUM(1))); }
+
+/* SORTING: eight bytes of a scalar's key after the depth of the root, which is always 0, decide between most scalars.
+ * An array or an object has only its type there. */
+
+static int sort_compare(Datum a, Datum b, SortSupport sort) { return compare_data(a, b); }
+
+static Datum abbreviate(Datum original, SortSupport sort) {
+    bytea *it = DatumGetByteaPP(original);
+    uint8_t front[sizeof(Datum)] = {0};
+    jdoc_event root;
+    Datum made;
+    uint32_t status = jdoc_root(&root, BYTES(it));
+    if (status != JDOC_OK) fail(status);
+    front[0] = (uint8_t)rank_of(&root);
+    if (root.kind != JDOC_EVENT_BEGIN) {
+        key whole;
+        key_of(BYTES(it), &whole);
+        memcpy(front, whole.bytes + DEPTH, Min(whole.len - DEPTH, sizeof front));
+        release(&whole);
+    }
+    if ((Pointer)it != DatumGetPointer(original)) pfree(it);
+    memcpy(&made, front, sizeof made);
+    return DatumBigEndianToNative(made);
+}
+
+static bool never_abort(int count, SortSupport sort) { return false; }
+
+PG_FUNCTION_INFO_V1(jdoc_sql_sortsupport);
+Datum jdoc_sql_sortsupport(PG_FUNCTION_ARGS) {
+    SortSupport sort = (SortSupport)PG_GETARG_POINTER(0);
+    sort->comparator = sort_compare;
+    if (sort->abbreviate) {
+        sort->comparator = ssup_datum_unsigned_cmp;
+        sort->abbrev_converter = abbreviate;
+        sort->abbrev_abort = never_abort;
+        sort->abbrev_full_comparator = sort_compare;
+    }
+    PG_RETURN_VOID();
+}
+
+/* HASHES */
+
+MAKER(equality_key, jdoc_equality_key(D(0), OUT))
+
+bytea *equality_key_of(bytea *document) {
+    const given it = {.documents = {document}};
+    return made_by(&it, equality_key, false);
+}
+
+PG_FUNCTION_INFO_V1(jdoc_sql_hash);
+Datum jdoc_sql_hash(PG_FUNCTION_ARGS) {
+    bytea *made = equality_key_of(PG_GETARG_BYTEA_PP(0));
+    Datum hash = hash_any((unsigned char *)VARDATA(made), (int)VARSIZE_ANY_EXHDR(made));
+    pfree(made);
+    return hash;
+}
+
+PG_FUNCTION_INFO_V1(jdoc_sql_hash_extended);
+Datum jdoc_sql_hash_extended(PG_FUNCTION_ARGS) {
+    bytea *made = equality_key_of(PG_GETARG_BYTEA_PP(0));
+    uint64 seed = (uint64)PG_GETARG_INT64(1);
+    Datum hash = hash_any_extended((unsigned char *)VARDATA(made), (int)VARSIZE_ANY_EXHDR(made), seed);
+    pfree(made);
+    return hash;
+}

@@ -1,0 +1,72 @@
+/* paths.c - the type jdocpath, its operators @? and @@, and the path functions */
+#include "jdoc_pg.h"
+
+#include "utils/builtins.h"
+
+#include <string.h>
+
+/* A jdocpath is its text. It is read when it comes in, so that a wrong path is a syntax error of the query. */
+PG_FUNCTION_INFO_V1(jdocpath_in);
+Datum jdocpath_in(PG_FUNCTION_ARGS) {
+    char *text = PG_GETARG_CSTRING(0);
+    sql_path it = sql_path_of(text, strlen(text));
+    jdoc_path path = {0};
+    uint32_t status = JDOC_INVALID_JSON_PATH; /* the empty path selects the root, and is more likely a mistake */
+    if (it.len != 0) RUN(status, jdoc_path_read(it.text, it.len, &path));
+    jdoc_path_free(&path);
+    if (status == JDOC_INVALID_JSON_PATH)
+        ereport(ERROR,
+                (errcode(ERRCODE_SYNTAX_ERROR), errmsg("invalid input syntax for type %s: \"%s\"", "jdocpath", text)));
+    if (status != JDOC_OK) fail(status);
+    PG_RETURN_TEXT_P(cstring_to_text(text));
+}
+
+ASKER(exists, jdoc_path_exists(it->path, D(0), it->strict, truth))
+ASKER(match, jdoc_path_match(it->path, D(0), it->strict, truth))
+MAKER(first, jdoc_path_select_first(it->path, D(0), it->strict, OUT))
+MAKER(array, jdoc_path_select_array(it->path, D(0), it->strict, OUT))
+
+PG_FUNCTION_INFO_V1(jdoc_sql_path_exists_op);
+Datum jdoc_sql_path_exists_op(PG_FUNCTION_ARGS) { return return_truth(fcinfo, "dp", exists, true); }
+
+PG_FUNCTION_INFO_V1(jdoc_sql_path_match_op);
+Datum jdoc_sql_path_match_op(PG_FUNCTION_ARGS) { return return_truth(fcinfo, "dp", match, true); }
+
+/* The functions have the arguments of jsonb's: document, path, variables, silent. */
+PG_FUNCTION_INFO_V1(jdoc_sql_path_exists);
+Datum jdoc_sql_path_exists(PG_FUNCTION_ARGS) { return return_truth(fcinfo, "dpvf", exists, PG_GETARG_BOOL(3)); }
+
+PG_FUNCTION_INFO_V1(jdoc_sql_path_match);
+Datum jdoc_sql_path_match(PG_FUNCTION_ARGS) { return return_truth(fcinfo, "dpvf", match, PG_GETARG_BOOL(3)); }
+
+static bytea *selected(FunctionCallInfo fcinfo, const char *letters, maker *makes) {
+    given it;
+    given_of(fcinfo, letters, &it);
+    return made_by(&it, makes, it.flag);
+}
+
+PG_FUNCTION_INFO_V1(jdoc_sql_path_query_first);
+Datum jdoc_sql_path_query_first(PG_FUNCTION_ARGS) {
+    bytea *made = selected(fcinfo, "dpvf", first);
+    if (!made) PG_RETURN_NULL();
+    PG_RETURN_BYTEA_P(made);
+}
+
+/* An array of all items. If an error is silent the array is empty: what was found before it is not kept. */
+static bytea *query_array(FunctionCallInfo fcinfo, const char *letters) {
+    static const uint8_t empty[] = {0x80, 0, 0, 0};
+    bytea *made = selected(fcinfo, letters, array);
+    if (made) return made;
+    made = palloc(VARHDRSZ + sizeof empty);
+    SET_VARSIZE(made, VARHDRSZ + sizeof empty);
+    memcpy(VARDATA(made), empty, sizeof empty);
+    return made;
+}
+
+PG_FUNCTION_INFO_V1(jdoc_sql_path_query_array);
+Datum jdoc_sql_path_query_array(PG_FUNCTION_ARGS) { PG_RETURN_BYTEA_P(query_array(fcinfo, "dpvf")); }
+
+static bytea *query_rows(FunctionCallInfo fcinfo) { return query_array(fcinfo, "dPvf"); }
+
+PG_FUNCTION_INFO_V1(jdoc_sql_path_query);
+Datum jdoc_sql_path_query(PG_FUNCTION_ARGS) { return return_elements(fcinfo, query_rows); }

@@ -1,0 +1,25 @@
+"""Paths as objects. An error in a path is raised when it is made, not at the first document.
+
+>>> from jsonb_paths import dumps
+>>> grown_up = Path("$.age > 40")
+>>> grown_up.match(dumps({"age": 47})), grown_up
+(True, Path('$.age > 40'))
+>>> KeyPath("{a")
+Traceback (most recent call last):
+    ...
+jsonb_paths.errors.InvalidKeyPath: not a key path: '{a'
+"""
+
+from __future__ import annotations
+
+from ._core import KeyPath, Path
+
+__all__ = ["KeyPath", "Path"]
+
+
+def _path(text: str, strict: int) -> Path:
+    return Path(text, strict=bool(strict))
+
+
+def _key_path(text: str, _: int) -> KeyPath:
+    return KeyPath(text)

@@ -1,0 +1,97 @@
+// Results: what becomes of a status and of what a call in C wrote.
+#pragma once
+
+#include "arguments.hpp"
+
+#include <algorithm>
+
+// Where bytes go, whether the call in C writes documents or texts.
+struct Out {
+    void *at;
+    operator uint8_t *() const { return static_cast<uint8_t *>(at); }
+    operator char *() const { return static_cast<char *>(at); }
+};
+
+// `call` makes the call with these last arguments and returns its status; what `show` returns goes into an exception.
+struct Bytes {
+    template <typename Call, typename Show> static PyObject *of(State *state, Call call, Show show) {
+        uint8_t small[1024];
+        size_t length;
+        uint32_t status = call(std::make_tuple(Out{small}, sizeof small, &length));
+        if (status == JDOC_OK) return PyBytes_FromStringAndSize(reinterpret_cast<char *>(small), Py_ssize_t(length));
+        if (status == JDOC_NONE) return Py_NewRef(Py_None);
+        if (status != JDOC_BUFFER_TOO_SMALL) return fail(state, status, show());
+        Ref large(PyBytes_FromStringAndSize(nullptr, Py_ssize_t(length)));
+        if (!large.it) return nullptr;
+        status = call(std::make_tuple(Out{PyBytes_AsString(large.it)}, length, &length));
+        return status == JDOC_OK ? large.release() : fail(state, status, show());
+    }
+};
+
+struct String {
+    template <typename Call, typename Show> static PyObject *of(State *state, Call call, Show show) {
+        Ref bytes(Bytes::of(state, call, show));
+        if (!bytes.it || bytes.it == Py_None) return bytes.release();
+        return PyUnicode_FromEncodedObject(bytes.it, "utf-8", "strict");
+    }
+};
+
+template <typename Number, PyObject *(*MADE)(Number)> struct Fixed {
+    template <typename Call, typename Show> static PyObject *of(State *state, Call call, Show show) {
+        Number number;
+        uint32_t status = call(std::make_tuple(&number));
+        if (status == JDOC_OK) return MADE(number);
+        return status == JDOC_NONE ? Py_NewRef(Py_None) : fail(state, status, show());
+    }
+};
+inline PyObject *truth_of(uint8_t it) { return it > 1 ? Py_NewRef(Py_None) : PyBool_FromLong(it); }
+inline PyObject *byte_of(uint8_t it) { return PyLong_FromLong(it); }
+inline PyObject *signed_of(int64_t it) { return PyLong_FromLongLong(it); }
+inline PyObject *unsigned_of(uint64_t it) { return PyLong_FromUnsignedLongLong(it); }
+using Truth = Fixed<uint8_t, truth_of>;
+using Byte = Fixed<uint8_t, byte_of>;
+using Signed = Fixed<int64_t, signed_of>;
+using Unsigned = Fixed<uint64_t, unsigned_of>;
+using Count = Fixed<size_t, unsigned_of>;
+
+struct Nothing {
+    template <typename Call, typename Show> static PyObject *of(State *state, Call call, Show show) {
+        uint32_t status = call(std::make_tuple());
+        return status == JDOC_OK ? Py_NewRef(Py_None) : fail(state, status, show());
+    }
+};
+
+// A Decimal of its text, which has as many digits after the point as the scale says.
+inline PyObject *decimal_of(State *state, const uint8_t *payload, size_t length) {
+    char text[JDOC_NUMBER_TEXT];
+    return PyObject_CallFunction(state->decimal, "s#", text, Py_ssize_t(jdoc_number_text(payload, length, text)));
+}
+
+struct Number {
+    template <typename Call, typename Show> static PyObject *of(State *state, Call call, Show show) {
+        int64_t high;
+        uint64_t low;
+        uint8_t payload[18] = {0x70}, *scale = payload + 17;
+        uint32_t status = call(std::make_tuple(&high, &low, scale));
+        if (status == JDOC_NONE) return Py_NewRef(Py_None);
+        if (status != JDOC_OK) return fail(state, status, show());
+        for (int byte = 0; byte < 8; byte++) {
+            payload[8 - byte] = uint8_t(high >> 8 * byte);
+            payload[16 - byte] = uint8_t(low >> 8 * byte);
+        }
+        return decimal_of(state, payload, sizeof payload);
+    }
+};
+
+// The first str among the arguments, as an exception shows it.
+inline std::string shown(PyObject *const *arguments, Py_ssize_t count) {
+    for (Py_ssize_t at = 0; at < count; at++) {
+        if (!PyUnicode_Check(arguments[at])) continue;
+        Ref text(PyUnicode_FromFormat("%.200A", arguments[at]));
+        Py_ssize_t size;
+        const char *utf8 = text.it ? PyUnicode_AsUTF8AndSize(text.it, &size) : nullptr;
+        if (utf8) return std::string(utf8, size_t(size));
+        PyErr_Clear();
+    }
+    return "";
+}

@@ -1,0 +1,35 @@
+#!/usr/bin/env bash
+# Installs from Debian what the tests and the measurements of bindings/ need. A test says `skipped: ..` if something is
+# missing, so nothing here has to be installed; .ci/run calls this, so that nothing is skipped there. Packages that are installed
+# are left as they are, and without root or without a network this does nothing.
+set -u
+
+packages=(
+    gcc g++ make binutils pkg-config valgrind mandoc           # the C library, its tests and measurements
+    sqlite3 libsqlite3-dev                                    # bindings/sqlite
+    postgresql postgresql-server-dev-all                      # bindings/postgres
+    python3 python3-dev python3-setuptools python3-wheel      # bindings/python, the wheel
+    python3-pip python3-venv
+    python3-hypothesis python3-numpy python3-tqdm             # tests of bindings/python
+    mypy python3-mypy
+    python3-distributed                                       # its example of a cluster
+    bindgen                                                   # the declarations of bindings/rust
+    jq python3-ujson                                          # measurements of bindings/python
+)
+
+missing=()
+for package in "${packages[@]}"; do
+    dpkg-query -W -f '${Status}' "$package" 2>/dev/null | grep -q 'install ok installed' || missing+=("$package")
+done
+if [ "${#missing[@]}" = 0 ]; then
+    exit 0
+fi
+if [ "$(id -u)" != 0 ] || ! command -v apt-get >/dev/null; then
+    echo "skipped: setup: not root, or no apt-get: ${missing[*]}"
+    exit 0
+fi
+export DEBIAN_FRONTEND=noninteractive
+apt-get update -q >/dev/null || { echo "skipped: setup: no package lists: ${missing[*]}"; exit 0; }
+for package in "${missing[@]}"; do
+    apt-get install -y -q --no-install-recommends "$package" >/dev/null || echo "skipped: setup: $package cannot be installed"
+done

@@ -1,0 +1,75 @@
+/* extension.h - what the files of the SQLite extension share */
+#ifndef JDOC_SQLITE_EXTENSION_H
+#define JDOC_SQLITE_EXTENSION_H
+
+#include <sqlite3ext.h>
+
+#include "jdoc.h"
+#include "jdoc_text.h"
+#include "sql_path.h"
+
+#include <locale.h>
+#include <stdbool.h>
+#include <stddef.h>
+#include <stdint.h>
+
+extern const sqlite3_api_routines *sqlite3_api;
+
+/* What all functions of one connection share. SQLite calls one function of a connection at a time. */
+typedef struct connection {
+    jdoc_tape tape; /* where JSON text is read */
+    uint8_t *bytes; /* where results are made: it grows to the largest one */
+    size_t size;
+    locale_t numbers; /* the locale "C" */
+    int uses;         /* functions that hold it */
+} connection;
+
+/* Why there is no result: a status, and for JSON text the place and a sentence. */
+typedef struct fault {
+    uint32_t status;
+    const char *what;
+    size_t at;
+} fault;
+
+/* A document that was made of an argument. */
+typedef struct made {
+    size_t len;
+    uint8_t bytes[];
+} made;
+
+/* A document argument. */
+typedef struct document {
+    const uint8_t *bytes;
+    size_t len;
+    made *own; /* what the bytes lie in, if they were made */
+} document;
+
+extern const jdoc_heap sqlite_heap;
+
+/* Grow connection->bytes to at least this size. False: the allocation fails. */
+bool reserve(connection *own, size_t size);
+
+/* Read a value as a document: BLOB as it is, TEXT as JSON text, an integer as a number. The caller frees it->own by
+ * sqlite3_free. False: *why says why not; JDOC_NONE is NULL. */
+bool document_of_value(connection *own, sqlite3_value *value, document *it, fault *why);
+
+/* Write a fault as a message of at most `size` bytes. */
+void write_fault(const char *function, const fault *why, char *out, int size);
+
+/* Return a fault as an error of a function, and JDOC_NONE as NULL. */
+void return_fault(sqlite3_context *to, const char *function, const fault *why);
+
+/* Return a document as an SQL value: a scalar as itself, an array or an object as JSON text, a null as NULL. */
+void return_value(sqlite3_context *to, connection *own, const jdoc_event *item);
+
+/* Return the name of a type of jdoc_type, or NULL. */
+const char *type_name(uint8_t kind);
+
+/* Add the functions, the aggregates or the table to a connection. Each function holds the connection and
+ * releases it by release_connection, also if it cannot be added. */
+int add_functions(sqlite3 *db, connection *own);
+int add_aggregates(sqlite3 *db, connection *own);
+int add_rows(sqlite3 *db, connection *own);
+void release_connection(void *own);
+
+#endif

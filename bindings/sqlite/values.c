@@ -1,0 +1,148 @@
+/* values.c - SQL values as documents, and documents as SQL values */
+#define _GNU_SOURCE /* strtod_l */
+#include "extension.h"
+SQLITE_EXTENSION_INIT3
+
+#include <errno.h>
+#include <stdlib.h>
+#include <string.h>
+
+static void *resize(void *piece, size_t size) { return sqlite3_realloc64(piece, size); }
+static void release(void *piece) { sqlite3_free(piece); }
+
+const jdoc_heap sqlite_heap = {resize, release};
+
+bool reserve(connection *own, size_t size) {
+    if (size <= own->size) return true;
+    uint8_t *grown = sqlite3_realloc64(own->bytes, size + size / 2);
+    if (!grown) return false;
+    own->bytes = grown, own->size = size + size / 2;
+    return true;
+}
+
+/* FAULTS */
+
+static bool fail(fault *why, uint32_t status, const char *what, size_t at) {
+    *why = (fault){status, what, at};
+    return false;
+}
+
+void write_fault(const char *function, const fault *why, char *out, int size) {
+    char name[40] = "JDOC_INVALID_JSON";
+    size_t len = strlen(name);
+    if (why->status != JDOC_INVALID_JSON) jdoc_status_name(why->status, name, sizeof name, &len);
+    if (why->what)
+        sqlite3_snprintf(size, out, "%s: byte %lld of the JSON text: %s (%.*s)", function, (sqlite3_int64)why->at,
+                         why->what, (int)len, name);
+    else
+        sqlite3_snprintf(size, out, "%s: %s (%.*s)", function, jdoc_status_text(why->status), (int)len, name);
+}
+
+void return_fault(sqlite3_context *to, const char *function, const fault *why) {
+    char message[200];
+    if (why->status == JDOC_NONE) return; /* NULL */
+    if (why->status == JDOC_OUT_OF_MEMORY) {
+        sqlite3_result_error_nomem(to);
+        return;
+    }
+    write_fault(function, why, message, sizeof message);
+    sqlite3_result_error(to, message, -1);
+}
+
+/* DOCUMENTS OF VALUES */
+
+static bool document_of_text(connection *own, const char *text, size_t len, document *it, fault *why) {
+    jdoc_tape *tape = &own->tape;
+    uint32_t status = jdoc_read_text(tape, text, len);
+    if (status == JDOC_OK) {
+        size_t size = jdoc_tape_size(tape);
+        it->own = sqlite3_malloc64(sizeof *it->own + size);
+        if (!it->own) return fail(why, JDOC_OUT_OF_MEMORY, NULL, 0);
+        it->own->len = it->len = size;
+        it->bytes = it->own->bytes;
+        status = jdoc_write_read(tape, text, len, it->own->bytes);
+        if (status == JDOC_OK) return true;
+    }
+    sqlite3_free(it->own), it->own = NULL;
+    return fail(why, status, tape->what ? tape->what : jdoc_status_text(status), tape->at);
+}
+
+static bool document_of_integer(sqlite3_int64 number, document *it, fault *why) {
+    enum { NUMBER_SIZE = 24 };
+    it->own = sqlite3_malloc(sizeof *it->own + NUMBER_SIZE);
+    if (!it->own) return fail(why, JDOC_OUT_OF_MEMORY, NULL, 0);
+    uint32_t status = jdoc_from_i64(number, it->own->bytes, NUMBER_SIZE, &it->own->len);
+    it->bytes = it->own->bytes, it->len = it->own->len;
+    return status == JDOC_OK || fail(why, status, NULL, 0);
+}
+
+bool document_of_value(connection *own, sqlite3_value *value, document *it, fault *why) {
+    *it = (document){NULL, 0, NULL};
+    switch (sqlite3_value_type(value)) {
+    case SQLITE_BLOB:
+        it->bytes = sqlite3_value_blob(value), it->len = (size_t)sqlite3_value_bytes(value);
+        return true;
+    case SQLITE_TEXT: {
+        const char *text = (const char *)sqlite3_value_text(value);
+        if (!text) return fail(why, JDOC_OUT_OF_MEMORY, NULL, 0);
+        return document_of_text(own, text, (size_t)sqlite3_value_bytes(value), it, why);
+    }
+    case SQLITE_INTEGER:
+        return document_of_integer(sqlite3_value_int64(value), it, why);
+    case SQLITE_FLOAT:
+        return fail(why, JDOC_UNSUPPORTED_NUMBER, NULL, 0);
+    default:
+        return fail(why, JDOC_NONE, NULL, 0);
+    }
+}
+
+/* VALUES OF DOCUMENTS */
+
+const char *type_name(uint8_t kind) {
+    static const char *const names[] = {"null",      "boolean",      "integer",  "decimal", "string", "binary", "date",
+                                        "timestamp", "timestamp_tz", "interval", "array",   "object"};
+    return kind < sizeof names / sizeof *names ? names[kind] : NULL;
+}
+
+/* An integer if it is one of 64 bits with a sign, otherwise the nearest REAL, as SQLite has numbers of JSON text. */
+static void return_number(sqlite3_context *to, connection *own, const jdoc_event *item) {
+    char text[JDOC_NUMBER_TEXT + 1], *end;
+    text[jdoc_number_text(item->bytes, item->len, text)] = 0;
+    errno = 0;
+    long long whole = strtoll(text, &end, 10);
+    if (*end == 0 && errno == 0)
+        sqlite3_result_int64(to, whole);
+    else
+        sqlite3_result_double(to, strtod_l(text, &end, own->numbers));
+}
+
+static void return_text(sqlite3_context *to, const jdoc_event *item) {
+    jdoc_buffer out = {.heap = sqlite_heap};
+    uint32_t status = item->kind == JDOC_EVENT_BEGIN ? jdoc_write_text(&out, item->bytes, item->len, 0)
+                                                     : JDOC_INVALID_JSON_TYPE; /* a date or another extension value */
+    if (status == JDOC_OK) {
+        sqlite3_result_text64(to, out.bytes, out.len, sqlite3_free, SQLITE_UTF8);
+        return;
+    }
+    sqlite3_free(out.bytes);
+    return_fault(to, "jdoc_value", &(fault){status, NULL, 0});
+}
+
+void return_value(sqlite3_context *to, connection *own, const jdoc_event *item) {
+    switch (item->kind) {
+    case JDOC_EVENT_NULL:
+        return;
+    case JDOC_EVENT_TRUE:
+    case JDOC_EVENT_FALSE:
+        sqlite3_result_int(to, item->kind == JDOC_EVENT_TRUE);
+        return;
+    case JDOC_EVENT_NUMBER:
+        return_number(to, own, item);
+        return;
+    case JDOC_EVENT_STRING:
+        sqlite3_result_text64(to, (const char *)item->bytes, item->len, SQLITE_TRANSIENT, SQLITE_UTF8);
+        return;
+    default:
+        return_text(to, item);
+    }
+}

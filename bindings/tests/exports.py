@@ -1,0 +1,149 @@
+"""The names of the library: what it exports, what its headers and bindings/rust/sys declare, and what other libraries export.
+
+    exports.py FOLDER      of libjdoc.so and libjdoc.a; the last line is `N passed, M failed`
+    exports.py --write     writes bindings/c/abi.txt, which a release fixes: what is there may be added to, and not changed
+"""
+
+import ctypes
+import ctypes.util
+import os
+import re
+import shutil
+import subprocess
+import sys
+
+HERE = os.path.dirname(os.path.abspath(__file__))
+VERSION = "JDOC_0.1"
+# The types of the headers that have other names in Rust: those that are left out are the same.
+RUST_TYPES = {
+    "uint8_t": "u8", "uint32_t": "u32", "uint64_t": "u64", "int32_t": "i32", "int64_t": "i64", "size_t": "usize", "char": "core::ffi::c_char",
+    "unsigned": "core::ffi::c_uint", "enum jdoc_status": "jdoc_status",
+}
+
+
+def read(*path):
+    with open(os.path.join(HERE, "..", *path), encoding="utf-8") as file:
+        return file.read()
+
+
+def exported(file, flag):
+    """The functions that a library exports, with the version that each has."""
+    said = subprocess.run(["nm", flag, "--defined-only", file], capture_output=True, text=True, check=True).stdout
+    names = (line.split()[-1].partition("@@") for line in said.splitlines() if re.search(" [TtWiBDRuV] ", line))
+    return {name: version for name, _, version in names}
+
+
+def declared(*header):
+    """Each function of a header, by default jdoc.h, with what it returns and the types of its arguments."""
+    text = re.sub(r"/\*.*?\*/", "", read(*header or ("c", "jdoc.h")), flags=re.S)
+    for result, name, arguments in re.findall(r"^(?:JDOC_NODISCARD )?(\w[\w ]*) (jdoc_\w+)\(([^)]*)\);", text, flags=re.M):
+        words = [re.sub(r"\s+", " ", it).strip() for it in arguments.split(",") if it.strip() != "void"]
+        yield name, result, [re.sub(r"( \*?)\w+$", lambda it: it[1].rstrip(), it) if "*" not in it else re.sub(r"\*\w+$", "*", it) for it in words]
+
+
+def in_rust(kind):
+    """A type of a header as bindgen writes it."""
+    if not kind.endswith("*"):
+        return RUST_TYPES.get(kind, kind)
+    of, constant = re.subn(r"^const ", "", kind[:-1].rstrip())
+    return f"*{'const' if constant else 'mut'} {in_rust(of)}"
+
+
+def declared_in_rust():
+    """Each function of bindings/rust/sys, with what it returns and the types of its arguments."""
+    text = read("rust", "sys", "src", "bindings.rs")
+    for name, arguments, result in re.findall(r"pub fn (jdoc_\w+)\(([^)]*)\)(?: -> (\w+))?;", text):
+        yield name, result or "void", [it.partition(":")[2].strip() for it in arguments.split(",") if it.strip()]
+
+
+def of_the_library(folder):
+    header = {name for name, _, _ in declared()}
+    shared, static = exported(f"{folder}/libjdoc.so", "-D"), exported(f"{folder}/libjdoc.a", "-g")
+    yield from (f"{name} has no prefix" for name in sorted(static) if not name.startswith("jdoc_"))
+    yield from (f"{name} has the version {it!r}" for name, it in shared.items() if it != VERSION)
+    yield from (f"{name} is in the header or in a library alone" for name in sorted(header ^ set(shared) | header ^ set(static)))
+    if not header:
+        yield "the header declares nothing"
+
+
+def of_rust(_folder):
+    headers = [*declared(), *declared("text", "jdoc_text.h")]
+    wanted = {name: (in_rust(result), [in_rust(it) for it in arguments]) for name, result, arguments in headers}
+    found = {name: (result, arguments) for name, result, arguments in declared_in_rust()}
+    for name in sorted(wanted.keys() | found.keys()):
+        if wanted.get(name) != found.get(name):
+            yield f"Rust declares {name} as {found.get(name)} instead of {wanted.get(name)}"
+
+
+def of_statuses(folder):
+    """The header's numbers of statuses have these names in the library, and no other number has one."""
+    library = ctypes.CDLL(f"{folder}/libjdoc.so")
+    listed = {int(number): name for name, number in re.findall(r"(JDOC_(?!KIND|VERSION)\w+) = (\d+)", read("c", "jdoc.h"))}
+    for status in range(256):
+        out, length = ctypes.create_string_buffer(64), ctypes.c_size_t()
+        found = library.jdoc_status_name(status, out, ctypes.c_size_t(64), ctypes.byref(length)) == 0
+        name = out.raw[: length.value].decode() if found else None
+        if name != listed.get(status):
+            yield f"the status {status} is {name} in the library and {listed.get(status)} in the header"
+
+
+def interface():
+    """What a program was compiled with, a line each: functions, constants, and the fields of structs."""
+    text = re.sub(r"/\*.*?\*/", "", read("c", "jdoc.h"), flags=re.S)
+    for name, result, arguments in declared():
+        yield f"{result} {name}({', '.join(arguments)})"
+    yield from (f"{name} = {number}" for name, number in re.findall(r"(JDOC_\w+) = (\d+)", text))
+    for fields, name in re.findall(r"typedef struct \w+ \{(.*?)\} (\w+);", text, flags=re.S):
+        yield f"{name} {{ {' '.join(fields.split())} }}"
+
+
+def of_the_interface(_folder):
+    here = set(interface())
+    yield from (f"no longer in jdoc.h: {line}" for line in read("c", "abi.txt").splitlines() if line not in here)
+
+
+def server():
+    """The file of PostgreSQL's server, or None."""
+    if shutil.which("pg_config") is None:
+        return None
+    folder = subprocess.run(["pg_config", "--bindir"], capture_output=True, text=True, check=True).stdout.strip()
+    file = os.path.join(folder, "postgres")
+    return file if os.path.exists(file) else None
+
+
+def sqlite():
+    """The file of libsqlite3, or None."""
+    name = ctypes.util.find_library("sqlite3")
+    folders = ["/lib/x86_64-linux-gnu", "/usr/lib/x86_64-linux-gnu", "/lib64", "/usr/lib64", "/usr/lib", "/usr/local/lib"]
+    return next((it for it in (os.path.join(folder, name) for folder in folders if name) if os.path.exists(it)), None)
+
+
+def of_others(folder):
+    """Names that a program exports into which users load the library."""
+    ours = exported(f"{folder}/libjdoc.so", "-D")
+    for title, file in (("PostgreSQL's server", server()), ("libsqlite3", sqlite())):
+        if file is None:
+            print(f"skipped: names beside those of {title}: it is not installed")
+            continue
+        theirs = exported(file, "-D")
+        if not theirs:
+            yield f"{title} exports nothing"
+        yield from (f"{title} exports {name} too" for name in sorted(set(theirs) & set(ours)))
+
+
+def main():
+    if sys.argv[1] == "--write":
+        with open(os.path.join(HERE, "..", "c", "abi.txt"), "w", encoding="utf-8") as file:
+            file.write("".join(f"{line}\n" for line in interface()))
+        return 0
+    passed = failed = 0
+    for check in (of_the_library, of_the_interface, of_rust, of_statuses, of_others):
+        faults = list(check(sys.argv[1]))
+        print("".join(f"{it}\n" for it in faults), end="")
+        passed, failed = passed + (not faults), failed + len(faults)
+    print(f"{passed} passed, {failed} failed")
+    return 1 if failed else 0
+
+
+if __name__ == "__main__":
+    sys.exit(main())
