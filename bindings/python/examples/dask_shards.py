@@ -1,8 +1,7 @@
-"""Queries of documents on the processes of a Dask cluster. The shards are files that the workers map, so that a query sends
-file names and a path, and only results come back.
+"""Queries of documents on a Dask cluster. The workers map the shards, so a query sends only file names and a path.
 
     apt-get install python3-distributed
-    python3 dask_shards.py [DOCUMENTS] [SHARDS] [WORKERS..]     prints rows a second for each number of workers
+    python3 dask_shards.py [DOCUMENTS] [SHARDS] [WORKERS..]     prints rows per second for each number of workers
 """
 
 import collections
@@ -24,27 +23,27 @@ def column_of(file):
 
 
 def count(file, path):
-    """How many rows of a shard meet a predicate. Rows that are errors do not."""
-    return column_of(file).match(path, refusals={}).true_count
+    """The number of rows of a shard for which a predicate is true. Rows that are errors do not count."""
+    return column_of(file).match(path, errors={}).true_count
 
 
 def filtered(file, path):
-    """The rows of a shard that meet a predicate."""
+    """The rows of a shard for which a predicate is true."""
     column = column_of(file)
-    return column.filter(column.match(path, refusals={}))
+    return column.filter(column.match(path, errors={}))
 
 
 def in_order(file, path, by):
-    """The rows of a shard that meet a predicate, in the order of the sortable key of an item, and these keys: two columns."""
+    """The rows of a shard for which a predicate is true, sorted by the sortable key of an item, and these keys: two columns."""
     found = filtered(file, path)
-    keys = [key or b"" for key in found.get(by).sort_keys(refusals={})]
+    keys = [key or b"" for key in found.get(by).sort_keys(errors={})]
     order = sorted(range(len(keys)), key=keys.__getitem__)
     return Column(keys[it] for it in order), Column(found[it] for it in order)
 
 
 def groups(file, by):
-    """How many rows of a shard have each value of an item: by its equality key, since 1 and 1.0 are equal."""
-    return collections.Counter(column_of(file).get(by).equality_keys(refusals={}))
+    """The number of rows of a shard by the value of an item: by its equality key, since 1 and 1.0 are equal."""
+    return collections.Counter(column_of(file).get(by).equality_keys(errors={}))
 
 
 def count_all(client, files, path):
@@ -56,7 +55,7 @@ def filter_all(client, files, path):
 
 
 def sort_all(client, files, path, by):
-    """All documents that meet a predicate, in the order of what a key path selects in each."""
+    """All documents for which a predicate is true, sorted by the value at a key path."""
     parts = client.gather(client.map(in_order, files, path=path, by=by, pure=False))
     return [document for _, document in heapq.merge(*(zip(*it) for it in parts), key=lambda pair: pair[0])]
 

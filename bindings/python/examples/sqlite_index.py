@@ -42,7 +42,7 @@ def between(connection, least, most):
 
 
 def matching(connection, path):
-    """The documents that meet a condition."""
+    """The documents for which a predicate is true."""
     return [loads(it) for (it,) in connection.execute("SELECT document FROM people WHERE jsonb_match(document, ?)", [path])]
 
 

@@ -11,7 +11,7 @@ Calls on one document are in `documents`, on many in `column`, exceptions in `er
 """
 
 from ._version import __version__
-from .column import Answers, Column, Numbers, Truths
+from .column import Booleans, Column, Numbers, Results
 from .documents import (
     KINDS,
     array_distinct,
@@ -67,7 +67,7 @@ from .paths import KeyPath, Path
 from .values import Document, Value
 
 __all__ = [
-    "Answers",
+    "Booleans",
     "Column",
     "Document",
     "JsonbError",
@@ -75,7 +75,7 @@ __all__ = [
     "KeyPath",
     "Numbers",
     "Path",
-    "Truths",
+    "Results",
     "Value",
     "__version__",
     "array_distinct",

@@ -14,11 +14,11 @@ from typing import Any, BinaryIO, Callable, Dict, Iterable, Iterator, List, NoRe
 from . import __version__, _core
 from .column import Column
 from .documents import check, dumps, from_json, get_by_name
-from .errors import InvalidJson, InvalidJsonb, InvalidJsonPath, InvalidJsonType, InvalidKeyPath, JsonbError, refusal
+from .errors import InvalidJson, InvalidJsonb, InvalidJsonPath, InvalidJsonType, InvalidKeyPath, JsonbError, exception_of
 from .paths import KeyPath, Path
 
 EXAMPLES = """\
-A FILE contains JSON lines, or JSON texts of any layout, or with --hex a document in hexadecimal on each line. Without a FILE, or
+A FILE contains JSON lines, or JSON text in any layout, or with --hex a document in hexadecimal on each line. Without a FILE, or
 with -, it is standard input. Each result is a line of JSON, or with --hex of hexadecimal.
 
 examples:
@@ -44,12 +44,12 @@ HELP = {
     "exists": "whether a JSON path selects an item",
     "match": "the value of a JSON path that is a predicate: true, false, or null for unknown",
     "delete": "each document without the item at a key path",
-    "set": "each document with a value at a key path of names; objects on the way are made if they are missing",
-    "insert": "like set, but a key that is there is an error",
+    "set": "each document with a value at a key path of names; missing objects are created",
+    "insert": "like set; an existing key is an error",
     "keys": "the keys of each object, as an array",
     "contains": "whether each document contains another, given as JSON",
     "key": "the sortable key, in hexadecimal",
-    "sort": "the documents in their order: numbers by value, strings, arrays and objects by their items",
+    "sort": "the documents in the order of their sortable keys",
 }
 PATHS, KEY_PATHS, PREDICATES = ("select", "filter", "exists", "match"), ("get", "delete", "set", "insert"), ("exists", "match", "contains")
 WORDS = {None: b"null", False: b"false", True: b"true"}
@@ -57,7 +57,7 @@ FALSE_LINES = (b"false", b"null", dumps(False).hex().encode(), dumps(None).hex()
 
 
 class Stop(Exception):
-    """The end of the run: what is written to standard error, and the status."""
+    """The end of the run: the exit status, and what is written to standard error."""
 
     def __init__(self, status: int, said: str = ""):
         self.status, self.said = status, said
@@ -75,12 +75,12 @@ def parser() -> argparse.ArgumentParser:
 
 
 def add_words(command: argparse.ArgumentParser, name: str) -> None:
-    command.add_argument("-e", "--exit-status", action="store_true", help="let the status tell whether the last result is true")
+    command.add_argument("-e", "--exit-status", action="store_true", help="set the exit status by the last result")
     command.add_argument("-r", "--raw-output", action="store_true", help="write strings without quotes")
     command.add_argument("--hex", action="store_true", help="documents in hexadecimal, in and out")
     command.add_argument("--limit", type=int, metavar="N", help="end after N results")
     if name in PATHS:
-        command.add_argument("--strict", action="store_true", help="make an item that is not there an error")
+        command.add_argument("--strict", action="store_true", help="strict mode: a step that does not apply to an item is an error")
         command.add_argument("--arg", nargs=2, action="append", default=[], metavar=("NAME", "STRING"), help="a string for $NAME in the path")
         command.add_argument("--argjson", nargs=2, action="append", default=[], metavar=("NAME", "JSON"), help="a scalar for $NAME in the path")
         command.add_argument("path", metavar="PATH")
@@ -94,7 +94,7 @@ def add_words(command: argparse.ArgumentParser, name: str) -> None:
 
 
 def read_words(words: Optional[List[str]]) -> argparse.Namespace:
-    """The words of the command. Files may follow options that follow the path, which argparse alone does not take."""
+    """The arguments. Files may follow options that follow the path, which argparse alone does not accept."""
     top = parser()
     asked, after = top.parse_known_args(words)
     wrong = [it for it in after if it.startswith("-") and it != "-"]
@@ -105,7 +105,7 @@ def read_words(words: Optional[List[str]]) -> argparse.Namespace:
 
 
 def plain(text: str) -> str:
-    """Returns what a terminal may show of a row: without control characters, and not too long."""
+    """Returns the text of a row for a terminal: without control characters, and shortened."""
     shown = "".join(it if it.isprintable() else ascii(it)[1:-1] for it in text[:TEXT_SHOWN])
     return shown + ("..." if len(text) > TEXT_SHOWN else "")
 
@@ -120,14 +120,14 @@ def say(text: str) -> None:
         pass
 
 
-# WORDS OF THE COMMAND
+# ARGUMENTS
 
 _VARIABLE = re.compile(r'"(?:[^"\\]|\\.)*"|\$([A-Za-z_]\w*)')
 _STEP = re.compile(r'\s*(?:"((?:[^"\\]|\\.)*)"|([^,]*?))\s*(?:,|$)')
 
 
 def literals(asked: argparse.Namespace) -> Dict[str, str]:
-    """The values of --arg and --argjson as a path writes them."""
+    """The values of --arg and --argjson as literals of a path."""
     values: Dict[str, Any] = dict(asked.arg)
     for name, text in asked.argjson:
         try:
@@ -140,7 +140,7 @@ def literals(asked: argparse.Namespace) -> Dict[str, str]:
 
 
 def with_variables(asked: argparse.Namespace) -> str:
-    """The path with a literal for each $NAME outside of its strings."""
+    """The path, with a literal in place of each $NAME outside of its strings."""
     known = literals(asked)
 
     def literal(found: "re.Match[str]") -> str:
@@ -154,7 +154,7 @@ def with_variables(asked: argparse.Namespace) -> str:
 
 
 def names_of(path: str) -> List[str]:
-    """The steps of a key path that the library has read, all of which are names."""
+    """The steps of a key path that the library has parsed, all of which must be names."""
     inside, names, at = path.strip()[1:-1].strip(), [], 0
     while at < len(inside):
         found = _STEP.match(inside, at)
@@ -204,7 +204,7 @@ class Query:
         return dumps([key for key, _ in _core.pairs(document)])
 
     def changed(self, document: bytes) -> bytes:
-        """The document with the other one at the key path. From the innermost object outwards."""
+        """The document with the other one at the key path, built from the innermost object outwards."""
         objects = [document]
         for name in self.names[:-1]:
             inner = get_by_name(objects[-1], name)
@@ -219,7 +219,7 @@ class Query:
 
 @contextlib.contextmanager
 def progress(file: BinaryIO) -> "Iterator[Callable[[int], Any]]":
-    """A bar on standard error while a long file is read, if that is a terminal and tqdm is installed."""
+    """A progress bar on standard error, if that is a terminal, the file is long and tqdm is installed."""
     size = os.fstat(file.fileno()).st_size
     shown = sys.stderr is not None and sys.stderr.isatty() and (size >= BLOCK or not size)
     try:
@@ -237,7 +237,7 @@ Block = Tuple[Column, Callable[[int, Optional[int]], Tuple[int, bytes]], Dict[in
 
 
 class Source:
-    """One file, in blocks of rows: a column, the line and the text of a row with an error, and the errors."""
+    """One file, in blocks of rows: a column, a function that locates a row with an error, and the errors."""
 
     def __init__(self, name: str, in_hex: bool):
         self.name, self.in_hex = name, in_hex
@@ -280,7 +280,7 @@ class Source:
 
     @staticmethod
     def is_of_any_layout(text: bytes) -> bool:
-        """Whether the first line is not JSON by itself."""
+        """Whether the first line alone is not JSON."""
         try:
             from_json(text.lstrip().split(b"\n", 1)[0] or b"null")
         except InvalidJson:
@@ -312,12 +312,12 @@ class Source:
             start, length = places[2 * row], places[2 * row + 1]
             return line + text.count(b"\n", 0, start + (at or 0)), text[start : start + length]
 
-        faults = {row: refusal(status, what, None, None if self.in_hex else at) for row, status, at, what in wrong}
+        faults = {row: exception_of(status, what, None, None if self.in_hex else at) for row, status, at, what in wrong}
         return Column._without(data, offsets, faults), place, faults
 
 
 class Run:
-    """One run of a command: what it has written so far."""
+    """One run of a command, and its state."""
 
     def __init__(self, asked: argparse.Namespace, out: BinaryIO):
         self.asked, self.out, self.query = asked, out, Query(asked)
@@ -331,7 +331,7 @@ class Run:
             for column, place, faults in Source(name, self.asked.hex).blocks():
                 if not self.left:
                     break
-                self.answer(column, faults)
+                self.results(column, faults)
                 for row in sorted(faults):
                     self.report(name, *place(row, faults[row].at), faults[row])
         if self.asked.command == "sort":
@@ -348,41 +348,41 @@ class Run:
         what = type(fault)(fault.what, None, fault.at)
         say(f"{plain(name)}:{line}: {type(fault).__name__}: {plain(str(what))}\n    {plain(text[: 4 * TEXT_SHOWN].decode('utf-8', 'replace').strip())}\n")
 
-    def answer(self, column: Column, faults: Dict[int, JsonbError]) -> None:
-        """Writes the results of some rows, and adds those that are errors."""
+    def results(self, column: Column, faults: Dict[int, JsonbError]) -> None:
+        """Writes the results of some rows, and adds their errors to `faults`."""
         command, query = self.asked.command, self.query
         if command == "select":
-            self.documents(column.select_array(query.path, refusals=faults), elements=True)
+            self.documents(column.select_array(query.path, errors=faults), elements=True)
         elif command == "filter":
-            self.documents(column.filter(column.match(query.path, refusals=faults)))
+            self.documents(column.filter(column.match(query.path, errors=faults)))
         elif command == "get":
-            self.documents(column.get(query.key_path, refusals=faults))
+            self.documents(column.get(query.key_path, errors=faults))
         elif command == "delete":
-            self.documents(column.delete(query.key_path, refusals=faults))
+            self.documents(column.delete(query.key_path, errors=faults))
         elif command in PREDICATES:
-            self.truths(column, faults)
+            self.booleans(column, faults)
         elif command in ("key", "sort"):
             self.keys(column, faults)
         else:
             self.each(column, query.keys if command == "keys" else query.changed, faults)
 
-    def truths(self, column: Column, faults: Dict[int, JsonbError]) -> None:
+    def booleans(self, column: Column, faults: Dict[int, JsonbError]) -> None:
         command, query = self.asked.command, self.query
         if command == "contains":
-            found = column.contains(query.other, refusals=faults)
+            found = column.contains(query.other, errors=faults)
         else:
-            found = (column.exists if command == "exists" else column.match)(query.path, refusals=faults)
+            found = (column.exists if command == "exists" else column.match)(query.path, errors=faults)
         self.lines(WORDS[it] for row, it in enumerate(found) if row not in faults)
 
     def keys(self, column: Column, faults: Dict[int, JsonbError]) -> None:
-        keys = column.sort_keys(wide=self.asked.wide, refusals=faults)
+        keys = column.sort_keys(wide=self.asked.wide, errors=faults)
         if self.asked.command == "sort":
             self.sorted += [(key, document) for key, document in zip(keys, column) if key is not None and document is not None]
         else:
             self.lines((it.hex() if self.asked.hex else f'"{it.hex()}"').encode() for it in keys if it is not None)
 
     def each(self, column: Column, call: Callable[[bytes], bytes], faults: Dict[int, JsonbError]) -> None:
-        """Writes the results of a call that the library has for one document only."""
+        """Writes the results of a call on single documents."""
         made = []
         for row, document in enumerate(column):
             if document is not None:
@@ -393,7 +393,7 @@ class Run:
         self.documents(Column(made))
 
     def documents(self, column: Column, elements: bool = False) -> None:
-        """Writes documents, or the elements of arrays, that are not null."""
+        """Writes the rows that are not null, or the elements of these arrays."""
         if self.asked.hex:
             rows: Iterable[bytes] = (it for it in column if it is not None)
             self.lines(it.hex().encode() for row in rows for it in (_core.elements(row) if elements else (row,)))
@@ -443,7 +443,7 @@ def main(words: Optional[List[str]] = None) -> int:
 
 
 def run() -> NoReturn:
-    """The program. An interrupt ends it as it ends others."""
+    """The program. An interrupt ends it as it ends other programs."""
     signal.signal(signal.SIGINT, signal.SIG_DFL)
     sys.exit(main())
 

@@ -1,11 +1,11 @@
-"""Many documents in one buffer, and calls on all of them at once, made without the interpreter's lock.
+"""Columns: many documents in one buffer, and calls on all of them, which release the interpreter's lock.
 
 >>> from jsonb_paths import dumps, loads
 >>> people = Column(dumps({"name": name, "age": age}) for name, age in [("Ann", 31), ("Bob", 47), ("Cy", None)])
 >>> people
 <Column: 3 rows, 93 bytes>
 >>> people.match("$.age > 40")
-<Truths: 3 rows, 1 true, 1 false, 1 null>
+<Booleans: 3 rows, 1 true, 1 false, 1 null>
 >>> list(people.match("$.age > 40"))
 [False, True, None]
 >>> [it and loads(it) for it in people.get("{name}")]
@@ -13,8 +13,8 @@
 >>> [loads(it)["name"] for it in people.filter(people.match("$.age > 40"))]
 ['Bob']
 
-A row is None if it is null. A row that is an error raises its exception, which names the row. If the caller passes a dictionary
-for the errors, they are put there by their rows, and all other rows have their results:
+A row is None if it is null. An error raises its exception, which names the row. If the caller passes a dictionary as `errors`, the
+exceptions are stored there by row, and the other rows have results:
 
 >>> damaged = Column([dumps([1]), b"???", dumps([2]), None])
 >>> damaged.match("$[0] == 1")
@@ -22,10 +22,10 @@ Traceback (most recent call last):
     ...
 jsonb_paths.errors.InvalidJsonb: row 1: the bytes are not a document
 >>> errors = {}
->>> list(damaged.match("$[0] == 1", refusals=errors)), list(errors)
+>>> list(damaged.match("$[0] == 1", errors=errors)), list(errors)
 ([True, None, False, None], [1])
 
-Other packages read and make columns by the Arrow C data interface, without a copy: `pyarrow.array(column)` and
+Other packages exchange columns by the Arrow C data interface, without a copy: `pyarrow.array(column)` and
 `Column.from_arrow(array)`.
 """
 
@@ -38,7 +38,7 @@ from typing import TYPE_CHECKING, Any, Dict, Iterable, Iterator, List, Optional,
 
 from . import _core
 from .documents import joined
-from .errors import BadOffsets, JsonbError, refusal
+from .errors import BadOffsets, JsonbError, exception_of
 
 if TYPE_CHECKING:
     import numpy
@@ -47,9 +47,9 @@ if TYPE_CHECKING:
     from ._core import KeyPath, Path
     from .values import Document, Duplicates, Floats
 
-__all__ = ["Answers", "Column", "Numbers", "Truths"]
+__all__ = ["Booleans", "Column", "Numbers", "Results"]
 
-Refusals = Optional[Dict[int, JsonbError]]
+Errors = Optional[Dict[int, JsonbError]]
 OK, NONE = 0, 1
 
 
@@ -60,18 +60,18 @@ class ArrowArray(Protocol):
 
 
 def _positions(offsets: Any) -> memoryview:
-    """Positions as native integers of 64 bits; those of 32 are widened. Floats, other widths and byte orders are an error."""
+    """Offsets as native 64-bit integers. 32-bit ones are widened; other types, widths and byte orders are an error."""
     view = memoryview(offsets)
     form = view.format.lstrip("@=" + ("<" if sys.byteorder == "little" else ">"))
     if view.ndim != 1 or form not in ("q", "Q", "l", "L", "i", "I"):
-        raise TypeError(f"the positions of a column are integers of 32 or 64 bits in the machine's order, not {view.format!r}")
+        raise TypeError(f"the offsets of a column are 32-bit or 64-bit integers in the machine's byte order, not {view.format!r}")
     if view.itemsize == 4 or not view.contiguous:
         return memoryview(array("q", view))
     return view.cast("B").cast("q")
 
 
 class Column(Sequence[Optional[bytes]]):
-    """Documents one after the other, the positions between them, and bits of the rows that are not null: Arrow's large binary array."""
+    """Documents in one buffer, with offsets and a validity bitmap: a large binary array of Arrow."""
 
     __slots__ = ("data", "offsets", "validity")
     data: memoryview
@@ -86,15 +86,16 @@ class Column(Sequence[Optional[bytes]]):
 
     @classmethod
     def from_buffers(cls, data: "Document", offsets: Any, validity: "Optional[Document]" = None) -> "Column":
-        """Returns a column over memory, without a copy: bytes, memoryview, array, mmap, numpy. The offsets are n + 1 integers of 64
-        bits, or of 32, which are widened. The memory is kept as long as the column is there.
+        """Returns a column over buffers (bytes, memoryview, array, mmap, numpy), without a copy.
+
+        The offsets are n + 1 integers of 64 bits, or of 32 bits, which are widened. The column keeps the buffers alive.
 
         >>> Column.from_buffers(bytes.fromhex("8000000040000000"), array("i", [0, 4, 8]))[1].hex()
         '40000000'
         >>> Column.from_buffers(b"", array("d", [0.0]))
         Traceback (most recent call last):
             ...
-        TypeError: the positions of a column are integers of 32 or 64 bits in the machine's order, not 'd'
+        TypeError: the offsets of a column are 32-bit or 64-bit integers in the machine's byte order, not 'd'
         """
         column = cls.__new__(cls)
         column._take(data, offsets, None if validity is None else bytes(validity))
@@ -107,7 +108,7 @@ class Column(Sequence[Optional[bytes]]):
         *,
         floats: "Floats" = "error",
         duplicates: "Duplicates" = "error",
-        refusals: Refusals = None,
+        errors: Errors = None,
     ) -> "Column":
         """Returns a column of documents from JSON text: several str, or the lines of bytes, in which blank lines are not rows.
 
@@ -115,7 +116,7 @@ class Column(Sequence[Optional[bytes]]):
         <Column: 2 rows, 25 bytes>
         """
         if isinstance(texts, (bytes, bytearray, memoryview)):
-            return cls._from_lines(texts, floats, duplicates, refusals)
+            return cls._from_lines(texts, floats, duplicates, errors)
         rows: List[Optional[bytes]] = []
         faults = {}
         for row, text in enumerate(texts):
@@ -124,18 +125,18 @@ class Column(Sequence[Optional[bytes]]):
             except JsonbError as fault:
                 faults[row] = type(fault)(fault.what, row, fault.at)
                 rows.append(None)
-        _report(faults, refusals)
+        _report(faults, errors)
         return cls(rows)
 
     @classmethod
-    def _from_lines(cls, text: "Document", floats: "Floats", duplicates: "Duplicates", refusals: Refusals) -> "Column":
+    def _from_lines(cls, text: "Document", floats: "Floats", duplicates: "Duplicates", errors: Errors) -> "Column":
         data, offsets, _, wrong = _core.lines_in(text, floats=floats, duplicates=duplicates)
-        _report({row: refusal(status, what, row, at) for row, status, at, what in wrong}, refusals)
+        _report({row: exception_of(status, what, row, at) for row, status, at, what in wrong}, errors)
         return cls._without(data, offsets, (row for row, *_ in wrong))
 
     @classmethod
     def _without(cls, data: memoryview, offsets: memoryview, nulls: Iterable[int]) -> "Column":
-        """A column whose rows are null at these places."""
+        """A column in which these rows are null."""
         positions = offsets.cast("B").cast("q")
         known = bytearray(b"\1" * (len(positions) - 1))
         for row in nulls:
@@ -148,17 +149,17 @@ class Column(Sequence[Optional[bytes]]):
         schema, found = array.__arrow_c_array__()
         form, rows, first, _, validity, places, data = _core.arrow_in(schema, found)
         if form in "uU":
-            raise TypeError("the Arrow array has texts: Column.from_json(array.to_pylist()) reads them as JSON")
+            raise TypeError("the Arrow array holds strings: Column.from_json(array.to_pylist()) reads them as JSON")
         offsets = places.cast("q")[first : first + rows + 1]
         return cls.from_buffers(data, offsets, None if validity is None else _core.bits_of(_core.bytes_of(validity, first, rows), 1))
 
     def _take(self, data: Any, offsets: Any, validity: Optional[bytes]) -> None:
         view = memoryview(data)
         if not view.contiguous:
-            raise TypeError("the bytes of a column are one run of memory")
+            raise TypeError("the bytes of a column must be contiguous")
         self.data, self.offsets, self.validity = view.cast("B"), _positions(offsets), validity
         if validity is not None and len(validity) * 8 < len(self):
-            raise ValueError(f"{len(validity)} bytes of validity for {len(self)} rows")
+            raise ValueError(f"a validity bitmap of {len(validity)} bytes for {len(self)} rows")
 
     def __len__(self) -> int:
         return max(len(self.offsets) - 1, 0)
@@ -174,7 +175,7 @@ class Column(Sequence[Optional[bytes]]):
 
     @property
     def null_count(self) -> int:
-        """How many rows are null."""
+        """The number of rows that are null."""
         known = self._known()
         return 0 if known is None else known.count(0)
 
@@ -199,7 +200,7 @@ class Column(Sequence[Optional[bytes]]):
         return bytes(self.data[first:end])
 
     def _slice(self, rows: slice) -> "Column":
-        """A column over the same memory; a copy if the step is not 1."""
+        """A column over the same buffers; a copy if the step is not 1."""
         chosen = range(*rows.indices(len(self)))
         if chosen.step != 1:
             return Column(self[it] for it in chosen)
@@ -224,7 +225,7 @@ class Column(Sequence[Optional[bytes]]):
         return _unpacked, (bytes(data), bytes(offsets), self.validity)
 
     def packed(self) -> Tuple[memoryview, memoryview]:
-        """Returns the bytes of the rows alone, and their positions from 0 on, without a copy of the bytes."""
+        """Returns the bytes of the rows, without a copy, and offsets that begin at 0."""
         if not len(self):
             return memoryview(b""), memoryview(bytes(8)).cast("q")
         first, end = self.offsets[0], self.offsets[-1]
@@ -233,93 +234,93 @@ class Column(Sequence[Optional[bytes]]):
         offsets = self.offsets if first == 0 else memoryview(array("q", (it - first for it in self.offsets)))
         return self.data[first:end], offsets
 
-    def filter(self, chosen: "Union[Truths, Sequence[Optional[bool]]]") -> "Column":
-        """Returns the rows that are true, as a new column."""
-        truths = chosen.data if isinstance(chosen, Truths) else bytes(1 if it else 0 for it in chosen)
-        data, offsets = _core.gather(self.data, self.offsets, truths)
+    def filter(self, chosen: "Union[Booleans, Sequence[Optional[bool]]]") -> "Column":
+        """Returns the rows for which `chosen` is true, as a new column."""
+        booleans = chosen.data if isinstance(chosen, Booleans) else bytes(1 if it else 0 for it in chosen)
+        data, offsets = _core.gather(self.data, self.offsets, booleans)
         known = self._known()
-        kept = () if known is None else (is_known for is_known, it in zip(known, truths) if it == 1)
+        kept = () if known is None else (is_known for is_known, it in zip(known, booleans) if it == 1)
         return Column._without(data, offsets, (row for row, is_known in enumerate(kept) if not is_known))
 
-    def check(self, refusals: Refusals = None) -> None:
+    def check(self, errors: Errors = None) -> None:
         """Raises an exception if a row is not a document."""
-        _sort_out(_core.column_check(self.data, self.offsets, self.validity), refusals)
+        _sort_out(_core.column_check(self.data, self.offsets, self.validity), errors)
 
-    def exists(self, path: "Union[str, Path]", *, strict: bool = False, refusals: Refusals = None) -> "Truths":
-        """Returns whether a JSON path selects an item, for each row."""
-        return self._truths(*_core.column_exists(self.data, self.offsets, self.validity, *_path(path, strict)), refusals)
+    def exists(self, path: "Union[str, Path]", *, strict: bool = False, errors: Errors = None) -> "Booleans":
+        """Returns for each row whether a JSON path selects an item."""
+        return self._booleans(*_core.column_exists(self.data, self.offsets, self.validity, *_path(path, strict)), errors)
 
-    def match(self, path: "Union[str, Path]", *, strict: bool = False, refusals: Refusals = None) -> "Truths":
-        """Returns the value of a JSON path that is a predicate, for each row; None if it is unknown."""
-        return self._truths(*_core.column_match(self.data, self.offsets, self.validity, *_path(path, strict)), refusals)
+    def match(self, path: "Union[str, Path]", *, strict: bool = False, errors: Errors = None) -> "Booleans":
+        """Returns for each row the value of a JSON path that is a predicate; None if it is unknown."""
+        return self._booleans(*_core.column_match(self.data, self.offsets, self.validity, *_path(path, strict)), errors)
 
-    def contains(self, other: "Document", *, refusals: Refusals = None) -> "Truths":
-        """Returns whether each row contains a document."""
-        return self._truths(*_core.column_contains(self.data, self.offsets, self.validity, other), refusals)
+    def contains(self, other: "Document", *, errors: Errors = None) -> "Booleans":
+        """Returns for each row whether it contains a document."""
+        return self._booleans(*_core.column_contains(self.data, self.offsets, self.validity, other), errors)
 
-    def to_i64(self, *, refusals: Refusals = None) -> "Numbers":
+    def to_i64(self, *, errors: Errors = None) -> "Numbers":
         """Returns each row cast to an int; None if it is null or an error."""
         numbers, statuses = _core.column_to_i64(self.data, self.offsets, self.validity)
-        _sort_out(statuses, refusals)
+        _sort_out(statuses, errors)
         return Numbers(numbers.cast("q"), bytes(statuses))
 
-    def get(self, path: "Union[str, KeyPath]", *, refusals: Refusals = None) -> "Answers":
-        """Returns the item at a key path, for each row."""
-        return self._answers(*_core.column_get(self.data, self.offsets, self.validity, str(path)), refusals)
+    def get(self, path: "Union[str, KeyPath]", *, errors: Errors = None) -> "Results":
+        """Returns for each row the item at a key path, or None."""
+        return self._results(*_core.column_get(self.data, self.offsets, self.validity, str(path)), errors)
 
-    def select_first(self, path: "Union[str, Path]", *, strict: bool = False, refusals: Refusals = None) -> "Answers":
-        """Returns the first item that a JSON path selects, for each row."""
-        return self._answers(*_core.column_select_first(self.data, self.offsets, self.validity, *_path(path, strict)), refusals)
+    def select_first(self, path: "Union[str, Path]", *, strict: bool = False, errors: Errors = None) -> "Results":
+        """Returns for each row the first item that a JSON path selects, or None."""
+        return self._results(*_core.column_select_first(self.data, self.offsets, self.validity, *_path(path, strict)), errors)
 
-    def select_value(self, path: "Union[str, Path]", *, strict: bool = False, refusals: Refusals = None) -> "Answers":
-        """Returns None, the only item that a JSON path selects, or an array of several, for each row."""
-        return self._answers(*_core.column_select_value(self.data, self.offsets, self.validity, *_path(path, strict)), refusals)
+    def select_value(self, path: "Union[str, Path]", *, strict: bool = False, errors: Errors = None) -> "Results":
+        """Returns for each row None, the only item that a JSON path selects, or an array of several."""
+        return self._results(*_core.column_select_value(self.data, self.offsets, self.validity, *_path(path, strict)), errors)
 
-    def select_array(self, path: "Union[str, Path]", *, strict: bool = False, refusals: Refusals = None) -> "Answers":
-        """Returns an array of all items that a JSON path selects, for each row."""
-        return self._answers(*_core.column_select_array(self.data, self.offsets, self.validity, *_path(path, strict)), refusals)
+    def select_array(self, path: "Union[str, Path]", *, strict: bool = False, errors: Errors = None) -> "Results":
+        """Returns for each row an array of all items that a JSON path selects."""
+        return self._results(*_core.column_select_array(self.data, self.offsets, self.validity, *_path(path, strict)), errors)
 
-    def delete(self, path: "Union[str, KeyPath]", *, refusals: Refusals = None) -> "Answers":
+    def delete(self, path: "Union[str, KeyPath]", *, errors: Errors = None) -> "Results":
         """Returns each row without the item at a key path."""
-        return self._answers(*_core.column_delete(self.data, self.offsets, self.validity, str(path)), refusals)
+        return self._results(*_core.column_delete(self.data, self.offsets, self.validity, str(path)), errors)
 
-    def sort_keys(self, *, wide: bool = False, refusals: Refusals = None) -> "Answers":
+    def sort_keys(self, *, wide: bool = False, errors: Errors = None) -> "Results":
         """Returns the sortable key of each row."""
-        return self._answers(*_core.column_key(self.data, self.offsets, self.validity, wide), refusals)
+        return self._results(*_core.column_key(self.data, self.offsets, self.validity, wide), errors)
 
-    def equality_keys(self, *, refusals: Refusals = None) -> "Answers":
+    def equality_keys(self, *, errors: Errors = None) -> "Results":
         """Returns the equality key of each row."""
-        return self._answers(*_core.column_equality_key(self.data, self.offsets, self.validity), refusals)
+        return self._results(*_core.column_equality_key(self.data, self.offsets, self.validity), errors)
 
-    def to_str(self, *, refusals: Refusals = None) -> List[Optional[str]]:
+    def to_str(self, *, errors: Errors = None) -> List[Optional[str]]:
         """Returns each row cast to a str; None if it is null or an error."""
-        answers = self._answers(*_core.column_to_str(self.data, self.offsets, self.validity), refusals)
-        return [None if it is None else it.decode() for it in answers]
+        results = self._results(*_core.column_to_str(self.data, self.offsets, self.validity), errors)
+        return [None if it is None else it.decode() for it in results]
 
     def to_json_lines(self) -> bytes:
-        """Returns the rows as JSON lines, without those that are null."""
+        """Returns the rows that are not null as JSON lines."""
         known = self._known()
         statuses = None if known is None else known.translate(bytes([1, 0]) + bytes(254))
         return _core.lines_out(self.data, self.offsets, statuses, 0)[0]
 
-    def _truths(self, truths: "Document", statuses: "Document", refusals: Refusals) -> "Truths":
-        _sort_out(statuses, refusals)
-        return Truths(bytes(truths))
+    def _booleans(self, booleans: "Document", statuses: "Document", errors: Errors) -> "Booleans":
+        _sort_out(statuses, errors)
+        return Booleans(bytes(booleans))
 
-    def _answers(self, data: memoryview, offsets: memoryview, statuses: "Document", refusals: Refusals) -> "Answers":
-        _sort_out(statuses, refusals)
-        told = bytes(statuses)
-        validity = _core.bits_of(told, OK) if told.strip(b"\0") else None
-        answers = Answers.__new__(Answers)
-        answers._take(data, offsets.cast("q"), validity)
-        answers.statuses = told
-        return answers
+    def _results(self, data: memoryview, offsets: memoryview, statuses: "Document", errors: Errors) -> "Results":
+        _sort_out(statuses, errors)
+        found = bytes(statuses)
+        validity = _core.bits_of(found, OK) if found.strip(b"\0") else None
+        results = Results.__new__(Results)
+        results._take(data, offsets.cast("q"), validity)
+        results.statuses = found
+        return results
 
     def __arrow_c_schema__(self) -> Any:
         return _core.arrow_schema("Z")
 
     def __arrow_c_array__(self, requested_schema: Any = None) -> Tuple[Any, Any]:
-        """The Arrow PyCapsule interface: a large binary array over the memory of the column."""
+        """The Arrow PyCapsule interface: a large binary array over the buffers of the column."""
         rows = len(self)
         offsets = self.offsets if rows else memoryview(bytes(8)).cast("q")
         if rows and not 0 <= offsets[0] <= offsets[-1] <= len(self.data):
@@ -328,20 +329,20 @@ class Column(Sequence[Optional[bytes]]):
 
 
 def _unpacked(data: Any, offsets: Any, validity: Optional[bytes]) -> Column:
-    """A column that was pickled. Buffers that were sent may not be aligned, so the positions are copied."""
+    """A column that was pickled. The offsets are copied, since a received buffer may not be aligned."""
     places = array("q")
     places.frombytes(memoryview(offsets).cast("B"))
     return Column.from_buffers(data, places, validity)
 
 
-class Answers(Column):
-    """A column of results: None for each row without one. `statuses` has a byte for each row (see jdoc.h)."""
+class Results(Column):
+    """A column of results; a row without a result is None. `statuses` has the status of each row, as a byte (jdoc.h)."""
 
     __slots__ = ("statuses",)
     statuses: bytes
 
 
-class Truths(Sequence[Optional[bool]]):
+class Booleans(Sequence[Optional[bool]]):
     """True, False, or None for unknown, for each row. `data` has a byte for each row: 1, 0 or 2."""
 
     __slots__ = ("data",)
@@ -355,20 +356,20 @@ class Truths(Sequence[Optional[bool]]):
 
     def __repr__(self) -> str:
         true, false, null = (f"{self.data.count(it):,} {name}" for it, name in ((1, "true"), (0, "false"), (2, "null")))
-        return f"<Truths: {len(self):,} rows, {true}, {false}, {null}>"
+        return f"<Booleans: {len(self):,} rows, {true}, {false}, {null}>"
 
     @overload
     def __getitem__(self, row: int) -> Optional[bool]: ...
     @overload
-    def __getitem__(self, row: slice) -> "Truths": ...
+    def __getitem__(self, row: slice) -> "Booleans": ...
     def __getitem__(self, row: Any) -> Any:
-        return Truths(self.data[row]) if isinstance(row, slice) else self._MEANING[self.data[row]]
+        return Booleans(self.data[row]) if isinstance(row, slice) else self._MEANING[self.data[row]]
 
     def __iter__(self) -> Iterator[Optional[bool]]:
         return map(self._MEANING.__getitem__, self.data)
 
     def __eq__(self, other: object) -> bool:
-        if isinstance(other, Truths):
+        if isinstance(other, Booleans):
             return self.data == other.data
         return isinstance(other, Sequence) and list(self) == list(other)
 
@@ -376,15 +377,15 @@ class Truths(Sequence[Optional[bool]]):
 
     @property
     def true_count(self) -> int:
-        """How many rows are true."""
+        """The number of rows that are true."""
         return self.data.count(1)
 
     def to_numpy(self) -> "numpy.typing.NDArray[numpy.bool_]":
-        """Returns whether each row is true; unknown is False."""
+        """Returns for each row whether it is true; unknown is False."""
         import numpy
 
-        truths: numpy.typing.NDArray[numpy.bool_] = numpy.frombuffer(self.data, numpy.uint8) == 1
-        return truths
+        booleans: numpy.typing.NDArray[numpy.bool_] = numpy.frombuffer(self.data, numpy.uint8) == 1
+        return booleans
 
     def __array__(self, dtype: Any = None, copy: Any = None) -> Any:
         found = self.to_numpy()
@@ -400,7 +401,7 @@ class Truths(Sequence[Optional[bool]]):
 
 
 class Numbers(Sequence[Optional[int]]):
-    """An int for each row, or None. `data` has them as integers of 64 bits, 0 if there is none."""
+    """An int or None for each row. `data` has 64-bit integers, 0 for None."""
 
     __slots__ = ("data", "statuses")
 
@@ -428,7 +429,7 @@ class Numbers(Sequence[Optional[int]]):
     __hash__ = None  # type: ignore[assignment]
 
     def to_numpy(self) -> "numpy.typing.NDArray[numpy.int64]":
-        """Returns the numbers without a copy; rows without one are 0."""
+        """Returns the numbers, without a copy; rows without a number are 0."""
         import numpy
 
         return numpy.frombuffer(self.data, numpy.int64)
@@ -446,16 +447,16 @@ def _path(path: "Union[str, Path]", strict: bool) -> Tuple[str, bool]:
     return (path, strict) if isinstance(path, str) else (path.text, strict or path.strict)
 
 
-def _report(faults: Dict[int, JsonbError], refusals: Refusals) -> None:
-    """Raises the exception of the first row that has one, or puts all into the dictionary that the caller passed."""
-    if refusals is not None:
-        refusals.update(faults)
+def _report(faults: Dict[int, JsonbError], errors: Errors) -> None:
+    """Stores the exceptions in the dictionary that the caller passed, or raises that of the first row."""
+    if errors is not None:
+        errors.update(faults)
     elif faults:
         raise faults[min(faults)]
 
 
-def _sort_out(statuses: "Document", refusals: Refusals) -> None:
+def _sort_out(statuses: "Document", errors: Errors) -> None:
     """Reports the rows whose status is an error."""
-    told = bytes(statuses)
-    if told.strip(b"\0\1"):
-        _report({row: refusal(status, row=row) for row, status in enumerate(told) if status > NONE}, refusals)
+    found = bytes(statuses)
+    if found.strip(b"\0\1"):
+        _report({row: exception_of(status, row=row) for row, status in enumerate(found) if status > NONE}, errors)

@@ -1,7 +1,7 @@
 """Calls on one document.
 
-A document is bytes, or another object with the buffer protocol. A path is a str. Results are new bytes; a look-up that finds
-nothing returns None; each error raises the exception of its name (jsonb_paths.errors).
+A document is bytes, or another object with the buffer protocol. A path is a str. Results are new bytes, or None if a look-up finds
+nothing. Each error is an exception of jsonb_paths.errors.
 
 >>> from jsonb_paths import dumps, loads
 >>> fred = dumps({"name": "Fred", "phones": [{"number": 3720453, "type": "home"}, {"number": 5062051, "type": "work"}]})
@@ -12,7 +12,7 @@ nothing returns None; each error raises the exception of its name (jsonb_paths.e
 >>> loads(delete(fred, "{phones}"))
 {'name': 'Fred'}
 
-Numbers are exact, so a float is an error, unless the caller wants decimals:
+Numbers are exact, so a float is an error, unless the caller asks for decimals:
 
 >>> dumps({"price": [1, 2.5]})
 Traceback (most recent call last):
@@ -89,13 +89,13 @@ __all__ = [
 
 
 def joined(rows: "Iterable[Document]") -> "Tuple[bytes, array[int]]":
-    """Rows one after the other, and the positions between them."""
+    """The rows in one buffer, and their offsets."""
     parts = [it if type(it) is bytes else bytes(memoryview(it)) for it in rows]
     return b"".join(parts), array("q", accumulate(map(len, parts), initial=0))
 
 
 def _names(names: Iterable[str]) -> "Tuple[bytes, array[int]]":
-    """A column of names. Half of a surrogate pair stays, as bytes that the library rejects by name."""
+    """A column of names. Half of a surrogate pair becomes bytes that are not UTF-8, which the library rejects (NotUtf8)."""
     if isinstance(names, str):
         raise TypeError("names are several str, not one")
     return joined(it.encode("utf-8", "surrogatepass") for it in names)
@@ -111,22 +111,22 @@ def kind(document: "Document") -> str:
 
 
 def object_insert(document: "Document", name: str, value: "Document", *, update: bool = False) -> bytes:
-    """Returns the object with a pair added, or with `update` replaced."""
+    """Returns the object with a member added, or with `update` replaced."""
     return _core.object_insert_value(document, value, name, update=update)
 
 
 def object_pick(document: "Document", names: Iterable[str]) -> bytes:
-    """Returns the pairs of an object whose keys are among the names."""
+    """Returns the object of the members whose keys are among the names."""
     return _core.pick_names(document, _names(names))
 
 
 def object_delete(document: "Document", names: Iterable[str]) -> bytes:
-    """Returns the pairs of an object whose keys are not among the names."""
+    """Returns the object of the members whose keys are not among the names."""
     return _core.delete_names(document, _names(names))
 
 
 def object_from_columns(names: Iterable[str], documents: "Iterable[Document]") -> bytes:
-    """Returns the object of names and documents, the first with the first and so on. A name that comes twice is an error.
+    """Returns the object whose keys are the names, and whose values are the documents, in order. A duplicate name is an error.
 
     >>> loads(object_from_columns(["b", "a"], [dumps(1), dumps([2])]))
     {'a': [2], 'b': 1}
@@ -149,11 +149,11 @@ def exists_all_keys(document: "Document", names: Iterable[str]) -> bool:
 
 
 def exists_any_keys(document: "Document", names: Iterable[str]) -> bool:
-    """Returns whether any of the names is."""
+    """Returns whether any of the names is a key of an object, a string in an array, or equal to a string."""
     return _core.any_names(document, _names(names))
 
 
 def as_int(document: "Document") -> Optional[int]:
-    """Returns the value of an integer of 64 bits, signed or not, or None."""
+    """Returns the value of an integer, or None."""
     number = as_i64(document)
     return as_u64(document) if number is None else number

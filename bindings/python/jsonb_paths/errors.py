@@ -1,4 +1,4 @@
-"""The exceptions, one class for each status of the library that is an error.
+"""The exceptions: one class for each status of the library that is an error.
 
 >>> from jsonb_paths import select
 >>> select(b"", "$.a[")
@@ -32,11 +32,11 @@ class InvalidJson(JsonbError, ValueError):
 
 
 class BadOffsets(JsonbError, ValueError):
-    status, meaning = 3, "offsets decrease or exceed the bytes"
+    status, meaning = 3, "offsets of a column decrease or exceed its bytes"
 
 
 class NotUtf8(JsonbError, ValueError):
-    status, meaning = 4, "a name or a text is not UTF-8"
+    status, meaning = 4, "a name or another string is not UTF-8"
 
 
 class InvalidJsonb(JsonbError, ValueError):
@@ -64,11 +64,11 @@ class InvalidObject(JsonbError, ValueError):
 
 
 class InvalidJsonType(JsonbError, ValueError):
-    status, meaning = 22, "the value has another type"
+    status, meaning = 22, "the value has the wrong type"
 
 
 class ObjectDuplicateKey(JsonbError, KeyError):
-    status, meaning = 23, "the object has the key"
+    status, meaning = 23, "the object has the key already"
 
     def __str__(self) -> str:
         return Exception.__str__(self)
@@ -79,23 +79,23 @@ class TooLarge(JsonbError, OverflowError):
 
 
 class TooDeep(JsonbError, OverflowError):
-    status, meaning = 25, "an item is too deep for a sortable key"
+    status, meaning = 25, "an item is nested too deeply for a sortable key"
 
 
 class OutOfMemory(JsonbError, MemoryError):
-    status, meaning = 26, "an allocation failed"
+    status, meaning = 26, "an allocation fails"
 
 
 class StrictPath(JsonbError, LookupError):
-    status, meaning = 27, "a strict path asks for an item that is not there"
+    status, meaning = 27, "a structural error of a strict path"
 
 
 class Overflow(JsonbError, OverflowError):
-    status, meaning = 48, "arithmetic: the result does not fit 64 bits"
+    status, meaning = 48, "arithmetic: below -2^63 or above 2^64 - 1"
 
 
 class ZeroDivisor(JsonbError, ZeroDivisionError):
-    status, meaning = 49, "arithmetic: a division by zero"
+    status, meaning = 49, "arithmetic: division by zero"
 
 
 class Inexact(JsonbError, ArithmeticError):
@@ -103,17 +103,17 @@ class Inexact(JsonbError, ArithmeticError):
 
 
 class DecimalOperand(JsonbError, ArithmeticError):
-    status, meaning = 51, "arithmetic: an operand is a decimal"
+    status, meaning = 51, "arithmetic: a decimal other than zero"
 
 
 def _below(base: Type[JsonbError]) -> Dict[int, Type[JsonbError]]:
     return {it.status: it for it in base.__subclasses__()}
 
 
-REFUSALS: Dict[int, Type[JsonbError]] = _below(JsonbError)
+BY_STATUS: Dict[int, Type[JsonbError]] = _below(JsonbError)
 
 
-def refusal(status: int, what: str = "", row: Optional[int] = None, at: Optional[int] = None) -> JsonbError:
+def exception_of(status: int, what: str = "", row: Optional[int] = None, at: Optional[int] = None) -> JsonbError:
     """The exception of a status."""
-    known = REFUSALS.get(status)
+    known = BY_STATUS.get(status)
     return known(what, row, at) if known else JsonbError(f"status {status} {what}".rstrip(), row, at)

@@ -1,7 +1,7 @@
-"""Columns as files that processes map.
+"""Shards: files that hold columns, which processes map into memory.
 
-A shard is a file: a header of 64 bytes, the positions, the validity bits and the bytes of a column. A process maps it without a copy,
-so processes of one machine share its memory, and a query sends only a file name.
+A shard is a header of 64 bytes, then the offsets, the validity bitmap and the bytes of a column. Processes of one machine share the
+mapped memory, so a query sends only a file name.
 
 >>> import tempfile
 >>> from jsonb_paths import Column, dumps
@@ -27,7 +27,7 @@ _MAGIC = b"JSONBCL1"
 
 
 def write_shard(column: Column, file: str) -> str:
-    """Writes a column to a file, and returns its name. The file is there whole or not at all."""
+    """Writes a column to a file, and returns its name. The file is renamed into place when it is complete."""
     data, offsets = column.packed()
     validity = column.validity or b""
     part = f"{file}.{os.getpid()}.part"
@@ -41,14 +41,14 @@ def write_shard(column: Column, file: str) -> str:
 
 
 def write_shards(column: Column, folder: str, shards: int) -> List[str]:
-    """Writes a column as files of almost equal numbers of rows, and returns their names."""
+    """Writes a column as files, whose numbers of rows differ by at most one, and returns their names."""
     os.makedirs(folder, exist_ok=True)
     ends = [len(column) * it // shards for it in range(shards + 1)]
     return [write_shard(column[first:end], os.path.join(folder, f"{it:05}.jsonb")) for it, (first, end) in enumerate(zip(ends, ends[1:]))]
 
 
 def read_shard(file: str) -> Column:
-    """Returns the column of a file, which stays mapped as long as the column is there. A file that is not a shard is BadOffsets."""
+    """Returns the column of a file, which stays mapped as long as the column exists. Raises BadOffsets for another file."""
     with open(file, "rb") as source:
         size = os.fstat(source.fileno()).st_size
         mapped = memoryview(mmap.mmap(source.fileno(), 0, access=mmap.ACCESS_READ) if size else b"")

@@ -1,4 +1,4 @@
-// Arguments: how each kind crosses from Python to C. `take` reads one, and `words` are what the call in C gets.
+// Arguments: how each type is converted from Python to C. `take` reads one; `words` returns the arguments of the call.
 #pragma once
 
 #include "python.hpp"
@@ -34,7 +34,7 @@ struct Memory {
         if (PyErr_ExceptionMatches(PyExc_TypeError))
             PyErr_Format(PyExc_TypeError, "%s is bytes or another buffer, not %R", what, Py_TYPE(it));
         else if (!PyErr_ExceptionMatches(PyExc_MemoryError))
-            PyErr_Format(PyExc_TypeError, "%s is one run of memory that is not released", what);
+            PyErr_Format(PyExc_TypeError, "%s must be contiguous memory that is not released", what);
         return false;
     }
 };

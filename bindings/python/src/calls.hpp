@@ -1,5 +1,5 @@
-// A call on one document: the kinds of its arguments say how each crosses, and the kind of its result how it comes
-// back. A Flag at the end may be left out, and is given by name.
+// A call on one document. The types of its arguments and of its result determine how they are converted. A Flag at the
+// end is an optional keyword argument.
 #pragma once
 
 #include "results.hpp"

@@ -1,5 +1,5 @@
-// Calls on columns. They run without the interpreter's lock. Each gets the bytes of a column, its positions and a
-// bitmap of the rows that are not null, or None; a row that is null has the status NONE.
+// Calls on columns, which run without the interpreter's lock. Arguments are the bytes of a column, its offsets, and the
+// validity bitmap or None. A row that is null has the status NONE.
 #pragma once
 
 #include "memory.hpp"
@@ -16,10 +16,10 @@ struct Validity {
         return PyErr_SetString(PyExc_ValueError, "the validity bitmap has fewer bits than rows"), false;
     }
     bool is_null(size_t row) const { return some && !(bits.at[row / 8] >> row % 8 & 1); }
-    // Gives each row that is null its status and its answer.
-    template <typename Answer> void blank(uint8_t *statuses, Answer *answers, Answer none, size_t rows) const {
+    // Sets the status and the result of each row that is null.
+    template <typename Result> void blank(uint8_t *statuses, Result *results, Result none, size_t rows) const {
         for (size_t row = 0; some && row < rows; row++)
-            if (is_null(row)) statuses[row] = JDOC_NONE, answers[row] = none;
+            if (is_null(row)) statuses[row] = JDOC_NONE, results[row] = none;
     }
 };
 
@@ -58,10 +58,10 @@ PyObject *fixed(PyObject *module, PyObject *const *arguments, Py_ssize_t count, 
     size_t rows = asked.column.rows(), done = 0;
     Block numbers(rows * sizeof(Number)), statuses(rows);
     if (!numbers.at || !statuses.at) return PyErr_NoMemory();
-    Number *answers = reinterpret_cast<Number *>(numbers.at);
+    Number *results = reinterpret_cast<Number *>(numbers.at);
     uint32_t status = without_lock(true, [&] {
-        uint32_t found = asked.template call<CALL>(0, answers, rows, statuses.at, rows, &done);
-        asked.validity.blank(statuses.at, answers, Number(NONE_VALUE), rows);
+        uint32_t found = asked.template call<CALL>(0, results, rows, statuses.at, rows, &done);
+        asked.validity.blank(statuses.at, results, Number(NONE_VALUE), rows);
         return found;
     });
     if (status != JDOC_OK) return fail_column(state, status, arguments, count);
@@ -120,8 +120,8 @@ PyObject *several(PyObject *module, PyObject *const *arguments, Py_ssize_t count
     });
     if (status != JDOC_OK) return fail_column(state, status, arguments, count);
     Ref bytes(out.view(state, out.length)), ends(bytes.it ? positions.view(state, 8 * (rows + 1)) : nullptr);
-    Ref told(ends.it ? statuses.view(state, rows) : nullptr);
-    return told.it ? PyTuple_Pack(3, bytes.it, ends.it, told.it) : nullptr;
+    Ref third(ends.it ? statuses.view(state, rows) : nullptr);
+    return third.it ? PyTuple_Pack(3, bytes.it, ends.it, third.it) : nullptr;
 }
 
 // The rows whose byte is 1, one after the other. False: a row is not within the bytes, or has changed since it was

@@ -50,8 +50,8 @@ PyMethodDef METHODS[] = {
     ONE("get_by_index", jdoc_get_by_index, NO_WORD, Bytes, "($module, document, index, /)",
         "Returns an element of an array, or None.", Document, Size),
     ONE("get_by_name", jdoc_get_by_name, CASE, Bytes, "($module, document, name, /, *, ignore_case=False)",
-        "Returns the value of a key, or None. With ignore_case, keys that differ in the case of ASCII letters only "
-        "count too.",
+        "Returns the value of a key, or None. With ignore_case, a key that differs only in the case of ASCII letters "
+        "matches too.",
         Document, Text, Flag),
     CALL("select", select_items, PATH_STRICT, "Returns each item that a JSON path selects, in order with repeats."),
     ONE("select_first", jdoc_select_first, STRICT, Bytes, PATH_STRICT,
@@ -60,9 +60,9 @@ PyMethodDef METHODS[] = {
         "Returns None, the only item that a JSON path selects, or an array of several.", Document, Text, Flag),
     ONE("select_array", jdoc_select_array, STRICT, Bytes, PATH_STRICT,
         "Returns an array of all items that a JSON path selects.", Document, Text, Flag),
-    ONE("exists", jdoc_exists, STRICT, Truth, PATH_STRICT, "Returns whether a JSON path selects an item.", Document,
+    ONE("exists", jdoc_exists, STRICT, Ternary, PATH_STRICT, "Returns whether a JSON path selects an item.", Document,
         Text, Flag),
-    ONE("match", jdoc_match, STRICT, Truth, PATH_STRICT,
+    ONE("match", jdoc_match, STRICT, Ternary, PATH_STRICT,
         "Returns the value of a JSON path that is a predicate. None: unknown, or not a predicate.", Document, Text,
         Flag),
     ONE("delete", jdoc_delete_by_keypath, NO_WORD, Bytes, "($module, document, path, /)",
@@ -76,35 +76,35 @@ PyMethodDef METHODS[] = {
         Document, Index),
     ONE("object_insert_value", jdoc_object_insert, UPDATE, Bytes,
         "($module, document, value, name, /, *, update=False)",
-        "Returns the object with a pair added, or with update replaced.", Document, Document, Text, Flag),
+        "Returns the object with a member added, or with update replaced.", Document, Document, Text, Flag),
     ONE("concat", jdoc_concat, NO_WORD, Bytes, OTHER,
         "Returns two objects as one, with the other's value if both have a key; otherwise two arrays joined.", Document,
         Document),
     ONE("strip_nulls", jdoc_strip_nulls, NO_WORD, Bytes, DOCUMENT,
-        "Returns the document without the pairs whose value is null, at every depth.", Document),
+        "Returns the document without the members whose value is null, at every depth.", Document),
     ONE("array_distinct", jdoc_array_distinct, NO_WORD, Bytes, DOCUMENT,
         "Returns the array with the first of each group of equal elements.", Document),
     ONE("array_intersection", jdoc_array_intersection, NO_WORD, Bytes, OTHER,
-        "Returns the elements that the other array has too, each as often as both have it.", Document, Document),
+        "Returns the elements that the other array has too, each as often as both arrays have it.", Document, Document),
     ONE("array_except", jdoc_array_except, NO_WORD, Bytes, OTHER,
         "Returns the elements that are not in the intersection.", Document, Document),
-    ONE("array_overlap", jdoc_array_overlap, NO_WORD, Truth, OTHER, "Returns whether two arrays have an equal element.",
-        Document, Document),
+    ONE("array_overlap", jdoc_array_overlap, NO_WORD, Ternary, OTHER,
+        "Returns whether two arrays have an equal element.", Document, Document),
     ONE("pick_names", jdoc_object_pick, NO_WORD, Bytes, "($module, document, names, /)",
         "object_pick, of a column of names.", Document, Names),
     ONE("delete_names", jdoc_object_delete, NO_WORD, Bytes, "($module, document, names, /)",
         "object_delete, of a column of names.", Document, Names),
-    ONE("contains", jdoc_contains, NO_WORD, Truth, OTHER,
+    ONE("contains", jdoc_contains, NO_WORD, Ternary, OTHER,
         "Returns whether the document contains the other, like PostgreSQL's @>.", Document, Document),
-    ONE("all_names", jdoc_exists_all_keys, NO_WORD, Truth, "($module, document, names, /)",
+    ONE("all_names", jdoc_exists_all_keys, NO_WORD, Ternary, "($module, document, names, /)",
         "exists_all_keys, of a column of names.", Document, Names),
-    ONE("any_names", jdoc_exists_any_keys, NO_WORD, Truth, "($module, document, names, /)",
+    ONE("any_names", jdoc_exists_any_keys, NO_WORD, Ternary, "($module, document, names, /)",
         "exists_any_keys, of a column of names.", Document, Names),
     ONE("array_of", jdoc_array_from_column, NO_WORD, Bytes, "($module, documents, /)",
         "array_from_column, of a column.", Documents),
     ONE("object_of", jdoc_object_from_columns, NO_WORD, Bytes, "($module, names, documents, /)",
         "object_from_columns, of two columns.", Names, Documents),
-    ONE("as_bool", jdoc_as_bool, NO_WORD, Truth, DOCUMENT, "Returns the value of a Boolean, or None.", Document),
+    ONE("as_bool", jdoc_as_bool, NO_WORD, Ternary, DOCUMENT, "Returns the value of a Boolean, or None.", Document),
     ONE("as_i64", jdoc_as_i64, NO_WORD, Signed, DOCUMENT, "Returns the value of an integer that fits, or None.",
         Document),
     ONE("as_u64", jdoc_as_u64, NO_WORD, Unsigned, DOCUMENT, "Returns the value of an integer that fits, or None.",
@@ -112,7 +112,7 @@ PyMethodDef METHODS[] = {
     ONE("as_str", jdoc_as_str, NO_WORD, String, DOCUMENT, "Returns the value of a string, or None.", Document),
     ONE("as_decimal", jdoc_as_decimal, NO_WORD, Number, DOCUMENT,
         "Returns the value of a number as a Decimal, or None.", Document),
-    ONE("to_bool", jdoc_to_bool, NO_WORD, Truth, DOCUMENT, "Casts a Boolean, or a string such as yes, to bool.",
+    ONE("to_bool", jdoc_to_bool, NO_WORD, Ternary, DOCUMENT, "Casts a Boolean, or a string such as yes, to bool.",
         Document),
     ONE("to_i64", jdoc_to_i64, NO_WORD, Signed, DOCUMENT,
         "Casts a number, a Boolean or a string of digits to an int from -2**63 to 2**63 - 1.", Document),
@@ -123,7 +123,7 @@ PyMethodDef METHODS[] = {
         "Returns bytes that sort as the documents do. Narrow and wide keys do not mix.", Document, Flag),
     ONE("equality_key", jdoc_equality_key, NO_WORD, Bytes, DOCUMENT,
         "Returns bytes that are the same if and only if the documents are equal by value.", Document),
-    ONE("length", jdoc_len, NO_WORD, Count, DOCUMENT, "Returns the number of elements or of pairs, or None.", Document),
+    ONE("length", jdoc_len, NO_WORD, Count, DOCUMENT, "Returns the number of elements or members, or None.", Document),
     CALL_1("elements", children<false>, DOCUMENT, "Returns the elements of an array, as documents."),
     CALL_1("pairs", children<true>, DOCUMENT,
            "Returns the keys of an object with their values as documents, in the order of the keys."),
@@ -132,12 +132,12 @@ PyMethodDef METHODS[] = {
            "stored order.\n\nAn empty key is written \"\", which no key path can contain."),
     CALL("from_json", from_json, "($module, text, /, *, floats='error', duplicates='error')",
          "Returns the document of a JSON text.\n\nA number that the format does not hold exactly raises "
-         "UnsupportedNumber, with its place; with floats='decimal' it is rounded.\nA key that comes twice raises "
+         "UnsupportedNumber, with its position; with floats='decimal' it is rounded.\nA duplicate key raises "
          "ObjectDuplicateKey; with duplicates='last' the last one is kept."),
     CALL_1("to_json", to_json, DOCUMENT, "Returns the JSON text of a document. Numbers keep all digits."),
     CALL("dumps", dumps, "($module, value, /, *, floats='error')",
-         "Returns the document of a Python value.\n\nA float raises UnsupportedNumber, with its place; with "
-         "floats='decimal' it is the decimal that repr() shows, rounded if it has more than 38 digits or so."),
+         "Returns the document of a Python value.\n\nA float raises UnsupportedNumber, with its position; "
+         "with floats='decimal' it is the decimal that repr() shows, rounded if no 128-bit decimal equals it."),
     CALL_1("loads", loads, DOCUMENT, "Returns the Python value of a document."),
     ROWS("column_check", column_check),
     ROWS("column_exists", fixed<jdoc_column_exists, uint8_t, 2, Text, Flag>),
@@ -173,7 +173,7 @@ bool add_type(PyObject *module, const char *name, PyType_Spec &spec) {
 bool fill_state(PyObject *module, State *state) {
     Ref errors(PyImport_ImportModule("jsonb_paths.errors")), decimal(PyImport_ImportModule("decimal"));
     if (!errors.it || !decimal.it) return false;
-    state->make_error = PyObject_GetAttrString(errors.it, "refusal");
+    state->make_error = PyObject_GetAttrString(errors.it, "exception_of");
     state->decimal = PyObject_GetAttrString(decimal.it, "Decimal");
     state->memory_type = PyType_FromModuleAndSpec(module, &ROOM, nullptr);
     return state->make_error && state->decimal && state->memory_type;

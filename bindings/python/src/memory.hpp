@@ -1,4 +1,4 @@
-// Memory that Python gets: a memoryview of a block of malloc, or of memory that another object owns.
+// memoryviews of blocks that malloc allocated, or of memory that another object owns.
 #pragma once
 
 #include "python.hpp"

@@ -100,9 +100,9 @@ inline PyGetSetDef KEY_PATH_GETS[] = {
     {nullptr, nullptr, nullptr, nullptr, nullptr},
 };
 inline PyMethodDef PATH_CALLS[] = {
-    {"exists", by_path<jdoc_path_exists, Truth>, METH_O,
+    {"exists", by_path<jdoc_path_exists, Ternary>, METH_O,
      "exists($self, document, /)\n--\n\nReturns whether the path selects an item."},
-    {"match", by_path<jdoc_path_match, Truth>, METH_O,
+    {"match", by_path<jdoc_path_match, Ternary>, METH_O,
      "match($self, document, /)\n--\n\nReturns the value of the predicate. None: unknown, or the path is not a "
      "predicate."},
     {"select", path_select, METH_O, "select($self, document, /)\n--\n\nReturns each item that the path selects."},

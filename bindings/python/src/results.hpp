@@ -1,11 +1,11 @@
-// Results: what becomes of a status and of what a call in C wrote.
+// Results: Python objects of the statuses and buffers of calls in C.
 #pragma once
 
 #include "arguments.hpp"
 
 #include <algorithm>
 
-// Where bytes go, whether the call in C writes documents or texts.
+// A buffer for bytes: the call in C writes documents or strings.
 struct Out {
     void *at;
     operator uint8_t *() const { return static_cast<uint8_t *>(at); }
@@ -44,11 +44,11 @@ template <typename Number, PyObject *(*MADE)(Number)> struct Fixed {
         return status == JDOC_NONE ? Py_NewRef(Py_None) : fail(state, status, show());
     }
 };
-inline PyObject *truth_of(uint8_t it) { return it > 1 ? Py_NewRef(Py_None) : PyBool_FromLong(it); }
+inline PyObject *ternary_of(uint8_t it) { return it > 1 ? Py_NewRef(Py_None) : PyBool_FromLong(it); }
 inline PyObject *byte_of(uint8_t it) { return PyLong_FromLong(it); }
 inline PyObject *signed_of(int64_t it) { return PyLong_FromLongLong(it); }
 inline PyObject *unsigned_of(uint64_t it) { return PyLong_FromUnsignedLongLong(it); }
-using Truth = Fixed<uint8_t, truth_of>;
+using Ternary = Fixed<uint8_t, ternary_of>; // true, false or unknown
 using Byte = Fixed<uint8_t, byte_of>;
 using Signed = Fixed<int64_t, signed_of>;
 using Unsigned = Fixed<uint64_t, unsigned_of>;

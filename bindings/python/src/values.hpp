@@ -23,7 +23,7 @@ class Maker {
         return other(value);
     }
 
-    // The exception of a value without a document, with its place.
+    // The exception of a value without a document, with its position.
     PyObject *raise() {
         if (PyErr_Occurred()) return nullptr;
         std::string where = place.empty() ? "" : " at $" + place;

@@ -18,8 +18,8 @@ def one(call, *words, **flags):
     """What a call on one document returns, or the class of its exception."""
     try:
         return call(*words, **flags)
-    except errors.JsonbError as refusal:
-        return type(refusal)
+    except errors.JsonbError as error:
+        return type(error)
 
 
 class Columns(unittest.TestCase):
@@ -32,13 +32,13 @@ class Columns(unittest.TestCase):
         self.column = Column(self.rows)
 
     def compare(self, call, row, *words, **flags):
-        refusals = {}
-        answers = getattr(self.column, call)(*words, refusals=refusals, **flags)
-        self.assertEqual(len(answers), len(self.rows))
+        by_row = {}
+        results = getattr(self.column, call)(*words, errors=by_row, **flags)
+        self.assertEqual(len(results), len(self.rows))
         for at, document in enumerate(self.rows):
             wanted = None if document is None else one(row, document, *words, **flags)
-            self.assertEqual(type(refusals[at]) if at in refusals else answers[at], wanted, (call, at))
-            self.assertEqual(at, refusals[at].row if at in refusals else at)
+            self.assertEqual(type(by_row[at]) if at in by_row else results[at], wanted, (call, at))
+            self.assertEqual(at, by_row[at].row if at in by_row else at)
 
     def test_each_call_is_the_call_on_each_row(self):
         for call, row, *words in [
@@ -74,7 +74,7 @@ class Columns(unittest.TestCase):
         self.assertEqual(ordered, [False, True, -1, 2, 10, "a", "b", {"a": 1}, [], [1], None])
 
     def test_a_path_object_is_a_path(self):
-        self.assertEqual(self.column.exists(Path("$.a"), refusals={}), self.column.exists("$.a", refusals={}))
+        self.assertEqual(self.column.exists(Path("$.a"), errors={}), self.column.exists("$.a", errors={}))
         with self.assertRaises(errors.StrictPath):
             Column([dumps(1)]).exists(Path("$.a", strict=True))
 
@@ -100,7 +100,7 @@ class Columns(unittest.TestCase):
 
         column, writer = Column.from_buffers(data, offsets), threading.Thread(target=scribble)
         writer.start()
-        calls = [lambda: column.filter([True] * len(column)), column.to_json_lines, lambda: column.match("$.age > 40", refusals={}), lambda: column.get("{a}", refusals={})]
+        calls = [lambda: column.filter([True] * len(column)), column.to_json_lines, lambda: column.match("$.age > 40", errors={}), lambda: column.get("{a}", errors={})]
         for call in calls * 50:
             one(call)
         stop.append(True)
@@ -130,7 +130,7 @@ class Rows(unittest.TestCase):
     def test_how_they_print(self):
         column = Column(self.rows)
         self.assertRegex(repr(column), r"^<Column: 10 rows, \d+ bytes, 3 null>$")
-        self.assertEqual(repr(column.match("$.age > 40")), "<Truths: 10 rows, 2 true, 5 false, 3 null>")
+        self.assertEqual(repr(column.match("$.age > 40")), "<Booleans: 10 rows, 2 true, 5 false, 3 null>")
         self.assertEqual(repr(column.get("{age}").to_i64()), "<Numbers: 10 rows, 6 null>")
 
     def test_pickles_and_copies(self):
@@ -160,10 +160,10 @@ class Rows(unittest.TestCase):
             Column.from_arrow(column.match("$.age > 1"))
 
     def test_json_lines(self):
-        refusals = {}
-        column = Column.from_json(b'{"a":1}\n\n[1,\n  2 \r\n{"a":1,"a":2}\n[1e99]', refusals=refusals)
+        by_row = {}
+        column = Column.from_json(b'{"a":1}\n\n[1,\n  2 \r\n{"a":1,"a":2}\n[1e99]', errors=by_row)
         self.assertEqual([it and loads(it) for it in column], [{"a": 1}, None, 2, None, None])
-        self.assertEqual({row: (type(it).__name__, it.row, it.at) for row, it in refusals.items()},
+        self.assertEqual({row: (type(it).__name__, it.row, it.at) for row, it in by_row.items()},
                          {1: ("InvalidJson", 1, 3), 3: ("ObjectDuplicateKey", 3, 7), 4: ("UnsupportedNumber", 4, 1)})
         self.assertEqual(column.to_json_lines(), b'{"a":1}\n2\n')
         with self.assertRaises(errors.InvalidJson) as raised:
@@ -211,9 +211,9 @@ class Memory(unittest.TestCase):
 
     def test_wrong_positions_are_named(self):
         falling = Column.from_buffers(self.DATA, array.array("Q", [0, self.FIRST, 3, 2**64 - 1, 2**63, 0, self.FIRST]))
-        refusals = {}
-        self.assertEqual(falling.exists("$[0]", refusals=refusals), [True, None, None, None, None, True])
-        self.assertEqual({type(it) for it in refusals.values()}, {errors.BadOffsets})
+        by_row = {}
+        self.assertEqual(falling.exists("$[0]", errors=by_row), [True, None, None, None, None, True])
+        self.assertEqual({type(it) for it in by_row.values()}, {errors.BadOffsets})
         with self.assertRaises(errors.BadOffsets):
             falling[1]
 

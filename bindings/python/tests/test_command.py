@@ -30,7 +30,7 @@ def read_terminal(terminal):
 
 class Commands(unittest.TestCase):
     def test_results_and_exit_status(self):
-        for words, text, status, answer in [
+        for words, text, status, expected in [
             (["select", "$.name"], PEOPLE, 0, '"Ann"\n"Bob"\n'),
             (["select", "-r", "$.name"], PEOPLE, 0, "Ann\nBob\n"),
             (["select", "$.tags[*]"], PEOPLE, 0, '"x"\nnull\n'),
@@ -65,7 +65,7 @@ class Commands(unittest.TestCase):
         ]:
             with self.subTest(words=words):
                 got = run(*words, text=text)
-                self.assertEqual((got[0], answer if answer is None else got[1], got[2]), (status, answer, ""))
+                self.assertEqual((got[0], expected if expected is None else got[1], got[2]), (status, expected, ""))
 
     def test_hexadecimal(self):
         document = "80000001200000025001"
@@ -77,7 +77,7 @@ class Commands(unittest.TestCase):
         self.assertIn("-:2: InvalidJsonb", said)
         self.assertIn("-:3: InvalidJsonb", said)
 
-    def test_rows_that_are_errors_are_named_and_the_others_answered(self):
+    def test_rows_that_are_errors_are_named_and_the_others_have_results(self):
         text = '{"a":1}\n{"a":1e999}\n{"a":\n{"a":NaN}\n{"a":1,"a":2}\n{"a":"\\ud800"}\n\udcff\n{"a":1e%s}\n{"a":2}\n' % ("9" * 30)
         status, out, said = run("get", "{a}", text=text)
         self.assertEqual((status, out), (5, "1\n2\n"))

@@ -83,7 +83,7 @@ class Docs(unittest.TestCase):
                 with self.assertRaises(getattr(errors, kind, TypeError), msg=(name, kind)):
                     list(getattr(jsonb_paths, name)(*arguments))
 
-    def test_a_strict_path_is_refused_by_each_call_that_takes_one(self):
+    def test_each_call_with_a_path_raises_structural_errors_in_strict_mode(self):
         for call in (getattr(jsonb_paths, name) for name in PATH_CALLS[:-1]):
             with self.assertRaises(errors.StrictPath):
                 call(FIVE, "$.a", strict=True)

@@ -109,12 +109,12 @@ class Arguments(unittest.TestCase):
             with self.assertRaises((TypeError, AttributeError)):
                 jsonb_paths.exists_any_keys(self.DOCUMENT, names)
 
-    def test_positions_that_do_not_fit_are_refused(self):
+    def test_positions_that_do_not_fit_are_errors(self):
         for call, number in ((jsonb_paths.delete_by_index, 2**31), (jsonb_paths.get_by_index, -1), (jsonb_paths.get_by_index, 2**64)):
             with self.assertRaises(OverflowError):
                 call(self.DOCUMENT, number)
 
-    def test_each_refusal_has_its_exception(self):
+    def test_each_error_has_its_exception(self):
         five, obj = dumps(5), dumps({"a": 1})
         nested = bytes.fromhex("80000000")
         for _ in range(256):
@@ -139,7 +139,7 @@ class Arguments(unittest.TestCase):
             with self.assertRaises(kind):
                 call()
 
-    def test_a_refusal_says_what_was_handed_in(self):
+    def test_an_exception_names_the_argument(self):
         with self.assertRaisesRegex(errors.InvalidJsonPath, r"'\$\['"):
             jsonb_paths.exists(self.DOCUMENT, "$[")
 
@@ -278,9 +278,9 @@ class BesideTheProgram(unittest.TestCase):
         for document in self.documents:
             try:
                 found = answer(document)
-            except errors.JsonbError as refusal:
-                name = type(refusal).__name__
-                yield "refused: " + (f"Arithmetic({name})" if refusal.status >= 48 else name)
+            except errors.JsonbError as error:
+                name = type(error).__name__
+                yield "refused: " + (f"Arithmetic({name})" if error.status >= 48 else name)
                 continue
             yield from found or [none]
 

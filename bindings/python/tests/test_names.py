@@ -7,8 +7,8 @@ import subprocess
 import unittest
 
 import jsonb_paths
-from jsonb_paths import documents
-from jsonb_paths.errors import REFUSALS, InvalidJson
+from jsonb_paths import documents, errors
+from jsonb_paths.errors import BY_STATUS, InvalidJson
 
 BINDINGS = os.path.join(os.path.dirname(os.path.abspath(__file__)), "..", "..")
 HEADER = os.path.join(BINDINGS, "c", "jdoc.h")
@@ -74,10 +74,17 @@ class Names(unittest.TestCase):
 
     def test_statuses_have_the_numbers_and_names_of_the_header(self):
         listed = {int(number): name for name, number in re.findall(r"JDOC_((?!KIND)\w+) = (\d+)", header())}
-        known = {number: kind.__name__.upper() for number, kind in REFUSALS.items() if kind is not InvalidJson}
+        known = {number: kind.__name__.upper() for number, kind in BY_STATUS.items() if kind is not InvalidJson}
         self.assertEqual({number: name.replace("_", "") for number, name in listed.items() if name not in ("OK", "NONE", "BUFFER_TOO_SMALL", "NO_PATH")}, known)
         with open(os.path.join(BINDINGS, "text", "jdoc_text.h")) as file:
             self.assertIn(f"JDOC_INVALID_JSON = {InvalidJson.status} ", file.read())
+
+    def test_exceptions_have_the_texts_of_the_header(self):
+        texts = dict(re.findall(r'case JDOC_(\w+):\s+return "(.*)";', header()))
+        for name, text in texts.items():
+            known = getattr(errors, "".join(it.capitalize() for it in name.split("_")), None)
+            if known not in (None, errors.UnsupportedNumber):
+                self.assertEqual(known.meaning, text, name)
 
     def test_kinds_have_the_numbers_of_the_header(self):
         listed = [name.lower() for name, _ in sorted(re.findall(r"JDOC_KIND_(\w+) = (\d+)", header()), key=lambda it: int(it[1]))]

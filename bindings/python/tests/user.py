@@ -3,7 +3,7 @@
 from decimal import Decimal
 from typing import List, Optional
 
-from jsonb_paths import Answers, Column, Document, JsonbError, KeyPath, Path, Truths, Value, dumps, from_json, loads, match, select, sort_key, to_json
+from jsonb_paths import Booleans, Column, Document, JsonbError, KeyPath, Path, Results, Value, dumps, from_json, loads, match, select, sort_key, to_json
 
 document: bytes = dumps({"name": "Ann", "age": 47, "tags": ["a", None, Decimal("1.5")]})
 truth: Optional[bool] = match(document, "$.age > 40")
@@ -13,11 +13,11 @@ path = Path("$.age > 40")
 again: Optional[bool] = path.match(document)
 part: Optional[bytes] = KeyPath("{age}").get(document)
 column: Column = Column([document, None])
-truths: Truths = column.match(path)
-answers: Answers = column.get("{name}")
-first: Optional[bytes] = answers[0]
+booleans: Booleans = column.match(path)
+results: Results = column.get("{name}")
+first: Optional[bytes] = results[0]
 key: bytes = sort_key(document, wide=True)
-few: Column = column[:1].filter(truths[:1])
+few: Column = column[:1].filter(booleans[:1])
 value: Value = loads(document)
 
 
