@@ -3,7 +3,8 @@
 
     tools/measured.py --write    writes the tables of the pages again, without measuring
 
-tools/measure_speed.py, measure_growth.py and measure_stack.py write the figures. tools/check_quotes.py compares the tables.
+tools/measure_speed.py, measure_growth.py, measure_stack.py and bindings/bench/measure.py write the figures. tools/check_quotes.py
+compares the tables.
 """
 import csv
 import io
@@ -25,6 +26,12 @@ COLUMNS = {
     "check": ["document", "check_ns", "copy_ns", "bytes"],
     "stack": ["call", "shape", "kib_10000", "kib_100000"],
     "stack_more": ["call", "shape", "kib_10000", "kib_100000"],
+    "c": ["call", "one_instructions", "prepared_instructions", "column_instructions", "one_ns", "prepared_ns", "column_ns"],
+    "sqlite": ["query", "jdoc_298", "sqlite_298", "jdoc_4900", "sqlite_4900"],
+    "postgres": ["query", "jdoc_us", "jsonb_us"],
+    "python": ["call", "us"],
+    "jq": ["jdoc", "jq", "jdoc_seconds", "jq_seconds"],
+    "dask": ["workers", "counts", "rows_back", "sorted", "groups"],
 }
 
 # The classes of the cases of speed.csv.
@@ -35,6 +42,14 @@ README_CASES = ["get the last of 1,000 keys", "`$[*]?(@.age < 50)` of 1,000 obje
 MORE_CASES = ["parse a long path", "get at depth 200", "delete by key path, of 1,000 keys", "`$[*].name` of 1,000 objects",
               "intersection of 1,000", "concatenate objects", "strip nulls of 1,000 objects", "leaves of 100 objects",
               "a filter on one document of 200 bytes"]
+# The rows of c.csv, sqlite.csv, postgres.csv and jq.csv that docs/C.md and docs/SQL.md show, and the documents of README.md's query.
+C_CALLS = ["`match`, `$.age < 50`", "`get_by_keypath`, `{age}`", "`select_first`, `$.name`", "`delete_by_keypath`, `{note}`"]
+SQLITE_QUERIES = ["load from JSON text", "read each row", "`$.age > 40`", "a filter in an array", "contains", "replace a field",
+                  "to JSON text", "range by the index"]
+POSTGRES_QUERIES = ["load from JSON text", "`d @@ '$.age > 40'`", "`@>`", "`->>`", "`#>>`, two steps", "path query, rows",
+                    "sort by a field", "sort whole documents", "build a GIN index", "`@>` by the GIN index"]
+JQ_COMMANDS = ["`filter '$.age > 40'`", "`select '$.age'`", "`set '{active}' true`"]
+QUERIED = 100_000
 # An exponent up to this one counts as linear: sorting, and hashing with it, adds a logarithm.
 LINEAR = 1.2
 
@@ -54,9 +69,15 @@ def as_csv(name, rows):
 
 def save(name, rows):
     """Writes a file of figures, and the pages that show it."""
+    text = as_csv(name, rows)
     with open(os.path.join(FIGURES, f"{name}.csv"), "w") as file:
-        file.write(as_csv(name, rows))
+        file.write(text)
     write_pages()
+
+
+def report(name, rows, is_written):
+    """Writes a file of figures, or prints it."""
+    save(name, rows) if is_written else print(as_csv(name, rows), end="")
 
 
 # ---- tables
@@ -168,9 +189,72 @@ def stack(name):
     return table(["Stack", "Calls"], [[show(most), ", ".join(groups[most])] for most in sorted(groups)])
 
 
+def by(name, column):
+    return {row[column]: row for row in read(name)}
+
+
+def quotient(ours, theirs):
+    return f"{float(ours) / float(theirs):.2f}"
+
+
+def compared():
+    """What a query over many documents costs, compared with other programs."""
+    sqlite = by("sqlite", "query")["`$.age > 40`"]
+    postgres = by("postgres", "query")["`d @@ '$.age > 40'`"]
+    jq = by("jq", "jdoc")["`filter '$.age > 40'`"]
+    millions = [float(sqlite[it]) * QUERIED / 1e6 for it in ("jdoc_298", "sqlite_298")]
+    milliseconds = [float(postgres[it]) * QUERIED / 1e3 for it in ("jdoc_us", "jsonb_us")]
+    seconds = [jq["jdoc_seconds"], jq["jq_seconds"]]
+    return table(["Compared with", "This library", "The other", "Ratio"], [
+        ["SQLite 3.40, its functions over text", f"{millions[0]:,.0f} million instructions", f"{millions[1]:,.0f} million", quotient(*millions)],
+        ["PostgreSQL 15, `jsonb`", f"{milliseconds[0]:,.0f} ms", f"{milliseconds[1]:,.0f} ms", quotient(*milliseconds)],
+        ["jq 1.6, over JSON lines", f"{seconds[0]} s", f"{seconds[1]} s", quotient(*seconds)],
+    ])
+
+
+def c():
+    rows = by("c", "call")
+    cells = [[name, *(f"{int(rows[name][f'{form}_instructions']):,}" for form in ("one", "prepared", "column"))] for name in C_CALLS]
+    match, check = rows["`match`, `$.age < 50`"], rows["`check`"]
+    return (table(["Call", "With the path's text", "Prepared", "Row of a column"], cells)
+            + f"\n\nIn nanoseconds, `match` takes {match['one_ns']}, in a column {match['column_ns']}, and `check` {check['one_ns']}.")
+
+
+def sqlite():
+    rows = by("sqlite", "query")
+    small, large, disk = ["jdoc_298", "sqlite_298"], ["jdoc_4900", "sqlite_4900"], rows["bytes of a row on disk"]
+    cells = []
+    for row in map(rows.get, SQLITE_QUERIES):
+        both = ", ".join(f"{int(row[it]):,}" for it in small)
+        cells.append([row["query"], both, *(quotient(*(row[it] for it in size)) for size in (small, large))])
+    return (table(["SQLite", "298 bytes: jdoc, SQLite", "Ratio", "Ratio, 4.9 KB"], cells)
+            + f"\n\nA row takes {disk['jdoc_298']} bytes on disk, and {disk['sqlite_298']} as text, which has no entry words.")
+
+
+def postgres():
+    rows = by("postgres", "query")
+    cells = [[row["query"], row["jdoc_us"], row["jsonb_us"], quotient(row["jdoc_us"], row["jsonb_us"])] for row in map(rows.get, POSTGRES_QUERIES)]
+    return table(["PostgreSQL 15.20", "jdoc", "jsonb", "Ratio"], cells)
+
+
+def python():
+    us = {row["call"]: row["us"] for row in read("python")}
+    rows = [["read JSON text", us["from_json"], us["json.loads"], us["ujson.loads"]], ["write JSON text", us["to_json"], us["json.dumps"], us["ujson.dumps"]]]
+    return (table(["", "jsonb_paths", "json", "ujson"], rows)
+            + f"\n\n`dumps` takes {us['dumps']}, `loads` {us['loads']}. One by one and in a column, `match` of `$.age > 40` takes {us['match']} and"
+            f"\n{us['Column.match']}, `get` of `{{age}}` {us['get']} and {us['Column.get']}, `sort_key` {us['sort_key']} and {us['Column.sort_keys']}.")
+
+
+def jq():
+    rows = by("jq", "jdoc")
+    return table(["Command", "jdoc", "jq 1.6"], [[name, rows[name]["jdoc_seconds"], rows[name]["jq_seconds"]] for name in JQ_COMMANDS])
+
+
 # The tables of each page, by the marks around them.
 PAGES = {
-    "README.md": {"speed": lambda: f"{speed(README_CASES)}\n\n{means()}"},
+    "README.md": {"speed": lambda: f"{speed(README_CASES)}\n\n{means()}", "compared": compared},
+    "docs/C.md": {"c": c, "python": python, "jq": jq},
+    "docs/SQL.md": {"sqlite": sqlite, "postgres": postgres},
     "docs/PERFORMANCE.md": {"classes": classes, "speed": lambda: speed(MORE_CASES), "growth": growth, "check": check},
     "docs/measured/slower.md": {"slower": slower},
     "docs/STACK.md": {"stack": lambda: stack("stack"), "stack, more": lambda: stack("stack_more")},

@@ -1,16 +1,24 @@
 #!/usr/bin/env python3
-"""Compares the PostgreSQL extension with jsonb: processor time of the server's process, in turn, JIT and parallel queries off.
+"""Compares the PostgreSQL extension with jsonb: microseconds of processor time of the server per row, the best of some rounds, in turn.
 
-  postgres.py ROWS small|large [ROUNDS]     the server is that of PGHOST, PGUSER and PGDATABASE; bindings/postgres/test.sh shows how
-                                            one is started. The role has to be allowed to read /proc/self/schedstat
+  postgres.py ROWS small|large [ROUNDS]     prints the figures
+  postgres.py --write                       writes docs/measured/postgres.csv and the tables of pages: 20,000 small rows, 3 rounds
+
+PGHOST, PGUSER and PGDATABASE name the server; `bindings/postgres/test.sh LIB OUT COMMAND ..` starts one for a command. The role must
+be allowed to read /proc/self/schedstat. JIT and parallel queries are off.
 """
 
+import os
 import re
 import subprocess
 import sys
 
 import documents
 
+sys.path.append(os.path.join(os.path.dirname(os.path.abspath(__file__)), "..", "..", "tools"))
+import measured
+
+WRITTEN = 20_000, "small", 3
 HOME = '$.phones[*] ? (@.type == "home" && @.number > 5000000)'
 # A title, and a query over the tables jdocs and jsonbs, whose names stand for {0}, and their types for {1}.
 QUERIES = [
@@ -24,7 +32,7 @@ QUERIES = [
     ("`#>>`, two steps", "SELECT sum(length(d #>> '{{address,city}}')) FROM {0}"),
     ("`->` an object", "SELECT count(d -> 'address') FROM {0}"),
     ("path query, rows", "SELECT count(*) FROM (SELECT {1}_path_query(d, '$.phones[*].number') FROM {0}) AS x"),
-    ("`\\|\\|` a member", "SELECT count(d || '{{\"score\":1}}') FROM {0}"),
+    ("`||` a member", "SELECT count(d || '{{\"score\":1}}') FROM {0}"),
     ("`#-`", "SELECT count(d #- '{{address,zip}}') FROM {0}"),
     ("to text", "SELECT count(d::text) FROM {0}"),
     ("sort by a field", "SELECT count(*) FROM (SELECT 1 FROM {0} ORDER BY d -> 'score' OFFSET 0) AS x"),
@@ -69,12 +77,9 @@ def measured(title, sql, table):
     return third - second - (second - first), re.sub(r"cpu \d+\n?", "", said).strip()
 
 
-def main():
-    rows, size, rounds = int(sys.argv[1]), sys.argv[2], int(sys.argv[3]) if len(sys.argv) > 3 else 3
+def compare(rows, size, rounds):
+    """A row for each query."""
     load(rows, size)
-    version = psql("SHOW server_version").split()[0]
-    print(f"microseconds of processor time a row, the best of {rounds} in turn; {rows} rows, {size}; PostgreSQL {version}\n")
-    print("| Query | jdoc | jsonb | ratio |\n|---|---|---|---|")
     for title, query in QUERIES:
         best, found = {}, {}
         for _ in range(rounds):
@@ -83,12 +88,16 @@ def main():
                 best[kind] = min(best.get(kind, took), took)
         if found["jdoc"] != found["jsonb"]:
             raise SystemExit(f"different results: {title}: {found}")
-        ours, theirs = (best[kind] / rows / 1e3 for kind in ("jdoc", "jsonb"))
-        print(f"| {title} | {ours:.2f} | {theirs:.2f} | {ours / theirs:.2f} |", flush=True)
+        yield {"query": title, **{f"{kind}_us": f"{best[kind] / rows / 1e3:.2f}" for kind in ("jdoc", "jsonb")}}
+
+
+def main():
+    is_written = sys.argv[1:] == ["--write"]
+    asked = WRITTEN if is_written else (int(sys.argv[1]), sys.argv[2], int(sys.argv[3]) if len(sys.argv) > 3 else 3)
+    measured.report("postgres", compare(*asked), is_written)
     for kind in ("jdoc", "jsonb"):
-        table, average = psql(f"SELECT pg_table_size('{kind}s') / {rows}, (SELECT avg(pg_column_size(d))::int FROM {kind}s)").strip().split("|")
-        print(f"\n{kind}: {table} bytes a row of the table, {average} of a document", end="")
-    print()
+        table, average = psql(f"SELECT pg_table_size('{kind}s') / {asked[0]}, (SELECT avg(pg_column_size(d))::int FROM {kind}s)").strip().split("|")
+        print(f"{kind}: {table} bytes per row of the table, {average} of a document")
 
 
 if __name__ == "__main__":

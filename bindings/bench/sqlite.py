@@ -1,10 +1,11 @@
 #!/usr/bin/env python3
 """Compares the SQLite extension with SQLite's own JSON functions over text.
 
-  sqlite.py EXTENSION ROWS small|large [ROUNDS]      microseconds of processor time a row, the best of several rounds in turn
-  sqlite.py EXTENSION ROWS small|large instructions  instructions a row, counted by callgrind: a busy machine changes them little
+  sqlite.py EXTENSION ROWS small|large [ROUNDS]      microseconds of processor time per row, the best of several rounds, in turn
+  sqlite.py EXTENSION ROWS small|large instructions  instructions per row, counted by callgrind: a busy machine changes them little
+  sqlite.py EXTENSION --write                        instructions of both sizes: docs/measured/sqlite.csv and the tables of pages
 
-EXTENSION is a path without its suffix, as bindings/sqlite/out/jdoc.
+EXTENSION is a path without its suffix, such as bindings/sqlite/out/jdoc.
 """
 
 import os
@@ -17,14 +18,19 @@ import time
 
 import documents
 
+sys.path.append(os.path.join(os.path.dirname(os.path.abspath(__file__)), "..", "..", "tools"))
+import measured
+
+# The rows of each size, and how the columns of docs/measured/sqlite.csv end.
+SIZES = {"small": (10_000, "298"), "large": (1_000, "4900")}
 KEY = "jdoc_key(jdoc_get(d, '{age}'))"
 HOME = '$.phones[*]?(@.type == "home" && @.number > 5000000)'
 # A title, a query of ours and one of SQLite's. Both return the same, except lengths of bytes.
 QUERIES = [
     ("read each row", "SELECT count(*), sum(length(d)) FROM t", "SELECT count(*), sum(length(d)) FROM t"),
-    ("$.age > 40", "SELECT count(*) FROM t WHERE jdoc_match(d, '$.age > 40')", "SELECT count(*) FROM t WHERE json_extract(d, '$.age') > 40"),
+    ("`$.age > 40`", "SELECT count(*) FROM t WHERE jdoc_match(d, '$.age > 40')", "SELECT count(*) FROM t WHERE json_extract(d, '$.age') > 40"),
     ("the same by a value", "SELECT count(*) FROM t WHERE jdoc_value(d, '{age}') > 40", "SELECT count(*) FROM t WHERE d ->> '$.age' > 40"),
-    ("nested, $.address.city", "SELECT count(*) FROM t WHERE jdoc_match(d, '$.address.city == \"Oslo\"')",
+    ("nested, `$.address.city == \"Oslo\"`", "SELECT count(*) FROM t WHERE jdoc_match(d, '$.address.city == \"Oslo\"')",
      "SELECT count(*) FROM t WHERE d ->> '$.address.city' = 'Oslo'"),
     ("a filter in an array", f"SELECT count(*) FROM t WHERE jdoc_exists(d, '{HOME}')",
      "SELECT count(*) FROM t WHERE EXISTS (SELECT 1 FROM json_each(d, '$.phones') AS p"
@@ -47,7 +53,7 @@ LOAD = ("load from JSON text", "INSERT INTO t SELECT jdoc(text) FROM texts", "IN
 
 
 def make(folder, extension, texts):
-    """Two databases, each with the JSON text and with its table, and the bytes a row of each table."""
+    """Two databases, each with the JSON text and its table, and the bytes per row of each table."""
     made = {}
     for name, (_, *loads) in (("jdoc", LOAD), ("SQLite", LOAD)):
         path = os.path.join(folder, name)
@@ -91,37 +97,59 @@ def best_times(made, mine, other, rounds):
     return best
 
 
+def shell(extension, path, sql, *before):
+    """Runs a statement in the sqlite3 shell, and returns its standard error."""
+    words = [*before, "sqlite3", "-cmd", f".load {extension}", path, sql]
+    return subprocess.run(words, capture_output=True, text=True, check=True).stderr
+
+
 def instructions(extension, path, sql):
-    """The instructions of the sqlite3 shell for a statement."""
-    words = ["valgrind", "--tool=callgrind", "--callgrind-out-file=/dev/null", "sqlite3", "-cmd", f".load {extension}", path, f"BEGIN; {sql}; ROLLBACK"]
-    said = subprocess.run(words, capture_output=True, text=True, check=True)
-    return int(re.search(r"Collected : (\d+)", said.stderr)[1])
+    """The instructions of the sqlite3 shell for a statement. Only an index stays in the database."""
+    said = shell(extension, path, f"BEGIN; {sql}; ROLLBACK", "valgrind", "--tool=callgrind", "--callgrind-out-file=/dev/null")
+    if sql.startswith("CREATE INDEX"):
+        shell(extension, path, sql)
+    return int(re.search(r"Collected : (\d+)", said)[1])
 
 
-def measure(extension, rows, size, how, folder):
-    made = make(folder, extension, list(documents.people(rows, size)))
-    counts = how == "instructions"
-    unit = "instructions" if counts else "microseconds of processor time"
-    print(f"{unit} a row; {rows} rows, {size}; SQLite {sqlite3.sqlite_version}\n")
-    print("| Query | jdoc | SQLite | ratio |\n|---|---|---|---|")
-    if counts:
-        for _, db, _ in made.values():
-            db.close()
-        nothing = {name: instructions(extension, it[0], "SELECT 1") for name, it in made.items()}
+def counts(extension, made, rows):
+    """The instructions per row of each query, without those of starting the shell."""
+    for _, db, _ in made.values():
+        db.close()
+    nothing = {name: instructions(extension, it[0], "SELECT 1") for name, it in made.items()}
     for title, mine, other in [LOAD] + QUERIES:
-        if counts:
-            row = {name: (instructions(extension, made[name][0], sql) - nothing[name]) / rows for name, sql in (("jdoc", mine), ("SQLite", other))}
-        else:
-            row = {name: it / rows * 1e6 for name, it in best_times(made, mine, other, int(how)).items()}
-        form = "{:.0f}" if counts else "{:.2f}"
-        print(f"| {title} | {form.format(row['jdoc'])} | {form.format(row['SQLite'])} | {row['jdoc'] / row['SQLite']:.2f} |", flush=True)
-    print(f"\nbytes a row on disk: {made['jdoc'][2]:.0f}, SQLite {made['SQLite'][2]:.0f}")
+        yield title, [f"{(instructions(extension, made[name][0], sql) - nothing[name]) / rows:.0f}" for name, sql in (("jdoc", mine), ("SQLite", other))]
+
+
+def times(made, rows, rounds):
+    """The microseconds per row of each query."""
+    for title, mine, other in [LOAD] + QUERIES:
+        yield title, [f"{it / rows * 1e6:.2f}" for it in best_times(made, mine, other, rounds).values()]
+
+
+def measure(extension, rows, size, how):
+    """The title, our figure and that of SQLite for each query, and for the size of a row."""
+    with tempfile.TemporaryDirectory() as folder:
+        made = make(folder, extension, list(documents.people(rows, size)))
+        yield "bytes of a row on disk", [f"{it[2]:.0f}" for it in made.values()]
+        yield from counts(extension, made, rows) if how == "instructions" else times(made, rows, int(how))
+
+
+def write(extension):
+    found = {}
+    for size, (rows, end) in SIZES.items():
+        for title, figures in measure(extension, rows, size, "instructions"):
+            found.setdefault(title, {"query": title}).update(zip((f"jdoc_{end}", f"sqlite_{end}"), figures))
+    measured.save("sqlite", found.values())
 
 
 def main():
-    extension, rows, size = os.path.abspath(sys.argv[1]), int(sys.argv[2]), sys.argv[3]
-    with tempfile.TemporaryDirectory() as folder:
-        measure(extension, rows, size, sys.argv[4] if len(sys.argv) > 4 else "3", folder)
+    extension = os.path.abspath(sys.argv[1])
+    if sys.argv[2:] == ["--write"]:
+        return write(extension)
+    rows, size, how = int(sys.argv[2]), sys.argv[3], sys.argv[4] if len(sys.argv) > 4 else "3"
+    print(f"{rows} rows, {size}; SQLite {sqlite3.sqlite_version}\n\n| Query | jdoc | SQLite | ratio |\n|---|---|---|---|")
+    for title, (ours, theirs) in measure(extension, rows, size, how):
+        print(f"| {title} | {ours} | {theirs} | {float(ours) / float(theirs):.2f} |", flush=True)
 
 
 if __name__ == "__main__":

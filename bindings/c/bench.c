@@ -1,7 +1,9 @@
-/* Rows a second of each call on a column, compared with the same call on one document after the other; and what a call
- * costs. bench [ROWS]: documents of about 200 bytes; processor time, the best of several rounds.
- * bench ROWS CALL column|one|prepared runs a call once on all rows, bench ROWS type jdoc_type, and bench ROWS nothing none: for
- * instructions.py. */
+/* Times each call on a column, and on one document after the other with the path's text or a prepared path.
+ *
+ *   bench [ROWS]                          prints a table: processor time, the best of several rounds
+ *   bench ROWS CALL column|one|prepared   makes a call once on each row; `type` is jdoc_type, `nothing` no call
+ *
+ * The documents have about 200 bytes. bindings/bench/c.py runs both. */
 #define _POSIX_C_SOURCE 199309L
 #include "jdoc.h"
 
@@ -178,7 +180,7 @@ static const struct pair pairs[] = {
 };
 enum { PAIRS = sizeof pairs / sizeof *pairs };
 
-/* Nanoseconds a row, the best of all rounds. */
+/* Nanoseconds per row, the best of all rounds. */
 static double measure(uint32_t (*call)(void)) {
     double best = 1e9;
     for (int round = 0; round < ROUNDS; round++) {
@@ -205,14 +207,14 @@ static int run_once(const char *call, const char *form) {
 
 static void print_table(void) {
     printf("%zu documents of %zu bytes\n\n", rows, bytes_len / rows);
-    printf("| Call | column, ns a row | rows a second | one by one, ns a row | gain | prepared, ns a row |\n");
+    printf("| Call | column, ns per row | rows per second | one by one, ns per row | gain | prepared, ns per row |\n");
     printf("|---|---|---|---|---|---|\n");
     for (size_t i = 0; i < PAIRS; i++) {
         double column = measure(pairs[i].column), one = measure(pairs[i].one);
         printf("| %s | %.0f | %.0f | %.0f | %.2f |", pairs[i].name, column, 1e9 / column, one, one / column);
         pairs[i].prepared ? printf(" %.0f |\n", measure(pairs[i].prepared)) : puts(" |");
     }
-    printf("\njdoc_type of 4 bytes: %.1f ns a call (%llu)\n", measure(type_rows), (unsigned long long)(sum & 1));
+    printf("\njdoc_type of 4 bytes: %.1f ns per call (%llu)\n", measure(type_rows), (unsigned long long)(sum & 1));
 }
 
 int main(int argc, char **argv) {

@@ -1,6 +1,7 @@
 #!/usr/bin/env bash
-# test.sh LIB OUT: builds the extension with LIB/libjdoc_heap.a in the folder OUT, and tests it in a server of its own: a copy of
-# the installed PostgreSQL below OUT, so that the installed one does not change. The last line is `N passed, M failed`.
+# test.sh LIB OUT: builds the extension with LIB/libjdoc_heap.a in the folder OUT, and tests it in a separate server: a copy of the
+# installed PostgreSQL below OUT, so that the installed one does not change. The last line is `N passed, M failed`.
+# test.sh LIB OUT COMMAND ..: runs a command in place of the tests, with PGHOST, PGUSER and PGDATABASE of this server.
 here=$(cd "$(dirname "${BASH_SOURCE[0]}")" && pwd) || exit 1
 lib=$(cd "$1" && pwd) && mkdir -p "$2" && out=$(cd "$2" && pwd) || exit 1
 
@@ -29,7 +30,7 @@ report() {
     echo "PostgreSQL, $1: status $2"
 }
 
-# A server finds its folders by its own place: a copy of its programs, with links to all else.
+# A server finds its folders by the path of its program, so the programs are copied and the other files linked.
 root=$out/root
 copy_server() {
     local folder
@@ -58,6 +59,11 @@ status=$?
 report "build" "$status"
 cd "$out" || exit 1
 if [ "$status" = 0 ] && start; then
+    server=(env PGHOST="$out" PGUSER="$user" PGDATABASE=postgres)
+    if [ $# -gt 2 ]; then
+        "${server[@]}" "${@:3}"
+        exit
+    fi
     for name in example types operators paths order gin; do
         as_user "$regress" --bindir="$bin" --host="$out" --user="$user" --inputdir="$out/tests" --outputdir="$out/results" \
             --dbname="jdoc_$name" --load-extension=jdoc "$name" >"$out/regress.log" 2>&1
@@ -65,7 +71,7 @@ if [ "$status" = 0 ] && start; then
         [ "$status" = 0 ] || { tail -n 20 "$out/regress.log"; head -n 60 "$out/results/regression.diffs"; }
         report "$name" "$status"
     done
-    PGHOST=$out PGUSER=$user PGDATABASE=postgres python3 "$here/tests/test_server.py"
+    "${server[@]}" python3 "$here/tests/test_server.py"
     status=$?
     report "server" "$status"
     grep -E 'terminated by signal|PANIC|TRAP' "$out/data/log" && failed=$((failed + 1))

@@ -93,7 +93,7 @@ def main():
                     "sorted": lambda: sort_all(client, files, "$.age < 50", "{age}"),
                     "groups": lambda: group_all(client, files, "{age}"),
                 }.items():
-                    print(f"{number} workers, {name}: {rows_per_second(call, rows):,.0f} rows a second")
+                    print(f"{number} workers, {name}: {rows_per_second(call, rows):,.0f} rows per second")
 
 
 if __name__ == "__main__":

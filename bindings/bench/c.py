@@ -1,0 +1,95 @@
+#!/usr/bin/env python3
+"""Measures the C library: calls with the path's text, with a prepared path, and as rows of a column.
+
+  c.py [BENCH]                    prints instructions per row, counted by callgrind, and nanoseconds of processor time per row
+  c.py [BENCH] --instructions     counts only instructions, which hardly depend on what else the machine does
+  c.py [BENCH] --write ..         writes docs/measured/c.csv and the table of docs/C.md; times that were not measured are kept
+
+BENCH is the program of bindings/c/bench.c: `make bench` in bindings/c builds out/bench. To count the instructions of a call, it runs
+once on 500 rows and once on 1,500: the difference is that of 1,000 rows, without the cost of building them.
+"""
+
+import argparse
+import os
+import re
+import subprocess
+import sys
+
+HERE = os.path.dirname(os.path.abspath(__file__))
+C = os.path.join(HERE, "..", "c")
+sys.path.append(os.path.join(HERE, "..", "..", "tools"))
+import measured
+
+FEW, MANY = 500, 1500
+FORMS = ("one", "prepared", "column")
+# The calls of bench.c, as docs/measured/c.csv names them.
+TITLES = {
+    "check": "`check`",
+    "no_condition": "`match`, `$.age`, not a predicate",
+    "exists": "`exists`, `$.age`",
+    "exists_last": "`exists`, `$.score`",
+    "match": "`match`, `$.age < 50`",
+    "contains": "`contains`",
+    "to_i64": "`to_i64` of a number",
+    "get": "`get_by_keypath`, `{age}`",
+    "select_first": "`select_first`, `$.name`",
+    "select_value": "`select_value`, `$.name`",
+    "select_array": "`select_array`, `$.name`",
+    "to_str": "`to_str` of a number",
+    "key": "`sort_key`",
+    "key_wide": "`sort_key_wide`",
+    "equality_key": "`equality_key`",
+    "delete": "`delete_by_keypath`, `{note}`",
+}
+
+
+def counted(bench, *words):
+    """The instructions of a run."""
+    command = ["valgrind", "--tool=callgrind", "--callgrind-out-file=/dev/null", bench, *map(str, words)]
+    said = subprocess.run(command, capture_output=True, text=True, check=True).stderr
+    return int(re.search(r"Collected : (\d+)", said)[1])
+
+
+def more_rows(bench, *words):
+    return (counted(bench, MANY, *words) - counted(bench, FEW, *words)) / (MANY - FEW)
+
+
+def calls():
+    """Each call of bench.c, and whether it can have a prepared path."""
+    with open(os.path.join(C, "bench.c")) as file:
+        return {call: kind == "BY_PATH" for kind, call in re.findall(r"(NAMED|BY_PATH)\((\w+)\)[,}]", file.read())}
+
+
+def instructions(bench):
+    """The instructions of each call and form, by the columns of the file."""
+    nothing = more_rows(bench, "nothing")
+    for call, has_path in calls().items():
+        forms = [form for form in FORMS if has_path or form != "prepared"]
+        yield TITLES[call], {f"{form}_instructions": f"{more_rows(bench, call, form) - nothing:.0f}" for form in forms}
+
+
+def times(bench):
+    """The nanoseconds of each call and form, which bench.c prints as a table."""
+    said = subprocess.run([bench], capture_output=True, text=True, check=True).stdout
+    for line in said.splitlines():
+        cells = [it.strip() for it in line.split("|")[1:-1]]
+        if cells and cells[0] in TITLES:
+            call, column, _, one, _, prepared = cells
+            yield TITLES[call], {"one_ns": one, "prepared_ns": prepared, "column_ns": column}
+
+
+def main():
+    parser = argparse.ArgumentParser(description=__doc__, formatter_class=argparse.RawDescriptionHelpFormatter)
+    parser.add_argument("bench", nargs="?", default=os.path.join(C, "out", "bench"))
+    parser.add_argument("--instructions", action="store_true")
+    parser.add_argument("--write", action="store_true")
+    asked = parser.parse_args()
+    rows = {row["call"]: row for row in measured.read("c")} if asked.write else {}
+    found = {title: {"call": title, **rows.get(title, {})} for title in TITLES.values()}
+    for title, figures in [*instructions(asked.bench), *([] if asked.instructions else times(asked.bench))]:
+        found[title].update(figures)
+    measured.report("c", found.values(), asked.write)
+
+
+if __name__ == "__main__":
+    main()
