@@ -1,6 +1,6 @@
 /* One call on one deep document or long path: for tools/measure_stack.py.
 
-   deep CALL SHAPE LEVELS makes a document (or a path) of that many levels, makes the call, and prints the status and the
+   deep CALL SHAPE LEVELS builds a document (or a path) of that many levels, makes the call, and prints the status and the
    result. Documents are written front to back, without a call per level. */
 #include "jdoc.h"
 

@@ -6,9 +6,9 @@
  *
  * CONVENTIONS
  *
- * Status. Functions return a status of enum jdoc_status. JDOC_OK is 0. JDOC_NONE means that there is no result, such as
- * a child that does not exist. All others are errors. jdoc_status_name returns their names, jdoc_status_text their
- * meaning.
+ * Status. Functions return an enum jdoc_status, except jdoc_version and .._free. JDOC_OK is 0. JDOC_NONE means that
+ * there is no result, such as a child that does not exist. All others are errors. jdoc_status_name returns their names,
+ * jdoc_status_text their meaning.
  *
  * Input is a pointer and a length: documents are uint8_t, paths, names and other strings char. It needs no null byte at
  * its end and no alignment. NULL with length 0 is empty. Input is only read, must not change during the call, and may
@@ -27,18 +27,18 @@
  *
  * Threads. Functions share nothing: any number of threads may call at the same time. Signal handlers may not call.
  *
- * Memory. A function frees what it allocates (by malloc, realloc and free of the C library) before it returns. These do
- * not allocate: jdoc_version, jdoc_status_name, jdoc_check, jdoc_type, jdoc_len, jdoc_as_.., jdoc_to_bool, jdoc_to_i64,
- * jdoc_to_u64, jdoc_contains, jdoc_array_overlap, jdoc_column_check, jdoc_column_contains, jdoc_column_to_i64. Most
- * functions use little stack at any depth; docs/STACK.md lists those that use more.
+ * Memory. A function frees what it allocates (by malloc, realloc and free of the C library) before it returns, except a
+ * prepared path. These do not allocate: jdoc_version, jdoc_status_name, jdoc_check, jdoc_type, jdoc_len, jdoc_as_..,
+ * jdoc_to_bool, jdoc_to_i64, jdoc_to_u64, jdoc_contains, jdoc_array_overlap, jdoc_column_check, jdoc_column_contains,
+ * jdoc_column_to_i64. Most functions use little stack at any depth; docs/STACK.md lists those that use more.
  *
  * Errors of any function, which are not listed with each:
  *   JDOC_INVALID_JSONB       the bytes are not a document
  *   JDOC_UNSUPPORTED_NUMBER  the bytes contain a float or a 256-bit decimal
  *   JDOC_OUT_OF_MEMORY       an allocation fails. Nothing was written
  *   JDOC_TOO_LARGE           of functions that build documents: the result exceeds the limits of the format
- * Functions return on any bytes, but only jdoc_check reads all of them: check untrusted documents first, since the
- * results of other functions on invalid documents are unspecified.
+ * Functions return on any bytes, but only jdoc_check and jdoc_column_check examine all of them: check untrusted
+ * documents first, since the results of other functions on invalid documents are unspecified.
  *
  * Paths. A key path is a list of keys and indexes such as {phones,0,"a b"}; a JSON path is an expression such as
  * $.phones[*]?(@.type == "home") (docs/PATHS.md). Both are UTF-8. JDOC_INVALID_KEY_PATH, JDOC_INVALID_JSON_PATH: the

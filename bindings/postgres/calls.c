@@ -91,7 +91,7 @@ static void refuse_variables(const bytea *variables) {
         ereport(ERROR, (errcode(ERRCODE_FEATURE_NOT_SUPPORTED), errmsg("jdoc: paths have no variables")));
 }
 
-/* A path that a function was called with, which stays with the function. */
+/* A path that a function was called with, cached in its FmgrInfo. */
 typedef struct prepared {
     jdoc_path path;
     bool strict;
@@ -118,8 +118,9 @@ static void read_path(prepared *it, const char *text, size_t len) {
     keep_text(it, text, len);
 }
 
-/* The one place that takes a JSON path, which is parsed again only if its text is another. With `keeps` it stays with
- * the function; functions that return rows keep no state between their calls, and have the last path of the session. */
+/* Read the JSON path of a call. A path is parsed again only if its text differs from that of the last call. With
+ * `keeps` it is cached with the function. Functions that return rows have no state between calls, and use the last path
+ * of the session. */
 static void take_path(FunctionCallInfo fcinfo, int at, bool keeps, given *it) {
     static prepared last;
     text *path = PG_GETARG_TEXT_PP(at);

@@ -1,7 +1,7 @@
 /* heap.c - the server's memory for the library (libjdoc_heap.a) and for JSON text
  *
- * Memory is counted by the server, and is freed with its context whatever happens. The library's functions are never left
- * by longjmp: an allocation that fails returns NULL, and the call returns JDOC_OUT_OF_MEMORY.
+ * The server counts the memory, and frees it with its context. The library's functions are never left by longjmp: an
+ * allocation that fails returns NULL, and the call returns JDOC_OUT_OF_MEMORY.
  */
 #include "jdoc_pg.h"
 
@@ -15,7 +15,7 @@ void jdoc_heap_free(void *piece);
 
 static bool is_refused_for_interrupt;
 
-/* palloc aligns to 8 bytes, and the library may need 16, as malloc has it: so this lies before each piece. */
+/* The prefix of each block. palloc aligns to 8 bytes, and the library may need 16, as malloc provides. */
 typedef struct front {
     void *chunk;
     size_t size;

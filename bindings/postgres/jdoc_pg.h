@@ -1,7 +1,7 @@
 /* jdoc_pg.h - what the files of the PostgreSQL extension share
  *
- * A jdoc is a document's bytes in a varlena. No jdoc comes into being unchecked: JSON text and jsonb go through a tape
- * and jdoc_check, bytes through jdoc_check, and all others are what the library makes.
+ * A jdoc is a document's bytes in a varlena. Those of JSON text, jsonb and bytea are checked by jdoc_check; all
+ * others are results of the library.
  */
 #ifndef JDOC_PG_H
 #define JDOC_PG_H
@@ -28,7 +28,7 @@
  * or if the query is cancelled. */
 extern const jdoc_heap pg_heap;
 
-/* Whether a call of the library has to be made again. The library's allocations fail while an interrupt is pending, so
+/* Whether a call of the library must be repeated. The library's allocations fail while an interrupt is pending, so
  * that a cancelled query ends there; other interrupts are handled here, and the call is repeated. */
 bool interrupted(uint32_t status);
 
@@ -76,11 +76,11 @@ typedef enum jdoc_status asker(const given *it, uint8_t *truth);
  * error that depends on the document is JDOC_NONE. */
 bytea *made_by(const given *it, maker *makes, bool silent);
 
-/* The document that a call makes, as a value of SQL: a string as itself, others as JSON text. NULL: there is none, or it
- * is null. */
+/* The document that a call builds, as text: a string without quotes, others as JSON text. NULL: there is none, or it is
+ * null. */
 text *text_by(const given *it, maker *makes);
 
-/* The same as the result of an SQL function. */
+/* Return what makes or asks writes, as the result of an SQL function. */
 Datum return_made(FunctionCallInfo fcinfo, const char *letters, maker *makes);
 Datum return_truth(FunctionCallInfo fcinfo, const char *letters, asker *asks, bool silent);
 bool is_hidden(uint32_t status, bool silent);
@@ -90,7 +90,7 @@ bool is_hidden(uint32_t status, bool silent);
 #define NAMES it->names.bytes, it->names.len, it->names.offsets, it->names.count + 1
 #define OUT   out, size, len
 
-/* SQL functions that make one call. */
+/* SQL functions that consist of one call. */
 #define MAKER(name, call)                                                                                              \
     static enum jdoc_status name(const given *it, uint8_t *out, size_t size, size_t *len) { return call; }
 #define ASKER(name, call)                                                                                              \
@@ -106,7 +106,7 @@ bool is_hidden(uint32_t status, bool silent);
 
 /* DOCUMENTS (types.c, rows.c, order.c) */
 
-/* The JSON text of a document, with spaces as jsonb has it. */
+/* The JSON text of a document, with the spaces of jsonb. */
 char *text_of_document(const uint8_t *document, size_t document_len, size_t *len);
 
 /* The equality key of a document. */

@@ -1,4 +1,4 @@
-/* module.c - what makes the library a module of PostgreSQL */
+/* module.c - the magic block of a module of PostgreSQL */
 #include "jdoc_pg.h"
 
 PG_MODULE_MAGIC;

@@ -46,12 +46,12 @@ static void append_quoted(StringInfo out, const char *name, size_t len) {
     appendStringInfoChar(out, '"');
 }
 
-/* The steps of #> and #>>, which stay with the function. */
+/* The steps of #> and #>>, cached with the function. */
 typedef struct steps {
     MemoryContext context; /* of all that follows */
     ArrayType *array;
     names names;
-    bool are_keys;     /* each step is a key, and none an index, whatever it is applied to */
+    bool are_keys;     /* each step is a key, none an index, on any item */
     jdoc_keypath keys; /* then */
 } steps;
 
@@ -100,7 +100,7 @@ static steps *take_steps(FunctionCallInfo fcinfo, int at) {
     return kept;
 }
 
-/* CHILDREN: what they are of, and the call that makes them; NULL: there is none */
+/* CHILDREN: the call that builds a child; NULL: there is none */
 
 MAKER(by_keys, jdoc_keypath_get(it->keys, D(0), OUT))
 
@@ -184,7 +184,7 @@ MAKES(jdoc_sql_equality_key, "d", jdoc_equality_key(D(0), OUT))
 static void append_step(StringInfo out, const char *name, size_t len) {
     int32 index;
     bool is_plain = len > 0 && name[name[0] == '-'] != '0';
-    if (len == 0) /* no text of a key path says the empty key */
+    if (len == 0) /* a key path has no text for the empty key */
         ereport(ERROR, (errcode(ERRCODE_FEATURE_NOT_SUPPORTED), errmsg("jdoc: a step of the path is the empty text")));
     if (integer_of(name, len, &index) && (is_plain || (len == 1 && name[0] == '0')))
         appendBinaryStringInfo(out, name, (int)len);

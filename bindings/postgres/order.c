@@ -54,7 +54,7 @@ static int compare_keys(const uint8_t *a, size_t a_len, const uint8_t *b, size_t
 
 /* ITEMS */
 
-/* What sortable keys have for the type of an item. The end of a container comes before all items. */
+/* The type byte of an item in sortable keys. The end of a container precedes all items. */
 static int rank_of(const jdoc_event *item) {
     static const uint8_t ranks[] = {
         [JDOC_EVENT_END] = 0,    [JDOC_EVENT_EXTENSION] = 1, [JDOC_EVENT_FALSE] = 2, [JDOC_EVENT_TRUE] = 3,
@@ -83,7 +83,7 @@ static int compare_numbers(const jdoc_event *a, const jdoc_event *b) {
     return compare_keys(x, jdoc_item_size(a), y, jdoc_item_size(b));
 }
 
-/* The order of two items of which each has the same place in its document. *known is false if only keys have it. */
+/* Compare two items at the same position in their documents. *known is false if only their sortable keys decide. */
 static int compare_items(const jdoc_event *a, const jdoc_event *b, bool *known) {
     int order = a->has_key && b->has_key ? compare_bytes(a->key, a->key_len, b->key, b->key_len) : 0;
     if (order == 0) order = rank_of(a) - rank_of(b);

@@ -5,7 +5,7 @@
 
 #include <string.h>
 
-/* A jdocpath is its text. It is read when it comes in, so that a wrong path is a syntax error of the query. */
+/* A jdocpath is its text. It is parsed on input, so that an invalid path is a syntax error of the query. */
 PG_FUNCTION_INFO_V1(jdocpath_in);
 Datum jdocpath_in(PG_FUNCTION_ARGS) {
     char *text = PG_GETARG_CSTRING(0);
@@ -52,7 +52,7 @@ Datum jdoc_sql_path_query_first(PG_FUNCTION_ARGS) {
     PG_RETURN_BYTEA_P(made);
 }
 
-/* An array of all items. If an error is silent the array is empty: what was found before it is not kept. */
+/* An array of all items. If an error is silent, the array is empty, even if items were found before the error. */
 static bytea *query_array(FunctionCallInfo fcinfo, const char *letters) {
     static const uint8_t empty[] = {0x80, 0, 0, 0};
     bytea *made = selected(fcinfo, letters, array);

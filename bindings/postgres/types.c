@@ -11,7 +11,7 @@
 
 #include <string.h>
 
-/* DOCUMENTS OF EVENTS: of members with one key the last is kept, as jsonb has it */
+/* DOCUMENTS OF EVENTS: of members with the same key the last is kept, as in jsonb */
 
 static void begin(jdoc_tape *tape) {
     if (GetDatabaseEncoding() != PG_UTF8)
@@ -145,7 +145,7 @@ static void add_scalar(jdoc_tape *tape, const JsonbValue *value) {
     }
 }
 
-/* Events of jsonb to the tape. A scalar document is an array of one that says so. */
+/* Add an event of jsonb to the tape. jsonb stores a scalar document as a marked array of one element. */
 static void add_token(jdoc_tape *tape, JsonbIteratorToken token, const JsonbValue *value, bool *is_scalar) {
     switch (token) {
     case WJB_BEGIN_ARRAY:
@@ -220,7 +220,7 @@ static JsonbValue scalar_value(const jdoc_event *event) {
     }
 }
 
-/* A scalar document is an array of one that says so. */
+/* jsonb stores a scalar document as a marked array of one element. */
 static JsonbValue *scalar_document(const jdoc_event *event) {
     JsonbParseState *state = NULL;
     JsonbValue array = {.type = jbvArray}, value = scalar_value(event);

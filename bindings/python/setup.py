@@ -13,16 +13,16 @@ HERE = os.path.dirname(os.path.abspath(__file__))
 
 
 def found(file, *places):
-    """The first of some folders that has a file."""
+    """The first of these folders that contains the file."""
     for place in filter(None, places):
         if os.path.exists(os.path.join(place, file)):
             return place
-    raise SystemExit(f"jsonb_paths: {file} is not here. Make it by `make` in bindings/c, or unpack a release and name its folder: "
+    raise SystemExit(f"jsonb_paths: {file} is not here. Run `make` in bindings/c, or unpack a release and name its folder: "
                      "JDOC_LIBRARY_DIR=FOLDER pip install ..")
 
 
 class Build(build_ext):
-    """Fails by name if the library is not there, and compiles the C files as C and the C++ files as C++."""
+    """Fails with a message if the library is missing; compiles C files as C and C++ files as C++."""
 
     def build_extension(self, extension):
         chosen = os.environ.get("JDOC_LIBRARY_DIR")

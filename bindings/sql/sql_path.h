@@ -1,4 +1,4 @@
-/* sql_path.h - how an SQL text says a JSON path and its mode: "lax $.a", "strict $.a", or "$.a", which is lax */
+/* sql_path.h - a JSON path with its mode, in SQL: "lax $.a", "strict $.a", or "$.a", which is lax */
 #ifndef JDOC_SQL_PATH_H
 #define JDOC_SQL_PATH_H
 

@@ -17,21 +17,21 @@ extern const sqlite3_api_routines *sqlite3_api;
 
 /* What all functions of one connection share. SQLite calls one function of a connection at a time. */
 typedef struct connection {
-    jdoc_tape tape; /* where JSON text is read */
-    uint8_t *bytes; /* where results are made: it grows to the largest one */
+    jdoc_tape tape; /* for reading JSON text */
+    uint8_t *bytes; /* for results: it grows to the largest one */
     size_t size;
     locale_t numbers; /* the locale "C" */
     int uses;         /* functions that hold it */
 } connection;
 
-/* Why there is no result: a status, and for JSON text the place and a sentence. */
+/* Why there is no result: a status, and for JSON text the position and a sentence. */
 typedef struct fault {
     uint32_t status;
     const char *what;
     size_t at;
 } fault;
 
-/* A document that was made of an argument. */
+/* A document that was built from an argument. */
 typedef struct made {
     size_t len;
     uint8_t bytes[];
@@ -41,7 +41,7 @@ typedef struct made {
 typedef struct document {
     const uint8_t *bytes;
     size_t len;
-    made *own; /* what the bytes lie in, if they were made */
+    made *own; /* the allocation of the bytes, if they were built */
 } document;
 
 extern const jdoc_heap sqlite_heap;
@@ -50,7 +50,7 @@ extern const jdoc_heap sqlite_heap;
 bool reserve(connection *own, size_t size);
 
 /* Read a value as a document: BLOB as it is, TEXT as JSON text, an integer as a number. The caller frees it->own by
- * sqlite3_free. False: *why says why not; JDOC_NONE is NULL. */
+ * sqlite3_free. False: *why is the reason; JDOC_NONE is NULL. */
 bool document_of_value(connection *own, sqlite3_value *value, document *it, fault *why);
 
 /* Write a fault as a message of at most `size` bytes. */

@@ -1,4 +1,4 @@
-/* functions.c - the scalar functions: what each takes, and the call that makes its result */
+/* functions.c - the scalar functions: the arguments of each, and the call that builds its result */
 #include "extension.h"
 SQLITE_EXTENSION_INIT3
 
@@ -6,14 +6,14 @@ SQLITE_EXTENSION_INIT3
 
 enum { MOST_DOCUMENTS = 2, PATH_AT = 1 };
 
-/* A path that is parsed once a statement if it is constant: one of the two. */
+/* A path, one of the two. It is parsed once per statement if it is constant. */
 typedef struct prepared {
     jdoc_path json;
     jdoc_keypath key;
     bool strict;
 } prepared;
 
-/* What a function was called with. */
+/* The arguments of a call. */
 typedef struct arguments {
     connection *own;
     int count;
@@ -32,8 +32,8 @@ typedef struct function function;
 typedef enum jdoc_status maker(const arguments *it, uint8_t *out, size_t size, size_t *len);
 typedef enum jdoc_status asker(const arguments *it, uint8_t *truth);
 
-/* What a function takes is a letter an argument: d a document, p a JSON path, k a key path or the index of an element, n a
- * name, i an index. Its result is a BLOB that `makes` writes, a Boolean that `asks` writes, or what `does` says. */
+/* `takes` has a letter for each argument: d a document, p a JSON path, k a key path or the index of an element, n a
+ * name, i an index. The result is a BLOB that `makes` writes, a Boolean that `asks` writes, or what `does` sets. */
 struct function {
     const char *name, *takes;
     maker *makes;
@@ -75,7 +75,7 @@ static int32_t index_of(sqlite3_value *value) {
     return index < INT32_MIN ? INT32_MIN : index > INT32_MAX ? INT32_MAX : (int32_t)index;
 }
 
-/* A document that was made of constant JSON text stays with the statement (keep). */
+/* Read a document. One that was built from constant JSON text is cached with the statement (keep). */
 static bool take_document(sqlite3_context *to, sqlite3_value *value, int at, arguments *it, fault *why) {
     document *taken = &it->documents[it->documents_len];
     made *kept = sqlite3_value_type(value) == SQLITE_TEXT ? sqlite3_get_auxdata(to, at) : NULL;
@@ -102,7 +102,7 @@ static void release_path(void *it) {
     sqlite3_free(it);
 }
 
-/* The one place that reads a JSON path or a key path. A path of a constant text stays with the statement (keep). */
+/* Read a JSON path or a key path. A constant one is cached with the statement (keep). */
 static bool take_path(sqlite3_context *to, sqlite3_value *value, bool is_key, arguments *it, fault *why) {
     const char *text;
     size_t len;
@@ -138,7 +138,7 @@ static bool take(sqlite3_context *to, sqlite3_value *value, char letter, int at,
     }
 }
 
-/* Hand what was made of TEXT arguments to the statement, which keeps what was made of constants, and free the rest. */
+/* Pass what was built from TEXT arguments to the statement, which caches that of constants and frees the rest. */
 static void keep(sqlite3_context *to, sqlite3_value **values, const arguments *it) {
     for (int i = 0; i < it->documents_len; i++) {
         if (!it->documents[i].own) continue;

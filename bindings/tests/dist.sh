@@ -80,7 +80,7 @@ crate() {
         [ "$said" = '"Emma" true' ]
 }
 has rust && count "Rust" crate
-# From here on only the system's programs are there.
+# From here on only the system's programs are on the path.
 export PATH=/usr/bin:/bin
 count "library" "$here/tests/installed.sh" "$out/library"
 if ! command -v sqlite3 >/dev/null; then

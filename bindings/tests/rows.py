@@ -46,7 +46,7 @@ class Parts(tuple):
 
 @dataclass
 class Placed:
-    """A column whose positions are given, as wrong ones are."""
+    """A column with these offsets, which may be invalid."""
 
     bytes: bytes
     positions: tuple

@@ -7,11 +7,11 @@
  * nest. Numbers are exact: a number that no decimal of 128 bits with a scale of 0 to 255 equals is an error, or is
  * rounded if the caller sets that option.
  *
- * None of this is proved. Each document that a tape writes is checked by jdoc_check, which is, before the caller gets
- * it.
+ * None of this is proved. Each document that a tape writes is checked by jdoc_check, which is proved, before the caller
+ * gets it.
  *
- * Statuses are those of jdoc.h, and JDOC_INVALID_JSON. Memory comes from the caller's jdoc_heap. If it returns NULL the
- * status is JDOC_OUT_OF_MEMORY; it may also leave by longjmp, as palloc does: no call holds anything but its memory.
+ * Statuses are those of jdoc.h, and JDOC_INVALID_JSON. Calls allocate from the caller's jdoc_heap. If it returns NULL,
+ * the status is JDOC_OUT_OF_MEMORY. It may also leave by longjmp, as palloc does: calls own nothing except its memory.
  */
 #ifndef JDOC_TEXT_H
 #define JDOC_TEXT_H
@@ -22,20 +22,20 @@
 extern "C" {
 #endif
 
-/* The text is not JSON, as RFC 8259 has it. */
+/* The text is not a JSON text of RFC 8259. */
 enum { JDOC_INVALID_JSON = 64 };
 
-/* realloc and free, or functions like them. A NULL piece is a new one. */
+/* realloc and free, or functions with the same contract. */
 typedef struct jdoc_heap {
     void *(*resize)(void *piece, size_t size);
     void (*release)(void *piece);
 } jdoc_heap;
 
-/* OPTIONS. Of a tape and of text. 0: numbers are exact, keys differ, text has no spaces, documents are checked. */
+/* OPTIONS. Of a tape and of text. 0: numbers are exact, keys are unique, text has no spaces, documents are checked. */
 enum {
     JDOC_ROUND_NUMBERS =
         1, /* round a number with too many digits, half away from zero, instead of JDOC_UNSUPPORTED_NUMBER */
-    JDOC_KEEP_LAST = 2, /* of pairs with one key keep the last, instead of JDOC_OBJECT_DUPLICATE_KEY */
+    JDOC_KEEP_LAST = 2, /* keep the last member of a duplicate key, instead of JDOC_OBJECT_DUPLICATE_KEY */
     JDOC_SPACES = 4,    /* write ", " and ": ", as PostgreSQL does */
     JDOC_TRUSTED = 8    /* write text without jdoc_check: the document was checked before */
 };
@@ -49,7 +49,7 @@ typedef struct jdoc_ranked jdoc_ranked;
  */
 typedef struct jdoc_tape {
     uint32_t status;
-    const char *what; /* a sentence without a full stop, or NULL if the status says it all */
+    const char *what; /* a sentence without a full stop, or NULL if the status suffices */
     size_t at;        /* the byte of the JSON text, or the value of `source` at the event */
     size_t source;    /* the caller's position, which each node keeps */
     unsigned options;
@@ -99,8 +99,8 @@ uint32_t jdoc_tape_write(jdoc_tape *tape, uint8_t *out);
 /* JSON TEXT TO A DOCUMENT */
 
 /* Reads JSON text, as UTF-8, into a tape, which it clears first. JDOC_INVALID_JSON; JDOC_UNSUPPORTED_NUMBER;
- * JDOC_OBJECT_DUPLICATE_KEY; JDOC_NOT_UTF8: an escape of half a surrogate pair; JDOC_TOO_LARGE. `at` and `what` say
- * where and why. */
+ * JDOC_OBJECT_DUPLICATE_KEY; JDOC_NOT_UTF8: an escape of half a surrogate pair; JDOC_TOO_LARGE. `at` and `what`
+ * describe the error. */
 uint32_t jdoc_read_text(jdoc_tape *tape, const char *text, size_t len);
 
 /* Reads the first of several JSON values like jdoc_read_text. *used: the bytes to its end and the spaces after it.
@@ -111,13 +111,13 @@ uint32_t jdoc_read_next(jdoc_tape *tape, const char *text, size_t len, size_t *u
  * is the first wrong byte. */
 uint32_t jdoc_write_read(jdoc_tape *tape, const char *text, size_t len, uint8_t *out);
 
-/* Reads JSON text and writes its document: *out is a new piece of the heap, which the caller releases. */
+/* Reads JSON text and writes its document to *out, a new allocation of the heap, which the caller releases. */
 uint32_t jdoc_from_text(jdoc_tape *tape, const char *text, size_t len, uint8_t **out, size_t *out_len);
 
 /* A DOCUMENT AS EVENTS. Any bytes may be walked: no byte outside of them is read, and what is not a document is
  * JDOC_INVALID_JSONB at the latest when the walk comes to it. */
 
-/* Those of entry words (docs/FORMAT.md), and the end of a container. */
+/* The types of entry words (docs/FORMAT.md), and the end of a container. */
 enum jdoc_event_kind {
     JDOC_EVENT_NULL = 0,
     JDOC_EVENT_STRING = 1,
@@ -134,25 +134,25 @@ enum jdoc_event_kind {
 typedef struct jdoc_event {
     enum jdoc_event_kind kind;
     bool object, has_key;
-    uint32_t count; /* of a container: elements or pairs */
+    uint32_t count; /* of a container: elements or members */
     size_t len, key_len;
     const uint8_t *bytes, *key;
 } jdoc_event;
 
-/* The elements or pairs of one container that are still to come. */
+/* The remaining elements or members of a container. */
 typedef struct jdoc_children {
     const uint8_t *words, *keys, *content, *end;
     uint32_t left, count;
     bool object;
 } jdoc_children;
 
-/* Reads a document as an item without a key. Containers within it are not looked at. */
+/* Reads a document as an item without a key. Containers within it are not read. */
 uint32_t jdoc_root(jdoc_event *item, const uint8_t *document, size_t len);
 
-/* Begins with the first element or pair of a document. JDOC_NONE: the document is a scalar. */
+/* Begins with the first element or member of a document. JDOC_NONE: the document is a scalar. */
 uint32_t jdoc_children_open(jdoc_children *children, const uint8_t *document, size_t len);
 
-/* Reads the next element or pair. JDOC_NONE: there is none. */
+/* Reads the next element or member. JDOC_NONE: there is none. */
 uint32_t jdoc_children_next(jdoc_children *children, jdoc_event *item);
 
 /* Returns the size of an item as a separate document. */
@@ -187,7 +187,7 @@ void jdoc_walk_free(jdoc_walk *walk);
 
 /* A DOCUMENT TO JSON TEXT */
 
-/* JSON text, in one piece of a heap. `bytes` is NULL at first. */
+/* JSON text, in one allocation of a heap. `bytes` is NULL at first. */
 typedef struct jdoc_buffer {
     jdoc_heap heap;
     char *bytes;
@@ -206,7 +206,7 @@ uint32_t jdoc_write_item(jdoc_buffer *out, const jdoc_event *item, unsigned opti
 
 /* NUMBERS */
 
-/* Room for the text of a number. */
+/* The size of a buffer for the text of any number. */
 enum { JDOC_NUMBER_TEXT = 300 };
 
 /* Writes the text of a number's payload into `out`, of JDOC_NUMBER_TEXT bytes, and returns its length. 0: it is not a

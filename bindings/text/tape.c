@@ -142,7 +142,7 @@ static bool sort(jdoc_tape *tape, size_t from, uint32_t count) {
     return true;
 }
 
-/* Drops the pairs whose key comes again, from an object and from its order. */
+/* Drops the members whose key occurs again, from an object and from its order. */
 static bool drop_repeated(jdoc_tape *tape, jdoc_node *object) {
     jdoc_ranked *first = tape->order + object->order, *end = first + object->count, *kept = first;
     for (jdoc_ranked *at = first; at < end; at++) {

@@ -1,5 +1,6 @@
-/* The calls on prepared paths in the form of those that take a path's text, so that the rows run through both. The text is wiped after
- * jdoc_path_read, each call is made twice on one path, and once more after jdoc_path_free. Included by rows.c. */
+/* The calls on prepared paths in the form of those that take a path's text, so that the rows run through both. The text is
+ * overwritten after jdoc_path_read, each call is made twice on one path, and once more after jdoc_path_free. Included by
+ * rows.c. */
 #ifndef HANDLES_H
 #define HANDLES_H
 

@@ -1,4 +1,4 @@
-/* threads [ROUNDS]: four threads, each with prepared paths of its own, whose results are those of the calls that parse the
+/* threads [ROUNDS]: four threads, each with its own prepared paths, whose results are those of the calls that parse the
  * path. Each thread leaves one path to the main thread, which uses and frees it after the join. The last line is
  * `N passed, M failed`. */
 #include "jdoc.h"
@@ -32,7 +32,7 @@ static bool is_same(const struct result *a, const struct result *b) {
     return a->status == b->status && a->len == b->len && !memcmp(a->out, b->out, ROOM);
 }
 
-/* Whether a path says of both people what its text says. */
+/* Whether a path has the same result as its text for both people. */
 static bool agrees(jdoc_path *path, const char *text) {
     for (size_t at = 0; at < 2 * PERSON; at += PERSON) {
         struct result by_path[3] = {0}, by_text[3] = {0};
@@ -53,13 +53,13 @@ static bool agrees(jdoc_path *path, const char *text) {
 
 static size_t rounds = 200;
 
-/* What a thread leaves: what went wrong, or NULL, and a path of the first text. */
+/* The result of a thread: an error or NULL, and a path of the first text. */
 struct left {
     const char *fault;
     jdoc_path path;
 };
 
-/* Reads each path, uses and frees it, round after round. Returns what went wrong, or NULL. */
+/* Parses each path, uses and frees it, in each round. Returns an error, or NULL. */
 static const char *run_rounds(void) {
     for (size_t round = 0; round < rounds; round++) {
         const char *text = texts[round % TEXTS];
@@ -83,7 +83,7 @@ static void *work(void *to) {
     return NULL;
 }
 
-/* Returns what went wrong in a thread that was joined, or with the path that it left, or NULL. */
+/* Returns the error of a thread that was joined, or of the path that it left, or NULL. */
 static const char *fault_of(struct left *left) {
     if (left->fault) return left->fault;
     bool is_right = agrees(&left->path, texts[0]);

@@ -1,4 +1,4 @@
-"""JSON values kept as bytes: queries and edits without decoding, over a library that is proved.
+"""JSON values as bytes: queries and edits without decoding, over a library that is proved.
 
 >>> from jsonb_paths import Column, Path, from_json, to_json
 >>> document = from_json('{"name":"Fred","tags":["new","red"],"price":12.50}')

@@ -1,4 +1,4 @@
-"""The exceptions: one class for each status of the library that is an error.
+"""The exceptions: one class for each error that a call can have.
 
 >>> from jsonb_paths import select
 >>> select(b"", "$.a[")

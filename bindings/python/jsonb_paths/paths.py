@@ -1,4 +1,4 @@
-"""Paths as objects. An error in a path is raised when it is made, not at the first document.
+"""Prepared paths. An error in a path is raised when the object is created, not at the first document.
 
 >>> from jsonb_paths import dumps
 >>> grown_up = Path("$.age > 40")

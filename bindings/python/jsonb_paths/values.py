@@ -1,4 +1,4 @@
-"""The types of what goes in and comes out.
+"""The types of arguments and results.
 
     None, True, False     null and Booleans
     int                   integers; those of more than 64 bits become decimals of 128

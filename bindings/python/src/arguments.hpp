@@ -7,7 +7,7 @@
 #include <tuple>
 #include <type_traits>
 
-// Memory that is read, through the buffer protocol: its length is the buffer's, whatever len() says.
+// Memory that is read through the buffer protocol. Its length is that of the buffer, which may differ from len().
 struct Memory {
     Py_buffer view;
     bool held = false;
@@ -43,8 +43,8 @@ struct Document : Memory {
     auto words() const { return std::make_tuple(at, length); }
 };
 
-// A str, as UTF-8. Half of a surrogate pair stays, as three bytes that are not UTF-8, which the library rejects by
-// name.
+// A str, as UTF-8. Half of a surrogate pair becomes three bytes that are not UTF-8, which the library rejects
+// (NotUtf8).
 struct Text {
     const char *at = nullptr;
     size_t length = 0;
@@ -124,7 +124,7 @@ struct Column {
         return true;
     }
     size_t rows() const { return count ? count - 1 : 0; }
-    // Whether a row lies within the bytes. Another thread may write to the positions: look at a copy of both.
+    // Whether a row is within the bytes. Another thread may write to the offsets, so compare copies of them.
     bool holds(uint64_t first, uint64_t end) const { return first <= end && end <= bytes.length; }
     auto words(size_t first = 0) const {
         return std::make_tuple(bytes.at, bytes.length, offsets + first, count - first);

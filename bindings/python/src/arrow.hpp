@@ -65,7 +65,7 @@ inline PyObject *arrow_schema(PyObject *, PyObject *format) {
     return capsule;
 }
 
-// Holds the memory of an object. None is a buffer that is not there.
+// Holds the memory of an object. None is a missing buffer.
 inline bool lend(Lent &lent, PyObject *object) {
     Py_buffer &view = lent.views[lent.count];
     view.obj = nullptr;
@@ -119,7 +119,7 @@ inline bool widen(const ArrowArray *array, Block &positions) {
     return true;
 }
 
-// Moves an array, as the interface says, into a capsule that whoever has one of its buffers keeps.
+// Moves an array, as the interface requires, into a capsule that the owners of its buffers keep alive.
 inline PyObject *move_array(ArrowArray *array) {
     ArrowArray *moved = static_cast<ArrowArray *>(malloc(sizeof *moved));
     if (!moved) return PyErr_NoMemory();

@@ -1,4 +1,4 @@
-// The items of a document as documents of their own: elements, pairs, leaves, and what a path selects.
+// The items of a document as separate documents: elements, members, leaves, and what a path selects.
 #pragma once
 
 #include "values.hpp"

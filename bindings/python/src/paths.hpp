@@ -56,7 +56,7 @@ inline PyObject *path_compare(PyObject *self, PyObject *other, int how) {
     return PyBool_FromLong((same && path_of(self)->strict == path_of(other)->strict) == (how == Py_EQ));
 }
 
-// For pickle: a function of jsonb_paths.paths that makes the path again.
+// For pickle: a function of jsonb_paths.paths that parses the path again.
 template <bool KEY> PyObject *path_reduce(PyObject *self, PyObject *) {
     Ref module(PyImport_ImportModule("jsonb_paths.paths"));
     Ref make(module.it ? PyObject_GetAttrString(module.it, KEY ? "_key_path" : "_path") : nullptr);

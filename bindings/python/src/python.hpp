@@ -29,7 +29,7 @@ struct Buffer : jdoc_buffer {
     bool is_large() const { return size > 1 << 20; }
 };
 
-// A key that came lately, so that a key that comes often is one object.
+// A recent key, so that a key that occurs often is one object.
 struct Name {
     uint8_t length;
     char text[23];
@@ -68,8 +68,8 @@ inline PyObject *fail(State *state, uint32_t status, const std::string &what = "
     return nullptr;
 }
 
-// The module's tape or buffer for one call. A call that runs within another one, as from an object's own __index__, or
-// while another thread has it, gets a new one. One that a large document has made large is not kept.
+// The module's tape or buffer for one call. A call within another one, such as from an object's __index__, or while
+// another thread uses it, gets a new one. One that has grown with a large document is freed.
 template <typename It> class Lease {
   public:
     explicit Lease(It *&home) : home(home), it(home ? home : new It()) { home = nullptr; }

@@ -12,7 +12,7 @@ struct Out {
     operator char *() const { return static_cast<char *>(at); }
 };
 
-// `call` makes the call with these last arguments and returns its status; what `show` returns goes into an exception.
+// `call` makes the call with these last arguments and returns its status. `show` returns the text of an exception.
 struct Bytes {
     template <typename Call, typename Show> static PyObject *of(State *state, Call call, Show show) {
         uint8_t small[1024];
@@ -61,7 +61,7 @@ struct Nothing {
     }
 };
 
-// A Decimal of its text, which has as many digits after the point as the scale says.
+// A Decimal from its text, which has `scale` digits after the point.
 inline PyObject *decimal_of(State *state, const uint8_t *payload, size_t length) {
     char text[JDOC_NUMBER_TEXT];
     return PyObject_CallFunction(state->decimal, "s#", text, Py_ssize_t(jdoc_number_text(payload, length, text)));

@@ -90,7 +90,7 @@ inline PyObject *to_json(PyObject *module, PyObject *argument) {
 
 // LINES
 
-// A line that has no document: its row, and what is said of it.
+// A line that is not a document: its row, and its error.
 struct WrongLine {
     size_t row;
     uint32_t status;
@@ -137,7 +137,7 @@ struct Lines {
         return true;
     }
 
-    // Reads texts of any layout, one after the other, as far as they are JSON.
+    // Reads JSON values in any layout, one after the other, up to the first error.
     bool read_texts(const char *start, size_t length) {
         size_t at = 0, used = 0;
         uint32_t status = JDOC_OK;

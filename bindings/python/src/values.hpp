@@ -104,8 +104,7 @@ class Maker {
         return long_integer(value);
     }
 
-    // An integer of more than 64 bits. Hexadecimal digits are linear in its size, decimal ones are not: they come
-    // after.
+    // An integer of more than 64 bits. Hexadecimal digits take linear time, decimal ones do not: they come last.
     bool long_integer(PyObject *value) {
         Ref plain(PyObject_CallFunctionObjArgs(reinterpret_cast<PyObject *>(&PyLong_Type), value, nullptr));
         Ref digits(plain.it ? PyNumber_ToBase(plain.it, 16) : nullptr);

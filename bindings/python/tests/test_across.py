@@ -1,4 +1,4 @@
-"""A value is taken apart and made again by calls of the C library alone: without JSON text, and without the format."""
+"""A value is decoded and built again by calls of the C library alone: without JSON text, and without the format."""
 
 import ctypes
 import os

@@ -1,4 +1,4 @@
-"""The command line: its results, its exit status and what it says of rows that are errors."""
+"""The command line: its results, its exit status and its messages for rows that are errors."""
 
 import contextlib
 import os

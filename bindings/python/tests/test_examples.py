@@ -94,7 +94,7 @@ class Dask(unittest.TestCase):
         groups = dask_shards.group_all(self.client, self.files, "{age}")
         self.assertEqual(groups, collections.Counter(equality_key(dumps(it)) for it in ages))
         self.assertEqual(groups[equality_key(dumps(Decimal("7.0")))], ages.count(7))
-        # A worker that is lost: its work goes to the other one.
+        # If a worker is lost, the other one does its work.
         first = next(iter(self.cluster.workers.values()))
         os.kill(first.pid, signal.SIGKILL)
         self.assertEqual(dask_shards.count_all(self.client, self.files, "$.age < 50"), len(wanted))

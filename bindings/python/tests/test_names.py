@@ -14,20 +14,20 @@ BINDINGS = os.path.join(os.path.dirname(os.path.abspath(__file__)), "..", "..")
 HEADER = os.path.join(BINDINGS, "c", "jdoc.h")
 LIBRARY = os.environ.get("JDOC_LIBRARY", "")
 RUST = os.path.join(BINDINGS, "rust", "sys", "src", "bindings.rs")
-# The types of the header, as Rust has them.
+# The types of the header in Rust.
 RUST_TYPES = {
     "const uint8_t *": "*const u8", "const char *": "*const core::ffi::c_char", "const uint64_t *": "*const u64",
     "size_t": "usize", "size_t *": "*mut usize", "uint8_t *": "*mut u8", "char *": "*mut core::ffi::c_char", "uint64_t *": "*mut u64", "int64_t *": "*mut i64",
     "int32_t": "i32", "int64_t": "i64", "uint64_t": "u64", "uint32_t": "u32", "uint8_t": "u8", "bool": "bool",
 }
-# Calls that the package does not make: it writes scalars itself, and reads objects by elements and pairs.
+# Calls that the package does not make: it writes scalars itself, and reads objects as events.
 UNUSED = {
     "status_name", "pair", "from_null", "from_bool", "from_i64", "from_u64", "from_decimal", "from_str",
 }
 
 
 def rust_type(words):
-    """The type of the header, as Rust has it."""
+    """A type of the header in Rust."""
     struct = re.fullmatch(r"(const )?(?:struct )?(jdoc_\w+) \*", words)
     return f"*{'const' if struct[1] else 'mut'} {struct[2]}" if struct else RUST_TYPES[words]
 

@@ -71,7 +71,7 @@ pub(crate) fn always<T>(result: Option<T>) -> T {
     result.expect("this call always has a result")
 }
 
-/// The pointer to a string, as C has it.
+/// A pointer to a string in C.
 pub(crate) fn at(text: &[u8]) -> *const c_char {
     text.as_ptr().cast()
 }

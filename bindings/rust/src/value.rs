@@ -86,7 +86,7 @@ impl<'a> Value<'a> {
         })
     }
 
-    /// The value with strings of its own. Its bytes are those of a document of JSON text, which has no binary values.
+    /// The value with owned strings. Its bytes are those of a document of JSON text, which has no binary values.
     pub(crate) fn into_static(self) -> Result<Value<'static>> {
         Ok(match self {
             Value::Null => Value::Null,

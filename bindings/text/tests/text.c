@@ -94,7 +94,7 @@ static bool same(const void *a, size_t a_len, const void *b, size_t b_len) {
     return a_len == b_len && memcmp(a, b, b_len) == 0;
 }
 
-/* Text to a document to text, with what each of both must be. The status says whether memory ran out. */
+/* Converts text to a document and back. *fine: both results are those expected. Returns the first error. */
 static uint32_t there_and_back(unsigned options, const char *text, size_t len, const char *document,
                                size_t document_len, const char *canonical, size_t canonical_len, bool *fine) {
     jdoc_tape tape;
@@ -118,7 +118,7 @@ static uint32_t there_and_back(unsigned options, const char *text, size_t len, c
     return status;
 }
 
-/* Lets each allocation fail in turn: memory is the only thing that is missed, and nothing is kept. */
+/* Fails each allocation in turn: the status is JDOC_OUT_OF_MEMORY, and nothing is leaked. */
 static bool fails_cleanly(unsigned options, const char *text, size_t len, const char *document, size_t document_len,
                           const char *canonical, size_t canonical_len) {
     bool fine = true;
@@ -252,7 +252,7 @@ static void test_keys(void) {
     time_of_keys(50000, JDOC_KEEP_LAST, JDOC_OK);
 }
 
-/* DAMAGE: a walk of any bytes ends, and stays in them */
+/* DAMAGE: a walk of any bytes ends, and reads only these */
 
 static uint32_t random_bits(void) {
     static uint64_t state = 88172645463325252u;
