@@ -33,7 +33,7 @@ class Item:
     name: str
     kind: str
     comment: list
-    answers_result: bool
+    returns_result: bool
 
 
 def exported(crate):
@@ -76,7 +76,7 @@ def comment_above(lines, at):
     return found[::-1]
 
 
-def answers_result(lines, at):
+def returns_result(lines, at):
     """Whether the function at a line returns a Result: its head ends before the first clause."""
     head = re.split(r"\n\s+(?:requires|ensures)|\{", "\n".join(lines[at:at + 12]))[0]
     return re.search(r"-> (fmt::)?Result", head) is not None
@@ -107,7 +107,7 @@ def items(path, is_public):
 
     def item(at, name, kind):
         place = f"{path.relative_to(ROOT)}:{at + 1}"
-        return Item(place, name, kind, comment_above(lines, at), kind == "fn" and answers_result(lines, at))
+        return Item(place, name, kind, comment_above(lines, at), kind == "fn" and returns_result(lines, at))
 
     for at, line in enumerate(lines):
         found, owner = ITEM.match(line), OWNER.match(line)
@@ -134,9 +134,9 @@ def lacks(item):
         return
     if "# Complexity" not in item.comment and "# Cost" not in item.comment:
         yield "# Complexity"
-    if item.answers_result and "# Errors" not in item.comment:
+    if item.returns_result and "# Errors" not in item.comment:
         yield "# Errors"
-    if not item.answers_result and "# Errors" in item.comment:
+    if not item.returns_result and "# Errors" in item.comment:
         yield "a Result for its # Errors"
     if is_called_by_users(item) and not has_example(item.comment):
         yield "# Examples"
@@ -152,7 +152,7 @@ def named_places():
             yield f"docs/PROOFS.md:{at + 1}", ROOT / "crates" / (owner or crate) / place
 
 
-def answered_types():
+def returned_types():
     """For each public function's name, alone and after its type and `::`, the types that functions of that name return."""
     found = {}
     for name in CRATES:
@@ -196,7 +196,7 @@ def faults(crates):
     for line, place in named_places():
         is_there = place.is_dir() or place.with_suffix(".antt").is_file()
         yield "" if is_there else f"{line} names {place.relative_to(ROOT)}, which is not there"
-    types = answered_types()
+    types = returned_types()
     for line, call, given in given_types():
         has = types.get(call, set())
         yield "" if given in has else f"{line} gives {call} as {given}, which is {' or '.join(sorted(has)) or 'no public call'}"

@@ -114,7 +114,7 @@ def value_of(kind, content):
         return number_of(content)
     if kind == KINDS["container"]:
         return decode(content)
-    raise ValueError("an extension, which no text stands for")
+    raise ValueError("an extension value, which has no JSON text")
 
 
 def decode(bytes_):

@@ -1,12 +1,12 @@
 #!/usr/bin/env python3
-"""Puts the must-fail edits together, many in a file, so that one check tries them all.
+"""Merges must-fail edits into files of many, so that one check tries them all.
 
   group_edits.py [--most N] [NAME..]   in these crates, or in all
 
-Each new edit is alone in a file whose name says in words what the mutant does. This program reads all edit files, takes
-groups apart, and writes them again: edits of one source file go together, then those of its folder.
-The words become a comment line before each edit of a group. Edits of one function or of one cycle of calls go into
-different files; what lies outside any body, or in more bodies than one, stays alone.
+Each new edit is in its own file, whose name says in words what the mutant does. This program reads all edit files, splits
+groups, and writes new ones: edits of one source file first, then those of its folder. The words become a comment line
+before each edit of a group. Edits of one function, or of one cycle of calls, are in different files. An edit outside of
+bodies, or in several, has its own file.
 """
 import argparse
 import collections

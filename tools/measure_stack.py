@@ -41,7 +41,7 @@ class Run:
     call: str
     shape: str
     levels: int
-    answer: str | None  # what deep prints, or None if any result will do
+    answer: str | None  # what deep prints, or None if any result is right
 
 
 # ---- the model
@@ -143,7 +143,7 @@ def judged(run):
     if said is None:
         return "was killed"
     if run.answer is not None and said != run.answer:
-        return f"answered {said}, and not {run.answer}"
+        return f"returned {said}, expected {run.answer}"
     return None
 
 
@@ -326,7 +326,7 @@ def more_fault(program, call, shape):
     if said is None:
         return "was killed"
     if said == "refused" or answer not in (None, said):
-        return f"answered {said}, and not {answer}"
+        return f"returned {said}, expected {answer}"
     return None
 
 

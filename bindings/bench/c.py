@@ -22,14 +22,12 @@ import measured
 
 FEW, MANY = 500, 1500
 FORMS = ("one", "prepared", "column")
-# The calls of bench.c, as docs/measured/c.csv names them.
+# The calls of bench.c whose names in docs/measured/c.csv differ.
 TITLES = {
-    "check": "`check`",
     "no_condition": "`match`, `$.age`, not a predicate",
     "exists": "`exists`, `$.age`",
     "exists_last": "`exists`, `$.score`",
     "match": "`match`, `$.age < 50`",
-    "contains": "`contains`",
     "to_i64": "`to_i64` of a number",
     "get": "`get_by_keypath`, `{age}`",
     "select_first": "`select_first`, `$.name`",
@@ -38,9 +36,12 @@ TITLES = {
     "to_str": "`to_str` of a number",
     "key": "`sort_key`",
     "key_wide": "`sort_key_wide`",
-    "equality_key": "`equality_key`",
     "delete": "`delete_by_keypath`, `{note}`",
 }
+
+
+def title(call):
+    return TITLES.get(call, f"`{call}`")
 
 
 def counted(bench, *words):
@@ -65,17 +66,18 @@ def instructions(bench):
     nothing = more_rows(bench, "nothing")
     for call, has_path in calls().items():
         forms = [form for form in FORMS if has_path or form != "prepared"]
-        yield TITLES[call], {f"{form}_instructions": f"{more_rows(bench, call, form) - nothing:.0f}" for form in forms}
+        yield title(call), {f"{form}_instructions": f"{more_rows(bench, call, form) - nothing:.0f}" for form in forms}
 
 
 def times(bench):
     """The nanoseconds of each call and form, which bench.c prints as a table."""
+    known = calls()
     said = subprocess.run([bench], capture_output=True, text=True, check=True).stdout
     for line in said.splitlines():
         cells = [it.strip() for it in line.split("|")[1:-1]]
-        if cells and cells[0] in TITLES:
+        if cells and cells[0] in known:
             call, column, _, one, _, prepared = cells
-            yield TITLES[call], {"one_ns": one, "prepared_ns": prepared, "column_ns": column}
+            yield title(call), {"one_ns": one, "prepared_ns": prepared, "column_ns": column}
 
 
 def main():
@@ -85,9 +87,9 @@ def main():
     parser.add_argument("--write", action="store_true")
     asked = parser.parse_args()
     rows = {row["call"]: row for row in measured.read("c")} if asked.write else {}
-    found = {title: {"call": title, **rows.get(title, {})} for title in TITLES.values()}
-    for title, figures in [*instructions(asked.bench), *([] if asked.instructions else times(asked.bench))]:
-        found[title].update(figures)
+    found = {title(call): {"call": title(call), **rows.get(title(call), {})} for call in calls()}
+    for name, figures in [*instructions(asked.bench), *([] if asked.instructions else times(asked.bench))]:
+        found[name].update(figures)
     measured.report("c", found.values(), asked.write)
 
 

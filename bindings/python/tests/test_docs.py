@@ -70,7 +70,7 @@ def table():
 
 
 class Docs(unittest.TestCase):
-    def test_each_function_stands_there_with_its_arguments(self):
+    def test_each_function_is_listed_with_its_arguments(self):
         functions = {name: it for name, it in vars(jsonb_paths).items() if inspect.isroutine(it)}
         wanted = {name: list(inspect.signature(it).parameters) for name, it in functions.items()}
         self.assertEqual({name: arguments for name, arguments, _ in table()}, wanted)
@@ -90,7 +90,7 @@ class Docs(unittest.TestCase):
         with self.assertRaises(errors.StrictPath):
             jsonb_paths.match(FIVE, "exists($.a)", strict=True)
 
-    def test_each_method_of_a_column_stands_there(self):
+    def test_each_method_of_a_column_is_listed(self):
         with open(os.path.join(TOP, "docs", "C.md")) as file:
             [listed] = re.findall(r"Its methods (.*?are about the rows themselves)", file.read(), flags=re.S)
         methods = {name for name, it in vars(Column).items() if inspect.isfunction(it) and not name.startswith("_")}
