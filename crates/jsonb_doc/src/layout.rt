@@ -9,7 +9,7 @@ ghost use Rattle.byteorder.specs.Endian.{big_number};
 ghost use Rattle.jsonb_doc.specs.Format.{BeginWith, HeadedBy, header, entry_word};
 ghost use Rattle.jsonb_doc.specs.Kinds.{kind_number};
 ghost use Rattle.jsonb_doc.specs.Private.Headers.{header_number};
-ghost use Rattle.jsonb_doc.specs.Private.Lengths.{TellsKindAndLength};
+ghost use Rattle.jsonb_doc.specs.Private.Lengths.{HasEntryWordFields};
 ghost use Rattle.jsonb_doc.specs.Private.Containers.{StartWith};
 
 /// How many bytes a word has.
@@ -179,7 +179,7 @@ pub struct Entry<'w, 'c> {
 ///
 /// O(1). Does not allocate.
 #[inline(always)]
-pub fn word_of_entry(kind: EntryKind, len: usize) -> [u8; WORD]
+pub fn encode_entry_word(kind: EntryKind, len: usize) -> [u8; WORD]
     requires { len < 2 ^ 28 }
     ensures { result ≡ entry_word (kind_number kind) len }
 {
@@ -192,7 +192,7 @@ pub fn word_of_entry(kind: EntryKind, len: usize) -> [u8; WORD]
 ///
 /// O(1). Does not allocate.
 #[inline(always)]
-pub fn word_of_header(kind: HeaderKind, count: usize) -> [u8; WORD]
+pub fn encode_header(kind: HeaderKind, count: usize) -> [u8; WORD]
     requires { count < 2 ^ 29 }
     ensures { result ≡ header (header_number kind) count }
 {
@@ -218,7 +218,7 @@ pub fn entry_len(word: &[u8; WORD]) -> usize
 /// O(1). Does not allocate.
 #[inline(always)]
 pub fn read_entry_word(word: &[u8; WORD]) -> (EntryKind, usize)
-    ensures told { TellsKindAndLength word.now (kind_number result.0) result.1 }
+    ensures told { HasEntryWordFields word.now (kind_number result.0) result.1 }
     ensures bound { result.1 < 2 ^ 28 }
 {
     let kind = EntryKind::from_u32(u32::from_be_bytes(*word) / LENGTHS);

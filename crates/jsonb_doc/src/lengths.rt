@@ -56,7 +56,7 @@ pub fn skip_contents<'a>(words: &[u8], contents: &'a [u8]) -> Option<&'a [u8]>
 
 /// Returns the first entry after this many bytes of entry words.
 #[inline(always)]
-pub fn entry_behind<'w, 'c>(
+pub fn entry_at_offset<'w, 'c>(
     words: &'w [u8],
     passed: usize,
     contents: &'c [u8],

@@ -15,7 +15,7 @@ use crate::cursor::Entries;
 use crate::entry_iter::StoredEntry;
 use crate::error::Error;
 use crate::layout::{
-    EntryKind, HeaderKind, MAX_CONTENT, MAX_ENTRIES, WORD, word_of_entry, word_of_header,
+    EntryKind, HeaderKind, MAX_CONTENT, MAX_ENTRIES, WORD, encode_entry_word, encode_header,
 };
 use std::alloc::{AllocError, Global};
 
@@ -121,7 +121,7 @@ impl Writer {
         if entry.content.len() > MAX_CONTENT {
             return Err(Error::TooLarge);
         }
-        let word = word_of_entry(entry.kind, entry.content.len());
+        let word = encode_entry_word(entry.kind, entry.content.len());
         self.out.extend_from_slice(entry.content)?;
         self.set_words(self.inner, &word);
         Ok(())
@@ -177,7 +177,7 @@ impl Writer {
         if len > MAX_CONTENT {
             return Err(Error::TooLarge);
         }
-        let word = word_of_entry(EntryKind::Container, len);
+        let word = encode_entry_word(EntryKind::Container, len);
         self.set_words(outer, &word);
         Ok(())
     }
@@ -249,7 +249,7 @@ fn open(out: &mut Vec<u8>, kind: HeaderKind, count: usize) -> Result<OpenContain
         _ => count,
     };
     let start = out.len();
-    out.extend_from_slice(&word_of_header(kind, count))?;
+    out.extend_from_slice(&encode_header(kind, count))?;
     let word = out.len();
     out.resize(word + WORD * entries, 0)?;
     Ok(OpenContainer { start, word })
@@ -313,7 +313,7 @@ pub fn container_of_runs(
         .saturating_add(runs_len(back))
         .saturating_add(WORD);
     let mut out = Vec::with_capacity(alloc, capacity)?;
-    out.extend_from_slice(&word_of_header(kind, total))?;
+    out.extend_from_slice(&encode_header(kind, total))?;
     push_words(&mut out, front)?;
     push_words(&mut out, back)?;
     push_contents(&mut out, front)?;

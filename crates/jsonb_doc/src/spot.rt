@@ -17,7 +17,7 @@ use crate::error::Error;
 use crate::item::Item;
 use crate::key_search::find_key;
 use crate::layout::{EntryKind, WORD};
-use crate::lengths::{entry_behind, skip_contents};
+use crate::lengths::{entry_at_offset, skip_contents};
 use crate::short_number::ShortNumber;
 use crate::spot_iter::SpotIter;
 
@@ -278,7 +278,7 @@ pub fn field_spot(bytes: &[u8], spot: Spot, name: &str) -> Result<Option<Spot>, 
     let Some(values) = skip_contents(words_behind, bytes_behind) else {
         return Err(Error::InvalidJsonb);
     };
-    let Some(value) = entry_behind(parts.value_words, passed, values) else {
+    let Some(value) = entry_at_offset(parts.value_words, passed, values) else {
         return Err(Error::InvalidJsonb);
     };
     let kind = value.kind;

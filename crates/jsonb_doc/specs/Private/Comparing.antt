@@ -30,6 +30,6 @@ told_parts (Told answer) = 0
 told_parts (As v w) = parts v.now
 
 -- nothing is left
-abbrev pub IsTold : Compared → Type 0
-IsTold (Told answer) = ⊤
-IsTold (As v w) = ⊥
+abbrev pub IsDecided : Compared → Type 0
+IsDecided (Told answer) = ⊤
+IsDecided (As v w) = ⊥

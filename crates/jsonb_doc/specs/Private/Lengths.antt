@@ -4,8 +4,8 @@ use Rattle.std.specs.Borrow.{Bor}
 use Rattle.jsonb_doc.specs.Format.{HasFirstEntry, entry_word, AreKeys, key_words, key_bytes}
 
 -- if this is the word of an entry, the entry has this kind, and a content of this length
-abbrev pub TellsKindAndLength : List ℕ → ℕ → ℕ → Type 0
-TellsKindAndLength word kind len =
+abbrev pub HasEntryWordFields : List ℕ → ℕ → ℕ → Type 0
+HasEntryWordFields word kind len =
     (k l : ℕ) → k < 8 → l < 2 ^ 28 → word ≡ entry_word k l → (kind ≡ k) × (len ≡ l)
 
 -- the words are those of these contents, which precede the rest

@@ -6,9 +6,9 @@ use Rattle.std.specs.declared.string.String.{String}
 use Rattle.jsonb_doc.specs.Format.{header, object_header, entry_word, key_words, key_bytes}
 use Rattle.jsonb_doc.specs.Kinds.{kind_number}
 use Rattle.jsonb_doc.specs.Encoding.{EntryParts}
-use Rattle.jsonb_doc.specs.declared.kept_entry.KeptEntry.{KeptEntry}
+use Rattle.jsonb_doc.specs.declared.builder_entry.BuilderEntry.{BuilderEntry}
 
-abbrev pub entry_parts : KeptEntry → EntryParts
+abbrev pub entry_parts : BuilderEntry → EntryParts
 entry_parts e = (kind_number e.kind, e.content.items)
 
 -- the entry is within the limits of the format
@@ -16,11 +16,11 @@ abbrev pub FitsEntry : EntryParts → Type 0
 FitsEntry e = (e.0 < 8) × (length e.1 < 2 ^ 28)
 
 -- the pair of an entry of a map
-abbrev pub member : String Global × KeptEntry → List ℕ × EntryParts
+abbrev pub member : String Global × BuilderEntry → List ℕ × EntryParts
 member e = (string_bytes e.0, entry_parts e.1)
 
 -- the key and the entry are within the limits of the format
-abbrev pub FitsMember : String Global × KeptEntry → Type 0
+abbrev pub FitsMember : String Global × BuilderEntry → Type 0
 FitsMember e = (length (string_bytes e.0) < 2 ^ 28) × FitsEntry (entry_parts e.1)
 
 -- ---- bytes

@@ -13,7 +13,7 @@ use super::Spot;
 use crate::encoding::encode_item;
 use crate::error::Error;
 use crate::item::Item;
-use crate::layout::{EntryKind, HeaderKind, MAX_CONTENT, WORD, word_of_entry, word_of_header};
+use crate::layout::{EntryKind, HeaderKind, MAX_CONTENT, WORD, encode_entry_word, encode_header};
 use std::alloc::{AllocError, Global};
 
 /// The greatest length of the content of a short document, in bytes.
@@ -77,8 +77,8 @@ fn short_document(
         (λ v. v.items ≡ header scalar_header 0 ++ (entry_word (kind_number kind) len ++ take len bytes.now)) }
 {
     let mut words = [0; 2 * WORD + SHORT];
-    words[..WORD].copy_from_slice(&word_of_header(HeaderKind::Scalar, 0));
-    words[WORD..2 * WORD].copy_from_slice(&word_of_entry(kind, len));
+    words[..WORD].copy_from_slice(&encode_header(HeaderKind::Scalar, 0));
+    words[WORD..2 * WORD].copy_from_slice(&encode_entry_word(kind, len));
     words[2 * WORD..].copy_from_slice(bytes);
     let mut document = Vec::with_capacity(alloc, 2 * WORD + SHORT)?;
     document.extend_from_slice(&words)?;
@@ -118,8 +118,8 @@ pub fn scalar_document(
         (λ v. v.items ≡ header scalar_header 0 ++ (entry_word (kind_number kind) (length content.now) ++ content.now)) }
 {
     let mut words = [0; 2 * WORD];
-    words[..WORD].copy_from_slice(&word_of_header(HeaderKind::Scalar, 0));
-    words[WORD..].copy_from_slice(&word_of_entry(kind, content.len()));
+    words[..WORD].copy_from_slice(&encode_header(HeaderKind::Scalar, 0));
+    words[WORD..].copy_from_slice(&encode_entry_word(kind, content.len()));
     let mut document = Vec::with_capacity(alloc, 2 * WORD + content.len())?;
     document.extend_from_slice(&words)?;
     document.extend_from_slice(content)?;

@@ -66,7 +66,7 @@ pub fn copy<'a>(alloc: Global, value: &Value<'a>) -> Result<Value<'a>, AllocErro
             }
             Filled::Whole(copy) => match around.pop() {
                 None => return Ok(copy),
-                Some(outer) => filled_behind(outer, copy)?,
+                Some(outer) => resume_fill(outer, copy)?,
             },
         };
     }
@@ -146,7 +146,7 @@ fn fill_object<'v, 'a>(
 }
 
 /// Returns the container with this copy of the missing child, and copies of the children after it.
-fn filled_behind<'v, 'a>(outer: Open<'v, 'a>, copy: Value<'a>) -> Result<Filled<'v, 'a>, AllocError>
+fn resume_fill<'v, 'a>(outer: Open<'v, 'a>, copy: Value<'a>) -> Result<Filled<'v, 'a>, AllocError>
     ensures copies { (seen : Number → spec.Number)
         → IfOk result (λ filled. filled_tree seen filled ≡ with_part seen outer.entry (tree_seen seen copy.entry)) }
     ensures fewer { IfOk result (λ filled. filled_parts filled ≤ left_parts outer.entry) }

@@ -12,7 +12,7 @@ ghost use Rattle.jsonb_doc.specs.Proofs.Equality.{is_equal_equiv};
 ghost use Rattle.jsonb_doc.specs.View.{number_view};
 ghost use Rattle.jsonb_doc.specs.Value.{value_tree};
 ghost use Rattle.jsonb_doc.specs.Private.Parts.{parts, values_parts, entries_parts};
-ghost use Rattle.jsonb_doc.specs.Private.Comparing.{values_same, entries_same, told, told_parts, IsTold};
+ghost use Rattle.jsonb_doc.specs.Private.Comparing.{values_same, entries_same, told, told_parts, IsDecided};
 ghost use Rattle.jsonb_doc.specs.declared.value.equal.Compared.TheVariants.{Told};
 
 use crate::number::Number;
@@ -72,7 +72,7 @@ fn reduced<'v, 'a, 'w, 'b>(
 ) -> Compared<'v, 'a, 'w, 'b>
     ensures same { told result ≡ is_equal (value_tree value.now) (value_tree other.now) }
     ensures fewer { told_parts result ≤ parts value.now }
-    ensures told { 48 ≤ calls → IsTold result }
+    ensures told { 48 ≤ calls → IsDecided result }
 {
     if calls == 0 && matches!(value, Value::Array(_) | Value::Object(_)) {
         return Compared::As(value, other);

@@ -33,12 +33,12 @@ impl<'a> Value<'a> {
             waiting: None,
         });
         while let Some(Remaining { next, waiting }) = remaining {
-            remaining = next.without_a_part(waiting);
+            remaining = next.release_step(waiting);
         }
     }
 
     /// Drops one value. Returns the rest of it and the value that waits.
-    fn without_a_part(self, waiting: Option<Value<'a>>) -> Option<Remaining<'a>>
+    fn release_step(self, waiting: Option<Value<'a>>) -> Option<Remaining<'a>>
         ensures { IfSome result (λ left. remaining left < to_release (parts self.entry) (waiting_parts waiting.entry)) }
     {
         match self.held() {

@@ -12,7 +12,7 @@ ghost use Rattle.jsonb_raw.specs.Private.Entries.{HoldTrees, AreElementsOf};
 
 use crate::functions::parts::{Elements, Entries, EntryWithWord};
 use crate::owned::OwnedJsonb;
-use jsonb_doc::layout::{EntryKind, MAX_CONTENT, WORD, word_of_entry};
+use jsonb_doc::layout::{EntryKind, MAX_CONTENT, WORD, encode_entry_word};
 use jsonb_doc::{Container, Error, StoredEntry, read_container, scalar_document};
 use std::alloc::Global;
 
@@ -112,7 +112,7 @@ impl<'a> EntryWithWord<'a> {
             return Err(Error::TooLarge);
         }
         Ok(EntryWithWord {
-            word: word_of_entry(kind, content.len()),
+            word: encode_entry_word(kind, content.len()),
             content,
         })
     }

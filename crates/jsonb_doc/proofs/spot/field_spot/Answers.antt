@@ -51,23 +51,23 @@ returns-in_default-skip_contents-clause-field c = λ t m.
     m.decodes in
     c.in_default-skip_contents.ensures.rest keys.0 keys.1 keys.2
 
-pub returns-in_default-entry_behind-clause-field : goal.returns-in_default-entry_behind-clause-field
-returns-in_default-entry_behind-clause-field c = λ t m.
+pub returns-in_default-entry_at_offset-clause-field : goal.returns-in_default-entry_at_offset-clause-field
+returns-in_default-entry_at_offset-clause-field c = λ t m.
     let found = rw (c.as_bytes.ensures.value, c.in-Some.is) at c.in_ok-found.ensures.found in
     let v = field_value c.args.bytes.now c.args.spot t m _ c.in_ok-object.ensures.2 (equal_kind _ c.args.spot.kind Container c.ne.ensures c.if-ne.false)
     c.in-Object.parts
     (rw c.in-Object.is at c.in_ok-read_container.ensures.cut) c.args.name.now c.in-Some.words_behind.now c.in-Some.bytes_behind.now found
     c.in-Some-skip_contents.values.now c.in-Some-skip_contents.ensures.rest
     (length c.in-Object.parts.key_words.now - length c.in-Some.words_behind.now - 4) refl any m.whole m.decodes in
-    c.in_default-entry_behind.ensures.entry v.at.parts v.at.left v.at.before v.at.kind v.at.content v.at.ws v.at.cs v.at.begin
+    c.in_default-entry_at_offset.ensures.entry v.at.parts v.at.left v.at.before v.at.kind v.at.content v.at.ws v.at.cs v.at.begin
 
 pub returns-clause-field : goal.returns-clause-field
 returns-clause-field c = λ t m.
     let found = rw (c.as_bytes.ensures.value, c.in-Some.is) at c.in_ok-found.ensures.found in
-    let v = c.in-Some-entry_behind.value in
+    let v = c.in-Some-entry_at_offset.value in
     field_marks c.args.bytes.now c.args.spot t m _ c.in_ok-object.ensures.2 (equal_kind _ c.args.spot.kind Container c.ne.ensures c.if-ne.false)
     c.in-Object.parts
     (rw c.in-Object.is at c.in_ok-read_container.ensures.cut) c.args.name.now c.in-Some.words_behind.now c.in-Some.bytes_behind.now found
     c.in-Some-skip_contents.values.now c.in-Some-skip_contents.ensures.rest
     (length c.in-Object.parts.key_words.now - length c.in-Some.words_behind.now - 4) refl (kind_number v.kind) v.content.now v.other_words.now
-    v.other_contents.now c.in-Some-entry_behind.ensures.entry _ refl refl refl
+    v.other_contents.now c.in-Some-entry_at_offset.ensures.entry _ refl refl refl

@@ -14,8 +14,8 @@ ghost use Rattle.jsonb_raw.specs.Private.Cuts.{FitEntries, HoldEntries, IsPlaceO
 
 use super::entry_place::{ChildEntries, EntryPlace};
 use jsonb_doc::layout::{
-    EntryKind, HeaderKind, MAX_CONTENT, WORD, read_entry_word, split_header, word_of_entry,
-    word_of_header,
+    EntryKind, HeaderKind, MAX_CONTENT, WORD, encode_entry_word, encode_header, read_entry_word,
+    split_header,
 };
 use jsonb_doc::{Error, contents_len};
 use std::alloc::Global;
@@ -49,7 +49,7 @@ fn child_entries(container: &[u8], position: usize) -> Option<ChildEntries>
     if position >= count {
         return None;
     }
-    let header = word_of_header(kind, count - 1);
+    let header = encode_header(kind, count - 1);
     match kind {
         HeaderKind::Array => Some(ChildEntries {
             header,
@@ -191,7 +191,7 @@ fn push_front(
         return Err(Error::InvalidJsonb);
     }
     push_part(out, container, 0, child.word)?;
-    out.extend_from_slice(&word_of_entry(EntryKind::Container, len))?;
+    out.extend_from_slice(&encode_entry_word(EntryKind::Container, len))?;
     push_part(out, container, child.word + WORD, child.start)
 }
 

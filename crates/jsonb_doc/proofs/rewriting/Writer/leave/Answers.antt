@@ -19,7 +19,7 @@ returns-clause-left c = λ form coming around whole w.
     let len = done_len form w.before _ _ w.t d in
     let (front, u, outer, rest) = w.are_around in
     let size : c.saturating_sub-len.result ≡ length d.bytes = omega (arith, len, c.saturating_sub-len.ensures, c.len.ensures) in
-    let word = c.word_of_entry-word.ensures ∙ ap (entry_word container_entry) size in
+    let word = c.encode_entry_word-word.ensures ∙ ap (entry_word container_entry) size in
     let set = c.set_words.ensures.set
     (room_for_one form front _ _ w.t coming u outer container_entry d.bytes _ d.content (omega (arith, size)) word _ d.joined) in
     record {

@@ -12,11 +12,11 @@ pub returns-clause-put : goal.returns-clause-put
 returns-clause-put c = λ form t coming around whole is w.
     let pushed = c.in_ok-extend_from_slice.ensures.items in
     let set = c.set_words.ensures.set
-    (room_for_one form w.before _ _ t coming w.t w.is_open _ _ _ is (omega arith) c.word_of_entry-word.ensures _ pushed) in
+    (room_for_one form w.before _ _ t coming w.t w.is_open _ _ _ is (omega arith) c.encode_entry_word-word.ensures _ pushed) in
     record {
       before = w.before;
       t = w.t;
-      is_open = one_filled form w.before _ _ t coming w.t w.is_open _ _ _ is (omega arith) c.word_of_entry-word.ensures _ _ _ pushed
+      is_open = one_filled form w.before _ _ t coming w.t w.is_open _ _ _ is (omega arith) c.encode_entry_word-word.ensures _ _ _ pushed
           c.set_words.ensures.start set.1 set.2;
       are_around = w.are_around;
       within = set.0 ∙ w.within;

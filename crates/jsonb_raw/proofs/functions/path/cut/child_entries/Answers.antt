@@ -21,7 +21,7 @@ returns-in_err-entry_place-in-Array c = λ form t child h at.
 pub returns-in_ok-entry_place-in-Array : goal.returns-in_ok-entry_place-in-Array
 returns-in_ok-entry_place-in-Array c = λ form t child h at.
     element_entries (number_reader form) c.args.container.now _ _ _ c.in_ok-kind.ensures c.args.position child t (ap header_number c.in-Array.is) h at
-    c.word_of_header-header.result c.in_ok-entry_place-in-Array.field-0 c.word_of_header-header.ensures c.in_ok-entry_place-in-Array.ensures
+    c.encode_header-header.result c.in_ok-entry_place-in-Array.field-0 c.encode_header-header.ensures c.in_ok-entry_place-in-Array.ensures
 
 pub returns-in_err-entry_place-in-Object : goal.returns-in_err-entry_place-in-Object
 returns-in_err-entry_place-in-Object c = λ form t child h at.
@@ -38,7 +38,7 @@ returns-in_err-entry_place-in-Object-2 c = λ form t child h at.
 pub returns-in_ok-entry_place-in-Object-2 : goal.returns-in_ok-entry_place-in-Object-2
 returns-in_ok-entry_place-in-Object-2 c = λ form t child h at.
     member_entries (number_reader form) c.args.container.now _ _ _ c.in_ok-kind.ensures c.args.position child t _ (ap header_number c.in-Object.is) refl h at
-    c.word_of_header-header.result _ c.in_ok-entry_place-in-Object.field-0 c.in_ok-entry_place-in-Object-2.field-0 c.word_of_header-header.ensures refl
+    c.encode_header-header.result _ c.in_ok-entry_place-in-Object.field-0 c.in_ok-entry_place-in-Object-2.field-0 c.encode_header-header.ensures refl
     c.in_ok-entry_place-in-Object.ensures c.in_ok-entry_place-in-Object-2.ensures
 
 pub returns-in-Scalar : goal.returns-in-Scalar

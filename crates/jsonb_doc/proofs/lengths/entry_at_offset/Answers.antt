@@ -1,4 +1,4 @@
-use Rattle.jsonb_doc.proofs.lengths.entry_behind.Goals as goal
+use Rattle.jsonb_doc.proofs.lengths.entry_at_offset.Goals as goal
 
 pub returns-clause-entry : goal.returns-clause-entry
 returns-clause-entry c = λ parts left h.

@@ -5,7 +5,7 @@ use Rattle.jsonb_doc.specs.Value.{tree_seen}
 use Rattle.jsonb_doc.specs.Private.Values.{trees_seen, members_seen}
 use Rattle.jsonb_doc.specs.Private.Copying.{insert_pairs, with_part}
 use Rattle.jsonb_doc.proofs.CopiedValues.{value_copied, member_copied, copies_same}
-use Rattle.jsonb_doc.proofs.value.copy.filled_behind.Goals as goal
+use Rattle.jsonb_doc.proofs.value.copy.resume_fill.Goals as goal
 
 pub returns-in_ok-push-in-Array-clause-copies : goal.returns-in_ok-push-in-Array-clause-copies
 returns-in_ok-push-in-Array-clause-copies c = λ seen.
