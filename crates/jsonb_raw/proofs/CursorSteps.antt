@@ -48,7 +48,7 @@ module _ (form : Form) (ks : List (List ℕ)) (c : KeyCursor) (ahead' : EntryIte
         go [] is t = absurd t
         go (k ∷ rest) is t = record { others = rest; whole = is ∙ ap (λ (l : List ℕ). l ∷ rest) (sym t.0.content.1); left = t.1 }
 
-    pub cursor_next : IsCursorOf form (record { all = c.all; left = ahead'; passed = Some x.content }) ks
+    pub cursor_next : IsCursorOf form (record { all = c.all; left = ahead'; last_key = Some x.content }) ks
     cursor_next =
         let f = first_key in
         let are = rw f.whole at h.are_keys in
@@ -62,18 +62,18 @@ module _ (form : Form) (ks : List (List ℕ)) (c : KeyCursor) (ahead' : EntryIte
           before = are.1;
           decides = λ name less.
               let whole = rw (f.whole, test_of_order x.content.now name Less less) at
-              (h.decides name (passed_before c.passed x.content.now name f.others before less)) in
+              (h.decides name (passed_before c.last_key x.content.now name f.others before less)) in
               whole;
         }
 
     -- the key is the name
-    pub cursor_meets : (name : List ℕ) → IsPassed c.passed name → slice_cmp nat_cmp x.content.now name ≡ Equal → true ≡ list_any (λ key. bytes_eq key name) ks
+    pub cursor_meets : (name : List ℕ) → IsPassed c.last_key name → slice_cmp nat_cmp x.content.now name ≡ Equal → true ≡ list_any (λ key. bytes_eq key name) ks
     cursor_meets name passed same =
         let f = first_key in
         rw (f.whole, test_of_order x.content.now name Equal same) at (h.decides name passed)
 
     -- the key is above the name, and so are those after it
-    pub cursor_misses : (name : List ℕ) → IsPassed c.passed name → slice_cmp nat_cmp x.content.now name ≡ Greater
+    pub cursor_misses : (name : List ℕ) → IsPassed c.last_key name → slice_cmp nat_cmp x.content.now name ≡ Greater
         → false ≡ list_any (λ key. bytes_eq key name) ks
     cursor_misses name passed above =
         let f = first_key in
@@ -83,7 +83,7 @@ module _ (form : Form) (ks : List (List ℕ)) (c : KeyCursor) (ahead' : EntryIte
         sym none ∙ (rw f.whole at (h.decides name passed))
 
   -- no key is after the cursor
-  pub cursor_ends : GivesEntry c.left None ahead' → (name : List ℕ) → IsPassed c.passed name → false ≡ list_any (λ key. bytes_eq key name) ks
+  pub cursor_ends : GivesEntry c.left None ahead' → (name : List ℕ) → IsPassed c.last_key name → false ≡ list_any (λ key. bytes_eq key name) ks
   cursor_ends n name passed = go h.behind (n.takes form (key_trees h.behind) h.left) (h.decides name passed)
     where
       go : (behind : List (List ℕ)) → TakesEntry form (key_trees behind) None ahead'

@@ -6,7 +6,7 @@ use Rattle.jsonb_doc.specs.Payload.{NumberReader}
 use Rattle.jsonb_doc.specs.Format.{header, array_header, object_header, container_entry, HeadedBy, IsContainer, AreMembers, IsContent, AreEntries, AreValues}
 use Rattle.jsonb_doc.specs.Encoding.{EntryParts}
 use Rattle.jsonb_doc.proofs.Containers.{HeadedBy-unique, count-values}
-use Rattle.jsonb_raw.specs.declared.functions.path.entry_place.EntryPlace.{EntryPlace}
+use Rattle.jsonb_raw.specs.declared.functions.path.entry_range.EntryRange.{EntryRange}
 use Rattle.jsonb_raw.specs.Places.{children}
 use Rattle.jsonb_raw.specs.Private.Cuts.{HoldEntries, IsPlaceOf, AreOfChild}
 use Rattle.jsonb_raw.proofs.PositionLemmas.{count_elements}
@@ -30,7 +30,7 @@ pub record ObjectCase (number_at : NumberReader) (bytes : List ℕ) (kind total 
   pub at : slice_get (elements (values pairs)) n ≡ Some child
   pub inside : n < length (keys pairs)
 
-at_total : (place : EntryPlace) (total total' : ℕ) (front : List EntryParts) (e : EntryParts) → total ≡ total' → IsPlaceOf place total front e
+at_total : (place : EntryRange) (total total' : ℕ) (front : List EntryParts) (e : EntryParts) → total ≡ total' → IsPlaceOf place total front e
     → IsPlaceOf place total' front e
 at_total place total total' front e same is = rw (← same) is
 
@@ -82,7 +82,7 @@ module _ (number_at : NumberReader) (bytes : List ℕ) (kind total : ℕ) (rest 
         missing _ _ _ (element_held number_at a.trees bytes a.container n child a.at)
         (a.counted ∙ element_total number_at a.trees bytes a.container n child a.at) (element_passed number_at a.trees bytes a.container n child a.at)
 
-    pub element_entries : (less : List ℕ) (place : EntryPlace) → less ≡ header kind (total - 1)
+    pub element_entries : (less : List ℕ) (place : EntryRange) → less ≡ header kind (total - 1)
         → ((front back : List EntryParts) (e : EntryParts) → HoldEntries bytes (front ++ e ∷ back) → total ≡ length (front ++ e ∷ back) → n ≡ length front
         → IsPlaceOf place total front e)
         → AreOfChild number_at bytes t n child (record { header = less; key = None; value = place })
@@ -121,7 +121,7 @@ module _ (number_at : NumberReader) (bytes : List ℕ) (kind total : ℕ) (rest 
         missing _ _ _ (value_held number_at o.pairs bytes o.container n child o.at) (twice ∙ value_total number_at o.pairs bytes o.container n child o.at)
         (omega (arith, passed_is, o.counted, value_passed number_at o.pairs bytes o.container n child o.at))
 
-    pub member_entries : (less : List ℕ) (passed : ℕ) (key value : EntryPlace) → less ≡ header kind (total - 1) → passed ≡ total + n
+    pub member_entries : (less : List ℕ) (passed : ℕ) (key value : EntryRange) → less ≡ header kind (total - 1) → passed ≡ total + n
         → ((front back : List EntryParts) (e : EntryParts) → HoldEntries bytes (front ++ e ∷ back) → entries ≡ length (front ++ e ∷ back) → n ≡ length front
         → IsPlaceOf key entries front e)
         → ((front back : List EntryParts) (e : EntryParts) → HoldEntries bytes (front ++ e ∷ back) → entries ≡ length (front ++ e ∷ back) → passed ≡ length

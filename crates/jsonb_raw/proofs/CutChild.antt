@@ -8,7 +8,7 @@ use Rattle.jsonb_doc.specs.Format.{header, array_header, object_header, containe
 use Rattle.jsonb_doc.specs.Encoding.{EntryParts}
 use Rattle.jsonb_doc.specs.Private.ObjectBytes.{words_of_entries, contents_of_entries}
 use Rattle.jsonb_doc.proofs.Containers.{entries_of, count-values}
-use Rattle.jsonb_raw.specs.declared.functions.path.entry_place.EntryPlace.{EntryPlace}
+use Rattle.jsonb_raw.specs.declared.functions.path.entry_range.EntryRange.{EntryRange}
 use Rattle.jsonb_raw.specs.Private.Cuts.{FitEntries, HoldEntries, IsPlaceOf, AreInOrder, AreOfChild, around}
 use Rattle.jsonb_raw.proofs.EntryLists.{changed_trees, changed_pairs, Listed, Split, SplitKeys, listed, joined, joined_values, count_are, split, split_keys, values_changed, key_entries, key-words, key-contents, key-within, key-count, keys-append, words-append, contents-append, length-kept_words, within-front, within-back, within-both}
 use Rattle.jsonb_raw.proofs.CutLemmas.{content_there, content_replaced, entry_within, entry_in_order, entry_left_out, replaced_no_longer, left_out_shorter, both_left_out, both_in_order, both_shorter}
@@ -55,7 +55,7 @@ module _ (number_at : NumberReader) (ts : Trees) (bytes : List ℕ) (h : IsConta
   pub element_held : HoldEntries bytes (cut_entries.front ++ cut_entries.entry ∷ cut_entries.back)
   element_held = record { head = header array_header (count ts); four = refl; within = within; joined = whole }
 
-  pub element_of : (less : List ℕ) (place : EntryPlace) → less ≡ header array_header (count ts - 1)
+  pub element_of : (less : List ℕ) (place : EntryRange) → less ≡ header array_header (count ts - 1)
       → IsPlaceOf place (count ts) cut_entries.front cut_entries.entry
       → AreOfChild number_at bytes (array ts) n child (record { header = less; key = None; value = place })
   element_of less place less_is is =
@@ -184,7 +184,7 @@ entries_by_keys ks changed front es same =
     ) refl
 
 -- a key's entry and its value's
-module _ (bytes head : List ℕ) (kf kb ks : List (List ℕ)) (k : List ℕ) (vf vb : List EntryParts) (e : EntryParts) (key value : EntryPlace) (total : ℕ)
+module _ (bytes head : List ℕ) (kf kb ks : List (List ℕ)) (k : List ℕ) (vf vb : List EntryParts) (e : EntryParts) (key value : EntryRange) (total : ℕ)
     (keys_are : ks ≡ kf ++ k ∷ kb) (four : length head ≡ 4)
     (is : bytes ≡ head ++ (words_of_entries (key_entries kf ++ (text_entry, k) ∷ ((key_entries kb ++ vf) ++ e ∷ vb))
     ++ contents_of_entries (key_entries kf ++ (text_entry, k) ∷ ((key_entries kb ++ vf) ++ e ∷ vb))))
@@ -394,7 +394,7 @@ module _ (number_at : NumberReader) (ps : Pairs) (bytes : List ℕ)
       ++ (words_of_entries (before_value ++ cut_values.entry ∷ cut_values.back) ++ contents_of_entries (before_value ++ cut_values.entry ∷ cut_values.back))
   value_joined = regrouped bytes (header object_header (length (keys ps))) _ _ _ _ entries_joined refl refl by_value
 
-  pub member_of : (less : List ℕ) (key value : EntryPlace) → less ≡ header object_header (length (keys ps) - 1)
+  pub member_of : (less : List ℕ) (key value : EntryRange) → less ≡ header object_header (length (keys ps) - 1)
       → IsPlaceOf key (2 * length (keys ps)) (key_entries cut_keys.front) (text_entry, cut_keys.key)
       → IsPlaceOf value (2 * length (keys ps)) before_value cut_values.entry
       → AreOfChild number_at bytes (object ps) n child (record { header = less; key = Some key; value = value })

@@ -5,7 +5,7 @@ use Rattle.std.proofs.lemmas.List.{length-append, take_at, drop_at, append-nil}
 use Rattle.jsonb_doc.specs.Format.{container_entry, entry_word}
 use Rattle.jsonb_doc.specs.Encoding.{EntryParts}
 use Rattle.jsonb_doc.specs.Private.ObjectBytes.{words_of_entries, contents_of_entries}
-use Rattle.jsonb_raw.specs.declared.functions.path.entry_place.EntryPlace.{EntryPlace}
+use Rattle.jsonb_raw.specs.declared.functions.path.entry_range.EntryRange.{EntryRange}
 use Rattle.jsonb_raw.specs.Private.Cuts.{IsPlaceOf, LiesWithin, AreInOrder, content_at, with_content, around}
 use Rattle.jsonb_raw.proofs.EntryLists.{words-append, contents-append, length-kept_words}
 
@@ -26,13 +26,13 @@ slice_end bytes front part a is from =
 -- ---- one entry
 
 -- the parts of the bytes around an entry
-pub record Around (bytes : List ℕ) (place : EntryPlace) (head words_before words_behind contents_before contents_behind : List ℕ) : Type 0 where
+pub record Around (bytes : List ℕ) (place : EntryRange) (head words_before words_behind contents_before contents_behind : List ℕ) : Type 0 where
   pub before_word : slice_range bytes 0 place.word ≡ head ++ words_before
   pub behind_head : slice_range bytes 4 place.word ≡ words_before
   pub between : slice_range bytes (place.word + 4) place.start ≡ words_behind ++ contents_before
   pub behind : slice_range bytes place.end (length bytes) ≡ contents_behind
 
-module _ (bytes head wf w wb cf e cb : List ℕ) (place : EntryPlace) (is : bytes ≡ head ++ ((wf ++ (w ++ wb)) ++ (cf ++ (e ++ cb)))) (four : length head ≡ 4)
+module _ (bytes head wf w wb cf e cb : List ℕ) (place : EntryRange) (is : bytes ≡ head ++ ((wf ++ (w ++ wb)) ++ (cf ++ (e ++ cb)))) (four : length head ≡ 4)
     (word_four : length w ≡ 4)
     (word : place.word ≡ 4 + length wf) (start : place.start ≡ 8 + length wf + length wb + length cf) (end : place.end ≡ place.start + length e) where
   pub parts_around : Around bytes place head wf wb cf cb
@@ -51,7 +51,7 @@ module _ (bytes head wf w wb cf e cb : List ℕ) (place : EntryPlace) (is : byte
 
 -- ---- the content of one entry replaced, or the entry left out
 
-module _ (bytes head : List ℕ) (front back : List EntryParts) (e : EntryParts) (place : EntryPlace) (total : ℕ)
+module _ (bytes head : List ℕ) (front back : List EntryParts) (e : EntryParts) (place : EntryRange) (total : ℕ)
     (is : bytes ≡ head ++ (words_of_entries (front ++ e ∷ back) ++ contents_of_entries (front ++ e ∷ back)))
     (four : length head ≡ 4) (same : total ≡ length (front ++ e ∷ back)) (at : IsPlaceOf place total front e) where
   in_parts : bytes ≡ head ++
@@ -108,7 +108,7 @@ module _ (bytes head : List ℕ) (front back : List EntryParts) (e : EntryParts)
 
 -- ---- a key's entry and its value's left out
 
-module _ (bytes head kw k m v vw kc x mc e cb : List ℕ) (key value : EntryPlace)
+module _ (bytes head kw k m v vw kc x mc e cb : List ℕ) (key value : EntryRange)
     (is : bytes ≡ head ++ ((kw ++ (k ++ (m ++ (v ++ vw)))) ++ (kc ++ (x ++ (mc ++ (e ++ cb))))))
     (four : length head ≡ 4) (key_four : length k ≡ 4) (value_four : length v ≡ 4) (key_word : key.word ≡ 4 + length kw)
     (value_word : value.word ≡ 8 + length kw + length m)

@@ -9,11 +9,11 @@ use Rattle.jsonb_doc.specs.Payload.{NumberReader}
 use Rattle.jsonb_doc.specs.Answer.{IsOutOfMemory}
 use Rattle.jsonb_doc.specs.declared.error.Error.{Error}
 use Rattle.jsonb_doc.specs.Format.{container_entry, entry_word, IsContent}
-use Rattle.jsonb_raw.specs.declared.functions.path.entry_place.EntryPlace.{EntryPlace}
-use Rattle.jsonb_raw.specs.declared.functions.path.entry_place.ChildEntries.{ChildEntries}
+use Rattle.jsonb_raw.specs.declared.functions.path.entry_range.EntryRange.{EntryRange}
+use Rattle.jsonb_raw.specs.declared.functions.path.entry_range.ChildEntries.{ChildEntries}
 use Rattle.jsonb_raw.specs.Places.{children, tree_at}
 use Rattle.jsonb_raw.specs.Deletes.{change_child, remove_at}
-use Rattle.jsonb_raw.specs.Private.Cuts.{AreOfChild, AreInOrder, LiesWithin, LeadTo, LeadInto, content_at, with_content, without_child, entries_size, front_of, fronts, starts, IsPushed}
+use Rattle.jsonb_raw.specs.Private.Cuts.{AreOfChild, AreInOrder, LiesWithin, LeadTo, LeadInto, content_at, with_content, without_child, entries_size, front_of, fronts, starts, AppendsContainer}
 use Rattle.jsonb_raw.proofs.Lists.{none_behind}
 use Rattle.jsonb_raw.proofs.PushSteps.{as_container, front}
 
@@ -25,12 +25,12 @@ drop_number xs i inside = rw add-one (drop-cons xs i 0 inside)
 -- ---- the walk down
 
 -- ranges that lead on from here lead from the whole, after those so far
-pub record WalkedInto (number_at : NumberReader) (bytes : List ℕ) (t : Tree) (positions : List ℕ) (places : List EntryPlace) (inner : List ℕ)
+pub record WalkedInto (number_at : NumberReader) (bytes : List ℕ) (t : Tree) (positions : List ℕ) (places : List EntryRange) (inner : List ℕ)
     (left : List ℕ) (end : Tree) (last : ℕ) : Type 0 where
   pub u : Tree
   pub content : IsContent number_at u container_entry inner
   pub there : tree_at (left ++ last ∷ []) u ≡ Some end
-  pub more : (ps : List EntryPlace) (inner' : List ℕ) (v : Tree) → LeadTo number_at inner u left ps inner' v
+  pub more : (ps : List EntryRange) (inner' : List ℕ) (v : Tree) → LeadTo number_at inner u left ps inner' v
       → LeadTo number_at bytes t positions (places ++ ps) inner' v
 
 -- a tree with something at some positions is a container
@@ -53,7 +53,7 @@ next_child u end left p rest last is there = by (slice_get (children u) p) refl 
     by None at e = let bad : None ≡ Some end = e in absurd (cc)
     by (Some x) at e = record { child = x; at = at; below = e }
 
-pub walked_on : (number_at : NumberReader) (bytes : List ℕ) (t end : Tree) (positions left : List ℕ) (places places' : List EntryPlace) (inner content : List ℕ)
+pub walked_on : (number_at : NumberReader) (bytes : List ℕ) (t end : Tree) (positions left : List ℕ) (places places' : List EntryRange) (inner content : List ℕ)
     (last : ℕ) (w : WalkedInto number_at bytes t positions places inner left end last) (p : ℕ) (rest : List ℕ) → left ≡ p ∷ rest
     → (f : NextChild w.u end p rest last) (entries : ChildEntries) → AreOfChild number_at inner w.u p f.child entries → content ≡ content_at inner entries.value
     → places' ≡ places ++ entries.value ∷ [] → WalkedInto number_at bytes t positions places' content rest end last
@@ -69,7 +69,7 @@ walked_on number_at bytes t end positions left places places' inner content last
           (rw is (f.child, record { entries = entries; value_is = refl; of_child = a; container = inside }, rw same at walk)));
     }
 
-pub walked_whole : (number_at : NumberReader) (bytes : List ℕ) (t end : Tree) (positions left : List ℕ) (places : List EntryPlace) (inner : List ℕ) (last : ℕ)
+pub walked_whole : (number_at : NumberReader) (bytes : List ℕ) (t end : Tree) (positions left : List ℕ) (places : List EntryRange) (inner : List ℕ) (last : ℕ)
     → WalkedInto number_at bytes t positions places inner left end last → left ≡ [] → LeadInto number_at bytes t positions places inner last
 walked_whole number_at bytes t end positions left places inner last w none =
     let there : tree_at (last ∷ []) w.u ≡ Some end = rw none at w.there in
@@ -77,7 +77,7 @@ walked_whole number_at bytes t end positions left places inner last w none =
     record {
       u = w.u;
       child = f.0;
-      walk = subst (λ (ps : List EntryPlace). LeadTo number_at bytes t positions ps inner w.u) (append-nil places) (w.more [] inner w.u (rw none (refl, refl)));
+      walk = subst (λ (ps : List EntryRange). LeadTo number_at bytes t positions ps inner w.u) (append-nil places) (w.more [] inner w.u (rw none (refl, refl)));
       content = w.content;
       there = f.1;
     }
@@ -92,7 +92,7 @@ walked_whole number_at bytes t end positions left places inner last w none =
 
 -- ---- what is written on the way
 
-pub record FrontsLeft (number_at : NumberReader) (bytes : List ℕ) (places : List EntryPlace) (inner : List ℕ) (u : Tree) (removed start : ℕ) (out : List ℕ)
+pub record FrontsLeft (number_at : NumberReader) (bytes : List ℕ) (places : List EntryRange) (inner : List ℕ) (u : Tree) (removed start : ℕ) (out : List ℕ)
     (start_wanted : ℕ) (wanted : List ℕ) : Type 0 where
   pub t : Tree
   pub ns : List ℕ
@@ -102,7 +102,7 @@ pub record FrontsLeft (number_at : NumberReader) (bytes : List ℕ) (places : Li
   pub start_is : start + starts places ≡ start_wanted
 
 -- the first of the places that are left
-pub record NextFront (number_at : NumberReader) (bytes : List ℕ) (p : EntryPlace) (ps : List EntryPlace) (inner : List ℕ) (u : Tree) (removed start : ℕ)
+pub record NextFront (number_at : NumberReader) (bytes : List ℕ) (p : EntryRange) (ps : List EntryRange) (inner : List ℕ) (u : Tree) (removed start : ℕ)
     (out : List ℕ) (start_wanted : ℕ) (wanted : List ℕ) : Type 0 where
   pub child : Tree
   pub ns : List ℕ
@@ -116,7 +116,7 @@ pub record NextFront (number_at : NumberReader) (bytes : List ℕ) (p : EntryPla
   pub start_is : start + (p.start + starts ps) ≡ start_wanted
 
 -- the innermost content is within the bytes, in the ranges
-pub inner_within : (number_at : NumberReader) (bytes : List ℕ) (t : Tree) (ns : List ℕ) (ps : List EntryPlace) (inner : List ℕ) (u : Tree)
+pub inner_within : (number_at : NumberReader) (bytes : List ℕ) (t : Tree) (ns : List ℕ) (ps : List EntryRange) (inner : List ℕ) (u : Tree)
     → LeadTo number_at bytes t ns ps inner u → starts ps + length inner ≤ length bytes
 inner_within number_at bytes t [] [] inner u h = omega (arith, ap length h.0)
 inner_within number_at bytes t [] (p ∷ ps) inner u h = absurd h
@@ -126,8 +126,8 @@ inner_within number_at bytes t (n ∷ ns) (p ∷ ps) inner u h =
     let within : LiesWithin p (length bytes) = rw h.1.value_is at h.1.of_child.within in
     omega (arith, below, within.0, within.1, within.2, length-between bytes p.start p.end within.2)
 
-pub next_front : (number_at : NumberReader) (bytes : List ℕ) (places : List EntryPlace) (inner : List ℕ) (u : Tree) (removed start : ℕ) (out : List ℕ)
-    (start_wanted : ℕ) (wanted : List ℕ) (p : EntryPlace) (ps : List EntryPlace) → places ≡ p ∷ ps
+pub next_front : (number_at : NumberReader) (bytes : List ℕ) (places : List EntryRange) (inner : List ℕ) (u : Tree) (removed start : ℕ) (out : List ℕ)
+    (start_wanted : ℕ) (wanted : List ℕ) (p : EntryRange) (ps : List EntryRange) → places ≡ p ∷ ps
     → FrontsLeft number_at bytes places inner u removed start out start_wanted wanted
     → NextFront number_at bytes p ps inner u removed start out start_wanted wanted
 next_front number_at bytes places inner u removed start out start_wanted wanted p ps is f =
@@ -154,7 +154,7 @@ next_front number_at bytes places inner u removed start out start_wanted wanted 
         }
 
 -- with its front written, the others are left
-pub fronts_on : (number_at : NumberReader) (bytes content : List ℕ) (p : EntryPlace) (ps : List EntryPlace) (inner : List ℕ) (u : Tree)
+pub fronts_on : (number_at : NumberReader) (bytes content : List ℕ) (p : EntryRange) (ps : List EntryRange) (inner : List ℕ) (u : Tree)
     (removed start start' : ℕ) (out out' : List ℕ) (start_wanted : ℕ) (wanted : List ℕ)
     → NextFront number_at bytes p ps inner u removed start out start_wanted wanted → content ≡ content_at bytes p
     → out' ≡ out ++ front_of bytes p removed → start' ≡ start + p.start
@@ -198,7 +198,7 @@ rest_of bytes start end k ordered within inside =
     ∙ sym (drop-append-le k (slice_range bytes start end) (drop end bytes) (omega (arith, len, inside)))
     ∙ ap (drop k) (sym (drop_split bytes start end ordered)) ∙ drop-drop k start bytes
 
-pub all_cut : (number_at : NumberReader) (bytes : List ℕ) (t : Tree) (ns : List ℕ) (ps : List EntryPlace) (inner : List ℕ) (u : Tree) (last removed : ℕ)
+pub all_cut : (number_at : NumberReader) (bytes : List ℕ) (t : Tree) (ns : List ℕ) (ps : List EntryRange) (inner : List ℕ) (u : Tree) (last removed : ℕ)
     (new : List ℕ) → LeadTo number_at bytes t ns ps inner u → IsContent number_at (change_child last (remove_at []) u) container_entry new
     → length new + removed ≡ length inner
     → IsCut number_at (cut_at ns last t) bytes removed (fronts bytes ps removed ++ (new ++ drop (starts ps + length inner) bytes))
@@ -215,9 +215,9 @@ all_cut number_at bytes t (n ∷ ns) (p ∷ ps) inner u last removed new h is si
     let len = length-between bytes p.start p.end within.2 in
     let inside = inner_within number_at (content_at bytes p) h.0 ns ps inner u h.2 in
     let changed : IsContent number_at (change_child n (remove_at (ns ++ last ∷ [])) t) container_entry (with_content bytes p content) =
-    subst (λ (q : EntryPlace). IsContent number_at (change_child n (remove_at (ns ++ last ∷ [])) t) container_entry (with_content bytes q content)) h.1.value_is
+    subst (λ (q : EntryRange). IsContent number_at (change_child n (remove_at (ns ++ last ∷ [])) t) container_entry (with_content bytes q content)) h.1.value_is
     (h.1.of_child.changed (remove_at (ns ++ last ∷ [])) (cut_at ns last h.0) content (cut_is ns last h.0) below.content
-    (omega (arith, below.size, ap (λ (q : EntryPlace). length (content_at bytes q)) h.1.value_is))) in
+    (omega (arith, below.size, ap (λ (q : EntryRange). length (content_at bytes q)) h.1.value_is))) in
     let word : length content ≡ p.end - p.start - removed = omega (arith, below.size, len) in
     let tail = rest_of bytes p.start p.end (starts ps + length inner) within.1 within.2 (omega (arith, inside, len)) in
     let index : p.start + (starts ps + length inner) ≡ (p.start + starts ps) + length inner = omega arith in
@@ -249,7 +249,7 @@ pub entries_gone : (bytes : List ℕ) (child : ChildEntries) → length child.he
     → length (without_child bytes child) + entries_size child ≡ length bytes
 entries_gone bytes child four ordered = by child.key ordered
   where
-    by : (key : Option EntryPlace) → AreInOrder key child.value (length bytes)
+    by : (key : Option EntryRange) → AreInOrder key child.value (length bytes)
         → length (without_child bytes (record child { key = key })) + entries_size (record child { key = key }) ≡ length bytes
     by None o =
         let a = length-between bytes 4 child.value.word (omega (arith, o.0, o.1.0, o.1.1, o.1.2)) in
@@ -264,12 +264,12 @@ entries_gone bytes child four ordered = by child.key ordered
         let e = length-between bytes child.value.end (length bytes) (omega arith) in
         simp length-append (omega (arith, four, a, b, c, d, e, o.0, o.1, o.2, o.3, o.4, o.5, o.6))
 
-pub without_pushed : (number_at : NumberReader) (bytes : List ℕ) (t left : Tree) (ns : List ℕ) (ps : List EntryPlace) (inner : List ℕ) (last removed : ℕ)
+pub without_pushed : (number_at : NumberReader) (bytes : List ℕ) (t left : Tree) (ns : List ℕ) (ps : List EntryRange) (inner : List ℕ) (last removed : ℕ)
     (new before fronted cut after : List ℕ) (from : ℕ) (r : Result (Unit {0}) Error)
     → IsCut number_at (cut_at ns last t) bytes removed (fronts bytes ps removed ++ (new ++ drop (starts ps + length inner) bytes)) → cut_at ns last t ≡ left
     → fronted ≡ before ++ fronts bytes ps removed → cut ≡ fronted ++ new → from ≡ starts ps + length inner → from ≤ length bytes
     → MatchResult r (λ _. after ≡ cut ++ slice_range bytes from (length bytes)) IsOutOfMemory
-    → MatchResult r (λ _. IsPushed number_at left (length bytes) before after) IsOutOfMemory
+    → MatchResult r (λ _. AppendsContainer number_at left (length bytes) before after) IsOutOfMemory
 without_pushed number_at bytes t left ns ps inner last removed new before fronted cut after from (Err e) made is first then at within h = h
 without_pushed number_at bytes t left ns ps inner last removed new before fronted cut after from (Ok x) made is first then at within h =
     record {

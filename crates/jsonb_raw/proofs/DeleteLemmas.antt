@@ -9,7 +9,7 @@ use Rattle.jsonb_doc.proofs.Containers.{array_document, object_document}
 use Rattle.jsonb_keypath.specs.KeyPathGrammar.{Key}
 use Rattle.jsonb_raw.specs.Places.{children, location, tree_at}
 use Rattle.jsonb_raw.specs.Deletes.{change_child, remove_at, without, MeetNoPart}
-use Rattle.jsonb_raw.specs.Private.Cuts.{IsPushed}
+use Rattle.jsonb_raw.specs.Private.Cuts.{AppendsContainer}
 use Rattle.jsonb_raw.proofs.GoneLemmas.{first_met}
 
 -- the place that was found, or none
@@ -85,7 +85,7 @@ part_out steps t (n ∷ ns) form bytes some e d =
     record { end = p.0; there = p.1; left = change_child n (remove_at ns) t; out = refl; is = rw e refl; content = root_container form bytes t p.0 n ns p.1 d }
 
 -- the bytes that were pushed are a document
-pub pushed_decodes : (form : Form) (left wanted : Tree) (most : ℕ) (before after made : List ℕ) → IsPushed (number_reader form) left most before after
+pub pushed_decodes : (form : Form) (left wanted : Tree) (most : ℕ) (before after made : List ℕ) → AppendsContainer (number_reader form) left most before after
     → before ≡ [] → made ≡ after → wanted ≡ left → Decodes form made wanted
 pushed_decodes form left wanted most before after made p none is same =
     let made_is : made ≡ p.bytes = is ∙ p.joined ∙ ap (λ (w : List ℕ). w ++ p.bytes) none in

@@ -15,7 +15,7 @@ use Rattle.jsonb_doc.specs.Equal.{is_equal}
 use Rattle.jsonb_doc.specs.Proofs.Equality.{equal_from_test, is_equal-true}
 use Rattle.jsonb_raw.specs.EqualityKey.{equality_key}
 use Rattle.jsonb_raw.specs.Sets.{count_of, is_shared}
-use Rattle.jsonb_raw.specs.Private.SetCounts.{key_cmp, counted, one_at, with_key, CountsKeys, keeps, CountsBehind}
+use Rattle.jsonb_raw.specs.Private.SetCounts.{key_cmp, counted, one_at, with_key, CountsKeys, keeps, CountsAfter}
 use Rattle.jsonb_raw.specs.declared.functions.array.counts.KeyCounts.{KeyCounts}
 use Rattle.jsonb_raw.specs.declared.functions.array.sets.SetOperation.{SetOperation}
 use Rattle.jsonb_raw.specs.declared.functions.array.sets.SetOperation.TheVariants.{First, Shared, Unshared}
@@ -99,7 +99,7 @@ more_left : (a b : ℕ) → nat_lt 0 (a - b) ≡ nat_lt b a
 more_left a b = grind (arith, nat_tests)
 
 module _ (m : KeyCounts) (other before : List Tree) (t : Tree) (key : Vec ℕ Global) (f : Fits t) (e : key.items ≡ equality_key t) where
-  first_test : CountsBehind First m other before → nat_eq (counted m key) 0 ≡ keeps First other (before, t)
+  first_test : CountsAfter First m other before → nat_eq (counted m key) 0 ≡ keeps First other (before, t)
   first_test h = ap (λ n. nat_eq n 0) (h.counts key ∙ with_key-equality_key t before key f h.fit_before e)
 
   left_test : counted m key ≡ with_key key other - with_key key before → AllByRecursion Fits other → AllByRecursion Fits before
@@ -108,14 +108,14 @@ module _ (m : KeyCounts) (other before : List Tree) (t : Tree) (key : Vec ℕ Gl
       ap (nat_lt 0) (left ∙ ap₂ (λ a b. a - b) (with_key-equality_key t other key f all e) (with_key-equality_key t before key f all_before e))
       ∙ more_left (count_of t other) (count_of t before)
 
-  pub test_first : (kind : SetOperation) → kind ≡ First → CountsBehind kind m other before → nat_eq (counted m key) 0 ≡ keeps kind other (before, t)
+  pub test_first : (kind : SetOperation) → kind ≡ First → CountsAfter kind m other before → nat_eq (counted m key) 0 ≡ keeps kind other (before, t)
   test_first kind is = rw is first_test
 
-  pub test_shared : (kind : SetOperation) → kind ≡ Shared → CountsBehind kind m other before → nat_lt 0 (counted m key) ≡ keeps kind other (before, t)
-  test_shared kind is = rw is (λ (h : CountsBehind Shared m other before). left_test (h.counts key) h.fit_other h.fit_before)
+  pub test_shared : (kind : SetOperation) → kind ≡ Shared → CountsAfter kind m other before → nat_lt 0 (counted m key) ≡ keeps kind other (before, t)
+  test_shared kind is = rw is (λ (h : CountsAfter Shared m other before). left_test (h.counts key) h.fit_other h.fit_before)
 
-  pub test_unshared : (kind : SetOperation) → kind ≡ Unshared → CountsBehind kind m other before → not (nat_lt 0 (counted m key)) ≡ keeps kind other (before, t)
-  test_unshared kind is = rw is (λ (h : CountsBehind Unshared m other before). ap not (left_test (h.counts key) h.fit_other h.fit_before))
+  pub test_unshared : (kind : SetOperation) → kind ≡ Unshared → CountsAfter kind m other before → not (nat_lt 0 (counted m key)) ≡ keeps kind other (before, t)
+  test_unshared kind is = rw is (λ (h : CountsAfter Unshared m other before). ap not (left_test (h.counts key) h.fit_other h.fit_before))
 
 -- ---- counting
 
@@ -150,8 +150,8 @@ nothing_met : (n w : ℕ) → n ≡ w → n ≡ w - 0
 nothing_met n w e = omega arith
 
 -- before the first element all of the other list is left
-pub shared_begun : (m : KeyCounts) (other : List Tree) → CountsKeys m other → AllByRecursion Fits other → CountsBehind Shared m other []
+pub shared_begun : (m : KeyCounts) (other : List Tree) → CountsKeys m other → AllByRecursion Fits other → CountsAfter Shared m other []
 shared_begun m other counts fit = record { counts = λ key. nothing_met (counted m key) (with_key key other) (counts key); fit_other = fit; fit_before = tt }
 
-pub unshared_begun : (m : KeyCounts) (other : List Tree) → CountsKeys m other → AllByRecursion Fits other → CountsBehind Unshared m other []
+pub unshared_begun : (m : KeyCounts) (other : List Tree) → CountsKeys m other → AllByRecursion Fits other → CountsAfter Unshared m other []
 unshared_begun m other counts fit = record { counts = λ key. nothing_met (counted m key) (with_key key other) (counts key); fit_other = fit; fit_before = tt }

@@ -17,7 +17,7 @@ use Rattle.jsonb_raw.specs.Arrays.{as_elements}
 use Rattle.jsonb_doc.specs.Equal.{is_equal}
 use Rattle.jsonb_doc.specs.Proofs.Equality.{is_equal_equiv}
 use Rattle.jsonb_raw.specs.Sets.{Occurrence, occurrences, overlap}
-use Rattle.jsonb_raw.specs.Private.SetCounts.{keeps, kept_one, CountsBehind}
+use Rattle.jsonb_raw.specs.Private.SetCounts.{keeps, kept_one, CountsAfter}
 use Rattle.jsonb_raw.specs.Private.Entries.{HoldTrees, AreElementsOf, RunsHold, IsFirst, TakesFirst, Holding}
 use Rattle.jsonb_doc.specs.declared.cursor.Entries.{Entries}
 use Rattle.jsonb_raw.specs.declared.functions.array.counts.KeyCounts.{KeyCounts}
@@ -102,12 +102,12 @@ pub record KeptLeft (form : Form) (kind : SetOperation) (m : KeyCounts) (other :
   pub held : List Tree
   pub few : length before + length left < 2 ^ 63
   pub fit : AllByRecursion Fits left
-  pub behind : CountsBehind kind m other before
+  pub behind : CountsAfter kind m other before
   pub holds : HoldsElements form parts held
   pub joined : held ++ kept_behind kind other before left ≡ whole
 
 pub KeptLeft-all : (form : Form) (kind : SetOperation) (m : KeyCounts) (other : List Tree) (parts : Parts) (ts : List Tree) → parts ≡ no_parts → length ts < 2 ^ 63
-    → AllByRecursion Fits ts → CountsBehind kind m other []
+    → AllByRecursion Fits ts → CountsAfter kind m other []
     → KeptLeft form kind m other parts ts (kept_behind kind other [] ts)
 KeptLeft-all form kind m other parts ts is few fit behind =
     record { before = []; held = []; few = omega arith; fit = fit; behind = behind; holds = rw is (refl, refl); joined = refl }
@@ -126,7 +126,7 @@ module _ (form : Form) (kind : SetOperation) (m : KeyCounts) (other : List Tree)
   pub few_before : length h.before < 2 ^ 63
   few_before = let few : length h.before + length (first ∷ rest) < 2 ^ 63 = h.few in omega arith
 
-  pub KeptLeft-next : (n : KeyCounts) (after : Parts) → CountsBehind kind n other (first ∷ h.before)
+  pub KeptLeft-next : (n : KeyCounts) (after : Parts) → CountsAfter kind n other (first ∷ h.before)
       → HoldsElements form after (h.held ++ kept_one kind other (h.before, first)) → KeptLeft form kind n other after rest whole
   KeptLeft-next n after behind holds = record {
     before = first ∷ h.before;
@@ -167,12 +167,12 @@ pub record KeptRuns (form : Form) (kind : SetOperation) (m : KeyCounts) (other :
   pub rest : List Tree
   pub few : length before + length rest < 2 ^ 63
   pub fit : AllByRecursion Fits rest
-  pub behind : CountsBehind kind m other before
+  pub behind : CountsAfter kind m other before
   pub holds : Holding form runs run left held rest
   pub joined : held ++ kept_behind kind other before rest ≡ whole
 
 pub KeptRuns-all : (form : Form) (kind : SetOperation) (m : KeyCounts) (other : List Tree) (runs : List Entries) (entries : Entries) (ts : List Tree) → runs ≡ []
-    → HoldTrees form entries ts → AllByRecursion Fits ts → length ts < 2 ^ 63 → CountsBehind kind m other []
+    → HoldTrees form entries ts → AllByRecursion Fits ts → length ts < 2 ^ 63 → CountsAfter kind m other []
     → KeptRuns form kind m other runs entries entries (kept_behind kind other [] ts)
 KeptRuns-all form kind m other runs entries ts is h fit few behind = record {
   before = [];
@@ -221,7 +221,7 @@ module _ (form : Form) (kind : SetOperation) (m : KeyCounts) (other : List Tree)
   pub next_few : (n : Next) → length h.before < 2 ^ 63
   next_few n = let few : length h.before + length (n.t ∷ n.ts) < 2 ^ 63 = n.few in omega arith
 
-  pub KeptRuns-kept : (n : Next) (after : KeyCounts) → keeps kind other (h.before, n.t) ≡ true → CountsBehind kind after other (n.t ∷ h.before)
+  pub KeptRuns-kept : (n : Next) (after : KeyCounts) → keeps kind other (h.before, n.t) ≡ true → CountsAfter kind after other (n.t ∷ h.before)
       → KeptRuns form kind after other runs run after_it whole
   KeptRuns-kept n after is behind = record {
     before = n.t ∷ h.before;
@@ -236,7 +236,7 @@ module _ (form : Form) (kind : SetOperation) (m : KeyCounts) (other : List Tree)
   }
 
   pub KeptRuns-dropped : (n : Next) (after : KeyCounts) (runs' : List Entries) → RunsHold form runs' h.held → keeps kind other (h.before, n.t) ≡ false
-      → CountsBehind kind after other (n.t ∷ h.before) → KeptRuns form kind after other runs' after_it after_it whole
+      → CountsAfter kind after other (n.t ∷ h.before) → KeptRuns form kind after other runs' after_it after_it whole
   KeptRuns-dropped n after runs' pushed is behind = record {
     before = n.t ∷ h.before;
     held = h.held;

@@ -58,7 +58,7 @@ impl PackedBytes {
 
     /// Returns these bytes with one before them.
     #[inline(always)]
-    pub fn behind(self, byte: u8) -> PackedBytes
+    pub fn prepend(self, byte: u8) -> PackedBytes
         requires { self.len < 16 }
         ensures bytes { packed_bytes result ≡ byte ∷ packed_bytes self }
         ensures len { result.len ≡ self.len + 1 }

@@ -60,14 +60,14 @@ fn behind_depth(item: PackedBytes, depth: Depth) -> Result<PackedBytes, Error>
             if depth.value > 255 {
                 return Err(Error::TooDeep);
             }
-            Ok(item.behind(depth.value as u8))
+            Ok(item.prepend(depth.value as u8))
         }
         DepthWidth::TwoBytes => {
             if depth.value > 65535 {
                 return Err(Error::TooDeep);
             }
             let [high, low] = (depth.value as u16).to_be_bytes();
-            Ok(item.behind(low).behind(high))
+            Ok(item.prepend(low).prepend(high))
         }
     }
 }
@@ -78,7 +78,7 @@ fn push_packed(out: &mut Vec<u8>, depth: Depth, kind: u8, content: PackedBytes) 
     requires { content.len ≤ 13 }
     ensures { AppendsItem depth kind (packed_bytes content) out.old.items result out.new.items }
 {
-    let item = behind_depth(content.behind(kind), depth)?;
+    let item = behind_depth(content.prepend(kind), depth)?;
     item.push(out)?;
     Ok(())
 }

@@ -34,8 +34,8 @@ pub record IsCursorOf (form : Form) (c : KeyCursor) (ks : List (List ℕ)) : Typ
   pub behind : List (List ℕ)
   pub are_keys : AreKeys behind
   pub left : HasEntriesLeft form c.left (key_trees behind)
-  pub before : IsBefore c.passed behind
-  pub decides : (name : List ℕ) → IsPassed c.passed name
+  pub before : IsBefore c.last_key behind
+  pub decides : (name : List ℕ) → IsPassed c.last_key name
       → list_any (λ key. bytes_eq key name) behind ≡ list_any (λ key. bytes_eq key name) ks
 
 -- each cursor of the search is among these keys

@@ -6,8 +6,8 @@ use Rattle.jsonb_doc.specs.Format.{IsContent, container_entry, entry_word}
 use Rattle.jsonb_doc.specs.Encoding.{EntryParts}
 use Rattle.jsonb_doc.specs.Private.ObjectBytes.{FitsEntry}
 use Rattle.jsonb_doc.specs.Private.ObjectBytes.{words_of_entries, contents_of_entries}
-use Rattle.jsonb_raw.specs.declared.functions.path.entry_place.EntryPlace.{EntryPlace}
-use Rattle.jsonb_raw.specs.declared.functions.path.entry_place.ChildEntries.{ChildEntries}
+use Rattle.jsonb_raw.specs.declared.functions.path.entry_range.EntryRange.{EntryRange}
+use Rattle.jsonb_raw.specs.declared.functions.path.entry_range.ChildEntries.{ChildEntries}
 use Rattle.jsonb_raw.specs.Places.{children}
 use Rattle.jsonb_raw.specs.Deletes.{change_child}
 
@@ -24,23 +24,23 @@ pub record HoldEntries (bytes : List ℕ) (es : List EntryParts) : Type 0 where
   pub joined : bytes ≡ head ++ (words_of_entries es ++ contents_of_entries es)
 
 -- the range of an entry that these others precede
-pub record IsPlaceOf (place : EntryPlace) (total : ℕ) (front : List EntryParts) (e : EntryParts) : Type 0 where
+pub record IsPlaceOf (place : EntryRange) (total : ℕ) (front : List EntryParts) (e : EntryParts) : Type 0 where
   pub word : place.word ≡ 4 + 4 * length front
   pub start : place.start ≡ 4 + 4 * total + length (contents_of_entries front)
   pub end : place.end ≡ 4 + 4 * total + length (contents_of_entries front) + length e.1
 
 -- the content of an entry
-abbrev pub content_at : List ℕ → EntryPlace → List ℕ
+abbrev pub content_at : List ℕ → EntryRange → List ℕ
 content_at bytes place = slice_range bytes place.start place.end
 
 -- the container with another container as the content of an entry
-abbrev pub with_content : List ℕ → EntryPlace → List ℕ → List ℕ
+abbrev pub with_content : List ℕ → EntryRange → List ℕ → List ℕ
 with_content bytes place content =
     slice_range bytes 0 place.word ++ (entry_word container_entry (length content)
     ++ (slice_range bytes (place.word + 4) place.start ++ (content ++ slice_range bytes place.end (length bytes))))
 
 -- the parts of the bytes around the entries of a child
-abbrev pub around : List ℕ → Option EntryPlace → EntryPlace → List ℕ
+abbrev pub around : List ℕ → Option EntryRange → EntryRange → List ℕ
 around bytes None value =
     slice_range bytes 4 value.word ++ (slice_range bytes (value.word + 4) value.start
     ++ slice_range bytes value.end (length bytes))
@@ -54,11 +54,11 @@ abbrev pub without_child : List ℕ → ChildEntries → List ℕ
 without_child bytes child = child.header ++ around bytes child.key child.value
 
 -- the range is within this many bytes, its word before its content
-abbrev pub LiesWithin : EntryPlace → ℕ → Type 0
+abbrev pub LiesWithin : EntryRange → ℕ → Type 0
 LiesWithin place len = (place.word + 4 ≤ place.start) × (place.start ≤ place.end) × (place.end ≤ len)
 
 -- after a header, the words of the entries precede their contents, a key's its value's
-abbrev pub AreInOrder : Option EntryPlace → EntryPlace → ℕ → Type 0
+abbrev pub AreInOrder : Option EntryRange → EntryRange → ℕ → Type 0
 AreInOrder None value len = (4 ≤ value.word) × LiesWithin value len
 AreInOrder (Some key) value len =
     (4 ≤ key.word) × (key.word + 4 ≤ value.word) × (value.word + 4 ≤ key.start) × (key.start ≤ key.end)
@@ -85,7 +85,7 @@ pub record AreOfChild (number_at : NumberReader) (bytes : List ℕ) (t : Tree) (
       → length (with_content bytes entries.value content') ≤ length bytes
 
 -- the length of the entry of a key, if there is one
-abbrev pub key_size : Option EntryPlace → ℕ
+abbrev pub key_size : Option EntryRange → ℕ
 key_size None = 0
 key_size (Some key) = key.end - key.start + 4
 
@@ -97,7 +97,7 @@ entries_size child = (child.value.end - child.value.start + 4) + key_size child.
 
 -- the child at a position is a container, whose content is in this range
 pub record StepsInto (number_at : NumberReader) (bytes : List ℕ) (t : Tree) (n : ℕ) (child : Tree)
-    (place : EntryPlace) : Type 0 where
+    (place : EntryRange) : Type 0 where
   pub entries : ChildEntries
   pub value_is : entries.value ≡ place
   pub of_child : AreOfChild number_at bytes t n child entries
@@ -105,7 +105,7 @@ pub record StepsInto (number_at : NumberReader) (bytes : List ℕ) (t : Tree) (n
 
 -- the children at these positions, each within the one before it, have these places, and the last is this tree with
 -- this content
-abbrev pub LeadTo : NumberReader → List ℕ → Tree → List ℕ → List EntryPlace → List ℕ → Tree → Type 0
+abbrev pub LeadTo : NumberReader → List ℕ → Tree → List ℕ → List EntryRange → List ℕ → Tree → Type 0
 LeadTo number_at bytes t [] [] inner u = (bytes ≡ inner) × (t ≡ u)
 LeadTo number_at bytes t (n ∷ ns) (place ∷ places) inner u =
     (child : Tree) × StepsInto number_at bytes t n child place
@@ -113,7 +113,7 @@ LeadTo number_at bytes t (n ∷ ns) (place ∷ places) inner u =
 LeadTo number_at bytes t _ _ inner u = ⊥
 
 -- Holds if `LeadTo` does, and the last child is a container with a child at this position.
-pub record LeadInto (number_at : NumberReader) (bytes : List ℕ) (t : Tree) (ns : List ℕ) (places : List EntryPlace)
+pub record LeadInto (number_at : NumberReader) (bytes : List ℕ) (t : Tree) (ns : List ℕ) (places : List EntryRange)
     (inner : List ℕ) (last : ℕ) : Type 0 where
   pub u : Tree
   pub child : Tree
@@ -122,23 +122,23 @@ pub record LeadInto (number_at : NumberReader) (bytes : List ℕ) (t : Tree) (ns
   pub there : slice_get (children u) last ≡ Some child
 
 -- the bytes before the content of a child that becomes this many bytes shorter
-abbrev pub front_of : List ℕ → EntryPlace → ℕ → List ℕ
+abbrev pub front_of : List ℕ → EntryRange → ℕ → List ℕ
 front_of bytes place removed =
     slice_range bytes 0 place.word ++ (entry_word container_entry (place.end - place.start - removed)
     ++ slice_range bytes (place.word + 4) place.start)
 
 -- those before the innermost child
-abbrev pub fronts : List ℕ → List EntryPlace → ℕ → List ℕ
+abbrev pub fronts : List ℕ → List EntryRange → ℕ → List ℕ
 fronts bytes [] removed = []
 fronts bytes (place ∷ places) removed = front_of bytes place removed ++ fronts (content_at bytes place) places removed
 
 -- the position of the innermost child
-abbrev pub starts : List EntryPlace → ℕ
+abbrev pub starts : List EntryRange → ℕ
 starts [] = 0
 starts (place ∷ places) = place.start + starts places
 
 -- the bytes of a container of this tree, at most this many, were appended
-pub record IsPushed (number_at : NumberReader) (t : Tree) (most : ℕ) (before after : List ℕ) : Type 0 where
+pub record AppendsContainer (number_at : NumberReader) (t : Tree) (most : ℕ) (before after : List ℕ) : Type 0 where
   pub bytes : List ℕ
   pub joined : after ≡ before ++ bytes
   pub short : length bytes ≤ most

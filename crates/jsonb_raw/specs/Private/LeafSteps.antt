@@ -19,7 +19,7 @@ abbrev pub IsKept : {A : Type 0} → (Tree → A → Type 0) → KeyPaths × A �
 IsKept IsOf kept leaf = (key_paths_view kept.0 ≡ leaf.0) × IsOf leaf.1 kept.1
 
 -- one more is appended: what is kept of a leaf, with this path
-pub record IsOneMore {A : Type 0} (Is : A → Type 0) (path : KeyPaths) (before after : List (KeyPaths × A)) : Type 0 where
+pub record AppendsLeaf {A : Type 0} (Is : A → Type 0) (path : KeyPaths) (before after : List (KeyPaths × A)) : Type 0 where
   pub part : A
   pub pushed : after ≡ before ++ (path, part) ∷ []
   pub is : Is part

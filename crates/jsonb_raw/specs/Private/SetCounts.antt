@@ -53,7 +53,7 @@ count_behind Unshared other before key = with_key key other - with_key key befor
 
 -- The counts are those after the elements `before`, and all elements are within the limits, so that keys distinguish
 -- them.
-pub record CountsBehind (kind : SetOperation) (m : KeyCounts) (other before : List Tree) : Type 0 where
+pub record CountsAfter (kind : SetOperation) (m : KeyCounts) (other before : List Tree) : Type 0 where
   pub counts : (key : Vec ℕ Global) → counted m key ≡ count_behind kind other before key
   pub fit_other : AllByRecursion Fits other
   pub fit_before : AllByRecursion Fits before

@@ -78,7 +78,7 @@ pub fn object_of(
 }
 
 /// Returns the array of the entries of two runs.
-pub fn array_of_both<'a>(
+pub fn array_of_two<'a>(
     alloc: Global,
     front: Entries<'a>,
     back: Entries<'a>,

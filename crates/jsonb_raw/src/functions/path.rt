@@ -19,7 +19,7 @@ ghost use Rattle.jsonb_raw.specs.Iterators.{YieldsItemsLeft};
 mod child;
 pub(crate) mod cut;
 mod delete;
-mod entry_place;
+mod entry_range;
 mod exists;
 mod leaves;
 

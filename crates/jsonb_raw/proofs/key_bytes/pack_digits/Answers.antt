@@ -8,5 +8,5 @@ loop-left-init c = none_packed _ _ _ _ _ c.requires c.one-packed.ensures.len c.o
 
 pub loop-left-preserved : goal.loop-left-preserved
 loop-left-preserved c =
-    digit_packed _ _ _ _ _ c.loop-left.invariant _ _ _ _ (omega arith) refl c.behind-packed.ensures.len
-    (c.complement_byte-in-loop-left.ensures ∙ ap (complement_byte c.args.negative) (omega arith)) c.behind-packed.ensures.bytes
+    digit_packed _ _ _ _ _ c.loop-left.invariant _ _ _ _ (omega arith) refl c.prepend-packed.ensures.len
+    (c.complement_byte-in-loop-left.ensures ∙ ap (complement_byte c.args.negative) (omega arith)) c.prepend-packed.ensures.bytes

@@ -43,7 +43,7 @@ impl KeyCounts {
     }
 
     /// Decrements the key's count if it is positive, and returns whether it was.
-    pub(super) fn take(&mut self, key: &Vec<u8>) -> bool
+    pub(super) fn decrement(&mut self, key: &Vec<u8>) -> bool
         ensures taken { result ≡ nat_lt 0 (counted self.old key.now) }
         ensures less { (other : Vec ℕ Global)
             → counted self.new other ≡ counted self.old other - one_at key.now.items other }

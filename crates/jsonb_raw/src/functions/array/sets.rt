@@ -17,7 +17,7 @@ ghost use Rattle.jsonb_raw.specs.EqualityKey.{equality_key};
 ghost use Rattle.jsonb_raw.specs.Arrays.{as_elements};
 ghost use Rattle.jsonb_raw.specs.Sets.{select_occurrences, distinct, intersection_of, difference_of, overlap};
 ghost use Rattle.jsonb_raw.specs.Private.Entries.{HoldTrees};
-ghost use Rattle.jsonb_raw.specs.Private.SetCounts.{CountsKeys, CountsBehind, keeps, kept_one};
+ghost use Rattle.jsonb_raw.specs.Private.SetCounts.{CountsKeys, CountsAfter, keeps, kept_one};
 
 use super::counts::KeyCounts;
 use super::overlap::entries_overlap;
@@ -44,24 +44,24 @@ enum SetOperation {
 }
 
 /// Returns `true` if an element with this key is kept, and updates the counts for the elements after it.
-fn decide(
+fn keep_element(
     alloc: Global,
     kind: SetOperation,
     counts: &mut KeyCounts,
     key: &Vec<u8>,
 ) -> Result<bool, Error>
-    ensures kept { (other before : List Tree) (t : Tree) → CountsBehind kind counts.old other before
+    ensures kept { (other before : List Tree) (t : Tree) → CountsAfter kind counts.old other before
         → Fits t → key.now.items ≡ equality_key t → length before < 2 ^ 63
         → MatchResult result (λ b. b ≡ keeps kind other (before, t)) IsOutOfMemory }
-    ensures behind { (other before : List Tree) (t : Tree) → CountsBehind kind counts.old other before
+    ensures behind { (other before : List Tree) (t : Tree) → CountsAfter kind counts.old other before
         → Fits t → key.now.items ≡ equality_key t → length before < 2 ^ 63
-        → MatchResult result (λ b. CountsBehind kind counts.new other (t ∷ before)) IsOutOfMemory }
+        → MatchResult result (λ b. CountsAfter kind counts.new other (t ∷ before)) IsOutOfMemory }
     ensures errors { IfErr result IsOutOfMemory }
 {
     match kind {
         SetOperation::First => Ok(counts.add(alloc, key)? == 0),
-        SetOperation::Shared => Ok(counts.take(key)),
-        SetOperation::Unshared => Ok(!counts.take(key)),
+        SetOperation::Shared => Ok(counts.decrement(key)),
+        SetOperation::Unshared => Ok(!counts.decrement(key)),
     }
 }
 
@@ -73,7 +73,7 @@ fn kept_elements(
     entries: Entries<'_>,
 ) -> Result<OwnedJsonb, Error>
     ensures made { (form : Form) (other ts : List Tree) → HoldTrees form entries.entry ts
-        → AllByRecursion Fits ts → length ts < 2 ^ 63 → CountsBehind kind counts other []
+        → AllByRecursion Fits ts → length ts < 2 ^ 63 → CountsAfter kind counts other []
         → Makes form (array (trees_of (select_occurrences (keeps kind other) ts))) result }
     ensures errors { IfErr result (IsDecodingError or OutOfMemory or TooLarge) }
 {
@@ -83,7 +83,7 @@ fn kept_elements(
     let mut left = entries;
     while let Some((entry, others)) = left.first()? {
         write_entry_key(alloc, &mut key, &entry)?;
-        if !decide(alloc, kind, &mut counts, &key)? {
+        if !keep_element(alloc, kind, &mut counts, &key)? {
             push_run(&mut runs, run, left)?;
             run = others;
         }
@@ -102,18 +102,18 @@ fn push_kept(
     item: &Item<'_>,
 ) -> Result<(), Error>
     ensures pushed { (form : Form) (other before held : List Tree) (t : Tree) → StandsFor form item.now t → Fits t
-        → CountsBehind kind counts.old other before → length before < 2 ^ 63
+        → CountsAfter kind counts.old other before → length before < 2 ^ 63
         → HoldsElements form builder.old held
         → MatchResult result
         (λ _. HoldsElements form builder.new (held ++ kept_one kind other (before, t)))
         (IsOutOfMemoryOrTooLarge form (array (trees_of (held ++ kept_one kind other (before, t))))) }
     ensures behind { (form : Form) (other before : List Tree) (t : Tree) → StandsFor form item.now t → Fits t
-        → CountsBehind kind counts.old other before → length before < 2 ^ 63
-        → OnOk result (CountsBehind kind counts.new other (t ∷ before)) }
+        → CountsAfter kind counts.old other before → length before < 2 ^ 63
+        → OnOk result (CountsAfter kind counts.new other (t ∷ before)) }
     ensures errors { IfErr result (IsDecodingError or OutOfMemory or TooLarge) }
 {
     let key = item_key(alloc, item)?;
-    if !decide(alloc, kind, counts, &key)? {
+    if !keep_element(alloc, kind, counts, &key)? {
         return Ok(());
     }
     builder.push_item(item)
@@ -127,7 +127,7 @@ fn kept_item(
     item: &Item<'_>,
 ) -> Result<OwnedJsonb, Error>
     ensures made { (form : Form) (other : List Tree) (t : Tree) → StandsFor form item.now t → Fits t
-        → CountsBehind kind counts other []
+        → CountsAfter kind counts other []
         → Makes form (array (trees_of (select_occurrences (keeps kind other) (t ∷ [])))) result }
     ensures errors { IfErr result (IsDecodingError or OutOfMemory or TooLarge) }
 {
@@ -144,7 +144,7 @@ fn kept_of_document(
     bytes: &[u8],
 ) -> Result<OwnedJsonb, Error>
     ensures made { (form : Form) (other : List Tree) (t : Tree) → Decodes form bytes.now t
-        → CountsBehind kind counts other []
+        → CountsAfter kind counts other []
         → Makes form (array (trees_of (select_occurrences (keeps kind other) (as_elements t)))) result }
     ensures errors { IfErr result (IsDecodingError or OutOfMemory or TooLarge) }
 {

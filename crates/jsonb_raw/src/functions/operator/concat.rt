@@ -12,7 +12,7 @@ ghost use Rattle.jsonb_raw.specs.Arrays.{as_elements};
 ghost use Rattle.jsonb_raw.specs.Concat.{concat, merged};
 ghost use Rattle.jsonb_raw.specs.Private.Entries.{HoldPairs};
 
-use crate::functions::joined::array_of_both;
+use crate::functions::joined::array_of_two;
 use crate::functions::parts::{Elements, PairEntries, PairRuns};
 use crate::functions::runs::{first_pair, pair_entries};
 use crate::owned::OwnedJsonb;
@@ -122,5 +122,5 @@ fn joined_arrays<'a>(alloc: Global, bytes: &'a [u8], others: &'a [u8]) -> Result
 {
     let first = Elements::of_document(bytes)?;
     let second = Elements::of_document(others)?;
-    array_of_both(alloc, first.as_entries(), second.as_entries())
+    array_of_two(alloc, first.as_entries(), second.as_entries())
 }

@@ -23,7 +23,7 @@ ghost use Rattle.jsonb_raw.specs.Exists.{is_text};
 
 use super::nth_child;
 use crate::functions::entries::{around_entries, element_entries, entry_count, entry_document};
-use crate::functions::joined::{array_of_both, object_of};
+use crate::functions::joined::{array_of_two, object_of};
 use crate::functions::parts::{Entries, PairEntries};
 use crate::functions::runs::{name_position, pair_entries};
 use crate::owned::OwnedJsonb;
@@ -301,7 +301,7 @@ fn array_without_element(
     ensures errors { IfErr result (IsDecodingError or OutOfMemory or TooLarge) }
 {
     let (front, back) = around_entries(entries, position, 1)?;
-    array_of_both(alloc, front, back)
+    array_of_two(alloc, front, back)
 }
 
 /// Returns `true` if the item is this string.

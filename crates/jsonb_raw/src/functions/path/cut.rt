@@ -10,9 +10,9 @@ ghost use Rattle.jsonb_doc.specs.Answer.{IsOutOfMemory, IsDecodingError, ◌or�
 ghost use Rattle.jsonb_doc.specs.declared.error.Error.TheVariants.{OutOfMemory};
 ghost use Rattle.jsonb_raw.specs.Places.{children, tree_at};
 ghost use Rattle.jsonb_raw.specs.Deletes.{remove_at};
-ghost use Rattle.jsonb_raw.specs.Private.Cuts.{FitEntries, HoldEntries, IsPlaceOf, LiesWithin, AreInOrder, AreOfChild, LeadTo, LeadInto, around, without_child, entries_size, front_of, fronts, starts, IsPushed};
+ghost use Rattle.jsonb_raw.specs.Private.Cuts.{FitEntries, HoldEntries, IsPlaceOf, LiesWithin, AreInOrder, AreOfChild, LeadTo, LeadInto, around, without_child, entries_size, front_of, fronts, starts, AppendsContainer};
 
-use super::entry_place::{ChildEntries, EntryPlace};
+use super::entry_range::{ChildEntries, EntryRange};
 use jsonb_doc::layout::{
     EntryKind, HeaderKind, MAX_CONTENT, WORD, encode_entry_word, encode_header, read_entry_word,
     split_header,
@@ -21,7 +21,7 @@ use jsonb_doc::{Error, contents_len};
 use std::alloc::Global;
 
 /// Returns the range of an entry, given the number of all entries and of those before it.
-fn entry_place(container: &[u8], total: usize, passed: usize) -> Option<EntryPlace>
+fn entry_range(container: &[u8], total: usize, passed: usize) -> Option<EntryRange>
     requires total { total < 2 ^ 30 }
     requires passed { passed < total }
     ensures { (front back : List EntryParts) (e : EntryParts) → HoldEntries container.now (front ++ e ∷ back)
@@ -32,7 +32,7 @@ fn entry_place(container: &[u8], total: usize, passed: usize) -> Option<EntryPla
     let (before, behind) = words.split_at_checked(WORD * passed)?;
     let (word, _) = behind.split_first_chunk::<WORD>()?;
     let start = WORD + WORD * total + contents_len(before);
-    Some(EntryPlace {
+    Some(EntryRange {
         word: WORD + WORD * passed,
         start,
         end: start + read_entry_word(word).1,
@@ -54,12 +54,12 @@ fn child_entries(container: &[u8], position: usize) -> Option<ChildEntries>
         HeaderKind::Array => Some(ChildEntries {
             header,
             key: None,
-            value: entry_place(container, count, position)?,
+            value: entry_range(container, count, position)?,
         }),
         HeaderKind::Object => Some(ChildEntries {
             header,
-            key: Some(entry_place(container, 2 * count, position)?),
-            value: entry_place(container, 2 * count, count + position)?,
+            key: Some(entry_range(container, 2 * count, position)?),
+            value: entry_range(container, 2 * count, count + position)?,
         }),
         HeaderKind::Scalar => None,
     }
@@ -79,7 +79,7 @@ fn push_part(out: &mut Vec<u8>, bytes: &[u8], start: usize, end: usize) -> Resul
 }
 
 /// Appends the bytes of an array around the entry of an element, without its header.
-fn push_around_element(out: &mut Vec<u8>, array: &[u8], value: EntryPlace) -> Result<(), Error>
+fn push_around_element(out: &mut Vec<u8>, array: &[u8], value: EntryRange) -> Result<(), Error>
     ensures pushed { AreInOrder None value (length array.now)
         → MatchResult result (λ _. out.new.items ≡ out.old.items ++ around array.now None value) IsOutOfMemory }
     ensures errors { IfErr result (IsDecodingError or OutOfMemory) }
@@ -93,8 +93,8 @@ fn push_around_element(out: &mut Vec<u8>, array: &[u8], value: EntryPlace) -> Re
 fn push_around_pair(
     out: &mut Vec<u8>,
     object: &[u8],
-    key: EntryPlace,
-    value: EntryPlace,
+    key: EntryRange,
+    value: EntryRange,
 ) -> Result<(), Error>
     ensures pushed { AreInOrder (Some key) value (length object.now)
         → MatchResult result (λ _. out.new.items ≡ out.old.items ++ around object.now (Some key) value) IsOutOfMemory }
@@ -141,11 +141,11 @@ fn entries_len(entries: &ChildEntries) -> usize
 }
 
 /// Returns the ranges of the children at these positions, each within the one before it, and the content of the last.
-fn places_within<'a>(
+fn locate_children<'a>(
     alloc: Global,
     container: &'a [u8],
     positions: &[usize],
-) -> Result<(Vec<EntryPlace>, &'a [u8]), Error>
+) -> Result<(Vec<EntryRange>, &'a [u8]), Error>
     ensures places { (form : Form) (t end : Tree) (last : ℕ)
         → IsContent (number_reader form) t container_entry container.now
         → tree_at (positions.now ++ last ∷ []) t ≡ Some end
@@ -171,10 +171,10 @@ fn places_within<'a>(
 
 /// Appends the bytes before a child's content. The length of the child, a container, is written `removed` bytes
 /// shorter.
-fn push_front(
+fn push_prefix(
     out: &mut Vec<u8>,
     container: &[u8],
-    child: EntryPlace,
+    child: EntryRange,
     removed: usize,
 ) -> Result<(), Error>
     ensures pushed { LiesWithin child (length container.now) → removed ≤ child.end - child.start
@@ -197,10 +197,10 @@ fn push_front(
 
 /// Appends the bytes before the innermost of the children in these ranges. The length of each is written `removed`
 /// bytes shorter. Returns the start of the innermost one.
-fn push_fronts(
+fn push_prefixes(
     out: &mut Vec<u8>,
     container: &[u8],
-    places: &[EntryPlace],
+    places: &[EntryRange],
     removed: usize,
 ) -> Result<usize, Error>
     ensures pushed { (number_at : NumberReader) (t u : Tree) (ns inner : List ℕ)
@@ -212,7 +212,7 @@ fn push_fronts(
     let mut inner = container;
     let mut start = 0;
     for place in places {
-        push_front(out, inner, *place, removed)?;
+        push_prefix(out, inner, *place, removed)?;
         let Some(content) = inner.get(place.start..place.end) else {
             return Err(Error::InvalidJsonb);
         };
@@ -232,18 +232,18 @@ pub fn push_without(
 ) -> Result<(), Error>
     ensures pushed { (form : Form) (t end left : Tree) → IsContent (number_reader form) t container_entry container.now
         → tree_at positions.now t ≡ Some end → remove_at positions.now t ≡ Some left
-        → MatchResult result (λ _. IsPushed (number_reader form) left
+        → MatchResult result (λ _. AppendsContainer (number_reader form) left
         (length container.now) out.old.items out.new.items) IsOutOfMemory }
     ensures errors { IfErr result (IsDecodingError or OutOfMemory) }
 {
     let Some((last, around)) = positions.split_last() else {
         return Err(Error::InvalidJsonb);
     };
-    let (places, inner) = places_within(alloc, container, around)?;
+    let (places, inner) = locate_children(alloc, container, around)?;
     let Some(entries) = child_entries(inner, *last) else {
         return Err(Error::InvalidJsonb);
     };
-    let start = push_fronts(out, container, places.as_slice(), entries_len(&entries))?;
+    let start = push_prefixes(out, container, places.as_slice(), entries_len(&entries))?;
     push_without_child(out, inner, &entries)?;
     push_part(
         out,

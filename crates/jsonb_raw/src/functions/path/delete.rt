@@ -69,7 +69,7 @@ fn decimal_position(alloc: Global, bytes: &[u8], index: i32) -> Result<Option<us
 }
 
 /// Returns the position of the child that a step selects.
-fn position_met(
+fn child_position(
     alloc: Global,
     bytes: &[u8],
     spot: Spot,
@@ -89,7 +89,7 @@ fn position_met(
 }
 
 /// Returns the positions of the children that the steps select, each in the one before it.
-fn place_met<'k, I: Iterator<Item = &'k KeyPath<'k>> + Drop>(
+fn location<'k, I: Iterator<Item = &'k KeyPath<'k>> + Drop>(
     alloc: Global,
     bytes: &[u8],
     steps: I,
@@ -105,7 +105,7 @@ fn place_met<'k, I: Iterator<Item = &'k KeyPath<'k>> + Drop>(
     let mut spot = root_spot(bytes)?;
     let mut positions = Vec::new(alloc);
     for step in steps {
-        let Some(position) = position_met(alloc, bytes, spot, step)? else {
+        let Some(position) = child_position(alloc, bytes, spot, step)? else {
             return Ok(None);
         };
         let Some(child) = nth_child(bytes, spot, position)? else {
@@ -125,7 +125,7 @@ fn is_json_scalar(item: &Item<'_>) -> bool
 }
 
 /// Returns a copy of the bytes.
-fn copied(alloc: Global, bytes: &[u8]) -> Result<OwnedJsonb, Error>
+fn copy_of(alloc: Global, bytes: &[u8]) -> Result<OwnedJsonb, Error>
     ensures same { MatchResult result (λ made. made ≡ bytes.now) IsOutOfMemory }
 {
     Ok(OwnedJsonb::new(Vec::from_slice(alloc, bytes)?))
@@ -182,11 +182,11 @@ impl RawJsonb<'_> {
         if is_json_scalar(&root_item(bytes)?) {
             return Err(Error::InvalidJsonType);
         }
-        let Some(positions) = place_met(alloc, bytes, steps)? else {
-            return copied(alloc, bytes);
+        let Some(positions) = location(alloc, bytes, steps)? else {
+            return copy_of(alloc, bytes);
         };
         if positions.is_empty() {
-            return copied(alloc, bytes);
+            return copy_of(alloc, bytes);
         }
         let mut document = Vec::with_capacity(alloc, bytes.len())?;
         push_without(alloc, &mut document, bytes, positions.as_slice())?;

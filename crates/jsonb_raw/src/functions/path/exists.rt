@@ -28,7 +28,7 @@ use std::cmp::Ordering;
 pub(crate) struct KeyCursor<'a> {
     all: EntryIter<'a>,
     left: EntryIter<'a>,
-    passed: Option<&'a [u8]>,
+    last_key: Option<&'a [u8]>,
 }
 
 impl<'a> KeyCursor<'a> {
@@ -39,18 +39,18 @@ impl<'a> KeyCursor<'a> {
         KeyCursor {
             all: keys,
             left: keys,
-            passed: None,
+            last_key: None,
         }
     }
 
     /// Returns `true` if the key visited last, if there is one, is less than the name.
     fn is_below(&self, name: &[u8]) -> bool
-        ensures { IsTrue result → IsPassed self.now.passed name.now }
+        ensures { IsTrue result → IsPassed self.now.last_key name.now }
     {
-        let Some(passed) = self.passed else {
+        let Some(last_key) = self.last_key else {
             return true;
         };
-        if let Ordering::Less = bytes_cmp(passed, name) {
+        if let Ordering::Less = bytes_cmp(last_key, name) {
             return true;
         }
         false
@@ -60,23 +60,23 @@ impl<'a> KeyCursor<'a> {
     fn rewind_to_front(&mut self)
         ensures cursor { (form : Form) (ks : List (List ℕ)) → IsCursorOf form self.old ks
             → IsCursorOf form self.new ks }
-        ensures passed { (name : List ℕ) → IsPassed self.new.passed name }
+        ensures passed { (name : List ℕ) → IsPassed self.new.last_key name }
     {
         self.left = self.all;
-        self.passed = None;
+        self.last_key = None;
     }
 
     /// Moves before the first key, unless the key visited last is less than the name.
     fn rewind(&mut self, name: &[u8])
         ensures cursor { (form : Form) (ks : List (List ℕ)) → IsCursorOf form self.old ks
             → IsCursorOf form self.new ks }
-        ensures passed { IsPassed self.new.passed name.now }
+        ensures passed { IsPassed self.new.last_key name.now }
     {
         if self.is_below(name) {
             return;
         }
         self.left = self.all;
-        self.passed = None;
+        self.last_key = None;
     }
 }
 
@@ -114,7 +114,7 @@ impl<'a> KeySearch<'a> {
     fn rewind(&mut self, name: &[u8])
         ensures search { (form : Form) (ks : List (List ℕ)) → IsSearchOf form self.old ks
             → IsSearchOf form self.new ks }
-        ensures passed { IsPassed self.new.near.passed name.now }
+        ensures passed { IsPassed self.new.near.last_key name.now }
     {
         if self.near.is_below(name) {
             return;
@@ -163,7 +163,7 @@ impl<'a> KeySearch<'a> {
             self.advance_to(KeyCursor {
                 all,
                 left: ahead,
-                passed: Some(key),
+                last_key: Some(key),
             });
         }
         Ok(false)
@@ -219,7 +219,7 @@ impl<'a> KeyTable<'a> {
     fn nearest(&self, name: &[u8]) -> Place<'a>
         ensures cursor { (form : Form) (ks : List (List ℕ)) → IsTableOf form self.now ks
             → IsCursorOf form result.cursor ks }
-        ensures passed { IsPassed result.cursor.passed name.now }
+        ensures passed { IsPassed result.cursor.last_key name.now }
     {
         let mut cursor = self.near.cursor;
         cursor.rewind_to_front();
@@ -254,7 +254,7 @@ impl<'a> KeyTable<'a> {
     fn start(&self, name: &[u8]) -> Place<'a>
         ensures cursor { (form : Form) (ks : List (List ℕ)) → IsTableOf form self.now ks
             → IsCursorOf form result.cursor ks }
-        ensures passed { IsPassed result.cursor.passed name.now }
+        ensures passed { IsPassed result.cursor.last_key name.now }
     {
         if self.near.cursor.is_below(name) && !self.is_past_block(name) {
             return self.near;
@@ -303,7 +303,7 @@ impl<'a> KeyTable<'a> {
             self.advance_to(KeyCursor {
                 all,
                 left: ahead,
-                passed: Some(next),
+                last_key: Some(next),
             });
         }
         Ok(false)

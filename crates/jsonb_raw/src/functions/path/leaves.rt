@@ -20,7 +20,7 @@ ghost use Rattle.jsonb_raw.specs.Scalars.{is_array};
 ghost use Rattle.jsonb_raw.specs.Leaves.{leaves};
 ghost use Rattle.jsonb_raw.specs.LeafViews.{leaves_seen};
 ghost use Rattle.jsonb_raw.specs.declared.functions.path.leaves.Step.{Step};
-ghost use Rattle.jsonb_raw.specs.Private.LeafSteps.{IsEntered, IsKept, IsOneMore, IsValueOf, step_key, step_keys};
+ghost use Rattle.jsonb_raw.specs.Private.LeafSteps.{IsEntered, IsKept, AppendsLeaf, IsValueOf, step_key, step_keys};
 ghost use Rattle.jsonb_raw.specs.Private.Levels.{IsKeyOf, IsLevelWithin};
 
 mod documents;
@@ -182,7 +182,7 @@ trait LeafOutput<'a>: Drop {
         found: &mut Vec<(KeyPaths<'a>, Self)>,
     ) -> Result<(), Error>
         ensures leaf { (form : Form) (t : Tree) → Stores form entry.now t
-            → MatchResult result (λ _. IsOneMore (IsOf form t) path.entry found.old.items found.new.items)
+            → MatchResult result (λ _. AppendsLeaf (IsOf form t) path.entry found.old.items found.new.items)
             (IsRefusalOf form t) }
         ensures errors { IfErr result Refusals };
 }
@@ -219,7 +219,7 @@ fn push_text<'a>(
     found: &mut Vec<(KeyPaths<'a>, Value<'a>)>,
 ) -> Result<(), Error>
     ensures leaf { (form : Form) (t : Tree) → IsContent (number_reader form) t text_entry bytes.now
-        → MatchResult result (λ _. IsOneMore (IsValueOf t) path.entry found.old.items found.new.items) IsOutOfMemory }
+        → MatchResult result (λ _. AppendsLeaf (IsValueOf t) path.entry found.old.items found.new.items) IsOutOfMemory }
     ensures errors { IfErr result (IsDecodingError or OutOfMemory) }
 {
     match str::from_utf8(bytes) {
@@ -248,7 +248,7 @@ fn push_value<'a>(
     found: &mut Vec<(KeyPaths<'a>, Value<'a>)>,
 ) -> Result<(), Error>
     ensures leaf { (form : Form) (t : Tree) → IsContent (number_reader form) t (kind_number kind) content.now
-        → MatchResult result (λ _. IsOneMore (IsValueOf t) path.entry found.old.items found.new.items) IsOutOfMemory }
+        → MatchResult result (λ _. AppendsLeaf (IsValueOf t) path.entry found.old.items found.new.items) IsOutOfMemory }
     ensures errors { IfErr result (IsDecodingError or OutOfMemory) }
 {
     let entry = StoredEntry { kind, content };

@@ -21,14 +21,14 @@ pub returns-in_default-clause-without : goal.returns-in_default-clause-without
 returns-in_default-clause-without g c = λ left tells form t d other.
     let d' : Decodes form c.as_bytes-bytes.result.now t = rw c.as_bytes-bytes.ensures d in
     let none = no_place _ (rw c.in_default.is at (c.in_ok-positions.ensures.place left tells t (in_any form t _ d'))) in
-    same_decodes form _ t _ _ (without_none (keys_view (left c.args.steps)) t none) d' c.copied.ensures.same
+    same_decodes form _ t _ _ (without_none (keys_view (left c.args.steps)) t none) d' c.copy_of.ensures.same
 
 pub returns-then-is_empty-clause-without : goal.returns-then-is_empty-clause-without
 returns-then-is_empty-clause-without g c = λ left tells form t d other.
     let d' : Decodes form c.as_bytes-bytes.result.now t = rw c.as_bytes-bytes.ensures d in
     let place = some_place c.in-Some.positions _ (rw c.in-Some.is at (c.in_ok-positions.ensures.place left tells t (in_any form t _ d'))) in
     let empty = empty_of _ (sym c.in-Some.positions.ok.0 ∙ zero_of _ c.if-is_empty.ensures) in
-    same_decodes form _ t _ _ (without_whole (keys_view (left c.args.steps)) t _ empty place) d' c.copied-then-is_empty.ensures.same
+    same_decodes form _ t _ _ (without_whole (keys_view (left c.args.steps)) t _ empty place) d' c.copy_of-then-is_empty.ensures.same
 
 pub returns-in_err-push_without-clause-without : goal.returns-in_err-push_without-clause-without
 returns-in_err-push_without-clause-without g c = λ left tells form t d other.

@@ -25,14 +25,14 @@ returns-in_err-write_entry_key-clause-made c = λ form other ts h fit few b.
     let n = next_of form _ _ other _ _ _ _ m _ _ mine in
     rw (p.1, p.2) (inl (c.in_err-write_entry_key.ensures.key form n.t (record { content = n.first_is.part })))
 
-pub returns-in_err-decide-clause-made : goal.returns-in_err-decide-clause-made
-returns-in_err-decide-clause-made c = λ form other ts h fit few b.
-    let p = err_from_is_err_and c.from_residual-in_err-decide.result c.from_residual-in_err-decide.ensures.1 in
+pub returns-in_err-keep_element-clause-made : goal.returns-in_err-keep_element-clause-made
+returns-in_err-keep_element-clause-made c = λ form other ts h fit few b.
+    let p = err_from_is_err_and c.from_residual-in_err-keep_element.result c.from_residual-in_err-keep_element.ensures.1 in
     let m = c.loop-runs.invariant.left form other ts h fit few b in
     let mine = rw c.in-Some.is at (c.in_ok-entry.ensures.first form m.rest (KeptRuns-left form _ _ other _ _ _ _ m)) in
     let n = next_of form _ _ other _ _ _ _ m _ _ mine in
     let key = c.in_ok-write_entry_key.ensures.key form n.t (record { content = n.first_is.part }) in
-    rw (p.1, p.2) (inl (c.in_err-decide.ensures.kept other m.before n.t m.behind n.fit.0 key (next_few form _ _ other _ _ _ _ m _ _ mine n)))
+    rw (p.1, p.2) (inl (c.in_err-keep_element.ensures.kept other m.before n.t m.behind n.fit.0 key (next_few form _ _ other _ _ _ _ m _ _ mine n)))
 
 pub returns-in_err-push_run-clause-made : goal.returns-in_err-push_run-clause-made
 returns-in_err-push_run-clause-made c = λ form other ts h fit few b.
@@ -48,8 +48,8 @@ loop-runs-preserved-in_ok-push_run c = record {
       let n = next_of form _ _ other _ _ _ _ m _ _ mine in
       let short = next_few form _ _ other _ _ _ _ m _ _ mine n in
       let key = c.in_ok-write_entry_key.ensures.key form n.t (record { content = n.first_is.part }) in
-      let kept = c.in_ok-decide.ensures.kept other m.before n.t m.behind n.fit.0 key short in
-      let behind = c.in_ok-decide.ensures.behind other m.before n.t m.behind n.fit.0 key short in
+      let kept = c.in_ok-keep_element.ensures.kept other m.before n.t m.behind n.fit.0 key short in
+      let behind = c.in_ok-keep_element.ensures.behind other m.before n.t m.behind n.fit.0 key short in
       KeptRuns-dropped form _ _ other _ _ _ _ m _ _ mine n _ _ (c.in_ok-push_run.ensures.pushed form m.held m.rest m.holds)
       (sym kept ∙ c.if-not-branch.true) behind;
 }
@@ -62,8 +62,8 @@ loop-runs-preserved c = record {
       let n = next_of form _ _ other _ _ _ _ m _ _ mine in
       let short = next_few form _ _ other _ _ _ _ m _ _ mine n in
       let key = c.in_ok-write_entry_key.ensures.key form n.t (record { content = n.first_is.part }) in
-      let kept = c.in_ok-decide.ensures.kept other m.before n.t m.behind n.fit.0 key short in
-      let behind = c.in_ok-decide.ensures.behind other m.before n.t m.behind n.fit.0 key short in
+      let kept = c.in_ok-keep_element.ensures.kept other m.before n.t m.behind n.fit.0 key short in
+      let behind = c.in_ok-keep_element.ensures.behind other m.before n.t m.behind n.fit.0 key short in
       KeptRuns-kept form _ _ other _ _ _ _ m _ _ mine n _ (sym kept ∙ c.if-not-branch.false) behind;
 }
 

@@ -5,14 +5,14 @@ use Rattle.jsonb_doc.specs.Limits.{Fits}
 use Rattle.jsonb_doc.specs.Payload.{Form}
 use Rattle.jsonb_raw.specs.Sets.{select_occurrences}
 use Rattle.jsonb_raw.specs.Private.Entries.{HoldTrees}
-use Rattle.jsonb_raw.specs.Private.SetCounts.{keeps, CountsBehind}
+use Rattle.jsonb_raw.specs.Private.SetCounts.{keeps, CountsAfter}
 use Rattle.jsonb_raw.proofs.SetKept.{KeptRuns}
 use Rattle.jsonb_raw.proofs.functions.array.sets.kept_elements.Given as goal
 
 abbrev pub invariant-loop-runs : goal.invariant-loop-runs
 invariant-loop-runs l = record {
   left : (form : Form) (other ts : List Tree) → HoldTrees form l.entries ts → AllByRecursion Fits ts → length ts < 2 ^ 63
-      → CountsBehind l.kind l.fn.counts other []
+      → CountsAfter l.kind l.fn.counts other []
       → KeptRuns form l.kind l.counts other l.runs.items l.run l.left (select_occurrences (keeps l.kind other) ts);
 }
 

@@ -15,6 +15,6 @@ returns-in_err-second-clause-document c = λ form t u d e.
 
 pub returns-clause-document : goal.returns-clause-document
 returns-clause-document c = λ form t u d e.
-    c.array_of_both.ensures.array form (as_elements t) (as_elements u)
+    c.array_of_two.ensures.array form (as_elements t) (as_elements u)
     (c.as_entries.ensures form (as_elements t) (c.in_ok-first.ensures.elements form t d))
     (c.as_entries-2.ensures form (as_elements u) (c.in_ok-second.ensures.elements form u e))

@@ -8,4 +8,4 @@ returns-in_err-front-clause-deleted c = λ form ts h. absurd (c.in_err-front.ens
 pub returns-clause-deleted : goal.returns-clause-deleted
 returns-clause-deleted c = λ form ts h.
     let parts = rw drop_one_more at (c.in_ok-front.ensures.around form ts h) in
-    c.array_of_both.ensures.array form (take c.args.position ts) _ parts.0 parts.1
+    c.array_of_two.ensures.array form (take c.args.position ts) _ parts.0 parts.1

@@ -47,6 +47,6 @@ returns-clause-pushed c = λ form t end left is there out.
     (a.cut (remove_at []) refl) (omega (arith, size, gone)) in
     let from : c.saturating_add.result ≡ starts places + length inner = omega (arith, c.saturating_add.ensures, fronted.0, within) in
     without_pushed (number_reader form) bytes t left around places inner last c.entries_len.result (without_child inner c.in-Some-child_entries.entries)
-    c.args.out.now.items c.push_fronts.new.out.items c.push_without_child.new.out.items _ c.saturating_add.result c.push_part.result made
+    c.args.out.now.items c.push_prefixes.new.out.items c.push_without_child.new.out.items _ c.saturating_add.result c.push_part.result made
     (left_is around last c.args.positions.now t left c.in-Some.ensures.cases.0 out) fronted.1 cut from (omega (arith, from, within))
     (c.push_part.ensures.pushed (omega (arith, from, within)) (omega arith))

@@ -9,7 +9,7 @@ abbrev pub invariant-loop-entry : goal.invariant-loop-entry
 invariant-loop-entry l = record {
   ahead : l.ahead ≡ l.self.near.left;
   all : l.all ≡ l.self.near.all;
-  passed : IsPassed l.self.near.passed l.name;
+  passed : IsPassed l.self.near.last_key l.name;
   search : (form : Form) (ks : List (List ℕ)) → IsSearchOf form l.fn.self ks → IsSearchOf form l.self ks;
 }
 

@@ -9,7 +9,7 @@ abbrev pub invariant-loop-entry : goal.invariant-loop-entry
 invariant-loop-entry l = record {
   ahead : l.ahead ≡ l.self.near.cursor.left;
   all : l.all ≡ l.self.near.cursor.all;
-  passed : IsPassed l.self.near.cursor.passed l.name;
+  passed : IsPassed l.self.near.cursor.last_key l.name;
   table : (form : Form) (ks : List (List ℕ)) → IsTableOf form l.fn.self ks → IsTableOf form l.self ks;
 }
 

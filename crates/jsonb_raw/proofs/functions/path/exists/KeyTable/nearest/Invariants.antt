@@ -8,7 +8,7 @@ abbrev pub invariant-loop-low : goal.invariant-loop-low
 invariant-loop-low l = record {
   high : l.high ≤ 64;
   at : l.at ≤ 64;
-  passed : IsPassed l.cursor.passed l.name;
+  passed : IsPassed l.cursor.last_key l.name;
   cursor : (form : Form) (ks : List (List ℕ)) → IsTableOf form l.self ks → IsCursorOf form l.cursor ks;
 }
 

@@ -4,7 +4,7 @@ use Rattle.std.proofs.lemmas.Int.{to_z-of_z}
 use Rattle.jsonb_doc.specs.Payload.{any}
 use Rattle.jsonb_keypath.specs.KeyPathViews.{key_view}
 use Rattle.jsonb_raw.proofs.PositionLemmas.{met_in_array, name_at_array, no_child_in_scalar, met_in_object, met_by_index, asked_quoted, asked_plain}
-use Rattle.jsonb_raw.proofs.functions.path.delete.position_met.Goals as goal
+use Rattle.jsonb_raw.proofs.functions.path.delete.child_position.Goals as goal
 
 pub returns-in_err-array-clause-position : goal.returns-in_err-array-clause-position
 returns-in_err-array-clause-position c = λ t m. absurd (c.in_err-array.ensures.item t m)

@@ -3,7 +3,7 @@ use Rattle.jsonb_doc.specs.Tree.{Tree}
 use Rattle.jsonb_doc.specs.Payload.{NumberReader}
 use Rattle.jsonb_raw.specs.Private.Cuts.{LeadTo, fronts, starts}
 use Rattle.jsonb_raw.proofs.CutWalks.{FrontsLeft}
-use Rattle.jsonb_raw.proofs.functions.path.cut.push_fronts.Given as goal
+use Rattle.jsonb_raw.proofs.functions.path.cut.push_prefixes.Given as goal
 
 -- what is written, followed by the fronts of the places that are left, is the whole
 abbrev pub invariant-loop-place : goal.invariant-loop-place

@@ -4,7 +4,7 @@ use Rattle.jsonb_doc.specs.Payload.{Form, number_reader}
 use Rattle.jsonb_doc.specs.Format.{IsContent, container_entry}
 use Rattle.jsonb_raw.specs.Places.{tree_at}
 use Rattle.jsonb_raw.proofs.CutWalks.{WalkedInto}
-use Rattle.jsonb_raw.proofs.functions.path.cut.places_within.Given as goal
+use Rattle.jsonb_raw.proofs.functions.path.cut.locate_children.Given as goal
 
 -- places that lead on from here lead, after those so far, from the whole
 abbrev pub invariant-loop-position : goal.invariant-loop-position

@@ -1,7 +1,7 @@
 use Rattle.std.proofs.Common.{◌++◌, ap₂, arith}
 use Rattle.std.specs.Int.{to_le_bytes, w64}
 use Rattle.jsonb_raw.proofs.PackedDigits.{packed_behind}
-use Rattle.jsonb_raw.proofs.packed.PackedBytes.behind.Goals as goal
+use Rattle.jsonb_raw.proofs.packed.PackedBytes.prepend.Goals as goal
 
 pub returns-clause-bytes : goal.returns-clause-bytes
 returns-clause-bytes c =

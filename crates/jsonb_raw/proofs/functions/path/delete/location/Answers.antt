@@ -2,7 +2,7 @@ use Rattle.std.proofs.Common.{rules, ap}
 use Rattle.std.proofs.lemmas.Result.{err_from_is_err_and}
 use Rattle.jsonb_keypath.specs.KeyPathViews.{key_view, keys_view}
 use Rattle.jsonb_raw.proofs.MetLemmas.{walk_begun, met_next}
-use Rattle.jsonb_raw.proofs.functions.path.delete.place_met.Goals as goal
+use Rattle.jsonb_raw.proofs.functions.path.delete.location.Goals as goal
 
 pub loop-step-init : goal.loop-step-init
 loop-step-init g c = record {

@@ -1,7 +1,7 @@
 use Rattle.std.proofs.Common.{arith, inl, inr, length}
 use Rattle.jsonb_raw.proofs.CutWords.{bytes_held, entry_read}
 use Rattle.jsonb_raw.proofs.EntryLists.{contents_counted}
-use Rattle.jsonb_raw.proofs.functions.path.cut.entry_place.Goals as goal
+use Rattle.jsonb_raw.proofs.functions.path.cut.entry_range.Goals as goal
 
 pub returns-in_err-words : goal.returns-in_err-words
 returns-in_err-words c = λ front back e h total passed.

@@ -6,7 +6,7 @@ use jsonb_doc::layout::WORD;
 
 /// The range of an entry in the bytes of a container: its word, and its content.
 #[derive(Clone, Copy)]
-pub struct EntryPlace {
+pub struct EntryRange {
     pub word: usize,
     pub start: usize,
     pub end: usize,
@@ -18,6 +18,6 @@ pub struct EntryPlace {
 #[derive(Clone, Copy)]
 pub struct ChildEntries {
     pub header: [u8; WORD],
-    pub key: Option<EntryPlace>,
-    pub value: EntryPlace,
+    pub key: Option<EntryRange>,
+    pub value: EntryRange,
 }

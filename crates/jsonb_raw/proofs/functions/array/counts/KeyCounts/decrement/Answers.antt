@@ -1,6 +1,6 @@
 use Rattle.std.proofs.Common.{◌∙◌, ◌-◌, ap, sym, unwrap_or, rules}
 use Rattle.jsonb_raw.proofs.KeysCounted.{counted_less, counted_none}
-use Rattle.jsonb_raw.proofs.functions.array.counts.KeyCounts.take.Goals as goal
+use Rattle.jsonb_raw.proofs.functions.array.counts.KeyCounts.decrement.Goals as goal
 
 pub returns-in-Some-clause-less : goal.returns-in-Some-clause-less
 returns-in-Some-clause-less c = λ other.

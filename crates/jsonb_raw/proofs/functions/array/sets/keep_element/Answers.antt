@@ -1,6 +1,6 @@
 use Rattle.std.proofs.Common.{◌∙◌, ap, not, nat_eq}
 use Rattle.jsonb_raw.proofs.KeysCounted.{test_first, test_shared, test_unshared}
-use Rattle.jsonb_raw.proofs.functions.array.sets.decide.Goals as goal
+use Rattle.jsonb_raw.proofs.functions.array.sets.keep_element.Goals as goal
 
 pub returns-in_ok-add-in-First-clause-kept : goal.returns-in_ok-add-in-First-clause-kept
 returns-in_ok-add-in-First-clause-kept c = λ other before t h f e few.
@@ -9,9 +9,9 @@ returns-in_ok-add-in-First-clause-kept c = λ other before t h f e few.
 
 pub returns-in-Shared-clause-kept : goal.returns-in-Shared-clause-kept
 returns-in-Shared-clause-kept c = λ other before t h f e few.
-    c.take.ensures.taken ∙ test_shared c.args.counts.now other before t c.args.key.now f e c.args.kind c.in-Shared.is h
+    c.decrement.ensures.taken ∙ test_shared c.args.counts.now other before t c.args.key.now f e c.args.kind c.in-Shared.is h
 
 pub returns-in-Unshared-clause-kept : goal.returns-in-Unshared-clause-kept
 returns-in-Unshared-clause-kept c = λ other before t h f e few.
-    ap not c.take-in-Unshared.ensures.taken
+    ap not c.decrement-in-Unshared.ensures.taken
     ∙ test_unshared c.args.counts.now other before t c.args.key.now f e c.args.kind c.in-Unshared.is h

@@ -3,14 +3,14 @@ use Rattle.std.proofs.lemmas.List.Edits.{length-between}
 use Rattle.std.proofs.lemmas.Result.{err_from_is_err_and}
 use Rattle.jsonb_raw.proofs.CutWalks.{next_front, fronts_on}
 use Rattle.jsonb_raw.proofs.Lists.{drop_first}
-use Rattle.jsonb_raw.proofs.functions.path.cut.push_fronts.Goals as goal
+use Rattle.jsonb_raw.proofs.functions.path.cut.push_prefixes.Goals as goal
 
-pub returns-in_err-push_front-clause-pushed : goal.returns-in_err-push_front-clause-pushed
-returns-in_err-push_front-clause-pushed c = λ number_at t u ns inner walk fits.
+pub returns-in_err-push_prefix-clause-pushed : goal.returns-in_err-push_prefix-clause-pushed
+returns-in_err-push_prefix-clause-pushed c = λ number_at t u ns inner walk fits.
     let p = err_from_is_err_and c.from_residual.result c.from_residual.ensures.1 in
     let next = drop_first c.args.places.now c.loop-place.place-index c.place-item.result c.loop-place-test.true c.place-item.is in
     let f = next_front _ _ _ _ _ _ _ _ _ _ _ _ next (c.loop-place.invariant.left number_at t u ns inner walk fits) in
-    rw (p.1, p.2) (c.in_err-push_front.ensures.pushed f.within f.room f.short)
+    rw (p.1, p.2) (c.in_err-push_prefix.ensures.pushed f.within f.room f.short)
 
 pub returns-in_default-clause-pushed : goal.returns-in_default-clause-pushed
 returns-in_default-clause-pushed c = λ number_at t u ns inner walk fits.
@@ -34,5 +34,5 @@ loop-place-preserved c = record {
   left = λ number_at t u ns inner walk fits.
       let next = drop_first c.args.places.now c.loop-place.place-index c.place-item.result c.loop-place-test.true c.place-item.is in
       let f = next_front _ _ _ _ _ _ _ _ _ _ _ _ next (c.loop-place.invariant.left number_at t u ns inner walk fits) in
-      fronts_on _ _ _ _ _ _ _ _ _ _ _ _ _ _ f c.in-Some.ensures.lookup.0.2 (c.in_ok-push_front.ensures.pushed f.within f.room f.short) refl;
+      fronts_on _ _ _ _ _ _ _ _ _ _ _ _ _ _ f c.in-Some.ensures.lookup.0.2 (c.in_ok-push_prefix.ensures.pushed f.within f.room f.short) refl;
 }

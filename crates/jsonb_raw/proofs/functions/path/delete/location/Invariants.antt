@@ -7,7 +7,7 @@ use Rattle.jsonb_keypath.specs.KeyPathViews.{keys_view}
 use Rattle.jsonb_raw.specs.Iterators.{YieldsItemsLeft}
 use Rattle.jsonb_raw.specs.Places.{location}
 use Rattle.jsonb_raw.proofs.MetLemmas.{Walked}
-use Rattle.jsonb_raw.proofs.functions.path.delete.place_met.Given as goal
+use Rattle.jsonb_raw.proofs.functions.path.delete.location.Given as goal
 
 -- what the steps that are left select in the tree at the spot comes after the positions so far
 abbrev pub invariant-loop-step : goal.invariant-loop-step

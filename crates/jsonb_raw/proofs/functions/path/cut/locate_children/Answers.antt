@@ -1,7 +1,7 @@
 use Rattle.std.proofs.Common.{arith, inl, inr}
 use Rattle.jsonb_raw.proofs.CutWalks.{drop_number, next_child, walked_on, walked_whole}
 use Rattle.jsonb_raw.proofs.Lists.{none_behind}
-use Rattle.jsonb_raw.proofs.functions.path.cut.places_within.Goals as goal
+use Rattle.jsonb_raw.proofs.functions.path.cut.locate_children.Goals as goal
 
 pub returns-in_default-clause-places : goal.returns-in_default-clause-places
 returns-in_default-clause-places c = λ form t end last is there.
