@@ -12,7 +12,7 @@ use Rattle.jsonb.specs.Values.{Value, values_of_item}
 use Rattle.jsonb.specs.ItemSteps.{list_or}
 use Rattle.jsonb.specs.Meaning.{step_meaning, steps_meaning, truth, operand_values}
 use Rattle.jsonb.specs.Private.Compared.{IsMemberCompared}
-use Rattle.jsonb.specs.Private.Kept.{is_comparison}
+use Rattle.jsonb.specs.Private.FilterCache.{is_comparison}
 use Rattle.jsonb.specs.Private.Members.{is_member, are_members}
 use Rattle.std.specs.List.{AllZip}
 use Rattle.jsonb.specs.Private.Selection.{value_view, taken_step}

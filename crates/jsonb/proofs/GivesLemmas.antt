@@ -7,7 +7,7 @@ use Rattle.jsonb_doc.specs.Tree.{Tree}
 use Rattle.std.specs.List.{AllZip}
 use Rattle.jsonb.specs.Meaning.{is_some_item}
 use Rattle.jsonb.specs.ItemSteps.{list_or}
-use Rattle.jsonb.specs.Private.Selection.{mismatch}
+use Rattle.jsonb.specs.Private.Selection.{fail_if_strict}
 use Rattle.jsonb.specs.declared.selector.document.Mode.{Mode}
 use Rattle.jsonb.specs.declared.selector.document.Mode.TheVariants.{Lax, Strict}
 
@@ -61,7 +61,7 @@ unchanged R xs before a = record { ok = subst (λ l. AllZip R xs l) (sym (append
 
 -- a step that doesn't fit yields nothing, or fails
 pub mismatches : {A : Type 0} (mode : Mode) (R : A → Tree → Type 0) (xs : List A) (before : List Tree) → AllZip R xs before →
-    Gives (λ _ ts. AllZip R xs (before ++ ts)) IsOutOfMemory (mismatch mode) (list_or mode [] None)
+    Gives (λ _ ts. AllZip R xs (before ++ ts)) IsOutOfMemory (fail_if_strict mode) (list_or mode [] None)
 mismatches Lax R xs before a = unchanged R xs before a
 mismatches Strict R xs before a = record { ok = tt; err = inr refl }
 

@@ -8,13 +8,13 @@ use Rattle.jsonb.specs.PathTree as math
 use Rattle.jsonb.specs.PathTree.{Expression}
 use Rattle.jsonb.specs.Meaning.{truth, operand_values}
 use Rattle.jsonb.specs.Private.Selection.{values_view}
-use Rattle.jsonb.specs.Private.Kept.{is_fixed, is_comparison, is_condition, conditions, IsSame, AreSame, AreKept, kept_part}
+use Rattle.jsonb.specs.Private.FilterCache.{is_fixed, is_comparison, is_condition, conditions, IsSame, AreSame, AreKept, kept_part}
 use Rattle.jsonb.specs.declared.selector.document.Mode.{Mode}
 use Rattle.jsonb.specs.declared.selector.operand_value.OperandValues.{OperandValues}
-use Rattle.jsonb.specs.declared.selector.kept.KeptPart.{KeptPart}
-use Rattle.jsonb.specs.declared.selector.kept.KeptPart.TheVariants as part
-use Rattle.jsonb.specs.declared.selector.kept.Kept.{Kept}
-use Rattle.jsonb.specs.declared.selector.kept.Kept.TheVariants as kept
+use Rattle.jsonb.specs.declared.selector.filter_cache.CachedPart.{CachedPart}
+use Rattle.jsonb.specs.declared.selector.filter_cache.CachedPart.TheVariants as part
+use Rattle.jsonb.specs.declared.selector.filter_cache.FilterCache.{FilterCache}
+use Rattle.jsonb.specs.declared.selector.filter_cache.FilterCache.TheVariants as kept
 use Rattle.jsonb.specs.PathViews.{expression_view, operator_view}
 use Rattle.jsonb.specs.Compare.{compare}
 use Rattle.jsonb.specs.Values.{Value}
@@ -36,7 +36,7 @@ fixed_values mode _ top t u h = refl
 
 module _ (mode : Mode) (top : Tree) where
   -- the part at the place of the condition that comes next
-  pub same_part : (ps : List KeptPart) (all more : List Expression) (e : Expression) (p : KeptPart) (n : ℕ) → AreSame mode top ps all → (e ∷ more) ≡ drop n all
+  pub same_part : (ps : List CachedPart) (all more : List Expression) (e : Expression) (p : CachedPart) (n : ℕ) → AreSame mode top ps all → (e ∷ more) ≡ drop n all
       → slice_get ps n ≡ Some p → IsSame mode top p e
   same_part [] all more e p n a d g = cc
   same_part (q ∷ ps) [] more e p n a d g = absurd a
@@ -47,7 +47,7 @@ module _ (mode : Mode) (top : Tree) where
   same_part (q ∷ ps) (f ∷ fs) more e p (suc n) a d g = same_part ps fs more e p n a.1 d g
 
   -- one more part, after all existing
-  pub one_part : (ps : List KeptPart) (all more : List Expression) (e : Expression) (p : KeptPart) → AreSame mode top ps all → (e ∷ more) ≡ drop (length ps) all
+  pub one_part : (ps : List CachedPart) (all more : List Expression) (e : Expression) (p : CachedPart) → AreSame mode top ps all → (e ∷ more) ≡ drop (length ps) all
       → IsSame mode top p e → AreSame mode top (ps ++ p ∷ []) all
   one_part [] [] more e p a d s = cc
   one_part [] (f ∷ fs) more e p a d s = let e_is : e ≡ f = cc in (subst (λ x. IsSame mode top p x) e_is s, tt)
@@ -65,7 +65,7 @@ passed {A} all more e n d = go all n d ∙ ap (λ m. drop m all) (sym (add-one n
     go (f ∷ fs) (suc n) d = go fs n d
 
 -- no part is there: the place is after the last
-pub at_last : (ps : List KeptPart) (n : ℕ) → slice_get ps n ≡ None → n ≤ length ps → n ≡ length ps
+pub at_last : (ps : List CachedPart) (n : ℕ) → slice_get ps n ≡ None → n ≤ length ps → n ≡ length ps
 at_last ps n none short = elim (slice_get_cases ps n).1 [
   | inl found ↦ cc
   | inr past ↦ omega (arith, past.0, short)
@@ -134,7 +134,7 @@ compared mode op l r top u ls rs h p q = comparison_is mode op l r top u h
     ∙ (λ i. and_then (p i) (λ ls. and_then (q i) (λ rs. Ok (compare op ls rs))))
 
 -- the values of the right operand are kept
-pub by_right : (mode : Mode) (top u : Tree) (e : Expr) (op : BinaryOperator) (l r : Box Expr Global) (p : KeptPart) (rights : OperandValues) (left : Expr)
+pub by_right : (mode : Mode) (top u : Tree) (e : Expr) (op : BinaryOperator) (l r : Box Expr Global) (p : CachedPart) (rights : OperandValues) (left : Expr)
     (steps : math.Steps) → e ≡ expr.BinaryOp op l r → p ≡ part.Right rights → left ≡ l.value → expression_view left ≡ math.paths steps
     → is_condition (expression_view e) ≡ true → IsSame mode top p (expression_view e) →
     truth mode (expression_view e) top u
@@ -149,7 +149,7 @@ by_right mode top u e op l r p rights left steps is kept lent named condition sa
     ∙ (λ i. and_then (operand_values mode (math.paths steps) top u) (λ ls. and_then (values u i) (λ rs. Ok (compare (operator_view op) ls rs))))
 
 -- what is kept of the condition that comes next
-pub kept_same : (mode : Mode) (top : Tree) (k : Kept) (all more : List Expression) (e : Expression) (p : KeptPart) → AreKept mode top k all (e ∷ more)
+pub kept_same : (mode : Mode) (top : Tree) (k : FilterCache) (all more : List Expression) (e : Expression) (p : CachedPart) → AreKept mode top k all (e ∷ more)
     → kept_part k ≡ Some p → IsSame mode top p e
 kept_same mode top kept.Nothing all more e p a g = cc
 kept_same mode top (kept.Parts k) all more e p a g = same_part mode top k.parts.items all more e p k.next a.0 a.1 g

@@ -14,7 +14,7 @@ use Rattle.jsonb.specs.Compare.{Truth, compare, pair_truth, first_decisive}
 use Rattle.jsonb.specs.Values.{Value, values_of_item}
 use Rattle.jsonb.specs.Meaning.{step_meaning, steps_meaning, truth, operand_values, start}
 use Rattle.jsonb.specs.Private.Compared.{IsMemberCompared, IsListCompared, items_truth}
-use Rattle.jsonb.specs.Private.Kept.{is_comparison}
+use Rattle.jsonb.specs.Private.FilterCache.{is_comparison}
 use Rattle.jsonb.specs.Private.Members.{are_members}
 use Rattle.jsonb.specs.Private.Selection.{value_view, taken_step}
 use Rattle.jsonb.specs.declared.selector.plan.MemberCompared.{MemberCompared}

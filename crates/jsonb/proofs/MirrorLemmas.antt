@@ -15,7 +15,7 @@ use Rattle.jsonb.specs.Compare.{value_order, truth_of_order, is_container, pair_
 use Rattle.jsonb.specs.Values.{Value, null, boolean, number, text, container, values_of_item}
 use Rattle.jsonb.specs.Meaning.{steps_meaning, truth, operand_values}
 use Rattle.jsonb.specs.Private.Compared.{mirrored}
-use Rattle.jsonb.specs.Private.Kept.{is_comparison}
+use Rattle.jsonb.specs.Private.FilterCache.{is_comparison}
 use Rattle.jsonb.specs.declared.selector.document.Mode.{Mode}
 use Rattle.jsonb.proofs.ComparedLemmas.{compares_member}
 use Rattle.jsonb.proofs.KeptLemmas.{comparison_is}

@@ -27,8 +27,8 @@ use Rattle.jsonb.specs.declared.selector.document.Mode.TheVariants.{Lax}
 use Rattle.jsonb.specs.declared.selector.search.SearchStep.{SearchStep}
 use Rattle.jsonb.specs.declared.selector.search.SearchStep.TheVariants as search
 use Rattle.jsonb.specs.declared.selector.search.Items.{Items}
-use Rattle.jsonb.specs.declared.selector.search.Given.{Given}
-use Rattle.jsonb.specs.declared.selector.search.Given.TheVariants as given
+use Rattle.jsonb.specs.declared.selector.search.StepItems.{StepItems}
+use Rattle.jsonb.specs.declared.selector.search.StepItems.TheVariants as given
 use Rattle.jsonb.specs.declared.selector.search.Reached.TheVariants as reached
 use Rattle.jsonb.specs.declared.selector.search.Waiting.{Waiting}
 use Rattle.jsonb.specs.declared.selector.node_list.NodeList.{NodeList}
@@ -136,10 +136,10 @@ taken_none bytes after [] h = refl
 taken_none bytes after (t ∷ ts) h = absurd h
 
 -- what a step gives: none, or one
-pub given_none : (bytes : List ℕ) (g : Given) (us : List Tree) → g ≡ given.AtMostOne None → AreGiven bytes g us → us ≡ []
+pub given_none : (bytes : List ℕ) (g : StepItems) (us : List Tree) → g ≡ given.AtMostOne None → AreGiven bytes g us → us ≡ []
 given_none bytes g us is h = no_member (Locates bytes) None us refl (subst (λ x. AreGiven bytes x us) is h)
 
-pub given_one : (bytes : List ℕ) (g : Given) (x : Spot) (us : List Tree) → g ≡ given.AtMostOne (Some x) → AreGiven bytes g us
+pub given_one : (bytes : List ℕ) (g : StepItems) (x : Spot) (us : List Tree) → g ≡ given.AtMostOne (Some x) → AreGiven bytes g us
     → (t : Tree) × (us ≡ t ∷ []) × Locates bytes x t
 given_one bytes g x us is h = one_member (Locates bytes) (Some x) x us refl (subst (λ y. AreGiven bytes y us) is h)
 

@@ -12,7 +12,7 @@ use Rattle.jsonb.specs.Compare.{Truth}
 use Rattle.jsonb.specs.Meaning.{truth}
 use Rattle.jsonb.specs.PathTree.{Expression, binary, exists, and_op, or_op}
 use Rattle.jsonb.specs.PathViews.{expression_view}
-use Rattle.jsonb.specs.Private.Kept.{conditions}
+use Rattle.jsonb.specs.Private.FilterCache.{conditions}
 use Rattle.jsonb.specs.Private.Terms.{Term, join, joining, postorder, executed, last_truth, term_conditions, term_view, order_left, IsBelow, AreTermsOf}
 use Rattle.jsonb.specs.declared.path.Expr.{Expr, size-Expr}
 use Rattle.jsonb.specs.declared.selector.document.Mode.{Mode}

@@ -12,7 +12,7 @@ use Rattle.jsonb.specs.PathTree as math
 use Rattle.jsonb.specs.PathTree.{Step, Expression, steps_of}
 use Rattle.jsonb.specs.PathViews.{step_view, number_literal, literal_view}
 use Rattle.jsonb.specs.Meaning.{steps_meaning, as_filter, Means}
-use Rattle.jsonb.specs.Private.Selection.{step_expression, only_expression, begins_with_current}
+use Rattle.jsonb.specs.Private.Selection.{step_expression, only_expression, is_relative}
 use Rattle.jsonb.specs.declared.selector.document.Mode.{Mode}
 use Rattle.jsonb.specs.declared.path.PathValue.{PathValue}
 use Rattle.jsonb.specs.declared.path.Expr.{Expr}
@@ -42,7 +42,7 @@ lone_is (s ∷ []) e h = ap (λ x. x ∷ []) (step_expression_is s e h)
 lone_is (s ∷ t ∷ rest) e h = cc
 
 module _ (form : Form) (mode : Mode) (top : Tree) (outcome : Outcome (List Tree)) where
-  pub by_steps : (path : List Step) → only_expression path ≡ None → begins_with_current path ≡ false → Means form mode path top outcome
+  pub by_steps : (path : List Step) → only_expression path ≡ None → is_relative path ≡ false → Means form mode path top outcome
       → outcome ≡ steps_meaning mode (steps_of (map as_filter path)) top (top ∷ [])
   by_steps (math.current ∷ rest) n b h = cc
   by_steps (math.whole_expression (math.value (math.raw document)) ∷ s ∷ rest) n b h = h

@@ -22,19 +22,19 @@ value_order (text a) (text b) = Some (slice_cmp nat_cmp a b)
 value_order _ _ = None
 
 -- Whether the operator holds for two values in this order.
-abbrev pub is_met_by : BinaryOp → Ordering → Bool
-is_met_by eq o = is_eq o
-is_met_by not_eq o = not (is_eq o)
-is_met_by lt o = is_lt o
-is_met_by lte o = not (is_gt o)
-is_met_by gt o = is_gt o
-is_met_by gte o = not (is_lt o)
-is_met_by _ o = false
+abbrev pub holds_for : BinaryOp → Ordering → Bool
+holds_for eq o = is_eq o
+holds_for not_eq o = not (is_eq o)
+holds_for lt o = is_lt o
+holds_for lte o = not (is_gt o)
+holds_for gt o = is_gt o
+holds_for gte o = not (is_lt o)
+holds_for _ o = false
 
 -- The result for two values in this order. Values of two types have none: they are unequal, and any other comparison is
 -- unknown.
 abbrev pub truth_of_order : BinaryOp → Option Ordering → Truth
-truth_of_order op (Some o) = Some (is_met_by op o)
+truth_of_order op (Some o) = Some (holds_for op o)
 truth_of_order not_eq None = Some true
 truth_of_order op None = None
 

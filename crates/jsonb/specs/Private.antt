@@ -3,7 +3,7 @@ pub mod Positions
 pub mod Selection
 pub mod Selected
 pub mod Appends
-pub mod Kept
+pub mod FilterCache
 pub mod Terms
 pub mod Jumps
 pub mod Tests

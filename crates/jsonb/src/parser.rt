@@ -82,7 +82,7 @@ pub fn parse_json_path(alloc: Global, input: &[u8]) -> Result<JsonPath<'_>, Erro
 }
 
 /// The beginning of a path: the first atom of an expression, or steps that no operator follows.
-enum Front<'a> {
+enum PathStart<'a> {
     Atom(Opening<'a>),
     Steps(Vec<Path<'a>>, &'a [u8]),
 }
@@ -92,26 +92,26 @@ fn steps_at(alloc: Global, input: &[u8]) -> Result<(Vec<Path<'_>>, &[u8]), Alloc
     ensures { IfOk result (λ p. Some (steps_view p.0.items, p.1.now) ≡ (root_expression </> plain_path) input.now) }
 {
     match front_at(alloc, input)? {
-        Front::Steps(steps, rest) => more_steps_at(alloc, steps, rest),
-        Front::Atom(first) => match expression_from(alloc, false, first)? {
+        PathStart::Steps(steps, rest) => more_steps_at(alloc, steps, rest),
+        PathStart::Atom(first) => match expression_from(alloc, false, first)? {
             Some((found, rest)) => Ok((one_step(alloc, found)?, skip_space(rest))),
             None => plain_path_at(alloc, input),
         },
     }
 }
 
-fn front_at(alloc: Global, input: &[u8]) -> Result<Front<'_>, AllocError>
+fn front_at(alloc: Global, input: &[u8]) -> Result<PathStart<'_>, AllocError>
     ensures { IfOk result (IsFront input.now) }
 {
     let Some((steps, rest)) = operand_steps_at(alloc, false, input)? else {
         let first = opening_at(alloc, false, skip_space(input))?;
-        return Ok(Front::Atom(first));
+        return Ok(PathStart::Atom(first));
     };
     let Some((operation, after)) = operation_at(alloc, false, skip_space(rest))? else {
-        return Ok(Front::Steps(steps, rest));
+        return Ok(PathStart::Steps(steps, rest));
     };
     let found = operation_of(alloc, steps, operation)?;
-    Ok(Front::Atom(Opening::Atom(found, after)))
+    Ok(PathStart::Atom(Opening::Atom(found, after)))
 }
 
 fn operation_of<'a>(

@@ -27,7 +27,7 @@ mod document;
 mod documents;
 mod evaluate;
 mod exists;
-mod kept;
+mod filter_cache;
 mod levels;
 mod members;
 mod node_list;

@@ -11,7 +11,7 @@ use Rattle.jsonb.specs.Private.Selection.{IsAt}
 use Rattle.jsonb.specs.declared.path.Expr.{Expr}
 use Rattle.jsonb.specs.declared.selector.document.Document.{Document}
 use Rattle.jsonb.specs.declared.selector.document.Mode.{Mode}
-use Rattle.jsonb.specs.declared.selector.exists.Asked.{Asked}
+use Rattle.jsonb.specs.declared.selector.exists.ExistsCall.{ExistsCall}
 use Rattle.jsonb.specs.declared.selector.exists.Nested.{Nested}
 
 abbrev pub is_exists : Expression → Bool
@@ -26,7 +26,7 @@ IsNested e nested = (are_members (steps_view nested.names.now) ≡ true)
     ≡ exists (steps_of (steps_view nested.names.now ++ filter (expression_view nested.exists.now) ∷ [])))
 
 -- the result is that of the `exists` that is found, for its item; false if none is found; otherwise the error
-abbrev pub LeadsTo : Mode → Document → Tree → Outcome (Option Asked) → Outcome Truth → Type 0
+abbrev pub LeadsTo : Mode → Document → Tree → Outcome (Option ExistsCall) → Outcome Truth → Type 0
 LeadsTo mode document top (Ok (Some asked)) outcome =
     (u : Tree) × IsAt document asked.item u × (outcome ≡ truth mode (expression_view asked.exists.now) top u)
 LeadsTo mode document top (Ok None) outcome = outcome ≡ Ok (Some false)

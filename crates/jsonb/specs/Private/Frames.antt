@@ -20,8 +20,8 @@ use Rattle.jsonb.specs.declared.parser.opening.Opened.TheVariants as opened
 use Rattle.jsonb.specs.declared.parser.opening.Opening.{Opening}
 use Rattle.jsonb.specs.declared.parser.opening.Opening.TheVariants as opening
 use Rattle.jsonb.specs.declared.parser.expression.Frame.{Frame}
-use Rattle.jsonb.specs.declared.parser.Front.{Front}
-use Rattle.jsonb.specs.declared.parser.Front.TheVariants as front
+use Rattle.jsonb.specs.declared.parser.PathStart.{PathStart}
+use Rattle.jsonb.specs.declared.parser.PathStart.TheVariants as front
 
 -- an operator, and the operand after it
 unfoldable pub operation : Bool → Rule (BinaryOp × Expression)
@@ -162,7 +162,7 @@ as_path whole = option_and_then (λ (p : Expression × List ℕ). (do
   give (whole_expression p.0 ∷ [])) p.1) whole
 
 -- the text is an expression with this beginning, or not an expression but these steps and those after them
-abbrev pub IsFront : List ℕ → Front → Type 0
+abbrev pub IsFront : List ℕ → PathStart → Type 0
 IsFront input (front.Atom first) = IsOpening first × (as_path (partial_outcome
     (record { is_in_filter = false; all = None; any = None }) (opening_outcome false first)) ≡ root_expression input)
 IsFront input (front.Steps steps rest) = (root_expression input ≡ None) ×

@@ -20,8 +20,8 @@ use Rattle.jsonb.specs.declared.selector.search.SearchStep.{SearchStep}
 use Rattle.jsonb.specs.declared.selector.search.SearchStep.TheVariants as search
 use Rattle.jsonb.specs.declared.selector.search.Items.{Items}
 use Rattle.jsonb.specs.declared.selector.search.Items.TheVariants as items
-use Rattle.jsonb.specs.declared.selector.search.Given.{Given}
-use Rattle.jsonb.specs.declared.selector.search.Given.TheVariants as given
+use Rattle.jsonb.specs.declared.selector.search.StepItems.{StepItems}
+use Rattle.jsonb.specs.declared.selector.search.StepItems.TheVariants as given
 use Rattle.jsonb.specs.declared.selector.search.Reached.{Reached}
 use Rattle.jsonb.specs.declared.selector.search.Reached.TheVariants as reached
 use Rattle.jsonb.specs.declared.selector.selected.Selected.{Selected}
@@ -52,16 +52,16 @@ TakesItem bytes (t ∷ ts) (Some (Ok spot)) after = Locates bytes spot t × HasI
 TakesItem bytes _ _ after = ⊥
 
 -- these are the items that a step gives
-abbrev pub AreGiven : List ℕ → Given → List Tree → Type 0
+abbrev pub AreGiven : List ℕ → StepItems → List Tree → Type 0
 AreGiven bytes (given.AtMostOne found) ts = AllZip (Locates bytes) (option_spots found) ts
 AreGiven bytes (given.Many left) ts = HasItems bytes left ts
 
 -- Holds if the result is what the step selects of the tree at a position.
-abbrev pub GivesItems : List ℕ → Spot → Result Given Error → (Tree → Outcome (List Tree)) → Type 0
+abbrev pub GivesItems : List ℕ → Spot → Result StepItems Error → (Tree → Outcome (List Tree)) → Type 0
 GivesItems bytes item answer step =
     (t : Tree) → Locates bytes item t → Gives (AreGiven bytes) IsOutOfMemory answer (step t)
 
-abbrev pub given_bound : Given → ℕ
+abbrev pub given_bound : StepItems → ℕ
 given_bound (given.AtMostOne found) = 0
 given_bound (given.Many left) = items_bound left
 

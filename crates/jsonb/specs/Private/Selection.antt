@@ -48,9 +48,9 @@ PushesStep bytes item old new answer step =
     → Gives (λ _ ts. AllZip (Locates bytes) new (before ++ ts)) IsOutOfMemory answer (step t)
 
 -- the result of a step that does not apply to the item: an error in strict mode
-abbrev pub mismatch : Mode → Result (Unit {0}) Error
-mismatch Lax = Ok tt
-mismatch Strict = Err StrictPath
+abbrev pub fail_if_strict : Mode → Result (Unit {0}) Error
+fail_if_strict Lax = Ok tt
+fail_if_strict Strict = Err StrictPath
 
 -- the value that an operand's value is
 abbrev pub value_view : OperandValue → val.Value
@@ -138,9 +138,9 @@ abbrev pub only_expression : List Step → Option Expression
 only_expression (s ∷ []) = step_expression s
 only_expression _ = None
 
-abbrev pub begins_with_current : List Step → Bool
-begins_with_current (current ∷ rest) = true
-begins_with_current _ = false
+abbrev pub is_relative : List Step → Bool
+is_relative (current ∷ rest) = true
+is_relative _ = false
 
 -- the list of a number of the code
 abbrev pub IsNumberTree : CodeNumber → List Tree → Type 0

@@ -8,7 +8,7 @@ use Rattle.jsonb.specs.PathTree.{BinaryOp, and_op, or_op, Expression, binary}
 use Rattle.jsonb.specs.PathViews.{expression_view}
 use Rattle.jsonb.specs.Compare.{Truth, and_truth, or_truth}
 use Rattle.jsonb.specs.Meaning.{truth}
-use Rattle.jsonb.specs.Private.Kept.{conditions}
+use Rattle.jsonb.specs.Private.FilterCache.{conditions}
 use Rattle.jsonb.specs.Private.Parts.{parts}
 use Rattle.jsonb.specs.declared.path.Expr.{Expr, size-Expr}
 use Rattle.jsonb.specs.declared.selector.document.Mode.{Mode}
@@ -17,7 +17,7 @@ use Rattle.jsonb.specs.declared.selector.terms.Join.TheVariants.{And, Or}
 use Rattle.jsonb.specs.declared.selector.terms.Pair.{Pair}
 use Rattle.jsonb.specs.declared.selector.terms.Term.{Term as CodeTerm}
 use Rattle.jsonb.specs.declared.selector.terms.Term.TheVariants as code
-use Rattle.jsonb.specs.declared.selector.terms.Truths.{Truths}
+use Rattle.jsonb.specs.declared.selector.terms.TruthStack.{TruthStack}
 
 abbrev pub join_of : BinaryOp → Option Join
 join_of and_op = Some And
@@ -73,7 +73,7 @@ abbrev pub term_view : CodeTerm → Term
 term_view (code.Condition e) = condition (expression_view e.now)
 term_view (code.Join j) = join j
 
-abbrev pub truths_view : Truths → List Truth
+abbrev pub truths_view : TruthStack → List Truth
 truths_view t = reverse t.truths.items
 
 -- a condition is a smaller expression, which joins no others

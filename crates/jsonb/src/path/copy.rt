@@ -6,8 +6,8 @@ ghost use Rattle.jsonb.specs.PathViews.{literal_view, step_view, steps_view, exp
 ghost use Rattle.jsonb.specs.Private.Copying.{leaf_view, leaf_parts, so_far_view, so_far_parts, copied_view, copied_parts, step_copy_view};
 
 use super::copying::{
-    Copied, Frame, Holder, Leaf, Progress, ReachedLeaf, StepCopy, StepsSoFar, first_leaf, go_on,
-    holding, listed,
+    Copied, Frame, Holder, Leaf, Progress, ReachedLeaf, StepCopy, StepsSoFar, first_leaf, holding,
+    listed, resume_copy,
 };
 use super::{Expr, JsonPath, Path, PathValue};
 use jsonb_doc::Error;
@@ -102,7 +102,7 @@ impl<'a> Expr<'a> {
         loop {
             let ReachedLeaf { leaf, frames } = reached;
             let copied = copied_leaf(leaf, alloc)?;
-            match go_on(alloc, copied, frames)? {
+            match resume_copy(alloc, copied, frames)? {
                 Progress::Whole(whole) => return Ok(whole),
                 Progress::Leaf(next) => reached = next,
             }

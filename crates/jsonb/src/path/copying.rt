@@ -187,7 +187,7 @@ fn none_copied<'e, 'a, 'b>(
 }
 
 /// Returns the next leaf after this copy within the frames, if there is one.
-pub(super) fn go_on<'e, 'a, 'b>(
+pub(super) fn resume_copy<'e, 'a, 'b>(
     alloc: Global,
     copied: Copied<'e, 'a, 'b>,
     mut frames: Vec<Frame<'e, 'a, 'b>>,

@@ -8,8 +8,8 @@ ghost use Rattle.jsonb.specs.Private.Copying.{leaf_view, leaf_parts, leaf_has_do
 ghost use Rattle.jsonb.specs.PathViews.{literal_view, step_view, steps_view, expression_view, path_view};
 
 use super::copying::{
-    Copied, Frame, Holder, Leaf, Progress, ReachedLeaf, StepCopy, StepsSoFar, first_leaf, go_on,
-    holding, listed,
+    Copied, Frame, Holder, Leaf, Progress, ReachedLeaf, StepCopy, StepsSoFar, first_leaf, holding,
+    listed, resume_copy,
 };
 use super::{Expr, JsonPath, Path, PathValue};
 use jsonb_doc::Error;
@@ -104,7 +104,7 @@ impl Expr<'_> {
         loop {
             let ReachedLeaf { leaf, frames } = reached;
             let copied = owned_leaf(leaf, alloc)?;
-            match go_on(alloc, copied, frames)? {
+            match resume_copy(alloc, copied, frames)? {
                 Progress::Whole(whole) => return Ok(whole),
                 Progress::Leaf(next) => reached = next,
             }

@@ -24,12 +24,12 @@ impl<'a> Expr<'a> {
             waiting: None,
         });
         while let Some(Remaining { next, waiting }) = remaining {
-            remaining = next.without_a_part(waiting);
+            remaining = next.release_step(waiting);
         }
     }
 
     /// Drops one node; returns what remains of the expression and of what waits.
-    fn without_a_part(self, waiting: Option<Box<Expr<'a>>>) -> Option<Remaining<'a>>
+    fn release_step(self, waiting: Option<Box<Expr<'a>>>) -> Option<Remaining<'a>>
         ensures { IfSome result (λ left. remaining left < to_release (parts self.entry) (waiting_parts waiting.entry)) }
     {
         match self {

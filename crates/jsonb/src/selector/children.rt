@@ -11,7 +11,7 @@ ghost use Rattle.jsonb.specs.PathViews.{entry_view, step_view};
 ghost use Rattle.std.specs.List.{AllZip};
 ghost use Rattle.jsonb.specs.ItemSteps.{values_of, field_step, values_step, elements_step, indices_step, picked_by, picked};
 ghost use Rattle.jsonb.specs.Meaning.{step_meaning};
-ghost use Rattle.jsonb.specs.Private.Selection.{PushesStep, is_filter, mismatch};
+ghost use Rattle.jsonb.specs.Private.Selection.{PushesStep, is_filter, fail_if_strict};
 ghost use Rattle.jsonb.specs.SelectionErrors.{IsSelectionError};
 ghost use Rattle.jsonb.specs.declared.selector.document.Mode.TheVariants.{Lax, Strict};
 
@@ -114,8 +114,8 @@ pub(crate) fn push_step(
 
 /// Returns the result of a step that does not apply to an item: in strict mode an error.
 #[inline(always)]
-pub(crate) fn mismatch(mode: Mode) -> Result<(), Error>
-    ensures answer { result ≡ mismatch mode }
+pub(crate) fn fail_if_strict(mode: Mode) -> Result<(), Error>
+    ensures answer { result ≡ fail_if_strict mode }
     ensures lax { OnOk result (mode ≡ Lax) }
     ensures strict { IfErr result (λ e. (mode ≡ Strict) × (e ≡ StrictPath)) }
     ensures errors { IfErr result (IsSelectionError mode) }
@@ -140,7 +140,7 @@ pub(crate) fn push_field(
 {
     match field_spot(bytes, item, name)? {
         Some(value) => push_spot(nodes, value),
-        None => mismatch(mode),
+        None => fail_if_strict(mode),
     }
 }
 
@@ -151,7 +151,7 @@ fn push_values(bytes: &[u8], mode: Mode, item: Spot, nodes: &mut Vec<Spot>) -> R
 {
     match values(bytes, item)? {
         Some(values) => push_spots(values, nodes),
-        None => mismatch(mode),
+        None => fail_if_strict(mode),
     }
 }
 
@@ -184,7 +184,7 @@ pub(crate) fn push_positions(
 {
     match elements(bytes, item)? {
         Some(elements) => push_picked(alloc, elements, entries, nodes),
-        None => mismatch(mode),
+        None => fail_if_strict(mode),
     }
 }
 

@@ -17,7 +17,7 @@ ghost use Rattle.jsonb.specs.declared.selector.document.Mode.TheVariants.{Lax};
 use super::compared_member::{compared_member, item_truth, literal_truth};
 use super::compile::literal_of;
 use super::document::{Context, Current, Document, Expressions, Mode, TruthResult};
-use super::kept::is_comparison;
+use super::filter_cache::is_comparison;
 use super::members::is_member;
 use super::plan::MemberCompared;
 use super::steps::{select_steps, truth};

@@ -20,7 +20,7 @@ ghost use Rattle.jsonb.specs.SelectionErrors.{IsSelectionError};
 
 use super::children::elements;
 use super::document::{Current, Mode, TruthResult};
-use super::members::{member, member_of, starting_item};
+use super::members::{member, member_of, start_spot};
 use super::operand_value::{OperandValue, compare_one, compare_short, value_of_item};
 use super::plan::MemberCompared;
 use crate::path::{BinaryOperator, Path};
@@ -101,7 +101,7 @@ pub(crate) fn member_truth(
     ensures errors { IfErr result (IsSelectionError current.entry.context.now.mode) }
 {
     let Current { context, item } = current;
-    let first = starting_item(steps, context.document, item);
+    let first = start_spot(steps, context.document, item);
     let found = member(context.mode, steps, context.document.bytes, first)?;
     found_truth(op, context.document.bytes, found, rights)
 }

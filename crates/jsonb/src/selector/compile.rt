@@ -8,7 +8,7 @@ ghost use Rattle.jsonb.specs.PathViews.{expression_view, operator_view, steps_vi
 ghost use Rattle.jsonb.specs.Meaning.{operand_values};
 ghost use Rattle.jsonb.specs.Private.Compared.{mirrored};
 ghost use Rattle.jsonb.specs.Private.Jumps.{Branch};
-ghost use Rattle.jsonb.specs.Private.Kept.{is_comparison};
+ghost use Rattle.jsonb.specs.Private.FilterCache.{is_comparison};
 ghost use Rattle.jsonb.specs.Private.Members.{are_members};
 ghost use Rattle.jsonb.specs.Private.Parts.{parts};
 ghost use Rattle.jsonb.specs.Private.Selection.{value_view};
@@ -16,7 +16,7 @@ ghost use Rattle.jsonb.specs.Private.Terms.{is_joined};
 ghost use Rattle.jsonb.specs.Private.Tests.{IsMemberFound, IsQuestionOf, AreBranches, AreTestsOf, tests_in, jump_to, left_of, right_of, pending, waiting_left, parts_waiting, parts_to_compile};
 ghost use Rattle.jsonb.specs.declared.selector.document.Mode.{Mode};
 
-use super::kept::is_comparison;
+use super::filter_cache::is_comparison;
 use super::members::{are_members, member_steps};
 use super::operand_value::{OperandValue, value_of_literal};
 use super::plan::{Condition, MemberCompared, MemberFound, MembersCompared, Question, Test};

@@ -18,7 +18,7 @@ use super::children::push_if;
 use super::compared_member::{compared_member, found_truth, item_truth, literal_truth};
 use super::compile::condition_of;
 use super::document::{Mode, TruthResult};
-use super::kept::is_kept;
+use super::filter_cache::is_true;
 use super::members::member;
 use super::node_list::NodeList;
 use super::plan::{Jump, MembersCompared, Question, Test};
@@ -105,7 +105,7 @@ fn push_tested(
         (step_meaning mode (filter e) top t) }
     ensures errors { IfErr first_truth (IsSelectionError mode) → IfErr result (IsSelectionError mode) }
 {
-    let keeps = is_kept(filter_truth(alloc, mode, first, others, first_truth, bytes, item)?);
+    let keeps = is_true(filter_truth(alloc, mode, first, others, first_truth, bytes, item)?);
     push_if(keeps, item, nodes)
 }
 

@@ -11,13 +11,13 @@ ghost use Rattle.jsonb.specs.declared.selector.document.Mode.{Mode};
 ghost use Rattle.jsonb.specs.SelectionErrors.{IsSelectionError};
 
 use super::document::{Document, Mode};
-use super::members::{are_members, member, starting_item};
+use super::members::{are_members, member, start_spot};
 use crate::path::{Expr, Path};
 use jsonb_doc::{Error, Spot};
 
 /// An `exists`, and the item for which it is evaluated.
 #[derive(Clone, Copy)]
-pub(crate) struct Asked<'s, 'p> {
+pub(crate) struct ExistsCall<'s, 'p> {
     pub(crate) exists: &'s Expr<'p>,
     pub(crate) item: Spot,
 }
@@ -35,7 +35,7 @@ pub(crate) fn innermost<'s, 'p>(
     exists: &'s Expr<'p>,
     document: Document<'_>,
     item: Spot,
-) -> Result<Option<Asked<'s, 'p>>, Error>
+) -> Result<Option<ExistsCall<'s, 'p>>, Error>
     ensures meant { (top t : Tree) → is_exists (expression_view exists.now) ≡ true → HasTree document.entry top
         → IsAt document.entry item t
         → LeadsTo mode document.entry top result (truth mode (expression_view exists.now) top t) }
@@ -45,12 +45,12 @@ pub(crate) fn innermost<'s, 'p>(
         (λ asked. is_exists (expression_view asked.exists.now) ≡ true)) }
     ensures errors { IfErr result (IsSelectionError mode) }
 {
-    let mut asked = Asked { exists, item };
+    let mut asked = ExistsCall { exists, item };
     while let Some(nested) = nested_in(asked.exists) {
-        let first = starting_item(nested.names, document, asked.item);
+        let first = start_spot(nested.names, document, asked.item);
         match member(mode, nested.names, document.bytes, first)? {
             Some(item) => {
-                asked = Asked {
+                asked = ExistsCall {
                     exists: nested.exists,
                     item,
                 }

@@ -15,19 +15,19 @@ ghost use Rattle.jsonb.specs.declared.selector.document.Expressions.{Expressions
 ghost use Rattle.jsonb.specs.declared.selector.document.Mode.{Mode};
 ghost use Rattle.jsonb.specs.SelectionErrors.{IsSelectionError};
 
-use super::children::mismatch;
+use super::children::fail_if_strict;
 use super::document::{Document, Mode};
-use super::kept::begins_with_current;
+use super::filter_cache::is_relative;
 use crate::path::{Expr, Path};
 use jsonb_doc::{Error, Spot, field_spot};
 
 /// Returns the item at which a path within an expression starts.
 #[inline(always)]
-pub(crate) fn starting_item(steps: &[Path<'_>], document: Document<'_>, item: Spot) -> Spot
+pub(crate) fn start_spot(steps: &[Path<'_>], document: Document<'_>, item: Spot) -> Spot
     ensures { (top t : Tree) → HasTree document.entry top → IsAt document.entry item t
         → IsAt document.entry result (start (steps_of (steps_view steps.now)) top t) }
 {
-    if begins_with_current(steps) {
+    if is_relative(steps) {
         item
     } else {
         document.root
@@ -77,7 +77,7 @@ fn field(bytes: &[u8], mode: Mode, name: &str, item: Spot) -> Result<Option<Spot
     match field_spot(bytes, item, name)? {
         Some(value) => Ok(Some(value)),
         None => {
-            mismatch(mode)?;
+            fail_if_strict(mode)?;
             Ok(None)
         }
     }

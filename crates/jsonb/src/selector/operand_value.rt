@@ -6,7 +6,7 @@ ghost use Rattle.jsonb_doc.specs.StoredValue.{IsStoredAs};
 ghost use Rattle.jsonb.specs.PathViews.{operator_view, literal_view};
 ghost use Rattle.jsonb_doc.specs.Private.Short.{short_value};
 ghost use Rattle.jsonb.specs.Values.{number, value_of_item, literal_item, values_of_literal};
-ghost use Rattle.jsonb.specs.Compare.{compare, pair_truth, value_order, is_met_by, truth_of_order, starts_with_truth, and_truth, or_truth, is_container};
+ghost use Rattle.jsonb.specs.Compare.{compare, pair_truth, value_order, holds_for, truth_of_order, starts_with_truth, and_truth, or_truth, is_container};
 ghost use Rattle.jsonb.specs.Private.Selection.{value_view, values_view, option_values};
 
 use crate::path::{BinaryOperator, PathValue};
@@ -229,7 +229,7 @@ fn truth_of_order(op: BinaryOperator, order: Option<Ordering>) -> Option<bool>
     ensures { result ≡ truth_of_order (operator_view op) order }
 {
     match order {
-        Some(order) => Some(is_met_by(op, order)),
+        Some(order) => Some(holds_for(op, order)),
         None if op == BinaryOperator::NotEq => Some(true),
         None => None,
     }
@@ -237,8 +237,8 @@ fn truth_of_order(op: BinaryOperator, order: Option<Ordering>) -> Option<bool>
 
 /// Returns `true` if the operator holds for two values in this order.
 #[inline(always)]
-fn is_met_by(op: BinaryOperator, order: Ordering) -> bool
-    ensures { result ≡ is_met_by (operator_view op) order }
+fn holds_for(op: BinaryOperator, order: Ordering) -> bool
+    ensures { result ≡ holds_for (operator_view op) order }
 {
     match op {
         BinaryOperator::Eq => order == Ordering::Equal,

@@ -22,7 +22,7 @@ use super::compared_member::{compared_member, literal_truth};
 use super::compile::condition_of;
 use super::document::{Context, Document, Expressions, Mode};
 use super::evaluate::{filter_truth, question_truth};
-use super::kept::is_kept;
+use super::filter_cache::is_true;
 use super::levels::push_levels;
 use super::members::{are_members, member_of};
 use super::plan::{Condition, Question};
@@ -54,7 +54,7 @@ pub(crate) enum Items<'a> {
 
 /// What steps select of an item.
 #[derive(Drop)]
-pub(crate) enum Given<'a> {
+pub(crate) enum StepItems<'a> {
     AtMostOne(Option<Spot>),
     Many(Items<'a>),
 }
@@ -260,9 +260,9 @@ fn reach<'t, 's, 'p, 'a>(
     let mut item = first;
     for (at, step) in steps.iter().enumerate() {
         match step_items(alloc, step, bytes, item)? {
-            Given::AtMostOne(Some(next)) => item = next.by_parts(),
-            Given::AtMostOne(None) => return Ok(Reached::AtMostOne(None)),
-            Given::Many(items) => {
+            StepItems::AtMostOne(Some(next)) => item = next.by_parts(),
+            StepItems::AtMostOne(None) => return Ok(Reached::AtMostOne(None)),
+            StepItems::Many(items) => {
                 let steps = &steps[at + 1..];
                 return Ok(Reached::Many(Waiting { items, steps }));
             }
@@ -278,7 +278,7 @@ fn step_items<'a>(
     step: &SearchStep<'_, '_>,
     bytes: &'a [u8],
     item: Spot,
-) -> Result<Given<'a>, Error>
+) -> Result<StepItems<'a>, Error>
     ensures meant { (top t : Tree) (s : Step) → IsSearched step.now s → Locates bytes.now item t
         → Gives (AreGiven bytes.now) IsOutOfMemory result (step_meaning Lax s top t) }
     ensures few { IfOk result (λ given. given_bound given < 2 ^ 64) }
@@ -287,7 +287,7 @@ fn step_items<'a>(
     match step {
         SearchStep::Member(path) => {
             let found = member_of(Mode::Lax, path, bytes, item)?;
-            Ok(Given::AtMostOne(found))
+            Ok(StepItems::AtMostOne(found))
         }
         SearchStep::Values => value_items(bytes, item),
         SearchStep::Elements => element_items(bytes, item),
@@ -303,7 +303,7 @@ fn step_items<'a>(
         }
         SearchStep::Tested(condition) => {
             let Some((first, others)) = condition.as_slice().split_last() else {
-                return Ok(Given::AtMostOne(None));
+                return Ok(StepItems::AtMostOne(None));
             };
             // A comparison with a literal is evaluated here: as a call, it costs an item of 500 instructions 60 more.
             match &first.question {
@@ -341,46 +341,46 @@ fn step_items<'a>(
 
 /// Returns an item if a filter is true of it.
 #[inline(always)]
-fn kept<'a>(truth: Option<bool>, item: Spot) -> Given<'a>
+fn kept<'a>(truth: Option<bool>, item: Spot) -> StepItems<'a>
     ensures kept { (bytes : List ℕ) (t : Tree) → Locates bytes item t → AreGiven bytes result (filtered t truth) }
     ensures few { given_bound result < 2 ^ 64 }
 {
-    Given::AtMostOne(is_kept(truth).then_some(item.by_parts()))
+    StepItems::AtMostOne(is_true(truth).then_some(item.by_parts()))
 }
 
 /// Returns the positions of a list.
 #[inline(always)]
-fn listed<'a>(mut spots: Vec<Spot>) -> Given<'a>
+fn listed<'a>(mut spots: Vec<Spot>) -> StepItems<'a>
     ensures given { (bytes : List ℕ) (ts : List Tree) → AllZip (Locates bytes) spots.items ts
         → AreGiven bytes result ts }
     ensures few { given_bound result < 2 ^ 64 }
 {
     spots.reverse();
-    Given::Many(Items::Listed(spots))
+    StepItems::Many(Items::Listed(spots))
 }
 
 /// Returns the values of an object.
 #[inline(always)]
-fn value_items<'a>(bytes: &'a [u8], item: Spot) -> Result<Given<'a>, Error>
+fn value_items<'a>(bytes: &'a [u8], item: Spot) -> Result<StepItems<'a>, Error>
     ensures meant { GivesItems bytes.now item result (values_step Lax) }
     ensures few { IfOk result (λ given. given_bound given < 2 ^ 64) }
     ensures errors { IfErr result IsDecodingError }
 {
     match values(bytes, item)? {
-        Some(children) => Ok(Given::Many(Items::Children(children))),
-        None => Ok(Given::AtMostOne(None)),
+        Some(children) => Ok(StepItems::Many(Items::Children(children))),
+        None => Ok(StepItems::AtMostOne(None)),
     }
 }
 
 /// Returns the elements of an array, or another item itself.
 #[inline(always)]
-fn element_items<'a>(bytes: &'a [u8], item: Spot) -> Result<Given<'a>, Error>
+fn element_items<'a>(bytes: &'a [u8], item: Spot) -> Result<StepItems<'a>, Error>
     ensures meant { GivesItems bytes.now item result (elements_step Lax) }
     ensures few { IfOk result (λ given. given_bound given < 2 ^ 64) }
     ensures errors { IfErr result IsDecodingError }
 {
     match elements(bytes, item)? {
-        Some(children) => Ok(Given::Many(Items::Children(children))),
-        None => Ok(Given::AtMostOne(Some(item))),
+        Some(children) => Ok(StepItems::Many(Items::Children(children))),
+        None => Ok(StepItems::AtMostOne(Some(item))),
     }
 }

@@ -12,8 +12,8 @@ ghost use Rattle.jsonb.specs.Meaning.{step_meaning, steps_meaning, truth, operan
 ghost use Rattle.jsonb.specs.Private.Selection.{IsAt, HasTree, node_spots, values_view, taken_step, is_filter, IsPlain};
 ghost use Rattle.jsonb.specs.Private.Exists.{is_exists};
 ghost use Rattle.jsonb.specs.Private.Terms.{is_joined, AreTermsOf};
-ghost use Rattle.jsonb.specs.Private.Kept.{conditions, is_condition, IsSame, IsKeptFor, kept_part};
-ghost use Rattle.jsonb.specs.Private.Steps.{GivesOfEach, TellsTruth, TellsByPart, TellsByKept, KeepsNext};
+ghost use Rattle.jsonb.specs.Private.FilterCache.{conditions, is_condition, IsSame, IsKeptFor, kept_part};
+ghost use Rattle.jsonb.specs.Private.Steps.{GivesOfEach, RefinesTruth, TellsByPart, RefinesTruthWithCache, ExtendsCache};
 ghost use Rattle.jsonb.specs.declared.path.Expr.{size-Expr};
 ghost use Rattle.jsonb.specs.declared.selector.document.Expressions.TheVariants.{AreRefused};
 ghost use Rattle.jsonb.specs.declared.path.Path.{size-Path};
@@ -24,14 +24,16 @@ use super::compared_member::member_truth;
 use super::document::{Context, Current, Expressions, Mode, TruthResult};
 use super::evaluate::tested_filter;
 use super::exists::innermost;
-use super::kept::{Kept, KeptPart, comparison_part, exists_part, is_comparison, is_kept};
+use super::filter_cache::{
+    CachedPart, FilterCache, comparison_part, exists_part, is_comparison, is_true,
+};
 use super::members::{
-    are_members, is_member, member, member_name, member_of, member_steps, starting_item,
+    are_members, is_member, member, member_name, member_of, member_steps, start_spot,
 };
 use super::node_list::NodeList;
 use super::operand_value::{OperandValues, compare, value_of_literal};
 use super::search::search;
-use super::terms::{Run, Term, Truths, is_joined, terms_of};
+use super::terms::{Evaluation, Term, TruthStack, is_joined, terms_of};
 use super::values::found_values;
 use crate::path::{Expr, Path};
 use jsonb_doc::{Error, Spot};
@@ -138,7 +140,7 @@ fn step_item<'a>(
 {
     match filter_of(expressions, step) {
         Some(e) => {
-            let keeps = is_kept(truth(Current { context, item }, e)?);
+            let keeps = is_true(truth(Current { context, item }, e)?);
             Ok(NodeList::at_most_one(context.alloc, keeps.then_some(item)))
         }
         None => plain_step(
@@ -210,8 +212,8 @@ fn filter_many<'a>(
     ensures errors { IfErr result (IsSelectionError context.now.mode) }
 {
     let terms = terms_of(context.alloc, e)?;
-    let kept = Kept::new(context.alloc);
-    let mut run = Run::new(context.alloc, kept);
+    let kept = FilterCache::new(context.alloc);
+    let mut run = Evaluation::new(context.alloc, kept);
     let mut nodes = Vec::new(context.alloc);
     for item in items {
         let current = Current {
@@ -230,7 +232,7 @@ fn push_kept<'a>(
     current: Current<'_, 'a>,
     e: &'a Expr<'_>,
     terms: &[Term<'a, '_>],
-    run: &mut Run<'a>,
+    run: &mut Evaluation<'a>,
     nodes: &mut Vec<Spot>,
 ) -> Result<(), Error>
     requires { is_joined (expression_view e.now) ≡ true → AreTermsOf e.now terms.now }
@@ -246,7 +248,7 @@ fn push_kept<'a>(
         → OnOk result (IsKeptFor current.entry.context.now.mode top (expression_view e.now) run.new.kept) }
     ensures errors { IfErr result (IsSelectionError current.entry.context.now.mode) }
 {
-    let keeps = is_kept(truth_by_kept(current, e, terms, run)?);
+    let keeps = is_true(truth_by_kept(current, e, terms, run)?);
     run.kept.restart();
     push_if(keeps, current.item, nodes)
 }
@@ -281,11 +283,11 @@ pub(crate) fn select_steps<'a>(
 #[cycle(steps)]
 #[inline(never)]
 pub(crate) fn truth<'a>(current: Current<'_, 'a>, e: &'a Expr<'_>) -> TruthResult
-    ensures meant { TellsTruth current.entry (expression_view e.now) result }
+    ensures meant { RefinesTruth current.entry (expression_view e.now) result }
     ensures errors { IfErr result (IsSelectionError current.entry.context.now.mode) }
 {
     let terms = terms_of(current.context.alloc, e)?;
-    let mut run = Run::new(current.context.alloc, Kept::Nothing);
+    let mut run = Evaluation::new(current.context.alloc, FilterCache::Nothing);
     truth_by_kept(current, e, &terms, &mut run)
 }
 
@@ -296,12 +298,12 @@ fn truth_by_kept<'a>(
     current: Current<'_, 'a>,
     e: &'a Expr<'_>,
     terms: &[Term<'a, '_>],
-    run: &mut Run<'a>,
+    run: &mut Evaluation<'a>,
 ) -> TruthResult
     requires { is_joined (expression_view e.now) ≡ true → AreTermsOf e.now terms.now }
-    ensures meant { TellsByKept current.entry (expression_view e.now) (conditions (expression_view e.now))
+    ensures meant { RefinesTruthWithCache current.entry (expression_view e.now) (conditions (expression_view e.now))
         run.old.kept result }
-    ensures kept { KeepsNext current.entry (conditions (expression_view e.now)) run.old.kept run.new.kept result }
+    ensures kept { ExtendsCache current.entry (conditions (expression_view e.now)) run.old.kept run.new.kept result }
     ensures errors { IfErr result (IsSelectionError current.entry.context.now.mode) }
 {
     if is_joined(e) {
@@ -318,13 +320,13 @@ fn joined_truth<'a>(
     current: Current<'_, 'a>,
     e: &'a Expr<'_>,
     terms: &[Term<'a, '_>],
-    truths: &mut Truths,
-    kept: &mut Kept<'a>,
+    truths: &mut TruthStack,
+    kept: &mut FilterCache<'a>,
 ) -> TruthResult
     requires { AreTermsOf e.now terms.now }
-    ensures meant { TellsByKept current.entry (expression_view e.now) (conditions (expression_view e.now))
+    ensures meant { RefinesTruthWithCache current.entry (expression_view e.now) (conditions (expression_view e.now))
         kept.old result }
-    ensures kept { KeepsNext current.entry (conditions (expression_view e.now)) kept.old kept.new result }
+    ensures kept { ExtendsCache current.entry (conditions (expression_view e.now)) kept.old kept.new result }
     ensures errors { IfErr result (IsSelectionError current.entry.context.now.mode) }
 {
     truths.clear();
@@ -346,11 +348,15 @@ fn joined_truth<'a>(
 /// Evaluates an expression that joins no others for an item.
 #[cycle(steps)]
 #[inline(always)]
-fn single_truth<'a>(current: Current<'_, 'a>, e: &'a Expr<'_>, kept: &mut Kept<'a>) -> TruthResult
+fn single_truth<'a>(
+    current: Current<'_, 'a>,
+    e: &'a Expr<'_>,
+    kept: &mut FilterCache<'a>,
+) -> TruthResult
     ensures meant { is_joined (expression_view e.now) ≡ false
-        → TellsByKept current.entry (expression_view e.now) (conditions (expression_view e.now)) kept.old result }
+        → RefinesTruthWithCache current.entry (expression_view e.now) (conditions (expression_view e.now)) kept.old result }
     ensures kept { is_joined (expression_view e.now) ≡ false
-        → KeepsNext current.entry (conditions (expression_view e.now)) kept.old kept.new result }
+        → ExtendsCache current.entry (conditions (expression_view e.now)) kept.old kept.new result }
     ensures errors { IfErr result (IsSelectionError current.entry.context.now.mode) }
 {
     match e {
@@ -369,11 +375,15 @@ fn single_truth<'a>(current: Current<'_, 'a>, e: &'a Expr<'_>, kept: &mut Kept<'
 /// Returns whether a comparison or `exists` is true of an item. What is the same for each item is cached.
 #[cycle(steps)]
 #[inline(always)]
-fn condition<'a>(current: Current<'_, 'a>, e: &'a Expr<'_>, kept: &mut Kept<'a>) -> TruthResult
+fn condition<'a>(
+    current: Current<'_, 'a>,
+    e: &'a Expr<'_>,
+    kept: &mut FilterCache<'a>,
+) -> TruthResult
     ensures meant { is_condition (expression_view e.now) ≡ true
-        → TellsByKept current.entry (expression_view e.now) (expression_view e.now ∷ []) kept.old result }
+        → RefinesTruthWithCache current.entry (expression_view e.now) (expression_view e.now ∷ []) kept.old result }
     ensures kept { is_condition (expression_view e.now) ≡ true
-        → KeepsNext current.entry (expression_view e.now ∷ []) kept.old kept.new result }
+        → ExtendsCache current.entry (expression_view e.now ∷ []) kept.old kept.new result }
     ensures errors { IfErr result (IsSelectionError current.entry.context.now.mode) }
 {
     match kept.part() {
@@ -389,11 +399,15 @@ fn condition<'a>(current: Current<'_, 'a>, e: &'a Expr<'_>, kept: &mut Kept<'a>)
 /// Evaluates a comparison or `exists` for the first item, and caches what is the same for each item.
 #[cycle(steps)]
 #[inline(never)]
-fn first_kept<'a>(current: Current<'_, 'a>, e: &'a Expr<'_>, kept: &mut Kept<'a>) -> TruthResult
+fn first_kept<'a>(
+    current: Current<'_, 'a>,
+    e: &'a Expr<'_>,
+    kept: &mut FilterCache<'a>,
+) -> TruthResult
     ensures meant { is_condition (expression_view e.now) ≡ true
-        → TellsTruth current.entry (expression_view e.now) result }
+        → RefinesTruth current.entry (expression_view e.now) result }
     ensures kept { is_condition (expression_view e.now) ≡ true → kept_part kept.old ≡ None
-        → KeepsNext current.entry (expression_view e.now ∷ []) kept.old kept.new result }
+        → ExtendsCache current.entry (expression_view e.now ∷ []) kept.old kept.new result }
     ensures errors { IfErr result (IsSelectionError current.entry.context.now.mode) }
 {
     let (truth, part) = first_truth(current, e)?;
@@ -404,14 +418,14 @@ fn first_kept<'a>(current: Current<'_, 'a>, e: &'a Expr<'_>, kept: &mut Kept<'a>
 /// Evaluates a comparison or `exists` for an item, with what is cached of it.
 #[cycle(steps)]
 #[inline(always)]
-fn later_truth<'a>(current: Current<'_, 'a>, e: &'a Expr<'_>, part: &KeptPart<'a>) -> TruthResult
+fn later_truth<'a>(current: Current<'_, 'a>, e: &'a Expr<'_>, part: &CachedPart<'a>) -> TruthResult
     ensures meant { is_condition (expression_view e.now) ≡ true
         → TellsByPart current.entry (expression_view e.now) part.now result }
     ensures errors { IfErr result (IsSelectionError current.entry.context.now.mode) }
 {
     match (part, e) {
-        (KeptPart::Truth(truth), _) => Ok(*truth),
-        (KeptPart::Right(rights), Expr::BinaryOp { op, left, .. }) => match member_steps(left) {
+        (CachedPart::Truth(truth), _) => Ok(*truth),
+        (CachedPart::Right(rights), Expr::BinaryOp { op, left, .. }) => match member_steps(left) {
             Some(steps) => member_truth(current, *op, steps, rights.as_slice()),
             None => later_values(current, e, part),
         },
@@ -422,17 +436,17 @@ fn later_truth<'a>(current: Current<'_, 'a>, e: &'a Expr<'_>, part: &KeptPart<'a
 /// Evaluates a comparison or `exists` for an item, by the lists of the operands' values.
 #[cycle(steps)]
 #[inline(never)]
-fn later_values<'a>(current: Current<'_, 'a>, e: &'a Expr<'_>, part: &KeptPart<'a>) -> TruthResult
+fn later_values<'a>(current: Current<'_, 'a>, e: &'a Expr<'_>, part: &CachedPart<'a>) -> TruthResult
     ensures meant { is_condition (expression_view e.now) ≡ true
         → TellsByPart current.entry (expression_view e.now) part.now result }
     ensures errors { IfErr result (IsSelectionError current.entry.context.now.mode) }
 {
     match (part, e) {
-        (KeptPart::Left(lefts), Expr::BinaryOp { op, right, .. }) => {
+        (CachedPart::Left(lefts), Expr::BinaryOp { op, right, .. }) => {
             let rights = operand_values(current, right)?;
             Ok(compare(*op, lefts.as_slice(), rights.as_slice()))
         }
-        (KeptPart::Right(rights), Expr::BinaryOp { op, left, .. }) => {
+        (CachedPart::Right(rights), Expr::BinaryOp { op, left, .. }) => {
             let lefts = operand_values(current, left)?;
             Ok(compare(*op, lefts.as_slice(), rights.as_slice()))
         }
@@ -449,7 +463,7 @@ fn later_values<'a>(current: Current<'_, 'a>, e: &'a Expr<'_>, part: &KeptPart<'
 fn first_truth<'a>(
     current: Current<'_, 'a>,
     e: &'a Expr<'_>,
-) -> Result<(Option<bool>, KeptPart<'a>), Error>
+) -> Result<(Option<bool>, CachedPart<'a>), Error>
     ensures meant { (top t : Tree) → is_condition (expression_view e.now) ≡ true
         → HasTree current.entry.context.now.document top → IsAt current.entry.context.now.document current.entry.item t
         → Gives (λ made c. (made.0 ≡ c) × IsSame current.entry.context.now.mode top made.1 (expression_view e.now))
@@ -476,7 +490,7 @@ fn first_truth<'a>(
 #[cycle(steps)]
 #[inline(never)]
 fn exists_truth<'a>(current: Current<'_, 'a>, e: &'a Expr<'_>) -> TruthResult
-    ensures meant { is_exists (expression_view e.now) ≡ true → TellsTruth current.entry (expression_view e.now) result }
+    ensures meant { is_exists (expression_view e.now) ≡ true → RefinesTruth current.entry (expression_view e.now) result }
     ensures errors { IfErr result (IsSelectionError current.entry.context.now.mode) }
 {
     let Current { context, item } = current;
@@ -485,8 +499,8 @@ fn exists_truth<'a>(current: Current<'_, 'a>, e: &'a Expr<'_>) -> TruthResult
     };
     match asked.exists {
         Expr::ExistsFunc(steps) => {
-            let first = starting_item(steps, context.document, asked.item);
-            let is_found = leads_to_any(context, steps, first)?;
+            let first = start_spot(steps, context.document, asked.item);
+            let is_found = selects_any(context, steps, first)?;
             Ok(Some(is_found))
         }
         _ => Err(Error::InvalidJsonPath),
@@ -496,11 +510,7 @@ fn exists_truth<'a>(current: Current<'_, 'a>, e: &'a Expr<'_>) -> TruthResult
 /// Returns `true` if the steps of an `exists` select an item.
 #[cycle(steps)]
 #[inline(always)]
-fn leads_to_any<'a>(
-    context: &Context<'a>,
-    steps: &'a [Path<'_>],
-    first: Spot,
-) -> Result<bool, Error>
+fn selects_any<'a>(context: &Context<'a>, steps: &'a [Path<'_>], first: Spot) -> Result<bool, Error>
     ensures meant { (top t : Tree) → HasTree context.now.document top → IsAt context.now.document first t
         → Gives (λ b us. b ≡ is_some_item us) IsOutOfMemory result
         (steps_meaning context.now.mode (steps_of (map (taken_step AreRefused) (steps_view steps.now)))
@@ -533,7 +543,7 @@ pub(crate) fn operand_values<'a>(
     let Current { context, item } = current;
     match e {
         Expr::Paths(steps) => {
-            let first = starting_item(steps, context.document, item);
+            let first = start_spot(steps, context.document, item);
             let found = select_steps(context, Expressions::AreRefused, steps, first)?;
             found_values(context.alloc, context.document.bytes, found)
         }

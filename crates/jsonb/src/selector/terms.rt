@@ -8,7 +8,7 @@ ghost use Rattle.jsonb.specs.declared.path.Expr.{size-Expr};
 ghost use Rattle.jsonb.specs.declared.selector.document.Mode.{Mode};
 ghost use Rattle.jsonb.specs.SelectionErrors.{IsSelectionError};
 
-use super::kept::Kept;
+use super::filter_cache::FilterCache;
 use super::operand_value::{and_truth, or_truth};
 use crate::path::{BinaryOperator, Expr};
 use jsonb_doc::Error;
@@ -131,17 +131,17 @@ fn push_term<'s, 'p>(
 
 /// The results that no operator has joined yet, the last one last.
 #[derive(Drop)]
-pub(crate) struct Truths {
+pub(crate) struct TruthStack {
     truths: Vec<Option<bool>>,
 }
 
-impl Truths {
+impl TruthStack {
     /// Creates an empty value, without allocating.
     #[inline(always)]
-    pub(crate) fn new(alloc: Global) -> Truths
+    pub(crate) fn new(alloc: Global) -> TruthStack
         ensures { truths_view result ≡ [] }
     {
-        Truths {
+        TruthStack {
             truths: Vec::new(alloc),
         }
     }
@@ -197,20 +197,20 @@ pub(crate) fn joining(join: Join, left: Option<bool>, right: Option<bool>) -> Op
 
 /// What is cached while an expression is evaluated for one item after the other.
 #[derive(Drop)]
-pub(crate) struct Run<'a> {
-    pub(crate) kept: Kept<'a>,
-    pub(crate) truths: Truths,
+pub(crate) struct Evaluation<'a> {
+    pub(crate) kept: FilterCache<'a>,
+    pub(crate) truths: TruthStack,
 }
 
-impl<'a> Run<'a> {
+impl<'a> Evaluation<'a> {
     /// Creates an empty value, without allocating.
     #[inline(always)]
-    pub(crate) fn new(alloc: Global, kept: Kept<'a>) -> Run<'a>
+    pub(crate) fn new(alloc: Global, kept: FilterCache<'a>) -> Evaluation<'a>
         ensures { result.kept ≡ kept.entry }
     {
-        Run {
+        Evaluation {
             kept,
-            truths: Truths::new(alloc),
+            truths: TruthStack::new(alloc),
         }
     }
 }

@@ -20,8 +20,8 @@ ghost use Rattle.jsonb.specs.SelectionErrors.{IsSelectionError};
 use super::calculate::{binary_number, is_arithmetic, unary_numbers};
 use super::compared_lists::root_truth;
 use super::document::{Context, Current, Expressions, TruthResult};
-use super::kept::begins_with_current;
-use super::members::starting_item;
+use super::filter_cache::is_relative;
+use super::members::start_spot;
 use super::node_list::NodeList;
 use super::search::search;
 use super::selected::{MadeItem, Selected};
@@ -41,7 +41,7 @@ pub(crate) fn selection<'a>(
     if let Some(e) = only_expression(steps) {
         return expression_selection(context, e);
     }
-    if begins_with_current(steps) {
+    if is_relative(steps) {
         return Err(Error::InvalidJsonPath);
     }
     let all = Expressions::AreFilters;
@@ -57,7 +57,7 @@ pub(crate) fn first_selection<'a>(
     ensures meant { GivesMeant BeginsAs context.now.document context.now.mode (steps_view steps.now) result }
     ensures errors { IfErr result (IsSelectionError context.now.mode) }
 {
-    if only_expression(steps).is_some() || begins_with_current(steps) {
+    if only_expression(steps).is_some() || is_relative(steps) {
         return selection(context, steps);
     }
     let all = Expressions::AreFilters;
@@ -153,7 +153,7 @@ fn whole_unary<'a>(
     } = *context;
     match operand {
         Expr::Paths(steps) => {
-            let first = starting_item(steps, document, document.root);
+            let first = start_spot(steps, document, document.root);
             let found = select_steps(context, Expressions::AreRefused, steps, first)?;
             signed_items(alloc, op, document.bytes, found.as_slice())
         }

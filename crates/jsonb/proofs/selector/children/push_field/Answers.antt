@@ -18,4 +18,4 @@ returns-in-Some-clause-meant c = λ t before m a.
 pub returns-in-None-clause-meant : goal.returns-in-None-clause-meant
 returns-in-None-clause-meant c = λ t before m a.
     none_found c.args.mode [] (Locates c.args.bytes.now) (λ u. u ∷ []) (field_of c.args.name.now t) (rw c.in-None.is at (c.in_ok-value.ensures.field t m))
-    (same_answer c.mismatch.ensures.answer (mismatches c.args.mode (Locates c.args.bytes.now) c.args.nodes.now.items before a))
+    (same_answer c.fail_if_strict.ensures.answer (mismatches c.args.mode (Locates c.args.bytes.now) c.args.nodes.now.items before a))

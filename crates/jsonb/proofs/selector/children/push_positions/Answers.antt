@@ -19,4 +19,4 @@ pub returns-in-None-clause-meant : goal.returns-in-None-clause-meant
 returns-in-None-clause-meant c = λ t before m a.
     none_found c.args.mode [] (HasSpotsLeft c.args.bytes.now) (picked (map entry_view c.args.entries.now)) (array_values t)
     (rw c.in-None.is at (c.in_ok-elements.ensures.meant t m))
-    (same_answer c.mismatch.ensures.answer (mismatches c.args.mode (Locates c.args.bytes.now) c.args.nodes.now.items before a))
+    (same_answer c.fail_if_strict.ensures.answer (mismatches c.args.mode (Locates c.args.bytes.now) c.args.nodes.now.items before a))

@@ -15,4 +15,4 @@ returns-in-Some-clause-meant c = λ t before m a.
 pub returns-in-None-clause-meant : goal.returns-in-None-clause-meant
 returns-in-None-clause-meant c = λ t before m a.
     unlisted c.args.mode [] (HasSpotsLeft c.args.bytes.now) (values_of t) (rw c.in-None.is at (c.in_ok-values.ensures.meant t m))
-    (same_answer c.mismatch.ensures.answer (mismatches c.args.mode (Locates c.args.bytes.now) c.args.nodes.now.items before a))
+    (same_answer c.fail_if_strict.ensures.answer (mismatches c.args.mode (Locates c.args.bytes.now) c.args.nodes.now.items before a))

@@ -25,7 +25,7 @@ returns-in_err-found-clause-meant c = λ top u all r s.
     ∙ ap (λ o. and_then o (λ ts. compares (flat_map values_of_item ts)))
     (from_start c.args.current.context.now.mode c.args.steps.now c.args.steps.now c.args.steps.now top u refl refl))
     (first_refused (λ (ts : List Tree). compares (flat_map values_of_item ts))
-    (c.in_err-found.ensures.meant AreRefused top _ all (c.starting_item-first.ensures top u r s))))
+    (c.in_err-found.ensures.meant AreRefused top _ all (c.start_spot-first.ensures top u r s))))
 
 pub returns-clause-meant : goal.returns-clause-meant
 returns-clause-meant c = λ top u all r s.
@@ -36,4 +36,4 @@ returns-clause-meant c = λ top u all r s.
     ∙ ap (λ o. and_then o (λ ts. compares (flat_map values_of_item ts)))
     (from_start c.args.current.context.now.mode c.args.steps.now c.args.steps.now c.args.steps.now top u refl refl))
     (followed (λ (ts : List Tree). compares (flat_map values_of_item ts))
-    (c.in_ok-found.ensures.meant AreRefused top _ all (c.starting_item-first.ensures top u r s)) c.found_truth.ensures.meant)
+    (c.in_ok-found.ensures.meant AreRefused top _ all (c.start_spot-first.ensures top u r s)) c.found_truth.ensures.meant)

@@ -11,4 +11,4 @@ returns-in_err-filter_truth-clause-meant c = λ e top t before a m q b.
 pub returns-clause-meant : goal.returns-clause-meant
 returns-clause-meant c = λ e top t before a m q b.
     given_by (c.in_ok-filter_truth.ensures.meant e top t a m q)
-    (λ ts is. same_outcome (ap Ok (sym is ∙ c.is_kept-keeps.ensures t)) (c.push_if.ensures.meant c.args.bytes.now t before m b))
+    (λ ts is. same_outcome (ap Ok (sym is ∙ c.is_true-keeps.ensures t)) (c.push_if.ensures.meant c.args.bytes.now t before m b))

@@ -18,7 +18,7 @@ returns-in_err-item-clause-meant c = λ top t is r s.
     let inv = c.loop-nested.invariant.meant top t r s in
     let n = c.in-Some.ensures.nested in
     let e = expression_view c.in-Some.nested.exists.now in
-    let first = c.starting_item-first.ensures top inv.0 r inv.1 in
+    let first = c.start_spot-first.ensures top inv.0 r inv.1 in
     let whole = behind_names c.args.mode c.loop-nested.asked.exists.now c.in-Some.nested top inv.0 n inv.2 in
     let p = err_from_is_err_and c.from_residual.result c.from_residual.ensures.1 in
     subst (λ a. LeadsTo c.args.mode c.args.document top a (truth c.args.mode (expression_view c.args.exists.now) top t)) (sym (p.1 ∙ ap Err p.2))
@@ -34,7 +34,7 @@ loop-nested-preserved c =
     record {
       meant = λ top t r s.
           let inv = c.loop-nested.invariant.meant top t r s in
-          let first = c.starting_item-first.ensures top inv.0 r inv.1 in
+          let first = c.start_spot-first.ensures top inv.0 r inv.1 in
           let whole = behind_names c.args.mode c.loop-nested.asked.exists.now c.in-Some.nested top inv.0 n inv.2 in
           let next = continued (λ us. AllZip (Locates c.args.document.bytes.now) (option_spots c.in_ok-item.field-0) us)
           _ (filtered_by c.args.mode e top) ((c.in_ok-item.ensures.meant AreRefused top _ n.0 first).ok) in
@@ -49,7 +49,7 @@ returns-in-None-clause-meant c = λ top t is r s.
     let inv = c.loop-nested.invariant.meant top t r s in
     let n = c.in-Some.ensures.nested in
     let e = expression_view c.in-Some.nested.exists.now in
-    let first = c.starting_item-first.ensures top inv.0 r inv.1 in
+    let first = c.start_spot-first.ensures top inv.0 r inv.1 in
     let whole = behind_names c.args.mode c.loop-nested.asked.exists.now c.in-Some.nested top inv.0 n inv.2 in
     let next = continued (λ us. AllZip (Locates c.args.document.bytes.now) (option_spots c.in_ok-item.field-0) us)
     _ (filtered_by c.args.mode e top) ((c.in_ok-item.ensures.meant AreRefused top _ n.0 first).ok) in

@@ -8,7 +8,7 @@ use Rattle.jsonb.specs.Meaning.{step_meaning, steps_meaning}
 use Rattle.std.specs.List.{AllZip}
 use Rattle.jsonb.specs.Private.Search.{IsSearched, AreGiven, IsReached}
 use Rattle.jsonb.specs.declared.selector.document.Mode.TheVariants.{Lax}
-use Rattle.jsonb.specs.declared.selector.search.Given.TheVariants as given
+use Rattle.jsonb.specs.declared.selector.search.StepItems.TheVariants as given
 use Rattle.jsonb.proofs.MemberLemmas.{none_left}
 use Rattle.jsonb.proofs.Progress.{list_first, list_end}
 use Rattle.jsonb.proofs.SearchLemmas.{searched_total, memory_alone, step_taken, given_none, given_one}

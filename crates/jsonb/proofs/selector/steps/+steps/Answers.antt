@@ -11,7 +11,7 @@ use Rattle.jsonb.specs.Values.{values_of_item}
 use Rattle.jsonb.specs.Compare.{compare}
 use Rattle.jsonb.specs.Private.Selection.{IsAt, node_spots, taken_step, values_view}
 use Rattle.jsonb.specs.Private.Exists.{LeadsTo}
-use Rattle.jsonb.specs.Private.Kept.{conditions, is_condition, IsSame, AreKept, IsKeptFor}
+use Rattle.jsonb.specs.Private.FilterCache.{conditions, is_condition, IsSame, AreKept, IsKeptFor}
 use Rattle.jsonb.specs.Private.Terms.{IsBelow, executed, last_truth, term_conditions, term_view, truths_view}
 use Rattle.jsonb.specs.declared.path.Expr.{size-Expr}
 use Rattle.jsonb.specs.Meaning.{step_meaning, steps_meaning, truth, operand_values, filtered, is_some_item}
@@ -39,7 +39,7 @@ push_kept-returns-clause-meant t c = λ top u before r s k a.
     let all = conditions (expression_view c.args.e.now) in
     let first = subst (λ l. AreKept c.args.current.context.now.mode top c.args.run.now.kept all l) (sym (append-nil all)) k in
     followed (λ b. Ok (filtered u b)) (c.in_ok-truth_by_kept.ensures.meant top u all [] r s first)
-    (λ b is. same_outcome (ap (λ z. Ok (filtered u z)) (sym is) ∙ ap Ok (c.is_kept-keeps.ensures u))
+    (λ b is. same_outcome (ap (λ z. Ok (filtered u z)) (sym is) ∙ ap Ok (c.is_true-keeps.ensures u))
     (c.push_if.ensures.meant c.args.current.context.now.document.bytes.now u before s a))
 
 pub push_kept-returns-clause-kept : goal.push_kept-returns-clause-kept
@@ -105,8 +105,8 @@ step_item-returns-in_ok-truth-in-Some-clause-meant t c = λ top u r s.
     same_outcome (ap (λ x. step_meaning c.args.context.now.mode x top u) c.in-Some.ensures.expression)
     (one_ok (λ b. Ok (filtered u b)) (c.in_ok-truth-in-Some.ensures.meant top u r s) (λ b is.
     subst (λ l. AllZip (IsAt c.args.context.now.document) l (filtered u b)) (sym c.at_most_one.ensures)
-    (kept_found (IsAt c.args.context.now.document) c.is_kept-keeps.result c.then_some.result c.args.item u (filtered u b) c.then_some.ensures
-    (ap (filtered u) (sym is) ∙ c.is_kept-keeps.ensures u) s)))
+    (kept_found (IsAt c.args.context.now.document) c.is_true-keeps.result c.then_some.result c.args.item u (filtered u b) c.then_some.ensures
+    (ap (filtered u) (sym is) ∙ c.is_true-keeps.ensures u) s)))
 
 pub step_item-returns-in-None-clause-meant : goal.step_item-returns-in-None-clause-meant
 step_item-returns-in-None-clause-meant t c = λ top u r s.
@@ -217,14 +217,14 @@ operand_values-returns-in_err-found-in-Paths-clause-meant t c = λ top u r s. le
     (paths_is c.args.e.now c.in-Paths.steps c.in-Paths.is)
     ∙ ap (λ o. and_then o (λ ts. Ok (flat_map values_of_item ts))) (from_start c.args.current.context.now.mode _ _ _ top u c.deref-in-Paths.ensures.value
     c.deref.ensures.value))
-    (first_refused (λ ts. Ok (flat_map values_of_item ts)) (c.in_err-found-in-Paths.ensures.meant top _ r (c.starting_item-first.ensures top u r s))))
+    (first_refused (λ ts. Ok (flat_map values_of_item ts)) (c.in_err-found-in-Paths.ensures.meant top _ r (c.start_spot-first.ensures top u r s))))
 
 pub operand_values-returns-in_ok-found-in-Paths-clause-meant : goal.operand_values-returns-in_ok-found-in-Paths-clause-meant
 operand_values-returns-in_ok-found-in-Paths-clause-meant t c = λ top u r s.
     same_outcome (ap (λ x. operand_values c.args.current.context.now.mode x top u) (paths_is c.args.e.now c.in-Paths.steps c.in-Paths.is)
     ∙ ap (λ o. and_then o (λ ts. Ok (flat_map values_of_item ts))) (from_start c.args.current.context.now.mode _ _ _ top u c.deref-in-Paths.ensures.value
     c.deref.ensures.value))
-    (followed (λ ts. Ok (flat_map values_of_item ts)) (c.in_ok-found-in-Paths.ensures.meant top _ r (c.starting_item-first.ensures top u r s))
+    (followed (λ ts. Ok (flat_map values_of_item ts)) (c.in_ok-found-in-Paths.ensures.meant top _ r (c.start_spot-first.ensures top u r s))
     (λ ts related. c.found_values.ensures.meant ts related))
 
 -- ---- results
@@ -447,7 +447,7 @@ exists_truth-returns-in_err-is_found-in-ExistsFunc-clause-meant t c = λ is top 
     ∙ ap (λ o. and_then o (λ ts. Ok (Some (is_some_item ts))))
     (from_start c.args.current.context.now.mode _ _ _ top asked.0 c.deref-in-ExistsFunc.ensures.value c.deref.ensures.value))
     (first_refused (λ ts. Ok (Some (is_some_item ts)))
-    (c.in_err-is_found-in-ExistsFunc.ensures.meant top _ r (c.starting_item-first.ensures top asked.0 r asked.1))))
+    (c.in_err-is_found-in-ExistsFunc.ensures.meant top _ r (c.start_spot-first.ensures top asked.0 r asked.1))))
 
 pub exists_truth-returns-in_ok-is_found-in-ExistsFunc-clause-meant : goal.exists_truth-returns-in_ok-is_found-in-ExistsFunc-clause-meant
 exists_truth-returns-in_ok-is_found-in-ExistsFunc-clause-meant t c = λ is top u r s.
@@ -455,29 +455,29 @@ exists_truth-returns-in_ok-is_found-in-ExistsFunc-clause-meant t c = λ is top u
     (truth c.args.current.context.now.mode (expression_view c.args.e.now) top u)) c.in-Some.is
     (c.in_ok-asked.ensures.meant top u is r s) in
     let met = one_ok {S = λ (b : Option Bool) d. b ≡ d} {z = Some c.in_ok-is_found-in-ExistsFunc.is_found} (λ ts. Ok (Some (is_some_item ts)))
-    (c.in_ok-is_found-in-ExistsFunc.ensures.meant top _ r (c.starting_item-first.ensures top asked.0 r asked.1)) (λ ts same. ap Some same) in
+    (c.in_ok-is_found-in-ExistsFunc.ensures.meant top _ r (c.start_spot-first.ensures top asked.0 r asked.1)) (λ ts same. ap Some same) in
     known (asked.2 ∙ ap (λ x. truth c.args.current.context.now.mode x top asked.0)
     (exists_is c.in-Some.asked.exists.now c.in-ExistsFunc.steps c.in-ExistsFunc.is)
     ∙ ap (λ o. and_then o (λ ts. Ok (Some (is_some_item ts))))
     (from_start c.args.current.context.now.mode _ _ _ top asked.0 c.deref-in-ExistsFunc.ensures.value c.deref.ensures.value) ∙ value_is met.ok) refl
 
-pub leads_to_any-returns-in_err-found-clause-meant : goal.leads_to_any-returns-in_err-found-clause-meant
-leads_to_any-returns-in_err-found-clause-meant t c = λ top u r s.
+pub selects_any-returns-in_err-found-clause-meant : goal.selects_any-returns-in_err-found-clause-meant
+selects_any-returns-in_err-found-clause-meant t c = λ top u r s.
     let p = err_from_is_err_and c.from_residual.result c.from_residual.ensures.1 in
     same_answer (p.1 ∙ ap Err p.2) (refused_as (c.in_err-found.ensures.meant top u r s))
 
-pub leads_to_any-returns-in-Some-clause-meant : goal.leads_to_any-returns-in-Some-clause-meant
-leads_to_any-returns-in-Some-clause-meant t c = λ top u r s.
+pub selects_any-returns-in-Some-clause-meant : goal.selects_any-returns-in-Some-clause-meant
+selects_any-returns-in-Some-clause-meant t c = λ top u r s.
     found_any (IsAt c.args.context.now.document) c.in-Some.found c.is_some.result _ c.is_some.ensures
     (rw c.in-Some.is at (c.in_ok-found.ensures.meant top u r s))
 
-pub leads_to_any-returns-in_err-found-in-None-clause-meant : goal.leads_to_any-returns-in_err-found-in-None-clause-meant
-leads_to_any-returns-in_err-found-in-None-clause-meant t c = λ top u r s.
+pub selects_any-returns-in_err-found-in-None-clause-meant : goal.selects_any-returns-in_err-found-in-None-clause-meant
+selects_any-returns-in_err-found-in-None-clause-meant t c = λ top u r s.
     let p = err_from_is_err_and c.from_residual-in_err-found-in-None.result c.from_residual-in_err-found-in-None.ensures.1 in
     same_answer (p.1 ∙ ap Err p.2) (refused_as (c.in_err-found-in-None.ensures.meant top u r s))
 
-pub leads_to_any-returns-in_ok-found-in-None-clause-meant : goal.leads_to_any-returns-in_ok-found-in-None-clause-meant
-leads_to_any-returns-in_ok-found-in-None-clause-meant t c = λ top u r s.
+pub selects_any-returns-in_ok-found-in-None-clause-meant : goal.selects_any-returns-in_ok-found-in-None-clause-meant
+selects_any-returns-in_ok-found-in-None-clause-meant t c = λ top u r s.
     given_by (c.in_ok-found-in-None.ensures.meant top u r s)
     (λ ts related. record {
       ok = ap not c.is_empty.ensures ∙ ap (λ l. not (length l == 0)) c.as_slice.ensures ∙ some_related (IsAt c.args.context.now.document) _ ts related;

@@ -5,7 +5,7 @@ use Rattle.jsonb.specs.PathTree.{Expression, steps_of, filter}
 use Rattle.jsonb.specs.PathViews.{steps_view, expression_view}
 use Rattle.std.specs.List.{AllZip}
 use Rattle.jsonb.specs.Private.Selection.{IsAt, HasTree, node_spots, taken_step}
-use Rattle.jsonb.specs.Private.Kept.{conditions, AreKept, IsKeptFor}
+use Rattle.jsonb.specs.Private.FilterCache.{conditions, AreKept, IsKeptFor}
 use Rattle.jsonb.specs.Private.Terms.{executed, last_truth, term_conditions, term_view, truths_view}
 use Rattle.jsonb.specs.Meaning.{step_meaning, steps_meaning, truth}
 use Rattle.jsonb.proofs.Progress.{Progress}

@@ -15,7 +15,7 @@ returns-in_err-first-clause-meant c = λ form top outcome r h.
     let p = err_from_is_err_and c.from_residual.result c.from_residual.ensures.1 in
     same_answer (p.1 ∙ ap Err p.2)
     (same_outcome (by_steps form c.args.context.now.mode top outcome (steps_view c.args.steps.now) none
-    (sym c.begins_with_current.ensures ∙ c.if-begins_with_current.false) h
+    (sym c.is_relative.ensures ∙ c.if-is_relative.false) h
     ∙ ap (λ l. steps_meaning c.args.context.now.mode (steps_of l) top (top ∷ [])) (sym (filter_steps (steps_view c.args.steps.now))))
     (refused_as (c.in_err-first.ensures.meant top top r r)))
 
@@ -23,7 +23,7 @@ pub returns-in-Some-clause-meant : goal.returns-in-Some-clause-meant
 returns-in-Some-clause-meant c = λ form top outcome r h.
     let none = rw (none_of c.only_expression.result (sym c.is_some.ensures ∙ c.if-is_some.false)) at c.only_expression.ensures in
     same_outcome (by_steps form c.args.context.now.mode top outcome (steps_view c.args.steps.now) none
-    (sym c.begins_with_current.ensures ∙ c.if-begins_with_current.false) h
+    (sym c.is_relative.ensures ∙ c.if-is_relative.false) h
     ∙ ap (λ l. steps_meaning c.args.context.now.mode (steps_of l) top (top ∷ [])) (sym (filter_steps (steps_view c.args.steps.now))))
     (begins_found form c.args.context.now.document c.at_most_one.result c.in-Some.first _ c.at_most_one.ensures
     (rw c.in-Some.is at (c.in_ok-first.ensures.meant top top r r)))

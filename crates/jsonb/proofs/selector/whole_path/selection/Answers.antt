@@ -13,13 +13,13 @@ returns-in_err-spots-clause-meant c = λ form top outcome r h.
     let p = err_from_is_err_and c.from_residual.result c.from_residual.ensures.1 in
     same_answer (p.1 ∙ ap Err p.2)
     (same_outcome (by_steps form c.args.context.now.mode top outcome (steps_view c.args.steps.now) c.in_default.ensures
-    (sym c.begins_with_current.ensures ∙ c.if-begins_with_current.false) h
+    (sym c.is_relative.ensures ∙ c.if-is_relative.false) h
     ∙ ap (λ l. steps_meaning c.args.context.now.mode (steps_of l) top (top ∷ [])) (sym (filter_steps (steps_view c.args.steps.now))))
     (refused_as (c.in_err-spots.ensures.meant top top r r)))
 
 pub returns-clause-meant : goal.returns-clause-meant
 returns-clause-meant c = λ form top outcome r h.
     same_outcome (by_steps form c.args.context.now.mode top outcome (steps_view c.args.steps.now) c.in_default.ensures
-    (sym c.begins_with_current.ensures ∙ c.if-begins_with_current.false) h
+    (sym c.is_relative.ensures ∙ c.if-is_relative.false) h
     ∙ ap (λ l. steps_meaning c.args.context.now.mode (steps_of l) top (top ∷ [])) (sym (filter_steps (steps_view c.args.steps.now))))
     (record { ok = (c.in_ok-spots.ensures.meant top top r r).ok; err = tt })

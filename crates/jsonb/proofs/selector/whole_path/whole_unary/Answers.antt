@@ -19,7 +19,7 @@ returns-in_err-found-in-Paths-clause-meant c = λ top r.
     (paths_is c.args.operand.now c.in-Paths.steps c.in-Paths.is)
     ∙ by_path (each_signed (sign_view c.args.op)) c.args.context.now.mode _ _ _ top top c.deref-in-Paths.ensures.value c.deref.ensures.value)
     (first_refused (λ ts. each_signed (sign_view c.args.op) (flat_map values_of_item ts))
-    (c.in_err-found-in-Paths.ensures.meant top _ r (c.starting_item-first.ensures top top r r))))
+    (c.in_err-found-in-Paths.ensures.meant top _ r (c.start_spot-first.ensures top top r r))))
 
 pub returns-in_ok-found-in-Paths-clause-meant : goal.returns-in_ok-found-in-Paths-clause-meant
 returns-in_ok-found-in-Paths-clause-meant c = λ top r.
@@ -27,7 +27,7 @@ returns-in_ok-found-in-Paths-clause-meant c = λ top r.
     (paths_is c.args.operand.now c.in-Paths.steps c.in-Paths.is)
     ∙ by_path (each_signed (sign_view c.args.op)) c.args.context.now.mode _ _ _ top top c.deref-in-Paths.ensures.value c.deref.ensures.value)
     (followed (λ ts. each_signed (sign_view c.args.op) (flat_map values_of_item ts))
-    (c.in_ok-found-in-Paths.ensures.meant top _ r (c.starting_item-first.ensures top top r r))
+    (c.in_ok-found-in-Paths.ensures.meant top _ r (c.start_spot-first.ensures top top r r))
     (λ ts related. c.signed_items.ensures.meant ts (subst (λ l. AllZip (IsAt c.args.context.now.document) l ts) (sym c.as_slice.ensures) related)))
 
 pub returns-in_ok-values-in-Value-clause-meant : goal.returns-in_ok-values-in-Value-clause-meant

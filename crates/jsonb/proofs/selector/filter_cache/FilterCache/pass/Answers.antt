@@ -1,8 +1,8 @@
 use Rattle.std.proofs.Common.{◌≡◌, ◌∷◌, Some, subst, arith}
 use Rattle.std.proofs.lemmas.Option.{slice_get_within}
-use Rattle.jsonb.specs.Private.Kept.{AreKept, kept_part}
+use Rattle.jsonb.specs.Private.FilterCache.{AreKept, kept_part}
 use Rattle.jsonb.proofs.KeptLemmas.{passed}
-use Rattle.jsonb.proofs.selector.kept.Kept.pass.Goals as goal
+use Rattle.jsonb.proofs.selector.filter_cache.FilterCache.pass.Goals as goal
 
 pub returns-then-kept-len : goal.returns-then-kept-len
 returns-then-kept-len c = λ mode top all more e part p a.

@@ -1,7 +1,7 @@
 use Rattle.std.proofs.Common.{sym, ap, ◌∙◌, arith, refl}
 use Rattle.jsonb.specs.Private.Copying.{framed, waiting, have_document, copied_view, copied_parts, copied_has_document}
 use Rattle.jsonb.proofs.CopyingLemmas.{framed-more, waiting-push, have_document-push, none_of_both}
-use Rattle.jsonb.proofs.path.copying.go_on.Goals as goal
+use Rattle.jsonb.proofs.path.copying.resume_copy.Goals as goal
 
 pub returns-in-Within-clause-whole : goal.returns-in-Within-clause-whole
 returns-in-Within-clause-whole c =

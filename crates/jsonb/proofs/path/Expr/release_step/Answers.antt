@@ -2,7 +2,7 @@ use Rattle.std.proofs.Common.{ap, arith}
 use Rattle.jsonb.specs.Private.Parts.{expression_parts, parts, waiting_parts}
 use Rattle.jsonb_doc.proofs.PartLemmas.{fewer_parts}
 use Rattle.jsonb.proofs.PathNodes.{unary_is}
-use Rattle.jsonb.proofs.path.Expr.without_a_part.Goals as goal
+use Rattle.jsonb.proofs.path.Expr.release_step.Goals as goal
 
 pub returns-in-UnaryOp : goal.returns-in-UnaryOp
 returns-in-UnaryOp c =

@@ -6,8 +6,8 @@ ghost use Rattle.jsonb_doc.specs.Tree.{Tree};
 ghost use Rattle.jsonb.specs.PathTree.{Expression, BinaryOp, binary, exists, steps_of};
 ghost use Rattle.jsonb.specs.PathViews.{expression_view, operator_view, steps_view};
 ghost use Rattle.jsonb.specs.Meaning.{truth, operand_values, filtered};
-ghost use Rattle.jsonb.specs.Private.Selection.{values_view, begins_with_current, IsKept};
-ghost use Rattle.jsonb.specs.Private.Kept.{AreKept, IsSame, kept_part, is_condition, is_comparison, is_fixed};
+ghost use Rattle.jsonb.specs.Private.Selection.{values_view, is_relative, IsKept};
+ghost use Rattle.jsonb.specs.Private.FilterCache.{AreKept, IsSame, kept_part, is_condition, is_comparison, is_fixed};
 ghost use Rattle.jsonb.specs.declared.selector.document.Mode.{Mode};
 
 use super::operand_value::OperandValues;
@@ -17,7 +17,7 @@ use std::alloc::Global;
 
 /// The part of a comparison or of `exists` that is the same for each item.
 #[derive(Drop)]
-pub(crate) enum KeptPart<'a> {
+pub(crate) enum CachedPart<'a> {
     Nothing,
     Truth(Option<bool>),
     Left(OperandValues<'a>),
@@ -27,26 +27,26 @@ pub(crate) enum KeptPart<'a> {
 /// The parts in the order in which the comparisons and `exists` of a filter are evaluated, as far as the first item has
 /// come.
 #[derive(Drop)]
-pub(crate) struct KeptParts<'a> {
-    parts: Vec<KeptPart<'a>>,
+pub(crate) struct CachedParts<'a> {
+    parts: Vec<CachedPart<'a>>,
     /// The index of the next part.
     next: usize,
 }
 
 /// What is cached of a filter.
 #[derive(Drop)]
-pub(crate) enum Kept<'a> {
+pub(crate) enum FilterCache<'a> {
     /// Nothing: the filter is evaluated for one item only.
     Nothing,
-    Parts(KeptParts<'a>),
+    Parts(CachedParts<'a>),
 }
 
-impl<'a> Kept<'a> {
+impl<'a> FilterCache<'a> {
     /// Creates a cache for a list of items, without allocating.
-    pub(crate) fn new(alloc: Global) -> Kept<'a>
+    pub(crate) fn new(alloc: Global) -> FilterCache<'a>
         ensures { (mode : Mode) (top : Tree) (all : List Expression) → AreKept mode top result all all }
     {
-        Kept::Parts(KeptParts {
+        FilterCache::Parts(CachedParts {
             parts: Vec::new(alloc),
             next: 0,
         })
@@ -54,25 +54,25 @@ impl<'a> Kept<'a> {
 
     /// Returns the next part, if it is cached.
     #[inline(always)]
-    pub(crate) fn part(&self) -> Option<&KeptPart<'a>>
+    pub(crate) fn part(&self) -> Option<&CachedPart<'a>>
         ensures { MatchOption result (kept_part self.now ≡ None) (λ part. kept_part self.now ≡ Some part.now) }
     {
         match self {
-            Kept::Nothing => None,
-            Kept::Parts(kept) => kept.parts.get(kept.next),
+            FilterCache::Nothing => None,
+            FilterCache::Parts(kept) => kept.parts.get(kept.next),
         }
     }
 
     /// Advances past a cached part.
     #[inline(always)]
     pub(crate) fn pass(&mut self)
-        ensures { (mode : Mode) (top : Tree) (all more : List Expression) (e : Expression) (part : KeptPart)
+        ensures { (mode : Mode) (top : Tree) (all more : List Expression) (e : Expression) (part : CachedPart)
             → kept_part self.old ≡ Some part → AreKept mode top self.old all (e ∷ more)
             → AreKept mode top self.new all more }
     {
         match self {
-            Kept::Nothing => {}
-            Kept::Parts(kept) => {
+            FilterCache::Nothing => {}
+            FilterCache::Parts(kept) => {
                 if kept.next < kept.parts.len() {
                     kept.next += 1;
                 }
@@ -81,15 +81,15 @@ impl<'a> Kept<'a> {
     }
 
     /// Caches the next part.
-    pub(crate) fn add(&mut self, part: KeptPart<'a>) -> Result<(), Error>
+    pub(crate) fn add(&mut self, part: CachedPart<'a>) -> Result<(), Error>
         ensures ok { (mode : Mode) (top : Tree) (all more : List Expression) (e : Expression)
             → kept_part self.old ≡ None → IsSame mode top part.entry e → AreKept mode top self.old all (e ∷ more)
             → OnOk result (AreKept mode top self.new all more) }
         ensures err { IfErr result IsOutOfMemory }
     {
         match self {
-            Kept::Nothing => Ok(()),
-            Kept::Parts(kept) => {
+            FilterCache::Nothing => Ok(()),
+            FilterCache::Parts(kept) => {
                 kept.parts.push(part)?;
                 kept.next = kept.parts.len();
                 Ok(())
@@ -104,8 +104,8 @@ impl<'a> Kept<'a> {
             → AreKept mode top self.new all all }
     {
         match self {
-            Kept::Nothing => {}
-            Kept::Parts(kept) => kept.next = 0,
+            FilterCache::Nothing => {}
+            FilterCache::Parts(kept) => kept.next = 0,
         }
     }
 }
@@ -117,7 +117,7 @@ pub(crate) fn comparison_part<'a>(
     lefts: OperandValues<'a>,
     rights: OperandValues<'a>,
     answer: Option<bool>,
-) -> KeptPart<'a>
+) -> CachedPart<'a>
     ensures { (mode : Mode) (top t : Tree) (op : BinaryOp)
         → is_condition (binary op (expression_view left.now) (expression_view right.now)) ≡ true
         → operand_values mode (expression_view left.now) top t ≡ Ok (values_view lefts.entry)
@@ -126,23 +126,23 @@ pub(crate) fn comparison_part<'a>(
         → IsSame mode top result (binary op (expression_view left.now) (expression_view right.now)) }
 {
     match (is_fixed(left), is_fixed(right)) {
-        (true, true) => KeptPart::Truth(answer),
-        (true, false) => KeptPart::Left(lefts),
-        (false, true) => KeptPart::Right(rights),
-        (false, false) => KeptPart::Nothing,
+        (true, true) => CachedPart::Truth(answer),
+        (true, false) => CachedPart::Left(lefts),
+        (false, true) => CachedPart::Right(rights),
+        (false, false) => CachedPart::Nothing,
     }
 }
 
 /// Returns the part of `exists` that is the same for each item.
-pub(crate) fn exists_part<'a>(steps: &[Path<'_>], answer: Option<bool>) -> KeptPart<'a>
+pub(crate) fn exists_part<'a>(steps: &[Path<'_>], answer: Option<bool>) -> CachedPart<'a>
     ensures { (mode : Mode) (top t : Tree)
         → truth mode (exists (steps_of (steps_view steps.now))) top t ≡ Ok answer
         → IsSame mode top result (exists (steps_of (steps_view steps.now))) }
 {
-    if begins_with_current(steps) {
-        KeptPart::Nothing
+    if is_relative(steps) {
+        CachedPart::Nothing
     } else {
-        KeptPart::Truth(answer)
+        CachedPart::Truth(answer)
     }
 }
 
@@ -151,15 +151,15 @@ fn is_fixed(operand: &Expr<'_>) -> bool
     ensures { result ≡ is_fixed (expression_view operand.now) }
 {
     match operand {
-        Expr::Paths(steps) => !begins_with_current(steps),
+        Expr::Paths(steps) => !is_relative(steps),
         Expr::Value(_) | Expr::BinaryOp { .. } | Expr::UnaryOp { .. } | Expr::ExistsFunc(_) => true,
     }
 }
 
 /// Returns `true` if the first step is `@`.
 #[inline(always)]
-pub(crate) fn begins_with_current(steps: &[Path<'_>]) -> bool
-    ensures { result ≡ begins_with_current (steps_view steps.now) }
+pub(crate) fn is_relative(steps: &[Path<'_>]) -> bool
+    ensures { result ≡ is_relative (steps_view steps.now) }
 {
     match steps.first() {
         Some(Path::Current) => true,
@@ -169,7 +169,7 @@ pub(crate) fn begins_with_current(steps: &[Path<'_>]) -> bool
 
 /// Returns `true` if a filter with this result selects the item.
 #[inline(always)]
-pub(crate) fn is_kept(truth: Option<bool>) -> bool
+pub(crate) fn is_true(truth: Option<bool>) -> bool
     ensures { (t : Tree) → IsKept t result (filtered t truth) }
 {
     match truth {

@@ -5,10 +5,10 @@ use Rattle.jsonb.specs.PathTree.{BinaryOp, and_op, or_op, add, subtract, multipl
 use Rattle.jsonb.specs.Meaning.{truth, operand_values}
 use Rattle.jsonb.specs.Private.Selection.{values_view}
 use Rattle.jsonb.specs.declared.selector.document.Mode.{Mode}
-use Rattle.jsonb.specs.declared.selector.kept.KeptPart.{KeptPart}
-use Rattle.jsonb.specs.declared.selector.kept.KeptPart.TheVariants as part
-use Rattle.jsonb.specs.declared.selector.kept.Kept.{Kept}
-use Rattle.jsonb.specs.declared.selector.kept.Kept.TheVariants as kept
+use Rattle.jsonb.specs.declared.selector.filter_cache.CachedPart.{CachedPart}
+use Rattle.jsonb.specs.declared.selector.filter_cache.CachedPart.TheVariants as part
+use Rattle.jsonb.specs.declared.selector.filter_cache.FilterCache.{FilterCache}
+use Rattle.jsonb.specs.declared.selector.filter_cache.FilterCache.TheVariants as kept
 
 -- an operand that looks at the item is a path that begins with `@`
 abbrev pub is_fixed : Expression → Bool
@@ -45,7 +45,7 @@ conditions (exists steps) = exists steps ∷ []
 conditions e = []
 
 -- what is kept of a condition is the same for each item
-abbrev pub IsSame : Mode → Tree → KeptPart → Expression → Type 0
+abbrev pub IsSame : Mode → Tree → CachedPart → Expression → Type 0
 IsSame mode top part.Nothing e = Unit {0}
 IsSame mode top (part.Truth b) e = (item : Tree) → truth mode e top item ≡ Ok b
 IsSame mode top (part.Left ls) (binary op l r) = (item : Tree) → operand_values mode l top item ≡ Ok (values_view ls)
@@ -53,22 +53,22 @@ IsSame mode top (part.Right rs) (binary op l r) = (item : Tree) → operand_valu
 IsSame mode top p e = ⊥
 
 -- the parts are kept of the first of the conditions
-abbrev pub AreSame : Mode → Tree → List KeptPart → List Expression → Type 0
+abbrev pub AreSame : Mode → Tree → List CachedPart → List Expression → Type 0
 AreSame mode top [] es = Unit {0}
 AreSame mode top (p ∷ ps) (e ∷ es) = IsSame mode top p e × AreSame mode top ps es
 AreSame mode top (p ∷ ps) [] = ⊥
 
 -- the part that comes next
-abbrev pub kept_part : Kept → Option KeptPart
+abbrev pub kept_part : FilterCache → Option CachedPart
 kept_part kept.Nothing = None
 kept_part (kept.Parts k) = slice_get k.parts.items k.next
 
 -- what is kept of all conditions of a filter, of which more are to come
-abbrev pub AreKept : Mode → Tree → Kept → List Expression → List Expression → Type 0
+abbrev pub AreKept : Mode → Tree → FilterCache → List Expression → List Expression → Type 0
 AreKept mode top kept.Nothing all more = Unit {0}
 AreKept mode top (kept.Parts k) all more =
     AreSame mode top k.parts.items all × (more ≡ drop k.next all) × (k.next ≤ length k.parts.items)
 
 -- what is kept of a filter that begins with an item
-abbrev pub IsKeptFor : Mode → Tree → Expression → Kept → Type 0
+abbrev pub IsKeptFor : Mode → Tree → Expression → FilterCache → Type 0
 IsKeptFor mode top e k = AreKept mode top k (conditions e) (conditions e)

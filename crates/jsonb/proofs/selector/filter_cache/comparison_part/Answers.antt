@@ -1,8 +1,8 @@
 use Rattle.std.proofs.Common.{◌≡◌, true, rules, ◌∙◌}
 use Rattle.jsonb.specs.PathViews.{expression_view}
-use Rattle.jsonb.specs.Private.Kept.{is_fixed}
+use Rattle.jsonb.specs.Private.FilterCache.{is_fixed}
 use Rattle.jsonb.proofs.KeptLemmas.{fixed_truth}
-use Rattle.jsonb.proofs.selector.kept.comparison_part.Goals as goal
+use Rattle.jsonb.proofs.selector.filter_cache.comparison_part.Goals as goal
 
 pub returns-in-true-true : goal.returns-in-true-true
 returns-in-true-true c = λ mode top t op is lefts rights told item.

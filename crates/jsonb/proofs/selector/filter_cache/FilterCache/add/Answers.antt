@@ -1,7 +1,7 @@
 use Rattle.std.proofs.Common.{◌≡◌, ◌+◌, ◌∷◌, [], length, drop, None, subst, sym, ap, ◌∙◌, arith, length-append}
-use Rattle.jsonb.specs.Private.Kept.{AreKept, AreSame, kept_part}
+use Rattle.jsonb.specs.Private.FilterCache.{AreKept, AreSame, kept_part}
 use Rattle.jsonb.proofs.KeptLemmas.{passed, one_part, at_last}
-use Rattle.jsonb.proofs.selector.kept.Kept.add.Goals as goal
+use Rattle.jsonb.proofs.selector.filter_cache.FilterCache.add.Goals as goal
 
 pub returns-in_ok-push-in-Parts-clause-ok : goal.returns-in_ok-push-in-Parts-clause-ok
 returns-in_ok-push-in-Parts-clause-ok c = λ mode top all more e none same a.

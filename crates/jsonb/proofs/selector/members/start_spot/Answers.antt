@@ -1,0 +1,27 @@
+use Rattle.std.proofs.Common.{◌≡◌, arith, true, false, List, [], ◌∷◌, refl, sym, subst, ◌∙◌}
+use Rattle.jsonb_doc.specs.Tree.{Tree}
+use Rattle.jsonb.specs.PathTree.{Step, current, steps_of}
+use Rattle.jsonb.specs.PathViews.{steps_view}
+use Rattle.jsonb.specs.Meaning.{start}
+use Rattle.jsonb.specs.Private.Selection.{IsAt, is_relative}
+use Rattle.jsonb.proofs.selector.members.start_spot.Goals as goal
+
+at_item : (steps : List Step) (top t : Tree) → is_relative steps ≡ true → start (steps_of steps) top t ≡ t
+at_item (current ∷ rest) top t h = refl
+at_item [] top t h = absurd (grind (arith, h))
+at_item (_ ∷ rest) top t h = absurd (grind (arith, h))
+
+at_root : (steps : List Step) (top t : Tree) → is_relative steps ≡ false → start (steps_of steps) top t ≡ top
+at_root (current ∷ rest) top t h = absurd (grind (arith, h))
+at_root [] top t h = refl
+at_root (_ ∷ rest) top t h = refl
+
+pub returns-then-is_relative : goal.returns-then-is_relative
+returns-then-is_relative c = λ top t root item.
+    subst (IsAt c.args.document c.args.item)
+    (sym (at_item (steps_view c.args.steps.now) top t (sym c.is_relative.ensures ∙ c.if-is_relative.true))) item
+
+pub returns-else-is_relative : goal.returns-else-is_relative
+returns-else-is_relative c = λ top t root item.
+    subst (IsAt c.args.document c.args.document.root)
+    (sym (at_root (steps_view c.args.steps.now) top t (sym c.is_relative.ensures ∙ c.if-is_relative.false))) root
