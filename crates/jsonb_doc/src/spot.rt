@@ -59,28 +59,6 @@ impl Spot {
         self.kind == EntryKind::Container
     }
 
-    /// Returns the spot itself, built from its parts.
-    ///
-    /// If a spot is stored, or passed to a call that is not inlined, this avoids a copy of the seven bytes after its
-    /// type, which the machine cannot forward from one move to the next.
-    ///
-    /// # Complexity
-    ///
-    /// O(1). Does not allocate.
-    ///
-    /// # Examples
-    ///
-    /// ```rust crates/jsonb/src/selector/children.rt
-    /// nodes.push(spot.by_parts())?;
-    /// ```
-    #[inline(always)]
-    pub fn by_parts(self) -> Spot
-        ensures { result ≡ self }
-    {
-        let Spot { kind, start, end } = self;
-        Spot { kind, start, end }
-    }
-
     /// Returns its content within these bytes. Fails with `InvalidJsonb` if it exceeds them.
     fn content<'a>(self, bytes: &'a [u8]) -> Result<&'a [u8], Error>
         ensures { MatchResult result
@@ -93,6 +71,22 @@ impl Spot {
             None => Err(Error::InvalidJsonb),
         }
     }
+}
+
+/// Returns the spot itself, built from its parts.
+///
+/// If a spot is stored, or passed to a call that is not inlined, this avoids a copy of the seven bytes after its type,
+/// which the machine cannot forward from one move to the next.
+///
+/// # Complexity
+///
+/// O(1). Does not allocate.
+#[inline(always)]
+pub fn spot_by_parts(spot: Spot) -> Spot
+    ensures { result ≡ spot }
+{
+    let Spot { kind, start, end } = spot;
+    Spot { kind, start, end }
 }
 
 /// Returns the spot of a document's root.

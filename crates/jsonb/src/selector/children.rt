@@ -18,7 +18,7 @@ ghost use Rattle.jsonb.specs.declared.selector.document.Mode.TheVariants.{Lax, S
 use super::document::Mode;
 use super::levels::push_levels;
 use crate::path::{ArrayIndex, Index, Path};
-use jsonb_doc::{Error, Spot, SpotIter, element_spots, field_spot, value_spots};
+use jsonb_doc::{Error, Spot, SpotIter, element_spots, field_spot, spot_by_parts, value_spots};
 use std::alloc::Global;
 
 /// Returns the elements of an array, or `None` for another item.
@@ -49,7 +49,7 @@ pub(crate) fn push_spot(nodes: &mut Vec<Spot>, spot: Spot) -> Result<(), Error>
     ensures ok { OnOk result (nodes.new.items ≡ nodes.old.items ++ spot ∷ []) }
     ensures err { IfErr result IsOutOfMemory }
 {
-    nodes.push(spot.by_parts())?;
+    nodes.push(spot_by_parts(spot))?;
     Ok(())
 }
 

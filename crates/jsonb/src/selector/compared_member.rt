@@ -24,7 +24,7 @@ use super::members::{member, member_of, start_spot};
 use super::operand_value::{OperandValue, compare_one, compare_short, value_of_item};
 use super::plan::MemberCompared;
 use crate::path::{BinaryOperator, Path};
-use jsonb_doc::{Error, Spot, SpotIter, spot_number, spot_value};
+use jsonb_doc::{Error, Spot, SpotIter, spot_by_parts, spot_number, spot_value};
 use std::slice;
 
 /// The member that a comparison is of. One name alone is looked up without a call.
@@ -44,7 +44,7 @@ pub(crate) fn compared_member(
 {
     match comparison.names {
         [name] => member_of(mode, name, bytes, item),
-        names => member(mode, names, bytes, item.by_parts()),
+        names => member(mode, names, bytes, spot_by_parts(item)),
     }
 }
 
@@ -140,7 +140,7 @@ pub(crate) fn compared_truth(
 {
     match spot_number(bytes, item)? {
         Some(number) => Ok(compare_short(op, number, rights)),
-        None => other_truth(op, bytes, item.by_parts(), rights),
+        None => other_truth(op, bytes, spot_by_parts(item), rights),
     }
 }
 

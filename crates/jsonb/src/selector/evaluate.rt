@@ -24,7 +24,7 @@ use super::node_list::NodeList;
 use super::plan::{Jump, MembersCompared, Question, Test};
 use super::values::found_values;
 use crate::path::Expr;
-use jsonb_doc::{Error, Spot};
+use jsonb_doc::{Error, Spot, spot_by_parts};
 use std::alloc::Global;
 
 /// Returns the items of a list that a filter selects, in order, if the filter can be compiled to tests.
@@ -226,10 +226,10 @@ pub(crate) fn question_truth(
     match question {
         Question::Compared(comparison) => item_truth(mode, comparison, bytes, item),
         Question::MembersCompared(comparison) => {
-            members_truth(alloc, mode, comparison, bytes, item.by_parts())
+            members_truth(alloc, mode, comparison, bytes, spot_by_parts(item))
         }
         Question::MemberFound(asked) => {
-            let found = member(mode, asked.names, bytes, item.by_parts())?;
+            let found = member(mode, asked.names, bytes, spot_by_parts(item))?;
             Ok(Some(found.is_some()))
         }
         Question::Unknown => Ok(None),

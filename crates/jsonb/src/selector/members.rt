@@ -19,7 +19,7 @@ use super::children::fail_if_strict;
 use super::document::{Document, Mode};
 use super::filter_cache::is_relative;
 use crate::path::{Expr, Path};
-use jsonb_doc::{Error, Spot, field_spot};
+use jsonb_doc::{Error, Spot, field_spot, spot_by_parts};
 
 /// Returns the item at which a path within an expression starts.
 #[inline(always)]
@@ -143,11 +143,11 @@ pub(crate) fn member(
     let mut item = first;
     for step in steps {
         match member_of(mode, step, bytes, item)? {
-            Some(next) => item = next.by_parts(),
+            Some(next) => item = spot_by_parts(next),
             None => return Ok(None),
         }
     }
-    Ok(Some(item.by_parts()))
+    Ok(Some(spot_by_parts(item)))
 }
 
 /// Returns the steps of an operand that names at most one member.

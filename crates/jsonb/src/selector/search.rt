@@ -28,7 +28,7 @@ use super::members::{are_members, member_of};
 use super::plan::{Condition, Question};
 use super::steps::filter_of;
 use crate::path::{ArrayIndex, Expr, Path, RecursiveLevel};
-use jsonb_doc::{Error, Spot, SpotIter};
+use jsonb_doc::{Error, Spot, SpotIter, spot_by_parts};
 use std::alloc::Global;
 
 /// A step that does not fail for any item in lax mode.
@@ -260,7 +260,7 @@ fn reach<'t, 's, 'p, 'a>(
     let mut item = first;
     for (at, step) in steps.iter().enumerate() {
         match step_items(alloc, step, bytes, item)? {
-            StepItems::AtMostOne(Some(next)) => item = next.by_parts(),
+            StepItems::AtMostOne(Some(next)) => item = spot_by_parts(next),
             StepItems::AtMostOne(None) => return Ok(Reached::AtMostOne(None)),
             StepItems::Many(items) => {
                 let steps = &steps[at + 1..];
@@ -345,7 +345,7 @@ fn kept<'a>(truth: Option<bool>, item: Spot) -> StepItems<'a>
     ensures kept { (bytes : List ℕ) (t : Tree) → Locates bytes item t → AreGiven bytes result (filtered t truth) }
     ensures few { given_bound result < 2 ^ 64 }
 {
-    StepItems::AtMostOne(is_true(truth).then_some(item.by_parts()))
+    StepItems::AtMostOne(is_true(truth).then_some(spot_by_parts(item)))
 }
 
 /// Returns the positions of a list.

@@ -25,7 +25,7 @@ mod leaves;
 
 use crate::owned::OwnedJsonb;
 use crate::raw::RawJsonb;
-use jsonb_doc::{Error, Item, Spot, child_spots, field_spot, root_spot, spot_item};
+use jsonb_doc::{Error, Item, Spot, child_spots, field_spot, root_spot, spot_by_parts, spot_item};
 use jsonb_keypath::KeyPath;
 use std::alloc::Global;
 
@@ -44,7 +44,7 @@ fn nth_child(bytes: &[u8], spot: Spot, position: usize) -> Result<Option<Spot>, 
     let Some(child) = left.next() else {
         return Ok(None);
     };
-    Ok(Some(child?.by_parts()))
+    Ok(Some(spot_by_parts(child?)))
 }
 
 /// Returns the child that this many others follow.
@@ -110,7 +110,7 @@ fn child_at_step(
     ensures errors { IfErr result (IsDecodingError or OutOfMemory) }
 {
     match step {
-        KeyPath::Index(index) => indexed_child(alloc, bytes, spot.by_parts(), *index),
+        KeyPath::Index(index) => indexed_child(alloc, bytes, spot_by_parts(spot), *index),
         KeyPath::QuotedName(name) => field_spot(bytes, spot, name.as_str()),
         KeyPath::Name(name) => field_spot(bytes, spot, name.as_str()),
     }
@@ -163,7 +163,7 @@ impl RawJsonb<'_> {
             let Some(child) = child_at_step(alloc, bytes, spot, step)? else {
                 return Ok(None);
             };
-            spot = child.by_parts();
+            spot = spot_by_parts(child);
         }
         Ok(Some(OwnedJsonb::from_spot(alloc, bytes, spot)?))
     }

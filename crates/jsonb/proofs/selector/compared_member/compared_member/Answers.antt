@@ -24,4 +24,4 @@ returns-in-len1-clause-meant c = λ top t all m.
     (c.member_of.ensures.meant top t first.0 m)
 
 pub returns-in_default-clause-meant : goal.returns-in_default-clause-meant
-returns-in_default-clause-meant c = λ top t all m. c.member.ensures.meant AreRefused top t all (rw c.by_parts.ensures m)
+returns-in_default-clause-meant c = λ top t all m. c.member.ensures.meant AreRefused top t all (rw c.spot_by_parts.ensures m)

@@ -17,7 +17,7 @@ returns-in-Compared-clause-meant c = λ e top t q m. c.item_truth.ensures.meant 
 
 pub returns-in-MembersCompared-clause-meant : goal.returns-in-MembersCompared-clause-meant
 returns-in-MembersCompared-clause-meant c = λ e top t q m.
-    c.members_truth.ensures.meant e top t (rw c.in-MembersCompared.is at q) (rw c.by_parts.ensures m)
+    c.members_truth.ensures.meant e top t (rw c.in-MembersCompared.is at q) (rw c.spot_by_parts.ensures m)
 
 pub returns-in_err-found-in-MemberFound-clause-meant : goal.returns-in_err-found-in-MemberFound-clause-meant
 returns-in_err-found-in-MemberFound-clause-meant c = λ e top t q m.
@@ -25,14 +25,14 @@ returns-in_err-found-in-MemberFound-clause-meant c = λ e top t q m.
     let p = err_from_is_err_and c.from_residual.result c.from_residual.ensures.1 in
     same_answer (p.1 ∙ ap Err p.2) (same_outcome (k.finds c.args.mode top t
     ∙ ap (λ l. and_then (steps_meaning c.args.mode (steps_of l) top (t ∷ [])) (λ ts. Ok (Some (is_some_item ts)))) (sym (refused_steps (steps_view c.in-MemberFound.asked.names.now))))
-    (first_refused (λ ts. Ok (Some (is_some_item ts))) (c.in_err-found-in-MemberFound.ensures.meant AreRefused top t k.members (rw c.by_parts-in-MemberFound.ensures m))))
+    (first_refused (λ ts. Ok (Some (is_some_item ts))) (c.in_err-found-in-MemberFound.ensures.meant AreRefused top t k.members (rw c.spot_by_parts-in-MemberFound.ensures m))))
 
 pub returns-in_ok-found-in-MemberFound-clause-meant : goal.returns-in_ok-found-in-MemberFound-clause-meant
 returns-in_ok-found-in-MemberFound-clause-meant c = λ e top t q m.
     let k = rw c.in-MemberFound.is at q in
     same_outcome (k.finds c.args.mode top t
     ∙ ap (λ l. and_then (steps_meaning c.args.mode (steps_of l) top (t ∷ [])) (λ ts. Ok (Some (is_some_item ts)))) (sym (refused_steps (steps_view c.in-MemberFound.asked.names.now))))
-    (one_ok (λ ts. Ok (Some (is_some_item ts))) (c.in_ok-found-in-MemberFound.ensures.meant AreRefused top t k.members (rw c.by_parts-in-MemberFound.ensures m))
+    (one_ok (λ ts. Ok (Some (is_some_item ts))) (c.in_ok-found-in-MemberFound.ensures.meant AreRefused top t k.members (rw c.spot_by_parts-in-MemberFound.ensures m))
     (λ us related. ap Some (c.is_some.ensures ∙ found_is_item (Locates c.args.bytes.now) _ us related)))
 
 pub returns-in-Unknown-clause-meant : goal.returns-in-Unknown-clause-meant

@@ -44,7 +44,7 @@ loop-step-preserved c = λ expressions top t all m.
     ((c.in_ok-next.ensures.meant top inv.0 first.0 inv.1).ok) in
     let one = one_member (Locates c.args.bytes.now) _ c.in-Some.next next.0 c.in-Some.is next.1 in (
       one.0,
-      rw c.by_parts-item.ensures one.2,
+      rw c.spot_by_parts-item.ensures one.2,
       first.1,
       inv.3
           ∙ member_next c.args.steps.now c.loop-step.step-index c.step-item.result c.loop-step-test.true
@@ -57,4 +57,4 @@ returns-clause-meant c = λ expressions top t all m.
     let inv = c.loop-step.invariant expressions top t all m in
     let none = inv.3 ∙ ap (λ l. steps_meaning c.args.mode (steps_of (map (taken_step expressions) (steps_view l))) top (inv.0 ∷ []))
     (drop_of_length-le c.args.steps.now c.loop-step-test.false) in
-    record { ok = subst (λ o. IsOkAnd o (AllZip (Locates c.args.bytes.now) (c.by_parts.result ∷ []))) (sym none) (rw c.by_parts.ensures inv.1, tt); err = tt }
+    record { ok = subst (λ o. IsOkAnd o (AllZip (Locates c.args.bytes.now) (c.spot_by_parts.result ∷ []))) (sym none) (rw c.spot_by_parts.ensures inv.1, tt); err = tt }

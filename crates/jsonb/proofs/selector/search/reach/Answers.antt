@@ -64,7 +64,7 @@ loop-at-preserved c = λ top t ss a m.
     (c.in_ok-next.ensures.meant top inv.0 f.first is inv.2).ok in
     let one = given_one c.args.bytes.now c.in_ok-next.field-0 c.in-AtMostOne-Some.next k.0
     (c.in-AtMostOne-Some.is ∙ ap given.AtMostOne c.in-AtMostOne-Some.field-0-is) k.1 in
-    (one.0, f.others, rw c.by_parts-item.ensures one.2, f.left, inv.4 ∙ k.2 ∙ ap (steps_meaning Lax (steps_of f.others) top) one.1)
+    (one.0, f.others, rw c.spot_by_parts-item.ensures one.2, f.left, inv.4 ∙ k.2 ∙ ap (steps_meaning Lax (steps_of f.others) top) one.1)
 
 pub returns-clause-meant : goal.returns-clause-meant
 returns-clause-meant c = λ top t ss a m.

@@ -12,7 +12,7 @@ use Rattle.jsonb_raw.proofs.functions.path.child_at_step.Goals as goal
 pub returns-in-Index-clause-child : goal.returns-in-Index-clause-child
 returns-in-Index-clause-child c = λ t m.
     let fits : SFits w32 c.in-Index.index = search rules in
-    rw c.in-Index.is (passed _ _ c.in-Index.index t _ (to_z-of_z w32 c.in-Index.index fits) (c.indexed_child.ensures.child t (rw c.by_parts.ensures m)))
+    rw c.in-Index.is (passed _ _ c.in-Index.index t _ (to_z-of_z w32 c.in-Index.index fits) (c.indexed_child.ensures.child t (rw c.spot_by_parts.ensures m)))
 
 pub returns-in-QuotedName-clause-child : goal.returns-in-QuotedName-clause-child
 returns-in-QuotedName-clause-child c = λ t m.

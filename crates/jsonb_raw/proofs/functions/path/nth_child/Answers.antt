@@ -31,5 +31,5 @@ returns-clause-child c = λ t m.
     let all = all_left _ _ _ (rw c.in-Some.is at (c.in_ok-found.ensures.spots t m)) in
     let left = c.in-Some-behind.ensures.left _ (children t) all in
     let f = first_left _ _ _ _ (c.in-Some-next.ensures.steps.takes _ _ left) in
-    rw (here (drop c.args.position (children t)) 0 f.first f.rest _ f.split refl (first_behind (children t) c.args.position), c.by_parts.ensures)
+    rw (here (drop c.args.position (children t)) 0 f.first f.rest _ f.split refl (first_behind (children t) c.args.position), c.spot_by_parts.ensures)
     (first_marked f _ c.in_ok-child.was)

@@ -42,7 +42,7 @@ loop-step-preserved g c = record {
   finite = search rules;
   left = λ left tells t d.
       let i = c.loop-step.invariant.left left tells t d in
-      rw c.by_parts-spot.ensures
+      rw c.spot_by_parts-spot.ensures
       (some_met (Locates c.as_bytes-bytes.result.now) (tree_at_steps (keys_view (left c.next.new.self))) c.in-Some-2.child _ _ _ c.in-Some-2.is
       (c.in_ok-child.ensures.child i.0 i.1)
       (next_child c.in-Some.step.now (left c.next.new.self) _ i.0 _ (tells _ _ _ c.in-Some.ensures.steps) i.2));
