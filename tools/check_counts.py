@@ -7,7 +7,8 @@
 
 A mutant, a test module or a row that is deleted leaves the gate green with a smaller number. So each number is in
 tools/counts.toml, and a change that lowers one has to say so there. Each public call has to be named in docs/API.md, in a row of
-docs/rows/, in a test, in the allocation-failure sweep, among the calls on damaged documents, in a mutant and in the C library.
+docs/rows/, in a test, in the allocation-failure sweep and in the name of one of its cases, among the calls on damaged documents, in
+a mutant and in the C library.
 tools/counts.toml gives a reason for each exception, which may be a pattern such as `Number::*`.
 
 Only what runs is counted: source files that a `mod` line includes, and of the sweep and the damaged documents what `main` and the
@@ -19,6 +20,7 @@ import re
 import subprocess
 import sys
 import tomllib
+from collections import Counter
 from fnmatch import fnmatchcase
 from pathlib import Path
 
@@ -35,6 +37,8 @@ NO_REASON = "no reason yet"
 CALL = re.compile(r"\b(\w+)(?:::<[^>]*>)?\(")
 MODULE = re.compile(r"^ *(?:pub(?:\([^)]*\))? )?mod (\w+);", re.M)
 TEST = re.compile(r"^ *#\[test\]\n(?: *#\[.*\n)* *fn (\w+)", re.M)
+# The size with which the name of a case of the sweep begins.
+SIZE = re.compile(r"((?:16 \* |depth )?)\d+(?=:| \w+(?: \w+)?:)")
 # The beginning of a function, a table or a macro.
 PART = re.compile(r"^(?= *(?:pub(?:\([^)]*\))? )?(?:fn|static|const|macro_rules!) (\w+))", re.M)
 
@@ -96,8 +100,29 @@ def numbers_of_crate(crate):
     yield "laws", len(re.findall(r"^pub fn ", sources(crate).get("laws.rt", ""), re.M))
 
 
+def names_of_cases(file):
+    """Returns the names of cases in a file of the sweep, without what precedes them in its lines."""
+    before = {"growths": 1, "stdout": 2, "large": 0}[file]
+    return [it.split(" ", before)[-1] for it in text_of(CRATES / "jsonb_sweep" / file).splitlines()]
+
+
+def faults_of_sweep():
+    """Yields an error for each case that one of the sweep's files lacks or has twice.
+
+    A case whose name begins with a size has to be among the large ones too.
+    """
+    cases, printed, large = map(names_of_cases, ("growths", "stdout", "large"))
+    yield from (f"jsonb_sweep: only one of growths and stdout has {name!r}" for name in {*cases} ^ {*printed})
+    yield "" if cases == printed else "jsonb_sweep: growths and stdout do not have the same names in the same order"
+    for file, names in {"growths": cases, "large": large}.items():
+        yield from (f"jsonb_sweep/{file} has {name!r} {count} times" for name, count in Counter(names).items() if count > 1)
+    sized, sized_large = ({SIZE.sub(r"\1N", it) for it in names if SIZE.match(it)} for names in (cases, large))
+    yield from (f"jsonb_sweep: {name!r} has only one size" for name in sized ^ sized_large)
+
+
 def numbers_of_sweep():
-    yield "cases of the sweep", len(text_of(CRATES / "jsonb_sweep/stdout").splitlines())
+    yield "cases of the sweep", len(names_of_cases("stdout"))
+    yield "large cases of the sweep", len(names_of_cases("large"))
     allocations = [it.split()[0] for it in text_of(CRATES / "jsonb_sweep/growths").splitlines()]
     yield "allocations of the sweep", sum(int(it) for it in allocations if it.isdigit())
     yield "runs of jsonb_tool in the sweep", len(re.findall(r"^(?:sweep|large)_tool ", text_of(ROOT / "tools/sweep_memory.sh"), re.M))
@@ -195,6 +220,15 @@ def reached_names(crate, starts):
     return {name for it in found for name in CALL.findall(parts[it])}
 
 
+def calls_in_name(case):
+    """Yields the calls in the name of a case, such as `Number::eq` and `Number::cmp` of "Number::eq, cmp"."""
+    owner = ""
+    for part in case.rpartition(": ")[2].split(", "):
+        call = part.partition(" ")[0]
+        owner = call.rpartition("::")[0] or owner
+        yield f"{owner}::{call.rpartition('::')[2]}" if owner else call
+
+
 def mutated_names():
     return {it.name.rpartition("::")[2] for crate in check_docs.CRATES for it in mutants(crate) if it}
 
@@ -210,12 +244,13 @@ def missing():
         "docs/rows": names_in_rows(),
         "a test": tested_names(),
         "the sweep": reached_names("jsonb_sweep", ["main"]),
+        "a name of its cases": {call for it in names_of_cases("growths") for call in calls_in_name(it)},
         "damaged documents": reached_names("jsonb_vectors", TEST.findall(source("jsonb_vectors"))),
         "a mutant": mutated_names(),
         "the C library": {*c_names()},
     }
     calls = [*public_calls()]
-    return {place: [it for it in calls if it.rpartition("::")[2] not in names] for place, names in places.items()}
+    return {place: [it for it in calls if not {it, it.rpartition("::")[2]} & names] for place, names in places.items()}
 
 
 # ---- the file
@@ -261,6 +296,7 @@ def faults(run, counts, calls):
     for name in {**numbers_stated, **counts}:
         now, then = counts.get(name, 0), numbers_stated.get(name, 0)
         yield "" if now == then else f"{name}: {now}, and {then} in tools/counts.toml"
+    yield from faults_of_sweep()
     every = len([*public_calls()])
     for place, names in calls.items():
         given = reasons.get(place, {})

@@ -3,8 +3,9 @@
 # failure; once each alone, and once with all that follow. Then the same for the whole program jsonb_tool, and with its
 # standard output broken in three ways. The last line is 'N passed, M failed'.
 #
-#   tools/sweep_memory.sh            compares the allocations of each call with crates/jsonb_sweep/growths
-#   tools/sweep_memory.sh --write    writes that file again: read the changes before committing it
+#   tools/sweep_memory.sh            compares the allocations of each call with crates/jsonb_sweep/growths, and the names of
+#                                    the large cases with crates/jsonb_sweep/large
+#   tools/sweep_memory.sh --write    writes both files again: read the changes before committing them
 #
 # Needs cc and rt. It sweeps the proved programs in crates/NAME/out/NAME, as rt ci and rt run leave them. If one is missing,
 # or older than a source, rt run builds it: in seconds over kept proofs; from scratch every crate below is proved first, in
@@ -12,6 +13,7 @@
 set -u
 top=$(cd "$(dirname "${BASH_SOURCE[0]}")/.." && pwd)
 stated=$top/crates/jsonb_sweep/growths
+stated_large=$top/crates/jsonb_sweep/large
 sweep=$top/crates/jsonb_sweep/out/jsonb_sweep
 tool=$top/crates/jsonb_tool/out/jsonb_tool
 work=$(mktemp -d)
@@ -106,6 +108,9 @@ tail -n +"$((cases + 1))" "$work/lines" > "$work/large"
 while read -r _ word name; do
     if [ "$word" = right ]; then passed=$((passed + 1)); else fault "$name: $word"; fi
 done < "$work/large"
+cut -d ' ' -f 3- "$work/large" > "$work/names"
+[ "${1:-}" = --write ] && cp "$work/names" "$stated_large"
+diff -u "$stated_large" "$work/names" || fault "the large cases are not those in $stated_large"
 [ -s "$work/large" ] || fault "nothing large was asked"
 echo "sweep: $(wc -l < "$work/large") cases on what is large"
 
