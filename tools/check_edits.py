@@ -9,7 +9,7 @@ An edit file may hold several edits: pairs of `old:` and `new:` in the bodies of
 words that begin with `#` between them. Each of those functions must fail on its own: by a goal of its own that
 automatic search does not prove, or by an error in its own proof; not because it calls another that fails. A body changes
 no contract, so one pair cannot make another's function fail. Hence two edits of one function or of one cycle of calls,
-and a pair outside any body, are in separate files; pairs in one function are one edit.
+and a pair outside any body, are in separate files. Pairs in one function with no words between them are one edit.
 
 This is rt must-fail, and what gate.py tries of edits is rt ci's own: how an edit is read, checked and kept, and what it
 begins with, is what rt says. Two things are changed: of the crate only the functions that the edit changes are checked,

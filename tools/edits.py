@@ -158,7 +158,10 @@ def read(edit, folder):
     if fault:
         return [], fault
     with open(edit, encoding="utf-8") as it:
-        functions = functions_of(it.read(), folder)
+        text = it.read()
+    functions = functions_of(text, folder)
+    if sum(len(functions_of(part, folder)) for part in re.split(r"^#.*", text, flags=re.M)) > len(functions):
+        return functions, "two edits of one function, each with its words: each needs a file of its own"
     if len(functions) > 1 and None in functions:
         return functions, "a pair stands in no function's body: such an edit needs a file of its own"
     cycles = [it.cycle for it in functions if it and it.cycle]
