@@ -11,6 +11,8 @@ automatic search does not prove, or by an error in its own proof; not because it
 no contract, so one pair cannot make another's function fail. Hence two edits of one function or of one cycle of calls,
 and a pair outside any body, are in separate files. Pairs in one function with no words between them are one edit.
 
+tools/judge.py decides that by the prover's output: a proof that only misses names which the edit took away rejects nothing.
+
 This is rt must-fail, and what gate.py tries of edits is rt ci's own: how an edit is read, checked and kept, and what it
 begins with, is what rt says. Two things are changed: of the crate only the functions that the edit changes are checked,
 with what they call; and a file counts as rejected only if each of its functions fails on its own.
@@ -27,13 +29,9 @@ import threading
 
 sys.dont_write_bytecode = True
 import edits
+import judge
 import lanes
 from edits import rt, say
-
-# What the prover says of a proof that names something which the edit took away: that says nothing of the contract.
-NAMES_WHAT_IS_GONE = re.compile(r"has no field|is not in scope(?! here, so what is shown)|has no `|was not admitted")
-# What it says of an open goal without a written proof.
-OPEN_GOAL = re.compile(r"^note: (src/\S+?):(\d+):\d+: it is not proved that", re.M)
 
 this_thread = threading.local()
 # What the prover said of each unchanged crate, by its name.
@@ -59,40 +57,18 @@ def remember_check(crate, texts, flags, kept):
     return ran
 
 
-def fault_of_refusal(crate, function, said, texts):
-    """Returns why the prover's output does not reject the function on its own, or None if it does.
-
-    `texts` holds the contents of the files that the edit changes, by their path.
-    """
-    lines = function.lines(crate, said)
-    names = {name for name, _ in lines if "fn::" not in name}
-    if len(names) != 1:
-        return f"the prover speaks of {len(names)} functions {function}, and not of one"
-    if all(verdict.startswith("proved") for _, verdict in lines):
-        return f"{names.pop()} is still proved"
-    if any("did not prove" in verdict for _, verdict in lines):
-        return None
-    places = [(path, int(line)) for path, line in OPEN_GOAL.findall(said) if path in texts]
-    if function in [edits.function_at(path, texts[path], line) for path, line in places]:
-        return None
-    # The folder of a function that calls itself alone has a plus before its name, as that of a cycle has.
-    refused = [name.split("::") for name, verdict in lines if not verdict.startswith("proved")]
-    folders = ["/".join(map(re.escape, it[:-1])) + rf"{'/' if it[1:] else ''}\+?{re.escape(it[-1])}" for it in refused]
-    folders += [rf"(?:[\w/]+/)?\+{function.cycle}"] if function.cycle else []
-    # (What an error says goes on in the rows below it, which are further right.)
-    errors = re.findall(rf"^\./proofs/(?:{'|'.join(folders)})/.*: error: .*(?:\n  .*)*", said, re.M)
-    if any(not NAMES_WHAT_IS_GONE.search(it) for it in errors):
-        return None
-    if errors:
-        return f"{names.pop()} is refused only because its proof names what the edit took away: keep the names"
-    return f"{names.pop()} is refused only for what it calls: {lines[0][1][:120]}"
-
-
 def only(crate, functions):
     """Returns the words that have only these functions checked, none if the crate's proof does not name each once."""
     said = proofs.get(crate, "")
     named = [{path for path, _ in it.lines(crate, said) if "fn::" not in path} if it else () for it in functions]
     return [word for it in named for word in ("--only", *it)] if all(len(it) == 1 for it in named) else []
+
+
+def faults_of(crate, edit, functions, said):
+    """Returns why the prover's output does not reject each of the functions that an edit changes."""
+    texts = rt.read_edit(edit, crate.folder)[0]
+    found = [judge.fault_of_function(crate.name, it, said, texts) if it else judge.fault_outside_bodies(said) for it in functions]
+    return [it for it in found if it]
 
 
 def must_fail(crate, edit, flags, kept=None):
@@ -102,11 +78,10 @@ def must_fail(crate, edit, flags, kept=None):
     if fault:
         return rt.MISSED, f"{name}: BAD EDIT: {fault}"
     kind, text = must_fail_by_rt(crate, edit, [*flags, *only(crate.name, functions)], kept)
-    if functions == [None] or kind not in (rt.REFUSED, rt.MISSED):
-        return (kind, text) if kind in (rt.REFUSED, rt.MISSED, rt.UNSURE) else (rt.MISSED, text)
-    texts, said = rt.read_edit(edit, crate.folder)[0], this_thread.check.stdout
-    faults = [it for it in (fault_of_refusal(crate.name, it, said, texts) for it in functions) if it]
-    if faults:
+    if kind not in (rt.REFUSED, rt.MISSED):
+        return (kind, text) if kind == rt.UNSURE else (rt.MISSED, text)
+    faults = faults_of(crate, edit, functions, this_thread.check.stdout)
+    if faults or kind == rt.MISSED:
         return rt.MISSED, "\n".join([text, *(f"{name}: NOT REFUSED FOR ITSELF: {it}" for it in faults)])
     told = [f"{name}: each of its {len(functions)} functions is refused for itself"] if len(functions) > 1 else []
     return rt.REFUSED, "\n".join([text, *told])
@@ -128,15 +103,15 @@ def seeded(crate, flags, start=None):
 
 def sum_of_judge():
     """Returns a sum of how edits are judged here, so that what rt or an earlier judge passed is not taken for it."""
-    parts = (edits, remember_check, fault_of_refusal, only, must_fail)
+    parts = (edits, judge, remember_check, only, faults_of, must_fail, seeded)
     return hashlib.sha256("".join(inspect.getsource(it) for it in parts).encode()).hexdigest()
 
 
 def judge_by_function():
     """Has rt try edits as this program's description says."""
-    judge = sum_of_judge()
+    how = sum_of_judge()
     rt.checked, rt.must_fail, rt.seeded, rt.in_lanes = remember_check, must_fail, seeded, lanes.in_lanes
-    rt.Kept.of_edit = lambda kept, edit, sum: of_edit_by_rt(kept, edit, f"{sum} {judge}")
+    rt.Kept.of_edit = lambda kept, edit, sum: of_edit_by_rt(kept, edit, f"{sum} {how}")
 
 
 def list_edits(names):
