@@ -11,6 +11,7 @@ of processors, and need an idle machine all the same.
 import argparse
 import os
 import re
+import sqlite3
 import subprocess
 import sys
 import tempfile
@@ -45,8 +46,10 @@ def c(*how):
 
 
 def sqlite():
+    """Runs an interpreter that can load extensions, as Debian's can."""
     run("make", "-s", "-C", os.path.join(BINDINGS, "sqlite"))
-    script("sqlite.py", os.path.join(BINDINGS, "sqlite", "out", "jdoc"), "--write")
+    python = sys.executable if hasattr(sqlite3.Connection, "enable_load_extension") else "/usr/bin/python3"
+    script("sqlite.py", os.path.join(BINDINGS, "sqlite", "out", "jdoc"), "--write", python=python)
 
 
 def postgres():

@@ -92,6 +92,6 @@ class Docs(unittest.TestCase):
 
     def test_each_method_of_a_column_is_listed(self):
         with open(os.path.join(TOP, "docs", "C.md")) as file:
-            [listed] = re.findall(r"Its methods (.*?are about the rows themselves)", file.read(), flags=re.S)
+            [listed] = re.findall(r"Its methods (.*?are about\s+the\s+rows\s+themselves)", file.read(), flags=re.S)
         methods = {name for name, it in vars(Column).items() if inspect.isfunction(it) and not name.startswith("_")}
         self.assertEqual(set(re.findall(r"`([a-z]\w+)`", listed)) - {"to_numpy"}, methods)
