@@ -43,7 +43,7 @@ QUERIES = [
     ("build a GIN index", "CREATE INDEX {0}_gin ON {0} USING gin (d)"),
     ("`@>` by the GIN index", "SELECT count(*) FROM {0} WHERE d @> '{{\"age\":33,\"tags\":[\"vip\"]}}'"),
 ]
-SETTINGS = "SET max_parallel_workers_per_gather = 0; SET jit = off;"
+SETTINGS = "SET client_min_messages = warning; SET max_parallel_workers_per_gather = 0; SET jit = off;"
 CLOCK = "SELECT 'cpu ' || split_part(pg_read_file('/proc/self/schedstat'), ' ', 1);"
 
 
@@ -61,8 +61,8 @@ def load(rows, size):
     psql(f"COPY texts FROM STDIN;\n{lines}\n\\.\n")
 
 
-def measured(title, sql, table):
-    """The nanoseconds of a statement, and what it returns."""
+def nanoseconds(title, sql, table):
+    """The processor time of a statement, and what it returns."""
     before = f"TRUNCATE {table};" if sql.startswith("INSERT") else ""
     if sql.startswith("CREATE INDEX"):
         before = f"DROP INDEX IF EXISTS {sql.split()[2]};"
@@ -84,7 +84,7 @@ def compare(rows, size, rounds):
         best, found = {}, {}
         for _ in range(rounds):
             for kind in ("jdoc", "jsonb"):
-                took, found[kind] = measured(title, query.format(f"{kind}s", kind), f"{kind}s")
+                took, found[kind] = nanoseconds(title, query.format(f"{kind}s", kind), f"{kind}s")
                 best[kind] = min(best.get(kind, took), took)
         if found["jdoc"] != found["jsonb"]:
             raise SystemExit(f"different results: {title}: {found}")
