@@ -136,6 +136,7 @@ static Buffer long_path(const Path *path, size_t times)
 typedef struct {
     Buffer document, other, path, out;
     uint8_t truth;
+    int32_t order;
     size_t len;
 } Case;
 
@@ -149,6 +150,7 @@ static const char BELOW[] = "$.**";
 
 static uint32_t run_check(Case *c) { return jdoc_check(DOCUMENT); }
 static uint32_t run_contains(Case *c) { return jdoc_contains(DOCUMENT, OTHER, &c->truth); }
+static uint32_t run_compare(Case *c) { return jdoc_compare(DOCUMENT, OTHER, &c->order); }
 static uint32_t run_overlap(Case *c) { return jdoc_array_overlap(DOCUMENT, OTHER, &c->truth); }
 static uint32_t run_sort_key(Case *c) { return jdoc_sort_key(DOCUMENT, false, OUT); }
 static uint32_t run_wide_key(Case *c) { return jdoc_sort_key(DOCUMENT, true, OUT); }
@@ -170,6 +172,7 @@ typedef struct {
 static const Call CALLS[] = {
     {"nothing", run_nothing},       {"check", run_check},
     {"contains", run_contains},     {"array_overlap", run_overlap},
+    {"compare", run_compare},
     {"sort_key", run_sort_key},     {"sort_key_wide", run_wide_key},
     {"equality_key", run_equality_key}, {"strip_nulls", run_strip_nulls},
     {"array_distinct", run_distinct},   {"concat", run_concat},

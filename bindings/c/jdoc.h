@@ -29,8 +29,9 @@
  *
  * Memory. A function frees what it allocates (by malloc, realloc and free of the C library) before it returns, except a
  * prepared path. These do not allocate: jdoc_version, jdoc_status_name, jdoc_check, jdoc_type, jdoc_len, jdoc_as_..,
- * jdoc_to_bool, jdoc_to_i64, jdoc_to_u64, jdoc_contains, jdoc_array_overlap, jdoc_column_check, jdoc_column_contains,
- * jdoc_column_to_i64. Most functions use little stack at any depth; docs/STACK.md lists those that use more.
+ * jdoc_to_bool, jdoc_to_i64, jdoc_to_u64, jdoc_contains, jdoc_compare, jdoc_array_overlap, jdoc_column_check,
+ * jdoc_column_contains, jdoc_column_to_i64. Most functions use little stack at any depth; docs/STACK.md lists those that
+ * use more.
  *
  * Errors of any function, which are not listed with each:
  *   JDOC_INVALID_JSONB       the bytes are not a document
@@ -299,6 +300,11 @@ JDOC_NODISCARD enum jdoc_status jdoc_object_delete(const uint8_t *document, size
 /* *truth: whether the document contains the other, as PostgreSQL's @>. */
 JDOC_NODISCARD enum jdoc_status jdoc_contains(const uint8_t *document, size_t document_len, const uint8_t *other,
                                               size_t other_len, uint8_t *truth);
+
+/* *order: -1, 0 or 1, if the document is below, equal to or above the other: for documents without extension values in
+ * the order of their sortable keys, at any depth. */
+JDOC_NODISCARD enum jdoc_status jdoc_compare(const uint8_t *document, size_t document_len, const uint8_t *other,
+                                             size_t other_len, int32_t *order);
 
 /* *truth: whether each name is a key of an object, a string in an array, or equal to a string. JDOC_BAD_OFFSETS,
  * JDOC_NOT_UTF8: of the first invalid name. */

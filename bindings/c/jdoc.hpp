@@ -290,6 +290,13 @@ inline result<bool> contains(view it, view other) {
     });
 }
 
+/* Returns -1, 0 or 1. */
+inline result<std::int32_t> compare(view it, view other) {
+    return detail::value<std::int32_t>([=](std::int32_t *made) {
+        return jdoc_compare(it.data(), it.size(), other.data(), other.size(), made);
+    });
+}
+
 inline result<bool> exists_all_keys(view it, std::initializer_list<std::string_view> names) {
     const detail::names column(names);
     return detail::truth([&](std::uint8_t *made) {

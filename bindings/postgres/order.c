@@ -1,18 +1,16 @@
 /* order.c - the order of documents for btree, and their hashes, of equality keys
  *
- * The order is that of sortable keys: Booleans, numbers, strings, objects, arrays, null. Documents are compared item by
- * item up to the first difference, without their keys, which only extension values need, and numbers with a scale.
+ * The order is that of sortable keys: Booleans, numbers, strings, objects, arrays, null.
  */
 #include "jdoc_pg.h"
 
 #include "common/hashfn.h"
-#include "miscadmin.h"
 #include "port/pg_bswap.h"
 #include "utils/sortsupport.h"
 
 #include <string.h>
 
-enum { SMALL = 1024, DEPTH = 2, SCALAR_SIZE = 8 + 18 };
+enum { SMALL = 1024, DEPTH = 2 };
 
 /* KEYS: wide ones, so that items may be nested up to 65,535 levels deep */
 
@@ -36,85 +34,17 @@ static void release(key *made) {
     if (made->bytes != made->small) pfree(made->bytes);
 }
 
-static int compare_bytes(const uint8_t *a, size_t a_len, const uint8_t *b, size_t b_len) {
-    int order = memcmp(a, b, Min(a_len, b_len));
-    return order != 0 ? order : a_len < b_len ? -1 : a_len > b_len;
-}
-
-static int compare_keys(const uint8_t *a, size_t a_len, const uint8_t *b, size_t b_len) {
-    key x, y;
-    int order;
-    key_of(a, a_len, &x);
-    key_of(b, b_len, &y);
-    order = compare_bytes(x.bytes, x.len, y.bytes, y.len);
-    release(&x);
-    release(&y);
-    return order;
-}
-
-/* ITEMS */
-
-/* The type byte of an item in sortable keys. The end of a container precedes all items. */
-static int rank_of(const jdoc_event *item) {
-    static const uint8_t ranks[] = {
-        [JDOC_EVENT_END] = 0,    [JDOC_EVENT_EXTENSION] = 1, [JDOC_EVENT_FALSE] = 2, [JDOC_EVENT_TRUE] = 3,
-        [JDOC_EVENT_NUMBER] = 4, [JDOC_EVENT_STRING] = 5,    [JDOC_EVENT_BEGIN] = 7, [JDOC_EVENT_NULL] = 8,
-    };
-    return ranks[item->kind] - (item->kind == JDOC_EVENT_BEGIN && item->object);
-}
-
-/* The value of an integer's payload. False: it is a decimal. */
-static bool integer_of(const jdoc_event *number, int128 *value) {
-    const uint8_t *at = number->bytes, *end = at + number->len;
-    uint8_t kind = *at++;
-    if (kind != 0 && kind != 0x40 && kind != 0x50) return false;
-    *value = kind == 0x40 && *at >= 0x80 ? -1 : 0;
-    for (; at < end; at++) *value = (int128)((uint128)*value << 8 | *at);
-    return true;
-}
-
-static int compare_numbers(const jdoc_event *a, const jdoc_event *b) {
-    uint8_t x[SCALAR_SIZE], y[SCALAR_SIZE];
-    int128 m, n;
-    if (a->len == b->len && memcmp(a->bytes, b->bytes, a->len) == 0) return 0;
-    if (integer_of(a, &m) && integer_of(b, &n)) return m < n ? -1 : m > n;
-    jdoc_item_write(a, x);
-    jdoc_item_write(b, y);
-    return compare_keys(x, jdoc_item_size(a), y, jdoc_item_size(b));
-}
-
-/* Compare two items at the same position in their documents. *known is false if only their sortable keys decide. */
-static int compare_items(const jdoc_event *a, const jdoc_event *b, bool *known) {
-    int order = a->has_key && b->has_key ? compare_bytes(a->key, a->key_len, b->key, b->key_len) : 0;
-    if (order == 0) order = rank_of(a) - rank_of(b);
-    if (order != 0) return order;
-    *known = a->kind != JDOC_EVENT_EXTENSION;
-    if (a->kind == JDOC_EVENT_NUMBER) return compare_numbers(a, b);
-    return a->kind == JDOC_EVENT_STRING ? compare_bytes(a->bytes, a->len, b->bytes, b->len) : 0;
-}
+/* DOCUMENTS */
 
 static int compare(const bytea *a, const bytea *b) {
-    jdoc_walk x, y;
-    jdoc_event item, other;
-    uint32_t status, other_status;
-    int order = 0;
-    bool known = true;
+    int32_t order;
+    uint32_t status;
     if (VARSIZE_ANY_EXHDR(a) == VARSIZE_ANY_EXHDR(b) &&
         memcmp(VARDATA_ANY(a), VARDATA_ANY(b), VARSIZE_ANY_EXHDR(a)) == 0)
         return 0;
-    status = jdoc_walk_init(&x, pg_heap, BYTES(a));
-    other_status = jdoc_walk_init(&y, pg_heap, BYTES(b));
-    while (status == JDOC_OK && other_status == JDOC_OK && order == 0 && known) {
-        CHECK_FOR_INTERRUPTS();
-        status = jdoc_walk_next(&x, &item);
-        other_status = jdoc_walk_next(&y, &other);
-        if (status == JDOC_OK && other_status == JDOC_OK) order = compare_items(&item, &other, &known);
-    }
-    jdoc_walk_free(&x);
-    jdoc_walk_free(&y);
-    if (status != JDOC_OK && status != JDOC_NONE) fail(status);
-    if (other_status != JDOC_OK && other_status != JDOC_NONE) fail(other_status);
-    return known ? order : compare_keys(BYTES(a), BYTES(b));
+    status = jdoc_compare(BYTES(a), BYTES(b), &order);
+    if (status != JDOC_OK) fail(status);
+    return order;
 }
 
 static int compare_data(Datum a, Datum b) {
@@ -137,6 +67,15 @@ ORDER(jdoc_sql_ge, >=)
 
 PG_FUNCTION_INFO_V1(jdoc_sql_cmp);
 Datum jdoc_sql_cmp(PG_FUNCTION_ARGS) { PG_RETURN_INT32(compare_data(PG_GETARG_DATUM(0), PG_GETARG_DATUM(1))); }
+
+/* What sortable keys have for the type of an item. */
+static int rank_of(const jdoc_event *item) {
+    static const uint8_t ranks[] = {
+        [JDOC_EVENT_EXTENSION] = 1, [JDOC_EVENT_FALSE] = 2, [JDOC_EVENT_TRUE] = 3, [JDOC_EVENT_NUMBER] = 4,
+        [JDOC_EVENT_STRING] = 5,    [JDOC_EVENT_BEGIN] = 7, [JDOC_EVENT_NULL] = 8,
+    };
+    return ranks[item->kind] - (item->kind == JDOC_EVENT_BEGIN && item->object);
+}
 
 /* SORTING: eight bytes of a scalar's key after the depth of the root, which is always 0, decide between most scalars.
  * An array or an object has only its type there. */

@@ -239,6 +239,14 @@ def sets():
         (json("[1,2,[1,3]]"), json("[1,3]"), FALSE), (V[12], V[12], FALSE), (V[5], number(1), TRUE), (V[9], V[9], TRUE),
         (V[8], V[7], FALSE), (decimal(255, 10), decimal(254, 1), TRUE),
     ])
+    ascending = [*map(json, ["false", "true", "-5", "1", "10", '""', '"a"', '"b"', '{}', '{"a":1}', '{"a":1,"b":0}', '{"a":2}',
+                             '{"b":0}', "[]", "[1]", "[1,2]", "[2]", '["a",[1,2,3,4]]', '["a",[1,2,3,5],0]', "null"])]
+    for at, document in enumerate(ascending):
+        yield from table("compare", [(document, other, (at > to) - (at < to)) for to, other in enumerate(ascending)])
+    yield from table("compare", [
+        (decimal(1, 10), number(1), 0), (decimal(1, 255), number(25), 1), (decimal(9, 2**64, 16), decimal(9, 2**64 - 1, 16), 1),
+        (V[12], V[12], 0), (V[12], json("null"), -1), (V[12], json("false"), -1),
+    ])
     yield from table("exists_all_keys", [
         (number(5), Names(), TRUE), (V[10], Names(["a", "b"]), TRUE), (V[10], Names(["a", "c"]), FALSE),
         (V[3], Names(["a"]), TRUE), (json('"a"'), Names(["a"]), TRUE),

@@ -74,6 +74,8 @@ void sets() {
     EXPECT(is(jdoc::except(one, one_in_array), hex("80000000")));
     EXPECT(is(jdoc::overlap(tens, one), false));
     EXPECT(is(jdoc::contains(one_in_array, one), true));
+    EXPECT(is(jdoc::compare(one_in_array, one), std::int32_t{1}));
+    EXPECT(is(jdoc::compare(one, one_in_array), std::int32_t{-1}));
     EXPECT(is(jdoc::exists_all_keys(object, {"asd", "b"}), false));
     EXPECT(is(jdoc::exists_any_keys(object, {"asd", "b"}), true));
 }

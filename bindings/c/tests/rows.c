@@ -15,7 +15,7 @@ enum { GUARD = 16, FILL = 0xee, MOST_WORDS = 12, ALL_LENGTHS = 1024 };
 
 /* What a call takes, by its letters: b bytes, t text, c a column, n a column of names, f a flag, i and s a position, l
  * and u numbers, y a scale; and what it returns: O bytes, S a string, T Boolean, N and W numbers, C count, D the parts of a
- * decimal. */
+ * decimal, R an order. */
 #define BYTES_IN  const uint8_t *, size_t
 #define TEXT_IN   const char *, size_t
 #define COLUMN_IN const uint8_t *, size_t, const uint64_t *, size_t
@@ -35,6 +35,7 @@ typedef enum jdoc_status bsO_fn(BYTES_IN, size_t, BYTES_OUT);
 typedef enum jdoc_status biO_fn(BYTES_IN, int32_t, BYTES_OUT);
 typedef enum jdoc_status bbO_fn(BYTES_IN, BYTES_IN, BYTES_OUT);
 typedef enum jdoc_status bbT_fn(BYTES_IN, BYTES_IN, uint8_t *);
+typedef enum jdoc_status bbR_fn(BYTES_IN, BYTES_IN, int32_t *);
 typedef enum jdoc_status bbiO_fn(BYTES_IN, BYTES_IN, int32_t, BYTES_OUT);
 typedef enum jdoc_status bbtfO_fn(BYTES_IN, BYTES_IN, TEXT_IN, bool, BYTES_OUT);
 typedef enum jdoc_status btO_fn(BYTES_IN, TEXT_IN, BYTES_OUT);
@@ -119,7 +120,7 @@ LEAVES_BY(document_positions, LEAF_DOCUMENT_POSITIONS)
 
 #define SHAPES(X)                                                                                                      \
     X(b)                                                                                                               \
-    X(bT) X(bN) X(bW) X(bC) X(bD) X(bO) X(bS) X(bfO) X(bsO) X(biO) X(bbO) X(bbT) X(bbiO) X(bbtfO) X(btO) X(btfO)       \
+    X(bT) X(bN) X(bW) X(bC) X(bD) X(bO) X(bS) X(bfO) X(bsO) X(biO) X(bbO) X(bbT) X(bbR) X(bbiO) X(bbtfO) X(btO) X(btfO)       \
         X(btfT) X(bnO) X(bnT) X(cO) X(ncO) X(O) X(tO) X(fO) X(lO) X(uO) X(luyO)
 #define SHAPE_NAME(s)    SHAPE_##s,
 #define SHAPE_FIELD(s)   s##_fn *s;
@@ -172,13 +173,14 @@ struct result {
     uint64_t whole;
     size_t count;
     uint8_t scale;
+    int32_t order;
 };
 
 /* The statuses that came so far. */
 static bool is_reached[64];
 
 static struct result run(const struct row *row, uint8_t *out, size_t size) {
-    struct result r = {.len = 99, .truth = FILL, .number = FILL, .whole = FILL, .count = FILL, .scale = FILL};
+    struct result r = {.len = 99, .truth = FILL, .number = FILL, .whole = FILL, .count = FILL, .scale = FILL, .order = FILL};
     const struct bytes *b = row->bytes;
     const struct column *c = row->columns;
 #define BYTES(i)  b[i].at, b[i].len
@@ -204,6 +206,7 @@ static struct result run(const struct row *row, uint8_t *out, size_t size) {
         RUN(biO, BYTES(0), (int32_t)row->number, OUT)
         RUN(bbO, BYTES(0), BYTES(1), OUT)
         RUN(bbT, BYTES(0), BYTES(1), &r.truth)
+        RUN(bbR, BYTES(0), BYTES(1), &r.order)
         RUN(bbiO, BYTES(0), BYTES(1), (int32_t)row->number, OUT)
         RUN(bbtfO, BYTES(0), BYTES(1), TEXT(2), row->flag, OUT)
         RUN(btO, BYTES(0), TEXT(1), OUT)
@@ -324,6 +327,8 @@ static bool has_scalar(const struct row *row, const struct result *r) {
         return r->whole == strtoull(answer, NULL, 10);
     case 'C':
         return r->count == strtoull(answer, NULL, 10);
+    case 'R':
+        return r->order == strtoll(answer, NULL, 10);
     case 'D':
         return has_parts(answer, r);
     default:

@@ -41,6 +41,7 @@ from ._core import (
     as_str,
     as_u64,
     check,
+    compare,
     concat,
     contains,
     delete,
@@ -80,8 +81,8 @@ KINDS = (
 )
 __all__ = [
     "KINDS", "array_distinct", "array_except", "array_from_column", "array_insert", "array_intersection", "array_overlap", "as_bool",
-    "as_decimal", "as_int", "as_str", "check", "concat", "contains", "delete", "delete_by_index", "delete_by_name", "dumps",
-    "elements", "equality_key", "exists", "exists_all_keys", "exists_any_keys", "from_json", "get", "get_by_index", "get_by_name",
+    "as_decimal", "as_int", "as_str", "check", "compare", "concat", "contains", "delete", "delete_by_index", "delete_by_name",
+    "dumps", "elements", "equality_key", "exists", "exists_all_keys", "exists_any_keys", "from_json", "get", "get_by_index", "get_by_name",
     "kind", "leaves", "length", "loads", "match", "object_delete", "object_from_columns", "object_insert", "object_pick", "pairs",
     "select", "select_array", "select_first", "select_value", "sort_key", "strip_nulls", "to_bool", "to_i64", "to_json", "to_str",
     "to_u64",

@@ -96,6 +96,9 @@ PyMethodDef METHODS[] = {
         "object_delete, of a column of names.", Document, Names),
     ONE("contains", jdoc_contains, NO_WORD, Ternary, OTHER,
         "Returns whether the document contains the other, like PostgreSQL's @>.", Document, Document),
+    ONE("compare", jdoc_compare, NO_WORD, Order, OTHER,
+         "Returns -1, 0 or 1, as the document is below, equal to or above the other.\n\nWithout extension values this is "
+         "the order of their sort_key().", Document, Document),
     ONE("all_names", jdoc_exists_all_keys, NO_WORD, Ternary, "($module, document, names, /)",
         "exists_all_keys, of a column of names.", Document, Names),
     ONE("any_names", jdoc_exists_any_keys, NO_WORD, Ternary, "($module, document, names, /)",

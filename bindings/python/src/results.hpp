@@ -46,10 +46,12 @@ template <typename Number, PyObject *(*MADE)(Number)> struct Fixed {
 };
 inline PyObject *ternary_of(uint8_t it) { return it > 1 ? Py_NewRef(Py_None) : PyBool_FromLong(it); }
 inline PyObject *byte_of(uint8_t it) { return PyLong_FromLong(it); }
+inline PyObject *order_of(int32_t it) { return PyLong_FromLong(it); }
 inline PyObject *signed_of(int64_t it) { return PyLong_FromLongLong(it); }
 inline PyObject *unsigned_of(uint64_t it) { return PyLong_FromUnsignedLongLong(it); }
 using Ternary = Fixed<uint8_t, ternary_of>; // true, false or unknown
 using Byte = Fixed<uint8_t, byte_of>;
+using Order = Fixed<int32_t, order_of>;
 using Signed = Fixed<int64_t, signed_of>;
 using Unsigned = Fixed<uint64_t, unsigned_of>;
 using Count = Fixed<size_t, unsigned_of>;

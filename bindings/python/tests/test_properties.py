@@ -49,6 +49,13 @@ class Values(unittest.TestCase):
         jsonb_paths.check(document)
         self.assertEqual(loads(document), value)
 
+    @given(values, values)
+    def test_documents_compare_as_their_keys_do(self, value, other):
+        for left, right in ((value, other), (value, value), ([value, other], [value, value]), ({"a": value, "b": 1}, {"a": other})):
+            left, right = dumps(left), dumps(right)
+            mine, theirs = (jsonb_paths.sort_key(it, wide=True) for it in (left, right))
+            self.assertEqual(jsonb_paths.compare(left, right), (mine > theirs) - (mine < theirs))
+
     @given(values)
     def test_json_text(self, value):
         document = from_json(written(value))

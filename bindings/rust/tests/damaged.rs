@@ -41,6 +41,7 @@ fn errors(it: RawJsonb<'_>, paths: &Paths<'_>) -> Vec<Error> {
     run(it.array_insert(1, &it).err());
     run(it.concat(&it).err());
     run(it.contains(&it).err());
+    run(it.compare(&it).err());
     run(it.strip_nulls().err());
     run(it.convert_to_comparable().err());
     run(it.equality_key().err());

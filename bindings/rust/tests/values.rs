@@ -45,6 +45,17 @@ fn errors_of_text_and_values_have_their_names() {
 }
 
 #[test]
+fn documents_compare_as_their_keys_do() {
+    let texts = ["false", "-1", "1.5", "\"a\"", "{}", "{\"a\":[1]}", "{\"a\":[1,2]}", "[]", "[[1,2,3],4]", "null"];
+    let documents = texts.map(|text| text.parse::<OwnedJsonb>().unwrap());
+    for (at, document) in documents.iter().enumerate() {
+        for (to, other) in documents.iter().enumerate() {
+            assert_eq!(document.as_raw().compare(&other.as_raw()), Ok(at.cmp(&to)), "{} {}", texts[at], texts[to]);
+        }
+    }
+}
+
+#[test]
 fn extension_values_are_read() {
     let rows: [(&[u8], &str, ExtensionValue); 5] = [
         (b"\x20\0\0\0\x60\0\0\x03\0\0\xff", "BINARY", ExtensionValue::Binary(b"\0\xff")),

@@ -10,3 +10,4 @@ pub mod KeyRows
 pub mod LooseValues
 pub mod HandleValues
 pub mod PreparedLemmas
+pub mod OrderLemmas

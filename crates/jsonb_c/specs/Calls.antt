@@ -1,5 +1,7 @@
 -- Results of the functions on one document.
-use Rattle.std.specs.Prelude.{◌≡◌, ◌⊎◌, ◌≤◌, ◌<◌, ◌^◌, ◌↔◌, ◌||◌, not, ℕ, ℤ, pos, FitsSigned, Bool, true, false, IsTrue, List, length, Option, Some, None, Result, Ok, Err, MatchResult, MatchOption}
+use Rattle.std.specs.Prelude.{◌≡◌, ◌⊎◌, ◌≤◌, ◌<◌, ◌^◌, ◌↔◌, ◌||◌, not, ℕ, ℤ, pos, negsuc, FitsSigned, Bool, true, false, IsTrue, List, length, Option, Some, None, Result, Ok, Err, MatchResult, MatchOption}
+use Rattle.std.specs.declared.cmp.Ordering.{Ordering}
+use Rattle.std.specs.declared.cmp.Ordering.TheVariants.{Less, Equal, Greater}
 use Rattle.std.specs.Int.{Width, w8, w16, w64}
 use Rattle.jsonb_doc.specs.declared.error.Error.{Error}
 use Rattle.jsonb_doc.specs.declared.error.Error.TheVariants.{OutOfMemory, InvalidJsonb, UnsupportedNumber, InvalidJsonPath, InvalidKeyPath, InvalidCast, InvalidJsonType, InvalidObject, ObjectDuplicateKey, TooDeep}
@@ -133,6 +135,14 @@ IsSortableKey w t (Err e) = (e ≡ OutOfMemory) ⊎ ((e ≡ TooDeep) × (depths 
 
 abbrev pub IsSortableKeyOf : Width → List ℕ → Result (List ℕ) Error → Type 0
 IsSortableKeyOf w document answer = OfDocument document (λ form t. IsSortableKey w t) answer
+
+-- ---- the order of documents
+
+-- -1, 0 or 1.
+abbrev pub order_number : Ordering → ℤ
+order_number Less = negsuc 0
+order_number Equal = pos 0
+order_number Greater = pos 1
 
 -- ---- equality keys
 

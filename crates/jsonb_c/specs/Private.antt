@@ -4,4 +4,5 @@ pub mod Buffers
 pub mod ByHand
 pub mod LeafColumns
 pub mod NameColumns
+pub mod Order
 pub mod Views

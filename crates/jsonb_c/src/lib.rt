@@ -16,6 +16,7 @@ mod deliver;
 mod document;
 mod keypath;
 mod leaves;
+mod order;
 mod path;
 mod prepared;
 mod read;

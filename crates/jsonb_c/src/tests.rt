@@ -5,6 +5,7 @@ use crate::build::{
     jdoc_array_from_column, jdoc_from_bool, jdoc_from_decimal, jdoc_from_i64, jdoc_from_null,
     jdoc_from_str, jdoc_from_u64,
 };
+use crate::document::compare::jdoc_compare;
 use crate::document::decimal::jdoc_as_decimal;
 use crate::leaves::{LeafSizes, jdoc_leaves};
 use crate::read::{jdoc_len, jdoc_pair};
@@ -19,6 +20,8 @@ const BUFFER_TOO_SMALL: u32 = 2;
 const BAD_OFFSETS: u32 = 3;
 
 const NOT_UTF8: u32 = 4;
+
+const INVALID_JSONB: u32 = 16;
 
 const OBJECT_DUPLICATE_KEY: u32 = 23;
 
@@ -99,6 +102,29 @@ fn decimals(rt: HostRuntime) {
         let status = jdoc_as_decimal(document, &mut high, &mut low, &mut scale);
         let is_so = status == *wanted && (high, low, scale) == *parts;
         assert!(rt; is_so, "{document:?}");
+    }
+}
+
+/// Two documents, and their order: true and 1, 1 and 1.0, `"b"` and `"ab"`, `[[1,2],3]` and `[[1,2,0]]`, `{"a":1}` and
+/// `{"a":1,"b":null}`, null and `{"a":1}`, and bytes that are not a document.
+static ORDERS: [(&[u8], &[u8], u32, i32); 7] = rows! {
+    b"\x20\0\0\0\x40\0\0\0", b"\x20\0\0\0\x20\0\0\x02\x50\x01", OK, -1;
+    b"\x20\0\0\0\x20\0\0\x02\x50\x01", b"\x20\0\0\0\x20\0\0\x0a\x70\0\0\0\0\0\0\0\x0a\x01", OK, 0;
+    b"\x20\0\0\0\x10\0\0\x01b", b"\x20\0\0\0\x10\0\0\x02ab", OK, 1;
+    b"\x80\0\0\x02\x50\0\0\x10\x20\0\0\x02\x80\0\0\x02\x20\0\0\x02\x20\0\0\x02\x50\x01\x50\x02\x50\x03",
+    b"\x80\0\0\x01\x50\0\0\x15\x80\0\0\x03\x20\0\0\x02\x20\0\0\x02\x20\0\0\x01\x50\x01\x50\x02\0", OK, -1;
+    b"\x40\0\0\x01\x10\0\0\x01\x20\0\0\x02a\x50\x01",
+    b"\x40\0\0\x02\x10\0\0\x01\x10\0\0\x01\x20\0\0\x02\0\0\0\0ab\x50\x01", OK, -1;
+    b"\x20\0\0\0\0\0\0\0", b"\x40\0\0\x01\x10\0\0\x01\x20\0\0\x02a\x50\x01", OK, 1;
+    b"\x20\0\0\0\0\0\0\0", b"", INVALID_JSONB, 9;
+};
+
+#[test]
+fn orders(rt: HostRuntime) {
+    for (document, other, wanted, order) in &ORDERS {
+        let mut found = 9;
+        let status = jdoc_compare(document, other, &mut found);
+        assert!(rt; status == *wanted && found == *order, "{document:?}");
     }
 }
 

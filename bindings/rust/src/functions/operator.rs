@@ -4,6 +4,7 @@ use crate::call::{always, one, truth};
 use crate::children::Node;
 use crate::{OwnedJsonb, RawJsonb, Result};
 use jdoc_sys as sys;
+use std::cmp::Ordering;
 
 /// The names of the types, by the numbers of jdoc.h.
 const KINDS: [&str; 12] = [
@@ -38,6 +39,15 @@ impl RawJsonb<'_> {
         let (d, n) = (self.as_bytes().as_ptr(), self.as_bytes().len());
         let (at, len) = (other.as_bytes().as_ptr(), other.as_bytes().len());
         truth(|truth| unsafe { sys::jdoc_contains(d, n, at, len, truth) })
+    }
+
+    /// Returns the order of the documents; without extension values it is that of their sortable keys. Does not
+    /// allocate.
+    pub fn compare(&self, other: &RawJsonb) -> Result<Ordering> {
+        let (d, n) = (self.as_bytes().as_ptr(), self.as_bytes().len());
+        let (at, len) = (other.as_bytes().as_ptr(), other.as_bytes().len());
+        let order = one(|order: *mut i32| unsafe { sys::jdoc_compare(d, n, at, len, order) }).map(always)?;
+        Ok(order.cmp(&0))
     }
 
     /// Returns `true` if `func` is true of any string or key. Checks the whole document.

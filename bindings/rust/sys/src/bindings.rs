@@ -306,6 +306,15 @@ extern "C" {
     ) -> jdoc_status;
 }
 extern "C" {
+    pub fn jdoc_compare(
+        document: *const u8,
+        document_len: usize,
+        other: *const u8,
+        other_len: usize,
+        order: *mut i32,
+    ) -> jdoc_status;
+}
+extern "C" {
     pub fn jdoc_exists_all_keys(
         document: *const u8,
         document_len: usize,

@@ -1,12 +1,16 @@
 //! Comparison of documents.
 
-ghost use Rattle.std.specs.Prelude.{◌≡◌, IsOkAnd};
+ghost use Rattle.std.specs.Prelude.{◌≡◌, IfErr, IsOkAnd};
 ghost use Rattle.jsonb_doc.specs.Answer.{IsDecodingError};
+ghost use Rattle.jsonb_doc.specs.Order.{tree_cmp};
 ghost use Rattle.jsonb_raw.specs.Contains.{contains};
-ghost use Rattle.jsonb_c.specs.Answers.{HandsOverBool, OfBoth};
+ghost use Rattle.jsonb_c.specs.Answers.{HandsOver, HandsOverBool, OfBoth, Shows};
+ghost use Rattle.jsonb_c.specs.Calls.{order_number};
 
-use crate::deliver::store_bool;
-use jsonb::RawJsonb;
+use crate::deliver::{store, store_bool};
+use crate::order::documents_order;
+use jsonb::{Error, RawJsonb};
+use std::cmp::Ordering;
 
 /// Returns whether a document contains another.
 #[unsafe(no_mangle)]
@@ -17,4 +21,26 @@ pub extern "C" fn jdoc_contains(document: &[u8], other: &[u8], truth: &mut u8) -
 {
     let document = RawJsonb::new(document);
     store_bool(document.contains(&RawJsonb::new(other)), truth)
+}
+
+/// Returns the order of two documents: -1, 0 or 1. Without extension values it is that of their sortable keys.
+#[unsafe(no_mangle)]
+pub extern "C" fn jdoc_compare(document: &[u8], other: &[u8], order: &mut i32) -> u32
+    ensures { HandsOver
+        (OfBoth document.now other.now (λ form t u said. IsOkAnd said (λ z. z ≡ order_number (tree_cmp t u))))
+        IsDecodingError (λ answer. Shows answer order.old order.new result) }
+{
+    store(compare(document, other), order)
+}
+
+fn compare(document: &[u8], other: &[u8]) -> Result<i32, Error>
+    ensures order { OfBoth document.now other.now
+        (λ form t u said. IsOkAnd said (λ z. z ≡ order_number (tree_cmp t u))) result }
+    ensures errors { IfErr result IsDecodingError }
+{
+    match documents_order(document, other)? {
+        Ordering::Less => Ok(-1),
+        Ordering::Equal => Ok(0),
+        Ordering::Greater => Ok(1),
+    }
 }
