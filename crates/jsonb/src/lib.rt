@@ -1,8 +1,8 @@
 //! JSON paths: parsed from text, printed, built by hand, and evaluated on documents.
 //!
 //! The types of paths are in `path`, `parse_json_path` in `parser`, and their evaluation in `selector`; all are also
-//! here. The public items of the crates below are re-exported: documents, numbers and key paths here, key paths also
-//! in `keypath`.
+//! here. What callers need of the crates below is re-exported: documents, numbers and key paths here, key paths also in
+//! `keypath`.
 #![tactic(auto)]
 
 pub mod laws;

@@ -48,7 +48,7 @@ impl Answer {
     }
 }
 
-/// Makes a call that gives bytes, and asserts its status and what it wrote.
+/// Makes a call that returns bytes, and asserts its status and what it wrote.
 macro_rules! assert_gives {
     ($rt:ident; $call:ident($($word:expr),*), $status:expr, $bytes:expr) => {{
         let mut a = Answer::new();

@@ -32,7 +32,7 @@ pub fn quoted_is_a_cut(input: &[u8])
         ((inside : List ℕ) × (input.now ≡ 34 ∷ inside) × IsText is_quote inside text (34 ∷ rest)) }
 {}
 
-/// A unit reads a byte at least, whatever bytes are excluded.
+/// A unit reads at least one byte, whatever bytes are excluded.
 pub fn unit_reads_some()
     ensures { (is_excluded : ℕ → Bool) → ReadsSome (unit is_excluded) }
 {}
@@ -42,7 +42,7 @@ pub fn another_key_reads_some()
     ensures { ReadsSome another_key }
 {}
 
-/// A rule that reads a byte at least is repeated until it fails.
+/// A rule that reads at least one byte is repeated until it fails.
 pub fn repetition_ends_where_the_rule_fails(input: &[u8])
     ensures { (rule : Rule Key) → ReadsSome rule → (keys : List Key) → (rest : List ℕ) →
         (repeat rule input.now ≡ Some (keys, rest)) ↔ (IsRun rule input.now keys rest × (rule rest ≡ None)) }

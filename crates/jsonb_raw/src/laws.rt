@@ -59,7 +59,7 @@ pub fn sortable_keys()
 {}
 
 /// Concatenated sortable keys of several values are ordered as the lists of values are: the key of an index on
-/// several columns. A missing value is written as an item of type 0, and comes before all others.
+/// several columns. A missing value is written as an item of type 0, and sorts before all others.
 pub fn composite_keys()
     ensures { (w : Width) (ts us : List (Option Tree)) → HaveKeys w ts → HaveKeys w us
         → slice_cmp nat_cmp (flat_map (column_key w) ts) (flat_map (column_key w) us)

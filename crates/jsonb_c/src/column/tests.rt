@@ -95,7 +95,7 @@ fn truths_of_fewer_rows(rt: HostRuntime) {
     }
 }
 
-/// A caller's buffers of a call that gives bytes a row.
+/// A caller's buffers of a call that returns bytes for each row.
 #[derive(Clone, Copy)]
 struct Answer {
     out: [u8; 24],
@@ -129,7 +129,7 @@ impl Answer {
     }
 }
 
-/// Makes a call that gives bytes a row, and asserts what it wrote: bytes, positions, statuses.
+/// Makes a call that returns bytes for each row, and asserts what it wrote: bytes, positions, statuses.
 macro_rules! assert_joins {
     ($rt:ident; $call:ident($($word:expr),*), $bytes:expr, $positions:expr, $statuses:expr) => {{
         let mut a = Answer::new();
