@@ -26,6 +26,7 @@ pub mod TextChunks
 pub mod WordTexts
 pub mod HashLemmas
 pub mod TakenEntries
+pub mod NameBlockLemmas
 pub mod StartLemmas
 pub mod StripLists
 pub mod StripWalk

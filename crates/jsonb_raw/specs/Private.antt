@@ -22,3 +22,4 @@ pub mod PackedBytes
 pub mod PlainWords
 pub mod Entries
 pub mod NamePositions
+pub mod NameBlocks

@@ -8,7 +8,7 @@ use Rattle.std.specs.Str.{bytes_eq}
 use Rattle.std.specs.declared.cmp.Ordering.TheVariants.{Less}
 use Rattle.jsonb_doc.specs.Tree.{Tree, text, array, object, Trees, Pairs, keys}
 use Rattle.jsonb_doc.specs.Payload.{Form}
-use Rattle.jsonb_doc.specs.Format.{Decodes, AreKeys, IsBelowFirst}
+use Rattle.jsonb_doc.specs.Format.{AreKeys, IsBelowFirst}
 use Rattle.jsonb_doc.specs.Private.Stored.{HasEntriesLeft, key_trees}
 use Rattle.jsonb_raw.specs.Exists.{has_text, has_all, has_any}
 use Rattle.jsonb_raw.specs.declared.functions.path.exists.KeyCursor.{KeyCursor}
@@ -53,7 +53,7 @@ pub record IsTableOf (form : Form) (s : KeyTable) (ks : List (List ℕ)) : Type 
 -- these are the strings of the tree
 abbrev pub HoldsTexts : Form → Texts → Tree → Type 0
 HoldsTexts form (Keys s) t = (ps : Pairs) × (t ≡ object ps) × IsSearchOf form s (keys ps)
-HoldsTexts form (Elements bytes) t = (ts : Trees) × (t ≡ array ts) × Decodes form bytes.now (array ts)
+HoldsTexts form (Elements entries) t = (ts : Trees) × (t ≡ array ts) × HasEntriesLeft form entries ts
 HoldsTexts form (Root s) t = t ≡ text s.now
 HoldsTexts form Without t = (name : List ℕ) → has_text name t ≡ false
 

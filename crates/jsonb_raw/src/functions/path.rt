@@ -22,6 +22,7 @@ mod delete;
 mod entry_range;
 mod exists;
 mod leaves;
+mod name_block;
 
 use crate::owned::OwnedJsonb;
 use crate::raw::RawJsonb;

@@ -66,7 +66,7 @@ fn number_hash(number: ShortNumber) -> Option<usize>
 
 /// Returns the hash of a string.
 #[tactic(auto, unfolding(crate::specs::Private::Hashes::text_hash))]
-fn text_hash(text: &[u8]) -> usize
+pub(crate) fn text_hash(text: &[u8]) -> usize
     ensures hash { result ≡ text_hash text.now }
     ensures few { result < 4096 }
 {

@@ -1,6 +1,6 @@
 //! Existence of names: keys of an object, strings in an array, or the string that is the root.
 
-ghost use Rattle.std.specs.Prelude.{◌≡◌, ℕ, List, IsTrue, IsOkAnd, IfOk, IfErr, OnOk};
+ghost use Rattle.std.specs.Prelude.{◌≡◌, ◌++◌, ◌∷◌, ℕ, List, true, false, IsTrue, IsOkAnd, IfOk, IfErr, OnOk};
 ghost use Rattle.std.specs.List.{list_any};
 ghost use Rattle.std.specs.Iterator.{IsFinite};
 ghost use Rattle.std.specs.Str.{bytes_eq};
@@ -14,10 +14,12 @@ ghost use Rattle.jsonb_raw.specs.Computes.{Computes};
 ghost use Rattle.jsonb_raw.specs.Documents.{raw_bytes};
 ghost use Rattle.jsonb_raw.specs.Exists.{is_text, has_text, has_all, has_any};
 ghost use Rattle.jsonb_raw.specs.Private.Cursors.{IsCursorOf, IsSearchOf, IsTableOf, IsPassed, HoldsTexts, has_by};
+ghost use Rattle.jsonb_raw.specs.Private.NameBlocks.{HasTextsLeft, decided_by, names_of, IsBlock};
 ghost use Rattle.jsonb_raw.specs.Iterators.{YieldsItemsLeft};
 
+use super::name_block::{NameBlock, entries_have};
 use crate::raw::RawJsonb;
-use jsonb_doc::{EntryIter, Error, Item, bytes_cmp, elements, object_entries, root_item};
+use jsonb_doc::{EntryIter, Error, Item, array_entries, bytes_cmp, object_entries, root_item};
 use std::cmp::Ordering;
 
 /// A position among the keys of an object: all of them, and those that remain after the last one visited.
@@ -334,22 +336,56 @@ fn keys_decide<'k, I: Iterator<Item = &'k str> + Drop>(
     Ok(!found)
 }
 
-/// Returns whether the string is an element of the array.
-fn array_has(bytes: &[u8], name: &str) -> Result<bool, Error>
-    ensures has { (form : Form) (ts : Trees) → Decodes form bytes.now (array ts)
-        → IsOkAnd result (λ b. b ≡ list_any (is_text name.now) (elements ts)) }
+/// Adds a name to a block of names. If it is full, the names in it are looked up first, and leave it. Returns `true` if
+/// they decide.
+fn add_name<'k>(
+    block: &mut NameBlock<'k>,
+    name: &'k [u8],
+    entries: EntryIter<'_>,
+    found: bool,
+) -> Result<bool, Error>
+    requires { IsBlock block.old }
+    ensures block { IsBlock block.new }
+    ensures told { (form : Form) (ss : List (List ℕ)) → HasTextsLeft form entries.entry ss
+        → IsOkAnd result (λ told. told ≡ true → decided_by found ss (names_of block.old) ≡ found) }
+    ensures added { (form : Form) (ss : List (List ℕ)) → HasTextsLeft form entries.entry ss
+        → IfOk result (λ told. told ≡ false → (others : List (List ℕ))
+        → decided_by found ss (names_of block.new ++ others) ≡ decided_by found ss (names_of block.old ++ name.now ∷ others)) }
     ensures errors { IfErr result IsDecodingError }
 {
-    if let Some(found) = elements(bytes)? {
-        for item in found {
-            if let Item::String(text) = item? {
-                if text == name {
-                    return Ok(true);
-                }
-            }
+    if !block.is_full() {
+        block.put(name);
+        return Ok(false);
+    }
+    if block.decides(entries, found)? == found {
+        return Ok(true);
+    }
+    *block = NameBlock::new();
+    block.put(name);
+    Ok(false)
+}
+
+/// Returns whether the strings of an array include any (`found`) or all of the names, as `short_circuit` does.
+#[inline(never)]
+fn elements_decide<'k, I: Iterator<Item = &'k str> + Drop>(
+    entries: EntryIter<'_>,
+    names: I,
+    found: bool,
+) -> Result<bool, Error>
+    requires can { I.can_next names }
+    requires ends { IsFinite (I.remaining names) }
+    ensures has { (left : I → List (List ℕ)) → YieldsItemsLeft I.next_gives left
+        → (form : Form) (ss : List (List ℕ)) → HasTextsLeft form entries.entry ss
+        → IsOkAnd result (λ b. b ≡ decided_by found ss (left names)) }
+    ensures errors { IfErr result IsDecodingError }
+{
+    let mut block = NameBlock::new();
+    for name in names {
+        if add_name(&mut block, name.as_bytes(), entries, found)? {
+            return Ok(found);
         }
     }
-    Ok(false)
+    block.decides(entries, found)
 }
 
 /// The strings of a document.
@@ -357,8 +393,8 @@ fn array_has(bytes: &[u8], name: &str) -> Result<bool, Error>
 pub(crate) enum Texts<'a> {
     /// The keys of an object.
     Keys(KeySearch<'a>),
-    /// The strings among the elements of an array, which are read as items, so that floats are rejected.
-    Elements(&'a [u8]),
+    /// The strings among the elements of an array.
+    Elements(EntryIter<'a>),
     /// The root.
     Root(&'a str),
     /// There are none.
@@ -374,7 +410,7 @@ fn document_texts(bytes: &[u8]) -> Result<Texts<'_>, Error>
 {
     match root_item(bytes)? {
         Item::Object(object) => Ok(Texts::Keys(KeySearch::new(object_entries(object)?.keys()))),
-        Item::Array(array) => Ok(Texts::Elements(array)),
+        Item::Array(array) => Ok(Texts::Elements(array_entries(array)?)),
         Item::String(text) => Ok(Texts::Root(text)),
         _ => Ok(Texts::Without),
     }
@@ -390,14 +426,17 @@ fn texts_have(texts: &mut Texts<'_>, name: &str) -> Result<bool, Error>
 {
     match texts {
         Texts::Keys(keys) => keys.has(name.as_bytes()),
-        Texts::Elements(bytes) => array_has(bytes, name),
+        Texts::Elements(entries) => entries_have(*entries, name.as_bytes()),
         Texts::Root(text) => Ok(*text == name),
         Texts::Without => Ok(false),
     }
 }
 
 /// The number of keys up to which no table is made. A table has 3 KB, more than a search among so few keys reads.
-const FEW: usize = 128;
+const FEW_KEYS: usize = 128;
+
+/// The number of elements up to which the names are not gathered in blocks.
+const FEW_ELEMENTS: usize = 8;
 
 /// Returns whether one of the names exists, if finding one decides, or otherwise each of them does: the first that
 /// decides ends the walk.
@@ -415,8 +454,13 @@ fn short_circuit<'k, I: Iterator<Item = &'k str> + Drop>(
 {
     let mut texts = document_texts(bytes)?;
     if let Texts::Keys(search) = texts {
-        if search.near.all.len() > FEW {
+        if search.near.all.len() > FEW_KEYS {
             return keys_decide(search.near.all, names, found);
+        }
+    }
+    if let Texts::Elements(entries) = texts {
+        if entries.len() > FEW_ELEMENTS {
+            return elements_decide(entries, names, found);
         }
     }
     for name in names {

@@ -1,4 +1,6 @@
-use Rattle.std.proofs.Common.{rules, sym, ◌∙◌}
+use Rattle.std.proofs.Common.{rules, refl, sym, ◌∙◌}
+use Rattle.jsonb_raw.specs.Private.NameBlocks.{texts_of}
+use Rattle.jsonb_raw.proofs.NameBlockLemmas.{array_decided}
 use Rattle.jsonb_raw.proofs.ExistsLemmas.{decided, left_open, none_decided}
 use Rattle.jsonb_raw.proofs.functions.path.exists.short_circuit.Goals as goal
 
@@ -33,7 +35,14 @@ returns-clause-has g c = λ left tells form t d.
     sym (none_decided c.args.found t) ∙ e
 
 -- many keys
-pub returns-then-len-gt-FEW-clause-has : goal.returns-then-len-gt-FEW-clause-has
-returns-then-len-gt-FEW-clause-has g c = λ left tells form t d.
+pub returns-then-len-gt-FEW_KEYS-clause-has : goal.returns-then-len-gt-FEW_KEYS-clause-has
+returns-then-len-gt-FEW_KEYS-clause-has g c = λ left tells form t d.
     let s = rw c.in-Keys.is at (c.in_ok-texts.ensures.texts form t d) in
     rw s.1 (c.keys_decide.ensures.has left tells form s.0 s.2.near.all_keys s.2.near.all)
+
+-- many elements
+pub returns-then-len-gt-FEW_ELEMENTS-clause-has : goal.returns-then-len-gt-FEW_ELEMENTS-clause-has
+returns-then-len-gt-FEW_ELEMENTS-clause-has g c = λ left tells form t d.
+    let s = rw c.in-Elements.is at (c.in_ok-texts.ensures.texts form t d) in
+    rw s.1 (rw (sym (array_decided c.args.found (left c.args.names) s.0))
+    (c.elements_decide.ensures.has left tells form (texts_of s.0) (record { trees = s.0; left = s.2; texts = refl })))

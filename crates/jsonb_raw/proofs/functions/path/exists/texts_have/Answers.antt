@@ -1,4 +1,7 @@
+use Rattle.std.proofs.Common.{refl}
 use Rattle.jsonb_doc.specs.Tree.{keys}
+use Rattle.jsonb_raw.specs.Private.NameBlocks.{texts_of}
+use Rattle.jsonb_raw.proofs.NameBlockLemmas.{text_among}
 use Rattle.jsonb_raw.proofs.CursorSteps.{still_texts}
 use Rattle.jsonb_raw.proofs.functions.path.exists.texts_have.Goals as goal
 
@@ -10,7 +13,8 @@ returns-in-Keys-clause-has c = λ form t h.
 pub returns-in-Elements-clause-has : goal.returns-in-Elements-clause-has
 returns-in-Elements-clause-has c = λ form t h.
     let s = rw c.in-Elements.is at h in
-    rw s.1 (c.array_has.ensures.has form s.0 s.2)
+    rw s.1 (rw (text_among c.args.name.now s.0)
+    (rw c.as_bytes-in-Elements.ensures.value at (c.entries_have.ensures.has form (texts_of s.0) (record { trees = s.0; left = s.2; texts = refl }))))
 
 pub returns-in-Keys-clause-texts : goal.returns-in-Keys-clause-texts
 returns-in-Keys-clause-texts c = λ form t h.

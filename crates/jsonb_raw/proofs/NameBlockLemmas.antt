@@ -1,0 +1,249 @@
+-- Names that are looked up among the strings of an array.
+use Rattle.std.proofs.Common.{◌≡◌, ◌==◌, ◌||◌, ◌&&◌, ◌++◌, ◌<◌, ◌≤◌, ◌+◌, ℕ, zero, suc, Bool, true, false, not, List, [], ◌∷◌, map, take, drop, length, get_or, Option, Some, None, Result, Ok, Err, refl, sym, ap, ap₂, ◌∙◌, subst, true≢false, arith}
+use Rattle.std.specs.Bool.{beq}
+use Rattle.std.specs.Borrow.{Bor}
+use Rattle.std.specs.List.{list_any, list_all, All}
+use Rattle.std.specs.Str.{bytes_eq}
+use Rattle.std.proofs.lemmas.List.Elements.{All-head, All-tail}
+use Rattle.std.proofs.lemmas.List.Folds.{list_all-append, list_any-append}
+use Rattle.jsonb_doc.proofs.WordLemmas.{bytes_eq-same, bytes_eq-true}
+use Rattle.jsonb_doc.specs.declared.error.Error.{Error}
+use Rattle.jsonb_doc.specs.declared.entry_iter.EntryIter.{EntryIter}
+use Rattle.jsonb_doc.specs.declared.entry_iter.StoredEntry.{StoredEntry}
+use Rattle.jsonb_doc.specs.Kinds.{kind_number}
+use Rattle.jsonb_doc.specs.Tree.{Tree, null, boolean, number, text, extension, array, object, Trees, no_trees, tree, elements}
+use Rattle.jsonb_doc.specs.Payload.{Form}
+use Rattle.jsonb_doc.specs.Private.Stored.{HasEntriesLeft, Stores, GivesEntry}
+use Rattle.jsonb_raw.specs.Exists.{is_text, has_text}
+use Rattle.jsonb_raw.specs.Private.Cursors.{has_by}
+use Rattle.jsonb_raw.specs.Private.NameBlocks.{texts_of, is_one_of, decided_by, HasTextsLeft, TakesText, IsPlaced}
+use Rattle.jsonb_raw.specs.declared.functions.path.name_block.NameTable.{NameTable}
+use Rattle.jsonb_raw.proofs.EntriesLeft.{SomeEntries, SomeEntries-first, SomeEntries-error, SomeEntries-none}
+use Rattle.jsonb_raw.proofs.TakenEntries.{false_unless}
+
+-- ---- the strings among entries
+
+module _ (form : Form) (e : StoredEntry) where
+  no_text : (t : Tree) (ts : Trees) → Stores form e t → (kind_number e.kind == 1) ≡ false → texts_of (tree t ts) ≡ texts_of ts
+  no_text (text s) ts h k = absurd (true≢false (rw h.content.0 at k))
+  no_text null ts h k = refl
+  no_text (boolean b) ts h k = refl
+  no_text (number n) ts h k = refl
+  no_text (extension x) ts h k = refl
+  no_text (array us) ts h k = refl
+  no_text (object ps) ts h k = refl
+
+  one_text : (it : EntryIter) (t : Tree) (ts : Trees) → Stores form e t → (kind_number e.kind == 1) ≡ true → HasEntriesLeft form it ts
+      → TakesText form (texts_of (tree t ts)) (Some e.content) it
+  one_text it (text s) ts h k left = (h.content.1, record { trees = ts; left = left; texts = refl })
+  one_text it null ts h k left = absurd (true≢false (sym (rw h.content.0 at k)))
+  one_text it (boolean true) ts h k left = absurd (true≢false (sym (rw h.content.0 at k)))
+  one_text it (boolean false) ts h k left = absurd (true≢false (sym (rw h.content.0 at k)))
+  one_text it (number n) ts h k left = absurd (true≢false (sym (rw h.content.0 at k)))
+  one_text it (extension x) ts h k left = absurd (true≢false (sym (rw h.content.0 at k)))
+  one_text it (array us) ts h k left = absurd (true≢false (sym (rw h.content.0 at k)))
+  one_text it (object ps) ts h k left = absurd (true≢false (sym (rw h.content.0 at k)))
+
+module _ (form : Form) (it it' : EntryIter) (ss : List (List ℕ)) (h : HasTextsLeft form it ss) where
+  these : SomeEntries form it (λ ts. texts_of ts ≡ ss)
+  these = record { trees = h.trees; left = h.left; fact = h.texts }
+
+  module _ (r : Result StoredEntry Error) (x : StoredEntry) (e : r ≡ Ok x) (n : GivesEntry it (Some r) it') where
+    -- an entry that is not a string is passed
+    pub text_passed : (kind_number x.kind == 1) ≡ false → HasTextsLeft form it' ss
+    text_passed k =
+        SomeEntries-first form it it' r x (λ ts. texts_of ts ≡ ss) e n these
+        (λ first rest left stored fact. record { trees = rest; left = left; texts = sym (no_text form x first rest stored k) ∙ fact })
+
+    -- a string is the first of those that are left
+    pub text_taken : (kind_number x.kind == 1) ≡ true → TakesText form ss (Some x.content) it'
+    text_taken k =
+        SomeEntries-first form it it' r x (λ ts. texts_of ts ≡ ss) e n these
+        (λ first rest left stored fact. subst (λ us. TakesText form us (Some x.content) it') fact (one_text form x it' first rest stored k left))
+
+    -- the entry stores a tree
+    pub some_stored : {G : Type 0} → ((t : Tree) → Stores form x t → G) → G
+    some_stored go =
+        SomeEntries-first form it it' r x (λ ts. texts_of ts ≡ ss) e n these (λ first rest left stored fact. go first stored)
+
+  pub no_text_error : {G : Type 0} → (r : Result StoredEntry Error) (e : Error) → r ≡ Err e → GivesEntry it (Some r) it' → G
+  no_text_error r e is n = SomeEntries-error form it it' r e (λ ts. texts_of ts ≡ ss) is n these
+
+  pub text_none : (after : EntryIter) → GivesEntry it None it' → TakesText form ss None after
+  text_none after n =
+      subst (λ us. TakesText form us None after) (SomeEntries-none form it it' (λ ts. texts_of ts ≡ ss) n these) tt
+
+-- ---- the strings that are left of a walk
+
+pub record SomeTexts (form : Form) (it : EntryIter) (Q : List (List ℕ) → Type 0) : Type 0 where
+  pub strings : List (List ℕ)
+  pub left : HasTextsLeft form it strings
+  pub fact : Q strings
+
+module _ (form : Form) (it' : EntryIter) (Q : List (List ℕ) → Type 0) where
+  first_string : {G : Type 0} → (x : Bor (List ℕ)) (ss : List (List ℕ)) → TakesText form ss (Some x) it' → Q ss
+      → ((rest : List (List ℕ)) → HasTextsLeft form it' rest → Q (x.now ∷ rest) → G) → G
+  first_string x [] h q go = absurd h
+  first_string x (s ∷ ss) h q go = go ss h.1 (subst (λ y. Q (y ∷ ss)) (sym h.0) q)
+
+  no_string : (ss : List (List ℕ)) → TakesText form ss None it' → Q ss → Q []
+  no_string [] h q = q
+  no_string (s ∷ ss) h q = absurd h
+
+module _ (form : Form) (it it' : EntryIter) (Q : List (List ℕ) → Type 0) (s : SomeTexts form it Q) (r : Option (Bor (List ℕ)))
+    (takes : (ss : List (List ℕ)) → HasTextsLeft form it ss → TakesText form ss r it') where
+  pub SomeTexts-first : {G : Type 0} → (x : Bor (List ℕ)) → r ≡ Some x
+      → ((rest : List (List ℕ)) → HasTextsLeft form it' rest → Q (x.now ∷ rest) → G) → G
+  SomeTexts-first x is go = first_string form it' Q x s.strings (rw is at (takes s.strings s.left)) s.fact go
+
+  pub SomeTexts-none : r ≡ None → Q []
+  SomeTexts-none is = no_string form it' Q s.strings (rw is at (takes s.strings s.left)) s.fact
+
+-- ---- names
+
+-- one of the names equals the string
+abbrev pub names_have : List (List ℕ) → List ℕ → Bool
+names_have names s = list_any (λ name. bytes_eq s name) names
+
+shuffled : (a b c d : Bool) → ((a || b) || (c || d)) ≡ ((a || c) || (b || d))
+shuffled true b c d = refl
+shuffled false true true d = refl
+shuffled false true false d = refl
+shuffled false false c d = refl
+
+one_string : (s : List ℕ) (ss names : List (List ℕ)) → list_any (is_one_of (s ∷ ss)) names ≡ (names_have names s || list_any (is_one_of ss) names)
+one_string s ss [] = refl
+one_string s ss (n ∷ names) =
+    ap (λ b. (bytes_eq s n || is_one_of ss n) || b) (one_string s ss names)
+    ∙ shuffled (bytes_eq s n) (is_one_of ss n) (names_have names s) (list_any (is_one_of ss) names)
+
+pub none_of_none : (names : List (List ℕ)) → list_any (is_one_of []) names ≡ false
+none_of_none [] = refl
+none_of_none (n ∷ names) = none_of_none names
+
+module _ (s : List ℕ) (ss names : List (List ℕ)) (whole : Bool) (is : list_any (is_one_of (s ∷ ss)) names ≡ whole) where
+  pub string_found : names_have names s ≡ true → true ≡ whole
+  string_found e = rw e at (sym (one_string s ss names) ∙ is)
+
+  pub string_missing : names_have names s ≡ false → list_any (is_one_of ss) names ≡ whole
+  string_missing e = rw e at (sym (one_string s ss names) ∙ is)
+
+-- a string that equals one of the names has a hash that is placed
+pub placed_one : (table : NameTable) (s : List ℕ) (names : List (List ℕ)) → All (IsPlaced table) names → names_have names s ≡ true → IsPlaced table s
+placed_one table s [] all h = absurd (true≢false (sym h))
+placed_one table s (n ∷ names) all h = by (bytes_eq s n) refl (placed_one table s names (All-tail (IsPlaced table) n names all))
+  where
+    by : (b : Bool) → b ≡ bytes_eq s n → (names_have names s ≡ true → IsPlaced table s) → IsPlaced table s
+    by true e later = subst (IsPlaced table) (sym (bytes_eq-true s n (sym e))) (All-head (IsPlaced table) n names all)
+    by false e later = later (rw (sym e) at h)
+
+-- the string is one of those that begin with it
+pub first_is_one : (s : List ℕ) (ss : List (List ℕ)) → is_one_of (s ∷ ss) s ≡ true
+first_is_one s ss = rw (bytes_eq-same s) refl
+
+pub later_is_one : (s name : List ℕ) (ss : List (List ℕ)) → is_one_of ss name ≡ true → is_one_of (s ∷ ss) name ≡ true
+later_is_one s name ss h = by (bytes_eq s name)
+  where
+    by : (b : Bool) → (b || is_one_of ss name) ≡ true
+    by true = refl
+    by false = h
+
+-- ---- a name at a time
+
+module _ (ss : List (List ℕ)) (name : List ℕ) (names : List (List ℕ)) (all : Bool) where
+  -- a name that decides
+  pub name_decides : (found has : Bool) → beq has found ≡ true → has ≡ is_one_of ss name → decided_by found ss (name ∷ names) ≡ all → found ≡ all
+  name_decides true true test is e = rw (sym is) at e
+  name_decides true false test is e = absurd (cc)
+  name_decides false true test is e = absurd (cc)
+  name_decides false false test is e = rw (sym is) at e
+
+  -- a name that leaves it to the others
+  pub name_leaves : (found has : Bool) → beq has found ≡ false → has ≡ is_one_of ss name → decided_by found ss (name ∷ names) ≡ all
+      → decided_by found ss names ≡ all
+  name_leaves true true test is e = absurd (cc)
+  name_leaves true false test is e = rw (sym is) at e
+  name_leaves false true test is e = rw (sym is) at e
+  name_leaves false false test is e = absurd (cc)
+
+pub no_name_left : (found : Bool) (ss : List (List ℕ)) → decided_by found ss [] ≡ not found
+no_name_left true ss = refl
+no_name_left false ss = refl
+
+-- ---- the strings of an array
+
+pub text_among : (name : List ℕ) (ts : Trees) → list_any (is_text name) (elements ts) ≡ is_one_of (texts_of ts) name
+text_among name no_trees = refl
+text_among name (tree (text s) ts) = ap (λ b. bytes_eq s name || b) (text_among name ts)
+text_among name (tree null ts) = text_among name ts
+text_among name (tree (boolean b) ts) = text_among name ts
+text_among name (tree (number n) ts) = text_among name ts
+text_among name (tree (extension x) ts) = text_among name ts
+text_among name (tree (array us) ts) = text_among name ts
+text_among name (tree (object ps) ts) = text_among name ts
+
+-- ---- the next name of a block
+
+module _ (d : Bor (List ℕ)) where
+  next_name : (xs : List (Bor (List ℕ))) (i : ℕ) → i < length xs
+      → map (λ (name : Bor (List ℕ)). name.now) (drop i xs) ≡ (get_or xs i d).now ∷ map (λ (name : Bor (List ℕ)). name.now) (drop (suc i) xs)
+  next_name [] i within = absurd (omega arith)
+  next_name (y ∷ xs) zero within = refl
+  next_name (y ∷ xs) (suc i) within = next_name xs i (omega arith)
+
+  first_taken : (xs : List (Bor (List ℕ))) (n i : ℕ) → i < n → get_or (take n xs) i d ≡ get_or xs i d
+  first_taken xs zero i few = absurd (omega arith)
+  first_taken [] (suc n) i few = refl
+  first_taken (x ∷ xs) (suc n) zero few = refl
+  first_taken (x ∷ xs) (suc n) (suc i) few = first_taken xs n i (omega arith)
+
+  within_taken : (xs : List (Bor (List ℕ))) (n i : ℕ) → i < n → n ≤ length xs → i < length (take n xs)
+  within_taken xs zero i few room = absurd (omega arith)
+  within_taken [] (suc n) i few room = absurd (omega arith)
+  within_taken (x ∷ xs) (suc n) zero few room = omega arith
+  within_taken (x ∷ xs) (suc n) (suc i) few room =
+      let later : i < length (take n xs) = within_taken xs n i (omega arith) (omega arith) in
+      omega (arith, later)
+
+  pub next_taken : (xs : List (Bor (List ℕ))) (n i : ℕ) → i < n → n ≤ length xs
+      → map (λ (name : Bor (List ℕ)). name.now) (drop i (take n xs))
+      ≡ (get_or xs i d).now ∷ map (λ (name : Bor (List ℕ)). name.now) (drop (i + 1) (take n xs))
+  next_taken xs n i few room =
+      let more : i + 1 ≡ suc i = omega arith in
+      rw more (rw (first_taken xs n i few) at (next_name (take n xs) i (within_taken xs n i few room)))
+
+pub none_taken : (xs : List (Bor (List ℕ))) (n i : ℕ) → n ≤ i → drop i (take n xs) ≡ []
+none_taken xs zero zero few = refl
+none_taken xs zero (suc i) few = refl
+none_taken xs (suc n) zero few = absurd (omega arith)
+none_taken [] (suc n) (suc i) few = refl
+none_taken (x ∷ xs) (suc n) (suc i) few = none_taken xs n i (omega arith)
+
+-- ---- some names, and others
+
+module _ (ss names others : List (List ℕ)) where
+  -- names that decide
+  pub names_decide : (found : Bool) → decided_by found ss names ≡ found → decided_by found ss (names ++ others) ≡ found
+  names_decide true e = list_any-append (is_one_of ss) names others ∙ rw e refl
+  names_decide false e = list_all-append (is_one_of ss) names others ∙ rw e refl
+
+  -- names that leave it to the others
+  pub names_leave : (found has : Bool) → beq has found ≡ false → has ≡ decided_by found ss names
+      → decided_by found ss others ≡ decided_by found ss (names ++ others)
+  names_leave true true test is = absurd (cc)
+  names_leave true false test is = sym (list_any-append (is_one_of ss) names others ∙ rw (sym is) refl)
+  names_leave false true test is = sym (list_all-append (is_one_of ss) names others ∙ rw (sym is) refl)
+  names_leave false false test is = absurd (cc)
+
+pub beq_true : (a b : Bool) → beq a b ≡ true → a ≡ b
+beq_true true true e = refl
+beq_true true false e = absurd (cc)
+beq_true false true e = absurd (cc)
+beq_true false false e = refl
+
+-- the names by the strings of an array
+pub array_decided : (found : Bool) (names : List (List ℕ)) (ts : Trees) → decided_by found (texts_of ts) names ≡ has_by found names (array ts)
+array_decided true [] ts = refl
+array_decided true (n ∷ names) ts = ap₂ (λ a b. a || b) (sym (text_among n ts)) (array_decided true names ts)
+array_decided false [] ts = refl
+array_decided false (n ∷ names) ts = ap₂ (λ a b. a && b) (sym (text_among n ts)) (array_decided false names ts)

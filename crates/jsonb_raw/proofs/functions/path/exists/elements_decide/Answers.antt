@@ -1,0 +1,28 @@
+use Rattle.std.proofs.Common.{rules, sym, ◌∙◌, append-nil}
+use Rattle.jsonb_raw.specs.Private.NameBlocks.{names_of}
+use Rattle.jsonb_raw.proofs.NameBlockLemmas.{names_decide}
+use Rattle.jsonb_raw.proofs.functions.path.exists.elements_decide.Goals as goal
+
+pub returns-in_err-add_name-clause-has : goal.returns-in_err-add_name-clause-has
+returns-in_err-add_name-clause-has g c = λ left tells form ss h. absurd (c.in_err-add_name.ensures.told form ss h)
+
+pub returns-then-branch-clause-has : goal.returns-then-branch-clause-has
+returns-then-branch-clause-has g c = λ left tells form ss h.
+    sym (names_decide ss (names_of c.loop-name.block) _ c.args.found (c.in_ok-add_name.ensures.told form ss h c.if-branch.true))
+    ∙ c.loop-name.invariant.left left tells form ss h
+
+pub loop-name-preserved : goal.loop-name-preserved
+loop-name-preserved g c = record {
+  can = search rules;
+  finite = search rules;
+  block = c.in_ok-add_name.ensures.block;
+  left = λ left tells form ss h.
+      let e = rw (tells _ _ _ c.in-Some.ensures.steps) at (c.loop-name.invariant.left left tells form ss h) in
+      (rw c.as_bytes.ensures.value at (c.in_ok-add_name.ensures.added form ss h c.if-branch.false (left c.next.new.self))) ∙ e;
+}
+
+pub returns-clause-has : goal.returns-clause-has
+returns-clause-has g c = λ left tells form ss h.
+    let e = rw (tells _ _ _ c.in-None.ensures.steps).0 at (c.loop-name.invariant.left left tells form ss h) in
+    let all = rw (append-nil (names_of c.loop-name.block)) at e in
+    rw (sym all) (c.decides.ensures.has form ss h)

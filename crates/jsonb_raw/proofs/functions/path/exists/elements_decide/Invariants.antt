@@ -1,0 +1,16 @@
+use Rattle.std.proofs.Common.{◌≡◌, ◌++◌, ℕ, List}
+use Rattle.jsonb_doc.specs.Payload.{Form}
+use Rattle.jsonb_raw.specs.Private.NameBlocks.{HasTextsLeft, decided_by, names_of, IsBlock}
+use Rattle.jsonb_raw.specs.Iterators.{YieldsItemsLeft}
+use Rattle.jsonb_raw.proofs.functions.path.exists.elements_decide.Given as goal
+
+-- the names in the block and those that are left decide
+abbrev pub invariant-loop-name : goal.invariant-loop-name
+invariant-loop-name g l = record {
+  can : (goal.iterator-loop-name g).can_next l.name-iterator;
+  finite : (goal.iterator-loop-name g).is_finite l.name-iterator;
+  block : IsBlock l.block;
+  left : (left : _ → List (List ℕ)) → YieldsItemsLeft (goal.iterator-loop-name g).next_gives left → (form : Form) (ss : List (List ℕ))
+      → HasTextsLeft form l.entries ss
+      → decided_by l.found ss (names_of l.block ++ left l.name-iterator) ≡ decided_by l.found ss (left l.fn.names);
+}

@@ -1,0 +1,15 @@
+use Rattle.std.proofs.Common.{◌≡◌, ℕ, List}
+use Rattle.std.specs.List.{list_any}
+use Rattle.jsonb_doc.specs.Payload.{Form}
+use Rattle.jsonb_doc.specs.Private.Stored.{entries_bound}
+use Rattle.jsonb_raw.specs.Private.NameBlocks.{HasTextsLeft, is_one_of, names_of}
+use Rattle.jsonb_raw.proofs.NameBlockLemmas.{SomeTexts}
+use Rattle.jsonb_raw.proofs.functions.path.name_block.NameBlock.any_among.Given as goal
+
+-- the strings that are left decide
+abbrev pub invariant-loop-text : goal.invariant-loop-text
+invariant-loop-text l = (form : Form) (ss : List (List ℕ)) → HasTextsLeft form l.fn.entries ss
+    → SomeTexts form l.rest (λ left. list_any (is_one_of left) (names_of l.self) ≡ list_any (is_one_of ss) (names_of l.self))
+
+abbrev pub decreases-loop-text : goal.decreases-loop-text
+decreases-loop-text l = entries_bound l.rest

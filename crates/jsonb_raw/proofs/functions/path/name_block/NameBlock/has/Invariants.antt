@@ -1,0 +1,12 @@
+use Rattle.std.proofs.Common.{◌≡◌, ℕ, List, map, take, drop}
+use Rattle.std.specs.Borrow.{Bor}
+use Rattle.jsonb_raw.specs.Private.NameBlocks.{names_of}
+use Rattle.jsonb_raw.proofs.NameBlockLemmas.{names_have}
+use Rattle.jsonb_raw.proofs.functions.path.name_block.NameBlock.has.Given as goal
+
+-- the names that are left decide
+abbrev pub invariant-loop-name : goal.invariant-loop-name
+invariant-loop-name l = record {
+  items : l.name-items ≡ take l.self.count l.self.names;
+  left : names_have (map (λ (name : Bor (List ℕ)). name.now) (drop l.name-index l.name-items)) l.text ≡ names_have (names_of l.self) l.text;
+}

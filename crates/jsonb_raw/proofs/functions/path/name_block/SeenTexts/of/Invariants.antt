@@ -1,0 +1,17 @@
+use Rattle.std.proofs.Common.{◌≡◌, true, ℕ, List}
+use Rattle.jsonb_doc.specs.Payload.{Form}
+use Rattle.jsonb_doc.specs.Private.Stored.{entries_bound}
+use Rattle.jsonb_raw.specs.Private.NameBlocks.{HasTextsLeft, is_one_of, AreSeen}
+use Rattle.jsonb_raw.proofs.NameBlockLemmas.{SomeTexts}
+use Rattle.jsonb_raw.proofs.functions.path.name_block.SeenTexts.of.Given as goal
+
+-- what was seen, and what is left, is among the strings
+abbrev pub invariant-loop-text : goal.invariant-loop-text
+invariant-loop-text l = record {
+  seen : (form : Form) (ss : List (List ℕ)) → HasTextsLeft form l.fn.entries ss → AreSeen ss l.seen;
+  left : (form : Form) (ss : List (List ℕ)) → HasTextsLeft form l.fn.entries ss
+      → SomeTexts form l.rest (λ left. (name : List ℕ) → is_one_of left name ≡ true → is_one_of ss name ≡ true);
+}
+
+abbrev pub decreases-loop-text : goal.decreases-loop-text
+decreases-loop-text l = entries_bound l.rest

@@ -1,0 +1,14 @@
+use Rattle.std.proofs.Common.{◌≡◌, ℕ, List}
+use Rattle.jsonb_doc.specs.Payload.{Form}
+use Rattle.jsonb_doc.specs.Private.Stored.{entries_bound}
+use Rattle.jsonb_raw.specs.Private.NameBlocks.{HasTextsLeft, is_one_of}
+use Rattle.jsonb_raw.proofs.NameBlockLemmas.{SomeTexts}
+use Rattle.jsonb_raw.proofs.functions.path.name_block.entries_have.Given as goal
+
+-- the strings that are left decide
+abbrev pub invariant-loop-text : goal.invariant-loop-text
+invariant-loop-text l = (form : Form) (ss : List (List ℕ)) → HasTextsLeft form l.fn.entries ss
+    → SomeTexts form l.rest (λ left. is_one_of left l.name ≡ is_one_of ss l.name)
+
+abbrev pub decreases-loop-text : goal.decreases-loop-text
+decreases-loop-text l = entries_bound l.rest
