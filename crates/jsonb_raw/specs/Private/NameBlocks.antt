@@ -3,7 +3,7 @@ use Rattle.std.specs.Prelude.{◌≡◌, ℕ, ◌<◌, ◌≤◌, Bool, true, fa
 use Rattle.std.specs.Borrow.{Bor}
 use Rattle.std.specs.List.{list_any, list_all, All}
 use Rattle.std.specs.Str.{bytes_eq}
-use Rattle.jsonb_doc.specs.Tree.{Tree, text, Trees, no_trees, tree}
+use Rattle.jsonb_doc.specs.Tree.{text, Trees, no_trees, tree}
 use Rattle.jsonb_doc.specs.Payload.{Form}
 use Rattle.jsonb_doc.specs.Private.Stored.{HasEntriesLeft}
 use Rattle.jsonb_doc.specs.declared.entry_iter.EntryIter.{EntryIter}

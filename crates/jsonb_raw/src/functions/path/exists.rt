@@ -432,14 +432,64 @@ fn texts_have(texts: &mut Texts<'_>, name: &str) -> Result<bool, Error>
     }
 }
 
-/// The number of keys up to which no table is made. A table has 3 KB, more than a search among so few keys reads.
-const FEW_KEYS: usize = 128;
+/// Returns whether one of the names (`found`) or each of them is one of the strings, one name after another.
+fn each_decides<'k, I: Iterator<Item = &'k str> + Drop>(
+    strings: Texts<'_>,
+    names: I,
+    found: bool,
+) -> Result<bool, Error>
+    requires can { I.can_next names }
+    requires ends { IsFinite (I.remaining names) }
+    ensures has { (left : I → List (List ℕ)) → YieldsItemsLeft I.next_gives left
+        → (form : Form) (t : Tree) → HoldsTexts form strings.entry t
+        → IsOkAnd result (λ b. b ≡ has_by found (left names) t) }
+    ensures errors { IfErr result IsDecodingError }
+{
+    let mut texts = strings;
+    for name in names {
+        let has = texts_have(&mut texts, name)?;
+        if has == found {
+            return Ok(found);
+        }
+    }
+    Ok(!found)
+}
+
+/// The number of keys up to which no table is made. A table has 5 KB, more than a search among so few keys reads.
+const FEW_KEYS: usize = 12;
 
 /// The number of elements up to which the names are not gathered in blocks.
 const FEW_ELEMENTS: usize = 8;
 
-/// Returns whether one of the names exists, if finding one decides, or otherwise each of them does: the first that
-/// decides ends the walk.
+/// Returns whether one of the names (`found`) or each of them is one of the strings, all names together if there are
+/// many strings.
+fn all_decide<'k, I: Iterator<Item = &'k str> + Drop>(
+    texts: Texts<'_>,
+    names: I,
+    found: bool,
+) -> Result<bool, Error>
+    requires can { I.can_next names }
+    requires ends { IsFinite (I.remaining names) }
+    ensures has { (left : I → List (List ℕ)) → YieldsItemsLeft I.next_gives left
+        → (form : Form) (t : Tree) → HoldsTexts form texts.entry t
+        → IsOkAnd result (λ b. b ≡ has_by found (left names) t) }
+    ensures errors { IfErr result IsDecodingError }
+{
+    if let Texts::Keys(search) = texts {
+        if search.near.all.len() > FEW_KEYS {
+            return keys_decide(search.near.all, names, found);
+        }
+    }
+    if let Texts::Elements(entries) = texts {
+        if entries.len() > FEW_ELEMENTS {
+            return elements_decide(entries, names, found);
+        }
+    }
+    each_decides(texts, names, found)
+}
+
+/// Returns whether one of the names exists, if finding one decides, or otherwise each of them does. The first name is
+/// searched by itself, so that a call with one name makes no table.
 fn short_circuit<'k, I: Iterator<Item = &'k str> + Drop>(
     bytes: &[u8],
     names: I,
@@ -453,23 +503,15 @@ fn short_circuit<'k, I: Iterator<Item = &'k str> + Drop>(
     ensures reads { OnOk result (HasRoot bytes.now) }
 {
     let mut texts = document_texts(bytes)?;
-    if let Texts::Keys(search) = texts {
-        if search.near.all.len() > FEW_KEYS {
-            return keys_decide(search.near.all, names, found);
-        }
+    let mut others = names;
+    let Some(first) = others.next() else {
+        return Ok(!found);
+    };
+    let has = texts_have(&mut texts, first)?;
+    if has == found {
+        return Ok(found);
     }
-    if let Texts::Elements(entries) = texts {
-        if entries.len() > FEW_ELEMENTS {
-            return elements_decide(entries, names, found);
-        }
-    }
-    for name in names {
-        let has = texts_have(&mut texts, name)?;
-        if has == found {
-            return Ok(found);
-        }
-    }
-    Ok(!found)
+    all_decide(texts, others, found)
 }
 
 impl RawJsonb<'_> {
@@ -484,8 +526,8 @@ impl RawJsonb<'_> {
     ///
     /// # Complexity
     ///
-    /// Objects: O(k) if the names are sorted, otherwise O(k / 64) per name, and O(k) up to 128 keys. Arrays: O(n) per
-    /// name. Does not allocate.
+    /// Objects: O(k) if the names are sorted, otherwise O(k / 64) per name, and O(k) up to 12 keys. Arrays: O(n) for the
+    /// first name and for each 64 others, and O(n) per name up to 8 elements. Does not allocate.
     ///
     /// # Examples
     ///

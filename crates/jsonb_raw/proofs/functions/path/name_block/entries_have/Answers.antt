@@ -1,6 +1,5 @@
-use Rattle.std.proofs.Common.{◌≡◌, ℕ, List, sym, ◌∙◌, refl}
+use Rattle.std.proofs.Common.{◌≡◌, sym, ◌∙◌}
 use Rattle.jsonb_raw.specs.Private.NameBlocks.{is_one_of}
-use Rattle.jsonb_raw.proofs.ExistsLemmas.{any_first, any_next}
 use Rattle.jsonb_raw.proofs.NameBlockLemmas.{SomeTexts-first, SomeTexts-none}
 use Rattle.jsonb_raw.proofs.functions.path.name_block.entries_have.Goals as goal
 

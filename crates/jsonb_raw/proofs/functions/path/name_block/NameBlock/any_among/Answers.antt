@@ -1,4 +1,4 @@
-use Rattle.std.proofs.Common.{◌≡◌, ℕ, List, false, sym, ◌∙◌, true≢false}
+use Rattle.std.proofs.Common.{◌≡◌, false, sym, ◌∙◌, true≢false}
 use Rattle.std.specs.List.{list_any}
 use Rattle.jsonb_raw.specs.Private.NameBlocks.{is_one_of, names_of}
 use Rattle.jsonb_raw.proofs.NameBlockLemmas.{SomeTexts-first, SomeTexts-none, names_have, string_found, string_missing, placed_one, none_of_none}

@@ -1,0 +1,33 @@
+use Rattle.std.proofs.Common.{rules, sym, ◌∙◌}
+use Rattle.jsonb_raw.proofs.ExistsLemmas.{decided, left_open, none_decided}
+use Rattle.jsonb_raw.proofs.functions.path.exists.each_decides.Goals as goal
+
+pub returns-in_err-has-clause-has : goal.returns-in_err-has-clause-has
+returns-in_err-has-clause-has g c = λ left tells form t d.
+    let l = c.loop-name.invariant.left left tells form t d in
+    absurd (c.in_err-has.ensures.has form t l.0)
+
+pub returns-then-has-found-clause-has : goal.returns-then-has-found-clause-has
+returns-then-has-found-clause-has g c = λ left tells form t d.
+    let l = c.loop-name.invariant.left left tells form t d in
+    let e = rw (tells _ _ _ c.in-Some.ensures.steps) at l.1 in
+    decided c.args.found c.in_ok-has.has t c.in-Some.name.now (left c.next.new.self) _ c.if-has-found.true (c.in_ok-has.ensures.has form t l.0) e
+
+pub loop-name-preserved : goal.loop-name-preserved
+loop-name-preserved g c = record {
+  can = search rules;
+  finite = search rules;
+  left = λ left tells form t d.
+      let l = c.loop-name.invariant.left left tells form t d in
+      let e = rw (tells _ _ _ c.in-Some.ensures.steps) at l.1 in (
+        c.in_ok-has.ensures.texts form t l.0,
+        left_open c.args.found c.in_ok-has.has t c.in-Some.name.now (left c.next.new.self) _ c.if-has-found.false
+            (c.in_ok-has.ensures.has form t l.0) e,
+      );
+}
+
+pub returns-clause-has : goal.returns-clause-has
+returns-clause-has g c = λ left tells form t d.
+    let l = c.loop-name.invariant.left left tells form t d in
+    let e = rw (tells _ _ _ c.in-None.ensures.steps).0 at l.1 in
+    sym (none_decided c.args.found t) ∙ e
