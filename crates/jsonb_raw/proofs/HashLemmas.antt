@@ -1,24 +1,26 @@
 -- Hashes of numbers, and of trees that are equal by value.
-use Rattle.std.proofs.Common.{◌≡◌, ℕ, zero, suc, ◌-◌, ◌*◌, ◌^◌, ◌<◌, ◌≤◌, Bool, true, false, List, length, slice_index_or, slice_set, ℤ, pos, negsuc, neg_ℤ, refl, sym, ap, ◌∙◌, arith, true≢false, unsigned_abs, int_lt}
+use Rattle.std.proofs.Common.{◌≡◌, ℕ, zero, suc, ◌-◌, ◌*◌, ◌^◌, ◌<◌, ◌≤◌, ◌+◌, ◌%◌, ◌&&◌, Bool, true, false, List, length, slice_index_or, slice_set, ℤ, pos, negsuc, neg_ℤ, refl, sym, ap, ◌∙◌, arith, true≢false, unsigned_abs, int_lt}
 use native.Mathlib.Nat.{one-le-pow}
 use Rattle.std.specs.Ordering.{eq_by_cmp, is_eq, int_cmp}
 use Rattle.std.specs.declared.cmp.Ordering.{Ordering}
 use Rattle.std.specs.declared.cmp.Ordering.TheVariants.{Less, Equal, Greater}
+use Rattle.std.specs.Str.{bytes_eq}
+use Rattle.std.proofs.lemmas.Bool.{and_parts}
 use Rattle.std.proofs.lemmas.Bool.Decides.{nat_tests}
 use Rattle.std.proofs.lemmas.Grind.{get_or-set_at}
 use Rattle.std.proofs.lemmas.Cmp.{int_ranked}
 use Rattle.std.proofs.lemmas.Slice.Eq.{bytes_eq-Decides}
 use Rattle.jsonb_doc.specs.Number.{Number, Variant, number_cmp, number_from}
 use Rattle.jsonb_doc.specs.Proofs.NumberOrder.{common, at_common}
-use Rattle.jsonb_doc.specs.Equal.{is_equal}
-use Rattle.jsonb_doc.specs.Tree.{Tree, null, boolean, number, text, extension, array, object}
-use Rattle.jsonb_raw.specs.Private.Hashes.{value_hash, text_hash, IsHashOf}
+use Rattle.jsonb_doc.specs.Equal.{is_equal, are_equal, pairs_are_equal}
+use Rattle.jsonb_doc.specs.Tree.{Tree, null, boolean, number, text, extension, array, object, Trees, no_trees, tree, Pairs, no_pairs, pair, values}
+use Rattle.jsonb_raw.specs.Private.Hashes.{value_hash, text_hash, IsPartHash, AreHashed, IsHashOf}
 
 module _ (variant : Variant) (scale power m : ℕ) (few : scale ≤ 6) (is : power ≡ 10 ^ (6 - scale)) where
   -- a number of these parts has the hash of their product
   parts_marked : (z : ℤ) → (int_lt z (pos 0) ≡ false → m ≡ value_hash (pos (unsigned_abs z * power)))
       → (int_lt z (pos 0) ≡ true → 0 < unsigned_abs z → 0 < power → m ≡ value_hash (neg_ℤ (pos (unsigned_abs z * power))))
-      → IsHashOf (number (number_from variant z scale)) m
+      → IsPartHash (number (number_from variant z scale)) m
   parts_marked (pos zero) above below =
       let whole : int_lt (pos 0) (pos 0) ≡ false = grind (arith, nat_tests) in
       let none : 0 * power ≡ 0 = omega arith in
@@ -33,7 +35,7 @@ module _ (variant : Variant) (scale power m : ℕ) (few : scale ≤ 6) (is : pow
   pub magnitude_hashed : (z : ℤ) (magnitude : ℕ) → magnitude ≡ unsigned_abs z
       → (int_lt z (pos 0) ≡ false → m ≡ value_hash (pos (magnitude * power)))
       → (int_lt z (pos 0) ≡ true → 0 < magnitude → 0 < power → m ≡ value_hash (neg_ℤ (pos (magnitude * power))))
-      → IsHashOf (number (number_from variant z scale)) m
+      → IsPartHash (number (number_from variant z scale)) m
   magnitude_hashed z magnitude e above below = parts_marked z (rw e at above) (rw e at below)
 
 same_whole : (x y : ℤ) (r : Ordering) → is_eq r ≡ true → r ≡ int_cmp x y → x ≡ y
@@ -42,23 +44,52 @@ same_whole x y Equal e h = int_ranked x y Equal h
 same_whole x y Greater e h = absurd (true≢false (sym e))
 
 -- numbers of one value have one hash
-numbers_marked : (n k : Number) (a b : ℕ) → eq_by_cmp number_cmp n k ≡ true → IsHashOf (number n) a → IsHashOf (number k) b → a ≡ b
+numbers_marked : (n k : Number) (a b : ℕ) → eq_by_cmp number_cmp n k ≡ true → IsPartHash (number n) a → IsPartHash (number k) b → a ≡ b
 unfolding common
 numbers_marked n k a b same p q =
     let scaled : number_cmp n k ≡ int_cmp (common n 6) (common k 6) = at_common n k 6 p.0 q.0 in
     let one : common n 6 ≡ common k 6 = same_whole (common n 6) (common k 6) _ (rw scaled at same) refl in
     p.1 ∙ ap value_hash one ∙ sym q.1
 
+-- trees that are equal by value have one hash in a container
+one_part_hash : (t u : Tree) (a b : ℕ) → is_equal t u ≡ true → IsPartHash t a → IsPartHash u b → a ≡ b
+one_part_hash null null a b e p q = p ∙ sym q
+one_part_hash (boolean true) (boolean true) a b e p q = p ∙ sym q
+one_part_hash (boolean false) (boolean false) a b e p q = p ∙ sym q
+one_part_hash (number n) (number k) a b e p q = numbers_marked n k a b e p q
+one_part_hash (text s) (text r) a b e p q = p ∙ ap text_hash ((bytes_eq-Decides _ _).0 e) ∙ sym q
+one_part_hash (extension x) (extension y) a b e p q = p ∙ sym q
+one_part_hash (array ts) (array us) a b e p q = p ∙ sym q
+one_part_hash (object ps) (object qs) a b e p q = p ∙ sym q
+one_part_hash t u a b e p q = absurd (true≢false (sym e))
+
+lists_hashed : (ts us : Trees) (before a b : ℕ) → are_equal ts us ≡ true → AreHashed ts before a → AreHashed us before b → a ≡ b
+lists_hashed no_trees no_trees before a b e p q = p ∙ sym q
+lists_hashed (tree t ts) (tree u us) before a b e p q =
+    let same = and_parts (is_equal t u) (are_equal ts us) e in
+    let one : p.0 ≡ q.0 = one_part_hash t u p.0 q.0 same.0 p.1 q.1 in
+    lists_hashed ts us ((before * 31 + q.0) % 65536) a b same.1 (rw one at p.2) q.2
+lists_hashed no_trees (tree u us) before a b e p q = absurd (true≢false (sym e))
+lists_hashed (tree t ts) no_trees before a b e p q = absurd (true≢false (sym e))
+
+equal_values : (ps qs : Pairs) → pairs_are_equal ps qs ≡ true → are_equal (values ps) (values qs) ≡ true
+equal_values no_pairs no_pairs e = refl
+equal_values (pair k t ps) (pair l u qs) e =
+    let first = and_parts (bytes_eq k l && is_equal t u) (pairs_are_equal ps qs) e in
+    rw (and_parts (bytes_eq k l) (is_equal t u) first.0).1 (equal_values ps qs first.1)
+equal_values no_pairs (pair l u qs) e = absurd (true≢false (sym e))
+equal_values (pair k t ps) no_pairs e = absurd (true≢false (sym e))
+
 -- trees that are equal by value have one hash
 pub one_hash : (t u : Tree) (a b : ℕ) → is_equal t u ≡ true → IsHashOf t a → IsHashOf u b → a ≡ b
-one_hash null null a b e p q = p ∙ sym q
-one_hash (boolean true) (boolean true) a b e p q = p ∙ sym q
-one_hash (boolean false) (boolean false) a b e p q = p ∙ sym q
-one_hash (number n) (number k) a b e p q = numbers_marked n k a b e p q
-one_hash (text s) (text r) a b e p q = p ∙ ap text_hash ((bytes_eq-Decides _ _).0 e) ∙ sym q
-one_hash (extension x) (extension y) a b e p q = p ∙ sym q
-one_hash (array ts) (array us) a b e p q = p ∙ sym q
-one_hash (object ps) (object qs) a b e p q = p ∙ sym q
+one_hash null null a b e p q = one_part_hash null null a b e p q
+one_hash (boolean true) (boolean true) a b e p q = one_part_hash (boolean true) (boolean true) a b e p q
+one_hash (boolean false) (boolean false) a b e p q = one_part_hash (boolean false) (boolean false) a b e p q
+one_hash (number n) (number k) a b e p q = one_part_hash (number n) (number k) a b e p q
+one_hash (text s) (text r) a b e p q = one_part_hash (text s) (text r) a b e p q
+one_hash (extension x) (extension y) a b e p q = one_part_hash (extension x) (extension y) a b e p q
+one_hash (array ts) (array us) a b e p q = lists_hashed ts us 5 a b e p q
+one_hash (object ps) (object qs) a b e p q = lists_hashed (values ps) (values qs) 5 a b (equal_values ps qs e) p q
 one_hash t u a b e p q = absurd (true≢false (sym e))
 
 -- if the hash of one is taken, that of the other is

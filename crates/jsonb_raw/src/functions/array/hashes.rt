@@ -2,15 +2,16 @@
 //! equals none of them.
 
 ghost use Rattle.std.specs.Prelude.{◌≡◌, ◌<◌, ◌≤◌, ◌*◌, ◌-◌, ◌^◌, ℕ, pos, neg_ℤ, true, false, IfSome};
-ghost use Rattle.jsonb_doc.specs.Tree.{Tree};
+ghost use Rattle.jsonb_doc.specs.Tree.{Tree, Trees, Pairs, values};
 ghost use Rattle.jsonb_doc.specs.Equal.{is_equal};
 ghost use Rattle.jsonb_doc.specs.Payload.{Form};
+ghost use Rattle.jsonb_doc.specs.Format.{Decodes};
 ghost use Rattle.jsonb_doc.specs.Private.Short.{short_value};
-ghost use Rattle.jsonb_doc.specs.Private.Stored.{Stores};
-ghost use Rattle.jsonb_raw.specs.Private.Hashes.{IsHashOf, Covers, value_hash, text_hash};
+ghost use Rattle.jsonb_doc.specs.Private.Stored.{HasEntriesLeft, Stores};
+ghost use Rattle.jsonb_raw.specs.Private.Hashes.{IsPartHash, AreHashed, IsHashOf, Covers, value_hash, text_hash};
 
 use jsonb_doc::layout::EntryKind;
-use jsonb_doc::{ShortNumber, StoredEntry};
+use jsonb_doc::{EntryIter, Item, ShortNumber, StoredEntry, array_entries, object_entries};
 use std::hash::{FoldHasher, Hasher};
 
 /// The number of hashes.
@@ -47,7 +48,7 @@ fn product_hash(magnitude: u64, power: u64, is_negative: bool) -> usize
 
 /// Returns the hash of a number, or `None` if it has more than six decimals.
 fn number_hash(number: ShortNumber) -> Option<usize>
-    ensures hash { IfSome result (IsHashOf (Tree.number (short_value number))) }
+    ensures hash { IfSome result (IsPartHash (Tree.number (short_value number))) }
     ensures few { IfSome result (λ m. m < 4096) }
 {
     match number {
@@ -75,9 +76,10 @@ pub(crate) fn text_hash(text: &[u8]) -> usize
     (hasher.finish() % 4096) as usize
 }
 
-/// Returns the hash of an entry, or `None` for a number that is not short or has more than six decimals.
-pub(crate) fn entry_hash(entry: &StoredEntry<'_>) -> Option<usize>
-    ensures hash { (form : Form) (t : Tree) → Stores form entry.now t → IfSome result (IsHashOf t) }
+/// Returns the hash of an entry of a container, or `None` for a number that is not short or has more than six decimals.
+/// All containers have one.
+fn part_hash(entry: &StoredEntry<'_>) -> Option<usize>
+    ensures hash { (form : Form) (t : Tree) → Stores form entry.now t → IfSome result (IsPartHash t) }
     ensures few { IfSome result (λ m. m < 4096) }
 {
     if entry.is_text() {
@@ -94,6 +96,70 @@ pub(crate) fn entry_hash(entry: &StoredEntry<'_>) -> Option<usize>
         EntryKind::Extension => Some(6),
         EntryKind::Text | EntryKind::Number | EntryKind::Unknown => None,
     }
+}
+
+/// Returns the hash of a list of entries, or `None` if one of them has none.
+fn entries_hash(entries: EntryIter<'_>) -> Option<usize>
+    ensures hash { (form : Form) (ts : Trees) → HasEntriesLeft form entries.entry ts
+        → IfSome result (AreHashed ts 5) }
+    ensures few { IfSome result (λ m. m < 4096) }
+{
+    let mut hash = 5;
+    for entry in entries {
+        let Ok(entry) = entry else {
+            return None;
+        };
+        hash = (hash * 31 + part_hash(&entry)?) % 65536;
+    }
+    Some(hash % 4096)
+}
+
+/// Returns the hash of an array: that of its elements.
+fn array_hash(bytes: &[u8]) -> Option<usize>
+    ensures hash { (form : Form) (ts : Trees) → Decodes form bytes.now (Tree.array ts)
+        → IfSome result (AreHashed ts 5) }
+    ensures few { IfSome result (λ m. m < 4096) }
+{
+    match array_entries(bytes) {
+        Ok(entries) => entries_hash(entries),
+        Err(_) => None,
+    }
+}
+
+/// Returns the hash of an object: that of its values.
+fn object_hash(bytes: &[u8]) -> Option<usize>
+    ensures hash { (form : Form) (ps : Pairs) → Decodes form bytes.now (Tree.object ps)
+        → IfSome result (AreHashed (values ps) 5) }
+    ensures few { IfSome result (λ m. m < 4096) }
+{
+    match object_entries(bytes) {
+        Ok(pairs) => entries_hash(pairs.values()),
+        Err(_) => None,
+    }
+}
+
+/// Returns the hash of a container, or `None` if it has an entry without one.
+#[inline(never)]
+fn container_hash(entry: &StoredEntry<'_>) -> Option<usize>
+    ensures hash { (form : Form) (t : Tree) → Stores form entry.now t → IfSome result (IsHashOf t) }
+    ensures few { IfSome result (λ m. m < 4096) }
+{
+    match entry.item() {
+        Ok(Item::Array(bytes)) => array_hash(bytes),
+        Ok(Item::Object(bytes)) => object_hash(bytes),
+        _ => None,
+    }
+}
+
+/// Returns the hash of an entry, or `None` if it is or has a number that is not short or has more than six decimals.
+pub(crate) fn entry_hash(entry: &StoredEntry<'_>) -> Option<usize>
+    ensures hash { (form : Form) (t : Tree) → Stores form entry.now t → IfSome result (IsHashOf t) }
+    ensures few { IfSome result (λ m. m < 4096) }
+{
+    if entry.is_container() {
+        return container_hash(entry);
+    }
+    part_hash(entry)
 }
 
 /// The hashes that some entries have.

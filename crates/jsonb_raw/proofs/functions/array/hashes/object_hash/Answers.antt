@@ -1,0 +1,6 @@
+use Rattle.jsonb_doc.specs.Tree.{values}
+use Rattle.jsonb_raw.proofs.functions.array.hashes.object_hash.Goals as goal
+
+pub returns-in-Ok-clause-hash : goal.returns-in-Ok-clause-hash
+returns-in-Ok-clause-hash c = λ form ps d.
+    c.entries_hash.ensures.hash form (values ps) (c.values.ensures.entries form ps (c.in-Ok.ensures.decodes form ps d))
