@@ -9,4 +9,4 @@ returns-clause-bytes c =
     let copied : length c.copy_from_slice.new.self ≡ 8 = ap length c.copy_from_slice.ensures.after ∙ size in
     take-put_mid c.args.len _ c.args.buffer.now c.copy_from_slice.new.self (c.args.len + 8) (omega (arith, copied)) (omega (arith, c.requires.room))
     ∙ ap (λ (xs : List ℕ). take c.args.len c.args.buffer.now ++ xs)
-    (c.copy_from_slice.ensures.after ∙ sym (escaped_plain c.args.piece.now (sym c.is_plain.ensures ∙ c.if-not-is_plain.false)))
+    (c.copy_from_slice.ensures.after ∙ sym (escaped_plain c.args.piece.now (sym c.is_plain_piece.ensures ∙ c.if-not-is_plain_piece.false)))

@@ -417,6 +417,7 @@ fn document_texts(bytes: &[u8]) -> Result<Texts<'_>, Error>
 }
 
 /// Returns whether the name is one of the strings.
+#[inline(always)]
 fn texts_have(texts: &mut Texts<'_>, name: &str) -> Result<bool, Error>
     ensures has { (form : Form) (t : Tree) → HoldsTexts form texts.old t
         → IsOkAnd result (λ b. b ≡ has_text name.now t) }
@@ -433,6 +434,7 @@ fn texts_have(texts: &mut Texts<'_>, name: &str) -> Result<bool, Error>
 }
 
 /// Returns whether one of the names (`found`) or each of them is one of the strings, one name after another.
+#[inline(always)]
 fn each_decides<'k, I: Iterator<Item = &'k str> + Drop>(
     strings: Texts<'_>,
     names: I,
@@ -463,6 +465,7 @@ const FEW_ELEMENTS: usize = 8;
 
 /// Returns whether one of the names (`found`) or each of them is one of the strings, all names together if there are
 /// many strings.
+#[inline(always)]
 fn all_decide<'k, I: Iterator<Item = &'k str> + Drop>(
     texts: Texts<'_>,
     names: I,
