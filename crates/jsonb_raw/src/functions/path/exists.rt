@@ -417,7 +417,6 @@ fn document_texts(bytes: &[u8]) -> Result<Texts<'_>, Error>
 }
 
 /// Returns whether the name is one of the strings.
-#[inline(always)]
 fn texts_have(texts: &mut Texts<'_>, name: &str) -> Result<bool, Error>
     ensures has { (form : Form) (t : Tree) → HoldsTexts form texts.old t
         → IsOkAnd result (λ b. b ≡ has_text name.now t) }
@@ -433,66 +432,15 @@ fn texts_have(texts: &mut Texts<'_>, name: &str) -> Result<bool, Error>
     }
 }
 
-/// Returns whether one of the names (`found`) or each of them is one of the strings, one name after another.
-#[inline(always)]
-fn each_decides<'k, I: Iterator<Item = &'k str> + Drop>(
-    strings: Texts<'_>,
-    names: I,
-    found: bool,
-) -> Result<bool, Error>
-    requires can { I.can_next names }
-    requires ends { IsFinite (I.remaining names) }
-    ensures has { (left : I → List (List ℕ)) → YieldsItemsLeft I.next_gives left
-        → (form : Form) (t : Tree) → HoldsTexts form strings.entry t
-        → IsOkAnd result (λ b. b ≡ has_by found (left names) t) }
-    ensures errors { IfErr result IsDecodingError }
-{
-    let mut texts = strings;
-    for name in names {
-        let has = texts_have(&mut texts, name)?;
-        if has == found {
-            return Ok(found);
-        }
-    }
-    Ok(!found)
-}
-
-/// The number of keys up to which no table is made. A table has 5 KB, more than a search among so few keys reads.
-const FEW_KEYS: usize = 12;
+/// The number of keys up to which no table is made. A table has 5 KB, more than a search among so few keys reads. Names
+/// in reverse order among 40 keys take 41,000 instructions with a table and 93,000 without.
+const FEW_KEYS: usize = 32;
 
 /// The number of elements up to which the names are not gathered in blocks.
 const FEW_ELEMENTS: usize = 8;
 
-/// Returns whether one of the names (`found`) or each of them is one of the strings, all names together if there are
-/// many strings.
-#[inline(always)]
-fn all_decide<'k, I: Iterator<Item = &'k str> + Drop>(
-    texts: Texts<'_>,
-    names: I,
-    found: bool,
-) -> Result<bool, Error>
-    requires can { I.can_next names }
-    requires ends { IsFinite (I.remaining names) }
-    ensures has { (left : I → List (List ℕ)) → YieldsItemsLeft I.next_gives left
-        → (form : Form) (t : Tree) → HoldsTexts form texts.entry t
-        → IsOkAnd result (λ b. b ≡ has_by found (left names) t) }
-    ensures errors { IfErr result IsDecodingError }
-{
-    if let Texts::Keys(search) = texts {
-        if search.near.all.len() > FEW_KEYS {
-            return keys_decide(search.near.all, names, found);
-        }
-    }
-    if let Texts::Elements(entries) = texts {
-        if entries.len() > FEW_ELEMENTS {
-            return elements_decide(entries, names, found);
-        }
-    }
-    each_decides(texts, names, found)
-}
-
-/// Returns whether one of the names exists, if finding one decides, or otherwise each of them does. The first name is
-/// searched by itself, so that a call with one name makes no table.
+/// Returns whether one of the names exists, if finding one decides, or otherwise each of them does: the first that
+/// decides ends the walk.
 fn short_circuit<'k, I: Iterator<Item = &'k str> + Drop>(
     bytes: &[u8],
     names: I,
@@ -506,15 +454,23 @@ fn short_circuit<'k, I: Iterator<Item = &'k str> + Drop>(
     ensures reads { OnOk result (HasRoot bytes.now) }
 {
     let mut texts = document_texts(bytes)?;
-    let mut others = names;
-    let Some(first) = others.next() else {
-        return Ok(!found);
-    };
-    let has = texts_have(&mut texts, first)?;
-    if has == found {
-        return Ok(found);
+    if let Texts::Keys(search) = texts {
+        if search.near.all.len() > FEW_KEYS {
+            return keys_decide(search.near.all, names, found);
+        }
     }
-    all_decide(texts, others, found)
+    if let Texts::Elements(entries) = texts {
+        if entries.len() > FEW_ELEMENTS {
+            return elements_decide(entries, names, found);
+        }
+    }
+    for name in names {
+        let has = texts_have(&mut texts, name)?;
+        if has == found {
+            return Ok(found);
+        }
+    }
+    Ok(!found)
 }
 
 impl RawJsonb<'_> {
@@ -529,8 +485,8 @@ impl RawJsonb<'_> {
     ///
     /// # Complexity
     ///
-    /// Objects: O(k) if the names are sorted, otherwise O(k / 64) per name, and O(k) up to 12 keys. Arrays: O(n) for the
-    /// first name and for each 64 others, and O(n) per name up to 8 elements. Does not allocate.
+    /// Objects: O(k) if the names are sorted, otherwise O(k / 64) per name, and O(k) up to 32 keys. Arrays: O(n) for
+    /// each 64 names, and O(n) per name up to 8 elements. Does not allocate.
     ///
     /// # Examples
     ///

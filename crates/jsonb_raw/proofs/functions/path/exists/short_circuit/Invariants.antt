@@ -1,9 +1,10 @@
 use Rattle.std.proofs.Common.{◌≡◌, ℕ, List}
 use Rattle.jsonb_doc.specs.Tree.{Tree}
 use Rattle.jsonb_doc.specs.Payload.{Form}
+use Rattle.jsonb_doc.specs.Format.{Decodes}
 use Rattle.jsonb_raw.specs.Private.Cursors.{HoldsTexts, has_by}
 use Rattle.jsonb_raw.specs.Iterators.{YieldsItemsLeft}
-use Rattle.jsonb_raw.proofs.functions.path.exists.each_decides.Given as goal
+use Rattle.jsonb_raw.proofs.functions.path.exists.short_circuit.Given as goal
 
 -- the strings that are left decide
 abbrev pub invariant-loop-name : goal.invariant-loop-name
@@ -11,6 +12,6 @@ invariant-loop-name g l = record {
   can : (goal.iterator-loop-name g).can_next l.name-iterator;
   finite : (goal.iterator-loop-name g).is_finite l.name-iterator;
   left : (left : _ → List (List ℕ)) → YieldsItemsLeft (goal.iterator-loop-name g).next_gives left → (form : Form) (t : Tree)
-      → HoldsTexts form l.fn.strings t
+      → Decodes form l.bytes t
       → HoldsTexts form l.texts t × (has_by l.found (left l.name-iterator) t ≡ has_by l.found (left l.fn.names) t);
 }
