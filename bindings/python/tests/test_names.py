@@ -18,7 +18,7 @@ RUST = os.path.join(BINDINGS, "rust", "sys", "src", "bindings.rs")
 RUST_TYPES = {
     "const uint8_t *": "*const u8", "const char *": "*const core::ffi::c_char", "const uint64_t *": "*const u64",
     "size_t": "usize", "size_t *": "*mut usize", "uint8_t *": "*mut u8", "char *": "*mut core::ffi::c_char", "uint64_t *": "*mut u64", "int64_t *": "*mut i64",
-    "int32_t": "i32", "int64_t": "i64", "uint64_t": "u64", "uint32_t": "u32", "uint8_t": "u8", "bool": "bool",
+    "int32_t": "i32", "int32_t *": "*mut i32", "int64_t": "i64", "uint64_t": "u64", "uint32_t": "u32", "uint8_t": "u8", "bool": "bool",
 }
 # Calls that the package does not make: it writes scalars itself, and reads objects as events.
 UNUSED = {
