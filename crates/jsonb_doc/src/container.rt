@@ -9,7 +9,9 @@ ghost use Rattle.jsonb_doc.specs.Private.Containers.{container_words, container_
 
 use crate::entry_iter::StoredEntry;
 use crate::error::Error;
-use crate::layout::{EntryKind, HeaderKind, WORD, split_entry_word, split_header};
+use crate::layout::{
+    EntryKind, HeaderKind, WORD, after_scalar_header, split_header, split_lone_entry,
+};
 use crate::lengths::skip_contents;
 
 /// The entry words of an array, and their contents.
@@ -90,15 +92,17 @@ pub fn read_container(bytes: &[u8]) -> Result<Container<'_>, Error>
         → IfOk result (λ found. container_words found ≡ 4 * entries) }
     ensures room { IfOk result (λ found. 4 + container_room found ≤ length bytes.now) }
 {
+    if let Some(rest) = after_scalar_header(bytes) {
+        return match lone_entry(rest) {
+            Some(entry) => Ok(Container::Scalar(entry)),
+            None => Err(Error::InvalidJsonb),
+        };
+    }
     let Some((kind, entries, rest)) = split_header(bytes) else {
         return Err(Error::InvalidJsonb);
     };
     let len = WORD * entries;
     match kind {
-        HeaderKind::Scalar if entries == 0 => match lone_entry(rest) {
-            Some(entry) => Ok(Container::Scalar(entry)),
-            None => Err(Error::InvalidJsonb),
-        },
         HeaderKind::Array if len <= rest.len() => {
             let (words, contents) = rest.split_at(len);
             Ok(Container::Array(ArrayParts { words, contents }))
@@ -123,9 +127,8 @@ fn lone_entry(bytes: &[u8]) -> Option<StoredEntry<'_>>
         ((kind : ℕ) (content : List ℕ) → IsLoneEntry bytes.now kind content → ⊥)
         (λ e. IsLoneEntry bytes.now (kind_number e.kind) e.content.now) }
 {
-    let (kind, len, content) = split_entry_word(bytes)?;
-    if kind == EntryKind::Container || len != content.len() {
-        return None;
+    match split_lone_entry(bytes)? {
+        (EntryKind::Container, _) => None,
+        (kind, content) => Some(StoredEntry { kind, content }),
     }
-    Some(StoredEntry { kind, content })
 }

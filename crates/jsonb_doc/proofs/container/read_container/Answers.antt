@@ -1,21 +1,21 @@
 use Rattle.std.proofs.Common.{arith, refl}
 use Rattle.jsonb_doc.proofs.Containers.{HasDocument-headed, document_scalar, array_long, object_long}
 use Rattle.jsonb_doc.proofs.container.read_container.Goals as goal
-use Rattle.jsonb_doc.proofs.container.read_container.Goals.{in_default-kind-via-in-Scalar+else-entries-eq0, in_default-kind-via-in-Array+else-len-rest, in_default-kind-via-in-Object+else-len-rest-2}
+use Rattle.jsonb_doc.proofs.container.read_container.Goals.{in_default-kind-via-in_default-kind, in_default-kind-via-in-Array+else-len-rest, in_default-kind-via-in-Object+else-len-rest-2}
 
-pub returns-in_default-clause-cut : goal.returns-in_default-clause-cut
-returns-in_default-clause-cut c = (
+pub returns-in_default-split_header-clause-cut : goal.returns-in_default-split_header-clause-cut
+returns-in_default-split_header-clause-cut c = (
   refl,
   λ r t d.
       let (kind, n, rest, headed) = HasDocument-headed r c.args.bytes.now (t, d) in
-      c.in_default.ensures kind n rest headed,
+      c.in_default-split_header.ensures kind n rest headed,
 )
 
 pub returns-in-None-clause-cut : goal.returns-in-None-clause-cut
 returns-in-None-clause-cut c = (
   refl,
   λ r t d.
-      let s = document_scalar r _ _ _ (rw c.in-Scalar.is at c.in-Some.ensures) t d in
+      let s = document_scalar r _ _ _ c.in-Some.ensures t d in
       c.in-None.ensures s.kind s.content s.lone,
 )
 
@@ -23,8 +23,8 @@ pub returns-in_default-kind-clause-cut : goal.returns-in_default-kind-clause-cut
 returns-in_default-kind-clause-cut c = (
   refl,
   λ r t d. elim c.in_default-kind.branch [
-    | in_default-kind-via-in-Scalar+else-entries-eq0 w ↦ w.if-entries-eq0.false (document_scalar r _ _ _ (rw w.in-Scalar.is at c.in-Some.ensures) t d).none
-    | in_default-kind-via-in-Array+else-len-rest w ↦ omega (arith, array_long r _ _ _ t d (rw w.in-Array.is at c.in-Some.ensures), w.if-len-rest.false)
-    | in_default-kind-via-in-Object+else-len-rest-2 w ↦ omega (arith, object_long r _ _ _ t d (rw w.in-Object.is at c.in-Some.ensures), w.if-len-rest-2.false)
+    | in_default-kind-via-in_default-kind w ↦ c.in_default.ensures _ (let h = rw w.in_default-kind.is at c.in-Some-split_header.ensures in rw (document_scalar r _ _ _ h t d).none at h)
+    | in_default-kind-via-in-Array+else-len-rest w ↦ omega (arith, array_long r _ _ _ t d (rw w.in-Array.is at c.in-Some-split_header.ensures), w.if-len-rest.false)
+    | in_default-kind-via-in-Object+else-len-rest-2 w ↦ omega (arith, object_long r _ _ _ t d (rw w.in-Object.is at c.in-Some-split_header.ensures), w.if-len-rest-2.false)
   ],
 )
