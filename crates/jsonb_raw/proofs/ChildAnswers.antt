@@ -15,6 +15,7 @@ use Rattle.jsonb_doc.specs.declared.item.Item.{Item}
 use Rattle.jsonb_doc.specs.declared.item.Item.TheVariants as item
 use Rattle.jsonb_doc.proofs.TreeLists.{trees_of-elements}
 use Rattle.jsonb_raw.specs.Places.{children, index_position}
+use Rattle.jsonb_raw.specs.Scalars.{is_object}
 use Rattle.jsonb_raw.specs.Children.{element_at, named_child, without_index, without_name}
 
 -- ---- arrays and objects by their items
@@ -58,6 +59,10 @@ without_none i ts is = rw is (ap (λ us. Some (array us)) (trees_of-elements ts)
 
 pub named_there : (name : List ℕ) (ignore : Bool) (t u : Tree) → field_of name t ≡ Some u → named_child name ignore t ≡ Some u
 named_there name ignore t u is = rw is refl
+
+pub no_member : (name : List ℕ) (t : Tree) → is_object t ≡ false → named_child name false t ≡ None
+no_member name (object ps) is = absurd (cc)
+no_member name t is = refl
 
 pub named_nowhere : (name : List ℕ) (t : Tree) → field_of name t ≡ None → named_child name false t ≡ None
 named_nowhere name t is = rw is refl

@@ -1,5 +1,5 @@
 -- What the loops of the set functions keep true.
-use Rattle.std.proofs.Common.{ap₂, ◌≡◌, ◌+◌, ◌<◌, ◌^◌, suc, Bool, true, false, ◌||◌, cond, List, [], ◌∷◌, ◌++◌, length, map, filter, Option, Some, None, inl, inr, refl, sym, ap, subst, ◌∙◌, append_assoc, append-nil, arith}
+use Rattle.std.proofs.Common.{ap₂, nat_lt, not, ℕ, ◌≡◌, ◌+◌, ◌<◌, ◌^◌, suc, Bool, true, false, ◌||◌, cond, List, [], ◌∷◌, ◌++◌, length, map, filter, Option, Some, None, inl, inr, refl, sym, ap, subst, ◌∙◌, append_assoc, append-nil, arith}
 use Rattle.std.specs.List.{AllByRecursion, list_any}
 use Rattle.jsonb_doc.specs.Tree.{Tree, array, object, Trees, no_trees, tree, elements, count, trees_of}
 use Rattle.jsonb_doc.specs.Payload.{Form, canonical}
@@ -16,7 +16,8 @@ use Rattle.jsonb_doc.proofs.LimitLemmas.{array_too_large-more}
 use Rattle.jsonb_raw.specs.Arrays.{as_elements}
 use Rattle.jsonb_doc.specs.Equal.{is_equal}
 use Rattle.jsonb_doc.specs.Proofs.Equality.{is_equal_equiv}
-use Rattle.jsonb_raw.specs.Sets.{Occurrence, occurrences, overlap}
+use Rattle.std.proofs.lemmas.List.Sums.{sum_by-cons}
+use Rattle.jsonb_raw.specs.Sets.{Occurrence, occurrences, overlap, count_of, intersection_of, difference_of}
 use Rattle.jsonb_raw.specs.Private.SetCounts.{keeps, kept_one, CountsAfter}
 use Rattle.jsonb_raw.specs.Private.Entries.{HoldTrees, AreElementsOf, RunsHold, IsFirst, TakesFirst, Holding}
 use Rattle.jsonb_doc.specs.declared.cursor.Entries.{Entries}
@@ -78,6 +79,28 @@ or_false false = refl
 pub overlap_one : (ts : List Tree) (u : Tree) → overlap ts (u ∷ []) ≡ list_any (is_equal u) ts
 overlap_one [] u = refl
 overlap_one (t ∷ ts) u = ap₂ (λ a b. a || b) (or_false (is_equal t u) ∙ is_equal_equiv.symm t u) (overlap_one ts u)
+
+-- ---- one element beside one other
+
+count_of_one : (t u : Tree) (b : Bool) → b ≡ is_equal u t → count_of t (u ∷ []) ≡ cond b 1 0 + 0
+count_of_one t u b e = sum_by-cons (λ x. cond (is_equal x t) 1 0) u [] ∙ ap (λ x. cond x 1 0 + 0) (sym e)
+
+-- a test for equality decides whether it is in the intersection
+pub shared_one : (t u : Tree) (b : Bool) → b ≡ is_equal u t → cond b (t ∷ []) [] ≡ intersection_of (t ∷ []) (u ∷ [])
+shared_one t u b e = by b (count_of t (u ∷ [])) (count_of_one t u b e)
+  where
+    by : (b : Bool) (n : ℕ) → n ≡ cond b 1 0 + 0 → cond b (t ∷ []) [] ≡ map (λ (o : Occurrence). o.1) (cond (nat_lt 0 n) (([], t) ∷ []) [])
+    by true n is = rw is refl
+    by false n is = rw is refl
+
+-- and in the difference
+pub unshared_one : (t u : Tree) (b : Bool) → b ≡ is_equal u t → cond (not b) (t ∷ []) [] ≡ difference_of (t ∷ []) (u ∷ [])
+unshared_one t u b e = by b (count_of t (u ∷ [])) (count_of_one t u b e)
+  where
+    by : (b : Bool) (n : ℕ) → n ≡ cond b 1 0 + 0
+        → cond (not b) (t ∷ []) [] ≡ map (λ (o : Occurrence). o.1) (cond (not (nat_lt 0 n)) (([], t) ∷ []) [])
+    by true n is = rw is refl
+    by false n is = rw is refl
 
 -- ---- what is kept
 

@@ -77,6 +77,19 @@ pub fn object_of(
     container_of(alloc, HeaderKind::Object, count, keys, values)
 }
 
+/// Returns the array of one run of entries.
+///
+/// # Complexity
+///
+/// O(n) for n bytes. Allocates once.
+pub fn array_of_run<'a>(alloc: Global, run: Entries<'a>) -> Result<OwnedJsonb, Error>
+    ensures array { (form : Form) (ts : List Tree) → HoldTrees form run.entry ts
+        → Makes form (array (trees_of ts)) result }
+    ensures errors { IfErr result (IsDecodingError or OutOfMemory or TooLarge) }
+{
+    array_of(alloc, &[run])
+}
+
 /// Returns the array of the entries of two runs.
 pub fn array_of_two<'a>(
     alloc: Global,

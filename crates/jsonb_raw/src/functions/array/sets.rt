@@ -1,6 +1,6 @@
 //! Arrays as sets. Elements are compared by their equality keys, or by value in functions that do not allocate.
 
-ghost use Rattle.std.specs.Prelude.{◌≡◌, ◌<◌, ◌^◌, List, [], ◌∷◌, ◌++◌, length, IsOkAnd, OnOk, IfErr, MatchResult};
+ghost use Rattle.std.specs.Prelude.{◌≡◌, ◌<◌, ◌^◌, List, [], ◌∷◌, ◌++◌, length, cond, IsOkAnd, IfSome, OnOk, IfErr, MatchResult};
 ghost use Rattle.std.specs.List.{AllByRecursion, list_any};
 ghost use Rattle.jsonb_doc.specs.Tree.{Tree, Trees, array, trees_of, elements as elements_of};
 ghost use Rattle.jsonb_doc.specs.Equal.{is_equal};
@@ -24,8 +24,8 @@ use super::overlap::entries_overlap;
 use crate::equal_items::items_equal;
 use crate::equality_key::{item_key, write_entry_key};
 use crate::functions::entries::element_entries;
-use crate::functions::joined::array_of;
-use crate::functions::parts::Entries;
+use crate::functions::joined::{array_of, array_of_run};
+use crate::functions::parts::{Entries, EntryWithWord};
 use crate::functions::runs::push_run;
 use crate::owned::OwnedJsonb;
 use crate::raw::RawJsonb;
@@ -195,6 +195,51 @@ fn count_document(alloc: Global, bytes: &[u8]) -> Result<KeyCounts, Error>
     }
 }
 
+/// Returns the root of a document if it is a scalar.
+fn scalar_root(bytes: &[u8]) -> Result<Option<Item<'_>>, Error>
+    ensures item { (form : Form) (t : Tree) → Decodes form bytes.now t
+        → IsOkAnd result (λ found. IfSome found (λ item. StandsFor form item t × (as_elements t ≡ t ∷ []))) }
+    ensures errors { IfErr result IsDecodingError }
+{
+    match root_item(bytes)? {
+        Item::Array(_) | Item::Object(_) => Ok(None),
+        item => Ok(Some(item)),
+    }
+}
+
+/// Returns whether a scalar is among the elements of another document, or `None` if one of them is not a scalar.
+///
+/// Two scalars are compared without keys and counts, whose allocations take most of the instructions of the set
+/// functions on them.
+fn scalars_equal(bytes: &[u8], other: &[u8]) -> Result<Option<bool>, Error>
+    ensures equal { (form other_form : Form) (t u : Tree) → Decodes form bytes.now t
+        → Decodes other_form other.now u
+        → IsOkAnd result (λ found. IfSome found (λ b. (as_elements t ≡ t ∷ []) × (as_elements u ≡ u ∷ [])
+        × (b ≡ is_equal u t))) }
+    ensures errors { IfErr result IsDecodingError }
+{
+    let Some(wanted) = scalar_root(other)? else {
+        return Ok(None);
+    };
+    let Some(item) = scalar_root(bytes)? else {
+        return Ok(None);
+    };
+    Ok(Some(items_equal(&wanted, &item)?))
+}
+
+/// Returns the array of the document as its one element if it is kept, otherwise the empty array.
+fn array_of_root(alloc: Global, bytes: &[u8], is_kept: bool) -> Result<OwnedJsonb, Error>
+    ensures made { (form : Form) (t : Tree) → Decodes form bytes.now t
+        → Makes form (array (trees_of (cond is_kept (t ∷ []) []))) result }
+    ensures errors { IfErr result (IsDecodingError or OutOfMemory or TooLarge) }
+{
+    if !is_kept {
+        return array_of(alloc, &[]);
+    }
+    let root = EntryWithWord::of_root(bytes)?;
+    array_of_run(alloc, root.as_entries())
+}
+
 /// Returns `true` if an element equals the item by value.
 fn has_element(found: ElementIter<'_>, item: &Item<'_>) -> Result<bool, Error>
     ensures has { (form other_form : Form) (ts : Trees) (t : Tree) → HasElementsLeft form found.entry ts
@@ -253,12 +298,11 @@ impl RawJsonb<'_> {
             → Makes form (array (trees_of (distinct (as_elements t)))) result }
         ensures errors { IfErr result (IsDecodingError or OutOfMemory or TooLarge) }
     {
-        kept_of_document(
-            alloc,
-            SetOperation::First,
-            KeyCounts::new(alloc),
-            self.as_bytes(),
-        )
+        let bytes = self.as_bytes();
+        match scalar_root(bytes)? {
+            Some(_) => array_of_root(alloc, bytes, true),
+            None => kept_of_document(alloc, SetOperation::First, KeyCounts::new(alloc), bytes),
+        }
     }
 
     /// Returns the array of the elements that the other document has too, in order.
@@ -297,8 +341,12 @@ impl RawJsonb<'_> {
             → Makes form (array (trees_of (intersection_of (as_elements t) (as_elements u)))) result }
         ensures errors { IfErr result (IsDecodingError or OutOfMemory or TooLarge) }
     {
-        let counts = count_document(alloc, other.as_bytes())?;
-        kept_of_document(alloc, SetOperation::Shared, counts, self.as_bytes())
+        let (bytes, others) = (self.as_bytes(), other.as_bytes());
+        if let Some(is_shared) = scalars_equal(bytes, others)? {
+            return array_of_root(alloc, bytes, is_shared);
+        }
+        let counts = count_document(alloc, others)?;
+        kept_of_document(alloc, SetOperation::Shared, counts, bytes)
     }
 
     /// Returns the array of the elements that `array_intersection` drops, in order.
@@ -328,8 +376,12 @@ impl RawJsonb<'_> {
             → Makes form (array (trees_of (difference_of (as_elements t) (as_elements u)))) result }
         ensures errors { IfErr result (IsDecodingError or OutOfMemory or TooLarge) }
     {
-        let counts = count_document(alloc, other.as_bytes())?;
-        kept_of_document(alloc, SetOperation::Unshared, counts, self.as_bytes())
+        let (bytes, others) = (self.as_bytes(), other.as_bytes());
+        if let Some(is_shared) = scalars_equal(bytes, others)? {
+            return array_of_root(alloc, bytes, !is_shared);
+        }
+        let counts = count_document(alloc, others)?;
+        kept_of_document(alloc, SetOperation::Unshared, counts, bytes)
     }
 
     /// Returns `true` if an element equals one of the other document by value.

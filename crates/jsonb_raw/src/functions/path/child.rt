@@ -2,7 +2,7 @@
 //!
 //! On bytes that do not decode each function returns; its result is not specified.
 
-ghost use Rattle.std.specs.Prelude.{◌≡◌, ◌↔◌, ℕ, List, not, true, None, Ok, filter, map, length, IsTrue, IfErr, IsOkAnd, MatchResult, MatchOption, Err, OnOk};
+ghost use Rattle.std.specs.Prelude.{◌≡◌, ◌↔◌, ℕ, List, not, true, false, None, Ok, filter, map, length, IsTrue, IfErr, IsOkAnd, MatchResult, MatchOption, Err, OnOk};
 ghost use Rattle.std.specs.List.{remove};
 ghost use Rattle.std.specs.Map.{keys_of};
 ghost use Rattle.std.specs.Str.{bytes_eq};
@@ -20,6 +20,7 @@ ghost use Rattle.jsonb_raw.specs.Places.{index_position};
 ghost use Rattle.jsonb_raw.specs.Children.{element_at, named_child, without_index, without_name};
 ghost use Rattle.jsonb_raw.specs.Private.NamePositions.{position_in_some_case};
 ghost use Rattle.jsonb_raw.specs.Exists.{is_text};
+ghost use Rattle.jsonb_raw.specs.Scalars.{is_object};
 
 use super::nth_child;
 use crate::functions::entries::{around_entries, element_entries, entry_count, entry_document};
@@ -29,7 +30,8 @@ use crate::functions::runs::{name_position, pair_entries};
 use crate::owned::OwnedJsonb;
 use crate::raw::RawJsonb;
 use jsonb_doc::{
-    ArrayBuilder, Error, Item, Shape, array_elements, field_spot, root_item, root_shape, root_spot,
+    ArrayBuilder, Container, Error, Item, Shape, array_elements, field_spot, read_container,
+    root_item, root_shape, root_spot,
 };
 use std::alloc::Global;
 
@@ -123,11 +125,10 @@ impl RawJsonb<'_> {
         if ignore_case {
             return value_ignoring_case(alloc, bytes, name);
         }
-        let root = root_spot(bytes)?;
-        match field_spot(bytes, root, name)? {
-            Some(spot) => Ok(Some(OwnedJsonb::from_spot(alloc, bytes, spot)?)),
-            None => Ok(None),
+        if !is_object(bytes)? {
+            return Ok(None);
         }
+        value_of_key(alloc, bytes, name)
     }
 
     /// Returns the array without the element at an index, which counts from the end if negative.
@@ -229,6 +230,31 @@ fn eq_ignore_ascii_case(key: &[u8], name: &[u8]) -> bool
     ensures test { IsTrue result ↔ (map to_ascii_lowercase key.now ≡ map to_ascii_lowercase name.now) }
 {
     same_len_and_last_byte(key, name) && key.eq_ignore_ascii_case(name)
+}
+
+/// Returns `true` if the root is an object. Only its header is read, and the entry word of a scalar.
+#[inline(always)]
+fn is_object(bytes: &[u8]) -> Result<bool, Error>
+    ensures kind { (form : Form) (t : Tree) → Decodes form bytes.now t → IsOkAnd result (λ b. b ≡ is_object t) }
+    ensures errors { IfErr result IsDecodingError }
+{
+    Ok(matches!(read_container(bytes)?, Container::Object(_)))
+}
+
+/// Returns the value of the key. Out of line, since its registers would be saved in calls on other roots too.
+#[inline(never)]
+fn value_of_key(alloc: Global, bytes: &[u8], name: &str) -> Result<Option<OwnedJsonb>, Error>
+    ensures value { (form : Form) (t : Tree) → Decodes form bytes.now t
+        → MakesOption form (named_child name.now false t) result }
+    ensures none { (form : Form) (t : Tree) → Decodes form bytes.now t → named_child name.now false t ≡ None
+        → result ≡ Ok None }
+    ensures errors { IfErr result (IsDecodingError or OutOfMemory or TooLarge) }
+{
+    let root = root_spot(bytes)?;
+    match field_spot(bytes, root, name)? {
+        Some(spot) => Ok(Some(OwnedJsonb::from_spot(alloc, bytes, spot)?)),
+        None => Ok(None),
+    }
 }
 
 /// Returns the position of the first of the entries, which are strings, that is this name, otherwise of the first that
