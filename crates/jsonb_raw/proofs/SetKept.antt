@@ -80,7 +80,7 @@ pub overlap_one : (ts : List Tree) (u : Tree) → overlap ts (u ∷ []) ≡ list
 overlap_one [] u = refl
 overlap_one (t ∷ ts) u = ap₂ (λ a b. a || b) (or_false (is_equal t u) ∙ is_equal_equiv.symm t u) (overlap_one ts u)
 
--- ---- one element beside one other
+-- ---- two lists of one element
 
 count_of_one : (t u : Tree) (b : Bool) → b ≡ is_equal u t → count_of t (u ∷ []) ≡ cond b 1 0 + 0
 count_of_one t u b e = sum_by-cons (λ x. cond (is_equal x t) 1 0) u [] ∙ ap (λ x. cond x 1 0 + 0) (sym e)
