@@ -1,7 +1,7 @@
 -- Values that are numbers, and the results of arithmetic.
 use Rattle.std.specs.Prelude.{◌+ℤ◌, ◌-ℤ◌, ◌*ℤ◌, int_div, int_rem, nat_lt, ◌||◌, ◌^◌}
 use Rattle.std.proofs.Common.{◌≡◌, zero, suc, ℤ, pos, negsuc, Bool, true, false, if◌then◌else◌, IfOk, IfErr, subst, List, [], ◌∷◌, ◌++◌, Some, Ok, Err, IsOkAnd, refl, sym, ap, ◌∙◌, inl, inr}
-use Rattle.jsonb_doc.specs.Answer.{Outcome, Gives, and_then, try_flat_map, IsOutOfMemory}
+use Rattle.jsonb_doc.specs.Answer.{Outcome, Refines, and_then, try_flat_map, IsOutOfMemory}
 use Rattle.jsonb_doc.specs.Arithmetic as op
 use Rattle.jsonb_doc.specs.Arithmetic.{Operation, calculated, integer, on_integers, IsResultOf}
 use Rattle.jsonb_doc.specs.Number.{Number, number_from, int64, uint64}
@@ -18,10 +18,10 @@ use Rattle.jsonb.specs.Private.Selection.{only_number, are_numbers, signed_value
 use Rattle.jsonb.specs.SelectionErrors.{IsPathError, IsSelectionError}
 use Rattle.jsonb.specs.Values.{Value, number}
 use Rattle.jsonb.specs.declared.selector.document.Mode.{Mode}
-use Rattle.jsonb.proofs.GivesLemmas.{AllZip-append}
+use Rattle.jsonb.proofs.RefinesLemmas.{AllZip-append}
 
 -- what never fails for lack of memory
-pub as_memory : {A B : Type 0} {R : A → B → Type 0} {r : Outcome A} {o : Outcome B} → Gives R (λ _. ⊥) r o → Gives R IsOutOfMemory r o
+pub as_memory : {A B : Type 0} {R : A → B → Type 0} {r : Outcome A} {o : Outcome B} → Refines R (λ _. ⊥) r o → Refines R IsOutOfMemory r o
 as_memory {r = Ok x} h = record { ok = h.ok; err = tt }
 as_memory {r = Err e} h = record { ok = tt; err = inr (elim h.err [ inl none ↦ absurd none | inr is ↦ is ]) }
 
@@ -92,7 +92,7 @@ module _ (mode : Mode) where
   refused_as_path (Ok x) h = tt
   refused_as_path (Err e) h = inr h
 
-outcome_given : (o : Outcome Number) (r : Outcome CodeNumber) → IfOk o IsNormal → IsResultOf o r → Gives IsNumberTree (λ _. ⊥) r (number_list o)
+outcome_given : (o : Outcome Number) (r : Outcome CodeNumber) → IfOk o IsNormal → IsResultOf o r → Refines IsNumberTree (λ _. ⊥) r (number_list o)
 outcome_given o (Ok n) normal is = record { ok = rw is (ap (λ k. tree.number k ∷ []) (rw is at normal)); err = tt }
 outcome_given o (Err e) normal is = record { ok = tt; err = inr (rw is refl) }
 
@@ -109,7 +109,7 @@ two_are o ls rs m n p q = λ i. two_numbers o (lone_is ls m (sym p) i) (lone_is 
 -- two operands of one number each
 pub two_given : (o : Operation) (ls rs : List Value) (m n : CodeNumber) (r : Outcome CodeNumber) → Some (number_view m) ≡ only_number ls
     → Some (number_view n) ≡ only_number rs
-    → IsResultOf (calculated o (number_view m) (number_view n)) r → Gives IsNumberTree (λ _. ⊥) r (two_numbers o ls rs)
+    → IsResultOf (calculated o (number_view m) (number_view n)) r → Refines IsNumberTree (λ _. ⊥) r (two_numbers o ls rs)
 two_given o ls rs m n r p q is = rw (two_are o ls rs _ _ p q) (outcome_given _ r (calculated_normal o (number_view m) (number_view n)) is)
 
 -- ---- values after a sign

@@ -20,7 +20,7 @@ use Rattle.jsonb.specs.declared.selector.document.Expressions.TheVariants.{AreRe
 use Rattle.jsonb.specs.declared.selector.document.Mode.{Mode}
 use Rattle.jsonb.specs.declared.selector.document.Mode.TheVariants.{Lax}
 use Rattle.jsonb.specs.declared.selector.plan.MemberCompared.{MemberCompared}
-use Rattle.jsonb.proofs.GivesLemmas.{with_ok}
+use Rattle.jsonb.proofs.RefinesLemmas.{with_ok}
 use Rattle.jsonb.proofs.MemberLemmas.{both_true}
 use Rattle.jsonb.proofs.SelectedParts.{related_more}
 use Rattle.jsonb.proofs.StepLemmas.{refused_steps}

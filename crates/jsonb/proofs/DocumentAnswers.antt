@@ -1,7 +1,7 @@
 -- From the documents that are made of a selection to what a call returns.
 use Rattle.std.proofs.Common.{◌≡◌, List, Option, Some, None, Result, Ok, Err, ◌⊎◌, inl, inr, subst, sym, IsOkAnd}
 use Rattle.std.specs.Prelude.{IsSomeAnd}
-use Rattle.jsonb_doc.specs.Answer.{Outcome, Gives, IsOutOfMemory, ◌or◌when◌, SameOption}
+use Rattle.jsonb_doc.specs.Answer.{Outcome, Refines, IsOutOfMemory, ◌or◌when◌, SameOption}
 use Rattle.jsonb_doc.specs.Format.{Decodes}
 use Rattle.jsonb_doc.specs.Limits.{IsTooLarge}
 use Rattle.jsonb_doc.specs.Payload.{Form}
@@ -14,7 +14,7 @@ use Rattle.jsonb.specs.SelectorAnswers.{array_of}
 
 -- one array of the list
 pub array_handed : (form : Form) (ts : List Tree) (r : Result OwnedJsonb Error) → Makes form (array_of ts) r
-    → Gives (λ made us. Decodes form made (array_of us)) (IsOutOfMemory or TooLarge when IsTooLarge form (array_of ts)) r (Ok ts)
+    → Refines (λ made us. Decodes form made (array_of us)) (IsOutOfMemory or TooLarge when IsTooLarge form (array_of ts)) r (Ok ts)
 array_handed form ts (Ok made) h = record { ok = h; err = tt }
 array_handed form ts (Err e) (inl memory) = record { ok = tt; err = inl (inl memory) }
 array_handed form ts (Err e) (inr large) = record { ok = tt; err = inl (inr large) }
@@ -32,28 +32,28 @@ past_of form (Some t) e h = h
 
 -- the tree that is picked of the list, if there is one
 pub option_handed : (form : Form) (pick : List Tree → Option Tree) (ts : List Tree) (r : Result (Option OwnedJsonb) Error) → MakesOption form (pick ts) r
-    → Gives (λ found us. SameOption (Decodes form) found (pick us)) (IsOutOfMemory or TooLarge when IsSomeAnd (pick ts) (IsTooLarge form)) r (Ok ts)
+    → Refines (λ found us. SameOption (Decodes form) found (pick us)) (IsOutOfMemory or TooLarge when IsSomeAnd (pick ts) (IsTooLarge form)) r (Ok ts)
 option_handed form pick ts (Ok found) h = record { ok = document_of form (pick ts) found h; err = tt }
 option_handed form pick ts (Err e) h = record { ok = tt; err = inl (past_of form (pick ts) e h) }
 
 -- by the list of a path: what is selected stands for its list
 pub handed_by : {A C D : Type 0} {Q : C → D → Type 0} {R : A → D → Type 0} (IsPastLimits : D → Type 0) {c : C} {r : Outcome A} {o : Outcome D}
-    → Gives Q IsOutOfMemory (Ok c) o → ((x : D) → Q c x → Gives R (IsOutOfMemory or TooLarge when IsPastLimits x) r (Ok x))
-    → Gives R (IsOutOfMemory or TooLarge when IsOkAnd o IsPastLimits) r o
+    → Refines Q IsOutOfMemory (Ok c) o → ((x : D) → Q c x → Refines R (IsOutOfMemory or TooLarge when IsPastLimits x) r (Ok x))
+    → Refines R (IsOutOfMemory or TooLarge when IsOkAnd o IsPastLimits) r o
 handed_by IsPastLimits {o = Ok x} h go = go x h.ok
 handed_by IsPastLimits {o = Err e} h go = absurd h.ok
 
 -- the path fails, or an allocation failed during its evaluation
 pub handed_refused : {A C D : Type 0} {Q : C → D → Type 0} (R : A → D → Type 0) (IsPastLimits : D → Type 0) {e : Error} {o : Outcome D}
-    → Gives Q IsOutOfMemory (Err e) o → Gives R (IsOutOfMemory or TooLarge when IsOkAnd o IsPastLimits) (Err e) o
+    → Refines Q IsOutOfMemory (Err e) o → Refines R (IsOutOfMemory or TooLarge when IsOkAnd o IsPastLimits) (Err e) o
 handed_refused R IsPastLimits h = record { ok = tt; err = elim h.err [ inl memory ↦ inl (inl memory) | inr is ↦ inr is ] }
 
 -- likewise for an equal result
 pub handed_same : {A B : Type 0} (R : A → B → Type 0) (IsPastLimits : B → Type 0) {r s : Outcome A} {o : Outcome B} → s ≡ r
-    → Gives R (IsOutOfMemory or TooLarge when IsOkAnd o IsPastLimits) r o → Gives R (IsOutOfMemory or TooLarge when IsOkAnd o IsPastLimits) s o
-handed_same R IsPastLimits {o = o} is h = subst (λ z. Gives R (IsOutOfMemory or TooLarge when IsOkAnd o IsPastLimits) z o) (sym is) h
+    → Refines R (IsOutOfMemory or TooLarge when IsOkAnd o IsPastLimits) r o → Refines R (IsOutOfMemory or TooLarge when IsOkAnd o IsPastLimits) s o
+handed_same R IsPastLimits {o = o} is h = subst (λ z. Refines R (IsOutOfMemory or TooLarge when IsOkAnd o IsPastLimits) z o) (sym is) h
 
 pub handed_error : {A C D : Type 0} {Q : C → D → Type 0} (R : A → D → Type 0) (IsPastLimits : D → Type 0) {s : Outcome A} {e : Error} {o : Outcome D} → s ≡
     Err e
-    → Gives Q IsOutOfMemory (Err e) o → Gives R (IsOutOfMemory or TooLarge when IsOkAnd o IsPastLimits) s o
+    → Refines Q IsOutOfMemory (Err e) o → Refines R (IsOutOfMemory or TooLarge when IsOkAnd o IsPastLimits) s o
 handed_error R IsPastLimits is h = handed_same R IsPastLimits is (handed_refused R IsPastLimits h)

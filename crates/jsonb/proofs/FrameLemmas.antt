@@ -6,7 +6,7 @@ use Rattle.std.proofs.lemmas.Option.{same_Some}
 use Rattle.jsonb_keypath.specs.Rules.{Parsed, Rule, give, ◌>>=◌, ◌>>◌, parsed_map, bytes, literal, repeat}
 use Rattle.jsonb_keypath.specs.Tokens.{ws, past, is_space}
 use Rattle.jsonb_keypath.specs.TokenLaws.{ReadsSome}
-use Rattle.jsonb_keypath.specs.Views.{read_as, LeavesLess}
+use Rattle.jsonb_keypath.specs.Views.{read_as, ConsumesInput}
 use Rattle.jsonb.specs.declared.path.Expr.{Expr as CodeExpr}
 use Rattle.jsonb_keypath.proofs.ReadsLemmas.{NeverGrows, some-then, some-no_more}
 use Rattle.jsonb_keypath.proofs.RepeatLemmas.{repeat-goes, repeat-ends, behind, loop-goes, loop-ends}
@@ -449,7 +449,7 @@ unfolding expression
 shorter-expression f input e rest reads = some-nested_or (length input + 1) f input e rest reads
 
 pub less_left : {E : Type 0} (f : Bool) (input : List ℕ) (r : Result (Option (CodeExpr × Bor (List ℕ))) E) →
-    IfOk r (λ found. read_as expression_view found ≡ expression f input) → IfOk r (LeavesLess input)
+    IfOk r (λ found. read_as expression_view found ≡ expression f input) → IfOk r (ConsumesInput input)
 less_left f input (Ok None) h = tt
 less_left f input (Ok (Some p)) h = shorter-expression f input (expression_view p.0) p.1.now (sym h)
 less_left f input (Err e) h = tt

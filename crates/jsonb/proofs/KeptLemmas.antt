@@ -2,7 +2,7 @@
 use Rattle.std.proofs.Common.{◌≡◌, Vec, Box, Global, ℕ, ◌≤◌, ◌+◌, zero, suc, List, [], ◌∷◌, ◌++◌, length, drop, true, Some, None, Ok, Err, IsOkAnd, OnOk, arith, refl, sym, ap, ◌∙◌, subst, inl, inr, add-one}
 use Rattle.std.specs.List.{slice_get}
 use Rattle.std.proofs.lemmas.Option.{slice_get_cases}
-use Rattle.jsonb_doc.specs.Answer.{Outcome, and_then, Gives, IsOutOfMemory}
+use Rattle.jsonb_doc.specs.Answer.{Outcome, and_then, Refines, IsOutOfMemory}
 use Rattle.jsonb_doc.specs.Tree.{Tree}
 use Rattle.jsonb.specs.PathTree as math
 use Rattle.jsonb.specs.PathTree.{Expression}
@@ -121,10 +121,10 @@ pub value_is : {A : Type 0} {x : A} {o : Outcome A} → IsOkAnd o (λ y. x ≡ y
 value_is {o = Ok y} h = ap Ok (sym h)
 value_is {o = Err e} h = absurd h
 
-pub value_of : {A B : Type 0} (f : A → B) {x : A} {o : Outcome B} → Gives (λ v y. f v ≡ y) IsOutOfMemory (Ok x) o → o ≡ Ok (f x)
+pub value_of : {A B : Type 0} (f : A → B) {x : A} {o : Outcome B} → Refines (λ v y. f v ≡ y) IsOutOfMemory (Ok x) o → o ≡ Ok (f x)
 value_of f h = value_is h.ok
 
-pub known : {A B : Type 0} {R : A → B → Type 0} {x : A} {y : B} {o : Outcome B} → o ≡ Ok y → R x y → Gives R IsOutOfMemory (Ok x) o
+pub known : {A B : Type 0} {R : A → B → Type 0} {x : A} {y : B} {o : Outcome B} → o ≡ Ok y → R x y → Refines R IsOutOfMemory (Ok x) o
 known {R = R} {x = x} is h = record { ok = subst (λ z. IsOkAnd z (R x)) (sym is) h; err = tt }
 
 -- the values of both operands
@@ -160,7 +160,7 @@ pub from_ok : {A : Type 0} (P : Type 0) (R : A → Type 0) (o : Outcome A) → I
 from_ok P R (Ok c) h = h.1
 from_ok P R (Err e) h = absurd h
 
-pub without : {A B : Type 0} {R : A → B → Type 0} {x : A} (P : Type 0) (o : Outcome B) → IsOkAnd o (λ c. R x c × P) → Gives R IsOutOfMemory (Ok x) o
+pub without : {A B : Type 0} {R : A → B → Type 0} {x : A} (P : Type 0) (o : Outcome B) → IsOkAnd o (λ c. R x c × P) → Refines R IsOutOfMemory (Ok x) o
 without P (Ok c) h = record { ok = h.0; err = tt }
 without P (Err e) h = absurd h
 

@@ -56,7 +56,7 @@ pub mod EqualSteps
 pub mod EqualPrinted
 pub mod DocumentLemmas
 mod EqualRows
-pub mod GivesLemmas
+pub mod RefinesLemmas
 pub mod DocumentAnswers
 pub mod TextLemmas
 pub mod GrammarRows

@@ -4,7 +4,7 @@ use Rattle.std.proofs.Math.Bool.{beq}
 use Rattle.std.proofs.lemmas.Grind.{flat_map-append}
 use Rattle.std.specs.Option.{option_eq}
 use Rattle.std.specs.Prelude.{not}
-use Rattle.jsonb_doc.specs.Answer.{Outcome, and_then, try_flat_map, Gives, IsOutOfMemory}
+use Rattle.jsonb_doc.specs.Answer.{Outcome, and_then, try_flat_map, Refines, IsOutOfMemory}
 use Rattle.jsonb_doc.specs.Tree.{Tree}
 use Rattle.jsonb_doc.specs.declared.error.Error.{Error}
 use Rattle.jsonb.specs.PathTree as math
@@ -150,12 +150,12 @@ module _ (c : MemberCompared) where
         ∙ stops_at _ _ b (members_total (steps_view c.names.now) top rest k.members) (sym (k.compares Lax top u) ∙ is) decides
 
     -- for one item only an allocation fails
-    pub list_refused : {r : Error} {o : Outcome Truth} (u : Tree) → Gives {A = Truth} (λ b d. b ≡ d) IsOutOfMemory (Err r) (truth Lax e top u)
-        → Gives {A = Truth} (λ b d. b ≡ d) IsOutOfMemory (Err r) o
+    pub list_refused : {r : Error} {o : Outcome Truth} (u : Tree) → Refines {A = Truth} (λ b d. b ≡ d) IsOutOfMemory (Err r) (truth Lax e top u)
+        → Refines {A = Truth} (λ b d. b ≡ d) IsOutOfMemory (Err r) o
     list_refused {r = r} {o = o} u h = go (truth Lax e top u) (comparison_total c e top u k) h
       where
-        go : (p : Outcome Truth) → IsOkAnd p Any → Gives {A = Truth} (λ b d. b ≡ d) IsOutOfMemory (Err r) p
-            → Gives {A = Truth} (λ b d. b ≡ d) IsOutOfMemory (Err r) o
+        go : (p : Outcome Truth) → IsOkAnd p Any → Refines {A = Truth} (λ b d. b ≡ d) IsOutOfMemory (Err r) p
+            → Refines {A = Truth} (λ b d. b ≡ d) IsOutOfMemory (Err r) o
         go (Ok b) t h = record { ok = tt; err = elim h.err [ inl memory ↦ inl memory | inr is ↦ cc ] }
         go (Err e) t h = absurd t
 

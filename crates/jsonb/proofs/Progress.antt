@@ -2,7 +2,7 @@
 use Rattle.std.proofs.Common.{◌≡◌, List, [], ◌∷◌, ◌++◌, Some, None, Result, Ok, Err, IsOkAnd, refl, inl, inr, subst, sym, ap, ◌∙◌, append_assoc, append-nil, ◌⊎◌, ℕ, ◌+◌, ◌<◌, ◌≤◌, length, drop, get_or, add-one, flat_map}
 use Rattle.std.proofs.Math.Seq.{drop-cons}
 use Rattle.std.proofs.Math.ListN.{drop_of_length-le}
-use Rattle.jsonb_doc.specs.Answer.{Outcome, and_then, try_flat_map, Gives, IsOutOfMemory}
+use Rattle.jsonb_doc.specs.Answer.{Outcome, and_then, try_flat_map, Refines, IsOutOfMemory}
 use Rattle.jsonb_doc.specs.declared.error.Error.{Error}
 use Rattle.jsonb_doc.specs.declared.error.Error.TheVariants.{OutOfMemory}
 use Rattle.jsonb_doc.specs.declared.layout.EntryKind.TheVariants as kind
@@ -71,13 +71,13 @@ module _ {B C : Type 0} (f : B → Outcome (List C)) where
   pub refused_in : {G : Type 0} (Q : G → List C → Type 0) (Left Left' : List B → Type 0) (Done Done' : List C → Type 0) (P : B → Type 0) (e : Error)
       (outcome : Outcome (List C)) → Progress Left Done f outcome →
       ((rest : List B) → Left rest → First Left' P rest)
-      → ((t : B) (before : List C) → P t → Done before → Gives (λ (_ : Unit {0}) us. Done' (before ++ us)) IsOutOfMemory (Err e) (f t))
-      → Gives Q IsOutOfMemory (Err e) outcome
+      → ((t : B) (before : List C) → P t → Done before → Refines (λ (_ : Unit {0}) us. Done' (before ++ us)) IsOutOfMemory (Err e) (f t))
+      → Refines Q IsOutOfMemory (Err e) outcome
   refused_in Q Left Left' Done Done' P e outcome p first one =
       let k = first p.rest p.left in go k.first k.others ((one k.first p.given k.holds p.done).err) (p.is ∙ ap (λ l. behind p.given (try_flat_map f l)) k.whole)
     where
       go : (t : B) (rest : List B) → (e ≡ OutOfMemory) ⊎ (f t ≡ Err e) → outcome ≡ behind p.given (try_flat_map f (t ∷ rest))
-          → Gives Q IsOutOfMemory (Err e) outcome
+          → Refines Q IsOutOfMemory (Err e) outcome
       go t rest (inl memory) is = record { ok = tt; err = inl memory }
       go t rest (inr refusal) is = record {
         ok = tt;
@@ -149,8 +149,8 @@ module _ (f : Tree → Outcome (List Tree)) (bytes : List ℕ) (spots : List Spo
 
     pub spot_not_passed : {G : Type 0} (Q : G → List Tree → Type 0) (e : Error) → i < length spots
         → ((t : Tree) (before : List Tree) → Locates bytes (get_or spots i no_spot) t → AllZip (Locates bytes) found before
-        → Gives (λ (_ : Unit {0}) us. AllZip (Locates bytes) found' (before ++ us)) IsOutOfMemory (Err e) (f t))
-        → Gives Q IsOutOfMemory (Err e) (try_flat_map f ts)
+        → Refines (λ (_ : Unit {0}) us. AllZip (Locates bytes) found' (before ++ us)) IsOutOfMemory (Err e) (f t))
+        → Refines Q IsOutOfMemory (Err e) (try_flat_map f ts)
     spot_not_passed Q e less one =
         refused_in f Q (AllZip (Locates bytes) (drop i spots)) (AllZip (Locates bytes) (drop (i + 1) spots)) (AllZip (Locates bytes) found)
         (AllZip (Locates bytes) found') _ e _ passed (list_first (Locates bytes) spots i no_spot less) one

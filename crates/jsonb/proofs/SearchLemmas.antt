@@ -3,7 +3,7 @@
 use Rattle.std.proofs.Common.{◌≡◌, ℕ, ◌+◌, ◌^◌, ◌<◌, List, [], ◌∷◌, ◌++◌, length, take, get_or, map, inl, inr, Bool, Option, Some, None, is_some, Result, Ok, Err, IsOkAnd, refl, sym, ap, subst, ◌∙◌, arith, append-nil}
 use Rattle.std.specs.Prelude.{reverse}
 use Rattle.std.proofs.lemmas.List.{map-append, reverse-append, take_more}
-use Rattle.jsonb_doc.specs.Answer.{Outcome, and_then, Gives, SameOption, IsOutOfMemory}
+use Rattle.jsonb_doc.specs.Answer.{Outcome, and_then, Refines, SameOption, IsOutOfMemory}
 use Rattle.jsonb_doc.specs.Payload.{Form}
 use Rattle.jsonb_doc.specs.Spots.{Locates}
 use Rattle.jsonb_doc.specs.Tree.{Tree}
@@ -35,7 +35,7 @@ use Rattle.jsonb.specs.declared.selector.node_list.NodeList.{NodeList}
 use Rattle.jsonb.specs.declared.selector.selected.Selected.{Selected}
 use Rattle.jsonb.specs.declared.selector.selected.Selected.TheVariants as selected
 use Rattle.jsonb.proofs.ComparedLemmas.{Any, AreTotal, listed_total, member_total, steps_total}
-use Rattle.jsonb.proofs.GivesLemmas.{with_ok, continued}
+use Rattle.jsonb.proofs.RefinesLemmas.{with_ok, continued}
 use Rattle.jsonb.proofs.ListLemmas.{both_lists, none_in_front, both_lists-assoc, steps_in_parts}
 use Rattle.jsonb.proofs.MemberLemmas.{none_left, no_member, one_member}
 use Rattle.jsonb.proofs.Progress.{First}
@@ -61,7 +61,7 @@ all_searched (x ∷ xs) [] h = absurd h
 all_searched (x ∷ xs) (s ∷ ss) h = (λ top t. searched_total x s top t h.0, all_searched xs ss h.1)
 
 -- if there is a value, only an allocation fails
-pub memory_alone : {A : Type 0} {R : A → List Tree → Type 0} {e : Error} (o : Outcome (List Tree)) → IsOkAnd o Any → Gives R IsOutOfMemory (Err e) o
+pub memory_alone : {A : Type 0} {R : A → List Tree → Type 0} {e : Error} (o : Outcome (List Tree)) → IsOkAnd o Any → Refines R IsOutOfMemory (Err e) o
     → IsOutOfMemory e
 memory_alone (Ok us) a h = elim h.err [ inl memory ↦ memory | inr is ↦ cc ]
 memory_alone (Err e) a h = absurd a
@@ -145,7 +145,7 @@ given_one bytes g x us is h = one_member (Locates bytes) (Some x) x us refl (sub
 
 -- one item at most is all that the steps lead to
 pub found_at_most : (bytes : List ℕ) (found : Option Spot) (us : List Tree) (o : Outcome (List Tree)) → AllZip (Locates bytes) (option_spots found) us
-    → o ≡ Ok us → Gives {A = Option Spot} (λ f ts. SameOption (Locates bytes) f (first_item ts)) IsOutOfMemory (Ok found) o
+    → o ≡ Ok us → Refines {A = Option Spot} (λ f ts. SameOption (Locates bytes) f (first_item ts)) IsOutOfMemory (Ok found) o
 found_at_most bytes found us o h is = record {
   ok = subst (λ z. IsOkAnd z (λ ts. SameOption (Locates bytes) found (first_item ts))) (sym is)
       (go found us h);
@@ -310,8 +310,8 @@ same_some (u ∷ us) (t ∷ ts) h = refl
 
 -- whether it is there
 pub found_any : (R : Spot → Tree → Type 0) (found : Option Spot) (b : Bool) (o : Outcome (List Tree)) → b ≡ is_some found
-    → Gives {A = Option Spot} (λ f us. SameOption R f (first_item us)) IsOutOfMemory (Ok found) o
-    → Gives {A = Bool} (λ c us. c ≡ is_some_item us) IsOutOfMemory (Ok b) o
+    → Refines {A = Option Spot} (λ f us. SameOption R f (first_item us)) IsOutOfMemory (Ok found) o
+    → Refines {A = Bool} (λ c us. c ≡ is_some_item us) IsOutOfMemory (Ok b) o
 found_any R found b (Ok us) is h = record { ok = go found us is h.ok; err = tt }
   where
     go : (f : Option Spot) (us : List Tree) → b ≡ is_some f → SameOption R f (first_item us) → b ≡ is_some_item us
@@ -322,15 +322,15 @@ found_any R found b (Ok us) is h = record { ok = go found us is h.ok; err = tt }
 found_any R found b (Err e) is h = absurd h.ok
 
 module _ (form : Form) (document : Document) where
-  pub begins_all : (r : Outcome Selected) (o : Outcome (List Tree)) → Gives (AreSelected form document) IsOutOfMemory r o
-      → Gives (BeginsAs form document) IsOutOfMemory r o
+  pub begins_all : (r : Outcome Selected) (o : Outcome (List Tree)) → Refines (AreSelected form document) IsOutOfMemory r o
+      → Refines (BeginsAs form document) IsOutOfMemory r o
   begins_all (Ok x) (Ok ts) h = record { ok = (ts, h.ok, refl); err = tt }
   begins_all (Ok x) (Err e) h = absurd h.ok
   begins_all (Err e) o h = record { ok = tt; err = h.err }
 
   pub begins_found : (nodes : NodeList) (found : Option Spot) (o : Outcome (List Tree)) → node_spots nodes ≡ option_spots found
-      → Gives {A = Option Spot} (λ f ts. SameOption (IsAt document) f (first_item ts)) IsOutOfMemory (Ok found) o
-      → Gives (BeginsAs form document) IsOutOfMemory (Ok (selected.Nodes nodes)) o
+      → Refines {A = Option Spot} (λ f ts. SameOption (IsAt document) f (first_item ts)) IsOutOfMemory (Ok found) o
+      → Refines (BeginsAs form document) IsOutOfMemory (Ok (selected.Nodes nodes)) o
   begins_found nodes found (Ok ts) is h = record { ok = go found ts is h.ok; err = tt }
     where
       go : (f : Option Spot) (ts : List Tree) → node_spots nodes ≡ option_spots f → SameOption (IsAt document) f (first_item ts)

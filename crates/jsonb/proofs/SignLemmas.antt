@@ -1,7 +1,7 @@
 -- Numbers of the items that were found, each with a sign.
 use Rattle.std.proofs.Common.{◌≡◌, ℕ, ◌+◌, ◌<◌, ◌≤◌, List, [], ◌∷◌, ◌++◌, Ok, Err, OnOk, IfErr, IsOkAnd, refl, ap, ◌∙◌, inl, subst, map, flat_map, append_assoc, length, get_or, set, take, drop, arith}
 use Rattle.std.proofs.lemmas.List.{map-append, take_all, take_more_set, drop-set-lt}
-use Rattle.jsonb_doc.specs.Answer.{Outcome, and_then, try_flat_map, Gives, IsOutOfMemory}
+use Rattle.jsonb_doc.specs.Answer.{Outcome, and_then, try_flat_map, Refines, IsOutOfMemory}
 use Rattle.jsonb_doc.specs.StoredValue.{IsStoredAs}
 use Rattle.jsonb_doc.specs.Number.{Number}
 use Rattle.jsonb_doc.specs.Tree.{Tree}
@@ -22,7 +22,7 @@ use Rattle.jsonb.specs.declared.path.Path.{Path}
 use Rattle.jsonb.specs.declared.selector.document.Expressions.TheVariants.{AreRefused}
 use Rattle.jsonb.specs.declared.selector.document.Mode.{Mode}
 use Rattle.jsonb.proofs.CalculateLemmas.{as_memory, number_added}
-use Rattle.jsonb.proofs.GivesLemmas.{Is, related_of_map}
+use Rattle.jsonb.proofs.RefinesLemmas.{Is, related_of_map}
 use Rattle.jsonb.proofs.Progress.{Progress, at_start, one_more, refused_in, at_end, list_first, list_end}
 use Rattle.jsonb.proofs.StepLemmas.{from_start}
 
@@ -65,7 +65,7 @@ abbrev pub Behind : List CodeNumber → List CodeNumber → List Number → Type
 Behind old new ns = map number_view new ≡ map number_view old ++ ns
 
 pub number_pushed : (r : Outcome (Unit {0})) (old new : List CodeNumber) (n : CodeNumber) → OnOk r (new ≡ old ++ n ∷ []) → IfErr r IsOutOfMemory
-    → Gives {A = Unit {0}} (λ _ ns. Behind old new ns) IsOutOfMemory r (Ok (number_view n ∷ []))
+    → Refines {A = Unit {0}} (λ _ ns. Behind old new ns) IsOutOfMemory r (Ok (number_view n ∷ []))
 number_pushed (Ok v) old new n is none = record { ok = ap (map number_view) is ∙ map-append number_view old (n ∷ []); err = tt }
 number_pushed (Err e) old new n is none = record { ok = tt; err = inl none }
 
@@ -98,7 +98,7 @@ module _ (op : UnaryOp) (xs : List CodeNumber) (i : ℕ) (d : CodeNumber) (outco
       (number_added (take i xs) (take i xs ++ v ∷ []) v (signed_number op (number_view (get_or xs i d))) before refl is held)))
 
   pub one_refused : {Q : Unit {0} → List Tree → Type 0} {e : Error} → i < length xs
-      → Gives {A = CodeNumber} IsNumberTree (λ _. ⊥) (Err e) (signed_number op (number_view (get_or xs i d))) → Gives {A = Unit {0}} Q IsOutOfMemory
+      → Refines {A = CodeNumber} IsNumberTree (λ _. ⊥) (Err e) (signed_number op (number_view (get_or xs i d))) → Refines {A = Unit {0}} Q IsOutOfMemory
       (Err e) outcome
   one_refused {Q} {e} short is =
       refused_in (signed_number op) Q (AllZip (Is number_view) (drop i xs)) (AllZip (Is number_view) (drop (i + 1) xs))

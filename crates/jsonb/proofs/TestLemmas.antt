@@ -30,7 +30,7 @@ use Rattle.jsonb.specs.declared.selector.terms.Join.{Join}
 use Rattle.jsonb.specs.declared.selector.terms.Join.TheVariants.{And, Or}
 use Rattle.jsonb.specs.declared.selector.terms.Pair.{Pair}
 use Rattle.jsonb.proofs.ComparedLemmas.{Any, comparison_total, members_total}
-use Rattle.jsonb.proofs.GivesLemmas.{with_ok}
+use Rattle.jsonb.proofs.RefinesLemmas.{with_ok}
 use Rattle.jsonb.proofs.JumpLemmas.{evaluated-whole}
 use Rattle.jsonb.proofs.KeptLemmas.{comparison_is}
 use Rattle.jsonb.proofs.MemberLemmas.{both_true}

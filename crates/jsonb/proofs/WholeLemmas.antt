@@ -1,6 +1,6 @@
 -- Paths that are one expression, and all others.
 use Rattle.std.proofs.Common.{◌≡◌, List, [], ◌∷◌, map, Some, None, is_some, subst, Option, true, false, Ok, Err, IsOkAnd, refl, ap, sym, ◌∙◌, inl, inr, Box, Global}
-use Rattle.jsonb_doc.specs.Answer.{Outcome, Gives, IsOutOfMemory}
+use Rattle.jsonb_doc.specs.Answer.{Outcome, Refines, IsOutOfMemory}
 use Rattle.jsonb_doc.specs.Payload.{Form}
 use Rattle.jsonb_doc.specs.View.{number_view}
 use Rattle.jsonb_doc.specs.Tree as tree
@@ -79,6 +79,6 @@ is_outcome (Ok y) x h = ap Ok (sym h)
 is_outcome (Err e) x h = absurd h
 
 -- a call that does not allocate
-pub without_memory : {A B : Type 0} {R : A → B → Type 0} {r : Outcome A} {o : Outcome B} → Gives R (λ (_ : Error). ⊥) r o → Gives R IsOutOfMemory r o
+pub without_memory : {A B : Type 0} {R : A → B → Type 0} {r : Outcome A} {o : Outcome B} → Refines R (λ (_ : Error). ⊥) r o → Refines R IsOutOfMemory r o
 without_memory {A} {B} {R} {r = Ok x} {o} h = record { ok = h.ok; err = tt }
 without_memory {A} {B} {R} {r = Err e} {o} h = record { ok = tt; err = elim h.err [ inl none ↦ absurd none | inr is ↦ inr is ] }

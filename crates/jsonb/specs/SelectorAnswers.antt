@@ -4,7 +4,7 @@ use Rattle.std.specs.declared.alloc.Global.{Global}
 use Rattle.std.specs.List.{AllZip, Any}
 use Rattle.jsonb_doc.specs.declared.error.Error.{Error}
 use Rattle.jsonb_doc.specs.declared.error.Error.TheVariants.{TooLarge}
-use Rattle.jsonb_doc.specs.Answer.{Outcome, Gives, SameOption, IsOutOfMemory, ◌or◌when◌}
+use Rattle.jsonb_doc.specs.Answer.{Outcome, Refines, SameOption, IsOutOfMemory, ◌or◌when◌}
 use Rattle.jsonb_doc.specs.Payload.{Form}
 use Rattle.jsonb_doc.specs.Format.{Decodes}
 use Rattle.jsonb_doc.specs.Limits.{IsTooLarge}
@@ -50,26 +50,26 @@ ByMeanings mode document path Promise answer = (form : Form) (top : Tree) (outco
 -- Holds if the result is documents of all items that the path selects.
 abbrev pub AreAll : Form → Outcome (List Tree) → Result (Vec OwnedJsonb Global) Error → Type 0
 AreAll form outcome answer =
-    Gives (λ v ts. AllZip (Decodes form) v.items ts)
+    Refines (λ v ts. AllZip (Decodes form) v.items ts)
     (IsOutOfMemory or TooLarge when IsOkAnd outcome (Any (IsTooLarge form))) answer outcome
 
 -- Holds if the result is an array of them.
 abbrev pub IsArrayOf : Form → Outcome (List Tree) → Result OwnedJsonb Error → Type 0
 IsArrayOf form outcome answer =
-    Gives (λ made ts. Decodes form made (array_of ts))
+    Refines (λ made ts. Decodes form made (array_of ts))
     (IsOutOfMemory or TooLarge when IsOkAnd outcome (λ ts. IsTooLarge form (array_of ts))) answer outcome
 
 -- Holds if the result is a document of the picked item, if there is one.
 abbrev pub IsPicked : (List Tree → Option Tree) → Form → Outcome (List Tree) → Result (Option OwnedJsonb) Error → Type 0
 IsPicked pick form outcome answer =
-    Gives (λ found ts. SameOption (Decodes form) found (pick ts))
+    Refines (λ found ts. SameOption (Decodes form) found (pick ts))
     (IsOutOfMemory or TooLarge when IsOkAnd outcome (λ ts. IsSomeAnd (pick ts) (IsTooLarge form))) answer outcome
 
 -- Holds if the result is whether the path selects an item.
 abbrev pub IsFound : Form → Outcome (List Tree) → Result Bool Error → Type 0
-IsFound form outcome answer = Gives (λ b ts. b ≡ is_some_item ts) IsOutOfMemory answer outcome
+IsFound form outcome answer = Refines (λ b ts. b ≡ is_some_item ts) IsOutOfMemory answer outcome
 
 -- Holds if the result is that of the path as a predicate on the document.
 abbrev pub IsTruthOf : Mode → List Step → List ℕ → Result Truth Error → Type 0
 IsTruthOf mode path document answer = (form : Form) (top : Tree) → Decodes form document top
-    → Gives (λ b c. b ≡ c) IsOutOfMemory answer (predicate mode path top)
+    → Refines (λ b c. b ≡ c) IsOutOfMemory answer (predicate mode path top)

@@ -22,7 +22,7 @@ ghost use Rattle.jsonb.specs.PathTree.{binary, paths, steps_of, whole_expression
 ghost use Rattle.jsonb.specs.PathGrammar.{root_expression, first_step, front_steps, path_step, plain_path, json_path, expression};
 ghost use Rattle.jsonb.specs.Private.Frames.{filter_step, IsFront};
 ghost use Rattle.jsonb_keypath.specs.Rules.{◌</>◌, parsed_map, repeat};
-ghost use Rattle.jsonb_keypath.specs.Views.{read_as, LeavesLess};
+ghost use Rattle.jsonb_keypath.specs.Views.{read_as, ConsumesInput};
 ghost use Rattle.jsonb.specs.PathViews.{operator_view, step_view, steps_view, expression_view, path_view};
 ghost use Rattle.jsonb_doc.specs.Answer.{IsOutOfMemory, ◌or◌when◌};
 
@@ -192,7 +192,7 @@ fn first_step_at(alloc: Global, input: &[u8]) -> Reading<'_, Path<'_>>
 /// Reads one step: a plain one, or a filter.
 fn path_step_at(alloc: Global, input: &[u8]) -> Reading<'_, Path<'_>>
     ensures value { IfOk result (λ found. read_as step_view found ≡ path_step input.now) }
-    ensures shrinks { IfOk result (LeavesLess input.now) }
+    ensures shrinks { IfOk result (ConsumesInput input.now) }
 {
     match spaced_inner_at(alloc, input)? {
         Some(found) => Ok(Some(found)),
@@ -206,7 +206,7 @@ fn path_step_at(alloc: Global, input: &[u8]) -> Reading<'_, Path<'_>>
 /// Reads a filter as a step, after its beginning.
 fn filter_at(alloc: Global, inside: &[u8]) -> Reading<'_, Path<'_>>
     ensures value { IfOk result (λ found. read_as step_view found ≡ filter_step (expression true inside.now)) }
-    ensures shrinks { IfOk result (LeavesLess inside.now) }
+    ensures shrinks { IfOk result (ConsumesInput inside.now) }
 {
     let Some((found, rest)) = expression_at(alloc, true, inside)? else {
         return Ok(None);

@@ -93,23 +93,23 @@ OfBoth document other Promise answer = (form other_form : Form) (t u : Tree)
     → Decodes form document t → Decodes other_form other u → Promise form t u answer
 
 -- Holds if there is such a result, which fails only with the stated errors, and it is delivered.
-abbrev pub HandsOver : {A : Type 0} → (Result A Error → Type 0) → (Error → Type 0) → (Result A Error → Type 0) → Type 0
-HandsOver {A} IsAnswer Refusals IsShown =
+abbrev pub WritesResult : {A : Type 0} → (Result A Error → Type 0) → (Error → Type 0) → (Result A Error → Type 0) → Type 0
+WritesResult {A} IsAnswer Refusals IsShown =
     (answer : Result A Error) × IsAnswer answer × IfErr answer Refusals × IsShown answer
 
 -- Holds if bytes that always exist are delivered.
-abbrev pub HandsOverBytes : (Result (List ℕ) Error → Type 0) → (Error → Type 0) → List ℕ → List ℕ → ℕ → ℕ → Type 0
-HandsOverBytes IsAnswer Refusals old new len status =
-    HandsOver IsAnswer Refusals (λ answer. Delivers (whole answer) old new len status)
+abbrev pub WritesBytes : (Result (List ℕ) Error → Type 0) → (Error → Type 0) → List ℕ → List ℕ → ℕ → ℕ → Type 0
+WritesBytes IsAnswer Refusals old new len status =
+    WritesResult IsAnswer Refusals (λ answer. Delivers (whole answer) old new len status)
 
 -- Holds if bytes that may be `None` are delivered.
-abbrev pub HandsOverFound : (Answer → Type 0) → (Error → Type 0) → List ℕ → List ℕ → ℕ → ℕ → Type 0
-HandsOverFound IsAnswer Refusals old new len status =
-    HandsOver IsAnswer Refusals (λ answer. Delivers answer old new len status)
+abbrev pub WritesFound : (Answer → Type 0) → (Error → Type 0) → List ℕ → List ℕ → ℕ → ℕ → Type 0
+WritesFound IsAnswer Refusals old new len status =
+    WritesResult IsAnswer Refusals (λ answer. Delivers answer old new len status)
 
-abbrev pub HandsOverBool : (Result Bool Error → Type 0) → (Error → Type 0) → ℕ → ℕ → ℕ → Type 0
-HandsOverBool IsAnswer Refusals old new status = HandsOver IsAnswer Refusals (λ answer. ShowsBool answer old new status)
+abbrev pub WritesBool : (Result Bool Error → Type 0) → (Error → Type 0) → ℕ → ℕ → ℕ → Type 0
+WritesBool IsAnswer Refusals old new status = WritesResult IsAnswer Refusals (λ answer. ShowsBool answer old new status)
 
-abbrev pub HandsOverTruth : (Result Truth Error → Type 0) → (Error → Type 0) → ℕ → ℕ → ℕ → Type 0
-HandsOverTruth IsAnswer Refusals old new status =
-    HandsOver IsAnswer Refusals (λ answer. ShowsTruth answer old new status)
+abbrev pub WritesTruth : (Result Truth Error → Type 0) → (Error → Type 0) → ℕ → ℕ → ℕ → Type 0
+WritesTruth IsAnswer Refusals old new status =
+    WritesResult IsAnswer Refusals (λ answer. ShowsTruth answer old new status)

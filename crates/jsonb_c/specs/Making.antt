@@ -4,7 +4,7 @@ use Rattle.std.specs.Int.{w64}
 use Rattle.jsonb_doc.specs.declared.error.Error.{Error}
 use Rattle.std.specs.List.{zip, AllZip}
 use Rattle.jsonb_doc.specs.declared.error.Error.TheVariants.{ObjectDuplicateKey, TooLarge}
-use Rattle.jsonb_doc.specs.Answer.{Gives, Outcome, IsOutOfMemory, IsOutOfMemoryOrTooLarge, ◌or◌when◌}
+use Rattle.jsonb_doc.specs.Answer.{Refines, Outcome, IsOutOfMemory, IsOutOfMemoryOrTooLarge, ◌or◌when◌}
 use Rattle.jsonb_doc.specs.Limits.{IsTooLarge}
 use Rattle.jsonb_doc.specs.ObjectBuilder.{has_key, insert_pair}
 use Rattle.jsonb_doc.specs.Number.{Number, number_from, decimal64, decimal128}
@@ -62,7 +62,7 @@ put_rows ps (row ∷ rows) =
 -- Holds if the result is an object of the members in the rows; `TooLarge` only if a document of that many members of
 -- these sizes exceeds the limits.
 abbrev pub IsObjectOf : Form → List (List ℕ × Tree) → Result (List ℕ) Error → Type 0
-IsObjectOf form rows answer = Gives (λ made ps. Decodes form made (object (pairs_of ps)))
+IsObjectOf form rows answer = Refines (λ made ps. Decodes form made (object (pairs_of ps)))
     (IsOutOfMemory or TooLarge when IsTooLarge form (object (pairs_of rows))) answer (put_rows [] rows)
 
 -- Holds if the result is an object of keys and a column of documents.

@@ -6,7 +6,7 @@ use Rattle.jsonb_doc.specs.Answer.{IsDecodingError, ◌or◌}
 use Rattle.jsonb_doc.specs.declared.error.Error.TheVariants.{InvalidObject, OutOfMemory, TooLarge}
 use Rattle.jsonb_doc.specs.Tree.{Tree}
 use Rattle.jsonb_raw.specs.Objects.{with_pairs}
-use Rattle.jsonb_c.specs.Answers.{DeliversNothing, HandsOverBool, HandsOverBytes, OfDocument}
+use Rattle.jsonb_c.specs.Answers.{DeliversNothing, WritesBool, WritesBytes, OfDocument}
 use Rattle.jsonb_c.specs.Calls.{MakesOr}
 use Rattle.jsonb_c.specs.Status.{code}
 use Rattle.jsonb_c.specs.declared.status.Status.{Status}
@@ -42,7 +42,7 @@ IsAsItWas old new status cause = (new ≡ old) × (status ≡ code cause)
 
 -- Holds if the Boolean whether the document has the names, by `has`, is delivered.
 abbrev pub ShowsKeys : (List (List ℕ) → Tree → Bool) → List ℕ → Result (List (List ℕ)) Status → ℕ → ℕ → ℕ → Type 0
-ShowsKeys has document names old new status = WithNames names (λ wanted. HandsOverBool
+ShowsKeys has document names old new status = WithNames names (λ wanted. WritesBool
     (OfDocument document (λ form t said. IsOkAnd said (λ b. b ≡ has wanted t))) IsDecodingError old new status)
     (IsAsItWas old new status)
 
@@ -59,7 +59,7 @@ dropped_names names t = with_pairs (λ ps. filter (λ p. not (list_any (λ name.
 -- Holds if the object of the remaining members is delivered.
 abbrev pub DeliversPairs : (List (List ℕ) → Tree → Option Tree) → List ℕ → Result (List (List ℕ)) Status
     → List ℕ → List ℕ → ℕ → ℕ → Type 0
-DeliversPairs kept document names old new len status = WithNames names (λ wanted. HandsOverBytes
+DeliversPairs kept document names old new len status = WithNames names (λ wanted. WritesBytes
     (OfDocument document (λ form t. MakesOr InvalidObject form (kept wanted t)))
     (IsDecodingError or OutOfMemory or TooLarge or InvalidObject) old new len status)
     (λ cause. DeliversNothing (code cause) old new len status)

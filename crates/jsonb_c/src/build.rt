@@ -10,7 +10,7 @@ ghost use Rattle.jsonb_doc.specs.Payload.{Form};
 ghost use Rattle.jsonb_doc.specs.Tree as spec;
 ghost use Rattle.jsonb_doc.specs.Tree.{Tree, array, trees_of};
 ghost use Rattle.jsonb_doc.specs.View.{number_view};
-ghost use Rattle.jsonb_c.specs.Answers.{DeliversNothing, HandsOverBytes};
+ghost use Rattle.jsonb_c.specs.Answers.{DeliversNothing, WritesBytes};
 ghost use Rattle.jsonb_c.specs.Columns.{rows};
 ghost use Rattle.jsonb_c.specs.Making.{Encodes, IsDecimalOf, MakesArray, is_placed, whole_of};
 ghost use Rattle.jsonb_c.specs.Status.{bad_offsets, not_utf8};
@@ -27,7 +27,7 @@ use std::alloc::Global;
 /// Returns null as a document.
 #[unsafe(no_mangle)]
 pub extern "C" fn jdoc_from_null(alloc: Global, out: &mut [u8], out_len: &mut usize) -> u32
-    ensures { HandsOverBytes (Encodes spec.null) (IsOutOfMemory or TooLarge) out.old out.new out_len.new result }
+    ensures { WritesBytes (Encodes spec.null) (IsOutOfMemory or TooLarge) out.old out.new out_len.new result }
 {
     deliver_item(alloc, &Item::Null, out, out_len)
 }
@@ -40,7 +40,7 @@ pub extern "C" fn jdoc_from_bool(
     out: &mut [u8],
     out_len: &mut usize,
 ) -> u32
-    ensures { HandsOverBytes (Encodes (spec.boolean value)) (IsOutOfMemory or TooLarge)
+    ensures { WritesBytes (Encodes (spec.boolean value)) (IsOutOfMemory or TooLarge)
         out.old out.new out_len.new result }
 {
     deliver_item(alloc, &Item::Boolean(value), out, out_len)
@@ -54,7 +54,7 @@ pub extern "C" fn jdoc_from_i64(
     out: &mut [u8],
     out_len: &mut usize,
 ) -> u32
-    ensures { HandsOverBytes (Encodes (spec.number (number_from int64 value 0))) (IsOutOfMemory or TooLarge)
+    ensures { WritesBytes (Encodes (spec.number (number_from int64 value 0))) (IsOutOfMemory or TooLarge)
         out.old out.new out_len.new result }
 {
     deliver_item(alloc, &Item::Number(Number::Int64(value)), out, out_len)
@@ -68,7 +68,7 @@ pub extern "C" fn jdoc_from_u64(
     out: &mut [u8],
     out_len: &mut usize,
 ) -> u32
-    ensures { HandsOverBytes (Encodes (spec.number (number_from uint64 (pos value) 0))) (IsOutOfMemory or TooLarge)
+    ensures { WritesBytes (Encodes (spec.number (number_from uint64 (pos value) 0))) (IsOutOfMemory or TooLarge)
         out.old out.new out_len.new result }
 {
     deliver_item(alloc, &Item::Number(Number::UInt64(value)), out, out_len)
@@ -85,7 +85,7 @@ pub extern "C" fn jdoc_from_decimal(
     out_len: &mut usize,
 ) -> u32
     ensures { (t : Tree) → IsDecimalOf (whole_of high low) scale t
-        → HandsOverBytes (Encodes t) (IsOutOfMemory or TooLarge) out.old out.new out_len.new result }
+        → WritesBytes (Encodes t) (IsOutOfMemory or TooLarge) out.old out.new out_len.new result }
 {
     let number = decimal(whole_of(high, low), scale);
     deliver_item(alloc, &Item::Number(number), out, out_len)
@@ -117,7 +117,7 @@ pub extern "C" fn jdoc_from_str(
     out_len: &mut usize,
 ) -> u32
     ensures text { IsUtf8 text.now
-        → HandsOverBytes (Encodes (spec.text text.now)) (IsOutOfMemory or TooLarge)
+        → WritesBytes (Encodes (spec.text text.now)) (IsOutOfMemory or TooLarge)
         out.old out.new out_len.new result }
     ensures other { ¬ (IsUtf8 text.now) → DeliversNothing not_utf8 out.old out.new out_len.new result }
 {
@@ -130,7 +130,7 @@ pub extern "C" fn jdoc_from_str(
 /// Writes the document of an item to the caller's buffer.
 fn deliver_item(alloc: Global, item: &Item<'_>, out: &mut [u8], out_len: &mut usize) -> u32
     ensures { (t : Tree) → ((form : Form) → StandsFor form item.now t)
-        → HandsOverBytes (Encodes t) (IsOutOfMemory or TooLarge) out.old out.new out_len.new result }
+        → WritesBytes (Encodes t) (IsOutOfMemory or TooLarge) out.old out.new out_len.new result }
 {
     deliver_vec(encode_item(alloc, item), out, out_len)
 }
@@ -145,7 +145,7 @@ pub extern "C" fn jdoc_array_from_column(
     out_len: &mut usize,
 ) -> u32
     ensures array { is_placed (rows bytes.now offsets.now) ≡ true
-        → HandsOverBytes (MakesArray (rows bytes.now offsets.now)) (IsDecodingError or OutOfMemory or TooLarge)
+        → WritesBytes (MakesArray (rows bytes.now offsets.now)) (IsDecodingError or OutOfMemory or TooLarge)
         out.old out.new out_len.new result }
     ensures other { is_placed (rows bytes.now offsets.now) ≡ false
         → DeliversNothing bad_offsets out.old out.new out_len.new result }

@@ -6,7 +6,7 @@ ghost use Rattle.jsonb_doc.specs.declared.error.Error.TheVariants.{InvalidJsonTy
 ghost use Rattle.jsonb_raw.specs.Documents.{MakesOption};
 ghost use Rattle.jsonb_raw.specs.Places.{tree_at_steps};
 ghost use Rattle.jsonb.specs.KeyPathGrammar.{key_path};
-ghost use Rattle.jsonb_c.specs.Answers.{DeliversNothing, HandsOverBytes, HandsOverFound, OfDocument};
+ghost use Rattle.jsonb_c.specs.Answers.{DeliversNothing, WritesBytes, WritesFound, OfDocument};
 ghost use Rattle.jsonb_c.specs.Calls.{DeletesPlace};
 ghost use Rattle.jsonb_c.specs.Prepared.{Prepares, key_steps};
 ghost use Rattle.jsonb_c.specs.Status.{no_path};
@@ -44,7 +44,7 @@ pub extern "C" fn jdoc_keypath_get(
 ) -> u32
     ensures kept { path.new.value ≡ path.old.value }
     ensures part { MatchOption (key_steps path.old.value) (DeliversNothing no_path out.old out.new out_len.new result)
-        (λ steps. HandsOverFound (OfDocument document.now (λ form t. MakesOption form (tree_at_steps steps t)))
+        (λ steps. WritesFound (OfDocument document.now (λ form t. MakesOption form (tree_at_steps steps t)))
         (IsDecodingError or OutOfMemory or TooLarge) out.old out.new out_len.new result) }
 {
     let Some(kept) = path.take(alloc) else {
@@ -64,7 +64,7 @@ fn deliver_part(
     out_len: &mut usize,
 ) -> u32
     ensures { MatchOption (key_steps (Some path.now)) (DeliversNothing no_path out.old out.new out_len.new result)
-        (λ steps. HandsOverFound (OfDocument document.now (λ form t. MakesOption form (tree_at_steps steps t)))
+        (λ steps. WritesFound (OfDocument document.now (λ form t. MakesOption form (tree_at_steps steps t)))
         (IsDecodingError or OutOfMemory or TooLarge) out.old out.new out_len.new result) }
 {
     match path {
@@ -87,7 +87,7 @@ pub extern "C" fn jdoc_keypath_delete(
 ) -> u32
     ensures kept { path.new.value ≡ path.old.value }
     ensures rest { MatchOption (key_steps path.old.value) (DeliversNothing no_path out.old out.new out_len.new result)
-        (λ steps. HandsOverBytes (DeletesPlace steps document.now)
+        (λ steps. WritesBytes (DeletesPlace steps document.now)
         (IsDecodingError or OutOfMemory or InvalidJsonType) out.old out.new out_len.new result) }
 {
     let Some(kept) = path.take(alloc) else {
@@ -107,7 +107,7 @@ fn deliver_rest(
     out_len: &mut usize,
 ) -> u32
     ensures { MatchOption (key_steps (Some path.now)) (DeliversNothing no_path out.old out.new out_len.new result)
-        (λ steps. HandsOverBytes (DeletesPlace steps document.now)
+        (λ steps. WritesBytes (DeletesPlace steps document.now)
         (IsDecodingError or OutOfMemory or InvalidJsonType) out.old out.new out_len.new result) }
 {
     match path {

@@ -8,7 +8,7 @@ ghost use Rattle.jsonb_doc.specs.Format.{Decodes};
 ghost use Rattle.jsonb_doc.specs.Payload.{Form};
 ghost use Rattle.jsonb_doc.specs.Tree.{Tree};
 ghost use Rattle.jsonb_raw.specs.Leaves.{leaves};
-ghost use Rattle.jsonb_c.specs.Answers.{HandsOver, IsWritten, OfDocument};
+ghost use Rattle.jsonb_c.specs.Answers.{WritesResult, IsWritten, OfDocument};
 ghost use Rattle.jsonb_c.specs.Private.LeafColumns.{HasLeaves, HasRows, leaf_row};
 ghost use Rattle.jsonb_c.specs.Leaves.{AreLeavesOf, DeliversLeaves, IsRowOfLeaf, IsWrittenColumn, LeafRow, positions_from};
 ghost use Rattle.jsonb_c.specs.Status.{status_of};
@@ -38,7 +38,7 @@ pub extern "C" fn jdoc_leaves(
     positions: &mut [u64],
     sizes: &mut LeafSizes,
 ) -> u32
-    ensures { HandsOver (OfDocument document.now (λ form t. AreLeavesOf form t))
+    ensures { WritesResult (OfDocument document.now (λ form t. AreLeavesOf form t))
         (IsDecodingError or OutOfMemory or TooLarge)
         (λ answer. DeliversLeaves answer (paths.old, path_positions.old) (paths.new, path_positions.new)
         (documents.old, positions.old) (documents.new, positions.new) sizes.new result) }

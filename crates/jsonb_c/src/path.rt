@@ -5,7 +5,7 @@ ghost use Rattle.jsonb_doc.specs.declared.error.Error.TheVariants.{InvalidJsonPa
 ghost use Rattle.jsonb.specs.PathGrammar.{json_path};
 ghost use Rattle.jsonb.specs.SelectionErrors.{IsDocumentError, IsSelectionError};
 ghost use Rattle.jsonb.specs.SelectorAnswers.{first_item, single_or_array, IsFound, IsPicked, IsTruthOf, ByMeanings};
-ghost use Rattle.jsonb_c.specs.Answers.{DeliversNothing, HandsOverBool, HandsOverFound, HandsOverTruth};
+ghost use Rattle.jsonb_c.specs.Answers.{DeliversNothing, WritesBool, WritesFound, WritesTruth};
 ghost use Rattle.jsonb_c.specs.Calls.{mode_of};
 ghost use Rattle.jsonb_c.specs.Prepared.{LacksPath, Prepares, json_steps};
 ghost use Rattle.jsonb_c.specs.Private.Views.{pick_of};
@@ -46,7 +46,7 @@ pub extern "C" fn jdoc_path_select_first(
 ) -> u32
     ensures kept { path.new.value ≡ path.old.value }
     ensures item { MatchOption (json_steps path.old.value) (DeliversNothing no_path out.old out.new out_len.new result)
-        (λ steps. HandsOverFound (ByMeanings (mode_of strict) document.now steps (IsPicked first_item))
+        (λ steps. WritesFound (ByMeanings (mode_of strict) document.now steps (IsPicked first_item))
         (IsDocumentError (mode_of strict)) out.old out.new out_len.new result) }
 {
     select(alloc, path, document, strict, Pick::First, out, out_len)
@@ -64,7 +64,7 @@ pub extern "C" fn jdoc_path_select_value(
 ) -> u32
     ensures kept { path.new.value ≡ path.old.value }
     ensures item { MatchOption (json_steps path.old.value) (DeliversNothing no_path out.old out.new out_len.new result)
-        (λ steps. HandsOverFound (ByMeanings (mode_of strict) document.now steps (IsPicked single_or_array))
+        (λ steps. WritesFound (ByMeanings (mode_of strict) document.now steps (IsPicked single_or_array))
         (IsDocumentError (mode_of strict)) out.old out.new out_len.new result) }
 {
     select(alloc, path, document, strict, Pick::Value, out, out_len)
@@ -82,7 +82,7 @@ pub extern "C" fn jdoc_path_select_array(
 ) -> u32
     ensures kept { path.new.value ≡ path.old.value }
     ensures array { MatchOption (json_steps path.old.value) (DeliversNothing no_path out.old out.new out_len.new result)
-        (λ steps. HandsOverFound (ByMeanings (mode_of strict) document.now steps (IsPicked one_array))
+        (λ steps. WritesFound (ByMeanings (mode_of strict) document.now steps (IsPicked one_array))
         (IsDocumentError (mode_of strict)) out.old out.new out_len.new result) }
 {
     select(alloc, path, document, strict, Pick::Array, out, out_len)
@@ -100,7 +100,7 @@ fn select(
 ) -> u32
     ensures kept { path.new.value ≡ path.old.value }
     ensures item { MatchOption (json_steps path.old.value) (DeliversNothing no_path out.old out.new out_len.new result)
-        (λ steps. HandsOverFound (ByMeanings (mode_of strict) document.now steps (IsPicked (pick_of pick)))
+        (λ steps. WritesFound (ByMeanings (mode_of strict) document.now steps (IsPicked (pick_of pick)))
         (IsDocumentError (mode_of strict)) out.old out.new out_len.new result) }
 {
     let Some(kept) = path.take(alloc) else {
@@ -122,7 +122,7 @@ fn deliver_item(
     out_len: &mut usize,
 ) -> u32
     ensures { MatchOption (json_steps (Some path.now)) (DeliversNothing no_path out.old out.new out_len.new result)
-        (λ steps. HandsOverFound (ByMeanings (mode_of strict) document.now steps (IsPicked (pick_of pick)))
+        (λ steps. WritesFound (ByMeanings (mode_of strict) document.now steps (IsPicked (pick_of pick)))
         (IsDocumentError (mode_of strict)) out.old out.new out_len.new result) }
 {
     match path {
@@ -145,7 +145,7 @@ pub extern "C" fn jdoc_path_exists(
 ) -> u32
     ensures kept { path.new.value ≡ path.old.value }
     ensures exists { MatchOption (json_steps path.old.value) (LacksPath truth.old truth.new result)
-        (λ steps. HandsOverBool (ByMeanings (mode_of strict) document.now steps IsFound)
+        (λ steps. WritesBool (ByMeanings (mode_of strict) document.now steps IsFound)
         (IsSelectionError (mode_of strict)) truth.old truth.new result) }
 {
     let Some(kept) = path.take(alloc) else {
@@ -165,7 +165,7 @@ fn store_exists(
     truth: &mut u8,
 ) -> u32
     ensures { MatchOption (json_steps (Some path.now)) (LacksPath truth.old truth.new result)
-        (λ steps. HandsOverBool (ByMeanings (mode_of strict) document.now steps IsFound)
+        (λ steps. WritesBool (ByMeanings (mode_of strict) document.now steps IsFound)
         (IsSelectionError (mode_of strict)) truth.old truth.new result) }
 {
     match path {
@@ -188,7 +188,7 @@ pub extern "C" fn jdoc_path_match(
 ) -> u32
     ensures kept { path.new.value ≡ path.old.value }
     ensures truth { MatchOption (json_steps path.old.value) (LacksPath truth.old truth.new result)
-        (λ steps. HandsOverTruth (IsTruthOf (mode_of strict) steps document.now)
+        (λ steps. WritesTruth (IsTruthOf (mode_of strict) steps document.now)
         (IsSelectionError (mode_of strict)) truth.old truth.new result) }
 {
     let Some(kept) = path.take(alloc) else {
@@ -208,7 +208,7 @@ fn store_match(
     truth: &mut u8,
 ) -> u32
     ensures { MatchOption (json_steps (Some path.now)) (LacksPath truth.old truth.new result)
-        (λ steps. HandsOverTruth (IsTruthOf (mode_of strict) steps document.now)
+        (λ steps. WritesTruth (IsTruthOf (mode_of strict) steps document.now)
         (IsSelectionError (mode_of strict)) truth.old truth.new result) }
 {
     match path {

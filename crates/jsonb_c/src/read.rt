@@ -4,7 +4,7 @@ ghost use Rattle.std.specs.Prelude.{◌≡◌, ℕ, List, Option, Result, IfErr,
 ghost use Rattle.jsonb_doc.specs.Answer.{IsDecodingError, ◌or◌};
 ghost use Rattle.jsonb_doc.specs.declared.error.Error.{Error};
 ghost use Rattle.jsonb_doc.specs.declared.error.Error.TheVariants.{OutOfMemory, TooLarge};
-ghost use Rattle.jsonb_c.specs.Answers.{HandsOver, OfDocument, ShowsFound};
+ghost use Rattle.jsonb_c.specs.Answers.{WritesResult, OfDocument, ShowsFound};
 ghost use Rattle.jsonb_c.specs.Making.{DeliversPair, FindsPair, children_count};
 ghost use Rattle.jsonb_c.specs.Private.Views.{pair_answer};
 
@@ -17,7 +17,7 @@ use std::alloc::Global;
 /// Returns the number of elements of an array, or of members of an object.
 #[unsafe(no_mangle)]
 pub extern "C" fn jdoc_len(document: &[u8], len: &mut usize) -> u32
-    ensures { HandsOver
+    ensures { WritesResult
         (OfDocument document.now (λ form t answer. IsOkAnd answer (λ found. found ≡ children_count t)))
         IsDecodingError (λ answer. ShowsFound answer len.old len.new result) }
 {

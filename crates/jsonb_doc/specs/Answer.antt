@@ -1,7 +1,7 @@
 -- Results of functions: a stated value, or one of a stated set of errors.
 --
 -- A clause `MatchResult result P Errors` says that the result is `Ok` with a value that satisfies P, or `Err` with
--- one of the errors. `Gives` is for functions whose meaning may itself be an error.
+-- one of the errors. `Refines` is for functions whose meaning may itself be an error.
 use Rattle.std.specs.Prelude.{◌≡◌, ◌⊎◌, List, [], ◌∷◌, ◌++◌, Option, Some, None, Result, Ok, Err, IfOk, IfErr, IsOkAnd, ⊤}
 use Rattle.jsonb_doc.specs.declared.error.Error.{Error}
 use Rattle.jsonb_doc.specs.declared.error.Error.TheVariants.{InvalidJsonb, UnsupportedNumber, OutOfMemory, TooLarge}
@@ -52,7 +52,7 @@ try_flat_map f (x ∷ xs) = and_then (f x) (λ front. and_then (try_flat_map f x
 
 -- Holds if the result refines the meaning: its value is related to that of the meaning, or it has the error of the
 -- meaning, or another error of the call.
-pub record Gives {A B : Type 0} (R : A → B → Type 0) (Other : Error → Type 0) (answer : Outcome A)
+pub record Refines {A B : Type 0} (R : A → B → Type 0) (Other : Error → Type 0) (answer : Outcome A)
     (meaning : Outcome B) : Type 0 where
   pub ok : IfOk answer (λ x. IsOkAnd meaning (R x))
   pub err : IfErr answer (λ e. Other e ⊎ (meaning ≡ Err e))

@@ -8,5 +8,5 @@ abbrev pub read_as : {A B : Type 0} → (A → B) → Option (A × Bor (List ℕ
 read_as view found = option_map (λ p. (view p.0, p.1.now)) found
 
 -- Holds if the rest of the input is shorter, or the reader found nothing.
-abbrev pub LeavesLess : {A : Type 0} → List ℕ → Option (A × Bor (List ℕ)) → Type 0
-LeavesLess input found = IfSome found (λ p. length p.1.now < length input)
+abbrev pub ConsumesInput : {A : Type 0} → List ℕ → Option (A × Bor (List ℕ)) → Type 0
+ConsumesInput input found = IfSome found (λ p. length p.1.now < length input)

@@ -7,7 +7,7 @@ ghost use Rattle.std.specs.Prelude.{◌≡◌, [], ◌⊎◌, Option, None, Some
 ghost use Rattle.jsonb_doc.specs.declared.error.Error.TheVariants.{OutOfMemory, InvalidKeyPath};
 ghost use Rattle.jsonb_keypath.specs.KeyPathGrammar.{key, spaced_key, another_key, key_list, some_keys, no_keys, key_path};
 ghost use Rattle.jsonb_keypath.specs.KeyPathViews.{key_view, keys_view, key_paths_view};
-ghost use Rattle.jsonb_keypath.specs.Views.{read_as, LeavesLess};
+ghost use Rattle.jsonb_keypath.specs.Views.{read_as, ConsumesInput};
 ghost use Rattle.jsonb_doc.specs.Answer.{IsOutOfMemory, ◌or◌when◌};
 
 use crate::key_path::{KeyPath, KeyPaths};
@@ -61,7 +61,7 @@ pub fn parse_key_paths(alloc: Global, input: &[u8]) -> Result<KeyPaths<'_>, Erro
 #[inline(always)]
 fn key_at(alloc: Global, input: &[u8]) -> Result<Option<(KeyPath<'_>, &[u8])>, AllocError>
     ensures value { IfOk result (λ found. read_as key_view found ≡ key input.now) }
-    ensures shrinks { IfOk result (LeavesLess input.now) }
+    ensures shrinks { IfOk result (ConsumesInput input.now) }
 {
     if let Some((index, rest)) = int32(input) {
         return Ok(Some((KeyPath::Index(index), rest)));
@@ -80,7 +80,7 @@ fn key_at(alloc: Global, input: &[u8]) -> Result<Option<(KeyPath<'_>, &[u8])>, A
 #[inline(always)]
 fn spaced_key_at(alloc: Global, input: &[u8]) -> Result<Option<(KeyPath<'_>, &[u8])>, AllocError>
     ensures value { IfOk result (λ found. read_as key_view found ≡ spaced_key input.now) }
-    ensures shrinks { IfOk result (LeavesLess input.now) }
+    ensures shrinks { IfOk result (ConsumesInput input.now) }
 {
     match key_at(alloc, skip_space(input))? {
         Some((key, rest)) => Ok(Some((key, skip_space(rest)))),
@@ -92,7 +92,7 @@ fn spaced_key_at(alloc: Global, input: &[u8]) -> Result<Option<(KeyPath<'_>, &[u
 #[inline(always)]
 fn another_key_at(alloc: Global, input: &[u8]) -> Result<Option<(KeyPath<'_>, &[u8])>, AllocError>
     ensures value { IfOk result (λ found. read_as key_view found ≡ another_key input.now) }
-    ensures shrinks { IfOk result (LeavesLess input.now) }
+    ensures shrinks { IfOk result (ConsumesInput input.now) }
 {
     match literal(b",", input) {
         Some(rest) => spaced_key_at(alloc, rest),

@@ -8,7 +8,7 @@ use Rattle.jsonb.specs.Error.TheVariants.{OutOfMemory, TooLarge}
 use Rattle.jsonb.specs.Tree.{Tree}
 use Rattle.jsonb.specs.Payload.{Form, any}
 use Rattle.jsonb.specs.Format.{Decodes}
-use Rattle.jsonb.specs.Answer.{Gives, IsOutOfMemory, ◌or◌when◌}
+use Rattle.jsonb.specs.Answer.{Refines, IsOutOfMemory, ◌or◌when◌}
 use Rattle.jsonb.specs.OwnedJsonb.{OwnedJsonb}
 use Rattle.jsonb.specs.Compare.{Truth}
 use Rattle.jsonb.specs.Meaning.{Means, meaning, predicate}
@@ -25,7 +25,7 @@ use Rattle.jsonb_tool.specs.Views.{found_lines}
 -- the result of a selection by the path
 abbrev pub SelectsBy : List Step → List ℕ → Result (Vec OwnedJsonb Global) Error → Type 0
 SelectsBy path bytes r = (form : Form) (top : Tree) (outcome : Result (List Tree) Error) → Decodes form bytes top → Means form Lax path top outcome
-    → Gives (λ v ts. AllZip (Decodes form) v.items ts) (IsOutOfMemory or TooLarge when IsOkAnd outcome (Any (IsTooLarge form))) r outcome
+    → Refines (λ v ts. AllZip (Decodes form) v.items ts) (IsOutOfMemory or TooLarge when IsOkAnd outcome (Any (IsTooLarge form))) r outcome
 
 shows_trees : (form : Form) (ts : List Tree) (documents : List OwnedJsonb) → AllZip (Decodes form) documents ts
     → ShowsTrees form ts (Ok (found_lines documents))
@@ -35,7 +35,7 @@ shows_trees form (t ∷ ts) [] h = absurd h
 shows_trees form (t ∷ ts) (d ∷ documents) h = (d ∷ documents, h, refl)
 
 shows_list : (form : Form) (o : Result (List Tree) Error) (v : Vec OwnedJsonb Global)
-    → Gives (λ w ts. AllZip (Decodes form) w.items ts) (IsOutOfMemory or TooLarge when IsOkAnd o (Any (IsTooLarge form))) (Ok v) o
+    → Refines (λ w ts. AllZip (Decodes form) w.items ts) (IsOutOfMemory or TooLarge when IsOkAnd o (Any (IsTooLarge form))) (Ok v) o
     → ShowsList form o (Ok (found_lines v.items))
 shows_list form (Ok ts) v h = shows_trees form ts v.items h.ok
 shows_list form (Err e) v h = absurd h.ok
@@ -46,7 +46,7 @@ too_large_list form (t ∷ ts) e is h = (is, h)
 
 -- an error other than `OutOfMemory` is that of the path, or means that a tree is too large
 shows_refusal : (form : Form) (o : Result (List Tree) Error) (e : Error) → (e ≡ OutOfMemory → ⊥)
-    → Gives (λ (w : Vec OwnedJsonb Global) ts. AllZip (Decodes form) w.items ts) (IsOutOfMemory or TooLarge when IsOkAnd o (Any (IsTooLarge form))) (Err e) o
+    → Refines (λ (w : Vec OwnedJsonb Global) ts. AllZip (Decodes form) w.items ts) (IsOutOfMemory or TooLarge when IsOkAnd o (Any (IsTooLarge form))) (Err e) o
     → ShowsList form o (Err e)
 shows_refusal form (Ok ts) e other h = elim h.err [
   | inl room ↦ elim room [ inl memory ↦ absurd (other memory) | inr large ↦ too_large_list form ts e large.0 large.1 ]
@@ -76,13 +76,13 @@ Selects-refused text bytes path e read decodes selected =
 
 -- the result of a match by the path
 abbrev pub MatchesBy : List Step → List ℕ → Result Truth Error → Type 0
-MatchesBy path bytes r = (form : Form) (top : Tree) → Decodes form bytes top → Gives (λ b c. b ≡ c) IsOutOfMemory r (predicate Lax path top)
+MatchesBy path bytes r = (form : Form) (top : Tree) → Decodes form bytes top → Refines (λ b c. b ≡ c) IsOutOfMemory r (predicate Lax path top)
 
-shows_truth : (o : Result Truth Error) (b : Truth) → Gives (λ b c. b ≡ c) IsOutOfMemory (Ok b) o → ShowsTruth o (Ok (truth_line b))
+shows_truth : (o : Result Truth Error) (b : Truth) → Refines (λ b c. b ≡ c) IsOutOfMemory (Ok b) o → ShowsTruth o (Ok (truth_line b))
 shows_truth (Ok c) b h = rw h.ok refl
 shows_truth (Err e) b h = absurd h.ok
 
-shows_other : (o : Result Truth Error) (e : Error) → (e ≡ OutOfMemory → ⊥) → Gives {A = Truth} (λ b c. b ≡ c) IsOutOfMemory (Err e) o → ShowsTruth o (Err e)
+shows_other : (o : Result Truth Error) (e : Error) → (e ≡ OutOfMemory → ⊥) → Refines {A = Truth} (λ b c. b ≡ c) IsOutOfMemory (Err e) o → ShowsTruth o (Err e)
 shows_other (Ok c) e other h = elim h.err [ inl memory ↦ absurd (other memory) | inr is ↦ cc ]
 shows_other (Err f) e other h = elim h.err [ inl memory ↦ absurd (other memory) | inr is ↦ let same : f ≡ e = cc in rw same refl ]
 

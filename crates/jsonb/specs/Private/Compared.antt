@@ -1,6 +1,6 @@
 -- Filters that compare members of the item with literals.
 use Rattle.std.specs.Prelude.{◌≡◌, true, List, [], ◌∷◌, flat_map, Option, Some, None, Ok, Err}
-use Rattle.jsonb_doc.specs.Answer.{Outcome, and_then, Gives, IsOutOfMemory}
+use Rattle.jsonb_doc.specs.Answer.{Outcome, and_then, Refines, IsOutOfMemory}
 use Rattle.jsonb_doc.specs.Tree.{Tree}
 use Rattle.jsonb.specs.PathTree.{BinaryOp, eq, not_eq, lt, lte, gt, gte, Expression, steps_of}
 use Rattle.jsonb.specs.PathViews.{steps_view, operator_view}
@@ -46,7 +46,7 @@ pub record IsListCompared (list : ListCompared) (e : Expression) : Type 0 where
       (items_truth list.comparison top)
 
 -- Holds if the result, if there is one, is that of the meaning.
-abbrev pub GivesIfAny : {A B : Type 0} → (A → B → Type 0) → Outcome (Option A) → Outcome B → Type 0
-GivesIfAny R (Ok (Some x)) meaning = Gives R IsOutOfMemory (Ok x) meaning
-GivesIfAny R (Ok None) meaning = Unit {0}
-GivesIfAny R (Err e) meaning = Gives R IsOutOfMemory (Err e) meaning
+abbrev pub RefinesIfAny : {A B : Type 0} → (A → B → Type 0) → Outcome (Option A) → Outcome B → Type 0
+RefinesIfAny R (Ok (Some x)) meaning = Refines R IsOutOfMemory (Ok x) meaning
+RefinesIfAny R (Ok None) meaning = Unit {0}
+RefinesIfAny R (Err e) meaning = Refines R IsOutOfMemory (Err e) meaning

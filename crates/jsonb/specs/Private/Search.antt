@@ -1,6 +1,6 @@
 -- The first item that steps select, in lax mode. Each step is evaluated item by item.
 use Rattle.std.specs.Prelude.{◌≡◌, ℕ, ◌<◌, ◌^◌, true, List, [], ◌∷◌, map, length, reverse, option_map, Option, Some, None, Result, Ok}
-use Rattle.jsonb_doc.specs.Answer.{Outcome, Gives, IsOutOfMemory}
+use Rattle.jsonb_doc.specs.Answer.{Outcome, Refines, IsOutOfMemory}
 use Rattle.jsonb_doc.specs.Payload.{Form}
 use Rattle.jsonb_doc.specs.Spots.{Locates, HasSpotsLeft, spots_bound}
 use Rattle.jsonb_doc.specs.Tree.{Tree}
@@ -59,7 +59,7 @@ AreGiven bytes (given.Many left) ts = HasItems bytes left ts
 -- Holds if the result is what the step selects of the tree at a position.
 abbrev pub GivesItems : List ℕ → Spot → Result StepItems Error → (Tree → Outcome (List Tree)) → Type 0
 GivesItems bytes item answer step =
-    (t : Tree) → Locates bytes item t → Gives (AreGiven bytes) IsOutOfMemory answer (step t)
+    (t : Tree) → Locates bytes item t → Refines (AreGiven bytes) IsOutOfMemory answer (step t)
 
 abbrev pub given_bound : StepItems → ℕ
 given_bound (given.AtMostOne found) = 0

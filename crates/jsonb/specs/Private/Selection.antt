@@ -1,6 +1,6 @@
 -- What a path selects: places of the document, or what an expression makes.
 use Rattle.std.specs.Prelude.{◌≡◌, ◌&&◌, ℕ, Bool, true, false, List, [], ◌∷◌, ◌++◌, map, Option, Some, None, Result, Ok, Err, if◌then◌else◌}
-use Rattle.jsonb_doc.specs.Answer.{Outcome, Gives, IsOutOfMemory}
+use Rattle.jsonb_doc.specs.Answer.{Outcome, Refines, IsOutOfMemory}
 use Rattle.jsonb_doc.specs.declared.error.Error.{Error}
 use Rattle.jsonb_doc.specs.declared.error.Error.TheVariants.{InvalidJsonPath, StrictPath}
 use Rattle.jsonb_doc.specs.declared.spot.Spot.{Spot}
@@ -45,7 +45,7 @@ abbrev pub PushesStep : List ℕ → Spot → List Spot → List Spot → Result
     → (Tree → Outcome (List Tree)) → Type 0
 PushesStep bytes item old new answer step =
     (t : Tree) (before : List Tree) → Locates bytes item t → AllZip (Locates bytes) old before
-    → Gives (λ _ ts. AllZip (Locates bytes) new (before ++ ts)) IsOutOfMemory answer (step t)
+    → Refines (λ _ ts. AllZip (Locates bytes) new (before ++ ts)) IsOutOfMemory answer (step t)
 
 -- the result of a step that does not apply to the item: an error in strict mode
 abbrev pub fail_if_strict : Mode → Result (Unit {0}) Error
@@ -100,7 +100,7 @@ AreSelected form document (selected.Made part) ts = AllZip (IsMadeItem form) (pa
 abbrev pub GivesMeant :
     (Form → Document → Selected → List Tree → Type 0) → Document → Mode → List Step → Outcome Selected → Type 0
 GivesMeant AreOf document mode path answer = (form : Form) (top : Tree) (outcome : Outcome (List Tree))
-    → HasTree document top → Means form mode path top outcome → Gives (AreOf form document) IsOutOfMemory answer outcome
+    → HasTree document top → Means form mode path top outcome → Refines (AreOf form document) IsOutOfMemory answer outcome
 
 -- this holds of the trees that are selected, whatever they are
 abbrev pub OfSelected : Document → Selected → (Form → List Tree → Type 0) → Type 0
@@ -110,7 +110,7 @@ OfSelected document selected Holds = (form : Form) (top : Tree) (ts : List Tree)
 -- a document of these bytes, and what is selected from it: the trees of a list, or its error
 abbrev pub IsSelectionOf : List ℕ → Form → Outcome (List Tree) → Result (Document × Selected) Error → Type 0
 IsSelectionOf bytes form outcome answer =
-    Gives (λ found ts. (found.0.bytes.now ≡ bytes) × AreSelected form found.0 found.1 ts) IsOutOfMemory answer outcome
+    Refines (λ found ts. (found.0.bytes.now ≡ bytes) × AreSelected form found.0 found.1 ts) IsOutOfMemory answer outcome
 
 -- what a step is where an expression is a filter, or refused
 abbrev pub taken_as : Expressions → Expression → Step

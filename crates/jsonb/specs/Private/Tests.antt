@@ -1,7 +1,7 @@
 -- The tests that a condition is compiled to.
 use Rattle.std.specs.Prelude.{◌≡◌, ◌==◌, ◌&&◌, ◌+◌, ℕ, Bool, true, false, not, List, [], ◌∷◌, length, flat_map, reverse, sum_by, Option, Some, None, Result, Ok}
 use Rattle.std.specs.List.{AllZip}
-use Rattle.jsonb_doc.specs.Answer.{and_then, Gives, IsOutOfMemory}
+use Rattle.jsonb_doc.specs.Answer.{and_then, Refines, IsOutOfMemory}
 use Rattle.jsonb_doc.specs.Tree.{Tree}
 use Rattle.jsonb_doc.specs.declared.error.Error.{Error}
 use Rattle.jsonb.specs.PathTree.{Expression, steps_of}
@@ -56,7 +56,7 @@ IsQuestionOf question.Unknown e = (mode : Mode) (top t : Tree) → truth mode e 
 -- the result is the truth of the question
 abbrev pub IsTruthOf : Mode → Tree → Tree → Question → Result Truth Error → Type 0
 IsTruthOf mode top t question answer =
-    (e : Expression) → IsQuestionOf question e → Gives (λ b c. b ≡ c) IsOutOfMemory answer (truth mode e top t)
+    (e : Expression) → IsQuestionOf question e → Refines (λ b c. b ≡ c) IsOutOfMemory answer (truth mode e top t)
 
 pub record IsTestOf (test : Test) (branch : Branch) : Type 0 where
   pub on_true : test.on_true ≡ branch.on_true

@@ -4,7 +4,7 @@
 
 ghost use Rattle.std.specs.Prelude.{◌≡◌, ◌<◌, false, length, IfOk};
 ghost use Rattle.jsonb.specs.PathGrammar.{expression};
-ghost use Rattle.jsonb_keypath.specs.Views.{read_as, LeavesLess};
+ghost use Rattle.jsonb_keypath.specs.Views.{read_as, ConsumesInput};
 ghost use Rattle.jsonb.specs.PathViews.{expression_view};
 ghost use Rattle.jsonb.specs.Private.Frames.{partial_outcome, opening_outcome, resumed, IsPartial, IsOpening, AreFrames};
 
@@ -28,7 +28,7 @@ pub(super) fn expression_at(
     input: &[u8],
 ) -> Reading<'_, Expr<'_>>
     ensures value { IfOk result (λ found. read_as expression_view found ≡ expression is_in_filter input.now) }
-    ensures shrinks { IfOk result (LeavesLess input.now) }
+    ensures shrinks { IfOk result (ConsumesInput input.now) }
 {
     let first = opening_at(alloc, is_in_filter, input)?;
     expression_from(alloc, is_in_filter, first)

@@ -3,7 +3,7 @@
 ghost use Rattle.std.specs.Prelude.{◌≡◌, map, IfOk};
 ghost use Rattle.jsonb.specs.PathGrammar.{negated, place, entry, entries, spaced_entry};
 ghost use Rattle.jsonb.specs.Private.Repeated.{another_entry, entry_list};
-ghost use Rattle.jsonb_keypath.specs.Views.{read_as, LeavesLess};
+ghost use Rattle.jsonb_keypath.specs.Views.{read_as, ConsumesInput};
 ghost use Rattle.jsonb.specs.PathViews.{place_view, entry_view};
 
 use super::Reading;
@@ -22,7 +22,7 @@ fn negation(i: i32) -> i32
 #[tactic(auto, unfolding(crate::specs::PathGrammar::place))]
 fn place_at(input: &[u8]) -> Option<(Index, &[u8])>
     ensures value { read_as place_view result ≡ place input.now }
-    ensures shrinks { LeavesLess input.now result }
+    ensures shrinks { ConsumesInput input.now result }
 {
     if let Some((i, rest)) = int32(input) {
         return Some((Index::Index(i), rest));
@@ -45,7 +45,7 @@ fn place_at(input: &[u8]) -> Option<(Index, &[u8])>
 #[tactic(auto, unfolding(crate::specs::PathGrammar::entry))]
 fn entry_at(input: &[u8]) -> Option<(ArrayIndex, &[u8])>
     ensures value { read_as entry_view result ≡ entry input.now }
-    ensures shrinks { LeavesLess input.now result }
+    ensures shrinks { ConsumesInput input.now result }
 {
     let (first, rest) = place_at(input)?;
     if let Some(after) = keyword_at(b"to", skip_space(rest)) {
@@ -59,7 +59,7 @@ fn entry_at(input: &[u8]) -> Option<(ArrayIndex, &[u8])>
 #[tactic(auto, unfolding(crate::specs::PathGrammar::spaced_entry))]
 fn spaced_entry_at(input: &[u8]) -> Option<(ArrayIndex, &[u8])>
     ensures value { read_as entry_view result ≡ spaced_entry input.now }
-    ensures shrinks { LeavesLess input.now result }
+    ensures shrinks { ConsumesInput input.now result }
 {
     let (found, rest) = entry_at(skip_space(input))?;
     Some((found, skip_space(rest)))
@@ -68,7 +68,7 @@ fn spaced_entry_at(input: &[u8]) -> Option<(ArrayIndex, &[u8])>
 /// Reads a comma and the subscript after it.
 fn another_entry_at(input: &[u8]) -> Option<(ArrayIndex, &[u8])>
     ensures value { read_as entry_view result ≡ another_entry input.now }
-    ensures shrinks { LeavesLess input.now result }
+    ensures shrinks { ConsumesInput input.now result }
 {
     spaced_entry_at(literal(b",", input)?)
 }
@@ -76,7 +76,7 @@ fn another_entry_at(input: &[u8]) -> Option<(ArrayIndex, &[u8])>
 fn entry_list_at(alloc: Global, input: &[u8]) -> Reading<'_, Vec<ArrayIndex>>
     ensures value { IfOk result (λ found.
         read_as (λ entries. map entry_view entries.items) found ≡ entry_list input.now) }
-    ensures shrinks { IfOk result (LeavesLess input.now) }
+    ensures shrinks { IfOk result (ConsumesInput input.now) }
 {
     let Some((first, mut rest)) = spaced_entry_at(input) else {
         return Ok(None);
@@ -94,7 +94,7 @@ fn entry_list_at(alloc: Global, input: &[u8]) -> Reading<'_, Vec<ArrayIndex>>
 pub(super) fn entries_at(alloc: Global, input: &[u8]) -> Reading<'_, Vec<ArrayIndex>>
     ensures value { IfOk result (λ found.
         read_as (λ entries. map entry_view entries.items) found ≡ entries input.now) }
-    ensures shrinks { IfOk result (LeavesLess input.now) }
+    ensures shrinks { IfOk result (ConsumesInput input.now) }
 {
     let Some(inside) = literal(b"[", input) else {
         return Ok(None);

@@ -3,7 +3,7 @@
 ghost use Rattle.std.specs.Prelude.{◌≡◌, ◌≤◌, ◌++◌, length, Some, None, IfOk};
 ghost use Rattle.jsonb_keypath.specs.Rules.{parsed_map, repeat};
 ghost use Rattle.jsonb.specs.PathGrammar.{level_end, levels, wildcard, named_field, bracket_field, inner, spaced_inner, path_step};
-ghost use Rattle.jsonb_keypath.specs.Views.{read_as, LeavesLess};
+ghost use Rattle.jsonb_keypath.specs.Views.{read_as, ConsumesInput};
 ghost use Rattle.jsonb.specs.PathViews.{end_view, levels_view, step_view, steps_view};
 
 use super::Reading;
@@ -16,7 +16,7 @@ use std::alloc::{AllocError, Global};
 #[tactic(auto, unfolding(crate::specs::PathGrammar::levels))]
 fn levels_at(input: &[u8]) -> Option<(RecursiveLevel, &[u8])>
     ensures value { read_as levels_view result ≡ levels input.now }
-    ensures shrinks { LeavesLess input.now result }
+    ensures shrinks { ConsumesInput input.now result }
 {
     let inside = literal(b"{", input)?;
     let (start, behind) = nat8(skip_space(inside))?;
@@ -30,7 +30,7 @@ fn levels_at(input: &[u8]) -> Option<(RecursiveLevel, &[u8])>
 
 fn level_end_at(input: &[u8]) -> Option<(RecursiveLevelEnd, &[u8])>
     ensures value { read_as end_view result ≡ level_end input.now }
-    ensures shrinks { LeavesLess input.now result }
+    ensures shrinks { ConsumesInput input.now result }
 {
     let after = skip_space(keyword_at(b"to", skip_space(input))?);
     if let Some((level, rest)) = nat8(after) {
@@ -43,7 +43,7 @@ fn level_end_at(input: &[u8]) -> Option<(RecursiveLevelEnd, &[u8])>
 #[tactic(auto, unfolding(crate::specs::PathGrammar::wildcard))]
 fn wildcard_at(input: &[u8]) -> Option<(Path<'_>, &[u8])>
     ensures value { read_as step_view result ≡ wildcard input.now }
-    ensures shrinks { LeavesLess input.now result }
+    ensures shrinks { ConsumesInput input.now result }
 {
     if let Some(rest) = literal(b".**", input) {
         return match levels_at(rest) {
@@ -63,7 +63,7 @@ fn wildcard_at(input: &[u8]) -> Option<(Path<'_>, &[u8])>
 #[tactic(auto, unfolding(crate::specs::PathGrammar::named_field))]
 fn named_field_at(alloc: Global, input: &[u8]) -> Reading<'_, Path<'_>>
     ensures value { IfOk result (λ found. read_as step_view found ≡ named_field input.now) }
-    ensures shrinks { IfOk result (LeavesLess input.now) }
+    ensures shrinks { IfOk result (ConsumesInput input.now) }
 {
     if let Some(rest) = literal(b":", input) {
         if let Some((text, end)) = field_at(alloc, rest)? {
@@ -81,7 +81,7 @@ fn named_field_at(alloc: Global, input: &[u8]) -> Reading<'_, Path<'_>>
 #[tactic(auto, unfolding(crate::specs::PathGrammar::bracket_field))]
 fn bracket_field_at(alloc: Global, input: &[u8]) -> Reading<'_, Path<'_>>
     ensures value { IfOk result (λ found. read_as step_view found ≡ bracket_field input.now) }
-    ensures shrinks { IfOk result (LeavesLess input.now) }
+    ensures shrinks { IfOk result (ConsumesInput input.now) }
 {
     let Some(inside) = literal(b"[", input) else {
         return Ok(None);
@@ -98,7 +98,7 @@ fn bracket_field_at(alloc: Global, input: &[u8]) -> Reading<'_, Path<'_>>
 #[tactic(auto, unfolding(crate::specs::PathGrammar::inner))]
 fn inner_at(alloc: Global, input: &[u8]) -> Reading<'_, Path<'_>>
     ensures value { IfOk result (λ found. read_as step_view found ≡ inner input.now) }
-    ensures shrinks { IfOk result (LeavesLess input.now) }
+    ensures shrinks { IfOk result (ConsumesInput input.now) }
 {
     if let Some((path, rest)) = wildcard_at(input) {
         return Ok(Some((path, rest)));
@@ -115,7 +115,7 @@ fn inner_at(alloc: Global, input: &[u8]) -> Reading<'_, Path<'_>>
 #[tactic(auto, unfolding(crate::specs::PathGrammar::spaced_inner))]
 pub(super) fn spaced_inner_at(alloc: Global, input: &[u8]) -> Reading<'_, Path<'_>>
     ensures value { IfOk result (λ found. read_as step_view found ≡ spaced_inner input.now) }
-    ensures shrinks { IfOk result (LeavesLess input.now) }
+    ensures shrinks { IfOk result (ConsumesInput input.now) }
 {
     match inner_at(alloc, skip_space(input))? {
         Some((path, rest)) => Ok(Some((path, skip_space(rest)))),

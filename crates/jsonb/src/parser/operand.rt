@@ -4,7 +4,7 @@ ghost use Rattle.std.specs.Prelude.{◌≡◌, ◌++◌, false, IfOk, IfSome};
 ghost use Rattle.jsonb_keypath.specs.Rules.{parsed_map, repeat};
 ghost use Rattle.jsonb.specs.PathGrammar.{path_root, literal_value, operand_steps, operand, spaced_operand, operator, arithmetic_operator, unary_operator, unary_atom, binary_atom, path_step, plain_path};
 ghost use Rattle.jsonb.specs.Private.Frames.{operation};
-ghost use Rattle.jsonb_keypath.specs.Views.{read_as, LeavesLess};
+ghost use Rattle.jsonb_keypath.specs.Views.{read_as, ConsumesInput};
 ghost use Rattle.jsonb.specs.PathViews.{literal_view, operator_view, sign_view, step_view, steps_view, expression_view};
 
 use super::Reading;
@@ -27,7 +27,7 @@ macro_rules! return_first_of {
 #[tactic(auto, unfolding(crate::specs::PathGrammar::operator))]
 fn operator_at(input: &[u8]) -> Option<(BinaryOperator, &[u8])>
     ensures value { read_as operator_view result ≡ operator input.now }
-    ensures shrinks { LeavesLess input.now result }
+    ensures shrinks { ConsumesInput input.now result }
 {
     return_first_of! {
         input,
@@ -42,7 +42,7 @@ fn operator_at(input: &[u8]) -> Option<(BinaryOperator, &[u8])>
 #[tactic(auto, unfolding(crate::specs::PathGrammar::arithmetic_operator))]
 fn arithmetic_operator_at(input: &[u8]) -> Option<(BinaryOperator, &[u8])>
     ensures value { read_as operator_view result ≡ arithmetic_operator input.now }
-    ensures shrinks { LeavesLess input.now result }
+    ensures shrinks { ConsumesInput input.now result }
 {
     return_first_of! {
         input,
@@ -55,7 +55,7 @@ fn arithmetic_operator_at(input: &[u8]) -> Option<(BinaryOperator, &[u8])>
 #[tactic(auto, unfolding(crate::specs::PathGrammar::unary_operator))]
 fn unary_operator_at(input: &[u8]) -> Option<(UnaryOperator, &[u8])>
     ensures value { read_as sign_view result ≡ unary_operator input.now }
-    ensures shrinks { LeavesLess input.now result }
+    ensures shrinks { ConsumesInput input.now result }
 {
     return_first_of! {
         input,
@@ -68,7 +68,7 @@ fn unary_operator_at(input: &[u8]) -> Option<(UnaryOperator, &[u8])>
 #[tactic(auto, unfolding(crate::specs::PathGrammar::literal_value))]
 fn literal_value_at(alloc: Global, input: &[u8]) -> Reading<'_, PathValue<'_>>
     ensures value { IfOk result (λ found. read_as literal_view found ≡ literal_value input.now) }
-    ensures shrinks { IfOk result (LeavesLess input.now) }
+    ensures shrinks { IfOk result (ConsumesInput input.now) }
 {
     if let Some(rest) = literal(b"null", input) {
         return Ok(Some((PathValue::Null, rest)));
@@ -95,7 +95,7 @@ fn literal_value_at(alloc: Global, input: &[u8]) -> Reading<'_, PathValue<'_>>
 #[tactic(auto, unfolding(crate::specs::PathGrammar::path_root))]
 pub(super) fn path_root_at(is_in_filter: bool, input: &[u8]) -> Option<(Path<'_>, &[u8])>
     ensures value { read_as step_view result ≡ path_root is_in_filter input.now }
-    ensures shrinks { LeavesLess input.now result }
+    ensures shrinks { ConsumesInput input.now result }
 {
     if let Some(rest) = literal(b"$", input) {
         return Some((Path::Root, rest));
@@ -118,7 +118,7 @@ pub(super) fn operand_steps_at(
         read_as (λ steps. steps_view steps.items) found ≡ operand_steps is_in_filter input.now) }
     ensures goes_on { IfOk result (λ found. is_in_filter ≡ false → IfSome found (λ p.
         parsed_map (λ others. steps_view p.0.items ++ others) (repeat path_step p.1.now) ≡ plain_path input.now)) }
-    ensures shrinks { IfOk result (LeavesLess input.now) }
+    ensures shrinks { IfOk result (ConsumesInput input.now) }
 {
     let Some((first, rest)) = path_root_at(is_in_filter, input) else {
         return Ok(None);
@@ -132,7 +132,7 @@ pub(super) fn operand_steps_at(
 #[tactic(auto, unfolding(crate::specs::PathGrammar::operand))]
 fn operand_at(alloc: Global, is_in_filter: bool, input: &[u8]) -> Reading<'_, Expr<'_>>
     ensures value { IfOk result (λ found. read_as expression_view found ≡ operand is_in_filter input.now) }
-    ensures shrinks { IfOk result (LeavesLess input.now) }
+    ensures shrinks { IfOk result (ConsumesInput input.now) }
 {
     if let Some((steps, rest)) = operand_steps_at(alloc, is_in_filter, input)? {
         return Ok(Some((Expr::Paths(steps), rest)));
@@ -146,7 +146,7 @@ fn operand_at(alloc: Global, is_in_filter: bool, input: &[u8]) -> Reading<'_, Ex
 #[tactic(auto, unfolding(crate::specs::PathGrammar::spaced_operand))]
 fn spaced_operand_at(alloc: Global, is_in_filter: bool, input: &[u8]) -> Reading<'_, Expr<'_>>
     ensures value { IfOk result (λ found. read_as expression_view found ≡ spaced_operand is_in_filter input.now) }
-    ensures shrinks { IfOk result (LeavesLess input.now) }
+    ensures shrinks { IfOk result (ConsumesInput input.now) }
 {
     match operand_at(alloc, is_in_filter, skip_space(input))? {
         Some((found, rest)) => Ok(Some((found, skip_space(rest)))),
@@ -161,7 +161,7 @@ pub(super) fn unary_atom_at(
     input: &[u8],
 ) -> Reading<'_, Expr<'_>>
     ensures value { IfOk result (λ found. read_as expression_view found ≡ unary_atom is_in_filter input.now) }
-    ensures shrinks { IfOk result (LeavesLess input.now) }
+    ensures shrinks { IfOk result (ConsumesInput input.now) }
 {
     let Some((op, rest)) = unary_operator_at(input) else {
         return Ok(None);
@@ -180,7 +180,7 @@ pub(super) fn binary_atom_at(
     input: &[u8],
 ) -> Reading<'_, Expr<'_>>
     ensures value { IfOk result (λ found. read_as expression_view found ≡ binary_atom is_in_filter input.now) }
-    ensures shrinks { IfOk result (LeavesLess input.now) }
+    ensures shrinks { IfOk result (ConsumesInput input.now) }
 {
     let Some((first, rest)) = spaced_operand_at(alloc, is_in_filter, input)? else {
         return Ok(None);
@@ -202,7 +202,7 @@ pub(super) fn operation_at(
 ) -> Reading<'_, (BinaryOperator, Expr<'_>)>
     ensures value { IfOk result (λ found.
         read_as (λ p. (operator_view p.0, expression_view p.1)) found ≡ operation is_in_filter input.now) }
-    ensures shrinks { IfOk result (LeavesLess input.now) }
+    ensures shrinks { IfOk result (ConsumesInput input.now) }
 {
     let Some((op, rest)) = operator_at(input) else {
         return Ok(None);

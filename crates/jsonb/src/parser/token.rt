@@ -4,7 +4,7 @@ ghost use Rattle.std.specs.Prelude.{◌≡◌, ◌+◌, ◌≤◌, length, optio
 ghost use Rattle.std.specs.Cow.{cow_str_bytes};
 ghost use Rattle.jsonb_keypath.specs.Rules.{bytes};
 ghost use Rattle.jsonb_keypath.specs.Tokens.{name, quoted};
-ghost use Rattle.jsonb_keypath.specs.Views.{read_as, LeavesLess};
+ghost use Rattle.jsonb_keypath.specs.Views.{read_as, ConsumesInput};
 ghost use Rattle.jsonb.specs.PathGrammar.{in_any_case, field, spaced};
 
 use super::Reading;
@@ -15,7 +15,7 @@ use std::borrow::CowStr;
 /// Reads a name; fails only if an allocation fails.
 pub(super) fn name_at(alloc: Global, input: &[u8]) -> Reading<'_, CowStr<'_, Global>>
     ensures value { IfOk result (λ found. read_as cow_str_bytes found ≡ name input.now) }
-    ensures shrinks { IfOk result (LeavesLess input.now) }
+    ensures shrinks { IfOk result (ConsumesInput input.now) }
 {
     match read_name(alloc, input) {
         Ok(found) => Ok(found),
@@ -26,7 +26,7 @@ pub(super) fn name_at(alloc: Global, input: &[u8]) -> Reading<'_, CowStr<'_, Glo
 /// Reads a quoted string; fails only if an allocation fails.
 pub(super) fn quoted_at(alloc: Global, input: &[u8]) -> Reading<'_, CowStr<'_, Global>>
     ensures value { IfOk result (λ found. read_as cow_str_bytes found ≡ quoted input.now) }
-    ensures shrinks { IfOk result (LeavesLess input.now) }
+    ensures shrinks { IfOk result (ConsumesInput input.now) }
 {
     match read_quoted(alloc, input) {
         Ok(found) => Ok(found),
@@ -38,7 +38,7 @@ pub(super) fn quoted_at(alloc: Global, input: &[u8]) -> Reading<'_, CowStr<'_, G
 #[tactic(auto, unfolding(crate::specs::PathGrammar::field))]
 pub(super) fn field_at(alloc: Global, input: &[u8]) -> Reading<'_, CowStr<'_, Global>>
     ensures value { IfOk result (λ found. read_as cow_str_bytes found ≡ field input.now) }
-    ensures shrinks { IfOk result (LeavesLess input.now) }
+    ensures shrinks { IfOk result (ConsumesInput input.now) }
 {
     match quoted_at(alloc, input)? {
         Some(found) => Ok(Some(found)),

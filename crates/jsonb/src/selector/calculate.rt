@@ -1,7 +1,7 @@
 //! Arithmetic of an expression that is the whole path.
 
 ghost use Rattle.std.specs.Prelude.{◌≡◌, Some, option_map, map, is_some, IfErr};
-ghost use Rattle.jsonb_doc.specs.Answer.{Gives, try_flat_map, IsOutOfMemory};
+ghost use Rattle.jsonb_doc.specs.Answer.{Refines, try_flat_map, IsOutOfMemory};
 ghost use Rattle.jsonb_doc.specs.Arithmetic.{Operation, calculated, IsResultOf};
 ghost use Rattle.jsonb_doc.specs.View.{number_view};
 ghost use Rattle.jsonb.specs.PathArithmetic.{operation, two_numbers, signed_number, each_signed};
@@ -64,7 +64,7 @@ pub(crate) fn binary_number(
     right: &[OperandValue<'_>],
 ) -> Result<Number, Error>
     ensures meant { (o : Operation) → operation (operator_view op) ≡ Some o
-        → Gives IsNumberTree (λ _. ⊥) result (two_numbers o (map value_view left.now) (map value_view right.now)) }
+        → Refines IsNumberTree (λ _. ⊥) result (two_numbers o (map value_view left.now) (map value_view right.now)) }
     ensures errors { (mode : Mode) → IfErr result (IsPathError mode) }
 {
     match (only_number(left), only_number(right)) {
@@ -102,7 +102,7 @@ fn is_number(value: &OperandValue<'_>) -> bool
 /// Applies a sign to a number.
 #[inline(always)]
 fn signed(op: UnaryOperator, number: Number) -> Result<Number, Error>
-    ensures meant { Gives IsNumberTree (λ _. ⊥) result (signed_number (sign_view op) (number_view number)) }
+    ensures meant { Refines IsNumberTree (λ _. ⊥) result (signed_number (sign_view op) (number_view number)) }
     ensures errors { (mode : Mode) → IfErr result (IsPathError mode) }
 {
     match op {
@@ -113,7 +113,7 @@ fn signed(op: UnaryOperator, number: Number) -> Result<Number, Error>
 
 /// Applies a sign to each number in place, from left to right.
 pub(crate) fn sign_each(op: UnaryOperator, numbers: &mut [Number]) -> Result<(), Error>
-    ensures meant { Gives (λ _ ts. AllZip IsNumberItem numbers.new ts) IsOutOfMemory result
+    ensures meant { Refines (λ _ ts. AllZip IsNumberItem numbers.new ts) IsOutOfMemory result
         (try_flat_map (signed_number (sign_view op)) (map number_view numbers.old)) }
     ensures errors { (mode : Mode) → IfErr result (IsSelectionError mode) }
 {
@@ -126,7 +126,7 @@ pub(crate) fn sign_each(op: UnaryOperator, numbers: &mut [Number]) -> Result<(),
 /// Applies a sign to a value. Fails with `InvalidJsonPath` if it is not a number.
 #[inline(always)]
 fn signed_value(op: UnaryOperator, value: &OperandValue<'_>) -> Result<Number, Error>
-    ensures meant { Gives IsNumberTree (λ _. ⊥) result (signed_value (sign_view op) (value_view value.now)) }
+    ensures meant { Refines IsNumberTree (λ _. ⊥) result (signed_value (sign_view op) (value_view value.now)) }
     ensures errors { (mode : Mode) → IfErr result (IsPathError mode) }
 {
     match value {
@@ -142,7 +142,7 @@ fn each_signed(
     op: UnaryOperator,
     values: &[OperandValue<'_>],
 ) -> Result<Vec<Number>, Error>
-    ensures meant { Gives (λ v ts. AllZip IsNumberItem v.items ts) IsOutOfMemory result
+    ensures meant { Refines (λ v ts. AllZip IsNumberItem v.items ts) IsOutOfMemory result
         (try_flat_map (signed_value (sign_view op)) (map value_view values.now)) }
     ensures errors { (mode : Mode) → IfErr result (IsSelectionError mode) }
 {
@@ -160,7 +160,7 @@ pub(crate) fn unary_numbers(
     op: UnaryOperator,
     values: &[OperandValue<'_>],
 ) -> Result<Vec<Number>, Error>
-    ensures meant { Gives (λ v ts. AllZip IsNumberItem v.items ts) IsOutOfMemory result
+    ensures meant { Refines (λ v ts. AllZip IsNumberItem v.items ts) IsOutOfMemory result
         (each_signed (sign_view op) (map value_view values.now)) }
     ensures errors { (mode : Mode) → IfErr result (IsSelectionError mode) }
 {

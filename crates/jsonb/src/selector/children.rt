@@ -1,7 +1,7 @@
 //! The positions of an item's children, and of what a step without an expression selects.
 
 ghost use Rattle.std.specs.Prelude.{◌≡◌, ℕ, ◌<◌, ◌^◌, ◌++◌, ◌∷◌, [], map, List, Ok, false, IfOk, IfSome, IfErr, OnOk, IsOkAnd, if◌then◌else◌, pos, ⊤, MatchOption, filter_map, slice_get};
-ghost use Rattle.jsonb_doc.specs.Answer.{Gives, SameOption, IsOutOfMemory, ◌or◌, IsDecodingError};
+ghost use Rattle.jsonb_doc.specs.Answer.{Refines, SameOption, IsOutOfMemory, ◌or◌, IsDecodingError};
 ghost use Rattle.jsonb_doc.specs.declared.error.Error.TheVariants.{OutOfMemory, StrictPath};
 ghost use Rattle.jsonb_doc.specs.Spots.{Locates, HasSpotsLeft, spots_bound};
 ghost use Rattle.jsonb_doc.specs.Tree.{Tree};
@@ -58,7 +58,7 @@ pub(crate) fn push_spot(nodes: &mut Vec<Spot>, spot: Spot) -> Result<(), Error>
 pub(crate) fn push_if(condition: bool, spot: Spot, nodes: &mut Vec<Spot>) -> Result<(), Error>
     ensures meant { (bytes : List ℕ) (t : Tree) (before : List Tree) → Locates bytes spot t
         → AllZip (Locates bytes) nodes.old.items before
-        → Gives (λ _ us. AllZip (Locates bytes) nodes.new.items (before ++ us)) IsOutOfMemory result
+        → Refines (λ _ us. AllZip (Locates bytes) nodes.new.items (before ++ us)) IsOutOfMemory result
         (Ok (if condition then t ∷ [] else [])) }
     ensures errors { IfErr result IsOutOfMemory }
 {
@@ -73,7 +73,7 @@ pub(crate) fn push_if(condition: bool, spot: Spot, nodes: &mut Vec<Spot>) -> Res
 pub(crate) fn push_spots(spots: SpotIter<'_>, nodes: &mut Vec<Spot>) -> Result<(), Error>
     ensures meant { (bytes : List ℕ) (ts before : List Tree) → HasSpotsLeft bytes spots.entry ts
         → AllZip (Locates bytes) nodes.old.items before
-        → Gives (λ _ us. AllZip (Locates bytes) nodes.new.items (before ++ us)) IsOutOfMemory result (Ok ts) }
+        → Refines (λ _ us. AllZip (Locates bytes) nodes.new.items (before ++ us)) IsOutOfMemory result (Ok ts) }
     ensures errors { IfErr result (IsDecodingError or OutOfMemory) }
 {
     nodes.reserve(spots.len())?;
@@ -95,7 +95,7 @@ pub(crate) fn push_step(
 ) -> Result<(), Error>
     ensures meant { (top t : Tree) (before : List Tree) → is_filter (step_view step.now) ≡ false
         → Locates bytes.now item t → AllZip (Locates bytes.now) nodes.old.items before
-        → Gives (λ _ ts. AllZip (Locates bytes.now) nodes.new.items (before ++ ts))
+        → Refines (λ _ ts. AllZip (Locates bytes.now) nodes.new.items (before ++ ts))
         IsOutOfMemory result (step_meaning mode (step_view step.now) top t) }
     ensures errors { IfErr result (IsSelectionError mode) }
 {
@@ -198,7 +198,7 @@ fn push_picked(
 ) -> Result<(), Error>
     ensures meant { (bytes : List ℕ) (ts before : List Tree) → HasSpotsLeft bytes elements.entry ts
         → AllZip (Locates bytes) nodes.old.items before
-        → Gives (λ _ us. AllZip (Locates bytes) nodes.new.items (before ++ us)) IsOutOfMemory result
+        → Refines (λ _ us. AllZip (Locates bytes) nodes.new.items (before ++ us)) IsOutOfMemory result
         (Ok (picked (map entry_view entries.now) ts)) }
     ensures errors { IfErr result (IsDecodingError or OutOfMemory) }
 {
@@ -224,7 +224,7 @@ fn plain_index(entries: &[ArrayIndex]) -> Option<usize>
 fn push_nth(elements: SpotIter<'_>, position: usize, nodes: &mut Vec<Spot>) -> Result<(), Error>
     ensures meant { (bytes : List ℕ) (ts before : List Tree) → HasSpotsLeft bytes elements.entry ts
         → AllZip (Locates bytes) nodes.old.items before
-        → Gives (λ _ us. AllZip (Locates bytes) nodes.new.items (before ++ us)) IsOutOfMemory result
+        → Refines (λ _ us. AllZip (Locates bytes) nodes.new.items (before ++ us)) IsOutOfMemory result
         (Ok (filter_map (slice_get ts) (position ∷ []))) }
     ensures errors { IfErr result (IsDecodingError or OutOfMemory) }
 {
@@ -247,7 +247,7 @@ fn push_entries(
 ) -> Result<(), Error>
     ensures meant { (bytes : List ℕ) (ts before : List Tree) → AllZip (Locates bytes) elements.now ts
         → AllZip (Locates bytes) nodes.old.items before
-        → Gives (λ _ us. AllZip (Locates bytes) nodes.new.items (before ++ us)) IsOutOfMemory result
+        → Refines (λ _ us. AllZip (Locates bytes) nodes.new.items (before ++ us)) IsOutOfMemory result
         (Ok (picked (map entry_view entries.now) ts)) }
     ensures errors { IfErr result (IsDecodingError or OutOfMemory) }
 {
@@ -261,7 +261,7 @@ fn push_entries(
 fn push_entry(entry: &ArrayIndex, elements: &[Spot], nodes: &mut Vec<Spot>) -> Result<(), Error>
     ensures meant { (bytes : List ℕ) (ts before : List Tree) → AllZip (Locates bytes) elements.now ts
         → AllZip (Locates bytes) nodes.old.items before
-        → Gives (λ _ us. AllZip (Locates bytes) nodes.new.items (before ++ us)) IsOutOfMemory result
+        → Refines (λ _ us. AllZip (Locates bytes) nodes.new.items (before ++ us)) IsOutOfMemory result
         (Ok (picked_by (entry_view entry.now) ts)) }
     ensures errors { IfErr result IsOutOfMemory }
 {

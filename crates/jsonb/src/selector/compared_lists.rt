@@ -1,7 +1,7 @@
 //! Comparisons of members of items with a literal, such as `$[*].age > 1000`. The members are not collected in a list.
 
 ghost use Rattle.std.specs.Prelude.{◌≡◌, ◌≤◌, drop, length, List, true, MatchOption, ⊤, IfErr};
-ghost use Rattle.jsonb_doc.specs.Answer.{Gives, IsOutOfMemory};
+ghost use Rattle.jsonb_doc.specs.Answer.{Refines, IsOutOfMemory};
 ghost use Rattle.jsonb_doc.specs.Spots.{Locates};
 ghost use Rattle.jsonb_doc.specs.Tree.{Tree};
 ghost use Rattle.jsonb.specs.PathTree.{Expression, steps_of, paths};
@@ -35,7 +35,7 @@ pub(crate) struct ListCompared<'s, 'a> {
 /// Returns whether an expression is true of the root, or `None` if it is unknown.
 pub(crate) fn root_truth<'a>(context: &Context<'a>, e: &'a Expr<'_>) -> TruthResult
     ensures meant { (top : Tree) → HasTree context.now.document top
-        → Gives (λ b c. b ≡ c) IsOutOfMemory result (truth context.now.mode (expression_view e.now) top top) }
+        → Refines (λ b c. b ≡ c) IsOutOfMemory result (truth context.now.mode (expression_view e.now) top top) }
     ensures errors { IfErr result (IsSelectionError context.now.mode) }
 {
     let document = &context.document;
@@ -99,7 +99,7 @@ fn list_compared_truth<'a>(
     document: &Document<'a>,
 ) -> TruthResult
     ensures meant { (e : Expression) (top : Tree) → IsListCompared list.now e → HasTree document.now top
-        → Gives (λ b c. b ≡ c) IsOutOfMemory result (truth Lax e top top) }
+        → Refines (λ b c. b ≡ c) IsOutOfMemory result (truth Lax e top top) }
     ensures errors { IfErr result (IsSelectionError Lax) }
 {
     if list.front.is_empty() {
@@ -120,7 +120,7 @@ fn list_compared_truth<'a>(
 fn items_truth(comparison: &MemberCompared<'_, '_>, bytes: &[u8], items: &[Spot]) -> TruthResult
     ensures meant { (e : Expression) (top : Tree) (ts : List Tree) → IsMemberCompared comparison.now e
         → AllZip (Locates bytes.now) items.now ts
-        → Gives (λ b c. b ≡ c) IsOutOfMemory result (items_truth comparison.now top ts) }
+        → Refines (λ b c. b ≡ c) IsOutOfMemory result (items_truth comparison.now top ts) }
     ensures errors { IfErr result (IsSelectionError Lax) }
 {
     for item in items {

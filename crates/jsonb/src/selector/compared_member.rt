@@ -2,7 +2,7 @@
 //! and strings are not validated.
 
 ghost use Rattle.std.specs.Prelude.{◌≡◌, ◌∷◌, [], Ok, List, map, flat_map, true, IfErr};
-ghost use Rattle.jsonb_doc.specs.Answer.{Gives, and_then, IsOutOfMemory, IsDecodingError};
+ghost use Rattle.jsonb_doc.specs.Answer.{Refines, and_then, IsOutOfMemory, IsDecodingError};
 ghost use Rattle.jsonb_doc.specs.Spots.{Locates, HasSpotsLeft};
 ghost use Rattle.jsonb_doc.specs.Tree.{Tree};
 ghost use Rattle.jsonb.specs.PathTree.{Expression, steps_of, paths};
@@ -37,7 +37,7 @@ pub(crate) fn compared_member(
 ) -> Result<Option<Spot>, Error>
     ensures meant { (top t : Tree) → are_members (steps_view comparison.now.names.now) ≡ true
         → Locates bytes.now item t
-        → Gives (λ found us. AllZip (Locates bytes.now) (option_spots found) us) IsOutOfMemory result
+        → Refines (λ found us. AllZip (Locates bytes.now) (option_spots found) us) IsOutOfMemory result
         (steps_meaning mode (steps_of (map (taken_step AreRefused) (steps_view comparison.now.names.now)))
         top (t ∷ [])) }
     ensures errors { IfErr result (IsSelectionError mode) }
@@ -56,10 +56,10 @@ pub(crate) fn literal_truth(
     found: Result<Option<Spot>, Error>,
 ) -> TruthResult
     ensures meant { (e : Expression) (mode : Mode) (top t : Tree) → IsMemberCompared comparison.now e
-        → Gives (λ spot us. AllZip (Locates bytes.now) (option_spots spot) us) IsOutOfMemory found
+        → Refines (λ spot us. AllZip (Locates bytes.now) (option_spots spot) us) IsOutOfMemory found
         (steps_meaning mode (steps_of (map (taken_step AreRefused) (steps_view comparison.now.names.now)))
         top (t ∷ []))
-        → Gives (λ b c. b ≡ c) IsOutOfMemory result (truth mode e top t) }
+        → Refines (λ b c. b ≡ c) IsOutOfMemory result (truth mode e top t) }
     ensures errors { (mode : Mode) → IfErr found (IsSelectionError mode) → IfErr result (IsSelectionError mode) }
 {
     let member = found?;
@@ -78,7 +78,7 @@ pub(crate) fn item_truth(
 ) -> TruthResult
     ensures meant { (e : Expression) (top t : Tree) → IsMemberCompared comparison.now e
         → Locates bytes.now item t
-        → Gives (λ b c. b ≡ c) IsOutOfMemory result (truth mode e top t) }
+        → Refines (λ b c. b ≡ c) IsOutOfMemory result (truth mode e top t) }
     ensures errors { IfErr result (IsSelectionError mode) }
 {
     let found = compared_member(mode, comparison, bytes, item);
@@ -95,7 +95,7 @@ pub(crate) fn member_truth(
 ) -> TruthResult
     ensures meant { (top t : Tree) → are_members (steps_view steps.now) ≡ true
         → HasTree current.entry.context.now.document top → IsAt current.entry.context.now.document current.entry.item t
-        → Gives (λ b c. b ≡ c) IsOutOfMemory result
+        → Refines (λ b c. b ≡ c) IsOutOfMemory result
         (and_then (operand_values current.entry.context.now.mode (paths (steps_of (steps_view steps.now))) top t)
         (λ ls. Ok (compare (operator_view op) ls (map value_view rights.now)))) }
     ensures errors { IfErr result (IsSelectionError current.entry.context.now.mode) }
@@ -115,7 +115,7 @@ pub(crate) fn found_truth(
     rights: &[OperandValue<'_>],
 ) -> TruthResult
     ensures meant { (ts : List Tree) → AllZip (Locates bytes.now) (option_spots member) ts
-        → Gives (λ b c. b ≡ c) IsOutOfMemory result
+        → Refines (λ b c. b ≡ c) IsOutOfMemory result
         (Ok (compare (operator_view op) (flat_map values_of_item ts) (map value_view rights.now))) }
     ensures errors { IfErr result IsDecodingError }
 {
@@ -134,7 +134,7 @@ pub(crate) fn compared_truth(
     rights: &[OperandValue<'_>],
 ) -> TruthResult
     ensures meant { (t : Tree) → Locates bytes.now item t
-        → Gives (λ b c. b ≡ c) IsOutOfMemory result
+        → Refines (λ b c. b ≡ c) IsOutOfMemory result
         (Ok (compare (operator_view op) (values_of_item t) (map value_view rights.now))) }
     ensures errors { IfErr result IsDecodingError }
 {
@@ -153,7 +153,7 @@ fn other_truth(
     rights: &[OperandValue<'_>],
 ) -> TruthResult
     ensures meant { (t : Tree) → Locates bytes.now item t
-        → Gives (λ b c. b ≡ c) IsOutOfMemory result
+        → Refines (λ b c. b ≡ c) IsOutOfMemory result
         (Ok (compare (operator_view op) (values_of_item t) (map value_view rights.now))) }
     ensures errors { IfErr result IsDecodingError }
 {
@@ -171,7 +171,7 @@ fn elements_truth(
     rights: &[OperandValue<'_>],
 ) -> TruthResult
     ensures meant { (ts : List Tree) → HasSpotsLeft bytes.now elements.entry ts
-        → Gives (λ b c. b ≡ c) IsOutOfMemory result
+        → Refines (λ b c. b ≡ c) IsOutOfMemory result
         (Ok (compare (operator_view op) (flat_map value_of_item ts) (map value_view rights.now))) }
     ensures errors { IfErr result IsDecodingError }
 {
@@ -193,7 +193,7 @@ fn element_truth(
     rights: &[OperandValue<'_>],
 ) -> TruthResult
     ensures meant { (t : Tree) → Locates bytes.now item t
-        → Gives (λ b c. b ≡ c) IsOutOfMemory result
+        → Refines (λ b c. b ≡ c) IsOutOfMemory result
         (Ok (compare (operator_view op) (value_of_item t) (map value_view rights.now))) }
     ensures errors { IfErr result IsDecodingError }
 {

@@ -6,7 +6,7 @@ ghost use Rattle.jsonb_doc.specs.Tree.{Tree};
 ghost use Rattle.jsonb_doc.specs.Payload.{Form};
 ghost use Rattle.jsonb_doc.specs.Format.{Decodes};
 ghost use Rattle.jsonb_doc.specs.Item.{StandsFor};
-ghost use Rattle.jsonb_doc.specs.Answer.{IsOutOfMemory, IsOutOfMemoryOrTooLarge, ◌or◌, ◌or◌when◌, Gives, IsDecodingError};
+ghost use Rattle.jsonb_doc.specs.Answer.{IsOutOfMemory, IsOutOfMemoryOrTooLarge, ◌or◌, ◌or◌when◌, Refines, IsDecodingError};
 ghost use Rattle.jsonb_doc.specs.declared.error.Error.TheVariants.{OutOfMemory, TooLarge};
 ghost use Rattle.jsonb_doc.specs.ArrayBuilder.{HoldsElements};
 ghost use Rattle.jsonb_doc.specs.Limits.{IsTooLarge};
@@ -134,7 +134,7 @@ pub(crate) fn documents(
     selected: &Selected<'_>,
 ) -> Result<Vec<OwnedJsonb>, Error>
     ensures documents { OfSelected document.entry selected.now (λ form ts.
-        Gives (λ v us. AllZip (Decodes form) v.items us) (IsOutOfMemory or TooLarge when Any (IsTooLarge form) ts)
+        Refines (λ v us. AllZip (Decodes form) v.items us) (IsOutOfMemory or TooLarge when Any (IsTooLarge form) ts)
         result (Ok ts)) }
     ensures errors { IfErr result (IsDecodingError or OutOfMemory or TooLarge) }
 {
@@ -149,7 +149,7 @@ pub(crate) fn documents(
 fn node_documents(alloc: Global, bytes: &[u8], spots: &[Spot]) -> Result<Vec<OwnedJsonb>, Error>
     ensures documents { (form : Form) (top : Tree) (ts : List Tree) → Decodes form bytes.now top
         → AllZip (Locates bytes.now) spots.now ts
-        → Gives (λ v us. AllZip (Decodes form) v.items us) (IsOutOfMemory or TooLarge when Any (IsTooLarge form) ts)
+        → Refines (λ v us. AllZip (Decodes form) v.items us) (IsOutOfMemory or TooLarge when Any (IsTooLarge form) ts)
         result (Ok ts) }
     ensures errors { IfErr result (IsDecodingError or OutOfMemory or TooLarge) }
 {
@@ -164,7 +164,7 @@ fn node_documents(alloc: Global, bytes: &[u8], spots: &[Spot]) -> Result<Vec<Own
 /// Returns these numbers, each as a document.
 fn number_documents(alloc: Global, numbers: &[Number]) -> Result<Vec<OwnedJsonb>, Error>
     ensures documents { (form : Form) (ts : List Tree) → AllZip IsNumberItem numbers.now ts
-        → Gives (λ v us. AllZip (Decodes form) v.items us) (IsOutOfMemory or TooLarge when Any (IsTooLarge form) ts)
+        → Refines (λ v us. AllZip (Decodes form) v.items us) (IsOutOfMemory or TooLarge when Any (IsTooLarge form) ts)
         result (Ok ts) }
     ensures errors { IfErr result (IsOutOfMemory or TooLarge) }
 {
@@ -178,7 +178,7 @@ fn number_documents(alloc: Global, numbers: &[Number]) -> Result<Vec<OwnedJsonb>
 /// Returns the result of an expression as the only document.
 fn made_documents(alloc: Global, part: &MadeItem<'_>) -> Result<Vec<OwnedJsonb>, Error>
     ensures documents { (form : Form) (t : Tree) → IsMadeItem form part.now t
-        → Gives (λ v us. AllZip (Decodes form) v.items us)
+        → Refines (λ v us. AllZip (Decodes form) v.items us)
         (IsOutOfMemory or TooLarge when Any (IsTooLarge form) (t ∷ [])) result (Ok (t ∷ [])) }
     ensures errors { IfErr result (IsOutOfMemory or TooLarge) }
 {

@@ -1,14 +1,14 @@
 //! Evaluation of the tests of a condition for an item.
 
 ghost use Rattle.std.specs.Prelude.{◌≡◌, ◌++◌, ◌∷◌, [], List, Ok, reverse, IfErr};
-ghost use Rattle.jsonb_doc.specs.Answer.{Gives, and_then, try_flat_map, IsOutOfMemory};
+ghost use Rattle.jsonb_doc.specs.Answer.{Refines, and_then, try_flat_map, IsOutOfMemory};
 ghost use Rattle.jsonb_doc.specs.Spots.{Locates};
 ghost use Rattle.jsonb_doc.specs.Tree.{Tree};
 ghost use Rattle.jsonb.specs.PathTree.{Expression, filter};
 ghost use Rattle.jsonb.specs.PathViews.{expression_view};
 ghost use Rattle.std.specs.List.{AllZip};
 ghost use Rattle.jsonb.specs.Meaning.{step_meaning, truth, filtered};
-ghost use Rattle.jsonb.specs.Private.Compared.{GivesIfAny};
+ghost use Rattle.jsonb.specs.Private.Compared.{RefinesIfAny};
 ghost use Rattle.jsonb.specs.Private.Jumps.{Branch, evaluated, next_jump, jump_truth};
 ghost use Rattle.jsonb.specs.Private.Tests.{AreMembersCompared, IsQuestionOf, IsTruthOf, AreBranches, AreTestsOf, is_settled};
 ghost use Rattle.jsonb.specs.Private.Selection.{node_spots};
@@ -39,7 +39,7 @@ pub(crate) fn tested_filter(
     items: &[Spot],
 ) -> Result<Option<NodeList>, Error>
     ensures kept { (top : Tree) (ts : List Tree) → AllZip (Locates bytes.now) items.now ts
-        → GivesIfAny (λ found us. AllZip (Locates bytes.now) (node_spots found) us) result
+        → RefinesIfAny (λ found us. AllZip (Locates bytes.now) (node_spots found) us) result
         (try_flat_map (step_meaning mode (filter (expression_view e.now)) top) ts) }
     ensures errors { IfErr result (IsSelectionError mode) }
 {
@@ -62,7 +62,7 @@ fn tested_items(
 ) -> Result<NodeList, Error>
     ensures meant { (e : Expression) (top : Tree) (ts : List Tree) → AreTestsOf tests.now e
         → AllZip (Locates bytes.now) items.now ts
-        → Gives (λ found us. AllZip (Locates bytes.now) (node_spots found) us)
+        → Refines (λ found us. AllZip (Locates bytes.now) (node_spots found) us)
         IsOutOfMemory result (try_flat_map (step_meaning mode (filter e) top) ts) }
     ensures errors { IfErr result (IsSelectionError mode) }
 {
@@ -101,7 +101,7 @@ fn push_tested(
     ensures meant { (e : Expression) (top t : Tree) (before : List Tree)
         → AreTestsOf (others.now ++ first.now ∷ []) e → Locates bytes.now item t
         → IsTruthOf mode top t first.now.question first_truth → AllZip (Locates bytes.now) nodes.old.items before
-        → Gives (λ _ ts. AllZip (Locates bytes.now) nodes.new.items (before ++ ts)) IsOutOfMemory result
+        → Refines (λ _ ts. AllZip (Locates bytes.now) nodes.new.items (before ++ ts)) IsOutOfMemory result
         (step_meaning mode (filter e) top t) }
     ensures errors { IfErr first_truth (IsSelectionError mode) → IfErr result (IsSelectionError mode) }
 {
@@ -123,7 +123,7 @@ pub(crate) fn filter_truth(
 ) -> TruthResult
     ensures meant { (e : Expression) (top t : Tree) → AreTestsOf (others.now ++ first.now ∷ []) e
         → Locates bytes.now item t → IsTruthOf mode top t first.now.question first_truth
-        → Gives (λ b ts. filtered t b ≡ ts) IsOutOfMemory result (step_meaning mode (filter e) top t) }
+        → Refines (λ b ts. filtered t b ≡ ts) IsOutOfMemory result (step_meaning mode (filter e) top t) }
     ensures errors { IfErr first_truth (IsSelectionError mode) → IfErr result (IsSelectionError mode) }
 {
     let truth = first_truth?;
@@ -149,7 +149,7 @@ fn tests_truth(
 ) -> TruthResult
     ensures meant { (branches : List Branch) (top t : Tree) → AreBranches (reverse tests.now) branches
         → Locates bytes.now item t
-        → Gives (λ b ts. filtered t b ≡ ts) IsOutOfMemory result
+        → Refines (λ b ts. filtered t b ≡ ts) IsOutOfMemory result
         (and_then (evaluated mode top t branches start) (λ b. Ok (filtered t b))) }
     ensures errors { IfErr result (IsSelectionError mode) }
 {
@@ -220,7 +220,7 @@ pub(crate) fn question_truth(
     item: Spot,
 ) -> TruthResult
     ensures meant { (e : Expression) (top t : Tree) → IsQuestionOf question.now e → Locates bytes.now item t
-        → Gives (λ b c. b ≡ c) IsOutOfMemory result (truth mode e top t) }
+        → Refines (λ b c. b ≡ c) IsOutOfMemory result (truth mode e top t) }
     ensures errors { IfErr result (IsSelectionError mode) }
 {
     match question {
@@ -246,7 +246,7 @@ fn members_truth(
     item: Spot,
 ) -> TruthResult
     ensures meant { (e : Expression) (top t : Tree) → AreMembersCompared comparison.now e
-        → Locates bytes.now item t → Gives (λ b c. b ≡ c) IsOutOfMemory result (truth mode e top t) }
+        → Locates bytes.now item t → Refines (λ b c. b ≡ c) IsOutOfMemory result (truth mode e top t) }
     ensures errors { IfErr result (IsSelectionError mode) }
 {
     let left = member(mode, comparison.left, bytes, item)?;

@@ -1,7 +1,7 @@
 //! The items below an item, level by level.
 
 ghost use Rattle.std.specs.Prelude.{◌≡◌, ℕ, ◌<◌, ◌≤◌, ◌^◌, ◌++◌, ◌+◌, min, List, Ok, Option, option_map, IfOk, IfErr, OnOk, IfSome, MatchResult};
-ghost use Rattle.jsonb_doc.specs.Answer.{Gives, IsOutOfMemory, IsDecodingError, ◌or◌};
+ghost use Rattle.jsonb_doc.specs.Answer.{Refines, IsOutOfMemory, IsDecodingError, ◌or◌};
 ghost use Rattle.jsonb_doc.specs.declared.error.Error.TheVariants.{OutOfMemory};
 ghost use Rattle.jsonb_doc.specs.Spots.{Locates, HasSpotsLeft, spot_size, spots_room, spots_bound};
 ghost use Rattle.jsonb_doc.specs.Tree.{Tree};
@@ -81,7 +81,7 @@ pub(crate) fn push_levels(
 ) -> Result<(), Error>
     ensures meant { (t : Tree) (n : ℕ) (before : List Tree) → level ≡ min n 256 → Locates bytes.now item t
         → AllZip (Locates bytes.now) nodes.old.items before
-        → Gives (λ _ ts. AllZip (Locates bytes.now) nodes.new.items (before ++ ts))
+        → Refines (λ _ ts. AllZip (Locates bytes.now) nodes.new.items (before ++ ts))
         IsOutOfMemory result (Ok (preorder (option_map levels_view levels) n t)) }
     ensures errors { IfErr result (IsDecodingError or OutOfMemory) }
 {

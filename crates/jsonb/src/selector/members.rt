@@ -1,7 +1,7 @@
 //! Paths that name at most one member: `$` or `@`, and the names of fields.
 
 ghost use Rattle.std.specs.Prelude.{◌≡◌, ◌∷◌, [], Ok, map, true, MatchOption, ⊤, IfErr, IfSome};
-ghost use Rattle.jsonb_doc.specs.Answer.{Gives, IsOutOfMemory};
+ghost use Rattle.jsonb_doc.specs.Answer.{Refines, IsOutOfMemory};
 ghost use Rattle.jsonb_doc.specs.Spots.{Locates};
 ghost use Rattle.jsonb_doc.specs.Tree.{Tree};
 ghost use Rattle.jsonb.specs.PathTree.{steps_of, paths};
@@ -70,7 +70,7 @@ pub(crate) fn is_member(step: &Path<'_>) -> bool
 #[inline(always)]
 fn field(bytes: &[u8], mode: Mode, name: &str, item: Spot) -> Result<Option<Spot>, Error>
     ensures meant { (t : Tree) → Locates bytes.now item t
-        → Gives (λ found us. AllZip (Locates bytes.now) (option_spots found) us) IsOutOfMemory result
+        → Refines (λ found us. AllZip (Locates bytes.now) (option_spots found) us) IsOutOfMemory result
         (field_step mode name.now t) }
     ensures errors { IfErr result (IsSelectionError mode) }
 {
@@ -116,7 +116,7 @@ pub(crate) fn member_of(
     item: Spot,
 ) -> Result<Option<Spot>, Error>
     ensures meant { (top t : Tree) → is_member (step_view step.now) ≡ true → Locates bytes.now item t
-        → Gives (λ found us. AllZip (Locates bytes.now) (option_spots found) us) IsOutOfMemory result
+        → Refines (λ found us. AllZip (Locates bytes.now) (option_spots found) us) IsOutOfMemory result
         (step_meaning mode (step_view step.now) top t) }
     ensures errors { IfErr result (IsSelectionError mode) }
 {
@@ -136,7 +136,7 @@ pub(crate) fn member(
 ) -> Result<Option<Spot>, Error>
     ensures meant { (expressions : Expressions) (top t : Tree) → are_members (steps_view steps.now) ≡ true
         → Locates bytes.now first t
-        → Gives (λ found us. AllZip (Locates bytes.now) (option_spots found) us) IsOutOfMemory result
+        → Refines (λ found us. AllZip (Locates bytes.now) (option_spots found) us) IsOutOfMemory result
         (steps_meaning mode (steps_of (map (taken_step expressions) (steps_view steps.now))) top (t ∷ [])) }
     ensures errors { IfErr result (IsSelectionError mode) }
 {

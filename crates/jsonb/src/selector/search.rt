@@ -1,7 +1,7 @@
 //! The first item that steps select, in lax mode: a traversal down to it that visits nothing after it.
 
 ghost use Rattle.std.specs.Prelude.{◌≡◌, ◌<◌, ◌^◌, ◌∷◌, [], ℕ, List, map, length, MatchOption, MatchResult, IfOk, IfSome, IfErr, ⊤};
-ghost use Rattle.jsonb_doc.specs.Answer.{Gives, SameOption, IsOutOfMemory, IsDecodingError, ◌or◌};
+ghost use Rattle.jsonb_doc.specs.Answer.{Refines, SameOption, IsOutOfMemory, IsDecodingError, ◌or◌};
 ghost use Rattle.jsonb_doc.specs.declared.error.Error.TheVariants.{OutOfMemory};
 ghost use Rattle.jsonb_doc.specs.Spots.{Locates};
 ghost use Rattle.jsonb_doc.specs.Tree.{Tree};
@@ -11,7 +11,7 @@ ghost use Rattle.std.specs.List.{AllZip};
 ghost use Rattle.jsonb.specs.ItemSteps.{values_step, elements_step};
 ghost use Rattle.jsonb.specs.Meaning.{step_meaning, steps_meaning, filtered};
 ghost use Rattle.jsonb.specs.SelectorAnswers.{first_item};
-ghost use Rattle.jsonb.specs.Private.Compared.{GivesIfAny};
+ghost use Rattle.jsonb.specs.Private.Compared.{RefinesIfAny};
 ghost use Rattle.jsonb.specs.Private.Search.{IsSearched, HasItems, items_bound, TakesItem, AreGiven, GivesItems, given_bound, IsReached, IsWithin};
 ghost use Rattle.jsonb.specs.Private.Selection.{IsAt, HasTree, taken_step};
 ghost use Rattle.jsonb.specs.SelectionErrors.{IsSelectionError};
@@ -104,7 +104,7 @@ pub(crate) fn search<'s>(
     first: Spot,
 ) -> Result<Option<Option<Spot>>, Error>
     ensures meant { (top t : Tree) → HasTree context.now.document top → IsAt context.now.document first t
-        → GivesIfAny (λ found us. SameOption (IsAt context.now.document) found (first_item us)) result
+        → RefinesIfAny (λ found us. SameOption (IsAt context.now.document) found (first_item us)) result
         (steps_meaning context.now.mode (steps_of (map (taken_step expressions) (steps_view steps.now)))
         top (t ∷ [])) }
     ensures errors { IfErr result (IsSelectionError context.now.mode) }
@@ -129,7 +129,7 @@ fn lax_search<'s>(
     first: Spot,
 ) -> Result<Option<Option<Spot>>, Error>
     ensures meant { (top t : Tree) → HasTree document.entry top → IsAt document.entry first t
-        → GivesIfAny (λ found us. SameOption (IsAt document.entry) found (first_item us)) result
+        → RefinesIfAny (λ found us. SameOption (IsAt document.entry) found (first_item us)) result
         (steps_meaning Lax (steps_of (map (taken_step expressions) (steps_view steps.now))) top (t ∷ [])) }
     ensures errors { IfErr result (IsSelectionError Lax) }
 {
@@ -216,7 +216,7 @@ fn first_found(
     first: Spot,
 ) -> Result<Option<Spot>, Error>
     ensures meant { (top t : Tree) (ss : List Step) → AllZip IsSearched steps.now ss → Locates bytes.now first t
-        → Gives (λ found us. SameOption (Locates bytes.now) found (first_item us)) IsOutOfMemory result
+        → Refines (λ found us. SameOption (Locates bytes.now) found (first_item us)) IsOutOfMemory result
         (steps_meaning Lax (steps_of ss) top (t ∷ [])) }
     ensures errors { IfErr result (IsSelectionError Lax) }
 {
@@ -280,7 +280,7 @@ fn step_items<'a>(
     item: Spot,
 ) -> Result<StepItems<'a>, Error>
     ensures meant { (top t : Tree) (s : Step) → IsSearched step.now s → Locates bytes.now item t
-        → Gives (AreGiven bytes.now) IsOutOfMemory result (step_meaning Lax s top t) }
+        → Refines (AreGiven bytes.now) IsOutOfMemory result (step_meaning Lax s top t) }
     ensures few { IfOk result (λ given. given_bound given < 2 ^ 64) }
     ensures errors { IfErr result (IsSelectionError Lax) }
 {

@@ -1,7 +1,7 @@
 //! Items of the document with a sign before them, as the whole path.
 
 ghost use Rattle.std.specs.Prelude.{◌≡◌, ◌++◌, ◌∷◌, [], List, OnOk, IfErr, IsOkAnd, MatchOption, ⊤, map, flat_map};
-ghost use Rattle.jsonb_doc.specs.Answer.{Gives, IsOutOfMemory, IsDecodingError};
+ghost use Rattle.jsonb_doc.specs.Answer.{Refines, IsOutOfMemory, IsDecodingError};
 ghost use Rattle.jsonb_doc.specs.Spots.{Locates, HasSpotsLeft};
 ghost use Rattle.jsonb_doc.specs.StoredValue.{IsStoredAs};
 ghost use Rattle.jsonb_doc.specs.Tree.{Tree};
@@ -30,7 +30,7 @@ pub(crate) fn signed_items(
     items: &[Spot],
 ) -> Result<Vec<Number>, Error>
     ensures meant { (ts : List Tree) → AllZip (Locates bytes.now) items.now ts
-        → Gives (λ v us. AllZip IsNumberItem v.items us) IsOutOfMemory result
+        → Refines (λ v us. AllZip IsNumberItem v.items us) IsOutOfMemory result
         (each_signed (sign_view op) (flat_map values_of_item ts)) }
     ensures errors { (mode : Mode) → IfErr result (IsSelectionError mode) }
 {
@@ -42,7 +42,7 @@ pub(crate) fn signed_items(
 /// Returns the numbers of items. Fails with `InvalidJsonPath` for another value.
 fn item_numbers(alloc: Global, bytes: &[u8], items: &[Spot]) -> Result<Vec<Number>, Error>
     ensures meant { (ts : List Tree) → AllZip (Locates bytes.now) items.now ts
-        → Gives (λ v ns. map number_view v.items ≡ ns) IsOutOfMemory result
+        → Refines (λ v ns. map number_view v.items ≡ ns) IsOutOfMemory result
         (all_numbers (flat_map values_of_item ts)) }
     ensures errors { (mode : Mode) → IfErr result (IsSelectionError mode) }
 {

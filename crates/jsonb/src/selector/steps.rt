@@ -1,7 +1,7 @@
 //! Evaluation of the steps of a path, one after the other, and of the filters in them.
 
 ghost use Rattle.std.specs.Prelude.{◌≡◌, ◌<◌, ◌++◌, ◌∷◌, [], List, map, None, true, false, ⊤, IfErr, OnOk, MatchOption};
-ghost use Rattle.jsonb_doc.specs.Answer.{Gives, try_flat_map, IsOutOfMemory};
+ghost use Rattle.jsonb_doc.specs.Answer.{Refines, try_flat_map, IsOutOfMemory};
 ghost use Rattle.jsonb_doc.specs.Spots.{Locates};
 ghost use Rattle.jsonb_doc.specs.Tree.{Tree};
 ghost use Rattle.jsonb.specs.PathTree.{steps_of, filter};
@@ -49,7 +49,7 @@ fn plain_step(
     item: Spot,
 ) -> Result<NodeList, Error>
     ensures meant { (top t : Tree) → is_filter (step_view step.now) ≡ false → Locates bytes.now item t
-        → Gives (λ found ts. AllZip (Locates bytes.now) (node_spots found) ts)
+        → Refines (λ found ts. AllZip (Locates bytes.now) (node_spots found) ts)
         IsOutOfMemory result (step_meaning mode (step_view step.now) top t) }
     ensures errors { IfErr result (IsSelectionError mode) }
 {
@@ -72,7 +72,7 @@ fn plain_steps(
 ) -> Result<NodeList, Error>
     ensures meant { (top : Tree) (ts : List Tree) → is_filter (step_view step.now) ≡ false
         → AllZip (Locates bytes.now) items.now ts
-        → Gives (λ found us. AllZip (Locates bytes.now) (node_spots found) us)
+        → Refines (λ found us. AllZip (Locates bytes.now) (node_spots found) us)
         IsOutOfMemory result (try_flat_map (step_meaning mode (step_view step.now) top) ts) }
     ensures errors { IfErr result (IsSelectionError mode) }
 {
@@ -96,7 +96,7 @@ fn named_values(
     items: &[Spot],
 ) -> Result<NodeList, Error>
     ensures meant { (ts : List Tree) → AllZip (Locates bytes.now) items.now ts
-        → Gives (λ found us. AllZip (Locates bytes.now) (node_spots found) us)
+        → Refines (λ found us. AllZip (Locates bytes.now) (node_spots found) us)
         IsOutOfMemory result (try_flat_map (field_step mode name.now) ts) }
     ensures errors { IfErr result (IsSelectionError mode) }
 {
@@ -134,7 +134,7 @@ fn step_item<'a>(
     item: Spot,
 ) -> Result<NodeList, Error>
     ensures meant { (top t : Tree) → HasTree context.now.document top → IsAt context.now.document item t
-        → Gives (λ found ts. AllZip (IsAt context.now.document) (node_spots found) ts) IsOutOfMemory result
+        → Refines (λ found ts. AllZip (IsAt context.now.document) (node_spots found) ts) IsOutOfMemory result
         (step_meaning context.now.mode (taken_step expressions (step_view step.now)) top t) }
     ensures errors { IfErr result (IsSelectionError context.now.mode) }
 {
@@ -240,7 +240,7 @@ fn push_kept<'a>(
         → IsAt current.entry.context.now.document current.entry.item t
         → IsKeptFor current.entry.context.now.mode top (expression_view e.now) run.old.kept
         → AllZip (IsAt current.entry.context.now.document) nodes.old.items before
-        → Gives (λ _ ts. AllZip (IsAt current.entry.context.now.document) nodes.new.items (before ++ ts))
+        → Refines (λ _ ts. AllZip (IsAt current.entry.context.now.document) nodes.new.items (before ++ ts))
         IsOutOfMemory result (step_meaning current.entry.context.now.mode (filter (expression_view e.now)) top t) }
     ensures kept { (top t : Tree) → HasTree current.entry.context.now.document top
         → IsAt current.entry.context.now.document current.entry.item t
@@ -263,7 +263,7 @@ pub(crate) fn select_steps<'a>(
     first: Spot,
 ) -> Result<NodeList, Error>
     ensures meant { (top t : Tree) → HasTree context.now.document top → IsAt context.now.document first t
-        → Gives (λ found us. AllZip (IsAt context.now.document) (node_spots found) us) IsOutOfMemory result
+        → Refines (λ found us. AllZip (IsAt context.now.document) (node_spots found) us) IsOutOfMemory result
         (steps_meaning context.now.mode (steps_of (map (taken_step expressions) (steps_view steps.now)))
         top (t ∷ [])) }
     ensures errors { IfErr result (IsSelectionError context.now.mode) }
@@ -466,7 +466,7 @@ fn first_truth<'a>(
 ) -> Result<(Option<bool>, CachedPart<'a>), Error>
     ensures meant { (top t : Tree) → is_condition (expression_view e.now) ≡ true
         → HasTree current.entry.context.now.document top → IsAt current.entry.context.now.document current.entry.item t
-        → Gives (λ made c. (made.0 ≡ c) × IsSame current.entry.context.now.mode top made.1 (expression_view e.now))
+        → Refines (λ made c. (made.0 ≡ c) × IsSame current.entry.context.now.mode top made.1 (expression_view e.now))
         IsOutOfMemory result (truth current.entry.context.now.mode (expression_view e.now) top t) }
     ensures errors { IfErr result (IsSelectionError current.entry.context.now.mode) }
 {
@@ -512,7 +512,7 @@ fn exists_truth<'a>(current: Current<'_, 'a>, e: &'a Expr<'_>) -> TruthResult
 #[inline(always)]
 fn selects_any<'a>(context: &Context<'a>, steps: &'a [Path<'_>], first: Spot) -> Result<bool, Error>
     ensures meant { (top t : Tree) → HasTree context.now.document top → IsAt context.now.document first t
-        → Gives (λ b us. b ≡ is_some_item us) IsOutOfMemory result
+        → Refines (λ b us. b ≡ is_some_item us) IsOutOfMemory result
         (steps_meaning context.now.mode (steps_of (map (taken_step AreRefused) (steps_view steps.now)))
         top (t ∷ [])) }
     ensures errors { IfErr result (IsSelectionError context.now.mode) }
@@ -536,7 +536,7 @@ pub(crate) fn operand_values<'a>(
 ) -> Result<OperandValues<'a>, Error>
     ensures meant { (top t : Tree) → HasTree current.entry.context.now.document top
         → IsAt current.entry.context.now.document current.entry.item t
-        → Gives (λ values vs. values_view values ≡ vs) IsOutOfMemory result
+        → Refines (λ values vs. values_view values ≡ vs) IsOutOfMemory result
         (operand_values current.entry.context.now.mode (expression_view e.now) top t) }
     ensures errors { IfErr result (IsSelectionError current.entry.context.now.mode) }
 {

@@ -1,7 +1,7 @@
 //! Expressions in the order of their evaluation: their conditions, and the operators that join them.
 
 ghost use Rattle.std.specs.Prelude.{◌≡◌, ◌<◌, ◌+◌, ◌++◌, ◌∷◌, ℕ, [], true, false, if◌then◌else◌, IfOk, IfErr, OnOk, MatchOption, All};
-ghost use Rattle.jsonb_doc.specs.Answer.{Gives, IsOutOfMemory};
+ghost use Rattle.jsonb_doc.specs.Answer.{Refines, IsOutOfMemory};
 ghost use Rattle.jsonb.specs.PathViews.{expression_view, operator_view};
 ghost use Rattle.jsonb.specs.Private.Terms.{join_of, is_joined, joining, joined, truths_view, IsPairOf, AreTermsOf, order_left, parts_left, IsBelow, IsSmaller};
 ghost use Rattle.jsonb.specs.declared.path.Expr.{size-Expr};
@@ -170,7 +170,7 @@ impl TruthStack {
 
     /// Replaces the last two results by one.
     pub(crate) fn join(&mut self, join: Join) -> Result<(), Error>
-        ensures meant { Gives (λ _ ts. truths_view self.new ≡ ts) IsOutOfMemory result
+        ensures meant { Refines (λ _ ts. truths_view self.new ≡ ts) IsOutOfMemory result
             (joined join (truths_view self.old)) }
         ensures errors { (mode : Mode) → IfErr result (IsSelectionError mode) }
     {

@@ -1,7 +1,7 @@
 //! The values of items.
 
 ghost use Rattle.std.specs.Prelude.{◌≡◌, ◌++◌, ◌∷◌, [], List, Ok, OnOk, IfErr, flat_map};
-ghost use Rattle.jsonb_doc.specs.Answer.{Gives, IsOutOfMemory, IsDecodingError, ◌or◌};
+ghost use Rattle.jsonb_doc.specs.Answer.{Refines, IsOutOfMemory, IsDecodingError, ◌or◌};
 ghost use Rattle.jsonb_doc.specs.declared.error.Error.TheVariants.{OutOfMemory};
 ghost use Rattle.jsonb_doc.specs.Spots.{Locates, HasSpotsLeft};
 ghost use Rattle.jsonb_doc.specs.StoredValue.{IsStoredAs};
@@ -25,7 +25,7 @@ pub(crate) fn found_values<'a>(
     items: NodeList,
 ) -> Result<OperandValues<'a>, Error>
     ensures meant { (ts : List Tree) → AllZip (Locates bytes.now) (node_spots items) ts
-        → Gives (λ values vs. values_view values ≡ vs) IsOutOfMemory result (Ok (flat_map values_of_item ts)) }
+        → Refines (λ values vs. values_view values ≡ vs) IsOutOfMemory result (Ok (flat_map values_of_item ts)) }
     ensures errors { IfErr result (IsDecodingError or OutOfMemory) }
 {
     match items {
@@ -41,7 +41,7 @@ fn many_values<'a>(
     items: &[Spot],
 ) -> Result<OperandValues<'a>, Error>
     ensures meant { (ts : List Tree) → AllZip (Locates bytes.now) items.now ts
-        → Gives (λ values vs. values_view values ≡ vs) IsOutOfMemory result (Ok (flat_map values_of_item ts)) }
+        → Refines (λ values vs. values_view values ≡ vs) IsOutOfMemory result (Ok (flat_map values_of_item ts)) }
     ensures errors { IfErr result (IsDecodingError or OutOfMemory) }
 {
     let mut values = Vec::with_capacity(alloc, items.len())?;
@@ -55,7 +55,7 @@ fn many_values<'a>(
 #[inline(always)]
 fn item_values<'a>(alloc: Global, bytes: &'a [u8], item: Spot) -> Result<OperandValues<'a>, Error>
     ensures meant { (t : Tree) → Locates bytes.now item t
-        → Gives (λ values vs. values_view values ≡ vs) IsOutOfMemory result (Ok (values_of_item t)) }
+        → Refines (λ values vs. values_view values ≡ vs) IsOutOfMemory result (Ok (values_of_item t)) }
     ensures errors { IfErr result (IsDecodingError or OutOfMemory) }
 {
     match elements(bytes, item)? {

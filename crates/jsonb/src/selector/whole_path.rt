@@ -1,7 +1,7 @@
 //! A path as a whole: its top steps, or one expression.
 
 ghost use Rattle.std.specs.Prelude.{◌≡◌, ◌++◌, ◌∷◌, [], List, Ok, Err, None, Some, MatchOption, IfErr};
-ghost use Rattle.jsonb_doc.specs.Answer.{Gives, Outcome, and_then, IsOutOfMemory, ◌or◌};
+ghost use Rattle.jsonb_doc.specs.Answer.{Refines, Outcome, and_then, IsOutOfMemory, ◌or◌};
 ghost use Rattle.jsonb_doc.specs.Arithmetic.{Operation};
 ghost use Rattle.jsonb_doc.specs.Payload.{Form};
 ghost use Rattle.jsonb_doc.specs.Tree.{Tree};
@@ -119,7 +119,7 @@ fn expression_selection<'a>(context: &Context<'a>, e: &'a Expr<'_>) -> Result<Se
 fn literal_selection<'a>(literal: &'a PathValue<'_>) -> Result<Selected<'a>, Error>
     ensures meant { (form : Form) (document : Document) (mode : Mode) (top : Tree) (outcome : Outcome (List Tree))
         → Means form mode (whole_expression (value (literal_view literal.now)) ∷ []) top outcome
-        → Gives (AreSelected form document) IsOutOfMemory result outcome }
+        → Refines (AreSelected form document) IsOutOfMemory result outcome }
     ensures errors { (mode : Mode) → IfErr result (IsSelectionError mode) }
 {
     match literal {
@@ -141,7 +141,7 @@ fn whole_unary<'a>(
     operand: &'a Expr<'_>,
 ) -> Result<Vec<Number>, Error>
     ensures meant { (top : Tree) → HasTree context.now.document top
-        → Gives (λ v ts. AllZip IsNumberItem v.items ts) IsOutOfMemory result
+        → Refines (λ v ts. AllZip IsNumberItem v.items ts) IsOutOfMemory result
         (and_then (operand_values context.now.mode (expression_view operand.now) top top)
         (each_signed (sign_view op))) }
     ensures errors { IfErr result (IsSelectionError context.now.mode) }
@@ -173,7 +173,7 @@ fn whole_binary<'a>(
     right: &'a Expr<'_>,
 ) -> Result<Number, Error>
     ensures meant { (top : Tree) (o : Operation) → HasTree context.now.document top
-        → operation (operator_view op) ≡ Some o → Gives IsNumberTree IsOutOfMemory result
+        → operation (operator_view op) ≡ Some o → Refines IsNumberTree IsOutOfMemory result
         (calculation o (operand_values context.now.mode (expression_view left.now) top top)
         (operand_values context.now.mode (expression_view right.now) top top)) }
     ensures errors { IfErr result (IsSelectionError context.now.mode) }
@@ -187,7 +187,7 @@ fn whole_binary<'a>(
 /// Returns the Boolean of a comparison, `&&`, `||` or `exists`, or null if it is unknown.
 fn whole_truth<'a>(context: &Context<'a>, e: &'a Expr<'_>) -> Result<Selected<'a>, Error>
     ensures meant { (form : Form) (top : Tree) → HasTree context.now.document top
-        → Gives (AreSelected form context.now.document) IsOutOfMemory result
+        → Refines (AreSelected form context.now.document) IsOutOfMemory result
         (truth_list (truth context.now.mode (expression_view e.now) top top)) }
     ensures errors { IfErr result (IsSelectionError context.now.mode) }
 {
@@ -215,7 +215,7 @@ fn one_item<'a>(part: MadeItem<'a>) -> Selected<'a>
 /// Returns the result of an expression as a predicate.
 pub(crate) fn expression_truth<'a>(context: &Context<'a>, e: &'a Expr<'_>) -> TruthResult
     ensures meant { (top : Tree) → HasTree context.now.document top
-        → Gives (λ b c. b ≡ c) IsOutOfMemory result
+        → Refines (λ b c. b ≡ c) IsOutOfMemory result
         (expression_predicate context.now.mode (expression_view e.now) top) }
     ensures errors { IfErr result (IsSelectionError context.now.mode) }
 {

@@ -3,7 +3,7 @@
 ghost use Rattle.std.specs.Prelude.{◌≡◌, IfErr, false, length, map, true};
 ghost use Rattle.jsonb_doc.specs.Answer.{IsDecodingError, ◌or◌};
 ghost use Rattle.jsonb_doc.specs.declared.error.Error.TheVariants.{ObjectDuplicateKey, OutOfMemory, TooLarge};
-ghost use Rattle.jsonb_c.specs.Answers.{DeliversNothing, HandsOverBytes};
+ghost use Rattle.jsonb_c.specs.Answers.{DeliversNothing, WritesBytes};
 ghost use Rattle.jsonb_c.specs.Columns.{rows};
 ghost use Rattle.jsonb_c.specs.Making.{MakesObject, is_placed};
 ghost use Rattle.jsonb_c.specs.Names.{WithNames, names_of};
@@ -31,7 +31,7 @@ pub extern "C" fn jdoc_object_from_columns(
     ensures object { length (rows names.now name_offsets.now) ≡ length (rows bytes.now offsets.now)
         → is_placed (rows bytes.now offsets.now) ≡ true
         → WithNames (names_of (rows names.now name_offsets.now))
-        (λ read. HandsOverBytes (MakesObject read (rows bytes.now offsets.now))
+        (λ read. WritesBytes (MakesObject read (rows bytes.now offsets.now))
         (IsDecodingError or OutOfMemory or TooLarge or ObjectDuplicateKey) out.old out.new out_len.new result)
         (λ cause. DeliversNothing (code cause) out.old out.new out_len.new result) }
     ensures count { ¬ (length (rows names.now name_offsets.now) ≡ length (rows bytes.now offsets.now))

@@ -5,7 +5,7 @@ ghost use Rattle.jsonb_doc.specs.Answer.{IsDecodingError, ◌or◌};
 ghost use Rattle.jsonb_doc.specs.declared.error.Error.TheVariants.{InvalidCast, OutOfMemory};
 ghost use Rattle.jsonb_raw.specs.Casts.{CastsToBool, CastsToI64, CastsToU64, text_of};
 ghost use Rattle.jsonb_raw.specs.Scalars.{boolean_in, text_in};
-ghost use Rattle.jsonb_c.specs.Answers.{HandsOver, HandsOverBool, HandsOverBytes, HandsOverFound, OfDocument, Shows, ShowsFound, ShowsFoundBool};
+ghost use Rattle.jsonb_c.specs.Answers.{WritesResult, WritesBool, WritesBytes, WritesFound, OfDocument, Shows, ShowsFound, ShowsFoundBool};
 ghost use Rattle.jsonb_c.specs.Calls.{FindsSigned, FindsUnsigned, IsTextOf};
 ghost use Rattle.jsonb_c.specs.Private.Views.{found_text, text_answer};
 
@@ -18,7 +18,7 @@ use std::alloc::Global;
 /// Returns the Boolean, if the root is one.
 #[unsafe(no_mangle)]
 pub extern "C" fn jdoc_as_bool(document: &[u8], truth: &mut u8) -> u32
-    ensures { HandsOver (OfDocument document.now (λ form t answer. IsOkAnd answer (λ found. found ≡ boolean_in t)))
+    ensures { WritesResult (OfDocument document.now (λ form t answer. IsOkAnd answer (λ found. found ≡ boolean_in t)))
         IsDecodingError (λ answer. ShowsFoundBool answer truth.old truth.new result) }
 {
     store_found_bool(RawJsonb::new(document).as_bool(), truth)
@@ -27,7 +27,7 @@ pub extern "C" fn jdoc_as_bool(document: &[u8], truth: &mut u8) -> u32
 /// Returns the number as an `i64`, if the root is an integer that fits.
 #[unsafe(no_mangle)]
 pub extern "C" fn jdoc_as_i64(document: &[u8], number: &mut i64) -> u32
-    ensures { HandsOver (OfDocument document.now (λ form t answer. IsOkAnd answer (FindsSigned t))) IsDecodingError
+    ensures { WritesResult (OfDocument document.now (λ form t answer. IsOkAnd answer (FindsSigned t))) IsDecodingError
         (λ answer. ShowsFound answer number.old number.new result) }
 {
     store_found(RawJsonb::new(document).as_i64(), number)
@@ -36,7 +36,7 @@ pub extern "C" fn jdoc_as_i64(document: &[u8], number: &mut i64) -> u32
 /// Returns the number as a `u64`, if the root is an integer that fits.
 #[unsafe(no_mangle)]
 pub extern "C" fn jdoc_as_u64(document: &[u8], number: &mut u64) -> u32
-    ensures { HandsOver (OfDocument document.now (λ form t answer. IsOkAnd answer (FindsUnsigned t))) IsDecodingError
+    ensures { WritesResult (OfDocument document.now (λ form t answer. IsOkAnd answer (FindsUnsigned t))) IsDecodingError
         (λ answer. ShowsFound answer number.old number.new result) }
 {
     store_found(RawJsonb::new(document).as_u64(), number)
@@ -45,7 +45,7 @@ pub extern "C" fn jdoc_as_u64(document: &[u8], number: &mut u64) -> u32
 /// Returns the bytes of the string, if the root is one.
 #[unsafe(no_mangle)]
 pub extern "C" fn jdoc_as_str(document: &[u8], out: &mut [u8], out_len: &mut usize) -> u32
-    ensures { HandsOverFound (OfDocument document.now (λ form t answer. IsOkAnd answer (λ found. found ≡ text_in t)))
+    ensures { WritesFound (OfDocument document.now (λ form t answer. IsOkAnd answer (λ found. found ≡ text_in t)))
         IsDecodingError out.old out.new out_len.new result }
 {
     deliver_found_text(as_str(document), out, out_len)
@@ -65,7 +65,7 @@ fn as_str(document: &[u8]) -> Result<Option<&str>, Error>
 /// Returns the Boolean, which is also cast from strings.
 #[unsafe(no_mangle)]
 pub extern "C" fn jdoc_to_bool(document: &[u8], truth: &mut u8) -> u32
-    ensures { HandsOverBool (OfDocument document.now (λ form t. CastsToBool t)) (IsDecodingError or InvalidCast)
+    ensures { WritesBool (OfDocument document.now (λ form t. CastsToBool t)) (IsDecodingError or InvalidCast)
         truth.old truth.new result }
 {
     store_bool(RawJsonb::new(document).to_bool(), truth)
@@ -74,7 +74,7 @@ pub extern "C" fn jdoc_to_bool(document: &[u8], truth: &mut u8) -> u32
 /// Casts the document to an `i64`: a Boolean to 1 or 0, a number rounded, a string parsed.
 #[unsafe(no_mangle)]
 pub extern "C" fn jdoc_to_i64(document: &[u8], number: &mut i64) -> u32
-    ensures { HandsOver (OfDocument document.now (λ form t. CastsToI64 t)) (IsDecodingError or InvalidCast)
+    ensures { WritesResult (OfDocument document.now (λ form t. CastsToI64 t)) (IsDecodingError or InvalidCast)
         (λ answer. Shows answer number.old number.new result) }
 {
     store(RawJsonb::new(document).to_i64(), number)
@@ -83,7 +83,7 @@ pub extern "C" fn jdoc_to_i64(document: &[u8], number: &mut i64) -> u32
 /// Casts the document to a `u64`: a Boolean to 1 or 0, a number rounded, a string parsed.
 #[unsafe(no_mangle)]
 pub extern "C" fn jdoc_to_u64(document: &[u8], number: &mut u64) -> u32
-    ensures { HandsOver (OfDocument document.now (λ form t. CastsToU64 t)) (IsDecodingError or InvalidCast)
+    ensures { WritesResult (OfDocument document.now (λ form t. CastsToU64 t)) (IsDecodingError or InvalidCast)
         (λ answer. Shows answer number.old number.new result) }
 {
     store(RawJsonb::new(document).to_u64(), number)
@@ -97,7 +97,7 @@ pub extern "C" fn jdoc_to_str(
     out: &mut [u8],
     out_len: &mut usize,
 ) -> u32
-    ensures { HandsOverBytes (OfDocument document.now (λ form t. IsTextOf (text_of t)))
+    ensures { WritesBytes (OfDocument document.now (λ form t. IsTextOf (text_of t)))
         (IsDecodingError or OutOfMemory or InvalidCast) out.old out.new out_len.new result }
 {
     deliver_text(to_str(alloc, document), out, out_len)

@@ -4,7 +4,7 @@ ghost use Rattle.std.specs.Prelude.{◌≡◌, IfErr, IsOkAnd};
 ghost use Rattle.jsonb_doc.specs.Answer.{IsDecodingError};
 ghost use Rattle.jsonb_doc.specs.Order.{tree_cmp};
 ghost use Rattle.jsonb_raw.specs.Contains.{contains};
-ghost use Rattle.jsonb_c.specs.Answers.{HandsOver, HandsOverBool, OfBoth, Shows};
+ghost use Rattle.jsonb_c.specs.Answers.{WritesResult, WritesBool, OfBoth, Shows};
 ghost use Rattle.jsonb_c.specs.Calls.{order_number};
 
 use crate::deliver::{store, store_bool};
@@ -15,7 +15,7 @@ use std::cmp::Ordering;
 /// Returns whether a document contains another.
 #[unsafe(no_mangle)]
 pub extern "C" fn jdoc_contains(document: &[u8], other: &[u8], truth: &mut u8) -> u32
-    ensures { HandsOverBool
+    ensures { WritesBool
         (OfBoth document.now other.now (λ form t wanted said. IsOkAnd said (λ b. b ≡ contains t wanted)))
         IsDecodingError truth.old truth.new result }
 {
@@ -26,7 +26,7 @@ pub extern "C" fn jdoc_contains(document: &[u8], other: &[u8], truth: &mut u8) -
 /// Returns the order of two documents: -1, 0 or 1. Without extension values it is that of their sortable keys.
 #[unsafe(no_mangle)]
 pub extern "C" fn jdoc_compare(document: &[u8], other: &[u8], order: &mut i32) -> u32
-    ensures { HandsOver
+    ensures { WritesResult
         (OfBoth document.now other.now (λ form t u said. IsOkAnd said (λ z. z ≡ order_number (tree_cmp t u))))
         IsDecodingError (λ answer. Shows answer order.old order.new result) }
 {

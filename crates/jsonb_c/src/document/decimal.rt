@@ -4,7 +4,7 @@ ghost use Rattle.std.specs.Prelude.{◌≡◌, IfErr, IsOkAnd};
 ghost use Rattle.jsonb_doc.specs.Answer.{IsDecodingError, SameOption};
 ghost use Rattle.jsonb_doc.specs.View.{decimal128_parts, number_parts};
 ghost use Rattle.jsonb_raw.specs.Scalars.{number_in};
-ghost use Rattle.jsonb_c.specs.Answers.{HandsOver, OfDocument, ShowsFound};
+ghost use Rattle.jsonb_c.specs.Answers.{WritesResult, OfDocument, ShowsFound};
 ghost use Rattle.jsonb_c.specs.Making.{ArePartsOf};
 
 use crate::status::Status;
@@ -23,7 +23,7 @@ pub extern "C" fn jdoc_as_decimal(
     low: &mut u64,
     scale: &mut u8,
 ) -> u32
-    ensures { HandsOver
+    ensures { WritesResult
         (OfDocument document.now (λ form t answer. IsOkAnd answer (λ found. SameOption ArePartsOf found (number_in t))))
         IsDecodingError
         (λ answer. ShowsFound answer (high.old, low.old, scale.old) (high.new, low.new, scale.new) result) }

@@ -10,7 +10,7 @@ ghost use Rattle.jsonb_raw.specs.Concat.{concat};
 ghost use Rattle.jsonb_raw.specs.Documents.{Makes};
 ghost use Rattle.jsonb_raw.specs.Strip.{strip};
 ghost use Rattle.jsonb.specs.KeyPathGrammar.{key_path};
-ghost use Rattle.jsonb_c.specs.Answers.{DeliversNothing, HandsOverBytes, OfDocument, OfDocuments};
+ghost use Rattle.jsonb_c.specs.Answers.{DeliversNothing, WritesBytes, OfDocument, OfDocuments};
 ghost use Rattle.jsonb_c.specs.Calls.{ByPath, DeletesIndex, DeletesPlace, InsertsPair, MakesOr};
 ghost use Rattle.jsonb_c.specs.Status.{not_utf8};
 
@@ -28,7 +28,7 @@ pub extern "C" fn jdoc_delete_by_keypath(
     out: &mut [u8],
     out_len: &mut usize,
 ) -> u32
-    ensures { HandsOverBytes
+    ensures { WritesBytes
         (ByPath InvalidKeyPath (key_path path.now) (λ steps. DeletesPlace steps document.now))
         (IsDecodingError or OutOfMemory or InvalidJsonType or InvalidKeyPath) out.old out.new out_len.new result }
 {
@@ -53,7 +53,7 @@ pub extern "C" fn jdoc_delete_by_name(
     out_len: &mut usize,
 ) -> u32
     ensures named { IsUtf8 name.now
-        → HandsOverBytes (OfDocument document.now (λ form t. MakesOr InvalidJsonType form (without_name name.now t)))
+        → WritesBytes (OfDocument document.now (λ form t. MakesOr InvalidJsonType form (without_name name.now t)))
         (IsDecodingError or OutOfMemory or TooLarge or InvalidJsonType) out.old out.new out_len.new result }
     ensures other { ¬ (IsUtf8 name.now) → DeliversNothing not_utf8 out.old out.new out_len.new result }
 {
@@ -73,7 +73,7 @@ pub extern "C" fn jdoc_delete_by_index(
     out: &mut [u8],
     out_len: &mut usize,
 ) -> u32
-    ensures { HandsOverBytes (DeletesIndex index document.now)
+    ensures { WritesBytes (DeletesIndex index document.now)
         (IsDecodingError or OutOfMemory or TooLarge or InvalidJsonType) out.old out.new out_len.new result }
 {
     let document = RawJsonb::new(document);
@@ -89,7 +89,7 @@ pub extern "C" fn jdoc_concat(
     out: &mut [u8],
     out_len: &mut usize,
 ) -> u32
-    ensures { HandsOverBytes (OfDocuments document.now other.now (λ form t u. Makes form (concat t u)))
+    ensures { WritesBytes (OfDocuments document.now other.now (λ form t u. Makes form (concat t u)))
         (IsDecodingError or OutOfMemory or TooLarge) out.old out.new out_len.new result }
 {
     let document = RawJsonb::new(document);
@@ -107,7 +107,7 @@ pub extern "C" fn jdoc_array_insert(
     out: &mut [u8],
     out_len: &mut usize,
 ) -> u32
-    ensures { HandsOverBytes
+    ensures { WritesBytes
         (OfDocuments document.now value.now (λ form t v. Makes form (array_insert position v t)))
         (IsDecodingError or OutOfMemory or TooLarge) out.old out.new out_len.new result }
 {
@@ -127,7 +127,7 @@ pub extern "C" fn jdoc_object_insert(
     out_len: &mut usize,
 ) -> u32
     ensures named { IsUtf8 name.now
-        → HandsOverBytes (InsertsPair name.now update document.now value.now)
+        → WritesBytes (InsertsPair name.now update document.now value.now)
         (IsDecodingError or OutOfMemory or TooLarge or InvalidObject or ObjectDuplicateKey)
         out.old out.new out_len.new result }
     ensures other { ¬ (IsUtf8 name.now) → DeliversNothing not_utf8 out.old out.new out_len.new result }
@@ -147,7 +147,7 @@ pub extern "C" fn jdoc_strip_nulls(
     out: &mut [u8],
     out_len: &mut usize,
 ) -> u32
-    ensures { HandsOverBytes (OfDocument document.now (λ form t. Makes form (strip t)))
+    ensures { WritesBytes (OfDocument document.now (λ form t. Makes form (strip t)))
         (IsDecodingError or OutOfMemory or TooLarge) out.old out.new out_len.new result }
 {
     deliver_made(RawJsonb::new(document).strip_nulls(alloc), out, out_len)

@@ -3,7 +3,7 @@
 ghost use Rattle.std.specs.Prelude.{◌≡◌, IfErr, IsOkAnd};
 ghost use Rattle.jsonb_doc.specs.Answer.{IsDecodingError};
 ghost use Rattle.jsonb_doc.specs.View.{extension_view, number_parts};
-ghost use Rattle.jsonb_c.specs.Answers.{HandsOver, OfDocument, Shows};
+ghost use Rattle.jsonb_c.specs.Answers.{WritesResult, OfDocument, Shows};
 ghost use Rattle.jsonb_c.specs.Kinds.{extension_kind, kind_number, number_kind, tree_kind};
 
 use crate::deliver::store;
@@ -62,7 +62,7 @@ impl Kind {
 /// Returns the type of a document.
 #[unsafe(no_mangle)]
 pub extern "C" fn jdoc_type(document: &[u8], kind: &mut u8) -> u32
-    ensures { HandsOver
+    ensures { WritesResult
         (OfDocument document.now (λ form t answer. IsOkAnd answer (λ number. number ≡ kind_number (tree_kind t))))
         IsDecodingError (λ answer. Shows answer kind.old kind.new result) }
 {

@@ -6,7 +6,7 @@ ghost use Rattle.jsonb_doc.specs.Answer.{IsDecodingError, ◌or◌};
 ghost use Rattle.jsonb_doc.specs.declared.error.Error.TheVariants.{InvalidKeyPath, OutOfMemory, TooLarge};
 ghost use Rattle.jsonb_raw.specs.Children.{element_at, named_child};
 ghost use Rattle.jsonb.specs.KeyPathGrammar.{key_path};
-ghost use Rattle.jsonb_c.specs.Answers.{DeliversNothing, HandsOverFound, OfDocument};
+ghost use Rattle.jsonb_c.specs.Answers.{DeliversNothing, WritesFound, OfDocument};
 ghost use Rattle.jsonb_c.specs.Calls.{Finds, Gets};
 ghost use Rattle.jsonb_c.specs.Status.{not_utf8};
 
@@ -24,7 +24,7 @@ pub extern "C" fn jdoc_get_by_index(
     out: &mut [u8],
     out_len: &mut usize,
 ) -> u32
-    ensures { HandsOverFound (OfDocument document.now (λ form t. Finds form (element_at index t)))
+    ensures { WritesFound (OfDocument document.now (λ form t. Finds form (element_at index t)))
         (IsDecodingError or OutOfMemory or TooLarge) out.old out.new out_len.new result }
 {
     let document = RawJsonb::new(document);
@@ -43,7 +43,7 @@ pub extern "C" fn jdoc_get_by_name(
     out_len: &mut usize,
 ) -> u32
     ensures named { IsUtf8 name.now
-        → HandsOverFound (OfDocument document.now (λ form t. Finds form (named_child name.now ignore_case t)))
+        → WritesFound (OfDocument document.now (λ form t. Finds form (named_child name.now ignore_case t)))
         (IsDecodingError or OutOfMemory or TooLarge) out.old out.new out_len.new result }
     ensures other { ¬ (IsUtf8 name.now) → DeliversNothing not_utf8 out.old out.new out_len.new result }
 {
@@ -63,7 +63,7 @@ pub extern "C" fn jdoc_get_by_keypath(
     out: &mut [u8],
     out_len: &mut usize,
 ) -> u32
-    ensures { HandsOverFound (Gets (key_path path.now) document.now)
+    ensures { WritesFound (Gets (key_path path.now) document.now)
         (IsDecodingError or OutOfMemory or TooLarge or InvalidKeyPath) out.old out.new out_len.new result }
 {
     deliver(get_by_keypath(alloc, document, path), out, out_len)

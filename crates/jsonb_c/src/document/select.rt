@@ -6,7 +6,7 @@ ghost use Rattle.jsonb.specs.PathViews.{path_view};
 ghost use Rattle.jsonb.specs.SelectionErrors.{IsDocumentError, IsSelectionError};
 ghost use Rattle.jsonb.specs.SelectorAnswers.{first_item, root_bytes, single_or_array, IsArrayOf, IsFound, IsPicked, IsTruthOf, ByMeanings};
 ghost use Rattle.jsonb.specs.SelectorAnswers.{mode_of as selector_mode};
-ghost use Rattle.jsonb_c.specs.Answers.{HandsOverBool, HandsOverBytes, HandsOverFound, HandsOverTruth};
+ghost use Rattle.jsonb_c.specs.Answers.{WritesBool, WritesBytes, WritesFound, WritesTruth};
 ghost use Rattle.jsonb_c.specs.Private.Views.{pick_of};
 ghost use Rattle.jsonb_c.specs.Calls.{ByMeaning, PicksItem, Says, mode_of};
 
@@ -24,7 +24,7 @@ pub extern "C" fn jdoc_select_value(
     out: &mut [u8],
     out_len: &mut usize,
 ) -> u32
-    ensures { HandsOverFound (PicksItem single_or_array (mode_of strict) document.now (json_path path.now))
+    ensures { WritesFound (PicksItem single_or_array (mode_of strict) document.now (json_path path.now))
         (IsDocumentError (mode_of strict)) out.old out.new out_len.new result }
 {
     let item = select_item(alloc, document, path, strict, Pick::Value);
@@ -41,7 +41,7 @@ pub extern "C" fn jdoc_select_first(
     out: &mut [u8],
     out_len: &mut usize,
 ) -> u32
-    ensures { HandsOverFound (PicksItem first_item (mode_of strict) document.now (json_path path.now))
+    ensures { WritesFound (PicksItem first_item (mode_of strict) document.now (json_path path.now))
         (IsDocumentError (mode_of strict)) out.old out.new out_len.new result }
 {
     let item = select_item(alloc, document, path, strict, Pick::First);
@@ -83,7 +83,7 @@ pub extern "C" fn jdoc_select_array(
     out: &mut [u8],
     out_len: &mut usize,
 ) -> u32
-    ensures { HandsOverBytes
+    ensures { WritesBytes
         (ByMeaning (mode_of strict) document.now (json_path path.now) IsArrayOf)
         (IsDocumentError (mode_of strict)) out.old out.new out_len.new result }
 {
@@ -112,7 +112,7 @@ pub extern "C" fn jdoc_match(
     strict: bool,
     truth: &mut u8,
 ) -> u32
-    ensures { HandsOverTruth (Says (mode_of strict) (json_path path.now) document.now)
+    ensures { WritesTruth (Says (mode_of strict) (json_path path.now) document.now)
         (IsSelectionError (mode_of strict)) truth.old truth.new result }
 {
     store_truth(predicate_match(alloc, document, path, strict), truth)
@@ -153,7 +153,7 @@ pub extern "C" fn jdoc_exists(
     strict: bool,
     truth: &mut u8,
 ) -> u32
-    ensures { HandsOverBool (ByMeaning (mode_of strict) document.now (json_path path.now) IsFound)
+    ensures { WritesBool (ByMeaning (mode_of strict) document.now (json_path path.now) IsFound)
         (IsSelectionError (mode_of strict)) truth.old truth.new result }
 {
     store_bool(path_exists(alloc, document, path, strict), truth)

@@ -7,7 +7,7 @@ ghost use Rattle.jsonb_doc.specs.Tree.{array, trees_of};
 ghost use Rattle.jsonb_raw.specs.Arrays.{as_elements};
 ghost use Rattle.jsonb_raw.specs.Documents.{Makes};
 ghost use Rattle.jsonb_raw.specs.Sets.{difference_of, distinct, intersection_of, overlap};
-ghost use Rattle.jsonb_c.specs.Answers.{HandsOverBool, HandsOverBytes, OfBoth, OfDocument};
+ghost use Rattle.jsonb_c.specs.Answers.{WritesBool, WritesBytes, OfBoth, OfDocument};
 
 use crate::deliver::{deliver_made, store_bool};
 use jsonb::RawJsonb;
@@ -21,7 +21,7 @@ pub extern "C" fn jdoc_array_distinct(
     out: &mut [u8],
     out_len: &mut usize,
 ) -> u32
-    ensures { HandsOverBytes
+    ensures { WritesBytes
         (OfDocument document.now (λ form t. Makes form (array (trees_of (distinct (as_elements t))))))
         (IsDecodingError or OutOfMemory or TooLarge) out.old out.new out_len.new result }
 {
@@ -37,7 +37,7 @@ pub extern "C" fn jdoc_array_intersection(
     out: &mut [u8],
     out_len: &mut usize,
 ) -> u32
-    ensures { HandsOverBytes (OfBoth document.now other.now
+    ensures { WritesBytes (OfBoth document.now other.now
         (λ form t u. Makes form (array (trees_of (intersection_of (as_elements t) (as_elements u))))))
         (IsDecodingError or OutOfMemory or TooLarge) out.old out.new out_len.new result }
 {
@@ -54,7 +54,7 @@ pub extern "C" fn jdoc_array_except(
     out: &mut [u8],
     out_len: &mut usize,
 ) -> u32
-    ensures { HandsOverBytes (OfBoth document.now other.now
+    ensures { WritesBytes (OfBoth document.now other.now
         (λ form t u. Makes form (array (trees_of (difference_of (as_elements t) (as_elements u))))))
         (IsDecodingError or OutOfMemory or TooLarge) out.old out.new out_len.new result }
 {
@@ -65,7 +65,7 @@ pub extern "C" fn jdoc_array_except(
 /// Returns whether an element equals one of another document.
 #[unsafe(no_mangle)]
 pub extern "C" fn jdoc_array_overlap(document: &[u8], other: &[u8], truth: &mut u8) -> u32
-    ensures { HandsOverBool (OfBoth document.now other.now
+    ensures { WritesBool (OfBoth document.now other.now
         (λ form t u said. IsOkAnd said (λ b. b ≡ overlap (as_elements t) (as_elements u))))
         IsDecodingError truth.old truth.new result }
 {

@@ -2,14 +2,14 @@
 
 ghost use Rattle.std.specs.Prelude.{◌≡◌, ◌<◌, length, option_map, IfSome};
 ghost use Rattle.jsonb_keypath.specs.Tokens.{byte_as, hex_digit, escaped, four_hex_digits, code_unit, unicode_escape, escape};
-ghost use Rattle.jsonb_keypath.specs.Views.{read_as, LeavesLess};
+ghost use Rattle.jsonb_keypath.specs.Views.{read_as, ConsumesInput};
 
 use super::literal;
 
 fn hex_digit_at(input: &[u8]) -> Option<(u32, &[u8])>
     ensures value { read_as (λ value. value) result ≡ byte_as hex_digit input.now }
     ensures small { IfSome result (λ found. found.0 < 16) }
-    ensures shrinks { LeavesLess input.now result }
+    ensures shrinks { ConsumesInput input.now result }
 {
     let (first, rest) = input.split_first()?;
     let digit = char::from(*first).to_digit(16)?;
@@ -20,7 +20,7 @@ fn hex_digit_at(input: &[u8]) -> Option<(u32, &[u8])>
 fn four_hex_digits_at(input: &[u8]) -> Option<(u32, &[u8])>
     ensures value { read_as (λ value. value) result ≡ four_hex_digits input.now }
     ensures small { IfSome result (λ found. found.0 < 65536) }
-    ensures shrinks { LeavesLess input.now result }
+    ensures shrinks { ConsumesInput input.now result }
 {
     let (a, rest) = hex_digit_at(input)?;
     let (b, rest) = hex_digit_at(rest)?;
@@ -33,7 +33,7 @@ fn four_hex_digits_at(input: &[u8]) -> Option<(u32, &[u8])>
 fn code_unit_at(input: &[u8]) -> Option<(u32, &[u8])>
     ensures value { read_as (λ value. value) result ≡ code_unit input.now }
     ensures small { IfSome result (λ found. found.0 < 65536) }
-    ensures shrinks { LeavesLess input.now result }
+    ensures shrinks { ConsumesInput input.now result }
 {
     let rest = literal(b"\\u", input)?;
     if let Some(inner) = literal(b"{", rest) {
@@ -49,7 +49,7 @@ fn code_unit_at(input: &[u8]) -> Option<(u32, &[u8])>
 #[tactic(auto, unfolding(crate::specs::Tokens::unicode_escape))]
 fn unicode_escape_at(input: &[u8]) -> Option<(char, &[u8])>
     ensures value { read_as (λ value. value) result ≡ unicode_escape input.now }
-    ensures shrinks { LeavesLess input.now result }
+    ensures shrinks { ConsumesInput input.now result }
 {
     let (n, rest) = code_unit_at(input)?;
     if 0xD800 <= n && n < 0xDC00 {
@@ -66,7 +66,7 @@ fn unicode_escape_at(input: &[u8]) -> Option<(char, &[u8])>
 
 fn escaped_at(input: &[u8]) -> Option<(char, &[u8])>
     ensures value { read_as (λ value. value) result ≡ byte_as escaped input.now }
-    ensures shrinks { LeavesLess input.now result }
+    ensures shrinks { ConsumesInput input.now result }
 {
     let (first, rest) = input.split_first()?;
     let c = match *first {
@@ -86,7 +86,7 @@ fn escaped_at(input: &[u8]) -> Option<(char, &[u8])>
 #[tactic(auto, unfolding(crate::specs::Tokens::escape))]
 pub(super) fn escape_at(input: &[u8]) -> Option<(char, &[u8])>
     ensures value { read_as (λ value. value) result ≡ escape input.now }
-    ensures shrinks { LeavesLess input.now result }
+    ensures shrinks { ConsumesInput input.now result }
 {
     if let Some(rest) = literal(b"\\", input) {
         if let Some(found) = escaped_at(rest) {

@@ -6,7 +6,7 @@ ghost use Rattle.std.specs.Char.{is_ascii_digit};
 ghost use Rattle.std.specs.List.{prefix_len};
 ghost use Rattle.jsonb_doc.specs.Rounding.{with_sign};
 ghost use Rattle.jsonb_keypath.specs.Tokens.{past, natural_below, sign, integer_within};
-ghost use Rattle.jsonb_keypath.specs.Views.{read_as, LeavesLess};
+ghost use Rattle.jsonb_keypath.specs.Views.{read_as, ConsumesInput};
 
 use super::literal;
 
@@ -49,7 +49,7 @@ fn digits_at(input: &[u8]) -> (&str, &[u8])
 #[inline(always)]
 pub fn nat64(input: &[u8]) -> Option<(u64, &[u8])>
     ensures value { read_as (λ value. value) result ≡ natural_below (2 ^ 64) input.now }
-    ensures shrinks { LeavesLess input.now result }
+    ensures shrinks { ConsumesInput input.now result }
 {
     if !begins_with_digit(input) {
         return None;
@@ -61,7 +61,7 @@ pub fn nat64(input: &[u8]) -> Option<(u64, &[u8])>
 #[inline(never)]
 fn digits64(input: &[u8]) -> Option<(u64, &[u8])>
     ensures value { read_as (λ value. value) result ≡ natural_below (2 ^ 64) input.now }
-    ensures shrinks { LeavesLess input.now result }
+    ensures shrinks { ConsumesInput input.now result }
 {
     let (digits, rest) = digits_at(input);
     match digits.parse::<u64>() {
@@ -78,7 +78,7 @@ fn digits64(input: &[u8]) -> Option<(u64, &[u8])>
 /// O(n) for n digits. Does not allocate.
 pub fn nat8(input: &[u8]) -> Option<(u8, &[u8])>
     ensures value { read_as (λ value. value) result ≡ natural_below (2 ^ 8) input.now }
-    ensures shrinks { LeavesLess input.now result }
+    ensures shrinks { ConsumesInput input.now result }
 {
     let (n, rest) = nat64(input)?;
     match u8::try_from(n) {
@@ -122,7 +122,7 @@ fn signed(negative: bool, n: u64) -> Option<i64>
 #[inline(always)]
 pub fn int64(input: &[u8]) -> Option<(i64, &[u8])>
     ensures value { read_as (λ value. value) result ≡ integer_within (2 ^ 63) input.now }
-    ensures shrinks { LeavesLess input.now result }
+    ensures shrinks { ConsumesInput input.now result }
 {
     let (negative, after) = read_sign(input);
     let (n, rest) = nat64(after)?;
@@ -141,7 +141,7 @@ pub fn int64(input: &[u8]) -> Option<(i64, &[u8])>
 #[inline(always)]
 pub fn int32(input: &[u8]) -> Option<(i32, &[u8])>
     ensures value { read_as (λ value. value) result ≡ integer_within (2 ^ 31) input.now }
-    ensures shrinks { LeavesLess input.now result }
+    ensures shrinks { ConsumesInput input.now result }
 {
     let (wide, rest) = int64(input)?;
     match i32::try_from(wide) {

@@ -5,7 +5,7 @@ ghost use Rattle.std.specs.List.{prefix_len};
 ghost use Rattle.std.specs.Cow.{cow_str_bytes};
 ghost use Rattle.jsonb_doc.specs.declared.error.Error.TheVariants.{OutOfMemory};
 ghost use Rattle.jsonb_keypath.specs.Tokens.{is_unescaped, is_stop as spec_is_stop, unit, units, text, name, quoted};
-ghost use Rattle.jsonb_keypath.specs.Views.{read_as, LeavesLess};
+ghost use Rattle.jsonb_keypath.specs.Views.{read_as, ConsumesInput};
 ghost use Rattle.jsonb_keypath.specs.Private.Units.{closed, excluded, unit_bytes};
 ghost use Rattle.jsonb_doc.specs.Answer.{IsOutOfMemory};
 
@@ -42,7 +42,7 @@ use std::borrow::CowStr;
 /// ```
 pub fn read_name(alloc: Global, input: &[u8]) -> Result<Option<(CowStr<'_, Global>, &[u8])>, Error>
     ensures value { IfOk result (λ found. read_as cow_str_bytes found ≡ name input.now) }
-    ensures shrinks { IfOk result (LeavesLess input.now) }
+    ensures shrinks { IfOk result (ConsumesInput input.now) }
     ensures err { IfErr result IsOutOfMemory }
 {
     Ok(name_at(alloc, input)?)
@@ -77,7 +77,7 @@ pub fn read_quoted(
     input: &[u8],
 ) -> Result<Option<(CowStr<'_, Global>, &[u8])>, Error>
     ensures value { IfOk result (λ found. read_as cow_str_bytes found ≡ quoted input.now) }
-    ensures shrinks { IfOk result (LeavesLess input.now) }
+    ensures shrinks { IfOk result (ConsumesInput input.now) }
     ensures err { IfErr result IsOutOfMemory }
 {
     Ok(quoted_at(alloc, input)?)
@@ -91,7 +91,7 @@ pub(crate) fn name_at(
     input: &[u8],
 ) -> Result<Option<(CowStr<'_, Global>, &[u8])>, AllocError>
     ensures value { IfOk result (λ found. read_as cow_str_bytes found ≡ name input.now) }
-    ensures shrinks { IfOk result (LeavesLess input.now) }
+    ensures shrinks { IfOk result (ConsumesInput input.now) }
 {
     let Some((found, rest)) = text_at(alloc, Ending::Stop, input)? else {
         return Ok(None);
@@ -112,7 +112,7 @@ pub(crate) fn quoted_at(
     input: &[u8],
 ) -> Result<Option<(CowStr<'_, Global>, &[u8])>, AllocError>
     ensures value { IfOk result (λ found. read_as cow_str_bytes found ≡ quoted input.now) }
-    ensures shrinks { IfOk result (LeavesLess input.now) }
+    ensures shrinks { IfOk result (ConsumesInput input.now) }
 {
     match literal(b"\"", input) {
         Some(inside) => closed_at(alloc, inside),
@@ -124,7 +124,7 @@ pub(crate) fn quoted_at(
 #[inline(never)]
 fn closed_at(alloc: Global, input: &[u8]) -> Result<Option<(CowStr<'_, Global>, &[u8])>, AllocError>
     ensures value { IfOk result (λ found. read_as cow_str_bytes found ≡ closed input.now) }
-    ensures shrinks { IfOk result (LeavesLess input.now) }
+    ensures shrinks { IfOk result (ConsumesInput input.now) }
 {
     let Some((found, rest)) = text_at(alloc, Ending::Quote, input)? else {
         return Ok(None);
@@ -196,7 +196,7 @@ fn text_at(
 ) -> Result<Option<(CowStr<'_, Global>, &[u8])>, AllocError>
     ensures value { IfOk result (λ found.
         read_as cow_str_bytes found ≡ text (excluded ending) input.now) }
-    ensures shrinks { IfOk result (LeavesLess input.now) }
+    ensures shrinks { IfOk result (ConsumesInput input.now) }
 {
     let count = plain_count(ending, input);
     let (front, rest) = input.split_at(count);
@@ -234,7 +234,7 @@ fn owned_text_at(
 ) -> Result<Option<(String, &[u8])>, AllocError>
     ensures value { IfOk result (λ found.
         read_as string_bytes found ≡ text (excluded ending) input.now) }
-    ensures shrinks { IfOk result (LeavesLess input.now) }
+    ensures shrinks { IfOk result (ConsumesInput input.now) }
 {
     let Some((bytes, after)) = units_at(alloc, ending, input)? else {
         return Ok(None);
@@ -254,7 +254,7 @@ fn units_at(
 ) -> Result<Option<(Vec<u8>, &[u8])>, AllocError>
     ensures value { IfOk result (λ found.
         read_as (λ bytes. bytes.items) found ≡ units (excluded ending) input.now) }
-    ensures shrinks { IfOk result (LeavesLess input.now) }
+    ensures shrinks { IfOk result (ConsumesInput input.now) }
 {
     let Some((first, mut rest)) = unit_at(ending, input) else {
         return Ok(None);
@@ -278,7 +278,7 @@ pub(crate) enum Unit {
 #[tactic(auto, unfolding(crate::specs::Tokens::unit))]
 fn unit_at(ending: Ending, input: &[u8]) -> Option<(Unit, &[u8])>
     ensures value { read_as unit_bytes result ≡ unit (excluded ending) input.now }
-    ensures shrinks { LeavesLess input.now result }
+    ensures shrinks { ConsumesInput input.now result }
 {
     if let Some((c, rest)) = escape_at(input) {
         return Some((Unit::Escape(c), rest));

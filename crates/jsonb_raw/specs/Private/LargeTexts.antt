@@ -32,5 +32,5 @@ TellsBut calls func form t bytes r =
     Decodes form bytes t → IsOkAnd r (λ told. LeavesTexts calls func form (texts t) told.answer told.large)
 
 -- on any bytes what was left out is shorter than this, and an error is a decoding error
-abbrev pub LeavesLess : ℕ → Result TextSearch Error → Type 0
-LeavesLess len r = MatchResult r (λ told. IfSome told.large (λ item. item_size item < len)) IsDecodingError
+abbrev pub ConsumesInput : ℕ → Result TextSearch Error → Type 0
+ConsumesInput len r = MatchResult r (λ told. IfSome told.large (λ item. item_size item < len)) IsDecodingError

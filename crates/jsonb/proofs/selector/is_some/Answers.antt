@@ -1,7 +1,7 @@
 use Rattle.std.proofs.Common.{◌∙◌, ◌∷◌, [], ap, subst, length}
 use Rattle.std.specs.Prelude.{not, ◌==◌}
 use Rattle.jsonb.specs.Private.Selection.{IsAt, IsMadeItem, IsNumberItem, AreSelected}
-use Rattle.jsonb.proofs.GivesLemmas.{some_related}
+use Rattle.jsonb.proofs.RefinesLemmas.{some_related}
 use Rattle.jsonb.proofs.selector.is_some.Goals as goal
 
 pub returns-in-Nodes : goal.returns-in-Nodes

@@ -3,7 +3,7 @@ use Rattle.std.proofs.lemmas.Result.{err_from_is_err_and}
 use Rattle.jsonb_doc.specs.Format.{Decodes}
 use Rattle.jsonb.specs.PathViews.{steps_view}
 use Rattle.jsonb.specs.Meaning.{Means}
-use Rattle.jsonb.proofs.GivesLemmas.{same_answer, refused_as, given_by}
+use Rattle.jsonb.proofs.RefinesLemmas.{same_answer, refused_as, given_by}
 use Rattle.jsonb.proofs.selector.selected_at.Goals as goal
 
 pub returns-in_err-document-clause-meant : goal.returns-in_err-document-clause-meant

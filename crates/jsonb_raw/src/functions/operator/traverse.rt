@@ -10,7 +10,7 @@ ghost use Rattle.jsonb_doc.specs.Answer.{IsDecodingError};
 ghost use Rattle.jsonb_raw.specs.Roots.{HasRoot};
 ghost use Rattle.jsonb_raw.specs.Documents.{raw_bytes};
 ghost use Rattle.jsonb_raw.specs.Texts.{texts, Tells};
-ghost use Rattle.jsonb_raw.specs.Private.LargeTexts.{LeavesTexts, LeavesLess, TellsBut};
+ghost use Rattle.jsonb_raw.specs.Private.LargeTexts.{LeavesTexts, ConsumesInput, TellsBut};
 
 use crate::compared::is_container_longer_than;
 use crate::raw::RawJsonb;
@@ -105,7 +105,7 @@ fn search_item_but_largest<'a, F: Fn(&[u8]) -> bool>(
     requires { F.IsAlwaysCallable func.now }
     ensures told { (form : Form) (tree : Tree) → StandsFor form item.now tree
         → IsOkAnd result (λ told. LeavesTexts F.Fn func.now form (texts tree) told.answer told.large) }
-    ensures less { LeavesLess (item_size item.now) result }
+    ensures less { ConsumesInput (item_size item.now) result }
 {
     match item {
         Item::String(text) => Ok(TextSearch::of(func(text.as_bytes()))),
@@ -137,7 +137,7 @@ fn any_text_in_entry<F: Fn(&[u8]) -> bool>(entry: &StoredEntry<'_>, func: &F) ->
 fn array_tells<'a, F: Fn(&[u8]) -> bool>(bytes: &'a [u8], func: &F) -> Result<TextSearch<'a>, Error>
     requires { F.IsAlwaysCallable func.now }
     ensures told { (form : Form) (ts : Trees) → TellsBut F.Fn func.now form (array ts) bytes.now result }
-    ensures less { LeavesLess (length bytes.now) result }
+    ensures less { ConsumesInput (length bytes.now) result }
 {
     let mut large = None;
     for entry in array_entries(bytes)? {
@@ -162,7 +162,7 @@ fn object_tells<'a, F: Fn(&[u8]) -> bool>(
 ) -> Result<TextSearch<'a>, Error>
     requires { F.IsAlwaysCallable func.now }
     ensures told { (form : Form) (ps : Pairs) → TellsBut F.Fn func.now form (object ps) bytes.now result }
-    ensures less { LeavesLess (length bytes.now) result }
+    ensures less { ConsumesInput (length bytes.now) result }
 {
     let mut large = None;
     for pair in object_entries(bytes)? {

@@ -3,7 +3,7 @@ use Rattle.jsonb_doc.specs.Format.{Decodes}
 use Rattle.jsonb.specs.PathViews.{steps_view}
 use Rattle.jsonb.specs.Meaning.{Means}
 use Rattle.jsonb.specs.SelectorAnswers.{mode_of}
-use Rattle.jsonb.proofs.GivesLemmas.{given_by}
+use Rattle.jsonb.proofs.RefinesLemmas.{given_by}
 use Rattle.jsonb.proofs.SearchLemmas.{same_some}
 use Rattle.jsonb.proofs.selector.Selector.exists.Goals as goal
 

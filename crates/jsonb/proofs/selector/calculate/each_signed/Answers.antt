@@ -3,7 +3,7 @@ use Rattle.std.proofs.lemmas.Result.{err_from_is_err_and}
 use Rattle.jsonb.specs.PathViews.{sign_view}
 use Rattle.std.specs.List.{AllZip}
 use Rattle.jsonb.specs.Private.Selection.{value_view, signed_value, IsNumberItem}
-use Rattle.jsonb.proofs.GivesLemmas.{Is, related_of_map}
+use Rattle.jsonb.proofs.RefinesLemmas.{Is, related_of_map}
 use Rattle.jsonb.proofs.Progress.{at_start, one_more, refused_in, at_end, list_first, list_end}
 use Rattle.jsonb.proofs.CalculateLemmas.{as_memory, number_added}
 use Rattle.jsonb.proofs.selector.calculate.each_signed.Goals as goal

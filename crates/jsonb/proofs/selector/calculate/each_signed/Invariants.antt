@@ -3,7 +3,7 @@ use Rattle.jsonb_doc.specs.Answer.{try_flat_map}
 use Rattle.jsonb.specs.PathViews.{sign_view}
 use Rattle.std.specs.List.{AllZip}
 use Rattle.jsonb.specs.Private.Selection.{value_view, signed_value, IsNumberItem}
-use Rattle.jsonb.proofs.GivesLemmas.{Is}
+use Rattle.jsonb.proofs.RefinesLemmas.{Is}
 use Rattle.jsonb.proofs.Progress.{Progress}
 use Rattle.jsonb.proofs.selector.calculate.each_signed.Given as goal
 

@@ -1,7 +1,7 @@
 use Rattle.std.proofs.Common.{Err, ◌∙◌, ap, arith}
 use Rattle.std.proofs.lemmas.Result.{err_from_is_err_and}
 use Rattle.jsonb.specs.PathViews.{sign_view}
-use Rattle.jsonb.proofs.GivesLemmas.{same_answer}
+use Rattle.jsonb.proofs.RefinesLemmas.{same_answer}
 use Rattle.jsonb.proofs.SignLemmas.{none_signed, one_signed, one_refused, all_signed}
 use Rattle.jsonb.proofs.selector.calculate.sign_each.Goals as goal
 

@@ -4,7 +4,7 @@ use Rattle.jsonb.specs.PathArithmetic.{signed_number}
 use Rattle.jsonb.specs.PathViews.{sign_view}
 use Rattle.jsonb.specs.Private.Selection.{value_view}
 use Rattle.jsonb.proofs.CalculateLemmas.{other_refused, values_signed}
-use Rattle.jsonb.proofs.GivesLemmas.{same_outcome}
+use Rattle.jsonb.proofs.RefinesLemmas.{same_outcome}
 use Rattle.jsonb.proofs.selector.calculate.unary_numbers.Goals as goal
 
 pub returns-then-are_numbers-clause-meant : goal.returns-then-are_numbers-clause-meant

@@ -1,6 +1,6 @@
 use Rattle.std.proofs.Common.{Err, ap, ◌∙◌}
 use Rattle.std.proofs.lemmas.Result.{err_from_is_err_and}
-use Rattle.jsonb.proofs.GivesLemmas.{only_memory, same_answer}
+use Rattle.jsonb.proofs.RefinesLemmas.{only_memory, same_answer}
 use Rattle.jsonb.proofs.selector.children.push_entries.Goals as goal
 
 pub returns-in_err-push_entry-clause-meant : goal.returns-in_err-push_entry-clause-meant

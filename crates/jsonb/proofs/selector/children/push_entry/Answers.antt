@@ -3,7 +3,7 @@ use Rattle.std.specs.Prelude.{slice_range}
 use Rattle.jsonb_doc.specs.Spots.{Locates}
 use Rattle.jsonb.specs.PathViews.{entry_view}
 use Rattle.jsonb.specs.Positions.{IsPosition}
-use Rattle.jsonb.proofs.GivesLemmas.{pushed_all, same_outcome}
+use Rattle.jsonb.proofs.RefinesLemmas.{pushed_all, same_outcome}
 use Rattle.jsonb.proofs.PickLemmas.{picked_between, AllZip-length, AllZip-between}
 use Rattle.jsonb.proofs.selector.children.push_entry.Goals as goal
 

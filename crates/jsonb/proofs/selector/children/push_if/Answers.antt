@@ -1,6 +1,6 @@
 use Rattle.std.proofs.Common.{[], ◌∷◌, Ok, ap, if◌then◌else◌}
 use Rattle.jsonb_doc.specs.Spots.{Locates}
-use Rattle.jsonb.proofs.GivesLemmas.{pushed, same_outcome}
+use Rattle.jsonb.proofs.RefinesLemmas.{pushed, same_outcome}
 use Rattle.jsonb.proofs.selector.children.push_if.Goals as goal
 
 pub returns-then-condition-clause-meant : goal.returns-then-condition-clause-meant

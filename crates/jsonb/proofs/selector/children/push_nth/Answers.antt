@@ -2,7 +2,7 @@ use Rattle.std.proofs.Common.{[], Ok, ap, sym, ◌∙◌, refl, subst}
 use Rattle.std.specs.List.{cons_option, AllZip}
 use Rattle.jsonb_doc.specs.Spots.{Locates, HasSpotsLeft}
 use Rattle.jsonb_doc.proofs.SpotsTaken.{no_refusal}
-use Rattle.jsonb.proofs.GivesLemmas.{pushed, unchanged, same_outcome}
+use Rattle.jsonb.proofs.RefinesLemmas.{pushed, unchanged, same_outcome}
 use Rattle.jsonb.proofs.Progress.{spot_first, spot_end}
 use Rattle.jsonb.proofs.PickLemmas.{get_first, get_further, get_none}
 use Rattle.jsonb.proofs.selector.children.push_nth.Goals as goal

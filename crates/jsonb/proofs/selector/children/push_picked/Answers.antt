@@ -3,7 +3,7 @@ use Rattle.std.proofs.lemmas.Result.{err_from_is_err_and}
 use Rattle.jsonb_doc.specs.Spots.{Locates}
 use Rattle.std.specs.List.{AllZip}
 use Rattle.jsonb.specs.ItemSteps.{picked}
-use Rattle.jsonb.proofs.GivesLemmas.{only_memory, same_answer, same_outcome}
+use Rattle.jsonb.proofs.RefinesLemmas.{only_memory, same_answer, same_outcome}
 use Rattle.jsonb.proofs.PickLemmas.{picked_plain}
 use Rattle.jsonb.proofs.selector.children.push_picked.Goals as goal
 

@@ -3,7 +3,7 @@ use Rattle.jsonb_doc.specs.Spots.{Locates, HasSpotsLeft}
 use Rattle.jsonb_raw.specs.Arrays.{array_values}
 use Rattle.jsonb.specs.PathViews.{entry_view}
 use Rattle.jsonb.specs.ItemSteps.{picked}
-use Rattle.jsonb.proofs.GivesLemmas.{listed, none_found, mismatches, same_answer}
+use Rattle.jsonb.proofs.RefinesLemmas.{listed, none_found, mismatches, same_answer}
 use Rattle.jsonb.proofs.selector.children.push_positions.Goals as goal
 
 pub returns-in_err-elements-clause-meant : goal.returns-in_err-elements-clause-meant

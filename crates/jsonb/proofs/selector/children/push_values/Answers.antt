@@ -1,7 +1,7 @@
 use Rattle.std.proofs.Common.{[]}
 use Rattle.jsonb_doc.specs.Spots.{Locates, HasSpotsLeft}
 use Rattle.jsonb.specs.ItemSteps.{values_of}
-use Rattle.jsonb.proofs.GivesLemmas.{listed_itself, unlisted, mismatches, same_answer}
+use Rattle.jsonb.proofs.RefinesLemmas.{listed_itself, unlisted, mismatches, same_answer}
 use Rattle.jsonb.proofs.selector.children.push_values.Goals as goal
 
 pub returns-in_err-values-clause-meant : goal.returns-in_err-values-clause-meant

@@ -3,7 +3,7 @@ use Rattle.std.proofs.lemmas.Result.{err_from_is_err_and}
 use Rattle.jsonb_doc.specs.Spots.{Locates}
 use Rattle.jsonb.specs.Private.Compared.{items_truth}
 use Rattle.jsonb.specs.declared.selector.document.Mode.TheVariants.{Lax}
-use Rattle.jsonb.proofs.GivesLemmas.{same_answer}
+use Rattle.jsonb.proofs.RefinesLemmas.{same_answer}
 use Rattle.jsonb.proofs.KeptLemmas.{known, value_is}
 use Rattle.jsonb.proofs.ListLemmas.{is_false, is_not_false, list_passes, list_stops, list_refused, list_none}
 use Rattle.jsonb.proofs.Progress.{no_spot, list_first, list_end}

@@ -3,7 +3,7 @@ use Rattle.std.proofs.lemmas.Bool.Decides.{nat_tests}
 use Rattle.std.proofs.lemmas.List.{nil_from_length}
 use Rattle.std.proofs.lemmas.Result.{err_from_is_err_and}
 use Rattle.jsonb.specs.Private.Compared.{items_truth}
-use Rattle.jsonb.proofs.GivesLemmas.{same_answer, same_outcome, first_refused, followed}
+use Rattle.jsonb.proofs.RefinesLemmas.{same_answer, same_outcome, first_refused, followed}
 use Rattle.jsonb.proofs.ListLemmas.{by_front, by_names}
 use Rattle.jsonb.proofs.selector.compared_lists.list_compared_truth.Goals as goal
 

@@ -1,7 +1,7 @@
 use Rattle.std.proofs.Common.{ap}
 use Rattle.jsonb.specs.PathViews.{expression_view}
 use Rattle.jsonb.specs.Meaning.{truth}
-use Rattle.jsonb.proofs.GivesLemmas.{same_outcome}
+use Rattle.jsonb.proofs.RefinesLemmas.{same_outcome}
 use Rattle.jsonb.proofs.selector.compared_lists.root_truth.Goals as goal
 
 pub returns-in-Lax-Some-clause-meant : goal.returns-in-Lax-Some-clause-meant

@@ -6,7 +6,7 @@ use Rattle.jsonb.specs.PathViews.{step_view, steps_view}
 use Rattle.jsonb.specs.Meaning.{step_meaning, steps_meaning}
 use Rattle.jsonb.specs.Private.Selection.{taken_step}
 use Rattle.jsonb.specs.declared.selector.document.Expressions.TheVariants.{AreRefused}
-use Rattle.jsonb.proofs.GivesLemmas.{same_outcome}
+use Rattle.jsonb.proofs.RefinesLemmas.{same_outcome}
 use Rattle.jsonb.proofs.MemberLemmas.{member_first, member_next, nothing_behind}
 use Rattle.jsonb.proofs.selector.compared_member.compared_member.Goals as goal
 

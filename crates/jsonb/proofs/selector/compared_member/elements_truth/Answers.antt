@@ -7,7 +7,7 @@ use Rattle.jsonb.specs.Compare.{compare}
 use Rattle.jsonb.specs.PathViews.{operator_view}
 use Rattle.jsonb.specs.Private.Selection.{value_view}
 use Rattle.jsonb.specs.Values.{value_of_item}
-use Rattle.jsonb.proofs.GivesLemmas.{same_answer, only_memory}
+use Rattle.jsonb.proofs.RefinesLemmas.{same_answer, only_memory}
 use Rattle.jsonb.proofs.KeptLemmas.{known}
 use Rattle.jsonb.proofs.ListLemmas.{is_false, is_not_false, compare_passes, compare_stops}
 use Rattle.jsonb.proofs.Progress.{spot_first, spot_end}

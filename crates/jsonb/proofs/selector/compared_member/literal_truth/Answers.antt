@@ -4,7 +4,7 @@ use Rattle.jsonb.specs.Compare.{compare}
 use Rattle.jsonb.specs.PathViews.{operator_view}
 use Rattle.jsonb.specs.Private.Selection.{value_view}
 use Rattle.jsonb.specs.Values.{values_of_item}
-use Rattle.jsonb.proofs.GivesLemmas.{same_outcome, same_answer, first_refused, followed}
+use Rattle.jsonb.proofs.RefinesLemmas.{same_outcome, same_answer, first_refused, followed}
 use Rattle.jsonb.proofs.ComparedLemmas.{told_by, truth_is}
 use Rattle.jsonb.proofs.selector.compared_member.literal_truth.Goals as goal
 

@@ -7,7 +7,7 @@ use Rattle.jsonb.specs.PathViews.{operator_view}
 use Rattle.jsonb.specs.Private.Selection.{value_view}
 use Rattle.jsonb.specs.Values.{Value, values_of_item}
 use Rattle.jsonb.specs.declared.selector.document.Expressions.TheVariants.{AreRefused}
-use Rattle.jsonb.proofs.GivesLemmas.{same_outcome, same_answer, first_refused, followed}
+use Rattle.jsonb.proofs.RefinesLemmas.{same_outcome, same_answer, first_refused, followed}
 use Rattle.jsonb.proofs.StepLemmas.{from_start}
 use Rattle.jsonb.proofs.selector.compared_member.member_truth.Goals as goal
 

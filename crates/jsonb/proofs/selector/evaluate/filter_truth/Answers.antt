@@ -2,7 +2,7 @@ use Rattle.std.proofs.Common.{Ok, Err, ap, sym, ◌∙◌, refl}
 use Rattle.std.proofs.lemmas.Result.{err_from_is_err_and}
 use Rattle.jsonb_doc.specs.Answer.{and_then}
 use Rattle.jsonb.specs.Meaning.{filtered}
-use Rattle.jsonb.proofs.GivesLemmas.{same_outcome, same_answer, first_of_three_refused}
+use Rattle.jsonb.proofs.RefinesLemmas.{same_outcome, same_answer, first_of_three_refused}
 use Rattle.jsonb.proofs.KeptLemmas.{known, value_is}
 use Rattle.jsonb.proofs.TestLemmas.{first_test, test_done, settled}
 use Rattle.jsonb.proofs.selector.evaluate.filter_truth.Goals as goal

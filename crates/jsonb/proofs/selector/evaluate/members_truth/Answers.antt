@@ -7,7 +7,7 @@ use Rattle.jsonb.specs.PathViews.{operator_view}
 use Rattle.jsonb.specs.Private.Selection.{values_view}
 use Rattle.jsonb.specs.Values.{values_of_item}
 use Rattle.jsonb.specs.declared.selector.document.Expressions.TheVariants.{AreRefused}
-use Rattle.jsonb.proofs.GivesLemmas.{same_outcome, same_answer, first_refused, second_refused, followed, only_memory}
+use Rattle.jsonb.proofs.RefinesLemmas.{same_outcome, same_answer, first_refused, second_refused, followed, only_memory}
 use Rattle.jsonb.proofs.TestLemmas.{both_members}
 use Rattle.jsonb.proofs.selector.evaluate.members_truth.Goals as goal
 

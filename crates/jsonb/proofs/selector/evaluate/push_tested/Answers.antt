@@ -1,6 +1,6 @@
 use Rattle.std.proofs.Common.{Ok, Err, ap, sym, ◌∙◌}
 use Rattle.std.proofs.lemmas.Result.{err_from_is_err_and}
-use Rattle.jsonb.proofs.GivesLemmas.{same_outcome, same_answer, refused_as, given_by}
+use Rattle.jsonb.proofs.RefinesLemmas.{same_outcome, same_answer, refused_as, given_by}
 use Rattle.jsonb.proofs.selector.evaluate.push_tested.Goals as goal
 
 pub returns-in_err-filter_truth-clause-meant : goal.returns-in_err-filter_truth-clause-meant

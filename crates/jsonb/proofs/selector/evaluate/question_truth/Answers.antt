@@ -6,7 +6,7 @@ use Rattle.jsonb.specs.Meaning.{steps_meaning, is_some_item}
 use Rattle.jsonb.specs.PathTree.{steps_of}
 use Rattle.jsonb.specs.PathViews.{steps_view}
 use Rattle.jsonb.specs.declared.selector.document.Expressions.TheVariants.{AreRefused}
-use Rattle.jsonb.proofs.GivesLemmas.{same_outcome, same_answer, first_refused, one_ok}
+use Rattle.jsonb.proofs.RefinesLemmas.{same_outcome, same_answer, first_refused, one_ok}
 use Rattle.jsonb.proofs.KeptLemmas.{known}
 use Rattle.jsonb.proofs.StepLemmas.{refused_steps}
 use Rattle.jsonb.proofs.TestLemmas.{found_is_item}

@@ -3,7 +3,7 @@ use Rattle.std.proofs.lemmas.Result.{err_from_is_err_and}
 use Rattle.jsonb.specs.PathTree.{filter}
 use Rattle.jsonb.specs.Meaning.{step_meaning}
 use Rattle.jsonb.specs.Private.Tests.{AreTestsOf}
-use Rattle.jsonb.proofs.GivesLemmas.{same_answer}
+use Rattle.jsonb.proofs.RefinesLemmas.{same_answer}
 use Rattle.jsonb.proofs.Progress.{none_passed, spot_passed, spot_not_passed, all_passed}
 use Rattle.jsonb.proofs.TestLemmas.{no_tests}
 use Rattle.jsonb.proofs.selector.evaluate.tested_items.Goals as goal

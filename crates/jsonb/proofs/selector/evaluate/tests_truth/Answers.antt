@@ -5,7 +5,7 @@ use Rattle.jsonb_doc.specs.Answer.{and_then}
 use Rattle.jsonb.specs.Meaning.{filtered}
 use Rattle.jsonb.specs.Private.Jumps.{evaluated}
 use Rattle.jsonb.specs.Private.Tests.{AreBranches}
-use Rattle.jsonb.proofs.GivesLemmas.{same_outcome, same_answer, first_of_three_refused}
+use Rattle.jsonb.proofs.RefinesLemmas.{same_outcome, same_answer, first_of_three_refused}
 use Rattle.jsonb.proofs.KeptLemmas.{known, value_is}
 use Rattle.jsonb.proofs.TestLemmas.{next_test, test_done, no_test, settled}
 use Rattle.jsonb.proofs.selector.evaluate.tests_truth.Goals as goal

@@ -8,7 +8,7 @@ use Rattle.jsonb.specs.Private.Exists.{LeadsTo}
 use Rattle.jsonb.specs.Private.Selection.{option_spots}
 use Rattle.jsonb.specs.declared.path.Expr.{size-Expr}
 use Rattle.jsonb.specs.declared.selector.document.Expressions.TheVariants.{AreRefused}
-use Rattle.jsonb.proofs.GivesLemmas.{same_outcome, first_refused, continued}
+use Rattle.jsonb.proofs.RefinesLemmas.{same_outcome, first_refused, continued}
 use Rattle.jsonb.proofs.MemberLemmas.{no_member, one_member}
 use Rattle.jsonb.proofs.ExistsLemmas.{filtered_by, one_filtered, behind_names}
 use Rattle.jsonb.proofs.selector.exists.innermost.Goals as goal

@@ -3,7 +3,7 @@ use Rattle.std.proofs.lemmas.Result.{err_from_is_err_and}
 use Rattle.jsonb_doc.specs.Spots.{Locates}
 use Rattle.jsonb.specs.PathViews.{levels_view}
 use Rattle.std.specs.List.{AllZip}
-use Rattle.jsonb.proofs.GivesLemmas.{same_answer}
+use Rattle.jsonb.proofs.RefinesLemmas.{same_answer}
 use Rattle.jsonb.proofs.BelowLemmas.{no_levels, walk_begun, leaves_passed, all_passed, item_passed, item_entered, level_done, walk_done, told_first, falls_within, falls_beside, falls_done}
 use Rattle.jsonb.proofs.LevelRanges.{range_taken}
 use Rattle.jsonb.proofs.selector.levels.push_levels.Goals as goal

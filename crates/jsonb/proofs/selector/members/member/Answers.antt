@@ -7,7 +7,7 @@ use Rattle.jsonb.specs.PathViews.{step_view, steps_view}
 use Rattle.std.specs.List.{AllZip}
 use Rattle.jsonb.specs.Meaning.{step_meaning, steps_meaning}
 use Rattle.jsonb.specs.Private.Selection.{option_spots, taken_step}
-use Rattle.jsonb.proofs.GivesLemmas.{same_outcome, same_answer, first_refused, one_ok, continued}
+use Rattle.jsonb.proofs.RefinesLemmas.{same_outcome, same_answer, first_refused, one_ok, continued}
 use Rattle.jsonb.proofs.MemberLemmas.{none_left, no_member, one_member, member_first, member_next}
 use Rattle.jsonb.proofs.selector.members.member.Goals as goal
 

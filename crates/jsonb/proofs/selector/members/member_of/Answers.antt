@@ -1,4 +1,4 @@
-use Rattle.jsonb.proofs.GivesLemmas.{same_outcome}
+use Rattle.jsonb.proofs.RefinesLemmas.{same_outcome}
 use Rattle.jsonb.proofs.selector.members.member_of.Goals as goal
 
 pub returns-in-Some-clause-meant : goal.returns-in-Some-clause-meant

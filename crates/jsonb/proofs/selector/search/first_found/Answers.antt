@@ -6,7 +6,7 @@ use Rattle.jsonb.specs.Meaning.{steps_meaning}
 use Rattle.jsonb.specs.Private.Search.{IsReached}
 use Rattle.jsonb.specs.declared.selector.document.Mode.TheVariants.{Lax}
 use Rattle.jsonb.specs.declared.selector.search.Reached.TheVariants as reached
-use Rattle.jsonb.proofs.GivesLemmas.{same_answer}
+use Rattle.jsonb.proofs.RefinesLemmas.{same_answer}
 use Rattle.jsonb.proofs.SearchLemmas.{taken_first, taken_none, found_at_most, search_begun, item_found, item_passed, items_entered, items_done, search_done, falls_within, falls_beside, falls_done}
 use Rattle.jsonb.proofs.selector.search.first_found.Goals as goal
 

@@ -6,7 +6,7 @@ use Rattle.jsonb.specs.Meaning.{step_meaning}
 use Rattle.jsonb.specs.Private.Search.{AreGiven}
 use Rattle.jsonb.specs.Private.Tests.{AreTestsOf}
 use Rattle.jsonb.specs.declared.selector.document.Mode.TheVariants.{Lax}
-use Rattle.jsonb.proofs.GivesLemmas.{same_answer, same_outcome, refused_as, given_by}
+use Rattle.jsonb.proofs.RefinesLemmas.{same_answer, same_outcome, refused_as, given_by}
 use Rattle.jsonb.proofs.TestLemmas.{no_tests}
 use Rattle.jsonb.proofs.selector.search.step_items.Goals as goal
 

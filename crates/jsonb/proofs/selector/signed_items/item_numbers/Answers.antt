@@ -6,7 +6,7 @@ use Rattle.jsonb_doc.specs.View.{number_view}
 use Rattle.jsonb.specs.PathArithmetic.{all_numbers}
 use Rattle.std.specs.List.{AllZip}
 use Rattle.jsonb.specs.Values.{values_of_item}
-use Rattle.jsonb.proofs.GivesLemmas.{same_answer, same_outcome, refused_as}
+use Rattle.jsonb.proofs.RefinesLemmas.{same_answer, same_outcome, refused_as}
 use Rattle.jsonb.proofs.Progress.{no_spot, at_start, one_more, refused_in, at_end, list_first, list_end}
 use Rattle.jsonb.proofs.SignLemmas.{Behind, numbers_of_parts, more_behind}
 use Rattle.jsonb.proofs.selector.signed_items.item_numbers.Goals as goal

@@ -5,7 +5,7 @@ use Rattle.jsonb_doc.specs.Spots.{Locates, HasSpotsLeft}
 use Rattle.jsonb_doc.specs.View.{number_view}
 use Rattle.jsonb.specs.PathArithmetic.{all_numbers}
 use Rattle.jsonb.specs.Values.{value_of_item}
-use Rattle.jsonb.proofs.GivesLemmas.{same_answer, same_outcome, refused_as}
+use Rattle.jsonb.proofs.RefinesLemmas.{same_answer, same_outcome, refused_as}
 use Rattle.jsonb.proofs.Progress.{at_start, one_more, refused_in, at_end, spot_first, spot_end, spot_refused}
 use Rattle.jsonb.proofs.SignLemmas.{Behind, numbers_of_parts, more_behind}
 use Rattle.jsonb.proofs.selector.signed_items.push_elements.Goals as goal

@@ -6,7 +6,7 @@ use Rattle.jsonb_doc.specs.Answer.{try_flat_map}
 use Rattle.jsonb_doc.specs.View.{number_view}
 use Rattle.jsonb.specs.PathArithmetic.{signed_number}
 use Rattle.jsonb.specs.PathViews.{sign_view}
-use Rattle.jsonb.proofs.GivesLemmas.{same_answer, same_outcome, refused_as, first_refused, followed}
+use Rattle.jsonb.proofs.RefinesLemmas.{same_answer, same_outcome, refused_as, first_refused, followed}
 use Rattle.jsonb.proofs.selector.signed_items.signed_items.Goals as goal
 
 pub returns-in_err-numbers-clause-meant : goal.returns-in_err-numbers-clause-meant

@@ -2,7 +2,7 @@ use Rattle.std.proofs.Common.{◌≡◌, Option, Bool, ◌∷◌, [], ◌++◌, 
 use Rattle.std.specs.Prelude.{not, ◌==◌, length}
 use Rattle.std.proofs.Math.ListN.{drop_of_length-le}
 use Rattle.std.proofs.lemmas.Result.{err_from_is_err_and}
-use Rattle.jsonb_doc.specs.Answer.{try_flat_map, and_then, Gives, IsOutOfMemory}
+use Rattle.jsonb_doc.specs.Answer.{try_flat_map, and_then, Refines, IsOutOfMemory}
 use Rattle.jsonb.specs.PathTree as math
 use Rattle.jsonb.specs.PathTree.{steps_of}
 use Rattle.jsonb.specs.PathViews.{step_view, steps_view, expression_view, operator_view}
@@ -15,7 +15,7 @@ use Rattle.jsonb.specs.Private.FilterCache.{conditions, is_condition, IsSame, Ar
 use Rattle.jsonb.specs.Private.Terms.{IsBelow, executed, last_truth, term_conditions, term_view, truths_view}
 use Rattle.jsonb.specs.declared.path.Expr.{size-Expr}
 use Rattle.jsonb.specs.Meaning.{step_meaning, steps_meaning, truth, operand_values, filtered, is_some_item}
-use Rattle.jsonb.proofs.GivesLemmas.{same_outcome, same_answer, refused_as, one_ok, given_by, first_refused, first_of_three_refused, second_refused, followed, continued, some_related}
+use Rattle.jsonb.proofs.RefinesLemmas.{same_outcome, same_answer, refused_as, one_ok, given_by, first_refused, first_of_three_refused, second_refused, followed, continued, some_related}
 use Rattle.jsonb.proofs.Progress.{no_spot, at_start, one_more, refused_in, at_end, list_first, list_end, joined_singles}
 use Rattle.jsonb.proofs.PathNodes.{root_is, current_is, paths_is, binary_is, exists_is}
 use Rattle.jsonb.proofs.KeptLemmas.{comparison_is, by_right, value_of, one_comparison, one_exists, kept_same, from_ok, without, always, known, value_is, compared}
@@ -117,7 +117,7 @@ step_item-returns-in-None-clause-meant t c = λ top u r s.
 
 pub step_list-returns-in-Root-clause-meant : goal.step_list-returns-in-Root-clause-meant
 step_list-returns-in-Root-clause-meant t c = λ top ts r a.
-    let filtered : Gives (λ found us. AllZip (IsAt c.args.context.now.document) (node_spots found) us) IsOutOfMemory (Ok c.args.items)
+    let filtered : Refines (λ found us. AllZip (IsAt c.args.context.now.document) (node_spots found) us) IsOutOfMemory (Ok c.args.items)
     (Ok ts) = record { ok = a; err = tt } in
     elim c.in-Root.is [
       | inl is ↦ same_outcome (ap (λ x. try_flat_map (step_meaning c.args.context.now.mode (taken_step c.args.expressions x) top) ts)

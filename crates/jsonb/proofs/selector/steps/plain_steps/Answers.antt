@@ -5,7 +5,7 @@ use Rattle.jsonb_doc.specs.Spots.{Locates}
 use Rattle.jsonb.specs.PathViews.{step_view}
 use Rattle.std.specs.List.{AllZip}
 use Rattle.jsonb.specs.Meaning.{step_meaning}
-use Rattle.jsonb.proofs.GivesLemmas.{same_answer, same_outcome}
+use Rattle.jsonb.proofs.RefinesLemmas.{same_answer, same_outcome}
 use Rattle.jsonb.proofs.Progress.{no_spot, one_more, refused_in, at_end, list_first, list_end}
 use Rattle.jsonb.proofs.selector.steps.plain_steps.Goals as goal
 

@@ -5,7 +5,7 @@ use Rattle.jsonb_raw.specs.Arrays.{array_values}
 use Rattle.jsonb.specs.Values.{value_of_item}
 use Rattle.jsonb.specs.Private.Selection.{value_view}
 use Rattle.jsonb.proofs.ItemKinds.{values_of_array, other_values}
-use Rattle.jsonb.proofs.GivesLemmas.{same_outcome, same_answer, only_memory}
+use Rattle.jsonb.proofs.RefinesLemmas.{same_outcome, same_answer, only_memory}
 use Rattle.jsonb.proofs.selector.values.item_values.Goals as goal
 
 pub returns-in_err-elements-clause-meant : goal.returns-in_err-elements-clause-meant

@@ -4,7 +4,7 @@ use Rattle.jsonb_doc.specs.Spots.{Locates}
 use Rattle.std.specs.List.{AllZip}
 use Rattle.jsonb.specs.Values.{values_of_item}
 use Rattle.jsonb.specs.Private.Selection.{value_view}
-use Rattle.jsonb.proofs.GivesLemmas.{same_answer, only_memory}
+use Rattle.jsonb.proofs.RefinesLemmas.{same_answer, only_memory}
 use Rattle.jsonb.proofs.Progress.{no_spot, total_start, one_more, refused_in, at_end, list_first, list_end}
 use Rattle.jsonb.proofs.selector.values.many_values.Goals as goal
 

@@ -3,7 +3,7 @@ use Rattle.std.proofs.lemmas.Result.{err_from_is_err_and}
 use Rattle.jsonb_doc.specs.Spots.{Locates, HasSpotsLeft}
 use Rattle.jsonb.specs.Values.{value_of_item}
 use Rattle.jsonb.specs.Private.Selection.{value_view}
-use Rattle.jsonb.proofs.GivesLemmas.{same_answer, only_memory}
+use Rattle.jsonb.proofs.RefinesLemmas.{same_answer, only_memory}
 use Rattle.jsonb.proofs.Progress.{total_start, one_more, refused_in, at_end, spot_first, spot_end, spot_refused}
 use Rattle.jsonb.proofs.selector.values.push_each.Goals as goal
 

@@ -8,7 +8,7 @@ use Rattle.jsonb.specs.PathViews.{expression_view, literal_view, operator_view, 
 use Rattle.jsonb.specs.PathArithmetic.{operation, each_signed}
 use Rattle.jsonb.specs.Meaning.{operand_values, truth, truth_list, binary_meaning, calculation}
 use Rattle.jsonb.specs.Private.Selection.{AreSelected}
-use Rattle.jsonb.proofs.GivesLemmas.{same_outcome, same_answer, refused_as, one_given}
+use Rattle.jsonb.proofs.RefinesLemmas.{same_outcome, same_answer, refused_as, one_given}
 use Rattle.jsonb.proofs.PathNodes.{literal_is, unary_is, binary_is, exists_is}
 use Rattle.jsonb.proofs.WholeLemmas.{meant, some_of, none_of, is_outcome}
 use Rattle.jsonb.proofs.selector.whole_path.expression_selection.Goals as goal

@@ -6,7 +6,7 @@ use Rattle.jsonb.specs.PathTree.{steps_of}
 use Rattle.jsonb.specs.PathViews.{steps_view, expression_view, operator_view, sign_view}
 use Rattle.jsonb.specs.PathArithmetic.{operation, each_signed}
 use Rattle.jsonb.specs.Meaning.{operand_values, truth, calculation, expression_predicate}
-use Rattle.jsonb.proofs.GivesLemmas.{same_outcome, same_answer, first_refused, one_ok}
+use Rattle.jsonb.proofs.RefinesLemmas.{same_outcome, same_answer, first_refused, one_ok}
 use Rattle.jsonb.proofs.PredicateLemmas.{binary_predicate, predicate_by_cases}
 use Rattle.jsonb.proofs.PathNodes.{unary_is, binary_is, exists_is}
 use Rattle.jsonb.proofs.WholeLemmas.{some_of, none_of}

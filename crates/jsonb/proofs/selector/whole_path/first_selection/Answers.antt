@@ -3,7 +3,7 @@ use Rattle.std.proofs.lemmas.Result.{err_from_is_err_and}
 use Rattle.jsonb.specs.Meaning.{steps_meaning}
 use Rattle.jsonb.specs.PathTree.{steps_of}
 use Rattle.jsonb.specs.PathViews.{steps_view}
-use Rattle.jsonb.proofs.GivesLemmas.{same_outcome, same_answer, refused_as}
+use Rattle.jsonb.proofs.RefinesLemmas.{same_outcome, same_answer, refused_as}
 use Rattle.jsonb.proofs.SearchLemmas.{begins_all, begins_found}
 use Rattle.jsonb.proofs.StepLemmas.{filter_steps}
 use Rattle.jsonb.proofs.WholeLemmas.{by_steps, none_of}

@@ -3,7 +3,7 @@ use Rattle.std.specs.Cow.{cow_str_bytes}
 use Rattle.jsonb_doc.specs.Tree.{null, boolean, number, text, array, trees_of}
 use Rattle.jsonb_doc.specs.View.{number_view}
 use Rattle.jsonb.specs.Private.Selection.{AreSelected}
-use Rattle.jsonb.proofs.GivesLemmas.{same_outcome, one_given}
+use Rattle.jsonb.proofs.RefinesLemmas.{same_outcome, one_given}
 use Rattle.jsonb.proofs.WholeLemmas.{literal_meant, number_meant}
 use Rattle.jsonb.proofs.selector.whole_path.literal_selection.Goals as goal
 

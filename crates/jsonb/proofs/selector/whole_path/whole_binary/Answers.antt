@@ -1,6 +1,6 @@
 use Rattle.std.proofs.Common.{sym, ◌∙◌}
 use Rattle.jsonb.specs.PathArithmetic.{two_numbers}
-use Rattle.jsonb.proofs.GivesLemmas.{followed, same_outcome}
+use Rattle.jsonb.proofs.RefinesLemmas.{followed, same_outcome}
 use Rattle.jsonb.proofs.CalculateLemmas.{refused_as_path}
 use Rattle.jsonb.proofs.WholeLemmas.{without_memory}
 use Rattle.jsonb.proofs.selector.whole_path.whole_binary.Goals as goal

@@ -7,7 +7,7 @@ use Rattle.std.specs.List.{AllZip}
 use Rattle.jsonb.specs.Values.{values_of_item}
 use Rattle.jsonb.specs.Meaning.{operand_values}
 use Rattle.jsonb.specs.Private.Selection.{IsAt}
-use Rattle.jsonb.proofs.GivesLemmas.{first_refused, followed, same_answer, same_outcome}
+use Rattle.jsonb.proofs.RefinesLemmas.{first_refused, followed, same_answer, same_outcome}
 use Rattle.jsonb.proofs.PathNodes.{paths_is}
 use Rattle.jsonb.proofs.SignLemmas.{by_path}
 use Rattle.jsonb.proofs.selector.whole_path.whole_unary.Goals as goal

@@ -1,7 +1,7 @@
 -- Results that refine meanings: what the result for a part says of the whole.
 use Rattle.std.proofs.Common.{◌≡◌, List, [], ◌∷◌, ◌++◌, Option, Some, None, option_map, Result, Ok, Err, OnOk, IfErr, IsOkAnd, refl, inl, inr, subst, sym, ap, append-nil, length, map, rules}
 use Rattle.std.specs.Prelude.{not, ◌==◌}
-use Rattle.jsonb_doc.specs.Answer.{Outcome, and_then, Gives, SameOption, IsOutOfMemory}
+use Rattle.jsonb_doc.specs.Answer.{Outcome, and_then, Refines, SameOption, IsOutOfMemory}
 use Rattle.jsonb_doc.specs.declared.error.Error.{Error}
 use Rattle.jsonb_doc.specs.Tree.{Tree}
 use Rattle.std.specs.List.{AllZip}
@@ -42,7 +42,7 @@ related_of_map {A} f xs ys is = subst (λ l. AllZip (Is f) xs l) is (each xs)
 
 pub pushed_all : {A B : Type 0} (R : A → B → Type 0) (r : Result (Unit {0}) Error) (old new more : List A) (before us : List B) →
     OnOk r (new ≡ old ++ more) → IfErr r IsOutOfMemory → AllZip R old before → AllZip R more us →
-    Gives (λ _ ts. AllZip R new (before ++ ts)) IsOutOfMemory r (Ok us)
+    Refines (λ _ ts. AllZip R new (before ++ ts)) IsOutOfMemory r (Ok us)
 pushed_all R (Ok v) old new more before us is none a h = record {
   ok = subst (λ l. AllZip R l (before ++ us)) (sym is) (AllZip-append R old more before us a h);
   err = tt;
@@ -51,42 +51,42 @@ pushed_all R (Err e) old new more before us is none a h = record { ok = tt; err 
 
 pub pushed : {A B : Type 0} (R : A → B → Type 0) (r : Result (Unit {0}) Error) (old new : List A) (x : A) (before : List B) (u : B) →
     OnOk r (new ≡ old ++ x ∷ []) → IfErr r IsOutOfMemory → AllZip R old before → R x u →
-    Gives (λ _ ts. AllZip R new (before ++ ts)) IsOutOfMemory r (Ok (u ∷ []))
+    Refines (λ _ ts. AllZip R new (before ++ ts)) IsOutOfMemory r (Ok (u ∷ []))
 pushed R r old new x before u is none a h = pushed_all R r old new (x ∷ []) before (u ∷ []) is none a (h, tt)
 
 -- nothing
 pub unchanged : {A B : Type 0} (R : A → B → Type 0) (xs : List A) (before : List B) → AllZip R xs before →
-    Gives {A = Unit {0}} (λ _ ts. AllZip R xs (before ++ ts)) IsOutOfMemory (Ok tt) (Ok [])
+    Refines {A = Unit {0}} (λ _ ts. AllZip R xs (before ++ ts)) IsOutOfMemory (Ok tt) (Ok [])
 unchanged R xs before a = record { ok = subst (λ l. AllZip R xs l) (sym (append-nil before)) a; err = tt }
 
 -- a step that doesn't fit yields nothing, or fails
 pub mismatches : {A : Type 0} (mode : Mode) (R : A → Tree → Type 0) (xs : List A) (before : List Tree) → AllZip R xs before →
-    Gives (λ _ ts. AllZip R xs (before ++ ts)) IsOutOfMemory (fail_if_strict mode) (list_or mode [] None)
+    Refines (λ _ ts. AllZip R xs (before ++ ts)) IsOutOfMemory (fail_if_strict mode) (list_or mode [] None)
 mismatches Lax R xs before a = unchanged R xs before a
 mismatches Strict R xs before a = record { ok = tt; err = inr refl }
 
 -- ---- two parts, one after the other
 
 -- the same result at an equal outcome
-pub same_outcome : {A B : Type 0} {R : A → B → Type 0} {r : Outcome A} {o p : Outcome B} → p ≡ o → Gives R IsOutOfMemory r o → Gives R IsOutOfMemory r p
-same_outcome {A} {B} {R} {r} e h = subst (λ z. Gives R IsOutOfMemory r z) (sym e) h
+pub same_outcome : {A B : Type 0} {R : A → B → Type 0} {r : Outcome A} {o p : Outcome B} → p ≡ o → Refines R IsOutOfMemory r o → Refines R IsOutOfMemory r p
+same_outcome {A} {B} {R} {r} e h = subst (λ z. Refines R IsOutOfMemory r z) (sym e) h
 
 -- the same outcome of an equal result
-pub same_answer : {A B : Type 0} {R : A → B → Type 0} {r s : Outcome A} {o : Outcome B} → s ≡ r → Gives R IsOutOfMemory r o → Gives R IsOutOfMemory s o
-same_answer {A} {B} {R} {r} {s} {o} e h = subst (λ z. Gives R IsOutOfMemory z o) (sym e) h
+pub same_answer : {A B : Type 0} {R : A → B → Type 0} {r s : Outcome A} {o : Outcome B} → s ≡ r → Refines R IsOutOfMemory r o → Refines R IsOutOfMemory s o
+same_answer {A} {B} {R} {r} {s} {o} e h = subst (λ z. Refines R IsOutOfMemory z o) (sym e) h
 
 -- a value that is known
-pub one_given : {A B : Type 0} (R : A → List B → Type 0) (ts : List B) {x : A} → R x ts → Gives R IsOutOfMemory (Ok x) (Ok ts)
+pub one_given : {A B : Type 0} (R : A → List B → Type 0) (ts : List B) {x : A} → R x ts → Refines R IsOutOfMemory (Ok x) (Ok ts)
 one_given R ts h = record { ok = h; err = tt }
 
 -- an error, whatever the values would be
-pub refused_as : {A B C : Type 0} {R : A → B → Type 0} {Q : C → B → Type 0} {e : Error} {o : Outcome B} → Gives R IsOutOfMemory (Err e) o
-    → Gives Q IsOutOfMemory (Err e) o
+pub refused_as : {A B C : Type 0} {R : A → B → Type 0} {Q : C → B → Type 0} {e : Error} {o : Outcome B} → Refines R IsOutOfMemory (Err e) o
+    → Refines Q IsOutOfMemory (Err e) o
 refused_as h = record { ok = tt; err = h.err }
 
 -- a value is never an error
-pub only_memory : {A B C D : Type 0} {R : A → B → Type 0} {Q : C → D → Type 0} {e : Error} {x : B} {y : D} → Gives R IsOutOfMemory (Err e) (Ok x)
-    → Gives Q IsOutOfMemory (Err e) (Ok y)
+pub only_memory : {A B C D : Type 0} {R : A → B → Type 0} {Q : C → D → Type 0} {e : Error} {x : B} {y : D} → Refines R IsOutOfMemory (Err e) (Ok x)
+    → Refines Q IsOutOfMemory (Err e) (Ok y)
 only_memory h = record { ok = tt; err = elim h.err [ inl memory ↦ inl memory | inr is ↦ cc ] }
 
 -- a value of the first part goes on
@@ -102,14 +102,14 @@ continued P (Err e) next h = absurd h
 
 -- an error of the first part is that of the whole
 pub first_refused : {A B C D : Type 0} {R : A → B → Type 0} {S : C → D → Type 0} {e : Error} {o : Outcome B} (next : B → Outcome D) →
-    Gives R IsOutOfMemory (Err e) o → Gives S IsOutOfMemory (Err e) (and_then o next)
+    Refines R IsOutOfMemory (Err e) o → Refines S IsOutOfMemory (Err e) (and_then o next)
 first_refused {e = e} {o = o} next h = record {
   ok = tt;
   err = elim h.err [ inl memory ↦ inl memory | inr is ↦ inr (ap (λ v. and_then v next) is) ];
 }
 
 pub first_of_three_refused : {A B C D E : Type 0} {R : A → B → Type 0} {S : D → E → Type 0} {e : Error} {o : Outcome B}
-    (next : B → Outcome C) (last : C → Outcome E) → Gives R IsOutOfMemory (Err e) o → Gives S IsOutOfMemory (Err e) (and_then (and_then o next) last)
+    (next : B → Outcome C) (last : C → Outcome E) → Refines R IsOutOfMemory (Err e) o → Refines S IsOutOfMemory (Err e) (and_then (and_then o next) last)
 first_of_three_refused {e = e} {o = o} next last h = record {
   ok = tt;
   err = elim h.err [ inl memory ↦ inl memory | inr is ↦ inr (ap (λ v. and_then (and_then v next) last) is) ];
@@ -117,23 +117,23 @@ first_of_three_refused {e = e} {o = o} next last h = record {
 
 -- a value of the first part, and the result of what follows
 pub followed : {A B C D : Type 0} {R : A → B → Type 0} {S : C → D → Type 0} {x : A} {r : Outcome C} {o : Outcome B} (next : B → Outcome D) →
-    Gives R IsOutOfMemory (Ok x) o → ((a : B) → R x a → Gives S IsOutOfMemory r (next a)) → Gives S IsOutOfMemory r (and_then o next)
-followed {R = R} {S = S} {x = x} {r = r} {o = o} next h go = with_ok (R x) (λ w. Gives S IsOutOfMemory r w) o next h.ok go
+    Refines R IsOutOfMemory (Ok x) o → ((a : B) → R x a → Refines S IsOutOfMemory r (next a)) → Refines S IsOutOfMemory r (and_then o next)
+followed {R = R} {S = S} {x = x} {r = r} {o = o} next h go = with_ok (R x) (λ w. Refines S IsOutOfMemory r w) o next h.ok go
 
 pub one_ok : {A B C D : Type 0} {R : A → B → Type 0} {S : C → D → Type 0} {x : A} {z : C} {o : Outcome B} (next : B → Outcome D) →
-    Gives R IsOutOfMemory (Ok x) o → ((a : B) → R x a → IsOkAnd (next a) (S z)) → Gives S IsOutOfMemory (Ok z) (and_then o next)
+    Refines R IsOutOfMemory (Ok x) o → ((a : B) → R x a → IsOkAnd (next a) (S z)) → Refines S IsOutOfMemory (Ok z) (and_then o next)
 one_ok {R = R} {S = S} {x = x} {z = z} {o = o} next h go =
     record { ok = with_ok (R x) (λ w. IsOkAnd w (S z)) o next h.ok go; err = tt }
 
 pub second_refused : {A B C D E F : Type 0} {R : A → B → Type 0} {Q : C → D → Type 0} {S : E → F → Type 0} {x : A} {e : Error} {o : Outcome B} {p : Outcome D}
     (next : B → D → Outcome F) →
-    Gives R IsOutOfMemory (Ok x) o → Gives Q IsOutOfMemory (Err e) p → Gives S IsOutOfMemory (Err e) (and_then o (λ a. and_then p (next a)))
+    Refines R IsOutOfMemory (Ok x) o → Refines Q IsOutOfMemory (Err e) p → Refines S IsOutOfMemory (Err e) (and_then o (λ a. and_then p (next a)))
 second_refused {R = R} {Q = Q} {S = S} {x = x} {e = e} {o = o} {p = p} next g h =
-    with_ok (R x) (λ w. Gives S IsOutOfMemory (Err e) w) o (λ a. and_then p (next a)) g.ok (λ a r. first_refused {R = Q} (next a) h)
+    with_ok (R x) (λ w. Refines S IsOutOfMemory (Err e) w) o (λ a. and_then p (next a)) g.ok (λ a r. first_refused {R = Q} (next a) h)
 
 -- by the value of a first part
-pub given_by : {A C D : Type 0} {Q : C → D → Type 0} {R : A → D → Type 0} {c : C} {r : Outcome A} {o : Outcome D} → Gives Q IsOutOfMemory (Ok c) o
-    → ((x : D) → Q c x → Gives R IsOutOfMemory r (Ok x)) → Gives R IsOutOfMemory r o
+pub given_by : {A C D : Type 0} {Q : C → D → Type 0} {R : A → D → Type 0} {c : C} {r : Outcome A} {o : Outcome D} → Refines Q IsOutOfMemory (Ok c) o
+    → ((x : D) → Q c x → Refines R IsOutOfMemory r (Ok x)) → Refines R IsOutOfMemory r o
 given_by {Q = Q} {R = R} {c = c} {r = r} {o = Ok x} h go = go x h.ok
 given_by {Q = Q} {R = R} {c = c} {r = r} {o = Err e} h go = absurd h.ok
 
@@ -141,31 +141,31 @@ given_by {Q = Q} {R = R} {c = c} {r = r} {o = Err e} h go = absurd h.ok
 
 module _ {A V : Type 0} {S : A → List Tree → Type 0} {r : Outcome A} (mode : Mode) (otherwise : List Tree) (R : V → List Tree → Type 0) where
   pub listed : (g : List Tree → List Tree) (v : V) (o : Option (List Tree)) → SameOption R (Some v) o
-      → ((us : List Tree) → R v us → Gives S IsOutOfMemory r (Ok (g us))) →
-      Gives S IsOutOfMemory r (list_or mode otherwise (option_map g o))
+      → ((us : List Tree) → R v us → Refines S IsOutOfMemory r (Ok (g us))) →
+      Refines S IsOutOfMemory r (list_or mode otherwise (option_map g o))
   listed g v (Some us) h go = go us h
   listed g v None h go = absurd h
 
-  pub listed_itself : (v : V) (o : Option (List Tree)) → SameOption R (Some v) o → ((us : List Tree) → R v us → Gives S IsOutOfMemory r (Ok us))
-      → Gives S IsOutOfMemory r (list_or mode otherwise o)
+  pub listed_itself : (v : V) (o : Option (List Tree)) → SameOption R (Some v) o → ((us : List Tree) → R v us → Refines S IsOutOfMemory r (Ok us))
+      → Refines S IsOutOfMemory r (list_or mode otherwise o)
   listed_itself v (Some us) h go = go us h
   listed_itself v None h go = absurd h
 
-  pub unlisted : (o : Option (List Tree)) → SameOption R None o → Gives S IsOutOfMemory r (list_or mode otherwise None)
-      → Gives S IsOutOfMemory r (list_or mode otherwise o)
+  pub unlisted : (o : Option (List Tree)) → SameOption R None o → Refines S IsOutOfMemory r (list_or mode otherwise None)
+      → Refines S IsOutOfMemory r (list_or mode otherwise o)
   unlisted (Some us) h g = absurd h
   unlisted None h g = g
 
 -- one part that was found
 pub found_one : {A V : Type 0} {S : A → List Tree → Type 0} {r : Outcome A} (mode : Mode) (otherwise : List Tree) (R : V → Tree → Type 0)
     (g : Tree → List Tree) (v : V) (o : Option Tree) →
-    SameOption R (Some v) o → ((u : Tree) → R v u → Gives S IsOutOfMemory r (Ok (g u))) → Gives S IsOutOfMemory r (list_or mode otherwise (option_map g o))
+    SameOption R (Some v) o → ((u : Tree) → R v u → Refines S IsOutOfMemory r (Ok (g u))) → Refines S IsOutOfMemory r (list_or mode otherwise (option_map g o))
 found_one mode otherwise R g v (Some u) h go = go u h
 found_one mode otherwise R g v None h go = absurd h
 
 -- nothing that was found
 pub none_found : {A V T : Type 0} {S : A → List Tree → Type 0} {r : Outcome A} (mode : Mode) (otherwise : List Tree) (R : V → T → Type 0)
     (g : T → List Tree) (o : Option T) →
-    SameOption R None o → Gives S IsOutOfMemory r (list_or mode otherwise None) → Gives S IsOutOfMemory r (list_or mode otherwise (option_map g o))
+    SameOption R None o → Refines S IsOutOfMemory r (list_or mode otherwise None) → Refines S IsOutOfMemory r (list_or mode otherwise (option_map g o))
 none_found mode otherwise R g (Some u) h given = absurd h
 none_found mode otherwise R g None h given = given
