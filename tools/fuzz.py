@@ -71,8 +71,8 @@ class Comparison:
         number = None if value is None else 2 if value[0] is meaning.UNKNOWN else int(value[0])
         self.compare(name, arguments, (status, number), self.library.truth_of(name, self.document, *(given or arguments)))
 
-    def value(self, kind, name, call):
-        self.compare(name, [], outcome(call), self.library.value_of(kind, name, self.document))
+    def value(self, kind, name, call, arguments=()):
+        self.compare(name, arguments, outcome(call), self.library.value_of(kind, name, self.document, *arguments))
 
     def bytes(self, name, arguments, call):
         self.compare(name, arguments, outcome(call), self.library.bytes_of(name, self.document, *arguments))
@@ -186,9 +186,14 @@ class Comparison:
 
     def comparisons(self):
         tree, other = self.tree, self.other
-        if self.cases.random.random() < 0.3:
+        pick = self.cases.random.random()
+        if pick < 0.3:
             self.other_document, other = self.document, tree
+        elif pick < 0.6:
+            other = self.cases.changed(tree)
+            self.other_document = encode(other)
         given = [self.other_document]
+        self.value(c_int32, "compare", lambda: meaning.order(tree, other), given)
         self.truth("contains", given, lambda: meaning.contains(tree, other))
         self.truth("array_overlap", given, lambda: bool(meaning.split(tree, other)[0]))
         self.makes("array_intersection", given, lambda: [meaning.split(tree, other)[0]])
@@ -225,6 +230,7 @@ def damaged_case(library, cases, report):
         library.bytes_of("select_array", document, cases.json_path(), c_bool(False))
         library.bytes_of("delete_by_keypath", document, cases.key_path())
         library.truth_of("contains", document, document)
+        library.value_of(c_int32, "compare", document, document)
 
 
 # ---- the program

@@ -86,6 +86,7 @@ def document_runs(shape):
     numbers_at_root = shape in ("last", "first", "middle", "alternating")
     yield Run("check", shape, MILLION, "JDOC_OK 0 0")
     yield Run("contains", shape, MILLION, "JDOC_OK 0 0")
+    yield Run("compare", shape, MILLION, "JDOC_OK 0 1")
     yield Run("array_overlap", shape, MILLION, f"JDOC_OK 0 {int(numbers_at_root)}")
     yield Run("equality_key", shape, MILLION, f"JDOC_OK {equality_key_len(shape, MILLION)} 0")
     yield Run("sort_key", shape, MILLION, "JDOC_TOO_DEEP 0 0")

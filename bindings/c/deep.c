@@ -136,7 +136,6 @@ static Buffer long_path(const Path *path, size_t times)
 typedef struct {
     Buffer document, other, path, out;
     uint8_t truth;
-    int32_t order;
     size_t len;
 } Case;
 
@@ -150,7 +149,13 @@ static const char BELOW[] = "$.**";
 
 static uint32_t run_check(Case *c) { return jdoc_check(DOCUMENT); }
 static uint32_t run_contains(Case *c) { return jdoc_contains(DOCUMENT, OTHER, &c->truth); }
-static uint32_t run_compare(Case *c) { return jdoc_compare(DOCUMENT, OTHER, &c->order); }
+static uint32_t run_compare(Case *c)
+{
+    int32_t order = 0;
+    uint32_t status = jdoc_compare(DOCUMENT, OTHER, &order);
+    c->truth = order < 0;
+    return status;
+}
 static uint32_t run_overlap(Case *c) { return jdoc_array_overlap(DOCUMENT, OTHER, &c->truth); }
 static uint32_t run_sort_key(Case *c) { return jdoc_sort_key(DOCUMENT, false, OUT); }
 static uint32_t run_wide_key(Case *c) { return jdoc_sort_key(DOCUMENT, true, OUT); }

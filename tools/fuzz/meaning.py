@@ -77,6 +77,25 @@ def equal(a, b):
     return equality_key(a) == equality_key(b)
 
 
+def ordered(tree):
+    """Returns a tuple that compares with others as the trees do."""
+    if isinstance(tree, list):
+        return rank(tree), [ordered(it) for it in tree]
+    if isinstance(tree, dict):
+        return rank(tree), [ordered(it) for pair in tree.items() for it in pair]
+    if isinstance(tree, str):
+        return rank(tree), tree.encode()
+    if isinstance(tree, Number):
+        return rank(tree), tree.value
+    return rank(tree), tree.payload if isinstance(tree, Extension) else b""
+
+
+def order(a, b):
+    """Returns -1, 0 or 1, if a tree is below, equal to or above another."""
+    left, right = ordered(a), ordered(b)
+    return (left > right) - (left < right)
+
+
 def written(it):
     """Returns the text of a number."""
     digits = str(abs(it.coefficient)).rjust(it.scale + 1, "0")

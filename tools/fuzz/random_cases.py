@@ -55,6 +55,15 @@ class Cases:
             return [self.tree(depth - 1) for _ in range(count)]
         return object_of((self.random.choice(NAMES), self.tree(depth - 1)) for _ in range(count))
 
+    def changed(self, tree):
+        """Returns the tree with one item replaced, so that both agree up to it."""
+        if not isinstance(tree, (list, dict)) or not tree or self.random.random() < 0.2:
+            return self.tree(1)
+        at = self.random.choice(range(len(tree)) if isinstance(tree, list) else [*tree])
+        made = tree.copy()
+        made[at] = self.changed(tree[at])
+        return made
+
     def widths(self):
         """Returns the widths to try for one integer: the shortest that fits, or wider ones."""
         return (1, 2, 4, 8)[self.random.choice([0, 0, 1, 2, 3]) :]
