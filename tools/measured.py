@@ -164,7 +164,7 @@ def growth():
     shown = [100, 1_000, 10_000, 100_000]
     cells = [[row["call"], *(per_unit(row, size) for size in shown), row["exponent"]] for row in not_linear if row["100"]]
     head = ["Call", *(f"n = {size:,}" for size in shown), "Exponent"]
-    return table(head, cells) + f"\n\nLinear (an exponent of at most {LINEAR}): the other {len(rows) - len(not_linear)} of {len(rows)} series."
+    return table(head, cells) + f"\n\nLinear (an exponent of at most {LINEAR}): {len(rows) - len(not_linear)} of {len(rows)} series."
 
 
 def check():

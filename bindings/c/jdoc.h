@@ -38,8 +38,8 @@
  *   JDOC_UNSUPPORTED_NUMBER  the bytes contain a float or a 256-bit decimal
  *   JDOC_OUT_OF_MEMORY       an allocation fails. Nothing was written
  *   JDOC_TOO_LARGE           of functions that build documents: the result exceeds the limits of the format
- * Functions return on any bytes, but only jdoc_check and jdoc_column_check examine all of them: check untrusted
- * documents first, since the results of other functions on invalid documents are unspecified.
+ * Functions return on any bytes, but only jdoc_check and jdoc_column_check decide whether they are documents: check
+ * untrusted documents first, since the results of other functions on invalid documents are unspecified.
  *
  * Paths. A key path is a list of keys and indexes such as {phones,0,"a b"}; a JSON path is an expression such as
  * $.phones[*]?(@.type == "home") (docs/PATHS.md). Both are UTF-8. JDOC_INVALID_KEY_PATH, JDOC_INVALID_JSON_PATH: the
@@ -554,7 +554,7 @@ JDOC_NODISCARD enum jdoc_status jdoc_column_delete_by_keypath(const uint8_t *byt
  * Memory. The path is allocated by `.._read` and freed by `.._free`. All else that a call allocates it frees itself.
  *
  * Statuses. `.._read` returns JDOC_OK, JDOC_OUT_OF_MEMORY, or JDOC_INVALID_JSON_PATH (JDOC_INVALID_KEY_PATH) if and only
- * if the text is not such a path. The other calls return JDOC_NO_PATH if the struct contains no path of their kind;
+ * if the text is not such a path. Calls on documents return JDOC_NO_PATH if the struct contains no path of their kind;
  * nothing is written then, except 0 to *out_len. Otherwise they return what the calls that parse the path return, but
  * JDOC_INVALID_JSON_PATH only if the evaluation fails on this document. */
 

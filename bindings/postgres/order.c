@@ -12,7 +12,7 @@
 
 enum { SMALL = 1024, DEPTH = 2 };
 
-/* KEYS: wide ones, so that items may be nested up to 65,535 levels deep */
+/* KEYS of scalars: wide ones, whose DEPTH precedes the type */
 
 typedef struct key {
     uint8_t small[SMALL], *bytes;

@@ -75,7 +75,7 @@ impl RawJsonb<'_> {
         self.make(|d, n, out| unsafe { sys::jdoc_strip_nulls(d, n, out.at, out.size, out.len) })
     }
 
-    /// Returns the sortable key: bytes that compare as the documents do.
+    /// Returns the sortable key: bytes that compare as the documents do, if neither contains an extension value.
     ///
     /// # Errors
     ///
