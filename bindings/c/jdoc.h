@@ -30,8 +30,8 @@
  * Memory. A function frees what it allocates (by malloc, realloc and free of the C library) before it returns, except a
  * prepared path. These do not allocate: jdoc_version, jdoc_status_name, jdoc_check, jdoc_type, jdoc_len, jdoc_as_..,
  * jdoc_to_bool, jdoc_to_i64, jdoc_to_u64, jdoc_contains, jdoc_compare, jdoc_array_overlap, jdoc_column_check,
- * jdoc_column_contains, jdoc_column_to_i64. Most functions use little stack at any depth; docs/STACK.md lists those that
- * use more.
+ * jdoc_column_contains, jdoc_column_to_i64. Most functions use little stack at any depth; docs/STACK.md lists those
+ * that use more.
  *
  * Errors of any function, which are not listed with each:
  *   JDOC_INVALID_JSONB       the bytes are not a document
@@ -543,20 +543,20 @@ JDOC_NODISCARD enum jdoc_status jdoc_column_delete_by_keypath(const uint8_t *byt
  *   ... for each document: status = jdoc_path_match(&path, document, document_len, false, &truth); ...
  *   jdoc_path_free(&path);
  *
- * Set the struct to zeros before its first use: then it contains no path. `.._read` parses the text and keeps a copy, in
- * place of the path that was there; if it fails, the struct contains no path. `.._free` frees the path; it does nothing
- * if there is none. The fields belong to the library. The struct may be copied (memcpy), as long as only one copy is
- * used from then on: a call on another copy after `.._read` or `.._free` is a use after free.
+ * Set the struct to zeros before its first use: then it contains no path. `.._read` parses the text and keeps a copy,
+ * in place of the path that was there; if it fails, the struct contains no path. `.._free` frees the path; it does
+ * nothing if there is none. The fields belong to the library. The struct may be copied (memcpy), as long as only one
+ * copy is used from then on: a call on another copy after `.._read` or `.._free` is a use after free.
  *
- * Threads. Calls on one struct must not overlap. A struct may be used and freed on another thread than the one that read
- * its path, after a join, a lock or another ordering; this is tested, and not proved.
+ * Threads. Calls on one struct must not overlap. A struct may be used and freed on another thread than the one that
+ * read its path, after a join, a lock or another ordering; this is tested, and not proved.
  *
  * Memory. The path is allocated by `.._read` and freed by `.._free`. All else that a call allocates it frees itself.
  *
- * Statuses. `.._read` returns JDOC_OK, JDOC_OUT_OF_MEMORY, or JDOC_INVALID_JSON_PATH (JDOC_INVALID_KEY_PATH) if and only
- * if the text is not such a path. Calls on documents return JDOC_NO_PATH if the struct contains no path of their kind;
- * nothing is written then, except 0 to *out_len. Otherwise they return what the calls that parse the path return, but
- * JDOC_INVALID_JSON_PATH only if the evaluation fails on this document. */
+ * Statuses. `.._read` returns JDOC_OK, JDOC_OUT_OF_MEMORY, or JDOC_INVALID_JSON_PATH (JDOC_INVALID_KEY_PATH) if and
+ * only if the text is not such a path. Calls on documents return JDOC_NO_PATH if the struct contains no path of their
+ * kind; nothing is written then, except 0 to *out_len. Otherwise they return what the calls that parse the path return,
+ * but JDOC_INVALID_JSON_PATH only if the evaluation fails on this document. */
 
 typedef struct jdoc_path {
     void *at;
