@@ -78,7 +78,7 @@ pub enum Container<'a> {
 ///
 /// # Errors
 ///
-/// `InvalidJsonb` for bytes that do not begin with a header and as many words as it counts.
+/// `InvalidJsonb` for bytes that do not begin with a header and its entry words.
 ///
 /// # Complexity
 ///

@@ -1,7 +1,7 @@
 //! The words of the binary format, and its numbers.
 //!
-//! A container is a header word, entry words, and their contents. A header word is a type and a number of entries, an
-//! entry word a type and the length of its content. All words have 32 bits, big-endian.
+//! A container is a header word, entry words, and their contents. A header word is a type and a count of elements or
+//! members (0 of a scalar), an entry word a type and the length of its content. All words have 32 bits, big-endian.
 
 ghost use Rattle.std.specs.Prelude.{◌≡◌, ◌≢◌, ℕ, ◌+◌, ◌%◌, ◌^◌, ◌<◌, ◌≤◌, List, IfSome, MatchOption, length, drop};
 ghost use Rattle.std.specs.Int.{w32, from_be_bytes};
@@ -24,7 +24,7 @@ const SCALAR_HEADER: u32 = 0x2000_0000;
 /// An entry word is the number of its kind times this, and a length below this.
 const LENGTHS: u32 = 0x1000_0000;
 
-/// How many entries a container may have.
+/// How many elements or members a container may have.
 pub const MAX_ENTRIES: usize = 0x1fff_ffff;
 
 /// How many bytes the content of an entry may have.

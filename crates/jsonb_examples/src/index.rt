@@ -1,7 +1,7 @@
 //! An index of documents by two values, over sortable keys.
 //!
-//! Each key is composed of the sortable keys of both values. Such keys compare as the pairs of values do. A missing
-//! value is below every other.
+//! Each key is composed of the sortable keys of both values. Such keys compare as the pairs of values do, if these
+//! contain no extension value. A missing value is below every other.
 
 use jsonb::{Error, JsonPath, RawJsonb, SelectByPath, parse_json_path, push_column_key};
 use std::alloc::Global;

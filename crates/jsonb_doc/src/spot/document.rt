@@ -21,8 +21,8 @@ const SHORT: usize = 16;
 
 /// Returns the item at a spot of these bytes as a new document, copied as it is stored.
 ///
-/// It is allocated with its exact size, or with 24 bytes if it is shorter, the least that the GNU C library's allocator
-/// returns.
+/// It is allocated with its exact size, or with 24 bytes if it is a shorter scalar, the least that the GNU C library's
+/// allocator returns.
 ///
 /// # Errors
 ///

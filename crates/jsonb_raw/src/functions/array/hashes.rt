@@ -1,5 +1,5 @@
-//! Hashes of entries. Entries that are equal by value have one hash, so an entry whose hash no entry of a list has
-//! equals none of them.
+//! Hashes of entries. Entries that are equal by value have the same hash, if both have one. So an entry equals none of
+//! a list whose entries all have other hashes.
 
 ghost use Rattle.std.specs.Prelude.{◌≡◌, ◌<◌, ◌≤◌, ◌*◌, ◌-◌, ◌^◌, ℕ, pos, neg_ℤ, true, false, IfSome};
 ghost use Rattle.jsonb_doc.specs.Tree.{Tree, Trees, Pairs, values};

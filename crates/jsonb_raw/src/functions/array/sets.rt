@@ -1,4 +1,5 @@
-//! Arrays as sets. Elements are compared by their equality keys, or by value in functions that do not allocate.
+//! Arrays as sets. Elements are compared by their equality keys. They are compared by value if both documents are
+//! scalars, and in functions that do not allocate.
 
 ghost use Rattle.std.specs.Prelude.{◌≡◌, ◌<◌, ◌^◌, List, [], ◌∷◌, ◌++◌, length, cond, IsOkAnd, IfSome, OnOk, IfErr, MatchResult};
 ghost use Rattle.std.specs.List.{AllByRecursion, list_any};
@@ -207,7 +208,7 @@ fn scalar_root(bytes: &[u8]) -> Result<Option<Item<'_>>, Error>
     }
 }
 
-/// Returns whether a scalar is among the elements of another document, or `None` if one of them is not a scalar.
+/// Returns whether two scalars are equal by value, or `None` if one of the documents is not a scalar.
 ///
 /// Two scalars are compared without keys and counts, whose allocations take most of the instructions of the set
 /// functions on them.

@@ -20,7 +20,8 @@ use std::alloc::Global;
 
 /// Appends the sortable key of a value to a composite key, or the bytes `00 00` if the value is missing.
 ///
-/// Keys of the same number of values compare as the lists of the values do. A missing value sorts before every other.
+/// Keys of the same number of values compare as the lists of the values do, if these contain no extension value. A
+/// missing value sorts before every other.
 ///
 /// # Errors
 ///
@@ -55,7 +56,8 @@ pub fn push_column_key(
 
 /// Appends the wide sortable key of a value to a composite key, or the bytes `00 00 00` if the value is missing.
 ///
-/// Keys of the same number of values compare as the lists of the values do. A missing value sorts before every other.
+/// Keys of the same number of values compare as the lists of the values do, if these contain no extension value. A
+/// missing value sorts before every other.
 ///
 /// # Errors
 ///

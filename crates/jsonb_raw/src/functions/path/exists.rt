@@ -185,15 +185,15 @@ pub(crate) struct Place<'a> {
     run: usize,
 }
 
-/// A search for many names in any order among the keys of an object. The keys are divided into as many blocks as the
-/// table has cursors. The cursor before each block is stored when the search first passes it, so that a name is
+/// A search for many names in any order among the keys of an object. The keys are divided into at most as many blocks
+/// as the table has cursors. The cursor before each block is stored when the search first passes it, so that a name is
 /// searched in its block only.
 #[derive(Clone, Copy)]
 pub(crate) struct KeyTable<'a> {
     places: [KeyCursor<'a>; PLACES],
     /// The number of stored cursors. The others are before the first key.
     known: usize,
-    /// The number of keys in a block.
+    /// One less than the number of keys in a block.
     stride: usize,
     /// The cursor at which the last search ended.
     near: Place<'a>,

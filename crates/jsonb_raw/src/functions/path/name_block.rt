@@ -17,7 +17,7 @@ use jsonb_doc::{EntryIter, Error, StoredEntry};
 /// The number of names that are looked up in one traversal.
 const BLOCK: usize = 64;
 
-/// The number of names, and of elements, up to which each name is searched by itself.
+/// The number of names in a block up to which each is searched by itself.
 pub(super) const FEW: usize = 8;
 
 /// Fails if the entry is a float.
