@@ -212,7 +212,7 @@ fn question_of<'s, 'p>(e: &'s Expr<'p>) -> Option<Question<'s, 'p>>
 }
 
 /// Returns the question that a comparison of two operands is, if one is a member of the item, and the other a member
-/// or a literal. A literal on the left is compared from the right.
+/// or a literal. A literal on the left is compared from the right, except by `starts with`.
 #[inline(always)]
 fn comparison_of<'s, 'p>(
     op: BinaryOperator,
