@@ -43,7 +43,7 @@ impl PackedBytes {
         }
     }
 
-    /// Returns the first `count` bytes of a word, followed by zeros.
+    /// Returns the first `len` bytes of a word that zeros follow.
     #[inline(always)]
     pub fn of_word(word: u64, len: usize) -> PackedBytes
         ensures bytes { packed_bytes result ≡ take len (to_le_bytes w64 word ++ to_le_bytes w64 0) }
