@@ -485,8 +485,8 @@ impl RawJsonb<'_> {
     ///
     /// # Complexity
     ///
-    /// Objects: O(k) if the names are sorted, otherwise O(k / 64) per name, and O(k) up to 32 keys. Arrays: O(n) for
-    /// each 64 names, and O(n) per name up to 8 elements. Does not allocate.
+    /// Objects: O(k) if the names are sorted, otherwise O(k / 64) per name after O(k), and O(k) per name up to 32 keys.
+    /// Arrays: O(n) for each 64 names, and O(n) per name up to 8 elements. Does not allocate.
     ///
     /// # Examples
     ///
