@@ -25,13 +25,14 @@
  *
  * Output must not overlap anything else of the same call.
  *
- * Threads. Functions share nothing: any number of threads may call at the same time. Signal handlers may not call.
+ * Threads. Functions share nothing: any number of threads may call at the same time. Signal handlers may not call, nor
+ * may the child of a fork in a process with other threads, until it calls exec.
  *
- * Memory. A function frees what it allocates (by malloc, realloc and free of the C library) before it returns, except a
- * prepared path. These do not allocate: jdoc_version, jdoc_status_name, jdoc_check, jdoc_type, jdoc_len, jdoc_as_..,
- * jdoc_to_bool, jdoc_to_i64, jdoc_to_u64, jdoc_contains, jdoc_compare, jdoc_array_overlap, jdoc_column_check,
- * jdoc_column_contains, jdoc_column_to_i64. Most functions use little stack at any depth; docs/STACK.md lists those
- * that use more.
+ * Memory. A function frees what it allocates before it returns, except a prepared path. It calls malloc, realloc and
+ * free of the C library, whose blocks have to be aligned to 16 bytes. These do not allocate: jdoc_version,
+ * jdoc_status_name, jdoc_check, jdoc_type, jdoc_len, jdoc_as_.., jdoc_to_bool, jdoc_to_i64, jdoc_to_u64,
+ * jdoc_contains, jdoc_compare, jdoc_array_overlap, jdoc_column_check, jdoc_column_contains, jdoc_column_to_i64. Most
+ * functions use little stack at any depth; docs/STACK.md lists those that use more.
  *
  * Errors of any function, which are not listed with each:
  *   JDOC_INVALID_JSONB       the bytes are not a document
