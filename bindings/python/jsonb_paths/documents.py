@@ -12,7 +12,7 @@ nothing. Each error is an exception of jsonb_paths.errors.
 >>> loads(delete(fred, "{phones}"))
 {'name': 'Fred'}
 
-Numbers are exact, so a float is an error, unless the caller asks for decimals:
+Numbers are exact, so a float is an error, unless the caller passes floats="decimal":
 
 >>> dumps({"price": [1, 2.5]})
 Traceback (most recent call last):
