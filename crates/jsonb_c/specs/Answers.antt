@@ -93,7 +93,8 @@ OfBoth document other Promise answer = (form other_form : Form) (t u : Tree)
     → Decodes form document t → Decodes other_form other u → Promise form t u answer
 
 -- Holds if there is such a result, which fails only with the stated errors, and it is delivered.
-abbrev pub WritesResult : {A : Type 0} → (Result A Error → Type 0) → (Error → Type 0) → (Result A Error → Type 0) → Type 0
+abbrev pub WritesResult : {A : Type 0} → (Result A Error → Type 0) → (Error → Type 0) → (Result A Error → Type 0)
+    → Type 0
 WritesResult {A} IsAnswer Refusals IsShown =
     (answer : Result A Error) × IsAnswer answer × IfErr answer Refusals × IsShown answer
 

@@ -25,7 +25,8 @@ key_steps (Some (Keys steps)) = Some (key_paths_view steps)
 key_steps None = None
 
 -- Holds if the path of the text is kept, if it is one. If it is not, or an allocation fails, nothing is kept.
-abbrev pub Prepares : {P : Type 0} → Error → Option P → (Option PreparedPath → Option P) → Option PreparedPath → ℕ → Type 0
+abbrev pub Prepares : {P : Type 0} → Error → Option P → (Option PreparedPath → Option P) → Option PreparedPath → ℕ
+    → Type 0
 Prepares refusal (Some steps) steps_of kept status =
     ((status ≡ ok) × (steps_of kept ≡ Some steps)) ⊎ ((status ≡ status_of OutOfMemory) × (kept ≡ None))
 Prepares refusal None steps_of kept status =

@@ -13,9 +13,8 @@ use Rattle.jsonb_doc.specs.Payload.{Form}
 use Rattle.jsonb_doc.specs.Format.{IsBelowFirst}
 use Rattle.jsonb_doc.specs.Private.Stored.{HasEntriesLeft, GivesEntry, TakesEntry, key_trees}
 use Rattle.jsonb_doc.proofs.BuilderSteps.{AreRising, keys_rise}
-use Rattle.jsonb_raw.specs.Private.Cursors.{IsCursorOf, IsSearchOf, IsPassed, IsBefore, HoldsTexts}
+use Rattle.jsonb_raw.specs.Private.Cursors.{IsCursorOf, IsPassed, IsBefore, HoldsTexts}
 use Rattle.jsonb_raw.specs.declared.functions.path.exists.KeyCursor.{KeyCursor}
-use Rattle.jsonb_raw.specs.declared.functions.path.exists.KeySearch.{KeySearch}
 use Rattle.jsonb_raw.specs.declared.functions.path.exists.Texts.TheVariants.{Keys}
 use Rattle.jsonb_doc.specs.Tree.{Tree, object, Pairs, keys}
 use Rattle.std.specs.Prelude.{IfOk}
@@ -102,7 +101,7 @@ module _ (form : Form) (ks : List (List ℕ)) (c : KeyCursor) (ahead' : EntryIte
       (n.takes form (key_trees h.behind) h.left))
 
 -- the strings are those of the same tree after a search
-pub still_texts : (form : Form) (t : Tree) (ps : Pairs) (s : KeySearch) (r : Result Bool Error) → t ≡ object ps
-    → IfOk r (λ b. IsSearchOf form s (keys ps)) → IfOk r (λ b. HoldsTexts form (Keys s) t)
+pub still_texts : (form : Form) (t : Tree) (ps : Pairs) (s : KeyCursor) (r : Result Bool Error) → t ≡ object ps
+    → IfOk r (λ b. IsCursorOf form s (keys ps)) → IfOk r (λ b. HoldsTexts form (Keys s) t)
 still_texts form t ps s (Ok b) is h = (ps, is, h)
 still_texts form t ps s (Err e) is h = tt

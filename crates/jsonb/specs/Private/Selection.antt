@@ -100,7 +100,8 @@ AreSelected form document (selected.Made part) ts = AllZip (IsMadeItem form) (pa
 abbrev pub GivesMeant :
     (Form → Document → Selected → List Tree → Type 0) → Document → Mode → List Step → Outcome Selected → Type 0
 GivesMeant AreOf document mode path answer = (form : Form) (top : Tree) (outcome : Outcome (List Tree))
-    → HasTree document top → Means form mode path top outcome → Refines (AreOf form document) IsOutOfMemory answer outcome
+    → HasTree document top → Means form mode path top outcome
+    → Refines (AreOf form document) IsOutOfMemory answer outcome
 
 -- this holds of the trees that are selected, whatever they are
 abbrev pub OfSelected : Document → Selected → (Form → List Tree → Type 0) → Type 0

@@ -22,8 +22,8 @@ abbrev pub Make : HeaderKind → ℕ → List Tree → Tree → Type 0
 Make Scalar n ts t = ⊥
 Make Array n ts t = (n ≡ length ts) × (t ≡ array (trees_of ts))
 Make Object n ts t =
-    (ps : List (List ℕ × Tree)) × (n ≡ length ps) × AreSortedKeys (keys_of ps) × (ts ≡ map text (keys_of ps) ++ values_of ps)
-    × (t ≡ object (pairs_of ps))
+    (ps : List (List ℕ × Tree)) × (n ≡ length ps) × AreSortedKeys (keys_of ps)
+    × (ts ≡ map text (keys_of ps) ++ values_of ps) × (t ≡ object (pairs_of ps))
 
 -- Holds if a container of this tree exceeds the limits.
 abbrev pub ExceedsLimits : Form → Tree → Type 0
@@ -71,7 +71,8 @@ pub record IsWriting (form : Form) (w : Writer) (coming : List Tree) (around : A
 abbrev pub Rooms : Type 0
 Rooms = List (OpenContainer × ℕ)
 
--- Holds if a container from `start` to `end` is short enough for an entry, and so is each around it except the outermost.
+-- Holds if a container from `start` to `end` is short enough for an entry, and so is each around it except the
+-- outermost.
 abbrev pub EndsWithin : ℕ → ℕ → Rooms → Type 0
 EndsWithin start end [] = ⊤
 EndsWithin start end (o ∷ os) = (end < start + 2 ^ 28) × EndsWithin o.0.start (end + o.1) os

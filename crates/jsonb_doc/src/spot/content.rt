@@ -15,8 +15,8 @@ use crate::layout::{EntryKind, HeaderKind, split_header};
 use crate::number::Number;
 use crate::spot_iter::SpotIter;
 
-/// A value as it is stored. A string is its bytes, which are not validated; a container or an extension value is no more
-/// than its type.
+/// A value as it is stored. A string is its bytes, which are not validated; a container or an extension value is no
+/// more than its type.
 #[derive(Clone, Copy, Debug)]
 pub enum StoredValue<'a> {
     /// The value null.

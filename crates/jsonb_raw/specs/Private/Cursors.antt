@@ -12,7 +12,6 @@ use Rattle.jsonb_doc.specs.Format.{AreKeys, IsBelowFirst}
 use Rattle.jsonb_doc.specs.Private.Stored.{HasEntriesLeft, key_trees}
 use Rattle.jsonb_raw.specs.Exists.{has_text, has_all, has_any}
 use Rattle.jsonb_raw.specs.declared.functions.path.exists.KeyCursor.{KeyCursor}
-use Rattle.jsonb_raw.specs.declared.functions.path.exists.KeySearch.{KeySearch}
 use Rattle.jsonb_raw.specs.declared.functions.path.exists.KeyTable.{KeyTable}
 use Rattle.jsonb_raw.specs.declared.functions.path.exists.Texts.{Texts}
 use Rattle.jsonb_raw.specs.declared.functions.path.exists.Texts.TheVariants.{Keys, Elements, Root, Without}
@@ -38,12 +37,6 @@ pub record IsCursorOf (form : Form) (c : KeyCursor) (ks : List (List ℕ)) : Typ
   pub decides : (name : List ℕ) → IsPassed c.last_key name
       → list_any (λ key. bytes_eq key name) behind ≡ list_any (λ key. bytes_eq key name) ks
 
--- each cursor of the search is among these keys
-pub record IsSearchOf (form : Form) (s : KeySearch) (ks : List (List ℕ)) : Type 0 where
-  pub near : IsCursorOf form s.near ks
-  pub middle : IsCursorOf form s.middle ks
-  pub behind : IsCursorOf form s.behind ks
-
 -- The table is one of these keys: each of its cursors, and the one at which the last search ended, is a cursor of them.
 pub record IsTableOf (form : Form) (s : KeyTable) (ks : List (List ℕ)) : Type 0 where
   pub near : IsCursorOf form s.near.cursor ks
@@ -52,7 +45,7 @@ pub record IsTableOf (form : Form) (s : KeyTable) (ks : List (List ℕ)) : Type 
 
 -- these are the strings of the tree
 abbrev pub HoldsTexts : Form → Texts → Tree → Type 0
-HoldsTexts form (Keys s) t = (ps : Pairs) × (t ≡ object ps) × IsSearchOf form s (keys ps)
+HoldsTexts form (Keys s) t = (ps : Pairs) × (t ≡ object ps) × IsCursorOf form s (keys ps)
 HoldsTexts form (Elements entries) t = (ts : Trees) × (t ≡ array ts) × HasEntriesLeft form entries ts
 HoldsTexts form (Root s) t = t ≡ text s.now
 HoldsTexts form Without t = (name : List ℕ) → has_text name t ≡ false

@@ -5,8 +5,8 @@ ghost use Rattle.std.specs.Map.{keys_of, values_of};
 ghost use Rattle.jsonb_doc.specs.Tree.{Tree, text, array, object, trees_of, pairs_of};
 ghost use Rattle.jsonb_doc.specs.Payload.{Form};
 ghost use Rattle.jsonb_doc.specs.Private.Writer.{Make, AreSortedKeys};
-ghost use Rattle.jsonb_doc.specs.Answer.{IsDecodingError, ◌or◌};
-ghost use Rattle.jsonb_doc.specs.declared.error.Error.TheVariants.{OutOfMemory, TooLarge};
+ghost use Rattle.jsonb_doc.specs.Answer.{IsOutOfMemory, ◌or◌};
+ghost use Rattle.jsonb_doc.specs.declared.error.Error.TheVariants.{TooLarge};
 ghost use Rattle.jsonb_raw.specs.Documents.{Makes};
 ghost use Rattle.jsonb_raw.specs.Private.Entries.{HoldTrees, RunsHold};
 
@@ -42,7 +42,7 @@ fn container_of(
 ) -> Result<OwnedJsonb, Error>
     ensures container { (form : Form) (xs ys : List Tree) (t : Tree) → RunsHold form front.now xs
         → RunsHold form back.now ys → Make kind count (xs ++ ys) t → Makes form t result }
-    ensures errors { IfErr result (IsDecodingError or OutOfMemory or TooLarge) }
+    ensures errors { IfErr result (IsOutOfMemory or TooLarge) }
 {
     let document = container_of_runs(alloc, kind, count, front, back)?;
     Ok(OwnedJsonb::new(document))
@@ -52,7 +52,7 @@ fn container_of(
 pub fn array_of(alloc: Global, runs: &[Entries<'_>]) -> Result<OwnedJsonb, Error>
     ensures array { (form : Form) (ts : List Tree) → RunsHold form runs.now ts
         → Makes form (array (trees_of ts)) result }
-    ensures errors { IfErr result (IsDecodingError or OutOfMemory or TooLarge) }
+    ensures errors { IfErr result (IsOutOfMemory or TooLarge) }
 {
     let Some(count) = count_entries(runs) else {
         return Err(Error::TooLarge);
@@ -69,7 +69,7 @@ pub fn object_of(
     ensures object { (form : Form) (ps : List (List ℕ × Tree)) → AreSortedKeys (keys_of ps)
         → RunsHold form keys.now (map text (keys_of ps)) → RunsHold form values.now (values_of ps)
         → Makes form (object (pairs_of ps)) result }
-    ensures errors { IfErr result (IsDecodingError or OutOfMemory or TooLarge) }
+    ensures errors { IfErr result (IsOutOfMemory or TooLarge) }
 {
     let Some(count) = count_entries(keys) else {
         return Err(Error::TooLarge);
@@ -85,7 +85,7 @@ pub fn object_of(
 pub fn array_of_run<'a>(alloc: Global, run: Entries<'a>) -> Result<OwnedJsonb, Error>
     ensures array { (form : Form) (ts : List Tree) → HoldTrees form run.entry ts
         → Makes form (array (trees_of ts)) result }
-    ensures errors { IfErr result (IsDecodingError or OutOfMemory or TooLarge) }
+    ensures errors { IfErr result (IsOutOfMemory or TooLarge) }
 {
     array_of(alloc, &[run])
 }
@@ -98,7 +98,7 @@ pub fn array_of_two<'a>(
 ) -> Result<OwnedJsonb, Error>
     ensures array { (form : Form) (xs ys : List Tree) → HoldTrees form front.entry xs → HoldTrees form back.entry ys
         → Makes form (array (trees_of (xs ++ ys))) result }
-    ensures errors { IfErr result (IsDecodingError or OutOfMemory or TooLarge) }
+    ensures errors { IfErr result (IsOutOfMemory or TooLarge) }
 {
     array_of(alloc, &[front, back])
 }

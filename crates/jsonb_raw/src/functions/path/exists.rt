@@ -13,7 +13,7 @@ ghost use Rattle.jsonb_raw.specs.Roots.{HasRoot};
 ghost use Rattle.jsonb_raw.specs.Computes.{Computes};
 ghost use Rattle.jsonb_raw.specs.Documents.{raw_bytes};
 ghost use Rattle.jsonb_raw.specs.Exists.{is_text, has_text, has_all, has_any};
-ghost use Rattle.jsonb_raw.specs.Private.Cursors.{IsCursorOf, IsSearchOf, IsTableOf, IsPassed, HoldsTexts, has_by};
+ghost use Rattle.jsonb_raw.specs.Private.Cursors.{IsCursorOf, IsTableOf, IsPassed, HoldsTexts, has_by};
 ghost use Rattle.jsonb_raw.specs.Private.NameBlocks.{HasTextsLeft, decided_by, names_of, IsBlock};
 ghost use Rattle.jsonb_raw.specs.Iterators.{YieldsItemsLeft};
 
@@ -74,87 +74,21 @@ impl<'a> KeyCursor<'a> {
             → IsCursorOf form self.new ks }
         ensures passed { IsPassed self.new.last_key name.now }
     {
-        if self.is_below(name) {
-            return;
+        if !self.is_below(name) {
+            self.rewind_to_front();
         }
-        self.left = self.all;
-        self.last_key = None;
-    }
-}
-
-/// The number of keys by which a cursor advances before the one after it follows.
-const STRIDE: usize = 64;
-
-/// A search for names among the keys of an object. Sorted names are found in one walk. If a name is less than the one
-/// before, the search continues from a cursor some keys back, if the name is greater than its key, and otherwise from
-/// the beginning.
-#[derive(Clone, Copy)]
-pub(crate) struct KeySearch<'a> {
-    near: KeyCursor<'a>,
-    /// The positions of `near` at the last stride, and at the one before that.
-    middle: KeyCursor<'a>,
-    behind: KeyCursor<'a>,
-    /// The number of keys that `near` has visited since the last stride.
-    run: usize,
-}
-
-impl<'a> KeySearch<'a> {
-    fn new(keys: EntryIter<'a>) -> KeySearch<'a>
-        ensures { (form : Form) (ks : List (List ℕ)) → AreKeys ks → HasEntriesLeft form keys.entry (key_trees ks)
-            → IsSearchOf form result ks }
-    {
-        let front = KeyCursor::new(keys);
-        KeySearch {
-            near: front,
-            middle: front,
-            behind: front,
-            run: 0,
-        }
-    }
-
-    /// Moves back, unless the key visited last is less than the name.
-    fn rewind(&mut self, name: &[u8])
-        ensures search { (form : Form) (ks : List (List ℕ)) → IsSearchOf form self.old ks
-            → IsSearchOf form self.new ks }
-        ensures passed { IsPassed self.new.near.last_key name.now }
-    {
-        if self.near.is_below(name) {
-            return;
-        }
-        let mut back = self.behind;
-        back.rewind(name);
-        self.near = back;
-        self.middle = back;
-        self.run = 0;
-    }
-
-    /// Advances to this position among the keys.
-    fn advance_to(&mut self, place: KeyCursor<'a>)
-        ensures search { (form : Form) (ks : List (List ℕ)) → IsSearchOf form self.old ks
-            → IsCursorOf form place.entry ks → IsSearchOf form self.new ks }
-        ensures near { self.new.near ≡ place.entry }
-    {
-        self.near = place;
-        if self.run < STRIDE {
-            self.run += 1;
-            return;
-        }
-        self.behind = self.middle;
-        self.middle = place;
-        self.run = 0;
     }
 
     /// Returns whether a key equals the name.
     fn has(&mut self, name: &[u8]) -> Result<bool, Error>
-        ensures has { (form : Form) (ks : List (List ℕ)) → IsSearchOf form self.old ks
+        ensures has { (form : Form) (ks : List (List ℕ)) → IsCursorOf form self.old ks
             → IsOkAnd result (λ b. b ≡ list_any (λ key. bytes_eq key name.now) ks) }
-        ensures search { (form : Form) (ks : List (List ℕ)) → IsSearchOf form self.old ks
-            → IfOk result (λ _. IsSearchOf form self.new ks) }
+        ensures cursor { (form : Form) (ks : List (List ℕ)) → IsCursorOf form self.old ks
+            → IfOk result (λ _. IsCursorOf form self.new ks) }
         ensures errors { IfErr result IsDecodingError }
     {
         self.rewind(name);
-        let all = self.near.all;
-        let mut ahead = self.near.left;
+        let mut ahead = self.left;
         while let Some(entry) = ahead.next() {
             let key = entry?.content;
             match bytes_cmp(key, name) {
@@ -162,11 +96,8 @@ impl<'a> KeySearch<'a> {
                 Ordering::Equal => return Ok(true),
                 Ordering::Greater => return Ok(false),
             }
-            self.advance_to(KeyCursor {
-                all,
-                left: ahead,
-                last_key: Some(key),
-            });
+            self.left = ahead;
+            self.last_key = Some(key);
         }
         Ok(false)
     }
@@ -392,7 +323,7 @@ fn elements_decide<'k, I: Iterator<Item = &'k str> + Drop>(
 #[derive(Clone, Copy)]
 pub(crate) enum Texts<'a> {
     /// The keys of an object.
-    Keys(KeySearch<'a>),
+    Keys(KeyCursor<'a>),
     /// The strings among the elements of an array.
     Elements(EntryIter<'a>),
     /// The root.
@@ -409,7 +340,7 @@ fn document_texts(bytes: &[u8]) -> Result<Texts<'_>, Error>
     ensures reads { OnOk result (HasRoot bytes.now) }
 {
     match root_item(bytes)? {
-        Item::Object(object) => Ok(Texts::Keys(KeySearch::new(object_entries(object)?.keys()))),
+        Item::Object(object) => Ok(Texts::Keys(KeyCursor::new(object_entries(object)?.keys()))),
         Item::Array(array) => Ok(Texts::Elements(array_entries(array)?)),
         Item::String(text) => Ok(Texts::Root(text)),
         _ => Ok(Texts::Without),
@@ -454,9 +385,9 @@ fn short_circuit<'k, I: Iterator<Item = &'k str> + Drop>(
     ensures reads { OnOk result (HasRoot bytes.now) }
 {
     let mut texts = document_texts(bytes)?;
-    if let Texts::Keys(search) = texts {
-        if search.near.all.len() > FEW_KEYS {
-            return keys_decide(search.near.all, names, found);
+    if let Texts::Keys(cursor) = texts {
+        if cursor.all.len() > FEW_KEYS {
+            return keys_decide(cursor.all, names, found);
         }
     }
     if let Texts::Elements(entries) = texts {

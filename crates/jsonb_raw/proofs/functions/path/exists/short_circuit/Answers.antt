@@ -38,7 +38,7 @@ returns-clause-has g c = λ left tells form t d.
 pub returns-then-len-gt-FEW_KEYS-clause-has : goal.returns-then-len-gt-FEW_KEYS-clause-has
 returns-then-len-gt-FEW_KEYS-clause-has g c = λ left tells form t d.
     let s = rw c.in-Keys.is at (c.in_ok-texts.ensures.texts form t d) in
-    rw s.1 (c.keys_decide.ensures.has left tells form s.0 s.2.near.all_keys s.2.near.all)
+    rw s.1 (c.keys_decide.ensures.has left tells form s.0 s.2.all_keys s.2.all)
 
 -- many elements
 pub returns-then-len-gt-FEW_ELEMENTS-clause-has : goal.returns-then-len-gt-FEW_ELEMENTS-clause-has

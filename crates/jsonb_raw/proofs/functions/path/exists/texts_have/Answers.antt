@@ -19,4 +19,4 @@ returns-in-Elements-clause-has c = λ form t h.
 pub returns-in-Keys-clause-texts : goal.returns-in-Keys-clause-texts
 returns-in-Keys-clause-texts c = λ form t h.
     let s = rw c.in-Keys.is at h in
-    still_texts form t s.0 _ _ s.1 (c.has.ensures.search form (keys s.0) s.2)
+    still_texts form t s.0 _ _ s.1 (c.has.ensures.cursor form (keys s.0) s.2)

@@ -1,16 +1,15 @@
 use Rattle.std.proofs.Common.{◌≡◌, ℕ, List}
 use Rattle.jsonb_doc.specs.Payload.{Form}
 use Rattle.jsonb_doc.specs.Private.Stored.{entries_bound}
-use Rattle.jsonb_raw.specs.Private.Cursors.{IsSearchOf, IsPassed}
-use Rattle.jsonb_raw.proofs.functions.path.exists.KeySearch.has.Given as goal
+use Rattle.jsonb_raw.specs.Private.Cursors.{IsCursorOf, IsPassed}
+use Rattle.jsonb_raw.proofs.functions.path.exists.KeyCursor.has.Given as goal
 
 -- the cursor precedes what is looked at next, and the keys it has passed are below the name
 abbrev pub invariant-loop-entry : goal.invariant-loop-entry
 invariant-loop-entry l = record {
-  ahead : l.ahead ≡ l.self.near.left;
-  all : l.all ≡ l.self.near.all;
-  passed : IsPassed l.self.near.last_key l.name;
-  search : (form : Form) (ks : List (List ℕ)) → IsSearchOf form l.fn.self ks → IsSearchOf form l.self ks;
+  ahead : l.ahead ≡ l.self.left;
+  passed : IsPassed l.self.last_key l.name;
+  cursor : (form : Form) (ks : List (List ℕ)) → IsCursorOf form l.fn.self ks → IsCursorOf form l.self ks;
 }
 
 abbrev pub decreases-loop-entry : goal.decreases-loop-entry
