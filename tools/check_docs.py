@@ -1,6 +1,6 @@
 #!/usr/bin/env python3
 """Lists the public items that lack a part of their doc comment, the files that docs/PROOFS.md names and that do not exist, and
-the types in docs/API.md that no call of that name returns.
+the types in docs/API.md that no call of that name returns, and the sources that construct `OutOfMemory` themselves.
 
     tools/check_docs.py [CRATE..]     of these crates, or of the four that users name; the last line is 'N passed, M failed'
 
@@ -8,6 +8,8 @@ Public are the names that src/lib.rt re-exports, all in its `pub mod` files, and
 variant and each public field has a comment. A function's comment has a heading `# Complexity` (or its older name `# Cost`), and
 `# Errors` if and only if it returns a Result. One that users call has `# Examples` with quoted code or rows: a function that `jsonb`
 re-exports, and each public function of a type or trait that it re-exports. A law, in laws.rt, states only its theorem.
+
+A contract allows `OutOfMemory` whether or not an allocation failed, so only the conversions of failed allocations construct it.
 """
 
 import re
@@ -18,6 +20,16 @@ from pathlib import Path
 ROOT = Path(__file__).resolve().parent.parent
 CRATES = ["jsonb_doc", "jsonb_keypath", "jsonb_raw", "jsonb"]
 USED = "jsonb"
+
+# The conversions of failed allocations: those of the standard library's two errors, of hex's error in the programs, and of a
+# failed `push` to a status.
+CONVERSIONS = {
+    "jsonb_doc/src/error.rt": 2,
+    "jsonb_c/src/document/names.rt": 1,
+    "jsonb_lines/src/lines.rt": 1,
+    "jsonb_tool/src/command.rt": 1,
+}
+ONLY_TESTS = {"jsonb_examples", "jsonb_sweep", "jsonb_vectors"}
 
 ITEM = re.compile(r"pub (?:const )?(fn|struct|enum|trait|const) (\w+)")
 METHOD = re.compile(r"    (?:pub )?(?:const )?(fn|const) (\w+)")
@@ -187,6 +199,22 @@ def given_types():
                 yield f"docs/API.md:{at + 1}", call, cells[2].replace("`", "")
 
 
+def constructs_out_of_memory(text):
+    """How often code, without its tests, constructs `Error::OutOfMemory`, or an `AllocError` from anything but a failure."""
+    code = text.split("\n#[cfg(test)]")[0]
+    return len(re.findall(r"\bError::OutOfMemory\b(?! =>)", code)) + len(re.findall(r"(?<!Err\(_\) => )Err\(AllocError\)", code))
+
+
+def out_of_memory_places():
+    """The sources that users' calls consist of that construct `OutOfMemory`, or should, and how often."""
+    counts = dict.fromkeys(CONVERSIONS, 0)
+    for path in sorted((ROOT / "crates").glob("*/src/**/*.rt")):
+        place = path.relative_to(ROOT / "crates")
+        if not {"tests", "tests.rt", *ONLY_TESTS} & set(place.parts):
+            counts[str(place)] = constructs_out_of_memory(path.read_text())
+    return {place: count for place, count in counts.items() if count or place in CONVERSIONS}
+
+
 def faults(crates):
     """For each thing that is looked at what is wrong with it, or nothing."""
     for name in crates:
@@ -200,6 +228,9 @@ def faults(crates):
     for line, call, given in given_types():
         has = types.get(call, set())
         yield "" if given in has else f"{line} gives {call} as {given}, which is {' or '.join(sorted(has)) or 'no public call'}"
+    for place, count in out_of_memory_places().items():
+        wanted = CONVERSIONS.get(place, 0)
+        yield "" if count == wanted else f"crates/{place} constructs OutOfMemory {count} times, not {wanted}"
 
 
 def main(arguments):

@@ -18,6 +18,7 @@ mod keypath;
 mod leaves;
 mod order;
 mod path;
+mod place;
 mod prepared;
 mod read;
 mod status;

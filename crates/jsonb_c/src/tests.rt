@@ -8,6 +8,7 @@ use crate::build::{
 use crate::document::compare::jdoc_compare;
 use crate::document::decimal::jdoc_as_decimal;
 use crate::leaves::{LeafSizes, jdoc_leaves};
+use crate::place::{Place, jdoc_find_by_keypath};
 use crate::read::{jdoc_len, jdoc_pair};
 use std::alloc::Global;
 
@@ -22,6 +23,8 @@ const BAD_OFFSETS: u32 = 3;
 const NOT_UTF8: u32 = 4;
 
 const INVALID_JSONB: u32 = 16;
+
+const INVALID_KEY_PATH: u32 = 19;
 
 const OBJECT_DUPLICATE_KEY: u32 = 23;
 
@@ -251,4 +254,33 @@ fn leaves(rt: HostRuntime) {
     let mut untouched = [9; 1];
     let (found, status) = leaf(rt.alloc(), &mut untouched);
     assert!(rt; (status, found.rows, untouched) == (BUFFER_TOO_SMALL, 1, [9]));
+}
+
+/// `[false,10,{"k":"v"}]`
+static MIXED: &[u8] =
+    b"\x80\0\0\x03\x30\0\0\0\x20\0\0\x02\x50\0\0\x0e\x50\x0a\x40\0\0\x01\x10\0\0\x01\x10\0\0\x01kv";
+
+/// Key paths, the status, and the position, length and type of what they locate in `MIXED`.
+static PLACES: [(&[u8], u32, (usize, usize, u8)); 7] = rows! {
+    b"{2,k}", OK, (31, 1, 4);
+    b"{1}", OK, (16, 2, 2);
+    b"{0}", OK, (16, 0, 1);
+    b"{-1}", OK, (18, 14, 11);
+    b"{}", OK, (0, 32, 10);
+    b"{3}", NONE, (9, 9, 9);
+    b"{", INVALID_KEY_PATH, (9, 9, 9);
+};
+
+#[test]
+fn places(rt: HostRuntime) {
+    for (path, wanted, found) in &PLACES {
+        let mut place = Place {
+            at: 9,
+            len: 9,
+            kind: 9,
+        };
+        let status = jdoc_find_by_keypath(rt.alloc(), MIXED, path, &mut place);
+        let is_so = status == *wanted && (place.at, place.len, place.kind) == *found;
+        assert!(rt; is_so, "{path:?}");
+    }
 }

@@ -20,6 +20,7 @@ use crate::layout::{EntryKind, WORD};
 use crate::lengths::{entry_at_offset, skip_contents};
 use crate::short_number::ShortNumber;
 use crate::spot_iter::SpotIter;
+use std::ops::Range;
 
 mod content;
 mod document;
@@ -57,6 +58,25 @@ impl Spot {
         ensures { (bytes : List ℕ) (t : Tree) → Locates bytes self t → result ≡ is_some (children_of t) }
     {
         self.kind == EntryKind::Container
+    }
+
+    /// Returns the positions at which its content begins and ends in the bytes it came from.
+    ///
+    /// # Complexity
+    ///
+    /// O(1). Does not allocate.
+    ///
+    /// # Examples
+    ///
+    /// ```rust crates/jsonb_c/src/place.rt
+    /// let range = spot.range();
+    /// ```
+    #[inline(always)]
+    pub fn range(self) -> Range<usize>
+        ensures start { result.start ≡ self.start }
+        ensures end { result.end ≡ self.end }
+    {
+        self.start..self.end
     }
 
     /// Returns its content within these bytes. Fails with `InvalidJsonb` if it exceeds them.

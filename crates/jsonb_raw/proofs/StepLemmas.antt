@@ -1,5 +1,5 @@
 -- One step of a walk along a key path.
-use Rattle.std.proofs.Common.{◌≡◌, List, ◌∷◌, Option, Some, None, sym, ◌∙◌}
+use Rattle.std.proofs.Common.{◌≡◌, List, ◌∷◌, Option, Some, None, refl, sym, ◌∙◌}
 use Rattle.std.specs.Prelude.{option_and_then}
 use Rattle.jsonb_doc.specs.Tree.{Tree}
 use Rattle.jsonb_doc.specs.Answer.{SameOption}
@@ -13,6 +13,16 @@ pub next_child : (step : KeyPath) (steps now : List KeyPath) (here : Tree) (want
     → tree_at_steps (keys_view now) here ≡ wanted
     → option_and_then (tree_at_steps (keys_view steps)) (child_met (key_view step) here) ≡ wanted
 next_child step steps now here wanted s e = sym (step_by_step (key_view step) (keys_view steps) here) ∙ rw s at e
+
+pub none_same : {A : Type 0} (R : A → Tree → Type 0) (found : Option A) (wanted : Option Tree) → found ≡ None → SameOption R found wanted → wanted ≡ None
+none_same R (Some a) wanted n h = cc
+none_same R None None n h = refl
+none_same R None (Some t) n h = absurd h
+
+pub some_same : {A : Type 0} (R : A → Tree → Type 0) (a : A) (found : Option A) (wanted : Option Tree) → found ≡ Some a → SameOption R found wanted
+    → (t : Tree) × R a t × (Some t ≡ wanted)
+some_same R a found None n h = absurd (rw n at h)
+some_same R a found (Some t) n h = (t, rw n at h, refl)
 
 pub none_met : {A : Type 0} (R : A → Tree → Type 0) (next : Tree → Option Tree) (found : Option A) (child wanted : Option Tree)
     → found ≡ None → SameOption R found child → option_and_then next child ≡ wanted → wanted ≡ None

@@ -2,6 +2,9 @@
 
 ghost use Rattle.std.specs.Prelude.{◌≡◌, IfErr, IsOkAnd};
 ghost use Rattle.jsonb_doc.specs.Answer.{IsDecodingError};
+ghost use Rattle.jsonb_doc.specs.Item.{IsNormal, StandsFor};
+ghost use Rattle.jsonb_doc.specs.Payload.{Form};
+ghost use Rattle.jsonb_doc.specs.Tree.{Tree};
 ghost use Rattle.jsonb_doc.specs.View.{extension_view, number_parts};
 ghost use Rattle.jsonb_c.specs.Answers.{WritesResult, OfDocument, Shows};
 ghost use Rattle.jsonb_c.specs.Kinds.{extension_kind, kind_number, number_kind, tree_kind};
@@ -11,7 +14,7 @@ use jsonb::{Error, ExtensionValue, Item, Number, root_item};
 
 /// The types of documents, by the names of `type_of`.
 #[derive(Clone, Copy, Debug, PartialEq, Eq)]
-enum Kind {
+pub(crate) enum Kind {
     /// The value null.
     Null,
     /// A Boolean.
@@ -39,7 +42,7 @@ enum Kind {
 }
 
 impl Kind {
-    fn to_u8(self) -> u8
+    pub(crate) fn to_u8(self) -> u8
         ensures { result ≡ kind_number self }
     {
         match self {
@@ -74,16 +77,23 @@ fn kind_of(document: &[u8]) -> Result<u8, Error>
         (λ form t answer. IsOkAnd answer (λ number. number ≡ kind_number (tree_kind t))) result }
     ensures errors { IfErr result IsDecodingError }
 {
-    let kind = match root_item(document)? {
+    let item = root_item(document)?;
+    Ok(item_kind(&item).to_u8())
+}
+
+/// Returns the type of an item.
+pub(crate) fn item_kind(item: &Item<'_>) -> Kind
+    ensures { (form : Form) (t : Tree) → IsNormal item.now → StandsFor form item.now t → result ≡ tree_kind t }
+{
+    match item {
         Item::Null => Kind::Null,
         Item::Boolean(_) => Kind::Boolean,
-        Item::Number(number) => number_kind(&number),
+        Item::Number(number) => number_kind(number),
         Item::String(_) => Kind::String,
-        Item::Extension(value) => extension_kind(&value),
+        Item::Extension(value) => extension_kind(value),
         Item::Array(_) => Kind::Array,
         Item::Object(_) => Kind::Object,
-    };
-    Ok(kind.to_u8())
+    }
 }
 
 fn number_kind(number: &Number) -> Kind

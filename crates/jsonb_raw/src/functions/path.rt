@@ -158,6 +158,40 @@ impl RawJsonb<'_> {
             → MakesOption form (tree_at_steps (keys_view (left steps)) t) result }
         ensures errors { IfErr result (IsDecodingError or OutOfMemory or TooLarge) }
     {
+        let Some(spot) = self.spot_by_keypath(alloc, steps)? else {
+            return Ok(None);
+        };
+        Ok(Some(OwnedJsonb::from_spot(alloc, self.as_bytes(), spot)?))
+    }
+
+    /// Returns the spot of the value at the location of the steps, which `get_by_keypath` copies.
+    ///
+    /// # Errors
+    ///
+    /// Decoding errors, and `OutOfMemory` if an allocation fails.
+    ///
+    /// # Complexity
+    ///
+    /// O(k) for each container on the way. Allocates only for an index that is a key of an object.
+    ///
+    /// # Examples
+    ///
+    /// ```rust crates/jsonb_examples/src/configuration.rt
+    /// let spot = configuration.spot_by_keypath(alloc, steps.paths.iter())?;
+    /// ```
+    pub fn spot_by_keypath<'k, I: Iterator<Item = &'k KeyPath<'k>> + Drop>(
+        &self,
+        alloc: Global,
+        steps: I,
+    ) -> Result<Option<Spot>, Error>
+        requires can { I.can_next steps }
+        requires ends { IsFinite (I.remaining steps) }
+        ensures place { (left : I → List KeyPath) → YieldsItemsLeft I.next_gives left
+            → (form : Form) (t : Tree) → Decodes form (raw_bytes self.now) t
+            → MatchResult result (λ found. SameOption (Locates (raw_bytes self.now)) found
+            (tree_at_steps (keys_view (left steps)) t)) IsOutOfMemory }
+        ensures errors { IfErr result (IsDecodingError or OutOfMemory) }
+    {
         let bytes = self.as_bytes();
         let mut spot = root_spot(bytes)?;
         for step in steps {
@@ -166,6 +200,6 @@ impl RawJsonb<'_> {
             };
             spot = spot_by_parts(child);
         }
-        Ok(Some(OwnedJsonb::from_spot(alloc, bytes, spot)?))
+        Ok(Some(spot))
     }
 }

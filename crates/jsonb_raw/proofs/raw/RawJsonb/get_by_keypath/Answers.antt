@@ -1,64 +1,27 @@
-use Rattle.std.proofs.Common.{rules, sym, refl}
+use Rattle.std.proofs.Common.{sym, refl}
 use Rattle.std.proofs.lemmas.Result.{err_from_is_err_and}
-use Rattle.jsonb_doc.specs.Format.{Decodes}
 use Rattle.jsonb_doc.specs.Spots.{Locates}
-use Rattle.jsonb_doc.proofs.CanonicalLemmas.{in_any}
-use Rattle.jsonb_keypath.specs.KeyPathViews.{keys_view}
-use Rattle.jsonb_raw.specs.Places.{tree_at_steps}
+use Rattle.jsonb_raw.specs.Documents.{raw_bytes}
 use Rattle.jsonb_raw.proofs.AnswerLemmas.{no_memory, no_room}
-use Rattle.jsonb_raw.proofs.StepLemmas.{next_child, none_met, some_met}
+use Rattle.jsonb_raw.proofs.StepLemmas.{none_same, some_same}
 use Rattle.jsonb_raw.proofs.raw.RawJsonb.get_by_keypath.Goals as goal
 
 pub returns-in_err-spot-clause-place : goal.returns-in_err-spot-clause-place
 returns-in_err-spot-clause-place g c = λ left tells form t d.
-    let d' = in_any form t _ (rw c.as_bytes-bytes.ensures d) in absurd (c.in_err-spot.ensures.marks t d')
-
-pub loop-step-init : goal.loop-step-init
-loop-step-init g c = record {
-  can = search rules;
-  finite = search rules;
-  left = λ left tells t d. (t, c.in_ok-spot.ensures.marks t d, rw c.into_iter-step-iterator.ensures.into_iter_gives refl);
-}
-
-pub returns-in_err-child-clause-place : goal.returns-in_err-child-clause-place
-returns-in_err-child-clause-place g c = λ left tells form t d.
-    let p = err_from_is_err_and c.from_residual-in_err-child.result c.from_residual-in_err-child.ensures.1 in
-    let d' = in_any form t _ (rw c.as_bytes-bytes.ensures d) in
-    let i = c.loop-step.invariant.left left tells t d' in
-    rw (p.1, p.2) (no_memory form _ _ (c.in_err-child.ensures.child i.0 i.1))
+    let p = err_from_is_err_and c.from_residual.result c.from_residual.ensures.1 in
+    rw (p.1, p.2) (no_memory form _ _ (c.in_err-spot.ensures.place left tells form t d))
 
 pub returns-in_default-clause-place : goal.returns-in_default-clause-place
 returns-in_default-clause-place g c = λ left tells form t d.
-    let d' = in_any form t _ (rw c.as_bytes-bytes.ensures d) in
-    let i = c.loop-step.invariant.left left tells t d' in
-    let n = none_met (Locates c.as_bytes-bytes.result.now) (tree_at_steps (keys_view (left c.next.new.self))) _ _ _ c.in_default.is
-    (c.in_ok-child.ensures.child i.0 i.1)
-    (next_child c.in-Some.step.now (left c.next.new.self) _ i.0 _ (tells _ _ _ c.in-Some.ensures.steps) i.2) in
-    rw n refl
-
-pub loop-step-preserved : goal.loop-step-preserved
-loop-step-preserved g c = record {
-  can = search rules;
-  finite = search rules;
-  left = λ left tells t d.
-      let i = c.loop-step.invariant.left left tells t d in
-      rw c.spot_by_parts-spot.ensures
-      (some_met (Locates c.as_bytes-bytes.result.now) (tree_at_steps (keys_view (left c.next.new.self))) c.in-Some-2.child _ _ _ c.in-Some-2.is
-      (c.in_ok-child.ensures.child i.0 i.1)
-      (next_child c.in-Some.step.now (left c.next.new.self) _ i.0 _ (tells _ _ _ c.in-Some.ensures.steps) i.2));
-}
+    rw (none_same (Locates (raw_bytes c.args.self.now)) _ _ c.in_default.is (c.in_ok-spot.ensures.place left tells form t d)) refl
 
 pub returns-in_err-from_spot-clause-place : goal.returns-in_err-from_spot-clause-place
 returns-in_err-from_spot-clause-place g c = λ left tells form t d.
     let p = err_from_is_err_and c.from_residual-in_err-from_spot.result c.from_residual-in_err-from_spot.ensures.1 in
-    let d' : Decodes form c.as_bytes-bytes.result.now t = rw c.as_bytes-bytes.ensures d in
-    let i = c.loop-step.invariant.left left tells t (in_any form t _ d') in
-    let is = rw (tells _ _ _ c.in-None.ensures.steps).0 at i.2 in
-    rw (p.1, p.2) (no_room form i.0 _ _ is (c.in_err-from_spot.ensures.document form t i.0 d' i.1))
+    let i = some_same (Locates (raw_bytes c.args.self.now)) c.in-Some.spot _ _ c.in-Some.is (c.in_ok-spot.ensures.place left tells form t d) in
+    rw (p.1, p.2) (no_room form i.0 _ _ i.2 (c.in_err-from_spot.ensures.document form t i.0 (rw c.as_bytes.ensures d) (rw c.as_bytes.ensures i.1)))
 
 pub returns-clause-place : goal.returns-clause-place
 returns-clause-place g c = λ left tells form t d.
-    let d' : Decodes form c.as_bytes-bytes.result.now t = rw c.as_bytes-bytes.ensures d in
-    let i = c.loop-step.invariant.left left tells t (in_any form t _ d') in
-    let is = rw (tells _ _ _ c.in-None.ensures.steps).0 at i.2 in
-    rw (sym is) (c.in_ok-from_spot.ensures.document form t i.0 d' i.1)
+    let i = some_same (Locates (raw_bytes c.args.self.now)) c.in-Some.spot _ _ c.in-Some.is (c.in_ok-spot.ensures.place left tells form t d) in
+    rw (sym i.2) (c.in_ok-from_spot.ensures.document form t i.0 (rw c.as_bytes.ensures d) (rw c.as_bytes.ensures i.1))

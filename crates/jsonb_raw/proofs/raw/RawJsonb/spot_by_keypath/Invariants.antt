@@ -7,7 +7,7 @@ use Rattle.jsonb_keypath.specs.declared.key_path.KeyPath.{KeyPath}
 use Rattle.jsonb_keypath.specs.KeyPathViews.{keys_view}
 use Rattle.jsonb_raw.specs.Iterators.{YieldsItemsLeft}
 use Rattle.jsonb_raw.specs.Places.{tree_at_steps}
-use Rattle.jsonb_raw.proofs.raw.RawJsonb.get_by_keypath.Given as goal
+use Rattle.jsonb_raw.proofs.raw.RawJsonb.spot_by_keypath.Given as goal
 
 -- the spot is the place of a tree in which the steps that are left select what all steps select in the whole
 abbrev pub invariant-loop-step : goal.invariant-loop-step
