@@ -10,4 +10,3 @@ pub mod KeyRows
 pub mod LooseValues
 pub mod HandleValues
 pub mod PreparedLemmas
-pub mod OrderLemmas

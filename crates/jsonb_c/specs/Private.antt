@@ -4,5 +4,4 @@ pub mod Buffers
 pub mod ByHand
 pub mod LeafColumns
 pub mod NameColumns
-pub mod Order
 pub mod Views

@@ -16,7 +16,6 @@ mod deliver;
 mod document;
 mod keypath;
 mod leaves;
-mod order;
 mod path;
 mod place;
 mod prepared;

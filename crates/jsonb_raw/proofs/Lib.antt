@@ -92,3 +92,4 @@ pub mod NamePlaces
 pub mod EntryDocuments
 pub mod EntryWalks
 pub mod CutWalks
+pub mod OrderLemmas

@@ -1,5 +1,6 @@
 -- Definitions that only contracts of private functions use. No public clause cites them.
 pub mod Compared
+pub mod Order
 pub mod Cursors
 pub mod EqualityParts
 pub mod Stripping

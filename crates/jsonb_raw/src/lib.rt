@@ -9,6 +9,7 @@ mod key_bytes;
 mod key_kind;
 pub mod laws;
 mod level;
+mod order;
 mod owned;
 mod packed;
 mod raw;

@@ -1,7 +1,7 @@
 use Rattle.std.proofs.Common.{arith, ap₂, ◌∙◌, nat_cmp}
 use Rattle.std.specs.Cmp.Lexicographic.{slice_cmp}
 use Rattle.jsonb_doc.proofs.PayloadsRead.{extension_within}
-use Rattle.jsonb_c.proofs.order.extensions_order.Goals as goal
+use Rattle.jsonb_raw.proofs.order.extensions_order.Goals as goal
 
 pub returns : goal.returns
 returns c = λ x y e f.

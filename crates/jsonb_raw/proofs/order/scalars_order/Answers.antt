@@ -1,8 +1,8 @@
 use Rattle.std.proofs.Common.{◌∙◌, ap}
 use Rattle.jsonb_doc.specs.Number.{number_cmp}
 use Rattle.jsonb_doc.specs.Private.Short.{short_value}
-use Rattle.jsonb_c.proofs.OrderLemmas.{numbers_told}
-use Rattle.jsonb_c.proofs.order.scalars_order.Goals as goal
+use Rattle.jsonb_raw.proofs.OrderLemmas.{numbers_told}
+use Rattle.jsonb_raw.proofs.order.scalars_order.Goals as goal
 
 pub returns : goal.returns
 returns c = λ form other_form t u h k.

@@ -1,4 +1,4 @@
-use Rattle.jsonb_c.proofs.order.documents_order.Goals as goal
+use Rattle.jsonb_raw.proofs.order.documents_order.Goals as goal
 
 pub returns-clause-order : goal.returns-clause-order
 returns-clause-order c = λ form other_form t u d e.

@@ -1,41 +1,46 @@
 //! The order of documents. It does not allocate, and the recursion depth is logarithmic in the length.
 
-ghost use Rattle.std.specs.Prelude.{◌≡◌, ◌+◌, ◌≤◌, ℕ, length, IsOkAnd, IfOk, IfErr, IfSome, Some};
+ghost use Rattle.std.specs.Prelude.{◌≡◌, ◌+◌, ◌≤◌, ℕ, List, Option, length, IsOkAnd, IfOk, IfErr, IfSome, Some};
 ghost use Rattle.std.specs.Cmp.Lexicographic.{slice_cmp};
 ghost use Rattle.std.specs.Ordering.{nat_cmp, ordering_then};
 ghost use Rattle.std.specs.declared.cmp.Ordering.{Ordering};
-ghost use Rattle.jsonb_doc.specs.Tree.{Tree, Trees, Pairs, number};
+ghost use Rattle.jsonb_doc.specs.Tree.{Tree, number};
 ghost use Rattle.jsonb_doc.specs.View.{number_parts};
-ghost use Rattle.jsonb_doc.specs.Order.{rank, pairs_cmp, tree_cmp, trees_cmp};
+ghost use Rattle.jsonb_doc.specs.Order.{rank, tree_cmp};
 ghost use Rattle.jsonb_doc.specs.Extension.{Extension};
 ghost use Rattle.jsonb_doc.specs.Payload.{Form, extension_of, extension_payload};
 ghost use Rattle.jsonb_doc.specs.Format.{Decodes};
 ghost use Rattle.jsonb_doc.specs.Item.{StandsFor};
-ghost use Rattle.jsonb_doc.specs.Private.Stored.{HasEntriesLeft, HasPairEntriesLeft, Stores, entries_room};
+ghost use Rattle.jsonb_doc.specs.Private.Stored.{Stores};
 ghost use Rattle.jsonb_doc.specs.Answer.{IsDecodingError};
-ghost use Rattle.jsonb_c.specs.Private.Order.{Decides, IsShorter};
+ghost use Rattle.jsonb_raw.specs.Private.Levels.{EntryPrefix, HasPartsLeft, IsKeyOf, level_room};
+ghost use Rattle.jsonb_raw.specs.Private.Order.{Decides, IsShorter, key_cmp, part_cmp};
 
+use crate::key_kind;
+use crate::level::ChildCursor;
 use jsonb_doc::layout::EntryKind;
 use jsonb_doc::{
-    EntryIter, Error, Item, Number, PairEntryIter, StoredEntry, array_entries, bytes_cmp,
-    object_entries, root_spot, short_cmp, spot_entry,
+    Error, Item, Number, StoredEntry, bytes_cmp, root_spot, short_cmp, spot_entry,
 };
 use std::cmp::Ordering;
 
 /// Two children that are at one position of their containers.
 type EntryPair<'a> = (StoredEntry<'a>, StoredEntry<'a>);
 
+/// A child of a container, after its key if it is a value of an object.
+type Child<'a> = (Option<&'a [u8]>, StoredEntry<'a>);
+
 /// The order of two containers. All pairs of their children up to the first difference are compared except at most
 /// one, so that the recursion depth is logarithmic in the length.
 #[derive(Clone, Copy)]
-pub(crate) struct Compared<'a> {
+pub(crate) struct Ordered<'a> {
     /// The pair that was not compared because its first child is longer than half of all.
     deferred: Option<EntryPair<'a>>,
     /// The order if the deferred pair is equal.
     order: Ordering,
 }
 
-impl Compared<'_> {
+impl Ordered<'_> {
     ghost use Rattle.std.specs.Prelude.{◌≡◌, None};
 
     /// Returns the order of two containers that defer nothing.
@@ -43,7 +48,7 @@ impl Compared<'_> {
         ensures deferred { result.deferred ≡ None }
         ensures order { result.order ≡ order }
     {
-        Compared {
+        Ordered {
             deferred: None,
             order,
         }
@@ -77,7 +82,7 @@ fn entries_order(entry: &StoredEntry<'_>, other: &StoredEntry<'_>) -> Result<Ord
         → IsOkAnd result (λ o. o ≡ tree_cmp t u) }
     ensures errors { IfErr result IsDecodingError }
 {
-    let mut left = Compared {
+    let mut left = Ordered {
         deferred: Some((*entry, *other)),
         order: Ordering::Equal,
     };
@@ -93,7 +98,7 @@ fn parts_order<'a>(
     entry: &StoredEntry<'a>,
     other: &StoredEntry<'a>,
     after: Ordering,
-) -> Result<Compared<'a>, Error>
+) -> Result<Ordered<'a>, Error>
     ensures order { (form other_form : Form) (t u : Tree) → Stores form entry.now t → Stores other_form other.now u
         → IsOkAnd result (λ told. Decides form other_form told.deferred told.order
         (ordering_then (tree_cmp t u) after)) }
@@ -104,37 +109,25 @@ fn parts_order<'a>(
     let kind = rank(&item);
     let other_kind = rank(&other.item()?);
     if kind != other_kind {
-        return Ok(Compared::known(kind.cmp(&other_kind).then(after)));
+        return Ok(Ordered::known(kind.cmp(&other_kind).then(after)));
     }
     let (bytes, other_bytes) = (entry.content, other.content);
-    let half = bytes.len() / 2;
     match item {
-        Item::Array(_) => {
-            elements_order(
-                array_entries(bytes)?,
-                array_entries(other_bytes)?,
-                half,
-                after,
-            )
-        }
-        Item::Object(_) => {
-            members_order(
-                object_entries(bytes)?,
-                object_entries(other_bytes)?,
-                half,
-                after,
-            )
+        Item::Array(_) | Item::Object(_) => {
+            let children = ChildCursor::of_container(bytes)?;
+            let others = ChildCursor::of_container(other_bytes)?;
+            children_order(children, others, bytes.len() / 2, after)
         }
         Item::Number(number) => {
             let order = number.cmp(&read_number(other)?);
-            Ok(Compared::known(order.then(after)))
+            Ok(Ordered::known(order.then(after)))
         }
-        Item::String(_) => Ok(Compared::known(bytes_cmp(bytes, other_bytes).then(after))),
+        Item::String(_) => Ok(Ordered::known(bytes_cmp(bytes, other_bytes).then(after))),
         Item::Extension(_) => {
             let order = extensions_order(bytes, other_bytes);
-            Ok(Compared::known(order.then(after)))
+            Ok(Ordered::known(order.then(after)))
         }
-        Item::Null | Item::Boolean(_) => Ok(Compared::known(after)),
+        Item::Null | Item::Boolean(_) => Ok(Ordered::known(after)),
     }
 }
 
@@ -163,121 +156,96 @@ fn rank(item: &Item<'_>) -> u8
     ensures { (form : Form) (t : Tree) → StandsFor form item.now t → result ≡ rank t }
 {
     match item {
-        Item::Extension(_) => 1,
-        Item::Boolean(false) => 2,
-        Item::Boolean(true) => 3,
-        Item::Number(_) => 4,
-        Item::String(_) => 5,
-        Item::Object(_) => 6,
-        Item::Array(_) => 7,
-        Item::Null => 8,
+        Item::Extension(_) => key_kind::EXTENSION,
+        Item::Boolean(false) => key_kind::FALSE,
+        Item::Boolean(true) => key_kind::TRUE,
+        Item::Number(_) => key_kind::NUMBER,
+        Item::String(_) => key_kind::STRING,
+        Item::Object(_) => key_kind::OBJECT,
+        Item::Array(_) => key_kind::ARRAY,
+        Item::Null => key_kind::NULL,
     }
 }
 
-/// Compares the remaining entries of two arrays, except for one pair. If they are equal, the order is the given one.
+/// Compares the remaining children of two arrays or of two objects, except for one pair. If they are equal, the order is
+/// the given one.
 #[cycle(order)]
-fn elements_order<'a>(
-    found: EntryIter<'a>,
-    others: EntryIter<'a>,
+fn children_order<'a>(
+    found: ChildCursor<'a>,
+    others: ChildCursor<'a>,
     half: usize,
     after: Ordering,
-) -> Result<Compared<'a>, Error>
-    ensures order { (form other_form : Form) (ts us : Trees)
-        → HasEntriesLeft form found.entry ts → HasEntriesLeft other_form others.entry us
+) -> Result<Ordered<'a>, Error>
+    ensures order { (form other_form : Form) (ps qs : List EntryPrefix)
+        → HasPartsLeft form found.entry ps → HasPartsLeft other_form others.entry qs
         → IsOkAnd result (λ told. Decides form other_form told.deferred told.order
-        (ordering_then (trees_cmp ts us) after)) }
-    ensures shorter { IfOk result (λ told. IsShorter told (entries_room found.entry + 1)) }
+        (ordering_then (slice_cmp part_cmp ps qs) after)) }
+    ensures shorter { IfOk result (λ told. IsShorter told (level_room found.entry + 1)) }
     ensures errors { IfErr result IsDecodingError }
 {
+    let mut left = found;
     let mut rest = others;
     let mut deferred = None;
-    for entry in found {
-        let entry = entry?;
-        let Some(other) = rest.next() else {
+    while let Some(child) = left.take()? {
+        let Some(other) = rest.take()? else {
             let order = Ordering::Greater;
-            return Ok(Compared { deferred, order });
+            return Ok(Ordered { deferred, order });
         };
-        let order = child_order(&mut deferred, &entry, &other?, half)?;
+        let order = child_order(&mut deferred, &child, &other, half)?;
         if order.is_ne() {
-            return Ok(Compared { deferred, order });
+            return Ok(Ordered { deferred, order });
         }
     }
-    let order = if rest.next().is_some() {
+    let order = if rest.take()?.is_some() {
         Ordering::Less
     } else {
         after
     };
-    Ok(Compared { deferred, order })
+    Ok(Ordered { deferred, order })
 }
 
-/// Compares the remaining members of two objects, except for one pair of values. If they are equal, the order is the
-/// given one.
-#[cycle(order)]
-fn members_order<'a>(
-    found: PairEntryIter<'a>,
-    others: PairEntryIter<'a>,
-    half: usize,
-    after: Ordering,
-) -> Result<Compared<'a>, Error>
-    ensures order { (form other_form : Form) (ps qs : Pairs)
-        → HasPairEntriesLeft form found.entry ps → HasPairEntriesLeft other_form others.entry qs
-        → IsOkAnd result (λ told. Decides form other_form told.deferred told.order
-        (ordering_then (pairs_cmp ps qs) after)) }
-    ensures shorter { IfOk result (λ told. IsShorter told (entries_room found.entry.values + 1)) }
-    ensures errors { IfErr result IsDecodingError }
-{
-    let mut rest = others;
-    let mut deferred = None;
-    for pair in found {
-        let pair = pair?;
-        let Some(other) = rest.next() else {
-            let order = Ordering::Greater;
-            return Ok(Compared { deferred, order });
-        };
-        let order = member_order(&mut deferred, &pair, &other?, half)?;
-        if order.is_ne() {
-            return Ok(Compared { deferred, order });
-        }
-    }
-    let order = if rest.next().is_some() {
-        Ordering::Less
-    } else {
-        after
-    };
-    Ok(Compared { deferred, order })
-}
-
-/// Returns the order of two members: of their keys, and then of their values, which may be deferred.
+/// Returns the order of two children: of their keys, and then of their values, which may be deferred.
 #[cycle(order)]
 #[inline(always)]
-fn member_order<'a>(
+fn child_order<'a>(
     deferred: &mut Option<EntryPair<'a>>,
-    pair: &(&'a [u8], StoredEntry<'a>),
-    other: &(&'a [u8], StoredEntry<'a>),
+    child: &Child<'a>,
+    other: &Child<'a>,
     half: usize,
 ) -> Result<Ordering, Error>
-    ensures order { (form other_form : Form) (t u : Tree) (rest whole : Ordering)
-        → Stores form pair.now.1 t → Stores other_form other.now.1 u
-        → Decides form other_form deferred.old
-        (ordering_then (slice_cmp nat_cmp pair.now.0.now other.now.0.now) (ordering_then (tree_cmp t u) rest)) whole
+    ensures order { (form other_form : Form) (p q : EntryPrefix) (rest whole : Ordering)
+        → IsKeyOf child.now.0 p.0 → Stores form child.now.1 p.1
+        → IsKeyOf other.now.0 q.0 → Stores other_form other.now.1 q.1
+        → Decides form other_form deferred.old (ordering_then (part_cmp p q) rest) whole
         → IsOkAnd result (λ o. Decides form other_form deferred.new (ordering_then o rest) whole) }
-    ensures size { (len : ℕ) → length pair.now.1.content.now ≤ len
+    ensures size { (len : ℕ) → length child.now.1.content.now ≤ len
         → IfSome deferred.old (λ p. length p.0.content.now ≤ len)
         → IfSome deferred.new (λ p. length p.0.content.now ≤ len) }
     ensures errors { IfErr result IsDecodingError }
 {
-    let order = bytes_cmp(pair.0, other.0);
+    let order = keys_order(child.0, other.0);
     if order.is_ne() {
         return Ok(order);
     }
-    child_order(deferred, &pair.1, &other.1, half)
+    value_order(deferred, &child.1, &other.1, half)
 }
 
-/// Returns the order of two children, or defers them: of a container that is longer than `half`, if no other is
+/// Returns the order of two keys. Elements have none.
+#[inline(always)]
+fn keys_order(key: Option<&[u8]>, other: Option<&[u8]>) -> Ordering
+    ensures { (k l : Option (List ℕ)) → IsKeyOf key.entry k → IsKeyOf other.entry l → result ≡ key_cmp k l }
+{
+    match (key, other) {
+        (Some(key), Some(other)) => bytes_cmp(key, other),
+        _ => Ordering::Equal,
+    }
+}
+
+/// Returns the order of two values, or defers them: of a container that is longer than `half`, if no other is
 /// deferred.
 #[cycle(order)]
 #[inline(always)]
-fn child_order<'a>(
+fn value_order<'a>(
     deferred: &mut Option<EntryPair<'a>>,
     entry: &StoredEntry<'a>,
     other: &StoredEntry<'a>,
