@@ -16,13 +16,13 @@ CALLS = ROOT / "crates/jsonb_raw/src/tests/calls/rows.rt"
 TAKES_TEXT = """get_by_keypath get_by_index get_by_name get_by_name_ignore_case traverse_check_string delete_by_index
     delete_by_name delete_by_keypath""".split()
 TAKES_NAMES = "exists_all_keys exists_any_keys object_pick object_delete".split()
-TAKES_DOCUMENT = "contains concat array_overlap array_intersection array_except".split()
+TAKES_DOCUMENT = "contains compare concat array_overlap array_intersection array_except".split()
 TAKES_BOTH = "object_insert object_update array_insert".split()
 
 # What a call returns, if not a document.
 RETURNS_BYTES = "convert_to_comparable convert_to_comparable_wide equality_key".split()
 RETURNS_LIST = "array_values object_each leaves leaves_ignoring_arrays".split()
-RETURNS_TEXT = "array_length type_of as_null as_bool as_number as_i64 as_u64 as_str to_i64 to_u64 to_str".split()
+RETURNS_TEXT = "compare array_length type_of as_null as_bool as_number as_i64 as_u64 as_str to_i64 to_u64 to_str".split()
 
 # What the tests call the rows of a group of paths.tsv. The other groups are selections.
 KINDS = {"predicates": "truth", "printed": "path", "places": "place", "printed key paths": "key path"}

@@ -26,7 +26,9 @@ pub use jsonb_keypath as keypath;
 pub use jsonb_keypath::{
     KeyPath, KeyPaths, OwnedKeyPath, OwnedKeyPaths, parse_key_paths, read_name, read_quoted,
 };
-pub use jsonb_raw::{OwnedJsonb, RawJsonb, push_column_key, push_column_key_wide};
+pub use jsonb_raw::{
+    OwnedJsonb, RawJsonb, composite_key, composite_key_wide, push_column_key, push_column_key_wide,
+};
 
 #[cfg(test)]
 mod tests;

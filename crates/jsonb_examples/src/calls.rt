@@ -1,7 +1,11 @@
 //! Functions on documents that the other examples do not call.
 
-use jsonb::{Error, ExtensionValue, KeyPaths, OwnedJsonb, RawJsonb, Value, push_column_key_wide};
+use jsonb::{
+    Error, ExtensionValue, JsonPath, KeyPaths, OwnedJsonb, RawJsonb, SelectByPath, Value,
+    composite_key_wide, push_column_key, push_column_key_wide,
+};
 use std::alloc::Global;
+use std::cmp::Ordering;
 use std::collections::BTreeSet;
 use std::mem::swap;
 
@@ -11,6 +15,20 @@ pub fn received(alloc: Global, bytes: &[u8]) -> Result<OwnedJsonb, Error> {
     document.check()?;
     let copy = Vec::from_slice(alloc, document.as_bytes())?;
     Ok(OwnedJsonb::new(copy))
+}
+
+/// Returns the largest of some documents, the first of equal ones, or `None` if there are none.
+pub fn largest_of<'a>(documents: &[RawJsonb<'a>]) -> Result<Option<RawJsonb<'a>>, Error> {
+    let [first, others @ ..] = documents else {
+        return Ok(None);
+    };
+    let mut largest = *first;
+    for document in others {
+        if document.compare(&largest)? == Ordering::Greater {
+            largest = *document;
+        }
+    }
+    Ok(Some(largest))
 }
 
 /// Returns `true` if the document has a sortable key: no item is deeper than 255.
@@ -120,6 +138,26 @@ pub fn row_key(
     Ok(key)
 }
 
+/// Returns `true` if a row, each of whose columns may be missing, sorts before another one.
+pub fn is_row_before(
+    alloc: Global,
+    row: &[Option<RawJsonb<'_>>],
+    other: &[Option<RawJsonb<'_>>],
+) -> Result<bool, Error> {
+    Ok(composite_key_wide(alloc, row)? < composite_key_wide(alloc, other)?)
+}
+
+/// Appends the first item that a path selects to a composite key.
+pub fn push_selected(
+    alloc: Global,
+    key: &mut Vec<u8>,
+    document: &RawJsonb<'_>,
+    path: &JsonPath<'_>,
+) -> Result<(), Error> {
+    let value = document.select_first_by_path(alloc, path)?;
+    push_column_key(alloc, key, value.as_ref().map(|it| it.as_raw()))
+}
+
 /// Returns the number of documents that differ by value.
 pub fn distinct_count(alloc: Global, documents: &[RawJsonb<'_>]) -> Result<usize, Error> {
     let mut keys = BTreeSet::new(alloc);
@@ -226,6 +264,7 @@ mod tests {
         ALL_TAGS, DEFAULTS, FRED, NEW_TAGS, NEWS, OLD_TAGS, ONE, ONE_POINT_ZERO, REMOVED_TAGS,
         SETTINGS, SEVENTY, SHARED_TAGS, THIRTY, USER, WEATHER,
     };
+    use jsonb::parse_json_path;
     use std::borrow::CowStr;
     use std::test::Fail;
 
@@ -311,11 +350,20 @@ mod tests {
         let (low, high) = (RawJsonb::new(THIRTY), RawJsonb::new(SEVENTY));
         assert!(rt; !is_sorted(alloc, [high, low].as_slice())?);
         assert!(rt; is_before(alloc, &low, &high)? && !is_before(alloc, &high, &low)?);
+        let largest = largest_of([low, high, low].as_slice())?;
+        assert_eq!(rt; largest.map(|it| it.as_bytes()), Some(SEVENTY));
+        assert!(rt; largest_of([].as_slice())?.is_none());
         let key = row_key(alloc, None, Some(RawJsonb::new(ONE)))?;
         assert_eq!(rt;
             key.as_slice(),
             b"\0\0\0\0\0\x04\x81\x03\xe9\x02\0".as_slice()
         );
+        let one = Some(RawJsonb::new(ONE));
+        assert!(rt; is_row_before(alloc, [None, one].as_slice(), [one, None].as_slice())?);
+        let age = parse_json_path(alloc, b"$.age")?;
+        let mut selected = Vec::new(alloc);
+        push_selected(alloc, &mut selected, &RawJsonb::new(FRED), &age)?;
+        assert_eq!(rt; selected.as_slice(), b"\0\0".as_slice());
         Ok(())
     }
 

@@ -3,7 +3,7 @@
 //! Each key is composed of the sortable keys of both values. Such keys compare as the pairs of values do, if these
 //! contain no extension value. A missing value is below every other.
 
-use jsonb::{Error, JsonPath, RawJsonb, SelectByPath, parse_json_path, push_column_key};
+use jsonb::{Error, JsonPath, RawJsonb, SelectByPath, composite_key, parse_json_path};
 use std::alloc::Global;
 use std::collections::BTreeMap;
 
@@ -32,9 +32,13 @@ impl<'p> Index<'p> {
         number: u64,
         document: &RawJsonb<'_>,
     ) -> Result<(), Error> {
-        let mut key = Vec::new(alloc);
-        push_key(alloc, &mut key, document, &self.first)?;
-        push_key(alloc, &mut key, document, &self.second)?;
+        let first = document.select_first_by_path(alloc, &self.first)?;
+        let second = document.select_first_by_path(alloc, &self.second)?;
+        let values = [
+            first.as_ref().map(|it| it.as_raw()),
+            second.as_ref().map(|it| it.as_raw()),
+        ];
+        let key = composite_key(alloc, &values)?;
         match self.entries.get_mut(&key) {
             Some(numbers) => numbers.push(number)?,
             None => {
@@ -62,17 +66,6 @@ impl<'p> Index<'p> {
         }
         Ok(found)
     }
-}
-
-/// Appends the first item that a path selects to a composite key.
-fn push_key(
-    alloc: Global,
-    key: &mut Vec<u8>,
-    document: &RawJsonb<'_>,
-    path: &JsonPath<'_>,
-) -> Result<(), Error> {
-    let value = document.select_first_by_path(alloc, path)?;
-    push_column_key(alloc, key, value.as_ref().map(|it| it.as_raw()))
 }
 
 #[cfg(test)]

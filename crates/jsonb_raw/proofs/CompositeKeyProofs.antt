@@ -17,7 +17,7 @@ use Rattle.jsonb_raw.proofs.TreeKeys.{items_rank, key_is_item, IsRest-item, noth
 abbrev composite_key : Width → List (Option Tree) → List ℕ
 composite_key w columns = flat_map (column_key w) columns
 
-some_depth : (w : Width) → 0 < depths w
+pub some_depth : (w : Width) → 0 < depths w
 some_depth w = one-le-pow (byte_len w) 256 (omega arith)
 
 rank_positive : (t : Tree) → 0 < rank t

@@ -59,8 +59,14 @@ RanksWith w t u bytes = (bytes_cmp bytes (sortable_key w u 0) ≡ tree_cmp t u) 
 ranks_with : (w : Width) (t u : Tree) (made : List ℕ) → HasKey w t 0 → HasKey w u 0 → made ≡ sortable_key w t 0 → RanksWith w t u made
 ranks_with w t u made h k e = rw e (keys_order w t u h k, keys_tell_apart w t u h k)
 
--- the key of a document ranks as its tree, which is in range since it was decoded
+-- the tree of a document has a key, since it was decoded and is thus in range
+pub decoded_key : (w : Width) (form : Form) (bytes : List ℕ) (t : Tree) → AreBytes bytes → Decodes form bytes t → HasNoExtension t → deepest t < depths w
+    → HasKey w t 0
+decoded_key w form bytes t all d none deep =
+    record { in_range = (decoded_fits form bytes t all d).0; no_extension = none; deep = omega (arith, deep) }
+
+-- the key of a document ranks as its tree
 pub decoded_ranks : (w : Width) (form : Form) (bytes made : List ℕ) (t : Tree) → AreBytes bytes → Decodes form bytes t → made ≡ sortable_key w t 0
     → deepest t < depths w → HasNoExtension t → (u : Tree) → HasKey w u 0 → RanksWith w t u made
 decoded_ranks w form bytes made t all d e deep none u k =
-    ranks_with w t u made (record { in_range = (decoded_fits form bytes t all d).0; no_extension = none; deep = omega (arith, deep) }) k e
+    ranks_with w t u made (decoded_key w form bytes t all d none deep) k e

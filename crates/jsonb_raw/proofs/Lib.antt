@@ -93,3 +93,4 @@ pub mod EntryDocuments
 pub mod EntryWalks
 pub mod CutWalks
 pub mod OrderLemmas
+pub mod ColumnLemmas

@@ -11,4 +11,6 @@ mod path;
 mod runs;
 mod scalar;
 
-pub use self::operator::{push_column_key, push_column_key_wide};
+pub use self::operator::{
+    composite_key, composite_key_wide, push_column_key, push_column_key_wide,
+};

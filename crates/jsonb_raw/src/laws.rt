@@ -10,12 +10,16 @@ ghost use Rattle.std.specs.Cmp.Lexicographic.{slice_cmp};
 ghost use Rattle.std.specs.Slice.Iter.{iter_rest, iter_steps};
 ghost use Rattle.std.specs.declared.cmp.Ordering.TheVariants.{Less};
 ghost use Rattle.jsonb_doc.specs.Tree.{Tree, Trees, Pairs, array, object, members};
+ghost use Rattle.jsonb_doc.specs.Payload.{Form};
+ghost use Rattle.jsonb_doc.specs.Format.{Decodes};
+ghost use Rattle.jsonb_doc.specs.Depth.{deepest};
 ghost use Rattle.jsonb_doc.specs.Limits.{Fits};
 ghost use Rattle.jsonb_doc.specs.Order.{tree_cmp, IsEqual};
 ghost use Rattle.jsonb_keypath.specs.KeyPathGrammar.{Key, key_path};
 ghost use Rattle.jsonb_keypath.specs.KeyPathText.{key_path_text};
 ghost use Rattle.jsonb_raw.specs.Places.{location, tree_at_steps};
-ghost use Rattle.jsonb_raw.specs.SortableKey.{sortable_key, significant, HasKey, IsRest};
+ghost use Rattle.jsonb_raw.specs.NoExtension.{HasNoExtension};
+ghost use Rattle.jsonb_raw.specs.SortableKey.{sortable_key, significant, depths, HasKey, IsRest};
 ghost use Rattle.jsonb_raw.specs.CompositeKeys.{column_key, HaveKeys};
 ghost use Rattle.jsonb_raw.specs.EqualityKey.{equality_key};
 ghost use Rattle.jsonb_raw.specs.Partition.{IsPartitionedInto};
@@ -56,6 +60,15 @@ pub fn sortable_keys()
         → slice_cmp nat_cmp (sortable_key w t 0) (sortable_key w u 0) ≡ tree_cmp t u }
     ensures apart { (w : Width) (t u : Tree)
         → HasKey w t 0 → HasKey w u 0 → (sortable_key w t 0 ≡ sortable_key w u 0) ↔ IsEqual t u }
+{}
+
+/// Two documents without extension values compare as their sortable keys do, in every width that has a depth for each
+/// item of both.
+pub fn documents_compare_as_keys(document: &[u8], other: &[u8])
+    ensures { (form other_form : Form) (t u : Tree) (w : Width)
+        → Decodes form document.now t → Decodes other_form other.now u
+        → HasNoExtension t → HasNoExtension u → deepest t < depths w → deepest u < depths w
+        → slice_cmp nat_cmp (sortable_key w t 0) (sortable_key w u 0) ≡ tree_cmp t u }
 {}
 
 /// Concatenated sortable keys of several values are ordered as the lists of values are: the key of an index on

@@ -17,6 +17,6 @@ mod sortable_key;
 #[cfg(test)]
 mod tests;
 
-pub use functions::{push_column_key, push_column_key_wide};
+pub use functions::{composite_key, composite_key_wide, push_column_key, push_column_key_wide};
 pub use owned::OwnedJsonb;
 pub use raw::RawJsonb;

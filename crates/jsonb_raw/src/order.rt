@@ -1,6 +1,6 @@
 //! The order of documents. It does not allocate, and the recursion depth is logarithmic in the length.
 
-ghost use Rattle.std.specs.Prelude.{◌≡◌, ◌+◌, ◌≤◌, ℕ, List, Option, length, IsOkAnd, IfOk, IfErr, IfSome, Some};
+ghost use Rattle.std.specs.Prelude.{◌≡◌, ◌+◌, ◌≤◌, ℕ, List, Option, length, IsOkAnd, IfOk, IfErr, IfSome, OnOk, Some};
 ghost use Rattle.std.specs.Cmp.Lexicographic.{slice_cmp};
 ghost use Rattle.std.specs.Ordering.{nat_cmp, ordering_then};
 ghost use Rattle.std.specs.declared.cmp.Ordering.{Ordering};
@@ -13,6 +13,7 @@ ghost use Rattle.jsonb_doc.specs.Format.{Decodes};
 ghost use Rattle.jsonb_doc.specs.Item.{StandsFor};
 ghost use Rattle.jsonb_doc.specs.Private.Stored.{Stores};
 ghost use Rattle.jsonb_doc.specs.Answer.{IsDecodingError};
+ghost use Rattle.jsonb_raw.specs.Roots.{HasRootShape};
 ghost use Rattle.jsonb_raw.specs.Private.Levels.{EntryPrefix, HasPartsLeft, IsKeyOf, level_room};
 ghost use Rattle.jsonb_raw.specs.Private.Order.{Decides, IsShorter, key_cmp, part_cmp};
 
@@ -20,7 +21,7 @@ use crate::key_kind;
 use crate::level::ChildCursor;
 use jsonb_doc::layout::EntryKind;
 use jsonb_doc::{
-    Error, Item, Number, StoredEntry, bytes_cmp, root_spot, short_cmp, spot_entry,
+    Error, Item, Number, StoredEntry, bytes_cmp, root_shape, root_spot, short_cmp, spot_entry,
 };
 use std::cmp::Ordering;
 
@@ -56,12 +57,16 @@ impl Ordered<'_> {
 }
 
 /// Returns the order of two documents.
-pub(crate) fn documents_order(document: &[u8], other: &[u8]) -> Result<Ordering, Error>
+pub fn documents_order(document: &[u8], other: &[u8]) -> Result<Ordering, Error>
     ensures order { (form other_form : Form) (t u : Tree)
         → Decodes form document.now t → Decodes other_form other.now u
         → IsOkAnd result (λ o. o ≡ tree_cmp t u) }
     ensures errors { IfErr result IsDecodingError }
+    ensures reads { OnOk result (HasRootShape document.now × HasRootShape other.now) }
 {
+    // Each root is read, whatever the other one is.
+    root_shape(document)?;
+    root_shape(other)?;
     entries_order(&root_entry(document)?, &root_entry(other)?)
 }
 

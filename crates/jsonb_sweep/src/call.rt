@@ -2,7 +2,9 @@
 
 use crate::answer::{Answer, Wanted};
 use crate::mark::tell;
-use jsonb::{Error, RawJsonb, push_column_key, push_column_key_wide};
+use jsonb::{
+    Error, RawJsonb, composite_key, composite_key_wide, push_column_key, push_column_key_wide,
+};
 use std::alloc::Global;
 use std::io;
 
@@ -75,6 +77,8 @@ pub enum Call<'a> {
     Push(Key),
     Composite,
     CompositeWide,
+    Row,
+    RowWide,
     ToStr,
     AsBinary,
 }
@@ -104,6 +108,8 @@ impl Call<'_> {
             Call::Push(key) => return key.pushed(alloc, on).map(Answer::Bytes),
             Call::Composite => return composite(alloc, on).map(Answer::Bytes),
             Call::CompositeWide => return composite_wide(alloc, on).map(Answer::Bytes),
+            Call::Row => return composite_key(alloc, &[Some(on), None]).map(Answer::Bytes),
+            Call::RowWide => return composite_key_wide(alloc, &[Some(on), None]).map(Answer::Bytes),
             Call::ToStr => return on.to_str(alloc).map(Answer::Text),
             Call::AsBinary => return on.as_binary(alloc).map(Answer::found_bytes),
         };

@@ -5,6 +5,7 @@ use jsonb::{
     Item, RawJsonb, check, child_spots, elements, field_spot, keys, pairs, root_item, root_spot,
     spot_item, values,
 };
+use std::cmp::Ordering;
 use std::io;
 
 /// Makes the calls, and reports the results of each type.
@@ -20,6 +21,7 @@ pub fn cases(rt: &HostRuntime) -> io::Result<()> {
         "array_length, type_of": questions_are_right(RawJsonb::new(TENS));
         "contains": contains_is_right();
         "array_overlap": overlap_is_right(RawJsonb::new(EQUAL_NUMBERS));
+        "compare": order_is_right(RawJsonb::new(PHONES));
         "exists_all_keys, exists_any_keys": exists_keys_are_right(RawJsonb::new(LETTERS));
         "traverse_check_string": traverse_is_right(RawJsonb::new(PHONES));
     }
@@ -95,6 +97,12 @@ fn contains_is_right() -> bool {
 fn overlap_is_right(numbers: RawJsonb<'_>) -> bool {
     numbers.array_overlap(&RawJsonb::new(ONE)) == Ok(true)
         && numbers.array_overlap(&RawJsonb::new(TENS)) == Ok(false)
+}
+
+fn order_is_right(phones: RawJsonb<'_>) -> bool {
+    phones.compare(&phones) == Ok(Ordering::Equal)
+        && phones.compare(&RawJsonb::new(TENS)) == Ok(Ordering::Less)
+        && RawJsonb::new(TENS).compare(&RawJsonb::new(ONE)) == Ok(Ordering::Greater)
 }
 
 fn exists_keys_are_right(letters: RawJsonb<'_>) -> bool {

@@ -39,7 +39,7 @@ const COMPOSITE_KEY: &[u8] = b"\x00\x07\x01\x04\x81\x03\xe9\x02\x00\x00\x00";
 /// Its wide form.
 const WIDE_COMPOSITE_KEY: &[u8] = b"\x00\x00\x07\x00\x01\x04\x81\x03\xe9\x02\x00\x00\x00\x00";
 
-static CASES: [Case; 17] = rows! {
+static CASES: [Case; 19] = rows! {
     "concat of arrays", Call::Concat(ONE_ELEMENT), TENS, Wanted::Document(TENS_AND_ONE);
     "concat of objects", Call::Concat(ONLY_A), LETTERS, Wanted::Document(LETTERS);
     "strip_nulls", Call::StripNulls, NULLS, Wanted::Document(STRIPPED);
@@ -53,6 +53,8 @@ static CASES: [Case; 17] = rows! {
     "equality_key_into", Call::Push(Key::Equality), ONE_ELEMENT, Wanted::Bytes(b"\x07\x00\x00\x00\x01\x04\x81\x03\xe9\x02\x00");
     "push_column_key", Call::Composite, ONE_ELEMENT, Wanted::Bytes(COMPOSITE_KEY);
     "push_column_key_wide", Call::CompositeWide, ONE_ELEMENT, Wanted::Bytes(WIDE_COMPOSITE_KEY);
+    "composite_key", Call::Row, ONE_ELEMENT, Wanted::Bytes(COMPOSITE_KEY);
+    "composite_key_wide", Call::RowWide, ONE_ELEMENT, Wanted::Bytes(WIDE_COMPOSITE_KEY);
     "to_str of a text", Call::ToStr, V, Wanted::Text("v");
     "to_str of a decimal", Call::ToStr, PRICE, Wanted::Text("12.34");
     "as_binary", Call::AsBinary, BYTES, Wanted::Bytes(b"abc");

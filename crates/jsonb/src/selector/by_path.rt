@@ -74,7 +74,7 @@ pub trait SelectByPath<'a> {
     ///
     /// # Examples
     ///
-    /// ```rust crates/jsonb_examples/src/index.rt
+    /// ```rust crates/jsonb_examples/src/calls.rt
     /// let value = document.select_first_by_path(alloc, path)?;
     /// push_column_key(alloc, key, value.as_ref().map(|it| it.as_raw()))
     /// ```

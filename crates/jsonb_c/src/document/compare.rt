@@ -8,7 +8,6 @@ ghost use Rattle.jsonb_c.specs.Answers.{WritesResult, WritesBool, OfBoth, Shows}
 ghost use Rattle.jsonb_c.specs.Calls.{order_number};
 
 use crate::deliver::{store, store_bool};
-use crate::order::documents_order;
 use jsonb::{Error, RawJsonb};
 use std::cmp::Ordering;
 
@@ -38,7 +37,7 @@ fn compare(document: &[u8], other: &[u8]) -> Result<i32, Error>
         (λ form t u said. IsOkAnd said (λ z. z ≡ order_number (tree_cmp t u))) result }
     ensures errors { IfErr result IsDecodingError }
 {
-    match documents_order(document, other)? {
+    match RawJsonb::new(document).compare(&RawJsonb::new(other))? {
         Ordering::Less => Ok(-1),
         Ordering::Equal => Ok(0),
         Ordering::Greater => Ok(1),

@@ -13,6 +13,7 @@ ghost use Rattle.jsonb_raw.specs.KeyAnswer.{MakesKey, WritesKey, RanksAsTree};
 ghost use Rattle.jsonb_raw.specs.EqualityKey.{equality_key};
 
 mod column_key;
+mod compare;
 mod concat;
 mod contains;
 mod starts;
@@ -23,7 +24,9 @@ mod stripping;
 mod tests;
 mod traverse;
 
-pub use self::column_key::{push_column_key, push_column_key_wide};
+pub use self::column_key::{
+    composite_key, composite_key_wide, push_column_key, push_column_key_wide,
+};
 use crate::equality_key::{item_key, push_equality_key};
 use crate::raw::RawJsonb;
 use crate::sortable_key::{DepthWidth, push_sortable_key, sortable_key};

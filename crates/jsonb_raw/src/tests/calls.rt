@@ -21,6 +21,7 @@ use crate::{OwnedJsonb, RawJsonb};
 use jsonb_doc::Error;
 use jsonb_keypath::parse_key_paths;
 use std::alloc::{AllocError, Global};
+use std::cmp::Ordering;
 use std::collections::BTreeSet;
 
 /// The document and the arguments of a call, and the expected result.
@@ -104,13 +105,14 @@ impl Asked<'_, '_, '_> {
         }
     }
 
-    /// Runs functions that return several documents.
+    /// Runs functions that return several documents, or an order.
     fn list_holds(&self, call: &str) -> Result<bool, Error> {
         match call {
             "array_values" => self.elements_hold(),
             "object_each" => self.pairs_hold(),
             "leaves" => self.leaves_hold(false),
             "leaves_ignoring_arrays" => self.leaves_hold(true),
+            "compare" => self.order_holds(),
             _ => self.edit_holds(call),
         }
     }
@@ -132,6 +134,15 @@ impl Asked<'_, '_, '_> {
     fn leaves_hold(&self, ignore_array: bool) -> Result<bool, Error> {
         let leaves = self.document.leaf_documents(self.alloc, ignore_array)?;
         Ok(listed_leaves(self.alloc, &leaves)?.as_str() == self.wanted)
+    }
+
+    fn order_holds(&self) -> Result<bool, Error> {
+        let name = match self.document.compare(&self.other)? {
+            Ordering::Less => "Less",
+            Ordering::Equal => "Equal",
+            Ordering::Greater => "Greater",
+        };
+        Ok(name == self.wanted)
     }
 
     /// Returns the object with only the members of a set of names, or without them.

@@ -2,8 +2,9 @@
 
 use jsonb::{
     ArrayBuilder, Error, JsonPath, ObjectBuilder, OwnedJsonb, RawJsonb, SelectByPath, Selector,
-    child_spots, elements, encode_item, field_spot, keys, pairs, parse_json_path, parse_key_paths,
-    push_column_key, push_column_key_wide, root_item, root_spot, spot_item, to_value, values,
+    child_spots, composite_key, composite_key_wide, elements, encode_item, field_spot, keys, pairs,
+    parse_json_path, parse_key_paths, push_column_key, push_column_key_wide, root_item, root_spot,
+    spot_item, to_value, values,
 };
 use std::alloc::Global;
 use std::collections::BTreeSet;
@@ -132,6 +133,9 @@ pub(super) fn ask_whole(alloc: Global, raw: &RawJsonb<'_>, answers: &mut Answers
     let _ = raw.contains(&one);
     let _ = one.contains(raw);
     let _ = raw.contains(&same);
+    let _ = raw.compare(&one);
+    let _ = one.compare(raw);
+    let _ = raw.compare(&same);
     let _ = raw.depth();
     let _ = raw.check_depth(1);
     let _ = raw.traverse_check_string(|text| text == b"b".as_slice());
@@ -151,6 +155,9 @@ pub(super) fn ask_scalars(alloc: Global, raw: &RawJsonb<'_>) {
     let _ = raw.equality_key_into(alloc, &mut key);
     let _ = push_column_key(alloc, &mut key, Some(*raw));
     let _ = push_column_key_wide(alloc, &mut key, Some(*raw));
+    let columns = [None, Some(*raw)];
+    let _ = composite_key(alloc, &columns);
+    let _ = composite_key_wide(alloc, &columns);
     let _ = raw.type_of();
     let _ = [
         raw.is_null(),

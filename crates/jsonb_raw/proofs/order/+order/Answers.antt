@@ -1,4 +1,4 @@
-use Rattle.std.proofs.Common.{◌≡◌, ◌≤◌, [], arith, sym, ap, ◌∙◌, Ordering}
+use Rattle.std.proofs.Common.{◌≡◌, [], arith, sym, ap, ◌∙◌, Ordering}
 use Rattle.std.specs.Ordering.{ordering_then}
 use Rattle.std.specs.Cmp.Lexicographic.{slice_cmp}
 use Rattle.jsonb_doc.specs.Order.{rank, tree_cmp}
@@ -62,7 +62,7 @@ pub children_order-returns-then-is_ne-clause-order : goal.children_order-returns
 children_order-returns-then-is_ne-clause-order t c = λ form other_form ps qs h k.
     next_children form other_form _ c.args.after (ordering_then (slice_cmp part_cmp ps qs) c.args.after) _ _ _ _ _ _ (λ xs i. rw c.in-Some.is at (c.in_ok-child.ensures.takes form xs i))
     (λ xs i. rw c.in-Some-2.is at (c.in_ok-other.ensures.takes other_form xs i)) (c.loop-child.invariant.left form other_form ps qs h k)
-    (λ p q xs ys left right keyed stored keyed' stored' both. 
+    (λ p q xs ys left right keyed stored keyed' stored' both.
     decided form other_form _ _ (ordering_then (slice_cmp part_cmp xs ys) c.args.after) _ (sym c.is_ne.ensures ∙ c.if-is_ne.true)
     (c.in_ok-order.ensures.order form other_form p q _ _ keyed stored keyed' stored' both))
 
@@ -79,8 +79,8 @@ children_order-loop-child-preserved t c =
       size = c.in_ok-order.ensures.size (level_room c.args.found) (within smaller.size c.loop-child.invariant.room) c.loop-child.invariant.size;
       left = λ form other_form ps qs h k.
           next_children form other_form _ c.args.after (ordering_then (slice_cmp part_cmp ps qs) c.args.after) _ _ _ _ _ _ (λ xs i. rw c.in-Some.is at (c.in_ok-child.ensures.takes form xs i))
-    (λ xs i. rw c.in-Some-2.is at (c.in_ok-other.ensures.takes other_form xs i)) (c.loop-child.invariant.left form other_form ps qs h k)
-    (λ p q xs ys left right keyed stored keyed' stored' both. 
+          (λ xs i. rw c.in-Some-2.is at (c.in_ok-other.ensures.takes other_form xs i)) (c.loop-child.invariant.left form other_form ps qs h k)
+          (λ p q xs ys left right keyed stored keyed' stored' both.
           parts_left form _ [] _ xs [] left tt (parts_left other_form _ [] _ ys [] right tt
           (equal_passes form other_form _ _ (ordering_then (slice_cmp part_cmp xs ys) c.args.after) _ (sym c.is_ne.ensures ∙ c.if-is_ne.false)
           (c.in_ok-order.ensures.order form other_form p q _ _ keyed stored keyed' stored' both))));

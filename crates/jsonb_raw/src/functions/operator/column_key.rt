@@ -1,13 +1,14 @@
 //! Composite keys: the sortable key of one value after another, each of which may be missing.
 
-ghost use Rattle.std.specs.Prelude.{◌≡◌, ◌++◌, ◌+◌, ◌≤◌, [], None, Some, IsOk, IfErr, IfSome, IsSomeAnd, MatchResult, OnOk, vec_len, vec_capacity};
+ghost use Rattle.std.specs.Prelude.{◌≡◌, ◌++◌, ◌+◌, ◌≤◌, [], List, Option, flat_map, None, Some, IsOk, IfErr, IfSome, IsSomeAnd, MatchResult, OnOk, vec_len, vec_capacity};
 ghost use Rattle.std.specs.Int.{w8, w16, byte_len};
+ghost use Rattle.std.specs.List.{AllByRecursion};
 ghost use Rattle.jsonb_doc.specs.Tree.{Tree};
 ghost use Rattle.jsonb_doc.specs.Payload.{Form};
 ghost use Rattle.jsonb_doc.specs.Format.{Decodes};
 ghost use Rattle.jsonb_doc.specs.Answer.{IsOutOfMemory, IsDecodingError, ◌or◌};
 ghost use Rattle.jsonb_doc.specs.declared.error.Error.TheVariants.{OutOfMemory, TooDeep};
-ghost use Rattle.jsonb_raw.specs.CompositeKeys.{column_key, AppendsColumn};
+ghost use Rattle.jsonb_raw.specs.CompositeKeys.{column_key, AppendsColumn, AreColumns, GivesCompositeKey};
 ghost use Rattle.jsonb_raw.specs.Roots.{HasRoot};
 ghost use Rattle.jsonb_raw.specs.Documents.{raw_bytes};
 ghost use Rattle.jsonb_raw.specs.Private.KeyWidth.{width_of};
@@ -34,7 +35,7 @@ use std::alloc::Global;
 ///
 /// # Examples
 ///
-/// ```rust crates/jsonb_examples/src/index.rt
+/// ```rust crates/jsonb_examples/src/calls.rt
 /// let value = document.select_first_by_path(alloc, path)?;
 /// push_column_key(alloc, key, value.as_ref().map(|it| it.as_raw()))
 /// ```
@@ -90,6 +91,85 @@ pub fn push_column_key_wide(
     ensures errors { IfErr result (IsDecodingError or OutOfMemory or TooDeep) }
 {
     push_column(alloc, key, column, DepthWidth::TwoBytes)
+}
+
+/// Returns the composite key of values: the sortable key of each, or the bytes `00 00` if it is missing.
+///
+/// Such keys compare as the lists of the values do, if these contain no extension value. A missing value sorts before
+/// every other.
+///
+/// # Errors
+///
+/// `TooDeep` if and only if an item is deeper than 255, and allocation errors.
+///
+/// # Complexity
+///
+/// O(n) of all documents. Allocates.
+///
+/// # Examples
+///
+/// ```rust crates/jsonb_examples/src/index.rt
+/// let values = [
+///     first.as_ref().map(|it| it.as_raw()),
+///     second.as_ref().map(|it| it.as_raw()),
+/// ];
+/// let key = composite_key(alloc, &values)?;
+/// ```
+pub fn composite_key(alloc: Global, columns: &[Option<RawJsonb<'_>>]) -> Result<Vec<u8>, Error>
+    ensures key { (form : Form) (values : List (Option Tree)) → AreColumns form columns.now values
+        → GivesCompositeKey w8 values result (λ key. key.items ≡ flat_map (column_key w8) values) }
+    ensures reads { OnOk result
+        (AllByRecursion (λ column. IfSome column (λ raw. HasRoot (raw_bytes raw))) columns.now) }
+    ensures errors { IfErr result (IsDecodingError or OutOfMemory or TooDeep) }
+{
+    key_of_columns(alloc, columns, DepthWidth::OneByte)
+}
+
+/// Returns the wide composite key of values: the wide sortable key of each, or the bytes `00 00 00` if it is missing.
+///
+/// It is not comparable with keys of `composite_key`.
+///
+/// # Errors
+///
+/// `TooDeep` if and only if an item is deeper than 65,535, and allocation errors.
+///
+/// # Complexity
+///
+/// O(n) of all documents. Allocates.
+///
+/// # Examples
+///
+/// ```rust crates/jsonb_examples/src/calls.rt
+/// Ok(composite_key_wide(alloc, row)? < composite_key_wide(alloc, other)?)
+/// ```
+pub fn composite_key_wide(alloc: Global, columns: &[Option<RawJsonb<'_>>]) -> Result<Vec<u8>, Error>
+    ensures key { (form : Form) (values : List (Option Tree)) → AreColumns form columns.now values
+        → GivesCompositeKey w16 values result (λ key. key.items ≡ flat_map (column_key w16) values) }
+    ensures reads { OnOk result
+        (AllByRecursion (λ column. IfSome column (λ raw. HasRoot (raw_bytes raw))) columns.now) }
+    ensures errors { IfErr result (IsDecodingError or OutOfMemory or TooDeep) }
+{
+    key_of_columns(alloc, columns, DepthWidth::TwoBytes)
+}
+
+/// Returns the composite key of values, with depths of this width.
+fn key_of_columns(
+    alloc: Global,
+    columns: &[Option<RawJsonb<'_>>],
+    width: DepthWidth,
+) -> Result<Vec<u8>, Error>
+    ensures key { (form : Form) (values : List (Option Tree)) → AreColumns form columns.now values
+        → GivesCompositeKey (width_of width) values result
+        (λ key. key.items ≡ flat_map (column_key (width_of width)) values) }
+    ensures reads { OnOk result
+        (AllByRecursion (λ column. IfSome column (λ raw. HasRoot (raw_bytes raw))) columns.now) }
+    ensures errors { IfErr result (IsDecodingError or OutOfMemory or TooDeep) }
+{
+    let mut key = Vec::new(alloc);
+    for column in columns {
+        push_column(alloc, &mut key, *column, width)?;
+    }
+    Ok(key)
 }
 
 /// Appends the key of a value, or that of a missing value, with depths of this width.

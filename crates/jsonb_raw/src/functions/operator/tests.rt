@@ -1,6 +1,8 @@
 //! Keys of deep documents, keys into a vector that is used again, and composite keys.
 
-use crate::functions::operator::{push_column_key, push_column_key_wide};
+use crate::functions::operator::{
+    composite_key, composite_key_wide, push_column_key, push_column_key_wide,
+};
 use crate::raw::RawJsonb;
 use crate::tests::documents::{
     ALONE, DATE, EMPTY_ARRAY, EMPTY_OBJECT, FLOAT, NULL, NULLS, ONE_ELEMENT, nested,
@@ -96,15 +98,17 @@ fn has_column_keys(
 ) -> Result<bool, Error> {
     let mut key = Vec::new(alloc);
     let mut wide_key = Vec::new(alloc);
+    let mut values = Vec::new(alloc);
     for column in columns {
-        push_column_key(alloc, &mut key, column.map(|bytes| RawJsonb::new(bytes)))?;
-        push_column_key_wide(
-            alloc,
-            &mut wide_key,
-            column.map(|bytes| RawJsonb::new(bytes)),
-        )?;
+        let value = column.map(|bytes| RawJsonb::new(bytes));
+        push_column_key(alloc, &mut key, value)?;
+        push_column_key_wide(alloc, &mut wide_key, value)?;
+        values.push(value)?;
     }
-    Ok(key.as_slice() == narrow && wide_key.as_slice() == wide)
+    let whole = composite_key(alloc, &values)?;
+    let wide_whole = composite_key_wide(alloc, &values)?;
+    let is_narrow = key.as_slice() == narrow && whole.as_slice() == narrow;
+    Ok(is_narrow && wide_key.as_slice() == wide && wide_whole.as_slice() == wide)
 }
 
 #[test]
@@ -114,6 +118,8 @@ fn composite_keys(rt: HostRuntime) {
         assert!(rt; is_so == Ok(true), "{columns:?}");
     }
     let mut key = Vec::new(rt.alloc());
+    let float = composite_key(rt.alloc(), &[None, Some(RawJsonb::new(FLOAT))]);
+    assert!(rt; float.err() == Some(Error::UnsupportedNumber));
     let float = push_column_key(rt.alloc(), &mut key, Some(RawJsonb::new(FLOAT)));
     assert!(rt; float == Err(Error::UnsupportedNumber));
     assert!(rt; key.is_empty());
