@@ -35,6 +35,7 @@ pub mod InsertEntries
 pub mod InStep
 pub mod KeysCounted
 pub mod SetKept
+pub mod ElementsSeen
 pub mod SetLawProofs
 pub mod LeafWalk
 pub mod LeafAnswers

@@ -1,5 +1,5 @@
 -- What the loops of the set functions keep true.
-use Rattle.std.proofs.Common.{ap₂, nat_lt, not, ℕ, ◌≡◌, ◌+◌, ◌<◌, ◌^◌, suc, Bool, true, false, ◌||◌, cond, List, [], ◌∷◌, ◌++◌, length, map, filter, Option, Some, None, inl, inr, refl, sym, ap, subst, ◌∙◌, append_assoc, append-nil, arith}
+use Rattle.std.proofs.Common.{Bor, ap₂, nat_lt, not, ℕ, ◌≡◌, ◌+◌, ◌<◌, ◌^◌, suc, Bool, true, false, ◌||◌, cond, List, [], ◌∷◌, ◌++◌, length, map, filter, Option, Some, None, inl, inr, refl, sym, ap, subst, ◌∙◌, append_assoc, append-nil, arith}
 use Rattle.std.specs.List.{AllByRecursion, list_any}
 use Rattle.jsonb_doc.specs.Tree.{Tree, array, object, Trees, no_trees, tree, elements, count, trees_of}
 use Rattle.jsonb_doc.specs.Payload.{Form, canonical}
@@ -9,6 +9,9 @@ use Rattle.jsonb_doc.specs.Limits.{Fits, AreInRange, IsShort, HasShortParts, Has
 use Rattle.jsonb_doc.specs.Answer.{IsOutOfMemoryOrTooLarge}
 use Rattle.jsonb_doc.specs.ArrayBuilder.{Parts, no_parts, HoldsElements}
 use Rattle.jsonb_doc.specs.Elements.{HasElementsLeft}
+use Rattle.jsonb_doc.specs.Item.{StandsFor}
+use Rattle.jsonb_doc.specs.declared.item.Item.{Item}
+use Rattle.jsonb_doc.specs.declared.item.Item.TheVariants as item
 use Rattle.jsonb_doc.proofs.ElementsLemmas.{IsElementsOf}
 use Rattle.jsonb_doc.specs.declared.element_iter.ElementIter.{ElementIter}
 use Rattle.jsonb_doc.specs.declared.error.Error.{Error}
@@ -18,10 +21,11 @@ use Rattle.jsonb_doc.specs.Equal.{is_equal}
 use Rattle.jsonb_doc.specs.Proofs.Equality.{is_equal_equiv}
 use Rattle.std.proofs.lemmas.List.Sums.{sum_by-cons}
 use Rattle.jsonb_raw.specs.Sets.{Occurrence, occurrences, overlap, count_of, intersection_of, difference_of}
-use Rattle.jsonb_raw.specs.Private.SetCounts.{keeps, kept_one, CountsAfter}
+use Rattle.jsonb_raw.specs.Private.SetCounts.{keeps, kept_one, CountsAfter, HaveSeen}
 use Rattle.jsonb_raw.specs.Private.Entries.{HoldTrees, AreElementsOf, RunsHold, IsFirst, TakesFirst, Holding}
 use Rattle.jsonb_doc.specs.declared.cursor.Entries.{Entries}
 use Rattle.jsonb_raw.specs.declared.functions.array.counts.KeyCounts.{KeyCounts}
+use Rattle.jsonb_raw.specs.declared.functions.array.seen.Seen.{Seen}
 use Rattle.jsonb_raw.specs.declared.functions.array.sets.SetOperation.{SetOperation}
 use Rattle.jsonb_raw.proofs.RunLemmas.{holding_begun, holding_kept, holding_again}
 
@@ -70,6 +74,12 @@ no_array form t h = refl
 pub no_array_entries : (form : Form) (t : Tree) (found : Option Entries) → found ≡ None → AreElementsOf form t found → as_elements t ≡ t ∷ []
 no_array_entries form (array ts) found is h = absurd (rw is at h)
 no_array_entries form _ found is h = refl
+
+-- an item that is not an array counts as one element
+pub lone_item : (form : Form) (x : Item) (t : Tree) → StandsFor form x t → ((b : Bor (List ℕ)) → x ≡ item.Array b → ⊥) → as_elements t ≡ t ∷ []
+lone_item form (item.Array b) t stands not_array = absurd (not_array b refl)
+lone_item form (item.Object b) t stands not_array = rw stands.1 refl
+lone_item form _ t stands not_array = rw stands refl
 
 pub or_false : (b : Bool) → (b || false) ≡ b
 or_false true = refl
@@ -183,33 +193,29 @@ kept_out kind other before t left is = rw is refl
 
 -- The runs, and the run that is open, hold what is kept so far; followed by what is kept of the elements that are left,
 -- it is the whole.
-pub record KeptRuns (form : Form) (kind : SetOperation) (m : KeyCounts) (other : List Tree) (runs : List Entries) (run left : Entries)
+pub record KeptRuns (form : Form) (kind : SetOperation) (seen : Seen) (other : List Tree) (runs : List Entries) (run left : Entries)
     (whole : List Tree) : Type 0 where
   pub before : List Tree
   pub held : List Tree
   pub rest : List Tree
-  pub few : length before + length rest < 2 ^ 63
-  pub fit : AllByRecursion Fits rest
-  pub behind : CountsAfter kind m other before
+  pub behind : HaveSeen form kind seen other before rest
   pub holds : Holding form runs run left held rest
   pub joined : held ++ kept_behind kind other before rest ≡ whole
 
-pub KeptRuns-all : (form : Form) (kind : SetOperation) (m : KeyCounts) (other : List Tree) (runs : List Entries) (entries : Entries) (ts : List Tree) → runs ≡ []
-    → HoldTrees form entries ts → AllByRecursion Fits ts → length ts < 2 ^ 63 → CountsAfter kind m other []
-    → KeptRuns form kind m other runs entries entries (kept_behind kind other [] ts)
-KeptRuns-all form kind m other runs entries ts is h fit few behind = record {
+pub KeptRuns-all : (form : Form) (kind : SetOperation) (seen : Seen) (other : List Tree) (runs : List Entries) (entries : Entries) (ts : List Tree) → runs ≡ []
+    → HoldTrees form entries ts → HaveSeen form kind seen other [] ts
+    → KeptRuns form kind seen other runs entries entries (kept_behind kind other [] ts)
+KeptRuns-all form kind seen other runs entries ts is h behind = record {
   before = [];
   held = [];
   rest = ts;
-  few = omega arith;
-  fit = fit;
   behind = behind;
   holds = rw is (holding_begun form entries ts h);
   joined = refl;
 }
 
-module _ (form : Form) (kind : SetOperation) (m : KeyCounts) (other : List Tree) (runs : List Entries) (run left : Entries) (whole : List Tree)
-    (h : KeptRuns form kind m other runs run left whole) where
+module _ (form : Form) (kind : SetOperation) (seen : Seen) (other : List Tree) (runs : List Entries) (run left : Entries) (whole : List Tree)
+    (h : KeptRuns form kind seen other runs run left whole) where
   pub KeptRuns-left : HoldTrees form left h.rest
   KeptRuns-left = h.holds.left_hold
 
@@ -220,8 +226,8 @@ module _ (form : Form) (kind : SetOperation) (m : KeyCounts) (other : List Tree)
       go [] j g = sym (append-nil h.held) ∙ j
       go (t ∷ ts) j g = absurd g
 
-module _ (form : Form) (kind : SetOperation) (m : KeyCounts) (other : List Tree) (runs : List Entries) (run left : Entries) (whole : List Tree)
-    (h : KeptRuns form kind m other runs run left whole) (entry : StoredEntry) (after_it : Entries)
+module _ (form : Form) (kind : SetOperation) (seen : Seen) (other : List Tree) (runs : List Entries) (run left : Entries) (whole : List Tree)
+    (h : KeptRuns form kind seen other runs run left whole) (entry : StoredEntry) (after_it : Entries)
     (mine : TakesFirst form left h.rest (Some (entry, after_it))) where
   -- the element that is next
   pub record Next : Type 0 where
@@ -229,43 +235,35 @@ module _ (form : Form) (kind : SetOperation) (m : KeyCounts) (other : List Tree)
     pub ts : List Tree
     pub first_is : IsFirst form left t ts (kind_number entry.kind) entry.content.now after_it
     pub opened : Holding form runs run left h.held (t ∷ ts)
-    pub few : length h.before + length (t ∷ ts) < 2 ^ 63
-    pub fit : AllByRecursion Fits (t ∷ ts)
+    pub behind : HaveSeen form kind seen other h.before (t ∷ ts)
     pub whole_is : h.held ++ kept_behind kind other h.before (t ∷ ts) ≡ whole
 
   pub next_of : Next
-  next_of = go h.rest h.holds h.few h.fit h.joined mine
+  next_of = go h.rest h.holds h.behind h.joined mine
     where
-      go : (ts : List Tree) → Holding form runs run left h.held ts → length h.before + length ts < 2 ^ 63 → AllByRecursion Fits ts
+      go : (ts : List Tree) → Holding form runs run left h.held ts → HaveSeen form kind seen other h.before ts
           → h.held ++ kept_behind kind other h.before ts ≡ whole → TakesFirst form left ts (Some (entry, after_it)) → Next
-      go [] o few fit j g = absurd g
-      go (t ∷ ts) o few fit j g = record { t = t; ts = ts; first_is = g; opened = o; few = few; fit = fit; whole_is = j }
+      go [] o b j g = absurd g
+      go (t ∷ ts) o b j g = record { t = t; ts = ts; first_is = g; opened = o; behind = b; whole_is = j }
 
-  pub next_few : (n : Next) → length h.before < 2 ^ 63
-  next_few n = let few : length h.before + length (n.t ∷ n.ts) < 2 ^ 63 = n.few in omega arith
-
-  pub KeptRuns-kept : (n : Next) (after : KeyCounts) → keeps kind other (h.before, n.t) ≡ true → CountsAfter kind after other (n.t ∷ h.before)
+  pub KeptRuns-kept : (n : Next) (after : Seen) → keeps kind other (h.before, n.t) ≡ true → HaveSeen form kind after other (n.t ∷ h.before) n.ts
       → KeptRuns form kind after other runs run after_it whole
   KeptRuns-kept n after is behind = record {
     before = n.t ∷ h.before;
     held = h.held ++ n.t ∷ [];
     rest = n.ts;
-    few = let few : length h.before + length (n.t ∷ n.ts) < 2 ^ 63 = n.few in omega arith;
-    fit = n.fit.1;
     behind = behind;
     holds = holding_kept form runs run left after_it h.held n.ts n.t (kind_number entry.kind) entry.content.now n.opened n.first_is;
     joined = append_assoc h.held (n.t ∷ []) (kept_behind kind other (n.t ∷ h.before) n.ts)
         ∙ ap (λ (l : List Tree). h.held ++ l) (sym (kept_in kind other h.before n.t n.ts is)) ∙ n.whole_is;
   }
 
-  pub KeptRuns-dropped : (n : Next) (after : KeyCounts) (runs' : List Entries) → RunsHold form runs' h.held → keeps kind other (h.before, n.t) ≡ false
-      → CountsAfter kind after other (n.t ∷ h.before) → KeptRuns form kind after other runs' after_it after_it whole
+  pub KeptRuns-dropped : (n : Next) (after : Seen) (runs' : List Entries) → RunsHold form runs' h.held → keeps kind other (h.before, n.t) ≡ false
+      → HaveSeen form kind after other (n.t ∷ h.before) n.ts → KeptRuns form kind after other runs' after_it after_it whole
   KeptRuns-dropped n after runs' pushed is behind = record {
     before = n.t ∷ h.before;
     held = h.held;
     rest = n.ts;
-    few = let few : length h.before + length (n.t ∷ n.ts) < 2 ^ 63 = n.few in omega arith;
-    fit = n.fit.1;
     behind = behind;
     holds = holding_again form runs' after_it h.held n.ts pushed n.first_is.others_hold;
     joined = ap (λ (l : List Tree). h.held ++ l) (sym (kept_out kind other h.before n.t n.ts is)) ∙ n.whole_is;

@@ -1,5 +1,5 @@
 -- How often the equality keys of elements are counted while an array is gone over.
-use Rattle.std.specs.Prelude.{◌≡◌, ℕ, ◌-◌, Bool, not, cond, if◌then◌else◌, List, [], ◌∷◌, Vec, unwrap_or, count_by}
+use Rattle.std.specs.Prelude.{◌≡◌, ℕ, ◌+◌, ◌-◌, ◌<◌, ◌^◌, length, Bool, not, cond, if◌then◌else◌, List, [], ◌∷◌, Vec, unwrap_or, count_by}
 use Rattle.std.specs.Ordering.{nat_cmp}
 use Rattle.std.specs.List.{AllByRecursion}
 use Rattle.std.specs.declared.cmp.Ordering.{Ordering}
@@ -8,10 +8,15 @@ use Rattle.std.specs.Cmp.Lexicographic.{slice_cmp}
 use Rattle.std.specs.Str.{bytes_eq}
 use Rattle.std.specs.BTreeMap as map
 use Rattle.jsonb_doc.specs.Tree.{Tree}
+use Rattle.jsonb_doc.specs.Payload.{Form}
 use Rattle.jsonb_doc.specs.Limits.{Fits}
 use Rattle.jsonb_raw.specs.EqualityKey.{equality_key}
 use Rattle.jsonb_raw.specs.Sets.{Occurrence, is_first, is_shared}
+use Rattle.jsonb_raw.specs.Private.Entries.{HoldTrees}
 use Rattle.jsonb_raw.specs.declared.functions.array.counts.KeyCounts.{KeyCounts}
+use Rattle.jsonb_raw.specs.declared.functions.array.seen.ElementsPassed.{ElementsPassed}
+use Rattle.jsonb_raw.specs.declared.functions.array.seen.Seen.{Seen}
+use Rattle.jsonb_raw.specs.declared.functions.array.seen.Seen.TheVariants.{Keys, Elements}
 use Rattle.jsonb_raw.specs.declared.functions.array.sets.SetOperation.{SetOperation}
 use Rattle.jsonb_raw.specs.declared.functions.array.sets.SetOperation.TheVariants.{First, Shared, Unshared}
 
@@ -57,3 +62,29 @@ pub record CountsAfter (kind : SetOperation) (m : KeyCounts) (other before : Lis
   pub counts : (key : Vec ℕ Global) → counted m key ≡ count_behind kind other before key
   pub fit_other : AllByRecursion Fits other
   pub fit_before : AllByRecursion Fits before
+
+-- ---- elements passed
+
+-- The elements `before`, the last of them first, in their order, and then the others.
+abbrev pub in_order : List Tree → List Tree → List Tree
+in_order [] rest = rest
+in_order (t ∷ before) rest = in_order before (t ∷ rest)
+
+-- Holds if the counts are those after the elements `before`, while `rest` remain.
+abbrev pub AreCounted : SetOperation → KeyCounts → List Tree → List Tree → List Tree → Type 0
+AreCounted kind counts other before rest =
+    CountsAfter kind counts other before × AllByRecursion Fits rest × (length before + length rest < 2 ^ 63)
+
+-- Holds if the entries are those of all elements and of the other list, and the elements `before` are passed, while
+-- `rest` remain.
+pub record ArePassed (form : Form) (elements : ElementsPassed) (other before rest : List Tree) : Type 0 where
+  pub other_form : Form
+  pub all_hold : HoldTrees form elements.all (in_order before rest)
+  pub others_hold : HoldTrees other_form elements.others other
+  pub passed_is : elements.passed ≡ length before
+  pub few : length before + length rest < 2 ^ 63
+
+-- Holds if one of the two does.
+abbrev pub HaveSeen : Form → SetOperation → Seen → List Tree → List Tree → List Tree → Type 0
+HaveSeen form kind (Keys keys) other before rest = AreCounted kind keys.counts other before rest
+HaveSeen form kind (Elements elements) other before rest = ArePassed form elements other before rest

@@ -19,6 +19,7 @@ ghost use Rattle.jsonb_raw.specs.Arrays.{array_length, array_values, array_inser
 mod counts;
 pub(crate) mod hashes;
 mod overlap;
+mod seen;
 mod sets;
 
 use crate::functions::entries::{element_entries, entry_count, entry_document};

@@ -18,10 +18,11 @@ ghost use Rattle.jsonb_raw.specs.EqualityKey.{equality_key};
 ghost use Rattle.jsonb_raw.specs.Arrays.{as_elements};
 ghost use Rattle.jsonb_raw.specs.Sets.{select_occurrences, distinct, intersection_of, difference_of, overlap};
 ghost use Rattle.jsonb_raw.specs.Private.Entries.{HoldTrees};
-ghost use Rattle.jsonb_raw.specs.Private.SetCounts.{CountsKeys, CountsAfter, keeps, kept_one};
+ghost use Rattle.jsonb_raw.specs.Private.SetCounts.{CountsKeys, CountsAfter, HaveSeen, keeps, kept_one};
 
 use super::counts::KeyCounts;
 use super::overlap::entries_overlap;
+use super::seen::{ElementsPassed, KeysCounted, Seen, few_elements};
 use crate::equal_items::items_equal;
 use crate::equality_key::{item_key, write_entry_key};
 use crate::functions::entries::element_entries;
@@ -35,7 +36,7 @@ use std::alloc::Global;
 
 /// Which occurrences of elements of an array are kept, and what the counts mean.
 #[derive(Clone, Copy)]
-enum SetOperation {
+pub(super) enum SetOperation {
     /// The first of each group of equal elements. The counts are those of the elements visited so far.
     First,
     /// Those that another array has too, as often as it does. The counts are those of its elements that remain.
@@ -45,7 +46,7 @@ enum SetOperation {
 }
 
 /// Returns `true` if an element with this key is kept, and updates the counts for the elements after it.
-fn keep_element(
+pub(super) fn keep_element(
     alloc: Global,
     kind: SetOperation,
     counts: &mut KeyCounts,
@@ -70,21 +71,19 @@ fn keep_element(
 fn kept_elements(
     alloc: Global,
     kind: SetOperation,
-    mut counts: KeyCounts,
+    mut seen: Seen<'_>,
     entries: Entries<'_>,
 ) -> Result<OwnedJsonb, Error>
     ensures made { (form : Form) (other ts : List Tree) → HoldTrees form entries.entry ts
-        → AllByRecursion Fits ts → length ts < 2 ^ 63 → CountsAfter kind counts other []
+        → HaveSeen form kind seen.entry other [] ts
         → Makes form (array (trees_of (select_occurrences (keeps kind other) ts))) result }
     ensures errors { IfErr result (IsDecodingError or OutOfMemory or TooLarge) }
 {
-    let mut key = Vec::new(alloc);
     let mut runs = Vec::new(alloc);
     let mut run = entries;
     let mut left = entries;
     while let Some((entry, others)) = left.first()? {
-        write_entry_key(alloc, &mut key, &entry)?;
-        if !keep_element(alloc, kind, &mut counts, &key)? {
+        if !seen.keep_next(alloc, kind, &entry)? {
             push_run(&mut runs, run, left)?;
             run = others;
         }
@@ -150,7 +149,11 @@ fn kept_of_document(
     ensures errors { IfErr result (IsDecodingError or OutOfMemory or TooLarge) }
 {
     match element_entries(bytes)? {
-        Some(entries) => kept_elements(alloc, kind, counts, entries),
+        Some(entries) => {
+            let key = Vec::new(alloc);
+            let seen = Seen::Keys(KeysCounted { counts, key });
+            kept_elements(alloc, kind, seen, entries)
+        }
         None => kept_item(alloc, kind, counts, &root_item(bytes)?),
     }
 }
@@ -196,33 +199,70 @@ fn count_document(alloc: Global, bytes: &[u8]) -> Result<KeyCounts, Error>
     }
 }
 
-/// Returns the root of a document if it is a scalar.
-fn scalar_root(bytes: &[u8]) -> Result<Option<Item<'_>>, Error>
+/// Returns the counts before the first element: those of the other document's elements, if the operation needs them.
+fn counts_before(alloc: Global, kind: SetOperation, others: &[u8]) -> Result<KeyCounts, Error>
+    ensures counts { (form : Form) (t : Tree) → Decodes form others.now t
+        → MatchResult result (λ m. CountsAfter kind m (as_elements t) []) IsOutOfMemory }
+    ensures errors { IfErr result (IsDecodingError or OutOfMemory) }
+{
+    match kind {
+        SetOperation::First => Ok(KeyCounts::new(alloc)),
+        _ => count_document(alloc, others),
+    }
+}
+
+/// Returns the array of the elements of a document that are kept, compared with those of another one. A root that is not an
+/// array counts as one element.
+fn kept_beside(
+    alloc: Global,
+    kind: SetOperation,
+    bytes: &[u8],
+    others: &[u8],
+) -> Result<OwnedJsonb, Error>
+    ensures made { (form other_form : Form) (t u : Tree) → Decodes form bytes.now t
+        → Decodes other_form others.now u
+        → Makes form (array (trees_of (select_occurrences (keeps kind (as_elements u)) (as_elements t)))) result }
+    ensures errors { IfErr result (IsDecodingError or OutOfMemory or TooLarge) }
+{
+    if let Some((entries, few)) = few_elements(bytes, others)? {
+        let seen = Seen::Elements(ElementsPassed {
+            all: entries,
+            passed: 0,
+            others: few,
+        });
+        return kept_elements(alloc, kind, seen, entries);
+    }
+    let counts = counts_before(alloc, kind, others)?;
+    kept_of_document(alloc, kind, counts, bytes)
+}
+
+/// Returns the root of a document if it is not an array.
+fn lone_root(bytes: &[u8]) -> Result<Option<Item<'_>>, Error>
     ensures item { (form : Form) (t : Tree) → Decodes form bytes.now t
         → IsOkAnd result (λ found. IfSome found (λ item. StandsFor form item t × (as_elements t ≡ t ∷ []))) }
     ensures errors { IfErr result IsDecodingError }
 {
     match root_item(bytes)? {
-        Item::Array(_) | Item::Object(_) => Ok(None),
+        Item::Array(_) => Ok(None),
         item => Ok(Some(item)),
     }
 }
 
-/// Returns whether two scalars are equal by value, or `None` if one of the documents is not a scalar.
+/// Returns whether two roots are equal by value, or `None` if one of them is an array.
 ///
-/// Two scalars are compared without keys and counts, whose allocations take most of the instructions of the set
-/// functions on them.
-fn scalars_equal(bytes: &[u8], other: &[u8]) -> Result<Option<bool>, Error>
+/// Two roots that are not arrays are compared without keys and counts, whose allocations take most of the instructions
+/// of the set functions on them.
+fn lone_roots_equal(bytes: &[u8], other: &[u8]) -> Result<Option<bool>, Error>
     ensures equal { (form other_form : Form) (t u : Tree) → Decodes form bytes.now t
         → Decodes other_form other.now u
         → IsOkAnd result (λ found. IfSome found (λ b. (as_elements t ≡ t ∷ []) × (as_elements u ≡ u ∷ [])
         × (b ≡ is_equal u t))) }
     ensures errors { IfErr result IsDecodingError }
 {
-    let Some(wanted) = scalar_root(other)? else {
+    let Some(wanted) = lone_root(other)? else {
         return Ok(None);
     };
-    let Some(item) = scalar_root(bytes)? else {
+    let Some(item) = lone_root(bytes)? else {
         return Ok(None);
     };
     Ok(Some(items_equal(&wanted, &item)?))
@@ -300,9 +340,9 @@ impl RawJsonb<'_> {
         ensures errors { IfErr result (IsDecodingError or OutOfMemory or TooLarge) }
     {
         let bytes = self.as_bytes();
-        match scalar_root(bytes)? {
+        match lone_root(bytes)? {
             Some(_) => array_of_root(alloc, bytes, true),
-            None => kept_of_document(alloc, SetOperation::First, KeyCounts::new(alloc), bytes),
+            None => kept_beside(alloc, SetOperation::First, bytes, bytes),
         }
     }
 
@@ -343,11 +383,10 @@ impl RawJsonb<'_> {
         ensures errors { IfErr result (IsDecodingError or OutOfMemory or TooLarge) }
     {
         let (bytes, others) = (self.as_bytes(), other.as_bytes());
-        if let Some(is_shared) = scalars_equal(bytes, others)? {
+        if let Some(is_shared) = lone_roots_equal(bytes, others)? {
             return array_of_root(alloc, bytes, is_shared);
         }
-        let counts = count_document(alloc, others)?;
-        kept_of_document(alloc, SetOperation::Shared, counts, bytes)
+        kept_beside(alloc, SetOperation::Shared, bytes, others)
     }
 
     /// Returns the array of the elements that `array_intersection` drops, in order.
@@ -378,11 +417,10 @@ impl RawJsonb<'_> {
         ensures errors { IfErr result (IsDecodingError or OutOfMemory or TooLarge) }
     {
         let (bytes, others) = (self.as_bytes(), other.as_bytes());
-        if let Some(is_shared) = scalars_equal(bytes, others)? {
+        if let Some(is_shared) = lone_roots_equal(bytes, others)? {
             return array_of_root(alloc, bytes, !is_shared);
         }
-        let counts = count_document(alloc, others)?;
-        kept_of_document(alloc, SetOperation::Unshared, counts, bytes)
+        kept_beside(alloc, SetOperation::Unshared, bytes, others)
     }
 
     /// Returns `true` if an element equals one of the other document by value.

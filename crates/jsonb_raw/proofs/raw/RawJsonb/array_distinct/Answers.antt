@@ -1,13 +1,13 @@
-use Rattle.std.proofs.Common.{[]}
 use Rattle.jsonb_doc.specs.Format.{Decodes}
 use Rattle.jsonb_raw.proofs.raw.RawJsonb.array_distinct.Goals as goal
 
 pub returns-in-Some-clause-distinct : goal.returns-in-Some-clause-distinct
 returns-in-Some-clause-distinct c = λ form t d.
     let d' : Decodes form c.as_bytes-bytes.result.now t = rw c.as_bytes-bytes.ensures d in
-    let one = rw c.in-Some.is at (c.in_ok-scalar_root.ensures.item form t d') in
+    let one = rw c.in-Some.is at (c.in_ok-lone_root.ensures.item form t d') in
     rw one.1 (c.array_of_root.ensures.made form t d')
 
 pub returns-in-None-clause-distinct : goal.returns-in-None-clause-distinct
 returns-in-None-clause-distinct c = λ form t d.
-    c.kept_of_document.ensures.made form [] t (rw c.as_bytes-bytes.ensures d) (record { counts = c.new.ensures; fit_other = tt; fit_before = tt })
+    let d' : Decodes form c.as_bytes-bytes.result.now t = rw c.as_bytes-bytes.ensures d in
+    c.kept_beside.ensures.made form form t t d' d'

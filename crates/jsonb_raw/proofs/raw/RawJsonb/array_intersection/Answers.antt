@@ -1,10 +1,7 @@
-use Rattle.std.proofs.Common.{inl, subst}
-use Rattle.std.proofs.lemmas.Result.{err_from_is_err_and}
+use Rattle.std.proofs.Common.{subst}
 use Rattle.jsonb_doc.specs.Tree.{array, trees_of}
 use Rattle.jsonb_doc.specs.Format.{Decodes}
-use Rattle.jsonb_raw.specs.Arrays.{as_elements}
 use Rattle.jsonb_raw.specs.Documents.{Makes}
-use Rattle.jsonb_raw.proofs.KeysCounted.{shared_begun}
 use Rattle.jsonb_raw.proofs.SetKept.{shared_one}
 use Rattle.jsonb_raw.proofs.raw.RawJsonb.array_intersection.Goals as goal
 
@@ -16,13 +13,6 @@ returns-in-Some-clause-shared c = λ form other_form t u d e.
     rw (one.0, one.1) (subst (λ kept. Makes form (array (trees_of kept)) c.array_of_root.result)
     (shared_one t u c.in-Some.is_shared one.2) (c.array_of_root.ensures.made form t d'))
 
-pub returns-in_err-counts-clause-shared : goal.returns-in_err-counts-clause-shared
-returns-in_err-counts-clause-shared c = λ form other_form t u d e.
-    let p = err_from_is_err_and c.from_residual-in_err-counts.result c.from_residual-in_err-counts.ensures.1 in
-    rw (p.1, p.2) (inl (c.in_err-counts.ensures.counts other_form u (rw c.as_bytes-others.ensures e)))
-
 pub returns-clause-shared : goal.returns-clause-shared
 returns-clause-shared c = λ form other_form t u d e.
-    c.kept_of_document.ensures.made form (as_elements u) t (rw c.as_bytes-bytes.ensures d)
-    (shared_begun c.in_ok-counts.counts (as_elements u) (c.in_ok-counts.ensures.counts other_form u (rw c.as_bytes-others.ensures e))
-    (c.count_document.ensures.fit other_form u (rw c.as_bytes-others.ensures e)))
+    c.kept_beside.ensures.made form other_form t u (rw c.as_bytes-bytes.ensures d) (rw c.as_bytes-others.ensures e)

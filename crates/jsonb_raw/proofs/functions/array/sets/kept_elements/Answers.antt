@@ -3,79 +3,66 @@ use Rattle.std.proofs.lemmas.Result.{err_from_is_err_and}
 use Rattle.jsonb_raw.specs.Sets.{select_occurrences}
 use Rattle.jsonb_raw.specs.Private.Entries.{RunsHold}
 use Rattle.jsonb_raw.specs.Private.SetCounts.{keeps}
-use Rattle.jsonb_raw.proofs.SetKept.{KeptRuns-all, KeptRuns-left, KeptRuns-done, KeptRuns-kept, KeptRuns-dropped, next_of, next_few}
+use Rattle.jsonb_raw.proofs.SetKept.{KeptRuns-all, KeptRuns-left, KeptRuns-done, KeptRuns-kept, KeptRuns-dropped, next_of}
 use Rattle.jsonb_raw.proofs.functions.array.sets.kept_elements.Goals as goal
 
 pub loop-runs-init : goal.loop-runs-init
 loop-runs-init c = record {
-  left = λ form other ts h fit few b.
-      KeptRuns-all form c.args.kind c.args.counts other c.new-runs.result.items c.args.entries ts c.new-runs.ensures.items h fit few b;
+  left = λ form other ts h b.
+      KeptRuns-all form c.args.kind c.args.seen other c.new-runs.result.items c.args.entries ts c.new-runs.ensures.items h b;
 }
 
 pub returns-in_err-entry-clause-made : goal.returns-in_err-entry-clause-made
-returns-in_err-entry-clause-made c = λ form other ts h fit few b.
-    let m = c.loop-runs.invariant.left form other ts h fit few b in
+returns-in_err-entry-clause-made c = λ form other ts h b.
+    let m = c.loop-runs.invariant.left form other ts h b in
     absurd (c.in_err-entry.ensures.first form m.rest (KeptRuns-left form _ _ other _ _ _ _ m))
 
-pub returns-in_err-write_entry_key-clause-made : goal.returns-in_err-write_entry_key-clause-made
-returns-in_err-write_entry_key-clause-made c = λ form other ts h fit few b.
-    let p = err_from_is_err_and c.from_residual-in_err-write_entry_key.result c.from_residual-in_err-write_entry_key.ensures.1 in
-    let m = c.loop-runs.invariant.left form other ts h fit few b in
+pub returns-in_err-keep_next-clause-made : goal.returns-in_err-keep_next-clause-made
+returns-in_err-keep_next-clause-made c = λ form other ts h b.
+    let p = err_from_is_err_and c.from_residual-in_err-keep_next.result c.from_residual-in_err-keep_next.ensures.1 in
+    let m = c.loop-runs.invariant.left form other ts h b in
     let mine = rw c.in-Some.is at (c.in_ok-entry.ensures.first form m.rest (KeptRuns-left form _ _ other _ _ _ _ m)) in
     let n = next_of form _ _ other _ _ _ _ m _ _ mine in
-    rw (p.1, p.2) (inl (c.in_err-write_entry_key.ensures.key form n.t (record { content = n.first_is.part })))
-
-pub returns-in_err-keep_element-clause-made : goal.returns-in_err-keep_element-clause-made
-returns-in_err-keep_element-clause-made c = λ form other ts h fit few b.
-    let p = err_from_is_err_and c.from_residual-in_err-keep_element.result c.from_residual-in_err-keep_element.ensures.1 in
-    let m = c.loop-runs.invariant.left form other ts h fit few b in
-    let mine = rw c.in-Some.is at (c.in_ok-entry.ensures.first form m.rest (KeptRuns-left form _ _ other _ _ _ _ m)) in
-    let n = next_of form _ _ other _ _ _ _ m _ _ mine in
-    let key = c.in_ok-write_entry_key.ensures.key form n.t (record { content = n.first_is.part }) in
-    rw (p.1, p.2) (inl (c.in_err-keep_element.ensures.kept other m.before n.t m.behind n.fit.0 key (next_few form _ _ other _ _ _ _ m _ _ mine n)))
+    rw (p.1, p.2) (inl (c.in_err-keep_next.ensures.kept form other m.before n.ts n.t n.behind (record { content = n.first_is.part })))
 
 pub returns-in_err-push_run-clause-made : goal.returns-in_err-push_run-clause-made
-returns-in_err-push_run-clause-made c = λ form other ts h fit few b.
+returns-in_err-push_run-clause-made c = λ form other ts h b.
     let p = err_from_is_err_and c.from_residual-in_err-push_run.result c.from_residual-in_err-push_run.ensures.1 in
-    let m = c.loop-runs.invariant.left form other ts h fit few b in
+    let m = c.loop-runs.invariant.left form other ts h b in
     rw (p.1, p.2) (inl (c.in_err-push_run.ensures.pushed form m.held m.rest m.holds))
 
 pub loop-runs-preserved-in_ok-push_run : goal.loop-runs-preserved-in_ok-push_run
 loop-runs-preserved-in_ok-push_run c = record {
-  left = λ form other ts h fit few b.
-      let m = c.loop-runs.invariant.left form other ts h fit few b in
+  left = λ form other ts h b.
+      let m = c.loop-runs.invariant.left form other ts h b in
       let mine = rw c.in-Some.is at (c.in_ok-entry.ensures.first form m.rest (KeptRuns-left form _ _ other _ _ _ _ m)) in
       let n = next_of form _ _ other _ _ _ _ m _ _ mine in
-      let short = next_few form _ _ other _ _ _ _ m _ _ mine n in
-      let key = c.in_ok-write_entry_key.ensures.key form n.t (record { content = n.first_is.part }) in
-      let kept = c.in_ok-keep_element.ensures.kept other m.before n.t m.behind n.fit.0 key short in
-      let behind = c.in_ok-keep_element.ensures.behind other m.before n.t m.behind n.fit.0 key short in
+      let kept = c.in_ok-keep_next.ensures.kept form other m.before n.ts n.t n.behind (record { content = n.first_is.part }) in
+      let behind = c.in_ok-keep_next.ensures.behind form other m.before n.ts n.t n.behind (record { content = n.first_is.part }) in
       KeptRuns-dropped form _ _ other _ _ _ _ m _ _ mine n _ _ (c.in_ok-push_run.ensures.pushed form m.held m.rest m.holds)
       (sym kept ∙ c.if-not-branch.true) behind;
 }
 
 pub loop-runs-preserved : goal.loop-runs-preserved
 loop-runs-preserved c = record {
-  left = λ form other ts h fit few b.
-      let m = c.loop-runs.invariant.left form other ts h fit few b in
+  left = λ form other ts h b.
+      let m = c.loop-runs.invariant.left form other ts h b in
       let mine = rw c.in-Some.is at (c.in_ok-entry.ensures.first form m.rest (KeptRuns-left form _ _ other _ _ _ _ m)) in
       let n = next_of form _ _ other _ _ _ _ m _ _ mine in
-      let short = next_few form _ _ other _ _ _ _ m _ _ mine n in
-      let key = c.in_ok-write_entry_key.ensures.key form n.t (record { content = n.first_is.part }) in
-      let kept = c.in_ok-keep_element.ensures.kept other m.before n.t m.behind n.fit.0 key short in
-      let behind = c.in_ok-keep_element.ensures.behind other m.before n.t m.behind n.fit.0 key short in
+      let kept = c.in_ok-keep_next.ensures.kept form other m.before n.ts n.t n.behind (record { content = n.first_is.part }) in
+      let behind = c.in_ok-keep_next.ensures.behind form other m.before n.ts n.t n.behind (record { content = n.first_is.part }) in
       KeptRuns-kept form _ _ other _ _ _ _ m _ _ mine n _ (sym kept ∙ c.if-not-branch.false) behind;
 }
 
 pub returns-in_err-push_run-2-clause-made : goal.returns-in_err-push_run-2-clause-made
-returns-in_err-push_run-2-clause-made c = λ form other ts h fit few b.
+returns-in_err-push_run-2-clause-made c = λ form other ts h b.
     let p = err_from_is_err_and c.from_residual-in_err-push_run-2.result c.from_residual-in_err-push_run-2.ensures.1 in
-    let m = c.loop-runs.invariant.left form other ts h fit few b in
+    let m = c.loop-runs.invariant.left form other ts h b in
     rw (p.1, p.2) (inl (c.in_err-push_run-2.ensures.pushed form m.held m.rest m.holds))
 
 pub returns-clause-made : goal.returns-clause-made
-returns-clause-made c = λ form other ts h fit few b.
-    let m = c.loop-runs.invariant.left form other ts h fit few b in
+returns-clause-made c = λ form other ts h b.
+    let m = c.loop-runs.invariant.left form other ts h b in
     let none = rw c.in_default.is at (c.in_ok-entry.ensures.first form m.rest (KeptRuns-left form _ _ other _ _ _ _ m)) in
     let whole = KeptRuns-done form _ _ other _ _ _ _ m none in
     let held = c.in_ok-push_run-2.ensures.pushed form m.held m.rest m.holds in

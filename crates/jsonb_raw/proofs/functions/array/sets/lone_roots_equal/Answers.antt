@@ -1,4 +1,4 @@
-use Rattle.jsonb_raw.proofs.functions.array.sets.scalars_equal.Goals as goal
+use Rattle.jsonb_raw.proofs.functions.array.sets.lone_roots_equal.Goals as goal
 
 pub returns-in_err-items_equal-clause-equal : goal.returns-in_err-items_equal-clause-equal
 returns-in_err-items_equal-clause-equal c = λ form other_form t u d e.

@@ -1,0 +1,212 @@
+//! What decides whether the next element of an array is kept in a set operation: counts of equality keys, or the elements
+//! themselves if they are few.
+
+ghost use Rattle.std.specs.Prelude.{◌≡◌, List, nat_lt, take, IsOkAnd, IfSome, IfErr};
+ghost use Rattle.jsonb_doc.specs.Tree.{Tree};
+ghost use Rattle.jsonb_doc.specs.Payload.{Form};
+ghost use Rattle.jsonb_doc.specs.Format.{Decodes};
+ghost use Rattle.jsonb_doc.specs.Private.Stored.{Stores};
+ghost use Rattle.jsonb_doc.specs.Answer.{IsDecodingError};
+ghost use Rattle.jsonb_raw.specs.Arrays.{as_elements};
+ghost use Rattle.jsonb_raw.specs.Sets.{count_of};
+ghost use Rattle.jsonb_raw.specs.Private.Entries.{HoldTrees};
+ghost use Rattle.jsonb_raw.specs.Private.SetCounts.{keeps};
+
+use super::counts::KeyCounts;
+use super::sets::{SetOperation, keep_element};
+use crate::equal_items::stored_equal;
+use crate::equality_key::write_entry_key;
+use crate::functions::entries::element_entries;
+use crate::functions::parts::Entries;
+use jsonb_doc::{Error, StoredEntry};
+use std::alloc::Global;
+
+/// The number of elements of both arrays up to which all pairs are compared. Keys and counts need an allocation for each
+/// element, which takes as many instructions as some 20 comparisons.
+const FEW: usize = 8;
+
+/// How often the key of each element is still counted, and a vector for the next key.
+#[derive(Drop)]
+pub(super) struct KeysCounted {
+    pub(super) counts: KeyCounts,
+    pub(super) key: Vec<u8>,
+}
+
+/// All elements of an array, how many of them are passed, and the elements of another array.
+#[derive(Clone, Copy)]
+pub(super) struct ElementsPassed<'a> {
+    pub(super) all: Entries<'a>,
+    pub(super) passed: usize,
+    pub(super) others: Entries<'a>,
+}
+
+/// What is known of the elements of an array before the next one, and of another array.
+#[derive(Drop)]
+pub(super) enum Seen<'a> {
+    Keys(KeysCounted),
+    Elements(ElementsPassed<'a>),
+}
+
+impl KeysCounted {
+    ghost use Rattle.std.specs.Prelude.{◌≡◌, ◌∷◌, List, IfErr, MatchResult};
+    ghost use Rattle.jsonb_doc.specs.Tree.{Tree};
+    ghost use Rattle.jsonb_doc.specs.Payload.{Form};
+    ghost use Rattle.jsonb_doc.specs.Private.Stored.{Stores};
+    ghost use Rattle.jsonb_doc.specs.Answer.{IsDecodingError, IsOutOfMemory, ◌or◌};
+    ghost use Rattle.jsonb_doc.specs.declared.error.Error.TheVariants.{OutOfMemory};
+    ghost use Rattle.jsonb_raw.specs.Private.SetCounts.{AreCounted, keeps};
+
+    /// Returns `true` if the next element, which this entry stores, is kept, and counts it.
+    fn keep_by_key(
+        &mut self,
+        alloc: Global,
+        kind: SetOperation,
+        entry: &StoredEntry<'_>,
+    ) -> Result<bool, Error>
+        ensures kept { (form : Form) (other before rest : List Tree) (t : Tree)
+            → AreCounted kind self.old.counts other before (t ∷ rest) → Stores form entry.now t
+            → MatchResult result (λ b. b ≡ keeps kind other (before, t)) IsOutOfMemory }
+        ensures behind { (form : Form) (other before rest : List Tree) (t : Tree)
+            → AreCounted kind self.old.counts other before (t ∷ rest) → Stores form entry.now t
+            → MatchResult result (λ _. AreCounted kind self.new.counts other (t ∷ before) rest) IsOutOfMemory }
+        ensures errors { IfErr result (IsDecodingError or OutOfMemory) }
+    {
+        write_entry_key(alloc, &mut self.key, entry)?;
+        keep_element(alloc, kind, &mut self.counts, &self.key)
+    }
+}
+
+impl<'a> ElementsPassed<'a> {
+    ghost use Rattle.std.specs.Prelude.{◌≡◌, ◌∷◌, List, IfErr, IsOkAnd};
+    ghost use Rattle.jsonb_doc.specs.Tree.{Tree};
+    ghost use Rattle.jsonb_doc.specs.Payload.{Form};
+    ghost use Rattle.jsonb_doc.specs.Private.Stored.{Stores};
+    ghost use Rattle.jsonb_doc.specs.Answer.{IsDecodingError};
+    ghost use Rattle.jsonb_raw.specs.Private.SetCounts.{ArePassed, keeps};
+
+    /// Returns `true` if the next element, which this entry stores, is kept, and passes it.
+    fn keep_by_value(&mut self, kind: SetOperation, entry: &StoredEntry<'_>) -> Result<bool, Error>
+        ensures kept { (form : Form) (other before rest : List Tree) (t : Tree)
+            → ArePassed form self.old other before (t ∷ rest) → Stores form entry.now t
+            → IsOkAnd result (λ b. b ≡ keeps kind other (before, t)) }
+        ensures behind { (form : Form) (other before rest : List Tree) (t : Tree)
+            → ArePassed form self.old other before (t ∷ rest) → Stores form entry.now t
+            → IsOkAnd result (λ _. ArePassed form self.new other (t ∷ before) rest) }
+        ensures errors { IfErr result IsDecodingError }
+    {
+        let is_kept = keeps_among(kind, self.all, self.passed, self.others, entry)?;
+        self.passed = self.passed.saturating_add(1);
+        Ok(is_kept)
+    }
+}
+
+impl<'a> Seen<'a> {
+    ghost use Rattle.std.specs.Prelude.{◌≡◌, ◌∷◌, List, IfErr, MatchResult};
+    ghost use Rattle.jsonb_doc.specs.Tree.{Tree};
+    ghost use Rattle.jsonb_doc.specs.Payload.{Form};
+    ghost use Rattle.jsonb_doc.specs.Private.Stored.{Stores};
+    ghost use Rattle.jsonb_doc.specs.Answer.{IsDecodingError, IsOutOfMemory, ◌or◌};
+    ghost use Rattle.jsonb_doc.specs.declared.error.Error.TheVariants.{OutOfMemory};
+    ghost use Rattle.jsonb_raw.specs.Private.SetCounts.{HaveSeen, keeps};
+
+    /// Returns `true` if the next element, which this entry stores, is kept, and passes it.
+    pub(super) fn keep_next(
+        &mut self,
+        alloc: Global,
+        kind: SetOperation,
+        entry: &StoredEntry<'_>,
+    ) -> Result<bool, Error>
+        ensures kept { (form : Form) (other before rest : List Tree) (t : Tree)
+            → HaveSeen form kind self.old other before (t ∷ rest) → Stores form entry.now t
+            → MatchResult result (λ b. b ≡ keeps kind other (before, t)) IsOutOfMemory }
+        ensures behind { (form : Form) (other before rest : List Tree) (t : Tree)
+            → HaveSeen form kind self.old other before (t ∷ rest) → Stores form entry.now t
+            → MatchResult result (λ _. HaveSeen form kind self.new other (t ∷ before) rest) IsOutOfMemory }
+        ensures errors { IfErr result (IsDecodingError or OutOfMemory) }
+    {
+        match self {
+            Seen::Keys(keys) => keys.keep_by_key(alloc, kind, entry),
+            Seen::Elements(elements) => elements.keep_by_value(kind, entry),
+        }
+    }
+}
+
+/// Returns the elements of two arrays if both have few.
+pub(super) fn few_elements<'a>(
+    bytes: &'a [u8],
+    others: &'a [u8],
+) -> Result<Option<(Entries<'a>, Entries<'a>)>, Error>
+    ensures few { (form other_form : Form) (t u : Tree) → Decodes form bytes.now t → Decodes other_form others.now u
+        → IsOkAnd result (λ found. IfSome found (λ both. HoldTrees form both.0 (as_elements t)
+        × HoldTrees other_form both.1 (as_elements u))) }
+    ensures errors { IfErr result IsDecodingError }
+{
+    let Some(entries) = element_entries(bytes)? else {
+        return Ok(None);
+    };
+    let Some(few) = element_entries(others)? else {
+        return Ok(None);
+    };
+    if entries.len() > FEW || few.len() > FEW {
+        return Ok(None);
+    }
+    Ok(Some((entries, few)))
+}
+
+/// Returns whether an element is kept that follows this many of all elements.
+fn keeps_among(
+    kind: SetOperation,
+    all: Entries<'_>,
+    passed: usize,
+    others: Entries<'_>,
+    entry: &StoredEntry<'_>,
+) -> Result<bool, Error>
+    ensures kept { (form other_form : Form) (ts other before : List Tree) (t : Tree) → HoldTrees form all.entry ts
+        → HoldTrees other_form others.entry other → Stores form entry.now t
+        → count_of t (take passed ts) ≡ count_of t before → IsOkAnd result (λ b. b ≡ keeps kind other (before, t)) }
+    ensures errors { IfErr result IsDecodingError }
+{
+    let before = count_equal(all, passed, entry)?;
+    match kind {
+        SetOperation::First => Ok(before == 0),
+        SetOperation::Shared => has_more_than(others, before, entry),
+        SetOperation::Unshared => Ok(!has_more_than(others, before, entry)?),
+    }
+}
+
+/// Returns whether more than `count` of the entries equal an entry by value.
+fn has_more_than(
+    entries: Entries<'_>,
+    count: usize,
+    wanted: &StoredEntry<'_>,
+) -> Result<bool, Error>
+    ensures more { (form other_form : Form) (ts : List Tree) (u : Tree) → HoldTrees form entries.entry ts
+        → Stores other_form wanted.now u → IsOkAnd result (λ b. b ≡ nat_lt count (count_of u ts)) }
+    ensures errors { IfErr result IsDecodingError }
+{
+    let found = count_equal(entries, entries.len(), wanted)?;
+    Ok(count < found)
+}
+
+/// Returns how many of the first `count` entries equal an entry by value.
+fn count_equal(entries: Entries<'_>, count: usize, wanted: &StoredEntry<'_>) -> Result<usize, Error>
+    ensures count { (form other_form : Form) (ts : List Tree) (u : Tree) → HoldTrees form entries.entry ts
+        → Stores other_form wanted.now u → IsOkAnd result (λ n. n ≡ count_of u (take count ts)) }
+    ensures errors { IfErr result IsDecodingError }
+{
+    let short = wanted.short_number();
+    let mut left = entries;
+    let mut more = count;
+    let mut equal = 0;
+    while more > 0 {
+        let Some((entry, others)) = left.first()? else {
+            return Ok(equal);
+        };
+        if stored_equal(&entry, wanted, short)? {
+            equal += 1;
+        }
+        more -= 1;
+        left = others;
+    }
+    Ok(equal)
+}
