@@ -7,14 +7,14 @@ use Rattle.std.specs.Str.{str_eq_ignore_ascii_case}
 use Rattle.jsonb_doc.specs.Tree.{Tree, array, object, Trees, Pairs, elements, trees_of, field_of}
 use Rattle.jsonb_doc.specs.Payload.{Form}
 use Rattle.jsonb_doc.specs.Format.{Decodes}
-use Rattle.jsonb_doc.specs.Shapes.{HasShape}
-use Rattle.jsonb_doc.specs.declared.shape.Shape.{Shape}
-use Rattle.jsonb_doc.specs.declared.shape.Shape.TheVariants as shapes
+use Rattle.jsonb_doc.specs.declared.cursor.Entries.{Entries}
+use Rattle.jsonb_raw.specs.Private.Entries.{AreElementsOf}
+use Rattle.jsonb_raw.proofs.ChildLemmas.{nowhere, first_behind}
 use Rattle.jsonb_doc.specs.Item.{StandsFor}
 use Rattle.jsonb_doc.specs.declared.item.Item.{Item}
 use Rattle.jsonb_doc.specs.declared.item.Item.TheVariants as item
 use Rattle.jsonb_doc.proofs.TreeLists.{trees_of-elements}
-use Rattle.jsonb_raw.specs.Places.{children, index_position}
+use Rattle.jsonb_raw.specs.Places.{index_position}
 use Rattle.jsonb_raw.specs.Scalars.{is_object}
 use Rattle.jsonb_raw.specs.Children.{element_at, named_child, without_index, without_name}
 
@@ -35,9 +35,13 @@ no_names form (item.Array b) t name stands not_array not_object = absurd (not_ar
 no_names form (item.Object b) t name stands not_array not_object = absurd (not_object b refl)
 no_names form _ t name stands not_array not_object = rw stands refl
 
--- the child at a position of an array is its element
-pub child_is_element : (x : Shape) (t : Tree) (i : ℕ) → x ≡ shapes.Array → HasShape x t → slice_get (children t) i ≡ element_at i t
-child_is_element x t i is shape = let s : (ts : Trees) × (t ≡ array ts) = rw is at shape in rw s.1 refl
+-- only an array has elements
+pub no_element : (form : Form) (t : Tree) (found : Option Entries) (i : ℕ) → found ≡ None → AreElementsOf form t found → element_at i t ≡ None
+no_element form (array ts) found i is h = absurd (rw is at h)
+no_element form _ found i is h = refl
+
+pub no_such_element : (ts : List Tree) (i : ℕ) → drop i ts ≡ [] → slice_get ts i ≡ None
+no_such_element ts i none = nowhere (drop i ts) 0 _ none (first_behind ts i)
 
 -- ---- an element less
 

@@ -1,7 +1,6 @@
 -- What the iterator over the spots of children gives, and the children of a list.
-use Rattle.std.proofs.Common.{◌≡◌, ℕ, zero, suc, ◌<◌, ◌-◌, ◌≤◌, ℤ, pos, negsuc, Bool, true, false, nat_lt, if◌then◌else◌, List, [], ◌∷◌, length, drop, Option, Some, None, Result, Ok, Err, IsOkAnd, unwrap_or, refl, arith, slice_get, sym, ap}
-use Rattle.std.specs.Prelude.{option_and_then, unsigned_abs}
-use lib.Signed.{lt_z}
+use Rattle.std.proofs.Common.{◌≡◌, ℕ, zero, suc, ◌<◌, ◌-◌, ◌≤◌, pos, Bool, true, false, nat_lt, if◌then◌else◌, List, [], ◌∷◌, length, drop, Option, Some, None, Result, Ok, Err, IsOkAnd, unwrap_or, refl, arith, slice_get, sym}
+use Rattle.std.specs.Prelude.{option_and_then}
 use Rattle.std.proofs.lemmas.Bool.Decides.{nat_tests}
 use Rattle.jsonb_doc.specs.Tree.{Tree}
 use Rattle.jsonb_doc.specs.Answer.{SameOption}
@@ -93,24 +92,3 @@ from_front ts n = by (nat_lt n (length ts)) refl
         → option_and_then (λ n. slice_get ts n) (if nat_lt n (length ts) then Some n else None) ≡ slice_get ts n
     by true e = rw e refl
     by false e = let h : length ts ≤ n = grind (arith, nat_tests, e) in rw (e, beyond ts n h) refl
-
--- the child that that many others follow, of that many in all
-abbrev pub from_end : List Tree → ℕ → ℕ → Option Tree
-from_end ts len after = option_and_then (λ n. slice_get ts n) (index_position len (negsuc after))
-
-pub none_from_end : (ts : List Tree) (len after : ℕ) → len ≤ after → from_end ts len after ≡ None
-none_from_end ts len after h = let e : nat_lt after len ≡ false = grind (arith, nat_tests) in rw e refl
-
-pub some_from_end : (ts : List Tree) (len after : ℕ) → after < len → from_end ts len after ≡ slice_get ts (len - after - 1)
-some_from_end ts len after h =
-    let e : nat_lt after len ≡ true = grind (arith, nat_tests) in
-    let same : len - suc after ≡ len - after - 1 = omega arith in
-    rw e (ap (slice_get ts) same)
-
-pub plain_index : (i j : ℤ) (n : ℕ) → j ≡ i → n ≡ unsigned_abs j → lt_z j (pos 0) ≡ false → pos n ≡ i
-plain_index i (pos m) n same is test = rw (← same, is) refl
-plain_index i (negsuc m) n same is test = cc
-
-pub negative_index : (i j : ℤ) (n : ℕ) → j ≡ i → n ≡ unsigned_abs j → lt_z j (pos 0) ≡ true → negsuc (n - 1) ≡ i
-negative_index i (pos m) n same is test = absurd (grind (arith, nat_tests, test))
-negative_index i (negsuc m) n same is test = let e : n - 1 ≡ m = omega (arith, is) in rw (← same, e) refl

@@ -1,14 +1,10 @@
 -- Places, step by step.
-use Rattle.std.proofs.Common.{◌≡◌, ℕ, suc, ◌+◌, ◌<◌, ℤ, Bool, true, false, cond, nat_lt, List, ◌∷◌, length, Option, Some, None, refl, ◌∙◌, arith, slice_get}
+use Rattle.std.proofs.Common.{◌≡◌, ℕ, suc, ◌+◌, ◌<◌, Bool, true, false, cond, nat_lt, List, ◌∷◌, length, Option, Some, None, refl, ◌∙◌, arith, slice_get}
 use Rattle.std.specs.Prelude.{position, option_and_then, option_map}
 use Rattle.std.specs.List.{position_or_len}
 use Rattle.std.specs.Str.{bytes_eq}
 use Rattle.std.proofs.lemmas.Bool.Decides.{nat_tests}
 use Rattle.jsonb_doc.specs.Tree.{Tree, object, Pairs, no_pairs, pair, elements, keys, values, value_under, field_of}
-use Rattle.jsonb_doc.specs.Payload.{Form}
-use Rattle.jsonb_doc.specs.Item.{StandsFor}
-use Rattle.jsonb_doc.specs.declared.item.Item.{Item}
-use Rattle.jsonb_doc.specs.declared.item.Item.TheVariants as item
 use Rattle.jsonb_keypath.specs.KeyPathGrammar.{Key, index, quoted_name, unquoted_name}
 use Rattle.jsonb_raw.specs.Places.{children, asked_key, child_position, location, tree_at, tree_at_steps}
 use Rattle.jsonb_raw.specs.Private.Steps.{child_met}
@@ -64,13 +60,6 @@ plain_met name _ = refl
 pub quoted_met : (name : List ℕ) (t : Tree) → child_met (quoted_name name) t ≡ field_of name t
 quoted_met name (object ps) = value_at_key name ps
 quoted_met name _ = refl
-
--- an index selects nothing in an item that is not a container
-pub none_in_scalar : (form : Form) (i : ℤ) (x : Item) (t : Tree) → StandsFor form x t
-    → ((bytes : _) → x ≡ item.Array bytes → ⊥) → ((bytes : _) → x ≡ item.Object bytes → ⊥) → child_met (index i) t ≡ None
-none_in_scalar form i (item.Array bytes) t h no_array no_object = absurd (no_array bytes refl)
-none_in_scalar form i (item.Object bytes) t h no_array no_object = absurd (no_object bytes refl)
-none_in_scalar form i _ t h no_array no_object = rw h refl
 
 -- ---- several steps
 

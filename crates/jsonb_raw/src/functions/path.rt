@@ -1,13 +1,14 @@
 //! The functions on the locations of a document.
 
-ghost use Rattle.std.specs.Prelude.{negsuc, List, length, slice_get, option_and_then, IsOkAnd, IfErr, MatchResult};
+ghost use Rattle.std.specs.Prelude.{ℕ, List, length, slice_get, option_and_then, IsOkAnd, IfErr, MatchResult};
 ghost use Rattle.std.specs.Iterator.{IsFinite};
-ghost use Rattle.jsonb_doc.specs.Tree.{Tree};
+ghost use Rattle.std.specs.Fmt.{signed_decimal};
+ghost use Rattle.jsonb_doc.specs.Tree.{Tree, field_of};
 ghost use Rattle.jsonb_doc.specs.Payload.{Form};
 ghost use Rattle.jsonb_doc.specs.Format.{Decodes};
 ghost use Rattle.jsonb_doc.specs.Answer.{SameOption, IsOutOfMemory, ◌or◌, IsDecodingError};
 ghost use Rattle.jsonb_doc.specs.declared.error.Error.TheVariants.{OutOfMemory, TooLarge};
-ghost use Rattle.jsonb_doc.specs.Spots.{Locates};
+ghost use Rattle.jsonb_doc.specs.Spots.{Locates, HasSpotsLeft};
 ghost use Rattle.jsonb_keypath.specs.declared.key_path.KeyPath.{KeyPath};
 ghost use Rattle.jsonb_keypath.specs.KeyPathGrammar.{index as index_step};
 ghost use Rattle.jsonb_keypath.specs.KeyPathViews.{key_view, keys_view};
@@ -26,9 +27,28 @@ mod name_block;
 
 use crate::owned::OwnedJsonb;
 use crate::raw::RawJsonb;
-use jsonb_doc::{Error, Item, Spot, child_spots, field_spot, root_spot, spot_by_parts, spot_item};
+use child::index_position;
+use jsonb_doc::{
+    Error, Spot, SpotIter, child_spots, element_spots, field_spot, root_spot, spot_by_parts,
+};
 use jsonb_keypath::KeyPath;
 use std::alloc::Global;
+
+/// Returns the spot that this many others precede.
+#[inline(always)]
+fn nth_spot(spots: SpotIter<'_>, position: usize) -> Result<Option<Spot>, Error>
+    ensures spot { (bytes : List ℕ) (ts : List Tree) → HasSpotsLeft bytes spots.entry ts
+        → IsOkAnd result (λ found. SameOption (Locates bytes) found (slice_get ts position)) }
+    ensures errors { IfErr result IsDecodingError }
+{
+    let Some(mut left) = spots.behind(position) else {
+        return Ok(None);
+    };
+    let Some(spot) = left.next() else {
+        return Ok(None);
+    };
+    Ok(Some(spot_by_parts(spot?)))
+}
 
 /// Returns the child at a position.
 fn nth_child(bytes: &[u8], spot: Spot, position: usize) -> Result<Option<Spot>, Error>
@@ -39,46 +59,35 @@ fn nth_child(bytes: &[u8], spot: Spot, position: usize) -> Result<Option<Spot>, 
     let Some(found) = child_spots(bytes, spot)? else {
         return Ok(None);
     };
-    let Some(mut left) = found.behind(position) else {
-        return Ok(None);
-    };
-    let Some(child) = left.next() else {
-        return Ok(None);
-    };
-    Ok(Some(spot_by_parts(child?)))
+    nth_spot(found, position)
 }
 
-/// Returns the child that this many others follow.
-fn child_from_end(bytes: &[u8], spot: Spot, after: usize) -> Result<Option<Spot>, Error>
+/// Returns the spot of the element at an index, from the end if negative.
+#[inline(always)]
+fn spot_at(spots: SpotIter<'_>, index: i32) -> Result<Option<Spot>, Error>
+    ensures spot { (bytes : List ℕ) (ts : List Tree) → HasSpotsLeft bytes spots.entry ts
+        → IsOkAnd result (λ found. SameOption (Locates bytes) found
+        (option_and_then (λ n. slice_get ts n) (index_position (length ts) index))) }
+    ensures errors { IfErr result IsDecodingError }
+{
+    let Some(position) = index_position(spots.len(), index) else {
+        return Ok(None);
+    };
+    nth_spot(spots, position)
+}
+
+/// Returns the value of the key that is an index in decimal, if it is an object.
+fn keyed_child(alloc: Global, bytes: &[u8], spot: Spot, index: i32) -> Result<Option<Spot>, Error>
     ensures child { (t : Tree) → Locates bytes.now spot t
-        → IsOkAnd result (λ found. SameOption (Locates bytes.now) found
-        (option_and_then (λ n. slice_get (children t) n) (index_position (length (children t)) (negsuc after)))) }
-    ensures errors { IfErr result IsDecodingError }
+        → MatchResult result (λ found. SameOption (Locates bytes.now) found
+        (field_of (signed_decimal index) t)) IsOutOfMemory }
+    ensures errors { IfErr result (IsDecodingError or OutOfMemory) }
 {
-    let Some(children) = child_spots(bytes, spot)? else {
-        return Ok(None);
-    };
-    let count = children.len();
-    if after >= count {
+    if !spot.is_container() {
         return Ok(None);
     }
-    nth_child(bytes, spot, count - after - 1)
-}
-
-/// Returns the element at an index, from the end if negative.
-fn element_at(bytes: &[u8], spot: Spot, index: i32) -> Result<Option<Spot>, Error>
-    ensures element { (t : Tree) → Locates bytes.now spot t
-        → IsOkAnd result (λ found. SameOption (Locates bytes.now) found
-        (option_and_then (λ n. slice_get (children t) n) (index_position (length (children t)) index))) }
-    ensures errors { IfErr result IsDecodingError }
-{
-    let distance = index.unsigned_abs() as usize;
-    let is_from_end = index < 0;
-    if is_from_end {
-        child_from_end(bytes, spot, distance - 1)
-    } else {
-        nth_child(bytes, spot, distance)
-    }
+    let key = format!(in alloc; "{index}")?;
+    field_spot(bytes, spot, key.as_str())
 }
 
 /// Returns the child that an index selects: an element, or the value of the key that is the index in decimal.
@@ -88,13 +97,9 @@ fn indexed_child(alloc: Global, bytes: &[u8], spot: Spot, index: i32) -> Result<
         (child_met (index_step index) t)) IsOutOfMemory }
     ensures errors { IfErr result (IsDecodingError or OutOfMemory) }
 {
-    match spot_item(bytes, spot)? {
-        Item::Array(_) => element_at(bytes, spot, index),
-        Item::Object(_) => {
-            let key = format!(in alloc; "{index}")?;
-            field_spot(bytes, spot, key.as_str())
-        }
-        _ => Ok(None),
+    match element_spots(bytes, spot)? {
+        Some(elements) => spot_at(elements, index),
+        None => keyed_child(alloc, bytes, spot, index),
     }
 }
 

@@ -22,7 +22,6 @@ ghost use Rattle.jsonb_raw.specs.Private.NamePositions.{position_in_some_case};
 ghost use Rattle.jsonb_raw.specs.Exists.{is_text};
 ghost use Rattle.jsonb_raw.specs.Scalars.{is_object};
 
-use super::nth_child;
 use crate::functions::entries::{around_entries, element_entries, entry_count, entry_document};
 use crate::functions::joined::{array_of_two, object_of};
 use crate::functions::parts::{Entries, PairEntries};
@@ -73,11 +72,7 @@ impl RawJsonb<'_> {
         let Shape::Array = root_shape(bytes)? else {
             return Ok(None);
         };
-        let root = root_spot(bytes)?;
-        let Some(spot) = nth_child(bytes, root, index)? else {
-            return Ok(None);
-        };
-        Ok(Some(OwnedJsonb::from_spot(alloc, bytes, spot)?))
+        element_document(alloc, bytes, index)
     }
 
     /// Returns the value of a key, as a new document.
@@ -239,6 +234,25 @@ fn is_object(bytes: &[u8]) -> Result<bool, Error>
     ensures errors { IfErr result IsDecodingError }
 {
     Ok(matches!(read_container(bytes)?, Container::Object(_)))
+}
+
+/// Returns the element at an index of an array. Out of line, since its registers would be saved in calls on other roots
+/// too.
+#[inline(never)]
+fn element_document(alloc: Global, bytes: &[u8], index: usize) -> Result<Option<OwnedJsonb>, Error>
+    ensures element { (form : Form) (t : Tree) → Decodes form bytes.now t → MakesOption form (element_at index t) result }
+    ensures none { (form : Form) (t : Tree) → Decodes form bytes.now t → element_at index t ≡ None
+        → result ≡ Ok None }
+    ensures errors { IfErr result (IsDecodingError or OutOfMemory or TooLarge) }
+{
+    let Some(entries) = element_entries(bytes)? else {
+        return Ok(None);
+    };
+    let (_, back) = entries.split(index)?;
+    let Some((entry, _)) = back.first()? else {
+        return Ok(None);
+    };
+    Ok(Some(entry_document(alloc, entry.kind, entry.content)?))
 }
 
 /// Returns the value of the key. Out of line, since its registers would be saved in calls on other roots too.
