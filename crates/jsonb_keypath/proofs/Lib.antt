@@ -6,6 +6,7 @@ pub mod ShowLemmas
 pub mod ReadsLemmas
 pub mod CutLemmas
 pub mod GrowsLemmas
+pub mod FrontLemmas
 pub mod ReadBackLemmas
 pub mod NameLemmas
 pub mod YieldsLemmas

@@ -2,6 +2,7 @@ pub mod Rules
 pub mod Tokens
 pub mod KeyPathGrammar
 pub mod KeyPathText
+pub mod ErrorPosition
 pub mod Views
 pub mod KeyPathViews
 pub mod TokenLaws

@@ -102,7 +102,10 @@ fn another_key_at(alloc: Global, input: &[u8]) -> Result<Option<(KeyPath<'_>, &[
 
 /// Reads one or more steps, separated by commas. If no step follows a comma, they end before it.
 #[inline(never)]
-fn keys_at(alloc: Global, input: &[u8]) -> Result<Option<(Vec<KeyPath<'_>>, &[u8])>, AllocError>
+pub(crate) fn keys_at(
+    alloc: Global,
+    input: &[u8],
+) -> Result<Option<(Vec<KeyPath<'_>>, &[u8])>, AllocError>
     ensures { IfOk result (λ found.
         read_as (λ keys. keys_view keys.items) found ≡ key_list input.now) }
 {

@@ -293,3 +293,35 @@ fn steps_of_other_kinds_differ(rt: HostRuntime) {
     assert_eq!(rt; differ(rt.alloc(), &name, &longer), Ok(true));
     assert_eq!(rt; differ(rt.alloc(), &name, &KeyPath::Index(1)), Ok(true));
 }
+
+/// Inputs, and the position of the error in each.
+static ERROR_POSITIONS: [(&[u8], Option<usize>); 20] = [
+    (b" {\t1, a ,\r\n\"b c\"} ", None),
+    (b"{ }", None),
+    (b"", Some(0)),
+    (b"  ab", Some(2)),
+    (b" { ", Some(3)),
+    (b"{ ,1}", Some(2)),
+    (b"{a", Some(2)),
+    (b"{a b}", Some(3)),
+    (b"{a, }", Some(4)),
+    (b"{a,b , ", Some(7)),
+    (b"{1a}", Some(2)),
+    (b"{1.5}", Some(2)),
+    (b"{-99999999999}", Some(1)),
+    (b"{a} }", Some(4)),
+    (b"{ } b", Some(4)),
+    (b"{\"\"}", Some(2)),
+    (b"{1,\"ab", Some(6)),
+    (b"{\"a\\q\"}", Some(3)),
+    (b"{ab\\ud83d}", Some(3)),
+    (b"{\"a\xff\"}", Some(2)),
+];
+
+#[test]
+fn errors_have_positions(rt: HostRuntime) {
+    for (text, wanted) in &ERROR_POSITIONS {
+        let found = key_path_error_position(rt.alloc(), text);
+        assert_eq!(rt; found, Ok(*wanted));
+    }
+}

@@ -15,7 +15,7 @@ mod text;
 
 pub use self::number::{int32, int64, nat8, nat64};
 pub use self::quoting::{is_plain_name, write_name, write_quoted};
-pub(crate) use self::text::{name_at, quoted_at};
+pub(crate) use self::text::{Ending, name_at, quoted_at, text_front_at};
 pub use self::text::{read_name, read_quoted};
 
 /// Returns the input after a run of white space, possibly empty: spaces, tabs, carriage returns and line feeds.

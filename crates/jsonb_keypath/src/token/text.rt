@@ -1,10 +1,11 @@
 //! Names and quoted strings.
 
-ghost use Rattle.std.specs.Prelude.{◌≡◌, ◌++◌, string_bytes, IfOk, IfErr, OnOk};
+ghost use Rattle.std.specs.Prelude.{◌≡◌, ◌++◌, Some, string_bytes, IfOk, IfErr, OnOk};
 ghost use Rattle.std.specs.List.{prefix_len};
 ghost use Rattle.std.specs.Cow.{cow_str_bytes};
 ghost use Rattle.jsonb_doc.specs.declared.error.Error.TheVariants.{OutOfMemory};
 ghost use Rattle.jsonb_keypath.specs.Tokens.{is_unescaped, is_stop as spec_is_stop, unit, units, text, name, quoted};
+ghost use Rattle.jsonb_keypath.specs.ErrorPosition.{perhaps};
 ghost use Rattle.jsonb_keypath.specs.Views.{read_as, ConsumesInput};
 ghost use Rattle.jsonb_keypath.specs.Private.Units.{closed, excluded, unit_bytes};
 ghost use Rattle.jsonb_doc.specs.Answer.{IsOutOfMemory};
@@ -132,6 +133,20 @@ fn closed_at(alloc: Global, input: &[u8]) -> Result<Option<(CowStr<'_, Global>, 
     match literal(b"\"", rest) {
         Some(end) => Ok(Some((found, end))),
         None => Ok(None),
+    }
+}
+
+/// Returns the input after a token up to the end of its run of units; all of it if there is no such token.
+pub(crate) fn text_front_at(
+    alloc: Global,
+    ending: Ending,
+    input: &[u8],
+) -> Result<&[u8], AllocError>
+    ensures { IfOk result (λ rest. perhaps (text (excluded ending)) input.now ≡ Some (tt, rest.now)) }
+{
+    match text_at(alloc, ending, input)? {
+        Some((_, rest)) => Ok(rest),
+        None => Ok(input),
     }
 }
 
