@@ -25,7 +25,10 @@ RETURNS_LIST = "array_values object_each leaves leaves_ignoring_arrays".split()
 RETURNS_TEXT = "compare array_length type_of as_null as_bool as_number as_i64 as_u64 as_str to_i64 to_u64 to_str".split()
 
 # What the tests call the rows of a group of paths.tsv. The other groups are selections.
-KINDS = {"predicates": "truth", "printed": "path", "places": "place", "printed key paths": "key path"}
+KINDS = {
+    "predicates": "truth", "printed": "path", "places": "place", "printed key paths": "key path", "errors": "error",
+    "errors in key paths": "key path error",
+}
 # What the tests call the rows of the tables of keys in docs/FORMAT.md.
 KEYS = {"sortable keys": "sortable key", "equality keys": "equality key"}
 
@@ -33,6 +36,8 @@ KEYS = {"sortable keys": "sortable key", "equality keys": "equality key"}
 SELECTION = {"Path": "path", "Document": "document", "Result": "result", "Result in strict mode": "strict"}
 COLUMNS = {
     "calls": {"Function": "function", "Document": "document", "Arguments": "arguments", "Result": "result"},
+    "errors": {"Text": "path", "Position": "result"},
+    "errors in key paths": {"Text": "path", "Position": "result"},
     "printed": {"Text": "path", "Printed": "result"},
     "printed key paths": {"Text": "path", "Printed": "result"},
     "places": {"Key path": "path", "Document": "document", "Result": "result"},
@@ -86,6 +91,8 @@ def path_result(cell, digits):
 def path_rows(row, named):
     """The rows of the tests of a row of paths.tsv: the kind of row, the path, the document and the result."""
     group = row["group"]
+    if group in ("errors", "errors in key paths"):
+        return [(KINDS[group], code(row["path"]), "", row["result"])]
     if group in ("printed", "printed key paths"):
         return [(KINDS[group], code(row["path"]), "", row["result"] if row["result"] == "refused" else code(row["result"]))]
     asked = (code(row["path"]), named[code(row["document"])])

@@ -16,6 +16,7 @@ pub mod GrammarShape
 pub mod PathLaw
 pub mod Bounds
 pub mod ExpressionReadsSome
+pub mod PlainPathLemmas
 pub mod FrameLemmas
 pub mod SelectedParts
 pub mod Progress

@@ -1,5 +1,6 @@
 pub mod PathTree
 pub mod PathGrammar
+pub mod PathErrorPosition
 pub mod PathViews
 pub mod PathText
 pub mod PathOrder
@@ -30,6 +31,7 @@ pub use Rattle.jsonb_doc.specs.declared.value.Value as DecodedValue
 pub use Rattle.jsonb_doc.specs.Value as ValueTree
 pub use Rattle.jsonb_keypath.specs.declared.key_path.KeyPaths
 pub use Rattle.jsonb_keypath.specs.KeyPathGrammar
+pub use Rattle.jsonb_keypath.specs.ErrorPosition
 pub use Rattle.jsonb_keypath.specs.KeyPathText
 pub use Rattle.jsonb_keypath.specs.KeyPathViews
 pub use Rattle.jsonb_raw.specs.declared.owned.OwnedJsonb

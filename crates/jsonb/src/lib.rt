@@ -10,7 +10,7 @@ pub mod parser;
 pub mod path;
 pub mod selector;
 
-pub use self::parser::parse_json_path;
+pub use self::parser::{json_path_error_position, parse_json_path};
 pub use self::path::{
     ArrayIndex, BinaryOperator, Expr, Index, JsonPath, Path, PathValue, RecursiveLevel,
     RecursiveLevelEnd, UnaryOperator,
@@ -24,7 +24,8 @@ pub use jsonb_doc::{
 };
 pub use jsonb_keypath as keypath;
 pub use jsonb_keypath::{
-    KeyPath, KeyPaths, OwnedKeyPath, OwnedKeyPaths, parse_key_paths, read_name, read_quoted,
+    KeyPath, KeyPaths, OwnedKeyPath, OwnedKeyPaths, key_path_error_position, parse_key_paths,
+    read_name, read_quoted,
 };
 pub use jsonb_raw::{
     OwnedJsonb, RawJsonb, composite_key, composite_key_wide, push_column_key, push_column_key_wide,

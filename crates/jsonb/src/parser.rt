@@ -26,6 +26,7 @@ ghost use Rattle.jsonb_keypath.specs.Views.{read_as, ConsumesInput};
 ghost use Rattle.jsonb.specs.PathViews.{operator_view, step_view, steps_view, expression_view, path_view};
 ghost use Rattle.jsonb_doc.specs.Answer.{IsOutOfMemory, ◌or◌when◌};
 
+pub use self::error_position::json_path_error_position;
 use self::expression::{expression_at, expression_from};
 use self::inner_path::spaced_inner_at;
 use self::opening::{Opening, filter_inside, filter_of, opening_at};
@@ -37,6 +38,7 @@ use jsonb_keypath::token::{literal, skip_space};
 use std::alloc::{AllocError, Global};
 
 mod condition;
+mod error_position;
 mod expression;
 mod index;
 mod inner_path;

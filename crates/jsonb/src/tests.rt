@@ -6,6 +6,7 @@ macro_rules! rows {
 }
 
 mod deep;
+mod error_position;
 mod grammar;
 mod natural;
 mod path;

@@ -1,6 +1,6 @@
 //! A configuration that is read and changed by key path.
 
-use jsonb::{Error, OwnedJsonb, RawJsonb, parse_key_paths};
+use jsonb::{Error, OwnedJsonb, RawJsonb, key_path_error_position, parse_key_paths};
 use std::alloc::Global;
 
 /// Returns the setting at a key path such as `{server,port}`, or `None`.
@@ -11,6 +11,14 @@ pub fn setting(
 ) -> Result<Option<OwnedJsonb>, Error> {
     let steps = parse_key_paths(alloc, path.as_bytes())?;
     configuration.get_by_keypath(alloc, steps.paths.iter())
+}
+
+/// Returns what is wrong with a key path, or `None`.
+pub fn mistake(alloc: Global, path: &str) -> Result<Option<String>, Error> {
+    Ok(match key_path_error_position(alloc, path.as_bytes())? {
+        Some(at) => Some(format!(in alloc; "not a key path: see byte {at} of {path}")?),
+        None => None,
+    })
 }
 
 /// Returns the port of the server, or `None` if it is missing or not a 64-bit unsigned integer.
@@ -57,6 +65,12 @@ mod tests {
         let alloc = rt.alloc();
         let file = RawJsonb::new(CONFIGURATION);
         assert_eq!(rt; port(alloc, &file)?, Some(8080));
+        assert_eq!(rt; mistake(alloc, "{server,port}")?, None);
+        let found = mistake(alloc, "{server port}")?.ok_or("no mistake")?;
+        assert_eq!(rt;
+            found.as_str(),
+            "not a key path: see byte 8 of {server port}"
+        );
         let set = with_setting(alloc, &file, "server", "port", &RawJsonb::new(PORT_80))?;
         assert_eq!(rt; set.as_raw().as_bytes(), WITH_PORT_80);
         let taken = without_setting(alloc, &file, "{server,port}")?;

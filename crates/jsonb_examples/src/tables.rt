@@ -4,7 +4,8 @@ mod rows;
 
 use self::rows::ROWS;
 use jsonb::{
-    Error, OwnedJsonb, RawJsonb, SelectByPath, Selector, parse_json_path, parse_key_paths,
+    Error, OwnedJsonb, RawJsonb, SelectByPath, Selector, json_path_error_position,
+    key_path_error_position, parse_json_path, parse_key_paths,
 };
 use std::alloc::Global;
 use std::test::Fail;
@@ -67,6 +68,14 @@ fn printed_key_path(alloc: Global, text: &str) -> Result<String, Error> {
     })
 }
 
+/// Returns the position of an error, or `none`.
+fn position_text(alloc: Global, position: Option<usize>) -> Result<String, Error> {
+    Ok(match position {
+        Some(at) => format!(in alloc; "{at}")?,
+        None => String::from_str(alloc, "none")?,
+    })
+}
+
 /// Returns the result for a row.
 fn answer(alloc: Global, asked: &str, text: &str, whole: &RawJsonb<'_>) -> Result<String, Error> {
     match asked {
@@ -76,6 +85,8 @@ fn answer(alloc: Global, asked: &str, text: &str, whole: &RawJsonb<'_>) -> Resul
         "place" => part_at(alloc, whole, text),
         "path" => printed(alloc, text),
         "key path" => printed_key_path(alloc, text),
+        "error" => position_text(alloc, json_path_error_position(alloc, text.as_bytes())?),
+        "key path error" => position_text(alloc, key_path_error_position(alloc, text.as_bytes())?),
         "sortable key" => Ok(hex::encode(alloc, whole.convert_to_comparable(alloc)?)?),
         _ => Ok(hex::encode(alloc, whole.equality_key(alloc)?)?),
     }

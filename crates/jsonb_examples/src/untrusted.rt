@@ -1,6 +1,6 @@
 //! Untrusted documents and paths: checked first, with a status for each error.
 
-use jsonb::{Error, OwnedJsonb, RawJsonb, SelectByPath, parse_json_path};
+use jsonb::{Error, OwnedJsonb, RawJsonb, SelectByPath, json_path_error_position, parse_json_path};
 use std::alloc::Global;
 
 /// The longest path that is accepted. Evaluating nested filters uses stack in proportion to their nesting.
@@ -18,6 +18,14 @@ pub fn selected(alloc: Global, path: &[u8], bytes: &[u8]) -> Result<Vec<OwnedJso
     let document = RawJsonb::new(bytes);
     document.check_depth(DEEPEST_ITEM)?;
     document.select_by_path(alloc, &path)
+}
+
+/// Returns what is wrong with a path, or `None`.
+pub fn mistake(alloc: Global, path: &[u8]) -> Result<Option<String>, Error> {
+    Ok(match json_path_error_position(alloc, path)? {
+        Some(at) => Some(format!(in alloc; "not a JSON path: see byte {at}")?),
+        None => None,
+    })
 }
 
 /// Returns the HTTP status of an error.
@@ -55,6 +63,9 @@ mod tests {
             };
             assert_eq!(rt; answer, wanted, "{path:?}");
         }
+        assert_eq!(rt; mistake(alloc, b"$.a[0]")?, None);
+        let found = mistake(alloc, b"$.a?(@.b = 1)")?.ok_or("no mistake")?;
+        assert_eq!(rt; found.as_str(), "not a JSON path: see byte 9");
         Ok(())
     }
 

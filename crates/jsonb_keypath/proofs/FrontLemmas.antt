@@ -6,7 +6,7 @@ use Rattle.jsonb_keypath.specs.Rules.{Rule, give, ◌>>◌, only_if, literal, re
 use Rattle.jsonb_keypath.specs.Tokens.{ws, unit, units, text, is_stop, is_quote}
 use Rattle.jsonb_keypath.specs.TokenLaws.{ReadsSome}
 use Rattle.jsonb_keypath.specs.KeyPathGrammar.{spaced_key, another_key, key_list}
-use Rattle.jsonb_keypath.specs.ErrorPosition.{perhaps, key_front, closing_brace, behind_keys, inside_front, key_path_front}
+use Rattle.jsonb_keypath.specs.ErrorPosition.{perhaps, key_front, closing_brace, after_keys, inside_front, key_path_front}
 use Rattle.jsonb_keypath.proofs.ReadsLemmas.{NeverGrows, some-no_more, grows-give, grows-then, grows-choice, grows-only_if, repeated-repeat}
 use Rattle.jsonb_keypath.proofs.CutLemmas.{some-literal, some-unit}
 use Rattle.jsonb_keypath.proofs.GrowsLemmas.{grows-ws, run-no_more, some-spaced_key, some-another_key}
@@ -41,14 +41,14 @@ grows-closing_brace : NeverGrows closing_brace
 unfolding closing_brace
 grows-closing_brace = grows-then (literal "}") _ (grows-byte 125) (λ _. grows-ws)
 
-grows-behind_keys : NeverGrows behind_keys
-unfolding behind_keys
-grows-behind_keys = grows-perhaps _ (grows-choice closing_brace _ grows-closing_brace
+grows-after_keys : NeverGrows after_keys
+unfolding after_keys
+grows-after_keys = grows-perhaps _ (grows-choice closing_brace _ grows-closing_brace
     (grows-then (literal "," >> ws) _ (grows-then (literal ",") _ (grows-byte 44) (λ _. grows-ws)) (λ _. grows-key_front)))
 
 grows-inside_front : NeverGrows inside_front
 unfolding inside_front
-grows-inside_front = grows-choice _ _ (grows-then key_list _ grows-key_list (λ _. grows-behind_keys))
+grows-inside_front = grows-choice _ _ (grows-then key_list _ grows-key_list (λ _. grows-after_keys))
     (grows-then ws _ grows-ws (λ _. grows-choice closing_brace key_front grows-closing_brace grows-key_front))
 
 pub grows-key_path_front : NeverGrows key_path_front

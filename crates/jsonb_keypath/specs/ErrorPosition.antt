@@ -9,14 +9,14 @@ abbrev pub perhaps : {A : Type 0} → Rule A → Rule (Unit {0})
 perhaps rule = (rule >> give tt) </> give tt
 
 -- The input after what was read; all of it after a failure.
-abbrev pub behind : {A : Type 0} → List ℕ → Parsed A → List ℕ
-behind input None = input
-behind input (Some (a, rest)) = rest
+abbrev pub rest_after : {A : Type 0} → List ℕ → Parsed A → List ℕ
+rest_after input None = input
+rest_after input (Some (a, rest)) = rest
 
 -- The number of bytes that the front reads, unless the text is accepted.
 abbrev pub error_position : {A B : Type 0} → (List ℕ → Option A) → Rule B → List ℕ → Option ℕ
 error_position accepted front text =
-    if is_some (accepted text) then None else Some (length text - length (behind text (front text)))
+    if is_some (accepted text) then None else Some (length text - length (rest_after text (front text)))
 
 -- Reads the beginning of a step that is not one: a quote and the string after it, or a name up to a malformed escape.
 unfoldable pub key_front : Rule (Unit {0})
@@ -27,12 +27,12 @@ unfoldable pub closing_brace : Rule (Unit {0})
 closing_brace = literal "}" >> ws
 
 -- Reads what follows the steps: the closing brace, or a comma and the beginning of a step that is not one.
-unfoldable pub behind_keys : Rule (Unit {0})
-behind_keys = perhaps (closing_brace </> (literal "," >> ws >> key_front))
+unfoldable pub after_keys : Rule (Unit {0})
+after_keys = perhaps (closing_brace </> (literal "," >> ws >> key_front))
 
 -- Reads what follows the opening brace.
 unfoldable pub inside_front : Rule (Unit {0})
-inside_front = (key_list >> behind_keys) </> (ws >> (closing_brace </> key_front))
+inside_front = (key_list >> after_keys) </> (ws >> (closing_brace </> key_front))
 
 -- Reads as much of the text as a key path begins with, token by token.
 unfoldable pub key_path_front : Rule (Unit {0})

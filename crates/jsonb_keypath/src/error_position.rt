@@ -2,7 +2,7 @@
 
 ghost use Rattle.std.specs.Prelude.{◌≡◌, ◌≤◌, length, Some, option_map, IfOk, MatchResult};
 ghost use Rattle.jsonb_doc.specs.Answer.{IsOutOfMemory};
-ghost use Rattle.jsonb_keypath.specs.ErrorPosition.{key_front, closing_brace, behind_keys, inside_front, key_path_front, key_path_error_position as spec_key_path_error_position};
+ghost use Rattle.jsonb_keypath.specs.ErrorPosition.{key_front, closing_brace, after_keys, inside_front, key_path_front, key_path_error_position as spec_key_path_error_position};
 
 use crate::parser::{keys_at, parse_key_paths};
 use crate::token::{Ending, literal, skip_space, text_front_at};
@@ -22,6 +22,15 @@ use std::alloc::{AllocError, Global};
 /// # Complexity
 ///
 /// O(n) for text of n bytes. Allocates; parses the text again.
+///
+/// # Examples
+///
+/// ```rust crates/jsonb_examples/src/configuration.rt
+/// Ok(match key_path_error_position(alloc, path.as_bytes())? {
+///     Some(at) => Some(format!(in alloc; "not a key path: see byte {at} of {path}")?),
+///     None => None,
+/// })
+/// ```
 pub fn key_path_error_position(alloc: Global, text: &[u8]) -> Result<Option<usize>, Error>
     ensures { MatchResult result
         (λ position. position ≡ spec_key_path_error_position text.now) IsOutOfMemory }
@@ -30,7 +39,8 @@ pub fn key_path_error_position(alloc: Global, text: &[u8]) -> Result<Option<usiz
         Ok(_) => Ok(None),
         Err(Error::InvalidKeyPath) => {
             let rest = key_path_front_at(alloc, text)?;
-            Ok(Some(text.len() - rest.len()))
+            let position = text.len() - rest.len();
+            Ok(Some(position))
         }
         Err(error) => Err(error),
     }
@@ -53,7 +63,7 @@ fn inside_front_at(alloc: Global, input: &[u8]) -> Result<&[u8], AllocError>
     ensures { IfOk result (λ rest. inside_front input.now ≡ Some (tt, rest.now)) }
 {
     if let Some((_, rest)) = keys_at(alloc, input)? {
-        return behind_keys_at(alloc, rest);
+        return after_keys_at(alloc, rest);
     }
     let rest = skip_space(input);
     match closing_brace_at(rest) {
@@ -62,9 +72,9 @@ fn inside_front_at(alloc: Global, input: &[u8]) -> Result<&[u8], AllocError>
     }
 }
 
-#[tactic(auto, unfolding(crate::specs::ErrorPosition::behind_keys))]
-fn behind_keys_at(alloc: Global, input: &[u8]) -> Result<&[u8], AllocError>
-    ensures { IfOk result (λ rest. behind_keys input.now ≡ Some (tt, rest.now)) }
+#[tactic(auto, unfolding(crate::specs::ErrorPosition::after_keys))]
+fn after_keys_at(alloc: Global, input: &[u8]) -> Result<&[u8], AllocError>
+    ensures { IfOk result (λ rest. after_keys input.now ≡ Some (tt, rest.now)) }
 {
     if let Some(end) = closing_brace_at(input) {
         return Ok(end);

@@ -25,7 +25,7 @@ macro_rules! return_first_of {
 }
 
 #[tactic(auto, unfolding(crate::specs::PathGrammar::operator))]
-fn operator_at(input: &[u8]) -> Option<(BinaryOperator, &[u8])>
+pub(super) fn operator_at(input: &[u8]) -> Option<(BinaryOperator, &[u8])>
     ensures value { read_as operator_view result ≡ operator input.now }
     ensures shrinks { ConsumesInput input.now result }
 {
@@ -53,7 +53,7 @@ fn arithmetic_operator_at(input: &[u8]) -> Option<(BinaryOperator, &[u8])>
 }
 
 #[tactic(auto, unfolding(crate::specs::PathGrammar::unary_operator))]
-fn unary_operator_at(input: &[u8]) -> Option<(UnaryOperator, &[u8])>
+pub(super) fn unary_operator_at(input: &[u8]) -> Option<(UnaryOperator, &[u8])>
     ensures value { read_as sign_view result ≡ unary_operator input.now }
     ensures shrinks { ConsumesInput input.now result }
 {
@@ -144,7 +144,11 @@ fn operand_at(alloc: Global, is_in_filter: bool, input: &[u8]) -> Reading<'_, Ex
 }
 
 #[tactic(auto, unfolding(crate::specs::PathGrammar::spaced_operand))]
-fn spaced_operand_at(alloc: Global, is_in_filter: bool, input: &[u8]) -> Reading<'_, Expr<'_>>
+pub(super) fn spaced_operand_at(
+    alloc: Global,
+    is_in_filter: bool,
+    input: &[u8],
+) -> Reading<'_, Expr<'_>>
     ensures value { IfOk result (λ found. read_as expression_view found ≡ spaced_operand is_in_filter input.now) }
     ensures shrinks { IfOk result (ConsumesInput input.now) }
 {

@@ -234,4 +234,24 @@ lax\t$ == null\t20000000200000025005\t2000000000000000
 strict\t$ == null\t20000000200000025005\t2000000000000000
 lax\texists($.x)\t40000002100000011000000110000001000000006b6e76\t2000000030000000
 strict\texists($.x)\t40000002100000011000000110000001000000006b6e76\trefused: StrictPath
+key path error\t{a,1}\t\tnone
+key path error\t{a b}\t\t3
+key path error\t{a, }\t\t4
+key path error\t{1a}\t\t2
+key path error\t{-99999999999}\t\t1
+key path error\t{a}b\t\t3
+key path error\t{\"ab\t\t4
+key path error\t{\"a\\q\"}\t\t3
+key path error\tab\t\t0
+error\t$.a?(@.b == 1)\t\tnone
+error\t$.a[1,\t\t3
+error\t$.a..b\t\t3
+error\t-1 == 1\t\t3
+error\t$.a == \t\t7
+error\t1 == 1 && \t\t10
+error\t(1 == 1\t\t7
+error\texists($.a\t\t10
+error\t$.a?(@.b = 1)\t\t9
+error\t$ ?(@ > 1 && )\t\t13
+error\t$?(exists(@.a?(@ = 1)))\t\t13
 ";
