@@ -89,12 +89,24 @@ def public_clauses(text):
     return len(re.findall(r"^ *ensures ", "".join([*(head for _, head in heads), *traits]), re.M))
 
 
+def test_texts(crate):
+    """Yields the text of each file of a crate's tests, and what follows `#[cfg(test)]` in the other files."""
+    for path, text in sources(crate).items():
+        yield text if "tests" in path.removesuffix(".rt").split("/") else text.partition("#[cfg(test)]\n")[2]
+
+
+def lines_of_code(text):
+    """Returns how many lines of a text are neither empty nor a comment."""
+    return sum(not re.match(r" *(?://.*)?$", line) for line in text.splitlines())
+
+
 def numbers_of_crate(crate):
     text = source(crate)
     yield "public clauses", public_clauses(text)
     yield "mutants", len(mutants(crate))
     yield "tests", len(TEST.findall(text))
     yield "assertions", len(re.findall(r"\bassert\w*!\(", text))
+    yield "lines of tests", sum(map(lines_of_code, test_texts(crate)))
     # (The type of a table says how many entries it has.)
     yield "table entries", sum(map(int, re.findall(r"^(?:pub )?static \w+: \[.*; (\d+)\] =", text, re.M)))
     yield "laws", len(re.findall(r"^pub fn ", sources(crate).get("laws.rt", ""), re.M))
@@ -148,6 +160,7 @@ def numbers_of_bindings():
 
 
 def numbers_of_tools():
+    yield "edits that test the judge", len(tomllib.loads((ROOT / "tools/judged.toml").read_text())["edit"])
     runs = [it for shape in measure_stack.SHAPES for it in measure_stack.document_runs(shape)]
     yield "runs in a small stack", len([*runs, *measure_stack.path_runs()])
     yield "comparisons of the fuzzer", len(re.findall(r"\.(?:compare|makes|truth|value|bytes)\(", text_of(ROOT / "tools/fuzz.py")))
@@ -195,8 +208,8 @@ def names_in_rows():
 def tested_names():
     """Returns the functions that tests of the four libraries call, and the calls of their worked rows."""
     found = names_in_rows()
-    for path, text in (it for crate in check_docs.CRATES for it in sources(crate).items()):
-        found.update(CALL.findall(text if "tests" in path.removesuffix(".rt").split("/") else text.partition("#[cfg(test)]\n")[2]))
+    for text in (it for crate in check_docs.CRATES for it in test_texts(crate)):
+        found.update(CALL.findall(text))
     return found
 
 

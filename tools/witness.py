@@ -1,0 +1,313 @@
+#!/usr/bin/env python3
+"""Finds a witness of each mutant: a test that passes, and fails with the mutant.
+
+  witness.py            compares the mutants with tools/witnesses.toml; the last line is 'N passed, M failed'
+  witness.py --run      the same, and runs all tests with each mutant: those that the file gives a test must fail one
+  witness.py --write    runs, and writes the tests to tools/witnesses.toml; keeps the reasons given there
+
+The expected results of tests come from docs/, and the body that a mutant replaces is proved and passes them. So a mutant that fails a
+test returns another result: where the contract determines the result, no proof of the mutant exists. A mutant that no test fails with
+has a reason in tools/witnesses.toml.
+
+This runs in a copy of the repository that has all mutants: `if jsonb_doc::witness::is(17) { return { .. }; }` precedes the body that the
+mutant 17 replaces. tools/witness/switch.c says which one runs: a test's process forks at each of these, once, and its child goes on
+with the mutant. So each crate's tests are built once, by rt try, which proves nothing. A mutant that is not in one function's body is
+built alone.
+"""
+import argparse
+import os
+import re
+import shutil
+import subprocess
+import sys
+import tempfile
+import tomllib
+from dataclasses import dataclass
+from pathlib import Path
+
+sys.dont_write_bytecode = True
+import check_counts
+import edits
+import group_edits
+
+TOP = Path(__file__).resolve().parent.parent
+STATED = TOP / "tools/witnesses.toml"
+# (The name of its part in Rattle does not end in .rt, since rt ci reads such files only in crates.)
+PARTS = TOP / "tools/witness"
+NO_REASON = "no reason yet"
+# The longest text of an assertion that is kept.
+SHOWN = 90
+# A test has this many seconds for all mutants that it reaches.
+SECONDS = 900
+# Tests of deep documents and expressions are not run, since each takes long with each mutant.
+SLOW = re.compile(r"^( *)#\[test\]\n(?= *fn \w*(?:deep|depth))", re.M)
+# How a child ends that has no more time: SIGKILL, SIGXCPU.
+OUT_OF_TIME = (9, 24)
+
+
+@dataclass(frozen=True)
+class Mutant:
+    crate: str
+    words: str
+    edit: group_edits.Edit
+
+    def __str__(self):
+        return f"{self.crate}: {self.words}"
+
+
+def mutants(top):
+    """Returns the mutants of all crates, the lowest crate first."""
+    found = []
+    for crate in check_counts.crate_names():
+        folder = top / "crates" / crate
+        files = sorted((folder / "must-fail").glob("*.edit"))
+        found += [Mutant(crate, it.words, it) for file in files for it in group_edits.read_edits(file, folder)]
+    return found
+
+
+# ---- the switch
+
+
+def body_with(rows, changed):
+    """Returns the index of the header of the function whose body has a row, and where that body begins and ends, or None."""
+    header = changed if edits.FUNCTION.match(rows[changed]) else edits.header_above(rows[: changed + 1])
+    if header is None:
+        return None
+    beside = [at for at in range(header, len(rows)) if rows[at].strip() and edits.indent(rows[at]) == edits.indent(rows[header])]
+    first = next(at for at in beside if rows[at].endswith("{")) + 1
+    return header, first, next(at for at in beside if at >= first and rows[at].strip() == "}")
+
+
+def mutated_body(text, other):
+    """Returns the row at which the body begins that differs in two versions of a file, and its rows in the second.
+
+    Returns None if anything else differs.
+    """
+    rows, others = text.split("\n"), other.split("\n")
+    changed = next(at for at, row in enumerate(rows) if row != others[at])
+    found = body_with(rows, changed)
+    if not found:
+        return None
+    header, first, last = found
+    after = len(rows) - last
+    is_same = rows[:header] == others[:header] and rows[header + 1 : first] == others[header + 1 : first] and rows[last:] == others[-after:]
+    # (What an edit adds to the row of the header begins the body.)
+    begun = others[header].removeprefix(rows[header])
+    return (first, [begun, *others[first:-after]]) if is_same and others[header].startswith(rows[header]) else None
+
+
+def place_of(mutant, top):
+    """Returns the file of a mutant, the row at which its body begins, and the mutant's rows; or None if it changes no one body."""
+    folder = top / "crates" / mutant.crate
+    texts, fault = edits.rt.edited(mutant.edit.text, folder)
+    if fault:
+        edits.stop(f"{mutant}: {fault}")
+    [(path, other), *more] = texts.items()
+    found = not more and path.startswith("src/") and mutated_body((folder / path).read_text(), other)
+    return (folder / path, *found) if found else None
+
+
+def put_behind_switch(found, top):
+    """Puts mutants into a copy of the repository, and returns those behind the switch by their numbers, and the others."""
+    numbered, alone, put = {}, [], {}
+    for mutant in found:
+        place = place_of(mutant, top)
+        if place:
+            path, first, body = place
+            number, switch = len(numbered) + 1, "crate" if mutant.crate == "jsonb_doc" else "jsonb_doc"
+            numbered[number] = mutant
+            rows = [f"if {switch}::witness::is({number}) {{ return {{", *body, "}; }"]
+            put.setdefault(path, {}).setdefault(first, []).extend(rows)
+        else:
+            alone.append(mutant)
+    for path, places in put.items():
+        rows = path.read_text().split("\n")
+        for first in sorted(places, reverse=True):
+            rows[first:first] = places[first]
+        path.write_text("\n".join(rows))
+    return numbered, alone
+
+
+def add_switch(top, rejected):
+    """Adds the switch to jsonb_doc, and jsonb_doc to what each other crate uses."""
+    rows = (top / "crates.txt").read_text().splitlines()
+    (top / "crates.txt").write_text("".join(f"{it}{'' if re.search('(?:^|: | )jsonb_doc(?= |:|$)', it) else ' jsonb_doc'}\n" for it in rows))
+    doc = top / "crates/jsonb_doc"
+    (doc / "c").mkdir()
+    (doc / "c/switch.c").write_text((PARTS / "switch.c").read_text().replace("@REJECTED@", str(rejected)))
+    shutil.copy(PARTS / "switch.rt.in", doc / "src/witness.rt")
+    library = doc / "src/lib.rt"
+    library.write_text(re.sub(r"^(?=mod \w+;)", "pub mod witness;\n", library.read_text(), count=1, flags=re.M))
+
+
+# ---- running
+
+
+def copy_crates(top):
+    top.mkdir()
+    for name in ("crates.txt", "HANDLES"):
+        shutil.copy(TOP / name, top)
+    shutil.copytree(TOP / "crates", top / "crates", ignore=lambda at, names: [it for it in names if it == "out"])
+    for path in (top / "crates").rglob("*.rt"):
+        text = path.read_text()
+        if SLOW.search(text):
+            path.write_text(SLOW.sub(r"\g<0>\1#[ignore]\n", text))
+
+
+def run_tests(crate, top):
+    """Builds and runs a crate's tests without a proof, and returns whether they passed, and the output."""
+    # (One step for the interpreter: the compiled tests are enough.)
+    words = [os.environ.get("RT", "rt"), "try", "--test", "--steps", "1", "--seconds", str(SECONDS)]
+    how = {"cwd": top / "crates" / crate, "env": {**os.environ, "RT_ALLOW_C": "1"}, "errors": "replace"}
+    ran = subprocess.run(words, stdout=subprocess.PIPE, stderr=subprocess.STDOUT, stdin=subprocess.DEVNULL, text=True, **how)
+    return not ran.returncode, ran.stdout
+
+
+def assertion_of(said):
+    """Returns what a failed assertion says: its own words, which name a row, else what it compares."""
+    said = re.sub(r"^assertion(?: `left .. right`)? failed:? ?", "", said.strip())
+    words = said.partition("\n  left:")[0] or " ".join(said.split())
+    return words.partition("\n")[0][:SHOWN]
+
+
+def witness_in(crate, text):
+    """Returns the witness that the note of a failed child is."""
+    said, status, command = re.fullmatch(r"(.*)\nstatus (\d+):(.*)", text, re.S).groups()
+    signal = int(status) & 0x7F
+    how = "does not end" if signal in OUT_OF_TIME else assertion_of(said) or f"status {status}"
+    return f"{crate} {command.split()[-1]}: {how}"
+
+
+def run_all(found, room):
+    """Runs all tests with each mutant, and returns the witnesses by mutant."""
+    top, rejected = Path(room, "repository"), Path(room, "rejected")
+    rejected.mkdir()
+    copy_crates(top)
+    numbered, alone = put_behind_switch(found, top)
+    add_switch(top, rejected)
+    witnesses = {}
+    for crate in (it for it in check_counts.crate_names() if tests_of(it)):
+        has_passed, said = run_tests(crate, top)
+        if not has_passed:
+            edits.stop(f"{crate}: its tests do not pass in the copy, without a mutant:\n{said[-3000:]}")
+        for number, mutant in numbered.items():
+            note = rejected / str(number)
+            if mutant not in witnesses and note.exists():
+                witnesses[mutant] = witness_in(crate, note.read_text(errors="replace"))
+        print(f"{crate}: {len(witnesses)} of {len(found)} mutants have a witness", flush=True)
+    return witnesses | {it: named for it in alone if (named := run_alone(it, Path(room)))}
+
+
+def run_alone(mutant, room):
+    """Runs the tests of a mutant's crate, built with it, and returns its witness or None."""
+    top = room / "alone"
+    copy_crates(top)
+    texts, _ = edits.rt.edited(mutant.edit.text, top / "crates" / mutant.crate)
+    for path, text in texts.items():
+        (top / "crates" / mutant.crate / path).write_text(text)
+    has_passed, said = run_tests(mutant.crate, top)
+    shutil.rmtree(top)
+    failed = re.search(r"^test (\S+) \.\.\. FAILED", said, re.M)
+    if not has_passed and not failed:
+        edits.stop(f"{mutant}: its tests were not run:\n{said[-3000:]}")
+    return f"{mutant.crate} {failed[1]}" if failed else None
+
+
+# ---- the file
+
+
+def stated():
+    """Returns what tools/witnesses.toml states by crate: the test of each mutant that has one, and the reasons of the others."""
+    found = tomllib.loads(STATED.read_text()) if STATED.is_file() else {}
+    return found.get("witness", {}), found.get("reason", {})
+
+
+def quoted(text):
+    text = text.replace("\\", "\\\\").replace('"', '\\"')
+    return '"' + re.sub(r"[\0-\x1f\x7f]", lambda it: f"\\u{ord(it[0]):04x}", text) + '"'
+
+
+def write(found, witnesses):
+    _, reasons = stated()
+    lines = ["# Written by tools/witness.py --write; the reasons are written by hand."]
+    for crate in dict.fromkeys(it.crate for it in found):
+        own = [it for it in found if it.crate == crate]
+        lines += ["", f"[witness.{crate}]", *(f"{quoted(it.words)} = {quoted(witnesses[it])}" for it in own if it in witnesses)]
+        silent = [it for it in own if it not in witnesses]
+        given = reasons.get(crate, {})
+        lines += ["", f"[reason.{crate}]"] if silent else []
+        lines += [f"{quoted(it.words)} = {quoted(given.get(it.words, NO_REASON))}" for it in silent]
+    STATED.write_text("\n".join(lines) + "\n")
+
+
+def tests_of(crate):
+    """Returns the names of a crate's test functions."""
+    return {*check_counts.TEST.findall(check_counts.source(crate))}
+
+
+def fault_of(mutant, test, reason, tests):
+    """Returns what is wrong with what the file states of a mutant, or an empty text."""
+    if test and reason:
+        return f"{mutant}: has a test and a reason"
+    if test:
+        crate, _, name = test.partition(": ")[0].partition(" ")
+        is_test = name.rpartition("::")[2] in tests.get(crate, ())
+        return "" if is_test else f"{mutant}: there is no test {crate} {name}: run tools/witness.py --write"
+    return "" if reason and reason != NO_REASON else f"{mutant}: no test fails with it, and tools/witnesses.toml gives no reason"
+
+
+def faults(found):
+    """Yields what is wrong with tools/witnesses.toml, and an empty text for each mutant with which nothing is."""
+    named, reasons = stated()
+    tests = {crate: tests_of(crate) for crate in check_counts.crate_names()}
+    for it in found:
+        yield fault_of(it, named.get(it.crate, {}).get(it.words), reasons.get(it.crate, {}).get(it.words), tests)
+    known = {(it.crate, it.words) for it in found}
+    for crate, words in ((crate, words) for part in (named, reasons) for crate, given in part.items() for words in given):
+        if (crate, words) not in known:
+            yield f"{crate}: tools/witnesses.toml has {words!r}, which is no mutant"
+    for it in found:
+        if sum(it.crate == other.crate and it.words == other.words for other in found) > 1:
+            yield f"{it}: two mutants have these words"
+
+
+def faults_of_run(found, witnesses):
+    """Yields a fault for each mutant that the file gives a test and that fails none, or fails one in spite of a reason."""
+    named, _ = stated()
+    for it in found:
+        if it.words in named.get(it.crate, {}) and it not in witnesses:
+            yield f"{it}: no test fails with it"
+        elif it.words not in named.get(it.crate, {}) and it in witnesses:
+            yield f"{it}: {witnesses[it]} fails with it: run tools/witness.py --write"
+        else:
+            yield ""
+
+
+def words():
+    asked = argparse.ArgumentParser(description=__doc__, formatter_class=argparse.RawDescriptionHelpFormatter)
+    asked.add_argument("--run", action="store_true")
+    asked.add_argument("--write", action="store_true")
+    return asked.parse_args()
+
+
+def main():
+    asked = words()
+    os.chdir(TOP)
+    found, witnesses = mutants(TOP), {}
+    if asked.run or asked.write:
+        with tempfile.TemporaryDirectory(prefix="witness-") as room:
+            os.chmod(room, 0o755)
+            witnesses = run_all(found, room)
+    if asked.write:
+        write(found, witnesses)
+        return 0
+    wrong = [*faults(found), *(faults_of_run(found, witnesses) if asked.run else ())]
+    for it in filter(None, wrong):
+        print(it)
+    failed = sum(map(bool, wrong))
+    print(f"{len(wrong) - failed} passed, {failed} failed")
+    return 1 if failed else 0
+
+
+if __name__ == "__main__":
+    sys.exit(main())
