@@ -96,7 +96,7 @@ def test_texts(crate):
 
 
 def lines_of_code(text):
-    """Returns how many lines of a text are neither empty nor a comment."""
+    """Returns how many lines are neither empty nor a comment."""
     return sum(not re.match(r" *(?://.*)?$", line) for line in text.splitlines())
 
 

@@ -25,6 +25,7 @@ import shutil
 import sys
 import tempfile
 from collections import ChainMap
+from pathlib import Path
 
 sys.dont_write_bytecode = True
 import check_edits
@@ -158,6 +159,9 @@ def run(anew):
         copy_repository(f"{room}/repository")
         os.chdir(f"{room}/repository")
         _, faults = edits.edits_below(f"{room}/repository", [])
+        # (tools/check_counts.py compares the other commands.)
+        if "\ncount python3 tools/check_counts.py\n" not in Path(".ci/run").read_text():
+            faults.append(".ci/run does not count tools/check_counts.py")
         for it in faults:
             edits.say(it)
         prove_once()

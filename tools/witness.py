@@ -2,17 +2,17 @@
 """Finds a witness of each mutant: a test that passes, and fails with the mutant.
 
   witness.py            compares the mutants with tools/witnesses.toml; the last line is 'N passed, M failed'
-  witness.py --run      the same, and runs all tests with each mutant: those that the file gives a test must fail one
-  witness.py --write    runs, and writes the tests to tools/witnesses.toml; keeps the reasons given there
+  witness.py --run      the same, and runs the test that the file gives for each mutant, which must fail
+  witness.py --write    runs all tests with the mutants that have none, and writes those that fail to the file
 
-The expected results of tests come from docs/, and the body that a mutant replaces is proved and passes them. So a mutant that fails a
-test returns another result: where the contract determines the result, no proof of the mutant exists. A mutant that no test fails with
-has a reason in tools/witnesses.toml.
+The expected results of tests come from docs/, and the body that a mutant replaces is proved and passes them. So a mutant with which a
+test fails returns another result: if the contract determines the result, no proof of the mutant exists. tools/witnesses.toml gives the
+reason if no test fails.
 
-This runs in a copy of the repository that has all mutants: `if jsonb_doc::witness::is(17) { return { .. }; }` precedes the body that the
-mutant 17 replaces. tools/witness/switch.c says which one runs: a test's process forks at each of these, once, and its child goes on
-with the mutant. So each crate's tests are built once, by rt try, which proves nothing. A mutant that is not in one function's body is
-built alone.
+This runs in a copy of the repository that has all mutants: `if jsonb_doc::witness::is(17) { return { .. }; }` precedes the body that
+mutant 17 replaces. tools/witness/switch.c says which one runs: a test's process forks at each of these, once, and its child goes on with
+the mutant. So each crate's tests are built once, by rt try, which proves nothing. A mutant that is not in one function's body is built
+alone.
 """
 import argparse
 import os
@@ -22,13 +22,15 @@ import subprocess
 import sys
 import tempfile
 import tomllib
-from dataclasses import dataclass
+from concurrent.futures import ThreadPoolExecutor
+from dataclasses import dataclass, field
 from pathlib import Path
 
 sys.dont_write_bytecode = True
 import check_counts
 import edits
 import group_edits
+import lanes
 
 TOP = Path(__file__).resolve().parent.parent
 STATED = TOP / "tools/witnesses.toml"
@@ -49,7 +51,7 @@ OUT_OF_TIME = (9, 24)
 class Mutant:
     crate: str
     words: str
-    edit: group_edits.Edit
+    edit: group_edits.Edit = field(compare=False)
 
     def __str__(self):
         return f"{self.crate}: {self.words}"
@@ -107,8 +109,8 @@ def place_of(mutant, top):
     return (folder / path, *found) if found else None
 
 
-def put_behind_switch(found, top):
-    """Puts mutants into a copy of the repository, and returns those behind the switch by their numbers, and the others."""
+def add_mutants(found, top):
+    """Puts mutants into a copy of the repository, and returns those with a switch by their numbers, and the others."""
     numbered, alone, put = {}, [], {}
     for mutant in found:
         place = place_of(mutant, top)
@@ -128,13 +130,15 @@ def put_behind_switch(found, top):
     return numbered, alone
 
 
-def add_switch(top, rejected):
-    """Adds the switch to jsonb_doc, and jsonb_doc to what each other crate uses."""
+def add_switch(top, rejected, tests):
+    """Adds the switch to jsonb_doc, and jsonb_doc to what each other crate uses. `tests` has the test of each mutant, if it has one."""
     rows = (top / "crates.txt").read_text().splitlines()
     (top / "crates.txt").write_text("".join(f"{it}{'' if re.search('(?:^|: | )jsonb_doc(?= |:|$)', it) else ' jsonb_doc'}\n" for it in rows))
     doc = top / "crates/jsonb_doc"
     (doc / "c").mkdir()
-    (doc / "c/switch.c").write_text((PARTS / "switch.c").read_text().replace("@REJECTED@", str(rejected)))
+    text = (PARTS / "switch.c").read_text().replace("@REJECTED@", str(rejected))
+    text = text.replace("@TESTS@", ", ".join(f'"{it}"' if it else "NULL" for it in tests))
+    (doc / "c/switch.c").write_text(text)
     shutil.copy(PARTS / "switch.rt.in", doc / "src/witness.rt")
     library = doc / "src/lib.rt"
     library.write_text(re.sub(r"^(?=mod \w+;)", "pub mod witness;\n", library.read_text(), count=1, flags=re.M))
@@ -164,7 +168,7 @@ def run_tests(crate, top):
 
 
 def assertion_of(said):
-    """Returns what a failed assertion says: its own words, which name a row, else what it compares."""
+    """Returns what a failed assertion says: its own words, which name a row, or what it compares."""
     said = re.sub(r"^assertion(?: `left .. right`)? failed:? ?", "", said.strip())
     words = said.partition("\n  left:")[0] or " ".join(said.split())
     return words.partition("\n")[0][:SHOWN]
@@ -172,30 +176,44 @@ def assertion_of(said):
 
 def witness_in(crate, text):
     """Returns the witness that the note of a failed child is."""
-    said, status, command = re.fullmatch(r"(.*)\nstatus (\d+):(.*)", text, re.S).groups()
+    said, status, test = re.fullmatch(r"(.*)\nstatus (\d+): (\S+)", text, re.S).groups()
     signal = int(status) & 0x7F
     how = "does not end" if signal in OUT_OF_TIME else assertion_of(said) or f"status {status}"
-    return f"{crate} {command.split()[-1]}: {how}"
+    return f"{crate} {test}: {how}"
 
 
-def run_all(found, room):
-    """Runs all tests with each mutant, and returns the witnesses by mutant."""
-    top, rejected = Path(room, "repository"), Path(room, "rejected")
+def crate_and_test(witness):
+    """Returns the crate and the name of the test that a witness names."""
+    return witness.partition(": ")[0].split(" ")
+
+
+def run_all(found, given, room, in_all):
+    """Runs the tests with each mutant that has one, and returns the witnesses by mutant. If `in_all`, runs the others in all tests.
+
+    `given` has the known witnesses. Then the crates are run one after the other, so that a witness is in the lowest of them.
+    """
+    top, rejected = room / "repository", room / "rejected"
     rejected.mkdir()
     copy_crates(top)
-    numbered, alone = put_behind_switch(found, top)
-    add_switch(top, rejected)
+    numbered, alone = add_mutants([it for it in found if in_all or it in given], top)
+    add_switch(top, rejected, [crate_and_test(given[it])[1] if it in given else None for it in numbered.values()])
+    crates = [it for it in check_counts.crate_names() if tests_of(it)]
+    if not in_all:
+        crates = [it for it in crates if any(crate_and_test(given[mutant])[0] == it for mutant in numbered.values())]
     witnesses = {}
-    for crate in (it for it in check_counts.crate_names() if tests_of(it)):
-        has_passed, said = run_tests(crate, top)
-        if not has_passed:
-            edits.stop(f"{crate}: its tests do not pass in the copy, without a mutant:\n{said[-3000:]}")
-        for number, mutant in numbered.items():
-            note = rejected / str(number)
-            if mutant not in witnesses and note.exists():
-                witnesses[mutant] = witness_in(crate, note.read_text(errors="replace"))
-        print(f"{crate}: {len(witnesses)} of {len(found)} mutants have a witness", flush=True)
-    return witnesses | {it: named for it in alone if (named := run_alone(it, Path(room)))}
+    with ThreadPoolExecutor(1 if in_all else lanes.lanes_here()) as pool:
+        for crate, (has_passed, said) in zip(crates, pool.map(lambda it: run_tests(it, top), crates)):
+            if not has_passed:
+                edits.stop(f"{crate}: its tests do not pass in the copy, without a mutant:\n{said[-3000:]}")
+            witnesses |= {it: witness_in(crate, note) for it, note in notes_of(rejected, numbered).items() if it not in witnesses}
+            print(f"{crate}: {len(witnesses)} of {len(numbered)} mutants have failed a test", flush=True)
+    return witnesses | {it: named for it in alone if (named := run_alone(it, room))}
+
+
+def notes_of(rejected, numbered):
+    """Returns what the switch noted of each mutant that a test rejected."""
+    notes = ((mutant, rejected / str(number)) for number, mutant in numbered.items())
+    return {mutant: note.read_text(errors="replace") for mutant, note in notes if note.exists()}
 
 
 def run_alone(mutant, room):
@@ -245,14 +263,13 @@ def tests_of(crate):
     return {*check_counts.TEST.findall(check_counts.source(crate))}
 
 
-def fault_of(mutant, test, reason, tests):
+def fault_of(mutant, witness, reason, tests):
     """Returns what is wrong with what the file states of a mutant, or an empty text."""
-    if test and reason:
+    if witness and reason:
         return f"{mutant}: has a test and a reason"
-    if test:
-        crate, _, name = test.partition(": ")[0].partition(" ")
-        is_test = name.rpartition("::")[2] in tests.get(crate, ())
-        return "" if is_test else f"{mutant}: there is no test {crate} {name}: run tools/witness.py --write"
+    if witness:
+        crate, name = crate_and_test(witness)
+        return "" if name.rpartition("::")[2] in tests.get(crate, ()) else f"{mutant}: there is no test {name} of {crate}"
     return "" if reason and reason != NO_REASON else f"{mutant}: no test fails with it, and tools/witnesses.toml gives no reason"
 
 
@@ -271,16 +288,15 @@ def faults(found):
             yield f"{it}: two mutants have these words"
 
 
-def faults_of_run(found, witnesses):
-    """Yields a fault for each mutant that the file gives a test and that fails none, or fails one in spite of a reason."""
+def known_witnesses(found):
     named, _ = stated()
-    for it in found:
-        if it.words in named.get(it.crate, {}) and it not in witnesses:
-            yield f"{it}: no test fails with it"
-        elif it.words not in named.get(it.crate, {}) and it in witnesses:
-            yield f"{it}: {witnesses[it]} fails with it: run tools/witness.py --write"
-        else:
-            yield ""
+    return {it: named[it.crate][it.words] for it in found if it.words in named.get(it.crate, {})}
+
+
+def run(found, in_all):
+    with tempfile.TemporaryDirectory(prefix="witness-") as room:
+        os.chmod(room, 0o755)
+        return run_all(found, known_witnesses(found), Path(room), in_all)
 
 
 def words():
@@ -293,15 +309,14 @@ def words():
 def main():
     asked = words()
     os.chdir(TOP)
-    found, witnesses = mutants(TOP), {}
-    if asked.run or asked.write:
-        with tempfile.TemporaryDirectory(prefix="witness-") as room:
-            os.chmod(room, 0o755)
-            witnesses = run_all(found, room)
+    found = mutants(TOP)
     if asked.write:
-        write(found, witnesses)
+        write(found, run(found, True))
         return 0
-    wrong = [*faults(found), *(faults_of_run(found, witnesses) if asked.run else ())]
+    wrong = [*faults(found)]
+    if asked.run:
+        witnesses = run(found, False)
+        wrong += ["" if it in witnesses else f"{it}: {given} does not fail with it" for it, given in known_witnesses(found).items()]
     for it in filter(None, wrong):
         print(it)
     failed = sum(map(bool, wrong))

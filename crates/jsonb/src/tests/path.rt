@@ -138,6 +138,24 @@ fn a_document_prints_in_hexadecimal_and_equals_none(rt: HostRuntime) -> Result<(
     Ok(())
 }
 
+#[test]
+fn literals_are_copied(rt: HostRuntime) -> Result<(), Fail> {
+    let truth = PathValue::Boolean(true);
+    assert!(rt; truth.clone(rt.alloc())? == truth);
+    assert!(rt; truth.to_owned(rt.alloc())? == truth);
+    let document = PathValue::Raw(RawJsonb::new(DOCUMENT));
+    assert!(rt; matches!(document.to_owned(rt.alloc()), Err(Error::InvalidJsonPath)));
+    Ok(())
+}
+
+#[test]
+fn paths_of_other_names_differ(rt: HostRuntime) -> Result<(), Fail> {
+    let path = parse_json_path(rt.alloc(), b"$.a")?;
+    let other = parse_json_path(rt.alloc(), b"$.b")?;
+    assert!(rt; path != other);
+    Ok(())
+}
+
 // Whether a copy of the step equals it.
 fn is_copied(alloc: Global, step: &Path<'_>) -> Result<bool, Error> {
     let copy = step.clone(alloc)?;

@@ -1,6 +1,7 @@
 //! Items of documents that decode and of bytes that do not.
 
-use super::{elements, keys, pairs, root_item, values};
+use super::{array_elements, elements, keys, object_pairs, pairs, root_item, values};
+use crate::entry_iter::object_entries;
 use crate::error::Error;
 use crate::extension::{Date, ExtensionValue, Interval};
 use crate::item::Item;
@@ -41,6 +42,9 @@ const FLOAT_IN_ARRAY: &[u8] = b"\x80\0\0\x01\x20\0\0\x01\x60";
 
 /// `{"a":float}`
 const FLOAT_IN_OBJECT: &[u8] = b"\x40\0\0\x01\x10\0\0\x01\x20\0\0\x01a\x60";
+
+/// An object whose key is not UTF-8.
+const NO_TEXT_AS_KEY: &[u8] = b"\x40\0\0\x01\x10\0\0\x01\0\0\0\0\xff";
 
 /// The decimal 12.34.
 const PRICE: Number = Number::Decimal64(Decimal64 {
@@ -87,7 +91,7 @@ enum Read {
 }
 
 /// Containers and others, and what is read of them.
-static CONTAINERS: [(&[u8], Read); 12] = rows! {
+static CONTAINERS: [(&[u8], Read); 13] = rows! {
     MIXED, Read::Elements(Some(&[
         Ok(Item::Boolean(false)), Ok(Item::Number(Number::UInt64(10))), Ok(Item::Object(PAIR))
     ]));
@@ -99,6 +103,7 @@ static CONTAINERS: [(&[u8], Read); 12] = rows! {
     MIXED, Read::Values(None);
     NULLS, Read::Keys(Some(&[Ok("a"), Ok("b")]));
     MIXED, Read::Keys(None);
+    NO_TEXT_AS_KEY, Read::Keys(Some(&[Err(Error::InvalidJsonb)]));
     NULLS, Read::Pairs(Some(&[Ok(("a", Item::Null)), Ok(("b", Item::Array(NULL_ALONE)))]));
     FLOAT_IN_OBJECT, Read::Pairs(Some(&[Err(Error::UnsupportedNumber)]));
     TEN, Read::Pairs(None);
@@ -156,4 +161,11 @@ fn reads_parts_of_containers(rt: HostRuntime) -> Result<(), Fail> {
         assert!(rt; is_read(rt.alloc(), bytes, *read)?, "{bytes:?}");
     }
     Ok(())
+}
+
+#[test]
+fn other_containers_are_refused(rt: HostRuntime) {
+    assert!(rt; matches!(array_elements(NULLS), Err(Error::InvalidJsonb)));
+    assert!(rt; matches!(object_pairs(MIXED), Err(Error::InvalidJsonb)));
+    assert!(rt; matches!(object_entries(MIXED), Err(Error::InvalidJsonb)));
 }

@@ -25,7 +25,7 @@ enum Step {
 }
 
 /// Documents, the steps from the root to a part of it, and the item and the document of the part, if it is there.
-static PARTS: [(&[u8], &[Step], Option<(Item<'static>, &[u8])>); 17] = rows! {
+static PARTS: [(&[u8], &[Step], Option<(Item<'static>, &[u8])>); 18] = rows! {
     FRED, &[Step::Member("phones"), Step::Child(0), Step::Member("number")],
         Some((Item::Number(Number::UInt64(3720453)), b"\x20\0\0\0\x20\0\0\x05\x50\0\x38\xc5\x05"));
     FRED, &[Step::Member("phones"), Step::Child(1), Step::Member("number")],
@@ -47,6 +47,7 @@ static PARTS: [(&[u8], &[Step], Option<(Item<'static>, &[u8])>); 17] = rows! {
     MIXED, &[Step::Member("k")], None;
     DATE, &[Step::Member("")], None;
     DATE, &[Step::Child(0)], None;
+    b"\x20\0\0\0\0\0\0\0", &[Step::Child(0)], None;
 };
 
 fn child_at(bytes: &[u8], spot: Spot, place: usize) -> Result<Option<Spot>, Error> {

@@ -13,6 +13,7 @@ enum Made {
     ExpressionAmongSteps,
     SignedOperand,
     ExpressionWithinPath,
+    TruthWithinPath,
 }
 
 /// Returns a literal in a box.
@@ -63,6 +64,15 @@ fn expression_within_path(alloc: Global) -> Result<Vec<Path<'static>>, AllocErro
     Ok(vec![in alloc; Path::BracketWildcard, Path::FilterExpr(filter)]?)
 }
 
+/// Returns `[*]?(exists(@ exists(@)))`, in which the inner one is not a filter.
+fn truth_within_path(alloc: Global) -> Result<Vec<Path<'static>>, AllocError> {
+    let item = vec![in alloc; Path::Current]?;
+    let truth = Box::new(alloc, Expr::ExistsFunc(item))?;
+    let inner = vec![in alloc; Path::Current, Path::Expr(truth)]?;
+    let filter = Box::new(alloc, Expr::ExistsFunc(inner))?;
+    Ok(vec![in alloc; Path::BracketWildcard, Path::FilterExpr(filter)]?)
+}
+
 fn steps(alloc: Global, made: Made) -> Result<Vec<Path<'static>>, AllocError> {
     match made {
         Made::ItemAlone => Ok(vec![in alloc; Path::Current]?),
@@ -71,6 +81,7 @@ fn steps(alloc: Global, made: Made) -> Result<Vec<Path<'static>>, AllocError> {
         Made::ExpressionAmongSteps => expression_among_steps(alloc),
         Made::SignedOperand => signed_operand(alloc),
         Made::ExpressionWithinPath => expression_within_path(alloc),
+        Made::TruthWithinPath => truth_within_path(alloc),
     }
 }
 
@@ -83,7 +94,7 @@ fn selected_by(alloc: Global, paths: Vec<Path<'_>>, document: &str) -> Result<St
 }
 
 /// What is built, a document, and what is selected of it.
-static ROWS: [(Made, &str, &str); 7] = rows! {
+static ROWS: [(Made, &str, &str); 8] = rows! {
     Made::ItemAlone, "[1]", "InvalidJsonPath";
     Made::LiteralAlone, "[1]", "[1]";
     Made::PathAsExpression, "[1]", "InvalidJsonPath";
@@ -91,6 +102,7 @@ static ROWS: [(Made, &str, &str); 7] = rows! {
     Made::SignedOperand, "[1]", "InvalidJsonPath";
     Made::ExpressionWithinPath, "[1]", "InvalidJsonPath";
     Made::ExpressionWithinPath, "[]", "";
+    Made::TruthWithinPath, "[1]", "InvalidJsonPath";
 };
 
 #[test]
@@ -100,6 +112,20 @@ fn steps_that_no_text_reads_as(rt: HostRuntime) -> Result<(), Fail> {
         let found = selected_by(rt.alloc(), steps, document)?;
         assert_eq!(rt; found.as_str(), *wanted, "{made:?} on {document}");
     }
+    Ok(())
+}
+
+#[test]
+fn an_item_alone_does_not_exist(rt: HostRuntime) -> Result<(), Fail> {
+    let document = bytes_of(rt.alloc(), "[1]")?;
+    let paths = steps(rt.alloc(), Made::ItemAlone)?;
+    let mut selector = Selector::new(rt.alloc(), RawJsonb::new(&document));
+    assert!(rt;
+        matches!(
+            selector.exists(&JsonPath { paths }),
+            Err(Error::InvalidJsonPath)
+        )
+    );
     Ok(())
 }
 

@@ -125,6 +125,23 @@ fn a_strict_refusal_behind_the_first_is_the_answer(rt: HostRuntime) -> Result<()
     Ok(())
 }
 
+#[test]
+fn a_predicate_is_strict_too(rt: HostRuntime) -> Result<(), Fail> {
+    let document = bytes_of(rt.alloc(), "[1]")?;
+    let path = parse_json_path(rt.alloc(), b"exists($.a)")?;
+    let mut selector = Selector::new_strict(rt.alloc(), RawJsonb::new(&document));
+    assert!(rt; matches!(selector.predicate_match(&path), Err(Error::StrictPath)));
+    Ok(())
+}
+
+#[test]
+fn nothing_exists_in_no_bytes(rt: HostRuntime) -> Result<(), Fail> {
+    let path = parse_json_path(rt.alloc(), b"$")?;
+    let mut selector = Selector::new(rt.alloc(), RawJsonb::new(b""));
+    assert!(rt; matches!(selector.exists(&path), Err(Error::InvalidJsonb)));
+    Ok(())
+}
+
 /// Returns the result of a selector that is used again, for a path.
 fn next_answer(alloc: Global, selector: &mut Selector<'_>, path: &str) -> Result<String, Fail> {
     let path = parse_json_path(alloc, path.as_bytes())?;

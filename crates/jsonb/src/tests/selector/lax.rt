@@ -45,6 +45,7 @@ FRED $.phones[*]?(@.code == @.type || 4000000 > @.number) => {"number":3720453,"
 FRED $.phones[*]?(@.type == "home" || exists(@.code) || @.type > 5) =>
 [] $[*]?(-@.a) =>
 [1] $[*]?(-@.a) => InvalidJsonPath
+DATE $?(@ == 2 || 1 == 1) => DATE
 FRED $.phones[*]?(@.number == 3720453) => {"number":3720453,"type":"home"}"#;
 
 /// Strings are compared by their bytes.
@@ -159,6 +160,7 @@ fn levels_are_counted_past_255(rt: HostRuntime) -> Result<(), Fail> {
     let bytes = nested_arrays(rt.alloc(), 300)?;
     assert!(rt; RawJsonb::new(&bytes).check().is_ok());
     assert!(rt; count(rt.alloc(), &bytes, "$.**{0 to last}")? == 300);
+    assert!(rt; count(rt.alloc(), &bytes, "$.**{255}")? == 1);
     Ok(())
 }
 
