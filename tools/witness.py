@@ -41,8 +41,8 @@ NO_REASON = "no reason yet"
 SHOWN = 90
 # A test has this many seconds for all mutants that it reaches.
 SECONDS = 900
-# Tests of deep documents and expressions are not run, since each takes long with each mutant.
-SLOW = re.compile(r"^( *)#\[test\]\n(?= *fn \w*(?:deep|depth))", re.M)
+# Tests of deep documents and expressions, which take long with each mutant, are not run with all.
+SLOW = re.compile(r"^( *)#\[test\]\n(?= *fn \w*(?:deep_|deeper_|any_depth))", re.M)
 # How a child ends that has no more time: SIGKILL, SIGXCPU.
 OUT_OF_TIME = (9, 24)
 
@@ -147,12 +147,12 @@ def add_switch(top, rejected, tests):
 # ---- running
 
 
-def copy_crates(top):
+def copy_crates(top, with_slow_tests=True):
     top.mkdir()
     for name in ("crates.txt", "HANDLES"):
         shutil.copy(TOP / name, top)
     shutil.copytree(TOP / "crates", top / "crates", ignore=lambda at, names: [it for it in names if it == "out"])
-    for path in (top / "crates").rglob("*.rt"):
+    for path in () if with_slow_tests else (top / "crates").rglob("*.rt"):
         text = path.read_text()
         if SLOW.search(text):
             path.write_text(SLOW.sub(r"\g<0>\1#[ignore]\n", text))
@@ -194,7 +194,7 @@ def run_all(found, given, room, in_all):
     """
     top, rejected = room / "repository", room / "rejected"
     rejected.mkdir()
-    copy_crates(top)
+    copy_crates(top, not in_all)
     numbered, alone = add_mutants([it for it in found if in_all or it in given], top)
     add_switch(top, rejected, [crate_and_test(given[it])[1] if it in given else None for it in numbered.values()])
     crates = [it for it in check_counts.crate_names() if tests_of(it)]

@@ -3,6 +3,8 @@
 use super::{Decimal64, Decimal128, Number};
 use crate::error::Error;
 use crate::reading::tests::are_alike;
+use crate::short_number::{ShortNumber, short_cmp, short_equal};
+use std::cmp::Ordering;
 use std::test::Fail;
 
 const PRICE: Number = Number::Decimal64(Decimal64 {
@@ -63,4 +65,15 @@ fn reads_payloads_and_refuses_others(rt: HostRuntime) -> Result<(), Fail> {
         assert!(rt; is_so, "{payload:?}");
     }
     Ok(())
+}
+
+#[test]
+fn short_numbers_of_other_scales_differ(rt: HostRuntime) {
+    let hundredths = Number::Decimal64(Decimal64 {
+        scale: 2,
+        value: 16,
+    });
+    assert!(rt; short_cmp(ShortNumber::Decimal(15, 1), &hundredths) == Ordering::Greater);
+    assert!(rt; !short_equal(ShortNumber::Decimal(15, 1), ShortNumber::Decimal(15, 2)));
+    assert!(rt; matches!(ShortNumber::Decimal(0, 2).to_number(), Number::UInt64(0)));
 }
