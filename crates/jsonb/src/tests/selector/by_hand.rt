@@ -116,9 +116,9 @@ fn steps_that_no_text_reads_as(rt: HostRuntime) -> Result<(), Fail> {
 }
 
 #[test]
-fn an_item_alone_does_not_exist(rt: HostRuntime) -> Result<(), Fail> {
+fn no_item_is_below_an_item_alone(rt: HostRuntime) -> Result<(), Fail> {
     let document = bytes_of(rt.alloc(), "[1]")?;
-    let paths = steps(rt.alloc(), Made::ItemAlone)?;
+    let paths = vec![in rt.alloc(); Path::Current, Path::BracketWildcard]?;
     let mut selector = Selector::new(rt.alloc(), RawJsonb::new(&document));
     assert!(rt;
         matches!(
