@@ -6,6 +6,7 @@ set -u
 
 packages=(
     gcc g++ make binutils pkg-config valgrind mandoc           # the C library, its tests and measurements
+    abigail-tools
     sqlite3 libsqlite3-dev                                    # bindings/sqlite
     postgresql postgresql-server-dev-all                      # bindings/postgres
     python3 python3-dev python3-setuptools python3-wheel      # bindings/python, the wheel

@@ -1,7 +1,8 @@
 """The names of the library: what it exports, what its headers and bindings/rust/sys declare, and what other libraries export.
 
     exports.py FOLDER      of libjdoc.so and libjdoc.a; the last line is `N passed, M failed`
-    exports.py --write     writes bindings/c/abi.txt, which a release fixes: what is there may be added to, and not changed
+    exports.py --write     writes bindings/c/abi.txt and, with abidw of libabigail, bindings/c/jdoc.abi. A release fixes both: what is
+                           there may be added to, and not changed
 """
 
 import ctypes
@@ -11,6 +12,7 @@ import re
 import shutil
 import subprocess
 import sys
+import tempfile
 
 HERE = os.path.dirname(os.path.abspath(__file__))
 VERSION = "JDOC_0.1"
@@ -102,6 +104,34 @@ def of_the_interface(_folder):
     yield from (f"no longer in jdoc.h: {line}" for line in read("c", "abi.txt").splitlines() if line not in here)
 
 
+# How abidw describes an interface: without the places of declarations and the names of parameters.
+ABIDW = "abidw --no-corpus-path --no-comp-dir-path --no-show-locs --no-parameter-names --no-elf-needed --type-id-style hash --load-all-types"
+
+
+def stubs(folder):
+    """A library in a folder with the functions of jdoc.h, which do nothing, and with debugging information, which libjdoc.so lacks."""
+    functions = "".join(f"{result} {name}({', '.join(arguments) or 'void'}) {{ abort(); }}\n" for name, result, arguments in declared())
+    named = re.sub(r"(?<=[(,])[^,()]+", lambda it: it[0] if it[0] == "void" else f"{it[0]} a{it.start()}", functions)
+    with open(os.path.join(folder, "stubs.c"), "w", encoding="utf-8") as file:
+        file.write(f'#include "jdoc.h"\n#include <stdlib.h>\nstatic enum jdoc_kind kind __attribute__((used));\n{named}')
+    library, c = os.path.join(folder, "libjdoc.so"), os.path.join(HERE, "..", "c")
+    words = [f"-I{c}", "-Wl,-soname,libjdoc.so.0", f"-Wl,--version-script={c}/exports.map", "-o", library, f"{folder}/stubs.c"]
+    subprocess.run(["cc", "-g", "-O0", "-fPIC", "-shared", *words], check=True)
+    return library
+
+
+def of_compiled_types(_folder):
+    """The sizes, fields and numbers of the types as they are compiled, which the text of the header may not show."""
+    if shutil.which("abidiff") is None:
+        print("skipped: the interface as it is compiled: there is no abidiff (apt-get install abigail-tools)")
+        return
+    with tempfile.TemporaryDirectory() as folder:
+        words = ["abidiff", "--no-added-syms", "--no-show-locs", "--non-reachable-types", os.path.join(HERE, "..", "c", "jdoc.abi"), stubs(folder)]
+        said = subprocess.run(words, capture_output=True, text=True)
+    if said.returncode:
+        yield f"bindings/c/jdoc.abi describes another interface:\n{said.stdout}{said.stderr}"
+
+
 def server():
     """The file of PostgreSQL's server, or None."""
     if shutil.which("pg_config") is None:
@@ -133,11 +163,14 @@ def of_others(folder):
 
 def main():
     if sys.argv[1] == "--write":
-        with open(os.path.join(HERE, "..", "c", "abi.txt"), "w", encoding="utf-8") as file:
+        c = os.path.join(HERE, "..", "c")
+        with open(os.path.join(c, "abi.txt"), "w", encoding="utf-8") as file:
             file.write("".join(f"{line}\n" for line in interface()))
+        with tempfile.TemporaryDirectory() as folder:
+            subprocess.run([*ABIDW.split(), "--out-file", os.path.join(c, "jdoc.abi"), stubs(folder)], check=True)
         return 0
     passed = failed = 0
-    for check in (of_the_library, of_the_interface, of_rust, of_statuses, of_others):
+    for check in (of_the_library, of_the_interface, of_compiled_types, of_rust, of_statuses, of_others):
         faults = list(check(sys.argv[1]))
         print("".join(f"{it}\n" for it in faults), end="")
         passed, failed = passed + (not faults), failed + len(faults)
