@@ -7,12 +7,16 @@
  * A document is bytes, and so is its view: a std::vector, a std::string_view or a C++20 std::span of bytes converts to it.
  * Each function is one of jdoc.h, under its name without the prefix; nothing here reads or writes the format. A result holds
  * the value or the error. `std::nullopt` stands for JDOC_NONE, and for unknown in `match`. Only std::bad_alloc is thrown.
+ *
+ * A jdoc::path or jdoc::keypath is a path that was parsed once. A jdoc::column is many documents, on which most functions
+ * can be called too: jdoc::match(column, "$.age > 40") has a Boolean and a status for each row.
  */
 #ifndef JDOC_HPP
 #define JDOC_HPP
 
 #include "jdoc.h"
 
+#include <algorithm>
 #include <initializer_list>
 #include <optional>
 #include <string>
@@ -42,8 +46,73 @@ class view {
     std::size_t size_;
 };
 
+/* Returns the JDOC_VERSION_NUMBER of the library. */
+inline std::uint32_t version() noexcept { return jdoc_version(); }
+
 /* Returns what a status means. */
 inline const char *text(jdoc_status status) noexcept { return jdoc_status_text(status); }
+
+/* Documents or strings, one after the other, with the offsets between them. */
+class column {
+  public:
+    column() = default;
+    column(std::initializer_list<view> rows) {
+        for (view it : rows) push_back(it);
+    }
+    column(std::vector<std::uint8_t> bytes, std::vector<std::uint64_t> offsets)
+        : bytes_(std::move(bytes)), offsets_(std::move(offsets)) {}
+
+    void push_back(view row) {
+        bytes_.insert(bytes_.end(), row.data(), row.data() + row.size());
+        offsets_.push_back(bytes_.size());
+    }
+    std::size_t size() const noexcept { return offsets_.size() - 1; }
+    view operator[](std::size_t row) const noexcept {
+        return view(bytes_.data() + offsets_[row], offsets_[row + 1] - offsets_[row]);
+    }
+    const std::vector<std::uint8_t> &bytes() const noexcept { return bytes_; }
+    const std::vector<std::uint64_t> &offsets() const noexcept { return offsets_; }
+
+  private:
+    std::vector<std::uint8_t> bytes_;
+    std::vector<std::uint64_t> offsets_{0};
+};
+
+/* A column that someone else owns, such as a large binary array of Arrow. */
+struct column_view {
+    const std::uint8_t *bytes;
+    std::size_t bytes_len;
+    const std::uint64_t *offsets;
+    std::size_t offsets_len;
+
+    column_view(const std::uint8_t *data, std::size_t size, const std::uint64_t *positions, std::size_t count) noexcept
+        : bytes(data), bytes_len(size), offsets(positions), offsets_len(count) {}
+    column_view(const column &it) noexcept
+        : column_view(it.bytes().data(), it.bytes().size(), it.offsets().data(), it.offsets().size()) {}
+    std::size_t size() const noexcept { return offsets_len ? offsets_len - 1 : 0; }
+};
+
+/* The results of a call on a column, and the status of each row: JDOC_OK, JDOC_NONE or an error. */
+template <class T> struct values {
+    std::vector<T> rows; /* 0 unless the status is JDOC_OK; a Boolean is 1, 0, or 2 for unknown and for an error */
+    std::vector<std::uint8_t> statuses;
+};
+using booleans = values<std::uint8_t>;
+using numbers = values<std::int64_t>;
+struct documents {
+    column rows; /* empty unless the status is JDOC_OK */
+    std::vector<std::uint8_t> statuses;
+};
+
+/* The number (high * 2^64 + low) / 10^scale. */
+struct decimal {
+    std::int64_t high;
+    std::uint64_t low;
+    std::uint8_t scale;
+    bool operator==(const decimal &other) const noexcept {
+        return high == other.high && low == other.low && scale == other.scale;
+    }
+};
 
 /* A value or an error, as std::expected of C++23. */
 template <class T> class [[nodiscard]] result {
@@ -115,18 +184,74 @@ template <class Call> result<bool> truth(Call call) {
     return status == JDOC_OK ? result<bool>(made == 1) : result<bool>(status);
 }
 
-/* Names as a column. */
+template <class Call> result<std::optional<bool>> ternary(Call call) {
+    std::uint8_t made = 0;
+    const jdoc_status status = call(&made);
+    if (status != JDOC_OK) return status;
+    return made == 2 ? std::optional<bool>() : std::optional<bool>(made == 1);
+}
+
+/* The arguments of a column of names. */
 struct names {
-    std::string bytes;
-    std::vector<std::uint64_t> offsets{0};
+    column rows;
 
     explicit names(std::initializer_list<std::string_view> list) {
-        for (std::string_view it : list) {
-            bytes += it;
-            offsets.push_back(bytes.size());
-        }
+        for (std::string_view it : list) rows.push_back(it);
     }
+    const char *data() const noexcept { return reinterpret_cast<const char *>(rows.bytes().data()); }
+    std::size_t size() const noexcept { return rows.bytes().size(); }
+    const std::uint64_t *offsets() const noexcept { return rows.offsets().data(); }
+    std::size_t count() const noexcept { return rows.offsets().size(); }
 };
+
+/* Calls a function that writes a value of fixed size for each row. */
+template <class T, class Call> result<values<T>> fixed(column_view it, Call call) {
+    values<T> made{std::vector<T>(it.size()), std::vector<std::uint8_t>(it.size())};
+    std::size_t done = 0;
+    const jdoc_status status =
+        call(made.rows.data(), made.rows.size(), made.statuses.data(), made.statuses.size(), &done);
+    return status == JDOC_OK ? result<values<T>>(std::move(made)) : result<values<T>>(status);
+}
+
+/* The arguments of a function that writes the results of the rows from `first` on. */
+template <class Byte> struct output {
+    std::size_t first;
+    Byte *out;
+    std::size_t out_size;
+    std::uint64_t *positions;
+    std::size_t positions_len;
+    std::uint8_t *statuses;
+    std::size_t statuses_len;
+    jdoc_progress progress;
+};
+
+/* Calls a function that writes bytes for each row, until all rows are done: with a larger buffer for those that are
+ * left. */
+template <class Byte = std::uint8_t, class Call> result<documents> several(column_view it, Call call) {
+    const std::size_t rows = it.size();
+    std::vector<std::uint8_t> bytes, statuses(rows);
+    std::vector<std::uint64_t> offsets(rows + 1);
+    std::size_t done = 0, used = 0, more = it.bytes_len + 64;
+    jdoc_status status = JDOC_BUFFER_TOO_SMALL;
+    while (status == JDOC_BUFFER_TOO_SMALL) {
+        bytes.resize(used + more);
+        output<Byte> to{done,
+                        reinterpret_cast<Byte *>(bytes.data() + used),
+                        more,
+                        offsets.data() + done,
+                        rows + 1 - done,
+                        statuses.data() + done,
+                        rows - done,
+                        {}};
+        status = call(to);
+        for (std::size_t i = 0; i <= to.progress.rows; i++) offsets[done + i] += used;
+        done += to.progress.rows, used += to.progress.bytes;
+        more = std::max(2 * more, to.progress.next);
+    }
+    if (status != JDOC_OK) return status;
+    bytes.resize(used);
+    return documents{column(std::move(bytes), std::move(offsets)), std::move(statuses)};
+}
 
 } // namespace detail
 
@@ -185,10 +310,8 @@ inline result<bool> exists(view it, std::string_view path, bool strict = false) 
 
 /* Returns the value of a path that is a predicate; std::nullopt is unknown, or the path is not a predicate. */
 inline result<std::optional<bool>> match(view it, std::string_view path, bool strict = false) {
-    std::uint8_t made = 0;
-    const jdoc_status status = jdoc_match(it.data(), it.size(), path.data(), path.size(), strict, &made);
-    if (status != JDOC_OK) return status;
-    return made == 2 ? std::optional<bool>() : std::optional<bool>(made == 1);
+    return detail::ternary(
+        [=](std::uint8_t *made) { return jdoc_match(it.data(), it.size(), path.data(), path.size(), strict, made); });
 }
 
 inline result<std::size_t> size(view it) {
@@ -245,16 +368,16 @@ inline result<document> strip_nulls(view it) {
 inline result<document> pick(view object, std::initializer_list<std::string_view> names) {
     const detail::names column(names);
     return detail::bytes<document>(object.size(), [&](std::uint8_t *out, std::size_t size, std::size_t *len) {
-        return jdoc_object_pick(object.data(), object.size(), column.bytes.data(), column.bytes.size(), column.offsets.data(),
-                                column.offsets.size(), out, size, len);
+        return jdoc_object_pick(object.data(), object.size(), column.data(), column.size(), column.offsets(),
+                                column.count(), out, size, len);
     });
 }
 
 inline result<document> remove(view object, std::initializer_list<std::string_view> names) {
     const detail::names column(names);
     return detail::bytes<document>(object.size(), [&](std::uint8_t *out, std::size_t size, std::size_t *len) {
-        return jdoc_object_delete(object.data(), object.size(), column.bytes.data(), column.bytes.size(),
-                                  column.offsets.data(), column.offsets.size(), out, size, len);
+        return jdoc_object_delete(object.data(), object.size(), column.data(), column.size(), column.offsets(),
+                                  column.count(), out, size, len);
     });
 }
 
@@ -300,16 +423,16 @@ inline result<std::int32_t> compare(view it, view other) {
 inline result<bool> exists_all_keys(view it, std::initializer_list<std::string_view> names) {
     const detail::names column(names);
     return detail::truth([&](std::uint8_t *made) {
-        return jdoc_exists_all_keys(it.data(), it.size(), column.bytes.data(), column.bytes.size(), column.offsets.data(),
-                                    column.offsets.size(), made);
+        return jdoc_exists_all_keys(it.data(), it.size(), column.data(), column.size(), column.offsets(),
+                                    column.count(), made);
     });
 }
 
 inline result<bool> exists_any_keys(view it, std::initializer_list<std::string_view> names) {
     const detail::names column(names);
     return detail::truth([&](std::uint8_t *made) {
-        return jdoc_exists_any_keys(it.data(), it.size(), column.bytes.data(), column.bytes.size(), column.offsets.data(),
-                                    column.offsets.size(), made);
+        return jdoc_exists_any_keys(it.data(), it.size(), column.data(), column.size(), column.offsets(),
+                                    column.count(), made);
     });
 }
 
@@ -333,6 +456,11 @@ inline result<std::optional<std::string>> as_str(view it) {
     return detail::some_bytes<std::string>(it.size(), [=](char *out, std::size_t size, std::size_t *len) {
         return jdoc_as_str(it.data(), it.size(), out, size, len);
     });
+}
+
+inline result<std::optional<decimal>> as_decimal(view it) {
+    return detail::some_value<decimal>(
+        [=](decimal *out) { return jdoc_as_decimal(it.data(), it.size(), &out->high, &out->low, &out->scale); });
 }
 
 /* ---- casts: JDOC_INVALID_CAST if there is none */
@@ -369,7 +497,7 @@ inline result<key> equality_key(view it) {
     });
 }
 
-/* ---- scalar documents; a container is built from columns, by jdoc_array_from_column and jdoc_object_from_columns */
+/* ---- building documents: scalars, arrays of a column, and objects of two columns */
 
 inline result<document> from_null() { return detail::bytes<document>(16, jdoc_from_null); }
 
@@ -397,6 +525,226 @@ inline result<document> from_str(std::string_view value) {
         return jdoc_from_str(value.data(), value.size(), out, size, len);
     });
 }
+
+inline result<document> from_decimal(decimal value) {
+    return detail::bytes<document>(32, [=](std::uint8_t *out, std::size_t size, std::size_t *len) {
+        return jdoc_from_decimal(value.high, value.low, value.scale, out, size, len);
+    });
+}
+
+inline result<document> array_of(column_view rows) {
+    return detail::bytes<document>(
+        rows.bytes_len + 4 * rows.size() + 8, [=](std::uint8_t *out, std::size_t size, std::size_t *len) {
+            return jdoc_array_from_column(rows.bytes, rows.bytes_len, rows.offsets, rows.offsets_len, out, size, len);
+        });
+}
+
+/* Fails with JDOC_OBJECT_DUPLICATE_KEY if a name occurs twice. */
+inline result<document> object_of(column_view names, column_view rows) {
+    const std::size_t likely = names.bytes_len + rows.bytes_len + 8 * rows.size() + 8;
+    return detail::bytes<document>(likely, [=](std::uint8_t *out, std::size_t size, std::size_t *len) {
+        return jdoc_object_from_columns(reinterpret_cast<const char *>(names.bytes), names.bytes_len, names.offsets,
+                                        names.offsets_len, rows.bytes, rows.bytes_len, rows.offsets, rows.offsets_len,
+                                        out, size, len);
+    });
+}
+
+/* ---- taking documents apart */
+
+/* Returns the member of an object at a position in the order of keys: the key, and the value as a document. */
+inline result<std::optional<std::pair<std::string, document>>> pair(view it, std::size_t index) {
+    using member = std::optional<std::pair<std::string, document>>;
+    std::pair<std::string, document> made;
+    std::size_t key_len = it.size(), value_len = it.size() + 8;
+    jdoc_status status = JDOC_BUFFER_TOO_SMALL;
+    for (int round = 0; round < 2 && status == JDOC_BUFFER_TOO_SMALL; round++) {
+        made.first.resize(key_len), made.second.resize(value_len);
+        status = jdoc_pair(it.data(), it.size(), index, made.first.data(), made.first.size(), &key_len,
+                           made.second.data(), made.second.size(), &value_len);
+    }
+    if (status == JDOC_NONE) return member();
+    if (status != JDOC_OK) return status;
+    made.first.resize(key_len), made.second.resize(value_len);
+    return member(std::move(made));
+}
+
+/* Returns the leaves in stored order: their key paths and their documents, as two columns. */
+inline result<std::pair<column, column>> leaves(view it) {
+    jdoc_leaf_sizes need{};
+    std::vector<std::uint8_t> paths, documents;
+    std::vector<std::uint64_t> path_offsets, document_offsets;
+    const auto call = [&] {
+        return jdoc_leaves(it.data(), it.size(), reinterpret_cast<char *>(paths.data()), paths.size(),
+                           path_offsets.data(), path_offsets.size(), documents.data(), documents.size(),
+                           document_offsets.data(), document_offsets.size(), &need);
+    };
+    jdoc_status status = call();
+    if (status == JDOC_BUFFER_TOO_SMALL) {
+        paths.resize(need.path_bytes), documents.resize(need.document_bytes);
+        path_offsets.resize(need.rows + 1), document_offsets.resize(need.rows + 1);
+        status = call();
+    }
+    if (status != JDOC_OK) return status;
+    return std::pair(column(std::move(paths), std::move(path_offsets)),
+                     column(std::move(documents), std::move(document_offsets)));
+}
+
+/* ---- prepared paths: parsed once, for many documents. Calls on one object must not overlap. One that was moved from
+ * contains no path; its calls fail with JDOC_NO_PATH. */
+
+class path {
+  public:
+    /* Fails with JDOC_INVALID_JSON_PATH if the text is not in the grammar. */
+    static result<path> read(std::string_view text) {
+        path made;
+        const jdoc_status status = jdoc_path_read(text.data(), text.size(), &made.path_);
+        return status == JDOC_OK ? result<path>(std::move(made)) : result<path>(status);
+    }
+    path(path &&other) noexcept : path_(std::exchange(other.path_, jdoc_path{})) {}
+    path &operator=(path &&other) noexcept {
+        std::swap(path_, other.path_);
+        return *this;
+    }
+    ~path() { jdoc_path_free(&path_); }
+
+    result<std::optional<document>> select_value(view it, bool strict = false) {
+        return detail::some_bytes<document>(64, [&](std::uint8_t *out, std::size_t size, std::size_t *len) {
+            return jdoc_path_select_value(&path_, it.data(), it.size(), strict, out, size, len);
+        });
+    }
+    result<std::optional<document>> select_first(view it, bool strict = false) {
+        return detail::some_bytes<document>(64, [&](std::uint8_t *out, std::size_t size, std::size_t *len) {
+            return jdoc_path_select_first(&path_, it.data(), it.size(), strict, out, size, len);
+        });
+    }
+    result<document> select_array(view it, bool strict = false) {
+        return detail::bytes<document>(64, [&](std::uint8_t *out, std::size_t size, std::size_t *len) {
+            return jdoc_path_select_array(&path_, it.data(), it.size(), strict, out, size, len);
+        });
+    }
+    result<bool> exists(view it, bool strict = false) {
+        return detail::truth(
+            [&](std::uint8_t *made) { return jdoc_path_exists(&path_, it.data(), it.size(), strict, made); });
+    }
+    result<std::optional<bool>> match(view it, bool strict = false) {
+        return detail::ternary(
+            [&](std::uint8_t *made) { return jdoc_path_match(&path_, it.data(), it.size(), strict, made); });
+    }
+
+  private:
+    path() noexcept : path_{} {}
+    jdoc_path path_;
+};
+
+class keypath {
+  public:
+    /* Fails with JDOC_INVALID_KEY_PATH if the text is not in the grammar. */
+    static result<keypath> read(std::string_view text) {
+        keypath made;
+        const jdoc_status status = jdoc_keypath_read(text.data(), text.size(), &made.path_);
+        return status == JDOC_OK ? result<keypath>(std::move(made)) : result<keypath>(status);
+    }
+    keypath(keypath &&other) noexcept : path_(std::exchange(other.path_, jdoc_keypath{})) {}
+    keypath &operator=(keypath &&other) noexcept {
+        std::swap(path_, other.path_);
+        return *this;
+    }
+    ~keypath() { jdoc_keypath_free(&path_); }
+
+    result<std::optional<document>> get(view it) {
+        return detail::some_bytes<document>(64, [&](std::uint8_t *out, std::size_t size, std::size_t *len) {
+            return jdoc_keypath_get(&path_, it.data(), it.size(), out, size, len);
+        });
+    }
+    result<document> remove(view it) {
+        return detail::bytes<document>(it.size(), [&](std::uint8_t *out, std::size_t size, std::size_t *len) {
+            return jdoc_keypath_delete(&path_, it.data(), it.size(), out, size, len);
+        });
+    }
+
+  private:
+    keypath() noexcept : path_{} {}
+    jdoc_keypath path_;
+};
+
+/* ---- columns: the path is parsed once. An invalid row has its own status, and affects no other */
+
+#define JDOC_ROWS  it.bytes, it.bytes_len, it.offsets, it.offsets_len
+#define JDOC_LEFT  it.bytes, it.bytes_len, it.offsets + to.first, it.offsets_len - (it.offsets_len ? to.first : 0)
+#define JDOC_TO    to.out, to.out_size, to.positions, to.positions_len, to.statuses, to.statuses_len, &to.progress
+#define JDOC_FIXED auto *rows, std::size_t size, std::uint8_t *statuses, std::size_t statuses_len, std::size_t *done
+#define JDOC_DONE  rows, size, statuses, statuses_len, done
+
+/* Returns the status of each row. */
+inline result<std::vector<std::uint8_t>> check(column_view it) {
+    std::vector<std::uint8_t> statuses(it.size());
+    std::size_t done = 0;
+    const jdoc_status status = jdoc_column_check(JDOC_ROWS, statuses.data(), statuses.size(), &done);
+    if (status != JDOC_OK) return status;
+    return statuses;
+}
+
+inline result<booleans> exists(column_view it, std::string_view path, bool strict = false) {
+    return detail::fixed<std::uint8_t>(
+        it, [=](JDOC_FIXED) { return jdoc_column_exists(JDOC_ROWS, path.data(), path.size(), strict, JDOC_DONE); });
+}
+
+inline result<booleans> match(column_view it, std::string_view path, bool strict = false) {
+    return detail::fixed<std::uint8_t>(
+        it, [=](JDOC_FIXED) { return jdoc_column_match(JDOC_ROWS, path.data(), path.size(), strict, JDOC_DONE); });
+}
+
+inline result<booleans> contains(column_view it, view other) {
+    return detail::fixed<std::uint8_t>(
+        it, [=](JDOC_FIXED) { return jdoc_column_contains(JDOC_ROWS, other.data(), other.size(), JDOC_DONE); });
+}
+
+inline result<numbers> to_i64(column_view it) {
+    return detail::fixed<std::int64_t>(it, [=](JDOC_FIXED) { return jdoc_column_to_i64(JDOC_ROWS, JDOC_DONE); });
+}
+
+inline result<documents> get(column_view it, std::string_view path) {
+    return detail::several(it, [=](auto &to) { return jdoc_column_get(JDOC_LEFT, path.data(), path.size(), JDOC_TO); });
+}
+
+inline result<documents> remove(column_view it, std::string_view path) {
+    return detail::several(
+        it, [=](auto &to) { return jdoc_column_delete_by_keypath(JDOC_LEFT, path.data(), path.size(), JDOC_TO); });
+}
+
+inline result<documents> select_value(column_view it, std::string_view path, bool strict = false) {
+    return detail::several(
+        it, [=](auto &to) { return jdoc_column_select_value(JDOC_LEFT, path.data(), path.size(), strict, JDOC_TO); });
+}
+
+inline result<documents> select_first(column_view it, std::string_view path, bool strict = false) {
+    return detail::several(
+        it, [=](auto &to) { return jdoc_column_select_first(JDOC_LEFT, path.data(), path.size(), strict, JDOC_TO); });
+}
+
+inline result<documents> select_array(column_view it, std::string_view path, bool strict = false) {
+    return detail::several(
+        it, [=](auto &to) { return jdoc_column_select_array(JDOC_LEFT, path.data(), path.size(), strict, JDOC_TO); });
+}
+
+inline result<documents> sort_key(column_view it, bool wide = false) {
+    return detail::several(it, [=](auto &to) { return jdoc_column_key(JDOC_LEFT, wide, JDOC_TO); });
+}
+
+inline result<documents> equality_key(column_view it) {
+    return detail::several(it, [=](auto &to) { return jdoc_column_equality_key(JDOC_LEFT, JDOC_TO); });
+}
+
+/* Returns a column of strings. */
+inline result<documents> to_str(column_view it) {
+    return detail::several<char>(it, [=](auto &to) { return jdoc_column_to_str(JDOC_LEFT, JDOC_TO); });
+}
+
+#undef JDOC_ROWS
+#undef JDOC_LEFT
+#undef JDOC_TO
+#undef JDOC_FIXED
+#undef JDOC_DONE
 
 } // namespace jdoc
 

@@ -77,6 +77,16 @@ def of_rust(_folder):
             yield f"Rust declares {name} as {found.get(name)} instead of {wanted.get(name)}"
 
 
+# Functions of jdoc.h that jdoc.hpp does not call.
+NOT_IN_CPP = {"jdoc_status_name"}
+
+
+def of_cpp(_folder):
+    called = set(re.findall(r"\bjdoc_\w+", read("c", "jdoc.hpp")))
+    missing = {name for name, _, _ in declared()} - called
+    yield from (f"jdoc.hpp does not call {name}, or no longer lacks it" for name in sorted(missing ^ NOT_IN_CPP))
+
+
 def of_statuses(folder):
     """The header's numbers of statuses have these names in the library, and no other number has one."""
     library = ctypes.CDLL(f"{folder}/libjdoc.so")
@@ -170,7 +180,7 @@ def main():
             subprocess.run([*ABIDW.split(), "--out-file", os.path.join(c, "jdoc.abi"), stubs(folder)], check=True)
         return 0
     passed = failed = 0
-    for check in (of_the_library, of_the_interface, of_compiled_types, of_rust, of_statuses, of_others):
+    for check in (of_the_library, of_the_interface, of_compiled_types, of_rust, of_cpp, of_statuses, of_others):
         faults = list(check(sys.argv[1]))
         print("".join(f"{it}\n" for it in faults), end="")
         passed, failed = passed + (not faults), failed + len(faults)

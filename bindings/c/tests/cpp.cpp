@@ -3,6 +3,10 @@
 
 #include <cstdio>
 #include <string>
+#include <type_traits>
+#if __cplusplus >= 202002L
+#include <span>
+#endif
 
 namespace {
 
@@ -26,6 +30,10 @@ template <class T> bool is_some(const jdoc::result<std::optional<T>> &made, cons
     return made && *made && **made == expected;
 }
 template <class T> bool is_none(const jdoc::result<std::optional<T>> &made) { return made && !*made; }
+
+jdoc::document document_of(jdoc::view it) { return jdoc::document(it.data(), it.data() + it.size()); }
+std::string string_of(jdoc::view it) { return std::string(it.data(), it.data() + it.size()); }
+jdoc::view view_of(std::string_view it) { return it; }
 
 /* [false, 10, {"k":"v"}], [10,20,30], {"asd":"adf"}, [1], 1, "v", null */
 const jdoc::document mixed = hex("8000000330000000200000025000000e500a4000000110000001100000016b76");
@@ -106,10 +114,104 @@ void scalars() {
     EXPECT(jdoc::to_i64(v).value_or(7) == 7);
 }
 
+void prepared() {
+    jdoc::result<jdoc::path> tall = jdoc::path::read("$[*] > 25");
+    EXPECT(tall && is_some(tall->match(tens), true));
+    EXPECT(is_some(tall->match(one_in_array), false));
+    EXPECT(jdoc::path::read("$[").error() == JDOC_INVALID_JSON_PATH);
+    jdoc::path items = *jdoc::path::read("$[last, 0]");
+    EXPECT(is(items.select_array(tens), hex("800000022000000220000002501e500a")));
+    EXPECT(is_some(items.select_first(tens), hex("2000000020000002501e")));
+    EXPECT(is_some(items.select_value(one_in_array), one_in_array) == false);
+    EXPECT(is(items.exists(object), false));
+    EXPECT(items.exists(object, true).error() == JDOC_STRICT_PATH);
+    jdoc::path moved = std::move(items);
+    EXPECT(is(moved.exists(tens), true));
+    EXPECT(items.exists(tens).error() == JDOC_NO_PATH);
+    moved = *jdoc::path::read("$.asd");
+    EXPECT(is(moved.exists(tens), false));
+    EXPECT(is(moved.exists(object), true));
+    jdoc::result<jdoc::keypath> key = jdoc::keypath::read("{2,k}");
+    EXPECT(key && is_some(key->get(mixed), v));
+    EXPECT(is_none(key->get(tens)));
+    EXPECT(is(key->remove(mixed), *jdoc::remove(mixed, "{2,k}")));
+    EXPECT(jdoc::keypath::read("{1a}").error() == JDOC_INVALID_KEY_PATH);
+    static_assert(!std::is_copy_constructible_v<jdoc::path> && !std::is_copy_constructible_v<jdoc::keypath>);
+}
+
+void parts() {
+    EXPECT(is(jdoc::array_of(jdoc::column{one, null}), hex("80000002200000020000000050" "01")));
+    EXPECT(is(jdoc::array_of(jdoc::column()), hex("80000000")));
+    const jdoc::column names{std::string_view("asd")};
+    EXPECT(is(jdoc::object_of(names, jdoc::column{*jdoc::from_str("adf")}), object));
+    const jdoc::column twice{std::string_view("a"), std::string_view("a")};
+    EXPECT(jdoc::object_of(twice, jdoc::column{one, one}).error() == JDOC_OBJECT_DUPLICATE_KEY);
+    EXPECT(is_some(jdoc::pair(object, 0), std::pair(std::string("asd"), *jdoc::from_str("adf"))));
+    EXPECT(is_none(jdoc::pair(object, 1)));
+    const jdoc::result<std::pair<jdoc::column, jdoc::column>> leaves = jdoc::leaves(mixed);
+    EXPECT(leaves && leaves->first.size() == 3 && leaves->second.size() == 3);
+    EXPECT(leaves && string_of(leaves->first[2]) == "{2,k}" && document_of(leaves->second[2]) == v);
+    const jdoc::decimal price{0, 1234, 2};
+    EXPECT(is(jdoc::from_decimal(price), hex("200000002000000a7000000000000004d202")));
+    EXPECT(is_some(jdoc::as_decimal(hex("200000002000000a7000000000000004d202")), price));
+    EXPECT(is_none(jdoc::as_decimal(v)));
+    EXPECT(jdoc::version() == JDOC_VERSION_NUMBER);
+}
+
+/* One row of each outcome: a result, none, and an error. */
+void columns() {
+    const jdoc::column rows{mixed, tens, view_of("?"), object};
+    const auto truths = jdoc::match(rows, "$[*] > 25");
+    EXPECT(truths && truths->rows == (std::vector<std::uint8_t>{2, 1, 2, 2}));
+    EXPECT(truths && truths->statuses[2] == JDOC_INVALID_JSONB && truths->statuses[1] == JDOC_OK);
+    EXPECT(jdoc::match(rows, "$[").error() == JDOC_INVALID_JSON_PATH);
+    EXPECT(jdoc::exists(rows, "$.asd")->rows == (std::vector<std::uint8_t>{0, 0, 2, 1}));
+    EXPECT(jdoc::contains(rows, one_in_array)->rows == (std::vector<std::uint8_t>{0, 0, 2, 0}));
+    EXPECT(*jdoc::check(rows) == (std::vector<std::uint8_t>{0, 0, JDOC_INVALID_JSONB, 0}));
+    EXPECT(jdoc::to_i64(jdoc::column{one, v})->rows == (std::vector<std::int64_t>{1, 0}));
+    const auto found = jdoc::get(rows, "{2}");
+    EXPECT(found && found->rows.size() == 4 && document_of(found->rows[1]) == hex("2000000020000002501e"));
+    EXPECT(found && found->statuses == (std::vector<std::uint8_t>{0, 0, JDOC_INVALID_JSONB, JDOC_NONE}));
+    EXPECT(document_of(jdoc::select_first(rows, "$[0]")->rows[1]) == hex("2000000020000002500a"));
+    EXPECT(document_of(jdoc::select_value(rows, "$.asd")->rows[3]) == *jdoc::from_str("adf"));
+    EXPECT(document_of(jdoc::remove(rows, "{asd}")->rows[3]) == hex("40000000"));
+    EXPECT(document_of(jdoc::sort_key(rows)->rows[1]) == *jdoc::sort_key(tens));
+    EXPECT(document_of(jdoc::sort_key(rows, true)->rows[1]) == *jdoc::sort_key(tens, true));
+    EXPECT(document_of(jdoc::equality_key(rows)->rows[0]) == *jdoc::equality_key(mixed));
+    EXPECT(string_of(jdoc::to_str(jdoc::column{v, one})->rows[1]) == "1");
+    EXPECT(jdoc::get(jdoc::column_view(nullptr, 0, nullptr, 0), "{}")->rows.size() == 0);
+}
+
+/* Results that are longer than their rows: more than one buffer. */
+void long_results() {
+    jdoc::column rows;
+    for (int row = 0; row < 100; row++) rows.push_back(tens);
+    const auto found = jdoc::select_array(rows, "$.**[*]");
+    const jdoc::document wanted = *jdoc::select_array(tens, "$.**[*]");
+    bool all = found && found->rows.size() == 100 && found->rows.bytes().size() > rows.bytes().size();
+    for (std::size_t row = 0; all && row < 100; row++) all = document_of(found->rows[row]) == wanted;
+    EXPECT(all);
+}
+
+void views() {
+    const std::string text(reinterpret_cast<const char *>(one.data()), one.size());
+    EXPECT(is(jdoc::to_i64(text), std::int64_t{1}));
+    EXPECT(is(jdoc::to_i64(std::string_view(text)), std::int64_t{1}));
+#if __cplusplus >= 202002L
+    EXPECT(is(jdoc::to_i64(std::span(one)), std::int64_t{1}));
+    EXPECT(is(jdoc::to_i64(std::as_bytes(std::span(one))), std::int64_t{1}));
+#endif
+}
+
 } // namespace
 
 int main() {
     paths();
+    prepared();
+    parts();
+    columns();
+    long_results();
+    views();
     edits();
     sets();
     scalars();
