@@ -15,7 +15,7 @@ packages=(
     mypy python3-mypy
     python3-distributed                                       # its example of a cluster
     bindgen                                                   # the declarations of bindings/rust
-    jq python3-ujson                                          # measurements of bindings/python
+    jq python3-ujson libbenchmark-dev                         # measurements
 )
 
 missing=()

@@ -1,15 +1,17 @@
 #!/usr/bin/env python3
 """Measures the C library: calls with the path's text, with a prepared path, and as rows of a column.
 
-  c.py [BENCH]                    prints instructions per row, counted by callgrind, and nanoseconds of processor time per row
-  c.py [BENCH] --instructions     counts only instructions, which hardly depend on what else the machine does
-  c.py [BENCH] --write ..         writes docs/measured/c.csv and the table of docs/C.md; times that were not measured are kept
+  c.py [FOLDER]                    prints instructions per row, counted by callgrind, and nanoseconds of processor time per row
+  c.py [FOLDER] --instructions     counts only instructions, which hardly depend on what else the machine does
+  c.py [FOLDER] --write ..         writes docs/measured/c.csv and the table of docs/C.md; times that were not measured are kept
 
-BENCH is the program of bindings/c/bench.c: `make bench` in bindings/c builds out/bench. To count the instructions of a call, it runs
-once on 500 rows and once on 1,500: the difference is that of 1,000 rows, without the cost of building them.
+`make bench` in bindings/c builds the programs in the folder, by default bindings/c/out: bench, and with Google Benchmark bench_times,
+whose times are the best of 15 repetitions. To count the instructions of a call, bench runs once on 500 rows and once on 1,500: the
+difference is that of 1,000 rows, without the cost of building them.
 """
 
 import argparse
+import json
 import os
 import re
 import subprocess
@@ -20,7 +22,7 @@ C = os.path.join(HERE, "..", "c")
 sys.path.append(os.path.join(HERE, "..", "..", "tools"))
 import measured
 
-FEW, MANY = 500, 1500
+FEW, MANY, TIMED = 500, 1500, 10_000
 FORMS = ("one", "prepared", "column")
 # The calls of bench.c whose names in docs/measured/c.csv differ.
 TITLES = {
@@ -61,34 +63,37 @@ def calls():
         return {call: kind == "BY_PATH" for kind, call in re.findall(r"(NAMED|BY_PATH)\((\w+)\)[,}]", file.read())}
 
 
-def instructions(bench):
+def instructions(folder):
     """The instructions of each call and form, by the columns of the file."""
+    bench = os.path.join(folder, "bench")
     nothing = more_rows(bench, "nothing")
     for call, has_path in calls().items():
         forms = [form for form in FORMS if has_path or form != "prepared"]
         yield title(call), {f"{form}_instructions": f"{more_rows(bench, call, form) - nothing:.0f}" for form in forms}
 
 
-def times(bench):
-    """The nanoseconds of each call and form, which bench.c prints as a table."""
-    known = calls()
-    said = subprocess.run([bench], capture_output=True, text=True, check=True).stdout
-    for line in said.splitlines():
-        cells = [it.strip() for it in line.split("|")[1:-1]]
-        if cells and cells[0] in known:
-            call, column, _, one, _, prepared = cells
-            yield title(call), {"one_ns": one, "prepared_ns": prepared, "column_ns": column}
+def times(folder):
+    """The nanoseconds per row of each call and form, which bench_times prints in microseconds of all its rows."""
+    words = ["--benchmark_repetitions=15", "--benchmark_min_time=0.05", "--benchmark_format=json"]
+    said = subprocess.run([os.path.join(folder, "bench_times"), *words], capture_output=True, text=True, check=True).stdout
+    best = {}
+    for run in json.loads(said)["benchmarks"]:
+        if run["run_type"] == "iteration":
+            best[run["run_name"]] = min(run["cpu_time"], best.get(run["run_name"], run["cpu_time"]))
+    for name, took in best.items():
+        call, form = name.split("/")
+        yield title(call), {f"{form}_ns": f"{took * 1000 / TIMED:.0f}"}
 
 
 def main():
     parser = argparse.ArgumentParser(description=__doc__, formatter_class=argparse.RawDescriptionHelpFormatter)
-    parser.add_argument("bench", nargs="?", default=os.path.join(C, "out", "bench"))
+    parser.add_argument("folder", nargs="?", default=os.path.join(C, "out"))
     parser.add_argument("--instructions", action="store_true")
     parser.add_argument("--write", action="store_true")
     asked = parser.parse_args()
     rows = {row["call"]: row for row in measured.read("c")} if asked.write else {}
     found = {title(call): {"call": title(call), **rows.get(title(call), {})} for call in calls()}
-    for name, figures in [*instructions(asked.bench), *([] if asked.instructions else times(asked.bench))]:
+    for name, figures in [*instructions(asked.folder), *([] if asked.instructions else times(asked.folder))]:
         found[name].update(figures)
     measured.report("c", found.values(), asked.write)
 

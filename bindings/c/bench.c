@@ -1,18 +1,13 @@
-/* Times each call on a column, and on one document after the other with the path's text or a prepared path.
- *
- *   bench [ROWS]                          prints a table: processor time, the best of several rounds
- *   bench ROWS CALL column|one|prepared   makes a call once on each row; `type` is jdoc_type, `nothing` no call
- *
- * The documents have about 200 bytes. bindings/bench/c.py runs both. */
-#define _POSIX_C_SOURCE 199309L
+/* The calls that are measured: each on a column, and on one document after the other with the path's text or a prepared path. The
+ * documents have about 200 bytes. */
+#include "bench.h"
 #include "jdoc.h"
 
 #include <stdio.h>
 #include <stdlib.h>
 #include <string.h>
-#include <time.h>
 
-enum { ROUNDS = 15, FIELDS = 5 };
+enum { FIELDS = 5 };
 #define TEXT(text) (text), sizeof(text) - 1
 
 static uint8_t *bytes;
@@ -21,12 +16,6 @@ static size_t rows, bytes_len, room;
 static uint8_t *truths, *statuses, *out;
 static int64_t *numbers;
 static uint64_t sum;
-
-static double now(void) {
-    struct timespec time;
-    clock_gettime(CLOCK_PROCESS_CPUTIME_ID, &time);
-    return (double)time.tv_sec + (double)time.tv_nsec * 1e-9;
-}
 
 static uint32_t next_random(void) {
     static uint64_t state = 1;
@@ -146,21 +135,11 @@ static uint64_t *age_offsets;
 PAIR(to_i64, jdoc_column_to_i64(AGES, numbers, rows, FIXED), jdoc_to_i64(AGE, numbers + row))
 PAIR(to_str, jdoc_column_to_str(AGES, (char *)RUNS), jdoc_to_str(AGE, (char *)OUT))
 
-static uint32_t type_rows(void) {
-    uint32_t status = 0;
-    for (size_t row = 0; row < rows; row++) status |= jdoc_type((const uint8_t *)"\x80\0\0\0", 4, truths);
-    return status;
-}
-
-struct pair {
-    const char *name;
-    uint32_t (*column)(void), (*one)(void), (*prepared)(void);
-};
 #define NAMED(name)                                                                                                    \
     { #name, name##_column, name##_rows, NULL }
 #define BY_PATH(name)                                                                                                  \
     { #name, name##_column, name##_rows, name##_prepared }
-static const struct pair pairs[] = {
+const struct bench_call bench_calls[] = {
     NAMED(check),
     BY_PATH(no_condition),
     BY_PATH(exists),
@@ -178,53 +157,12 @@ static const struct pair pairs[] = {
     NAMED(equality_key),
     BY_PATH(delete),
 };
-enum { PAIRS = sizeof pairs / sizeof *pairs };
+const size_t bench_calls_len = sizeof bench_calls / sizeof *bench_calls;
 
-/* Nanoseconds per row, the best of all rounds. */
-static double measure(uint32_t (*call)(void)) {
-    double best = 1e9;
-    for (int round = 0; round < ROUNDS; round++) {
-        double start = now();
-        if (call() > JDOC_NONE) return -1;
-        double took = now() - start;
-        if (took < best) best = took;
-    }
-    return best / (double)rows * 1e9;
-}
-
-/* Runs one call once on all rows. */
-static int run_once(const char *call, const char *form) {
-    if (!strcmp(call, "type")) return type_rows() > JDOC_NONE;
-    for (size_t i = 0; i < PAIRS; i++)
-        if (!strcmp(pairs[i].name, call)) {
-            uint32_t (*run)(void) = !strcmp(form, "one")        ? pairs[i].one
-                                    : !strcmp(form, "prepared") ? pairs[i].prepared
-                                                                : pairs[i].column;
-            return !run || run() > JDOC_NONE;
-        }
-    return strcmp(call, "nothing") != 0;
-}
-
-static void print_table(void) {
-    printf("%zu documents of %zu bytes\n\n", rows, bytes_len / rows);
-    printf("| Call | column, ns per row | rows per second | one by one, ns per row | gain | prepared, ns per row |\n");
-    printf("|---|---|---|---|---|---|\n");
-    for (size_t i = 0; i < PAIRS; i++) {
-        double column = measure(pairs[i].column), one = measure(pairs[i].one);
-        printf("| %s | %.0f | %.0f | %.0f | %.2f |", pairs[i].name, column, 1e9 / column, one, one / column);
-        pairs[i].prepared ? printf(" %.0f |\n", measure(pairs[i].prepared)) : puts(" |");
-    }
-    printf("\njdoc_type of 4 bytes: %.1f ns per call (%llu)\n", measure(type_rows), (unsigned long long)(sum & 1));
-}
-
-int main(int argc, char **argv) {
-    make_column(argc > 1 ? strtoul(argv[1], NULL, 10) : 100000);
+bool bench_start(size_t count) {
     jdoc_progress progress;
+    make_column(count);
     ages = malloc(rows * 32), age_offsets = malloc((rows + 1) * 8);
-    if (!ages || !age_offsets ||
-        jdoc_column_get(COLUMN, TEXT("{age}"), ages, rows * 32, age_offsets, rows + 1, statuses, rows, &progress))
-        return 1;
-    if (argc > 2) return run_once(argv[2], argc > 3 ? argv[3] : "");
-    print_table();
-    return 0;
+    return ages && age_offsets &&
+           jdoc_column_get(COLUMN, TEXT("{age}"), ages, rows * 32, age_offsets, rows + 1, statuses, rows, &progress) == JDOC_OK;
 }
