@@ -309,12 +309,7 @@ class Column(Sequence[Optional[bytes]]):
 
     def _results(self, data: memoryview, offsets: memoryview, statuses: "Document", errors: Errors) -> "Results":
         _sort_out(statuses, errors)
-        found = bytes(statuses)
-        validity = _core.bits_of(found, OK) if found.strip(b"\0") else None
-        results = Results.__new__(Results)
-        results._take(data, offsets.cast("q"), validity)
-        results.statuses = found
-        return results
+        return _with_statuses(data, offsets.cast("q"), bytes(statuses))
 
     def __arrow_c_schema__(self) -> Any:
         return _core.arrow_schema("Z")
@@ -328,11 +323,11 @@ class Column(Sequence[Optional[bytes]]):
         return _core.arrow_schema("Z"), _core.arrow_out(rows, self.null_count, self.validity, offsets, self.data)
 
 
-def _unpacked(data: Any, offsets: Any, validity: Optional[bytes]) -> Column:
+def _unpacked(data: Any, offsets: Any, validity: Optional[bytes], statuses: Optional[bytes] = None) -> Column:
     """A column that was pickled. The offsets are copied, since a received buffer may not be aligned."""
     places = array("q")
     places.frombytes(memoryview(offsets).cast("B"))
-    return Column.from_buffers(data, places, validity)
+    return Column.from_buffers(data, places, validity) if statuses is None else _with_statuses(data, places, statuses)
 
 
 class Results(Column):
@@ -340,6 +335,18 @@ class Results(Column):
 
     __slots__ = ("statuses",)
     statuses: bytes
+
+    def __reduce_ex__(self, protocol: Any) -> Any:
+        call, words = super().__reduce_ex__(protocol)
+        return call, (*words, self.statuses)
+
+
+def _with_statuses(data: Any, offsets: Any, statuses: bytes) -> Results:
+    """Results, in which a row is null unless its status is OK."""
+    results = Results.__new__(Results)
+    results._take(data, offsets, _core.bits_of(statuses, OK) if statuses.strip(b"\0") else None)
+    results.statuses = statuses
+    return results
 
 
 class Booleans(Sequence[Optional[bool]]):
@@ -428,6 +435,9 @@ class Numbers(Sequence[Optional[int]]):
 
     __hash__ = None  # type: ignore[assignment]
 
+    def __reduce__(self) -> Any:
+        return _numbers, (bytes(self.data), self.statuses)
+
     def to_numpy(self) -> "numpy.typing.NDArray[numpy.int64]":
         """Returns the numbers, without a copy; rows without a number are 0."""
         import numpy
@@ -441,6 +451,10 @@ class Numbers(Sequence[Optional[int]]):
         nulls = len(self) - self.statuses.count(0)
         validity = _core.bits_of(self.statuses, 0) if nulls else None
         return _core.arrow_schema("l"), _core.arrow_out(len(self), nulls, validity, self.data)
+
+
+def _numbers(data: bytes, statuses: bytes) -> Numbers:
+    return Numbers(memoryview(data).cast("q"), statuses)
 
 
 def _path(path: "Union[str, Path]", strict: bool) -> Tuple[str, bool]:

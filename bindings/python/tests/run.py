@@ -19,6 +19,7 @@ def all_tests():
         if not module.name.endswith("._core"):
             suite.addTests(doctest.DocTestSuite(module.name))
     suite.addTests(doctest.DocTestSuite("jsonb_paths"))
+    suite.addTests(doctest.DocFileSuite(os.path.join(HERE, "..", "README.md"), module_relative=False))
     return suite
 
 

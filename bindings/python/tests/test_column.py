@@ -141,6 +141,11 @@ class Rows(unittest.TestCase):
         text = pickle.dumps(column, 5, buffer_callback=buffers.append)
         self.assertEqual(pickle.loads(text, buffers=buffers), column)
         self.assertEqual(copy.deepcopy(column), column)
+        results = Column(self.rows).get("{age}")
+        for protocol in range(2, 6):
+            for found in (results, results.to_i64(), column.match("$.age > 40"), Column()):
+                again = pickle.loads(pickle.dumps(found, protocol))
+                self.assertEqual((type(again), again, getattr(again, "statuses", None)), (type(found), found, getattr(found, "statuses", None)))
         for path in (Path("$.a", strict=True), jsonb_paths.KeyPath("{a}")):
             self.assertEqual((pickle.loads(pickle.dumps(path)), hash(copy.copy(path))), (path, hash(path)))
 
