@@ -24,6 +24,21 @@ impl<'a> RawJsonb<'a> {
         self.0
     }
 
+    /// Returns the number of bytes.
+    pub fn len(&self) -> usize {
+        self.0.len()
+    }
+
+    /// Returns `true` if there are no bytes, which are not a document.
+    pub fn is_empty(&self) -> bool {
+        self.0.is_empty()
+    }
+
+    /// Decodes the document, as `from_slice`.
+    pub fn to_value(&self) -> Result<crate::Value<'a>> {
+        crate::from_slice(self.0)
+    }
+
     /// Returns `Ok` if and only if the bytes decode.
     pub fn check(&self) -> Result<()> {
         // SAFETY: the slice is a pointer and its length.

@@ -4,6 +4,7 @@ use crate::call::done;
 use crate::{from_slice, Error, OwnedJsonb, RawJsonb, Result, Value};
 use jdoc_sys as sys;
 use std::ffi::c_void;
+use std::fmt;
 use std::mem::MaybeUninit;
 use std::ptr;
 use std::str::FromStr;
@@ -89,6 +90,21 @@ impl RawJsonb<'_> {
             let text = std::slice::from_raw_parts(out.0.bytes.cast::<u8>(), out.0.len);
             Ok(String::from_utf8_lossy(text).into_owned())
         }
+    }
+}
+
+/// Writes JSON text. Bytes that do not decode, and extension values, are an error of formatting, on which `to_string`
+/// panics.
+impl fmt::Display for RawJsonb<'_> {
+    fn fmt(&self, f: &mut fmt::Formatter<'_>) -> fmt::Result {
+        f.pad(&self.to_json().map_err(|_| fmt::Error)?)
+    }
+}
+
+/// Writes JSON text, as a `RawJsonb`.
+impl fmt::Display for OwnedJsonb {
+    fn fmt(&self, f: &mut fmt::Formatter<'_>) -> fmt::Result {
+        self.as_raw().fmt(f)
     }
 }
 

@@ -6,6 +6,7 @@ use jsonb_paths::{
     Timestamp, TimestampTz, Value,
 };
 use std::borrow::Cow;
+use std::fmt::Write;
 use std::thread;
 
 /// [false,10,{"k":"v"}]
@@ -21,6 +22,19 @@ fn json_text_and_values_and_documents_are_one() {
     assert_eq!(from_slice(DOCUMENT).unwrap(), value);
     assert_eq!(to_string(DOCUMENT), text);
     assert_eq!(text.parse::<OwnedJsonb>().unwrap().as_ref(), DOCUMENT);
+}
+
+#[test]
+fn documents_print_as_json_text() {
+    let document: OwnedJsonb = r#" {"b" : 1.50, "a":["x"]} "#.parse().unwrap();
+    let raw = document.as_raw();
+    assert_eq!(document.to_string(), r#"{"a":["x"],"b":1.50}"#);
+    assert_eq!(format!("{raw:>24}"), r#"    {"a":["x"],"b":1.50}"#);
+    assert_eq!(raw.to_value().unwrap().to_vec(), document.clone().to_vec());
+    assert_eq!((raw.len(), raw.is_empty()), (document.to_vec().len(), false));
+    let damaged = RawJsonb::new(b"");
+    assert_eq!((damaged.to_value(), damaged.len(), damaged.is_empty()), (Err(Error::InvalidJsonb), 0, true));
+    assert!(write!(String::new(), "{damaged}").is_err());
 }
 
 #[test]
