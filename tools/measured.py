@@ -42,13 +42,19 @@ README_CASES = ["get the last of 1,000 keys", "`$[*]?(@.age < 50)` of 1,000 obje
 MORE_CASES = ["parse a long path", "get at depth 200", "delete by key path, of 1,000 keys", "`$[*].name` of 1,000 objects",
               "intersection of 1,000", "concatenate objects", "strip nulls of 1,000 objects", "leaves of 100 objects",
               "a filter on one document of 200 bytes"]
-# The rows of c.csv, sqlite.csv, postgres.csv and jq.csv that docs/C.md and docs/SQL.md show, and the documents of README.md's query.
+# The rows of c.csv, sqlite.csv and postgres.csv that docs/C.md and docs/SQL.md show.
 C_CALLS = ["`match`, `$.age < 50`", "`get_by_keypath`, `{age}`", "`select_first`, `$.name`", "`delete_by_keypath`, `{note}`"]
 SQLITE_QUERIES = ["load from JSON text", "read each row", "`$.age > 40`", "a filter in an array", "contains", "replace a field",
                   "to JSON text", "range by the index"]
 POSTGRES_QUERIES = ["load from JSON text", "`d @@ '$.age > 40'`", "`@>`", "`->>`", "`#>>`, two steps", "path query, rows",
                     "sort by a field", "sort whole documents", "build a GIN index", "`@>` by the GIN index"]
-JQ_COMMANDS = ["`filter '$.age > 40'`", "`select '$.age'`", "`set '{active}' true`"]
+# What README.md compares, by program: a title and a row of its figures, and how many documents it reckons with.
+COMPARED = {
+    "SQLite": [("`$.age > 40`", "`$.age > 40`"), ("a filter in an array", "a filter in an array"), ("load", "load from JSON text")],
+    "PostgreSQL": [("`$.age > 40`", "`d @@ '$.age > 40'`"), ("`@>`", "`@>`"), ("sort by a field", "sort by a field")],
+    "jq": ["`filter '$.age > 40'`", "`set '{active}' true`"],
+    "ujson": [("read", "from_json", "ujson.loads"), ("write", "to_json", "ujson.dumps")],
+}
 QUERIED = 100_000
 # An exponent up to this one counts as linear: sorting, and hashing with it, adds a logarithm.
 LINEAR = 1.2
@@ -198,18 +204,22 @@ def quotient(ours, theirs):
 
 
 def compared():
-    """What a query over many documents costs, compared with other programs."""
-    sqlite = by("sqlite", "query")["`$.age > 40`"]
-    postgres = by("postgres", "query")["`d @@ '$.age > 40'`"]
-    jq = by("jq", "jdoc")["`filter '$.age > 40'`"]
-    millions = [float(sqlite[it]) * QUERIED / 1e6 for it in ("jdoc_298", "sqlite_298")]
-    milliseconds = [float(postgres[it]) * QUERIED / 1e3 for it in ("jdoc_us", "jsonb_us")]
-    seconds = [jq["jdoc_seconds"], jq["jq_seconds"]]
-    return table(["Compared with", "This library", "The other", "Ratio"], [
-        ["SQLite 3.40, its functions over text", f"{millions[0]:,.0f} million instructions", f"{millions[1]:,.0f} million", quotient(*millions)],
-        ["PostgreSQL 15, `jsonb`", f"{milliseconds[0]:,.0f} ms", f"{milliseconds[1]:,.0f} ms", quotient(*milliseconds)],
-        ["jq 1.6, over JSON lines", f"{seconds[0]} s", f"{seconds[1]} s", quotient(*seconds)],
-    ])
+    """What 100,000 documents cost here and in other programs."""
+    sqlite, postgres, jq, python = by("sqlite", "query"), by("postgres", "query"), by("jq", "jdoc"), by("python", "call")
+    rows = []
+    for title, query in COMPARED["SQLite"]:
+        ours, theirs = (float(sqlite[query][it]) * QUERIED / 1e6 for it in ("jdoc_298", "sqlite_298"))
+        rows.append([f"SQLite 3.40, text: {title}", f"{ours:,.0f} million instructions", f"{theirs:,.0f} million", quotient(ours, theirs)])
+    for title, query in COMPARED["PostgreSQL"]:
+        ours, theirs = (float(postgres[query][it]) * QUERIED / 1e3 for it in ("jdoc_us", "jsonb_us"))
+        rows.append([f"PostgreSQL 15, `jsonb`: {title}", f"{ours:,.0f} ms", f"{theirs:,.0f} ms", quotient(ours, theirs)])
+    for command in COMPARED["jq"]:
+        ours, theirs = jq[command]["jdoc_seconds"], jq[command]["jq_seconds"]
+        rows.append([f"jq 1.6: {command}", f"{ours} s", f"{theirs} s", quotient(ours, theirs)])
+    for title, *calls in COMPARED["ujson"]:
+        ours, theirs = (float(python[it]["us"]) * QUERIED / 1e6 for it in calls)
+        rows.append([f"ujson: {title}", f"{ours:.2f} s", f"{theirs:.2f} s", quotient(ours, theirs)])
+    return table(["Compared with", "This library", "The other", "Ratio"], rows)
 
 
 def c():
@@ -239,21 +249,14 @@ def postgres():
 
 def python():
     us = {row["call"]: row["us"] for row in read("python")}
-    rows = [["read JSON text", us["from_json"], us["json.loads"], us["ujson.loads"]], ["write JSON text", us["to_json"], us["json.dumps"], us["ujson.dumps"]]]
-    return (table(["", "jsonb_paths", "json", "ujson"], rows)
-            + f"\n\n`dumps` takes {us['dumps']}, `loads` {us['loads']}. One by one and in a column, `match` of `$.age > 40` takes {us['match']} and"
+    return (f"`dumps` takes {us['dumps']}, `loads` {us['loads']}. One by one and in a column, `match` of `$.age > 40` takes {us['match']} and"
             f"\n{us['Column.match']}, `get` of `{{age}}` {us['get']} and {us['Column.get']}, `sort_key` {us['sort_key']} and {us['Column.sort_keys']}.")
-
-
-def jq():
-    rows = by("jq", "jdoc")
-    return table(["Command", "jdoc", "jq 1.6"], [[name, rows[name]["jdoc_seconds"], rows[name]["jq_seconds"]] for name in JQ_COMMANDS])
 
 
 # The tables of each page, by the marks around them.
 PAGES = {
     "README.md": {"speed": lambda: f"{speed(README_CASES)}\n\n{means()}", "compared": compared},
-    "docs/C.md": {"c": c, "python": python, "jq": jq},
+    "docs/C.md": {"c": c, "python": python},
     "docs/SQL.md": {"sqlite": sqlite, "postgres": postgres},
     "docs/PERFORMANCE.md": {"classes": classes, "speed": lambda: speed(MORE_CASES), "growth": growth, "check": check},
     "docs/measured/slower.md": {"slower": slower},
