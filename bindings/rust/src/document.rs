@@ -34,7 +34,7 @@ impl<'a> RawJsonb<'a> {
         self.0.is_empty()
     }
 
-    /// Decodes the document, as `from_slice`.
+    /// Decodes the document like `from_slice`.
     pub fn to_value(&self) -> Result<crate::Value<'a>> {
         crate::from_slice(self.0)
     }
