@@ -123,7 +123,7 @@ def counts(extension, made, rows):
 def times(made, rows, rounds):
     """The microseconds per row of each query."""
     for title, mine, other in [LOAD] + QUERIES:
-        yield title, [f"{it / rows * 1e6:.2f}" for it in best_times(made, mine, other, rounds).values()]
+        yield title, [f"{it / rows * 1e6:.4f}" for it in best_times(made, mine, other, rounds).values()]
 
 
 def measure(extension, rows, size, how):
