@@ -5,6 +5,7 @@
 cd "$(dirname "${BASH_SOURCE[0]}")" || exit 1
 passed=0 failed=0
 room=$(mktemp -d) || exit 1
+chmod 711 "$room" # the server of PostgreSQL runs as another user
 trap 'rm -rf "$room"' EXIT
 
 # Runs a command and adds what its last line counts. One that counts nothing is one test by its status.
@@ -47,16 +48,23 @@ count "header, as C" "$out/header_c"
 if [ -x "$out/header_cpp" ]; then
     count "header, as C++" "$out/header_cpp"
     count "jdoc.hpp" "$out/cpp"
+    count "jdoc.hpp, as C++20" "$out/cpp20"
 else
     echo "skipped: the header as C++: there is no c++"
 fi
 count "example" diff <("$out/example") c/example.txt
 count "example with prepared paths" diff <("$out/prepared") c/prepared.txt
 count "bench" "$out/bench" 1000
+if [ -x "$out/bench_times" ]; then
+    count "bench by time" "$out/bench_times" --benchmark_min_time=0.0001
+else
+    echo "skipped: bench by time: there is no Google Benchmark"
+fi
 count "names" python3 tests/exports.py "$out"
-count "install" make -s -C c OUT="$out" PREFIX="$room/installed" install
-count "install JSON text" make -s -C text OUT="$room/text" JDOC="$out" PREFIX="$room/installed" install
-count "the installed libraries and the manual page" tests/installed.sh "$room/installed"
+parts=(library)
+if command -v sqlite3 >/dev/null && echo '#include <sqlite3ext.h>' | cc -E - >/dev/null 2>&1; then parts+=(sqlite); fi
+count "install" make -s -C . LIB="$out" OUT="$room/install" PREFIX="$room/installed" PARTS="${parts[*]}" install
+count "what is installed" tests/installed.sh "$room/installed"
 export SOURCE_DATE_EPOCH=1700000000 # the release and the tests of Python build the same wheel
 count "release" tests/dist.sh "$out" "$room/release"
 count "JSON text: library and tests, without a warning" make -s -j2 -C text OUT="$room/text" JDOC="$out" all tests
@@ -64,7 +72,6 @@ python3 text/tests/rows.py >"$room/text_rows" || failed=$((failed + 1))
 count "JSON text" "$room/text/text" "$room/text_rows"
 count "JSON text, sanitized" "$room/text/text_sanitized" "$room/text_rows" 20000
 count "SQLite" sqlite/test.sh "$out" "$room/sqlite"
-chmod 711 "$room" # the server of PostgreSQL runs as another user
 count "PostgreSQL" postgres/test.sh "$out" "$room/postgres"
 count "Python" python/test.sh "$out" "$room/release/first/dist"
 if command -v cargo >/dev/null; then

@@ -105,5 +105,13 @@ postgres() {
         nm -D --defined-only "$out/postgres$(pg_config --pkglibdir)/jdoc.so" | grep -q ' Pg_magic_func$'
 }
 has postgres && count "PostgreSQL" postgres
+# postgres/test.sh starts a server, in which the command replaces the extension by the release's.
+starts_server() { [ "$(id -u)" != 0 ] || id postgres >/dev/null 2>&1; }
+if ! starts_server; then
+    echo "skipped: release, a server of PostgreSQL: there is no user postgres"
+elif has postgres && [ -x "$(pg_config --bindir)/postgres" ]; then
+    count "PostgreSQL, a server" env PATH="$PATH:/usr/sbin:/sbin" "$here/postgres/test.sh" "$lib" "$out/server" \
+        "$here/tests/released_postgres.sh" "$(echo "$out"/first/dist/jdoc-postgres*.tar.gz)" "$out/server/root"
+fi
 echo "$passed passed, $failed failed"
 [ "$failed" = 0 ]

@@ -1,6 +1,6 @@
 #!/usr/bin/env bash
-# installed.sh PREFIX: uses the libraries that are installed there as a user would: programs in C and C++ by pkg-config if it is installed,
-# and the manual page. The last line is `N passed, M failed`.
+# installed.sh PREFIX: uses what is installed there as a user would: programs in C and C++ by pkg-config if it is installed, the
+# extension of SQLite if it is there, and the manual page. The last line is `N passed, M failed`.
 set -eu
 trap 'echo "failed: line $LINENO: $BASH_COMMAND"' ERR
 prefix=$1 here=$(cd "$(dirname "$0")" && pwd) passed=0 room=$(mktemp -d)
@@ -32,6 +32,11 @@ if command -v c++ >/dev/null; then
     passed=$((passed + 1))
 else
     echo "skipped: a program in C++: there is no c++"
+fi
+
+if [ -e "$prefix/lib/sqlite3/jdoc.so" ]; then
+    diff <(sqlite3 -cmd ".load $prefix/lib/sqlite3/jdoc" <"$here/../sqlite/example.sql" 2>&1) "$here/../sqlite/example.txt"
+    passed=$((passed + 1))
 fi
 
 # Each function of a header has its part of the page, and a name by which the page is found.
