@@ -73,6 +73,8 @@ count "JSON text" "$room/text/text" "$room/text_rows"
 count "JSON text, sanitized" "$room/text/text_sanitized" "$room/text_rows" 20000
 count "SQLite" sqlite/test.sh "$out" "$room/sqlite"
 count "PostgreSQL" postgres/test.sh "$out" "$room/postgres"
+server="$PWD/postgres/test.sh" # starts a server, for a command that starts the other one
+count "PostgreSQL, two servers" "$server" "$out" "$room/one" "$server" "$out" "$room/two" "$PWD/tests/two_servers.sh" "$room/one" "$room/two"
 count "Python" python/test.sh "$out" "$room/release/first/dist"
 if command -v cargo >/dev/null; then
     count "Rust" env JDOC_LIB_DIR="$out" JDOC_TEXT_LIB_DIR="$room/text" CARGO_TARGET_DIR="$room/target" \
