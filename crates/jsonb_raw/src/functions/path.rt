@@ -181,8 +181,9 @@ impl RawJsonb<'_> {
     ///
     /// # Examples
     ///
-    /// ```rust crates/jsonb_examples/src/configuration.rt
-    /// let spot = configuration.spot_by_keypath(alloc, steps.paths.iter())?;
+    /// ```rust crates/jsonb_c/src/place.rt
+    /// let found = RawJsonb::new(document).spot_by_keypath(alloc, steps.paths.iter())?;
+    /// found_place(document, found)
     /// ```
     pub fn spot_by_keypath<'k, I: Iterator<Item = &'k KeyPath<'k>> + Drop>(
         &self,
