@@ -112,7 +112,7 @@ static void read_path(prepared *it, const char *text, size_t len) {
     sql_path of = sql_path_of(text, len);
     uint32_t status;
     it->len = SIZE_MAX;
-    RUN(status, jdoc_path_read(of.text, of.len, &it->path));
+    RUN_KEPT(status, jdoc_path_read(of.text, of.len, &it->path));
     if (status != JDOC_OK) fail(status);
     it->strict = of.strict;
     keep_text(it, text, len);
@@ -198,23 +198,6 @@ bytea *made_by(const given *it, maker *makes, bool silent) {
     SET_VARSIZE(made, VARHDRSZ + found.len);
     if (!found.large) memcpy(VARDATA(made), found.small, found.len);
     return made;
-}
-
-text *text_by(const given *it, maker *makes) {
-    result found;
-    jdoc_event root;
-    const uint8_t *document;
-    const char *text;
-    size_t len;
-    uint32_t status;
-    if (!result_of(it, makes, false, &found)) return NULL;
-    document = found.large ? (uint8_t *)VARDATA(found.large) : found.small;
-    status = jdoc_root(&root, document, found.len);
-    if (status != JDOC_OK) fail(status);
-    if (root.kind == JDOC_EVENT_NULL) return NULL;
-    text = (const char *)root.bytes, len = root.len;
-    if (root.kind != JDOC_EVENT_STRING) text = text_of_document(document, found.len, &len);
-    return cstring_to_text_with_len(text, (int)len);
 }
 
 Datum return_made(FunctionCallInfo fcinfo, const char *letters, maker *makes) {

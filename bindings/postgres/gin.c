@@ -1,8 +1,9 @@
 /* gin.c - an inverted index for @>, ?, ?| and ?&
  *
- * A document has an entry for each of its leaves, and for each name that ? finds in it. An entry is a hash of 64 bits: of
- * the keys that lead to the leaf, without the arrays between them, and of the leaf's value; or of the name. So the entries
- * of a document that is contained are entries of the one that contains it. Every row that is found is compared again.
+ * A document has an entry for each of its leaves, and for each name that ? finds in it. An entry is a hash of 64 bits:
+ * of the keys that lead to the leaf, without the arrays between them, and of the leaf's value; or of the name. So the
+ * entries of a document that is contained are entries of the one that contains it. Every row that is found is compared
+ * again.
  */
 #include "jdoc_pg.h"
 
@@ -38,7 +39,8 @@ static void add(entries *it, uint64 entry) {
 static void open_container(entries *it, uint64 hash) {
     if (it->depth == it->open_size) {
         it->open_size = 2 * it->open_size + 16;
-        it->open = it->open ? repalloc(it->open, it->open_size * sizeof(uint64)) : palloc(it->open_size * sizeof(uint64));
+        it->open =
+            it->open ? repalloc(it->open, it->open_size * sizeof(uint64)) : palloc(it->open_size * sizeof(uint64));
     }
     it->open[it->depth++] = hash;
 }
@@ -46,13 +48,9 @@ static void open_container(entries *it, uint64 hash) {
 /* Equal values have equal hashes: a number's is that of its equality key, in which 1 and 1.0 are the same. */
 static uint64 hash_of_leaf(const jdoc_event *leaf, uint64 seed) {
     bytea *document, *key;
-    size_t size;
     if (leaf->kind != JDOC_EVENT_NUMBER && leaf->kind != JDOC_EVENT_EXTENSION)
         return hash_of(leaf->bytes, leaf->len, hash_combine64(seed, leaf->kind));
-    size = jdoc_item_size(leaf);
-    document = palloc(VARHDRSZ + size);
-    SET_VARSIZE(document, VARHDRSZ + size);
-    jdoc_item_write(leaf, (uint8_t *)VARDATA(document));
+    document = document_of_item(leaf);
     key = equality_key_of(document);
     seed = hash_of(VARDATA(key), VARSIZE_ANY_EXHDR(key), seed);
     pfree(key);

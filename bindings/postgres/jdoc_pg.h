@@ -28,14 +28,26 @@
  * or if the query is cancelled. */
 extern const jdoc_heap pg_heap;
 
-/* Whether a call of the library must be repeated. The library's allocations fail while an interrupt is pending, so
- * that a cancelled query ends there; other interrupts are handled here, and the call is repeated. */
-bool interrupted(uint32_t status);
+/* Whether a call of the library that found no memory must be repeated. The library's allocations fail while an
+ * interrupt is pending, so that a cancelled query ends there; other interrupts are handled here, and the call is
+ * repeated. */
+bool interrupted(void);
 
 #define RUN(status, call)                                                                                              \
     do {                                                                                                               \
         (status) = (call);                                                                                             \
-    } while (interrupted(status))
+    } while ((status) == JDOC_OUT_OF_MEMORY && interrupted())
+
+/* RUN for a call that makes a prepared path, whose memory it does not free. It is that of the current context. */
+#define RUN_KEPT(status, call)                                                                                         \
+    do {                                                                                                               \
+        heap_keeps = true;                                                                                             \
+        (status) = (call);                                                                                             \
+        heap_keeps = false;                                                                                            \
+    } while ((status) == JDOC_OUT_OF_MEMORY && interrupted())
+
+/* The library allocates pieces that it does not free before it returns. */
+extern bool heap_keeps;
 
 /* ERRORS AND RESULTS (calls.c) */
 
@@ -59,7 +71,6 @@ typedef struct given {
     bytea *documents[2];
     int documents_len;
     jdoc_path *path;
-    jdoc_keypath *keys;
     bool strict;
     text *name;
     names names;
@@ -75,10 +86,6 @@ typedef enum jdoc_status asker(const given *it, uint8_t *truth);
 /* The result of a call as a varlena, NULL if it is JDOC_NONE. With `silent`, or if the call is an operator of paths, an
  * error that depends on the document is JDOC_NONE. */
 bytea *made_by(const given *it, maker *makes, bool silent);
-
-/* The document that a call builds, as text: a string without quotes, others as JSON text. NULL: there is none, or it is
- * null. */
-text *text_by(const given *it, maker *makes);
 
 /* Return what makes or asks writes, as the result of an SQL function. */
 Datum return_made(FunctionCallInfo fcinfo, const char *letters, maker *makes);
@@ -104,10 +111,25 @@ bool is_hidden(uint32_t status, bool silent);
     PG_FUNCTION_INFO_V1(name);                                                                                         \
     Datum name(PG_FUNCTION_ARGS) { return return_truth(fcinfo, letters, name##_call, false); }
 
-/* DOCUMENTS (types.c, rows.c, order.c) */
+/* ITEMS of documents that were checked (items.c) */
 
-/* The JSON text of a document, with the spaces of jsonb. */
-char *text_of_document(const uint8_t *document, size_t document_len, size_t *len);
+jdoc_event root_of(const uint8_t *document, size_t len);
+void open_children(jdoc_children *children, const jdoc_event *container);
+bool next_child(jdoc_children *children, jdoc_event *child);
+bytea *document_of_item(const jdoc_event *item);
+
+/* Find an element of an array, or the value of a key of an object. False: there is none, or this is another type. */
+bool element_of(const jdoc_event *array, uint32_t index, jdoc_event *child);
+bool member_of(const jdoc_event *object, const char *name, size_t len, jdoc_event *child);
+
+/* An item as text: a string without quotes, others as JSON text. NULL: it is null. */
+text *text_of_item(const jdoc_event *item);
+
+/* DOCUMENTS (large.c, types.c, rows.c, order.c) */
+
+/* As jdoc_compare and jdoc_contains, except that queries can be cancelled in them. */
+int order_of_documents(const uint8_t *a, size_t a_len, const uint8_t *b, size_t b_len);
+bool document_contains(const uint8_t *a, size_t a_len, const uint8_t *b, size_t b_len);
 
 /* The equality key of a document. */
 bytea *equality_key_of(bytea *document);

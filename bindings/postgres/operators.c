@@ -7,21 +7,7 @@
 
 #include <string.h>
 
-/* STEPS */
-
-MAKER(field, jdoc_get_by_name(D(0), NAME, false, OUT))
-MAKER(element, jdoc_get_by_index(D(0), (size_t)it->index, OUT))
-
-/* An index that is negative counts from the end of an array. False: there is no such element. */
-static bool count_index(given *it) {
-    size_t count = 0;
-    uint8_t kind = 0;
-    if (it->index >= 0) return true;
-    if (jdoc_type(D(0), &kind) != JDOC_OK || kind != JDOC_KIND_ARRAY || jdoc_len(D(0), &count) != JDOC_OK) return false;
-    if (count > PG_INT32_MAX || (int64)it->index + (int64)count < 0) return false;
-    it->index += (int32)count;
-    return true;
-}
+/* STEPS OF PATHS */
 
 /* Whether a step is an integer of 32 bits. */
 static bool integer_of(const char *text, size_t len, int32 *number) {
@@ -37,42 +23,12 @@ static bool integer_of(const char *text, size_t len, int32 *number) {
     return value >= PG_INT32_MIN && value <= PG_INT32_MAX;
 }
 
-static void append_quoted(StringInfo out, const char *name, size_t len) {
-    appendStringInfoChar(out, '"');
-    for (size_t i = 0; i < len; i++) {
-        if (name[i] == '"' || name[i] == '\\') appendStringInfoChar(out, '\\');
-        appendStringInfoChar(out, name[i]);
-    }
-    appendStringInfoChar(out, '"');
-}
-
 /* The steps of #> and #>>, cached with the function. */
 typedef struct steps {
     MemoryContext context; /* of all that follows */
     ArrayType *array;
     names names;
-    bool are_keys;     /* each step is a key, none an index, on any item */
-    jdoc_keypath keys; /* then */
 } steps;
-
-static void read_keys(steps *it) {
-    StringInfoData path;
-    uint32_t status;
-    it->are_keys = it->names.count > 0;
-    initStringInfo(&path);
-    for (size_t i = 0; i < it->names.count; i++) {
-        const char *name = it->names.bytes + it->names.offsets[i];
-        size_t len = it->names.offsets[i + 1] - it->names.offsets[i];
-        int32 index;
-        if (len == 0 || integer_of(name, len, &index)) it->are_keys = false; /* a key path cannot say the empty key */
-        appendStringInfoChar(&path, i ? ',' : '{');
-        append_quoted(&path, name, len);
-    }
-    appendStringInfoChar(&path, '}');
-    if (!it->are_keys) return;
-    RUN(status, jdoc_keypath_read(path.data, (size_t)path.len, &it->keys));
-    if (status != JDOC_OK) fail(status);
-}
 
 static void read_steps(steps *it, const ArrayType *array) {
     MemoryContext before = MemoryContextSwitchTo(it->context);
@@ -82,7 +38,6 @@ static void read_steps(steps *it, const ArrayType *array) {
     copy = palloc(VARSIZE(array));
     memcpy(copy, array, VARSIZE(array));
     it->names = names_of(PointerGetDatum(copy));
-    if (!it->names.has_null) read_keys(it);
     it->array = copy; /* the last, in case of an error */
     MemoryContextSwitchTo(before);
 }
@@ -100,74 +55,64 @@ static steps *take_steps(FunctionCallInfo fcinfo, int at) {
     return kept;
 }
 
-/* CHILDREN: the call that builds a child; NULL: there is none */
+/* CHILDREN, in place: a child is copied once, into the result */
 
-MAKER(by_keys, jdoc_keypath_get(it->keys, D(0), OUT))
-
-static enum jdoc_status itself(const given *it, uint8_t *out, size_t size, size_t *len) {
-    *len = VARSIZE_ANY_EXHDR(it->documents[0]);
-    if (*len > size) return JDOC_BUFFER_TOO_SMALL;
-    memcpy(out, VARDATA_ANY(it->documents[0]), *len);
-    return JDOC_OK;
+/* An index that is negative counts from the end. */
+static bool counted_element(const jdoc_event *of, int64 index, jdoc_event *child) {
+    if (index < 0) index += of->count;
+    return index >= 0 && element_of(of, (uint32_t)index, child);
 }
 
-static bool is_array(const bytea *document) {
-    jdoc_event root;
-    uint32_t status = jdoc_root(&root, BYTES(document));
-    if (status != JDOC_OK) fail(status);
-    return root.kind == JDOC_EVENT_BEGIN && !root.object;
+/* What a step means in PostgreSQL: a key of an object, an index of an array. */
+static bool child_of(const jdoc_event *of, const char *name, size_t len, jdoc_event *child) {
+    int32 index;
+    if (of->object) return member_of(of, name, len, child);
+    return integer_of(name, len, &index) && counted_element(of, index, child);
 }
 
-/* Step by step, so that a step means what it means in PostgreSQL: a key of an object, an index of an array. */
-static maker *descendant(FunctionCallInfo fcinfo, given *it) {
-    steps *of = take_steps(fcinfo, 1);
-    maker *makes = itself;
-    given_of(fcinfo, "d", it);
-    it->keys = &of->keys;
-    if (of->names.has_null) return NULL;
-    if (of->are_keys) return by_keys;
+static bool the_descendant(FunctionCallInfo fcinfo, jdoc_event *item) {
+    const steps *of = take_steps(fcinfo, 1);
+    const bytea *it = PG_GETARG_BYTEA_PP(0);
+    *item = root_of(BYTES(it));
+    if (of->names.has_null) return false;
     for (size_t i = 0; i < of->names.count; i++) {
-        const char *name = of->names.bytes + of->names.offsets[i];
-        size_t len = of->names.offsets[i + 1] - of->names.offsets[i];
-        if (i > 0) it->documents[0] = made_by(it, makes, false);
-        if (!it->documents[0]) return NULL;
-        makes = is_array(it->documents[0]) ? element : field;
-        if (makes == element && !(integer_of(name, len, &it->index) && count_index(it))) return NULL;
-        if (makes == field) it->name = cstring_to_text_with_len(name, (int)len);
+        const jdoc_event container = *item;
+        const uint64_t *ends = of->names.offsets + i;
+        if (!child_of(&container, of->names.bytes + ends[0], ends[1] - ends[0], item)) return false;
     }
-    return makes;
+    return true;
 }
 
-static maker *the_field(FunctionCallInfo fcinfo, given *it) {
-    given_of(fcinfo, "dn", it);
-    return field;
+static bool the_field(FunctionCallInfo fcinfo, jdoc_event *child) {
+    const bytea *it = PG_GETARG_BYTEA_PP(0);
+    const text *name = PG_GETARG_TEXT_PP(1);
+    const jdoc_event root = root_of(BYTES(it));
+    return member_of(&root, TEXT(name), child);
 }
 
-static maker *the_element(FunctionCallInfo fcinfo, given *it) {
-    given_of(fcinfo, "di", it);
-    return count_index(it) ? element : NULL;
+static bool the_element(FunctionCallInfo fcinfo, jdoc_event *child) {
+    const bytea *it = PG_GETARG_BYTEA_PP(0);
+    const jdoc_event root = root_of(BYTES(it));
+    return counted_element(&root, PG_GETARG_INT32(1), child);
 }
 
-#define CHILD(sql_name, chosen)                                                                                        \
+#define CHILD(sql_name, found)                                                                                         \
     PG_FUNCTION_INFO_V1(sql_name);                                                                                     \
     Datum sql_name(PG_FUNCTION_ARGS) {                                                                                 \
-        given it;                                                                                                      \
-        maker *makes = chosen(fcinfo, &it);                                                                            \
-        bytea *child = makes ? made_by(&it, makes, false) : NULL;                                                      \
-        if (!child) PG_RETURN_NULL();                                                                                  \
-        PG_RETURN_BYTEA_P(child);                                                                                      \
+        jdoc_event child;                                                                                              \
+        if (!found(fcinfo, &child)) PG_RETURN_NULL();                                                                  \
+        PG_RETURN_BYTEA_P(document_of_item(&child));                                                                   \
     }                                                                                                                  \
     PG_FUNCTION_INFO_V1(sql_name##_text);                                                                              \
     Datum sql_name##_text(PG_FUNCTION_ARGS) {                                                                          \
-        given it;                                                                                                      \
-        maker *makes = chosen(fcinfo, &it);                                                                            \
-        text *child = makes ? text_by(&it, makes) : NULL;                                                              \
-        if (!child) PG_RETURN_NULL();                                                                                  \
-        PG_RETURN_TEXT_P(child);                                                                                       \
+        jdoc_event child;                                                                                              \
+        text *made = found(fcinfo, &child) ? text_of_item(&child) : NULL;                                              \
+        if (!made) PG_RETURN_NULL();                                                                                   \
+        PG_RETURN_TEXT_P(made);                                                                                        \
     }
 CHILD(jdoc_sql_field, the_field)
 CHILD(jdoc_sql_element, the_element)
-CHILD(jdoc_sql_descendant, descendant)
+CHILD(jdoc_sql_descendant, the_descendant)
 
 /* EDITS */
 
@@ -179,6 +124,15 @@ MAKES(jdoc_sql_array_insert, "did", jdoc_array_insert(D(0), D(1), it->index, OUT
 MAKES(jdoc_sql_strip_nulls, "d", jdoc_strip_nulls(D(0), OUT))
 MAKES(jdoc_sql_sort_key, "d", jdoc_sort_key(D(0), false, OUT))
 MAKES(jdoc_sql_equality_key, "d", jdoc_equality_key(D(0), OUT))
+
+static void append_quoted(StringInfo out, const char *name, size_t len) {
+    appendStringInfoChar(out, '"');
+    for (size_t i = 0; i < len; i++) {
+        if (name[i] == '"' || name[i] == '\\') appendStringInfoChar(out, '\\');
+        appendStringInfoChar(out, name[i]);
+    }
+    appendStringInfoChar(out, '"');
+}
 
 /* A step of a key path: an index if it is written as key paths write one, otherwise a quoted key. */
 static void append_step(StringInfo out, const char *name, size_t len) {
@@ -221,8 +175,18 @@ static enum jdoc_status has_name(const given *it, uint8_t *truth) {
 PG_FUNCTION_INFO_V1(jdoc_sql_has);
 Datum jdoc_sql_has(PG_FUNCTION_ARGS) { return return_truth(fcinfo, "dn", has_name, false); }
 
-ASKS(jdoc_sql_contains, "dd", jdoc_contains(D(0), D(1), truth))
-ASKS(jdoc_sql_contained, "dd", jdoc_contains(D(1), D(0), truth))
+PG_FUNCTION_INFO_V1(jdoc_sql_contains);
+Datum jdoc_sql_contains(PG_FUNCTION_ARGS) {
+    const bytea *a = PG_GETARG_BYTEA_PP(0), *b = PG_GETARG_BYTEA_PP(1);
+    PG_RETURN_BOOL(document_contains(BYTES(a), BYTES(b)));
+}
+
+PG_FUNCTION_INFO_V1(jdoc_sql_contained);
+Datum jdoc_sql_contained(PG_FUNCTION_ARGS) {
+    const bytea *a = PG_GETARG_BYTEA_PP(0), *b = PG_GETARG_BYTEA_PP(1);
+    PG_RETURN_BOOL(document_contains(BYTES(b), BYTES(a)));
+}
+
 ASKS(jdoc_sql_has_any, "dN", jdoc_exists_any_keys(D(0), NAMES, truth))
 ASKS(jdoc_sql_has_all, "dN", jdoc_exists_all_keys(D(0), NAMES, truth))
 

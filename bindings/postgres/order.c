@@ -37,14 +37,10 @@ static void release(key *made) {
 /* DOCUMENTS */
 
 static int compare(const bytea *a, const bytea *b) {
-    int32_t order;
-    uint32_t status;
     if (VARSIZE_ANY_EXHDR(a) == VARSIZE_ANY_EXHDR(b) &&
         memcmp(VARDATA_ANY(a), VARDATA_ANY(b), VARSIZE_ANY_EXHDR(a)) == 0)
         return 0;
-    status = jdoc_compare(BYTES(a), BYTES(b), &order);
-    if (status != JDOC_OK) fail(status);
-    return order;
+    return order_of_documents(BYTES(a), BYTES(b));
 }
 
 static int compare_data(Datum a, Datum b) {
@@ -78,20 +74,28 @@ static int rank_of(const jdoc_event *item) {
 }
 
 /* SORTING: eight bytes of a scalar's key after the depth of the root, which is always 0, decide between most scalars.
- * An array or an object has only its type there. */
+ * An array or an object has only its type there, so that these bytes are given up if most documents are such. */
+
+typedef struct counts {
+    int64 scalars, containers;
+} counts;
 
 static int sort_compare(Datum a, Datum b, SortSupport sort) { return compare_data(a, b); }
 
 static Datum abbreviate(Datum original, SortSupport sort) {
     bytea *it = DatumGetByteaPP(original);
+    counts *seen = sort->ssup_extra;
     uint8_t front[sizeof(Datum)] = {0};
     jdoc_event root;
     Datum made;
     uint32_t status = jdoc_root(&root, BYTES(it));
     if (status != JDOC_OK) fail(status);
     front[0] = (uint8_t)rank_of(&root);
-    if (root.kind != JDOC_EVENT_BEGIN) {
+    if (root.kind == JDOC_EVENT_BEGIN) {
+        seen->containers++;
+    } else {
         key whole;
+        seen->scalars++;
         key_of(BYTES(it), &whole);
         memcpy(front, whole.bytes + DEPTH, Min(whole.len - DEPTH, sizeof front));
         release(&whole);
@@ -101,7 +105,10 @@ static Datum abbreviate(Datum original, SortSupport sort) {
     return DatumBigEndianToNative(made);
 }
 
-static bool never_abort(int count, SortSupport sort) { return false; }
+static bool gives_up(int count, SortSupport sort) {
+    const counts *seen = sort->ssup_extra;
+    return seen->containers > Max(seen->scalars, 100);
+}
 
 PG_FUNCTION_INFO_V1(jdoc_sql_sortsupport);
 Datum jdoc_sql_sortsupport(PG_FUNCTION_ARGS) {
@@ -110,8 +117,9 @@ Datum jdoc_sql_sortsupport(PG_FUNCTION_ARGS) {
     if (sort->abbreviate) {
         sort->comparator = ssup_datum_unsigned_cmp;
         sort->abbrev_converter = abbreviate;
-        sort->abbrev_abort = never_abort;
+        sort->abbrev_abort = gives_up;
         sort->abbrev_full_comparator = sort_compare;
+        sort->ssup_extra = MemoryContextAllocZero(sort->ssup_cxt, sizeof(counts));
     }
     PG_RETURN_VOID();
 }

@@ -12,7 +12,7 @@ Datum jdocpath_in(PG_FUNCTION_ARGS) {
     sql_path it = sql_path_of(text, strlen(text));
     jdoc_path path = {0};
     uint32_t status = JDOC_INVALID_JSON_PATH; /* the empty path selects the root, and is more likely a mistake */
-    if (it.len != 0) RUN(status, jdoc_path_read(it.text, it.len, &path));
+    if (it.len != 0) RUN_KEPT(status, jdoc_path_read(it.text, it.len, &path));
     jdoc_path_free(&path);
     if (status == JDOC_INVALID_JSON_PATH)
         ereport(ERROR,

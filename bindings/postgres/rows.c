@@ -20,13 +20,7 @@ Datum return_elements(FunctionCallInfo fcinfo, bytea *(*array_of)(FunctionCallIn
         if (status != JDOC_OK) fail(status);
     }
     context = SRF_PERCALL_SETUP();
-    if (jdoc_children_next(context->user_fctx, &item) == JDOC_OK) {
-        size_t len = jdoc_item_size(&item);
-        bytea *made = palloc(VARHDRSZ + len);
-        SET_VARSIZE(made, VARHDRSZ + len);
-        jdoc_item_write(&item, (uint8_t *)VARDATA(made));
-        SRF_RETURN_NEXT(context, PointerGetDatum(made));
-    }
+    if (next_child(context->user_fctx, &item)) SRF_RETURN_NEXT(context, PointerGetDatum(document_of_item(&item)));
     SRF_RETURN_DONE(context);
 }
 

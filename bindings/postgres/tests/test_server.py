@@ -7,6 +7,7 @@ calls instead of 20,000, and cuts off ten times as many queries (bindings/postgr
 import json
 import os
 import random
+import re
 import subprocess
 import sys
 import tempfile
@@ -59,6 +60,7 @@ class Interrupts(unittest.TestCase):
     SLOW = [
         "jdoc_path_exists((repeat('[', 60) || repeat(']', 60))::jdoc, '$.**.**.**.**.**.a')",
         "jdoc_path_query_array((repeat('[', 300) || repeat(']', 300))::jdoc, '$.**.**.**.**')",
+        "('{\"k\":[' || repeat('1,', 100000) || '2]}')::jdoc @> ('{\"k\":[' || repeat('2,', 100000) || '2]}')::jdoc",
         "sum(jdoc_length(('[' || repeat('1,', 1000000) || n || ']')::jdoc)) FROM generate_series(1, 1000) AS n",
     ]
 
@@ -69,6 +71,15 @@ class Interrupts(unittest.TestCase):
             self.assertIn("canceling statement due to statement timeout", said)
             self.assertIn("goes on", said)
             self.assertLess(time.monotonic() - begun, 5, call)
+
+    def test_timeout_of_one_comparison(self):
+        """Two equal documents of three million elements, whose comparison alone takes longer than the timeout."""
+        psql("CREATE TABLE alike AS SELECT ('[' || repeat('1,', 3000000) || '1]')::jdoc AS a, ('[' || repeat('1.0,', 3000000) || '1]')::jdoc AS b")
+        said = psql("""SET client_min_messages = error; SET statement_timeout = '50ms';
+                       \\timing on\n\\set ON_ERROR_STOP 0\nSELECT jdoc_cmp(a, b) FROM alike;""", check=False)
+        self.assertIn("canceling statement due to statement timeout", said)
+        self.assertLess(float(re.search(r"Time: ([0-9.]+) ms", said)[1]), 1000)
+        self.assertEqual(psql("SELECT jdoc_cmp(a, b), a = b FROM alike"), "0|t")
 
     def test_interrupts_that_do_not_cancel(self):
         """The process is asked to log its memory while it works: the calls are repeated, and their results are right."""
@@ -195,6 +206,20 @@ class BesideJsonb(unittest.TestCase):
         self.differing("jsonb_typeof(j) <> 'object' OR (d || '{\"a\":[1]}')::jsonb = j || '{\"a\":[1]}'")
         self.differing("NOT EXISTS (SELECT 1 FROM both_types AS y WHERE y.n % 50 = x.n % 50 AND (x.d = y.d) <> (x.j = y.j))")
 
+    def test_children(self):
+        """Each child of containers of up to 70 children, and keys and indexes that they do not have."""
+        psql("""CREATE TEMPORARY TABLE containers AS
+                SELECT n, j, j::jdoc AS d, a, a::jdoc AS b FROM generate_series(0, 70) AS n,
+                LATERAL (SELECT coalesce(jsonb_object_agg(repeat('k', i % 5) || i % 100, to_jsonb(repeat('v', i))), '{}') AS j,
+                                coalesce(jsonb_agg(CASE i % 4 WHEN 0 THEN to_jsonb(i) WHEN 1 THEN to_jsonb(repeat('é', i)) WHEN 2 THEN 'null' ELSE '{"a":[]}' END), '[]') AS a
+                         FROM generate_series(1, n) AS i) AS made;
+                DO $$ BEGIN ASSERT (
+                    SELECT count(*) = 5325 AND bool_and((d -> k)::jsonb IS NOT DISTINCT FROM j -> k AND (d ->> k) IS NOT DISTINCT FROM j ->> k
+                                AND (b -> i)::jsonb IS NOT DISTINCT FROM a -> i AND (b ->> i) IS NOT DISTINCT FROM a ->> i
+                                AND (d #> ARRAY[k])::jsonb IS NOT DISTINCT FROM j #> ARRAY[k] AND (b #> ARRAY[i::text])::jsonb IS NOT DISTINCT FROM a #> ARRAY[i::text])
+                    FROM containers, generate_series(-n - 2, n + 2) AS i, LATERAL (SELECT repeat('k', abs(i) % 5) || abs(i) % 100 AS k) AS keys);
+                END $$""")
+
     def test_paths(self):
         """Items of a path, in any order: both types order keys in their own way. What is an error for one is left out."""
         psql("""CREATE OR REPLACE FUNCTION items(j jsonb, p jsonpath) RETURNS jsonb LANGUAGE plpgsql IMMUTABLE AS $$
@@ -235,6 +260,26 @@ class Sorting(unittest.TestCase):
                         LATERAL (SELECT jdoc_sort_key(x.d) AS k, jdoc_sort_key(y.d) AS l) AS keys
                         WHERE sign(jdoc_cmp(x.d, y.d)) <> CASE WHEN k < l THEN -1 WHEN k > l THEN 1 ELSE 0 END LIMIT 3""")
         self.assertEqual(said, "")
+
+    def test_large_documents(self):
+        """Large documents are compared child by child, and whether one contains another is found so."""
+        # What comes before the ends: equal by value, and not in bytes.
+        before = [f"repeat('{it},', 180000)" for it in ("1", "1.0")] + [f"'\"' || repeat('x', {2**20}) || '\",'"]
+        around = ["[@]", "[[@],5]", '{"a":[@],"b":0}', '[[0,{"k":[@]}]]']
+        ends = ["1", "1.0", "2", '"x"', "null", "[]", "[1]", "{}", "1,2", "[1,2],0", "[1],3"]
+        texts = [f"replace('{it}', '@', {start} || '{end}')" for start in before for it in around for end in (ends if it == "[@]" else ends[1:3])]
+        texts += [f"replace('{it}', '@', {before[0]} || '1')" for it in ('{"a":[@],"b":1}', '{"b":[@]}', '{"a":[],"b":[@]}')]
+        texts += [f"'\"' || repeat('x', {2**20}) || '{end}\"'" for end in ("", "y", "z", "\\u0001")] + ["'null'", "'true'", "'1'", "'[]'", "'{}'"]
+        rows = ",".join(f"(({it})::jdoc)" for it in texts)
+        said = psql(f"""CREATE TEMPORARY TABLE large (n int, d jdoc, k bytea);
+                        ALTER TABLE large ALTER d SET STORAGE external, ALTER k SET STORAGE external;
+                        INSERT INTO large SELECT row_number() OVER (), d, jdoc_sort_key(d) FROM (VALUES {rows}) AS v (d);
+                        SELECT count(*) FROM large WHERE length(k) > 1000000;
+                        SELECT x.n, y.n, jdoc_cmp(x.d, y.d) FROM large AS x JOIN large AS y ON (x.n * 3 + y.n) % 17 = 0
+                        WHERE sign(jdoc_cmp(x.d, y.d)) <> CASE WHEN x.k < y.k THEN -1 WHEN x.k > y.k THEN 1 ELSE 0 END LIMIT 3;
+                        SELECT x.n, y.n FROM large AS x JOIN large AS y ON x.n % 6 = 0 AND y.n IN (x.n, x.n + 1)
+                        WHERE (x.d @> y.d) <> (x.d::jsonb @> y.d::jsonb) LIMIT 3""")
+        self.assertEqual(said, str(len(texts) - 5))
 
     def test_orders(self):
         psql("""CREATE TABLE sorted AS
