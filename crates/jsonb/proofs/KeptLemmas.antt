@@ -1,6 +1,7 @@
 -- What is kept of a filter from one item to the next.
 use Rattle.std.proofs.Common.{◌≡◌, Vec, Box, Global, ℕ, ◌≤◌, ◌+◌, zero, suc, List, [], ◌∷◌, ◌++◌, length, drop, true, Some, None, Ok, Err, IsOkAnd, OnOk, arith, refl, sym, ap, ◌∙◌, subst, inl, inr, add-one}
 use Rattle.std.specs.List.{slice_get}
+use Rattle.std.specs.Prelude.{if◌then◌else◌}
 use Rattle.std.proofs.lemmas.Option.{slice_get_cases}
 use Rattle.jsonb_doc.specs.Answer.{Outcome, and_then, Refines, IsOutOfMemory}
 use Rattle.jsonb_doc.specs.Tree.{Tree}
@@ -73,15 +74,8 @@ at_last ps n none short = elim (slice_get_cases ps n).1 [
 
 -- ---- comparisons
 
-one_of : (op : math.BinaryOp) (l r : Expression) → is_comparison op ≡ true → conditions (math.binary op l r) ≡ math.binary op l r ∷ []
-one_of math.and_op l r h = cc
-one_of math.or_op l r h = cc
-one_of math.add l r h = cc
-one_of math.subtract l r h = cc
-one_of math.multiply l r h = cc
-one_of math.divide l r h = cc
-one_of math.modulo l r h = cc
-one_of _ l r h = refl
+pub one_condition : (e : Expression) → is_condition e ≡ true → conditions e ≡ e ∷ []
+one_condition e is = ap (λ b. if b then e ∷ [] else []) is
 
 pub comparison_is : (mode : Mode) (op : math.BinaryOp) (l r : Expression) (top u : Tree) → is_comparison op ≡ true → truth mode (math.binary op l r) top u
     ≡ and_then (operand_values mode l top u) (λ ls. and_then (operand_values mode r top u) (λ rs. Ok (compare op ls rs)))
@@ -106,14 +100,14 @@ fixed_truth mode op l r top t u h hl hr =
 pub one_comparison : (e : Expr) (op : BinaryOperator) (l r : Box Expr Global) → e ≡ expr.BinaryOp op l r → is_comparison (operator_view op) ≡ true →
     (is_condition (expression_view e) ≡ true) × (conditions (expression_view e) ≡ expression_view e ∷ [])
 one_comparison e op l r is compares =
-    let view = binary_is e op l r is in (
-      ap is_condition view ∙ compares,
-      ap conditions view ∙ one_of (operator_view op) (expression_view l.value) (expression_view r.value) compares ∙ ap (λ x. x ∷ []) (sym view),
-    )
+    let condition : is_condition (expression_view e) ≡ true = ap is_condition (binary_is e op l r is) ∙ compares in
+    (condition, one_condition (expression_view e) condition)
 
 pub one_exists : (e : Expr) (steps : Vec Path Global) → e ≡ expr.ExistsFunc steps →
     (is_condition (expression_view e) ≡ true) × (conditions (expression_view e) ≡ expression_view e ∷ [])
-one_exists e steps is = let view = exists_is e steps is in (ap is_condition view, ap conditions view ∙ ap (λ x. x ∷ []) (sym view))
+one_exists e steps is =
+    let condition : is_condition (expression_view e) ≡ true = ap is_condition (exists_is e steps is) in
+    (condition, one_condition (expression_view e) condition)
 
 -- ---- values that are known
 

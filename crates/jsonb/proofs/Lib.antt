@@ -34,7 +34,6 @@ pub mod ComparedLemmas
 pub mod MirrorLemmas
 pub mod ListLemmas
 pub mod SearchLemmas
-pub mod TermLemmas
 pub mod JumpLemmas
 pub mod TestLemmas
 pub mod CalculateLemmas

@@ -1,7 +1,8 @@
 -- Conditions that are compiled to tests.
-use Rattle.std.proofs.Common.{◌≡◌, ℕ, ◌+◌, ◌≤◌, List, [], ◌∷◌, ◌++◌, length, take, get_or, map, flat_map, option_to_list, Bool, true, false, Option, Some, None, is_some, Ok, Err, IsOkAnd, refl, sym, ap, ◌∙◌, subst, arith, length-append}
+use Rattle.std.proofs.Common.{◌≡◌, ℕ, ◌+◌, ◌≤◌, ◌<◌, List, [], ◌∷◌, ◌++◌, length, take, get_or, map, flat_map, option_to_list, Bool, true, false, Option, Some, None, is_some, Ok, Err, IsOkAnd, refl, sym, ap, ◌∙◌, subst, arith, length-append}
 use Rattle.std.specs.Prelude.{reverse, not, ◌==◌, ◌&&◌, if◌then◌else◌}
-use Rattle.std.specs.List.{AllZip}
+use Rattle.std.specs.List.{All, AllZip}
+use Rattle.std.specs.Borrow.{Bor}
 use Rattle.std.proofs.lemmas.Bool.{eqb-true, lt-leb}
 use Rattle.std.proofs.lemmas.List.{reverse-append, length-reverse, length-take-le, take_more}
 use Rattle.jsonb_doc.specs.Answer.{Outcome, and_then}
@@ -11,12 +12,13 @@ use Rattle.jsonb.specs.Compare.{Truth, compare}
 use Rattle.jsonb.specs.Meaning.{steps_meaning, truth, filtered, is_some_item}
 use Rattle.jsonb.specs.PathTree.{BinaryOp, and_op, or_op, eq, not_eq, lt, lte, gt, gte, starts_with_op, add, subtract, multiply, divide, modulo, current, Steps, step, Expression, paths, binary, steps_of}
 use Rattle.jsonb.specs.PathViews.{steps_view, operator_view, expression_view}
-use Rattle.jsonb.specs.Private.FilterCache.{is_comparison}
+use Rattle.jsonb.specs.Private.FilterCache.{is_comparison, is_condition, conditions}
 use Rattle.jsonb.specs.Private.Jumps.{Branch, branches_of, branches_of_whole, taken, next_jump, jump_truth, evaluated}
 use Rattle.jsonb.specs.Private.Selection.{option_spots, taken_step}
-use Rattle.jsonb.specs.Private.Terms.{is_joined, joining_op, IsPairOf}
-use Rattle.jsonb.specs.Private.Tests.{AreMembersCompared, IsQuestionOf, IsTestOf, AreBranches, AreTestsOf, is_settled, jump_to, left_true, left_false, left_of, right_of, pending, waiting_left}
+use Rattle.jsonb.specs.Private.Pairs.{is_joined, joining_op, IsPairOf}
+use Rattle.jsonb.specs.Private.Tests.{AreMembersCompared, IsPlainQuestionOf, IsQuestionOf, IsQuestionBelow, IsTestBelow, IsTestOf, AreBranches, AreTestsOf, ArePlainTestsOf, is_plain, are_plain, question_conditions, test_conditions, tests_conditions, is_settled, jump_to, left_true, left_false, left_of, right_of, pending, waiting_left}
 use Rattle.jsonb.specs.Values.{values_of_item}
+use Rattle.jsonb.specs.declared.path.Expr.{Expr, size-Expr}
 use Rattle.jsonb.specs.declared.selector.document.Expressions.TheVariants.{AreRefused}
 use Rattle.jsonb.specs.declared.selector.document.Mode.{Mode}
 use Rattle.jsonb.specs.declared.selector.document.Mode.TheVariants.{Lax, Strict}
@@ -26,9 +28,9 @@ use Rattle.jsonb.specs.declared.selector.plan.Question.{Question}
 use Rattle.jsonb.specs.declared.selector.plan.Question.TheVariants as question
 use Rattle.jsonb.specs.declared.selector.plan.Test.{Test}
 use Rattle.jsonb.specs.declared.selector.compile.Waiting.{Waiting}
-use Rattle.jsonb.specs.declared.selector.terms.Join.{Join}
-use Rattle.jsonb.specs.declared.selector.terms.Join.TheVariants.{And, Or}
-use Rattle.jsonb.specs.declared.selector.terms.Pair.{Pair}
+use Rattle.jsonb.specs.declared.selector.pair.Join.{Join}
+use Rattle.jsonb.specs.declared.selector.pair.Join.TheVariants.{And, Or}
+use Rattle.jsonb.specs.declared.selector.pair.Pair.{Pair}
 use Rattle.jsonb.proofs.ComparedLemmas.{Any, comparison_total, members_total}
 use Rattle.jsonb.proofs.RefinesLemmas.{with_ok}
 use Rattle.jsonb.proofs.JumpLemmas.{evaluated-whole}
@@ -96,35 +98,79 @@ pub popped : (old new : List Waiting) (found : Option Waiting) → old ≡ new +
 popped old new (Some part) is empty = sym (ap reverse is ∙ last_first new part)
 popped old new None is empty = sym (ap reverse (empty refl))
 
+pub none_waiting : {A : Type 0} (waiting : List A) → length waiting ≡ 0 → waiting ≡ []
+none_waiting [] none = refl
+none_waiting (e ∷ waiting) none = cc
+
 -- as many branches as tests
-pub as_many : (tests : List Test) (done : List Branch) → AreBranches (reverse tests) done → length tests ≡ length done
-as_many tests done a = sym (length-reverse tests) ∙ related_length IsTestOf (reverse tests) done a
+pub as_many : (tests : List Test) (done : List Branch) → AreBranches IsQuestionOf (reverse tests) done → length tests ≡ length done
+as_many tests done a = sym (length-reverse tests) ∙ related_length (IsTestOf IsQuestionOf) (reverse tests) done a
 
 -- one more test before the others
-pub one_in_front : (tests : List Test) (test : Test) (e : Expression) (done : List Branch) → AreBranches (reverse tests) done
-    → IsQuestionOf test.question e → AreBranches (reverse (tests ++ test ∷ [])) (record { condition = e; on_true = test.on_true; on_false = test.on_false } ∷ done)
+pub one_in_front : (tests : List Test) (test : Test) (e : Expression) (done : List Branch) → AreBranches IsQuestionOf (reverse tests) done
+    → IsQuestionOf test.question e
+    → AreBranches IsQuestionOf (reverse (tests ++ test ∷ [])) (record { condition = e; on_true = test.on_true; on_false = test.on_false } ∷ done)
 one_in_front tests test e done a q =
-    subst (λ l. AreBranches l (record { condition = e; on_true = test.on_true; on_false = test.on_false } ∷ done)) (sym (last_first tests test))
+    subst (λ l. AreBranches IsQuestionOf l (record { condition = e; on_true = test.on_true; on_false = test.on_false } ∷ done)) (sym (last_first tests test))
     (record { on_true = refl; on_false = refl; question = q }, a)
+
+-- ---- questions of members, and others
+
+pub plain_is : (q : Question) (e : Expression) → IsPlainQuestionOf q e → IsQuestionOf q e
+plain_is (question.Expression part) e h = absurd h
+plain_is _ e h = h
+
+pub plain_question : (q : Question) (e : Expression) → is_plain q ≡ true → IsQuestionOf q e → IsPlainQuestionOf q e
+plain_question (question.Expression part) e plain h = cc
+plain_question _ e plain h = h
+
+plain_branches : (tests : List Test) (branches : List Branch) → are_plain tests ≡ true → AreBranches IsQuestionOf tests branches
+    → AreBranches IsPlainQuestionOf tests branches
+plain_branches [] [] plain a = tt
+plain_branches [] (b ∷ bs) plain a = absurd a
+plain_branches (x ∷ xs) [] plain a = absurd a
+plain_branches (x ∷ xs) (b ∷ bs) plain a =
+    let k = both_true (is_plain x.question) (are_plain xs) plain in (
+      record { on_true = a.0.on_true; on_false = a.0.on_false; question = plain_question x.question b.condition k.0 a.0.question },
+      plain_branches xs bs k.1 a.1,
+    )
+
+plain_last : (tests : List Test) (x : Test) → are_plain tests ≡ true → is_plain x.question ≡ true → are_plain (tests ++ x ∷ []) ≡ true
+plain_last [] x plain last = ap (λ b. b && true) last
+plain_last (y ∷ ys) x plain last =
+    let k = both_true (is_plain y.question) (are_plain ys) plain in λ i. k.0 i && plain_last ys x k.1 last i
+
+plain_reverse : (tests : List Test) → are_plain tests ≡ true → are_plain (reverse tests) ≡ true
+plain_reverse [] plain = refl
+plain_reverse (x ∷ xs) plain =
+    let k = both_true (is_plain x.question) (are_plain xs) plain in
+    ap are_plain (reverse-append (x ∷ []) xs) ∙ plain_last (reverse xs) x (plain_reverse xs k.1) k.0
+
+pub plain_tests : (tests : List Test) (e : Expression) → are_plain tests ≡ true → AreTestsOf IsQuestionOf tests e → ArePlainTestsOf tests e
+plain_tests tests e plain a = plain_branches (reverse tests) (branches_of_whole e) (plain_reverse tests plain) a
+
+pub no_conditions : (q : Question) → is_plain q ≡ true → question_conditions q ≡ []
+no_conditions (question.Expression part) plain = cc
+no_conditions _ plain = refl
 
 -- ---- evaluating one test after the other
 
 -- the branch of the next test, and the branches that follow it
-pub record NextTest (before : List Test) (n : ℕ) (x : Test) (rest : List Branch) (state : Option Jump) (mode : Mode) (top t : Tree) : Type 0 where
+pub record NextTest (IsOf : Question → Expression → Type 0) (before : List Test) (n : ℕ) (x : Test) (rest : List Branch) (state : Option Jump) (mode : Mode) (top t : Tree) : Type 0 where
   pub condition : Expression
   pub behind : List Branch
-  pub question : IsQuestionOf x.question condition
-  pub left : AreBranches (reverse before) behind
+  pub question : IsOf x.question condition
+  pub left : AreBranches IsOf (reverse before) behind
   pub is : evaluated mode top t rest state
       ≡ and_then (truth mode condition top t) (λ b. evaluated mode top t behind (next_jump x.on_true x.on_false n state b))
 
-pub next_branch : (tests before : List Test) (x : Test) (rest : List Branch) (state : Option Jump) (mode : Mode) (top t : Tree)
-    → tests ≡ before ++ x ∷ [] → AreBranches (reverse tests) rest → NextTest before (length tests) x rest state mode top t
-next_branch tests before x [] state mode top t is related =
-    absurd (subst (λ l. AreBranches l []) (ap reverse is ∙ last_first before x) related)
-next_branch tests before x (b ∷ bs) state mode top t is related =
-    let each : AreBranches (x ∷ reverse before) (b ∷ bs) = subst (λ l. AreBranches l (b ∷ bs)) (ap reverse is ∙ last_first before x) related in
-    let many : length (b ∷ bs) ≡ length tests = sym (related_length IsTestOf (reverse tests) (b ∷ bs) related) ∙ length-reverse tests in
+pub next_branch : {IsOf : Question → Expression → Type 0} (tests before : List Test) (x : Test) (rest : List Branch) (state : Option Jump) (mode : Mode) (top t : Tree)
+    → tests ≡ before ++ x ∷ [] → AreBranches IsOf (reverse tests) rest → NextTest IsOf before (length tests) x rest state mode top t
+next_branch {IsOf} tests before x [] state mode top t is related =
+    absurd (subst (λ l. AreBranches IsOf l []) (ap reverse is ∙ last_first before x) related)
+next_branch {IsOf} tests before x (b ∷ bs) state mode top t is related =
+    let each : AreBranches IsOf (x ∷ reverse before) (b ∷ bs) = subst (λ l. AreBranches IsOf l (b ∷ bs)) (ap reverse is ∙ last_first before x) related in
+    let many : length (b ∷ bs) ≡ length tests = sym (related_length (IsTestOf IsOf) (reverse tests) (b ∷ bs) related) ∙ length-reverse tests in
     record {
       condition = b.condition;
       behind = bs;
@@ -134,46 +180,73 @@ next_branch tests before x (b ∷ bs) state mode top t is related =
           (λ v. evaluated mode top t bs (next_jump (sym each.0.on_true k) (sym each.0.on_false k) (many k) state v));
     }
 
-pub next_test : (tests : List Test) (n i : ℕ) (x : Test) (rest : List Branch) (state : Option Jump) (mode : Mode) (top t : Tree)
-    → n ≤ length tests → n ≡ i + 1 → x ≡ get_or tests i x → AreBranches (reverse (take n tests)) rest
-    → NextTest (take i tests) n x rest state mode top t
-next_test tests n i x rest state mode top t within next is related =
-    subst (λ k. NextTest (take i tests) k x rest state mode top t) (length-take-le n tests within)
+pub next_test : {IsOf : Question → Expression → Type 0} (tests : List Test) (n i : ℕ) (x : Test) (rest : List Branch) (state : Option Jump) (mode : Mode) (top t : Tree)
+    → n ≤ length tests → n ≡ i + 1 → x ≡ get_or tests i x → AreBranches IsOf (reverse (take n tests)) rest
+    → NextTest IsOf (take i tests) n x rest state mode top t
+next_test {IsOf} tests n i x rest state mode top t within next is related =
+    subst (λ k. NextTest IsOf (take i tests) k x rest state mode top t) (length-take-le n tests within)
     (next_branch (take n tests) (take i tests) x rest state mode top t
     (ap (λ k. take k tests) next ∙ take_more tests i x (omega (arith, within, next)) ∙ ap (λ y. take i tests ++ y ∷ []) (sym is)) related)
 
 -- after its truth
-pub test_done : {before : List Test} {m : ℕ} {x : Test} {rest : List Branch} {state : Option Jump} {mode : Mode} {top t : Tree}
-    (n : NextTest before m x rest state mode top t) (v : Truth) (after : Option Jump) → truth mode n.condition top t ≡ Ok v
+pub test_done : {IsOf : Question → Expression → Type 0} {before : List Test} {m : ℕ} {x : Test} {rest : List Branch} {state : Option Jump} {mode : Mode} {top t : Tree}
+    (n : NextTest IsOf before m x rest state mode top t) (v : Truth) (after : Option Jump) → truth mode n.condition top t ≡ Ok v
     → after ≡ next_jump x.on_true x.on_false m state v → evaluated mode top t rest state ≡ evaluated mode top t n.behind after
-test_done {before} {m} {x} {rest} {state} {mode} {top} {t} n v after known next =
+test_done {IsOf} {before} {m} {x} {rest} {state} {mode} {top} {t} n v after known next =
     n.is ∙ ap (λ o. and_then o (λ b. evaluated mode top t n.behind (next_jump x.on_true x.on_false m state b))) known
     ∙ ap (evaluated mode top t n.behind) (sym next)
 
+-- the conditions of the next test come first
+pub conditions_at : (tests : List Test) (n i : ℕ) (x : Test) → n ≤ length tests → n ≡ i + 1 → x ≡ get_or tests i x
+    → tests_conditions (take n tests) ≡ test_conditions x ++ tests_conditions (take i tests)
+conditions_at tests n i x within next is =
+    ap tests_conditions (ap (λ k. take k tests) next ∙ take_more tests i x (omega (arith, within, next)) ∙ ap (λ y. take i tests ++ y ∷ []) (sym is))
+    ∙ ap (flat_map test_conditions) (last_first (take i tests) x)
+
+-- the next test is an expression
+pub record AskedHere (e part : Expr) (tests : List Test) (n i : ℕ) (condition : Expression) : Type 0 where
+  pub is : expression_view part ≡ condition
+  pub smaller : size-Expr part < size-Expr e
+  pub alone : is_joined (expression_view part) ≡ false
+  pub comes : tests_conditions (take n tests) ≡ conditions (expression_view part) ++ tests_conditions (take i tests)
+
+pub asked_here : (e : Expr) (tests : List Test) (n i : ℕ) (x : Test) (part : Bor Expr) (rest : List Branch) (state : Option Jump) (mode : Mode) (top t : Tree)
+    → n ≤ length tests → n ≡ i + 1 → x ≡ get_or tests i x → x.question ≡ question.Expression part → All (IsTestBelow (size-Expr e)) tests
+    → (next : NextTest IsQuestionOf (take i tests) n x rest state mode top t) → AskedHere e part.now tests n i next.condition
+asked_here e tests n i x part rest state mode top t within after at is fits next =
+    let short : i < length tests = omega (arith, within, after) in
+    let fit = subst (IsQuestionBelow (size-Expr e)) is (subst (IsTestBelow (size-Expr e)) (sym at) (fits i x short)) in
+    record {
+      is = subst (λ q. IsQuestionOf q next.condition) is next.question;
+      smaller = fit.0;
+      alone = fit.1;
+      comes = conditions_at tests n i x within after at ∙ ap (λ q. question_conditions q ++ tests_conditions (take i tests)) is;
+    }
+
 -- no test is left
-pub no_test : (tests : List Test) (n : ℕ) (rest : List Branch) → n ≡ 0 → AreBranches (reverse (take n tests)) rest → rest ≡ []
-no_test tests n [] none related = refl
-no_test tests n (b ∷ bs) none related = absurd (subst (λ k. AreBranches (reverse (take k tests)) (b ∷ bs)) none related)
+pub no_test : (IsOf : Question → Expression → Type 0) (tests : List Test) (n : ℕ) (rest : List Branch) → n ≡ 0 → AreBranches IsOf (reverse (take n tests)) rest → rest ≡ []
+no_test IsOf tests n [] none related = refl
+no_test IsOf tests n (b ∷ bs) none related = absurd (subst (λ k. AreBranches IsOf (reverse (take k tests)) (b ∷ bs)) none related)
 
 -- all tests, from a jump that passes over none
-pub from_first : (mode : Mode) (tests : List Test) (e : Expression) (top t : Tree) (state : Option Jump) (jump : Jump) → state ≡ Some jump
-    → jump.left ≡ length tests → AreTestsOf tests e → truth mode e top t ≡ evaluated mode top t (branches_of_whole e) state
-from_first mode tests e top t state jump is all related =
-    let many = related_length IsTestOf (reverse tests) (branches_of_whole e) related in
+pub from_first : (IsOf : Question → Expression → Type 0) (mode : Mode) (tests : List Test) (e : Expression) (top t : Tree) (state : Option Jump) (jump : Jump) → state ≡ Some jump
+    → jump.left ≡ length tests → AreTestsOf IsOf tests e → truth mode e top t ≡ evaluated mode top t (branches_of_whole e) state
+from_first IsOf mode tests e top t state jump is all related =
+    let many = related_length (IsTestOf IsOf) (reverse tests) (branches_of_whole e) related in
     let same = length-reverse tests in
     sym (ap (evaluated mode top t (branches_of_whole e)) is
     ∙ evaluated-whole mode top t e jump (let few : length (branches_of_whole e) ≤ jump.left = omega (arith, many, same, all) in few))
 
 -- the first test of all, which is the last of the list
-pub first_test : (others : List Test) (x : Test) (e : Expression) (mode : Mode) (top t : Tree) → AreTestsOf (others ++ x ∷ []) e
-    → NextTest others (length others + 1) x (branches_of_whole e) (Some (record { left = length others + 1; truth = false })) mode top t
+pub first_test : {IsOf : Question → Expression → Type 0} (others : List Test) (x : Test) (e : Expression) (mode : Mode) (top t : Tree) → AreTestsOf IsOf (others ++ x ∷ []) e
+    → NextTest IsOf others (length others + 1) x (branches_of_whole e) (Some (record { left = length others + 1; truth = false })) mode top t
     × (truth mode e top t ≡ evaluated mode top t (branches_of_whole e) (Some (record { left = length others + 1; truth = false })))
-first_test others x e mode top t a =
+first_test {IsOf} others x e mode top t a =
     let start : Jump = record { left = length others + 1; truth = false } in
     let many : length (others ++ x ∷ []) ≡ length others + 1 = length-append others (x ∷ []) in (
-      subst (λ n. NextTest others n x (branches_of_whole e) (Some start) mode top t) many
+      subst (λ n. NextTest IsOf others n x (branches_of_whole e) (Some start) mode top t) many
           (next_branch (others ++ x ∷ []) others x (branches_of_whole e) (Some start) mode top t refl a),
-      from_first mode (others ++ x ∷ []) e top t (Some start) start refl (sym many) a,
+      from_first IsOf mode (others ++ x ∷ []) e top t (Some start) start refl (sym many) a,
     )
 
 -- a condition has a test
@@ -182,13 +255,13 @@ first_branch (binary and_op l r) t f others = first_branch l (length (branches_o
 first_branch (binary or_op l r) t f others = first_branch l t (length (branches_of r t f others)) (branches_of r t f others)
 first_branch e t f others = (record { condition = e; on_true = t; on_false = f }, others, refl)
 
-pub no_tests : {A : Type 0} (tests : List Test) (e : Expression) → length tests ≡ 0 → AreTestsOf tests e → A
-no_tests [] e none a = let k = first_branch e 0 0 [] in absurd (subst (λ bs. AreBranches [] bs) k.2 a)
+pub no_tests : {A : Type 0} (tests : List Test) (e : Expression) → length tests ≡ 0 → ArePlainTestsOf tests e → A
+no_tests [] e none a = let k = first_branch e 0 0 [] in absurd (subst (λ bs. AreBranches IsPlainQuestionOf [] bs) k.2 a)
 no_tests (x ∷ xs) e none a = cc
 
 -- ---- in lax mode no test fails
 
-pub question_total : (q : Question) (e : Expression) (top t : Tree) → IsQuestionOf q e → IsOkAnd (truth Lax e top t) Any
+pub question_total : (q : Question) (e : Expression) (top t : Tree) → IsPlainQuestionOf q e → IsOkAnd (truth Lax e top t) Any
 question_total (question.Compared c) e top t h = comparison_total c e top t h
 question_total (question.MembersCompared c) e top t h =
     subst (λ o. IsOkAnd o Any) (sym (h.compares Lax top t))
@@ -203,9 +276,10 @@ question_total (question.MemberFound found) e top t h =
     subst (λ o. IsOkAnd o Any) (sym (h.finds Lax top t))
     (with_ok Any (λ o. IsOkAnd o Any) (steps_meaning Lax (steps_of (steps_view found.names.now)) top (t ∷ [])) (λ ts. Ok (Some (is_some_item ts)))
     (members_total (steps_view found.names.now) top (t ∷ []) h.members) (λ ts _. tt))
+question_total (question.Expression part) e top t h = absurd h
 question_total question.Unknown e top t h = subst (λ o. IsOkAnd o Any) (sym (h Lax top t)) tt
 
-branches_total : (tests : List Test) (branches : List Branch) (state : Option Jump) (top t : Tree) → AreBranches tests branches
+branches_total : (tests : List Test) (branches : List Branch) (state : Option Jump) (top t : Tree) → AreBranches IsPlainQuestionOf tests branches
     → IsOkAnd (evaluated Lax top t branches state) Any
 branches_total [] [] state top t a = tt
 branches_total [] (b ∷ bs) state top t a = absurd a
@@ -215,10 +289,10 @@ branches_total (x ∷ xs) (b ∷ bs) state top t a =
     (λ v. evaluated Lax top t bs (next_jump b.on_true b.on_false (length (b ∷ bs)) state v)) (question_total x.question b.condition top t a.0.question)
     (λ v _. branches_total xs bs (next_jump b.on_true b.on_false (length (b ∷ bs)) state v) top t a.1)
 
-pub condition_total : (tests : List Test) (e : Expression) (top t : Tree) → AreTestsOf tests e → IsOkAnd (truth Lax e top t) Any
+pub condition_total : (tests : List Test) (e : Expression) (top t : Tree) → ArePlainTestsOf tests e → IsOkAnd (truth Lax e top t) Any
 condition_total tests e top t a =
     let jump : Jump = record { left = length tests; truth = false } in
-    subst (λ o. IsOkAnd o Any) (sym (from_first Lax tests e top t (Some jump) jump refl refl a)) (branches_total (reverse tests) (branches_of_whole e) (Some jump) top t a)
+    subst (λ o. IsOkAnd o Any) (sym (from_first IsPlainQuestionOf Lax tests e top t (Some jump) jump refl refl a)) (branches_total (reverse tests) (branches_of_whole e) (Some jump) top t a)
 
 -- ---- a filter whose result is determined
 
@@ -232,7 +306,7 @@ is_closed jump h =
     is_false false h = refl
 
 pub settled : (tests : List Test) (branches : List Branch) (mode : Mode) (state : Option Jump) (top t : Tree) → is_settled mode state ≡ true
-    → AreBranches tests branches → and_then (evaluated mode top t branches state) (λ b. Ok (filtered t b)) ≡ Ok (filtered t (jump_truth state))
+    → AreBranches IsPlainQuestionOf tests branches → and_then (evaluated mode top t branches state) (λ b. Ok (filtered t b)) ≡ Ok (filtered t (jump_truth state))
 settled tests branches Strict state top t h a = cc
 settled [] [] Lax state top t h a = refl
 settled [] (b ∷ bs) Lax state top t h a = absurd a

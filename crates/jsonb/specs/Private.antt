@@ -4,7 +4,7 @@ pub mod Selection
 pub mod Selected
 pub mod Appends
 pub mod FilterCache
-pub mod Terms
+pub mod Pairs
 pub mod Jumps
 pub mod Tests
 pub mod Below

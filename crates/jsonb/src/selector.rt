@@ -32,12 +32,12 @@ mod levels;
 mod members;
 mod node_list;
 mod operand_value;
+mod pair;
 mod plan;
 mod search;
 mod selected;
 mod signed_items;
 mod steps;
-mod terms;
 mod values;
 mod whole_path;
 

@@ -1,5 +1,5 @@
 -- What a filter keeps from one item to the next: what is the same for each.
-use Rattle.std.specs.Prelude.{◌≡◌, ◌≤◌, Bool, true, false, List, [], ◌∷◌, ◌++◌, drop, length, slice_get, Option, None, Ok}
+use Rattle.std.specs.Prelude.{◌≡◌, ◌≤◌, Bool, true, false, List, [], ◌∷◌, drop, length, slice_get, Option, None, Ok, if◌then◌else◌}
 use Rattle.jsonb_doc.specs.Tree.{Tree}
 use Rattle.jsonb.specs.PathTree.{BinaryOp, and_op, or_op, add, subtract, multiply, divide, modulo, current, step, Expression, paths, binary, exists}
 use Rattle.jsonb.specs.Meaning.{truth, operand_values}
@@ -31,18 +31,9 @@ is_condition (binary op l r) = is_comparison op
 is_condition (exists steps) = true
 is_condition e = false
 
--- the comparisons and `exists` of an expression, in the order in which they are executed
+-- the comparison or `exists` that an expression is, of those that join no others
 abbrev pub conditions : Expression → List Expression
-conditions (binary and_op l r) = conditions l ++ conditions r
-conditions (binary or_op l r) = conditions l ++ conditions r
-conditions (binary add l r) = []
-conditions (binary subtract l r) = []
-conditions (binary multiply l r) = []
-conditions (binary divide l r) = []
-conditions (binary modulo l r) = []
-conditions (binary op l r) = binary op l r ∷ []
-conditions (exists steps) = exists steps ∷ []
-conditions e = []
+conditions e = if is_condition e then e ∷ [] else []
 
 -- what is kept of a condition is the same for each item
 abbrev pub IsSame : Mode → Tree → CachedPart → Expression → Type 0
@@ -69,6 +60,6 @@ AreKept mode top kept.Nothing all more = Unit {0}
 AreKept mode top (kept.Parts k) all more =
     AreSame mode top k.parts.items all × (more ≡ drop k.next all) × (k.next ≤ length k.parts.items)
 
--- what is kept of a filter that begins with an item
-abbrev pub IsKeptFor : Mode → Tree → Expression → FilterCache → Type 0
-IsKeptFor mode top e k = AreKept mode top k (conditions e) (conditions e)
+-- what is kept of a filter with these conditions that begins with an item
+abbrev pub IsKeptFor : Mode → Tree → List Expression → FilterCache → Type 0
+IsKeptFor mode top all k = AreKept mode top k all all

@@ -12,7 +12,7 @@ use Rattle.std.specs.List.{AllZip}
 use Rattle.jsonb.specs.Meaning.{steps_meaning}
 use Rattle.jsonb.specs.Private.Members.{is_member}
 use Rattle.jsonb.specs.Private.Selection.{AreSelected, option_spots}
-use Rattle.jsonb.specs.Private.Tests.{tests_in, AreTestsOf}
+use Rattle.jsonb.specs.Private.Tests.{tests_in, ArePlainTestsOf}
 use Rattle.jsonb.specs.SelectorAnswers.{first_item}
 use Rattle.jsonb.specs.declared.selector.document.Document.{Document}
 use Rattle.jsonb.specs.declared.selector.document.Mode.TheVariants.{Lax}
@@ -33,7 +33,7 @@ IsSearched search.Values s = s ≡ dot_wildcard
 IsSearched search.Elements s = s ≡ bracket_wildcard
 IsSearched (search.Positions entries) s = s ≡ array_indices (map entry_view entries.now)
 IsSearched (search.Levels levels) s = s ≡ recursive_dot_wildcard (option_map levels_view levels)
-IsSearched (search.Tested condition) s = (e : Expression) × (s ≡ filter e) × AreTestsOf (tests_in condition) e
+IsSearched (search.Tested condition) s = (e : Expression) × (s ≡ filter e) × ArePlainTestsOf (tests_in condition) e
 
 -- these items are left
 abbrev pub HasItems : List ℕ → Items → List Tree → Type 0

@@ -1,5 +1,5 @@
 -- The tests that a condition is compiled to.
-use Rattle.std.specs.Prelude.{◌≡◌, ◌==◌, ◌&&◌, ◌+◌, ℕ, Bool, true, false, not, List, [], ◌∷◌, length, flat_map, reverse, sum_by, Option, Some, None, Result, Ok}
+use Rattle.std.specs.Prelude.{◌≡◌, ◌==◌, ◌&&◌, ◌+◌, ◌<◌, ℕ, Bool, true, false, not, List, [], ◌∷◌, length, flat_map, reverse, sum_by, Option, Some, None, Result, Ok, All, if◌then◌else◌}
 use Rattle.std.specs.List.{AllZip}
 use Rattle.jsonb_doc.specs.Answer.{and_then, Refines, IsOutOfMemory}
 use Rattle.jsonb_doc.specs.Tree.{Tree}
@@ -10,9 +10,12 @@ use Rattle.jsonb.specs.Compare.{Truth, compare}
 use Rattle.jsonb.specs.Values.{values_of_item}
 use Rattle.jsonb.specs.Meaning.{steps_meaning, truth, is_some_item}
 use Rattle.jsonb.specs.Private.Compared.{IsMemberCompared}
+use Rattle.jsonb.specs.Private.FilterCache.{conditions}
 use Rattle.jsonb.specs.Private.Jumps.{Branch, branches_of, branches_of_whole}
 use Rattle.jsonb.specs.Private.Members.{are_members}
+use Rattle.jsonb.specs.Private.Pairs.{is_joined}
 use Rattle.jsonb.specs.Private.Parts.{parts}
+use Rattle.jsonb.specs.declared.path.Expr.{Expr, size-Expr}
 use Rattle.jsonb.specs.declared.selector.compile.Target.{Target}
 use Rattle.jsonb.specs.declared.selector.compile.Target.TheVariants.{Next, At}
 use Rattle.jsonb.specs.declared.selector.compile.Waiting.{Waiting}
@@ -26,9 +29,9 @@ use Rattle.jsonb.specs.declared.selector.plan.MembersCompared.{MembersCompared}
 use Rattle.jsonb.specs.declared.selector.plan.Question.{Question}
 use Rattle.jsonb.specs.declared.selector.plan.Question.TheVariants as question
 use Rattle.jsonb.specs.declared.selector.plan.Test.{Test}
-use Rattle.jsonb.specs.declared.selector.terms.Join.{Join}
-use Rattle.jsonb.specs.declared.selector.terms.Join.TheVariants.{And, Or}
-use Rattle.jsonb.specs.declared.selector.terms.Pair.{Pair}
+use Rattle.jsonb.specs.declared.selector.pair.Join.{Join}
+use Rattle.jsonb.specs.declared.selector.pair.Join.TheVariants.{And, Or}
+use Rattle.jsonb.specs.declared.selector.pair.Pair.{Pair}
 
 -- the expression compares the two members of the item that these steps name
 pub record AreMembersCompared (c : MembersCompared) (e : Expression) : Type 0 where
@@ -46,33 +49,83 @@ pub record IsMemberFound (found : MemberFound) (e : Expression) : Type 0 where
       ≡ and_then (steps_meaning mode (steps_of (steps_view found.names.now)) top (t ∷ []))
       (λ ts. Ok (Some (is_some_item ts)))
 
--- the question has the truth of the expression
+-- the question is of members of the item, or unknown, and has the truth of the expression
+abbrev pub IsPlainQuestionOf : Question → Expression → Type 0
+IsPlainQuestionOf (question.Compared c) e = IsMemberCompared c e
+IsPlainQuestionOf (question.MembersCompared c) e = AreMembersCompared c e
+IsPlainQuestionOf (question.MemberFound found) e = IsMemberFound found e
+IsPlainQuestionOf question.Unknown e = (mode : Mode) (top t : Tree) → truth mode e top t ≡ Ok None
+IsPlainQuestionOf (question.Expression part) e = ⊥
+
+-- the question has the truth of the expression, or is the expression itself
 abbrev pub IsQuestionOf : Question → Expression → Type 0
-IsQuestionOf (question.Compared c) e = IsMemberCompared c e
-IsQuestionOf (question.MembersCompared c) e = AreMembersCompared c e
-IsQuestionOf (question.MemberFound found) e = IsMemberFound found e
-IsQuestionOf question.Unknown e = (mode : Mode) (top t : Tree) → truth mode e top t ≡ Ok None
+IsQuestionOf (question.Expression part) e = expression_view part.now ≡ e
+IsQuestionOf question e = IsPlainQuestionOf question e
+
+abbrev pub is_plain : Question → Bool
+is_plain (question.Expression part) = false
+is_plain question = true
 
 -- the result is the truth of the question
 abbrev pub IsTruthOf : Mode → Tree → Tree → Question → Result Truth Error → Type 0
 IsTruthOf mode top t question answer =
-    (e : Expression) → IsQuestionOf question e → Refines (λ b c. b ≡ c) IsOutOfMemory answer (truth mode e top t)
+    (e : Expression) → IsPlainQuestionOf question e → Refines (λ b c. b ≡ c) IsOutOfMemory answer (truth mode e top t)
 
-pub record IsTestOf (test : Test) (branch : Branch) : Type 0 where
+-- the test is that of the branch, by this relation of their questions
+pub record IsTestOf (IsOf : Question → Expression → Type 0) (test : Test) (branch : Branch) : Type 0 where
   pub on_true : test.on_true ≡ branch.on_true
   pub on_false : test.on_false ≡ branch.on_false
-  pub question : IsQuestionOf test.question branch.condition
+  pub question : IsOf test.question branch.condition
 
-abbrev pub AreBranches : List Test → List Branch → Type 0
-AreBranches tests branches = AllZip IsTestOf tests branches
+abbrev pub AreBranches : (Question → Expression → Type 0) → List Test → List Branch → Type 0
+AreBranches IsOf tests branches = AllZip (IsTestOf IsOf) tests branches
 
 abbrev pub tests_in : Condition → List Test
 tests_in (condition.One test) = test ∷ []
 tests_in (condition.Many tests) = tests.items
 
 -- the condition is compiled to these tests, the last one first
-abbrev pub AreTestsOf : List Test → Expression → Type 0
-AreTestsOf tests e = AreBranches (reverse tests) (branches_of_whole e)
+abbrev pub AreTestsOf : (Question → Expression → Type 0) → List Test → Expression → Type 0
+AreTestsOf IsOf tests e = AreBranches IsOf (reverse tests) (branches_of_whole e)
+
+abbrev pub ArePlainTestsOf : List Test → Expression → Type 0
+ArePlainTestsOf tests e = AreTestsOf IsPlainQuestionOf tests e
+
+abbrev pub are_plain : List Test → Bool
+are_plain [] = true
+are_plain (test ∷ tests) = is_plain test.question && are_plain tests
+
+-- an expression that is a question joins no others, and is smaller than this
+abbrev pub IsQuestionBelow : ℕ → Question → Type 0
+IsQuestionBelow n (question.Expression e) = (size-Expr e.now < n) × (is_joined (expression_view e.now) ≡ false)
+IsQuestionBelow n question = Unit {0}
+
+abbrev pub IsTestBelow : ℕ → Test → Type 0
+IsTestBelow n test = IsQuestionBelow n test.question
+
+-- the expression, which joins others, is compiled to these tests, the last one first
+abbrev pub AreJoinedTests : Expr → List Test → Type 0
+AreJoinedTests e tests = AreTestsOf IsQuestionOf tests (expression_view e) × All (IsTestBelow (size-Expr e)) tests
+
+-- the expression is compiled to these tests
+abbrev pub AreCompiled : Expr → List Test → Type 0
+AreCompiled e tests = AreTestsOf IsQuestionOf tests (expression_view e)
+    × (is_joined (expression_view e) ≡ true → All (IsTestBelow (size-Expr e)) tests)
+
+-- the comparisons and `exists` that are evaluated as expressions, in order
+abbrev pub question_conditions : Question → List Expression
+question_conditions (question.Expression e) = conditions (expression_view e.now)
+question_conditions question = []
+
+abbrev pub test_conditions : Test → List Expression
+test_conditions test = question_conditions test.question
+
+abbrev pub tests_conditions : List Test → List Expression
+tests_conditions tests = flat_map test_conditions (reverse tests)
+
+-- those of an expression; one that joins no others is evaluated itself
+abbrev pub compiled_conditions : Expression → List Test → List Expression
+compiled_conditions e tests = if is_joined e then tests_conditions tests else conditions e
 
 -- no test that is left changes what a filter selects: in lax mode, in which no test fails
 abbrev pub is_settled : Mode → Option Jump → Bool
@@ -118,3 +171,7 @@ parts_waiting waiting = sum_by (λ (part : Waiting). parts part.e.now) waiting
 abbrev pub parts_to_compile : Option Waiting → List Waiting → ℕ
 parts_to_compile (Some part) waiting = parts part.e.now + parts_waiting waiting
 parts_to_compile None waiting = 0
+
+-- the expression of a part is smaller than this, or joins others and is at most this large
+abbrev pub IsPartWithin : ℕ → Waiting → Type 0
+IsPartWithin n part = size-Expr part.e.now < n + (if is_joined (expression_view part.e.now) then 1 else 0)

@@ -1,6 +1,6 @@
 //! Compiles an expression to the tests of a condition.
 
-ghost use Rattle.std.specs.Prelude.{◌≡◌, ◌<◌, ◌+◌, ◌++◌, ◌∷◌, [], List, Ok, Some, map, true, false, option_map, reverse, MatchOption, IfSome, ⊤, IfOk, IfErr};
+ghost use Rattle.std.specs.Prelude.{◌≡◌, ◌<◌, ◌+◌, ◌++◌, ◌∷◌, [], ℕ, List, Ok, Some, map, true, false, option_map, reverse, All, MatchOption, IfSome, ⊤, IfOk, IfErr};
 ghost use Rattle.jsonb_doc.specs.Answer.{IsOutOfMemory};
 ghost use Rattle.jsonb_doc.specs.Tree.{Tree};
 ghost use Rattle.jsonb.specs.PathTree.{steps_of, step, current, paths, binary, exists};
@@ -12,15 +12,16 @@ ghost use Rattle.jsonb.specs.Private.FilterCache.{is_comparison};
 ghost use Rattle.jsonb.specs.Private.Members.{are_members};
 ghost use Rattle.jsonb.specs.Private.Parts.{parts};
 ghost use Rattle.jsonb.specs.Private.Selection.{value_view};
-ghost use Rattle.jsonb.specs.Private.Terms.{is_joined};
-ghost use Rattle.jsonb.specs.Private.Tests.{IsMemberFound, IsQuestionOf, AreBranches, AreTestsOf, tests_in, jump_to, left_of, right_of, pending, waiting_left, parts_waiting, parts_to_compile};
+ghost use Rattle.jsonb.specs.Private.Pairs.{is_joined};
+ghost use Rattle.jsonb.specs.Private.Tests.{IsMemberFound, IsPlainQuestionOf, IsQuestionOf, IsQuestionBelow, IsTestBelow, IsPartWithin, AreBranches, AreTestsOf, AreCompiled, tests_in, jump_to, left_of, right_of, pending, waiting_left, parts_waiting, parts_to_compile};
+ghost use Rattle.jsonb.specs.declared.path.Expr.{size-Expr};
 ghost use Rattle.jsonb.specs.declared.selector.document.Mode.{Mode};
 
 use super::filter_cache::is_comparison;
 use super::members::{are_members, member_steps};
 use super::operand_value::{OperandValue, value_of_literal};
+use super::pair::{Join, Pair, is_joined, pair_of};
 use super::plan::{Condition, MemberCompared, MemberFound, MembersCompared, Question, Test};
-use super::terms::{Join, Pair, is_joined, pair_of};
 use crate::path::{BinaryOperator, Expr, Path};
 use jsonb_doc::Error;
 use std::alloc::Global;
@@ -42,38 +43,32 @@ pub(crate) struct Waiting<'s, 'p> {
     pub(crate) on_false: Target,
 }
 
-/// Returns the tests of an expression, if no part of it needs a path other than a member of the item.
+/// Returns the tests of an expression.
 pub(crate) fn condition_of<'s, 'p>(
     alloc: Global,
     e: &'s Expr<'p>,
-) -> Result<Option<Condition<'s, 'p>>, Error>
-    ensures tests { IfOk result (λ found. MatchOption found ⊤
-        (λ condition. AreTestsOf (tests_in condition) (expression_view e.now))) }
+) -> Result<Condition<'s, 'p>, Error>
+    ensures tests { IfOk result (λ condition. AreCompiled e.now (tests_in condition)) }
     ensures errors { IfErr result IsOutOfMemory }
 {
     if is_joined(e) {
         return joined_condition(alloc, e);
     }
-    match question_of(e) {
-        Some(question) => Ok(Some(Condition::One(Test {
-            question,
-            on_true: 0,
-            on_false: 0,
-        }))),
-        None => Ok(None),
-    }
+    Ok(Condition::One(Test {
+        question: question_of(e),
+        on_true: 0,
+        on_false: 0,
+    }))
 }
 
 /// Returns the tests of an expression that joins others.
 ///
 /// They are found from the last to the first, so that the number of tests after each is known.
 #[inline(never)]
-fn joined_condition<'s, 'p>(
-    alloc: Global,
-    e: &'s Expr<'p>,
-) -> Result<Option<Condition<'s, 'p>>, Error>
-    ensures tests { IfOk result (λ found. MatchOption found ⊤
-        (λ condition. AreTestsOf (tests_in condition) (expression_view e.now))) }
+fn joined_condition<'s, 'p>(alloc: Global, e: &'s Expr<'p>) -> Result<Condition<'s, 'p>, Error>
+    ensures tests { IfOk result (λ condition. AreTestsOf IsQuestionOf (tests_in condition) (expression_view e.now)) }
+    ensures below { is_joined (expression_view e.now) ≡ true
+        → IfOk result (λ condition. All (IsTestBelow (size-Expr e.now)) (tests_in condition)) }
     ensures errors { IfErr result IsOutOfMemory }
 {
     let mut tests = Vec::new(alloc);
@@ -84,71 +79,66 @@ fn joined_condition<'s, 'p>(
         on_false: Target::At(0),
     });
     while let Some(part) = next {
-        match compile_part(part, &mut tests, &mut waiting)? {
-            Some(after) => next = after,
-            None => return Ok(None),
-        }
+        next = compile_part(part, &mut tests, &mut waiting)?;
     }
-    Ok(Some(Condition::Many(tests)))
+    Ok(Condition::Many(tests))
 }
 
-/// Compiles the last test of a part of a condition, which the tests so far follow. Returns the part that comes
-/// next, and `None` if the test cannot be compiled.
+/// Compiles the last test of a part of a condition, which the tests so far follow. Returns the part that comes next.
 #[inline(always)]
 fn compile_part<'s, 'p>(
     part: Waiting<'s, 'p>,
     tests: &mut Vec<Test<'s, 'p>>,
     waiting: &mut Vec<Waiting<'s, 'p>>,
-) -> Result<Option<Option<Waiting<'s, 'p>>>, Error>
-    ensures tests { IfOk result (λ compiled. IfSome compiled (λ next. (done : List Branch)
-        → AreBranches (reverse tests.old.items) done
-        → (more : List Branch) × AreBranches (reverse tests.new.items) more
+) -> Result<Option<Waiting<'s, 'p>>, Error>
+    ensures tests { IfOk result (λ next. (done : List Branch)
+        → AreBranches IsQuestionOf (reverse tests.old.items) done
+        → (more : List Branch) × AreBranches IsQuestionOf (reverse tests.new.items) more
         × (pending (waiting_left next waiting.new.items) more
-        ≡ pending (part.entry ∷ reverse waiting.old.items) done))) }
-    ensures fewer { IfOk result (λ compiled. IfSome compiled (λ next. parts_to_compile next waiting.new.items
-        < parts part.entry.e.now + parts_waiting waiting.old.items)) }
+        ≡ pending (part.entry ∷ reverse waiting.old.items) done)) }
+    ensures within { (n : ℕ) → IsPartWithin n part.entry → All (IsTestBelow n) tests.old.items
+        → All (IsPartWithin n) waiting.old.items
+        → IfOk result (λ next. All (IsTestBelow n) tests.new.items × All (IsPartWithin n) waiting.new.items
+        × IfSome next (IsPartWithin n)) }
+    ensures fewer { IfOk result (λ next. parts_to_compile next waiting.new.items
+        < parts part.entry.e.now + parts_waiting waiting.old.items) }
     ensures errors { IfErr result IsOutOfMemory }
 {
     let on_true = jump_to(part.on_true, tests.len());
     let on_false = jump_to(part.on_false, tests.len());
     let Some(pair) = pair_of(part.e) else {
-        if !push_test(part.e, on_true, on_false, tests)? {
-            return Ok(None);
-        }
-        return Ok(Some(waiting.pop()));
+        push_test(part.e, on_true, on_false, tests)?;
+        return Ok(waiting.pop());
     };
     let left = left_of(pair, on_true, on_false);
     if is_joined(pair.right) {
         waiting.push(left)?;
-        return Ok(Some(Some(right_of(pair, on_true, on_false))));
+        return Ok(Some(right_of(pair, on_true, on_false)));
     }
-    if !push_test(pair.right, on_true, on_false, tests)? {
-        return Ok(None);
-    }
-    Ok(Some(Some(left)))
+    push_test(pair.right, on_true, on_false, tests)?;
+    Ok(Some(left))
 }
 
-/// Appends the test of an expression that joins no others. Returns whether it can be compiled.
+/// Appends the test of an expression that joins no others.
 fn push_test<'s, 'p>(
     e: &'s Expr<'p>,
     on_true: usize,
     on_false: usize,
     tests: &mut Vec<Test<'s, 'p>>,
-) -> Result<bool, Error>
-    ensures tests { IfOk result (λ compiled. compiled ≡ true → is_joined (expression_view e.now) ≡ false
-        → (done : List Branch) → AreBranches (reverse tests.old.items) done → AreBranches (reverse tests.new.items)
+) -> Result<(), Error>
+    ensures tests { IfOk result (λ _. is_joined (expression_view e.now) ≡ false → (done : List Branch)
+        → AreBranches IsQuestionOf (reverse tests.old.items) done → AreBranches IsQuestionOf (reverse tests.new.items)
         (record { condition = expression_view e.now; on_true = on_true; on_false = on_false } ∷ done)) }
+    ensures within { (n : ℕ) → is_joined (expression_view e.now) ≡ false → size-Expr e.now < n
+        → All (IsTestBelow n) tests.old.items → IfOk result (λ _. All (IsTestBelow n) tests.new.items) }
     ensures errors { IfErr result IsOutOfMemory }
 {
-    let Some(question) = question_of(e) else {
-        return Ok(false);
-    };
     tests.push(Test {
-        question,
+        question: question_of(e),
         on_true,
         on_false,
     })?;
-    Ok(true)
+    Ok(())
 }
 
 /// Returns the left part of a pair, which the right part follows.
@@ -194,9 +184,22 @@ fn jump_to(target: Target, left: usize) -> usize
 }
 
 /// Returns the question that an expression is, if it is not `&&` or `||`.
-fn question_of<'s, 'p>(e: &'s Expr<'p>) -> Option<Question<'s, 'p>>
+#[inline(always)]
+fn question_of<'s, 'p>(e: &'s Expr<'p>) -> Question<'s, 'p>
+    ensures question { is_joined (expression_view e.now) ≡ false → IsQuestionOf result (expression_view e.now) }
+    ensures below { (n : ℕ) → is_joined (expression_view e.now) ≡ false → size-Expr e.now < n
+        → IsQuestionBelow n result }
+{
+    match plain_question(e) {
+        Some(question) => question,
+        None => Question::Expression(e),
+    }
+}
+
+/// Returns the question of members that an expression is, if it is one.
+fn plain_question<'s, 'p>(e: &'s Expr<'p>) -> Option<Question<'s, 'p>>
     ensures { is_joined (expression_view e.now) ≡ false
-        → MatchOption result ⊤ (λ question. IsQuestionOf question (expression_view e.now)) }
+        → MatchOption result ⊤ (λ question. IsPlainQuestionOf question (expression_view e.now)) }
 {
     match e {
         Expr::BinaryOp { op, left, right } => {
@@ -219,7 +222,7 @@ fn comparison_of<'s, 'p>(
     left: &'s Expr<'p>,
     right: &'s Expr<'p>,
 ) -> Option<Question<'s, 'p>>
-    ensures { is_comparison (operator_view op) ≡ true → MatchOption result ⊤ (λ question. IsQuestionOf question
+    ensures { is_comparison (operator_view op) ≡ true → MatchOption result ⊤ (λ question. IsPlainQuestionOf question
         (binary (operator_view op) (expression_view left.now) (expression_view right.now))) }
 {
     match (names_of(left), names_of(right)) {

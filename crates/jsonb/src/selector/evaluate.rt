@@ -1,66 +1,41 @@
-//! Evaluation of the tests of a condition for an item.
+//! Evaluation of the tests of a condition of members for an item.
 
 ghost use Rattle.std.specs.Prelude.{◌≡◌, ◌++◌, ◌∷◌, [], List, Ok, reverse, IfErr};
 ghost use Rattle.jsonb_doc.specs.Answer.{Refines, and_then, try_flat_map, IsOutOfMemory};
 ghost use Rattle.jsonb_doc.specs.Spots.{Locates};
 ghost use Rattle.jsonb_doc.specs.Tree.{Tree};
 ghost use Rattle.jsonb.specs.PathTree.{Expression, filter};
-ghost use Rattle.jsonb.specs.PathViews.{expression_view};
 ghost use Rattle.std.specs.List.{AllZip};
 ghost use Rattle.jsonb.specs.Meaning.{step_meaning, truth, filtered};
-ghost use Rattle.jsonb.specs.Private.Compared.{RefinesIfAny};
 ghost use Rattle.jsonb.specs.Private.Jumps.{Branch, evaluated, next_jump, jump_truth};
-ghost use Rattle.jsonb.specs.Private.Tests.{AreMembersCompared, IsQuestionOf, IsTruthOf, AreBranches, AreTestsOf, is_settled};
+ghost use Rattle.jsonb.specs.Private.Tests.{AreMembersCompared, IsPlainQuestionOf, IsTruthOf, AreBranches, ArePlainTestsOf, is_settled};
 ghost use Rattle.jsonb.specs.Private.Selection.{node_spots};
 ghost use Rattle.jsonb.specs.SelectionErrors.{IsSelectionError};
 
 use super::children::push_if;
 use super::compared_member::{compared_member, found_truth, item_truth, literal_truth};
-use super::compile::condition_of;
 use super::document::{Mode, TruthResult};
 use super::filter_cache::is_true;
 use super::members::member;
 use super::node_list::NodeList;
 use super::plan::{Jump, MembersCompared, Question, Test};
 use super::values::found_values;
-use crate::path::Expr;
 use jsonb_doc::{Error, Spot, spot_by_parts};
 use std::alloc::Global;
 
-/// Returns the items of a list that a filter selects, in order, if the filter can be compiled to tests.
-///
-/// It has a frame of its own, so that filters within filters do not need that stack.
-#[inline(never)]
-pub(crate) fn tested_filter(
-    alloc: Global,
-    mode: Mode,
-    e: &Expr<'_>,
-    bytes: &[u8],
-    items: &[Spot],
-) -> Result<Option<NodeList>, Error>
-    ensures kept { (top : Tree) (ts : List Tree) → AllZip (Locates bytes.now) items.now ts
-        → RefinesIfAny (λ found us. AllZip (Locates bytes.now) (node_spots found) us) result
-        (try_flat_map (step_meaning mode (filter (expression_view e.now)) top) ts) }
-    ensures errors { IfErr result (IsSelectionError mode) }
-{
-    let Some(condition) = condition_of(alloc, e)? else {
-        return Ok(None);
-    };
-    let nodes = tested_items(alloc, mode, condition.as_slice(), bytes, items)?;
-    Ok(Some(nodes))
-}
-
 /// Returns the items of a list for which the condition is true, in order.
 ///
-/// The first test determines the result for most items. If it is a comparison, it is inlined here.
-fn tested_items(
+/// The first test determines the result for most items. If it is a comparison, it is inlined here. The function has a
+/// frame of its own, so that filters within filters do not need that stack.
+#[inline(never)]
+pub(crate) fn tested_items(
     alloc: Global,
     mode: Mode,
     tests: &[Test<'_, '_>],
     bytes: &[u8],
     items: &[Spot],
 ) -> Result<NodeList, Error>
-    ensures meant { (e : Expression) (top : Tree) (ts : List Tree) → AreTestsOf tests.now e
+    ensures meant { (e : Expression) (top : Tree) (ts : List Tree) → ArePlainTestsOf tests.now e
         → AllZip (Locates bytes.now) items.now ts
         → Refines (λ found us. AllZip (Locates bytes.now) (node_spots found) us)
         IsOutOfMemory result (try_flat_map (step_meaning mode (filter e) top) ts) }
@@ -99,7 +74,7 @@ fn push_tested(
     nodes: &mut Vec<Spot>,
 ) -> Result<(), Error>
     ensures meant { (e : Expression) (top t : Tree) (before : List Tree)
-        → AreTestsOf (others.now ++ first.now ∷ []) e → Locates bytes.now item t
+        → ArePlainTestsOf (others.now ++ first.now ∷ []) e → Locates bytes.now item t
         → IsTruthOf mode top t first.now.question first_truth → AllZip (Locates bytes.now) nodes.old.items before
         → Refines (λ _ ts. AllZip (Locates bytes.now) nodes.new.items (before ++ ts)) IsOutOfMemory result
         (step_meaning mode (filter e) top t) }
@@ -121,7 +96,7 @@ pub(crate) fn filter_truth(
     bytes: &[u8],
     item: Spot,
 ) -> TruthResult
-    ensures meant { (e : Expression) (top t : Tree) → AreTestsOf (others.now ++ first.now ∷ []) e
+    ensures meant { (e : Expression) (top t : Tree) → ArePlainTestsOf (others.now ++ first.now ∷ []) e
         → Locates bytes.now item t → IsTruthOf mode top t first.now.question first_truth
         → Refines (λ b ts. filtered t b ≡ ts) IsOutOfMemory result (step_meaning mode (filter e) top t) }
     ensures errors { IfErr first_truth (IsSelectionError mode) → IfErr result (IsSelectionError mode) }
@@ -147,7 +122,7 @@ fn tests_truth(
     bytes: &[u8],
     item: Spot,
 ) -> TruthResult
-    ensures meant { (branches : List Branch) (top t : Tree) → AreBranches (reverse tests.now) branches
+    ensures meant { (branches : List Branch) (top t : Tree) → AreBranches IsPlainQuestionOf (reverse tests.now) branches
         → Locates bytes.now item t
         → Refines (λ b ts. filtered t b ≡ ts) IsOutOfMemory result
         (and_then (evaluated mode top t branches start) (λ b. Ok (filtered t b))) }
@@ -169,7 +144,7 @@ fn tests_truth(
 
 /// Returns the jump after a test, the first of `left`, or `None` if its result is unknown.
 #[inline(always)]
-fn next_jump(
+pub(crate) fn next_jump(
     test: &Test<'_, '_>,
     left: usize,
     state: Option<Jump>,
@@ -188,7 +163,7 @@ fn next_jump(
 
 /// Returns the result of a condition of which no test remains.
 #[inline(always)]
-fn jump_truth(state: Option<Jump>) -> Option<bool>
+pub(crate) fn jump_truth(state: Option<Jump>) -> Option<bool>
     ensures { result ≡ jump_truth state }
 {
     match state {
@@ -210,7 +185,7 @@ fn is_settled(mode: Mode, state: Option<Jump>) -> bool
     }
 }
 
-/// Evaluates a question for an item.
+/// Evaluates a question of members for an item.
 #[inline(always)]
 pub(crate) fn question_truth(
     alloc: Global,
@@ -219,7 +194,7 @@ pub(crate) fn question_truth(
     bytes: &[u8],
     item: Spot,
 ) -> TruthResult
-    ensures meant { (e : Expression) (top t : Tree) → IsQuestionOf question.now e → Locates bytes.now item t
+    ensures meant { (e : Expression) (top t : Tree) → IsPlainQuestionOf question.now e → Locates bytes.now item t
         → Refines (λ b c. b ≡ c) IsOutOfMemory result (truth mode e top t) }
     ensures errors { IfErr result (IsSelectionError mode) }
 {
@@ -233,6 +208,7 @@ pub(crate) fn question_truth(
             Ok(Some(found.is_some()))
         }
         Question::Unknown => Ok(None),
+        Question::Expression(_) => Err(Error::InvalidJsonPath),
     }
 }
 

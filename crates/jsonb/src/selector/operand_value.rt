@@ -6,7 +6,7 @@ ghost use Rattle.jsonb_doc.specs.StoredValue.{IsStoredAs};
 ghost use Rattle.jsonb.specs.PathViews.{operator_view, literal_view};
 ghost use Rattle.jsonb_doc.specs.Private.Short.{short_value};
 ghost use Rattle.jsonb.specs.Values.{number, value_of_item, literal_item, values_of_literal};
-ghost use Rattle.jsonb.specs.Compare.{compare, pair_truth, value_order, holds_for, truth_of_order, starts_with_truth, and_truth, or_truth, is_container};
+ghost use Rattle.jsonb.specs.Compare.{compare, pair_truth, value_order, holds_for, truth_of_order, starts_with_truth, is_container};
 ghost use Rattle.jsonb.specs.Private.Selection.{value_view, values_view, option_values};
 
 use crate::path::{BinaryOperator, PathValue};
@@ -80,26 +80,6 @@ pub(crate) fn value_of_literal<'a>(literal: &'a PathValue<'_>) -> OperandValue<'
         PathValue::Number(n) => OperandValue::Number(*n),
         PathValue::String(s) => OperandValue::String(s.as_str().as_bytes()),
         PathValue::Raw(_) => OperandValue::Container,
-    }
-}
-
-/// Returns whether both are true, or `None` if either is unknown.
-pub(crate) fn and_truth(a: Option<bool>, b: Option<bool>) -> Option<bool>
-    ensures { result ≡ and_truth a b }
-{
-    match (a, b) {
-        (Some(a), Some(b)) => Some(a && b),
-        _ => None,
-    }
-}
-
-/// Returns whether one of the two is true, or `None` if either is unknown.
-pub(crate) fn or_truth(a: Option<bool>, b: Option<bool>) -> Option<bool>
-    ensures { result ≡ or_truth a b }
-{
-    match (a, b) {
-        (Some(a), Some(b)) => Some(a || b),
-        _ => None,
     }
 }
 

@@ -1,10 +1,11 @@
 //! A condition as a list of tests, each with the places at which the condition continues after it.
 
-ghost use Rattle.std.specs.Prelude.{◌≡◌};
-ghost use Rattle.jsonb.specs.Private.Tests.{tests_in};
+ghost use Rattle.std.specs.Prelude.{◌≡◌, true, MatchOption};
+ghost use Rattle.jsonb.specs.Private.Tests.{tests_in, is_plain, are_plain};
+ghost use Rattle.jsonb.specs.declared.selector.plan.Question.TheVariants as question;
 
 use super::operand_value::OperandValue;
-use crate::path::{BinaryOperator, Path};
+use crate::path::{BinaryOperator, Expr, Path};
 use std::slice;
 
 /// A comparison of a member of the item with a literal.
@@ -43,6 +44,24 @@ pub(crate) enum Question<'s, 'p> {
     MemberFound(MemberFound<'s, 'p>),
     /// Arithmetic, which is unknown.
     Unknown,
+    /// Whether any other expression is true. It is evaluated by its operands or its path.
+    Expression(&'s Expr<'p>),
+}
+
+impl<'s, 'p> Question<'s, 'p> {
+    /// Returns the expression that is evaluated by its operands or its path.
+    #[inline(always)]
+    pub(crate) fn expression(&self) -> Option<&'s Expr<'p>>
+        ensures { MatchOption result (is_plain self.now ≡ true) (λ e. self.now ≡ question.Expression e) }
+    {
+        match self {
+            Question::Expression(e) => Some(*e),
+            Question::Compared(_)
+            | Question::MembersCompared(_)
+            | Question::MemberFound(_)
+            | Question::Unknown => None,
+        }
+    }
 }
 
 /// A question, and where the condition continues after its result: at the test from which as many tests are left. If
@@ -79,4 +98,16 @@ impl<'s, 'p> Condition<'s, 'p> {
             Condition::Many(tests) => tests.as_slice(),
         }
     }
+}
+
+/// Returns `true` if no test is evaluated by the operands or the path of an expression.
+pub(crate) fn are_plain(tests: &[Test<'_, '_>]) -> bool
+    ensures { result ≡ are_plain tests.now }
+{
+    for test in tests {
+        if test.question.expression().is_some() {
+            return false;
+        }
+    }
+    true
 }

@@ -25,7 +25,7 @@ use super::evaluate::{filter_truth, question_truth};
 use super::filter_cache::is_true;
 use super::levels::push_levels;
 use super::members::{are_members, member_of};
-use super::plan::{Condition, Question};
+use super::plan::{Condition, Question, are_plain};
 use super::steps::filter_of;
 use crate::path::{ArrayIndex, Expr, Path, RecursiveLevel};
 use jsonb_doc::{Error, Spot, SpotIter, spot_by_parts};
@@ -40,7 +40,7 @@ pub(crate) enum SearchStep<'s, 'p> {
     Elements,
     Positions(&'s [ArrayIndex]),
     Levels(Option<RecursiveLevel>),
-    /// A filter whose condition can be compiled to tests.
+    /// A filter by members of the item.
     Tested(Condition<'s, 'p>),
 }
 
@@ -184,9 +184,11 @@ fn searched_filter<'s, 'p>(
         (λ searched. IsSearched searched (filter (expression_view e.now)))) }
     ensures errors { IfErr result IsOutOfMemory }
 {
-    match condition_of(alloc, e)? {
-        Some(condition) => Ok(Some(SearchStep::Tested(condition))),
-        None => Ok(None),
+    let condition = condition_of(alloc, e)?;
+    if are_plain(condition.as_slice()) {
+        Ok(Some(SearchStep::Tested(condition)))
+    } else {
+        Ok(None)
     }
 }
 

@@ -11,7 +11,8 @@ ghost use Rattle.std.specs.List.{AllZip};
 ghost use Rattle.jsonb.specs.Meaning.{step_meaning, steps_meaning, truth, operand_values, is_some_item};
 ghost use Rattle.jsonb.specs.Private.Selection.{IsAt, HasTree, node_spots, values_view, taken_step, is_filter, IsPlain};
 ghost use Rattle.jsonb.specs.Private.Exists.{is_exists};
-ghost use Rattle.jsonb.specs.Private.Terms.{is_joined, AreTermsOf};
+ghost use Rattle.jsonb.specs.Private.Pairs.{is_joined};
+ghost use Rattle.jsonb.specs.Private.Tests.{AreCompiled, AreJoinedTests, tests_conditions, compiled_conditions};
 ghost use Rattle.jsonb.specs.Private.FilterCache.{conditions, is_condition, IsSame, IsKeptFor, kept_part};
 ghost use Rattle.jsonb.specs.Private.Steps.{GivesOfEach, RefinesTruth, TellsByPart, RefinesTruthWithCache, ExtendsCache};
 ghost use Rattle.jsonb.specs.declared.path.Expr.{size-Expr};
@@ -21,8 +22,9 @@ ghost use Rattle.jsonb.specs.SelectionErrors.{IsSelectionError};
 
 use super::children::{push_field, push_if, push_step};
 use super::compared_member::member_truth;
+use super::compile::condition_of;
 use super::document::{Context, Current, Expressions, Mode, TruthResult};
-use super::evaluate::tested_filter;
+use super::evaluate::{jump_truth, next_jump, question_truth, tested_items};
 use super::exists::innermost;
 use super::filter_cache::{
     CachedPart, FilterCache, comparison_part, exists_part, is_comparison, is_true,
@@ -32,8 +34,9 @@ use super::members::{
 };
 use super::node_list::NodeList;
 use super::operand_value::{OperandValues, compare, value_of_literal};
+use super::pair::is_joined;
+use super::plan::{Jump, Test, are_plain};
 use super::search::search;
-use super::terms::{Evaluation, Term, TruthStack, is_joined, terms_of};
 use super::values::found_values;
 use crate::path::{Expr, Path};
 use jsonb_doc::{Error, Spot};
@@ -194,13 +197,10 @@ fn step_many<'a>(
     let Some(e) = filter_of(expressions, step) else {
         return plain_steps(alloc, mode, step, document.bytes, items);
     };
-    match tested_filter(alloc, mode, e, document.bytes, items)? {
-        Some(nodes) => Ok(nodes),
-        None => filter_many(context, e, items),
-    }
+    filter_many(context, e, items)
 }
 
-/// Returns the items of a list that any filter selects, in order.
+/// Returns the items of a list that a filter selects, in order.
 #[cycle(steps)]
 #[inline(never)]
 fn filter_many<'a>(
@@ -211,16 +211,20 @@ fn filter_many<'a>(
     ensures meant { GivesOfEach context.now (filter (expression_view e.now)) items.now result }
     ensures errors { IfErr result (IsSelectionError context.now.mode) }
 {
-    let terms = terms_of(context.alloc, e)?;
-    let kept = FilterCache::new(context.alloc);
-    let mut run = Evaluation::new(context.alloc, kept);
+    let condition = condition_of(context.alloc, e)?;
+    let tests = condition.as_slice();
+    if are_plain(tests) {
+        let bytes = context.document.bytes;
+        return tested_items(context.alloc, context.mode, tests, bytes, items);
+    }
+    let mut kept = FilterCache::new(context.alloc);
     let mut nodes = Vec::new(context.alloc);
     for item in items {
         let current = Current {
             context,
             item: *item,
         };
-        push_kept(current, e, &terms, &mut run, &mut nodes)?;
+        push_kept(current, e, tests, &mut kept, &mut nodes)?;
     }
     Ok(NodeList::Many(nodes))
 }
@@ -231,26 +235,50 @@ fn filter_many<'a>(
 fn push_kept<'a>(
     current: Current<'_, 'a>,
     e: &'a Expr<'_>,
-    terms: &[Term<'a, '_>],
-    run: &mut Evaluation<'a>,
+    tests: &[Test<'a, '_>],
+    kept: &mut FilterCache<'a>,
     nodes: &mut Vec<Spot>,
 ) -> Result<(), Error>
-    requires { is_joined (expression_view e.now) ≡ true → AreTermsOf e.now terms.now }
+    requires { AreCompiled e.now tests.now }
     ensures meant { (top t : Tree) (before : List Tree) → HasTree current.entry.context.now.document top
         → IsAt current.entry.context.now.document current.entry.item t
-        → IsKeptFor current.entry.context.now.mode top (expression_view e.now) run.old.kept
+        → IsKeptFor current.entry.context.now.mode top (compiled_conditions (expression_view e.now) tests.now) kept.old
         → AllZip (IsAt current.entry.context.now.document) nodes.old.items before
         → Refines (λ _ ts. AllZip (IsAt current.entry.context.now.document) nodes.new.items (before ++ ts))
         IsOutOfMemory result (step_meaning current.entry.context.now.mode (filter (expression_view e.now)) top t) }
     ensures kept { (top t : Tree) → HasTree current.entry.context.now.document top
         → IsAt current.entry.context.now.document current.entry.item t
-        → IsKeptFor current.entry.context.now.mode top (expression_view e.now) run.old.kept
-        → OnOk result (IsKeptFor current.entry.context.now.mode top (expression_view e.now) run.new.kept) }
+        → IsKeptFor current.entry.context.now.mode top (compiled_conditions (expression_view e.now) tests.now) kept.old
+        → OnOk result (IsKeptFor current.entry.context.now.mode top (compiled_conditions (expression_view e.now) tests.now)
+        kept.new) }
     ensures errors { IfErr result (IsSelectionError current.entry.context.now.mode) }
 {
-    let keeps = is_true(truth_by_kept(current, e, terms, run)?);
-    run.kept.restart();
+    let keeps = is_true(truth_by_kept(current, e, tests, kept)?);
+    kept.restart();
     push_if(keeps, current.item, nodes)
+}
+
+/// Returns whether an expression is true of an item, with what is cached from the items before.
+#[cycle(steps)]
+#[inline(always)]
+fn truth_by_kept<'a>(
+    current: Current<'_, 'a>,
+    e: &'a Expr<'_>,
+    tests: &[Test<'a, '_>],
+    kept: &mut FilterCache<'a>,
+) -> TruthResult
+    requires { AreCompiled e.now tests.now }
+    ensures meant { RefinesTruthWithCache current.entry (expression_view e.now)
+        (compiled_conditions (expression_view e.now) tests.now) kept.old result }
+    ensures kept { ExtendsCache current.entry (compiled_conditions (expression_view e.now) tests.now)
+        kept.old kept.new result }
+    ensures errors { IfErr result (IsSelectionError current.entry.context.now.mode) }
+{
+    if is_joined(e) {
+        condition_truth(current, e, tests, kept)
+    } else {
+        single_truth(current, e, kept)
+    }
 }
 
 /// Evaluates several steps, one after the other, from one item.
@@ -286,63 +314,48 @@ pub(crate) fn truth<'a>(current: Current<'_, 'a>, e: &'a Expr<'_>) -> TruthResul
     ensures meant { RefinesTruth current.entry (expression_view e.now) result }
     ensures errors { IfErr result (IsSelectionError current.entry.context.now.mode) }
 {
-    let terms = terms_of(current.context.alloc, e)?;
-    let mut run = Evaluation::new(current.context.alloc, FilterCache::Nothing);
-    truth_by_kept(current, e, &terms, &mut run)
-}
-
-/// Returns whether an expression is true of an item, with what is cached from the items before.
-#[cycle(steps)]
-#[inline(always)]
-fn truth_by_kept<'a>(
-    current: Current<'_, 'a>,
-    e: &'a Expr<'_>,
-    terms: &[Term<'a, '_>],
-    run: &mut Evaluation<'a>,
-) -> TruthResult
-    requires { is_joined (expression_view e.now) ≡ true → AreTermsOf e.now terms.now }
-    ensures meant { RefinesTruthWithCache current.entry (expression_view e.now) (conditions (expression_view e.now))
-        run.old.kept result }
-    ensures kept { ExtendsCache current.entry (conditions (expression_view e.now)) run.old.kept run.new.kept result }
-    ensures errors { IfErr result (IsSelectionError current.entry.context.now.mode) }
-{
-    if is_joined(e) {
-        joined_truth(current, e, terms, &mut run.truths, &mut run.kept)
-    } else {
-        single_truth(current, e, &mut run.kept)
+    let mut kept = FilterCache::Nothing;
+    if !is_joined(e) {
+        return single_truth(current, e, &mut kept);
     }
+    let condition = condition_of(current.context.alloc, e)?;
+    condition_truth(current, e, condition.as_slice(), &mut kept)
 }
 
-/// Evaluates an expression that joins others for an item: its terms one after the other.
+/// Evaluates an expression that joins others for an item: its tests one after the other. Each is evaluated, since an
+/// unknown one makes the result unknown, and each may fail.
 #[cycle(steps)]
 #[inline(never)]
-fn joined_truth<'a>(
+fn condition_truth<'a>(
     current: Current<'_, 'a>,
     e: &'a Expr<'_>,
-    terms: &[Term<'a, '_>],
-    truths: &mut TruthStack,
+    tests: &[Test<'a, '_>],
     kept: &mut FilterCache<'a>,
 ) -> TruthResult
-    requires { AreTermsOf e.now terms.now }
-    ensures meant { RefinesTruthWithCache current.entry (expression_view e.now) (conditions (expression_view e.now))
-        kept.old result }
-    ensures kept { ExtendsCache current.entry (conditions (expression_view e.now)) kept.old kept.new result }
+    requires { AreJoinedTests e.now tests.now }
+    ensures meant { RefinesTruthWithCache current.entry (expression_view e.now) (tests_conditions tests.now) kept.old result }
+    ensures kept { ExtendsCache current.entry (tests_conditions tests.now) kept.old kept.new result }
     ensures errors { IfErr result (IsSelectionError current.entry.context.now.mode) }
 {
-    truths.clear();
-    for term in terms {
-        match term {
-            Term::Condition(part) => {
-                let truth = single_truth(current, part, kept)?;
-                truths.push(truth)?;
-            }
-            Term::Join(join) => truths.join(*join)?,
-        }
+    let Current { context, item } = current;
+    let mut left = tests.len();
+    let mut state = Some(Jump { left, truth: false });
+    while left > 0 {
+        let test = &tests[left - 1];
+        let truth = match test.question.expression() {
+            Some(part) => single_truth(current, part, kept)?,
+            None => question_truth(
+                context.alloc,
+                context.mode,
+                &test.question,
+                context.document.bytes,
+                item,
+            )?,
+        };
+        state = next_jump(test, left, state, truth);
+        left -= 1;
     }
-    match truths.pop() {
-        Some(truth) => Ok(truth),
-        None => Err(Error::InvalidJsonPath),
-    }
+    Ok(jump_truth(state))
 }
 
 /// Evaluates an expression that joins no others for an item.

@@ -4,7 +4,7 @@ use Rattle.std.proofs.Math.Seq.{take-length}
 use Rattle.jsonb_doc.specs.Answer.{and_then}
 use Rattle.jsonb.specs.Meaning.{filtered}
 use Rattle.jsonb.specs.Private.Jumps.{evaluated}
-use Rattle.jsonb.specs.Private.Tests.{AreBranches}
+use Rattle.jsonb.specs.Private.Tests.{IsPlainQuestionOf, AreBranches}
 use Rattle.jsonb.proofs.RefinesLemmas.{same_outcome, same_answer, first_of_three_refused}
 use Rattle.jsonb.proofs.KeptLemmas.{known, value_is}
 use Rattle.jsonb.proofs.TestLemmas.{next_test, test_done, no_test, settled}
@@ -14,7 +14,7 @@ pub loop-left-init : goal.loop-left-init
 loop-left-init c = record {
   within = let all : length c.args.tests.now ≤ length c.args.tests.now = omega arith in all;
   meant = λ branches top t a m.
-      (branches, subst (λ l. AreBranches (reverse l) branches) (sym (take-length c.args.tests.now)) a, refl);
+      (branches, subst (λ l. AreBranches IsPlainQuestionOf (reverse l) branches) (sym (take-length c.args.tests.now)) a, refl);
 }
 
 pub returns-then-is_settled-clause-meant : goal.returns-then-is_settled-clause-meant
@@ -60,5 +60,5 @@ returns-clause-meant c = λ branches top t a m.
     let inv = c.loop-left.invariant.meant branches top t a m in
     known (ap (λ o. and_then o (λ b. Ok (filtered t b))) (inv.2
     ∙ ap (λ l. evaluated c.args.mode top t l c.loop-left.state)
-    (no_test c.args.tests.now c.loop-left.left inv.0 (omega (arith, c.loop-left-test.false)) inv.1))
+    (no_test IsPlainQuestionOf c.args.tests.now c.loop-left.left inv.0 (omega (arith, c.loop-left-test.false)) inv.1))
     ∙ ap (λ b. Ok (filtered t b)) (sym c.jump_truth-2.ensures)) refl

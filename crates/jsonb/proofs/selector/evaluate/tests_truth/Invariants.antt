@@ -2,15 +2,15 @@ use Rattle.std.proofs.Common.{◌≡◌, ◌≤◌, List, length, take, reverse}
 use Rattle.jsonb_doc.specs.Spots.{Locates}
 use Rattle.jsonb_doc.specs.Tree.{Tree}
 use Rattle.jsonb.specs.Private.Jumps.{Branch, evaluated}
-use Rattle.jsonb.specs.Private.Tests.{AreBranches}
+use Rattle.jsonb.specs.Private.Tests.{IsPlainQuestionOf, AreBranches}
 use Rattle.jsonb.proofs.selector.evaluate.tests_truth.Given as goal
 
 -- the tests that are left, from where the condition continues, have the truth of all
 abbrev pub invariant-loop-left : goal.invariant-loop-left
 invariant-loop-left l = record {
   within : l.left ≤ length l.tests;
-  meant : (branches : List Branch) (top t : Tree) → AreBranches (reverse l.tests) branches → Locates l.bytes l.item t →
-      (rest : List Branch) × AreBranches (reverse (take l.left l.tests)) rest
+  meant : (branches : List Branch) (top t : Tree) → AreBranches IsPlainQuestionOf (reverse l.tests) branches → Locates l.bytes l.item t →
+      (rest : List Branch) × AreBranches IsPlainQuestionOf (reverse (take l.left l.tests)) rest
       × (evaluated l.mode top t branches l.fn.start ≡ evaluated l.mode top t rest l.state);
 }
 

@@ -4,7 +4,7 @@ use Rattle.jsonb_doc.specs.Spots.{Locates}
 use Rattle.std.specs.List.{AllZip}
 use Rattle.jsonb.specs.Meaning.{step_meaning}
 use Rattle.jsonb.specs.Private.Search.{AreGiven}
-use Rattle.jsonb.specs.Private.Tests.{AreTestsOf}
+use Rattle.jsonb.specs.Private.Tests.{ArePlainTestsOf}
 use Rattle.jsonb.specs.declared.selector.document.Mode.TheVariants.{Lax}
 use Rattle.jsonb.proofs.RefinesLemmas.{same_answer, same_outcome, refused_as, given_by}
 use Rattle.jsonb.proofs.TestLemmas.{no_tests}
@@ -49,14 +49,14 @@ returns-in_ok-push_levels-in-Levels-clause-meant c = λ top t s h m.
 pub returns-in_default-clause-meant : goal.returns-in_default-clause-meant
 returns-in_default-clause-meant c = λ top t s h m.
     let k = rw c.in-Tested.is at h in
-    no_tests c.as_slice.result.now k.0 c.in_default.ensures.cases (subst (λ l. AreTestsOf l k.0) (sym c.as_slice.ensures) k.2)
+    no_tests c.as_slice.result.now k.0 c.in_default.ensures.cases (subst (λ l. ArePlainTestsOf l k.0) (sym c.as_slice.ensures) k.2)
 
 pub returns-in_err-truth-in-Compared-clause-meant : goal.returns-in_err-truth-in-Compared-clause-meant
 returns-in_err-truth-in-Compared-clause-meant c = λ top t s h m.
     let k = rw c.in-Tested.is at h in
     let p = err_from_is_err_and c.from_residual-in_err-truth-in-Compared.result c.from_residual-in_err-truth-in-Compared.ensures.1 in
     same_answer (p.1 ∙ ap Err p.2) (same_outcome (ap (λ z. step_meaning Lax z top t) k.1)
-    (refused_as (c.in_err-truth-in-Compared.ensures.meant k.0 top t (subst (λ l. AreTestsOf l k.0) (sym c.as_slice.ensures ∙ c.in-Some.ensures.cases.0) k.2) m
+    (refused_as (c.in_err-truth-in-Compared.ensures.meant k.0 top t (subst (λ l. ArePlainTestsOf l k.0) (sym c.as_slice.ensures ∙ c.in-Some.ensures.cases.0) k.2) m
     (λ condition q. let is = rw c.in-Compared.is at q in
     c.literal_truth-first_truth.ensures.meant condition Lax top t is (c.compared_member-found.ensures.meant top t is.members m)))))
 
@@ -64,7 +64,7 @@ pub returns-in_ok-truth-in-Compared-clause-meant : goal.returns-in_ok-truth-in-C
 returns-in_ok-truth-in-Compared-clause-meant c = λ top t s h m.
     let k = rw c.in-Tested.is at h in
     same_outcome (ap (λ z. step_meaning Lax z top t) k.1)
-    (given_by (c.in_ok-truth-in-Compared.ensures.meant k.0 top t (subst (λ l. AreTestsOf l k.0) (sym c.as_slice.ensures ∙ c.in-Some.ensures.cases.0) k.2) m
+    (given_by (c.in_ok-truth-in-Compared.ensures.meant k.0 top t (subst (λ l. ArePlainTestsOf l k.0) (sym c.as_slice.ensures ∙ c.in-Some.ensures.cases.0) k.2) m
     (λ condition q. let is = rw c.in-Compared.is at q in
     c.literal_truth-first_truth.ensures.meant condition Lax top t is (c.compared_member-found.ensures.meant top t is.members m)))
     (λ us is. record { ok = subst (AreGiven c.args.bytes.now c.kept.result) is (c.kept.ensures.kept c.args.bytes.now t m); err = tt }))
@@ -75,7 +75,7 @@ returns-in_err-truth-in_default-question-clause-meant c = λ top t s h m.
     let p = err_from_is_err_and c.from_residual-in_err-truth-in_default-question.result c.from_residual-in_err-truth-in_default-question.ensures.1 in
     same_answer (p.1 ∙ ap Err p.2) (same_outcome (ap (λ z. step_meaning Lax z top t) k.1)
     (refused_as (c.in_err-truth-in_default-question.ensures.meant k.0 top t
-    (subst (λ l. AreTestsOf l k.0) (sym c.as_slice.ensures ∙ c.in-Some.ensures.cases.0) k.2) m
+    (subst (λ l. ArePlainTestsOf l k.0) (sym c.as_slice.ensures ∙ c.in-Some.ensures.cases.0) k.2) m
     (λ condition q. c.question_truth-first_truth.ensures.meant condition top t q m))))
 
 pub returns-in_ok-truth-in_default-question-clause-meant : goal.returns-in_ok-truth-in_default-question-clause-meant
@@ -83,6 +83,6 @@ returns-in_ok-truth-in_default-question-clause-meant c = λ top t s h m.
     let k = rw c.in-Tested.is at h in
     same_outcome (ap (λ z. step_meaning Lax z top t) k.1)
     (given_by (c.in_ok-truth-in_default-question.ensures.meant k.0 top t
-    (subst (λ l. AreTestsOf l k.0) (sym c.as_slice.ensures ∙ c.in-Some.ensures.cases.0) k.2) m
+    (subst (λ l. ArePlainTestsOf l k.0) (sym c.as_slice.ensures ∙ c.in-Some.ensures.cases.0) k.2) m
     (λ condition q. c.question_truth-first_truth.ensures.meant condition top t q m))
     (λ us is. record { ok = subst (AreGiven c.args.bytes.now c.kept-in_default-question.result) is (c.kept-in_default-question.ensures.kept c.args.bytes.now t m); err = tt }))

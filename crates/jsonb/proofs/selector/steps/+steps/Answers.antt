@@ -1,6 +1,7 @@
-use Rattle.std.proofs.Common.{◌≡◌, Option, Bool, ◌∷◌, [], ◌++◌, append-nil, append_assoc, ◌+◌, Some, Ok, Err, IsOkAnd, map, flat_map, drop, ap, sym, ◌∙◌, refl, inl, inr, subst}
-use Rattle.std.specs.Prelude.{not, ◌==◌, length}
+use Rattle.std.proofs.Common.{◌≡◌, Option, Bool, false, ◌∷◌, [], ◌++◌, append-nil, append_assoc, ◌+◌, ◌-◌, ◌≤◌, take, reverse, arith, Some, Ok, Err, IsOkAnd, map, flat_map, drop, ap, sym, ◌∙◌, refl, inl, inr, subst}
+use Rattle.std.specs.Prelude.{not, ◌==◌, length, if◌then◌else◌}
 use Rattle.std.proofs.Math.ListN.{drop_of_length-le}
+use Rattle.std.proofs.Math.Seq.{take-length}
 use Rattle.std.proofs.lemmas.Result.{err_from_is_err_and}
 use Rattle.jsonb_doc.specs.Answer.{try_flat_map, and_then, Refines, IsOutOfMemory}
 use Rattle.jsonb.specs.PathTree as math
@@ -11,8 +12,9 @@ use Rattle.jsonb.specs.Values.{values_of_item}
 use Rattle.jsonb.specs.Compare.{compare}
 use Rattle.jsonb.specs.Private.Selection.{IsAt, node_spots, taken_step, values_view}
 use Rattle.jsonb.specs.Private.Exists.{LeadsTo}
-use Rattle.jsonb.specs.Private.FilterCache.{conditions, is_condition, IsSame, AreKept, IsKeptFor}
-use Rattle.jsonb.specs.Private.Terms.{IsBelow, executed, last_truth, term_conditions, term_view, truths_view}
+use Rattle.jsonb.specs.Private.FilterCache.{conditions, is_condition, IsSame, AreKept}
+use Rattle.jsonb.specs.Private.Jumps.{branches_of_whole, evaluated, next_jump}
+use Rattle.jsonb.specs.Private.Tests.{IsQuestionOf, AreBranches, AreTestsOf, tests_conditions, compiled_conditions}
 use Rattle.jsonb.specs.declared.path.Expr.{size-Expr}
 use Rattle.jsonb.specs.Meaning.{step_meaning, steps_meaning, truth, operand_values, filtered, is_some_item}
 use Rattle.jsonb.proofs.RefinesLemmas.{same_outcome, same_answer, refused_as, one_ok, given_by, first_refused, first_of_three_refused, second_refused, followed, continued, some_related}
@@ -20,41 +22,51 @@ use Rattle.jsonb.proofs.Progress.{no_spot, at_start, one_more, refused_in, at_en
 use Rattle.jsonb.proofs.PathNodes.{root_is, current_is, paths_is, binary_is, exists_is}
 use Rattle.jsonb.proofs.KeptLemmas.{comparison_is, by_right, value_of, one_comparison, one_exists, kept_same, from_ok, without, always, known, value_is, compared}
 use Rattle.jsonb.proofs.SearchLemmas.{found_any}
-use Rattle.jsonb.proofs.TermLemmas.{executed-whole, conditions-postorder, at_term}
+use Rattle.jsonb.proofs.TestLemmas.{plain_tests, plain_question, no_conditions, next_test, test_done, no_test, from_first, conditions_at, asked_here}
 use Rattle.jsonb.proofs.StepLemmas.{joined_one, only_one, kept_found, steps_at, from_start}
 use Rattle.jsonb.proofs.selector.steps.+steps.Goals as goal
-use Rattle.jsonb.proofs.selector.steps.+steps.Goals.{joined_truth-in-Condition+in_ok-truth-in-Condition+in_ok-push-in-Condition, joined_truth-in-Join+in_ok-join-in-Join}
+use Rattle.jsonb.proofs.selector.steps.+steps.Goals.{condition_truth-in-Some+in_ok-truth-in-Some, condition_truth-in-None+in_ok-truth-in-None}
 
 -- ---- filters
 
 pub push_kept-returns-in_err-truth_by_kept-clause-meant : goal.push_kept-returns-in_err-truth_by_kept-clause-meant
 push_kept-returns-in_err-truth_by_kept-clause-meant t c = λ top u before r s k a.
-    let all = conditions (expression_view c.args.e.now) in
-    let first = subst (λ l. AreKept c.args.current.context.now.mode top c.args.run.now.kept all l) (sym (append-nil all)) k in
+    let all = compiled_conditions (expression_view c.args.e.now) c.args.tests.now in
+    let first = subst (λ l. AreKept c.args.current.context.now.mode top c.args.kept.now all l) (sym (append-nil all)) k in
     let p = err_from_is_err_and c.from_residual.result c.from_residual.ensures.1 in
     same_answer (p.1 ∙ ap Err p.2) (first_refused (λ b. Ok (filtered u b)) (c.in_err-truth_by_kept.ensures.meant top u all [] r s first))
 
 pub push_kept-returns-clause-meant : goal.push_kept-returns-clause-meant
 push_kept-returns-clause-meant t c = λ top u before r s k a.
-    let all = conditions (expression_view c.args.e.now) in
-    let first = subst (λ l. AreKept c.args.current.context.now.mode top c.args.run.now.kept all l) (sym (append-nil all)) k in
+    let all = compiled_conditions (expression_view c.args.e.now) c.args.tests.now in
+    let first = subst (λ l. AreKept c.args.current.context.now.mode top c.args.kept.now all l) (sym (append-nil all)) k in
     followed (λ b. Ok (filtered u b)) (c.in_ok-truth_by_kept.ensures.meant top u all [] r s first)
     (λ b is. same_outcome (ap (λ z. Ok (filtered u z)) (sym is) ∙ ap Ok (c.is_true-keeps.ensures u))
     (c.push_if.ensures.meant c.args.current.context.now.document.bytes.now u before s a))
 
 pub push_kept-returns-clause-kept : goal.push_kept-returns-clause-kept
 push_kept-returns-clause-kept t c = λ top u r s k.
-    let all = conditions (expression_view c.args.e.now) in
-    let first = subst (λ l. AreKept c.args.current.context.now.mode top c.args.run.now.kept all l) (sym (append-nil all)) k in
+    let all = compiled_conditions (expression_view c.args.e.now) c.args.tests.now in
+    let first = subst (λ l. AreKept c.args.current.context.now.mode top c.args.kept.now all l) (sym (append-nil all)) k in
     always c.push_if.result (c.restart.ensures c.args.current.context.now.mode top all [] (c.in_ok-truth_by_kept.ensures.kept top u all [] r s first))
+
+pub filter_many-returns-in_err-condition-clause-meant : goal.filter_many-returns-in_err-condition-clause-meant
+filter_many-returns-in_err-condition-clause-meant t c = λ top ts r a.
+    let p = err_from_is_err_and c.from_residual.result c.from_residual.ensures.1 in
+    same_answer (p.1 ∙ ap Err p.2) (record { ok = tt; err = inl c.in_err-condition.ensures.errors })
+
+pub filter_many-returns-then-are_plain-clause-meant : goal.filter_many-returns-then-are_plain-clause-meant
+filter_many-returns-then-are_plain-clause-meant t c = λ top ts r a.
+    let e = expression_view c.args.e.now in
+    let compiled = subst (λ l. AreTestsOf IsQuestionOf l e) (sym c.as_slice-tests.ensures) c.in_ok-condition.ensures.tests.0 in
+    c.tested_items.ensures.meant e top ts (plain_tests c.as_slice-tests.result.now e (sym c.are_plain.ensures ∙ c.if-are_plain.true) compiled) a
 
 pub filter_many-loop-item-init : goal.filter_many-loop-item-init
 filter_many-loop-item-init t c = λ top ts r a. (
   at_start (step_meaning c.args.context.now.mode (math.filter (expression_view c.args.e.now)) top) (AllZip (IsAt c.args.context.now.document) c.args.items.now)
       (AllZip (IsAt c.args.context.now.document) c.new-nodes.result.items) ts a
       (subst (λ l. AllZip (IsAt c.args.context.now.document) l []) (sym c.new-nodes.ensures.items) tt),
-  subst (λ k. IsKeptFor c.args.context.now.mode top (expression_view c.args.e.now) k) (sym c.new-run.ensures)
-      (c.new-kept.ensures c.args.context.now.mode top (conditions (expression_view c.args.e.now))),
+  c.new-kept.ensures c.args.context.now.mode top (compiled_conditions (expression_view c.args.e.now) c.as_slice-tests.result.now),
 )
 
 pub filter_many-returns-in_err-push_kept-clause-meant : goal.filter_many-returns-in_err-push_kept-clause-meant
@@ -142,14 +154,8 @@ step_list-returns-in-Many-clause-meant t c = λ top ts r a.
     (subst (λ l. AllZip (IsAt c.args.context.now.document) l ts) (sym c.deref.ensures.value)
     (subst (λ f. AllZip (IsAt c.args.context.now.document) (node_spots f) ts) c.in-Many.is a))
 
-pub step_many-returns-in_err-nodes-clause-meant : goal.step_many-returns-in_err-nodes-clause-meant
-step_many-returns-in_err-nodes-clause-meant t c = λ top ts r a.
-    let p = err_from_is_err_and c.from_residual.result c.from_residual.ensures.1 in
-    same_outcome (ap (λ x. try_flat_map (step_meaning c.args.context.now.mode x top) ts) c.in-Some.ensures.expression)
-    (same_answer (p.1 ∙ ap Err p.2) (c.in_err-nodes.ensures.kept top ts a))
-
-pub step_many-returns-in-None-clause-meant : goal.step_many-returns-in-None-clause-meant
-step_many-returns-in-None-clause-meant t c = λ top ts r a.
+pub step_many-returns-clause-meant : goal.step_many-returns-clause-meant
+step_many-returns-clause-meant t c = λ top ts r a.
     same_outcome (ap (λ x. try_flat_map (step_meaning c.args.context.now.mode x top) ts) c.in-Some.ensures.expression) (c.filter_many.ensures.meant top ts r a)
 
 pub step_many-returns-in_default-clause-meant : goal.step_many-returns-in_default-clause-meant
@@ -229,18 +235,36 @@ operand_values-returns-in_ok-found-in-Paths-clause-meant t c = λ top u r s.
 
 -- ---- results
 
+pub truth-returns-then-not-is_joined-clause-meant : goal.truth-returns-then-not-is_joined-clause-meant
+truth-returns-then-not-is_joined-clause-meant t c = λ top u r s.
+    c.single_truth.ensures.meant (sym c.is_joined.ensures ∙ c.if-not-is_joined.true) top u [] [] r s tt
+
 pub truth-returns-clause-meant : goal.truth-returns-clause-meant
-truth-returns-clause-meant t c = λ top u r s.
-    c.truth_by_kept.ensures.meant top u [] [] r s
-    (subst (λ k. AreKept c.args.current.context.now.mode top k [] (conditions (expression_view c.args.e.now) ++ [])) (sym c.new-run.ensures) tt)
+truth-returns-clause-meant t c = λ top u r s. c.condition_truth.ensures.meant top u [] [] r s tt
+
+pub truth_by_kept-returns-then-is_joined-clause-meant : goal.truth_by_kept-returns-then-is_joined-clause-meant
+truth_by_kept-returns-then-is_joined-clause-meant t c = λ top u all more r s k.
+    let joined = sym c.is_joined.ensures ∙ c.if-is_joined.true in
+    c.condition_truth.ensures.meant top u all more r s (subst (λ b. AreKept c.args.current.context.now.mode top c.args.kept.now all
+    ((if b then tests_conditions c.args.tests.now else conditions (expression_view c.args.e.now)) ++ more)) joined k)
+
+pub truth_by_kept-returns-then-is_joined-clause-kept : goal.truth_by_kept-returns-then-is_joined-clause-kept
+truth_by_kept-returns-then-is_joined-clause-kept t c = λ top u all more r s k.
+    let joined = sym c.is_joined.ensures ∙ c.if-is_joined.true in
+    c.condition_truth.ensures.kept top u all more r s (subst (λ b. AreKept c.args.current.context.now.mode top c.args.kept.now all
+    ((if b then tests_conditions c.args.tests.now else conditions (expression_view c.args.e.now)) ++ more)) joined k)
 
 pub truth_by_kept-returns-else-is_joined-clause-meant : goal.truth_by_kept-returns-else-is_joined-clause-meant
 truth_by_kept-returns-else-is_joined-clause-meant t c = λ top u all more r s k.
-    c.single_truth.ensures.meant (sym c.is_joined.ensures ∙ c.if-is_joined.false) top u all more r s k
+    let alone = sym c.is_joined.ensures ∙ c.if-is_joined.false in
+    c.single_truth.ensures.meant alone top u all more r s (subst (λ b. AreKept c.args.current.context.now.mode top c.args.kept.now all
+    ((if b then tests_conditions c.args.tests.now else conditions (expression_view c.args.e.now)) ++ more)) alone k)
 
 pub truth_by_kept-returns-else-is_joined-clause-kept : goal.truth_by_kept-returns-else-is_joined-clause-kept
 truth_by_kept-returns-else-is_joined-clause-kept t c = λ top u all more r s k.
-    c.single_truth.ensures.kept (sym c.is_joined.ensures ∙ c.if-is_joined.false) top u all more r s k
+    let alone = sym c.is_joined.ensures ∙ c.if-is_joined.false in
+    c.single_truth.ensures.kept alone top u all more r s (subst (λ b. AreKept c.args.current.context.now.mode top c.args.kept.now all
+    ((if b then tests_conditions c.args.tests.now else conditions (expression_view c.args.e.now)) ++ more)) alone k)
 
 pub single_truth-returns-then-is_comparison-clause-meant : goal.single_truth-returns-then-is_comparison-clause-meant
 single_truth-returns-then-is_comparison-clause-meant t c = λ alone top u all more r s k.
@@ -266,94 +290,109 @@ single_truth-returns-in-ExistsFunc-clause-kept t c = λ alone top u all more r s
     c.condition-in-ExistsFunc.ensures.kept one.0 top u all more r s (subst (λ l. AreKept c.args.current.context.now.mode top c.args.kept.now all
     (l ++ more)) one.1 k)
 
--- term after term
+-- test after test
 
-pub joined_truth-loop-term-init : goal.joined_truth-loop-term-init
-joined_truth-loop-term-init t c = λ top u all more r s k. (
-  executed-whole c.args.current.context.now.mode top u (expression_view c.args.e.now)
-      ∙ (λ i. and_then (executed c.args.current.context.now.mode top u (sym c.requires.0 i) (sym c.clear.ensures i)) last_truth),
-  subst (λ l. AreKept c.args.current.context.now.mode top c.args.kept.now all (l ++ more))
-      (sym (conditions-postorder (expression_view c.args.e.now)) ∙ ap (flat_map term_conditions) (sym c.requires.0)) k,
-)
+pub condition_truth-loop-left-init : goal.condition_truth-loop-left-init
+condition_truth-loop-left-init t c =
+    let tests = c.args.tests.now in
+    let e = expression_view c.args.e.now in record {
+      within = let long : length tests ≤ length tests = omega arith in long;
+      meant = λ top u all more r s k. (
+        branches_of_whole e,
+        subst (λ l. AreBranches IsQuestionOf (reverse l) (branches_of_whole e)) (sym (take-length tests)) c.requires.0,
+        from_first IsQuestionOf c.args.current.context.now.mode tests e top u _ (record { left = length tests; truth = false }) refl refl c.requires.0,
+        subst (λ l. AreKept c.args.current.context.now.mode top c.args.kept.now all (tests_conditions l ++ more)) (sym (take-length tests)) k,
+      );
+    }
 
-pub joined_truth-returns-in_err-truth-in-Condition-clause-meant : goal.joined_truth-returns-in_err-truth-in-Condition-clause-meant
-joined_truth-returns-in_err-truth-in-Condition-clause-meant t c = λ top u all more r s k.
-    let inv = c.loop-term.invariant top u all more r s k in
-    let next = map term_view (drop (c.loop-term.term-index + 1) c.args.terms.now) in
-    let here = at_term c.args.terms.now c.loop-term.term-index c.term-item.result c.loop-term-test.true c.term-item.is
-    ∙ ap (λ x. term_view x ∷ next) c.in-Condition.is in
-    let below = subst (IsBelow (size-Expr c.args.e.now)) (sym c.term-item.is ∙ c.in-Condition.is)
-    (c.requires.1 c.loop-term.term-index c.term-item.result c.loop-term-test.true) in
-    let comes = subst (λ l. AreKept c.args.current.context.now.mode top c.loop-term.kept all l) (ap (λ l. flat_map term_conditions l ++ more) here
-    ∙ append_assoc (conditions (expression_view c.in-Condition.part.now)) (flat_map term_conditions next) more) inv.1 in
+pub condition_truth-returns-in_err-truth-in-Some-clause-meant : goal.condition_truth-returns-in_err-truth-in-Some-clause-meant
+condition_truth-returns-in_err-truth-in-Some-clause-meant t c = λ top u all more r s k.
+    let inv = c.loop-left.invariant.meant top u all more r s k in
+    let mode = c.args.current.context.now.mode in
+    let tests = c.args.tests.now in
+    let i = c.loop-left.left - 1 in
+    let test = c.index-tests-left.result in
+    let after : c.loop-left.left ≡ i + 1 = omega (arith, c.loop-left-test.true) in
+    let next = next_test tests c.loop-left.left i test inv.0 c.loop-left.state mode top u c.loop-left.invariant.within after c.index-tests-left.is inv.1 in
+    let here = asked_here c.args.e.now tests c.loop-left.left i test c.in-Some.part inv.0 c.loop-left.state mode top u c.loop-left.invariant.within after
+    c.index-tests-left.is c.in-Some.ensures c.requires.1 next in
+    let comes = subst (λ l. AreKept mode top c.loop-left.kept all l)
+    (ap (λ l. l ++ more) here.comes ∙ append_assoc (conditions (expression_view c.in-Some.part.now)) (tests_conditions (take i tests)) more) inv.3 in
     let p = err_from_is_err_and c.from_residual.result c.from_residual.ensures.1 in
-    same_answer (p.1 ∙ ap Err p.2)
-    (same_outcome (inv.0 ∙ ap (λ l. and_then (executed c.args.current.context.now.mode top u l (truths_view c.loop-term.truths)) last_truth) here)
-    (first_of_three_refused (λ b. executed c.args.current.context.now.mode top u next (b ∷ truths_view c.loop-term.truths)) last_truth
-    (c.in_err-truth-in-Condition.ensures.meant below.1 top u all (flat_map term_conditions next ++ more) r s comes)))
+    same_answer (p.1 ∙ ap Err p.2) (same_outcome (inv.2 ∙ next.is
+    ∙ ap (λ x. and_then (truth mode x top u) (λ b. evaluated mode top u next.behind
+    (next_jump test.on_true test.on_false c.loop-left.left c.loop-left.state b))) (sym here.is))
+    (first_refused _ (c.in_err-truth-in-Some.ensures.meant here.alone top u all (tests_conditions (take i tests) ++ more) r s comes)))
 
-pub joined_truth-returns-in_err-join-in-Join-clause-meant : goal.joined_truth-returns-in_err-join-in-Join-clause-meant
-joined_truth-returns-in_err-join-in-Join-clause-meant t c = λ top u all more r s k.
-    let inv = c.loop-term.invariant top u all more r s k in
-    let next = map term_view (drop (c.loop-term.term-index + 1) c.args.terms.now) in
-    let here = at_term c.args.terms.now c.loop-term.term-index c.term-item.result c.loop-term-test.true c.term-item.is
-    ∙ ap (λ x. term_view x ∷ next) c.in-Join.is in
-    let p = err_from_is_err_and c.from_residual-in_err-join-in-Join.result c.from_residual-in_err-join-in-Join.ensures.1 in
-    same_answer (p.1 ∙ ap Err p.2)
-    (same_outcome (inv.0 ∙ ap (λ l. and_then (executed c.args.current.context.now.mode top u l (truths_view c.loop-term.truths)) last_truth) here)
-    (first_of_three_refused (executed c.args.current.context.now.mode top u next) last_truth c.in_err-join-in-Join.ensures.meant))
+pub condition_truth-returns-in_err-truth-in-None-clause-meant : goal.condition_truth-returns-in_err-truth-in-None-clause-meant
+condition_truth-returns-in_err-truth-in-None-clause-meant t c = λ top u all more r s k.
+    let inv = c.loop-left.invariant.meant top u all more r s k in
+    let mode = c.args.current.context.now.mode in
+    let tests = c.args.tests.now in
+    let i = c.loop-left.left - 1 in
+    let test = c.index-tests-left.result in
+    let after : c.loop-left.left ≡ i + 1 = omega (arith, c.loop-left-test.true) in
+    let next = next_test tests c.loop-left.left i test inv.0 c.loop-left.state mode top u c.loop-left.invariant.within after c.index-tests-left.is inv.1 in
+    let p = err_from_is_err_and c.from_residual-in_err-truth-in-None.result c.from_residual-in_err-truth-in-None.ensures.1 in
+    same_answer (p.1 ∙ ap Err p.2) (same_outcome (inv.2 ∙ next.is)
+    (first_refused _ (c.in_err-truth-in-None.ensures.meant next.condition top u
+    (plain_question test.question next.condition c.in-None.ensures next.question) s)))
 
-pub joined_truth-loop-term-preserved : goal.joined_truth-loop-term-preserved
-joined_truth-loop-term-preserved t c = λ top u all more r s k.
-    let inv = c.loop-term.invariant top u all more r s k in
-    let next = map term_view (drop (c.loop-term.term-index + 1) c.args.terms.now) in
-    let rest = flat_map term_conditions next ++ more in
-    let truths = truths_view c.loop-term.truths in
-    let first = at_term c.args.terms.now c.loop-term.term-index c.term-item.result c.loop-term-test.true c.term-item.is in
-    elim c.match-term.branch [
-      | joined_truth-in-Condition+in_ok-truth-in-Condition+in_ok-push-in-Condition w ↦
-          let here = first ∙ ap (λ x. term_view x ∷ next) w.in-Condition.is in
-          let below = subst (IsBelow (size-Expr c.args.e.now)) (sym c.term-item.is ∙ w.in-Condition.is)
-          (c.requires.1 c.loop-term.term-index c.term-item.result c.loop-term-test.true) in
-          let comes = subst (λ l. AreKept c.args.current.context.now.mode top c.loop-term.kept all l) (ap (λ l. flat_map term_conditions l ++ more) here
-          ∙ append_assoc (conditions (expression_view w.in-Condition.part.now)) (flat_map term_conditions next) more) inv.1 in
-          rw (w.truths-is, w.kept-is) (
-            inv.0 ∙ ap (λ l. and_then (executed c.args.current.context.now.mode top u l truths) last_truth) here
-                ∙ ap (λ o. and_then (and_then o (λ b. executed c.args.current.context.now.mode top u next (b ∷ truths))) last_truth)
-                (value_is (w.in_ok-truth-in-Condition.ensures.meant below.1 top u all rest r s comes).ok)
-                ∙ ap (λ ts. and_then (executed c.args.current.context.now.mode top u next ts) last_truth) (sym w.in_ok-push-in-Condition.ensures.ok),
-            w.in_ok-truth-in-Condition.ensures.kept below.1 top u all rest r s comes,
-          )
-      | joined_truth-in-Join+in_ok-join-in-Join w ↦
-          let here = first ∙ ap (λ x. term_view x ∷ next) w.in-Join.is in
-          rw (w.truths-is, w.kept-is) (
-            inv.0 ∙ ap (λ l. and_then (executed c.args.current.context.now.mode top u l truths) last_truth) here
-                ∙ ap (λ o. and_then (and_then o (executed c.args.current.context.now.mode top u next)) last_truth)
-                (value_is w.in_ok-join-in-Join.ensures.meant.ok),
-            subst (λ l. AreKept c.args.current.context.now.mode top c.loop-term.kept all (flat_map term_conditions l ++ more)) here inv.1,
-          )
-    ]
+pub condition_truth-loop-left-preserved : goal.condition_truth-loop-left-preserved
+condition_truth-loop-left-preserved t c =
+    let mode = c.args.current.context.now.mode in
+    let tests = c.args.tests.now in
+    let i = c.loop-left.left - 1 in
+    let test = c.index-tests-left.result in
+    let within = c.loop-left.invariant.within in
+    let after : c.loop-left.left ≡ i + 1 = omega (arith, c.loop-left-test.true) in record {
+      within = let k : c.loop-left.left - 1 ≤ length c.args.tests.now = omega (arith, within) in k;
+      meant = λ top u all more r s k.
+          let inv = c.loop-left.invariant.meant top u all more r s k in
+          let next = next_test tests c.loop-left.left i test inv.0 c.loop-left.state mode top u within after c.index-tests-left.is inv.1 in
+          elim c.match-expression.branch [
+            | condition_truth-in-Some+in_ok-truth-in-Some w ↦
+                let here = asked_here c.args.e.now tests c.loop-left.left i test w.in-Some.part inv.0 c.loop-left.state mode top u within after
+                c.index-tests-left.is w.in-Some.ensures c.requires.1 next in
+                let comes = subst (λ l. AreKept mode top c.loop-left.kept all l)
+                (ap (λ l. l ++ more) here.comes ∙ append_assoc (conditions (expression_view w.in-Some.part.now)) (tests_conditions (take i tests)) more) inv.3 in (
+                  next.behind,
+                  next.left,
+                  inv.2 ∙ test_done next c.match-expression.truth c.next_jump-state.result
+                      (ap (λ x. truth mode x top u) (sym here.is)
+                      ∙ value_is (w.in_ok-truth-in-Some.ensures.meant here.alone top u all (tests_conditions (take i tests) ++ more) r s comes).ok
+                      ∙ ap Ok (sym w.truth-is))
+                      c.next_jump-state.ensures,
+                  subst (λ x. AreKept mode top x all (tests_conditions (take i tests) ++ more)) (sym w.kept-is)
+                      (w.in_ok-truth-in-Some.ensures.kept here.alone top u all (tests_conditions (take i tests) ++ more) r s comes),
+                )
+            | condition_truth-in-None+in_ok-truth-in-None w ↦ (
+              next.behind,
+              next.left,
+              inv.2 ∙ test_done next c.match-expression.truth c.next_jump-state.result
+                  (value_is (w.in_ok-truth-in-None.ensures.meant next.condition top u
+                  (plain_question test.question next.condition w.in-None.ensures next.question) s).ok ∙ ap Ok (sym w.truth-is)) c.next_jump-state.ensures,
+              subst (λ x. AreKept mode top x all (tests_conditions (take i tests) ++ more)) (sym w.kept-is)
+                  (subst (λ l. AreKept mode top c.loop-left.kept all (l ++ more))
+                  (conditions_at tests c.loop-left.left i test within after c.index-tests-left.is
+                  ∙ ap (λ l. l ++ tests_conditions (take i tests)) (no_conditions test.question w.in-None.ensures)) inv.3),
+            )
+          ];
+    }
 
-pub joined_truth-returns-in-Some-clause-meant : goal.joined_truth-returns-in-Some-clause-meant
-joined_truth-returns-in-Some-clause-meant t c = λ top u all more r s k.
-    known ((c.loop-term.invariant top u all more r s k).0
-    ∙ ap (λ l. and_then (executed c.args.current.context.now.mode top u (map term_view l) (truths_view c.loop-term.truths)) last_truth)
-    (drop_of_length-le c.args.terms.now c.loop-term-test.false)
-    ∙ ap last_truth c.in-Some.ensures) refl
+pub condition_truth-returns-clause-meant : goal.condition_truth-returns-clause-meant
+condition_truth-returns-clause-meant t c = λ top u all more r s k.
+    let inv = c.loop-left.invariant.meant top u all more r s k in
+    known (inv.2
+    ∙ ap (λ l. evaluated c.args.current.context.now.mode top u l c.loop-left.state)
+    (no_test IsQuestionOf c.args.tests.now c.loop-left.left inv.0 (omega (arith, c.loop-left-test.false)) inv.1)
+    ∙ ap Ok (sym c.jump_truth.ensures)) refl
 
-pub joined_truth-returns-in-Some-clause-kept : goal.joined_truth-returns-in-Some-clause-kept
-joined_truth-returns-in-Some-clause-kept t c = λ top u all more r s k.
-    subst (λ l. AreKept c.args.current.context.now.mode top c.loop-term.kept all (flat_map term_conditions (map term_view l) ++ more))
-    (drop_of_length-le c.args.terms.now c.loop-term-test.false) (c.loop-term.invariant top u all more r s k).1
-
-pub joined_truth-returns-in-None-clause-meant : goal.joined_truth-returns-in-None-clause-meant
-joined_truth-returns-in-None-clause-meant t c = λ top u all more r s k. record {
-  ok = tt;
-  err = inr ((c.loop-term.invariant top u all more r s k).0
-      ∙ ap (λ l. and_then (executed c.args.current.context.now.mode top u (map term_view l) (truths_view c.loop-term.truths)) last_truth)
-      (drop_of_length-le c.args.terms.now c.loop-term-test.false)
-      ∙ ap last_truth c.in-None.ensures);
-}
+pub condition_truth-returns-clause-kept : goal.condition_truth-returns-clause-kept
+condition_truth-returns-clause-kept t c = λ top u all more r s k.
+    let inv = c.loop-left.invariant.meant top u all more r s k in
+    let none : c.loop-left.left ≡ 0 = omega (arith, c.loop-left-test.false) in
+    subst (λ n. AreKept c.args.current.context.now.mode top c.loop-left.kept all (tests_conditions (take n c.args.tests.now) ++ more)) none inv.3
 
 -- ---- comparisons and `exists`
 

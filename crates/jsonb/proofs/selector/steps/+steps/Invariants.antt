@@ -1,12 +1,13 @@
-use Rattle.std.proofs.Common.{◌≡◌, ◌∷◌, [], ◌++◌, List, drop, map, flat_map}
-use Rattle.jsonb_doc.specs.Answer.{try_flat_map, and_then}
+use Rattle.std.proofs.Common.{◌≡◌, ◌≤◌, ◌∷◌, [], ◌++◌, List, drop, take, length, map, reverse}
+use Rattle.jsonb_doc.specs.Answer.{try_flat_map}
 use Rattle.jsonb_doc.specs.Tree.{Tree}
 use Rattle.jsonb.specs.PathTree.{Expression, steps_of, filter}
 use Rattle.jsonb.specs.PathViews.{steps_view, expression_view}
 use Rattle.std.specs.List.{AllZip}
 use Rattle.jsonb.specs.Private.Selection.{IsAt, HasTree, node_spots, taken_step}
-use Rattle.jsonb.specs.Private.FilterCache.{conditions, AreKept, IsKeptFor}
-use Rattle.jsonb.specs.Private.Terms.{executed, last_truth, term_conditions, term_view, truths_view}
+use Rattle.jsonb.specs.Private.FilterCache.{AreKept, IsKeptFor}
+use Rattle.jsonb.specs.Private.Jumps.{Branch, evaluated}
+use Rattle.jsonb.specs.Private.Tests.{IsQuestionOf, AreBranches, tests_conditions, compiled_conditions}
 use Rattle.jsonb.specs.Meaning.{step_meaning, steps_meaning, truth}
 use Rattle.jsonb.proofs.Progress.{Progress}
 use Rattle.jsonb.proofs.selector.steps.+steps.Given as goal
@@ -25,13 +26,18 @@ invariant-filter_many-loop-item l =
     Progress (AllZip (IsAt l.context.document) (drop l.item-index l.items)) (AllZip (IsAt l.context.document) l.nodes.items)
     (step_meaning l.context.mode (filter (expression_view l.e)) top)
     (try_flat_map (step_meaning l.context.mode (filter (expression_view l.e)) top) ts)
-    × IsKeptFor l.context.mode top (expression_view l.e) l.run.kept
+    × IsKeptFor l.context.mode top (compiled_conditions (expression_view l.e) l.tests) l.kept
 
--- the terms that are left, with the results so far, determine the result of all; their conditions come next
-abbrev pub invariant-joined_truth-loop-term : goal.invariant-joined_truth-loop-term
-invariant-joined_truth-loop-term l =
-    (top t : Tree) (all more : List Expression) → HasTree l.current.context.now.document top → IsAt l.current.context.now.document l.current.item t →
-    AreKept l.current.context.now.mode top l.fn.kept all (conditions (expression_view l.e) ++ more) →
-    (truth l.current.context.now.mode (expression_view l.e) top t
-    ≡ and_then (executed l.current.context.now.mode top t (map term_view (drop l.term-index l.terms)) (truths_view l.truths)) last_truth)
-    × AreKept l.current.context.now.mode top l.kept all (flat_map term_conditions (map term_view (drop l.term-index l.terms)) ++ more)
+-- the tests that are left, from where the condition continues, have the truth of all; their conditions come next
+abbrev pub invariant-condition_truth-loop-left : goal.invariant-condition_truth-loop-left
+invariant-condition_truth-loop-left l = record {
+  within : l.left ≤ length l.tests;
+  meant : (top t : Tree) (all more : List Expression) → HasTree l.context.document top → IsAt l.context.document l.item t →
+      AreKept l.context.mode top l.fn.kept all (tests_conditions l.tests ++ more) →
+      (rest : List Branch) × AreBranches IsQuestionOf (reverse (take l.left l.tests)) rest
+      × (truth l.context.mode (expression_view l.e) top t ≡ evaluated l.context.mode top t rest l.state)
+      × AreKept l.context.mode top l.kept all (tests_conditions (take l.left l.tests) ++ more);
+}
+
+abbrev pub decreases-condition_truth-loop-left : goal.decreases-condition_truth-loop-left
+decreases-condition_truth-loop-left l = l.left

@@ -1,0 +1,14 @@
+use Rattle.std.proofs.Common.{ap, sym, refl, ◌∙◌}
+use Rattle.jsonb.specs.PathViews.{expression_view}
+use Rattle.jsonb.specs.Private.Tests.{tests_in, are_plain}
+use Rattle.jsonb.proofs.TestLemmas.{plain_tests}
+use Rattle.jsonb.proofs.selector.search.searched_filter.Goals as goal
+
+pub returns-then-are_plain-clause-searched : goal.returns-then-are_plain-clause-searched
+returns-then-are_plain-clause-searched c =
+    let e = expression_view c.args.e.now in (
+      e,
+      refl,
+      plain_tests (tests_in c.in_ok-condition.condition) e
+          (ap are_plain (sym c.as_slice.ensures) ∙ sym c.are_plain.ensures ∙ c.if-are_plain.true) c.in_ok-condition.ensures.tests.0,
+    )
