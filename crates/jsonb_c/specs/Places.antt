@@ -11,12 +11,11 @@ use Rattle.jsonb_c.specs.Answers.{OfDocument}
 use Rattle.jsonb_c.specs.Kinds.{kind_number, tree_kind}
 use Rattle.jsonb_c.specs.declared.place.Place.{Place}
 
--- Holds if the place is that of the tree: its type, and the position of its content.
+-- Holds if the place is that of the tree: its type, and the entry type and the position of its content.
 pub record IsPlaceOf (form : Form) (document : List ℕ) (place : Place) (t : Tree) : Type 0 where
   pub kind : place.kind ≡ kind_number (tree_kind t)
   pub within : place.at + place.len ≤ length document
-  pub entry : ℕ
-  pub content : IsContent (number_reader form) t entry (slice_range document place.at (place.at + place.len))
+  pub content : IsContent (number_reader form) t place.entry (slice_range document place.at (place.at + place.len))
 
 -- Holds if the result is the place of the value at the steps, or `None` if there is none.
 abbrev pub FindsPlace : List Key → List ℕ → Result (Option Place) Error → Type 0

@@ -29,6 +29,7 @@ pub struct Place {
     pub(crate) at: usize,
     pub(crate) len: usize,
     pub(crate) kind: u8,
+    pub(crate) entry: u8,
 }
 
 /// Stores the place of the value at a key path.
@@ -126,5 +127,6 @@ fn place_of(document: &[u8], spot: Spot) -> Result<Place, Error>
         at: range.start,
         len: range.end.saturating_sub(range.start),
         kind: item_kind(&item).to_u8(),
+        entry: spot.entry_kind() as u8,
     })
 }

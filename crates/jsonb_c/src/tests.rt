@@ -260,15 +260,15 @@ fn leaves(rt: HostRuntime) {
 static MIXED: &[u8] =
     b"\x80\0\0\x03\x30\0\0\0\x20\0\0\x02\x50\0\0\x0e\x50\x0a\x40\0\0\x01\x10\0\0\x01\x10\0\0\x01kv";
 
-/// Key paths, the status, and the position, length and type of what they locate in `MIXED`.
-static PLACES: [(&[u8], u32, (usize, usize, u8)); 7] = rows! {
-    b"{2,k}", OK, (31, 1, 4);
-    b"{1}", OK, (16, 2, 2);
-    b"{0}", OK, (16, 0, 1);
-    b"{-1}", OK, (18, 14, 11);
-    b"{}", OK, (0, 32, 10);
-    b"{3}", NONE, (9, 9, 9);
-    b"{", INVALID_KEY_PATH, (9, 9, 9);
+/// Key paths, the status, and the position, length, type and entry type of what they locate in `MIXED`.
+static PLACES: [(&[u8], u32, (usize, usize, u8, u8)); 7] = rows! {
+    b"{2,k}", OK, (31, 1, 4, 1);
+    b"{1}", OK, (16, 2, 2, 2);
+    b"{0}", OK, (16, 0, 1, 3);
+    b"{-1}", OK, (18, 14, 11, 5);
+    b"{}", OK, (0, 32, 10, 5);
+    b"{3}", NONE, (9, 9, 9, 9);
+    b"{", INVALID_KEY_PATH, (9, 9, 9, 9);
 };
 
 #[test]
@@ -278,9 +278,10 @@ fn places(rt: HostRuntime) {
             at: 9,
             len: 9,
             kind: 9,
+            entry: 9,
         };
         let status = jdoc_find_by_keypath(rt.alloc(), MIXED, path, &mut place);
-        let is_so = status == *wanted && (place.at, place.len, place.kind) == *found;
+        let is_so = status == *wanted && (place.at, place.len, place.kind, place.entry) == *found;
         assert!(rt; is_so, "{path:?}");
     }
 }

@@ -60,6 +60,25 @@ impl Spot {
         self.kind == EntryKind::Container
     }
 
+    /// Returns the type of its entry.
+    ///
+    /// # Complexity
+    ///
+    /// O(1). Does not allocate.
+    ///
+    /// # Examples
+    ///
+    /// ```rust crates/jsonb_c/src/place.rt
+    /// entry: spot.entry_kind() as u8,
+    /// ```
+    #[inline(always)]
+    pub fn entry_kind(self) -> EntryKind
+        ensures { result ≡ self.kind }
+    {
+        let Spot { kind, .. } = self;
+        kind
+    }
+
     /// Returns the positions at which its content begins and ends in the bytes it came from.
     ///
     /// # Complexity

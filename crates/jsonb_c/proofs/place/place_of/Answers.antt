@@ -14,6 +14,5 @@ returns-clause-place c = λ form top t d l.
     record {
       kind = c.to_u8.ensures ∙ ap kind_number (c.item_kind.ensures form t c.in_ok-item.ensures.normal stands);
       within = rw whole l.within;
-      entry = doc.kind_number c.args.spot.kind;
       content = rw (whole, c.range-range.ensures.start) (l.content form top d);
     }
