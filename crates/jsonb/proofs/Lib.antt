@@ -60,3 +60,5 @@ pub mod RefinesLemmas
 pub mod DocumentAnswers
 pub mod TextLemmas
 pub mod GrammarRows
+pub mod CountLemmas
+pub mod LimitLemmas

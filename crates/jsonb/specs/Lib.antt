@@ -14,6 +14,8 @@ pub mod PathArithmetic
 pub mod Meaning
 pub mod SelectionErrors
 pub mod SelectorAnswers
+pub mod MostItems
+pub mod LimitedAnswers
 pub mod PathLaws
 pub mod PathEquality
 pub mod SamePath

@@ -21,3 +21,4 @@ pub mod Exists
 pub mod Search
 pub mod Steps
 pub mod Repeated
+pub mod Counted

@@ -4,6 +4,7 @@ mod by_hand;
 mod calls;
 mod documents;
 mod lax;
+mod limited;
 mod strict;
 
 use self::documents::{bytes_of, name_of};

@@ -1,0 +1,16 @@
+use Rattle.std.proofs.Common.{◌≡◌, ◌≤◌, ◌+◌, drop}
+use Rattle.jsonb.specs.MostItems.{capped, steps_items}
+use Rattle.jsonb.specs.PathTree.{steps_of}
+use Rattle.jsonb.specs.PathViews.{steps_view}
+use Rattle.jsonb.specs.Private.Counted.{total, waiting_parts}
+use Rattle.jsonb.specs.Private.Parts.{steps_parts}
+use Rattle.jsonb.proofs.selector.most_items.Count.add_steps.Given as goal
+
+-- what is counted and what the steps that are left add is what all steps add to the first count
+abbrev pub invariant-loop-step : goal.invariant-loop-step
+invariant-loop-step l = record {
+  grows : capped (total l.size l.self + steps_items l.size (steps_of (steps_view (drop l.step-index l.steps))) l.list)
+      ≡ capped (total l.size l.fn.self + steps_items l.size (steps_of (steps_view l.steps)) l.fn.first);
+  parts : waiting_parts l.self + steps_parts (steps_of (steps_view (drop l.step-index l.steps)))
+      ≤ waiting_parts l.fn.self + steps_parts (steps_of (steps_view l.steps));
+}
