@@ -54,9 +54,15 @@ OK, NONE = 0, 1
 
 
 class ArrowArray(Protocol):
-    """An object with the Arrow C data interface: an array of pyarrow, polars or nanoarrow, or a column."""
+    """An object with the Arrow C data interface: an array of pyarrow or nanoarrow, or a column."""
 
     def __arrow_c_array__(self, requested_schema: Any = None) -> Tuple[Any, Any]: ...
+
+
+class ArrowStream(Protocol):
+    """An object with the Arrow C stream interface: a chunked array of pyarrow, or a series of polars."""
+
+    def __arrow_c_stream__(self, requested_schema: Any = None) -> Any: ...
 
 
 def _positions(offsets: Any) -> memoryview:
@@ -144,9 +150,19 @@ class Column(Sequence[Optional[bytes]]):
         return cls.from_buffers(data, positions, _core.bits_of(known, 1) if 0 in known else None)
 
     @classmethod
-    def from_arrow(cls, array: ArrowArray) -> "Column":
-        """Returns a column over an Arrow array of binary or large binary, without a copy of its bytes."""
-        schema, found = array.__arrow_c_array__()
+    def from_arrow(cls, array: "Union[ArrowArray, ArrowStream]") -> "Column":
+        """Returns a column over an Arrow array of binary or large binary, without a copy of its bytes.
+
+        A stream of one array is not copied either; several arrays are.
+        """
+        if hasattr(array, "__arrow_c_array__"):
+            return cls._of_arrow(*array.__arrow_c_array__())
+        schema, arrays = _core.arrow_stream(array.__arrow_c_stream__())
+        parts = [cls._of_arrow(schema, it) for it in arrays]
+        return parts[0] if len(parts) == 1 else cls(row for part in parts for row in part)
+
+    @classmethod
+    def _of_arrow(cls, schema: Any, found: Any) -> "Column":
         form, rows, first, _, validity, places, data = _core.arrow_in(schema, found)
         if form in "uU":
             raise TypeError("the Arrow array holds strings: Column.from_json(array.to_pylist()) reads them as JSON")

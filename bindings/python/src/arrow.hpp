@@ -1,4 +1,4 @@
-// The two structs of the Arrow C data interface, as its specification has them, in capsules.
+// The structs of the Arrow C data and stream interfaces, as their specification has them, in capsules.
 #pragma once
 
 #include "memory.hpp"
@@ -20,6 +20,14 @@ struct ArrowArray {
     void *private_data;
 };
 
+struct ArrowArrayStream {
+    int (*get_schema)(ArrowArrayStream *, ArrowSchema *);
+    int (*get_next)(ArrowArrayStream *, ArrowArray *);
+    const char *(*get_last_error)(ArrowArrayStream *);
+    void (*release)(ArrowArrayStream *);
+    void *private_data;
+};
+
 constexpr int64_t ARROW_NULLABLE = 2;
 
 inline void schema_release(ArrowSchema *schema) {
@@ -27,10 +35,14 @@ inline void schema_release(ArrowSchema *schema) {
     schema->release = nullptr;
 }
 
+// What releases may be Python, in which an exception that was raised before would get lost.
 template <typename It> void capsule_end(PyObject *capsule) {
+    PyObject *type, *value, *trace;
+    PyErr_Fetch(&type, &value, &trace);
     It *it = static_cast<It *>(PyCapsule_GetPointer(capsule, PyCapsule_GetName(capsule)));
     if (it && it->release) it->release(it);
     free(it);
+    PyErr_Restore(type, value, trace);
 }
 
 // ARRAYS THAT GO OUT
@@ -159,4 +171,40 @@ inline PyObject *arrow_in(PyObject *module, PyObject *const *arguments, Py_ssize
     if (!validity.it || !bytes.it || !places.it) return nullptr;
     return Py_BuildValue("sLLLOOO", schema->format, was.length, was.offset, was.null_count, validity.it, places.it,
                          bytes.it);
+}
+
+// STREAMS THAT COME IN
+
+// A capsule with a struct that a function of the stream fills.
+template <typename It>
+PyObject *next_of(ArrowArrayStream *stream, int (*call)(ArrowArrayStream *, It *), const char *name) {
+    It *it = static_cast<It *>(calloc(1, sizeof *it));
+    if (!it) return PyErr_NoMemory();
+    if (int code = call(stream, it)) {
+        const char *what = stream->get_last_error(stream);
+        free(it);
+        return PyErr_Format(PyExc_OSError, "the Arrow stream failed: %s", what ? what : strerror(code));
+    }
+    PyObject *capsule = PyCapsule_New(it, name, capsule_end<It>);
+    if (!capsule && it->release) it->release(it);
+    if (!capsule) free(it);
+    return capsule;
+}
+
+// The schema of a stream, and a list of its arrays. The capsule of the stream releases it.
+inline PyObject *arrow_stream(PyObject *, PyObject *capsule) {
+    void *found = PyCapsule_GetPointer(capsule, "arrow_array_stream");
+    ArrowArrayStream *stream = static_cast<ArrowArrayStream *>(found);
+    if (!stream) return nullptr;
+    if (!stream->release) return PyErr_SetString(PyExc_ValueError, "the Arrow stream was moved before"), nullptr;
+    Ref schema(next_of(stream, stream->get_schema, "arrow_schema")), arrays(PyList_New(0));
+    while (schema.it && arrays.it) {
+        Ref array(next_of(stream, stream->get_next, "arrow_array"));
+        if (!array.it) return nullptr;
+        // An array that is released is the end.
+        bool is_end = !static_cast<ArrowArray *>(PyCapsule_GetPointer(array.it, "arrow_array"))->release;
+        if (is_end) return Py_BuildValue("OO", schema.it, arrays.it);
+        if (PyList_Append(arrays.it, array.it)) return nullptr;
+    }
+    return nullptr;
 }

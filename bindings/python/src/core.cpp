@@ -164,6 +164,7 @@ PyMethodDef METHODS[] = {
     ROWS("arrow_out", arrow_out),
     ROWS("arrow_in", arrow_in),
     {"arrow_schema", call_of_one<arrow_schema>(), METH_O, nullptr},
+    {"arrow_stream", call_of_one<arrow_stream>(), METH_O, nullptr},
     {nullptr, nullptr, 0, nullptr},
 };
 

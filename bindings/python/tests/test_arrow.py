@@ -1,4 +1,4 @@
-"""Arrow arrays that another library makes: each format, offsets of 32 and 64 bits, slices and validity bitmaps, and wrong arrays."""
+"""Arrow arrays and streams that another library makes: each format, offsets of 32 and 64 bits, slices and bitmaps, and wrong ones."""
 
 import ctypes
 import gc
@@ -18,6 +18,13 @@ class Schema(ctypes.Structure):
 class Array(ctypes.Structure):
     _fields_ = [("length", NUMBER), ("null_count", NUMBER), ("offset", NUMBER), ("n_buffers", NUMBER), ("n_children", NUMBER),
                 ("buffers", ctypes.POINTER(POINTER)), ("children", POINTER), ("dictionary", POINTER), ("release", RELEASE), ("private_data", POINTER)]
+
+
+CALL, MESSAGE = ctypes.CFUNCTYPE(ctypes.c_int, POINTER, POINTER), ctypes.CFUNCTYPE(POINTER, POINTER)
+
+
+class Stream(ctypes.Structure):
+    _fields_ = [("get_schema", CALL), ("get_next", CALL), ("get_last_error", MESSAGE), ("release", RELEASE), ("private_data", POINTER)]
 
 
 def capsule(it, name):
@@ -62,6 +69,34 @@ class Producer:
         return capsule(self.schema, b"arrow_schema"), capsule(self.array, b"arrow_array")
 
 
+class StreamOf:
+    """A stream of arrays, which fails after them if there is an error."""
+
+    def __init__(self, arrays, error=None, form="Z"):
+        Producer.living.append(self)
+        self.arrays, self.error, self.schema = list(arrays), error and ctypes.create_string_buffer(error), Producer(form, [b""]).schema
+        self.calls = CALL(self.get_schema), CALL(self.get_next), MESSAGE(lambda _: self.error and ctypes.addressof(self.error)), RELEASE(self.end)
+        self.stream, self.released = Stream(*self.calls), 0
+
+    def get_schema(self, _, out):
+        ctypes.memmove(out, ctypes.addressof(self.schema), ctypes.sizeof(Schema))
+        return 0
+
+    def get_next(self, _, out):
+        if self.arrays:
+            ctypes.memmove(out, ctypes.addressof(self.arrays.pop(0).array), ctypes.sizeof(Array))
+        elif self.error is not None:
+            return 5
+        return 0
+
+    def end(self, at):
+        self.released += 1
+        Stream.from_address(at).release = RELEASE()
+
+    def __arrow_c_stream__(self, requested_schema=None):
+        return capsule(self.stream, b"arrow_array_stream")
+
+
 class FromOthers(unittest.TestCase):
     ROWS = [dumps({"age": 31}), None, dumps([1, 2]), dumps("x"), None, dumps({}), dumps(7), dumps([]), dumps(None), dumps({"age": 47})]
 
@@ -98,6 +133,25 @@ class FromOthers(unittest.TestCase):
         for form in ("u", "U"):
             with self.assertRaisesRegex(TypeError, "from_json"):
                 Column.from_arrow(Producer(form, [b"1"]))
+
+    def test_streams(self):
+        for form in "zZ":
+            for cuts in ([10], [0, 3, 10], [3, 3, 9, 10], [0]):
+                parts = [Producer(form, self.ROWS[one:two]) for one, two in zip([0, *cuts], cuts)]
+                column = Column.from_arrow(StreamOf(parts, form=form))
+                self.assertEqual(list(column), self.ROWS[: cuts[-1]], (form, cuts))
+                del column
+                gc.collect()
+                self.assertEqual([it.released for it in parts], [1] * len(parts))
+            self.assertEqual(list(Column.from_arrow(StreamOf([], form=form))), [])
+        with self.assertRaisesRegex(OSError, "the disk is full"):
+            Column.from_arrow(StreamOf([Producer("Z", self.ROWS)], b"the disk is full"))
+        with self.assertRaisesRegex(TypeError, "format"):
+            Column.from_arrow(StreamOf([Producer("l", [b""])], form="l"))
+        moved = StreamOf([])
+        moved.stream.release = RELEASE()
+        with self.assertRaises(ValueError):
+            Column.from_arrow(moved)
 
     def test_wrong_arrays(self):
         for wrong in (Producer("z", self.ROWS, buffers=2), Producer("z", self.ROWS, count=-1), Producer("Z", self.ROWS, first=-1, count=1)):
