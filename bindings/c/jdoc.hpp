@@ -272,6 +272,13 @@ inline result<std::optional<document>> get(view it, std::string_view path) {
     });
 }
 
+/* Where the value at a key path is, which get copies. */
+inline result<std::optional<jdoc_place>> find(view it, std::string_view path) {
+    return detail::some_value<jdoc_place>([=](jdoc_place *place) {
+        return jdoc_find_by_keypath(it.data(), it.size(), path.data(), path.size(), place);
+    });
+}
+
 inline result<std::optional<document>> get(view it, std::size_t index) {
     return detail::some_bytes<document>(64, [=](std::uint8_t *out, std::size_t size, std::size_t *len) {
         return jdoc_get_by_index(it.data(), it.size(), index, out, size, len);
@@ -655,6 +662,10 @@ class keypath {
         return detail::some_bytes<document>(64, [&](std::uint8_t *out, std::size_t size, std::size_t *len) {
             return jdoc_keypath_get(&path_, it.data(), it.size(), out, size, len);
         });
+    }
+    result<std::optional<jdoc_place>> find(view it) {
+        return detail::some_value<jdoc_place>(
+            [&](jdoc_place *place) { return jdoc_keypath_find(&path_, it.data(), it.size(), place); });
     }
     result<document> remove(view it) {
         return detail::bytes<document>(it.size(), [&](std::uint8_t *out, std::size_t size, std::size_t *len) {

@@ -134,6 +134,10 @@ void prepared() {
     jdoc::result<jdoc::keypath> key = jdoc::keypath::read("{2,k}");
     EXPECT(key && is_some(key->get(mixed), v));
     EXPECT(is_none(key->get(tens)));
+    jdoc::result<std::optional<jdoc_place>> place = key->find(mixed);
+    EXPECT(place && *place && (*place)->at == 31 && (*place)->len == 1 && (*place)->kind == JDOC_KIND_STRING);
+    EXPECT(key->find(tens) && !*key->find(tens));
+    EXPECT(jdoc::find(mixed, "{1}") && (*jdoc::find(mixed, "{1}"))->entry == 2);
     EXPECT(is(key->remove(mixed), *jdoc::remove(mixed, "{2,k}")));
     EXPECT(jdoc::keypath::read("{1a}").error() == JDOC_INVALID_KEY_PATH);
     static_assert(!std::is_copy_constructible_v<jdoc::path> && !std::is_copy_constructible_v<jdoc::keypath>);

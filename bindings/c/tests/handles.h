@@ -60,6 +60,43 @@ BY_TRUTH(match)
 BY_BYTES(keypath, get, PLACE, document, document_len)
 BY_BYTES(keypath, delete, PLACE, document, document_len)
 
+/* The value at a place, as a document: that of jdoc_get_by_keypath. */
+static enum jdoc_status value_at(const jdoc_place *place, const uint8_t *document, uint8_t *out, size_t size,
+                                 size_t *out_len) {
+    bool is_container = place->entry == 5;
+    uint8_t headers[8] = {0x20, 0, 0, 0, (uint8_t)(place->entry << 4 | place->len >> 24), (uint8_t)(place->len >> 16),
+                          (uint8_t)(place->len >> 8), (uint8_t)place->len};
+    *out_len = (is_container ? 0 : sizeof headers) + place->len;
+    if (size < *out_len) return JDOC_BUFFER_TOO_SMALL;
+    if (!is_container) memcpy(out, headers, sizeof headers);
+    if (place->len) memcpy(out + *out_len - place->len, document + place->at, place->len);
+    uint8_t kind = 99;
+    enum jdoc_status status = jdoc_type(out, *out_len, &kind);
+    return status == JDOC_OK && kind != place->kind ? (enum jdoc_status)CHANGED_PATH : status;
+}
+
+static enum jdoc_status jdoc_by_place PLACE {
+    jdoc_place place = {.at = 99}, unchanged = {.at = 99};
+    enum jdoc_status status = jdoc_find_by_keypath(document, document_len, text, text_len, &place);
+    *out_len = 0;
+    if (status == JDOC_OK) return value_at(&place, document, out, size, out_len);
+    return memcmp(&place, &unchanged, sizeof place) ? (enum jdoc_status)WROTE_WITHOUT_PATH : status;
+}
+
+static enum jdoc_status jdoc_by_keypath_place PLACE {
+    READ(keypath);
+    jdoc_place place = {.at = 99}, unchanged = {.at = 99};
+    *out_len = 0;
+    if (status == JDOC_OK) status = jdoc_keypath_find(&path, document, document_len, &place);
+    if (status == JDOC_OK) status = value_at(&place, document, out, size, out_len);
+    jdoc_keypath_free(&path);
+    place = unchanged;
+    if (jdoc_keypath_find(&path, document, document_len, &place) != JDOC_NO_PATH ||
+        memcmp(&place, &unchanged, sizeof place))
+        return (enum jdoc_status)WROTE_WITHOUT_PATH;
+    return status;
+}
+
 /* A struct that was cast contains a path of the other kind: calls return JDOC_NO_PATH and write nothing. */
 static enum jdoc_status jdoc_by_wrong_kind SELECTION {
     jdoc_path path = {0};

@@ -74,6 +74,76 @@ extern "C" {
         out_len: *mut usize,
     ) -> jdoc_status;
 }
+#[repr(C)]
+#[derive(Debug, Copy, Clone)]
+pub struct jdoc_place {
+    pub at: usize,
+    pub len: usize,
+    pub kind: u8,
+    pub entry: u8,
+}
+#[test]
+fn bindgen_test_layout_jdoc_place() {
+    assert_eq!(::core::mem::size_of::<jdoc_place>(), 24usize, concat!("Size of: ", stringify!(jdoc_place)));
+    assert_eq!(::core::mem::align_of::<jdoc_place>(), 8usize, concat!("Alignment of ", stringify!(jdoc_place)));
+    fn test_field_at() {
+        assert_eq!(
+            unsafe {
+                let uninit = ::core::mem::MaybeUninit::<jdoc_place>::uninit();
+                let ptr = uninit.as_ptr();
+                ::core::ptr::addr_of!((*ptr).at) as usize - ptr as usize
+            },
+            0usize,
+            concat!("Offset of field: ", stringify!(jdoc_place), "::", stringify!(at))
+        );
+    }
+    test_field_at();
+    fn test_field_len() {
+        assert_eq!(
+            unsafe {
+                let uninit = ::core::mem::MaybeUninit::<jdoc_place>::uninit();
+                let ptr = uninit.as_ptr();
+                ::core::ptr::addr_of!((*ptr).len) as usize - ptr as usize
+            },
+            8usize,
+            concat!("Offset of field: ", stringify!(jdoc_place), "::", stringify!(len))
+        );
+    }
+    test_field_len();
+    fn test_field_kind() {
+        assert_eq!(
+            unsafe {
+                let uninit = ::core::mem::MaybeUninit::<jdoc_place>::uninit();
+                let ptr = uninit.as_ptr();
+                ::core::ptr::addr_of!((*ptr).kind) as usize - ptr as usize
+            },
+            16usize,
+            concat!("Offset of field: ", stringify!(jdoc_place), "::", stringify!(kind))
+        );
+    }
+    test_field_kind();
+    fn test_field_entry() {
+        assert_eq!(
+            unsafe {
+                let uninit = ::core::mem::MaybeUninit::<jdoc_place>::uninit();
+                let ptr = uninit.as_ptr();
+                ::core::ptr::addr_of!((*ptr).entry) as usize - ptr as usize
+            },
+            17usize,
+            concat!("Offset of field: ", stringify!(jdoc_place), "::", stringify!(entry))
+        );
+    }
+    test_field_entry();
+}
+extern "C" {
+    pub fn jdoc_find_by_keypath(
+        document: *const u8,
+        document_len: usize,
+        path: *const core::ffi::c_char,
+        path_len: usize,
+        place: *mut jdoc_place,
+    ) -> jdoc_status;
+}
 extern "C" {
     pub fn jdoc_get_by_index(
         document: *const u8,
@@ -934,6 +1004,14 @@ extern "C" {
         out: *mut u8,
         out_size: usize,
         out_len: *mut usize,
+    ) -> jdoc_status;
+}
+extern "C" {
+    pub fn jdoc_keypath_find(
+        path: *mut jdoc_keypath,
+        document: *const u8,
+        document_len: usize,
+        place: *mut jdoc_place,
     ) -> jdoc_status;
 }
 extern "C" {
