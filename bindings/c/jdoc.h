@@ -200,21 +200,21 @@ JDOC_NODISCARD enum jdoc_status jdoc_type(const uint8_t *document, size_t docume
 JDOC_NODISCARD enum jdoc_status jdoc_get_by_keypath(const uint8_t *document, size_t document_len, const char *path,
                                                     size_t path_len, uint8_t *out, size_t out_size, size_t *out_len);
 
-/* Where a value is in a document: its content is document[at .. at + len]. The content of an array or object is that
+/* The span of a value in a document: its content is document[at .. at + len]. The content of an array or object is that
  * value as a document, of a string its UTF-8; `entry` is the type of an entry word (docs/FORMAT.md): 0 null, 1 string,
  * 2 number, 3 false, 4 true, 5 array or object, 6 extension value. The bytes 20 00 00 00, then the entry word of `entry`
  * and `len`, then the content are a scalar as a document. */
-typedef struct jdoc_place {
+typedef struct jdoc_span {
     size_t at;
     size_t len;
     uint8_t kind; /* of enum jdoc_kind */
     uint8_t entry;
-} jdoc_place;
+} jdoc_span;
 
-/* *place: where the child at a key path is, which jdoc_get_by_keypath copies. It is unchanged with another status than
- * JDOC_OK. JDOC_NONE: there is none. */
+/* *span: the span of the child at a key path, which jdoc_get_by_keypath copies; unchanged if the status is not JDOC_OK.
+ * JDOC_NONE: there is none. */
 JDOC_NODISCARD enum jdoc_status jdoc_find_by_keypath(const uint8_t *document, size_t document_len, const char *path,
-                                                     size_t path_len, jdoc_place *place);
+                                                     size_t path_len, jdoc_span *span);
 
 /* An element of an array. JDOC_NONE: there is none, or this is not an array. */
 JDOC_NODISCARD enum jdoc_status jdoc_get_by_index(const uint8_t *document, size_t document_len, size_t index,
@@ -623,7 +623,7 @@ JDOC_NODISCARD enum jdoc_status jdoc_keypath_get(jdoc_keypath *path, const uint8
 
 /* As jdoc_find_by_keypath. */
 JDOC_NODISCARD enum jdoc_status jdoc_keypath_find(jdoc_keypath *path, const uint8_t *document, size_t document_len,
-                                                  jdoc_place *place);
+                                                  jdoc_span *span);
 
 /* As jdoc_delete_by_keypath. */
 JDOC_NODISCARD enum jdoc_status jdoc_keypath_delete(jdoc_keypath *path, const uint8_t *document, size_t document_len,

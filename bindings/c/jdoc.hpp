@@ -272,10 +272,10 @@ inline result<std::optional<document>> get(view it, std::string_view path) {
     });
 }
 
-/* Where the value at a key path is, which get copies. */
-inline result<std::optional<jdoc_place>> find(view it, std::string_view path) {
-    return detail::some_value<jdoc_place>([=](jdoc_place *place) {
-        return jdoc_find_by_keypath(it.data(), it.size(), path.data(), path.size(), place);
+/* The span of the value at a key path, which get copies. */
+inline result<std::optional<jdoc_span>> find(view it, std::string_view path) {
+    return detail::some_value<jdoc_span>([=](jdoc_span *span) {
+        return jdoc_find_by_keypath(it.data(), it.size(), path.data(), path.size(), span);
     });
 }
 
@@ -663,9 +663,9 @@ class keypath {
             return jdoc_keypath_get(&path_, it.data(), it.size(), out, size, len);
         });
     }
-    result<std::optional<jdoc_place>> find(view it) {
-        return detail::some_value<jdoc_place>(
-            [&](jdoc_place *place) { return jdoc_keypath_find(&path_, it.data(), it.size(), place); });
+    result<std::optional<jdoc_span>> find(view it) {
+        return detail::some_value<jdoc_span>(
+            [&](jdoc_span *span) { return jdoc_keypath_find(&path_, it.data(), it.size(), span); });
     }
     result<document> remove(view it) {
         return detail::bytes<document>(it.size(), [&](std::uint8_t *out, std::size_t size, std::size_t *len) {

@@ -450,7 +450,7 @@ def leaves():
 PREPARED = {
     "select_value": ["by_path_select_value"], "select_first": ["by_path_select_first", "by_path_read_again"],
     "select_array": ["by_path_select_array"], "exists": ["by_path_exists"], "match": ["by_path_match"],
-    "get_by_keypath": ["by_keypath_get", "by_place", "by_keypath_place"], "delete_by_keypath": ["by_keypath_delete"],
+    "get_by_keypath": ["by_keypath_get", "by_span", "by_keypath_span"], "delete_by_keypath": ["by_keypath_delete"],
 }
 
 

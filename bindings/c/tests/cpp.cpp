@@ -134,8 +134,8 @@ void prepared() {
     jdoc::result<jdoc::keypath> key = jdoc::keypath::read("{2,k}");
     EXPECT(key && is_some(key->get(mixed), v));
     EXPECT(is_none(key->get(tens)));
-    jdoc::result<std::optional<jdoc_place>> place = key->find(mixed);
-    EXPECT(place && *place && (*place)->at == 31 && (*place)->len == 1 && (*place)->kind == JDOC_KIND_STRING);
+    jdoc::result<std::optional<jdoc_span>> span = key->find(mixed);
+    EXPECT(span && *span && (*span)->at == 31 && (*span)->len == 1 && (*span)->kind == JDOC_KIND_STRING);
     EXPECT(key->find(tens) && !*key->find(tens));
     EXPECT(jdoc::find(mixed, "{1}") && (*jdoc::find(mixed, "{1}"))->entry == 2);
     EXPECT(is(key->remove(mixed), *jdoc::remove(mixed, "{2,k}")));

@@ -60,39 +60,39 @@ BY_TRUTH(match)
 BY_BYTES(keypath, get, PLACE, document, document_len)
 BY_BYTES(keypath, delete, PLACE, document, document_len)
 
-/* The value at a place, as a document: that of jdoc_get_by_keypath. */
-static enum jdoc_status value_at(const jdoc_place *place, const uint8_t *document, uint8_t *out, size_t size,
+/* The value at a span, as a document: that of jdoc_get_by_keypath. */
+static enum jdoc_status value_at(const jdoc_span *span, const uint8_t *document, uint8_t *out, size_t size,
                                  size_t *out_len) {
-    bool is_container = place->entry == 5;
-    uint8_t headers[8] = {0x20, 0, 0, 0, (uint8_t)(place->entry << 4 | place->len >> 24), (uint8_t)(place->len >> 16),
-                          (uint8_t)(place->len >> 8), (uint8_t)place->len};
-    *out_len = (is_container ? 0 : sizeof headers) + place->len;
+    bool is_container = span->entry == 5;
+    uint8_t headers[8] = {0x20, 0, 0, 0, (uint8_t)(span->entry << 4 | span->len >> 24), (uint8_t)(span->len >> 16),
+                          (uint8_t)(span->len >> 8), (uint8_t)span->len};
+    *out_len = (is_container ? 0 : sizeof headers) + span->len;
     if (size < *out_len) return JDOC_BUFFER_TOO_SMALL;
     if (!is_container) memcpy(out, headers, sizeof headers);
-    if (place->len) memcpy(out + *out_len - place->len, document + place->at, place->len);
+    if (span->len) memcpy(out + *out_len - span->len, document + span->at, span->len);
     uint8_t kind = 99;
     enum jdoc_status status = jdoc_type(out, *out_len, &kind);
-    return status == JDOC_OK && kind != place->kind ? (enum jdoc_status)CHANGED_PATH : status;
+    return status == JDOC_OK && kind != span->kind ? (enum jdoc_status)CHANGED_PATH : status;
 }
 
-static enum jdoc_status jdoc_by_place PLACE {
-    jdoc_place place = {.at = 99}, unchanged = {.at = 99};
-    enum jdoc_status status = jdoc_find_by_keypath(document, document_len, text, text_len, &place);
+static enum jdoc_status jdoc_by_span PLACE {
+    jdoc_span span = {.at = 99}, unchanged = {.at = 99};
+    enum jdoc_status status = jdoc_find_by_keypath(document, document_len, text, text_len, &span);
     *out_len = 0;
-    if (status == JDOC_OK) return value_at(&place, document, out, size, out_len);
-    return memcmp(&place, &unchanged, sizeof place) ? (enum jdoc_status)WROTE_WITHOUT_PATH : status;
+    if (status == JDOC_OK) return value_at(&span, document, out, size, out_len);
+    return memcmp(&span, &unchanged, sizeof span) ? (enum jdoc_status)WROTE_WITHOUT_PATH : status;
 }
 
-static enum jdoc_status jdoc_by_keypath_place PLACE {
+static enum jdoc_status jdoc_by_keypath_span PLACE {
     READ(keypath);
-    jdoc_place place = {.at = 99}, unchanged = {.at = 99};
+    jdoc_span span = {.at = 99}, unchanged = {.at = 99};
     *out_len = 0;
-    if (status == JDOC_OK) status = jdoc_keypath_find(&path, document, document_len, &place);
-    if (status == JDOC_OK) status = value_at(&place, document, out, size, out_len);
+    if (status == JDOC_OK) status = jdoc_keypath_find(&path, document, document_len, &span);
+    if (status == JDOC_OK) status = value_at(&span, document, out, size, out_len);
     jdoc_keypath_free(&path);
-    place = unchanged;
-    if (jdoc_keypath_find(&path, document, document_len, &place) != JDOC_NO_PATH ||
-        memcmp(&place, &unchanged, sizeof place))
+    span = unchanged;
+    if (jdoc_keypath_find(&path, document, document_len, &span) != JDOC_NO_PATH ||
+        memcmp(&span, &unchanged, sizeof span))
         return (enum jdoc_status)WROTE_WITHOUT_PATH;
     return status;
 }
@@ -122,7 +122,7 @@ static enum jdoc_status jdoc_by_wrong_kind SELECTION {
     return status;
 }
 
-/* A path that is read into a struct that keeps one takes its place; one that cannot be read leaves none. */
+/* A path that is read into a struct that keeps one takes its span; one that cannot be read leaves none. */
 static enum jdoc_status jdoc_by_path_read_again SELECTION {
     jdoc_path path = {0};
     enum jdoc_status status = jdoc_path_read("$", 1, &path);

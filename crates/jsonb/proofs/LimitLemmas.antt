@@ -17,7 +17,7 @@ pub lifted_within : {A : Type 0} (r : Result A Error) → IsErrOf (lifted r) Lim
 lifted_within (Ok x) is = cc
 lifted_within (Err e) is = cc
 
--- what holds of a failed allocation holds of a refusal
+-- what holds of a failed allocation holds of its error
 pub refused_keeps : {A : Type 0} (Holds : Result A Error → Type 0) (e : LimitError) → IsRefusal e → Holds (Err OutOfMemory)
     → UnlessExceeded Holds (Err e)
 refused_keeps Holds LimitExceeded is holds = tt

@@ -7,7 +7,7 @@ pub mod Kinds
 pub mod Columns
 pub mod Rows
 pub mod Names
-pub mod Places
+pub mod Spans
 pub mod Views
 pub mod Making
 pub mod Leaves

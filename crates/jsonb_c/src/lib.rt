@@ -17,9 +17,9 @@ mod document;
 mod keypath;
 mod leaves;
 mod path;
-mod place;
 mod prepared;
 mod read;
+mod span;
 mod status;
 mod status_name;
 #[cfg(test)]

@@ -8,8 +8,8 @@ use crate::build::{
 use crate::document::compare::jdoc_compare;
 use crate::document::decimal::jdoc_as_decimal;
 use crate::leaves::{LeafSizes, jdoc_leaves};
-use crate::place::{Place, jdoc_find_by_keypath};
 use crate::read::{jdoc_len, jdoc_pair};
+use crate::span::{Span, jdoc_find_by_keypath};
 use std::alloc::Global;
 
 const OK: u32 = 0;
@@ -261,7 +261,7 @@ static MIXED: &[u8] =
     b"\x80\0\0\x03\x30\0\0\0\x20\0\0\x02\x50\0\0\x0e\x50\x0a\x40\0\0\x01\x10\0\0\x01\x10\0\0\x01kv";
 
 /// Key paths, the status, and the position, length, type and entry type of what they locate in `MIXED`.
-static PLACES: [(&[u8], u32, (usize, usize, u8, u8)); 7] = rows! {
+static SPANS: [(&[u8], u32, (usize, usize, u8, u8)); 7] = rows! {
     b"{2,k}", OK, (31, 1, 4, 1);
     b"{1}", OK, (16, 2, 2, 2);
     b"{0}", OK, (16, 0, 1, 3);
@@ -272,16 +272,16 @@ static PLACES: [(&[u8], u32, (usize, usize, u8, u8)); 7] = rows! {
 };
 
 #[test]
-fn places(rt: HostRuntime) {
-    for (path, wanted, found) in &PLACES {
-        let mut place = Place {
+fn spans(rt: HostRuntime) {
+    for (path, wanted, found) in &SPANS {
+        let mut span = Span {
             at: 9,
             len: 9,
             kind: 9,
             entry: 9,
         };
-        let status = jdoc_find_by_keypath(rt.alloc(), MIXED, path, &mut place);
-        let is_so = status == *wanted && (place.at, place.len, place.kind, place.entry) == *found;
+        let status = jdoc_find_by_keypath(rt.alloc(), MIXED, path, &mut span);
+        let is_so = status == *wanted && (span.at, span.len, span.kind, span.entry) == *found;
         assert!(rt; is_so, "{path:?}");
     }
 }

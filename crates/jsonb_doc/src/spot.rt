@@ -68,7 +68,7 @@ impl Spot {
     ///
     /// # Examples
     ///
-    /// ```rust crates/jsonb_c/src/place.rt
+    /// ```rust crates/jsonb_c/src/span.rt
     /// entry: spot.entry_kind() as u8,
     /// ```
     #[inline(always)]
@@ -87,7 +87,7 @@ impl Spot {
     ///
     /// # Examples
     ///
-    /// ```rust crates/jsonb_c/src/place.rt
+    /// ```rust crates/jsonb_c/src/span.rt
     /// let range = spot.range();
     /// ```
     #[inline(always)]

@@ -76,61 +76,61 @@ extern "C" {
 }
 #[repr(C)]
 #[derive(Debug, Copy, Clone)]
-pub struct jdoc_place {
+pub struct jdoc_span {
     pub at: usize,
     pub len: usize,
     pub kind: u8,
     pub entry: u8,
 }
 #[test]
-fn bindgen_test_layout_jdoc_place() {
-    assert_eq!(::core::mem::size_of::<jdoc_place>(), 24usize, concat!("Size of: ", stringify!(jdoc_place)));
-    assert_eq!(::core::mem::align_of::<jdoc_place>(), 8usize, concat!("Alignment of ", stringify!(jdoc_place)));
+fn bindgen_test_layout_jdoc_span() {
+    assert_eq!(::core::mem::size_of::<jdoc_span>(), 24usize, concat!("Size of: ", stringify!(jdoc_span)));
+    assert_eq!(::core::mem::align_of::<jdoc_span>(), 8usize, concat!("Alignment of ", stringify!(jdoc_span)));
     fn test_field_at() {
         assert_eq!(
             unsafe {
-                let uninit = ::core::mem::MaybeUninit::<jdoc_place>::uninit();
+                let uninit = ::core::mem::MaybeUninit::<jdoc_span>::uninit();
                 let ptr = uninit.as_ptr();
                 ::core::ptr::addr_of!((*ptr).at) as usize - ptr as usize
             },
             0usize,
-            concat!("Offset of field: ", stringify!(jdoc_place), "::", stringify!(at))
+            concat!("Offset of field: ", stringify!(jdoc_span), "::", stringify!(at))
         );
     }
     test_field_at();
     fn test_field_len() {
         assert_eq!(
             unsafe {
-                let uninit = ::core::mem::MaybeUninit::<jdoc_place>::uninit();
+                let uninit = ::core::mem::MaybeUninit::<jdoc_span>::uninit();
                 let ptr = uninit.as_ptr();
                 ::core::ptr::addr_of!((*ptr).len) as usize - ptr as usize
             },
             8usize,
-            concat!("Offset of field: ", stringify!(jdoc_place), "::", stringify!(len))
+            concat!("Offset of field: ", stringify!(jdoc_span), "::", stringify!(len))
         );
     }
     test_field_len();
     fn test_field_kind() {
         assert_eq!(
             unsafe {
-                let uninit = ::core::mem::MaybeUninit::<jdoc_place>::uninit();
+                let uninit = ::core::mem::MaybeUninit::<jdoc_span>::uninit();
                 let ptr = uninit.as_ptr();
                 ::core::ptr::addr_of!((*ptr).kind) as usize - ptr as usize
             },
             16usize,
-            concat!("Offset of field: ", stringify!(jdoc_place), "::", stringify!(kind))
+            concat!("Offset of field: ", stringify!(jdoc_span), "::", stringify!(kind))
         );
     }
     test_field_kind();
     fn test_field_entry() {
         assert_eq!(
             unsafe {
-                let uninit = ::core::mem::MaybeUninit::<jdoc_place>::uninit();
+                let uninit = ::core::mem::MaybeUninit::<jdoc_span>::uninit();
                 let ptr = uninit.as_ptr();
                 ::core::ptr::addr_of!((*ptr).entry) as usize - ptr as usize
             },
             17usize,
-            concat!("Offset of field: ", stringify!(jdoc_place), "::", stringify!(entry))
+            concat!("Offset of field: ", stringify!(jdoc_span), "::", stringify!(entry))
         );
     }
     test_field_entry();
@@ -141,7 +141,7 @@ extern "C" {
         document_len: usize,
         path: *const core::ffi::c_char,
         path_len: usize,
-        place: *mut jdoc_place,
+        span: *mut jdoc_span,
     ) -> jdoc_status;
 }
 extern "C" {
@@ -1011,7 +1011,7 @@ extern "C" {
         path: *mut jdoc_keypath,
         document: *const u8,
         document_len: usize,
-        place: *mut jdoc_place,
+        span: *mut jdoc_span,
     ) -> jdoc_status;
 }
 extern "C" {

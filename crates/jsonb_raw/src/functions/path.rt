@@ -181,9 +181,9 @@ impl RawJsonb<'_> {
     ///
     /// # Examples
     ///
-    /// ```rust crates/jsonb_c/src/place.rt
+    /// ```rust crates/jsonb_c/src/span.rt
     /// let found = RawJsonb::new(document).spot_by_keypath(alloc, steps.paths.iter())?;
-    /// found_place(document, found)
+    /// found_span(document, found)
     /// ```
     pub fn spot_by_keypath<'k, I: Iterator<Item = &'k KeyPath<'k>> + Drop>(
         &self,

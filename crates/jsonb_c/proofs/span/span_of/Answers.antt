@@ -1,13 +1,13 @@
 use Rattle.std.proofs.Common.{◌≡◌, ◌+◌, arith, ap, ◌∙◌}
 use Rattle.jsonb_doc.specs.Kinds as doc
 use Rattle.jsonb_c.specs.Kinds.{kind_number}
-use Rattle.jsonb_c.proofs.place.place_of.Goals as goal
+use Rattle.jsonb_c.proofs.span.span_of.Goals as goal
 
-pub returns-in_err-item-clause-place : goal.returns-in_err-item-clause-place
-returns-in_err-item-clause-place c = λ form top t d l. absurd (c.in_err-item.ensures.in_form form top t d l)
+pub returns-in_err-item-clause-span : goal.returns-in_err-item-clause-span
+returns-in_err-item-clause-span c = λ form top t d l. absurd (c.in_err-item.ensures.in_form form top t d l)
 
-pub returns-clause-place : goal.returns-clause-place
-returns-clause-place c = λ form top t d l.
+pub returns-clause-span : goal.returns-clause-span
+returns-clause-span c = λ form top t d l.
     let whole : c.range-range.result.start + c.saturating_sub.result ≡ c.args.spot.end =
     omega (arith, c.range-range.ensures.start, c.range-range.ensures.end, c.saturating_sub.ensures, l.ordered) in
     let stands = c.in_ok-item.ensures.in_form form top t d l in
