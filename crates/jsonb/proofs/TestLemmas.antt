@@ -12,7 +12,7 @@ use Rattle.jsonb.specs.Compare.{Truth, compare}
 use Rattle.jsonb.specs.Meaning.{steps_meaning, truth, filtered, is_some_item}
 use Rattle.jsonb.specs.PathTree.{BinaryOp, and_op, or_op, eq, not_eq, lt, lte, gt, gte, starts_with_op, add, subtract, multiply, divide, modulo, current, Steps, step, Expression, paths, binary, steps_of}
 use Rattle.jsonb.specs.PathViews.{steps_view, operator_view, expression_view}
-use Rattle.jsonb.specs.Private.FilterCache.{is_comparison, is_condition, conditions}
+use Rattle.jsonb.specs.Private.FilterCache.{is_comparison, conditions}
 use Rattle.jsonb.specs.Private.Jumps.{Branch, branches_of, branches_of_whole, taken, next_jump, jump_truth, evaluated}
 use Rattle.jsonb.specs.Private.Selection.{option_spots, taken_step}
 use Rattle.jsonb.specs.Private.Pairs.{is_joined, joining_op, IsPairOf}

@@ -1,4 +1,4 @@
-use Rattle.std.proofs.Common.{◌≡◌, length, arith, [], ◌∷◌, ◌++◌, true, ap, sym, ◌∙◌, reverse}
+use Rattle.std.proofs.Common.{◌≡◌, length, arith, [], ◌∷◌, ◌++◌, ap, sym, ◌∙◌, reverse}
 use Rattle.jsonb.specs.PathViews.{expression_view}
 use Rattle.jsonb.specs.Private.Tests.{jump_to, pending}
 use Rattle.jsonb.proofs.TestLemmas.{none_waiting, as_many, left_waits, right_pushed, test_pushed, popped}

@@ -15,9 +15,8 @@ use Rattle.jsonb.specs.Private.Exists.{LeadsTo}
 use Rattle.jsonb.specs.Private.FilterCache.{conditions, is_condition, IsSame, AreKept}
 use Rattle.jsonb.specs.Private.Jumps.{branches_of_whole, evaluated, next_jump}
 use Rattle.jsonb.specs.Private.Tests.{IsQuestionOf, AreBranches, AreTestsOf, tests_conditions, compiled_conditions}
-use Rattle.jsonb.specs.declared.path.Expr.{size-Expr}
 use Rattle.jsonb.specs.Meaning.{step_meaning, steps_meaning, truth, operand_values, filtered, is_some_item}
-use Rattle.jsonb.proofs.RefinesLemmas.{same_outcome, same_answer, refused_as, one_ok, given_by, first_refused, first_of_three_refused, second_refused, followed, continued, some_related}
+use Rattle.jsonb.proofs.RefinesLemmas.{same_outcome, same_answer, refused_as, one_ok, given_by, first_refused, second_refused, followed, continued, some_related}
 use Rattle.jsonb.proofs.Progress.{no_spot, at_start, one_more, refused_in, at_end, list_first, list_end, joined_singles}
 use Rattle.jsonb.proofs.PathNodes.{root_is, current_is, paths_is, binary_is, exists_is}
 use Rattle.jsonb.proofs.KeptLemmas.{comparison_is, by_right, value_of, one_comparison, one_exists, kept_same, from_ok, without, always, known, value_is, compared}
