@@ -191,6 +191,17 @@ pairs_added form runs runs' pairs xs ys keys_is values_is h g = record {
   parts = rw (all_values xs ys) (rw values_is (run_after form runs.values.items pairs.values (values_of xs) (values_of ys) h.parts g.parts));
 }
 
+-- members whose keys have no words are none
+pub pairs_none_added : (form : Form) (runs : PairRuns) (pairs : PairEntries) (xs ys : List Member) → length pairs.keys.words.now ≡ 0 → PairsHeld form runs xs
+    → HoldPairs form pairs ys → PairsHeld form runs (xs ++ ys)
+pairs_none_added form runs pairs xs ys none h g =
+    subst (PairsHeld form runs) (sym (append-nil xs) ∙ ap (λ (l : List Member). xs ++ l) (sym (no_pairs_here ys g.names.entries))) h
+  where
+    no_pairs_here : (ys : List Member)
+        → AreEntries (number_reader form) (trees_of (map text (keys_of ys))) pairs.keys.words.now pairs.keys.contents.now → ys ≡ []
+    no_pairs_here [] are = refl
+    no_pairs_here (y ∷ ys) are = absurd (omega (arith, none, ap length are.begin.words_joined))
+
 -- a run of members begins after the runs
 pub pairs_begun : (form : Form) (runs : PairRuns) (pairs : PairEntries) (xs ys : List Member) → PairsHeld form runs xs → HoldPairs form pairs ys
     → PairsOpen form runs pairs pairs xs ys

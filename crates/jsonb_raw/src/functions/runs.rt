@@ -217,13 +217,16 @@ impl<'a> PairRuns<'a> {
         Ok(())
     }
 
-    /// Appends members.
+    /// Appends members, if there are any.
     pub fn push(&mut self, pairs: PairEntries<'a>) -> Result<(), Error>
         ensures pushed { (form : Form) (xs ys : List (List ℕ × Tree)) → PairsHeld form self.old xs
             → HoldPairs form pairs.entry ys
             → MatchResult result (λ _. PairsHeld form self.new (xs ++ ys)) IsOutOfMemory }
         ensures errors { IfErr result (IsDecodingError or OutOfMemory) }
     {
+        if pairs.keys.words.is_empty() {
+            return Ok(());
+        }
         self.keys.push(pairs.keys)?;
         self.values.push(pairs.values)?;
         Ok(())

@@ -211,8 +211,8 @@ fn counts_before(alloc: Global, kind: SetOperation, others: &[u8]) -> Result<Key
     }
 }
 
-/// Returns the array of the elements of a document that are kept, compared with those of another one. A root that is not an
-/// array counts as one element.
+/// Returns the array of the elements of a document that are kept, compared with those of another one. A root that is
+/// not an array counts as one element.
 fn kept_beside(
     alloc: Global,
     kind: SetOperation,

@@ -1,7 +1,6 @@
-use Rattle.std.proofs.Common.{◌≡◌, true, false, None, sym, ap, ◌∙◌, refl}
+use Rattle.std.proofs.Common.{◌≡◌, true, sym, ap, ◌∙◌}
 use Rattle.jsonb_doc.specs.Format.{Decodes}
 use Rattle.jsonb_raw.specs.Children.{named_child}
-use Rattle.jsonb_raw.proofs.ChildAnswers.{no_member}
 use Rattle.jsonb_raw.proofs.raw.RawJsonb.get_by_name.Goals as goal
 
 pub returns-then-ignore_case-clause-value : goal.returns-then-ignore_case-clause-value
