@@ -1,9 +1,11 @@
 #!/usr/bin/env python3
 """Finds a witness of each mutant: a test that passes, and fails with the mutant.
 
-  witness.py            compares the mutants with tools/witnesses.toml; the last line is 'N passed, M failed'
-  witness.py --run      the same, and runs the test that the file gives for each mutant, which must fail
-  witness.py --write    runs all tests with the mutants that have none, and writes those that fail to the file
+  witness.py                     compares the mutants with tools/witnesses.toml; the last line is 'N passed, M failed'
+  witness.py --run [NAME..]      the same, and runs the test that the file gives for each mutant, which must fail
+  witness.py --write [NAME..]    runs all tests with the mutants that have none, and writes those that fail to the file
+
+NAME.. are the crates whose tests are run.
 
 The expected results of tests come from docs/, and the body that a mutant replaces is proved and passes them. So a mutant with which a
 test fails returns another result: if the contract determines the result, no proof of the mutant exists. tools/witnesses.toml gives the
@@ -41,10 +43,8 @@ NO_REASON = "no reason yet"
 SHOWN = 90
 # A test has this many seconds for all mutants that it reaches.
 SECONDS = 900
-# Tests of deep documents and expressions, which take long with each mutant, are not run with all.
-SLOW = re.compile(r"^( *)#\[test\]\n(?= *fn \w*(?:deep_|deeper_|any_depth))", re.M)
-# How a child ends that has no more time: SIGKILL, SIGXCPU.
-OUT_OF_TIME = (9, 24)
+# Tests of deep documents and expressions, of each call on each damaged document, and of a long array: they take long with each mutant.
+SLOW = re.compile(r"^( *)#\[test\]\n(?= *fn (?:\w*(?:deep_|deeper_|any_depth)|all_calls_return_|leaves_of_a_long_array_))", re.M)
 
 
 @dataclass(frozen=True)
@@ -177,9 +177,7 @@ def assertion_of(said):
 def witness_in(crate, text):
     """Returns the witness that the note of a failed child is."""
     said, status, test = re.fullmatch(r"(.*)\nstatus (\d+): (\S+)", text, re.S).groups()
-    signal = int(status) & 0x7F
-    how = "does not end" if signal in OUT_OF_TIME else assertion_of(said) or f"status {status}"
-    return f"{crate} {test}: {how}"
+    return f"{crate} {test}: {assertion_of(said) or f'status {status}'}"
 
 
 def crate_and_test(witness):
@@ -187,27 +185,25 @@ def crate_and_test(witness):
     return witness.partition(": ")[0].split(" ")
 
 
-def run_all(found, given, room, in_all):
-    """Runs the tests with each mutant that has one, and returns the witnesses by mutant. If `in_all`, runs the others in all tests.
+def run_all(found, given, room, crates, in_all):
+    """Runs the tests of crates with each mutant, and returns the witnesses by mutant. `given` has the known ones.
 
-    `given` has the known witnesses. Then the crates are run one after the other, so that a witness is in the lowest of them.
+    A mutant that has one is run in that test alone; the others are run in all tests, if `in_all`. Then the crates are run one after
+    the other, so that a witness is in the first of them.
     """
     top, rejected = room / "repository", room / "rejected"
     rejected.mkdir()
     copy_crates(top, not in_all)
     numbered, alone = add_mutants([it for it in found if in_all or it in given], top)
     add_switch(top, rejected, [crate_and_test(given[it])[1] if it in given else None for it in numbered.values()])
-    crates = [it for it in check_counts.crate_names() if tests_of(it)]
-    if not in_all:
-        crates = [it for it in crates if any(crate_and_test(given[mutant])[0] == it for mutant in numbered.values())]
     witnesses = {}
     with ThreadPoolExecutor(1 if in_all else lanes.lanes_here()) as pool:
         for crate, (has_passed, said) in zip(crates, pool.map(lambda it: run_tests(it, top), crates)):
             if not has_passed:
                 edits.stop(f"{crate}: its tests do not pass in the copy, without a mutant:\n{said[-3000:]}")
             witnesses |= {it: witness_in(crate, note) for it, note in notes_of(rejected, numbered).items() if it not in witnesses}
-            print(f"{crate}: {len(witnesses)} of {len(numbered)} mutants have failed a test", flush=True)
-    return witnesses | {it: named for it in alone if (named := run_alone(it, room))}
+            print(f"{crate}: {len(witnesses)} mutants have failed a test", flush=True)
+    return witnesses | {it: named for it in alone if it.crate in crates and (named := run_alone(it, room))}
 
 
 def notes_of(rejected, numbered):
@@ -293,16 +289,25 @@ def known_witnesses(found):
     return {it: named[it.crate][it.words] for it in found if it.words in named.get(it.crate, {})}
 
 
-def run(found, in_all):
+def run(found, names, in_all):
+    """Runs the tests of these crates, or of all that are needed, and returns their witnesses, and the known ones that were not found."""
+    given = known_witnesses(found)
+    crates = [it for it in check_counts.crate_names() if tests_of(it) and (not names or it in names)]
+    if not in_all:
+        crates = [it for it in crates if any(crate_and_test(witness)[0] == it for witness in given.values())]
     with tempfile.TemporaryDirectory(prefix="witness-") as room:
         os.chmod(room, 0o755)
-        return run_all(found, known_witnesses(found), Path(room), in_all)
+        witnesses = run_all(found, given, Path(room), crates, in_all)
+    tried = [it for it, witness in given.items() if crate_and_test(witness)[0] in crates]
+    kept = {it: witness for it, witness in given.items() if it not in tried}
+    return kept | witnesses, {it: given[it] for it in tried if it not in witnesses}
 
 
 def words():
     asked = argparse.ArgumentParser(description=__doc__, formatter_class=argparse.RawDescriptionHelpFormatter)
     asked.add_argument("--run", action="store_true")
     asked.add_argument("--write", action="store_true")
+    asked.add_argument("names", nargs="*", metavar="NAME")
     return asked.parse_args()
 
 
@@ -311,12 +316,12 @@ def main():
     os.chdir(TOP)
     found = mutants(TOP)
     if asked.write:
-        write(found, run(found, True))
+        write(found, run(found, asked.names, True)[0])
         return 0
     wrong = [*faults(found)]
     if asked.run:
-        witnesses = run(found, False)
-        wrong += ["" if it in witnesses else f"{it}: {given} does not fail with it" for it, given in known_witnesses(found).items()]
+        witnesses, lost = run(found, asked.names, False)
+        wrong += [f"{it}: {lost[it]} does not fail with it" if it in lost else "" for it in {**witnesses, **lost}]
     for it in filter(None, wrong):
         print(it)
     failed = sum(map(bool, wrong))

@@ -1,6 +1,7 @@
 /* The switch of tools/witness.py. When a test enters a function that has a mutant, its process forks: the child goes on with the mutant, the
  * parent waits for it, notes whether it failed, and goes on without. A mutant that a test rejected is not tried again. */
 #include <fcntl.h>
+#include <signal.h>
 #include <stdint.h>
 #include <stdio.h>
 #include <stdlib.h>
@@ -72,6 +73,12 @@ static void note_end(const char *file, int status) {
     fclose(to);
 }
 
+/* Whether a child failed. One that has no more time says nothing: the test may take long by itself. */
+static int has_failed(int status) {
+    int signal = WIFSIGNALED(status) ? WTERMSIG(status) : 0;
+    return status && signal != SIGXCPU && signal != SIGKILL;
+}
+
 /* Returns 1 in a child that runs the mutant, and 0 in the parent once that has ended. */
 static uint32_t fork_for(uint32_t number, const char *file) {
     char unfinished[sizeof REJECTED + 32];
@@ -84,9 +91,9 @@ static uint32_t fork_for(uint32_t number, const char *file) {
     }
     if (child < 0 || waitpid(child, &status, 0) != child)
         abort();
-    if (status)
+    if (has_failed(status))
         note_end(unfinished, status);
-    if (status ? rename(unfinished, file) : unlink(unfinished))
+    if (has_failed(status) ? rename(unfinished, file) : unlink(unfinished))
         abort();
     return 0;
 }
