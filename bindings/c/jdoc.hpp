@@ -66,7 +66,7 @@ class column {
         bytes_.insert(bytes_.end(), row.data(), row.data() + row.size());
         offsets_.push_back(bytes_.size());
     }
-    std::size_t size() const noexcept { return offsets_.size() - 1; }
+    std::size_t size() const noexcept { return offsets_.empty() ? 0 : offsets_.size() - 1; }
     view operator[](std::size_t row) const noexcept {
         return view(bytes_.data() + offsets_[row], offsets_[row + 1] - offsets_[row]);
     }

@@ -155,6 +155,8 @@ void parts() {
     const jdoc::result<std::pair<jdoc::column, jdoc::column>> leaves = jdoc::leaves(mixed);
     EXPECT(leaves && leaves->first.size() == 3 && leaves->second.size() == 3);
     EXPECT(leaves && string_of(leaves->first[2]) == "{2,k}" && document_of(leaves->second[2]) == v);
+    EXPECT(jdoc::leaves(one)->first.size() == 0 && jdoc::column({}, {}).size() == 0);
+    EXPECT(jdoc::leaves(view_of("?")).error() == JDOC_INVALID_JSONB);
     const jdoc::decimal price{0, 1234, 2};
     EXPECT(is(jdoc::from_decimal(price), hex("200000002000000a7000000000000004d202")));
     EXPECT(is_some(jdoc::as_decimal(hex("200000002000000a7000000000000004d202")), price));
