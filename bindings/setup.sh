@@ -15,7 +15,8 @@ packages=(
     mypy python3-mypy
     python3-distributed                                       # its example of a cluster
     bindgen                                                   # the declarations of bindings/rust
-    jq python3-ujson libbenchmark-dev                         # measurements
+    jq python3-ujson libbenchmark-dev libyajl-dev             # measurements
+    rapidjson-dev
 )
 
 missing=()

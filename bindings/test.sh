@@ -71,6 +71,11 @@ count "JSON text: library and tests, without a warning" make -s -j2 -C text OUT=
 python3 text/tests/rows.py >"$room/text_rows" || failed=$((failed + 1))
 count "JSON text" "$room/text/text" "$room/text_rows"
 count "JSON text, sanitized" "$room/text/text_sanitized" "$room/text_rows" 20000
+if echo -e '#include <yajl/yajl_parse.h>\n#include <rapidjson/reader.h>' | "${CXX:-c++}" -x c++ -E - >/dev/null 2>&1; then
+    count "JSON text, beside yajl and RapidJSON" python3 -B bench/readers.py "$out" "$room/text" --check
+else
+    echo "skipped: JSON text beside other readers: there is no c++, yajl or RapidJSON"
+fi
 count "SQLite" sqlite/test.sh "$out" "$room/sqlite"
 count "PostgreSQL" postgres/test.sh "$out" "$room/postgres"
 server="$PWD/postgres/test.sh" # starts a server, for a command that starts the other one

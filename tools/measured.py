@@ -32,6 +32,7 @@ COLUMNS = {
     "python": ["call", "us"],
     "jq": ["jdoc", "jq", "jdoc_seconds", "jq_seconds"],
     "dask": ["workers", "counts", "rows_back", "sorted", "groups"],
+    "readers": ["reader", "instructions_298", "instructions_4900"],
 }
 
 # The classes of the cases of speed.csv.

@@ -1,8 +1,8 @@
 #!/usr/bin/env python3
 """Measures the bindings: writes docs/measured/ and the tables of README.md, docs/C.md and docs/SQL.md.
 
-  measure.py [NAME ..]         c, sqlite, postgres, python, jq, dask; all if there is no name
-  measure.py --instructions    only the instructions of c and sqlite, which hardly depend on what else the machine does
+  measure.py [NAME ..]         c, sqlite, postgres, python, jq, dask, readers; all if there is no name
+  measure.py --instructions    only the instructions of c, sqlite and readers, which hardly depend on what else the machine does
 
 Needs crates/jsonb_c/out/libjsonb_c.a (`rt lib` in crates/jsonb_c) and the packages of bindings/setup.sh. Builds the rest. Times are
 of processors, and need an idle machine all the same.
@@ -78,7 +78,12 @@ def dask():
     measured.save("dask", rows.values())
 
 
-MEASURES = {it.__name__: it for it in (c, sqlite, postgres, python, jq, dask)}
+def readers():
+    run("make", "-s", "-C", os.path.join(BINDINGS, "text"))
+    script("readers.py", LIBRARY, os.path.join(BINDINGS, "text", "out"), "--write")
+
+
+MEASURES = {it.__name__: it for it in (c, sqlite, postgres, python, jq, dask, readers)}
 
 
 def main():
@@ -93,6 +98,7 @@ def main():
     if asked.instructions:
         c("--instructions")
         sqlite()
+        readers()
         return
     for name in asked.names or MEASURES:
         MEASURES[name]()
