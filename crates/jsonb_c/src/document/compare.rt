@@ -37,9 +37,18 @@ fn compare(document: &[u8], other: &[u8]) -> Result<i32, Error>
         (λ form t u said. IsOkAnd said (λ z. z ≡ order_number (tree_cmp t u))) result }
     ensures errors { IfErr result IsDecodingError }
 {
-    match RawJsonb::new(document).compare(&RawJsonb::new(other))? {
+    match order_of(document, other)? {
         Ordering::Less => Ok(-1),
         Ordering::Equal => Ok(0),
         Ordering::Greater => Ok(1),
     }
+}
+
+fn order_of(document: &[u8], other: &[u8]) -> Result<Ordering, Error>
+    ensures order { OfBoth document.now other.now (λ form t u said. IsOkAnd said (λ o. o ≡ tree_cmp t u)) result }
+    ensures errors { IfErr result IsDecodingError }
+{
+    let document = RawJsonb::new(document);
+    let other = RawJsonb::new(other);
+    document.compare(&other)
 }
