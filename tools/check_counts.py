@@ -161,6 +161,8 @@ def numbers_of_bindings():
 
 def numbers_of_tools():
     yield "edits that test the judge", len(tomllib.loads((ROOT / "tools/judged.toml").read_text())["edit"])
+    witnesses = tomllib.loads((ROOT / "tools/witnesses.toml").read_text())["witness"]
+    yield from ((f"witnesses of {crate}", len(named)) for crate, named in witnesses.items())
     runs = [it for shape in measure_stack.SHAPES for it in measure_stack.document_runs(shape)]
     yield "runs in a small stack", len([*runs, *measure_stack.path_runs()])
     yield "comparisons of the fuzzer", len(re.findall(r"\.(?:compare|makes|truth|value|bytes)\(", text_of(ROOT / "tools/fuzz.py")))
