@@ -28,7 +28,7 @@ COLUMNS = {
     "stack_more": ["call", "shape", "kib_10000", "kib_100000"],
     "c": ["call", "one_instructions", "prepared_instructions", "column_instructions", "one_ns", "prepared_ns", "column_ns"],
     "sqlite": ["query", "jdoc_298", "sqlite_298", "jdoc_4900", "sqlite_4900"],
-    "postgres": ["query", "jdoc_us", "jsonb_us"],
+    "postgres": ["query", "jdoc_us", "jsonb_us", "jdoc_instructions", "jsonb_instructions"],
     "python": ["call", "us"],
     "jq": ["jdoc", "jq", "jdoc_seconds", "jq_seconds"],
     "dask": ["workers", "counts", "rows_back", "sorted", "groups"],
@@ -244,8 +244,11 @@ def sqlite():
 
 def postgres():
     rows = by("postgres", "query")
-    cells = [[row["query"], row["jdoc_us"], row["jsonb_us"], quotient(row["jdoc_us"], row["jsonb_us"])] for row in map(rows.get, POSTGRES_QUERIES)]
-    return table(["PostgreSQL 15.20", "jdoc", "jsonb", "Ratio"], cells)
+    cells = []
+    for row in map(rows.get, POSTGRES_QUERIES):
+        both = [row["jdoc_instructions"], row["jsonb_instructions"]]
+        cells.append([row["query"], ", ".join(f"{int(it):,}" for it in both), quotient(*both), quotient(row["jdoc_us"], row["jsonb_us"])])
+    return table(["PostgreSQL 15.20", "jdoc, jsonb", "Ratio", "Ratio of time"], cells)
 
 
 def python():

@@ -1,14 +1,17 @@
 #!/usr/bin/env python3
-"""Compares the PostgreSQL extension with jsonb: microseconds of processor time of the server per row, the best of some rounds, in turn.
+"""Compares the PostgreSQL extension with jsonb: of the server, per row, microseconds of processor time, the best of some rounds in turn,
+and instructions, counted by callgrind, which a busy machine hardly changes.
 
   postgres.py ROWS small|large [ROUNDS]     prints the figures
-  postgres.py --write                       writes docs/measured/postgres.csv and the tables of pages: 20,000 small rows, 3 rounds
+  postgres.py --write                       writes docs/measured/postgres.csv and the tables of pages: 20,000 small rows, 5 rounds
 
-PGHOST, PGUSER and PGDATABASE name the server; `bindings/postgres/test.sh LIB OUT COMMAND ..` starts one for a command. The role must
-be allowed to read /proc/self/schedstat. JIT and parallel queries are off.
+PGHOST, PGUSER, PGDATABASE, PGDATA and PGBIN (the folder of its programs) name a server that is stopped for the instructions;
+`bindings/postgres/test.sh LIB OUT COMMAND ..` starts one for a command. The role must be allowed to read /proc/self/schedstat. JIT and
+parallel queries are off, and queries that change nothing are run once before.
 """
 
 import os
+import random
 import re
 import subprocess
 import sys
@@ -18,7 +21,8 @@ import documents
 sys.path.append(os.path.join(os.path.dirname(os.path.abspath(__file__)), "..", "..", "tools"))
 import measured
 
-WRITTEN = 20_000, "small", 3
+WRITTEN = 20_000, "small", 5
+KINDS = "jdoc", "jsonb"
 HOME = '$.phones[*] ? (@.type == "home" && @.number > 5000000)'
 # A title, and a query over the tables jdocs and jsonbs, whose names stand for {0}, and their types for {1}.
 QUERIES = [
@@ -43,7 +47,7 @@ QUERIES = [
     ("build a GIN index", "CREATE INDEX {0}_gin ON {0} USING gin (d)"),
     ("`@>` by the GIN index", "SELECT count(*) FROM {0} WHERE d @> '{{\"age\":33,\"tags\":[\"vip\"]}}'"),
 ]
-SETTINGS = "SET client_min_messages = warning; SET max_parallel_workers_per_gather = 0; SET jit = off;"
+SETTINGS = "SET client_min_messages = warning; SET max_parallel_workers_per_gather = 0; SET jit = off; LOAD 'jdoc';"
 CLOCK = "SELECT 'cpu ' || split_part(pg_read_file('/proc/self/schedstat'), ' ', 1);"
 
 
@@ -57,47 +61,104 @@ def psql(text):
 def load(rows, size):
     psql("DROP TABLE IF EXISTS texts, jdocs, jsonbs; CREATE EXTENSION IF NOT EXISTS jdoc; CREATE UNLOGGED TABLE texts (t text);"
          "CREATE UNLOGGED TABLE jdocs (d jdoc); CREATE UNLOGGED TABLE jsonbs (d jsonb);")
-    lines = "\n".join(it.replace("\\", "\\\\") for it in documents.people(rows, size))
-    psql(f"COPY texts FROM STDIN;\n{lines}\n\\.\n")
+    lines = [it.replace("\\", "\\\\") for it in documents.people(rows, size)]
+    random.Random(7).shuffle(lines)  # jsonb would find the documents sorted, since it compares the key `id` first
+    psql("COPY texts FROM STDIN;\n" + "\n".join(lines) + "\n\\.\n")
+
+
+def settings(title):
+    plans = "SET enable_indexscan = off; SET enable_bitmapscan = off;" if "index" not in title else ""
+    return SETTINGS + plans + ("SET enable_sort = off;" if "hash" in title else "")
 
 
 def nanoseconds(title, sql, table):
-    """The processor time of a statement, and what it returns."""
-    before = f"TRUNCATE {table};" if sql.startswith("INSERT") else ""
+    """The processor time of a statement, and what it returns. The server's clock is coarse, so that a short one is run a hundred times."""
+    runs = 100 if "by the" in title else 1
+    before = f"{sql};"
+    if sql.startswith("INSERT"):
+        before = f"TRUNCATE {table};"
     if sql.startswith("CREATE INDEX"):
         before = f"DROP INDEX IF EXISTS {sql.split()[2]};"
-    if "index" not in title:
-        before += "SET enable_indexscan = off; SET enable_bitmapscan = off;"
-    if "hash" in title:
-        before += "SET enable_sort = off;"
-    said = psql(f"{SETTINGS} {before}\n{CLOCK}\n{CLOCK}\n{sql};\n{CLOCK}\n")
+    said = psql(f"{settings(title)} {before}\n{CLOCK}\n{CLOCK}\n" + f"{sql};\n" * runs + CLOCK)
     if sql.startswith(("INSERT", "CREATE")):
         psql(f"VACUUM ANALYZE {table}")
     first, second, third = (int(it) for it in re.findall(r"cpu (\d+)", said))
-    return third - second - (second - first), re.sub(r"cpu \d+\n?", "", said).strip()
+    return (third - second - (second - first)) / runs, said.rsplit("cpu", 2)[1].split("\n", 1)[1]
+
+
+def times(rows, rounds):
+    """The microseconds per row of each query, by its title."""
+    for title, query in QUERIES:
+        best, found = {}, {}
+        for _ in range(rounds):
+            for kind in KINDS:
+                took, found[kind] = nanoseconds(title, query.format(f"{kind}s", kind), f"{kind}s")
+                best[kind] = min(best.get(kind, took), took)
+        if found["jdoc"] != found["jsonb"]:
+            raise SystemExit(f"different results: {title}: {found}")
+        yield {f"{kind}_us": f"{best[kind] / rows / 1e3:.2f}" for kind in KINDS}
+
+
+def as_server(*words):
+    """Words of a command for the user that owns the server's files, which may not be root."""
+    return [*([] if os.getuid() else ["runuser", "-u", os.environ["PGUSER"], "--"]), *words]
+
+
+def lines_of(title, sql, table):
+    """The statements for a query that leaves no trace."""
+    before = []
+    if sql.startswith("INSERT"):
+        before = [f"DROP INDEX {table}_age, {table}_gin", f"TRUNCATE {table}"]
+    if sql.startswith("CREATE INDEX"):
+        before = [f"DROP INDEX {sql.split()[2]}"]
+    return ["RESET ALL", *filter(None, re.split("; *", settings(title))), "BEGIN", *before, sql, "ROLLBACK"]
+
+
+def instructions(lines):
+    """Of each statement, in a server without clients."""
+    out = os.path.join(os.environ["PGDATA"], "callgrind")
+    valgrind = ["valgrind", "--tool=callgrind", "--dump-after=PortalRun", f"--callgrind-out-file={out}"]
+    server = [os.path.join(os.environ["PGBIN"], "postgres"), "--single", "-D", os.environ["PGDATA"], os.environ["PGDATABASE"]]
+    said = subprocess.run(as_server(*valgrind, *server), check=True, input=";\n".join(lines) + ";\n", stdout=subprocess.PIPE,
+                          stderr=subprocess.STDOUT, text=True, cwd="/")
+    if "ERROR" in said.stdout:
+        raise SystemExit(said.stdout)
+    for number in range(1, len(lines) + 1):
+        with open(f"{out}.{number}") as dump:
+            yield int(re.search(r"^totals: (\d+)", dump.read(), re.M)[1])
+        os.remove(dump.name)
+
+
+def counts(rows):
+    """The instructions per row of each query when it is run for the second time."""
+    subprocess.run(as_server(os.path.join(os.environ["PGBIN"], "pg_ctl"), "-w", "stop"), check=True, stdout=subprocess.DEVNULL)
+    found = [{} for _ in QUERIES]
+    for kind in KINDS:
+        lines = [2 * lines_of(title, query.format(f"{kind}s", kind), f"{kind}s") for title, query in QUERIES]
+        of_lines = instructions(sum(lines, []))
+        for it, of_query in zip(found, lines):
+            it[f"{kind}_instructions"] = f"{[next(of_lines) for _ in of_query][-2] / rows:.0f}"
+    return found
+
+
+def sizes(rows):
+    for kind in KINDS:
+        table, average = psql(f"SELECT pg_table_size('{kind}s') / {rows}, (SELECT avg(pg_column_size(d))::int FROM {kind}s)").strip().split("|")
+        print(f"{kind}: {table} bytes per row of the table, {average} of a document")
 
 
 def compare(rows, size, rounds):
     """A row for each query."""
     load(rows, size)
-    for title, query in QUERIES:
-        best, found = {}, {}
-        for _ in range(rounds):
-            for kind in ("jdoc", "jsonb"):
-                took, found[kind] = nanoseconds(title, query.format(f"{kind}s", kind), f"{kind}s")
-                best[kind] = min(best.get(kind, took), took)
-        if found["jdoc"] != found["jsonb"]:
-            raise SystemExit(f"different results: {title}: {found}")
-        yield {"query": title, **{f"{kind}_us": f"{best[kind] / rows / 1e3:.2f}" for kind in ("jdoc", "jsonb")}}
+    timed = list(times(rows, rounds))
+    sizes(rows)
+    return [{"query": title, **us, **counted} for (title, _), us, counted in zip(QUERIES, timed, counts(rows))]
 
 
 def main():
     is_written = sys.argv[1:] == ["--write"]
     asked = WRITTEN if is_written else (int(sys.argv[1]), sys.argv[2], int(sys.argv[3]) if len(sys.argv) > 3 else 3)
     measured.report("postgres", compare(*asked), is_written)
-    for kind in ("jdoc", "jsonb"):
-        table, average = psql(f"SELECT pg_table_size('{kind}s') / {asked[0]}, (SELECT avg(pg_column_size(d))::int FROM {kind}s)").strip().split("|")
-        print(f"{kind}: {table} bytes per row of the table, {average} of a document")
 
 
 if __name__ == "__main__":
