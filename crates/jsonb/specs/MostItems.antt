@@ -60,7 +60,7 @@ most_pairs size a b l = min
 abbrev pub most_compared : DocumentSize → BinaryOp → Expression → Expression → ListBound → ℕ
 most_compared size and_op a b l = 0
 most_compared size or_op a b l = 0
-most_compared size op a b l = most_values size a l + most_values size b l + most_pairs size a b l
+most_compared size op a b l = most_values size a l + (most_values size b l + most_pairs size a b l)
 
 abbrev mutual
   -- The items that a step lists, and what its filter takes.

@@ -2,9 +2,9 @@
 
 ghost use Rattle.std.specs.Prelude.{◌≡◌, length, map, IfOk, IfErr};
 ghost use Rattle.jsonb_doc.specs.Answer.{IsOutOfMemory};
-ghost use Rattle.jsonb.specs.MostItems.{capped, root_list, is_single, all_single, after, after_steps, start_list, most_values, most_pairs, most_compared, most_items, picked_list};
+ghost use Rattle.jsonb.specs.MostItems.{root_list, is_single, all_single, after, after_steps, start_list, most_values, most_pairs, most_items, picked_list};
 ghost use Rattle.jsonb.specs.PathTree.{steps_of};
-ghost use Rattle.jsonb.specs.PathViews.{entry_view, step_view, steps_view, expression_view, operator_view};
+ghost use Rattle.jsonb.specs.PathViews.{entry_view, step_view, steps_view, expression_view};
 
 use super::filter_cache::is_relative;
 use crate::path::{ArrayIndex, BinaryOperator, Expr, Path};
@@ -83,15 +83,15 @@ pub(crate) fn most_items(
     while let Some(next) = count.waiting.pop() {
         count.add_expression(size, next)?;
     }
-    Ok(count.items)
+    Ok(count.items())
 }
 
 impl<'s, 'p> Count<'s, 'p> {
     ghost use Rattle.std.specs.Prelude.{◌≡◌, ◌+◌, ◌<◌, ◌≤◌, IfOk, IfErr};
     ghost use Rattle.jsonb_doc.specs.Answer.{IsOutOfMemory};
-    ghost use Rattle.jsonb.specs.MostItems.{after, step_items, steps_items, expression_items};
+    ghost use Rattle.jsonb.specs.MostItems.{capped, after, step_items, steps_items, expression_items, most_compared};
     ghost use Rattle.jsonb.specs.PathTree.{steps_of};
-    ghost use Rattle.jsonb.specs.PathViews.{step_view, steps_view, expression_view};
+    ghost use Rattle.jsonb.specs.PathViews.{step_view, steps_view, expression_view, operator_view};
     ghost use Rattle.jsonb.specs.Private.Counted.{waiting_items, waiting_parts, Grows};
     ghost use Rattle.jsonb.specs.Private.Parts.{step_parts, steps_parts, parts};
     ghost use Rattle.jsonb.specs.declared.selector.most_items.DocumentSize.{DocumentSize};
@@ -182,19 +182,62 @@ impl<'s, 'p> Count<'s, 'p> {
         let list = next.list;
         match next.expression {
             Expr::Paths(steps) | Expr::ExistsFunc(steps) => {
-                self.add_steps(size, steps, start_list(size, steps, list))
+                self.add_steps(size, steps, start_list(size, steps, list))?;
             }
-            Expr::Value(_) => Ok(()),
+            Expr::Value(_) => {}
             Expr::UnaryOp { operand, .. } => {
                 self.add(most_values(size, operand, list));
-                self.wait(operand, list)
+                self.wait(operand, list)?;
             }
             Expr::BinaryOp { op, left, right } => {
-                self.add(most_compared(size, *op, left, right, list));
+                self.add_operator(size, *op, left, right, list);
                 self.wait(left, list)?;
-                self.wait(right, list)
+                self.wait(right, list)?;
             }
         }
+        Ok(())
+    }
+
+    /// Adds the values that an operator takes, and their pairs.
+    #[tactic(auto, using(crate::proofs::CountLemmas::grows_then))]
+    fn add_operator(
+        &mut self,
+        size: DocumentSize,
+        op: BinaryOperator,
+        left: &Expr<'_>,
+        right: &Expr<'_>,
+        list: ListBound,
+    )
+        ensures grows { Grows size self.old self.new (most_compared size (operator_view op) (expression_view left.now)
+            (expression_view right.now) list) }
+        ensures parts { waiting_parts self.new ≡ waiting_parts self.old }
+    {
+        match op {
+            BinaryOperator::And | BinaryOperator::Or => {}
+            BinaryOperator::Eq
+            | BinaryOperator::NotEq
+            | BinaryOperator::Lt
+            | BinaryOperator::Lte
+            | BinaryOperator::Gt
+            | BinaryOperator::Gte
+            | BinaryOperator::StartsWith
+            | BinaryOperator::Add
+            | BinaryOperator::Subtract
+            | BinaryOperator::Multiply
+            | BinaryOperator::Divide
+            | BinaryOperator::Modulo => {
+                self.add(most_values(size, left, list));
+                self.add(most_values(size, right, list));
+                self.add(most_pairs(size, left, right, list));
+            }
+        }
+    }
+
+    /// Returns the number of items that are counted.
+    fn items(&self) -> u64
+        ensures { result ≡ capped self.now.items }
+    {
+        self.items
     }
 }
 
@@ -312,37 +355,4 @@ fn most_pairs(size: DocumentSize, left: &Expr<'_>, right: &Expr<'_>, list: ListB
     let by_left = most_values(size, left, list).saturating_mul(most_values(size, right, one));
     let by_right = most_values(size, left, one).saturating_mul(most_values(size, right, list));
     by_left.min(by_right)
-}
-
-/// Returns the number of values that an operator takes, and of their pairs.
-fn most_compared(
-    size: DocumentSize,
-    op: BinaryOperator,
-    left: &Expr<'_>,
-    right: &Expr<'_>,
-    list: ListBound,
-) -> u64
-    ensures { result ≡ capped (most_compared size (operator_view op) (expression_view left.now)
-        (expression_view right.now) list) }
-{
-    match op {
-        BinaryOperator::And | BinaryOperator::Or => 0,
-        BinaryOperator::Eq
-        | BinaryOperator::NotEq
-        | BinaryOperator::Lt
-        | BinaryOperator::Lte
-        | BinaryOperator::Gt
-        | BinaryOperator::Gte
-        | BinaryOperator::StartsWith
-        | BinaryOperator::Add
-        | BinaryOperator::Subtract
-        | BinaryOperator::Multiply
-        | BinaryOperator::Divide
-        | BinaryOperator::Modulo => {
-            let values = most_values(size, left, list).saturating_add(most_values(
-                size, right, list,
-            ));
-            values.saturating_add(most_pairs(size, left, right, list))
-        }
-    }
 }

@@ -1,0 +1,11 @@
+use Rattle.std.proofs.Common.{ap, arith}
+use Rattle.std.specs.List.{sum_by}
+use Rattle.jsonb.specs.Private.Counted.{waiting_items}
+use Rattle.jsonb.proofs.TestLemmas.{none_waiting}
+use Rattle.jsonb.proofs.selector.most_items.most_items.Goals as goal
+
+pub returns-clause-bound : goal.returns-clause-bound
+returns-clause-bound c =
+    let empty = none_waiting c.loop-next.count.waiting.items (omega (arith, c.in_default.ensures.cases.0, c.loop-next.count.waiting.ok.0)) in
+    let none = ap (sum_by (waiting_items c.args.size)) empty in
+    omega (arith, c.items.ensures, c.loop-next.invariant, none)
