@@ -77,6 +77,11 @@ class Comparison:
     def bytes(self, name, arguments, call):
         self.compare(name, arguments, outcome(call), self.library.bytes_of(name, self.document, *arguments))
 
+    def error_position(self, name, path):
+        position = path.error_position()
+        expected = ("NONE", None) if position is None else ("OK", position)
+        self.report(name, [path.text], expected, self.library.value_of(c_size_t, name, path.text))
+
     def all(self):
         self.paths()
         self.key_paths()
@@ -90,6 +95,7 @@ class Comparison:
     def paths(self):
         text = self.cases.json_path()
         steps = JsonPath(text).read()
+        self.error_position("path_error_position", JsonPath(text))
 
         def path(strict):
             fail_if(steps is None, "INVALID_JSON_PATH")
@@ -107,6 +113,7 @@ class Comparison:
     def key_paths(self):
         text = self.cases.key_path()
         keys = KeyPath(text).read()
+        self.error_position("keypath_error_position", KeyPath(text))
 
         def places():
             fail_if(keys is None, "INVALID_KEY_PATH")

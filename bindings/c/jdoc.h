@@ -588,6 +588,10 @@ typedef struct jdoc_keypath {
 /* Parse a JSON path. */
 JDOC_NODISCARD enum jdoc_status jdoc_path_read(const char *text, size_t text_len, jdoc_path *path);
 
+/* Find the error in text that is not a JSON path: *position is the byte at which it is, at most text_len (docs/PATHS.md).
+ * JDOC_NONE: the text is a JSON path. */
+JDOC_NODISCARD enum jdoc_status jdoc_path_error_position(const char *text, size_t text_len, size_t *position);
+
 /* Free the path. */
 void jdoc_path_free(jdoc_path *path);
 
@@ -613,6 +617,10 @@ JDOC_NODISCARD enum jdoc_status jdoc_path_match(jdoc_path *path, const uint8_t *
 
 /* Parse a key path. */
 JDOC_NODISCARD enum jdoc_status jdoc_keypath_read(const char *text, size_t text_len, jdoc_keypath *path);
+
+/* Find the error in text that is not a key path: *position is the byte at which it is, at most text_len.
+ * JDOC_NONE: the text is a key path. */
+JDOC_NODISCARD enum jdoc_status jdoc_keypath_error_position(const char *text, size_t text_len, size_t *position);
 
 /* Free the path. */
 void jdoc_keypath_free(jdoc_keypath *path);

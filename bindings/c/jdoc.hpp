@@ -321,6 +321,18 @@ inline result<std::optional<bool>> match(view it, std::string_view path, bool st
         [=](std::uint8_t *made) { return jdoc_match(it.data(), it.size(), path.data(), path.size(), strict, made); });
 }
 
+/* Returns the position of the error in text that is not a JSON path; std::nullopt if it is one. */
+inline result<std::optional<std::size_t>> path_error_position(std::string_view text) {
+    return detail::some_value<std::size_t>(
+        [=](std::size_t *made) { return jdoc_path_error_position(text.data(), text.size(), made); });
+}
+
+/* Returns the position of the error in text that is not a key path; std::nullopt if it is one. */
+inline result<std::optional<std::size_t>> keypath_error_position(std::string_view text) {
+    return detail::some_value<std::size_t>(
+        [=](std::size_t *made) { return jdoc_keypath_error_position(text.data(), text.size(), made); });
+}
+
 inline result<std::size_t> size(view it) {
     return detail::value<std::size_t>([=](std::size_t *made) { return jdoc_len(it.data(), it.size(), made); });
 }

@@ -376,6 +376,18 @@ def paths():
     ])
 
 
+def positions():
+    """The byte at which the error is, in text that is not a path."""
+    yield from table("keypath_error_position", [
+        ("{a,1}", NONE), ("{}", NONE), ("", 0), (" {", 2), ("{a b}", 3), ("{a, }", 4), ("{1a}", 2), ("{a}b", 3), ('{"ab', 4),
+        (r'{"a\q"}', 3), (b"{\xff}", 1),
+    ])
+    yield from table("path_error_position", [
+        ("$.a", NONE), ("", NONE), ("$.", 1), ("$.a[", 3), ("$.a $", 4), ("-1 == 1", 3), ("@ > 10", 0), ("$.a == ", 7), ("(1 == 1", 7),
+        ("$.a?(@.b == 1", 13), ("$.a?(@.b = 1)", 9), ("$ ?(@ > 1 && )", 13), ("exists($.a", 10), (b"$.\xff", 1),
+    ])
+
+
 def array_of(parts):
     """The array of documents that are arrays."""
     header = (0x80000000 + len(parts)).to_bytes(4, "big")
@@ -464,7 +476,7 @@ def prepared(rows):
 
 
 def all_rows():
-    parts = (places, edits, places_of_names, sets, scalars, keys, paths, making, reading, leaves)
+    parts = (places, edits, places_of_names, sets, scalars, keys, paths, positions, making, reading, leaves)
     yield from prepared(row for part in parts for row in part())
 
 

@@ -71,14 +71,14 @@ class Grammar:
                 return chr(0x10000 + (code - 0xD800 << 10) + low[0] - 0xDC00).encode(), low[1]
         return None if 0xD800 <= code < 0xE000 else (chr(code).encode(), end)
 
-    def units(self, at, stops):
-        """Reads units up to a stop byte; returns the string and where it ends, or None."""
+    def run(self, at, stops):
+        """Reads units up to a stop byte or a malformed escape; returns the string and where it ends, or None."""
         made, begin = b"", at
         while at < len(self.text) and self.text[at] not in stops:
             if self.text[at] == ord("\\"):
                 escaped = self.escape(at + 1)
                 if escaped is None:
-                    return None
+                    break
                 made, at = made + escaped[0], escaped[1]
             else:
                 made, at = made + self.text[at : at + 1], at + 1
@@ -88,10 +88,11 @@ class Grammar:
             return None
 
     def name(self, at):
-        return self.units(at, STOPS)
+        found = self.run(at, STOPS)
+        return None if found is None or self.literal(found[1], b"\\") else found
 
     def quoted(self, at):
-        inner = self.units(at + 1, b'"') if self.text[at : at + 1] == b'"' else None
+        inner = self.run(at + 1, b'"') if self.text[at : at + 1] == b'"' else None
         return (inner[0], inner[1] + 1) if inner and self.text[inner[1] : inner[1] + 1] == b'"' else None
 
     # ---- combinations
@@ -124,6 +125,12 @@ class Grammar:
         found = rule(self.ws(at))
         return (found[0], self.ws(found[1])) if found else None
 
+    # ---- errors
+
+    def error_position(self):
+        """Returns the position of the error, or None if the text is a path."""
+        return self.front() if self.read() is None else None
+
 
 class KeyPath(Grammar):
     """Key paths: a list of ("index", i) and ("name", text)."""
@@ -143,6 +150,25 @@ class KeyPath(Grammar):
         keys, at = found or ([], self.ws(at))
         at = self.literal(at, b"}")
         return keys if at is not None and self.ws(at) == len(self.text) else None
+
+
+    def front(self):
+        """Reads as much as a key path begins with; returns where that ends."""
+        at = self.ws(0)
+        opened = self.literal(at, b"{")
+        if opened is None:
+            return at
+        found = self.listed(opened, lambda at: self.spaced(at, self.key), lambda at: self.literal(at, b","))
+        at = found[1] if found else self.ws(opened)
+        closed, comma = self.literal(at, b"}"), self.literal(at, b",") if found else None
+        if closed is not None:
+            return self.ws(closed)
+        return self.key_front(at) if not found else at if comma is None else self.key_front(self.ws(comma))
+
+    def key_front(self, at):
+        begin, stops = (at + 1, b'"') if self.text[at : at + 1] == b'"' else (at, STOPS)
+        found = self.run(begin, stops)
+        return found[1] if found else begin
 
 
 class JsonPath(Grammar):
@@ -314,3 +340,46 @@ class JsonPath(Grammar):
             return ("literal", ("i64", found[0])), found[1]
         found = self.quoted(at)
         return (("literal", found[0]), found[1]) if found else None
+
+    # ---- errors
+
+    def front(self):
+        """Reads as much as a path begins with, as an expression or as steps; returns where that ends."""
+        at = self.ws(0)
+        return max(self.conditions_front(at, False), self.steps_front(at))
+
+    def steps_front(self, at):
+        at = self.ws(self.paths(at)[1])
+        opened = self.literal(at, b"?")
+        opened = None if opened is None else self.literal(self.ws(opened), b"(")
+        return at if opened is None else self.conditions_front(self.ws(opened), True)
+
+    def conditions_front(self, at, inside):
+        found = self.either(at, inside)
+        if found is None:
+            return self.condition_front(at, inside)
+        at = self.ws(found[1])
+        after = self.first(at, lambda at: self.literal(at, b"&&"), lambda at: self.literal(at, b"||"))
+        return at if after is None else self.condition_front(self.ws(after), inside)
+
+    def condition_front(self, at, inside):
+        """Reads the beginning of a condition that is not one."""
+        if self.text[at : at + 1] in (b"+", b"-"):
+            return self.ws(at + 1)
+        left = self.spaced(at, lambda at: self.operand(at, inside))
+        if left:
+            operator = next((it for it in OPERATORS if self.literal(left[1], it)), None)
+            return self.ws(left[1] + len(operator)) if operator else left[1]
+        opened = self.literal(at, b"(")
+        if opened is None:
+            return self.exists_front(at)
+        found = self.either(self.ws(opened), inside)
+        return self.ws(found[1] if found else opened)
+
+    def exists_front(self, at):
+        word = self.literal(at, b"exists")
+        opened = None if word is None else self.literal(self.ws(word), b"(")
+        if opened is None:
+            return at if word is None else self.ws(word)
+        at = self.ws(opened)
+        return self.operand(at, True)[1] if self.text[at : at + 1] in (b"$", b"@") else at

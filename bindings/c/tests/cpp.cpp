@@ -48,6 +48,9 @@ void paths() {
     EXPECT(is_some(jdoc::get(mixed, "{2,k}"), v));
     EXPECT(is_none(jdoc::get(mixed, "{7}")));
     EXPECT(jdoc::get(mixed, "{1a}").error() == JDOC_INVALID_KEY_PATH);
+    EXPECT(is_some(jdoc::keypath_error_position("{1a}"), std::size_t{2}));
+    EXPECT(is_some(jdoc::path_error_position("$.a["), std::size_t{3}));
+    EXPECT(is_none(jdoc::path_error_position("$.a")));
     EXPECT(is_some(jdoc::get(one_in_array, std::size_t{0}), one));
     EXPECT(is_some(jdoc::get_by_name(object, "ASD", true), hex("2000000010000003616466")));
     EXPECT(is_none(jdoc::get_by_name(object, "ASD")));

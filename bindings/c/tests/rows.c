@@ -47,6 +47,7 @@ typedef enum jdoc_status cO_fn(COLUMN_IN, BYTES_OUT);
 typedef enum jdoc_status ncO_fn(NAMES_IN, COLUMN_IN, BYTES_OUT);
 typedef enum jdoc_status O_fn(BYTES_OUT);
 typedef enum jdoc_status tO_fn(TEXT_IN, BYTES_OUT);
+typedef enum jdoc_status tC_fn(TEXT_IN, size_t *);
 typedef enum jdoc_status fO_fn(bool, BYTES_OUT);
 typedef enum jdoc_status lO_fn(int64_t, BYTES_OUT);
 typedef enum jdoc_status uO_fn(uint64_t, BYTES_OUT);
@@ -121,7 +122,7 @@ LEAVES_BY(document_positions, LEAF_DOCUMENT_POSITIONS)
 #define SHAPES(X)                                                                                                      \
     X(b)                                                                                                               \
     X(bT) X(bN) X(bW) X(bC) X(bD) X(bO) X(bS) X(bfO) X(bsO) X(biO) X(bbO) X(bbT) X(bbR) X(bbiO) X(bbtfO) X(btO) X(btfO)       \
-        X(btfT) X(bnO) X(bnT) X(cO) X(ncO) X(O) X(tO) X(fO) X(lO) X(uO) X(luyO)
+        X(btfT) X(bnO) X(bnT) X(cO) X(ncO) X(O) X(tO) X(tC) X(fO) X(lO) X(uO) X(luyO)
 #define SHAPE_NAME(s)    SHAPE_##s,
 #define SHAPE_FIELD(s)   s##_fn *s;
 #define SHAPE_LETTERS(s) #s,
@@ -218,6 +219,7 @@ static struct result run(const struct row *row, uint8_t *out, size_t size) {
         RUN(ncO, NAMES(0), COLUMN(1), OUT)
         RUN(O, OUT)
         RUN(tO, TEXT(0), OUT)
+        RUN(tC, TEXT(0), &r.count)
         RUN(fO, row->flag, OUT)
         RUN(lO, row->number, OUT)
         RUN(uO, row->whole, OUT)

@@ -4,7 +4,7 @@
 >>> select(b"", "$.a[")
 Traceback (most recent call last):
     ...
-jsonb_paths.errors.InvalidJsonPath: not a JSON path, or its evaluation fails: '$.a['
+jsonb_paths.errors.InvalidJsonPath: byte 3: not a JSON path, or its evaluation fails: '$.a['
 """
 
 from __future__ import annotations
@@ -13,7 +13,7 @@ from typing import ClassVar, Dict, Optional, Tuple, Type
 
 
 class JsonbError(Exception):
-    """An error of the library. `row` is the row of a column, and `at` the byte of a JSON text, or None."""
+    """An error of the library. `row` is the row of a column, and `at` the byte of a JSON text or a path, or None."""
 
     status: ClassVar[int] = -1
     meaning: ClassVar[str] = "error"

@@ -23,5 +23,5 @@ PyObject *one(PyObject *module, PyObject *const *arguments, Py_ssize_t count, Py
     auto call = [&](auto out) {
         return std::apply([&](auto &...it) { return std::apply(CALL, std::tuple_cat(it.words()..., out)); }, taken);
     };
-    return Result::of(state_of(module), call, [=] { return shown(arguments + 1, count - 1); });
+    return Result::of(state_of(module), call, [=] { return Shown{arguments + 1, count - 1}; });
 }

@@ -46,7 +46,7 @@ template <typename... Kinds> struct Rows {
 };
 
 inline PyObject *fail_column(State *state, uint32_t status, PyObject *const *arguments, Py_ssize_t count) {
-    return fail(state, status, shown(arguments + 3, count - 3));
+    return fail(state, status, Shown{arguments + 3, count - 3});
 }
 
 // A number of a fixed size for each row, and its status.

@@ -47,7 +47,7 @@ template <typename Select> PyObject *selected(State *state, PyObject *const *pat
         if (!large.resize(length)) return PyErr_NoMemory();
         status = select(large.at, large.size, &length);
     }
-    return status == JDOC_OK ? children_of(state, large.at, length, false) : fail(state, status, shown(path, 1));
+    return status == JDOC_OK ? children_of(state, large.at, length, false) : fail(state, status, Shown{path, 1});
 }
 
 inline PyObject *select_items(PyObject *module, PyObject *const *arguments, Py_ssize_t count, PyObject *names) {

@@ -36,7 +36,7 @@ template <bool KEY> PyObject *path_new(PyTypeObject *type, PyObject *arguments, 
     it->text = Py_NewRef(text), it->strict = strict;
     uint32_t status =
         KEY ? jdoc_keypath_read(utf8.at, utf8.length, &it->keys) : jdoc_path_read(utf8.at, utf8.length, &it->json);
-    return status == JDOC_OK ? self.release() : fail(state_of(module), status, shown(&text, 1));
+    return status == JDOC_OK ? self.release() : fail(state_of(module), status, Shown{&text, 1});
 }
 
 template <bool KEY> PyObject *path_repr(PyObject *self) {
@@ -77,7 +77,7 @@ template <auto CALL, typename Result> PyObject *by_path(PyObject *self, PyObject
             return std::apply(
                 CALL, std::tuple_cat(std::make_tuple(&it->json), document.words(), std::make_tuple(it->strict), out));
     };
-    return Result::of(state_of(module), call, [=] { return shown(&it->text, 1); });
+    return Result::of(state_of(module), call, [=] { return Shown{&it->text, 1}; });
 }
 
 inline PyObject *path_select(PyObject *self, PyObject *argument) {

@@ -12,7 +12,44 @@ struct Out {
     operator char *() const { return static_cast<char *>(at); }
 };
 
-// `call` makes the call with these last arguments and returns its status. `show` returns the text of an exception.
+// The arguments of a call that an exception shows. The path, if there is one, is the first.
+struct Shown {
+    PyObject *const *arguments;
+    Py_ssize_t count;
+
+    // The first str, as an exception shows it.
+    std::string text() const {
+        for (Py_ssize_t at = 0; at < count; at++) {
+            if (!PyUnicode_Check(arguments[at])) continue;
+            Ref text(PyUnicode_FromFormat("%.200A", arguments[at]));
+            Py_ssize_t size;
+            const char *utf8 = text.it ? PyUnicode_AsUTF8AndSize(text.it, &size) : nullptr;
+            if (utf8) return std::string(utf8, size_t(size));
+            PyErr_Clear();
+        }
+        return "";
+    }
+
+    // The byte at which the path has an error, or None if it parses or the status is another one.
+    PyObject *position(uint32_t status) const {
+        bool is_key = status == JDOC_INVALID_KEY_PATH;
+        size_t at;
+        Text path;
+        if (!count || (!is_key && status != JDOC_INVALID_JSON_PATH)) return Py_NewRef(Py_None);
+        if (!path.take(arguments[0])) return nullptr;
+        status = is_key ? jdoc_keypath_error_position(path.at, path.length, &at)
+                        : jdoc_path_error_position(path.at, path.length, &at);
+        return status == JDOC_OK ? PyLong_FromSize_t(at) : Py_NewRef(Py_None);
+    }
+};
+
+// Raises the exception of a status for a call with these arguments.
+inline PyObject *fail(State *state, uint32_t status, const Shown &shown) {
+    Ref at(shown.position(status));
+    return at.it ? fail(state, status, shown.text(), Py_None, at.it) : nullptr;
+}
+
+// `call` makes the call with these last arguments and returns its status. `show` returns what an exception shows.
 struct Bytes {
     template <typename Call, typename Show> static PyObject *of(State *state, Call call, Show show) {
         uint8_t small[1024];
@@ -85,15 +122,3 @@ struct Number {
     }
 };
 
-// The first str among the arguments, as an exception shows it.
-inline std::string shown(PyObject *const *arguments, Py_ssize_t count) {
-    for (Py_ssize_t at = 0; at < count; at++) {
-        if (!PyUnicode_Check(arguments[at])) continue;
-        Ref text(PyUnicode_FromFormat("%.200A", arguments[at]));
-        Py_ssize_t size;
-        const char *utf8 = text.it ? PyUnicode_AsUTF8AndSize(text.it, &size) : nullptr;
-        if (utf8) return std::string(utf8, size_t(size));
-        PyErr_Clear();
-    }
-    return "";
-}

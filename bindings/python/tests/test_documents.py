@@ -11,7 +11,7 @@ from decimal import Decimal
 
 import documents as model
 import jsonb_paths
-from jsonb_paths import dumps, errors, loads
+from jsonb_paths import Column, KeyPath, Path, dumps, errors, loads
 
 TOP = os.path.join(os.path.dirname(os.path.abspath(__file__)), "..", "..", "..")
 
@@ -142,6 +142,16 @@ class Arguments(unittest.TestCase):
     def test_an_exception_names_the_argument(self):
         with self.assertRaisesRegex(errors.InvalidJsonPath, r"'\$\['"):
             jsonb_paths.exists(self.DOCUMENT, "$[")
+
+    def test_an_exception_has_the_position_in_the_path(self):
+        for at, call, path in (
+            (1, jsonb_paths.exists, "$["), (1, jsonb_paths.select, "$["), (1, lambda _, path: Column([self.DOCUMENT]).match(path), "$["),
+            (8, jsonb_paths.match, "$.é?(@ = 1)"), (2, jsonb_paths.get, "{1a}"), (1, lambda _, path: KeyPath(path), "{"),
+            (7, lambda _, path: Path(path), "$.a == "), (None, jsonb_paths.select, "$ + 1"),
+        ):
+            with self.assertRaises((errors.InvalidJsonPath, errors.InvalidKeyPath)) as raised:
+                call(self.DOCUMENT, path)
+            self.assertEqual(raised.exception.at, at, path)
 
 
 class Calls(unittest.TestCase):

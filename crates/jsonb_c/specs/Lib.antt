@@ -2,6 +2,7 @@ pub mod Status
 pub mod StatusNames
 pub mod Version
 pub mod Answers
+pub mod Positions
 pub mod Calls
 pub mod Kinds
 pub mod Columns

@@ -5,16 +5,19 @@ ghost use Rattle.jsonb_doc.specs.Answer.{IsDecodingError, ◌or◌};
 ghost use Rattle.jsonb_doc.specs.declared.error.Error.TheVariants.{InvalidJsonType, InvalidKeyPath, OutOfMemory, TooLarge};
 ghost use Rattle.jsonb_raw.specs.Documents.{MakesOption};
 ghost use Rattle.jsonb_raw.specs.Places.{tree_at_steps};
+ghost use Rattle.jsonb.specs.ErrorPosition.{key_path_error_position as spec_key_path_error_position};
 ghost use Rattle.jsonb.specs.KeyPathGrammar.{key_path};
 ghost use Rattle.jsonb_c.specs.Answers.{DeliversNothing, WritesBytes, WritesFound, OfDocument};
 ghost use Rattle.jsonb_c.specs.Calls.{DeletesPlace};
+ghost use Rattle.jsonb_c.specs.Positions.{WritesPosition};
 ghost use Rattle.jsonb_c.specs.Prepared.{Prepares, key_steps};
 ghost use Rattle.jsonb_c.specs.Status.{no_path};
 
 use crate::column::documents::{part_at, without_part};
-use crate::deliver::{deliver, deliver_made, deliver_nothing};
+use crate::deliver::{deliver, deliver_made, deliver_nothing, store_found};
 use crate::prepared::{PathHandle, PreparedPath, parsing};
 use crate::status::Status;
+use jsonb::key_path_error_position;
 use std::alloc::Global;
 
 /// Parses a key path and keeps it in the handle, in place of the path that it keeps.
@@ -23,6 +26,18 @@ pub extern "C" fn jdoc_keypath_read(alloc: Global, text: &[u8], path: &mut PathH
     ensures { Prepares InvalidKeyPath (key_path text.now) key_steps path.new.value result }
 {
     path.keep(alloc, parsing::parse_keys(alloc, text))
+}
+
+/// Returns the position of the error in text that is not a key path.
+#[unsafe(no_mangle)]
+pub extern "C" fn jdoc_keypath_error_position(
+    alloc: Global,
+    text: &[u8],
+    position: &mut usize,
+) -> u32
+    ensures { WritesPosition (spec_key_path_error_position text.now) position.old position.new result }
+{
+    store_found(key_path_error_position(alloc, text), position)
 }
 
 /// Drops the path that the handle keeps, if there is one.

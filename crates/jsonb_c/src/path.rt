@@ -2,20 +2,23 @@
 
 ghost use Rattle.std.specs.Prelude.{◌≡◌, MatchOption, Some, None};
 ghost use Rattle.jsonb_doc.specs.declared.error.Error.TheVariants.{InvalidJsonPath};
+ghost use Rattle.jsonb.specs.PathErrorPosition.{json_path_error_position as spec_json_path_error_position};
 ghost use Rattle.jsonb.specs.PathGrammar.{json_path};
 ghost use Rattle.jsonb.specs.SelectionErrors.{IsDocumentError, IsSelectionError};
 ghost use Rattle.jsonb.specs.SelectorAnswers.{first_item, single_or_array, IsFound, IsPicked, IsTruthOf, ByMeanings};
 ghost use Rattle.jsonb_c.specs.Answers.{DeliversNothing, WritesBool, WritesFound, WritesTruth};
 ghost use Rattle.jsonb_c.specs.Calls.{mode_of};
+ghost use Rattle.jsonb_c.specs.Positions.{WritesPosition};
 ghost use Rattle.jsonb_c.specs.Prepared.{LacksPath, Prepares, json_steps};
 ghost use Rattle.jsonb_c.specs.Private.Views.{pick_of};
 ghost use Rattle.jsonb_c.specs.Status.{no_path};
 ghost use Rattle.jsonb_c.specs.Views.{one_array};
 
-use crate::deliver::{deliver, deliver_nothing, store_bool, store_truth};
+use crate::deliver::{deliver, deliver_nothing, store_bool, store_found, store_truth};
 use crate::document::select::{Pick, exists_by_path, match_by_path, pick_by_path};
 use crate::prepared::{PathHandle, PreparedPath, parsing};
 use crate::status::Status;
+use jsonb::json_path_error_position;
 use std::alloc::Global;
 
 /// Parses a JSON path and keeps it in the handle, in place of the path that it keeps.
@@ -24,6 +27,14 @@ pub extern "C" fn jdoc_path_read(alloc: Global, text: &[u8], path: &mut PathHand
     ensures { Prepares InvalidJsonPath (json_path text.now) json_steps path.new.value result }
 {
     path.keep(alloc, parsing::parse_json(alloc, text))
+}
+
+/// Returns the position of the error in text that is not a JSON path.
+#[unsafe(no_mangle)]
+pub extern "C" fn jdoc_path_error_position(alloc: Global, text: &[u8], position: &mut usize) -> u32
+    ensures { WritesPosition (spec_json_path_error_position text.now) position.old position.new result }
+{
+    store_found(json_path_error_position(alloc, text), position)
 }
 
 /// Drops the path that the handle keeps, if there is one.

@@ -3,7 +3,10 @@
 use crate::answer::prints;
 use crate::mark::tell;
 use crate::parts;
-use jsonb::{Error, OwnedKeyPaths, parse_json_path, parse_key_paths};
+use jsonb::{
+    Error, OwnedKeyPaths, json_path_error_position, key_path_error_position, parse_json_path,
+    parse_key_paths,
+};
 use std::alloc::Global;
 use std::io;
 
@@ -96,11 +99,43 @@ fn ask_each(rt: &HostRuntime, rows: &[Row], calls: &[(&str, PathCall)]) -> io::R
     Ok(())
 }
 
+/// A sort of text that is not a path, such text, and the position of its error.
+type Mistake = (&'static str, &'static [u8], usize);
+
+static KEY_PATH_MISTAKES: [Mistake; 2] = rows! {
+    "a missing end", b"{a,1, \"b\\u0063", 14;
+    "a malformed escape", b"{a\\u0062\\q}", 8;
+};
+
+static JSON_PATH_MISTAKES: [Mistake; 3] = rows! {
+    "a missing index", b"k1.k2[", 5;
+    "an open parenthesis", b"$.a?(@.\"b\\u0063\" == 1 && (@.d == ", 26;
+    "an open exists", b"$.a == 1 || exists($.b", 22;
+};
+
 pub fn key_paths(rt: &HostRuntime) -> io::Result<()> {
+    for (kind, text, wanted) in &KEY_PATH_MISTAKES {
+        let position = marked!(rt, key_path_error_position(rt.alloc(), text));
+        let is_right = position.map(|found| found == Some(*wanted));
+        tell(
+            rt,
+            format_args!("key_path_error_position of {kind}"),
+            is_right,
+        )?;
+    }
     ask_each(rt, &KEY_PATHS, &KEY_PATH_CALLS)
 }
 
 pub fn json_paths(rt: &HostRuntime) -> io::Result<()> {
+    for (kind, text, wanted) in &JSON_PATH_MISTAKES {
+        let position = marked!(rt, json_path_error_position(rt.alloc(), text));
+        let is_right = position.map(|found| found == Some(*wanted));
+        tell(
+            rt,
+            format_args!("json_path_error_position of {kind}"),
+            is_right,
+        )?;
+    }
     ask_each(rt, &JSON_PATHS, &JSON_PATH_CALLS)?;
     tell(rt, "ArrayIndex::to_indices", parts::to_indices(rt, 100))
 }

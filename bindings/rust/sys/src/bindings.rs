@@ -937,6 +937,13 @@ extern "C" {
     pub fn jdoc_path_read(text: *const core::ffi::c_char, text_len: usize, path: *mut jdoc_path) -> jdoc_status;
 }
 extern "C" {
+    pub fn jdoc_path_error_position(
+        text: *const core::ffi::c_char,
+        text_len: usize,
+        position: *mut usize,
+    ) -> jdoc_status;
+}
+extern "C" {
     pub fn jdoc_path_free(path: *mut jdoc_path);
 }
 extern "C" {
@@ -992,6 +999,13 @@ extern "C" {
 }
 extern "C" {
     pub fn jdoc_keypath_read(text: *const core::ffi::c_char, text_len: usize, path: *mut jdoc_keypath) -> jdoc_status;
+}
+extern "C" {
+    pub fn jdoc_keypath_error_position(
+        text: *const core::ffi::c_char,
+        text_len: usize,
+        position: *mut usize,
+    ) -> jdoc_status;
 }
 extern "C" {
     pub fn jdoc_keypath_free(path: *mut jdoc_keypath);
