@@ -1,10 +1,11 @@
 //! What decides whether the next element of an array is kept in a set operation: counts of equality keys, or the elements
 //! themselves if they are few.
 
-ghost use Rattle.std.specs.Prelude.{◌≡◌, List, nat_lt, take, IsOkAnd, IfSome, IfErr};
+ghost use Rattle.std.specs.Prelude.{◌≡◌, List, nat_lt, take, IsOkAnd, IfSome, IfErr, ⊤};
 ghost use Rattle.jsonb_doc.specs.Tree.{Tree};
-ghost use Rattle.jsonb_doc.specs.Payload.{Form};
-ghost use Rattle.jsonb_doc.specs.Format.{Decodes};
+ghost use Rattle.jsonb_doc.specs.Payload.{Form, number_reader};
+ghost use Rattle.jsonb_doc.specs.Format.{Decodes, IsContent};
+ghost use Rattle.jsonb_doc.specs.Kinds.{kind_number};
 ghost use Rattle.jsonb_doc.specs.Private.Stored.{Stores};
 ghost use Rattle.jsonb_doc.specs.Answer.{IsDecodingError};
 ghost use Rattle.jsonb_raw.specs.Arrays.{as_elements};
@@ -18,6 +19,7 @@ use crate::equal_items::stored_equal;
 use crate::equality_key::write_entry_key;
 use crate::functions::entries::element_entries;
 use crate::functions::parts::Entries;
+use jsonb_doc::layout::EntryKind;
 use jsonb_doc::{Error, StoredEntry};
 use std::alloc::Global;
 
@@ -94,6 +96,7 @@ impl<'a> ElementsPassed<'a> {
             → IsOkAnd result (λ _. ArePassed form self.new other (t ∷ before) rest) }
         ensures errors { IfErr result IsDecodingError }
     {
+        read_entry(entry)?;
         let is_kept = keeps_among(kind, self.all, self.passed, self.others, entry)?;
         self.passed = self.passed.saturating_add(1);
         Ok(is_kept)
@@ -151,6 +154,21 @@ pub(super) fn few_elements<'a>(
         return Ok(None);
     }
     Ok(Some((entries, few)))
+}
+
+/// Fails for a number or an extension value that cannot be read: nothing else reads an element that is compared with no
+/// other.
+#[inline(always)]
+fn read_entry(entry: &StoredEntry<'_>) -> Result<(), Error>
+    ensures read { (form : Form) (t : Tree)
+        → IsContent (number_reader form) t (kind_number entry.now.kind) entry.now.content.now
+        → IsOkAnd result (λ _. ⊤) }
+    ensures errors { IfErr result IsDecodingError }
+{
+    if entry.kind != EntryKind::Text && entry.short_number().is_none() {
+        entry.item()?;
+    }
+    Ok(())
 }
 
 /// Returns whether an element is kept that follows this many of all elements.
