@@ -62,3 +62,16 @@ fn documents_keep_their_bytes(rt: HostRuntime) -> Result<(), Fail> {
     assert!(rt; raw.as_bytes() == again.as_bytes());
     Ok(())
 }
+
+#[test]
+fn spots_are_at_key_paths(rt: HostRuntime) -> Result<(), Fail> {
+    let path = parse_key_paths(rt.alloc(), b"{-1,k}")?;
+    let document = RawJsonb::new(MIXED_ARRAY);
+    let found = document.spot_by_keypath(rt.alloc(), path.paths.iter())?;
+    let range = found.map(|spot| (spot.range().start, spot.range().end));
+    assert!(rt; range == Some((31, 32)));
+    let path = parse_key_paths(rt.alloc(), b"{3}")?;
+    let found = document.spot_by_keypath(rt.alloc(), path.paths.iter())?;
+    assert!(rt; found.is_none());
+    Ok(())
+}

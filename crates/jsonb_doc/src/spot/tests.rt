@@ -3,6 +3,7 @@
 use crate::error::Error;
 use crate::extension::{Date, ExtensionValue};
 use crate::item::Item;
+use crate::layout::EntryKind;
 use crate::number::Number;
 use crate::reading::tests::{DATE, FRED, MIXED, PAIR, are_alike};
 use crate::spot::{Spot, child_spots, field_spot, root_spot, spot_document, spot_item};
@@ -188,5 +189,13 @@ fn refuses_spots_of_other_bytes_and_damage(rt: HostRuntime) -> Result<(), Fail> 
     }
     let is_object = matches!(spot_item(FRED, root_spot(ONE)?), Ok(Item::Object(_)));
     assert!(rt; is_object);
+    Ok(())
+}
+
+#[test]
+fn spots_have_ranges(rt: HostRuntime) -> Result<(), Fail> {
+    let found = child_at(MIXED, root_spot(MIXED)?, 1)?;
+    let parts = found.map(|spot| (spot.entry_kind(), spot.range().start, spot.range().end));
+    assert!(rt; parts == Some((EntryKind::Number, 16, 18)));
     Ok(())
 }

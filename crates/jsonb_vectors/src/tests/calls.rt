@@ -110,6 +110,7 @@ pub(super) fn ask_places(
     for text in ["{}", "{0}", "{-1}", "{b,0}", "{phones,1,number}"] {
         let steps = parse_key_paths(alloc, text.as_bytes())?;
         answers.found(raw.get_by_keypath(alloc, steps.paths.iter()));
+        let _ = raw.spot_by_keypath(alloc, steps.paths.iter());
         answers.one(raw.delete_by_keypath(alloc, steps.paths.iter()));
     }
     let names = ["a", "k"];
