@@ -4,6 +4,7 @@ ghost use Rattle.std.specs.Prelude.{◌≡◌, Option, Some, IfErr, IsOkAnd, Mat
 ghost use Rattle.jsonb_doc.specs.Answer.{SameOption, IsDecodingError, ◌or◌};
 ghost use Rattle.jsonb_doc.specs.declared.error.Error.TheVariants.{InvalidKeyPath, OutOfMemory};
 ghost use Rattle.jsonb_doc.specs.Format.{Decodes};
+ghost use Rattle.jsonb_doc.specs.Kinds.{kind_number as entry_number};
 ghost use Rattle.jsonb_doc.specs.Payload.{Form};
 ghost use Rattle.jsonb_doc.specs.Spots.{Locates};
 ghost use Rattle.jsonb_doc.specs.Tree.{Tree};
@@ -20,6 +21,7 @@ use crate::document::kind::item_kind;
 use crate::prepared::{PathHandle, PreparedPath};
 use crate::status::Status;
 use jsonb::{Error, KeyPaths, RawJsonb, Spot, parse_key_paths, spot_item};
+use jsonb_doc::layout::EntryKind;
 use std::alloc::Global;
 
 /// The span of a value in a document: `struct jdoc_span` of the header.
@@ -127,6 +129,13 @@ fn span_of(document: &[u8], spot: Spot) -> Result<Span, Error>
         at: range.start,
         len: range.end.saturating_sub(range.start),
         kind: item_kind(&item).to_u8(),
-        entry: spot.entry_kind() as u8,
+        entry: entry_number(spot.entry_kind()),
     })
+}
+
+/// Returns the number of an entry's type in entry words.
+fn entry_number(kind: EntryKind) -> u8
+    ensures { result ≡ entry_number kind }
+{
+    kind as u8
 }

@@ -69,7 +69,7 @@ impl Spot {
     /// # Examples
     ///
     /// ```rust crates/jsonb_c/src/span.rt
-    /// entry: spot.entry_kind() as u8,
+    /// entry: entry_number(spot.entry_kind()),
     /// ```
     #[inline(always)]
     pub fn entry_kind(self) -> EntryKind

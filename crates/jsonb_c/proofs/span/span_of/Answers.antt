@@ -1,5 +1,4 @@
 use Rattle.std.proofs.Common.{◌≡◌, ◌+◌, arith, ap, ◌∙◌}
-use Rattle.jsonb_doc.specs.Kinds as doc
 use Rattle.jsonb_c.specs.Kinds.{kind_number}
 use Rattle.jsonb_c.proofs.span.span_of.Goals as goal
 
@@ -14,5 +13,5 @@ returns-clause-span c = λ form top t d l.
     record {
       kind = c.to_u8.ensures ∙ ap kind_number (c.item_kind.ensures form t c.in_ok-item.ensures.normal stands);
       within = rw whole l.within;
-      content = rw (whole, c.range-range.ensures.start) (l.content form top d);
+      content = rw (whole, c.range-range.ensures.start, c.entry_number.ensures, c.entry_kind.ensures) (l.content form top d);
     }
