@@ -20,7 +20,7 @@ TOP = Path(__file__).resolve().parent.parent
 sys.path.insert(0, str(TOP / "tools/fuzz"))
 import meaning
 from grammar import JsonPath, KeyPath
-from library import Library, c_bool, c_int32, c_int64, c_size_t, c_uint64, names_of
+from library import Library, c_bool, c_int32, c_int64, c_size_t, c_uint64, column_of, names_of
 from meaning import Fails, Path as Meaning
 from random_cases import Cases
 from trees import Invalid, decode, encode
@@ -201,11 +201,20 @@ class Comparison:
             self.other_document = encode(other)
         given = [self.other_document]
         self.value(c_int32, "compare", lambda: meaning.order(tree, other), given)
+        self.composite_key([([tree], self.document), ([other], self.other_document), ([], b"")])
         self.truth("contains", given, lambda: meaning.contains(tree, other))
         self.truth("array_overlap", given, lambda: bool(meaning.split(tree, other)[0]))
         self.makes("array_intersection", given, lambda: [meaning.split(tree, other)[0]])
         self.makes("array_except", given, lambda: [meaning.split(tree, other)[1]])
         self.makes("concat", given, lambda: [self.joined(other)])
+
+    def composite_key(self, known):
+        """Compares the key of some columns, each with its value and its document."""
+        columns = [self.cases.random.choice(known) for _ in range(self.cases.random.randrange(4))]
+        given = column_of([document for _, document in columns])
+        for wide in (False, True):
+            expected = outcome(lambda: meaning.composite_key([value for value, _ in columns], 1 + wide))
+            self.compare("composite_key", [*columns, wide], expected, self.library.bytes_of("composite_key", *given, c_bool(wide)))
 
     def joined(self, other):
         if isinstance(self.tree, dict) and isinstance(other, dict):

@@ -366,6 +366,13 @@ JDOC_NODISCARD enum jdoc_status jdoc_sort_key(const uint8_t *document, size_t do
 JDOC_NODISCARD enum jdoc_status jdoc_equality_key(const uint8_t *document, size_t document_len, uint8_t *out,
                                                   size_t out_size, size_t *out_len);
 
+/* The composite key of the columns of one row, such as that of an index: a row without bytes is a missing value, which
+ * sorts before every other. Composite keys order as the lists of the values, as jdoc_sort_key does and with its limits.
+ * JDOC_BAD_OFFSETS: of the column. */
+JDOC_NODISCARD enum jdoc_status jdoc_composite_key(const uint8_t *bytes, size_t bytes_len, const uint64_t *offsets,
+                                                   size_t offsets_len, bool wide, uint8_t *out, size_t out_size,
+                                                   size_t *out_len);
+
 /* BUILDING DOCUMENTS: scalars, arrays of a column, and objects of two columns */
 
 /* jdoc_from_i64 and jdoc_from_u64 of one number except 0 build documents equal by value that differ in bytes. */

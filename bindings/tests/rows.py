@@ -321,6 +321,16 @@ def keys():
     yield from table("sort_key", [(document, False, bytes.fromhex(key)) for document, key in narrow])
     yield from table("sort_key", [(document, True, bytes.fromhex(key)) for document, key in wide])
     yield from table("sort_key", [(nested(257), False, "JDOC_TOO_DEEP"), (FLOAT, False, UNSUPPORTED_NUMBER)])
+    missing, key = b"", bytes.fromhex("00048103e90200")
+    yield from table("composite_key", [
+        (Names(), False, b""), (Names([missing]), False, bytes(2)), (Names([missing]), True, bytes(3)), (Names([number(1)]), False, key),
+        (Names([missing, number(1)]), False, bytes(2) + key), (Names([number(1), missing]), False, key + bytes(2)),
+        (Names([decimal(1, 10), json("null")]), True, b"\0" + key + bytes.fromhex("000008")),
+        (Names([V[5], missing, json('"a"')]), False, bytes.fromhex("0007 01048103e90200 0000 00056100")),
+        (Names([nested(257)]), False, "JDOC_TOO_DEEP"), (Names([DAMAGED]), False, INVALID_JSONB),
+        (Names([missing, FLOAT]), True, UNSUPPORTED_NUMBER), (Placed(V[5], (0, 10, 11)), False, BAD_OFFSETS),
+        (Placed(V[5], (10, 0)), True, BAD_OFFSETS), (Placed(V[5], (10,)), False, b""), (Placed(V[5], (0, 0)), False, bytes(2)),
+    ])
     yield from table("equality_key", [
         (number(1), bytes.fromhex("048103e90200")), (decimal(1, 10), bytes.fromhex("048103e90200")),
         (V[5], bytes.fromhex("07 00000001 048103e90200")),

@@ -53,12 +53,14 @@ class Library:
         return status, [*zip(cut(paths, ends[0]), cut(documents, ends[1]))] if status == "OK" else None
 
 
+def column_of(rows):
+    """Returns rows of bytes as a column: the bytes and the positions."""
+    ends = [sum(map(len, rows[:n])) for n in range(len(rows) + 1)]
+    return [b"".join(rows), (c_uint64 * len(ends))(*ends), c_size_t(len(ends))]
+
+
 def names_of(names):
-    """Returns names as a column: their bytes and positions."""
-    encoded = [it.encode() for it in names]
-    ends = [sum(map(len, encoded[:n])) for n in range(len(encoded) + 1)]
-    column = (c_uint64 * len(ends))(*ends)
-    return [b"".join(encoded), column, c_size_t(len(ends))]
+    return column_of([it.encode() for it in names])
 
 
 def flat(arguments):
@@ -66,4 +68,4 @@ def flat(arguments):
     return [part for it in arguments for part in ([c_char_p(it), c_size_t(len(it))] if isinstance(it, bytes) else [it])]
 
 
-__all__ = ["Library", "names_of", "c_bool", "c_int32", "c_int64", "c_size_t", "c_uint64", "POINTER"]
+__all__ = ["Library", "column_of", "names_of", "c_bool", "c_int32", "c_int64", "c_size_t", "c_uint64", "POINTER"]

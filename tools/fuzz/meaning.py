@@ -57,6 +57,11 @@ def sort_key(tree, width, depth=0):
     return made + b"".join(sort_key(it, width, depth + 1) for it in tree) if isinstance(tree, list) else made
 
 
+def composite_key(values, width):
+    """Returns the composite key of values: each a list of a tree, or an empty list if it is missing."""
+    return b"".join(sort_key(value[0], width) if value else bytes(width + 1) for value in values)
+
+
 def equality_key(tree):
     made = bytes([rank(tree)])
     if isinstance(tree, Extension):

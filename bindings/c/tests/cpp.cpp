@@ -104,6 +104,8 @@ void scalars() {
     EXPECT(is(jdoc::to_str(hex("200000002000000a7000000000000004d202")), std::string("12.34")));
     EXPECT(is(jdoc::sort_key(one), hex("00048103e90200")));
     EXPECT(is(jdoc::sort_key(one, true), hex("0000048103e90200")));
+    EXPECT(is(jdoc::composite_key({jdoc::view(nullptr, 0), one}), hex("000000048103e90200")));
+    EXPECT(is(jdoc::composite_key({one, jdoc::view(nullptr, 0)}, true), hex("0000048103e90200000000")));
     EXPECT(is(jdoc::equality_key(one), hex("048103e90200")));
     EXPECT(is(jdoc::from_null(), null));
     EXPECT(is(jdoc::from_bool(false), hex("2000000030000000")));

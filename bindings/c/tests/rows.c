@@ -44,6 +44,7 @@ typedef enum jdoc_status btfT_fn(BYTES_IN, TEXT_IN, bool, uint8_t *);
 typedef enum jdoc_status bnO_fn(BYTES_IN, NAMES_IN, BYTES_OUT);
 typedef enum jdoc_status bnT_fn(BYTES_IN, NAMES_IN, uint8_t *);
 typedef enum jdoc_status cO_fn(COLUMN_IN, BYTES_OUT);
+typedef enum jdoc_status cfO_fn(COLUMN_IN, bool, BYTES_OUT);
 typedef enum jdoc_status ncO_fn(NAMES_IN, COLUMN_IN, BYTES_OUT);
 typedef enum jdoc_status O_fn(BYTES_OUT);
 typedef enum jdoc_status tO_fn(TEXT_IN, BYTES_OUT);
@@ -122,7 +123,7 @@ LEAVES_BY(document_positions, LEAF_DOCUMENT_POSITIONS)
 #define SHAPES(X)                                                                                                      \
     X(b)                                                                                                               \
     X(bT) X(bN) X(bW) X(bC) X(bD) X(bO) X(bS) X(bfO) X(bsO) X(biO) X(bbO) X(bbT) X(bbR) X(bbiO) X(bbtfO) X(btO) X(btfO)       \
-        X(btfT) X(bnO) X(bnT) X(cO) X(ncO) X(O) X(tO) X(tC) X(fO) X(lO) X(uO) X(luyO)
+        X(btfT) X(bnO) X(bnT) X(cO) X(cfO) X(ncO) X(O) X(tO) X(tC) X(fO) X(lO) X(uO) X(luyO)
 #define SHAPE_NAME(s)    SHAPE_##s,
 #define SHAPE_FIELD(s)   s##_fn *s;
 #define SHAPE_LETTERS(s) #s,
@@ -216,6 +217,7 @@ static struct result run(const struct row *row, uint8_t *out, size_t size) {
         RUN(bnO, BYTES(0), NAMES(0), OUT)
         RUN(bnT, BYTES(0), NAMES(0), &r.truth)
         RUN(cO, COLUMN(0), OUT)
+        RUN(cfO, COLUMN(0), row->flag, OUT)
         RUN(ncO, NAMES(0), COLUMN(1), OUT)
         RUN(O, OUT)
         RUN(tO, TEXT(0), OUT)

@@ -81,7 +81,7 @@ KINDS = (
 )
 __all__ = [
     "KINDS", "array_distinct", "array_except", "array_from_column", "array_insert", "array_intersection", "array_overlap", "as_bool",
-    "as_decimal", "as_int", "as_str", "check", "compare", "concat", "contains", "delete", "delete_by_index", "delete_by_name",
+    "as_decimal", "as_int", "as_str", "check", "compare", "composite_key", "concat", "contains", "delete", "delete_by_index", "delete_by_name",
     "dumps", "elements", "equality_key", "exists", "exists_all_keys", "exists_any_keys", "from_json", "get", "get_by_index", "get_by_name",
     "kind", "leaves", "length", "loads", "match", "object_delete", "object_from_columns", "object_insert", "object_pick", "pairs",
     "select", "select_array", "select_first", "select_value", "sort_key", "strip_nulls", "to_bool", "to_i64", "to_json", "to_str",
@@ -142,6 +142,15 @@ def array_from_column(documents: "Iterable[Document]") -> bytes:
     [1, 'a']
     """
     return _core.array_of(joined(documents))
+
+
+def composite_key(documents: "Iterable[Optional[Document]]", *, wide: bool = False) -> bytes:
+    """Returns bytes that sort as the lists of documents do: the keys of the documents, of which None is missing and sorts first.
+
+    >>> composite_key([None, dumps(2)]) < composite_key([dumps(1), None]) < composite_key([dumps(1), dumps(2)])
+    True
+    """
+    return _core.key_of(joined(b"" if it is None else it for it in documents), wide=wide)
 
 
 def exists_all_keys(document: "Document", names: Iterable[str]) -> bool:

@@ -126,6 +126,8 @@ PyMethodDef METHODS[] = {
         "Returns bytes that sort as the documents do. Narrow and wide keys do not mix.", Document, Flag),
     ONE("equality_key", jdoc_equality_key, NO_WORD, Bytes, DOCUMENT,
         "Returns bytes that are the same if and only if the documents are equal by value.", Document),
+    ONE("key_of", jdoc_composite_key, WIDE, Bytes, "($module, documents, /, *, wide=False)",
+        "composite_key, of a column.", Documents, Flag),
     ONE("length", jdoc_len, NO_WORD, Count, DOCUMENT, "Returns the number of elements or members, or None.", Document),
     CALL_1("elements", children<false>, DOCUMENT, "Returns the elements of an array, as documents."),
     CALL_1("pairs", children<true>, DOCUMENT,

@@ -54,6 +54,7 @@ RAISES = {
     "exists_any_keys": {"NotUtf8": (OBJECT, ["\udcff"])},
     **{name: {"InvalidCast": (ARRAY,)} for name in ("to_bool", "to_i64", "to_u64", "to_str")},
     "sort_key": {"TooDeep": (nested(257),)},
+    "composite_key": {"TooDeep": ([None, nested(257)],)},
     **{name: PATH for name in PATH_CALLS},
 }
 

@@ -7,3 +7,5 @@ mod object;
 mod operator;
 mod path;
 mod scalar;
+
+pub use operator::{composite_key, composite_key_wide};

@@ -35,6 +35,7 @@ mod value;
 pub use document::{OwnedJsonb, RawJsonb};
 pub use error::{ArithmeticFault, Error, Result};
 pub use extension::{Date, ExtensionValue, Interval, Timestamp, TimestampTz};
+pub use functions::{composite_key, composite_key_wide};
 pub use jsonpath::{get_by_path, parse_json_path, JsonPath, Selector};
 pub use keypath::{parse_key_paths, KeyPath, KeyPaths, OwnedKeyPath, OwnedKeyPaths, PreparedKeyPath};
 pub use number::{Decimal128, Decimal64, Number};

@@ -174,6 +174,7 @@ fn combine(documents: &Documents, call: &str, it: RawJsonb<'_>, cell: &str) -> R
         "array_except" => Answer::Document(it.array_except(other)?),
         "array_overlap" => Answer::Truth(it.array_overlap(other)?),
         "contains" => Answer::Truth(it.contains(other)?),
+        "compare" => Answer::Text(format!("{:?}", it.compare(other)?)),
         call => panic!("no such function: {call}"),
     })
 }

@@ -1,7 +1,7 @@
 //! Values, JSON text, construction, and paths on other threads.
 
 use jsonb_paths::{
-    from_slice, get_by_path, parse_json_path, parse_key_paths, parse_value, to_string, Date, Decimal128, Decimal64,
+    composite_key, composite_key_wide, from_slice, get_by_path, parse_json_path, parse_key_paths, parse_value, to_string, Date, Decimal128, Decimal64,
     Error, ExtensionValue, Interval, KeyPath, KeyPaths, Number, OwnedJsonb, OwnedKeyPath, OwnedKeyPaths, RawJsonb,
     Timestamp, TimestampTz, Value,
 };
@@ -239,4 +239,14 @@ fn a_path_is_used_and_dropped_on_other_threads() {
     thread::spawn(move || drop(find(path))).join().unwrap();
     assert!(RawJsonb::new(DOCUMENT).path_exists(&copy).unwrap());
     assert_eq!((format!("{copy:?}"), copy.text()), (r#"JsonPath("$[*].k")"#.to_string(), "$[*].k"));
+}
+
+#[test]
+fn composite_keys_have_a_key_for_each_value() {
+    let one: OwnedJsonb = "1".parse().unwrap();
+    let (low, high) = ([None, Some(one.as_raw())], [Some(one.as_raw()), None]);
+    assert_eq!(composite_key(&low).unwrap(), b"\0\0\0\x04\x81\x03\xe9\x02\0");
+    assert!(composite_key(&low).unwrap() < composite_key(&high).unwrap());
+    assert_eq!(composite_key_wide(&[None]).unwrap(), [0; 3]);
+    assert_eq!(composite_key(&[Some(RawJsonb::new(b"\x20"))]).unwrap_err(), Error::InvalidJsonb);
 }

@@ -1,14 +1,18 @@
 -- Documents that are made, and rows that are put into them.
-use Rattle.std.proofs.Common.{◌≡◌, ◌≢◌, ◌+◌, ◌-◌, ◌<◌, ℕ, zero, suc, false, List, [], ◌∷◌, drop, length, get_or, Option, Some, None, Result, Ok, Err, IfErr, MatchResult, Vec, refl, sym, ap, add-one, arith}
+use Rattle.std.proofs.Common.{◌≡◌, ◌≢◌, ◌==◌, ◌+◌, ◌-◌, ◌<◌, ℕ, zero, suc, true, false, List, [], ◌∷◌, drop, length, get_or, Option, Some, None, Result, Ok, Err, IfErr, MatchResult, Vec, refl, sym, ap, subst, add-one, arith}
 use Rattle.std.specs.Prelude.{slice_get}
+use Rattle.std.proofs.lemmas.Bool.Decides.{nat_tests}
 use Rattle.std.specs.declared.alloc.Global.{Global}
 use Rattle.jsonb_doc.specs.declared.error.Error.{Error}
-use Rattle.jsonb_doc.specs.Answer.{IsOutOfMemoryOrTooLarge}
+use Rattle.jsonb_doc.specs.Answer.{SameOption, IsOutOfMemoryOrTooLarge}
 use Rattle.jsonb_doc.specs.Tree.{Tree, null, Trees, no_trees, tree, Pairs, no_pairs, pair, count, elements, keys, values}
 use Rattle.jsonb_doc.specs.Payload.{Form}
 use Rattle.jsonb_doc.specs.Format.{Decodes}
 use Rattle.std.specs.List.{AllZip}
-use Rattle.jsonb_c.specs.Making.{Encodes, IsRowOf, is_placed}
+use Rattle.jsonb_raw.specs.Documents.{raw_bytes}
+use Rattle.jsonb_raw.specs.declared.raw.RawJsonb.{RawJsonb}
+use Rattle.jsonb_raw.proofs.ColumnLemmas.{FirstLeft, first_left}
+use Rattle.jsonb_c.specs.Making.{Encodes, IsRowOf, IsValueOf, is_placed}
 use Rattle.jsonb_c.specs.Views.{vec_answer}
 
 -- ---- a vector as its bytes
@@ -65,6 +69,40 @@ rows_length form [] [] h = refl
 rows_length form (row ∷ column) (t ∷ ts) h = let e = rows_length form column ts h.1 in omega (arith, e)
 rows_length form [] (t ∷ ts) h = absurd h
 rows_length form (row ∷ column) [] h = absurd h
+
+-- ---- the values of a composite key
+
+-- the row stores the first of the values that are left
+pub value_at : (form : Form) (column : List (Option (List ℕ))) (i : ℕ) (document : List ℕ) (values : List (Option Tree))
+    → slice_get column i ≡ Some (Some document) → AllZip (IsValueOf form) (drop i column) values
+    → FirstLeft (IsValueOf form) (Some document) (drop (i + 1) column) values
+value_at form column i document values at h =
+    first_left (IsValueOf form) (Some document) (drop (i + 1) column) values
+    (subst (λ (rows : List (Option (List ℕ))). AllZip (IsValueOf form) rows values) (drop_at column i (Some document) at) h)
+
+pub no_value_at : (form : Form) (column : List (Option (List ℕ))) (i : ℕ) (values : List (Option Tree)) → slice_get column i ≡ Some None
+    → AllZip (IsValueOf form) (drop i column) values → ⊥
+no_value_at form column i values at h =
+    none values (subst (λ (rows : List (Option (List ℕ))). AllZip (IsValueOf form) rows values) (drop_at column i None at) h)
+  where
+    none : (values : List (Option Tree)) → AllZip (IsValueOf form) (None ∷ drop (i + 1) column) values → ⊥
+    none [] k = k
+    none (value ∷ values) k = k.0
+
+no_length : (n : ℕ) → (n == 0) ≡ true → n ≡ 0
+no_length n e = grind (arith, nat_tests)
+
+-- a row without bytes is a missing value, and another one a document
+pub value_missing : (form : Form) (bytes : List ℕ) (value : Option Tree) → (length bytes == 0) ≡ true → IsValueOf form (Some bytes) value
+    → SameOption {A = RawJsonb} (λ raw t. Decodes form (raw_bytes raw) t) None value
+value_missing form [] value e h = rw h tt
+value_missing form (byte ∷ bytes) value e h = let none : length (byte ∷ bytes) ≡ 0 = no_length _ e in absurd (omega (arith, none))
+
+pub value_there : (form : Form) (raw : RawJsonb) (bytes : List ℕ) (value : Option Tree) → (length bytes == 0) ≡ false → raw_bytes raw ≡ bytes
+    → IsValueOf form (Some bytes) value → SameOption (λ raw t. Decodes form (raw_bytes raw) t) (Some raw) value
+value_there form raw [] value n e h = absurd (cc)
+value_there form raw (byte ∷ bytes) None n e h = absurd h
+value_there form raw (byte ∷ bytes) (Some t) n e h = rw e h
 
 -- ---- counts
 

@@ -1,6 +1,6 @@
 -- Results of the functions that build and count documents.
-use Rattle.std.specs.Prelude.{◌≡◌, ◌⊎◌, ◌+ℤ◌, ◌*ℤ◌, ◌^◌, ℕ, ℤ, pos, Bool, true, ◌&&◌, List, [], ◌∷◌, length, Option, Some, None, option_map, is_some, slice_get, Result, Ok, Err, FitsSigned, MatchOption, MatchResult, IsSomeAnd, ◌<◌, if◌then◌else◌}
-use Rattle.std.specs.Int.{w64}
+use Rattle.std.specs.Prelude.{◌≡◌, ◌⊎◌, ◌+ℤ◌, ◌*ℤ◌, ◌^◌, ℕ, ℤ, pos, Bool, true, ◌&&◌, List, [], ◌∷◌, length, Option, Some, None, option_map, is_some, flat_map, slice_get, Result, Ok, Err, FitsSigned, MatchOption, MatchResult, IsSomeAnd, ◌<◌, if◌then◌else◌}
+use Rattle.std.specs.Int.{Width, w64}
 use Rattle.jsonb_doc.specs.declared.error.Error.{Error}
 use Rattle.std.specs.List.{zip, AllZip}
 use Rattle.jsonb_doc.specs.declared.error.Error.TheVariants.{ObjectDuplicateKey, TooLarge}
@@ -11,6 +11,7 @@ use Rattle.jsonb_doc.specs.Number.{Number, number_from, decimal64, decimal128}
 use Rattle.jsonb_doc.specs.Tree.{Tree, array, number, object, members, pairs_of, trees_of, children_of}
 use Rattle.jsonb_doc.specs.Payload.{Form}
 use Rattle.jsonb_doc.specs.Format.{Decodes}
+use Rattle.jsonb_raw.specs.CompositeKeys.{column_key, GivesCompositeKey}
 use Rattle.jsonb_c.specs.Status.{ok, none, buffer_too_small, status_of}
 use Rattle.jsonb_c.specs.Answers.{DeliversNothing, IsWritten}
 
@@ -50,6 +51,19 @@ abbrev pub MakesArray : List (Option (List ℕ)) → Result (List ℕ) Error →
 MakesArray column answer = (form : Form) (ts : List Tree) → AllZip (IsRowOf form) column ts
     → MatchResult answer (λ made. Decodes form made (array (trees_of ts)))
     (IsOutOfMemoryOrTooLarge form (array (trees_of ts)))
+
+-- ---- the composite key of a column
+
+-- Holds if the row has no bytes and the value is missing, or the row is a document of the value.
+abbrev pub IsValueOf : Form → Option (List ℕ) → Option Tree → Type 0
+IsValueOf form (Some []) value = value ≡ None
+IsValueOf form (Some (byte ∷ bytes)) (Some t) = Decodes form (byte ∷ bytes) t
+IsValueOf form _ _ = ⊥
+
+-- Holds if the result is the composite key of the rows.
+abbrev pub MakesCompositeKey : Width → List (Option (List ℕ)) → Result (List ℕ) Error → Type 0
+MakesCompositeKey w column answer = (form : Form) (values : List (Option Tree)) → AllZip (IsValueOf form) column values
+    → GivesCompositeKey w values answer (λ made. made ≡ flat_map (column_key w) values)
 
 -- ---- an object of two columns
 

@@ -3,6 +3,7 @@
 pub(crate) mod casts;
 pub(crate) mod check;
 pub(crate) mod compare;
+pub(crate) mod composite_key;
 pub(crate) mod decimal;
 pub(crate) mod edit;
 pub(crate) mod keys;

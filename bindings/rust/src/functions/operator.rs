@@ -1,6 +1,6 @@
 //! Functions on any documents.
 
-use crate::call::{always, one, truth};
+use crate::call::{all_bytes, always, one, truth, Column};
 use crate::children::Node;
 use crate::{OwnedJsonb, RawJsonb, Result};
 use jdoc_sys as sys;
@@ -103,4 +103,31 @@ impl RawJsonb<'_> {
         self.make(|d, n, out| unsafe { sys::jdoc_equality_key(d, n, out.at, out.size, out.len) })
             .map(OwnedJsonb::to_vec)
     }
+}
+
+/// Returns the composite key of values, of which `None` is missing: bytes that compare as the lists of the values do,
+/// without extension values.
+///
+/// # Errors
+///
+/// `TooDeep`: an item is nested deeper than 255.
+pub fn composite_key(values: &[Option<RawJsonb<'_>>]) -> Result<Vec<u8>> {
+    key_of_values(values, false)
+}
+
+/// Returns the composite key with wide depths, which is not comparable with the other.
+///
+/// # Errors
+///
+/// `TooDeep`: an item is nested deeper than 65,535.
+pub fn composite_key_wide(values: &[Option<RawJsonb<'_>>]) -> Result<Vec<u8>> {
+    key_of_values(values, true)
+}
+
+fn key_of_values(values: &[Option<RawJsonb<'_>>], wide: bool) -> Result<Vec<u8>> {
+    let c = Column::of(values.iter().map(|value| value.as_ref().map_or(&[][..], |it| it.as_bytes())));
+    let (bytes, offsets) = (c.bytes.as_ptr(), c.offsets.as_ptr());
+    all_bytes(c.bytes.len(), |out| unsafe {
+        sys::jdoc_composite_key(bytes, c.bytes.len(), offsets, c.offsets.len(), wide, out.at, out.size, out.len)
+    })
 }

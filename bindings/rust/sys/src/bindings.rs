@@ -471,6 +471,18 @@ extern "C" {
     ) -> jdoc_status;
 }
 extern "C" {
+    pub fn jdoc_composite_key(
+        bytes: *const u8,
+        bytes_len: usize,
+        offsets: *const u64,
+        offsets_len: usize,
+        wide: bool,
+        out: *mut u8,
+        out_size: usize,
+        out_len: *mut usize,
+    ) -> jdoc_status;
+}
+extern "C" {
     pub fn jdoc_from_null(out: *mut u8, out_size: usize, out_len: *mut usize) -> jdoc_status;
 }
 extern "C" {
