@@ -30,7 +30,7 @@ fn has_bound(alloc: Global, document: &str, path: &str, bound: u64) -> Result<bo
     let root = RawJsonb::new(&document);
     let mut free = Selector::new(alloc, root);
     let mut within = LimitedSelector::new(alloc, root, bound)?;
-    let mut below = LimitedSelector::new_strict(alloc, root, bound - 1)?;
+    let mut below = LimitedSelector::new_strict(alloc, root, bound.saturating_sub(1))?;
     let exceeded = Some(LimitError::LimitExceeded);
     let truth = below.predicate_match(&path).err();
     Ok(
