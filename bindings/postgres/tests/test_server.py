@@ -79,7 +79,7 @@ class Interrupts(unittest.TestCase):
                        \\timing on\n\\set ON_ERROR_STOP 0\nSELECT jdoc_cmp(a, b) FROM alike;""", check=False)
         self.assertIn("canceling statement due to statement timeout", said)
         self.assertLess(float(re.search(r"Time: ([0-9.]+) ms", said)[1]), 1000)
-        self.assertEqual(psql("SELECT jdoc_cmp(a, b), a = b FROM alike"), "0|t")
+        self.assertEqual(psql("SELECT jdoc_cmp(a, b), a = b FROM alike; DROP TABLE alike"), "0|t")
 
     def test_interrupts_that_do_not_cancel(self):
         """The process is asked to log its memory while it works: the calls are repeated, and their results are right."""
