@@ -23,6 +23,7 @@ RUST_TYPES = {
 # Calls that the package does not make: it writes scalars itself, and reads objects as events.
 UNUSED = {
     "status_name", "pair", "from_null", "from_bool", "from_i64", "from_u64", "from_decimal", "from_str",
+    "find_by_keypath", "keypath_find",
 }
 
 

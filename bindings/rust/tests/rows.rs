@@ -301,6 +301,8 @@ fn paths_select_what_the_rows_say() {
                 let wanted = if result == "refused" { Err(Error::InvalidJsonPath) } else { Ok(path.to_string()) };
                 assert_eq!(parsed, wanted, "{path}");
             }
+            "errors" => assert_eq!(parse_json_path(path.as_bytes()).is_ok(), result == "none", "{path}"),
+            "errors in key paths" => assert_eq!(parse_key_paths(path.as_bytes()).is_ok(), result == "none", "{path}"),
             "places" => {
                 let bytes = documents.find(document);
                 let steps = parse_key_paths(path.as_bytes()).unwrap();

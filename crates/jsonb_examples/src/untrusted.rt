@@ -38,7 +38,7 @@ pub struct Reply {
 }
 
 /// Returns what a path selects in strict mode.
-pub fn reply(
+pub fn make_reply(
     alloc: Global,
     path: &JsonPath<'_>,
     document: RawJsonb<'_>,
@@ -147,7 +147,7 @@ mod tests {
         let five = RawJsonb::new(b"\x20\0\0\0\x20\0\0\x02\x50\x05");
         let path = parse_json_path(alloc, b"$ == 5")?;
         assert!(rt; is_cheap(alloc, &path, five, 10)?);
-        let reply = reply(alloc, &path, five, 10)?;
+        let reply = make_reply(alloc, &path, five, 10)?;
         assert_eq!(rt; reply.truth, Some(true));
         assert!(rt; reply.is_found && reply.first.is_some() && reply.value.is_some());
         assert_eq!(rt; reply.array.as_raw().array_length()?, Some(1));
