@@ -20,7 +20,7 @@ RUST_TYPES = {
     "size_t": "usize", "size_t *": "*mut usize", "uint8_t *": "*mut u8", "char *": "*mut core::ffi::c_char", "uint64_t *": "*mut u64", "int64_t *": "*mut i64",
     "int32_t": "i32", "int32_t *": "*mut i32", "int64_t": "i64", "uint64_t": "u64", "uint32_t": "u32", "uint8_t": "u8", "bool": "bool",
 }
-# Calls that the package does not make: it writes scalars itself, and reads objects as events.
+# Calls that the package does not make: it writes scalars itself, reads objects as events, and copies the values it finds.
 UNUSED = {
     "status_name", "pair", "from_null", "from_bool", "from_i64", "from_u64", "from_decimal", "from_str",
     "find_by_keypath", "keypath_find",
