@@ -3,7 +3,8 @@
 
   witness.py                     compares the mutants with tools/witnesses.toml; the last line is 'N passed, M failed'
   witness.py --run [NAME..]      the same, and runs the test that the file gives for each mutant, which must fail
-  witness.py --write [NAME..]    runs all tests with the mutants that have none, and writes those that fail to the file
+  witness.py --write [NAME..]    runs all tests with the mutants that have none, and writes those that fail to the file; with --slow also
+                                 tests that take long with each mutant
 
 NAME.. are the crates whose tests are run.
 
@@ -43,7 +44,7 @@ NO_REASON = "no reason yet"
 SHOWN = 90
 # A test has this many seconds for all mutants that it reaches.
 SECONDS = 900
-# Tests of deep documents and expressions, of each call on each damaged document, and of a long array: they take long with each mutant.
+# Tests that take long with each mutant: of deep documents and expressions, of each call on each damaged document, and of a long array.
 SLOW = re.compile(r"^( *)#\[test\]\n(?= *fn (?:\w*(?:deep_|deeper_|any_depth)|all_calls_return_|leaves_of_a_long_array_))", re.M)
 
 
@@ -185,7 +186,7 @@ def crate_and_test(witness):
     return witness.partition(": ")[0].split(" ")
 
 
-def run_all(found, given, room, crates, in_all):
+def run_all(found, given, room, crates, in_all, with_slow_tests):
     """Runs the tests of crates with each mutant, and returns the witnesses by mutant. `given` has the known ones.
 
     A mutant that has one is run in that test alone; the others are run in all tests, if `in_all`. Then the crates are run one after
@@ -193,7 +194,7 @@ def run_all(found, given, room, crates, in_all):
     """
     top, rejected = room / "repository", room / "rejected"
     rejected.mkdir()
-    copy_crates(top, not in_all)
+    copy_crates(top, with_slow_tests)
     numbered, alone = add_mutants([it for it in found if in_all or it in given], top)
     add_switch(top, rejected, [crate_and_test(given[it])[1] if it in given else None for it in numbered.values()])
     witnesses = {}
@@ -289,7 +290,7 @@ def known_witnesses(found):
     return {it: named[it.crate][it.words] for it in found if it.words in named.get(it.crate, {})}
 
 
-def run(found, names, in_all):
+def run(found, names, in_all, with_slow_tests):
     """Runs the tests of these crates, or of all that are needed, and returns their witnesses, and the known ones that were not found."""
     given = known_witnesses(found)
     crates = [it for it in check_counts.crate_names() if tests_of(it) and (not names or it in names)]
@@ -297,7 +298,7 @@ def run(found, names, in_all):
         crates = [it for it in crates if any(crate_and_test(witness)[0] == it for witness in given.values())]
     with tempfile.TemporaryDirectory(prefix="witness-") as room:
         os.chmod(room, 0o755)
-        witnesses = run_all(found, given, Path(room), crates, in_all)
+        witnesses = run_all(found, given, Path(room), crates, in_all, with_slow_tests)
     tried = [it for it, witness in given.items() if crate_and_test(witness)[0] in crates]
     kept = {it: witness for it, witness in given.items() if it not in tried}
     return kept | witnesses, {it: given[it] for it in tried if it not in witnesses}
@@ -307,6 +308,7 @@ def words():
     asked = argparse.ArgumentParser(description=__doc__, formatter_class=argparse.RawDescriptionHelpFormatter)
     asked.add_argument("--run", action="store_true")
     asked.add_argument("--write", action="store_true")
+    asked.add_argument("--slow", action="store_true")
     asked.add_argument("names", nargs="*", metavar="NAME")
     return asked.parse_args()
 
@@ -316,11 +318,11 @@ def main():
     os.chdir(TOP)
     found = mutants(TOP)
     if asked.write:
-        write(found, run(found, asked.names, True)[0])
+        write(found, run(found, asked.names, True, asked.slow)[0])
         return 0
     wrong = [*faults(found)]
     if asked.run:
-        witnesses, lost = run(found, asked.names, False)
+        witnesses, lost = run(found, asked.names, False, True)
         wrong += [f"{it}: {lost[it]} does not fail with it" if it in lost else "" for it in {**witnesses, **lost}]
     for it in filter(None, wrong):
         print(it)
