@@ -40,6 +40,7 @@ STATED = TOP / "tools/witnesses.toml"
 # (The name of its part in Rattle does not end in .rt, since rt ci reads such files only in crates.)
 PARTS = TOP / "tools/witness"
 NO_REASON = "no reason yet"
+TESTS_OF_C = {"jsonb_c": ["rows_of_c", "columns_of_c"]}
 # The longest text of an assertion that is kept.
 SHOWN = 90
 # A test has this many seconds for all mutants that it reaches.
@@ -145,6 +146,19 @@ def add_switch(top, rejected, tests):
     library.write_text(re.sub(r"^(?=mod \w+;)", "pub mod witness;\n", library.read_text(), count=1, flags=re.M))
 
 
+def add_rows_of_c(top):
+    """Adds the tests of bindings/c to those of jsonb_c."""
+    crate = top / "crates/jsonb_c"
+    shutil.copytree(TOP / "bindings/c/tests", crate / "c/tests", ignore=lambda at, names: [it for it in names if it.endswith(".cpp")])
+    shutil.copy(TOP / "bindings/c/jdoc.h", crate / "c/tests")
+    rows = crate / "c/rows"
+    rows.write_text(subprocess.run([sys.executable, TOP / "bindings/tests/rows.py"], capture_output=True, text=True, check=True).stdout)
+    (crate / "c/rows.c").write_text((PARTS / "rows.c").read_text().replace("@ROWS@", str(rows)))
+    shutil.copy(PARTS / "columns.c", crate / "c/columns.c")
+    with (crate / "src/tests.rt").open("a") as tests:
+        tests.write((PARTS / "rows.rt.in").read_text())
+
+
 # ---- running
 
 
@@ -196,6 +210,7 @@ def run_all(found, given, room, crates, in_all, with_slow_tests):
     rejected.mkdir()
     copy_crates(top, with_slow_tests)
     numbered, alone = add_mutants([it for it in found if in_all or it in given], top)
+    add_rows_of_c(top)
     add_switch(top, rejected, [crate_and_test(given[it])[1] if it in given else None for it in numbered.values()])
     witnesses = {}
     with ThreadPoolExecutor(1 if in_all else lanes.lanes_here()) as pool:
@@ -256,8 +271,8 @@ def write(found, witnesses):
 
 
 def tests_of(crate):
-    """Returns the names of a crate's test functions."""
-    return {*check_counts.TEST.findall(check_counts.source(crate))}
+    """Returns the names of a crate's test functions, with those that add_rows_of_c adds."""
+    return {*check_counts.TEST.findall(check_counts.source(crate)), *TESTS_OF_C.get(crate, ())}
 
 
 def fault_of(mutant, witness, reason, tests):
