@@ -134,7 +134,8 @@ impl<'a> Seen<'a> {
     }
 }
 
-/// Returns the elements of two arrays if both have few.
+/// Returns the elements of two arrays if both have few, and no containers: to compare eight objects pair by pair takes four
+/// times as long as their keys.
 pub(super) fn few_elements<'a>(
     bytes: &'a [u8],
     others: &'a [u8],
@@ -150,10 +151,28 @@ pub(super) fn few_elements<'a>(
     let Some(few) = element_entries(others)? else {
         return Ok(None);
     };
-    if entries.len() > FEW || few.len() > FEW {
+    if !are_few_scalars(entries) || !are_few_scalars(few) {
         return Ok(None);
     }
     Ok(Some((entries, few)))
+}
+
+/// Returns `true` if there are few entries, and none is a container.
+fn are_few_scalars(entries: Entries<'_>) -> bool {
+    if entries.len() > FEW {
+        return false;
+    }
+    let mut left = entries;
+    for _ in 0..entries.len() {
+        let Ok(Some((entry, others))) = left.first() else {
+            return false;
+        };
+        if entry.is_container() {
+            return false;
+        }
+        left = others;
+    }
+    true
 }
 
 /// Fails for a number or an extension value that cannot be read: nothing else reads an element that is compared with no
