@@ -14,8 +14,7 @@ reason if no test fails.
 
 This runs in a copy of the repository that has all mutants: `if jsonb_doc::witness::is(17) { return { .. }; }` precedes the body that
 mutant 17 replaces. tools/witness/switch.c says which one runs: a test's process forks at each of these, once, and its child goes on with
-the mutant. So each crate's tests are built once, by rt try, which proves nothing. A mutant that is not in one function's body is built
-alone.
+the mutant. So each crate's tests are built once, by rt try, which proves nothing. A mutant outside a function's body has no switch.
 """
 import argparse
 import os
@@ -40,7 +39,6 @@ STATED = TOP / "tools/witnesses.toml"
 # (The name of its part in Rattle does not end in .rt, since rt ci reads such files only in crates.)
 PARTS = TOP / "tools/witness"
 NO_REASON = "no reason yet"
-TESTS_OF_C = {"jsonb_c": ["rows_of_c", "columns_of_c"]}
 # The longest text of an assertion that is kept.
 SHOWN = 90
 # A test has this many seconds for all mutants that it reaches.
@@ -112,8 +110,8 @@ def place_of(mutant, top):
 
 
 def add_mutants(found, top):
-    """Puts mutants into a copy of the repository, and returns those with a switch by their numbers, and the others."""
-    numbered, alone, put = {}, [], {}
+    """Puts mutants into a copy of the repository, and returns those with a switch by their numbers."""
+    numbered, put = {}, {}
     for mutant in found:
         place = place_of(mutant, top)
         if place:
@@ -122,14 +120,12 @@ def add_mutants(found, top):
             numbered[number] = mutant
             rows = [f"if {switch}::witness::is({number}) {{ return {{", *body, "}; }"]
             put.setdefault(path, {}).setdefault(first, []).extend(rows)
-        else:
-            alone.append(mutant)
     for path, places in put.items():
         rows = path.read_text().split("\n")
         for first in sorted(places, reverse=True):
             rows[first:first] = places[first]
         path.write_text("\n".join(rows))
-    return numbered, alone
+    return numbered
 
 
 def add_switch(top, rejected, tests):
@@ -144,19 +140,6 @@ def add_switch(top, rejected, tests):
     shutil.copy(PARTS / "switch.rt.in", doc / "src/witness.rt")
     library = doc / "src/lib.rt"
     library.write_text(re.sub(r"^(?=mod \w+;)", "pub mod witness;\n", library.read_text(), count=1, flags=re.M))
-
-
-def add_rows_of_c(top):
-    """Adds the tests of bindings/c to those of jsonb_c."""
-    crate = top / "crates/jsonb_c"
-    shutil.copytree(TOP / "bindings/c/tests", crate / "c/tests", ignore=lambda at, names: [it for it in names if it.endswith(".cpp")])
-    shutil.copy(TOP / "bindings/c/jdoc.h", crate / "c/tests")
-    rows = crate / "c/rows"
-    rows.write_text(subprocess.run([sys.executable, TOP / "bindings/tests/rows.py"], capture_output=True, text=True, check=True).stdout)
-    (crate / "c/rows.c").write_text((PARTS / "rows.c").read_text().replace("@ROWS@", str(rows)))
-    shutil.copy(PARTS / "columns.c", crate / "c/columns.c")
-    with (crate / "src/tests.rt").open("a") as tests:
-        tests.write((PARTS / "rows.rt.in").read_text())
 
 
 # ---- running
@@ -209,8 +192,7 @@ def run_all(found, given, room, crates, in_all, with_slow_tests):
     top, rejected = room / "repository", room / "rejected"
     rejected.mkdir()
     copy_crates(top, with_slow_tests)
-    numbered, alone = add_mutants([it for it in found if in_all or it in given], top)
-    add_rows_of_c(top)
+    numbered = add_mutants([it for it in found if in_all or it in given], top)
     add_switch(top, rejected, [crate_and_test(given[it])[1] if it in given else None for it in numbered.values()])
     witnesses = {}
     with ThreadPoolExecutor(1 if in_all else lanes.lanes_here()) as pool:
@@ -219,28 +201,13 @@ def run_all(found, given, room, crates, in_all, with_slow_tests):
                 edits.stop(f"{crate}: its tests do not pass in the copy, without a mutant:\n{said[-3000:]}")
             witnesses |= {it: witness_in(crate, note) for it, note in notes_of(rejected, numbered).items() if it not in witnesses}
             print(f"{crate}: {len(witnesses)} mutants have failed a test", flush=True)
-    return witnesses | {it: named for it in alone if it.crate in crates and (named := run_alone(it, room))}
+    return witnesses
 
 
 def notes_of(rejected, numbered):
     """Returns what the switch noted of each mutant that a test rejected."""
     notes = ((mutant, rejected / str(number)) for number, mutant in numbered.items())
     return {mutant: note.read_text(errors="replace") for mutant, note in notes if note.exists()}
-
-
-def run_alone(mutant, room):
-    """Runs the tests of a mutant's crate, built with it, and returns its witness or None."""
-    top = room / "alone"
-    copy_crates(top)
-    texts, _ = edits.rt.edited(mutant.edit.text, top / "crates" / mutant.crate)
-    for path, text in texts.items():
-        (top / "crates" / mutant.crate / path).write_text(text)
-    has_passed, said = run_tests(mutant.crate, top)
-    shutil.rmtree(top)
-    failed = re.search(r"^test (\S+) \.\.\. FAILED", said, re.M)
-    if not has_passed and not failed:
-        edits.stop(f"{mutant}: its tests were not run:\n{said[-3000:]}")
-    return f"{mutant.crate} {failed[1]}" if failed else None
 
 
 # ---- the file
@@ -271,8 +238,8 @@ def write(found, witnesses):
 
 
 def tests_of(crate):
-    """Returns the names of a crate's test functions, with those that add_rows_of_c adds."""
-    return {*check_counts.TEST.findall(check_counts.source(crate)), *TESTS_OF_C.get(crate, ())}
+    """Returns the names of a crate's test functions."""
+    return {*check_counts.TEST.findall(check_counts.source(crate))}
 
 
 def fault_of(mutant, witness, reason, tests):
