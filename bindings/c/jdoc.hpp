@@ -517,15 +517,10 @@ inline result<key> equality_key(view it) {
 }
 
 /* The composite key of the columns of one row: a view of no bytes is a missing value. */
-inline result<key> composite_key(std::initializer_list<view> values, bool wide = false) {
-    std::vector<std::uint8_t> bytes;
-    std::vector<std::uint64_t> offsets{0};
-    for (view it : values) {
-        bytes.insert(bytes.end(), it.data(), it.data() + it.size());
-        offsets.push_back(bytes.size());
-    }
-    return detail::bytes<key>(bytes.size() + 16, [&](std::uint8_t *out, std::size_t size, std::size_t *len) {
-        return jdoc_composite_key(bytes.data(), bytes.size(), offsets.data(), offsets.size(), wide, out, size, len);
+inline result<key> composite_key(const column &row, bool wide = false) {
+    const column_view it = row;
+    return detail::bytes<key>(it.bytes_len + 16, [=](std::uint8_t *out, std::size_t size, std::size_t *len) {
+        return jdoc_composite_key(it.bytes, it.bytes_len, it.offsets, it.offsets_len, wide, out, size, len);
     });
 }
 

@@ -1,4 +1,5 @@
--- At most how many items the evaluation of a path lists, and how many values it compares: a number that is known before.
+-- At most how many items the evaluation of a path lists, and how many values it compares: a number that is known
+-- before.
 use Rattle.std.specs.Prelude.{ℕ, ◌+◌, ◌*◌, ◌/◌, ◌-◌, ◌^◌, min, length, Bool, true, false, ◌&&◌, List, [], ◌∷◌, if◌then◌else◌}
 use Rattle.jsonb_doc.specs.Depth.{deepest}
 use Rattle.jsonb_doc.specs.Tree.{Tree}

@@ -295,7 +295,7 @@ fn steps_of_other_kinds_differ(rt: HostRuntime) {
 }
 
 /// Inputs, and the position of the error in each.
-static ERROR_POSITIONS: [(&[u8], Option<usize>); 20] = [
+static ERROR_POSITIONS: [(&[u8], Option<usize>); 21] = [
     (b" {\t1, a ,\r\n\"b c\"} ", None),
     (b"{ }", None),
     (b"", Some(0)),
@@ -313,6 +313,7 @@ static ERROR_POSITIONS: [(&[u8], Option<usize>); 20] = [
     (b"{ } b", Some(4)),
     (b"{\"\"}", Some(2)),
     (b"{1,\"ab", Some(6)),
+    (b"{\"a b", Some(5)),
     (b"{\"a\\q\"}", Some(3)),
     (b"{ab\\ud83d}", Some(3)),
     (b"{\"a\xff\"}", Some(2)),

@@ -172,8 +172,8 @@ fn rank(item: &Item<'_>) -> u8
     }
 }
 
-/// Compares the remaining children of two arrays or of two objects, except for one pair. If they are equal, the order is
-/// the given one.
+/// Compares the remaining children of two arrays or of two objects, except for one pair. If they are equal, the order
+/// is the given one.
 #[cycle(order)]
 fn children_order<'a>(
     found: ChildCursor<'a>,

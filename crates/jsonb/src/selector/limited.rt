@@ -46,8 +46,8 @@ impl From<Error> for LimitError {
 /// Evaluates paths on a document, as a `Selector` does, with a limit of items: for paths from untrusted sources.
 ///
 /// A short path can select more items than memory holds, such as `$.**.**.**.**.**`, or run for hours. So each call
-/// first computes a bound from the path, the length of the document and its depth: at most how many items the steps list
-/// and how many values its filters compare. If the bound is above the limit, the call fails with `LimitExceeded`;
+/// first computes a bound from the path, the length of the document and its depth: at most how many items the steps
+/// list and how many values its filters compare. If the bound is above the limit, the call fails with `LimitExceeded`;
 /// otherwise it is the call of a `Selector`. `most_items` says how the bound is computed.
 ///
 /// # Errors
@@ -102,7 +102,8 @@ impl<'a> LimitedSelector<'a> {
     pub fn new(alloc: Global, root: RawJsonb<'a>, limit: u64) -> Result<LimitedSelector<'a>, Error>
         ensures made { (form : Form) (top : Tree) → Decodes form (raw_bytes root.entry) top
             → IsOkAnd result (λ s. size_of s ≡ document_size (raw_bytes root.entry) top) }
-        ensures ok { IfOk result (λ s. (limited_bytes s ≡ raw_bytes root.entry) × (limited_mode s ≡ Lax) × (limit_of s ≡ limit)) }
+        ensures ok { IfOk result (λ s. (limited_bytes s ≡ raw_bytes root.entry) × (limited_mode s ≡ Lax)
+            × (limit_of s ≡ limit)) }
         ensures unsupported { IsErrOf result error.UnsupportedNumber ↔ IsUnsupportedDocument (raw_bytes root.entry) }
         ensures invalid { IsErrOf result error.InvalidJsonb ↔ IsNoDocument (raw_bytes root.entry) }
     {
@@ -138,7 +139,8 @@ impl<'a> LimitedSelector<'a> {
     ) -> Result<LimitedSelector<'a>, Error>
         ensures made { (form : Form) (top : Tree) → Decodes form (raw_bytes root.entry) top
             → IsOkAnd result (λ s. size_of s ≡ document_size (raw_bytes root.entry) top) }
-        ensures ok { IfOk result (λ s. (limited_bytes s ≡ raw_bytes root.entry) × (limited_mode s ≡ Strict) × (limit_of s ≡ limit)) }
+        ensures ok { IfOk result (λ s. (limited_bytes s ≡ raw_bytes root.entry) × (limited_mode s ≡ Strict)
+            × (limit_of s ≡ limit)) }
         ensures unsupported { IsErrOf result error.UnsupportedNumber ↔ IsUnsupportedDocument (raw_bytes root.entry) }
         ensures invalid { IsErrOf result error.InvalidJsonb ↔ IsNoDocument (raw_bytes root.entry) }
     {
@@ -159,8 +161,8 @@ impl<'a> LimitedSelector<'a> {
     ///
     /// - Names, `$`, `@` and filters leave both. After `[*]` and `.*`, c is w. After `.**`, c is w, and w is h times as
     ///   large. k subscripts multiply c and w by k; if one of them is a range, c is w then.
-    /// - Each step adds the c of its list, and a filter also what its operands add. Those that begin with `@` start with
-    ///   the filter's list, others with its c and with c times n.
+    /// - Each step adds the c of its list, and a filter also what its operands add. Those that begin with `@` start
+    ///   with the filter's list, others with its c and with c times n.
     /// - A comparison, a sign and arithmetic add the values of their operands: for a path the w of its last list, for a
     ///   literal c. An operator with two sides also adds the values of one side times those that the other has for a
     ///   single item, the smaller of both products.
@@ -222,8 +224,8 @@ impl<'a> LimitedSelector<'a> {
         ensures kept { self.new ≡ self.old }
         ensures exceeded { IsErrOf result LimitExceeded → limit_of self.old < bound_of self.old (path_view path.now) }
         ensures refused { limit_of self.old < bound_of self.old (path_view path.now) → IsErrAnd result IsRefusal }
-        ensures values { UnlessExceeded (ByMeanings (limited_mode self.old) (limited_bytes self.old) (path_view path.now)
-            AreAll) result }
+        ensures values { UnlessExceeded (ByMeanings (limited_mode self.old) (limited_bytes self.old)
+            (path_view path.now) AreAll) result }
         ensures errors { UnlessExceeded (λ answer. IfErr answer (IsDocumentError (limited_mode self.old))) result }
         ensures readable { OnOk result (HasReadableRoot (limited_bytes self.old)) }
     {
@@ -334,8 +336,8 @@ impl<'a> LimitedSelector<'a> {
         ensures kept { self.new ≡ self.old }
         ensures exceeded { IsErrOf result LimitExceeded → limit_of self.old < bound_of self.old (path_view path.now) }
         ensures refused { limit_of self.old < bound_of self.old (path_view path.now) → IsErrAnd result IsRefusal }
-        ensures exists { UnlessExceeded (ByMeanings (limited_mode self.old) (limited_bytes self.old) (path_view path.now)
-            IsFound) result }
+        ensures exists { UnlessExceeded (ByMeanings (limited_mode self.old) (limited_bytes self.old)
+            (path_view path.now) IsFound) result }
         ensures errors { UnlessExceeded (λ answer. IfErr answer (IsSelectionError (limited_mode self.old))) result }
         ensures readable { OnOk result (HasReadableRoot (limited_bytes self.old)) }
     {
@@ -366,7 +368,8 @@ impl<'a> LimitedSelector<'a> {
         ensures exceeded { IsErrOf result LimitExceeded → limit_of self.old < bound_of self.old (path_view path.now) }
         ensures refused { is_predicate (path_view path.now) ≡ true
             → limit_of self.old < bound_of self.old (path_view path.now) → IsErrAnd result IsRefusal }
-        ensures truth { UnlessExceeded (IsTruthOf (limited_mode self.old) (path_view path.now) (limited_bytes self.old)) result }
+        ensures truth { UnlessExceeded
+            (IsTruthOf (limited_mode self.old) (path_view path.now) (limited_bytes self.old)) result }
         ensures errors { UnlessExceeded (λ answer. IfErr answer (IsSelectionError (limited_mode self.old))) result }
         ensures readable { is_predicate (path_view path.now) ≡ true
             → OnOk result (HasReadableRoot (limited_bytes self.old)) }

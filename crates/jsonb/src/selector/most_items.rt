@@ -107,7 +107,8 @@ impl<'s, 'p> Count<'s, 'p> {
     /// Adds an expression that is still to be counted.
     fn wait(&mut self, expression: &'s Expr<'p>, list: ListBound) -> Result<(), Error>
         ensures grows { (size : DocumentSize)
-            → IfOk result (λ _. Grows size self.old self.new (expression_items size (expression_view expression.now) list)) }
+            → IfOk result (λ _. Grows size self.old self.new
+            (expression_items size (expression_view expression.now) list)) }
         ensures parts { IfOk result (λ _. waiting_parts self.new ≡ waiting_parts self.old + parts expression.now) }
         ensures errors { IfErr result IsOutOfMemory }
     {
@@ -176,7 +177,8 @@ impl<'s, 'p> Count<'s, 'p> {
     #[tactic(auto, using(crate::proofs::CountLemmas::grows_then))]
     fn add_expression(&mut self, size: DocumentSize, next: Waiting<'s, 'p>) -> Result<(), Error>
         ensures grows { IfOk result (λ _. Grows size self.old self.new (waiting_items size next.entry)) }
-        ensures parts { IfOk result (λ _. waiting_parts self.new < waiting_parts self.old + parts next.entry.expression.now) }
+        ensures parts { IfOk result
+            (λ _. waiting_parts self.new < waiting_parts self.old + parts next.entry.expression.now) }
         ensures errors { IfErr result IsOutOfMemory }
     {
         let list = next.list;
@@ -277,7 +279,8 @@ fn after(size: DocumentSize, step: &Path<'_>, list: ListBound) -> ListBound
 
 /// Returns the list of the elements at the positions of subscripts.
 fn picked_list(entries: &[ArrayIndex], list: ListBound) -> ListBound
-    ensures { result ≡ picked_list (all_single (map entry_view entries.now)) (length (map entry_view entries.now)) list }
+    ensures { result
+        ≡ picked_list (all_single (map entry_view entries.now)) (length (map entry_view entries.now)) list }
 {
     let count = entries.len() as u64;
     let below = list.below.saturating_mul(count);

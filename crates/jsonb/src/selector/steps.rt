@@ -249,8 +249,8 @@ fn push_kept<'a>(
     ensures kept { (top t : Tree) → HasTree current.entry.context.now.document top
         → IsAt current.entry.context.now.document current.entry.item t
         → IsKeptFor current.entry.context.now.mode top (compiled_conditions (expression_view e.now) tests.now) kept.old
-        → OnOk result (IsKeptFor current.entry.context.now.mode top (compiled_conditions (expression_view e.now) tests.now)
-        kept.new) }
+        → OnOk result (IsKeptFor current.entry.context.now.mode top
+        (compiled_conditions (expression_view e.now) tests.now) kept.new) }
     ensures errors { IfErr result (IsSelectionError current.entry.context.now.mode) }
 {
     let keeps = is_true(truth_by_kept(current, e, tests, kept)?);
@@ -333,7 +333,8 @@ fn condition_truth<'a>(
     kept: &mut FilterCache<'a>,
 ) -> TruthResult
     requires { AreJoinedTests e.now tests.now }
-    ensures meant { RefinesTruthWithCache current.entry (expression_view e.now) (tests_conditions tests.now) kept.old result }
+    ensures meant { RefinesTruthWithCache current.entry (expression_view e.now) (tests_conditions tests.now)
+        kept.old result }
     ensures kept { ExtendsCache current.entry (tests_conditions tests.now) kept.old kept.new result }
     ensures errors { IfErr result (IsSelectionError current.entry.context.now.mode) }
 {

@@ -1,5 +1,5 @@
-//! What decides whether the next element of an array is kept in a set operation: counts of equality keys, or the elements
-//! themselves if they are few.
+//! What decides whether the next element of an array is kept in a set operation: counts of equality keys, or the
+//! elements themselves if they are few.
 
 ghost use Rattle.std.specs.Prelude.{◌≡◌, List, nat_lt, take, IsOkAnd, IfSome, IfErr, ⊤};
 ghost use Rattle.jsonb_doc.specs.Tree.{Tree};
@@ -23,8 +23,8 @@ use jsonb_doc::layout::EntryKind;
 use jsonb_doc::{Error, StoredEntry};
 use std::alloc::Global;
 
-/// The number of elements of both arrays up to which all pairs are compared. Keys and counts need an allocation for each
-/// element, which takes as many instructions as some 20 comparisons.
+/// The number of elements of both arrays up to which all pairs are compared. Each element needs an allocation for its
+/// key otherwise: two strings take twice the instructions.
 const FEW: usize = 8;
 
 /// How often the key of each element is still counted, and a vector for the next key.
@@ -134,8 +134,8 @@ impl<'a> Seen<'a> {
     }
 }
 
-/// Returns the elements of two arrays if both have few, and no containers: to compare eight objects pair by pair takes four
-/// times as long as their keys.
+/// Returns the elements of two arrays if both have few, and no containers: pair by pair, eight objects take four times
+/// the instructions of their keys.
 pub(super) fn few_elements<'a>(
     bytes: &'a [u8],
     others: &'a [u8],

@@ -240,7 +240,8 @@ fn is_object(bytes: &[u8]) -> Result<bool, Error>
 /// too.
 #[inline(never)]
 fn element_document(alloc: Global, bytes: &[u8], index: usize) -> Result<Option<OwnedJsonb>, Error>
-    ensures element { (form : Form) (t : Tree) → Decodes form bytes.now t → MakesOption form (element_at index t) result }
+    ensures element { (form : Form) (t : Tree) → Decodes form bytes.now t
+        → MakesOption form (element_at index t) result }
     ensures none { (form : Form) (t : Tree) → Decodes form bytes.now t → element_at index t ≡ None
         → result ≡ Ok None }
     ensures errors { IfErr result (IsDecodingError or OutOfMemory or TooLarge) }
