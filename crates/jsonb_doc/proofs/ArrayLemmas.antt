@@ -73,7 +73,7 @@ pub element_held : (form : Form) (before after : Parts) (ts : List Tree) (item :
 element_held form before after ts item t holds stands fits short is =
     stored_held form before after ts (item_kind item) (item_content item) t holds (content_stands form item t stands fits) short is
 
-last_is_short : (form : Form) (ts : List Tree) (t : Tree) → HasShortElements form (trees_of (ts ++ t ∷ [])) → content_size form t < 2 ^ 28
+pub last_is_short : (form : Form) (ts : List Tree) (t : Tree) → HasShortElements form (trees_of (ts ++ t ∷ [])) → content_size form t < 2 ^ 28
 last_is_short form [] t h = h.0
 last_is_short form (u ∷ us) t h = last_is_short form us t h.2
 

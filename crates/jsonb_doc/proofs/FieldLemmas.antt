@@ -20,8 +20,10 @@ use Rattle.jsonb_doc.proofs.KeysRead.{begin_key}
 use Rattle.jsonb_doc.proofs.ScalarLemmas.{some_injective}
 use Rattle.jsonb_doc.proofs.Containers.{length-key_words, HoldsPairs-keys}
 use Rattle.jsonb_doc.proofs.LengthsLemmas.{told, told_length, StandBefore-joined, HoldKeys-before}
-use Rattle.jsonb_doc.specs.Private.Containers.{Holds, IsCut}
+use Rattle.jsonb_doc.specs.Private.Containers.{Holds, IsCut, HasPairParts}
+use Rattle.jsonb_doc.specs.Private.Fields.{IsValueEntry}
 use Rattle.jsonb_doc.specs.declared.container.ObjectParts.{ObjectParts}
+use Rattle.jsonb_doc.specs.declared.layout.Entry.{Entry}
 use Rattle.jsonb_doc.specs.declared.container.Container.TheVariants.{Object}
 use Rattle.jsonb_doc.proofs.SpotsLemmas.{Locates-part, some_field, object_held, object_joined}
 
@@ -230,94 +232,105 @@ value_at number_at name (pair key t ps) (k ∷ front) back joined none words con
           (length front) words contents e.kind e.content e.other_words e.other_contents e.begin at,
     )
 
--- the value of a field, whose contents are the end of the object's
-pub record FieldAt (number_at : NumberReader) (name : List ℕ) (t : Tree) (words contents values : List ℕ) (passed : ℕ) : Type 0 where
-  pub value : Tree
-  pub under : field_of name t ≡ Some value
-  pub front : List ℕ
-  pub ends : contents ≡ front ++ values
-  pub at : ValueAt number_at value passed words values
+-- ---- the entry of the value
+
+module _ (number_at : NumberReader) (name : List ℕ) (ps : Pairs) (p : ObjectParts) (held : HasPairParts number_at ps p) where
+  keys_held : HoldKeys (keys ps) p.key_words.now p.contents.now held.rest
+  keys_held = HoldsPairs-keys number_at ps p held
+
+  -- no key of the object is the name
+  pub value_absent : ((ks : List (List ℕ)) (found : List ℕ) → HoldKeys ks p.key_words.now p.contents.now found → IsNoneOf name ks)
+      → value_under name ps ≡ None
+  value_absent none = no_value name ps (none (keys ps) held.rest keys_held)
+
+  -- its keys are searched
+  pub value_searched : ((ks : List (List ℕ)) (found : List ℕ) → HoldKeys ks p.key_words.now p.contents.now found → ⊥) → ⊥
+  value_searched none = none (keys ps) held.rest keys_held
+
+  module _ (behind bytes_behind : List ℕ)
+      (finds : (ks : List (List ℕ)) (found : List ℕ) → HoldKeys ks p.key_words.now p.contents.now found → FoundKey name ks found behind bytes_behind) where
+    key_found_at : FoundKey name (keys ps) held.rest behind bytes_behind
+    key_found_at = finds (keys ps) held.rest keys_held
+
+    -- keys follow the one that was found
+    pub keys_behind : (back : List (List ℕ)) × (found : List ℕ) × StandBefore back behind bytes_behind found
+    keys_behind = let f = key_found_at in (f.back, held.rest, HoldKeys-before f.back _ _ held.rest f.behind)
+
+    module _ (contents : List ℕ) (skips : (parts : List (List ℕ)) (others : List ℕ) → StandBefore parts behind bytes_behind others → contents ≡ others)
+        (passed : ℕ) (place : passed ≡ length p.key_words.now - length behind - 4) where
+      skipped : contents ≡ held.rest
+      skipped = let f = key_found_at in skips f.back held.rest (HoldKeys-before f.back _ _ held.rest f.behind)
+
+      -- the value, after the contents of the keys
+      pub value_there : (value : Tree) × (value_under name ps ≡ Some value) × ValueAt number_at value passed p.value_words.now contents
+      value_there =
+          let f = key_found_at in
+          let (value, under, at) = value_at number_at name ps f.front f.back f.joined f.first _ held.rest held.values in
+          let all = ap length held.words ∙ length-key_words (keys ps) in
+          let split = ap length f.joined ∙ length-append f.front (name ∷ f.back) in
+          let others = ap length f.behind.words_joined ∙ length-key_words f.back in
+          let from : passed ≡ 4 * length f.front = omega (arith, all, split, others, place) in
+          (value, under, rw (skipped, from) at)
+
+      module _ (e : Entry)
+          (entry : (parts : List (List ℕ)) (left : List ℕ) → StandBefore parts (take passed p.value_words.now) contents left
+          → BeginWith (drop passed p.value_words.now) left (kind_number e.kind) e.content.now e.other_words.now e.other_contents.now) where
+        pub value_entry : IsValueEntry number_at name ps p e
+        value_entry =
+            let (value, under, at) = value_there in
+            let before = StandBefore-joined at.parts _ contents at.left at.before in
+            let begin = entry at.parts at.left at.before in
+            let (same_kind, same_content, same_words, same_contents) = BeginWith-unique _ _ _ _ _ _ _ _ _ _ begin at.begin in
+            record {
+              value = value;
+              under = under;
+              part = rw (same_kind, same_content) at.part;
+              front = key_bytes (keys ps) ++ before.0;
+              ends = held.bytes ∙ ap (λ (w : List ℕ). key_bytes (keys ps) ++ w) (sym skipped ∙ before.1 ∙ ap (λ (w : List ℕ). before.0 ++ w) begin.contents_joined)
+                  ∙ sym (append_assoc (key_bytes (keys ps)) before.0 (e.content.now ++ e.other_contents.now));
+            }
 
 -- ---- the spot of the value
 
 module _ (bytes : List ℕ) (parent : Spot) (t : Tree) (m : Locates bytes parent t) (content : List ℕ) (is : content ≡ spot_content bytes parent)
     (container : kind_number parent.kind ≡ 5)
     (p : ObjectParts) (cut : IsCut content (Object p)) (name : List ℕ) where
-  -- no key of the object is the name
-  pub field_absent : ((ks : List (List ℕ)) (found : List ℕ) → HoldKeys ks p.key_words.now p.contents.now found → IsNoneOf name ks)
-      → SameOption (Locates bytes) None (field_of name t)
-  field_absent none = go t (object_held bytes parent t m content is container p cut any m.whole m.decodes)
-    where
-      go : (u : Tree) → Holds (number_reader any) u (Object p) → SameOption (Locates bytes) None (field_of name u)
-      go (object ps) held = rw (no_value name ps (none (keys ps) held.rest (HoldsPairs-keys (number_reader any) ps p held))) tt
-      go _ held = absurd held
+  held_in : (form : Form) (top : Tree) → Decodes form bytes top → Holds (number_reader form) t (Object p)
+  held_in = object_held bytes parent t m content is container p cut
 
-  -- its keys are searched
-  pub field_searched : ((ks : List (List ℕ)) (found : List ℕ) → HoldKeys ks p.key_words.now p.contents.now found → ⊥) → ⊥
-  field_searched none = go t (object_held bytes parent t m content is container p cut any m.whole m.decodes)
+  pub field_searched : ((number_at : NumberReader) (ps : Pairs) → HasPairParts number_at ps p → ⊥) → ⊥
+  field_searched none = go t (held_in any m.whole m.decodes)
     where
       go : (u : Tree) → Holds (number_reader any) u (Object p) → ⊥
-      go (object ps) held = none (keys ps) held.rest (HoldsPairs-keys (number_reader any) ps p held)
+      go (object ps) held = none (number_reader any) ps held
       go _ held = held
 
-  module _ (behind bytes_behind : List ℕ)
-      (finds : (ks : List (List ℕ)) (found : List ℕ) → HoldKeys ks p.key_words.now p.contents.now found → FoundKey name ks found behind bytes_behind) where
-    -- keys follow the one that was found
-    pub field_keys : (form : Form) (top : Tree) → Decodes form bytes top
-        → (back : List (List ℕ)) × (found : List ℕ) × StandBefore back behind bytes_behind found
-    field_keys form top d = go t (object_held bytes parent t m content is container p cut form top d)
-      where
-        go : (u : Tree) → Holds (number_reader form) u (Object p) → (back : List (List ℕ)) × (found : List ℕ) × StandBefore back behind bytes_behind found
-        go (object ps) held =
-            let f = finds (keys ps) held.rest (HoldsPairs-keys (number_reader form) ps p held) in
-            (f.back, held.rest, HoldKeys-before f.back _ _ held.rest f.behind)
-        go _ held = absurd held
+  pub field_absent : ((number_at : NumberReader) (ps : Pairs) → HasPairParts number_at ps p → value_under name ps ≡ None)
+      → SameOption (Locates bytes) None (field_of name t)
+  field_absent none = go t (held_in any m.whole m.decodes)
+    where
+      go : (u : Tree) → Holds (number_reader any) u (Object p) → SameOption (Locates bytes) None (field_of name u)
+      go (object ps) held = rw (none (number_reader any) ps held) tt
+      go _ held = absurd held
 
-    module _ (contents : List ℕ) (skips : (parts : List (List ℕ)) (others : List ℕ) → StandBefore parts behind bytes_behind others → contents ≡ others)
-        (passed : ℕ) (place : passed ≡ length p.key_words.now - length behind - 4) where
-      -- the field's value, as the bytes hold it
-      pub field_value : (form : Form) (top : Tree) → Decodes form bytes top
-          → FieldAt (number_reader form) name t p.value_words.now p.contents.now contents passed
-      field_value form top d = go t (object_held bytes parent t m content is container p cut form top d)
-        where
-          go : (u : Tree) → Holds (number_reader form) u (Object p) → FieldAt (number_reader form) name u p.value_words.now p.contents.now contents passed
-          go (object ps) held =
-              let f = finds (keys ps) held.rest (HoldsPairs-keys (number_reader form) ps p held) in
-              let skipped = skips f.back held.rest (HoldKeys-before f.back _ _ held.rest f.behind) in
-              let (value, under, at) = value_at (number_reader form) name ps f.front f.back f.joined f.first _ held.rest held.values in
-              let all = ap length held.words ∙ length-key_words (keys ps) in
-              let split = ap length f.joined ∙ length-append f.front (name ∷ f.back) in
-              let others = ap length f.behind.words_joined ∙ length-key_words f.back in
-              let from : passed ≡ 4 * length f.front = omega (arith, all, split, others, place) in
-              record {
-                value = value;
-                under = under;
-                front = key_bytes (keys ps);
-                ends = held.bytes ∙ ap (λ (w : List ℕ). key_bytes (keys ps) ++ w) (sym skipped);
-                at = rw (skipped, from) at;
-              }
-          go _ held = absurd held
-
-      module _ (value_kind : ℕ) (value_content ws cs : List ℕ)
-          (entry : (parts : List (List ℕ)) (left : List ℕ) → StandBefore parts (take passed p.value_words.now) contents left
-          → BeginWith (drop passed p.value_words.now) left value_kind value_content ws cs) where
-        -- the spot of the field's value
-        pub field_marks : (spot : Spot) → kind_number spot.kind ≡ value_kind → spot.end ≡ parent.end - length cs → spot.start ≡ spot.end - length value_content
-            → SameOption (Locates bytes) (Some spot) (field_of name t)
-        field_marks spot k e s =
-            let one = field_value any m.whole m.decodes in
-            let before = StandBefore-joined one.at.parts _ contents one.at.left one.at.before in
-            let first = entry one.at.parts one.at.left one.at.before in
-            let words = header 2 cut.0 ++ (p.key_words.now ++ p.value_words.now) in
-            let joined : spot_content bytes parent ≡ ((words ++ one.front) ++ before.0) ++ (value_content ++ cs) =
-            sym is ∙ object_joined bytes parent t m content is container p cut ∙ ap (λ (w : List ℕ). words ++ w) one.ends
-            ∙ sym (append_assoc words one.front contents)
-            ∙ ap (λ (w : List ℕ). (words ++ one.front) ++ w) (before.1 ∙ ap (λ (w : List ℕ). before.0 ++ w) first.contents_joined)
-            ∙ sym (append_assoc (words ++ one.front) before.0 (value_content ++ cs)) in
-            some_field bytes name t one.value spot one.under
-            (Locates-part bytes parent t m spot one.value value_kind ((words ++ one.front) ++ before.0) value_content cs joined k e s (λ form top d.
-            let other = field_value form top d in
-            let same : other.value ≡ one.value = some_injective (sym other.under ∙ one.under) in
-            let begin = entry other.at.parts other.at.left other.at.before in
-            let (same_kind, same_content, same_words, same_contents) = BeginWith-unique _ _ _ _ _ _ _ _ _ _ begin other.at.begin in
-            rw (same_kind, same_content, ← same) other.at.part))
+  pub field_marks : (e : Entry) (spot : Spot) → spot.kind ≡ e.kind → spot.end ≡ parent.end - length e.other_contents.now
+      → spot.start ≡ spot.end - length e.content.now
+      → ((number_at : NumberReader) (ps : Pairs) → HasPairParts number_at ps p → IsValueEntry number_at name ps p e)
+      → SameOption (Locates bytes) (Some spot) (field_of name t)
+  field_marks e spot k end start finds = go t m held_in
+    where
+      go : (u : Tree) → Locates bytes parent u → ((form : Form) (top : Tree) → Decodes form bytes top → Holds (number_reader form) u (Object p))
+          → SameOption (Locates bytes) (Some spot) (field_of name u)
+      go (object ps) l held =
+          let one = finds (number_reader any) ps (held any m.whole m.decodes) in
+          let words = header 2 cut.0 ++ (p.key_words.now ++ p.value_words.now) in
+          let joined : spot_content bytes parent ≡ (words ++ one.front) ++ (e.content.now ++ e.other_contents.now) =
+          sym is ∙ object_joined bytes parent t m content is container p cut ∙ ap (λ (w : List ℕ). words ++ w) one.ends
+          ∙ sym (append_assoc words one.front (e.content.now ++ e.other_contents.now)) in
+          some_field bytes name (object ps) one.value spot one.under
+          (Locates-part bytes parent (object ps) l spot one.value (kind_number e.kind) (words ++ one.front) e.content.now e.other_contents.now joined (ap kind_number k)
+          end start (λ form top d.
+          let other = finds (number_reader form) ps (held form top d) in
+          let same : other.value ≡ one.value = some_injective (sym other.under ∙ one.under) in
+          rw (← same) other.part))
+      go _ l held = absurd (held any m.whole m.decodes)

@@ -7,7 +7,8 @@ use Rattle.jsonb_doc.specs.Format.{HeadedBy, HasItsWords, entry_word}
 use Rattle.jsonb_doc.specs.Item.{IsItemOf, IsRootOf}
 use Rattle.jsonb_doc.specs.Tree.{Tree}
 use Rattle.jsonb_doc.specs.Format.{IsContent, Decodes, IsContainer, HasFirstEntry, AreNone}
-use Rattle.jsonb_doc.specs.Shapes.{IsShapeOf, IsRootShape}
+use Rattle.jsonb_doc.specs.Private.ShapeOf.{IsShapeOf}
+use Rattle.jsonb_doc.specs.Shapes.{IsRootShape}
 use Rattle.jsonb_doc.specs.declared.shape.Shape.{Shape}
 use Rattle.jsonb_doc.specs.declared.shape.Shape.TheVariants as shapes
 use Rattle.jsonb_doc.specs.Readable.{HasReadableRoot}

@@ -1,4 +1,4 @@
--- The test of whether trees are equal by value.
+-- Which trees are equal by value.
 use Rattle.std.specs.Prelude.{Bool, true, false, ◌&&◌}
 use Rattle.std.specs.Ordering.{eq_by_cmp, int_eq}
 use Rattle.std.specs.Str.{bytes_eq}

@@ -24,9 +24,13 @@ pub mod Arithmetic
 pub mod ArrayBuilder
 pub mod ObjectBuilder
 pub mod Spots
-pub mod StoredValue
+pub mod ChildPositions
 pub mod Value
 pub mod Equal
 pub mod Private
 pub mod Proofs
 pub mod Readable
+pub mod Pieces
+pub mod Events
+pub mod EventErrorText
+pub mod DocumentBuilder

@@ -3,6 +3,7 @@
 pub mod Builders
 pub mod Headers
 pub mod Lengths
+pub mod Fields
 pub mod Stored
 pub mod Checking
 pub mod Depths
@@ -20,3 +21,7 @@ pub mod Payloads
 pub mod EqualBytes
 pub mod Cursor
 pub mod Writer
+pub mod Closing
+pub mod StoredValue
+pub mod ShapeOf
+pub mod Earlier

@@ -2,8 +2,8 @@
 use Rattle.std.specs.Prelude.{◌≡◌, ℕ, List}
 use Rattle.jsonb_doc.specs.Tree as spec
 use Rattle.jsonb_doc.specs.Tree.{Tree}
-use Rattle.jsonb_doc.specs.Payload.{any, number_reader}
-use Rattle.jsonb_doc.specs.Format.{Decodes, IsContent, IsContainer, HasFirstEntry, AreNone, HasItsWords, scalar_header, array_header, object_header, text_entry}
+use Rattle.jsonb_doc.specs.Payload.{any}
+use Rattle.jsonb_doc.specs.Format.{Decodes, IsContainer, HasFirstEntry, AreNone, HasItsWords, scalar_header, array_header, object_header, text_entry}
 use Rattle.jsonb_doc.specs.View.{number_parts, extension_view}
 use Rattle.jsonb_doc.specs.declared.shape.Shape.{Shape}
 use Rattle.jsonb_doc.specs.declared.shape.Shape.TheVariants.{Null, Boolean, Number, Text, Extension, Array, Object}
@@ -17,13 +17,6 @@ HasShape (Text bytes) t = t ≡ spec.text bytes.now
 HasShape (Extension x) t = t ≡ spec.extension (extension_view x)
 HasShape Array t = (ts : spec.Trees) × (t ≡ spec.array ts)
 HasShape Object t = (ps : spec.Pairs) × (t ≡ spec.object ps)
-
--- Holds if the entry of this kind and content has this shape, on any bytes. A string is not read.
-abbrev pub IsShapeOf : ℕ → List ℕ → Shape → Type 0
-IsShapeOf kind content (Text bytes) = (kind ≡ text_entry) × (bytes.now ≡ content)
-IsShapeOf kind content Array = ⊥
-IsShapeOf kind content Object = ⊥
-IsShapeOf kind content shape = (t : Tree) × IsContent (number_reader any) t kind content × HasShape shape t
 
 -- Holds if the root of the bytes has this shape, on any bytes. A string is one entry, whose bytes are not read. Another
 -- scalar decodes, so it is not a float and not a decimal of 256 bits. Only the header of a container is read, which its

@@ -3,16 +3,15 @@
 ghost use Rattle.std.specs.Prelude.{◌≡◌, ◌≤◌, ℕ, ◌*◌, ◌+◌, List, length, IfOk, MatchOption, MatchResult};
 ghost use Rattle.jsonb_doc.specs.Tree.{Tree};
 ghost use Rattle.jsonb_doc.specs.Payload.{NumberReader};
-ghost use Rattle.jsonb_doc.specs.Format.{HeadedBy, IsDocument};
+ghost use Rattle.jsonb_doc.specs.Format.{HeadedBy, IsDocument, scalar_header};
 ghost use Rattle.jsonb_doc.specs.Kinds.{kind_number};
 ghost use Rattle.jsonb_doc.specs.Private.Containers.{container_words, container_room, IsLoneEntry, IsCut};
 
 use crate::entry_iter::StoredEntry;
 use crate::error::Error;
-use crate::layout::{
-    EntryKind, HeaderKind, WORD, after_scalar_header, split_header, split_lone_entry,
-};
-use crate::lengths::skip_contents;
+use crate::key_search::find_key;
+use crate::layout::{Entry, EntryKind, HeaderKind, WORD, split_header, split_scalar};
+use crate::lengths::{entry_at_offset, skip_contents};
 
 /// The entry words of an array, and their contents.
 #[derive(Clone, Copy)]
@@ -35,7 +34,11 @@ pub struct ObjectParts<'a> {
 }
 
 impl<'a> ObjectParts<'a> {
-    ghost use Rattle.std.specs.Prelude.{◌≡◌, ◌^◌, ◌<◌, ◌≤◌, List, ◌++◌, ℕ, length, IfErr, IfOk, IsOkAnd};
+    ghost use Rattle.std.specs.Prelude.{◌≡◌, ◌+◌, ◌^◌, ◌<◌, ◌≤◌, List, ◌++◌, ℕ, length, IfErr, IfOk, IfSome, IsOkAnd};
+    ghost use Rattle.jsonb_doc.specs.Tree.{Pairs};
+    ghost use Rattle.jsonb_doc.specs.Payload.{NumberReader};
+    ghost use Rattle.jsonb_doc.specs.Private.Containers.{HasPairParts};
+    ghost use Rattle.jsonb_doc.specs.Private.Fields.{FindsValue};
     ghost use Rattle.jsonb_doc.specs.Private.Lengths.{StandBefore};
     ghost use Rattle.jsonb_doc.specs.Answer.{IsDecodingError};
 
@@ -58,6 +61,39 @@ impl<'a> ObjectParts<'a> {
     {
         match skip_contents(self.key_words, self.contents) {
             Some(contents) => Ok(contents),
+            None => Err(Error::InvalidJsonb),
+        }
+    }
+
+    /// Returns the entry of the value of a key, and the entries after it, or `None` if there is no such key.
+    ///
+    /// # Errors
+    ///
+    /// `InvalidJsonb`, only if the keys or the values are longer than the bytes, or the keys are not sorted.
+    ///
+    /// # Complexity
+    ///
+    /// O(k) for k keys. Does not allocate.
+    #[inline(always)]
+    pub fn value_of(&self, name: &[u8]) -> Result<Option<Entry<'a, 'a>>, Error>
+        requires short { length self.now.key_words.now < 2 ^ 32 }
+        requires paired { length self.now.value_words.now ≡ length self.now.key_words.now }
+        ensures value { (number_at : NumberReader) (ps : Pairs) → HasPairParts number_at ps self.now
+            → IsOkAnd result (FindsValue number_at name.now ps self.now) }
+        ensures size { IfOk result (λ found. IfSome found
+            (λ e. length e.content.now + length e.other_contents.now ≤ length self.now.contents.now)) }
+        ensures errors { IfErr result IsDecodingError }
+    {
+        let found = find_key(self.key_words, self.contents, name)?;
+        let Some((words_behind, bytes_behind)) = found else {
+            return Ok(None);
+        };
+        let passed = self.key_words.len() - words_behind.len() - WORD;
+        let Some(values) = skip_contents(words_behind, bytes_behind) else {
+            return Err(Error::InvalidJsonb);
+        };
+        match entry_at_offset(self.value_words, passed, values) {
+            Some(value) => Ok(Some(value)),
             None => Err(Error::InvalidJsonb),
         }
     }
@@ -92,11 +128,8 @@ pub fn read_container(bytes: &[u8]) -> Result<Container<'_>, Error>
         → IfOk result (λ found. container_words found ≡ 4 * entries) }
     ensures room { IfOk result (λ found. 4 + container_room found ≤ length bytes.now) }
 {
-    if let Some(rest) = after_scalar_header(bytes) {
-        return match lone_entry(rest) {
-            Some(entry) => Ok(Container::Scalar(entry)),
-            None => Err(Error::InvalidJsonb),
-        };
+    if let Some(entry) = lone_entry(bytes) {
+        return Ok(Container::Scalar(entry));
     }
     let Some((kind, entries, rest)) = split_header(bytes) else {
         return Err(Error::InvalidJsonb);
@@ -120,14 +153,16 @@ pub fn read_container(bytes: &[u8]) -> Result<Container<'_>, Error>
     }
 }
 
-/// Returns the entry that these bytes consist of, its word and its content, if it is a scalar.
+/// Returns the entry of a scalar root, or `None` if the bytes are not a scalar root.
 #[inline(always)]
 fn lone_entry(bytes: &[u8]) -> Option<StoredEntry<'_>>
     ensures { MatchOption result
-        ((kind : ℕ) (content : List ℕ) → IsLoneEntry bytes.now kind content → ⊥)
-        (λ e. IsLoneEntry bytes.now (kind_number e.kind) e.content.now) }
+        ((kind : ℕ) (words content : List ℕ) → HeadedBy bytes.now scalar_header 0 words
+        → IsLoneEntry words kind content → ⊥)
+        (λ e. (words : List ℕ) × HeadedBy bytes.now scalar_header 0 words
+        × IsLoneEntry words (kind_number e.kind) e.content.now) }
 {
-    match split_lone_entry(bytes)? {
+    match split_scalar(bytes)? {
         (EntryKind::Container, _) => None,
         (kind, content) => Some(StoredEntry { kind, content }),
     }

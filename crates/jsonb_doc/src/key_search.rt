@@ -16,7 +16,8 @@ const BLOCK: usize = 32;
 
 /// Returns what follows the key that is this name, among the keys with these words and bytes.
 ///
-/// Skips blocks of keys before the one that the name would be in, then compares the keys of that block.
+/// Skips blocks of keys before the one that the name would be in, then compares the keys of that block. Without keys no
+/// register is saved for these loops.
 #[inline(always)]
 pub(crate) fn find_key<'w, 'k>(
     words: &'w [u8],
@@ -30,6 +31,9 @@ pub(crate) fn find_key<'w, 'k>(
         (λ found. IfSome found (λ r. (length r.0.now + 4 ≤ length words.now) × (length r.1.now ≤ length bytes.now))) }
     ensures errors { IfErr result IsDecodingError }
 {
+    if words.is_empty() {
+        return Ok(None);
+    }
     let (block_words, block_bytes) = skip_blocks(words, bytes, name)?;
     find_in_block(block_words, block_bytes, name)
 }

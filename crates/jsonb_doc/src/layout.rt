@@ -254,26 +254,6 @@ pub fn split_header(bytes: &[u8]) -> Option<(HeaderKind, usize, &[u8])>
     Some((kind, (header % COUNTS) as usize, rest))
 }
 
-/// Returns the bytes after the header of a scalar root, or `None` if they begin with another word.
-///
-/// One comparison, without the type and the count of other headers.
-///
-/// # Complexity
-///
-/// O(1). Does not allocate.
-#[inline(always)]
-pub fn after_scalar_header(bytes: &[u8]) -> Option<&[u8]>
-    ensures { MatchOption result
-        ((rest : List ℕ) → HeadedBy bytes.now scalar_header 0 rest → ⊥)
-        (λ rest. HeadedBy bytes.now scalar_header 0 rest.now) }
-{
-    let (header, rest) = split_word(bytes)?;
-    if header != SCALAR_HEADER {
-        return None;
-    }
-    Some(rest)
-}
-
 /// Returns the type and the length in the first entry word, and the words after it, or `None` if there is none.
 ///
 /// # Complexity
@@ -295,12 +275,8 @@ pub fn split_entry_word(words: &[u8]) -> Option<(EntryKind, usize, &[u8])>
 /// they are not one entry.
 ///
 /// The length is compared before the type is decoded: LLVM then tests the type once, in 11 instructions fewer.
-///
-/// # Complexity
-///
-/// O(1). Does not allocate.
 #[inline(always)]
-pub fn split_lone_entry(bytes: &[u8]) -> Option<(EntryKind, &[u8])>
+fn split_lone_entry(bytes: &[u8]) -> Option<(EntryKind, &[u8])>
     ensures { MatchOption result
         ((kind : ℕ) (content : List ℕ) → StartWith bytes.now kind (length content) content → ⊥)
         (λ r. StartWith bytes.now (kind_number r.0) (length r.1.now) r.1.now) }
@@ -310,6 +286,33 @@ pub fn split_lone_entry(bytes: &[u8]) -> Option<(EntryKind, &[u8])>
         return None;
     }
     let kind = EntryKind::from_u32(word / LENGTHS)?;
+    Some((kind, content))
+}
+
+/// Returns the type and the content of a scalar root's entry, or `None` if the bytes are not the header of a scalar
+/// root, an entry word and its content.
+///
+/// The size of both words is tested at once.
+///
+/// # Complexity
+///
+/// O(1). Does not allocate.
+#[inline(always)]
+pub fn split_scalar(bytes: &[u8]) -> Option<(EntryKind, &[u8])>
+    ensures { MatchOption result
+        ((kind : ℕ) (words content : List ℕ) → HeadedBy bytes.now scalar_header 0 words
+        → StartWith words kind (length content) content → ⊥)
+        (λ r. (words : List ℕ) × HeadedBy bytes.now scalar_header 0 words
+        × StartWith words (kind_number r.0) (length r.1.now) r.1.now) }
+{
+    if bytes.len() < 2 * WORD {
+        return None;
+    }
+    let (header, words) = split_word(bytes)?;
+    if header != SCALAR_HEADER {
+        return None;
+    }
+    let (kind, content) = split_lone_entry(words)?;
     Some((kind, content))
 }
 

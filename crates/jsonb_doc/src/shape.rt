@@ -1,11 +1,13 @@
 //! The type of a document's root, and the value of a scalar that is not a string.
 
-ghost use Rattle.std.specs.Prelude.{◌≡◌, ◌≢◌, IsOkAnd, IfOk, IfErr};
+ghost use Rattle.std.specs.Prelude.{◌≡◌, ◌≢◌, IsOkAnd, IfOk, IfErr, OnOk};
 ghost use Rattle.jsonb_doc.specs.Tree.{Tree};
 ghost use Rattle.jsonb_doc.specs.Payload.{Form, number_reader};
 ghost use Rattle.jsonb_doc.specs.Format.{Decodes, IsContent};
 ghost use Rattle.jsonb_doc.specs.Kinds.{kind_number};
-ghost use Rattle.jsonb_doc.specs.Shapes.{HasShape, IsShapeOf, IsRootShape};
+ghost use Rattle.jsonb_doc.specs.Shapes.{HasShape, IsRootShape};
+ghost use Rattle.jsonb_doc.specs.Private.ShapeOf.{IsShapeOf};
+ghost use Rattle.jsonb_doc.specs.declared.shape.Shape.{Shape};
 ghost use Rattle.jsonb_doc.specs.Answer.{IsDecodingError};
 
 use crate::container::{Container, read_container};
@@ -55,6 +57,36 @@ pub fn root_shape(bytes: &[u8]) -> Result<Shape<'_>, Error>
         Container::Scalar(entry) => scalar_shape(entry),
         Container::Array(_) => Ok(Shape::Array),
         Container::Object(_) => Ok(Shape::Object),
+    }
+}
+
+/// Returns the root of a document as the entry that would store it in a container.
+///
+/// Its value is not decoded again by `StoredEntry::item` if only its type and its bytes are needed.
+///
+/// # Errors
+///
+/// `InvalidJsonb` or `UnsupportedNumber`, only if the bytes do not decode. Only the root is read, and no string.
+///
+/// # Complexity
+///
+/// O(1). Does not allocate.
+#[inline(always)]
+pub fn root_entry(bytes: &[u8]) -> Result<StoredEntry<'_>, Error>
+    ensures entry { (form : Form) (t : Tree) → Decodes form bytes.now t
+        → IsOkAnd result (λ entry. IsContent (number_reader form) t (kind_number entry.kind) entry.content.now) }
+    ensures readable { OnOk result ((shape : Shape) × IsRootShape bytes.now shape) }
+    ensures errors { IfErr result IsDecodingError }
+{
+    match read_container(bytes)? {
+        Container::Scalar(entry) => {
+            scalar_shape(entry)?;
+            Ok(entry)
+        }
+        _ => Ok(StoredEntry {
+            kind: EntryKind::Container,
+            content: bytes,
+        }),
     }
 }
 

@@ -8,7 +8,7 @@ ghost use Rattle.jsonb_doc.specs.Private.Short.{short_value, short_parts};
 ghost use Rattle.jsonb_doc.specs.View.{number_parts, number_view};
 
 use crate::layout::DECIMAL64_LEN;
-use crate::number::{Decimal64, Number};
+use crate::number::{Decimal64, Number, signed_integer, unsigned_integer};
 use crate::number_order::exact_cmp;
 use byteorder::{BigEndian, ByteOrder};
 use std::cmp::Ordering;
@@ -155,10 +155,7 @@ pub(crate) fn read_unsigned(rest: &[u8]) -> Option<ShortNumber>
     ensures { IfSome result (λ n. number_of (0x50 ∷ rest.now) ≡ Some (short_value n)) }
 {
     match rest.len() {
-        1 => Some(ShortNumber::Unsigned(u64::from(rest[0]))),
-        2 => Some(ShortNumber::Unsigned(u64::from(BigEndian::read_u16(rest)))),
-        4 => Some(ShortNumber::Unsigned(u64::from(BigEndian::read_u32(rest)))),
-        8 => Some(ShortNumber::Unsigned(BigEndian::read_u64(rest))),
+        1 | 2 | 4 | 8 => Some(ShortNumber::Unsigned(unsigned_integer(rest))),
         _ => None,
     }
 }
@@ -170,7 +167,7 @@ pub(crate) fn read_signed(rest: &[u8]) -> Option<ShortNumber>
     ensures { IfSome result (λ n. number_of (0x40 ∷ rest.now) ≡ Some (short_value n)) }
 {
     match rest.len() {
-        1 | 2 | 4 | 8 => Some(ShortNumber::Signed(BigEndian::read_int(rest, rest.len()))),
+        1 | 2 | 4 | 8 => Some(ShortNumber::Signed(signed_integer(rest))),
         _ => None,
     }
 }

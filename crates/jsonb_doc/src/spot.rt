@@ -15,9 +15,7 @@ use crate::container::{Container, read_container};
 use crate::entry_iter::StoredEntry;
 use crate::error::Error;
 use crate::item::Item;
-use crate::key_search::find_key;
-use crate::layout::{EntryKind, WORD};
-use crate::lengths::{entry_at_offset, skip_contents};
+use crate::layout::EntryKind;
 use crate::short_number::ShortNumber;
 use crate::spot_iter::SpotIter;
 use std::ops::Range;
@@ -146,6 +144,7 @@ pub fn spot_by_parts(spot: Spot) -> Spot
 ///     return false;
 /// };
 /// ```
+#[inline(always)]
 pub fn root_spot(bytes: &[u8]) -> Result<Spot, Error>
     ensures marks { (t : Tree) → Decodes any bytes.now t → IsOkAnd result (λ spot. Locates bytes.now spot t) }
     ensures size { IfOk result (λ spot. spot_size spot ≤ length bytes.now) }
@@ -303,16 +302,8 @@ pub fn field_spot(bytes: &[u8], spot: Spot, name: &str) -> Result<Option<Spot>, 
         Container::Array(_) => return Ok(None),
         Container::Object(parts) => parts,
     };
-    let found = find_key(parts.key_words, parts.contents, name.as_bytes())?;
-    let Some((words_behind, bytes_behind)) = found else {
+    let Some(value) = parts.value_of(name.as_bytes())? else {
         return Ok(None);
-    };
-    let passed = parts.key_words.len() - words_behind.len() - WORD;
-    let Some(values) = skip_contents(words_behind, bytes_behind) else {
-        return Err(Error::InvalidJsonb);
-    };
-    let Some(value) = entry_at_offset(parts.value_words, passed, values) else {
-        return Err(Error::InvalidJsonb);
     };
     let kind = value.kind;
     let end = spot.end - value.other_contents.len();

@@ -13,7 +13,7 @@ use Rattle.jsonb_doc.specs.Number.{Number, number_cmp}
 use Rattle.jsonb_doc.specs.Proofs.NumberOrder.{number_cmp_total}
 use Rattle.jsonb_doc.specs.Extension.{Extension, binary, date, timestamp, timestamp_tz, interval}
 use Rattle.jsonb_doc.specs.Tree.{Tree, null, boolean, number, text, extension, array, object, Trees, no_trees, tree, Pairs, no_pairs, pair}
-use Rattle.jsonb_doc.specs.Order.{IsEqual, AreEqual, PairsAreEqual}
+use Rattle.jsonb_doc.specs.Proofs.EqualTrees.{IsEqual, AreEqual, PairsAreEqual}
 use Rattle.jsonb_doc.specs.Equal.{is_same_extension, is_equal, are_equal, pairs_are_equal}
 
 pub both : (a b : Bool) → a ≡ true → b ≡ true → (a && b) ≡ true

@@ -1,11 +1,15 @@
 //! Items of documents that decode and of bytes that do not.
 
 use super::{array_elements, elements, keys, object_pairs, pairs, root_item, values};
-use crate::entry_iter::object_entries;
+use crate::array_builder::ArrayBuilder;
+use crate::entry_iter::{array_entries, object_entries};
 use crate::error::Error;
 use crate::extension::{Date, ExtensionValue, Interval};
 use crate::item::Item;
+use crate::layout::EntryKind;
 use crate::number::{Decimal64, Number};
+use crate::object_builder::ObjectBuilder;
+use crate::shape::root_entry;
 use std::alloc::{AllocError, Global};
 use std::fmt::Debug;
 use std::test::Fail;
@@ -91,10 +95,11 @@ enum Read {
 }
 
 /// Containers and others, and what is read of them.
-static CONTAINERS: [(&[u8], Read); 13] = rows! {
+static CONTAINERS: [(&[u8], Read); 15] = rows! {
     MIXED, Read::Elements(Some(&[
         Ok(Item::Boolean(false)), Ok(Item::Number(Number::UInt64(10))), Ok(Item::Object(PAIR))
     ]));
+    NULL_ALONE, Read::Elements(Some(&[Ok(Item::Null)]));
     FLOAT_IN_ARRAY, Read::Elements(Some(&[Err(Error::UnsupportedNumber)]));
     NULLS, Read::Elements(None);
     TEN, Read::Elements(None);
@@ -106,6 +111,7 @@ static CONTAINERS: [(&[u8], Read); 13] = rows! {
     NO_TEXT_AS_KEY, Read::Keys(Some(&[Err(Error::InvalidJsonb)]));
     NULLS, Read::Pairs(Some(&[Ok(("a", Item::Null)), Ok(("b", Item::Array(NULL_ALONE)))]));
     FLOAT_IN_OBJECT, Read::Pairs(Some(&[Err(Error::UnsupportedNumber)]));
+    NO_TEXT_AS_KEY, Read::Pairs(Some(&[Err(Error::InvalidJsonb)]));
     TEN, Read::Pairs(None);
 };
 
@@ -165,7 +171,54 @@ fn reads_parts_of_containers(rt: HostRuntime) -> Result<(), Fail> {
 
 #[test]
 fn other_containers_are_refused(rt: HostRuntime) {
-    assert!(rt; matches!(array_elements(NULLS), Err(Error::InvalidJsonb)));
-    assert!(rt; matches!(object_pairs(MIXED), Err(Error::InvalidJsonb)));
-    assert!(rt; matches!(object_entries(MIXED), Err(Error::InvalidJsonb)));
+    let refused = Some(Error::InvalidJsonb);
+    assert!(rt; array_elements(NULLS).err() == refused, "elements");
+    assert!(rt; object_pairs(MIXED).err() == refused, "pairs");
+    assert!(rt; array_entries(NULLS).err() == refused, "entries");
+    assert!(rt; object_entries(MIXED).err() == refused, "entries of pairs");
+}
+
+/// An array whose element exceeds the bytes.
+const CUT: &[u8] = b"\x80\0\0\x01\x20\0\0\x02\x50";
+
+/// Which error it is depends on the order in which the bytes are read.
+#[test]
+fn entries_that_cannot_be_read_are_errors(rt: HostRuntime) -> Result<(), Fail> {
+    let entry = array_entries(CUT)?.next();
+    assert!(rt; matches!(entry, Some(Err(_))), "an entry");
+    let element = array_elements(CUT)?.next();
+    assert!(rt; matches!(element, Some(Err(_))), "an element");
+    let value = object_pairs(FLOAT_IN_OBJECT)?.next();
+    assert!(rt; matches!(value, Some(Err(_))), "a value");
+    let pair = object_pairs(NO_TEXT_AS_KEY)?.next();
+    assert!(rt; matches!(pair, Some(Err(_))), "a key of a pair");
+    if let Some(mut keys) = keys(NO_TEXT_AS_KEY)? {
+        assert!(rt; matches!(keys.next(), Some(Err(_))), "a key");
+    }
+    Ok(())
+}
+
+/// A float, which is not supported.
+const FLOAT: &[u8] = b"\x20\0\0\0\x20\0\0\x01\x60";
+
+#[test]
+fn roots_that_cannot_be_read_are_errors(rt: HostRuntime) -> Result<(), Fail> {
+    let mut array = ArrayBuilder::new(rt.alloc());
+    let mut object = ObjectBuilder::new(rt.alloc());
+    assert!(rt; root_item(FLOAT).is_err(), "a root");
+    assert!(rt; array.push_document(FLOAT).is_err(), "an element");
+    assert!(rt; object.push_document("k", FLOAT).is_err(), "a value");
+    object.push_document("k", TEN)?;
+    assert!(rt; root_item(b"").is_err(), "no root");
+    assert!(rt;
+        object.push_document("k", b"") == Err(Error::InvalidJsonb),
+        "no value"
+    );
+    Ok(())
+}
+
+#[test]
+fn containers_are_stored_as_containers(rt: HostRuntime) -> Result<(), Fail> {
+    assert!(rt; root_entry(MIXED)?.kind == EntryKind::Container);
+    Ok(())
 }

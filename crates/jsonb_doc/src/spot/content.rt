@@ -6,7 +6,7 @@ ghost use Rattle.jsonb_doc.specs.Payload.{any, number_reader};
 ghost use Rattle.jsonb_doc.specs.Format.{IsContent};
 ghost use Rattle.jsonb_doc.specs.Answer.{SameOption, IsDecodingError};
 ghost use Rattle.jsonb_doc.specs.Spots.{Locates, HasSpotsLeft, spots_bound};
-ghost use Rattle.jsonb_doc.specs.StoredValue.{IsStoredAs};
+ghost use Rattle.jsonb_doc.specs.Private.StoredValue.{IsStoredAs};
 
 use super::{Spot, spot_entry};
 use crate::container::{Container, read_container};

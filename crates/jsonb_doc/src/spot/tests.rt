@@ -193,6 +193,14 @@ fn refuses_spots_of_other_bytes_and_damage(rt: HostRuntime) -> Result<(), Fail> 
 }
 
 #[test]
+fn a_word_of_no_kind_has_no_spot(rt: HostRuntime) -> Result<(), Fail> {
+    if let Some(mut children) = child_spots(UNKNOWN, root_spot(UNKNOWN)?)? {
+        assert!(rt; matches!(children.next(), Some(Err(_))));
+    }
+    Ok(())
+}
+
+#[test]
 fn spots_have_ranges(rt: HostRuntime) -> Result<(), Fail> {
     let found = child_at(MIXED, root_spot(MIXED)?, 1)?;
     let parts = found.map(|spot| (spot.entry_kind(), spot.range().start, spot.range().end));

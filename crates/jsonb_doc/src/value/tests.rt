@@ -180,8 +180,12 @@ const DAY: Item<'static> = Item::Extension(ExtensionValue::Date(Date { value: 1 
 
 const TIME: Item<'static> = Item::Extension(ExtensionValue::Timestamp(Timestamp { value: 1 }));
 
+/// `{"name":"Fred","phones":null}`
+const FRED_WITHOUT_PHONES: &[u8] =
+    b"\x40\0\0\x02\x10\0\0\x04\x10\0\0\x06\x10\0\0\x04\0\0\0\0namephonesFred";
+
 /// Items, and whether their values are equal.
-static COMPARED: [(Item<'static>, Item<'static>, bool); 14] = rows! {
+static COMPARED: [(Item<'static>, Item<'static>, bool); 15] = rows! {
     ONE, Item::Number(Number::Decimal64(Decimal64 { scale: 1, value: 10 })), true;
     ONE, Item::Number(Number::Decimal64(Decimal64 { scale: 1, value: 11 })), false;
     MINUS_ONE, Item::Number(Number::Decimal64(Decimal64 { scale: 1, value: -10 })), true;
@@ -197,6 +201,7 @@ static COMPARED: [(Item<'static>, Item<'static>, bool); 14] = rows! {
     Item::Object(NULLS), Item::Object(NULL_AND_TRUE), false;
     Item::Object(FRED), Item::Object(FRED), true;
     Item::Object(FRED), Item::Object(NULLS), false;
+    Item::Object(FRED), Item::Object(FRED_WITHOUT_PHONES), false;
 };
 
 fn are_equal<'a>(alloc: Global, one: &Item<'a>, other: &Item<'a>) -> Result<bool, Error> {

@@ -1,5 +1,6 @@
-use Rattle.std.proofs.Common.{◌≡◌, ◌≢◌, ℕ, ◌+◌, ◌<◌, arith, nat_eq, if◌then◌else◌, ap, ◌∙◌, length, Some, None, ◌↔◌}
+use Rattle.std.proofs.Common.{◌≡◌, ◌≢◌, ℕ, ◌+◌, ◌<◌, arith, nat_eq, if◌then◌else◌, sym, ap, ◌∙◌, length, Some, None, ◌↔◌}
 use Rattle.std.specs.Prelude.{option_copied}
+use Rattle.std.proofs.lemmas.Bool.{false≢true}
 use Rattle.std.proofs.lemmas.Bool.Decides.{nat_tests}
 use Rattle.std.proofs.lemmas.List.{nil_from_length, length-append}
 use Rattle.std.proofs.lemmas.Grind.{common_steps}
@@ -47,7 +48,7 @@ check_container-returns-else-is_supported t c =
     let found = rw c.in_default-large.is at c.in-Some-check_entries.ensures in
     let all = Leaves-entries c.loop-words.is_supported c.in-Some-check_entries.entries.is_supported c.args.bytes.now c.loop-words.container.now
     c.in-Some.words.now c.in-Some.contents.now None c.loop-words.invariant.left c.in-Some.ensures found.1 in
-    (λ h. let both = (all.strict.0 h).0 in let none = c.if-is_supported.false in cc (both, none), all.lenient.1 tt)
+    (λ h. let both = (all.strict.0 h).0 in absurd (false≢true (sym c.if-is_supported.false ∙ both)), all.lenient.1 tt)
 
 pub check_entries-returns-in_default : goal.check_entries-returns-in_default
 check_entries-returns-in_default t c = λ h.

@@ -1,5 +1,5 @@
 use Rattle.std.proofs.Common.{arith, refl}
-use Rattle.jsonb_doc.proofs.Containers.{HasDocument-headed, document_scalar, array_long, object_long}
+use Rattle.jsonb_doc.proofs.Containers.{HeadedBy-unique, HasDocument-headed, document_scalar, array_long, object_long}
 use Rattle.jsonb_doc.proofs.container.read_container.Goals as goal
 use Rattle.jsonb_doc.proofs.container.read_container.Goals.{in_default-kind-via-in_default-kind, in_default-kind-via-in-Array+else-len-rest, in_default-kind-via-in-Object+else-len-rest-2}
 
@@ -11,19 +11,19 @@ returns-in_default-split_header-clause-cut c = (
       c.in_default-split_header.ensures kind n rest headed,
 )
 
-pub returns-in-None-clause-cut : goal.returns-in-None-clause-cut
-returns-in-None-clause-cut c = (
-  refl,
-  λ r t d.
-      let s = document_scalar r _ _ _ c.in-Some.ensures t d in
-      c.in-None.ensures s.kind s.content s.lone,
-)
+pub returns-in-Some-clause-bound : goal.returns-in-Some-clause-bound
+returns-in-Some-clause-bound c = λ kind n rest h.
+    let (words, headed, lone) = c.in-Some.ensures in
+    omega (arith, (HeadedBy-unique c.args.bytes.now kind 1 n 0 rest words h headed).1)
 
 pub returns-in_default-kind-clause-cut : goal.returns-in_default-kind-clause-cut
 returns-in_default-kind-clause-cut c = (
   refl,
   λ r t d. elim c.in_default-kind.branch [
-    | in_default-kind-via-in_default-kind w ↦ c.in_default.ensures _ (let h = rw w.in_default-kind.is at c.in-Some-split_header.ensures in rw (document_scalar r _ _ _ h t d).none at h)
+    | in_default-kind-via-in_default-kind w ↦
+        let h = rw w.in_default-kind.is at c.in-Some-split_header.ensures in
+        let s = document_scalar r _ _ _ h t d in
+        c.in_default.ensures s.kind _ s.content (rw s.none at h) s.lone
     | in_default-kind-via-in-Array+else-len-rest w ↦ omega (arith, array_long r _ _ _ t d (rw w.in-Array.is at c.in-Some-split_header.ensures), w.if-len-rest.false)
     | in_default-kind-via-in-Object+else-len-rest-2 w ↦ omega (arith, object_long r _ _ _ t d (rw w.in-Object.is at c.in-Some-split_header.ensures), w.if-len-rest-2.false)
   ],

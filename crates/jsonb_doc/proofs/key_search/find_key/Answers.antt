@@ -1,5 +1,15 @@
+use Rattle.std.proofs.Common.{◌≡◌, ◌==◌, ℕ, true, arith}
+use Rattle.std.proofs.lemmas.Bool.Decides.{nat_tests}
+use Rattle.jsonb_doc.proofs.FieldLemmas.{KeysLeft-start, KeysLeft-end}
 use Rattle.jsonb_doc.proofs.KeyBlocks.{found_among}
 use Rattle.jsonb_doc.proofs.key_search.find_key.Goals as goal
+
+zero_of : (n : ℕ) → true ≡ (n == 0) → n ≡ 0
+zero_of n e = grind (arith, nat_tests)
+
+pub returns-then-is_empty-clause-found : goal.returns-then-is_empty-clause-found
+returns-then-is_empty-clause-found c = λ ks rest h.
+    KeysLeft-end c.args.name.now ks rest _ _ (omega (arith, zero_of _ c.if-is_empty.ensures)) (KeysLeft-start _ ks rest _ _ h)
 
 pub returns-clause-found : goal.returns-clause-found
 returns-clause-found c = λ ks rest h.

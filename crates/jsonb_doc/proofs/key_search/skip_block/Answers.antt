@@ -1,10 +1,15 @@
-use Rattle.std.proofs.Common.{◌≡◌, ◌≢◌, ◌*◌, ◌≤◌, length, sym, ◌∙◌, arith, inl, inr}
+use Rattle.std.proofs.Common.{◌≡◌, ◌≢◌, ◌*◌, ◌≤◌, length, sym, ◌∙◌, arith, inl, inr, ◌⊎◌}
 use Rattle.std.specs.Ordering.{nat_cmp}
 use Rattle.std.specs.Cmp.Lexicographic.{slice_cmp}
-use Rattle.std.specs.declared.cmp.Ordering.TheVariants.{Less}
+use Rattle.std.specs.declared.cmp.Ordering.{Ordering}
+use Rattle.std.specs.declared.cmp.Ordering.TheVariants.{Less, Equal, Greater}
 use Rattle.jsonb_doc.proofs.LengthsLemmas.{IsPart-size}
 use Rattle.jsonb_doc.proofs.KeyBlocks.{none_behind, bytes_after, no_other, below_others, block_skipped}
 use Rattle.jsonb_doc.proofs.key_search.skip_block.Goals as goal
+
+not_less : (o : Ordering) → o ≡ Less → (o ≡ Equal) ⊎ (o ≡ Greater) → ⊥
+not_less o is (inl e) = cc
+not_less o is (inr e) = cc
 
 pub returns-in_default-clause-skips : goal.returns-in_default-clause-skips
 returns-in_default-clause-skips c = λ ks rest h. none_behind 32 ks c.args.words.now c.args.bytes.now rest h c.args.name.now c.in_default.ensures.cases
@@ -43,7 +48,7 @@ returns-in-Equal c =
           let other : slice_cmp nat_cmp c.args.name.now c.in-Some-split_entry.next.content.now ≢ Less =
           λ less.
           let is : c.bytes_cmp.result ≡ Less = c.bytes_cmp.ensures ∙ less in
-          elim c.in-Equal.is [ inl e ↦ cc (e, is) | inr e ↦ cc (e, is) ] in
+          not_less _ is c.in-Equal.is in
           block_skipped 32 ks c.args.words.now c.args.bytes.now rest h enough c.in-Some.other_words.now c.in-Some-get.other_bytes.now cases.1
           (rw c.in-Some-get.is at after) c.args.name.now _ _ _ _ c.in-Some-split_entry.ensures other;
       size = (omega (arith, cases.2), rw c.in-Some-get.is at (IsPart-size c.args.bytes.now c.sum_lengths.result c.get.result c.get.ensures.lookup));

@@ -1,5 +1,6 @@
-use Rattle.std.proofs.Common.{◌≡◌, ℕ, arith, refl, Ok}
+use Rattle.std.proofs.Common.{◌≡◌, ℕ, arith, refl, sym, Ok, Err}
 use Rattle.std.specs.Prelude.{Result}
+use Rattle.std.proofs.lemmas.Bool.{false≢true}
 use Rattle.jsonb_doc.specs.Depth.{deepest}
 use Rattle.jsonb_doc.specs.Payload.{any}
 use Rattle.jsonb_doc.specs.declared.error.Error.{Error}
@@ -8,9 +9,12 @@ use Rattle.jsonb_doc.proofs.nesting.check_depth.Goals as goal
 found_one : (depth other : ℕ) (answer : Result ℕ Error) → answer ≡ Ok depth → answer ≡ Ok other → depth ≡ other
 found_one depth other answer is h = cc
 
+no_error : {A E : Type 0} (x : A) (e : E) → Err e ≡ Ok x → ⊥
+no_error x e h = cc
+
 pub returns-then-branch-limit-clause-ok : goal.returns-then-branch-limit-clause-ok
 returns-then-branch-limit-clause-ok c = (
-  λ e. absurd (cc),
+  λ e. absurd (false≢true e),
   λ (t, decodes, fits).
       let same = found_one c.in_ok-depth.field-0 (deepest t) _ refl (c.in_ok-depth.ensures.depth any t decodes) in
       absurd (omega (arith, c.if-branch-limit.true)),
@@ -36,7 +40,7 @@ returns-else-branch-limit-clause-ok c = (
 
 pub returns-else-branch-limit-clause-too_deep : goal.returns-else-branch-limit-clause-too_deep
 returns-else-branch-limit-clause-too_deep c = (
-  λ e. absurd (cc),
+  λ e. absurd (no_error _ _ (sym e)),
   λ (t, decodes, deeper).
       let same = found_one c.in_ok-depth.field-0 (deepest t) _ refl (c.in_ok-depth.ensures.depth any t decodes) in
       absurd (omega (arith, c.if-branch-limit.false)),

@@ -1,5 +1,6 @@
 use Rattle.std.proofs.Common.{◌≡◌, Some, None, sym, ap, ◌∙◌, inl, inr, arith}
 use Rattle.std.proofs.lemmas.Grind.{common_steps}
+use Rattle.std.proofs.lemmas.Option.{none-some}
 use Rattle.jsonb_doc.specs.Tree.{number, extension}
 use Rattle.jsonb_doc.specs.Payload.{number_reader}
 use Rattle.jsonb_doc.specs.Kinds.{kind_number}
@@ -29,7 +30,7 @@ pub returns-in-Err-clause-shape : goal.returns-in-Err-clause-shape
 returns-in-Err-clause-shape c = λ form t h other.
     let found = number_content (number_reader form) _ _ t (ap kind_number c.in-Number.is) h in
     let none = number_fails _ c.in-Err.error c.in-Err.ensures.value in
-    let all : None ≡ Some found.0 = sym none ∙ reads_number form _ _ found.2 in cc
+    let all : None ≡ Some found.0 = sym none ∙ reads_number form _ _ found.2 in absurd (none-some _ all)
 
 pub returns-in-Ok-from_payload-clause-shape : goal.returns-in-Ok-from_payload-clause-shape
 returns-in-Ok-from_payload-clause-shape c = λ form t h other.
@@ -40,7 +41,7 @@ pub returns-in-Err-from_payload-clause-shape : goal.returns-in-Err-from_payload-
 returns-in-Err-from_payload-clause-shape c = λ form t h other.
     let found = extension_content (number_reader form) _ _ t (ap kind_number c.in-Extension.is) h in
     let fails = c.in-Err-from_payload.ensures in
-    let all : None ≡ Some found.0 = sym fails.0 ∙ found.2 in cc
+    let all : None ≡ Some found.0 = sym fails.0 ∙ found.2 in absurd (none-some _ all)
 
 pub returns-in-Container-clause-shape : goal.returns-in-Container-clause-shape
 returns-in-Container-clause-shape c = λ form t h other.

@@ -1,3 +1,5 @@
+use Rattle.std.proofs.Common.{arith}
+use Rattle.std.proofs.lemmas.Grind.{common_steps}
 use Rattle.jsonb_doc.specs.Payload.{any, number_reader}
 use Rattle.jsonb_doc.proofs.SpotsLemmas.{Locates-scalar, no_children, Locates-document, Locates-no-scalar, array_children, object_children, object_skipped}
 use Rattle.jsonb_doc.specs.declared.layout.EntryKind.TheVariants.{Container}
@@ -37,3 +39,12 @@ returns-in_ok-start-in-Object-clause-spots c = λ t m.
     c.in-Object.parts
     (rw c.in-Object.is at c.in_ok-read_container.ensures.cut) c.new-in-Object.result _ c.in_ok-start-in-Object.ensures.contents
     c.new-in-Object.ensures.words c.new-in-Object.ensures.start c.new-in-Object.ensures.end
+
+pub returns-in_ok-start-in-Object-clause-room : goal.returns-in_ok-start-in-Object-clause-room
+returns-in_ok-start-in-Object-clause-room c = grind (arith, common_steps)
+
+pub overflow_sub-start-in-Object : goal.overflow_sub-start-in-Object
+overflow_sub-start-in-Object c = grind (arith, common_steps)
+
+pub returns-in-Array-clause-room : goal.returns-in-Array-clause-room
+returns-in-Array-clause-room c = grind (arith, common_steps)

@@ -1,8 +1,8 @@
-use Rattle.std.proofs.Common.{◌-◌, length, refl}
+use Rattle.std.proofs.Common.{refl, arith}
+use Rattle.std.proofs.lemmas.Grind.{common_steps}
 use Rattle.jsonb_doc.specs.Payload.{any, number_reader}
-use Rattle.jsonb_doc.specs.Kinds.{kind_number}
 use Rattle.jsonb_doc.proofs.SpotsLemmas.{Locates-scalar, no_field, Locates-document, Locates-no-scalar, array_no_field}
-use Rattle.jsonb_doc.proofs.FieldLemmas.{field_absent, field_searched, field_keys, field_value, field_marks}
+use Rattle.jsonb_doc.proofs.FieldLemmas.{field_absent, field_searched, field_marks}
 use Rattle.jsonb_doc.specs.declared.layout.EntryKind.TheVariants.{Container}
 use Rattle.jsonb_doc.proofs.KindLemmas.{differing_kind, equal_kind}
 use Rattle.jsonb_doc.proofs.spot.field_spot.Goals as goal
@@ -29,45 +29,31 @@ returns-in-Array-clause-field c = λ t m.
     c.in-Array.field-0
     (rw c.in-Array.is at c.in_ok-read_container.ensures.cut) c.args.name.now
 
-pub returns-in_err-found-clause-field : goal.returns-in_err-found-clause-field
-returns-in_err-found-clause-field c = λ t m.
+pub returns-in_err-value-clause-field : goal.returns-in_err-value-clause-field
+returns-in_err-value-clause-field c = λ t m.
     absurd (field_searched c.args.bytes.now c.args.spot t m _ c.in_ok-object.ensures.2 (equal_kind _ c.args.spot.kind Container c.ne.ensures c.if-ne.false)
     c.in-Object.parts
-    (rw c.in-Object.is at c.in_ok-read_container.ensures.cut) c.args.name.now c.in_err-found.ensures.found)
+    (rw c.in-Object.is at c.in_ok-read_container.ensures.cut) c.args.name.now c.in_err-value.ensures.value)
 
 pub returns-in_default-clause-field : goal.returns-in_default-clause-field
 returns-in_default-clause-field c = λ t m.
     field_absent c.args.bytes.now c.args.spot t m _ c.in_ok-object.ensures.2 (equal_kind _ c.args.spot.kind Container c.ne.ensures c.if-ne.false)
     c.in-Object.parts
     (rw c.in-Object.is at c.in_ok-read_container.ensures.cut) c.args.name.now
-    (rw (c.as_bytes.ensures.value, c.in_default.is) at c.in_ok-found.ensures.found)
-
-pub returns-in_default-skip_contents-clause-field : goal.returns-in_default-skip_contents-clause-field
-returns-in_default-skip_contents-clause-field c = λ t m.
-    let found = rw (c.as_bytes.ensures.value, c.in-Some.is) at c.in_ok-found.ensures.found in
-    let keys = field_keys c.args.bytes.now c.args.spot t m _ c.in_ok-object.ensures.2 (equal_kind _ c.args.spot.kind Container c.ne.ensures c.if-ne.false)
-    c.in-Object.parts
-    (rw c.in-Object.is at c.in_ok-read_container.ensures.cut) c.args.name.now c.in-Some.words_behind.now c.in-Some.bytes_behind.now found any m.whole
-    m.decodes in
-    c.in_default-skip_contents.ensures.rest keys.0 keys.1 keys.2
-
-pub returns-in_default-entry_at_offset-clause-field : goal.returns-in_default-entry_at_offset-clause-field
-returns-in_default-entry_at_offset-clause-field c = λ t m.
-    let found = rw (c.as_bytes.ensures.value, c.in-Some.is) at c.in_ok-found.ensures.found in
-    let v = field_value c.args.bytes.now c.args.spot t m _ c.in_ok-object.ensures.2 (equal_kind _ c.args.spot.kind Container c.ne.ensures c.if-ne.false)
-    c.in-Object.parts
-    (rw c.in-Object.is at c.in_ok-read_container.ensures.cut) c.args.name.now c.in-Some.words_behind.now c.in-Some.bytes_behind.now found
-    c.in-Some-skip_contents.values.now c.in-Some-skip_contents.ensures.rest
-    (length c.in-Object.parts.key_words.now - length c.in-Some.words_behind.now - 4) refl any m.whole m.decodes in
-    c.in_default-entry_at_offset.ensures.entry v.at.parts v.at.left v.at.before v.at.kind v.at.content v.at.ws v.at.cs v.at.begin
+    (λ number_at ps held. rw (c.as_bytes.ensures.value, c.in_default.is) at (c.in_ok-value.ensures.value number_at ps held))
 
 pub returns-clause-field : goal.returns-clause-field
 returns-clause-field c = λ t m.
-    let found = rw (c.as_bytes.ensures.value, c.in-Some.is) at c.in_ok-found.ensures.found in
-    let v = c.in-Some-entry_at_offset.value in
     field_marks c.args.bytes.now c.args.spot t m _ c.in_ok-object.ensures.2 (equal_kind _ c.args.spot.kind Container c.ne.ensures c.if-ne.false)
     c.in-Object.parts
-    (rw c.in-Object.is at c.in_ok-read_container.ensures.cut) c.args.name.now c.in-Some.words_behind.now c.in-Some.bytes_behind.now found
-    c.in-Some-skip_contents.values.now c.in-Some-skip_contents.ensures.rest
-    (length c.in-Object.parts.key_words.now - length c.in-Some.words_behind.now - 4) refl (kind_number v.kind) v.content.now v.other_words.now
-    v.other_contents.now c.in-Some-entry_at_offset.ensures.entry _ refl refl refl
+    (rw c.in-Object.is at c.in_ok-read_container.ensures.cut) c.args.name.now c.in-Some.value _ refl refl refl
+    (λ number_at ps held. rw (c.as_bytes.ensures.value, c.in-Some.is) at (c.in_ok-value.ensures.value number_at ps held))
+
+pub returns-clause-size : goal.returns-clause-size
+returns-clause-size c = grind (arith, common_steps)
+
+pub overflow_sub-start : goal.overflow_sub-start
+overflow_sub-start c = grind (arith, common_steps)
+
+pub overflow_sub-end : goal.overflow_sub-end
+overflow_sub-end c = grind (arith, common_steps)

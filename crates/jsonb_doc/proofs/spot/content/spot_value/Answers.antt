@@ -1,4 +1,5 @@
 use Rattle.std.proofs.Common.{◌≡◌, sym, ap, ◌∙◌, Some, None, arith}
+use Rattle.std.proofs.lemmas.Option.{none-some}
 use Rattle.jsonb_doc.specs.Tree.{number}
 use Rattle.jsonb_doc.specs.Payload.{any, number_reader}
 use Rattle.jsonb_doc.specs.Kinds.{kind_number}
@@ -34,7 +35,7 @@ pub returns-in-Err-clause-value : goal.returns-in-Err-clause-value
 returns-in-Err-clause-value c = λ t l.
     let found = number_content (number_reader any) _ _ t (ap kind_number c.in-Number.is) (c.in_ok-entry.ensures.entry any l.whole t l.decodes l) in
     let none = number_fails _ c.in-Err.error c.in-Err.ensures.value in
-    let all : None ≡ Some found.0 = sym none ∙ found.2 in cc
+    let all : None ≡ Some found.0 = sym none ∙ found.2 in absurd (none-some _ all)
 
 pub returns-in-Extension-clause-value : goal.returns-in-Extension-clause-value
 returns-in-Extension-clause-value c = λ t l.

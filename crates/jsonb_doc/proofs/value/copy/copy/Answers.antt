@@ -1,4 +1,5 @@
 use Rattle.std.proofs.Common.{◌≡◌, List, sym, ap, subst, ◌∙◌, arith}
+use Rattle.std.proofs.lemmas.Grind.{common_steps}
 use Rattle.std.specs.Prelude.{reverse}
 use Rattle.std.proofs.lemmas.List.{nil_from_length}
 use Rattle.jsonb_doc.specs.Value.{tree_seen}
@@ -26,3 +27,9 @@ loop-filled-preserved c = λ seen.
     ap (tree_within seen (reverse left)) (c.in_ok-filled-in-Some.ensures.copies seen)
     ∙ sym (tree_within-with seen left c.loop-filled.around.items c.in-Some.outer (tree_seen seen c.in-Whole.copy) c.in-Some.ensures.items)
     ∙ (rw c.in-Whole.is at (c.loop-filled.invariant seen))
+
+pub loop-filled-smaller : goal.loop-filled-smaller
+loop-filled-smaller c = grind (arith, common_steps)
+
+pub loop-filled-smaller-in_ok-filled-in-Within : goal.loop-filled-smaller-in_ok-filled-in-Within
+loop-filled-smaller-in_ok-filled-in-Within c = grind (arith, common_steps)

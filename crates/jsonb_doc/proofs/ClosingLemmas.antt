@@ -1,0 +1,261 @@
+-- The pieces of containers that are closed.
+use Rattle.std.proofs.Common.{◌≡◌, true, ℕ, suc, ◌+◌, ◌<◌, ◌≤◌, ◌^◌, List, [], ◌∷◌, ◌++◌, length, map, reverse, refl, sym, ap, ◌∙◌, arith, inl, inr, append_assoc, Global, string_bytes, String, Vec, BTreeMap, Option, Some, None, Result, Ok, Err}
+use Rattle.std.specs.Prelude.{flat_map, IsErrAnd, is_none}
+use Rattle.std.specs.List.{All, AllZip}
+use Rattle.std.specs.Map.{keys_of, values_of}
+use Rattle.std.proofs.lemmas.List.{length-append, length-map, reverse-append}
+use Rattle.std.proofs.lemmas.List.Elements.{All-nil, All-cons}
+use Rattle.std.proofs.lemmas.List.Sums.{sum_by-cons}
+use Rattle.jsonb_doc.specs.Tree.{Tree, array, object, trees_of, pairs_of, keys}
+use Rattle.jsonb_doc.specs.Payload.{Form, number_reader}
+use Rattle.jsonb_doc.specs.Format.{AreEntries, AreKeys, entry_word, header, array_header, object_header, key_words, key_bytes}
+use Rattle.jsonb_doc.specs.Kinds.{kind_number}
+use Rattle.jsonb_doc.specs.Limits.{AreShortKeys, HasShortParts}
+use Rattle.jsonb_doc.specs.Answer.{IsOutOfMemory, ◌or◌when◌}
+use Rattle.jsonb_doc.specs.Encoding.{EntryParts}
+use Rattle.jsonb_doc.specs.Events.{Level, root, array_of, object_of, container}
+use Rattle.jsonb_doc.specs.ArrayBuilder.{Parts, entry_count, HoldsElements}
+use Rattle.jsonb_doc.specs.ObjectBuilder.{HoldsPairs}
+use Rattle.jsonb_doc.specs.Private.ObjectBytes.{FitsEntry, words_of_entries, contents_of_entries, object_bytes}
+use Rattle.jsonb_doc.specs.Pieces.{stacked, all_heads, joined, bytes_at}
+use Rattle.jsonb_doc.specs.DocumentBuilder.{IsPieceOf, IsEntryOf, AreMembersOf, AreSortedTexts, HoldsLevel}
+use Rattle.jsonb_doc.specs.Private.Closing.{entry_words, total_len, member_keys, member_entries, array_head, object_head, IsClosed, HasShortHead, Closes}
+use Rattle.jsonb_doc.specs.declared.error.Error.{Error}
+use Rattle.jsonb_doc.specs.declared.error.Error.TheVariants.{TooLarge}
+use Rattle.jsonb_doc.specs.declared.event_error.EventError.{EventError}
+use Rattle.jsonb_doc.specs.declared.event_error.EventError.TheVariants.{Failed}
+use Rattle.jsonb_doc.specs.declared.document_builder.frame.Frame.TheVariants.{Array, Object}
+use Rattle.jsonb_doc.specs.declared.pieces.Piece.{Piece}
+use Rattle.jsonb_doc.specs.declared.piece_entry.PieceEntry.{PieceEntry}
+use Rattle.jsonb_doc.specs.declared.document_builder.closing.Closed.{Closed}
+use Rattle.jsonb_doc.proofs.Containers.{array_document, object_document}
+use Rattle.jsonb_doc.proofs.ArrayLemmas.{array_built, held_count}
+use Rattle.jsonb_doc.proofs.ObjectLemmas.{object_decodes}
+use Rattle.jsonb_doc.proofs.Entries.{kind_below}
+use Rattle.jsonb_doc.proofs.TreeLists.{count-trees_of, keys-pairs_of}
+use Rattle.jsonb_doc.proofs.PieceLemmas.{bytes_new, stacked-append, joined-append}
+
+-- the contents of entries
+abbrev pub contents_in : List Piece → List PieceEntry → List ℕ
+contents_in ps es = flat_map (λ e. bytes_at ps e.piece) es
+
+-- the pieces of the entries, the last one first, are their contents
+rest_is : (ps : List Piece) (es : List PieceEntry) → joined (stacked (all_heads ps) (reverse (map (λ (e : PieceEntry). e.piece) es))) ≡ contents_in ps es
+rest_is ps [] = refl
+rest_is ps (e ∷ es) =
+    let known = all_heads ps in
+    let others = reverse (map (λ (e : PieceEntry). e.piece) es) in
+    ap (λ (is : List ℕ). joined (stacked known is)) (reverse-append (e.piece ∷ []) (map (λ (e : PieceEntry). e.piece) es))
+    ∙ ap joined (stacked-append known others (e.piece ∷ []))
+    ∙ joined-append (stacked known (e.piece ∷ [])) (stacked known others)
+    ∙ ap (λ (b : List ℕ). bytes_at ps e.piece ++ b) (rest_is ps es)
+
+-- the bytes of the closed piece
+closed_bytes : (ps : List Piece) (head : List ℕ) (es : List PieceEntry) (c : Closed) → IsClosed head es c
+    → bytes_at (ps ++ c.piece ∷ []) (length ps) ≡ head ++ contents_in ps es
+closed_bytes ps head es c is =
+    bytes_new ps c.piece ∙ rw (is.0, is.1, rest_is ps es) refl
+
+-- ---- arrays
+
+entries_held : (form : Form) (ps : List Piece) (es : List PieceEntry) (ts : List Tree) → AllZip (IsEntryOf form ps) es ts
+    → AreEntries (number_reader form) (trees_of ts) (entry_words es) (contents_in ps es)
+entries_held form ps [] [] h = (refl, refl)
+entries_held form ps (e ∷ es) (t ∷ ts) h = record {
+  kind = kind_number e.kind;
+  content = bytes_at ps e.piece;
+  other_words = entry_words es;
+  other_contents = contents_in ps es;
+  begin = record {
+    known = let below = kind_below (number_reader form) t (kind_number e.kind) (bytes_at ps e.piece) h.0.content in omega (arith, below);
+    fits = omega (arith, h.0.size, e.short);
+    words_joined = rw h.0.size refl;
+    contents_joined = refl;
+  };
+  part = h.0.content;
+  others = entries_held form ps es ts h.1;
+}
+entries_held form ps [] (t ∷ ts) h = absurd h
+entries_held form ps (e ∷ es) [] h = absurd h
+
+zip_length : {A B : Type 0} (R : A → B → Type 0) (xs : List A) (ys : List B) → AllZip R xs ys → length xs ≡ length ys
+zip_length R [] [] h = refl
+zip_length R (x ∷ xs) (y ∷ ys) h = ap suc (zip_length R xs ys h.1)
+zip_length R [] (y ∷ ys) h = absurd h
+zip_length R (x ∷ xs) [] h = absurd h
+
+contents_size : (form : Form) (ps : List Piece) (es : List PieceEntry) (ts : List Tree) → AllZip (IsEntryOf form ps) es ts
+    → length (contents_in ps es) ≡ total_len es
+contents_size form ps [] [] h = refl
+contents_size form ps (e ∷ es) (t ∷ ts) h =
+    let step : total_len (e ∷ es) ≡ e.len + total_len es = sum_by-cons (λ (d : PieceEntry). d.len) e es in
+    omega (arith, step, length-append (bytes_at ps e.piece) (contents_in ps es), contents_size form ps es ts h.1, h.0.size)
+contents_size form ps [] (t ∷ ts) h = absurd h
+contents_size form ps (e ∷ es) [] h = absurd h
+
+closed_size : (form : Form) (ps : List Piece) (head : List ℕ) (es : List PieceEntry) (ts : List Tree) (c : Closed) → AllZip (IsEntryOf form ps) es ts
+    → IsClosed head es c → length (bytes_at (ps ++ c.piece ∷ []) (length ps)) ≡ c.len
+closed_size form ps head es ts c h is =
+    ap length (closed_bytes ps head es c is) ∙ length-append head (contents_in ps es)
+    ∙ ap (λ (n : ℕ). length head + n) (contents_size form ps es ts h) ∙ sym is.2
+
+pub array_closes : (form : Form) (ps : List Piece) (es : List PieceEntry) (ts : List Tree) (c : Closed) → AllZip (IsEntryOf form ps) es ts
+    → length es < 2 ^ 29 → IsClosed (array_head es) es c → IsPieceOf form (ps ++ c.piece ∷ []) 5 (length ps) c.len (array (trees_of ts))
+array_closes form ps es ts c h few is =
+    let bytes = bytes_at (ps ++ c.piece ∷ []) (length ps) in
+    let parts : Parts = record { words = entry_words es; contents = contents_in ps es } in
+    let held : HoldsElements form parts ts = entries_held form ps es ts h in
+    let many : entry_count parts ≡ length es = held_count form parts ts held ∙ sym (zip_length (IsEntryOf form ps) es ts h) in
+    let same : bytes ≡ header array_header (entry_count parts) ++ (parts.words ++ parts.contents) =
+    rw many (closed_bytes ps (array_head es) es c is
+    ∙ append_assoc (header array_header (length es)) (entry_words es) (contents_in ps es)) in
+    record {
+      before = omega (arith, length-append ps (c.piece ∷ []));
+      size = closed_size form ps (array_head es) es ts c h is;
+      content = array_document (number_reader form) (trees_of ts) bytes
+          (array_built form ts parts bytes held (omega (arith, many, few)) same).document;
+    }
+
+-- ---- objects
+
+-- the members as entries with their contents
+abbrev parts_of : List Piece → String Global × PieceEntry → List ℕ × EntryParts
+parts_of ps e = (string_bytes e.0, (kind_number e.1.kind, bytes_at ps e.1.piece))
+
+parts_in : List Piece → List (String Global × PieceEntry) → List (List ℕ × EntryParts)
+parts_in ps es = map (parts_of ps) es
+
+parts_held : (form : Form) (ps : List Piece) (es : List (String Global × PieceEntry)) (prs : List (List ℕ × Tree)) → AreMembersOf form ps es prs
+    → HoldsPairs form (parts_in ps es) prs
+unfolding parts_in
+parts_held form ps [] [] h = tt
+parts_held form ps (e ∷ es) (p ∷ prs) h = ((h.0.0, h.0.1.content), parts_held form ps es prs h.1)
+parts_held form ps [] (p ∷ prs) h = absurd h
+parts_held form ps (e ∷ es) [] h = absurd h
+
+values_zip : (form : Form) (ps : List Piece) (es : List (String Global × PieceEntry)) (prs : List (List ℕ × Tree)) → AreMembersOf form ps es prs
+    → AllZip (IsEntryOf form ps) (member_entries es) (values_of prs)
+values_zip form ps [] [] h = tt
+values_zip form ps (e ∷ es) (p ∷ prs) h = (h.0.1, values_zip form ps es prs h.1)
+values_zip form ps [] (p ∷ prs) h = absurd h
+values_zip form ps (e ∷ es) [] h = absurd h
+
+pub member_keys_is : (form : Form) (ps : List Piece) (es : List (String Global × PieceEntry)) (prs : List (List ℕ × Tree)) → AreMembersOf form ps es prs
+    → member_keys es ≡ keys_of prs
+member_keys_is form ps [] [] h = refl
+member_keys_is form ps (e ∷ es) (p ∷ prs) h = rw (h.0.0, member_keys_is form ps es prs h.1) refl
+member_keys_is form ps [] (p ∷ prs) h = absurd h
+member_keys_is form ps (e ∷ es) [] h = absurd h
+
+parts_keys : (ps : List Piece) (es : List (String Global × PieceEntry)) → keys_of (parts_in ps es) ≡ member_keys es
+unfolding parts_in
+parts_keys ps [] = refl
+parts_keys ps (e ∷ es) = ap (λ (ks : List (List ℕ)). string_bytes e.0 ∷ ks) (parts_keys ps es)
+
+parts_contents : (ps : List Piece) (es : List (String Global × PieceEntry)) → contents_of_entries (values_of (parts_in ps es)) ≡ contents_in ps (member_entries es)
+unfolding parts_in
+parts_contents ps [] = refl
+parts_contents ps (e ∷ es) = ap (λ (b : List ℕ). bytes_at ps e.1.piece ++ b) (parts_contents ps es)
+
+parts_words : (form : Form) (ps : List Piece) (es : List (String Global × PieceEntry)) (prs : List (List ℕ × Tree)) → AreMembersOf form ps es prs
+    → words_of_entries (values_of (parts_in ps es)) ≡ entry_words (member_entries es)
+unfolding parts_in
+parts_words form ps [] [] h = refl
+parts_words form ps (e ∷ es) (p ∷ prs) h =
+    let rest = parts_words form ps es prs h.1 in
+    ap (λ (n : ℕ). entry_word (kind_number e.1.kind) n ++ words_of_entries (values_of (parts_in ps es))) h.0.1.size
+    ∙ ap (λ (b : List ℕ). entry_word (kind_number e.1.kind) e.1.len ++ b) rest
+parts_words form ps [] (p ∷ prs) h = absurd h
+parts_words form ps (e ∷ es) [] h = absurd h
+
+parts_fit : (form : Form) (ps : List Piece) (es : List (String Global × PieceEntry)) (prs : List (List ℕ × Tree)) → AreMembersOf form ps es prs
+    → All FitsEntry (values_of (parts_in ps es))
+unfolding parts_in
+parts_fit form ps [] [] h = All-nil FitsEntry
+parts_fit form ps (e ∷ es) (p ∷ prs) h =
+    let below = kind_below (number_reader form) p.1 (kind_number e.1.kind) (bytes_at ps e.1.piece) h.0.1.content in
+    All-cons FitsEntry (kind_number e.1.kind, bytes_at ps e.1.piece) (values_of (parts_in ps es))
+    (omega (arith, below), omega (arith, h.0.1.size, e.1.short)) (parts_fit form ps es prs h.1)
+parts_fit form ps [] (p ∷ prs) h = absurd h
+parts_fit form ps (e ∷ es) [] h = absurd h
+
+are_keys : (ks : List (List ℕ)) → AreSortedTexts ks → AreShortKeys ks → AreKeys ks
+are_keys [] sorted short = tt
+are_keys (key ∷ ks) sorted short = ((sorted.0, short.0), sorted.1, are_keys ks sorted.2 short.1)
+
+regroup : (h k w b c : List ℕ) → (h ++ (k ++ (w ++ b))) ++ c ≡ h ++ ((k ++ w) ++ (b ++ c))
+regroup h k w b c = simp append_assoc
+
+pub object_closes : (form : Form) (ps : List Piece) (es : List (String Global × PieceEntry)) (prs : List (List ℕ × Tree)) (c : Closed)
+    → AreMembersOf form ps es prs → AreSortedTexts (keys_of prs) → HasShortHead es → IsClosed (object_head es) (member_entries es) c
+    → IsPieceOf form (ps ++ c.piece ∷ []) 5 (length ps) c.len (object (pairs_of prs))
+unfolding parts_in
+object_closes form ps es prs c h sorted short is =
+    let bytes = bytes_at (ps ++ c.piece ∷ []) (length ps) in
+    let parts = parts_in ps es in
+    let many : length parts ≡ length es = length-map es (parts_of ps) in
+    let named : keys_of parts ≡ member_keys es = parts_keys ps es in
+    let keys_are : AreKeys (keys_of parts) =
+    rw (named, member_keys_is form ps es prs h) (are_keys (keys_of prs) sorted (rw (member_keys_is form ps es prs h) at short.1)) in
+    let same : bytes ≡ object_bytes parts =
+    closed_bytes ps (object_head es) (member_entries es) c is
+    ∙ regroup (header object_header (length es)) (key_words (member_keys es)) (entry_words (member_entries es)) (key_bytes (member_keys es)) (contents_in ps (member_entries es))
+    ∙ rw (many, named, parts_words form ps es prs h, parts_contents ps es) refl in
+    let decodes = object_decodes form parts prs (rw many short.0) keys_are (parts_fit form ps es prs h) (parts_held form ps es prs h) in
+    record {
+      before = omega (arith, length-append ps (c.piece ∷ []));
+      size = closed_size form ps (object_head es) (member_entries es) (values_of prs) c (values_zip form ps es prs h) is;
+      content = rw same (object_document (number_reader form) (pairs_of prs) (object_bytes parts) decodes.document);
+    }
+
+-- ---- limits
+
+pub array_too_many : (form : Form) (ps : List Piece) (es : List PieceEntry) (ts : List Tree) → AllZip (IsEntryOf form ps) es ts → 2 ^ 29 ≤ length es
+    → HasShortParts form (array (trees_of ts)) → ⊥
+array_too_many form ps es ts h many = λ short. omega (arith, short.0, count-trees_of ts, zip_length (IsEntryOf form ps) es ts h)
+
+pub object_too_large : (form : Form) (ps : List Piece) (es : List (String Global × PieceEntry)) (prs : List (List ℕ × Tree)) → AreMembersOf form ps es prs
+    → (HasShortHead es → ⊥) → HasShortParts form (object (pairs_of prs)) → ⊥
+object_too_large form ps es prs h large = λ short.
+    let same : keys (pairs_of prs) ≡ member_keys es = keys-pairs_of prs ∙ sym (member_keys_is form ps es prs h) in
+    let many : length (keys (pairs_of prs)) ≡ length es = ap length same ∙ length-map es (λ (e : String Global × PieceEntry). string_bytes e.0) in
+    large (omega (arith, short.0, many), rw same at short.1)
+
+-- ---- results
+
+pub array_closed : (form : Form) (ps : List Piece) (es : Vec PieceEntry Global) (level : Level) (c : Closed) → HoldsLevel form ps (Array es) level
+    → length es.items < 2 ^ 29 → IsClosed (array_head es.items) es.items c → Closes form ps (container level) (Ok c)
+array_closed form ps es (array_of ts) c h few is = array_closes form ps es.items ts c h few is
+array_closed form ps es (root t) c h few is = absurd h
+array_closed form ps es (object_of prs next) c h few is = absurd h
+
+pub object_closed : (form : Form) (ps : List Piece) (members : BTreeMap (String Global) PieceEntry) (key : Option (String Global)) (level : Level) (c : Closed)
+    → HoldsLevel form ps (Object members key) level → true ≡ is_none key → HasShortHead members.entries
+    → IsClosed (object_head members.entries) (member_entries members.entries) c → Closes form ps (container level) (Ok c)
+object_closed form ps members None (object_of prs None) c h none short is = object_closes form ps members.entries prs c h.0 h.1 short is
+object_closed form ps members None (object_of prs (Some next)) c h none short is = absurd h.2
+object_closed form ps members (Some name) level c h none short is = absurd (cc)
+object_closed form ps members None (root t) c h none short is = absurd h
+object_closed form ps members None (array_of ts) c h none short is = absurd h
+
+pub array_fails : (form : Form) (ps : List Piece) (es : Vec PieceEntry Global) (level : Level) (r : Result Closed EventError) (e : Error)
+    → HoldsLevel form ps (Array es) level → IsErrAnd r (λ d. d ≡ Failed e) → (IsOutOfMemory or TooLarge when 2 ^ 29 ≤ length es.items) e
+    → Closes form ps (container level) r
+array_fails form ps es (array_of ts) (Err d) e h is (inl memory) = inl (is ∙ ap Failed memory)
+array_fails form ps es (array_of ts) (Err d) e h is (inr large) =
+    inr (is ∙ ap Failed large.0, array_too_many form ps es.items ts h large.1)
+array_fails form ps es (array_of ts) (Ok c) e h is why = absurd is
+array_fails form ps es (root t) r e h is why = absurd h
+array_fails form ps es (object_of prs next) r e h is why = absurd h
+
+pub object_fails : (form : Form) (ps : List Piece) (members : BTreeMap (String Global) PieceEntry) (key : Option (String Global)) (level : Level)
+    (r : Result Closed EventError) (e : Error) → HoldsLevel form ps (Object members key) level → true ≡ is_none key → IsErrAnd r (λ d. d ≡ Failed e)
+    → (IsOutOfMemory or TooLarge when (HasShortHead members.entries → ⊥)) e → Closes form ps (container level) r
+object_fails form ps members None (object_of prs None) (Err d) e h none is (inl memory) = inl (is ∙ ap Failed memory)
+object_fails form ps members None (object_of prs None) (Err d) e h none is (inr large) =
+    inr (is ∙ ap Failed large.0, object_too_large form ps members.entries prs h.0 large.1)
+object_fails form ps members None (object_of prs None) (Ok c) e h none is why = absurd is
+object_fails form ps members None (object_of prs (Some next)) r e h none is why = absurd h.2
+object_fails form ps members (Some name) level r e h none is why = absurd (cc)
+object_fails form ps members None (root t) r e h none is why = absurd h
+object_fails form ps members None (array_of ts) r e h none is why = absurd h

@@ -1,0 +1,129 @@
+-- The bytes of pieces: those of earlier pieces stay when one is added, and those of each begin with its head.
+use Rattle.std.proofs.Common.{◌≡◌, ℕ, zero, suc, ◌+◌, ◌<◌, ◌≤◌, List, [], ◌∷◌, ◌++◌, length, refl, sym, ap, ◌∙◌, arith, Bool, true, false, cond, get_or, append_assoc}
+use Rattle.std.specs.Prelude.{nat_lt}
+use Rattle.std.specs.List.{All}
+use Rattle.std.proofs.lemmas.List.Elements.{All-nil, All-cons}
+use Rattle.std.proofs.Math.Nat.{add-zero, zero-add}
+use Rattle.std.proofs.lemmas.Bool.{ltb-true, ltb-false}
+use Rattle.std.proofs.lemmas.List.{append-nil, length-append, get_or_append_left, get_or_push, get_or_past}
+use Rattle.jsonb_doc.specs.Pieces.{Heads, heads_at, stacked, piece_heads, heads_after, all_heads, joined, bytes_at}
+use Rattle.jsonb_doc.specs.Private.Earlier.{earlier}
+use Rattle.jsonb_doc.specs.declared.pieces.Piece.{Piece}
+
+heads_after-append : (known : Heads) (ps qs : List Piece) → heads_after known (ps ++ qs) ≡ heads_after (heads_after known ps) qs
+unfolding heads_after
+heads_after-append known [] qs = refl
+heads_after-append known (p ∷ ps) qs = heads_after-append (known ++ piece_heads known p ∷ []) ps qs
+
+length-heads_after : (known : Heads) (ps : List Piece) → length (heads_after known ps) ≡ length known + length ps
+unfolding heads_after
+length-heads_after known [] = omega arith
+length-heads_after known (p ∷ ps) =
+    let added = known ++ piece_heads known p ∷ [] in
+    omega (arith, length-heads_after added ps, length-append known (piece_heads known p ∷ []))
+
+-- the heads of earlier pieces stay
+heads_stay : (known : Heads) (ps : List Piece) (i : ℕ) → i < length known → heads_at (heads_after known ps) i ≡ heads_at known i
+unfolding heads_after
+heads_stay known [] i below = refl
+heads_stay known (p ∷ ps) i below =
+    heads_stay (known ++ piece_heads known p ∷ []) ps i (omega (arith, length-append known (piece_heads known p ∷ [])))
+    ∙ get_or_append_left known (piece_heads known p ∷ []) [] i below
+
+-- the heads of pieces in a stack are those of the pieces before the index, which all pieces have
+stacked_earlier : (known all : Heads) → ((i : ℕ) → i < length known → heads_at all i ≡ heads_at known i) → (is : List ℕ)
+    → stacked all (earlier (length known) is) ≡ stacked known is
+stacked_earlier known all same [] = refl
+stacked_earlier known all same (i ∷ is) = go (nat_lt i (length known)) refl (stacked_earlier known all same is)
+  where
+    go : (b : Bool) → nat_lt i (length known) ≡ b → stacked all (earlier (length known) is) ≡ stacked known is
+        → stacked all (cond b (i ∷ earlier (length known) is) (earlier (length known) is)) ≡ stacked known is ++ heads_at known i
+    go true e rest = rw (rest, same i (ltb-true i (length known) e)) refl
+    go false e rest = rw (rest, get_or_past known i [] (ltb-false i (length known) e), append-nil) refl
+
+-- the heads of each piece: its own, and those of the pieces that it refers to
+heads_within : (known : Heads) (ps : List Piece) (k : ℕ) (d : Piece) → k < length ps
+    → heads_at (heads_after known ps) (length known + k)
+    ≡ (get_or ps k d).head.items ∷ stacked (heads_after known ps) (earlier (length known + k) (get_or ps k d).rest.items)
+unfolding heads_after
+heads_within known [] k d below = absurd (omega arith)
+heads_within known (p ∷ ps) zero d below =
+    let added = known ++ piece_heads known p ∷ [] in
+    let longer : length added ≡ length known + 1 = length-append known (piece_heads known p ∷ []) in
+    let found : heads_at (heads_after added ps) (length known) ≡ piece_heads known p =
+    heads_stay added ps (length known) (omega (arith, longer)) ∙ get_or_push known (piece_heads known p) [] (length known) refl in
+    let same : stacked (heads_after added ps) (earlier (length known) p.rest.items) ≡ stacked known p.rest.items =
+    stacked_earlier known (heads_after added ps)
+    (λ i b. heads_stay added ps i (omega (arith, longer)) ∙ get_or_append_left known (piece_heads known p ∷ []) [] i b) p.rest.items in
+    rw add-zero (found ∙ ap (λ (hs : List (List ℕ)). p.head.items ∷ hs) (sym same))
+heads_within known (p ∷ ps) (suc k) d below =
+    let added = known ++ piece_heads known p ∷ [] in
+    let same : length added + k ≡ length known + suc k = omega (arith, length-append known (piece_heads known p ∷ [])) in
+    rw same at (heads_within added ps k d (omega arith))
+
+pub heads_is : (ps : List Piece) (k : ℕ) (d : Piece) → k < length ps
+    → heads_at (all_heads ps) k ≡ (get_or ps k d).head.items ∷ stacked (all_heads ps) (earlier k (get_or ps k d).rest.items)
+heads_is ps k d below = rw zero-add at (heads_within [] ps k d below)
+
+-- ---- one more piece
+
+pub bytes_stay : (ps : List Piece) (p : Piece) (i : ℕ) → i < length ps → bytes_at (ps ++ p ∷ []) i ≡ bytes_at ps i
+unfolding heads_after
+bytes_stay ps p i below =
+    let same : heads_at (all_heads (ps ++ p ∷ [])) i ≡ heads_at (all_heads ps) i =
+    rw (heads_after-append [] ps (p ∷ [])) (heads_stay (all_heads ps) (p ∷ []) i (omega (arith, length-heads_after [] ps))) in
+    ap joined same
+
+-- the bytes of the new piece
+pub bytes_new : (ps : List Piece) (p : Piece) → bytes_at (ps ++ p ∷ []) (length ps) ≡ p.head.items ++ joined (stacked (all_heads ps) p.rest.items)
+unfolding heads_after
+bytes_new ps p =
+    let is : heads_at (all_heads (ps ++ p ∷ [])) (length ps) ≡ piece_heads (all_heads ps) p =
+    rw (heads_after-append [] ps (p ∷ [])) (get_or_push (all_heads ps) (piece_heads (all_heads ps) p) [] (length ps) (omega (arith, length-heads_after [] ps))) in
+    ap joined is
+
+-- ---- stacks
+
+pub stacked-append : (known : Heads) (is js : List ℕ) → stacked known (is ++ js) ≡ stacked known js ++ stacked known is
+stacked-append known [] js = sym (append-nil (stacked known js))
+stacked-append known (i ∷ is) js = rw (stacked-append known is js) (append_assoc (stacked known js) (stacked known is) (heads_at known i))
+
+pub joined-append : (xs ys : List (List ℕ)) → joined (xs ++ ys) ≡ joined xs ++ joined ys
+joined-append [] ys = refl
+joined-append (x ∷ xs) ys = rw (joined-append xs ys) (sym (append_assoc x (joined xs) (joined ys)))
+
+-- ---- joining
+
+-- the stack begins with the root, if there is such a piece
+pub stack_starts : (ps : List Piece) (root : ℕ) → joined (stacked (all_heads ps) (earlier (length ps) (root ∷ []))) ≡ bytes_at ps root
+stack_starts ps root = go (nat_lt root (length ps)) refl
+  where
+    go : (b : Bool) → nat_lt root (length ps) ≡ b → joined (stacked (all_heads ps) (cond b (root ∷ []) [])) ≡ bytes_at ps root
+    go true e = refl
+    go false e =
+        let far : heads_at (all_heads ps) root ≡ [] = get_or_past (all_heads ps) root [] (omega (arith, length-heads_after [] ps, ltb-false root (length ps) e)) in
+        ap joined (sym far)
+
+-- the piece at the top of the stack is its head, and the earlier pieces that it refers to
+pub stack_steps : (ps : List Piece) (stack is : List ℕ) (i : ℕ) (d : Piece) → i < length ps → stack ≡ is ++ i ∷ []
+    → stacked (all_heads ps) stack ≡ (get_or ps i d).head.items ∷ stacked (all_heads ps) (is ++ earlier i (get_or ps i d).rest.items)
+stack_steps ps stack is i d below e =
+    let others = earlier i (get_or ps i d).rest.items in
+    rw (e, stacked-append (all_heads ps) is (i ∷ []), stacked-append (all_heads ps) is others, heads_is ps i d below) refl
+
+pub earlier_below : (m n : ℕ) → m ≤ n → (is : List ℕ) → All (λ i. i < n) (earlier m is)
+earlier_below m n le [] = All-nil (λ i. i < n)
+earlier_below m n le (i ∷ is) = go (nat_lt i m) refl (earlier_below m n le is)
+  where
+    go : (b : Bool) → nat_lt i m ≡ b → All (λ j. j < n) (earlier m is) → All (λ j. j < n) (cond b (i ∷ earlier m is) (earlier m is))
+    go true e rest = All-cons (λ j. j < n) i (earlier m is) (omega (arith, ltb-true i m e)) rest
+    go false e rest = rest
+
+-- the index at the top of the stack, and those below it
+pub within_popped : (n : ℕ) (stack is : List ℕ) (i : ℕ) → stack ≡ is ++ i ∷ [] → All (λ j. j < n) stack → (i < n) × All (λ j. j < n) is
+within_popped n stack is i e within =
+    let all = rw e at within in
+    let longer = length-append is (i ∷ []) in (
+      rw (get_or_push is i 0 (length is) refl) at (all (length is) 0 (omega (arith, longer))),
+      λ k d below. rw (get_or_append_left is (i ∷ []) d k below) at (all k d (omega (arith, longer))),
+    )

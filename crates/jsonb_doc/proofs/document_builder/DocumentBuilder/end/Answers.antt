@@ -1,0 +1,60 @@
+use Rattle.std.proofs.Common.{◌≡◌, ◌∙◌, ◌++◌, ◌∷◌, [], ℕ, length, reverse, ap, refl, arith, true, false, inl}
+use Rattle.std.specs.Prelude.{◌==◌, vec_len}
+use Rattle.std.proofs.lemmas.List.{length-reverse}
+use Rattle.jsonb_doc.specs.Events.{filled}
+use Rattle.jsonb_doc.specs.DocumentBuilder.{IsPieceOf}
+use Rattle.jsonb_doc.specs.declared.event_error.EventError.TheVariants.{Failed}
+use Rattle.jsonb_doc.specs.declared.error.Error.TheVariants.{OutOfMemory}
+use Rattle.jsonb_doc.proofs.EventLemmas.{level_stays}
+use Rattle.jsonb_doc.proofs.BuilderLemmas.{err_result, end_fails, end_out_of_memory, end_takes, around_popped, holds_back, holds_inner}
+use Rattle.jsonb_doc.proofs.document_builder.DocumentBuilder.end.Goals as goal
+
+pub returns-in_err-piece : goal.returns-in_err-piece
+returns-in_err-piece c = λ form s h.
+    let b = c.args.self.now in
+    let some : length (reverse b.around.items) ≡ 0 → ⊥ = λ e.
+    let zero : vec_len b.around ≡ 0 = omega (arith, e, length-reverse b.around.items) in
+    let bad : false ≡ true = c.if-is_empty.ensures ∙ ap (λ (n : ℕ). n == 0) zero in cc in
+    end_fails form s b b.pieces.items c.in_err-piece.field-0.0 c.from_residual.result h some (c.in_err-piece.ensures form b.pieces.items s.inner h.inner) c.from_residual.ensures.1
+
+pub returns-in_err-push : goal.returns-in_err-push
+returns-in_err-push c = λ form s h.
+    let b = c.args.self.now in
+    let some : length (reverse b.around.items) ≡ 0 → ⊥ = λ e.
+    let zero : vec_len b.around ≡ 0 = omega (arith, e, length-reverse b.around.items) in
+    let bad : false ≡ true = c.if-is_empty.ensures ∙ ap (λ (n : ℕ). n == 0) zero in cc in
+    let same = c.in_err-push.ensures.items in
+    end_out_of_memory form s _ b.pieces.items c.in_ok-piece.field-0 c.from_residual-in_err-push.result
+    (record { inner = rw same h.inner; around = rw same h.around }) h.around some (c.in_ok-piece.ensures form b.pieces.items s.inner h.inner)
+    (err_result c.from_residual-in_err-push.result (Failed OutOfMemory) c.from_residual-in_err-push.ensures.1)
+
+pub returns-in-Err : goal.returns-in-Err
+returns-in-Err c = λ form s h.
+    let b = c.args.self.now in
+    let ps = b.pieces.items in
+    let closed = c.in_ok-piece.field-0 in
+    let popped = around_popped form ps b.around.items c.pop.new.self.items c.in-Some.outer s.around h.around c.in-Some.ensures.items in
+    let index : c.len-index.result ≡ length ps = omega arith in
+    end_takes form s _ ps closed popped.0 popped.1 _ popped.2 popped.3.1 (c.in_ok-piece.ensures form ps s.inner h.inner)
+    (λ t part.
+    let part' : IsPieceOf form (ps ++ closed.piece ∷ []) 5 c.len-index.result closed.len t = rw index part in
+    let failed = c.in-Err.ensures.filled form (ps ++ closed.piece ∷ []) popped.0 t (level_stays form ps closed.piece c.in-Some.outer popped.0 popped.3.0) popped.3.1
+    part' (λ e. record { document = inl part'.content }) in (
+      holds_back form s b _ closed.piece c.fill.new.self c.pop.new.self.items popped.0 popped.1 h c.in_ok-push.ensures.items refl c.push_reserved.ensures.items
+          popped.2 popped.3.1 failed.0 popped.4,
+      failed.1,
+    ))
+
+pub returns : goal.returns
+returns c = λ form s h.
+    let b = c.args.self.now in
+    let ps = b.pieces.items in
+    let closed = c.in_ok-piece.field-0 in
+    let popped = around_popped form ps b.around.items c.pop.new.self.items c.in-Some.outer s.around h.around c.in-Some.ensures.items in
+    let index : c.len-index.result ≡ length ps = omega arith in
+    end_takes form s _ ps closed popped.0 popped.1 _ popped.2 popped.3.1 (c.in_ok-piece.ensures form ps s.inner h.inner)
+    (λ t part.
+    let part' : IsPieceOf form (ps ++ closed.piece ∷ []) 5 c.len-index.result closed.len t = rw index part in
+    let held = c.in_default-fill.ensures.filled form (ps ++ closed.piece ∷ []) popped.0 t (level_stays form ps closed.piece c.in-Some.outer popped.0 popped.3.0) popped.3.1
+    part' (λ e. record { document = inl part'.content }) in
+    holds_inner form ps _ closed.piece c.pop.new.self.items (filled t popped.0) popped.1 c.in_ok-push.ensures.items refl held popped.4)

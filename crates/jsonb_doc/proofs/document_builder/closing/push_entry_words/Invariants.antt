@@ -1,0 +1,6 @@
+use Rattle.std.proofs.Common.{◌≡◌, ◌++◌, take}
+use Rattle.jsonb_doc.specs.Private.Closing.{entry_words}
+use Rattle.jsonb_doc.proofs.document_builder.closing.push_entry_words.Given as goal
+
+abbrev pub invariant-loop-entry : goal.invariant-loop-entry
+invariant-loop-entry l = l.head.items ≡ l.fn.head.items ++ entry_words (take l.entry-index l.entries)

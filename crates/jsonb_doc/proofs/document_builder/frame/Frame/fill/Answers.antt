@@ -1,0 +1,55 @@
+use Rattle.std.proofs.Common.{sym, ap, inl, inr, subst, Some, Option, String, Global}
+use Rattle.jsonb_doc.specs.DocumentBuilder.{HoldsLevel, IsEntryOf}
+use Rattle.jsonb_doc.specs.Events.{filled}
+use Rattle.jsonb_doc.specs.declared.event_error.EventError.TheVariants.{Failed}
+use Rattle.jsonb_doc.specs.declared.document_builder.frame.Frame.TheVariants.{Object}
+use Rattle.jsonb_doc.proofs.EventLemmas.{array_filled, array_too_long, object_filled, object_too_long, object_named, object_same, err_is, err_along, both, result_along}
+use Rattle.jsonb_doc.proofs.document_builder.frame.Frame.fill.Goals as goal
+
+pub returns-in_err-new-in-Array-clause-filled : goal.returns-in_err-new-in-Array-clause-filled
+returns-in_err-new-in-Array-clause-filled c = λ form ps level t h takes part decodes.
+    let held = rw c.in-Array.is at h in
+    let long = array_too_long form ps c.in-Array.entries _ c.args.piece c.args.len t level held takes part c.in_err-new-in-Array.ensures.1 in
+    err_is c.from_residual.result (Failed c.in_err-new-in-Array.field-0.0) _ _ c.from_residual.ensures.1
+    (held, inr (ap Failed c.in_err-new-in-Array.ensures.0, long))
+
+pub returns-in_err-new-in-Object-clause-filled : goal.returns-in_err-new-in-Object-clause-filled
+returns-in_err-new-in-Object-clause-filled c = λ form ps level t h takes part decodes.
+    let held = rw c.in-Object.is at h in
+    let long = object_too_long form ps c.in-Object.members c.in-Object.key _ c.args.piece c.args.len t level held takes part c.in_err-new-in-Object.ensures.1 in
+    err_is c.from_residual-in_err-new-in-Object.result (Failed c.in_err-new-in-Object.field-0.0) _ _ c.from_residual-in_err-new-in-Object.ensures.1
+    (held, inr (ap Failed c.in_err-new-in-Object.ensures.0, long))
+
+pub returns-in_ok-push-in-Array-clause-filled : goal.returns-in_ok-push-in-Array-clause-filled
+returns-in_ok-push-in-Array-clause-filled c = λ form ps level t h takes part decodes.
+    let held = rw c.in-Array.is at h in
+    let made = c.in_ok-new-in-Array.ensures in
+    let e = c.in_ok-new-in-Array.field-0 in
+    let entry : IsEntryOf form ps e t = rw (made.0, made.1, made.2) part in
+    array_filled form ps c.in-Array.entries c.push.new.self e t level held c.in_ok-push-in-Array.ensures.items entry
+
+pub returns-in_ok-new-in-Object-clause-filled : goal.returns-in_ok-new-in-Object-clause-filled
+returns-in_ok-new-in-Object-clause-filled c = λ form ps level t h takes part decodes.
+    let members = c.in-Object.members in
+    let key = c.in-Object.key in
+    let new = c.push_member.new.members in
+    let held : HoldsLevel form ps (Object members key) level = rw c.in-Object.is at h in
+    let made = c.in_ok-new-in-Object.ensures in
+    let e = c.in_ok-new-in-Object.field-0 in
+    let entry : IsEntryOf form ps e t = rw (made.0, made.1, made.2) part in
+    let named = object_named form ps members key level held takes in
+    let held_by : HoldsLevel form ps (Object members (Some named.0)) level =
+    subst (λ (k : Option (String Global)). HoldsLevel form ps (Object members k) level) named.1 held in
+    result_along c.push_member.result _ _ _ _ (both c.push_member.result _ _ _ (c.push_member.ensures.pushed named.0 named.1) c.push_member.ensures.kept)
+    (λ x h. subst (λ (k : Option (String Global)). HoldsLevel form ps (Object new k) (filled t level)) (sym h.1)
+    (object_filled form ps members new named.0 e t level held_by h.0 entry))
+    (λ e h. (subst (λ (k : Option (String Global)). HoldsLevel form ps (Object new k) level) (sym h.1.1) (object_same form ps members new key level held h.1.0), inl h.0))
+
+pub returns-in_ok-new-in-Object-clause-kept : goal.returns-in_ok-new-in-Object-clause-kept
+returns-in_ok-new-in-Object-clause-kept c = λ form ps level h.
+    let members = c.in-Object.members in
+    let key = c.in-Object.key in
+    let new = c.push_member.new.members in
+    let held : HoldsLevel form ps (Object members key) level = rw c.in-Object.is at h in
+    err_along c.push_member.result _ _ c.push_member.ensures.kept
+    (λ h. subst (λ (k : Option (String Global)). HoldsLevel form ps (Object new k) level) (sym h.1) (object_same form ps members new key level held h.0))

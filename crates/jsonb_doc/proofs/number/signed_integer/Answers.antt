@@ -1,0 +1,9 @@
+use Rattle.std.proofs.Common.{◌≡◌, length, arith}
+use Rattle.std.proofs.lemmas.Int.{ints, to_z-of_z}
+use Rattle.std.proofs.lemmas.Bool.Decides.{nat_tests}
+use Rattle.jsonb_doc.proofs.number.signed_integer.Goals as goal
+
+pub returns-in_default : goal.returns-in_default
+returns-in_default c =
+    let eight : length c.args.bytes.now ≡ 8 = grind (arith, nat_tests, c.requires) in
+    rw eight (grind (arith, ints, to_z-of_z))
