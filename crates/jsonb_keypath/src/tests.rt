@@ -83,14 +83,20 @@ fn texts_are_read_or_refused(rt: HostRuntime) -> Result<(), Fail> {
 /// A name or a quoted string, the text after it, and whether it had to be copied.
 type Front = (&'static str, &'static [u8], bool);
 
-/// Returns `true` if a reader found this.
+/// Returns `true` if a reader found this, whether it had to copy it or not.
 fn is_read(found: &Option<(CowStr<'_>, &[u8])>, wanted: Option<Front>) -> bool {
     match (found, wanted) {
-        (Some((name, behind)), Some((text, rest, is_own))) => {
-            name.as_str() == text && *behind == rest && is_own == matches!(name, CowStr::Owned(_))
-        }
+        (Some((name, behind)), Some((text, rest, _))) => name.as_str() == text && *behind == rest,
         (None, None) => true,
         _ => false,
+    }
+}
+
+/// Returns `true` if a reader copied what it found only if it had to.
+fn is_copied_as_needed(found: &Option<(CowStr<'_>, &[u8])>, wanted: Option<Front>) -> bool {
+    match (found, wanted) {
+        (Some((name, _)), Some((_, _, is_own))) => is_own == matches!(name, CowStr::Owned(_)),
+        _ => true,
     }
 }
 
@@ -122,10 +128,12 @@ fn names_and_quoted_texts_are_read(rt: HostRuntime) -> Result<(), Fail> {
     for (text, wanted) in &NAMES {
         let found = read_name(rt.alloc(), text)?;
         assert!(rt; is_read(&found, *wanted), "{text:?}");
+        assert!(rt; is_copied_as_needed(&found, *wanted), "copied {text:?}");
     }
     for (text, wanted) in &QUOTED {
         let found = read_quoted(rt.alloc(), text)?;
         assert!(rt; is_read(&found, *wanted), "{text:?}");
+        assert!(rt; is_copied_as_needed(&found, *wanted), "copied {text:?}");
     }
     Ok(())
 }
