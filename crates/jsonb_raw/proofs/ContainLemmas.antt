@@ -1,14 +1,17 @@
 -- Which roots contain which.
-use Rattle.std.proofs.Common.{◌≡◌, ℕ, true, false, List, refl}
+use Rattle.std.proofs.Common.{◌≡◌, ℕ, true, false, List, ◌++◌, length, refl, ap, arith}
+use Rattle.std.proofs.lemmas.List.{length-append}
 use Rattle.std.specs.List.{list_any}
 use Rattle.std.specs.Borrow.{Bor}
 use Rattle.jsonb_doc.specs.declared.item.Item.{Item}
 use Rattle.jsonb_doc.specs.declared.item.Item.TheVariants as item
 use Rattle.jsonb_doc.specs.declared.extension.ExtensionValue.{ExtensionValue}
 use Rattle.jsonb_doc.specs.Extension.{Extension}
-use Rattle.jsonb_doc.specs.Tree.{Tree, null, boolean, extension, array, object, Trees, Pairs, elements}
+use Rattle.jsonb_doc.specs.Tree.{Tree, null, boolean, extension, array, object, Trees, no_trees, tree, Pairs, no_pairs, pair, keys, elements}
 use Rattle.jsonb_doc.specs.Equal.{is_equal}
-use Rattle.jsonb_doc.specs.Payload.{Form}
+use Rattle.jsonb_doc.specs.Payload.{Form, number_reader}
+use Rattle.jsonb_doc.specs.Format.{Decodes, key_words}
+use Rattle.jsonb_doc.proofs.Containers.{array_document, object_document, length-words, length-key_words}
 use Rattle.jsonb_doc.specs.Item.{StandsFor}
 use Rattle.jsonb_raw.specs.Contains.{contains, is_part_of}
 use Rattle.jsonb_raw.specs.Scalars.{is_json_scalar}
@@ -61,3 +64,27 @@ other_contains_plain form (item.Extension x) t u h a plain = rw h (extension_equ
 other_contains_plain form (item.Array b) t u h a plain = absurd (a b refl)
 other_contains_plain form (item.Object b) t u h a plain = rw h.1 (object_equals_no_plain h.0 u plain)
 other_contains_plain form _ t u h a plain = rw (h, plain) refl
+
+-- the header alone is that of an empty container
+pub array_of_header : (form : Form) (bytes : List ℕ) (ts : Trees) → Decodes form bytes (array ts) → length bytes ≡ 4 → ts ≡ no_trees
+array_of_header form bytes no_trees d short = refl
+array_of_header form bytes (tree t ts) d short =
+    let c = (array_document (number_reader form) (tree t ts) bytes d.document).1 in
+    let len = length-words (number_reader form) (tree t ts) c.words c.contents c.parts in
+    absurd (omega (arith, short, ap length c.headed.joined, length-append c.words c.contents, len))
+
+pub object_of_header : (form : Form) (bytes : List ℕ) (ps : Pairs) → Decodes form bytes (object ps) → length bytes ≡ 4 → ps ≡ no_pairs
+object_of_header form bytes no_pairs d short = refl
+object_of_header form bytes (pair key t ps) d short =
+    let c = (object_document (number_reader form) (pair key t ps) bytes d.document).1 in
+    let words = c.parts.words_joined in
+    let len = length-key_words (keys (pair key t ps)) in
+    absurd (omega (
+      arith,
+      short,
+      ap length c.headed.joined,
+      length-append c.words c.contents,
+      ap length words,
+      length-append (key_words (keys (pair key t ps))) c.parts.value_words,
+      len,
+    ))

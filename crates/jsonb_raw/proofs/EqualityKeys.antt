@@ -13,7 +13,8 @@ use Rattle.jsonb_doc.specs.Payload.{canonical, extension_of, extension_payload}
 use Rattle.jsonb_doc.specs.Limits.{Fits, IsShort, HasShortParts, HasShortElements, HasShortValues, IsInRange, AreInRange, ValuesAreInRange}
 use Rattle.jsonb_doc.specs.Tree.{Tree, Trees, Pairs, count, keys}
 use Rattle.jsonb_doc.specs.Number.{Number, FitsNumber, number_cmp}
-use Rattle.jsonb_doc.specs.Order.{rank, IsEqual, AreEqual, PairsAreEqual}
+use Rattle.jsonb_doc.specs.Order.{rank}
+use Rattle.jsonb_doc.specs.Proofs.EqualTrees.{IsEqual, AreEqual, PairsAreEqual}
 use Rattle.jsonb_raw.specs.SortableKey.{number_bytes, text_bytes}
 use Rattle.jsonb_raw.specs.EqualityKey.{equality_key, equality_keys_of_trees, equality_keys_of_pairs}
 

@@ -1,6 +1,7 @@
 -- The laws of keys, from the one equation on keys with rests.
 use Rattle.std.proofs.Common.{◌≡◌, ◌↔◌, ℕ, ◌<◌, List, [], ◌++◌, inl, arith, Less, refl, sym, ap, ap₂, ◌∙◌, append-nil}
 use Rattle.std.specs.Ordering.{ordering_then}
+use Rattle.std.specs.Prelude.{IsTrue}
 use Rattle.std.specs.Int.{Width}
 use Rattle.jsonb_doc.specs.Proofs.Orderings.{then_Equal}
 use Rattle.jsonb_raw.proofs.Ranking.{bytes_cmp, same_from_bytes_cmp, bytes_cmp_refl}
@@ -15,7 +16,9 @@ use Rattle.jsonb_doc.proofs.DecodedFits.{decoded_fits}
 use Rattle.jsonb_doc.specs.Depth.{deepest}
 use Rattle.jsonb_doc.specs.Limits.{Fits}
 use Rattle.jsonb_raw.specs.NoExtension.{HasNoExtension}
-use Rattle.jsonb_doc.specs.Order.{tree_cmp, IsEqual}
+use Rattle.jsonb_doc.specs.Order.{tree_cmp}
+use Rattle.jsonb_doc.specs.Equal.{is_equal}
+use Rattle.jsonb_doc.specs.Proofs.Equality.{equal_from_test, is_equal-true}
 use Rattle.jsonb_raw.specs.SortableKey.{sortable_key, depths, HasKey, IsRest}
 use Rattle.jsonb_raw.specs.EqualityKey.{equality_key}
 
@@ -32,29 +35,29 @@ pub keys_keep_below : (w : Width) (t u : Tree) (d : ℕ) (r s : List ℕ) → Ha
     → bytes_cmp (sortable_key w t d ++ r) (sortable_key w u d ++ s) ≡ Less
 keys_keep_below w t u d r s h k hr hs e = ranked w t u d r s h k hr hs ∙ ap (λ o. ordering_then o (bytes_cmp r s)) e
 
-pub keys_keep_equal : (w : Width) (t u : Tree) (d : ℕ) → HasKey w t d → HasKey w u d → IsEqual t u → sortable_key w t d ≡ sortable_key w u d
-keys_keep_equal w t u d h k e = same_from_bytes_cmp (sortable_key w t d) (sortable_key w u d) (alone w t u d h k ∙ tree_cmp-equal t u e)
+pub keys_keep_equal : (w : Width) (t u : Tree) (d : ℕ) → HasKey w t d → HasKey w u d → IsTrue (is_equal t u) → sortable_key w t d ≡ sortable_key w u d
+keys_keep_equal w t u d h k e = same_from_bytes_cmp (sortable_key w t d) (sortable_key w u d) (alone w t u d h k ∙ tree_cmp-equal t u (equal_from_test t u e))
 
 pub keys_order : (w : Width) (t u : Tree) → HasKey w t 0 → HasKey w u 0 → bytes_cmp (sortable_key w t 0) (sortable_key w u 0) ≡ tree_cmp t u
 keys_order w t u h k = alone w t u 0 h k
 
-pub keys_tell_apart : (w : Width) (t u : Tree) → HasKey w t 0 → HasKey w u 0 → (sortable_key w t 0 ≡ sortable_key w u 0) ↔ IsEqual t u
+pub keys_tell_apart : (w : Width) (t u : Tree) → HasKey w t 0 → HasKey w u 0 → (sortable_key w t 0 ≡ sortable_key w u 0) ↔ IsTrue (is_equal t u)
 keys_tell_apart w t u h k = (
-  λ e. equal_from_tree_cmp t u h.in_range k.in_range
-      (sym (alone w t u 0 h k) ∙ ap (λ x. bytes_cmp x (sortable_key w u 0)) e ∙ bytes_cmp_refl (sortable_key w u 0)),
+  λ e. is_equal-true t u (equal_from_tree_cmp t u h.in_range k.in_range
+      (sym (alone w t u 0 h k) ∙ ap (λ x. bytes_cmp x (sortable_key w u 0)) e ∙ bytes_cmp_refl (sortable_key w u 0))),
   λ e. keys_keep_equal w t u 0 h k e,
 )
 
-pub equality_keys_tell_apart : (t u : Tree) → Fits t → Fits u → (equality_key t ≡ equality_key u) ↔ IsEqual t u
+pub equality_keys_tell_apart : (t u : Tree) → Fits t → Fits u → (equality_key t ≡ equality_key u) ↔ IsTrue (is_equal t u)
 equality_keys_tell_apart t u h k = (
-  λ e. (equal_from_keys t u [] [] (keyable t h) (keyable u k) (append-nil (equality_key t) ∙ e ∙ sym (append-nil (equality_key u)))).0,
-  λ e. same_key t u
-      (keyable t h) (keyable u k) e,
+  λ e. is_equal-true t u
+      (equal_from_keys t u [] [] (keyable t h) (keyable u k) (append-nil (equality_key t) ∙ e ∙ sym (append-nil (equality_key u)))).0,
+  λ e. same_key t u (keyable t h) (keyable u k) (equal_from_test t u e),
 )
 
 -- the bytes rank with the key of the tree u as the tree t does
 abbrev RanksWith : Width → Tree → Tree → List ℕ → Type 0
-RanksWith w t u bytes = (bytes_cmp bytes (sortable_key w u 0) ≡ tree_cmp t u) × ((bytes ≡ sortable_key w u 0) ↔ IsEqual t u)
+RanksWith w t u bytes = (bytes_cmp bytes (sortable_key w u 0) ≡ tree_cmp t u) × ((bytes ≡ sortable_key w u 0) ↔ IsTrue (is_equal t u))
 
 ranks_with : (w : Width) (t u : Tree) (made : List ℕ) → HasKey w t 0 → HasKey w u 0 → made ≡ sortable_key w t 0 → RanksWith w t u made
 ranks_with w t u made h k e = rw e (keys_order w t u h k, keys_tell_apart w t u h k)

@@ -12,7 +12,6 @@ use Rattle.std.proofs.lemmas.List.Sums.{count_by-le-length, sum_by-cons}
 use Rattle.jsonb_doc.specs.Tree.{Tree}
 use Rattle.jsonb_doc.specs.Limits.{Fits}
 use Rattle.jsonb_doc.specs.Equal.{is_equal}
-use Rattle.jsonb_doc.specs.Proofs.Equality.{equal_from_test, is_equal-true}
 use Rattle.jsonb_raw.specs.EqualityKey.{equality_key}
 use Rattle.jsonb_raw.specs.Sets.{count_of, is_shared}
 use Rattle.jsonb_raw.specs.Private.SetCounts.{key_cmp, counted, one_at, with_key, CountsKeys, keeps, CountsAfter}
@@ -79,8 +78,8 @@ same_test false false f g = refl
 pub keys_decide : (t u : Tree) → Fits t → Fits u → bytes_eq (equality_key t) (equality_key u) ≡ is_equal t u
 keys_decide t u h k =
     same_test (bytes_eq (equality_key t) (equality_key u)) (is_equal t u)
-    (λ e. is_equal-true t u ((equality_keys_tell_apart t u h k).0 ((bytes_eq-Decides (equality_key t) (equality_key u)).0 e)))
-    (λ e. (bytes_eq-Decides (equality_key t) (equality_key u)).1 ((equality_keys_tell_apart t u h k).1 (equal_from_test t u e)))
+    (λ e. (equality_keys_tell_apart t u h k).0 ((bytes_eq-Decides (equality_key t) (equality_key u)).0 e))
+    (λ e. (bytes_eq-Decides (equality_key t) (equality_key u)).1 ((equality_keys_tell_apart t u h k).1 e))
 
 -- so the count of a tree's key is that of the trees which equal it
 pub with_key-equality_key : (t : Tree) (us : List Tree) (key : Vec ℕ Global) → Fits t → AllByRecursion Fits us → key.items ≡ equality_key t

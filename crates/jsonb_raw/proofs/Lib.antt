@@ -1,4 +1,5 @@
 pub mod ChildLemmas
+mod ChildSpots
 pub mod PlaceLemmas
 pub mod IndexLemmas
 pub mod StepLemmas
@@ -54,11 +55,13 @@ pub mod ArrayLemmas
 pub mod EntryLists
 pub mod JoinedEntries
 pub mod RunLemmas
+pub mod NameLemmas
 pub mod PartedRuns
 pub mod CutLemmas
 pub mod CutWords
 pub mod LeafLimits
 pub mod ChildAnswers
+mod Bound
 mod CallRows
 pub mod CutChild
 pub mod CutCases

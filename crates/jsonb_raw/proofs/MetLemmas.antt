@@ -45,3 +45,25 @@ met_next bytes passed spot step now steps wanted is w child n meets marks = by (
       left = sym (behind passed n (location steps x)) ∙ ap (option_map (λ ns. passed ++ ns)) (sym (next_place step steps w.here x n (sym meets) e))
           ∙ rw is at w.left;
     }
+
+-- a step that selects nothing
+
+no_position : (step : Key) (steps : List Key) (here : Tree) → None ≡ child_position step here → location (step ∷ steps) here ≡ None
+no_position step steps here none = rw (← none) refl
+
+no_child : (step : Key) (steps : List Key) (here : Tree) (n : ℕ) → Some n ≡ child_position step here → slice_get (children here) n ≡ None
+    → location (step ∷ steps) here ≡ None
+no_child step steps here n meets none = rw (← meets, none) refl
+
+pub met_no_position : (bytes : List ℕ) (passed : List ℕ) (spot : Spot) (step : Key) (now steps : List Key) (wanted : Option (List ℕ)) → now ≡ step ∷ steps
+    → (w : Walked bytes passed spot now wanted) → None ≡ child_position step w.here → wanted ≡ None
+met_no_position bytes passed spot step now steps wanted is w none = sym (rw is at w.left) ∙ ap (option_map (λ ns. passed ++ ns)) (no_position step steps w.here none)
+
+pub met_no_child : (bytes : List ℕ) (passed : List ℕ) (spot : Spot) (step : Key) (now steps : List Key) (wanted : Option (List ℕ)) → now ≡ step ∷ steps
+    → (w : Walked bytes passed spot now wanted) → (n : ℕ) → Some n ≡ child_position step w.here
+    → SameOption (Locates bytes) None (slice_get (children w.here) n) → wanted ≡ None
+met_no_child bytes passed spot step now steps wanted is w n meets none = by (slice_get (children w.here) n) refl none
+  where
+    by : (o : Option Tree) → slice_get (children w.here) n ≡ o → SameOption (Locates bytes) None o → wanted ≡ None
+    by None e h = sym (rw is at w.left) ∙ ap (option_map (λ ns. passed ++ ns)) (no_child step steps w.here n meets e)
+    by (Some x) e h = absurd h

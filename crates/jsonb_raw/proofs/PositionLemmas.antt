@@ -1,5 +1,5 @@
 -- The position of the child that a step selects, found by its index or by its key.
-use Rattle.std.proofs.Common.{◌≡◌, ℕ, suc, ◌+◌, ℤ, true, false, List, [], ◌∷◌, length, Option, Some, None, Result, Ok, Err, IsOkAnd, refl, ap, ◌∙◌, arith, Global, MatchResult}
+use Rattle.std.proofs.Common.{◌≡◌, ℕ, suc, ◌+◌, ℤ, true, false, List, [], ◌∷◌, length, Option, Some, None, Result, IsOkAnd, refl, ap, ◌∙◌, arith, Global, MatchResult}
 use Rattle.std.specs.Prelude.{position, option_map}
 use Rattle.std.specs.Borrow.{Bor}
 use Rattle.std.specs.Str.{bytes_eq}
@@ -17,9 +17,7 @@ use Rattle.jsonb_keypath.specs.declared.key_path.KeyPath.{KeyPath}
 use Rattle.jsonb_keypath.specs.declared.key_path.KeyPath.TheVariants.{Index, QuotedName, Name}
 use Rattle.jsonb_keypath.specs.KeyPathGrammar.{Key, index, quoted_name, unquoted_name}
 use Rattle.jsonb_keypath.specs.KeyPathViews.{key_view}
-use Rattle.jsonb_doc.specs.ObjectKeys.{HasKeysLeft, TakesKey}
 use Rattle.jsonb_doc.specs.declared.error.Error.{Error}
-use Rattle.jsonb_doc.specs.declared.key_iter.KeyIter.{KeyIter}
 use Rattle.jsonb_raw.specs.Places.{asked_key, index_position, child_position}
 use Rattle.jsonb_raw.proofs.AnswerLemmas.{answered}
 use Rattle.jsonb_raw.proofs.PlaceLemmas.{position-cons}
@@ -96,42 +94,10 @@ asked_quoted asked name step same is = rw is same
 pub asked_plain : (asked : List ℕ) (name : CowStr Global) (step : KeyPath) → asked ≡ cow_str_bytes name → step ≡ Name name → asked ≡ asked_key (key_view step)
 asked_plain asked name step same is = rw is same
 
--- the first of the keys was given
-pub record FirstKey (ks : List (List ℕ)) (given : List ℕ) (after : KeyIter) : Type 0 where
-  pub rest : List (List ℕ)
-  pub split : ks ≡ given ∷ rest
-  pub left : HasKeysLeft after rest
-
-pub first_key : (ks : List (List ℕ)) (r : Result (Bor (List ℕ)) Error) (given : Bor (List ℕ)) (after : KeyIter) → r ≡ Ok given → TakesKey ks (Some r) after
-    → FirstKey ks given.now after
-first_key ks r given after is takes = by ks (rw is at takes)
-  where
-    by : (ls : List (List ℕ)) → TakesKey ls (Some (Ok given)) after → FirstKey ls given.now after
-    by [] h = absurd h
-    by (l ∷ ls) h = record { rest = ls; split = rw h.0 refl; left = h.1 }
-
-pub no_key_error : (ks : List (List ℕ)) (r : Result (Bor (List ℕ)) Error) (e : Error) (after : KeyIter) → r ≡ Err e → TakesKey ks (Some r) after → ⊥
-no_key_error ks r e after is takes = by ks (rw is at takes)
-  where
-    by : (ls : List (List ℕ)) → TakesKey ls (Some (Err e)) after → ⊥
-    by [] h = h
-    by (l ∷ ls) h = h
-
-pub no_more_keys : (ks : List (List ℕ)) (after : KeyIter) → TakesKey ks None after → ks ≡ []
-no_more_keys [] after h = refl
-no_more_keys (k ∷ ks) after h = absurd h
-
 -- ---- the position among the keys that are left, after those that were passed
 
 abbrev pub position_behind : ℕ → List ℕ → List (List ℕ) → Option ℕ
 position_behind passed name ks = option_map (λ n. passed + n) (position (λ key. bytes_eq key name) ks)
-
-pub none_passed : (name : List ℕ) (ks : List (List ℕ)) → position_behind 0 name ks ≡ position (λ key. bytes_eq key name) ks
-none_passed name ks = by (position (λ key. bytes_eq key name) ks)
-  where
-    by : (o : Option ℕ) → option_map (λ n. 0 + n) o ≡ o
-    by None = refl
-    by (Some n) = let e : 0 + n ≡ n = omega arith in rw e refl
 
 pub key_here : (passed : ℕ) (name key : List ℕ) (ks rest : List (List ℕ)) (wanted : Option ℕ) → ks ≡ key ∷ rest → bytes_eq key name ≡ true
     → position_behind passed name ks ≡ wanted

@@ -3,7 +3,7 @@ use Rattle.std.proofs.Common.{◌≡◌, ℕ, suc, ◌+◌, ◌*◌, ◌^◌, �
 use Rattle.std.specs.Prelude.{reverse, Result, Ok, Err, IsOkAnd, MatchResult}
 use Rattle.jsonb_doc.specs.declared.error.Error.{Error}
 use Rattle.jsonb_doc.specs.Kinds.{kind_number}
-use Rattle.jsonb_doc.specs.Tree.{Tree, boolean, text, array, object, elements, values, keys}
+use Rattle.jsonb_doc.specs.Tree.{Tree, boolean, text, array, object, no_pairs, pair, elements, values, keys}
 use Rattle.jsonb_doc.specs.Payload.{Form, number_reader}
 use Rattle.jsonb_doc.specs.Format.{IsContent, container_entry}
 use Rattle.jsonb_doc.specs.declared.entry_iter.StoredEntry.{StoredEntry}
@@ -194,6 +194,14 @@ pub sorted_names : (form : Form) (t : Tree) (e : ContainerEntries) → AreEntrie
 sorted_names form (array ts) e h = ([], h.1, tt)
 sorted_names form (object ps) e h = (keys ps, rw (keys_of-members ps) at h.2.names, keys_rise (keys ps) h.1)
 sorted_names form _ e h = absurd h
+
+-- without keys, all entries that stay are values
+pub no_keys_stay : (form : Form) (t : Tree) (e : ContainerEntries) → AreEntriesOf form t e → length e.keys.words.now ≡ 0 → entries_kept t ≡ values_kept t
+no_keys_stay form (array ts) e h none = refl
+no_keys_stay form (object no_pairs) e h none = refl
+no_keys_stay form (object (pair key t ps)) e h none =
+    let names = h.2.names in absurd (omega (arith, none, ap length names.entries.begin.words_joined))
+no_keys_stay form _ e h none = absurd h
 
 -- ---- keys are written in runs
 

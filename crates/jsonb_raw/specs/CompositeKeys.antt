@@ -9,7 +9,7 @@ use Rattle.jsonb_doc.specs.Depth.{deepest}
 use Rattle.jsonb_doc.specs.Answer.{SameOption, IsOutOfMemory}
 use Rattle.jsonb_doc.specs.declared.error.Error.{Error}
 use Rattle.jsonb_raw.specs.Documents.{raw_bytes}
-use Rattle.jsonb_raw.specs.KeyAnswer.{GivesKey, IsOutOfMemoryOrTooDeep}
+use Rattle.jsonb_raw.specs.KeyAnswer.{GivesKey}
 use Rattle.jsonb_raw.specs.SortableKey.{item_bytes, sortable_key, depths, HasKey}
 use Rattle.jsonb_raw.specs.declared.raw.RawJsonb.{RawJsonb}
 
@@ -25,7 +25,7 @@ HaveKeys w columns = AllByRecursion (λ column. IfSome column (λ t. HasKey w t 
 -- Holds if the result is that of appending the key of a value, which may be missing, to the bytes `old`.
 abbrev pub AppendsColumn : Width → Option Tree → List ℕ → Result (Unit {0}) Error → List ℕ → Type 0
 AppendsColumn w None old r new = MatchResult r (λ _. new ≡ old ++ column_key w None) IsOutOfMemory
-AppendsColumn w (Some t) old r new = GivesKey w t r (λ _. new ≡ old ++ column_key w (Some t))
+AppendsColumn w (Some t) old r new = GivesKey w (deepest t) r (λ _. new ≡ old ++ column_key w (Some t))
 
 -- The depth of the deepest item of the values, 0 if all are missing.
 abbrev pub deepest_of_columns : List (Option Tree) → ℕ
@@ -36,10 +36,3 @@ deepest_of_columns (Some t ∷ columns) = max (deepest t) (deepest_of_columns co
 -- Holds if each column is a document of its value, or both are missing.
 abbrev pub AreColumns : Form → List (Option RawJsonb) → List (Option Tree) → Type 0
 AreColumns form columns values = AllZip (SameOption (λ raw t. Decodes form (raw_bytes raw) t)) columns values
-
--- Holds if the result is that of making a composite key of the values. It fails with `TooDeep` if and only if an item
--- is too deep for the width.
-abbrev pub GivesCompositeKey : {A : Type 0} → Width → List (Option Tree) → Result A Error → (A → Type 0) → Type 0
-GivesCompositeKey w columns r IsMade =
-    MatchResult r (λ made. IsMade made × (deepest_of_columns columns < depths w))
-    (IsOutOfMemoryOrTooDeep (deepest_of_columns columns) (depths w))

@@ -1,5 +1,5 @@
 -- Results of functions that write a sortable key.
-use Rattle.std.specs.Prelude.{◌≡◌, ◌⊎◌, ◌↔◌, ◌≤◌, ◌<◌, ℕ, List, Result, MatchResult, IfOk, Vec}
+use Rattle.std.specs.Prelude.{◌≡◌, ◌⊎◌, ◌↔◌, ◌≤◌, ◌<◌, ℕ, List, Result, MatchResult, IfOk, Vec, IsTrue}
 use Rattle.std.specs.Int.{Width}
 use Rattle.std.specs.Ordering.{nat_cmp}
 use Rattle.std.specs.Cmp.Lexicographic.{slice_cmp}
@@ -7,8 +7,8 @@ use Rattle.std.specs.declared.alloc.Global.{Global}
 use Rattle.jsonb_doc.specs.declared.error.Error.{Error}
 use Rattle.jsonb_doc.specs.declared.error.Error.TheVariants.{OutOfMemory, TooDeep}
 use Rattle.jsonb_doc.specs.Tree.{Tree}
-use Rattle.jsonb_doc.specs.Order.{tree_cmp, IsEqual}
-use Rattle.jsonb_doc.specs.Depth.{deepest}
+use Rattle.jsonb_doc.specs.Equal.{is_equal}
+use Rattle.jsonb_doc.specs.Order.{tree_cmp}
 use Rattle.jsonb_raw.specs.NoExtension.{HasNoExtension}
 use Rattle.jsonb_raw.specs.SortableKey.{sortable_key, depths, HasKey}
 
@@ -16,22 +16,15 @@ use Rattle.jsonb_raw.specs.SortableKey.{sortable_key, depths, HasKey}
 abbrev pub IsOutOfMemoryOrTooDeep : ℕ → ℕ → Error → Type 0
 IsOutOfMemoryOrTooDeep deepest_item limit e = (e ≡ OutOfMemory) ⊎ ((e ≡ TooDeep) × (limit ≤ deepest_item))
 
--- Holds if the result is the tree's sortable key. It fails with `TooDeep` if and only if an item is too deep for the
--- width.
-abbrev pub GivesKey : {A : Type 0} → Width → Tree → Result A Error → (A → Type 0) → Type 0
-GivesKey w tree r IsMade =
-    MatchResult r (λ made. IsMade made × (deepest tree < depths w)) (IsOutOfMemoryOrTooDeep (deepest tree) (depths w))
-
--- Holds if the result is the sortable key of a document.
-abbrev pub MakesKey : Width → Tree → Result (Vec ℕ Global) Error → Type 0
-MakesKey w tree r = GivesKey w tree r (λ v. v.items ≡ sortable_key w tree 0)
-
--- Holds if the key was written to a vector that then has these items.
-abbrev pub WritesKey : Width → Tree → Result (Unit {0}) Error → List ℕ → Type 0
-WritesKey w tree r items = GivesKey w tree r (λ _. items ≡ sortable_key w tree 0)
+-- Holds if the result is as stated, and no item is too deep for the width, whose deepest item has this depth. It fails
+-- with `TooDeep` if and only if one is.
+abbrev pub GivesKey : {A : Type 0} → Width → ℕ → Result A Error → (A → Type 0) → Type 0
+GivesKey w deepest_item r IsMade =
+    MatchResult r (λ made. IsMade made × (deepest_item < depths w)) (IsOutOfMemoryOrTooDeep deepest_item (depths w))
 
 -- Holds if the result for a tree without extensions compares with the key of each tree that has one as the trees do,
 -- and is that key if and only if the two are equal by value.
 abbrev pub RanksAsTree : Width → Tree → Result (Vec ℕ Global) Error → Type 0
 RanksAsTree w t r = HasNoExtension t → (u : Tree) → HasKey w u 0 → IfOk r (λ v.
-    (slice_cmp nat_cmp v.items (sortable_key w u 0) ≡ tree_cmp t u) × ((v.items ≡ sortable_key w u 0) ↔ IsEqual t u))
+    (slice_cmp nat_cmp v.items (sortable_key w u 0) ≡ tree_cmp t u)
+    × ((v.items ≡ sortable_key w u 0) ↔ IsTrue (is_equal t u)))

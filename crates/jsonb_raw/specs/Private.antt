@@ -14,6 +14,7 @@ pub mod KeyKinds
 pub mod KeyParts
 pub mod KeyWidth
 pub mod PairSteps
+pub mod Names
 pub mod SetCounts
 pub mod Hashes
 pub mod StartHints

@@ -2,6 +2,7 @@
 
 ghost use Rattle.std.specs.Prelude.{◌≡◌, ◌≢◌, ◌↔◌, ◌+◌, ◌-◌, ◌*◌, ◌^◌, ◌<◌, min, ℕ, Bool, true, false, not, IsTrue};
 ghost use Rattle.std.specs.Prelude.{List, [], ◌∷◌, ◌++◌, length, flat_map, Contains, Option, Some, None, IfSome};
+ghost use Rattle.std.specs.Prelude.{◌⊎◌, Result, IfOk, IfErr, MatchResult};
 ghost use Rattle.std.specs.Int.{Width};
 ghost use Rattle.std.specs.Int.Digits.{digits_of, number_from_digits};
 ghost use Rattle.std.specs.Option.{option_cmp};
@@ -9,14 +10,21 @@ ghost use Rattle.std.specs.Ordering.{nat_cmp};
 ghost use Rattle.std.specs.Cmp.Lexicographic.{slice_cmp};
 ghost use Rattle.std.specs.Slice.Iter.{iter_rest, iter_steps};
 ghost use Rattle.std.specs.declared.cmp.Ordering.TheVariants.{Less};
+ghost use Rattle.jsonb_doc.specs.Bytes.{AreBytes};
+ghost use Rattle.jsonb_doc.specs.declared.error.Error.{Error};
+ghost use Rattle.jsonb_doc.specs.Answer.{Outcome, Refines, IsOutOfMemory};
 ghost use Rattle.jsonb_doc.specs.Tree.{Tree, Trees, Pairs, array, object, members};
-ghost use Rattle.jsonb_doc.specs.Payload.{Form};
+ghost use Rattle.jsonb_doc.specs.Payload.{Form, canonical};
 ghost use Rattle.jsonb_doc.specs.Format.{Decodes};
 ghost use Rattle.jsonb_doc.specs.Depth.{deepest};
 ghost use Rattle.jsonb_doc.specs.Limits.{Fits};
-ghost use Rattle.jsonb_doc.specs.Order.{tree_cmp, IsEqual};
+ghost use Rattle.jsonb_doc.specs.Equal.{is_equal};
+ghost use Rattle.jsonb_doc.specs.Order.{tree_cmp};
 ghost use Rattle.jsonb_keypath.specs.KeyPathGrammar.{Key, key_path};
 ghost use Rattle.jsonb_keypath.specs.KeyPathText.{key_path_text};
+ghost use Rattle.jsonb_raw.specs.declared.owned.OwnedJsonb.{OwnedJsonb};
+ghost use Rattle.jsonb_raw.specs.Computes.{Computes};
+ghost use Rattle.jsonb_raw.specs.Documents.{Makes, MakesOption};
 ghost use Rattle.jsonb_raw.specs.Places.{location, tree_at_steps};
 ghost use Rattle.jsonb_raw.specs.NoExtension.{HasNoExtension};
 ghost use Rattle.jsonb_raw.specs.SortableKey.{sortable_key, significant, depths, HasKey, IsRest};
@@ -33,6 +41,25 @@ ghost use Rattle.jsonb_raw.specs.Strip.{strip};
 ghost use Rattle.jsonb_raw.specs.Contains.{contains};
 ghost use Rattle.jsonb_raw.specs.Concat.{concat};
 ghost use Rattle.jsonb_raw.specs.Iterators.{YieldsItemsLeft};
+
+/// A contract determines the results of a function on documents. Two results that state a value of the tree are equal,
+/// and two canonical documents of one tree have the same bytes. Two results that refine one meaning, which may be an
+/// error, are equal unless an allocation failed. So a function that returns another result breaks its contract.
+pub fn results_are_determined<T, U>()
+    ensures values { (f : Tree → T) (form : Form) (bytes : List ℕ) (t : Tree) (r s : Result T Error)
+        → Decodes form bytes t → Computes f bytes r → Computes f bytes s → s ≡ r }
+    ensures documents { (t : Tree) (r s : Result OwnedJsonb Error) → Makes canonical t r → Makes canonical t s
+        → IfOk r (λ made. IfOk s (λ other. AreBytes made → AreBytes other → other ≡ made)) }
+    ensures options { (found : Option Tree) (r s : Result (Option OwnedJsonb) Error)
+        → MakesOption canonical found r → MakesOption canonical found s
+        → IfOk r (λ made. IfOk s (λ other. IfSome made AreBytes → IfSome other AreBytes → other ≡ made)) }
+    ensures refined { (f : U → T) (meaning : Outcome U) (r s : Outcome T)
+        → Refines (λ x u. x ≡ f u) IsOutOfMemory r meaning → Refines (λ x u. x ≡ f u) IsOutOfMemory s meaning
+        → IfOk r (λ x. MatchResult s (λ y. y ≡ x) IsOutOfMemory) }
+    ensures refused { (f : U → T) (meaning : Outcome U) (r s : Outcome T)
+        → Refines (λ x u. x ≡ f u) IsOutOfMemory r meaning → Refines (λ x u. x ≡ f u) IsOutOfMemory s meaning
+        → IfErr r (λ e. IsOutOfMemory e ⊎ IfErr s (λ d. IsOutOfMemory d ⊎ (d ≡ e))) }
+{}
 
 /// The tree at the location of no steps is the whole tree.
 pub fn no_steps_meet_the_whole()
@@ -55,11 +82,11 @@ pub fn sortable_keys()
         → HasKey w t d → HasKey w u d → IsRest w d r → IsRest w d s → tree_cmp t u ≡ Less
         → slice_cmp nat_cmp (sortable_key w t d ++ r) (sortable_key w u d ++ s) ≡ Less }
     ensures equal { (w : Width) (t u : Tree) (d : ℕ)
-        → HasKey w t d → HasKey w u d → IsEqual t u → sortable_key w t d ≡ sortable_key w u d }
+        → HasKey w t d → HasKey w u d → IsTrue (is_equal t u) → sortable_key w t d ≡ sortable_key w u d }
     ensures order { (w : Width) (t u : Tree) → HasKey w t 0 → HasKey w u 0
         → slice_cmp nat_cmp (sortable_key w t 0) (sortable_key w u 0) ≡ tree_cmp t u }
     ensures apart { (w : Width) (t u : Tree)
-        → HasKey w t 0 → HasKey w u 0 → (sortable_key w t 0 ≡ sortable_key w u 0) ↔ IsEqual t u }
+        → HasKey w t 0 → HasKey w u 0 → (sortable_key w t 0 ≡ sortable_key w u 0) ↔ IsTrue (is_equal t u) }
 {}
 
 /// Two documents without extension values compare as their sortable keys do, in every width that has a depth for each
@@ -81,7 +108,7 @@ pub fn composite_keys()
 
 /// Two trees have one equality key if and only if they are equal by value, at every depth, with extensions too.
 pub fn equality_keys()
-    ensures { (t u : Tree) → Fits t → Fits u → (equality_key t ≡ equality_key u) ↔ IsEqual t u }
+    ensures { (t u : Tree) → Fits t → Fits u → (equality_key t ≡ equality_key u) ↔ IsTrue (is_equal t u) }
 {}
 
 /// The digits c1..ck of a number's key have no zero at either end. They write its absolute value, which is 0.c1..ck

@@ -20,9 +20,7 @@ ghost use Rattle.jsonb_raw.specs.Private.Order.{Decides, IsShorter, key_cmp, par
 use crate::key_kind;
 use crate::level::ChildCursor;
 use jsonb_doc::layout::EntryKind;
-use jsonb_doc::{
-    Error, Item, Number, StoredEntry, bytes_cmp, root_shape, root_spot, short_cmp, spot_entry,
-};
+use jsonb_doc::{Error, Item, Number, StoredEntry, bytes_cmp, root_entry, short_cmp};
 use std::cmp::Ordering;
 
 /// Two children that are at one position of their containers.
@@ -65,18 +63,12 @@ pub fn documents_order(document: &[u8], other: &[u8]) -> Result<Ordering, Error>
     ensures reads { OnOk result (HasRootShape document.now × HasRootShape other.now) }
 {
     // Each root is read, whatever the other one is.
-    root_shape(document)?;
-    root_shape(other)?;
-    entries_order(&root_entry(document)?, &root_entry(other)?)
-}
-
-/// Returns the root of a document, as it is stored.
-fn root_entry(document: &[u8]) -> Result<StoredEntry<'_>, Error>
-    ensures entry { (form : Form) (t : Tree) → Decodes form document.now t
-        → IsOkAnd result (λ entry. Stores form entry t) }
-    ensures errors { IfErr result IsDecodingError }
-{
-    spot_entry(document, root_spot(document)?)
+    let entry = root_entry(document)?;
+    let other = root_entry(other)?;
+    match scalars_order(&entry, &other) {
+        Some(order) => Ok(order),
+        None => entries_order(&entry, &other),
+    }
 }
 
 /// Returns the order of two entries. This loop enters a pair of children that is longer than half of all, and calls

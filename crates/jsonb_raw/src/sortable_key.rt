@@ -1,6 +1,6 @@
 //! The sortable key of a document: each item after its depth and its type.
 
-ghost use Rattle.std.specs.Prelude.{◌≡◌, ◌≤◌, ◌<◌, ◌++◌, ℕ, [], length, List, Option, IfOk, IfErr, MatchResult, OnOk};
+ghost use Rattle.std.specs.Prelude.{◌≡◌, ◌≤◌, ◌<◌, ◌++◌, ℕ, [], length, List, Option, IfOk, IfErr, IfSome, MatchResult, OnOk};
 ghost use Rattle.std.specs.Int.{to_be_bytes};
 ghost use Rattle.jsonb_doc.specs.Tree.{Tree};
 ghost use Rattle.jsonb_doc.specs.Payload.{Form, number_reader};
@@ -9,13 +9,15 @@ ghost use Rattle.jsonb_doc.specs.Item.{StandsFor};
 ghost use Rattle.jsonb_doc.specs.Kinds.{kind_number};
 ghost use Rattle.jsonb_doc.specs.Private.Stored.{Stores};
 ghost use Rattle.jsonb_raw.specs.Roots.{HasRoot};
-ghost use Rattle.jsonb_raw.specs.SortableKey.{text_bytes, number_bytes, depths};
+ghost use Rattle.jsonb_raw.specs.SortableKey.{text_bytes, number_bytes, sortable_key, depths};
+ghost use Rattle.jsonb_doc.specs.Depth.{deepest};
 ghost use Rattle.jsonb_raw.specs.Private.PackedBytes.{packed_bytes};
 ghost use Rattle.jsonb_doc.specs.Private.Short.{short_value};
+ghost use Rattle.jsonb_doc.specs.View.{number_view};
 ghost use Rattle.jsonb_raw.specs.Private.Levels.{IsKeyOf, IsLevelWithin};
 ghost use Rattle.jsonb_raw.specs.Private.KeyParts.{name_start, AppendsItem, AppendsScalar, AppendsStart, AppendsKey};
 ghost use Rattle.jsonb_raw.specs.Private.KeyWidth.{width_of};
-ghost use Rattle.jsonb_raw.specs.KeyAnswer.{MakesKey, RanksAsTree, IsOutOfMemoryOrTooDeep};
+ghost use Rattle.jsonb_raw.specs.KeyAnswer.{GivesKey, RanksAsTree, IsOutOfMemoryOrTooDeep};
 ghost use Rattle.jsonb_doc.specs.Answer.{IsDecodingError, ◌or◌};
 ghost use Rattle.jsonb_doc.specs.declared.error.Error.TheVariants.{OutOfMemory, TooDeep};
 
@@ -26,7 +28,7 @@ use crate::key_kind;
 use crate::level::ChildCursor;
 use crate::packed::{PackedBytes, ROOM};
 use jsonb_doc::layout::EntryKind;
-use jsonb_doc::{Error, Item, ShortNumber, StoredEntry, push_extension_payload, root_item};
+use jsonb_doc::{Error, Item, Number, ShortNumber, StoredEntry, push_extension_payload, root_item};
 use std::alloc::Global;
 
 /// The number of bytes that a key has for each depth.
@@ -120,6 +122,36 @@ fn push_short(out: &mut Vec<u8>, number: ShortNumber, depth: Depth) -> Result<()
     Ok(())
 }
 
+/// Returns the number as it is stored, if its digits fit in 64 bits.
+#[inline(always)]
+fn short_of(number: Number) -> Option<ShortNumber>
+    ensures { IfSome result (λ short. short_value short ≡ number_view number) }
+{
+    match number {
+        Number::Int64(value) => Some(ShortNumber::Signed(value)),
+        Number::UInt64(value) => Some(ShortNumber::Unsigned(value)),
+        Number::Decimal64(decimal) => Some(ShortNumber::Decimal(decimal.value, decimal.scale)),
+        Number::Decimal128(_) => None,
+    }
+}
+
+/// Appends the key of a number. It is a separate function so that a packed number takes no space in those of other
+/// items.
+#[inline(never)]
+fn push_read_number(out: &mut Vec<u8>, number: Number, depth: Depth) -> Result<(), Error>
+    ensures { AppendsItem depth 4 (number_bytes (number_view number).whole (number_view number).scale)
+        out.old.items result out.new.items }
+{
+    match short_of(number) {
+        Some(short) => push_short(out, short, depth),
+        None => {
+            push_front(out, depth, key_kind::NUMBER)?;
+            push_number(out, number)?;
+            Ok(())
+        }
+    }
+}
+
 /// Appends what precedes the children of a container, and returns them.
 #[inline(always)]
 fn push_container<'a>(
@@ -148,14 +180,12 @@ fn push_scalar_item(out: &mut Vec<u8>, item: &Item<'_>, depth: Depth) -> Result<
         Item::Null => push_front(out, depth, key_kind::NULL)?,
         Item::Boolean(false) => push_front(out, depth, key_kind::FALSE)?,
         Item::Boolean(true) => push_front(out, depth, key_kind::TRUE)?,
-        Item::Number(number) => {
-            push_front(out, depth, key_kind::NUMBER)?;
-            push_number(out, *number)?;
-        }
+        Item::Number(number) => push_read_number(out, *number, depth)?,
         Item::String(text) => push_string(out, text.as_bytes(), depth)?,
         Item::Extension(value) => {
             push_front(out, depth, key_kind::EXTENSION)?;
-            push_extension_payload(out, value)?;
+            let own = *value; // so that only this type of item is in memory
+            push_extension_payload(out, &own)?;
             out.push(0)?;
         }
         Item::Array(_) | Item::Object(_) => return Err(Error::InvalidJsonb),
@@ -286,13 +316,13 @@ pub fn push_sortable_key(
 /// Returns the sortable key of a document.
 pub fn sortable_key(alloc: Global, bytes: &[u8], width: DepthWidth) -> Result<Vec<u8>, Error>
     ensures key { (form : Form) (tree : Tree) → Decodes form bytes.now tree
-        → MakesKey (width_of width) tree result }
+        → GivesKey (width_of width) (deepest tree) result (λ key. key.items ≡ sortable_key (width_of width) tree 0) }
     ensures order { (form : Form) (tree : Tree) → Decodes form bytes.now tree
         → RanksAsTree (width_of width) tree result }
     ensures errors { IfErr result (IsDecodingError or OutOfMemory or TooDeep) }
     ensures reads { OnOk result (HasRoot bytes.now) }
 {
-    let mut out = Vec::new(alloc);
+    let mut out = Vec::with_capacity(alloc, bytes.len().saturating_add(ROOM))?;
     push_sortable_key(alloc, &mut out, bytes, width)?;
     Ok(out)
 }

@@ -64,6 +64,13 @@ fn documents_keep_their_bytes(rt: HostRuntime) -> Result<(), Fail> {
 }
 
 #[test]
+fn a_limit_is_the_greatest_depth(rt: HostRuntime) {
+    let document = RawJsonb::new(MIXED_ARRAY);
+    assert!(rt; document.check_depth(2) == Ok(()));
+    assert!(rt; document.check_depth(1) == Err(Error::TooDeep));
+}
+
+#[test]
 fn spots_are_at_key_paths(rt: HostRuntime) -> Result<(), Fail> {
     let path = parse_key_paths(rt.alloc(), b"{-1,k}")?;
     let document = RawJsonb::new(MIXED_ARRAY);
@@ -73,5 +80,29 @@ fn spots_are_at_key_paths(rt: HostRuntime) -> Result<(), Fail> {
     let path = parse_key_paths(rt.alloc(), b"{3}")?;
     let found = document.spot_by_keypath(rt.alloc(), path.paths.iter())?;
     assert!(rt; found.is_none());
+    Ok(())
+}
+
+#[test]
+fn spots_are_at_indexes_and_keys(rt: HostRuntime) -> Result<(), Fail> {
+    let elements = RawJsonb::new(MIXED_ARRAY);
+    let second = elements.spot_by_index(1)?.map(|spot| spot.range().end);
+    assert!(rt; second == Some(18));
+    let past = elements.spot_by_index(3)?;
+    assert!(rt; past.is_none());
+    let members = RawJsonb::new(HOME);
+    let named = members
+        .spot_by_name("type", false)?
+        .map(|spot| spot.range().start);
+    assert!(rt; named == Some(35));
+    let other = members.spot_by_name("TYPE", false)?;
+    assert!(rt; other.is_none());
+    let folded = members
+        .spot_by_name("TYPE", true)?
+        .map(|spot| spot.range().start);
+    assert!(rt; folded == Some(35));
+    let nothing = members.spot_by_index(0)?.is_none()
+        && elements.spot_by_name("k", true)?.is_none();
+    assert!(rt; nothing);
     Ok(())
 }

@@ -4,6 +4,7 @@ use Rattle.std.specs.Int.{Width}
 use Rattle.jsonb_doc.specs.Tree as spec
 use Rattle.jsonb_doc.specs.Tree.{Tree}
 use Rattle.jsonb_doc.specs.declared.error.Error.{Error}
+use Rattle.jsonb_doc.specs.Depth.{deepest}
 use Rattle.jsonb_doc.specs.Payload.{Form}
 use Rattle.jsonb_raw.specs.declared.level.ChildCursor.{ChildCursor}
 use Rattle.jsonb_raw.specs.declared.sortable_key.Depth.{Depth}
@@ -29,7 +30,7 @@ part_start w part d = name_start w part.0 d ++ start w part.1 d
 
 -- the sortable key of a document, appended to the bytes `old`
 abbrev pub AppendsKey : Width → Tree → List ℕ → Result (Unit {0}) Error → List ℕ → Type 0
-AppendsKey w tree old r new = GivesKey w tree r (λ _. new ≡ old ++ sortable_key w tree 0)
+AppendsKey w tree old r new = GivesKey w (deepest tree) r (λ _. new ≡ old ++ sortable_key w tree 0)
 
 -- these bytes, appended to the bytes `old` if an item at the depth is not too deep
 abbrev pub AppendsBytes : Depth → List ℕ → List ℕ → Result (Unit {0}) Error → List ℕ → Type 0

@@ -15,7 +15,7 @@ ghost use Rattle.jsonb_doc.specs.Answer.{IsDecodingError, ◌or◌};
 ghost use Rattle.jsonb_doc.specs.declared.error.Error.TheVariants.{OutOfMemory, InvalidCast};
 
 use crate::raw::RawJsonb;
-use jsonb_doc::{Error, Item, Number, root_item};
+use jsonb_doc::{Error, Item, Number, Shape, root_item, root_shape};
 use std::alloc::Global;
 
 impl RawJsonb<'_> {
@@ -41,9 +41,9 @@ impl RawJsonb<'_> {
         ensures errors { IfErr result (IsDecodingError or InvalidCast) }
         ensures reads { OnOk result (HasRoot (raw_bytes self.now)) }
     {
-        match root_item(self.as_bytes())? {
-            Item::Boolean(value) => Ok(value),
-            Item::String(text) => bool_from_text(text),
+        match root_shape(self.as_bytes())? {
+            Shape::Boolean(value) => Ok(value),
+            Shape::Text(text) => bool_from_text(text),
             _ => Err(Error::InvalidCast),
         }
     }
@@ -144,12 +144,13 @@ impl RawJsonb<'_> {
     }
 }
 
-fn bool_from_text(text: &str) -> Result<bool, Error>
+/// Returns the Boolean that a string names. Its bytes are compared, and not validated first.
+fn bool_from_text(text: &[u8]) -> Result<bool, Error>
     ensures { CastsToBool (spec.text text.now) result }
 {
-    if text.eq_ignore_ascii_case("true") || text.eq_ignore_ascii_case("yes") {
+    if text.eq_ignore_ascii_case(b"true") || text.eq_ignore_ascii_case(b"yes") {
         Ok(true)
-    } else if text.eq_ignore_ascii_case("false") || text.eq_ignore_ascii_case("no") {
+    } else if text.eq_ignore_ascii_case(b"false") || text.eq_ignore_ascii_case(b"no") {
         Ok(false)
     } else {
         Err(Error::InvalidCast)

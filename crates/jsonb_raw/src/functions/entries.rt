@@ -13,10 +13,11 @@ ghost use Rattle.jsonb_raw.specs.Private.Entries.{HoldTrees, AreElementsOf};
 use crate::functions::parts::{Elements, Entries, EntryWithWord};
 use crate::owned::OwnedJsonb;
 use jsonb_doc::layout::{EntryKind, MAX_CONTENT, WORD, encode_entry_word};
-use jsonb_doc::{Container, Error, StoredEntry, read_container, scalar_document};
+use jsonb_doc::{Container, Error, StoredEntry, read_container, root_entry, scalar_document};
 use std::alloc::Global;
 
 /// Returns the entries of an array, or `None` if the root is not an array.
+#[inline(always)]
 pub fn element_entries(bytes: &[u8]) -> Result<Option<Entries<'_>>, Error>
     ensures entries { (form : Form) (t : Tree) → Decodes form bytes.now t → IsOkAnd result (AreElementsOf form t) }
     ensures errors { IfErr result IsDecodingError }
@@ -51,24 +52,6 @@ pub fn around_entries(
     let (front, others) = entries.split(position)?;
     let (_, back) = others.split(count)?;
     Ok((front, back))
-}
-
-/// Returns the entry that the root of a document has within another one, as it is stored.
-pub fn root_entry(document: &[u8]) -> Result<StoredEntry<'_>, Error>
-    ensures entry { (form : Form) (t : Tree) → Decodes form document.now t
-        → IsOkAnd result (λ entry. IsContent (number_reader form) t (kind_number entry.kind) entry.content.now) }
-    ensures errors { IfErr result IsDecodingError }
-{
-    match read_container(document)? {
-        Container::Scalar(entry) => {
-            entry.item()?;
-            Ok(entry)
-        }
-        _ => Ok(StoredEntry {
-            kind: EntryKind::Container,
-            content: document,
-        }),
-    }
 }
 
 /// Returns the entry as a new document, as it is stored. Fails for a number or an extension value that cannot be read,

@@ -19,9 +19,11 @@ ghost use Rattle.jsonb_raw.specs.Making.{MakesPairs, IsPairOf};
 ghost use Rattle.jsonb_raw.specs.Objects.{object_pick, object_delete, object_keys, object_each, object_insert, has_name};
 
 mod insert;
+mod names;
 mod pair_parts;
 
 use self::insert::{object_with_pair, pair_place};
+use self::names::SortedNames;
 use crate::functions::entries::{entry_count, entry_document};
 use crate::functions::joined::array_of;
 use crate::functions::parts::{FirstPair, PairEntries, PairRuns};
@@ -217,19 +219,19 @@ fn pairs_by_set<'a>(
     ensures errors { IfErr result (IsDecodingError or OutOfMemory or TooLarge) }
 {
     let mut runs = PairRuns::new(alloc);
-    let mut run = pairs;
+    let mut sorted = SortedNames::new(names);
     let mut left = pairs;
-    while let Some(pair) = first_pair(left)? {
-        let Ok(name) = str::from_utf8(pair.key) else {
-            return Err(Error::InvalidJsonb);
-        };
-        if names.contains(name) != wanted {
-            runs.push_run(run, left)?;
-            run = pair.others;
+    while let Some(run) = sorted.next_run(left.keys)? {
+        let (values, other_values) = left.values.split(run.count)?;
+        if run.is_in == wanted {
+            let (keys, _) = left.keys.split(run.count)?;
+            runs.push(PairEntries { keys, values })?;
         }
-        left = pair.others;
+        left = PairEntries {
+            keys: run.others,
+            values: other_values,
+        };
     }
-    runs.push_run(run, left)?;
     runs.object(alloc)
 }
 

@@ -9,7 +9,9 @@ ghost use Rattle.jsonb_doc.specs.Answer.{IsOutOfMemory, IsDecodingError, ◌or�
 ghost use Rattle.jsonb_doc.specs.declared.error.Error.TheVariants.{OutOfMemory, TooDeep};
 ghost use Rattle.jsonb_raw.specs.Roots.{HasRoot};
 ghost use Rattle.jsonb_raw.specs.Documents.{raw_bytes};
-ghost use Rattle.jsonb_raw.specs.KeyAnswer.{MakesKey, WritesKey, RanksAsTree};
+ghost use Rattle.jsonb_raw.specs.KeyAnswer.{GivesKey, RanksAsTree};
+ghost use Rattle.jsonb_raw.specs.SortableKey.{sortable_key};
+ghost use Rattle.jsonb_doc.specs.Depth.{deepest};
 ghost use Rattle.jsonb_raw.specs.EqualityKey.{equality_key};
 
 mod column_key;
@@ -62,7 +64,7 @@ impl RawJsonb<'_> {
     /// | `0` | `00 04 80` |
     pub fn convert_to_comparable(&self, alloc: Global) -> Result<Vec<u8>, Error>
         ensures key { (form : Form) (tree : Tree) → Decodes form (raw_bytes self.now) tree
-            → MakesKey w8 tree result }
+            → GivesKey w8 (deepest tree) result (λ key. key.items ≡ sortable_key w8 tree 0) }
         ensures order { (form : Form) (tree : Tree) → Decodes form (raw_bytes self.now) tree
             → RanksAsTree w8 tree result }
         ensures errors { IfErr result (IsDecodingError or OutOfMemory or TooDeep) }
@@ -91,7 +93,7 @@ impl RawJsonb<'_> {
     /// | `1` | `0000 04 81 03e9 02 00` |
     pub fn convert_to_comparable_wide(&self, alloc: Global) -> Result<Vec<u8>, Error>
         ensures key { (form : Form) (tree : Tree) → Decodes form (raw_bytes self.now) tree
-            → MakesKey w16 tree result }
+            → GivesKey w16 (deepest tree) result (λ key. key.items ≡ sortable_key w16 tree 0) }
         ensures order { (form : Form) (tree : Tree) → Decodes form (raw_bytes self.now) tree
             → RanksAsTree w16 tree result }
         ensures errors { IfErr result (IsDecodingError or OutOfMemory or TooDeep) }
@@ -154,7 +156,7 @@ impl RawJsonb<'_> {
     /// ```
     pub fn convert_to_comparable_into(&self, alloc: Global, key: &mut Vec<u8>) -> Result<(), Error>
         ensures key { (form : Form) (tree : Tree) → Decodes form (raw_bytes self.now) tree
-            → WritesKey w8 tree result key.new.items }
+            → GivesKey w8 (deepest tree) result (λ _. key.new.items ≡ sortable_key w8 tree 0) }
         ensures empty { IfErr result (λ _. key.new.items ≡ []) }
         ensures errors { IfErr result (IsDecodingError or OutOfMemory or TooDeep) }
         ensures reads { OnOk result (HasRoot (raw_bytes self.now)) }
@@ -187,7 +189,7 @@ impl RawJsonb<'_> {
         key: &mut Vec<u8>,
     ) -> Result<(), Error>
         ensures key { (form : Form) (tree : Tree) → Decodes form (raw_bytes self.now) tree
-            → WritesKey w16 tree result key.new.items }
+            → GivesKey w16 (deepest tree) result (λ _. key.new.items ≡ sortable_key w16 tree 0) }
         ensures empty { IfErr result (λ _. key.new.items ≡ []) }
         ensures errors { IfErr result (IsDecodingError or OutOfMemory or TooDeep) }
         ensures reads { OnOk result (HasRoot (raw_bytes self.now)) }

@@ -24,6 +24,7 @@ mod entry_range;
 mod exists;
 mod leaves;
 mod name_block;
+mod spots;
 
 use crate::owned::OwnedJsonb;
 use crate::raw::RawJsonb;

@@ -2,30 +2,26 @@
 //!
 //! On bytes that do not decode each function returns; its result is not specified. Only the root is read.
 
-ghost use Rattle.std.specs.Prelude.{◌≡◌, ◌↔◌, ◌^◌, ◌<◌, ℕ, ℤ, pos, FitsSigned, IfErr, IsOkAnd, IsSome, IsTrue, MatchOption, MatchResult, OnOk, is_some};
+ghost use Rattle.std.specs.Prelude.{◌≡◌, ◌↔◌, ◌^◌, ◌<◌, ℕ, ℤ, pos, FitsSigned, IfErr, IsOkAnd, IsTrue, MatchOption, OnOk, is_some};
 ghost use Rattle.std.specs.Int.{w64};
 ghost use Rattle.jsonb_doc.specs.Tree.{Tree, extension};
 ghost use Rattle.jsonb_doc.specs.Payload.{Form};
 ghost use Rattle.jsonb_doc.specs.Format.{Decodes};
-ghost use Rattle.jsonb_doc.specs.Answer.{SameOption, ◌or◌, IsDecodingError, IsOutOfMemory};
+ghost use Rattle.jsonb_doc.specs.Answer.{SameOption, IsDecodingError};
 ghost use Rattle.jsonb_doc.specs.View.{number_parts, extension_view};
 ghost use Rattle.jsonb_raw.specs.Computes.{Computes};
 ghost use Rattle.jsonb_raw.specs.Documents.{raw_bytes};
 ghost use Rattle.jsonb_raw.specs.Roots.{HasRoot, HasRootShape};
-ghost use Rattle.jsonb_doc.specs.declared.error.Error.TheVariants.{OutOfMemory};
-ghost use Rattle.jsonb_raw.specs.Scalars.{boolean_in, number_in, text_in, extension_in};
-ghost use Rattle.jsonb_raw.specs.Scalars.{binary_in, date_in, timestamp_in, timestamp_tz_in, interval_in};
-ghost use Rattle.jsonb_raw.specs.Scalars.{is_null, is_array, is_object, is_extension_value};
+ghost use Rattle.jsonb_raw.specs.Scalars.{boolean_in, number_in, text_in};
+ghost use Rattle.jsonb_raw.specs.Scalars.{is_null, is_array, is_object};
 ghost use Rattle.jsonb_raw.specs.Scalars.{type_name, number_type, IsWholeNumber, BorrowsText};
 
+mod extension;
 #[cfg(test)]
 mod tests;
 
 use crate::raw::RawJsonb;
-use jsonb_doc::{
-    Date, Error, ExtensionValue, Interval, Item, Number, Shape, Timestamp, TimestampTz, root_item,
-    root_shape,
-};
+use jsonb_doc::{Error, ExtensionValue, Item, Number, Shape, root_item, root_shape};
 use std::alloc::Global;
 use std::borrow::CowStr;
 
@@ -213,171 +209,6 @@ impl<'a> RawJsonb<'a> {
         Ok(matches!(root_shape(self.as_bytes())?, Shape::Object))
     }
 
-    /// Returns `true` if the root is an extension value: binary, a date, a timestamp or an interval.
-    ///
-    /// # Errors
-    ///
-    /// Decoding errors.
-    ///
-    /// # Complexity
-    ///
-    /// O(1). Does not allocate.
-    ///
-    /// # Examples
-    ///
-    /// ```rust crates/jsonb_examples/src/calls.rt
-    /// if !value.is_extension_value()? {
-    ///     return Ok("JSONB");
-    /// }
-    /// ```
-    pub fn is_extension_value(&self) -> Result<bool, Error>
-        ensures kind { Computes is_extension_value (raw_bytes self.now) result }
-        ensures errors { IfErr result IsDecodingError }
-        ensures reads { OnOk result (HasRootShape (raw_bytes self.now)) }
-    {
-        Ok(matches!(root_shape(self.as_bytes())?, Shape::Extension(_)))
-    }
-
-    /// Returns `true` if the root is binary.
-    ///
-    /// # Errors
-    ///
-    /// Decoding errors.
-    ///
-    /// # Complexity
-    ///
-    /// O(1). Does not allocate.
-    ///
-    /// # Examples
-    ///
-    /// ```rust crates/jsonb_examples/src/calls.rt
-    /// if value.is_binary()? {
-    ///     return Ok("BYTEA");
-    /// }
-    /// ```
-    pub fn is_binary(&self) -> Result<bool, Error>
-        ensures kind { Computes (λ tree. is_some (binary_in tree)) (raw_bytes self.now) result }
-        ensures errors { IfErr result IsDecodingError }
-        ensures reads { OnOk result (HasRootShape (raw_bytes self.now)) }
-    {
-        Ok(matches!(
-            root_shape(self.as_bytes())?,
-            Shape::Extension(ExtensionValue::Binary(_))
-        ))
-    }
-
-    /// Returns `true` if the root is a date.
-    ///
-    /// # Errors
-    ///
-    /// Decoding errors.
-    ///
-    /// # Complexity
-    ///
-    /// O(1). Does not allocate.
-    ///
-    /// # Examples
-    ///
-    /// ```rust crates/jsonb_examples/src/calls.rt
-    /// if value.is_date()? {
-    ///     return Ok("DATE");
-    /// }
-    /// ```
-    pub fn is_date(&self) -> Result<bool, Error>
-        ensures kind { Computes (λ tree. is_some (date_in tree)) (raw_bytes self.now) result }
-        ensures errors { IfErr result IsDecodingError }
-        ensures reads { OnOk result (HasRootShape (raw_bytes self.now)) }
-    {
-        Ok(matches!(
-            root_shape(self.as_bytes())?,
-            Shape::Extension(ExtensionValue::Date(_))
-        ))
-    }
-
-    /// Returns `true` if the root is a timestamp without a time zone.
-    ///
-    /// # Errors
-    ///
-    /// Decoding errors.
-    ///
-    /// # Complexity
-    ///
-    /// O(1). Does not allocate.
-    ///
-    /// # Examples
-    ///
-    /// ```rust crates/jsonb_examples/src/calls.rt
-    /// if value.is_timestamp()? {
-    ///     return Ok("TIMESTAMP");
-    /// }
-    /// ```
-    pub fn is_timestamp(&self) -> Result<bool, Error>
-        ensures kind { Computes (λ tree. is_some (timestamp_in tree)) (raw_bytes self.now) result }
-        ensures errors { IfErr result IsDecodingError }
-        ensures reads { OnOk result (HasRootShape (raw_bytes self.now)) }
-    {
-        Ok(matches!(
-            root_shape(self.as_bytes())?,
-            Shape::Extension(ExtensionValue::Timestamp(_))
-        ))
-    }
-
-    /// Returns `true` if the root is a timestamp with a time zone.
-    ///
-    /// # Errors
-    ///
-    /// Decoding errors.
-    ///
-    /// # Complexity
-    ///
-    /// O(1). Does not allocate.
-    ///
-    /// # Examples
-    ///
-    /// ```rust crates/jsonb_examples/src/calls.rt
-    /// if value.is_timestamp_tz()? {
-    ///     return Ok("TIMESTAMP WITH TIME ZONE");
-    /// }
-    /// ```
-    pub fn is_timestamp_tz(&self) -> Result<bool, Error>
-        ensures kind { Computes (λ tree. is_some (timestamp_tz_in tree)) (raw_bytes self.now) result }
-        ensures errors { IfErr result IsDecodingError }
-        ensures reads { OnOk result (HasRootShape (raw_bytes self.now)) }
-    {
-        Ok(matches!(
-            root_shape(self.as_bytes())?,
-            Shape::Extension(ExtensionValue::TimestampTz(_))
-        ))
-    }
-
-    /// Returns `true` if the root is an interval.
-    ///
-    /// # Errors
-    ///
-    /// Decoding errors.
-    ///
-    /// # Complexity
-    ///
-    /// O(1). Does not allocate.
-    ///
-    /// # Examples
-    ///
-    /// ```rust crates/jsonb_examples/src/calls.rt
-    /// if value.is_interval()? {
-    ///     return Ok("INTERVAL");
-    /// }
-    /// ```
-    pub fn is_interval(&self) -> Result<bool, Error>
-        ensures kind { Computes (λ tree. is_some (interval_in tree)) (raw_bytes self.now) result }
-        ensures errors { IfErr result IsDecodingError }
-        ensures reads { OnOk result (HasRootShape (raw_bytes self.now)) }
-    {
-        Ok(matches!(
-            root_shape(self.as_bytes())?,
-            Shape::Extension(ExtensionValue::Interval(_))
-        ))
-    }
-
     /// Returns `true` if the root is an integer that fits `i64`.
     ///
     /// The decimal 1.0 is an integer.
@@ -397,6 +228,7 @@ impl<'a> RawJsonb<'a> {
     /// |---|---|
     /// | `1.0` | true |
     /// | `1.5` | false |
+    #[inline(always)]
     pub fn is_i64(&self) -> Result<bool, Error>
         ensures kind { (form : Form) (tree : Tree) → Decodes form (raw_bytes self.now) tree
             → IsOkAnd result (λ b. IsTrue b ↔ ((z : ℤ) × IsWholeNumber tree z × FitsSigned w64 z)) }
@@ -424,6 +256,7 @@ impl<'a> RawJsonb<'a> {
     /// | Document | Result |
     /// |---|---|
     /// | `1.0` | true |
+    #[inline(always)]
     pub fn is_u64(&self) -> Result<bool, Error>
         ensures kind { (form : Form) (tree : Tree) → Decodes form (raw_bytes self.now) tree
             → IsOkAnd result (λ b. IsTrue b ↔ ((n : ℕ) × IsWholeNumber tree (pos n) × (n < 2 ^ 64))) }
@@ -546,190 +379,6 @@ impl<'a> RawJsonb<'a> {
         }
     }
 
-    /// Returns the extension value, or `None` if the root is of another type.
-    ///
-    /// # Errors
-    ///
-    /// Decoding errors.
-    ///
-    /// # Complexity
-    ///
-    /// O(1). Does not allocate.
-    ///
-    /// # Examples
-    ///
-    /// ```rust crates/jsonb_examples/src/calls.rt
-    /// let Some(extension) = value.as_extension_value()? else {
-    ///     return Ok(None);
-    /// };
-    /// let text = match extension {
-    ///     ExtensionValue::Binary(bytes) => format!(in alloc; "{} bytes", bytes.len())?,
-    ///     ExtensionValue::Date(date) => format!(in alloc; "day {}", date.value)?,
-    /// ```
-    pub fn as_extension_value(&self) -> Result<Option<ExtensionValue<'a>>, Error>
-        ensures value { (form : Form) (tree : Tree) → Decodes form (raw_bytes self.now) tree
-            → IsOkAnd result (λ found. SameOption (λ x y. extension_view x ≡ y) found (extension_in tree)) }
-        ensures errors { IfErr result IsDecodingError }
-        ensures reads { OnOk result (HasRootShape (raw_bytes self.now)) }
-    {
-        match root_shape(self.as_bytes())? {
-            Shape::Extension(value) => Ok(Some(value)),
-            _ => Ok(None),
-        }
-    }
-
-    /// Returns the date, or `None` if the root is of another type.
-    ///
-    /// # Errors
-    ///
-    /// Decoding errors.
-    ///
-    /// # Complexity
-    ///
-    /// O(1). Does not allocate.
-    ///
-    /// # Examples
-    ///
-    /// ```rust crates/jsonb_examples/src/calls.rt
-    /// let date = value.as_date()?;
-    /// Ok(date.map(|it| it.value))
-    /// ```
-    pub fn as_date(&self) -> Result<Option<Date>, Error>
-        ensures value { (form : Form) (tree : Tree) → Decodes form (raw_bytes self.now) tree
-            → IsOkAnd result (λ found. SameOption (λ day value. day.value ≡ value) found (date_in tree)) }
-        ensures errors { IfErr result IsDecodingError }
-        ensures reads { OnOk result (HasRootShape (raw_bytes self.now)) }
-    {
-        match root_shape(self.as_bytes())? {
-            Shape::Extension(ExtensionValue::Date(date)) => Ok(Some(date)),
-            _ => Ok(None),
-        }
-    }
-
-    /// Returns the timestamp without a time zone, or `None` if the root is of another type.
-    ///
-    /// # Errors
-    ///
-    /// Decoding errors.
-    ///
-    /// # Complexity
-    ///
-    /// O(1). Does not allocate.
-    ///
-    /// # Examples
-    ///
-    /// ```rust crates/jsonb_examples/src/calls.rt
-    /// if let Some(time) = value.as_timestamp()? {
-    ///     return Ok(Some(time.value));
-    /// }
-    /// ```
-    pub fn as_timestamp(&self) -> Result<Option<Timestamp>, Error>
-        ensures value { (form : Form) (tree : Tree) → Decodes form (raw_bytes self.now) tree
-            → IsOkAnd result (λ found. SameOption (λ time value. time.value ≡ value) found (timestamp_in tree)) }
-        ensures errors { IfErr result IsDecodingError }
-        ensures reads { OnOk result (HasRootShape (raw_bytes self.now)) }
-    {
-        match root_shape(self.as_bytes())? {
-            Shape::Extension(ExtensionValue::Timestamp(timestamp)) => Ok(Some(timestamp)),
-            _ => Ok(None),
-        }
-    }
-
-    /// Returns the timestamp with a time zone, or `None` if the root is of another type.
-    ///
-    /// # Errors
-    ///
-    /// Decoding errors.
-    ///
-    /// # Complexity
-    ///
-    /// O(1). Does not allocate.
-    ///
-    /// # Examples
-    ///
-    /// ```rust crates/jsonb_examples/src/calls.rt
-    /// match value.as_timestamp_tz()? {
-    ///     Some(time) => Ok(Some(time.value)),
-    ///     None => Ok(None),
-    /// }
-    /// ```
-    pub fn as_timestamp_tz(&self) -> Result<Option<TimestampTz>, Error>
-        ensures value { (form : Form) (tree : Tree) → Decodes form (raw_bytes self.now) tree
-            → IsOkAnd result (λ found.
-            SameOption (λ time parts. (time.offset, time.value) ≡ parts) found (timestamp_tz_in tree)) }
-        ensures errors { IfErr result IsDecodingError }
-        ensures reads { OnOk result (HasRootShape (raw_bytes self.now)) }
-    {
-        match root_shape(self.as_bytes())? {
-            Shape::Extension(ExtensionValue::TimestampTz(timestamp)) => Ok(Some(timestamp)),
-            _ => Ok(None),
-        }
-    }
-
-    /// Returns the interval, or `None` if the root is of another type.
-    ///
-    /// # Errors
-    ///
-    /// Decoding errors.
-    ///
-    /// # Complexity
-    ///
-    /// O(1). Does not allocate.
-    ///
-    /// # Examples
-    ///
-    /// ```rust crates/jsonb_examples/src/calls.rt
-    /// match value.as_interval()? {
-    ///     Some(period) => Ok(Some((period.months, period.days))),
-    ///     None => Ok(None),
-    /// }
-    /// ```
-    pub fn as_interval(&self) -> Result<Option<Interval>, Error>
-        ensures value { (form : Form) (tree : Tree) → Decodes form (raw_bytes self.now) tree
-            → IsOkAnd result (λ found.
-            SameOption (λ time parts. (time.months, time.days, time.micros) ≡ parts) found (interval_in tree)) }
-        ensures errors { IfErr result IsDecodingError }
-        ensures reads { OnOk result (HasRootShape (raw_bytes self.now)) }
-    {
-        match root_shape(self.as_bytes())? {
-            Shape::Extension(ExtensionValue::Interval(interval)) => Ok(Some(interval)),
-            _ => Ok(None),
-        }
-    }
-
-    /// Returns a copy of the bytes of a binary value, or `None` if the root is of another type.
-    ///
-    /// # Errors
-    ///
-    /// Allocation errors.
-    ///
-    /// # Complexity
-    ///
-    /// O(n). Allocates; the bytes are copied.
-    ///
-    /// # Examples
-    ///
-    /// ```rust crates/jsonb_examples/src/calls.rt
-    /// match value.as_binary(alloc)? {
-    ///     Some(bytes) => Ok(bytes),
-    ///     None => Ok(Vec::new(alloc)),
-    /// }
-    /// ```
-    pub fn as_binary(&self, alloc: Global) -> Result<Option<Vec<u8>>, Error>
-        ensures value { (form : Form) (tree : Tree) → Decodes form (raw_bytes self.now) tree
-            → MatchResult result (λ found. SameOption (λ copy bytes. copy.items ≡ bytes) found (binary_in tree))
-            (λ e. IsOutOfMemory e × IsSome (binary_in tree)) }
-        ensures errors { IfErr result (IsDecodingError or OutOfMemory) }
-        ensures reads { OnOk result (HasRootShape (raw_bytes self.now)) }
-    {
-        match root_shape(self.as_bytes())? {
-            Shape::Extension(ExtensionValue::Binary(bytes)) => {
-                Ok(Some(Vec::from_slice(alloc, bytes)?))
-            }
-            _ => Ok(None),
-        }
-    }
-
     /// Returns the number as an `i64`, or `None` if the root is not an integer that fits.
     ///
     /// The decimal 1.0 is an integer.
@@ -749,6 +398,7 @@ impl<'a> RawJsonb<'a> {
     /// |---|---|
     /// | `1.0` | `1` |
     /// | `1.5` | none |
+    #[inline(always)]
     pub fn as_i64(&self) -> Result<Option<i64>, Error>
         ensures value { (form : Form) (tree : Tree) → Decodes form (raw_bytes self.now) tree
             → IsOkAnd result (λ found. MatchOption found
@@ -781,6 +431,7 @@ impl<'a> RawJsonb<'a> {
     /// | Document | Result |
     /// |---|---|
     /// | `1.0` | `1` |
+    #[inline(always)]
     pub fn as_u64(&self) -> Result<Option<u64>, Error>
         ensures value { (form : Form) (tree : Tree) → Decodes form (raw_bytes self.now) tree
             → IsOkAnd result (λ found. MatchOption found

@@ -132,7 +132,8 @@ fn is_walked(
     key_len: usize,
 ) -> Result<bool, Error> {
     let is_deep = document.depth()? == 200_000;
-    let is_too_deep = document.check_depth(199_999) == Err(Error::TooDeep);
+    let is_too_deep = document.check_depth(199_999) == Err(Error::TooDeep)
+        && document.check_depth(200_000).is_ok();
     let has_y = document.traverse_check_string(|text| text == b"y".as_slice())?;
     let is_so = is_deep && is_too_deep && !has_y && has_equality_key(alloc, document, key_len)?;
     Ok(is_so && keeps_all(alloc, document)? && has_deep_leaf(alloc, document, level)?)

@@ -1,12 +1,11 @@
-use Rattle.std.proofs.Common.{◌≡◌, ◌+◌, ◌++◌, ℕ, List, length, take, rules, arith, sym, ap, ◌∙◌}
-use Rattle.std.proofs.lemmas.Slice.{take-put_mid}
-use Rattle.jsonb_raw.proofs.TextChunks.{escaped_plain}
+use Rattle.std.proofs.Common.{◌≡◌, ◌<◌, length, rules, arith}
+use Rattle.jsonb_raw.proofs.TextChunks.{run_ended}
 use Rattle.jsonb_raw.proofs.key_bytes.write_piece.Goals as goal
 
 pub returns-clause-bytes : goal.returns-clause-bytes
 returns-clause-bytes c =
     let size : length c.args.piece.now ≡ 8 = search rules in
-    let copied : length c.copy_from_slice.new.self ≡ 8 = ap length c.copy_from_slice.ensures.after ∙ size in
-    take-put_mid c.args.len _ c.args.buffer.now c.copy_from_slice.new.self (c.args.len + 8) (omega (arith, copied)) (omega (arith, c.requires.room))
-    ∙ ap (λ (xs : List ℕ). take c.args.len c.args.buffer.now ++ xs)
-    (c.copy_from_slice.ensures.after ∙ sym (escaped_plain c.args.piece.now (sym c.is_plain_piece.ensures ∙ c.if-not-is_plain_piece.false)))
+    let more : c.plain_len-plain.result < length c.args.piece.now =
+    omega (arith, size, c.plain_len-plain.ensures.within, c.if-plain-eq-PIECE.false) in
+    run_ended c.plain_len-plain.result c.args.len c.args.buffer.now c.args.piece.now (omega (arith, c.requires.room)) (omega (arith, more)) _ _ _ more
+    c.copy_plain-end.ensures.bytes c.write_byte.ensures.bytes

@@ -7,11 +7,11 @@ use Rattle.jsonb_raw.proofs.sortable_key.sortable_key.Goals as goal
 
 pub returns-in_err-push_sortable_key-clause-key : goal.returns-in_err-push_sortable_key-clause-key
 returns-in_err-push_sortable_key-clause-key c = λ form tree d.
-    let p = err_from_is_err_and c.from_residual.result c.from_residual.ensures.1 in
+    let p = err_from_is_err_and c.from_residual-in_err-push_sortable_key.result c.from_residual-in_err-push_sortable_key.ensures.1 in
     rw (p.1, p.2) (c.in_err-push_sortable_key.ensures.key form tree d)
 
 pub returns-clause-order : goal.returns-clause-order
 returns-clause-order c = λ form tree d none u k.
     let made = c.in_ok-push_sortable_key.ensures.key form tree d in
     decoded_ranks (width_of c.args.width) form c.args.bytes.now _ tree (λ i. omega (arith, c.type_inv.bytes i)) d
-    (made.0 ∙ ap (λ xs. xs ++ sortable_key (width_of c.args.width) tree 0) c.new-out.ensures.items) made.1 none u k
+    (made.0 ∙ ap (λ xs. xs ++ sortable_key (width_of c.args.width) tree 0) c.in_ok-out.ensures.items) made.1 none u k

@@ -19,13 +19,17 @@ use crate::equal_items::stored_equal;
 use crate::equality_key::write_entry_key;
 use crate::functions::entries::element_entries;
 use crate::functions::parts::Entries;
-use jsonb_doc::layout::EntryKind;
+use jsonb_doc::layout::{EntryKind, WORD, read_entry_word};
 use jsonb_doc::{Error, StoredEntry};
 use std::alloc::Global;
 
-/// The number of elements of both arrays up to which all pairs are compared. Each element needs an allocation for its
-/// key otherwise: two strings take twice the instructions.
+/// The number of elements of both arrays up to which all pairs are compared, if none is a container. Each element needs
+/// an allocation for its key otherwise: two strings take twice the instructions, ten integers 15 percent fewer.
 const FEW: usize = 8;
+
+/// The number of elements up to which all pairs are compared even if some are containers: two objects and two others
+/// take 8,700 instructions by their keys and 6,100 pair by pair, eight objects four times those of their keys.
+const FEW_CONTAINERS: usize = 2;
 
 /// How often the key of each element is still counted, and a vector for the next key.
 #[derive(Drop)]
@@ -134,8 +138,7 @@ impl<'a> Seen<'a> {
     }
 }
 
-/// Returns the elements of two arrays if both have few, and no containers: pair by pair, eight objects take four times
-/// the instructions of their keys.
+/// Returns the elements of two arrays if both have few.
 pub(super) fn few_elements<'a>(
     bytes: &'a [u8],
     others: &'a [u8],
@@ -151,26 +154,25 @@ pub(super) fn few_elements<'a>(
     let Some(few) = element_entries(others)? else {
         return Ok(None);
     };
-    if !are_few_scalars(entries) || !are_few_scalars(few) {
+    if !are_few(entries) || !are_few(few) {
         return Ok(None);
     }
     Ok(Some((entries, few)))
 }
 
-/// Returns `true` if there are few entries, and none is a container.
-fn are_few_scalars(entries: Entries<'_>) -> bool {
-    if entries.len() > FEW {
-        return false;
-    }
-    let mut left = entries;
-    for _ in 0..entries.len() {
-        let Ok(Some((entry, others))) = left.first() else {
-            return false;
-        };
-        if entry.is_container() {
+/// Returns `true` if there are few entries: at most two, or more of which none is a container.
+fn are_few(entries: Entries<'_>) -> bool {
+    let count = entries.len();
+    count <= FEW_CONTAINERS || count <= FEW && has_no_container(entries)
+}
+
+/// Returns `true` if none of the entries is a container.
+fn has_no_container(entries: Entries<'_>) -> bool {
+    let (words, _) = entries.words.as_chunks::<WORD>();
+    for word in words {
+        if read_entry_word(word).0 == EntryKind::Container {
             return false;
         }
-        left = others;
     }
     true
 }

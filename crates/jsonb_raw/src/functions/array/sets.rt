@@ -67,7 +67,8 @@ pub(super) fn keep_element(
     }
 }
 
-/// Returns the array of the elements that are kept, copied in runs.
+/// Returns the array of the elements that are kept, copied in runs. Inlined, since callers know the variant of `Seen`.
+#[inline(always)]
 fn kept_elements(
     alloc: Global,
     kind: SetOperation,
@@ -237,6 +238,7 @@ fn kept_beside(
 }
 
 /// Returns the root of a document if it is not an array.
+#[inline(always)]
 fn lone_root(bytes: &[u8]) -> Result<Option<Item<'_>>, Error>
     ensures item { (form : Form) (t : Tree) → Decodes form bytes.now t
         → IsOkAnd result (λ found. IfSome found (λ item. StandsFor form item t × (as_elements t ≡ t ∷ []))) }

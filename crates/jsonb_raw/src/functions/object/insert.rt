@@ -14,13 +14,13 @@ ghost use Rattle.jsonb_raw.specs.Private.Entries.{HoldTrees};
 ghost use Rattle.jsonb_raw.specs.Private.Inserts.{IsPairPlace, IsPlaceAmong};
 
 use super::pair_parts::PairPlace;
-use crate::functions::entries::{around_entries, root_entry};
+use crate::functions::entries::around_entries;
 use crate::functions::parts::Entries;
 use crate::functions::runs::pair_entries;
 use crate::owned::OwnedJsonb;
 use jsonb_doc::layout::{EntryKind, HeaderKind, WORD};
 use jsonb_doc::rewriting::Writer;
-use jsonb_doc::{Error, StoredEntry, keys};
+use jsonb_doc::{Error, StoredEntry, keys, root_entry};
 use std::alloc::Global;
 use std::cmp::Ordering;
 

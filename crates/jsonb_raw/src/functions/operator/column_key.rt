@@ -8,7 +8,8 @@ ghost use Rattle.jsonb_doc.specs.Payload.{Form};
 ghost use Rattle.jsonb_doc.specs.Format.{Decodes};
 ghost use Rattle.jsonb_doc.specs.Answer.{IsOutOfMemory, IsDecodingError, ◌or◌};
 ghost use Rattle.jsonb_doc.specs.declared.error.Error.TheVariants.{OutOfMemory, TooDeep};
-ghost use Rattle.jsonb_raw.specs.CompositeKeys.{column_key, AppendsColumn, AreColumns, GivesCompositeKey};
+ghost use Rattle.jsonb_raw.specs.CompositeKeys.{column_key, AppendsColumn, AreColumns, deepest_of_columns};
+ghost use Rattle.jsonb_raw.specs.KeyAnswer.{GivesKey};
 ghost use Rattle.jsonb_raw.specs.Roots.{HasRoot};
 ghost use Rattle.jsonb_raw.specs.Documents.{raw_bytes};
 ghost use Rattle.jsonb_raw.specs.Private.KeyWidth.{width_of};
@@ -117,7 +118,7 @@ pub fn push_column_key_wide(
 /// ```
 pub fn composite_key(alloc: Global, columns: &[Option<RawJsonb<'_>>]) -> Result<Vec<u8>, Error>
     ensures key { (form : Form) (values : List (Option Tree)) → AreColumns form columns.now values
-        → GivesCompositeKey w8 values result (λ key. key.items ≡ flat_map (column_key w8) values) }
+        → GivesKey w8 (deepest_of_columns values) result (λ key. key.items ≡ flat_map (column_key w8) values) }
     ensures reads { OnOk result
         (AllByRecursion (λ column. IfSome column (λ raw. HasRoot (raw_bytes raw))) columns.now) }
     ensures errors { IfErr result (IsDecodingError or OutOfMemory or TooDeep) }
@@ -144,7 +145,7 @@ pub fn composite_key(alloc: Global, columns: &[Option<RawJsonb<'_>>]) -> Result<
 /// ```
 pub fn composite_key_wide(alloc: Global, columns: &[Option<RawJsonb<'_>>]) -> Result<Vec<u8>, Error>
     ensures key { (form : Form) (values : List (Option Tree)) → AreColumns form columns.now values
-        → GivesCompositeKey w16 values result (λ key. key.items ≡ flat_map (column_key w16) values) }
+        → GivesKey w16 (deepest_of_columns values) result (λ key. key.items ≡ flat_map (column_key w16) values) }
     ensures reads { OnOk result
         (AllByRecursion (λ column. IfSome column (λ raw. HasRoot (raw_bytes raw))) columns.now) }
     ensures errors { IfErr result (IsDecodingError or OutOfMemory or TooDeep) }
@@ -159,7 +160,7 @@ fn key_of_columns(
     width: DepthWidth,
 ) -> Result<Vec<u8>, Error>
     ensures key { (form : Form) (values : List (Option Tree)) → AreColumns form columns.now values
-        → GivesCompositeKey (width_of width) values result
+        → GivesKey (width_of width) (deepest_of_columns values) result
         (λ key. key.items ≡ flat_map (column_key (width_of width)) values) }
     ensures reads { OnOk result
         (AllByRecursion (λ column. IfSome column (λ raw. HasRoot (raw_bytes raw))) columns.now) }

@@ -87,12 +87,13 @@ struct StartHints<'a> {
 }
 
 impl<'a> StartHints<'a> {
-    /// Creates starts of which all are the first entry.
-    fn new(all: EntryIter<'a>) -> StartHints<'a>
+    /// Creates starts of which all are the first entry, after what remains of them.
+    fn new(all: EntryIter<'a>, left: EntryIter<'a>) -> StartHints<'a>
+        requires { PassesOver all left }
         ensures { AreStarts all.entry result }
     {
         StartHints {
-            left: all,
+            left,
             at: [all; BLOCK],
             passed: BLOCK,
         }
@@ -140,9 +141,6 @@ impl<'a> StartHints<'a> {
         if self.passed < BLOCK {
             return self.take(all);
         }
-        if all.len() <= FEW {
-            return self.left;
-        }
         self.fill(all, entries);
         self.take(all)
     }
@@ -179,16 +177,21 @@ impl<'a> StartHints<'a> {
     }
 }
 
-/// Returns `true` if each of the scalar entries equals one of the list. It is a separate function so that recursive
-/// calls hold none of its tables.
+/// Returns `true` if each of the scalar entries equals one of the list, the first of those that remain if they are in
+/// the same order. It is a separate function so that recursive calls hold none of its tables.
 #[inline(never)]
-pub(super) fn scalars_matched(all: EntryIter<'_>, wanted: EntryIter<'_>) -> Result<bool, Error>
+fn scattered_matched<'a>(
+    all: EntryIter<'a>,
+    left: EntryIter<'a>,
+    wanted: EntryIter<'_>,
+) -> Result<bool, Error>
+    requires { PassesOver all left }
     ensures matched { (form other_form : Form) (xs ys : Trees) → HasEntriesLeft form all.entry xs
         → HasEntriesLeft other_form wanted.entry ys
         → IsOkAnd result (λ b. b ≡ scalars_matched ys (elements xs)) }
     ensures errors { IfErr result IsDecodingError }
 {
-    let mut starts = StartHints::new(all);
+    let mut starts = StartHints::new(all, left);
     let mut rest = wanted;
     'walk: loop {
         let here = rest;
@@ -200,6 +203,42 @@ pub(super) fn scalars_matched(all: EntryIter<'_>, wanted: EntryIter<'_>) -> Resu
             continue;
         }
         if !starts.find(all, &entry, here)? {
+            return Ok(false);
+        }
+    }
+}
+
+/// Returns `true` if each of the scalar entries equals one of the list. No start is looked up while the next of the
+/// list is the entry, or if the list is short. Out of line, so that recursive calls hold none of its variables.
+#[inline(never)]
+pub(super) fn scalars_matched(all: EntryIter<'_>, wanted: EntryIter<'_>) -> Result<bool, Error>
+    ensures matched { (form other_form : Form) (xs ys : Trees) → HasEntriesLeft form all.entry xs
+        → HasEntriesLeft other_form wanted.entry ys
+        → IsOkAnd result (λ b. b ≡ scalars_matched ys (elements xs)) }
+    ensures errors { IfErr result IsDecodingError }
+{
+    let mut left = all;
+    let mut rest = wanted;
+    'walk: loop {
+        let here = rest;
+        let Some(entry) = rest.next() else {
+            return Ok(true);
+        };
+        let entry = entry?;
+        if entry.is_container() {
+            continue;
+        }
+        let is_next = next_equals(&mut left, &entry)?;
+        if is_next {
+            continue;
+        }
+        let is_long = all.len() > FEW;
+        if is_long {
+            return scattered_matched(all, left, here);
+        }
+        left = all;
+        let found = find_equal(&mut left, &entry)?;
+        if !found {
             return Ok(false);
         }
     }

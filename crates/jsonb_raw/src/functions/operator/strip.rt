@@ -13,7 +13,7 @@ use super::stripping::strip_container;
 use crate::functions::runs::container_entries;
 use crate::owned::OwnedJsonb;
 use crate::raw::RawJsonb;
-use jsonb_doc::{Error, root_item};
+use jsonb_doc::{Error, root_entry};
 use std::alloc::Global;
 
 impl RawJsonb<'_> {
@@ -61,6 +61,6 @@ fn scalar_copy(alloc: Global, bytes: &[u8]) -> Result<OwnedJsonb, Error>
         → Makes form t result }
     ensures errors { IfErr result (IsDecodingError or OutOfMemory) }
 {
-    root_item(bytes)?;
+    root_entry(bytes)?;
     Ok(OwnedJsonb::new(Vec::from_slice(alloc, bytes)?))
 }

@@ -143,6 +143,9 @@ fn put_keys(
         → MatchResult result (λ _. IsWriting form writer.new (values_kept t) around whole) IsOutOfMemory }
     ensures errors { IfErr result (IsDecodingError or OutOfMemory) }
 {
+    if container.keys.words.is_empty() {
+        return Ok(());
+    }
     check_keys(container.keys)?;
     if count >= container.keys.len() {
         writer.copy(container.keys)?;

@@ -2,14 +2,16 @@
 //!
 //! On bytes that do not decode each function returns; its result is not specified.
 
-ghost use Rattle.std.specs.Prelude.{◌≡◌, ◌↔◌, ℕ, List, not, true, false, None, Ok, filter, map, length, IsTrue, IfErr, IsOkAnd, MatchResult, MatchOption, Err, OnOk};
+ghost use Rattle.std.specs.Prelude.{◌≡◌, ◌↔◌, ℕ, List, not, true, false, None, Ok, filter, map, length, slice_get, ◌^◌, ◌<◌, IsTrue, IfErr, IsOkAnd, MatchResult, MatchOption, Err, OnOk};
 ghost use Rattle.std.specs.List.{remove};
 ghost use Rattle.std.specs.Map.{keys_of};
 ghost use Rattle.std.specs.Str.{bytes_eq};
 ghost use Rattle.std.specs.Char.{to_ascii_lowercase};
-ghost use Rattle.jsonb_doc.specs.Tree.{Tree, Trees, Pairs, array, object, text, elements as element_list, members, trees_of, pairs_of};
-ghost use Rattle.jsonb_doc.specs.Payload.{Form};
-ghost use Rattle.jsonb_doc.specs.Format.{Decodes, AreKeys};
+ghost use Rattle.jsonb_doc.specs.Tree.{Tree, Trees, Pairs, array, object, text, elements as element_list, members, value_under, trees_of, pairs_of};
+ghost use Rattle.jsonb_doc.specs.Payload.{Form, number_reader};
+ghost use Rattle.jsonb_doc.specs.Private.Containers.{HasPairParts};
+ghost use Rattle.jsonb_doc.specs.Format.{Decodes, AreKeys, IsContent};
+ghost use Rattle.jsonb_doc.specs.Kinds.{kind_number};
 ghost use Rattle.jsonb_doc.specs.Item.{StandsFor};
 ghost use Rattle.jsonb_doc.specs.Answer.{IsOutOfMemory, IsDecodingError, ◌or◌};
 ghost use Rattle.jsonb_doc.specs.declared.error.Error.TheVariants.{OutOfMemory, TooLarge, InvalidJsonType};
@@ -20,7 +22,6 @@ ghost use Rattle.jsonb_raw.specs.Places.{index_position};
 ghost use Rattle.jsonb_raw.specs.Children.{element_at, named_child, without_index, without_name};
 ghost use Rattle.jsonb_raw.specs.Private.NamePositions.{position_in_some_case};
 ghost use Rattle.jsonb_raw.specs.Exists.{is_text};
-ghost use Rattle.jsonb_raw.specs.Scalars.{is_object};
 
 use crate::functions::entries::{around_entries, element_entries, entry_count, entry_document};
 use crate::functions::joined::{array_of_two, object_of};
@@ -28,9 +29,10 @@ use crate::functions::parts::{Entries, PairEntries};
 use crate::functions::runs::{name_position, pair_entries};
 use crate::owned::OwnedJsonb;
 use crate::raw::RawJsonb;
+use jsonb_doc::layout::EntryKind;
 use jsonb_doc::{
-    ArrayBuilder, Container, Error, Item, Shape, array_elements, field_spot, read_container,
-    root_item, root_shape, root_spot,
+    ArrayBuilder, Container, Error, Item, ObjectParts, Shape, array_elements, read_container,
+    root_item, root_shape,
 };
 use std::alloc::Global;
 
@@ -72,7 +74,10 @@ impl RawJsonb<'_> {
         let Shape::Array = root_shape(bytes)? else {
             return Ok(None);
         };
-        element_document(alloc, bytes, index)
+        let Some(entries) = element_entries(bytes)? else {
+            return Ok(None);
+        };
+        element_document(alloc, entries, index)
     }
 
     /// Returns the value of a key, as a new document.
@@ -104,6 +109,8 @@ impl RawJsonb<'_> {
     /// | `get_by_name` | `{"asd":"adf"}` | `ASD` | none |
     /// | `get_by_name` | `{"asd":"adf"}` | `asd` | `"adf"` |
     /// | `get_by_name` | `{"a":` a float `}` | `a` | refused: `UnsupportedNumber` |
+    // Inlined: as a call, a root without members takes 75 instructions, since the search saves registers.
+    #[inline(always)]
     pub fn get_by_name(
         &self,
         alloc: Global,
@@ -120,10 +127,10 @@ impl RawJsonb<'_> {
         if ignore_case {
             return value_ignoring_case(alloc, bytes, name);
         }
-        if !is_object(bytes)? {
-            return Ok(None);
+        match read_container(bytes)? {
+            Container::Object(parts) => value_of_key(alloc, parts, name),
+            _ => Ok(None),
         }
-        value_of_key(alloc, bytes, name)
     }
 
     /// Returns the array without the element at an index, which counts from the end if negative.
@@ -227,54 +234,65 @@ fn eq_ignore_ascii_case(key: &[u8], name: &[u8]) -> bool
     same_len_and_last_byte(key, name) && key.eq_ignore_ascii_case(name)
 }
 
-/// Returns `true` if the root is an object. Only its header is read, and the entry word of a scalar.
-#[inline(always)]
-fn is_object(bytes: &[u8]) -> Result<bool, Error>
-    ensures kind { (form : Form) (t : Tree) → Decodes form bytes.now t → IsOkAnd result (λ b. b ≡ is_object t) }
-    ensures errors { IfErr result IsDecodingError }
+/// Returns the entry as a new document, as `entry_document` does. Out of line: its vector is then in registers, in 50
+/// to 100 instructions fewer than within a search.
+#[inline(never)]
+fn found_document(alloc: Global, kind: EntryKind, content: &[u8]) -> Result<OwnedJsonb, Error>
+    ensures document { (form : Form) (t : Tree) → IsContent (number_reader form) t (kind_number kind) content.now
+        → Makes form t result }
+    ensures errors { IfErr result (IsDecodingError or OutOfMemory or TooLarge) }
 {
-    Ok(matches!(read_container(bytes)?, Container::Object(_)))
+    entry_document(alloc, kind, content)
 }
 
-/// Returns the element at an index of an array. Out of line, since its registers would be saved in calls on other roots
-/// too.
+/// Returns one of the entries as a new document. Out of line, since its registers would be saved in calls on other
+/// roots too.
 #[inline(never)]
-fn element_document(alloc: Global, bytes: &[u8], index: usize) -> Result<Option<OwnedJsonb>, Error>
-    ensures element { (form : Form) (t : Tree) → Decodes form bytes.now t
-        → MakesOption form (element_at index t) result }
-    ensures none { (form : Form) (t : Tree) → Decodes form bytes.now t → element_at index t ≡ None
+fn element_document(
+    alloc: Global,
+    entries: Entries<'_>,
+    index: usize,
+) -> Result<Option<OwnedJsonb>, Error>
+    ensures element { (form : Form) (ts : List Tree) → HoldTrees form entries.entry ts
+        → MakesOption form (slice_get ts index) result }
+    ensures none { (form : Form) (ts : List Tree) → HoldTrees form entries.entry ts → slice_get ts index ≡ None
         → result ≡ Ok None }
     ensures errors { IfErr result (IsDecodingError or OutOfMemory or TooLarge) }
 {
-    let Some(entries) = element_entries(bytes)? else {
-        return Ok(None);
-    };
     let (_, back) = entries.split(index)?;
     let Some((entry, _)) = back.first()? else {
         return Ok(None);
     };
-    Ok(Some(entry_document(alloc, entry.kind, entry.content)?))
+    Ok(Some(found_document(alloc, entry.kind, entry.content)?))
 }
 
-/// Returns the value of the key. Out of line, since its registers would be saved in calls on other roots too.
-#[inline(never)]
-fn value_of_key(alloc: Global, bytes: &[u8], name: &str) -> Result<Option<OwnedJsonb>, Error>
-    ensures value { (form : Form) (t : Tree) → Decodes form bytes.now t
-        → MakesOption form (named_child name.now false t) result }
-    ensures none { (form : Form) (t : Tree) → Decodes form bytes.now t → named_child name.now false t ≡ None
-        → result ≡ Ok None }
+/// Returns the value of the key. Inlined: as a call, an empty object takes 119 instructions.
+#[inline(always)]
+fn value_of_key(
+    alloc: Global,
+    object: ObjectParts<'_>,
+    name: &str,
+) -> Result<Option<OwnedJsonb>, Error>
+    requires short { length object.key_words.now < 2 ^ 32 }
+    requires paired { length object.value_words.now ≡ length object.key_words.now }
+    ensures value { (form : Form) (ps : Pairs) → HasPairParts (number_reader form) ps object.entry
+        → MakesOption form (value_under name.now ps) result }
+    ensures none { (form : Form) (ps : Pairs) → HasPairParts (number_reader form) ps object.entry
+        → value_under name.now ps ≡ None → result ≡ Ok None }
     ensures errors { IfErr result (IsDecodingError or OutOfMemory or TooLarge) }
 {
-    let root = root_spot(bytes)?;
-    match field_spot(bytes, root, name)? {
-        Some(spot) => Ok(Some(OwnedJsonb::from_spot(alloc, bytes, spot)?)),
+    match object.value_of(name.as_bytes())? {
+        Some(value) => Ok(Some(found_document(alloc, value.kind, value.content)?)),
         None => Ok(None),
     }
 }
 
 /// Returns the position of the first of the entries, which are strings, that is this name, otherwise of the first that
 /// equals it under ASCII case folding.
-fn position_ignoring_case(entries: Entries<'_>, name: &[u8]) -> Result<Option<usize>, Error>
+pub(super) fn position_ignoring_case(
+    entries: Entries<'_>,
+    name: &[u8],
+) -> Result<Option<usize>, Error>
     ensures position { (form : Form) (ks : List (List ℕ)) → HoldTrees form entries.entry (map text ks)
         → IsOkAnd result (λ found. found ≡ position_in_some_case name.now ks) }
     ensures errors { IfErr result IsDecodingError }
@@ -313,7 +331,7 @@ fn value_ignoring_case(alloc: Global, bytes: &[u8], name: &str) -> Result<Option
     let Some((value, _)) = values.first()? else {
         return Err(Error::InvalidJsonb);
     };
-    Ok(Some(entry_document(alloc, value.kind, value.content)?))
+    Ok(Some(found_document(alloc, value.kind, value.content)?))
 }
 
 /// Returns the position that an index denotes in an array of this length, from the end if negative.

@@ -22,9 +22,10 @@ ghost use Rattle.jsonb_raw.specs.Places.{index_position, child_position, locatio
 use super::child::index_position;
 use super::cut::push_without;
 use super::nth_child;
+use crate::functions::runs::{name_position, pair_entries};
 use crate::owned::OwnedJsonb;
 use crate::raw::RawJsonb;
-use jsonb_doc::{Error, Item, Spot, array_elements, keys, root_item, root_spot, spot_item};
+use jsonb_doc::{Error, Item, Spot, array_elements, root_item, root_spot, spot_item};
 use jsonb_keypath::KeyPath;
 use std::alloc::Global;
 
@@ -44,17 +45,10 @@ fn key_position(bytes: &[u8], name: &str) -> Result<Option<usize>, Error>
         → IsOkAnd result (λ found. found ≡ first_position (λ key. bytes_eq key name.now) (keys ps)) }
     ensures errors { IfErr result IsDecodingError }
 {
-    let Some(keys) = keys(bytes)? else {
-        return Ok(None);
-    };
-    let mut passed = 0;
-    for key in keys {
-        if key? == name {
-            return Ok(Some(passed));
-        }
-        passed += 1;
+    match pair_entries(bytes)? {
+        Some(object) => name_position(object.keys, name.as_bytes()),
+        None => Ok(None),
     }
-    Ok(None)
 }
 
 /// Returns the position of the key of an object that is an index in decimal.

@@ -33,6 +33,9 @@ use jsonb_keypath::{KeyPath, KeyPaths};
 use std::alloc::Global;
 use std::borrow::CowStr;
 
+/// The number of leaves for which there is room at least.
+const FIRST_ROOM: usize = 4;
+
 /// The step to a child of a container.
 #[derive(Clone, Copy, Drop)]
 struct Step<'a> {
@@ -300,10 +303,11 @@ fn leaves_within<'a, P: LeafOutput<'a>>(
         (λ e. IsOutOfMemory e ⊎ Any (λ leaf. P.IsRefusalOf form leaf.1 e) (leaves ignore_array t)) }
     ensures errors { IfErr result (λ e. (IsDecodingError or OutOfMemory) e ⊎ P.Refusals e) }
 {
-    let mut found = Vec::new(alloc);
     let Some(first) = parts_entered(item, ignore_array)? else {
-        return Ok(found);
+        return Ok(Vec::new(alloc));
     };
+    // Each child is a leaf or contains one.
+    let mut found = Vec::with_capacity(alloc, first.len().max(FIRST_ROOM))?;
     let mut level = first;
     // An array that decodes has fewer elements than an index can count.
     let mut index = 0u32;

@@ -1,52 +1,74 @@
-use Rattle.std.proofs.Common.{◌≡◌, ◌∙◌, ap, inl, sym, subst}
+use Rattle.std.proofs.Common.{◌∙◌, inl, subst, append-nil}
 use Rattle.std.proofs.lemmas.Result.{err_from_is_err_and}
 use Rattle.std.specs.Map.{keys_of}
 use Rattle.jsonb_doc.proofs.BuilderSteps.{keys_rise}
-use Rattle.jsonb_raw.specs.Objects.{is_in}
 use Rattle.jsonb_raw.specs.Private.PairSteps.{parted}
+use Rattle.jsonb_raw.specs.Private.Names.{names_left}
+use Rattle.jsonb_raw.proofs.NameLemmas.{names_begun}
 use Rattle.jsonb_raw.specs.Private.Entries.{PairsHeld}
-use Rattle.jsonb_raw.proofs.PartedRuns.{parting_begun, parting_kept, parting_dropped, parting_done, parted_rising, rest_of, other_truth, same_truth}
+use Rattle.jsonb_raw.proofs.PartedRuns.{parting_begun, run_hold, parting_on, parting_done, parted_rising}
+use Rattle.jsonb_raw.proofs.functions.object.pairs_by_set.Goals.{then-run-wanted+in_ok-keys+in_ok-push, else-run-wanted}
 use Rattle.jsonb_raw.proofs.functions.object.pairs_by_set.Goals as goal
-use Rattle.jsonb_raw.proofs.functions.object.pairs_by_set.Goals.{then-contains-wanted+in_ok-push_run, else-contains-wanted}
 
 pub loop-runs-init : goal.loop-runs-init
 loop-runs-init c = record {
-  left = λ form ps h a. parting_begun form c.new-runs.result c.args.pairs c.args.wanted c.args.names.now ps c.new-runs.ensures.keys c.new-runs.ensures.values h;
+  left = λ form ps h a.
+      parting_begun form c.new-runs.result c.args.pairs c.args.wanted c.args.names.now (names_left c.new-sorted.result) ps c.new-runs.ensures.keys
+      c.new-runs.ensures.values h (names_begun c.args.names.now _ (keys_of ps) c.new-sorted.ensures.decides) a;
+  names = c.new-sorted.ensures.names;
 }
 
-pub returns-in_err-push_run-clause-pairs : goal.returns-in_err-push_run-clause-pairs
-returns-in_err-push_run-clause-pairs c = λ form ps h a.
+pub returns-in_err-run-clause-pairs : goal.returns-in_err-run-clause-pairs
+returns-in_err-run-clause-pairs c = λ form ps h a.
     let m = c.loop-runs.invariant.left form ps h a in
-    let p = err_from_is_err_and c.from_residual-in_err-push_run.result c.from_residual-in_err-push_run.ensures.1 in
-    rw (p.1, p.2) (inl (c.in_err-push_run.ensures.pushed form m.held m.rest m.pairs))
+    absurd (c.in_err-run.ensures.run form m.rest m.pairs.names m.are_keys (rw c.loop-runs.invariant.names m.decide))
+
+pub returns-in_err-values-clause-pairs : goal.returns-in_err-values-clause-pairs
+returns-in_err-values-clause-pairs c = λ form ps h a.
+    let m = c.loop-runs.invariant.left form ps h a in absurd (c.in_err-values.ensures.split form _ m.pairs.parts)
+
+pub returns-in_err-keys-clause-pairs : goal.returns-in_err-keys-clause-pairs
+returns-in_err-keys-clause-pairs c = λ form ps h a.
+    let m = c.loop-runs.invariant.left form ps h a in absurd (c.in_err-keys.ensures.split form _ m.pairs.names)
+
+pub returns-in_err-push-clause-pairs : goal.returns-in_err-push-clause-pairs
+returns-in_err-push-clause-pairs c = λ form ps h a.
+    let m = c.loop-runs.invariant.left form ps h a in
+    let f = rw (c.in-Some.is, c.loop-runs.invariant.names) at
+    (c.in_ok-run.ensures.run form m.rest m.pairs.names m.are_keys (rw c.loop-runs.invariant.names m.decide)) in
+    let parts = c.in_ok-values.ensures.split form _ m.pairs.parts in
+    let names = c.in_ok-keys.ensures.split form _ m.pairs.names in
+    let p = err_from_is_err_and c.from_residual-in_err-push.result c.from_residual-in_err-push.ensures.1 in
+    rw (p.1, p.2) (inl (c.in_err-push.ensures.pushed form m.held f.run m.runs_hold
+    (run_hold form _ _ _ _ _ _ m _ _ _ (record { keys = c.in-Some.run'.others; values = c.in_ok-values.other_values }) f parts.1 _ names.0 parts.0)))
 
 pub loop-runs-preserved : goal.loop-runs-preserved
 loop-runs-preserved c = record {
   left = λ form ps h a.
       let m = c.loop-runs.invariant.left form ps h a in
-      let mine = rw c.in-Some.is at (c.in_ok-pair.ensures.first form m.rest (rest_of form _ _ _ _ _ _ m)) in
-      let found : c.contains.result ≡ is_in c.args.names.now c.in-Some.pair.key.now =
-      c.contains.ensures ∙ ap (is_in c.args.names.now) c.in-Ok.ensures.cases.0 in
-      elim c.if-contains-wanted.branch [
-        | then-contains-wanted+in_ok-push_run w ↦
-            rw (w.runs-is, w.run-is) (parting_dropped form _ _ _ _ _ _ m c.in-Some.pair mine w.push_run.new.self
-            (w.in_ok-push_run.ensures.pushed form m.held m.rest m.pairs) (sym found ∙ other_truth _ _ w.if-contains-wanted.true))
-        | else-contains-wanted w ↦
-            rw (w.runs-is, w.run-is) (parting_kept form _ _ _ _ _ _ m c.in-Some.pair mine (sym found ∙ same_truth _ _ w.if-contains-wanted.false))
+      let f = rw (c.in-Some.is, c.loop-runs.invariant.names) at
+      (c.in_ok-run.ensures.run form m.rest m.pairs.names m.are_keys (rw c.loop-runs.invariant.names m.decide)) in
+      let parts = c.in_ok-values.ensures.split form _ m.pairs.parts in
+      elim c.if-run-wanted.branch [
+        | then-run-wanted+in_ok-keys+in_ok-push w ↦
+            let names = w.in_ok-keys.ensures.split form _ m.pairs.names in
+            let pushed = w.in_ok-push.ensures.pushed form m.held f.run m.runs_hold
+            (run_hold form _ _ _ _ _ _ m _ _ _ (record { keys = c.in-Some.run'.others; values = c.in_ok-values.other_values }) f parts.1 _ names.0 parts.0) in
+            rw w.runs-is (parting_on form _ _ _ _ _ _ m _ _ _ (record { keys = c.in-Some.run'.others; values = c.in_ok-values.other_values }) f parts.1 _
+            (rw w.if-run-wanted.true pushed))
+        | else-run-wanted w ↦
+            rw w.runs-is (parting_on form _ _ _ _ _ _ m _ _ _ (record { keys = c.in-Some.run'.others; values = c.in_ok-values.other_values }) f parts.1 _
+            (rw (w.if-run-wanted.false, append-nil) m.runs_hold))
       ];
+  names = c.in_ok-run.ensures.names ∙ c.loop-runs.invariant.names;
 }
-
-pub returns-in_err-push_run-2-clause-pairs : goal.returns-in_err-push_run-2-clause-pairs
-returns-in_err-push_run-2-clause-pairs c = λ form ps h a.
-    let m = c.loop-runs.invariant.left form ps h a in
-    let p = err_from_is_err_and c.from_residual-in_err-push_run-2.result c.from_residual-in_err-push_run-2.ensures.1 in
-    rw (p.1, p.2) (inl (c.in_err-push_run-2.ensures.pushed form m.held m.rest m.pairs))
 
 pub returns-clause-pairs : goal.returns-clause-pairs
 returns-clause-pairs c = λ form ps h a.
     let m = c.loop-runs.invariant.left form ps h a in
-    let none = rw c.in_default.is at (c.in_ok-pair.ensures.first form m.rest (rest_of form _ _ _ _ _ _ m)) in
+    let none = rw c.in_default.is at
+    (c.in_ok-run.ensures.run form m.rest m.pairs.names m.are_keys (rw c.loop-runs.invariant.names m.decide)) in
     let whole = parting_done form _ _ _ _ _ _ m none in
-    let all = subst (PairsHeld form c.push_run-2.new.self) whole (c.in_ok-push_run-2.ensures.pushed form m.held m.rest m.pairs) in
+    let all = subst (PairsHeld form c.loop-runs.runs) whole m.runs_hold in
     c.object.ensures.object form (parted c.args.wanted c.args.names.now ps) all
     (parted_rising c.args.wanted c.args.names.now ps (keys_rise (keys_of ps) a))

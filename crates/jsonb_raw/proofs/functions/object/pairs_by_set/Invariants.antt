@@ -1,18 +1,21 @@
-use Rattle.std.proofs.Common.{List, ℕ, length}
+use Rattle.std.proofs.Common.{◌≡◌, List, ℕ, length}
 use Rattle.std.specs.Map.{keys_of}
 use Rattle.jsonb_doc.specs.Tree.{Tree}
 use Rattle.jsonb_doc.specs.Payload.{Form}
 use Rattle.jsonb_doc.specs.Format.{AreKeys}
 use Rattle.jsonb_raw.specs.Private.PairSteps.{parted}
 use Rattle.jsonb_raw.specs.Private.Entries.{HoldPairs}
+use Rattle.jsonb_raw.specs.Private.Names.{names_left}
 use Rattle.jsonb_raw.proofs.PartedRuns.{Parting}
 use Rattle.jsonb_raw.proofs.functions.object.pairs_by_set.Given as goal
 
--- the pairs that are kept, followed by what the set leaves of the others, are the whole
+-- the pairs that are kept, followed by what the set leaves of the others, are the whole, and the names that are left
+-- decide for the others
 abbrev pub invariant-loop-runs : goal.invariant-loop-runs
 invariant-loop-runs l = record {
   left : (form : Form) (ps : List (List ℕ × Tree)) → HoldPairs form l.pairs ps → AreKeys (keys_of ps)
-      → Parting form l.runs l.run l.left l.wanted l.names (parted l.wanted l.names ps);
+      → Parting form l.runs l.left l.wanted l.names (names_left l.sorted) (parted l.wanted l.names ps);
+  names : l.sorted.names.now ≡ l.names;
 }
 
 abbrev pub decreases-loop-runs : goal.decreases-loop-runs

@@ -12,14 +12,14 @@ pub returns-in-Array-clause-answer : goal.returns-in-Array-clause-answer
 returns-in-Array-clause-answer c = λ form other_form tree wanted d e.
     let stands = c.in_ok-item.ensures.decodes form tree (rw c.as_bytes.ensures d) in
     let means = c.in_ok-wanted.ensures.decodes other_form wanted (rw c.as_bytes-2.ensures e) in
-    let answer = c.item_matches.ensures.answer form other_form tree wanted stands means in
+    let answer = c.container_matches.ensures.answer form other_form tree wanted stands means in
     elim c.in-Array.is [
       | inl h ↦
           let is = rw h.1 at means in
-          rw is.1 (subst (λ a. IsOkAnd c.item_matches.result (λ b. b ≡ a)) (sym (contains-array tree is.0)) (rw is.1 at answer))
+          rw is.1 (subst (λ a. IsOkAnd c.container_matches.result (λ b. b ≡ a)) (sym (contains-array tree is.0)) (rw is.1 at answer))
       | inr h ↦
           let is = rw h.1 at means in
-          rw is.1 (subst (λ a. IsOkAnd c.item_matches.result (λ b. b ≡ a)) (sym (contains-object tree is.0)) (rw is.1 at answer))
+          rw is.1 (subst (λ a. IsOkAnd c.container_matches.result (λ b. b ≡ a)) (sym (contains-object tree is.0)) (rw is.1 at answer))
     ]
 
 pub returns-in-Array-item-clause-answer : goal.returns-in-Array-item-clause-answer

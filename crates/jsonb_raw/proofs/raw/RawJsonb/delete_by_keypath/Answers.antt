@@ -1,4 +1,5 @@
-use Rattle.std.proofs.Common.{sym, ◌∙◌}
+use Rattle.std.proofs.Common.{◌≡◌, Bool, true, false, sym, ◌∙◌}
+use Rattle.std.proofs.lemmas.Bool.{false≢true}
 use Rattle.std.proofs.lemmas.Result.{err_from_is_err_and}
 use Rattle.jsonb_doc.specs.Format.{Decodes}
 use Rattle.jsonb_doc.proofs.CanonicalLemmas.{in_any}
@@ -6,6 +7,9 @@ use Rattle.jsonb_keypath.specs.KeyPathViews.{keys_view}
 use Rattle.jsonb_raw.proofs.PushSteps.{zero_of, empty_of, not_empty}
 use Rattle.jsonb_raw.proofs.DeleteLemmas.{no_place, some_place, same_decodes, without_none, without_whole, part_met, part_out, pushed_decodes}
 use Rattle.jsonb_raw.proofs.raw.RawJsonb.delete_by_keypath.Goals as goal
+
+not_scalar : {A : Type 0} (told is : Bool) → told ≡ is → told ≡ false → is ≡ true → A
+not_scalar told is same other scalar = absurd (false≢true (sym other ∙ same ∙ scalar))
 
 pub returns-in_err-positions-clause-without : goal.returns-in_err-positions-clause-without
 returns-in_err-positions-clause-without g c = λ left tells form t d other.
@@ -59,3 +63,33 @@ returns-clause-same g c = λ left tells form t d other none.
     let d' : Decodes form c.as_bytes-bytes.result.now t = rw c.as_bytes-bytes.ensures d in
     let place = some_place c.in-Some.positions _ (rw c.in-Some.is at (c.in_ok-positions.ensures.place left tells t (in_any form t _ d'))) in
     absurd (part_met (keys_view (left c.args.steps)) t _ (not_empty _ _ c.in-Some.positions.ok.0 c.if-is_empty.ensures) place none)
+
+pub returns-in_err-positions-clause-scalar : goal.returns-in_err-positions-clause-scalar
+returns-in_err-positions-clause-scalar g c = λ form t d scalar.
+    not_scalar _ _ (c.is_json_scalar.ensures form t (c.in_ok-root_item.ensures.decodes form t (rw c.as_bytes-bytes.ensures d))) c.if-is_json_scalar.false scalar
+
+pub returns-in_default-clause-scalar : goal.returns-in_default-clause-scalar
+returns-in_default-clause-scalar g c = λ form t d scalar.
+    not_scalar _ _ (c.is_json_scalar.ensures form t (c.in_ok-root_item.ensures.decodes form t (rw c.as_bytes-bytes.ensures d))) c.if-is_json_scalar.false scalar
+
+pub returns-then-is_empty-clause-scalar : goal.returns-then-is_empty-clause-scalar
+returns-then-is_empty-clause-scalar g c = λ form t d scalar.
+    not_scalar _ _ (c.is_json_scalar.ensures form t (c.in_ok-root_item.ensures.decodes form t (rw c.as_bytes-bytes.ensures d))) c.if-is_json_scalar.false scalar
+
+pub returns-in_err-document-clause-scalar : goal.returns-in_err-document-clause-scalar
+returns-in_err-document-clause-scalar g c = λ form t d scalar.
+    not_scalar _ _ (c.is_json_scalar.ensures form t (c.in_ok-root_item.ensures.decodes form t (rw c.as_bytes-bytes.ensures d))) c.if-is_json_scalar.false scalar
+
+pub returns-in_err-push_without-clause-scalar : goal.returns-in_err-push_without-clause-scalar
+returns-in_err-push_without-clause-scalar g c = λ form t d scalar.
+    not_scalar _ _ (c.is_json_scalar.ensures form t (c.in_ok-root_item.ensures.decodes form t (rw c.as_bytes-bytes.ensures d))) c.if-is_json_scalar.false scalar
+
+pub returns-clause-scalar : goal.returns-clause-scalar
+returns-clause-scalar g c = λ form t d scalar.
+    not_scalar _ _ (c.is_json_scalar.ensures form t (c.in_ok-root_item.ensures.decodes form t (rw c.as_bytes-bytes.ensures d))) c.if-is_json_scalar.false scalar
+
+pub returns-in_default-clause-same : goal.returns-in_default-clause-same
+returns-in_default-clause-same g c = λ left tells form t d other none. rw c.as_bytes-bytes.ensures at c.copy_of.ensures.same
+
+pub returns-then-is_empty-clause-same : goal.returns-then-is_empty-clause-same
+returns-then-is_empty-clause-same g c = λ left tells form t d other none. rw c.as_bytes-bytes.ensures at c.copy_of-then-is_empty.ensures.same

@@ -1,4 +1,5 @@
-use Rattle.std.proofs.Common.{◌≡◌, true, false, arith, Some}
+use Rattle.std.proofs.Common.{◌≡◌, true, false, arith, Some, sym, ◌∙◌}
+use Rattle.std.proofs.lemmas.Bool.{false≢true}
 use Rattle.jsonb_doc.specs.Format.{Decodes}
 use Rattle.jsonb_raw.specs.Private.Inserts.{IsPairPlace}
 use Rattle.jsonb_raw.specs.Objects.{has_name}
@@ -21,7 +22,7 @@ returns-clause-duplicate c = λ form t d there flag.
     elim c.else-not-update_flag.branch [
       | else-not-update_flag-via-then-not-update_flag+else-place-gt0 w ↦
           let missing : has_name c.args.new_key.now t ≡ false = name_missing form _ c.args.new_key.now t c.in-Some.place d' at (omega arith) in
-          let bad : false ≡ true = rw missing at there in absurd (cc bad)
+          let bad : false ≡ true = rw missing at there in absurd (false≢true bad)
       | else-not-update_flag-via-else-not-update_flag w ↦
-          let set : c.args.update_flag ≡ true = w.if-not-update_flag.false in absurd (cc (flag, set))
+          absurd (false≢true (sym flag ∙ w.if-not-update_flag.false))
     ]

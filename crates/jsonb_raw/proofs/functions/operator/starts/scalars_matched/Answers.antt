@@ -1,11 +1,28 @@
-use Rattle.std.proofs.Common.{◌≡◌, true, false, sym, ◌∙◌}
+use Rattle.std.proofs.Common.{◌≡◌, true, false, refl, sym, ◌∙◌}
 use Rattle.std.specs.List.{list_any}
+use Rattle.jsonb_doc.specs.Equal.{is_equal}
 use Rattle.jsonb_doc.specs.Tree.{elements}
+use Rattle.jsonb_doc.specs.declared.entry_iter.EntryIter.{EntryIter}
 use Rattle.jsonb_raw.specs.Contains.{is_part_of}
-use Rattle.jsonb_raw.proofs.EntriesLeft.{SomeEntries-first, SomeEntries-error, SomeEntries-none}
+use Rattle.jsonb_raw.specs.Private.Compared.{PassesOver}
+use Rattle.jsonb_raw.proofs.EntriesLeft.{SomeEntries-first, SomeEntries-error, SomeEntries-none, passes_none}
 use Rattle.jsonb_raw.proofs.MatchLemmas.{scalar_matches}
 use Rattle.jsonb_raw.proofs.StartLemmas.{container_told, scalar_told, container_passed, found_passed, missing_tells}
 use Rattle.jsonb_raw.proofs.functions.operator.starts.scalars_matched.Goals as goal
+
+passes_both : (all left right : EntryIter) → PassesOver all left → PassesOver left right → PassesOver all right
+passes_both all left right p q = record {
+  others = λ form ts h.
+      let a = p.others form ts h in
+      let b = q.others form a.0 a.1 in
+      (b.0, b.1, λ test any. a.2 test (b.2 test any));
+}
+
+pub walk-init : goal.walk-init
+walk-init c = record {
+  passes = passes_none c.args.all;
+  left = λ form other_form xs ys h k. record { trees = ys; left = k; fact = refl };
+}
 
 pub returns-in_default-clause-matched : goal.returns-in_default-clause-matched
 returns-in_default-clause-matched c = λ form other_form xs ys h k.
@@ -17,7 +34,7 @@ returns-in_err-entry-clause-matched c = λ form other_form xs ys h k.
 
 pub walk-preserved-then-is_container : goal.walk-preserved-then-is_container
 walk-preserved-then-is_container c = record {
-  starts = c.walk.invariant.starts;
+  passes = c.walk.invariant.passes;
   left = λ form other_form xs ys h k.
       SomeEntries-first other_form _ _ _ _ _ c.in_ok-entry.was c.in-Some.ensures.steps (c.walk.invariant.left form other_form xs ys h k)
       (λ first rest left stored fact. record {
@@ -28,28 +45,57 @@ walk-preserved-then-is_container c = record {
       });
 }
 
-pub returns-in_err-find-clause-matched : goal.returns-in_err-find-clause-matched
-returns-in_err-find-clause-matched c = λ form other_form xs ys h k.
+pub returns-in_err-is_next-clause-matched : goal.returns-in_err-is_next-clause-matched
+returns-in_err-is_next-clause-matched c = λ form other_form xs ys h k.
     SomeEntries-first other_form _ _ _ _ _ c.in_ok-entry.was c.in-Some.ensures.steps (c.walk.invariant.left form other_form xs ys h k)
-    (λ first rest left stored fact. absurd (c.in_err-find.ensures.found form other_form xs first h stored))
+    (λ first rest left stored fact.
+    let mine = c.walk.invariant.passes.others form xs h in
+    absurd (c.in_err-is_next.ensures.found form other_form mine.0 first mine.1 stored))
 
-pub returns-then-not-branch-clause-matched : goal.returns-then-not-branch-clause-matched
-returns-then-not-branch-clause-matched c = λ form other_form xs ys h k.
+pub walk-preserved-then-is_next : goal.walk-preserved-then-is_next
+walk-preserved-then-is_next c = record {
+  passes = passes_both _ _ _ c.walk.invariant.passes c.in_ok-is_next.ensures.passed;
+  left = λ form other_form xs ys h k.
+      SomeEntries-first other_form _ _ _ _ _ c.in_ok-entry.was c.in-Some.ensures.steps (c.walk.invariant.left form other_form xs ys h k)
+      (λ first rest left stored fact.
+      let scalar = sym c.is_container.ensures ∙ c.if-is_container.false in
+      let mine = c.walk.invariant.passes.others form xs h in
+      let next = c.in_ok-is_next.ensures.found form other_form mine.0 first mine.1 stored c.if-is_next.true in
+      let found : list_any (is_part_of first) (elements xs) ≡ true = sym (scalar_matches other_form _ first stored scalar (elements xs))
+      ∙ mine.2 (λ x. is_equal x first) next in
+      record { trees = rest; left = left; fact = found_passed first rest (elements xs) _ fact found });
+}
+
+pub scattered_matched-requires : goal.scattered_matched-requires
+scattered_matched-requires c = passes_both _ _ _ c.walk.invariant.passes c.in_ok-is_next.ensures.passed
+
+pub returns-then-is_long-clause-matched : goal.returns-then-is_long-clause-matched
+returns-then-is_long-clause-matched c = λ form other_form xs ys h k.
+    let s = c.walk.invariant.left form other_form xs ys h k in
+    rw s.fact at (c.scattered_matched.ensures.matched form other_form xs s.trees h s.left)
+
+pub returns-in_err-found-clause-matched : goal.returns-in_err-found-clause-matched
+returns-in_err-found-clause-matched c = λ form other_form xs ys h k.
+    SomeEntries-first other_form _ _ _ _ _ c.in_ok-entry.was c.in-Some.ensures.steps (c.walk.invariant.left form other_form xs ys h k)
+    (λ first rest left stored fact. absurd (c.in_err-found.ensures.found form other_form xs first h stored))
+
+pub returns-then-not-found-clause-matched : goal.returns-then-not-found-clause-matched
+returns-then-not-found-clause-matched c = λ form other_form xs ys h k.
     SomeEntries-first other_form _ _ _ _ _ c.in_ok-entry.was c.in-Some.ensures.steps (c.walk.invariant.left form other_form xs ys h k)
     (λ first rest left stored fact.
     let scalar = sym c.is_container.ensures ∙ c.if-is_container.false in
     let missing : list_any (is_part_of first) (elements xs) ≡ false = sym (scalar_matches other_form _ first stored scalar (elements xs))
-    ∙ sym (c.in_ok-find.ensures.found form other_form xs first h stored) ∙ c.if-not-branch.true in
+    ∙ sym (c.in_ok-found.ensures.found form other_form xs first h stored) ∙ c.if-not-found.true in
     missing_tells first rest (elements xs) _ fact (scalar_told other_form _ first stored scalar) missing)
 
 pub walk-preserved : goal.walk-preserved
 walk-preserved c = record {
-  starts = c.in_ok-find.ensures.starts;
+  passes = c.in_ok-found.ensures.passed;
   left = λ form other_form xs ys h k.
       SomeEntries-first other_form _ _ _ _ _ c.in_ok-entry.was c.in-Some.ensures.steps (c.walk.invariant.left form other_form xs ys h k)
       (λ first rest left stored fact.
       let scalar = sym c.is_container.ensures ∙ c.if-is_container.false in
       let found : list_any (is_part_of first) (elements xs) ≡ true = sym (scalar_matches other_form _ first stored scalar (elements xs))
-      ∙ sym (c.in_ok-find.ensures.found form other_form xs first h stored) ∙ c.if-not-branch.false in
+      ∙ sym (c.in_ok-found.ensures.found form other_form xs first h stored) ∙ c.if-not-found.false in
       record { trees = rest; left = left; fact = found_passed first rest (elements xs) _ fact found });
 }

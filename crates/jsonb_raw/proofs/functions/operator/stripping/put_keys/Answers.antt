@@ -1,6 +1,10 @@
 use Rattle.jsonb_raw.specs.Private.Stripping.{values_kept}
-use Rattle.jsonb_raw.proofs.StripWalk.{sorted_names, all_keys_stay, some_keys_stay}
+use Rattle.jsonb_raw.proofs.PushSteps.{zero_of}
+use Rattle.jsonb_raw.proofs.StripWalk.{no_keys_stay, sorted_names, all_keys_stay, some_keys_stay}
 use Rattle.jsonb_raw.proofs.functions.operator.stripping.put_keys.Goals as goal
+
+pub returns-then-is_empty-clause-put : goal.returns-then-is_empty-clause-put
+returns-then-is_empty-clause-put c = λ form t around whole h is w. rw (no_keys_stay form t _ h (zero_of _ c.if-is_empty.ensures)) at w
 
 pub returns-in_err-check_keys-clause-put : goal.returns-in_err-check_keys-clause-put
 returns-in_err-check_keys-clause-put c = λ form t around whole h is w.

@@ -2,7 +2,7 @@ use Rattle.std.proofs.Common.{rules, arith, true, false, ◌++◌, ◌∷◌, []
 use Rattle.std.specs.Fn.{FnReturnsAt}
 use Rattle.jsonb_raw.specs.Texts.{texts, texts_of_trees, texts_of_pairs}
 use Rattle.jsonb_raw.proofs.TextLemmas.{told_none, told_alone, told_first, told_head, told_after, leaves_all, leaves_after, leaves_aside, leaves_told, text_stored, no_texts}
-use Rattle.jsonb_raw.proofs.EntriesLeft.{SomeEntries-first, SomeEntries-error, SomeEntries-none, SomePairEntries-first, SomePairEntries-error, SomePairEntries-none}
+use Rattle.jsonb_raw.proofs.EntriesLeft.{none_yet, SomeEntries-first, SomeEntries-error, SomeEntries-none, SomePairEntries-first, SomePairEntries-error, SomePairEntries-none}
 use Rattle.jsonb_raw.proofs.functions.operator.traverse.+texts.Goals as goal
 
 -- ---- items
@@ -119,7 +119,7 @@ array_tells-returns-clause-told g t c = λ form ts d.
 
 pub array_tells-loop-entry-preserved-then-is_container_longer_than : goal.array_tells-loop-entry-preserved-then-is_container_longer_than
 array_tells-loop-entry-preserved-then-is_container_longer_than g t c =
-    let none : c.loop-entry.large ≡ None = search rules in
+    let none : c.loop-entry.large ≡ None = none_yet _ _ c.is_none.ensures c.if-is_none.true in
     let size = rw c.in_ok-entry.was at c.in-Some.ensures.steps.size in
     record {
       can = tt;
@@ -203,7 +203,7 @@ object_tells-loop-pair-preserved g t c = record {
 
 pub object_tells-loop-pair-preserved-then-is_container_longer_than : goal.object_tells-loop-pair-preserved-then-is_container_longer_than
 object_tells-loop-pair-preserved-then-is_container_longer_than g t c =
-    let none : c.loop-pair.large ≡ None = search rules in
+    let none : c.loop-pair.large ≡ None = none_yet _ _ c.is_none.ensures c.if-is_none.true in
     let size = rw c.in_ok-key.was at c.in-Some.ensures.steps.size in
     record {
       can = tt;
@@ -239,3 +239,12 @@ pub object_tells-returns-in_err-item-clause-told : goal.object_tells-returns-in_
 object_tells-returns-in_err-item-clause-told g t c = λ form ps d.
     SomePairEntries-first form _ _ _ _ _ c.in_ok-key.was c.in-Some.ensures.steps (c.loop-pair.invariant.left form ps d)
     (λ value rest left stored fact. absurd (c.in_err-item.ensures.decodes form value stored.content))
+
+pub array_tells-returns-then-branch-clause-less : goal.array_tells-returns-then-branch-clause-less
+array_tells-returns-then-branch-clause-less g t c = rw c.of.ensures.all tt
+
+pub object_tells-returns-then-func-clause-less : goal.object_tells-returns-then-func-clause-less
+object_tells-returns-then-func-clause-less g t c = rw c.of.ensures.all tt
+
+pub object_tells-returns-then-branch-clause-less : goal.object_tells-returns-then-branch-clause-less
+object_tells-returns-then-branch-clause-less g t c = rw c.of-then-branch.ensures.all tt

@@ -38,9 +38,9 @@ returns-in_default-3-clause-none c = λ form t d none.
     let split = c.in_ok-values.ensures.split form (values_of (members o.0)) o.2.parts in
     absurd (none-some s.value (sym none ∙ is))
 
-pub returns-in_err-entry_document-clause-value : goal.returns-in_err-entry_document-clause-value
-returns-in_err-entry_document-clause-value c = λ form t d.
-    let p = err_from_is_err_and c.from_residual-in_err-entry_document.result c.from_residual-in_err-entry_document.ensures.1 in
+pub returns-in_err-found_document-clause-value : goal.returns-in_err-found_document-clause-value
+returns-in_err-found_document-clause-value c = λ form t d.
+    let p = err_from_is_err_and c.from_residual-in_err-found_document.result c.from_residual-in_err-found_document.ensures.1 in
     let o = pairs_there form t _ _ c.in-Some.is (c.in_ok-pairs.ensures.entries form t d) in
     let at : position_in_some_case c.args.name.now (keys_of (members o.0)) ≡ Some c.in-Some-2.position =
     rw (← c.as_bytes.ensures.value) (sym (c.in_ok-position.ensures.position form (keys_of (members o.0)) o.2.names) ∙ c.in-Some-2.is) in
@@ -48,10 +48,10 @@ returns-in_err-entry_document-clause-value c = λ form t d.
     let is : named_child c.args.name.now true t ≡ Some s.value = ap (named_child c.args.name.now true) o.1 ∙ s.named in
     let split = c.in_ok-values.ensures.split form (values_of (members o.0)) o.2.parts in
     let first = rw c.in-Some-3.is at (c.in_ok-value.ensures.first form _ (rw s.there at split.1)) in
-    rw (p.1, p.2) (no_room form s.value _ c.in_err-entry_document.field-0.0 (sym is) (c.in_err-entry_document.ensures.document form s.value first.part))
+    rw (p.1, p.2) (no_room form s.value _ c.in_err-found_document.field-0.0 (sym is) (c.in_err-found_document.ensures.document form s.value first.part))
 
-pub returns-in_err-entry_document-clause-none : goal.returns-in_err-entry_document-clause-none
-returns-in_err-entry_document-clause-none c = λ form t d none.
+pub returns-in_err-found_document-clause-none : goal.returns-in_err-found_document-clause-none
+returns-in_err-found_document-clause-none c = λ form t d none.
     let o = pairs_there form t _ _ c.in-Some.is (c.in_ok-pairs.ensures.entries form t d) in
     let at : position_in_some_case c.args.name.now (keys_of (members o.0)) ≡ Some c.in-Some-2.position =
     rw (← c.as_bytes.ensures.value) (sym (c.in_ok-position.ensures.position form (keys_of (members o.0)) o.2.names) ∙ c.in-Some-2.is) in
@@ -69,7 +69,7 @@ returns-clause-value c = λ form t d.
     let is : named_child c.args.name.now true t ≡ Some s.value = ap (named_child c.args.name.now true) o.1 ∙ s.named in
     let split = c.in_ok-values.ensures.split form (values_of (members o.0)) o.2.parts in
     let first = rw c.in-Some-3.is at (c.in_ok-value.ensures.first form _ (rw s.there at split.1)) in
-    rw is (c.in_ok-entry_document.ensures.document form s.value first.part)
+    rw is (c.in_ok-found_document.ensures.document form s.value first.part)
 
 pub returns-clause-none : goal.returns-clause-none
 returns-clause-none c = λ form t d none.

@@ -12,7 +12,7 @@ walk-init g c = record {
   left = λ form t stands.
       let entered = rw c.in-Some.is at (c.in_ok-first.ensures.leaf form t stands) in
       parts_left form _ _ _ (parts t) [] entered.1 (rw c.new-around.ensures.items tt)
-      (walk_begun (IsKept (g.P.LeafOutput.IsOf form)) c.args.ignore_array _ _ t c.new-found.ensures.items c.new-steps.ensures.items
+      (walk_begun (IsKept (g.P.LeafOutput.IsOf form)) c.args.ignore_array _ _ t c.in_ok-found.ensures.items c.new-steps.ensures.items
       (item_leaves form c.args.item.now c.args.ignore_array t stands entered.0));
 }
 

@@ -6,7 +6,7 @@ use Rattle.jsonb_raw.proofs.functions.operator.starts.StartHints.new.Goals as go
 
 pub returns : goal.returns
 returns c = record {
-  left = passes_none c.args.all;
+  left = c.requires;
   many = refl;
   at = repeated_each (PassesOver c.args.all) c.args.all 32 (passes_none c.args.all);
 }

@@ -1,0 +1,33 @@
+use Rattle.std.proofs.Common.{◌∷◌}
+use Rattle.jsonb_raw.specs.Private.Names.{DecideFrom}
+use Rattle.jsonb_raw.proofs.NameLemmas.{first_found, first_above, first_passed, none_decides, name_taken}
+use Rattle.jsonb_raw.proofs.functions.object.names.SortedNames.has.Goals as goal
+
+pub returns-in_default-clause-found : goal.returns-in_default-clause-found
+returns-in_default-clause-found c = λ utf8 d.
+    none_decides c.args.self.now.names.now c.args.key.now (rw c.in_default.is at (c.loop-step.invariant.decides d))
+
+pub returns-in-Equal-clause-found : goal.returns-in-Equal-clause-found
+returns-in-Equal-clause-found c = λ utf8 d.
+    let here : DecideFrom c.args.self.now.names.now c.args.key.now (c.in-Some.name ∷ c.loop-step.self.left) =
+    rw c.in-Some.is at (c.loop-step.invariant.decides d) in
+    first_found c.args.self.now.names.now c.args.key.now c.in-Some.name _ here (rw c.as_bytes.ensures.value at c.in-Equal.ensures)
+
+pub returns-in-Greater-clause-found : goal.returns-in-Greater-clause-found
+returns-in-Greater-clause-found c = λ utf8 d.
+    let here : DecideFrom c.args.self.now.names.now c.args.key.now (c.in-Some.name ∷ c.loop-step.self.left) =
+    rw c.in-Some.is at (c.loop-step.invariant.decides d) in
+    first_above c.args.self.now.names.now c.args.key.now c.in-Some.name _ here (rw c.as_bytes.ensures.value at c.in-Greater.ensures)
+
+pub loop-step-preserved : goal.loop-step-preserved
+loop-step-preserved c = record {
+  decides = λ d.
+      let here : DecideFrom c.args.self.now.names.now c.args.key.now (c.in-Some.name ∷ c.loop-step.self.left) =
+      rw c.in-Some.is at (c.loop-step.invariant.decides d) in
+      first_passed c.args.self.now.names.now c.args.key.now _ _ c.in-Some.name (rw c.as_bytes.ensures.value at c.in-Less.ensures) here
+      (name_taken _ _ _ _ c.copied-self.ensures c.next.ensures.steps);
+  names = c.loop-step.invariant.names;
+}
+
+pub returns-clause-found : goal.returns-clause-found
+returns-clause-found c = λ utf8 d. rw c.loop-step.invariant.names at (c.look_up.ensures utf8)

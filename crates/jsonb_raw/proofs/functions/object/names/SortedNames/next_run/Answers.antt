@@ -1,0 +1,62 @@
+use Rattle.std.proofs.Common.{◌∙◌, sym, rules}
+use Rattle.jsonb_raw.specs.Private.Names.{names_left, DecideFrom}
+use Rattle.jsonb_raw.proofs.PartedRuns.{run_first, run_more, names_again, next_member, no_member_left, key_decided, key_is_utf8, same_truth}
+use Rattle.jsonb_raw.proofs.functions.object.names.SortedNames.next_run.Goals as goal
+
+pub returns-in_default-clause-run : goal.returns-in_default-clause-run
+returns-in_default-clause-run c = λ form ps h a d. no_member_left form _ ps _ c.in_default.is (c.in_ok-first.ensures.first form _ h)
+
+pub loop-key-init : goal.loop-key-init
+loop-key-init c = record {
+  bound = search rules;
+  fewer = search rules;
+  run = λ form ps h a d.
+      let n = next_member form _ ps _ _ _ c.in-Some.is (c.in_ok-first.ensures.first form _ h) in
+      run_first form c.args.self.now.names.now (names_left c.args.self.now) _ c.args.keys ps h a d _ _ n _ c.has-is_in.ensures.decides c.has-is_in.ensures.found;
+  names = c.has-is_in.ensures.names;
+}
+
+pub returns-in_err-key-clause-run : goal.returns-in_err-key-clause-run
+returns-in_err-key-clause-run c = λ form ps h a d.
+    let m = c.loop-key.invariant.run form ps h a d in absurd (c.in_err-key.ensures.first form _ m.hold)
+
+pub returns-in_err-key-clause-names : goal.returns-in_err-key-clause-names
+returns-in_err-key-clause-names c = c.loop-key.invariant.names
+
+pub returns-then-has-is_in-clause-run : goal.returns-then-has-is_in-clause-run
+returns-then-has-is_in-clause-run c = λ form ps h a d.
+    let m = c.loop-key.invariant.run form ps h a d in
+    let n = next_member form _ m.others _ _ _ c.in-Some-2.is (c.in_ok-key.ensures.first form _ m.hold) in
+    let decided : DecideFrom c.loop-key.self.names.now c.in-Some-2.key.content.now (names_left c.loop-key.self) =
+    rw c.loop-key.invariant.names (key_decided form _ _ _ _ _ _ m _ _ n) in
+    names_again form _ _ _ _ _ _ m _ _ n _ (rw c.loop-key.invariant.names at (c.has.ensures.decides decided))
+
+pub returns-then-has-is_in-clause-names : goal.returns-then-has-is_in-clause-names
+returns-then-has-is_in-clause-names c = c.has.ensures.names ∙ c.loop-key.invariant.names
+
+pub returns-then-has-is_in-clause-fewer : goal.returns-then-has-is_in-clause-fewer
+returns-then-has-is_in-clause-fewer c = c.loop-key.invariant.fewer
+
+pub loop-key-preserved : goal.loop-key-preserved
+loop-key-preserved c = record {
+  bound = search rules;
+  fewer = search rules;
+  run = λ form ps h a d.
+      let m = c.loop-key.invariant.run form ps h a d in
+      let n = next_member form _ m.others _ _ _ c.in-Some-2.is (c.in_ok-key.ensures.first form _ m.hold) in
+      let decided : DecideFrom c.loop-key.self.names.now c.in-Some-2.key.content.now (names_left c.loop-key.self) =
+      rw c.loop-key.invariant.names (key_decided form _ _ _ _ _ _ m _ _ n) in
+      let found = rw c.loop-key.invariant.names at (sym (c.has.ensures.found (key_is_utf8 form _ _ _ _ _ _ m _ _ n) decided)) in
+      run_more form _ _ _ _ _ _ m _ _ n _ (rw c.loop-key.invariant.names at (c.has.ensures.decides decided))
+      (found ∙ same_truth _ _ c.if-has-is_in.false);
+  names = c.has.ensures.names ∙ c.loop-key.invariant.names;
+}
+
+pub returns-clause-run : goal.returns-clause-run
+returns-clause-run c = λ form ps h a d. c.loop-key.invariant.run form ps h a d
+
+pub returns-clause-names : goal.returns-clause-names
+returns-clause-names c = c.loop-key.invariant.names
+
+pub returns-clause-fewer : goal.returns-clause-fewer
+returns-clause-fewer c = c.loop-key.invariant.fewer

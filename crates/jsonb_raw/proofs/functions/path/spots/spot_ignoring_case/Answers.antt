@@ -1,0 +1,24 @@
+use Rattle.std.proofs.Common.{◌≡◌, true, Some, None, sym, ap, ◌∙◌}
+use Rattle.std.specs.Map.{keys_of}
+use Rattle.jsonb_doc.specs.Tree.{members}
+use Rattle.jsonb_raw.specs.Children.{named_child}
+use Rattle.jsonb_raw.specs.Private.NamePositions.{position_in_some_case}
+use Rattle.jsonb_raw.proofs.ChildSpots.{named_place}
+use Rattle.jsonb_raw.proofs.NamePlaces.{named_at_none}
+use Rattle.jsonb_raw.proofs.PartedRuns.{pairs_there}
+use Rattle.jsonb_raw.proofs.functions.path.spots.spot_ignoring_case.Goals as goal
+
+pub returns-in_default-2-clause-value : goal.returns-in_default-2-clause-value
+returns-in_default-2-clause-value c = λ form t d l.
+    let o = pairs_there form t _ _ c.in-Some.is (c.in_ok-pairs.ensures.entries form t d) in
+    let at : position_in_some_case c.args.name.now (keys_of (members o.0)) ≡ None =
+    rw (← c.as_bytes.ensures.value) (sym (c.in_ok-position.ensures.position form (keys_of (members o.0)) o.2.names) ∙ c.in_default-2.is) in
+    let is : named_child c.args.name.now true t ≡ None = ap (named_child c.args.name.now true) o.1 ∙ named_at_none c.args.name.now o.0 at in
+    rw is tt
+
+pub returns-clause-value : goal.returns-clause-value
+returns-clause-value c = λ form t d l.
+    let o = pairs_there form t _ _ c.in-Some.is (c.in_ok-pairs.ensures.entries form t d) in
+    let at : position_in_some_case c.args.name.now (keys_of (members o.0)) ≡ Some c.in-Some-2.position =
+    rw (← c.as_bytes.ensures.value) (sym (c.in_ok-position.ensures.position form (keys_of (members o.0)) o.2.names) ∙ c.in-Some-2.is) in
+    rw (sym (named_place c.args.name.now o.0 t c.in-Some-2.position o.1 at)) (c.nth_child.ensures.child t l)

@@ -1,0 +1,90 @@
+use Rattle.std.proofs.Common.{◌≡◌, ◌&&◌, ℕ, suc, ◌<◌, List, [], ◌∷◌, map, Bool, true, false, Result, Ok, Err, inl, inr, refl, sym, arith}
+use Rattle.std.specs.Prelude.{codes, OnOk, nat_lt}
+use Rattle.std.specs.Borrow.{Bor}
+use Rattle.std.specs.List.{list_all}
+use Rattle.std.specs.Char.{to_ascii_lowercase}
+use Rattle.std.specs.Str.{IsAscii, IsUtf8}
+use Rattle.std.proofs.lemmas.Bool.Decides.{nat_tests}
+use Rattle.std.proofs.lemmas.Str.{IsUtf8-from_ascii}
+use Rattle.std.proofs.lemmas.Str.Ascii.{IsAscii-nil, IsAscii-cons}
+use Rattle.jsonb_doc.specs.Tree as spec
+use Rattle.jsonb_doc.specs.Payload.{any, number_reader}
+use Rattle.jsonb_doc.specs.Format.{IsContent}
+use Rattle.jsonb_doc.specs.Item.{IsRootOf}
+use Rattle.jsonb_doc.specs.Shapes.{IsRootShape}
+use Rattle.jsonb_doc.specs.declared.error.Error.{Error}
+use Rattle.jsonb_doc.specs.declared.shape.Shape.TheVariants.{Boolean as BooleanShape, Text}
+use Rattle.jsonb_doc.specs.declared.item.Item.TheVariants.{Boolean, String}
+use Rattle.jsonb_raw.specs.Casts.{Spells, SpellsBool, CastsToBool}
+use Rattle.jsonb_raw.specs.Roots.{HasRoot}
+use Rattle.jsonb_raw.proofs.raw.RawJsonb.to_bool.Goals as goal
+
+ascii_byte : (b : ℕ) → to_ascii_lowercase b < 128 → b < 128
+ascii_byte b h = grind (arith, nat_tests)
+
+ascii_bytes : (s : List ℕ) → IsAscii (map to_ascii_lowercase s) → IsAscii s
+ascii_bytes [] h = IsAscii-nil
+ascii_bytes (b ∷ s) h = IsAscii-cons b s (ascii_byte b (h 0)) (ascii_bytes s (λ i. h (suc i)))
+
+ascii_test : (b : ℕ) → nat_lt b 128 ≡ true → b < 128
+ascii_test b h = grind (arith, nat_tests)
+
+both_true : (a b : Bool) → (a && b) ≡ true → (a ≡ true) × (b ≡ true)
+both_true true b h = (refl, h)
+both_true false b h = absurd cc
+
+ascii_word : (s : List ℕ) → list_all (λ b. nat_lt b 128) s ≡ true → IsAscii s
+ascii_word [] h = IsAscii-nil
+ascii_word (b ∷ s) h =
+    let parts = both_true (nat_lt b 128) (list_all (λ b. nat_lt b 128) s) h in
+    IsAscii-cons b s (ascii_test b parts.0) (ascii_word s parts.1)
+
+-- a string that spells a word of ASCII is ASCII
+spelled : (word s : List ℕ) → list_all (λ b. nat_lt b 128) word ≡ true → Spells word s → IsUtf8 s
+spelled word s all e = IsUtf8-from_ascii s (ascii_bytes s (rw e (ascii_word word all)))
+
+spelled_bool : (b : Bool) (s : List ℕ) → SpellsBool b s → IsUtf8 s
+spelled_bool true s (inl e) = spelled (codes "true") s refl e
+spelled_bool true s (inr e) = spelled (codes "yes") s refl e
+spelled_bool false s (inl e) = spelled (codes "false") s refl e
+spelled_bool false s (inr e) = spelled (codes "no") s refl e
+
+-- a string root that spells a Boolean is UTF-8
+text_root : (bytes : List ℕ) (s : Bor (List ℕ)) (r : Result Bool Error) → IsRootShape bytes (Text s) → CastsToBool (spec.text s.now) r
+    → OnOk r (HasRoot bytes)
+text_root bytes s (Err e) h cast = tt
+text_root bytes s (Ok b) h cast =
+    let part = h.parts.part in
+    let content : IsContent (number_reader any) (spec.text s.now) h.parts.kind h.parts.content = (part.0, part.1, spelled_bool b s.now cast) in
+    let root : IsRootOf bytes (String s) = (
+      spec.text s.now,
+      record {
+        document = inr (record {
+          words = h.words;
+          contents = h.contents;
+          headed = h.headed;
+          parts = record {
+            kind = h.parts.kind;
+            content = h.parts.content;
+            other_words = h.parts.other_words;
+            other_contents = h.parts.other_contents;
+            begin = h.parts.begin;
+            part = (rw part.0 (λ e. cc), content);
+            others = h.parts.others;
+          };
+        });
+      },
+      refl,
+    ) in
+    (String s, root)
+
+boolean_root : (bytes : List ℕ) (b : Bool) → IsRootShape bytes (BooleanShape b) → HasRoot bytes
+boolean_root bytes b h = (Boolean b, h)
+
+pub returns-in-Boolean-clause-reads : goal.returns-in-Boolean-clause-reads
+returns-in-Boolean-clause-reads c =
+    rw c.as_bytes.ensures at (boolean_root c.as_bytes.result.now c.in-Boolean.value (rw c.in-Boolean.is at c.in_ok-value.ensures.readable))
+
+pub returns-in-Text-clause-reads : goal.returns-in-Text-clause-reads
+returns-in-Text-clause-reads c =
+    rw c.as_bytes.ensures at (text_root c.as_bytes.result.now c.in-Text.text _ (rw c.in-Text.is at c.in_ok-value.ensures.readable) c.bool_from_text.ensures)
