@@ -1,13 +1,13 @@
 -- Comparisons of members of the item with literals.
-use Rattle.std.proofs.Common.{◌≡◌, List, [], ◌∷◌, ◌++◌, map, flat_map, true, false, Option, Some, None, Ok, Err, IsOkAnd, refl, sym, ap, ◌∙◌, subst}
+use Rattle.std.proofs.Common.{◌≡◌, List, [], ◌∷◌, ◌++◌, map, flat_map, true, Option, Some, None, Ok, Err, IsOkAnd, refl, sym, ap, ◌∙◌, subst}
 use Rattle.std.specs.Prelude.{reverse}
 use Rattle.std.proofs.lemmas.List.{reverse-append}
 use Rattle.jsonb_doc.specs.Answer.{Outcome, and_then, try_flat_map}
 use Rattle.jsonb_doc.specs.Tree.{Tree}
 use Rattle.jsonb.specs.PathTree as math
 use Rattle.jsonb.specs.PathTree.{Expression, steps_of}
-use Rattle.jsonb.specs.PathViews.{steps_view, operator_view}
-use Rattle.jsonb.specs.Compare.{Truth, compare, pair_truth, first_decisive}
+use Rattle.jsonb.specs.PathViews.{steps_view}
+use Rattle.jsonb.specs.Compare.{Truth, compare}
 use Rattle.jsonb.specs.Values.{Value, values_of_item}
 use Rattle.jsonb.specs.ItemSteps.{list_or}
 use Rattle.jsonb.specs.Meaning.{step_meaning, steps_meaning, truth, operand_values}
@@ -26,18 +26,9 @@ use Rattle.jsonb.proofs.SelectedParts.{related_more}
 use Rattle.jsonb.proofs.StepLemmas.{refused_steps}
 use Rattle.jsonb.proofs.KeptLemmas.{comparison_is}
 
--- one pair decides
-one_decides : (b : Truth) → first_decisive (b ∷ []) ≡ b
-one_decides (Some true) = refl
-one_decides (Some false) = refl
-one_decides None = refl
-
-pub one_pair : (op : math.BinaryOp) (l r : Value) → compare op (l ∷ []) (r ∷ []) ≡ pair_truth op l r
-one_pair op l r = one_decides (pair_truth op l r)
-
 -- The result of comparing the values of the items that were found.
 abbrev pub told_by : MemberCompared → List Tree → Outcome Truth
-told_by c ts = Ok (compare (operator_view c.op) (flat_map values_of_item ts) (value_view c.literal ∷ []))
+told_by c ts = Ok (compare c.op (flat_map values_of_item ts) (value_view c.literal ∷ []))
 
 -- the truth by the steps as they are taken within an operand
 pub truth_is : (c : MemberCompared) (e : Expression) (mode : Mode) (top t : Tree) → IsMemberCompared c e →

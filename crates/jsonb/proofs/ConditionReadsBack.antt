@@ -9,7 +9,7 @@ use Rattle.jsonb_keypath.proofs.RepeatLemmas.{repeat-goes, repeat-ends}
 use Rattle.jsonb.specs.PathTree.{BinaryOp, and_op, or_op, UnaryOp, plus, minus, Step, root, current, dot_wildcard, recursive_dot_wildcard, bracket_wildcard, dot_field, colon_field, object_field, array_indices, filter, whole_expression, Steps, no_steps, step, Expression, paths, value, binary, unary, exists, steps_of}
 use Rattle.jsonb.specs.PathGrammar.{spaced, binary_atom, joined_by, filter_with, path_with, group_with, exists_with, atom_with, and_with, or_with, nested_or}
 use Rattle.jsonb.specs.PathText.{step_text, steps_text, expression_text, side_text, needs_parentheses, operator_text, sign_text, joins}
-use Rattle.jsonb.specs.PathLaws.{settled_step, settled_steps, settled}
+use Rattle.jsonb.proofs.SettledPaths.{settled_step, settled_steps, settled}
 use Rattle.jsonb.proofs.PathShape.{IsInner, IsBeginning, IsOperand, is_signed, IsPathStep, ArePathSteps, IsCondition}
 use Rattle.jsonb.proofs.InnerReadsBack.{past-none, past-space, spaced-reads, spaced-none, is_step_end}
 use Rattle.jsonb.proofs.OperandReadsBack.{ReadsTo, length-past, reads_to_rest, reads_past_rest, is_inner_start, spaced_inner-none, begins-some, front-from_begins, spaced_inner-text, is_operand_end, IsBehindOperand, steps_list, steps_of-steps_list, is_operand_start, is_path_root, path_root-text, settled-beginning, begins-beginning, begins-operand, unsigned_operand, spaced_operand-none, unary-text, unary-none, behind_operator, binary-text}

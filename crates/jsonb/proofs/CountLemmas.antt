@@ -5,17 +5,9 @@ use Rattle.jsonb.specs.MostItems.{capped}
 use Rattle.jsonb.specs.PathViews.{step_view, steps_view}
 use Rattle.jsonb.specs.declared.path.Path.{Path}
 
--- a part is capped before others are added
-pub capped_part : (a b : ℕ) → capped (capped a + b) ≡ capped (a + b)
-capped_part a b = omega arith
-
 -- one addition, and then another
 pub grows_then : (a b c x y : ℕ) → capped b ≡ capped (a + x) → capped c ≡ capped (b + y) → capped c ≡ capped (a + (x + y))
 grows_then a b c x y first second = omega arith
-
--- the same rest after equal numbers
-pub capped_more : (a b y : ℕ) → capped a ≡ capped b → capped (a + y) ≡ capped (b + y)
-capped_more a b y same = omega arith
 
 -- the steps that are left begin with this one
 pub left_steps : (steps : List Path) (i : ℕ) (s : Path) → i < length steps → s ≡ get_or steps i s →

@@ -5,17 +5,22 @@ use Rattle.std.proofs.Math.Seq.{drop-cons}
 use Rattle.std.proofs.lemmas.List.{take_more, take-append-drop, map-append}
 use Rattle.jsonb_doc.specs.declared.error.Error.{Error}
 use Rattle.jsonb.specs.PathDocuments.{is_document, step_has_document, steps_have_document, expression_has_document, has_document, IsOwningError}
-use Rattle.jsonb.specs.PathEquality.{SameLiteral, SameStep, SameSteps, SameExpression, SamePath}
+use Rattle.jsonb.specs.PathEquality.{SameLiteral, SameStep, SameStepsBut, SameExpression, SamePath}
 use Rattle.jsonb.specs.PathGrammar.{json_path}
+use Rattle.jsonb.specs.Proofs.PathOrder.{container_with_none}
+use Rattle.jsonb.specs.Values.{literal_value}
 use Rattle.jsonb.specs.PathTree.{Literal, raw, Step, filter, whole_expression, Steps, no_steps, step, Expression, paths, value, binary, unary, exists, steps_of}
 use Rattle.jsonb.specs.PathViews.{step_view, steps_view}
 use Rattle.jsonb.specs.declared.path.Path.{Path}
 use Rattle.jsonb.proofs.EqualPrinted.{read_equals_itself}
 
+pub document_equals_nothing : (document : List ℕ) (l : Literal) → ¬ SameLiteral (raw document) l
+document_equals_nothing document l h = let e = container_with_none (literal_value l) in cc
+
 -- ---- what equals itself has none
 
 literal_none : (l : Literal) → SameLiteral l l → is_document l ≡ false
-literal_none (raw document) h = absurd h
+literal_none (raw document) h = cc
 literal_none _ h = refl
 
 mutual
@@ -24,7 +29,7 @@ mutual
   step_none (whole_expression e) h = expression_none e h
   step_none _ h = refl
 
-  steps_none : (ss : Steps) → SameSteps ss ss → steps_have_document ss ≡ false
+  steps_none : (ss : Steps) → SameStepsBut SameLiteral ss ss → steps_have_document ss ≡ false
   steps_none no_steps h = refl
   steps_none (step s rest) h = rw (step_none s h.0, steps_none rest h.1) refl
 

@@ -49,7 +49,7 @@ unfolding entry
 some-entry =
     some-choice _ _ (some-then place _ some-place (λ first. grows-then ws _ grows-ws
     (λ _. grows-then (keyword "to") _ (some-no_more (keyword "to") (some-keyword 116 (codes "o"))) (λ _. grows-then ws _ grows-ws
-    (λ _. grows-then place _ (some-no_more place some-place) (λ last. grows-give (slice first last)))))))
+    (λ _. grows-then place _ (some-no_more place some-place) (λ last. grows-give (slice (first, last))))))))
     (some-then place _ some-place (λ p. grows-give (single p)))
 
 pub some-another_entry : ReadsSome another_entry

@@ -5,9 +5,6 @@ use Rattle.std.specs.Bool.{Decides}
 use Rattle.std.specs.Option.{option_eq}
 use Rattle.std.specs.Cmp.Lexicographic.{pointwise}
 use denote.Enum.Bare.{same_true, true_same}
-use Rattle.jsonb.specs.PathTree as tree
-use Rattle.jsonb.specs.PathTree.{BinaryOp}
-use Rattle.jsonb.specs.PathViews.{place_view, entry_view, end_view, levels_view, operator_view, sign_view}
 use Rattle.jsonb.specs.Proofs.SamePath.{place-same, entry-same, end-same, level-same, sign-same}
 use Rattle.jsonb.specs.SamePath.{is_same_place, is_same_entry, is_same_end, is_same_level, is_same_sign}
 use Rattle.jsonb.specs.declared.path.Index.{Index}
@@ -18,7 +15,6 @@ use Rattle.jsonb.specs.declared.path.RecursiveLevelEnd.{RecursiveLevelEnd}
 use Rattle.jsonb.specs.declared.path.RecursiveLevelEnd.TheVariants as level_end
 use Rattle.jsonb.specs.declared.path.RecursiveLevel.{RecursiveLevel}
 use Rattle.jsonb.specs.declared.path.BinaryOperator.{BinaryOperator}
-use Rattle.jsonb.specs.declared.path.BinaryOperator.TheVariants as operator
 use Rattle.jsonb.specs.declared.path.UnaryOperator.{UnaryOperator}
 use Rattle.jsonb.specs.declared.path.UnaryOperator.TheVariants as sign
 use Rattle.jsonb.specs.contracts.path.IndexPartialEq.TheImpl.{eq-value as index_equal}
@@ -29,14 +25,14 @@ use Rattle.jsonb.specs.contracts.path.BinaryOperator.{the_type as the_operator}
 use Rattle.jsonb.specs.contracts.path.BinaryOperatorPartialEq.TheImpl.{eq-value as operator_equal}
 use Rattle.jsonb.specs.contracts.path.UnaryOperatorPartialEq.TheImpl.{eq-value as sign_equal}
 
-module _ {A B : Type 0} (E : A → A → Bool) (F : B → B → Bool) (view : A → B) (same : (a b : A) → E a b ≡ F (view a) (view b)) where
-  maybe-is : (o p : Option A) → option_eq E o p ≡ option_eq F (option_map view o) (option_map view p)
+module _ {A : Type 0} (E F : A → A → Bool) (same : (a b : A) → E a b ≡ F a b) where
+  maybe-is : (o p : Option A) → option_eq E o p ≡ option_eq F o p
   maybe-is None None = refl
   maybe-is (Some a) (Some b) = same a b
   maybe-is None (Some b) = refl
   maybe-is (Some a) None = refl
 
-  list-is : (xs ys : List A) → pointwise E xs ys ≡ pointwise F (map view xs) (map view ys)
+  list-is : (xs ys : List A) → pointwise E xs ys ≡ pointwise F xs ys
   list-is [] [] = refl
   list-is (x ∷ xs) (y ∷ ys) = ap₂ (λ a b. a && b) (same x y) (list-is xs ys)
   list-is [] (y ∷ ys) = refl
@@ -44,77 +40,52 @@ module _ {A B : Type 0} (E : A → A → Bool) (F : B → B → Bool) (view : A 
 
 -- ---- places, entries and levels
 
-index-is : (a b : Index) → index_equal.it a b ≡ is_same_place (place_view a) (place_view b)
+index-is : (a b : Index) → index_equal.it a b ≡ is_same_place a b
 index-is (index.Index i) (index.Index j) = refl
 index-is (index.LastIndex i) (index.LastIndex j) = refl
 index-is (index.Index i) (index.LastIndex j) = refl
 index-is (index.LastIndex i) (index.Index j) = refl
 
-pub index-equal : (a b : Index) → Decides (index_equal.it a b) (place_view a ≡ place_view b)
-index-equal a b = rw (index-is a b) (place-same (place_view a) (place_view b))
+pub index-equal : (a b : Index) → Decides (index_equal.it a b) (a ≡ b)
+index-equal a b = rw (index-is a b) (place-same a b)
 
-array_index-is : (a b : ArrayIndex) → array_index_equal.it a b ≡ is_same_entry (entry_view a) (entry_view b)
+array_index-is : (a b : ArrayIndex) → array_index_equal.it a b ≡ is_same_entry a b
 array_index-is (array_index.Index i) (array_index.Index j) = index-is i j
 array_index-is (array_index.Slice (i, k)) (array_index.Slice (j, l)) = ap₂ (λ a b. a && b) (index-is i j) (index-is k l)
 array_index-is (array_index.Index i) (array_index.Slice ends) = refl
 array_index-is (array_index.Slice ends) (array_index.Index j) = refl
 
-pub array_index-equal : (a b : ArrayIndex) → Decides (array_index_equal.it a b) (entry_view a ≡ entry_view b)
-array_index-equal a b = rw (array_index-is a b) (entry-same (entry_view a) (entry_view b))
+pub array_index-equal : (a b : ArrayIndex) → Decides (array_index_equal.it a b) (a ≡ b)
+array_index-equal a b = rw (array_index-is a b) (entry-same a b)
 
-pub entries-is : (es fs : List ArrayIndex) → pointwise array_index_equal.it es fs ≡ pointwise is_same_entry (map entry_view es) (map entry_view fs)
-entries-is es fs = list-is array_index_equal.it is_same_entry entry_view array_index-is es fs
+pub entries-is : (es fs : List ArrayIndex) → pointwise array_index_equal.it es fs ≡ pointwise is_same_entry es fs
+entries-is es fs = list-is array_index_equal.it is_same_entry array_index-is es fs
 
-level_end-is : (a b : RecursiveLevelEnd) → level_end_equal.it a b ≡ is_same_end (end_view a) (end_view b)
+level_end-is : (a b : RecursiveLevelEnd) → level_end_equal.it a b ≡ is_same_end a b
 level_end-is (level_end.Index m) (level_end.Index n) = refl
 level_end-is level_end.Last level_end.Last = refl
 level_end-is (level_end.Index m) level_end.Last = refl
 level_end-is level_end.Last (level_end.Index n) = refl
 
-pub level_end-equal : (a b : RecursiveLevelEnd) → Decides (level_end_equal.it a b) (end_view a ≡ end_view b)
-level_end-equal a b = rw (level_end-is a b) (end-same (end_view a) (end_view b))
+pub level_end-equal : (a b : RecursiveLevelEnd) → Decides (level_end_equal.it a b) (a ≡ b)
+level_end-equal a b = rw (level_end-is a b) (end-same a b)
 
-level-is : (a b : RecursiveLevel) → level_equal.it a b ≡ is_same_level (levels_view a) (levels_view b)
-level-is a b = ap (λ x. nat_eq a.start b.start && x) (maybe-is level_end_equal.it is_same_end end_view level_end-is a.end b.end)
+level-is : (a b : RecursiveLevel) → level_equal.it a b ≡ is_same_level a b
+level-is a b = ap (λ x. nat_eq a.start b.start && x) (maybe-is level_end_equal.it is_same_end level_end-is a.end b.end)
 
-pub level-equal : (a b : RecursiveLevel) → Decides (level_equal.it a b) (levels_view a ≡ levels_view b)
-level-equal a b = rw (level-is a b) (level-same (levels_view a) (levels_view b))
+pub level-equal : (a b : RecursiveLevel) → Decides (level_equal.it a b) (a ≡ b)
+level-equal a b = rw (level-is a b) (level-same a b)
 
 -- ---- operators
 
--- the operator that stands for it
-operator_of : BinaryOp → BinaryOperator
-operator_of tree.and_op = operator.And
-operator_of tree.or_op = operator.Or
-operator_of tree.eq = operator.Eq
-operator_of tree.not_eq = operator.NotEq
-operator_of tree.lt = operator.Lt
-operator_of tree.lte = operator.Lte
-operator_of tree.gt = operator.Gt
-operator_of tree.gte = operator.Gte
-operator_of tree.starts_with_op = operator.StartsWith
-operator_of tree.add = operator.Add
-operator_of tree.subtract = operator.Subtract
-operator_of tree.multiply = operator.Multiply
-operator_of tree.divide = operator.Divide
-operator_of tree.modulo = operator.Modulo
+pub operator-equal : (a b : BinaryOperator) → Decides (operator_equal.it a b) (a ≡ b)
+operator-equal a b = (λ h. same_true the_operator tt a b h, λ e. true_same the_operator a b e)
 
-operator_of-operator_view : (a : BinaryOperator) → operator_of (operator_view a) ≡ a
-unfolding operator_of
-operator_of-operator_view operator.And = refl
-operator_of-operator_view _ = refl
-
-pub operator-equal : (a b : BinaryOperator) → Decides (operator_equal.it a b) (operator_view a ≡ operator_view b)
-operator-equal a b = (
-  λ h. ap operator_view (same_true the_operator tt a b h),
-  λ e. true_same the_operator a b (sym (operator_of-operator_view a) ∙ ap operator_of e ∙ operator_of-operator_view b),
-)
-
-pub sign-is : (a b : UnaryOperator) → sign_equal.it a b ≡ is_same_sign (sign_view a) (sign_view b)
+pub sign-is : (a b : UnaryOperator) → sign_equal.it a b ≡ is_same_sign a b
 sign-is sign.Add sign.Add = refl
 sign-is sign.Subtract sign.Subtract = refl
 sign-is sign.Add sign.Subtract = refl
 sign-is sign.Subtract sign.Add = refl
 
-pub sign-equal : (a b : UnaryOperator) → Decides (sign_equal.it a b) (sign_view a ≡ sign_view b)
-sign-equal a b = rw (sign-is a b) (sign-same (sign_view a) (sign_view b))
+pub sign-equal : (a b : UnaryOperator) → Decides (sign_equal.it a b) (a ≡ b)
+sign-equal a b = rw (sign-is a b) (sign-same a b)

@@ -1,13 +1,16 @@
 -- A JSON path that was read equals itself, and what its printed text reads as.
-use Rattle.std.proofs.Common.{◌≡◌, ℕ, List, [], ◌∷◌, Bool, true, false, Option, Some, None, pos, negsuc, zero, suc, refl, inl, inr, map, Equal}
+use Rattle.std.proofs.Common.{◌≡◌, ℕ, List, [], ◌∷◌, Bool, true, false, Option, Some, None, pos, negsuc, zero, suc, refl, ap, inl, inr, map, Equal}
 use Rattle.std.specs.Prelude.{IfSome, IsSomeAnd, MatchBool}
 use Rattle.std.proofs.lemmas.Cmp.{tied_itself}
 use Rattle.std.specs.List.{AllByRecursion}
+use Rattle.std.specs.Cmp.{bool_cmp_total}
+use Rattle.std.specs.Cmp.Lexicographic.{nat_list_cmp_total}
 use Rattle.jsonb_doc.specs.Number.{Number, int64, uint64, number_from, number_cmp}
 use Rattle.jsonb_doc.specs.Proofs.NumberOrder.{number_cmp_total}
-use Rattle.jsonb.specs.PathEquality.{SameLiteral, SameStep, SameSteps, SameExpression, SamePath}
+use Rattle.jsonb.specs.PathEquality.{SameLiteral, SameStep, SameStepsBut, SameExpression, SamePath}
 use Rattle.jsonb.specs.PathGrammar.{json_path}
-use Rattle.jsonb.specs.PathLaws.{settled_literal, settled_step, settled_steps, settled}
+use Rattle.jsonb.specs.PathLaws.{settled_literal}
+use Rattle.jsonb.proofs.SettledPaths.{settled_step, settled_steps, settled}
 use Rattle.jsonb.specs.PathText.{joins, path_text}
 use Rattle.jsonb.specs.PathTree.{Literal, null, boolean, unsigned, signed, decimal64, decimal128, string, raw, Step, filter, whole_expression, Steps, no_steps, step, Expression, paths, value, binary, unary, exists}
 use Rattle.jsonb.proofs.GrammarShape.{json_path_is_path}
@@ -20,15 +23,15 @@ number_itself n = tied_itself number_cmp_total n
 
 -- settling changes no value
 literal-settled : (l : Literal) → IsLiteral l → SameLiteral l (settled_literal l)
-literal-settled null h = tt
-literal-settled (boolean b) h = refl
-literal-settled (unsigned n) h = number_itself (number_from uint64 (pos n) 0)
+literal-settled null h = refl
+literal-settled (boolean b) h = ap Some (tied_itself bool_cmp_total b)
+literal-settled (unsigned n) h = ap Some (number_itself (number_from uint64 (pos n) 0))
 literal-settled (signed (pos zero)) h = refl
-literal-settled (signed (pos (suc n))) h = number_itself (number_from int64 (pos (suc n)) 0)
-literal-settled (signed (negsuc n)) h = number_itself (number_from int64 (negsuc n) 0)
+literal-settled (signed (pos (suc n))) h = ap Some (number_itself (number_from int64 (pos (suc n)) 0))
+literal-settled (signed (negsuc n)) h = ap Some (number_itself (number_from int64 (negsuc n) 0))
 literal-settled (decimal64 whole scale) h = absurd h
 literal-settled (decimal128 whole scale) h = absurd h
-literal-settled (string text) h = refl
+literal-settled (string text) h = ap Some (tied_itself nat_list_cmp_total text)
 literal-settled (raw document) h = absurd h
 
 inner-settled : (s : Step) → IsInner s → SameStep s (settled_step s)
@@ -36,7 +39,7 @@ inner-settled (filter e) h = absurd h
 inner-settled (whole_expression e) h = absurd h
 inner-settled s h = refl
 
-inners-settled : (ss : Steps) → AreInner ss → SameSteps ss (settled_steps ss)
+inners-settled : (ss : Steps) → AreInner ss → SameStepsBut SameLiteral ss (settled_steps ss)
 inners-settled no_steps h = tt
 inners-settled (step s ss) h = (inner-settled s h.0, inners-settled ss h.1)
 
@@ -57,11 +60,11 @@ mutual
   step-settled (whole_expression e) h = absurd h
   step-settled s h = refl
 
-  steps-settled : (ss : Steps) → ArePathSteps ss → SameSteps ss (settled_steps ss)
+  steps-settled : (ss : Steps) → ArePathSteps ss → SameStepsBut SameLiteral ss (settled_steps ss)
   steps-settled no_steps h = tt
   steps-settled (step s ss) h = (step-settled s h.0, steps-settled ss h.1)
 
-  exists-settled : (ss : Steps) → IsExistsPath ss → SameSteps ss (settled_steps ss)
+  exists-settled : (ss : Steps) → IsExistsPath ss → SameStepsBut SameLiteral ss (settled_steps ss)
   exists-settled no_steps h = absurd h
   exists-settled (step s ss) h = (beginning-settled true s h.0, steps-settled ss h.1)
 

@@ -8,10 +8,10 @@ use Rattle.jsonb.specs.PathTree.{Literal, Step, Expression, steps_of}
 -- ---- literals
 
 null_is_null : SameLiteral p.null p.null
-null_is_null = tt
+null_is_null = refl
 
 null_is_not_false : ¬ SameLiteral p.null (p.boolean false)
-null_is_not_false h = h
+null_is_not_false h = cc
 
 true_is_not_false : ¬ SameLiteral (p.boolean true) (p.boolean false)
 true_is_not_false h = cc
@@ -35,10 +35,10 @@ texts_by_bytes : SameLiteral (p.string (codes "a")) (p.string (97 ∷ []))
 texts_by_bytes = refl
 
 text_of_a_number : ¬ SameLiteral (p.string (codes "1")) (p.unsigned 1)
-text_of_a_number h = h
+text_of_a_number h = cc
 
 document : ¬ SameLiteral (p.raw (codes "d")) (p.raw (codes "d"))
-document h = h
+document h = cc
 
 -- ---- paths
 
@@ -71,7 +71,7 @@ filters_by_value : SamePath (p.root ∷ filter_at (p.unsigned 1) ∷ []) (p.root
 filters_by_value = (refl, ((refl, (refl, (refl, tt)), refl), tt))
 
 filters_of_documents : ¬ SamePath (filter_at (p.raw (codes "d")) ∷ []) (filter_at (p.raw (codes "d")) ∷ [])
-filters_of_documents h = h.0.2
+filters_of_documents h = let literals = h.0.2 in cc
 
 filter_is_no_whole : ¬ SamePath (p.filter at_a ∷ []) (p.whole_expression at_a ∷ [])
 filter_is_no_whole h = let first = h.0 in cc

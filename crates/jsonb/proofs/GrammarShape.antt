@@ -56,7 +56,7 @@ entry_is_entry =
     yields-choice IsEntry _ _
     (yields-then IsPlace IsEntry place _ place_is_place (λ first is. yields-behind IsEntry ws _ (λ _. yields-behind IsEntry (keyword "to") _
     (λ _. yields-behind IsEntry ws _ (λ _.
-    yields-then IsPlace IsEntry place _ place_is_place (λ last is'. yields-give IsEntry (slice first last) (is, is')))))))
+    yields-then IsPlace IsEntry place _ place_is_place (λ last is'. yields-give IsEntry (slice (first, last)) (is, is')))))))
     (yields-then IsPlace IsEntry place _ place_is_place (λ p is. yields-give IsEntry (single p) is))
 
 abbrev IsByte : ℕ → Type 0

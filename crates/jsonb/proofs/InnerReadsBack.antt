@@ -158,13 +158,13 @@ begins-place (from_front i) rest is = begins-implies is_number_start is_place_st
 begins-place (from_last i) rest is = refl
 
 -- a slice with a rest, bracketed to the right
-slice-shown : (p q : Place) (rest : List ℕ) → entry_text (slice p q) ++ rest ≡ place_text p ++ (codes " to " ++ (place_text q ++ rest))
+slice-shown : (p q : Place) (rest : List ℕ) → entry_text (slice (p, q)) ++ rest ≡ place_text p ++ (codes " to " ++ (place_text q ++ rest))
 slice-shown p q rest = append_assoc (place_text p ++ codes " to ") (place_text q) rest
     ∙ append_assoc (place_text p) (codes " to ") (place_text q ++ rest)
 
 begins-entry : (e : Entry) (rest : List ℕ) → IsEntry e → begins is_place_start (entry_text e ++ rest) ≡ true
 begins-entry (single p) rest is = begins-place p rest is
-begins-entry (slice p q) rest is = rw (slice-shown p q rest) (begins-place p _ is.0)
+begins-entry (slice (p, q)) rest is = rw (slice-shown p q rest) (begins-place p _ is.0)
 
 place_start_is_no_space : (b : ℕ) → is_place_start b ≡ true → is_space b ≡ false
 place_start_is_no_space b h = grind (arith, nat_tests)
@@ -175,7 +175,7 @@ stops-place input h = stops-from_begins is_space input (begins-excludes is_place
 entry-text : (e : Entry) (rest : List ℕ) → IsEntry e → IsBehindEntry rest → entry (entry_text e ++ rest) ≡ Some (e, rest)
 unfolding entry ws
 entry-text (single p) rest is h = rw (place-text p rest is h.place, h.no_space, h.no_to) refl
-entry-text (slice p q) rest is h =
+entry-text (slice (p, q)) rest is h =
     rw (
       slice-shown p q rest,
       place-text p (codes " to " ++ (place_text q ++ rest)) is.0 (refl, refl),

@@ -16,14 +16,16 @@ use Rattle.jsonb.specs.declared.selector.filter_cache.CachedPart.{CachedPart}
 use Rattle.jsonb.specs.declared.selector.filter_cache.CachedPart.TheVariants as part
 use Rattle.jsonb.specs.declared.selector.filter_cache.FilterCache.{FilterCache}
 use Rattle.jsonb.specs.declared.selector.filter_cache.FilterCache.TheVariants as kept
-use Rattle.jsonb.specs.PathViews.{expression_view, operator_view}
+use Rattle.jsonb.specs.PathViews.{expression_view}
 use Rattle.jsonb.specs.Compare.{compare}
 use Rattle.jsonb.specs.Values.{Value}
 use Rattle.jsonb.specs.declared.path.Path.{Path}
 use Rattle.jsonb.specs.declared.path.Expr.{Expr}
 use Rattle.jsonb.specs.declared.path.Expr.TheVariants as expr
 use Rattle.jsonb.specs.declared.path.BinaryOperator.{BinaryOperator}
+use Rattle.jsonb.specs.Private.Alike.{AreAlike}
 use Rattle.jsonb.proofs.PathNodes.{binary_is, exists_is}
+use Rattle.jsonb.proofs.RepeatLemmas.{compared_left, compared_right, compared_both}
 
 -- ---- what does not look at the item
 
@@ -97,7 +99,7 @@ fixed_truth mode op l r top t u h hl hr =
     ∙ sym (comparison_is mode op l r top u h)
 
 -- a comparison is one condition
-pub one_comparison : (e : Expr) (op : BinaryOperator) (l r : Box Expr Global) → e ≡ expr.BinaryOp op l r → is_comparison (operator_view op) ≡ true →
+pub one_comparison : (e : Expr) (op : BinaryOperator) (l r : Box Expr Global) → e ≡ expr.BinaryOp op l r → is_comparison op ≡ true →
     (is_condition (expression_view e) ≡ true) × (conditions (expression_view e) ≡ expression_view e ∷ [])
 one_comparison e op l r is compares =
     let condition : is_condition (expression_view e) ≡ true = ap is_condition (binary_is e op l r is) ∙ compares in
@@ -123,24 +125,36 @@ known {R = R} {x = x} is h = record { ok = subst (λ z. IsOkAnd z (R x)) (sym is
 
 -- the values of both operands
 pub compared : (mode : Mode) (op : math.BinaryOp) (l r : Expression) (top u : Tree) (ls rs : List Value) → is_comparison op ≡ true
-    → operand_values mode l top u ≡ Ok ls → operand_values mode r top u ≡ Ok rs → truth mode (math.binary op l r) top u ≡ Ok (compare op ls rs)
+    → IsOkAnd (operand_values mode l top u) (AreAlike ls) → IsOkAnd (operand_values mode r top u) (AreAlike rs)
+    → truth mode (math.binary op l r) top u ≡ Ok (compare op ls rs)
 compared mode op l r top u ls rs h p q = comparison_is mode op l r top u h
-    ∙ (λ i. and_then (p i) (λ ls. and_then (q i) (λ rs. Ok (compare op ls rs))))
+    ∙ compared_both op ls rs (operand_values mode l top u) (operand_values mode r top u) p q
 
--- the values of the right operand are kept
-pub by_right : (mode : Mode) (top u : Tree) (e : Expr) (op : BinaryOperator) (l r : Box Expr Global) (p : CachedPart) (rights : OperandValues) (left : Expr)
-    (steps : math.Steps) → e ≡ expr.BinaryOp op l r → p ≡ part.Right rights → left ≡ l.value → expression_view left ≡ math.paths steps
-    → is_condition (expression_view e) ≡ true → IsSame mode top p (expression_view e) →
-    truth mode (expression_view e) top u
-    ≡ and_then (operand_values mode (math.paths steps) top u) (λ ls. Ok (compare (operator_view op) ls (values_view rights)))
-by_right mode top u e op l r p rights left steps is kept lent named condition same =
-    let view : expression_view e ≡ math.binary (operator_view op) (math.paths steps) (expression_view r.value) =
-    binary_is e op l r is ∙ (λ i. math.binary (operator_view op) ((ap expression_view (sym lent) ∙ named) i) (expression_view r.value)) in
-    let values = subst (λ q. IsSame mode top q (math.binary (operator_view op) (math.paths steps) (expression_view r.value))) kept
-    (subst (λ x. IsSame mode top p x) view same) in
-    ap (λ x. truth mode x top u) view
-    ∙ comparison_is mode (operator_view op) (math.paths steps) (expression_view r.value) top u (sym (ap is_condition view) ∙ condition)
-    ∙ (λ i. and_then (operand_values mode (math.paths steps) top u) (λ ls. and_then (values u i) (λ rs. Ok (compare (operator_view op) ls rs))))
+-- the values of one operand are kept
+module _ (mode : Mode) (top u : Tree) (e : Expr) (op : BinaryOperator) (l r : Box Expr Global) (p : CachedPart) (values : OperandValues)
+    (is : e ≡ expr.BinaryOp op l r) (condition : is_condition (expression_view e) ≡ true) (same : IsSame mode top p (expression_view e)) where
+  both : truth mode (expression_view e) top u
+      ≡ and_then (operand_values mode (expression_view l.value) top u)
+      (λ ls. and_then (operand_values mode (expression_view r.value) top u) (λ rs. Ok (compare op ls rs)))
+  both = ap (λ x. truth mode x top u) (binary_is e op l r is)
+      ∙ comparison_is mode op (expression_view l.value) (expression_view r.value) top u
+      (sym (ap is_condition (binary_is e op l r is)) ∙ condition)
+
+  pub kept_right : p ≡ part.Right values → truth mode (expression_view e) top u
+      ≡ and_then (operand_values mode (expression_view l.value) top u) (λ ls. Ok (compare op ls (values_view values)))
+  kept_right kept =
+      let known = subst (λ q. IsSame mode top q (math.binary op (expression_view l.value) (expression_view r.value))) kept
+      (subst (λ x. IsSame mode top p x) (binary_is e op l r is) same) in
+      both ∙ (λ i. and_then (operand_values mode (expression_view l.value) top u)
+      (λ ls. compared_right op (values_view values) ls (operand_values mode (expression_view r.value) top u) (known u) i))
+
+  pub kept_left : p ≡ part.Left values → truth mode (expression_view e) top u
+      ≡ and_then (operand_values mode (expression_view r.value) top u) (λ rs. Ok (compare op (values_view values) rs))
+  kept_left kept =
+      let known = subst (λ q. IsSame mode top q (math.binary op (expression_view l.value) (expression_view r.value))) kept
+      (subst (λ x. IsSame mode top p x) (binary_is e op l r is) same) in
+      both ∙ compared_left op (values_view values) (operand_values mode (expression_view l.value) top u)
+      (operand_values mode (expression_view r.value) top u) (known u)
 
 -- what is kept of the condition that comes next
 pub kept_same : (mode : Mode) (top : Tree) (k : FilterCache) (all more : List Expression) (e : Expression) (p : CachedPart) → AreKept mode top k all (e ∷ more)

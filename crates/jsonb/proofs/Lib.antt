@@ -13,15 +13,18 @@ pub mod OperandReadsBack
 pub mod ConditionReadsBack
 pub mod PathReadsBack
 pub mod GrammarShape
+pub mod SettledPaths
 pub mod PathLaw
 pub mod Bounds
 pub mod ExpressionReadsSome
 pub mod PlainPathLemmas
 pub mod FrameLemmas
 pub mod SelectedParts
+pub mod FirstItems
 pub mod Progress
 pub mod ItemKinds
 pub mod PickLemmas
+pub mod FoundLemmas
 pub mod LevelLemmas
 pub mod LevelRanges
 pub mod BelowLemmas
@@ -29,6 +32,8 @@ pub mod PathNodes
 pub mod StepLemmas
 pub mod MemberLemmas
 pub mod ExistsLemmas
+pub mod AlikeLemmas
+pub mod RepeatLemmas
 pub mod KeptLemmas
 pub mod ComparedLemmas
 pub mod MirrorLemmas

@@ -9,7 +9,7 @@ use Rattle.jsonb_doc.specs.Tree.{Tree}
 use Rattle.jsonb_doc.specs.declared.error.Error.{Error}
 use Rattle.jsonb.specs.PathTree as math
 use Rattle.jsonb.specs.PathTree.{Expression, steps_of}
-use Rattle.jsonb.specs.PathViews.{steps_view, operator_view}
+use Rattle.jsonb.specs.PathViews.{steps_view}
 use Rattle.jsonb.specs.Compare.{Truth, compare, pair_truth, first_decisive}
 use Rattle.jsonb.specs.Values.{Value, values_of_item}
 use Rattle.jsonb.specs.Meaning.{step_meaning, steps_meaning, truth, operand_values, start}
@@ -111,12 +111,12 @@ is_not_false None h is = cc
 module _ (c : MemberCompared) where
   -- The results of the values of items.
   abbrev truths : List Tree → List Truth
-  truths ts = flat_map (λ l. map (λ r. pair_truth (operator_view c.op) l r) (value_view c.literal ∷ [])) (flat_map values_of_item ts)
+  truths ts = flat_map (λ l. map (λ r. pair_truth c.op l r) (value_view c.literal ∷ [])) (flat_map values_of_item ts)
 
   truths-append : (fs bs : List Tree) → truths (fs ++ bs) ≡ truths fs ++ truths bs
   truths-append fs bs =
-      ap (flat_map (λ l. map (λ r. pair_truth (operator_view c.op) l r) (value_view c.literal ∷ []))) (flat_map-append values_of_item fs bs)
-      ∙ flat_map-append (λ l. map (λ r. pair_truth (operator_view c.op) l r) (value_view c.literal ∷ [])) (flat_map values_of_item fs)
+      ap (flat_map (λ l. map (λ r. pair_truth c.op l r) (value_view c.literal ∷ []))) (flat_map-append values_of_item fs bs)
+      ∙ flat_map-append (λ l. map (λ r. pair_truth c.op l r) (value_view c.literal ∷ [])) (flat_map values_of_item fs)
       (flat_map values_of_item bs)
 
   ok_is : (x y : Truth) (o : Outcome Truth) → o ≡ Ok x → o ≡ Ok y → x ≡ y

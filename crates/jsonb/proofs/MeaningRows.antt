@@ -79,12 +79,12 @@ last_and_first : of (p.root ∷ p.array_indices (p.single (p.from_last (pos 0)) 
 last_and_first = refl
 
 -- `$[0, 0 to 1]`
-repeats : of (p.root ∷ p.array_indices (p.single (p.from_front (pos 0)) ∷ p.slice (p.from_front (pos 0)) (p.from_front (pos 1)) ∷ []) ∷ []) tens
+repeats : of (p.root ∷ p.array_indices (p.single (p.from_front (pos 0)) ∷ p.slice ((p.from_front (pos 0)), (p.from_front (pos 1))) ∷ []) ∷ []) tens
     ≡ Ok (whole 10 ∷ whole 10 ∷ whole 20 ∷ [])
 repeats = refl
 
 -- `$[0 to 1]` on an empty array
-slice_of_empty : of (p.root ∷ p.array_indices (p.slice (p.from_front (pos 0)) (p.from_front (pos 1)) ∷ []) ∷ []) (arr []) ≡ Ok []
+slice_of_empty : of (p.root ∷ p.array_indices (p.slice ((p.from_front (pos 0)), (p.from_front (pos 1))) ∷ []) ∷ []) (arr []) ≡ Ok []
 slice_of_empty = refl
 
 -- `$[-1]`
@@ -306,6 +306,6 @@ far_past_last : of (p.root ∷ p.array_indices (p.single (p.from_last (pos 21474
 far_past_last = refl
 
 -- `$[-2147483648 to 2147483647]`
-widest_slice : of (p.root ∷ p.array_indices (p.slice (p.from_front (negsuc 2147483647)) (p.from_front (pos 2147483647)) ∷ []) ∷ []) tens
+widest_slice : of (p.root ∷ p.array_indices (p.slice ((p.from_front (negsuc 2147483647)), (p.from_front (pos 2147483647))) ∷ []) ∷ []) tens
     ≡ Ok (whole 10 ∷ whole 20 ∷ whole 30 ∷ [])
 widest_slice = refl

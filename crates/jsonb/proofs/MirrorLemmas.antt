@@ -2,15 +2,13 @@
 use Rattle.std.proofs.Common.{◌≡◌, List, [], ◌∷◌, map, flat_map, true, false, Bool, Option, Some, None, option_map, Ok, Err, IfSome, refl, sym, ap, ◌∙◌, subst, append-nil}
 use Rattle.std.specs.Prelude.{if◌then◌else◌, ◌||◌}
 use Rattle.std.specs.Ordering.{ordering_reverse}
-use Rattle.std.specs.Cmp.{bool_cmp_total}
-use Rattle.std.specs.Cmp.Lexicographic.{nat_list_cmp_total}
 use Rattle.std.specs.declared.cmp.Ordering.{Ordering}
 use Rattle.std.specs.declared.cmp.Ordering.TheVariants.{Less, Equal, Greater}
 use Rattle.jsonb_doc.specs.Answer.{Outcome, and_then}
 use Rattle.jsonb_doc.specs.Tree.{Tree}
-use Rattle.jsonb_doc.specs.Proofs.NumberOrder.{number_cmp_total}
 use Rattle.jsonb.specs.PathTree as math
 use Rattle.jsonb.specs.PathTree.{BinaryOp, Expression}
+use Rattle.jsonb.specs.Proofs.PathOrder.{antisymmetric}
 use Rattle.jsonb.specs.Compare.{Truth, value_order, truth_of_order, is_container, pair_truth, first_decisive, compare}
 use Rattle.jsonb.specs.Values.{Value, null, boolean, number, text, container, values_of_item}
 use Rattle.jsonb.specs.Meaning.{steps_meaning, truth, operand_values}
@@ -19,17 +17,6 @@ use Rattle.jsonb.specs.Private.FilterCache.{is_comparison}
 use Rattle.jsonb.specs.declared.selector.document.Mode.{Mode}
 use Rattle.jsonb.proofs.ComparedLemmas.{compares_member}
 use Rattle.jsonb.proofs.KeptLemmas.{comparison_is}
-
-order-mirrored : (a b : Value) → value_order a b ≡ option_map ordering_reverse (value_order b a)
-order-mirrored (boolean a) (boolean b) = ap Some (bool_cmp_total.antisymm a b)
-order-mirrored (number m) (number n) = ap Some (number_cmp_total.antisymm m n)
-order-mirrored (text a) (text b) = ap Some (nat_list_cmp_total.antisymm a b)
-order-mirrored null null = refl
-order-mirrored container null = refl
-order-mirrored container (boolean b) = refl
-order-mirrored container (number n) = refl
-order-mirrored container (text b) = refl
-order-mirrored _ _ = refl
 
 -- the sides do not matter for whether one is a container
 either : (a b : Bool) → (a || b) ≡ (b || a)
@@ -70,7 +57,7 @@ pair-mirrored : (op turned : BinaryOp) (a b : Value) → mirrored op ≡ Some tu
 pair-mirrored op turned a b h =
     let k = are_mirrors a b (value_order b a) op turned h in
     k.pair
-    ∙ (λ i. if either (is_container a) (is_container b) i then None else truth_of_order op (order-mirrored a b i))
+    ∙ (λ i. if either (is_container a) (is_container b) i then None else truth_of_order op (antisymmetric a b i))
     ∙ ap (λ t. if is_container b || is_container a then None else t) k.met
     ∙ sym k.turned_pair
 

@@ -14,7 +14,8 @@ use Rattle.jsonb_keypath.proofs.RepeatLemmas.{repeat-goes, repeat-ends}
 use Rattle.jsonb.specs.PathTree.{Literal, null, boolean, unsigned, signed, decimal64, decimal128, string, raw, BinaryOp, and_op, or_op, UnaryOp, plus, minus, Step, root, current, filter, whole_expression, Steps, no_steps, step, Expression, paths, value, binary, unary, exists, steps_of}
 use Rattle.jsonb.specs.PathGrammar.{spaced, inner, wildcard, named_field, bracket_field, entries, spaced_inner, path_root, literal_value, operand, spaced_operand, operator, arithmetic_operator, unary_operator, unary_atom, binary_atom}
 use Rattle.jsonb.specs.PathText.{step_text, steps_text, expression_text, literal_text, operator_text, joins}
-use Rattle.jsonb.specs.PathLaws.{settled_literal, settled_step, settled_steps, settled}
+use Rattle.jsonb.specs.PathLaws.{settled_literal}
+use Rattle.jsonb.proofs.SettledPaths.{settled_step, settled_steps, settled}
 use Rattle.jsonb.proofs.PathShape.{IsInner, AreInner, IsBeginning, IsLiteral, IsOperand, is_signed}
 use Rattle.jsonb.proofs.InnerReadsBack.{past-none, past-space, spaced-reads, spaced-none, past-stops, is_step_end, inner-text}
 

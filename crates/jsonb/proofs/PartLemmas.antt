@@ -15,13 +15,6 @@ use Rattle.jsonb.proofs.PathNodes.{paths_is, binary_is}
 
 -- ---- no part is nothing
 
-pub some_parts : (e : Expression) → 0 < expression_parts e
-some_parts (paths ss) = omega arith
-some_parts (value l) = omega arith
-some_parts (binary op left right) = omega arith
-some_parts (unary op e) = omega arith
-some_parts (exists ss) = omega arith
-
 pub some_step_parts : (s : Step) → 0 < step_parts s
 some_step_parts (filter e) = omega arith
 some_step_parts (whole_expression e) = omega arith

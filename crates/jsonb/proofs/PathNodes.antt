@@ -4,7 +4,7 @@ use Rattle.std.specs.Cow.{cow_str_bytes}
 use Rattle.std.specs.declared.borrow.CowStr.{CowStr}
 use Rattle.jsonb.specs.PathTree as math
 use Rattle.jsonb.specs.PathTree.{Step, Expression, steps_of}
-use Rattle.jsonb.specs.PathViews.{step_layer, expression_layer, step_view, expression_view, steps_view, entry_view, levels_view, literal_view, operator_view, sign_view}
+use Rattle.jsonb.specs.PathViews.{step_layer, expression_layer, step_view, expression_view, steps_view, literal_view}
 use Rattle.jsonb.specs.declared.path.ArrayIndex.{ArrayIndex}
 use Rattle.jsonb.specs.declared.path.RecursiveLevel.{RecursiveLevel}
 use Rattle.jsonb.specs.declared.path.BinaryOperator.{BinaryOperator}
@@ -40,7 +40,7 @@ pub elements_is : (s : Path) → s ≡ step.BracketWildcard → step_view s ≡ 
 elements_is s h = ap step_view h ∙ step_is _ _ step.outs-BracketWildcard
 
 pub levels_is : (s : Path) (levels : Option RecursiveLevel) → s ≡ step.RecursiveDotWildcard levels
-    → step_view s ≡ math.recursive_dot_wildcard (option_map levels_view levels)
+    → step_view s ≡ math.recursive_dot_wildcard levels
 levels_is s levels h = ap step_view h ∙ step_is _ _ (step.outs-RecursiveDotWildcard levels)
 
 pub dot_field_is : (s : Path) (name : CowStr Global) → s ≡ step.DotField name → step_view s ≡ math.dot_field (cow_str_bytes name)
@@ -52,7 +52,7 @@ colon_field_is s name h = ap step_view h ∙ step_is _ _ (step.outs-ColonField n
 pub object_field_is : (s : Path) (name : CowStr Global) → s ≡ step.ObjectField name → step_view s ≡ math.object_field (cow_str_bytes name)
 object_field_is s name h = ap step_view h ∙ step_is _ _ (step.outs-ObjectField name)
 
-pub indices_is : (s : Path) (entries : Vec ArrayIndex Global) → s ≡ step.ArrayIndices entries → step_view s ≡ math.array_indices (map entry_view entries.items)
+pub indices_is : (s : Path) (entries : Vec ArrayIndex Global) → s ≡ step.ArrayIndices entries → step_view s ≡ math.array_indices entries.items
 indices_is s entries h = ap step_view h ∙ step_is _ _ (step.outs-ArrayIndices entries)
 
 pub filter_is : (s : Path) (e : Box Expr Global) → s ≡ step.FilterExpr e → step_view s ≡ math.filter (expression_view e.value)
@@ -70,11 +70,11 @@ pub literal_is : (e : Expr) (l : Box PathValue Global) → e ≡ expr.Value l �
 literal_is e l h = ap expression_view h ∙ expression_is _ _ (expr.outs-Value l)
 
 pub binary_is : (e : Expr) (op : BinaryOperator) (l r : Box Expr Global) → e ≡ expr.BinaryOp op l r
-    → expression_view e ≡ math.binary (operator_view op) (expression_view l.value) (expression_view r.value)
+    → expression_view e ≡ math.binary op (expression_view l.value) (expression_view r.value)
 binary_is e op l r h = ap expression_view h ∙ expression_is _ _ (expr.outs-BinaryOp op l r)
 
 pub unary_is : (e : Expr) (op : UnaryOperator) (x : Box Expr Global) → e ≡ expr.UnaryOp op x
-    → expression_view e ≡ math.unary (sign_view op) (expression_view x.value)
+    → expression_view e ≡ math.unary op (expression_view x.value)
 unary_is e op x h = ap expression_view h ∙ expression_is _ _ (expr.outs-UnaryOp op x)
 
 pub exists_is : (e : Expr) (steps : Vec Path Global) → e ≡ expr.ExistsFunc steps → expression_view e ≡ math.exists (steps_of (steps_view steps.items))

@@ -11,7 +11,7 @@ use Rattle.jsonb_keypath.proofs.RepeatLemmas.{repeat-goes, repeat-ends}
 use Rattle.jsonb.specs.PathTree.{Step, root, current, filter, whole_expression, Expression}
 use Rattle.jsonb.specs.PathGrammar.{spaced_inner, path_root, operand, spaced_operand, operator, arithmetic_operator, binary_atom, group_with, exists_with, atom_with, and_with, or_with, nested_or, expression, root_expression, first_step, front_steps, path_step, plain_path, json_path}
 use Rattle.jsonb.specs.PathText.{step_text, expression_text, path_text}
-use Rattle.jsonb.specs.PathLaws.{settled_step, settled}
+use Rattle.jsonb.proofs.SettledPaths.{settled_step, settled}
 use Rattle.jsonb.proofs.PathShape.{IsInner, IsPathStep, IsCondition, IsPath}
 use Rattle.jsonb.proofs.InnerReadsBack.{begins-front, past-none, spaced-reads, spaced-none, is_step_end}
 use Rattle.jsonb.proofs.OperandReadsBack.{not_begins, ReadsTo, spaced-to, is_inner_start, spaced_inner-none, begins-some, front-from_begins, spaced_inner-text, is_operand_start, unary-none}

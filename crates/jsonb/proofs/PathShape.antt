@@ -17,7 +17,7 @@ IsPlace (from_last i) = IsIndex i
 
 abbrev pub IsEntry : Entry → Type 0
 IsEntry (single place) = IsPlace place
-IsEntry (slice first last) = IsPlace first × IsPlace last
+IsEntry (slice (first, last)) = IsPlace first × IsPlace last
 
 abbrev pub IsLevelEnd : Option LevelEnd → Type 0
 IsLevelEnd None = ⊤

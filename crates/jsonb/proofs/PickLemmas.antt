@@ -22,7 +22,7 @@ both_decide false b f g = (λ h. cc, λ h. f.1 h.0)
 pub meant_decides : (entry : Entry) (n k : ℕ) → k < n → Decides (is_meant n entry k) (IsPosition entry n k)
 meant_decides (single place) n k h =
     let d = Decides-int_eq (pos k) (position n place) in (λ is. (h, d.0 is), λ is. d.1 is.1)
-meant_decides (slice first last) n k h =
+meant_decides (slice (first, last)) n k h =
     let d = both_decide (int_le (position n first) (pos k)) (int_le (pos k) (position n last)) (le_decides (position n first) (pos k))
     (le_decides (pos k) (position n last)) in
     (λ is. let b = d.0 is in (h, b.0, b.1), λ b. d.1 (b.1, b.2))

@@ -1,7 +1,8 @@
 -- A walk to the first item that steps lead to, in lax mode: what is left, the innermost first, gives the list of the
 -- whole.
-use Rattle.std.proofs.Common.{◌≡◌, ℕ, ◌+◌, ◌^◌, ◌<◌, List, [], ◌∷◌, ◌++◌, length, take, get_or, map, inl, inr, Bool, Option, Some, None, is_some, Result, Ok, Err, IsOkAnd, refl, sym, ap, subst, ◌∙◌, arith, append-nil}
-use Rattle.std.specs.Prelude.{reverse}
+use Rattle.std.proofs.Common.{◌≡◌, ℕ, ◌+◌, ◌<◌, List, [], ◌∷◌, ◌++◌, length, take, get_or, map, inl, inr, Bool, true, false, Option, Some, None, is_some, Result, Ok, Err, IsOkAnd, refl, sym, ap, subst, ◌∙◌, append-nil}
+use Rattle.std.specs.Borrow.{Bor}
+use Rattle.std.specs.Prelude.{reverse, not}
 use Rattle.std.proofs.lemmas.List.{map-append, reverse-append, take_more}
 use Rattle.jsonb_doc.specs.Answer.{Outcome, and_then, Refines, SameOption, IsOutOfMemory}
 use Rattle.jsonb_doc.specs.Payload.{Form}
@@ -9,21 +10,27 @@ use Rattle.jsonb_doc.specs.Spots.{Locates}
 use Rattle.jsonb_doc.specs.Tree.{Tree}
 use Rattle.jsonb_doc.specs.declared.error.Error.{Error}
 use Rattle.jsonb_doc.specs.declared.spot.Spot.{Spot}
-use Rattle.jsonb_doc.proofs.Weights.{weight_of, weight-pos, inner_weighs, taken_weighs, weight_of_all, falls_inward, falls_outward}
 use Rattle.jsonb_raw.specs.Arrays.{array_values}
-use Rattle.jsonb.specs.PathTree.{Step, steps_of}
+use Rattle.jsonb.specs.PathTree as math
+use Rattle.jsonb.specs.PathTree.{Step, Expression, steps_of}
 use Rattle.jsonb.specs.PathViews.{step_view, steps_view}
 use Rattle.jsonb.specs.ItemSteps.{values_of}
 use Rattle.std.specs.List.{AllZip}
 use Rattle.jsonb.specs.Meaning.{step_meaning, steps_meaning, truth, filtered, is_some_item}
 use Rattle.jsonb.specs.SelectorAnswers.{first_item}
-use Rattle.jsonb.specs.Private.Search.{IsSearched, HasItems, items_bound, TakesItem, AreGiven, IsReached, BeginsAs}
-use Rattle.jsonb.specs.Private.Selection.{IsAt, AreSelected, node_spots, option_spots, taken_step}
-use Rattle.jsonb.specs.Private.Tests.{tests_in}
+use Rattle.jsonb.specs.Private.Compared.{RefinesIfAny}
+use Rattle.jsonb.specs.Private.Search.{has_condition, IsTested, IsSearched, FirstAhead, AreAhead, IsAhead, TakesStep, HasItems, TakesItem, AreGiven, IsReached, BeginsAs}
+use Rattle.jsonb.specs.Private.Selection.{IsAt, IsPlain, is_filter, node_spots, option_spots, taken_step}
+use Rattle.jsonb.specs.Private.Tests.{tests_in, ArePlainTestsOf}
+use Rattle.jsonb.specs.Private.Alike.{HasSame}
+use Rattle.jsonb.specs.declared.selector.document.Repeats.TheVariants.{AreDropped}
+use Rattle.jsonb.proofs.RepeatLemmas.{alike_first}
 use Rattle.jsonb.specs.declared.selector.document.Document.{Document}
 use Rattle.jsonb.specs.declared.path.Path.{Path}
 use Rattle.jsonb.specs.declared.selector.document.Expressions.{Expressions}
 use Rattle.jsonb.specs.declared.selector.document.Mode.TheVariants.{Lax}
+use Rattle.jsonb.specs.declared.selector.plan.Condition.{Condition}
+use Rattle.jsonb.specs.declared.selector.search.Ahead.{Ahead}
 use Rattle.jsonb.specs.declared.selector.search.SearchStep.{SearchStep}
 use Rattle.jsonb.specs.declared.selector.search.SearchStep.TheVariants as search
 use Rattle.jsonb.specs.declared.selector.search.Items.{Items}
@@ -32,33 +39,127 @@ use Rattle.jsonb.specs.declared.selector.search.StepItems.TheVariants as given
 use Rattle.jsonb.specs.declared.selector.search.Reached.TheVariants as reached
 use Rattle.jsonb.specs.declared.selector.search.Waiting.{Waiting}
 use Rattle.jsonb.specs.declared.selector.node_list.NodeList.{NodeList}
-use Rattle.jsonb.specs.declared.selector.selected.Selected.{Selected}
 use Rattle.jsonb.specs.declared.selector.selected.Selected.TheVariants as selected
-use Rattle.jsonb.proofs.ComparedLemmas.{Any, AreTotal, listed_total, member_total, steps_total}
-use Rattle.jsonb.proofs.RefinesLemmas.{with_ok, continued}
+use Rattle.jsonb.proofs.ComparedLemmas.{Any, AreTotal, listed_total, steps_total}
+use Rattle.jsonb.proofs.RefinesLemmas.{with_ok, continued, given_by, refused_as}
 use Rattle.jsonb.proofs.ListLemmas.{both_lists, none_in_front, both_lists-assoc, steps_in_parts}
 use Rattle.jsonb.proofs.MemberLemmas.{none_left, no_member, one_member}
 use Rattle.jsonb.proofs.Progress.{First}
-use Rattle.jsonb.proofs.SelectedParts.{related_more}
 use Rattle.jsonb.proofs.StepLemmas.{joined_one}
 use Rattle.jsonb.proofs.TestLemmas.{condition_total}
 
 -- ---- none of these steps is refused
 
-pub searched_total : (x : SearchStep) (s : Step) (top t : Tree) → IsSearched x s → IsOkAnd (step_meaning Lax s top t) Any
-searched_total (search.Member path) s top t h = subst (λ z. IsOkAnd (step_meaning Lax z top t) Any) (sym h.0) (member_total (step_view path.now) top t h.1)
-searched_total search.Values s top t h = subst (λ z. IsOkAnd (step_meaning Lax z top t) Any) (sym h) (listed_total [] (values_of t))
-searched_total search.Elements s top t h = subst (λ z. IsOkAnd (step_meaning Lax z top t) Any) (sym h) (listed_total (t ∷ []) (array_values t))
-searched_total (search.Positions entries) s top t h = subst (λ z. IsOkAnd (step_meaning Lax z top t) Any) (sym h) (listed_total [] _)
-searched_total (search.Levels levels) s top t h = subst (λ z. IsOkAnd (step_meaning Lax z top t) Any) (sym h) tt
-searched_total (search.Tested condition) s top t h = subst (λ z. IsOkAnd (step_meaning Lax z top t) Any) (sym h.1)
+pub no_filter : (s : Step) → has_condition s ≡ false → is_filter s ≡ false
+no_filter (math.filter e) h = cc
+no_filter _ h = refl
+
+plain_total : (s : Step) (top t : Tree) → has_condition s ≡ false → IsOkAnd (step_meaning Lax s top t) Any
+plain_total math.root top t h = tt
+plain_total math.current top t h = tt
+plain_total (math.dot_field name) top t h = listed_total [] _
+plain_total (math.colon_field name) top t h = listed_total [] _
+plain_total (math.object_field name) top t h = listed_total [] _
+plain_total math.dot_wildcard top t h = listed_total [] (values_of t)
+plain_total (math.recursive_dot_wildcard levels) top t h = tt
+plain_total math.bracket_wildcard top t h = listed_total (t ∷ []) (array_values t)
+plain_total (math.array_indices entries) top t h = listed_total [] _
+plain_total (math.filter e) top t h = cc
+plain_total (math.whole_expression e) top t h = cc
+
+tested_total : (condition : Condition) (s : Step) (top t : Tree) → IsTested condition s → IsOkAnd (step_meaning Lax s top t) Any
+tested_total condition s top t h = subst (λ z. IsOkAnd (step_meaning Lax z top t) Any) (sym h.1)
     (with_ok Any (λ o. IsOkAnd o Any) (truth Lax h.0 top t) (λ b. Ok (filtered t b)) (condition_total (tests_in condition) h.0 top t h.2) (λ b _. tt))
 
-pub all_searched : (xs : List SearchStep) (ss : List Step) → AllZip IsSearched xs ss → AreTotal ss
-all_searched [] [] h = tt
-all_searched [] (s ∷ ss) h = absurd h
-all_searched (x ∷ xs) [] h = absurd h
-all_searched (x ∷ xs) (s ∷ ss) h = (λ top t. searched_total x s top t h.0, all_searched xs ss h.1)
+pub searched_total : (x : SearchStep) (s : Step) (top t : Tree) → IsSearched x s → IsOkAnd (step_meaning Lax s top t) Any
+searched_total (search.Plain path) s top t h =
+    subst (λ z. IsOkAnd (step_meaning Lax z top t) Any) (sym h.0) (plain_total (step_view path.now) top t h.1)
+searched_total (search.Tested condition) s top t h = tested_total condition.now s top t h
+
+-- the first of the steps
+first_total : (b : Bool) (path : Path) (s : Step) (conditions : List Condition) (Others : List Condition → Type 0) (top t : Tree)
+    → b ≡ has_condition (step_view path) → FirstAhead b path s conditions Others → IsOkAnd (step_meaning Lax s top t) Any
+first_total false path s conditions Others top t is h =
+    subst (λ z. IsOkAnd (step_meaning Lax z top t) Any) (sym h.0) (plain_total (step_view path) top t (sym is))
+first_total true path s [] Others top t is h = absurd h
+first_total true path s (condition ∷ conditions) Others top t is h = tested_total condition s top t h.0
+
+others_total : (b : Bool) (path : Path) (s : Step) (conditions : List Condition) (Others : List Condition → Type 0) {A : Type 0}
+    → ((others : List Condition) → Others others → A) → FirstAhead b path s conditions Others → A
+others_total false path s conditions Others go h = go conditions h.1
+others_total true path s [] Others go h = absurd h
+others_total true path s (condition ∷ conditions) Others go h = go conditions h.1
+
+all_ahead : (paths : List Path) (ss : List Step) (conditions : List Condition) → AreAhead paths ss conditions → AreTotal ss
+all_ahead [] [] conditions h = tt
+all_ahead [] (s ∷ ss) conditions h = absurd h
+all_ahead (path ∷ paths) [] conditions h = absurd h
+all_ahead (path ∷ paths) (s ∷ ss) conditions h = (
+  λ top t. first_total (has_condition (step_view path)) path s conditions (λ others. AreAhead paths ss others) top t refl h,
+  others_total (has_condition (step_view path)) path s conditions (λ others. AreAhead paths ss others)
+      (λ others left. all_ahead paths ss others left) h,
+)
+
+pub all_searched : (ahead : Ahead) (ss : List Step) → IsAhead ahead ss → AreTotal ss
+all_searched ahead ss h = all_ahead ahead.steps.now ss ahead.conditions.now h
+
+pub not_false : (b : Bool) → not b ≡ true → b ≡ false
+not_false true h = cc
+not_false false h = refl
+
+-- ---- the steps ahead, one after the other
+
+pub no_steps_ahead : (paths : List Path) (ss : List Step) (conditions : List Condition) → paths ≡ [] → AreAhead paths ss conditions
+    → TakesStep ss None
+no_steps_ahead paths ss conditions none h = go ss (subst (λ l. AreAhead l ss conditions) none h)
+  where
+    go : (ss : List Step) → AreAhead [] ss conditions → TakesStep ss None
+    go [] h = tt
+    go (s ∷ ss) h = absurd h
+
+-- a step without an expression
+pub plain_ahead : (paths : List Path) (ss : List Step) (conditions : List Condition) (path : Bor Path) (after : Ahead)
+    → paths ≡ path.now ∷ after.steps.now → conditions ≡ after.conditions.now → has_condition (step_view path.now) ≡ false
+    → AreAhead paths ss conditions → TakesStep ss (Some (search.Plain path, after))
+plain_ahead paths ss conditions path after is same plain h =
+    go ss (subst (λ l. AreAhead (path.now ∷ after.steps.now) ss l) same (subst (λ l. AreAhead l ss conditions) is h))
+  where
+    go : (ss : List Step) → AreAhead (path.now ∷ after.steps.now) ss after.conditions.now → TakesStep ss (Some (search.Plain path, after))
+    go [] h = absurd h
+    go (s ∷ ss) h =
+        let k = subst (λ b. FirstAhead b path.now s after.conditions.now (λ others. AreAhead after.steps.now ss others)) plain h in
+        ((k.0, plain), k.1)
+
+-- a filter
+pub tested_ahead : (paths : List Path) (ss : List Step) (conditions : List Condition) (path : Path) (condition : Bor Condition) (after : Ahead)
+    → paths ≡ path ∷ after.steps.now → conditions ≡ condition.now ∷ after.conditions.now → has_condition (step_view path) ≡ true
+    → AreAhead paths ss conditions → TakesStep ss (Some (search.Tested condition, after))
+tested_ahead paths ss conditions path condition after is same tested h =
+    go ss (subst (λ l. AreAhead (path ∷ after.steps.now) ss l) same (subst (λ l. AreAhead l ss conditions) is h))
+  where
+    go : (ss : List Step) → AreAhead (path ∷ after.steps.now) ss (condition.now ∷ after.conditions.now)
+        → TakesStep ss (Some (search.Tested condition, after))
+    go [] h = absurd h
+    go (s ∷ ss) h = subst (λ b. FirstAhead b path s (condition.now ∷ after.conditions.now) (λ others. AreAhead after.steps.now ss others)) tested h
+
+-- there is a condition for each filter
+pub no_condition : {A : Type 0} (paths others : List Path) (ss : List Step) (conditions : List Condition) (path : Path)
+    → paths ≡ path ∷ others → conditions ≡ [] → has_condition (step_view path) ≡ true → AreAhead paths ss conditions → A
+no_condition {A} paths others ss conditions path is none tested h =
+    go ss (subst (λ l. AreAhead (path ∷ others) ss l) none (subst (λ l. AreAhead l ss conditions) is h))
+  where
+    go : (ss : List Step) → AreAhead (path ∷ others) ss [] → A
+    go [] h = absurd h
+    go (s ∷ ss) h = absurd (subst (λ b. FirstAhead b path s [] (λ l. AreAhead others ss l)) tested h)
+
+-- the step that is taken is the first
+pub first_step : (ss : List Step) (x : SearchStep) (after : Ahead) → TakesStep ss (Some (x, after)) → First (IsAhead after) (IsSearched x) ss
+first_step [] x after h = absurd h
+first_step (s ∷ ss) x after h = record { first = s; others = ss; whole = refl; holds = h.0; left = h.1 }
+
+pub no_step : (ss : List Step) → TakesStep ss None → ss ≡ []
+no_step [] h = refl
+no_step (s ∷ ss) h = absurd h
 
 -- if there is a value, only an allocation fails
 pub memory_alone : {A : Type 0} {R : A → List Tree → Type 0} {e : Error} (o : Outcome (List Tree)) → IsOkAnd o Any → Refines R IsOutOfMemory (Err e) o
@@ -78,17 +179,57 @@ step_taken P s ss rest top u is h =
           ∙ k.2,
     )
 
+-- ---- the conditions of the steps so far
+
+more_ahead : (b : Bool) (path : Path) (s : Step) (conditions more : List Condition) (Others Longer : List Condition → Type 0)
+    → ((others : List Condition) → Others others → Longer (others ++ more)) → FirstAhead b path s conditions Others
+    → FirstAhead b path s (conditions ++ more) Longer
+more_ahead false path s conditions more Others Longer go h = (h.0, go conditions h.1)
+more_ahead true path s [] more Others Longer go h = absurd h
+more_ahead true path s (condition ∷ conditions) more Others Longer go h = (h.0, go conditions h.1)
+
+last_ahead : (paths : List Path) (ss : List Step) (conditions more : List Condition) (path : Path) (s : Step) → AreAhead (path ∷ []) (s ∷ []) more
+    → AreAhead paths ss conditions → AreAhead (paths ++ path ∷ []) (ss ++ s ∷ []) (conditions ++ more)
+last_ahead [] [] [] more path s k h = k
+last_ahead [] [] (condition ∷ conditions) more path s k h = absurd h
+last_ahead [] (r ∷ ss) conditions more path s k h = absurd h
+last_ahead (q ∷ paths) [] conditions more path s k h = absurd h
+last_ahead (q ∷ paths) (r ∷ ss) conditions more path s k h =
+    more_ahead (has_condition (step_view q)) q r conditions more (λ others. AreAhead paths ss others)
+    (λ others. AreAhead (paths ++ path ∷ []) (ss ++ s ∷ []) others) (λ others left. last_ahead paths ss others more path s k left) h
+
 -- one more step of a search
-pub searched_more : (expressions : Expressions) (steps : List Path) (i : ℕ) (s : Path) (xs : List SearchStep) (x : SearchStep) → i < length steps
-    → s ≡ get_or steps i s → AllZip IsSearched xs (map (taken_step expressions) (steps_view (take i steps)))
-    → IsSearched x (taken_step expressions (step_view s))
-    → AllZip IsSearched (xs ++ x ∷ []) (map (taken_step expressions) (steps_view (take (i + 1) steps)))
-searched_more expressions steps i s xs x short is h k =
-    subst (λ l. AllZip IsSearched (xs ++ x ∷ []) l)
-    (sym (ap (λ l. map (taken_step expressions) (steps_view l)) (take_more steps i s short ∙ ap (λ y. take i steps ++ y ∷ []) (sym is))
-    ∙ ap (map (taken_step expressions)) (map-append step_view (take i steps) (s ∷ []))
-    ∙ map-append (taken_step expressions) (steps_view (take i steps)) (step_view s ∷ [])))
-    (related_more IsSearched xs (map (taken_step expressions) (steps_view (take i steps))) x (taken_step expressions (step_view s)) h k)
+pub searched_more : (expressions : Expressions) (steps : List Path) (i : ℕ) (s : Path) (conditions : List Condition) → i < length steps
+    → s ≡ get_or steps i s
+    → AreAhead (take i steps ++ s ∷ []) (map (taken_step expressions) (steps_view (take i steps)) ++ taken_step expressions (step_view s) ∷ []) conditions
+    → AreAhead (take (i + 1) steps) (map (taken_step expressions) (steps_view (take (i + 1) steps))) conditions
+searched_more expressions steps i s conditions short is h =
+    subst (λ l. AreAhead l (map (taken_step expressions) (steps_view l)) conditions)
+    (sym (take_more steps i s short ∙ ap (λ y. take i steps ++ y ∷ []) (sym is)))
+    (subst (λ l. AreAhead (take i steps ++ s ∷ []) l conditions)
+    (sym (ap (map (taken_step expressions)) (map-append step_view (take i steps) (s ∷ []))
+    ∙ map-append (taken_step expressions) (steps_view (take i steps)) (step_view s ∷ []))) h)
+
+pub plain_last : (expressions : Expressions) (paths : List Path) (ss : List Step) (conditions : List Condition) (path : Path)
+    → has_condition (step_view path) ≡ false → IsPlain expressions (step_view path) → AreAhead paths ss conditions
+    → AreAhead (paths ++ path ∷ []) (ss ++ taken_step expressions (step_view path) ∷ []) conditions
+plain_last expressions paths ss conditions path plain same h =
+    subst (λ l. AreAhead (paths ++ path ∷ []) (ss ++ taken_step expressions (step_view path) ∷ []) l) (append-nil conditions)
+    (last_ahead paths ss conditions [] path (taken_step expressions (step_view path))
+    (subst (λ b. FirstAhead b path (taken_step expressions (step_view path)) [] (λ others. AreAhead [] [] others)) (sym plain) (same.1, tt)) h)
+
+is_tested : (expressions : Expressions) (s : Step) (e : Expression) → taken_step expressions s ≡ math.filter e → has_condition s ≡ true
+is_tested expressions (math.filter f) e is = refl
+is_tested expressions (math.whole_expression f) e is = refl
+is_tested expressions _ e is = cc
+
+pub tested_last : (expressions : Expressions) (paths : List Path) (ss : List Step) (conditions : List Condition) (path : Path) (condition : Condition)
+    (e : Expression) → taken_step expressions (step_view path) ≡ math.filter e → ArePlainTestsOf (tests_in condition) e → AreAhead paths ss conditions
+    → AreAhead (paths ++ path ∷ []) (ss ++ taken_step expressions (step_view path) ∷ []) (conditions ++ condition ∷ [])
+tested_last expressions paths ss conditions path condition e same plain h =
+    last_ahead paths ss conditions (condition ∷ []) path (taken_step expressions (step_view path))
+    (subst (λ b. FirstAhead b path (taken_step expressions (step_view path)) (condition ∷ []) (λ others. AreAhead [] [] others))
+    (sym (is_tested expressions (step_view path) e same)) ((e, same, plain), tt)) h
 
 -- ---- what is left, the innermost first
 
@@ -102,7 +243,7 @@ left_over top (l ∷ ls) = both_lists (steps_meaning Lax (steps_of l.1) top l.0)
 
 abbrev pub HaveLeft : List ℕ → List Waiting → List Left → Type 0
 HaveLeft bytes [] [] = Unit {0}
-HaveLeft bytes (w ∷ ws) (l ∷ ls) = HasItems bytes w.items l.0 × AllZip IsSearched w.steps.now l.1 × HaveLeft bytes ws ls
+HaveLeft bytes (w ∷ ws) (l ∷ ls) = HasItems bytes w.items l.0 × IsAhead w.ahead l.1 × HaveLeft bytes ws ls
 HaveLeft bytes _ _ = ⊥
 
 both_total : (o p : Outcome (List Tree)) → IsOkAnd o Any → IsOkAnd p Any → IsOkAnd (both_lists o p) Any
@@ -143,29 +284,40 @@ pub given_one : (bytes : List ℕ) (g : StepItems) (x : Spot) (us : List Tree) �
     → (t : Tree) × (us ≡ t ∷ []) × Locates bytes x t
 given_one bytes g x us is h = one_member (Locates bytes) (Some x) x us refl (subst (λ y. AreGiven bytes y us) is h)
 
+-- the first of one item at most
+at_most_first : (bytes : List ℕ) (found : Option Spot) (us : List Tree) → AllZip (Locates bytes) (option_spots found) us
+    → SameOption (Locates bytes) found (first_item us)
+at_most_first bytes None [] h = tt
+at_most_first bytes None (u ∷ us) h = absurd h
+at_most_first bytes (Some x) [] h = absurd h
+at_most_first bytes (Some x) (u ∷ us) h = h.0
+
+pub first_member : (bytes : List ℕ) (found : Option Spot) (o : Outcome (List Tree))
+    → Refines {A = Option Spot} (λ f us. AllZip (Locates bytes) (option_spots f) us) IsOutOfMemory (Ok found) o
+    → Refines {A = Option Spot} (λ f us. SameOption (Locates bytes) f (first_item us)) IsOutOfMemory (Ok found) o
+first_member bytes found o h = given_by h (λ us a. record { ok = at_most_first bytes found us a; err = tt })
+
+-- an error of the steps
+pub first_refused_too : {A B C : Type 0} (R : A → C → Type 0) {Q : B → C → Type 0} (r : Outcome (Option A)) (o : Outcome C) {e : Error} → r ≡ Err e
+    → Refines Q IsOutOfMemory (Err e) o → RefinesIfAny R r o
+first_refused_too R r o is h = subst (λ x. RefinesIfAny R x o) (sym is) (refused_as h)
+
 -- one item at most is all that the steps lead to
 pub found_at_most : (bytes : List ℕ) (found : Option Spot) (us : List Tree) (o : Outcome (List Tree)) → AllZip (Locates bytes) (option_spots found) us
     → o ≡ Ok us → Refines {A = Option Spot} (λ f ts. SameOption (Locates bytes) f (first_item ts)) IsOutOfMemory (Ok found) o
 found_at_most bytes found us o h is = record {
-  ok = subst (λ z. IsOkAnd z (λ ts. SameOption (Locates bytes) found (first_item ts))) (sym is)
-      (go found us h);
+  ok = subst (λ z. IsOkAnd z (λ ts. SameOption (Locates bytes) found (first_item ts))) (sym is) (at_most_first bytes found us h);
   err = tt;
 }
-  where
-    go : (f : Option Spot) (us : List Tree) → AllZip (Locates bytes) (option_spots f) us → SameOption (Locates bytes) f (first_item us)
-    go None [] h = tt
-    go None (u ∷ us) h = absurd h
-    go (Some x) [] h = absurd h
-    go (Some x) (u ∷ us) h = h.0
 
 -- what is left of the innermost items, and of those around, which a `Vec` holds with the innermost last, gives the list
-pub record Searching (bytes : List ℕ) (top : Tree) (Here : List Tree → Type 0) (steps : List SearchStep) (around : List Waiting)
+pub record Searching (bytes : List ℕ) (top : Tree) (Here : List Tree → Type 0) (ahead : Ahead) (around : List Waiting)
     (whole : Outcome (List Tree)) : Type 0 where
   pub here : List Tree
   pub rest : List Step
   pub others : List Left
   pub left : Here here
-  pub searched : AllZip IsSearched steps rest
+  pub searched : IsAhead ahead rest
   pub left_around : HaveLeft bytes (reverse around) others
   pub is : whole ≡ both_lists (steps_meaning Lax (steps_of rest) top here) (left_over top others)
 
@@ -177,10 +329,10 @@ module _ (bytes : List ℕ) (top : Tree) where
   over_total [] [] h = tt
   over_total [] (l ∷ ls) h = absurd h
   over_total (w ∷ ws) [] h = absurd h
-  over_total (w ∷ ws) (l ∷ ls) h = both_total _ _ (steps_total l.1 top l.0 (all_searched w.steps.now l.1 h.1)) (over_total ws ls h.2)
+  over_total (w ∷ ws) (l ∷ ls) h = both_total _ _ (steps_total l.1 top l.0 (all_searched w.ahead l.1 h.1)) (over_total ws ls h.2)
 
   pub search_begun : (inner : Waiting) (around : List Waiting) (t : Tree) (ss : List Step) → around ≡ [] → IsReached bytes top t ss (reached.Many inner)
-      → Searching bytes top (HasItems bytes inner.items) inner.steps.now around (steps_meaning Lax (steps_of ss) top (t ∷ []))
+      → Searching bytes top (HasItems bytes inner.items) inner.ahead around (steps_meaning Lax (steps_of ss) top (t ∷ []))
   search_begun inner around t ss none k = record {
     here = k.0;
     rest = k.1;
@@ -191,8 +343,8 @@ module _ (bytes : List ℕ) (top : Tree) where
     is = k.4 ∙ none_behind _;
   }
 
-  module _ {Here : List Tree → Type 0} {steps : List SearchStep} {around : List Waiting} {whole : Outcome (List Tree)}
-      (w : Searching bytes top Here steps around whole) where
+  module _ {Here : List Tree → Type 0} {ahead : Ahead} {around : List Waiting} {whole : Outcome (List Tree)}
+      (w : Searching bytes top Here ahead around whole) where
     -- the first of the items that are left, and the others
     cut_first : {P : Tree → Type 0} {Others : List Tree → Type 0} (f : First Others P w.here) →
         whole ≡ both_lists (both_lists (steps_meaning Lax (steps_of w.rest) top (f.first ∷ [])) (steps_meaning Lax (steps_of w.rest) top f.others))
@@ -200,7 +352,7 @@ module _ (bytes : List ℕ) (top : Tree) where
     cut_first f = w.is
         ∙ ap (λ l. both_lists (steps_meaning Lax (steps_of w.rest) top l) (left_over top w.others)) f.whole
         ∙ ap (λ o. both_lists o (left_over top w.others))
-        (steps_in_parts w.rest top (f.first ∷ []) f.others (all_searched steps w.rest w.searched))
+        (steps_in_parts w.rest top (f.first ∷ []) f.others (all_searched ahead w.rest w.searched))
 
     pub item_found : {P : Tree → Type 0} {Others : List Tree → Type 0} (x : Spot) (f : First Others P w.here)
         → IsReached bytes top f.first w.rest (reached.AtMostOne (Some x))
@@ -208,11 +360,11 @@ module _ (bytes : List ℕ) (top : Tree) where
     item_found x f k = subst (λ o. IsOkAnd o (λ all. SameOption (Locates bytes) (Some x) (first_item all)))
         (sym (cut_first f
         ∙ ap (λ o. both_lists (both_lists o (steps_meaning Lax (steps_of w.rest) top f.others)) (left_over top w.others)) k.2))
-        (first_of_all bytes x k.0 _ _ k.1 (steps_total w.rest top f.others (all_searched steps w.rest w.searched))
+        (first_of_all bytes x k.0 _ _ k.1 (steps_total w.rest top f.others (all_searched ahead w.rest w.searched))
         (over_total (reverse around) w.others w.left_around))
 
     pub item_passed : {P : Tree → Type 0} {Others : List Tree → Type 0} (f : First Others P w.here)
-        → IsReached bytes top f.first w.rest (reached.AtMostOne None) → Searching bytes top Others steps around whole
+        → IsReached bytes top f.first w.rest (reached.AtMostOne None) → Searching bytes top Others ahead around whole
     item_passed f k = record {
       here = f.others;
       rest = w.rest;
@@ -231,8 +383,8 @@ module _ (bytes : List ℕ) (top : Tree) where
         no_items (u ∷ us) h = absurd h
 
     pub items_entered : {P : Tree → Type 0} (within' inner : Waiting) (around' : List Waiting) (f : First (HasItems bytes within'.items) P w.here)
-        → within'.steps.now ≡ steps → around' ≡ around ++ within' ∷ [] → IsReached bytes top f.first w.rest (reached.Many inner)
-        → Searching bytes top (HasItems bytes inner.items) inner.steps.now around' whole
+        → within'.ahead ≡ ahead → around' ≡ around ++ within' ∷ [] → IsReached bytes top f.first w.rest (reached.Many inner)
+        → Searching bytes top (HasItems bytes inner.items) inner.ahead around' whole
     items_entered within' inner around' f same pushed k = record {
       here = k.0;
       rest = k.1;
@@ -240,7 +392,7 @@ module _ (bytes : List ℕ) (top : Tree) where
       left = k.2;
       searched = k.3;
       left_around = subst (λ l. HaveLeft bytes l ((f.others, w.rest) ∷ w.others)) (sym (ap reverse pushed ∙ innermost around within'))
-          (f.left, subst (λ l. AllZip IsSearched l w.rest) (sym same) w.searched, w.left_around);
+          (f.left, subst (λ l. IsAhead l w.rest) (sym same) w.searched, w.left_around);
       is = cut_first f
           ∙ ap (λ o. both_lists (both_lists o (steps_meaning Lax (steps_of w.rest) top f.others)) (left_over top w.others)) k.4
           ∙ sym (both_lists-assoc (steps_meaning Lax (steps_of k.1) top k.0) (steps_meaning Lax (steps_of w.rest) top f.others) (left_over top w.others));
@@ -253,12 +405,12 @@ module _ (bytes : List ℕ) (top : Tree) where
         ∙ sym (none_in_front _)
 
     pub items_done : (outer : Waiting) (around' : List Waiting) → w.here ≡ [] → around ≡ around' ++ outer ∷ []
-        → Searching bytes top (HasItems bytes outer.items) outer.steps.now around' whole
+        → Searching bytes top (HasItems bytes outer.items) outer.ahead around' whole
     items_done outer around' none e = go w.others (subst (λ l. HaveLeft bytes l w.others) (ap reverse e ∙ innermost around' outer) w.left_around)
         (all_passed none)
       where
         go : (ls : List Left) → HaveLeft bytes (outer ∷ reverse around') ls → whole ≡ left_over top ls
-            → Searching bytes top (HasItems bytes outer.items) outer.steps.now around' whole
+            → Searching bytes top (HasItems bytes outer.items) outer.ahead around' whole
         go [] h is = absurd h
         go (l ∷ ls) h is = record { here = l.0; rest = l.1; others = ls; left = h.0; searched = h.1; left_around = h.2; is = is }
 
@@ -269,36 +421,10 @@ module _ (bytes : List ℕ) (top : Tree) where
         go [] h is = is
         go (l ∷ ls) h is = absurd h
 
--- ---- how what is left shrinks
-
-unfoldable pub weight : Waiting → ℕ
-weight w = weight_of (items_bound w.items) (length w.steps.now)
-
-abbrev pub weights : List Waiting → ℕ
-weights ws = weight_of_all weight ws
-
--- the measure of a walk decreases if an item leads to others, if it is passed, and if no item is left
-pub falls_within : (within within' inner : Waiting) (around around' : List Waiting) → within'.steps.now ≡ within.steps.now
-    → items_bound within'.items < items_bound within.items → length inner.steps.now < length within.steps.now → items_bound inner.items < 2 ^ 64
-    → around' ≡ around ++ within' ∷ [] → weight inner + weights (reverse around') < weight within + weights (reverse around)
-unfolding weight
-falls_within within within' inner around around' same fewer shorter few pushed =
-    let equal = ap length same in
-    let light : weight inner + weight within' < weight within = inner_weighs _ _ _ _ _ _ fewer (omega (arith, equal)) shorter few in
-    falls_inward weight within within' inner around around' light pushed
-
-pub falls_beside : (within within' : Waiting) (around : List Waiting) → within'.steps.now ≡ within.steps.now
-    → items_bound within'.items < items_bound within.items → weight within' + weights (reverse around) < weight within + weights (reverse around)
-unfolding weight
-falls_beside within within' around same fewer =
-    let equal = ap length same in let light = taken_weighs _ _ (length within.steps.now) (length within'.steps.now) fewer (omega (arith, equal)) in omega
-    (arith, light)
-
-pub falls_done : (within outer : Waiting) (around around' : List Waiting) → around ≡ around' ++ outer ∷ []
-    → weight outer + weights (reverse around') < weight within + weights (reverse around)
-unfolding weight
-falls_done within outer around around' e =
-    falls_outward weight within outer around around' (weight-pos (items_bound within.items) (length within.steps.now)) e
+-- a failed allocation
+pub refused_if_any : {A B : Type 0} (R : A → B → Type 0) (r : Outcome (Option A)) (o : Outcome B) {e : Error} → r ≡ Err e → IsOutOfMemory e
+    → RefinesIfAny R r o
+refused_if_any R r o is memory = subst (λ x. RefinesIfAny R x o) (sym is) (record { ok = tt; err = inl memory })
 
 -- ---- the first item alone
 
@@ -322,11 +448,10 @@ found_any R found b (Ok us) is h = record { ok = go found us is h.ok; err = tt }
 found_any R found b (Err e) is h = absurd h.ok
 
 module _ (form : Form) (document : Document) where
-  pub begins_all : (r : Outcome Selected) (o : Outcome (List Tree)) → Refines (AreSelected form document) IsOutOfMemory r o
-      → Refines (BeginsAs form document) IsOutOfMemory r o
-  begins_all (Ok x) (Ok ts) h = record { ok = (ts, h.ok, refl); err = tt }
-  begins_all (Ok x) (Err e) h = absurd h.ok
-  begins_all (Err e) o h = record { ok = tt; err = h.err }
+  pub begins_same : (nodes : NodeList) (o : Outcome (List Tree)) → IsOkAnd o (HasSame AreDropped document.bytes.now (node_spots nodes))
+      → Refines (BeginsAs form document) IsOutOfMemory (Ok (selected.Nodes nodes)) o
+  begins_same nodes (Ok ts) h = record { ok = (h.0, h.1, alike_first h.0 ts h.2); err = tt }
+  begins_same nodes (Err e) h = absurd h
 
   pub begins_found : (nodes : NodeList) (found : Option Spot) (o : Outcome (List Tree)) → node_spots nodes ≡ option_spots found
       → Refines {A = Option Spot} (λ f ts. SameOption (IsAt document) f (first_item ts)) IsOutOfMemory (Ok found) o

@@ -1,22 +1,25 @@
 -- Which variant holds a whole literal changes no truth, no step and no value.
 use Rattle.std.proofs.Common.{◌≡◌, ℕ, zero, List, [], ◌∷◌, Option, Some, None, refl, sym, ◌∙◌, ap, subst, map, flat_map, Ok, Err}
-use Rattle.std.specs.Prelude.{ℤ, pos, negsuc, IfSome, IsSomeAnd}
+use Rattle.std.specs.Prelude.{ℤ, pos, negsuc, IfSome, IsSomeAnd, IsTrue}
 use Rattle.std.specs.declared.cmp.Ordering.TheVariants.{Equal}
 use Rattle.std.proofs.lemmas.Cmp.{tied_itself}
 use Rattle.jsonb_doc.specs.Proofs.NumberOrder.{number_cmp_total}
 use Rattle.jsonb_doc.specs.Answer.{Outcome, and_then, try_flat_map}
 use Rattle.jsonb_doc.specs.Arithmetic.{Operation, is_decimal, calculated, negated}
 use Rattle.jsonb_doc.specs.Number.{Variant, int64, uint64, decimal64, decimal128, Number, number_cmp}
-use Rattle.jsonb_doc.specs.Order.{IsEqual, AreEqual, PairsAreEqual}
+use Rattle.jsonb_doc.specs.Equal.{is_equal}
+use Rattle.jsonb_doc.specs.Proofs.Equality.{is_equal-true}
+use Rattle.jsonb_doc.specs.Proofs.EqualTrees.{IsEqual, AreEqual, PairsAreEqual}
 use Rattle.jsonb_doc.specs.Tree as tree
 use Rattle.jsonb_doc.specs.Tree.{Tree, Trees, Pairs}
 use Rattle.jsonb.specs.PathTree as path
 use Rattle.jsonb.specs.PathTree.{Literal, BinaryOp, and_op, or_op, eq, not_eq, lt, lte, gt, gte, starts_with_op, UnaryOp, plus, minus, Step, root, current, dot_wildcard, recursive_dot_wildcard, bracket_wildcard, dot_field, colon_field, object_field, array_indices, filter, whole_expression, Steps, no_steps, step, Expression, paths, value, binary, unary, exists, steps_of}
-use Rattle.jsonb.specs.PathLaws.{settled_literal, settled_step, settled_steps, settled, SameButVariants, SameByValue, MeanTheSame}
+use Rattle.jsonb.specs.PathLaws.{settled_literal, SameButVariants, SameByValue, MeanTheSame}
+use Rattle.jsonb.proofs.SettledPaths.{settled_step, settled_steps, settled, one_path}
 use Rattle.jsonb.specs.PathGrammar.{json_path}
 use Rattle.jsonb.specs.PathText.{path_text}
 use Rattle.std.specs.List.{AllZip}
-use Rattle.jsonb.specs.Values.{Value, null, boolean, number, text, container, literal_item, values_of_literal}
+use Rattle.jsonb.specs.Values.{Value, null, boolean, number, text, container, literal_value, scalar_item}
 use Rattle.jsonb.specs.Compare.{Truth, value_order, starts_with_truth, is_container, pair_truth, first_decisive, compare}
 use Rattle.jsonb.specs.PathArithmetic.{operation, all_numbers, two_numbers, signed_number, each_signed}
 use Rattle.jsonb.specs.Meaning.{start, step_meaning, steps_meaning, operand_values, truth, calculation, binary_meaning, literal_list, expression_meaning, as_filter, meaning, truth_list, list_truth, expression_predicate, predicate}
@@ -121,7 +124,7 @@ same_compared op l l' r r' e f = sym (compared-settled op l' r') ∙ ap (λ (o :
     ∙ ap (λ (o : Outcome (List Value)). compared op (settled_values l) o) f ∙ compared-settled op l r
 
 literal-settled : (l : Literal)
-    → map settled_value (values_of_literal (literal_item (settled_literal l))) ≡ map settled_value (values_of_literal (literal_item l))
+    → settled_value (literal_value (settled_literal l)) ≡ settled_value (literal_value l)
 literal-settled (path.signed (pos zero)) = refl
 literal-settled _ = refl
 
@@ -182,7 +185,7 @@ mutual
 
   expression_same : (e : Expression) → Values e × Truths e
   expression_same (paths ss) = (path-values ss (steps_same ss), λ mode top item. refl)
-  expression_same (value l) = (λ mode top item. ap (λ (vs : List Value). Ok vs) (literal-settled l), λ mode top item. refl)
+  expression_same (value l) = (λ mode top item. ap (λ (v : Value). Ok (v ∷ [])) (literal-settled l), λ mode top item. refl)
   expression_same (binary op l r) =
       (λ mode top item. refl, binary-truth op l r (expression_same l).0 (expression_same r).0 (expression_same l).1 (expression_same r).1)
   expression_same (unary op e) = (λ mode top item. refl, λ mode top item. refl)
@@ -279,7 +282,8 @@ same_calculation op l l' r r' e f =
     through (Ok ls) (Err er) = refl
     through (Ok ls) (Ok rs) = two-settled op ls rs
 
-scalar-settled : (l : Literal) → settled_outcome (literal_list (literal_item (settled_literal l))) ≡ settled_outcome (literal_list (literal_item l))
+scalar-settled : (l : Literal) → settled_outcome (literal_list (scalar_item (literal_value (settled_literal l))))
+    ≡ settled_outcome (literal_list (scalar_item (literal_value l)))
 scalar-settled (path.signed (pos zero)) = refl
 scalar-settled _ = refl
 
@@ -358,10 +362,10 @@ mutual
   )
   same_pairs _ _ e = cc
 
-same_lists : (ts us : List Tree) → map settled_tree ts ≡ map settled_tree us → AllZip IsEqual ts us
+same_lists : (ts us : List Tree) → map settled_tree ts ≡ map settled_tree us → AllZip (λ t u. IsTrue (is_equal t u)) ts us
 same_lists [] [] e = tt
 same_lists (t ∷ ts) (u ∷ us) e =
-    (same_tree t u (let k : settled_tree t ≡ settled_tree u = cc in k), same_lists ts us (let k : map settled_tree ts ≡ map settled_tree us = cc in k))
+    (is_equal-true t u (same_tree t u (let k : settled_tree t ≡ settled_tree u = cc in k)), same_lists ts us (let k : map settled_tree ts ≡ map settled_tree us = cc in k))
 same_lists _ _ e = cc
 
 same_by_value : (o o' : Outcome (List Tree)) → settled_outcome o ≡ settled_outcome o' → SameByValue o o'
@@ -413,7 +417,7 @@ predicate-settled (array_indices entries ∷ p) mode top = refl
 predicate-settled (filter e ∷ p) mode top = refl
 
 pub variants_change_no_meaning : (p q : List Step) → SameButVariants p q → MeanTheSame p q
-variants_change_no_meaning p q same mode top = (
+variants_change_no_meaning p q alike mode top = let same = one_path p q alike in (
   same_by_value (meaning mode p top) (meaning mode q top)
       (sym (meaning-settled p mode top) ∙ ap (λ (path : List Step). settled_outcome (meaning mode path top)) same ∙ meaning-settled q mode top),
   sym (predicate-settled p mode top) ∙ ap (λ (path : List Step). predicate mode path top) same ∙ predicate-settled q mode top,

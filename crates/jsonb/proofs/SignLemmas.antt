@@ -2,7 +2,7 @@
 use Rattle.std.proofs.Common.{◌≡◌, ℕ, ◌+◌, ◌<◌, ◌≤◌, List, [], ◌∷◌, ◌++◌, Ok, Err, OnOk, IfErr, IsOkAnd, refl, ap, ◌∙◌, inl, subst, map, flat_map, append_assoc, length, get_or, set, take, drop, arith}
 use Rattle.std.proofs.lemmas.List.{map-append, take_all, take_more_set, drop-set-lt}
 use Rattle.jsonb_doc.specs.Answer.{Outcome, and_then, try_flat_map, Refines, IsOutOfMemory}
-use Rattle.jsonb_doc.specs.StoredValue.{IsStoredAs}
+use Rattle.jsonb_doc.specs.Private.StoredValue.{IsStoredAs}
 use Rattle.jsonb_doc.specs.Number.{Number}
 use Rattle.jsonb_doc.specs.Tree.{Tree}
 use Rattle.jsonb_doc.specs.View.{number_view}

@@ -10,8 +10,8 @@ use Rattle.jsonb_doc.specs.Tree.{Tree}
 use Rattle.jsonb_doc.specs.declared.spot.Spot.{Spot}
 use Rattle.jsonb.specs.Compare.{Truth, compare}
 use Rattle.jsonb.specs.Meaning.{steps_meaning, truth, filtered, is_some_item}
-use Rattle.jsonb.specs.PathTree.{BinaryOp, and_op, or_op, eq, not_eq, lt, lte, gt, gte, starts_with_op, add, subtract, multiply, divide, modulo, current, Steps, step, Expression, paths, binary, steps_of}
-use Rattle.jsonb.specs.PathViews.{steps_view, operator_view, expression_view}
+use Rattle.jsonb.specs.PathTree.{BinaryOp, and_op, or_op, current, Steps, step, Expression, paths, binary, steps_of}
+use Rattle.jsonb.specs.PathViews.{steps_view, expression_view}
 use Rattle.jsonb.specs.Private.FilterCache.{is_comparison, conditions}
 use Rattle.jsonb.specs.Private.Jumps.{Branch, branches_of, branches_of_whole, taken, next_jump, jump_truth, evaluated}
 use Rattle.jsonb.specs.Private.Selection.{option_spots, taken_step}
@@ -115,10 +115,6 @@ one_in_front tests test e done a q =
     (record { on_true = refl; on_false = refl; question = q }, a)
 
 -- ---- questions of members, and others
-
-pub plain_is : (q : Question) (e : Expression) → IsPlainQuestionOf q e → IsQuestionOf q e
-plain_is (question.Expression part) e h = absurd h
-plain_is _ e h = h
 
 pub plain_question : (q : Question) (e : Expression) → is_plain q ≡ true → IsQuestionOf q e → IsPlainQuestionOf q e
 plain_question (question.Expression part) e plain h = cc
@@ -267,10 +263,10 @@ question_total (question.MembersCompared c) e top t h =
     subst (λ o. IsOkAnd o Any) (sym (h.compares Lax top t))
     (with_ok Any (λ o. IsOkAnd o Any) (steps_meaning Lax (steps_of (steps_view c.left.now)) top (t ∷ []))
     (λ ls. and_then (steps_meaning Lax (steps_of (steps_view c.right.now)) top (t ∷ []))
-    (λ rs. Ok (compare (operator_view c.op) (flat_map values_of_item ls) (flat_map values_of_item rs))))
+    (λ rs. Ok (compare c.op (flat_map values_of_item ls) (flat_map values_of_item rs))))
     (members_total (steps_view c.left.now) top (t ∷ []) h.left)
     (λ ls _. with_ok Any (λ o. IsOkAnd o Any) (steps_meaning Lax (steps_of (steps_view c.right.now)) top (t ∷ []))
-    (λ rs. Ok (compare (operator_view c.op) (flat_map values_of_item ls) (flat_map values_of_item rs)))
+    (λ rs. Ok (compare c.op (flat_map values_of_item ls) (flat_map values_of_item rs)))
     (members_total (steps_view c.right.now) top (t ∷ []) h.right) (λ rs _. tt)))
 question_total (question.MemberFound found) e top t h =
     subst (λ o. IsOkAnd o Any) (sym (h.finds Lax top t))
@@ -351,12 +347,12 @@ found_is_item R (Some x) (t ∷ ts) a = refl
 pub both_members : (c : MembersCompared) (e : Expression) (mode : Mode) (top t : Tree) → AreMembersCompared c e → truth mode e top t
     ≡ and_then (steps_meaning mode (steps_of (map (taken_step AreRefused) (steps_view c.left.now))) top (t ∷ []))
     (λ ls. and_then (steps_meaning mode (steps_of (map (taken_step AreRefused) (steps_view c.right.now))) top (t ∷ []))
-    (λ rs. Ok (compare (operator_view c.op) (flat_map values_of_item ls) (flat_map values_of_item rs))))
+    (λ rs. Ok (compare c.op (flat_map values_of_item ls) (flat_map values_of_item rs))))
 both_members c e mode top t k =
     k.compares mode top t
     ∙ (λ i. and_then (steps_meaning mode (steps_of (sym (refused_steps (steps_view c.left.now)) i)) top (t ∷ []))
     (λ ls. and_then (steps_meaning mode (steps_of (sym (refused_steps (steps_view c.right.now)) i)) top (t ∷ []))
-    (λ rs. Ok (compare (operator_view c.op) (flat_map values_of_item ls) (flat_map values_of_item rs)))))
+    (λ rs. Ok (compare c.op (flat_map values_of_item ls) (flat_map values_of_item rs)))))
 
 -- an expression whose operands are two members
 pub compares_members : (mode : Mode) (op : BinaryOp) (l r : Steps) (top t : Tree) → is_comparison op ≡ true
@@ -373,21 +369,3 @@ compares_members mode op l r top t compares =
     joined (Ok ls) (Ok rs) = refl
     joined (Ok ls) (Err e) = refl
     joined (Err e) p = refl
-
--- an operator that neither joins results nor compares is arithmetic, which is unknown
-pub arithmetic_unknown : (mode : Mode) (op : BinaryOp) (l r : Expression) (top t : Tree) → is_joined (binary op l r) ≡ false → is_comparison op ≡ false
-    → truth mode (binary op l r) top t ≡ Ok None
-arithmetic_unknown mode add l r top t h i = refl
-arithmetic_unknown mode subtract l r top t h i = refl
-arithmetic_unknown mode multiply l r top t h i = refl
-arithmetic_unknown mode divide l r top t h i = refl
-arithmetic_unknown mode modulo l r top t h i = refl
-arithmetic_unknown mode and_op l r top t h i = cc
-arithmetic_unknown mode or_op l r top t h i = cc
-arithmetic_unknown mode eq l r top t h i = cc
-arithmetic_unknown mode not_eq l r top t h i = cc
-arithmetic_unknown mode lt l r top t h i = cc
-arithmetic_unknown mode lte l r top t h i = cc
-arithmetic_unknown mode gt l r top t h i = cc
-arithmetic_unknown mode gte l r top t h i = cc
-arithmetic_unknown mode starts_with_op l r top t h i = cc

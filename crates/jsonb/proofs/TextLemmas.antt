@@ -8,11 +8,11 @@ use Rattle.jsonb.specs.PathTree.{Step, steps_of}
 use Rattle.jsonb.specs.PathViews.{step_view, steps_view}
 use Rattle.jsonb.specs.declared.path.Path.{Path}
 
--- the text of one more element of a list that is seen by `view`
-pub text_of_one_more : {X Y : Type 0} (text : Y → List ℕ) (view : X → Y) (xs : List X) (i : ℕ) (d : X) → i < length xs →
-    flat_map text (map view (take i xs)) ++ text (view (get_or xs i d)) ≡ flat_map text (map view (take (i + 1) xs))
-text_of_one_more text view xs i d h =
-    flat_map_more text [] (map view (take i xs)) (view (get_or xs i d)) ∙ ap (flat_map text) (sym (map_more view xs i d h))
+-- the text of one more element of a list
+pub text_of_one_more : {X : Type 0} (text : X → List ℕ) (xs : List X) (i : ℕ) (d : X) → i < length xs →
+    flat_map text (take i xs) ++ text (get_or xs i d) ≡ flat_map text (take (i + 1) xs)
+text_of_one_more text xs i d h =
+    flat_map_more text [] (take i xs) (get_or xs i d) ∙ ap (flat_map text) (sym (take_more xs i d h))
 
 encode_lower-more : (xs : List ℕ) (b : ℕ) → encode_lower xs ++ encode_lower (b ∷ []) ≡ encode_lower (xs ++ b ∷ [])
 unfolding encode_with

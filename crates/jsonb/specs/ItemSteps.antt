@@ -38,7 +38,8 @@ elements_step mode t = list_or mode (t ∷ []) (array_values t)
 -- Whether a subscript denotes a position of an array of this length.
 abbrev pub is_meant : ℕ → Entry → ℕ → Bool
 is_meant length (single place) k = int_eq (pos k) (position length place)
-is_meant length (slice first last) k = int_le (position length first) (pos k) && int_le (pos k) (position length last)
+is_meant length (slice (first, last)) k =
+    int_le (position length first) (pos k) && int_le (pos k) (position length last)
 
 -- The elements at the positions that a subscript denotes, ascending, and those of one subscript after the other.
 abbrev pub picked_by : Entry → List Tree → List Tree

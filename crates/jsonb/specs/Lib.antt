@@ -3,7 +3,6 @@ pub mod PathGrammar
 pub mod PathErrorPosition
 pub mod PathViews
 pub mod PathText
-pub mod PathOrder
 pub mod Positions
 pub mod LevelTable
 pub mod Values
@@ -14,6 +13,8 @@ pub mod PathArithmetic
 pub mod Meaning
 pub mod SelectionErrors
 pub mod SelectorAnswers
+pub mod FoundItems
+pub mod FirstItems
 pub mod MostItems
 pub mod LimitedAnswers
 pub mod PathLaws

@@ -1,5 +1,5 @@
 -- The results of calls with a limit: those of the selector, or `LimitExceeded`.
-use Rattle.std.specs.Prelude.{◌≡◌, ℕ, List, Result, Ok, Err, ⊤, codes}
+use Rattle.std.specs.Prelude.{◌≡◌, ◌<◌, ℕ, List, Result, Ok, Err, IsErrOf, IsErrAnd, ⊤, codes}
 use Rattle.jsonb_doc.specs.declared.error.Error.{Error}
 use Rattle.jsonb_doc.specs.declared.error.Error.TheVariants.{OutOfMemory}
 use Rattle.jsonb_doc.specs.ErrorText.{error_text}
@@ -45,7 +45,10 @@ abbrev pub IsRefusal : LimitError → Type 0
 IsRefusal LimitExceeded = ⊤
 IsRefusal (Failed e) = e ≡ OutOfMemory
 
--- A result of the selector as one of a call with a limit.
-abbrev pub lifted : {A : Type 0} → Result A Error → Result A LimitError
-lifted (Ok x) = Ok x
-lifted (Err e) = Err (Failed e)
+-- Holds if a call leaves the selector unchanged, and fails with `LimitExceeded` if and only if the bound of the path is
+-- above the limit, unless an allocation fails.
+pub record IsLimited {A : Type 0} (old new : LimitedSelector) (path : List Step) (answer : Result A LimitError)
+    : Type 0 where
+  pub kept : new ≡ old
+  pub exceeded : IsErrOf answer LimitExceeded → limit_of old < bound_of old path
+  pub refused : limit_of old < bound_of old path → IsErrAnd answer IsRefusal

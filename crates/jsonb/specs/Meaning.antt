@@ -8,7 +8,7 @@ use Rattle.jsonb_doc.specs.Format.{Decodes}
 use Rattle.jsonb_doc.specs.Tree as tree
 use Rattle.jsonb_doc.specs.Tree.{Tree}
 use Rattle.jsonb.specs.PathTree.{raw, BinaryOp, and_op, or_op, Step, root, current, dot_wildcard, recursive_dot_wildcard, bracket_wildcard, dot_field, colon_field, object_field, array_indices, filter, whole_expression, Steps, no_steps, step, Expression, paths, value, binary, unary, exists, steps_of}
-use Rattle.jsonb.specs.Values.{Value, values_of_item, literal_item, values_of_literal}
+use Rattle.jsonb.specs.Values.{Value, values_of_item, literal_value, scalar_item}
 use Rattle.jsonb.specs.Compare.{Truth, compare, and_truth, or_truth}
 use Rattle.jsonb.specs.PathArithmetic.{operation, two_numbers, each_signed}
 use Rattle.jsonb.specs.Preorder.{preorder}
@@ -54,7 +54,7 @@ abbrev mutual
   pub operand_values : Mode → Expression → Tree → Tree → Outcome (List Value)
   operand_values mode (paths steps) top item =
       and_then (steps_meaning mode steps top (start steps top item ∷ [])) (λ ts. Ok (flat_map values_of_item ts))
-  operand_values mode (value l) top item = Ok (values_of_literal (literal_item l))
+  operand_values mode (value l) top item = Ok (literal_value l ∷ [])
   operand_values mode _ top item = Err InvalidJsonPath
 
   -- Whether an expression is true of an item.
@@ -98,7 +98,7 @@ literal_list None = Err InvalidJsonPath
 
 abbrev pub expression_meaning : Mode → Expression → Tree → Outcome (List Tree)
 expression_meaning mode (paths steps) top = Err InvalidJsonPath
-expression_meaning mode (value l) top = literal_list (literal_item l)
+expression_meaning mode (value l) top = literal_list (scalar_item (literal_value l))
 expression_meaning mode (unary op e) top = and_then (operand_values mode e top top) (each_signed op)
 expression_meaning mode (binary op l r) top = binary_meaning mode (operation op) op l r top
 expression_meaning mode (exists steps) top = truth_list (truth mode (exists steps) top top)

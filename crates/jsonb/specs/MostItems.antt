@@ -17,7 +17,7 @@ root_list size = record { items = 1; below = size.items }
 
 abbrev pub is_single : Entry → Bool
 is_single (single place) = true
-is_single (slice first last) = false
+is_single (slice (first, last)) = false
 
 abbrev pub all_single : List Entry → Bool
 all_single [] = true

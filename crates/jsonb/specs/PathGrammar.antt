@@ -2,8 +2,9 @@
 use Rattle.std.specs.Prelude.{ℕ, zero, suc, ◌^◌, ◌+◌, ◌++◌, Bool, true, false, List, [], ◌∷◌, length, take, drop, Option, Some, None, ℤ, pos, neg_ℤ, fold, codes, if◌then◌else◌}
 use Rattle.std.specs.Str.{str_eq_ignore_ascii_case}
 use Prim.Native.String.{String}
-use Rattle.jsonb_keypath.specs.Rules.{Rule, give, fail, ◌>>=◌, ◌>>◌, ◌</>◌, optional, only_if, literal, repeat, list_of, all_consuming}
+use Rattle.jsonb_keypath.specs.Rules.{Rule, give, fail, ◌>>=◌, ◌>>◌, ◌</>◌, optional, only_if, bytes, literal, repeat, list_of, all_consuming}
 use Rattle.jsonb_keypath.specs.Tokens.{ws, nat8, nat64, int32, int64, is_within, name, quoted}
+use Rattle.jsonb.specs.PathText.{operator_text, sign_text}
 use Rattle.jsonb.specs.PathTree.{Place, from_front, from_last, Entry, single, slice, level, last_level, LevelEnd, Levels, Literal, null, boolean, unsigned, signed, string, BinaryOp, and_op, or_op, eq, not_eq, lt, lte, gt, gte, starts_with_op, add, subtract, multiply, divide, modulo, UnaryOp, plus, minus, Step, root, current, dot_wildcard, recursive_dot_wildcard, bracket_wildcard, dot_field, colon_field, object_field, array_indices, filter, whole_expression, Expression, paths, value, binary, unary, exists, steps_of}
 
 -- These letters, each in any case.
@@ -36,7 +37,7 @@ place =
 
 unfoldable pub entry : Rule Entry
 entry =
-    (do first ← place; ws; keyword "to"; ws; last ← place; give (slice first last))
+    (do first ← place; ws; keyword "to"; ws; last ← place; give (slice (first, last)))
     </> (place >>= λ p. give (single p))
 
 -- `to`, and the level at which the levels end.
@@ -99,20 +100,24 @@ operand is_in_filter =
 unfoldable pub spaced_operand : Bool → Rule Expression
 spaced_operand is_in_filter = spaced (operand is_in_filter)
 
+-- The operator, or the sign, as it prints.
+abbrev pub printed : BinaryOp → Rule BinaryOp
+printed op = bytes (operator_text op) >> give op
+
+abbrev pub printed_sign : UnaryOp → Rule UnaryOp
+printed_sign op = bytes (sign_text op) >> give op
+
 unfoldable pub arithmetic_operator : Rule BinaryOp
 arithmetic_operator =
-    (literal "+" >> give add) </> (literal "-" >> give subtract)
-    </> (literal "*" >> give multiply) </> (literal "/" >> give divide) </> (literal "%" >> give modulo)
+    printed add </> printed subtract </> printed multiply </> printed divide </> printed modulo
 
 unfoldable pub operator : Rule BinaryOp
 operator =
-    (literal "==" >> give eq) </> (literal "!=" >> give not_eq) </> (literal "<>" >> give not_eq)
-    </> (literal "<=" >> give lte) </> (literal "<" >> give lt)
-    </> (literal ">=" >> give gte) </> (literal ">" >> give gt)
-    </> (literal "starts with" >> give starts_with_op) </> arithmetic_operator
+    printed eq </> printed not_eq </> (literal "<>" >> give not_eq) </> printed lte </> printed lt
+    </> printed gte </> printed gt </> printed starts_with_op </> arithmetic_operator
 
 unfoldable pub unary_operator : Rule UnaryOp
-unary_operator = (literal "+" >> give plus) </> (literal "-" >> give minus)
+unary_operator = printed_sign plus </> printed_sign minus
 
 unfoldable pub unary_atom : Bool → Rule Expression
 unary_atom is_in_filter = do op ← unary_operator; e ← spaced_operand is_in_filter; give (unary op e)

@@ -18,7 +18,7 @@ place_text (from_last offset) = codes "last" ++ offset_text offset
 
 abbrev pub entry_text : Entry → List ℕ
 entry_text (single place) = place_text place
-entry_text (slice first last) = place_text first ++ codes " to " ++ place_text last
+entry_text (slice (first, last)) = place_text first ++ codes " to " ++ place_text last
 
 abbrev pub entries_text : List Entry → List ℕ
 entries_text [] = []

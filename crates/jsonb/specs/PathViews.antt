@@ -1,5 +1,5 @@
 -- The trees of the path types.
-use Rattle.std.specs.Prelude.{List, map, option_map}
+use Rattle.std.specs.Prelude.{List, map}
 use Rattle.std.specs.Cow.{cow_str_bytes}
 use Rattle.jsonb_raw.specs.Documents.{raw_bytes}
 use Rattle.jsonb_doc.specs.declared.number.Number.{Number}
@@ -7,36 +7,10 @@ use Rattle.jsonb_doc.specs.declared.number.Number.TheVariants.{Int64, UInt64, De
 use Rattle.jsonb.specs.declared.path.Expr.{Expr as CodeExpr, fold-Expr}
 use Rattle.jsonb.specs.declared.path.Path.{Path as CodePath, fold-Path}
 use Rattle.jsonb.specs.declared.path.Expr.TheOpen.{Path-F, Expr-F}
-use Rattle.jsonb.specs.declared.path.Index.{Index as CodeIndex}
-use Rattle.jsonb.specs.declared.path.Index.TheVariants as index
-use Rattle.jsonb.specs.declared.path.ArrayIndex.{ArrayIndex}
-use Rattle.jsonb.specs.declared.path.ArrayIndex.TheVariants as array_index
-use Rattle.jsonb.specs.declared.path.RecursiveLevelEnd.{RecursiveLevelEnd}
-use Rattle.jsonb.specs.declared.path.RecursiveLevelEnd.TheVariants as level_end
-use Rattle.jsonb.specs.declared.path.RecursiveLevel.{RecursiveLevel}
 use Rattle.jsonb.specs.declared.path.JsonPath.{JsonPath}
 use Rattle.jsonb.specs.declared.path.PathValue.{PathValue}
 use Rattle.jsonb.specs.declared.path.PathValue.TheVariants as path_value
-use Rattle.jsonb.specs.declared.path.BinaryOperator.{BinaryOperator}
-use Rattle.jsonb.specs.declared.path.BinaryOperator.TheVariants as operator
-use Rattle.jsonb.specs.declared.path.UnaryOperator.{UnaryOperator}
-use Rattle.jsonb.specs.declared.path.UnaryOperator.TheVariants as sign
-use Rattle.jsonb.specs.PathTree.{Place, from_front, from_last, Entry, single, slice, LevelEnd, level, last_level, Levels, Literal, null, boolean, unsigned, signed, decimal64, decimal128, string, raw, BinaryOp, and_op, or_op, eq, not_eq, lt, lte, gt, gte, starts_with_op, add, subtract, multiply, divide, modulo, UnaryOp, plus, minus, Step, root, current, dot_wildcard, recursive_dot_wildcard, bracket_wildcard, dot_field, colon_field, object_field, array_indices, filter, whole_expression, Expression, paths, value, binary, unary, exists, steps_of}
-
-abbrev pub place_view : CodeIndex → Place
-place_view (index.Index i) = from_front i
-place_view (index.LastIndex i) = from_last i
-
-abbrev pub entry_view : ArrayIndex → Entry
-entry_view (array_index.Index i) = single (place_view i)
-entry_view (array_index.Slice ends) = slice (place_view ends.0) (place_view ends.1)
-
-abbrev pub end_view : RecursiveLevelEnd → LevelEnd
-end_view (level_end.Index n) = level n
-end_view level_end.Last = last_level
-
-abbrev pub levels_view : RecursiveLevel → Levels
-levels_view l = record { start = l.start; end = option_map end_view l.end }
+use Rattle.jsonb.specs.PathTree.{Literal, null, boolean, unsigned, signed, decimal64, decimal128, string, raw, Step, root, current, dot_wildcard, recursive_dot_wildcard, bracket_wildcard, dot_field, colon_field, object_field, array_indices, filter, whole_expression, Expression, paths, value, binary, unary, exists, steps_of}
 
 abbrev pub number_literal : Number → Literal
 number_literal (Int64 z) = signed z
@@ -51,45 +25,25 @@ literal_view (path_value.Number n) = number_literal n
 literal_view (path_value.String text) = string (cow_str_bytes text)
 literal_view (path_value.Raw document) = raw (raw_bytes document)
 
-abbrev pub operator_view : BinaryOperator → BinaryOp
-operator_view operator.And = and_op
-operator_view operator.Or = or_op
-operator_view operator.Eq = eq
-operator_view operator.NotEq = not_eq
-operator_view operator.Lt = lt
-operator_view operator.Lte = lte
-operator_view operator.Gt = gt
-operator_view operator.Gte = gte
-operator_view operator.StartsWith = starts_with_op
-operator_view operator.Add = add
-operator_view operator.Subtract = subtract
-operator_view operator.Multiply = multiply
-operator_view operator.Divide = divide
-operator_view operator.Modulo = modulo
-
-abbrev pub sign_view : UnaryOperator → UnaryOp
-sign_view sign.Add = plus
-sign_view sign.Subtract = minus
-
 -- One node, with the trees of the expressions and steps in it.
 abbrev pub step_layer : Path-F Expression Step → Step
 step_layer Path-F.Root = root
 step_layer Path-F.Current = current
 step_layer Path-F.DotWildcard = dot_wildcard
-step_layer (Path-F.RecursiveDotWildcard found) = recursive_dot_wildcard (option_map levels_view found)
+step_layer (Path-F.RecursiveDotWildcard found) = recursive_dot_wildcard found
 step_layer Path-F.BracketWildcard = bracket_wildcard
 step_layer (Path-F.DotField text) = dot_field (cow_str_bytes text)
 step_layer (Path-F.ColonField text) = colon_field (cow_str_bytes text)
 step_layer (Path-F.ObjectField text) = object_field (cow_str_bytes text)
-step_layer (Path-F.ArrayIndices entries) = array_indices (map entry_view entries.items)
+step_layer (Path-F.ArrayIndices entries) = array_indices entries.items
 step_layer (Path-F.FilterExpr e) = filter e.value
 step_layer (Path-F.Expr e) = whole_expression e.value
 
 abbrev pub expression_layer : Expr-F Expression Step → Expression
 expression_layer (Expr-F.Paths steps) = paths (steps_of steps.items)
 expression_layer (Expr-F.Value l) = value (literal_view l.value)
-expression_layer (Expr-F.BinaryOp op left right) = binary (operator_view op) left.value right.value
-expression_layer (Expr-F.UnaryOp op operand) = unary (sign_view op) operand.value
+expression_layer (Expr-F.BinaryOp op left right) = binary op left.value right.value
+expression_layer (Expr-F.UnaryOp op operand) = unary op operand.value
 expression_layer (Expr-F.ExistsFunc steps) = exists (steps_of steps.items)
 
 abbrev pub step_view : CodePath → Step

@@ -2,6 +2,7 @@
 pub mod Positions
 pub mod Selection
 pub mod Selected
+pub mod Alike
 pub mod Appends
 pub mod FilterCache
 pub mod Pairs
@@ -22,3 +23,4 @@ pub mod Search
 pub mod Steps
 pub mod Repeated
 pub mod Counted
+pub mod Limited

@@ -1,13 +1,19 @@
--- Whether two paths have the same nodes, as a test.
-use Rattle.std.specs.Prelude.{Bool, true, false, ◌&&◌, nat_eq, Option, Some}
-use Rattle.std.specs.Cmp.Lexicographic.{pointwise}
+-- The test of whether two paths have the same nodes, and the order of two literals of the code.
+use Rattle.std.specs.Prelude.{Bool, true, false, ◌&&◌, nat_eq, Option, Some, None}
+use Rattle.std.specs.declared.cmp.Ordering.{Ordering}
+use Rattle.std.specs.declared.cmp.Ordering.TheVariants.{Equal}
+use Rattle.std.specs.Cmp.Lexicographic.{pointwise, slice_cmp}
+use Rattle.std.specs.Cow.{cow_str_bytes}
 use Rattle.std.specs.Option.{option_eq}
-use Rattle.std.specs.Ordering.{int_eq}
-use Rattle.jsonb_doc.specs.Equal.{is_equal}
-use Rattle.jsonb_doc.specs.Tree.{Tree}
+use Rattle.std.specs.Ordering.{int_eq, is_eq, is_some_and, bool_cmp, nat_cmp}
+use Rattle.jsonb_doc.specs.Number.{number_cmp}
+use Rattle.jsonb_doc.specs.View.{number_parts}
+use Rattle.jsonb.specs.declared.path.PathValue.{PathValue}
+use Rattle.jsonb.specs.declared.path.PathValue.TheVariants.{Null, Boolean, String}
+use Rattle.jsonb.specs.declared.path.PathValue.TheVariants as PathValue'
+use Rattle.jsonb.specs.PathEquality.{literal_order}
 use Rattle.jsonb.specs.PathText.{operator_text, sign_text}
 use Rattle.jsonb.specs.PathTree.{Place, from_front, from_last, Entry, single, slice, LevelEnd, level, last_level, Levels, Literal, BinaryOp, UnaryOp, Step, root, current, dot_wildcard, recursive_dot_wildcard, bracket_wildcard, dot_field, colon_field, object_field, array_indices, filter, whole_expression, Steps, no_steps, step, Expression, paths, value, binary, unary, exists}
-use Rattle.jsonb.specs.Values.{literal_item}
 
 abbrev pub is_same_place : Place → Place → Bool
 is_same_place (from_front i) (from_front j) = int_eq i j
@@ -16,7 +22,7 @@ is_same_place _ _ = false
 
 abbrev pub is_same_entry : Entry → Entry → Bool
 is_same_entry (single p) (single q) = is_same_place p q
-is_same_entry (slice p q) (slice r s) = is_same_place p r && is_same_place q s
+is_same_entry (slice (p, q)) (slice (r, s)) = is_same_place p r && is_same_place q s
 is_same_entry _ _ = false
 
 abbrev pub is_same_end : LevelEnd → LevelEnd → Bool
@@ -34,12 +40,16 @@ is_same_operator a b = pointwise nat_eq (operator_text a) (operator_text b)
 abbrev pub is_same_sign : UnaryOp → UnaryOp → Bool
 is_same_sign a b = pointwise nat_eq (sign_text a) (sign_text b)
 
-abbrev pub are_equal_items : Option Tree → Option Tree → Bool
-are_equal_items (Some t) (Some u) = is_equal t u
-are_equal_items _ _ = false
-
 abbrev pub is_same_literal : Literal → Literal → Bool
-is_same_literal l m = are_equal_items (literal_item l) (literal_item m)
+is_same_literal l m = is_some_and is_eq (literal_order l m)
+
+-- The order of two literals of the code.
+abbrev pub path_value_order : PathValue → PathValue → Option Ordering
+path_value_order Null Null = Some Equal
+path_value_order (Boolean b) (Boolean c) = Some (bool_cmp b c)
+path_value_order (PathValue'.Number m) (PathValue'.Number n) = Some (number_cmp (number_parts m) (number_parts n))
+path_value_order (String s) (String t) = Some (slice_cmp nat_cmp (cow_str_bytes s) (cow_str_bytes t))
+path_value_order _ _ = None
 
 abbrev mutual
   pub is_same_step : Step → Step → Bool

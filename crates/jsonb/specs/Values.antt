@@ -30,18 +30,21 @@ abbrev pub values_of_item : Tree → List Value
 values_of_item (tree.array ts) = flat_map value_of_item (elements ts)
 values_of_item t = value_of_item t
 
--- The item that a literal is, unless it is a document.
-abbrev pub literal_item : Literal → Option Tree
-literal_item path.null = Some tree.null
-literal_item (path.boolean b) = Some (tree.boolean b)
-literal_item (path.unsigned n) = Some (tree.number (number_from uint64 (pos n) 0))
-literal_item (path.signed z) = Some (tree.number (number_from int64 z 0))
-literal_item (path.decimal64 whole scale) = Some (tree.number (number_from form.decimal64 whole scale))
-literal_item (path.decimal128 whole scale) = Some (tree.number (number_from form.decimal128 whole scale))
-literal_item (path.string bytes) = Some (tree.text bytes)
-literal_item (path.raw document) = None
-
 -- The value of a literal. A document, whatever its root, is not compared, like a container.
-abbrev pub values_of_literal : Option Tree → List Value
-values_of_literal (Some item) = value_of_item item
-values_of_literal None = container ∷ []
+abbrev pub literal_value : Literal → Value
+literal_value path.null = null
+literal_value (path.boolean b) = boolean b
+literal_value (path.unsigned n) = number (number_from uint64 (pos n) 0)
+literal_value (path.signed z) = number (number_from int64 z 0)
+literal_value (path.decimal64 whole scale) = number (number_from form.decimal64 whole scale)
+literal_value (path.decimal128 whole scale) = number (number_from form.decimal128 whole scale)
+literal_value (path.string bytes) = text bytes
+literal_value (path.raw document) = container
+
+-- The item that a value is, unless it is a container.
+abbrev pub scalar_item : Value → Option Tree
+scalar_item null = Some tree.null
+scalar_item (boolean b) = Some (tree.boolean b)
+scalar_item (number n) = Some (tree.number n)
+scalar_item (text bytes) = Some (tree.text bytes)
+scalar_item container = None

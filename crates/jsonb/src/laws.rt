@@ -4,6 +4,9 @@
 //! `key_paths`, and of functions on documents in `functions`.
 
 ghost use Rattle.std.specs.Prelude.{◌≡◌, ◌↔◌, ℕ, ◌<◌, Bool, true, false, List, Ok, IfSome, IsSomeAnd};
+ghost use Rattle.std.specs.Prelude.{Option, Result, IfOk, Vec};
+ghost use Rattle.std.specs.List.{AllByRecursion};
+ghost use Rattle.std.specs.declared.alloc.Global.{Global};
 ghost use Rattle.jsonb.specs.PathDocuments.{has_document};
 ghost use Rattle.jsonb.specs.PathEquality.{SameLiteral, SameStep, SameExpression, SamePath};
 ghost use Rattle.jsonb.specs.PathGrammar.{json_path, spaced, spaced_entry, spaced_inner, path_with, path_step, atom_with, and_with, or_with, nested_or, expression};
@@ -12,7 +15,7 @@ ghost use Rattle.jsonb.specs.Meaning.{Means};
 ghost use Rattle.jsonb.specs.PathLaws.{SameButVariants, MeanTheSame};
 ghost use Rattle.jsonb.specs.PathText.{path_text};
 ghost use Rattle.jsonb.specs.PathTree.{Literal, Step, Entry, raw};
-ghost use Rattle.jsonb.specs.PathViews.{place_view, entry_view, end_view, levels_view, literal_view, operator_view, sign_view, step_view, expression_view, path_view};
+ghost use Rattle.jsonb.specs.PathViews.{literal_view, step_view, expression_view, path_view};
 ghost use Rattle.jsonb.specs.Positions.{IsPosition};
 ghost use Rattle.jsonb.specs.contracts.path.ArrayIndexPartialEq.TheImpl.{eq-value as entries_equal};
 ghost use Rattle.jsonb.specs.contracts.path.BinaryOperatorPartialEq.TheImpl.{eq-value as operators_equal};
@@ -25,8 +28,13 @@ ghost use Rattle.jsonb.specs.contracts.path.RecursiveLevelPartialEq.TheImpl.{eq-
 ghost use Rattle.jsonb.specs.contracts.path.UnaryOperatorPartialEq.TheImpl.{eq-value as signs_equal};
 ghost use Rattle.jsonb.specs.contracts.path.compare.PathValuePartialEq.TheImpl.{eq-value as literals_equal};
 ghost use Rattle.jsonb.specs.declared.selector.document.Mode.TheVariants.{Lax, Strict};
-ghost use Rattle.jsonb_doc.specs.Payload.{Form};
+ghost use Rattle.jsonb.specs.SelectorAnswers.{AreAll, IsArrayOf, IsPicked};
+ghost use Rattle.jsonb_doc.specs.Answer.{Outcome};
+ghost use Rattle.jsonb_doc.specs.Bytes.{AreBytes};
+ghost use Rattle.jsonb_doc.specs.declared.error.Error.{Error};
+ghost use Rattle.jsonb_doc.specs.Payload.{Form, canonical};
 ghost use Rattle.jsonb_doc.specs.Tree.{Tree};
+ghost use Rattle.jsonb_raw.specs.declared.owned.OwnedJsonb.{OwnedJsonb};
 ghost use Rattle.jsonb_keypath.specs.Rules.{literal, ◌>>◌ as behind};
 ghost use Rattle.jsonb_keypath.specs.TokenLaws.{ReadsSome};
 
@@ -62,6 +70,21 @@ pub fn repeated_rules_read_some()
         → ReadsSome (behind (spaced (literal "&&")) (atom_with (nested_or n) is_in_filter)) }
     ensures alternatives { (n : ℕ) (is_in_filter : Bool)
         → ReadsSome (behind (spaced (literal "||")) (and_with (nested_or n) is_in_filter)) }
+{}
+
+/// A contract determines the result of a selection. Two values that refine one meaning have the same canonical
+/// documents, of all items, or of the picked one. Other results are those of `functions::results_are_determined`.
+pub fn selections_are_determined()
+    ensures all { (meaning : Outcome (List Tree)) (r s : Result (Vec OwnedJsonb Global) Error)
+        → AreAll canonical meaning r → AreAll canonical meaning s
+        → IfOk r (λ made. IfOk s (λ other. AllByRecursion AreBytes made.items → AllByRecursion AreBytes other.items
+        → other.items ≡ made.items)) }
+    ensures array { (meaning : Outcome (List Tree)) (r s : Result OwnedJsonb Error)
+        → IsArrayOf canonical meaning r → IsArrayOf canonical meaning s
+        → IfOk r (λ made. IfOk s (λ other. AreBytes made → AreBytes other → other ≡ made)) }
+    ensures picked { (pick : List Tree → Option Tree) (meaning : Outcome (List Tree))
+        (r s : Result (Option OwnedJsonb) Error) → IsPicked pick canonical meaning r → IsPicked pick canonical meaning s
+        → IfOk r (λ made. IfOk s (λ other. IfSome made AreBytes → IfSome other AreBytes → other ≡ made)) }
 {}
 
 /// If the strict meaning of a path is a list, its lax meaning is the same list.
@@ -112,32 +135,32 @@ pub fn literals_are_equal_by_value(left: &PathValue, right: &PathValue)
 
 /// Positions in an array are equal by `==` if and only if they are counted from the same end, equally far.
 pub fn indices_are_equal_by_parts(left: &Index, right: &Index)
-    ensures { (indices_equal.it left.now right.now ≡ true) ↔ (place_view left.now ≡ place_view right.now) }
+    ensures { (indices_equal.it left.now right.now ≡ true) ↔ (left.now ≡ right.now) }
 {}
 
 /// Subscripts are equal by `==` if and only if they have the same positions.
 pub fn index_entries_are_equal_by_parts(left: &ArrayIndex, right: &ArrayIndex)
-    ensures { (entries_equal.it left.now right.now ≡ true) ↔ (entry_view left.now ≡ entry_view right.now) }
+    ensures { (entries_equal.it left.now right.now ≡ true) ↔ (left.now ≡ right.now) }
 {}
 
 /// Ends of levels are equal by `==` if and only if they are the same level, or both the last.
 pub fn level_ends_are_equal_by_parts(left: &RecursiveLevelEnd, right: &RecursiveLevelEnd)
-    ensures { (level_ends_equal.it left.now right.now ≡ true) ↔ (end_view left.now ≡ end_view right.now) }
+    ensures { (level_ends_equal.it left.now right.now ≡ true) ↔ (left.now ≡ right.now) }
 {}
 
 /// Levels are equal by `==` if and only if they have the same start and the same end.
 pub fn levels_are_equal_by_parts(left: &RecursiveLevel, right: &RecursiveLevel)
-    ensures { (levels_equal.it left.now right.now ≡ true) ↔ (levels_view left.now ≡ levels_view right.now) }
+    ensures { (levels_equal.it left.now right.now ≡ true) ↔ (left.now ≡ right.now) }
 {}
 
 /// Operators are equal by `==` if and only if they are the same operator.
 pub fn binary_operators_are_equal_by_kind(left: &BinaryOperator, right: &BinaryOperator)
-    ensures { (operators_equal.it left.now right.now ≡ true) ↔ (operator_view left.now ≡ operator_view right.now) }
+    ensures { (operators_equal.it left.now right.now ≡ true) ↔ (left.now ≡ right.now) }
 {}
 
 /// Signs are equal by `==` if and only if they are the same sign.
 pub fn unary_operators_are_equal_by_kind(left: &UnaryOperator, right: &UnaryOperator)
-    ensures { (signs_equal.it left.now right.now ≡ true) ↔ (sign_view left.now ≡ sign_view right.now) }
+    ensures { (signs_equal.it left.now right.now ≡ true) ↔ (left.now ≡ right.now) }
 {}
 
 /// Having the same nodes is symmetric and transitive. It is not reflexive: a document as a literal equals no literal,

@@ -15,12 +15,15 @@ pub use self::path::{
     ArrayIndex, BinaryOperator, Expr, Index, JsonPath, Path, PathValue, RecursiveLevel,
     RecursiveLevelEnd, UnaryOperator,
 };
-pub use self::selector::{LimitError, LimitedSelector, SelectByPath, Selector};
+pub use self::selector::{
+    FirstItem, FoundItem, LimitError, LimitedSelector, SelectByPath, Selector,
+};
 pub use jsonb_doc::{
-    ArithmeticFault, ArrayBuilder, Date, Decimal64, Decimal128, ElementIter, Error, ExtensionValue,
-    Interval, Item, KeyIter, Number, ObjectBuilder, PairIter, Spot, SpotIter, Timestamp,
-    TimestampTz, Value, ValueIter, check, check_depth, child_spots, depth, elements, encode_item,
-    field_spot, keys, pairs, root_item, root_spot, spot_document, spot_item, to_value, values,
+    ArithmeticFault, ArrayBuilder, Child, ChildPositions, Date, Decimal64, Decimal128,
+    DocumentBuilder, ElementIter, EntryPositions, Error, EventError, ExtensionValue, Interval,
+    Item, KeyIter, Number, ObjectBuilder, PairIter, Spot, SpotIter, Timestamp, TimestampTz, Value,
+    ValueIter, check, check_depth, child_spots, depth, elements, encode_item, field_spot, keys,
+    open_children, pairs, root_item, root_spot, spot_document, spot_item, to_value, values,
 };
 pub use jsonb_keypath as keypath;
 pub use jsonb_keypath::{

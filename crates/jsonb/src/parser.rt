@@ -23,7 +23,7 @@ ghost use Rattle.jsonb.specs.PathGrammar.{root_expression, first_step, front_ste
 ghost use Rattle.jsonb.specs.Private.Frames.{filter_step, IsFront};
 ghost use Rattle.jsonb_keypath.specs.Rules.{◌</>◌, parsed_map, repeat};
 ghost use Rattle.jsonb_keypath.specs.Views.{read_as, ConsumesInput};
-ghost use Rattle.jsonb.specs.PathViews.{operator_view, step_view, steps_view, expression_view, path_view};
+ghost use Rattle.jsonb.specs.PathViews.{step_view, steps_view, expression_view, path_view};
 ghost use Rattle.jsonb_doc.specs.Answer.{IsOutOfMemory, ◌or◌when◌};
 
 pub use self::error_position::json_path_error_position;
@@ -121,7 +121,7 @@ fn operation_of<'a>(
     steps: Vec<Path<'a>>,
     operation: (BinaryOperator, Expr<'a>),
 ) -> Result<Expr<'a>, AllocError>
-    ensures { IfOk result (λ found. expression_view found ≡ binary (operator_view operation.entry.0)
+    ensures { IfOk result (λ found. expression_view found ≡ binary operation.entry.0
         (paths (steps_of (steps_view steps.entry.items))) (expression_view operation.entry.1)) }
 {
     let (op, second) = operation;

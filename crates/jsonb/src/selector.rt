@@ -23,11 +23,14 @@ mod children;
 mod compared_lists;
 mod compared_member;
 mod compile;
+mod distinct;
 mod document;
 mod documents;
 mod evaluate;
 mod exists;
 mod filter_cache;
+mod first_item;
+mod found;
 mod levels;
 mod limited;
 mod members;
@@ -46,11 +49,15 @@ mod whole_path;
 pub use self::by_path::SelectByPath;
 use self::document::{Context, Document, Mode};
 use self::documents::{array_document, documents, first_document, value_document};
+pub use self::first_item::FirstItem;
+use self::first_item::first_of;
+pub use self::found::FoundItem;
+use self::found::found_items;
 pub use self::limited::{LimitError, LimitedSelector};
 use self::selected::Selected;
 use self::whole_path::{expression_truth, first_selection, only_expression, selection};
 use crate::path::JsonPath;
-use jsonb_doc::{Error, root_spot};
+use jsonb_doc::{Error, Spot, root_spot};
 use jsonb_raw::{OwnedJsonb, RawJsonb};
 use std::alloc::Global;
 
@@ -90,10 +97,12 @@ pub struct Selector<'a> {
 impl<'a> Selector<'a> {
     ghost use Rattle.std.specs.Prelude.{◌≡◌, Ok, None, true, false, IfErr, OnOk};
     ghost use Rattle.jsonb_raw.specs.Documents.{raw_bytes};
+    ghost use Rattle.jsonb.specs.FoundItems.{AreItemsOf};
     ghost use Rattle.jsonb.specs.PathTree.{is_predicate};
     ghost use Rattle.jsonb.specs.PathViews.{path_view};
     ghost use Rattle.jsonb.specs.SelectionErrors.{IsSelectionError, IsDocumentError};
     ghost use Rattle.jsonb_doc.specs.Readable.{HasReadableRoot};
+    ghost use Rattle.jsonb.specs.FirstItems.{FindsFirst};
     ghost use Rattle.jsonb.specs.SelectorAnswers.{root_bytes, mode_of, first_item, single_or_array, ByMeanings, AreAll, IsArrayOf, IsPicked, IsFound, IsTruthOf};
     ghost use Rattle.jsonb.specs.declared.selector.document.Mode.TheVariants.{Lax, Strict};
 
@@ -179,6 +188,32 @@ impl<'a> Selector<'a> {
         documents(self.alloc, document, &selected)
     }
 
+    /// Returns each item that the path selects, found in place: what `select_values` returns, without a copy.
+    ///
+    /// # Errors
+    ///
+    /// Selection errors, and `TooLarge` only if a computed item exceeds the limits of a document.
+    ///
+    /// # Complexity
+    ///
+    /// That of the evaluation. Allocates a list of the items.
+    ///
+    /// # Examples
+    ///
+    /// ```rust crates/jsonb_examples/src/evaluation.rt
+    /// let found = Selector::new(alloc, document).find_values(path)?;
+    /// ```
+    pub fn find_values(&mut self, path: &JsonPath<'_>) -> Result<Vec<FoundItem>, Error>
+        ensures kept { self.new ≡ self.old }
+        ensures items { ByMeanings (mode_of self.old) (root_bytes self.old) (path_view path.now)
+            (AreItemsOf (root_bytes self.old)) result }
+        ensures errors { IfErr result (IsDocumentError (mode_of self.old)) }
+        ensures readable { OnOk result (HasReadableRoot (root_bytes self.old)) }
+    {
+        let (document, selected) = selected_at(self.alloc, self.mode, self.root, path)?;
+        found_items(self.alloc, document, &selected)
+    }
+
     /// Returns an array of the items that the path selects.
     ///
     /// Like PostgreSQL's `jsonb_path_query_array`.
@@ -236,6 +271,38 @@ impl<'a> Selector<'a> {
         let context = context_of(self.alloc, self.mode, document);
         let selected = first_selection(&context, &path.paths)?;
         first_document(self.alloc, document, &selected)
+    }
+
+    /// Returns the spot of the first item that the path selects, which `select_first` copies, or `None`.
+    ///
+    /// Returns `Computed` if the path selects an item and is an expression, whose result is not in the document.
+    ///
+    /// # Errors
+    ///
+    /// Selection errors.
+    ///
+    /// # Complexity
+    ///
+    /// That of `select_first`, without a copy.
+    ///
+    /// # Examples
+    ///
+    /// ```rust crates/jsonb_c/src/span/first.rt
+    /// let found = selector(alloc, document, strict).find_first(path)?;
+    /// ```
+    pub fn find_first(&mut self, path: &JsonPath<'_>) -> Result<Option<FirstItem<Spot>>, Error>
+        ensures kept { self.new ≡ self.old }
+        ensures first { ByMeanings (mode_of self.old) (root_bytes self.old) (path_view path.now)
+            (FindsFirst (root_bytes self.old) (path_view path.now)) result }
+        ensures errors { IfErr result (IsSelectionError (mode_of self.old)) }
+        ensures readable { OnOk result (HasReadableRoot (root_bytes self.old)) }
+    {
+        let bytes = self.root.as_bytes();
+        let document = at_root(bytes)?;
+        let context = context_of(self.alloc, self.mode, document);
+        let selected = first_selection(&context, &path.paths)?;
+        let computed = only_expression(&path.paths).is_some();
+        Ok(first_of(computed, &selected))
     }
 
     /// Returns the item that the path selects if it is the only one, an array if there are several, or `None`.

@@ -3,7 +3,7 @@ use Rattle.std.specs.Prelude.{◌≡◌, true, List, [], ◌∷◌, flat_map, Op
 use Rattle.jsonb_doc.specs.Answer.{Outcome, and_then, Refines, IsOutOfMemory}
 use Rattle.jsonb_doc.specs.Tree.{Tree}
 use Rattle.jsonb.specs.PathTree.{BinaryOp, eq, not_eq, lt, lte, gt, gte, Expression, steps_of}
-use Rattle.jsonb.specs.PathViews.{steps_view, operator_view}
+use Rattle.jsonb.specs.PathViews.{steps_view}
 use Rattle.jsonb.specs.Compare.{Truth, compare}
 use Rattle.jsonb.specs.Values.{values_of_item}
 use Rattle.jsonb.specs.Meaning.{steps_meaning, truth}
@@ -19,7 +19,7 @@ pub record IsMemberCompared (c : MemberCompared) (e : Expression) : Type 0 where
   pub members : are_members (steps_view c.names.now) ≡ true
   pub compares : (mode : Mode) (top t : Tree) → truth mode e top t
       ≡ and_then (steps_meaning mode (steps_of (steps_view c.names.now)) top (t ∷ []))
-      (λ ts. Ok (compare (operator_view c.op) (flat_map values_of_item ts) (value_view c.literal ∷ [])))
+      (λ ts. Ok (compare c.op (flat_map values_of_item ts) (value_view c.literal ∷ [])))
 
 -- the operator that compares two values as this one does with its sides exchanged
 abbrev pub mirrored : BinaryOp → Option BinaryOp
@@ -35,7 +35,7 @@ mirrored _ = None
 abbrev pub items_truth : MemberCompared → Tree → List Tree → Outcome Truth
 items_truth c top items =
     and_then (steps_meaning Lax (steps_of (steps_view c.names.now)) top items)
-    (λ ts. Ok (compare (operator_view c.op) (flat_map values_of_item ts) (value_view c.literal ∷ [])))
+    (λ ts. Ok (compare c.op (flat_map values_of_item ts) (value_view c.literal ∷ [])))
 
 -- the expression compares members of the items that these steps lead to
 pub record IsListCompared (list : ListCompared) (e : Expression) : Type 0 where

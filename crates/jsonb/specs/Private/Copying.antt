@@ -3,7 +3,7 @@ use Rattle.std.specs.Prelude.{ℕ, ◌+◌, Bool, false, ◌||◌, List, [], ◌
 use Rattle.std.specs.Slice.Iter.{iter_rest}
 use Rattle.jsonb.specs.PathDocuments.{step_has_document, expression_has_document, has_document}
 use Rattle.jsonb.specs.PathTree.{Step, filter, whole_expression, Steps, Expression, paths, value, binary, unary, exists, steps_of}
-use Rattle.jsonb.specs.PathViews.{literal_view, operator_view, sign_view, step_view, steps_view, expression_view}
+use Rattle.jsonb.specs.PathViews.{literal_view, step_view, steps_view, expression_view}
 use Rattle.jsonb.specs.Private.Parts.{steps_parts, parts}
 use Rattle.jsonb.specs.declared.path.copying.Copied.{Copied}
 use Rattle.jsonb.specs.declared.path.copying.Copied.TheVariants as copied
@@ -73,9 +73,9 @@ leaf_has_document (leaf.Steps s) = so_far_has_document s
 -- ---- frames
 
 abbrev pub around : Frame → Expression → Expression
-around (frame.Right op right) e = binary (operator_view op) e (expression_view right.now)
-around (frame.Left op left) e = binary (operator_view op) (expression_view left.value) e
-around (frame.Sign op) e = unary (sign_view op) e
+around (frame.Right op right) e = binary op e (expression_view right.now)
+around (frame.Left op left) e = binary op (expression_view left.value) e
+around (frame.Sign op) e = unary op e
 around (frame.Held h s) e = held_view h s e
 
 abbrev pub framed : List Frame → Expression → Expression

@@ -1,8 +1,9 @@
 -- What a filter keeps from one item to the next: what is the same for each.
-use Rattle.std.specs.Prelude.{◌≡◌, ◌≤◌, Bool, true, false, List, [], ◌∷◌, drop, length, slice_get, Option, None, Ok, if◌then◌else◌}
+use Rattle.std.specs.Prelude.{◌≡◌, ◌≤◌, Bool, true, false, List, [], ◌∷◌, drop, length, slice_get, Option, None, Ok, IsOkAnd, if◌then◌else◌}
 use Rattle.jsonb_doc.specs.Tree.{Tree}
 use Rattle.jsonb.specs.PathTree.{BinaryOp, and_op, or_op, add, subtract, multiply, divide, modulo, current, step, Expression, paths, binary, exists}
 use Rattle.jsonb.specs.Meaning.{truth, operand_values}
+use Rattle.jsonb.specs.Private.Alike.{AreAlike}
 use Rattle.jsonb.specs.Private.Selection.{values_view}
 use Rattle.jsonb.specs.declared.selector.document.Mode.{Mode}
 use Rattle.jsonb.specs.declared.selector.filter_cache.CachedPart.{CachedPart}
@@ -39,8 +40,10 @@ conditions e = if is_condition e then e ∷ [] else []
 abbrev pub IsSame : Mode → Tree → CachedPart → Expression → Type 0
 IsSame mode top part.Nothing e = Unit {0}
 IsSame mode top (part.Truth b) e = (item : Tree) → truth mode e top item ≡ Ok b
-IsSame mode top (part.Left ls) (binary op l r) = (item : Tree) → operand_values mode l top item ≡ Ok (values_view ls)
-IsSame mode top (part.Right rs) (binary op l r) = (item : Tree) → operand_values mode r top item ≡ Ok (values_view rs)
+IsSame mode top (part.Left ls) (binary op l r) =
+    (item : Tree) → IsOkAnd (operand_values mode l top item) (AreAlike (values_view ls))
+IsSame mode top (part.Right rs) (binary op l r) =
+    (item : Tree) → IsOkAnd (operand_values mode r top item) (AreAlike (values_view rs))
 IsSame mode top p e = ⊥
 
 -- the parts are kept of the first of the conditions

@@ -1,21 +1,23 @@
 -- The first item that steps select, in lax mode. Each step is evaluated item by item.
-use Rattle.std.specs.Prelude.{◌≡◌, ℕ, ◌<◌, ◌^◌, true, List, [], ◌∷◌, map, length, reverse, option_map, Option, Some, None, Result, Ok}
+use Rattle.std.specs.Prelude.{◌≡◌, ℕ, Bool, true, false, List, [], ◌∷◌, reverse, Option, Some, None, Result, Ok}
 use Rattle.jsonb_doc.specs.Answer.{Outcome, Refines, IsOutOfMemory}
 use Rattle.jsonb_doc.specs.Payload.{Form}
-use Rattle.jsonb_doc.specs.Spots.{Locates, HasSpotsLeft, spots_bound}
+use Rattle.jsonb_doc.specs.Spots.{Locates, HasSpotsLeft}
 use Rattle.jsonb_doc.specs.Tree.{Tree}
 use Rattle.jsonb_doc.specs.declared.error.Error.{Error}
 use Rattle.jsonb_doc.specs.declared.spot.Spot.{Spot}
-use Rattle.jsonb.specs.PathTree.{Step, dot_wildcard, recursive_dot_wildcard, bracket_wildcard, array_indices, filter, Expression, steps_of}
-use Rattle.jsonb.specs.PathViews.{step_view, entry_view, levels_view}
+use Rattle.jsonb.specs.PathTree.{Step, filter, whole_expression, Expression, steps_of}
+use Rattle.jsonb.specs.PathViews.{step_view}
 use Rattle.std.specs.List.{AllZip}
 use Rattle.jsonb.specs.Meaning.{steps_meaning}
-use Rattle.jsonb.specs.Private.Members.{is_member}
 use Rattle.jsonb.specs.Private.Selection.{AreSelected, option_spots}
 use Rattle.jsonb.specs.Private.Tests.{tests_in, ArePlainTestsOf}
 use Rattle.jsonb.specs.SelectorAnswers.{first_item}
+use Rattle.jsonb.specs.declared.path.Path.{Path}
 use Rattle.jsonb.specs.declared.selector.document.Document.{Document}
 use Rattle.jsonb.specs.declared.selector.document.Mode.TheVariants.{Lax}
+use Rattle.jsonb.specs.declared.selector.plan.Condition.{Condition}
+use Rattle.jsonb.specs.declared.selector.search.Ahead.{Ahead}
 use Rattle.jsonb.specs.declared.selector.search.SearchStep.{SearchStep}
 use Rattle.jsonb.specs.declared.selector.search.SearchStep.TheVariants as search
 use Rattle.jsonb.specs.declared.selector.search.Items.{Items}
@@ -26,24 +28,48 @@ use Rattle.jsonb.specs.declared.selector.search.Reached.{Reached}
 use Rattle.jsonb.specs.declared.selector.search.Reached.TheVariants as reached
 use Rattle.jsonb.specs.declared.selector.selected.Selected.{Selected}
 
+-- a filter, or an expression that may be one
+abbrev pub has_condition : Step → Bool
+has_condition (filter e) = true
+has_condition (whole_expression e) = true
+has_condition _ = false
+
+-- the step is a filter by this condition
+abbrev pub IsTested : Condition → Step → Type 0
+IsTested condition s = (e : Expression) × (s ≡ filter e) × ArePlainTestsOf (tests_in condition) e
+
 -- the step of a search is this one
 abbrev pub IsSearched : SearchStep → Step → Type 0
-IsSearched (search.Member path) s = (s ≡ step_view path.now) × (is_member (step_view path.now) ≡ true)
-IsSearched search.Values s = s ≡ dot_wildcard
-IsSearched search.Elements s = s ≡ bracket_wildcard
-IsSearched (search.Positions entries) s = s ≡ array_indices (map entry_view entries.now)
-IsSearched (search.Levels levels) s = s ≡ recursive_dot_wildcard (option_map levels_view levels)
-IsSearched (search.Tested condition) s = (e : Expression) × (s ≡ filter e) × ArePlainTestsOf (tests_in condition) e
+IsSearched (search.Plain path) s = (s ≡ step_view path.now) × (has_condition (step_view path.now) ≡ false)
+IsSearched (search.Tested condition) s = IsTested condition.now s
+
+-- Holds if the first of the steps is this one, with the first of the conditions if it is a filter, and the others have
+-- the other conditions.
+abbrev pub FirstAhead : Bool → Path → Step → List Condition → (List Condition → Type 0) → Type 0
+FirstAhead false path s conditions Others = (s ≡ step_view path) × Others conditions
+FirstAhead true path s [] Others = ⊥
+FirstAhead true path s (condition ∷ conditions) Others = IsTested condition s × Others conditions
+
+-- these are the steps, with the conditions of the filters among them
+abbrev pub AreAhead : List Path → List Step → List Condition → Type 0
+AreAhead [] [] [] = Unit {0}
+AreAhead (path ∷ paths) (s ∷ ss) conditions =
+    FirstAhead (has_condition (step_view path)) path s conditions (λ others. AreAhead paths ss others)
+AreAhead _ _ _ = ⊥
+
+abbrev pub IsAhead : Ahead → List Step → Type 0
+IsAhead ahead ss = AreAhead ahead.steps.now ss ahead.conditions.now
+
+-- Holds if the result is the first of the steps, and the others.
+abbrev pub TakesStep : List Step → Option (SearchStep × Ahead) → Type 0
+TakesStep [] None = Unit {0}
+TakesStep (s ∷ ss) (Some taken) = IsSearched taken.0 s × IsAhead taken.1 ss
+TakesStep _ _ = ⊥
 
 -- these items are left
 abbrev pub HasItems : List ℕ → Items → List Tree → Type 0
 HasItems bytes (items.Children children) ts = HasSpotsLeft bytes children ts
 HasItems bytes (items.Listed v) ts = AllZip (Locates bytes) (reverse v.items) ts
-
--- at most how many items are left, on any bytes
-abbrev pub items_bound : Items → ℕ
-items_bound (items.Children children) = spots_bound children
-items_bound (items.Listed v) = length v.items
 
 -- Holds if the result is the position of the first of the items, and the others are left.
 abbrev pub TakesItem : List ℕ → List Tree → Option (Result Spot Error) → Items → Type 0
@@ -61,10 +87,6 @@ abbrev pub GivesItems : List ℕ → Spot → Result StepItems Error → (Tree �
 GivesItems bytes item answer step =
     (t : Tree) → Locates bytes item t → Refines (AreGiven bytes) IsOutOfMemory answer (step t)
 
-abbrev pub given_bound : StepItems → ℕ
-given_bound (given.AtMostOne found) = 0
-given_bound (given.Many left) = items_bound left
-
 -- the steps lead from the item to one at most, or to those that are left, with steps before them
 abbrev pub IsReached : List ℕ → Tree → Tree → List Step → Reached → Type 0
 IsReached bytes top t ss (reached.AtMostOne found) =
@@ -72,13 +94,8 @@ IsReached bytes top t ss (reached.AtMostOne found) =
     × (steps_meaning Lax (steps_of ss) top (t ∷ []) ≡ Ok us)
 IsReached bytes top t ss (reached.Many inner) =
     (us : List Tree) × (rest : List Step) × HasItems bytes inner.items us
-    × AllZip IsSearched inner.steps.now rest
+    × IsAhead inner.ahead rest
     × (steps_meaning Lax (steps_of ss) top (t ∷ []) ≡ steps_meaning Lax (steps_of rest) top us)
-
--- fewer steps than these are before what is left
-abbrev pub IsWithin : ℕ → Reached → Type 0
-IsWithin n (reached.AtMostOne found) = Unit {0}
-IsWithin n (reached.Many inner) = (length inner.steps.now < n) × (items_bound inner.items < 2 ^ 64)
 
 -- what is selected begins as these trees do
 abbrev pub BeginsAs : Form → Document → Selected → List Tree → Type 0

@@ -1,5 +1,5 @@
 -- How many parts a path selects.
-use Rattle.std.specs.Prelude.{ℕ, length}
+use Rattle.std.specs.Prelude.{ℕ, Bool, true, false, length}
 use Rattle.jsonb.specs.Private.Selection.{node_spots}
 use Rattle.jsonb.specs.declared.selector.selected.Selected.{Selected}
 use Rattle.jsonb.specs.declared.selector.selected.Selected.TheVariants as selected
@@ -8,3 +8,9 @@ abbrev pub selected_len : Selected → ℕ
 selected_len (selected.Nodes spots) = length (node_spots spots)
 selected_len (selected.Numbers numbers) = length numbers.items
 selected_len (selected.Made part) = 1
+
+-- whether an expression has computed the items
+abbrev pub is_computed : Selected → Bool
+is_computed (selected.Nodes spots) = false
+is_computed (selected.Numbers numbers) = true
+is_computed (selected.Made part) = true

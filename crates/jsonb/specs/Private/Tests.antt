@@ -5,7 +5,7 @@ use Rattle.jsonb_doc.specs.Answer.{and_then, Refines, IsOutOfMemory}
 use Rattle.jsonb_doc.specs.Tree.{Tree}
 use Rattle.jsonb_doc.specs.declared.error.Error.{Error}
 use Rattle.jsonb.specs.PathTree.{Expression, steps_of}
-use Rattle.jsonb.specs.PathViews.{steps_view, operator_view, expression_view}
+use Rattle.jsonb.specs.PathViews.{steps_view, expression_view}
 use Rattle.jsonb.specs.Compare.{Truth, compare}
 use Rattle.jsonb.specs.Values.{values_of_item}
 use Rattle.jsonb.specs.Meaning.{steps_meaning, truth, is_some_item}
@@ -40,7 +40,7 @@ pub record AreMembersCompared (c : MembersCompared) (e : Expression) : Type 0 wh
   pub compares : (mode : Mode) (top t : Tree) → truth mode e top t
       ≡ and_then (steps_meaning mode (steps_of (steps_view c.left.now)) top (t ∷ []))
       (λ ls. and_then (steps_meaning mode (steps_of (steps_view c.right.now)) top (t ∷ []))
-      (λ rs. Ok (compare (operator_view c.op) (flat_map values_of_item ls) (flat_map values_of_item rs))))
+      (λ rs. Ok (compare c.op (flat_map values_of_item ls) (flat_map values_of_item rs))))
 
 -- the expression is true if and only if the item has the member that these steps name
 pub record IsMemberFound (found : MemberFound) (e : Expression) : Type 0 where

@@ -1,98 +1,82 @@
 -- The order of the literals of a path is a partial order, and their equality symmetric and transitive.
 use mathlib.Core.Path.{ap, ◌∙◌}
-use Rattle.std.specs.Prelude.{◌≡◌, true, refl, Option, Some, None}
+use Rattle.std.specs.Prelude.{◌≡◌, Bool, true, refl, Option, Some, None}
 use Rattle.std.specs.Bool.{Decides}
 use Rattle.std.specs.Option.{option_map}
 use Rattle.std.specs.declared.cmp.Ordering.{Ordering}
 use Rattle.std.specs.declared.cmp.Ordering.TheVariants.{Less, Equal, Greater}
 use Rattle.std.specs.Ordering.{is_eq, is_some_and, ordering_reverse, bool_cmp, nat_cmp}
-use Rattle.std.specs.Cmp.{IsPartialEquivalence, IsPartialOrder, IsTotalOrder, Equal-is, bool_cmp_total, on_total}
+use Rattle.std.specs.Cmp.{IsPartialEquivalence, IsPartialOrder, Equal-is, bool_cmp_total, on_per, on_po}
 use Rattle.std.specs.Cmp.Lexicographic.{slice_cmp, nat_list_cmp_total}
-use Rattle.std.specs.Cow.{cow_str_bytes}
 use Rattle.jsonb_doc.specs.Proofs.NumberOrder.{number_cmp_total}
 use Rattle.jsonb_doc.specs.Number.{number_cmp}
-use Rattle.jsonb_doc.specs.View.{number_parts}
-use Rattle.jsonb_doc.specs.declared.number.Number.{Number}
-use Rattle.jsonb_raw.specs.declared.raw.RawJsonb.{RawJsonb}
-use Rattle.jsonb.specs.declared.path.PathValue.{PathValue}
-use Rattle.jsonb.specs.declared.path.PathValue.TheVariants.{Null, Boolean, String, Raw}
-use Rattle.jsonb.specs.declared.path.PathValue.TheVariants as PathValue'
-use Rattle.jsonb.specs.PathOrder.{path_value_order, path_value_equal}
+use Rattle.jsonb.specs.Compare.{value_order}
+use Rattle.jsonb.specs.PathEquality.{literal_order, SameLiteral}
+use Rattle.jsonb.specs.PathTree.{Literal}
+use Rattle.jsonb.specs.SamePath.{is_same_literal}
+use Rattle.jsonb.specs.Values.{Value, null, boolean, number, text, container, literal_value}
 
--- by exact value
-abbrev pub number_order : Number → Number → Ordering
-number_order m n = number_cmp (number_parts m) (number_parts n)
-
-numbers : IsTotalOrder number_order
-numbers = on_total number_parts number_cmp_total
-
-texts : IsTotalOrder (slice_cmp nat_cmp)
-texts = nat_list_cmp_total
+abbrev value_equal : Value → Value → Bool
+value_equal v w = is_some_and is_eq (value_order v w)
 
 below : (r : Ordering) → Some r ≡ Some Less → r ≡ Less
 below r e = cc
 
-raw_compares_with_none : (d : RawJsonb) (y : PathValue) → path_value_order (Raw d) y ≡ None
-raw_compares_with_none d Null = refl
-raw_compares_with_none d (Boolean b) = refl
-raw_compares_with_none d (PathValue'.Number m) = refl
-raw_compares_with_none d (String s) = refl
-raw_compares_with_none d (Raw e) = refl
+pub container_with_none : (w : Value) → value_order container w ≡ None
+container_with_none null = refl
+container_with_none (boolean b) = refl
+container_with_none (number m) = refl
+container_with_none (text s) = refl
+container_with_none container = refl
 
-antisymmetric : (x y : PathValue) → path_value_order x y ≡ option_map ordering_reverse (path_value_order y x)
-antisymmetric Null Null = refl
-antisymmetric (Boolean b) (Boolean c) = ap Some (bool_cmp_total.antisymm b c)
-antisymmetric (PathValue'.Number m) (PathValue'.Number n) = ap Some (numbers.antisymm m n)
-antisymmetric (String s) (String t) = ap Some (texts.antisymm (cow_str_bytes s) (cow_str_bytes t))
-antisymmetric (Raw d) Null = refl
-antisymmetric (Raw d) (Boolean b) = refl
-antisymmetric (Raw d) (PathValue'.Number m) = refl
-antisymmetric (Raw d) (String s) = refl
-antisymmetric (Raw d) (Raw e) = refl
+pub antisymmetric : (v w : Value) → value_order v w ≡ option_map ordering_reverse (value_order w v)
+antisymmetric null null = refl
+antisymmetric (boolean b) (boolean c) = ap Some (bool_cmp_total.antisymm b c)
+antisymmetric (number m) (number n) = ap Some (number_cmp_total.antisymm m n)
+antisymmetric (text s) (text t) = ap Some (nat_list_cmp_total.antisymm s t)
+antisymmetric container null = refl
+antisymmetric container (boolean b) = refl
+antisymmetric container (number n) = refl
+antisymmetric container (text t) = refl
 antisymmetric _ _ = refl
 
-transitive : (x y z : PathValue) → path_value_order x y ≡ Some Less → path_value_order y z ≡ Some Less → path_value_order x z ≡ Some Less
-transitive Null Null z p q = q
-transitive Null (Boolean c) z p q = cc
-transitive Null (PathValue'.Number n) z p q = cc
-transitive Null (String t) z p q = cc
-transitive Null (Raw d) z p q = cc
-transitive (Boolean b) (Boolean c) (Boolean d) p q = ap Some (bool_cmp_total.trans b c d (below _ p) (below _ q))
-transitive (PathValue'.Number l) (PathValue'.Number m) (PathValue'.Number n) p q = ap Some (numbers.trans l m n (below _ p) (below _ q))
-transitive (String s) (String t) (String u) p q =
-    ap Some (texts.trans (cow_str_bytes s) (cow_str_bytes t) (cow_str_bytes u) (below _ p) (below _ q))
-transitive (Raw d) y z p q = let e = raw_compares_with_none d y in cc
+transitive : (v w x : Value) → value_order v w ≡ Some Less → value_order w x ≡ Some Less → value_order v x ≡ Some Less
+transitive null null x p q = q
+transitive null (boolean c) x p q = cc
+transitive null (number n) x p q = cc
+transitive null (text t) x p q = cc
+transitive null container x p q = cc
+transitive (boolean b) (boolean c) (boolean d) p q = ap Some (bool_cmp_total.trans b c d (below _ p) (below _ q))
+transitive (number l) (number m) (number n) p q = ap Some (number_cmp_total.trans l m n (below _ p) (below _ q))
+transitive (text s) (text t) (text u) p q = ap Some (nat_list_cmp_total.trans s t u (below _ p) (below _ q))
+transitive container w x p q = let e = container_with_none w in cc
 transitive _ _ _ p q = cc
 
 impossible : (o : Option Ordering) → o ≡ None → is_some_and is_eq o ≡ true → ⊥
 impossible None e h = cc
 impossible (Some r) e h = cc
 
-alike : (x y z : PathValue) → path_value_equal x y ≡ true → path_value_order x z ≡ path_value_order y z
-alike Null Null z e = refl
-alike Null (Boolean c) z e = cc
-alike Null (PathValue'.Number n) z e = cc
-alike Null (String t) z e = cc
-alike Null (Raw d) z e = cc
-alike (Boolean b) (Boolean c) (Boolean d) e = ap Some (bool_cmp_total.congr b c d ((Equal-is (bool_cmp b c)).0 e))
-alike (PathValue'.Number l) (PathValue'.Number m) (PathValue'.Number n) e = ap Some (numbers.congr l m n ((Equal-is
-    (number_order l m)).0 e))
-alike (String s) (String t) (String u) e =
-    ap Some (texts.congr (cow_str_bytes s) (cow_str_bytes t) (cow_str_bytes u) ((Equal-is (slice_cmp nat_cmp (cow_str_bytes s)
-    (cow_str_bytes t))).0 e))
-alike (Raw d) y z e = let n = raw_compares_with_none d y in absurd (impossible (path_value_order (Raw d) y) n e)
+alike : (v w x : Value) → value_equal v w ≡ true → value_order v x ≡ value_order w x
+alike null null x e = refl
+alike null (boolean c) x e = cc
+alike null (number n) x e = cc
+alike null (text t) x e = cc
+alike null container x e = cc
+alike (boolean b) (boolean c) (boolean d) e = ap Some (bool_cmp_total.congr b c d ((Equal-is (bool_cmp b c)).0 e))
+alike (number l) (number m) (number n) e = ap Some (number_cmp_total.congr l m n ((Equal-is (number_cmp l m)).0 e))
+alike (text s) (text t) (text u) e = ap Some (nat_list_cmp_total.congr s t u ((Equal-is (slice_cmp nat_cmp s t)).0 e))
+alike container w x e = absurd (impossible (value_order container w) (container_with_none w) e)
 alike _ _ _ e = cc
 
 equal_is : (o : Option Ordering) → Decides (is_some_and is_eq o) (o ≡ Some Equal)
 equal_is None = (λ e. cc, λ e. cc)
 equal_is (Some r) = (λ e. ap Some ((Equal-is r).0 e), λ e. ap (is_some_and is_eq) e)
 
-pub path_value_order_laws : IsPartialOrder path_value_equal path_value_order
-path_value_order_laws = record {
+value_order_laws : IsPartialOrder value_equal value_order
+value_order_laws = record {
   antisymm = antisymmetric;
   trans = transitive;
-  matches_eq = λ x y. equal_is
-      (path_value_order x y);
+  matches_eq = λ v w. equal_is (value_order v w);
   congr = alike;
 }
 
@@ -102,8 +86,17 @@ reversed_equal (Some Less) = refl
 reversed_equal (Some Equal) = refl
 reversed_equal (Some Greater) = refl
 
-pub path_value_equal_laws : IsPartialEquivalence path_value_equal
-path_value_equal_laws = record {
-  symm = λ x y. ap (is_some_and is_eq) (antisymmetric x y) ∙ reversed_equal (path_value_order y x);
-  trans = λ x y z p q. ap (is_some_and is_eq) (alike x y z p) ∙ q;
+value_equal_laws : IsPartialEquivalence value_equal
+value_equal_laws = record {
+  symm = λ v w. ap (is_some_and is_eq) (antisymmetric v w) ∙ reversed_equal (value_order w v);
+  trans = λ v w x p q. ap (is_some_and is_eq) (alike v w x p) ∙ q;
 }
+
+pub literal_order_laws : IsPartialOrder is_same_literal literal_order
+literal_order_laws = on_po literal_value value_order_laws
+
+pub is_same_literal_laws : IsPartialEquivalence is_same_literal
+is_same_literal_laws = on_per literal_value value_equal_laws
+
+pub literal-same : (l m : Literal) → Decides (is_same_literal l m) (SameLiteral l m)
+literal-same l m = equal_is (literal_order l m)

@@ -1,36 +1,18 @@
 -- Paths of the same parts: a symmetric and transitive relation.
-use Rattle.std.proofs.Common.{List, Option, Some, None, refl, sym, ◌∙◌, subst}
-use Rattle.jsonb_doc.specs.Proofs.Equality.{is_equal_equiv, is_equal-IsEqual}
-use Rattle.jsonb_doc.specs.Order.{IsEqual}
-use Rattle.jsonb_doc.specs.Tree.{Tree}
-use Rattle.jsonb.specs.PathEquality.{AreEqualItems, SameLiteral, SameStep, SameSteps, SameExpression, SamePath}
+use Rattle.std.proofs.Common.{List, refl, sym, ◌∙◌, subst}
+use Rattle.jsonb.specs.PathEquality.{SameLiteral, SameStep, SameStepsBut, SameExpression, SamePath}
 use Rattle.jsonb.specs.PathTree.{Literal, Step, filter, whole_expression, Steps, no_steps, step, Expression, paths, value, binary, unary, exists, steps_of}
-use Rattle.jsonb.specs.Values.{literal_item}
+use Rattle.jsonb.specs.Proofs.PathOrder.{literal-same, is_same_literal_laws}
 
 -- ---- literals
 
-equal-symmetric : (t u : Tree) → IsEqual t u → IsEqual u t
-equal-symmetric t u h = (is_equal-IsEqual u t).0 (is_equal_equiv.symm u t ∙ (is_equal-IsEqual t u).1 h)
-
-equal-transitive : (t u v : Tree) → IsEqual t u → IsEqual u v → IsEqual t v
-equal-transitive t u v h k = (is_equal-IsEqual t v).0 (is_equal_equiv.congr t u v ((is_equal-IsEqual t u).1 h) ∙ (is_equal-IsEqual u v).1 k)
-
-items-symmetric : (o p : Option Tree) → AreEqualItems o p → AreEqualItems p o
-items-symmetric (Some t) (Some u) h = equal-symmetric t u h
-items-symmetric (Some t) None h = absurd h
-items-symmetric None p h = absurd h
-
-items-transitive : (o p q : Option Tree) → AreEqualItems o p → AreEqualItems p q → AreEqualItems o q
-items-transitive (Some t) (Some u) (Some v) h k = equal-transitive t u v h k
-items-transitive (Some t) (Some u) None h k = absurd k
-items-transitive (Some t) None q h k = absurd h
-items-transitive None p q h k = absurd h
-
 literal-symmetric : (l m : Literal) → SameLiteral l m → SameLiteral m l
-literal-symmetric l m h = items-symmetric (literal_item l) (literal_item m) h
+literal-symmetric l m h =
+    (literal-same m l).0 (is_same_literal_laws.symm m l ∙ (literal-same l m).1 h)
 
 literal-transitive : (l m n : Literal) → SameLiteral l m → SameLiteral m n → SameLiteral l n
-literal-transitive l m n h k = items-transitive (literal_item l) (literal_item m) (literal_item n) h k
+literal-transitive l m n h k =
+    (literal-same l n).0 (is_same_literal_laws.trans l m n ((literal-same l m).1 h) ((literal-same m n).1 k))
 
 -- ---- steps and expressions
 
@@ -42,7 +24,7 @@ mutual
   step-symmetric (whole_expression e) t h = sym h
   step-symmetric s t h = subst (λ x. SameStep x s) h refl
 
-  steps-symmetric : (ss ts : Steps) → SameSteps ss ts → SameSteps ts ss
+  steps-symmetric : (ss ts : Steps) → SameStepsBut SameLiteral ss ts → SameStepsBut SameLiteral ts ss
   steps-symmetric no_steps no_steps h = tt
   steps-symmetric (step s ss) (step t ts) h = (step-symmetric s t h.0, steps-symmetric ss ts h.1)
   steps-symmetric ss ts h = absurd h
@@ -66,7 +48,7 @@ mutual
   step-transitive (whole_expression e) t u h k = absurd (cc)
   step-transitive s t u h k = subst (λ x. SameStep x u) (sym h) k
 
-  steps-transitive : (ss ts us : Steps) → SameSteps ss ts → SameSteps ts us → SameSteps ss us
+  steps-transitive : (ss ts us : Steps) → SameStepsBut SameLiteral ss ts → SameStepsBut SameLiteral ts us → SameStepsBut SameLiteral ss us
   steps-transitive no_steps no_steps us h k = k
   steps-transitive (step s ss) (step t ts) (step u us) h k = (step-transitive s t u h.0 k.0, steps-transitive ss ts us h.1 k.1)
   steps-transitive (step s ss) (step t ts) no_steps h k = absurd k

@@ -8,14 +8,12 @@ use Rattle.std.proofs.Common.{refl, sym, ◌∙◌, ap}
 use Rattle.std.proofs.lemmas.Bool.Decides.{Decides-eqb, Decides-int_eq, Decides-and}
 use Rattle.std.proofs.lemmas.Option.{same_Some}
 use Rattle.std.proofs.lemmas.Slice.Eq.{slice_eq-Decides}
-use Rattle.jsonb_doc.specs.Proofs.Equality.{is_equal-IsEqual}
-use Rattle.jsonb_doc.specs.Tree.{Tree}
-use Rattle.jsonb.specs.PathEquality.{AreEqualItems, SameLiteral, SameStep, SameSteps, SameExpression}
+use Rattle.jsonb.specs.PathEquality.{SameLiteral, SameStep, SameStepsBut, SameExpression}
 use Rattle.jsonb.specs.PathText.{operator_text}
-use Rattle.jsonb.specs.PathTree.{Place, from_front, from_last, Entry, single, slice, LevelEnd, level, last_level, Levels, Literal, BinaryOp, and_op, or_op, eq, not_eq, lt, lte, gt, gte, starts_with_op, add, subtract, multiply, divide, modulo, UnaryOp, plus, minus, Step, root, current, dot_wildcard, recursive_dot_wildcard, bracket_wildcard, dot_field, colon_field, object_field, array_indices, filter, whole_expression, Steps, no_steps, step, Expression, paths, value, binary, unary, exists}
+use Rattle.jsonb.specs.PathTree.{Place, from_front, from_last, Entry, single, slice, LevelEnd, level, last_level, Levels, BinaryOp, and_op, or_op, eq, not_eq, lt, lte, gt, gte, starts_with_op, add, subtract, multiply, divide, modulo, UnaryOp, plus, minus, Step, root, current, dot_wildcard, recursive_dot_wildcard, bracket_wildcard, dot_field, colon_field, object_field, array_indices, filter, whole_expression, Steps, no_steps, step, Expression, paths, value, binary, unary, exists}
+use Rattle.jsonb.specs.Proofs.PathOrder.{literal-same}
 use Rattle.jsonb.specs.Proofs.SameParts.{step-symmetric, expression-symmetric, step-transitive, expression-transitive}
-use Rattle.jsonb.specs.SamePath.{is_same_place, is_same_entry, is_same_end, is_same_level, is_same_operator, is_same_sign, are_equal_items, is_same_literal, is_same_step, are_same_steps, is_same_expression}
-use Rattle.jsonb.specs.Values.{literal_item}
+use Rattle.jsonb.specs.SamePath.{is_same_place, is_same_entry, is_same_end, is_same_level, is_same_operator, is_same_sign, is_same_step, are_same_steps, is_same_expression}
 
 -- a constructor around both sides
 around : {A B : Type 0} (f : A → B) (x y : A) (b : Bool) → (f x ≡ f y → x ≡ y) → Decides b (x ≡ y) → Decides b (f x ≡ f y)
@@ -39,15 +37,23 @@ place-same (from_last i) (from_last j) = around from_last i j _ (λ e. cc) (Deci
 place-same (from_front i) (from_last j) = (λ h. cc, λ e. cc)
 place-same (from_last i) (from_front j) = (λ h. cc, λ e. cc)
 
+abbrev first_end : Entry → Place
+first_end (single p) = p
+first_end (slice ends) = ends.0
+
+abbrev last_end : Entry → Place
+last_end (single p) = p
+last_end (slice ends) = ends.1
+
 pub entry-same : (a b : Entry) → Decides (is_same_entry a b) (a ≡ b)
 entry-same (single p) (single q) = around single p q _ (λ e. cc) (place-same p q)
-entry-same (slice p q) (slice r s) =
+entry-same (slice (p, q)) (slice (r, s)) =
     let d = Decides-and (is_same_place p r) (is_same_place q s) (place-same p r) (place-same q s) in (
       λ h. (let parts = d.0 h in rw (parts.0, parts.1) refl),
-      λ e. (let first : p ≡ r = cc in let last : q ≡ s = cc in d.1 (first, last)),
+      λ e. d.1 (ap first_end e, ap last_end e),
     )
-entry-same (single p) (slice r s) = (λ h. cc, λ e. cc)
-entry-same (slice p q) (single r) = (λ h. cc, λ e. cc)
+entry-same (single p) (slice (r, s)) = (λ h. cc, λ e. cc)
+entry-same (slice (p, q)) (single r) = (λ h. cc, λ e. cc)
 
 pub end-same : (a b : LevelEnd) → Decides (is_same_end a b) (a ≡ b)
 end-same (level m) (level n) = around level m n _ (λ e. cc) (Decides-eqb m n)
@@ -86,14 +92,6 @@ sign-same plus plus = (λ h. refl, λ e. refl)
 sign-same minus minus = (λ h. refl, λ e. refl)
 sign-same plus minus = (λ h. cc, λ e. cc)
 sign-same minus plus = (λ h. cc, λ e. cc)
-
-items-same : (o p : Option Tree) → Decides (are_equal_items o p) (AreEqualItems o p)
-items-same (Some t) (Some u) = is_equal-IsEqual t u
-items-same (Some t) None = (λ h. cc, λ h. absurd h)
-items-same None p = (λ h. cc, λ h. absurd h)
-
-pub literal-same : (l m : Literal) → Decides (is_same_literal l m) (SameLiteral l m)
-literal-same l m = items-same (literal_item l) (literal_item m)
 
 -- ---- steps and expressions
 
@@ -138,7 +136,7 @@ mutual
   step-same (whole_expression e) (whole_expression f) = expression-same e f
   step-same s t = apart s t refl
 
-  pub steps-same : (ss ts : Steps) → Decides (are_same_steps ss ts) (SameSteps ss ts)
+  pub steps-same : (ss ts : Steps) → Decides (are_same_steps ss ts) (SameStepsBut SameLiteral ss ts)
   steps-same no_steps no_steps = (λ h. tt, λ e. refl)
   steps-same (step s ss) (step t ts) = Decides-and (is_same_step s t) (are_same_steps ss ts) (step-same s t) (steps-same ss ts)
   steps-same no_steps (step t ts) = (λ h. cc, λ h. absurd h)

@@ -2,7 +2,7 @@
 
 ghost use Rattle.std.specs.Prelude.{◌≡◌, ◌<◌, ◌≤◌, length, None, Some, IfOk, IfSome};
 ghost use Rattle.jsonb_keypath.specs.Views.{read_as};
-ghost use Rattle.jsonb.specs.PathViews.{operator_view, expression_view};
+ghost use Rattle.jsonb.specs.PathViews.{expression_view};
 ghost use Rattle.jsonb.specs.Private.Frames.{joined_view, partial_outcome, after_condition_outcome, after_condition_rest, IsPartial, IsAfterCondition};
 
 use super::token::separator_at;
@@ -121,7 +121,7 @@ fn join<'a>(
     next: Expr<'a>,
 ) -> Result<Expr<'a>, AllocError>
     ensures { IfOk result (λ found. expression_view found ≡
-        joined_view (operator_view op) before.entry (expression_view next.entry)) }
+        joined_view op before.entry (expression_view next.entry)) }
 {
     match before {
         None => Ok(next),

@@ -4,7 +4,6 @@ ghost use Rattle.std.specs.Prelude.{◌≡◌, map, IfOk};
 ghost use Rattle.jsonb.specs.PathGrammar.{negated, place, entry, entries, spaced_entry};
 ghost use Rattle.jsonb.specs.Private.Repeated.{another_entry, entry_list};
 ghost use Rattle.jsonb_keypath.specs.Views.{read_as, ConsumesInput};
-ghost use Rattle.jsonb.specs.PathViews.{place_view, entry_view};
 
 use super::Reading;
 use super::token::keyword_at;
@@ -21,7 +20,7 @@ fn negation(i: i32) -> i32
 
 #[tactic(auto, unfolding(crate::specs::PathGrammar::place))]
 fn place_at(input: &[u8]) -> Option<(Index, &[u8])>
-    ensures value { read_as place_view result ≡ place input.now }
+    ensures value { read_as (λ x. x) result ≡ place input.now }
     ensures shrinks { ConsumesInput input.now result }
 {
     if let Some((i, rest)) = int32(input) {
@@ -44,7 +43,7 @@ fn place_at(input: &[u8]) -> Option<(Index, &[u8])>
 
 #[tactic(auto, unfolding(crate::specs::PathGrammar::entry))]
 fn entry_at(input: &[u8]) -> Option<(ArrayIndex, &[u8])>
-    ensures value { read_as entry_view result ≡ entry input.now }
+    ensures value { read_as (λ x. x) result ≡ entry input.now }
     ensures shrinks { ConsumesInput input.now result }
 {
     let (first, rest) = place_at(input)?;
@@ -58,7 +57,7 @@ fn entry_at(input: &[u8]) -> Option<(ArrayIndex, &[u8])>
 
 #[tactic(auto, unfolding(crate::specs::PathGrammar::spaced_entry))]
 fn spaced_entry_at(input: &[u8]) -> Option<(ArrayIndex, &[u8])>
-    ensures value { read_as entry_view result ≡ spaced_entry input.now }
+    ensures value { read_as (λ x. x) result ≡ spaced_entry input.now }
     ensures shrinks { ConsumesInput input.now result }
 {
     let (found, rest) = entry_at(skip_space(input))?;
@@ -67,7 +66,7 @@ fn spaced_entry_at(input: &[u8]) -> Option<(ArrayIndex, &[u8])>
 
 /// Reads a comma and the subscript after it.
 fn another_entry_at(input: &[u8]) -> Option<(ArrayIndex, &[u8])>
-    ensures value { read_as entry_view result ≡ another_entry input.now }
+    ensures value { read_as (λ x. x) result ≡ another_entry input.now }
     ensures shrinks { ConsumesInput input.now result }
 {
     spaced_entry_at(literal(b",", input)?)
@@ -75,7 +74,7 @@ fn another_entry_at(input: &[u8]) -> Option<(ArrayIndex, &[u8])>
 
 fn entry_list_at(alloc: Global, input: &[u8]) -> Reading<'_, Vec<ArrayIndex>>
     ensures value { IfOk result (λ found.
-        read_as (λ entries. map entry_view entries.items) found ≡ entry_list input.now) }
+        read_as (λ entries. entries.items) found ≡ entry_list input.now) }
     ensures shrinks { IfOk result (ConsumesInput input.now) }
 {
     let Some((first, mut rest)) = spaced_entry_at(input) else {
@@ -93,7 +92,7 @@ fn entry_list_at(alloc: Global, input: &[u8]) -> Reading<'_, Vec<ArrayIndex>>
 #[tactic(auto, unfolding(crate::specs::PathGrammar::entries))]
 pub(super) fn entries_at(alloc: Global, input: &[u8]) -> Reading<'_, Vec<ArrayIndex>>
     ensures value { IfOk result (λ found.
-        read_as (λ entries. map entry_view entries.items) found ≡ entries input.now) }
+        read_as (λ entries. entries.items) found ≡ entries input.now) }
     ensures shrinks { IfOk result (ConsumesInput input.now) }
 {
     let Some(inside) = literal(b"[", input) else {

@@ -4,7 +4,7 @@ ghost use Rattle.std.specs.Prelude.{◌≡◌, ◌≤◌, ◌++◌, length, Some
 ghost use Rattle.jsonb_keypath.specs.Rules.{parsed_map, repeat};
 ghost use Rattle.jsonb.specs.PathGrammar.{level_end, levels, wildcard, named_field, bracket_field, inner, spaced_inner, path_step};
 ghost use Rattle.jsonb_keypath.specs.Views.{read_as, ConsumesInput};
-ghost use Rattle.jsonb.specs.PathViews.{end_view, levels_view, step_view, steps_view};
+ghost use Rattle.jsonb.specs.PathViews.{step_view, steps_view};
 
 use super::Reading;
 use super::index::entries_at;
@@ -15,7 +15,7 @@ use std::alloc::{AllocError, Global};
 
 #[tactic(auto, unfolding(crate::specs::PathGrammar::levels))]
 fn levels_at(input: &[u8]) -> Option<(RecursiveLevel, &[u8])>
-    ensures value { read_as levels_view result ≡ levels input.now }
+    ensures value { read_as (λ x. x) result ≡ levels input.now }
     ensures shrinks { ConsumesInput input.now result }
 {
     let inside = literal(b"{", input)?;
@@ -29,7 +29,7 @@ fn levels_at(input: &[u8]) -> Option<(RecursiveLevel, &[u8])>
 }
 
 fn level_end_at(input: &[u8]) -> Option<(RecursiveLevelEnd, &[u8])>
-    ensures value { read_as end_view result ≡ level_end input.now }
+    ensures value { read_as (λ x. x) result ≡ level_end input.now }
     ensures shrinks { ConsumesInput input.now result }
 {
     let after = skip_space(keyword_at(b"to", skip_space(input))?);

@@ -5,7 +5,7 @@ ghost use Rattle.jsonb_keypath.specs.Rules.{parsed_map, repeat};
 ghost use Rattle.jsonb.specs.PathGrammar.{path_root, literal_value, operand_steps, operand, spaced_operand, operator, arithmetic_operator, unary_operator, unary_atom, binary_atom, path_step, plain_path};
 ghost use Rattle.jsonb.specs.Private.Frames.{operation};
 ghost use Rattle.jsonb_keypath.specs.Views.{read_as, ConsumesInput};
-ghost use Rattle.jsonb.specs.PathViews.{literal_view, operator_view, sign_view, step_view, steps_view, expression_view};
+ghost use Rattle.jsonb.specs.PathViews.{literal_view, step_view, steps_view, expression_view};
 
 use super::Reading;
 use super::inner_path::inner_steps_at;
@@ -26,7 +26,7 @@ macro_rules! return_first_of {
 
 #[tactic(auto, unfolding(crate::specs::PathGrammar::operator))]
 pub(super) fn operator_at(input: &[u8]) -> Option<(BinaryOperator, &[u8])>
-    ensures value { read_as operator_view result ≡ operator input.now }
+    ensures value { read_as (λ x. x) result ≡ operator input.now }
     ensures shrinks { ConsumesInput input.now result }
 {
     return_first_of! {
@@ -41,7 +41,7 @@ pub(super) fn operator_at(input: &[u8]) -> Option<(BinaryOperator, &[u8])>
 
 #[tactic(auto, unfolding(crate::specs::PathGrammar::arithmetic_operator))]
 fn arithmetic_operator_at(input: &[u8]) -> Option<(BinaryOperator, &[u8])>
-    ensures value { read_as operator_view result ≡ arithmetic_operator input.now }
+    ensures value { read_as (λ x. x) result ≡ arithmetic_operator input.now }
     ensures shrinks { ConsumesInput input.now result }
 {
     return_first_of! {
@@ -54,7 +54,7 @@ fn arithmetic_operator_at(input: &[u8]) -> Option<(BinaryOperator, &[u8])>
 
 #[tactic(auto, unfolding(crate::specs::PathGrammar::unary_operator))]
 pub(super) fn unary_operator_at(input: &[u8]) -> Option<(UnaryOperator, &[u8])>
-    ensures value { read_as sign_view result ≡ unary_operator input.now }
+    ensures value { read_as (λ x. x) result ≡ unary_operator input.now }
     ensures shrinks { ConsumesInput input.now result }
 {
     return_first_of! {
@@ -205,7 +205,7 @@ pub(super) fn operation_at(
     input: &[u8],
 ) -> Reading<'_, (BinaryOperator, Expr<'_>)>
     ensures value { IfOk result (λ found.
-        read_as (λ p. (operator_view p.0, expression_view p.1)) found ≡ operation is_in_filter input.now) }
+        read_as (λ p. (p.0, expression_view p.1)) found ≡ operation is_in_filter input.now) }
     ensures shrinks { IfOk result (ConsumesInput input.now) }
 {
     let Some((op, rest)) = operator_at(input) else {

@@ -1,14 +1,14 @@
 //! Equality and order of steps, expressions and literals.
 
 ghost use Rattle.std.specs.Prelude.{◌≡◌};
-ghost use Rattle.std.specs.Cmp.{on_per};
-ghost use Rattle.jsonb.specs.PathOrder.{path_value_order, path_value_equal};
+ghost use Rattle.std.specs.Cmp.{on_per, on_po};
+ghost use Rattle.jsonb.specs.PathEquality.{literal_order};
 ghost use Rattle.jsonb.specs.PathTree.{steps_of};
 ghost use Rattle.jsonb.specs.Private.Last.{is_same_opening, are_same_before, is_same_before};
-ghost use Rattle.jsonb.specs.PathViews.{step_view, steps_view, expression_view};
-ghost use Rattle.jsonb.specs.Proofs.PathOrder.{path_value_order_laws, path_value_equal_laws};
+ghost use Rattle.jsonb.specs.PathViews.{step_view, steps_view, expression_view, literal_view};
+ghost use Rattle.jsonb.specs.Proofs.PathOrder.{literal_order_laws, is_same_literal_laws};
 ghost use Rattle.jsonb.specs.Proofs.SamePath.{is_same_step_laws, is_same_expression_laws};
-ghost use Rattle.jsonb.specs.SamePath.{is_same_step, are_same_steps, is_same_expression};
+ghost use Rattle.jsonb.specs.SamePath.{is_same_step, are_same_steps, is_same_expression, is_same_literal, path_value_order};
 
 use super::last::{is_filter, last_of};
 use super::{Expr, Path, PathValue};
@@ -163,9 +163,9 @@ fn same_chain(expression: &Expr<'_>, other: &Expr<'_>) -> bool
 /// Equal if and only if `partial_cmp` returns `Equal`. A document equals nothing, not even itself, so there is no
 /// `Eq`.
 impl PartialEq for PathValue<'_> {
-    ghost eq = { path_value_equal };
+    ghost eq = { λ l m. is_same_literal (literal_view l) (literal_view m) };
 
-    ghost laws = { path_value_equal_laws };
+    ghost laws = { on_per literal_view is_same_literal_laws };
 
     fn eq(&self, other: &Self) -> bool {
         match order(self, other) {
@@ -178,9 +178,9 @@ impl PartialEq for PathValue<'_> {
 /// Null equals null, false is less than true, numbers compare by exact value, and strings by their bytes. Two
 /// literals of different types are not ordered, and a document is not ordered with anything.
 impl PartialOrd for PathValue<'_> {
-    ghost partial_cmp = { path_value_order };
+    ghost partial_cmp = { λ l m. literal_order (literal_view l) (literal_view m) };
 
-    ghost laws = { path_value_order_laws };
+    ghost laws = { on_po literal_view literal_order_laws };
 
     fn partial_cmp(&self, other: &Self) -> Option<Ordering> {
         order(self, other)

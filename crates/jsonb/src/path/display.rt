@@ -8,7 +8,7 @@ ghost use Rattle.jsonb.specs.PathTree.{steps_of};
 ghost use Rattle.jsonb.specs.Private.ChainText.{parenthesis, front_text, fronts_text, link_text, links_text};
 ghost use Rattle.jsonb.specs.Private.EntriesText.{other_entry_text};
 ghost use Rattle.jsonb.specs.Private.Last.{down, step_before, steps_before, text_before, between_text, closing};
-ghost use Rattle.jsonb.specs.PathViews.{place_view, entry_view, levels_view, operator_view, sign_view, literal_view, step_view, steps_view, expression_view, path_view};
+ghost use Rattle.jsonb.specs.PathViews.{literal_view, step_view, steps_view, expression_view, path_view};
 
 use super::chain::{below, left_of, links_of};
 use super::last::{ends_in_filter, last_of};
@@ -308,7 +308,7 @@ fn write_array_indices<W: fmt::Write>(
     f: &mut fmt::Formatter<W>,
 ) -> fmt::Result
     ensures { WritesOnOk W.write_str_gives f.old result
-        (codes "[" ++ entries_text (map entry_view indices.now.items) ++ codes "]") f.new }
+        (codes "[" ++ entries_text indices.now.items ++ codes "]") f.new }
 {
     f.write_str("[")?;
     if let Some((first, rest)) = indices.split_first() {
@@ -320,7 +320,7 @@ fn write_array_indices<W: fmt::Write>(
 
 /// Writes each subscript after a comma and a space.
 fn write_others<W: fmt::Write>(entries: &[ArrayIndex], f: &mut fmt::Formatter<W>) -> fmt::Result
-    ensures { WritesOnOk W.write_str_gives f.old result (flat_map other_entry_text (map entry_view entries.now)) f.new }
+    ensures { WritesOnOk W.write_str_gives f.old result (flat_map other_entry_text entries.now) f.new }
 {
     for entry in entries {
         write!(f, ", {entry}")?;
@@ -329,7 +329,7 @@ fn write_others<W: fmt::Write>(entries: &[ArrayIndex], f: &mut fmt::Formatter<W>
 }
 
 impl fmt::Display for Index {
-    ghost output = { λ i. Some (place_text (place_view i)) };
+    ghost output = { λ i. Some (place_text i) };
 
     fn fmt<W: fmt::Write>(&self, f: &mut fmt::Formatter<W>) -> fmt::Result {
         match self {
@@ -354,7 +354,7 @@ fn write_last<W: fmt::Write>(offset: i32, f: &mut fmt::Formatter<W>) -> fmt::Res
 }
 
 impl fmt::Display for ArrayIndex {
-    ghost output = { λ e. Some (entry_text (entry_view e)) };
+    ghost output = { λ e. Some (entry_text e) };
 
     fn fmt<W: fmt::Write>(&self, f: &mut fmt::Formatter<W>) -> fmt::Result {
         match self {
@@ -365,7 +365,7 @@ impl fmt::Display for ArrayIndex {
 }
 
 impl fmt::Display for RecursiveLevel {
-    ghost output = { λ l. Some (level_text (levels_view l)) };
+    ghost output = { λ l. Some (level_text l) };
 
     fn fmt<W: fmt::Write>(&self, f: &mut fmt::Formatter<W>) -> fmt::Result {
         let start = self.start;
@@ -420,7 +420,7 @@ fn write_hex_byte<W: fmt::Write>(byte: u8, f: &mut fmt::Formatter<W>) -> fmt::Re
 }
 
 impl fmt::Display for BinaryOperator {
-    ghost output = { λ op. Some (operator_text (operator_view op)) };
+    ghost output = { λ op. Some (operator_text op) };
 
     fn fmt<W: fmt::Write>(&self, f: &mut fmt::Formatter<W>) -> fmt::Result {
         f.write_str(match self {
@@ -443,7 +443,7 @@ impl fmt::Display for BinaryOperator {
 }
 
 impl fmt::Display for UnaryOperator {
-    ghost output = { λ op. Some (sign_text (sign_view op)) };
+    ghost output = { λ op. Some (sign_text op) };
 
     fn fmt<W: fmt::Write>(&self, f: &mut fmt::Formatter<W>) -> fmt::Result {
         f.write_str(match self {

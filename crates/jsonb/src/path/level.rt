@@ -2,7 +2,6 @@
 
 ghost use Rattle.std.specs.Prelude.{◌≡◌};
 ghost use Rattle.jsonb.specs.LevelTable.{level_answer};
-ghost use Rattle.jsonb.specs.PathViews.{levels_view};
 
 use super::{RecursiveLevel, RecursiveLevelEnd};
 
@@ -24,7 +23,7 @@ impl RecursiveLevel {
     /// is_selected
     /// ```
     pub fn check_recursive_level(&self, level: u8) -> (bool, bool)
-        ensures { result ≡ level_answer (levels_view self.now) level }
+        ensures { result ≡ level_answer self.now level }
     {
         let is_below = level < self.start;
         match self.end {

@@ -3,7 +3,6 @@
 ghost use Rattle.std.specs.Prelude.{◌≡◌, ◌<◌, ◌≤◌, ◌↔◌, ℕ, pos, ◌≤ℤ◌, ◌<ℤ◌, IsTrue, nat_eq, MatchResult};
 ghost use Rattle.std.specs.HashSet.{contains};
 ghost use Rattle.jsonb_doc.specs.Answer.{IsOutOfMemory};
-ghost use Rattle.jsonb.specs.PathViews.{place_view, entry_view};
 ghost use Rattle.jsonb.specs.Positions.{position, IsPosition};
 ghost use Rattle.jsonb.specs.Private.Positions.{IsBetween};
 
@@ -34,7 +33,7 @@ impl ArrayIndex {
     /// ```
     pub fn to_indices(&self, alloc: Global, length: usize) -> Result<HashSet<usize>, Error>
         ensures { MatchResult result (λ found. (k : ℕ) →
-            IsTrue (contains nat_eq found k) ↔ IsPosition (entry_view self.now) length k) IsOutOfMemory }
+            IsTrue (contains nat_eq found k) ↔ IsPosition self.now length k) IsOutOfMemory }
     {
         let (start, end) = self.bounds(length);
         let mut found = HashSet::with_capacity(alloc, end - start)?;
@@ -49,7 +48,7 @@ impl ArrayIndex {
     pub(crate) fn bounds(&self, length: usize) -> (usize, usize)
         ensures within { (result.0 ≤ result.1) × (result.1 ≤ length) }
         ensures meant { (k : ℕ) → k < length
-            → ((result.0 ≤ k) × (k < result.1)) ↔ IsPosition (entry_view self.now) length k }
+            → ((result.0 ≤ k) × (k < result.1)) ↔ IsPosition self.now length k }
     {
         match self {
             ArrayIndex::Index(index) => {
@@ -68,7 +67,7 @@ impl ArrayIndex {
 impl Index {
     /// Returns the number of the position in an array of this length.
     fn position(&self, length: usize) -> i128
-        ensures { result ≡ position length (place_view self.now) }
+        ensures { result ≡ position length self.now }
     {
         match self {
             Index::Index(i) => i128::from(*i),

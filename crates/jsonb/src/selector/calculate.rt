@@ -5,7 +5,6 @@ ghost use Rattle.jsonb_doc.specs.Answer.{Refines, try_flat_map, IsOutOfMemory};
 ghost use Rattle.jsonb_doc.specs.Arithmetic.{Operation, calculated, IsResultOf};
 ghost use Rattle.jsonb_doc.specs.View.{number_view};
 ghost use Rattle.jsonb.specs.PathArithmetic.{operation, two_numbers, signed_number, each_signed};
-ghost use Rattle.jsonb.specs.PathViews.{operator_view, sign_view};
 ghost use Rattle.std.specs.List.{AllZip};
 ghost use Rattle.jsonb.specs.Private.Selection.{value_view, only_number, is_number, are_numbers, signed_value, IsNumberTree, IsNumberItem};
 ghost use Rattle.jsonb.specs.SelectionErrors.{IsPathError, IsSelectionError};
@@ -18,7 +17,7 @@ use std::alloc::Global;
 
 /// Returns `true` if the operator is arithmetic.
 pub(crate) fn is_arithmetic(op: BinaryOperator) -> bool
-    ensures { result ≡ is_some (operation (operator_view op)) }
+    ensures { result ≡ is_some (operation op) }
 {
     matches!(
         op,
@@ -32,7 +31,7 @@ pub(crate) fn is_arithmetic(op: BinaryOperator) -> bool
 
 /// Applies an operator to two numbers. Fails if it is not arithmetic.
 fn calculate(op: BinaryOperator, left: Number, right: Number) -> Result<Number, Error>
-    ensures meant { (o : Operation) → operation (operator_view op) ≡ Some o
+    ensures meant { (o : Operation) → operation op ≡ Some o
         → IsResultOf (calculated o (number_view left) (number_view right)) result }
     ensures errors { (mode : Mode) → IfErr result (IsPathError mode) }
 {
@@ -63,7 +62,7 @@ pub(crate) fn binary_number(
     left: &[OperandValue<'_>],
     right: &[OperandValue<'_>],
 ) -> Result<Number, Error>
-    ensures meant { (o : Operation) → operation (operator_view op) ≡ Some o
+    ensures meant { (o : Operation) → operation op ≡ Some o
         → Refines IsNumberTree (λ _. ⊥) result (two_numbers o (map value_view left.now) (map value_view right.now)) }
     ensures errors { (mode : Mode) → IfErr result (IsPathError mode) }
 {
@@ -102,7 +101,7 @@ fn is_number(value: &OperandValue<'_>) -> bool
 /// Applies a sign to a number.
 #[inline(always)]
 fn signed(op: UnaryOperator, number: Number) -> Result<Number, Error>
-    ensures meant { Refines IsNumberTree (λ _. ⊥) result (signed_number (sign_view op) (number_view number)) }
+    ensures meant { Refines IsNumberTree (λ _. ⊥) result (signed_number op (number_view number)) }
     ensures errors { (mode : Mode) → IfErr result (IsPathError mode) }
 {
     match op {
@@ -114,7 +113,7 @@ fn signed(op: UnaryOperator, number: Number) -> Result<Number, Error>
 /// Applies a sign to each number in place, from left to right.
 pub(crate) fn sign_each(op: UnaryOperator, numbers: &mut [Number]) -> Result<(), Error>
     ensures meant { Refines (λ _ ts. AllZip IsNumberItem numbers.new ts) IsOutOfMemory result
-        (try_flat_map (signed_number (sign_view op)) (map number_view numbers.old)) }
+        (try_flat_map (signed_number op) (map number_view numbers.old)) }
     ensures errors { (mode : Mode) → IfErr result (IsSelectionError mode) }
 {
     for number in numbers.iter_mut() {
@@ -126,7 +125,7 @@ pub(crate) fn sign_each(op: UnaryOperator, numbers: &mut [Number]) -> Result<(),
 /// Applies a sign to a value. Fails with `InvalidJsonPath` if it is not a number.
 #[inline(always)]
 fn signed_value(op: UnaryOperator, value: &OperandValue<'_>) -> Result<Number, Error>
-    ensures meant { Refines IsNumberTree (λ _. ⊥) result (signed_value (sign_view op) (value_view value.now)) }
+    ensures meant { Refines IsNumberTree (λ _. ⊥) result (signed_value op (value_view value.now)) }
     ensures errors { (mode : Mode) → IfErr result (IsPathError mode) }
 {
     match value {
@@ -143,7 +142,7 @@ fn each_signed(
     values: &[OperandValue<'_>],
 ) -> Result<Vec<Number>, Error>
     ensures meant { Refines (λ v ts. AllZip IsNumberItem v.items ts) IsOutOfMemory result
-        (try_flat_map (signed_value (sign_view op)) (map value_view values.now)) }
+        (try_flat_map (signed_value op) (map value_view values.now)) }
     ensures errors { (mode : Mode) → IfErr result (IsSelectionError mode) }
 {
     let mut numbers = Vec::with_capacity(alloc, values.len())?;
@@ -161,7 +160,7 @@ pub(crate) fn unary_numbers(
     values: &[OperandValue<'_>],
 ) -> Result<Vec<Number>, Error>
     ensures meant { Refines (λ v ts. AllZip IsNumberItem v.items ts) IsOutOfMemory result
-        (each_signed (sign_view op) (map value_view values.now)) }
+        (each_signed op (map value_view values.now)) }
     ensures errors { (mode : Mode) → IfErr result (IsSelectionError mode) }
 {
     if are_numbers(values) {

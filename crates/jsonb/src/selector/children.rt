@@ -7,7 +7,7 @@ ghost use Rattle.jsonb_doc.specs.Spots.{Locates, HasSpotsLeft, spots_bound};
 ghost use Rattle.jsonb_doc.specs.Tree.{Tree};
 ghost use Rattle.jsonb_raw.specs.Arrays.{array_values};
 ghost use Rattle.jsonb.specs.PathTree.{single, from_front};
-ghost use Rattle.jsonb.specs.PathViews.{entry_view, step_view};
+ghost use Rattle.jsonb.specs.PathViews.{step_view};
 ghost use Rattle.std.specs.List.{AllZip};
 ghost use Rattle.jsonb.specs.ItemSteps.{values_of, field_step, values_step, elements_step, indices_step, picked_by, picked};
 ghost use Rattle.jsonb.specs.Meaning.{step_meaning};
@@ -179,7 +179,7 @@ pub(crate) fn push_positions(
     nodes: &mut Vec<Spot>,
 ) -> Result<(), Error>
     ensures meant { PushesStep bytes.now item nodes.old.items nodes.new.items result
-        (indices_step mode (map entry_view entries.now)) }
+        (indices_step mode entries.now) }
     ensures errors { IfErr result (IsSelectionError mode) }
 {
     match elements(bytes, item)? {
@@ -199,7 +199,7 @@ fn push_picked(
     ensures meant { (bytes : List ℕ) (ts before : List Tree) → HasSpotsLeft bytes elements.entry ts
         → AllZip (Locates bytes) nodes.old.items before
         → Refines (λ _ us. AllZip (Locates bytes) nodes.new.items (before ++ us)) IsOutOfMemory result
-        (Ok (picked (map entry_view entries.now) ts)) }
+        (Ok (picked entries.now ts)) }
     ensures errors { IfErr result (IsDecodingError or OutOfMemory) }
 {
     if let Some(position) = plain_index(entries) {
@@ -212,7 +212,7 @@ fn push_picked(
 
 /// Returns the position of a single index that counts from the start.
 fn plain_index(entries: &[ArrayIndex]) -> Option<usize>
-    ensures { MatchOption result ⊤ (λ k. map entry_view entries.now ≡ single (from_front (pos k)) ∷ []) }
+    ensures { MatchOption result ⊤ (λ k. entries.now ≡ single (from_front (pos k)) ∷ []) }
 {
     match entries {
         [ArrayIndex::Index(Index::Index(at))] if *at >= 0 => Some(*at as usize),
@@ -248,7 +248,7 @@ fn push_entries(
     ensures meant { (bytes : List ℕ) (ts before : List Tree) → AllZip (Locates bytes) elements.now ts
         → AllZip (Locates bytes) nodes.old.items before
         → Refines (λ _ us. AllZip (Locates bytes) nodes.new.items (before ++ us)) IsOutOfMemory result
-        (Ok (picked (map entry_view entries.now) ts)) }
+        (Ok (picked entries.now ts)) }
     ensures errors { IfErr result (IsDecodingError or OutOfMemory) }
 {
     for entry in entries {
@@ -262,7 +262,7 @@ fn push_entry(entry: &ArrayIndex, elements: &[Spot], nodes: &mut Vec<Spot>) -> R
     ensures meant { (bytes : List ℕ) (ts before : List Tree) → AllZip (Locates bytes) elements.now ts
         → AllZip (Locates bytes) nodes.old.items before
         → Refines (λ _ us. AllZip (Locates bytes) nodes.new.items (before ++ us)) IsOutOfMemory result
-        (Ok (picked_by (entry_view entry.now) ts)) }
+        (Ok (picked_by entry.now ts)) }
     ensures errors { IfErr result IsOutOfMemory }
 {
     let (start, end) = entry.bounds(elements.len());

@@ -16,7 +16,7 @@ ghost use Rattle.jsonb.specs.declared.selector.document.Mode.TheVariants.{Lax};
 
 use super::compared_member::{compared_member, item_truth, literal_truth};
 use super::compile::literal_of;
-use super::document::{Context, Current, Document, Expressions, Mode, TruthResult};
+use super::document::{Context, Current, Document, Expressions, Mode, Repeats, TruthResult};
 use super::filter_cache::is_comparison;
 use super::members::is_member;
 use super::plan::MemberCompared;
@@ -111,7 +111,13 @@ fn list_compared_truth<'a>(
         document: *document,
     };
     let all = Expressions::AreRefused;
-    let found = select_steps(&context, all, list.front, document.root)?;
+    let found = select_steps(
+        &context,
+        all,
+        Repeats::AreDropped,
+        list.front,
+        document.root,
+    )?;
     items_truth(&list.comparison, document.bytes, found.as_slice())
 }
 

@@ -6,7 +6,7 @@ ghost use Rattle.jsonb_doc.specs.Answer.{Refines, and_then, IsOutOfMemory, IsDec
 ghost use Rattle.jsonb_doc.specs.Spots.{Locates, HasSpotsLeft};
 ghost use Rattle.jsonb_doc.specs.Tree.{Tree};
 ghost use Rattle.jsonb.specs.PathTree.{Expression, steps_of, paths};
-ghost use Rattle.jsonb.specs.PathViews.{steps_view, operator_view};
+ghost use Rattle.jsonb.specs.PathViews.{steps_view};
 ghost use Rattle.jsonb.specs.Compare.{compare};
 ghost use Rattle.jsonb.specs.Values.{values_of_item, value_of_item};
 ghost use Rattle.jsonb.specs.Meaning.{steps_meaning, operand_values, truth};
@@ -97,7 +97,7 @@ pub(crate) fn member_truth(
         → HasTree current.entry.context.now.document top → IsAt current.entry.context.now.document current.entry.item t
         → Refines (λ b c. b ≡ c) IsOutOfMemory result
         (and_then (operand_values current.entry.context.now.mode (paths (steps_of (steps_view steps.now))) top t)
-        (λ ls. Ok (compare (operator_view op) ls (map value_view rights.now)))) }
+        (λ ls. Ok (compare op ls (map value_view rights.now)))) }
     ensures errors { IfErr result (IsSelectionError current.entry.context.now.mode) }
 {
     let Current { context, item } = current;
@@ -116,7 +116,7 @@ pub(crate) fn found_truth(
 ) -> TruthResult
     ensures meant { (ts : List Tree) → AllZip (Locates bytes.now) (option_spots member) ts
         → Refines (λ b c. b ≡ c) IsOutOfMemory result
-        (Ok (compare (operator_view op) (flat_map values_of_item ts) (map value_view rights.now))) }
+        (Ok (compare op (flat_map values_of_item ts) (map value_view rights.now))) }
     ensures errors { IfErr result IsDecodingError }
 {
     match member {
@@ -135,7 +135,7 @@ pub(crate) fn compared_truth(
 ) -> TruthResult
     ensures meant { (t : Tree) → Locates bytes.now item t
         → Refines (λ b c. b ≡ c) IsOutOfMemory result
-        (Ok (compare (operator_view op) (values_of_item t) (map value_view rights.now))) }
+        (Ok (compare op (values_of_item t) (map value_view rights.now))) }
     ensures errors { IfErr result IsDecodingError }
 {
     match spot_number(bytes, item)? {
@@ -154,7 +154,7 @@ fn other_truth(
 ) -> TruthResult
     ensures meant { (t : Tree) → Locates bytes.now item t
         → Refines (λ b c. b ≡ c) IsOutOfMemory result
-        (Ok (compare (operator_view op) (values_of_item t) (map value_view rights.now))) }
+        (Ok (compare op (values_of_item t) (map value_view rights.now))) }
     ensures errors { IfErr result IsDecodingError }
 {
     match elements(bytes, item)? {
@@ -172,7 +172,7 @@ fn elements_truth(
 ) -> TruthResult
     ensures meant { (ts : List Tree) → HasSpotsLeft bytes.now elements.entry ts
         → Refines (λ b c. b ≡ c) IsOutOfMemory result
-        (Ok (compare (operator_view op) (flat_map value_of_item ts) (map value_view rights.now))) }
+        (Ok (compare op (flat_map value_of_item ts) (map value_view rights.now))) }
     ensures errors { IfErr result IsDecodingError }
 {
     for element in elements {
@@ -194,7 +194,7 @@ fn element_truth(
 ) -> TruthResult
     ensures meant { (t : Tree) → Locates bytes.now item t
         → Refines (λ b c. b ≡ c) IsOutOfMemory result
-        (Ok (compare (operator_view op) (value_of_item t) (map value_view rights.now))) }
+        (Ok (compare op (value_of_item t) (map value_view rights.now))) }
     ensures errors { IfErr result IsDecodingError }
 {
     let stored = spot_value(bytes, item)?;

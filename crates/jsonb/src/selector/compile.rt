@@ -4,7 +4,7 @@ ghost use Rattle.std.specs.Prelude.{◌≡◌, ◌<◌, ◌+◌, ◌++◌, ◌�
 ghost use Rattle.jsonb_doc.specs.Answer.{IsOutOfMemory};
 ghost use Rattle.jsonb_doc.specs.Tree.{Tree};
 ghost use Rattle.jsonb.specs.PathTree.{steps_of, step, current, paths, binary, exists};
-ghost use Rattle.jsonb.specs.PathViews.{expression_view, operator_view, steps_view};
+ghost use Rattle.jsonb.specs.PathViews.{expression_view, steps_view};
 ghost use Rattle.jsonb.specs.Meaning.{operand_values};
 ghost use Rattle.jsonb.specs.Private.Compared.{mirrored};
 ghost use Rattle.jsonb.specs.Private.Jumps.{Branch};
@@ -222,8 +222,8 @@ fn comparison_of<'s, 'p>(
     left: &'s Expr<'p>,
     right: &'s Expr<'p>,
 ) -> Option<Question<'s, 'p>>
-    ensures { is_comparison (operator_view op) ≡ true → MatchOption result ⊤ (λ question. IsPlainQuestionOf question
-        (binary (operator_view op) (expression_view left.now) (expression_view right.now))) }
+    ensures { is_comparison op ≡ true → MatchOption result ⊤ (λ question. IsPlainQuestionOf question
+        (binary op (expression_view left.now) (expression_view right.now))) }
 {
     match (names_of(left), names_of(right)) {
         (Some(names), None) => {
@@ -248,7 +248,7 @@ fn comparison_of<'s, 'p>(
 
 /// Returns the operator that compares two values as `op` does with its sides exchanged.
 fn mirrored(op: BinaryOperator) -> Option<BinaryOperator>
-    ensures { option_map operator_view result ≡ mirrored (operator_view op) }
+    ensures { result ≡ mirrored op }
 {
     match op {
         BinaryOperator::Eq => Some(BinaryOperator::Eq),

@@ -28,6 +28,15 @@ pub(crate) enum Expressions {
     AreRefused,
 }
 
+/// What a list contains of an item that is selected again.
+#[derive(Clone, Copy)]
+pub(crate) enum Repeats {
+    /// The item again, as in a selection.
+    AreKept,
+    /// Nothing, as within a comparison or `exists`: only the first item of each kind matters there.
+    AreDropped,
+}
+
 /// The context in which a path is evaluated.
 #[derive(Clone, Copy)]
 pub(crate) struct Context<'a> {

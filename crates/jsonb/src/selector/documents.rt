@@ -47,7 +47,7 @@ fn array_of_one(alloc: Global, item: &Item<'_>) -> Result<Vec<u8>, Error>
 
 /// Returns a number as a document.
 #[inline(always)]
-fn number_document(alloc: Global, number: Number) -> Result<OwnedJsonb, Error>
+pub(crate) fn number_document(alloc: Global, number: Number) -> Result<OwnedJsonb, Error>
     ensures document { (form : Form) (t : Tree) → IsNumberItem number t → Makes form t result }
     ensures errors { IfErr result (IsOutOfMemory or TooLarge) }
 {
@@ -55,7 +55,7 @@ fn number_document(alloc: Global, number: Number) -> Result<OwnedJsonb, Error>
 }
 
 /// Returns the result of an expression as a document.
-fn made_document(alloc: Global, part: &MadeItem<'_>) -> Result<OwnedJsonb, Error>
+pub(crate) fn made_document(alloc: Global, part: &MadeItem<'_>) -> Result<OwnedJsonb, Error>
     ensures document { (form : Form) (t : Tree) → IsMadeItem form part.now t → Makes form t result }
     ensures errors { IfErr result (IsOutOfMemory or TooLarge) }
 {

@@ -1,11 +1,12 @@
 //! What a filter caches from one item of a list to the next: its parts that begin at the root.
 
-ghost use Rattle.std.specs.Prelude.{◌≡◌, ◌∷◌, List, Ok, Some, None, true, MatchOption, OnOk, IfErr};
+ghost use Rattle.std.specs.Prelude.{◌≡◌, ◌∷◌, List, Ok, Some, None, true, MatchOption, OnOk, IfErr, IsOkAnd};
 ghost use Rattle.jsonb_doc.specs.Answer.{IsOutOfMemory};
 ghost use Rattle.jsonb_doc.specs.Tree.{Tree};
 ghost use Rattle.jsonb.specs.PathTree.{Expression, BinaryOp, binary, exists, steps_of};
-ghost use Rattle.jsonb.specs.PathViews.{expression_view, operator_view, steps_view};
+ghost use Rattle.jsonb.specs.PathViews.{expression_view, steps_view};
 ghost use Rattle.jsonb.specs.Meaning.{truth, operand_values, filtered};
+ghost use Rattle.jsonb.specs.Private.Alike.{AreAlike};
 ghost use Rattle.jsonb.specs.Private.Selection.{values_view, is_relative, IsKept};
 ghost use Rattle.jsonb.specs.Private.FilterCache.{AreKept, IsSame, kept_part, is_condition, is_comparison, is_fixed};
 ghost use Rattle.jsonb.specs.declared.selector.document.Mode.{Mode};
@@ -120,8 +121,8 @@ pub(crate) fn comparison_part<'a>(
 ) -> CachedPart<'a>
     ensures { (mode : Mode) (top t : Tree) (op : BinaryOp)
         → is_condition (binary op (expression_view left.now) (expression_view right.now)) ≡ true
-        → operand_values mode (expression_view left.now) top t ≡ Ok (values_view lefts.entry)
-        → operand_values mode (expression_view right.now) top t ≡ Ok (values_view rights.entry)
+        → IsOkAnd (operand_values mode (expression_view left.now) top t) (AreAlike (values_view lefts.entry))
+        → IsOkAnd (operand_values mode (expression_view right.now) top t) (AreAlike (values_view rights.entry))
         → truth mode (binary op (expression_view left.now) (expression_view right.now)) top t ≡ Ok answer
         → IsSame mode top result (binary op (expression_view left.now) (expression_view right.now)) }
 {
@@ -181,7 +182,7 @@ pub(crate) fn is_true(truth: Option<bool>) -> bool
 /// Returns `true` if the operator compares values.
 #[inline(always)]
 pub(crate) fn is_comparison(op: BinaryOperator) -> bool
-    ensures { result ≡ is_comparison (operator_view op) }
+    ensures { result ≡ is_comparison op }
 {
     match op {
         BinaryOperator::Eq

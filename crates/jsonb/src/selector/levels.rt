@@ -6,7 +6,6 @@ ghost use Rattle.jsonb_doc.specs.declared.error.Error.TheVariants.{OutOfMemory};
 ghost use Rattle.jsonb_doc.specs.Spots.{Locates, HasSpotsLeft, spot_size, spots_room, spots_bound};
 ghost use Rattle.jsonb_doc.specs.Tree.{Tree};
 ghost use Rattle.jsonb.specs.PathTree.{Levels};
-ghost use Rattle.jsonb.specs.PathViews.{levels_view};
 ghost use Rattle.std.specs.List.{AllZip};
 ghost use Rattle.jsonb.specs.Preorder.{answer_at, taken_item, preorder};
 ghost use Rattle.jsonb.specs.Private.Below.{AreBelow, KeepsLevel, PassesLeaves, AreLevelsOf};
@@ -25,12 +24,11 @@ struct LevelRange {
 
 impl LevelRange {
     ghost use Rattle.std.specs.Prelude.{◌≡◌, ◌&&◌, nat_le, option_map};
-    ghost use Rattle.jsonb.specs.PathViews.{levels_view};
     ghost use Rattle.jsonb.specs.Private.Below.{AreLevelsOf};
 
     /// Returns the levels of a step: without levels all.
     fn of_step(levels: Option<RecursiveLevel>) -> LevelRange
-        ensures { AreLevelsOf (option_map levels_view levels) result }
+        ensures { AreLevelsOf levels result }
     {
         let Some(RecursiveLevel { start, end }) = levels else {
             return LevelRange {
@@ -82,7 +80,7 @@ pub(crate) fn push_levels(
     ensures meant { (t : Tree) (n : ℕ) (before : List Tree) → level ≡ min n 256 → Locates bytes.now item t
         → AllZip (Locates bytes.now) nodes.old.items before
         → Refines (λ _ ts. AllZip (Locates bytes.now) nodes.new.items (before ++ ts))
-        IsOutOfMemory result (Ok (preorder (option_map levels_view levels) n t)) }
+        IsOutOfMemory result (Ok (preorder levels n t)) }
     ensures errors { IfErr result (IsDecodingError or OutOfMemory) }
 {
     let range = LevelRange::of_step(levels);

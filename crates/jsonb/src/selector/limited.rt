@@ -2,7 +2,8 @@
 
 ghost use Rattle.std.specs.Prelude.{◌≡◌, Some, Result};
 ghost use Rattle.jsonb_doc.specs.declared.error.Error.{Error};
-ghost use Rattle.jsonb.specs.LimitedAnswers.{limit_error_text, lifted};
+ghost use Rattle.jsonb.specs.LimitedAnswers.{limit_error_text};
+ghost use Rattle.jsonb.specs.Private.Limited.{lifted};
 ghost use Rattle.jsonb.specs.declared.selector.limited.LimitError.TheVariants.{Failed};
 
 use super::Selector;
@@ -74,7 +75,7 @@ impl<'a> LimitedSelector<'a> {
     ghost use Rattle.jsonb_doc.specs.Tree.{Tree};
     ghost use Rattle.jsonb_doc.specs.declared.error.Error.TheVariants as error;
     ghost use Rattle.jsonb_raw.specs.Documents.{raw_bytes};
-    ghost use Rattle.jsonb.specs.LimitedAnswers.{limited_bytes, limited_mode, size_of, limit_of, bound_of, UnlessExceeded, IsRefusal};
+    ghost use Rattle.jsonb.specs.LimitedAnswers.{limited_bytes, limited_mode, size_of, limit_of, bound_of, UnlessExceeded, IsRefusal, IsLimited};
     ghost use Rattle.jsonb.specs.MostItems.{document_size};
     ghost use Rattle.jsonb.specs.PathTree.{is_predicate};
     ghost use Rattle.jsonb.specs.PathViews.{path_view};
@@ -221,9 +222,7 @@ impl<'a> LimitedSelector<'a> {
     /// selector.select_values(&path)
     /// ```
     pub fn select_values(&mut self, path: &JsonPath<'_>) -> Result<Vec<OwnedJsonb>, LimitError>
-        ensures kept { self.new ≡ self.old }
-        ensures exceeded { IsErrOf result LimitExceeded → limit_of self.old < bound_of self.old (path_view path.now) }
-        ensures refused { limit_of self.old < bound_of self.old (path_view path.now) → IsErrAnd result IsRefusal }
+        ensures limited { IsLimited self.old self.new (path_view path.now) result }
         ensures values { UnlessExceeded (ByMeanings (limited_mode self.old) (limited_bytes self.old)
             (path_view path.now) AreAll) result }
         ensures errors { UnlessExceeded (λ answer. IfErr answer (IsDocumentError (limited_mode self.old))) result }
@@ -249,9 +248,7 @@ impl<'a> LimitedSelector<'a> {
     /// let array = selector.select_array(path)?;
     /// ```
     pub fn select_array(&mut self, path: &JsonPath<'_>) -> Result<OwnedJsonb, LimitError>
-        ensures kept { self.new ≡ self.old }
-        ensures exceeded { IsErrOf result LimitExceeded → limit_of self.old < bound_of self.old (path_view path.now) }
-        ensures refused { limit_of self.old < bound_of self.old (path_view path.now) → IsErrAnd result IsRefusal }
+        ensures limited { IsLimited self.old self.new (path_view path.now) result }
         ensures array { UnlessExceeded (ByMeanings (limited_mode self.old) (limited_bytes self.old) (path_view path.now)
             IsArrayOf) result }
         ensures errors { UnlessExceeded (λ answer. IfErr answer (IsDocumentError (limited_mode self.old))) result }
@@ -277,9 +274,7 @@ impl<'a> LimitedSelector<'a> {
     /// let first = selector.select_first(path)?;
     /// ```
     pub fn select_first(&mut self, path: &JsonPath<'_>) -> Result<Option<OwnedJsonb>, LimitError>
-        ensures kept { self.new ≡ self.old }
-        ensures exceeded { IsErrOf result LimitExceeded → limit_of self.old < bound_of self.old (path_view path.now) }
-        ensures refused { limit_of self.old < bound_of self.old (path_view path.now) → IsErrAnd result IsRefusal }
+        ensures limited { IsLimited self.old self.new (path_view path.now) result }
         ensures first { UnlessExceeded (ByMeanings (limited_mode self.old) (limited_bytes self.old) (path_view path.now)
             (IsPicked first_item)) result }
         ensures errors { UnlessExceeded (λ answer. IfErr answer (IsDocumentError (limited_mode self.old))) result }
@@ -305,9 +300,7 @@ impl<'a> LimitedSelector<'a> {
     /// let value = selector.select_value(path)?;
     /// ```
     pub fn select_value(&mut self, path: &JsonPath<'_>) -> Result<Option<OwnedJsonb>, LimitError>
-        ensures kept { self.new ≡ self.old }
-        ensures exceeded { IsErrOf result LimitExceeded → limit_of self.old < bound_of self.old (path_view path.now) }
-        ensures refused { limit_of self.old < bound_of self.old (path_view path.now) → IsErrAnd result IsRefusal }
+        ensures limited { IsLimited self.old self.new (path_view path.now) result }
         ensures value { UnlessExceeded (ByMeanings (limited_mode self.old) (limited_bytes self.old) (path_view path.now)
             (IsPicked single_or_array)) result }
         ensures errors { UnlessExceeded (λ answer. IfErr answer (IsDocumentError (limited_mode self.old))) result }
@@ -333,9 +326,7 @@ impl<'a> LimitedSelector<'a> {
     /// let is_found = selector.exists(path)?;
     /// ```
     pub fn exists(&mut self, path: &JsonPath<'_>) -> Result<bool, LimitError>
-        ensures kept { self.new ≡ self.old }
-        ensures exceeded { IsErrOf result LimitExceeded → limit_of self.old < bound_of self.old (path_view path.now) }
-        ensures refused { limit_of self.old < bound_of self.old (path_view path.now) → IsErrAnd result IsRefusal }
+        ensures limited { IsLimited self.old self.new (path_view path.now) result }
         ensures exists { UnlessExceeded (ByMeanings (limited_mode self.old) (limited_bytes self.old)
             (path_view path.now) IsFound) result }
         ensures errors { UnlessExceeded (λ answer. IfErr answer (IsSelectionError (limited_mode self.old))) result }
@@ -363,11 +354,9 @@ impl<'a> LimitedSelector<'a> {
     /// let truth = selector.predicate_match(path)?;
     /// ```
     pub fn predicate_match(&mut self, path: &JsonPath<'_>) -> Result<Option<bool>, LimitError>
-        ensures kept { self.new ≡ self.old }
-        ensures other { is_predicate (path_view path.now) ≡ false → result ≡ Ok None }
-        ensures exceeded { IsErrOf result LimitExceeded → limit_of self.old < bound_of self.old (path_view path.now) }
-        ensures refused { is_predicate (path_view path.now) ≡ true
-            → limit_of self.old < bound_of self.old (path_view path.now) → IsErrAnd result IsRefusal }
+        ensures limited { is_predicate (path_view path.now) ≡ true
+            → IsLimited self.old self.new (path_view path.now) result }
+        ensures other { is_predicate (path_view path.now) ≡ false → (result ≡ Ok None) × (self.new ≡ self.old) }
         ensures truth { UnlessExceeded
             (IsTruthOf (limited_mode self.old) (path_view path.now) (limited_bytes self.old)) result }
         ensures errors { UnlessExceeded (λ answer. IfErr answer (IsSelectionError (limited_mode self.old))) result }

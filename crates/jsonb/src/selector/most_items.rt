@@ -4,7 +4,7 @@ ghost use Rattle.std.specs.Prelude.{◌≡◌, length, map, IfOk, IfErr};
 ghost use Rattle.jsonb_doc.specs.Answer.{IsOutOfMemory};
 ghost use Rattle.jsonb.specs.MostItems.{root_list, is_single, all_single, after, after_steps, start_list, most_values, most_pairs, most_items, picked_list};
 ghost use Rattle.jsonb.specs.PathTree.{steps_of};
-ghost use Rattle.jsonb.specs.PathViews.{entry_view, step_view, steps_view, expression_view};
+ghost use Rattle.jsonb.specs.PathViews.{step_view, steps_view, expression_view};
 
 use super::filter_cache::is_relative;
 use crate::path::{ArrayIndex, BinaryOperator, Expr, Path};
@@ -91,7 +91,7 @@ impl<'s, 'p> Count<'s, 'p> {
     ghost use Rattle.jsonb_doc.specs.Answer.{IsOutOfMemory};
     ghost use Rattle.jsonb.specs.MostItems.{capped, after, step_items, steps_items, expression_items, most_compared};
     ghost use Rattle.jsonb.specs.PathTree.{steps_of};
-    ghost use Rattle.jsonb.specs.PathViews.{step_view, steps_view, expression_view, operator_view};
+    ghost use Rattle.jsonb.specs.PathViews.{step_view, steps_view, expression_view};
     ghost use Rattle.jsonb.specs.Private.Counted.{waiting_items, waiting_parts, Grows};
     ghost use Rattle.jsonb.specs.Private.Parts.{step_parts, steps_parts, parts};
     ghost use Rattle.jsonb.specs.declared.selector.most_items.DocumentSize.{DocumentSize};
@@ -210,7 +210,7 @@ impl<'s, 'p> Count<'s, 'p> {
         right: &Expr<'_>,
         list: ListBound,
     )
-        ensures grows { Grows size self.old self.new (most_compared size (operator_view op) (expression_view left.now)
+        ensures grows { Grows size self.old self.new (most_compared size op (expression_view left.now)
             (expression_view right.now) list) }
         ensures parts { waiting_parts self.new ≡ waiting_parts self.old }
     {
@@ -280,7 +280,7 @@ fn after(size: DocumentSize, step: &Path<'_>, list: ListBound) -> ListBound
 /// Returns the list of the elements at the positions of subscripts.
 fn picked_list(entries: &[ArrayIndex], list: ListBound) -> ListBound
     ensures { result
-        ≡ picked_list (all_single (map entry_view entries.now)) (length (map entry_view entries.now)) list }
+        ≡ picked_list (all_single entries.now) (length entries.now) list }
 {
     let count = entries.len() as u64;
     let below = list.below.saturating_mul(count);
@@ -294,7 +294,7 @@ fn picked_list(entries: &[ArrayIndex], list: ListBound) -> ListBound
 
 /// Returns `true` if each subscript is a single position.
 fn all_single(entries: &[ArrayIndex]) -> bool
-    ensures { result ≡ all_single (map entry_view entries.now) }
+    ensures { result ≡ all_single entries.now }
 {
     for entry in entries {
         if !is_single(entry) {
@@ -306,7 +306,7 @@ fn all_single(entries: &[ArrayIndex]) -> bool
 
 /// Returns `true` if a subscript is a single position.
 fn is_single(entry: &ArrayIndex) -> bool
-    ensures { result ≡ is_single (entry_view entry.now) }
+    ensures { result ≡ is_single entry.now }
 {
     match entry {
         ArrayIndex::Index(_) => true,

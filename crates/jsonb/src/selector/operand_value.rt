@@ -2,10 +2,10 @@
 
 ghost use Rattle.std.specs.Prelude.{◌≡◌, ◌∷◌, [], map, Some};
 ghost use Rattle.jsonb_doc.specs.Tree.{Tree};
-ghost use Rattle.jsonb_doc.specs.StoredValue.{IsStoredAs};
-ghost use Rattle.jsonb.specs.PathViews.{operator_view, literal_view};
+ghost use Rattle.jsonb_doc.specs.Private.StoredValue.{IsStoredAs};
+ghost use Rattle.jsonb.specs.PathViews.{literal_view};
 ghost use Rattle.jsonb_doc.specs.Private.Short.{short_value};
-ghost use Rattle.jsonb.specs.Values.{number, value_of_item, literal_item, values_of_literal};
+ghost use Rattle.jsonb.specs.Values.{number, value_of_item, literal_value};
 ghost use Rattle.jsonb.specs.Compare.{compare, pair_truth, value_order, holds_for, truth_of_order, starts_with_truth, is_container};
 ghost use Rattle.jsonb.specs.Private.Selection.{value_view, values_view, option_values};
 
@@ -72,7 +72,7 @@ pub(crate) fn value_of_item<'a>(stored: StoredValue<'a>) -> Option<OperandValue<
 /// The value of a literal.
 #[inline(always)]
 pub(crate) fn value_of_literal<'a>(literal: &'a PathValue<'_>) -> OperandValue<'a>
-    ensures { option_values (Some result) ≡ values_of_literal (literal_item (literal_view literal.now)) }
+    ensures { option_values (Some result) ≡ literal_value (literal_view literal.now) ∷ [] }
 {
     match literal {
         PathValue::Null => OperandValue::Null,
@@ -89,7 +89,7 @@ pub(crate) fn compare(
     ls: &[OperandValue<'_>],
     rs: &[OperandValue<'_>],
 ) -> Option<bool>
-    ensures { result ≡ compare (operator_view op) (map value_view ls.now) (map value_view rs.now) }
+    ensures { result ≡ compare op (map value_view ls.now) (map value_view rs.now) }
 {
     for l in ls {
         for r in rs {
@@ -109,7 +109,7 @@ pub(crate) fn compare_one(
     l: &OperandValue<'_>,
     rs: &[OperandValue<'_>],
 ) -> Option<bool>
-    ensures { result ≡ compare (operator_view op) (value_view l.now ∷ []) (map value_view rs.now) }
+    ensures { result ≡ compare op (value_view l.now ∷ []) (map value_view rs.now) }
 {
     match rs {
         [r] => pair_truth(op, l, r),
@@ -124,7 +124,7 @@ pub(crate) fn compare_short(
     l: ShortNumber,
     rs: &[OperandValue<'_>],
 ) -> Option<bool>
-    ensures { result ≡ compare (operator_view op) (number (short_value l) ∷ []) (map value_view rs.now) }
+    ensures { result ≡ compare op (number (short_value l) ∷ []) (map value_view rs.now) }
 {
     match rs {
         [r] => short_number_truth(op, l, r),
@@ -139,7 +139,7 @@ pub(crate) fn compare_short(
 /// Compares a number that is stored in at most 64 bits with a right value.
 #[inline(always)]
 fn short_number_truth(op: BinaryOperator, l: ShortNumber, r: &OperandValue<'_>) -> Option<bool>
-    ensures { result ≡ pair_truth (operator_view op) (number (short_value l)) (value_view r.now) }
+    ensures { result ≡ pair_truth op (number (short_value l)) (value_view r.now) }
 {
     match (op, r) {
         (BinaryOperator::StartsWith, _) => None,
@@ -153,7 +153,7 @@ fn short_number_truth(op: BinaryOperator, l: ShortNumber, r: &OperandValue<'_>) 
 /// first.
 #[inline(always)]
 fn pair_truth(op: BinaryOperator, l: &OperandValue<'_>, r: &OperandValue<'_>) -> Option<bool>
-    ensures { result ≡ pair_truth (operator_view op) (value_view l.now) (value_view r.now) }
+    ensures { result ≡ pair_truth op (value_view l.now) (value_view r.now) }
 {
     if op == BinaryOperator::StartsWith {
         return starts_with_truth(l, r);
@@ -206,7 +206,7 @@ fn value_order(l: &OperandValue<'_>, r: &OperandValue<'_>) -> Option<Ordering>
 /// comparison is unknown.
 #[inline(always)]
 fn truth_of_order(op: BinaryOperator, order: Option<Ordering>) -> Option<bool>
-    ensures { result ≡ truth_of_order (operator_view op) order }
+    ensures { result ≡ truth_of_order op order }
 {
     match order {
         Some(order) => Some(holds_for(op, order)),
@@ -218,7 +218,7 @@ fn truth_of_order(op: BinaryOperator, order: Option<Ordering>) -> Option<bool>
 /// Returns `true` if the operator holds for two values in this order.
 #[inline(always)]
 fn holds_for(op: BinaryOperator, order: Ordering) -> bool
-    ensures { result ≡ holds_for (operator_view op) order }
+    ensures { result ≡ holds_for op order }
 {
     match op {
         BinaryOperator::Eq => order == Ordering::Equal,

@@ -1,7 +1,7 @@
 //! Expressions that `&&` or `||` joins.
 
 ghost use Rattle.std.specs.Prelude.{◌≡◌, false, MatchOption};
-ghost use Rattle.jsonb.specs.PathViews.{expression_view, operator_view};
+ghost use Rattle.jsonb.specs.PathViews.{expression_view};
 ghost use Rattle.jsonb.specs.Private.Pairs.{join_of, is_joined, IsPairOf};
 
 use crate::path::{BinaryOperator, Expr};
@@ -23,7 +23,7 @@ pub(crate) struct Pair<'s, 'p> {
 
 /// Returns the operator as one that joins results.
 fn join_of(op: BinaryOperator) -> Option<Join>
-    ensures { result ≡ join_of (operator_view op) }
+    ensures { result ≡ join_of op }
 {
     match op {
         BinaryOperator::And => Some(Join::And),

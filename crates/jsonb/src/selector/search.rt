@@ -1,47 +1,56 @@
 //! The first item that steps select, in lax mode: a traversal down to it that visits nothing after it.
 
-ghost use Rattle.std.specs.Prelude.{◌≡◌, ◌<◌, ◌^◌, ◌∷◌, [], ℕ, List, map, length, MatchOption, MatchResult, IfOk, IfSome, IfErr, ⊤};
-ghost use Rattle.jsonb_doc.specs.Answer.{Refines, SameOption, IsOutOfMemory, IsDecodingError, ◌or◌};
-ghost use Rattle.jsonb_doc.specs.declared.error.Error.TheVariants.{OutOfMemory};
+ghost use Rattle.std.specs.Prelude.{◌≡◌, ◌<◌, ◌++◌, ◌∷◌, [], ℕ, List, map, length, true, false, MatchOption, MatchResult, IfOk, IfSome, IfErr, ⊤};
+ghost use Rattle.jsonb_doc.specs.Answer.{Refines, SameOption, IsOutOfMemory, IsDecodingError};
 ghost use Rattle.jsonb_doc.specs.Spots.{Locates};
 ghost use Rattle.jsonb_doc.specs.Tree.{Tree};
-ghost use Rattle.jsonb.specs.PathTree.{Step, steps_of, filter};
+ghost use Rattle.jsonb.specs.PathTree.{Step, Expression, steps_of, filter};
 ghost use Rattle.jsonb.specs.PathViews.{step_view, steps_view, expression_view};
 ghost use Rattle.std.specs.List.{AllZip};
 ghost use Rattle.jsonb.specs.ItemSteps.{values_step, elements_step};
 ghost use Rattle.jsonb.specs.Meaning.{step_meaning, steps_meaning, filtered};
 ghost use Rattle.jsonb.specs.SelectorAnswers.{first_item};
 ghost use Rattle.jsonb.specs.Private.Compared.{RefinesIfAny};
-ghost use Rattle.jsonb.specs.Private.Search.{IsSearched, HasItems, items_bound, TakesItem, AreGiven, GivesItems, given_bound, IsReached, IsWithin};
+ghost use Rattle.jsonb.specs.Private.Search.{has_condition, IsSearched, IsAhead, AreAhead, TakesStep, HasItems, TakesItem, AreGiven, GivesItems, IsReached};
 ghost use Rattle.jsonb.specs.Private.Selection.{IsAt, HasTree, taken_step};
+ghost use Rattle.jsonb.specs.Private.Tests.{tests_in, ArePlainTestsOf};
+ghost use Rattle.jsonb.specs.declared.path.Path.{Path};
 ghost use Rattle.jsonb.specs.SelectionErrors.{IsSelectionError};
 ghost use Rattle.jsonb.specs.declared.selector.document.Mode.TheVariants.{Lax};
 
-use super::children::{elements, push_positions, values};
-use super::compared_member::{compared_member, literal_truth};
+use super::children::{elements, push_step, values};
 use super::compile::condition_of;
 use super::document::{Context, Document, Expressions, Mode};
-use super::evaluate::{filter_truth, question_truth};
+use super::evaluate::tested_truth;
 use super::filter_cache::is_true;
-use super::levels::push_levels;
-use super::members::{are_members, member_of};
-use super::plan::{Condition, Question, are_plain};
+use super::members::{are_members, member, member_of};
+use super::plan::{Condition, are_plain};
 use super::steps::filter_of;
-use crate::path::{ArrayIndex, Expr, Path, RecursiveLevel};
+use crate::path::{Expr, Path};
 use jsonb_doc::{Error, Spot, SpotIter, spot_by_parts};
 use std::alloc::Global;
 
 /// A step that does not fail for any item in lax mode.
-#[derive(Drop)]
-pub(crate) enum SearchStep<'s, 'p> {
-    /// `$`, `@` or a name.
-    Member(&'s Path<'p>),
-    Values,
-    Elements,
-    Positions(&'s [ArrayIndex]),
-    Levels(Option<RecursiveLevel>),
+#[derive(Clone, Copy)]
+pub(crate) enum SearchStep<'t, 's, 'p> {
+    /// A step without an expression.
+    Plain(&'t Path<'p>),
     /// A filter by members of the item.
-    Tested(Condition<'s, 'p>),
+    Tested(&'t Condition<'s, 'p>),
+}
+
+/// The steps that an item has before it, and the conditions of the filters among them, in order.
+#[derive(Clone, Copy)]
+pub(crate) struct Ahead<'t, 's, 'p> {
+    steps: &'t [Path<'p>],
+    conditions: &'t [Condition<'s, 'p>],
+}
+
+/// The conditions of the filters among some steps, in order, and how many of the steps may select an item again.
+#[derive(Drop)]
+pub(crate) struct Searched<'s, 'p> {
+    conditions: Vec<Condition<'s, 'p>>,
+    repeating: usize,
 }
 
 /// The remaining items, in order.
@@ -63,7 +72,7 @@ pub(crate) enum StepItems<'a> {
 #[derive(Drop)]
 pub(crate) struct Waiting<'t, 's, 'p, 'a> {
     items: Items<'a>,
-    steps: &'t [SearchStep<'s, 'p>],
+    ahead: Ahead<'t, 's, 'p>,
 }
 
 /// What steps reach from an item: at most one item, or many with steps before them.
@@ -73,13 +82,33 @@ pub(crate) enum Reached<'t, 's, 'p, 'a> {
     Many(Waiting<'t, 's, 'p, 'a>),
 }
 
+impl<'t, 's, 'p> Ahead<'t, 's, 'p> {
+    /// Returns the first of the steps, and those after it.
+    #[inline(always)]
+    fn first(self) -> Option<(SearchStep<'t, 's, 'p>, Ahead<'t, 's, 'p>)>
+        ensures takes { (ss : List Step) → IsAhead self.entry ss → TakesStep ss result }
+        ensures fewer { IfSome result (λ taken. length taken.1.steps.now < length self.entry.steps.now) }
+    {
+        let Some((step, steps)) = self.steps.split_first() else {
+            return None;
+        };
+        if !has_condition(step) {
+            let conditions = self.conditions;
+            return Some((SearchStep::Plain(step), Ahead { steps, conditions }));
+        }
+        let Some((condition, conditions)) = self.conditions.split_first() else {
+            return None;
+        };
+        Some((SearchStep::Tested(condition), Ahead { steps, conditions }))
+    }
+}
+
 impl<'a> Items<'a> {
     /// Returns the first of the remaining items.
     #[inline(always)]
     fn next(&mut self) -> Option<Result<Spot, Error>>
         ensures takes { (bytes : List ℕ) (ts : List Tree) → HasItems bytes self.old ts
             → TakesItem bytes ts result self.new }
-        ensures fewer { IfSome result (λ _. items_bound self.new < items_bound self.old) }
         ensures errors { IfSome result (λ found. IfErr found IsDecodingError) }
     {
         match self {
@@ -94,8 +123,8 @@ impl<'a> Items<'a> {
 
 /// Returns the first item that steps select from one item, if each step can be evaluated item by item.
 ///
-/// The outer `None` means that it was not searched: in strict mode, in which a later item may fail, for steps that are
-/// names alone, and for other filters.
+/// The outer `None` means that it was not found by a search: in strict mode, in which a later item may fail, for other
+/// filters, and if the search ended before.
 #[inline(always)]
 pub(crate) fn search<'s>(
     context: &Context<'_>,
@@ -110,7 +139,8 @@ pub(crate) fn search<'s>(
     ensures errors { IfErr result (IsSelectionError context.now.mode) }
 {
     if are_members(steps) {
-        return Ok(None);
+        let found = member(context.mode, steps, context.document.bytes, first)?;
+        return Ok(Some(found));
     }
     match context.mode {
         Mode::Strict => Ok(None),
@@ -136,101 +166,151 @@ fn lax_search<'s>(
     let Some(searched) = searched_steps(alloc, expressions, steps)? else {
         return Ok(None);
     };
-    Ok(Some(first_found(alloc, &searched, document.bytes, first)?))
+    let bytes = document.bytes;
+    let ahead = Ahead {
+        steps,
+        conditions: searched.conditions.as_slice(),
+    };
+    first_found(
+        alloc,
+        ahead,
+        most_visits(searched.repeating, bytes),
+        bytes,
+        first,
+    )
 }
 
-/// Returns the steps of a search, if each can be one.
+/// Returns the conditions of the filters among steps, if each step can be one of a search. Does not allocate if no
+/// step is a filter.
 fn searched_steps<'s, 'p>(
     alloc: Global,
     expressions: Expressions,
     steps: &'s [Path<'p>],
-) -> Result<Option<Vec<SearchStep<'s, 'p>>>, Error>
-    ensures searched { IfOk result (λ found. MatchOption found ⊤
-        (λ v. AllZip IsSearched v.items (map (taken_step expressions) (steps_view steps.now)))) }
+) -> Result<Option<Searched<'s, 'p>>, Error>
+    ensures searched { IfOk result (λ found. MatchOption found ⊤ (λ searched. AreAhead steps.now
+        (map (taken_step expressions) (steps_view steps.now)) searched.conditions.items)) }
     ensures errors { IfErr result IsOutOfMemory }
 {
-    let mut searched = Vec::with_capacity(alloc, steps.len())?;
+    let mut searched = Searched {
+        conditions: Vec::new(alloc),
+        repeating: 0,
+    };
     for step in steps {
-        match searched_step(alloc, expressions, step)? {
-            Some(step) => searched.push(step)?,
-            None => return Ok(None),
+        let fits = searched.add(alloc, expressions, step)?;
+        if !fits {
+            return Ok(None);
         }
     }
     Ok(Some(searched))
 }
 
-/// Returns a step as a step of a search, if it can be one.
-fn searched_step<'s, 'p>(
-    alloc: Global,
-    expressions: Expressions,
-    step: &'s Path<'p>,
-) -> Result<Option<SearchStep<'s, 'p>>, Error>
-    ensures searched { IfOk result (λ found. MatchOption found ⊤
-        (λ searched. IsSearched searched (taken_step expressions (step_view step.now)))) }
-    ensures errors { IfErr result IsOutOfMemory }
-{
-    match filter_of(expressions, step) {
-        Some(e) => searched_filter(alloc, e),
-        None => Ok(searched_plain(step)),
+impl<'s, 'p> Searched<'s, 'p> {
+    /// Adds a step, with its condition if it is a filter. Returns `false` if it cannot be one of a search.
+    #[inline(always)]
+    fn add(
+        &mut self,
+        alloc: Global,
+        expressions: Expressions,
+        step: &'s Path<'p>,
+    ) -> Result<bool, Error>
+        ensures added { (paths : List Path) (ss : List Step) → AreAhead paths ss self.old.conditions.items
+            → IfOk result (λ fits. fits ≡ true → AreAhead (paths ++ step.now ∷ [])
+            (ss ++ taken_step expressions (step_view step.now) ∷ []) self.new.conditions.items) }
+        ensures errors { IfErr result IsOutOfMemory }
+    {
+        let Some(e) = filter_of(expressions, step) else {
+            let repeats = usize::from(may_repeat(step));
+            self.repeating = self.repeating.saturating_add(repeats);
+            return Ok(!has_condition(step));
+        };
+        let Some(condition) = plain_condition(alloc, e)? else {
+            return Ok(false);
+        };
+        self.conditions.push(condition)?;
+        Ok(true)
     }
 }
 
-/// Returns a filter as a step of a search, if it can be one.
-fn searched_filter<'s, 'p>(
+/// Returns the condition of a filter, if it is one by members of the item.
+fn plain_condition<'s, 'p>(
     alloc: Global,
     e: &'s Expr<'p>,
-) -> Result<Option<SearchStep<'s, 'p>>, Error>
-    ensures searched { IfOk result (λ found. MatchOption found ⊤
-        (λ searched. IsSearched searched (filter (expression_view e.now)))) }
+) -> Result<Option<Condition<'s, 'p>>, Error>
+    ensures plain { IfOk result (λ found. MatchOption found ⊤
+        (λ condition. ArePlainTestsOf (tests_in condition) (expression_view e.now))) }
     ensures errors { IfErr result IsOutOfMemory }
 {
     let condition = condition_of(alloc, e)?;
     if are_plain(condition.as_slice()) {
-        Ok(Some(SearchStep::Tested(condition)))
+        Ok(Some(condition))
     } else {
         Ok(None)
     }
 }
 
-/// Returns a step without an expression as a step of a search.
-fn searched_plain<'s, 'p>(step: &'s Path<'p>) -> Option<SearchStep<'s, 'p>>
-    ensures { MatchOption result ⊤ (λ searched. IsSearched searched (step_view step.now)) }
+/// Returns `true` if a step is a filter, or an expression that may be one.
+#[inline(always)]
+fn has_condition(step: &Path<'_>) -> bool
+    ensures { result ≡ has_condition (step_view step.now) }
 {
     match step {
-        Path::DotWildcard => Some(SearchStep::Values),
-        Path::BracketWildcard => Some(SearchStep::Elements),
-        Path::ArrayIndices(entries) => Some(SearchStep::Positions(entries)),
-        Path::RecursiveDotWildcard(levels) => Some(SearchStep::Levels(*levels)),
-        Path::FilterExpr(_) | Path::Expr(_) => None,
+        Path::FilterExpr(_) | Path::Expr(_) => true,
         Path::Root
         | Path::Current
+        | Path::DotWildcard
+        | Path::RecursiveDotWildcard(_)
+        | Path::BracketWildcard
         | Path::DotField(_)
         | Path::ColonField(_)
-        | Path::ObjectField(_) => Some(SearchStep::Member(step)),
+        | Path::ObjectField(_)
+        | Path::ArrayIndices(_) => false,
     }
 }
 
-/// Returns the first item that the steps select from one item. What remains of the enclosing items is in a `Vec`.
+/// Returns at most how many items a search visits. If three steps may select an item again, it visits no more of them
+/// than there are bytes: each could double its items.
+#[inline(always)]
+fn most_visits(repeating: usize, bytes: &[u8]) -> usize {
+    if repeating < 3 {
+        usize::MAX
+    } else {
+        bytes.len()
+    }
+}
+
+/// Returns `true` if a step may select an item again that it has selected before.
+#[inline(always)]
+fn may_repeat(step: &Path<'_>) -> bool {
+    match step {
+        Path::ArrayIndices(entries) => entries.len() > 1,
+        Path::RecursiveDotWildcard(_) => true,
+        _ => false,
+    }
+}
+
+/// Returns the first item that the steps select from one item, or the outer `None` if the search ends before. What
+/// remains of the enclosing items is in a `Vec`.
 fn first_found(
     alloc: Global,
-    steps: &[SearchStep<'_, '_>],
+    ahead: Ahead<'_, '_, '_>,
+    most_visits: usize,
     bytes: &[u8],
     first: Spot,
-) -> Result<Option<Spot>, Error>
-    ensures meant { (top t : Tree) (ss : List Step) → AllZip IsSearched steps.now ss → Locates bytes.now first t
-        → Refines (λ found us. SameOption (Locates bytes.now) found (first_item us)) IsOutOfMemory result
+) -> Result<Option<Option<Spot>>, Error>
+    ensures meant { (top t : Tree) (ss : List Step) → IsAhead ahead.entry ss → Locates bytes.now first t
+        → RefinesIfAny (λ found us. SameOption (Locates bytes.now) found (first_item us)) result
         (steps_meaning Lax (steps_of ss) top (t ∷ [])) }
     ensures errors { IfErr result (IsSelectionError Lax) }
 {
-    let mut within = match reach(alloc, steps, bytes, first)? {
-        Reached::AtMostOne(found) => return Ok(found),
+    let mut within = match reach(alloc, ahead, bytes, first)? {
+        Reached::AtMostOne(found) => return Ok(Some(found)),
         Reached::Many(inner) => inner,
     };
     let mut around = Vec::new(alloc);
-    'walk: loop {
+    'walk: for _ in 0..most_visits {
         match within.items.next() {
-            Some(item) => match reach(alloc, within.steps, bytes, item?)? {
-                Reached::AtMostOne(Some(found)) => return Ok(Some(found)),
+            Some(item) => match reach(alloc, within.ahead, bytes, item?)? {
+                Reached::AtMostOne(Some(found)) => return Ok(Some(Some(found))),
                 Reached::AtMostOne(None) => {}
                 Reached::Many(inner) => {
                     around.push(within)?;
@@ -239,10 +319,12 @@ fn first_found(
             },
             None => match around.pop() {
                 Some(outer) => within = outer,
-                None => return Ok(None),
+                None => return Ok(Some(None)),
             },
         }
     }
+    let not_known = None;
+    Ok(not_known)
 }
 
 /// Returns what the steps reach from an item: each step that selects at most one item is evaluated, up to one that
@@ -250,24 +332,22 @@ fn first_found(
 #[inline(always)]
 fn reach<'t, 's, 'p, 'a>(
     alloc: Global,
-    steps: &'t [SearchStep<'s, 'p>],
+    ahead: Ahead<'t, 's, 'p>,
     bytes: &'a [u8],
     first: Spot,
 ) -> Result<Reached<'t, 's, 'p, 'a>, Error>
-    ensures meant { (top t : Tree) (ss : List Step) → AllZip IsSearched steps.now ss → Locates bytes.now first t
+    ensures meant { (top t : Tree) (ss : List Step) → IsAhead ahead.entry ss → Locates bytes.now first t
         → MatchResult result (IsReached bytes.now top t ss) IsOutOfMemory }
-    ensures within { IfOk result (IsWithin (length steps.now)) }
     ensures errors { IfErr result (IsSelectionError Lax) }
 {
     let mut item = first;
-    for (at, step) in steps.iter().enumerate() {
+    let mut ahead = ahead;
+    while let Some((step, others)) = ahead.first() {
+        ahead = others;
         match step_items(alloc, step, bytes, item)? {
             StepItems::AtMostOne(Some(next)) => item = spot_by_parts(next),
             StepItems::AtMostOne(None) => return Ok(Reached::AtMostOne(None)),
-            StepItems::Many(items) => {
-                let steps = &steps[at + 1..];
-                return Ok(Reached::Many(Waiting { items, steps }));
-            }
+            StepItems::Many(items) => return Ok(Reached::Many(Waiting { items, ahead })),
         }
     }
     Ok(Reached::AtMostOne(Some(item)))
@@ -277,77 +357,65 @@ fn reach<'t, 's, 'p, 'a>(
 #[inline(always)]
 fn step_items<'a>(
     alloc: Global,
-    step: &SearchStep<'_, '_>,
+    step: SearchStep<'_, '_, '_>,
     bytes: &'a [u8],
     item: Spot,
 ) -> Result<StepItems<'a>, Error>
-    ensures meant { (top t : Tree) (s : Step) → IsSearched step.now s → Locates bytes.now item t
+    ensures meant { (top t : Tree) (s : Step) → IsSearched step.entry s → Locates bytes.now item t
         → Refines (AreGiven bytes.now) IsOutOfMemory result (step_meaning Lax s top t) }
-    ensures few { IfOk result (λ given. given_bound given < 2 ^ 64) }
     ensures errors { IfErr result (IsSelectionError Lax) }
 {
     match step {
-        SearchStep::Member(path) => {
-            let found = member_of(Mode::Lax, path, bytes, item)?;
-            Ok(StepItems::AtMostOne(found))
-        }
-        SearchStep::Values => value_items(bytes, item),
-        SearchStep::Elements => element_items(bytes, item),
-        SearchStep::Positions(entries) => {
-            let mut spots = Vec::new(alloc);
-            push_positions(alloc, bytes, Mode::Lax, entries, item, &mut spots)?;
-            Ok(listed(spots))
-        }
-        SearchStep::Levels(levels) => {
-            let mut spots = Vec::new(alloc);
-            push_levels(alloc, bytes, *levels, 0, item, &mut spots)?;
-            Ok(listed(spots))
-        }
-        SearchStep::Tested(condition) => {
-            let Some((first, others)) = condition.as_slice().split_last() else {
-                return Ok(StepItems::AtMostOne(None));
-            };
-            // A comparison with a literal is evaluated here: as a call, it costs an item of 500 instructions 60 more.
-            match &first.question {
-                Question::Compared(comparison) => {
-                    let found = compared_member(Mode::Lax, comparison, bytes, item);
-                    let first_truth = literal_truth(comparison, bytes, found);
-                    let truth = filter_truth(
-                        alloc,
-                        Mode::Lax,
-                        first,
-                        others,
-                        first_truth,
-                        bytes,
-                        item,
-                    )?;
-                    Ok(kept(truth, item))
-                }
-                question => {
-                    let first_truth = question_truth(alloc, Mode::Lax, question, bytes, item);
-                    let truth = filter_truth(
-                        alloc,
-                        Mode::Lax,
-                        first,
-                        others,
-                        first_truth,
-                        bytes,
-                        item,
-                    )?;
-                    Ok(kept(truth, item))
-                }
-            }
-        }
+        SearchStep::Plain(path) => plain_items(alloc, path, bytes, item),
+        SearchStep::Tested(condition) => tested_item(alloc, condition, bytes, item),
     }
 }
 
-/// Returns an item if a filter is true of it.
+/// Returns what a step without an expression selects of an item.
 #[inline(always)]
-fn kept<'a>(truth: Option<bool>, item: Spot) -> StepItems<'a>
-    ensures kept { (bytes : List ℕ) (t : Tree) → Locates bytes item t → AreGiven bytes result (filtered t truth) }
-    ensures few { given_bound result < 2 ^ 64 }
+fn plain_items<'a>(
+    alloc: Global,
+    step: &Path<'_>,
+    bytes: &'a [u8],
+    item: Spot,
+) -> Result<StepItems<'a>, Error>
+    ensures meant { (top t : Tree) → has_condition (step_view step.now) ≡ false → Locates bytes.now item t
+        → Refines (AreGiven bytes.now) IsOutOfMemory result (step_meaning Lax (step_view step.now) top t) }
+    ensures errors { IfErr result (IsSelectionError Lax) }
 {
-    StepItems::AtMostOne(is_true(truth).then_some(spot_by_parts(item)))
+    match step {
+        Path::DotWildcard => value_items(bytes, item),
+        Path::BracketWildcard => element_items(bytes, item),
+        Path::ArrayIndices(_) | Path::RecursiveDotWildcard(_) => {
+            listed_items(alloc, step, bytes, item)
+        }
+        Path::Root
+        | Path::Current
+        | Path::DotField(_)
+        | Path::ColonField(_)
+        | Path::ObjectField(_) => {
+            let found = member_of(Mode::Lax, step, bytes, item)?;
+            Ok(StepItems::AtMostOne(found))
+        }
+        Path::FilterExpr(_) | Path::Expr(_) => Err(Error::InvalidJsonPath),
+    }
+}
+
+/// Returns what a step without an expression selects of an item, as a list.
+#[inline(never)]
+fn listed_items<'a>(
+    alloc: Global,
+    step: &Path<'_>,
+    bytes: &[u8],
+    item: Spot,
+) -> Result<StepItems<'a>, Error>
+    ensures meant { (top t : Tree) → has_condition (step_view step.now) ≡ false → Locates bytes.now item t
+        → Refines (AreGiven bytes.now) IsOutOfMemory result (step_meaning Lax (step_view step.now) top t) }
+    ensures errors { IfErr result (IsSelectionError Lax) }
+{
+    let mut spots = Vec::new(alloc);
+    push_step(alloc, Mode::Lax, step, bytes, item, &mut spots)?;
+    Ok(listed(spots))
 }
 
 /// Returns the positions of a list.
@@ -355,17 +423,43 @@ fn kept<'a>(truth: Option<bool>, item: Spot) -> StepItems<'a>
 fn listed<'a>(mut spots: Vec<Spot>) -> StepItems<'a>
     ensures given { (bytes : List ℕ) (ts : List Tree) → AllZip (Locates bytes) spots.items ts
         → AreGiven bytes result ts }
-    ensures few { given_bound result < 2 ^ 64 }
 {
     spots.reverse();
     StepItems::Many(Items::Listed(spots))
+}
+
+/// Returns the item if a condition of its members is true.
+#[inline(always)]
+fn tested_item<'a>(
+    alloc: Global,
+    condition: &Condition<'_, '_>,
+    bytes: &[u8],
+    item: Spot,
+) -> Result<StepItems<'a>, Error>
+    ensures meant { (e : Expression) (top t : Tree) → ArePlainTestsOf (tests_in condition.now) e
+        → Locates bytes.now item t
+        → Refines (AreGiven bytes.now) IsOutOfMemory result (step_meaning Lax (filter e) top t) }
+    ensures errors { IfErr result (IsSelectionError Lax) }
+{
+    let Some((first, others)) = condition.as_slice().split_last() else {
+        return Ok(StepItems::AtMostOne(None));
+    };
+    let truth = tested_truth(alloc, Mode::Lax, first, others, bytes, item)?;
+    Ok(kept(truth, item))
+}
+
+/// Returns an item if a filter is true of it.
+#[inline(always)]
+fn kept<'a>(truth: Option<bool>, item: Spot) -> StepItems<'a>
+    ensures kept { (bytes : List ℕ) (t : Tree) → Locates bytes item t → AreGiven bytes result (filtered t truth) }
+{
+    StepItems::AtMostOne(is_true(truth).then_some(spot_by_parts(item)))
 }
 
 /// Returns the values of an object.
 #[inline(always)]
 fn value_items<'a>(bytes: &'a [u8], item: Spot) -> Result<StepItems<'a>, Error>
     ensures meant { GivesItems bytes.now item result (values_step Lax) }
-    ensures few { IfOk result (λ given. given_bound given < 2 ^ 64) }
     ensures errors { IfErr result IsDecodingError }
 {
     match values(bytes, item)? {
@@ -378,7 +472,6 @@ fn value_items<'a>(bytes: &'a [u8], item: Spot) -> Result<StepItems<'a>, Error>
 #[inline(always)]
 fn element_items<'a>(bytes: &'a [u8], item: Spot) -> Result<StepItems<'a>, Error>
     ensures meant { GivesItems bytes.now item result (elements_step Lax) }
-    ensures few { IfOk result (λ given. given_bound given < 2 ^ 64) }
     ensures errors { IfErr result IsDecodingError }
 {
     match elements(bytes, item)? {

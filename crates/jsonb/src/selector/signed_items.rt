@@ -3,11 +3,10 @@
 ghost use Rattle.std.specs.Prelude.{◌≡◌, ◌++◌, ◌∷◌, [], List, OnOk, IfErr, IsOkAnd, MatchOption, ⊤, map, flat_map};
 ghost use Rattle.jsonb_doc.specs.Answer.{Refines, IsOutOfMemory, IsDecodingError};
 ghost use Rattle.jsonb_doc.specs.Spots.{Locates, HasSpotsLeft};
-ghost use Rattle.jsonb_doc.specs.StoredValue.{IsStoredAs};
+ghost use Rattle.jsonb_doc.specs.Private.StoredValue.{IsStoredAs};
 ghost use Rattle.jsonb_doc.specs.Tree.{Tree};
 ghost use Rattle.jsonb_doc.specs.View.{number_view};
 ghost use Rattle.jsonb.specs.PathArithmetic.{all_numbers, each_signed};
-ghost use Rattle.jsonb.specs.PathViews.{sign_view};
 ghost use Rattle.std.specs.List.{AllZip};
 ghost use Rattle.jsonb.specs.Values.{value_of_item, values_of_item};
 ghost use Rattle.jsonb.specs.Private.Appends.{Appends};
@@ -31,7 +30,7 @@ pub(crate) fn signed_items(
 ) -> Result<Vec<Number>, Error>
     ensures meant { (ts : List Tree) → AllZip (Locates bytes.now) items.now ts
         → Refines (λ v us. AllZip IsNumberItem v.items us) IsOutOfMemory result
-        (each_signed (sign_view op) (flat_map values_of_item ts)) }
+        (each_signed op (flat_map values_of_item ts)) }
     ensures errors { (mode : Mode) → IfErr result (IsSelectionError mode) }
 {
     let mut numbers = item_numbers(alloc, bytes, items)?;

@@ -10,6 +10,7 @@ ghost use Rattle.jsonb.specs.PathViews.{step_view, steps_view, expression_view};
 ghost use Rattle.std.specs.List.{AllZip};
 ghost use Rattle.jsonb.specs.Meaning.{step_meaning, steps_meaning, truth, operand_values, is_some_item};
 ghost use Rattle.jsonb.specs.Private.Selection.{IsAt, HasTree, node_spots, values_view, taken_step, is_filter, IsPlain};
+ghost use Rattle.jsonb.specs.Private.Alike.{AreSame, HasSame};
 ghost use Rattle.jsonb.specs.Private.Exists.{is_exists};
 ghost use Rattle.jsonb.specs.Private.Pairs.{is_joined};
 ghost use Rattle.jsonb.specs.Private.Tests.{AreCompiled, AreJoinedTests, tests_conditions, compiled_conditions};
@@ -23,7 +24,8 @@ ghost use Rattle.jsonb.specs.SelectionErrors.{IsSelectionError};
 use super::children::{push_field, push_if, push_step};
 use super::compared_member::member_truth;
 use super::compile::condition_of;
-use super::document::{Context, Current, Expressions, Mode, TruthResult};
+use super::distinct::{can_repeat, distinct};
+use super::document::{Context, Current, Expressions, Mode, Repeats, TruthResult};
 use super::evaluate::{jump_truth, next_jump, question_truth, tested_items};
 use super::exists::innermost;
 use super::filter_cache::{
@@ -287,12 +289,13 @@ fn truth_by_kept<'a>(
 pub(crate) fn select_steps<'a>(
     context: &Context<'a>,
     expressions: Expressions,
+    repeats: Repeats,
     steps: &'a [Path<'_>],
     first: Spot,
 ) -> Result<NodeList, Error>
     ensures meant { (top t : Tree) → HasTree context.now.document top → IsAt context.now.document first t
-        → Refines (λ found us. AllZip (IsAt context.now.document) (node_spots found) us) IsOutOfMemory result
-        (steps_meaning context.now.mode (steps_of (map (taken_step expressions) (steps_view steps.now)))
+        → Refines (λ found us. HasSame repeats context.now.document.bytes.now (node_spots found) us) IsOutOfMemory
+        result (steps_meaning context.now.mode (steps_of (map (taken_step expressions) (steps_view steps.now)))
         top (t ∷ [])) }
     ensures errors { IfErr result (IsSelectionError context.now.mode) }
 {
@@ -302,7 +305,9 @@ pub(crate) fn select_steps<'a>(
     }
     let mut items = NodeList::One(first);
     for step in steps {
-        items = step_list(context, expressions, step, items)?;
+        let selects_again = can_repeat(step, &items);
+        let found = step_list(context, expressions, step, items)?;
+        items = distinct(context.alloc, repeats, selects_again, found)?;
     }
     Ok(items)
 }
@@ -457,11 +462,11 @@ fn later_values<'a>(current: Current<'_, 'a>, e: &'a Expr<'_>, part: &CachedPart
 {
     match (part, e) {
         (CachedPart::Left(lefts), Expr::BinaryOp { op, right, .. }) => {
-            let rights = operand_values(current, right)?;
+            let rights = operand_values(current, Repeats::AreDropped, right)?;
             Ok(compare(*op, lefts.as_slice(), rights.as_slice()))
         }
         (CachedPart::Right(rights), Expr::BinaryOp { op, left, .. }) => {
-            let lefts = operand_values(current, left)?;
+            let lefts = operand_values(current, Repeats::AreDropped, left)?;
             Ok(compare(*op, lefts.as_slice(), rights.as_slice()))
         }
         _ => {
@@ -486,8 +491,8 @@ fn first_truth<'a>(
 {
     match e {
         Expr::BinaryOp { op, left, right } => {
-            let lefts = operand_values(current, left)?;
-            let rights = operand_values(current, right)?;
+            let lefts = operand_values(current, Repeats::AreDropped, left)?;
+            let rights = operand_values(current, Repeats::AreDropped, right)?;
             let truth = compare(*op, lefts.as_slice(), rights.as_slice());
             Ok((truth, comparison_part(left, right, lefts, rights, truth)))
         }
@@ -535,7 +540,7 @@ fn selects_any<'a>(context: &Context<'a>, steps: &'a [Path<'_>], first: Spot) ->
     match search(context, all, steps, first)? {
         Some(found) => Ok(found.is_some()),
         None => {
-            let found = select_steps(context, all, steps, first)?;
+            let found = select_steps(context, all, Repeats::AreDropped, steps, first)?;
             Ok(!found.as_slice().is_empty())
         }
     }
@@ -546,11 +551,12 @@ fn selects_any<'a>(context: &Context<'a>, steps: &'a [Path<'_>], first: Spot) ->
 #[inline(never)]
 pub(crate) fn operand_values<'a>(
     current: Current<'_, 'a>,
+    repeats: Repeats,
     e: &'a Expr<'_>,
 ) -> Result<OperandValues<'a>, Error>
     ensures meant { (top t : Tree) → HasTree current.entry.context.now.document top
         → IsAt current.entry.context.now.document current.entry.item t
-        → Refines (λ values vs. values_view values ≡ vs) IsOutOfMemory result
+        → Refines (λ values vs. AreSame repeats (values_view values) vs) IsOutOfMemory result
         (operand_values current.entry.context.now.mode (expression_view e.now) top t) }
     ensures errors { IfErr result (IsSelectionError current.entry.context.now.mode) }
 {
@@ -558,7 +564,7 @@ pub(crate) fn operand_values<'a>(
     match e {
         Expr::Paths(steps) => {
             let first = start_spot(steps, context.document, item);
-            let found = select_steps(context, Expressions::AreRefused, steps, first)?;
+            let found = select_steps(context, Expressions::AreRefused, repeats, steps, first)?;
             found_values(context.alloc, context.document.bytes, found)
         }
         Expr::Value(literal) => Ok(OperandValues::One(value_of_literal(literal))),

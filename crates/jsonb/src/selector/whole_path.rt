@@ -1,16 +1,17 @@
 //! A path as a whole: its top steps, or one expression.
 
-ghost use Rattle.std.specs.Prelude.{◌≡◌, ◌++◌, ◌∷◌, [], List, Ok, Err, None, Some, MatchOption, IfErr};
+ghost use Rattle.std.specs.Prelude.{◌≡◌, ◌++◌, ◌∷◌, [], List, Ok, Err, None, Some, false, MatchOption, IfOk, IfErr};
 ghost use Rattle.jsonb_doc.specs.Answer.{Refines, Outcome, and_then, IsOutOfMemory, ◌or◌};
 ghost use Rattle.jsonb_doc.specs.Arithmetic.{Operation};
 ghost use Rattle.jsonb_doc.specs.Payload.{Form};
 ghost use Rattle.jsonb_doc.specs.Tree.{Tree};
 ghost use Rattle.jsonb.specs.PathTree.{whole_expression, value};
-ghost use Rattle.jsonb.specs.PathViews.{step_view, steps_view, expression_view, literal_view, operator_view, sign_view};
+ghost use Rattle.jsonb.specs.PathViews.{step_view, steps_view, expression_view, literal_view};
 ghost use Rattle.std.specs.List.{AllZip};
 ghost use Rattle.jsonb.specs.PathArithmetic.{operation, each_signed};
 ghost use Rattle.jsonb.specs.Meaning.{operand_values, truth, Means, truth_item, truth_list, calculation, expression_predicate};
 ghost use Rattle.jsonb.specs.Private.Search.{BeginsAs};
+ghost use Rattle.jsonb.specs.Private.Selected.{is_computed};
 ghost use Rattle.jsonb.specs.Private.Selection.{HasTree, GivesMeant, IsMadeItem, IsNumberItem, IsNumberTree, AreSelected, step_expression, only_expression};
 ghost use Rattle.jsonb.specs.declared.selector.document.Document.{Document};
 ghost use Rattle.jsonb.specs.declared.selector.document.Mode.{Mode};
@@ -19,7 +20,7 @@ ghost use Rattle.jsonb.specs.SelectionErrors.{IsSelectionError};
 
 use super::calculate::{binary_number, is_arithmetic, unary_numbers};
 use super::compared_lists::root_truth;
-use super::document::{Context, Current, Expressions, TruthResult};
+use super::document::{Context, Current, Expressions, Repeats, TruthResult};
 use super::filter_cache::is_relative;
 use super::members::start_spot;
 use super::node_list::NodeList;
@@ -36,6 +37,7 @@ pub(crate) fn selection<'a>(
     steps: &'a [Path<'_>],
 ) -> Result<Selected<'a>, Error>
     ensures meant { GivesMeant AreSelected context.now.document context.now.mode (steps_view steps.now) result }
+    ensures nodes { only_expression (steps_view steps.now) ≡ None → IfOk result (λ found. is_computed found ≡ false) }
     ensures errors { IfErr result (IsSelectionError context.now.mode) }
 {
     if let Some(e) = only_expression(steps) {
@@ -45,25 +47,31 @@ pub(crate) fn selection<'a>(
         return Err(Error::InvalidJsonPath);
     }
     let all = Expressions::AreFilters;
-    let spots = select_steps(context, all, steps, context.document.root)?;
+    let root = context.document.root;
+    let spots = select_steps(context, all, Repeats::AreKept, steps, root)?;
     Ok(Selected::Nodes(spots))
 }
 
-/// Returns what a path selects, for a caller that needs only the first item: in lax mode others may be left out.
+/// Returns what a path selects, for a caller that needs only the first item: others may be left out.
 pub(crate) fn first_selection<'a>(
     context: &Context<'a>,
     steps: &'a [Path<'_>],
 ) -> Result<Selected<'a>, Error>
     ensures meant { GivesMeant BeginsAs context.now.document context.now.mode (steps_view steps.now) result }
+    ensures nodes { only_expression (steps_view steps.now) ≡ None → IfOk result (λ found. is_computed found ≡ false) }
     ensures errors { IfErr result (IsSelectionError context.now.mode) }
 {
     if only_expression(steps).is_some() || is_relative(steps) {
         return selection(context, steps);
     }
     let all = Expressions::AreFilters;
-    match search(context, all, steps, context.document.root)? {
+    let root = context.document.root;
+    match search(context, all, steps, root)? {
         Some(first) => Ok(Selected::Nodes(NodeList::at_most_one(context.alloc, first))),
-        None => selection(context, steps),
+        None => {
+            let firsts = select_steps(context, all, Repeats::AreDropped, steps, root)?;
+            Ok(Selected::Nodes(firsts))
+        }
     }
 }
 
@@ -143,7 +151,7 @@ fn whole_unary<'a>(
     ensures meant { (top : Tree) → HasTree context.now.document top
         → Refines (λ v ts. AllZip IsNumberItem v.items ts) IsOutOfMemory result
         (and_then (operand_values context.now.mode (expression_view operand.now) top top)
-        (each_signed (sign_view op))) }
+        (each_signed op)) }
     ensures errors { IfErr result (IsSelectionError context.now.mode) }
 {
     let Context {
@@ -154,12 +162,13 @@ fn whole_unary<'a>(
     match operand {
         Expr::Paths(steps) => {
             let first = start_spot(steps, document, document.root);
-            let found = select_steps(context, Expressions::AreRefused, steps, first)?;
+            let all = Expressions::AreRefused;
+            let found = select_steps(context, all, Repeats::AreKept, steps, first)?;
             signed_items(alloc, op, document.bytes, found.as_slice())
         }
         Expr::Value(_) | Expr::BinaryOp { .. } | Expr::UnaryOp { .. } | Expr::ExistsFunc(_) => {
             let item = document.root;
-            let values = operand_values(Current { context, item }, operand)?;
+            let values = operand_values(Current { context, item }, Repeats::AreKept, operand)?;
             unary_numbers(alloc, op, values.as_slice())
         }
     }
@@ -173,14 +182,14 @@ fn whole_binary<'a>(
     right: &'a Expr<'_>,
 ) -> Result<Number, Error>
     ensures meant { (top : Tree) (o : Operation) → HasTree context.now.document top
-        → operation (operator_view op) ≡ Some o → Refines IsNumberTree IsOutOfMemory result
+        → operation op ≡ Some o → Refines IsNumberTree IsOutOfMemory result
         (calculation o (operand_values context.now.mode (expression_view left.now) top top)
         (operand_values context.now.mode (expression_view right.now) top top)) }
     ensures errors { IfErr result (IsSelectionError context.now.mode) }
 {
     let item = context.document.root;
-    let lefts = operand_values(Current { context, item }, left)?;
-    let rights = operand_values(Current { context, item }, right)?;
+    let lefts = operand_values(Current { context, item }, Repeats::AreKept, left)?;
+    let rights = operand_values(Current { context, item }, Repeats::AreKept, right)?;
     binary_number(op, lefts.as_slice(), rights.as_slice())
 }
 

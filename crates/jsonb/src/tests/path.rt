@@ -47,10 +47,11 @@ fn positions(rt: HostRuntime) -> Result<(), Fail> {
 
 /// The start and end of a range of levels, a level, whether its item is selected, and whether its children are
 /// visited.
-static LEVELS: [(u8, RecursiveLevelEnd, u8, (bool, bool)); 4] = rows! {
+static LEVELS: [(u8, RecursiveLevelEnd, u8, (bool, bool)); 5] = rows! {
     3, RecursiveLevelEnd::Index(2), 1, (false, false);
     3, RecursiveLevelEnd::Index(2), 3, (false, false);
     2, RecursiveLevelEnd::Last, 1, (false, true);
+    2, RecursiveLevelEnd::Last, 2, (true, true);
     2, RecursiveLevelEnd::Last, 255, (true, true);
 };
 

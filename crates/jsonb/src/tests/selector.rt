@@ -5,6 +5,7 @@ mod calls;
 mod documents;
 mod lax;
 mod limited;
+mod repeats;
 mod strict;
 
 use self::documents::{bytes_of, name_of};

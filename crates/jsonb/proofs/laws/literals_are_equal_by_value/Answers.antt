@@ -1,5 +1,6 @@
-use Rattle.jsonb.proofs.EqualLiterals.{literal-equal}
+use Rattle.jsonb.specs.PathViews.{literal_view}
+use Rattle.jsonb.specs.Proofs.PathOrder.{literal-same}
 use Rattle.jsonb.proofs.laws.literals_are_equal_by_value.Goals as goal
 
 pub returns : goal.returns
-returns c = let d = literal-equal c.args.left.now c.args.right.now in (d.0, d.1)
+returns c = let d = literal-same (literal_view c.args.left.now) (literal_view c.args.right.now) in (d.0, d.1)

@@ -1,6 +1,6 @@
 use Rattle.std.proofs.Common.{◌∙◌, false, sym, ap, refl, Some, None}
 use Rattle.jsonb.specs.PathTree.{Expression}
-use Rattle.jsonb.specs.PathViews.{operator_view, expression_view, steps_view}
+use Rattle.jsonb.specs.PathViews.{expression_view, steps_view}
 use Rattle.jsonb.specs.Private.Frames.{as_path, partial_outcome, opening_outcome}
 use Rattle.jsonb.proofs.FrameLemmas.{front-is, front-operation, front-steps}
 use Rattle.jsonb.proofs.parser.front_at.Goals as goal
@@ -25,6 +25,6 @@ returns c = (
   ap (λ (e : Expression). as_path (partial_outcome (record { is_in_filter = false; all = None; any = None }) (Some (e, c.in-Some-2.after.now))))
       c.in_ok-found.ensures
       ∙ front-operation c.args.input.now c.in-Some.rest.now c.skip_space-2.result.now (steps_view c.in-Some.steps.items)
-      (operator_view c.in-Some-2.operation.0) (expression_view c.in-Some-2.operation.1) c.in-Some-2.after.now
+      c.in-Some-2.operation.0 (expression_view c.in-Some-2.operation.1) c.in-Some-2.after.now
       (sym (rw c.in-Some.is at c.in_ok-steps.ensures.value)) c.skip_space-2.ensures.value (sym (rw c.in-Some-2.is at c.in_ok-operation.ensures.value)),
 )

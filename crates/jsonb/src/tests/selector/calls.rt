@@ -1,7 +1,7 @@
 //! The calls other than `select_values`, and a selector that is used again.
 
 use super::*;
-use crate::SelectByPath;
+use crate::{FirstItem, SelectByPath};
 
 /// Returns a document's name, or `none`, or the error's name.
 fn shown_option(alloc: Global, answer: Result<Option<OwnedJsonb>, Error>) -> Result<String, Fail> {
@@ -71,6 +71,44 @@ fn each_call_answers_by_the_same_list(rt: HostRuntime) -> Result<(), Fail> {
         let (document, path, wanted) = cut(row)?;
         let is_so = all_answer(rt.alloc(), document, path, wanted)?;
         assert!(rt; is_so, "{row}");
+    }
+    Ok(())
+}
+
+/// Returns documents of the items that a path finds in place.
+fn found_documents(
+    alloc: Global,
+    document: &[u8],
+    path: &JsonPath<'_>,
+) -> Result<Vec<OwnedJsonb>, Error> {
+    let root = RawJsonb::new(document);
+    let mut documents = Vec::new(alloc);
+    for item in &Selector::new(alloc, root).find_values(path)? {
+        documents.push(item.to_document(alloc, &root)?)?;
+    }
+    Ok(documents)
+}
+
+/// After the arrow, the items: of the document, numbers, and the results of other expressions.
+const FOUND: &str = r#"
+[10,20,30] $[last, 0] => 30 10
+{"a":{"b":[{"c":1}]}} $.**.c => 1
+[1] $.a =>
+[1,-2] -$[*] => -1 2
+0 $ - 1 => -1
+[1] 1 == -1 => false
+[1] +1 => 1
+[10,20,30] $[*] + 1 => InvalidJsonPath"#;
+
+#[test]
+fn items_are_found_in_place(rt: HostRuntime) -> Result<(), Fail> {
+    let alloc = rt.alloc();
+    for row in FOUND.lines().skip(1) {
+        let (document, path, wanted) = cut(row)?;
+        let document = bytes_of(alloc, document)?;
+        let path = parse_json_path(alloc, path.as_bytes())?;
+        let items = shown(alloc, found_documents(alloc, &document, &path))?;
+        assert!(rt; items.as_str() == wanted, "{row}");
     }
     Ok(())
 }
@@ -163,6 +201,46 @@ fn a_refused_call_leaves_nothing_behind(rt: HostRuntime) -> Result<(), Fail> {
     for (path, wanted) in &CALLS {
         let found = next_answer(rt.alloc(), &mut selector, path)?;
         assert_eq!(rt; found.as_str(), *wanted, "{path}");
+    }
+    Ok(())
+}
+
+/// After the arrow, the position of the first item in the document, `computed`, or the error.
+const PLACES: &str = r#"
+[10,20,30] $[1] => 18 to 20
+[10,20,30] $[last, 0] => 20 to 22
+[10,20,30] $[*]?(exists(@?(@ > 5))) => 16 to 18
+[] $[*] => none
+[1] $.a => none
+[10,20,30] $[*] > 25 => computed
+[10,20,30] $[1] + 1 => computed
+[1] -$[5] => none
+[1] -$[0] => computed
+[1,18446744073709551615] -$[*] => Arithmetic(Overflow)
+[{"a":1},{"b":2}] $[*]?(@.a == 1 || exists(@.b?(-@))) => InvalidJsonPath"#;
+
+/// Returns the position of the first item.
+fn place_of(alloc: Global, document: &str, path: &str) -> Result<String, Fail> {
+    let document = bytes_of(alloc, document)?;
+    let path = parse_json_path(alloc, path.as_bytes())?;
+    let mut selector = Selector::new(alloc, RawJsonb::new(&document));
+    match selector.find_first(&path) {
+        Ok(Some(FirstItem::At(spot))) => {
+            let range = spot.range();
+            Ok(format!(in alloc; "{} to {}", range.start, range.end)?)
+        }
+        Ok(Some(FirstItem::Computed)) => Ok(String::from_str(alloc, "computed")?),
+        Ok(None) => Ok(String::from_str(alloc, "none")?),
+        Err(error) => Ok(format!(in alloc; "{error}")?),
+    }
+}
+
+#[test]
+fn the_first_is_found_in_place(rt: HostRuntime) -> Result<(), Fail> {
+    for row in PLACES.lines().skip(1) {
+        let (document, path, wanted) = cut(row)?;
+        let found = place_of(rt.alloc(), document, path)?;
+        assert!(rt; found.as_str() == wanted, "{row}");
     }
     Ok(())
 }

@@ -1,7 +1,8 @@
 //! Calls with a limit: the bound of a path, and what fails at it.
 
+use super::repeats::within_arrays;
 use super::*;
-use crate::{ArrayBuilder, LimitError, LimitedSelector};
+use crate::{LimitError, LimitedSelector};
 
 /// After the arrow, the bound on `[10,20,30]`, which has 22 bytes and 2 levels.
 const BOUNDS: &str = r#"
@@ -68,17 +69,6 @@ fn calls_fail_above_the_bound_alone(rt: HostRuntime) -> Result<(), Fail> {
     Ok(())
 }
 
-/// Returns an empty array in this many arrays.
-fn nested(alloc: Global, depth: usize) -> Result<Vec<u8>, Fail> {
-    let mut document = Vec::from_slice(alloc, b"\x80\0\0\0")?;
-    for _ in 0..depth {
-        let mut outer = ArrayBuilder::new(alloc);
-        outer.push_document(&document)?;
-        document = outer.build()?;
-    }
-    Ok(document)
-}
-
 /// Paths whose evaluation takes seconds or hundreds of megabytes.
 const EXPLODING: [&str; 3] = [
     "exists($[0,0][0,0][0,0][0,0][0,0][0,0][0,0][0,0][0,0][0,0][0,0][0,0][0,0][0,0][0,0][0,0][0,0][0,0][0,0][0,0][0,0][0,0][0,0][0,0]?(@ == 7))",
@@ -89,7 +79,7 @@ const EXPLODING: [&str; 3] = [
 #[test]
 fn exploding_paths_are_refused(rt: HostRuntime) -> Result<(), Fail> {
     let alloc = rt.alloc();
-    let document = nested(alloc, 60)?;
+    let document = within_arrays(alloc, b"\x80\0\0\0", 60)?;
     let mut selector = LimitedSelector::new(alloc, RawJsonb::new(&document), 1_000_000)?;
     for text in &EXPLODING {
         let path = parse_json_path(alloc, text.as_bytes())?;
@@ -99,6 +89,17 @@ fn exploding_paths_are_refused(rt: HostRuntime) -> Result<(), Fail> {
             "{text}"
         );
     }
+    Ok(())
+}
+
+#[test]
+fn strict_selectors_fail_at_a_missing_key(rt: HostRuntime) -> Result<(), Fail> {
+    let alloc = rt.alloc();
+    let path = parse_json_path(alloc, b"$.a")?;
+    let root = RawJsonb::new(b"\x40\0\0\0");
+    let mut strict = LimitedSelector::new_strict(alloc, root, 100)?;
+    let missing = Some(LimitError::Failed(Error::StrictPath));
+    assert_eq!(rt; strict.exists(&path).err(), missing);
     Ok(())
 }
 

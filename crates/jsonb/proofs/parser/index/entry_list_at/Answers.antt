@@ -1,25 +1,21 @@
 use Rattle.std.proofs.Common.{◌≡◌, ◌++◌, ◌∷◌, [], sym, arith}
 use Rattle.std.specs.Prelude.{map}
-use Rattle.std.proofs.lemmas.List.{map_push}
 use Rattle.jsonb.specs.Private.Repeated.{another_entry}
-use Rattle.jsonb.specs.PathViews.{entry_view}
 use Rattle.jsonb_keypath.proofs.RepeatLemmas.{loop-goes, loop-ends}
 use Rattle.jsonb.proofs.parser.index.entry_list_at.Goals as goal
 
 pub loop-next-preserved : goal.loop-next-preserved
 loop-next-preserved c =
     let found = c.in-Some-another_entry_at in
-    let grown : map entry_view c.push-in-Some-another_entry_at.new.self.items ≡ map entry_view c.loop-next.entries.items ++ entry_view
-    c.in-Some-another_entry_at.next ∷ [] =
-    rw c.in_ok-push-2.ensures.items (map_push entry_view c.loop-next.entries.items c.in-Some-another_entry_at.next) in
+    let grown = c.in_ok-push-2.ensures.items in
     record {
-      read = rw grown (loop-goes another_entry (map entry_view c.loop-next.entries.items) c.loop-next.rest.now
-          (entry_view c.in-Some-another_entry_at.next) c.in-Some-another_entry_at.after.now _
+      read = rw grown (loop-goes another_entry c.loop-next.entries.items c.loop-next.rest.now
+          c.in-Some-another_entry_at.next c.in-Some-another_entry_at.after.now _
           (sym c.in-Some-another_entry_at.ensures.value) c.in-Some-another_entry_at.ensures.shrinks c.loop-next.invariant.read);
       shorter = omega (arith, c.in-Some-another_entry_at.ensures.shrinks, c.loop-next.invariant.shorter);
     }
 
 pub returns-clause-value : goal.returns-clause-value
 returns-clause-value c =
-    sym (loop-ends another_entry (map entry_view c.loop-next.entries.items) c.loop-next.rest.now _
+    sym (loop-ends another_entry c.loop-next.entries.items c.loop-next.rest.now _
     (sym c.in_default-another_entry_at.ensures.value) c.loop-next.invariant.read)

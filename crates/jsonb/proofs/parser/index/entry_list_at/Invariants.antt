@@ -2,14 +2,13 @@ use Rattle.std.proofs.Common.{◌≡◌, ◌<◌, length}
 use Rattle.std.specs.Prelude.{map}
 use Rattle.jsonb_keypath.specs.Rules.{repeat}
 use Rattle.jsonb.specs.Private.Repeated.{another_entry, entry_list}
-use Rattle.jsonb.specs.PathViews.{entry_view}
 use Rattle.jsonb_keypath.proofs.RepeatLemmas.{behind}
 use Rattle.jsonb.proofs.parser.index.entry_list_at.Given as goal
 
 -- the entries so far, and those that are still read
 abbrev pub invariant-loop-next : goal.invariant-loop-next
 invariant-loop-next l = record {
-  read : behind (map entry_view l.entries.items) (repeat another_entry l.rest) ≡ entry_list l.fn.input;
+  read : behind l.entries.items (repeat another_entry l.rest) ≡ entry_list l.fn.input;
   shorter : length l.rest < length l.fn.input;
 }
 

@@ -1,13 +1,11 @@
 use Rattle.std.proofs.Common.{◌≡◌, ◌+◌, ◌*◌, ◌<◌, sym, ap, ap₂, ◌∙◌, arith}
 use Rattle.std.specs.Prelude.{◌&&◌}
 use Rattle.std.proofs.lemmas.List.{nil_from_length}
-use Rattle.jsonb.specs.PathOrder.{path_value_equal}
 use Rattle.jsonb.specs.PathTree.{steps_of}
-use Rattle.jsonb.specs.PathViews.{step_view, steps_view, expression_view}
+use Rattle.jsonb.specs.PathViews.{step_view, steps_view, expression_view, literal_view}
 use Rattle.jsonb.specs.Private.Parts.{step_parts}
-use Rattle.jsonb.specs.SamePath.{is_same_step}
+use Rattle.jsonb.specs.SamePath.{is_same_step, is_same_literal}
 use Rattle.jsonb.specs.Private.Last.{is_same_opening, are_same_before, is_same_before}
-use Rattle.jsonb.proofs.EqualLiterals.{literal-is}
 use Rattle.jsonb.proofs.EqualParts.{entries-is}
 use Rattle.jsonb.proofs.EqualSteps.{other_than_levels, other_than_dot_field, other_than_colon_field, other_than_object_field, other_than_indices, other_than_filter, other_than_whole}
 use Rattle.jsonb.proofs.LastLemmas.{seen, parts_of, fewer_parts, same_next, next_parts, same_zip, zip_parts, same-differs, same-further, same_before-end, same_before-shorter, same_before-longer}
@@ -19,8 +17,8 @@ pub same_before-returns-in-Value-Value : goal.same_before-returns-in-Value-Value
 same_before-returns-in-Value-Value t c =
     let e = literal_is c.args.expression.now c.in-Value-Value.literal c.in-Value-Value.is-0 in
     let f = literal_is c.args.other.now c.in-Value-Value.wanted c.in-Value-Value.is-1 in
-    c.eq-in-Value-Value.ensures ∙ ap₂ path_value_equal c.deref-in-Value-Value.ensures c.deref-in-Value-Value-2.ensures
-    ∙ literal-is c.in-Value-Value.literal.value c.in-Value-Value.wanted.value ∙ sym (ap₂ is_same_before e f)
+    c.eq-in-Value-Value.ensures ∙ ap₂ (λ l m. is_same_literal (literal_view l) (literal_view m)) c.deref-in-Value-Value.ensures c.deref-in-Value-Value-2.ensures
+    ∙ sym (ap₂ is_same_before e f)
 
 pub same_step-returns-in-ArrayIndices-ArrayIndices : goal.same_step-returns-in-ArrayIndices-ArrayIndices
 same_step-returns-in-ArrayIndices-ArrayIndices t c =

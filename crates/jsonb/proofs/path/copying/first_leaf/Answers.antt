@@ -1,6 +1,6 @@
 use Rattle.std.proofs.Common.{◌≡◌, [], ◌∷◌, ◌++◌, sym, ap, ap₂, ◌∙◌, arith}
 use Rattle.jsonb.specs.PathTree.{binary, unary}
-use Rattle.jsonb.specs.PathViews.{operator_view, sign_view, expression_view}
+use Rattle.jsonb.specs.PathViews.{expression_view}
 use Rattle.jsonb.specs.Private.Copying.{waiting, have_document}
 use Rattle.jsonb.specs.Private.Parts.{expression_parts}
 use Rattle.jsonb.specs.declared.path.copying.Frame.{Frame}
@@ -23,7 +23,7 @@ loop-inner-preserved-in-BinaryOp c =
     let all_parts = ap expression_parts is in
     let added = ap waiting pushed ∙ waiting-push frames f in
     record {
-      whole = framed-more frames c.push.new.self.items f _ _ pushed (ap₂ (binary (operator_view op)) left right ∙ sym is) ∙ c.loop-inner.invariant.whole;
+      whole = framed-more frames c.push.new.self.items f _ _ pushed (ap₂ (binary op) left right ∙ sym is) ∙ c.loop-inner.invariant.whole;
       fewer = omega (arith, c.loop-inner.invariant.fewer);
       documents = ap have_document pushed ∙ have_document-push frames f ∙ or_false (have_document frames) ∙ c.loop-inner.invariant.documents;
     }
@@ -40,7 +40,7 @@ loop-inner-preserved c =
     let all_parts = ap expression_parts is in
     let added = ap waiting pushed ∙ waiting-push frames f in
     record {
-      whole = framed-more frames c.push-in-UnaryOp.new.self.items f _ _ pushed (ap (unary (sign_view op)) operand ∙ sym is) ∙ c.loop-inner.invariant.whole;
+      whole = framed-more frames c.push-in-UnaryOp.new.self.items f _ _ pushed (ap (unary op) operand ∙ sym is) ∙ c.loop-inner.invariant.whole;
       fewer = omega (arith, c.loop-inner.invariant.fewer);
       documents = ap have_document pushed ∙ have_document-push frames f ∙ or_false (have_document frames) ∙ c.loop-inner.invariant.documents;
     }

@@ -1,7 +1,7 @@
 use Rattle.std.proofs.Common.{◌≡◌, List, [], ◌∷◌, ◌++◌, false, refl, sym, ap, ◌∙◌, arith}
 use Rattle.jsonb.specs.PathDocuments.{expression_has_document}
 use Rattle.jsonb.specs.PathTree.{binary, unary}
-use Rattle.jsonb.specs.PathViews.{operator_view, sign_view, expression_view}
+use Rattle.jsonb.specs.PathViews.{expression_view}
 use Rattle.jsonb.specs.Private.Copying.{framed, waiting, have_document, frame_has_document}
 use Rattle.jsonb.specs.declared.path.copying.Frame.{Frame}
 use Rattle.jsonb.specs.declared.path.copying.Frame.TheVariants as frame
@@ -25,7 +25,7 @@ returns-in-Right-clause-whole c =
     let had : c.loop-frame.frames.items ≡ rest ++ taken ∷ [] = c.in-Some.ensures.items ∙ ap (λ f. rest ++ f ∷ []) c.in-Right.is in
     let copied = ap expression_view c.in_ok-left-in-Right.ensures.ok in
     framed-more rest c.push.new.self.items put (expression_view c.in-Right.right.now) _ c.in_ok-push-in-Right.ensures.items
-    (ap (λ e. binary (operator_view op) e (expression_view c.in-Right.right.now)) copied)
+    (ap (λ e. binary op e (expression_view c.in-Right.right.now)) copied)
     ∙ sym (framed-more rest c.loop-frame.frames.items taken (expression_view c.loop-frame.copy) _ had refl)
     ∙ c.loop-frame.invariant.whole
 
@@ -87,7 +87,7 @@ loop-frame-preserved-in-Left c =
     let had : c.loop-frame.frames.items ≡ rest ++ taken ∷ [] = c.in-Some.ensures.items ∙ ap (λ f. rest ++ f ∷ []) c.in-Left.is in
     let before = ap waiting had ∙ waiting-push rest taken in
     let made = view-binary op left right
-    ∙ ap (λ e. binary (operator_view op) (expression_view left.value) (expression_view e)) c.in_ok-right-in-Left.ensures.ok in
+    ∙ ap (λ e. binary op (expression_view left.value) (expression_view e)) c.in_ok-right-in-Left.ensures.ok in
     record {
       whole = ap (framed rest) made ∙ sym (framed-more rest c.loop-frame.frames.items taken (expression_view c.loop-frame.copy) _ had refl)
           ∙ c.loop-frame.invariant.whole;
@@ -107,7 +107,7 @@ loop-frame-preserved c =
     let taken : Frame = frame.Sign op in
     let had : c.loop-frame.frames.items ≡ rest ++ taken ∷ [] = c.in-Some.ensures.items ∙ ap (λ f. rest ++ f ∷ []) c.in-Sign.is in
     let before = ap waiting had ∙ waiting-push rest taken in
-    let made = view-unary op operand ∙ ap (λ e. unary (sign_view op) (expression_view e)) c.in_ok-operand-in-Sign.ensures.ok in
+    let made = view-unary op operand ∙ ap (λ e. unary op (expression_view e)) c.in_ok-operand-in-Sign.ensures.ok in
     record {
       whole = ap (framed rest) made ∙ sym (framed-more rest c.loop-frame.frames.items taken (expression_view c.loop-frame.copy) _ had refl)
           ∙ c.loop-frame.invariant.whole;

@@ -3,7 +3,6 @@ use Rattle.std.proofs.Output.{has_written_append, has_written_of_eq}
 use Rattle.jsonb.specs.Private.EntriesText.{other_entry_text}
 use Rattle.jsonb.specs.declared.path.ArrayIndex.TheVariants as ArrayIndex
 use Rattle.jsonb.specs.declared.path.Index.TheVariants as Index
-use Rattle.jsonb.specs.PathViews.{entry_view}
 use Rattle.jsonb.proofs.TextLemmas.{text_of_one_more}
 use Rattle.jsonb.proofs.path.display.write_others.Goals as goal
 
@@ -11,6 +10,6 @@ pub loop-entry-preserved : goal.loop-entry-preserved
 loop-entry-preserved g c plain =
     let had = c.loop-entry.invariant plain in
     let default = ArrayIndex.Index (Index.Index (pos 0)) in
-    has_written_of_eq _ _ _ _ _ (text_of_one_more other_entry_text entry_view c.args.entries.now c.loop-entry.entry-index default
+    has_written_of_eq _ _ _ _ _ (text_of_one_more other_entry_text c.args.entries.now c.loop-entry.entry-index default
     (omega arith))
     (has_written_append _ _ _ _ _ _ had (c.in_ok-write.ensures.writes had.plain refl))

@@ -1,11 +1,10 @@
 use Rattle.std.proofs.Common.{take, map, flat_map}
 use Rattle.std.specs.Fmt.{HasWritten, IsPlainFormatter}
 use Rattle.jsonb.specs.Private.EntriesText.{other_entry_text}
-use Rattle.jsonb.specs.PathViews.{entry_view}
 use Rattle.jsonb.proofs.path.display.write_others.Given as goal
 
 -- the entries before the index are written
 abbrev pub invariant-loop-entry : goal.invariant-loop-entry
 invariant-loop-entry g l =
-    IsPlainFormatter l.initial.f → HasWritten g.W.Write.write_str_gives l.initial.f (flat_map other_entry_text (map entry_view
-    (take l.entry-index l.entries))) l.f
+    IsPlainFormatter l.initial.f → HasWritten g.W.Write.write_str_gives l.initial.f (flat_map other_entry_text
+    (take l.entry-index l.entries)) l.f

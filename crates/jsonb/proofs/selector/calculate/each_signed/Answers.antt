@@ -1,6 +1,5 @@
 use Rattle.std.proofs.Common.{[], map, refl}
 use Rattle.std.proofs.lemmas.Result.{err_from_is_err_and}
-use Rattle.jsonb.specs.PathViews.{sign_view}
 use Rattle.std.specs.List.{AllZip}
 use Rattle.jsonb.specs.Private.Selection.{value_view, signed_value, IsNumberItem}
 use Rattle.jsonb.proofs.RefinesLemmas.{Is, related_of_map}
@@ -11,7 +10,7 @@ use Rattle.jsonb.proofs.selector.calculate.each_signed.Goals as goal
 pub loop-value-init : goal.loop-value-init
 loop-value-init c =
     rw c.in_ok-numbers.ensures.items
-    (at_start (signed_value (sign_view c.args.op)) (AllZip (Is value_view) c.args.values.now) (AllZip IsNumberItem [])
+    (at_start (signed_value c.args.op) (AllZip (Is value_view) c.args.values.now) (AllZip IsNumberItem [])
     (map value_view c.args.values.now)
     (related_of_map value_view c.args.values.now (map value_view c.args.values.now) refl) tt)
 
@@ -19,20 +18,20 @@ pub returns-in_err-signed_value-clause-meant : goal.returns-in_err-signed_value-
 returns-in_err-signed_value-clause-meant c =
     let p = err_from_is_err_and c.from_residual-in_err-signed_value.result c.from_residual-in_err-signed_value.ensures.1 in
     rw (p.1, p.2)
-    (refused_in (signed_value (sign_view c.args.op)) (λ v ts. AllZip IsNumberItem v.items ts) _ _ _
+    (refused_in (signed_value c.args.op) (λ v ts. AllZip IsNumberItem v.items ts) _ _ _
     (AllZip IsNumberItem c.loop-value.numbers.items) _ _ _ c.loop-value.invariant
     (list_first (Is value_view) c.args.values.now c.loop-value.value-index _ c.loop-value-test.true)
     (λ v before is held. record { ok = tt; err = rw (← is) ((as_memory c.in_err-signed_value.ensures.meant).err) }))
 
 pub loop-value-preserved : goal.loop-value-preserved
 loop-value-preserved c =
-    one_more (signed_value (sign_view c.args.op)) _ _ _ _ _ _ c.loop-value.invariant
+    one_more (signed_value c.args.op) _ _ _ _ _ _ c.loop-value.invariant
     (list_first (Is value_view) c.args.values.now c.loop-value.value-index _ c.loop-value-test.true)
     (λ v before is held. rw (← is) (number_added _ _ _ _ before c.in_ok-push.ensures.items (c.in_ok-signed_value.ensures.meant.ok) held))
 
 pub returns-clause-meant : goal.returns-clause-meant
 returns-clause-meant c = record {
-  ok = at_end (signed_value (sign_view c.args.op)) _ _ _ c.loop-value.invariant
+  ok = at_end (signed_value c.args.op) _ _ _ c.loop-value.invariant
       (list_end (Is value_view) c.args.values.now c.loop-value.value-index c.loop-value-test.false);
   err = tt;
 }

@@ -1,6 +1,5 @@
 use Rattle.std.proofs.Common.{map, drop}
 use Rattle.jsonb_doc.specs.Answer.{try_flat_map}
-use Rattle.jsonb.specs.PathViews.{sign_view}
 use Rattle.std.specs.List.{AllZip}
 use Rattle.jsonb.specs.Private.Selection.{value_view, signed_value, IsNumberItem}
 use Rattle.jsonb.proofs.RefinesLemmas.{Is}
@@ -9,4 +8,4 @@ use Rattle.jsonb.proofs.selector.calculate.each_signed.Given as goal
 
 abbrev pub invariant-loop-value : goal.invariant-loop-value
 invariant-loop-value l = Progress (AllZip (Is value_view) (drop l.value-index l.values)) (AllZip IsNumberItem l.numbers.items)
-    (signed_value (sign_view l.op)) (try_flat_map (signed_value (sign_view l.op)) (map value_view l.values))
+    (signed_value l.op) (try_flat_map (signed_value l.op) (map value_view l.values))

@@ -2,10 +2,9 @@ use Rattle.std.proofs.Common.{map}
 use Rattle.jsonb_doc.specs.Answer.{try_flat_map}
 use Rattle.jsonb_doc.specs.View.{number_view}
 use Rattle.jsonb.specs.PathArithmetic.{signed_number}
-use Rattle.jsonb.specs.PathViews.{sign_view}
 use Rattle.jsonb.proofs.SignLemmas.{SignedUntil}
 use Rattle.jsonb.proofs.selector.calculate.sign_each.Given as goal
 
 abbrev pub invariant-loop-number : goal.invariant-loop-number
 invariant-loop-number l =
-    SignedUntil (sign_view l.op) l.numbers l.number-index (try_flat_map (signed_number (sign_view l.op)) (map number_view l.fn.numbers))
+    SignedUntil l.op l.numbers l.number-index (try_flat_map (signed_number l.op) (map number_view l.fn.numbers))

@@ -1,7 +1,6 @@
 use Rattle.std.proofs.Common.{map, ap, sym, ◌∙◌, inr}
 use Rattle.jsonb_doc.specs.Answer.{and_then, try_flat_map}
 use Rattle.jsonb.specs.PathArithmetic.{signed_number}
-use Rattle.jsonb.specs.PathViews.{sign_view}
 use Rattle.jsonb.specs.Private.Selection.{value_view}
 use Rattle.jsonb.proofs.CalculateLemmas.{other_refused, values_signed}
 use Rattle.jsonb.proofs.RefinesLemmas.{same_outcome}
@@ -9,12 +8,12 @@ use Rattle.jsonb.proofs.selector.calculate.unary_numbers.Goals as goal
 
 pub returns-then-are_numbers-clause-meant : goal.returns-then-are_numbers-clause-meant
 returns-then-are_numbers-clause-meant c =
-    same_outcome (values_signed (sign_view c.args.op) (map value_view c.args.values.now) (sym c.are_numbers.ensures ∙ c.if-are_numbers.true))
+    same_outcome (values_signed c.args.op (map value_view c.args.values.now) (sym c.are_numbers.ensures ∙ c.if-are_numbers.true))
     c.each_signed.ensures.meant
 
 pub returns-else-are_numbers-clause-meant : goal.returns-else-are_numbers-clause-meant
 returns-else-are_numbers-clause-meant c = record {
   ok = tt;
-  err = inr (ap (λ o. and_then o (try_flat_map (signed_number (sign_view c.args.op))))
+  err = inr (ap (λ o. and_then o (try_flat_map (signed_number c.args.op)))
       (other_refused (map value_view c.args.values.now) (sym c.are_numbers.ensures ∙ c.if-are_numbers.false)));
 }

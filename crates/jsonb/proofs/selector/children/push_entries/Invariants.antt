@@ -1,7 +1,6 @@
 use Rattle.std.proofs.Common.{◌≡◌, ℕ, ◌++◌, map, List, drop}
 use Rattle.jsonb_doc.specs.Spots.{Locates}
 use Rattle.jsonb_doc.specs.Tree.{Tree}
-use Rattle.jsonb.specs.PathViews.{entry_view}
 use Rattle.std.specs.List.{AllZip}
 use Rattle.jsonb.specs.ItemSteps.{picked}
 use Rattle.jsonb.proofs.selector.children.push_entries.Given as goal
@@ -11,4 +10,4 @@ abbrev pub invariant-loop-entry : goal.invariant-loop-entry
 invariant-loop-entry l =
     (bytes : List ℕ) (ts before : List Tree) → AllZip (Locates bytes) l.elements ts → AllZip (Locates bytes) l.fn.nodes.items before →
     (given : List Tree) × AllZip (Locates bytes) l.nodes.items given
-    × (before ++ picked (map entry_view l.entries) ts ≡ given ++ picked (map entry_view (drop l.entry-index l.entries)) ts)
+    × (before ++ picked l.entries ts ≡ given ++ picked (drop l.entry-index l.entries) ts)

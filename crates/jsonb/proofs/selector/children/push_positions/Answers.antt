@@ -1,7 +1,6 @@
 use Rattle.std.proofs.Common.{[], map}
 use Rattle.jsonb_doc.specs.Spots.{Locates, HasSpotsLeft}
 use Rattle.jsonb_raw.specs.Arrays.{array_values}
-use Rattle.jsonb.specs.PathViews.{entry_view}
 use Rattle.jsonb.specs.ItemSteps.{picked}
 use Rattle.jsonb.proofs.RefinesLemmas.{listed, none_found, mismatches, same_answer}
 use Rattle.jsonb.proofs.selector.children.push_positions.Goals as goal
@@ -11,12 +10,12 @@ returns-in_err-elements-clause-meant c = λ t before m a. absurd (c.in_err-eleme
 
 pub returns-in-Some-clause-meant : goal.returns-in-Some-clause-meant
 returns-in-Some-clause-meant c = λ t before m a.
-    listed c.args.mode [] (HasSpotsLeft c.args.bytes.now) (picked (map entry_view c.args.entries.now)) c.in-Some.elements (array_values t)
+    listed c.args.mode [] (HasSpotsLeft c.args.bytes.now) (picked c.args.entries.now) c.in-Some.elements (array_values t)
     (rw c.in-Some.is at (c.in_ok-elements.ensures.meant t m))
     (λ us h. c.push_picked.ensures.meant c.args.bytes.now us before h a)
 
 pub returns-in-None-clause-meant : goal.returns-in-None-clause-meant
 returns-in-None-clause-meant c = λ t before m a.
-    none_found c.args.mode [] (HasSpotsLeft c.args.bytes.now) (picked (map entry_view c.args.entries.now)) (array_values t)
+    none_found c.args.mode [] (HasSpotsLeft c.args.bytes.now) (picked c.args.entries.now) (array_values t)
     (rw c.in-None.is at (c.in_ok-elements.ensures.meant t m))
     (same_answer c.fail_if_strict.ensures.answer (mismatches c.args.mode (Locates c.args.bytes.now) c.args.nodes.now.items before a))

@@ -1,5 +1,4 @@
 use Rattle.std.proofs.Common.{map, ap, sym, ◌∙◌, refl, inl, inr}
-use Rattle.jsonb.specs.PathViews.{entry_view}
 use Rattle.jsonb.specs.ItemSteps.{field_step, indices_step}
 use Rattle.jsonb_doc.specs.Spots.{Locates}
 use Rattle.jsonb.specs.Meaning.{step_meaning}
@@ -21,7 +20,7 @@ pub returns-in-ArrayIndices-clause-meant : goal.returns-in-ArrayIndices-clause-m
 returns-in-ArrayIndices-clause-meant c = λ top u before n s a.
     same_outcome (ap (λ x. step_meaning c.args.mode x top u)
     (indices_is c.args.step.now c.in-ArrayIndices.entries c.in-ArrayIndices.is)
-    ∙ ap (λ l. indices_step c.args.mode (map entry_view l) u) (sym c.deref.ensures.value))
+    ∙ ap (λ l. indices_step c.args.mode l u) (sym c.deref.ensures.value))
     (c.push_positions.ensures.meant u before s a)
 
 pub returns-in-RecursiveDotWildcard-clause-meant : goal.returns-in-RecursiveDotWildcard-clause-meant

@@ -2,7 +2,7 @@ use Rattle.std.proofs.Common.{◌≡◌, ◌++◌, ap, sym, ◌∙◌, take}
 use Rattle.std.proofs.lemmas.List.{take-append-drop, map-append}
 use Rattle.jsonb.specs.PathTree as math
 use Rattle.jsonb.specs.PathTree.{steps_of}
-use Rattle.jsonb.specs.PathViews.{step_view, steps_view, expression_view, operator_view}
+use Rattle.jsonb.specs.PathViews.{step_view, steps_view, expression_view}
 use Rattle.jsonb.specs.Meaning.{truth, operand_values}
 use Rattle.jsonb.specs.Private.Members.{are_members}
 use Rattle.jsonb.specs.Private.Selection.{value_view}
@@ -23,18 +23,18 @@ returns-else-not-is_comparison c =
     ap steps_view (sym (take-append-drop c.members_behind.result steps.steps.now)) ∙ map-append step_view (take c.members_behind.result steps.steps.now) _
     ∙ (λ i. steps_view (sym c.split_at.ensures.front i) ++ steps_view (sym c.split_at.ensures.back i)) in
     record {
-      each = math.binary (operator_view k.op) (math.paths (math.step math.current (steps_of names))) (expression_view k.right.value);
+      each = math.binary k.op (math.paths (math.step math.current (steps_of names))) (expression_view k.right.value);
       member = record {
         members = ap (λ l. are_members (steps_view l)) c.split_at.ensures.back ∙ c.members_behind.ensures.members;
         compares = λ mode top t.
-            compares_member mode (operator_view k.op) (steps_of names) (expression_view k.right.value) (value_view literal.literal) top t compares
+            compares_member mode k.op (steps_of names) (expression_view k.right.value) (value_view literal.literal) top t compares
             (ap (λ x. operand_values mode (expression_view x) top t) (sym c.deref-in-BinaryOp.ensures) ∙ literal.ensures mode top t);
       };
       compares = λ top.
           ap (λ x. truth Lax x top top)
           (binary_is c.args.e.now k.op k.left k.right k.is
-          ∙ (λ i. math.binary (operator_view k.op) ((ap expression_view (sym c.deref.ensures) ∙ steps.ensures) i) (expression_view k.right.value)))
-          ∙ compares_list (operator_view k.op) (steps_view steps.steps.now) (steps_view c.split_at.result.0.now) names (expression_view k.right.value)
+          ∙ (λ i. math.binary k.op ((ap expression_view (sym c.deref.ensures) ∙ steps.ensures) i) (expression_view k.right.value)))
+          ∙ compares_list k.op (steps_view steps.steps.now) (steps_view c.split_at.result.0.now) names (expression_view k.right.value)
           (value_view literal.literal) top split compares
           (ap (λ x. operand_values Lax (expression_view x) top top) (sym c.deref-in-BinaryOp.ensures) ∙ literal.ensures Lax top top);
     }

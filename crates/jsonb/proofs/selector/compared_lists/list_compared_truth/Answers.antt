@@ -5,6 +5,7 @@ use Rattle.std.proofs.lemmas.Result.{err_from_is_err_and}
 use Rattle.jsonb.specs.Private.Compared.{items_truth}
 use Rattle.jsonb.proofs.RefinesLemmas.{same_answer, same_outcome, first_refused, followed}
 use Rattle.jsonb.proofs.ListLemmas.{by_front, by_names}
+use Rattle.jsonb.proofs.RepeatLemmas.{alike_items_truth}
 use Rattle.jsonb.proofs.selector.compared_lists.list_compared_truth.Goals as goal
 
 pub returns-then-is_empty-clause-meant : goal.returns-then-is_empty-clause-meant
@@ -22,5 +23,6 @@ returns-in_err-found-clause-meant c = λ e top k r.
 pub returns-clause-meant : goal.returns-clause-meant
 returns-clause-meant c = λ e top k r.
     same_outcome (by_front c.args.list.now e top k)
-    (followed (items_truth c.args.list.now.comparison top) (c.in_ok-found.ensures.meant top top r r) (λ us related.
-    c.items_truth.ensures.meant k.each top us k.member (rw c.as_slice.ensures related)))
+    (followed (items_truth c.args.list.now.comparison top) (c.in_ok-found.ensures.meant top top r r) (λ ts found.
+    same_outcome (sym (alike_items_truth c.args.list.now.comparison top found.0 ts found.2))
+    (c.items_truth.ensures.meant k.each top found.0 k.member (rw c.as_slice.ensures found.1))))

@@ -1,6 +1,5 @@
 use Rattle.std.proofs.Common.{map, ap, sym, ◌∙◌}
 use Rattle.jsonb.specs.Compare.{compare}
-use Rattle.jsonb.specs.PathViews.{operator_view}
 use Rattle.jsonb.specs.Private.Selection.{value_view}
 use Rattle.jsonb.specs.Values.{values_of_item}
 use Rattle.jsonb.proofs.selector.compared_member.compared_truth.Goals as goal
@@ -13,6 +12,6 @@ returns-in-Some-clause-meant c = λ t l.
     let is = rw c.in-Some.is at (c.in_ok-number.ensures.number t l) in
     record {
       ok = c.compare_short.ensures
-          ∙ ap (λ vs. compare (operator_view c.args.op) vs (map value_view c.args.rights.now)) (sym (ap values_of_item is));
+          ∙ ap (λ vs. compare c.args.op vs (map value_view c.args.rights.now)) (sym (ap values_of_item is));
       err = tt;
     }

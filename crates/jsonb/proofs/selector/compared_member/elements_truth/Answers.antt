@@ -4,7 +4,6 @@ use Rattle.jsonb_doc.proofs.SpotsTaken.{no_refusal}
 use Rattle.jsonb_doc.specs.Spots.{HasSpotsLeft}
 use Rattle.jsonb_doc.specs.Tree.{Tree}
 use Rattle.jsonb.specs.Compare.{compare}
-use Rattle.jsonb.specs.PathViews.{operator_view}
 use Rattle.jsonb.specs.Private.Selection.{value_view}
 use Rattle.jsonb.specs.Values.{value_of_item}
 use Rattle.jsonb.proofs.RefinesLemmas.{same_answer, only_memory}
@@ -37,8 +36,8 @@ returns-then-ne-clause-meant c = λ ts h.
     let inv = c.loop-element.invariant ts h in
     let k = spot_first c.args.bytes.now c.loop-element.element-iterator c.next.new.self c.in-Some.element _ c.in_ok-element.was c.in-Some.ensures.steps
     inv.0 inv.1 in
-    known (ap Ok (inv.2 ∙ ap (λ (l : List Tree). compare (operator_view c.args.op) (flat_map value_of_item l) rights) k.whole
-    ∙ compare_stops (operator_view c.args.op) rights (value_of_item k.first) (flat_map value_of_item k.others) c.in_ok-truth.truth
+    known (ap Ok (inv.2 ∙ ap (λ (l : List Tree). compare c.args.op (flat_map value_of_item l) rights) k.whole
+    ∙ compare_stops c.args.op rights (value_of_item k.first) (flat_map value_of_item k.others) c.in_ok-truth.truth
     (sym (c.in_ok-truth.ensures.meant k.first k.holds).ok) (is_not_false c.in_ok-truth.truth (sym c.ne.ensures ∙ c.if-ne.true)))) refl
 
 pub loop-element-preserved : goal.loop-element-preserved
@@ -49,13 +48,13 @@ loop-element-preserved c = λ ts h.
     inv.0 inv.1 in (
       k.others,
       k.left,
-      inv.2 ∙ ap (λ (l : List Tree). compare (operator_view c.args.op) (flat_map value_of_item l) rights) k.whole
-          ∙ compare_passes (operator_view c.args.op) rights (value_of_item k.first) (flat_map value_of_item k.others)
+      inv.2 ∙ ap (λ (l : List Tree). compare c.args.op (flat_map value_of_item l) rights) k.whole
+          ∙ compare_passes c.args.op rights (value_of_item k.first) (flat_map value_of_item k.others)
           (sym (c.in_ok-truth.ensures.meant k.first k.holds).ok ∙ is_false c.in_ok-truth.truth (sym c.ne.ensures ∙ c.if-ne.false)),
     )
 
 pub returns-clause-meant : goal.returns-clause-meant
 returns-clause-meant c = λ ts h.
     let inv = c.loop-element.invariant ts h in
-    known (ap Ok (inv.2 ∙ ap (λ (l : List Tree). compare (operator_view c.args.op) (flat_map value_of_item l) (map value_view c.args.rights.now))
+    known (ap Ok (inv.2 ∙ ap (λ (l : List Tree). compare c.args.op (flat_map value_of_item l) (map value_view c.args.rights.now))
     (spot_end c.args.bytes.now c.loop-element.element-iterator c.next.new.self c.in-None.ensures.steps inv.0 inv.1))) refl

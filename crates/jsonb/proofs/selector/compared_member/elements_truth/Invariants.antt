@@ -2,7 +2,6 @@ use Rattle.std.proofs.Common.{◌≡◌, List, map, flat_map}
 use Rattle.jsonb_doc.specs.Spots.{HasSpotsLeft}
 use Rattle.jsonb_doc.specs.Tree.{Tree}
 use Rattle.jsonb.specs.Compare.{compare}
-use Rattle.jsonb.specs.PathViews.{operator_view}
 use Rattle.jsonb.specs.Private.Selection.{value_view}
 use Rattle.jsonb.specs.Values.{value_of_item}
 use Rattle.jsonb.proofs.selector.compared_member.elements_truth.Given as goal
@@ -11,5 +10,5 @@ use Rattle.jsonb.proofs.selector.compared_member.elements_truth.Given as goal
 abbrev pub invariant-loop-element : goal.invariant-loop-element
 invariant-loop-element l = (ts : List Tree) → HasSpotsLeft l.bytes l.fn.elements ts
     → (rest : List Tree) × HasSpotsLeft l.bytes l.element-iterator rest
-    × (compare (operator_view l.op) (flat_map value_of_item ts) (map value_view l.rights)
-    ≡ compare (operator_view l.op) (flat_map value_of_item rest) (map value_view l.rights))
+    × (compare l.op (flat_map value_of_item ts) (map value_view l.rights)
+    ≡ compare l.op (flat_map value_of_item rest) (map value_view l.rights))

@@ -1,7 +1,6 @@
 use Rattle.std.proofs.Common.{Ok, map, flat_map, ap, sym, append-nil, ◌∙◌}
 use Rattle.jsonb_doc.specs.Spots.{Locates}
 use Rattle.jsonb.specs.Compare.{compare}
-use Rattle.jsonb.specs.PathViews.{operator_view}
 use Rattle.jsonb.specs.Private.Selection.{value_view}
 use Rattle.jsonb.specs.Values.{values_of_item}
 use Rattle.jsonb.proofs.RefinesLemmas.{same_outcome}
@@ -11,14 +10,14 @@ use Rattle.jsonb.proofs.selector.compared_member.found_truth.Goals as goal
 pub returns-in-Some-clause-meant : goal.returns-in-Some-clause-meant
 returns-in-Some-clause-meant c = λ ts related.
     let one = one_member (Locates c.args.bytes.now) _ c.in-Some.found ts c.in-Some.is related in
-    same_outcome (ap (λ vs. Ok (compare (operator_view c.args.op) vs (map value_view c.args.rights.now)))
+    same_outcome (ap (λ vs. Ok (compare c.args.op vs (map value_view c.args.rights.now)))
     (ap (flat_map values_of_item) one.1 ∙ append-nil (values_of_item one.0)))
     (c.compared_truth.ensures.meant one.0 one.2)
 
 pub returns-in-None-clause-meant : goal.returns-in-None-clause-meant
 returns-in-None-clause-meant c = λ ts related.
     record {
-      ok = ap (λ l. compare (operator_view c.args.op) (flat_map values_of_item l) (map value_view c.args.rights.now))
+      ok = ap (λ l. compare c.args.op (flat_map values_of_item l) (map value_view c.args.rights.now))
           (sym (no_member (Locates c.args.bytes.now) _ ts c.in-None.is related));
       err = tt;
     }

@@ -1,7 +1,6 @@
 use Rattle.std.proofs.Common.{Ok, Err, map, flat_map, ap, sym, ◌∙◌}
 use Rattle.std.proofs.lemmas.Result.{err_from_is_err_and}
 use Rattle.jsonb.specs.Compare.{compare}
-use Rattle.jsonb.specs.PathViews.{operator_view}
 use Rattle.jsonb.specs.Private.Selection.{value_view}
 use Rattle.jsonb.specs.Values.{values_of_item}
 use Rattle.jsonb.proofs.RefinesLemmas.{same_outcome, same_answer, first_refused, followed}
@@ -18,5 +17,5 @@ pub returns-clause-meant : goal.returns-clause-meant
 returns-clause-meant c = λ e mode top t k g.
     same_outcome (truth_is c.args.comparison.now e mode top t k)
     (followed (told_by c.args.comparison.now) (rw c.in_ok-member.was at g) (λ us related.
-    same_outcome (λ i. Ok (compare (operator_view c.args.comparison.now.op) (flat_map values_of_item us) (map value_view (sym c.from_ref-rights.ensures.value i))))
+    same_outcome (λ i. Ok (compare c.args.comparison.now.op (flat_map values_of_item us) (map value_view (sym c.from_ref-rights.ensures.value i))))
     (c.found_truth.ensures.meant us related)))

@@ -3,7 +3,6 @@ use Rattle.std.proofs.lemmas.Result.{err_from_is_err_and}
 use Rattle.jsonb_doc.specs.Answer.{Outcome, and_then}
 use Rattle.jsonb_doc.specs.Tree.{Tree}
 use Rattle.jsonb.specs.Compare.{compare}
-use Rattle.jsonb.specs.PathViews.{operator_view}
 use Rattle.jsonb.specs.Private.Selection.{value_view}
 use Rattle.jsonb.specs.Values.{Value, values_of_item}
 use Rattle.jsonb.specs.declared.selector.document.Expressions.TheVariants.{AreRefused}
@@ -18,7 +17,7 @@ joined (Err e) f g = refl
 pub returns-in_err-found-clause-meant : goal.returns-in_err-found-clause-meant
 returns-in_err-found-clause-meant c = λ top u all r s.
     let rights = map value_view c.args.rights.now in
-    let compares = λ (vs : List Value). Ok (compare (operator_view c.args.op) vs rights) in
+    let compares = λ (vs : List Value). Ok (compare c.args.op vs rights) in
     let p = err_from_is_err_and c.from_residual.result c.from_residual.ensures.1 in
     same_answer (p.1 ∙ ap Err p.2) (same_outcome
     (joined _ (flat_map values_of_item) compares
@@ -30,7 +29,7 @@ returns-in_err-found-clause-meant c = λ top u all r s.
 pub returns-clause-meant : goal.returns-clause-meant
 returns-clause-meant c = λ top u all r s.
     let rights = map value_view c.args.rights.now in
-    let compares = λ (vs : List Value). Ok (compare (operator_view c.args.op) vs rights) in
+    let compares = λ (vs : List Value). Ok (compare c.args.op vs rights) in
     same_outcome
     (joined _ (flat_map values_of_item) compares
     ∙ ap (λ o. and_then o (λ ts. compares (flat_map values_of_item ts)))

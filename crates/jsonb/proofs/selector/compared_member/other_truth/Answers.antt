@@ -2,7 +2,6 @@ use Rattle.std.proofs.Common.{Ok, map, ap, List}
 use Rattle.jsonb_doc.proofs.SpotsTaken.{some_spots, no_spots}
 use Rattle.jsonb_raw.specs.Arrays.{array_values}
 use Rattle.jsonb.specs.Compare.{compare}
-use Rattle.jsonb.specs.PathViews.{operator_view}
 use Rattle.jsonb.specs.Private.Selection.{value_view}
 use Rattle.jsonb.specs.Values.{Value}
 use Rattle.jsonb.proofs.ItemKinds.{values_of_array, other_values}
@@ -15,11 +14,11 @@ returns-in_err-elements-clause-meant c = λ t m. absurd (c.in_err-elements.ensur
 pub returns-in-Some-clause-meant : goal.returns-in-Some-clause-meant
 returns-in-Some-clause-meant c = λ t m.
     let found = some_spots c.args.bytes.now c.in-Some.elements (array_values t) (rw c.in-Some.is at (c.in_ok-elements.ensures.meant t m)) in
-    same_outcome (ap (λ (vs : List Value). Ok (compare (operator_view c.args.op) vs (map value_view c.args.rights.now))) (values_of_array t found.0 found.1))
+    same_outcome (ap (λ (vs : List Value). Ok (compare c.args.op vs (map value_view c.args.rights.now))) (values_of_array t found.0 found.1))
     (c.elements_truth.ensures.meant found.0 found.2)
 
 pub returns-in-None-clause-meant : goal.returns-in-None-clause-meant
 returns-in-None-clause-meant c = λ t m.
     let none = no_spots c.args.bytes.now (array_values t) (rw c.in-None.is at (c.in_ok-elements.ensures.meant t m)) in
-    same_outcome (ap (λ (vs : List Value). Ok (compare (operator_view c.args.op) vs (map value_view c.args.rights.now))) (other_values t none))
+    same_outcome (ap (λ (vs : List Value). Ok (compare c.args.op vs (map value_view c.args.rights.now))) (other_values t none))
     (c.element_truth.ensures.meant t m)

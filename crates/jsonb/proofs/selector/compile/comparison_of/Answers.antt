@@ -1,7 +1,7 @@
 use Rattle.std.proofs.Common.{ap, sym, ◌∙◌}
 use Rattle.jsonb.specs.PathTree as math
 use Rattle.jsonb.specs.PathTree.{steps_of}
-use Rattle.jsonb.specs.PathViews.{steps_view, expression_view, operator_view}
+use Rattle.jsonb.specs.PathViews.{steps_view, expression_view}
 use Rattle.jsonb.specs.Meaning.{truth}
 use Rattle.jsonb.specs.Private.Selection.{value_view}
 use Rattle.jsonb.proofs.ComparedLemmas.{compares_member}
@@ -16,8 +16,8 @@ returns-in_ok-literal-in-Some-None c = λ compares.
     record {
       members = k.ensures.0;
       compares = λ mode top t.
-          ap (λ x. truth mode (math.binary (operator_view c.args.op) x (expression_view c.args.right.now)) top t) k.ensures.1
-          ∙ compares_member mode (operator_view c.args.op) (steps_of (steps_view k.names.now)) (expression_view c.args.right.now)
+          ap (λ x. truth mode (math.binary c.args.op x (expression_view c.args.right.now)) top t) k.ensures.1
+          ∙ compares_member mode c.args.op (steps_of (steps_view k.names.now)) (expression_view c.args.right.now)
           (value_view literal.literal) top t compares (literal.ensures mode top t);
     }
 
@@ -28,8 +28,8 @@ returns-in-Some-Some c = λ compares.
       left = k.ensures.0;
       right = k.ensures'.0;
       compares = λ mode top t.
-          (λ i. truth mode (math.binary (operator_view c.args.op) (k.ensures.1 i) (k.ensures'.1 i)) top t)
-          ∙ compares_members mode (operator_view c.args.op) (steps_of (steps_view k.left.now)) (steps_of (steps_view k.right.now)) top t compares;
+          (λ i. truth mode (math.binary c.args.op (k.ensures.1 i) (k.ensures'.1 i)) top t)
+          ∙ compares_members mode c.args.op (steps_of (steps_view k.left.now)) (steps_of (steps_view k.right.now)) top t compares;
     }
 
 pub returns-in_ok-turned-in-None-Some : goal.returns-in_ok-turned-in-None-Some
@@ -40,7 +40,7 @@ returns-in_ok-turned-in-None-Some c = λ _.
     record {
       members = k.ensures'.0;
       compares = λ mode top t.
-          ap (λ x. truth mode (math.binary (operator_view c.args.op) (expression_view c.args.left.now) x) top t) k.ensures'.1
-          ∙ member_mirrored mode (operator_view c.args.op) (operator_view turned.turned) (expression_view c.args.left.now)
+          ap (λ x. truth mode (math.binary c.args.op (expression_view c.args.left.now) x) top t) k.ensures'.1
+          ∙ member_mirrored mode c.args.op turned.turned (expression_view c.args.left.now)
           (value_view literal.literal) (steps_of (steps_view k.names.now)) top t (sym turned.ensures) (literal.ensures mode top t);
     }

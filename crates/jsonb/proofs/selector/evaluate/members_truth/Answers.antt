@@ -3,7 +3,6 @@ use Rattle.std.proofs.lemmas.Result.{err_from_is_err_and}
 use Rattle.std.specs.List.{AllZip}
 use Rattle.jsonb_doc.specs.Spots.{Locates}
 use Rattle.jsonb.specs.Compare.{compare}
-use Rattle.jsonb.specs.PathViews.{operator_view}
 use Rattle.jsonb.specs.Private.Selection.{values_view}
 use Rattle.jsonb.specs.Values.{values_of_item}
 use Rattle.jsonb.specs.declared.selector.document.Expressions.TheVariants.{AreRefused}
@@ -21,7 +20,7 @@ pub returns-in_err-right-clause-meant : goal.returns-in_err-right-clause-meant
 returns-in_err-right-clause-meant c = λ e top t k m.
     let p = err_from_is_err_and c.from_residual-in_err-right.result c.from_residual-in_err-right.ensures.1 in
     same_answer (p.1 ∙ ap Err p.2) (same_outcome (both_members c.args.comparison.now e c.args.mode top t k)
-    (second_refused (λ ls rs. Ok (compare (operator_view c.args.comparison.now.op) (flat_map values_of_item ls) (flat_map values_of_item rs)))
+    (second_refused (λ ls rs. Ok (compare c.args.comparison.now.op (flat_map values_of_item ls) (flat_map values_of_item rs)))
     (c.in_ok-left.ensures.meant AreRefused top t k.left m) (c.in_err-right.ensures.meant AreRefused top t k.right m)))
 
 pub returns-in_err-rights-clause-meant : goal.returns-in_err-rights-clause-meant
@@ -39,5 +38,5 @@ returns-clause-meant c = λ e top t k m.
     followed _ (c.in_ok-right.ensures.meant AreRefused top t k.right m) (λ rs b.
     let values : values_view c.in_ok-rights.rights ≡ flat_map values_of_item rs =
     (c.in_ok-rights.ensures.meant rs (subst (λ l. AllZip (Locates c.args.bytes.now) l rs) (sym c.at_most_one.ensures) b)).ok in
-    same_outcome (ap (λ v. Ok (compare (operator_view c.args.comparison.now.op) (flat_map values_of_item ls) v)) (sym values ∙ sym c.as_slice.ensures))
+    same_outcome (ap (λ v. Ok (compare c.args.comparison.now.op (flat_map values_of_item ls) v)) (sym values ∙ sym c.as_slice.ensures))
     (c.found_truth.ensures.meant ls a))))

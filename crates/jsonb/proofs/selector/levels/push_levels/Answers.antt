@@ -1,7 +1,6 @@
 use Rattle.std.proofs.Common.{◌++◌, Err, inl, ap, sym, ◌∙◌, refl, subst, option_map, arith}
 use Rattle.std.proofs.lemmas.Result.{err_from_is_err_and}
 use Rattle.jsonb_doc.specs.Spots.{Locates}
-use Rattle.jsonb.specs.PathViews.{levels_view}
 use Rattle.std.specs.List.{AllZip}
 use Rattle.jsonb.proofs.RefinesLemmas.{same_answer}
 use Rattle.jsonb.proofs.BelowLemmas.{no_levels, walk_begun, leaves_passed, all_passed, item_passed, item_entered, level_done, walk_done, told_first, falls_within, falls_beside, falls_done}
@@ -13,13 +12,13 @@ returns-in_err-below-clause-meant c = λ u n before l m a.
     let p = err_from_is_err_and c.from_residual.result c.from_residual.ensures.1 in
     same_answer (p.1 ∙ ap Err p.2) (record {
       ok = tt;
-      err = inl (c.in_err-below.ensures.meant (option_map levels_view c.args.levels) u n before
+      err = inl (c.in_err-below.ensures.meant c.args.levels u n before
           c.of_step-range.ensures l m a);
     })
 
 pub returns-in_default-clause-meant : goal.returns-in_default-clause-meant
 returns-in_default-clause-meant c = λ u n before l m a.
-    let told = rw c.in_default.is at (c.in_ok-below.ensures.meant (option_map levels_view c.args.levels) u n before c.of_step-range.ensures l m a) in record {
+    let told = rw c.in_default.is at (c.in_ok-below.ensures.meant c.args.levels u n before c.of_step-range.ensures l m a) in record {
       ok = subst (λ ts. AllZip (Locates c.args.bytes.now) c.push_item.new.nodes.items (before ++ ts)) (sym told.1) told.0;
       err = tt;
     }
@@ -27,8 +26,8 @@ returns-in_default-clause-meant c = λ u n before l m a.
 pub walk-init : goal.walk-init
 walk-init c = record {
   whole = λ u n before l m a.
-      let told = rw c.in-Some.is at (c.in_ok-below.ensures.meant (option_map levels_view c.args.levels) u n before c.of_step-range.ensures l m a) in
-      walk_begun c.args.bytes.now (option_map levels_view c.args.levels) _ _ _ before told.1.0 n u c.new-around.ensures.items told.0 told.1.1 told.1.2;
+      let told = rw c.in-Some.is at (c.in_ok-below.ensures.meant c.args.levels u n before c.of_step-range.ensures l m a) in
+      walk_begun c.args.bytes.now c.args.levels _ _ _ before told.1.0 n u c.new-around.ensures.items told.0 told.1.1 told.1.2;
 }
 
 pub returns-in_err-container-clause-meant : goal.returns-in_err-container-clause-meant
@@ -38,21 +37,21 @@ returns-in_err-container-clause-meant c = λ u n before l m a.
     same_answer (p.1 ∙ ap Err p.2)
     (record {
       ok = tt;
-      err = inl (c.in_err-container.ensures.meant c.args.bytes.now (option_map levels_view c.args.levels) w.level w.here w.given
-          (range_taken (option_map levels_view c.args.levels) _ _ w.level _ c.of_step-range.ensures w.deep c.contains-is_taken.ensures) w.left w.done);
+      err = inl (c.in_err-container.ensures.meant c.args.bytes.now c.args.levels w.level w.here w.given
+          (range_taken c.args.levels _ _ w.level _ c.of_step-range.ensures w.deep c.contains-is_taken.ensures) w.left w.done);
     })
 
 pub returns-in_err-below-in-Some-2-clause-meant : goal.returns-in_err-below-in-Some-2-clause-meant
 returns-in_err-below-in-Some-2-clause-meant c = λ u n before l m a.
     let w = c.walk.invariant.whole u n before l m a in
-    let v = leaves_passed c.args.bytes.now (option_map levels_view c.args.levels) _ _ _ _ _ _ _ w
-    (rw c.in-Some-2.is at (c.in_ok-container.ensures.meant c.args.bytes.now (option_map levels_view c.args.levels) w.level w.here w.given
-    (range_taken (option_map levels_view c.args.levels) _ _ w.level _ c.of_step-range.ensures w.deep c.contains-is_taken.ensures) w.left w.done)) in
+    let v = leaves_passed c.args.bytes.now c.args.levels _ _ _ _ _ _ _ w
+    (rw c.in-Some-2.is at (c.in_ok-container.ensures.meant c.args.bytes.now c.args.levels w.level w.here w.given
+    (range_taken c.args.levels _ _ w.level _ c.of_step-range.ensures w.deep c.contains-is_taken.ensures) w.left w.done)) in
     let p = err_from_is_err_and c.from_residual-in_err-below-in-Some-2.result c.from_residual-in_err-below-in-Some-2.ensures.1 in
     same_answer (p.1 ∙ ap Err p.2)
     (record {
       ok = tt;
-      err = inl (c.in_err-below-in-Some-2.ensures.meant (option_map levels_view c.args.levels) v.left.first v.level v.given
+      err = inl (c.in_err-below-in-Some-2.ensures.meant c.args.levels v.left.first v.level v.given
           c.of_step-range.ensures v.deep v.left.holds v.done);
     })
 
@@ -67,11 +66,11 @@ pub walk-preserved-in-Some-below : goal.walk-preserved-in-Some-below
 walk-preserved-in-Some-below c = record {
   whole = λ u n before l m a.
       let w = c.walk.invariant.whole u n before l m a in
-      let v = leaves_passed c.args.bytes.now (option_map levels_view c.args.levels) _ _ _ _ _ _ _ w
-      (rw c.in-Some-2.is at (c.in_ok-container.ensures.meant c.args.bytes.now (option_map levels_view c.args.levels) w.level w.here w.given
-      (range_taken (option_map levels_view c.args.levels) _ _ w.level _ c.of_step-range.ensures w.deep c.contains-is_taken.ensures) w.left w.done)) in
-      item_entered c.args.bytes.now (option_map levels_view c.args.levels) _ _ _ _ _ _ _ v
-      (told_first v.left (λ t marks given done. rw c.in-Some-below.is at (c.in_ok-below-in-Some-2.ensures.meant (option_map levels_view c.args.levels) t
+      let v = leaves_passed c.args.bytes.now c.args.levels _ _ _ _ _ _ _ w
+      (rw c.in-Some-2.is at (c.in_ok-container.ensures.meant c.args.bytes.now c.args.levels w.level w.here w.given
+      (range_taken c.args.levels _ _ w.level _ c.of_step-range.ensures w.deep c.contains-is_taken.ensures) w.left w.done)) in
+      item_entered c.args.bytes.now c.args.levels _ _ _ _ _ _ _ v
+      (told_first v.left (λ t marks given done. rw c.in-Some-below.is at (c.in_ok-below-in-Some-2.ensures.meant c.args.levels t
       v.level given
       c.of_step-range.ensures v.deep marks done)))
       refl c.in_ok-keep_level-in-Some-2.ensures.kept;
@@ -85,11 +84,11 @@ pub walk-preserved-in_default-below : goal.walk-preserved-in_default-below
 walk-preserved-in_default-below c = record {
   whole = λ u n before l m a.
       let w = c.walk.invariant.whole u n before l m a in
-      let v = leaves_passed c.args.bytes.now (option_map levels_view c.args.levels) _ _ _ _ _ _ _ w
-      (rw c.in-Some-2.is at (c.in_ok-container.ensures.meant c.args.bytes.now (option_map levels_view c.args.levels) w.level w.here w.given
-      (range_taken (option_map levels_view c.args.levels) _ _ w.level _ c.of_step-range.ensures w.deep c.contains-is_taken.ensures) w.left w.done)) in
-      item_passed c.args.bytes.now (option_map levels_view c.args.levels) _ _ _ _ _ v
-      (told_first v.left (λ t marks given done. rw c.in_default-below.is at (c.in_ok-below-in-Some-2.ensures.meant (option_map levels_view c.args.levels) t
+      let v = leaves_passed c.args.bytes.now c.args.levels _ _ _ _ _ _ _ w
+      (rw c.in-Some-2.is at (c.in_ok-container.ensures.meant c.args.bytes.now c.args.levels w.level w.here w.given
+      (range_taken c.args.levels _ _ w.level _ c.of_step-range.ensures w.deep c.contains-is_taken.ensures) w.left w.done)) in
+      item_passed c.args.bytes.now c.args.levels _ _ _ _ _ v
+      (told_first v.left (λ t marks given done. rw c.in_default-below.is at (c.in_ok-below-in-Some-2.ensures.meant c.args.levels t
       v.level given
       c.of_step-range.ensures v.deep marks done)))
       refl;
@@ -102,20 +101,20 @@ pub walk-preserved : goal.walk-preserved
 walk-preserved c = record {
   whole = λ u n before l m a.
       let w = c.walk.invariant.whole u n before l m a in
-      level_done c.args.bytes.now (option_map levels_view c.args.levels) _ _ _ _ _
-      (all_passed c.args.bytes.now (option_map levels_view c.args.levels) _ _ _ _ _ w
-      (rw c.in-None.is at (c.in_ok-container.ensures.meant c.args.bytes.now (option_map levels_view c.args.levels) w.level w.here w.given
-      (range_taken (option_map levels_view c.args.levels) _ _ w.level _ c.of_step-range.ensures w.deep c.contains-is_taken.ensures) w.left w.done)))
+      level_done c.args.bytes.now c.args.levels _ _ _ _ _
+      (all_passed c.args.bytes.now c.args.levels _ _ _ _ _ w
+      (rw c.in-None.is at (c.in_ok-container.ensures.meant c.args.bytes.now c.args.levels w.level w.here w.given
+      (range_taken c.args.levels _ _ w.level _ c.of_step-range.ensures w.deep c.contains-is_taken.ensures) w.left w.done)))
       c.in-Some-pop.ensures.items;
 }
 
 pub returns-in-None-pop-clause-meant : goal.returns-in-None-pop-clause-meant
 returns-in-None-pop-clause-meant c = λ u n before l m a.
     let w = c.walk.invariant.whole u n before l m a in record {
-      ok = walk_done c.args.bytes.now (option_map levels_view c.args.levels) _ _ _
-          (all_passed c.args.bytes.now (option_map levels_view c.args.levels) _ _ _ _ _ w
-          (rw c.in-None.is at (c.in_ok-container.ensures.meant c.args.bytes.now (option_map levels_view c.args.levels) w.level w.here w.given
-          (range_taken (option_map levels_view c.args.levels) _ _ w.level _ c.of_step-range.ensures w.deep c.contains-is_taken.ensures) w.left w.done)))
+      ok = walk_done c.args.bytes.now c.args.levels _ _ _
+          (all_passed c.args.bytes.now c.args.levels _ _ _ _ _ w
+          (rw c.in-None.is at (c.in_ok-container.ensures.meant c.args.bytes.now c.args.levels w.level w.here w.given
+          (range_taken c.args.levels _ _ w.level _ c.of_step-range.ensures w.deep c.contains-is_taken.ensures) w.left w.done)))
           (no_levels c.walk.around.items (omega (arith, c.in-None-pop.ensures.cases.0, c.walk.around.ok.0)));
       err = tt;
     }

@@ -2,7 +2,6 @@ use Rattle.std.proofs.Common.{◌≡◌, ◌++◌, ◌+◌, ℕ, List, min, opti
 use Rattle.std.specs.Prelude.{reverse}
 use Rattle.jsonb_doc.specs.Spots.{Locates}
 use Rattle.jsonb_doc.specs.Tree.{Tree}
-use Rattle.jsonb.specs.PathViews.{levels_view}
 use Rattle.jsonb.specs.Preorder.{preorder}
 use Rattle.std.specs.List.{AllZip}
 use Rattle.jsonb.proofs.BelowLemmas.{Walked, weight, weights}
@@ -12,7 +11,7 @@ use Rattle.jsonb.proofs.selector.levels.push_levels.Given as goal
 abbrev pub invariant-walk : goal.invariant-walk
 invariant-walk l = record {
   whole : (t : Tree) (n : ℕ) (before : List Tree) → l.level ≡ min n 256 → Locates l.bytes l.fn.item t → AllZip (Locates l.bytes) l.fn.nodes.items before
-      → Walked l.bytes (option_map levels_view l.fn.levels) l.within l.around.items l.nodes.items (before ++ preorder (option_map levels_view l.fn.levels) n t);
+      → Walked l.bytes l.fn.levels l.within l.around.items l.nodes.items (before ++ preorder l.fn.levels n t);
 }
 
 abbrev pub decreases-walk : goal.decreases-walk

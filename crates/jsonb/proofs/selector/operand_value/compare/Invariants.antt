@@ -1,5 +1,4 @@
 use Rattle.std.proofs.Common.{◌≡◌, ◌++◌, ◌+◌, map, flat_map, drop}
-use Rattle.jsonb.specs.PathViews.{operator_view}
 use Rattle.jsonb.specs.Compare.{compare, first_decisive, pair_truth}
 use Rattle.jsonb.specs.Private.Selection.{value_view}
 use Rattle.jsonb.proofs.selector.operand_value.compare.Given as goal
@@ -7,11 +6,11 @@ use Rattle.jsonb.proofs.selector.operand_value.compare.Given as goal
 -- the pairs that are left decide
 abbrev pub invariant-loop-l : goal.invariant-loop-l
 invariant-loop-l l =
-    compare (operator_view l.op) (map value_view l.ls) (map value_view l.rs)
-    ≡ compare (operator_view l.op) (map value_view (drop l.l-index l.ls)) (map value_view l.rs)
+    compare l.op (map value_view l.ls) (map value_view l.rs)
+    ≡ compare l.op (map value_view (drop l.l-index l.ls)) (map value_view l.rs)
 
 abbrev pub invariant-loop-r : goal.invariant-loop-r
 invariant-loop-r l =
-    compare (operator_view l.op) (map value_view l.ls) (map value_view l.rs)
-    ≡ first_decisive (map (λ r. pair_truth (operator_view l.op) (value_view l.l) r) (map value_view (drop l.r-index l.rs))
-    ++ flat_map (λ v. map (λ r. pair_truth (operator_view l.op) v r) (map value_view l.rs)) (map value_view (drop (l.l-index + 1) l.ls)))
+    compare l.op (map value_view l.ls) (map value_view l.rs)
+    ≡ first_decisive (map (λ r. pair_truth l.op (value_view l.l) r) (map value_view (drop l.r-index l.rs))
+    ++ flat_map (λ v. map (λ r. pair_truth l.op v r) (map value_view l.rs)) (map value_view (drop (l.l-index + 1) l.ls)))

@@ -2,7 +2,6 @@ use Rattle.std.proofs.Common.{Some, ap, sym, ◌∙◌}
 use Rattle.std.proofs.lemmas.Map.Text.{is_eq-slice_cmp}
 use Rattle.std.specs.Prelude.{not}
 use Rattle.jsonb.specs.Compare.{pair_truth}
-use Rattle.jsonb.specs.PathViews.{operator_view}
 use Rattle.jsonb.specs.Private.Selection.{value_view}
 use Rattle.jsonb.proofs.selector.operand_value.pair_truth.Goals as goal
 
@@ -10,10 +9,10 @@ pub returns-in-Eq-String-String : goal.returns-in-Eq-String-String
 returns-in-Eq-String-String c =
     let k = c.in-Eq-String-String in
     ap Some (c.eq-in-Eq-String-String.ensures ∙ sym (is_eq-slice_cmp k.l.now k.r.now))
-    ∙ (λ i. pair_truth (operator_view (sym k.is-0 i)) (value_view (sym k.is-1 i)) (value_view (sym k.is-2 i)))
+    ∙ (λ i. pair_truth ((sym k.is-0 i)) (value_view (sym k.is-1 i)) (value_view (sym k.is-2 i)))
 
 pub returns-in-NotEq-String-String : goal.returns-in-NotEq-String-String
 returns-in-NotEq-String-String c =
     let k = c.in-NotEq-String-String in
     ap Some (c.ne.ensures ∙ ap not (sym (is_eq-slice_cmp k.l.now k.r.now)))
-    ∙ (λ i. pair_truth (operator_view (sym k.is-0 i)) (value_view (sym k.is-1 i)) (value_view (sym k.is-2 i)))
+    ∙ (λ i. pair_truth ((sym k.is-0 i)) (value_view (sym k.is-1 i)) (value_view (sym k.is-2 i)))

@@ -1,19 +1,19 @@
-use Rattle.std.proofs.Common.{◌∷◌, [], None, Err, ap, ◌∙◌, refl, inl, arith, subst}
+use Rattle.std.proofs.Common.{◌∷◌, [], None, Err, ap, sym, ◌∙◌, refl, arith, subst}
 use Rattle.std.proofs.lemmas.List.{nil_from_length}
 use Rattle.std.proofs.lemmas.Result.{err_from_is_err_and}
 use Rattle.jsonb.specs.PathTree.{steps_of}
 use Rattle.jsonb.specs.Meaning.{steps_meaning}
-use Rattle.jsonb.specs.Private.Search.{IsReached}
+use Rattle.jsonb.specs.Private.Search.{HasItems, IsReached}
 use Rattle.jsonb.specs.declared.selector.document.Mode.TheVariants.{Lax}
 use Rattle.jsonb.specs.declared.selector.search.Reached.TheVariants as reached
-use Rattle.jsonb.proofs.RefinesLemmas.{same_answer}
-use Rattle.jsonb.proofs.SearchLemmas.{taken_first, taken_none, found_at_most, search_begun, item_found, item_passed, items_entered, items_done, search_done, falls_within, falls_beside, falls_done}
+use Rattle.jsonb.proofs.SearchLemmas.{Searching, taken_first, taken_none, found_at_most, search_begun, item_found, item_passed, items_entered, items_done, search_done, refused_if_any}
 use Rattle.jsonb.proofs.selector.search.first_found.Goals as goal
+use Rattle.jsonb.proofs.selector.search.first_found.Goals.{in-Some+in_ok-item-in-Some+in_ok-found-in-Some+in-AtMostOne-None, in-Some+in_ok-item-in-Some+in_ok-found-in-Some+in-Many-2+in_ok-push-in-Many-2, in-None+in-Some-pop}
 
 pub returns-in_err-found-clause-meant : goal.returns-in_err-found-clause-meant
 returns-in_err-found-clause-meant c = λ top t ss a m.
     let p = err_from_is_err_and c.from_residual.result c.from_residual.ensures.1 in
-    same_answer (p.1 ∙ ap Err p.2) (record { ok = tt; err = inl (c.in_err-found.ensures.meant top t ss a m) })
+    refused_if_any _ _ _ (p.1 ∙ ap Err p.2) (c.in_err-found.ensures.meant top t ss a m)
 
 pub returns-in-AtMostOne-clause-meant : goal.returns-in-AtMostOne-clause-meant
 returns-in-AtMostOne-clause-meant c = λ top t ss a m.
@@ -31,7 +31,7 @@ returns-in_err-found-in-Some-clause-meant c = λ top t ss a m.
     let f = taken_first c.args.bytes.now c.in-Some.item c.in_ok-item-in-Some.field-0 c.next.new.self w.here c.in_ok-item-in-Some.was
     (c.in-Some.ensures.takes c.args.bytes.now w.here w.left) in
     let p = err_from_is_err_and c.from_residual-in_err-found-in-Some.result c.from_residual-in_err-found-in-Some.ensures.1 in
-    same_answer (p.1 ∙ ap Err p.2) (record { ok = tt; err = inl (c.in_err-found-in-Some.ensures.meant top f.first w.rest w.searched f.holds) })
+    refused_if_any _ _ _ (p.1 ∙ ap Err p.2) (c.in_err-found-in-Some.ensures.meant top f.first w.rest w.searched f.holds)
 
 pub returns-in-AtMostOne-Some-clause-meant : goal.returns-in-AtMostOne-Some-clause-meant
 returns-in-AtMostOne-Some-clause-meant c = λ top t ss a m.
@@ -43,43 +43,34 @@ returns-in-AtMostOne-Some-clause-meant c = λ top t ss a m.
     (c.in_ok-found-in-Some.ensures.meant top f.first w.rest w.searched f.holds) in
     record { ok = item_found c.args.bytes.now top w c.in-AtMostOne-Some.found f k; err = tt }
 
-pub walk-smaller-in-AtMostOne-None : goal.walk-smaller-in-AtMostOne-None
-walk-smaller-in-AtMostOne-None c =
-    falls_beside c.walk.within (record { items = c.next.new.self; steps = c.walk.within.steps }) c.walk.around.items refl c.in-Some.ensures.fewer
-
-pub walk-preserved-in-AtMostOne-None : goal.walk-preserved-in-AtMostOne-None
-walk-preserved-in-AtMostOne-None c = λ top t ss a m.
-    let w = c.walk.invariant top t ss a m in
-    let f = taken_first c.args.bytes.now c.in-Some.item c.in_ok-item-in-Some.field-0 c.next.new.self w.here c.in_ok-item-in-Some.was
-    (c.in-Some.ensures.takes c.args.bytes.now w.here w.left) in
-    let k = subst (λ r. IsReached c.args.bytes.now top f.first w.rest r)
-    (c.in-AtMostOne-None.is ∙ ap reached.AtMostOne c.in-AtMostOne-None.field-0-is)
-    (c.in_ok-found-in-Some.ensures.meant top f.first w.rest w.searched f.holds) in
-    item_passed c.args.bytes.now top w f k
-
-pub walk-smaller-in-Many-2 : goal.walk-smaller-in-Many-2
-walk-smaller-in-Many-2 c =
-    let k = rw c.in-Many-2.is at c.in_ok-found-in-Some.ensures.within in
-    falls_within c.walk.within (record { items = c.next.new.self; steps = c.walk.within.steps }) c.in-Many-2.inner c.walk.around.items
-    c.push.new.self.items refl c.in-Some.ensures.fewer k.0 k.1 c.in_ok-push-in-Many-2.ensures.items
-
-pub walk-preserved-in-Many-2 : goal.walk-preserved-in-Many-2
-walk-preserved-in-Many-2 c = λ top t ss a m.
-    let w = c.walk.invariant top t ss a m in
-    let f = taken_first c.args.bytes.now c.in-Some.item c.in_ok-item-in-Some.field-0 c.next.new.self w.here c.in_ok-item-in-Some.was
-    (c.in-Some.ensures.takes c.args.bytes.now w.here w.left) in
-    let k = rw c.in-Many-2.is at (c.in_ok-found-in-Some.ensures.meant top f.first w.rest w.searched f.holds) in
-    items_entered c.args.bytes.now top w (record { items = c.next.new.self; steps = c.walk.within.steps }) c.in-Many-2.inner c.push.new.self.items f refl
-    c.in_ok-push-in-Many-2.ensures.items k
-
-pub walk-smaller : goal.walk-smaller
-walk-smaller c = falls_done c.walk.within c.in-Some-pop.outer c.walk.around.items c.pop.new.self.items c.in-Some-pop.ensures.items
-
 pub walk-preserved : goal.walk-preserved
 walk-preserved c = λ top t ss a m.
+    let bytes = c.args.bytes.now in
+    let whole = steps_meaning Lax (steps_of ss) top (t ∷ []) in
     let w = c.walk.invariant top t ss a m in
-    items_done c.args.bytes.now top w c.in-Some-pop.outer c.pop.new.self.items
-    (taken_none c.args.bytes.now c.next.new.self w.here (c.in-None.ensures.takes c.args.bytes.now w.here w.left)) c.in-Some-pop.ensures.items
+    elim c.match-next.branch [
+      | in-Some+in_ok-item-in-Some+in_ok-found-in-Some+in-AtMostOne-None b ↦
+          let f = taken_first bytes b.in-Some.item b.in_ok-item-in-Some.field-0 c.next.new.self w.here b.in_ok-item-in-Some.was
+          (b.in-Some.ensures.takes bytes w.here w.left) in
+          let k = subst (λ r. IsReached bytes top f.first w.rest r) (b.in-AtMostOne-None.is ∙ ap reached.AtMostOne b.in-AtMostOne-None.field-0-is)
+          (b.in_ok-found-in-Some.ensures.meant top f.first w.rest w.searched f.holds) in
+          subst (λ z. Searching bytes top (HasItems bytes z.items) z.ahead c.match-next.around.items whole) (sym b.within-is)
+          (subst (λ z. Searching bytes top (HasItems bytes c.next.new.self) c.walk.within.ahead z.items whole) (sym b.around-is)
+          (item_passed bytes top w f k))
+      | in-Some+in_ok-item-in-Some+in_ok-found-in-Some+in-Many-2+in_ok-push-in-Many-2 b ↦
+          let f = taken_first bytes b.in-Some.item b.in_ok-item-in-Some.field-0 c.next.new.self w.here b.in_ok-item-in-Some.was
+          (b.in-Some.ensures.takes bytes w.here w.left) in
+          let k = rw b.in-Many-2.is at (b.in_ok-found-in-Some.ensures.meant top f.first w.rest w.searched f.holds) in
+          subst (λ z. Searching bytes top (HasItems bytes z.items) z.ahead c.match-next.around.items whole) (sym b.within-is)
+          (subst (λ z. Searching bytes top (HasItems bytes b.in-Many-2.inner.items) b.in-Many-2.inner.ahead z.items whole) (sym b.around-is)
+          (items_entered bytes top w (record { items = c.next.new.self; ahead = c.walk.within.ahead }) b.in-Many-2.inner b.push.new.self.items f refl
+          b.in_ok-push-in-Many-2.ensures.items k))
+      | in-None+in-Some-pop b ↦
+          subst (λ z. Searching bytes top (HasItems bytes z.items) z.ahead c.match-next.around.items whole) (sym b.within-is)
+          (subst (λ z. Searching bytes top (HasItems bytes b.in-Some-pop.outer.items) b.in-Some-pop.outer.ahead z.items whole) (sym b.around-is)
+          (items_done bytes top w b.in-Some-pop.outer b.pop.new.self.items
+          (taken_none bytes c.next.new.self w.here (b.in-None.ensures.takes bytes w.here w.left)) b.in-Some-pop.ensures.items))
+    ]
 
 pub returns-in-None-pop-clause-meant : goal.returns-in-None-pop-clause-meant
 returns-in-None-pop-clause-meant c = λ top t ss a m.

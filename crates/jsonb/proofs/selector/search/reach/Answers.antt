@@ -1,75 +1,60 @@
-use Rattle.std.proofs.Common.{◌≡◌, ◌+◌, ◌-◌, ◌∷◌, [], length, take, drop, Err, ap, sym, ◌∙◌, refl, subst, arith, length-drop}
-use Rattle.std.proofs.lemmas.List.{take_all}
+use Rattle.std.proofs.Common.{◌∷◌, [], Err, ap, sym, ◌∙◌, refl, subst}
 use Rattle.std.proofs.lemmas.Result.{err_from_is_err_and}
 use Rattle.std.specs.Result.{MatchResult}
 use Rattle.jsonb_doc.specs.Answer.{IsOutOfMemory}
 use Rattle.jsonb.specs.PathTree.{steps_of}
 use Rattle.jsonb.specs.Meaning.{step_meaning, steps_meaning}
-use Rattle.std.specs.List.{AllZip}
-use Rattle.jsonb.specs.Private.Search.{IsSearched, AreGiven, IsReached}
+use Rattle.jsonb.specs.Private.Search.{AreGiven, IsReached}
 use Rattle.jsonb.specs.declared.selector.document.Mode.TheVariants.{Lax}
 use Rattle.jsonb.specs.declared.selector.search.StepItems.TheVariants as given
 use Rattle.jsonb.proofs.MemberLemmas.{none_left}
-use Rattle.jsonb.proofs.Progress.{list_first, list_end}
-use Rattle.jsonb.proofs.SearchLemmas.{searched_total, memory_alone, step_taken, given_none, given_one}
+use Rattle.jsonb.proofs.SearchLemmas.{searched_total, first_step, no_step, memory_alone, step_taken, given_none, given_one}
 use Rattle.jsonb.proofs.selector.search.reach.Goals as goal
 
-pub loop-at-init : goal.loop-at-init
-loop-at-init c = λ top t ss a m. (t, ss, m, a, refl)
+pub loop-step-init : goal.loop-step-init
+loop-step-init c = λ top t ss a m. (t, ss, m, a, refl)
 
 pub returns-in_err-next-clause-meant : goal.returns-in_err-next-clause-meant
 returns-in_err-next-clause-meant c = λ top t ss a m.
-    let inv = c.loop-at.invariant top t ss a m in
-    let f = list_first IsSearched c.args.steps.now c.loop-at.at c.index-steps-at.result c.loop-at-test.true inv.1 inv.3 in
-    let is = subst (λ x. IsSearched x f.first) (sym c.index-steps-at.is) f.holds in
+    let inv = c.loop-step.invariant top t ss a m in
+    let f = first_step inv.1 c.in-Some.step c.in-Some.others (c.in-Some.ensures.takes inv.1 inv.3) in
     let p = err_from_is_err_and c.from_residual.result c.from_residual.ensures.1 in
     subst (λ r. MatchResult r (IsReached c.args.bytes.now top t ss) IsOutOfMemory) (sym (p.1 ∙ ap Err p.2))
-    (memory_alone (step_meaning Lax f.first top inv.0) (searched_total c.index-steps-at.result f.first top inv.0 is)
-    (c.in_err-next.ensures.meant top inv.0 f.first is inv.2))
+    (memory_alone (step_meaning Lax f.first top inv.0) (searched_total c.in-Some.step f.first top inv.0 f.holds)
+    (c.in_err-next.ensures.meant top inv.0 f.first f.holds inv.2))
 
 pub returns-in-AtMostOne-None-clause-meant : goal.returns-in-AtMostOne-None-clause-meant
 returns-in-AtMostOne-None-clause-meant c = λ top t ss a m.
-    let inv = c.loop-at.invariant top t ss a m in
-    let f = list_first IsSearched c.args.steps.now c.loop-at.at c.index-steps-at.result c.loop-at-test.true inv.1 inv.3 in
-    let is = subst (λ x. IsSearched x f.first) (sym c.index-steps-at.is) f.holds in
+    let inv = c.loop-step.invariant top t ss a m in
+    let f = first_step inv.1 c.in-Some.step c.in-Some.others (c.in-Some.ensures.takes inv.1 inv.3) in
     let k = step_taken (AreGiven c.args.bytes.now c.in_ok-next.field-0) f.first f.others inv.1 top inv.0 f.whole
-    (c.in_ok-next.ensures.meant top inv.0 f.first is inv.2).ok in
+    (c.in_ok-next.ensures.meant top inv.0 f.first f.holds inv.2).ok in
     let none = given_none c.args.bytes.now c.in_ok-next.field-0 k.0
     (c.in-AtMostOne-None.is ∙ ap given.AtMostOne c.in-AtMostOne-None.field-0-is) k.1 in
     ([], tt, inv.4 ∙ k.2 ∙ ap (steps_meaning Lax (steps_of f.others) top) none ∙ none_left Lax (steps_of f.others) top)
 
 pub returns-in-Many-clause-meant : goal.returns-in-Many-clause-meant
 returns-in-Many-clause-meant c = λ top t ss a m.
-    let inv = c.loop-at.invariant top t ss a m in
-    let f = list_first IsSearched c.args.steps.now c.loop-at.at c.index-steps-at.result c.loop-at-test.true inv.1 inv.3 in
-    let is = subst (λ x. IsSearched x f.first) (sym c.index-steps-at.is) f.holds in
+    let inv = c.loop-step.invariant top t ss a m in
+    let f = first_step inv.1 c.in-Some.step c.in-Some.others (c.in-Some.ensures.takes inv.1 inv.3) in
     let k = step_taken (AreGiven c.args.bytes.now c.in_ok-next.field-0) f.first f.others inv.1 top inv.0 f.whole
-    (c.in_ok-next.ensures.meant top inv.0 f.first is inv.2).ok in
-    let steps = drop (c.loop-at.at + 1) c.args.steps.now in
-    let all : take (length c.args.steps.now - (c.loop-at.at + 1)) steps ≡ steps =
-    take_all _ steps (omega (arith, length-drop (c.loop-at.at + 1) c.args.steps.now)) in (
-      k.0,
-      f.others,
-      subst (λ g. AreGiven c.args.bytes.now g k.0) c.in-Many.is k.1,
-      subst (λ l. AllZip IsSearched l f.others) (sym all) f.left,
-      inv.4 ∙ k.2,
-    )
+    (c.in_ok-next.ensures.meant top inv.0 f.first f.holds inv.2).ok in
+    (k.0, f.others, subst (λ g. AreGiven c.args.bytes.now g k.0) c.in-Many.is k.1, f.left, inv.4 ∙ k.2)
 
-pub loop-at-preserved : goal.loop-at-preserved
-loop-at-preserved c = λ top t ss a m.
-    let inv = c.loop-at.invariant top t ss a m in
-    let f = list_first IsSearched c.args.steps.now c.loop-at.at c.index-steps-at.result c.loop-at-test.true inv.1 inv.3 in
-    let is = subst (λ x. IsSearched x f.first) (sym c.index-steps-at.is) f.holds in
+pub loop-step-preserved : goal.loop-step-preserved
+loop-step-preserved c = λ top t ss a m.
+    let inv = c.loop-step.invariant top t ss a m in
+    let f = first_step inv.1 c.in-Some.step c.in-Some.others (c.in-Some.ensures.takes inv.1 inv.3) in
     let k = step_taken (AreGiven c.args.bytes.now c.in_ok-next.field-0) f.first f.others inv.1 top inv.0 f.whole
-    (c.in_ok-next.ensures.meant top inv.0 f.first is inv.2).ok in
+    (c.in_ok-next.ensures.meant top inv.0 f.first f.holds inv.2).ok in
     let one = given_one c.args.bytes.now c.in_ok-next.field-0 c.in-AtMostOne-Some.next k.0
     (c.in-AtMostOne-Some.is ∙ ap given.AtMostOne c.in-AtMostOne-Some.field-0-is) k.1 in
     (one.0, f.others, rw c.spot_by_parts-item.ensures one.2, f.left, inv.4 ∙ k.2 ∙ ap (steps_meaning Lax (steps_of f.others) top) one.1)
 
 pub returns-clause-meant : goal.returns-clause-meant
 returns-clause-meant c = λ top t ss a m.
-    let inv = c.loop-at.invariant top t ss a m in (
+    let inv = c.loop-step.invariant top t ss a m in (
       inv.0 ∷ [],
       (inv.2, tt),
-      inv.4 ∙ ap (λ l. steps_meaning Lax (steps_of l) top (inv.0 ∷ [])) (list_end IsSearched c.args.steps.now c.loop-at.at c.loop-at-test.false inv.1 inv.3),
+      inv.4 ∙ ap (λ l. steps_meaning Lax (steps_of l) top (inv.0 ∷ [])) (no_step inv.1 (c.in_default.ensures.takes inv.1 inv.3)),
     )

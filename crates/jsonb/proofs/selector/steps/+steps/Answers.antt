@@ -1,16 +1,17 @@
-use Rattle.std.proofs.Common.{◌≡◌, Option, Bool, false, ◌∷◌, [], ◌++◌, append-nil, append_assoc, ◌+◌, ◌-◌, ◌≤◌, take, reverse, arith, Some, Ok, Err, IsOkAnd, map, flat_map, drop, ap, sym, ◌∙◌, refl, inl, inr, subst}
+use Rattle.std.proofs.Common.{◌≡◌, Option, Bool, false, List, ◌∷◌, [], ◌++◌, append-nil, append_assoc, ◌+◌, ◌-◌, ◌≤◌, take, reverse, arith, Some, Ok, Err, IsOkAnd, map, flat_map, drop, ap, sym, ◌∙◌, refl, inl, inr, subst}
 use Rattle.std.specs.Prelude.{not, ◌==◌, length, if◌then◌else◌}
 use Rattle.std.proofs.Math.ListN.{drop_of_length-le}
 use Rattle.std.proofs.Math.Seq.{take-length}
 use Rattle.std.proofs.lemmas.Result.{err_from_is_err_and}
-use Rattle.jsonb_doc.specs.Answer.{try_flat_map, and_then, Refines, IsOutOfMemory}
+use Rattle.jsonb_doc.specs.Answer.{Outcome, try_flat_map, and_then, Refines, IsOutOfMemory}
 use Rattle.jsonb.specs.PathTree as math
 use Rattle.jsonb.specs.PathTree.{steps_of}
-use Rattle.jsonb.specs.PathViews.{step_view, steps_view, expression_view, operator_view}
+use Rattle.jsonb.specs.PathViews.{step_view, steps_view, expression_view}
 use Rattle.std.specs.List.{AllZip}
-use Rattle.jsonb.specs.Values.{values_of_item}
-use Rattle.jsonb.specs.Compare.{compare}
+use Rattle.jsonb.specs.Values.{Value, values_of_item}
+use Rattle.jsonb.specs.Compare.{Truth, compare}
 use Rattle.jsonb.specs.Private.Selection.{IsAt, node_spots, taken_step, values_view}
+use Rattle.jsonb.specs.Private.Alike.{AreAlike}
 use Rattle.jsonb.specs.Private.Exists.{LeadsTo}
 use Rattle.jsonb.specs.Private.FilterCache.{conditions, is_condition, IsSame, AreKept}
 use Rattle.jsonb.specs.Private.Jumps.{branches_of_whole, evaluated, next_jump}
@@ -19,7 +20,9 @@ use Rattle.jsonb.specs.Meaning.{step_meaning, steps_meaning, truth, operand_valu
 use Rattle.jsonb.proofs.RefinesLemmas.{same_outcome, same_answer, refused_as, one_ok, given_by, first_refused, second_refused, followed, continued, some_related}
 use Rattle.jsonb.proofs.Progress.{no_spot, at_start, one_more, refused_in, at_end, list_first, list_end, joined_singles}
 use Rattle.jsonb.proofs.PathNodes.{root_is, current_is, paths_is, binary_is, exists_is}
-use Rattle.jsonb.proofs.KeptLemmas.{comparison_is, by_right, value_of, one_comparison, one_exists, kept_same, from_ok, without, always, known, value_is, compared}
+use Rattle.jsonb.proofs.KeptLemmas.{comparison_is, kept_left, kept_right, value_of, one_comparison, one_exists, kept_same, from_ok, without, always, known, value_is, compared}
+use Rattle.jsonb.proofs.RepeatLemmas.{SameOutcomes, same_outcome_itself, same_outcomes_then, same_steps, same_refused, same_found, with_repeats, same_values, alike_some, alike_compare}
+use Rattle.jsonb.proofs.AlikeLemmas.{alike_itself}
 use Rattle.jsonb.proofs.SearchLemmas.{found_any}
 use Rattle.jsonb.proofs.TestLemmas.{plain_tests, plain_question, no_conditions, next_test, test_done, no_test, from_first, conditions_at, asked_here}
 use Rattle.jsonb.proofs.StepLemmas.{joined_one, only_one, kept_found, steps_at, from_start}
@@ -171,48 +174,57 @@ select_steps-returns-in_err-found-clause-meant t c = λ top u r s.
 
 pub select_steps-returns-then-are_members-clause-meant : goal.select_steps-returns-then-are_members-clause-meant
 select_steps-returns-then-are_members-clause-meant t c = λ top u r s. record {
-  ok = rw c.at_most_one.ensures (c.in_ok-found.ensures.meant c.args.expressions top u (sym c.are_members.ensures ∙ c.if-are_members.true) s).ok;
+  ok = with_repeats c.args.repeats c.args.context.now.document.bytes.now (node_spots c.at_most_one.result) _
+      (rw c.at_most_one.ensures (c.in_ok-found.ensures.meant c.args.expressions top u (sym c.are_members.ensures ∙ c.if-are_members.true) s).ok);
   err = tt;
 }
 
 pub select_steps-loop-step-init : goal.select_steps-loop-step-init
-select_steps-loop-step-init t c = λ top u r s. (u ∷ [], (s, tt), refl)
+select_steps-loop-step-init t c = λ top u r s. (u ∷ [], (s, tt), same_outcome_itself c.args.repeats _)
 
-pub select_steps-returns-in_err-items-clause-meant : goal.select_steps-returns-in_err-items-clause-meant
-select_steps-returns-in_err-items-clause-meant t c = λ top u r s.
+pub select_steps-returns-in_err-found-2-clause-meant : goal.select_steps-returns-in_err-found-2-clause-meant
+select_steps-returns-in_err-found-2-clause-meant t c = λ top u r s.
     let inv = c.loop-step.invariant top u r s in
-    let p = err_from_is_err_and c.from_residual-in_err-items.result c.from_residual-in_err-items.ensures.1 in
+    let p = err_from_is_err_and c.from_residual-in_err-found-2.result c.from_residual-in_err-found-2.ensures.1 in
     same_answer (p.1 ∙ ap Err p.2)
-    (same_outcome
-    (inv.2
-    ∙ steps_at c.args.context.now.mode c.args.expressions c.args.steps.now c.loop-step.step-index c.step-item.result top inv.0 c.loop-step-test.true
+    (same_refused c.args.repeats inv.2
+    (same_outcome (steps_at c.args.context.now.mode c.args.expressions c.args.steps.now c.loop-step.step-index c.step-item.result top inv.0 c.loop-step-test.true
     c.step-item.is)
     (first_refused (steps_meaning c.args.context.now.mode
     (steps_of (map (taken_step c.args.expressions) (steps_view (drop (c.loop-step.step-index + 1) c.args.steps.now)))) top)
-    (c.in_err-items.ensures.meant top inv.0 r inv.1)))
+    (c.in_err-found-2.ensures.meant top inv.0 r inv.1))))
 
 pub select_steps-loop-step-preserved : goal.select_steps-loop-step-preserved
 select_steps-loop-step-preserved t c = λ top u r s.
+    let mode = c.args.context.now.mode in
     let inv = c.loop-step.invariant top u r s in
-    let next = continued (λ us. AllZip (IsAt c.args.context.now.document) (node_spots c.in_ok-items.items) us)
-    (try_flat_map (step_meaning c.args.context.now.mode (taken_step c.args.expressions (step_view c.step-item.result)) top) inv.0)
-    (steps_meaning c.args.context.now.mode (steps_of (map (taken_step c.args.expressions)
-    (steps_view (drop (c.loop-step.step-index + 1) c.args.steps.now)))) top)
-    ((c.in_ok-items.ensures.meant top inv.0 r inv.1).ok) in (
-      next.0,
-      next.1,
-      inv.2
-          ∙ steps_at c.args.context.now.mode c.args.expressions c.args.steps.now c.loop-step.step-index c.step-item.result top inv.0 c.loop-step-test.true
-          c.step-item.is
-          ∙ next.2,
+    let rest = steps_of (map (taken_step c.args.expressions) (steps_view (drop (c.loop-step.step-index + 1) c.args.steps.now))) in
+    let next = continued (λ us. AllZip (IsAt c.args.context.now.document) (node_spots c.in_ok-found-2.found) us)
+    (try_flat_map (step_meaning mode (taken_step c.args.expressions (step_view c.step-item.result)) top) inv.0) (steps_meaning mode rest top)
+    ((c.in_ok-found-2.ensures.meant top inv.0 r inv.1).ok) in
+    let kept = (c.in_ok-items.ensures.meant c.args.context.now.document.bytes.now next.0 next.1).ok in (
+      kept.0,
+      kept.1,
+      same_outcomes_then c.args.repeats (steps_meaning mode rest top kept.0) (steps_meaning mode rest top next.0) _
+          (same_steps c.args.repeats mode rest top kept.0 next.0 kept.2)
+          (subst (λ o. SameOutcomes c.args.repeats o
+          (steps_meaning mode (steps_of (map (taken_step c.args.expressions) (steps_view c.args.steps.now))) top (u ∷ [])))
+          (steps_at mode c.args.expressions c.args.steps.now c.loop-step.step-index c.step-item.result top inv.0 c.loop-step-test.true c.step-item.is
+          ∙ next.2) inv.2),
     )
 
 pub select_steps-returns-clause-meant : goal.select_steps-returns-clause-meant
 select_steps-returns-clause-meant t c = λ top u r s.
+    let mode = c.args.context.now.mode in
     let inv = c.loop-step.invariant top u r s in
-    let none = inv.2 ∙ ap (λ l. steps_meaning c.args.context.now.mode (steps_of (map (taken_step c.args.expressions) (steps_view l))) top inv.0)
+    let none = ap (λ l. steps_meaning mode (steps_of (map (taken_step c.args.expressions) (steps_view l))) top inv.0)
     (drop_of_length-le c.args.steps.now c.loop-step-test.false) in
-    record { ok = subst (λ o. IsOkAnd o (AllZip (IsAt c.args.context.now.document) (node_spots c.loop-step.items))) (sym none) inv.1; err = tt }
+    record {
+      ok = same_found c.args.repeats c.args.context.now.document.bytes.now (node_spots c.loop-step.items) inv.0 _ inv.1
+          (subst (λ o. SameOutcomes c.args.repeats o
+          (steps_meaning mode (steps_of (map (taken_step c.args.expressions) (steps_view c.args.steps.now))) top (u ∷ []))) none inv.2);
+      err = tt;
+    }
 
 -- ---- operands
 
@@ -230,7 +242,7 @@ operand_values-returns-in_ok-found-in-Paths-clause-meant t c = λ top u r s.
     ∙ ap (λ o. and_then o (λ ts. Ok (flat_map values_of_item ts))) (from_start c.args.current.context.now.mode _ _ _ top u c.deref-in-Paths.ensures.value
     c.deref.ensures.value))
     (followed (λ ts. Ok (flat_map values_of_item ts)) (c.in_ok-found-in-Paths.ensures.meant top _ r (c.start_spot-first.ensures top u r s))
-    (λ ts related. c.found_values.ensures.meant ts related))
+    (λ ts found. same_values c.args.repeats values_view values_of_item found.0 ts found.2 (c.found_values.ensures.meant found.0 found.1)))
 
 -- ---- results
 
@@ -421,12 +433,55 @@ first_kept-returns-clause-kept t c = λ is none top u all more r s k.
 
 pub later_truth-returns-in-Some-clause-meant : goal.later_truth-returns-in-Some-clause-meant
 later_truth-returns-in-Some-clause-meant t c = λ is top u r s same.
-    same_outcome (by_right c.args.current.context.now.mode top u c.args.e.now c.in-Right-BinaryOp.op c.in-Right-BinaryOp.left _ c.args.part.now
-    c.in-Right-BinaryOp.rights
-    c.deref.result.now _ c.in-Right-BinaryOp.is-1 c.in-Right-BinaryOp.is-0 c.deref.ensures c.in-Some.ensures.1 is same
+    same_outcome (kept_right c.args.current.context.now.mode top u c.args.e.now c.in-Right-BinaryOp.op c.in-Right-BinaryOp.left _ c.args.part.now
+    c.in-Right-BinaryOp.rights c.in-Right-BinaryOp.is-1 is same c.in-Right-BinaryOp.is-0
+    ∙ ap (λ x. and_then (operand_values c.args.current.context.now.mode x top u)
+    (λ ls. Ok (compare c.in-Right-BinaryOp.op ls (values_view c.in-Right-BinaryOp.rights))))
+    (ap expression_view (sym c.deref.ensures) ∙ c.in-Some.ensures.1)
     ∙ ap (λ rs. and_then (operand_values c.args.current.context.now.mode (math.paths (steps_of (steps_view c.in-Some.steps.now))) top u)
-    (λ ls. Ok (compare (operator_view c.in-Right-BinaryOp.op) ls rs))) (sym c.as_slice.ensures))
+    (λ ls. Ok (compare c.in-Right-BinaryOp.op ls rs))) (sym c.as_slice.ensures))
     (c.member_truth.ensures.meant top u c.in-Some.ensures.0 r s)
+
+-- with the values of one side kept
+pub later_values-returns-in_err-rights-in-Left-BinaryOp-clause-meant : goal.later_values-returns-in_err-rights-in-Left-BinaryOp-clause-meant
+later_values-returns-in_err-rights-in-Left-BinaryOp-clause-meant t c = λ is top u r s same.
+    let mode = c.args.current.context.now.mode in
+    let k = c.in-Left-BinaryOp in
+    let told : List Value → Outcome Truth = λ rs. Ok (compare k.op (values_view k.lefts) rs) in
+    let p = err_from_is_err_and c.from_residual.result c.from_residual.ensures.1 in
+    same_answer (p.1 ∙ ap Err p.2) (same_outcome
+    (kept_left mode top u c.args.e.now k.op _ k.right c.args.part.now k.lefts k.is-1 is same k.is-0
+    ∙ ap (λ x. and_then (operand_values mode (expression_view x) top u) told) (sym c.deref.ensures))
+    (first_refused told (c.in_err-rights-in-Left-BinaryOp.ensures.meant top u r s)))
+
+pub later_values-returns-in_ok-rights-in-Left-BinaryOp-clause-meant : goal.later_values-returns-in_ok-rights-in-Left-BinaryOp-clause-meant
+later_values-returns-in_ok-rights-in-Left-BinaryOp-clause-meant t c = λ is top u r s same.
+    let mode = c.args.current.context.now.mode in
+    let k = c.in-Left-BinaryOp in
+    let told : List Value → Outcome Truth = λ rs. Ok (compare k.op (values_view k.lefts) rs) in
+    same_outcome
+    (kept_left mode top u c.args.e.now k.op _ k.right c.args.part.now k.lefts k.is-1 is same k.is-0
+    ∙ ap (λ x. and_then (operand_values mode (expression_view x) top u) told) (sym c.deref.ensures))
+    (followed told (c.in_ok-rights-in-Left-BinaryOp.ensures.meant top u r s) (λ rs alike. record {
+      ok = c.compare.ensures ∙ (λ i. compare k.op (c.as_slice.ensures i) (c.as_slice-in-Left-BinaryOp.ensures i))
+          ∙ alike_compare k.op (alike_itself (values_view k.lefts)) alike;
+      err = tt;
+    }))
+
+pub later_values-returns-in_ok-lefts-in-Right-BinaryOp-clause-meant : goal.later_values-returns-in_ok-lefts-in-Right-BinaryOp-clause-meant
+later_values-returns-in_ok-lefts-in-Right-BinaryOp-clause-meant t c = λ is top u r s same.
+    let mode = c.args.current.context.now.mode in
+    let k = c.in-Right-BinaryOp in
+    let told : List Value → Outcome Truth = λ ls. Ok (compare k.op ls (values_view k.rights)) in
+    same_outcome
+    (kept_right mode top u c.args.e.now k.op k.left _ c.args.part.now k.rights k.is-1 is same k.is-0
+    ∙ ap (λ x. and_then (operand_values mode (expression_view x) top u) told) (sym c.deref-in-Right-BinaryOp.ensures))
+    (followed told (c.in_ok-lefts-in-Right-BinaryOp.ensures.meant top u r s) (λ ls alike. record {
+      ok = c.compare-in-Right-BinaryOp.ensures
+          ∙ (λ i. compare k.op (c.as_slice-in-Right-BinaryOp.ensures i) (c.as_slice-in-Right-BinaryOp-2.ensures i))
+          ∙ alike_compare k.op alike (alike_itself (values_view k.rights));
+      err = tt;
+    }))
 
 pub later_values-returns-in_ok-truth-in_default-clause-meant : goal.later_values-returns-in_ok-truth-in_default-clause-meant
 later_values-returns-in_ok-truth-in_default-clause-meant t c = λ is top u r s same. without _ _ (c.in_ok-truth-in_default.ensures.meant top u is r s).ok
@@ -435,38 +490,38 @@ later_values-returns-in_ok-truth-in_default-clause-meant t c = λ is top u r s s
 pub first_truth-returns-in_err-lefts-in-BinaryOp-clause-meant : goal.first_truth-returns-in_err-lefts-in-BinaryOp-clause-meant
 first_truth-returns-in_err-lefts-in-BinaryOp-clause-meant t c = λ top u is r s.
     let view = binary_is c.args.e.now c.in-BinaryOp.op c.in-BinaryOp.left c.in-BinaryOp.right c.in-BinaryOp.is
-    ∙ (λ i. math.binary (operator_view c.in-BinaryOp.op) (expression_view (sym c.deref.ensures i)) (expression_view c.in-BinaryOp.right.value)) in
+    ∙ (λ i. math.binary c.in-BinaryOp.op (expression_view (sym c.deref.ensures i)) (expression_view c.in-BinaryOp.right.value)) in
     let p = err_from_is_err_and c.from_residual.result c.from_residual.ensures.1 in
     same_answer (p.1 ∙ ap Err p.2) (same_outcome (ap (λ x. truth c.args.current.context.now.mode x top u) view
-    ∙ comparison_is c.args.current.context.now.mode (operator_view c.in-BinaryOp.op) _ _ top u (sym (ap is_condition view) ∙ is))
+    ∙ comparison_is c.args.current.context.now.mode c.in-BinaryOp.op _ _ top u (sym (ap is_condition view) ∙ is))
     (first_refused (λ ls. and_then (operand_values c.args.current.context.now.mode (expression_view c.in-BinaryOp.right.value) top u)
-    (λ rs. Ok (compare (operator_view c.in-BinaryOp.op) ls rs))) (c.in_err-lefts-in-BinaryOp.ensures.meant top u r s)))
+    (λ rs. Ok (compare c.in-BinaryOp.op ls rs))) (c.in_err-lefts-in-BinaryOp.ensures.meant top u r s)))
 
 pub first_truth-returns-in_err-rights-in-BinaryOp-clause-meant : goal.first_truth-returns-in_err-rights-in-BinaryOp-clause-meant
 first_truth-returns-in_err-rights-in-BinaryOp-clause-meant t c = λ top u is r s.
     let view = binary_is c.args.e.now c.in-BinaryOp.op c.in-BinaryOp.left c.in-BinaryOp.right c.in-BinaryOp.is
-    ∙ (λ i. math.binary (operator_view c.in-BinaryOp.op) (expression_view (sym c.deref.ensures i)) (expression_view (sym c.deref-in-BinaryOp.ensures i))) in
+    ∙ (λ i. math.binary c.in-BinaryOp.op (expression_view (sym c.deref.ensures i)) (expression_view (sym c.deref-in-BinaryOp.ensures i))) in
     let p = err_from_is_err_and c.from_residual-in_err-rights-in-BinaryOp.result c.from_residual-in_err-rights-in-BinaryOp.ensures.1 in
     same_answer (p.1 ∙ ap Err p.2) (same_outcome (ap (λ x. truth c.args.current.context.now.mode x top u) view
-    ∙ comparison_is c.args.current.context.now.mode (operator_view c.in-BinaryOp.op) _ _ top u (sym (ap is_condition view) ∙ is))
-    (second_refused (λ ls rs. Ok (compare (operator_view c.in-BinaryOp.op) ls rs)) (c.in_ok-lefts-in-BinaryOp.ensures.meant top u r s)
+    ∙ comparison_is c.args.current.context.now.mode c.in-BinaryOp.op _ _ top u (sym (ap is_condition view) ∙ is))
+    (second_refused (λ ls rs. Ok (compare c.in-BinaryOp.op ls rs)) (c.in_ok-lefts-in-BinaryOp.ensures.meant top u r s)
     (c.in_err-rights-in-BinaryOp.ensures.meant top u r s)))
 
 pub first_truth-returns-in_ok-rights-in-BinaryOp-clause-meant : goal.first_truth-returns-in_ok-rights-in-BinaryOp-clause-meant
 first_truth-returns-in_ok-rights-in-BinaryOp-clause-meant t c = λ top u is r s.
     let view = binary_is c.args.e.now c.in-BinaryOp.op c.in-BinaryOp.left c.in-BinaryOp.right c.in-BinaryOp.is
-    ∙ (λ i. math.binary (operator_view c.in-BinaryOp.op) (expression_view (sym c.deref-in-BinaryOp-2.ensures i))
+    ∙ (λ i. math.binary c.in-BinaryOp.op (expression_view (sym c.deref-in-BinaryOp-2.ensures i))
     (expression_view (sym c.deref-in-BinaryOp-3.ensures i))) in
     let compares = sym (ap is_condition view) ∙ is in
-    let lefts = ap (λ x. operand_values c.args.current.context.now.mode (expression_view x) top u) (c.deref-in-BinaryOp-2.ensures ∙ sym c.deref.ensures)
-    ∙ value_of values_view (c.in_ok-lefts-in-BinaryOp.ensures.meant top u r s) in
-    let rights = ap (λ x. operand_values c.args.current.context.now.mode (expression_view x) top u)
-    (c.deref-in-BinaryOp-3.ensures ∙ sym c.deref-in-BinaryOp.ensures)
-    ∙ value_of values_view (c.in_ok-rights-in-BinaryOp.ensures.meant top u r s) in
-    let told = compared c.args.current.context.now.mode (operator_view c.in-BinaryOp.op) _ _ top u _ _ compares lefts rights
+    let mode = c.args.current.context.now.mode in
+    let lefts = subst (λ x. IsOkAnd (operand_values mode (expression_view x) top u) (AreAlike (values_view c.in_ok-lefts-in-BinaryOp.lefts)))
+    (sym (c.deref-in-BinaryOp-2.ensures ∙ sym c.deref.ensures)) (c.in_ok-lefts-in-BinaryOp.ensures.meant top u r s).ok in
+    let rights = subst (λ x. IsOkAnd (operand_values mode (expression_view x) top u) (AreAlike (values_view c.in_ok-rights-in-BinaryOp.rights)))
+    (sym (c.deref-in-BinaryOp-3.ensures ∙ sym c.deref-in-BinaryOp.ensures)) (c.in_ok-rights-in-BinaryOp.ensures.meant top u r s).ok in
+    let told = compared mode c.in-BinaryOp.op _ _ top u _ _ compares lefts rights
     ∙ ap Ok (sym (c.compare-truth.ensures
-    ∙ (λ i. compare (operator_view c.in-BinaryOp.op) (c.as_slice.ensures i) (c.as_slice-in-BinaryOp.ensures i)))) in
-    let same = c.comparison_part.ensures c.args.current.context.now.mode top u (operator_view c.in-BinaryOp.op) compares lefts rights told in
+    ∙ (λ i. compare c.in-BinaryOp.op (c.as_slice.ensures i) (c.as_slice-in-BinaryOp.ensures i)))) in
+    let same = c.comparison_part.ensures c.args.current.context.now.mode top u c.in-BinaryOp.op compares lefts rights told in
     known (ap (λ x. truth c.args.current.context.now.mode x top u) view ∙ told) (
       refl,
       subst
@@ -517,7 +572,8 @@ selects_any-returns-in_err-found-in-None-clause-meant t c = λ top u r s.
 pub selects_any-returns-in_ok-found-in-None-clause-meant : goal.selects_any-returns-in_ok-found-in-None-clause-meant
 selects_any-returns-in_ok-found-in-None-clause-meant t c = λ top u r s.
     given_by (c.in_ok-found-in-None.ensures.meant top u r s)
-    (λ ts related. record {
-      ok = ap not c.is_empty.ensures ∙ ap (λ l. not (length l == 0)) c.as_slice.ensures ∙ some_related (IsAt c.args.context.now.document) _ ts related;
+    (λ ts found. record {
+      ok = ap not c.is_empty.ensures ∙ ap (λ l. not (length l == 0)) c.as_slice.ensures
+          ∙ some_related (IsAt c.args.context.now.document) _ found.0 found.1 ∙ alike_some found.0 ts found.2;
       err = tt;
     })

@@ -10,15 +10,17 @@ use Rattle.jsonb.specs.Private.Jumps.{Branch, evaluated}
 use Rattle.jsonb.specs.Private.Tests.{IsQuestionOf, AreBranches, tests_conditions, compiled_conditions}
 use Rattle.jsonb.specs.Meaning.{step_meaning, steps_meaning, truth}
 use Rattle.jsonb.proofs.Progress.{Progress}
+use Rattle.jsonb.proofs.RepeatLemmas.{SameOutcomes}
 use Rattle.jsonb.proofs.selector.steps.+steps.Given as goal
 
--- what the steps that are left make of the items is what all steps make of the first
+-- what the steps that are left make of the items is what all steps make of the first, except for repeats if these are dropped
 abbrev pub invariant-select_steps-loop-step : goal.invariant-select_steps-loop-step
 invariant-select_steps-loop-step l =
     (top t : Tree) → HasTree l.context.document top → IsAt l.context.document l.fn.first t →
     (us : List Tree) × AllZip (IsAt l.context.document) (node_spots l.items) us
-    × (steps_meaning l.context.mode (steps_of (map (taken_step l.expressions) (steps_view l.steps))) top (t ∷ [])
-    ≡ steps_meaning l.context.mode (steps_of (map (taken_step l.expressions) (steps_view (drop l.step-index l.steps)))) top us)
+    × SameOutcomes l.repeats
+    (steps_meaning l.context.mode (steps_of (map (taken_step l.expressions) (steps_view (drop l.step-index l.steps)))) top us)
+    (steps_meaning l.context.mode (steps_of (map (taken_step l.expressions) (steps_view l.steps))) top (t ∷ []))
 
 abbrev pub invariant-filter_many-loop-item : goal.invariant-filter_many-loop-item
 invariant-filter_many-loop-item l =

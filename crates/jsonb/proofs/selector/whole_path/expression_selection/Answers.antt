@@ -4,7 +4,7 @@ use Rattle.jsonb_doc.specs.Answer.{and_then}
 use Rattle.jsonb_doc.specs.Tree.{number}
 use Rattle.jsonb_doc.specs.View.{number_view}
 use Rattle.jsonb.specs.PathTree.{value}
-use Rattle.jsonb.specs.PathViews.{expression_view, literal_view, operator_view, sign_view}
+use Rattle.jsonb.specs.PathViews.{expression_view, literal_view}
 use Rattle.jsonb.specs.PathArithmetic.{operation, each_signed}
 use Rattle.jsonb.specs.Meaning.{operand_values, truth, truth_list, binary_meaning, calculation}
 use Rattle.jsonb.specs.Private.Selection.{AreSelected}
@@ -24,25 +24,25 @@ returns-in_err-numbers-in-UnaryOp-clause-meant c = λ form top outcome r h.
     let p = err_from_is_err_and c.from_residual.result c.from_residual.ensures.1 in
     same_answer (p.1 ∙ ap Err p.2)
     (same_outcome (meant form c.args.context.now.mode top outcome _ _ (unary_is c.args.e.now c.in-UnaryOp.op c.in-UnaryOp.operand c.in-UnaryOp.is) h
-    ∙ ap (λ x. and_then (operand_values c.args.context.now.mode (expression_view x) top top) (each_signed (sign_view c.in-UnaryOp.op)))
+    ∙ ap (λ x. and_then (operand_values c.args.context.now.mode (expression_view x) top top) (each_signed c.in-UnaryOp.op))
     (sym c.deref-in-UnaryOp.ensures))
     (refused_as (c.in_err-numbers-in-UnaryOp.ensures.meant top r)))
 
 pub returns-in_ok-numbers-in-UnaryOp-clause-meant : goal.returns-in_ok-numbers-in-UnaryOp-clause-meant
 returns-in_ok-numbers-in-UnaryOp-clause-meant c = λ form top outcome r h.
     same_outcome (meant form c.args.context.now.mode top outcome _ _ (unary_is c.args.e.now c.in-UnaryOp.op c.in-UnaryOp.operand c.in-UnaryOp.is) h
-    ∙ ap (λ x. and_then (operand_values c.args.context.now.mode (expression_view x) top top) (each_signed (sign_view c.in-UnaryOp.op)))
+    ∙ ap (λ x. and_then (operand_values c.args.context.now.mode (expression_view x) top top) (each_signed c.in-UnaryOp.op))
     (sym c.deref-in-UnaryOp.ensures))
     (record { ok = (c.in_ok-numbers-in-UnaryOp.ensures.meant top r).ok; err = tt })
 
 pub returns-in_err-number-in-BinaryOp-clause-meant : goal.returns-in_err-number-in-BinaryOp-clause-meant
 returns-in_err-number-in-BinaryOp-clause-meant c = λ form top outcome r h.
     let p = err_from_is_err_and c.from_residual-in_err-number-in-BinaryOp.result c.from_residual-in_err-number-in-BinaryOp.ensures.1 in
-    let o = some_of (operation (operator_view c.in-BinaryOp.op)) (sym c.is_arithmetic.ensures ∙ c.if-is_arithmetic.true) in
+    let o = some_of (operation c.in-BinaryOp.op) (sym c.is_arithmetic.ensures ∙ c.if-is_arithmetic.true) in
     same_answer (p.1 ∙ ap Err p.2)
     (same_outcome (meant form c.args.context.now.mode top outcome _ _
     (binary_is c.args.e.now c.in-BinaryOp.op c.in-BinaryOp.left c.in-BinaryOp.right c.in-BinaryOp.is) h
-    ∙ ap (λ x. binary_meaning c.args.context.now.mode x (operator_view c.in-BinaryOp.op) (expression_view c.in-BinaryOp.left.value)
+    ∙ ap (λ x. binary_meaning c.args.context.now.mode x c.in-BinaryOp.op (expression_view c.in-BinaryOp.left.value)
     (expression_view c.in-BinaryOp.right.value) top) o.1
     ∙ (λ i. calculation o.0 (operand_values c.args.context.now.mode (expression_view (sym c.deref-then-is_arithmetic.ensures i)) top top)
     (operand_values c.args.context.now.mode (expression_view (sym c.deref-then-is_arithmetic-2.ensures i)) top top)))
@@ -50,10 +50,10 @@ returns-in_err-number-in-BinaryOp-clause-meant c = λ form top outcome r h.
 
 pub returns-in_ok-number-in-BinaryOp-clause-meant : goal.returns-in_ok-number-in-BinaryOp-clause-meant
 returns-in_ok-number-in-BinaryOp-clause-meant c = λ form top outcome r h.
-    let o = some_of (operation (operator_view c.in-BinaryOp.op)) (sym c.is_arithmetic.ensures ∙ c.if-is_arithmetic.true) in
+    let o = some_of (operation c.in-BinaryOp.op) (sym c.is_arithmetic.ensures ∙ c.if-is_arithmetic.true) in
     same_outcome (meant form c.args.context.now.mode top outcome _ _ (binary_is c.args.e.now c.in-BinaryOp.op c.in-BinaryOp.left c.in-BinaryOp.right
     c.in-BinaryOp.is) h
-    ∙ ap (λ x. binary_meaning c.args.context.now.mode x (operator_view c.in-BinaryOp.op) (expression_view c.in-BinaryOp.left.value)
+    ∙ ap (λ x. binary_meaning c.args.context.now.mode x c.in-BinaryOp.op (expression_view c.in-BinaryOp.left.value)
     (expression_view c.in-BinaryOp.right.value) top) o.1
     ∙ (λ i. calculation o.0 (operand_values c.args.context.now.mode (expression_view (sym c.deref-then-is_arithmetic.ensures i)) top top)
     (operand_values c.args.context.now.mode (expression_view (sym c.deref-then-is_arithmetic-2.ensures i)) top top))
@@ -65,9 +65,9 @@ pub returns-else-is_arithmetic-clause-meant : goal.returns-else-is_arithmetic-cl
 returns-else-is_arithmetic-clause-meant c = λ form top outcome r h.
     let view = binary_is c.args.e.now c.in-BinaryOp.op c.in-BinaryOp.left c.in-BinaryOp.right c.in-BinaryOp.is in
     same_outcome (meant form c.args.context.now.mode top outcome _ _ view h
-    ∙ ap (λ x. binary_meaning c.args.context.now.mode x (operator_view c.in-BinaryOp.op) (expression_view c.in-BinaryOp.left.value)
+    ∙ ap (λ x. binary_meaning c.args.context.now.mode x c.in-BinaryOp.op (expression_view c.in-BinaryOp.left.value)
     (expression_view c.in-BinaryOp.right.value) top)
-    (none_of (operation (operator_view c.in-BinaryOp.op)) (sym c.is_arithmetic.ensures ∙ c.if-is_arithmetic.false))
+    (none_of (operation c.in-BinaryOp.op) (sym c.is_arithmetic.ensures ∙ c.if-is_arithmetic.false))
     ∙ ap (λ x. truth_list (truth c.args.context.now.mode x top top)) (sym view)) (c.whole_truth.ensures.meant form top r)
 
 pub returns-in-ExistsFunc-clause-meant : goal.returns-in-ExistsFunc-clause-meant

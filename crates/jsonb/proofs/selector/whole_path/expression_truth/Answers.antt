@@ -3,7 +3,7 @@ use Rattle.std.proofs.lemmas.Result.{err_from_is_err_and}
 use Rattle.jsonb_doc.specs.Answer.{and_then}
 use Rattle.jsonb.specs.PathTree as math
 use Rattle.jsonb.specs.PathTree.{steps_of}
-use Rattle.jsonb.specs.PathViews.{steps_view, expression_view, operator_view, sign_view}
+use Rattle.jsonb.specs.PathViews.{steps_view, expression_view}
 use Rattle.jsonb.specs.PathArithmetic.{operation, each_signed}
 use Rattle.jsonb.specs.Meaning.{operand_values, truth, calculation, expression_predicate}
 use Rattle.jsonb.proofs.RefinesLemmas.{same_outcome, same_answer, first_refused, one_ok}
@@ -17,8 +17,8 @@ returns-in_err-_numbers-in-UnaryOp-clause-meant c = λ top r.
     let p = err_from_is_err_and c.from_residual.result c.from_residual.ensures.1 in
     same_answer (p.1 ∙ ap Err p.2)
     (same_outcome (ap (λ x. expression_predicate c.args.context.now.mode x top) (unary_is c.args.e.now c.in-UnaryOp.op c.in-UnaryOp.operand c.in-UnaryOp.is)
-    ∙ predicate_by_cases c.args.context.now.mode (math.unary (sign_view c.in-UnaryOp.op) (expression_view c.in-UnaryOp.operand.value)) top
-    ∙ ap (λ x. and_then (and_then (operand_values c.args.context.now.mode (expression_view x) top top) (each_signed (sign_view c.in-UnaryOp.op)))
+    ∙ predicate_by_cases c.args.context.now.mode (math.unary c.in-UnaryOp.op (expression_view c.in-UnaryOp.operand.value)) top
+    ∙ ap (λ x. and_then (and_then (operand_values c.args.context.now.mode (expression_view x) top top) (each_signed c.in-UnaryOp.op))
     (λ ts. Ok None))
     (sym c.deref.ensures))
     (first_refused (λ ts. Ok None) (c.in_err-_numbers-in-UnaryOp.ensures.meant top r)))
@@ -26,8 +26,8 @@ returns-in_err-_numbers-in-UnaryOp-clause-meant c = λ top r.
 pub returns-in_ok-_numbers-in-UnaryOp-clause-meant : goal.returns-in_ok-_numbers-in-UnaryOp-clause-meant
 returns-in_ok-_numbers-in-UnaryOp-clause-meant c = λ top r.
     same_outcome (ap (λ x. expression_predicate c.args.context.now.mode x top) (unary_is c.args.e.now c.in-UnaryOp.op c.in-UnaryOp.operand c.in-UnaryOp.is)
-    ∙ predicate_by_cases c.args.context.now.mode (math.unary (sign_view c.in-UnaryOp.op) (expression_view c.in-UnaryOp.operand.value)) top
-    ∙ ap (λ x. and_then (and_then (operand_values c.args.context.now.mode (expression_view x) top top) (each_signed (sign_view c.in-UnaryOp.op)))
+    ∙ predicate_by_cases c.args.context.now.mode (math.unary c.in-UnaryOp.op (expression_view c.in-UnaryOp.operand.value)) top
+    ∙ ap (λ x. and_then (and_then (operand_values c.args.context.now.mode (expression_view x) top top) (each_signed c.in-UnaryOp.op))
     (λ ts. Ok None))
     (sym c.deref.ensures))
     (one_ok (λ ts. Ok None) (c.in_ok-_numbers-in-UnaryOp.ensures.meant top r) (λ ts h. refl))
@@ -35,13 +35,13 @@ returns-in_ok-_numbers-in-UnaryOp-clause-meant c = λ top r.
 pub returns-in_err-_number-in-BinaryOp-clause-meant : goal.returns-in_err-_number-in-BinaryOp-clause-meant
 returns-in_err-_number-in-BinaryOp-clause-meant c = λ top r.
     let p = err_from_is_err_and c.from_residual-in_err-_number-in-BinaryOp.result c.from_residual-in_err-_number-in-BinaryOp.ensures.1 in
-    let o = some_of (operation (operator_view c.in-BinaryOp.op)) (sym c.is_arithmetic.ensures ∙ c.if-is_arithmetic.true) in
+    let o = some_of (operation c.in-BinaryOp.op) (sym c.is_arithmetic.ensures ∙ c.if-is_arithmetic.true) in
     same_answer (p.1 ∙ ap Err p.2)
     (same_outcome (ap (λ x. expression_predicate c.args.context.now.mode x top)
     (binary_is c.args.e.now c.in-BinaryOp.op c.in-BinaryOp.left c.in-BinaryOp.right c.in-BinaryOp.is)
     ∙ predicate_by_cases c.args.context.now.mode
-    (math.binary (operator_view c.in-BinaryOp.op) (expression_view c.in-BinaryOp.left.value) (expression_view c.in-BinaryOp.right.value)) top
-    ∙ ap (λ x. binary_predicate c.args.context.now.mode x (operator_view c.in-BinaryOp.op) (expression_view c.in-BinaryOp.left.value)
+    (math.binary c.in-BinaryOp.op (expression_view c.in-BinaryOp.left.value) (expression_view c.in-BinaryOp.right.value)) top
+    ∙ ap (λ x. binary_predicate c.args.context.now.mode x c.in-BinaryOp.op (expression_view c.in-BinaryOp.left.value)
     (expression_view c.in-BinaryOp.right.value) top) o.1
     ∙ (λ i. and_then (calculation o.0 (operand_values c.args.context.now.mode (expression_view (sym c.deref-then-is_arithmetic.ensures i)) top top)
     (operand_values c.args.context.now.mode (expression_view (sym c.deref-then-is_arithmetic-2.ensures i)) top top)) (λ ts. Ok None)))
@@ -49,12 +49,12 @@ returns-in_err-_number-in-BinaryOp-clause-meant c = λ top r.
 
 pub returns-in_ok-_number-in-BinaryOp-clause-meant : goal.returns-in_ok-_number-in-BinaryOp-clause-meant
 returns-in_ok-_number-in-BinaryOp-clause-meant c = λ top r.
-    let o = some_of (operation (operator_view c.in-BinaryOp.op)) (sym c.is_arithmetic.ensures ∙ c.if-is_arithmetic.true) in
+    let o = some_of (operation c.in-BinaryOp.op) (sym c.is_arithmetic.ensures ∙ c.if-is_arithmetic.true) in
     same_outcome (ap (λ x. expression_predicate c.args.context.now.mode x top)
     (binary_is c.args.e.now c.in-BinaryOp.op c.in-BinaryOp.left c.in-BinaryOp.right c.in-BinaryOp.is)
     ∙ predicate_by_cases c.args.context.now.mode
-    (math.binary (operator_view c.in-BinaryOp.op) (expression_view c.in-BinaryOp.left.value) (expression_view c.in-BinaryOp.right.value)) top
-    ∙ ap (λ x. binary_predicate c.args.context.now.mode x (operator_view c.in-BinaryOp.op) (expression_view c.in-BinaryOp.left.value)
+    (math.binary c.in-BinaryOp.op (expression_view c.in-BinaryOp.left.value) (expression_view c.in-BinaryOp.right.value)) top
+    ∙ ap (λ x. binary_predicate c.args.context.now.mode x c.in-BinaryOp.op (expression_view c.in-BinaryOp.left.value)
     (expression_view c.in-BinaryOp.right.value) top) o.1
     ∙ (λ i. and_then (calculation o.0 (operand_values c.args.context.now.mode (expression_view (sym c.deref-then-is_arithmetic.ensures i)) top top)
     (operand_values c.args.context.now.mode (expression_view (sym c.deref-then-is_arithmetic-2.ensures i)) top top)) (λ ts. Ok None)))
@@ -65,10 +65,10 @@ returns-else-is_arithmetic-clause-meant c = λ top r.
     let view = binary_is c.args.e.now c.in-BinaryOp.op c.in-BinaryOp.left c.in-BinaryOp.right c.in-BinaryOp.is in
     same_outcome (ap (λ x. expression_predicate c.args.context.now.mode x top) view
     ∙ predicate_by_cases c.args.context.now.mode
-    (math.binary (operator_view c.in-BinaryOp.op) (expression_view c.in-BinaryOp.left.value) (expression_view c.in-BinaryOp.right.value)) top
-    ∙ ap (λ x. binary_predicate c.args.context.now.mode x (operator_view c.in-BinaryOp.op) (expression_view c.in-BinaryOp.left.value)
+    (math.binary c.in-BinaryOp.op (expression_view c.in-BinaryOp.left.value) (expression_view c.in-BinaryOp.right.value)) top
+    ∙ ap (λ x. binary_predicate c.args.context.now.mode x c.in-BinaryOp.op (expression_view c.in-BinaryOp.left.value)
     (expression_view c.in-BinaryOp.right.value) top)
-    (none_of (operation (operator_view c.in-BinaryOp.op)) (sym c.is_arithmetic.ensures ∙ c.if-is_arithmetic.false))
+    (none_of (operation c.in-BinaryOp.op) (sym c.is_arithmetic.ensures ∙ c.if-is_arithmetic.false))
     ∙ ap (λ x. truth c.args.context.now.mode x top top) (sym view)) (c.root_truth.ensures.meant top r)
 
 pub returns-in-ExistsFunc-clause-meant : goal.returns-in-ExistsFunc-clause-meant

@@ -1,0 +1,48 @@
+-- The first item that a path selects, in place, or computed.
+use Rattle.std.proofs.Common.{◌≡◌, ℕ, ◌<◌, Bool, true, false, List, [], ◌∷◌, length, slice_index_or, Option, Some, None, is_some, MatchOption, refl, subst, arith}
+use Rattle.std.specs.List.{AllZip}
+use Rattle.jsonb_doc.specs.Answer.{SameOption}
+use Rattle.jsonb_doc.specs.Spots.{Locates}
+use Rattle.jsonb_doc.specs.Tree.{Tree}
+use Rattle.jsonb_doc.specs.declared.spot.Spot.{Spot}
+use Rattle.jsonb.specs.FirstItems.{IsFirstItem}
+use Rattle.jsonb.specs.PathTree.{Step, Expression, is_predicate, whole_expression}
+use Rattle.jsonb.specs.SelectorAnswers.{first_item}
+use Rattle.jsonb.specs.Private.Selection.{only_expression}
+use Rattle.jsonb.specs.declared.selector.first_item.FirstItem.{FirstItem}
+use Rattle.jsonb.specs.declared.selector.first_item.FirstItem.TheVariants.{At}
+
+-- ---- paths that are expressions
+
+pub expression_told : {A : Type 0} (view : A → Expression) (path : List Step) (found : Option A) (b : Bool) → b ≡ is_some found
+    → MatchOption found (only_expression path ≡ None) (λ e. only_expression path ≡ Some (view e)) → b ≡ is_some (only_expression path)
+expression_told view path None b is h = rw h is
+expression_told view path (Some e) b is h = rw h is
+
+pub is_expression : (path : List Step) (b : Bool) → b ≡ is_some (only_expression path) → b ≡ is_predicate path
+is_expression [] b h = h
+is_expression (whole_expression e ∷ []) b h = h
+is_expression (s ∷ []) b h = h
+is_expression (whole_expression e ∷ t ∷ rest) b h = h
+is_expression (s ∷ t ∷ rest) b h = h
+
+pub no_expression : (o : Option Expression) (b : Bool) → b ≡ is_some o → b ≡ false → o ≡ None
+no_expression None b is f = refl
+no_expression (Some e) b is f = cc
+
+-- ---- the first item
+
+-- what was found is the first item of a list with the same first
+pub first_is : (bytes root : List ℕ) (computed told : Bool) (found : Option (FirstItem Spot)) (us ts : List Tree) → bytes ≡ root → computed ≡ told
+    → first_item us ≡ first_item ts → SameOption (IsFirstItem (Locates bytes) computed) found (first_item us)
+    → SameOption (IsFirstItem (Locates root) told) found (first_item ts)
+first_is bytes root computed told found us ts same_bytes same_told same_item h =
+    subst (λ r. SameOption (IsFirstItem (Locates r) told) found (first_item ts)) same_bytes
+    (subst (λ b. SameOption (IsFirstItem (Locates bytes) b) found (first_item ts)) same_told
+    (subst (λ o. SameOption (IsFirstItem (Locates bytes) computed) found o) same_item h))
+
+pub place_first : {S : Type 0} (Marks : S → Tree → Type 0) (places : List S) (ts : List Tree) (e : S) → 0 < length places → AllZip Marks places ts
+    → SameOption (IsFirstItem Marks false) (Some (At (slice_index_or places 0 e))) (first_item ts)
+place_first Marks [] ts e some h = absurd (omega (arith, some))
+place_first Marks (place ∷ places) [] e some h = absurd h
+place_first Marks (place ∷ places) (t ∷ ts) e some h = (refl, h.0)

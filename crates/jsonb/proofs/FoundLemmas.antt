@@ -1,0 +1,50 @@
+-- Items that are found in place.
+use Rattle.std.proofs.Common.{◌≡◌, ℕ, List, [], ◌∷◌, map, Result, Ok, Err, inl}
+use Rattle.std.specs.Prelude.{Vec, MatchResult}
+use Rattle.std.specs.declared.alloc.Global.{Global}
+use Rattle.std.specs.List.{AllZip, Any}
+use Rattle.jsonb_doc.specs.Answer.{Refines, IsOutOfMemory, ◌or◌when◌}
+use Rattle.jsonb_doc.specs.Limits.{IsTooLarge}
+use Rattle.jsonb_doc.specs.Payload.{Form}
+use Rattle.jsonb_doc.specs.Spots.{Locates}
+use Rattle.jsonb_doc.specs.Tree.{Tree}
+use Rattle.jsonb_doc.specs.declared.error.Error.{Error}
+use Rattle.jsonb_doc.specs.declared.error.Error.TheVariants.{TooLarge}
+use Rattle.jsonb_doc.specs.declared.number.Number.{Number as CodeNumber}
+use Rattle.jsonb_doc.specs.declared.spot.Spot.{Spot}
+use Rattle.jsonb.specs.FoundItems.{IsItemOf}
+use Rattle.jsonb.specs.Private.Selection.{IsMadeItem, IsNumberItem}
+use Rattle.jsonb.specs.declared.selector.found.FoundItem.{FoundItem}
+use Rattle.jsonb.specs.declared.selector.found.FoundItem.TheVariants.{At, Number}
+use Rattle.jsonb.specs.declared.selector.selected.MadeItem.{MadeItem}
+
+pub spots_are : (form : Form) (document : List ℕ) (spots : List Spot) (ts : List Tree) → AllZip (Locates document) spots ts
+    → AllZip (IsItemOf form document) (map At spots) ts
+spots_are form document [] [] h = tt
+spots_are form document [] (t ∷ ts) h = absurd h
+spots_are form document (spot ∷ spots) [] h = absurd h
+spots_are form document (spot ∷ spots) (t ∷ ts) h = (h.0, spots_are form document spots ts h.1)
+
+pub numbers_are : (form : Form) (document : List ℕ) (numbers : List CodeNumber) (ts : List Tree) → AllZip IsNumberItem numbers ts
+    → AllZip (IsItemOf form document) (map Number numbers) ts
+numbers_are form document [] [] h = tt
+numbers_are form document [] (t ∷ ts) h = absurd h
+numbers_are form document (n ∷ numbers) [] h = absurd h
+numbers_are form document (n ∷ numbers) (t ∷ ts) h = (h.0, numbers_are form document numbers ts h.1)
+
+-- a list of items, unless an allocation failed
+pub all_found : (form : Form) (document : List ℕ) (items : List FoundItem) (ts : List Tree) (r : Result (Vec FoundItem Global) Error)
+    → MatchResult r (λ found. found.items ≡ items) IsOutOfMemory → AllZip (IsItemOf form document) items ts
+    → Refines (λ v us. AllZip (IsItemOf form document) v.items us) (IsOutOfMemory or TooLarge when Any (IsTooLarge form) ts) r (Ok ts)
+all_found form document items ts (Ok found) is are = record { ok = rw is are; err = tt }
+all_found form document items ts (Err e) memory are = record { ok = tt; err = inl (inl memory) }
+
+-- the only item
+pub one_found : (form : Form) (document : List ℕ) (part : MadeItem) (ts : List Tree) (r : Result (Vec FoundItem Global) Error)
+    → ((t : Tree) → IsMadeItem form part t
+    → Refines (λ v us. AllZip (IsItemOf form document) v.items us) (IsOutOfMemory or TooLarge when Any (IsTooLarge form) (t ∷ [])) r (Ok (t ∷ [])))
+    → AllZip (IsMadeItem form) (part ∷ []) ts
+    → Refines (λ v us. AllZip (IsItemOf form document) v.items us) (IsOutOfMemory or TooLarge when Any (IsTooLarge form) ts) r (Ok ts)
+one_found form document part [] r by h = absurd h
+one_found form document part (t ∷ []) r by h = by t h.0
+one_found form document part (t ∷ u ∷ ts) r by h = absurd h.1

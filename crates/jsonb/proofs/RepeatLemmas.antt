@@ -1,0 +1,279 @@
+-- What an expression makes of lists that differ in repeats alone.
+use Rattle.std.proofs.Common.{◌≡◌, ◌⊎◌, inl, inr, ℕ, ◌+◌, ◌<◌, zero, suc, length, drop, get_or, List, [], ◌∷◌, ◌++◌, map, flat_map, Bool, true, false, Some, None, Option, Ok, Err, OnOk, IsOkAnd, refl, sym, ap, subst, ◌∙◌, append_assoc, append-nil, arith}
+use Rattle.std.specs.Prelude.{find, Contains, slice_index_or}
+use Rattle.std.specs.List.{AllZip}
+use Rattle.jsonb_doc.specs.Answer.{Outcome, and_then, try_flat_map, Refines, IsOutOfMemory}
+use Rattle.jsonb_doc.specs.Format.{Decodes}
+use Rattle.jsonb_doc.specs.Kinds.{kind_number}
+use Rattle.jsonb_doc.specs.Payload.{any, number_reader}
+use Rattle.jsonb_doc.specs.Spots.{Locates, spot_content}
+use Rattle.jsonb_doc.specs.Tree.{Tree}
+use Rattle.jsonb_doc.specs.declared.error.Error.{Error}
+use Rattle.jsonb_doc.specs.declared.spot.Spot.{Spot}
+use Rattle.jsonb_doc.proofs.OneTree.{content_unique}
+use Rattle.jsonb.specs.PathTree as math
+use Rattle.jsonb.specs.PathTree.{steps_of}
+use Rattle.jsonb.specs.PathViews.{steps_view}
+use Rattle.jsonb.specs.Compare.{Truth, compare, pair_truth, first_decisive}
+use Rattle.jsonb.specs.Values.{Value, values_of_item}
+use Rattle.jsonb.specs.Meaning.{step_meaning, steps_meaning, is_some_item}
+use Rattle.jsonb.specs.SelectorAnswers.{first_item}
+use Rattle.jsonb.specs.Private.Alike.{AreAlike, AreSame, HasSame}
+use Rattle.jsonb.specs.Private.Compared.{items_truth}
+use Rattle.jsonb.specs.Private.Selection.{value_view}
+use Rattle.jsonb.specs.declared.selector.document.Mode.{Mode}
+use Rattle.jsonb.specs.declared.selector.document.Mode.TheVariants.{Lax}
+use Rattle.jsonb.specs.declared.selector.document.Repeats.{Repeats}
+use Rattle.jsonb.specs.declared.selector.document.Repeats.TheVariants.{AreKept, AreDropped}
+use Rattle.jsonb.specs.declared.selector.plan.MemberCompared.{MemberCompared}
+use Rattle.jsonb.proofs.AlikeLemmas.{AlikeOutcomes, alike_itself, alike_same, alike_then, alike_flat_map, alike_each, alike_map, alike_results, alike_without}
+use Rattle.jsonb.proofs.Progress.{First}
+use Rattle.jsonb.proofs.RefinesLemmas.{AllZip-append}
+
+-- ---- the same lists
+
+pub same_equal : {A : Type 0} (repeats : Repeats) {xs ys : List A} → xs ≡ ys → AreSame repeats xs ys
+same_equal AreKept is = is
+same_equal AreDropped is = alike_same is
+
+pub same_flat_map : {A B : Type 0} (repeats : Repeats) (f : A → List B) (xs ys : List A) → AreSame repeats xs ys
+    → AreSame repeats (flat_map f xs) (flat_map f ys)
+same_flat_map AreKept f xs ys is = ap (flat_map f) is
+same_flat_map AreDropped f xs ys alike = alike_flat_map f alike
+
+-- two outcomes are the same lists, or one error
+abbrev pub SameOutcomes : {A : Type 0} → Repeats → Outcome (List A) → Outcome (List A) → Type 0
+SameOutcomes AreKept a b = a ≡ b
+SameOutcomes AreDropped a b = AlikeOutcomes a b
+
+alike_outcome : {A : Type 0} (o : Outcome (List A)) → AlikeOutcomes o o
+alike_outcome (Ok xs) = alike_itself xs
+alike_outcome (Err e) = refl
+
+pub same_outcome_itself : {A : Type 0} (repeats : Repeats) (o : Outcome (List A)) → SameOutcomes repeats o o
+same_outcome_itself AreKept o = refl
+same_outcome_itself AreDropped o = alike_outcome o
+
+alike_outcomes_then : {A : Type 0} (a b c : Outcome (List A)) → AlikeOutcomes a b → AlikeOutcomes b c → AlikeOutcomes a c
+alike_outcomes_then (Ok xs) (Ok ys) (Ok zs) h g = alike_then h g
+alike_outcomes_then (Ok xs) (Ok ys) (Err e) h g = absurd g
+alike_outcomes_then (Ok xs) (Err d) c h g = absurd h
+alike_outcomes_then (Err e) (Ok ys) c h g = absurd h
+alike_outcomes_then (Err e) (Err d) (Ok zs) h g = absurd g
+alike_outcomes_then (Err e) (Err d) (Err f) h g = h ∙ g
+
+pub same_outcomes_then : {A : Type 0} (repeats : Repeats) (a b c : Outcome (List A)) → SameOutcomes repeats a b → SameOutcomes repeats b c
+    → SameOutcomes repeats a c
+same_outcomes_then AreKept a b c h g = h ∙ g
+same_outcomes_then AreDropped a b c h g = alike_outcomes_then a b c h g
+
+-- ---- steps
+
+alike_steps : (mode : Mode) (ss : math.Steps) (top : Tree) (us ts : List Tree) → AreAlike us ts
+    → AlikeOutcomes (steps_meaning mode ss top us) (steps_meaning mode ss top ts)
+alike_steps mode math.no_steps top us ts h = h
+alike_steps mode (math.step s rest) top us ts h =
+    go (alike_steps mode rest top) (try_flat_map (step_meaning mode s top) us) (try_flat_map (step_meaning mode s top) ts)
+    (alike_results (step_meaning mode s top) h)
+  where
+    go : ((us ts : List Tree) → AreAlike us ts → AlikeOutcomes (steps_meaning mode rest top us) (steps_meaning mode rest top ts))
+        → (a b : Outcome (List Tree)) → AlikeOutcomes a b
+        → AlikeOutcomes (and_then a (steps_meaning mode rest top)) (and_then b (steps_meaning mode rest top))
+    go others (Ok us) (Ok ts) h = others us ts h
+    go others (Ok us) (Err e) h = absurd h
+    go others (Err e) (Ok ts) h = absurd h
+    go others (Err e) (Err d) h = h
+
+pub same_steps : (repeats : Repeats) (mode : Mode) (ss : math.Steps) (top : Tree) (us ts : List Tree) → AreSame repeats us ts
+    → SameOutcomes repeats (steps_meaning mode ss top us) (steps_meaning mode ss top ts)
+same_steps AreKept mode ss top us ts is = ap (steps_meaning mode ss top) is
+same_steps AreDropped mode ss top us ts alike = alike_steps mode ss top us ts alike
+
+-- ---- what the results say of the whole
+
+-- an error of the list without repeats
+pub same_refused : {B C : Type 0} {S : C → List B → Type 0} {e : Error} (repeats : Repeats) {o whole : Outcome (List B)} → SameOutcomes repeats o whole
+    → Refines {A = Unit {0}} {B = List B} (λ _ _. Unit {0}) IsOutOfMemory (Err e) o → Refines S IsOutOfMemory (Err e) whole
+same_refused {B = B} {e = e} repeats {o} {whole} same h = record { ok = tt; err = elim h.err [ inl memory ↦ inl memory | inr is ↦ inr (go repeats is same) ] }
+  where
+    alike_error : (a b : Outcome (List B)) → a ≡ Err e → AlikeOutcomes a b → b ≡ Err e
+    alike_error (Ok xs) b is h = cc
+    alike_error (Err d) (Ok ys) is h = absurd h
+    alike_error (Err d) (Err f) is h = ap Err (sym h) ∙ is
+
+    go : (repeats : Repeats) → o ≡ Err e → SameOutcomes repeats o whole → whole ≡ Err e
+    go AreKept is same = sym same ∙ is
+    go AreDropped is same = alike_error o whole is same
+
+-- the list itself
+pub same_found : (repeats : Repeats) (bytes : List ℕ) (spots : List Spot) (us : List Tree) (whole : Outcome (List Tree)) → AllZip (Locates bytes) spots us
+    → SameOutcomes repeats (Ok us) whole → IsOkAnd whole (HasSame repeats bytes spots)
+same_found AreKept bytes spots us whole a same = subst (λ o. IsOkAnd o (HasSame AreKept bytes spots)) same (us, a, refl)
+same_found AreDropped bytes spots us (Ok ts) a same = (us, a, same)
+same_found AreDropped bytes spots us (Err e) a same = absurd same
+
+pub with_repeats : (repeats : Repeats) (bytes : List ℕ) (spots : List Spot) (whole : Outcome (List Tree)) → IsOkAnd whole (AllZip (Locates bytes) spots)
+    → IsOkAnd whole (HasSame repeats bytes spots)
+with_repeats repeats bytes spots (Ok ts) a = (ts, a, same_equal repeats refl)
+with_repeats repeats bytes spots (Err e) a = absurd a
+
+pub exactly : (bytes : List ℕ) (spots : List Spot) (ts : List Tree) → HasSame AreKept bytes spots ts → AllZip (Locates bytes) spots ts
+exactly bytes spots ts h = subst (AllZip (Locates bytes) spots) h.2 h.1
+
+pub all_exactly : (bytes : List ℕ) (spots : List Spot) (whole : Outcome (List Tree)) → IsOkAnd whole (HasSame AreKept bytes spots)
+    → IsOkAnd whole (AllZip (Locates bytes) spots)
+all_exactly bytes spots (Ok ts) h = exactly bytes spots ts h
+all_exactly bytes spots (Err e) h = absurd h
+
+-- values of the list
+pub same_values : {A B C : Type 0} {e : Outcome A} (repeats : Repeats) (view : A → List C) (f : B → List C) (us ts : List B) → AreSame repeats us ts
+    → Refines (λ v vs. view v ≡ vs) IsOutOfMemory e (Ok (flat_map f us)) → Refines (λ v vs. AreSame repeats (view v) vs) IsOutOfMemory e (Ok (flat_map f ts))
+same_values {e = Ok v} repeats view f us ts same h = record {
+  ok = subst (λ l. AreSame repeats l (flat_map f ts)) (sym h.ok) (same_flat_map repeats f us ts same);
+  err = tt;
+}
+same_values {e = Err e} repeats view f us ts same h = record { ok = tt; err = elim h.err [ inl memory ↦ inl memory | inr is ↦ cc ] }
+
+-- ---- the first item
+
+pub alike_first : (us ts : List Tree) → AreAlike us ts → first_item us ≡ first_item ts
+alike_first us ts h = found us ∙ h.finds (λ t. true) ∙ sym (found ts)
+  where
+    found : (ts : List Tree) → first_item ts ≡ find (λ t. true) ts
+    found [] = refl
+    found (t ∷ ts) = refl
+
+pub alike_some : (us ts : List Tree) → AreAlike us ts → is_some_item us ≡ is_some_item ts
+alike_some us ts h = found us ∙ ap is_found (h.finds (λ t. true)) ∙ sym (found ts)
+  where
+    is_found : Option Tree → Bool
+    is_found None = false
+    is_found (Some t) = true
+
+    found : (ts : List Tree) → is_some_item ts ≡ is_found (find (λ t. true) ts)
+    found [] = refl
+    found (t ∷ ts) = refl
+
+-- ---- comparisons
+
+abbrev decides : Truth → Bool
+decides (Some false) = false
+decides _ = true
+
+abbrev decided : Option Truth → Truth
+decided None = Some false
+decided (Some b) = b
+
+first_decisive_found : (bs : List Truth) → first_decisive bs ≡ decided (find decides bs)
+first_decisive_found [] = refl
+first_decisive_found (Some false ∷ bs) = first_decisive_found bs
+first_decisive_found (Some true ∷ bs) = refl
+first_decisive_found (None ∷ bs) = refl
+
+pub alike_compare : (op : math.BinaryOp) {ls ms rs ss : List Value} → AreAlike ls ms → AreAlike rs ss → compare op ls rs ≡ compare op ms ss
+alike_compare op {ls} {ms} {rs} {ss} left right =
+    let pairs : AreAlike (flat_map (λ l. map (λ r. pair_truth op l r) rs) ls) (flat_map (λ l. map (λ r. pair_truth op l r) ss) ms) =
+    alike_then (alike_flat_map (λ l. map (λ r. pair_truth op l r) rs) left)
+    (alike_each (λ l. map (λ r. pair_truth op l r) rs) (λ l. map (λ r. pair_truth op l r) ss) ms (λ l. alike_map (λ r. pair_truth op l r) right)) in
+    first_decisive_found (flat_map (λ l. map (λ r. pair_truth op l r) rs) ls) ∙ ap decided (pairs.finds decides)
+    ∙ sym (first_decisive_found (flat_map (λ l. map (λ r. pair_truth op l r) ss) ms))
+
+-- with the values of one side known
+pub compared_right : (op : math.BinaryOp) (rs ls : List Value) (o : Outcome (List Value)) → IsOkAnd o (AreAlike rs)
+    → and_then o (λ ss. Ok (compare op ls ss)) ≡ Ok (compare op ls rs)
+compared_right op rs ls (Ok ss) h = ap Ok (sym (alike_compare op (alike_itself ls) h))
+compared_right op rs ls (Err e) h = absurd h
+
+pub compared_left : (op : math.BinaryOp) (ls : List Value) (o p : Outcome (List Value)) → IsOkAnd o (AreAlike ls)
+    → and_then o (λ ms. and_then p (λ rs. Ok (compare op ms rs))) ≡ and_then p (λ rs. Ok (compare op ls rs))
+compared_left op ls (Ok ms) p h = λ i. and_then p (λ rs. Ok (sym (alike_compare op h (alike_itself rs)) i))
+compared_left op ls (Err e) p h = absurd h
+
+pub compared_both : (op : math.BinaryOp) (ls rs : List Value) (o p : Outcome (List Value)) → IsOkAnd o (AreAlike ls) → IsOkAnd p (AreAlike rs)
+    → and_then o (λ ms. and_then p (λ ss. Ok (compare op ms ss))) ≡ Ok (compare op ls rs)
+compared_both op ls rs (Ok ms) (Ok ss) h g = ap Ok (sym (alike_compare op h g))
+compared_both op ls rs (Ok ms) (Err e) h g = absurd g
+compared_both op ls rs (Err e) p h g = absurd h
+
+-- of members of the items
+pub alike_items_truth : (c : MemberCompared) (top : Tree) (us ts : List Tree) → AreAlike us ts → items_truth c top us ≡ items_truth c top ts
+alike_items_truth c top us ts h = go (steps_meaning Lax (steps_of (steps_view c.names.now)) top us) (steps_meaning Lax (steps_of (steps_view c.names.now)) top ts)
+    (alike_steps Lax (steps_of (steps_view c.names.now)) top us ts h)
+  where
+    told : List Tree → Outcome Truth
+    told ts = Ok (compare c.op (flat_map values_of_item ts) (value_view c.literal ∷ []))
+
+    go : (a b : Outcome (List Tree)) → AlikeOutcomes a b
+        → and_then a (λ ts. Ok (compare c.op (flat_map values_of_item ts) (value_view c.literal ∷ [])))
+        ≡ and_then b (λ ts. Ok (compare c.op (flat_map values_of_item ts) (value_view c.literal ∷ [])))
+    go (Ok us) (Ok ts) h = ap Ok (alike_compare c.op (alike_flat_map values_of_item h) (alike_itself (value_view c.literal ∷ [])))
+    go (Ok us) (Err e) h = absurd h
+    go (Err e) (Ok ts) h = absurd h
+    go (Err e) (Err d) h = ap Err h
+
+-- ---- a list whose repeats are left out
+
+-- one position is that of one tree
+pub one_tree : (bytes : List ℕ) (spot : Spot) (t u : Tree) → Locates bytes spot t → Locates bytes spot u → t ≡ u
+one_tree bytes spot t u h g = content_unique (number_reader any) t u (kind_number spot.kind) (spot_content bytes spot)
+    (h.content any h.whole h.decodes) (g.content any h.whole h.decodes)
+
+contained_tree : {A B : Type 0} (R : A → B → Type 0) → ((x : A) (t u : B) → R x t → R x u → t ≡ u) → (xs : List A) (us : List B) (x : A) (t : B) → AllZip R xs us
+    → R x t → Contains xs x → Contains us t
+contained_tree {A} {B} R one xs us x t a r has = let k = go xs us has.0 a has.1 has.2 in (has.0, k.0, k.1)
+  where
+    go : (xs : List A) (us : List B) (k : ℕ) → AllZip R xs us → k < length xs → slice_index_or xs k x ≡ x → (k < length us) × (slice_index_or us k t ≡ t)
+    go [] us k a short is = absurd (omega arith)
+    go (y ∷ xs) [] k a short is = absurd a
+    go (y ∷ xs) (u ∷ us) zero a short is = (omega arith, one x u t (subst (λ z. R z u) is a.0) r)
+    go (y ∷ xs) (u ∷ us) (suc k) a short is = let rest = go xs us k a.1 (omega arith) is in (omega (arith, rest.0), rest.1)
+
+-- the first items so far and the items that are left are alike to the whole
+pub record Thinned {A B : Type 0} (R : A → B → Type 0) (nodes others : List A) (ts : List B) : Type 0 where
+  pub firsts : List B
+  pub rest : List B
+  pub done : AllZip R nodes firsts
+  pub left : AllZip R others rest
+  pub alike : AreAlike (firsts ++ rest) ts
+
+pub thinned_start : {A B : Type 0} (R : A → B → Type 0) (nodes left : List A) (ts : List B) → nodes ≡ [] → AllZip R left ts → Thinned R nodes left ts
+thinned_start R nodes left ts none a = record {
+  firsts = [];
+  rest = ts;
+  done = subst (λ l. AllZip R l []) (sym none) tt;
+  left = a;
+  alike = alike_itself ts;
+}
+
+pub thinned_more : {A B : Type 0} (R : A → B → Type 0) → ((x : A) (t u : B) → R x t → R x u → t ≡ u) → (nodes nodes' left left' : List A) (x : A) (ts : List B)
+    → Thinned R nodes left ts → ((rest : List B) → AllZip R left rest → First (AllZip R left') (R x) rest)
+    → (nodes' ≡ nodes ++ x ∷ []) ⊎ ((nodes' ≡ nodes) × Contains nodes x) → Thinned R nodes' left' ts
+thinned_more R one nodes nodes' left left' x ts thinned first next =
+    let k = first thinned.rest thinned.left in
+    let whole : AreAlike (thinned.firsts ++ k.first ∷ k.others) ts = subst (λ l. AreAlike (thinned.firsts ++ l) ts) k.whole thinned.alike in
+    elim next [
+      | inl pushed ↦ record {
+        firsts = thinned.firsts ++ k.first ∷ [];
+        rest = k.others;
+        done = subst (λ l. AllZip R l (thinned.firsts ++ k.first ∷ [])) (sym pushed)
+            (AllZip-append R nodes (x ∷ []) thinned.firsts (k.first ∷ []) thinned.done (k.holds, tt));
+        left = k.left;
+        alike = subst (λ l. AreAlike l ts) (sym (append_assoc thinned.firsts (k.first ∷ []) k.others)) whole;
+      }
+      | inr known ↦ record {
+        firsts = thinned.firsts;
+        rest = k.others;
+        done = subst (λ l. AllZip R l thinned.firsts) (sym known.0) thinned.done;
+        left = k.left;
+        alike = alike_then
+            (alike_without thinned.firsts k.others k.first (contained_tree R one nodes thinned.firsts x k.first thinned.done k.holds known.1)) whole;
+      }
+    ]
+
+pub thinned_end : {A B : Type 0} (R : A → B → Type 0) (nodes left : List A) (ts : List B) → Thinned R nodes left ts
+    → ((rest : List B) → AllZip R left rest → rest ≡ []) → (us : List B) × AllZip R nodes us × AreAlike us ts
+thinned_end R nodes left ts thinned none = (
+  thinned.firsts,
+  thinned.done,
+  subst (λ l. AreAlike l ts) (ap (λ l. thinned.firsts ++ l) (none thinned.rest thinned.left) ∙ append-nil thinned.firsts) thinned.alike,
+)

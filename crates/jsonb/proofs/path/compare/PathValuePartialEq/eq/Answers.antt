@@ -1,0 +1,8 @@
+use Rattle.std.proofs.Common.{◌∙◌, sym, ap}
+use Rattle.std.specs.Ordering.{is_eq, is_some_and}
+use Rattle.jsonb.proofs.EqualLiterals.{literal-is}
+use Rattle.jsonb.proofs.path.compare.PathValuePartialEq.eq.Goals as goal
+
+pub returns-in-Some : goal.returns-in-Some
+returns-in-Some c =
+    c.is_eq.ensures ∙ ap (is_some_and is_eq) (sym c.in-Some.is ∙ c.order.ensures) ∙ literal-is c.args.self.now c.args.other.now

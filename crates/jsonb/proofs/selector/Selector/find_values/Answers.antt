@@ -1,0 +1,20 @@
+use Rattle.std.proofs.Common.{Err, ap, sym, ◌∙◌, subst}
+use Rattle.std.proofs.lemmas.Result.{err_from_is_err_and}
+use Rattle.std.specs.List.{AllZip, Any}
+use Rattle.jsonb_doc.specs.Format.{Decodes}
+use Rattle.jsonb_doc.specs.Limits.{IsTooLarge}
+use Rattle.jsonb.specs.FoundItems.{IsItemOf}
+use Rattle.jsonb.specs.SelectorAnswers.{root_bytes}
+use Rattle.jsonb.proofs.DocumentAnswers.{handed_by, handed_error}
+use Rattle.jsonb.proofs.selector.Selector.find_values.Goals as goal
+
+pub returns-in_err-document-clause-items : goal.returns-in_err-document-clause-items
+returns-in_err-document-clause-items c = λ form top outcome d m.
+    let p = err_from_is_err_and c.from_residual.result c.from_residual.ensures.1 in
+    handed_error (λ v ts. AllZip (IsItemOf form (root_bytes c.args.self.now)) v.items ts) (Any (IsTooLarge form)) (p.1 ∙ ap Err p.2)
+    (c.in_err-document.ensures.meant form top outcome d m)
+
+pub returns-clause-items : goal.returns-clause-items
+returns-clause-items c = λ form top outcome d m.
+    handed_by (Any (IsTooLarge form)) (c.in_ok-document.ensures.meant form top outcome d m)
+    (λ ts h. rw h.0 at (c.found_items.ensures.items form top ts (subst (λ b. Decodes form b top) (sym h.0) d) h.1))

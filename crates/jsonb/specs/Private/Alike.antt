@@ -1,0 +1,21 @@
+-- Lists that differ in repeats alone, as far as an expression can tell.
+use Rattle.std.specs.Prelude.{◌≡◌, ℕ, Bool, List, find}
+use Rattle.std.specs.List.{AllZip}
+use Rattle.jsonb_doc.specs.Spots.{Locates}
+use Rattle.jsonb_doc.specs.Tree.{Tree}
+use Rattle.jsonb_doc.specs.declared.spot.Spot.{Spot}
+use Rattle.jsonb.specs.declared.selector.document.Repeats.{Repeats}
+use Rattle.jsonb.specs.declared.selector.document.Repeats.TheVariants.{AreKept, AreDropped}
+
+-- each test finds the same first item in both lists
+pub record AreAlike {A : Type 0} (xs ys : List A) : Type 0 where
+  pub finds : (test : A → Bool) → find test xs ≡ find test ys
+
+-- the lists are equal, or alike if repeats are dropped
+abbrev pub AreSame : {A : Type 0} → Repeats → List A → List A → Type 0
+AreSame AreKept xs ys = xs ≡ ys
+AreSame AreDropped xs ys = AreAlike xs ys
+
+-- the positions are those of the trees, or of trees that are alike if repeats are dropped
+abbrev pub HasSame : Repeats → List ℕ → List Spot → List Tree → Type 0
+HasSame repeats bytes spots ts = (us : List Tree) × AllZip (Locates bytes) spots us × AreSame repeats us ts

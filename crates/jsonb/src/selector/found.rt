@@ -1,0 +1,120 @@
+//! What a path selects, found in place: positions of the document, and computed values.
+
+ghost use Rattle.std.specs.Prelude.{◌≡◌, ◌∷◌, [], ℕ, map, List, Ok, IfErr, MatchResult};
+ghost use Rattle.std.specs.List.{AllZip, Any};
+ghost use Rattle.jsonb_doc.specs.Tree.{Tree};
+ghost use Rattle.jsonb_doc.specs.Payload.{Form};
+ghost use Rattle.jsonb_doc.specs.Format.{Decodes};
+ghost use Rattle.jsonb_doc.specs.Answer.{IsOutOfMemory, ◌or◌, ◌or◌when◌, Refines, IsDecodingError};
+ghost use Rattle.jsonb_doc.specs.declared.error.Error.TheVariants.{OutOfMemory, TooLarge};
+ghost use Rattle.jsonb_doc.specs.Limits.{IsTooLarge};
+ghost use Rattle.jsonb_raw.specs.Documents.{raw_bytes, Makes};
+ghost use Rattle.jsonb.specs.FoundItems.{IsItemOf};
+ghost use Rattle.jsonb.specs.Private.Selection.{IsMadeItem, OfSelected};
+ghost use Rattle.jsonb.specs.declared.selector.found.FoundItem.TheVariants as found_item;
+
+use super::document::Document;
+use super::documents::{made_document, number_document};
+use super::selected::{MadeItem, Selected};
+use jsonb_doc::{Error, Number, Spot, spot_document};
+use jsonb_raw::{OwnedJsonb, RawJsonb};
+use std::alloc::Global;
+
+/// An item that a path selects, found in place.
+#[derive(Debug, Drop)]
+pub enum FoundItem {
+    /// An item of the document, at this position.
+    At(Spot),
+    /// A number that a sign or arithmetic computed.
+    Number(Number),
+    /// The result of another expression, as a document.
+    Document(OwnedJsonb),
+}
+
+impl FoundItem {
+    /// Returns the item as a document. `document` must be the one in which it was found; otherwise the result is
+    /// unspecified.
+    ///
+    /// # Errors
+    ///
+    /// `TooLarge` only if the item exceeds the limits of a document, `OutOfMemory` if an allocation fails,
+    /// `InvalidJsonb` and `UnsupportedNumber` only if the document does not decode or is another one.
+    ///
+    /// # Complexity
+    ///
+    /// O(n) for an item of n bytes, which are copied. Allocates.
+    ///
+    /// # Examples
+    ///
+    /// ```rust crates/jsonb_examples/src/evaluation.rt
+    /// for item in found.iter().skip(from).take(size) {
+    ///     page.push(item.to_document(alloc, &document)?)?;
+    /// }
+    /// ```
+    pub fn to_document(&self, alloc: Global, document: &RawJsonb<'_>) -> Result<OwnedJsonb, Error>
+        ensures document { (form : Form) (top t : Tree) → Decodes form (raw_bytes document.now) top
+            → IsItemOf form (raw_bytes document.now) self.now t → Makes form t result }
+        ensures errors { IfErr result (IsDecodingError or OutOfMemory or TooLarge) }
+    {
+        match self {
+            FoundItem::At(spot) => {
+                let item = spot_document(alloc, document.as_bytes(), *spot)?;
+                Ok(OwnedJsonb::new(item))
+            }
+            FoundItem::Number(number) => number_document(alloc, *number),
+            FoundItem::Document(item) => Ok(item.clone(alloc)?),
+        }
+    }
+}
+
+/// Returns each selected item, in order. Fails with `TooLarge` if a computed item exceeds the limits of a document.
+pub(crate) fn found_items(
+    alloc: Global,
+    document: Document<'_>,
+    selected: &Selected<'_>,
+) -> Result<Vec<FoundItem>, Error>
+    ensures items { OfSelected document.entry selected.now (λ form ts.
+        Refines (λ v us. AllZip (IsItemOf form document.entry.bytes.now) v.items us)
+        (IsOutOfMemory or TooLarge when Any (IsTooLarge form) ts) result (Ok ts)) }
+    ensures errors { IfErr result (IsDecodingError or OutOfMemory or TooLarge) }
+{
+    match selected {
+        Selected::Nodes(spots) => found_spots(alloc, spots.as_slice()),
+        Selected::Numbers(numbers) => found_numbers(alloc, numbers),
+        Selected::Made(part) => found_result(alloc, part),
+    }
+}
+
+/// Returns the items at these positions.
+fn found_spots(alloc: Global, spots: &[Spot]) -> Result<Vec<FoundItem>, Error>
+    ensures { MatchResult result (λ found. found.items ≡ map found_item.At spots.now) IsOutOfMemory }
+{
+    let mut found = Vec::with_capacity(alloc, spots.len())?;
+    for spot in spots {
+        found.push(FoundItem::At(*spot))?;
+    }
+    Ok(found)
+}
+
+/// Returns these numbers.
+fn found_numbers(alloc: Global, numbers: &[Number]) -> Result<Vec<FoundItem>, Error>
+    ensures { MatchResult result (λ found. found.items ≡ map found_item.Number numbers.now) IsOutOfMemory }
+{
+    let mut found = Vec::with_capacity(alloc, numbers.len())?;
+    for number in numbers {
+        found.push(FoundItem::Number(*number))?;
+    }
+    Ok(found)
+}
+
+/// Returns the result of an expression as the only item.
+fn found_result(alloc: Global, part: &MadeItem<'_>) -> Result<Vec<FoundItem>, Error>
+    ensures items { (form : Form) (bytes : List ℕ) (t : Tree) → IsMadeItem form part.now t
+        → Refines (λ v us. AllZip (IsItemOf form bytes) v.items us)
+        (IsOutOfMemory or TooLarge when Any (IsTooLarge form) (t ∷ [])) result (Ok (t ∷ [])) }
+    ensures errors { IfErr result (IsOutOfMemory or TooLarge) }
+{
+    let item = FoundItem::Document(made_document(alloc, part)?);
+    let found = vec![in alloc; item]?;
+    Ok(found)
+}
