@@ -11,8 +11,10 @@ use Rattle.jsonb.specs.KeyPaths.{KeyPaths}
 use Rattle.jsonb.specs.OwnedJsonb.{OwnedJsonb}
 use Rattle.jsonb_raw.specs.LeafDocuments.{IsLeafDocument}
 use Rattle.jsonb_raw.specs.Leaves.{Leaf}
-use Rattle.jsonb_c.specs.Private.LeafColumns.{leaf_row}
-use Rattle.jsonb_c.specs.Leaves.{HasRoom, IsRowOfLeaf, LeafRow, documents_of, paths_of, positions_from}
+use Rattle.jsonb_doc.specs.Format.{Decodes}
+use Rattle.jsonb_c.specs.Columns.{positions_from}
+use Rattle.jsonb_c.specs.Leaves.{HasRoom}
+use Rattle.jsonb_c.specs.Private.LeafColumns.{IsRowOfLeaf, LeafRow, documents_of, leaf_row, paths_of}
 
 -- ---- columns
 
@@ -83,3 +85,14 @@ rows_of_leaves form (x ∷ found) [] each = absurd each
 rows_of_leaves form (x ∷ found) (leaf ∷ all) each =
     let path = ap (λ (steps : List Key). key_path_text steps) each.0.0 in
     ((path, each.0.1), rows_of_leaves form found all each.1)
+
+-- rows of leaves, as two columns
+pub columns_of : (form : Form) (all : List Leaf) (found : List LeafRow) → AllZip (IsRowOfLeaf form) all found
+    → (paths_of found ≡ map (λ leaf. key_path_text leaf.0) all) × AllZip (λ leaf document. Decodes form document leaf.1) all (documents_of found)
+columns_of form [] [] each = (refl, tt)
+columns_of form [] (row ∷ found) each = absurd each
+columns_of form (leaf ∷ all) [] each = absurd each
+columns_of form (leaf ∷ all) (row ∷ found) each =
+    let rest = columns_of form all found each.1 in
+    let path : row.0 ≡ key_path_text leaf.0 = each.0.0 in
+    (rw (path, rest.0) refl, (each.0.1, rest.1))

@@ -2,7 +2,6 @@ pub mod Paths
 pub mod Rows
 pub mod Names
 pub mod NameSets
-pub mod ColumnPaths
 pub mod MakingLemmas
 pub mod ObjectRows
 pub mod LeafRows
@@ -10,3 +9,10 @@ pub mod KeyRows
 pub mod LooseValues
 pub mod HandleValues
 pub mod PreparedLemmas
+pub mod BuilderLemmas
+pub mod ItemLemmas
+mod SpanLemmas
+mod StatusNames
+mod KindLemmas
+mod WithinLemmas
+mod FirstSpans

@@ -13,7 +13,7 @@ use Rattle.jsonb_raw.specs.Documents.{raw_bytes}
 use Rattle.jsonb_raw.specs.declared.raw.RawJsonb.{RawJsonb}
 use Rattle.jsonb_raw.proofs.ColumnLemmas.{FirstLeft, first_left}
 use Rattle.jsonb_c.specs.Making.{Encodes, IsRowOf, IsValueOf, is_placed}
-use Rattle.jsonb_c.specs.Views.{vec_answer}
+use Rattle.jsonb_c.specs.Private.Views.{vec_answer}
 
 -- ---- a vector as its bytes
 

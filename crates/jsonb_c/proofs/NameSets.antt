@@ -9,7 +9,8 @@ use Rattle.std.specs.Cmp.Lexicographic.{slice_cmp}
 use Rattle.std.proofs.lemmas.Map.Text.{is_eq-slice_cmp}
 use Rattle.jsonb_doc.specs.Tree.{Tree, null, boolean, number, text, extension, array, object, members, pairs_of}
 use Rattle.jsonb_raw.specs.Objects.{TextSet, is_in, object_delete, object_pick}
-use Rattle.jsonb_c.specs.Names.{WithNames, dropped_names, picked_names}
+use Rattle.jsonb_c.specs.Names.{dropped_names, picked_names}
+use Rattle.jsonb_c.specs.Answers.{With}
 use Rattle.jsonb_c.specs.Private.NameColumns.{HasNames}
 use Rattle.jsonb_c.specs.declared.status.Status.{Status}
 
@@ -77,7 +78,7 @@ drops_names set names (array ts) has = refl
 
 -- what a call promises by the set that it read, and by what is wrong with the names
 pub answered_by_set : (read : Result (List (List ℕ)) Status) (set : TextSet) (Answered : List (List ℕ) → Type 0) (IsRefused : Status → Type 0)
-    → IsOkAnd read (HasNames set) → ((names : List (List ℕ)) → HasNames set names → Answered names) → WithNames read Answered IsRefused
+    → IsOkAnd read (HasNames set) → ((names : List (List ℕ)) → HasNames set names → Answered names) → With read Answered IsRefused
 answered_by_set (Ok names) set Answered IsRefused has go = inl (go names has)
 answered_by_set (Err cause) set Answered IsRefused has go = absurd has
 

@@ -7,7 +7,8 @@ use Rattle.std.proofs.lemmas.Str.{IsUtf8-from_is_utf8, is_utf8-from_IsUtf8}
 use Rattle.std.specs.Borrow.{Bor}
 use Rattle.std.specs.Str.{IsUtf8, is_utf8}
 use Rattle.jsonb_doc.specs.declared.error.Error.TheVariants.{OutOfMemory}
-use Rattle.jsonb_c.specs.Names.{name_of, in_front, names_of, WithNames}
+use Rattle.jsonb_c.specs.Names.{name_of, in_front, names_of}
+use Rattle.jsonb_c.specs.Answers.{With}
 use Rattle.jsonb_c.specs.declared.status.Status.{Status}
 use Rattle.jsonb_c.specs.declared.status.Status.TheVariants.{NotUtf8, Refused}
 
@@ -57,11 +58,11 @@ names_count (row ∷ rows) names is = go (name_of row) (names_of rows) refl (nam
 
 -- what a call promises by the names that it read, and by what is wrong with them
 pub answered : (read : Result (List (List ℕ)) Status) (names : List (List ℕ)) (Answered : List (List ℕ) → Type 0) (IsRefused : Status → Type 0)
-    → read ≡ Ok names → Answered names → WithNames read Answered IsRefused
+    → read ≡ Ok names → Answered names → With read Answered IsRefused
 answered read names Answered IsRefused is h = rw is (inl h)
 
 pub refused : (read : Result (List (List ℕ)) Status) (cause : Status) (Answered : List (List ℕ) → Type 0) (IsRefused : Status → Type 0)
-    → (cause ≡ Refused OutOfMemory) ⊎ (read ≡ Err cause) → IsRefused cause → WithNames read Answered IsRefused
+    → (cause ≡ Refused OutOfMemory) ⊎ (read ≡ Err cause) → IsRefused cause → With read Answered IsRefused
 refused read cause Answered IsRefused (inl memory) h = inr (rw (← memory) h)
 refused read cause Answered IsRefused (inr is) h = rw is (inl h)
 

@@ -17,7 +17,7 @@ use Rattle.jsonb_doc.specs.Encoding.{EntryParts}
 use Rattle.jsonb_doc.specs.ObjectBuilder.{HoldsPairs, has_key, insert_pair}
 use Rattle.jsonb_doc.proofs.ObjectLemmas.{held_key, length-inserted}
 use Rattle.jsonb_c.specs.Making.{IsObjectOf, IsRowOf, put_rows}
-use Rattle.jsonb_c.specs.Views.{vec_answer}
+use Rattle.jsonb_c.specs.Private.Views.{vec_answer}
 use Rattle.jsonb_c.proofs.MakingLemmas.{row_decodes}
 
 -- ---- limits

@@ -1,29 +1,29 @@
 -- A path that was parsed is kept.
-use Rattle.std.proofs.Common.{◌≡◌, ◌∙◌, refl, ap, inl, inr, ℕ, Option, Some, None, Result, Ok, Err}
-use Rattle.std.specs.Prelude.{IsSomeAnd, MatchResult}
+use Rattle.std.proofs.Common.{◌≡◌, ◌∙◌, refl, ap, ℕ, Option, Some, None, Result, Ok, Err}
+use Rattle.std.specs.Prelude.{IsSomeAnd, MatchResult, ok_or}
 use Rattle.std.specs.declared.alloc.Global.{Global}
 use Rattle.std.specs.declared.boxed.Box.{Box}
-use Rattle.jsonb_doc.specs.declared.error.Error.{Error}
-use Rattle.jsonb_doc.specs.Answer.{IsOutOfMemory, ◌or◌when◌}
-use Rattle.jsonb_c.specs.Prepared.{Keeps, Prepares}
-use Rattle.jsonb_c.specs.Status.{ok, status_of}
+use Rattle.jsonb_c.specs.Answers.{With}
+use Rattle.jsonb_c.specs.Private.Boxes.{IsTextRefusal, Keeps}
+use Rattle.jsonb_c.proofs.Paths.{by_text, runs}
+use Rattle.jsonb_c.specs.Status.{code}
+use Rattle.jsonb_c.specs.declared.status.Status.TheVariants.{Answered}
+use Rattle.jsonb_c.specs.declared.status.Status.{Status}
 use Rattle.jsonb_c.specs.declared.prepared.path.PreparedPath.{PreparedPath}
 
-module _ {P : Type 0} (refusal : Error) (steps_of : Option PreparedPath → Option P) (kept : Option PreparedPath) (status : ℕ) where
+module _ {P : Type 0} (refusal : Status) (steps_of : Option PreparedPath → Option P) (kept : Option PreparedPath) (status : ℕ) where
+  -- the path of the text is kept, or nothing is
+  abbrev Prepares : Option P → Type 0
+  Prepares read = With (ok_or read refusal) (λ steps. (status ≡ code Answered) × (steps_of kept ≡ Some steps))
+      (λ cause. (status ≡ code cause) × (kept ≡ None))
+
   kept_path : (read : Option P) (x : PreparedPath) (o : Option P) → steps_of (Some x) ≡ o → IsSomeAnd o (λ steps. read ≡ Some steps)
-      → status ≡ ok → kept ≡ Some x → Prepares refusal read steps_of kept status
+      → status ≡ code Answered → kept ≡ Some x → Prepares read
   kept_path read x None is some done same = absurd some
-  kept_path read x (Some steps) is some done same = rw some (inl (done, ap steps_of same ∙ is))
+  kept_path read x (Some steps) is some done same = runs refusal read steps _ _ some (done, ap steps_of same ∙ is)
 
-  kept_none : (read : Option P) (e : Error) → (IsOutOfMemory or refusal when (read ≡ None)) e → status ≡ status_of e → kept ≡ None
-      → Prepares refusal read steps_of kept status
-  kept_none (Some steps) e (inl memory) failed none = inr (failed ∙ ap status_of memory, none)
-  kept_none (Some steps) e (inr other) failed none = cc
-  kept_none None e (inl memory) failed none = (inr (failed ∙ ap status_of memory), none)
-  kept_none None e (inr other) failed none = (inl (failed ∙ ap status_of other.0), none)
-
-  pub prepares : (read : Option P) (parsed : Result (Box PreparedPath Global) Error)
-      → MatchResult parsed (λ made. IsSomeAnd (steps_of (Some made.value)) (λ steps. read ≡ Some steps)) (IsOutOfMemory or refusal when (read ≡ None))
-      → Keeps parsed kept status → Prepares refusal read steps_of kept status
+  pub prepares : (read : Option P) (parsed : Result (Box PreparedPath Global) Status)
+      → MatchResult parsed (λ made. IsSomeAnd (steps_of (Some made.value)) (λ steps. read ≡ Some steps)) (IsTextRefusal refusal read)
+      → Keeps parsed kept status → Prepares read
   prepares read (Ok made) is keeps = kept_path read made.value (steps_of (Some made.value)) refl is keeps.0 keeps.1
-  prepares read (Err e) is keeps = kept_none read e is keeps.0 keeps.1
+  prepares read (Err cause) is keeps = by_text refusal cause read _ _ is keeps

@@ -5,10 +5,11 @@ use Rattle.std.proofs.lemmas.List.{map-append, length-append, length-map, length
 use Rattle.std.proofs.lemmas.Grind.{flat_map-append}
 use Rattle.std.proofs.Math.Seq.{take-append_seam}
 use Rattle.std.specs.List.{AllZip}
-use Rattle.jsonb_c.specs.Status.{buffer_too_small}
-use Rattle.jsonb_c.specs.Answers.{IsWritten}
+use Rattle.jsonb_c.specs.Status.{code}
+use Rattle.jsonb_c.specs.declared.status.Status.TheVariants.{BufferTooSmall}
+use Rattle.jsonb_c.specs.Answers.{Found, IsWritten}
 use Rattle.jsonb_c.specs.Private.Buffers.{Places}
-use Rattle.jsonb_c.specs.Columns.{Found, Cell, IsCell, AreCells, BytesRoom, ValueRoom, row, rows, ends, cell_value, cell_bytes, cell_status, Checked, Filled, Joined, LacksRoom}
+use Rattle.jsonb_c.specs.Columns.{Cell, IsCell, BytesRoom, row, rows, positions_from, cell_value, cell_bytes, cell_status, LacksRoom, DoneRows, AreJoined}
 use Rattle.jsonb_c.specs.declared.column.join.Progress.{Progress}
 
 -- ---- rows
@@ -78,8 +79,8 @@ related_more R (a ∷ xs) [] x y h here = absurd h
 
 are_more : {A : Type 0} (IsAnswerTo : List ℕ → Found A → Type 0) (column : List (Option (List ℕ))) (cells : List (Cell A))
     (document : Option (List ℕ)) (cell : Cell A) (i : ℕ)
-    → length cells ≡ i → slice_get column i ≡ Some document → AreCells IsAnswerTo column cells
-    → IsCell IsAnswerTo document cell → AreCells IsAnswerTo column (cells ++ cell ∷ [])
+    → length cells ≡ i → slice_get column i ≡ Some document → AllZip (IsCell IsAnswerTo) (take (length cells) column) cells
+    → IsCell IsAnswerTo document cell → AllZip (IsCell IsAnswerTo) (take (length (cells ++ cell ∷ [])) column) (cells ++ cell ∷ [])
 are_more IsAnswerTo column cells document cell i is at all here =
     let all' : AllZip (IsCell IsAnswerTo) (take i column) cells = rw (← is) all in
     rw (length_more cells cell, is, take_one_more column i document at) (related_more (IsCell IsAnswerTo) _ cells document cell all' here)
@@ -89,28 +90,38 @@ count_more cells cell i is = let e = length_more cells cell in omega (arith, e, 
 
 -- ---- a status a row, and a value
 
+-- the statuses of the cells are written
+abbrev pub AreChecked : {A : Type 0} → List ℕ → List ℕ → List (Cell A) → Type 0
+AreChecked old new cells = IsWritten (map cell_status cells) old new
+
+-- the values and statuses of the cells are written
+abbrev pub AreFilled : {A : Type 0} → A → List A × List ℕ → List A × List ℕ → List (Cell A) → Type 0
+AreFilled other old new cells = IsWritten (map (cell_value other) cells) old.0 new.0 × IsWritten (map cell_status cells) old.1 new.1
+
 pub checked_more : {A : Type 0} (IsAnswerTo : List ℕ → Found A → Type 0) (column : List (Option (List ℕ))) (old_statuses statuses : List ℕ)
     (i : ℕ) (document : Option (List ℕ)) (cell : Cell A) → slice_get column i ≡ Some document → i < length old_statuses
-    → Checked IsAnswerTo column old_statuses statuses i → IsCell IsAnswerTo document cell
-    → Checked IsAnswerTo column old_statuses (set statuses i (cell_status cell)) (i + 1)
+    → DoneRows IsAnswerTo column i (AreChecked old_statuses statuses) → IsCell IsAnswerTo document cell
+    → DoneRows IsAnswerTo column (i + 1) (AreChecked old_statuses (set statuses i (cell_status cell)))
 checked_more IsAnswerTo column old_statuses statuses i document cell at lt m here = record {
   cells = m.cells ++ cell ∷ [];
   count = count_more m.cells cell i m.count;
   answers = are_more IsAnswerTo column m.cells document cell i m.count at m.answers here;
-  statuses = mapped_more cell_status m.cells old_statuses statuses cell i m.count lt m.statuses;
+  written = mapped_more cell_status m.cells old_statuses statuses cell i m.count lt m.written;
 }
 
-pub filled_more : {A : Type 0} (IsAnswerTo : List ℕ → Found A → Type 0) (other : A) (column : List (Option (List ℕ))) (old new : ValueRoom A)
+pub filled_more : {A : Type 0} (IsAnswerTo : List ℕ → Found A → Type 0) (other : A) (column : List (Option (List ℕ))) (old new : List A × List ℕ)
     (i : ℕ) (document : Option (List ℕ)) (cell : Cell A)
     → slice_get column i ≡ Some document → i < length old.0 → i < length old.1
-    → Filled IsAnswerTo other column old new i → IsCell IsAnswerTo document cell
-    → Filled IsAnswerTo other column old (set new.0 i (cell_value other cell), set new.1 i (cell_status cell)) (i + 1)
+    → DoneRows IsAnswerTo column i (AreFilled other old new) → IsCell IsAnswerTo document cell
+    → DoneRows IsAnswerTo column (i + 1) (AreFilled other old (set new.0 i (cell_value other cell), set new.1 i (cell_status cell)))
 filled_more IsAnswerTo other column old new i document cell at lt_values lt_statuses m here = record {
   cells = m.cells ++ cell ∷ [];
   count = count_more m.cells cell i m.count;
   answers = are_more IsAnswerTo column m.cells document cell i m.count at m.answers here;
-  values = mapped_more (cell_value other) m.cells old.0 new.0 cell i m.count lt_values m.values;
-  statuses = mapped_more cell_status m.cells old.1 new.1 cell i m.count lt_statuses m.statuses;
+  written = (
+    mapped_more (cell_value other) m.cells old.0 new.0 cell i m.count lt_values m.written.0,
+    mapped_more cell_status m.cells old.1 new.1 cell i m.count lt_statuses m.written.1,
+  );
 }
 
 -- ---- bytes
@@ -142,38 +153,45 @@ written_behind vs old new made bytes at is le same h =
 flat_more : (cells : List (Cell (List ℕ))) (cell : Cell (List ℕ)) → flat_map cell_bytes (cells ++ cell ∷ []) ≡ flat_map cell_bytes cells ++ cell_bytes cell
 flat_more cells cell = flat_map-append cell_bytes cells (cell ∷ []) ∙ ap (λ zs. flat_map cell_bytes cells ++ zs) (append-nil (cell_bytes cell))
 
-ends_len : (at : ℕ) (cells : List (Cell (List ℕ))) → length (ends at cells) ≡ length cells
-ends_len at [] = refl
-ends_len at (c ∷ cells) = ap suc (ends_len (at + length (cell_bytes c)) cells)
+positions_len : (at : ℕ) (rows : List (List ℕ)) → length (positions_from at rows) ≡ suc (length rows)
+positions_len at [] = refl
+positions_len at (row ∷ rows) = ap suc (positions_len (at + length row) rows)
 
-ends_more : (at : ℕ) (cells : List (Cell (List ℕ))) (cell : Cell (List ℕ)) (x : ℕ)
-    → x ≡ at + (length (flat_map cell_bytes cells) + length (cell_bytes cell)) → ends at (cells ++ cell ∷ []) ≡ ends at cells ++ x ∷ []
-ends_more at [] cell x is = ap (λ z. z ∷ []) (omega (arith, is))
-ends_more at (d ∷ cells) cell x is =
+positions_more : (at : ℕ) (cells : List (Cell (List ℕ))) (cell : Cell (List ℕ)) (x : ℕ)
+    → x ≡ at + (length (flat_map cell_bytes cells) + length (cell_bytes cell))
+    → positions_from at (map cell_bytes (cells ++ cell ∷ [])) ≡ positions_from at (map cell_bytes cells) ++ x ∷ []
+positions_more at [] cell x is = ap (λ z. at ∷ z ∷ []) (omega (arith, is))
+positions_more at (d ∷ cells) cell x is =
     let both = length-append (cell_bytes d) (flat_map cell_bytes cells) in
-    ap (λ zs. (at + length (cell_bytes d)) ∷ zs) (ends_more (at + length (cell_bytes d)) cells cell x (omega (arith, is, both)))
+    ap (λ zs. at ∷ zs) (positions_more (at + length (cell_bytes d)) cells cell x (omega (arith, is, both)))
 
 pub joined_more : (IsAnswerTo : List ℕ → Found (List ℕ) → Type 0) (column : List (Option (List ℕ))) (old new : BytesRoom)
     (made bytes : List ℕ) (i at : ℕ) (document : Option (List ℕ)) (cell : Cell (List ℕ))
-    → slice_get column i ≡ Some document → i + 1 < length old.1 → i < length old.2 → Joined IsAnswerTo column old new i at
+    → slice_get column i ≡ Some document → i + 1 < length old.1 → i < length old.2 → DoneRows IsAnswerTo column i (λ cells. AreJoined cells old new at)
     → IsCell IsAnswerTo document cell → bytes ≡ cell_bytes cell
     → (at + length bytes ≤ length new.0) × (made ≡ take at new.0 ++ (bytes ++ drop (at + length bytes) new.0))
-    → Joined IsAnswerTo column old (made, set new.1 (i + 1) (at + length bytes), set new.2 i (cell_status cell)) (i + 1) (at + length bytes)
+    → DoneRows IsAnswerTo column (i + 1)
+    (λ cells. AreJoined cells old (made, set new.1 (i + 1) (at + length bytes), set new.2 i (cell_status cell)) (at + length bytes))
 joined_more IsAnswerTo column old new made bytes i at document cell in_column lt_positions lt_statuses k here is put =
     let flat = flat_more k.cells cell in
+    let sum = k.written.0 in
     let same : length bytes ≡ length (cell_bytes cell) = ap length is in
     let both = length-append (flat_map cell_bytes k.cells) (cell_bytes cell) in
-    let ends_is = ends_more 0 k.cells cell (at + length bytes) (omega (arith, same, k.sum)) in
-    let len : length (0 ∷ ends 0 k.cells) ≡ i + 1 = let e = ends_len 0 k.cells in omega (arith, e, k.count) in
+    let ends_is = positions_more 0 k.cells cell (at + length bytes) (omega (arith, same, sum)) in
+    let len : length (positions_from 0 (map cell_bytes k.cells)) ≡ i + 1 =
+    let e = positions_len 0 (map cell_bytes k.cells) in
+    let m = length-map k.cells cell_bytes in omega (arith, e, m, k.count) in
     record {
       cells = k.cells ++ cell ∷ [];
       count = count_more k.cells cell i k.count;
       answers = are_more IsAnswerTo column k.cells document cell i k.count in_column k.answers here;
-      sum = rw flat (omega (arith, both, same, k.sum));
-      out = rw (flat, ← is) (written_behind (flat_map cell_bytes k.cells) old.0 new.0 made bytes at k.sum put.0 put.1 k.out);
-      positions = subst (λ zs. IsWritten (0 ∷ zs) old.1 (set new.1 (i + 1) (at + length bytes))) (sym ends_is)
-          (written_more (0 ∷ ends 0 k.cells) old.1 new.1 (at + length bytes) (i + 1) len lt_positions k.positions);
-      statuses = mapped_more cell_status k.cells old.2 new.2 cell i k.count lt_statuses k.statuses;
+      written = (
+        rw flat (omega (arith, both, same, sum)),
+        rw (flat, ← is) (written_behind (flat_map cell_bytes k.cells) old.0 new.0 made bytes at sum put.0 put.1 k.written.1),
+        subst (λ zs. IsWritten zs old.1 (set new.1 (i + 1) (at + length bytes))) (sym ends_is)
+            (written_more (positions_from 0 (map cell_bytes k.cells)) old.1 new.1 (at + length bytes) (i + 1) len lt_positions k.written.2),
+        mapped_more cell_status k.cells old.2 new.2 cell i k.count lt_statuses k.written.3,
+      );
     }
 
 pub placed : (bytes : List ℕ) (at : ℕ) (old new : List ℕ) (b : Bool) → b ≡ true → Places bytes at old new b
@@ -188,9 +206,9 @@ not_placed bytes at old new false is h = h
 
 pub lacks_room : (IsAnswerTo : List ℕ → Found (List ℕ) → Type 0) (column : List (Option (List ℕ))) (old new : BytesRoom)
     (progress : Progress) (status : ℕ) (document : Option (List ℕ)) (cell : Cell (List ℕ))
-    → slice_get column progress.rows ≡ Some document → Joined IsAnswerTo column old new progress.rows progress.bytes
+    → slice_get column progress.rows ≡ Some document → DoneRows IsAnswerTo column progress.rows (λ cells. AreJoined cells old new progress.bytes)
     → IsCell IsAnswerTo document cell → progress.next ≡ length (cell_bytes cell)
-    → length new.0 < progress.bytes + progress.next → status ≡ buffer_too_small → LacksRoom IsAnswerTo column (length old.0) progress status
+    → length new.0 < progress.bytes + progress.next → status ≡ code BufferTooSmall → LacksRoom IsAnswerTo column (length old.0) progress status
 lacks_room IsAnswerTo column old new progress status document cell in_column k here is no_room too_small =
-    let len = written_len (flat_map cell_bytes k.cells) old.0 new.0 k.out in
+    let len = written_len (flat_map cell_bytes k.cells) old.0 new.0 k.written.1 in
     (too_small, omega (arith, len, no_room), (document, cell, in_column, here, is))

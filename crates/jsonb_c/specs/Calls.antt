@@ -1,15 +1,18 @@
 -- Results of the functions on one document.
-use Rattle.std.specs.Prelude.{◌≡◌, ◌⊎◌, ◌≤◌, ◌<◌, ◌^◌, ◌↔◌, ◌||◌, not, ℕ, ℤ, pos, negsuc, FitsSigned, Bool, true, false, IsTrue, List, length, Option, Some, None, Result, Ok, Err, MatchResult, MatchOption}
+use Rattle.std.specs.Prelude.{◌≡◌, ◌⊎◌, ◌↔◌, ◌||◌, not, ℕ, ℤ, pos, negsuc, Bool, false, IsTrue, IsOkAnd, List, length, Option, Some, None, Result, Ok, Err, String, MatchResult, MatchOption, if◌then◌else◌}
+use Rattle.std.specs.declared.alloc.Global.{Global}
 use Rattle.std.specs.declared.cmp.Ordering.{Ordering}
 use Rattle.std.specs.declared.cmp.Ordering.TheVariants.{Less, Equal, Greater}
-use Rattle.std.specs.Int.{Width, w8, w16, w64}
+use Rattle.std.specs.Int.{Width, w8, w16}
 use Rattle.jsonb_doc.specs.declared.error.Error.{Error}
-use Rattle.jsonb_doc.specs.declared.error.Error.TheVariants.{OutOfMemory, InvalidJsonb, UnsupportedNumber, InvalidJsonPath, InvalidKeyPath, InvalidCast, InvalidJsonType, InvalidObject, ObjectDuplicateKey, TooDeep}
+use Rattle.jsonb_doc.specs.declared.error.Error.TheVariants.{OutOfMemory, InvalidJsonb, UnsupportedNumber, InvalidCast, InvalidJsonType, InvalidObject, ObjectDuplicateKey, TooDeep, TooLarge}
 use Rattle.jsonb_doc.specs.Tree.{Tree, Trees, array, elements}
 use Rattle.jsonb_doc.specs.Payload.{Form, any}
 use Rattle.jsonb_doc.specs.Format.{Decodes, IsUnsupportedDocument, IsNoDocument}
-use Rattle.jsonb_doc.specs.Answer.{Outcome, IsOutOfMemory}
+use Rattle.jsonb_doc.specs.Answer.{IsDecodingError, IsOutOfMemory, ◌or◌}
+use Rattle.jsonb_raw.specs.Casts.{CastsToI64, CastsToText, text_of}
 use Rattle.jsonb_raw.specs.Children.{without_index}
+use Rattle.jsonb_raw.specs.Contains.{contains}
 use Rattle.jsonb_raw.specs.Deletes.{MeetNoPart, without}
 use Rattle.jsonb_raw.specs.Documents.{Makes, MakesOption}
 use Rattle.jsonb_raw.specs.Scalars.{IsWholeNumber, is_json_scalar}
@@ -18,55 +21,22 @@ use Rattle.jsonb.specs.KeyPathGrammar.{Key}
 use Rattle.jsonb_raw.specs.Places.{index_position, tree_at_steps}
 use Rattle.jsonb_doc.specs.Depth.{deepest}
 use Rattle.jsonb_raw.specs.EqualityKey.{equality_key}
-use Rattle.jsonb_raw.specs.SortableKey.{sortable_key, depths}
-use Rattle.jsonb.specs.Compare.{Truth}
-use Rattle.jsonb.specs.Meaning.{meaning}
+use Rattle.jsonb_raw.specs.SortableKey.{sortable_key}
+use Rattle.jsonb_raw.specs.KeyAnswer.{GivesKey}
 use Rattle.jsonb.specs.PathTree.{Step}
-use Rattle.jsonb.specs.SelectorAnswers.{IsPicked, IsTruthOf}
+use Rattle.jsonb.specs.SelectionErrors.{IsDocumentError, IsSelectionError}
+use Rattle.jsonb.specs.Compare.{Truth}
+use Rattle.jsonb.specs.SelectorAnswers.{ByMeanings, IsFound, IsPicked, IsTruthOf, array_of}
 use Rattle.jsonb.specs.declared.selector.document.Mode.{Mode}
 use Rattle.jsonb.specs.declared.selector.document.Mode.TheVariants.{Lax, Strict}
-use Rattle.jsonb_c.specs.Status.{ok, status_of}
-use Rattle.jsonb_c.specs.Answers.{Answer, OfDocument, OfDocuments}
-
--- ---- paths
-
--- Holds for the result of a path, if the text is one; otherwise the path fails, unless an allocation fails first.
-abbrev pub ByPath : {P A : Type 0} → Error → Option P → (P → Result A Error → Type 0) → Result A Error → Type 0
-ByPath refusal None Promise answer = (answer ≡ Err OutOfMemory) ⊎ (answer ≡ Err refusal)
-ByPath refusal (Some path) Promise answer = Promise path answer
-
--- ---- key paths
-
--- Holds if the result is the value at the location of the steps, if the path is a key path.
-abbrev pub Gets : Option (List Key) → List ℕ → Answer → Type 0
-Gets read document answer =
-    ByPath InvalidKeyPath read
-    (λ steps. OfDocument document (λ form t. MakesOption form (tree_at_steps steps t))) answer
-
--- ---- JSON paths
-
-abbrev pub mode_of : Bool → Mode
-mode_of true = Strict
-mode_of false = Lax
-
--- Holds for the result of a parsed path, by its meaning.
-abbrev pub ByMeaning : {A : Type 0} → Mode → List ℕ → Option (List Step)
-    → (Form → Outcome (List Tree) → Result A Error → Type 0) → Result A Error → Type 0
-ByMeaning mode document read Promise answer =
-    ByPath InvalidJsonPath read (λ path. OfDocument document (λ form t. Promise form (meaning mode path t))) answer
-
--- Holds if the result is a document of the picked item, if there is one.
-abbrev pub PicksItem : (List Tree → Option Tree) → Mode → List ℕ → Option (List Step) → Answer → Type 0
-PicksItem pick mode document read answer = ByMeaning mode document read (IsPicked pick) answer
-
--- Holds if the result is that of the path as a predicate, unless an allocation fails.
-abbrev pub Says : Mode → Option (List Step) → List ℕ → Result Truth Error → Type 0
-Says mode read document answer = ByPath InvalidJsonPath read (λ path. IsTruthOf mode path document) answer
+use Rattle.jsonb_c.specs.Status.{code, status_of}
+use Rattle.jsonb_c.specs.declared.status.Status.TheVariants.{Answered}
+use Rattle.jsonb_c.specs.Answers.{Found, OfBoth, OfDocument, OfDocuments, WritesResult}
 
 -- ---- parts
 
 -- Holds if the result is a document of the value, or `None` if there is none, which is not allocated.
-abbrev pub Finds : Form → Option Tree → Answer → Type 0
+abbrev pub Finds : Form → Option Tree → Found (List ℕ) → Type 0
 Finds form wanted answer = MakesOption form wanted answer × (wanted ≡ None → answer ≡ Ok None)
 
 -- ---- edits
@@ -108,33 +78,20 @@ pub record InsertsPair (name : List ℕ) (update : Bool) (document value : List 
 
 -- ---- casts
 
--- Holds if the result is the number, if it is an integer that fits in a signed 64-bit word.
-abbrev pub FindsSigned : Tree → Option ℤ → Type 0
-FindsSigned t found = MatchOption found ((z : ℤ) → IsWholeNumber t z → FitsSigned w64 z → ⊥) (λ z. IsWholeNumber t z)
-
--- Holds if the result is the number, if it is an integer that fits in an unsigned 64-bit word.
-abbrev pub FindsUnsigned : Tree → Option ℕ → Type 0
-FindsUnsigned t found =
-    MatchOption found ((n : ℕ) → IsWholeNumber t (pos n) → n < 2 ^ 64 → ⊥) (λ n. IsWholeNumber t (pos n))
-
--- Holds if the result is the string, which is allocated, or the error.
-abbrev pub IsTextOf : Option (List ℕ) → Result (List ℕ) Error → Type 0
-IsTextOf (Some wanted) answer = MatchResult answer (λ s. s ≡ wanted) IsOutOfMemory
-IsTextOf None answer = answer ≡ Err InvalidCast
+-- Holds if the result is the number, if it is an integer that fits.
+abbrev pub FindsWhole : {A : Type 0} → (A → ℤ) → (A → Type 0) → Tree → Option A → Type 0
+FindsWhole {A} value Fits t found =
+    MatchOption found ((x : A) → IsWholeNumber t (value x) → Fits x → ⊥) (λ x. IsWholeNumber t (value x))
 
 -- ---- sortable keys
 
 abbrev pub width_of : Bool → Width
-width_of true = w16
-width_of false = w8
+width_of wide = if wide then w16 else w8
 
 -- Holds if the result is the key of the document's tree; it fails if an item is too deep for a key.
-abbrev pub IsSortableKey : Width → Tree → Result (List ℕ) Error → Type 0
-IsSortableKey w t (Ok bytes) = (bytes ≡ sortable_key w t 0) × (deepest t < depths w)
-IsSortableKey w t (Err e) = (e ≡ OutOfMemory) ⊎ ((e ≡ TooDeep) × (depths w ≤ deepest t))
-
 abbrev pub IsSortableKeyOf : Width → List ℕ → Result (List ℕ) Error → Type 0
-IsSortableKeyOf w document answer = OfDocument document (λ form t. IsSortableKey w t) answer
+IsSortableKeyOf w document answer =
+    OfDocument document (λ form t made. GivesKey w (deepest t) made (λ bytes. bytes ≡ sortable_key w t 0)) answer
 
 -- ---- the order of documents
 
@@ -154,6 +111,59 @@ IsEqualityKeyOf document answer =
 
 -- Holds if the bytes are a document, or the status is the error of `check`.
 abbrev pub IsCheckOf : List ℕ → ℕ → Type 0
-IsCheckOf document status = ((status ≡ ok) ↔ ((t : Tree) × Decodes any document t))
+IsCheckOf document status = ((status ≡ code Answered) ↔ ((t : Tree) × Decodes any document t))
     × ((status ≡ status_of UnsupportedNumber) ↔ IsUnsupportedDocument document)
     × ((status ≡ status_of InvalidJsonb) ↔ IsNoDocument document)
+
+-- ---- results that single calls and calls on columns share, and how they are shown
+
+abbrev pub mode_of : Bool → Mode
+mode_of strict = if strict then Strict else Lax
+
+-- The array of all items.
+abbrev pub one_array : List Tree → Option Tree
+one_array ts = Some (array_of ts)
+
+-- Holds if the result is whether the path selects an item.
+abbrev pub TellsExistence : Mode → List Step → List ℕ → (Result Bool Error → Type 0) → Type 0
+TellsExistence mode path document = WritesResult (ByMeanings mode document path IsFound) (IsSelectionError mode)
+
+-- Holds if it is that of the path as a predicate.
+abbrev pub TellsTruth : Mode → List Step → List ℕ → (Result Truth Error → Type 0) → Type 0
+TellsTruth mode path document = WritesResult (IsTruthOf mode path document) (IsSelectionError mode)
+
+-- Holds if it is a document of the picked item of what the path selects, if there is one.
+abbrev pub SelectsItem : Mode → (List Tree → Option Tree) → List Step → List ℕ → (Found (List ℕ) → Type 0) → Type 0
+SelectsItem mode pick path document =
+    WritesResult (ByMeanings mode document path (IsPicked pick)) (IsDocumentError mode)
+
+-- Holds if it is the value at the location of the steps, if there is one.
+abbrev pub FindsPart : List Key → List ℕ → (Found (List ℕ) → Type 0) → Type 0
+FindsPart steps document = WritesResult (OfDocument document (λ form t. MakesOption form (tree_at_steps steps t)))
+    (IsDecodingError or OutOfMemory or TooLarge)
+
+-- Holds if it is the document without the value at the steps.
+abbrev pub DeletesPart : List Key → List ℕ → (Result (List ℕ) Error → Type 0) → Type 0
+DeletesPart steps document =
+    WritesResult (DeletesPlace steps document) (IsDecodingError or OutOfMemory or InvalidJsonType)
+
+-- Holds if it is whether the document contains the other one.
+abbrev pub TellsContainment : List ℕ → List ℕ → (Result Bool Error → Type 0) → Type 0
+TellsContainment wanted document = WritesResult
+    (OfBoth document wanted (λ form t u answer. IsOkAnd answer (λ b. b ≡ contains t u))) IsDecodingError
+
+-- Holds if it is the document as an integer.
+abbrev pub WritesI64 : List ℕ → (Result ℤ Error → Type 0) → Type 0
+WritesI64 document = WritesResult (OfDocument document (λ form t. CastsToI64 t)) (IsDecodingError or InvalidCast)
+
+-- Holds if it is the document as a string.
+abbrev pub WritesText : List ℕ → (Result (String Global) Error → Type 0) → Type 0
+WritesText document = WritesResult (OfDocument document (λ form t. CastsToText (text_of t)))
+    (IsDecodingError or OutOfMemory or InvalidCast)
+
+-- Holds if it is the sortable key.
+abbrev pub WritesKey : Width → List ℕ → (Result (List ℕ) Error → Type 0) → Type 0
+WritesKey w document = WritesResult (IsSortableKeyOf w document) (IsDecodingError or OutOfMemory or TooDeep)
+
+abbrev pub WritesEqualityKey : List ℕ → (Result (List ℕ) Error → Type 0) → Type 0
+WritesEqualityKey document = WritesResult (IsEqualityKeyOf document) (IsDecodingError or OutOfMemory)

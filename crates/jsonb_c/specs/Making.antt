@@ -1,25 +1,29 @@
 -- Results of the functions that build and count documents.
-use Rattle.std.specs.Prelude.{◌≡◌, ◌⊎◌, ◌+ℤ◌, ◌*ℤ◌, ◌^◌, ℕ, ℤ, pos, Bool, true, ◌&&◌, List, [], ◌∷◌, length, Option, Some, None, option_map, is_some, flat_map, slice_get, Result, Ok, Err, FitsSigned, MatchOption, MatchResult, IsSomeAnd, ◌<◌, if◌then◌else◌}
+use Rattle.std.specs.Prelude.{◌≡◌, ◌⊎◌, ◌+ℤ◌, ◌*ℤ◌, ◌^◌, ℕ, ℤ, pos, Bool, List, [], ◌∷◌, length, Option, Some, None, is_some, option_and_then, flat_map, slice_get, Result, Ok, Err, FitsSigned, MatchOption, MatchResult, IsSomeAnd, ◌<◌, if◌then◌else◌}
 use Rattle.std.specs.Int.{Width, w64}
 use Rattle.jsonb_doc.specs.declared.error.Error.{Error}
-use Rattle.std.specs.List.{zip, AllZip}
+use Rattle.std.specs.List.{zip, AllZip, list_all}
 use Rattle.jsonb_doc.specs.declared.error.Error.TheVariants.{ObjectDuplicateKey, TooLarge}
 use Rattle.jsonb_doc.specs.Answer.{Refines, Outcome, IsOutOfMemory, IsOutOfMemoryOrTooLarge, ◌or◌when◌}
 use Rattle.jsonb_doc.specs.Limits.{IsTooLarge}
 use Rattle.jsonb_doc.specs.ObjectBuilder.{has_key, insert_pair}
 use Rattle.jsonb_doc.specs.Number.{Number, number_from, decimal64, decimal128}
-use Rattle.jsonb_doc.specs.Tree.{Tree, array, number, object, members, pairs_of, trees_of, children_of}
+use Rattle.jsonb_doc.specs.Tree.{Tree, array, number, object, pairs_of, trees_of}
 use Rattle.jsonb_doc.specs.Payload.{Form}
 use Rattle.jsonb_doc.specs.Format.{Decodes}
-use Rattle.jsonb_raw.specs.CompositeKeys.{column_key, GivesCompositeKey}
-use Rattle.jsonb_c.specs.Status.{ok, none, buffer_too_small, status_of}
+use Rattle.jsonb_raw.specs.CompositeKeys.{column_key, deepest_of_columns}
+use Rattle.jsonb_raw.specs.Documents.{Makes}
+use Rattle.jsonb_raw.specs.KeyAnswer.{GivesKey}
+use Rattle.jsonb_raw.specs.Objects.{object_each}
+use Rattle.jsonb_c.specs.Status.{code}
+use Rattle.jsonb_c.specs.declared.status.Status.TheVariants.{Absent, Answered, BufferTooSmall, Refused}
 use Rattle.jsonb_c.specs.Answers.{DeliversNothing, IsWritten}
 
 -- ---- one value
 
 -- Holds if the result is a document of the tree, in its shortest form.
 abbrev pub Encodes : Tree → Result (List ℕ) Error → Type 0
-Encodes t answer = (form : Form) → MatchResult answer (λ made. Decodes form made t) (IsOutOfMemoryOrTooLarge form t)
+Encodes t answer = (form : Form) → Makes form t answer
 
 -- The integer of two halves, of which the lower is unsigned.
 abbrev pub whole_of : ℤ → ℕ → ℤ
@@ -38,19 +42,16 @@ IsDecimalOf whole scale t = (FitsSigned w64 whole × (t ≡ number (number_from 
 
 -- Whether no offset decreases or exceeds the data.
 abbrev pub is_placed : List (Option (List ℕ)) → Bool
-is_placed [] = true
-is_placed (row ∷ rows) = is_some row && is_placed rows
+is_placed column = list_all is_some column
 
 -- Holds if the row is a document of the tree.
 abbrev pub IsRowOf : Form → Option (List ℕ) → Tree → Type 0
-IsRowOf form (Some document) t = Decodes form document t
-IsRowOf form None t = ⊥
+IsRowOf form row t = IsSomeAnd row (λ document. Decodes form document t)
 
 -- Holds if the result is an array of the rows.
 abbrev pub MakesArray : List (Option (List ℕ)) → Result (List ℕ) Error → Type 0
 MakesArray column answer = (form : Form) (ts : List Tree) → AllZip (IsRowOf form) column ts
-    → MatchResult answer (λ made. Decodes form made (array (trees_of ts)))
-    (IsOutOfMemoryOrTooLarge form (array (trees_of ts)))
+    → Makes form (array (trees_of ts)) answer
 
 -- ---- the composite key of a column
 
@@ -63,7 +64,7 @@ IsValueOf form _ _ = ⊥
 -- Holds if the result is the composite key of the rows.
 abbrev pub MakesCompositeKey : Width → List (Option (List ℕ)) → Result (List ℕ) Error → Type 0
 MakesCompositeKey w column answer = (form : Form) (values : List (Option Tree)) → AllZip (IsValueOf form) column values
-    → GivesCompositeKey w values answer (λ made. made ≡ flat_map (column_key w) values)
+    → GivesKey w (deepest_of_columns values) answer (λ made. made ≡ flat_map (column_key w) values)
 
 -- ---- an object of two columns
 
@@ -84,43 +85,26 @@ abbrev pub MakesObject : List (List ℕ) → List (Option (List ℕ)) → Result
 MakesObject names column answer =
     (form : Form) (ts : List Tree) → AllZip (IsRowOf form) column ts → IsObjectOf form (zip names ts) answer
 
--- ---- counts
-
--- The number of elements or members of a container.
-abbrev pub children_count : Tree → Option ℕ
-children_count t = option_map length (children_of t)
-
 -- ---- pairs
-
--- The members of an object.
-abbrev pub pairs_in : Tree → List (List ℕ × Tree)
-pairs_in (object ps) = members ps
-pairs_in _ = []
 
 -- Holds if the result is the member at a position: its key, and a document of its value.
 abbrev pub FindsPair : Form → ℕ → Tree → Result (Option (List ℕ × List ℕ)) Error → Type 0
-FindsPair form index t answer = MatchOption (slice_get (pairs_in t) index) (answer ≡ Ok None)
+FindsPair form index t answer =
+    MatchOption (option_and_then (λ ps. slice_get ps index) (object_each t)) (answer ≡ Ok None)
     (λ p. MatchResult answer (λ found. IsSomeAnd found (λ made. (made.0 ≡ p.0) × Decodes form made.1 p.1))
     (IsOutOfMemoryOrTooLarge form p.1))
 
--- Holds if two lists of bytes are delivered, each to its buffer; neither is written if one does not fit.
-abbrev pub DeliversBoth : List ℕ → List ℕ → List ℕ → List ℕ → ℕ → List ℕ → List ℕ → ℕ → ℕ → Type 0
-DeliversBoth key value old_key new_key key_len old_value new_value value_len status =
-    (key_len ≡ length key) × (value_len ≡ length value)
-    × (((status ≡ ok) × IsWritten key old_key new_key × IsWritten value old_value new_value)
-    ⊎ ((status ≡ buffer_too_small) × ((length old_key < length key) ⊎ (length old_value < length value))
-    × (new_key ≡ old_key) × (new_value ≡ old_value)))
-
--- Holds if neither is delivered.
-abbrev pub DeliversNeither : ℕ → List ℕ → List ℕ → ℕ → List ℕ → List ℕ → ℕ → ℕ → Type 0
-DeliversNeither cause old_key new_key key_len old_value new_value value_len status =
-    DeliversNothing cause old_key new_key key_len status × DeliversNothing cause old_value new_value value_len status
-
+-- Holds if the key and the document of the value are delivered, each to its buffer. Neither is written if one does not
+-- fit, if there is no such member, or if the call fails.
 abbrev pub DeliversPair : Result (Option (List ℕ × List ℕ)) Error → List ℕ → List ℕ → ℕ → List ℕ → List ℕ → ℕ → ℕ
     → Type 0
 DeliversPair (Ok (Some found)) old_key new_key key_len old_value new_value value_len status =
-    DeliversBoth found.0 found.1 old_key new_key key_len old_value new_value value_len status
+    (key_len ≡ length found.0) × (value_len ≡ length found.1)
+    × (((status ≡ code Answered) × IsWritten found.0 old_key new_key × IsWritten found.1 old_value new_value)
+    ⊎ ((status ≡ code BufferTooSmall) × ((length old_key < length found.0) ⊎ (length old_value < length found.1))
+    × (new_key ≡ old_key) × (new_value ≡ old_value)))
 DeliversPair (Ok None) old_key new_key key_len old_value new_value value_len status =
-    DeliversNeither none old_key new_key key_len old_value new_value value_len status
+    DeliversNothing Absent old_key new_key key_len status × DeliversNothing Absent old_value new_value value_len status
 DeliversPair (Err e) old_key new_key key_len old_value new_value value_len status =
-    DeliversNeither (status_of e) old_key new_key key_len old_value new_value value_len status
+    DeliversNothing (Refused e) old_key new_key key_len status
+    × DeliversNothing (Refused e) old_value new_value value_len status

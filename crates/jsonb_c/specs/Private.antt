@@ -1,7 +1,9 @@
 -- Definitions that only contracts of private functions use. No public clause cites them.
 pub mod Boxes
 pub mod Buffers
-pub mod ByHand
 pub mod LeafColumns
 pub mod NameColumns
+pub mod PathRows
 pub mod Views
+pub mod Events
+pub mod Numbers

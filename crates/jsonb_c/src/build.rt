@@ -10,11 +10,11 @@ ghost use Rattle.jsonb_doc.specs.Payload.{Form};
 ghost use Rattle.jsonb_doc.specs.Tree as spec;
 ghost use Rattle.jsonb_doc.specs.Tree.{Tree, array, trees_of};
 ghost use Rattle.jsonb_doc.specs.View.{number_view};
-ghost use Rattle.jsonb_c.specs.Answers.{DeliversNothing, WritesBytes};
+ghost use Rattle.jsonb_c.specs.Answers.{DeliversNothing, WritesResult, DeliversMade};
 ghost use Rattle.jsonb_c.specs.Columns.{rows};
 ghost use Rattle.jsonb_c.specs.Making.{Encodes, IsDecimalOf, MakesArray, is_placed, whole_of};
-ghost use Rattle.jsonb_c.specs.Status.{bad_offsets, not_utf8};
-ghost use Rattle.jsonb_c.specs.Views.{vec_answer};
+ghost use Rattle.jsonb_c.specs.declared.status.Status.TheVariants.{BadOffsets, NotUtf8};
+ghost use Rattle.jsonb_c.specs.Private.Views.{vec_answer};
 
 pub(crate) mod object;
 
@@ -27,7 +27,8 @@ use std::alloc::Global;
 /// Returns null as a document.
 #[unsafe(no_mangle)]
 pub extern "C" fn jdoc_from_null(alloc: Global, out: &mut [u8], out_len: &mut usize) -> u32
-    ensures { WritesBytes (Encodes spec.null) (IsOutOfMemory or TooLarge) out.old out.new out_len.new result }
+    ensures { WritesResult (Encodes spec.null) (IsOutOfMemory or TooLarge)
+        (λ answer. DeliversMade answer out.old out.new out_len.new result) }
 {
     deliver_item(alloc, &Item::Null, out, out_len)
 }
@@ -40,8 +41,8 @@ pub extern "C" fn jdoc_from_bool(
     out: &mut [u8],
     out_len: &mut usize,
 ) -> u32
-    ensures { WritesBytes (Encodes (spec.boolean value)) (IsOutOfMemory or TooLarge)
-        out.old out.new out_len.new result }
+    ensures { WritesResult (Encodes (spec.boolean value)) (IsOutOfMemory or TooLarge)
+        (λ answer. DeliversMade answer out.old out.new out_len.new result) }
 {
     deliver_item(alloc, &Item::Boolean(value), out, out_len)
 }
@@ -54,8 +55,8 @@ pub extern "C" fn jdoc_from_i64(
     out: &mut [u8],
     out_len: &mut usize,
 ) -> u32
-    ensures { WritesBytes (Encodes (spec.number (number_from int64 value 0))) (IsOutOfMemory or TooLarge)
-        out.old out.new out_len.new result }
+    ensures { WritesResult (Encodes (spec.number (number_from int64 value 0))) (IsOutOfMemory or TooLarge)
+        (λ answer. DeliversMade answer out.old out.new out_len.new result) }
 {
     deliver_item(alloc, &Item::Number(Number::Int64(value)), out, out_len)
 }
@@ -68,8 +69,8 @@ pub extern "C" fn jdoc_from_u64(
     out: &mut [u8],
     out_len: &mut usize,
 ) -> u32
-    ensures { WritesBytes (Encodes (spec.number (number_from uint64 (pos value) 0))) (IsOutOfMemory or TooLarge)
-        out.old out.new out_len.new result }
+    ensures { WritesResult (Encodes (spec.number (number_from uint64 (pos value) 0))) (IsOutOfMemory or TooLarge)
+        (λ answer. DeliversMade answer out.old out.new out_len.new result) }
 {
     deliver_item(alloc, &Item::Number(Number::UInt64(value)), out, out_len)
 }
@@ -85,21 +86,22 @@ pub extern "C" fn jdoc_from_decimal(
     out_len: &mut usize,
 ) -> u32
     ensures { (t : Tree) → IsDecimalOf (whole_of high low) scale t
-        → WritesBytes (Encodes t) (IsOutOfMemory or TooLarge) out.old out.new out_len.new result }
+        → WritesResult (Encodes t) (IsOutOfMemory or TooLarge)
+        (λ answer. DeliversMade answer out.old out.new out_len.new result) }
 {
     let number = decimal(whole_of(high, low), scale);
     deliver_item(alloc, &Item::Number(number), out, out_len)
 }
 
 /// Returns the integer of two halves.
-fn whole_of(high: i64, low: u64) -> i128
+pub(crate) fn whole_of(high: i64, low: u64) -> i128
     ensures { result ≡ whole_of high low }
 {
     i128::from(high) * 18_446_744_073_709_551_616 + i128::from(low)
 }
 
 /// Returns the 64-bit decimal if the value fits, otherwise the 128-bit decimal.
-fn decimal(value: i128, scale: u8) -> Number
+pub(crate) fn decimal(value: i128, scale: u8) -> Number
     ensures { (t : Tree) → IsDecimalOf value scale t → t ≡ spec.number (number_view result) }
 {
     match i64::try_from(value) {
@@ -117,9 +119,9 @@ pub extern "C" fn jdoc_from_str(
     out_len: &mut usize,
 ) -> u32
     ensures text { IsUtf8 text.now
-        → WritesBytes (Encodes (spec.text text.now)) (IsOutOfMemory or TooLarge)
-        out.old out.new out_len.new result }
-    ensures other { ¬ (IsUtf8 text.now) → DeliversNothing not_utf8 out.old out.new out_len.new result }
+        → WritesResult (Encodes (spec.text text.now)) (IsOutOfMemory or TooLarge)
+        (λ answer. DeliversMade answer out.old out.new out_len.new result) }
+    ensures other { ¬ (IsUtf8 text.now) → DeliversNothing NotUtf8 out.old out.new out_len.new result }
 {
     let Ok(text) = str::from_utf8(text) else {
         return deliver_nothing(Status::NotUtf8, out_len);
@@ -130,7 +132,8 @@ pub extern "C" fn jdoc_from_str(
 /// Writes the document of an item to the caller's buffer.
 fn deliver_item(alloc: Global, item: &Item<'_>, out: &mut [u8], out_len: &mut usize) -> u32
     ensures { (t : Tree) → ((form : Form) → StandsFor form item.now t)
-        → WritesBytes (Encodes t) (IsOutOfMemory or TooLarge) out.old out.new out_len.new result }
+        → WritesResult (Encodes t) (IsOutOfMemory or TooLarge)
+        (λ answer. DeliversMade answer out.old out.new out_len.new result) }
 {
     deliver_vec(encode_item(alloc, item), out, out_len)
 }
@@ -145,10 +148,10 @@ pub extern "C" fn jdoc_array_from_column(
     out_len: &mut usize,
 ) -> u32
     ensures array { is_placed (rows bytes.now offsets.now) ≡ true
-        → WritesBytes (MakesArray (rows bytes.now offsets.now)) (IsDecodingError or OutOfMemory or TooLarge)
-        out.old out.new out_len.new result }
+        → WritesResult (MakesArray (rows bytes.now offsets.now)) (IsDecodingError or OutOfMemory or TooLarge)
+        (λ answer. DeliversMade answer out.old out.new out_len.new result) }
     ensures other { is_placed (rows bytes.now offsets.now) ≡ false
-        → DeliversNothing bad_offsets out.old out.new out_len.new result }
+        → DeliversNothing BadOffsets out.old out.new out_len.new result }
 {
     let column = Column::new(bytes, offsets);
     if column.is_placed() {

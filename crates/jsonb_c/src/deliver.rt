@@ -1,11 +1,12 @@
 //! Results written to the caller's memory.
 
-ghost use Rattle.std.specs.Prelude.{◌≡◌, ◌≤◌, ◌+◌, ◌++◌, take, drop, length};
+ghost use Rattle.std.specs.Prelude.{◌≡◌, ◌≤◌, ◌+◌, ◌++◌, take, drop, length, option_map, string_bytes, Ok};
+ghost use Rattle.jsonb_doc.specs.Answer.{and_then};
+ghost use Rattle.jsonb_raw.specs.Casts.{bool_number};
 ghost use Rattle.jsonb_c.specs.Status.{code};
-ghost use Rattle.jsonb_c.specs.Answers.{Delivers, DeliversBytes, Shows, ShowsBool, ShowsFound, ShowsFoundBool, ShowsTruth, bool_byte, truth_byte, whole};
+ghost use Rattle.jsonb_c.specs.Answers.{Delivers, DeliversBytes, Shows, ShowsFound, found, truth_byte, DeliversMade};
 ghost use Rattle.jsonb_c.specs.Private.Buffers.{Places};
-ghost use Rattle.jsonb_c.specs.Views.{vec_answer};
-ghost use Rattle.jsonb_c.specs.Private.Views.{found_text, text_answer};
+ghost use Rattle.jsonb_c.specs.Private.Views.{found_text, vec_answer};
 
 use crate::status::Status;
 use jsonb::{Error, OwnedJsonb};
@@ -45,7 +46,7 @@ pub(crate) fn deliver_made(
     out: &mut [u8],
     out_len: &mut usize,
 ) -> u32
-    ensures { Delivers (whole answer) out.old out.new out_len.new result }
+    ensures { DeliversMade answer out.old out.new out_len.new result }
 {
     match answer {
         Ok(document) => deliver_bytes(document.as_raw().as_bytes(), out, out_len),
@@ -59,7 +60,7 @@ pub(crate) fn deliver_vec(
     out: &mut [u8],
     out_len: &mut usize,
 ) -> u32
-    ensures { Delivers (whole (vec_answer answer)) out.old out.new out_len.new result }
+    ensures { DeliversMade (vec_answer answer) out.old out.new out_len.new result }
 {
     match answer {
         Ok(made) => deliver_bytes(&made, out, out_len),
@@ -99,14 +100,14 @@ pub(crate) fn truth_byte(truth: Option<bool>) -> u8
 }
 
 pub(crate) fn bool_byte(value: bool) -> u8
-    ensures { result ≡ bool_byte value }
+    ensures { result ≡ bool_number value }
 {
     u8::from(value)
 }
 
 /// Stores a three-valued result, or returns the status of the error.
 pub(crate) fn store_truth(answer: Result<Option<bool>, Error>, truth: &mut u8) -> u32
-    ensures { ShowsTruth answer truth.old truth.new result }
+    ensures { Shows truth_byte answer truth.old truth.new result }
 {
     match answer {
         Ok(value) => {
@@ -119,7 +120,7 @@ pub(crate) fn store_truth(answer: Result<Option<bool>, Error>, truth: &mut u8) -
 
 /// Stores a Boolean, or returns the status of the error.
 pub(crate) fn store_bool(answer: Result<bool, Error>, truth: &mut u8) -> u32
-    ensures { ShowsBool answer truth.old truth.new result }
+    ensures { Shows bool_number answer truth.old truth.new result }
 {
     match answer {
         Ok(value) => {
@@ -132,7 +133,7 @@ pub(crate) fn store_bool(answer: Result<bool, Error>, truth: &mut u8) -> u32
 
 /// Stores a Boolean, or returns the status if there is none or the call failed.
 pub(crate) fn store_found_bool(answer: Result<Option<bool>, Error>, truth: &mut u8) -> u32
-    ensures { ShowsFoundBool answer truth.old truth.new result }
+    ensures { ShowsFound (and_then answer (λ found. Ok (option_map bool_number found))) truth.old truth.new result }
 {
     match answer {
         Ok(Some(value)) => {
@@ -146,7 +147,7 @@ pub(crate) fn store_found_bool(answer: Result<Option<bool>, Error>, truth: &mut 
 
 /// Stores a value, or returns the status of the error.
 pub(crate) fn store<T: Copy>(answer: Result<T, Error>, out: &mut T) -> u32
-    ensures { Shows answer out.old out.new result }
+    ensures { Shows (λ x. x) answer out.old out.new result }
 {
     match answer {
         Ok(value) => {
@@ -177,7 +178,7 @@ pub(crate) fn deliver_text(
     out: &mut [u8],
     out_len: &mut usize,
 ) -> u32
-    ensures { Delivers (whole (text_answer answer)) out.old out.new out_len.new result }
+    ensures { Delivers (found string_bytes answer) out.old out.new out_len.new result }
 {
     match answer {
         Ok(text) => deliver_bytes(text.as_bytes(), out, out_len),

@@ -1,17 +1,15 @@
 //! Functions on a prepared key path and one document.
 
-ghost use Rattle.std.specs.Prelude.{◌≡◌, MatchOption, Some, None};
-ghost use Rattle.jsonb_doc.specs.Answer.{IsDecodingError, ◌or◌};
-ghost use Rattle.jsonb_doc.specs.declared.error.Error.TheVariants.{InvalidJsonType, InvalidKeyPath, OutOfMemory, TooLarge};
-ghost use Rattle.jsonb_raw.specs.Documents.{MakesOption};
-ghost use Rattle.jsonb_raw.specs.Places.{tree_at_steps};
+ghost use Rattle.std.specs.Prelude.{◌≡◌, MatchOption, MatchResult, Some, None, ok_or};
+ghost use Rattle.jsonb_doc.specs.Answer.{IsOutOfMemory};
+ghost use Rattle.jsonb_doc.specs.declared.error.Error.TheVariants.{InvalidKeyPath};
 ghost use Rattle.jsonb.specs.ErrorPosition.{key_path_error_position as spec_key_path_error_position};
 ghost use Rattle.jsonb.specs.KeyPathGrammar.{key_path};
-ghost use Rattle.jsonb_c.specs.Answers.{DeliversNothing, WritesBytes, WritesFound, OfDocument};
-ghost use Rattle.jsonb_c.specs.Calls.{DeletesPlace};
-ghost use Rattle.jsonb_c.specs.Positions.{WritesPosition};
-ghost use Rattle.jsonb_c.specs.Prepared.{Prepares, key_steps};
-ghost use Rattle.jsonb_c.specs.Status.{no_path};
+ghost use Rattle.jsonb_c.specs.Answers.{Delivers, DeliversNothing, ShowsFound, With, WritesResult, DeliversMade};
+ghost use Rattle.jsonb_c.specs.Calls.{DeletesPart, FindsPart};
+ghost use Rattle.jsonb_c.specs.Status.{code};
+ghost use Rattle.jsonb_c.specs.Prepared.{key_steps};
+ghost use Rattle.jsonb_c.specs.declared.status.Status.TheVariants.{Answered, NoPath, Refused};
 
 use crate::column::documents::{part_at, without_part};
 use crate::deliver::{deliver, deliver_made, deliver_nothing, store_found};
@@ -23,7 +21,9 @@ use std::alloc::Global;
 /// Parses a key path and keeps it in the handle, in place of the path that it keeps.
 #[unsafe(no_mangle)]
 pub extern "C" fn jdoc_keypath_read(alloc: Global, text: &[u8], path: &mut PathHandle) -> u32
-    ensures { Prepares InvalidKeyPath (key_path text.now) key_steps path.new.value result }
+    ensures { With (ok_or (key_path text.now) (Refused InvalidKeyPath))
+        (λ steps. (result ≡ code Answered) × (key_steps path.new.value ≡ Some steps))
+        (λ cause. (result ≡ code cause) × (path.new.value ≡ None)) }
 {
     path.keep(alloc, parsing::parse_keys(alloc, text))
 }
@@ -35,7 +35,8 @@ pub extern "C" fn jdoc_keypath_error_position(
     text: &[u8],
     position: &mut usize,
 ) -> u32
-    ensures { WritesPosition (spec_key_path_error_position text.now) position.old position.new result }
+    ensures { WritesResult (λ answer. MatchResult answer (λ found. found ≡ spec_key_path_error_position text.now)
+        IsOutOfMemory) IsOutOfMemory (λ answer. ShowsFound answer position.old position.new result) }
 {
     store_found(key_path_error_position(alloc, text), position)
 }
@@ -58,9 +59,9 @@ pub extern "C" fn jdoc_keypath_get(
     out_len: &mut usize,
 ) -> u32
     ensures kept { path.new.value ≡ path.old.value }
-    ensures part { MatchOption (key_steps path.old.value) (DeliversNothing no_path out.old out.new out_len.new result)
-        (λ steps. WritesFound (OfDocument document.now (λ form t. MakesOption form (tree_at_steps steps t)))
-        (IsDecodingError or OutOfMemory or TooLarge) out.old out.new out_len.new result) }
+    ensures part { MatchOption (key_steps path.old.value) (DeliversNothing NoPath out.old out.new out_len.new result)
+        (λ steps. FindsPart steps document.now
+        (λ answer. Delivers answer out.old out.new out_len.new result)) }
 {
     let Some(kept) = path.take(alloc) else {
         return deliver_nothing(Status::NoPath, out_len);
@@ -78,16 +79,16 @@ fn deliver_part(
     out: &mut [u8],
     out_len: &mut usize,
 ) -> u32
-    ensures { MatchOption (key_steps (Some path.now)) (DeliversNothing no_path out.old out.new out_len.new result)
-        (λ steps. WritesFound (OfDocument document.now (λ form t. MakesOption form (tree_at_steps steps t)))
-        (IsDecodingError or OutOfMemory or TooLarge) out.old out.new out_len.new result) }
+    ensures { MatchOption (key_steps (Some path.now)) (DeliversNothing NoPath out.old out.new out_len.new result)
+        (λ steps. FindsPart steps document.now
+        (λ answer. Delivers answer out.old out.new out_len.new result)) }
 {
-    match path {
-        PreparedPath::Keys(steps) => {
+    match path.keys() {
+        Some(steps) => {
             let part = part_at(alloc, document, steps);
             deliver(part, out, out_len)
         }
-        PreparedPath::Json(_) => deliver_nothing(Status::NoPath, out_len),
+        None => deliver_nothing(Status::NoPath, out_len),
     }
 }
 
@@ -101,9 +102,9 @@ pub extern "C" fn jdoc_keypath_delete(
     out_len: &mut usize,
 ) -> u32
     ensures kept { path.new.value ≡ path.old.value }
-    ensures rest { MatchOption (key_steps path.old.value) (DeliversNothing no_path out.old out.new out_len.new result)
-        (λ steps. WritesBytes (DeletesPlace steps document.now)
-        (IsDecodingError or OutOfMemory or InvalidJsonType) out.old out.new out_len.new result) }
+    ensures rest { MatchOption (key_steps path.old.value) (DeliversNothing NoPath out.old out.new out_len.new result)
+        (λ steps. DeletesPart steps document.now
+        (λ answer. DeliversMade answer out.old out.new out_len.new result)) }
 {
     let Some(kept) = path.take(alloc) else {
         return deliver_nothing(Status::NoPath, out_len);
@@ -121,15 +122,15 @@ fn deliver_rest(
     out: &mut [u8],
     out_len: &mut usize,
 ) -> u32
-    ensures { MatchOption (key_steps (Some path.now)) (DeliversNothing no_path out.old out.new out_len.new result)
-        (λ steps. WritesBytes (DeletesPlace steps document.now)
-        (IsDecodingError or OutOfMemory or InvalidJsonType) out.old out.new out_len.new result) }
+    ensures { MatchOption (key_steps (Some path.now)) (DeliversNothing NoPath out.old out.new out_len.new result)
+        (λ steps. DeletesPart steps document.now
+        (λ answer. DeliversMade answer out.old out.new out_len.new result)) }
 {
-    match path {
-        PreparedPath::Keys(steps) => {
+    match path.keys() {
+        Some(steps) => {
             let rest = without_part(alloc, document, steps);
             deliver_made(rest, out, out_len)
         }
-        PreparedPath::Json(_) => deliver_nothing(Status::NoPath, out_len),
+        None => deliver_nothing(Status::NoPath, out_len),
     }
 }

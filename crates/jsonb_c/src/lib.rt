@@ -11,10 +11,14 @@ macro_rules! rows {
 }
 
 mod build;
+mod builder;
 mod column;
+mod cursor;
 mod deliver;
 mod document;
+mod items;
 mod keypath;
+mod laws;
 mod leaves;
 mod path;
 mod prepared;

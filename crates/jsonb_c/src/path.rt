@@ -1,18 +1,17 @@
 //! Functions on a prepared JSON path and one document.
 
-ghost use Rattle.std.specs.Prelude.{◌≡◌, MatchOption, Some, None};
-ghost use Rattle.jsonb_doc.specs.declared.error.Error.TheVariants.{InvalidJsonPath};
+ghost use Rattle.std.specs.Prelude.{◌≡◌, MatchOption, MatchResult, Some, None, ok_or};
+ghost use Rattle.jsonb_doc.specs.Answer.{IsOutOfMemory};
 ghost use Rattle.jsonb.specs.PathErrorPosition.{json_path_error_position as spec_json_path_error_position};
 ghost use Rattle.jsonb.specs.PathGrammar.{json_path};
-ghost use Rattle.jsonb.specs.SelectionErrors.{IsDocumentError, IsSelectionError};
-ghost use Rattle.jsonb.specs.SelectorAnswers.{first_item, single_or_array, IsFound, IsPicked, IsTruthOf, ByMeanings};
-ghost use Rattle.jsonb_c.specs.Answers.{DeliversNothing, WritesBool, WritesFound, WritesTruth};
-ghost use Rattle.jsonb_c.specs.Calls.{mode_of};
-ghost use Rattle.jsonb_c.specs.Positions.{WritesPosition};
-ghost use Rattle.jsonb_c.specs.Prepared.{LacksPath, Prepares, json_steps};
+ghost use Rattle.jsonb.specs.SelectorAnswers.{first_item, single_or_array};
+ghost use Rattle.jsonb_c.specs.Answers.{Delivers, DeliversNothing, Shows, ShowsFound, With, WritesResult, truth_byte};
+ghost use Rattle.jsonb_c.specs.Calls.{SelectsItem, TellsExistence, TellsTruth, mode_of, one_array};
+ghost use Rattle.jsonb_c.specs.Status.{code};
+ghost use Rattle.jsonb_raw.specs.Casts.{bool_number};
+ghost use Rattle.jsonb_c.specs.Prepared.{json_steps};
 ghost use Rattle.jsonb_c.specs.Private.Views.{pick_of};
-ghost use Rattle.jsonb_c.specs.Status.{no_path};
-ghost use Rattle.jsonb_c.specs.Views.{one_array};
+ghost use Rattle.jsonb_c.specs.declared.status.Status.TheVariants.{Answered, NoPath, NotJsonPath};
 
 use crate::deliver::{deliver, deliver_nothing, store_bool, store_found, store_truth};
 use crate::document::select::{Pick, exists_by_path, match_by_path, pick_by_path};
@@ -24,7 +23,9 @@ use std::alloc::Global;
 /// Parses a JSON path and keeps it in the handle, in place of the path that it keeps.
 #[unsafe(no_mangle)]
 pub extern "C" fn jdoc_path_read(alloc: Global, text: &[u8], path: &mut PathHandle) -> u32
-    ensures { Prepares InvalidJsonPath (json_path text.now) json_steps path.new.value result }
+    ensures { With (ok_or (json_path text.now) NotJsonPath)
+        (λ steps. (result ≡ code Answered) × (json_steps path.new.value ≡ Some steps))
+        (λ cause. (result ≡ code cause) × (path.new.value ≡ None)) }
 {
     path.keep(alloc, parsing::parse_json(alloc, text))
 }
@@ -32,7 +33,8 @@ pub extern "C" fn jdoc_path_read(alloc: Global, text: &[u8], path: &mut PathHand
 /// Returns the position of the error in text that is not a JSON path.
 #[unsafe(no_mangle)]
 pub extern "C" fn jdoc_path_error_position(alloc: Global, text: &[u8], position: &mut usize) -> u32
-    ensures { WritesPosition (spec_json_path_error_position text.now) position.old position.new result }
+    ensures { WritesResult (λ answer. MatchResult answer (λ found. found ≡ spec_json_path_error_position text.now)
+        IsOutOfMemory) IsOutOfMemory (λ answer. ShowsFound answer position.old position.new result) }
 {
     store_found(json_path_error_position(alloc, text), position)
 }
@@ -56,9 +58,9 @@ pub extern "C" fn jdoc_path_select_first(
     out_len: &mut usize,
 ) -> u32
     ensures kept { path.new.value ≡ path.old.value }
-    ensures item { MatchOption (json_steps path.old.value) (DeliversNothing no_path out.old out.new out_len.new result)
-        (λ steps. WritesFound (ByMeanings (mode_of strict) document.now steps (IsPicked first_item))
-        (IsDocumentError (mode_of strict)) out.old out.new out_len.new result) }
+    ensures item { MatchOption (json_steps path.old.value) (DeliversNothing NoPath out.old out.new out_len.new result)
+        (λ steps. SelectsItem (mode_of strict) first_item steps document.now
+        (λ answer. Delivers answer out.old out.new out_len.new result)) }
 {
     select(alloc, path, document, strict, Pick::First, out, out_len)
 }
@@ -74,9 +76,9 @@ pub extern "C" fn jdoc_path_select_value(
     out_len: &mut usize,
 ) -> u32
     ensures kept { path.new.value ≡ path.old.value }
-    ensures item { MatchOption (json_steps path.old.value) (DeliversNothing no_path out.old out.new out_len.new result)
-        (λ steps. WritesFound (ByMeanings (mode_of strict) document.now steps (IsPicked single_or_array))
-        (IsDocumentError (mode_of strict)) out.old out.new out_len.new result) }
+    ensures item { MatchOption (json_steps path.old.value) (DeliversNothing NoPath out.old out.new out_len.new result)
+        (λ steps. SelectsItem (mode_of strict) single_or_array steps document.now
+        (λ answer. Delivers answer out.old out.new out_len.new result)) }
 {
     select(alloc, path, document, strict, Pick::Value, out, out_len)
 }
@@ -92,9 +94,9 @@ pub extern "C" fn jdoc_path_select_array(
     out_len: &mut usize,
 ) -> u32
     ensures kept { path.new.value ≡ path.old.value }
-    ensures array { MatchOption (json_steps path.old.value) (DeliversNothing no_path out.old out.new out_len.new result)
-        (λ steps. WritesFound (ByMeanings (mode_of strict) document.now steps (IsPicked one_array))
-        (IsDocumentError (mode_of strict)) out.old out.new out_len.new result) }
+    ensures array { MatchOption (json_steps path.old.value) (DeliversNothing NoPath out.old out.new out_len.new result)
+        (λ steps. SelectsItem (mode_of strict) one_array steps document.now
+        (λ answer. Delivers answer out.old out.new out_len.new result)) }
 {
     select(alloc, path, document, strict, Pick::Array, out, out_len)
 }
@@ -110,9 +112,9 @@ fn select(
     out_len: &mut usize,
 ) -> u32
     ensures kept { path.new.value ≡ path.old.value }
-    ensures item { MatchOption (json_steps path.old.value) (DeliversNothing no_path out.old out.new out_len.new result)
-        (λ steps. WritesFound (ByMeanings (mode_of strict) document.now steps (IsPicked (pick_of pick)))
-        (IsDocumentError (mode_of strict)) out.old out.new out_len.new result) }
+    ensures item { MatchOption (json_steps path.old.value) (DeliversNothing NoPath out.old out.new out_len.new result)
+        (λ steps. SelectsItem (mode_of strict) (pick_of pick) steps document.now
+        (λ answer. Delivers answer out.old out.new out_len.new result)) }
 {
     let Some(kept) = path.take(alloc) else {
         return deliver_nothing(Status::NoPath, out_len);
@@ -132,16 +134,16 @@ fn deliver_item(
     out: &mut [u8],
     out_len: &mut usize,
 ) -> u32
-    ensures { MatchOption (json_steps (Some path.now)) (DeliversNothing no_path out.old out.new out_len.new result)
-        (λ steps. WritesFound (ByMeanings (mode_of strict) document.now steps (IsPicked (pick_of pick)))
-        (IsDocumentError (mode_of strict)) out.old out.new out_len.new result) }
+    ensures { MatchOption (json_steps (Some path.now)) (DeliversNothing NoPath out.old out.new out_len.new result)
+        (λ steps. SelectsItem (mode_of strict) (pick_of pick) steps document.now
+        (λ answer. Delivers answer out.old out.new out_len.new result)) }
 {
-    match path {
-        PreparedPath::Json(steps) => {
+    match path.json() {
+        Some(steps) => {
             let item = pick_by_path(alloc, document, steps, strict, pick);
             deliver(item, out, out_len)
         }
-        PreparedPath::Keys(_) => deliver_nothing(Status::NoPath, out_len),
+        None => deliver_nothing(Status::NoPath, out_len),
     }
 }
 
@@ -155,9 +157,9 @@ pub extern "C" fn jdoc_path_exists(
     truth: &mut u8,
 ) -> u32
     ensures kept { path.new.value ≡ path.old.value }
-    ensures exists { MatchOption (json_steps path.old.value) (LacksPath truth.old truth.new result)
-        (λ steps. WritesBool (ByMeanings (mode_of strict) document.now steps IsFound)
-        (IsSelectionError (mode_of strict)) truth.old truth.new result) }
+    ensures exists { MatchOption (json_steps path.old.value) ((truth.new ≡ truth.old) × (result ≡ code NoPath))
+        (λ steps. TellsExistence (mode_of strict) steps document.now
+        (λ answer. Shows bool_number answer truth.old truth.new result)) }
 {
     let Some(kept) = path.take(alloc) else {
         return Status::NoPath.to_u32();
@@ -175,16 +177,16 @@ fn store_exists(
     strict: bool,
     truth: &mut u8,
 ) -> u32
-    ensures { MatchOption (json_steps (Some path.now)) (LacksPath truth.old truth.new result)
-        (λ steps. WritesBool (ByMeanings (mode_of strict) document.now steps IsFound)
-        (IsSelectionError (mode_of strict)) truth.old truth.new result) }
+    ensures { MatchOption (json_steps (Some path.now)) ((truth.new ≡ truth.old) × (result ≡ code NoPath))
+        (λ steps. TellsExistence (mode_of strict) steps document.now
+        (λ answer. Shows bool_number answer truth.old truth.new result)) }
 {
-    match path {
-        PreparedPath::Json(steps) => {
+    match path.json() {
+        Some(steps) => {
             let exists = exists_by_path(alloc, document, steps, strict);
             store_bool(exists, truth)
         }
-        PreparedPath::Keys(_) => Status::NoPath.to_u32(),
+        None => Status::NoPath.to_u32(),
     }
 }
 
@@ -198,9 +200,9 @@ pub extern "C" fn jdoc_path_match(
     truth: &mut u8,
 ) -> u32
     ensures kept { path.new.value ≡ path.old.value }
-    ensures truth { MatchOption (json_steps path.old.value) (LacksPath truth.old truth.new result)
-        (λ steps. WritesTruth (IsTruthOf (mode_of strict) steps document.now)
-        (IsSelectionError (mode_of strict)) truth.old truth.new result) }
+    ensures truth { MatchOption (json_steps path.old.value) ((truth.new ≡ truth.old) × (result ≡ code NoPath))
+        (λ steps. TellsTruth (mode_of strict) steps document.now
+        (λ answer. Shows truth_byte answer truth.old truth.new result)) }
 {
     let Some(kept) = path.take(alloc) else {
         return Status::NoPath.to_u32();
@@ -218,15 +220,15 @@ fn store_match(
     strict: bool,
     truth: &mut u8,
 ) -> u32
-    ensures { MatchOption (json_steps (Some path.now)) (LacksPath truth.old truth.new result)
-        (λ steps. WritesTruth (IsTruthOf (mode_of strict) steps document.now)
-        (IsSelectionError (mode_of strict)) truth.old truth.new result) }
+    ensures { MatchOption (json_steps (Some path.now)) ((truth.new ≡ truth.old) × (result ≡ code NoPath))
+        (λ steps. TellsTruth (mode_of strict) steps document.now
+        (λ answer. Shows truth_byte answer truth.old truth.new result)) }
 {
-    match path {
-        PreparedPath::Json(steps) => {
+    match path.json() {
+        Some(steps) => {
             let said = match_by_path(alloc, document, steps, strict);
             store_truth(said, truth)
         }
-        PreparedPath::Keys(_) => Status::NoPath.to_u32(),
+        None => Status::NoPath.to_u32(),
     }
 }

@@ -1,11 +1,12 @@
 //! Reading containers by position.
 
-ghost use Rattle.std.specs.Prelude.{◌≡◌, ℕ, List, Option, Result, IfErr, IsOkAnd};
+ghost use Rattle.std.specs.Prelude.{◌≡◌, ℕ, List, Option, Result, IfErr, IsOkAnd, length, option_map};
 ghost use Rattle.jsonb_doc.specs.Answer.{IsDecodingError, ◌or◌};
 ghost use Rattle.jsonb_doc.specs.declared.error.Error.{Error};
 ghost use Rattle.jsonb_doc.specs.declared.error.Error.TheVariants.{OutOfMemory, TooLarge};
 ghost use Rattle.jsonb_c.specs.Answers.{WritesResult, OfDocument, ShowsFound};
-ghost use Rattle.jsonb_c.specs.Making.{DeliversPair, FindsPair, children_count};
+ghost use Rattle.jsonb_c.specs.Making.{DeliversPair, FindsPair};
+ghost use Rattle.jsonb_doc.specs.Tree.{children_of};
 ghost use Rattle.jsonb_c.specs.Private.Views.{pair_answer};
 
 use crate::deliver::{store_found, write_at};
@@ -18,7 +19,7 @@ use std::alloc::Global;
 #[unsafe(no_mangle)]
 pub extern "C" fn jdoc_len(document: &[u8], len: &mut usize) -> u32
     ensures { WritesResult
-        (OfDocument document.now (λ form t answer. IsOkAnd answer (λ found. found ≡ children_count t)))
+        (OfDocument document.now (λ form t answer. IsOkAnd answer (λ found. found ≡ option_map length (children_of t))))
         IsDecodingError (λ answer. ShowsFound answer len.old len.new result) }
 {
     store_found(children_count(document), len)
@@ -26,7 +27,7 @@ pub extern "C" fn jdoc_len(document: &[u8], len: &mut usize) -> u32
 
 fn children_count(document: &[u8]) -> Result<Option<usize>, Error>
     ensures count { OfDocument document.now
-        (λ form t answer. IsOkAnd answer (λ found. found ≡ children_count t)) result }
+        (λ form t answer. IsOkAnd answer (λ found. found ≡ option_map length (children_of t))) result }
     ensures errors { IfErr result IsDecodingError }
 {
     match root_item(document)? {

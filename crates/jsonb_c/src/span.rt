@@ -1,26 +1,32 @@
 //! Spans of values in a document.
 
-ghost use Rattle.std.specs.Prelude.{◌≡◌, Option, Some, IfErr, IsOkAnd, MatchOption};
+ghost use Rattle.std.specs.Prelude.{◌≡◌, ◌⊎◌, Option, Some, None, IfErr, IfOk, IfSome, IsOkAnd, MatchOption, ok_or};
 ghost use Rattle.jsonb_doc.specs.Answer.{SameOption, IsDecodingError, ◌or◌};
 ghost use Rattle.jsonb_doc.specs.declared.error.Error.TheVariants.{InvalidKeyPath, OutOfMemory};
-ghost use Rattle.jsonb_doc.specs.Format.{Decodes};
-ghost use Rattle.jsonb_doc.specs.Kinds.{kind_number as entry_number};
-ghost use Rattle.jsonb_doc.specs.Payload.{Form};
+ghost use Rattle.jsonb_doc.specs.Format.{Decodes, IsContent};
+ghost use Rattle.jsonb_doc.specs.Kinds.{kind_number};
+ghost use Rattle.jsonb_doc.specs.Payload.{Form, number_reader};
 ghost use Rattle.jsonb_doc.specs.Spots.{Locates};
 ghost use Rattle.jsonb_doc.specs.Tree.{Tree};
 ghost use Rattle.jsonb.specs.KeyPathGrammar.{key_path};
 ghost use Rattle.jsonb.specs.KeyPathViews.{key_paths_view};
-ghost use Rattle.jsonb_c.specs.Answers.{WritesResult, ShowsFound};
-ghost use Rattle.jsonb_c.specs.Calls.{ByPath};
-ghost use Rattle.jsonb_c.specs.Spans.{FindsSpan, IsSpanOf};
+ghost use Rattle.jsonb_c.specs.Answers.{ShowsFound, With, WritesResult};
+ghost use Rattle.jsonb_c.specs.Private.Boxes.{ByPath};
+ghost use Rattle.jsonb_c.specs.Private.Numbers.{tree_kind};
+ghost use Rattle.jsonb_c.specs.Spans.{FindsSpan, HasSpan, IsSpanOf, IsWithin};
 ghost use Rattle.jsonb_c.specs.Prepared.{key_steps};
-ghost use Rattle.jsonb_c.specs.Status.{no_path};
+ghost use Rattle.jsonb_c.specs.Status.{code};
+ghost use Rattle.jsonb_c.specs.declared.status.Status.TheVariants.{Answered, NoPath, Refused};
+
+pub(crate) mod child;
+pub(crate) mod first;
 
 use crate::deliver::store_found;
-use crate::document::kind::item_kind;
+use crate::document::kind::{Kind, item_kind};
 use crate::prepared::{PathHandle, PreparedPath};
 use crate::status::Status;
-use jsonb::{Error, KeyPaths, RawJsonb, Spot, parse_key_paths, spot_item};
+use jsonb::{Error, KeyPaths, RawJsonb, Spot, parse_key_paths};
+use jsonb_doc::StoredEntry;
 use jsonb_doc::layout::EntryKind;
 use std::alloc::Global;
 
@@ -42,16 +48,20 @@ pub extern "C" fn jdoc_find_by_keypath(
     path: &[u8],
     span: &mut Span,
 ) -> u32
-    ensures { WritesResult (ByPath InvalidKeyPath (key_path path.now) (λ steps. FindsSpan steps document.now))
-        (IsDecodingError or OutOfMemory or InvalidKeyPath)
-        (λ answer. ShowsFound answer span.old span.new result) }
+    ensures span { With (ok_or (key_path path.now) (Refused InvalidKeyPath))
+        (λ steps. WritesResult (FindsSpan steps document.now) (IsDecodingError or OutOfMemory)
+        (λ answer. ShowsFound answer span.old span.new result))
+        (λ cause. (span.new ≡ span.old) × (result ≡ code cause)) }
+    ensures within { result ≡ code Answered → IsWithin document.now span.new }
 {
     store_found(find_by_keypath(alloc, document, path), span)
 }
 
 fn find_by_keypath(alloc: Global, document: &[u8], path: &[u8]) -> Result<Option<Span>, Error>
     ensures span { ByPath InvalidKeyPath (key_path path.now) (λ steps. FindsSpan steps document.now) result }
-    ensures errors { IfErr result (IsDecodingError or OutOfMemory or InvalidKeyPath) }
+    ensures within { IfOk result (λ found. IfSome found (IsWithin document.now)) }
+    ensures errors { IfErr result (λ e. (IsDecodingError or OutOfMemory) e
+        ⊎ ((e ≡ InvalidKeyPath) × (key_path path.now ≡ None))) }
 {
     let steps = parse_key_paths(alloc, path)?;
     let found = RawJsonb::new(document).spot_by_keypath(alloc, steps.paths.iter())?;
@@ -67,9 +77,10 @@ pub extern "C" fn jdoc_keypath_find(
     span: &mut Span,
 ) -> u32
     ensures kept { path.new.value ≡ path.old.value }
-    ensures span { MatchOption (key_steps path.old.value) ((span.new ≡ span.old) × (result ≡ no_path))
+    ensures span { MatchOption (key_steps path.old.value) ((span.new ≡ span.old) × (result ≡ code NoPath))
         (λ steps. WritesResult (FindsSpan steps document.now) (IsDecodingError or OutOfMemory)
         (λ answer. ShowsFound answer span.old span.new result)) }
+    ensures within { result ≡ code Answered → IsWithin document.now span.new }
 {
     let Some(kept) = path.take(alloc) else {
         return Status::NoPath.to_u32();
@@ -81,13 +92,14 @@ pub extern "C" fn jdoc_keypath_find(
 
 /// Stores the span of the value at the location of a path, if it is a key path.
 fn store_span(alloc: Global, path: &PreparedPath, document: &[u8], span: &mut Span) -> u32
-    ensures { MatchOption (key_steps (Some path.now)) ((span.new ≡ span.old) × (result ≡ no_path))
+    ensures span { MatchOption (key_steps (Some path.now)) ((span.new ≡ span.old) × (result ≡ code NoPath))
         (λ steps. WritesResult (FindsSpan steps document.now) (IsDecodingError or OutOfMemory)
         (λ answer. ShowsFound answer span.old span.new result)) }
+    ensures within { result ≡ code Answered → IsWithin document.now span.new }
 {
-    match path {
-        PreparedPath::Keys(steps) => store_found(span_at(alloc, document, steps), span),
-        PreparedPath::Json(_) => Status::NoPath.to_u32(),
+    match path.keys() {
+        Some(steps) => store_found(span_at(alloc, document, steps), span),
+        None => Status::NoPath.to_u32(),
     }
 }
 
@@ -98,6 +110,7 @@ fn span_at<'a>(
     steps: &'a KeyPaths<'a>,
 ) -> Result<Option<Span>, Error>
     ensures span { FindsSpan (key_paths_view steps.now) document.now result }
+    ensures within { IfOk result (λ found. IfSome found (IsWithin document.now)) }
     ensures errors { IfErr result (IsDecodingError or OutOfMemory) }
 {
     let found = RawJsonb::new(document).spot_by_keypath(alloc, steps.paths.iter())?;
@@ -105,10 +118,11 @@ fn span_at<'a>(
 }
 
 /// Returns the span of the value that was found.
-fn found_span(document: &[u8], found: Option<Spot>) -> Result<Option<Span>, Error>
+pub(crate) fn found_span(document: &[u8], found: Option<Spot>) -> Result<Option<Span>, Error>
     ensures span { (form : Form) (top : Tree) (wanted : Option Tree) → Decodes form document.now top
         → SameOption (Locates document.now) found wanted
-        → IsOkAnd result (λ spans. SameOption (IsSpanOf form document.now) spans wanted) }
+        → HasSpan document.now form wanted result }
+    ensures within { IfOk result (λ found. IfSome found (IsWithin document.now)) }
     ensures errors { IfErr result IsDecodingError }
 {
     let Some(spot) = found else {
@@ -118,24 +132,45 @@ fn found_span(document: &[u8], found: Option<Spot>) -> Result<Option<Span>, Erro
 }
 
 /// Returns the span of the value at a spot.
-fn span_of(document: &[u8], spot: Spot) -> Result<Span, Error>
+pub(crate) fn span_of(document: &[u8], spot: Spot) -> Result<Span, Error>
     ensures span { (form : Form) (top t : Tree) → Decodes form document.now top → Locates document.now spot t
         → IsOkAnd result (λ span. IsSpanOf form document.now span t) }
+    ensures within { IfOk result (IsWithin document.now) }
     ensures errors { IfErr result IsDecodingError }
 {
-    let item = spot_item(document, spot)?;
     let range = spot.range();
+    let Some(content) = document.get(range.start..range.end) else {
+        return Err(Error::InvalidJsonb);
+    };
+    let entry = StoredEntry {
+        kind: spot.entry_kind(),
+        content,
+    };
     Ok(Span {
         at: range.start,
-        len: range.end.saturating_sub(range.start),
-        kind: item_kind(&item).to_u8(),
+        len: content.len(),
+        kind: stored_kind(&entry)?.to_u8(),
         entry: entry_number(spot.entry_kind()),
     })
 }
 
+/// Returns the type of a stored item. A string is not validated.
+fn stored_kind(entry: &StoredEntry<'_>) -> Result<Kind, Error>
+    ensures kind { (form : Form) (t : Tree)
+        → IsContent (number_reader form) t (kind_number entry.now.kind) entry.now.content.now
+        → IsOkAnd result (λ kind. kind ≡ tree_kind t) }
+    ensures errors { IfErr result IsDecodingError }
+{
+    if let EntryKind::Text = entry.kind {
+        return Ok(Kind::String);
+    }
+    let item = entry.item()?;
+    Ok(item_kind(&item))
+}
+
 /// Returns the number of an entry's type in entry words.
 fn entry_number(kind: EntryKind) -> u8
-    ensures { result ≡ entry_number kind }
+    ensures { result ≡ kind_number kind }
 {
     kind as u8
 }

@@ -1,6 +1,7 @@
 //! Results of calls: the statuses, and their numbers.
 
 ghost use Rattle.std.specs.Prelude.{◌≡◌};
+ghost use Rattle.jsonb_c.specs.Private.Views.{text_refusal};
 ghost use Rattle.jsonb_c.specs.Status.{code, status_of};
 
 use jsonb::{ArithmeticFault, Error};
@@ -20,11 +21,37 @@ pub(crate) enum Status {
     NotUtf8,
     /// The handle keeps no such path.
     NoPath,
-    /// The call failed.
+    /// The item is computed, and is not in the document.
+    Computed,
+    /// The event cannot come next.
+    OutOfOrder,
+    /// The text is not a JSON path.
+    NotJsonPath,
+    /// The call failed. Of `InvalidJsonPath`: a path failed on a document.
     Refused(Error),
 }
 
+impl From<Error> for Status {
+    ghost use Rattle.jsonb_c.specs.declared.status.Status.TheVariants.{Refused};
+
+    ghost from_gives = { λ error status. status ≡ Refused error };
+
+    fn from(error: Error) -> Status {
+        Status::Refused(error)
+    }
+}
+
 impl Status {
+    /// Returns the status of text that was not parsed.
+    pub(crate) fn of_text(error: Error) -> Status
+        ensures { result ≡ text_refusal error }
+    {
+        match error {
+            Error::InvalidJsonPath => Status::NotJsonPath,
+            _ => Status::Refused(error),
+        }
+    }
+
     /// Returns the number of the status.
     pub(crate) fn to_u8(self) -> u8
         ensures { result ≡ code self }
@@ -36,6 +63,9 @@ impl Status {
             Status::BadOffsets => 3,
             Status::NotUtf8 => 4,
             Status::NoPath => 5,
+            Status::Computed => 6,
+            Status::OutOfOrder => 7,
+            Status::NotJsonPath => 18,
             Status::Refused(error) => refusal_code(error),
         }
     }
@@ -55,7 +85,6 @@ fn refusal_code(error: Error) -> u8
     match error {
         Error::InvalidJsonb => 16,
         Error::UnsupportedNumber => 17,
-        Error::InvalidJsonPath => 18,
         Error::InvalidKeyPath => 19,
         Error::InvalidCast => 20,
         Error::InvalidObject => 21,
@@ -65,6 +94,7 @@ fn refusal_code(error: Error) -> u8
         Error::TooDeep => 25,
         Error::OutOfMemory => 26,
         Error::StrictPath => 27,
+        Error::InvalidJsonPath => 28,
         Error::Arithmetic(ArithmeticFault::Overflow) => 48,
         Error::Arithmetic(ArithmeticFault::ZeroDivisor) => 49,
         Error::Arithmetic(ArithmeticFault::Inexact) => 50,

@@ -1,16 +1,21 @@
 //! The names of the statuses.
 
 ghost use Rattle.std.specs.Prelude.{◌≡◌, option_copied};
-ghost use Rattle.jsonb_c.specs.Answers.{Delivers};
-ghost use Rattle.jsonb_c.specs.StatusNames.{status_name};
-ghost use Rattle.std.specs.Prelude.{Ok};
+ghost use Rattle.jsonb_c.specs.Answers.{DeliversBytes, DeliversNothing};
+ghost use Rattle.jsonb_c.specs.Private.Numbers.{status_name};
+ghost use Rattle.jsonb_c.specs.Status.{code, number_and_name};
+ghost use Rattle.jsonb_c.specs.declared.status.Status.{Status};
+ghost use Rattle.jsonb_c.specs.declared.status.Status.TheVariants.{Absent};
 
 use crate::deliver::deliver_found_text;
 
 /// Returns the name of a status, as in the header.
 #[unsafe(no_mangle)]
 pub extern "C" fn jdoc_status_name(status: u32, out: &mut [u8], out_len: &mut usize) -> u32
-    ensures { Delivers (Ok (status_name status)) out.old out.new out_len.new result }
+    ensures name { (s : Status) → code s ≡ status
+        → DeliversBytes (number_and_name s).1 out.old out.new out_len.new result }
+    ensures other { ((s : Status) → code s ≡ status → ⊥)
+        → DeliversNothing Absent out.old out.new out_len.new result }
 {
     deliver_found_text(Ok(name(status)), out, out_len)
 }
@@ -25,6 +30,8 @@ fn name(status: u32) -> Option<&'static str>
         3 => Some("JDOC_BAD_OFFSETS"),
         4 => Some("JDOC_NOT_UTF8"),
         5 => Some("JDOC_NO_PATH"),
+        6 => Some("JDOC_COMPUTED"),
+        7 => Some("JDOC_OUT_OF_ORDER"),
         16 => Some("JDOC_INVALID_JSONB"),
         17 => Some("JDOC_UNSUPPORTED_NUMBER"),
         18 => Some("JDOC_INVALID_JSON_PATH"),
@@ -37,6 +44,7 @@ fn name(status: u32) -> Option<&'static str>
         25 => Some("JDOC_TOO_DEEP"),
         26 => Some("JDOC_OUT_OF_MEMORY"),
         27 => Some("JDOC_STRICT_PATH"),
+        28 => Some("JDOC_PATH_FAILED"),
         48 => Some("JDOC_OVERFLOW"),
         49 => Some("JDOC_ZERO_DIVISOR"),
         50 => Some("JDOC_INEXACT"),

@@ -5,12 +5,41 @@ use crate::build::{
     jdoc_array_from_column, jdoc_from_bool, jdoc_from_decimal, jdoc_from_i64, jdoc_from_null,
     jdoc_from_str, jdoc_from_u64,
 };
+use crate::cursor::{jdoc_cursor_next, jdoc_cursor_open};
 use crate::document::compare::jdoc_compare;
 use crate::document::decimal::jdoc_as_decimal;
 use crate::leaves::{LeafSizes, jdoc_leaves};
 use crate::read::{jdoc_len, jdoc_pair};
+use crate::span::child::{jdoc_find_by_index, jdoc_find_by_name, jdoc_find_str};
+use crate::span::first::jdoc_find_first;
 use crate::span::{Span, jdoc_find_by_keypath};
+use crate::status::Status;
+use crate::status_name::jdoc_status_name;
+use crate::version::jdoc_version;
+use jsonb::{ChildPositions, EntryPositions, Error};
 use std::alloc::Global;
+
+/// Makes a call that returns bytes, and asserts its status and what it wrote.
+macro_rules! assert_gives {
+    ($rt:ident; $call:ident($($word:expr),*), $status:expr, $bytes:expr) => {{
+        let mut a = Answer::new();
+        let status = $call($($word,)* &mut a.out, &mut a.len);
+        assert!($rt; status == $status && a.is($bytes));
+    }};
+}
+
+/// Makes a call that stores one value, and asserts its status and the value, which is 9 before the call.
+macro_rules! assert_stores {
+    ($rt:ident; $call:ident($($word:expr),*), $status:expr, $value:expr) => {{
+        let mut value = 9;
+        let status = $call($($word,)* &mut value);
+        assert!($rt; (status, value) == ($status, $value));
+    }};
+}
+
+mod documents;
+mod handles;
+mod paths;
 
 const OK: u32 = 0;
 
@@ -22,11 +51,21 @@ const BAD_OFFSETS: u32 = 3;
 
 const NOT_UTF8: u32 = 4;
 
+const NO_PATH: u32 = 5;
+
+const COMPUTED: u32 = 6;
+
 const INVALID_JSONB: u32 = 16;
+
+const UNSUPPORTED_NUMBER: u32 = 17;
+
+const INVALID_JSON_PATH: u32 = 18;
 
 const INVALID_KEY_PATH: u32 = 19;
 
 const OBJECT_DUPLICATE_KEY: u32 = 23;
+
+const STRICT_PATH: u32 = 27;
 
 /// A caller's buffer, and its length.
 #[derive(Clone, Copy)]
@@ -51,15 +90,6 @@ impl Answer {
     }
 }
 
-/// Makes a call that returns bytes, and asserts its status and what it wrote.
-macro_rules! assert_gives {
-    ($rt:ident; $call:ident($($word:expr),*), $status:expr, $bytes:expr) => {{
-        let mut a = Answer::new();
-        let status = $call($($word,)* &mut a.out, &mut a.len);
-        assert!($rt; status == $status && a.is($bytes));
-    }};
-}
-
 #[test]
 fn values(rt: HostRuntime) {
     let alloc = rt.alloc();
@@ -70,6 +100,21 @@ fn values(rt: HostRuntime) {
     assert_gives!(rt; jdoc_from_decimal(alloc, 0, 1234, 2), OK, b"\x20\0\0\0\x20\0\0\x0a\x70\0\0\0\0\0\0\x04\xd2\x02");
     assert_gives!(rt; jdoc_from_str(alloc, b"adf"), OK, b"\x20\0\0\0\x10\0\0\x03adf");
     assert_gives!(rt; jdoc_from_str(alloc, b"\xff"), NOT_UTF8, b"");
+}
+
+#[test]
+fn a_buffer_without_more_space(rt: HostRuntime) {
+    let mut out = [9; 8];
+    let mut len = 9;
+    let status = jdoc_from_null(rt.alloc(), &mut out, &mut len);
+    assert!(rt; (status, len) == (OK, 8) && out == *b"\x20\0\0\0\0\0\0\0");
+}
+
+#[test]
+fn numbers_and_names_of_statuses(rt: HostRuntime) {
+    assert!(rt; Status::Refused(Error::TooLarge).to_u32() == 24);
+    assert_gives!(rt; jdoc_status_name(48), OK, b"JDOC_OVERFLOW");
+    assert!(rt; jdoc_version() == 1_000);
 }
 
 /// null and 1
@@ -257,8 +302,15 @@ fn leaves(rt: HostRuntime) {
 }
 
 /// `[false,10,{"k":"v"}]`
-static MIXED: &[u8] =
+const MIXED: &[u8] =
     b"\x80\0\0\x03\x30\0\0\0\x20\0\0\x02\x50\0\0\x0e\x50\x0a\x40\0\0\x01\x10\0\0\x01\x10\0\0\x01kv";
+
+/// `[10,20,30]`
+const TENS: &[u8] = b"\x80\0\0\x03\x20\0\0\x02\x20\0\0\x02\x20\0\0\x02\x50\x0a\x50\x14\x50\x1e";
+
+/// `{"a":null,"b":[null]}`
+const NULLS: &[u8] =
+    b"\x40\0\0\x02\x10\0\0\x01\x10\0\0\x01\0\0\0\0\x50\0\0\x08ab\x80\0\0\x01\0\0\0\0";
 
 /// Key paths, the status, and the position, length, type and entry type of what they locate in `MIXED`.
 static SPANS: [(&[u8], u32, (usize, usize, u8, u8)); 7] = rows! {
@@ -271,17 +323,201 @@ static SPANS: [(&[u8], u32, (usize, usize, u8, u8)); 7] = rows! {
     b"{", INVALID_KEY_PATH, (9, 9, 9, 9);
 };
 
+/// A span that no call stores.
+const UNTOUCHED: Span = Span {
+    at: 9,
+    len: 9,
+    kind: 9,
+    entry: 9,
+};
+
+/// Returns the members of a span.
+fn parts(span: Span) -> (usize, usize, u8, u8) {
+    (span.at, span.len, span.kind, span.entry)
+}
+
 #[test]
 fn spans(rt: HostRuntime) {
     for (path, wanted, found) in &SPANS {
-        let mut span = Span {
-            at: 9,
-            len: 9,
-            kind: 9,
-            entry: 9,
-        };
+        let mut span = UNTOUCHED;
         let status = jdoc_find_by_keypath(rt.alloc(), MIXED, path, &mut span);
-        let is_so = status == *wanted && (span.at, span.len, span.kind, span.entry) == *found;
+        let is_so = status == *wanted && parts(span) == *found;
         assert!(rt; is_so, "{path:?}");
+    }
+}
+
+/// `{"asd":"adf"}`
+const ASD: &[u8] = b"\x40\0\0\x01\x10\0\0\x03\x10\0\0\x03asdadf";
+
+/// `"adf"`
+const ADF: &[u8] = b"\x20\0\0\0\x10\0\0\x03adf";
+
+/// A float
+const FLOAT: &[u8] = b"\x20\0\0\0\x20\0\0\x01\x60";
+
+/// Documents, the status, and the span of the string.
+static STRINGS: [(&[u8], u32, (usize, usize, u8, u8)); 5] = rows! {
+    ADF, OK, (8, 3, 4, 1);
+    ASD, NONE, (9, 9, 9, 9);
+    b"\x20\0\0\0\0\0\0\0", NONE, (9, 9, 9, 9);
+    b"\x20\0\0\0\x10\0\0\x01\xff", INVALID_JSONB, (9, 9, 9, 9);
+    FLOAT, UNSUPPORTED_NUMBER, (9, 9, 9, 9);
+};
+
+#[test]
+fn spans_of_strings(rt: HostRuntime) {
+    for (document, wanted, found) in &STRINGS {
+        let mut span = UNTOUCHED;
+        let status = jdoc_find_str(document, &mut span);
+        let is_so = status == *wanted && parts(span) == *found;
+        assert!(rt; is_so, "{document:?}");
+    }
+}
+
+/// Documents, indexes, the status, and the span of the element.
+static ELEMENTS: [(&[u8], usize, u32, (usize, usize, u8, u8)); 6] = rows! {
+    MIXED, 0, OK, (16, 0, 1, 3);
+    MIXED, 2, OK, (18, 14, 11, 5);
+    MIXED, 3, NONE, (9, 9, 9, 9);
+    MIXED, usize::MAX, NONE, (9, 9, 9, 9);
+    ASD, 0, NONE, (9, 9, 9, 9);
+    b"\x80\0\0\x01", 0, INVALID_JSONB, (9, 9, 9, 9);
+};
+
+#[test]
+fn spans_of_elements(rt: HostRuntime) {
+    for (document, index, wanted, found) in &ELEMENTS {
+        let mut span = UNTOUCHED;
+        let status = jdoc_find_by_index(document, *index, &mut span);
+        let is_so = status == *wanted && parts(span) == *found;
+        assert!(rt; is_so, "{index} of {document:?}");
+    }
+}
+
+/// Documents, names, whether case is ignored, the status, and the span of the value.
+static NAMED: [(&[u8], &[u8], bool, u32, (usize, usize, u8, u8)); 6] = rows! {
+    ASD, b"asd", false, OK, (15, 3, 4, 1);
+    ASD, b"ASD", false, NONE, (9, 9, 9, 9);
+    ASD, b"ASD", true, OK, (15, 3, 4, 1);
+    ASD, b"as", true, NONE, (9, 9, 9, 9);
+    MIXED, b"k", false, NONE, (9, 9, 9, 9);
+    ASD, b"\xff", false, NOT_UTF8, (9, 9, 9, 9);
+};
+
+#[test]
+fn spans_of_named_values(rt: HostRuntime) {
+    for (document, name, ignore_case, wanted, found) in &NAMED {
+        let mut span = UNTOUCHED;
+        let status = jdoc_find_by_name(document, name, *ignore_case, &mut span);
+        let is_so = status == *wanted && parts(span) == *found;
+        assert!(rt; is_so, "{name:?} of {document:?}");
+    }
+}
+
+/// A cursor with the same number everywhere.
+fn cursor_of(number: usize) -> ChildPositions {
+    let entries = EntryPositions {
+        word: number,
+        content: number,
+        end: number,
+    };
+    ChildPositions {
+        left: number,
+        keys: entries,
+        values: entries,
+    }
+}
+
+/// The spans of a key and of its value, or those that no call stores.
+type KeyAndValue = ((usize, usize, u8, u8), (usize, usize, u8, u8));
+
+/// Documents, and their children in order.
+static CHILDREN: [(&[u8], &[KeyAndValue]); 4] = rows! {
+    ASD, &[((12, 3, 4, 1), (15, 3, 4, 1))];
+    MIXED, &[
+        ((9, 9, 9, 9), (16, 0, 1, 3)), ((9, 9, 9, 9), (16, 2, 2, 2)), ((9, 9, 9, 9), (18, 14, 11, 5)),
+    ];
+    // {"a":null,"b":[null]}
+    b"\x40\0\0\x02\x10\0\0\x01\x10\0\0\x01\0\0\0\0\x50\0\0\x08ab\x80\0\0\x01\0\0\0\0",
+        &[((20, 1, 4, 1), (22, 0, 0, 0)), ((21, 1, 4, 1), (22, 8, 10, 5))];
+    b"\x80\0\0\0", &[];
+};
+
+/// Returns whether the next call delivers this child.
+fn delivers(document: &[u8], cursor: &mut ChildPositions, wanted: &KeyAndValue) -> bool {
+    let mut key = UNTOUCHED;
+    let mut value = UNTOUCHED;
+    let status = jdoc_cursor_next(document, cursor, &mut key, &mut value);
+    let (name, item) = *wanted;
+    status == OK && parts(key) == name && parts(value) == item
+}
+
+/// Returns whether the next call has this status, and stores nothing.
+fn delivers_nothing(document: &[u8], cursor: &mut ChildPositions, wanted: u32) -> bool {
+    let mut key = UNTOUCHED;
+    let mut value = UNTOUCHED;
+    let left = cursor.left;
+    let status = jdoc_cursor_next(document, cursor, &mut key, &mut value);
+    status == wanted && cursor.left == left && parts(key) == parts(value) && value.at == 9
+}
+
+#[test]
+fn cursors(rt: HostRuntime) {
+    for (document, children) in &CHILDREN {
+        let mut cursor = cursor_of(7);
+        let status = jdoc_cursor_open(document, &mut cursor);
+        assert!(rt; status == OK, "{document:?}");
+        for child in *children {
+            let is_so = delivers(document, &mut cursor, child);
+            assert!(rt; is_so, "{document:?}");
+        }
+        let is_done = delivers_nothing(document, &mut cursor, NONE);
+        assert!(rt; is_done, "{document:?}");
+    }
+}
+
+/// Documents that have no cursor, and the status.
+static CLOSED: [(&[u8], u32); 3] = rows! {
+    ADF, NONE;
+    b"", INVALID_JSONB;
+    b"\x40\0\0\x01\x10\0\0\x09\x10\0\0\x03asdadf", INVALID_JSONB;
+};
+
+#[test]
+fn cursors_that_do_not_open(rt: HostRuntime) {
+    for (document, wanted) in &CLOSED {
+        let mut cursor = cursor_of(7);
+        let status = jdoc_cursor_open(document, &mut cursor);
+        let is_so = status == *wanted && cursor.left == 7 && cursor.values.end == 7;
+        assert!(rt; is_so, "{document:?}");
+    }
+}
+
+#[test]
+fn cursors_of_any_numbers(rt: HostRuntime) {
+    for number in [1, 16, 1 << 29, usize::MAX] {
+        let is_so = delivers_nothing(MIXED, &mut cursor_of(number), INVALID_JSONB);
+        assert!(rt; is_so, "{number}");
+    }
+}
+
+/// Paths, the status in lax and in strict mode, and the span of the first item of `MIXED` in lax mode.
+static FIRST: [(&[u8], u32, u32, (usize, usize, u8, u8)); 5] = rows! {
+    b"$[*].k", OK, STRICT_PATH, (31, 1, 4, 1);
+    b"$[9]", NONE, NONE, (9, 9, 9, 9);
+    b"$[1] + 1", COMPUTED, COMPUTED, (9, 9, 9, 9);
+    b"$[1] == 1", COMPUTED, COMPUTED, (9, 9, 9, 9);
+    b"$[", INVALID_JSON_PATH, INVALID_JSON_PATH, (9, 9, 9, 9);
+};
+
+#[test]
+fn spans_of_first_items(rt: HostRuntime) {
+    for (path, lax, strict, found) in &FIRST {
+        let mut span = UNTOUCHED;
+        let status = jdoc_find_first(rt.alloc(), MIXED, path, false, &mut span);
+        let is_so = status == *lax && parts(span) == *found;
+        assert!(rt; is_so, "{path:?}");
+        let status = jdoc_find_first(rt.alloc(), MIXED, path, true, &mut span);
+        assert!(rt; status == *strict, "strict {path:?}");
     }
 }

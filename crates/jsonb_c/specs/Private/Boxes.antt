@@ -1,9 +1,28 @@
--- The path in a box that may be away.
-use Rattle.std.specs.Prelude.{Option, Some, None}
+-- The path in a box that may be away, why there is none, and items that a handle keeps.
+use Rattle.std.specs.Prelude.{◌≡◌, ◌⊎◌, ℕ, Option, Some, None, Result, Ok, Err, Vec, Bool, true, false}
 use Rattle.std.specs.declared.alloc.Global.{Global}
 use Rattle.std.specs.declared.boxed.Box.{Box}
 use Rattle.jsonb_c.specs.declared.prepared.path.PreparedPath.{PreparedPath}
 use Rattle.jsonb_c.specs.declared.prepared.loose.LooseBox.{LooseBox}
+use Rattle.jsonb_c.specs.declared.status.Status.{Status}
+use Rattle.jsonb_c.specs.declared.status.Status.TheVariants.{Answered, Refused}
+use Rattle.jsonb_c.specs.Status.{code}
+use Rattle.jsonb_doc.specs.declared.error.Error.{Error}
+use Rattle.jsonb_doc.specs.declared.error.Error.TheVariants.{OutOfMemory}
+use Rattle.jsonb.specs.declared.selector.found.FoundItem.{FoundItem}
+use Rattle.jsonb_c.specs.Items.{items_left}
+use Rattle.jsonb.specs.declared.selector.found.FoundItem.TheVariants.{At}
+
+-- a parsed path is kept, or nothing is
+abbrev pub Keeps : Result (Box PreparedPath Global) Status → Option PreparedPath → ℕ → Type 0
+Keeps (Ok path) kept status = (status ≡ code Answered) × (kept ≡ Some path.value)
+Keeps (Err cause) kept status = (status ≡ code cause) × (kept ≡ None)
+
+-- the result is as stated of the path of the text, if it is one; otherwise the call fails, unless an allocation does
+-- first
+abbrev pub ByPath : {P A : Type 0} → Error → Option P → (P → Result A Error → Type 0) → Result A Error → Type 0
+ByPath refusal None Promise answer = (answer ≡ Err OutOfMemory) ⊎ (answer ≡ Err refusal)
+ByPath refusal (Some path) Promise answer = Promise path answer
 
 abbrev pub boxed_path : Option (Box PreparedPath Global) → Option PreparedPath
 boxed_path (Some held) = Some held.value
@@ -12,3 +31,18 @@ boxed_path None = None
 abbrev pub loose_path : Option (LooseBox PreparedPath Global) → Option PreparedPath
 loose_path (Some held) = Some held.value
 loose_path None = None
+
+-- the status of text that is not parsed: this one if it is not a path
+abbrev pub IsTextRefusal : {P : Type 0} → Status → Option P → Status → Type 0
+IsTextRefusal refusal read cause = (cause ≡ Refused OutOfMemory) ⊎ ((cause ≡ refusal) × (read ≡ None))
+
+-- a box of the items, or the status of the error
+abbrev pub HoldsItems : Result (Vec FoundItem Global) Error → Result (Box PreparedPath Global) Status → Type 0
+HoldsItems (Ok found) (Ok made) = items_left (Some made.value) ≡ Some found.items
+HoldsItems (Err e) (Err cause) = cause ≡ Refused e
+HoldsItems _ _ = ⊥
+
+-- whether the item is computed; otherwise it is in the document
+abbrev pub is_computed : FoundItem → Bool
+is_computed (At spot) = false
+is_computed _ = true

@@ -1,8 +1,10 @@
 -- How private functions write to the caller's buffers, and end.
-use Rattle.std.specs.Prelude.{◌≡◌, ◌⊎◌, ◌≤◌, ◌<◌, ◌+◌, ◌++◌, ℕ, Bool, true, false, List, take, drop, length, Option, Some, None, Result, Ok, Err}
+use Rattle.std.specs.Prelude.{◌≡◌, ◌⊎◌, ◌≤◌, ◌<◌, ◌+◌, ◌++◌, ℕ, Bool, true, false, List, map, take, drop, length, Option, Some, None, Result, Ok, Err}
 use Rattle.jsonb_doc.specs.declared.error.Error.{Error}
-use Rattle.jsonb_c.specs.Columns.{Cell, Found}
-use Rattle.jsonb_c.specs.Status.{ok, buffer_too_small}
+use Rattle.jsonb_c.specs.Answers.{Found, IsWritten}
+use Rattle.jsonb_c.specs.Columns.{Cell, DoneRows, Ends, cell_status}
+use Rattle.jsonb_c.specs.Status.{code}
+use Rattle.jsonb_c.specs.declared.status.Status.TheVariants.{Answered, BufferTooSmall}
 
 -- the bytes are at an offset in the buffer, which is otherwise unchanged; or they do not fit there, and it is
 -- unchanged
@@ -13,7 +15,7 @@ Places bytes at old new false = (length old < at + length bytes) × (new ≡ old
 
 -- the status of a call that completed this many rows of all
 abbrev pub EndsAs : ℕ → ℕ → ℕ → Type 0
-EndsAs done all status = ((all ≤ done) × (status ≡ ok)) ⊎ ((done < all) × (status ≡ buffer_too_small))
+EndsAs done all status = ((all ≤ done) × (status ≡ code Answered)) ⊎ ((done < all) × (status ≡ code BufferTooSmall))
 
 -- the key that a call wrote into a buffer
 abbrev pub written_key : Result (Unit {0}) Error → List ℕ → Result (List ℕ) Error
@@ -30,3 +32,10 @@ written_answer (Err e) bytes = Err e
 abbrev pub written_cell : Option (Result Bool Error) → List ℕ → Cell (List ℕ)
 written_cell None bytes = None
 written_cell (Some answer) bytes = Some (written_answer answer bytes)
+
+-- the statuses of the first rows are written, and nothing after
+abbrev pub ChecksRows : {A : Type 0} → (List ℕ → Found A → Type 0) → List (Option (List ℕ)) → List ℕ → List ℕ → ℕ → ℕ
+    → Type 0
+ChecksRows IsAnswerTo column old_statuses new_statuses done status =
+    DoneRows IsAnswerTo column done (λ cells. IsWritten (map cell_status cells) old_statuses new_statuses)
+    × Ends (length column) (length old_statuses) done status

@@ -1,10 +1,16 @@
 -- Names that are read of a column, and sets of them.
-use Rattle.std.specs.Prelude.{◌≡◌, ℕ, Bool, List, Option, Result, Ok, Err, MatchResult}
+use Rattle.std.specs.Prelude.{◌≡◌, ℕ, Bool, List, Option, Result, Ok, Err, IsOkAnd, MatchResult}
 use Rattle.std.specs.Borrow.{Bor}
 use Rattle.std.specs.List.{list_any}
 use Rattle.std.specs.Str.{bytes_eq}
 use Rattle.jsonb_raw.specs.Objects.{TextSet, is_in}
+use Rattle.jsonb_doc.specs.Answer.{IsDecodingError, ◌or◌}
 use Rattle.jsonb_doc.specs.Tree.{Tree}
+use Rattle.jsonb_doc.specs.declared.error.Error.TheVariants.{InvalidObject, OutOfMemory, TooLarge}
+use Rattle.jsonb_raw.specs.Casts.{bool_number}
+use Rattle.jsonb_c.specs.Answers.{DeliversMade, DeliversNothing, OfDocument, Shows, With, WritesResult}
+use Rattle.jsonb_c.specs.Calls.{MakesOr}
+use Rattle.jsonb_c.specs.Status.{code}
 use Rattle.jsonb_raw.specs.Exists.{has_all, has_any}
 use Rattle.jsonb_c.specs.Names.{dropped_names, name_of, picked_names}
 use Rattle.jsonb_c.specs.declared.document.names.Chosen.{Chosen}
@@ -30,3 +36,18 @@ has_keys Any = has_any
 abbrev pub chosen_pairs : Chosen → List (List ℕ) → Tree → Option Tree
 chosen_pairs Named = picked_names
 chosen_pairs Rest = dropped_names
+
+-- the Boolean whether the document has the names, by `has`, is delivered
+abbrev pub ShowsKeys : (List (List ℕ) → Tree → Bool) → List ℕ → Result (List (List ℕ)) Status → ℕ → ℕ → ℕ → Type 0
+ShowsKeys has document names old new status = With names (λ wanted. WritesResult
+    (OfDocument document (λ form t said. IsOkAnd said (λ b. b ≡ has wanted t))) IsDecodingError
+    (λ answer. Shows bool_number answer old new status)) (λ cause. (new ≡ old) × (status ≡ code cause))
+
+-- the object of the remaining members is delivered
+abbrev pub DeliversPairs : (List (List ℕ) → Tree → Option Tree) → List ℕ → Result (List (List ℕ)) Status
+    → List ℕ → List ℕ → ℕ → ℕ → Type 0
+DeliversPairs kept document names old new len status = With names (λ wanted. WritesResult
+    (OfDocument document (λ form t. MakesOr InvalidObject form (kept wanted t)))
+    (IsDecodingError or OutOfMemory or TooLarge or InvalidObject)
+    (λ answer. DeliversMade answer old new len status))
+    (λ cause. DeliversNothing cause old new len status)

@@ -1,21 +1,30 @@
--- What the values of private functions stand for.
-use Rattle.std.specs.Prelude.{ℕ, List, Option, Some, None, Result, Ok, Err, String, string_bytes}
+-- What the values of private functions stand for, and spans within the bytes.
+use Rattle.std.specs.Prelude.{ℕ, List, Option, Some, None, Result, Ok, Err, Vec, IfSome, ⊤}
 use Rattle.std.specs.Borrow.{Bor}
 use Rattle.std.specs.declared.alloc.Global.{Global}
 use Rattle.jsonb_doc.specs.declared.error.Error.{Error}
+use Rattle.jsonb_doc.specs.declared.error.Error.TheVariants.{InvalidJsonPath}
 use Rattle.jsonb_doc.specs.Tree.{Tree}
 use Rattle.jsonb.specs.SelectorAnswers.{first_item, single_or_array}
-use Rattle.jsonb_c.specs.Answers.{Answer}
-use Rattle.jsonb_c.specs.Views.{one_array}
+use Rattle.jsonb_c.specs.Answers.{Found}
+use Rattle.jsonb_c.specs.Calls.{one_array}
 use Rattle.jsonb_c.specs.declared.document.select.Pick.{Pick}
 use Rattle.jsonb_c.specs.declared.document.select.Pick.TheVariants.{First, Value, Array}
 use Rattle.jsonb_c.specs.declared.read.KeyValue.{KeyValue}
+use Rattle.jsonb_c.specs.declared.status.Status.{Status}
+use Rattle.jsonb_c.specs.declared.status.Status.TheVariants.{NotJsonPath, Refused}
+use Rattle.jsonb_doc.specs.declared.child_positions.Child.{Child}
+use Rattle.jsonb.specs.declared.selector.first_item.FirstItem.{FirstItem}
+use Rattle.jsonb.specs.declared.selector.first_item.FirstItem.TheVariants.{At, Computed}
+use Rattle.jsonb_c.specs.Spans.{IsWithin}
+use Rattle.jsonb_c.specs.declared.span.Span.{Span}
 
-abbrev pub text_answer : Result (String Global) Error → Result (List ℕ) Error
-text_answer (Ok made) = Ok (string_bytes made)
-text_answer (Err e) = Err e
+-- the bytes of a vector, or the error
+abbrev pub vec_answer : Result (Vec ℕ Global) Error → Result (List ℕ) Error
+vec_answer (Ok made) = Ok made.items
+vec_answer (Err e) = Err e
 
-abbrev pub found_text : Result (Option (Bor (List ℕ))) Error → Answer
+abbrev pub found_text : Result (Option (Bor (List ℕ))) Error → Found (List ℕ)
 found_text (Ok (Some found)) = Ok (Some found.now)
 found_text (Ok None) = Ok None
 found_text (Err e) = Err e
@@ -30,3 +39,17 @@ abbrev pub pair_answer : Result (Option KeyValue) Error → Result (Option (List
 pair_answer (Ok (Some found)) = Ok (Some (found.key.now, found.value.items))
 pair_answer (Ok None) = Ok None
 pair_answer (Err e) = Err e
+
+-- the status of an error of parsing
+abbrev pub text_refusal : Error → Status
+text_refusal InvalidJsonPath = NotJsonPath
+text_refusal e = Refused e
+
+-- the item is computed, or its span is within the bytes
+abbrev pub IsFirstWithin : List ℕ → FirstItem Span → Type 0
+IsFirstWithin document (At span) = IsWithin document span
+IsFirstWithin document Computed = ⊤
+
+-- the child's span, and that of its key if it has one, are within the bytes
+abbrev pub IsChildWithin : List ℕ → Child Span → Type 0
+IsChildWithin document child = IsWithin document child.value × IfSome child.key (IsWithin document)

@@ -3,12 +3,12 @@
 ghost use Rattle.std.specs.Prelude.{◌≡◌, IfErr, false, length, map, true};
 ghost use Rattle.jsonb_doc.specs.Answer.{IsDecodingError, ◌or◌};
 ghost use Rattle.jsonb_doc.specs.declared.error.Error.TheVariants.{ObjectDuplicateKey, OutOfMemory, TooLarge};
-ghost use Rattle.jsonb_c.specs.Answers.{DeliversNothing, WritesBytes};
+ghost use Rattle.jsonb_c.specs.Answers.{DeliversNothing, With, WritesResult, DeliversMade};
 ghost use Rattle.jsonb_c.specs.Columns.{rows};
 ghost use Rattle.jsonb_c.specs.Making.{MakesObject, is_placed};
-ghost use Rattle.jsonb_c.specs.Names.{WithNames, names_of};
-ghost use Rattle.jsonb_c.specs.Status.{bad_offsets, code};
-ghost use Rattle.jsonb_c.specs.Views.{vec_answer};
+ghost use Rattle.jsonb_c.specs.Names.{names_of};
+ghost use Rattle.jsonb_c.specs.declared.status.Status.TheVariants.{BadOffsets};
+ghost use Rattle.jsonb_c.specs.Private.Views.{vec_answer};
 
 use crate::column::Column;
 use crate::deliver::{deliver_nothing, deliver_vec};
@@ -30,14 +30,15 @@ pub extern "C" fn jdoc_object_from_columns(
 ) -> u32
     ensures object { length (rows names.now name_offsets.now) ≡ length (rows bytes.now offsets.now)
         → is_placed (rows bytes.now offsets.now) ≡ true
-        → WithNames (names_of (rows names.now name_offsets.now))
-        (λ read. WritesBytes (MakesObject read (rows bytes.now offsets.now))
-        (IsDecodingError or OutOfMemory or TooLarge or ObjectDuplicateKey) out.old out.new out_len.new result)
-        (λ cause. DeliversNothing (code cause) out.old out.new out_len.new result) }
+        → With (names_of (rows names.now name_offsets.now))
+        (λ read. WritesResult (MakesObject read (rows bytes.now offsets.now))
+        (IsDecodingError or OutOfMemory or TooLarge or ObjectDuplicateKey)
+        (λ answer. DeliversMade answer out.old out.new out_len.new result))
+        (λ cause. DeliversNothing cause out.old out.new out_len.new result) }
     ensures count { ¬ (length (rows names.now name_offsets.now) ≡ length (rows bytes.now offsets.now))
-        → DeliversNothing bad_offsets out.old out.new out_len.new result }
+        → DeliversNothing BadOffsets out.old out.new out_len.new result }
     ensures other { is_placed (rows bytes.now offsets.now) ≡ false
-        → DeliversNothing bad_offsets out.old out.new out_len.new result }
+        → DeliversNothing BadOffsets out.old out.new out_len.new result }
 {
     let names = Column::new(names, name_offsets);
     let documents = Column::new(bytes, offsets);

@@ -11,7 +11,7 @@ use std::alloc::Global;
 /// A type that is called on each row and returns a value.
 pub(crate) trait RowCall<A> {
     ghost use Rattle.std.specs.Prelude.{ℕ, List};
-    ghost use Rattle.jsonb_c.specs.Columns.{Found};
+    ghost use Rattle.jsonb_c.specs.Answers.{Found};
 
     ghost IsAnswerTo: { Self → List ℕ → Found A → Type 0 };
 
@@ -57,7 +57,7 @@ pub(crate) fn cell_value<A: Copy>(cell: &Cell<A>, other: A) -> A
 /// A type that is called on each row and writes bytes.
 pub(crate) trait RowWriter {
     ghost use Rattle.std.specs.Prelude.{ℕ, List};
-    ghost use Rattle.jsonb_c.specs.Columns.{Found};
+    ghost use Rattle.jsonb_c.specs.Answers.{Found};
     ghost use Rattle.jsonb_c.specs.Private.Buffers.{written_answer};
 
     ghost IsAnswerTo: { Self → List ℕ → Found (List ℕ) → Type 0 };

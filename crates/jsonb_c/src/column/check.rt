@@ -1,7 +1,8 @@
 //! Whether each row is a document.
 
-ghost use Rattle.jsonb_c.specs.Columns.{ChecksRows, rows};
-ghost use Rattle.jsonb_c.specs.Rows.{ChecksDocument};
+ghost use Rattle.std.specs.Prelude.{length, map};
+ghost use Rattle.jsonb_c.specs.Answers.{IsWritten};
+ghost use Rattle.jsonb_c.specs.Columns.{ChecksDocument, DoneRows, Ends, cell_status, rows};
 
 use super::Column;
 use super::call::RowCall;
@@ -13,7 +14,7 @@ use std::alloc::Global;
 struct Checks;
 
 impl RowCall<()> for Checks {
-    ghost use Rattle.jsonb_c.specs.Rows.{ChecksDocument};
+    ghost use Rattle.jsonb_c.specs.Columns.{ChecksDocument};
 
     ghost IsAnswerTo = { λ call document answer. ChecksDocument document answer };
 
@@ -32,7 +33,9 @@ pub extern "C" fn jdoc_column_check(
     statuses: &mut [u8],
     done: &mut usize,
 ) -> u32
-    ensures { ChecksRows ChecksDocument (rows bytes.now offsets.now) statuses.old statuses.new done.new result }
+    ensures { DoneRows ChecksDocument (rows bytes.now offsets.now) done.new
+        (λ cells. IsWritten (map cell_status cells) statuses.old statuses.new)
+        × Ends (length (rows bytes.now offsets.now)) (length statuses.old) done.new result }
 {
     Column::new(bytes, offsets).check(alloc, &Checks, statuses, done)
 }

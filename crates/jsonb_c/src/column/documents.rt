@@ -1,8 +1,8 @@
 //! A document per row: what a path selects, the value at a location, and the document without it.
 
-ghost use Rattle.std.specs.Prelude.{◌≡◌, IfErr, Ok};
+ghost use Rattle.std.specs.Prelude.{◌≡◌, IfErr, Ok, ok_or};
 ghost use Rattle.jsonb_doc.specs.Answer.{IsDecodingError, ◌or◌};
-ghost use Rattle.jsonb_doc.specs.declared.error.Error.TheVariants.{InvalidJsonPath, InvalidJsonType, InvalidKeyPath, OutOfMemory, TooLarge};
+ghost use Rattle.jsonb_doc.specs.declared.error.Error.TheVariants.{InvalidJsonType, InvalidKeyPath, OutOfMemory, TooLarge};
 ghost use Rattle.jsonb_raw.specs.Documents.{MakesOption};
 ghost use Rattle.jsonb_raw.specs.Places.{tree_at_steps};
 ghost use Rattle.jsonb.specs.KeyPathGrammar.{key_path};
@@ -10,13 +10,13 @@ ghost use Rattle.jsonb.specs.KeyPathViews.{key_paths_view};
 ghost use Rattle.jsonb.specs.PathGrammar.{json_path};
 ghost use Rattle.jsonb.specs.PathViews.{path_view};
 ghost use Rattle.jsonb.specs.SelectorAnswers.{first_item, single_or_array};
-ghost use Rattle.jsonb_c.specs.Answers.{OfDocument};
-ghost use Rattle.jsonb_c.specs.Calls.{DeletesPlace, mode_of};
-ghost use Rattle.jsonb_c.specs.Columns.{JoinsByPath, rows};
+ghost use Rattle.jsonb_c.specs.Answers.{OfDocument, With};
+ghost use Rattle.jsonb_c.specs.Calls.{DeletesPart, DeletesPlace, FindsPart, SelectsItem, mode_of, one_array};
+ghost use Rattle.jsonb_c.specs.Columns.{InRow, IsUntouched, JoinsRows, rows};
 ghost use Rattle.jsonb_c.specs.Private.Buffers.{written_answer};
-ghost use Rattle.jsonb_c.specs.Private.ByHand.{place_of};
-ghost use Rattle.jsonb_c.specs.Rows.{DeletesPart, FindsPart, SelectsItem};
-ghost use Rattle.jsonb_c.specs.Views.{one_array};
+ghost use Rattle.jsonb_c.specs.Private.PathRows.{place_of};
+ghost use Rattle.jsonb_c.specs.Status.{code};
+ghost use Rattle.jsonb_c.specs.declared.status.Status.TheVariants.{NotJsonPath, Refused};
 ghost use Rattle.jsonb_c.specs.Private.Views.{pick_of};
 
 use super::asked::PathColumn;
@@ -37,12 +37,13 @@ struct Selects<'p> {
 
 impl RowWriter for Selects<'_> {
     ghost use Rattle.jsonb.specs.PathViews.{path_view};
-    ghost use Rattle.jsonb_c.specs.Calls.{mode_of};
-    ghost use Rattle.jsonb_c.specs.Private.ByHand.{SelectsItemBy};
+    ghost use Rattle.std.specs.Prelude.{◌≡◌};
+    ghost use Rattle.jsonb_c.specs.Calls.{SelectsItem, mode_of};
     ghost use Rattle.jsonb_c.specs.Private.Views.{pick_of};
 
-    ghost IsAnswerTo = { λ call document answer.
-        SelectsItemBy (mode_of call.strict) (pick_of call.pick) (path_view call.path) document answer };
+    ghost IsAnswerTo = { λ call document row.
+        SelectsItem (mode_of call.strict) (pick_of call.pick) (path_view call.path) document
+        (λ answer. row ≡ answer) };
 
     fn write(&self, alloc: Global, document: &[u8], out: &mut Vec<u8>) -> Result<bool, Error> {
         let picked = pick_by_path(alloc, document, &self.path, self.strict, self.pick)?;
@@ -81,7 +82,7 @@ struct AtPlace<'p> {
 
 impl RowWriter for AtPlace<'_> {
     ghost use Rattle.jsonb.specs.KeyPathViews.{key_paths_view};
-    ghost use Rattle.jsonb_c.specs.Private.ByHand.{place_of};
+    ghost use Rattle.jsonb_c.specs.Private.PathRows.{place_of};
 
     ghost IsAnswerTo = { λ call document answer. place_of call.wanted (key_paths_view call.steps) document answer };
 
@@ -135,8 +136,12 @@ pub extern "C" fn jdoc_column_get(
     statuses: &mut [u8],
     progress: &mut Progress,
 ) -> u32
-    ensures { JoinsByPath InvalidKeyPath (key_path path.now) FindsPart (rows bytes.now offsets.now)
-        (out.old, positions.old, statuses.old) (out.new, positions.new, statuses.new) progress.new result }
+    ensures { With (ok_or (key_path path.now) (Refused InvalidKeyPath))
+        (λ steps. JoinsRows (λ document row. FindsPart steps document (λ answer. row ≡ answer))
+        (rows bytes.now offsets.now)
+        (out.old, positions.old, statuses.old) (out.new, positions.new, statuses.new) progress.new result)
+        (λ cause. (result ≡ code cause)
+        × IsUntouched (out.old, positions.old, statuses.old) (out.new, positions.new, statuses.new) progress.new) }
 {
     let asked = PathColumn::new(alloc, bytes, offsets, path);
     asked.place(Operation::Part, out, positions, statuses, progress)
@@ -154,8 +159,11 @@ pub extern "C" fn jdoc_column_delete_by_keypath(
     statuses: &mut [u8],
     progress: &mut Progress,
 ) -> u32
-    ensures { JoinsByPath InvalidKeyPath (key_path path.now) DeletesPart (rows bytes.now offsets.now)
-        (out.old, positions.old, statuses.old) (out.new, positions.new, statuses.new) progress.new result }
+    ensures { With (ok_or (key_path path.now) (Refused InvalidKeyPath))
+        (λ steps. JoinsRows (InRow (DeletesPart steps) (λ made. made)) (rows bytes.now offsets.now)
+        (out.old, positions.old, statuses.old) (out.new, positions.new, statuses.new) progress.new result)
+        (λ cause. (result ≡ code cause)
+        × IsUntouched (out.old, positions.old, statuses.old) (out.new, positions.new, statuses.new) progress.new) }
 {
     let asked = PathColumn::new(alloc, bytes, offsets, path);
     asked.place(Operation::Rest, out, positions, statuses, progress)
@@ -174,9 +182,13 @@ pub extern "C" fn jdoc_column_select_first(
     statuses: &mut [u8],
     progress: &mut Progress,
 ) -> u32
-    ensures { JoinsByPath InvalidJsonPath (json_path path.now) (SelectsItem (mode_of strict) first_item)
+    ensures { With (ok_or (json_path path.now) NotJsonPath)
+        (λ steps. JoinsRows (λ document row. SelectsItem (mode_of strict) first_item steps document
+        (λ answer. row ≡ answer))
         (rows bytes.now offsets.now)
-        (out.old, positions.old, statuses.old) (out.new, positions.new, statuses.new) progress.new result }
+        (out.old, positions.old, statuses.old) (out.new, positions.new, statuses.new) progress.new result)
+        (λ cause. (result ≡ code cause)
+        × IsUntouched (out.old, positions.old, statuses.old) (out.new, positions.new, statuses.new) progress.new) }
 {
     let asked = PathColumn::new(alloc, bytes, offsets, path);
     asked.select(strict, Pick::First, out, positions, statuses, progress)
@@ -195,9 +207,13 @@ pub extern "C" fn jdoc_column_select_value(
     statuses: &mut [u8],
     progress: &mut Progress,
 ) -> u32
-    ensures { JoinsByPath InvalidJsonPath (json_path path.now) (SelectsItem (mode_of strict) single_or_array)
+    ensures { With (ok_or (json_path path.now) NotJsonPath)
+        (λ steps. JoinsRows (λ document row. SelectsItem (mode_of strict) single_or_array steps document
+        (λ answer. row ≡ answer))
         (rows bytes.now offsets.now)
-        (out.old, positions.old, statuses.old) (out.new, positions.new, statuses.new) progress.new result }
+        (out.old, positions.old, statuses.old) (out.new, positions.new, statuses.new) progress.new result)
+        (λ cause. (result ≡ code cause)
+        × IsUntouched (out.old, positions.old, statuses.old) (out.new, positions.new, statuses.new) progress.new) }
 {
     let asked = PathColumn::new(alloc, bytes, offsets, path);
     asked.select(strict, Pick::Value, out, positions, statuses, progress)
@@ -216,9 +232,13 @@ pub extern "C" fn jdoc_column_select_array(
     statuses: &mut [u8],
     progress: &mut Progress,
 ) -> u32
-    ensures { JoinsByPath InvalidJsonPath (json_path path.now) (SelectsItem (mode_of strict) one_array)
+    ensures { With (ok_or (json_path path.now) NotJsonPath)
+        (λ steps. JoinsRows (λ document row. SelectsItem (mode_of strict) one_array steps document
+        (λ answer. row ≡ answer))
         (rows bytes.now offsets.now)
-        (out.old, positions.old, statuses.old) (out.new, positions.new, statuses.new) progress.new result }
+        (out.old, positions.old, statuses.old) (out.new, positions.new, statuses.new) progress.new result)
+        (λ cause. (result ≡ code cause)
+        × IsUntouched (out.old, positions.old, statuses.old) (out.new, positions.new, statuses.new) progress.new) }
 {
     let asked = PathColumn::new(alloc, bytes, offsets, path);
     asked.select(strict, Pick::Array, out, positions, statuses, progress)
@@ -234,8 +254,11 @@ impl PathColumn<'_> {
         statuses: &mut [u8],
         progress: &mut Progress,
     ) -> u32
-        ensures { JoinsByPath InvalidKeyPath (key_path self.now.path.now) (place_of wanted) self.now.column
-            (out.old, positions.old, statuses.old) (out.new, positions.new, statuses.new) progress.new result }
+        ensures { With (ok_or (key_path self.now.path.now) (Refused InvalidKeyPath))
+            (λ steps. JoinsRows (place_of wanted steps) self.now.column
+            (out.old, positions.old, statuses.old) (out.new, positions.new, statuses.new) progress.new result)
+            (λ cause. (result ≡ code cause)
+            × IsUntouched (out.old, positions.old, statuses.old) (out.new, positions.new, statuses.new) progress.new) }
     {
         match parse_key_paths(self.alloc, self.path) {
             Ok(steps) => {
@@ -243,7 +266,7 @@ impl PathColumn<'_> {
                 self.column
                     .join(self.alloc, &call, out, positions, statuses, progress)
             }
-            Err(error) => fail_join(Status::Refused(error), progress),
+            Err(error) => fail_join(Status::of_text(error), progress),
         }
     }
 
@@ -257,9 +280,12 @@ impl PathColumn<'_> {
         statuses: &mut [u8],
         progress: &mut Progress,
     ) -> u32
-        ensures { JoinsByPath InvalidJsonPath (json_path self.now.path.now)
-            (SelectsItem (mode_of strict) (pick_of pick)) self.now.column
-            (out.old, positions.old, statuses.old) (out.new, positions.new, statuses.new) progress.new result }
+        ensures { With (ok_or (json_path self.now.path.now) NotJsonPath)
+            (λ steps. JoinsRows (λ document row. SelectsItem (mode_of strict) (pick_of pick) steps document
+            (λ answer. row ≡ answer)) self.now.column
+            (out.old, positions.old, statuses.old) (out.new, positions.new, statuses.new) progress.new result)
+            (λ cause. (result ≡ code cause)
+            × IsUntouched (out.old, positions.old, statuses.old) (out.new, positions.new, statuses.new) progress.new) }
     {
         match parse_json_path(self.alloc, self.path) {
             Ok(path) => {
@@ -267,7 +293,7 @@ impl PathColumn<'_> {
                 self.column
                     .join(self.alloc, &call, out, positions, statuses, progress)
             }
-            Err(error) => fail_join(Status::Refused(error), progress),
+            Err(error) => fail_join(Status::of_text(error), progress),
         }
     }
 }

@@ -1,13 +1,13 @@
 //! Results of one value per row, and of none.
 
 ghost use Rattle.std.specs.Prelude.{◌≡◌};
-ghost use Rattle.jsonb_c.specs.Columns.{ChecksRows, FillsRows};
-ghost use Rattle.jsonb_c.specs.Status.{status_of};
+ghost use Rattle.jsonb_c.specs.Columns.{FillsRows};
+ghost use Rattle.jsonb_c.specs.Private.Buffers.{ChecksRows};
+ghost use Rattle.jsonb_c.specs.Status.{code};
 
 use super::Column;
 use super::call::{RowCall, ask, cell_status, cell_value, end_of};
 use crate::status::Status;
-use jsonb::Error;
 use std::alloc::Global;
 
 impl Column<'_> {
@@ -57,10 +57,10 @@ impl Column<'_> {
 }
 
 /// Returns the status of a call that processed no row.
-pub(crate) fn fail_column(error: Error, done: &mut usize) -> u32
+pub(crate) fn fail_column(cause: Status, done: &mut usize) -> u32
     ensures done { done.new ≡ 0 }
-    ensures status { result ≡ status_of error }
+    ensures status { result ≡ code cause }
 {
     *done = 0;
-    Status::Refused(error).to_u32()
+    cause.to_u32()
 }

@@ -33,6 +33,14 @@ static ONES_AND_TWOS: &[u8] = b"\x80\0\0\x01\x20\0\0\x02\x50\x01\x80\0\0\x01\x20
 
 static STATUSES: [u8; 4] = [0, 16, 0, 3];
 
+/// `{"a":1}`, `{"a":2}`, `{"a":1}`, and after them a row whose offsets decrease.
+static DECODED: &[u8] =
+    b"\x40\0\0\x01\x10\0\0\x01\x20\0\0\x02a\x50\x01\x40\0\0\x01\x10\0\0\x01\x20\0\0\x02a\x50\x02\x40\0\0\x01\x10\0\0\x01\x20\0\0\x02a\x50\x01";
+
+static DECODED_OFFSETS: [u64; 5] = [0, 15, 30, 45, 44];
+
+static DECODED_STATUSES: [u8; 4] = [0, 0, 0, 3];
+
 /// null, `"7"` and 8.
 static SCALARS: &[u8] = b"\x20\0\0\0\0\0\0\0\x20\0\0\0\x10\0\0\x017\x20\0\0\0\x20\0\0\x02\x50\x08";
 
@@ -40,21 +48,47 @@ static SCALAR_OFFSETS: [u64; 4] = [0, 8, 17, 27];
 
 /// Makes a call that returns a Boolean per row, and asserts the results and the statuses of all four.
 macro_rules! assert_tells {
-    ($rt:ident; $call:ident($($word:expr),*), $truths:expr) => {{
+    ($rt:ident; $call:ident($($word:expr),*), $truths:expr, $statuses:expr) => {{
         let mut truths = [9; 4];
         let mut statuses = [9; 4];
         let mut done = 9;
         let status = $call($($word,)* &mut truths, &mut statuses, &mut done);
-        assert!($rt; (status, done) == (OK, 4) && truths == $truths && statuses == STATUSES);
+        assert!($rt; (status, done) == (OK, 4) && truths == $truths && statuses == $statuses);
     }};
 }
 
 #[test]
 fn truths(rt: HostRuntime) {
     let alloc = rt.alloc();
-    assert_tells!(rt; jdoc_column_match(alloc, ROWS, &OFFSETS, b"$.a > 1", false), [0, 2, 1, 2]);
-    assert_tells!(rt; jdoc_column_exists(alloc, ROWS, &OFFSETS, b"$.a?(@ > 1)", false), [0, 2, 1, 2]);
-    assert_tells!(rt; jdoc_column_contains(alloc, ROWS, &OFFSETS, A_ONE), [1, 2, 0, 2]);
+    assert_tells!(rt; jdoc_column_match(alloc, ROWS, &OFFSETS, b"$.a > 1", false), [0, 2, 1, 2], STATUSES);
+    assert_tells!(rt; jdoc_column_exists(alloc, ROWS, &OFFSETS, b"$.a?(@ > 1)", false), [0, 2, 1, 2], STATUSES);
+    assert_tells!(rt; jdoc_column_contains(alloc, ROWS, &OFFSETS, A_ONE), [1, 2, 0, 2], STATUSES);
+}
+
+#[test]
+fn truths_of_documents(rt: HostRuntime) {
+    let (alloc, rows, offsets) = (rt.alloc(), DECODED, &DECODED_OFFSETS);
+    assert_tells!(rt; jdoc_column_match(alloc, rows, offsets, b"$.a > 1", false), [0, 1, 0, 2], DECODED_STATUSES);
+    assert_tells!(rt; jdoc_column_exists(alloc, rows, offsets, b"$.a?(@ > 1)", false), [0, 1, 0, 2], DECODED_STATUSES);
+    assert_tells!(rt; jdoc_column_contains(alloc, rows, offsets, b"\x40\0\0\0"), [1, 1, 1, 2], DECODED_STATUSES);
+}
+
+#[test]
+fn truths_of_the_first_document(rt: HostRuntime) {
+    let mut truths = [9; 1];
+    let mut statuses = [9; 2];
+    let mut done = 9;
+    let status = jdoc_column_match(
+        rt.alloc(),
+        DECODED,
+        &DECODED_OFFSETS,
+        b"$.a > 1",
+        false,
+        &mut truths,
+        &mut statuses,
+        &mut done,
+    );
+    assert!(rt; (status, done) == (BUFFER_TOO_SMALL, 1) && truths == [0] && statuses == [0, 9]);
 }
 
 #[test]
@@ -98,7 +132,7 @@ fn truths_of_fewer_rows(rt: HostRuntime) {
 /// A caller's buffers of a call that returns bytes for each row.
 #[derive(Clone, Copy)]
 struct Answer {
-    out: [u8; 24],
+    out: [u8; 48],
     positions: [u64; 5],
     statuses: [u8; 4],
     progress: Progress,
@@ -107,7 +141,7 @@ struct Answer {
 impl Answer {
     fn new() -> Answer {
         Answer {
-            out: [9; 24],
+            out: [9; 48],
             positions: [9; 5],
             statuses: [9; 4],
             progress: Progress {
@@ -150,6 +184,31 @@ fn documents(rt: HostRuntime) {
     assert_joins!(rt; jdoc_column_select_first(alloc, ROWS, &OFFSETS, b"$.a", true), ONE_AND_TWO, ENDS, STATUSES);
     assert_joins!(rt; jdoc_column_select_value(alloc, ROWS, &OFFSETS, b"$.a", false), ONE_AND_TWO, ENDS, STATUSES);
     assert_joins!(rt; jdoc_column_select_array(alloc, ROWS, &OFFSETS, b"$.a", false), ONES_AND_TWOS, ENDS, STATUSES);
+}
+
+/// 1, 2 and 1.
+static ONE_TWO_ONE: &[u8] =
+    b"\x20\0\0\0\x20\0\0\x02\x50\x01\x20\0\0\0\x20\0\0\x02\x50\x02\x20\0\0\0\x20\0\0\x02\x50\x01";
+
+/// `[1]`, `[2]` and `[1]`.
+static LISTS: &[u8] =
+    b"\x80\0\0\x01\x20\0\0\x02\x50\x01\x80\0\0\x01\x20\0\0\x02\x50\x02\x80\0\0\x01\x20\0\0\x02\x50\x01";
+
+/// `[10,20,30]`
+static TENS: &[u8] = b"\x80\0\0\x03\x20\0\0\x02\x20\0\0\x02\x20\0\0\x02\x50\x0a\x50\x14\x50\x1e";
+
+/// 10.
+static TEN: &[u8] = b"\x20\0\0\0\x20\0\0\x02\x50\x0a";
+
+#[test]
+fn documents_of_documents(rt: HostRuntime) {
+    let (alloc, rows, offsets) = (rt.alloc(), DECODED, &DECODED_OFFSETS);
+    let ends = [0, 10, 20, 30, 30];
+    assert_joins!(rt; jdoc_column_get(alloc, rows, offsets, b"{a}"), ONE_TWO_ONE, ends, DECODED_STATUSES);
+    assert_joins!(rt; jdoc_column_delete_by_keypath(alloc, rows, offsets, b"{a}"),
+        b"\x40\0\0\0\x40\0\0\0\x40\0\0\0", [0, 4, 8, 12, 12], DECODED_STATUSES);
+    assert_joins!(rt; jdoc_column_select_first(alloc, TENS, &[0, 22], b"$[*]", false), TEN, [0, 10, 9, 9, 9], [0, 9, 9, 9]);
+    assert_joins!(rt; jdoc_column_select_array(alloc, rows, offsets, b"$.a", false), LISTS, ends, DECODED_STATUSES);
 }
 
 /// Returns the members `a` of rows that end there, in a buffer of 15 bytes, and the status.

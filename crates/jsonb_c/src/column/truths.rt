@@ -1,15 +1,16 @@
 //! Functions that return a Boolean per row: 0 for false, 1 for true, 2 if it is unknown or the row fails.
 
-ghost use Rattle.std.specs.Prelude.{◌≡◌, IfErr, IsOkAnd};
+ghost use Rattle.std.specs.Prelude.{◌≡◌, IfErr, IsOkAnd, ok_or};
 ghost use Rattle.jsonb_doc.specs.Answer.{IsDecodingError};
+ghost use Rattle.jsonb_raw.specs.Casts.{bool_number};
 ghost use Rattle.jsonb_raw.specs.Contains.{contains};
-ghost use Rattle.jsonb_doc.specs.declared.error.Error.TheVariants.{InvalidJsonPath};
 ghost use Rattle.jsonb.specs.PathGrammar.{json_path};
-ghost use Rattle.jsonb_c.specs.Answers.{OfBoth};
-ghost use Rattle.jsonb_c.specs.Calls.{mode_of};
-ghost use Rattle.jsonb_c.specs.Columns.{FillsByPath, FillsRows, rows};
-ghost use Rattle.jsonb_c.specs.Private.ByHand.{told};
-ghost use Rattle.jsonb_c.specs.Rows.{TellsContainment, TellsExistence, TellsTruth};
+ghost use Rattle.jsonb_c.specs.Answers.{OfBoth, With, truth_byte};
+ghost use Rattle.jsonb_c.specs.Calls.{TellsContainment, TellsExistence, TellsTruth, mode_of};
+ghost use Rattle.jsonb_c.specs.Columns.{FillsRows, InRow, rows};
+ghost use Rattle.jsonb_c.specs.Private.PathRows.{told};
+ghost use Rattle.jsonb_c.specs.Status.{code};
+ghost use Rattle.jsonb_c.specs.declared.status.Status.TheVariants.{NotJsonPath};
 
 use super::Column;
 use super::asked::PathColumn;
@@ -17,6 +18,7 @@ use super::call::RowCall;
 use super::fill::fail_column;
 use crate::deliver::{bool_byte, truth_byte};
 use crate::document::select::{exists_by_path, match_by_path};
+use crate::status::Status;
 use jsonb::{Error, JsonPath, RawJsonb, parse_json_path};
 use std::alloc::Global;
 
@@ -43,10 +45,10 @@ struct PathQuery<'p> {
 impl RowCall<u8> for PathQuery<'_> {
     ghost use Rattle.jsonb.specs.PathViews.{path_view};
     ghost use Rattle.jsonb_c.specs.Calls.{mode_of};
-    ghost use Rattle.jsonb_c.specs.Private.ByHand.{TellsBy};
+    ghost use Rattle.jsonb_c.specs.Private.PathRows.{told};
 
     ghost IsAnswerTo = { λ call document answer.
-        TellsBy call.question (mode_of call.strict) (path_view call.path) document answer };
+        told call.question (mode_of call.strict) (path_view call.path) document answer };
 
     fn answer(&self, alloc: Global, document: &[u8]) -> Result<Option<u8>, Error> {
         match self.question {
@@ -69,9 +71,12 @@ struct Holds<'a> {
 }
 
 impl RowCall<u8> for Holds<'_> {
-    ghost use Rattle.jsonb_c.specs.Rows.{TellsContainment};
+    ghost use Rattle.jsonb_raw.specs.Casts.{bool_number};
+    ghost use Rattle.jsonb_c.specs.Calls.{TellsContainment};
+    ghost use Rattle.jsonb_c.specs.Columns.{InRow};
 
-    ghost IsAnswerTo = { λ call document answer. TellsContainment call.wanted.now document answer };
+    ghost IsAnswerTo = { λ call document answer.
+        InRow (TellsContainment call.wanted.now) bool_number document answer };
 
     fn answer(&self, _alloc: Global, document: &[u8]) -> Result<Option<u8>, Error> {
         let contains = contains(document, self.wanted)?;
@@ -99,8 +104,11 @@ pub extern "C" fn jdoc_column_exists(
     statuses: &mut [u8],
     done: &mut usize,
 ) -> u32
-    ensures { FillsByPath InvalidJsonPath (json_path path.now) (TellsExistence (mode_of strict)) 2
-        (rows bytes.now offsets.now) (truths.old, statuses.old) (truths.new, statuses.new) done.new result }
+    ensures { With (ok_or (json_path path.now) NotJsonPath)
+        (λ steps. FillsRows (InRow (TellsExistence (mode_of strict) steps) bool_number) 2 (rows bytes.now offsets.now)
+        (truths.old, statuses.old) (truths.new, statuses.new) done.new result)
+        (λ cause. (result ≡ code cause) × (done.new ≡ 0) × (truths.new ≡ truths.old)
+        × (statuses.new ≡ statuses.old)) }
 {
     let asked = PathColumn::new(alloc, bytes, offsets, path);
     asked.tell(strict, Question::Existence, truths, statuses, done)
@@ -118,8 +126,11 @@ pub extern "C" fn jdoc_column_match(
     statuses: &mut [u8],
     done: &mut usize,
 ) -> u32
-    ensures { FillsByPath InvalidJsonPath (json_path path.now) (TellsTruth (mode_of strict)) 2
-        (rows bytes.now offsets.now) (truths.old, statuses.old) (truths.new, statuses.new) done.new result }
+    ensures { With (ok_or (json_path path.now) NotJsonPath)
+        (λ steps. FillsRows (InRow (TellsTruth (mode_of strict) steps) truth_byte) 2 (rows bytes.now offsets.now)
+        (truths.old, statuses.old) (truths.new, statuses.new) done.new result)
+        (λ cause. (result ≡ code cause) × (done.new ≡ 0) × (truths.new ≡ truths.old)
+        × (statuses.new ≡ statuses.old)) }
 {
     let asked = PathColumn::new(alloc, bytes, offsets, path);
     asked.tell(strict, Question::Truth, truths, statuses, done)
@@ -135,8 +146,11 @@ impl PathColumn<'_> {
         statuses: &mut [u8],
         done: &mut usize,
     ) -> u32
-        ensures { FillsByPath InvalidJsonPath (json_path self.now.path.now) (told question (mode_of strict)) 2
-            self.now.column (truths.old, statuses.old) (truths.new, statuses.new) done.new result }
+        ensures { With (ok_or (json_path self.now.path.now) NotJsonPath)
+            (λ steps. FillsRows (told question (mode_of strict) steps) 2 self.now.column
+            (truths.old, statuses.old) (truths.new, statuses.new) done.new result)
+            (λ cause. (result ≡ code cause) × (done.new ≡ 0) × (truths.new ≡ truths.old)
+            × (statuses.new ≡ statuses.old)) }
     {
         match parse_json_path(self.alloc, self.path) {
             Ok(path) => {
@@ -148,7 +162,7 @@ impl PathColumn<'_> {
                 self.column
                     .fill(self.alloc, &call, UNKNOWN, truths, statuses, done)
             }
-            Err(error) => fail_column(error, done),
+            Err(error) => fail_column(Status::of_text(error), done),
         }
     }
 }
@@ -164,7 +178,7 @@ pub extern "C" fn jdoc_column_contains(
     statuses: &mut [u8],
     done: &mut usize,
 ) -> u32
-    ensures { FillsRows (TellsContainment wanted.now) 2 (rows bytes.now offsets.now)
+    ensures { FillsRows (InRow (TellsContainment wanted.now) bool_number) 2 (rows bytes.now offsets.now)
         (truths.old, statuses.old) (truths.new, statuses.new) done.new result }
 {
     Column::new(bytes, offsets).fill(alloc, &Holds { wanted }, UNKNOWN, truths, statuses, done)

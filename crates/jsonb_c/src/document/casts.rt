@@ -1,13 +1,14 @@
 //! Documents as Booleans, integers and strings.
 
-ghost use Rattle.std.specs.Prelude.{◌≡◌, IfErr, IsOkAnd};
-ghost use Rattle.jsonb_doc.specs.Answer.{IsDecodingError, ◌or◌};
+ghost use Rattle.std.specs.Prelude.{◌≡◌, ◌<◌, ◌^◌, FitsSigned, IfErr, IsOkAnd, option_map, pos, string_bytes, Ok};
+ghost use Rattle.std.specs.Int.{w64};
+ghost use Rattle.jsonb_doc.specs.Answer.{IsDecodingError, ◌or◌, and_then};
 ghost use Rattle.jsonb_doc.specs.declared.error.Error.TheVariants.{InvalidCast, OutOfMemory};
-ghost use Rattle.jsonb_raw.specs.Casts.{CastsToBool, CastsToI64, CastsToU64, text_of};
+ghost use Rattle.jsonb_raw.specs.Casts.{CastsToBool, CastsToText, CastsToU64, bool_number, text_of};
 ghost use Rattle.jsonb_raw.specs.Scalars.{boolean_in, text_in};
-ghost use Rattle.jsonb_c.specs.Answers.{WritesResult, WritesBool, WritesBytes, WritesFound, OfDocument, Shows, ShowsFound, ShowsFoundBool};
-ghost use Rattle.jsonb_c.specs.Calls.{FindsSigned, FindsUnsigned, IsTextOf};
-ghost use Rattle.jsonb_c.specs.Private.Views.{found_text, text_answer};
+ghost use Rattle.jsonb_c.specs.Answers.{WritesResult, Delivers, OfDocument, Shows, ShowsFound, found};
+ghost use Rattle.jsonb_c.specs.Calls.{FindsWhole, WritesI64, WritesText};
+ghost use Rattle.jsonb_c.specs.Private.Views.{found_text};
 
 use crate::deliver::{
     deliver_found_text, deliver_text, store, store_bool, store_found, store_found_bool,
@@ -19,7 +20,8 @@ use std::alloc::Global;
 #[unsafe(no_mangle)]
 pub extern "C" fn jdoc_as_bool(document: &[u8], truth: &mut u8) -> u32
     ensures { WritesResult (OfDocument document.now (λ form t answer. IsOkAnd answer (λ found. found ≡ boolean_in t)))
-        IsDecodingError (λ answer. ShowsFoundBool answer truth.old truth.new result) }
+        IsDecodingError (λ answer. ShowsFound (and_then answer (λ found. Ok (option_map bool_number found)))
+        truth.old truth.new result) }
 {
     store_found_bool(RawJsonb::new(document).as_bool(), truth)
 }
@@ -27,8 +29,9 @@ pub extern "C" fn jdoc_as_bool(document: &[u8], truth: &mut u8) -> u32
 /// Returns the number as an `i64`, if the root is an integer that fits.
 #[unsafe(no_mangle)]
 pub extern "C" fn jdoc_as_i64(document: &[u8], number: &mut i64) -> u32
-    ensures { WritesResult (OfDocument document.now (λ form t answer. IsOkAnd answer (FindsSigned t))) IsDecodingError
-        (λ answer. ShowsFound answer number.old number.new result) }
+    ensures { WritesResult
+        (OfDocument document.now (λ form t answer. IsOkAnd answer (FindsWhole (λ z. z) (FitsSigned w64) t)))
+        IsDecodingError (λ answer. ShowsFound answer number.old number.new result) }
 {
     store_found(RawJsonb::new(document).as_i64(), number)
 }
@@ -36,8 +39,9 @@ pub extern "C" fn jdoc_as_i64(document: &[u8], number: &mut i64) -> u32
 /// Returns the number as a `u64`, if the root is an integer that fits.
 #[unsafe(no_mangle)]
 pub extern "C" fn jdoc_as_u64(document: &[u8], number: &mut u64) -> u32
-    ensures { WritesResult (OfDocument document.now (λ form t answer. IsOkAnd answer (FindsUnsigned t))) IsDecodingError
-        (λ answer. ShowsFound answer number.old number.new result) }
+    ensures { WritesResult
+        (OfDocument document.now (λ form t answer. IsOkAnd answer (FindsWhole pos (λ n. n < 2 ^ 64) t)))
+        IsDecodingError (λ answer. ShowsFound answer number.old number.new result) }
 {
     store_found(RawJsonb::new(document).as_u64(), number)
 }
@@ -45,8 +49,9 @@ pub extern "C" fn jdoc_as_u64(document: &[u8], number: &mut u64) -> u32
 /// Returns the bytes of the string, if the root is one.
 #[unsafe(no_mangle)]
 pub extern "C" fn jdoc_as_str(document: &[u8], out: &mut [u8], out_len: &mut usize) -> u32
-    ensures { WritesFound (OfDocument document.now (λ form t answer. IsOkAnd answer (λ found. found ≡ text_in t)))
-        IsDecodingError out.old out.new out_len.new result }
+    ensures { WritesResult (OfDocument document.now (λ form t answer. IsOkAnd answer (λ found. found ≡ text_in t)))
+        IsDecodingError
+        (λ answer. Delivers answer out.old out.new out_len.new result) }
 {
     deliver_found_text(as_str(document), out, out_len)
 }
@@ -65,8 +70,8 @@ fn as_str(document: &[u8]) -> Result<Option<&str>, Error>
 /// Returns the Boolean, which is also cast from strings.
 #[unsafe(no_mangle)]
 pub extern "C" fn jdoc_to_bool(document: &[u8], truth: &mut u8) -> u32
-    ensures { WritesBool (OfDocument document.now (λ form t. CastsToBool t)) (IsDecodingError or InvalidCast)
-        truth.old truth.new result }
+    ensures { WritesResult (OfDocument document.now (λ form t. CastsToBool t)) (IsDecodingError or InvalidCast)
+        (λ answer. Shows bool_number answer truth.old truth.new result) }
 {
     store_bool(RawJsonb::new(document).to_bool(), truth)
 }
@@ -74,8 +79,7 @@ pub extern "C" fn jdoc_to_bool(document: &[u8], truth: &mut u8) -> u32
 /// Casts the document to an `i64`: a Boolean to 1 or 0, a number rounded, a string parsed.
 #[unsafe(no_mangle)]
 pub extern "C" fn jdoc_to_i64(document: &[u8], number: &mut i64) -> u32
-    ensures { WritesResult (OfDocument document.now (λ form t. CastsToI64 t)) (IsDecodingError or InvalidCast)
-        (λ answer. Shows answer number.old number.new result) }
+    ensures { WritesI64 document.now (λ answer. Shows (λ n. n) answer number.old number.new result) }
 {
     store(RawJsonb::new(document).to_i64(), number)
 }
@@ -84,7 +88,7 @@ pub extern "C" fn jdoc_to_i64(document: &[u8], number: &mut i64) -> u32
 #[unsafe(no_mangle)]
 pub extern "C" fn jdoc_to_u64(document: &[u8], number: &mut u64) -> u32
     ensures { WritesResult (OfDocument document.now (λ form t. CastsToU64 t)) (IsDecodingError or InvalidCast)
-        (λ answer. Shows answer number.old number.new result) }
+        (λ answer. Shows (λ n. n) answer number.old number.new result) }
 {
     store(RawJsonb::new(document).to_u64(), number)
 }
@@ -97,14 +101,14 @@ pub extern "C" fn jdoc_to_str(
     out: &mut [u8],
     out_len: &mut usize,
 ) -> u32
-    ensures { WritesBytes (OfDocument document.now (λ form t. IsTextOf (text_of t)))
-        (IsDecodingError or OutOfMemory or InvalidCast) out.old out.new out_len.new result }
+    ensures { WritesText document.now
+        (λ answer. Delivers (found string_bytes answer) out.old out.new out_len.new result) }
 {
     deliver_text(to_str(alloc, document), out, out_len)
 }
 
 fn to_str(alloc: Global, document: &[u8]) -> Result<String, Error>
-    ensures text { OfDocument document.now (λ form t. IsTextOf (text_of t)) (text_answer result) }
+    ensures text { OfDocument document.now (λ form t. CastsToText (text_of t)) result }
     ensures errors { IfErr result (IsDecodingError or OutOfMemory or InvalidCast) }
 {
     RawJsonb::new(document).to_str(alloc)

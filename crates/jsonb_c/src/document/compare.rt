@@ -3,9 +3,9 @@
 ghost use Rattle.std.specs.Prelude.{◌≡◌, IfErr, IsOkAnd};
 ghost use Rattle.jsonb_doc.specs.Answer.{IsDecodingError};
 ghost use Rattle.jsonb_doc.specs.Order.{tree_cmp};
-ghost use Rattle.jsonb_raw.specs.Contains.{contains};
-ghost use Rattle.jsonb_c.specs.Answers.{WritesResult, WritesBool, OfBoth, Shows};
-ghost use Rattle.jsonb_c.specs.Calls.{order_number};
+ghost use Rattle.jsonb_raw.specs.Casts.{bool_number};
+ghost use Rattle.jsonb_c.specs.Answers.{WritesResult, OfBoth, Shows};
+ghost use Rattle.jsonb_c.specs.Calls.{TellsContainment, order_number};
 
 use crate::deliver::{store, store_bool};
 use jsonb::{Error, RawJsonb};
@@ -14,9 +14,8 @@ use std::cmp::Ordering;
 /// Returns whether a document contains another.
 #[unsafe(no_mangle)]
 pub extern "C" fn jdoc_contains(document: &[u8], other: &[u8], truth: &mut u8) -> u32
-    ensures { WritesBool
-        (OfBoth document.now other.now (λ form t wanted said. IsOkAnd said (λ b. b ≡ contains t wanted)))
-        IsDecodingError truth.old truth.new result }
+    ensures { TellsContainment other.now document.now
+        (λ answer. Shows bool_number answer truth.old truth.new result) }
 {
     let document = RawJsonb::new(document);
     store_bool(document.contains(&RawJsonb::new(other)), truth)
@@ -27,7 +26,7 @@ pub extern "C" fn jdoc_contains(document: &[u8], other: &[u8], truth: &mut u8) -
 pub extern "C" fn jdoc_compare(document: &[u8], other: &[u8], order: &mut i32) -> u32
     ensures { WritesResult
         (OfBoth document.now other.now (λ form t u said. IsOkAnd said (λ z. z ≡ order_number (tree_cmp t u))))
-        IsDecodingError (λ answer. Shows answer order.old order.new result) }
+        IsDecodingError (λ answer. Shows (λ n. n) answer order.old order.new result) }
 {
     store(compare(document, other), order)
 }

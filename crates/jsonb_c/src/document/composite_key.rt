@@ -8,12 +8,12 @@ ghost use Rattle.jsonb_doc.specs.Payload.{Form};
 ghost use Rattle.jsonb_doc.specs.Tree.{Tree};
 ghost use Rattle.jsonb_raw.specs.CompositeKeys.{AppendsColumn};
 ghost use Rattle.jsonb_raw.specs.Documents.{raw_bytes};
-ghost use Rattle.jsonb_c.specs.Answers.{DeliversNothing, WritesBytes};
+ghost use Rattle.jsonb_c.specs.Answers.{DeliversNothing, WritesResult, DeliversMade};
 ghost use Rattle.jsonb_c.specs.Calls.{width_of};
 ghost use Rattle.jsonb_c.specs.Columns.{rows};
 ghost use Rattle.jsonb_c.specs.Making.{IsValueOf, MakesCompositeKey, is_placed};
-ghost use Rattle.jsonb_c.specs.Status.{bad_offsets};
-ghost use Rattle.jsonb_c.specs.Views.{vec_answer};
+ghost use Rattle.jsonb_c.specs.declared.status.Status.TheVariants.{BadOffsets};
+ghost use Rattle.jsonb_c.specs.Private.Views.{vec_answer};
 
 use crate::column::Column;
 use crate::deliver::{deliver_nothing, deliver_vec};
@@ -33,10 +33,11 @@ pub extern "C" fn jdoc_composite_key(
     out_len: &mut usize,
 ) -> u32
     ensures key { is_placed (rows bytes.now offsets.now) ≡ true
-        → WritesBytes (MakesCompositeKey (width_of wide) (rows bytes.now offsets.now))
-        (IsDecodingError or OutOfMemory or TooDeep) out.old out.new out_len.new result }
+        → WritesResult (MakesCompositeKey (width_of wide) (rows bytes.now offsets.now))
+        (IsDecodingError or OutOfMemory or TooDeep)
+        (λ answer. DeliversMade answer out.old out.new out_len.new result) }
     ensures other { is_placed (rows bytes.now offsets.now) ≡ false
-        → DeliversNothing bad_offsets out.old out.new out_len.new result }
+        → DeliversNothing BadOffsets out.old out.new out_len.new result }
 {
     let column = Column::new(bytes, offsets);
     if column.is_placed() {

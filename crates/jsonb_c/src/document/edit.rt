@@ -1,6 +1,6 @@
 //! Documents derived from others.
 
-ghost use Rattle.std.specs.Prelude.{IfErr};
+ghost use Rattle.std.specs.Prelude.{◌≡◌, ◌⊎◌, IfErr, None, ok_or};
 ghost use Rattle.std.specs.Str.{IsUtf8};
 ghost use Rattle.jsonb_doc.specs.Answer.{IsDecodingError, ◌or◌};
 ghost use Rattle.jsonb_doc.specs.declared.error.Error.TheVariants.{InvalidJsonType, InvalidKeyPath, InvalidObject, ObjectDuplicateKey, OutOfMemory, TooLarge};
@@ -10,9 +10,10 @@ ghost use Rattle.jsonb_raw.specs.Concat.{concat};
 ghost use Rattle.jsonb_raw.specs.Documents.{Makes};
 ghost use Rattle.jsonb_raw.specs.Strip.{strip};
 ghost use Rattle.jsonb.specs.KeyPathGrammar.{key_path};
-ghost use Rattle.jsonb_c.specs.Answers.{DeliversNothing, WritesBytes, OfDocument, OfDocuments};
-ghost use Rattle.jsonb_c.specs.Calls.{ByPath, DeletesIndex, DeletesPlace, InsertsPair, MakesOr};
-ghost use Rattle.jsonb_c.specs.Status.{not_utf8};
+ghost use Rattle.jsonb_c.specs.Answers.{DeliversNothing, OfDocument, OfDocuments, With, WritesResult, DeliversMade};
+ghost use Rattle.jsonb_c.specs.Calls.{DeletesIndex, DeletesPart, DeletesPlace, InsertsPair, MakesOr};
+ghost use Rattle.jsonb_c.specs.Private.Boxes.{ByPath};
+ghost use Rattle.jsonb_c.specs.declared.status.Status.TheVariants.{NotUtf8, Refused};
 
 use crate::deliver::{deliver_made, deliver_nothing};
 use crate::status::Status;
@@ -28,16 +29,18 @@ pub extern "C" fn jdoc_delete_by_keypath(
     out: &mut [u8],
     out_len: &mut usize,
 ) -> u32
-    ensures { WritesBytes
-        (ByPath InvalidKeyPath (key_path path.now) (λ steps. DeletesPlace steps document.now))
-        (IsDecodingError or OutOfMemory or InvalidJsonType or InvalidKeyPath) out.old out.new out_len.new result }
+    ensures { With (ok_or (key_path path.now) (Refused InvalidKeyPath))
+        (λ steps. DeletesPart steps document.now
+        (λ answer. DeliversMade answer out.old out.new out_len.new result))
+        (λ cause. DeliversNothing cause out.old out.new out_len.new result) }
 {
     deliver_made(delete_by_keypath(alloc, document, path), out, out_len)
 }
 
 fn delete_by_keypath(alloc: Global, document: &[u8], path: &[u8]) -> Result<OwnedJsonb, Error>
     ensures deleted { ByPath InvalidKeyPath (key_path path.now) (λ steps. DeletesPlace steps document.now) result }
-    ensures errors { IfErr result (IsDecodingError or OutOfMemory or InvalidJsonType or InvalidKeyPath) }
+    ensures errors { IfErr result (λ e. (IsDecodingError or OutOfMemory or InvalidJsonType) e
+        ⊎ ((e ≡ InvalidKeyPath) × (key_path path.now ≡ None))) }
 {
     let steps = parse_key_paths(alloc, path)?;
     RawJsonb::new(document).delete_by_keypath(alloc, steps.paths.iter())
@@ -53,9 +56,10 @@ pub extern "C" fn jdoc_delete_by_name(
     out_len: &mut usize,
 ) -> u32
     ensures named { IsUtf8 name.now
-        → WritesBytes (OfDocument document.now (λ form t. MakesOr InvalidJsonType form (without_name name.now t)))
-        (IsDecodingError or OutOfMemory or TooLarge or InvalidJsonType) out.old out.new out_len.new result }
-    ensures other { ¬ (IsUtf8 name.now) → DeliversNothing not_utf8 out.old out.new out_len.new result }
+        → WritesResult (OfDocument document.now (λ form t. MakesOr InvalidJsonType form (without_name name.now t)))
+        (IsDecodingError or OutOfMemory or TooLarge or InvalidJsonType)
+        (λ answer. DeliversMade answer out.old out.new out_len.new result) }
+    ensures other { ¬ (IsUtf8 name.now) → DeliversNothing NotUtf8 out.old out.new out_len.new result }
 {
     let Ok(name) = str::from_utf8(name) else {
         return deliver_nothing(Status::NotUtf8, out_len);
@@ -73,8 +77,9 @@ pub extern "C" fn jdoc_delete_by_index(
     out: &mut [u8],
     out_len: &mut usize,
 ) -> u32
-    ensures { WritesBytes (DeletesIndex index document.now)
-        (IsDecodingError or OutOfMemory or TooLarge or InvalidJsonType) out.old out.new out_len.new result }
+    ensures { WritesResult (DeletesIndex index document.now)
+        (IsDecodingError or OutOfMemory or TooLarge or InvalidJsonType)
+        (λ answer. DeliversMade answer out.old out.new out_len.new result) }
 {
     let document = RawJsonb::new(document);
     deliver_made(document.delete_by_index(alloc, index), out, out_len)
@@ -89,8 +94,9 @@ pub extern "C" fn jdoc_concat(
     out: &mut [u8],
     out_len: &mut usize,
 ) -> u32
-    ensures { WritesBytes (OfDocuments document.now other.now (λ form t u. Makes form (concat t u)))
-        (IsDecodingError or OutOfMemory or TooLarge) out.old out.new out_len.new result }
+    ensures { WritesResult (OfDocuments document.now other.now (λ form t u. Makes form (concat t u)))
+        (IsDecodingError or OutOfMemory or TooLarge)
+        (λ answer. DeliversMade answer out.old out.new out_len.new result) }
 {
     let document = RawJsonb::new(document);
     deliver_made(document.concat(alloc, &RawJsonb::new(other)), out, out_len)
@@ -107,9 +113,10 @@ pub extern "C" fn jdoc_array_insert(
     out: &mut [u8],
     out_len: &mut usize,
 ) -> u32
-    ensures { WritesBytes
+    ensures { WritesResult
         (OfDocuments document.now value.now (λ form t v. Makes form (array_insert position v t)))
-        (IsDecodingError or OutOfMemory or TooLarge) out.old out.new out_len.new result }
+        (IsDecodingError or OutOfMemory or TooLarge)
+        (λ answer. DeliversMade answer out.old out.new out_len.new result) }
 {
     let made = RawJsonb::new(document).array_insert(alloc, position, &RawJsonb::new(value));
     deliver_made(made, out, out_len)
@@ -127,10 +134,10 @@ pub extern "C" fn jdoc_object_insert(
     out_len: &mut usize,
 ) -> u32
     ensures named { IsUtf8 name.now
-        → WritesBytes (InsertsPair name.now update document.now value.now)
+        → WritesResult (InsertsPair name.now update document.now value.now)
         (IsDecodingError or OutOfMemory or TooLarge or InvalidObject or ObjectDuplicateKey)
-        out.old out.new out_len.new result }
-    ensures other { ¬ (IsUtf8 name.now) → DeliversNothing not_utf8 out.old out.new out_len.new result }
+        (λ answer. DeliversMade answer out.old out.new out_len.new result) }
+    ensures other { ¬ (IsUtf8 name.now) → DeliversNothing NotUtf8 out.old out.new out_len.new result }
 {
     let Ok(name) = str::from_utf8(name) else {
         return deliver_nothing(Status::NotUtf8, out_len);
@@ -147,8 +154,9 @@ pub extern "C" fn jdoc_strip_nulls(
     out: &mut [u8],
     out_len: &mut usize,
 ) -> u32
-    ensures { WritesBytes (OfDocument document.now (λ form t. Makes form (strip t)))
-        (IsDecodingError or OutOfMemory or TooLarge) out.old out.new out_len.new result }
+    ensures { WritesResult (OfDocument document.now (λ form t. Makes form (strip t)))
+        (IsDecodingError or OutOfMemory or TooLarge)
+        (λ answer. DeliversMade answer out.old out.new out_len.new result) }
 {
     deliver_made(RawJsonb::new(document).strip_nulls(alloc), out, out_len)
 }

@@ -7,7 +7,8 @@ ghost use Rattle.jsonb_doc.specs.Payload.{Form};
 ghost use Rattle.jsonb_doc.specs.Tree.{Tree};
 ghost use Rattle.jsonb_doc.specs.View.{extension_view, number_parts};
 ghost use Rattle.jsonb_c.specs.Answers.{WritesResult, OfDocument, Shows};
-ghost use Rattle.jsonb_c.specs.Kinds.{extension_kind, kind_number, number_kind, tree_kind};
+ghost use Rattle.jsonb_c.specs.Kinds.{IsTypeOf};
+ghost use Rattle.jsonb_c.specs.Private.Numbers.{extension_kind, kind_number, number_kind, tree_kind};
 
 use crate::deliver::store;
 use jsonb::{Error, ExtensionValue, Item, Number, root_item};
@@ -66,15 +67,15 @@ impl Kind {
 #[unsafe(no_mangle)]
 pub extern "C" fn jdoc_type(document: &[u8], kind: &mut u8) -> u32
     ensures { WritesResult
-        (OfDocument document.now (λ form t answer. IsOkAnd answer (λ number. number ≡ kind_number (tree_kind t))))
-        IsDecodingError (λ answer. Shows answer kind.old kind.new result) }
+        (OfDocument document.now (λ form t answer. IsOkAnd answer (IsTypeOf t)))
+        IsDecodingError (λ answer. Shows (λ n. n) answer kind.old kind.new result) }
 {
     store(kind_of(document), kind)
 }
 
 fn kind_of(document: &[u8]) -> Result<u8, Error>
     ensures kind { OfDocument document.now
-        (λ form t answer. IsOkAnd answer (λ number. number ≡ kind_number (tree_kind t))) result }
+        (λ form t answer. IsOkAnd answer (IsTypeOf t)) result }
     ensures errors { IfErr result IsDecodingError }
 {
     let item = root_item(document)?;

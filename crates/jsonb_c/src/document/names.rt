@@ -4,11 +4,13 @@ ghost use Rattle.std.specs.Prelude.{◌≡◌, ◌⊎◌, ℕ, List, Err, IfErr,
 ghost use Rattle.jsonb_doc.specs.Answer.{IsDecodingError, IsOutOfMemory, ◌or◌};
 ghost use Rattle.jsonb_doc.specs.declared.error.Error.TheVariants.{InvalidObject, OutOfMemory, TooLarge};
 ghost use Rattle.jsonb_raw.specs.Exists.{has_all, has_any};
-ghost use Rattle.jsonb_c.specs.Answers.{OfDocument};
+ghost use Rattle.jsonb_c.specs.Answers.{DeliversMade, DeliversNothing, OfDocument, Shows, With, WritesResult};
+ghost use Rattle.jsonb_c.specs.Status.{code};
+ghost use Rattle.jsonb_raw.specs.Casts.{bool_number};
 ghost use Rattle.jsonb_c.specs.Calls.{MakesOr};
 ghost use Rattle.jsonb_c.specs.Columns.{rows};
-ghost use Rattle.jsonb_c.specs.Names.{DeliversPairs, ShowsKeys, dropped_names, names_of, picked_names};
-ghost use Rattle.jsonb_c.specs.Private.NameColumns.{HasNames, IsNameOf, has_keys, chosen_pairs};
+ghost use Rattle.jsonb_c.specs.Names.{dropped_names, names_of, picked_names};
+ghost use Rattle.jsonb_c.specs.Private.NameColumns.{DeliversPairs, HasNames, IsNameOf, ShowsKeys, chosen_pairs, has_keys};
 ghost use Rattle.jsonb_c.specs.declared.status.Status.TheVariants.{Refused};
 
 use crate::column::Column;
@@ -28,7 +30,10 @@ pub extern "C" fn jdoc_exists_all_keys(
     offsets: &[u64],
     truth: &mut u8,
 ) -> u32
-    ensures { ShowsKeys has_all document.now (names_of (rows names.now offsets.now)) truth.old truth.new result }
+    ensures { With (names_of (rows names.now offsets.now)) (λ wanted. WritesResult
+        (OfDocument document.now (λ form t said. IsOkAnd said (λ b. b ≡ has_all wanted t))) IsDecodingError
+        (λ answer. Shows bool_number answer truth.old truth.new result))
+        (λ cause. (truth.new ≡ truth.old) × (result ≡ code cause)) }
 {
     store_exists_keys(alloc, document, names, offsets, Quantity::All, truth)
 }
@@ -43,7 +48,10 @@ pub extern "C" fn jdoc_exists_any_keys(
     offsets: &[u64],
     truth: &mut u8,
 ) -> u32
-    ensures { ShowsKeys has_any document.now (names_of (rows names.now offsets.now)) truth.old truth.new result }
+    ensures { With (names_of (rows names.now offsets.now)) (λ wanted. WritesResult
+        (OfDocument document.now (λ form t said. IsOkAnd said (λ b. b ≡ has_any wanted t))) IsDecodingError
+        (λ answer. Shows bool_number answer truth.old truth.new result))
+        (λ cause. (truth.new ≡ truth.old) × (result ≡ code cause)) }
 {
     store_exists_keys(alloc, document, names, offsets, Quantity::Any, truth)
 }
@@ -97,8 +105,11 @@ pub extern "C" fn jdoc_object_pick(
     out: &mut [u8],
     out_len: &mut usize,
 ) -> u32
-    ensures { DeliversPairs picked_names document.now (names_of (rows names.now offsets.now))
-        out.old out.new out_len.new result }
+    ensures { With (names_of (rows names.now offsets.now)) (λ wanted. WritesResult
+        (OfDocument document.now (λ form t. MakesOr InvalidObject form (picked_names wanted t)))
+        (IsDecodingError or OutOfMemory or TooLarge or InvalidObject)
+        (λ answer. DeliversMade answer out.old out.new out_len.new result))
+        (λ cause. DeliversNothing cause out.old out.new out_len.new result) }
 {
     deliver_pairs(alloc, document, names, offsets, Chosen::Named, out, out_len)
 }
@@ -113,8 +124,11 @@ pub extern "C" fn jdoc_object_delete(
     out: &mut [u8],
     out_len: &mut usize,
 ) -> u32
-    ensures { DeliversPairs dropped_names document.now (names_of (rows names.now offsets.now))
-        out.old out.new out_len.new result }
+    ensures { With (names_of (rows names.now offsets.now)) (λ wanted. WritesResult
+        (OfDocument document.now (λ form t. MakesOr InvalidObject form (dropped_names wanted t)))
+        (IsDecodingError or OutOfMemory or TooLarge or InvalidObject)
+        (λ answer. DeliversMade answer out.old out.new out_len.new result))
+        (λ cause. DeliversNothing cause out.old out.new out_len.new result) }
 {
     deliver_pairs(alloc, document, names, offsets, Chosen::Rest, out, out_len)
 }

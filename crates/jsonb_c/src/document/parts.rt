@@ -1,14 +1,17 @@
 //! Values in a document.
 
-ghost use Rattle.std.specs.Prelude.{IfErr};
+ghost use Rattle.std.specs.Prelude.{◌≡◌, ◌⊎◌, IfErr, None, ok_or};
 ghost use Rattle.std.specs.Str.{IsUtf8};
 ghost use Rattle.jsonb_doc.specs.Answer.{IsDecodingError, ◌or◌};
 ghost use Rattle.jsonb_doc.specs.declared.error.Error.TheVariants.{InvalidKeyPath, OutOfMemory, TooLarge};
 ghost use Rattle.jsonb_raw.specs.Children.{element_at, named_child};
+ghost use Rattle.jsonb_raw.specs.Documents.{MakesOption};
+ghost use Rattle.jsonb_raw.specs.Places.{tree_at_steps};
 ghost use Rattle.jsonb.specs.KeyPathGrammar.{key_path};
-ghost use Rattle.jsonb_c.specs.Answers.{DeliversNothing, WritesFound, OfDocument};
-ghost use Rattle.jsonb_c.specs.Calls.{Finds, Gets};
-ghost use Rattle.jsonb_c.specs.Status.{not_utf8};
+ghost use Rattle.jsonb_c.specs.Answers.{Delivers, DeliversNothing, OfDocument, With, WritesResult};
+ghost use Rattle.jsonb_c.specs.Calls.{Finds, FindsPart};
+ghost use Rattle.jsonb_c.specs.Private.Boxes.{ByPath};
+ghost use Rattle.jsonb_c.specs.declared.status.Status.TheVariants.{NotUtf8, Refused};
 
 use crate::deliver::{deliver, deliver_nothing};
 use crate::status::Status;
@@ -24,8 +27,9 @@ pub extern "C" fn jdoc_get_by_index(
     out: &mut [u8],
     out_len: &mut usize,
 ) -> u32
-    ensures { WritesFound (OfDocument document.now (λ form t. Finds form (element_at index t)))
-        (IsDecodingError or OutOfMemory or TooLarge) out.old out.new out_len.new result }
+    ensures { WritesResult (OfDocument document.now (λ form t. Finds form (element_at index t)))
+        (IsDecodingError or OutOfMemory or TooLarge)
+        (λ answer. Delivers answer out.old out.new out_len.new result) }
 {
     let document = RawJsonb::new(document);
     deliver(document.get_by_index(alloc, index), out, out_len)
@@ -43,9 +47,10 @@ pub extern "C" fn jdoc_get_by_name(
     out_len: &mut usize,
 ) -> u32
     ensures named { IsUtf8 name.now
-        → WritesFound (OfDocument document.now (λ form t. Finds form (named_child name.now ignore_case t)))
-        (IsDecodingError or OutOfMemory or TooLarge) out.old out.new out_len.new result }
-    ensures other { ¬ (IsUtf8 name.now) → DeliversNothing not_utf8 out.old out.new out_len.new result }
+        → WritesResult (OfDocument document.now (λ form t. Finds form (named_child name.now ignore_case t)))
+        (IsDecodingError or OutOfMemory or TooLarge)
+        (λ answer. Delivers answer out.old out.new out_len.new result) }
+    ensures other { ¬ (IsUtf8 name.now) → DeliversNothing NotUtf8 out.old out.new out_len.new result }
 {
     let Ok(name) = str::from_utf8(name) else {
         return deliver_nothing(Status::NotUtf8, out_len);
@@ -63,15 +68,18 @@ pub extern "C" fn jdoc_get_by_keypath(
     out: &mut [u8],
     out_len: &mut usize,
 ) -> u32
-    ensures { WritesFound (Gets (key_path path.now) document.now)
-        (IsDecodingError or OutOfMemory or TooLarge or InvalidKeyPath) out.old out.new out_len.new result }
+    ensures { With (ok_or (key_path path.now) (Refused InvalidKeyPath))
+        (λ steps. FindsPart steps document.now (λ answer. Delivers answer out.old out.new out_len.new result))
+        (λ cause. DeliversNothing cause out.old out.new out_len.new result) }
 {
     deliver(get_by_keypath(alloc, document, path), out, out_len)
 }
 
 fn get_by_keypath(alloc: Global, document: &[u8], path: &[u8]) -> Result<Option<OwnedJsonb>, Error>
-    ensures part { Gets (key_path path.now) document.now result }
-    ensures errors { IfErr result (IsDecodingError or OutOfMemory or TooLarge or InvalidKeyPath) }
+    ensures part { ByPath InvalidKeyPath (key_path path.now)
+        (λ steps. OfDocument document.now (λ form t. MakesOption form (tree_at_steps steps t))) result }
+    ensures errors { IfErr result (λ e. (IsDecodingError or OutOfMemory or TooLarge) e
+        ⊎ ((e ≡ InvalidKeyPath) × (key_path path.now ≡ None))) }
 {
     let steps = parse_key_paths(alloc, path)?;
     RawJsonb::new(document).get_by_keypath(alloc, steps.paths.iter())

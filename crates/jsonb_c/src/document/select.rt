@@ -1,16 +1,20 @@
 //! The items that a JSON path selects of a document, and its result as a predicate.
 
-ghost use Rattle.std.specs.Prelude.{◌≡◌, IfErr};
+ghost use Rattle.std.specs.Prelude.{◌≡◌, IfErr, ok_or};
 ghost use Rattle.jsonb.specs.PathGrammar.{json_path};
 ghost use Rattle.jsonb.specs.PathViews.{path_view};
 ghost use Rattle.jsonb.specs.SelectionErrors.{IsDocumentError, IsSelectionError};
 ghost use Rattle.jsonb.specs.SelectorAnswers.{first_item, root_bytes, single_or_array, IsArrayOf, IsFound, IsPicked, IsTruthOf, ByMeanings};
 ghost use Rattle.jsonb.specs.SelectorAnswers.{mode_of as selector_mode};
-ghost use Rattle.jsonb_c.specs.Answers.{WritesBool, WritesBytes, WritesFound, WritesTruth};
+ghost use Rattle.jsonb_c.specs.Answers.{Delivers, DeliversNothing, Shows, With, truth_byte};
 ghost use Rattle.jsonb_c.specs.Private.Views.{pick_of};
-ghost use Rattle.jsonb_c.specs.Calls.{ByMeaning, PicksItem, Says, mode_of};
+ghost use Rattle.jsonb_c.specs.Calls.{SelectsItem, TellsExistence, TellsTruth, mode_of, one_array};
+ghost use Rattle.jsonb_c.specs.Status.{code};
+ghost use Rattle.jsonb_raw.specs.Casts.{bool_number};
+ghost use Rattle.jsonb_c.specs.declared.status.Status.TheVariants.{NotJsonPath};
 
-use crate::deliver::{deliver, deliver_made, store_bool, store_truth};
+use crate::deliver::{deliver, deliver_nothing, store_bool, store_truth};
+use crate::status::Status;
 use jsonb::{Error, JsonPath, OwnedJsonb, RawJsonb, Selector, parse_json_path};
 use std::alloc::Global;
 
@@ -24,11 +28,12 @@ pub extern "C" fn jdoc_select_value(
     out: &mut [u8],
     out_len: &mut usize,
 ) -> u32
-    ensures { WritesFound (PicksItem single_or_array (mode_of strict) document.now (json_path path.now))
-        (IsDocumentError (mode_of strict)) out.old out.new out_len.new result }
+    ensures { With (ok_or (json_path path.now) NotJsonPath)
+        (λ steps. SelectsItem (mode_of strict) single_or_array steps document.now
+        (λ answer. Delivers answer out.old out.new out_len.new result))
+        (λ cause. DeliversNothing cause out.old out.new out_len.new result) }
 {
-    let item = select_item(alloc, document, path, strict, Pick::Value);
-    deliver(item, out, out_len)
+    select(alloc, document, path, strict, Pick::Value, out, out_len)
 }
 
 /// Returns the first item that a JSON path selects.
@@ -41,11 +46,30 @@ pub extern "C" fn jdoc_select_first(
     out: &mut [u8],
     out_len: &mut usize,
 ) -> u32
-    ensures { WritesFound (PicksItem first_item (mode_of strict) document.now (json_path path.now))
-        (IsDocumentError (mode_of strict)) out.old out.new out_len.new result }
+    ensures { With (ok_or (json_path path.now) NotJsonPath)
+        (λ steps. SelectsItem (mode_of strict) first_item steps document.now
+        (λ answer. Delivers answer out.old out.new out_len.new result))
+        (λ cause. DeliversNothing cause out.old out.new out_len.new result) }
 {
-    let item = select_item(alloc, document, path, strict, Pick::First);
-    deliver(item, out, out_len)
+    select(alloc, document, path, strict, Pick::First, out, out_len)
+}
+
+/// Returns an array of the items that a JSON path selects.
+#[unsafe(no_mangle)]
+pub extern "C" fn jdoc_select_array(
+    alloc: Global,
+    document: &[u8],
+    path: &[u8],
+    strict: bool,
+    out: &mut [u8],
+    out_len: &mut usize,
+) -> u32
+    ensures { With (ok_or (json_path path.now) NotJsonPath)
+        (λ steps. SelectsItem (mode_of strict) one_array steps document.now
+        (λ answer. Delivers answer out.old out.new out_len.new result))
+        (λ cause. DeliversNothing cause out.old out.new out_len.new result) }
+{
+    select(alloc, document, path, strict, Pick::Array, out, out_len)
 }
 
 /// The document that is made of the items that a path selects.
@@ -59,48 +83,28 @@ pub(crate) enum Pick {
     Array,
 }
 
-fn select_item(
+/// Parses a JSON path, and stores one document of what it selects.
+fn select(
     alloc: Global,
     document: &[u8],
     path: &[u8],
     strict: bool,
     pick: Pick,
-) -> Result<Option<OwnedJsonb>, Error>
-    ensures item { PicksItem (pick_of pick) (mode_of strict) document.now (json_path path.now) result }
-    ensures errors { IfErr result (IsDocumentError (mode_of strict)) }
-{
-    let steps = parse_json_path(alloc, path)?;
-    pick_by_path(alloc, document, &steps, strict, pick)
-}
-
-/// Returns an array of the items that a JSON path selects.
-#[unsafe(no_mangle)]
-pub extern "C" fn jdoc_select_array(
-    alloc: Global,
-    document: &[u8],
-    path: &[u8],
-    strict: bool,
     out: &mut [u8],
     out_len: &mut usize,
 ) -> u32
-    ensures { WritesBytes
-        (ByMeaning (mode_of strict) document.now (json_path path.now) IsArrayOf)
-        (IsDocumentError (mode_of strict)) out.old out.new out_len.new result }
+    ensures { With (ok_or (json_path path.now) NotJsonPath)
+        (λ steps. SelectsItem (mode_of strict) (pick_of pick) steps document.now
+        (λ answer. Delivers answer out.old out.new out_len.new result))
+        (λ cause. DeliversNothing cause out.old out.new out_len.new result) }
 {
-    deliver_made(select_array(alloc, document, path, strict), out, out_len)
-}
-
-fn select_array(
-    alloc: Global,
-    document: &[u8],
-    path: &[u8],
-    strict: bool,
-) -> Result<OwnedJsonb, Error>
-    ensures array { ByMeaning (mode_of strict) document.now (json_path path.now) IsArrayOf result }
-    ensures errors { IfErr result (IsDocumentError (mode_of strict)) }
-{
-    let steps = parse_json_path(alloc, path)?;
-    array_by_path(alloc, document, &steps, strict)
+    match parse_json_path(alloc, path) {
+        Ok(steps) => {
+            let item = pick_by_path(alloc, document, &steps, strict, pick);
+            deliver(item, out, out_len)
+        }
+        Err(error) => deliver_nothing(Status::of_text(error), out_len),
+    }
 }
 
 /// Returns the result of a JSON path as a predicate: 0 for false, 1 for true, 2 for unknown.
@@ -112,23 +116,41 @@ pub extern "C" fn jdoc_match(
     strict: bool,
     truth: &mut u8,
 ) -> u32
-    ensures { WritesTruth (Says (mode_of strict) (json_path path.now) document.now)
-        (IsSelectionError (mode_of strict)) truth.old truth.new result }
+    ensures { With (ok_or (json_path path.now) NotJsonPath)
+        (λ steps. TellsTruth (mode_of strict) steps document.now
+        (λ answer. Shows truth_byte answer truth.old truth.new result))
+        (λ cause. (truth.new ≡ truth.old) × (result ≡ code cause)) }
 {
-    store_truth(predicate_match(alloc, document, path, strict), truth)
+    match parse_json_path(alloc, path) {
+        Ok(steps) => {
+            let said = match_by_path(alloc, document, &steps, strict);
+            store_truth(said, truth)
+        }
+        Err(error) => Status::of_text(error).to_u32(),
+    }
 }
 
-fn predicate_match(
+/// Returns whether a JSON path selects an item.
+#[unsafe(no_mangle)]
+pub extern "C" fn jdoc_exists(
     alloc: Global,
     document: &[u8],
     path: &[u8],
     strict: bool,
-) -> Result<Option<bool>, Error>
-    ensures truth { Says (mode_of strict) (json_path path.now) document.now result }
-    ensures errors { IfErr result (IsSelectionError (mode_of strict)) }
+    truth: &mut u8,
+) -> u32
+    ensures { With (ok_or (json_path path.now) NotJsonPath)
+        (λ steps. TellsExistence (mode_of strict) steps document.now
+        (λ answer. Shows bool_number answer truth.old truth.new result))
+        (λ cause. (truth.new ≡ truth.old) × (result ≡ code cause)) }
 {
-    let steps = parse_json_path(alloc, path)?;
-    match_by_path(alloc, document, &steps, strict)
+    match parse_json_path(alloc, path) {
+        Ok(steps) => {
+            let exists = exists_by_path(alloc, document, &steps, strict);
+            store_bool(exists, truth)
+        }
+        Err(error) => Status::of_text(error).to_u32(),
+    }
 }
 
 /// Creates a selector in this mode.
@@ -142,29 +164,6 @@ pub(crate) fn selector(alloc: Global, document: &[u8], strict: bool) -> Selector
     } else {
         Selector::new(alloc, document)
     }
-}
-
-/// Returns whether a JSON path selects an item.
-#[unsafe(no_mangle)]
-pub extern "C" fn jdoc_exists(
-    alloc: Global,
-    document: &[u8],
-    path: &[u8],
-    strict: bool,
-    truth: &mut u8,
-) -> u32
-    ensures { WritesBool (ByMeaning (mode_of strict) document.now (json_path path.now) IsFound)
-        (IsSelectionError (mode_of strict)) truth.old truth.new result }
-{
-    store_bool(path_exists(alloc, document, path, strict), truth)
-}
-
-fn path_exists(alloc: Global, document: &[u8], path: &[u8], strict: bool) -> Result<bool, Error>
-    ensures exists { ByMeaning (mode_of strict) document.now (json_path path.now) IsFound result }
-    ensures errors { IfErr result (IsSelectionError (mode_of strict)) }
-{
-    let steps = parse_json_path(alloc, path)?;
-    exists_by_path(alloc, document, &steps, strict)
 }
 
 /// Returns the document of the items that a parsed path selects.

@@ -5,9 +5,10 @@ ghost use Rattle.jsonb_doc.specs.Answer.{IsDecodingError, ◌or◌};
 ghost use Rattle.jsonb_doc.specs.declared.error.Error.TheVariants.{OutOfMemory, TooLarge};
 ghost use Rattle.jsonb_doc.specs.Tree.{array, trees_of};
 ghost use Rattle.jsonb_raw.specs.Arrays.{as_elements};
+ghost use Rattle.jsonb_raw.specs.Casts.{bool_number};
 ghost use Rattle.jsonb_raw.specs.Documents.{Makes};
 ghost use Rattle.jsonb_raw.specs.Sets.{difference_of, distinct, intersection_of, overlap};
-ghost use Rattle.jsonb_c.specs.Answers.{WritesBool, WritesBytes, OfBoth, OfDocument};
+ghost use Rattle.jsonb_c.specs.Answers.{WritesResult, OfBoth, OfDocument, Shows, DeliversMade};
 
 use crate::deliver::{deliver_made, store_bool};
 use jsonb::RawJsonb;
@@ -21,9 +22,10 @@ pub extern "C" fn jdoc_array_distinct(
     out: &mut [u8],
     out_len: &mut usize,
 ) -> u32
-    ensures { WritesBytes
+    ensures { WritesResult
         (OfDocument document.now (λ form t. Makes form (array (trees_of (distinct (as_elements t))))))
-        (IsDecodingError or OutOfMemory or TooLarge) out.old out.new out_len.new result }
+        (IsDecodingError or OutOfMemory or TooLarge)
+        (λ answer. DeliversMade answer out.old out.new out_len.new result) }
 {
     deliver_made(RawJsonb::new(document).array_distinct(alloc), out, out_len)
 }
@@ -37,9 +39,10 @@ pub extern "C" fn jdoc_array_intersection(
     out: &mut [u8],
     out_len: &mut usize,
 ) -> u32
-    ensures { WritesBytes (OfBoth document.now other.now
+    ensures { WritesResult (OfBoth document.now other.now
         (λ form t u. Makes form (array (trees_of (intersection_of (as_elements t) (as_elements u))))))
-        (IsDecodingError or OutOfMemory or TooLarge) out.old out.new out_len.new result }
+        (IsDecodingError or OutOfMemory or TooLarge)
+        (λ answer. DeliversMade answer out.old out.new out_len.new result) }
 {
     let made = RawJsonb::new(document).array_intersection(alloc, &RawJsonb::new(other));
     deliver_made(made, out, out_len)
@@ -54,9 +57,10 @@ pub extern "C" fn jdoc_array_except(
     out: &mut [u8],
     out_len: &mut usize,
 ) -> u32
-    ensures { WritesBytes (OfBoth document.now other.now
+    ensures { WritesResult (OfBoth document.now other.now
         (λ form t u. Makes form (array (trees_of (difference_of (as_elements t) (as_elements u))))))
-        (IsDecodingError or OutOfMemory or TooLarge) out.old out.new out_len.new result }
+        (IsDecodingError or OutOfMemory or TooLarge)
+        (λ answer. DeliversMade answer out.old out.new out_len.new result) }
 {
     let made = RawJsonb::new(document).array_except(alloc, &RawJsonb::new(other));
     deliver_made(made, out, out_len)
@@ -65,9 +69,9 @@ pub extern "C" fn jdoc_array_except(
 /// Returns whether an element equals one of another document.
 #[unsafe(no_mangle)]
 pub extern "C" fn jdoc_array_overlap(document: &[u8], other: &[u8], truth: &mut u8) -> u32
-    ensures { WritesBool (OfBoth document.now other.now
+    ensures { WritesResult (OfBoth document.now other.now
         (λ form t u said. IsOkAnd said (λ b. b ≡ overlap (as_elements t) (as_elements u))))
-        IsDecodingError truth.old truth.new result }
+        IsDecodingError (λ answer. Shows bool_number answer truth.old truth.new result) }
 {
     let document = RawJsonb::new(document);
     store_bool(document.array_overlap(&RawJsonb::new(other)), truth)

@@ -1,4 +1,5 @@
-//! The struct in which a C program keeps a prepared path: `struct jdoc_path` and `struct jdoc_keypath` of the header.
+//! The struct in which a C program keeps a prepared path: `struct jdoc_path` and `struct jdoc_keypath` of the header,
+//! and `struct jdoc_items` and `struct jdoc_builder`, which keep items and a builder.
 
 ghost use Rattle.std.specs.Prelude.{Option};
 ghost use Rattle.std.specs.Coded.{coded_option};

@@ -4,14 +4,12 @@
 //! struct's fields, and only their proofs, with those of `LooseBox`, cite inner modules of the toolchain.
 
 ghost use Rattle.std.specs.Prelude.{◌≡◌, Some, None};
-ghost use Rattle.jsonb_c.specs.Prepared.{Keeps};
-ghost use Rattle.jsonb_c.specs.Private.Boxes.{boxed_path, loose_path};
+ghost use Rattle.jsonb_c.specs.Private.Boxes.{Keeps, boxed_path, loose_path};
 
 use super::handle::PathHandle;
 use super::loose::LooseBox;
 use super::path::PreparedPath;
 use crate::status::Status;
-use jsonb::Error;
 use std::alloc::Global;
 use std::{mem, ptr};
 
@@ -43,7 +41,7 @@ impl PathHandle {
     }
 
     /// Returns a struct that keeps no path.
-    fn none() -> PathHandle
+    pub(crate) fn none() -> PathHandle
         ensures { result.value ≡ None }
     {
         PathHandle {
@@ -73,7 +71,7 @@ impl PathHandle {
     }
 
     /// Keeps a parsed path, or none if parsing failed, in place of the one that was kept. Returns the status.
-    pub(crate) fn keep(&mut self, alloc: Global, parsed: Result<Box<PreparedPath>, Error>) -> u32
+    pub(crate) fn keep(&mut self, alloc: Global, parsed: Result<Box<PreparedPath>, Status>) -> u32
         ensures { Keeps parsed self.new.value result }
     {
         drop(self.take(alloc));
@@ -82,7 +80,7 @@ impl PathHandle {
                 self.put(path);
                 Status::Answered.to_u32()
             }
-            Err(error) => Status::Refused(error).to_u32(),
+            Err(cause) => cause.to_u32(),
         }
     }
 

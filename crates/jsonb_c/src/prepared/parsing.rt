@@ -7,14 +7,28 @@ ghost use Rattle.jsonb.specs.KeyPathGrammar.{key_path};
 ghost use Rattle.jsonb.specs.KeyPathViews.{key_view, key_paths_view};
 ghost use Rattle.jsonb.specs.PathGrammar.{json_path};
 ghost use Rattle.jsonb_c.specs.Prepared.{json_steps, key_steps};
+ghost use Rattle.jsonb_c.specs.Private.Boxes.{IsTextRefusal};
+ghost use Rattle.jsonb_c.specs.declared.status.Status.TheVariants.{NotJsonPath, Refused};
 
 use super::path::PreparedPath;
+use crate::status::Status;
 use jsonb::{Error, KeyPath, KeyPaths, OwnedKeyPath, parse_json_path, parse_key_paths};
 use std::alloc::Global;
 use std::borrow::CowStr;
 
-/// Parses a JSON path.
-pub(crate) fn parse_json(alloc: Global, text: &[u8]) -> Result<Box<PreparedPath>, Error>
+/// Parses a JSON path. Fails with the status of the text.
+pub(crate) fn parse_json(alloc: Global, text: &[u8]) -> Result<Box<PreparedPath>, Status>
+    ensures { MatchResult result
+        (λ made. IsSomeAnd (json_steps (Some made.value)) (λ steps. json_path text.now ≡ Some steps))
+        (IsTextRefusal NotJsonPath (json_path text.now)) }
+{
+    match boxed_json(alloc, text) {
+        Ok(path) => Ok(path),
+        Err(error) => Err(Status::of_text(error)),
+    }
+}
+
+fn boxed_json(alloc: Global, text: &[u8]) -> Result<Box<PreparedPath>, Error>
     ensures { MatchResult result
         (λ made. IsSomeAnd (json_steps (Some made.value)) (λ steps. json_path text.now ≡ Some steps))
         (IsOutOfMemory or InvalidJsonPath when (json_path text.now ≡ None)) }
@@ -24,8 +38,19 @@ pub(crate) fn parse_json(alloc: Global, text: &[u8]) -> Result<Box<PreparedPath>
     Ok(Box::new(alloc, PreparedPath::Json(copy))?)
 }
 
-/// Parses a key path.
-pub(crate) fn parse_keys(alloc: Global, text: &[u8]) -> Result<Box<PreparedPath>, Error>
+/// Parses a key path. Fails with the status of the text.
+pub(crate) fn parse_keys(alloc: Global, text: &[u8]) -> Result<Box<PreparedPath>, Status>
+    ensures { MatchResult result
+        (λ made. IsSomeAnd (key_steps (Some made.value)) (λ steps. key_path text.now ≡ Some steps))
+        (IsTextRefusal (Refused InvalidKeyPath) (key_path text.now)) }
+{
+    match boxed_keys(alloc, text) {
+        Ok(path) => Ok(path),
+        Err(error) => Err(Status::of_text(error)),
+    }
+}
+
+fn boxed_keys(alloc: Global, text: &[u8]) -> Result<Box<PreparedPath>, Error>
     ensures { MatchResult result
         (λ made. IsSomeAnd (key_steps (Some made.value)) (λ steps. key_path text.now ≡ Some steps))
         (IsOutOfMemory or InvalidKeyPath when (key_path text.now ≡ None)) }

@@ -1,5 +1,5 @@
 use Rattle.jsonb_c.proofs.MakingLemmas.{encodes, errors_answer}
-use Rattle.jsonb_c.specs.Views.{vec_answer}
+use Rattle.jsonb_c.specs.Private.Views.{vec_answer}
 use Rattle.jsonb_c.proofs.build.deliver_item.Goals as goal
 
 pub returns : goal.returns

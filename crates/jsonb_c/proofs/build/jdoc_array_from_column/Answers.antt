@@ -1,5 +1,5 @@
 use Rattle.jsonb_c.proofs.MakingLemmas.{errors_answer}
-use Rattle.jsonb_c.specs.Views.{vec_answer}
+use Rattle.jsonb_c.specs.Private.Views.{vec_answer}
 use Rattle.jsonb_c.proofs.build.jdoc_array_from_column.Goals as goal
 
 pub returns-then-is_placed-clause-array : goal.returns-then-is_placed-clause-array

@@ -1,6 +1,9 @@
-use Rattle.std.proofs.Common.{◌∙◌, ap, inl, inr, length, refl, Ok, Err}
-use Rattle.jsonb_c.specs.Leaves.{HasRoom, documents_of, paths_of}
-use Rattle.jsonb_c.proofs.LeafRows.{no_room}
+use Rattle.std.proofs.Common.{◌∙◌, ap, inl, inr, false, length, refl, sym, Ok, Err}
+use Rattle.std.proofs.lemmas.List.{length-map}
+use Rattle.jsonb_raw.specs.Leaves.{leaves}
+use Rattle.jsonb_c.specs.Leaves.{HasRoom}
+use Rattle.jsonb_c.specs.Private.LeafColumns.{LeafRow, documents_of, paths_of}
+use Rattle.jsonb_c.proofs.LeafRows.{columns_of, no_room}
 use Rattle.jsonb_c.proofs.leaves.jdoc_leaves.Goals as goal
 use Rattle.jsonb_c.proofs.leaves.jdoc_leaves.Goals.{then-not-has_room-via-then-not-has_room, then-not-has_room-via-else-not-has_room+then-not-has_room-2}
 
@@ -16,11 +19,11 @@ returns-then-not-has_room c =
           no_room (documents_of found) _ _ c.args.documents.now c.args.positions.now _
           w.has_room-else-not-has_room.ensures w.if-not-has_room-2.true has.1 documents
     ] in (
-      Ok found,
-      rows,
+      Ok (paths_of found, documents_of found),
+      λ form t d. columns_of form (leaves false t) found (rows form t d),
       tt,
       (
-        (c.sizes.ensures.rows found has, c.sizes.ensures.path_bytes ∙ ap length has.0.0, c.sizes.ensures.document_bytes ∙ ap length has.1.0),
+        (c.sizes.ensures.rows found has ∙ sym (length-map found (λ (row : LeafRow). row.0)), c.sizes.ensures.rows found has ∙ sym (length-map found (λ (row : LeafRow). row.1)), c.sizes.ensures.path_bytes ∙ ap length has.0.0, c.sizes.ensures.document_bytes ∙ ap length has.1.0),
         inr (c.to_u32.ensures, none, refl, refl),
       ),
     )
@@ -28,11 +31,11 @@ returns-then-not-has_room c =
 pub returns-else-not-has_room-2 : goal.returns-else-not-has_room-2
 returns-else-not-has_room-2 c =
     let (found, has, rows) = c.in-Ok.ensures.leaves in (
-      Ok found,
-      rows,
+      Ok (paths_of found, documents_of found),
+      λ form t d. columns_of form (leaves false t) found (rows form t d),
       tt,
       (
-        (c.sizes.ensures.rows found has, c.sizes.ensures.path_bytes ∙ ap length has.0.0, c.sizes.ensures.document_bytes ∙ ap length has.1.0),
+        (c.sizes.ensures.rows found has ∙ sym (length-map found (λ (row : LeafRow). row.0)), c.sizes.ensures.rows found has ∙ sym (length-map found (λ (row : LeafRow). row.1)), c.sizes.ensures.path_bytes ∙ ap length has.0.0, c.sizes.ensures.document_bytes ∙ ap length has.1.0),
         inl (
           c.to_u32-in-Ok.ensures,
           (rw has.0.0 at c.write.ensures.bytes, rw has.0.1 at c.write.ensures.positions),
@@ -42,4 +45,4 @@ returns-else-not-has_room-2 c =
     )
 
 pub returns-in-Err : goal.returns-in-Err
-returns-in-Err c = (Err c.in-Err.error, c.in-Err.ensures.leaves, c.in-Err.ensures.errors, (c.to_u32-in-Err.ensures, (refl, refl, refl), refl, refl))
+returns-in-Err c = (Err c.in-Err.error, c.in-Err.ensures.leaves, c.in-Err.ensures.errors, (c.to_u32-in-Err.ensures, refl, refl, refl, refl, refl))

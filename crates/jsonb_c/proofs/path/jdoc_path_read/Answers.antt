@@ -1,7 +1,7 @@
-use Rattle.jsonb_doc.specs.declared.error.Error.TheVariants.{InvalidJsonPath}
+use Rattle.jsonb_c.specs.declared.status.Status.TheVariants.{NotJsonPath}
 use Rattle.jsonb_c.specs.Prepared.{json_steps}
 use Rattle.jsonb_c.proofs.PreparedLemmas.{prepares}
 use Rattle.jsonb_c.proofs.path.jdoc_path_read.Goals as goal
 
 pub returns : goal.returns
-returns c = prepares InvalidJsonPath json_steps _ _ _ _ c.parse_json.ensures c.keep.ensures
+returns c = prepares NotJsonPath json_steps _ _ _ _ c.parse_json.ensures c.keep.ensures

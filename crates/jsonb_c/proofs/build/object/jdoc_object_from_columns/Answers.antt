@@ -2,7 +2,7 @@ use Rattle.std.proofs.Common.{map, arith}
 use Rattle.std.proofs.lemmas.List.{length-map}
 use Rattle.jsonb_c.proofs.MakingLemmas.{errors_answer}
 use Rattle.jsonb_c.proofs.Names.{answered, names_count}
-use Rattle.jsonb_c.specs.Views.{vec_answer}
+use Rattle.jsonb_c.specs.Private.Views.{vec_answer}
 use Rattle.jsonb_c.proofs.build.object.jdoc_object_from_columns.Goals as goal
 
 pub object_of-requires : goal.object_of-requires

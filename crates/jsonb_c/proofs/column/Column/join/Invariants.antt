@@ -1,6 +1,7 @@
-use Rattle.jsonb_c.specs.Columns.{Joined}
+use Rattle.jsonb_c.specs.Columns.{DoneRows, AreJoined}
 use Rattle.jsonb_c.proofs.column.Column.join.Given as goal
 
 abbrev pub invariant-loop-index : goal.invariant-loop-index
 invariant-loop-index g l =
-    Joined (g.C.RowWriter.IsAnswerTo l.call) l.self (l.fn.out, l.fn.positions, l.fn.statuses) (l.out, l.positions, l.statuses) l.index l.at
+    DoneRows (g.C.RowWriter.IsAnswerTo l.call) l.self l.index
+    (λ cells. AreJoined cells (l.fn.out, l.fn.positions, l.fn.statuses) (l.out, l.positions, l.statuses) l.at)

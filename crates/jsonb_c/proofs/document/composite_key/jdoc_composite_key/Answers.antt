@@ -1,6 +1,6 @@
 use Rattle.jsonb_doc.specs.Answer.{IsDecodingError, ◌or◌}
 use Rattle.jsonb_doc.specs.declared.error.Error.TheVariants.{OutOfMemory, TooDeep}
-use Rattle.jsonb_c.specs.Views.{vec_answer}
+use Rattle.jsonb_c.specs.Private.Views.{vec_answer}
 use Rattle.jsonb_c.proofs.MakingLemmas.{errors_answer}
 use Rattle.jsonb_c.proofs.document.composite_key.jdoc_composite_key.Goals as goal
 

@@ -1,5 +1,5 @@
 use Rattle.std.proofs.Common.{sym, ap, ◌∙◌}
-use Rattle.jsonb_c.specs.Kinds.{number_kind, tree_kind}
+use Rattle.jsonb_c.specs.Private.Numbers.{number_kind, tree_kind}
 use Rattle.jsonb_c.proofs.document.kind.item_kind.Goals as goal
 
 pub returns-in-Number : goal.returns-in-Number

@@ -1,6 +1,6 @@
 use Rattle.std.proofs.Common.{◌≡◌, ◌++◌, ◌∷◌, [], ◌∙◌}
 use Rattle.jsonb_c.specs.Private.LeafColumns.{HasRows, leaf_row}
-use Rattle.jsonb_c.specs.Leaves.{LeafRow, documents_of, paths_of}
+use Rattle.jsonb_c.specs.Private.LeafColumns.{LeafRow, documents_of, paths_of}
 use Rattle.jsonb_c.proofs.LeafRows.{document_more, path_more}
 use Rattle.jsonb_c.proofs.leaves.LeafColumns.push.Goals as goal
 

@@ -1,6 +1,6 @@
 use Rattle.std.proofs.Common.{ap, length, arith}
 use Rattle.std.proofs.lemmas.List.{length-map}
-use Rattle.jsonb_c.specs.Leaves.{LeafRow, documents_of}
+use Rattle.jsonb_c.specs.Private.LeafColumns.{LeafRow, documents_of}
 use Rattle.jsonb_c.proofs.LeafRows.{positions_count}
 use Rattle.jsonb_c.proofs.leaves.LeafColumns.sizes.Goals as goal
 

@@ -1,0 +1,89 @@
+-- The results of events, as statuses, and what the handle keeps after them.
+use Rattle.std.proofs.Common.{◌≡◌, ◌∙◌, ℕ, List, Vec, Global, ap, inl, inr, refl, Option, Some, None, Result, Ok, Err}
+use Rattle.std.specs.Prelude.{MatchOption, MatchResult, OnErr}
+use Rattle.jsonb_doc.specs.DocumentBuilder.{Holds, Takes}
+use Rattle.jsonb_doc.specs.Events.{Event, State, next, no_events}
+use Rattle.jsonb_doc.specs.Format.{Decodes}
+use Rattle.jsonb_doc.specs.Payload.{Form}
+use Rattle.jsonb_doc.specs.Tree.{Tree}
+use Rattle.jsonb_doc.specs.declared.document_builder.DocumentBuilder.{DocumentBuilder}
+use Rattle.jsonb_doc.specs.declared.error.Error.TheVariants.{OutOfMemory}
+use Rattle.jsonb_doc.specs.declared.event_error.EventError.{EventError}
+use Rattle.jsonb_doc.specs.declared.event_error.EventError.TheVariants.{OutOfOrder, Failed}
+use Rattle.jsonb_c.specs.Answers.{DeliversBytes}
+use Rattle.jsonb_c.specs.Builders.{Follows, HoldsEvents, TakesEvent, WritesWhole, event_status}
+use Rattle.jsonb_c.specs.Private.Events.{IsKeptOrNew, KeepsState}
+use Rattle.jsonb_c.specs.Status.{code, status_of}
+use Rattle.jsonb_c.specs.declared.status.Status.TheVariants.{Answered}
+use Rattle.jsonb_c.specs.declared.prepared.path.PreparedPath.{PreparedPath}
+use Rattle.jsonb_c.specs.declared.prepared.path.PreparedPath.TheVariants.{Events}
+
+-- ---- the builder
+
+same_error : (r : Result (Unit {0}) EventError) (e d : EventError) → r ≡ Err e → r ≡ Err d → e ≡ d
+same_error r e d is other = cc
+
+status_takes : (form : Form) (s : State) (meaning : Result State EventError) (r : Result (Unit {0}) EventError) (b : DocumentBuilder) (status : ℕ)
+    → MatchResult r (λ _. status ≡ code Answered) (λ e. status ≡ event_status e) → Takes form s meaning r b → TakesEvent form s meaning status (Some (Events b))
+status_takes form s (Ok after) (Ok x) b status is h = inl (is, h)
+status_takes form s (Ok after) (Err e) b status is h = inr (h.0, (e, h.1, is))
+status_takes form s (Err d) (Ok x) b status is h = absurd (cc)
+status_takes form s (Err d) (Err e) b status is h = (inl (is ∙ ap event_status (same_error (Err e) e d refl h.0)), h.1)
+
+pub follows : (form : Form) (event : Event) (old b : DocumentBuilder) (r : Result (Unit {0}) EventError) (status : ℕ)
+    → MatchResult r (λ _. status ≡ code Answered) (λ e. status ≡ event_status e) → ((s : State) → Holds form old s → Takes form s (next event s) r b)
+    → Follows form event (Some (Events old)) status (Some (Events b))
+follows form event old b r status is h = record {
+  takes = λ s held. status_takes form s (next event s) r b status is (h s held);
+  other = λ k. absurd k;
+}
+
+-- after an error the builder has the state before
+pub status_kept : (r : Result (Unit {0}) EventError) (status : ℕ) (R : Type 0) → MatchResult r (λ _. status ≡ code Answered) (λ e. status ≡ event_status e)
+    → OnErr r R → (status ≡ code Answered → ⊥) → R
+status_kept (Ok x) status R is h fails = absurd (fails is)
+status_kept (Err e) status R is h fails = h
+
+-- ---- the handle
+
+pub follows_kept : (form : Form) (event : Event) (old : Option PreparedPath) (kept : PreparedPath) (status : ℕ) (new : Option PreparedPath)
+    → IsKeptOrNew old kept → Follows form event (Some kept) status new → Follows form event old status new
+follows_kept form event (Some x) kept status new is h = rw is at h
+follows_kept form event None kept status new is h = record {
+  takes = λ s empty. h.takes s (rw empty (is form));
+  other = λ k. absurd k;
+}
+
+pub state_kept : (old : Option PreparedPath) (kept : PreparedPath) (status : ℕ) (new : Option PreparedPath)
+    → IsKeptOrNew old kept → KeepsState (Some kept) status new → KeepsState old status new
+state_kept (Some x) kept status new is h = rw is at h
+state_kept None kept status new is h = λ form s empty fails. h form s (rw empty (is form)) fails
+
+out_of_memory : (form : Form) (s : State) (meaning : Result State EventError) (status : ℕ) → status ≡ status_of OutOfMemory → s ≡ no_events
+    → TakesEvent form s meaning status None
+out_of_memory form s (Ok after) status is empty = inr (empty, (Failed OutOfMemory, inl refl, is))
+out_of_memory form s (Err d) status is empty = (inr is, empty)
+
+-- before the first event, an allocation fails
+pub fails_first : (form : Form) (event : Event) (status : ℕ) → status ≡ status_of OutOfMemory → Follows form event None status None
+fails_first form event status is = record {
+  takes = λ s empty. out_of_memory form s (next event s) status is empty;
+  other = λ k. absurd k;
+}
+
+-- ---- the document
+
+pub finish_writes : (form : Form) (found : Option Tree) (r : Result (Vec ℕ Global) EventError) (made : Vec ℕ Global) (old new : List ℕ) (len status : ℕ)
+    → r ≡ Ok made → MatchOption found (r ≡ Err OutOfOrder) (λ t. MatchResult r (λ v. Decodes form v.items t) (λ e. e ≡ Failed OutOfMemory))
+    → DeliversBytes made.items old new len status → WritesWhole form found old new len status
+finish_writes form None r made old new len status is h written = absurd (cc)
+finish_writes form (Some t) r made old new len status is h written =
+    let decodes : Decodes form made.items t = rw is at h in (Ok made.items, decodes, tt, written)
+
+pub finish_fails : (form : Form) (found : Option Tree) (r : Result (Vec ℕ Global) EventError) (e : EventError) (old : List ℕ) (len status : ℕ)
+    → r ≡ Err e → MatchOption found (r ≡ Err OutOfOrder) (λ t. MatchResult r (λ v. Decodes form v.items t) (λ e. e ≡ Failed OutOfMemory))
+    → len ≡ 0 → status ≡ event_status e → WritesWhole form found old old len status
+finish_fails form None r e old len status is h none failed =
+    let same : e ≡ OutOfOrder = cc in (none, refl, failed ∙ ap event_status same)
+finish_fails form (Some t) r e old len status is h none failed =
+    let same : e ≡ Failed OutOfMemory = rw is at h in (Err OutOfMemory, refl, refl, (none, refl, failed ∙ ap event_status same))

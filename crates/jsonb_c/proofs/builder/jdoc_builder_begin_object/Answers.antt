@@ -1,0 +1,6 @@
+use Rattle.std.proofs.Common.{refl}
+use Rattle.jsonb_doc.specs.Events.{object_begins}
+use Rattle.jsonb_c.proofs.builder.jdoc_builder_begin_object.Goals as goal
+
+pub returns : goal.returns
+returns c = λ form. c.add.ensures.follows form object_begins refl

@@ -1,0 +1,6 @@
+use Rattle.std.proofs.Common.{refl}
+use Rattle.jsonb_doc.specs.Tree.{null}
+use Rattle.jsonb_c.proofs.builder.jdoc_builder_null.Goals as goal
+
+pub returns : goal.returns
+returns c = λ form. c.add_item.ensures form null refl

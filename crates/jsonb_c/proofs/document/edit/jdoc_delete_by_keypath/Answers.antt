@@ -1,0 +1,7 @@
+use Rattle.jsonb.specs.KeyPathGrammar.{key_path}
+use Rattle.jsonb_c.proofs.Paths.{by_key_path}
+use Rattle.jsonb_c.proofs.document.edit.jdoc_delete_by_keypath.Goals as goal
+
+pub returns : goal.returns
+returns c = by_key_path (key_path c.args.path.now) _ c.delete_by_keypath.result _ _ _ c.delete_by_keypath.ensures.deleted
+    c.delete_by_keypath.ensures.errors c.deliver_made.ensures (λ e shown. shown)

@@ -1,0 +1,18 @@
+use Rattle.std.proofs.Common.{refl}
+use Rattle.jsonb.specs.PathGrammar.{json_path}
+use Rattle.jsonb.specs.PathViews.{path_view}
+use Rattle.jsonb_doc.specs.declared.error.Error.TheVariants.{InvalidJsonPath}
+use Rattle.jsonb_c.specs.Private.Boxes.{IsTextRefusal}
+use Rattle.jsonb_c.specs.declared.status.Status.TheVariants.{NotJsonPath}
+use Rattle.jsonb_c.proofs.Paths.{by_text, runs, text_cause}
+use Rattle.jsonb_c.proofs.document.select.jdoc_match.Goals as goal
+
+pub returns-in-Ok : goal.returns-in-Ok
+returns-in-Ok c = runs NotJsonPath (json_path c.args.path.now) (path_view c.in-Ok.steps) _ _ c.in-Ok.ensures
+    (c.match_by_path-said.result, c.match_by_path-said.ensures.truth, c.match_by_path-said.ensures.errors, c.store_truth.ensures)
+
+pub returns-in-Err : goal.returns-in-Err
+returns-in-Err c =
+    let cause : IsTextRefusal NotJsonPath (json_path c.args.path.now) c.of_text.result =
+    rw c.of_text.ensures (text_cause InvalidJsonPath _ _ c.in-Err.ensures) in
+    by_text NotJsonPath c.of_text.result (json_path c.args.path.now) _ _ cause (refl, c.to_u32.ensures)

@@ -1,0 +1,18 @@
+use Rattle.std.proofs.Common.{refl}
+use Rattle.jsonb.specs.PathGrammar.{json_path}
+use Rattle.jsonb.specs.PathViews.{path_view}
+use Rattle.jsonb_doc.specs.declared.error.Error.TheVariants.{InvalidJsonPath}
+use Rattle.jsonb_c.specs.Private.Boxes.{IsTextRefusal}
+use Rattle.jsonb_c.specs.declared.status.Status.TheVariants.{NotJsonPath}
+use Rattle.jsonb_c.proofs.Paths.{by_text, runs, text_cause}
+use Rattle.jsonb_c.proofs.document.select.select.Goals as goal
+
+pub returns-in-Ok : goal.returns-in-Ok
+returns-in-Ok c = runs NotJsonPath (json_path c.args.path.now) (path_view c.in-Ok.steps) _ _ c.in-Ok.ensures
+    (c.pick_by_path-item.result, c.pick_by_path-item.ensures.picked, c.pick_by_path-item.ensures.errors, c.deliver.ensures)
+
+pub returns-in-Err : goal.returns-in-Err
+returns-in-Err c =
+    let cause : IsTextRefusal NotJsonPath (json_path c.args.path.now) c.of_text.result =
+    rw c.of_text.ensures (text_cause InvalidJsonPath _ _ c.in-Err.ensures) in
+    by_text NotJsonPath c.of_text.result (json_path c.args.path.now) _ _ cause (c.deliver_nothing.ensures.len, refl, c.deliver_nothing.ensures.status)

@@ -1,0 +1,63 @@
+use Rattle.std.proofs.Common.{◌≡◌, ◌∙◌, sym, subst, ◌⊎◌, inl, inr, ◌≤◌, ◌<◌, ◌++◌, ℕ, List, drop, length, Option, Some, None, Result, Ok, Err, IfOk, arith}
+use Rattle.jsonb_c.specs.Answers.{Found, Delivers, DeliversBytes, ShowsFound}
+use Rattle.jsonb_c.specs.Status.{code}
+use Rattle.jsonb_c.specs.declared.status.Status.TheVariants.{Answered}
+use Rattle.jsonb_c.proofs.WithinLemmas.{refused}
+use Rattle.jsonb_c.proofs.laws.results_are_determined.Goals as goal
+
+one_value : {A : Type 0} {x new other : A} {cause status other_status : ℕ} → (new ≡ x) × (status ≡ cause)
+    → (other ≡ x) × (other_status ≡ cause) → (other ≡ new) × (other_status ≡ status)
+one_value h k = (k.0 ∙ sym h.0, k.1 ∙ sym h.1)
+
+nothing : {old new other : List ℕ} {cause len other_len status other_status : ℕ}
+    → (len ≡ 0) × (new ≡ old) × (status ≡ cause) → (other_len ≡ 0) × (other ≡ old) × (other_status ≡ cause)
+    → (other ≡ new) × (other_len ≡ len) × (other_status ≡ status)
+nothing h k = (k.1 ∙ sym h.1, k.0 ∙ sym h.0, k.2 ∙ sym h.2)
+
+some_bytes : (made old new other : List ℕ) (len other_len status other_status : ℕ)
+    → DeliversBytes made old new len status → DeliversBytes made old other other_len other_status
+    → (other ≡ new) × (other_len ≡ len) × (other_status ≡ status)
+some_bytes made old new other len other_len status other_status (l, inl h) (m, inl k) =
+    (k.1.1 ∙ sym h.1.1, m ∙ sym l, k.0 ∙ sym h.0)
+some_bytes made old new other len other_len status other_status (l, inr h) (m, inr k) =
+    (k.2 ∙ sym h.2, m ∙ sym l, k.0 ∙ sym h.0)
+some_bytes made old new other len other_len status other_status (l, inl h) (m, inr k) =
+    let fits : length made ≤ length old = h.1.0 in let short : length old < length made = k.1 in
+    absurd (omega (arith, fits, short))
+some_bytes made old new other len other_len status other_status (l, inr h) (m, inl k) =
+    let fits : length made ≤ length old = k.1.0 in let short : length old < length made = h.1 in
+    absurd (omega (arith, fits, short))
+
+bytes : (answer : Found (List ℕ)) (old new other : List ℕ) (len other_len status other_status : ℕ)
+    → Delivers answer old new len status → Delivers answer old other other_len other_status
+    → (other ≡ new) × (other_len ≡ len) × (other_status ≡ status)
+bytes (Ok (Some made)) old new other len other_len status other_status h k =
+    some_bytes made old new other len other_len status other_status h k
+bytes (Ok None) old new other len other_len status other_status h k = nothing h k
+bytes (Err e) old new other len other_len status other_status h k = nothing h k
+
+found : {A : Type 0} (answer : Found A) (old new other : A) (status other_status : ℕ)
+    → ShowsFound answer old new status → ShowsFound answer old other other_status
+    → (other ≡ new) × (other_status ≡ status)
+found (Ok (Some x)) old new other status other_status h k = one_value h k
+found (Ok None) old new other status other_status h k = one_value h k
+found (Err e) old new other status other_status h k = one_value h k
+
+successes : (r s : Found (List ℕ)) (old new other : List ℕ) (len other_len : ℕ)
+    → IfOk r (λ x. IfOk s (λ y. y ≡ x))
+    → Delivers r old new len (code Answered) → Delivers s old other other_len (code Answered)
+    → (other ≡ new) × (other_len ≡ len)
+successes (Ok x) (Ok y) old new other len other_len same h k =
+    let both = bytes (Ok x) old new other len other_len _ _ h
+    (subst (λ it. Delivers (Ok it) old other other_len (code Answered)) same k) in (both.0, both.1)
+successes (Ok x) (Err e) old new other len other_len same h k = absurd (refused e (sym k.2))
+successes (Err e) s old new other len other_len same h k = absurd (refused e (sym h.2))
+
+pub returns-clause-bytes : goal.returns-clause-bytes
+returns-clause-bytes g c = bytes
+
+pub returns-clause-found : goal.returns-clause-found
+returns-clause-found g c = found
+
+pub returns-clause-successes : goal.returns-clause-successes
+returns-clause-successes g c = successes

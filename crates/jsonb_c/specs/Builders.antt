@@ -1,0 +1,66 @@
+-- Documents built from events, with a builder that a handle keeps.
+use Rattle.std.specs.Prelude.{◌≡◌, ◌⊎◌, ℕ, List, Option, Some, None, Result, Ok, Err, MatchResult, ⊤}
+use Rattle.jsonb_doc.specs.Answer.{IsOutOfMemory}
+use Rattle.jsonb_doc.specs.DocumentBuilder.{Holds, IsFailureAt}
+use Rattle.jsonb_doc.specs.Events.{Event, State, next, no_events, whole}
+use Rattle.jsonb_doc.specs.Format.{Decodes}
+use Rattle.jsonb_doc.specs.Payload.{Form}
+use Rattle.jsonb_doc.specs.Tree.{Tree}
+use Rattle.jsonb_doc.specs.declared.error.Error.TheVariants.{OutOfMemory}
+use Rattle.jsonb_doc.specs.declared.event_error.EventError.{EventError}
+use Rattle.jsonb_doc.specs.declared.event_error.EventError.TheVariants as refusal
+use Rattle.jsonb_c.specs.Answers.{DeliversNothing, WritesResult, DeliversMade}
+use Rattle.jsonb_c.specs.Status.{code, status_of}
+use Rattle.jsonb_c.specs.declared.status.Status.TheVariants.{Answered, NoPath, OutOfOrder}
+use Rattle.jsonb_c.specs.declared.prepared.path.PreparedPath.{PreparedPath}
+use Rattle.jsonb_c.specs.declared.prepared.path.PreparedPath.TheVariants.{Events}
+
+-- Holds if the handle keeps a builder in this state, or nothing, before the first event.
+abbrev pub HoldsEvents : Form → Option PreparedPath → State → Type 0
+HoldsEvents form None s = s ≡ no_events
+HoldsEvents form (Some (Events builder)) s = Holds form builder s
+HoldsEvents form _ s = ⊥
+
+-- Holds if the handle keeps a path or items.
+abbrev pub KeepsOther : Option PreparedPath → Type 0
+KeepsOther None = ⊥
+KeepsOther (Some (Events builder)) = ⊥
+KeepsOther _ = ⊤
+
+-- ---- an event
+
+-- The status of an error.
+abbrev pub event_status : EventError → ℕ
+event_status refusal.OutOfOrder = code OutOfOrder
+event_status (refusal.Failed e) = status_of e
+
+-- Holds if the handle and the status are those after an event with this meaning. After an error the handle has the
+-- state `before` the event.
+abbrev pub TakesEvent : Form → State → Result State EventError → ℕ → Option PreparedPath → Type 0
+TakesEvent form before (Ok after) status kept =
+    ((status ≡ code Answered) × HoldsEvents form kept after)
+    ⊎ (HoldsEvents form kept before
+    × ((e : EventError) × IsFailureAt form after.inner e × (status ≡ event_status e)))
+TakesEvent form before (Err e) status kept =
+    ((status ≡ event_status e) ⊎ (status ≡ status_of OutOfMemory)) × HoldsEvents form kept before
+
+-- Holds if the event was passed to the builder. A handle that keeps a path or items is unchanged.
+pub record Follows (form : Form) (event : Event) (old : Option PreparedPath) (status : ℕ)
+    (new : Option PreparedPath) : Type 0 where
+  pub takes : (s : State) → HoldsEvents form old s → TakesEvent form s (next event s) status new
+  pub other : KeepsOther old → (new ≡ old) × (status ≡ code NoPath)
+
+-- ---- the document
+
+-- Holds if a document of the tree is delivered; without a tree the root is not complete.
+abbrev pub WritesWhole : Form → Option Tree → List ℕ → List ℕ → ℕ → ℕ → Type 0
+WritesWhole form None old new len status = DeliversNothing OutOfOrder old new len status
+WritesWhole form (Some t) old new len status =
+    WritesResult (λ answer. MatchResult answer (λ made. Decodes form made t) IsOutOfMemory) IsOutOfMemory
+    (λ answer. DeliversMade answer old new len status)
+
+-- Holds if the document of the events is delivered. Nothing is if the handle keeps a path or items.
+pub record Finishes (kept : Option PreparedPath) (old new : List ℕ) (len status : ℕ) : Type 0 where
+  pub document : (form : Form) (s : State) → HoldsEvents form kept s
+      → WritesWhole form (whole s.inner) old new len status
+  pub other : KeepsOther kept → DeliversNothing NoPath old new len status

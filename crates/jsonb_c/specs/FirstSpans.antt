@@ -1,0 +1,28 @@
+-- The span of the first item that a JSON path selects.
+use Rattle.std.specs.Prelude.{◌≡◌, ℕ, List, Option, Some, None, Result, Ok, Err}
+use Rattle.jsonb_doc.specs.Answer.{Refines, SameOption, IsOutOfMemory}
+use Rattle.jsonb_doc.specs.declared.error.Error.{Error}
+use Rattle.jsonb.specs.FirstItems.{IsFirstItem}
+use Rattle.jsonb.specs.PathTree.{Step, is_predicate}
+use Rattle.jsonb.specs.SelectorAnswers.{ByMeanings, first_item}
+use Rattle.jsonb.specs.declared.selector.document.Mode.{Mode}
+use Rattle.jsonb.specs.declared.selector.first_item.FirstItem.{FirstItem}
+use Rattle.jsonb.specs.declared.selector.first_item.FirstItem.TheVariants as item
+use Rattle.jsonb_c.specs.Spans.{IsSpanOf}
+use Rattle.jsonb_c.specs.Status.{code, status_of}
+use Rattle.jsonb_c.specs.declared.status.Status.TheVariants.{Absent, Answered, Computed}
+use Rattle.jsonb_c.specs.declared.span.Span.{Span}
+
+-- Holds if the result is the span of the first item, or says that the path is an expression, which computes it.
+abbrev pub FindsFirstSpan : Mode → List ℕ → List Step → Result (Option (FirstItem Span)) Error → Type 0
+FindsFirstSpan mode document path answer = ByMeanings mode document path
+    (λ form outcome said. Refines
+    (λ found ts. SameOption (IsFirstItem (IsSpanOf form document) (is_predicate path)) found (first_item ts))
+    IsOutOfMemory said outcome) answer
+
+-- Holds if the span is delivered; it is unchanged if there is none or the call fails.
+abbrev pub ShowsFirst : Result (Option (FirstItem Span)) Error → Span → Span → ℕ → Type 0
+ShowsFirst (Ok (Some (item.At span))) old new status = (new ≡ span) × (status ≡ code Answered)
+ShowsFirst (Ok (Some item.Computed)) old new status = (new ≡ old) × (status ≡ code Computed)
+ShowsFirst (Ok None) old new status = (new ≡ old) × (status ≡ code Absent)
+ShowsFirst (Err e) old new status = (new ≡ old) × (status ≡ status_of e)

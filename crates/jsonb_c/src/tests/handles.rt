@@ -1,0 +1,185 @@
+//! Worked rows of the calls on handles: documents from events, and items in place.
+
+use super::{
+    Answer, COMPUTED, INVALID_JSONB, MIXED, NO_PATH, NONE, NOT_UTF8, OBJECT_DUPLICATE_KEY, OK,
+    UNTOUCHED, parts,
+};
+use crate::builder::{
+    jdoc_builder_begin_array, jdoc_builder_begin_object, jdoc_builder_bool, jdoc_builder_decimal,
+    jdoc_builder_document, jdoc_builder_end, jdoc_builder_finish, jdoc_builder_free,
+    jdoc_builder_i64, jdoc_builder_key, jdoc_builder_null, jdoc_builder_str, jdoc_builder_u64,
+};
+use crate::items::span::jdoc_items_find_next;
+use crate::items::{jdoc_items_free, jdoc_items_next, jdoc_path_items};
+use crate::path::{jdoc_path_free, jdoc_path_read};
+use crate::prepared::PathHandle;
+use std::alloc::Global;
+
+const OUT_OF_ORDER: u32 = 7;
+
+/// Passes an event: `[` and `{` begin a container, `.` ends it, `a` and `b` are keys, `y` is one that is not UTF-8, and
+/// the others are values.
+fn pass(alloc: Global, builder: &mut PathHandle, letter: u8) -> u32 {
+    match letter {
+        b'[' => jdoc_builder_begin_array(alloc, builder),
+        b'{' => jdoc_builder_begin_object(alloc, builder),
+        b'.' => jdoc_builder_end(alloc, builder),
+        b'a' => jdoc_builder_key(alloc, builder, b"a"),
+        b'b' => jdoc_builder_key(alloc, builder, b"b"),
+        b'y' => jdoc_builder_key(alloc, builder, b"\xff"),
+        b'n' => jdoc_builder_null(alloc, builder),
+        b't' => jdoc_builder_bool(alloc, builder, true),
+        b'i' => jdoc_builder_i64(alloc, builder, -100),
+        b'u' => jdoc_builder_u64(alloc, builder, 2),
+        b'm' => jdoc_builder_decimal(alloc, builder, 0, 1234, 2),
+        b's' => jdoc_builder_str(alloc, builder, b"adf"),
+        b'x' => jdoc_builder_str(alloc, builder, b"\xff"),
+        b'd' => jdoc_builder_document(alloc, builder, b"\x80\0\0\x01\0\0\0\0"),
+        _ => jdoc_builder_document(alloc, builder, b"?"),
+    }
+}
+
+/// Passes events until one fails. Returns its status.
+fn pass_all(alloc: Global, builder: &mut PathHandle, letters: &[u8]) -> u32 {
+    for letter in letters {
+        let status = pass(alloc, builder, *letter);
+        if status != OK {
+            return status;
+        }
+    }
+    OK
+}
+
+/// Events, and their document.
+static DOCUMENTS: [(&[u8], &[u8]); 12] = rows! {
+    b"n", b"\x20\0\0\0\0\0\0\0";
+    b"t", b"\x20\0\0\0\x40\0\0\0";
+    b"i", b"\x20\0\0\0\x20\0\0\x02\x40\x9c";
+    b"u", b"\x20\0\0\0\x20\0\0\x02\x50\x02";
+    b"m", b"\x20\0\0\0\x20\0\0\x0a\x70\0\0\0\0\0\0\x04\xd2\x02";
+    b"s", b"\x20\0\0\0\x10\0\0\x03adf";
+    b"d", b"\x80\0\0\x01\0\0\0\0";
+    b"[.", b"\x80\0\0\0";
+    b"{.", b"\x40\0\0\0";
+    b"[du.", b"\x80\0\0\x02\x50\0\0\x08\x20\0\0\x02\x80\0\0\x01\0\0\0\0\x50\x02";
+    b"{b[n.an.", b"\x40\0\0\x02\x10\0\0\x01\x10\0\0\x01\0\0\0\0\x50\0\0\x08ab\x80\0\0\x01\0\0\0\0";
+    b"{a{..", b"\x40\0\0\x01\x10\0\0\x01\x50\0\0\x04a\x40\0\0\0";
+};
+
+#[test]
+fn documents_of_events(rt: HostRuntime) {
+    let alloc = rt.alloc();
+    for (letters, document) in &DOCUMENTS {
+        let mut builder = PathHandle::none();
+        let mut a = Answer::new();
+        let passed = pass_all(alloc, &mut builder, letters);
+        let status = jdoc_builder_finish(alloc, &mut builder, &mut a.out, &mut a.len);
+        jdoc_builder_free(alloc, &mut builder);
+        let is_so = passed == OK && status == OK && a.is(document);
+        assert!(rt; is_so, "{letters:?}");
+    }
+}
+
+/// Events of which the last one fails, and its status.
+static FAILURES: [(&[u8], u32); 12] = rows! {
+    b".", OUT_OF_ORDER;
+    b"nn", OUT_OF_ORDER;
+    b"[..", OUT_OF_ORDER;
+    b"a", OUT_OF_ORDER;
+    b"[a", OUT_OF_ORDER;
+    b"{n", OUT_OF_ORDER;
+    b"{ab", OUT_OF_ORDER;
+    b"{a.", OUT_OF_ORDER;
+    b"{ana", OBJECT_DUPLICATE_KEY;
+    b"{y", NOT_UTF8;
+    b"[x", NOT_UTF8;
+    b"[?", INVALID_JSONB;
+};
+
+#[test]
+fn events_that_fail(rt: HostRuntime) {
+    for (letters, wanted) in &FAILURES {
+        let mut builder = PathHandle::none();
+        let status = pass_all(rt.alloc(), &mut builder, letters);
+        jdoc_builder_free(rt.alloc(), &mut builder);
+        assert!(rt; status == *wanted, "{letters:?}");
+    }
+}
+
+#[test]
+fn a_builder_after_failures(rt: HostRuntime) {
+    let alloc = rt.alloc();
+    let mut builder = PathHandle::none();
+    let mut a = Answer::new();
+    for letter in b".[axu?.n" {
+        pass(alloc, &mut builder, *letter);
+    }
+    let status = jdoc_builder_finish(alloc, &mut builder, &mut a.out, &mut a.len);
+    jdoc_builder_free(alloc, &mut builder);
+    assert!(rt; status == OK && a.is(b"\x80\0\0\x01\x20\0\0\x02\x50\x02"));
+    let status = jdoc_builder_finish(alloc, &mut builder, &mut a.out, &mut a.len);
+    assert!(rt; status == OUT_OF_ORDER && a.len == 0);
+}
+
+/// Paths, and what each call returns for the items of `MIXED`.
+static ITEMS: [(&[u8], &[(u32, (usize, usize, u8, u8))]); 5] = rows! {
+    b"$[*].k", &[(OK, (31, 1, 4, 1)), (NONE, (9, 9, 9, 9))];
+    b"$[*]", &[(OK, (16, 0, 1, 3)), (OK, (16, 2, 2, 2)), (OK, (18, 14, 11, 5)), (NONE, (9, 9, 9, 9))];
+    b"$[2].k", &[(OK, (31, 1, 4, 1)), (NONE, (9, 9, 9, 9))];
+    b"$[9]", &[(NONE, (9, 9, 9, 9))];
+    b"$[1] + 1", &[(COMPUTED, (9, 9, 9, 9)), (COMPUTED, (9, 9, 9, 9))];
+};
+
+/// Returns the items that a path selects of `MIXED`, and the status.
+fn items_of(alloc: Global, text: &[u8]) -> (PathHandle, u32) {
+    let mut path = PathHandle::none();
+    let mut items = PathHandle::none();
+    let mut status = jdoc_path_read(alloc, text, &mut path);
+    if status == OK {
+        status = jdoc_path_items(alloc, &mut path, MIXED, false, &mut items);
+    }
+    jdoc_path_free(alloc, &mut path);
+    (items, status)
+}
+
+#[test]
+fn spans_of_items(rt: HostRuntime) {
+    let alloc = rt.alloc();
+    for (text, calls) in &ITEMS {
+        let (mut items, status) = items_of(alloc, text);
+        assert!(rt; status == OK, "{text:?}");
+        for (wanted, found) in *calls {
+            let mut span = UNTOUCHED;
+            let status = jdoc_items_find_next(alloc, &mut items, MIXED, &mut span);
+            let is_so = status == *wanted && parts(span) == *found;
+            assert!(rt; is_so, "{text:?}");
+        }
+        jdoc_items_free(alloc, &mut items);
+        let mut span = UNTOUCHED;
+        let status = jdoc_items_find_next(alloc, &mut items, MIXED, &mut span);
+        assert!(rt; status == NO_PATH, "{text:?}");
+    }
+}
+
+#[test]
+fn a_computed_item_is_copied(rt: HostRuntime) {
+    let alloc = rt.alloc();
+    let (mut items, status) = items_of(alloc, b"$[1] + 1");
+    let mut span = UNTOUCHED;
+    let mut a = Answer::new();
+    let found = jdoc_items_find_next(alloc, &mut items, MIXED, &mut span);
+    let copied = jdoc_items_next(alloc, &mut items, MIXED, &mut a.out, &mut a.len);
+    jdoc_items_free(alloc, &mut items);
+    assert!(rt; (status, found, copied) == (OK, COMPUTED, OK));
+    assert!(rt; a.is(b"\x20\0\0\0\x20\0\0\x02\x50\x0b"));
+}
+
+#[test]
+fn items_are_copied_in_order(rt: HostRuntime) {
+    let alloc = rt.alloc();
+    let (mut items, _status) = items_of(alloc, b"$[*]");
+    assert_gives!(rt; jdoc_items_next(alloc, &mut items, MIXED), OK, b"\x20\0\0\0\x30\0\0\0");
+    assert_gives!(rt; jdoc_items_next(alloc, &mut items, MIXED), OK, b"\x20\0\0\0\x20\0\0\x02\x50\x0a");
+    jdoc_items_free(alloc, &mut items);
+    assert_gives!(rt; jdoc_items_next(alloc, &mut items, MIXED), NO_PATH, b"");
+}
