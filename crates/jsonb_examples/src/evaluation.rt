@@ -38,6 +38,22 @@ pub fn find_books(alloc: Global, store: RawJsonb<'_>) -> Result<Books, Error> {
     })
 }
 
+/// Returns a page of what a path selects, and the number of all items. Items of other pages are not copied.
+pub fn page(
+    alloc: Global,
+    document: RawJsonb<'_>,
+    path: &JsonPath<'_>,
+    from: usize,
+    size: usize,
+) -> Result<(Vec<OwnedJsonb>, usize), Error> {
+    let found = Selector::new(alloc, document).find_values(path)?;
+    let mut page = Vec::new(alloc);
+    for item in found.iter().skip(from).take(size) {
+        page.push(item.to_document(alloc, &document)?)?;
+    }
+    Ok((page, found.len()))
+}
+
 /// Returns the values at a path as an array. Fails with `StrictPath` if a step does not apply, such as a missing key.
 pub fn required(alloc: Global, document: RawJsonb<'_>, path: &str) -> Result<OwnedJsonb, Error> {
     let path = parse_json_path(alloc, path.as_bytes())?;
@@ -199,6 +215,19 @@ mod tests {
         assert_eq!(rt; titles.as_raw().as_bytes(), TITLES);
         let missing = required(alloc, store, "$.books[*].title");
         assert_eq!(rt; missing.err(), Some(Error::StrictPath));
+        Ok(())
+    }
+
+    #[test]
+    fn items_are_returned_in_pages(rt: HostRuntime) -> Result<(), Fail> {
+        let alloc = rt.alloc();
+        let path = parse_json_path(alloc, b"$.book[*].title")?;
+        for (from, size, count) in [(0, 1, 1), (1, 10, 1), (2, 1, 0)] {
+            let (page, all) = page(alloc, RawJsonb::new(BOOKS), &path, from, size)?;
+            assert_eq!(rt; (page.len(), all), (count, 2));
+        }
+        let (first, _) = page(alloc, RawJsonb::new(BOOKS), &path, 0, 1)?;
+        assert_eq!(rt; bytes_of(&first.into_iter().next()), TITLE_A);
         Ok(())
     }
 

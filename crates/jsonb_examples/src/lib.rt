@@ -6,6 +6,7 @@ pub mod configuration;
 #[cfg(test)]
 mod documents;
 pub mod evaluation;
+pub mod events;
 pub mod filter;
 #[cfg(test)]
 mod first;

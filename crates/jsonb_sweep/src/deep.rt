@@ -1,6 +1,6 @@
 //! Values and paths that standard input has, in their text or bytes: for those that are nested deep, under a small stack.
 
-use jsonb::{Error, parse_json_path, root_item, to_value};
+use jsonb::{DocumentBuilder, Error, EventError, depth, parse_json_path, root_item, to_value};
 use std::io::{self, Read};
 
 /// What standard input has.
@@ -28,12 +28,26 @@ pub fn calls(rt: &HostRuntime, kind: Input) -> io::Result<()> {
     )
 }
 
-/// Decodes a document, clones the value, compares both and drops them.
+/// Decodes a document, clones the value, compares both and drops them. Then builds arrays that are as deep from events.
 fn value(rt: &HostRuntime, document: &[u8]) -> Result<bool, Error> {
     let item = root_item(document)?;
     let value = to_value(rt.alloc(), &item)?;
     let copy = value.clone(rt.alloc())?;
-    Ok(copy == value)
+    let is_built = arrays(rt, depth(document)?);
+    Ok(copy == value && matches!(is_built, Ok(true)))
+}
+
+/// Builds this many arrays from events, each within another: 8 bytes each, except that the root has no entry word.
+fn arrays(rt: &HostRuntime, levels: usize) -> Result<bool, EventError> {
+    let mut builder = DocumentBuilder::new(rt.alloc());
+    for _ in 0..levels {
+        builder.begin_array()?;
+    }
+    for _ in 0..levels {
+        builder.end()?;
+    }
+    let document = builder.finish()?;
+    Ok(document.len().wrapping_add(4) == levels.wrapping_mul(8))
 }
 
 /// Parses a path that is as `Display` prints it, clones it twice, compares it, prints it, and drops all.

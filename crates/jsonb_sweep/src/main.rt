@@ -49,6 +49,7 @@ mod call;
 mod deep;
 mod documents;
 mod equals;
+mod events;
 mod long;
 mod made;
 mod many;
@@ -99,6 +100,7 @@ fn small(rt: &HostRuntime) -> io::Result<()> {
     values::cases(rt)?;
     builders::arrays(rt)?;
     builders::objects(rt)?;
+    events::events(rt)?;
     paths::key_paths(rt)?;
     parts::of_key_paths(rt)?;
     parts::tokens(rt)?;

@@ -258,9 +258,10 @@ enum Given {
 /// The name of a selection of many elements, its call, its path, and the expected result.
 type Selecting = (&'static str, Selection, &'static [u8], Given);
 
-static SELECTING: [Selecting; 9] = rows! {
+static SELECTING: [Selecting; 10] = rows! {
     "select_values of a member", Selection::Values, b"$[*].number", Given::Each;
     "select_values of an arithmetic list", Selection::Values, b"+$[*].number", Given::Each;
+    "find_values of a filter", Selection::Found, FILTER, Given::Each;
     "select_array of a filter", Selection::Array, FILTER, Given::All;
     "select_first of the root", Selection::First, b"$", Given::All;
     "select_value of a filter", Selection::Value, FILTER, Given::All;

@@ -6,9 +6,6 @@ use jsonb::{
 };
 use std::io;
 
-/// `true`
-const TRUE: &[u8] = b" \x00\x00\x00\x40\x00\x00\x00";
-
 /// null
 const NULL: &[u8] = b" \x00\x00\x00\x00\x00\x00\x00";
 

@@ -3,7 +3,7 @@
 use crate::answer::{Answer, Wanted};
 use crate::documents::*;
 use crate::mark::tell;
-use jsonb::{Error, JsonPath, RawJsonb, SelectByPath, Selector, parse_json_path};
+use jsonb::{Error, JsonPath, OwnedJsonb, RawJsonb, SelectByPath, Selector, parse_json_path};
 use std::alloc::Global;
 use std::io;
 
@@ -11,6 +11,8 @@ use std::io;
 #[derive(Clone, Copy)]
 pub enum Selection {
     Values,
+    /// The items found in place, each then made a document.
+    Found,
     Array,
     First,
     Value,
@@ -19,10 +21,17 @@ pub enum Selection {
 }
 
 impl Selection {
-    /// Asks a selector.
-    fn of(self, selector: &mut Selector<'_>, path: &JsonPath<'_>) -> Result<Answer, Error> {
+    /// Asks a selector of a document.
+    fn of(
+        self,
+        alloc: Global,
+        document: &RawJsonb<'_>,
+        selector: &mut Selector<'_>,
+        path: &JsonPath<'_>,
+    ) -> Result<Answer, Error> {
         match self {
             Selection::Values => selector.select_values(path).map(Answer::Documents),
+            Selection::Found => found(alloc, document, selector, path).map(Answer::Documents),
             Selection::Array => selector.select_array(path).map(Answer::Document),
             Selection::First => selector.select_first(path).map(Answer::found),
             Selection::Value => selector.select_value(path).map(Answer::found),
@@ -39,7 +48,9 @@ impl Selection {
         path: &JsonPath<'_>,
     ) -> Result<Answer, Error> {
         match self {
-            Selection::Values => document.select_by_path(alloc, path).map(Answer::Documents),
+            Selection::Values | Selection::Found => document
+                .select_by_path(alloc, path)
+                .map(Answer::Documents),
             Selection::Array => document
                 .select_array_by_path(alloc, path)
                 .map(Answer::Document),
@@ -53,6 +64,20 @@ impl Selection {
             Selection::Truth => document.path_match(alloc, path).map(Answer::found_truth),
         }
     }
+}
+
+/// Returns documents of the items that a selector finds in place.
+fn found(
+    alloc: Global,
+    document: &RawJsonb<'_>,
+    selector: &mut Selector<'_>,
+    path: &JsonPath<'_>,
+) -> Result<Vec<OwnedJsonb>, Error> {
+    let mut documents = Vec::new(alloc);
+    for item in &selector.find_values(path)? {
+        documents.push(item.to_document(alloc, document)?)?;
+    }
+    Ok(documents)
 }
 
 /// The way in which a selection is called.
@@ -79,20 +104,21 @@ pub fn ask(rt: &HostRuntime, asked: &Asked<'_>, way: Way) -> Result<bool, Error>
             return Ok(answer?.is(wanted));
         }
     };
-    is_given_twice(rt, selector, &path, selection, wanted)
+    is_given_twice(rt, &document, selector, &path, selection, wanted)
 }
 
 /// Calls a selector between the marks, and again after them: it returns what a new one does.
 fn is_given_twice(
     rt: &HostRuntime,
+    document: &RawJsonb<'_>,
     new: Selector<'_>,
     path: &JsonPath<'_>,
     selection: Selection,
     wanted: Wanted<'_>,
 ) -> Result<bool, Error> {
     let mut selector = new;
-    let answer = marked!(rt, selection.of(&mut selector, path));
-    let again = selection.of(&mut selector, path)?;
+    let answer = marked!(rt, selection.of(rt.alloc(), document, &mut selector, path));
+    let again = selection.of(rt.alloc(), document, &mut selector, path)?;
     Ok(answer?.is(wanted) && again.is(wanted))
 }
 
@@ -134,12 +160,18 @@ pub fn calls(rt: &HostRuntime) -> io::Result<()> {
 const MINUS_TEN_TO_MINUS_THIRTY: &[u8] =
     b"\x80\x00\x00\x03 \x00\x00\x02 \x00\x00\x02 \x00\x00\x02\x40\xf6\x40\xec\x40\xe2";
 
+/// `-1`
+const MINUS_ONE: &[u8] = b" \x00\x00\x00 \x00\x00\x02\x40\xff";
+
 /// `{"a":{"b":1}}`
 const A_OF_B: &[u8] =
     b"\x40\x00\x00\x01\x10\x00\x00\x01P\x00\x00\x0fa\x40\x00\x00\x01\x10\x00\x00\x01 \x00\x00\x02bP\x01";
 
 /// Selections of other kinds.
-static OTHERS: [(&str, Asked<'static>); 9] = rows! {
+static OTHERS: [(&str, Asked<'static>); 12] = rows! {
+    "find_values of a filter", (Selection::Found, BOTH, PHONES, Wanted::Documents(&[HOME, WORK]));
+    "find_values of a sign", (Selection::Found, b"-$.a.b", A_OF_B, Wanted::Documents(&[MINUS_ONE]));
+    "find_values of a comparison", (Selection::Found, b"1 == 1", A_OF_B, Wanted::Documents(&[TRUE]));
     "select_array of an arithmetic list",
         (Selection::Array, b"-$[*]", TENS, Wanted::Document(MINUS_TEN_TO_MINUS_THIRTY));
     "select_values of index entries", (Selection::Values, b"$[last, 0]", TENS, Wanted::Documents(&[THIRTY, TEN]));

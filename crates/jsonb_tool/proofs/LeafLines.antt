@@ -1,42 +1,38 @@
 -- From the leaves of a document to the lines that show them.
-use Rattle.std.proofs.Common.{◌≡◌, ◌++◌, ℕ, List, [], ◌∷◌, flat_map, Some, refl, ap, false, codes}
-use Rattle.std.specs.List.{AllByRecursion, AllZip}
+use Rattle.std.proofs.Common.{◌≡◌, ◌++◌, ℕ, List, [], ◌∷◌, flat_map, map, refl, ap, false, codes}
+use Rattle.std.specs.List.{AllZip, concat}
 use Rattle.hex.specs.Hex.{encode_lower}
 use Rattle.jsonb.specs.KeyPathGrammar.{Key}
 use Rattle.jsonb.specs.KeyPathText.{key_path_text}
 use Rattle.jsonb.specs.KeyPaths.{KeyPaths}
 use Rattle.jsonb.specs.LeafDocuments.{IsLeafDocument}
 use Rattle.jsonb.specs.Leaves.{Leaf, leaves}
-use Rattle.jsonb.specs.Limits.{Fits}
 use Rattle.jsonb.specs.OwnedJsonb.{OwnedJsonb}
 use Rattle.jsonb.specs.Payload.{Form}
-use Rattle.jsonb.specs.Places.{tree_at_steps}
 use Rattle.jsonb.specs.Tree.{Tree}
-use Rattle.jsonb.proofs.LeafPlaces.{each_in_place}
-use Rattle.jsonb_tool.specs.Output.{AreLeafLines, ShowsEachLeaf}
-use Rattle.jsonb_tool.specs.Views.{leaf_line, leaf_lines}
+use Rattle.jsonb_tool.specs.Output.{IsLeafLine, ShowsEach}
+use Rattle.jsonb_tool.specs.Private.Lines.{leaf_line, leaf_lines}
 
--- each leaf is at its location in the tree
-abbrev AreInPlace : Tree → List Leaf → Type 0
-AreInPlace t all = AllByRecursion (λ leaf. tree_at_steps leaf.0 t ≡ Some leaf.1) all
+-- lines one after the other
+pub joined : {A : Type 0} (line_of : A → List ℕ) (xs : List A) → flat_map line_of xs ≡ concat (map line_of xs)
+joined line_of [] = refl
+joined line_of (x ∷ xs) = ap (λ rest. line_of x ++ rest) (joined line_of xs)
 
-lines_of : (form : Form) (t : Tree) (found : List (KeyPaths × OwnedJsonb)) (all : List Leaf) → AllZip (IsLeafDocument form) found all → AreInPlace t all
-    → AreLeafLines form t all (flat_map leaf_line found)
-lines_of form t [] [] each there = refl
-lines_of form t [] (leaf ∷ all) each there = absurd each
-lines_of form t (x ∷ found) [] each there = absurd each
-lines_of form t (x ∷ found) (leaf ∷ all) each there =
+lines_of : (form : Form) (found : List (KeyPaths × OwnedJsonb)) (all : List Leaf) → AllZip (IsLeafDocument form) found all
+    → AllZip (IsLeafLine form) all (map leaf_line found)
+lines_of form [] [] each = tt
+lines_of form [] (leaf ∷ all) each = absurd each
+lines_of form (x ∷ found) [] each = absurd each
+lines_of form (x ∷ found) (leaf ∷ all) each =
     let shown = ap (λ (steps : List Key). encode_lower x.1 ++ codes " " ++ key_path_text steps ++ codes "\n") each.0.0 in
-    (leaf_line x, flat_map leaf_line found, (x.1, rw there.0 each.0.1, shown), lines_of form t found all each.1 there.1, refl)
+    ((x.1, each.0.1, shown), lines_of form found all each.1)
 
-all_lines : (form : Form) (t : Tree) (found : List (KeyPaths × OwnedJsonb)) (all : List Leaf) → AllZip (IsLeafDocument form) found all → AreInPlace t all
-    → ShowsEachLeaf form t all (leaf_lines found)
-all_lines form t [] [] each there = refl
-all_lines form t [] (leaf ∷ all) each there = absurd each
-all_lines form t (x ∷ found) [] each there = absurd each
-all_lines form t (x ∷ found) (leaf ∷ all) each there = lines_of form t (x ∷ found) (leaf ∷ all) each there
+all_lines : (form : Form) (found : List (KeyPaths × OwnedJsonb)) (all : List Leaf) → AllZip (IsLeafDocument form) found all
+    → ShowsEach (IsLeafLine form) all (leaf_lines found)
+all_lines form [] all each = ([], lines_of form [] all each, refl)
+all_lines form (x ∷ found) all each = (map leaf_line (x ∷ found), lines_of form (x ∷ found) all each, joined leaf_line (x ∷ found))
 
 -- documents of the leaves are shown by their lines
-pub shows_leaves : (form : Form) (t : Tree) (found : List (KeyPaths × OwnedJsonb)) (lines : List ℕ) → Fits t
-    → AllZip (IsLeafDocument form) found (leaves false t) → lines ≡ leaf_lines found → ShowsEachLeaf form t (leaves false t) lines
-shows_leaves form t found lines fits each is = rw is (all_lines form t found (leaves false t) each (each_in_place false t fits.0))
+pub shows_leaves : (form : Form) (t : Tree) (found : List (KeyPaths × OwnedJsonb)) (lines : List ℕ)
+    → AllZip (IsLeafDocument form) found (leaves false t) → lines ≡ leaf_lines found → ShowsEach (IsLeafLine form) (leaves false t) lines
+shows_leaves form t found lines each is = rw is (all_lines form found (leaves false t) each)

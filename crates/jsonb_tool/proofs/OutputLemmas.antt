@@ -1,6 +1,6 @@
 -- From the result of a look-up to the lines that show it.
-use Rattle.std.proofs.Common.{◌≡◌, ◌++◌, ℕ, List, Option, Some, None, Result, Ok, Err, ◌⊎◌, inl, inr, refl, ap, codes}
-use Rattle.std.specs.Prelude.{Vec}
+use Rattle.std.proofs.Common.{◌≡◌, ◌++◌, ℕ, List, [], ◌∷◌, append-nil, arith, sym, Option, Some, None, Result, Ok, Err, ◌⊎◌, inl, inr, refl, ap, codes}
+use Rattle.std.specs.Prelude.{Vec, option_to_list}
 use Rattle.std.specs.Int.{w8}
 use Rattle.std.specs.declared.alloc.Global.{Global}
 use Rattle.hex.specs.Hex.{encode_lower}
@@ -13,32 +13,33 @@ use Rattle.jsonb.specs.OwnedJsonb.{OwnedJsonb}
 use Rattle.jsonb.specs.Documents.{MakesOption}
 use Rattle.jsonb.specs.KeyPathGrammar.{Key, key_path}
 use Rattle.jsonb.specs.Depth.{deepest}
-use Rattle.jsonb.specs.KeyAnswer.{IsOutOfMemoryOrTooDeep, MakesKey}
+use Rattle.jsonb.specs.KeyAnswer.{IsOutOfMemoryOrTooDeep, GivesKey}
 use Rattle.jsonb.specs.Places.{tree_at_steps}
-use Rattle.jsonb.specs.SortableKey.{depths}
-use Rattle.jsonb_tool.specs.Output.{ShowsTreeAt, OnDocument, ShowsKey, ShowsKeyOf, ShowsTree}
-use Rattle.jsonb_tool.specs.Views.{found_text}
+use Rattle.jsonb.specs.SortableKey.{sortable_key, depths}
+use Rattle.jsonb_tool.specs.Output.{IsOutputOf, OnDocument, ShowsKey, ShowsTrees}
+use Rattle.jsonb_tool.specs.Private.Lines.{document_line, found_text}
+use Rattle.jsonb_tool.specs.Requests.{get, key}
 
 -- what was found is shown by its line
 ShowsTree-found : (form : Form) (o : Option Tree) (found : Option OwnedJsonb)
-    → MakesOption form o (Ok found) → ShowsTree form o (Ok (found_text found))
-ShowsTree-found form None None h = refl
+    → MakesOption form o (Ok found) → ShowsTrees form (option_to_list o) (Ok (found_text found))
+ShowsTree-found form None None h = ([], tt, refl)
 ShowsTree-found form None (Some d) h = cc
 ShowsTree-found form (Some t) None h = absurd h
-ShowsTree-found form (Some t) (Some d) h = (d, h, refl)
+ShowsTree-found form (Some t) (Some d) h = (document_line d ∷ [], ((d, h, refl), tt), sym (append-nil (document_line d)))
 
 -- an error other than `OutOfMemory` means that the tree is too large
 ShowsTree-refused : (form : Form) (o : Option Tree) (e : Error)
-    → (e ≡ OutOfMemory → ⊥) → MakesOption form o (Err e) → ShowsTree form o (Err e)
+    → (e ≡ OutOfMemory → ⊥) → MakesOption form o (Err e) → ShowsTrees form (option_to_list o) (Err e)
 ShowsTree-refused form None e other h = absurd (other h)
 ShowsTree-refused form (Some t) e other (inl h) = absurd (other h)
-ShowsTree-refused form (Some t) e other (inr h) = h
+ShowsTree-refused form (Some t) e other (inr h) = (h.0, (0, t, omega arith, refl, h.1))
 
 -- the error of a look-up in bytes that decode: `OutOfMemory`, or an outcome on the document
 ShowsTree-refusals : (bytes : List ℕ) (meant : Tree → Option Tree) (e : Error)
     → ((t : Tree) × Decodes any bytes t)
     → ((form : Form) (t : Tree) → Decodes form bytes t → MakesOption form (meant t) (Err e))
-    → (e ≡ OutOfMemory) ⊎ OnDocument bytes (λ form t. ShowsTree form (meant t)) (Err e)
+    → (e ≡ OutOfMemory) ⊎ OnDocument bytes (λ form t. ShowsTrees form (option_to_list (meant t))) (Err e)
 ShowsTree-refusals bytes meant OutOfMemory decodes h = inl refl
 ShowsTree-refusals bytes meant e decodes h =
     inr (inl (decodes, λ form t d. ShowsTree-refused form (meant t) e (λ q. cc) (h form t d)))
@@ -52,14 +53,14 @@ LooksUp steps bytes r = (form : Form) (t : Tree) → Decodes form bytes t → Ma
 -- the lines of `get` if the look-up succeeded
 pub Gets-found : (path bytes : List ℕ) (steps : List Key) (found : Option OwnedJsonb) (lines : List ℕ)
     → key_path path ≡ Some steps → ((t : Tree) × Decodes any bytes t) → LooksUp steps bytes (Ok found)
-    → lines ≡ found_text found → ShowsTreeAt (key_path path) bytes (Ok lines)
+    → lines ≡ found_text found → IsOutputOf (get path bytes) (Ok lines)
 Gets-found path bytes steps found lines read decodes looked line =
     rw (read, line) (inl (decodes, λ form t h. ShowsTree-found form (tree_at_steps steps t) found (looked form t h)))
 
 -- its error if the look-up failed
 pub Gets-refused : (path bytes : List ℕ) (steps : List Key) (e : Error)
     → key_path path ≡ Some steps → ((t : Tree) × Decodes any bytes t) → LooksUp steps bytes (Err e)
-    → (e ≡ OutOfMemory) ⊎ ShowsTreeAt (key_path path) bytes (Err e)
+    → (e ≡ OutOfMemory) ⊎ IsOutputOf (get path bytes) (Err e)
 Gets-refused path bytes steps e read decodes looked =
     rw read (ShowsTree-refusals bytes (tree_at_steps steps) e decodes looked)
 
@@ -67,12 +68,12 @@ Gets-refused path bytes steps e read decodes looked =
 
 -- the result of building the key
 abbrev pub MakesKeyOf : List ℕ → Result (Vec ℕ Global) Error → Type 0
-MakesKeyOf bytes r = (form : Form) (t : Tree) → Decodes form bytes t → MakesKey w8 t r
+MakesKeyOf bytes r = (form : Form) (t : Tree) → Decodes form bytes t → GivesKey w8 (deepest t) r (λ v. v.items ≡ sortable_key w8 t 0)
 
 -- the line of `key` if a key was built
 pub ShowsKeyOf-made : (bytes : List ℕ) (made : Vec ℕ Global) (lines : List ℕ)
     → ((t : Tree) × Decodes any bytes t) → MakesKeyOf bytes (Ok made) → lines ≡ encode_lower made.items ++ codes "\n"
-    → ShowsKeyOf bytes (Ok lines)
+    → IsOutputOf (key bytes) (Ok lines)
 ShowsKeyOf-made bytes made lines decodes h line =
     rw line (inl (decodes, λ form t d. let k = h form t d in (ap (λ (xs : List ℕ). encode_lower xs ++ codes "\n") k.0, k.1)))
 
@@ -84,7 +85,7 @@ ShowsKey-refused t e other (inr h) = h
 -- its error if no key was built
 pub ShowsKeyOf-refused : (bytes : List ℕ) (e : Error)
     → ((t : Tree) × Decodes any bytes t) → MakesKeyOf bytes (Err e)
-    → (e ≡ OutOfMemory) ⊎ ShowsKeyOf bytes (Err e)
+    → (e ≡ OutOfMemory) ⊎ IsOutputOf (key bytes) (Err e)
 ShowsKeyOf-refused bytes OutOfMemory decodes h = inl refl
 ShowsKeyOf-refused bytes e decodes h =
     inr (inl (decodes, λ form t d. ShowsKey-refused t e (λ q. cc) (h form t d)))

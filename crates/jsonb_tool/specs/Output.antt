@@ -1,14 +1,14 @@
 -- The outcome of a command: the lines that it prints, or its error.
-use Rattle.std.specs.Prelude.{◌≡◌, ◌⊎◌, ◌<◌, ◌≤◌, ℕ, true, false, List, [], ◌∷◌, ◌++◌, flat_map, Option, Some, None, Result, Ok, Err, IsSomeAnd, IsOkAnd, IsErrAnd, codes}
+use Rattle.std.specs.Prelude.{◌≡◌, ◌⊎◌, ◌<◌, ◌≤◌, ℕ, true, false, List, [], ◌∷◌, ◌++◌, Some, None, Result, Ok, Err, IsOkAnd, IsErrAnd, MatchOption, MatchResult, codes, option_to_list}
 use Rattle.std.specs.Int.{w8}
-use Rattle.std.specs.List.{Any, AllZip}
+use Rattle.std.specs.List.{Any, AllZip, concat}
 use Rattle.jsonb.specs.Error.{Error}
 use Rattle.jsonb.specs.Error.TheVariants.{InvalidJsonb, UnsupportedNumber, InvalidJsonPath, InvalidKeyPath, TooLarge, TooDeep}
 use Rattle.jsonb.specs.Tree.{Tree}
 use Rattle.jsonb.specs.Payload.{Form, any}
 use Rattle.jsonb.specs.Format.{Decodes, IsUnsupportedDocument, IsNoDocument}
 use Rattle.jsonb.specs.Limits.{IsTooLarge}
-use Rattle.jsonb.specs.KeyPathGrammar.{Key, key_path}
+use Rattle.jsonb.specs.KeyPathGrammar.{key_path}
 use Rattle.jsonb.specs.KeyPathText.{key_path_text}
 use Rattle.jsonb.specs.Depth.{deepest}
 use Rattle.jsonb.specs.Leaves.{Leaf}
@@ -19,7 +19,6 @@ use Rattle.jsonb.specs.SortableKey as sortable
 use Rattle.jsonb.specs.Compare.{Truth}
 use Rattle.jsonb.specs.Meaning.{meaning, predicate}
 use Rattle.jsonb.specs.PathGrammar.{json_path}
-use Rattle.jsonb.specs.PathTree.{Step}
 use Rattle.jsonb.specs.declared.selector.document.Mode.TheVariants.{Lax}
 use Rattle.hex.specs.Hex.{encode_lower}
 use Rattle.jsonb_tool.specs.Requests.{Request, get, key, leaves, select, path_match}
@@ -43,95 +42,52 @@ OnDocument bytes IsOutcomeOn outcome =
     × ((form : Form) (t : Tree) → Decodes form bytes t → IsOutcomeOn form t outcome))
     ⊎ IsErrAnd outcome (IsDamage bytes)
 
--- The line is a document of the tree in hexadecimal, or `none` if there is no tree. The error is that the tree is too
--- large for a document.
-abbrev pub ShowsTree : Form → Option Tree → Output → Type 0
-ShowsTree form None outcome = outcome ≡ Ok (codes "none\n")
-ShowsTree form (Some t) (Ok lines) =
-    (bytes : List ℕ) × Decodes form bytes t × (lines ≡ encode_lower bytes ++ codes "\n")
-ShowsTree form (Some t) (Err e) = (e ≡ TooLarge) × IsTooLarge form t
+-- The text is these lines, or `none` if there are no lines.
+abbrev pub text_of : List (List ℕ) → List ℕ
+text_of [] = codes "none\n"
+text_of (line ∷ lines) = concat (line ∷ lines)
 
--- `get`: the tree at the location of the steps, if the path is a key path
-abbrev pub ShowsTreeAt : Option (List Key) → List ℕ → Output → Type 0
-ShowsTreeAt None document outcome = outcome ≡ Err InvalidKeyPath
-ShowsTreeAt (Some steps) document outcome =
-    OnDocument document (λ form t. ShowsTree form (tree_at_steps steps t)) outcome
+-- The text is a line for each, in order, or `none`.
+abbrev pub ShowsEach : {A : Type 0} → (A → List ℕ → Type 0) → List A → List ℕ → Type 0
+ShowsEach IsLineOf xs text = (lines : List (List ℕ)) × AllZip IsLineOf xs lines × (text ≡ text_of lines)
+
+-- the line of a document of the tree in hexadecimal
+abbrev pub IsDocumentLine : Form → Tree → List ℕ → Type 0
+IsDocumentLine form t line = (bytes : List ℕ) × Decodes form bytes t × (line ≡ encode_lower bytes ++ codes "\n")
+
+-- Each tree has the line of a document. The error is that one of the trees is too large for a document.
+abbrev pub ShowsTrees : Form → List Tree → Output → Type 0
+ShowsTrees form ts (Ok text) = ShowsEach (IsDocumentLine form) ts text
+ShowsTrees form ts (Err e) = (e ≡ TooLarge) × Any (IsTooLarge form) ts
 
 -- The line is the sortable key of the tree in hexadecimal. The error is that an item of the tree is too deep for a
 -- key.
 abbrev pub ShowsKey : Tree → Output → Type 0
-ShowsKey t (Ok lines) = (lines ≡ encode_lower (sortable.sortable_key w8 t 0) ++ codes "\n") × (deepest t < depths w8)
+ShowsKey t (Ok text) = (text ≡ encode_lower (sortable.sortable_key w8 t 0) ++ codes "\n") × (deepest t < depths w8)
 ShowsKey t (Err e) = (e ≡ TooDeep) × (depths w8 ≤ deepest t)
 
--- `key`: the sortable key of the document
-abbrev pub ShowsKeyOf : List ℕ → Output → Type 0
-ShowsKeyOf document outcome = OnDocument document (λ form t. ShowsKey t) outcome
-
--- The line of a leaf with these steps: a document of the tree at their place in hexadecimal, a space, and the steps as
--- they print.
-abbrev pub IsLeafLine : Form → Tree → List Key → List ℕ → Type 0
-IsLeafLine form t steps line =
-    (bytes : List ℕ) × IsSomeAnd (tree_at_steps steps t) (Decodes form bytes)
-    × (line ≡ encode_lower bytes ++ codes " " ++ key_path_text steps ++ codes "\n")
-
--- the lines of these leaves of a tree, one after the other
-abbrev pub AreLeafLines : Form → Tree → List Leaf → List ℕ → Type 0
-AreLeafLines form t [] lines = lines ≡ []
-AreLeafLines form t (leaf ∷ others) lines =
-    (line rest : List ℕ) × IsLeafLine form t leaf.0 line × AreLeafLines form t others rest × (lines ≡ line ++ rest)
-
--- the lines of these leaves of a tree, or `none` if there are none
-abbrev pub ShowsEachLeaf : Form → Tree → List Leaf → List ℕ → Type 0
-ShowsEachLeaf form t [] lines = lines ≡ codes "none\n"
-ShowsEachLeaf form t (leaf ∷ others) lines = AreLeafLines form t (leaf ∷ others) lines
-
--- `leaves`: the leaves of the document, arrays entered; none of them is too large for a document
-abbrev pub ShowsLeavesOf : List ℕ → Output → Type 0
-ShowsLeavesOf document outcome =
-    OnDocument document (λ form t outcome. IsOkAnd outcome (ShowsEachLeaf form t (leaf.leaves false t))) outcome
-
--- the line of a document in hexadecimal
-abbrev pub document_line : List ℕ → List ℕ
-document_line bytes = encode_lower bytes ++ codes "\n"
-
--- The lines are documents of the trees in hexadecimal, in order, or `none` if there are no trees. The error is that
--- one of the trees is too large for a document.
-abbrev pub ShowsTrees : Form → List Tree → Output → Type 0
-ShowsTrees form [] outcome = outcome ≡ Ok (codes "none\n")
-ShowsTrees form (t ∷ ts) (Ok lines) =
-    (documents : List (List ℕ)) × AllZip (Decodes form) documents (t ∷ ts)
-    × (lines ≡ flat_map document_line documents)
-ShowsTrees form (t ∷ ts) (Err e) = (e ≡ TooLarge) × Any (IsTooLarge form) (t ∷ ts)
-
--- the meaning of a path on a tree: its list, or its error
-abbrev pub ShowsList : Form → Result (List Tree) Error → Output → Type 0
-ShowsList form (Ok ts) outcome = ShowsTrees form ts outcome
-ShowsList form (Err e) outcome = outcome ≡ Err e
-
--- `select`: the list of the path in lax mode, if it is a path
-abbrev pub ShowsSelection : Option (List Step) → List ℕ → Output → Type 0
-ShowsSelection None document outcome = outcome ≡ Err InvalidJsonPath
-ShowsSelection (Some path) document outcome =
-    OnDocument document (λ form t. ShowsList form (meaning Lax path t)) outcome
+-- the line of a leaf: a document of it in hexadecimal, a space, and the steps to it as they print
+abbrev pub IsLeafLine : Form → Leaf → List ℕ → Type 0
+IsLeafLine form leaf line = (bytes : List ℕ) × Decodes form bytes leaf.1
+    × (line ≡ encode_lower bytes ++ codes " " ++ key_path_text leaf.0 ++ codes "\n")
 
 abbrev pub truth_line : Truth → List ℕ
 truth_line (Some true) = codes "true\n"
 truth_line (Some false) = codes "false\n"
 truth_line None = codes "unknown\n"
 
-abbrev pub ShowsTruth : Result Truth Error → Output → Type 0
-ShowsTruth (Ok truth) outcome = outcome ≡ Ok (truth_line truth)
-ShowsTruth (Err e) outcome = outcome ≡ Err e
-
--- `match`: the result of the path as a predicate in lax mode, if it is a path
-abbrev pub ShowsPredicate : Option (List Step) → List ℕ → Output → Type 0
-ShowsPredicate None document outcome = outcome ≡ Err InvalidJsonPath
-ShowsPredicate (Some path) document outcome = OnDocument document (λ form t. ShowsTruth (predicate Lax path t)) outcome
-
--- what comes of a request
+-- What comes of a request: of `get` the tree at the location of the steps, of `key` the sortable key, of `leaves` the
+-- leaves, arrays entered, none of which is too large for a document, of `select` the list of the path in lax mode, and
+-- of `match` its result as a predicate in lax mode. The error is that of text that is not a path, or of the path.
 abbrev pub IsOutputOf : Request → Output → Type 0
-IsOutputOf (get path document) outcome = ShowsTreeAt (key_path path) document outcome
-IsOutputOf (key document) outcome = ShowsKeyOf document outcome
-IsOutputOf (leaves document) outcome = ShowsLeavesOf document outcome
-IsOutputOf (select path document) outcome = ShowsSelection (json_path path) document outcome
-IsOutputOf (path_match path document) outcome = ShowsPredicate (json_path path) document outcome
+IsOutputOf (get path document) outcome = MatchOption (key_path path) (outcome ≡ Err InvalidKeyPath)
+    (λ steps. OnDocument document (λ form t. ShowsTrees form (option_to_list (tree_at_steps steps t))) outcome)
+IsOutputOf (key document) outcome = OnDocument document (λ form t. ShowsKey t) outcome
+IsOutputOf (leaves document) outcome =
+    OnDocument document (λ form t said. IsOkAnd said (ShowsEach (IsLeafLine form) (leaf.leaves false t))) outcome
+IsOutputOf (select path document) outcome = MatchOption (json_path path) (outcome ≡ Err InvalidJsonPath)
+    (λ steps. OnDocument document (λ form t said. MatchResult (meaning Lax steps t)
+    (λ ts. ShowsTrees form ts said) (λ e. said ≡ Err e)) outcome)
+IsOutputOf (path_match path document) outcome = MatchOption (json_path path) (outcome ≡ Err InvalidJsonPath)
+    (λ steps. OnDocument document (λ form t said. MatchResult (predicate Lax steps t)
+    (λ truth. said ≡ Ok (truth_line truth)) (λ e. said ≡ Err e)) outcome)

@@ -1,13 +1,6 @@
 -- What the values of the code stand for.
-use Rattle.std.specs.Prelude.{ℕ, List, [], ◌∷◌, ◌++◌, flat_map, Option, Some, None, codes}
-use Rattle.hex.specs.Hex.{encode_lower}
-use Rattle.jsonb.specs.KeyPaths.{KeyPaths}
-use Rattle.jsonb.specs.KeyPathText.{key_path_text}
-use Rattle.jsonb.specs.KeyPathViews.{key_paths_view}
-use Rattle.jsonb.specs.OwnedJsonb.{OwnedJsonb}
 use Rattle.jsonb_tool.specs.declared.command.Command.{Command}
 use Rattle.jsonb_tool.specs.declared.command.Command.TheVariants.{Get, Key, Leaves, Select, Match}
-use Rattle.jsonb_tool.specs.Output.{document_line}
 use Rattle.jsonb_tool.specs.Requests as spec
 use Rattle.jsonb_tool.specs.Requests.{Request}
 
@@ -18,22 +11,3 @@ request (Key document) = spec.key document.items
 request (Leaves document) = spec.leaves document.items
 request (Select path document) = spec.select path.now document.items
 request (Match path document) = spec.path_match path.now document.items
-
--- the line of a document in hexadecimal, or of none
-abbrev pub found_text : Option OwnedJsonb → List ℕ
-found_text (Some document) = encode_lower document ++ codes "\n"
-found_text None = codes "none\n"
-
--- a line for each document in hexadecimal, or that of none
-abbrev pub found_lines : List OwnedJsonb → List ℕ
-found_lines [] = codes "none\n"
-found_lines (document ∷ documents) = flat_map document_line (document ∷ documents)
-
--- the line of a leaf: its document in hexadecimal, a space, and its key path as it prints
-abbrev pub leaf_line : KeyPaths × OwnedJsonb → List ℕ
-leaf_line leaf = encode_lower leaf.1 ++ codes " " ++ key_path_text (key_paths_view leaf.0) ++ codes "\n"
-
--- a line for each leaf, or that of none
-abbrev pub leaf_lines : List (KeyPaths × OwnedJsonb) → List ℕ
-leaf_lines [] = codes "none\n"
-leaf_lines (leaf ∷ leaves) = flat_map leaf_line (leaf ∷ leaves)

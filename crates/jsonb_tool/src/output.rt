@@ -5,12 +5,11 @@ ghost use Rattle.jsonb.specs.Error.TheVariants.{OutOfMemory};
 ghost use Rattle.jsonb.specs.Tree.{Tree};
 ghost use Rattle.jsonb.specs.Payload.{any};
 ghost use Rattle.jsonb.specs.Format.{Decodes};
-ghost use Rattle.jsonb.specs.KeyPathGrammar.{key_path};
 ghost use Rattle.jsonb.specs.Documents.{raw_bytes};
-ghost use Rattle.jsonb.specs.PathGrammar.{json_path};
-ghost use Rattle.jsonb_tool.specs.Output.{ShowsTreeAt, ShowsKeyOf, ShowsLeavesOf, ShowsSelection, ShowsPredicate, IsDamage, IsOutputOf, truth_line};
-ghost use Rattle.jsonb_tool.specs.Private.Lines.{Prints};
-ghost use Rattle.jsonb_tool.specs.Views.{found_text, found_lines, leaf_line, leaf_lines, request};
+ghost use Rattle.jsonb_tool.specs.Output.{IsDamage, IsOutputOf, truth_line};
+ghost use Rattle.jsonb_tool.specs.Requests as spec;
+ghost use Rattle.jsonb_tool.specs.Private.Lines.{Prints, found_lines, found_text, leaf_line, leaf_lines};
+ghost use Rattle.jsonb_tool.specs.Views.{request};
 ghost use Rattle.hex.specs.Hex.{encode_lower};
 
 use crate::command::Command;
@@ -43,7 +42,7 @@ pub fn output(alloc: Global, command: &Command<'_>) -> Result<String, Error>
 
 /// The document at the place of a key path, or `none`.
 fn get(alloc: Global, path: &str, document: &[u8]) -> Result<String, Error>
-    ensures { Prints (ShowsTreeAt (key_path path.now) document.now) result }
+    ensures { Prints (IsOutputOf (spec.get path.now document.now)) result }
 {
     let steps = parse_key_paths(alloc, path.as_bytes())?;
     let document = checked(document)?;
@@ -53,7 +52,7 @@ fn get(alloc: Global, path: &str, document: &[u8]) -> Result<String, Error>
 
 /// The sortable key of a document.
 fn key(alloc: Global, document: &[u8]) -> Result<String, Error>
-    ensures { Prints (ShowsKeyOf document.now) result }
+    ensures { Prints (IsOutputOf (spec.key document.now)) result }
 {
     let document = checked(document)?;
     let key = document.convert_to_comparable(alloc)?;
@@ -62,7 +61,7 @@ fn key(alloc: Global, document: &[u8]) -> Result<String, Error>
 
 /// The leaves of a document with their key paths, a line for each, or `none`.
 fn leaves(alloc: Global, document: &[u8]) -> Result<String, Error>
-    ensures { Prints (ShowsLeavesOf document.now) result }
+    ensures { Prints (IsOutputOf (spec.leaves document.now)) result }
 {
     let document = checked(document)?;
     let leaves = document.leaf_documents(alloc, false)?;
@@ -71,7 +70,7 @@ fn leaves(alloc: Global, document: &[u8]) -> Result<String, Error>
 
 /// The documents that a JSON path selects, each on a line, or `none`.
 fn select<'a>(alloc: Global, path: &'a str, document: &'a [u8]) -> Result<String, Error>
-    ensures { Prints (ShowsSelection (json_path path.now) document.now) result }
+    ensures { Prints (IsOutputOf (spec.select path.now document.now)) result }
 {
     let steps = parse_json_path(alloc, path.as_bytes())?;
     let document = checked(document)?;
@@ -81,7 +80,7 @@ fn select<'a>(alloc: Global, path: &'a str, document: &'a [u8]) -> Result<String
 
 /// What a JSON path says as a predicate: `true`, `false` or `unknown`.
 fn path_match<'a>(alloc: Global, path: &'a str, document: &'a [u8]) -> Result<String, Error>
-    ensures { Prints (ShowsPredicate (json_path path.now) document.now) result }
+    ensures { Prints (IsOutputOf (spec.path_match path.now document.now)) result }
 {
     let steps = parse_json_path(alloc, path.as_bytes())?;
     let document = checked(document)?;

@@ -1,10 +1,10 @@
 //! Each call that reads a document, made on some bytes, and whether the documents that the calls return decode.
 
 use jsonb::{
-    ArrayBuilder, Error, JsonPath, ObjectBuilder, OwnedJsonb, RawJsonb, SelectByPath, Selector,
-    child_spots, composite_key, composite_key_wide, elements, encode_item, field_spot, keys, pairs,
-    parse_json_path, parse_key_paths, push_column_key, push_column_key_wide, root_item, root_spot,
-    spot_item, to_value, values,
+    ArrayBuilder, DocumentBuilder, Error, JsonPath, ObjectBuilder, OwnedJsonb, RawJsonb,
+    SelectByPath, Selector, child_spots, composite_key, composite_key_wide, elements, encode_item,
+    field_spot, keys, open_children, pairs, parse_json_path, parse_key_paths, push_column_key,
+    push_column_key_wide, root_item, root_spot, spot_item, to_value, values,
 };
 use std::alloc::Global;
 use std::collections::BTreeSet;
@@ -74,6 +74,7 @@ pub(super) fn ask_array(alloc: Global, raw: &RawJsonb<'_>, answers: &mut Answers
         answers.one(raw.delete_by_index(alloc, pos));
     }
     answers.found(raw.get_by_index(alloc, 0));
+    let _ = raw.spot_by_index(0);
 }
 
 /// The calls on objects.
@@ -92,6 +93,7 @@ pub(super) fn ask_object(
     for update_flag in [false, true] {
         answers.one(raw.object_insert(alloc, "b", &one, update_flag));
         answers.found(raw.get_by_name(alloc, "A", update_flag));
+        let _ = raw.spot_by_name("A", update_flag);
     }
     answers.one(raw.delete_by_name(alloc, "a"));
     let mut names = BTreeSet::new(alloc);
@@ -230,6 +232,7 @@ pub(super) fn ask_spots(alloc: Global, bytes: &[u8], answers: &mut Answers) {
         return;
     };
     let _ = field_spot(bytes, root, "a");
+    ask_children(bytes);
     if let Ok(Some(children)) = child_spots(bytes, root) {
         for child in children {
             if let Ok(child) = child {
@@ -238,6 +241,16 @@ pub(super) fn ask_spots(alloc: Global, bytes: &[u8], answers: &mut Answers) {
                 }
             }
         }
+    }
+}
+
+/// The children of a document one by one.
+fn ask_children(bytes: &[u8]) {
+    let Ok(Some(mut left)) = open_children(bytes) else {
+        return;
+    };
+    for _ in 0..bytes.len() {
+        let _ = left.take(bytes);
     }
 }
 
@@ -254,6 +267,11 @@ pub(super) fn ask_builders(alloc: Global, bytes: &[u8], answers: &mut Answers) {
     let mut object = ObjectBuilder::new(alloc);
     let _ = object.push_document("k", bytes);
     answers.bytes(object.build());
+    let mut events = DocumentBuilder::new(alloc);
+    let _ = events.document(bytes);
+    if let Ok(document) = events.finish() {
+        answers.bytes(Ok(document));
+    }
 }
 
 /// Selections by a path, in both modes.
@@ -280,13 +298,29 @@ fn ask_by_path<'a>(alloc: Global, bytes: &'a [u8], path: &'a JsonPath<'_>, answe
     let _ = raw.path_match(alloc, path);
 }
 
+/// Documents of the items that a strict selector finds in place.
+fn found_documents<'a>(
+    alloc: Global,
+    bytes: &'a [u8],
+    path: &'a JsonPath<'_>,
+) -> Result<Vec<OwnedJsonb>, Error> {
+    let raw = RawJsonb::new(bytes);
+    let mut documents = Vec::new(alloc);
+    for item in &Selector::new_strict(alloc, raw).find_values(path)? {
+        documents.push(item.to_document(alloc, &raw)?)?;
+    }
+    Ok(documents)
+}
+
 /// Selections of a strict selector, which is used again.
 fn ask_strict<'a>(alloc: Global, bytes: &'a [u8], path: &'a JsonPath<'_>, answers: &mut Answers) {
     let mut selector = Selector::new_strict(alloc, RawJsonb::new(bytes));
     answers.each(selector.select_values(path));
+    answers.each(found_documents(alloc, bytes, path));
     answers.one(selector.select_array(path));
     answers.found(selector.select_first(path));
     answers.found(selector.select_value(path));
+    let _ = selector.find_first(path);
     let _ = selector.exists(path);
     let _ = selector.predicate_match(path);
 }

@@ -1,5 +1,5 @@
 use Rattle.std.proofs.Common.{◌≡◌, flat_map, take, string_bytes}
-use Rattle.jsonb_tool.specs.Output.{document_line}
+use Rattle.jsonb_tool.specs.Private.Lines.{document_line}
 use Rattle.jsonb_tool.proofs.output.found_lines.Given as goal
 
 abbrev pub invariant-loop-document : goal.invariant-loop-document

@@ -1,5 +1,5 @@
 use Rattle.std.proofs.Common.{◌≡◌, flat_map, take, string_bytes}
-use Rattle.jsonb_tool.specs.Views.{leaf_line}
+use Rattle.jsonb_tool.specs.Private.Lines.{leaf_line}
 use Rattle.jsonb_tool.proofs.output.leaf_lines.Given as goal
 
 abbrev pub invariant-loop-path : goal.invariant-loop-path

@@ -24,6 +24,6 @@ returns c =
       decodes,
       λ form t d.
           let d' : Decodes form (raw_bytes c.in_ok-document.document) t = rw same d in
-          shows_leaves form t c.in_ok-leaves.leaves.items _ (decoded_fits form _ t (λ i. omega (arith, c.type_inv.document i)) d)
+          shows_leaves form t c.in_ok-leaves.leaves.items _
           (c.in_ok-leaves.ensures.leaves form t d') (rw c.deref.ensures.value at c.in_ok-leaf_lines.ensures),
     )
