@@ -1,7 +1,7 @@
 #!/usr/bin/env bash
-# The tests of the library for C and of what uses it. Needs crates/jsonb_c/out/libjsonb_c.a (rt lib in crates/jsonb_c), the
+# The tests of the library for C and of what uses it. Needs crates/jsonb_c/out/libjsonb_c.a (tools/library.py build), the
 # toolchain's heap file (see bindings/c/Makefile), cc, make and python3; c++ and cargo are used if they are installed. The last line
-# is `N passed, M failed`.
+# is `N passed, M failed`, and the one before it has the minutes.
 cd "$(dirname "${BASH_SOURCE[0]}")" || exit 1
 passed=0 failed=0
 room=$(mktemp -d) || exit 1
@@ -54,6 +54,7 @@ else
 fi
 count "example" diff <("$out/example") c/example.txt
 count "example with prepared paths" diff <("$out/prepared") c/prepared.txt
+count "example with events" diff <("$out/events") c/events.txt
 count "bench" "$out/bench" 1000
 if [ -x "$out/bench_times" ]; then
     count "bench by time" "$out/bench_times" --benchmark_min_time=0.0001
@@ -71,6 +72,8 @@ count "JSON text: library and tests, without a warning" make -s -j2 -C text OUT=
 python3 text/tests/rows.py >"$room/text_rows" || failed=$((failed + 1))
 count "JSON text" "$room/text/text" "$room/text_rows"
 count "JSON text, sanitized" "$room/text/text_sanitized" "$room/text_rows" 20000
+count "JSON text, beside jdoc_check" "$room/text/check"
+count "JSON text, beside jdoc_check, sanitized" "$room/text/check_sanitized" 20000
 if echo -e '#include <yajl/yajl_parse.h>\n#include <rapidjson/reader.h>' | "${CXX:-c++}" -x c++ -E - >/dev/null 2>&1; then
     count "JSON text, beside yajl and RapidJSON" python3 -B bench/readers.py "$out" "$room/text" --check
 else
@@ -82,8 +85,10 @@ server="$PWD/postgres/test.sh" # starts a server, for a command that starts the 
 count "PostgreSQL, two servers" "$server" "$out" "$room/one" "$server" "$out" "$room/two" "$PWD/tests/two_servers.sh" "$room/one" "$room/two"
 count "Python" python/test.sh "$out" "$room/release/first/dist"
 if command -v cargo >/dev/null; then
-    count "Rust" env JDOC_LIB_DIR="$out" JDOC_TEXT_LIB_DIR="$room/text" CARGO_TARGET_DIR="$room/target" \
-        cargo test -q --offline --workspace --manifest-path rust/Cargo.toml
+    libraries=(env JDOC_LIB_DIR="$out" JDOC_TEXT_LIB_DIR="$room/text" CARGO_TARGET_DIR="$room/target")
+    count "Rust" "${libraries[@]}" cargo test -q --offline --workspace --manifest-path rust/Cargo.toml
+    count "Rust, the example of the crate jsonb" diff <(echo 'value={"number":3720453,"type":"home"}') \
+        <("${libraries[@]}" cargo run -q --offline --manifest-path rust/Cargo.toml -p jsonb_example --example readme)
 else
     echo "skipped: Rust: there is no cargo"
 fi
@@ -93,5 +98,6 @@ else
     echo "skipped: declarations in Rust as bindgen writes them: there is no bindgen 0.60.1 or no rustfmt"
 fi
 
+awk -v seconds="$SECONDS" 'BEGIN { printf "bindings: %.1f min\n", seconds / 60 }'
 echo "$passed passed, $failed failed"
 [ "$failed" = 0 ]

@@ -2,7 +2,8 @@
 """Measures the bindings: writes docs/measured/ and the tables of README.md, docs/C.md and docs/SQL.md.
 
   measure.py [NAME ..]         c, sqlite, postgres, python, jq, dask, readers; all if there is no name
-  measure.py --instructions    only the instructions of c, sqlite and readers, which hardly depend on what else the machine does
+  measure.py --instructions    only the instructions of c, sqlite, postgres and readers, which hardly depend on the machine's other
+                               work
 
 Needs crates/jsonb_c/out/libjsonb_c.a (`rt lib` in crates/jsonb_c) and the packages of bindings/setup.sh. Builds the rest. Times are
 of processors, and need an idle machine all the same.
@@ -52,10 +53,10 @@ def sqlite():
     script("sqlite.py", os.path.join(BINDINGS, "sqlite", "out", "jdoc"), "--write", python=python)
 
 
-def postgres():
+def postgres(*how):
     with tempfile.TemporaryDirectory() as folder:
         os.chmod(folder, 0o711)  # the server runs as another user
-        words = [sys.executable, os.path.join(BENCH, "postgres.py"), "--write"]
+        words = [sys.executable, os.path.join(BENCH, "postgres.py"), "--write", *how]
         run(os.path.join(BINDINGS, "postgres", "test.sh"), LIBRARY, os.path.join(folder, "server"), *words)
 
 
@@ -98,6 +99,7 @@ def main():
     if asked.instructions:
         c("--instructions")
         sqlite()
+        postgres("--instructions")
         readers()
         return
     for name in asked.names or MEASURES:

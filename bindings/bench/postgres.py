@@ -3,7 +3,9 @@
 and instructions, counted by callgrind, which a busy machine hardly changes.
 
   postgres.py ROWS small|large [ROUNDS]     prints the figures
-  postgres.py --write                       writes docs/measured/postgres.csv and the tables of pages: 20,000 small rows, 5 rounds
+  postgres.py --write                       writes docs/measured/postgres.csv and the tables of pages: both sizes, and 5 rounds of small
+                                            rows
+  postgres.py --write --instructions        counts only instructions, which hardly depend on what else the machine does; times are kept
 
 PGHOST, PGUSER, PGDATABASE, PGDATA and PGBIN (the folder of its programs) name a server that is stopped for the instructions;
 `bindings/postgres/test.sh LIB OUT COMMAND ..` starts one for a command. The role must be allowed to read /proc/self/schedstat. JIT and
@@ -21,7 +23,9 @@ import documents
 sys.path.append(os.path.join(os.path.dirname(os.path.abspath(__file__)), "..", "..", "tools"))
 import measured
 
-WRITTEN = 20_000, "small", 5
+# The rows of each size, and how the columns of its instructions in docs/measured/postgres.csv end. Times are of small rows.
+SIZES = {"small": (20_000, "instructions"), "large": (1_000, "4900")}
+ROUNDS = 5
 KINDS = "jdoc", "jsonb"
 HOME = '$.phones[*] ? (@.type == "home" && @.number > 5000000)'
 # A title, and a query over the tables jdocs and jsonbs, whose names stand for {0}, and their types for {1}.
@@ -59,44 +63,50 @@ def psql(text):
 
 
 def load(rows, size):
-    psql("DROP TABLE IF EXISTS texts, jdocs, jsonbs; CREATE EXTENSION IF NOT EXISTS jdoc; CREATE UNLOGGED TABLE texts (t text);"
+    """Creates the tables of a size in a schema of its own."""
+    psql("CREATE EXTENSION IF NOT EXISTS jdoc;"
+         f"DROP SCHEMA IF EXISTS {size} CASCADE; CREATE SCHEMA {size}; SET search_path = {size}, public; CREATE UNLOGGED TABLE texts (t text);"
          "CREATE UNLOGGED TABLE jdocs (d jdoc); CREATE UNLOGGED TABLE jsonbs (d jsonb);")
     lines = [it.replace("\\", "\\\\") for it in documents.people(rows, size)]
     random.Random(7).shuffle(lines)  # jsonb would find the documents sorted, since it compares the key `id` first
-    psql("COPY texts FROM STDIN;\n" + "\n".join(lines) + "\n\\.\n")
+    psql(f"COPY {size}.texts FROM STDIN;\n" + "\n".join(lines) + "\n\\.\n")
 
 
-def settings(title):
+def settings(title, size):
     plans = "SET enable_indexscan = off; SET enable_bitmapscan = off;" if "index" not in title else ""
-    return SETTINGS + plans + ("SET enable_sort = off;" if "hash" in title else "")
+    return SETTINGS + f"SET search_path = {size}, public;" + plans + ("SET enable_sort = off;" if "hash" in title else "")
 
 
-def nanoseconds(title, sql, table):
+def fills(sql):
+    return sql.startswith(("INSERT", "CREATE"))
+
+
+def nanoseconds(title, sql, kind, size):
     """The processor time of a statement, and what it returns. The server's clock is coarse, so that a short one is run a hundred times."""
     runs = 100 if "by the" in title else 1
     before = f"{sql};"
     if sql.startswith("INSERT"):
-        before = f"TRUNCATE {table};"
+        before = f"TRUNCATE {kind}s;"
     if sql.startswith("CREATE INDEX"):
         before = f"DROP INDEX IF EXISTS {sql.split()[2]};"
-    said = psql(f"{settings(title)} {before}\n{CLOCK}\n{CLOCK}\n" + f"{sql};\n" * runs + CLOCK)
-    if sql.startswith(("INSERT", "CREATE")):
-        psql(f"VACUUM ANALYZE {table}")
+    said = psql(f"{settings(title, size)} {before}\n{CLOCK}\n{CLOCK}\n" + f"{sql};\n" * runs + CLOCK)
+    if fills(sql):
+        psql(f"VACUUM ANALYZE {size}.{kind}s")
     first, second, third = (int(it) for it in re.findall(r"cpu (\d+)", said))
     return (third - second - (second - first)) / runs, said.rsplit("cpu", 2)[1].split("\n", 1)[1]
 
 
-def times(rows, rounds):
-    """The microseconds per row of each query, by its title."""
+def times(rows, size, rounds):
+    """The microseconds per row of each query. Without a round only those are run that fill the tables."""
     for title, query in QUERIES:
         best, found = {}, {}
-        for _ in range(rounds):
+        for _ in range(rounds or fills(query)):
             for kind in KINDS:
-                took, found[kind] = nanoseconds(title, query.format(f"{kind}s", kind), f"{kind}s")
+                took, found[kind] = nanoseconds(title, query.format(f"{kind}s", kind), kind, size)
                 best[kind] = min(best.get(kind, took), took)
-        if found["jdoc"] != found["jsonb"]:
+        if found.get("jdoc") != found.get("jsonb"):
             raise SystemExit(f"different results: {title}: {found}")
-        yield {f"{kind}_us": f"{best[kind] / rows / 1e3:.2f}" for kind in KINDS}
+        yield {f"{kind}_us": f"{best[kind] / rows / 1e3:.2f}" for kind in KINDS} if rounds else {}
 
 
 def as_server(*words):
@@ -104,14 +114,14 @@ def as_server(*words):
     return [*([] if os.getuid() else ["runuser", "-u", os.environ["PGUSER"], "--"]), *words]
 
 
-def lines_of(title, sql, table):
+def lines_of(title, sql, table, size):
     """The statements for a query that leaves no trace."""
     before = []
     if sql.startswith("INSERT"):
         before = [f"DROP INDEX {table}_age, {table}_gin", f"TRUNCATE {table}"]
     if sql.startswith("CREATE INDEX"):
         before = [f"DROP INDEX {sql.split()[2]}"]
-    return ["RESET ALL", *filter(None, re.split("; *", settings(title))), "BEGIN", *before, sql, "ROLLBACK"]
+    return ["RESET ALL", *filter(None, re.split("; *", settings(title, size))), "BEGIN", *before, sql, "ROLLBACK"]
 
 
 def instructions(lines):
@@ -129,36 +139,52 @@ def instructions(lines):
         os.remove(dump.name)
 
 
-def counts(rows):
+def counts(rows, size, end):
     """The instructions per row of each query when it is run for the second time."""
-    subprocess.run(as_server(os.path.join(os.environ["PGBIN"], "pg_ctl"), "-w", "stop"), check=True, stdout=subprocess.DEVNULL)
     found = [{} for _ in QUERIES]
     for kind in KINDS:
-        lines = [2 * lines_of(title, query.format(f"{kind}s", kind), f"{kind}s") for title, query in QUERIES]
+        lines = [2 * lines_of(title, query.format(f"{kind}s", kind), f"{kind}s", size) for title, query in QUERIES]
         of_lines = instructions(sum(lines, []))
         for it, of_query in zip(found, lines):
-            it[f"{kind}_instructions"] = f"{[next(of_lines) for _ in of_query][-2] / rows:.0f}"
+            it[f"{kind}_{end}"] = f"{[next(of_lines) for _ in of_query][-2] / rows:.0f}"
     return found
 
 
-def sizes(rows):
+def stop():
+    subprocess.run(as_server(os.path.join(os.environ["PGBIN"], "pg_ctl"), "-w", "stop"), check=True, stdout=subprocess.DEVNULL)
+
+
+def sizes(rows, size):
     for kind in KINDS:
-        table, average = psql(f"SELECT pg_table_size('{kind}s') / {rows}, (SELECT avg(pg_column_size(d))::int FROM {kind}s)").strip().split("|")
-        print(f"{kind}: {table} bytes per row of the table, {average} of a document")
+        sql = f"SELECT pg_table_size('{size}.{kind}s') / {rows}, (SELECT avg(pg_column_size(d))::int FROM {size}.{kind}s), pg_table_size('{size}.{kind}s_age') / 1024"
+        table, average, index = psql(sql).strip().split("|")
+        print(f"{size}, {kind}: {table} bytes per row of the table, {average} of a document; {index} kB of the index on a field")
 
 
-def compare(rows, size, rounds):
-    """A row for each query."""
-    load(rows, size)
-    timed = list(times(rows, rounds))
-    sizes(rows)
-    return [{"query": title, **us, **counted} for (title, _), us, counted in zip(QUERIES, timed, counts(rows))]
+def compare(asked, known):
+    """A row for each query, of sizes with their rows and rounds. Figures that are not measured are those of `known`."""
+    found = [{"query": title, **known.get(title, {})} for title, _ in QUERIES]
+    for size, (rows, rounds, _) in asked.items():
+        load(rows, size)
+        for it, us in zip(found, times(rows, size, rounds)):
+            it.update(us)
+        sizes(rows, size)
+    stop()
+    for size, (rows, _, end) in asked.items():
+        for it, counted in zip(found, counts(rows, size, end)):
+            it.update(counted)
+    return found
 
 
 def main():
-    is_written = sys.argv[1:] == ["--write"]
-    asked = WRITTEN if is_written else (int(sys.argv[1]), sys.argv[2], int(sys.argv[3]) if len(sys.argv) > 3 else 3)
-    measured.report("postgres", compare(*asked), is_written)
+    words = sys.argv[1:]
+    if words[:1] == ["--write"]:
+        rounds = {"small": 0 if words[1:] == ["--instructions"] else ROUNDS}
+        asked = {size: (rows, rounds.get(size, 0), end) for size, (rows, end) in SIZES.items()}
+        measured.report("postgres", compare(asked, {row["query"]: row for row in measured.read("postgres")}), True)
+        return
+    size = words[1]
+    measured.report("postgres", compare({size: (int(words[0]), int(words[2]) if len(words) > 2 else 3, SIZES[size][1])}, {}), False)
 
 
 if __name__ == "__main__":

@@ -1,5 +1,6 @@
 #!/usr/bin/env python3
-"""Compares readers of JSON text: instructions per document, counted by callgrind, from JSON text to a checked document.
+"""Compares readers of JSON text: instructions per document, counted by callgrind, from JSON text to a checked document; and two ways to
+visit each item of a document.
 
   readers.py LIB TEXT             prints the figures
   readers.py LIB TEXT --check     compares the documents that the readers build, and measures nothing
@@ -21,7 +22,9 @@ BENCH = os.path.dirname(os.path.abspath(__file__))
 sys.path.append(os.path.join(BENCH, "..", "..", "tools"))
 import measured
 
-READERS = {"text": "`bindings/text`", "yajl": "yajl 2.1", "rapidjson": "RapidJSON 1.1"}
+READERS = {"text": "`bindings/text`", "yajl": "yajl 2.1", "rapidjson": "RapidJSON 1.1", "builder": "yajl 2.1, `jdoc_builder_..`"}
+# What visits the items of documents that the first reader builds. Its instructions are taken off.
+VISITORS = {"walk": "items by `bindings/text`", "cursor": "items by `jdoc_check`, `jdoc_cursor_next`"}
 # The sizes of documents, the columns of docs/measured/readers.csv, and the rows of both runs.
 SIZES = {"small": ("instructions_298", 500, 1500), "large": ("instructions_4900", 50, 150)}
 
@@ -50,19 +53,23 @@ def documents(folder, program, reader, file):
 def check(folder, program):
     for size, (_, _, rows) in SIZES.items():
         file = write_lines(folder, size, rows)
-        first, *others = (documents(folder, program, it, file) for it in READERS)
-        if not first or any(it != first for it in others):
-            raise SystemExit(f"the readers build different documents: {size}")
+        for names in READERS, VISITORS:
+            first, *others = (documents(folder, program, it, file) for it in names)
+            if not first or any(it != first for it in others):
+                raise SystemExit(f"{', '.join(names)}: different results: {size}")
 
 
 def measure(folder, program):
-    """A row for each reader."""
+    """A row for each reader and visitor."""
     files = {size: write_lines(folder, size, rows) for size, (_, _, rows) in SIZES.items()}
-    for reader, title in READERS.items():
+    read = {}
+    for reader, title in {**READERS, **VISITORS}.items():
         row = {"reader": title}
         for size, (column, few, many) in SIZES.items():
             runs = [counted(program, reader, rows, files[size]) for rows in (few, many)]
-            row[column] = f"{(runs[1] - runs[0]) / (many - few):.0f}"
+            took = (runs[1] - runs[0]) / (many - few)
+            read.setdefault(size, took)  # by the first reader
+            row[column] = f"{took - (read[size] if reader in VISITORS else 0):.0f}"
         yield row
 
 

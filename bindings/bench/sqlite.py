@@ -23,13 +23,15 @@ import measured
 
 # The rows of each size, and how the columns of docs/measured/sqlite.csv end.
 SIZES = {"small": (10_000, "298"), "large": (1_000, "4900")}
+# A field as an SQL value, such as ->> returns it, and as a key that orders values of all types exactly.
+VALUE = "jdoc_value(d, '{age}')"
 KEY = "jdoc_key(jdoc_get(d, '{age}'))"
 HOME = '$.phones[*]?(@.type == "home" && @.number > 5000000)'
 # A title, a query of ours and one of SQLite's. Both return the same, except lengths of bytes.
 QUERIES = [
     ("read each row", "SELECT count(*), sum(length(d)) FROM t", "SELECT count(*), sum(length(d)) FROM t"),
     ("`$.age > 40`", "SELECT count(*) FROM t WHERE jdoc_match(d, '$.age > 40')", "SELECT count(*) FROM t WHERE json_extract(d, '$.age') > 40"),
-    ("the same by a value", "SELECT count(*) FROM t WHERE jdoc_value(d, '{age}') > 40", "SELECT count(*) FROM t WHERE d ->> '$.age' > 40"),
+    ("the same by a value", f"SELECT count(*) FROM t WHERE {VALUE} > 40", "SELECT count(*) FROM t WHERE d ->> '$.age' > 40"),
     ("nested, `$.address.city == \"Oslo\"`", "SELECT count(*) FROM t WHERE jdoc_match(d, '$.address.city == \"Oslo\"')",
      "SELECT count(*) FROM t WHERE d ->> '$.address.city' = 'Oslo'"),
     ("a filter in an array", f"SELECT count(*) FROM t WHERE jdoc_exists(d, '{HOME}')",
@@ -45,10 +47,16 @@ QUERIES = [
      "SELECT count(*), sum(value ->> '$.number') FROM t, json_each(d, '$.phones')"),
     ("sort by a field, no index", f"SELECT sum(n) FROM (SELECT 1 AS n FROM t ORDER BY {KEY} LIMIT 1000)",
      "SELECT sum(n) FROM (SELECT 1 AS n FROM t ORDER BY d ->> '$.age' LIMIT 1000)"),
-    ("build an index", f"CREATE INDEX i ON t ({KEY})", "CREATE INDEX i ON t (d ->> '$.age')"),
-    ("range by the index", f"SELECT count(*) FROM t WHERE {KEY} BETWEEN jdoc_key(30) AND jdoc_key(32)",
+    ("build an index", f"CREATE INDEX i ON t ({VALUE})", "CREATE INDEX i ON t (d ->> '$.age')"),
+    ("range by the index", f"SELECT count(*) FROM t WHERE {VALUE} BETWEEN 30 AND 32",
      "SELECT count(*) FROM t WHERE d ->> '$.age' BETWEEN 30 AND 32"),
+    ("build an index of keys", f"CREATE INDEX k ON t ({KEY})", "CREATE INDEX k ON t (d ->> '$.age')"),
+    ("range by the index of keys", f"SELECT count(*) FROM t WHERE {KEY} BETWEEN jdoc_key(30) AND jdoc_key(32)",
+     "SELECT count(*) FROM t WHERE d ->> '$.age' BETWEEN 30 AND 32"),
+    ("build an index of stored keys", "CREATE INDEX s ON stored (k)", "CREATE INDEX s ON stored (k)"),
 ]
+# The table `stored` has what the index of keys contains, on either side, so that no function runs.
+STORED = KEY, "d ->> '$.age'"
 LOAD = ("load from JSON text", "INSERT INTO t SELECT jdoc(text) FROM texts", "INSERT INTO t SELECT json(text) FROM texts")
 
 
@@ -70,6 +78,7 @@ def make(folder, extension, texts):
         db.execute(loads[name == "SQLite"])
         db.commit()
         pages = db.execute("PRAGMA page_count").fetchone()[0] - before
+        db.execute(f"CREATE TABLE stored AS SELECT {STORED[name == 'SQLite']} AS k FROM t")
         made[name] = path, db, pages * db.execute("PRAGMA page_size").fetchone()[0] / len(texts)
     return made
 
@@ -79,7 +88,7 @@ def timed(db, sql):
     if sql.startswith("INSERT"):
         db.execute("DELETE FROM t")
     if sql.startswith("CREATE INDEX"):
-        db.execute("DROP INDEX IF EXISTS i")
+        db.execute(f"DROP INDEX IF EXISTS {sql.split()[2]}")
     begun = time.process_time()
     found = db.execute(sql).fetchall()
     db.commit()

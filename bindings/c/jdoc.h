@@ -20,7 +20,7 @@
  *   any other status        nothing was written; *out_len is 0
  * So a caller may pass NULL and out_size 0 first, and then a buffer of that size. Nothing has to be freed.
  *
- * A Boolean or a number is written through a pointer, only with JDOC_OK. `out_len`, `key_len`, `value_len`, `done`,
+ * A Boolean, a number or a span is written through a pointer, only with JDOC_OK. `out_len`, `key_len`, `value_len`, `done`,
  * `sizes` and `progress` are written with every status. None of these pointers may be NULL.
  *
  * Output must not overlap anything else of the same call.
@@ -28,11 +28,12 @@
  * Threads. Functions share nothing: any number of threads may call at the same time. Signal handlers may not call, nor
  * may the child of a fork in a process with other threads, until it calls exec.
  *
- * Memory. A function frees what it allocates before it returns, except a prepared path. It calls malloc, realloc and
- * free of the C library, whose blocks have to be aligned to 16 bytes. These do not allocate: jdoc_version,
- * jdoc_status_name, jdoc_check, jdoc_type, jdoc_len, jdoc_as_.., jdoc_to_bool, jdoc_to_i64, jdoc_to_u64,
- * jdoc_contains, jdoc_compare, jdoc_array_overlap, jdoc_column_check, jdoc_column_contains, jdoc_column_to_i64. Most
- * functions use little stack at any depth; docs/STACK.md lists those that use more.
+ * Memory. A function frees what it allocates before it returns, except a prepared path, its items and a builder. It
+ * calls malloc, realloc and free of the C library, whose blocks have to be aligned to 16 bytes. These do not allocate:
+ * jdoc_version, jdoc_status_name, jdoc_check, jdoc_type, jdoc_len, jdoc_as_.., jdoc_find_str, jdoc_find_by_index,
+ * jdoc_find_by_name, jdoc_cursor_.., jdoc_items_find_next, jdoc_to_bool, jdoc_to_i64, jdoc_to_u64, jdoc_contains,
+ * jdoc_compare, jdoc_array_overlap, jdoc_column_check, jdoc_column_contains, jdoc_column_to_i64. Most functions use
+ * little stack at any depth; docs/STACK.md lists those that use more.
  *
  * Errors of any function, which are not listed with each:
  *   JDOC_INVALID_JSONB       the bytes are not a document
@@ -44,11 +45,11 @@
  *
  * Paths. A key path is a list of keys and indexes such as {phones,0,"a b"}; a JSON path is an expression such as
  * $.phones[*]?(@.type == "home") (docs/PATHS.md). Both are UTF-8. JDOC_INVALID_KEY_PATH, JDOC_INVALID_JSON_PATH: the
- * path is not in the grammar or not UTF-8. JDOC_INVALID_JSON_PATH is also the error if evaluation fails, such as that
- * of $.a + 1 if .a is not a number; arithmetic has four errors of its own. With `strict`, JDOC_STRICT_PATH is the error
- * of a key that the value does not have, of .* after a value that is not an object, and of [..] after one that is not
- * an array. Otherwise these select nothing, except that [*] after a value that is not an array selects the value. An
- * index past the end selects nothing in either mode.
+ * text is not in the grammar or not UTF-8, of any document. JDOC_PATH_FAILED: a JSON path has no value on this document,
+ * such as $.a + 1 if .a is not a number; arithmetic has four errors of its own. With `strict`, JDOC_STRICT_PATH is the
+ * error of a key that the value does not have, of .* after a value that is not an object, and of [..] after one that is
+ * not an array. Otherwise these select nothing, except that [*] after a value that is not an array selects the value.
+ * An index past the end selects nothing in either mode.
  *
  * Columns. `bytes` contains documents one after the other, and `offsets` the n + 1 offsets between them, so that row i
  * is bytes[offsets[i] .. offsets[i + 1]], as in Arrow's large binary arrays. Offsets have 64 bits, in the byte order
@@ -98,6 +99,8 @@ enum jdoc_status {
     JDOC_BAD_OFFSETS = 3,
     JDOC_NOT_UTF8 = 4,
     JDOC_NO_PATH = 5,
+    JDOC_COMPUTED = 6,
+    JDOC_OUT_OF_ORDER = 7,
     JDOC_INVALID_JSONB = 16,
     JDOC_UNSUPPORTED_NUMBER = 17,
     JDOC_INVALID_JSON_PATH = 18,
@@ -110,6 +113,7 @@ enum jdoc_status {
     JDOC_TOO_DEEP = 25,
     JDOC_OUT_OF_MEMORY = 26,
     JDOC_STRICT_PATH = 27,
+    JDOC_PATH_FAILED = 28,
     JDOC_OVERFLOW = 48,
     JDOC_ZERO_DIVISOR = 49,
     JDOC_INEXACT = 50,
@@ -134,13 +138,17 @@ static inline const char *jdoc_status_text(uint32_t status) {
     case JDOC_NOT_UTF8:
         return "a name or another string is not UTF-8";
     case JDOC_NO_PATH:
-        return "the struct contains no prepared path";
+        return "the struct contains no such path, items or events";
+    case JDOC_COMPUTED:
+        return "the item is computed, and is not in the document";
+    case JDOC_OUT_OF_ORDER:
+        return "the event cannot come next";
     case JDOC_INVALID_JSONB:
         return "the bytes are not a document";
     case JDOC_UNSUPPORTED_NUMBER:
         return "a float or a 256-bit decimal";
     case JDOC_INVALID_JSON_PATH:
-        return "not a JSON path, or its evaluation fails";
+        return "not a JSON path";
     case JDOC_INVALID_KEY_PATH:
         return "not a key path";
     case JDOC_INVALID_CAST:
@@ -159,6 +167,8 @@ static inline const char *jdoc_status_text(uint32_t status) {
         return "an allocation fails";
     case JDOC_STRICT_PATH:
         return "a structural error of a strict path";
+    case JDOC_PATH_FAILED:
+        return "the path has no value on this document";
     case JDOC_OVERFLOW:
         return "arithmetic: below -2^63 or above 2^64 - 1";
     case JDOC_ZERO_DIVISOR:
@@ -203,7 +213,8 @@ JDOC_NODISCARD enum jdoc_status jdoc_get_by_keypath(const uint8_t *document, siz
 /* The span of a value in a document: its content is document[at .. at + len]. The content of an array or object is that
  * value as a document, of a string its UTF-8; `entry` is the type of an entry word (docs/FORMAT.md): 0 null, 1 string,
  * 2 number, 3 false, 4 true, 5 array or object, 6 extension value. The bytes 20 00 00 00, then the entry word of `entry`
- * and `len`, then the content are a scalar as a document. */
+ * and `len`, then the content are a scalar as a document. A span that a function stores is within its document, even if
+ * the bytes are not one. */
 typedef struct jdoc_span {
     size_t at;
     size_t len;
@@ -227,6 +238,45 @@ JDOC_NODISCARD enum jdoc_status jdoc_get_by_name(const uint8_t *document, size_t
                                                  size_t name_len, bool ignore_case, uint8_t *out, size_t out_size,
                                                  size_t *out_len);
 
+/* *span: the span of the child that jdoc_get_by_index or jdoc_get_by_name copies, as with jdoc_find_by_keypath. */
+JDOC_NODISCARD enum jdoc_status jdoc_find_by_index(const uint8_t *document, size_t document_len, size_t index,
+                                                   jdoc_span *span);
+JDOC_NODISCARD enum jdoc_status jdoc_find_by_name(const uint8_t *document, size_t document_len, const char *name,
+                                                  size_t name_len, bool ignore_case, jdoc_span *span);
+
+/* A position among the children of an array or object, to visit them one by one in stored order:
+ *
+ *   jdoc_cursor cursor;
+ *   jdoc_span key, value;
+ *   status = jdoc_cursor_open(document, len, &cursor);
+ *   while (status == JDOC_OK) {
+ *       status = jdoc_cursor_next(document, len, &cursor, &key, &value);
+ *       if (status == JDOC_OK) ... document[value.at .. value.at + value.len] ...
+ *   }
+ *
+ * Nothing has to be freed, and the struct may be copied. Its fields belong to the library. Pass the same document to
+ * each call: with other bytes, or if a field was changed, the results are unspecified; the calls return, and read only
+ * those bytes. */
+struct jdoc_entries {
+    size_t word;
+    size_t content;
+    size_t end;
+};
+
+typedef struct jdoc_cursor {
+    size_t left;
+    struct jdoc_entries keys;
+    struct jdoc_entries values;
+} jdoc_cursor;
+
+/* *cursor: before the first child. JDOC_NONE: neither an array nor an object. Adds up the lengths of all keys. */
+JDOC_NODISCARD enum jdoc_status jdoc_cursor_open(const uint8_t *document, size_t document_len, jdoc_cursor *cursor);
+
+/* *value: the span of the next child; *key: that of its key, which is unchanged for an element. The cursor moves past
+ * it, in constant time, only with JDOC_OK. JDOC_NONE: there is none. */
+JDOC_NODISCARD enum jdoc_status jdoc_cursor_next(const uint8_t *document, size_t document_len, jdoc_cursor *cursor,
+                                                 jdoc_span *key, jdoc_span *value);
+
 /* The items that a JSON path selects: the only one, or an array of several. JDOC_NONE: it selects none. */
 JDOC_NODISCARD enum jdoc_status jdoc_select_value(const uint8_t *document, size_t document_len, const char *path,
                                                   size_t path_len, bool strict, uint8_t *out, size_t out_size,
@@ -236,6 +286,11 @@ JDOC_NODISCARD enum jdoc_status jdoc_select_value(const uint8_t *document, size_
 JDOC_NODISCARD enum jdoc_status jdoc_select_first(const uint8_t *document, size_t document_len, const char *path,
                                                   size_t path_len, bool strict, uint8_t *out, size_t out_size,
                                                   size_t *out_len);
+
+/* *span: the span of the item that jdoc_select_first copies. JDOC_NONE: the path selects none. JDOC_COMPUTED: it selects
+ * an item, and is an expression such as $.a + 1 or $.a == 1, whose result is not in the document. */
+JDOC_NODISCARD enum jdoc_status jdoc_find_first(const uint8_t *document, size_t document_len, const char *path,
+                                                size_t path_len, bool strict, jdoc_span *span);
 
 /* An array of all items that a JSON path selects, in order, with repeats. */
 JDOC_NODISCARD enum jdoc_status jdoc_select_array(const uint8_t *document, size_t document_len, const char *path,
@@ -340,6 +395,9 @@ JDOC_NODISCARD enum jdoc_status jdoc_as_i64(const uint8_t *document, size_t docu
 JDOC_NODISCARD enum jdoc_status jdoc_as_u64(const uint8_t *document, size_t document_len, uint64_t *number);
 JDOC_NODISCARD enum jdoc_status jdoc_as_str(const uint8_t *document, size_t document_len, char *out, size_t out_size,
                                             size_t *out_len);
+
+/* *span: the span of the string that jdoc_as_str copies. JDOC_NONE: not a string. */
+JDOC_NODISCARD enum jdoc_status jdoc_find_str(const uint8_t *document, size_t document_len, jdoc_span *span);
 
 /* The parts of a number: it is (*high * 2^64 + *low) / 10^*scale. An integer and zero have the scale 0.
  * jdoc_from_decimal of the parts builds a decimal that is equal by value; if jdoc_type returns JDOC_KIND_INTEGER,
@@ -475,8 +533,8 @@ JDOC_NODISCARD enum jdoc_status jdoc_column_check(const uint8_t *bytes, size_t b
                                                   size_t offsets_len, uint8_t *statuses, size_t statuses_len,
                                                   size_t *done);
 
-/* A Boolean for each row: whether a JSON path selects an item. JDOC_INVALID_JSON_PATH: of the call, the path; of a
- * row, its evaluation fails. A row may also have an error of arithmetic, or with `strict` JDOC_STRICT_PATH. */
+/* A Boolean for each row: whether a JSON path selects an item. JDOC_INVALID_JSON_PATH: of the call, the path. A row may
+ * have JDOC_PATH_FAILED, an error of arithmetic, or with `strict` JDOC_STRICT_PATH. */
 JDOC_NODISCARD enum jdoc_status jdoc_column_exists(const uint8_t *bytes, size_t bytes_len, const uint64_t *offsets,
                                                    size_t offsets_len, const char *path, size_t path_len, bool strict,
                                                    uint8_t *truths, size_t truths_len, uint8_t *statuses,
@@ -579,8 +637,8 @@ JDOC_NODISCARD enum jdoc_status jdoc_column_delete_by_keypath(const uint8_t *byt
  *
  * Statuses. `.._read` returns JDOC_OK, JDOC_OUT_OF_MEMORY, or JDOC_INVALID_JSON_PATH (JDOC_INVALID_KEY_PATH) if and
  * only if the text is not such a path. Calls on documents return JDOC_NO_PATH if the struct contains no path of their
- * kind; nothing is written then, except 0 to *out_len. Otherwise they return what the calls that parse the path return,
- * but JDOC_INVALID_JSON_PATH only if the evaluation fails on this document. */
+ * kind; nothing is written then, except 0 to *out_len. Otherwise they return what the calls that parse the path return.
+ */
 
 typedef struct jdoc_path {
     void *at;
@@ -609,6 +667,10 @@ JDOC_NODISCARD enum jdoc_status jdoc_path_select_value(jdoc_path *path, const ui
 /* As jdoc_select_first. */
 JDOC_NODISCARD enum jdoc_status jdoc_path_select_first(jdoc_path *path, const uint8_t *document, size_t document_len,
                                                        bool strict, uint8_t *out, size_t out_size, size_t *out_len);
+
+/* As jdoc_find_first. */
+JDOC_NODISCARD enum jdoc_status jdoc_path_find_first(jdoc_path *path, const uint8_t *document, size_t document_len,
+                                                     bool strict, jdoc_span *span);
 
 /* As jdoc_select_array. */
 JDOC_NODISCARD enum jdoc_status jdoc_path_select_array(jdoc_path *path, const uint8_t *document, size_t document_len,
@@ -643,6 +705,108 @@ JDOC_NODISCARD enum jdoc_status jdoc_keypath_find(jdoc_keypath *path, const uint
 /* As jdoc_delete_by_keypath. */
 JDOC_NODISCARD enum jdoc_status jdoc_keypath_delete(jdoc_keypath *path, const uint8_t *document, size_t document_len,
                                                     uint8_t *out, size_t out_size, size_t *out_len);
+
+/* ITEMS ONE AT A TIME
+ *
+ * What a prepared path selects of one document, kept as positions in that document, without a copy.
+ *
+ *   jdoc_items items = {0};
+ *   status = jdoc_path_items(&path, document, document_len, false, &items);
+ *   while (status == JDOC_OK) status = jdoc_items_next(&items, document, document_len, out, out_size, &out_len);
+ *   jdoc_items_free(&items);
+ *
+ * At the end status is JDOC_NONE, or an error. The rules of the struct are those of prepared paths: zeros contain no
+ * items, and calls on one struct must not overlap. The path may be used and freed before the items are. */
+
+typedef struct jdoc_items {
+    void *at;
+    bool is_there;
+} jdoc_items;
+
+/* Evaluate the path on a document, and keep what it selects in `items`, in place of what that contains. JDOC_OK even if
+ * it selects nothing. If the call fails, `items` contains no items. JDOC_NO_PATH, JDOC_PATH_FAILED and others: as
+ * jdoc_path_select_array, but JDOC_TOO_LARGE only if one computed item exceeds the limits. */
+JDOC_NODISCARD enum jdoc_status jdoc_path_items(jdoc_path *path, const uint8_t *document, size_t document_len,
+                                                bool strict, jdoc_items *items);
+
+/* Write the next item as a document. The document has to be that of jdoc_path_items, unchanged; with other bytes the
+ * result is unspecified. JDOC_NONE: no item is left. JDOC_NO_PATH: the struct contains no items. With a status other than
+ * JDOC_OK, such as JDOC_BUFFER_TOO_SMALL, the same item is next. */
+JDOC_NODISCARD enum jdoc_status jdoc_items_next(jdoc_items *items, const uint8_t *document, size_t document_len,
+                                                uint8_t *out, size_t out_size, size_t *out_len);
+
+/* *span: the span of the item that jdoc_items_next copies, likewise. JDOC_COMPUTED: the next item is computed, and is not
+ * in the document. It stays the next, for jdoc_items_next. */
+JDOC_NODISCARD enum jdoc_status jdoc_items_find_next(jdoc_items *items, const uint8_t *document, size_t document_len,
+                                                     jdoc_span *span);
+
+/* Free the items. */
+void jdoc_items_free(jdoc_items *items);
+
+/* DOCUMENTS FROM EVENTS
+ *
+ * A document that a program builds part by part, as it reads another format. The builder is in a struct of the caller.
+ *
+ *   jdoc_builder builder = {0};
+ *   status = jdoc_builder_begin_object(&builder);
+ *   if (status == JDOC_OK) status = jdoc_builder_key(&builder, "tags", 4);
+ *   if (status == JDOC_OK) status = jdoc_builder_begin_array(&builder);
+ *   if (status == JDOC_OK) status = jdoc_builder_str(&builder, "new", 3);
+ *   if (status == JDOC_OK) status = jdoc_builder_end(&builder);
+ *   if (status == JDOC_OK) status = jdoc_builder_end(&builder);
+ *   if (status == JDOC_OK) status = jdoc_builder_finish(&builder, out, out_size, &out_len);
+ *   jdoc_builder_free(&builder);
+ *
+ * One value is the root. In an object each value comes after its key; members are sorted by key. Containers may be
+ * nested to any depth. The rules of the struct are those of prepared paths: zeros are a builder before its first event,
+ * and calls on one struct must not overlap.
+ *
+ * Statuses. With a status other than JDOC_OK the builder is as before the call, so the program may pass another event.
+ * JDOC_OUT_OF_ORDER: the event cannot come next, such as a value without a key in an object, a second value after the
+ * root, or the end of no container. JDOC_NO_PATH: the struct contains a path or items. JDOC_TOO_LARGE: a container or a
+ * value in one exceeds the limits of the format.
+ *
+ * Memory. Each event copies its bytes, and jdoc_builder_finish copies them into the document. jdoc_builder_free frees
+ * them. */
+
+typedef struct jdoc_builder {
+    void *at;
+    bool is_there;
+} jdoc_builder;
+
+/* Begin an array. The next values are its elements. Amortized constant time. */
+JDOC_NODISCARD enum jdoc_status jdoc_builder_begin_array(jdoc_builder *builder);
+
+/* Begin an object. The next values are those of its members, each after its key. Amortized constant time. */
+JDOC_NODISCARD enum jdoc_status jdoc_builder_begin_object(jdoc_builder *builder);
+
+/* End the innermost array or object, in linear time in its elements or its members with their keys. */
+JDOC_NODISCARD enum jdoc_status jdoc_builder_end(jdoc_builder *builder);
+
+/* Name the next value of an object. JDOC_OBJECT_DUPLICATE_KEY: the object has the key. JDOC_NOT_UTF8: the key is not
+ * UTF-8. Compares the key with a logarithmic number of those that the object has. */
+JDOC_NODISCARD enum jdoc_status jdoc_builder_key(jdoc_builder *builder, const char *key, size_t key_len);
+
+/* Add a value, in linear time in its bytes. A decimal is that of jdoc_from_decimal. JDOC_NOT_UTF8: the string is not
+ * UTF-8. */
+JDOC_NODISCARD enum jdoc_status jdoc_builder_null(jdoc_builder *builder);
+JDOC_NODISCARD enum jdoc_status jdoc_builder_bool(jdoc_builder *builder, bool value);
+JDOC_NODISCARD enum jdoc_status jdoc_builder_i64(jdoc_builder *builder, int64_t value);
+JDOC_NODISCARD enum jdoc_status jdoc_builder_u64(jdoc_builder *builder, uint64_t value);
+JDOC_NODISCARD enum jdoc_status jdoc_builder_decimal(jdoc_builder *builder, int64_t high, uint64_t low, uint8_t scale);
+JDOC_NODISCARD enum jdoc_status jdoc_builder_str(jdoc_builder *builder, const char *text, size_t text_len);
+
+/* Add a document as a value, in linear time in its bytes. Only its root is read, so damage in a container is copied. */
+JDOC_NODISCARD enum jdoc_status jdoc_builder_document(jdoc_builder *builder, const uint8_t *document,
+                                                      size_t document_len);
+
+/* Write the document, in linear time. The builder keeps it, so a call with more room may follow. JDOC_OUT_OF_ORDER: the
+ * root is not complete. */
+JDOC_NODISCARD enum jdoc_status jdoc_builder_finish(jdoc_builder *builder, uint8_t *out, size_t out_size,
+                                                    size_t *out_len);
+
+/* Free the builder. The struct is then as before the first event. */
+void jdoc_builder_free(jdoc_builder *builder);
 
 #ifdef __cplusplus
 }

@@ -8,8 +8,9 @@
  * Each function is one of jdoc.h, under its name without the prefix; nothing here reads or writes the format. A result holds
  * the value or the error. `std::nullopt` stands for JDOC_NONE, and for unknown in `match`. Only std::bad_alloc is thrown.
  *
- * A jdoc::path or jdoc::keypath is a path that was parsed once. A jdoc::column is many documents, on which most functions
- * can be called too: jdoc::match(column, "$.age > 40") has a Boolean and a status for each row.
+ * A jdoc::path or jdoc::keypath is a path that was parsed once, and a jdoc::builder makes a document from events. A
+ * jdoc::column is many documents, on which most functions can be called too: jdoc::match(column, "$.age > 40") has a
+ * Boolean and a status for each row.
  */
 #ifndef JDOC_HPP
 #define JDOC_HPP
@@ -291,6 +292,49 @@ inline result<std::optional<document>> get_by_name(view it, std::string_view nam
     });
 }
 
+/* The spans of what get and get_by_name copy. */
+inline result<std::optional<jdoc_span>> find(view it, std::size_t index) {
+    return detail::some_value<jdoc_span>(
+        [=](jdoc_span *span) { return jdoc_find_by_index(it.data(), it.size(), index, span); });
+}
+
+inline result<std::optional<jdoc_span>> find_by_name(view it, std::string_view name, bool ignore_case = false) {
+    return detail::some_value<jdoc_span>([=](jdoc_span *span) {
+        return jdoc_find_by_name(it.data(), it.size(), name.data(), name.size(), ignore_case, span);
+    });
+}
+
+/* A child: the span of its key, if it is a member, and that of its value. */
+struct child {
+    std::optional<jdoc_span> key;
+    jdoc_span value;
+};
+
+/* The children of an array or object one by one. The document must outlive it. */
+class cursor {
+  public:
+    /* No value if the document is neither an array nor an object. */
+    static result<std::optional<cursor>> open(view it) {
+        return detail::some_value<cursor>([&](cursor *made) {
+            made->it_ = it;
+            return jdoc_cursor_open(it.data(), it.size(), &made->at_);
+        });
+    }
+    cursor() noexcept : it_(nullptr, 0), at_{} {}
+    result<std::optional<child>> next() {
+        return detail::some_value<child>([this](child *made) {
+            jdoc_span key = {};
+            const jdoc_status status = jdoc_cursor_next(it_.data(), it_.size(), &at_, &key, &made->value);
+            if (key.kind == JDOC_KIND_STRING) made->key = key;
+            return status;
+        });
+    }
+
+  private:
+    view it_;
+    jdoc_cursor at_;
+};
+
 inline result<std::optional<document>> select_value(view it, std::string_view path, bool strict = false) {
     return detail::some_bytes<document>(64, [=](std::uint8_t *out, std::size_t size, std::size_t *len) {
         return jdoc_select_value(it.data(), it.size(), path.data(), path.size(), strict, out, size, len);
@@ -300,6 +344,13 @@ inline result<std::optional<document>> select_value(view it, std::string_view pa
 inline result<std::optional<document>> select_first(view it, std::string_view path, bool strict = false) {
     return detail::some_bytes<document>(64, [=](std::uint8_t *out, std::size_t size, std::size_t *len) {
         return jdoc_select_first(it.data(), it.size(), path.data(), path.size(), strict, out, size, len);
+    });
+}
+
+/* The span of what select_first copies. Fails with JDOC_COMPUTED if the item is not in the document. */
+inline result<std::optional<jdoc_span>> find_first(view it, std::string_view path, bool strict = false) {
+    return detail::some_value<jdoc_span>([=](jdoc_span *span) {
+        return jdoc_find_first(it.data(), it.size(), path.data(), path.size(), strict, span);
     });
 }
 
@@ -477,6 +528,11 @@ inline result<std::optional<std::string>> as_str(view it) {
     });
 }
 
+/* The span of the string that as_str copies. */
+inline result<std::optional<jdoc_span>> find_str(view it) {
+    return detail::some_value<jdoc_span>([=](jdoc_span *span) { return jdoc_find_str(it.data(), it.size(), span); });
+}
+
 inline result<std::optional<decimal>> as_decimal(view it) {
     return detail::some_value<decimal>(
         [=](decimal *out) { return jdoc_as_decimal(it.data(), it.size(), &out->high, &out->low, &out->scale); });
@@ -616,8 +672,81 @@ inline result<std::pair<column, column>> leaves(view it) {
                      column(std::move(documents), std::move(document_offsets)));
 }
 
+/* ---- documents from events */
+
+/* A document that is built from events. With a status other than JDOC_OK a call leaves it as it was. One that was moved
+ * from is before its first event. */
+class builder {
+  public:
+    builder() noexcept : builder_{} {}
+    builder(builder &&other) noexcept : builder_(std::exchange(other.builder_, jdoc_builder{})) {}
+    builder &operator=(builder &&other) noexcept {
+        std::swap(builder_, other.builder_);
+        return *this;
+    }
+    ~builder() { jdoc_builder_free(&builder_); }
+
+    [[nodiscard]] jdoc_status begin_array() { return jdoc_builder_begin_array(&builder_); }
+    [[nodiscard]] jdoc_status begin_object() { return jdoc_builder_begin_object(&builder_); }
+    [[nodiscard]] jdoc_status end() { return jdoc_builder_end(&builder_); }
+    [[nodiscard]] jdoc_status key(std::string_view name) {
+        return jdoc_builder_key(&builder_, name.data(), name.size());
+    }
+    [[nodiscard]] jdoc_status add_null() { return jdoc_builder_null(&builder_); }
+    [[nodiscard]] jdoc_status add_bool(bool value) { return jdoc_builder_bool(&builder_, value); }
+    [[nodiscard]] jdoc_status add_i64(std::int64_t value) { return jdoc_builder_i64(&builder_, value); }
+    [[nodiscard]] jdoc_status add_u64(std::uint64_t value) { return jdoc_builder_u64(&builder_, value); }
+    [[nodiscard]] jdoc_status add_decimal(decimal value) {
+        return jdoc_builder_decimal(&builder_, value.high, value.low, value.scale);
+    }
+    [[nodiscard]] jdoc_status add_str(std::string_view text) {
+        return jdoc_builder_str(&builder_, text.data(), text.size());
+    }
+    [[nodiscard]] jdoc_status add_document(view it) { return jdoc_builder_document(&builder_, it.data(), it.size()); }
+
+    /* Returns the document, and keeps it. Fails with JDOC_OUT_OF_ORDER if the root is not complete. */
+    result<document> finish() {
+        return detail::bytes<document>(64, [&](std::uint8_t *out, std::size_t size, std::size_t *len) {
+            return jdoc_builder_finish(&builder_, out, size, len);
+        });
+    }
+
+  private:
+    jdoc_builder builder_;
+};
+
 /* ---- prepared paths: parsed once, for many documents. Calls on one object must not overlap. One that was moved from
  * contains no path; its calls fail with JDOC_NO_PATH. */
+
+/* What a path selects of a document, one item at a time. The document has to outlive it, unchanged. */
+class items {
+  public:
+    items(items &&other) noexcept : of_(other.of_), items_(std::exchange(other.items_, jdoc_items{})) {}
+    items &operator=(items &&other) noexcept {
+        std::swap(of_, other.of_), std::swap(items_, other.items_);
+        return *this;
+    }
+    ~items() { jdoc_items_free(&items_); }
+
+    /* Returns the next item, and none after the last. After an error the same item is next. */
+    result<std::optional<document>> next() {
+        return detail::some_bytes<document>(64, [&](std::uint8_t *out, std::size_t size, std::size_t *len) {
+            return jdoc_items_next(&items_, of_.data(), of_.size(), out, size, len);
+        });
+    }
+
+    /* The span of what next copies. Fails with JDOC_COMPUTED if the item is not in the document. */
+    result<std::optional<jdoc_span>> find_next() {
+        return detail::some_value<jdoc_span>(
+            [&](jdoc_span *span) { return jdoc_items_find_next(&items_, of_.data(), of_.size(), span); });
+    }
+
+  private:
+    friend class path;
+    explicit items(view of) noexcept : of_(of), items_{} {}
+    view of_;
+    jdoc_items items_;
+};
 
 class path {
   public:
@@ -644,10 +773,19 @@ class path {
             return jdoc_path_select_first(&path_, it.data(), it.size(), strict, out, size, len);
         });
     }
+    result<std::optional<jdoc_span>> find_first(view it, bool strict = false) {
+        return detail::some_value<jdoc_span>(
+            [&](jdoc_span *span) { return jdoc_path_find_first(&path_, it.data(), it.size(), strict, span); });
+    }
     result<document> select_array(view it, bool strict = false) {
         return detail::bytes<document>(64, [&](std::uint8_t *out, std::size_t size, std::size_t *len) {
             return jdoc_path_select_array(&path_, it.data(), it.size(), strict, out, size, len);
         });
+    }
+    result<jdoc::items> items(view it, bool strict = false) {
+        jdoc::items made(it);
+        const jdoc_status status = jdoc_path_items(&path_, it.data(), it.size(), strict, &made.items_);
+        return status == JDOC_OK ? result<jdoc::items>(std::move(made)) : result<jdoc::items>(status);
     }
     result<bool> exists(view it, bool strict = false) {
         return detail::truth(

@@ -17,7 +17,9 @@ static int sqlstate_of(uint32_t status) {
     case JDOC_OVERFLOW:
     case JDOC_INEXACT:
         return ERRCODE_NUMERIC_VALUE_OUT_OF_RANGE;
-    case JDOC_INVALID_JSON_PATH: /* the syntax was checked when the jdocpath was made */
+    case JDOC_INVALID_JSON_PATH:
+        return ERRCODE_SYNTAX_ERROR;
+    case JDOC_PATH_FAILED:
         return ERRCODE_SINGLETON_SQL_JSON_ITEM_REQUIRED;
     case JDOC_INVALID_KEY_PATH:
     case JDOC_NOT_UTF8:
@@ -47,14 +49,12 @@ static int sqlstate_of(uint32_t status) {
 }
 
 void fail(uint32_t status) {
-    const char *what =
-        status == JDOC_INVALID_JSON_PATH ? "the path has no value on this document" : jdoc_status_text(status);
-    ereport(ERROR, (errcode(sqlstate_of(status)), errmsg("jdoc: %s", what)));
+    ereport(ERROR, (errcode(sqlstate_of(status)), errmsg("jdoc: %s", jdoc_status_text(status))));
     pg_unreachable();
 }
 
 bool is_hidden(uint32_t status, bool silent) {
-    return silent && (status == JDOC_INVALID_JSON_PATH || status == JDOC_STRICT_PATH || status == JDOC_OVERFLOW ||
+    return silent && (status == JDOC_PATH_FAILED || status == JDOC_STRICT_PATH || status == JDOC_OVERFLOW ||
                       status == JDOC_ZERO_DIVISOR || status == JDOC_INEXACT || status == JDOC_DECIMAL_OPERAND);
 }
 

@@ -16,11 +16,16 @@
 enum { CONTAINS = 7, HAS = 9, HAS_ANY = 10, HAS_ALL = 11 }; /* the numbers that jsonb's operator classes have */
 enum { OF_NAMES = 1, OF_LEAVES = 2 };
 
-/* Entries, and the hashes of the keys that lead to each open container. */
+/* A container whose children are read, and the hash of the keys that lead to it. */
+typedef struct level {
+    children of;
+    uint64 hash;
+} level;
+
 typedef struct entries {
     Datum *made;
     int32 count, size;
-    uint64 *open;
+    level *open;
     int32 depth, open_size;
 } entries;
 
@@ -36,13 +41,13 @@ static void add(entries *it, uint64 entry) {
     it->made[it->count++] = UInt64GetDatum(entry);
 }
 
-static void open_container(entries *it, uint64 hash) {
+static void open_container(entries *it, const jdoc_event *container, uint64 hash) {
     if (it->depth == it->open_size) {
         it->open_size = 2 * it->open_size + 16;
-        it->open =
-            it->open ? repalloc(it->open, it->open_size * sizeof(uint64)) : palloc(it->open_size * sizeof(uint64));
+        it->open = pg_heap.resize(it->open, it->open_size * sizeof(level));
     }
-    it->open[it->depth++] = hash;
+    open_children(&it->open[it->depth].of, container->bytes, container->len);
+    it->open[it->depth++].hash = hash;
 }
 
 /* Equal values have equal hashes: a number's is that of its equality key, in which 1 and 1.0 are the same. */
@@ -60,33 +65,30 @@ static uint64 hash_of_leaf(const jdoc_event *leaf, uint64 seed) {
 
 static uint64 hash_of_name(const void *name, size_t len) { return hash_of(name, len, OF_NAMES); }
 
-/* Add the entries of an item of a walk, whose containers are `it->open`. */
-static void add_item(entries *it, const jdoc_event *item, bool with_names) {
-    uint64 within = it->depth ? it->open[it->depth - 1] : OF_LEAVES;
-    bool is_top = it->depth <= 1;
-    if (item->kind == JDOC_EVENT_END) {
-        it->depth--;
-        return;
-    }
+/* Add the entries of an item, which is within a container of this hash. */
+static void add_item(entries *it, const jdoc_event *item, uint64 within, bool with_names) {
     if (item->has_key) {
-        if (is_top && with_names) add(it, hash_of_name(item->key, item->key_len));
+        if (with_names) add(it, hash_of_name(item->key, item->key_len));
         within = hash_of(item->key, item->key_len, within);
-    } else if (is_top && with_names && item->kind == JDOC_EVENT_STRING) {
+    } else if (with_names && item->kind == JDOC_EVENT_STRING) {
         add(it, hash_of_name(item->bytes, item->len));
     }
     if (item->kind == JDOC_EVENT_BEGIN)
-        open_container(it, within);
+        open_container(it, item, within);
     else
         add(it, hash_of_leaf(item, within));
 }
 
 static void add_document(entries *it, const bytea *document, bool with_names) {
-    jdoc_walk walk;
-    jdoc_event item;
-    uint32_t status = jdoc_walk_init(&walk, pg_heap, BYTES(document));
-    while (status == JDOC_OK && (status = jdoc_walk_next(&walk, &item)) == JDOC_OK) add_item(it, &item, with_names);
-    jdoc_walk_free(&walk);
-    if (status != JDOC_NONE) fail(status);
+    jdoc_event item = root_of(BYTES(document));
+    add_item(it, &item, OF_LEAVES, with_names);
+    while (it->depth) {
+        level *last = &it->open[it->depth - 1];
+        if (next_child(&last->of, &item))
+            add_item(it, &item, last->hash, with_names && it->depth == 1);
+        else
+            it->depth--;
+    }
 }
 
 PG_FUNCTION_INFO_V1(jdoc_gin_extract_value);

@@ -1,7 +1,6 @@
 /* items.c - items of documents in place, and copies of them */
 #include "jdoc_pg.h"
 
-#include "format.h"
 #include "utils/builtins.h"
 
 #include <string.h>
@@ -13,62 +12,48 @@ jdoc_event root_of(const uint8_t *document, size_t len) {
     return root;
 }
 
-void open_children(jdoc_children *children, const jdoc_event *container) {
-    if (jdoc_children_open(children, container->bytes, container->len) != JDOC_OK) fail(JDOC_INVALID_JSONB);
+bool take_item(uint32_t status, const uint8_t *document, size_t len, const jdoc_span *span, jdoc_event *child) {
+    if (status == JDOC_NONE) return false;
+    if (status != JDOC_OK) fail(status);
+    if (!jdoc_item_at(child, document, len, span)) fail(JDOC_INVALID_JSONB);
+    return true;
 }
 
-bool next_child(jdoc_children *children, jdoc_event *child) {
-    uint32_t status = jdoc_children_next(children, child);
+bool element_of(const uint8_t *array, size_t len, int64 index, jdoc_event *child) {
+    jdoc_span span = {0};
+    size_t count = 0;
+    if (index < 0 && jdoc_len(array, len, &count) == JDOC_OK) index += (int64)count;
+    return index >= 0 && take_item(jdoc_find_by_index(array, len, (size_t)index, &span), array, len, &span, child);
+}
+
+bool member_of(const uint8_t *object, size_t len, const char *name, size_t name_len, jdoc_event *child) {
+    jdoc_span span = {0};
+    return take_item(jdoc_find_by_name(object, len, name, name_len, false, &span), object, len, &span, child);
+}
+
+void open_children(children *it, const uint8_t *container, size_t len) {
+    uint32_t status = jdoc_cursor_open(container, len, &it->at);
+    if (status == JDOC_OK) status = jdoc_len(container, len, &it->left);
+    if (status != JDOC_OK) fail(status);
+    it->bytes = container, it->len = len;
+}
+
+bool next_child(children *it, jdoc_event *child) {
+    uint32_t status = jdoc_next_item(it->bytes, it->len, &it->at, child);
     if (status != JDOC_OK && status != JDOC_NONE) fail(status);
+    it->left -= status == JDOC_OK;
     return status == JDOC_OK;
 }
 
-/* The entry at an index of words, whose contents begin with that of the first word. */
-static jdoc_event entry_of(const uint8_t *words, uint32_t index, const uint8_t *content, const uint8_t *end) {
-    jdoc_event entry = {0};
-    for (uint32_t i = 0;; i++) {
-        uint32_t word = take32(words + 4 * (size_t)i);
-        entry.len = word & CONTENT_LIMIT;
-        if (entry.len > (size_t)(end - content) || word >> 28 > JDOC_EVENT_EXTENSION) fail(JDOC_INVALID_JSONB);
-        if (i == index) {
-            entry.kind = (enum jdoc_event_kind)(word >> 28);
-            entry.bytes = content;
-            return entry.kind == JDOC_EVENT_BEGIN ? root_of(content, entry.len) : entry;
-        }
-        content += entry.len;
-    }
-}
-
-bool element_of(const jdoc_event *array, uint32_t index, jdoc_event *child) {
-    const uint8_t *words = array->bytes + 4;
-    if (array->kind != JDOC_EVENT_BEGIN || array->object || index >= array->count) return false;
-    if (4 * (uint64)array->count > array->len - 4) fail(JDOC_INVALID_JSONB);
-    *child = entry_of(words, index, words + 4 * (size_t)array->count, array->bytes + array->len);
-    return true;
-}
-
-bool member_of(const jdoc_event *object, const char *name, size_t len, jdoc_event *child) {
-    const uint8_t *words = object->bytes + 4, *key, *end = object->bytes + object->len;
-    uint32_t found = object->count;
-    if (object->kind != JDOC_EVENT_BEGIN || !object->object) return false;
-    if (8 * (uint64)object->count > object->len - 4) fail(JDOC_INVALID_JSONB);
-    key = words + 8 * (size_t)object->count;
-    for (uint32_t i = 0; i < object->count; i++) {
-        size_t key_len = take32(words + 4 * (size_t)i) & CONTENT_LIMIT;
-        if (key_len > (size_t)(end - key)) fail(JDOC_INVALID_JSONB);
-        if (key_len == len && memcmp(key, name, len) == 0) found = i;
-        key += key_len;
-    }
-    if (found == object->count) return false;
-    *child = entry_of(words + 4 * (size_t)object->count, found, key, end);
-    return true;
-}
-
 bytea *document_of_item(const jdoc_event *item) {
-    size_t len = jdoc_item_size(item);
+    bool is_container = item->kind == JDOC_EVENT_BEGIN; /* it is a document already */
+    size_t len = is_container ? item->len : jdoc_item_size(item);
     bytea *made = palloc(VARHDRSZ + len);
     SET_VARSIZE(made, VARHDRSZ + len);
-    jdoc_item_write(item, (uint8_t *)VARDATA(made));
+    if (is_container)
+        memcpy(VARDATA(made), item->bytes, len);
+    else
+        jdoc_item_write(item, (uint8_t *)VARDATA(made));
     return made;
 }
 

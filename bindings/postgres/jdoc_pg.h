@@ -38,16 +38,27 @@ bool interrupted(void);
         (status) = (call);                                                                                             \
     } while ((status) == JDOC_OUT_OF_MEMORY && interrupted())
 
-/* RUN for a call that makes a prepared path, whose memory it does not free. It is that of the current context. */
-#define RUN_KEPT(status, call)                                                                                         \
-    do {                                                                                                               \
-        heap_keeps = true;                                                                                             \
-        (status) = (call);                                                                                             \
-        heap_keeps = false;                                                                                            \
-    } while ((status) == JDOC_OUT_OF_MEMORY && interrupted())
+/* Small pieces, such as those of one call. */
+typedef struct arena {
+    char *bytes;
+    size_t size, used, pieces;
+} arena;
 
-/* The library allocates pieces that it does not free before it returns. */
-extern bool heap_keeps;
+/* The arena that takes its pieces in these bytes. */
+arena arena_in(void *bytes, size_t size);
+extern arena arena_of_calls;
+
+/* That of the call which runs. NULL: its pieces are of the current memory context. */
+extern arena *heap_arena;
+
+/* RUN for a call that keeps pieces: in an arena, and what does not fit there in the current memory context. */
+#define RUN_IN(where, status, call)                                                                                    \
+    do {                                                                                                               \
+        heap_arena = (where);                                                                                          \
+        (status) = (call);                                                                                             \
+        heap_arena = &arena_of_calls;                                                                                  \
+    } while ((status) == JDOC_OUT_OF_MEMORY && interrupted())
+#define RUN_KEPT(status, call) RUN_IN(NULL, status, call)
 
 /* ERRORS AND RESULTS (calls.c) */
 
@@ -72,6 +83,7 @@ typedef struct given {
     int documents_len;
     jdoc_path *path;
     bool strict;
+    jdoc_items *items; /* that the path selects, of a function that returns rows */
     text *name;
     names names;
     int32 index;
@@ -114,18 +126,30 @@ bool is_hidden(uint32_t status, bool silent);
 /* ITEMS of documents that were checked (items.c) */
 
 jdoc_event root_of(const uint8_t *document, size_t len);
-void open_children(jdoc_children *children, const jdoc_event *container);
-bool next_child(jdoc_children *children, jdoc_event *child);
 bytea *document_of_item(const jdoc_event *item);
 
-/* Find an element of an array, or the value of a key of an object. False: there is none, or this is another type. */
-bool element_of(const jdoc_event *array, uint32_t index, jdoc_event *child);
-bool member_of(const jdoc_event *object, const char *name, size_t len, jdoc_event *child);
+/* Make the value of a span that a call of the library stored, with JDOC_OK, an item. False: JDOC_NONE. */
+bool take_item(uint32_t status, const uint8_t *document, size_t len, const jdoc_span *span, jdoc_event *item);
+
+/* Find an element of an array, counted from its end if the index is negative, or the value of a key of an object.
+ * False: there is none, or the document has another type. */
+bool element_of(const uint8_t *array, size_t len, int64 index, jdoc_event *child);
+bool member_of(const uint8_t *object, size_t len, const char *name, size_t name_len, jdoc_event *child);
+
+/* The children of an array or an object one by one. */
+typedef struct children {
+    const uint8_t *bytes; /* the container */
+    size_t len, left;     /* children that are left */
+    jdoc_cursor at;
+} children;
+
+void open_children(children *it, const uint8_t *container, size_t len);
+bool next_child(children *it, jdoc_event *child);
 
 /* An item as text: a string without quotes, others as JSON text. NULL: it is null. */
 text *text_of_item(const jdoc_event *item);
 
-/* DOCUMENTS (large.c, types.c, rows.c, order.c) */
+/* DOCUMENTS (large.c, order.c) */
 
 /* As jdoc_compare and jdoc_contains, except that queries can be cancelled in them. */
 int order_of_documents(const uint8_t *a, size_t a_len, const uint8_t *b, size_t b_len);
@@ -133,8 +157,5 @@ bool document_contains(const uint8_t *a, size_t a_len, const uint8_t *b, size_t 
 
 /* The equality key of a document. */
 bytea *equality_key_of(bytea *document);
-
-/* The elements of an array, a row each. */
-Datum return_elements(FunctionCallInfo fcinfo, bytea *(*array_of)(FunctionCallInfo fcinfo));
 
 #endif

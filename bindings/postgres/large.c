@@ -48,7 +48,7 @@ enum { LARGE = 1 << 20 };
 
 /* Two containers, of which some children are not compared yet. */
 typedef struct pair {
-    jdoc_children a, b;
+    children a, b;
 } pair;
 
 typedef struct pairs {
@@ -61,8 +61,8 @@ static void open_pair(pairs *it, const jdoc_event *a, const jdoc_event *b) {
         it->size = 2 * it->size + 16;
         it->open = pg_heap.resize(it->open, it->size * sizeof(pair));
     }
-    open_children(&it->open[it->depth].a, a);
-    open_children(&it->open[it->depth].b, b);
+    open_children(&it->open[it->depth].a, a->bytes, a->len);
+    open_children(&it->open[it->depth].b, b->bytes, b->len);
     it->depth++;
 }
 
@@ -147,13 +147,13 @@ static void make_array(piece *it, const jdoc_event *scalar) {
 
 /* Whether an array contains an element. */
 static bool has_element(const jdoc_event *array, const jdoc_event *element) {
-    jdoc_children children;
+    children elements;
     jdoc_event child;
     piece it;
     bool found = false;
     if (element->kind == JDOC_EVENT_BEGIN) {
-        open_children(&children, array);
-        while (!found && next_child(&children, &child)) found = contains_child(&child, element);
+        open_children(&elements, array->bytes, array->len);
+        while (!found && next_child(&elements, &child)) found = contains_child(&child, element);
         return found;
     }
     make_array(&it, element);
@@ -162,7 +162,7 @@ static bool has_element(const jdoc_event *array, const jdoc_event *element) {
     return found;
 }
 
-static bool has_elements(const jdoc_event *array, jdoc_children *elements) {
+static bool has_elements(const jdoc_event *array, children *elements) {
     jdoc_event element;
     while (next_child(elements, &element)) {
         CHECK_FOR_INTERRUPTS();
@@ -172,7 +172,7 @@ static bool has_elements(const jdoc_event *array, jdoc_children *elements) {
 }
 
 /* Whether an object contains members. Both have their keys in order. */
-static bool has_members(jdoc_children *object, jdoc_children *members) {
+static bool has_members(children *object, children *members) {
     jdoc_event child, member;
     bool has_child = next_child(object, &child);
     while (next_child(members, &member)) {
@@ -187,11 +187,11 @@ static bool has_members(jdoc_children *object, jdoc_children *members) {
 }
 
 static bool contains_container(const jdoc_event *a, const jdoc_event *b) {
-    jdoc_children of_a, of_b;
+    children of_a, of_b;
     if ((double)a->len * b->len <= LARGE_PRODUCT || stack_is_too_deep())
         return call_contains(a->bytes, a->len, b->bytes, b->len);
-    open_children(&of_a, a);
-    open_children(&of_b, b);
+    open_children(&of_a, a->bytes, a->len);
+    open_children(&of_b, b->bytes, b->len);
     return a->object ? has_members(&of_a, &of_b) : has_elements(a, &of_b);
 }
 

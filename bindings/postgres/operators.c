@@ -57,17 +57,12 @@ static steps *take_steps(FunctionCallInfo fcinfo, int at) {
 
 /* CHILDREN, in place: a child is copied once, into the result */
 
-/* An index that is negative counts from the end. */
-static bool counted_element(const jdoc_event *of, int64 index, jdoc_event *child) {
-    if (index < 0) index += of->count;
-    return index >= 0 && element_of(of, (uint32_t)index, child);
-}
-
 /* What a step means in PostgreSQL: a key of an object, an index of an array. */
 static bool child_of(const jdoc_event *of, const char *name, size_t len, jdoc_event *child) {
     int32 index;
-    if (of->object) return member_of(of, name, len, child);
-    return integer_of(name, len, &index) && counted_element(of, index, child);
+    if (of->kind != JDOC_EVENT_BEGIN) return false;
+    if (of->object) return member_of(of->bytes, of->len, name, len, child);
+    return integer_of(name, len, &index) && element_of(of->bytes, of->len, index, child);
 }
 
 static bool the_descendant(FunctionCallInfo fcinfo, jdoc_event *item) {
@@ -86,14 +81,12 @@ static bool the_descendant(FunctionCallInfo fcinfo, jdoc_event *item) {
 static bool the_field(FunctionCallInfo fcinfo, jdoc_event *child) {
     const bytea *it = PG_GETARG_BYTEA_PP(0);
     const text *name = PG_GETARG_TEXT_PP(1);
-    const jdoc_event root = root_of(BYTES(it));
-    return member_of(&root, TEXT(name), child);
+    return member_of(BYTES(it), TEXT(name), child);
 }
 
 static bool the_element(FunctionCallInfo fcinfo, jdoc_event *child) {
     const bytea *it = PG_GETARG_BYTEA_PP(0);
-    const jdoc_event root = root_of(BYTES(it));
-    return counted_element(&root, PG_GETARG_INT32(1), child);
+    return element_of(BYTES(it), PG_GETARG_INT32(1), child);
 }
 
 #define CHILD(sql_name, found)                                                                                         \

@@ -128,8 +128,23 @@ Datum jdoc_sql_sortsupport(PG_FUNCTION_ARGS) {
 
 MAKER(equality_key, jdoc_equality_key(D(0), OUT))
 
+/* Documents of these lengths get room for twice their length, in which most keys fit. The room that made_by has before
+ * the length of a key is known is too small for them, and the key would be computed twice. */
+enum { LONG = 2048, LONGEST = 1 << 24 };
+
 bytea *equality_key_of(bytea *document) {
     const given it = {.documents = {document}};
+    size_t len = VARSIZE_ANY_EXHDR(document), size = 2 * len;
+    uint32_t status;
+    bytea *made;
+    if (len < LONG || len > LONGEST) return made_by(&it, equality_key, false);
+    made = palloc(VARHDRSZ + size);
+    RUN(status, equality_key(&it, (uint8_t *)VARDATA(made), size, &len));
+    if (status == JDOC_OK) {
+        SET_VARSIZE(made, VARHDRSZ + len);
+        return made;
+    }
+    pfree(made);
     return made_by(&it, equality_key, false);
 }
 

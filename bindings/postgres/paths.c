@@ -39,34 +39,28 @@ Datum jdoc_sql_path_exists(PG_FUNCTION_ARGS) { return return_truth(fcinfo, "dpvf
 PG_FUNCTION_INFO_V1(jdoc_sql_path_match);
 Datum jdoc_sql_path_match(PG_FUNCTION_ARGS) { return return_truth(fcinfo, "dpvf", match, PG_GETARG_BOOL(3)); }
 
-static bytea *selected(FunctionCallInfo fcinfo, const char *letters, maker *makes) {
+static bytea *selected(FunctionCallInfo fcinfo, maker *makes) {
     given it;
-    given_of(fcinfo, letters, &it);
+    given_of(fcinfo, "dpvf", &it);
     return made_by(&it, makes, it.flag);
 }
 
 PG_FUNCTION_INFO_V1(jdoc_sql_path_query_first);
 Datum jdoc_sql_path_query_first(PG_FUNCTION_ARGS) {
-    bytea *made = selected(fcinfo, "dpvf", first);
+    bytea *made = selected(fcinfo, first);
     if (!made) PG_RETURN_NULL();
     PG_RETURN_BYTEA_P(made);
 }
 
 /* An array of all items. If an error is silent, the array is empty, even if items were found before the error. */
-static bytea *query_array(FunctionCallInfo fcinfo, const char *letters) {
-    static const uint8_t empty[] = {0x80, 0, 0, 0};
-    bytea *made = selected(fcinfo, letters, array);
-    if (made) return made;
-    made = palloc(VARHDRSZ + sizeof empty);
-    SET_VARSIZE(made, VARHDRSZ + sizeof empty);
-    memcpy(VARDATA(made), empty, sizeof empty);
-    return made;
-}
-
 PG_FUNCTION_INFO_V1(jdoc_sql_path_query_array);
-Datum jdoc_sql_path_query_array(PG_FUNCTION_ARGS) { PG_RETURN_BYTEA_P(query_array(fcinfo, "dpvf")); }
-
-static bytea *query_rows(FunctionCallInfo fcinfo) { return query_array(fcinfo, "dPvf"); }
-
-PG_FUNCTION_INFO_V1(jdoc_sql_path_query);
-Datum jdoc_sql_path_query(PG_FUNCTION_ARGS) { return return_elements(fcinfo, query_rows); }
+Datum jdoc_sql_path_query_array(PG_FUNCTION_ARGS) {
+    static const uint8_t empty[] = {0x80, 0, 0, 0};
+    bytea *made = selected(fcinfo, array);
+    if (!made) {
+        made = palloc(VARHDRSZ + sizeof empty);
+        SET_VARSIZE(made, VARHDRSZ + sizeof empty);
+        memcpy(VARDATA(made), empty, sizeof empty);
+    }
+    PG_RETURN_BYTEA_P(made);
+}

@@ -75,7 +75,7 @@ static bytea *document_of_text(const char *text, size_t len) {
 /* The JSON text of a document, with the spaces of jsonb. */
 static char *text_of_document(const uint8_t *document, size_t document_len, size_t *len) {
     jdoc_buffer out = {.heap = pg_heap};
-    uint32_t status = jdoc_write_text(&out, document, document_len, JDOC_SPACES | JDOC_TRUSTED);
+    uint32_t status = jdoc_write_text(&out, document, document_len, JDOC_SPACES);
     if (status != JDOC_OK) fail(status);
     *len = out.len;
     return out.bytes;

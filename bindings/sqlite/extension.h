@@ -20,6 +20,7 @@ typedef struct connection {
     jdoc_tape tape; /* for reading JSON text */
     uint8_t *bytes; /* for results: it grows to the largest one */
     size_t size;
+    jdoc_buffer text; /* for JSON text (return_text) */
     locale_t numbers; /* the locale "C" */
     int uses;         /* functions that hold it */
 } connection;
@@ -59,8 +60,14 @@ void write_fault(const char *function, const fault *why, char *out, int size);
 /* Return a fault as an error of a function, and JDOC_NONE as NULL. */
 void return_fault(sqlite3_context *to, const char *function, const fault *why);
 
+/* Write the JSON text of a document to connection->text, and return it. */
+uint32_t return_text(sqlite3_context *to, connection *own, const uint8_t *bytes, size_t len);
+
 /* Return a document as an SQL value: a scalar as itself, an array or an object as JSON text, a null as NULL. */
 void return_value(sqlite3_context *to, connection *own, const jdoc_event *item);
+
+/* Return an item as a document. JDOC_OUT_OF_MEMORY, or JDOC_OK. */
+enum jdoc_status return_item(sqlite3_context *to, connection *own, const jdoc_event *item);
 
 /* Return the name of a type of jdoc_type, or NULL. */
 const char *type_name(uint8_t kind);

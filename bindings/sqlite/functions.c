@@ -175,8 +175,6 @@ static void call(sqlite3_context *to, int count, sqlite3_value **values) {
 #define ASKER(name, call)                                                                                              \
     static enum jdoc_status name(const arguments *it, uint8_t *truth) { return call; }
 
-MAKER(get, it->is_index ? it->index < 0 ? JDOC_NONE : jdoc_get_by_index(D(0), (size_t)it->index, OUT)
-                        : jdoc_keypath_get(&it->path->key, D(0), OUT))
 MAKER(first, jdoc_path_select_first(&it->path->json, D(0), it->path->strict, OUT))
 MAKER(array, jdoc_path_select_array(&it->path->json, D(0), it->path->strict, OUT))
 MAKER(chosen, jdoc_path_select_value(&it->path->json, D(0), it->path->strict, OUT))
@@ -210,13 +208,23 @@ static enum jdoc_status return_document(sqlite3_context *to, arguments *it) {
 }
 
 static enum jdoc_status return_json(sqlite3_context *to, arguments *it) {
-    jdoc_buffer out = {.heap = sqlite_heap};
-    enum jdoc_status status = (enum jdoc_status)jdoc_write_text(&out, D(0), 0);
-    if (status == JDOC_OK)
-        sqlite3_result_text64(to, out.bytes, out.len, sqlite3_free, SQLITE_UTF8);
-    else
-        sqlite3_free(out.bytes);
-    return status;
+    return (enum jdoc_status)return_text(to, it->own, D(0));
+}
+
+/* Find the child at the key path or the index of a call, in the document. */
+static enum jdoc_status find(const arguments *it, jdoc_event *child) {
+    jdoc_span span = {0};
+    enum jdoc_status status = !it->is_index   ? jdoc_keypath_find(&it->path->key, D(0), &span)
+                              : it->index < 0 ? JDOC_NONE
+                                              : jdoc_find_by_index(D(0), (size_t)it->index, &span);
+    return status == JDOC_OK && !jdoc_item_at(child, D(0), &span) ? JDOC_INVALID_JSONB : status;
+}
+
+/* jdoc_get(document, key path), jdoc_get(document, index): a child as a document. */
+static enum jdoc_status return_got(sqlite3_context *to, arguments *it) {
+    jdoc_event child;
+    enum jdoc_status status = find(it, &child);
+    return status == JDOC_OK ? return_item(to, it->own, &child) : status;
 }
 
 static enum jdoc_status return_value_of(sqlite3_context *to, connection *own, const uint8_t *bytes, size_t len) {
@@ -230,12 +238,11 @@ static enum jdoc_status return_value_of(sqlite3_context *to, connection *own, co
 
 /* jdoc_value(document), jdoc_value(document, key path): the document, or a child of it, as an SQL value. */
 static enum jdoc_status return_child(sqlite3_context *to, arguments *it) {
-    connection *own = it->own;
-    size_t len = 0;
-    if (it->count == 1) return return_value_of(to, own, D(0));
-    if (!reserve(own, it->documents[0].len + 16)) return JDOC_OUT_OF_MEMORY;
-    enum jdoc_status status = get(it, own->bytes, own->size, &len);
-    return status == JDOC_OK ? return_value_of(to, own, own->bytes, len) : status;
+    jdoc_event child;
+    if (it->count == 1) return return_value_of(to, it->own, D(0));
+    enum jdoc_status status = find(it, &child);
+    if (status == JDOC_OK) return_value(to, it->own, &child);
+    return status;
 }
 
 static enum jdoc_status return_type(sqlite3_context *to, arguments *it) {
@@ -259,7 +266,7 @@ static const function functions[] = {
     {"jdoc_value", "dk", .does = return_child},
     {"jdoc_type", "d", .does = return_type},
     {"jdoc_length", "d", .does = return_length},
-    {"jdoc_get", "dk", .makes = get},
+    {"jdoc_get", "dk", .does = return_got},
     {"jdoc_first", "dp", .makes = first},
     {"jdoc_array", "dp", .makes = array},
     {"jdoc_select", "dp", .makes = chosen},

@@ -1,4 +1,7 @@
-/* rows.c - SELECT key, value, doc, type FROM jdoc_rows(document, path): an item that a JSON path selects a row */
+/* rows.c - SELECT key, value, doc, type FROM jdoc_rows(document, path): an item that a JSON path selects a row
+ *
+ * The path is evaluated at the first row. Then each row reads one item in place.
+ */
 #include "extension.h"
 SQLITE_EXTENSION_INIT3
 
@@ -14,10 +17,16 @@ typedef struct table {
 
 typedef struct cursor {
     sqlite3_vtab_cursor base;
-    uint8_t *array; /* what the path selects */
-    size_t size, len;
-    jdoc_children rest;
-    jdoc_event item;
+    jdoc_path path;
+    bool strict;
+    char *path_text; /* that was parsed, or NULL */
+    size_t path_len;
+    made *document;
+    jdoc_items items; /* of the document, without the one of this row */
+    jdoc_event item;  /* of this row, in the document or in `computed` */
+    uint8_t kind;     /* of enum jdoc_kind */
+    uint8_t *computed;
+    size_t size; /* of `computed` */
     sqlite3_int64 row;
     bool is_at_end;
 } cursor;
@@ -50,8 +59,13 @@ static int open(sqlite3_vtab *base, sqlite3_vtab_cursor **out) {
     return SQLITE_OK;
 }
 
-static int close(sqlite3_vtab_cursor *it) {
-    sqlite3_free(((cursor *)it)->array);
+static int close(sqlite3_vtab_cursor *base) {
+    cursor *it = (cursor *)base;
+    jdoc_items_free(&it->items);
+    jdoc_path_free(&it->path);
+    sqlite3_free(it->path_text);
+    sqlite3_free(it->document);
+    sqlite3_free(it->computed);
     sqlite3_free(it);
     return SQLITE_OK;
 }
@@ -85,32 +99,76 @@ static int fail(cursor *it, const fault *why) {
     return SQLITE_ERROR;
 }
 
-static int next(sqlite3_vtab_cursor *base) {
-    cursor *it = (cursor *)base;
-    it->row++;
-    it->is_at_end = jdoc_children_next(&it->rest, &it->item) != JDOC_OK;
-    return SQLITE_OK;
+/* Copy the next item, which is not in the document. */
+static enum jdoc_status copy_item(cursor *it, size_t *len) {
+    const made *of = it->document;
+    for (;;) {
+        enum jdoc_status status = jdoc_items_next(&it->items, of->bytes, of->len, it->computed, it->size, len);
+        if (status != JDOC_BUFFER_TOO_SMALL) return status;
+        size_t size = 64 + *len + *len / 2;
+        uint8_t *grown = sqlite3_realloc64(it->computed, size);
+        if (!grown) return JDOC_OUT_OF_MEMORY;
+        it->computed = grown, it->size = size;
+    }
 }
 
-static enum jdoc_status select_array(cursor *it, const document *of, const sql_path *path) {
-    enum jdoc_status status = JDOC_BUFFER_TOO_SMALL;
-    it->len = of->len + 16;
-    while (status == JDOC_BUFFER_TOO_SMALL) {
-        if (it->len > it->size) {
-            uint8_t *grown = sqlite3_realloc64(it->array, it->len);
-            if (!grown) return JDOC_OUT_OF_MEMORY;
-            it->array = grown, it->size = it->len;
-        }
-        status = jdoc_select_array(of->bytes, of->len, path->text, path->len, path->strict, it->array, it->size,
-                                   &it->len);
-    }
+static enum jdoc_status take_computed(cursor *it) {
+    size_t len;
+    uint32_t status = copy_item(it, &len);
+    if (status == JDOC_OK) status = jdoc_type(it->computed, len, &it->kind);
+    return (enum jdoc_status)(status == JDOC_OK ? jdoc_root(&it->item, it->computed, len) : status);
+}
+
+static enum jdoc_status take_item(cursor *it) {
+    const made *of = it->document;
+    jdoc_span span = {0};
+    enum jdoc_status status = jdoc_items_find_next(&it->items, of->bytes, of->len, &span);
+    if (status == JDOC_COMPUTED) return take_computed(it);
+    it->kind = span.kind;
+    return status == JDOC_OK && !jdoc_item_at(&it->item, of->bytes, of->len, &span) ? JDOC_INVALID_JSONB : status;
+}
+
+static int next(sqlite3_vtab_cursor *base) {
+    cursor *it = (cursor *)base;
+    fault why = {take_item(it), NULL, 0};
+    it->row++;
+    it->is_at_end = why.status != JDOC_OK;
+    return why.status == JDOC_OK || why.status == JDOC_NONE ? SQLITE_OK : fail(it, &why);
+}
+
+/* Parse the path, unless it is that of the last call. A join calls once per document. */
+static enum jdoc_status read_path(cursor *it, const char *text, size_t len) {
+    if (it->path_text && it->path_len == len && memcmp(it->path_text, text, len) == 0) return JDOC_OK;
+    sqlite3_free(it->path_text);
+    it->path_text = sqlite3_malloc64(len + 1);
+    if (!it->path_text) return JDOC_OUT_OF_MEMORY;
+    memcpy(it->path_text, text, len);
+    it->path_len = len;
+    sql_path of = sql_path_of(text, len);
+    it->strict = of.strict;
+    enum jdoc_status status = jdoc_path_read(of.text, of.len, &it->path);
+    if (status != JDOC_OK) sqlite3_free(it->path_text), it->path_text = NULL;
     return status;
+}
+
+/* Read the document, and keep it for the rows. A BLOB is copied, since it is SQLite's after the call. */
+static bool read_document(cursor *it, sqlite3_value *value, fault *why) {
+    document of;
+    bool is_read = document_of_value(connection_of(it), value, &of, why);
+    sqlite3_free(it->document);
+    it->document = of.own;
+    if (!is_read || of.own) return is_read;
+    it->document = sqlite3_malloc64(sizeof *it->document + of.len);
+    why->status = it->document ? JDOC_OK : JDOC_OUT_OF_MEMORY;
+    if (!it->document) return false;
+    it->document->len = of.len;
+    if (of.len) memcpy(it->document->bytes, of.bytes, of.len);
+    return true;
 }
 
 static int filter(sqlite3_vtab_cursor *base, int is_given, const char *text, int argc, sqlite3_value **argv) {
     (void)text, (void)argc;
     cursor *it = (cursor *)base;
-    document of = {NULL, 0, NULL};
     fault why = {JDOC_OK, NULL, 0};
     it->row = -1, it->is_at_end = true;
     if (!is_given) {
@@ -118,12 +176,11 @@ static int filter(sqlite3_vtab_cursor *base, int is_given, const char *text, int
         return SQLITE_ERROR;
     }
     if (sqlite3_value_type(argv[0]) == SQLITE_NULL || sqlite3_value_type(argv[1]) == SQLITE_NULL) return SQLITE_OK;
-    const char *path_text = (const char *)sqlite3_value_text(argv[1]);
-    if (!path_text) return SQLITE_NOMEM;
-    sql_path path = sql_path_of(path_text, (size_t)sqlite3_value_bytes(argv[1]));
-    if (document_of_value(connection_of(it), argv[0], &of, &why)) why.status = select_array(it, &of, &path);
-    if (why.status == JDOC_OK) why.status = jdoc_children_open(&it->rest, it->array, it->len);
-    sqlite3_free(of.own);
+    const char *path = (const char *)sqlite3_value_text(argv[1]);
+    if (!path) return SQLITE_NOMEM;
+    why.status = read_path(it, path, (size_t)sqlite3_value_bytes(argv[1]));
+    if (why.status == JDOC_OK && read_document(it, argv[0], &why))
+        why.status = jdoc_path_items(&it->path, it->document->bytes, it->document->len, it->strict, &it->items);
     return why.status == JDOC_OK ? next(base) : fail(it, &why);
 }
 
@@ -134,35 +191,13 @@ static int rowid(sqlite3_vtab_cursor *it, sqlite3_int64 *out) {
     return SQLITE_OK;
 }
 
-/* The item as a document, or the type of that document. */
-static int return_document(const cursor *it, sqlite3_context *to, int column) {
-    connection *own = connection_of(it);
-    size_t len = jdoc_item_size(&it->item);
-    uint8_t kind;
-    if (!reserve(own, len)) return SQLITE_NOMEM;
-    jdoc_item_write(&it->item, own->bytes);
-    if (column == DOC)
-        sqlite3_result_blob64(to, own->bytes, len, SQLITE_TRANSIENT);
-    else if (jdoc_type(own->bytes, len, &kind) == JDOC_OK)
-        sqlite3_result_text(to, type_name(kind), -1, SQLITE_STATIC);
-    return SQLITE_OK;
-}
-
 static int column(sqlite3_vtab_cursor *base, sqlite3_context *to, int column) {
-    cursor *it = (cursor *)base;
-    switch (column) {
-    case KEY:
-        sqlite3_result_int64(to, it->row);
-        return SQLITE_OK;
-    case VALUE:
-        return_value(to, connection_of(it), &it->item);
-        return SQLITE_OK;
-    case DOC:
-    case TYPE:
-        return return_document(it, to, column);
-    default:
-        return SQLITE_OK;
-    }
+    const cursor *it = (cursor *)base;
+    if (column == KEY) sqlite3_result_int64(to, it->row);
+    if (column == VALUE) return_value(to, connection_of(it), &it->item);
+    if (column == DOC) return return_item(to, connection_of(it), &it->item) == JDOC_OK ? SQLITE_OK : SQLITE_NOMEM;
+    if (column == TYPE) sqlite3_result_text(to, type_name(it->kind), -1, SQLITE_STATIC);
+    return SQLITE_OK;
 }
 
 int add_rows(sqlite3 *db, connection *own) {

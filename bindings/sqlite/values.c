@@ -107,25 +107,41 @@ const char *type_name(uint8_t kind) {
 /* An integer if it is one of 64 bits with a sign, otherwise the nearest REAL, as SQLite has numbers of JSON text. */
 static void return_number(sqlite3_context *to, connection *own, const jdoc_event *item) {
     char text[JDOC_NUMBER_TEXT + 1], *end;
+    int64_t whole;
+    if (jdoc_number_i64(item->bytes, item->len, &whole)) {
+        sqlite3_result_int64(to, whole);
+        return;
+    }
     text[jdoc_number_text(item->bytes, item->len, text)] = 0;
     errno = 0;
-    long long whole = strtoll(text, &end, 10);
+    whole = strtoll(text, &end, 10); /* a decimal may have no fraction */
     if (*end == 0 && errno == 0)
         sqlite3_result_int64(to, whole);
     else
         sqlite3_result_double(to, strtod_l(text, &end, own->numbers));
 }
 
-static void return_text(sqlite3_context *to, const jdoc_event *item) {
-    jdoc_buffer out = {.heap = sqlite_heap};
-    uint32_t status = item->kind == JDOC_EVENT_BEGIN ? jdoc_write_text(&out, item->bytes, item->len, 0)
-                                                     : JDOC_INVALID_JSON_TYPE; /* a date or another extension value */
-    if (status == JDOC_OK) {
-        sqlite3_result_text64(to, out.bytes, out.len, sqlite3_free, SQLITE_UTF8);
-        return;
+/* SQLite copies a short text to memory that it has from row to row, and takes over a longer one. */
+uint32_t return_text(sqlite3_context *to, connection *own, const uint8_t *bytes, size_t len) {
+    enum { SHORT = 16384 };
+    jdoc_buffer *text = &own->text;
+    text->len = 0;
+    uint32_t status = jdoc_write_text(text, bytes, len, 0);
+    if (status != JDOC_OK) return status;
+    if (text->len <= SHORT) {
+        sqlite3_result_text64(to, text->bytes, text->len, SQLITE_TRANSIENT, SQLITE_UTF8);
+    } else {
+        sqlite3_result_text64(to, text->bytes, text->len, sqlite3_free, SQLITE_UTF8);
+        *text = (jdoc_buffer){.heap = sqlite_heap};
     }
-    sqlite3_free(out.bytes);
-    return_fault(to, "jdoc_value", &(fault){status, NULL, 0});
+    return status;
+}
+
+/* An array or an object as JSON text. */
+static void return_container(sqlite3_context *to, connection *own, const jdoc_event *item) {
+    uint32_t status = item->kind == JDOC_EVENT_BEGIN ? return_text(to, own, item->bytes, item->len)
+                                                     : JDOC_INVALID_JSON_TYPE; /* a date or another extension value */
+    if (status != JDOC_OK) return_fault(to, "jdoc_value", &(fault){status, NULL, 0});
 }
 
 void return_value(sqlite3_context *to, connection *own, const jdoc_event *item) {
@@ -143,6 +159,17 @@ void return_value(sqlite3_context *to, connection *own, const jdoc_event *item) 
         sqlite3_result_text64(to, (const char *)item->bytes, item->len, SQLITE_TRANSIENT, SQLITE_UTF8);
         return;
     default:
-        return_text(to, item);
+        return_container(to, own, item);
     }
+}
+
+enum jdoc_status return_item(sqlite3_context *to, connection *own, const jdoc_event *item) {
+    if (item->kind == JDOC_EVENT_BEGIN) {
+        sqlite3_result_blob64(to, item->bytes, item->len, SQLITE_TRANSIENT);
+        return JDOC_OK;
+    }
+    if (!reserve(own, jdoc_item_size(item))) return JDOC_OUT_OF_MEMORY;
+    jdoc_item_write(item, own->bytes);
+    sqlite3_result_blob64(to, own->bytes, jdoc_item_size(item), SQLITE_TRANSIENT);
+    return JDOC_OK;
 }

@@ -1,7 +1,7 @@
 #!/usr/bin/env bash
 # dist.sh LIB OUT: builds a release with the libraries of LIB in the folder OUT, builds it once more in another folder, except for the
-# part of Python, which python/test.sh builds once more, and uses each part without the toolchain and without a network. A part whose
-# tools are missing is skipped with a line. The last line is `N passed, M failed`.
+# part of Python, which python/test.sh builds once more, and uses each part without the toolchain and without a network. None is built
+# of an older library. A part whose tools are missing is skipped with a line. The last line is `N passed, M failed`.
 here=$(cd "$(dirname "$0")/.." && pwd) || exit 1
 lib=$(cd "$1" && pwd) && mkdir -p "$2" && out=$(cd "$2" && pwd) || exit 1
 passed=0 failed=0 parts=(library)
@@ -35,6 +35,21 @@ part postgres has_pgxs
 part python "$here/python/interpreter.sh"
 part rust cargo --version
 has() { [[ " ${parts[*]} " = *" $1 "* ]]; }
+
+# The library that LIB was made of, noted to be of these sources, and changed so that no release may be made of it.
+export CRATE=$out/crate/libjsonb_c.a
+note() {
+    mkdir -p "$out/crate" && cp -p "$here/../crates/jsonb_c/out/libjsonb_c.a" "$CRATE" && python3 -B "$here/../tools/library.py" note "$CRATE"
+}
+refused() {
+    local said
+    said=$(make -s -C "$here" LIB="$out/older" OUT="$out/older" PARTS=library dist 2>&1) && return 1
+    grep -F "$1" <<<"$said" && [ ! -e "$out/older/dist" ]
+}
+count "a library that was not noted" eval 'note && rm "${CRATE%.a}.sources" && refused "was not noted"'
+count "a library of other sources" eval 'note && sed -i "s/^sources ./sources x/" "${CRATE%.a}.sources" && refused "of other sources"'
+count "another library" eval 'note && echo >>"$CRATE" && refused "not the library that was noted"'
+count "the library" note
 
 count "build" make -s -C "$here" LIB="$lib" OUT="$out/first" PARTS="${parts[*]}" dist
 others=${parts[*]/python/}

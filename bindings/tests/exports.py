@@ -54,7 +54,7 @@ def in_rust(kind):
 def declared_in_rust():
     """Each function of bindings/rust/sys, with what it returns and the types of its arguments."""
     text = read("rust", "sys", "src", "bindings.rs")
-    for name, arguments, result in re.findall(r"pub fn (jdoc_\w+)\(([^)]*)\)(?: -> (\w+))?;", text):
+    for name, arguments, result in re.findall(r"pub fn (jdoc_\w+)\(([^)]*)\)(?:\s+-> (\w+))?;", text):
         yield name, result or "void", [it.partition(":")[2].strip() for it in arguments.split(",") if it.strip()]
 
 

@@ -18,7 +18,8 @@ sys.dont_write_bytecode = True
 import documents
 
 OK, NONE = "JDOC_OK", "JDOC_NONE"
-STRICT_PATH, INVALID_JSON_PATH, INVALID_KEY_PATH = "JDOC_STRICT_PATH", "JDOC_INVALID_JSON_PATH", "JDOC_INVALID_KEY_PATH"
+STRICT_PATH, PATH_FAILED = "JDOC_STRICT_PATH", "JDOC_PATH_FAILED"
+INVALID_JSON_PATH, INVALID_KEY_PATH = "JDOC_INVALID_JSON_PATH", "JDOC_INVALID_KEY_PATH"
 INVALID_JSONB, UNSUPPORTED_NUMBER = "JDOC_INVALID_JSONB", "JDOC_UNSUPPORTED_NUMBER"
 BAD_OFFSETS, NOT_UTF8 = "JDOC_BAD_OFFSETS", "JDOC_NOT_UTF8"
 FALSE, TRUE, UNKNOWN = 0, 1, 2
@@ -343,7 +344,7 @@ LAX = [
     ("$[last, 0]", V[2], "[30,10]"), ("$[0, 0 to 1]", V[2], "[10,10,20]"), ("$[0 to 1]", EMPTY_ARRAY, "[]"),
     ("$[-1]", V[2], "[]"), ("1 == -1", V[5], "[false]"), ("", V[5], "[[1]]"),
     ("$.a\n", json(r'{"a":1,"a\n":2}'), "[2]"), ("$?(@ == 1)", V[3], '[[1,"a"]]'), ("$?(@ == 1)", V[4], "[]"),
-    ("$[*]?(-@.a)", EMPTY_ARRAY, "[]"), ("$[*]?(-@.a)", V[5], INVALID_JSON_PATH), ("-$[*]", V[6], "[-1,2]"),
+    ("$[*]?(-@.a)", EMPTY_ARRAY, "[]"), ("$[*]?(-@.a)", V[5], PATH_FAILED), ("-$[*]", V[6], "[-1,2]"),
     ("-$[*]", V[7], "JDOC_OVERFLOW"), ("$ / 2", number(5), "JDOC_INEXACT"), ("$ / 0", number(5), "JDOC_ZERO_DIVISOR"),
     ("$ % 3", number(-7), "[-1]"), ("$[0] == 1 || $[1] == 1", V[3], "[null]"), ("$ != null", number(5), "[true]"),
     ("$.phones[*]?(@.number == 3720453)", V[11], '[{"number":3720453,"type":"home"}]'), ("$.**", V[9], "[[[1]],[1],1]"),
@@ -352,13 +353,13 @@ LAX = [
     ("$[*]", V[2], "[10,20,30]"), ("$[*]", EMPTY_ARRAY, "[]"), ("$ - 1", number(0), "[-1]"), ("7 - 10", V[5], "[-3]"),
     ("$ * 4294967295", number(2**32), "[18446744069414584320]"), ("$ * $", number(2**32), "JDOC_OVERFLOW"),
     ("-$", number(-2**63), "[9223372036854775808]"), ("$ % 0", decimal(2, 1234), "JDOC_DECIMAL_OPERAND"),
-    ("$[*] + 1", V[2], INVALID_JSON_PATH), ("-$[*]", json("[1,18446744073709551615]"), "JDOC_OVERFLOW"),
+    ("$[*] + 1", V[2], PATH_FAILED), ("-$[*]", json("[1,18446744073709551615]"), "JDOC_OVERFLOW"),
     ("+$", FLOAT, UNSUPPORTED_NUMBER), ("$[last + 2147483647]", V[2], "[]"),
     ("$[-2147483648 to 2147483647]", V[2], "[10,20,30]"), ("$[last - 2147483647 to last]", V[2], "[10,20,30]"),
     ("(" * 300 + "$ == 1" + ")" * 300, number(1), "[true]"), ("$.a", V[10], "[null]"), ("$.c", V[10], "[]"),
     ("$[*]", number(5), "[5]"), ("$[*].k", V[1], '["v"]'), ('$[*]?(@.k == "v")', V[1], '[{"k":"v"}]'),
     ("$.a == 1 || $.c == 1", V[10], "[null]"), ("exists($.c)", V[10], "[false]"), ("-$.c", V[10], "[]"),
-    ("$[*] + $.c", V[2], INVALID_JSON_PATH), ("$[*]?(@.a + 1)", V[2], "[]"),
+    ("$[*] + $.c", V[2], PATH_FAILED), ("$[*]?(@.a + 1)", V[2], "[]"),
     ("$.k == \"a\\\\b\"", json(r'{"k":"a\\b"}'), "[true]"), ("$.a <> 1", json('{"a":2}'), "[true]"),
     ("$.\\u{d83d}\\u{de00}", json('{"\U0001f600":1}'), "[1]"), ("$.**{2 to LAST}", V[9], "[1]"),
 ]
@@ -366,7 +367,7 @@ STRICT = [
     ("$.a", V[10], "[null]"), ("$.c", V[10], STRICT_PATH), ("$[*]", number(5), STRICT_PATH), ("$[5]", V[2], "[]"),
     ("$[*].k", V[1], STRICT_PATH), ('$[*]?(@.k == "v")', V[1], STRICT_PATH), ("$.a == 1 || $.c == 1", V[10], STRICT_PATH),
     ("exists($.c)", V[10], STRICT_PATH), ("-$.c", V[10], STRICT_PATH), ("$.**", V[9], "[[[1]],[1],1]"),
-    ("$[*] + $.c", V[2], STRICT_PATH), ("$[*]?(@.a + 1)", V[2], "[]"), ("$[*]?(-@.a)", V[5], INVALID_JSON_PATH),
+    ("$[*] + $.c", V[2], STRICT_PATH), ("$[*]?(@.a + 1)", V[2], "[]"), ("$[*]?(-@.a)", V[5], PATH_FAILED),
 ]
 NO_PATHS = ['$["a', '$[""]', "$[0, 1, 2 4]", "@ > 10", "$.prop..", "$?(@ == 10.5)", "-1 == 1", "$.**{300}", "$[1,]", "a<>1",
             "-7 % 3", r"$.\ud83d", '$."a', "$.a\\", r"$.a\u12", b"$.\xff"]
@@ -435,6 +436,28 @@ def making():
     ])
 
 
+def events():
+    """The document of events, which are letters (bindings/c/tests/handles.h)."""
+    order = "JDOC_OUT_OF_ORDER"
+    whole = [
+        ("n", json("null")), ("t", json("true")), ("f", json("false")), ("i", number(-100)), ("u", number(1)), ("m", decimal(2, 1234)),
+        ("s", json('"adf"')), ("d", V[1]), ("[.", EMPTY_ARRAY), ("{.", json("{}")), ("{ks.", V[15]), ("{b[n.an.", V[10]), ("[[u..", V[9]),
+        ("[d.", array_of([V[1]])), ("{at.", bytes.fromhex("40000001 10000001 40000000 61")), ("[" * 300 + "." * 300, nested(300)),
+    ]
+    for call in ("by_events", "by_events_that_fit"):
+        yield from table(call, [(V[1], *row) for row in whole])
+        yield from table(call, [(V[1], it, order) for it in ("", "[", "{a", "{au", "[[.")])
+    yield from table("by_events", [(V[1], it, order) for it in (".", "n.", "nn", "n[", "n{", "[..", "a", "[a", "{n", "{[", "{aa", "{a.", "{aun", "da")])
+    yield from table("by_events", [
+        (V[1], "{aua", "JDOC_OBJECT_DUPLICATE_KEY"), (V[1], "[x", NOT_UTF8), (V[1], "{y", NOT_UTF8), (DAMAGED, "[d", INVALID_JSONB),
+        (FLOAT, "d", UNSUPPORTED_NUMBER),
+    ])
+    yield from table("by_events_that_fit", [
+        (V[1], "{auabs.", json('{"a":1,"b":"adf"}')), (V[1], "{n[au..", json('{"a":1}')), (V[1], "{ab.u.", json('{"a":1}')),
+        (V[1], ".[xu.nk", json("[1]")), (V[1], "{yad.", json('{"a":[false,10,{"k":"v"}]}')), (DAMAGED, "d[d.", EMPTY_ARRAY),
+    ])
+
+
 def reading():
     yield from table("len", [(V[1], 3), (V[10], 2), (EMPTY_ARRAY, 0), (number(1), NONE)])
     yield from table("pair_key", [(V[10], 0, b"a"), (V[10], 1, b"b"), (V[10], 2, NONE), (V[5], 0, NONE), (json('{"":1}'), 0, b"")])
@@ -468,11 +491,14 @@ def leaves():
         yield from table(call, [(FLOAT, UNSUPPORTED_NUMBER), (DAMAGED, INVALID_JSONB), (b"", INVALID_JSONB)])
 
 
-# The calls with a path that have one on a prepared path, of which each row is one too (bindings/c/tests/handles.h).
+# The calls that others repeat, on a prepared path or by the span of what they copy: each row is one of those too
+# (bindings/c/tests/handles.h).
 PREPARED = {
-    "select_value": ["by_path_select_value"], "select_first": ["by_path_select_first", "by_path_read_again"],
-    "select_array": ["by_path_select_array"], "exists": ["by_path_exists"], "match": ["by_path_match"],
+    "select_value": ["by_path_select_value"], "select_first": ["by_path_select_first", "by_path_read_again", "by_first_span", "by_path_first_span"],
+    "select_array": ["by_path_select_array", "by_items", "by_item_spans"], "exists": ["by_path_exists"], "match": ["by_path_match"],
     "get_by_keypath": ["by_keypath_get", "by_span", "by_keypath_span"], "delete_by_keypath": ["by_keypath_delete"],
+    "get_by_index": ["span_by_index", "cursor_element"], "get_by_name": ["span_by_name"], "as_str": ["span_str"],
+    "len": ["cursor_len"], "pair_key": ["cursor_key"], "pair_value": ["cursor_value"],
 }
 
 
@@ -482,11 +508,15 @@ def prepared(rows):
         yield row
         for call in PREPARED.get(row.call, []):
             yield Row(call, row.arguments, row.status, row.answer)
+    yield from table("first_in_place", [
+        (V[1], "$[*].k", False, json('"v"')), (V[1], "$[9]", False, NONE), (V[2], "$[1] + 1", False, "JDOC_COMPUTED"),
+        (V[2], "$[*] > 25", False, "JDOC_COMPUTED"), (V[2], "-$[9]", False, NONE), (V[2], "-$[0]", False, "JDOC_COMPUTED"),
+    ])
     yield from table("by_wrong_kind", [(V[10], "$.a", False, "JDOC_NO_PATH"), (V[10], "$.", False, INVALID_JSON_PATH)])
 
 
 def all_rows():
-    parts = (places, edits, places_of_names, sets, scalars, keys, paths, positions, making, reading, leaves)
+    parts = (places, edits, places_of_names, sets, scalars, keys, paths, positions, making, events, reading, leaves)
     yield from prepared(row for part in parts for row in part())
 
 

@@ -8,7 +8,7 @@
  * rounded if the caller sets that option.
  *
  * None of this is proved. Each document that a tape writes is checked by jdoc_check, which is proved, before the caller
- * gets it.
+ * gets it. Text is written from exactly the bytes that jdoc_check accepts, which tests compare.
  *
  * Statuses are those of jdoc.h, and JDOC_INVALID_JSON. Calls allocate from the caller's jdoc_heap. If it returns NULL,
  * the status is JDOC_OUT_OF_MEMORY. It may also leave by longjmp, as palloc does: calls own nothing except its memory.
@@ -31,13 +31,12 @@ typedef struct jdoc_heap {
     void (*release)(void *piece);
 } jdoc_heap;
 
-/* OPTIONS. Of a tape and of text. 0: numbers are exact, keys are unique, text has no spaces, documents are checked. */
+/* OPTIONS. Of a tape and of text. 0: numbers are exact, keys are unique, text has no spaces. */
 enum {
     JDOC_ROUND_NUMBERS =
         1, /* round a number with too many digits, half away from zero, instead of JDOC_UNSUPPORTED_NUMBER */
     JDOC_KEEP_LAST = 2, /* keep the last member of a duplicate key, instead of JDOC_OBJECT_DUPLICATE_KEY */
-    JDOC_SPACES = 4,    /* write ", " and ": ", as PostgreSQL does */
-    JDOC_TRUSTED = 8    /* write text without jdoc_check: the document was checked before */
+    JDOC_SPACES = 4     /* write ", " and ": ", as PostgreSQL does */
 };
 
 /* EVENTS TO A DOCUMENT */
@@ -139,7 +138,7 @@ typedef struct jdoc_event {
     const uint8_t *bytes, *key;
 } jdoc_event;
 
-/* The remaining elements or members of a container. */
+/* The remaining elements or members of a container, for a walk. */
 typedef struct jdoc_children {
     const uint8_t *words, *keys, *content, *end;
     uint32_t left, count;
@@ -149,11 +148,13 @@ typedef struct jdoc_children {
 /* Reads a document as an item without a key. Containers within it are not read. */
 uint32_t jdoc_root(jdoc_event *item, const uint8_t *document, size_t len);
 
-/* Begins with the first element or member of a document. JDOC_NONE: the document is a scalar. */
-uint32_t jdoc_children_open(jdoc_children *children, const uint8_t *document, size_t len);
+/* Makes the value of a span, which jdoc_find_by_keypath and others store, an item without a key, whose `count` is 0.
+ * False: the span is not within the document, which is then not one. */
+bool jdoc_item_at(jdoc_event *item, const uint8_t *document, size_t len, const jdoc_span *span);
 
-/* Reads the next element or member. JDOC_NONE: there is none. */
-uint32_t jdoc_children_next(jdoc_children *children, jdoc_event *item);
+/* Reads the next child of a container, whose cursor jdoc_cursor_open opened, as such an item with its key. JDOC_NONE:
+ * there is none. */
+uint32_t jdoc_next_item(const uint8_t *document, size_t len, jdoc_cursor *cursor, jdoc_event *item);
 
 /* Returns the size of an item as a separate document. */
 size_t jdoc_item_size(const jdoc_event *item);
@@ -197,11 +198,12 @@ typedef struct jdoc_buffer {
 /* Appends bytes. False: the allocation fails. */
 bool jdoc_append(jdoc_buffer *out, const char *text, size_t len);
 
-/* Appends the JSON text of a document. JDOC_INVALID_JSONB, JDOC_UNSUPPORTED_NUMBER: it is not a document.
+/* Appends the JSON text of a document. JDOC_INVALID_JSONB, JDOC_UNSUPPORTED_NUMBER: jdoc_check returns this.
  * JDOC_INVALID_JSON_TYPE: an extension value, such as a date, which JSON does not have. */
 uint32_t jdoc_write_text(jdoc_buffer *out, const uint8_t *document, size_t len, unsigned options);
 
-/* Appends the JSON text of an item of a document that was checked. */
+/* Appends the JSON text of an item. Errors: as jdoc_write_text, except that JDOC_INVALID_JSON_TYPE says nothing of what
+ * follows the extension value, and JDOC_UNSUPPORTED_NUMBER is JDOC_INVALID_JSONB. */
 uint32_t jdoc_write_item(jdoc_buffer *out, const jdoc_event *item, unsigned options);
 
 /* NUMBERS */
@@ -212,6 +214,9 @@ enum { JDOC_NUMBER_TEXT = 300 };
 /* Writes the text of a number's payload into `out`, of JDOC_NUMBER_TEXT bytes, and returns its length. 0: it is not a
  * payload. */
 size_t jdoc_number_text(const uint8_t *payload, size_t len, char *out);
+
+/* Reads the payload of an integer of 64 bits with a sign. False: it is not one, such as that of a decimal. */
+bool jdoc_number_i64(const uint8_t *payload, size_t len, int64_t *value);
 
 /* Writes the payload of a number's text into `out`, of 18 bytes, and returns its length. 0: there is none. */
 size_t jdoc_number_payload(const char *text, size_t len, bool round, uint8_t *out);

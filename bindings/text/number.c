@@ -1,4 +1,4 @@
-/* Numbers: JSON text to a payload of the format, and back. */
+/* Numbers: JSON text to a payload of the format. */
 #include "tape.h"
 
 typedef unsigned __int128 wide;
@@ -175,54 +175,4 @@ bool jdoc_tape_decimal(jdoc_tape *tape, int64_t digits, uint8_t scale) {
 bool jdoc_tape_number(jdoc_tape *tape, const char *text, size_t len) {
     uint8_t *out = jdoc_tape_room(tape, 18);
     return out && take(tape, jdoc_number_payload(text, len, tape->options & JDOC_ROUND_NUMBERS, out));
-}
-
-/* The integer of 1, 2, 4, 8 or 16 bytes, of which the first has the sign. */
-static __int128 take_integer(const uint8_t *at, size_t width) {
-    int64_t first = (int64_t)__builtin_bswap64(width < 8 ? take_short(at, width) : take_word(at));
-    if (width == 16) return (__int128)((wide)(uint64_t)first << 64 | __builtin_bswap64(take_word(at + 8)));
-    return first >> (64 - 8 * width);
-}
-
-/* A payload as an integer over ten to the scale. */
-static bool read_payload(const uint8_t *payload, size_t len, __int128 *value, size_t *scale) {
-    size_t width = len - 1;
-    *scale = 0;
-    if (len == 0) return false;
-    if (payload[0] == 0) return *value = 0, len == 1;
-    if (payload[0] == 0x70 && (len == 10 || len == 18))
-        *scale = payload[--width + 1];
-    else if ((payload[0] != 0x40 && payload[0] != 0x50) || (width != 1 && width != 2 && width != 4 && width != 8))
-        return false;
-    *value = take_integer(payload + 1, width);
-    if (payload[0] == 0x50) *value &= UINT64_MAX >> (64 - 8 * width);
-    return true;
-}
-
-/* Writes the digits of a number so that they end before `end`, and returns the first one. */
-static char *digits_before(wide value, char *end) {
-    uint64_t rest;
-    for (; value > UINT64_MAX; value /= 10) *--end = (char)('0' + (unsigned)(value % 10));
-    for (rest = (uint64_t)value; rest; rest /= 10) *--end = (char)('0' + rest % 10);
-    return end;
-}
-
-size_t jdoc_number_text(const uint8_t *payload, size_t len, char *out) {
-    char digits[JDOC_NUMBER_TEXT], *first;
-    __int128 value;
-    size_t count, scale, whole, at = 0;
-    if (!read_payload(payload, len, &value, &scale)) return 0;
-    if (!value) return out[0] = '0', 1;
-    first = digits_before(value < 0 ? -(wide)value : (wide)value, digits + sizeof digits);
-    count = (size_t)(digits + sizeof digits - first);
-    whole = count > scale ? count - scale : 0;
-    if (value < 0) out[at++] = '-';
-    if (!whole) out[at++] = '0';
-    memcpy(out + at, first, whole);
-    at += whole;
-    if (!scale) return at;
-    out[at++] = '.';
-    for (; count < scale; count++) *--first = '0';
-    memcpy(out + at, first + whole, scale);
-    return at + scale;
 }

@@ -1,8 +1,6 @@
 /* JSON text to events: the grammar of RFC 8259, without recursion. The tape knows which container is open. */
 #include "tape.h"
 
-#define ALWAYS_INLINE static inline __attribute__((always_inline))
-
 typedef struct reader {
     jdoc_tape *tape;
     const uint8_t *start, *end;
@@ -259,17 +257,6 @@ uint32_t jdoc_read_next(jdoc_tape *tape, const char *text, size_t len, size_t *u
 }
 
 /* THE FIRST BYTE THAT IS NOT UTF-8 */
-
-/* The length of the character at a place, 0 if it is not UTF-8 (RFC 3629). */
-static size_t character(const uint8_t *at, const uint8_t *end) {
-    size_t len = *at < 0x80 ? 1 : *at < 0xc2 ? 0 : *at < 0xe0 ? 2 : *at < 0xf0 ? 3 : *at < 0xf5 ? 4 : 0;
-    if (len < 2 || (size_t)(end - at) < len) return len < 2 ? len : 0;
-    for (size_t i = 1; i < len; i++)
-        if ((at[i] & 0xc0) != 0x80) return 0;
-    if ((*at == 0xe0 && at[1] < 0xa0) || (*at == 0xed && at[1] > 0x9f)) return 0;
-    if ((*at == 0xf0 && at[1] < 0x90) || (*at == 0xf4 && at[1] > 0x8f)) return 0;
-    return len;
-}
 
 static size_t first_wrong_byte(const char *text, size_t len) {
     const uint8_t *start = (const uint8_t *)text, *at = start, *end = start + len;

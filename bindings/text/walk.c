@@ -1,64 +1,26 @@
-/* A document as events. Every length is compared with what is left of its container before anything is read. */
-#include "format.h"
+/* A document as events. */
+#include "children.h"
 
-/* Reads the header of a container and the lengths of its keys. */
-static bool open(jdoc_children *it, const uint8_t *at, size_t len) {
-    uint32_t header;
-    uint64_t words;
-    if (len < 4) return false;
-    header = take32(at);
-    it->object = (header & HEADER_KIND) == HEADER_OBJECT;
-    if (!it->object && (header & HEADER_KIND) != HEADER_ARRAY) return false;
-    it->count = it->left = header & COUNT_LIMIT;
-    words = (uint64_t)it->count * (it->object ? 8 : 4);
-    if (words > len - 4) return false;
-    it->words = at + 4;
-    it->keys = it->content = it->words + words;
-    it->end = at + len;
-    for (uint32_t i = 0; it->object && i < it->count; i++) {
-        uint32_t word = take32(it->words + 4 * (size_t)i);
-        if (word >> 28 != JDOC_EVENT_STRING || (word & CONTENT_LIMIT) > (size_t)(it->end - it->content)) return false;
-        it->content += word & CONTENT_LIMIT;
-    }
-    return true;
-}
-
-/* The item of an entry word and its content. */
-static bool make_item(jdoc_event *item, uint32_t word, const uint8_t *content) {
-    if (word >> 28 > JDOC_EVENT_EXTENSION) return false;
-    item->kind = (enum jdoc_event_kind)(word >> 28);
-    item->bytes = content;
-    item->len = word & CONTENT_LIMIT;
-    item->has_key = item->object = false;
+bool jdoc_item_at(jdoc_event *item, const uint8_t *document, size_t len, const jdoc_span *span) {
+    if (span->at > len || span->len > len - span->at) return false;
+    item->kind = (enum jdoc_event_kind)span->entry;
+    item->object = span->kind == JDOC_KIND_OBJECT;
+    item->has_key = false;
     item->count = 0;
-    if (item->kind != JDOC_EVENT_BEGIN) return true;
-    if (item->len < 4) return false;
-    item->object = (take32(content) & HEADER_KIND) == HEADER_OBJECT;
-    item->count = take32(content) & COUNT_LIMIT;
+    item->bytes = document + span->at;
+    item->len = span->len;
+    item->key = NULL, item->key_len = 0;
     return true;
 }
 
-uint32_t jdoc_children_open(jdoc_children *children, const uint8_t *document, size_t len) {
-    if (len >= 4 && (take32(document) & HEADER_KIND) == HEADER_SCALAR) return JDOC_NONE;
-    return open(children, document, len) ? JDOC_OK : JDOC_INVALID_JSONB;
-}
-
-uint32_t jdoc_children_next(jdoc_children *it, jdoc_event *item) {
-    uint32_t word, index = it->count - it->left;
-    if (!it->left) return it->content == it->end ? JDOC_NONE : JDOC_INVALID_JSONB;
-    word = take32(it->words + 4 * ((size_t)index + (it->object ? it->count : 0)));
-    if ((word & CONTENT_LIMIT) > (size_t)(it->end - it->content)) return JDOC_INVALID_JSONB;
-    if (!make_item(item, word, it->content)) return JDOC_INVALID_JSONB;
-    if (it->object) {
-        item->has_key = true;
-        item->key = it->keys;
-        item->key_len = take32(it->words + 4 * (size_t)index) & CONTENT_LIMIT;
-        /* The words may have been changed by another thread since they were added up. */
-        if (item->key_len > (size_t)(it->end - it->keys)) return JDOC_INVALID_JSONB;
-        it->keys += item->key_len;
-    }
-    it->content += item->len;
-    it->left--;
+uint32_t jdoc_next_item(const uint8_t *document, size_t len, jdoc_cursor *cursor, jdoc_event *item) {
+    jdoc_span key = {0}, value;
+    uint32_t status = jdoc_cursor_next(document, len, cursor, &key, &value);
+    if (status != JDOC_OK) return status;
+    if (!jdoc_item_at(item, document, len, &value) || key.at > len || key.len > len - key.at) return JDOC_INVALID_JSONB;
+    item->has_key = key.entry == JDOC_EVENT_STRING;
+    item->key = document + key.at;
+    item->key_len = key.len;
     return JDOC_OK;
 }
 
@@ -104,7 +66,7 @@ uint32_t jdoc_walk_init(jdoc_walk *walk, jdoc_heap heap, const uint8_t *document
     return status;
 }
 
-static bool more_levels(jdoc_walk *walk) {
+bool jdoc_walk_grow(jdoc_walk *walk) {
     jdoc_children *old = walk->levels == walk->some ? NULL : walk->levels, *more;
     more = walk->heap.resize(old, 2 * walk->size * sizeof *more);
     if (!more) return false;
@@ -116,8 +78,8 @@ static bool more_levels(jdoc_walk *walk) {
 
 static uint32_t enter(jdoc_walk *walk, const jdoc_event *item) {
     if (item->kind != JDOC_EVENT_BEGIN) return JDOC_OK;
-    if (walk->depth == walk->size && !more_levels(walk)) return JDOC_OUT_OF_MEMORY;
-    if (!open(&walk->levels[walk->depth], item->bytes, item->len)) return JDOC_INVALID_JSONB;
+    if (walk->depth == walk->size && !jdoc_walk_grow(walk)) return JDOC_OUT_OF_MEMORY;
+    if (!open_container(&walk->levels[walk->depth], item->bytes, item->len, false)) return JDOC_INVALID_JSONB;
     walk->depth++;
     return JDOC_OK;
 }
@@ -132,7 +94,7 @@ uint32_t jdoc_walk_next(jdoc_walk *walk, jdoc_event *event) {
     }
     if (!walk->depth) return JDOC_NONE;
     level = &walk->levels[walk->depth - 1];
-    status = jdoc_children_next(level, event);
+    status = next_child(level, event);
     if (status == JDOC_OK) return enter(walk, event);
     if (status != JDOC_NONE) return status;
     event->kind = JDOC_EVENT_END;

@@ -126,6 +126,16 @@ void prepared() {
     EXPECT(jdoc::path::read("$[").error() == JDOC_INVALID_JSON_PATH);
     jdoc::path items = *jdoc::path::read("$[last, 0]");
     EXPECT(is(items.select_array(tens), hex("800000022000000220000002501e500a")));
+    jdoc::result<jdoc::items> found = items.items(tens);
+    EXPECT(found && is_some(found->next(), hex("2000000020000002501e")));
+    jdoc::items others = std::move(*found);
+    EXPECT(is_some(others.next(), hex("2000000020000002500a")));
+    EXPECT(is_none(others.next()) && found->next().error() == JDOC_NO_PATH);
+    EXPECT(items.items(object, true).error() == JDOC_STRICT_PATH);
+    jdoc::result<jdoc::items> places = items.items(tens);
+    EXPECT((*places->find_next())->at == 20 && (*places->find_next())->at == 16 && !*places->find_next());
+    jdoc::result<jdoc::items> sums = jdoc::path::read("$[0] + 1")->items(tens);
+    EXPECT(sums->find_next().error() == JDOC_COMPUTED && is_some(sums->next(), hex("2000000020000002500b")));
     EXPECT(is_some(items.select_first(tens), hex("2000000020000002501e")));
     EXPECT(is_some(items.select_value(one_in_array), one_in_array) == false);
     EXPECT(is(items.exists(object), false));
@@ -143,6 +153,16 @@ void prepared() {
     EXPECT(span && *span && (*span)->at == 31 && (*span)->len == 1 && (*span)->kind == JDOC_KIND_STRING);
     EXPECT(key->find(tens) && !*key->find(tens));
     EXPECT(jdoc::find(mixed, "{1}") && (*jdoc::find(mixed, "{1}"))->entry == 2);
+    EXPECT((*jdoc::find(mixed, std::size_t{1}))->at == 16);
+    EXPECT((*jdoc::find_by_name(object, "ASD", true))->at == 15);
+    EXPECT((*jdoc::find_str(v))->at == 8);
+    EXPECT((*jdoc::find_first(mixed, "$[*].k"))->at == 31 && !*jdoc::find_first(mixed, "$[9]"));
+    EXPECT(jdoc::find_first(tens, "$[1] + 1").error() == JDOC_COMPUTED);
+    EXPECT((*jdoc::path::read("$[1]")->find_first(tens))->at == 18);
+    jdoc::cursor members = **jdoc::cursor::open(object);
+    const jdoc::child member = **members.next();
+    EXPECT(member.key && member.key->at == 12 && member.value.at == 15 && !*members.next());
+    EXPECT(!(*(*jdoc::cursor::open(mixed))->next())->key && !*jdoc::cursor::open(one));
     EXPECT(is(key->remove(mixed), *jdoc::remove(mixed, "{2,k}")));
     EXPECT(jdoc::keypath::read("{1a}").error() == JDOC_INVALID_KEY_PATH);
     static_assert(!std::is_copy_constructible_v<jdoc::path> && !std::is_copy_constructible_v<jdoc::keypath>);
@@ -167,6 +187,27 @@ void parts() {
     EXPECT(is_some(jdoc::as_decimal(hex("200000002000000a7000000000000004d202")), price));
     EXPECT(is_none(jdoc::as_decimal(v)));
     EXPECT(jdoc::version() == JDOC_VERSION_NUMBER);
+}
+
+void events() {
+    jdoc::builder made;
+    EXPECT(made.begin_object() == JDOC_OK && made.add_null() == JDOC_OUT_OF_ORDER);
+    EXPECT(made.key("asd") == JDOC_OK && made.finish().error() == JDOC_OUT_OF_ORDER);
+    EXPECT(made.add_str("adf") == JDOC_OK && made.key("asd") == JDOC_OBJECT_DUPLICATE_KEY);
+    EXPECT(made.end() == JDOC_OK && is(made.finish(), object));
+    jdoc::builder moved = std::move(made);
+    EXPECT(is(moved.finish(), object) && made.begin_array() == JDOC_OK && made.end() == JDOC_OK);
+    moved = std::move(made);
+    EXPECT(is(moved.finish(), hex("80000000")));
+    jdoc::builder values;
+    EXPECT(values.begin_array() == JDOC_OK && values.add_bool(false) == JDOC_OK && values.add_i64(-100) == JDOC_OK);
+    EXPECT(values.add_u64(1) == JDOC_OK && values.add_decimal({0, 1234, 2}) == JDOC_OK && values.add_null() == JDOC_OK);
+    EXPECT(values.add_document(object) == JDOC_OK && values.add_document(view_of("?")) == JDOC_INVALID_JSONB);
+    EXPECT(values.add_str("\xff") == JDOC_NOT_UTF8 && values.end() == JDOC_OK);
+    const jdoc::column parts{*jdoc::from_bool(false), *jdoc::from_i64(-100), *jdoc::from_u64(1),
+                             *jdoc::from_decimal({0, 1234, 2}), null, object};
+    EXPECT(is(values.finish(), *jdoc::array_of(parts)));
+    static_assert(!std::is_copy_constructible_v<jdoc::builder>);
 }
 
 /* One row of each outcome: a result, none, and an error. */
@@ -220,6 +261,7 @@ int main() {
     paths();
     prepared();
     parts();
+    events();
     columns();
     long_results();
     views();

@@ -17,6 +17,7 @@ import unittest
 DATABASE = "jdoc_server"
 COUNT = int(os.environ.get("JDOC_CALLS", "20000"))
 CUTS = 100 if COUNT >= 1000000 else 10
+UNDER_VALGRIND = bool(os.environ.get("JDOC_VALGRIND"))
 # Documents and paths for both types. Keys are few, so that paths find them.
 KEYS = ["a", "b", "key", "Zürich", "x y"]
 PATHS = [
@@ -58,27 +59,38 @@ class Interrupts(unittest.TestCase):
     """Queries that take minutes end when the time is over, and the session goes on."""
 
     SLOW = [
-        "jdoc_path_exists((repeat('[', 60) || repeat(']', 60))::jdoc, '$.**.**.**.**.**.a')",
+        "jdoc_path_exists((repeat('[', 300) || repeat(']', 300))::jdoc, '$.**?(exists(@.**?(exists(@.**?(exists(@.**?(@ == 7)))))))')",
         "jdoc_path_query_array((repeat('[', 300) || repeat(']', 300))::jdoc, '$.**.**.**.**')",
+        "count(*) FROM (SELECT jdoc_path_query((repeat('[', 300) || repeat(']', 300))::jdoc, '$.**.**.**.**')) AS x",
+        "count(*) FROM (SELECT jdoc_path_query(('[' || repeat('1,', 1000000) || n || ']')::jdoc, '$[*]') FROM generate_series(1, 1000) AS n) AS x",
         "('{\"k\":[' || repeat('1,', 100000) || '2]}')::jdoc @> ('{\"k\":[' || repeat('2,', 100000) || '2]}')::jdoc",
         "sum(jdoc_length(('[' || repeat('1,', 1000000) || n || ']')::jdoc)) FROM generate_series(1, 1000) AS n",
     ]
+    LATEST = 10_000 if UNDER_VALGRIND else 200  # milliseconds after the timeout
+
+    def late(self, timeout, select):
+        """The milliseconds by which a query ended after its timeout."""
+        said = psql(f"SET client_min_messages = error; SET statement_timeout = '{timeout}ms';\n\\timing on\n\\set ON_ERROR_STOP 0\n{select};\n"
+                    "\\timing off\nSELECT 'goes on'", check=False)
+        self.assertIn("canceling statement due to statement timeout", said)
+        self.assertIn("goes on", said)
+        return float(re.search(r"Time: ([0-9.]+) ms", said)[1]) - timeout
+
+    def ends_in_time(self, timeout, select):
+        """Tries again on a machine that is busy with other work."""
+        late = [self.late(timeout, select)]
+        while late[-1] > self.LATEST and len(late) < 5:
+            late.append(self.late(timeout, select))
+        self.assertLessEqual(min(late), self.LATEST, select)
 
     def test_statement_timeout(self):
         for call in self.SLOW:
-            begun = time.monotonic()
-            said = psql(f"SET statement_timeout = '200ms';\n\\set ON_ERROR_STOP 0\nSELECT {call};\nSELECT 'goes on'", check=False)
-            self.assertIn("canceling statement due to statement timeout", said)
-            self.assertIn("goes on", said)
-            self.assertLess(time.monotonic() - begun, 5, call)
+            self.ends_in_time(200, f"SELECT {call}")
 
     def test_timeout_of_one_comparison(self):
         """Two equal documents of three million elements, whose comparison alone takes longer than the timeout."""
         psql("CREATE TABLE alike AS SELECT ('[' || repeat('1,', 3000000) || '1]')::jdoc AS a, ('[' || repeat('1.0,', 3000000) || '1]')::jdoc AS b")
-        said = psql("""SET client_min_messages = error; SET statement_timeout = '50ms';
-                       \\timing on\n\\set ON_ERROR_STOP 0\nSELECT jdoc_cmp(a, b) FROM alike;""", check=False)
-        self.assertIn("canceling statement due to statement timeout", said)
-        self.assertLess(float(re.search(r"Time: ([0-9.]+) ms", said)[1]), 1000)
+        self.ends_in_time(50, "SELECT jdoc_cmp(a, b) FROM alike")
         self.assertEqual(psql("SELECT jdoc_cmp(a, b), a = b FROM alike; DROP TABLE alike"), "0|t")
 
     def test_interrupts_that_do_not_cancel(self):
@@ -90,6 +102,34 @@ class Interrupts(unittest.TestCase):
             for _ in range(20):
                 psql(f"SELECT pg_log_backend_memory_contexts({process})", check=False)
             self.assertEqual(session.stdout.read().strip(), "19999")
+
+
+@unittest.skipIf(UNDER_VALGRIND, "valgrind takes more memory")
+class Rows(unittest.TestCase):
+    """A function that returns rows copies one item at a time."""
+
+    PEAK = "split_part(split_part(pg_read_file('/proc/self/status'), 'VmHWM:', 2), 'kB', 1)::int / 1024"
+
+    def growth(self, document, select):
+        """What a query of a stored document returns, and the megabytes by which it raises the greatest memory of the process."""
+        psql(f"DROP TABLE IF EXISTS stored; CREATE TABLE stored (d jdoc); ALTER TABLE stored ALTER d SET STORAGE external; INSERT INTO stored SELECT {document}")
+        said = psql(f"SELECT sum(jdoc_length(d)) FROM stored; SELECT {self.PEAK}; {select}; SELECT {self.PEAK}; DROP TABLE stored").splitlines()
+        return said[2:-1], int(said[-1]) - int(said[1])
+
+    def test_the_first_of_a_million_items(self):
+        begun = time.monotonic()
+        found, more = self.growth("('[' || repeat('\"' || repeat('x', 100) || '\",', 999999) || '1]')::jdoc",
+                                  "SELECT jdoc_path_query(d, '$[*]') FROM stored LIMIT 1")
+        self.assertEqual(found, ['"' + "x" * 100 + '"'])
+        self.assertLess(more, 150)
+        self.assertLess(time.monotonic() - begun, 30)
+
+    def test_items_that_are_longer_than_their_document(self):
+        """The items of 20,001 nested arrays take 1.6 gigabytes one after the other."""
+        found, more = self.growth("(repeat('[', 20001) || repeat(']', 20001))::jdoc",
+                                  "SELECT count(*), sum(length(item::bytea)) FROM (SELECT jdoc_path_query(d, '$.**') AS item FROM stored OFFSET 0) AS x")
+        self.assertEqual(found, [f"20001|{sum(4 + 8 * it for it in range(20001))}"])
+        self.assertLess(more, 50)
 
 
 class Damage(unittest.TestCase):

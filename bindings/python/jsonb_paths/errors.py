@@ -4,7 +4,7 @@
 >>> select(b"", "$.a[")
 Traceback (most recent call last):
     ...
-jsonb_paths.errors.InvalidJsonPath: byte 3: not a JSON path, or its evaluation fails: '$.a['
+jsonb_paths.errors.InvalidJsonPath: byte 3: not a JSON path: '$.a['
 """
 
 from __future__ import annotations
@@ -48,7 +48,7 @@ class UnsupportedNumber(JsonbError, ValueError):
 
 
 class InvalidJsonPath(JsonbError, ValueError):
-    status, meaning = 18, "not a JSON path, or its evaluation fails"
+    status, meaning = 18, "not a JSON path"
 
 
 class InvalidKeyPath(JsonbError, ValueError):
@@ -90,6 +90,10 @@ class StrictPath(JsonbError, LookupError):
     status, meaning = 27, "a structural error of a strict path"
 
 
+class PathFailed(InvalidJsonPath):
+    status, meaning = 28, "the path has no value on this document"
+
+
 class Overflow(JsonbError, OverflowError):
     status, meaning = 48, "arithmetic: below -2^63 or above 2^64 - 1"
 
@@ -106,11 +110,9 @@ class DecimalOperand(JsonbError, ArithmeticError):
     status, meaning = 51, "arithmetic: a decimal other than zero"
 
 
-def _below(base: Type[JsonbError]) -> Dict[int, Type[JsonbError]]:
-    return {it.status: it for it in base.__subclasses__()}
-
-
-BY_STATUS: Dict[int, Type[JsonbError]] = _below(JsonbError)
+BY_STATUS: Dict[int, Type[JsonbError]] = {
+    it.status: it for it in (*JsonbError.__subclasses__(), *InvalidJsonPath.__subclasses__())
+}
 
 
 def exception_of(status: int, what: str = "", row: Optional[int] = None, at: Optional[int] = None) -> JsonbError:

@@ -16,15 +16,16 @@ inline PyObject *pair_of(State *state, const jdoc_event &item) {
 
 // A list of the elements of an array, or of the pairs of an object.
 inline PyObject *children_of(State *state, const uint8_t *document, size_t length, bool object) {
-    jdoc_children children;
-    jdoc_event item;
+    jdoc_cursor cursor;
+    jdoc_event root, item;
     uint32_t status = jdoc_check(document, length);
-    if (status == JDOC_OK) status = jdoc_children_open(&children, document, length);
-    if (status == JDOC_NONE || (status == JDOC_OK && children.object != object))
+    if (status == JDOC_OK) status = jdoc_root(&root, document, length);
+    if (status == JDOC_OK && (root.kind != JDOC_EVENT_BEGIN || root.object != object))
         return object ? fail(state, JDOC_INVALID_OBJECT, "the value is not an object")
                       : fail(state, JDOC_INVALID_JSON_TYPE, "the value is not an array");
-    Ref list(status == JDOC_OK ? PyList_New(children.count) : fail(state, status));
-    for (Py_ssize_t at = 0; list.it && (status = jdoc_children_next(&children, &item)) == JDOC_OK; at++) {
+    if (status == JDOC_OK) status = jdoc_cursor_open(document, length, &cursor);
+    Ref list(status == JDOC_OK ? PyList_New(root.count) : fail(state, status));
+    for (Py_ssize_t at = 0; list.it && (status = jdoc_next_item(document, length, &cursor, &item)) == JDOC_OK; at++) {
         PyObject *made = object ? pair_of(state, item) : document_of(item);
         if (!made || PyList_SetItem(list.it, at, made)) return nullptr;
     }

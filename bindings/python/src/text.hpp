@@ -219,10 +219,11 @@ struct LineWriter {
         return status;
     }
 
-    uint32_t write_elements(jdoc_children &children) {
+    uint32_t write_elements(const uint8_t *document, size_t length) {
+        jdoc_cursor cursor;
         jdoc_event item;
-        uint32_t status;
-        while ((status = jdoc_children_next(&children, &item)) == JDOC_OK)
+        uint32_t status = jdoc_cursor_open(document, length, &cursor);
+        while (status == JDOC_OK && (status = jdoc_next_item(document, length, &cursor, &item)) == JDOC_OK)
             if ((status = write(item)) != JDOC_OK) return status;
         return status == JDOC_NONE ? uint32_t(JDOC_OK) : status;
     }
@@ -230,7 +231,6 @@ struct LineWriter {
     // A row is copied, so that another thread can't change it after it was checked.
     uint32_t write_row() {
         uint64_t first = column.offsets[row], end = column.offsets[row + 1];
-        jdoc_children children;
         jdoc_event root;
         if (!column.holds(first, end)) return JDOC_BAD_OFFSETS;
         copy.assign(reinterpret_cast<const char *>(column.bytes.at + first), end - first);
@@ -239,9 +239,7 @@ struct LineWriter {
         if (status == JDOC_OK) status = jdoc_root(&root, document, copy.size());
         if (status != JDOC_OK) return status;
         bool elements = (how & EACH_ELEMENT) && root.kind == JDOC_EVENT_BEGIN && !root.object;
-        if (!elements) return write(root);
-        status = jdoc_children_open(&children, document, copy.size());
-        return status == JDOC_OK ? write_elements(children) : status;
+        return elements ? write_elements(document, copy.size()) : write(root);
     }
 
     uint32_t write_rows() {

@@ -14,7 +14,7 @@ FIVE, ONE, OBJECT, ARRAY = dumps(5), dumps(1), dumps({"a": 1}), dumps([1])
 DATE = bytes.fromhex("20000000600000051000000001")
 PATH_CALLS = ("select", "select_first", "select_value", "select_array", "exists", "match")
 PATH = {
-    "InvalidJsonPath": (FIVE, "$["), "Overflow": (dumps(2**64 - 1), "-$"), "ZeroDivisor": (FIVE, "$ / 0"),
+    "InvalidJsonPath": (FIVE, "$["), "PathFailed": (OBJECT, "$ + 1"), "Overflow": (dumps(2**64 - 1), "-$"), "ZeroDivisor": (FIVE, "$ / 0"),
     "Inexact": (FIVE, "$ / 2"), "DecimalOperand": (dumps(jsonb_paths.as_decimal(dumps(5)) / 2), "$ % 1"),
 }
 

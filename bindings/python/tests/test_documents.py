@@ -124,6 +124,7 @@ class Arguments(unittest.TestCase):
             errors.InvalidJsonb: lambda: jsonb_paths.check(b""),
             errors.UnsupportedNumber: lambda: jsonb_paths.check(bytes.fromhex("2000000020000009603ff8000000000000")),
             errors.InvalidJsonPath: lambda: jsonb_paths.select(five, "$["),
+            errors.PathFailed: lambda: jsonb_paths.select(obj, "$ + 1"),
             errors.InvalidKeyPath: lambda: jsonb_paths.get(five, "{"),
             errors.InvalidCast: lambda: jsonb_paths.to_i64(dumps("x")),
             errors.InvalidObject: lambda: jsonb_paths.object_pick(five, ["a"]),
@@ -289,7 +290,7 @@ class BesideTheProgram(unittest.TestCase):
             try:
                 found = answer(document)
             except errors.JsonbError as error:
-                name = type(error).__name__
+                name = "InvalidJsonPath" if isinstance(error, errors.PathFailed) else type(error).__name__
                 yield "refused: " + (f"Arithmetic({name})" if error.status >= 48 else name)
                 continue
             yield from found or [none]

@@ -75,32 +75,33 @@ impl<'a> Node<'a> {
 
     /// The elements of an array or the members of an object; nothing of a scalar.
     pub fn children(&self) -> Children<'a> {
-        let bytes = self.bytes();
-        let mut children = MaybeUninit::zeroed();
-        // SAFETY: the slice is a pointer and its length, and null pointers and zeros are a valid value.
-        let children = unsafe {
-            let status = sys::jdoc_children_open(children.as_mut_ptr(), bytes.as_ptr(), bytes.len());
-            (self.is_container() && status == sys::JDOC_OK).then(|| children.assume_init())
+        let document = self.bytes();
+        let mut cursor = MaybeUninit::zeroed();
+        // SAFETY: the slice is a pointer and its length, and zeros are a valid value.
+        let cursor = unsafe {
+            let is_open = self.is_container()
+                && sys::jdoc_cursor_open(document.as_ptr(), document.len(), cursor.as_mut_ptr()) == sys::JDOC_OK;
+            is_open.then(|| cursor.assume_init())
         };
-        Children { children, document: PhantomData }
+        Children { cursor, document }
     }
 }
 
 /// An iterator over the children of an item.
 pub(crate) struct Children<'a> {
-    children: Option<sys::jdoc_children>,
-    document: PhantomData<&'a [u8]>,
+    cursor: Option<sys::jdoc_cursor>,
+    document: &'a [u8],
 }
 
 impl<'a> Iterator for Children<'a> {
     type Item = Node<'a>;
 
     fn next(&mut self) -> Option<Node<'a>> {
-        let children = self.children.as_mut()?;
+        let cursor = self.cursor.as_mut()?;
         let mut event = MaybeUninit::zeroed();
-        // SAFETY: the children were opened, and their document is still borrowed.
+        // SAFETY: the cursor was opened on the document, and the event of zeros is valid.
         let event = unsafe {
-            let status = sys::jdoc_children_next(children, event.as_mut_ptr());
+            let status = sys::jdoc_next_item(self.document.as_ptr(), self.document.len(), cursor, event.as_mut_ptr());
             (status == sys::JDOC_OK).then(|| event.assume_init())?
         };
         Some(Node { event, document: PhantomData })

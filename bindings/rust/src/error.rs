@@ -63,7 +63,7 @@ impl Error {
         match status {
             sys::JDOC_INVALID_JSONB => Error::InvalidJsonb,
             sys::JDOC_UNSUPPORTED_NUMBER => Error::UnsupportedNumber,
-            sys::JDOC_INVALID_JSON_PATH => Error::InvalidJsonPath,
+            sys::JDOC_INVALID_JSON_PATH | sys::JDOC_PATH_FAILED => Error::InvalidJsonPath,
             sys::JDOC_INVALID_KEY_PATH => Error::InvalidKeyPath,
             sys::JDOC_INVALID_CAST => Error::InvalidCast,
             sys::JDOC_INVALID_OBJECT => Error::InvalidObject,
@@ -97,7 +97,15 @@ mod tests {
     use super::*;
 
     /// Statuses with which these calls never fail: results, and what only columns and empty structs have.
-    const OTHERS: [&str; 5] = ["JDOC_OK", "JDOC_NONE", "JDOC_BUFFER_TOO_SMALL", "JDOC_BAD_OFFSETS", "JDOC_NO_PATH"];
+    const OTHERS: [&str; 7] = [
+        "JDOC_OK",
+        "JDOC_NONE",
+        "JDOC_BUFFER_TOO_SMALL",
+        "JDOC_BAD_OFFSETS",
+        "JDOC_NO_PATH",
+        "JDOC_COMPUTED",
+        "JDOC_OUT_OF_ORDER",
+    ];
 
     fn camel(name: &str) -> String {
         let words = name.trim_start_matches("JDOC_").split('_');
@@ -111,9 +119,13 @@ mod tests {
             rest.split_once('}').unwrap().0.split(',').filter_map(|it| it.trim().split_once(" = ")).collect();
         for (name, number) in &rows {
             let error = format!("{:?}", Error::of(number.parse().unwrap()));
-            let wanted = if OTHERS.contains(name) { format!("Unknown({number})") } else { camel(name) };
+            let wanted = match *name {
+                "JDOC_PATH_FAILED" => "InvalidJsonPath".to_string(),
+                _ if OTHERS.contains(name) => format!("Unknown({number})"),
+                _ => camel(name),
+            };
             assert!(error == wanted || error == format!("Arithmetic({wanted})"), "{name}: {error}");
         }
-        assert_eq!(rows.len(), 22);
+        assert_eq!(rows.len(), 25);
     }
 }

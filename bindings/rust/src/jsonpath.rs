@@ -49,6 +49,12 @@ impl<'a> JsonPath<'a> {
     pub fn text(&self) -> &'a str {
         self.text
     }
+
+    /// Returns `true` if the path is one expression, such as `$.a == 1`, and not a list of steps.
+    pub fn is_predicate(&self) -> bool {
+        // No bytes are not a document, which only an expression reads: another path is unknown on any bytes.
+        Selector::new(RawJsonb::new(&[])).predicate_match(self).is_err()
+    }
 }
 
 impl Drop for JsonPath<'_> {

@@ -4,7 +4,7 @@ cd "$(dirname "${BASH_SOURCE[0]}")" || exit 1
 
 generate() {
     bindgen headers.h --use-core --ctypes-prefix core::ffi --size_t-is-usize --no-prepend-enum-name \
-        --no-copy 'jdoc_path|jdoc_keypath|jdoc_tape|jdoc_walk|jdoc_buffer' \
+        --no-copy 'jdoc_path|jdoc_keypath|jdoc_items|jdoc_builder|jdoc_tape|jdoc_walk|jdoc_buffer' \
         --allowlist-function 'jdoc_.*' --allowlist-type 'jdoc_.*' --allowlist-var 'JDOC_.*' \
         --rustfmt-configuration-file "$PWD/../rustfmt.toml" -- -I../../c
 }

@@ -242,6 +242,15 @@ fn a_path_is_used_and_dropped_on_other_threads() {
 }
 
 #[test]
+fn predicates_are_paths_of_one_expression() {
+    let predicates = ["$.a == 1", "1 == 1", "exists($.a)", "-$"].map(|it| (it, true));
+    let others = ["$", "$.a?(@ == 1)", "a.b"].map(|it| (it, false));
+    for (path, wanted) in predicates.into_iter().chain(others) {
+        assert_eq!(parse_json_path(path.as_bytes()).unwrap().is_predicate(), wanted, "{path}");
+    }
+}
+
+#[test]
 fn composite_keys_have_a_key_for_each_value() {
     let one: OwnedJsonb = "1".parse().unwrap();
     let (low, high) = ([None, Some(one.as_raw())], [Some(one.as_raw()), None]);

@@ -1,5 +1,6 @@
 """Each function on worked rows, and each error."""
 
+import json
 import unittest
 
 from support import Case
@@ -14,6 +15,7 @@ ERRORS = [
     ("JDOC_OBJECT_DUPLICATE_KEY", """jdoc('{"a":1,"a":2}')"""), ("JDOC_UNSUPPORTED_NUMBER", "jdoc('1e300')"),
     ("JDOC_UNSUPPORTED_NUMBER", "jdoc_type(1.5)"), ("JDOC_INVALID_KEY_PATH jdoc_get", "jdoc_get(jdoc('{}'), '{a')"),
     ("JDOC_INVALID_JSON_PATH jdoc_match", "jdoc_match(jdoc('{}'), '$.a >')"),
+    ("JDOC_PATH_FAILED jdoc_first", "jdoc_first(jdoc('[1,2]'), '$[*] + 1')"),
     ("JDOC_STRICT_PATH", "jdoc_first(jdoc('{}'), 'strict $.a')"), ("JDOC_INVALID_JSONB", "jdoc_get(x'00', '{a}')"),
     ("JDOC_INVALID_JSONB", "jdoc(x'00')"), ("JDOC_INVALID_JSONB", "jdoc_value(x'2000000020000001')"),
     ("JDOC_ZERO_DIVISOR", "jdoc_first(jdoc('1'), '$ / 0')"), ("JDOC_INVALID_OBJECT", "jdoc_insert(jdoc('[]'), 'a', 1)"),
@@ -148,12 +150,37 @@ class Rows(Case):
         nested = "SELECT count(*) FROM t, jdoc_rows(t.d, '$') AS a, jdoc_rows(a.doc, '$[*]') AS b"
         self.assertEqual(self.db.execute(nested).fetchone(), (10,))
 
+    def test_paths_and_documents_that_change_from_row_to_row(self):
+        self.db.execute("CREATE TABLE t (d, p)")
+        rows = [("[1,2]", "$[*]"), ('{"a":[3]}', "$.a[*]"), ("[4]", "$[*]"), ("5", "strict $"), (None, "$"), ("[6]", None), ("7", "$ + 1"), (8, "$"), ("[9]", "$[*]")]
+        self.db.executemany("INSERT INTO t VALUES (?, ?)", rows * 3)
+        found = self.db.execute("SELECT r.key, r.value, jdoc_json(r.doc) FROM t, jdoc_rows(t.d, t.p) AS r").fetchall()
+        self.assertEqual(found, [(key, value, str(value)) for key, value in [(0, 1), (1, 2), (0, 3), (0, 4), (0, 5), (0, 8), (0, 8), (0, 9)]] * 3)
+
+    def test_items_of_different_sizes(self):
+        items = [source * n for n in range(0, 3000, 37) for source in ("x", "é")]
+        text = json.dumps(items)
+        found = self.db.execute("SELECT value, jdoc_length(doc), type FROM jdoc_rows(?, '$[*]')", (text,)).fetchall()
+        self.assertEqual(found, [(it, None, "string") for it in items])
+        nested = self.db.execute("SELECT value FROM jdoc_rows(?, '$.**')", (text,)).fetchall()
+        self.assertEqual([it for (it,) in nested[1:]], items)
+
+    def test_items_that_are_computed(self):
+        sql = "SELECT r.key, r.value, jdoc_json(r.doc), r.type FROM t, jdoc_rows('[1,2,\"x\",9223372036854775808]', p) AS r"
+        self.db.execute("CREATE TABLE t (p)")
+        self.db.executemany("INSERT INTO t VALUES (?)", [("-$[0 to 1]",), ("$[1]",), ("$[0] > 1",), ("$[2] > 1",), ("$[3] + 1",), ("$[2]",), ("-$[3]",)])
+        self.assertEqual(self.db.execute(sql).fetchall(), [
+            (0, -1, "-1", "integer"), (1, -2, "-2", "integer"), (0, 2, "2", "integer"), (0, 0, "false", "boolean"), (0, None, "null", "null"),
+            (0, float(2**63 + 1), "9223372036854775809", "integer"), (0, "x", '"x"', "string"), (0, -(2**63), "-9223372036854775808", "integer")])
+
     def test_errors(self):
         self.fails("jdoc_rows document path", "* FROM jdoc_rows")
         self.fails("jdoc_rows JDOC_INVALID_JSON_PATH", "* FROM jdoc_rows('1', '$.')")
         self.fails("jdoc_rows JDOC_STRICT_PATH", "* FROM jdoc_rows('1', 'strict $.a')")
         self.fails("jdoc_rows JDOC_INVALID_JSON", "* FROM jdoc_rows('{', '$')")
         self.fails("jdoc_rows JDOC_INVALID_JSONB", "* FROM jdoc_rows(x'00', '$')")
+        self.fails("jdoc_rows JDOC_INVALID_JSONB", "value FROM jdoc_rows(x'800000012000000109', '$[*]')")
+        self.fails("JDOC_INVALID_JSON_TYPE", "value FROM jdoc_rows(x'20000000600000051000000001', '$')")
 
 
 if __name__ == "__main__":

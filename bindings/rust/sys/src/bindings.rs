@@ -19,6 +19,8 @@ pub const JDOC_BUFFER_TOO_SMALL: jdoc_status = 2;
 pub const JDOC_BAD_OFFSETS: jdoc_status = 3;
 pub const JDOC_NOT_UTF8: jdoc_status = 4;
 pub const JDOC_NO_PATH: jdoc_status = 5;
+pub const JDOC_COMPUTED: jdoc_status = 6;
+pub const JDOC_OUT_OF_ORDER: jdoc_status = 7;
 pub const JDOC_INVALID_JSONB: jdoc_status = 16;
 pub const JDOC_UNSUPPORTED_NUMBER: jdoc_status = 17;
 pub const JDOC_INVALID_JSON_PATH: jdoc_status = 18;
@@ -31,6 +33,7 @@ pub const JDOC_TOO_LARGE: jdoc_status = 24;
 pub const JDOC_TOO_DEEP: jdoc_status = 25;
 pub const JDOC_OUT_OF_MEMORY: jdoc_status = 26;
 pub const JDOC_STRICT_PATH: jdoc_status = 27;
+pub const JDOC_PATH_FAILED: jdoc_status = 28;
 pub const JDOC_OVERFLOW: jdoc_status = 48;
 pub const JDOC_ZERO_DIVISOR: jdoc_status = 49;
 pub const JDOC_INEXACT: jdoc_status = 50;
@@ -167,6 +170,132 @@ extern "C" {
     ) -> jdoc_status;
 }
 extern "C" {
+    pub fn jdoc_find_by_index(
+        document: *const u8,
+        document_len: usize,
+        index: usize,
+        span: *mut jdoc_span,
+    ) -> jdoc_status;
+}
+extern "C" {
+    pub fn jdoc_find_by_name(
+        document: *const u8,
+        document_len: usize,
+        name: *const core::ffi::c_char,
+        name_len: usize,
+        ignore_case: bool,
+        span: *mut jdoc_span,
+    ) -> jdoc_status;
+}
+#[repr(C)]
+#[derive(Debug, Copy, Clone)]
+pub struct jdoc_entries {
+    pub word: usize,
+    pub content: usize,
+    pub end: usize,
+}
+#[test]
+fn bindgen_test_layout_jdoc_entries() {
+    assert_eq!(::core::mem::size_of::<jdoc_entries>(), 24usize, concat!("Size of: ", stringify!(jdoc_entries)));
+    assert_eq!(::core::mem::align_of::<jdoc_entries>(), 8usize, concat!("Alignment of ", stringify!(jdoc_entries)));
+    fn test_field_word() {
+        assert_eq!(
+            unsafe {
+                let uninit = ::core::mem::MaybeUninit::<jdoc_entries>::uninit();
+                let ptr = uninit.as_ptr();
+                ::core::ptr::addr_of!((*ptr).word) as usize - ptr as usize
+            },
+            0usize,
+            concat!("Offset of field: ", stringify!(jdoc_entries), "::", stringify!(word))
+        );
+    }
+    test_field_word();
+    fn test_field_content() {
+        assert_eq!(
+            unsafe {
+                let uninit = ::core::mem::MaybeUninit::<jdoc_entries>::uninit();
+                let ptr = uninit.as_ptr();
+                ::core::ptr::addr_of!((*ptr).content) as usize - ptr as usize
+            },
+            8usize,
+            concat!("Offset of field: ", stringify!(jdoc_entries), "::", stringify!(content))
+        );
+    }
+    test_field_content();
+    fn test_field_end() {
+        assert_eq!(
+            unsafe {
+                let uninit = ::core::mem::MaybeUninit::<jdoc_entries>::uninit();
+                let ptr = uninit.as_ptr();
+                ::core::ptr::addr_of!((*ptr).end) as usize - ptr as usize
+            },
+            16usize,
+            concat!("Offset of field: ", stringify!(jdoc_entries), "::", stringify!(end))
+        );
+    }
+    test_field_end();
+}
+#[repr(C)]
+#[derive(Debug, Copy, Clone)]
+pub struct jdoc_cursor {
+    pub left: usize,
+    pub keys: jdoc_entries,
+    pub values: jdoc_entries,
+}
+#[test]
+fn bindgen_test_layout_jdoc_cursor() {
+    assert_eq!(::core::mem::size_of::<jdoc_cursor>(), 56usize, concat!("Size of: ", stringify!(jdoc_cursor)));
+    assert_eq!(::core::mem::align_of::<jdoc_cursor>(), 8usize, concat!("Alignment of ", stringify!(jdoc_cursor)));
+    fn test_field_left() {
+        assert_eq!(
+            unsafe {
+                let uninit = ::core::mem::MaybeUninit::<jdoc_cursor>::uninit();
+                let ptr = uninit.as_ptr();
+                ::core::ptr::addr_of!((*ptr).left) as usize - ptr as usize
+            },
+            0usize,
+            concat!("Offset of field: ", stringify!(jdoc_cursor), "::", stringify!(left))
+        );
+    }
+    test_field_left();
+    fn test_field_keys() {
+        assert_eq!(
+            unsafe {
+                let uninit = ::core::mem::MaybeUninit::<jdoc_cursor>::uninit();
+                let ptr = uninit.as_ptr();
+                ::core::ptr::addr_of!((*ptr).keys) as usize - ptr as usize
+            },
+            8usize,
+            concat!("Offset of field: ", stringify!(jdoc_cursor), "::", stringify!(keys))
+        );
+    }
+    test_field_keys();
+    fn test_field_values() {
+        assert_eq!(
+            unsafe {
+                let uninit = ::core::mem::MaybeUninit::<jdoc_cursor>::uninit();
+                let ptr = uninit.as_ptr();
+                ::core::ptr::addr_of!((*ptr).values) as usize - ptr as usize
+            },
+            32usize,
+            concat!("Offset of field: ", stringify!(jdoc_cursor), "::", stringify!(values))
+        );
+    }
+    test_field_values();
+}
+extern "C" {
+    pub fn jdoc_cursor_open(document: *const u8, document_len: usize, cursor: *mut jdoc_cursor) -> jdoc_status;
+}
+extern "C" {
+    pub fn jdoc_cursor_next(
+        document: *const u8,
+        document_len: usize,
+        cursor: *mut jdoc_cursor,
+        key: *mut jdoc_span,
+        value: *mut jdoc_span,
+    ) -> jdoc_status;
+}
+extern "C" {
     pub fn jdoc_select_value(
         document: *const u8,
         document_len: usize,
@@ -188,6 +317,16 @@ extern "C" {
         out: *mut u8,
         out_size: usize,
         out_len: *mut usize,
+    ) -> jdoc_status;
+}
+extern "C" {
+    pub fn jdoc_find_first(
+        document: *const u8,
+        document_len: usize,
+        path: *const core::ffi::c_char,
+        path_len: usize,
+        strict: bool,
+        span: *mut jdoc_span,
     ) -> jdoc_status;
 }
 extern "C" {
@@ -423,6 +562,9 @@ extern "C" {
         out_size: usize,
         out_len: *mut usize,
     ) -> jdoc_status;
+}
+extern "C" {
+    pub fn jdoc_find_str(document: *const u8, document_len: usize, span: *mut jdoc_span) -> jdoc_status;
 }
 extern "C" {
     pub fn jdoc_as_decimal(
@@ -981,6 +1123,15 @@ extern "C" {
     ) -> jdoc_status;
 }
 extern "C" {
+    pub fn jdoc_path_find_first(
+        path: *mut jdoc_path,
+        document: *const u8,
+        document_len: usize,
+        strict: bool,
+        span: *mut jdoc_span,
+    ) -> jdoc_status;
+}
+extern "C" {
     pub fn jdoc_path_select_array(
         path: *mut jdoc_path,
         document: *const u8,
@@ -1050,6 +1201,151 @@ extern "C" {
         out_len: *mut usize,
     ) -> jdoc_status;
 }
+#[repr(C)]
+#[derive(Debug)]
+pub struct jdoc_items {
+    pub at: *mut core::ffi::c_void,
+    pub is_there: bool,
+}
+#[test]
+fn bindgen_test_layout_jdoc_items() {
+    assert_eq!(::core::mem::size_of::<jdoc_items>(), 16usize, concat!("Size of: ", stringify!(jdoc_items)));
+    assert_eq!(::core::mem::align_of::<jdoc_items>(), 8usize, concat!("Alignment of ", stringify!(jdoc_items)));
+    fn test_field_at() {
+        assert_eq!(
+            unsafe {
+                let uninit = ::core::mem::MaybeUninit::<jdoc_items>::uninit();
+                let ptr = uninit.as_ptr();
+                ::core::ptr::addr_of!((*ptr).at) as usize - ptr as usize
+            },
+            0usize,
+            concat!("Offset of field: ", stringify!(jdoc_items), "::", stringify!(at))
+        );
+    }
+    test_field_at();
+    fn test_field_is_there() {
+        assert_eq!(
+            unsafe {
+                let uninit = ::core::mem::MaybeUninit::<jdoc_items>::uninit();
+                let ptr = uninit.as_ptr();
+                ::core::ptr::addr_of!((*ptr).is_there) as usize - ptr as usize
+            },
+            8usize,
+            concat!("Offset of field: ", stringify!(jdoc_items), "::", stringify!(is_there))
+        );
+    }
+    test_field_is_there();
+}
+extern "C" {
+    pub fn jdoc_path_items(
+        path: *mut jdoc_path,
+        document: *const u8,
+        document_len: usize,
+        strict: bool,
+        items: *mut jdoc_items,
+    ) -> jdoc_status;
+}
+extern "C" {
+    pub fn jdoc_items_next(
+        items: *mut jdoc_items,
+        document: *const u8,
+        document_len: usize,
+        out: *mut u8,
+        out_size: usize,
+        out_len: *mut usize,
+    ) -> jdoc_status;
+}
+extern "C" {
+    pub fn jdoc_items_find_next(
+        items: *mut jdoc_items,
+        document: *const u8,
+        document_len: usize,
+        span: *mut jdoc_span,
+    ) -> jdoc_status;
+}
+extern "C" {
+    pub fn jdoc_items_free(items: *mut jdoc_items);
+}
+#[repr(C)]
+#[derive(Debug)]
+pub struct jdoc_builder {
+    pub at: *mut core::ffi::c_void,
+    pub is_there: bool,
+}
+#[test]
+fn bindgen_test_layout_jdoc_builder() {
+    assert_eq!(::core::mem::size_of::<jdoc_builder>(), 16usize, concat!("Size of: ", stringify!(jdoc_builder)));
+    assert_eq!(::core::mem::align_of::<jdoc_builder>(), 8usize, concat!("Alignment of ", stringify!(jdoc_builder)));
+    fn test_field_at() {
+        assert_eq!(
+            unsafe {
+                let uninit = ::core::mem::MaybeUninit::<jdoc_builder>::uninit();
+                let ptr = uninit.as_ptr();
+                ::core::ptr::addr_of!((*ptr).at) as usize - ptr as usize
+            },
+            0usize,
+            concat!("Offset of field: ", stringify!(jdoc_builder), "::", stringify!(at))
+        );
+    }
+    test_field_at();
+    fn test_field_is_there() {
+        assert_eq!(
+            unsafe {
+                let uninit = ::core::mem::MaybeUninit::<jdoc_builder>::uninit();
+                let ptr = uninit.as_ptr();
+                ::core::ptr::addr_of!((*ptr).is_there) as usize - ptr as usize
+            },
+            8usize,
+            concat!("Offset of field: ", stringify!(jdoc_builder), "::", stringify!(is_there))
+        );
+    }
+    test_field_is_there();
+}
+extern "C" {
+    pub fn jdoc_builder_begin_array(builder: *mut jdoc_builder) -> jdoc_status;
+}
+extern "C" {
+    pub fn jdoc_builder_begin_object(builder: *mut jdoc_builder) -> jdoc_status;
+}
+extern "C" {
+    pub fn jdoc_builder_end(builder: *mut jdoc_builder) -> jdoc_status;
+}
+extern "C" {
+    pub fn jdoc_builder_key(builder: *mut jdoc_builder, key: *const core::ffi::c_char, key_len: usize) -> jdoc_status;
+}
+extern "C" {
+    pub fn jdoc_builder_null(builder: *mut jdoc_builder) -> jdoc_status;
+}
+extern "C" {
+    pub fn jdoc_builder_bool(builder: *mut jdoc_builder, value: bool) -> jdoc_status;
+}
+extern "C" {
+    pub fn jdoc_builder_i64(builder: *mut jdoc_builder, value: i64) -> jdoc_status;
+}
+extern "C" {
+    pub fn jdoc_builder_u64(builder: *mut jdoc_builder, value: u64) -> jdoc_status;
+}
+extern "C" {
+    pub fn jdoc_builder_decimal(builder: *mut jdoc_builder, high: i64, low: u64, scale: u8) -> jdoc_status;
+}
+extern "C" {
+    pub fn jdoc_builder_str(builder: *mut jdoc_builder, text: *const core::ffi::c_char, text_len: usize)
+        -> jdoc_status;
+}
+extern "C" {
+    pub fn jdoc_builder_document(builder: *mut jdoc_builder, document: *const u8, document_len: usize) -> jdoc_status;
+}
+extern "C" {
+    pub fn jdoc_builder_finish(
+        builder: *mut jdoc_builder,
+        out: *mut u8,
+        out_size: usize,
+        out_len: *mut usize,
+    ) -> jdoc_status;
+}
+extern "C" {
+    pub fn jdoc_builder_free(builder: *mut jdoc_builder);
+}
 pub const JDOC_INVALID_JSON: _bindgen_ty_1 = 64;
 pub type _bindgen_ty_1 = core::ffi::c_uint;
 #[repr(C)]
@@ -1092,7 +1388,6 @@ fn bindgen_test_layout_jdoc_heap() {
 pub const JDOC_ROUND_NUMBERS: _bindgen_ty_2 = 1;
 pub const JDOC_KEEP_LAST: _bindgen_ty_2 = 2;
 pub const JDOC_SPACES: _bindgen_ty_2 = 4;
-pub const JDOC_TRUSTED: _bindgen_ty_2 = 8;
 pub type _bindgen_ty_2 = core::ffi::c_uint;
 #[repr(C)]
 #[derive(Debug, Copy, Clone)]
@@ -1659,10 +1954,10 @@ extern "C" {
     pub fn jdoc_root(item: *mut jdoc_event, document: *const u8, len: usize) -> u32;
 }
 extern "C" {
-    pub fn jdoc_children_open(children: *mut jdoc_children, document: *const u8, len: usize) -> u32;
+    pub fn jdoc_item_at(item: *mut jdoc_event, document: *const u8, len: usize, span: *const jdoc_span) -> bool;
 }
 extern "C" {
-    pub fn jdoc_children_next(children: *mut jdoc_children, item: *mut jdoc_event) -> u32;
+    pub fn jdoc_next_item(document: *const u8, len: usize, cursor: *mut jdoc_cursor, item: *mut jdoc_event) -> u32;
 }
 extern "C" {
     pub fn jdoc_item_size(item: *const jdoc_event) -> usize;
@@ -1858,6 +2153,9 @@ pub const JDOC_NUMBER_TEXT: _bindgen_ty_4 = 300;
 pub type _bindgen_ty_4 = core::ffi::c_uint;
 extern "C" {
     pub fn jdoc_number_text(payload: *const u8, len: usize, out: *mut core::ffi::c_char) -> usize;
+}
+extern "C" {
+    pub fn jdoc_number_i64(payload: *const u8, len: usize, value: *mut i64) -> bool;
 }
 extern "C" {
     pub fn jdoc_number_payload(text: *const core::ffi::c_char, len: usize, round: bool, out: *mut u8) -> usize;
