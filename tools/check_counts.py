@@ -15,6 +15,7 @@ Only what runs is counted: source files that a `mod` line includes, and of the s
 tests reach.
 """
 
+import ast
 import os
 import re
 import subprocess
@@ -26,6 +27,7 @@ from pathlib import Path
 
 sys.dont_write_bytecode = True
 import check_docs
+import check_quotes
 import edits
 import measure_stack
 import rows
@@ -70,10 +72,11 @@ def source(crate):
     return "\n".join(sources(crate).values())
 
 
-def mutants(crate):
-    """Returns the functions that the edits of a crate change, one for each mutant."""
-    files = sorted((CRATES / crate / "must-fail").glob("*.edit"))
-    return [it for file in files for it in edits.functions_of(file.read_text(), str(CRATES / crate))]
+def mutants(crate, *kinds):
+    """Returns the functions that the mutants of a crate change, one for each. They are in all folders, or in these."""
+    folder = CRATES / crate
+    parts = [it for file in edits.files_of(folder, *kinds) for it in re.split(r"^#.*", file.read_text(), flags=re.M)]
+    return [it for part in parts for it in edits.functions_of(part, str(folder))]
 
 
 # ---- numbers
@@ -103,7 +106,9 @@ def lines_of_code(text):
 def numbers_of_crate(crate):
     text = source(crate)
     yield "public clauses", public_clauses(text)
+    yield "ghost members", len(re.findall(r"^ *ghost (?!use|mod|fn|let)\w+ = ", text, re.M))
     yield "mutants", len(mutants(crate))
+    yield "mutants that the prover tries", len(mutants(crate, edits.TRIED))
     yield "tests", len(TEST.findall(text))
     yield "assertions", len(re.findall(r"\bassert\w*!\(", text))
     yield "lines of tests", sum(map(lines_of_code, test_texts(crate)))
@@ -159,12 +164,51 @@ def numbers_of_bindings():
     yield "commands of the tests", len(re.findall(r"^ *(?:\[.*\] \|\| )?count \"", text_of(*folder.rglob("*.sh")), re.M))
 
 
+def entries_of(path, name):
+    """Returns how many entries the list, table or set has that a Python file gives this name."""
+    given = {it.targets[0].id: it.value for it in ast.parse((ROOT / path).read_text()).body if isinstance(it, ast.Assign) and isinstance(it.targets[0], ast.Name)}
+    return len(getattr(given[name], "elts", None) or given[name].keys)
+
+
+def numbers_of_pages():
+    """Yields what check_quotes.py and a reader of docs/PROOFS.md find: quoted blocks, tables of rows, and promises."""
+    pages = [ROOT / "README.md", *sorted((ROOT / "docs").glob("*.md"))]
+    yield "quoted blocks of pages", sum(len([*check_quotes.blocks(it.read_text().splitlines())]) for it in pages)
+    yield "tables of rows of pages", len(re.findall(r"^<!-- (?:rows|bytes): ", text_of(*pages), re.M))
+    yield "promises of docs/PROOFS.md", len(re.findall(r"^\| (?!Promise )|^- \*\*", text_of(ROOT / "docs/PROOFS.md"), re.M))
+
+
+def assertions_of_bindings():
+    """Yields how many assertions the tests of each binding have: a test that loses one passes."""
+    folder = ROOT / "bindings"
+    for name in ("python", "sqlite", "postgres", "rust"):
+        yield f"assertions of {name}", len(re.findall(r"\b(?:self\.)?assert\w*(?:!?\(| )", text_of(folder / name / "tests")))
+    yield "comparisons in the shell", len(re.findall(r"^ *(?:expect|test|diff) |\b(?:cmp|diff) ", text_of(*folder.rglob("*.sh")), re.M))
+    yield "tests of PostgreSQL's own", len(re.search(r"for name in (.*); do", text_of(folder / "postgres/test.sh"))[1].split())
+    yield "checks of names", len(re.search(r"for check in \((.*)\):", text_of(folder / "tests/exports.py"))[1].split(","))
+    yield "packages of the tests", len(re.findall(r"[\w+.-]+", re.sub(r"#.*", "", re.search(r"packages=\((.*?)\n\)", text_of(folder / "setup.sh"), re.S)[1])))
+
+
+def numbers_of_fuzzer():
+    text = text_of(ROOT / "tools/fuzz.py")
+    yield "groups of the fuzzer", len(re.findall(r"^        self\.\w+\(\)$", text, re.M)) + len(re.findall(r"\w+_case\(", text)) // 2
+    yield "commands of the fuzzer", entries_of("tools/fuzz.py", "COMMANDS")
+    names = ("NAMES", "TEXTS", "INTEGERS", "STEPS", "LITERALS", "OPERATORS")
+    yield "parts of random cases", sum(entries_of("tools/fuzz/random_cases.py", it) for it in names)
+
+
 def numbers_of_tools():
     yield "edits that test the judge", len(tomllib.loads((ROOT / "tools/judged.toml").read_text())["edit"])
     witnesses = tomllib.loads((ROOT / "tools/witnesses.toml").read_text())["witness"]
     yield from ((f"witnesses of {crate}", len(named)) for crate, named in witnesses.items())
     runs = [it for shape in measure_stack.SHAPES for it in measure_stack.document_runs(shape)]
     yield "runs in a small stack", len([*runs, *measure_stack.path_runs()])
+    yield "values and paths in a small stack", len([*measure_stack.decoded()])
+    yield "witnesses that test the judge", entries_of("tools/test_judge.py", "WITNESSES")
+    yield "rules of the lint", entries_of("tools/lint.py", "RULES")
+    kept = tomllib.loads((ROOT / "tools/witnesses.toml").read_text())["prover"]
+    yield from ((f"mutants kept for the prover of {crate}", len(named)) for crate, named in kept.items())
+    yield "broken outputs in the sweep", len(re.findall(r'"[\w ]+: \$', re.search(r"^for word in (.*); do", text_of(ROOT / "tools/sweep_memory.sh"), re.M)[1]))
     yield "comparisons of the fuzzer", len(re.findall(r"\.(?:compare|makes|truth|value|bytes)\(", text_of(ROOT / "tools/fuzz.py")))
 
 
@@ -176,13 +220,14 @@ def numbers():
     for file in sorted(CRATES.rglob("rows.rt")):
         if "out" not in file.parts:
             found[f"rows of {file.relative_to(CRATES)}"] = file.read_text().count("\n")
-    found |= dict([*numbers_of_sweep(), *numbers_of_bindings(), *numbers_of_tools()])
+    more = numbers_of_sweep, numbers_of_bindings, assertions_of_bindings, numbers_of_tools, numbers_of_fuzzer, numbers_of_pages
+    found |= dict(it for its in more for it in its())
     return {name: count for name, count in found.items() if count}
 
 
 def commands():
     """Returns the commands that the gate counts, with their arguments."""
-    return re.findall(r"^count (.*)", (ROOT / ".ci/run").read_text(), re.M)
+    return re.findall(r"^count (.*?)(?: >.*)?$", (ROOT / ".ci/run").read_text(), re.M)
 
 
 # ---- public calls

@@ -21,10 +21,11 @@ ROOT = Path(__file__).resolve().parent.parent
 CRATES = ["jsonb_doc", "jsonb_keypath", "jsonb_raw", "jsonb"]
 USED = "jsonb"
 
-# The conversions of failed allocations: those of the standard library's two errors, of hex's error in the programs, and of a
-# failed `push` to a status.
+# The conversions of failed allocations: those of the standard library's two errors, of the errors of `read_name` and `read_quoted`, of
+# hex's error in the programs, and of a failed `push` to a status.
 CONVERSIONS = {
     "jsonb_doc/src/error.rt": 2,
+    "jsonb/src/parser/token.rt": 2,
     "jsonb_c/src/document/names.rt": 1,
     "jsonb_lines/src/lines.rt": 1,
     "jsonb_tool/src/command.rt": 1,
@@ -164,6 +165,65 @@ def named_places():
             yield f"docs/PROOFS.md:{at + 1}", ROOT / "crates" / (owner or crate) / place
 
 
+SPECS = re.compile(r"^ *(?:ghost )?use Rattle\.(jsonb\w*)\.specs\.((?!declared)[\w.]+)\.\{", re.M)
+
+
+def trusted():
+    """The files of specs/ that the contracts of `Selector` use, and those that such files use, as docs/PROOFS.md names them."""
+    selector = (ROOT / "crates/jsonb/src/selector.rt").read_text()
+    left, found = [selector[selector.index("impl<'a> Selector<'a>") :].split("pub fn ")[0]], set()
+    for text in left:
+        for crate, place in SPECS.findall(text):
+            name = f"{crate}/specs/{place.replace('.', '/')}"
+            if name not in found:
+                found.add(name)
+                left.append((ROOT / "crates" / f"{name}.antt").read_text())
+    return found
+
+
+def faults_of_trusted():
+    """For each such file whether docs/PROOFS.md names it, and for each that it names for the `Selector` whether that uses it."""
+    listed = (ROOT / "docs/PROOFS.md").read_text().partition("contracts of the `Selector` use ")[2].partition("\n\n")[0]
+    named, used = {*re.findall(r"`(\w+/specs/\w+)`", listed)}, trusted()
+    yield from (f"docs/PROOFS.md does not name {it}, which the Selector uses" for it in sorted(used - named))
+    yield from (f"docs/PROOFS.md names {it}, which the Selector does not use" for it in sorted(named - used))
+    yield from [""] * len(named & used)
+
+
+def promised_names():
+    """The names of the contracts in the tables of docs/PROOFS.md, each with its line, the crate of its part of the page, and whether it
+    is a clause's."""
+    crate = ""
+    for at, line in enumerate((ROOT / "docs/PROOFS.md").read_text().splitlines()):
+        heading = re.match(r"## (?:`(\w+)`)?", line)
+        crate = heading[1] if heading else crate
+        if line.startswith("| ") and crate:
+            cell = line.rstrip(" |").rpartition(" | ")[2]
+            clauses = "".join(re.findall(r"clauses? (?:named after the result )?[(]?((?:`\w+`(?:, |[)], and | and )?)+)", cell))
+            for name in re.findall(r"`([\w:]+(?:_\.\.)?)`", cell):
+                yield f"docs/PROOFS.md:{at + 1}", crate, name, f"`{name}`" in clauses
+
+
+def contract_names(crate):
+    """The functions, types and ghost members of a crate, and the names of its clauses."""
+    text = "\n".join(path.read_text() for path, _ in sources(ROOT / "crates" / crate))
+    return {*re.findall(r"\b(?:fn|struct|enum|trait) (\w+)", text)}, {*re.findall(r"\bensures (\w+)\b", text)}, text
+
+
+def faults_of_promises():
+    """For each name in the tables of docs/PROOFS.md what is wrong with it, or nothing."""
+    known = {}
+    for line, crate, name, is_clause in promised_names():
+        functions, clauses, text = known.setdefault(crate, contract_names(crate))
+        last = name.rpartition("::")[2]
+        is_there = last in clauses if is_clause else last in functions or last in clauses or re.search(rf"\bghost {last}\b", text)
+        if last.endswith("_.."):
+            is_there = any(it.startswith(last[:-2]) for it in functions)
+        elif name.startswith("laws::"):
+            is_there = re.search(rf"^pub(?:\(crate\))? fn {last}\b", (ROOT / "crates" / crate / "src/laws.rt").read_text(), re.M)
+        yield "" if is_there else f"{line} names {name}, which {crate} does not have"
+
+
 def returned_types():
     """For each public function's name, alone and after its type and `::`, the types that functions of that name return."""
     found = {}
@@ -199,10 +259,16 @@ def given_types():
                 yield f"docs/API.md:{at + 1}", call, cells[2].replace("`", "")
 
 
+# A module of tests, in this file or in another one.
+TESTS = re.compile(r"^#\[cfg\(test\)\]\n(?:pub(?:\(crate\))? )?mod \w+(?:;| \{.*?^\})", re.M | re.S)
+# The variant outside patterns, by any name of its type, its import, and an `AllocError` that is not a type.
+CONSTRUCTS = re.compile(r"::OutOfMemory\b(?!\)* =>)|^ *(?:pub )?use .*\bOutOfMemory\b|(?<!: )\bAllocError\b(?!>)", re.M)
+
+
 def constructs_out_of_memory(text):
-    """How often code, without its tests, constructs `Error::OutOfMemory`, or an `AllocError` from anything but a failure."""
-    code = text.split("\n#[cfg(test)]")[0]
-    return len(re.findall(r"\bError::OutOfMemory\b(?! =>)", code)) + len(re.findall(r"(?<!Err\(_\) => )Err\(AllocError\)", code))
+    """How often code, without its tests, constructs `OutOfMemory` or an `AllocError`."""
+    code = re.sub(r"^ *//.*|^ *(?:pub )?use std::.*", "", TESTS.sub("", text), flags=re.M)
+    return len(CONSTRUCTS.findall(code))
 
 
 def out_of_memory_places():
@@ -224,6 +290,8 @@ def faults(crates):
     for line, place in named_places():
         is_there = place.is_dir() or place.with_suffix(".antt").is_file()
         yield "" if is_there else f"{line} names {place.relative_to(ROOT)}, which is not there"
+    yield from faults_of_promises()
+    yield from faults_of_trusted()
     types = returned_types()
     for line, call, given in given_types():
         has = types.get(call, set())

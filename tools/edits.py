@@ -8,11 +8,9 @@ import sys
 import threading
 from dataclasses import dataclass
 
-import older_rt
-
 # What these programs call of rt, and of the module rtlib that it loads.
 CALLED = {
-    "rt": "ci edits_alone must_fail checked seeded linked in_lanes ending edits_of read_edit processors free Crate Kept SEEDS REFUSED MISSED rtlib",
+    "rt": "ci edits_alone must_fail checked seeded linked in_lanes ending edits_of read_edit edited share_work say processors free Crate Kept SEEDS REFUSED MISSED UNSURE rtlib",
     "rtlib": "VERDICT crates_below",
 }
 
@@ -20,6 +18,8 @@ FUNCTION = re.compile(r"( *)(?:pub(?:\([^)]*\))? |const |unsafe |extern \"C\" )*
 TRAIT = r"(?:\w+::)*(\w+)(?:<(?:(?:\w+::)*(\w+))?.*>)?"
 IMPL = re.compile(rf"( *)impl(?:<.*?>)? (?:{TRAIT} for )?&?(?:'\w+ )?(?:\w+::)*(\w+)")
 CYCLE = re.compile(r"#\[cycle\((\w+)")
+# The folders of a crate's mutants: those that the prover tries, and those that a test alone rejects.
+TRIED, TOLD = "must-fail", "mutants"
 
 
 def stop(why):
@@ -41,7 +41,6 @@ def load_rt():
     loader = importlib.machinery.SourceFileLoader("rt_of_kit", os.path.realpath(file))
     made = importlib.util.module_from_spec(importlib.util.spec_from_loader("rt_of_kit", loader))
     loader.exec_module(made)
-    older_rt.complete(made)
     for module, names in CALLED.items():
         owner = made if module == "rt" else made.rtlib
         for name in names.split():
@@ -168,6 +167,11 @@ def read(edit, folder):
     if len({*cycles}) < len(cycles):
         return functions, "two of its functions are in one cycle of calls: each needs a file of its own"
     return functions, None
+
+
+def files_of(folder, *kinds):
+    """Returns the files of a crate's mutants in these folders, or in both."""
+    return [file for kind in kinds or (TRIED, TOLD) for file in sorted((folder / kind).glob("*.edit"))]
 
 
 def edits_below(top, names):

@@ -20,10 +20,10 @@ TOP = Path(__file__).resolve().parent.parent
 sys.path.insert(0, str(TOP / "tools/fuzz"))
 import meaning
 from grammar import JsonPath, KeyPath
-from library import Library, c_bool, c_int32, c_int64, c_size_t, c_uint64, column_of, names_of
+from library import Library, c_bool, c_int32, c_int64, c_size_t, c_uint8, c_uint64, column_of, names_of
 from meaning import Fails, Path as Meaning
 from random_cases import Cases
-from trees import Invalid, decode, encode
+from trees import Invalid, Number, decode, encode
 
 SHOWN = 20
 
@@ -65,6 +65,13 @@ class Comparison:
         else:
             self.compare(name, arguments, (status, tree and encode(tree[0])), got)
 
+    def items(self, arguments, call):
+        """Compares the items of a prepared path, one at a time, with a list of trees."""
+        status, trees = outcome(call)
+        found, documents = self.library.items(self.document, *arguments)
+        wanted = trees and [meaning.equality_key(it) for it in trees]
+        self.compare("path_items", arguments, (status, wanted), (found, documents and [equality_key_of(it) for it in documents]))
+
     def truth(self, name, arguments, call, given=None):
         """Compares a call that returns a small number: a Boolean, 2 for unknown, or a type."""
         status, value = outcome(lambda: [call()])
@@ -83,6 +90,7 @@ class Comparison:
         self.report(name, [path.text], expected, self.library.value_of(c_size_t, name, path.text))
 
     def all(self):
+        self.events()
         self.paths()
         self.key_paths()
         self.scalars()
@@ -91,6 +99,26 @@ class Comparison:
         self.comparisons()
 
     # ---- groups of calls
+
+    def events(self):
+        events = [*self.events_of(self.tree)]
+        self.compare("builder", [], ("OK", encode(self.tree)), self.library.built(events))
+
+    def events_of(self, tree):
+        """Yields the events of a tree, with the members of objects in any order."""
+        if isinstance(tree, list):
+            yield ("begin_array",)
+            for it in tree:
+                yield from self.events_of(it)
+            yield ("end",)
+        elif isinstance(tree, dict):
+            yield ("begin_object",)
+            for key in self.cases.random.sample([*tree], len(tree)):
+                yield "key", key.encode()
+                yield from self.events_of(tree[key])
+            yield ("end",)
+        else:
+            yield scalar_event(tree)
 
     def paths(self):
         text = self.cases.json_path()
@@ -105,6 +133,7 @@ class Comparison:
             given = [text, c_bool(strict)]
             items = lambda: path(strict).items(steps)
             self.makes("select_array", given, lambda: [items()])
+            self.items(given, items)
             self.makes("select_first", given, lambda: items()[:1] or None)
             self.makes("select_value", given, lambda: single_or_array(items()))
             self.truth("exists", given, lambda: bool(items()))
@@ -222,6 +251,20 @@ class Comparison:
         return meaning.listed(self.tree) + meaning.listed(other)
 
 
+def scalar_event(tree):
+    if tree is None:
+        return ("null",)
+    if isinstance(tree, bool):
+        return "bool", c_bool(tree)
+    if isinstance(tree, str):
+        return "str", tree.encode()
+    if isinstance(tree, Number) and tree.variant in ("i64", "u64"):
+        return tree.variant, (c_int64 if tree.variant == "i64" else c_uint64)(tree.coefficient)
+    if isinstance(tree, Number) and (tree.variant == "d64") == (-(2**63) <= tree.coefficient < 2**63):
+        return "decimal", c_int64(tree.coefficient >> 64), c_uint64(tree.coefficient & (2**64 - 1)), c_uint8(tree.scale)
+    return "document", encode(tree)
+
+
 def single_or_array(items):
     """Returns a list of the one item or of the array of several, or None."""
     return [items[0] if len(items) == 1 else items] if items else None
@@ -247,6 +290,9 @@ def damaged_case(library, cases, report):
         library.bytes_of("delete_by_keypath", document, cases.key_path())
         library.truth_of("contains", document, document)
         library.value_of(c_int32, "compare", document, document)
+        finding = ("find_str",), ("find_by_index", c_size_t(0)), ("find_by_keypath", cases.key_path()), ("find_first", cases.json_path(), c_bool(False))
+        for name, *arguments in finding:
+            report(name, [document, *arguments], True, library.is_within(name, document, *arguments))
 
 
 # ---- the program
@@ -274,6 +320,8 @@ def printed_key(key):
 
 
 def error_text(status):
+    if status == "PATH_FAILED":
+        return "InvalidJsonPath"
     words = "".join(it.capitalize() for it in status.split("_"))
     return f"Arithmetic({words})" if status in ("OVERFLOW", "ZERO_DIVISOR", "INEXACT", "DECIMAL_OPERAND") else words
 

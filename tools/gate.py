@@ -31,6 +31,7 @@ sys.dont_write_bytecode = True
 import check_edits
 import edits
 import lanes
+import library
 from edits import rt
 
 
@@ -148,6 +149,9 @@ def hand_over(top, work_tree):
                 os.replace(f"{to}.new", to)
             elif os.path.isfile(to):
                 os.remove(to)
+    built = Path(work_tree) / library.LIBRARY
+    if built.is_file():
+        library.note(built, library.sources(Path(top)))
 
 
 def run(anew):

@@ -121,6 +121,26 @@ def write_groups(folder, groups, alone):
             it.write(text)
 
 
+def write_edits(found, most, folder):
+    """Writes the must-fail edits of a crate, and returns the number of files."""
+    groups = grouped([it for it in found if it.can_be_grouped()], most, str(folder))
+    alone = [it for it in found if not it.can_be_grouped()]
+    write_groups(f"{folder}/{edits.TRIED}", groups, alone)
+    return len(groups) + len(alone)
+
+
+def write_by_source(found, folder):
+    """Writes mutants that the prover does not try: a file for each source file."""
+    by_path = collections.defaultdict(list)
+    for it in sorted(found, key=lambda it: it.words):
+        by_path[it.path].append(it)
+    for file in folder.glob("*.edit"):
+        file.unlink()
+    for path, its in by_path.items():
+        folder.mkdir(exist_ok=True)
+        (folder / f"{path.removeprefix('src/').removesuffix('.rt').replace('/', '_')}.edit").write_text(text_of(its))
+
+
 def main():
     asked = argparse.ArgumentParser(description=__doc__, formatter_class=argparse.RawDescriptionHelpFormatter)
     asked.add_argument("--most", type=int, default=MOST, help="how many edits a file may hold")
@@ -133,11 +153,8 @@ def main():
         edits.stop("nothing is written: mend what is named above")
     for crate, files in crates:
         found = [it for file in files for it in read_edits(file, crate.folder)]
-        groups = grouped([it for it in found if it.can_be_grouped()], asked.most, crate.folder)
-        alone = [it for it in found if not it.can_be_grouped()]
         if found:
-            write_groups(f"{crate.folder}/must-fail", groups, alone)
-            print(f"{crate.name}: {len(found)} edits in {len(groups) + len(alone)} files")
+            print(f"{crate.name}: {len(found)} edits in {write_edits(found, asked.most, crate.folder)} files")
 
 
 if __name__ == "__main__":

@@ -6,6 +6,7 @@ import contextlib
 import os
 import threading
 import time
+import traceback
 from concurrent.futures import FIRST_COMPLETED, ThreadPoolExecutor, wait
 
 from edits import rt, say
@@ -16,6 +17,8 @@ MEMORY_OF_A_CHECK = 4_500_000_000
 KINDS = ("proof", "seed", "tests", "edits", "sound", "again")
 # How much nicer than a proof the other tasks are to the processor.
 NICE = 10
+# The seconds before a task that an exception ended begins again.
+PAUSE = 60
 BEGUN = time.time()
 
 
@@ -39,15 +42,24 @@ def do_task(key, call, *given):
 
     Other tasks wait for a proof, so what it does goes before what they do.
     """
-    started = time.time()
+    started, what = time.time(), " ".join(map(str, key))
     be_nice(0 if key[1] == "proof" else NICE)
-    result = call(*given)
+    result = twice(what, call, given)
     if key[1] == "edits" and result and result[0] != rt.REFUSED:
         say(result[1])
     if time.time() - started > 1:
-        what = " ".join(map(str, key))
         say(f"[{minutes(started)}, {minutes(BEGUN)} since the start] {what}")
     return result
+
+
+def twice(what, call, given):
+    """Returns what a call returns, which is made once more if an exception ends it: memory may have been short."""
+    try:
+        return call(*given)
+    except Exception as why:
+        say(f"{what} ended with {why!r}, and begins again:\n{traceback.format_exc()}")
+        time.sleep(PAUSE)
+        return call(*given)
 
 
 def in_lanes(tasks):
@@ -55,20 +67,18 @@ def in_lanes(tasks):
 
     A key begins with a crate's name and the kind of the task. A task is what it waits for, its work in lines, its memory,
     and a call that takes what was given so far and how many jobs it may use. Of those that are ready, the first goes
-    first. Proofs that can be made at one time share all lanes as jobs, or all but one if another task can use
-    that one; any other task has one.
+    first. A proof may use all lanes as jobs, unless another one is being made: other tasks are nicer, and take
+    what it leaves idle. Any other task has one job.
     """
     lanes, running, given = lanes_here(), {}, {}
     left = sorted(tasks, key=lambda it: (KINDS.index(it[1]), -tasks[it][1]))
     with rt.ending(), ThreadPoolExecutor(lanes) as pool:
         while left or running:
             ready = [it for it in left if all(below in given for below in tasks[it][0])]
-            proofs = sum(it[1] == "proof" for it in [*ready, *running.values()])
-            shared = lanes if proofs == len(ready) + len(running) else lanes - 1
             for key in ready[: lanes - len(running)]:
                 left.remove(key)
-                jobs = max(1, shared // proofs) if key[1] == "proof" else 1
-                running[pool.submit(do_task, key, tasks[key][-1], given, jobs)] = key
+                is_first = key[1] == "proof" and not any(it[1] == "proof" for it in running.values())
+                running[pool.submit(do_task, key, tasks[key][-1], given, lanes if is_first else 1)] = key
             for it in wait(running, return_when=FIRST_COMPLETED).done:
                 given[running.pop(it)] = it.result()
     return given

@@ -4,12 +4,14 @@
   measure_growth.py [--only WORD]   prints the figures
   measure_growth.py --write         writes docs/measured/growth.csv and check.csv, and the tables of docs/PERFORMANCE.md
   measure_growth.py --times ..      takes times (best of five) instead of counting instructions
+  measure_growth.py --crate FOLDER  uses the Rust crate in a folder, as measure_speed.py does
 
-Needs `rt` and `cc`, and `valgrind` with its headers to count instructions; otherwise it takes times. Proves the crates first if
-necessary. Works in tools/speed/out and leaves the repository unchanged. A series ends if its next call would take longer than a tenth
-of a second.
+Needs `rt`, `cargo` and `cc`, and `valgrind` with its headers to count instructions; otherwise it takes times. Proves the crates first
+if necessary. Works in tools/speed/out and leaves the repository unchanged. A series ends if its next call would take longer than a
+tenth of a second.
 """
 import argparse
+import contextlib
 import hashlib
 import math
 import os
@@ -35,8 +37,12 @@ SIZES = [100, 1_000, 10_000, 100_000]
 # The last two are documents of 0.8 to 1.3 MB and of twice as much.
 DEPTHS = [10, 100, 1_000, 10_000, 100_000, 200_000]
 NESTINGS = [1, 2, 4, 8]
-# How long a call may take, in nanoseconds.
+# How long a call may take, in nanoseconds, and a series of the Rust crate, in seconds.
 LIMIT = 100_000_000
+PATIENCE = 120
+# The calls that the Rust crate lacks.
+ALONE = {"check", "depth", "to_value", "value_clone", "value_equal", "equality_key", "sort_key_wide", "path_clone", "path_to_owned",
+         "path_equal", "memcpy"}
 STACK = 1 << 30
 
 
@@ -226,13 +232,21 @@ def of_checks() -> Iterator[Series]:
 # ---- building
 
 
-def driver() -> str:
-    library = measure_speed.our_library()
-    heap = os.path.join(os.path.dirname(subprocess.check_output(["rt", "doc"], text=True).strip()), "c", "liblibc_c.a")
-    program = os.path.join(OUT, "calls")
+def linked(name: str, *words: str) -> str:
+    """The program calls.c, with a library that has the calls."""
+    program = os.path.join(OUT, name)
     source = os.path.join(HERE, "calls.c")
-    subprocess.run(["cc", "-std=gnu11", "-O2", "-Wall", "-Wextra", "-o", program, source, library, heap], check=True)
+    subprocess.run(["cc", "-std=gnu11", "-O2", "-Wall", "-Wextra", "-o", program, source, *words], check=True)
     return program
+
+
+def driver() -> str:
+    return linked("calls", measure_speed.our_library(), measure_speed.c_library())
+
+
+def rust_driver(rust_crate: str | None) -> str:
+    built = measure_speed.cargo_build(rust_crate, "", "--lib")
+    return linked("rust_calls", os.path.join(built, "librust_calls.a"), "-lpthread", "-ldl", "-lm")
 
 
 # ---- cases
@@ -276,7 +290,8 @@ def under_large_stack() -> None:
 def times(program: str, lines: list[str], mode: str = "times") -> Costs:
     """Nanoseconds of a call: the best of many, or of three by the mode `few`."""
     words = [program, mode, write_cases(lines), str(LIMIT)]
-    said = subprocess.run(words, stdout=subprocess.PIPE, text=True, check=True, preexec_fn=under_large_stack).stdout
+    how = {"stdout": subprocess.PIPE, "text": True, "check": True, "timeout": PATIENCE if mode == "few" else None}
+    said = subprocess.run(words, **how, preexec_fn=under_large_stack).stdout
     rows = (line.split("\t") for line in said.splitlines())
     return {(name, int(size)): float(cost) for name, size, cost in rows}
 
@@ -306,6 +321,16 @@ def costs(program: str, chosen: list[Series], by_time: bool) -> Costs:
     return counts(program, [line for line in lines if (line.split("\t")[0], int(line.split("\t")[1])) in timed])
 
 
+def rust_costs(program: str, chosen: list[Series], by_time: bool) -> Costs:
+    """Those of the Rust crate. A series is left out if it lacks the call, or a call fails or does not end."""
+    found = {}
+    for series in chosen:
+        if series.call not in ALONE:
+            with contextlib.suppress(subprocess.SubprocessError):
+                found |= costs(program, [series], by_time)
+    return found
+
+
 # ---- figures
 
 
@@ -318,13 +343,15 @@ def exponent(series: Series, found: Costs) -> str:
     return f"{math.log(found[series.name, many] / found[series.name, few]) / math.log(many / few):.2f}"
 
 
-def figures(unit: str, series: Series, found: Costs, per: bool) -> dict[str, str]:
-    """The row of docs/measured/growth.csv: the cost of each unit, or of the whole call."""
-    row = {"unit": unit, "call": series.name, "exponent": exponent(series, found)}
-    for n in series.sizes:
-        if (cost := found.get((series.name, n))) is not None:
-            figure = cost / n if per else cost
-            row[str(n)] = f"{figure:.0f}" if figure >= 10 else f"{figure:.1f}"
+def figures(unit: str, series: Series, sides: dict[str, Costs], per: bool) -> dict[str, str]:
+    """The row of docs/measured/growth.csv: the cost of each unit, or of the whole call, here and in the Rust crate."""
+    row = {"unit": unit, "call": series.name}
+    for side, found in sides.items():
+        row[f"{side}exponent"] = exponent(series, found)
+        for n in series.sizes:
+            if (cost := found.get((series.name, n))) is not None:
+                figure = cost / n if per else cost
+                row[f"{side}{n}"] = f"{figure:.0f}" if figure >= 10 else f"{figure:.1f}"
     return row
 
 
@@ -349,27 +376,28 @@ PARTS = [
 ]
 
 
-def growth_figures(program: str, only: str, by_time: bool) -> Iterator[dict[str, str]]:
+def growth_figures(program: str, rust: str, only: str, by_time: bool) -> Iterator[dict[str, str]]:
     for unit, part, per in PARTS:
         chosen = [series for series in part() if only in series.name]
         if chosen:
             print(f"{len(chosen)} series: {unit}", file=sys.stderr)
-            found = costs(program, chosen, by_time)
-            yield from (figures(unit, series, found, per) for series in chosen)
+            sides = {"": costs(program, chosen, by_time), "rust_": rust_costs(rust, chosen, by_time)}
+            yield from (figures(unit, series, sides, per) for series in chosen)
 
 
 def main() -> None:
     words = argparse.ArgumentParser(description=__doc__, formatter_class=argparse.RawDescriptionHelpFormatter)
     words.add_argument("--only", default="")
     words.add_argument("--times", action="store_true")
+    words.add_argument("--crate")
     words.add_argument("--write", action="store_true")
     asked = words.parse_args()
     if asked.only and asked.write:
         words.error("--write takes all cases")
     shutil.rmtree(os.path.join(OUT, "files"), ignore_errors=True)
     os.makedirs(os.path.join(OUT, "files"))
-    program = driver()
-    growth = list(growth_figures(program, asked.only, asked.times or not shutil.which("valgrind")))
+    program, rust = driver(), rust_driver(asked.crate)
+    growth = list(growth_figures(program, rust, asked.only, asked.times or not shutil.which("valgrind")))
     found = {"growth": growth, "check": [] if asked.only else list(check_figures(program))}
     for name, rows in found.items():
         measured.save(name, rows) if asked.write else print(measured.as_csv(name, rows))

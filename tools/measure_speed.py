@@ -3,7 +3,7 @@
 
   measure_speed.py [--only WORD]         prints the figures of the cases with that word in their class or name, and a summary
   measure_speed.py --write               writes docs/measured/speed.csv and the tables of README.md and docs/PERFORMANCE.md
-  measure_speed.py [--rounds N] ..       N rounds of times instead of 40; 0 counts instructions alone
+  measure_speed.py [--rounds N] ..       N rounds of times instead of 40; 0 counts instructions alone, and --write then keeps the times
   measure_speed.py --crate FOLDER ..     uses the Rust crate in a folder, without a network: its dependencies are found as its
                                          .cargo/config.toml says, if it has one
 
@@ -83,20 +83,29 @@ def our_library():
     return os.path.join(crate, "out", "libjsonb_speed.a")
 
 
-def driver(rust_crate):
-    library = our_library()
-    heap = os.path.join(os.path.dirname(subprocess.check_output(["rt", "doc"], text=True).strip()), "c", "liblibc_c.a")
-    # The sum has cargo link again where the library is another one.
-    linked = hashlib.sha256(open(library, "rb").read()).hexdigest()
-    flags = f"-C target-cpu=x86-64-v2 -C link-arg={library} -C link-arg={heap} --cfg made_with_{linked}"
-    words = ["cargo", "build", "--release", "--target-dir", os.path.join(OUT, "cargo")]
+def c_library():
+    """The C library that the toolchain links, which allocates for this library."""
+    return os.path.join(os.path.dirname(subprocess.check_output(["rt", "doc"], text=True).strip()), "c", "liblibc_c.a")
+
+
+def cargo_build(rust_crate, flags, *words):
+    """Builds what is in rust/ with the Rust crate, from the registry or from a folder, and returns the folder with what it made."""
+    words = ["cargo", "build", "--release", *words, "--target-dir", os.path.join(OUT, "cargo")]
     if rust_crate:
         crate = os.path.abspath(rust_crate)
         settings = os.path.join(crate, ".cargo", "config.toml")
         words += ["--offline", "--config", f'patch.crates-io.jsonb.path="{crate}"']
         words += ["--config", settings] if os.path.exists(settings) else []
-    run(words, os.path.join(HERE, "rust"), env={**os.environ, "RUSTFLAGS": flags})
-    return os.path.join(OUT, "cargo", "release", "speed")
+    run(words, os.path.join(HERE, "rust"), env={**os.environ, "RUSTFLAGS": f"-C target-cpu=x86-64-v2 {flags}"})
+    return os.path.join(OUT, "cargo", "release")
+
+
+def driver(rust_crate):
+    library = our_library()
+    # The sum has cargo link again where the library is another one.
+    linked = hashlib.sha256(open(library, "rb").read()).hexdigest()
+    flags = f"-C link-arg={library} -C link-arg={c_library()} --cfg made_with_{linked}"
+    return os.path.join(cargo_build(rust_crate, flags, "--bin", "speed"), "speed")
 
 
 def write_cases(chosen):
@@ -172,6 +181,14 @@ def measure(program, chosen, rounds):
         yield dict(zip(measured.COLUMNS["speed"], [case.size_class, case.name, *map(whole, figures)]))
 
 
+def with_kept_times(rows):
+    """Returns the rows with the times of docs/measured/speed.csv."""
+    kept = {(row["class"], row["case"]): row for row in measured.read("speed")}
+    for row in rows:
+        before = kept.get((row["class"], row["case"]), {})
+        yield row | {it: before.get(it, "") for it in ("rust_ns", "this_ns", "result_copy_ns")}
+
+
 def main():
     words = argparse.ArgumentParser(description=__doc__, formatter_class=argparse.RawDescriptionHelpFormatter)
     words.add_argument("--rounds", type=int, default=40)
@@ -179,11 +196,12 @@ def main():
     words.add_argument("--crate")
     words.add_argument("--write", action="store_true")
     asked = words.parse_args()
-    if asked.write and (asked.only or not asked.rounds):
-        words.error("--write takes all cases, with times")
+    if asked.write and asked.only:
+        words.error("--write takes all cases")
     os.makedirs(OUT, exist_ok=True)
     program = driver(asked.crate)
     rows = list(measure(program, [case for case in cases() if asked.only in f"{case.size_class}: {case.name}"], asked.rounds))
+    rows = rows if asked.rounds else list(with_kept_times(rows))
     measured.save("speed", rows) if asked.write else print(measured.as_csv("speed", rows), end="")
     print(measured.speed_report(rows), file=sys.stderr)
 

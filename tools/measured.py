@@ -3,8 +3,8 @@
 
     tools/measured.py --write    writes the tables of the pages again, without measuring
 
-tools/measure_speed.py, measure_growth.py, measure_stack.py and bindings/bench/measure.py write the figures. tools/check_quotes.py
-compares the tables.
+tools/measure_speed.py, measure_growth.py, measure_stack.py, gate_times.py, verdict.py and bindings/bench/measure.py write the figures.
+tools/check_quotes.py compares the tables.
 """
 import csv
 import io
@@ -13,26 +13,30 @@ import os
 import re
 import statistics
 import sys
+import tomllib
 
 TOP = os.path.dirname(os.path.dirname(os.path.abspath(__file__)))
 FIGURES = os.path.join(TOP, "docs", "measured")
 
-# The columns of each file of figures. A column of growth.csv is a size; a cell is empty if its call was not measured.
+# The columns of each file of figures. A column of growth.csv is a size, here or in the Rust crate; a cell is empty if its call was not
+# measured.
 SIZES = [1, 2, 4, 8, 10, 100, 1_000, 10_000, 100_000, 200_000]
 COLUMNS = {
     "speed": ["class", "case", "rust_instructions", "this_instructions", "rust_ns", "this_ns", "result_copy_ns", "rust_allocations",
               "this_allocations"],
-    "growth": ["unit", "call", *map(str, SIZES), "exponent"],
+    "growth": ["unit", "call", *(f"{side}{it}" for side in ("", "rust_") for it in [*SIZES, "exponent"])],
     "check": ["document", "check_ns", "copy_ns", "bytes"],
     "stack": ["call", "shape", "kib_10000", "kib_100000"],
     "stack_more": ["call", "shape", "kib_10000", "kib_100000"],
     "c": ["call", "one_instructions", "prepared_instructions", "column_instructions", "one_ns", "prepared_ns", "column_ns"],
     "sqlite": ["query", "jdoc_298", "sqlite_298", "jdoc_4900", "sqlite_4900"],
-    "postgres": ["query", "jdoc_us", "jsonb_us", "jdoc_instructions", "jsonb_instructions"],
+    "postgres": ["query", "jdoc_us", "jsonb_us", "jdoc_instructions", "jsonb_instructions", "jdoc_4900", "jsonb_4900"],
     "python": ["call", "us"],
     "jq": ["jdoc", "jq", "jdoc_seconds", "jq_seconds"],
     "dask": ["workers", "counts", "rows_back", "sorted", "groups"],
     "readers": ["reader", "instructions_298", "instructions_4900"],
+    "verdict": ["crate", "functions", "seconds", "processors"],
+    "gate": ["step", "minutes"],
 }
 
 # The classes of the cases of speed.csv.
@@ -43,12 +47,14 @@ README_CASES = ["get the last of 1,000 keys", "`$[*]?(@.age < 50)` of 1,000 obje
 MORE_CASES = ["parse a long path", "get at depth 200", "delete by key path, of 1,000 keys", "`$[*].name` of 1,000 objects",
               "intersection of 1,000", "concatenate objects", "strip nulls of 1,000 objects", "leaves of 100 objects",
               "a filter on one document of 200 bytes"]
-# The rows of c.csv, sqlite.csv and postgres.csv that docs/C.md and docs/SQL.md show.
+# The rows of c.csv, sqlite.csv and postgres.csv that docs/C.md and docs/SQL.md show. docs/SQL.md also shows each slow query: one
+# that takes at least this part of what the other side's takes.
+SLOW = 0.95
 C_CALLS = ["`match`, `$.age < 50`", "`get_by_keypath`, `{age}`", "`select_first`, `$.name`", "`delete_by_keypath`, `{note}`"]
-SQLITE_QUERIES = ["load from JSON text", "read each row", "`$.age > 40`", "a filter in an array", "contains", "replace a field",
-                  "to JSON text", "range by the index"]
-POSTGRES_QUERIES = ["load from JSON text", "`d @@ '$.age > 40'`", "`@>`", "`->>`", "`#>>`, two steps", "path query, rows",
-                    "sort by a field", "sort whole documents", "build a GIN index", "`@>` by the GIN index"]
+SQLITE_QUERIES = ["load from JSON text", "read each row", "`$.age > 40`", "a filter in an array", "to JSON text", "build an index",
+                  "range by the index", "build an index of keys"]
+POSTGRES_QUERIES = ["load from JSON text", "`d @@ '$.age > 40'`", "`@>`", "`->>`", "path query, rows", "sort whole documents",
+                    "build a GIN index", "`@>` by the GIN index"]
 # What README.md compares, by program: a title and a row of its figures, and how many documents it reckons with.
 COMPARED = {
     "SQLite": [("`$.age > 40`", "`$.age > 40`"), ("a filter in an array", "a filter in an array"), ("load", "load from JSON text")],
@@ -166,11 +172,12 @@ def per_unit(row, size):
 
 
 def growth():
+    """The series that are not linear, with the exponent of the Rust crate."""
     rows = read("growth")
     not_linear = [row for row in rows if row["exponent"] and float(row["exponent"]) > LINEAR]
     shown = [100, 1_000, 10_000, 100_000]
-    cells = [[row["call"], *(per_unit(row, size) for size in shown), row["exponent"]] for row in not_linear if row["100"]]
-    head = ["Call", *(f"n = {size:,}" for size in shown), "Exponent"]
+    cells = [[row["call"], *(per_unit(row, size) for size in shown), row["exponent"], row["rust_exponent"]] for row in not_linear if row["100"]]
+    head = ["Call", *(f"n = {size:,}" for size in shown), "Exponent", "Rust crate"]
     return table(head, cells) + f"\n\nLinear (an exponent of at most {LINEAR}): {len(rows) - len(not_linear)} of {len(rows)} series."
 
 
@@ -231,24 +238,30 @@ def c():
             + f"\n\nIn nanoseconds, `match` takes {match['one_ns']}, in a column {match['column_ns']}, and `check` {check['one_ns']}.")
 
 
+def shown(rows, queries, *ratios):
+    """The rows with these queries, and those with a slow one. A ratio is the columns of both sides."""
+    is_slow = lambda row: any(float(row[ours]) >= SLOW * float(row[theirs]) for ours, theirs in ratios)
+    return [row for row in rows if row["query"] in queries or is_slow(row)]
+
+
 def sqlite():
-    rows = by("sqlite", "query")
-    small, large, disk = ["jdoc_298", "sqlite_298"], ["jdoc_4900", "sqlite_4900"], rows["bytes of a row on disk"]
+    disk, *rows = read("sqlite")
+    small, large = ["jdoc_298", "sqlite_298"], ["jdoc_4900", "sqlite_4900"]
     cells = []
-    for row in map(rows.get, SQLITE_QUERIES):
+    for row in shown(rows, SQLITE_QUERIES, small, large):
         both = ", ".join(f"{int(row[it]):,}" for it in small)
         cells.append([row["query"], both, *(quotient(*(row[it] for it in size)) for size in (small, large))])
     return (table(["SQLite", "298 bytes: jdoc, SQLite", "Ratio", "Ratio, 4.9 KB"], cells)
-            + f"\n\nA row takes {disk['jdoc_298']} bytes on disk, and {disk['sqlite_298']} as text, which has no entry words.")
+            + f"\n\nA row takes {disk['jdoc_298']} bytes on disk, and {disk['sqlite_298']} as text.")
 
 
 def postgres():
-    rows = by("postgres", "query")
+    ratios = ["jdoc_instructions", "jsonb_instructions"], ["jdoc_4900", "jsonb_4900"], ["jdoc_us", "jsonb_us"]
     cells = []
-    for row in map(rows.get, POSTGRES_QUERIES):
-        both = [row["jdoc_instructions"], row["jsonb_instructions"]]
-        cells.append([row["query"], ", ".join(f"{int(it):,}" for it in both), quotient(*both), quotient(row["jdoc_us"], row["jsonb_us"])])
-    return table(["PostgreSQL 15.20", "jdoc, jsonb", "Ratio", "Ratio of time"], cells)
+    for row in shown(read("postgres"), POSTGRES_QUERIES, *ratios):
+        both = ", ".join(f"{int(row[it]):,}" for it in ratios[0])
+        cells.append([row["query"], both, *(quotient(*(row[it] for it in columns)) for columns in ratios)])
+    return table(["PostgreSQL 15.20", "jdoc, jsonb", "Ratio", "4.9 KB", "Time"], cells)
 
 
 def python():
@@ -257,9 +270,39 @@ def python():
             f"\n{us['Column.match']}, `get` of `{{age}}` {us['get']} and {us['Column.get']}, `sort_key` {us['sort_key']} and {us['Column.sort_keys']}.")
 
 
+def verdict():
+    if not os.path.exists(os.path.join(FIGURES, "verdict.csv")):
+        return "`tools/verdict.py` has not been run yet."
+    rows = read("verdict")
+    functions, minutes = sum(int(it["functions"]) for it in rows), max(int(it["seconds"]) for it in rows) / 60
+    crates = ", ".join(f"`{it['crate']}`" for it in rows)
+    return f"{functions:,} functions of {crates}: {minutes:.0f} minutes on {rows[0]['processors']} processors."
+
+
+BINDINGS = "bindings/test.sh"
+
+
+def gate():
+    """The steps that take longest, and the tests of bindings/."""
+    minutes = {row["step"]: float(row["minutes"]) for row in read("gate")}
+    tests = f" {BINDINGS}: {minutes.pop(BINDINGS):.0f}." if BINDINGS in minutes else ""
+    longest = sorted(minutes, key=minutes.get, reverse=True)[:5]
+    return f"Minutes of proofs from scratch, on four busy cores: {', '.join(f'{it} {minutes[it]:.0f}' for it in longest)}.{tests}"
+
+
+def counts():
+    """The sums of what tools/check_counts.py counts of all crates and bindings."""
+    with open(os.path.join(TOP, "tools", "counts.toml"), "rb") as it:
+        numbers = tomllib.load(it)["counts"].items()
+    mutants, tests, rows = (sum(n for name, n in numbers if name.startswith(f"{it} of ")) for it in ("mutants", "tests", "rows"))
+    return f"Counted by the gate: {mutants:,} mutants, {tests:,} tests, {rows:,} rows."
+
+
 # The tables of each page, by the marks around them.
 PAGES = {
-    "README.md": {"speed": lambda: f"{speed(README_CASES)}\n\n{means()}", "compared": compared},
+    "README.md": {"speed": lambda: f"{speed(README_CASES)}\n\n{means()}", "compared": compared, "counts": counts,
+                  "verdict": verdict},
+    "docs/HACKING.md": {"gate": gate},
     "docs/C.md": {"c": c, "python": python},
     "docs/SQL.md": {"sqlite": sqlite, "postgres": postgres},
     "docs/PERFORMANCE.md": {"classes": classes, "speed": lambda: speed(MORE_CASES), "growth": growth, "check": check},

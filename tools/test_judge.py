@@ -1,5 +1,5 @@
 #!/usr/bin/env python3
-"""Tests tools/judge.py: a body that is right must not count as rejected, and a mutant must.
+"""Tests tools/judge.py: a body that is right must not count as rejected, and a mutant must; and which witnesses take its place.
 
     tools/test_judge.py        the last line is 'N passed, M failed'
 
@@ -14,6 +14,7 @@ from pathlib import Path
 sys.dont_write_bytecode = True
 import edits
 import judge
+import witness
 
 JUDGED = Path(__file__).resolve().parent / "judged.toml"
 
@@ -28,8 +29,40 @@ def fault(edit):
     return judge.fault_of_function(crate, function, edit["said"], {edit["file"]: text})
 
 
+CALLS = "jsonb_raw tests::calls::answers_are_as_the_tables_say"
+# Witnesses, and whether the contracts determine the result.
+WITNESSES = [
+    (f"{CALLS}: array_length 80000001200000025001 => 1", True),
+    (f"{CALLS}: to_i64 2000000010000000 => refused: InvalidCast", True),
+    ("jsonb_keypath tests::prints_key_paths: { 1, a }", True),
+    ("jsonb_keypath tests::names_and_quoted_texts_are_read: [34, 97]", True),
+    # an error if all rows decode
+    ("jsonb_doc value::tests::compares_by_value: error: InvalidJsonb", True),
+    # errors on all bytes
+    (f"{CALLS}: check 800000 => refused: InvalidJsonb", True),
+    (f"{CALLS}: get_by_keypath 800000 - {{}} => refused: InvalidJsonb", False),
+    # a document that does not decode, and one whose number is not in its shortest form
+    (f"{CALLS}: array_length 800000012000000160 => 1", False),
+    (f"{CALLS}: delete_by_index 8000000120000003500005 0 => 80000000", False),
+    # no result of the test
+    (f"{CALLS}: error: OutOfMemory", False),
+    (f"{CALLS}: status 139", False),
+    ("jsonb_keypath tests::prints_key_paths: AddressSanitizer:DEADLYSIGNAL", False),
+    # a test that is not listed, and rows that are excepted
+    ("jsonb_raw tests::deep::deep_documents_are_compared: [91]", False),
+    ("jsonb_keypath tests::names_and_quoted_texts_are_read: copied [34, 97]", False),
+    ("jsonb_doc array_builder::tests::builds_arrays_of_what_is_not_refused: [128, 0, 0, 1, 32, 0, 0, 2, 80, 1]", False),
+]
+
+
 def main():
     passed = failed = 0
+    for text, wanted in WITNESSES:
+        if witness.stated().is_determined(text) == wanted:
+            passed += 1
+        else:
+            failed += 1
+            print(f"{text}: {'not ' * wanted}determined")
     for edit in tomllib.loads(JUDGED.read_text())["edit"]:
         why = fault(edit)
         if (why is None) == (not edit["right"] or "limit" in edit):

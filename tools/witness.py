@@ -5,12 +5,15 @@
   witness.py --run [NAME..]      the same, and runs the test that the file gives for each mutant, which must fail
   witness.py --write [NAME..]    runs all tests with the mutants that have none, and writes those that fail to the file; with --slow also
                                  tests that take long with each mutant
+  witness.py --sort              moves each mutant to the folder that it belongs to: mutants/ or must-fail/
 
 NAME.. are the crates whose tests are run.
 
 The expected results of tests come from docs/, and the body that a mutant replaces is proved and passes them. So a mutant with which a
-test fails returns another result: if the contract determines the result, no proof of the mutant exists. tools/witnesses.toml gives the
-reason if no test fails.
+test fails returns another result. If the contracts determine the result (`laws::results_are_determined`), no proof of the mutant
+exists: with one, all functions would meet their contracts, and the test would pass. tools/witnesses.toml lists the tests of such
+results. The mutants with which one of them fails are in mutants/, and the prover does not try them. All others are in must-fail/,
+with those that the file keeps there. The file gives the reason if no test fails.
 
 This runs in a copy of the repository that has all mutants: `if jsonb_doc::witness::is(17) { return { .. }; }` precedes the body that
 mutant 17 replaces. tools/witness/switch.c says which one runs: a test's process forks at each of these, once, and its child goes on with
@@ -34,17 +37,31 @@ import edits
 import group_edits
 import lanes
 
+sys.path.insert(0, str(Path(__file__).resolve().parent / "fuzz"))
+import trees
+
 TOP = Path(__file__).resolve().parent.parent
 STATED = TOP / "tools/witnesses.toml"
 # (The name of its part in Rattle does not end in .rt, since rt ci reads such files only in crates.)
 PARTS = TOP / "tools/witness"
 NO_REASON = "no reason yet"
+# The line of tools/witnesses.toml after which --write writes.
+WRITTEN = "# Written by tools/witness.py --write; the reasons are written by hand."
+# Results that no contract determines: errors on bytes that do not decode, and failed allocations, which the sanitizer reports. A test
+# that crashes has not failed in an assertion.
+UNDETERMINED = re.compile(r"InvalidJsonb|UnsupportedNumber|OutOfMemory|AllocError|AddressSanitizer|^status \d")
+DECODING_ERROR = re.compile(r"error: (?:InvalidJsonb|UnsupportedNumber)")
+# Rows of calls that state the result on all bytes.
+EXACT = re.compile(r"check |depth ")
+# A document in a row.
+DOCUMENT = re.compile(r"\b[248]0(?:[0-9a-f]{2}){3,}\b")
 # The longest text of an assertion that is kept.
 SHOWN = 90
 # A test has this many seconds for all mutants that it reaches.
 SECONDS = 900
 # Tests that take long with each mutant: of deep documents and expressions, of each call on each damaged document, and of a long array.
-SLOW = re.compile(r"^( *)#\[test\]\n(?= *fn (?:\w*(?:deep_|deeper_|any_depth)|all_calls_return_|leaves_of_a_long_array_))", re.M)
+SLOW = re.compile(r"\w*(?:deep_|deeper_|any_depth)|all_calls_return_|leaves_of_a_long_array_")
+TEST = re.compile(r"^( *)#\[test\]\n(?: *#\[.*\n)* *fn (\w+)", re.M)
 
 
 @dataclass(frozen=True)
@@ -52,6 +69,8 @@ class Mutant:
     crate: str
     words: str
     edit: group_edits.Edit = field(compare=False)
+    # Whether the prover has to reject it: it is in must-fail/.
+    is_tried: bool = field(compare=False)
 
     def __str__(self):
         return f"{self.crate}: {self.words}"
@@ -61,9 +80,9 @@ def mutants(top):
     """Returns the mutants of all crates, the lowest crate first."""
     found = []
     for crate in check_counts.crate_names():
-        folder = top / "crates" / crate
-        files = sorted((folder / "must-fail").glob("*.edit"))
-        found += [Mutant(crate, it.words, it) for file in files for it in group_edits.read_edits(file, folder)]
+        for file in edits.files_of(top / "crates" / crate):
+            is_tried = file.parent.name == edits.TRIED
+            found += [Mutant(crate, it.words, it, is_tried) for it in group_edits.read_edits(file, top / "crates" / crate)]
     return found
 
 
@@ -145,15 +164,17 @@ def add_switch(top, rejected, tests):
 # ---- running
 
 
-def copy_crates(top, with_slow_tests=True):
+def copy_crates(top, is_left_out):
+    """Copies the crates, without the tests for which `is_left_out` holds: of a crate, and a function's name."""
     top.mkdir()
     for name in ("crates.txt", "HANDLES"):
         shutil.copy(TOP / name, top)
     shutil.copytree(TOP / "crates", top / "crates", ignore=lambda at, names: [it for it in names if it == "out"])
-    for path in () if with_slow_tests else (top / "crates").rglob("*.rt"):
-        text = path.read_text()
-        if SLOW.search(text):
-            path.write_text(SLOW.sub(r"\g<0>\1#[ignore]\n", text))
+    for path in (top / "crates").rglob("*.rt"):
+        crate, text = path.relative_to(top / "crates").parts[0], path.read_text()
+        marked = TEST.sub(lambda it: f"{it[1]}#[ignore]\n{it[0]}" if is_left_out(crate, it[2]) else it[0], text)
+        if marked != text:
+            path.write_text(marked)
 
 
 def run_tests(crate, top):
@@ -187,11 +208,13 @@ def run_all(found, given, room, crates, in_all, with_slow_tests):
     """Runs the tests of crates with each mutant, and returns the witnesses by mutant. `given` has the known ones.
 
     A mutant that has one is run in that test alone; the others are run in all tests, if `in_all`. Then the crates are run one after
-    the other, so that a witness is in the first of them.
+    the other, so that a witness is in the first of them. Otherwise only the tests that are witnesses are built.
     """
     top, rejected = room / "repository", room / "rejected"
     rejected.mkdir()
-    copy_crates(top, with_slow_tests)
+    named = {(crate, test.rpartition("::")[2]) for crate, test in map(crate_and_test, given.values())}
+    is_slow = lambda crate, test: not with_slow_tests and bool(SLOW.match(test))
+    copy_crates(top, is_slow if in_all else lambda crate, test: (crate, test) not in named)
     numbered = add_mutants([it for it in found if in_all or it in given], top)
     add_switch(top, rejected, [crate_and_test(given[it])[1] if it in given else None for it in numbered.values()])
     witnesses = {}
@@ -199,7 +222,9 @@ def run_all(found, given, room, crates, in_all, with_slow_tests):
         for crate, (has_passed, said) in zip(crates, pool.map(lambda it: run_tests(it, top), crates)):
             if not has_passed:
                 edits.stop(f"{crate}: its tests do not pass in the copy, without a mutant:\n{said[-3000:]}")
-            witnesses |= {it: witness_in(crate, note) for it, note in notes_of(rejected, numbered).items() if it not in witnesses}
+            # (Other crates may be running: what is known of a mutant says in which one its test is.)
+            of = lambda it: crate_and_test(given[it])[0] if it in given else crate
+            witnesses |= {it: witness_in(of(it), note) for it, note in notes_of(rejected, numbered).items() if it not in witnesses}
             print(f"{crate}: {len(witnesses)} mutants have failed a test", flush=True)
     return witnesses
 
@@ -213,10 +238,55 @@ def notes_of(rejected, numbered):
 # ---- the file
 
 
+@dataclass(frozen=True)
+class Stated:
+    """What tools/witnesses.toml states."""
+
+    # By crate and mutant: the test that fails with it; or why none does.
+    witness: dict
+    reason: dict
+    # The tests whose results the contracts determine, and a pattern of those of their rows of which that is not so, or an empty text.
+    determined: dict
+    # The mutants of each crate that the prover has to reject in any case.
+    kept: dict
+
+    def witness_of(self, mutant):
+        return self.witness.get(mutant.crate, {}).get(mutant.words)
+
+    def reason_of(self, mutant):
+        return self.reason.get(mutant.crate, {}).get(mutant.words)
+
+    def is_determined(self, witness):
+        """Returns whether the contracts determine the result by which a test fails."""
+        test, _, text = witness.partition(": ")
+        other = self.determined.get(test)
+        if other is None or other and re.search(other, text):
+            return False
+        # (If all rows are of documents that decode, an error that ends the test is not among their results.)
+        if not other and DECODING_ERROR.fullmatch(text):
+            return True
+        return bool(EXACT.match(text)) or not UNDETERMINED.search(text) and has_canonical_documents(crate_and_test(witness)[0], text)
+
+    def is_for_prover(self, mutant):
+        """Returns whether the prover has to reject a mutant, since no witness shows that it has no proof, or in any case."""
+        witness = self.witness_of(mutant)
+        may_fail_to_allocate = re.search("OutOfMemory|AllocError", mutant.edit.text)
+        return mutant.words in self.kept.get(mutant.crate, ()) or bool(may_fail_to_allocate) or not witness or not self.is_determined(witness)
+
+
+def has_canonical_documents(crate, text):
+    """Returns whether each document in a row decodes and is canonical. The text may be the beginning of the row."""
+    rows = check_counts.source(crate).splitlines() if len(text) == SHOWN else []
+    row = next((it for it in rows if it.replace("\\t", "\t").startswith(text)), text)
+    try:
+        return all(trees.encode(trees.decode(it)) == it for it in map(bytes.fromhex, DOCUMENT.findall(row)))
+    except trees.Invalid:
+        return False
+
+
 def stated():
-    """Returns what tools/witnesses.toml states by crate: the test of each mutant that has one, and the reasons of the others."""
     found = tomllib.loads(STATED.read_text()) if STATED.is_file() else {}
-    return found.get("witness", {}), found.get("reason", {})
+    return Stated(*(found.get(it, {}) for it in ("witness", "reason", "determined", "prover")))
 
 
 def quoted(text):
@@ -225,8 +295,9 @@ def quoted(text):
 
 
 def write(found, witnesses):
-    _, reasons = stated()
-    lines = ["# Written by tools/witness.py --write; the reasons are written by hand."]
+    """Writes the part of tools/witnesses.toml that follows what is written by hand."""
+    reasons = stated().reason
+    lines = [STATED.read_text().partition(WRITTEN)[0] + WRITTEN]
     for crate in dict.fromkeys(it.crate for it in found):
         own = [it for it in found if it.crate == crate]
         lines += ["", f"[witness.{crate}]", *(f"{quoted(it.words)} = {quoted(witnesses[it])}" for it in own if it in witnesses)]
@@ -242,10 +313,13 @@ def tests_of(crate):
     return {*check_counts.TEST.findall(check_counts.source(crate))}
 
 
-def fault_of(mutant, witness, reason, tests):
+def fault_of(mutant, given, tests):
     """Returns what is wrong with what the file states of a mutant, or an empty text."""
+    witness, reason = given.witness_of(mutant), given.reason_of(mutant)
     if witness and reason:
         return f"{mutant}: has a test and a reason"
+    if not mutant.is_tried and given.is_for_prover(mutant):
+        return f"{mutant}: the prover has to reject it, so it belongs to {edits.TRIED}/: tools/witness.py --sort"
     if witness:
         crate, name = crate_and_test(witness)
         return "" if name.rpartition("::")[2] in tests.get(crate, ()) else f"{mutant}: there is no test {name} of {crate}"
@@ -254,22 +328,52 @@ def fault_of(mutant, witness, reason, tests):
 
 def faults(found):
     """Yields what is wrong with tools/witnesses.toml, and an empty text for each mutant with which nothing is."""
-    named, reasons = stated()
+    given = stated()
     tests = {crate: tests_of(crate) for crate in check_counts.crate_names()}
     for it in found:
-        yield fault_of(it, named.get(it.crate, {}).get(it.words), reasons.get(it.crate, {}).get(it.words), tests)
+        yield fault_of(it, given, tests)
     known = {(it.crate, it.words) for it in found}
-    for crate, words in ((crate, words) for part in (named, reasons) for crate, given in part.items() for words in given):
+    named = [(crate, words) for part in (given.witness, given.reason, given.kept) for crate, its in part.items() for words in its]
+    for crate, words in named:
         if (crate, words) not in known:
             yield f"{crate}: tools/witnesses.toml has {words!r}, which is no mutant"
+    for test in given.determined:
+        crate, name = crate_and_test(test)
+        if name.rpartition("::")[2] not in tests.get(crate, ()):
+            yield f"tools/witnesses.toml has {test!r}, which is no test"
     for it in found:
         if sum(it.crate == other.crate and it.words == other.words for other in found) > 1:
             yield f"{it}: two mutants have these words"
 
 
 def known_witnesses(found):
-    named, _ = stated()
-    return {it: named[it.crate][it.words] for it in found if it.words in named.get(it.crate, {})}
+    given = stated()
+    return {it: given.witness_of(it) for it in found if given.witness_of(it)}
+
+
+def faults_of_run(found, witnesses, lost):
+    """Yields what is wrong with the witnesses that were found, and an empty text for each with which nothing is."""
+    given = stated()
+    for it in found:
+        if it in lost:
+            yield f"{it}: {lost[it]} does not fail with it"
+        elif it in witnesses and not it.is_tried and not given.is_determined(witnesses[it]):
+            yield f"{it}: fails only as {witnesses[it]}, which no contract determines"
+        elif it in witnesses:
+            yield ""
+
+
+def sort(found):
+    """Writes each mutant to the folder that it belongs to, and says how many of each crate are in each."""
+    given = stated()
+    for crate in dict.fromkeys(it.crate for it in found):
+        folder = TOP / "crates" / crate
+        own = [it for it in found if it.crate == crate]
+        tried = [it.edit for it in own if given.is_for_prover(it)]
+        told = [it.edit for it in own if not given.is_for_prover(it)]
+        group_edits.write_edits(tried, group_edits.MOST, folder)
+        group_edits.write_by_source(told, folder / edits.TOLD)
+        print(f"{crate}: {len(tried)} in {edits.TRIED}/, {len(told)} in {edits.TOLD}/")
 
 
 def run(found, names, in_all, with_slow_tests):
@@ -291,6 +395,7 @@ def words():
     asked.add_argument("--run", action="store_true")
     asked.add_argument("--write", action="store_true")
     asked.add_argument("--slow", action="store_true")
+    asked.add_argument("--sort", action="store_true")
     asked.add_argument("names", nargs="*", metavar="NAME")
     return asked.parse_args()
 
@@ -302,10 +407,12 @@ def main():
     if asked.write:
         write(found, run(found, asked.names, True, asked.slow)[0])
         return 0
+    if asked.sort:
+        sort(found)
+        return 0
     wrong = [*faults(found)]
     if asked.run:
-        witnesses, lost = run(found, asked.names, False, True)
-        wrong += [f"{it}: {lost[it]} does not fail with it" if it in lost else "" for it in {**witnesses, **lost}]
+        wrong += faults_of_run(found, *run(found, asked.names, False, True))
     for it in filter(None, wrong):
         print(it)
     failed = sum(map(bool, wrong))

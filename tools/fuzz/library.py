@@ -2,9 +2,22 @@
 
 import ctypes
 import re
-from ctypes import POINTER, byref, c_bool, c_char_p, c_int32, c_int64, c_size_t, c_uint8, c_uint64
+import struct
+from ctypes import POINTER, byref, c_bool, c_char_p, c_int32, c_int64, c_size_t, c_uint8, c_uint64, c_void_p
 
 OUT = 1 << 20
+
+
+class Handle(ctypes.Structure):
+    """A struct in which a prepared path, its items or a builder is kept."""
+
+    _fields_ = [("at", c_void_p), ("is_there", c_bool)]
+
+
+class Span(ctypes.Structure):
+    """The position of an item in a document."""
+
+    _fields_ = [("at", c_size_t), ("len", c_size_t), ("kind", c_uint8), ("entry", c_uint8)]
 
 
 class Library:
@@ -42,6 +55,43 @@ class Library:
     def check(self, document):
         return self.status("check", flat([document]))
 
+    def items(self, document, text, strict):
+        """Returns the status, and the items of a path."""
+        path, items, found = byref(Handle()), byref(Handle()), []
+        status = self.status("path_read", [*flat([text]), path])
+        if status == "OK":
+            status = self.status("path_items", [path, *flat([document]), strict, items])
+        while status == "OK":
+            status, item = self.next_item(items, document)
+            found.append(item)
+        self.function("path_free")(path)
+        self.function("items_free")(items)
+        return ("OK", found[:-1]) if status == "NONE" else (status, None)
+
+    def next_item(self, items, document):
+        """Returns the status, and the next of the items: that at its span, which has to be in the document, or a copy if it is computed."""
+        span = Span()
+        status = self.status("items_find_next", [items, *flat([document]), byref(span)])
+        if status != "OK":
+            return self.bytes_of("items_next", items, document) if status == "COMPUTED" else (status, None)
+        content = document[span.at : span.at + span.len]
+        head = b"" if span.entry == 5 else struct.pack(">II", 0x20000000, span.entry << 28 | span.len)
+        return ("OK", head + content) if len(content) == span.len else ("NOT_WITHIN", None)
+
+    def is_within(self, name, document, *arguments):
+        """Returns whether a call that finds an item fails, or stores a span in these bytes."""
+        span = Span()
+        return self.status(name, [*flat([document, *arguments]), byref(span)]) != "OK" or span.at + span.len <= len(document)
+
+    def built(self, events):
+        """Returns the status, and the document of events; each is the name of a call and its arguments."""
+        builder, status = byref(Handle()), "OK"
+        for name, *arguments in events:
+            status = status if status != "OK" else self.status(f"builder_{name}", [builder, *flat(arguments)])
+        found = self.bytes_of("builder_finish", builder) if status == "OK" else (status, None)
+        self.function("builder_free")(builder)
+        return found
+
     def leaves(self, document):
         """Returns the status, and the key path and the document of each leaf."""
         paths, documents = ctypes.create_string_buffer(OUT), ctypes.create_string_buffer(OUT)
@@ -68,4 +118,4 @@ def flat(arguments):
     return [part for it in arguments for part in ([c_char_p(it), c_size_t(len(it))] if isinstance(it, bytes) else [it])]
 
 
-__all__ = ["Library", "column_of", "names_of", "c_bool", "c_int32", "c_int64", "c_size_t", "c_uint64", "POINTER"]
+__all__ = ["Library", "column_of", "names_of", "c_bool", "c_int32", "c_int64", "c_size_t", "c_uint64", "c_uint8", "POINTER"]

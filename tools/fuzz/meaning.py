@@ -253,7 +253,7 @@ class Path:
         if kind == "exists":
             return bool(self.started(expression[1], item))
         if kind == "unary":
-            return fails("INVALID_JSON_PATH")
+            return fails("PATH_FAILED")
         _, operator, left, right = expression
         if operator in ARITHMETIC:
             return UNKNOWN
@@ -265,12 +265,12 @@ class Path:
         if expression[0] == "unary":
             values = self.operand(expression[2], self.top)
             if not all(isinstance(it, Number) for it in values):
-                fails("INVALID_JSON_PATH")
+                fails("PATH_FAILED")
             return [signed(expression[1], it) for it in values]
         if expression[0] == "binary" and expression[1] in ARITHMETIC:
             sides = [self.operand(it, self.top) for it in expression[2:]]
             if any(len(it) != 1 or not isinstance(it[0], Number) for it in sides):
-                fails("INVALID_JSON_PATH")
+                fails("PATH_FAILED")
             return [calculated(expression[1], sides[0][0], sides[1][0])]
         return [self.truth(expression, self.top)]
 

@@ -7,22 +7,12 @@
 //! with tabs between.
 
 mod answers;
+mod case;
 mod ours;
 mod theirs;
 
-use answers::Handed;
+use case::Case;
 use std::time::Instant;
-
-/// What a call is made with.
-pub struct Case {
-    pub name: String,
-    pub call: String,
-    pub argument: Vec<u8>,
-    pub other: Vec<u8>,
-    pub document: Vec<u8>,
-    /// Its result, if that is documents or bytes.
-    pub answer: Option<Handed>,
-}
 
 type Side = fn(&Case, usize) -> u64;
 
