@@ -205,6 +205,7 @@ def numbers_of_tools():
     yield "runs in a small stack", len([*runs, *measure_stack.path_runs()])
     yield "values and paths in a small stack", len([*measure_stack.decoded()])
     yield "witnesses that test the judge", entries_of("tools/test_judge.py", "WITNESSES")
+    yield "mutants that test what has a switch", entries_of("tools/test_judge.py", "SWITCHED")
     yield "rules of the lint", entries_of("tools/lint.py", "RULES")
     kept = tomllib.loads((ROOT / "tools/witnesses.toml").read_text())["prover"]
     yield from ((f"mutants kept for the prover of {crate}", len(named)) for crate, named in kept.items())

@@ -1,5 +1,6 @@
 #!/usr/bin/env python3
-"""Tests tools/judge.py: a body that is right must not count as rejected, and a mutant must; and which witnesses take its place.
+"""Tests tools/judge.py: a body that is right must not count as rejected, and a mutant must. Tests tools/witness.py: which witnesses take
+its place, and which mutants can have one.
 
     tools/test_judge.py        the last line is 'N passed, M failed'
 
@@ -8,11 +9,13 @@ bodies that are right and count as rejected all the same: their proof names only
 in the output distinguishes these from mutants.
 """
 import sys
+import tempfile
 import tomllib
 from pathlib import Path
 
 sys.dont_write_bytecode = True
 import edits
+import group_edits
 import judge
 import witness
 
@@ -53,6 +56,41 @@ WITNESSES = [
     ("jsonb_keypath tests::names_and_quoted_texts_are_read: copied [34, 97]", False),
     ("jsonb_doc array_builder::tests::builds_arrays_of_what_is_not_refused: [128, 0, 0, 1, 32, 0, 0, 2, 80, 1]", False),
 ]
+# A source file, and edits of it: texts, what they become, and whether a test can fail with that: if it changes one body.
+SOURCE = """\
+const MOST: usize = 8;
+
+#[inline]
+fn is_short(len: usize) -> bool
+{
+    len <= MOST
+}
+
+fn is_long(len: usize) -> bool
+{
+    !is_short(len)
+}
+"""
+SWITCHED = [
+    ([("len <= MOST", "len < MOST")], True),
+    ([("usize = 8", "usize = 9")], False),
+    ([("#[inline]", "#[inline(always)]")], False),
+    ([("is_short(len: usize)", "is_short(len: u8)")], False),
+    ([("len <= MOST", "len < MOST"), ("!is_short", "is_short")], False),
+]
+
+
+def can_have_test(pairs):
+    """Returns whether a mutant may have a test as its witness. It is that of these pairs in SOURCE."""
+    with tempfile.TemporaryDirectory() as room:
+        top, crate = Path(room), "jsonb_doc"
+        file = top / "crates" / crate / "src/short.rt"
+        file.parent.mkdir(parents=True)
+        file.write_text(SOURCE)
+        text = "file: src/short.rt\n" + "".join(f"old: {old}\nnew: {new}\n" for old, new in pairs)
+        mutant = witness.Mutant(crate, "broken", group_edits.Edit("broken", text, "src/short.rt", []), True)
+        given = witness.Stated({crate: {mutant.words: f"{crate} tests::lengths: 9"}}, {}, {}, {})
+        return not witness.fault_of(mutant, given, {crate: {"lengths"}}, top)
 
 
 def main():
@@ -63,6 +101,12 @@ def main():
         else:
             failed += 1
             print(f"{text}: {'not ' * wanted}determined")
+    for pairs, wanted in SWITCHED:
+        if can_have_test(pairs) == wanted:
+            passed += 1
+        else:
+            failed += 1
+            print(f"{pairs}: {'no test' if wanted else 'a test'} is accepted as its witness")
     for edit in tomllib.loads(JUDGED.read_text())["edit"]:
         why = fault(edit)
         if (why is None) == (not edit["right"] or "limit" in edit):

@@ -313,11 +313,13 @@ def tests_of(crate):
     return {*check_counts.TEST.findall(check_counts.source(crate))}
 
 
-def fault_of(mutant, given, tests):
+def fault_of(mutant, given, tests, top):
     """Returns what is wrong with what the file states of a mutant, or an empty text."""
     witness, reason = given.witness_of(mutant), given.reason_of(mutant)
     if witness and reason:
         return f"{mutant}: has a test and a reason"
+    if witness and not place_of(mutant, top):
+        return f"{mutant}: changes something other than one function's body, so it has no switch, and no test runs with it"
     if not mutant.is_tried and given.is_for_prover(mutant):
         return f"{mutant}: the prover has to reject it, so it belongs to {edits.TRIED}/: tools/witness.py --sort"
     if witness:
@@ -331,7 +333,7 @@ def faults(found):
     given = stated()
     tests = {crate: tests_of(crate) for crate in check_counts.crate_names()}
     for it in found:
-        yield fault_of(it, given, tests)
+        yield fault_of(it, given, tests, TOP)
     known = {(it.crate, it.words) for it in found}
     named = [(crate, words) for part in (given.witness, given.reason, given.kept) for crate, its in part.items() for words in its]
     for crate, words in named:
