@@ -1,7 +1,7 @@
 #!/usr/bin/env bash
 # Installs from Debian what the tests and the measurements of bindings/ need. A test says `skipped: ..` if something is
-# missing, so nothing here has to be installed; .ci/run calls this, so that nothing is skipped there. Packages that are installed
-# are left as they are, and without root or without a network this does nothing.
+# missing, so nothing here has to be installed for them. .ci/run calls this, and fails if a test is skipped. Packages that are
+# installed are left as they are, and without root or without a network this does nothing.
 set -u
 
 packages=(
@@ -31,7 +31,7 @@ if [ "$(id -u)" != 0 ] || ! command -v apt-get >/dev/null; then
     exit 0
 fi
 export DEBIAN_FRONTEND=noninteractive
-apt-get update -q >/dev/null || { echo "skipped: setup: no package lists: ${missing[*]}"; exit 0; }
+apt-get update -q -o Acquire::Retries=3 >/dev/null || { echo "skipped: setup: no package lists: ${missing[*]}"; exit 0; }
 for package in "${missing[@]}"; do
-    apt-get install -y -q --no-install-recommends "$package" >/dev/null || echo "skipped: setup: $package cannot be installed"
+    apt-get install -y -q -o Acquire::Retries=3 --no-install-recommends "$package" >/dev/null || echo "skipped: setup: $package cannot be installed"
 done

@@ -8,23 +8,23 @@ room=$(mktemp -d) || exit 1
 chmod 711 "$room" # the server of PostgreSQL runs as another user
 trap 'rm -rf "$room"' EXIT
 
-# Runs a command and adds what its last line counts. One that counts nothing is one test by its status.
+# Runs a command and adds what its last line counts. One that counts nothing is one test by its status. A count of no test is a failure,
+# unless a line says `skipped: ..`.
 count() {
-    local name=$1 status last
+    local name=$1 status last skipped ok=0 bad=1
     shift
     "$@" >"$room/said" 2>&1
     status=$?
     last=$(tail -n 1 "$room/said")
-    if [[ $last =~ ^([0-9]+)\ passed,\ ([0-9]+)\ failed$ ]] && { [ "$status" = 0 ] || [ "${BASH_REMATCH[2]}" != 0 ]; }; then
-        passed=$((passed + 10#${BASH_REMATCH[1]})) failed=$((failed + 10#${BASH_REMATCH[2]}))
-        grep -E '^skipped: ' "$room/said"
-        [ "${BASH_REMATCH[2]}" = 0 ] || tail -n 100 "$room/said"
+    skipped=$(grep '^skipped: ' "$room/said") && echo "$skipped"
+    if [[ $last =~ ^([0-9]+)\ passed,\ ([0-9]+)\ failed$ ]]; then
+        ok=$((10#${BASH_REMATCH[1]})) bad=$((10#${BASH_REMATCH[2]}))
+        if [ "$bad" = 0 ] && { [ "$status" != 0 ] || [ "$ok$skipped" = 0 ]; }; then bad=1; fi
     elif [ "$status" = 0 ]; then
-        passed=$((passed + 1))
-    else
-        failed=$((failed + 1))
-        tail -n 40 "$room/said"
+        ok=1 bad=0
     fi
+    [ "$bad" = 0 ] || tail -n 100 "$room/said"
+    passed=$((passed + ok)) failed=$((failed + bad))
     echo "$name: ${last:-status $status}"
 }
 

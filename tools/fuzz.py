@@ -411,11 +411,14 @@ def main():
     library = Library(given.library or made_library(), given.header)
     cases = Cases(random.Random(given.seed))
     print(f"fuzz: seed {given.seed}", flush=True)
+    has_tool = given.tool.is_file()
+    if not has_tool:
+        print(f"skipped: fuzz: there is no {given.tool}")
     end, number = time.monotonic() + given.seconds, 0
     while time.monotonic() < end:
         Comparison(library, cases, report).all()
         damaged_case(library, cases, report)
-        if number % 50 == 0 and given.tool.is_file():
+        if number % 50 == 0 and has_tool:
             program_case(given.tool, cases, report)
         number += 1
     print(f"fuzz: {number} documents")

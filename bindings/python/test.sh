@@ -23,6 +23,7 @@ count() {
     last=$(tail -n 1 "$room/said")
     if [[ $last =~ ^([0-9]+)\ passed,\ ([0-9]+)\ failed$ ]]; then
         passed=$((passed + BASH_REMATCH[1])) failed=$((failed + BASH_REMATCH[2]))
+        [ "$last" != "0 passed, 0 failed" ] || failed=$((failed + 1))
         grep '^skipped: ' "$room/said"
         [ "$status" = 0 ] || cat "$room/said"
     elif [ "$status" = 0 ]; then

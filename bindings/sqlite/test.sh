@@ -17,6 +17,7 @@ count() {
     status=$? last=${said##*$'\n'}
     if [[ $last =~ ^([0-9]+)\ passed,\ ([0-9]+)\ failed$ ]] && { [ "$status" = 0 ] || [ "${BASH_REMATCH[2]}" != 0 ]; }; then
         passed=$((passed + BASH_REMATCH[1])) failed=$((failed + BASH_REMATCH[2]))
+        [ "$last" != "0 passed, 0 failed" ] || failed=$((failed + 1))
     elif [ "$status" = 0 ]; then
         passed=$((passed + 1))
     else
