@@ -9,7 +9,7 @@ A mutant, a test module or a row that is deleted leaves the gate green with a sm
 tools/counts.toml, and a change that lowers one has to say so there. Each public call has to be named in docs/API.md, in a row of
 docs/rows/, in a test, in the allocation-failure sweep and in the name of one of its cases, among the calls on damaged documents, in
 a mutant and in the C library.
-tools/counts.toml gives a reason for each exception, which may be a pattern such as `Number::*`.
+tools/counts.toml lists each exception by its name, below a reason.
 
 Only what runs is counted: source files that a `mod` line includes, and of the sweep and the damaged documents what `main` and the
 tests reach.
@@ -20,9 +20,9 @@ import os
 import re
 import subprocess
 import sys
+import textwrap
 import tomllib
 from collections import Counter
-from fnmatch import fnmatchcase
 from pathlib import Path
 
 sys.dont_write_bytecode = True
@@ -36,6 +36,8 @@ ROOT = Path(__file__).resolve().parent.parent
 CRATES = ROOT / "crates"
 STATED = ROOT / "tools/counts.toml"
 NO_REASON = "no reason yet"
+# The longest line of tools/counts.toml that --write makes.
+WIDTH = 120
 CALL = re.compile(r"\b(\w+)(?:::<[^>]*>)?\(")
 MODULE = re.compile(r"^ *(?:pub(?:\([^)]*\))? )?mod (\w+);", re.M)
 TEST = re.compile(r"^ *#\[test\]\n(?: *#\[.*\n)* *fn (\w+)", re.M)
@@ -227,8 +229,8 @@ def numbers():
 
 
 def commands():
-    """Returns the commands that the gate counts, with their arguments."""
-    return re.findall(r"^count (.*?)(?: >.*)?$", (ROOT / ".ci/run").read_text(), re.M)
+    """Returns the commands that the gate counts, with their arguments, but for the gate's own folder."""
+    return re.findall(r"^count (.*?)(?: (?:>|--built ).*)?$", (ROOT / ".ci/run").read_text(), re.M)
 
 
 # ---- public calls
@@ -318,20 +320,24 @@ def missing():
 
 
 def stated():
-    """Returns what tools/counts.toml states: the gate's commands, the numbers, and the reasons by place and by call or pattern."""
+    """Returns what tools/counts.toml states: the gate's commands, the numbers, and by place the calls of each reason."""
     found = tomllib.loads(STATED.read_text()) if STATED.is_file() else {}
     return found.get("commands", []), found.get("counts", {}), found.get("missing", {})
 
 
-def unexplained(names, reasons):
-    """Returns the calls of these that have no reason."""
-    given = [pattern for pattern, reason in reasons.items() if reason != NO_REASON]
-    return [name for name in names if not any(fnmatchcase(name, it) for it in given)]
+def explained(reasons):
+    """Returns the calls for which a reason is given."""
+    return [name for reason, names in reasons.items() if reason != NO_REASON for name in names]
 
 
-def unused(names, reasons):
-    """Returns the calls and patterns with a reason that is of no use, since no such call is missing."""
-    return [pattern for pattern in reasons if not any(fnmatchcase(name, pattern) for name in names)]
+def lines_of(reason, names):
+    """Returns the lines of a reason with its calls, which are in as few lines as have room for them."""
+    quoted = ", ".join(f'"{it}"' for it in names)
+    line = f'"{reason}" = [{quoted}]'
+    if len(line) <= WIDTH:
+        return [line]
+    rows = textwrap.wrap(quoted + ",", WIDTH - 4, break_long_words=False, break_on_hyphens=False)
+    return [f'"{reason}" = [', *(f"    {it}" for it in rows), "]"]
 
 
 def write(run, counts, calls):
@@ -341,10 +347,10 @@ def write(run, counts, calls):
     lines += [f'"{name}" = {count}' for name, count in counts.items()]
     for place, names in calls.items():
         given = reasons.get(place, {})
-        kept = {it: reason for it, reason in given.items() if it not in unused(names, given)}
-        kept |= {it: NO_REASON for it in unexplained(names, given)}
-        lines += ["", f'[missing."{place}"]'] if kept else []
-        lines += [f'"{it}" = "{reason}"' for it, reason in kept.items()]
+        kept = {reason: [it for it in names if it in its] for reason, its in given.items() if reason != NO_REASON}
+        kept[NO_REASON] = [it for it in names if it not in explained(given)]
+        lines += ["", f'[missing."{place}"]'] if names else []
+        lines += [line for reason, its in kept.items() if its for line in lines_of(reason, its)]
     STATED.write_text("\n".join(lines) + "\n")
 
 
@@ -360,10 +366,11 @@ def faults(run, counts, calls):
     yield from faults_of_sweep()
     every = len([*public_calls()])
     for place, names in calls.items():
-        given = reasons.get(place, {})
-        lacking = unexplained(names, given)
+        given = explained(reasons.get(place, {}))
+        lacking = [it for it in names if it not in given]
         yield from (f"{it} is not in {place}, and tools/counts.toml gives no reason" for it in lacking)
-        yield from (f"{it} is in {place}: remove its reason from tools/counts.toml" for it in unused(names, given))
+        yield from (f"{it}, which is no call that {place} lacks: remove its name from tools/counts.toml" for it in given if it not in names)
+        yield from (f"{it} has {count} reasons for {place} in tools/counts.toml" for it, count in Counter(given).items() if count > 1)
         yield from [""] * (every - len(lacking))
 
 
