@@ -208,6 +208,7 @@ def numbers_of_tools():
     yield "values and paths in a small stack", len([*measure_stack.decoded()])
     yield "witnesses that test the judge", entries_of("tools/test_judge.py", "WITNESSES")
     yield "mutants that test what has a switch", entries_of("tools/test_judge.py", "SWITCHED")
+    yield "cases that test the gate", entries_of("tools/test_gate.py", "CASES")
     yield "rules of the lint", entries_of("tools/lint.py", "RULES")
     kept = tomllib.loads((ROOT / "tools/witnesses.toml").read_text())["prover"]
     yield from ((f"mutants kept for the prover of {crate}", len(named)) for crate, named in kept.items())
@@ -229,7 +230,7 @@ def numbers():
 
 
 def commands():
-    """Returns the commands that the gate counts, with their arguments, but for the gate's own folder."""
+    """Returns the commands that the gate counts, with their arguments, except the folder for what is built."""
     return re.findall(r"^count (.*?)(?: (?:>|--built ).*)?$", (ROOT / ".ci/run").read_text(), re.M)
 
 

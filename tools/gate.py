@@ -1,10 +1,11 @@
 #!/usr/bin/env python3
 """Proves, tests and builds all crates and tries their must-fail edits: rt ci, with each crate proved once.
 
-  gate.py            what CI runs. What passes is kept on this machine, by the sums of all that it read, as rt ci keeps it: a
-                     later run proves and tries only what changed and the crates above it, and runs every test and program
-  gate.py NAME..     the same for these crates and those below them alone: not the gate, but what passes is kept for it
-  gate.py --anew     proves and tries everything
+  gate.py                    what CI runs. What passes is kept on this machine, by the sums of all that it read, as rt ci keeps it: a
+                             later run proves and tries only what changed and the crates above it, and runs every test and program
+  gate.py --built FOLDER     the same, and FOLDER gets a file NAME once what is built of the crate NAME is in the work tree
+  gate.py NAME..             the same for these crates and those below them alone: not the gate, but what passes is kept for it
+  gate.py --anew             proves and tries everything
 
 rt ci by itself proves a crate three times from nothing: once, once with its tests, and once for its edits. This runs rt's
 own program on a copy of the repository, with three things changed:
@@ -14,9 +15,11 @@ own program on a copy of the repository, with three things changed:
   - its edits are tried over it too, as check_edits.py says, in parallel with what is still to be proved.
 
 So the prover says `incremental=trusted` of each crate: it trusts the files that this run wrote in its own folder. rt ci
-by itself, which trusts none, takes the repository as well, and nothing that is kept here. The work tree gets the programs
-and the static library that were built, for the commands that run them. The last line is 'N passed, M failed'.
+by itself, which trusts none, takes the repository as well, and nothing that is kept here. The work tree gets each program
+and the static library once its crate is proved, for the commands that use them. The last line is 'N passed, M failed'.
 """
+import argparse
+import functools
 import hashlib
 import inspect
 import os
@@ -98,11 +101,40 @@ class Output:
         self.to.flush()
 
 
-def in_lanes(tasks):
+class Built:
+    """What rt ci builds in its copy of the repository, and puts into the work tree in place of what earlier runs built."""
+
+    def __init__(self, top, work_tree, notes):
+        self.top, self.work_tree, self.notes, self.names = top, work_tree, notes, set()
+
+    def put(self, name):
+        """Puts what is built of a crate into the work tree, and removes what is not built; then a note says so."""
+        for built, file in (f"{name}", name), (f"rlib/{name}.rlib/lib{name}.a", f"lib{name}.a"):
+            made, to = f"{self.top}/crates/{name}/out/{built}", f"{self.work_tree}/crates/{name}/out/{file}"
+            if os.path.isfile(made):
+                os.makedirs(os.path.dirname(to), exist_ok=True)
+                shutil.copy2(made, f"{to}.new")
+                os.replace(f"{to}.new", to)
+            elif os.path.isfile(to):
+                os.remove(to)
+        built = Path(self.work_tree) / library.LIBRARY
+        if name == library.CRATE and built.is_file():
+            library.note(built, library.sources(Path(self.top)))
+        self.names.add(name)
+        if self.notes:
+            Path(self.notes, name).touch()
+
+    def put_others(self):
+        """Does the same with each other crate: what the work tree has of it is not of a proof of this run."""
+        for name in {*os.listdir(f"{self.top}/crates")} - self.names:
+            self.put(name)
+
+
+def in_lanes(tasks, built=None):
     """Does rt ci's tasks side by side. A crate's tests and edits wait for its proof, whose work they begin with.
 
     Its edits don't wait for its tests, as they do in rt ci: a crate whose tests are not proved has failed, whatever its
-    edits came to.
+    edits came to. What is built of a crate is put into the work tree once it is proved.
     """
     done = {}
     for (name, kind, *number), (waits, lines, memory, call) in tasks.items():
@@ -113,6 +145,8 @@ def in_lanes(tasks):
             waits, call = [it for it in waits if it != tests], as_if_given({tests: True}, call)
         elif kind == "sound":
             waits = [*waits, tests]
+        elif kind == "proof" and built:
+            call = if_well(call, functools.partial(built.put, name))
         done[name, kind, *number] = waits, lines, memory, call
     return lanes.in_lanes(done)
 
@@ -122,10 +156,22 @@ def as_if_given(more, call):
     return lambda given, jobs: call(ChainMap(given, more), jobs)
 
 
-def prove_once():
+def if_well(call, then):
+    """Returns the call of a task that does something more if its result is true."""
+
+    def both(given, jobs):
+        result = call(given, jobs)
+        if result:
+            then()
+        return result
+
+    return both
+
+
+def prove_once(built=None):
     """Has rt ci do as this program's description says."""
     check_edits.judge_by_function()
-    rt.Crate, rt.in_lanes = ProvedOnce, in_lanes
+    rt.Crate, rt.in_lanes = ProvedOnce, functools.partial(in_lanes, built=built)
     rt.rtlib.VERDICT = re.compile(rt.rtlib.VERDICT.pattern.replace(r"\n\Z", r" incremental=trusted\n\Z"), re.M)
     how = hashlib.sha256(inspect.getsource(ProvedOnce).encode()).hexdigest()
     key_by_rt = rt.Kept.key
@@ -138,24 +184,11 @@ def copy_repository(to):
     shutil.copytree(os.getcwd(), to, symlinks=True, ignore=unwanted)
 
 
-def hand_over(top, work_tree):
-    """Puts what rt ci built into the work tree, in the place of what earlier runs built."""
-    for name in os.listdir(f"{top}/crates"):
-        for built, file in (f"{name}", name), (f"rlib/{name}.rlib/lib{name}.a", f"lib{name}.a"):
-            made, to = f"{top}/crates/{name}/out/{built}", f"{work_tree}/crates/{name}/out/{file}"
-            if os.path.isfile(made):
-                os.makedirs(os.path.dirname(to), exist_ok=True)
-                shutil.copy2(made, f"{to}.new")
-                os.replace(f"{to}.new", to)
-            elif os.path.isfile(to):
-                os.remove(to)
-    built = Path(work_tree) / library.LIBRARY
-    if built.is_file():
-        library.note(built, library.sources(Path(top)))
+def run(anew, notes):
+    """Runs rt ci on a copy of the repository, and returns its status and how many edits can't be tried.
 
-
-def run(anew):
-    """Runs rt ci on a copy of the repository, and returns its status and how many edits can't be tried."""
+    The folder `notes`, if it is given, gets a file for each crate once what is built of it is in the work tree.
+    """
     work_tree = os.getcwd()
     with tempfile.TemporaryDirectory(prefix=f"rt-copy-{os.getpid()}-") as room:
         os.chmod(room, 0o711)  # (rt ci runs programs as nobody, in a folder below this one)
@@ -168,10 +201,11 @@ def run(anew):
             faults.append(".ci/run does not count tools/check_counts.py")
         for it in faults:
             edits.say(it)
-        prove_once()
+        built = Built(f"{room}/repository", work_tree, notes)
+        prove_once(built)
         status = rt.ci(anew)
         os.chdir(work_tree)
-        hand_over(f"{room}/repository", work_tree)
+        built.put_others()
         tempfile.tempdir = None
     return status, len(faults)
 
@@ -182,11 +216,19 @@ def run_some(anew, names):
     return rt.ci(anew, names), 0
 
 
+def words():
+    asked = argparse.ArgumentParser(description=__doc__, formatter_class=argparse.RawDescriptionHelpFormatter)
+    asked.add_argument("--anew", action="store_true")
+    asked.add_argument("--built", metavar="FOLDER", type=os.path.abspath)
+    asked.add_argument("names", nargs="*", metavar="NAME")
+    return asked.parse_args()
+
+
 def main():
+    asked = words()
     sys.stdout.reconfigure(line_buffering=True)
     sys.stdout = Output(sys.stdout)
-    anew, names = "--anew" in sys.argv[1:], [it for it in sys.argv[1:] if it != "--anew"]
-    status, faults = run_some(anew, names) if names else run(anew)
+    status, faults = run_some(asked.anew, asked.names) if asked.names else run(asked.anew, asked.built)
     last = re.match(r"(\d+) passed, (\d+) failed", sys.stdout.last)
     passed, failed = map(int, last.groups()) if last else (0, 1)
     failed = (failed or int(status != 0)) + faults

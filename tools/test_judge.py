@@ -56,7 +56,7 @@ WITNESSES = [
     ("jsonb_keypath tests::names_and_quoted_texts_are_read: copied [34, 97]", False),
     ("jsonb_doc array_builder::tests::builds_arrays_of_what_is_not_refused: [128, 0, 0, 1, 32, 0, 0, 2, 80, 1]", False),
 ]
-# A source file, and edits of it: texts, what they become, and whether a test can fail with that: if it changes one body.
+# A source file, edits of it as old and new rows, and whether a test can fail with each: if it changes one body.
 SOURCE = """\
 const MOST: usize = 8;
 
