@@ -6,7 +6,7 @@ its place, and which mutants can have one.
 
 tools/judged.toml has edited functions, and what the prover said of each, cut to its lines about that function. `limit` marks
 bodies that are right and count as rejected all the same: their proof names only what is still there, but no longer fits. Nothing
-in the output distinguishes these from mutants.
+in the output distinguishes these from mutants. Of a mutant of the repository the file has only what the prover said.
 """
 import sys
 import tempfile
@@ -22,12 +22,31 @@ import witness
 JUDGED = Path(__file__).resolve().parent / "judged.toml"
 
 
+def with_mutant(edit, mutants):
+    """Returns a recorded edit with the words, the file and the text of the mutant that it names, if it names one.
+
+    The text is moved so that the function is at the line that it had for the prover. A mutant is wrong because a test fails with it.
+    """
+    if "mutant" not in edit:
+        return edit
+    mutant = mutants.get(edit["mutant"]) or edits.stop(f"tools/judged.toml has {edit['mutant']!r}, which is no mutant")
+    folder = witness.TOP / "crates" / mutant.crate
+    [(path, text)] = edits.rt.edited(mutant.edit.text, folder)[0].items()
+    rows = text.split("\n")
+    header, *_ = witness.body_with(rows, witness.changed_row((folder / path).read_text(), text))
+    more = edit["line"] - 1 - header
+    moved = [""] * more + rows if more > 0 else rows[-more:]
+    is_right = not witness.stated().witness_of(mutant)
+    return {**edit, "words": edit["mutant"], "file": path, "text": "\n".join(moved), "right": is_right}
+
+
 def fault(edit):
     """Returns why the prover's output does not reject a recorded edit, or None if it does."""
-    if "body" not in edit:
+    if "body" not in edit and "text" not in edit:
         return judge.fault_outside_bodies(edit["said"])
-    text = "\n" * (edit["line"] - 1) + edit["body"]
-    function = edits.function_at(edit["file"], text, text.count("\n") - 1)
+    text = edit.get("text") or "\n" * (edit["line"] - 1) + edit["body"]
+    line = edit["line"] if "text" in edit else text.count("\n") - 1
+    function = edits.function_at(edit["file"], text, line)
     crate = edit["said"].rpartition("\nfn ")[2].partition("::")[0]
     return judge.fault_of_function(crate, function, edit["said"], {edit["file"]: text})
 
@@ -107,7 +126,8 @@ def main():
         else:
             failed += 1
             print(f"{pairs}: {'no test' if wanted else 'a test'} is accepted as its witness")
-    for edit in tomllib.loads(JUDGED.read_text())["edit"]:
+    mutants = {str(it): it for it in witness.mutants(witness.TOP)}
+    for edit in (with_mutant(it, mutants) for it in tomllib.loads(JUDGED.read_text())["edit"]):
         why = fault(edit)
         if (why is None) == (not edit["right"] or "limit" in edit):
             passed += 1

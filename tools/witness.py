@@ -99,14 +99,19 @@ def body_with(rows, changed):
     return header, first, next(at for at in beside if at >= first and rows[at].strip() == "}")
 
 
+def changed_row(text, other):
+    """Returns the index of the first row that differs in two versions of a file."""
+    others = other.split("\n")
+    return next(at for at, row in enumerate(text.split("\n")) if row != others[at])
+
+
 def mutated_body(text, other):
     """Returns the row at which the body begins that differs in two versions of a file, and its rows in the second.
 
     Returns None if anything else differs.
     """
     rows, others = text.split("\n"), other.split("\n")
-    changed = next(at for at, row in enumerate(rows) if row != others[at])
-    found = body_with(rows, changed)
+    found = body_with(rows, changed_row(text, other))
     if not found:
         return None
     header, first, last = found
