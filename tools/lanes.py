@@ -67,18 +67,19 @@ def in_lanes(tasks):
 
     A key begins with a crate's name and the kind of the task. A task is what it waits for, its work in lines, its memory,
     and a call that takes what was given so far and how many jobs it may use. Of those that are ready, the first goes
-    first. A proof may use all lanes as jobs, unless another one is being made: other tasks are nicer, and take
-    what it leaves idle. Any other task has one job.
+    first. Proofs that can be made at one time share the lanes as jobs, so that one alone has all: other tasks are nicer,
+    and take what it leaves idle. Any other task has one job, since more jobs take more time of the processors in all.
     """
     lanes, running, given = lanes_here(), {}, {}
     left = sorted(tasks, key=lambda it: (KINDS.index(it[1]), -tasks[it][1]))
     with rt.ending(), ThreadPoolExecutor(lanes) as pool:
         while left or running:
             ready = [it for it in left if all(below in given for below in tasks[it][0])]
+            proofs = sum(it[1] == "proof" for it in [*ready, *running.values()])
             for key in ready[: lanes - len(running)]:
                 left.remove(key)
-                is_first = key[1] == "proof" and not any(it[1] == "proof" for it in running.values())
-                running[pool.submit(do_task, key, tasks[key][-1], given, lanes if is_first else 1)] = key
+                jobs = max(1, lanes // proofs) if key[1] == "proof" else 1
+                running[pool.submit(do_task, key, tasks[key][-1], given, jobs)] = key
             for it in wait(running, return_when=FIRST_COMPLETED).done:
                 given[running.pop(it)] = it.result()
     return given
