@@ -16,6 +16,7 @@ pub mod Copying
 pub mod ChainText
 pub mod EntriesText
 pub mod Last
+pub mod SamePath
 pub mod Members
 pub mod Compared
 pub mod Exists
