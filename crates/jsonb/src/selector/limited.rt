@@ -224,7 +224,7 @@ impl<'a> LimitedSelector<'a> {
     pub fn select_values(&mut self, path: &JsonPath<'_>) -> Result<Vec<OwnedJsonb>, LimitError>
         ensures limited { IsLimited self.old self.new (path_view path.now) result }
         ensures values { UnlessExceeded (ByMeanings (mode_of self.old.selector) (root_bytes self.old.selector)
-            (path_view path.now) AreAll) result }
+            (path_view path.now) (AreAll Decodes)) result }
         ensures errors { UnlessExceeded (λ answer. IfErr answer (IsDocumentError (mode_of self.old.selector))) result }
         ensures readable { OnOk result (HasReadableRoot (root_bytes self.old.selector)) }
     {
