@@ -4,7 +4,8 @@ use Rattle.std.specs.Prelude.{◌||◌, IfSome, map}
 use Rattle.std.proofs.Math.Seq.{drop-cons}
 use Rattle.std.proofs.lemmas.List.{take_more, take-append-drop, map-append}
 use Rattle.jsonb_doc.specs.declared.error.Error.{Error}
-use Rattle.jsonb.specs.PathDocuments.{is_document, step_has_document, steps_have_document, expression_has_document, has_document, IsOwningError}
+use Rattle.jsonb.specs.PathDocuments.{is_document, step_has_document, steps_have_document, expression_has_document, has_document}
+use Rattle.jsonb.specs.Private.Copying.{IsOwningError}
 use Rattle.jsonb.specs.PathEquality.{SameLiteral, SameStep, SameStepsBut, SameExpression, SamePath}
 use Rattle.jsonb.specs.PathGrammar.{json_path}
 use Rattle.jsonb.specs.Proofs.PathOrder.{container_with_none}

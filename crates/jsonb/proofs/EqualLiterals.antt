@@ -8,7 +8,7 @@ use Rattle.jsonb_doc.specs.declared.number.Number.TheVariants.{Int64, UInt64, De
 use Rattle.jsonb_doc.proofs.EqualValues.{number_cmp-number_view}
 use Rattle.jsonb.specs.PathEquality.{literal_order}
 use Rattle.jsonb.specs.PathViews.{number_literal, literal_view}
-use Rattle.jsonb.specs.SamePath.{path_value_order, is_same_literal}
+use Rattle.jsonb.specs.Private.SamePath.{path_value_order, is_same_literal}
 use Rattle.jsonb.specs.Values.{number, literal_value}
 use Rattle.jsonb.specs.declared.path.PathValue.{PathValue}
 use Rattle.jsonb.specs.declared.path.PathValue.TheVariants.{Null, Boolean, String, Raw}

@@ -6,7 +6,7 @@ use Rattle.std.specs.Option.{option_eq}
 use Rattle.std.specs.Cmp.Lexicographic.{pointwise}
 use denote.Enum.Bare.{same_true, true_same}
 use Rattle.jsonb.specs.Proofs.SamePath.{place-same, entry-same, end-same, level-same, sign-same}
-use Rattle.jsonb.specs.SamePath.{is_same_place, is_same_entry, is_same_end, is_same_level, is_same_sign}
+use Rattle.jsonb.specs.Private.SamePath.{is_same_place, is_same_entry, is_same_end, is_same_level, is_same_sign}
 use Rattle.jsonb.specs.declared.path.Index.{Index}
 use Rattle.jsonb.specs.declared.path.Index.TheVariants as index
 use Rattle.jsonb.specs.declared.path.ArrayIndex.{ArrayIndex}

@@ -4,7 +4,7 @@ use Rattle.std.specs.declared.borrow.CowStr.{CowStr}
 use Rattle.jsonb.specs.PathTree as tree
 use Rattle.jsonb.specs.PathTree.{Step, Expression, Entry, Levels}
 use Rattle.jsonb.specs.PathViews.{step_layer, step_view, expression_view}
-use Rattle.jsonb.specs.SamePath.{is_same_step}
+use Rattle.jsonb.specs.Private.SamePath.{is_same_step}
 use Rattle.jsonb.specs.declared.path.ArrayIndex.{ArrayIndex}
 use Rattle.jsonb.specs.declared.path.Expr.{Expr, out-Expr}
 use Rattle.jsonb.specs.declared.path.Expr.TheBlock as block

@@ -19,14 +19,14 @@ use Rattle.jsonb.specs.declared.selector.found.FoundItem.TheVariants.{At, Number
 use Rattle.jsonb.specs.declared.selector.selected.MadeItem.{MadeItem}
 
 pub spots_are : (form : Form) (document : List ℕ) (spots : List Spot) (ts : List Tree) → AllZip (Locates document) spots ts
-    → AllZip (IsItemOf form document) (map At spots) ts
+    → AllZip (IsItemOf document form) (map At spots) ts
 spots_are form document [] [] h = tt
 spots_are form document [] (t ∷ ts) h = absurd h
 spots_are form document (spot ∷ spots) [] h = absurd h
 spots_are form document (spot ∷ spots) (t ∷ ts) h = (h.0, spots_are form document spots ts h.1)
 
 pub numbers_are : (form : Form) (document : List ℕ) (numbers : List CodeNumber) (ts : List Tree) → AllZip IsNumberItem numbers ts
-    → AllZip (IsItemOf form document) (map Number numbers) ts
+    → AllZip (IsItemOf document form) (map Number numbers) ts
 numbers_are form document [] [] h = tt
 numbers_are form document [] (t ∷ ts) h = absurd h
 numbers_are form document (n ∷ numbers) [] h = absurd h
@@ -34,17 +34,17 @@ numbers_are form document (n ∷ numbers) (t ∷ ts) h = (h.0, numbers_are form 
 
 -- a list of items, unless an allocation failed
 pub all_found : (form : Form) (document : List ℕ) (items : List FoundItem) (ts : List Tree) (r : Result (Vec FoundItem Global) Error)
-    → MatchResult r (λ found. found.items ≡ items) IsOutOfMemory → AllZip (IsItemOf form document) items ts
-    → Refines (λ v us. AllZip (IsItemOf form document) v.items us) (IsOutOfMemory or TooLarge when Any (IsTooLarge form) ts) r (Ok ts)
+    → MatchResult r (λ found. found.items ≡ items) IsOutOfMemory → AllZip (IsItemOf document form) items ts
+    → Refines (λ v us. AllZip (IsItemOf document form) v.items us) (IsOutOfMemory or TooLarge when Any (IsTooLarge form) ts) r (Ok ts)
 all_found form document items ts (Ok found) is are = record { ok = rw is are; err = tt }
 all_found form document items ts (Err e) memory are = record { ok = tt; err = inl (inl memory) }
 
 -- the only item
 pub one_found : (form : Form) (document : List ℕ) (part : MadeItem) (ts : List Tree) (r : Result (Vec FoundItem Global) Error)
     → ((t : Tree) → IsMadeItem form part t
-    → Refines (λ v us. AllZip (IsItemOf form document) v.items us) (IsOutOfMemory or TooLarge when Any (IsTooLarge form) (t ∷ [])) r (Ok (t ∷ [])))
+    → Refines (λ v us. AllZip (IsItemOf document form) v.items us) (IsOutOfMemory or TooLarge when Any (IsTooLarge form) (t ∷ [])) r (Ok (t ∷ [])))
     → AllZip (IsMadeItem form) (part ∷ []) ts
-    → Refines (λ v us. AllZip (IsItemOf form document) v.items us) (IsOutOfMemory or TooLarge when Any (IsTooLarge form) ts) r (Ok ts)
+    → Refines (λ v us. AllZip (IsItemOf document form) v.items us) (IsOutOfMemory or TooLarge when Any (IsTooLarge form) ts) r (Ok ts)
 one_found form document part [] r by h = absurd h
 one_found form document part (t ∷ []) r by h = by t h.0
 one_found form document part (t ∷ u ∷ ts) r by h = absurd h.1

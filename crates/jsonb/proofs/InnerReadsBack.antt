@@ -17,8 +17,8 @@ use Rattle.jsonb_keypath.proofs.RepeatLemmas.{repeat-goes, repeat-ends}
 use Rattle.jsonb_keypath.proofs.YieldsLemmas.{IsName}
 use Rattle.jsonb.specs.PathTree.{Place, from_front, from_last, Entry, single, slice, LevelEnd, level, last_level, Levels, Step, root, current, dot_wildcard, recursive_dot_wildcard, bracket_wildcard, dot_field, colon_field, object_field, array_indices, filter, whole_expression}
 use Rattle.jsonb.specs.PathGrammar.{keyword, spaced, place, entry, levels, field, spaced_entry, entries, wildcard, named_field, bracket_field, inner}
-use Rattle.jsonb.specs.Private.EntriesText.{other_entry_text}
-use Rattle.jsonb.specs.PathText.{place_text, entry_text, entries_text, levels_text, step_text}
+use Rattle.jsonb.specs.Private.EntriesText.{entries_text, other_entry_text}
+use Rattle.jsonb.specs.PathText.{place_text, entry_text, levels_text, step_text}
 use Rattle.jsonb.proofs.PathShape.{IsIndex, IsPlace, IsEntry, IsLevelEnd, AreLevels, IsInner}
 
 -- ---- white space

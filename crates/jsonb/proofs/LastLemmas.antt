@@ -9,7 +9,7 @@ use Rattle.jsonb.specs.PathTree.{Step, filter, whole_expression, Steps, no_steps
 use Rattle.jsonb.specs.PathViews.{step_view, steps_view, expression_view}
 use Rattle.jsonb.specs.Private.Last.{but_last, last_step, is_filter, held_by, held_by_last, last_of, down, steps_down, step_down, step_before, last_before, steps_before, text_before, ends_in_filter, closing, is_same_opening, is_same_last, are_same_before, is_same_before}
 use Rattle.jsonb.specs.Private.Parts.{step_parts, steps_parts, expression_parts, parts}
-use Rattle.jsonb.specs.SamePath.{is_same_operator, is_same_literal, is_same_step, are_same_steps, is_same_expression}
+use Rattle.jsonb.specs.Private.SamePath.{is_same_operator, is_same_literal, is_same_step, are_same_steps, is_same_expression}
 use Rattle.jsonb.specs.declared.path.Expr.{Expr}
 use Rattle.jsonb.specs.declared.path.Path.{Path}
 

@@ -19,7 +19,6 @@ pub mod MostItems
 pub mod LimitedAnswers
 pub mod PathLaws
 pub mod PathEquality
-pub mod SamePath
 pub mod PathDocuments
 -- Definitions of the crates below that clauses cite, for the crates above.
 pub use Rattle.jsonb_doc.specs.declared.error.Error

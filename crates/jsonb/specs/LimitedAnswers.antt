@@ -5,34 +5,18 @@ use Rattle.jsonb_doc.specs.declared.error.Error.TheVariants.{OutOfMemory}
 use Rattle.jsonb_doc.specs.ErrorText.{error_text}
 use Rattle.jsonb.specs.MostItems.{most_items}
 use Rattle.jsonb.specs.PathTree.{Step}
-use Rattle.jsonb.specs.SelectorAnswers.{root_bytes, mode_of}
-use Rattle.jsonb.specs.declared.selector.document.Mode.{Mode}
 use Rattle.jsonb.specs.declared.selector.limited.LimitError.{LimitError}
 use Rattle.jsonb.specs.declared.selector.limited.LimitError.TheVariants.{LimitExceeded, Failed}
 use Rattle.jsonb.specs.declared.selector.limited.LimitedSelector.{LimitedSelector}
-use Rattle.jsonb.specs.declared.selector.most_items.DocumentSize.{DocumentSize}
 
 -- What the error prints as.
 abbrev pub limit_error_text : LimitError → List ℕ
 limit_error_text LimitExceeded = codes "LimitExceeded"
 limit_error_text (Failed e) = error_text e
 
--- The bytes of a selector's root, its mode, the size of its document, and its limit.
-abbrev pub limited_bytes : LimitedSelector → List ℕ
-limited_bytes s = root_bytes s.selector
-
-abbrev pub limited_mode : LimitedSelector → Mode
-limited_mode s = mode_of s.selector
-
-abbrev pub size_of : LimitedSelector → DocumentSize
-size_of s = s.size
-
-abbrev pub limit_of : LimitedSelector → ℕ
-limit_of s = s.limit
-
 -- The bound of a path on the document.
 abbrev pub bound_of : LimitedSelector → List Step → ℕ
-bound_of s path = most_items (size_of s) path
+bound_of s path = most_items s.size path
 
 -- Holds if the result is `LimitExceeded`, or this holds for it as a result of the selector.
 abbrev pub UnlessExceeded : {A : Type 0} → (Result A Error → Type 0) → Result A LimitError → Type 0
@@ -50,5 +34,5 @@ IsRefusal (Failed e) = e ≡ OutOfMemory
 pub record IsLimited {A : Type 0} (old new : LimitedSelector) (path : List Step) (answer : Result A LimitError)
     : Type 0 where
   pub kept : new ≡ old
-  pub exceeded : IsErrOf answer LimitExceeded → limit_of old < bound_of old path
-  pub refused : limit_of old < bound_of old path → IsErrAnd answer IsRefusal
+  pub exceeded : IsErrOf answer LimitExceeded → old.limit < bound_of old path
+  pub refused : old.limit < bound_of old path → IsErrAnd answer IsRefusal

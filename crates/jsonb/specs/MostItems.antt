@@ -1,6 +1,7 @@
 -- At most how many items the evaluation of a path lists, and how many values it compares: a number that is known
 -- before.
-use Rattle.std.specs.Prelude.{ℕ, ◌+◌, ◌*◌, ◌/◌, ◌-◌, ◌^◌, min, length, Bool, true, false, ◌&&◌, List, [], ◌∷◌, if◌then◌else◌}
+use Rattle.std.specs.Prelude.{ℕ, ◌+◌, ◌*◌, ◌/◌, ◌-◌, ◌^◌, min, length, Bool, true, false, List}
+use Rattle.std.specs.List.{list_all}
 use Rattle.jsonb_doc.specs.Depth.{deepest}
 use Rattle.jsonb_doc.specs.Tree.{Tree}
 use Rattle.jsonb.specs.PathTree.{Entry, single, slice, BinaryOp, and_op, or_op, Step, root, current, dot_wildcard, recursive_dot_wildcard, bracket_wildcard, array_indices, filter, whole_expression, Steps, no_steps, step, Expression, paths, value, binary, unary, exists, steps_of}
@@ -19,10 +20,6 @@ abbrev pub is_single : Entry → Bool
 is_single (single place) = true
 is_single (slice (first, last)) = false
 
-abbrev pub all_single : List Entry → Bool
-all_single [] = true
-all_single (entry ∷ rest) = is_single entry && all_single rest
-
 -- The list of the elements at `count` subscripts; each selects one element of an array, or many.
 abbrev pub picked_list : Bool → ℕ → ListBound → ListBound
 picked_list true count l = record { items = capped (l.items * count); below = capped (l.below * count) }
@@ -33,7 +30,7 @@ abbrev pub after : DocumentSize → Step → ListBound → ListBound
 after size dot_wildcard l = record { items = l.below; below = l.below }
 after size bracket_wildcard l = record { items = l.below; below = l.below }
 after size (recursive_dot_wildcard levels) l = record { items = l.below; below = capped (l.below * size.levels) }
-after size (array_indices entries) l = picked_list (all_single entries) (length entries) l
+after size (array_indices entries) l = picked_list (list_all is_single entries) (length entries) l
 after size s l = l
 
 abbrev pub after_steps : DocumentSize → Steps → ListBound → ListBound

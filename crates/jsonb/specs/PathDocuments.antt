@@ -1,7 +1,5 @@
 -- Documents among the literals of a path. Only paths that are built by hand have them.
-use Rattle.std.specs.Prelude.{◌≡◌, ◌⊎◌, Bool, true, false, ◌||◌, List}
-use Rattle.jsonb_doc.specs.declared.error.Error.{Error}
-use Rattle.jsonb_doc.specs.declared.error.Error.TheVariants.{OutOfMemory, InvalidJsonPath}
+use Rattle.std.specs.Prelude.{Bool, true, false, ◌||◌, List}
 use Rattle.jsonb.specs.PathTree.{Literal, raw, Step, filter, whole_expression, Steps, no_steps, step, Expression, paths, value, binary, unary, exists, steps_of}
 
 abbrev pub is_document : Literal → Bool
@@ -27,7 +25,3 @@ abbrev mutual
 
 abbrev pub has_document : List Step → Bool
 has_document path = steps_have_document (steps_of path)
-
--- Holds if an allocation failed, or there is a document, which cannot be owned.
-abbrev pub IsOwningError : Bool → Error → Type 0
-IsOwningError has_document e = (e ≡ OutOfMemory) ⊎ ((e ≡ InvalidJsonPath) × (has_document ≡ true))

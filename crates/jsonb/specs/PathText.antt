@@ -1,6 +1,7 @@
 -- The text of a JSON path, which parses back.
-use Rattle.std.specs.Prelude.{ℕ, zero, suc, ◌==◌, List, [], ◌∷◌, ◌++◌, ℤ, pos, negsuc, Bool, true, false, Option, Some, None, codes, flat_map, if◌then◌else◌}
+use Rattle.std.specs.Prelude.{ℕ, zero, suc, ◌==◌, List, [], ◌++◌, ℤ, pos, negsuc, Bool, true, false, Option, Some, None, codes, flat_map, if◌then◌else◌}
 use Rattle.std.specs.Fmt.{decimal, signed_decimal}
+use Rattle.std.specs.List.{join_by}
 use Rattle.hex.specs.Hex.{encode_lower}
 use Rattle.jsonb_keypath.specs.KeyPathText.{quoted_text, name_text}
 use Rattle.jsonb_doc.specs.NumberText.{decimal_text}
@@ -19,10 +20,6 @@ place_text (from_last offset) = codes "last" ++ offset_text offset
 abbrev pub entry_text : Entry → List ℕ
 entry_text (single place) = place_text place
 entry_text (slice (first, last)) = place_text first ++ codes " to " ++ place_text last
-
-abbrev pub entries_text : List Entry → List ℕ
-entries_text [] = []
-entries_text (first ∷ rest) = entry_text first ++ flat_map (λ entry. codes ", " ++ entry_text entry) rest
 
 abbrev pub level_end_text : Option LevelEnd → List ℕ
 level_end_text None = []
@@ -92,7 +89,7 @@ abbrev mutual
   step_text (dot_field name) = codes "." ++ name_text name
   step_text (colon_field name) = codes ":" ++ name_text name
   step_text (object_field name) = codes "[" ++ quoted_text name ++ codes "]"
-  step_text (array_indices entries) = codes "[" ++ entries_text entries ++ codes "]"
+  step_text (array_indices entries) = codes "[" ++ join_by entry_text (codes ", ") entries ++ codes "]"
   step_text (filter e) = codes "?(" ++ expression_text e ++ codes ")"
   step_text (whole_expression e) = expression_text e
 

@@ -1,4 +1,5 @@
--- Definitions that only contracts of private functions use. No public clause cites them.
+-- Definitions that only contracts of private functions use, and `==` of paths, which laws restate. No public clause
+-- cites them.
 pub mod Positions
 pub mod Selection
 pub mod Selected
@@ -16,6 +17,7 @@ pub mod Copying
 pub mod ChainText
 pub mod EntriesText
 pub mod Last
+pub mod SamePath
 pub mod Members
 pub mod Compared
 pub mod Exists

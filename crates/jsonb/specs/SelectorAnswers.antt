@@ -47,13 +47,14 @@ abbrev pub ByMeanings : {A : Type 0} → Mode → List ℕ → List Step
 ByMeanings mode document path Promise answer = (form : Form) (top : Tree) (outcome : Outcome (List Tree))
     → Decodes form document top → Means form mode path top outcome → Promise form outcome answer
 
--- Holds if the result is documents of all items that the path selects.
-abbrev pub AreAll : Form → Outcome (List Tree) → Result (Vec OwnedJsonb Global) Error → Type 0
-AreAll form outcome answer =
-    Refines (λ v ts. AllZip (Decodes form) v.items ts)
+-- Holds if the result is all items that the path selects, each as `Shows` relates it to its tree.
+abbrev pub AreAll : {A : Type 0} → (Form → A → Tree → Type 0) → Form → Outcome (List Tree) → Result (Vec A Global) Error
+    → Type 0
+AreAll Shows form outcome answer =
+    Refines (λ v ts. AllZip (Shows form) v.items ts)
     (IsOutOfMemory or TooLarge when IsOkAnd outcome (Any (IsTooLarge form))) answer outcome
 
--- Holds if the result is an array of them.
+-- Holds if the result is an array of the items that the path selects.
 abbrev pub IsArrayOf : Form → Outcome (List Tree) → Result OwnedJsonb Error → Type 0
 IsArrayOf form outcome answer =
     Refines (λ made ts. Decodes form made (array_of ts))

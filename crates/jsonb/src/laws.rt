@@ -32,6 +32,7 @@ ghost use Rattle.jsonb.specs.SelectorAnswers.{AreAll, IsArrayOf, IsPicked};
 ghost use Rattle.jsonb_doc.specs.Answer.{Outcome};
 ghost use Rattle.jsonb_doc.specs.Bytes.{AreBytes};
 ghost use Rattle.jsonb_doc.specs.declared.error.Error.{Error};
+ghost use Rattle.jsonb_doc.specs.Format.{Decodes};
 ghost use Rattle.jsonb_doc.specs.Payload.{Form, canonical};
 ghost use Rattle.jsonb_doc.specs.Tree.{Tree};
 ghost use Rattle.jsonb_raw.specs.declared.owned.OwnedJsonb.{OwnedJsonb};
@@ -76,7 +77,7 @@ pub fn repeated_rules_read_some()
 /// documents, of all items, or of the picked one. Other results are those of `functions::results_are_determined`.
 pub fn selections_are_determined()
     ensures all { (meaning : Outcome (List Tree)) (r s : Result (Vec OwnedJsonb Global) Error)
-        → AreAll canonical meaning r → AreAll canonical meaning s
+        → AreAll Decodes canonical meaning r → AreAll Decodes canonical meaning s
         → IfOk r (λ made. IfOk s (λ other. AllByRecursion AreBytes made.items → AllByRecursion AreBytes other.items
         → other.items ≡ made.items)) }
     ensures array { (meaning : Outcome (List Tree)) (r s : Result OwnedJsonb Error)

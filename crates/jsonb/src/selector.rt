@@ -97,7 +97,8 @@ pub struct Selector<'a> {
 impl<'a> Selector<'a> {
     ghost use Rattle.std.specs.Prelude.{◌≡◌, Ok, None, true, false, IfErr, OnOk};
     ghost use Rattle.jsonb_raw.specs.Documents.{raw_bytes};
-    ghost use Rattle.jsonb.specs.FoundItems.{AreItemsOf};
+    ghost use Rattle.jsonb_doc.specs.Format.{Decodes};
+    ghost use Rattle.jsonb.specs.FoundItems.{IsItemOf};
     ghost use Rattle.jsonb.specs.PathTree.{is_predicate};
     ghost use Rattle.jsonb.specs.PathViews.{path_view};
     ghost use Rattle.jsonb.specs.SelectionErrors.{IsSelectionError, IsDocumentError};
@@ -180,7 +181,8 @@ impl<'a> Selector<'a> {
     /// ```
     pub fn select_values(&mut self, path: &JsonPath<'_>) -> Result<Vec<OwnedJsonb>, Error>
         ensures kept { self.new ≡ self.old }
-        ensures values { ByMeanings (mode_of self.old) (root_bytes self.old) (path_view path.now) AreAll result }
+        ensures values { ByMeanings (mode_of self.old) (root_bytes self.old) (path_view path.now)
+            (AreAll Decodes) result }
         ensures errors { IfErr result (IsDocumentError (mode_of self.old)) }
         ensures readable { OnOk result (HasReadableRoot (root_bytes self.old)) }
     {
@@ -206,7 +208,7 @@ impl<'a> Selector<'a> {
     pub fn find_values(&mut self, path: &JsonPath<'_>) -> Result<Vec<FoundItem>, Error>
         ensures kept { self.new ≡ self.old }
         ensures items { ByMeanings (mode_of self.old) (root_bytes self.old) (path_view path.now)
-            (AreItemsOf (root_bytes self.old)) result }
+            (AreAll (IsItemOf (root_bytes self.old))) result }
         ensures errors { IfErr result (IsDocumentError (mode_of self.old)) }
         ensures readable { OnOk result (HasReadableRoot (root_bytes self.old)) }
     {

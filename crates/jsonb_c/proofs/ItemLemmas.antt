@@ -11,11 +11,11 @@ use Rattle.jsonb_c.specs.Items.{is_first_computed}
 use Rattle.jsonb_c.specs.Private.Boxes.{is_computed}
 
 pub first_is : (form : Form) (document : List ℕ) (items : List FoundItem) (ts : List Tree) (item : FoundItem) → 0 < length items
-    → item ≡ slice_index_or items 0 item → AllZip (IsItemOf form document) items ts
-    → (t : Tree) × (first_item ts ≡ Some t) × IsItemOf form document item t
+    → item ≡ slice_index_or items 0 item → AllZip (IsItemOf document form) items ts
+    → (t : Tree) × (first_item ts ≡ Some t) × IsItemOf document form item t
 first_is form document [] ts item some is h = absurd (omega (arith, some))
 first_is form document (x ∷ items) [] item some is h = absurd h
-first_is form document (x ∷ items) (t ∷ ts) item some is h = (t, refl, subst (λ y. IsItemOf form document y t) (sym is) h.0)
+first_is form document (x ∷ items) (t ∷ ts) item some is h = (t, refl, subst (λ y. IsItemOf document form y t) (sym is) h.0)
 
 pub first_computed : (items : List FoundItem) (item : FoundItem) → 0 < length items → item ≡ slice_index_or items 0 item
     → is_first_computed items ≡ is_computed item

@@ -29,7 +29,7 @@ items_left _ = None
 -- Holds if the result is a document of the first of the items, or `None` if there is none.
 abbrev pub IsNextOf : List ℕ → List FoundItem → Found (List ℕ) → Type 0
 IsNextOf document left answer = (form : Form) (top : Tree) (ts : List Tree) → Decodes form document top
-    → AllZip (IsItemOf form document) left ts → MakesOption form (first_item ts) answer
+    → AllZip (IsItemOf document form) left ts → MakesOption form (first_item ts) answer
 
 -- Whether the first item is computed. Otherwise it is in the document.
 abbrev pub is_first_computed : List FoundItem → Bool
@@ -39,7 +39,7 @@ is_first_computed _ = true
 -- Holds if the result is the span of the first of the items, or says that it is computed; `None` if there is none.
 abbrev pub IsNextSpan : List ℕ → List FoundItem → Result (Option (FirstItem Span)) Error → Type 0
 IsNextSpan document left answer = (form : Form) (top : Tree) (ts : List Tree) → Decodes form document top
-    → AllZip (IsItemOf form document) left ts → IsOkAnd answer
+    → AllZip (IsItemOf document form) left ts → IsOkAnd answer
     (λ found. SameOption (IsFirstItem (IsSpanOf form document) (is_first_computed left)) found (first_item ts))
 
 -- Holds if the first item is removed if it was delivered; otherwise the handle is unchanged.

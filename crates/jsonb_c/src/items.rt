@@ -3,10 +3,10 @@
 ghost use Rattle.std.specs.Prelude.{◌≡◌, IfErr, MatchOption, MatchResult, Some, None, Err};
 ghost use Rattle.jsonb_doc.specs.Answer.{IsDecodingError, IsOutOfMemory, ◌or◌};
 ghost use Rattle.jsonb_doc.specs.declared.error.Error.TheVariants.{OutOfMemory, TooLarge};
-ghost use Rattle.jsonb.specs.FoundItems.{AreItemsOf};
+ghost use Rattle.jsonb.specs.FoundItems.{IsItemOf};
 ghost use Rattle.jsonb.specs.PathViews.{path_view};
 ghost use Rattle.jsonb.specs.SelectionErrors.{IsDocumentError};
-ghost use Rattle.jsonb.specs.SelectorAnswers.{ByMeanings};
+ghost use Rattle.jsonb.specs.SelectorAnswers.{ByMeanings, AreAll};
 ghost use Rattle.jsonb_c.specs.Answers.{DeliversNothing, WritesResult, Delivers};
 ghost use Rattle.jsonb_c.specs.Calls.{mode_of};
 ghost use Rattle.jsonb_c.specs.Items.{IsNextOf, LeavesItems, items_left};
@@ -37,7 +37,7 @@ pub extern "C" fn jdoc_path_items(
 ) -> u32
     ensures kept { path.new.value ≡ path.old.value }
     ensures items { MatchOption (json_steps path.old.value) ((items.new.value ≡ None) × (result ≡ code NoPath))
-        (λ steps. WritesResult (ByMeanings (mode_of strict) document.now steps (AreItemsOf document.now))
+        (λ steps. WritesResult (ByMeanings (mode_of strict) document.now steps (AreAll (IsItemOf document.now)))
         (IsDocumentError (mode_of strict)) (λ answer. MatchResult answer
         (λ found. (result ≡ code Answered) × (items_left items.new.value ≡ Some found.items))
         (λ e. (result ≡ status_of e) × (items.new.value ≡ None)))) }
@@ -58,7 +58,7 @@ fn items_of(
     strict: bool,
 ) -> Result<Box<PreparedPath>, Status>
     ensures { MatchOption (json_steps (Some path.now)) (result ≡ Err NoPath)
-        (λ steps. WritesResult (ByMeanings (mode_of strict) document.now steps (AreItemsOf document.now))
+        (λ steps. WritesResult (ByMeanings (mode_of strict) document.now steps (AreAll (IsItemOf document.now)))
         (IsDocumentError (mode_of strict)) (λ answer. HoldsItems answer result)) }
 {
     match path.json() {
@@ -73,7 +73,8 @@ fn boxed_items(
     document: &[u8],
     strict: bool,
 ) -> Result<Box<PreparedPath>, Status>
-    ensures { WritesResult (ByMeanings (mode_of strict) document.now (path_view path.now) (AreItemsOf document.now))
+    ensures { WritesResult
+        (ByMeanings (mode_of strict) document.now (path_view path.now) (AreAll (IsItemOf document.now)))
         (IsDocumentError (mode_of strict)) (λ answer. HoldsItems answer result) }
 {
     let found = selector(alloc, document, strict).find_values(path)?;

@@ -1,6 +1,8 @@
 -- What surrounds a node of an expression that is being copied, the outermost first.
-use Rattle.std.specs.Prelude.{ℕ, ◌+◌, Bool, false, ◌||◌, List, [], ◌∷◌, ◌++◌}
+use Rattle.std.specs.Prelude.{◌≡◌, ◌⊎◌, ℕ, ◌+◌, Bool, true, false, ◌||◌, List, [], ◌∷◌, ◌++◌}
 use Rattle.std.specs.Slice.Iter.{iter_rest}
+use Rattle.jsonb_doc.specs.declared.error.Error.{Error}
+use Rattle.jsonb_doc.specs.declared.error.Error.TheVariants.{OutOfMemory, InvalidJsonPath}
 use Rattle.jsonb.specs.PathDocuments.{step_has_document, expression_has_document, has_document}
 use Rattle.jsonb.specs.PathTree.{Step, filter, whole_expression, Steps, Expression, paths, value, binary, unary, exists, steps_of}
 use Rattle.jsonb.specs.PathViews.{literal_view, step_view, steps_view, expression_view}
@@ -22,6 +24,10 @@ use Rattle.jsonb.specs.declared.path.copying.StepCopy.TheVariants as step_copy
 use Rattle.jsonb.specs.declared.path.copying.StepsKind.{StepsKind}
 use Rattle.jsonb.specs.declared.path.copying.StepsKind.TheVariants as kind
 use Rattle.jsonb.specs.declared.path.copying.StepsSoFar.{StepsSoFar}
+
+-- holds if an allocation failed, or there is a document, which cannot be owned
+abbrev pub IsOwningError : Bool → Error → Type 0
+IsOwningError has_document e = (e ≡ OutOfMemory) ⊎ ((e ≡ InvalidJsonPath) × (has_document ≡ true))
 
 -- ---- steps, the first ones copied
 

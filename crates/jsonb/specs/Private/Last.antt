@@ -3,7 +3,7 @@
 use Rattle.std.specs.Prelude.{ℕ, List, [], ◌++◌, Bool, true, false, ◌&&◌, ◌||◌, Option, Some, None, codes, if◌then◌else◌}
 use Rattle.jsonb.specs.PathText.{operator_text, sign_text, literal_text, step_text, steps_text, expression_text}
 use Rattle.jsonb.specs.PathTree.{Step, filter, whole_expression, Steps, no_steps, step, Expression, paths, value, binary, unary, exists}
-use Rattle.jsonb.specs.SamePath.{is_same_operator, is_same_sign, is_same_literal, is_same_step, are_same_steps, is_same_expression}
+use Rattle.jsonb.specs.Private.SamePath.{is_same_operator, is_same_sign, is_same_literal, is_same_step, are_same_steps, is_same_expression}
 use Rattle.jsonb.specs.Private.ChainText.{parenthesis}
 
 -- ---- lists of steps

@@ -13,7 +13,7 @@ use Rattle.jsonb_doc.specs.Number.{number_cmp}
 use Rattle.jsonb.specs.Compare.{value_order}
 use Rattle.jsonb.specs.PathEquality.{literal_order, SameLiteral}
 use Rattle.jsonb.specs.PathTree.{Literal}
-use Rattle.jsonb.specs.SamePath.{is_same_literal}
+use Rattle.jsonb.specs.Private.SamePath.{is_same_literal}
 use Rattle.jsonb.specs.Values.{Value, null, boolean, number, text, container, literal_value}
 
 abbrev value_equal : Value → Value → Bool

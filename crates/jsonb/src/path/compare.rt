@@ -8,7 +8,7 @@ ghost use Rattle.jsonb.specs.Private.Last.{is_same_opening, are_same_before, is_
 ghost use Rattle.jsonb.specs.PathViews.{step_view, steps_view, expression_view, literal_view};
 ghost use Rattle.jsonb.specs.Proofs.PathOrder.{literal_order_laws, is_same_literal_laws};
 ghost use Rattle.jsonb.specs.Proofs.SamePath.{is_same_step_laws, is_same_expression_laws};
-ghost use Rattle.jsonb.specs.SamePath.{is_same_step, are_same_steps, is_same_expression, is_same_literal, path_value_order};
+ghost use Rattle.jsonb.specs.Private.SamePath.{is_same_step, are_same_steps, is_same_expression, is_same_literal, path_value_order};
 
 use super::last::{is_filter, last_of};
 use super::{Expr, Path, PathValue};

@@ -3,10 +3,10 @@
 ghost use Rattle.std.specs.Prelude.{◌≡◌, [], ◌∷◌, ◌++◌, Some, codes, map, flat_map};
 ghost use Rattle.std.specs.Fmt.{WritesOnOk};
 ghost use Rattle.hex.specs.Hex.{encode_lower};
-ghost use Rattle.jsonb.specs.PathText.{offset_text, place_text, entry_text, entries_text, level_text, operator_text, sign_text, literal_text, needs_parentheses, side_text, step_text, steps_text, expression_text, path_text};
+ghost use Rattle.jsonb.specs.PathText.{offset_text, place_text, entry_text, level_text, operator_text, sign_text, literal_text, needs_parentheses, side_text, step_text, steps_text, expression_text, path_text};
 ghost use Rattle.jsonb.specs.PathTree.{steps_of};
 ghost use Rattle.jsonb.specs.Private.ChainText.{parenthesis, front_text, fronts_text, link_text, links_text};
-ghost use Rattle.jsonb.specs.Private.EntriesText.{other_entry_text};
+ghost use Rattle.jsonb.specs.Private.EntriesText.{entries_text, other_entry_text};
 ghost use Rattle.jsonb.specs.Private.Last.{down, step_before, steps_before, text_before, between_text, closing};
 ghost use Rattle.jsonb.specs.PathViews.{literal_view, step_view, steps_view, expression_view, path_view};
 

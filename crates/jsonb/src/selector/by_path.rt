@@ -4,6 +4,7 @@ ghost use Rattle.std.specs.Prelude.{◌≡◌, ℕ, true, false, List, None, Ok,
 ghost use Rattle.jsonb_raw.specs.Documents.{raw_bytes};
 ghost use Rattle.jsonb.specs.PathTree.{is_predicate};
 ghost use Rattle.jsonb.specs.PathViews.{path_view};
+ghost use Rattle.jsonb_doc.specs.Format.{Decodes};
 ghost use Rattle.jsonb_doc.specs.Readable.{HasReadableRoot};
 ghost use Rattle.jsonb.specs.SelectionErrors.{IsSelectionError, IsDocumentError};
 ghost use Rattle.jsonb.specs.SelectorAnswers.{first_item, single_or_array, ByMeanings, AreAll, IsArrayOf, IsPicked, IsFound, IsTruthOf};
@@ -37,7 +38,7 @@ pub trait SelectByPath<'a> {
     /// let numbers = fred.select_by_path(alloc, &home)?; // one document for each match
     /// ```
     fn select_by_path(&self, alloc: Global, path: &JsonPath<'_>) -> Result<Vec<OwnedJsonb>, Error>
-        ensures values { ByMeanings Lax (document self.now) (path_view path.now) AreAll result }
+        ensures values { ByMeanings Lax (document self.now) (path_view path.now) (AreAll Decodes) result }
         ensures errors { IfErr result (IsDocumentError Lax) }
         ensures readable { OnOk result (HasReadableRoot (document self.now)) };
 

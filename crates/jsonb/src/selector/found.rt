@@ -53,7 +53,7 @@ impl FoundItem {
     /// ```
     pub fn to_document(&self, alloc: Global, document: &RawJsonb<'_>) -> Result<OwnedJsonb, Error>
         ensures document { (form : Form) (top t : Tree) → Decodes form (raw_bytes document.now) top
-            → IsItemOf form (raw_bytes document.now) self.now t → Makes form t result }
+            → IsItemOf (raw_bytes document.now) form self.now t → Makes form t result }
         ensures errors { IfErr result (IsDecodingError or OutOfMemory or TooLarge) }
     {
         match self {
@@ -74,7 +74,7 @@ pub(crate) fn found_items(
     selected: &Selected<'_>,
 ) -> Result<Vec<FoundItem>, Error>
     ensures items { OfSelected document.entry selected.now (λ form ts.
-        Refines (λ v us. AllZip (IsItemOf form document.entry.bytes.now) v.items us)
+        Refines (λ v us. AllZip (IsItemOf document.entry.bytes.now form) v.items us)
         (IsOutOfMemory or TooLarge when Any (IsTooLarge form) ts) result (Ok ts)) }
     ensures errors { IfErr result (IsDecodingError or OutOfMemory or TooLarge) }
 {
@@ -110,7 +110,7 @@ fn found_numbers(alloc: Global, numbers: &[Number]) -> Result<Vec<FoundItem>, Er
 /// Returns the result of an expression as the only item.
 fn found_result(alloc: Global, part: &MadeItem<'_>) -> Result<Vec<FoundItem>, Error>
     ensures items { (form : Form) (bytes : List ℕ) (t : Tree) → IsMadeItem form part.now t
-        → Refines (λ v us. AllZip (IsItemOf form bytes) v.items us)
+        → Refines (λ v us. AllZip (IsItemOf bytes form) v.items us)
         (IsOutOfMemory or TooLarge when Any (IsTooLarge form) (t ∷ [])) result (Ok (t ∷ [])) }
     ensures errors { IfErr result (IsOutOfMemory or TooLarge) }
 {

@@ -75,7 +75,7 @@ impl<'a> LimitedSelector<'a> {
     ghost use Rattle.jsonb_doc.specs.Tree.{Tree};
     ghost use Rattle.jsonb_doc.specs.declared.error.Error.TheVariants as error;
     ghost use Rattle.jsonb_raw.specs.Documents.{raw_bytes};
-    ghost use Rattle.jsonb.specs.LimitedAnswers.{limited_bytes, limited_mode, size_of, limit_of, bound_of, UnlessExceeded, IsRefusal, IsLimited};
+    ghost use Rattle.jsonb.specs.LimitedAnswers.{bound_of, UnlessExceeded, IsRefusal, IsLimited};
     ghost use Rattle.jsonb.specs.MostItems.{document_size};
     ghost use Rattle.jsonb.specs.PathTree.{is_predicate};
     ghost use Rattle.jsonb.specs.PathViews.{path_view};
@@ -102,9 +102,9 @@ impl<'a> LimitedSelector<'a> {
     /// ```
     pub fn new(alloc: Global, root: RawJsonb<'a>, limit: u64) -> Result<LimitedSelector<'a>, Error>
         ensures made { (form : Form) (top : Tree) → Decodes form (raw_bytes root.entry) top
-            → IsOkAnd result (λ s. size_of s ≡ document_size (raw_bytes root.entry) top) }
-        ensures ok { IfOk result (λ s. (limited_bytes s ≡ raw_bytes root.entry) × (limited_mode s ≡ Lax)
-            × (limit_of s ≡ limit)) }
+            → IsOkAnd result (λ s. s.size ≡ document_size (raw_bytes root.entry) top) }
+        ensures ok { IfOk result (λ s. (root_bytes s.selector ≡ raw_bytes root.entry) × (mode_of s.selector ≡ Lax)
+            × (s.limit ≡ limit)) }
         ensures unsupported { IsErrOf result error.UnsupportedNumber ↔ IsUnsupportedDocument (raw_bytes root.entry) }
         ensures invalid { IsErrOf result error.InvalidJsonb ↔ IsNoDocument (raw_bytes root.entry) }
     {
@@ -139,9 +139,9 @@ impl<'a> LimitedSelector<'a> {
         limit: u64,
     ) -> Result<LimitedSelector<'a>, Error>
         ensures made { (form : Form) (top : Tree) → Decodes form (raw_bytes root.entry) top
-            → IsOkAnd result (λ s. size_of s ≡ document_size (raw_bytes root.entry) top) }
-        ensures ok { IfOk result (λ s. (limited_bytes s ≡ raw_bytes root.entry) × (limited_mode s ≡ Strict)
-            × (limit_of s ≡ limit)) }
+            → IsOkAnd result (λ s. s.size ≡ document_size (raw_bytes root.entry) top) }
+        ensures ok { IfOk result (λ s. (root_bytes s.selector ≡ raw_bytes root.entry) × (mode_of s.selector ≡ Strict)
+            × (s.limit ≡ limit)) }
         ensures unsupported { IsErrOf result error.UnsupportedNumber ↔ IsUnsupportedDocument (raw_bytes root.entry) }
         ensures invalid { IsErrOf result error.InvalidJsonb ↔ IsNoDocument (raw_bytes root.entry) }
     {
@@ -190,8 +190,8 @@ impl<'a> LimitedSelector<'a> {
 
     /// Fails if the bound of a path is above the limit.
     fn admit(&self, path: &JsonPath<'_>) -> Result<(), LimitError>
-        ensures exceeded { IsErrOf result LimitExceeded → limit_of self.now < bound_of self.now (path_view path.now) }
-        ensures within { OnOk result (bound_of self.now (path_view path.now) ≤ limit_of self.now) }
+        ensures exceeded { IsErrOf result LimitExceeded → self.now.limit < bound_of self.now (path_view path.now) }
+        ensures within { OnOk result (bound_of self.now (path_view path.now) ≤ self.now.limit) }
         ensures errors { IfErr result IsRefusal }
     {
         match self.most_items(path) {
@@ -223,10 +223,10 @@ impl<'a> LimitedSelector<'a> {
     /// ```
     pub fn select_values(&mut self, path: &JsonPath<'_>) -> Result<Vec<OwnedJsonb>, LimitError>
         ensures limited { IsLimited self.old self.new (path_view path.now) result }
-        ensures values { UnlessExceeded (ByMeanings (limited_mode self.old) (limited_bytes self.old)
-            (path_view path.now) AreAll) result }
-        ensures errors { UnlessExceeded (λ answer. IfErr answer (IsDocumentError (limited_mode self.old))) result }
-        ensures readable { OnOk result (HasReadableRoot (limited_bytes self.old)) }
+        ensures values { UnlessExceeded (ByMeanings (mode_of self.old.selector) (root_bytes self.old.selector)
+            (path_view path.now) (AreAll Decodes)) result }
+        ensures errors { UnlessExceeded (λ answer. IfErr answer (IsDocumentError (mode_of self.old.selector))) result }
+        ensures readable { OnOk result (HasReadableRoot (root_bytes self.old.selector)) }
     {
         self.admit(path)?;
         lifted(self.selector.select_values(path))
@@ -249,10 +249,10 @@ impl<'a> LimitedSelector<'a> {
     /// ```
     pub fn select_array(&mut self, path: &JsonPath<'_>) -> Result<OwnedJsonb, LimitError>
         ensures limited { IsLimited self.old self.new (path_view path.now) result }
-        ensures array { UnlessExceeded (ByMeanings (limited_mode self.old) (limited_bytes self.old) (path_view path.now)
-            IsArrayOf) result }
-        ensures errors { UnlessExceeded (λ answer. IfErr answer (IsDocumentError (limited_mode self.old))) result }
-        ensures readable { OnOk result (HasReadableRoot (limited_bytes self.old)) }
+        ensures array { UnlessExceeded (ByMeanings (mode_of self.old.selector) (root_bytes self.old.selector)
+            (path_view path.now) IsArrayOf) result }
+        ensures errors { UnlessExceeded (λ answer. IfErr answer (IsDocumentError (mode_of self.old.selector))) result }
+        ensures readable { OnOk result (HasReadableRoot (root_bytes self.old.selector)) }
     {
         self.admit(path)?;
         lifted(self.selector.select_array(path))
@@ -275,10 +275,10 @@ impl<'a> LimitedSelector<'a> {
     /// ```
     pub fn select_first(&mut self, path: &JsonPath<'_>) -> Result<Option<OwnedJsonb>, LimitError>
         ensures limited { IsLimited self.old self.new (path_view path.now) result }
-        ensures first { UnlessExceeded (ByMeanings (limited_mode self.old) (limited_bytes self.old) (path_view path.now)
-            (IsPicked first_item)) result }
-        ensures errors { UnlessExceeded (λ answer. IfErr answer (IsDocumentError (limited_mode self.old))) result }
-        ensures readable { OnOk result (HasReadableRoot (limited_bytes self.old)) }
+        ensures first { UnlessExceeded (ByMeanings (mode_of self.old.selector) (root_bytes self.old.selector)
+            (path_view path.now) (IsPicked first_item)) result }
+        ensures errors { UnlessExceeded (λ answer. IfErr answer (IsDocumentError (mode_of self.old.selector))) result }
+        ensures readable { OnOk result (HasReadableRoot (root_bytes self.old.selector)) }
     {
         self.admit(path)?;
         lifted(self.selector.select_first(path))
@@ -301,10 +301,10 @@ impl<'a> LimitedSelector<'a> {
     /// ```
     pub fn select_value(&mut self, path: &JsonPath<'_>) -> Result<Option<OwnedJsonb>, LimitError>
         ensures limited { IsLimited self.old self.new (path_view path.now) result }
-        ensures value { UnlessExceeded (ByMeanings (limited_mode self.old) (limited_bytes self.old) (path_view path.now)
-            (IsPicked single_or_array)) result }
-        ensures errors { UnlessExceeded (λ answer. IfErr answer (IsDocumentError (limited_mode self.old))) result }
-        ensures readable { OnOk result (HasReadableRoot (limited_bytes self.old)) }
+        ensures value { UnlessExceeded (ByMeanings (mode_of self.old.selector) (root_bytes self.old.selector)
+            (path_view path.now) (IsPicked single_or_array)) result }
+        ensures errors { UnlessExceeded (λ answer. IfErr answer (IsDocumentError (mode_of self.old.selector))) result }
+        ensures readable { OnOk result (HasReadableRoot (root_bytes self.old.selector)) }
     {
         self.admit(path)?;
         lifted(self.selector.select_value(path))
@@ -327,10 +327,10 @@ impl<'a> LimitedSelector<'a> {
     /// ```
     pub fn exists(&mut self, path: &JsonPath<'_>) -> Result<bool, LimitError>
         ensures limited { IsLimited self.old self.new (path_view path.now) result }
-        ensures exists { UnlessExceeded (ByMeanings (limited_mode self.old) (limited_bytes self.old)
+        ensures exists { UnlessExceeded (ByMeanings (mode_of self.old.selector) (root_bytes self.old.selector)
             (path_view path.now) IsFound) result }
-        ensures errors { UnlessExceeded (λ answer. IfErr answer (IsSelectionError (limited_mode self.old))) result }
-        ensures readable { OnOk result (HasReadableRoot (limited_bytes self.old)) }
+        ensures errors { UnlessExceeded (λ answer. IfErr answer (IsSelectionError (mode_of self.old.selector))) result }
+        ensures readable { OnOk result (HasReadableRoot (root_bytes self.old.selector)) }
     {
         self.admit(path)?;
         lifted(self.selector.exists(path))
@@ -358,10 +358,10 @@ impl<'a> LimitedSelector<'a> {
             → IsLimited self.old self.new (path_view path.now) result }
         ensures other { is_predicate (path_view path.now) ≡ false → (result ≡ Ok None) × (self.new ≡ self.old) }
         ensures truth { UnlessExceeded
-            (IsTruthOf (limited_mode self.old) (path_view path.now) (limited_bytes self.old)) result }
-        ensures errors { UnlessExceeded (λ answer. IfErr answer (IsSelectionError (limited_mode self.old))) result }
+            (IsTruthOf (mode_of self.old.selector) (path_view path.now) (root_bytes self.old.selector)) result }
+        ensures errors { UnlessExceeded (λ answer. IfErr answer (IsSelectionError (mode_of self.old.selector))) result }
         ensures readable { is_predicate (path_view path.now) ≡ true
-            → OnOk result (HasReadableRoot (limited_bytes self.old)) }
+            → OnOk result (HasReadableRoot (root_bytes self.old.selector)) }
     {
         if path.is_predicate() {
             self.admit(path)?;

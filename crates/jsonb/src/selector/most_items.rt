@@ -1,8 +1,9 @@
 //! A bound on the items that the evaluation of a path lists and compares, computed before it.
 
 ghost use Rattle.std.specs.Prelude.{◌≡◌, length, map, IfOk, IfErr};
+ghost use Rattle.std.specs.List.{list_all};
 ghost use Rattle.jsonb_doc.specs.Answer.{IsOutOfMemory};
-ghost use Rattle.jsonb.specs.MostItems.{root_list, is_single, all_single, after, after_steps, start_list, most_values, most_pairs, most_items, picked_list};
+ghost use Rattle.jsonb.specs.MostItems.{root_list, is_single, after, after_steps, start_list, most_values, most_pairs, most_items, picked_list};
 ghost use Rattle.jsonb.specs.PathTree.{steps_of};
 ghost use Rattle.jsonb.specs.PathViews.{step_view, steps_view, expression_view};
 
@@ -280,7 +281,7 @@ fn after(size: DocumentSize, step: &Path<'_>, list: ListBound) -> ListBound
 /// Returns the list of the elements at the positions of subscripts.
 fn picked_list(entries: &[ArrayIndex], list: ListBound) -> ListBound
     ensures { result
-        ≡ picked_list (all_single entries.now) (length entries.now) list }
+        ≡ picked_list (list_all is_single entries.now) (length entries.now) list }
 {
     let count = entries.len() as u64;
     let below = list.below.saturating_mul(count);
@@ -294,7 +295,7 @@ fn picked_list(entries: &[ArrayIndex], list: ListBound) -> ListBound
 
 /// Returns `true` if each subscript is a single position.
 fn all_single(entries: &[ArrayIndex]) -> bool
-    ensures { result ≡ all_single entries.now }
+    ensures { result ≡ list_all is_single entries.now }
 {
     for entry in entries {
         if !is_single(entry) {

@@ -94,7 +94,7 @@ fn front_span(
 /// Returns the span of an item, if it is in the document.
 fn item_span(document: &[u8], item: &FoundItem) -> Result<FirstItem<Span>, Error>
     ensures span { (form : Form) (top t : Tree) → Decodes form document.now top
-        → IsItemOf form document.now item.now t
+        → IsItemOf document.now form item.now t
         → IsOkAnd result (λ found. IsFirstItem (IsSpanOf form document.now) (is_computed item.now) found t) }
     ensures within { IfOk result (IsFirstWithin document.now) }
     ensures errors { IfErr result IsDecodingError }

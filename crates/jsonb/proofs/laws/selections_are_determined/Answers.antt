@@ -38,7 +38,7 @@ maybe_document (Some t) (Some x) None h k all all' = elim k [ ]
 maybe_document (Some t) (Some x) (Some y) h k all all' = ap Some (one_document t x y h k all all')
 
 all : (meaning : Outcome (List Tree)) (r s : Result (Vec OwnedJsonb Global) Error)
-    → AreAll canonical meaning r → AreAll canonical meaning s
+    → AreAll Decodes canonical meaning r → AreAll Decodes canonical meaning s
     → IfOk r (λ made. IfOk s (λ other. AllByRecursion AreBytes made.items → AllByRecursion AreBytes other.items
     → other.items ≡ made.items))
 all (Ok ts) (Ok made) (Ok other) h k = each_document ts made.items other.items h.ok k.ok

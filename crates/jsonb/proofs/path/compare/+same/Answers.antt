@@ -4,7 +4,7 @@ use Rattle.std.proofs.lemmas.List.{nil_from_length}
 use Rattle.jsonb.specs.PathTree.{steps_of}
 use Rattle.jsonb.specs.PathViews.{step_view, steps_view, expression_view, literal_view}
 use Rattle.jsonb.specs.Private.Parts.{step_parts}
-use Rattle.jsonb.specs.SamePath.{is_same_step, is_same_literal}
+use Rattle.jsonb.specs.Private.SamePath.{is_same_step, is_same_literal}
 use Rattle.jsonb.specs.Private.Last.{is_same_opening, are_same_before, is_same_before}
 use Rattle.jsonb.proofs.EqualParts.{entries-is}
 use Rattle.jsonb.proofs.EqualSteps.{other_than_levels, other_than_dot_field, other_than_colon_field, other_than_object_field, other_than_indices, other_than_filter, other_than_whole}

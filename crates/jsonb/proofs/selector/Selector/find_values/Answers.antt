@@ -11,7 +11,7 @@ use Rattle.jsonb.proofs.selector.Selector.find_values.Goals as goal
 pub returns-in_err-document-clause-items : goal.returns-in_err-document-clause-items
 returns-in_err-document-clause-items c = λ form top outcome d m.
     let p = err_from_is_err_and c.from_residual.result c.from_residual.ensures.1 in
-    handed_error (λ v ts. AllZip (IsItemOf form (root_bytes c.args.self.now)) v.items ts) (Any (IsTooLarge form)) (p.1 ∙ ap Err p.2)
+    handed_error (λ v ts. AllZip (IsItemOf (root_bytes c.args.self.now) form) v.items ts) (Any (IsTooLarge form)) (p.1 ∙ ap Err p.2)
     (c.in_err-document.ensures.meant form top outcome d m)
 
 pub returns-clause-items : goal.returns-clause-items

@@ -1,6 +1,7 @@
 use Rattle.std.proofs.Common.{◌≡◌, drop, map}
-use Rattle.jsonb.specs.MostItems.{all_single}
+use Rattle.std.specs.List.{list_all}
+use Rattle.jsonb.specs.MostItems.{is_single}
 use Rattle.jsonb.proofs.selector.most_items.all_single.Given as goal
 
 abbrev pub invariant-loop-entry : goal.invariant-loop-entry
-invariant-loop-entry l = all_single l.entries ≡ all_single (drop l.entry-index l.entries)
+invariant-loop-entry l = list_all is_single l.entries ≡ list_all is_single (drop l.entry-index l.entries)
