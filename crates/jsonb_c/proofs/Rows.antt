@@ -1,5 +1,5 @@
 -- Rows: how many there are, and one more of what is done.
-use Rattle.std.proofs.Common.{◌≡◌, ◌+◌, ◌-◌, ◌<◌, ◌≤◌, ◌++◌, ℕ, zero, suc, Bool, true, false, List, [], ◌∷◌, map, flat_map, take, drop, length, set, get_or, Option, Some, refl, ap, sym, subst, append_assoc, append-nil, add-one, ◌∙◌, arith}
+use Rattle.std.proofs.Common.{◌≡◌, ◌+◌, ◌-◌, ◌<◌, ◌≤◌, ◌++◌, ℕ, zero, suc, Bool, true, false, List, [], ◌∷◌, map, flat_map, take, drop, length, set, get_or, Option, Some, None, Ok, Err, refl, ap, sym, subst, append_assoc, append-nil, add-one, ◌∙◌, arith}
 use Rattle.std.specs.Prelude.{slice_get}
 use Rattle.std.proofs.lemmas.List.{map-append, length-append, length-map, length-drop}
 use Rattle.std.proofs.lemmas.Grind.{flat_map-append}
@@ -7,9 +7,9 @@ use Rattle.std.proofs.Math.Seq.{take-append_seam}
 use Rattle.std.specs.List.{AllZip}
 use Rattle.jsonb_c.specs.Status.{code}
 use Rattle.jsonb_c.specs.declared.status.Status.TheVariants.{BufferTooSmall}
-use Rattle.jsonb_c.specs.Answers.{Found, IsWritten}
-use Rattle.jsonb_c.specs.Private.Buffers.{Places}
-use Rattle.jsonb_c.specs.Columns.{Cell, IsCell, BytesRoom, row, rows, positions_from, cell_value, cell_bytes, cell_status, LacksRoom, DoneRows, AreJoined}
+use Rattle.jsonb_c.specs.Answers.{IsWritten}
+use Rattle.jsonb_c.specs.Private.Buffers.{Cell, Places, ShowsCell, cell_bytes, cell_status, cell_value}
+use Rattle.jsonb_c.specs.Columns.{IsRow, BytesRoom, row, rows, positions_from, LacksRoom, DoneRows, AreJoined}
 use Rattle.jsonb_c.specs.declared.column.join.Progress.{Progress}
 
 -- ---- rows
@@ -77,50 +77,71 @@ related_more R (a ∷ xs) (b ∷ ys) x y h here = (h.0, related_more R xs ys x y
 related_more R [] (b ∷ ys) x y h here = absurd h
 related_more R (a ∷ xs) [] x y h here = absurd h
 
-are_more : {A : Type 0} (IsAnswerTo : List ℕ → Found A → Type 0) (column : List (Option (List ℕ))) (cells : List (Cell A))
-    (document : Option (List ℕ)) (cell : Cell A) (i : ℕ)
-    → length cells ≡ i → slice_get column i ≡ Some document → AllZip (IsCell IsAnswerTo) (take (length cells) column) cells
-    → IsCell IsAnswerTo document cell → AllZip (IsCell IsAnswerTo) (take (length (cells ++ cell ∷ [])) column) (cells ++ cell ∷ [])
-are_more IsAnswerTo column cells document cell i is at all here =
-    let all' : AllZip (IsCell IsAnswerTo) (take i column) cells = rw (← is) all in
-    rw (length_more cells cell, is, take_one_more column i document at) (related_more (IsCell IsAnswerTo) _ cells document cell all' here)
+-- what is written for a row by a call that has this result
+abbrev pub Wrote : {A : Type 0} → (List ℕ → A → A → ℕ → Type 0) → Option (List ℕ) → Cell A → Type 0
+Wrote {A} Writes document cell = (old new : A) (status : ℕ) → ShowsCell cell old new status → IsRow Writes old document (new, status)
 
-count_more : {A : Type 0} (cells : List A) (cell : A) (i : ℕ) → length cells ≡ i → length (cells ++ cell ∷ []) ≡ i + 1
-count_more cells cell i is = let e = length_more cells cell in omega (arith, e, is)
+shows_cell : {A : Type 0} (cell : Cell A) (other : A) → ShowsCell cell other (cell_value other cell) (cell_status cell)
+shows_cell None other = (refl, refl)
+shows_cell (Some (Ok (Some x))) other = (refl, refl)
+shows_cell (Some (Ok None)) other = (refl, refl)
+shows_cell (Some (Err e)) other = (refl, refl)
+
+is_row : {A : Type 0} (Writes : List ℕ → A → A → ℕ → Type 0) (other : A) (document : Option (List ℕ)) (cell : Cell A)
+    → Wrote Writes document cell → IsRow Writes other document (cell_value other cell, cell_status cell)
+is_row Writes other document cell wrote = wrote other (cell_value other cell) (cell_status cell) (shows_cell cell other)
+
+are_more : {A : Type 0} (Writes : List ℕ → A → A → ℕ → Type 0) (other : A) (column : List (Option (List ℕ))) (made : List (A × ℕ))
+    (document : Option (List ℕ)) (m : A × ℕ) (i : ℕ)
+    → length made ≡ i → slice_get column i ≡ Some document → AllZip (IsRow Writes other) (take (length made) column) made
+    → IsRow Writes other document m → AllZip (IsRow Writes other) (take (length (made ++ m ∷ [])) column) (made ++ m ∷ [])
+are_more Writes other column made document m i is at all here =
+    let all' : AllZip (IsRow Writes other) (take i column) made = rw (← is) all in
+    rw (length_more made m, is, take_one_more column i document at) (related_more (IsRow Writes other) _ made document m all' here)
+
+count_more : {A : Type 0} (made : List A) (m : A) (i : ℕ) → length made ≡ i → length (made ++ m ∷ []) ≡ i + 1
+count_more made m i is = let e = length_more made m in omega (arith, e, is)
 
 -- ---- a status a row, and a value
 
--- the statuses of the cells are written
-abbrev pub AreChecked : {A : Type 0} → List ℕ → List ℕ → List (Cell A) → Type 0
-AreChecked old new cells = IsWritten (map cell_status cells) old new
+-- the statuses are written
+abbrev pub AreChecked : {A : Type 0} → List ℕ → List ℕ → List (A × ℕ) → Type 0
+AreChecked old new made = IsWritten (map (λ m. m.1) made) old new
 
--- the values and statuses of the cells are written
-abbrev pub AreFilled : {A : Type 0} → A → List A × List ℕ → List A × List ℕ → List (Cell A) → Type 0
-AreFilled other old new cells = IsWritten (map (cell_value other) cells) old.0 new.0 × IsWritten (map cell_status cells) old.1 new.1
+-- the rows are checked, whatever value they would have
+abbrev pub CheckedRows : {A : Type 0} → (List ℕ → A → A → ℕ → Type 0) → List (Option (List ℕ)) → ℕ → List ℕ → List ℕ → Type 0
+CheckedRows {A} Writes column done old new = (other : A) → DoneRows Writes other column done (AreChecked old new)
 
-pub checked_more : {A : Type 0} (IsAnswerTo : List ℕ → Found A → Type 0) (column : List (Option (List ℕ))) (old_statuses statuses : List ℕ)
-    (i : ℕ) (document : Option (List ℕ)) (cell : Cell A) → slice_get column i ≡ Some document → i < length old_statuses
-    → DoneRows IsAnswerTo column i (AreChecked old_statuses statuses) → IsCell IsAnswerTo document cell
-    → DoneRows IsAnswerTo column (i + 1) (AreChecked old_statuses (set statuses i (cell_status cell)))
-checked_more IsAnswerTo column old_statuses statuses i document cell at lt m here = record {
-  cells = m.cells ++ cell ∷ [];
-  count = count_more m.cells cell i m.count;
-  answers = are_more IsAnswerTo column m.cells document cell i m.count at m.answers here;
-  written = mapped_more cell_status m.cells old_statuses statuses cell i m.count lt m.written;
+-- the values and statuses are written
+abbrev pub AreFilled : {A : Type 0} → List A × List ℕ → List A × List ℕ → List (A × ℕ) → Type 0
+AreFilled old new made = IsWritten (map (λ m. m.0) made) old.0 new.0 × IsWritten (map (λ m. m.1) made) old.1 new.1
+
+pub checked_more : {A : Type 0} (Writes : List ℕ → A → A → ℕ → Type 0) (other : A) (column : List (Option (List ℕ)))
+    (old_statuses statuses : List ℕ) (i : ℕ) (document : Option (List ℕ)) (cell : Cell A)
+    → slice_get column i ≡ Some document → i < length old_statuses
+    → DoneRows Writes other column i (AreChecked old_statuses statuses) → Wrote Writes document cell
+    → DoneRows Writes other column (i + 1) (AreChecked old_statuses (set statuses i (cell_status cell)))
+checked_more {A} Writes other column old_statuses statuses i document cell at lt k wrote = record {
+  made = k.made ++ (cell_value other cell, cell_status cell) ∷ [];
+  count = count_more k.made (cell_value other cell, cell_status cell) i k.count;
+  each = are_more Writes other column k.made document (cell_value other cell, cell_status cell) i k.count at k.each
+      (is_row Writes other document cell wrote);
+  written = mapped_more (λ (m : A × ℕ). m.1) k.made old_statuses statuses (cell_value other cell, cell_status cell) i k.count lt k.written;
 }
 
-pub filled_more : {A : Type 0} (IsAnswerTo : List ℕ → Found A → Type 0) (other : A) (column : List (Option (List ℕ))) (old new : List A × List ℕ)
-    (i : ℕ) (document : Option (List ℕ)) (cell : Cell A)
+pub filled_more : {A : Type 0} (Writes : List ℕ → A → A → ℕ → Type 0) (other : A) (column : List (Option (List ℕ)))
+    (old new : List A × List ℕ) (i : ℕ) (document : Option (List ℕ)) (cell : Cell A)
     → slice_get column i ≡ Some document → i < length old.0 → i < length old.1
-    → DoneRows IsAnswerTo column i (AreFilled other old new) → IsCell IsAnswerTo document cell
-    → DoneRows IsAnswerTo column (i + 1) (AreFilled other old (set new.0 i (cell_value other cell), set new.1 i (cell_status cell)))
-filled_more IsAnswerTo other column old new i document cell at lt_values lt_statuses m here = record {
-  cells = m.cells ++ cell ∷ [];
-  count = count_more m.cells cell i m.count;
-  answers = are_more IsAnswerTo column m.cells document cell i m.count at m.answers here;
+    → DoneRows Writes other column i (AreFilled old new) → Wrote Writes document cell
+    → DoneRows Writes other column (i + 1) (AreFilled old (set new.0 i (cell_value other cell), set new.1 i (cell_status cell)))
+filled_more {A} Writes other column old new i document cell at lt_values lt_statuses k wrote = record {
+  made = k.made ++ (cell_value other cell, cell_status cell) ∷ [];
+  count = count_more k.made (cell_value other cell, cell_status cell) i k.count;
+  each = are_more Writes other column k.made document (cell_value other cell, cell_status cell) i k.count at k.each
+      (is_row Writes other document cell wrote);
   written = (
-    mapped_more (cell_value other) m.cells old.0 new.0 cell i m.count lt_values m.written.0,
-    mapped_more cell_status m.cells old.1 new.1 cell i m.count lt_statuses m.written.1,
+    mapped_more (λ (m : A × ℕ). m.0) k.made old.0 new.0 (cell_value other cell, cell_status cell) i k.count lt_values k.written.0,
+    mapped_more (λ (m : A × ℕ). m.1) k.made old.1 new.1 (cell_value other cell, cell_status cell) i k.count lt_statuses k.written.1,
   );
 }
 
@@ -150,47 +171,54 @@ written_behind vs old new made bytes at is le same h =
     let room : length vs + length bytes ≤ length old = omega (arith, len, le, is) in
     (rw (length-append vs bytes) room, rw (same, ← is, h.1) (behind_is vs old bytes room))
 
-flat_more : (cells : List (Cell (List ℕ))) (cell : Cell (List ℕ)) → flat_map cell_bytes (cells ++ cell ∷ []) ≡ flat_map cell_bytes cells ++ cell_bytes cell
-flat_more cells cell = flat_map-append cell_bytes cells (cell ∷ []) ∙ ap (λ zs. flat_map cell_bytes cells ++ zs) (append-nil (cell_bytes cell))
+-- the bytes and the status of a row
+abbrev Made : Type 0
+Made = List ℕ × ℕ
+
+flat_more : (made : List Made) (m : Made) → flat_map (λ (r : Made). r.0) (made ++ m ∷ []) ≡ flat_map (λ (r : Made). r.0) made ++ m.0
+flat_more made m =
+    flat_map-append (λ (r : Made). r.0) made (m ∷ []) ∙ ap (λ zs. flat_map (λ (r : Made). r.0) made ++ zs) (append-nil m.0)
 
 positions_len : (at : ℕ) (rows : List (List ℕ)) → length (positions_from at rows) ≡ suc (length rows)
 positions_len at [] = refl
 positions_len at (row ∷ rows) = ap suc (positions_len (at + length row) rows)
 
-positions_more : (at : ℕ) (cells : List (Cell (List ℕ))) (cell : Cell (List ℕ)) (x : ℕ)
-    → x ≡ at + (length (flat_map cell_bytes cells) + length (cell_bytes cell))
-    → positions_from at (map cell_bytes (cells ++ cell ∷ [])) ≡ positions_from at (map cell_bytes cells) ++ x ∷ []
-positions_more at [] cell x is = ap (λ z. at ∷ z ∷ []) (omega (arith, is))
-positions_more at (d ∷ cells) cell x is =
-    let both = length-append (cell_bytes d) (flat_map cell_bytes cells) in
-    ap (λ zs. at ∷ zs) (positions_more (at + length (cell_bytes d)) cells cell x (omega (arith, is, both)))
+positions_more : (at : ℕ) (made : List Made) (m : Made) (x : ℕ)
+    → x ≡ at + (length (flat_map (λ (r : Made). r.0) made) + length m.0)
+    → positions_from at (map (λ (r : Made). r.0) (made ++ m ∷ [])) ≡ positions_from at (map (λ (r : Made). r.0) made) ++ x ∷ []
+positions_more at [] m x is = ap (λ z. at ∷ z ∷ []) (omega (arith, is))
+positions_more at (d ∷ made) m x is =
+    let both = length-append d.0 (flat_map (λ (r : Made). r.0) made) in
+    ap (λ zs. at ∷ zs) (positions_more (at + length d.0) made m x (omega (arith, is, both)))
 
-pub joined_more : (IsAnswerTo : List ℕ → Found (List ℕ) → Type 0) (column : List (Option (List ℕ))) (old new : BytesRoom)
-    (made bytes : List ℕ) (i at : ℕ) (document : Option (List ℕ)) (cell : Cell (List ℕ))
-    → slice_get column i ≡ Some document → i + 1 < length old.1 → i < length old.2 → DoneRows IsAnswerTo column i (λ cells. AreJoined cells old new at)
-    → IsCell IsAnswerTo document cell → bytes ≡ cell_bytes cell
-    → (at + length bytes ≤ length new.0) × (made ≡ take at new.0 ++ (bytes ++ drop (at + length bytes) new.0))
-    → DoneRows IsAnswerTo column (i + 1)
-    (λ cells. AreJoined cells old (made, set new.1 (i + 1) (at + length bytes), set new.2 i (cell_status cell)) (at + length bytes))
-joined_more IsAnswerTo column old new made bytes i at document cell in_column lt_positions lt_statuses k here is put =
-    let flat = flat_more k.cells cell in
+pub joined_more : (Writes : List ℕ → List ℕ → List ℕ → ℕ → Type 0) (column : List (Option (List ℕ))) (old new : BytesRoom)
+    (written bytes : List ℕ) (i at : ℕ) (document : Option (List ℕ)) (cell : Cell (List ℕ))
+    → slice_get column i ≡ Some document → i + 1 < length old.1 → i < length old.2
+    → DoneRows Writes [] column i (λ made. AreJoined made old new at)
+    → Wrote Writes document cell → bytes ≡ cell_bytes cell
+    → (at + length bytes ≤ length new.0) × (written ≡ take at new.0 ++ (bytes ++ drop (at + length bytes) new.0))
+    → DoneRows Writes [] column (i + 1)
+    (λ made. AreJoined made old (written, set new.1 (i + 1) (at + length bytes), set new.2 i (cell_status cell)) (at + length bytes))
+joined_more Writes column old new written bytes i at document cell in_column lt_positions lt_statuses k wrote is put =
+    let m : Made = (cell_bytes cell, cell_status cell) in
+    let flat = flat_more k.made m in
     let sum = k.written.0 in
-    let same : length bytes ≡ length (cell_bytes cell) = ap length is in
-    let both = length-append (flat_map cell_bytes k.cells) (cell_bytes cell) in
-    let ends_is = positions_more 0 k.cells cell (at + length bytes) (omega (arith, same, sum)) in
-    let len : length (positions_from 0 (map cell_bytes k.cells)) ≡ i + 1 =
-    let e = positions_len 0 (map cell_bytes k.cells) in
-    let m = length-map k.cells cell_bytes in omega (arith, e, m, k.count) in
+    let same : length bytes ≡ length m.0 = ap length is in
+    let both = length-append (flat_map (λ (r : Made). r.0) k.made) m.0 in
+    let ends_is = positions_more 0 k.made m (at + length bytes) (omega (arith, same, sum)) in
+    let len : length (positions_from 0 (map (λ (r : Made). r.0) k.made)) ≡ i + 1 =
+    let e = positions_len 0 (map (λ (r : Made). r.0) k.made) in
+    let n = length-map k.made (λ (r : Made). r.0) in omega (arith, e, n, k.count) in
     record {
-      cells = k.cells ++ cell ∷ [];
-      count = count_more k.cells cell i k.count;
-      answers = are_more IsAnswerTo column k.cells document cell i k.count in_column k.answers here;
+      made = k.made ++ m ∷ [];
+      count = count_more k.made m i k.count;
+      each = are_more Writes [] column k.made document m i k.count in_column k.each (is_row Writes [] document cell wrote);
       written = (
         rw flat (omega (arith, both, same, sum)),
-        rw (flat, ← is) (written_behind (flat_map cell_bytes k.cells) old.0 new.0 made bytes at sum put.0 put.1 k.written.1),
+        rw (flat, ← is) (written_behind (flat_map (λ (r : Made). r.0) k.made) old.0 new.0 written bytes at sum put.0 put.1 k.written.1),
         subst (λ zs. IsWritten zs old.1 (set new.1 (i + 1) (at + length bytes))) (sym ends_is)
-            (written_more (positions_from 0 (map cell_bytes k.cells)) old.1 new.1 (at + length bytes) (i + 1) len lt_positions k.written.2),
-        mapped_more cell_status k.cells old.2 new.2 cell i k.count lt_statuses k.written.3,
+            (written_more (positions_from 0 (map (λ (r : Made). r.0) k.made)) old.1 new.1 (at + length bytes) (i + 1) len lt_positions k.written.2),
+        mapped_more (λ (r : Made). r.1) k.made old.2 new.2 m i k.count lt_statuses k.written.3,
       );
     }
 
@@ -204,11 +232,15 @@ pub not_placed : (bytes : List ℕ) (at : ℕ) (old new : List ℕ) (b : Bool) �
 not_placed bytes at old new true is h = cc
 not_placed bytes at old new false is h = h
 
-pub lacks_room : (IsAnswerTo : List ℕ → Found (List ℕ) → Type 0) (column : List (Option (List ℕ))) (old new : BytesRoom)
+pub lacks_room : (Writes : List ℕ → List ℕ → List ℕ → ℕ → Type 0) (column : List (Option (List ℕ))) (old new : BytesRoom)
     (progress : Progress) (status : ℕ) (document : Option (List ℕ)) (cell : Cell (List ℕ))
-    → slice_get column progress.rows ≡ Some document → DoneRows IsAnswerTo column progress.rows (λ cells. AreJoined cells old new progress.bytes)
-    → IsCell IsAnswerTo document cell → progress.next ≡ length (cell_bytes cell)
-    → length new.0 < progress.bytes + progress.next → status ≡ code BufferTooSmall → LacksRoom IsAnswerTo column (length old.0) progress status
-lacks_room IsAnswerTo column old new progress status document cell in_column k here is no_room too_small =
-    let len = written_len (flat_map cell_bytes k.cells) old.0 new.0 k.written.1 in
-    (too_small, omega (arith, len, no_room), (document, cell, in_column, here, is))
+    → slice_get column progress.rows ≡ Some document
+    → DoneRows Writes [] column progress.rows (λ made. AreJoined made old new progress.bytes)
+    → Wrote Writes document cell → progress.next ≡ length (cell_bytes cell)
+    → length new.0 < progress.bytes + progress.next → status ≡ code BufferTooSmall → LacksRoom Writes column (length old.0) progress status
+lacks_room Writes column old new progress status document cell in_column k wrote is no_room too_small =
+    let len = written_len (flat_map (λ (r : Made). r.0) k.made) old.0 new.0 k.written.1 in (
+      too_small,
+      omega (arith, len, no_room),
+      (document, (cell_bytes cell, cell_status cell), in_column, is_row Writes [] document cell wrote, is),
+    )

@@ -1,10 +1,10 @@
 -- How private functions write to the caller's buffers, and end.
-use Rattle.std.specs.Prelude.{◌≡◌, ◌⊎◌, ◌≤◌, ◌<◌, ◌+◌, ◌++◌, ℕ, Bool, true, false, List, map, take, drop, length, Option, Some, None, Result, Ok, Err}
+use Rattle.std.specs.Prelude.{◌≡◌, ◌⊎◌, ◌≤◌, ◌<◌, ◌+◌, ◌++◌, ℕ, Bool, true, false, List, [], map, take, drop, length, Option, Some, None, Result, Ok, Err}
 use Rattle.jsonb_doc.specs.declared.error.Error.{Error}
-use Rattle.jsonb_c.specs.Answers.{Found, IsWritten}
-use Rattle.jsonb_c.specs.Columns.{Cell, DoneRows, Ends, cell_status}
-use Rattle.jsonb_c.specs.Status.{code}
-use Rattle.jsonb_c.specs.declared.status.Status.TheVariants.{Answered, BufferTooSmall}
+use Rattle.jsonb_c.specs.Answers.{Found, IsWritten, ShowsFound}
+use Rattle.jsonb_c.specs.Columns.{DoneRows, Ends}
+use Rattle.jsonb_c.specs.Status.{code, status_of}
+use Rattle.jsonb_c.specs.declared.status.Status.TheVariants.{Absent, Answered, BadOffsets, BufferTooSmall}
 
 -- the bytes are at an offset in the buffer, which is otherwise unchanged; or they do not fit there, and it is
 -- unchanged
@@ -28,14 +28,37 @@ written_answer (Ok true) bytes = Ok (Some bytes)
 written_answer (Ok false) bytes = Ok None
 written_answer (Err e) bytes = Err e
 
--- the result of a row, and none if the row's offsets are wrong
+-- the result of a row, or `None` if its offsets are wrong
+abbrev pub Cell : Type 0 → Type 0
+Cell A = Option (Found A)
+
+abbrev pub cell_status : {A : Type 0} → Cell A → ℕ
+cell_status None = code BadOffsets
+cell_status (Some (Ok (Some x))) = code Answered
+cell_status (Some (Ok None)) = code Absent
+cell_status (Some (Err e)) = status_of e
+
+-- the value of the row, and another one if it has none
+abbrev pub cell_value : {A : Type 0} → A → Cell A → A
+cell_value other (Some (Ok (Some x))) = x
+cell_value other _ = other
+
+abbrev pub cell_bytes : Cell (List ℕ) → List ℕ
+cell_bytes cell = cell_value [] cell
+
+-- the row's value and status are delivered
+abbrev pub ShowsCell : {A : Type 0} → Cell A → A → A → ℕ → Type 0
+ShowsCell None old new status = (new ≡ old) × (status ≡ code BadOffsets)
+ShowsCell (Some answer) old new status = ShowsFound answer old new status
+
+-- the result of a row whose bytes are in a buffer, or `None` if its offsets are wrong
 abbrev pub written_cell : Option (Result Bool Error) → List ℕ → Cell (List ℕ)
 written_cell None bytes = None
 written_cell (Some answer) bytes = Some (written_answer answer bytes)
 
 -- the statuses of the first rows are written, and nothing after
-abbrev pub ChecksRows : {A : Type 0} → (List ℕ → Found A → Type 0) → List (Option (List ℕ)) → List ℕ → List ℕ → ℕ → ℕ
-    → Type 0
-ChecksRows IsAnswerTo column old_statuses new_statuses done status =
-    DoneRows IsAnswerTo column done (λ cells. IsWritten (map cell_status cells) old_statuses new_statuses)
+abbrev pub ChecksRows : {A : Type 0} → (List ℕ → A → A → ℕ → Type 0) → A → List (Option (List ℕ)) → List ℕ → List ℕ
+    → ℕ → ℕ → Type 0
+ChecksRows Writes other column old_statuses new_statuses done status =
+    DoneRows Writes other column done (λ made. IsWritten (map (λ m. m.1) made) old_statuses new_statuses)
     × Ends (length column) (length old_statuses) done status

@@ -1,8 +1,8 @@
 //! A call on each row, and its result.
 
 ghost use Rattle.std.specs.Prelude.{◌≡◌, ℕ, List, option_copied};
-ghost use Rattle.jsonb_c.specs.Columns.{IsCell, cell_bytes, cell_status, cell_value};
-ghost use Rattle.jsonb_c.specs.Private.Buffers.{EndsAs, written_cell};
+ghost use Rattle.jsonb_c.specs.Columns.{IsRow};
+ghost use Rattle.jsonb_c.specs.Private.Buffers.{EndsAs, ShowsCell, cell_bytes, cell_status, cell_value, written_cell};
 
 use crate::status::Status;
 use jsonb::Error;
@@ -11,13 +11,14 @@ use std::alloc::Global;
 /// A type that is called on each row and returns a value.
 pub(crate) trait RowCall<A> {
     ghost use Rattle.std.specs.Prelude.{ℕ, List};
-    ghost use Rattle.jsonb_c.specs.Answers.{Found};
+    ghost use Rattle.jsonb_c.specs.Answers.{ShowsFound};
 
-    ghost IsAnswerTo: { Self → List ℕ → Found A → Type 0 };
+    ghost Writes: { Self → List ℕ → A → A → ℕ → Type 0 };
 
     /// Returns the result of the call for a row's document.
     fn answer(&self, alloc: Global, document: &[u8]) -> Result<Option<A>, Error>
-        ensures { IsAnswerTo self.now document.now result };
+        ensures { (old new : A) (status : ℕ)
+            → ShowsFound result old new status → Writes self.now document.now old new status };
 }
 
 /// Returns the result of a row, or `None` if its offsets are wrong.
@@ -25,7 +26,8 @@ pub(crate) type Cell<A> = Option<Result<Option<A>, Error>>;
 
 /// Calls on a row.
 pub(crate) fn ask<A, C: RowCall<A>>(alloc: Global, call: &C, row: Option<&[u8]>) -> Cell<A>
-    ensures { IsCell (C.IsAnswerTo call.now) (option_copied row.entry) result }
+    ensures { (old new : A) (status : ℕ)
+        → ShowsCell result old new status → IsRow (C.Writes call.now) old (option_copied row.entry) (new, status) }
 {
     let document = row?;
     Some(call.answer(alloc, document))
@@ -57,15 +59,16 @@ pub(crate) fn cell_value<A: Copy>(cell: &Cell<A>, other: A) -> A
 /// A type that is called on each row and writes bytes.
 pub(crate) trait RowWriter {
     ghost use Rattle.std.specs.Prelude.{ℕ, List};
-    ghost use Rattle.jsonb_c.specs.Answers.{Found};
+    ghost use Rattle.jsonb_c.specs.Answers.{ShowsFound};
     ghost use Rattle.jsonb_c.specs.Private.Buffers.{written_answer};
 
-    ghost IsAnswerTo: { Self → List ℕ → Found (List ℕ) → Type 0 };
+    ghost Writes: { Self → List ℕ → List ℕ → List ℕ → ℕ → Type 0 };
 
     /// Replaces the contents of the buffer by the result of the call for a row's document. Returns whether there is
     /// one.
     fn write(&self, alloc: Global, document: &[u8], out: &mut Vec<u8>) -> Result<bool, Error>
-        ensures { IsAnswerTo self.now document.now (written_answer result out.new.items) };
+        ensures { (old new : List ℕ) (status : ℕ) → ShowsFound (written_answer result out.new.items) old new status
+            → Writes self.now document.now old new status };
 }
 
 /// Whether a row, whose bytes are in a buffer, has a result, or `None` if its offsets are wrong.
@@ -78,7 +81,8 @@ pub(crate) fn ask_for_bytes<C: RowWriter>(
     row: Option<&[u8]>,
     out: &mut Vec<u8>,
 ) -> Written
-    ensures { IsCell (C.IsAnswerTo call.now) (option_copied row.entry) (written_cell result out.new.items) }
+    ensures { (old new : List ℕ) (status : ℕ) → ShowsCell (written_cell result out.new.items) old new status
+        → IsRow (C.Writes call.now) old (option_copied row.entry) (new, status) }
 {
     let document = row?;
     Some(call.write(alloc, document, out))

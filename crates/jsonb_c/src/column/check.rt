@@ -2,7 +2,8 @@
 
 ghost use Rattle.std.specs.Prelude.{length, map};
 ghost use Rattle.jsonb_c.specs.Answers.{IsWritten};
-ghost use Rattle.jsonb_c.specs.Columns.{ChecksDocument, DoneRows, Ends, cell_status, rows};
+ghost use Rattle.jsonb_c.specs.Calls.{IsCheckOf};
+ghost use Rattle.jsonb_c.specs.Columns.{DoneRows, Ends, rows};
 
 use super::Column;
 use super::call::RowCall;
@@ -14,9 +15,9 @@ use std::alloc::Global;
 struct Checks;
 
 impl RowCall<()> for Checks {
-    ghost use Rattle.jsonb_c.specs.Columns.{ChecksDocument};
+    ghost use Rattle.jsonb_c.specs.Calls.{IsCheckOf};
 
-    ghost IsAnswerTo = { λ call document answer. ChecksDocument document answer };
+    ghost Writes = { λ call document old new status. IsCheckOf document status };
 
     fn answer(&self, _alloc: Global, document: &[u8]) -> Result<Option<()>, Error> {
         jsonb::check(document)?;
@@ -33,8 +34,8 @@ pub extern "C" fn jdoc_column_check(
     statuses: &mut [u8],
     done: &mut usize,
 ) -> u32
-    ensures { DoneRows ChecksDocument (rows bytes.now offsets.now) done.new
-        (λ cells. IsWritten (map cell_status cells) statuses.old statuses.new)
+    ensures { DoneRows (λ document old new status. IsCheckOf document status) (tt {0}) (rows bytes.now offsets.now)
+        done.new (λ made. IsWritten (map (λ m. m.1) made) statuses.old statuses.new)
         × Ends (length (rows bytes.now offsets.now)) (length statuses.old) done.new result }
 {
     Column::new(bytes, offsets).check(alloc, &Checks, statuses, done)

@@ -10,9 +10,9 @@ ghost use Rattle.jsonb.specs.KeyPathViews.{key_paths_view};
 ghost use Rattle.jsonb.specs.PathGrammar.{json_path};
 ghost use Rattle.jsonb.specs.PathViews.{path_view};
 ghost use Rattle.jsonb.specs.SelectorAnswers.{first_item, single_or_array};
-ghost use Rattle.jsonb_c.specs.Answers.{OfDocument, With};
+ghost use Rattle.jsonb_c.specs.Answers.{OfDocument, Shows, ShowsFound, With};
 ghost use Rattle.jsonb_c.specs.Calls.{DeletesPart, DeletesPlace, FindsPart, SelectsItem, mode_of, one_array};
-ghost use Rattle.jsonb_c.specs.Columns.{InRow, IsUntouched, JoinsRows, rows};
+ghost use Rattle.jsonb_c.specs.Columns.{IsUntouched, JoinsRows, rows};
 ghost use Rattle.jsonb_c.specs.Private.Buffers.{written_answer};
 ghost use Rattle.jsonb_c.specs.Private.PathRows.{place_of};
 ghost use Rattle.jsonb_c.specs.Status.{code};
@@ -37,13 +37,13 @@ struct Selects<'p> {
 
 impl RowWriter for Selects<'_> {
     ghost use Rattle.jsonb.specs.PathViews.{path_view};
-    ghost use Rattle.std.specs.Prelude.{◌≡◌};
+    ghost use Rattle.jsonb_c.specs.Answers.{ShowsFound};
     ghost use Rattle.jsonb_c.specs.Calls.{SelectsItem, mode_of};
     ghost use Rattle.jsonb_c.specs.Private.Views.{pick_of};
 
-    ghost IsAnswerTo = { λ call document row.
+    ghost Writes = { λ call document old new status.
         SelectsItem (mode_of call.strict) (pick_of call.pick) (path_view call.path) document
-        (λ answer. row ≡ answer) };
+        (λ answer. ShowsFound answer old new status) };
 
     fn write(&self, alloc: Global, document: &[u8], out: &mut Vec<u8>) -> Result<bool, Error> {
         let picked = pick_by_path(alloc, document, &self.path, self.strict, self.pick)?;
@@ -84,7 +84,7 @@ impl RowWriter for AtPlace<'_> {
     ghost use Rattle.jsonb.specs.KeyPathViews.{key_paths_view};
     ghost use Rattle.jsonb_c.specs.Private.PathRows.{place_of};
 
-    ghost IsAnswerTo = { λ call document answer. place_of call.wanted (key_paths_view call.steps) document answer };
+    ghost Writes = { λ call. place_of call.wanted (key_paths_view call.steps) };
 
     fn write(&self, alloc: Global, document: &[u8], out: &mut Vec<u8>) -> Result<bool, Error> {
         match self.wanted {
@@ -137,7 +137,8 @@ pub extern "C" fn jdoc_column_get(
     progress: &mut Progress,
 ) -> u32
     ensures { With (ok_or (key_path path.now) (Refused InvalidKeyPath))
-        (λ steps. JoinsRows (λ document row. FindsPart steps document (λ answer. row ≡ answer))
+        (λ steps. JoinsRows
+        (λ document old new status. FindsPart steps document (λ answer. ShowsFound answer old new status))
         (rows bytes.now offsets.now)
         (out.old, positions.old, statuses.old) (out.new, positions.new, statuses.new) progress.new result)
         (λ cause. (result ≡ code cause)
@@ -160,7 +161,9 @@ pub extern "C" fn jdoc_column_delete_by_keypath(
     progress: &mut Progress,
 ) -> u32
     ensures { With (ok_or (key_path path.now) (Refused InvalidKeyPath))
-        (λ steps. JoinsRows (InRow (DeletesPart steps) (λ made. made)) (rows bytes.now offsets.now)
+        (λ steps. JoinsRows
+        (λ document old new status. DeletesPart steps document (λ answer. Shows (λ made. made) answer old new status))
+        (rows bytes.now offsets.now)
         (out.old, positions.old, statuses.old) (out.new, positions.new, statuses.new) progress.new result)
         (λ cause. (result ≡ code cause)
         × IsUntouched (out.old, positions.old, statuses.old) (out.new, positions.new, statuses.new) progress.new) }
@@ -183,8 +186,8 @@ pub extern "C" fn jdoc_column_select_first(
     progress: &mut Progress,
 ) -> u32
     ensures { With (ok_or (json_path path.now) NotJsonPath)
-        (λ steps. JoinsRows (λ document row. SelectsItem (mode_of strict) first_item steps document
-        (λ answer. row ≡ answer))
+        (λ steps. JoinsRows (λ document old new status. SelectsItem (mode_of strict) first_item steps document
+        (λ answer. ShowsFound answer old new status))
         (rows bytes.now offsets.now)
         (out.old, positions.old, statuses.old) (out.new, positions.new, statuses.new) progress.new result)
         (λ cause. (result ≡ code cause)
@@ -208,8 +211,8 @@ pub extern "C" fn jdoc_column_select_value(
     progress: &mut Progress,
 ) -> u32
     ensures { With (ok_or (json_path path.now) NotJsonPath)
-        (λ steps. JoinsRows (λ document row. SelectsItem (mode_of strict) single_or_array steps document
-        (λ answer. row ≡ answer))
+        (λ steps. JoinsRows (λ document old new status. SelectsItem (mode_of strict) single_or_array steps document
+        (λ answer. ShowsFound answer old new status))
         (rows bytes.now offsets.now)
         (out.old, positions.old, statuses.old) (out.new, positions.new, statuses.new) progress.new result)
         (λ cause. (result ≡ code cause)
@@ -233,8 +236,8 @@ pub extern "C" fn jdoc_column_select_array(
     progress: &mut Progress,
 ) -> u32
     ensures { With (ok_or (json_path path.now) NotJsonPath)
-        (λ steps. JoinsRows (λ document row. SelectsItem (mode_of strict) one_array steps document
-        (λ answer. row ≡ answer))
+        (λ steps. JoinsRows (λ document old new status. SelectsItem (mode_of strict) one_array steps document
+        (λ answer. ShowsFound answer old new status))
         (rows bytes.now offsets.now)
         (out.old, positions.old, statuses.old) (out.new, positions.new, statuses.new) progress.new result)
         (λ cause. (result ≡ code cause)
@@ -281,8 +284,8 @@ impl PathColumn<'_> {
         progress: &mut Progress,
     ) -> u32
         ensures { With (ok_or (json_path self.now.path.now) NotJsonPath)
-            (λ steps. JoinsRows (λ document row. SelectsItem (mode_of strict) (pick_of pick) steps document
-            (λ answer. row ≡ answer)) self.now.column
+            (λ steps. JoinsRows (λ document old new status. SelectsItem (mode_of strict) (pick_of pick) steps document
+            (λ answer. ShowsFound answer old new status)) self.now.column
             (out.old, positions.old, statuses.old) (out.new, positions.new, statuses.new) progress.new result)
             (λ cause. (result ≡ code cause)
             × IsUntouched (out.old, positions.old, statuses.old) (out.new, positions.new, statuses.new) progress.new) }

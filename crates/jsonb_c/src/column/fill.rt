@@ -19,7 +19,8 @@ impl Column<'_> {
         statuses: &mut [u8],
         done: &mut usize,
     ) -> u32
-        ensures { ChecksRows (C.IsAnswerTo call.now) self.now statuses.old statuses.new done.new result }
+        ensures { (other : A) → ChecksRows (C.Writes call.now) other self.now
+            statuses.old statuses.new done.new result }
     {
         let rows = self.len();
         let room = rows.min(statuses.len());
@@ -41,7 +42,7 @@ impl Column<'_> {
         statuses: &mut [u8],
         done: &mut usize,
     ) -> u32
-        ensures { FillsRows (C.IsAnswerTo call.now) other self.now
+        ensures { FillsRows (C.Writes call.now) other self.now
             (values.old, statuses.old) (values.new, statuses.new) done.new result }
     {
         let rows = self.len();

@@ -30,7 +30,7 @@ impl Column<'_> {
         statuses: &mut [u8],
         progress: &mut Progress,
     ) -> u32
-        ensures { JoinsRows (C.IsAnswerTo call.now) self.now
+        ensures { JoinsRows (C.Writes call.now) self.now
             (out.old, positions.old, statuses.old) (out.new, positions.new, statuses.new) progress.new result }
     {
         if positions.is_empty() {

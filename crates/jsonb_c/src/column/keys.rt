@@ -1,7 +1,8 @@
 //! A key per row.
 
+ghost use Rattle.jsonb_c.specs.Answers.{Shows};
 ghost use Rattle.jsonb_c.specs.Calls.{WritesEqualityKey, WritesKey, width_of};
-ghost use Rattle.jsonb_c.specs.Columns.{InRow, JoinsRows, rows};
+ghost use Rattle.jsonb_c.specs.Columns.{JoinsRows, rows};
 
 use super::Column;
 use super::call::RowWriter;
@@ -17,10 +18,11 @@ struct SortKeys {
 }
 
 impl RowWriter for SortKeys {
+    ghost use Rattle.jsonb_c.specs.Answers.{Shows};
     ghost use Rattle.jsonb_c.specs.Calls.{WritesKey, width_of};
-    ghost use Rattle.jsonb_c.specs.Columns.{InRow};
 
-    ghost IsAnswerTo = { λ call document answer. InRow (WritesKey (width_of call.wide)) (λ key. key) document answer };
+    ghost Writes = { λ call document old new status.
+        WritesKey (width_of call.wide) document (λ answer. Shows (λ key. key) answer old new status) };
 
     fn write(&self, alloc: Global, document: &[u8], out: &mut Vec<u8>) -> Result<bool, Error> {
         write_sort_key(alloc, document, self.wide, out).and(Ok(true))
@@ -32,10 +34,11 @@ impl RowWriter for SortKeys {
 struct EqualityKeys;
 
 impl RowWriter for EqualityKeys {
+    ghost use Rattle.jsonb_c.specs.Answers.{Shows};
     ghost use Rattle.jsonb_c.specs.Calls.{WritesEqualityKey};
-    ghost use Rattle.jsonb_c.specs.Columns.{InRow};
 
-    ghost IsAnswerTo = { λ call document answer. InRow WritesEqualityKey (λ key. key) document answer };
+    ghost Writes = { λ call document old new status.
+        WritesEqualityKey document (λ answer. Shows (λ key. key) answer old new status) };
 
     fn write(&self, alloc: Global, document: &[u8], out: &mut Vec<u8>) -> Result<bool, Error> {
         write_equality_key(alloc, document, out).and(Ok(true))
@@ -54,7 +57,9 @@ pub extern "C" fn jdoc_column_key(
     statuses: &mut [u8],
     progress: &mut Progress,
 ) -> u32
-    ensures { JoinsRows (InRow (WritesKey (width_of wide)) (λ key. key)) (rows bytes.now offsets.now)
+    ensures { JoinsRows
+        (λ document old new status. WritesKey (width_of wide) document (λ answer. Shows (λ key. key) answer old new status))
+        (rows bytes.now offsets.now)
         (out.old, positions.old, statuses.old) (out.new, positions.new, statuses.new) progress.new result }
 {
     let keys = SortKeys { wide };
@@ -72,7 +77,9 @@ pub extern "C" fn jdoc_column_equality_key(
     statuses: &mut [u8],
     progress: &mut Progress,
 ) -> u32
-    ensures { JoinsRows (InRow WritesEqualityKey (λ key. key)) (rows bytes.now offsets.now)
+    ensures { JoinsRows
+        (λ document old new status. WritesEqualityKey document (λ answer. Shows (λ key. key) answer old new status))
+        (rows bytes.now offsets.now)
         (out.old, positions.old, statuses.old) (out.new, positions.new, statuses.new) progress.new result }
 {
     Column::new(bytes, offsets).join(alloc, &EqualityKeys, out, positions, statuses, progress)

@@ -5,9 +5,9 @@ ghost use Rattle.jsonb_doc.specs.Answer.{IsDecodingError};
 ghost use Rattle.jsonb_raw.specs.Casts.{bool_number};
 ghost use Rattle.jsonb_raw.specs.Contains.{contains};
 ghost use Rattle.jsonb.specs.PathGrammar.{json_path};
-ghost use Rattle.jsonb_c.specs.Answers.{OfBoth, With, truth_byte};
+ghost use Rattle.jsonb_c.specs.Answers.{OfBoth, Shows, With, truth_byte};
 ghost use Rattle.jsonb_c.specs.Calls.{TellsContainment, TellsExistence, TellsTruth, mode_of};
-ghost use Rattle.jsonb_c.specs.Columns.{FillsRows, InRow, rows};
+ghost use Rattle.jsonb_c.specs.Columns.{FillsRows, rows};
 ghost use Rattle.jsonb_c.specs.Private.PathRows.{told};
 ghost use Rattle.jsonb_c.specs.Status.{code};
 ghost use Rattle.jsonb_c.specs.declared.status.Status.TheVariants.{NotJsonPath};
@@ -47,8 +47,7 @@ impl RowCall<u8> for PathQuery<'_> {
     ghost use Rattle.jsonb_c.specs.Calls.{mode_of};
     ghost use Rattle.jsonb_c.specs.Private.PathRows.{told};
 
-    ghost IsAnswerTo = { λ call document answer.
-        told call.question (mode_of call.strict) (path_view call.path) document answer };
+    ghost Writes = { λ call. told call.question (mode_of call.strict) (path_view call.path) };
 
     fn answer(&self, alloc: Global, document: &[u8]) -> Result<Option<u8>, Error> {
         match self.question {
@@ -72,11 +71,11 @@ struct Holds<'a> {
 
 impl RowCall<u8> for Holds<'_> {
     ghost use Rattle.jsonb_raw.specs.Casts.{bool_number};
+    ghost use Rattle.jsonb_c.specs.Answers.{Shows};
     ghost use Rattle.jsonb_c.specs.Calls.{TellsContainment};
-    ghost use Rattle.jsonb_c.specs.Columns.{InRow};
 
-    ghost IsAnswerTo = { λ call document answer.
-        InRow (TellsContainment call.wanted.now) bool_number document answer };
+    ghost Writes = { λ call document old new status.
+        TellsContainment call.wanted.now document (λ answer. Shows bool_number answer old new status) };
 
     fn answer(&self, _alloc: Global, document: &[u8]) -> Result<Option<u8>, Error> {
         let contains = contains(document, self.wanted)?;
@@ -105,7 +104,8 @@ pub extern "C" fn jdoc_column_exists(
     done: &mut usize,
 ) -> u32
     ensures { With (ok_or (json_path path.now) NotJsonPath)
-        (λ steps. FillsRows (InRow (TellsExistence (mode_of strict) steps) bool_number) 2 (rows bytes.now offsets.now)
+        (λ steps. FillsRows (λ document old new status. TellsExistence (mode_of strict) steps document
+        (λ answer. Shows bool_number answer old new status)) 2 (rows bytes.now offsets.now)
         (truths.old, statuses.old) (truths.new, statuses.new) done.new result)
         (λ cause. (result ≡ code cause) × (done.new ≡ 0) × (truths.new ≡ truths.old)
         × (statuses.new ≡ statuses.old)) }
@@ -127,7 +127,8 @@ pub extern "C" fn jdoc_column_match(
     done: &mut usize,
 ) -> u32
     ensures { With (ok_or (json_path path.now) NotJsonPath)
-        (λ steps. FillsRows (InRow (TellsTruth (mode_of strict) steps) truth_byte) 2 (rows bytes.now offsets.now)
+        (λ steps. FillsRows (λ document old new status. TellsTruth (mode_of strict) steps document
+        (λ answer. Shows truth_byte answer old new status)) 2 (rows bytes.now offsets.now)
         (truths.old, statuses.old) (truths.new, statuses.new) done.new result)
         (λ cause. (result ≡ code cause) × (done.new ≡ 0) × (truths.new ≡ truths.old)
         × (statuses.new ≡ statuses.old)) }
@@ -178,7 +179,8 @@ pub extern "C" fn jdoc_column_contains(
     statuses: &mut [u8],
     done: &mut usize,
 ) -> u32
-    ensures { FillsRows (InRow (TellsContainment wanted.now) bool_number) 2 (rows bytes.now offsets.now)
+    ensures { FillsRows (λ document old new status. TellsContainment wanted.now document
+        (λ answer. Shows bool_number answer old new status)) 2 (rows bytes.now offsets.now)
         (truths.old, statuses.old) (truths.new, statuses.new) done.new result }
 {
     Column::new(bytes, offsets).fill(alloc, &Holds { wanted }, UNKNOWN, truths, statuses, done)

@@ -3,6 +3,6 @@ use Rattle.jsonb_c.proofs.KeyRows.{writes_key}
 use Rattle.jsonb_c.proofs.column.keys.SortKeysRowWriter.write.Goals as goal
 
 pub returns : goal.returns
-returns c =
-    rw c.and.ensures (writes_key c.write_sort_key.result c.write_sort_key.new.key (IsSortableKeyOf (width_of c.args.self.now.wide) c.args.document.now) _
-    c.write_sort_key.ensures.key c.write_sort_key.ensures.errors)
+returns c = λ old new status shown.
+    writes_key c.write_sort_key.result c.write_sort_key.new.key (IsSortableKeyOf (width_of c.args.self.now.wide) c.args.document.now) _ old new status
+    c.write_sort_key.ensures.key c.write_sort_key.ensures.errors (rw c.and.ensures at shown)
