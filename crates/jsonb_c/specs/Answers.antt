@@ -70,16 +70,6 @@ Shows written answer old new status = ShowsFound (found written answer) old new 
 abbrev pub OfDocument : {A : Type 0} → List ℕ → (Form → Tree → A → Type 0) → A → Type 0
 OfDocument document Promise answer = (form : Form) (t : Tree) → Decodes form document t → Promise form t answer
 
--- Holds for two documents that decode in one form.
-abbrev pub OfDocuments : {A : Type 0} → List ℕ → List ℕ → (Form → Tree → Tree → A → Type 0) → A → Type 0
-OfDocuments document other Promise answer =
-    (form : Form) (t u : Tree) → Decodes form document t → Decodes form other u → Promise form t u answer
-
--- Holds for two documents that decode, each in its own form.
-abbrev pub OfBoth : {A : Type 0} → List ℕ → List ℕ → (Form → Tree → Tree → A → Type 0) → A → Type 0
-OfBoth document other Promise answer = (form other_form : Form) (t u : Tree)
-    → Decodes form document t → Decodes other_form other u → Promise form t u answer
-
 -- Holds if there is such a result, which fails only with the stated errors, and it is delivered.
 abbrev pub WritesResult : {A : Type 0} → (Result A Error → Type 0) → (Error → Type 0) → (Result A Error → Type 0)
     → Type 0

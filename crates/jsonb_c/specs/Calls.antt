@@ -2,7 +2,7 @@
 use Rattle.std.specs.Prelude.{◌≡◌, ◌⊎◌, ◌↔◌, ◌||◌, not, ℕ, ℤ, pos, negsuc, Bool, false, IsTrue, IsOkAnd, List, length, Option, Some, None, Result, Ok, Err, String, MatchResult, MatchOption, if◌then◌else◌}
 use Rattle.std.specs.declared.alloc.Global.{Global}
 use Rattle.std.specs.declared.cmp.Ordering.{Ordering}
-use Rattle.std.specs.declared.cmp.Ordering.TheVariants.{Less, Equal, Greater}
+use Rattle.std.specs.Ordering.{match_ordering}
 use Rattle.std.specs.Int.{Width, w8, w16}
 use Rattle.jsonb_doc.specs.declared.error.Error.{Error}
 use Rattle.jsonb_doc.specs.declared.error.Error.TheVariants.{OutOfMemory, InvalidJsonb, UnsupportedNumber, InvalidCast, InvalidJsonType, InvalidObject, ObjectDuplicateKey, TooDeep, TooLarge}
@@ -31,7 +31,7 @@ use Rattle.jsonb.specs.declared.selector.document.Mode.{Mode}
 use Rattle.jsonb.specs.declared.selector.document.Mode.TheVariants.{Lax, Strict}
 use Rattle.jsonb_c.specs.Status.{code, status_of}
 use Rattle.jsonb_c.specs.declared.status.Status.TheVariants.{Answered}
-use Rattle.jsonb_c.specs.Answers.{Found, OfBoth, OfDocument, OfDocuments, WritesResult}
+use Rattle.jsonb_c.specs.Answers.{Found, OfDocument, WritesResult}
 
 -- ---- parts
 
@@ -71,8 +71,8 @@ pub record DeletesPlace (steps : List Key) (document : List ℕ) (answer : Resul
 -- fails.
 pub record InsertsPair (name : List ℕ) (update : Bool) (document value : List ℕ)
     (answer : Result (List ℕ) Error) : Type 0 where
-  pub inserted : OfDocuments document value (λ form t v said. IsTrue (update || not (has_name name t))
-      → MakesOr InvalidObject form (object_insert name v t) said) answer
+  pub inserted : (form : Form) (t v : Tree) → Decodes form document t → Decodes form value v
+      → IsTrue (update || not (has_name name t)) → MakesOr InvalidObject form (object_insert name v t) answer
   pub duplicate : OfDocument document (λ form t said. IsTrue (has_name name t) → update ≡ false
       → said ≡ Err ObjectDuplicateKey) answer
 
@@ -97,9 +97,7 @@ IsSortableKeyOf w document answer =
 
 -- -1, 0 or 1.
 abbrev pub order_number : Ordering → ℤ
-order_number Less = negsuc 0
-order_number Equal = pos 0
-order_number Greater = pos 1
+order_number order = match_ordering order (negsuc 0) (pos 0) (pos 1)
 
 -- ---- equality keys
 
@@ -149,8 +147,8 @@ DeletesPart steps document =
 
 -- Holds if it is whether the document contains the other one.
 abbrev pub TellsContainment : List ℕ → List ℕ → (Result Bool Error → Type 0) → Type 0
-TellsContainment wanted document = WritesResult
-    (OfBoth document wanted (λ form t u answer. IsOkAnd answer (λ b. b ≡ contains t u))) IsDecodingError
+TellsContainment wanted document = WritesResult (λ answer. (form other_form : Form) (t u : Tree)
+    → Decodes form document t → Decodes other_form wanted u → IsOkAnd answer (λ b. b ≡ contains t u)) IsDecodingError
 
 -- Holds if it is the document as an integer.
 abbrev pub WritesI64 : List ℕ → (Result ℤ Error → Type 0) → Type 0

@@ -2,10 +2,13 @@
 
 ghost use Rattle.std.specs.Prelude.{◌≡◌, IfErr, IsOkAnd, ok_or};
 ghost use Rattle.jsonb_doc.specs.Answer.{IsDecodingError};
+ghost use Rattle.jsonb_doc.specs.Format.{Decodes};
+ghost use Rattle.jsonb_doc.specs.Payload.{Form};
+ghost use Rattle.jsonb_doc.specs.Tree.{Tree};
 ghost use Rattle.jsonb_raw.specs.Casts.{bool_number};
 ghost use Rattle.jsonb_raw.specs.Contains.{contains};
 ghost use Rattle.jsonb.specs.PathGrammar.{json_path};
-ghost use Rattle.jsonb_c.specs.Answers.{OfBoth, Shows, With, truth_byte};
+ghost use Rattle.jsonb_c.specs.Answers.{Shows, With, truth_byte};
 ghost use Rattle.jsonb_c.specs.Calls.{TellsContainment, TellsExistence, TellsTruth, mode_of};
 ghost use Rattle.jsonb_c.specs.Columns.{FillsRows, rows};
 ghost use Rattle.jsonb_c.specs.Private.PathRows.{told};
@@ -84,8 +87,8 @@ impl RowCall<u8> for Holds<'_> {
 }
 
 fn contains(document: &[u8], wanted: &[u8]) -> Result<bool, Error>
-    ensures contains { OfBoth document.now wanted.now
-        (λ form t u answer. IsOkAnd answer (λ b. b ≡ contains t u)) result }
+    ensures contains { (form other_form : Form) (t u : Tree) → Decodes form document.now t
+        → Decodes other_form wanted.now u → IsOkAnd result (λ b. b ≡ contains t u) }
     ensures errors { IfErr result IsDecodingError }
 {
     RawJsonb::new(document).contains(&RawJsonb::new(wanted))

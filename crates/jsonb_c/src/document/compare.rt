@@ -2,9 +2,12 @@
 
 ghost use Rattle.std.specs.Prelude.{◌≡◌, IfErr, IsOkAnd};
 ghost use Rattle.jsonb_doc.specs.Answer.{IsDecodingError};
+ghost use Rattle.jsonb_doc.specs.Format.{Decodes};
 ghost use Rattle.jsonb_doc.specs.Order.{tree_cmp};
+ghost use Rattle.jsonb_doc.specs.Payload.{Form};
+ghost use Rattle.jsonb_doc.specs.Tree.{Tree};
 ghost use Rattle.jsonb_raw.specs.Casts.{bool_number};
-ghost use Rattle.jsonb_c.specs.Answers.{WritesResult, OfBoth, Shows};
+ghost use Rattle.jsonb_c.specs.Answers.{WritesResult, Shows};
 ghost use Rattle.jsonb_c.specs.Calls.{TellsContainment, order_number};
 
 use crate::deliver::{store, store_bool};
@@ -24,16 +27,16 @@ pub extern "C" fn jdoc_contains(document: &[u8], other: &[u8], truth: &mut u8) -
 /// Returns the order of two documents: -1, 0 or 1. Without extension values it is that of their sortable keys.
 #[unsafe(no_mangle)]
 pub extern "C" fn jdoc_compare(document: &[u8], other: &[u8], order: &mut i32) -> u32
-    ensures { WritesResult
-        (OfBoth document.now other.now (λ form t u said. IsOkAnd said (λ z. z ≡ order_number (tree_cmp t u))))
+    ensures { WritesResult (λ answer. (form other_form : Form) (t u : Tree) → Decodes form document.now t
+        → Decodes other_form other.now u → IsOkAnd answer (λ z. z ≡ order_number (tree_cmp t u)))
         IsDecodingError (λ answer. Shows (λ n. n) answer order.old order.new result) }
 {
     store(compare(document, other), order)
 }
 
 fn compare(document: &[u8], other: &[u8]) -> Result<i32, Error>
-    ensures order { OfBoth document.now other.now
-        (λ form t u said. IsOkAnd said (λ z. z ≡ order_number (tree_cmp t u))) result }
+    ensures order { (form other_form : Form) (t u : Tree) → Decodes form document.now t
+        → Decodes other_form other.now u → IsOkAnd result (λ z. z ≡ order_number (tree_cmp t u)) }
     ensures errors { IfErr result IsDecodingError }
 {
     match order_of(document, other)? {
@@ -44,7 +47,8 @@ fn compare(document: &[u8], other: &[u8]) -> Result<i32, Error>
 }
 
 fn order_of(document: &[u8], other: &[u8]) -> Result<Ordering, Error>
-    ensures order { OfBoth document.now other.now (λ form t u said. IsOkAnd said (λ o. o ≡ tree_cmp t u)) result }
+    ensures order { (form other_form : Form) (t u : Tree) → Decodes form document.now t
+        → Decodes other_form other.now u → IsOkAnd result (λ o. o ≡ tree_cmp t u) }
     ensures errors { IfErr result IsDecodingError }
 {
     let document = RawJsonb::new(document);

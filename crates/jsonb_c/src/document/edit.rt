@@ -4,13 +4,16 @@ ghost use Rattle.std.specs.Prelude.{◌≡◌, ◌⊎◌, IfErr, None, ok_or};
 ghost use Rattle.std.specs.Str.{IsUtf8};
 ghost use Rattle.jsonb_doc.specs.Answer.{IsDecodingError, ◌or◌};
 ghost use Rattle.jsonb_doc.specs.declared.error.Error.TheVariants.{InvalidJsonType, InvalidKeyPath, InvalidObject, ObjectDuplicateKey, OutOfMemory, TooLarge};
+ghost use Rattle.jsonb_doc.specs.Format.{Decodes};
+ghost use Rattle.jsonb_doc.specs.Payload.{Form};
+ghost use Rattle.jsonb_doc.specs.Tree.{Tree};
 ghost use Rattle.jsonb_raw.specs.Arrays.{array_insert};
 ghost use Rattle.jsonb_raw.specs.Children.{without_name};
 ghost use Rattle.jsonb_raw.specs.Concat.{concat};
 ghost use Rattle.jsonb_raw.specs.Documents.{Makes};
 ghost use Rattle.jsonb_raw.specs.Strip.{strip};
 ghost use Rattle.jsonb.specs.KeyPathGrammar.{key_path};
-ghost use Rattle.jsonb_c.specs.Answers.{DeliversNothing, OfDocument, OfDocuments, With, WritesResult, DeliversMade};
+ghost use Rattle.jsonb_c.specs.Answers.{DeliversNothing, OfDocument, With, WritesResult, DeliversMade};
 ghost use Rattle.jsonb_c.specs.Calls.{DeletesIndex, DeletesPart, DeletesPlace, InsertsPair, MakesOr};
 ghost use Rattle.jsonb_c.specs.Private.Boxes.{ByPath};
 ghost use Rattle.jsonb_c.specs.declared.status.Status.TheVariants.{NotUtf8, Refused};
@@ -94,7 +97,8 @@ pub extern "C" fn jdoc_concat(
     out: &mut [u8],
     out_len: &mut usize,
 ) -> u32
-    ensures { WritesResult (OfDocuments document.now other.now (λ form t u. Makes form (concat t u)))
+    ensures { WritesResult (λ answer. (form : Form) (t u : Tree)
+        → Decodes form document.now t → Decodes form other.now u → Makes form (concat t u) answer)
         (IsDecodingError or OutOfMemory or TooLarge)
         (λ answer. DeliversMade answer out.old out.new out_len.new result) }
 {
@@ -113,8 +117,8 @@ pub extern "C" fn jdoc_array_insert(
     out: &mut [u8],
     out_len: &mut usize,
 ) -> u32
-    ensures { WritesResult
-        (OfDocuments document.now value.now (λ form t v. Makes form (array_insert position v t)))
+    ensures { WritesResult (λ answer. (form : Form) (t v : Tree)
+        → Decodes form document.now t → Decodes form value.now v → Makes form (array_insert position v t) answer)
         (IsDecodingError or OutOfMemory or TooLarge)
         (λ answer. DeliversMade answer out.old out.new out_len.new result) }
 {

@@ -3,12 +3,14 @@
 ghost use Rattle.std.specs.Prelude.{◌≡◌, IsOkAnd};
 ghost use Rattle.jsonb_doc.specs.Answer.{IsDecodingError, ◌or◌};
 ghost use Rattle.jsonb_doc.specs.declared.error.Error.TheVariants.{OutOfMemory, TooLarge};
-ghost use Rattle.jsonb_doc.specs.Tree.{array, trees_of};
+ghost use Rattle.jsonb_doc.specs.Format.{Decodes};
+ghost use Rattle.jsonb_doc.specs.Payload.{Form};
+ghost use Rattle.jsonb_doc.specs.Tree.{Tree, array, trees_of};
 ghost use Rattle.jsonb_raw.specs.Arrays.{as_elements};
 ghost use Rattle.jsonb_raw.specs.Casts.{bool_number};
 ghost use Rattle.jsonb_raw.specs.Documents.{Makes};
 ghost use Rattle.jsonb_raw.specs.Sets.{difference_of, distinct, intersection_of, overlap};
-ghost use Rattle.jsonb_c.specs.Answers.{WritesResult, OfBoth, OfDocument, Shows, DeliversMade};
+ghost use Rattle.jsonb_c.specs.Answers.{WritesResult, OfDocument, Shows, DeliversMade};
 
 use crate::deliver::{deliver_made, store_bool};
 use jsonb::RawJsonb;
@@ -39,8 +41,9 @@ pub extern "C" fn jdoc_array_intersection(
     out: &mut [u8],
     out_len: &mut usize,
 ) -> u32
-    ensures { WritesResult (OfBoth document.now other.now
-        (λ form t u. Makes form (array (trees_of (intersection_of (as_elements t) (as_elements u))))))
+    ensures { WritesResult (λ answer. (form other_form : Form) (t u : Tree)
+        → Decodes form document.now t → Decodes other_form other.now u
+        → Makes form (array (trees_of (intersection_of (as_elements t) (as_elements u)))) answer)
         (IsDecodingError or OutOfMemory or TooLarge)
         (λ answer. DeliversMade answer out.old out.new out_len.new result) }
 {
@@ -57,8 +60,9 @@ pub extern "C" fn jdoc_array_except(
     out: &mut [u8],
     out_len: &mut usize,
 ) -> u32
-    ensures { WritesResult (OfBoth document.now other.now
-        (λ form t u. Makes form (array (trees_of (difference_of (as_elements t) (as_elements u))))))
+    ensures { WritesResult (λ answer. (form other_form : Form) (t u : Tree)
+        → Decodes form document.now t → Decodes other_form other.now u
+        → Makes form (array (trees_of (difference_of (as_elements t) (as_elements u)))) answer)
         (IsDecodingError or OutOfMemory or TooLarge)
         (λ answer. DeliversMade answer out.old out.new out_len.new result) }
 {
@@ -69,8 +73,9 @@ pub extern "C" fn jdoc_array_except(
 /// Returns whether an element equals one of another document.
 #[unsafe(no_mangle)]
 pub extern "C" fn jdoc_array_overlap(document: &[u8], other: &[u8], truth: &mut u8) -> u32
-    ensures { WritesResult (OfBoth document.now other.now
-        (λ form t u said. IsOkAnd said (λ b. b ≡ overlap (as_elements t) (as_elements u))))
+    ensures { WritesResult (λ answer. (form other_form : Form) (t u : Tree)
+        → Decodes form document.now t → Decodes other_form other.now u
+        → IsOkAnd answer (λ b. b ≡ overlap (as_elements t) (as_elements u)))
         IsDecodingError (λ answer. Shows bool_number answer truth.old truth.new result) }
 {
     let document = RawJsonb::new(document);
