@@ -13,7 +13,6 @@ use Rattle.jsonb_raw.specs.LeafDocuments.{IsLeafDocument}
 use Rattle.jsonb_raw.specs.Leaves.{Leaf}
 use Rattle.jsonb_doc.specs.Format.{Decodes}
 use Rattle.jsonb_c.specs.Columns.{positions_from}
-use Rattle.jsonb_c.specs.Leaves.{HasRoom}
 use Rattle.jsonb_c.specs.Private.LeafColumns.{IsRowOfLeaf, LeafRow, documents_of, leaf_row, paths_of}
 
 -- ---- columns
@@ -49,11 +48,11 @@ document_more found row = map-append (λ (r : LeafRow). r.1) found (row ∷ [])
 -- buffers that do not take a column have no room for its rows
 pub no_room : (rows : List (List ℕ)) (bytes positions out offsets : List ℕ) (b : Bool)
     → b ≡ (nat_le (length bytes) (length out) && nat_le (length positions) (length offsets)) → b ≡ false
-    → (bytes ≡ concat rows) × (positions ≡ positions_from 0 rows) → HasRoom rows (out, offsets) → ⊥
-no_room rows bytes positions out offsets b is none has room =
-    let len : length bytes ≤ length out = rw has.0 room.0 in
-    let more = positions_count 0 rows in
-    let count : length positions ≤ length offsets = rw has.1 (omega (arith, more, room.1)) in
+    → (bytes ≡ concat rows) × (positions ≡ positions_from 0 rows)
+    → length (concat rows) ≤ length out → length (positions_from 0 rows) ≤ length offsets → ⊥
+no_room rows bytes positions out offsets b is none has fits between =
+    let len : length bytes ≤ length out = rw has.0 fits in
+    let count : length positions ≤ length offsets = rw has.1 between in
     let yes : (nat_le (length bytes) (length out) && nat_le (length positions) (length offsets)) ≡ true = grind (arith, nat_tests) in
     cc
 

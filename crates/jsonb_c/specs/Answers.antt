@@ -1,5 +1,6 @@
 -- Results written to the caller's memory, and the status of each.
-use Rattle.std.specs.Prelude.{◌≡◌, ◌⊎◌, ◌≤◌, ◌<◌, ◌++◌, ℕ, List, drop, length, Option, Some, None, Result, Ok, Err, IfErr, MatchResult}
+use Rattle.std.specs.Prelude.{◌≡◌, ◌⊎◌, ◌≤◌, ◌++◌, ℕ, List, [], ◌∷◌, drop, length, Option, Some, None, Result, Ok, Err, IfErr, MatchResult}
+use Rattle.std.specs.List.{AllZip, zip}
 use Rattle.jsonb_doc.specs.declared.error.Error.{Error}
 use Rattle.jsonb_doc.specs.declared.error.Error.TheVariants.{OutOfMemory}
 use Rattle.jsonb_doc.specs.Payload.{Form}
@@ -26,12 +27,15 @@ found written (Err e) = Err e
 abbrev pub IsWritten : {A : Type 0} → List A → List A → List A → Type 0
 IsWritten written old new = (length written ≤ length old) × (new ≡ written ++ drop (length written) old)
 
--- Holds if the bytes are delivered: the length is theirs, and they are written, or the buffer is too small and
--- unchanged.
+-- Holds if each list is written to its buffer. If one of them does not fit, the buffers are unchanged.
+abbrev pub WritesAll : List (List ℕ) → List (List ℕ) → List (List ℕ) → ℕ → Type 0
+WritesAll lists old new status =
+    ((status ≡ code Answered) × AllZip (λ list buffer. IsWritten list buffer.0 buffer.1) lists (zip old new))
+    ⊎ ((status ≡ code BufferTooSmall) × (AllZip (λ list room. length list ≤ length room) lists old → ⊥) × (new ≡ old))
+
+-- Holds if the bytes and their length are delivered.
 abbrev pub DeliversBytes : List ℕ → List ℕ → List ℕ → ℕ → ℕ → Type 0
-DeliversBytes bytes old new len status = (len ≡ length bytes)
-    × (((status ≡ code Answered) × IsWritten bytes old new)
-    ⊎ ((status ≡ code BufferTooSmall) × (length old < length bytes) × (new ≡ old)))
+DeliversBytes bytes old new len status = (len ≡ length bytes) × WritesAll (bytes ∷ []) (old ∷ []) (new ∷ []) status
 
 -- Holds if nothing is delivered, with this status, and the buffer is unchanged.
 abbrev pub DeliversNothing : Status → List ℕ → List ℕ → ℕ → ℕ → Type 0

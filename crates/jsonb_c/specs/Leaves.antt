@@ -1,5 +1,5 @@
 -- The leaves of a document, as two columns.
-use Rattle.std.specs.Prelude.{◌≡◌, ◌⊎◌, ◌≤◌, ◌<◌, ℕ, false, List, map, length, Result, Ok, Err, MatchResult}
+use Rattle.std.specs.Prelude.{◌≡◌, ℕ, false, List, [], ◌∷◌, map, length, Result, Ok, Err, MatchResult}
 use Rattle.std.specs.List.{concat, AllZip}
 use Rattle.jsonb_doc.specs.declared.error.Error.{Error}
 use Rattle.jsonb_doc.specs.Answer.{IsOutOfMemory}
@@ -8,9 +8,8 @@ use Rattle.jsonb_doc.specs.Payload.{Form}
 use Rattle.jsonb_doc.specs.Format.{Decodes}
 use Rattle.jsonb.specs.KeyPathText.{key_path_text}
 use Rattle.jsonb_raw.specs.Leaves.{leaves}
-use Rattle.jsonb_c.specs.Status.{code, status_of}
-use Rattle.jsonb_c.specs.declared.status.Status.TheVariants.{Answered, BufferTooSmall}
-use Rattle.jsonb_c.specs.Answers.{IsWritten}
+use Rattle.jsonb_c.specs.Status.{status_of}
+use Rattle.jsonb_c.specs.Answers.{WritesAll}
 use Rattle.jsonb_c.specs.Columns.{positions_from}
 use Rattle.jsonb_c.specs.declared.leaves.LeafSizes.{LeafSizes}
 
@@ -22,29 +21,15 @@ AreLeavesOf form t answer = MatchResult answer
 
 -- ---- columns that are written at once
 
--- A column in the caller's memory: its bytes, and its offsets.
-abbrev pub Buffers : Type 0
-Buffers = List ℕ × List ℕ
+-- Holds if these are the numbers of rows and of bytes of two columns.
+abbrev pub HasSizes : List (List ℕ) × List (List ℕ) → LeafSizes → Type 0
+HasSizes found sizes = (sizes.rows ≡ length found.0) × (sizes.rows ≡ length found.1)
+    × (sizes.path_bytes ≡ length (concat found.0)) × (sizes.document_bytes ≡ length (concat found.1))
 
--- Holds if the rows and the offsets between them fit in the buffers.
-abbrev pub HasRoom : List (List ℕ) → Buffers → Type 0
-HasRoom rows column = (length (concat rows) ≤ length column.0) × (length rows < length column.1)
-
--- Holds if the rows are written one after the other, with the offsets between them.
-abbrev pub IsWrittenColumn : List (List ℕ) → Buffers → Buffers → Type 0
-IsWrittenColumn rows old new = IsWritten (concat rows) old.0 new.0 × IsWritten (positions_from 0 rows) old.1 new.1
-
--- Holds if the columns are delivered, and the number of rows and the numbers of bytes are reported. Nothing is written
--- if they do not fit, or the call fails.
-abbrev pub DeliversLeaves : Result (List (List ℕ) × List (List ℕ)) Error → Buffers → Buffers → Buffers → Buffers
-    → LeafSizes → ℕ → Type 0
-DeliversLeaves (Ok found) old_paths new_paths old_documents new_documents sizes status =
-    ((sizes.rows ≡ length found.0) × (sizes.rows ≡ length found.1) × (sizes.path_bytes ≡ length (concat found.0))
-    × (sizes.document_bytes ≡ length (concat found.1)))
-    × (((status ≡ code Answered) × IsWrittenColumn found.0 old_paths new_paths
-    × IsWrittenColumn found.1 old_documents new_documents)
-    ⊎ ((status ≡ code BufferTooSmall) × (HasRoom found.0 old_paths → HasRoom found.1 old_documents → ⊥)
-    × (new_paths ≡ old_paths) × (new_documents ≡ old_documents)))
-DeliversLeaves (Err e) old_paths new_paths old_documents new_documents sizes status =
-    (status ≡ status_of e) × (sizes.rows ≡ 0) × (sizes.path_bytes ≡ 0) × (sizes.document_bytes ≡ 0)
-    × (new_paths ≡ old_paths) × (new_documents ≡ old_documents)
+-- Holds if the columns are delivered: the rows of each one after the other, and the offsets between them; the sizes are
+-- reported. Nothing is written if they do not fit, or the call fails.
+abbrev pub DeliversLeaves : Result (List (List ℕ) × List (List ℕ)) Error → List (List ℕ) → List (List ℕ) → LeafSizes
+    → ℕ → Type 0
+DeliversLeaves (Ok found) old new sizes status = HasSizes found sizes × WritesAll
+    (concat found.0 ∷ positions_from 0 found.0 ∷ concat found.1 ∷ positions_from 0 found.1 ∷ []) old new status
+DeliversLeaves (Err e) old new sizes status = HasSizes ([], []) sizes × (new ≡ old) × (status ≡ status_of e)

@@ -1,5 +1,5 @@
 -- Results of the functions that build and count documents.
-use Rattle.std.specs.Prelude.{◌≡◌, ◌⊎◌, ◌+ℤ◌, ◌*ℤ◌, ◌^◌, ℕ, ℤ, pos, Bool, List, [], ◌∷◌, length, Option, Some, None, is_some, option_and_then, flat_map, slice_get, Result, Ok, Err, FitsSigned, MatchOption, MatchResult, IsSomeAnd, ◌<◌, if◌then◌else◌}
+use Rattle.std.specs.Prelude.{◌≡◌, ◌⊎◌, ◌+ℤ◌, ◌*ℤ◌, ◌^◌, ℕ, ℤ, pos, Bool, List, [], ◌∷◌, length, Option, Some, None, is_some, option_and_then, flat_map, slice_get, Result, Ok, Err, FitsSigned, MatchOption, MatchResult, IsSomeAnd, if◌then◌else◌}
 use Rattle.std.specs.Int.{Width, w64}
 use Rattle.jsonb_doc.specs.declared.error.Error.{Error}
 use Rattle.std.specs.List.{zip, AllZip, list_all}
@@ -15,9 +15,9 @@ use Rattle.jsonb_raw.specs.CompositeKeys.{column_key, deepest_of_columns}
 use Rattle.jsonb_raw.specs.Documents.{Makes}
 use Rattle.jsonb_raw.specs.KeyAnswer.{GivesKey}
 use Rattle.jsonb_raw.specs.Objects.{object_each}
-use Rattle.jsonb_c.specs.Status.{code}
-use Rattle.jsonb_c.specs.declared.status.Status.TheVariants.{Absent, Answered, BufferTooSmall, Refused}
-use Rattle.jsonb_c.specs.Answers.{DeliversNothing, IsWritten}
+use Rattle.jsonb_c.specs.Status.{code, status_of}
+use Rattle.jsonb_c.specs.declared.status.Status.TheVariants.{Absent}
+use Rattle.jsonb_c.specs.Answers.{WritesAll}
 
 -- ---- one value
 
@@ -96,15 +96,8 @@ FindsPair form index t answer =
 
 -- Holds if the key and the document of the value are delivered, each to its buffer. Neither is written if one does not
 -- fit, if there is no such member, or if the call fails.
-abbrev pub DeliversPair : Result (Option (List ℕ × List ℕ)) Error → List ℕ → List ℕ → ℕ → List ℕ → List ℕ → ℕ → ℕ
-    → Type 0
-DeliversPair (Ok (Some found)) old_key new_key key_len old_value new_value value_len status =
-    (key_len ≡ length found.0) × (value_len ≡ length found.1)
-    × (((status ≡ code Answered) × IsWritten found.0 old_key new_key × IsWritten found.1 old_value new_value)
-    ⊎ ((status ≡ code BufferTooSmall) × ((length old_key < length found.0) ⊎ (length old_value < length found.1))
-    × (new_key ≡ old_key) × (new_value ≡ old_value)))
-DeliversPair (Ok None) old_key new_key key_len old_value new_value value_len status =
-    DeliversNothing Absent old_key new_key key_len status × DeliversNothing Absent old_value new_value value_len status
-DeliversPair (Err e) old_key new_key key_len old_value new_value value_len status =
-    DeliversNothing (Refused e) old_key new_key key_len status
-    × DeliversNothing (Refused e) old_value new_value value_len status
+abbrev pub DeliversPair : Result (Option (List ℕ × List ℕ)) Error → List (List ℕ) → List (List ℕ) → ℕ × ℕ → ℕ → Type 0
+DeliversPair (Ok (Some found)) old new lens status =
+    (lens ≡ (length found.0, length found.1)) × WritesAll (found.0 ∷ found.1 ∷ []) old new status
+DeliversPair (Ok None) old new lens status = (lens ≡ (0, 0)) × (new ≡ old) × (status ≡ code Absent)
+DeliversPair (Err e) old new lens status = (lens ≡ (0, 0)) × (new ≡ old) × (status ≡ status_of e)

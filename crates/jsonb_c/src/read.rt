@@ -1,6 +1,6 @@
 //! Reading containers by position.
 
-ghost use Rattle.std.specs.Prelude.{◌≡◌, ℕ, List, Option, Result, IfErr, IsOkAnd, length, option_map};
+ghost use Rattle.std.specs.Prelude.{◌≡◌, ◌∷◌, [], ℕ, List, Option, Result, IfErr, IsOkAnd, length, option_map};
 ghost use Rattle.jsonb_doc.specs.Answer.{IsDecodingError, ◌or◌};
 ghost use Rattle.jsonb_doc.specs.declared.error.Error.{Error};
 ghost use Rattle.jsonb_doc.specs.declared.error.Error.TheVariants.{OutOfMemory, TooLarge};
@@ -52,7 +52,7 @@ pub extern "C" fn jdoc_pair(
     ensures { (answer : Result (Option (List ℕ × List ℕ)) Error)
         × OfDocument document.now (λ form t. FindsPair form index t) answer
         × IfErr answer (IsDecodingError or OutOfMemory or TooLarge)
-        × DeliversPair answer key.old key.new key_len.new value.old value.new value_len.new result }
+        × DeliversPair answer (key.old ∷ value.old ∷ []) (key.new ∷ value.new ∷ []) (key_len.new, value_len.new) result }
 {
     deliver_pair(
         pair_at(alloc, document, index),
@@ -96,8 +96,8 @@ fn deliver_pair(
     value: &mut [u8],
     value_len: &mut usize,
 ) -> u32
-    ensures { DeliversPair (pair_answer answer.entry) key.old key.new key_len.new
-        value.old value.new value_len.new result }
+    ensures { DeliversPair (pair_answer answer.entry) (key.old ∷ value.old ∷ []) (key.new ∷ value.new ∷ [])
+        (key_len.new, value_len.new) result }
 {
     *key_len = 0;
     *value_len = 0;

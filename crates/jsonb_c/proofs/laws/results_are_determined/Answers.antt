@@ -1,4 +1,4 @@
-use Rattle.std.proofs.Common.{◌≡◌, ◌∙◌, sym, subst, ◌⊎◌, inl, inr, ◌≤◌, ◌<◌, ◌++◌, ℕ, List, drop, length, Option, Some, None, Result, Ok, Err, IfOk, arith}
+use Rattle.std.proofs.Common.{◌≡◌, ◌∙◌, sym, subst, ◌⊎◌, inl, inr, ℕ, List, [], ◌∷◌, Option, Some, None, Result, Ok, Err, IfOk}
 use Rattle.jsonb_c.specs.Answers.{Found, Delivers, DeliversBytes, ShowsFound}
 use Rattle.jsonb_c.specs.Status.{code}
 use Rattle.jsonb_c.specs.declared.status.Status.TheVariants.{Answered}
@@ -18,15 +18,12 @@ some_bytes : (made old new other : List ℕ) (len other_len status other_status 
     → DeliversBytes made old new len status → DeliversBytes made old other other_len other_status
     → (other ≡ new) × (other_len ≡ len) × (other_status ≡ status)
 some_bytes made old new other len other_len status other_status (l, inl h) (m, inl k) =
-    (k.1.1 ∙ sym h.1.1, m ∙ sym l, k.0 ∙ sym h.0)
+    (k.1.0.1 ∙ sym h.1.0.1, m ∙ sym l, k.0 ∙ sym h.0)
 some_bytes made old new other len other_len status other_status (l, inr h) (m, inr k) =
-    (k.2 ∙ sym h.2, m ∙ sym l, k.0 ∙ sym h.0)
-some_bytes made old new other len other_len status other_status (l, inl h) (m, inr k) =
-    let fits : length made ≤ length old = h.1.0 in let short : length old < length made = k.1 in
-    absurd (omega (arith, fits, short))
-some_bytes made old new other len other_len status other_status (l, inr h) (m, inl k) =
-    let fits : length made ≤ length old = k.1.0 in let short : length old < length made = h.1 in
-    absurd (omega (arith, fits, short))
+    let unchanged : new ∷ [] ≡ old ∷ [] = h.2 in let kept : other ∷ [] ≡ old ∷ [] = k.2 in
+    let same : other ≡ new = cc in (same, m ∙ sym l, k.0 ∙ sym h.0)
+some_bytes made old new other len other_len status other_status (l, inl h) (m, inr k) = absurd (k.1 (h.1.0.0, tt))
+some_bytes made old new other len other_len status other_status (l, inr h) (m, inl k) = absurd (h.1 (k.1.0.0, tt))
 
 bytes : (answer : Found (List ℕ)) (old new other : List ℕ) (len other_len status other_status : ℕ)
     → Delivers answer old new len status → Delivers answer old other other_len other_status
