@@ -24,7 +24,7 @@ lines_of form [] [] each = tt
 lines_of form [] (leaf ∷ all) each = absurd each
 lines_of form (x ∷ found) [] each = absurd each
 lines_of form (x ∷ found) (leaf ∷ all) each =
-    let shown = ap (λ (steps : List Key). encode_lower x.1 ++ codes " " ++ key_path_text steps ++ codes "\n") each.0.0 in
+    let shown = ap (λ (steps : List Key). encode_lower x.1 ++ (codes " " ++ key_path_text steps ++ codes "\n")) each.0.0 in
     ((x.1, each.0.1, shown), lines_of form found all each.1)
 
 all_lines : (form : Form) (found : List (KeyPaths × OwnedJsonb)) (all : List Leaf) → AllZip (IsLeafDocument form) found all

@@ -13,10 +13,10 @@ use Rattle.jsonb.specs.OwnedJsonb.{OwnedJsonb}
 use Rattle.jsonb.specs.Documents.{MakesOption}
 use Rattle.jsonb.specs.KeyPathGrammar.{Key, key_path}
 use Rattle.jsonb.specs.Depth.{deepest}
-use Rattle.jsonb.specs.KeyAnswer.{IsOutOfMemoryOrTooDeep, GivesKey}
+use Rattle.jsonb.specs.KeyAnswer.{GivesKey}
 use Rattle.jsonb.specs.Places.{tree_at_steps}
-use Rattle.jsonb.specs.SortableKey.{sortable_key, depths}
-use Rattle.jsonb_tool.specs.Output.{IsOutputOf, OnDocument, ShowsKey, ShowsTrees}
+use Rattle.jsonb.specs.SortableKey.{sortable_key}
+use Rattle.jsonb_tool.specs.Output.{IsOutputOf, OnDocument, ShowsTrees}
 use Rattle.jsonb_tool.specs.Private.Lines.{document_line, found_text}
 use Rattle.jsonb_tool.specs.Requests.{get, key}
 
@@ -77,15 +77,10 @@ pub ShowsKeyOf-made : (bytes : List ℕ) (made : Vec ℕ Global) (lines : List �
 ShowsKeyOf-made bytes made lines decodes h line =
     rw line (inl (decodes, λ form t d. let k = h form t d in (ap (λ (xs : List ℕ). encode_lower xs ++ codes "\n") k.0, k.1)))
 
--- an error other than `OutOfMemory` means that the tree is too deep
-ShowsKey-refused : (t : Tree) (e : Error) → (e ≡ OutOfMemory → ⊥) → IsOutOfMemoryOrTooDeep (deepest t) (depths w8) e → ShowsKey t (Err e)
-ShowsKey-refused t e other (inl h) = absurd (other h)
-ShowsKey-refused t e other (inr h) = h
-
 -- its error if no key was built
 pub ShowsKeyOf-refused : (bytes : List ℕ) (e : Error)
     → ((t : Tree) × Decodes any bytes t) → MakesKeyOf bytes (Err e)
     → (e ≡ OutOfMemory) ⊎ IsOutputOf (key bytes) (Err e)
 ShowsKeyOf-refused bytes OutOfMemory decodes h = inl refl
 ShowsKeyOf-refused bytes e decodes h =
-    inr (inl (decodes, λ form t d. ShowsKey-refused t e (λ q. cc) (h form t d)))
+    inr (inl (decodes, h))

@@ -1,5 +1,5 @@
 -- From what a path selects, or says, to the lines that show it.
-use Rattle.std.proofs.Common.{◌≡◌, ℕ, List, [], ◌∷◌, map, Some, Result, Ok, Err, ◌⊎◌, inl, inr, refl, IsOkAnd}
+use Rattle.std.proofs.Common.{◌≡◌, ℕ, List, [], ◌∷◌, map, Some, Result, Ok, Err, ◌⊎◌, inl, inr, refl, IsOkAnd, codes}
 use Rattle.std.specs.Prelude.{Vec, MatchResult}
 use Rattle.std.specs.declared.alloc.Global.{Global}
 use Rattle.std.specs.List.{AllZip, Any}
@@ -17,7 +17,7 @@ use Rattle.jsonb.specs.PathTree.{Step}
 use Rattle.jsonb.specs.declared.selector.document.Mode.TheVariants.{Lax}
 use Rattle.jsonb.proofs.ReadMeans.{read_means}
 use Rattle.jsonb.specs.Limits.{IsTooLarge}
-use Rattle.jsonb_tool.specs.Output.{IsDocumentLine, IsOutputOf, ShowsTrees, truth_line}
+use Rattle.jsonb_tool.specs.Output.{IsLineOf, IsOutputOf, ShowsTrees, truth_line}
 use Rattle.jsonb_tool.specs.Private.Lines.{document_line, found_lines}
 use Rattle.jsonb_tool.specs.Requests.{path_match, select}
 use Rattle.jsonb_tool.proofs.LeafLines.{joined}
@@ -30,7 +30,7 @@ SelectsBy path bytes r = (form : Form) (top : Tree) (outcome : Result (List Tree
     → Refines (λ v ts. AllZip (Decodes form) v.items ts) (IsOutOfMemory or TooLarge when IsOkAnd outcome (Any (IsTooLarge form))) r outcome
 
 lines_of : (form : Form) (documents : List OwnedJsonb) (ts : List Tree) → AllZip (Decodes form) documents ts
-    → AllZip (IsDocumentLine form) ts (map document_line documents)
+    → AllZip (IsLineOf (codes "\n") form) ts (map document_line documents)
 lines_of form [] [] h = tt
 lines_of form [] (t ∷ ts) h = absurd h
 lines_of form (d ∷ documents) [] h = absurd h

@@ -3,10 +3,11 @@ use Rattle.std.specs.Prelude.{◌≡◌, ◌⊎◌, ℕ, List, ◌++◌, Ok, Err
 use Rattle.jsonb.specs.Error.TheVariants.{OutOfMemory}
 use Rattle.jsonb.specs.ErrorText.{error_text}
 use Rattle.jsonb_tool.specs.Requests.{request_of}
-use Rattle.jsonb_tool.specs.Output.{Output, IsOutputOf}
+use Rattle.jsonb.specs.Answer.{Outcome}
+use Rattle.jsonb_tool.specs.Output.{IsOutputOf}
 
 -- the lines of a command with status 0, or the line of its error with status 1
-abbrev pub Prints : Output → List ℕ → ℕ → Type 0
+abbrev pub Prints : Outcome (List ℕ) → List ℕ → ℕ → Type 0
 Prints (Ok text) lines status = (lines ≡ text) × (status ≡ 0)
 Prints (Err e) lines status = (lines ≡ codes "refused: " ++ error_text e ++ codes "\n") × (status ≡ 1)
 
@@ -14,5 +15,5 @@ Prints (Err e) lines status = (lines ≡ codes "refused: " ++ error_text e ++ co
 abbrev pub IsAnswer : List (List ℕ) → List ℕ → ℕ → Type 0
 IsAnswer words lines status =
     MatchOption (request_of words) ((lines ≡ codes "usage\n") × (status ≡ 2))
-    (λ request. (outcome : Output) × IsOutputOf request outcome × Prints outcome lines status)
+    (λ request. (outcome : Outcome (List ℕ)) × IsOutputOf request outcome × Prints outcome lines status)
     ⊎ Prints (Err OutOfMemory) lines status

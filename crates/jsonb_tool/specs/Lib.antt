@@ -1,5 +1,4 @@
 pub mod Requests
-pub mod Views
 pub mod Answers
 pub mod Output
 pub mod Private

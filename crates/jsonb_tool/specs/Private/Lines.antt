@@ -8,10 +8,10 @@ use Rattle.jsonb.specs.KeyPaths.{KeyPaths}
 use Rattle.jsonb.specs.KeyPathText.{key_path_text}
 use Rattle.jsonb.specs.KeyPathViews.{key_paths_view}
 use Rattle.jsonb.specs.OwnedJsonb.{OwnedJsonb}
-use Rattle.jsonb_tool.specs.Output.{Output}
+use Rattle.jsonb.specs.Answer.{Outcome}
 
 -- The lines are such an outcome, or the error is one, unless an allocation failed.
-abbrev pub Prints : (Output → Type 0) → Result (String Global) Error → Type 0
+abbrev pub Prints : (Outcome (List ℕ) → Type 0) → Result (String Global) Error → Type 0
 Prints IsOutcome answer =
     MatchResult answer (λ lines. IsOutcome (Ok (string_bytes lines))) (λ e. (e ≡ OutOfMemory) ⊎ IsOutcome (Err e))
 
@@ -31,7 +31,7 @@ found_lines (document ∷ documents) = flat_map document_line (document ∷ docu
 
 -- the line of a leaf: its document in hexadecimal, a space, and its key path as it prints
 abbrev pub leaf_line : KeyPaths × OwnedJsonb → List ℕ
-leaf_line leaf = encode_lower leaf.1 ++ codes " " ++ key_path_text (key_paths_view leaf.0) ++ codes "\n"
+leaf_line leaf = encode_lower leaf.1 ++ (codes " " ++ key_path_text (key_paths_view leaf.0) ++ codes "\n")
 
 -- a line for each leaf, or that of none
 abbrev pub leaf_lines : List (KeyPaths × OwnedJsonb) → List ℕ
