@@ -12,13 +12,9 @@ use Rattle.jsonb_c.specs.declared.prepared.path.PreparedPath.{PreparedPath}
 abbrev pub the_heap : Global
 the_heap = record { memory = record { seal = tt } }
 
--- The false assertion: no handle satisfies it.
-abbrev owns_never : Fml
-owns_never = fex ⊥ (λ _. ftrue)
-
--- The path's block and the right to free it, if the flag is set. Otherwise there is no path, and nothing is owned.
+-- The path's block and the right to free it, if the flag is set. Otherwise there is no path, and nothing is owned. No
+-- other handle exists: the last assertion is false.
 abbrev pub owns_kept : Bool → Ptr → Option PreparedPath → Fml
 owns_kept true p (Some x) = box_owns (ghosts.dealloc_token the_heap) the_row p x
-owns_kept true p None = owns_never
-owns_kept false p (Some x) = owns_never
 owns_kept false p None = ftrue
+owns_kept there p kept = fex ⊥ (λ _. ftrue)
