@@ -1,6 +1,7 @@
 -- The results of events, as statuses, and what the handle keeps after them.
 use Rattle.std.proofs.Common.{◌≡◌, ◌∙◌, ℕ, List, Vec, Global, ap, inl, inr, refl, Option, Some, None, Result, Ok, Err}
 use Rattle.std.specs.Prelude.{MatchOption, MatchResult, OnErr}
+use Rattle.jsonb_doc.specs.Answer.{IsOutOfMemory}
 use Rattle.jsonb_doc.specs.DocumentBuilder.{Holds, Takes}
 use Rattle.jsonb_doc.specs.Events.{Event, State, next, no_events}
 use Rattle.jsonb_doc.specs.Format.{Decodes}
@@ -10,11 +11,12 @@ use Rattle.jsonb_doc.specs.declared.document_builder.DocumentBuilder.{DocumentBu
 use Rattle.jsonb_doc.specs.declared.error.Error.TheVariants.{OutOfMemory}
 use Rattle.jsonb_doc.specs.declared.event_error.EventError.{EventError}
 use Rattle.jsonb_doc.specs.declared.event_error.EventError.TheVariants.{OutOfOrder, Failed}
-use Rattle.jsonb_c.specs.Answers.{DeliversBytes}
-use Rattle.jsonb_c.specs.Builders.{Follows, HoldsEvents, TakesEvent, WritesWhole, event_status}
+use Rattle.jsonb_c.specs.Answers.{DeliversBytes, DeliversMade, DeliversNothing, WritesResult}
+use Rattle.jsonb_c.specs.Builders.{Follows, HoldsEvents, TakesEvent, event_status}
 use Rattle.jsonb_c.specs.Private.Events.{IsKeptOrNew, KeepsState}
 use Rattle.jsonb_c.specs.Status.{code, status_of}
 use Rattle.jsonb_c.specs.declared.status.Status.TheVariants.{Answered}
+use Rattle.jsonb_c.specs.declared.status.Status.TheVariants as causes
 use Rattle.jsonb_c.specs.declared.prepared.path.PreparedPath.{PreparedPath}
 use Rattle.jsonb_c.specs.declared.prepared.path.PreparedPath.TheVariants.{Events}
 
@@ -26,9 +28,9 @@ same_error r e d is other = cc
 status_takes : (form : Form) (s : State) (meaning : Result State EventError) (r : Result (Unit {0}) EventError) (b : DocumentBuilder) (status : ℕ)
     → MatchResult r (λ _. status ≡ code Answered) (λ e. status ≡ event_status e) → Takes form s meaning r b → TakesEvent form s meaning status (Some (Events b))
 status_takes form s (Ok after) (Ok x) b status is h = inl (is, h)
-status_takes form s (Ok after) (Err e) b status is h = inr (h.0, (e, h.1, is))
+status_takes form s (Ok after) (Err e) b status is h = inr (h.0, (e, is, h.1))
 status_takes form s (Err d) (Ok x) b status is h = absurd (cc)
-status_takes form s (Err d) (Err e) b status is h = (inl (is ∙ ap event_status (same_error (Err e) e d refl h.0)), h.1)
+status_takes form s (Err d) (Err e) b status is h = inr (h.1, (e, is, inl (same_error (Err e) e d refl h.0)))
 
 pub follows : (form : Form) (event : Event) (old b : DocumentBuilder) (r : Result (Unit {0}) EventError) (status : ℕ)
     → MatchResult r (λ _. status ≡ code Answered) (λ e. status ≡ event_status e) → ((s : State) → Holds form old s → Takes form s (next event s) r b)
@@ -61,8 +63,8 @@ state_kept None kept status new is h = λ form s empty fails. h form s (rw empty
 
 out_of_memory : (form : Form) (s : State) (meaning : Result State EventError) (status : ℕ) → status ≡ status_of OutOfMemory → s ≡ no_events
     → TakesEvent form s meaning status None
-out_of_memory form s (Ok after) status is empty = inr (empty, (Failed OutOfMemory, inl refl, is))
-out_of_memory form s (Err d) status is empty = (inr is, empty)
+out_of_memory form s (Ok after) status is empty = inr (empty, (Failed OutOfMemory, is, inl refl))
+out_of_memory form s (Err d) status is empty = inr (empty, (Failed OutOfMemory, is, inr refl))
 
 -- before the first event, an allocation fails
 pub fails_first : (form : Form) (event : Event) (status : ℕ) → status ≡ status_of OutOfMemory → Follows form event None status None
@@ -72,6 +74,13 @@ fails_first form event status is = record {
 }
 
 -- ---- the document
+
+-- a document of the tree is delivered; without a tree the root is not complete
+abbrev WritesWhole : Form → Option Tree → List ℕ → List ℕ → ℕ → ℕ → Type 0
+WritesWhole form found old new len status =
+    MatchOption found (DeliversNothing causes.OutOfOrder old new len status)
+    (λ t. WritesResult (λ answer. MatchResult answer (λ made. Decodes form made t) IsOutOfMemory) IsOutOfMemory
+    (λ answer. DeliversMade answer old new len status))
 
 pub finish_writes : (form : Form) (found : Option Tree) (r : Result (Vec ℕ Global) EventError) (made : Vec ℕ Global) (old new : List ℕ) (len status : ℕ)
     → r ≡ Ok made → MatchOption found (r ≡ Err OutOfOrder) (λ t. MatchResult r (λ v. Decodes form v.items t) (λ e. e ≡ Failed OutOfMemory))

@@ -1,5 +1,5 @@
 -- Documents built from events, with a builder that a handle keeps.
-use Rattle.std.specs.Prelude.{◌≡◌, ◌⊎◌, ℕ, List, Option, Some, None, Result, Ok, Err, MatchResult, ⊤}
+use Rattle.std.specs.Prelude.{◌≡◌, ◌⊎◌, ℕ, List, Option, Some, None, Result, IsOkAnd, MatchOption, MatchResult, ⊤}
 use Rattle.jsonb_doc.specs.Answer.{IsOutOfMemory}
 use Rattle.jsonb_doc.specs.DocumentBuilder.{Holds, IsFailureAt}
 use Rattle.jsonb_doc.specs.Events.{Event, State, next, no_events, whole}
@@ -37,12 +37,10 @@ event_status (refusal.Failed e) = status_of e
 -- Holds if the handle and the status are those after an event with this meaning. After an error the handle has the
 -- state `before` the event.
 abbrev pub TakesEvent : Form → State → Result State EventError → ℕ → Option PreparedPath → Type 0
-TakesEvent form before (Ok after) status kept =
-    ((status ≡ code Answered) × HoldsEvents form kept after)
-    ⊎ (HoldsEvents form kept before
-    × ((e : EventError) × IsFailureAt form after.inner e × (status ≡ event_status e)))
-TakesEvent form before (Err e) status kept =
-    ((status ≡ event_status e) ⊎ (status ≡ status_of OutOfMemory)) × HoldsEvents form kept before
+TakesEvent form before meaning status kept =
+    IsOkAnd meaning (λ after. (status ≡ code Answered) × HoldsEvents form kept after)
+    ⊎ (HoldsEvents form kept before × ((e : EventError) × (status ≡ event_status e)
+    × MatchResult meaning (λ after. IsFailureAt form after.inner e) (λ d. (e ≡ d) ⊎ (e ≡ refusal.Failed OutOfMemory))))
 
 -- Holds if the event was passed to the builder. A handle that keeps a path or items is unchanged.
 pub record Follows (form : Form) (event : Event) (old : Option PreparedPath) (status : ℕ)
@@ -52,15 +50,11 @@ pub record Follows (form : Form) (event : Event) (old : Option PreparedPath) (st
 
 -- ---- the document
 
--- Holds if a document of the tree is delivered; without a tree the root is not complete.
-abbrev pub WritesWhole : Form → Option Tree → List ℕ → List ℕ → ℕ → ℕ → Type 0
-WritesWhole form None old new len status = DeliversNothing OutOfOrder old new len status
-WritesWhole form (Some t) old new len status =
-    WritesResult (λ answer. MatchResult answer (λ made. Decodes form made t) IsOutOfMemory) IsOutOfMemory
-    (λ answer. DeliversMade answer old new len status)
-
--- Holds if the document of the events is delivered. Nothing is if the handle keeps a path or items.
+-- Holds if the document of the events is delivered. Nothing is if the root is not complete, or the handle keeps a path or
+-- items.
 pub record Finishes (kept : Option PreparedPath) (old new : List ℕ) (len status : ℕ) : Type 0 where
   pub document : (form : Form) (s : State) → HoldsEvents form kept s
-      → WritesWhole form (whole s.inner) old new len status
+      → MatchOption (whole s.inner) (DeliversNothing OutOfOrder old new len status)
+      (λ t. WritesResult (λ answer. MatchResult answer (λ made. Decodes form made t) IsOutOfMemory) IsOutOfMemory
+      (λ answer. DeliversMade answer old new len status))
   pub other : KeepsOther kept → DeliversNothing NoPath old new len status
