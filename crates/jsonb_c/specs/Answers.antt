@@ -1,8 +1,9 @@
 -- Results written to the caller's memory, and the status of each.
-use Rattle.std.specs.Prelude.{◌≡◌, ◌⊎◌, ◌≤◌, ◌++◌, ℕ, List, [], ◌∷◌, drop, length, Option, Some, None, Result, Ok, Err, IfErr, MatchResult}
+use Rattle.std.specs.Prelude.{◌≡◌, ◌⊎◌, ◌≤◌, ◌++◌, ℕ, List, [], ◌∷◌, drop, length, Option, Some, None, option_map, unwrap_or, Result, Ok, Err, IfErr, MatchResult}
 use Rattle.std.specs.List.{AllZip, zip}
 use Rattle.jsonb_doc.specs.declared.error.Error.{Error}
 use Rattle.jsonb_doc.specs.declared.error.Error.TheVariants.{OutOfMemory}
+use Rattle.jsonb_doc.specs.Answer.{and_then}
 use Rattle.jsonb_doc.specs.Payload.{Form}
 use Rattle.jsonb_doc.specs.Format.{Decodes}
 use Rattle.jsonb_doc.specs.Tree.{Tree}
@@ -20,6 +21,10 @@ Found A = Result (Option A) Error
 abbrev pub found : {A B : Type 0} → (A → B) → Result A Error → Found B
 found written (Ok x) = Ok (Some (written x))
 found written (Err e) = Err e
+
+-- A value that may be absent, in its written form, as a result.
+abbrev pub found_as : {A B : Type 0} → (A → B) → Found A → Found B
+found_as written answer = and_then answer (λ found. Ok (option_map written found))
 
 -- ---- the caller's buffer
 
@@ -55,8 +60,7 @@ DeliversMade answer old new len status = Delivers (found (λ made. made) answer)
 
 -- 0 for false, 1 for true, 2 for unknown.
 abbrev pub truth_byte : Truth → ℕ
-truth_byte (Some b) = bool_number b
-truth_byte None = 2
+truth_byte truth = unwrap_or (option_map bool_number truth) 2
 
 -- Holds if the value is delivered; it is unchanged if there is none or the call fails.
 abbrev pub ShowsFound : {A : Type 0} → Found A → A → A → ℕ → Type 0

@@ -1,17 +1,19 @@
 //! The children of a document one by one.
 
-ghost use Rattle.std.specs.Prelude.{◌≡◌, ◌⊎◌, IsOkAnd, IfErr, IfOk, IfNone, IfSome, MatchResult, Option};
+ghost use Rattle.std.specs.Prelude.{◌≡◌, ◌⊎◌, IsOkAnd, IfErr, IfOk, IfNone, IfSome, MatchResult, Option, unwrap_or};
 ghost use Rattle.jsonb_doc.specs.Answer.{SameOption, IsDecodingError};
 ghost use Rattle.jsonb_doc.specs.ChildPositions.{OpensChildren};
 ghost use Rattle.jsonb_doc.specs.Format.{Decodes};
 ghost use Rattle.jsonb_doc.specs.Payload.{Form};
 ghost use Rattle.jsonb_doc.specs.Spots.{Locates};
 ghost use Rattle.jsonb_doc.specs.Tree.{Tree};
-ghost use Rattle.jsonb_c.specs.Answers.{WritesResult, OfDocument, ShowsFound};
-ghost use Rattle.jsonb_c.specs.Cursors.{ShowsChild, TakesSpans};
+ghost use Rattle.jsonb_doc.specs.declared.child_positions.ChildPositions.{ChildPositions};
+ghost use Rattle.jsonb_c.specs.Answers.{OfDocument, ShowsFound, WritesResult, found_as};
+ghost use Rattle.jsonb_c.specs.Cursors.{TakesSpans};
 ghost use Rattle.jsonb_c.specs.Private.Views.{IsChildWithin};
 ghost use Rattle.jsonb_c.specs.Spans.{IsSpanOf, IsWithin};
 ghost use Rattle.jsonb_c.specs.Status.{code};
+ghost use Rattle.jsonb_c.specs.declared.span.Span.{Span};
 ghost use Rattle.jsonb_c.specs.declared.status.Status.TheVariants.{Answered};
 
 use crate::deliver::store_found;
@@ -46,7 +48,9 @@ pub extern "C" fn jdoc_cursor_next(
     value: &mut Span,
 ) -> u32
     ensures child { WritesResult (λ answer. TakesSpans document.now cursor.old answer cursor.new) IsDecodingError
-        (λ answer. ShowsChild answer (cursor.old, key.old, value.old) (cursor.new, key.new, value.new) result) }
+        (λ answer. ShowsFound {A = ChildPositions × Span × Span}
+        (found_as (λ child. (cursor.new, unwrap_or child.key key.old, child.value)) answer)
+        (cursor.old, key.old, value.old) (cursor.new, key.new, value.new) result) }
     ensures within { result ≡ code Answered → IsWithin document.now value.new
         × ((key.new ≡ key.old) ⊎ IsWithin document.now key.new) }
 {

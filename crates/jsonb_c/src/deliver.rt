@@ -1,10 +1,9 @@
 //! Results written to the caller's memory.
 
-ghost use Rattle.std.specs.Prelude.{◌≡◌, ◌≤◌, ◌+◌, ◌++◌, take, drop, length, option_map, string_bytes, Ok};
-ghost use Rattle.jsonb_doc.specs.Answer.{and_then};
+ghost use Rattle.std.specs.Prelude.{◌≡◌, ◌≤◌, ◌+◌, ◌++◌, take, drop, length, string_bytes};
 ghost use Rattle.jsonb_raw.specs.Casts.{bool_number};
 ghost use Rattle.jsonb_c.specs.Status.{code};
-ghost use Rattle.jsonb_c.specs.Answers.{Delivers, DeliversBytes, Shows, ShowsFound, found, truth_byte, DeliversMade};
+ghost use Rattle.jsonb_c.specs.Answers.{Delivers, DeliversBytes, Shows, ShowsFound, found, found_as, truth_byte, DeliversMade};
 ghost use Rattle.jsonb_c.specs.Private.Buffers.{Places};
 ghost use Rattle.jsonb_c.specs.Private.Views.{found_text, vec_answer};
 
@@ -133,7 +132,7 @@ pub(crate) fn store_bool(answer: Result<bool, Error>, truth: &mut u8) -> u32
 
 /// Stores a Boolean, or returns the status if there is none or the call failed.
 pub(crate) fn store_found_bool(answer: Result<Option<bool>, Error>, truth: &mut u8) -> u32
-    ensures { ShowsFound (and_then answer (λ found. Ok (option_map bool_number found))) truth.old truth.new result }
+    ensures { ShowsFound (found_as bool_number answer) truth.old truth.new result }
 {
     match answer {
         Ok(Some(value)) => {

@@ -1,12 +1,12 @@
 //! Documents as Booleans, integers and strings.
 
-ghost use Rattle.std.specs.Prelude.{◌≡◌, ◌<◌, ◌^◌, FitsSigned, IfErr, IsOkAnd, option_map, pos, string_bytes, Ok};
+ghost use Rattle.std.specs.Prelude.{◌≡◌, ◌<◌, ◌^◌, FitsSigned, IfErr, IsOkAnd, pos, string_bytes};
 ghost use Rattle.std.specs.Int.{w64};
-ghost use Rattle.jsonb_doc.specs.Answer.{IsDecodingError, ◌or◌, and_then};
+ghost use Rattle.jsonb_doc.specs.Answer.{IsDecodingError, ◌or◌};
 ghost use Rattle.jsonb_doc.specs.declared.error.Error.TheVariants.{InvalidCast, OutOfMemory};
 ghost use Rattle.jsonb_raw.specs.Casts.{CastsToBool, CastsToText, CastsToU64, bool_number, text_of};
 ghost use Rattle.jsonb_raw.specs.Scalars.{boolean_in, text_in};
-ghost use Rattle.jsonb_c.specs.Answers.{WritesResult, Delivers, OfDocument, Shows, ShowsFound, found};
+ghost use Rattle.jsonb_c.specs.Answers.{WritesResult, Delivers, OfDocument, Shows, ShowsFound, found, found_as};
 ghost use Rattle.jsonb_c.specs.Calls.{FindsWhole, WritesI64, WritesText};
 ghost use Rattle.jsonb_c.specs.Private.Views.{found_text};
 
@@ -20,8 +20,7 @@ use std::alloc::Global;
 #[unsafe(no_mangle)]
 pub extern "C" fn jdoc_as_bool(document: &[u8], truth: &mut u8) -> u32
     ensures { WritesResult (OfDocument document.now (λ form t answer. IsOkAnd answer (λ found. found ≡ boolean_in t)))
-        IsDecodingError (λ answer. ShowsFound (and_then answer (λ found. Ok (option_map bool_number found)))
-        truth.old truth.new result) }
+        IsDecodingError (λ answer. ShowsFound (found_as bool_number answer) truth.old truth.new result) }
 {
     store_found_bool(RawJsonb::new(document).as_bool(), truth)
 }
