@@ -1,5 +1,5 @@
 -- Columns: rows of documents in one buffer, and what is written for them.
-use Rattle.std.specs.Prelude.{◌≡◌, ◌⊎◌, ◌<◌, ◌+◌, ◌-◌, nat_le, min, ℕ, List, [], ◌∷◌, map, flat_map, take, length, slice_range, slice_get, Option, Some, None, if◌then◌else◌}
+use Rattle.std.specs.Prelude.{◌≡◌, ◌⊎◌, ◌<◌, ◌+◌, ◌-◌, ◌&&◌, nat_le, min, ℕ, List, [], ◌∷◌, map, flat_map, take, length, slice_range, slice_get, Option, Some, None, if◌then◌else◌}
 use Rattle.std.specs.List.{AllZip}
 use Rattle.jsonb_c.specs.Status.{code}
 use Rattle.jsonb_c.specs.declared.status.Status.TheVariants.{Answered, BadOffsets, BufferTooSmall}
@@ -10,8 +10,7 @@ use Rattle.jsonb_c.specs.declared.column.join.Progress.{Progress}
 
 -- The bytes between two offsets, which must be in order and within the data.
 abbrev pub row : List ℕ → ℕ → ℕ → Option (List ℕ)
-row bytes from to =
-    if nat_le from to then (if nat_le to (length bytes) then Some (slice_range bytes from to) else None) else None
+row bytes from to = if nat_le from to && nat_le to (length bytes) then Some (slice_range bytes from to) else None
 
 -- The rows between each offset and the next.
 abbrev pub rows : List ℕ → List ℕ → List (Option (List ℕ))

@@ -15,10 +15,9 @@ use Rattle.jsonb_c.specs.declared.span.Span.{Span}
 
 -- Holds if the result is the span of the first item, or says that the path is an expression, which computes it.
 abbrev pub FindsFirstSpan : Mode → List ℕ → List Step → Result (Option (FirstItem Span)) Error → Type 0
-FindsFirstSpan mode document path answer = ByMeanings mode document path
-    (λ form outcome said. Refines
+FindsFirstSpan mode document path = ByMeanings mode document path (λ form outcome answer. Refines
     (λ found ts. SameOption (IsFirstItem (IsSpanOf form document) (is_predicate path)) found (first_item ts))
-    IsOutOfMemory said outcome) answer
+    IsOutOfMemory answer outcome)
 
 -- Holds if the span is delivered; it is unchanged if there is none or the call fails.
 abbrev pub ShowsFirst : Result (Option (FirstItem Span)) Error → Span → Span → ℕ → Type 0

@@ -1,6 +1,7 @@
 -- Columns of names.
 use Rattle.std.specs.Prelude.{not, filter, ℕ, List, [], ◌∷◌, Option, Some, None, Result, Ok, Err, if◌then◌else◌}
 use Rattle.std.specs.List.{list_any}
+use Rattle.std.specs.Result.{result_map_both}
 use Rattle.std.specs.Str.{bytes_eq, is_utf8}
 use Rattle.jsonb_doc.specs.Tree.{Tree}
 use Rattle.jsonb_raw.specs.Objects.{with_pairs}
@@ -13,8 +14,7 @@ name_of None = Err BadOffsets
 name_of (Some bytes) = if is_utf8 bytes then Ok bytes else Err NotUtf8
 
 abbrev pub in_front : Result (List ℕ) Status → Result (List (List ℕ)) Status → Result (List (List ℕ)) Status
-in_front (Ok name) (Ok names) = Ok (name ∷ names)
-in_front (Ok name) (Err cause) = Err cause
+in_front (Ok name) others = result_map_both (λ names. name ∷ names) (λ cause. cause) others
 in_front (Err cause) others = Err cause
 
 -- The names in the rows, or the status of the first row without one.

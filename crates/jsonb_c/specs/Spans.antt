@@ -27,6 +27,5 @@ HasSpan document form wanted answer = IsOkAnd answer (λ found. SameOption (IsSp
 
 -- Holds if the result is the span of the value at the steps, or `None` if there is none.
 abbrev pub FindsSpan : List Key → List ℕ → Result (Option Span) Error → Type 0
-FindsSpan steps document answer = OfDocument document
-    (λ form t said. MatchResult said (λ found. SameOption (IsSpanOf form document) found (tree_at_steps steps t))
-    IsOutOfMemory) answer
+FindsSpan steps document = OfDocument document (λ form t answer. MatchResult answer
+    (λ found. SameOption (IsSpanOf form document) found (tree_at_steps steps t)) IsOutOfMemory)
