@@ -3,7 +3,6 @@ pub mod Boxes
 pub mod Buffers
 pub mod LeafColumns
 pub mod NameColumns
-pub mod PathRows
 pub mod Views
 pub mod Events
 pub mod Numbers

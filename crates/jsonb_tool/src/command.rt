@@ -3,7 +3,7 @@
 ghost use Rattle.std.specs.Prelude.{◌≡◌, map, option_map, IfOk, IfErr, string_bytes};
 ghost use Rattle.jsonb.specs.Error.TheVariants.{OutOfMemory};
 ghost use Rattle.jsonb_tool.specs.Requests.{bytes_of, request_of};
-ghost use Rattle.jsonb_tool.specs.Private.Views.{request};
+ghost use Rattle.jsonb_tool.specs.Private.Lines.{request};
 ghost use Rattle.jsonb.specs.Answer.{IsOutOfMemory};
 
 use hex::FromHexError;

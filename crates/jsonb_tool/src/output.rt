@@ -9,7 +9,7 @@ ghost use Rattle.jsonb.specs.Documents.{raw_bytes};
 ghost use Rattle.jsonb_tool.specs.Output.{IsDamage, IsOutputOf, truth_line};
 ghost use Rattle.jsonb_tool.specs.Requests as spec;
 ghost use Rattle.jsonb_tool.specs.Private.Lines.{Prints, found_lines, found_text, leaf_line, leaf_lines};
-ghost use Rattle.jsonb_tool.specs.Private.Views.{request};
+ghost use Rattle.jsonb_tool.specs.Private.Lines.{request};
 ghost use Rattle.hex.specs.Hex.{encode_lower};
 
 use crate::command::Command;

@@ -6,8 +6,16 @@ use Rattle.jsonb_doc.specs.declared.error.Error.{Error}
 use Rattle.jsonb_doc.specs.declared.error.Error.TheVariants.{InvalidJsonPath}
 use Rattle.jsonb_doc.specs.Tree.{Tree}
 use Rattle.jsonb.specs.SelectorAnswers.{first_item, single_or_array}
-use Rattle.jsonb_c.specs.Answers.{Found}
-use Rattle.jsonb_c.specs.Calls.{one_array}
+use Rattle.jsonb_c.specs.Answers.{Found, Shows, ShowsFound, truth_byte}
+use Rattle.jsonb_c.specs.Calls.{DeletesPart, FindsPart, TellsExistence, TellsTruth, one_array}
+use Rattle.jsonb.specs.KeyPathGrammar.{Key}
+use Rattle.jsonb.specs.PathTree.{Step}
+use Rattle.jsonb.specs.declared.selector.document.Mode.{Mode}
+use Rattle.jsonb_raw.specs.Casts.{bool_number}
+use Rattle.jsonb_c.specs.declared.column.documents.Operation.{Operation}
+use Rattle.jsonb_c.specs.declared.column.documents.Operation.TheVariants.{Part, Rest}
+use Rattle.jsonb_c.specs.declared.column.truths.Question.{Question}
+use Rattle.jsonb_c.specs.declared.column.truths.Question.TheVariants.{Existence, Truth}
 use Rattle.jsonb_c.specs.declared.document.select.Pick.{Pick}
 use Rattle.jsonb_c.specs.declared.document.select.Pick.TheVariants.{First, Value, Array}
 use Rattle.jsonb_c.specs.declared.read.KeyValue.{KeyValue}
@@ -34,6 +42,20 @@ abbrev pub pick_of : Pick → List Tree → Option Tree
 pick_of First = first_item
 pick_of Value = single_or_array
 pick_of Array = one_array
+
+-- whether the path selects an item, or its result as a predicate
+abbrev pub told : Question → Mode → List Step → List ℕ → ℕ → ℕ → ℕ → Type 0
+told Existence mode path = λ document old new status.
+    TellsExistence mode path document (λ answer. Shows bool_number answer old new status)
+told Truth mode path = λ document old new status.
+    TellsTruth mode path document (λ answer. Shows truth_byte answer old new status)
+
+-- the value at the location of the steps, or the document without it
+abbrev pub place_of : Operation → List Key → List ℕ → List ℕ → List ℕ → ℕ → Type 0
+place_of Part steps = λ document old new status.
+    FindsPart steps document (λ answer. ShowsFound answer old new status)
+place_of Rest steps = λ document old new status.
+    DeletesPart steps document (λ answer. Shows (λ made. made) answer old new status)
 
 abbrev pub pair_answer : Result (Option KeyValue) Error → Result (Option (List ℕ × List ℕ)) Error
 pair_answer (Ok (Some found)) = Ok (Some (found.key.now, found.value.items))

@@ -14,7 +14,7 @@ ghost use Rattle.jsonb_c.specs.Answers.{OfDocument, Shows, ShowsFound, With};
 ghost use Rattle.jsonb_c.specs.Calls.{DeletesPart, DeletesPlace, FindsPart, SelectsItem, mode_of, one_array};
 ghost use Rattle.jsonb_c.specs.Columns.{IsUntouched, JoinsRows, rows};
 ghost use Rattle.jsonb_c.specs.Private.Buffers.{written_answer};
-ghost use Rattle.jsonb_c.specs.Private.PathRows.{place_of};
+ghost use Rattle.jsonb_c.specs.Private.Views.{place_of};
 ghost use Rattle.jsonb_c.specs.Status.{code};
 ghost use Rattle.jsonb_c.specs.declared.status.Status.TheVariants.{NotJsonPath, Refused};
 ghost use Rattle.jsonb_c.specs.Private.Views.{pick_of};
@@ -82,7 +82,7 @@ struct AtPlace<'p> {
 
 impl RowWriter for AtPlace<'_> {
     ghost use Rattle.jsonb.specs.KeyPathViews.{key_paths_view};
-    ghost use Rattle.jsonb_c.specs.Private.PathRows.{place_of};
+    ghost use Rattle.jsonb_c.specs.Private.Views.{place_of};
 
     ghost Writes = { λ call. place_of call.wanted (key_paths_view call.steps) };
 

@@ -11,7 +11,7 @@ ghost use Rattle.jsonb.specs.PathGrammar.{json_path};
 ghost use Rattle.jsonb_c.specs.Answers.{Shows, With, truth_byte};
 ghost use Rattle.jsonb_c.specs.Calls.{TellsContainment, TellsExistence, TellsTruth, mode_of};
 ghost use Rattle.jsonb_c.specs.Columns.{FillsRows, rows};
-ghost use Rattle.jsonb_c.specs.Private.PathRows.{told};
+ghost use Rattle.jsonb_c.specs.Private.Views.{told};
 ghost use Rattle.jsonb_c.specs.Status.{code};
 ghost use Rattle.jsonb_c.specs.declared.status.Status.TheVariants.{NotJsonPath};
 
@@ -48,7 +48,7 @@ struct PathQuery<'p> {
 impl RowCall<u8> for PathQuery<'_> {
     ghost use Rattle.jsonb.specs.PathViews.{path_view};
     ghost use Rattle.jsonb_c.specs.Calls.{mode_of};
-    ghost use Rattle.jsonb_c.specs.Private.PathRows.{told};
+    ghost use Rattle.jsonb_c.specs.Private.Views.{told};
 
     ghost Writes = { λ call. told call.question (mode_of call.strict) (path_view call.path) };
 

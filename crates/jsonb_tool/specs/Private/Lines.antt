@@ -1,4 +1,4 @@
--- The lines of a command in memory.
+-- The request that a command is, and its lines in memory.
 use Rattle.std.specs.Prelude.{◌≡◌, ◌⊎◌, ◌++◌, ℕ, List, [], ◌∷◌, flat_map, Option, Some, None, Result, Ok, Err, String, MatchResult, codes, string_bytes}
 use Rattle.std.specs.declared.alloc.Global.{Global}
 use Rattle.hex.specs.Hex.{encode_lower}
@@ -9,6 +9,18 @@ use Rattle.jsonb.specs.KeyPathText.{key_path_text}
 use Rattle.jsonb.specs.KeyPathViews.{key_paths_view}
 use Rattle.jsonb.specs.OwnedJsonb.{OwnedJsonb}
 use Rattle.jsonb.specs.Answer.{Outcome}
+use Rattle.jsonb_tool.specs.declared.command.Command.{Command}
+use Rattle.jsonb_tool.specs.declared.command.Command.TheVariants.{Get, Key, Leaves, Select, Match}
+use Rattle.jsonb_tool.specs.Requests as spec
+use Rattle.jsonb_tool.specs.Requests.{Request}
+
+-- the request that a command is
+abbrev pub request : Command → Request
+request (Get path document) = spec.get path.now document.items
+request (Key document) = spec.key document.items
+request (Leaves document) = spec.leaves document.items
+request (Select path document) = spec.select path.now document.items
+request (Match path document) = spec.path_match path.now document.items
 
 -- The lines are such an outcome, or the error is one, unless an allocation failed.
 abbrev pub Prints : (Outcome (List ℕ) → Type 0) → Result (String Global) Error → Type 0
