@@ -11,11 +11,11 @@ use Rattle.jsonb_doc.specs.declared.document_builder.DocumentBuilder.{DocumentBu
 use Rattle.jsonb_doc.specs.declared.error.Error.TheVariants.{OutOfMemory}
 use Rattle.jsonb_doc.specs.declared.event_error.EventError.{EventError}
 use Rattle.jsonb_doc.specs.declared.event_error.EventError.TheVariants.{OutOfOrder, Failed}
-use Rattle.jsonb_c.specs.Answers.{DeliversBytes, DeliversMade, DeliversNothing, WritesResult}
+use Rattle.jsonb_c.specs.Answers.{Delivers, DeliversBytes, DeliversNothing, WritesResult, always}
 use Rattle.jsonb_c.specs.Builders.{Follows, HoldsEvents, TakesEvent, event_status}
 use Rattle.jsonb_c.specs.Private.Events.{IsKeptOrNew, KeepsState}
-use Rattle.jsonb_c.specs.Status.{code, status_of}
-use Rattle.jsonb_c.specs.declared.status.Status.TheVariants.{Answered}
+use Rattle.jsonb_c.specs.Status.{code}
+use Rattle.jsonb_c.specs.declared.status.Status.TheVariants.{Answered, Refused}
 use Rattle.jsonb_c.specs.declared.status.Status.TheVariants as causes
 use Rattle.jsonb_c.specs.declared.prepared.path.PreparedPath.{PreparedPath}
 use Rattle.jsonb_c.specs.declared.prepared.path.PreparedPath.TheVariants.{Events}
@@ -61,13 +61,13 @@ pub state_kept : (old : Option PreparedPath) (kept : PreparedPath) (status : ℕ
 state_kept (Some x) kept status new is h = rw is at h
 state_kept None kept status new is h = λ form s empty fails. h form s (rw empty (is form)) fails
 
-out_of_memory : (form : Form) (s : State) (meaning : Result State EventError) (status : ℕ) → status ≡ status_of OutOfMemory → s ≡ no_events
+out_of_memory : (form : Form) (s : State) (meaning : Result State EventError) (status : ℕ) → status ≡ code (Refused OutOfMemory) → s ≡ no_events
     → TakesEvent form s meaning status None
 out_of_memory form s (Ok after) status is empty = inr (empty, (Failed OutOfMemory, is, inl refl))
 out_of_memory form s (Err d) status is empty = inr (empty, (Failed OutOfMemory, is, inr refl))
 
 -- before the first event, an allocation fails
-pub fails_first : (form : Form) (event : Event) (status : ℕ) → status ≡ status_of OutOfMemory → Follows form event None status None
+pub fails_first : (form : Form) (event : Event) (status : ℕ) → status ≡ code (Refused OutOfMemory) → Follows form event None status None
 fails_first form event status is = record {
   takes = λ s empty. out_of_memory form s (next event s) status is empty;
   other = λ k. absurd k;
@@ -80,7 +80,7 @@ abbrev WritesWhole : Form → Option Tree → List ℕ → List ℕ → ℕ → 
 WritesWhole form found old new len status =
     MatchOption found (DeliversNothing causes.OutOfOrder old new len status)
     (λ t. WritesResult (λ answer. MatchResult answer (λ made. Decodes form made t) IsOutOfMemory) IsOutOfMemory
-    (λ answer. DeliversMade answer old new len status))
+    (λ answer. Delivers (always answer) old new len status))
 
 pub finish_writes : (form : Form) (found : Option Tree) (r : Result (Vec ℕ Global) EventError) (made : Vec ℕ Global) (old new : List ℕ) (len status : ℕ)
     → r ≡ Ok made → MatchOption found (r ≡ Err OutOfOrder) (λ t. MatchResult r (λ v. Decodes form v.items t) (λ e. e ≡ Failed OutOfMemory))

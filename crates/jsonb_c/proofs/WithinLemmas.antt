@@ -6,15 +6,15 @@ use Rattle.jsonb_doc.specs.declared.error.Error.{Error}
 use Rattle.jsonb_doc.specs.declared.error.Error.TheVariants.{InvalidJsonb, UnsupportedNumber, InvalidJsonPath, InvalidKeyPath, InvalidCast, InvalidObject, InvalidJsonType, ObjectDuplicateKey, Arithmetic, TooLarge, TooDeep, OutOfMemory, StrictPath}
 use Rattle.jsonb.specs.declared.selector.first_item.FirstItem.{FirstItem}
 use Rattle.jsonb.specs.declared.selector.first_item.FirstItem.TheVariants.{At, Computed}
-use Rattle.jsonb_c.specs.Answers.{ShowsFound}
+use Rattle.jsonb_c.specs.Answers.{Shows}
 use Rattle.jsonb_c.specs.FirstSpans.{ShowsFirst}
 use Rattle.jsonb_c.specs.Private.Views.{IsFirstWithin}
 use Rattle.jsonb_c.specs.Spans.{IsWithin}
-use Rattle.jsonb_c.specs.Status.{code, status_of}
-use Rattle.jsonb_c.specs.declared.status.Status.TheVariants.{Answered}
+use Rattle.jsonb_c.specs.Status.{code}
+use Rattle.jsonb_c.specs.declared.status.Status.TheVariants.{Answered, Refused}
 use Rattle.jsonb_c.specs.declared.span.Span.{Span}
 
-pub refused : (e : Error) → status_of e ≡ code Answered → ⊥
+pub refused : (e : Error) → code (Refused e) ≡ code Answered → ⊥
 refused InvalidJsonb is = let k : 16 ≡ 0 = is in omega (arith, k)
 refused UnsupportedNumber is = let k : 17 ≡ 0 = is in omega (arith, k)
 refused InvalidJsonPath is = let k : 28 ≡ 0 = is in omega (arith, k)
@@ -34,7 +34,7 @@ refused (Arithmetic DecimalOperand) is = let k : 51 ≡ 0 = is in omega (arith, 
 
 module _ (document : List ℕ) where
   pub shown : (answer : Result (Option Span) Error) (old new : Span) (status : ℕ) → IfOk answer (λ found. IfSome found (IsWithin document))
-      → ShowsFound answer old new status → status ≡ code Answered → IsWithin document new
+      → Shows answer old new status → status ≡ code Answered → IsWithin document new
   shown (Ok (Some span)) old new status within is done = rw is.0 within
   shown (Ok None) old new status within is done = let k : 1 ≡ 0 = sym is.1 ∙ done in absurd (omega (arith, k))
   shown (Err e) old new status within is done = absurd (refused e (sym is.1 ∙ done))

@@ -9,7 +9,7 @@ use Rattle.jsonb_doc.specs.Format.{Decodes}
 use Rattle.jsonb_doc.specs.Tree.{Tree}
 use Rattle.jsonb_raw.specs.Casts.{bool_number}
 use Rattle.jsonb.specs.Compare.{Truth}
-use Rattle.jsonb_c.specs.Status.{code, status_of}
+use Rattle.jsonb_c.specs.Status.{code}
 use Rattle.jsonb_c.specs.declared.status.Status.{Status}
 use Rattle.jsonb_c.specs.declared.status.Status.TheVariants.{Absent, Answered, BufferTooSmall, Refused}
 
@@ -17,12 +17,11 @@ use Rattle.jsonb_c.specs.declared.status.Status.TheVariants.{Absent, Answered, B
 abbrev pub Found : Type 0 → Type 0
 Found A = Result (Option A) Error
 
--- A value that always exists, in its written form, as a result.
-abbrev pub found : {A B : Type 0} → (A → B) → Result A Error → Found B
-found written (Ok x) = Ok (Some (written x))
-found written (Err e) = Err e
+-- A value that always exists, as a result.
+abbrev pub always : {A : Type 0} → Result A Error → Found A
+always answer = and_then answer (λ x. Ok (Some x))
 
--- A value that may be absent, in its written form, as a result.
+-- The result with the value in its written form.
 abbrev pub found_as : {A B : Type 0} → (A → B) → Found A → Found B
 found_as written answer = and_then answer (λ found. Ok (option_map written found))
 
@@ -52,10 +51,6 @@ Delivers (Ok (Some bytes)) old new len status = DeliversBytes bytes old new len 
 Delivers (Ok None) old new len status = DeliversNothing Absent old new len status
 Delivers (Err e) old new len status = DeliversNothing (Refused e) old new len status
 
--- Holds if bytes that always exist are delivered.
-abbrev pub DeliversMade : Result (List ℕ) Error → List ℕ → List ℕ → ℕ → ℕ → Type 0
-DeliversMade answer old new len status = Delivers (found (λ made. made) answer) old new len status
-
 -- ---- one value
 
 -- 0 for false, 1 for true, 2 for unknown.
@@ -63,14 +58,10 @@ abbrev pub truth_byte : Truth → ℕ
 truth_byte truth = unwrap_or (option_map bool_number truth) 2
 
 -- Holds if the value is delivered; it is unchanged if there is none or the call fails.
-abbrev pub ShowsFound : {A : Type 0} → Found A → A → A → ℕ → Type 0
-ShowsFound (Ok (Some x)) old new status = (new ≡ x) × (status ≡ code Answered)
-ShowsFound (Ok None) old new status = (new ≡ old) × (status ≡ code Absent)
-ShowsFound (Err e) old new status = (new ≡ old) × (status ≡ status_of e)
-
--- Holds if a value that always exists is delivered, in its written form.
-abbrev pub Shows : {A B : Type 0} → (A → B) → Result A Error → B → B → ℕ → Type 0
-Shows written answer old new status = ShowsFound (found written answer) old new status
+abbrev pub Shows : {A : Type 0} → Found A → A → A → ℕ → Type 0
+Shows (Ok (Some x)) old new status = (new ≡ x) × (status ≡ code Answered)
+Shows (Ok None) old new status = (new ≡ old) × (status ≡ code Absent)
+Shows (Err e) old new status = (new ≡ old) × (status ≡ code (Refused e))
 
 -- ---- what a call promises
 

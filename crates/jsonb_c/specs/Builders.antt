@@ -9,9 +9,9 @@ use Rattle.jsonb_doc.specs.Tree.{Tree}
 use Rattle.jsonb_doc.specs.declared.error.Error.TheVariants.{OutOfMemory}
 use Rattle.jsonb_doc.specs.declared.event_error.EventError.{EventError}
 use Rattle.jsonb_doc.specs.declared.event_error.EventError.TheVariants as refusal
-use Rattle.jsonb_c.specs.Answers.{DeliversNothing, WritesResult, DeliversMade}
-use Rattle.jsonb_c.specs.Status.{code, status_of}
-use Rattle.jsonb_c.specs.declared.status.Status.TheVariants.{Answered, NoPath, OutOfOrder}
+use Rattle.jsonb_c.specs.Answers.{Delivers, DeliversNothing, WritesResult, always}
+use Rattle.jsonb_c.specs.Status.{code}
+use Rattle.jsonb_c.specs.declared.status.Status.TheVariants.{Answered, NoPath, OutOfOrder, Refused}
 use Rattle.jsonb_c.specs.declared.prepared.path.PreparedPath.{PreparedPath}
 use Rattle.jsonb_c.specs.declared.prepared.path.PreparedPath.TheVariants.{Events}
 
@@ -32,7 +32,7 @@ KeepsOther _ = ⊤
 -- The status of an error.
 abbrev pub event_status : EventError → ℕ
 event_status refusal.OutOfOrder = code OutOfOrder
-event_status (refusal.Failed e) = status_of e
+event_status (refusal.Failed e) = code (Refused e)
 
 -- Holds if the handle and the status are those after an event with this meaning. After an error the handle has the
 -- state `before` the event.
@@ -50,11 +50,11 @@ pub record Follows (form : Form) (event : Event) (old : Option PreparedPath) (st
 
 -- ---- the document
 
--- Holds if the document of the events is delivered. Nothing is if the root is not complete, or the handle keeps a path or
--- items.
+-- Holds if the document of the events is delivered. Nothing is if the root is not complete, or the handle keeps a path
+-- or items.
 pub record Finishes (kept : Option PreparedPath) (old new : List ℕ) (len status : ℕ) : Type 0 where
   pub document : (form : Form) (s : State) → HoldsEvents form kept s
       → MatchOption (whole s.inner) (DeliversNothing OutOfOrder old new len status)
       (λ t. WritesResult (λ answer. MatchResult answer (λ made. Decodes form made t) IsOutOfMemory) IsOutOfMemory
-      (λ answer. DeliversMade answer old new len status))
+      (λ answer. Delivers (always answer) old new len status))
   pub other : KeepsOther kept → DeliversNothing NoPath old new len status

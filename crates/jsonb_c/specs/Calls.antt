@@ -29,8 +29,8 @@ use Rattle.jsonb.specs.Compare.{Truth}
 use Rattle.jsonb.specs.SelectorAnswers.{ByMeanings, IsFound, IsPicked, IsTruthOf, array_of}
 use Rattle.jsonb.specs.declared.selector.document.Mode.{Mode}
 use Rattle.jsonb.specs.declared.selector.document.Mode.TheVariants.{Lax, Strict}
-use Rattle.jsonb_c.specs.Status.{code, status_of}
-use Rattle.jsonb_c.specs.declared.status.Status.TheVariants.{Answered}
+use Rattle.jsonb_c.specs.Status.{code}
+use Rattle.jsonb_c.specs.declared.status.Status.TheVariants.{Answered, Refused}
 use Rattle.jsonb_c.specs.Answers.{Found, OfDocument, WritesResult}
 
 -- ---- parts
@@ -110,8 +110,8 @@ IsEqualityKeyOf document answer =
 -- Holds if the bytes are a document, or the status is the error of `check`.
 abbrev pub IsCheckOf : List ℕ → ℕ → Type 0
 IsCheckOf document status = ((status ≡ code Answered) ↔ ((t : Tree) × Decodes any document t))
-    × ((status ≡ status_of UnsupportedNumber) ↔ IsUnsupportedDocument document)
-    × ((status ≡ status_of InvalidJsonb) ↔ IsNoDocument document)
+    × ((status ≡ code (Refused UnsupportedNumber)) ↔ IsUnsupportedDocument document)
+    × ((status ≡ code (Refused InvalidJsonb)) ↔ IsNoDocument document)
 
 -- ---- results that single calls and calls on columns share, and how they are shown
 

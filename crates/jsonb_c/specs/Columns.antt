@@ -19,8 +19,8 @@ rows bytes _ = []
 
 -- ---- what is written for a row
 
--- Holds if these are the value and the status of a row: those that the call on one document writes, in place of the value
--- `other`, which is left if the row's offsets are wrong.
+-- Holds if these are the value and the status of a row: those that the call on one document writes, in place of the
+-- value `other`, which is left if the row's offsets are wrong.
 abbrev pub IsRow : {A : Type 0} → (List ℕ → A → A → ℕ → Type 0) → A → Option (List ℕ) → A × ℕ → Type 0
 IsRow Writes other (Some document) made = Writes document other made.0 made.1
 IsRow Writes other None made = (made.0 ≡ other) × (made.1 ≡ code BadOffsets)

@@ -9,8 +9,8 @@ use Rattle.jsonb.specs.declared.selector.document.Mode.{Mode}
 use Rattle.jsonb.specs.declared.selector.first_item.FirstItem.{FirstItem}
 use Rattle.jsonb.specs.declared.selector.first_item.FirstItem.TheVariants as item
 use Rattle.jsonb_c.specs.Spans.{IsSpanOf}
-use Rattle.jsonb_c.specs.Status.{code, status_of}
-use Rattle.jsonb_c.specs.declared.status.Status.TheVariants.{Absent, Answered, Computed}
+use Rattle.jsonb_c.specs.Status.{code}
+use Rattle.jsonb_c.specs.declared.status.Status.TheVariants.{Absent, Answered, Computed, Refused}
 use Rattle.jsonb_c.specs.declared.span.Span.{Span}
 
 -- Holds if the result is the span of the first item, or says that the path is an expression, which computes it.
@@ -24,4 +24,4 @@ abbrev pub ShowsFirst : Result (Option (FirstItem Span)) Error → Span → Span
 ShowsFirst (Ok (Some (item.At span))) old new status = (new ≡ span) × (status ≡ code Answered)
 ShowsFirst (Ok (Some item.Computed)) old new status = (new ≡ old) × (status ≡ code Computed)
 ShowsFirst (Ok None) old new status = (new ≡ old) × (status ≡ code Absent)
-ShowsFirst (Err e) old new status = (new ≡ old) × (status ≡ status_of e)
+ShowsFirst (Err e) old new status = (new ≡ old) × (status ≡ code (Refused e))

@@ -8,7 +8,8 @@ use Rattle.jsonb_doc.specs.Payload.{Form}
 use Rattle.jsonb_doc.specs.Format.{Decodes}
 use Rattle.jsonb.specs.KeyPathText.{key_path_text}
 use Rattle.jsonb_raw.specs.Leaves.{leaves}
-use Rattle.jsonb_c.specs.Status.{status_of}
+use Rattle.jsonb_c.specs.Status.{code}
+use Rattle.jsonb_c.specs.declared.status.Status.TheVariants.{Refused}
 use Rattle.jsonb_c.specs.Answers.{WritesAll}
 use Rattle.jsonb_c.specs.Columns.{positions_from}
 use Rattle.jsonb_c.specs.declared.leaves.LeafSizes.{LeafSizes}
@@ -32,4 +33,4 @@ abbrev pub DeliversLeaves : Result (List (List ℕ) × List (List ℕ)) Error �
     → ℕ → Type 0
 DeliversLeaves (Ok found) old new sizes status = HasSizes found sizes × WritesAll
     (concat found.0 ∷ positions_from 0 found.0 ∷ concat found.1 ∷ positions_from 0 found.1 ∷ []) old new status
-DeliversLeaves (Err e) old new sizes status = HasSizes ([], []) sizes × (new ≡ old) × (status ≡ status_of e)
+DeliversLeaves (Err e) old new sizes status = HasSizes ([], []) sizes × (new ≡ old) × (status ≡ code (Refused e))

@@ -15,8 +15,8 @@ use Rattle.jsonb_raw.specs.CompositeKeys.{column_key, deepest_of_columns}
 use Rattle.jsonb_raw.specs.Documents.{Makes}
 use Rattle.jsonb_raw.specs.KeyAnswer.{GivesKey}
 use Rattle.jsonb_raw.specs.Objects.{object_each}
-use Rattle.jsonb_c.specs.Status.{code, status_of}
-use Rattle.jsonb_c.specs.declared.status.Status.TheVariants.{Absent}
+use Rattle.jsonb_c.specs.Status.{code}
+use Rattle.jsonb_c.specs.declared.status.Status.TheVariants.{Absent, Refused}
 use Rattle.jsonb_c.specs.Answers.{WritesAll}
 
 -- ---- one value
@@ -100,4 +100,4 @@ abbrev pub DeliversPair : Result (Option (List ℕ × List ℕ)) Error → List 
 DeliversPair (Ok (Some found)) old new lens status =
     (lens ≡ (length found.0, length found.1)) × WritesAll (found.0 ∷ found.1 ∷ []) old new status
 DeliversPair (Ok None) old new lens status = (lens ≡ (0, 0)) × (new ≡ old) × (status ≡ code Absent)
-DeliversPair (Err e) old new lens status = (lens ≡ (0, 0)) × (new ≡ old) × (status ≡ status_of e)
+DeliversPair (Err e) old new lens status = (lens ≡ (0, 0)) × (new ≡ old) × (status ≡ code (Refused e))

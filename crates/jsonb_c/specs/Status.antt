@@ -37,7 +37,3 @@ number_and_name (Refused (Arithmetic DecimalOperand)) = (51, codes "JDOC_DECIMAL
 
 abbrev pub code : Status → ℕ
 code status = (number_and_name status).0
-
--- The number of an error.
-abbrev pub status_of : Error → ℕ
-status_of e = code (Refused e)

@@ -8,7 +8,7 @@ ghost use Rattle.jsonb_doc.specs.Payload.{Form};
 ghost use Rattle.jsonb_doc.specs.Spots.{Locates};
 ghost use Rattle.jsonb_doc.specs.Tree.{Tree};
 ghost use Rattle.jsonb_doc.specs.declared.child_positions.ChildPositions.{ChildPositions};
-ghost use Rattle.jsonb_c.specs.Answers.{OfDocument, ShowsFound, WritesResult, found_as};
+ghost use Rattle.jsonb_c.specs.Answers.{OfDocument, Shows, WritesResult, found_as};
 ghost use Rattle.jsonb_c.specs.Cursors.{TakesSpans};
 ghost use Rattle.jsonb_c.specs.Private.Views.{IsChildWithin};
 ghost use Rattle.jsonb_c.specs.Spans.{IsSpanOf, IsWithin};
@@ -26,7 +26,7 @@ use jsonb::{Child, ChildPositions, Error, Spot, open_children};
 pub extern "C" fn jdoc_cursor_open(document: &[u8], cursor: &mut ChildPositions) -> u32
     ensures { WritesResult
         (OfDocument document.now (λ form t answer. IsOkAnd answer (OpensChildren document.now t)))
-        IsDecodingError (λ answer. ShowsFound answer cursor.old cursor.new result) }
+        IsDecodingError (λ answer. Shows answer cursor.old cursor.new result) }
 {
     store_found(open(document), cursor)
 }
@@ -48,7 +48,7 @@ pub extern "C" fn jdoc_cursor_next(
     value: &mut Span,
 ) -> u32
     ensures child { WritesResult (λ answer. TakesSpans document.now cursor.old answer cursor.new) IsDecodingError
-        (λ answer. ShowsFound {A = ChildPositions × Span × Span}
+        (λ answer. Shows {A = ChildPositions × Span × Span}
         (found_as (λ child. (cursor.new, unwrap_or child.key key.old, child.value)) answer)
         (cursor.old, key.old, value.old) (cursor.new, key.new, value.new) result) }
     ensures within { result ≡ code Answered → IsWithin document.now value.new

@@ -3,7 +3,7 @@
 ghost use Rattle.std.specs.Prelude.{◌≡◌, ◌≤◌, ◌+◌, ◌++◌, take, drop, length, string_bytes};
 ghost use Rattle.jsonb_raw.specs.Casts.{bool_number};
 ghost use Rattle.jsonb_c.specs.Status.{code};
-ghost use Rattle.jsonb_c.specs.Answers.{Delivers, DeliversBytes, Shows, ShowsFound, found, found_as, truth_byte, DeliversMade};
+ghost use Rattle.jsonb_c.specs.Answers.{Delivers, DeliversBytes, Shows, always, found_as, truth_byte};
 ghost use Rattle.jsonb_c.specs.Private.Buffers.{Places};
 ghost use Rattle.jsonb_c.specs.Private.Views.{found_text, vec_answer};
 
@@ -45,7 +45,7 @@ pub(crate) fn deliver_made(
     out: &mut [u8],
     out_len: &mut usize,
 ) -> u32
-    ensures { DeliversMade answer out.old out.new out_len.new result }
+    ensures { Delivers (always answer) out.old out.new out_len.new result }
 {
     match answer {
         Ok(document) => deliver_bytes(document.as_raw().as_bytes(), out, out_len),
@@ -59,7 +59,7 @@ pub(crate) fn deliver_vec(
     out: &mut [u8],
     out_len: &mut usize,
 ) -> u32
-    ensures { DeliversMade (vec_answer answer) out.old out.new out_len.new result }
+    ensures { Delivers (always (vec_answer answer)) out.old out.new out_len.new result }
 {
     match answer {
         Ok(made) => deliver_bytes(&made, out, out_len),
@@ -106,7 +106,7 @@ pub(crate) fn bool_byte(value: bool) -> u8
 
 /// Stores a three-valued result, or returns the status of the error.
 pub(crate) fn store_truth(answer: Result<Option<bool>, Error>, truth: &mut u8) -> u32
-    ensures { Shows truth_byte answer truth.old truth.new result }
+    ensures { Shows (found_as truth_byte (always answer)) truth.old truth.new result }
 {
     match answer {
         Ok(value) => {
@@ -119,7 +119,7 @@ pub(crate) fn store_truth(answer: Result<Option<bool>, Error>, truth: &mut u8) -
 
 /// Stores a Boolean, or returns the status of the error.
 pub(crate) fn store_bool(answer: Result<bool, Error>, truth: &mut u8) -> u32
-    ensures { Shows bool_number answer truth.old truth.new result }
+    ensures { Shows (found_as bool_number (always answer)) truth.old truth.new result }
 {
     match answer {
         Ok(value) => {
@@ -132,7 +132,7 @@ pub(crate) fn store_bool(answer: Result<bool, Error>, truth: &mut u8) -> u32
 
 /// Stores a Boolean, or returns the status if there is none or the call failed.
 pub(crate) fn store_found_bool(answer: Result<Option<bool>, Error>, truth: &mut u8) -> u32
-    ensures { ShowsFound (found_as bool_number answer) truth.old truth.new result }
+    ensures { Shows (found_as bool_number answer) truth.old truth.new result }
 {
     match answer {
         Ok(Some(value)) => {
@@ -146,7 +146,7 @@ pub(crate) fn store_found_bool(answer: Result<Option<bool>, Error>, truth: &mut 
 
 /// Stores a value, or returns the status of the error.
 pub(crate) fn store<T: Copy>(answer: Result<T, Error>, out: &mut T) -> u32
-    ensures { Shows (λ x. x) answer out.old out.new result }
+    ensures { Shows (always answer) out.old out.new result }
 {
     match answer {
         Ok(value) => {
@@ -159,7 +159,7 @@ pub(crate) fn store<T: Copy>(answer: Result<T, Error>, out: &mut T) -> u32
 
 /// Stores a value, or returns the status if there is none or the call failed.
 pub(crate) fn store_found<T: Copy>(answer: Result<Option<T>, Error>, out: &mut T) -> u32
-    ensures { ShowsFound answer out.old out.new result }
+    ensures { Shows answer out.old out.new result }
 {
     match answer {
         Ok(Some(value)) => {
@@ -177,7 +177,7 @@ pub(crate) fn deliver_text(
     out: &mut [u8],
     out_len: &mut usize,
 ) -> u32
-    ensures { Delivers (found string_bytes answer) out.old out.new out_len.new result }
+    ensures { Delivers (found_as string_bytes (always answer)) out.old out.new out_len.new result }
 {
     match answer {
         Ok(text) => deliver_bytes(text.as_bytes(), out, out_len),

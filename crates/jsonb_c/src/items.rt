@@ -7,13 +7,13 @@ ghost use Rattle.jsonb.specs.FoundItems.{IsItemOf};
 ghost use Rattle.jsonb.specs.PathViews.{path_view};
 ghost use Rattle.jsonb.specs.SelectionErrors.{IsDocumentError};
 ghost use Rattle.jsonb.specs.SelectorAnswers.{ByMeanings, AreAll};
-ghost use Rattle.jsonb_c.specs.Answers.{DeliversNothing, WritesResult, Delivers};
+ghost use Rattle.jsonb_c.specs.Answers.{Delivers, DeliversNothing, WritesResult};
 ghost use Rattle.jsonb_c.specs.Calls.{mode_of};
 ghost use Rattle.jsonb_c.specs.Items.{IsNextOf, LeavesItems, items_left};
 ghost use Rattle.jsonb_c.specs.Prepared.{json_steps};
 ghost use Rattle.jsonb_c.specs.Private.Boxes.{HoldsItems};
-ghost use Rattle.jsonb_c.specs.Status.{code, status_of};
-ghost use Rattle.jsonb_c.specs.declared.status.Status.TheVariants.{Answered, NoPath};
+ghost use Rattle.jsonb_c.specs.Status.{code};
+ghost use Rattle.jsonb_c.specs.declared.status.Status.TheVariants.{Answered, NoPath, Refused};
 ghost use Rattle.jsonb_c.specs.declared.prepared.path.PreparedPath.TheVariants.{Items};
 
 use crate::deliver::{deliver, deliver_nothing};
@@ -40,7 +40,7 @@ pub extern "C" fn jdoc_path_items(
         (λ steps. WritesResult (ByMeanings (mode_of strict) document.now steps (AreAll (IsItemOf document.now)))
         (IsDocumentError (mode_of strict)) (λ answer. MatchResult answer
         (λ found. (result ≡ code Answered) × (items_left items.new.value ≡ Some found.items))
-        (λ e. (result ≡ status_of e) × (items.new.value ≡ None)))) }
+        (λ e. (result ≡ code (Refused e)) × (items.new.value ≡ None)))) }
 {
     let Some(kept) = path.take(alloc) else {
         return items.keep(alloc, Err(Status::NoPath));

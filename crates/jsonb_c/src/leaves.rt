@@ -8,10 +8,9 @@ ghost use Rattle.jsonb_doc.specs.Format.{Decodes};
 ghost use Rattle.jsonb_doc.specs.Payload.{Form};
 ghost use Rattle.jsonb_doc.specs.Tree.{Tree};
 ghost use Rattle.jsonb_raw.specs.Leaves.{leaves};
-ghost use Rattle.jsonb_c.specs.Answers.{WritesResult, IsWritten, OfDocument};
+ghost use Rattle.jsonb_c.specs.Answers.{IsWritten, OfDocument, WritesResult};
 ghost use Rattle.jsonb_c.specs.Private.LeafColumns.{HasLeaves, HasRows, IsRowOfLeaf, LeafRow, leaf_row};
 ghost use Rattle.jsonb_c.specs.Leaves.{AreLeavesOf, DeliversLeaves};
-ghost use Rattle.jsonb_c.specs.Status.{status_of};
 
 use crate::status::Status;
 use jsonb::{Error, KeyPaths, OwnedJsonb, RawJsonb};

@@ -5,7 +5,7 @@ ghost use Rattle.jsonb_doc.specs.Answer.{IsOutOfMemory};
 ghost use Rattle.jsonb.specs.PathErrorPosition.{json_path_error_position as spec_json_path_error_position};
 ghost use Rattle.jsonb.specs.PathGrammar.{json_path};
 ghost use Rattle.jsonb.specs.SelectorAnswers.{first_item, single_or_array};
-ghost use Rattle.jsonb_c.specs.Answers.{Delivers, DeliversNothing, Shows, ShowsFound, With, WritesResult, truth_byte};
+ghost use Rattle.jsonb_c.specs.Answers.{Delivers, DeliversNothing, Shows, With, WritesResult, always, found_as, truth_byte};
 ghost use Rattle.jsonb_c.specs.Calls.{SelectsItem, TellsExistence, TellsTruth, mode_of, one_array};
 ghost use Rattle.jsonb_c.specs.Status.{code};
 ghost use Rattle.jsonb_raw.specs.Casts.{bool_number};
@@ -34,7 +34,7 @@ pub extern "C" fn jdoc_path_read(alloc: Global, text: &[u8], path: &mut PathHand
 #[unsafe(no_mangle)]
 pub extern "C" fn jdoc_path_error_position(alloc: Global, text: &[u8], position: &mut usize) -> u32
     ensures { WritesResult (λ answer. MatchResult answer (λ found. found ≡ spec_json_path_error_position text.now)
-        IsOutOfMemory) IsOutOfMemory (λ answer. ShowsFound answer position.old position.new result) }
+        IsOutOfMemory) IsOutOfMemory (λ answer. Shows answer position.old position.new result) }
 {
     store_found(json_path_error_position(alloc, text), position)
 }
@@ -159,7 +159,7 @@ pub extern "C" fn jdoc_path_exists(
     ensures kept { path.new.value ≡ path.old.value }
     ensures exists { MatchOption (json_steps path.old.value) ((truth.new ≡ truth.old) × (result ≡ code NoPath))
         (λ steps. TellsExistence (mode_of strict) steps document.now
-        (λ answer. Shows bool_number answer truth.old truth.new result)) }
+        (λ answer. Shows (found_as bool_number (always answer)) truth.old truth.new result)) }
 {
     let Some(kept) = path.take(alloc) else {
         return Status::NoPath.to_u32();
@@ -179,7 +179,7 @@ fn store_exists(
 ) -> u32
     ensures { MatchOption (json_steps (Some path.now)) ((truth.new ≡ truth.old) × (result ≡ code NoPath))
         (λ steps. TellsExistence (mode_of strict) steps document.now
-        (λ answer. Shows bool_number answer truth.old truth.new result)) }
+        (λ answer. Shows (found_as bool_number (always answer)) truth.old truth.new result)) }
 {
     match path.json() {
         Some(steps) => {
@@ -202,7 +202,7 @@ pub extern "C" fn jdoc_path_match(
     ensures kept { path.new.value ≡ path.old.value }
     ensures truth { MatchOption (json_steps path.old.value) ((truth.new ≡ truth.old) × (result ≡ code NoPath))
         (λ steps. TellsTruth (mode_of strict) steps document.now
-        (λ answer. Shows truth_byte answer truth.old truth.new result)) }
+        (λ answer. Shows (found_as truth_byte (always answer)) truth.old truth.new result)) }
 {
     let Some(kept) = path.take(alloc) else {
         return Status::NoPath.to_u32();
@@ -222,7 +222,7 @@ fn store_match(
 ) -> u32
     ensures { MatchOption (json_steps (Some path.now)) ((truth.new ≡ truth.old) × (result ≡ code NoPath))
         (λ steps. TellsTruth (mode_of strict) steps document.now
-        (λ answer. Shows truth_byte answer truth.old truth.new result)) }
+        (λ answer. Shows (found_as truth_byte (always answer)) truth.old truth.new result)) }
 {
     match path.json() {
         Some(steps) => {

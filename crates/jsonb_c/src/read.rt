@@ -4,7 +4,7 @@ ghost use Rattle.std.specs.Prelude.{◌≡◌, ◌∷◌, [], ℕ, List, Option,
 ghost use Rattle.jsonb_doc.specs.Answer.{IsDecodingError, ◌or◌};
 ghost use Rattle.jsonb_doc.specs.declared.error.Error.{Error};
 ghost use Rattle.jsonb_doc.specs.declared.error.Error.TheVariants.{OutOfMemory, TooLarge};
-ghost use Rattle.jsonb_c.specs.Answers.{WritesResult, OfDocument, ShowsFound};
+ghost use Rattle.jsonb_c.specs.Answers.{OfDocument, Shows, WritesResult};
 ghost use Rattle.jsonb_c.specs.Making.{DeliversPair, FindsPair};
 ghost use Rattle.jsonb_doc.specs.Tree.{children_of};
 ghost use Rattle.jsonb_c.specs.Private.Views.{pair_answer};
@@ -20,7 +20,7 @@ use std::alloc::Global;
 pub extern "C" fn jdoc_len(document: &[u8], len: &mut usize) -> u32
     ensures { WritesResult
         (OfDocument document.now (λ form t answer. IsOkAnd answer (λ found. found ≡ option_map length (children_of t))))
-        IsDecodingError (λ answer. ShowsFound answer len.old len.new result) }
+        IsDecodingError (λ answer. Shows answer len.old len.new result) }
 {
     store_found(children_count(document), len)
 }
@@ -52,7 +52,8 @@ pub extern "C" fn jdoc_pair(
     ensures { (answer : Result (Option (List ℕ × List ℕ)) Error)
         × OfDocument document.now (λ form t. FindsPair form index t) answer
         × IfErr answer (IsDecodingError or OutOfMemory or TooLarge)
-        × DeliversPair answer (key.old ∷ value.old ∷ []) (key.new ∷ value.new ∷ []) (key_len.new, value_len.new) result }
+        × DeliversPair answer (key.old ∷ value.old ∷ []) (key.new ∷ value.new ∷ [])
+        (key_len.new, value_len.new) result }
 {
     deliver_pair(
         pair_at(alloc, document, index),

@@ -10,7 +10,7 @@ ghost use Rattle.jsonb_doc.specs.Spots.{Locates};
 ghost use Rattle.jsonb_doc.specs.Tree.{Tree};
 ghost use Rattle.jsonb.specs.KeyPathGrammar.{key_path};
 ghost use Rattle.jsonb.specs.KeyPathViews.{key_paths_view};
-ghost use Rattle.jsonb_c.specs.Answers.{ShowsFound, With, WritesResult};
+ghost use Rattle.jsonb_c.specs.Answers.{Shows, With, WritesResult};
 ghost use Rattle.jsonb_c.specs.Private.Boxes.{ByPath};
 ghost use Rattle.jsonb_c.specs.Private.Numbers.{tree_kind};
 ghost use Rattle.jsonb_c.specs.Spans.{FindsSpan, HasSpan, IsSpanOf, IsWithin};
@@ -50,7 +50,7 @@ pub extern "C" fn jdoc_find_by_keypath(
 ) -> u32
     ensures span { With (ok_or (key_path path.now) (Refused InvalidKeyPath))
         (λ steps. WritesResult (FindsSpan steps document.now) (IsDecodingError or OutOfMemory)
-        (λ answer. ShowsFound answer span.old span.new result))
+        (λ answer. Shows answer span.old span.new result))
         (λ cause. (span.new ≡ span.old) × (result ≡ code cause)) }
     ensures within { result ≡ code Answered → IsWithin document.now span.new }
 {
@@ -79,7 +79,7 @@ pub extern "C" fn jdoc_keypath_find(
     ensures kept { path.new.value ≡ path.old.value }
     ensures span { MatchOption (key_steps path.old.value) ((span.new ≡ span.old) × (result ≡ code NoPath))
         (λ steps. WritesResult (FindsSpan steps document.now) (IsDecodingError or OutOfMemory)
-        (λ answer. ShowsFound answer span.old span.new result)) }
+        (λ answer. Shows answer span.old span.new result)) }
     ensures within { result ≡ code Answered → IsWithin document.now span.new }
 {
     let Some(kept) = path.take(alloc) else {
@@ -94,7 +94,7 @@ pub extern "C" fn jdoc_keypath_find(
 fn store_span(alloc: Global, path: &PreparedPath, document: &[u8], span: &mut Span) -> u32
     ensures span { MatchOption (key_steps (Some path.now)) ((span.new ≡ span.old) × (result ≡ code NoPath))
         (λ steps. WritesResult (FindsSpan steps document.now) (IsDecodingError or OutOfMemory)
-        (λ answer. ShowsFound answer span.old span.new result)) }
+        (λ answer. Shows answer span.old span.new result)) }
     ensures within { result ≡ code Answered → IsWithin document.now span.new }
 {
     match path.keys() {

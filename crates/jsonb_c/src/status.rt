@@ -2,7 +2,8 @@
 
 ghost use Rattle.std.specs.Prelude.{◌≡◌};
 ghost use Rattle.jsonb_c.specs.Private.Views.{text_refusal};
-ghost use Rattle.jsonb_c.specs.Status.{code, status_of};
+ghost use Rattle.jsonb_c.specs.Status.{code};
+ghost use Rattle.jsonb_c.specs.declared.status.Status.TheVariants.{Refused};
 
 use jsonb::{ArithmeticFault, Error};
 
@@ -80,7 +81,7 @@ impl Status {
 
 /// Returns the number of an error.
 fn refusal_code(error: Error) -> u8
-    ensures { result ≡ status_of error }
+    ensures { result ≡ code (Refused error) }
 {
     match error {
         Error::InvalidJsonb => 16,

@@ -1,10 +1,10 @@
 -- How private functions write to the caller's buffers, and end.
 use Rattle.std.specs.Prelude.{◌≡◌, ◌⊎◌, ◌≤◌, ◌<◌, ◌+◌, ◌++◌, ℕ, Bool, true, false, List, [], map, take, drop, length, Option, Some, None, Result, Ok, Err}
 use Rattle.jsonb_doc.specs.declared.error.Error.{Error}
-use Rattle.jsonb_c.specs.Answers.{Found, IsWritten, ShowsFound}
+use Rattle.jsonb_c.specs.Answers.{Found, IsWritten, Shows}
 use Rattle.jsonb_c.specs.Columns.{DoneRows, Ends}
-use Rattle.jsonb_c.specs.Status.{code, status_of}
-use Rattle.jsonb_c.specs.declared.status.Status.TheVariants.{Absent, Answered, BadOffsets, BufferTooSmall}
+use Rattle.jsonb_c.specs.Status.{code}
+use Rattle.jsonb_c.specs.declared.status.Status.TheVariants.{Absent, Answered, BadOffsets, BufferTooSmall, Refused}
 
 -- the bytes are at an offset in the buffer, which is otherwise unchanged; or they do not fit there, and it is
 -- unchanged
@@ -36,7 +36,7 @@ abbrev pub cell_status : {A : Type 0} → Cell A → ℕ
 cell_status None = code BadOffsets
 cell_status (Some (Ok (Some x))) = code Answered
 cell_status (Some (Ok None)) = code Absent
-cell_status (Some (Err e)) = status_of e
+cell_status (Some (Err e)) = code (Refused e)
 
 -- the value of the row, and another one if it has none
 abbrev pub cell_value : {A : Type 0} → A → Cell A → A
@@ -49,7 +49,7 @@ cell_bytes cell = cell_value [] cell
 -- the row's value and status are delivered
 abbrev pub ShowsCell : {A : Type 0} → Cell A → A → A → ℕ → Type 0
 ShowsCell None old new status = (new ≡ old) × (status ≡ code BadOffsets)
-ShowsCell (Some answer) old new status = ShowsFound answer old new status
+ShowsCell (Some answer) old new status = Shows answer old new status
 
 -- the result of a row whose bytes are in a buffer, or `None` if its offsets are wrong
 abbrev pub written_cell : Option (Result Bool Error) → List ℕ → Cell (List ℕ)

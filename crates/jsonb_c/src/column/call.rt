@@ -11,14 +11,14 @@ use std::alloc::Global;
 /// A type that is called on each row and returns a value.
 pub(crate) trait RowCall<A> {
     ghost use Rattle.std.specs.Prelude.{ℕ, List};
-    ghost use Rattle.jsonb_c.specs.Answers.{ShowsFound};
+    ghost use Rattle.jsonb_c.specs.Answers.{Shows};
 
     ghost Writes: { Self → List ℕ → A → A → ℕ → Type 0 };
 
     /// Returns the result of the call for a row's document.
     fn answer(&self, alloc: Global, document: &[u8]) -> Result<Option<A>, Error>
         ensures { (old new : A) (status : ℕ)
-            → ShowsFound result old new status → Writes self.now document.now old new status };
+            → Shows result old new status → Writes self.now document.now old new status };
 }
 
 /// Returns the result of a row, or `None` if its offsets are wrong.
@@ -59,7 +59,7 @@ pub(crate) fn cell_value<A: Copy>(cell: &Cell<A>, other: A) -> A
 /// A type that is called on each row and writes bytes.
 pub(crate) trait RowWriter {
     ghost use Rattle.std.specs.Prelude.{ℕ, List};
-    ghost use Rattle.jsonb_c.specs.Answers.{ShowsFound};
+    ghost use Rattle.jsonb_c.specs.Answers.{Shows};
     ghost use Rattle.jsonb_c.specs.Private.Buffers.{written_answer};
 
     ghost Writes: { Self → List ℕ → List ℕ → List ℕ → ℕ → Type 0 };
@@ -67,7 +67,7 @@ pub(crate) trait RowWriter {
     /// Replaces the contents of the buffer by the result of the call for a row's document. Returns whether there is
     /// one.
     fn write(&self, alloc: Global, document: &[u8], out: &mut Vec<u8>) -> Result<bool, Error>
-        ensures { (old new : List ℕ) (status : ℕ) → ShowsFound (written_answer result out.new.items) old new status
+        ensures { (old new : List ℕ) (status : ℕ) → Shows (written_answer result out.new.items) old new status
             → Writes self.now document.now old new status };
 }
 

@@ -4,7 +4,7 @@ ghost use Rattle.std.specs.Prelude.{IfErr, pos, string_bytes};
 ghost use Rattle.jsonb_doc.specs.Answer.{IsDecodingError, ◌or◌};
 ghost use Rattle.jsonb_doc.specs.declared.error.Error.TheVariants.{InvalidCast, OutOfMemory};
 ghost use Rattle.jsonb_raw.specs.Casts.{CastsToI64, CastsToText, text_of};
-ghost use Rattle.jsonb_c.specs.Answers.{OfDocument, Shows};
+ghost use Rattle.jsonb_c.specs.Answers.{OfDocument, Shows, always, found_as};
 ghost use Rattle.jsonb_c.specs.Calls.{WritesI64, WritesText};
 ghost use Rattle.jsonb_c.specs.Columns.{FillsRows, JoinsRows, rows};
 
@@ -19,11 +19,11 @@ use std::alloc::Global;
 struct ToI64;
 
 impl RowCall<i64> for ToI64 {
-    ghost use Rattle.jsonb_c.specs.Answers.{Shows};
+    ghost use Rattle.jsonb_c.specs.Answers.{Shows, always, found_as};
     ghost use Rattle.jsonb_c.specs.Calls.{WritesI64};
 
     ghost Writes = { λ call document old new status.
-        WritesI64 document (λ answer. Shows (λ z. z) answer old new status) };
+        WritesI64 document (λ answer. Shows (always answer) old new status) };
 
     fn answer(&self, _alloc: Global, document: &[u8]) -> Result<Option<i64>, Error> {
         let number = i64_of(document)?;
@@ -44,11 +44,11 @@ struct ToText;
 
 impl RowWriter for ToText {
     ghost use Rattle.std.specs.Prelude.{string_bytes};
-    ghost use Rattle.jsonb_c.specs.Answers.{Shows};
+    ghost use Rattle.jsonb_c.specs.Answers.{Shows, always, found_as};
     ghost use Rattle.jsonb_c.specs.Calls.{WritesText};
 
     ghost Writes = { λ call document old new status.
-        WritesText document (λ answer. Shows string_bytes answer old new status) };
+        WritesText document (λ answer. Shows (found_as string_bytes (always answer)) old new status) };
 
     fn write(&self, alloc: Global, document: &[u8], out: &mut Vec<u8>) -> Result<bool, Error> {
         let text = text_of(alloc, document)?;
@@ -75,7 +75,7 @@ pub extern "C" fn jdoc_column_to_i64(
     done: &mut usize,
 ) -> u32
     ensures { FillsRows
-        (λ document old new status. WritesI64 document (λ answer. Shows (λ z. z) answer old new status))
+        (λ document old new status. WritesI64 document (λ answer. Shows (always answer) old new status))
         (pos 0) (rows bytes.now offsets.now)
         (numbers.old, statuses.old) (numbers.new, statuses.new) done.new result }
 {
@@ -93,9 +93,8 @@ pub extern "C" fn jdoc_column_to_str(
     statuses: &mut [u8],
     progress: &mut Progress,
 ) -> u32
-    ensures { JoinsRows
-        (λ document old new status. WritesText document (λ answer. Shows string_bytes answer old new status))
-        (rows bytes.now offsets.now)
+    ensures { JoinsRows (λ document old new status. WritesText document
+        (λ answer. Shows (found_as string_bytes (always answer)) old new status)) (rows bytes.now offsets.now)
         (out.old, positions.old, statuses.old) (out.new, positions.new, statuses.new) progress.new result }
 {
     Column::new(bytes, offsets).join(alloc, &ToText, out, positions, statuses, progress)

@@ -10,7 +10,7 @@ ghost use Rattle.jsonb.specs.KeyPathViews.{key_paths_view};
 ghost use Rattle.jsonb.specs.PathGrammar.{json_path};
 ghost use Rattle.jsonb.specs.PathViews.{path_view};
 ghost use Rattle.jsonb.specs.SelectorAnswers.{first_item, single_or_array};
-ghost use Rattle.jsonb_c.specs.Answers.{OfDocument, Shows, ShowsFound, With};
+ghost use Rattle.jsonb_c.specs.Answers.{OfDocument, Shows, With, always};
 ghost use Rattle.jsonb_c.specs.Calls.{DeletesPart, DeletesPlace, FindsPart, SelectsItem, mode_of, one_array};
 ghost use Rattle.jsonb_c.specs.Columns.{IsUntouched, JoinsRows, rows};
 ghost use Rattle.jsonb_c.specs.Private.Buffers.{written_answer};
@@ -37,13 +37,13 @@ struct Selects<'p> {
 
 impl RowWriter for Selects<'_> {
     ghost use Rattle.jsonb.specs.PathViews.{path_view};
-    ghost use Rattle.jsonb_c.specs.Answers.{ShowsFound};
+    ghost use Rattle.jsonb_c.specs.Answers.{Shows};
     ghost use Rattle.jsonb_c.specs.Calls.{SelectsItem, mode_of};
     ghost use Rattle.jsonb_c.specs.Private.Views.{pick_of};
 
     ghost Writes = { λ call document old new status.
         SelectsItem (mode_of call.strict) (pick_of call.pick) (path_view call.path) document
-        (λ answer. ShowsFound answer old new status) };
+        (λ answer. Shows answer old new status) };
 
     fn write(&self, alloc: Global, document: &[u8], out: &mut Vec<u8>) -> Result<bool, Error> {
         let picked = pick_by_path(alloc, document, &self.path, self.strict, self.pick)?;
@@ -138,7 +138,7 @@ pub extern "C" fn jdoc_column_get(
 ) -> u32
     ensures { With (ok_or (key_path path.now) (Refused InvalidKeyPath))
         (λ steps. JoinsRows
-        (λ document old new status. FindsPart steps document (λ answer. ShowsFound answer old new status))
+        (λ document old new status. FindsPart steps document (λ answer. Shows answer old new status))
         (rows bytes.now offsets.now)
         (out.old, positions.old, statuses.old) (out.new, positions.new, statuses.new) progress.new result)
         (λ cause. (result ≡ code cause)
@@ -162,7 +162,7 @@ pub extern "C" fn jdoc_column_delete_by_keypath(
 ) -> u32
     ensures { With (ok_or (key_path path.now) (Refused InvalidKeyPath))
         (λ steps. JoinsRows
-        (λ document old new status. DeletesPart steps document (λ answer. Shows (λ made. made) answer old new status))
+        (λ document old new status. DeletesPart steps document (λ answer. Shows (always answer) old new status))
         (rows bytes.now offsets.now)
         (out.old, positions.old, statuses.old) (out.new, positions.new, statuses.new) progress.new result)
         (λ cause. (result ≡ code cause)
@@ -187,7 +187,7 @@ pub extern "C" fn jdoc_column_select_first(
 ) -> u32
     ensures { With (ok_or (json_path path.now) NotJsonPath)
         (λ steps. JoinsRows (λ document old new status. SelectsItem (mode_of strict) first_item steps document
-        (λ answer. ShowsFound answer old new status))
+        (λ answer. Shows answer old new status))
         (rows bytes.now offsets.now)
         (out.old, positions.old, statuses.old) (out.new, positions.new, statuses.new) progress.new result)
         (λ cause. (result ≡ code cause)
@@ -212,7 +212,7 @@ pub extern "C" fn jdoc_column_select_value(
 ) -> u32
     ensures { With (ok_or (json_path path.now) NotJsonPath)
         (λ steps. JoinsRows (λ document old new status. SelectsItem (mode_of strict) single_or_array steps document
-        (λ answer. ShowsFound answer old new status))
+        (λ answer. Shows answer old new status))
         (rows bytes.now offsets.now)
         (out.old, positions.old, statuses.old) (out.new, positions.new, statuses.new) progress.new result)
         (λ cause. (result ≡ code cause)
@@ -237,7 +237,7 @@ pub extern "C" fn jdoc_column_select_array(
 ) -> u32
     ensures { With (ok_or (json_path path.now) NotJsonPath)
         (λ steps. JoinsRows (λ document old new status. SelectsItem (mode_of strict) one_array steps document
-        (λ answer. ShowsFound answer old new status))
+        (λ answer. Shows answer old new status))
         (rows bytes.now offsets.now)
         (out.old, positions.old, statuses.old) (out.new, positions.new, statuses.new) progress.new result)
         (λ cause. (result ≡ code cause)
@@ -285,7 +285,7 @@ impl PathColumn<'_> {
     ) -> u32
         ensures { With (ok_or (json_path self.now.path.now) NotJsonPath)
             (λ steps. JoinsRows (λ document old new status. SelectsItem (mode_of strict) (pick_of pick) steps document
-            (λ answer. ShowsFound answer old new status)) self.now.column
+            (λ answer. Shows answer old new status)) self.now.column
             (out.old, positions.old, statuses.old) (out.new, positions.new, statuses.new) progress.new result)
             (λ cause. (result ≡ code cause)
             × IsUntouched (out.old, positions.old, statuses.old) (out.new, positions.new, statuses.new) progress.new) }

@@ -6,7 +6,7 @@ ghost use Rattle.jsonb_doc.specs.Answer.{IsDecodingError, ◌or◌};
 ghost use Rattle.jsonb_doc.specs.declared.error.Error.TheVariants.{InvalidCast, OutOfMemory};
 ghost use Rattle.jsonb_raw.specs.Casts.{CastsToBool, CastsToText, CastsToU64, bool_number, text_of};
 ghost use Rattle.jsonb_raw.specs.Scalars.{boolean_in, text_in};
-ghost use Rattle.jsonb_c.specs.Answers.{WritesResult, Delivers, OfDocument, Shows, ShowsFound, found, found_as};
+ghost use Rattle.jsonb_c.specs.Answers.{Delivers, OfDocument, Shows, WritesResult, always, found_as};
 ghost use Rattle.jsonb_c.specs.Calls.{FindsWhole, WritesI64, WritesText};
 ghost use Rattle.jsonb_c.specs.Private.Views.{found_text};
 
@@ -20,7 +20,7 @@ use std::alloc::Global;
 #[unsafe(no_mangle)]
 pub extern "C" fn jdoc_as_bool(document: &[u8], truth: &mut u8) -> u32
     ensures { WritesResult (OfDocument document.now (λ form t answer. IsOkAnd answer (λ found. found ≡ boolean_in t)))
-        IsDecodingError (λ answer. ShowsFound (found_as bool_number answer) truth.old truth.new result) }
+        IsDecodingError (λ answer. Shows (found_as bool_number answer) truth.old truth.new result) }
 {
     store_found_bool(RawJsonb::new(document).as_bool(), truth)
 }
@@ -30,7 +30,7 @@ pub extern "C" fn jdoc_as_bool(document: &[u8], truth: &mut u8) -> u32
 pub extern "C" fn jdoc_as_i64(document: &[u8], number: &mut i64) -> u32
     ensures { WritesResult
         (OfDocument document.now (λ form t answer. IsOkAnd answer (FindsWhole (λ z. z) (FitsSigned w64) t)))
-        IsDecodingError (λ answer. ShowsFound answer number.old number.new result) }
+        IsDecodingError (λ answer. Shows answer number.old number.new result) }
 {
     store_found(RawJsonb::new(document).as_i64(), number)
 }
@@ -40,7 +40,7 @@ pub extern "C" fn jdoc_as_i64(document: &[u8], number: &mut i64) -> u32
 pub extern "C" fn jdoc_as_u64(document: &[u8], number: &mut u64) -> u32
     ensures { WritesResult
         (OfDocument document.now (λ form t answer. IsOkAnd answer (FindsWhole pos (λ n. n < 2 ^ 64) t)))
-        IsDecodingError (λ answer. ShowsFound answer number.old number.new result) }
+        IsDecodingError (λ answer. Shows answer number.old number.new result) }
 {
     store_found(RawJsonb::new(document).as_u64(), number)
 }
@@ -70,7 +70,7 @@ fn as_str(document: &[u8]) -> Result<Option<&str>, Error>
 #[unsafe(no_mangle)]
 pub extern "C" fn jdoc_to_bool(document: &[u8], truth: &mut u8) -> u32
     ensures { WritesResult (OfDocument document.now (λ form t. CastsToBool t)) (IsDecodingError or InvalidCast)
-        (λ answer. Shows bool_number answer truth.old truth.new result) }
+        (λ answer. Shows (found_as bool_number (always answer)) truth.old truth.new result) }
 {
     store_bool(RawJsonb::new(document).to_bool(), truth)
 }
@@ -78,7 +78,7 @@ pub extern "C" fn jdoc_to_bool(document: &[u8], truth: &mut u8) -> u32
 /// Casts the document to an `i64`: a Boolean to 1 or 0, a number rounded, a string parsed.
 #[unsafe(no_mangle)]
 pub extern "C" fn jdoc_to_i64(document: &[u8], number: &mut i64) -> u32
-    ensures { WritesI64 document.now (λ answer. Shows (λ n. n) answer number.old number.new result) }
+    ensures { WritesI64 document.now (λ answer. Shows (always answer) number.old number.new result) }
 {
     store(RawJsonb::new(document).to_i64(), number)
 }
@@ -87,7 +87,7 @@ pub extern "C" fn jdoc_to_i64(document: &[u8], number: &mut i64) -> u32
 #[unsafe(no_mangle)]
 pub extern "C" fn jdoc_to_u64(document: &[u8], number: &mut u64) -> u32
     ensures { WritesResult (OfDocument document.now (λ form t. CastsToU64 t)) (IsDecodingError or InvalidCast)
-        (λ answer. Shows (λ n. n) answer number.old number.new result) }
+        (λ answer. Shows (always answer) number.old number.new result) }
 {
     store(RawJsonb::new(document).to_u64(), number)
 }
@@ -101,7 +101,7 @@ pub extern "C" fn jdoc_to_str(
     out_len: &mut usize,
 ) -> u32
     ensures { WritesText document.now
-        (λ answer. Delivers (found string_bytes answer) out.old out.new out_len.new result) }
+        (λ answer. Delivers (found_as string_bytes (always answer)) out.old out.new out_len.new result) }
 {
     deliver_text(to_str(alloc, document), out, out_len)
 }

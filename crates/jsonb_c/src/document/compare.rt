@@ -7,7 +7,7 @@ ghost use Rattle.jsonb_doc.specs.Order.{tree_cmp};
 ghost use Rattle.jsonb_doc.specs.Payload.{Form};
 ghost use Rattle.jsonb_doc.specs.Tree.{Tree};
 ghost use Rattle.jsonb_raw.specs.Casts.{bool_number};
-ghost use Rattle.jsonb_c.specs.Answers.{WritesResult, Shows};
+ghost use Rattle.jsonb_c.specs.Answers.{Shows, WritesResult, always, found_as};
 ghost use Rattle.jsonb_c.specs.Calls.{TellsContainment, order_number};
 
 use crate::deliver::{store, store_bool};
@@ -18,7 +18,7 @@ use std::cmp::Ordering;
 #[unsafe(no_mangle)]
 pub extern "C" fn jdoc_contains(document: &[u8], other: &[u8], truth: &mut u8) -> u32
     ensures { TellsContainment other.now document.now
-        (λ answer. Shows bool_number answer truth.old truth.new result) }
+        (λ answer. Shows (found_as bool_number (always answer)) truth.old truth.new result) }
 {
     let document = RawJsonb::new(document);
     store_bool(document.contains(&RawJsonb::new(other)), truth)
@@ -29,7 +29,7 @@ pub extern "C" fn jdoc_contains(document: &[u8], other: &[u8], truth: &mut u8) -
 pub extern "C" fn jdoc_compare(document: &[u8], other: &[u8], order: &mut i32) -> u32
     ensures { WritesResult (λ answer. (form other_form : Form) (t u : Tree) → Decodes form document.now t
         → Decodes other_form other.now u → IsOkAnd answer (λ z. z ≡ order_number (tree_cmp t u)))
-        IsDecodingError (λ answer. Shows (λ n. n) answer order.old order.new result) }
+        IsDecodingError (λ answer. Shows (always answer) order.old order.new result) }
 {
     store(compare(document, other), order)
 }

@@ -4,7 +4,7 @@ ghost use Rattle.std.specs.Prelude.{◌≡◌, IfErr, IsOkAnd};
 ghost use Rattle.jsonb_doc.specs.Answer.{IsDecodingError, SameOption};
 ghost use Rattle.jsonb_doc.specs.View.{decimal128_parts, number_parts};
 ghost use Rattle.jsonb_raw.specs.Scalars.{number_in};
-ghost use Rattle.jsonb_c.specs.Answers.{WritesResult, OfDocument, ShowsFound};
+ghost use Rattle.jsonb_c.specs.Answers.{OfDocument, Shows, WritesResult};
 ghost use Rattle.jsonb_c.specs.Making.{ArePartsOf};
 
 use crate::status::Status;
@@ -26,7 +26,7 @@ pub extern "C" fn jdoc_as_decimal(
     ensures { WritesResult
         (OfDocument document.now (λ form t answer. IsOkAnd answer (λ found. SameOption ArePartsOf found (number_in t))))
         IsDecodingError
-        (λ answer. ShowsFound answer (high.old, low.old, scale.old) (high.new, low.new, scale.new) result) }
+        (λ answer. Shows answer (high.old, low.old, scale.old) (high.new, low.new, scale.new) result) }
 {
     match as_parts(document) {
         Ok(Some(parts)) => {

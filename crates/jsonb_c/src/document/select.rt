@@ -6,7 +6,7 @@ ghost use Rattle.jsonb.specs.PathViews.{path_view};
 ghost use Rattle.jsonb.specs.SelectionErrors.{IsDocumentError, IsSelectionError};
 ghost use Rattle.jsonb.specs.SelectorAnswers.{first_item, root_bytes, single_or_array, IsArrayOf, IsFound, IsPicked, IsTruthOf, ByMeanings};
 ghost use Rattle.jsonb.specs.SelectorAnswers.{mode_of as selector_mode};
-ghost use Rattle.jsonb_c.specs.Answers.{Delivers, DeliversNothing, Shows, With, truth_byte};
+ghost use Rattle.jsonb_c.specs.Answers.{Delivers, DeliversNothing, Shows, With, always, found_as, truth_byte};
 ghost use Rattle.jsonb_c.specs.Private.Views.{pick_of};
 ghost use Rattle.jsonb_c.specs.Calls.{SelectsItem, TellsExistence, TellsTruth, mode_of, one_array};
 ghost use Rattle.jsonb_c.specs.Status.{code};
@@ -118,7 +118,7 @@ pub extern "C" fn jdoc_match(
 ) -> u32
     ensures { With (ok_or (json_path path.now) NotJsonPath)
         (λ steps. TellsTruth (mode_of strict) steps document.now
-        (λ answer. Shows truth_byte answer truth.old truth.new result))
+        (λ answer. Shows (found_as truth_byte (always answer)) truth.old truth.new result))
         (λ cause. (truth.new ≡ truth.old) × (result ≡ code cause)) }
 {
     match parse_json_path(alloc, path) {
@@ -141,7 +141,7 @@ pub extern "C" fn jdoc_exists(
 ) -> u32
     ensures { With (ok_or (json_path path.now) NotJsonPath)
         (λ steps. TellsExistence (mode_of strict) steps document.now
-        (λ answer. Shows bool_number answer truth.old truth.new result))
+        (λ answer. Shows (found_as bool_number (always answer)) truth.old truth.new result))
         (λ cause. (truth.new ≡ truth.old) × (result ≡ code cause)) }
 {
     match parse_json_path(alloc, path) {

@@ -1,5 +1,5 @@
 use Rattle.std.proofs.Common.{◌≡◌, ◌∙◌, sym, subst, ◌⊎◌, inl, inr, ℕ, List, [], ◌∷◌, Option, Some, None, Result, Ok, Err, IfOk}
-use Rattle.jsonb_c.specs.Answers.{Found, Delivers, DeliversBytes, ShowsFound}
+use Rattle.jsonb_c.specs.Answers.{Delivers, DeliversBytes, Found, Shows}
 use Rattle.jsonb_c.specs.Status.{code}
 use Rattle.jsonb_c.specs.declared.status.Status.TheVariants.{Answered}
 use Rattle.jsonb_c.proofs.WithinLemmas.{refused}
@@ -34,7 +34,7 @@ bytes (Ok None) old new other len other_len status other_status h k = nothing h 
 bytes (Err e) old new other len other_len status other_status h k = nothing h k
 
 found : {A : Type 0} (answer : Found A) (old new other : A) (status other_status : ℕ)
-    → ShowsFound answer old new status → ShowsFound answer old other other_status
+    → Shows answer old new status → Shows answer old other other_status
     → (other ≡ new) × (other_status ≡ status)
 found (Ok (Some x)) old new other status other_status h k = one_value h k
 found (Ok None) old new other status other_status h k = one_value h k
