@@ -1,5 +1,5 @@
 -- The results of events, as statuses, and what the handle keeps after them.
-use Rattle.std.proofs.Common.{◌≡◌, ◌∙◌, ℕ, List, Vec, Global, ap, inl, inr, refl, Option, Some, None, Result, Ok, Err}
+use Rattle.std.proofs.Common.{◌≡◌, ◌⊎◌, ◌∙◌, true, false, ℕ, List, Vec, Global, ap, inl, inr, refl, Option, Some, None, Result, Ok, Err}
 use Rattle.std.specs.Prelude.{MatchOption, MatchResult, OnErr}
 use Rattle.jsonb_doc.specs.Answer.{IsOutOfMemory}
 use Rattle.jsonb_doc.specs.DocumentBuilder.{Holds, Takes}
@@ -20,6 +20,12 @@ use Rattle.jsonb_c.specs.declared.status.Status.TheVariants as causes
 use Rattle.jsonb_c.specs.declared.prepared.path.PreparedPath.{PreparedPath}
 use Rattle.jsonb_c.specs.declared.prepared.path.PreparedPath.TheVariants.{Events}
 
+-- a handle without a path and without items
+pub keeps_no_other : (false ≡ true) ⊎ (false ≡ true) ⊎ (false ≡ true) → ⊥
+keeps_no_other (inl is) = cc
+keeps_no_other (inr (inl is)) = cc
+keeps_no_other (inr (inr is)) = cc
+
 -- ---- the builder
 
 same_error : (r : Result (Unit {0}) EventError) (e d : EventError) → r ≡ Err e → r ≡ Err d → e ≡ d
@@ -37,7 +43,7 @@ pub follows : (form : Form) (event : Event) (old b : DocumentBuilder) (r : Resul
     → Follows form event (Some (Events old)) status (Some (Events b))
 follows form event old b r status is h = record {
   takes = λ s held. status_takes form s (next event s) r b status is (h s held);
-  other = λ k. absurd k;
+  other = λ k. absurd (keeps_no_other k);
 }
 
 -- after an error the builder has the state before
@@ -53,7 +59,7 @@ pub follows_kept : (form : Form) (event : Event) (old : Option PreparedPath) (ke
 follows_kept form event (Some x) kept status new is h = rw is at h
 follows_kept form event None kept status new is h = record {
   takes = λ s empty. h.takes s (rw empty (is form));
-  other = λ k. absurd k;
+  other = λ k. absurd (keeps_no_other k);
 }
 
 pub state_kept : (old : Option PreparedPath) (kept : PreparedPath) (status : ℕ) (new : Option PreparedPath)
@@ -70,7 +76,7 @@ out_of_memory form s (Err d) status is empty = inr (empty, (Failed OutOfMemory, 
 pub fails_first : (form : Form) (event : Event) (status : ℕ) → status ≡ code (Refused OutOfMemory) → Follows form event None status None
 fails_first form event status is = record {
   takes = λ s empty. out_of_memory form s (next event s) status is empty;
-  other = λ k. absurd k;
+  other = λ k. absurd (keeps_no_other k);
 }
 
 -- ---- the document

@@ -1,5 +1,5 @@
 -- Documents built from events, with a builder that a handle keeps.
-use Rattle.std.specs.Prelude.{◌≡◌, ◌⊎◌, ℕ, List, Option, Some, None, Result, IsOkAnd, MatchOption, MatchResult, ⊤}
+use Rattle.std.specs.Prelude.{◌≡◌, ◌⊎◌, ℕ, List, Option, Some, None, IsSome, Result, IsOkAnd, MatchOption, MatchResult}
 use Rattle.jsonb_doc.specs.Answer.{IsOutOfMemory}
 use Rattle.jsonb_doc.specs.DocumentBuilder.{Holds, IsFailureAt}
 use Rattle.jsonb_doc.specs.Events.{Event, State, next, no_events, whole}
@@ -9,6 +9,8 @@ use Rattle.jsonb_doc.specs.Tree.{Tree}
 use Rattle.jsonb_doc.specs.declared.error.Error.TheVariants.{OutOfMemory}
 use Rattle.jsonb_doc.specs.declared.event_error.EventError.{EventError}
 use Rattle.jsonb_doc.specs.declared.event_error.EventError.TheVariants as refusal
+use Rattle.jsonb_c.specs.Items.{items_left}
+use Rattle.jsonb_c.specs.Prepared.{json_steps, key_steps}
 use Rattle.jsonb_c.specs.Answers.{Delivers, DeliversNothing, WritesResult, always}
 use Rattle.jsonb_c.specs.Status.{code}
 use Rattle.jsonb_c.specs.declared.status.Status.TheVariants.{Answered, NoPath, OutOfOrder, Refused}
@@ -23,9 +25,7 @@ HoldsEvents form _ s = ⊥
 
 -- Holds if the handle keeps a path or items.
 abbrev pub KeepsOther : Option PreparedPath → Type 0
-KeepsOther None = ⊥
-KeepsOther (Some (Events builder)) = ⊥
-KeepsOther _ = ⊤
+KeepsOther kept = IsSome (json_steps kept) ⊎ IsSome (key_steps kept) ⊎ IsSome (items_left kept)
 
 -- ---- an event
 
