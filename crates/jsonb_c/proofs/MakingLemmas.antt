@@ -1,13 +1,13 @@
 -- Documents that are made, and rows that are put into them.
-use Rattle.std.proofs.Common.{◌≡◌, ◌≢◌, ◌==◌, ◌+◌, ◌-◌, ◌<◌, ℕ, zero, suc, true, false, List, [], ◌∷◌, drop, length, get_or, Option, Some, None, Result, Ok, Err, IfErr, MatchResult, Vec, refl, sym, ap, subst, add-one, arith}
+use Rattle.std.proofs.Common.{◌≡◌, ◌≢◌, ◌==◌, ◌+◌, ◌-◌, ◌<◌, ◌++◌, inl, inr, ℕ, zero, suc, true, false, List, [], ◌∷◌, drop, length, get_or, Option, Some, None, Result, Ok, Err, IfErr, MatchResult, Vec, refl, sym, ap, subst, add-one, arith}
 use Rattle.std.specs.Prelude.{slice_get}
 use Rattle.std.proofs.lemmas.Bool.Decides.{nat_tests}
 use Rattle.std.specs.declared.alloc.Global.{Global}
 use Rattle.jsonb_doc.specs.declared.error.Error.{Error}
 use Rattle.jsonb_doc.specs.Answer.{SameOption, IsOutOfMemoryOrTooLarge}
-use Rattle.jsonb_doc.specs.Tree.{Tree, null, Trees, no_trees, tree, Pairs, no_pairs, pair, count, elements, keys, values}
-use Rattle.jsonb_doc.specs.Payload.{Form}
-use Rattle.jsonb_doc.specs.Format.{Decodes}
+use Rattle.jsonb_doc.specs.Tree.{Tree, null, boolean, number, text, extension, array, object, Trees, no_trees, tree, Pairs, no_pairs, pair, count, elements, keys, values}
+use Rattle.jsonb_doc.specs.Payload.{Form, number_reader}
+use Rattle.jsonb_doc.specs.Format.{Decodes, IsContent, array_header, container_entry, header, object_header, scalar_header}
 use Rattle.std.specs.List.{AllZip}
 use Rattle.jsonb_raw.specs.Documents.{raw_bytes}
 use Rattle.jsonb_raw.specs.declared.raw.RawJsonb.{RawJsonb}
@@ -92,16 +92,34 @@ no_value_at form column i values at h =
 no_length : (n : ℕ) → (n == 0) ≡ true → n ≡ 0
 no_length n e = grind (arith, nat_tests)
 
+-- no document is without bytes
+not_headed : (kind entries : ℕ) (rest : List ℕ) → [] ≡ header kind entries ++ rest → ⊥
+not_headed kind entries rest is = let e : 0 ≡ suc (suc (suc (suc (length rest)))) = ap length is in absurd (omega (arith, e))
+
+no_container : (form : Form) (t : Tree) → IsContent (number_reader form) t container_entry [] → ⊥
+no_container form null c = let kind : 5 ≡ 0 = c.0 in absurd (omega (arith, kind))
+no_container form (boolean false) c = let kind : 5 ≡ 3 = c.0 in absurd (omega (arith, kind))
+no_container form (boolean true) c = let kind : 5 ≡ 4 = c.0 in absurd (omega (arith, kind))
+no_container form (number n) c = let kind : 5 ≡ 2 = c.0 in absurd (omega (arith, kind))
+no_container form (text s) c = let kind : 5 ≡ 1 = c.0 in absurd (omega (arith, kind))
+no_container form (extension x) c = let kind : 5 ≡ 6 = c.0 in absurd (omega (arith, kind))
+no_container form (array ts) c = not_headed array_header (count ts) (c.1.words ++ c.1.contents) c.1.headed.joined
+no_container form (object ps) c = not_headed object_header (length (keys ps)) (c.1.words ++ c.1.contents) c.1.headed.joined
+
+no_document : (form : Form) (t : Tree) → Decodes form [] t → ⊥
+no_document form t d = elim d.document [ inl c ↦ no_container form t c | inr c ↦ not_headed scalar_header 0 (c.words ++ c.contents) c.headed.joined ]
+
 -- a row without bytes is a missing value, and another one a document
 pub value_missing : (form : Form) (bytes : List ℕ) (value : Option Tree) → (length bytes == 0) ≡ true → IsValueOf form (Some bytes) value
     → SameOption {A = RawJsonb} (λ raw t. Decodes form (raw_bytes raw) t) None value
-value_missing form [] value e h = rw h tt
+value_missing form [] None e h = tt
+value_missing form [] (Some t) e h = no_document form t h
 value_missing form (byte ∷ bytes) value e h = let none : length (byte ∷ bytes) ≡ 0 = no_length _ e in absurd (omega (arith, none))
 
 pub value_there : (form : Form) (raw : RawJsonb) (bytes : List ℕ) (value : Option Tree) → (length bytes == 0) ≡ false → raw_bytes raw ≡ bytes
     → IsValueOf form (Some bytes) value → SameOption (λ raw t. Decodes form (raw_bytes raw) t) (Some raw) value
 value_there form raw [] value n e h = absurd (cc)
-value_there form raw (byte ∷ bytes) None n e h = absurd h
+value_there form raw (byte ∷ bytes) None n e h = cc
 value_there form raw (byte ∷ bytes) (Some t) n e h = rw e h
 
 -- ---- counts

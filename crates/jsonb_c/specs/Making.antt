@@ -57,9 +57,7 @@ MakesArray column answer = (form : Form) (ts : List Tree) → AllZip (IsRowOf fo
 
 -- Holds if the row has no bytes and the value is missing, or the row is a document of the value.
 abbrev pub IsValueOf : Form → Option (List ℕ) → Option Tree → Type 0
-IsValueOf form (Some []) value = value ≡ None
-IsValueOf form (Some (byte ∷ bytes)) (Some t) = Decodes form (byte ∷ bytes) t
-IsValueOf form _ _ = ⊥
+IsValueOf form row value = IsSomeAnd row (λ bytes. MatchOption value (bytes ≡ []) (Decodes form bytes))
 
 -- Holds if the result is the composite key of the rows.
 abbrev pub MakesCompositeKey : Width → List (Option (List ℕ)) → Result (List ℕ) Error → Type 0
