@@ -79,3 +79,9 @@ WritesResult {A} IsAnswer Refusals IsShown =
 -- allocation fails.
 abbrev pub With : {P : Type 0} → Result P Status → (P → Type 0) → (Status → Type 0) → Type 0
 With read Runs Fails = MatchResult read Runs Fails ⊎ Fails (Refused OutOfMemory)
+
+-- Holds if what the call finds with its input is delivered. If the input cannot be read, nothing is.
+abbrev pub DeliversBy : {P : Type 0} → Result P Status → (P → (Found (List ℕ) → Type 0) → Type 0) → List ℕ → List ℕ
+    → ℕ → ℕ → Type 0
+DeliversBy read Call old new len status = With read (λ input. Call input (λ answer. Delivers answer old new len status))
+    (λ cause. DeliversNothing cause old new len status)

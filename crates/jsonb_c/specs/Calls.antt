@@ -1,8 +1,6 @@
 -- Results of the functions on one document.
-use Rattle.std.specs.Prelude.{◌≡◌, ◌⊎◌, ◌↔◌, ◌||◌, not, ℕ, ℤ, pos, negsuc, Bool, false, IsTrue, IsOkAnd, List, length, Option, Some, None, Result, Ok, Err, String, MatchResult, MatchOption, if◌then◌else◌}
+use Rattle.std.specs.Prelude.{◌≡◌, ◌⊎◌, ◌↔◌, ◌||◌, not, ℕ, ℤ, Bool, false, IsTrue, IsOkAnd, List, length, Option, Some, None, Result, Ok, Err, String, MatchResult, MatchOption, if◌then◌else◌}
 use Rattle.std.specs.declared.alloc.Global.{Global}
-use Rattle.std.specs.declared.cmp.Ordering.{Ordering}
-use Rattle.std.specs.Ordering.{match_ordering}
 use Rattle.std.specs.Int.{Width, w8, w16}
 use Rattle.jsonb_doc.specs.declared.error.Error.{Error}
 use Rattle.jsonb_doc.specs.declared.error.Error.TheVariants.{OutOfMemory, InvalidJsonb, UnsupportedNumber, InvalidCast, InvalidJsonType, InvalidObject, ObjectDuplicateKey, TooDeep, TooLarge}
@@ -92,12 +90,6 @@ width_of wide = if wide then w16 else w8
 abbrev pub IsSortableKeyOf : Width → List ℕ → Result (List ℕ) Error → Type 0
 IsSortableKeyOf w document answer =
     OfDocument document (λ form t made. GivesKey w (deepest t) made (λ bytes. bytes ≡ sortable_key w t 0)) answer
-
--- ---- the order of documents
-
--- -1, 0 or 1.
-abbrev pub order_number : Ordering → ℤ
-order_number order = match_ordering order (negsuc 0) (pos 0) (pos 1)
 
 -- ---- equality keys
 

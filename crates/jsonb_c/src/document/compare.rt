@@ -1,6 +1,7 @@
 //! Comparison of documents.
 
-ghost use Rattle.std.specs.Prelude.{◌≡◌, IfErr, IsOkAnd};
+ghost use Rattle.std.specs.Ordering.{match_ordering};
+ghost use Rattle.std.specs.Prelude.{◌≡◌, IfErr, IsOkAnd, negsuc, pos};
 ghost use Rattle.jsonb_doc.specs.Answer.{IsDecodingError};
 ghost use Rattle.jsonb_doc.specs.Format.{Decodes};
 ghost use Rattle.jsonb_doc.specs.Order.{tree_cmp};
@@ -8,7 +9,7 @@ ghost use Rattle.jsonb_doc.specs.Payload.{Form};
 ghost use Rattle.jsonb_doc.specs.Tree.{Tree};
 ghost use Rattle.jsonb_raw.specs.Casts.{bool_number};
 ghost use Rattle.jsonb_c.specs.Answers.{Shows, WritesResult, always, found_as};
-ghost use Rattle.jsonb_c.specs.Calls.{TellsContainment, order_number};
+ghost use Rattle.jsonb_c.specs.Calls.{TellsContainment};
 
 use crate::deliver::{store, store_bool};
 use jsonb::{Error, RawJsonb};
@@ -27,16 +28,18 @@ pub extern "C" fn jdoc_contains(document: &[u8], other: &[u8], truth: &mut u8) -
 /// Returns the order of two documents: -1, 0 or 1. Without extension values it is that of their sortable keys.
 #[unsafe(no_mangle)]
 pub extern "C" fn jdoc_compare(document: &[u8], other: &[u8], order: &mut i32) -> u32
-    ensures { WritesResult (λ answer. (form other_form : Form) (t u : Tree) → Decodes form document.now t
-        → Decodes other_form other.now u → IsOkAnd answer (λ z. z ≡ order_number (tree_cmp t u)))
+    ensures { WritesResult (λ answer. (form other_form : Form) (t u : Tree)
+        → Decodes form document.now t → Decodes other_form other.now u
+        → IsOkAnd answer (λ z. z ≡ match_ordering (tree_cmp t u) (negsuc 0) (pos 0) (pos 1)))
         IsDecodingError (λ answer. Shows (always answer) order.old order.new result) }
 {
     store(compare(document, other), order)
 }
 
 fn compare(document: &[u8], other: &[u8]) -> Result<i32, Error>
-    ensures order { (form other_form : Form) (t u : Tree) → Decodes form document.now t
-        → Decodes other_form other.now u → IsOkAnd result (λ z. z ≡ order_number (tree_cmp t u)) }
+    ensures order { (form other_form : Form) (t u : Tree)
+        → Decodes form document.now t → Decodes other_form other.now u
+        → IsOkAnd result (λ z. z ≡ match_ordering (tree_cmp t u) (negsuc 0) (pos 0) (pos 1)) }
     ensures errors { IfErr result IsDecodingError }
 {
     match order_of(document, other)? {

@@ -13,7 +13,7 @@ ghost use Rattle.jsonb_raw.specs.Concat.{concat};
 ghost use Rattle.jsonb_raw.specs.Documents.{Makes};
 ghost use Rattle.jsonb_raw.specs.Strip.{strip};
 ghost use Rattle.jsonb.specs.KeyPathGrammar.{key_path};
-ghost use Rattle.jsonb_c.specs.Answers.{Delivers, DeliversNothing, OfDocument, With, WritesResult, always};
+ghost use Rattle.jsonb_c.specs.Answers.{Delivers, DeliversBy, DeliversNothing, OfDocument, WritesResult, always};
 ghost use Rattle.jsonb_c.specs.Calls.{DeletesIndex, DeletesPart, DeletesPlace, InsertsPair, MakesOr};
 ghost use Rattle.jsonb_c.specs.Private.Boxes.{ByPath};
 ghost use Rattle.jsonb_c.specs.declared.status.Status.TheVariants.{NotUtf8, Refused};
@@ -32,10 +32,9 @@ pub extern "C" fn jdoc_delete_by_keypath(
     out: &mut [u8],
     out_len: &mut usize,
 ) -> u32
-    ensures { With (ok_or (key_path path.now) (Refused InvalidKeyPath))
-        (λ steps. DeletesPart steps document.now
-        (λ answer. Delivers (always answer) out.old out.new out_len.new result))
-        (λ cause. DeliversNothing cause out.old out.new out_len.new result) }
+    ensures { DeliversBy (ok_or (key_path path.now) (Refused InvalidKeyPath))
+        (λ steps IsShown. DeletesPart steps document.now (λ answer. IsShown (always answer)))
+        out.old out.new out_len.new result }
 {
     deliver_made(delete_by_keypath(alloc, document, path), out, out_len)
 }

@@ -8,7 +8,7 @@ ghost use Rattle.jsonb_raw.specs.Children.{element_at, named_child};
 ghost use Rattle.jsonb_raw.specs.Documents.{MakesOption};
 ghost use Rattle.jsonb_raw.specs.Places.{tree_at_steps};
 ghost use Rattle.jsonb.specs.KeyPathGrammar.{key_path};
-ghost use Rattle.jsonb_c.specs.Answers.{Delivers, DeliversNothing, OfDocument, With, WritesResult};
+ghost use Rattle.jsonb_c.specs.Answers.{Delivers, DeliversBy, DeliversNothing, OfDocument, WritesResult};
 ghost use Rattle.jsonb_c.specs.Calls.{Finds, FindsPart};
 ghost use Rattle.jsonb_c.specs.Private.Boxes.{ByPath};
 ghost use Rattle.jsonb_c.specs.declared.status.Status.TheVariants.{NotUtf8, Refused};
@@ -68,9 +68,8 @@ pub extern "C" fn jdoc_get_by_keypath(
     out: &mut [u8],
     out_len: &mut usize,
 ) -> u32
-    ensures { With (ok_or (key_path path.now) (Refused InvalidKeyPath))
-        (λ steps. FindsPart steps document.now (λ answer. Delivers answer out.old out.new out_len.new result))
-        (λ cause. DeliversNothing cause out.old out.new out_len.new result) }
+    ensures { DeliversBy (ok_or (key_path path.now) (Refused InvalidKeyPath))
+        (λ steps. FindsPart steps document.now) out.old out.new out_len.new result }
 {
     deliver(get_by_keypath(alloc, document, path), out, out_len)
 }

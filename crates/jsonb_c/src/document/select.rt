@@ -6,7 +6,7 @@ ghost use Rattle.jsonb.specs.PathViews.{path_view};
 ghost use Rattle.jsonb.specs.SelectionErrors.{IsDocumentError, IsSelectionError};
 ghost use Rattle.jsonb.specs.SelectorAnswers.{first_item, root_bytes, single_or_array, IsArrayOf, IsFound, IsPicked, IsTruthOf, ByMeanings};
 ghost use Rattle.jsonb.specs.SelectorAnswers.{mode_of as selector_mode};
-ghost use Rattle.jsonb_c.specs.Answers.{Delivers, DeliversNothing, Shows, With, always, found_as, truth_byte};
+ghost use Rattle.jsonb_c.specs.Answers.{DeliversBy, Shows, With, always, found_as, truth_byte};
 ghost use Rattle.jsonb_c.specs.Private.Views.{pick_of};
 ghost use Rattle.jsonb_c.specs.Calls.{SelectsItem, TellsExistence, TellsTruth, mode_of, one_array};
 ghost use Rattle.jsonb_c.specs.Status.{code};
@@ -28,10 +28,8 @@ pub extern "C" fn jdoc_select_value(
     out: &mut [u8],
     out_len: &mut usize,
 ) -> u32
-    ensures { With (ok_or (json_path path.now) NotJsonPath)
-        (λ steps. SelectsItem (mode_of strict) single_or_array steps document.now
-        (λ answer. Delivers answer out.old out.new out_len.new result))
-        (λ cause. DeliversNothing cause out.old out.new out_len.new result) }
+    ensures { DeliversBy (ok_or (json_path path.now) NotJsonPath)
+        (λ steps. SelectsItem (mode_of strict) single_or_array steps document.now) out.old out.new out_len.new result }
 {
     select(alloc, document, path, strict, Pick::Value, out, out_len)
 }
@@ -46,10 +44,8 @@ pub extern "C" fn jdoc_select_first(
     out: &mut [u8],
     out_len: &mut usize,
 ) -> u32
-    ensures { With (ok_or (json_path path.now) NotJsonPath)
-        (λ steps. SelectsItem (mode_of strict) first_item steps document.now
-        (λ answer. Delivers answer out.old out.new out_len.new result))
-        (λ cause. DeliversNothing cause out.old out.new out_len.new result) }
+    ensures { DeliversBy (ok_or (json_path path.now) NotJsonPath)
+        (λ steps. SelectsItem (mode_of strict) first_item steps document.now) out.old out.new out_len.new result }
 {
     select(alloc, document, path, strict, Pick::First, out, out_len)
 }
@@ -64,10 +60,8 @@ pub extern "C" fn jdoc_select_array(
     out: &mut [u8],
     out_len: &mut usize,
 ) -> u32
-    ensures { With (ok_or (json_path path.now) NotJsonPath)
-        (λ steps. SelectsItem (mode_of strict) one_array steps document.now
-        (λ answer. Delivers answer out.old out.new out_len.new result))
-        (λ cause. DeliversNothing cause out.old out.new out_len.new result) }
+    ensures { DeliversBy (ok_or (json_path path.now) NotJsonPath)
+        (λ steps. SelectsItem (mode_of strict) one_array steps document.now) out.old out.new out_len.new result }
 {
     select(alloc, document, path, strict, Pick::Array, out, out_len)
 }
@@ -93,10 +87,8 @@ fn select(
     out: &mut [u8],
     out_len: &mut usize,
 ) -> u32
-    ensures { With (ok_or (json_path path.now) NotJsonPath)
-        (λ steps. SelectsItem (mode_of strict) (pick_of pick) steps document.now
-        (λ answer. Delivers answer out.old out.new out_len.new result))
-        (λ cause. DeliversNothing cause out.old out.new out_len.new result) }
+    ensures { DeliversBy (ok_or (json_path path.now) NotJsonPath)
+        (λ steps. SelectsItem (mode_of strict) (pick_of pick) steps document.now) out.old out.new out_len.new result }
 {
     match parse_json_path(alloc, path) {
         Ok(steps) => {
