@@ -12,7 +12,7 @@ use Rattle.jsonb_doc.specs.declared.error.Error.TheVariants.{OutOfMemory}
 use Rattle.jsonb_doc.specs.declared.event_error.EventError.{EventError}
 use Rattle.jsonb_doc.specs.declared.event_error.EventError.TheVariants.{OutOfOrder, Failed}
 use Rattle.jsonb_c.specs.Answers.{Delivers, DeliversBytes, DeliversNothing, WritesResult, always}
-use Rattle.jsonb_c.specs.Builders.{Follows, HoldsEvents, TakesEvent, event_status}
+use Rattle.jsonb_c.specs.Builders.{Follows, TakesEvent, event_status}
 use Rattle.jsonb_c.specs.Private.Events.{IsKeptOrNew, KeepsState}
 use Rattle.jsonb_c.specs.Status.{code}
 use Rattle.jsonb_c.specs.declared.status.Status.TheVariants.{Answered, Refused}

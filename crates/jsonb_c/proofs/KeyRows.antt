@@ -1,5 +1,5 @@
 -- Rows of keys that were written over what a vector holds.
-use Rattle.std.proofs.Common.{◌≡◌, ℕ, List, Result, Ok, Err, true}
+use Rattle.std.proofs.Common.{ℕ, List, Result, Ok, Err, true}
 use Rattle.std.specs.Prelude.{Vec, IfErr}
 use Rattle.std.specs.Result.{result_and}
 use Rattle.std.specs.declared.alloc.Global.{Global}

@@ -5,7 +5,6 @@ use Rattle.jsonb_doc.specs.DocumentBuilder.{Holds, IsFailureAt}
 use Rattle.jsonb_doc.specs.Events.{Event, State, next, no_events, whole}
 use Rattle.jsonb_doc.specs.Format.{Decodes}
 use Rattle.jsonb_doc.specs.Payload.{Form}
-use Rattle.jsonb_doc.specs.Tree.{Tree}
 use Rattle.jsonb_doc.specs.declared.error.Error.TheVariants.{OutOfMemory}
 use Rattle.jsonb_doc.specs.declared.event_error.EventError.{EventError}
 use Rattle.jsonb_doc.specs.declared.event_error.EventError.TheVariants as refusal

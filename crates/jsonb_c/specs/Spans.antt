@@ -1,5 +1,5 @@
 -- Spans of values within a document.
-use Rattle.std.specs.Prelude.{◌≡◌, ◌+◌, ◌≤◌, ℕ, List, length, slice_range, Option, Result, IsOkAnd, MatchResult}
+use Rattle.std.specs.Prelude.{◌+◌, ◌≤◌, ℕ, List, length, slice_range, Option, Result, IsOkAnd, MatchResult}
 use Rattle.jsonb_doc.specs.Answer.{SameOption, IsOutOfMemory}
 use Rattle.jsonb_doc.specs.Format.{IsContent}
 use Rattle.jsonb_doc.specs.Payload.{Form, number_reader}
