@@ -125,7 +125,7 @@ def mutated_body(text, other):
 def place_of(mutant, top):
     """Returns the file of a mutant, the row at which its body begins, and the mutant's rows; or None if it changes no one body."""
     folder = top / "crates" / mutant.crate
-    texts, fault = edits.rt.edited(mutant.edit.text, folder)
+    texts, fault = edits.edited(mutant.edit.text, folder)
     if fault:
         edits.stop(f"{mutant}: {fault}")
     [(path, other), *more] = texts.items()
