@@ -293,8 +293,12 @@ def calls_in_name(case):
         yield f"{owner}::{call.rpartition('::')[2]}" if owner else call
 
 
-def mutated_names():
-    return {it.name.rpartition("::")[2] for crate in check_docs.CRATES for it in mutants(crate) if it}
+def mutated(calls):
+    """Returns those of these calls of which some mutant changes the body: of a method of a trait, that of one of its impls."""
+    names = {it.name.replace(r"\w*", "") for crate in check_docs.CRATES for it in mutants(crate) if it}
+    traits = {it for crate in check_docs.CRATES for it in re.findall(r"^pub trait (\w+)", source(crate), re.M)}
+    is_in_impl = lambda call: call.partition("::")[0] in traits and any(it.endswith(call) for it in names)
+    return {call for call in calls if call in names or "::" in call and is_in_impl(call)}
 
 
 def c_names():
@@ -302,7 +306,11 @@ def c_names():
 
 
 def missing():
-    """Returns each place in which a public call has to be named, with the calls that are not."""
+    """Returns each place in which a public call has to be named, with the calls that are not, and those of which no mutant is.
+
+    A place names a method by its type or without it.
+    """
+    calls = [*public_calls()]
     places = {
         "docs/API.md": names_in_page(ROOT / "docs/API.md"),
         "docs/rows": names_in_rows(),
@@ -310,11 +318,11 @@ def missing():
         "the sweep": reached_names("jsonb_sweep", ["main"]),
         "a name of its cases": {call for it in names_of_cases("growths") for call in calls_in_name(it)},
         "damaged documents": reached_names("jsonb_vectors", TEST.findall(source("jsonb_vectors"))),
-        "a mutant": mutated_names(),
         "the C library": {*c_names()},
     }
-    calls = [*public_calls()]
-    return {place: [it for it in calls if not {it, it.rpartition("::")[2]} & names] for place, names in places.items()}
+    lacks = {place: [it for it in calls if not {it, it.rpartition("::")[2]} & names] for place, names in places.items()}
+    changed = mutated(calls)
+    return lacks | {"a mutant": [it for it in calls if it not in changed]}
 
 
 # ---- the file

@@ -1,18 +1,11 @@
 """The must-fail edits of the crates: their positions, and the functions they change."""
-import importlib.machinery
-import importlib.util
 import os
 import re
-import shutil
 import sys
 import threading
 from dataclasses import dataclass
 
-# What these programs call of rt, and of the module rtlib that it loads.
-CALLED = {
-    "rt": "ci edits_alone must_fail checked seeded linked in_lanes ending edits_of read_edit edited share_work say processors free Crate Kept SEEDS REFUSED MISSED UNSURE rtlib",
-    "rtlib": "VERDICT crates_below",
-}
+import kit
 
 FUNCTION = re.compile(r"( *)(?:pub(?:\([^)]*\))? |const |unsafe |extern \"C\" )*fn (\w+)")
 TRAIT = r"(?:\w+::)*(\w+)(?:<(?:(?:\w+::)*(\w+))?.*>)?"
@@ -32,24 +25,6 @@ printing = threading.Lock()
 def say(text):
     with printing:
         print(text, flush=True)
-
-
-def load_rt():
-    """Returns rt, which is a Python program, as a module: how an edit is read, checked and judged is its own word."""
-    file = shutil.which("rt") or stop("there is no rt on the PATH")
-    sys.dont_write_bytecode = True
-    loader = importlib.machinery.SourceFileLoader("rt_of_kit", os.path.realpath(file))
-    made = importlib.util.module_from_spec(importlib.util.spec_from_loader("rt_of_kit", loader))
-    loader.exec_module(made)
-    for module, names in CALLED.items():
-        owner = made if module == "rt" else made.rtlib
-        for name in names.split():
-            if not hasattr(owner, name):
-                stop(f"{module} of this kit has no {name}: read what it has in its place, and mend this program")
-    return made
-
-
-rt = load_rt()
 
 
 @dataclass(frozen=True)
@@ -133,6 +108,31 @@ def function_at(path, text, line):
     return function_below(path, rows, header) if header is not None else None
 
 
+def edited(edit, folder):
+    """Returns the contents of the files that an edit changes, by their path in the crate, and why it can't be applied, if it can't.
+
+    This is what rt reads in it (tools/test_judge.py compares them), so that the tools which try no proof need no kit for it.
+    """
+    texts, unchanged, path, old = {}, {}, "", ""
+    for row in edit.split("\n"):
+        if row.startswith("file: "):
+            path = row.removeprefix("file: ").strip()
+        elif row.startswith("old: "):
+            old = row.removeprefix("old: ")
+        elif row.startswith("new:"):
+            file = os.path.join(folder, path)
+            if not path.startswith(("src/", "specs/", "proofs/")) or os.path.normpath(path) != path or not os.path.isfile(file):
+                return None, f"there is no file {path!r}"
+            if path not in texts:
+                with open(file, encoding="utf-8") as it:
+                    texts[path] = unchanged[path] = it.read()
+            if not old or texts[path].count(old) != 1:
+                return None, f"{old!r} is not in {path} once"
+            texts[path] = texts[path].replace(old, row.removeprefix("new:").removeprefix(" "))
+            old = ""
+    return (texts, None) if texts != unchanged else (None, "it changes nothing")
+
+
 def functions_of(edit, folder):
     """Returns the functions that an edit's text changes, each once; None stands for a pair outside of bodies."""
     path, old, texts, found = "", "", {}, []
@@ -153,7 +153,7 @@ def functions_of(edit, folder):
 
 def read(edit, folder):
     """Returns the functions that an edit file changes, and why it can't be tried, if it can't."""
-    _, fault = rt.read_edit(edit, folder)
+    _, fault = kit.rt.read_edit(edit, folder)
     if fault:
         return [], fault
     with open(edit, encoding="utf-8") as it:
@@ -181,8 +181,8 @@ def edits_below(top, names):
     """
     crates, faults = [], []
     # (The copies that a measurement made are in a folder out, and not crates of the repository.)
-    for crate in [it for it in rt.rtlib.crates_below(top) if "/out/" not in os.path.relpath(it.folder, top)]:
-        good, bad = rt.edits_of(crate) if not names or crate.name in names else ([], [])
+    for crate in [it for it in kit.rt.rtlib.crates_below(top) if "/out/" not in os.path.relpath(it.folder, top)]:
+        good, bad = kit.rt.edits_of(crate) if not names or crate.name in names else ([], [])
         why = {it: read(it, crate.folder)[1] for it in good}
         why |= dict.fromkeys(bad, "this is no name or place for an edit")
         faults += [f"{crate.name}/{os.path.basename(it)}: BAD EDIT: {fault}" for it, fault in why.items() if fault]

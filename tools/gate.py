@@ -17,14 +17,15 @@ own program on a copy of the repository, with three things changed:
 So the prover says `incremental=trusted` of each crate: it trusts the files that this run wrote in its own folder. rt ci
 by itself, which trusts none, takes the repository as well, and nothing that is kept here. The work tree gets each program
 and the static library once its crate is proved, for the commands that use them. The last line is 'N passed, M failed'.
+
+With a kit that lacks what tools/kit.py uses of rt, this is plain rt ci, and `rt lib` for the static library.
 """
 import argparse
 import functools
-import hashlib
-import inspect
 import os
 import re
 import shutil
+import subprocess
 import sys
 import tempfile
 from collections import ChainMap
@@ -33,58 +34,9 @@ from pathlib import Path
 sys.dont_write_bytecode = True
 import check_edits
 import edits
+import kit
 import lanes
 import library
-from edits import rt
-
-
-class ProvedOnce(rt.Crate):
-    """A crate under rt ci whose proof is kept, for its tests, its program, its edits and the crates above it."""
-
-    # The names of those that are not proved.
-    refused = set()
-
-    def ci(self, flags, tests):
-        kept = f"{self.folder}/out/{'tests' if tests else 'incremental'}"
-        flags = [*flags, "--incremental", kept]
-        if tests:
-            return self.check_tests(flags, kept)
-        status = self.build_program(flags) if self.is_program else super().ci(flags, tests)
-        if status:
-            self.refused.add(self.name)
-            return status
-        self.out.seek(0)
-        check_edits.proofs[self.name] = self.out.read()
-        return self.build_library(["--jobs", "1"]) if self.is_static else 0
-
-    def check_tests(self, flags, kept):
-        if self.name in self.refused:
-            rt.say("the crate itself is not proved", self.out)
-            return 1
-        shutil.rmtree(kept, ignore_errors=True)
-        if self.name in check_edits.proofs:
-            rt.linked(f"{self.folder}/out/incremental", kept)
-        return super().ci(flags, True)
-
-    def build_program(self, flags):
-        """Proves a program and builds it by both compilers, as rt does from a checked crate, which keeps no work."""
-        words = [*self.words(flags, keeps=False), "--toolchain", f"{rt.KIT}/toolchain"]
-        to = f"out/{self.name}"
-        status = self.prove(["build", *words, "--backend", "llvm", "-o", f"{to}.o"])
-        return status or self.link(f"{to}.o", to) or self.compile_by("rattle", words, to)
-
-    def build_library(self, flags):
-        """Builds the static library over the crate's proof, and puts it with what a crate's proof made."""
-        status, folder = self.build_static(flags), f"{self.folder}/out/rlib/{self.name}.rlib"
-        if not status:
-            os.makedirs(folder, exist_ok=True)
-            os.replace(f"{self.folder}/out/lib{self.name}.a", f"{folder}/lib{self.name}.a")
-        return status
-
-    def build_rlib(self, flags, anew):
-        # (A library of statements alone can't be built over kept work.)
-        self.cuts_libraries = False
-        return super().build_rlib(flags, anew)
 
 
 class Output:
@@ -171,11 +123,7 @@ def if_well(call, then):
 def prove_once(built=None):
     """Has rt ci do as this program's description says."""
     check_edits.judge_by_function()
-    rt.Crate, rt.in_lanes = ProvedOnce, functools.partial(in_lanes, built=built)
-    rt.rtlib.VERDICT = re.compile(rt.rtlib.VERDICT.pattern.replace(r"\n\Z", r" incremental=trusted\n\Z"), re.M)
-    how = hashlib.sha256(inspect.getsource(ProvedOnce).encode()).hexdigest()
-    key_by_rt = rt.Kept.key
-    rt.Kept.key = lambda kept, crate: hashlib.sha256(f"{key_by_rt(kept, crate)} {how}".encode()).hexdigest()
+    kit.prove_once(functools.partial(in_lanes, built=built))
 
 
 def copy_repository(to):
@@ -203,7 +151,7 @@ def run(anew, notes):
             edits.say(it)
         built = Built(f"{room}/repository", work_tree, notes)
         prove_once(built)
-        status = rt.ci(anew)
+        status = kit.rt.ci(anew)
         os.chdir(work_tree)
         built.put_others()
         tempfile.tempdir = None
@@ -213,7 +161,18 @@ def run(anew, notes):
 def run_some(anew, names):
     """Runs rt ci for some crates, which copies them by itself."""
     prove_once()
-    return rt.ci(anew, names), 0
+    return kit.rt.ci(anew, names), 0
+
+
+def run_plain(anew, names):
+    """Runs rt ci as it is, and builds the static library, and returns the status of both and 0."""
+    ran = subprocess.Popen([kit.RT, "ci", *["--anew"] * anew, *names], stdin=subprocess.DEVNULL, stdout=subprocess.PIPE, text=True, errors="replace")
+    for line in ran.stdout:
+        print(line, end="")
+    last = sys.stdout.last
+    has_library = bool(names) or not subprocess.run([sys.executable, f"{kit.TOP}/tools/library.py", "build"]).returncode
+    sys.stdout.last = last
+    return int(ran.wait() != 0 or not has_library), 0
 
 
 def words():
@@ -228,12 +187,18 @@ def main():
     asked = words()
     sys.stdout.reconfigure(line_buffering=True)
     sys.stdout = Output(sys.stdout)
-    status, faults = run_some(asked.anew, asked.names) if asked.names else run(asked.anew, asked.built)
+    lacks = kit.lacks()
+    for it in lacks:
+        edits.say(f"gate: this kit needs another tools/kit.py, so rt ci runs as it is: {it}")
+    if lacks:
+        status, faults = run_plain(asked.anew, asked.names)
+    else:
+        status, faults = run_some(asked.anew, asked.names) if asked.names else run(asked.anew, asked.built)
     last = re.match(r"(\d+) passed, (\d+) failed", sys.stdout.last)
     passed, failed = map(int, last.groups()) if last else (0, 1)
     failed = (failed or int(status != 0)) + faults
     processor = sum(os.times()[:4]) / 60
-    print(f"gate: {lanes.minutes(lanes.BEGUN)}, {processor:.0f} min of processor, on {rt.processors()} processors")
+    print(f"gate: {lanes.minutes(lanes.BEGUN)}, {processor:.0f} min of processor, on {kit.processors()} processors")
     print(f"{passed} passed, {failed} failed")
     return 1 if failed else 0
 

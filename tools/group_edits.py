@@ -44,7 +44,7 @@ class Group:
         together = [*self.edits, *others]
         keys = [key for it in together for key in it.keys()]
         is_apart = len({*keys}) == len(keys)
-        return len(together) <= most and is_apart and not edits.rt.edited(text_of(together), folder)[1]
+        return len(together) <= most and is_apart and not edits.edited(text_of(together), folder)[1]
 
 
 def text_of(together):

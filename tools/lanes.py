@@ -9,12 +9,11 @@ import time
 import traceback
 from concurrent.futures import FIRST_COMPLETED, ThreadPoolExecutor, wait
 
-from edits import rt, say
+import kit
+from edits import say
 
 # The most memory that a check was seen to take, in bytes: 4.5 GB for a proof from nothing, 2.8 GB for an edit.
 MEMORY_OF_A_CHECK = 4_500_000_000
-# The kinds of tasks, those that others wait for first.
-KINDS = ("proof", "seed", "tests", "edits", "sound", "again")
 # How much nicer than a proof the other tasks are to the processor.
 NICE = 10
 # The seconds before a task that an exception ended begins again.
@@ -24,7 +23,7 @@ BEGUN = time.time()
 
 def lanes_here():
     """Returns how many checks this machine can do at a time: one a processor, as memory allows."""
-    return max(1, min(rt.processors(), rt.free() // MEMORY_OF_A_CHECK))
+    return max(1, min(kit.processors(), kit.free() // MEMORY_OF_A_CHECK))
 
 
 def minutes(since):
@@ -45,7 +44,7 @@ def do_task(key, call, *given):
     started, what = time.time(), " ".join(map(str, key))
     be_nice(0 if key[1] == "proof" else NICE)
     result = twice(what, call, given)
-    if key[1] == "edits" and result and result[0] != rt.REFUSED:
+    if key[1] == "edits" and result and result[0] != kit.rt.REFUSED:
         say(result[1])
     if time.time() - started > 1:
         say(f"[{minutes(started)}, {minutes(BEGUN)} since the start] {what}")
@@ -71,8 +70,8 @@ def in_lanes(tasks):
     and take what it leaves idle. Any other task has one job, since more jobs take more time of the processors in all.
     """
     lanes, running, given = lanes_here(), {}, {}
-    left = sorted(tasks, key=lambda it: (KINDS.index(it[1]), -tasks[it][1]))
-    with rt.ending(), ThreadPoolExecutor(lanes) as pool:
+    left = sorted(tasks, key=lambda it: (kit.KINDS.index(it[1]), -tasks[it][1]))
+    with kit.rt.ending(), ThreadPoolExecutor(lanes) as pool:
         while left or running:
             ready = [it for it in left if all(below in given for below in tasks[it][0])]
             proofs = sum(it[1] == "proof" for it in [*ready, *running.values()])

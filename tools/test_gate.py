@@ -63,7 +63,7 @@ def run(room, broken=None, how=WELL):
         if file_of(command) == "tools/gate.py" and lines == WELL:
             lines = f"for it in {' '.join(BUILT)}; do sleep 0.1; : >\"$2/$it\"; done; {lines}"
         write_program(room / file_of(command), lines)
-    ran = subprocess.run([room / GATE], stdin=subprocess.DEVNULL, stdout=subprocess.PIPE, stderr=subprocess.DEVNULL, text=True, timeout=60)
+    ran = subprocess.run([room / GATE], stdin=subprocess.DEVNULL, stdout=subprocess.PIPE, stderr=subprocess.DEVNULL, text=True, timeout=600)
     return ran.stdout.rstrip("\n").rpartition("\n")[2], ran.returncode
 
 

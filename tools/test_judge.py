@@ -1,6 +1,6 @@
 #!/usr/bin/env python3
 """Tests tools/judge.py: a body that is right must not count as rejected, and a mutant must. Tests tools/witness.py: which witnesses take
-its place, and which mutants can have one.
+its place, and which mutants can have one. Tests tools/kit.py: what another kit lacks is noticed; tools/edits.py reads edits as rt does.
 
     tools/test_judge.py        the last line is 'N passed, M failed'
 
@@ -14,9 +14,11 @@ import tomllib
 from pathlib import Path
 
 sys.dont_write_bytecode = True
+import check_counts
 import edits
 import group_edits
 import judge
+import kit
 import witness
 
 JUDGED = Path(__file__).resolve().parent / "judged.toml"
@@ -31,7 +33,7 @@ def with_mutant(edit, mutants):
         return edit
     mutant = mutants.get(edit["mutant"]) or edits.stop(f"tools/judged.toml has {edit['mutant']!r}, which is no mutant")
     folder = witness.TOP / "crates" / mutant.crate
-    [(path, text)] = edits.rt.edited(mutant.edit.text, folder)[0].items()
+    [(path, text)] = edits.edited(mutant.edit.text, folder)[0].items()
     rows = text.split("\n")
     header, *_ = witness.body_with(rows, witness.changed_row((folder / path).read_text(), text))
     more = edit["line"] - 1 - header
@@ -112,8 +114,42 @@ def can_have_test(pairs):
         return not witness.fault_of(mutant, given, {crate: {"lengths"}}, top)
 
 
+# What another kit may have in place of what rt has: nothing, or a function with other parameters.
+OF_OTHERS = {"linked": None, "seeded": None, "SEEDS": None, "checked": lambda crate, texts, flags: None, "must_fail": lambda crate, edits: None}
+
+
+def is_noticed(name):
+    """Returns whether tools/kit.py says that something is not as it uses it."""
+    before, own = kit.lacks(), getattr(kit.rt, name, None)
+    setattr(kit.rt, name, OF_OTHERS[name])
+    try:
+        return [*before] != kit.lacks() or own is None
+    finally:
+        setattr(kit.rt, name, own)
+
+
+# An edit that changes nothing.
+SAME = "file: src/lib.rt\nold: #![tactic(auto)]\nnew: #![tactic(auto)]\n"
+
+
+def read_otherwise():
+    """Yields the edits that rt reads otherwise than tools/edits.py, of all in the repository and of some that can't be applied."""
+    by_rt = kit.owned("rt", "edited") or edits.edited
+    for crate in check_counts.crate_names():
+        folder = str(witness.TOP / "crates" / crate)
+        texts = [file.read_text() for file in edits.files_of(Path(folder))]
+        broken = [change(it) for it in texts[:3] for change in (str.upper, lambda it: it.replace("old: ", "old: no "), lambda it: f"{it}\nnew: \n")]
+        for text in [*texts, *broken, "file: src/lib.rt\nold: //!\nnew: /!\n", "file: Cargo\nold: a\nnew: b\n", "file: src/../crates.txt\nold: a\nnew: b\n", "file: src/lib.rt\n", SAME]:
+            if edits.edited(text, folder)[0] != by_rt(text, folder)[0]:
+                yield f"{crate}: {text[:60]!r}"
+
+
 def main():
     passed = failed = 0
+    for text, is_well in [*((f"{it} of another kit is not noticed", is_noticed(it)) for it in OF_OTHERS), *((it, False) for it in read_otherwise())]:
+        passed, failed = passed + is_well, failed + (not is_well)
+        if not is_well:
+            print(text)
     for text, wanted in WITNESSES:
         if witness.stated().is_determined(text) == wanted:
             passed += 1

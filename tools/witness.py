@@ -57,8 +57,8 @@ EXACT = re.compile(r"check |depth ")
 DOCUMENT = re.compile(r"\b[248]0(?:[0-9a-f]{2}){3,}\b")
 # The longest text of an assertion that is kept.
 SHOWN = 90
-# A test has this many seconds for all mutants that it reaches.
-SECONDS = 900
+# A test has this many seconds for all mutants that it reaches, while the gate proves the crates.
+SECONDS = 1800
 # Tests that take long with each mutant: of deep documents and expressions, of each call on each damaged document, and of a long array.
 SLOW = re.compile(r"\w*(?:deep_|deeper_|any_depth)|all_calls_return_|leaves_of_a_long_array_")
 TEST = re.compile(r"^( *)#\[test\]\n(?: *#\[.*\n)* *fn (\w+)", re.M)
@@ -125,7 +125,7 @@ def mutated_body(text, other):
 def place_of(mutant, top):
     """Returns the file of a mutant, the row at which its body begins, and the mutant's rows; or None if it changes no one body."""
     folder = top / "crates" / mutant.crate
-    texts, fault = edits.rt.edited(mutant.edit.text, folder)
+    texts, fault = edits.edited(mutant.edit.text, folder)
     if fault:
         edits.stop(f"{mutant}: {fault}")
     [(path, other), *more] = texts.items()

@@ -16,7 +16,7 @@ command -v pg_config >/dev/null || skip "there is no pg_config"
 bin=$(pg_config --bindir) pgxs=$(pg_config --pgxs)
 regress=$(dirname "$(dirname "$pgxs")")/../src/test/regress/pg_regress
 [ -x "$bin/postgres" ] || skip "there is no server"
-[ -f "$pgxs" ] && [ -x "$regress" ] || skip "there is no postgresql-server-dev"
+[ -f "$pgxs" ] && [ -f "$(pg_config --includedir-server)/postgres.h" ] && [ -x "$regress" ] || skip "there is no postgresql-server-dev"
 
 # The server does not run as root. Its user may not be able to read the repository.
 user=$(id -un)

@@ -30,7 +30,7 @@ part() {
 }
 has_sqlite() { echo '#include <sqlite3ext.h>' | cc -E -; }
 part sqlite has_sqlite
-has_pgxs() { test -f "$(pg_config --pgxs)"; }
+has_pgxs() { test -f "$(pg_config --pgxs)" && test -f "$(pg_config --includedir-server)/postgres.h"; } # (a client has the first)
 part postgres has_pgxs
 part python "$here/python/interpreter.sh"
 part rust cargo --version

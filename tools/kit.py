@@ -1,0 +1,239 @@
+#!/usr/bin/env python3
+"""The toolchain's program rt, as a module: all that these tools use of it, and all that they change in it.
+
+  kit.py     prints what rt of this kit lacks of that; the last line is 'N passed, M failed'
+
+rt has no other interface for what tools/gate.py and tools/check_edits.py do. If the kit lacks something, gate.py runs `rt ci` as it is.
+"""
+import hashlib
+import importlib.machinery
+import importlib.util
+import inspect
+import os
+import re
+import shutil
+import sys
+import tempfile
+import threading
+
+sys.dont_write_bytecode = True
+TOP = os.path.dirname(os.path.dirname(os.path.abspath(__file__)))
+RT = shutil.which("rt")
+# What is called or replaced, by its owner, with the names of its parameters; `_` means any.
+CALLED = {
+    "rt": {
+        "ci": "anew names", "edits_alone": "names", "add_edits": "tasks crate edits first waits is_well kept start in_ci",
+        "must_fail": "crate edit flags kept", "checked": "crate texts flags kept", "seeded": "crate flags start", "linked": "folder to",
+        "in_lanes": "tasks", "ending": "_", "edits_of": "crate", "read_edit": "edit folder", "share_work": "is_alone", "say": "text out",
+        "processors": "", "free": "",
+    },
+    "rt.Kept": {"key": "self crate", "of_edit": "self edit sum"},
+    "rt.Crate": {
+        "ci": "self flags tests", "prove": "self commands", "link": "self made program", "compile_by": "self backend words to",
+        "words": "self flags tests keeps as_source", "build_static": "self flags", "build_rlib": "self flags anew", "below": "self",
+    },
+    "rt.rtlib": {"crates_below": "top"},
+}
+# What else is used: constants, what each crate knows of itself, and the kinds of tasks that rt ci does, those that others wait for first.
+VALUES = {"rt": "KIT SEEDS REFUSED MISSED UNSURE", "rt.rtlib": "VERDICT"}
+OF_A_CRATE = "name folder is_program is_static"
+KINDS = ("proof", "seed", "tests", "edits", "sound", "again")
+# How the pattern of a verdict ends.
+END = r"\n\Z"
+# What the prover said of each unchanged crate, by its name.
+proofs = {}
+
+
+def load():
+    """Returns rt as a module. It is a Python program."""
+    if not RT:
+        sys.exit(f"{os.path.basename(sys.argv[0])}: there is no rt on the PATH")
+    loader = importlib.machinery.SourceFileLoader("rt_of_kit", os.path.realpath(RT))
+    made = importlib.util.module_from_spec(importlib.util.spec_from_loader("rt_of_kit", loader))
+    loader.exec_module(made)
+    return made
+
+
+rt = load()
+
+
+# ---- what a kit lacks
+
+
+def owned(owner, name):
+    """Returns what a dotted path of an owner has of this name, or None."""
+    it = rt
+    for part in [*owner.split(".")[1:], name]:
+        it = getattr(it, part, None)
+    return it
+
+
+def fault_of_call(owner, name, parameters):
+    """Returns why a function is not as these tools call it, or an empty text."""
+    found = owned(owner, name)
+    if not callable(found):
+        return f"{owner} has no {name}"
+    takes = " ".join(inspect.signature(found).parameters)
+    return "" if parameters in ("_", takes) else f"{owner}.{name} takes ({takes}), and not ({parameters})"
+
+
+def faults():
+    """Yields what the kit lacks, and an empty text for each thing that it has."""
+    for owner, calls in CALLED.items():
+        yield from (fault_of_call(owner, *it) for it in calls.items())
+    for owner, names in VALUES.items():
+        yield from ("" if owned(owner, it) is not None else f"{owner} has no {it}" for it in names.split())
+    verdict = getattr(owned("rt.rtlib", "VERDICT"), "pattern", "")
+    yield "" if verdict.endswith(END) else f"rt.rtlib.VERDICT does not end with {END}"
+    text = inspect.getsource(rt)
+    yield from ("" if f'crate.name, "{it}"' in text else f"rt ci has no task {it}" for it in KINDS)
+    crate = next(iter(rt.rtlib.crates_below(TOP)), None) if callable(owned("rt.rtlib", "crates_below")) else None
+    yield from ("" if hasattr(crate, it) else f"a crate has no {it}" for it in OF_A_CRATE.split())
+
+
+def lacks():
+    """Returns what the kit lacks."""
+    return [*filter(None, faults())]
+
+
+# ---- what the machine has
+
+
+def processors():
+    return rt.processors() if callable(owned("rt", "processors")) else len(os.sched_getaffinity(0))
+
+
+def free():
+    """Returns the free memory in bytes."""
+    if callable(owned("rt", "free")):
+        return rt.free()
+    with open("/proc/meminfo") as it:
+        return 1024 * int(re.search(r"^MemAvailable: +(\d+)", it.read(), re.M)[1])
+
+
+# ---- a crate's proof, once
+
+
+def crate_that_is_proved_once():
+    """Returns the class of crates under rt ci whose proof is kept, for their tests, programs, edits and the crates above."""
+
+    class ProvedOnce(rt.Crate):
+        # The names of those that are not proved.
+        refused = set()
+
+        def ci(self, flags, tests):
+            kept = f"{self.folder}/out/{'tests' if tests else 'incremental'}"
+            flags = [*flags, "--incremental", kept]
+            if tests:
+                return self.check_tests(flags, kept)
+            status = self.build_program(flags) if self.is_program else super().ci(flags, tests)
+            if status:
+                self.refused.add(self.name)
+                return status
+            self.out.seek(0)
+            proofs[self.name] = self.out.read()
+            return self.build_library(["--jobs", "1"]) if self.is_static else 0
+
+        def check_tests(self, flags, kept):
+            if self.name in self.refused:
+                rt.say("the crate itself is not proved", self.out)
+                return 1
+            shutil.rmtree(kept, ignore_errors=True)
+            if self.name in proofs:
+                rt.linked(f"{self.folder}/out/incremental", kept)
+            return super().ci(flags, True)
+
+        def build_program(self, flags):
+            """Proves a program and builds it by both compilers, as rt does from a checked crate, which keeps no work."""
+            words = [*self.words(flags, keeps=False), "--toolchain", f"{rt.KIT}/toolchain"]
+            to = f"out/{self.name}"
+            status = self.prove(["build", *words, "--backend", "llvm", "-o", f"{to}.o"])
+            return status or self.link(f"{to}.o", to) or self.compile_by("rattle", words, to)
+
+        def build_library(self, flags):
+            """Builds the static library over the crate's proof, and puts it with what a crate's proof made."""
+            status, folder = self.build_static(flags), f"{self.folder}/out/rlib/{self.name}.rlib"
+            if not status:
+                os.makedirs(folder, exist_ok=True)
+                os.replace(f"{self.folder}/out/lib{self.name}.a", f"{folder}/lib{self.name}.a")
+            return status
+
+        def build_rlib(self, flags, anew):
+            # (A library of statements alone can't be built over kept work.)
+            self.cuts_libraries = False
+            return super().build_rlib(flags, anew)
+
+    return ProvedOnce
+
+
+def prove_once(in_lanes):
+    """Has rt ci prove each crate once, and do its tasks by this function."""
+    rt.Crate, rt.in_lanes = crate_that_is_proved_once(), in_lanes
+    rt.rtlib.VERDICT = re.compile(rt.rtlib.VERDICT.pattern.removesuffix(END) + r" incremental=trusted" + END, re.M)
+    how = hashlib.sha256(inspect.getsource(crate_that_is_proved_once).encode()).hexdigest()
+    key_by_rt = rt.Kept.key
+    rt.Kept.key = lambda kept, crate: hashlib.sha256(f"{key_by_rt(kept, crate)} {how}".encode()).hexdigest()
+
+
+# ---- edits
+
+
+def with_verdict(ran):
+    """Adds the line that rt expects of a verdict to the output of a check of a few functions, if these are not all proved.
+
+    Such a check gives no verdict, but says how many of them are proved.
+    """
+    proved = re.search(r"^only=(\d+) proved=(\d+)\n\Z", ran.stdout, re.M)
+    if proved and proved[1] != proved[2]:
+        ran.stdout += "logic=not-proved\n"
+    return ran
+
+
+def seed(crate):
+    """Returns a new folder whose folder seed holds what the run's own proof of a crate made, or None if there is none."""
+    made = f"{crate.folder}/out/incremental"
+    if crate.name not in proofs or not os.path.isdir(made):
+        return None
+    room = tempfile.mkdtemp(prefix=f"rt-edits-{os.getpid()}-")
+    rt.SEEDS.append(room)
+    rt.linked(made, f"{room}/seed")
+    return room
+
+
+def try_edits(verdict, in_lanes, how):
+    """Has rt try edits over the run's own proofs, and do its tasks by `in_lanes`.
+
+    `verdict` gets a crate, an edit file, and a call that takes more words of the check, and returns what rt makes of it and what the prover
+    said. It returns what the edit comes to. `how` is a sum of how edits are judged, so that what rt or an earlier judge passed is not taken
+    for it.
+    """
+    this_thread = threading.local()
+    checked, must_fail, seeded, of_edit = rt.checked, rt.must_fail, rt.seeded, rt.Kept.of_edit
+
+    def check(crate, texts, flags, kept):
+        ran = checked(crate, texts, flags, kept)
+        if not texts and not ran.returncode:
+            proofs[crate.name] = ran.stdout
+        this_thread.said = with_verdict(ran).stdout
+        return ran
+
+    def judged(crate, edit, flags, kept=None):
+        this_thread.said = ""
+        return verdict(crate, edit, lambda words: (must_fail(crate, edit, [*flags, *words], kept), this_thread.said))
+
+    rt.checked, rt.must_fail, rt.in_lanes = check, judged, in_lanes
+    rt.seeded = lambda crate, flags, start=None: not start and seed(crate) or seeded(crate, flags, start)
+    rt.Kept.of_edit = lambda kept, edit, sum: of_edit(kept, edit, f"{sum} {how}")
+
+
+def main():
+    found = [*faults()]
+    for it in filter(None, found):
+        print(it)
+    failed = sum(map(bool, found))
+    print(f"{len(found) - failed} passed, {failed} failed")
+    return 1 if failed else 0
+
+
+if __name__ == "__main__":
+    sys.exit(main())
