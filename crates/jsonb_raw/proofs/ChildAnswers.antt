@@ -1,5 +1,5 @@
 -- What the calls on children return, by the item or the spot that was found.
-use Rattle.std.proofs.Common.{◌≡◌, ◌↔◌, ℕ, suc, zero, ℤ, Bool, true, false, IsTrue, List, [], ◌∷◌, map, length, drop, slice_get, Option, Some, None, Bor, refl, sym, ap, ◌∙◌}
+use Rattle.std.proofs.Common.{◌≡◌, ◌≤◌, ◌↔◌, ℕ, suc, zero, ℤ, Bool, true, false, IsTrue, List, [], ◌∷◌, map, length, drop, slice_get, Option, Some, None, Bor, refl, sym, ap, ◌∙◌, arith}
 use Rattle.std.specs.List.{remove}
 use Rattle.std.specs.Char.{to_ascii_lowercase}
 use Rattle.std.proofs.lemmas.Slice.Eq.{bytes_eq-Decides}
@@ -42,6 +42,15 @@ no_element form _ found i is h = refl
 
 pub no_such_element : (ts : List Tree) (i : ℕ) → drop i ts ≡ [] → slice_get ts i ≡ None
 no_such_element ts i none = nowhere (drop i ts) 0 _ none (first_behind ts i)
+
+all_dropped : {A : Type 0} (n : ℕ) (xs : List A) → length xs ≤ n → drop n xs ≡ []
+all_dropped zero [] few = refl
+all_dropped (suc n) [] few = refl
+all_dropped zero (x ∷ xs) few = absurd (omega (arith, few))
+all_dropped (suc n) (x ∷ xs) few = all_dropped n xs (omega (arith, few))
+
+pub beyond_all : (ts : List Tree) (i n : ℕ) → n ≡ length ts → n ≤ i → slice_get ts i ≡ None
+beyond_all ts i n is few = no_such_element ts i (all_dropped i ts (omega (arith, is, few)))
 
 -- ---- an element less
 

@@ -1,5 +1,6 @@
 -- Which roots contain which.
-use Rattle.std.proofs.Common.{◌≡◌, ℕ, true, false, List, ◌++◌, length, refl, ap, arith}
+use Rattle.std.proofs.Common.{◌≡◌, ◌≢◌, ◌⊎◌, inl, inr, ℕ, Bool, true, false, List, length, Option, Some, None, refl, ap, arith}
+use Rattle.std.specs.Prelude.{IfSome}
 use Rattle.std.proofs.lemmas.List.{length-append}
 use Rattle.std.specs.List.{list_any}
 use Rattle.std.specs.Borrow.{Bor}
@@ -73,6 +74,24 @@ array_of_header form bytes (tree t ts) d short =
     let len = length-words (number_reader form) (tree t ts) c.words c.contents c.parts in
     absurd (omega (arith, short, ap length c.headed.joined, length-append c.words c.contents, len))
 
+array_header_alone : (form : Form) (bytes : List ℕ) → Decodes form bytes (array no_trees) → length bytes ≡ 4
+array_header_alone form bytes d =
+    let c = (array_document (number_reader form) no_trees bytes d.document).1 in
+    omega (arith, ap length c.headed.joined, length-append c.words c.contents, ap length c.parts.0, ap length c.parts.1)
+
+object_header_alone : (form : Form) (bytes : List ℕ) → Decodes form bytes (object no_pairs) → length bytes ≡ 4
+object_header_alone form bytes d =
+    let c = (object_document (number_reader form) no_pairs bytes d.document).1 in
+    omega (
+      arith,
+      ap length c.headed.joined,
+      length-append c.words c.contents,
+      ap length c.parts.words_joined,
+      ap length c.parts.contents_joined,
+      ap length c.parts.values.0,
+      ap length c.parts.values.1,
+    )
+
 pub object_of_header : (form : Form) (bytes : List ℕ) (ps : Pairs) → Decodes form bytes (object ps) → length bytes ≡ 4 → ps ≡ no_pairs
 object_of_header form bytes no_pairs d short = refl
 object_of_header form bytes (pair key t ps) d short =
@@ -88,3 +107,22 @@ object_of_header form bytes (pair key t ps) d short =
       length-append (key_words (keys (pair key t ps))) c.parts.value_words,
       len,
     ))
+
+-- an empty container is contained in each of its type, and contains no other
+abbrev pub IsDecidedByLen : List ℕ → List ℕ → Bool → Type 0
+IsDecidedByLen bytes others b =
+    ((b ≡ true) × (length others ≡ 4)) ⊎ ((b ≡ false) × (length bytes ≡ 4) × (length others ≢ 4))
+
+pub arrays_decided : (form other_form : Form) (bytes others : List ℕ) (xs ys : Trees) (found : Option Bool) → Decodes form bytes (array xs)
+    → Decodes other_form others (array ys) → IfSome found (IsDecidedByLen bytes others) → IfSome found (λ b. b ≡ is_part_of (array ys) (array xs))
+arrays_decided form other_form bytes others xs ys None d e h = h
+arrays_decided form other_form bytes others xs ys (Some b) d e (inl h) = rw (h.0, array_of_header other_form others ys e h.1) refl
+arrays_decided form other_form bytes others xs no_trees (Some b) d e (inr h) = absurd (h.2 (array_header_alone other_form others e))
+arrays_decided form other_form bytes others xs (tree y ys) (Some b) d e (inr h) = rw (h.0, array_of_header form bytes xs d h.1) refl
+
+pub objects_decided : (form other_form : Form) (bytes others : List ℕ) (ps qs : Pairs) (found : Option Bool) → Decodes form bytes (object ps)
+    → Decodes other_form others (object qs) → IfSome found (IsDecidedByLen bytes others) → IfSome found (λ b. b ≡ is_part_of (object qs) (object ps))
+objects_decided form other_form bytes others ps qs None d e h = h
+objects_decided form other_form bytes others ps qs (Some b) d e (inl h) = rw (h.0, object_of_header other_form others qs e h.1) refl
+objects_decided form other_form bytes others ps no_pairs (Some b) d e (inr h) = absurd (h.2 (object_header_alone other_form others e))
+objects_decided form other_form bytes others ps (pair key y qs) (Some b) d e (inr h) = rw (h.0, object_of_header form bytes ps d h.1) refl

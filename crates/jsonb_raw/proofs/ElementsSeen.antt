@@ -1,6 +1,7 @@
 -- The elements that are passed of an array, and how many of them equal one.
-use Rattle.std.proofs.Common.{◌≡◌, ℕ, suc, ◌+◌, ◌-◌, ◌<◌, ◌≤◌, ◌^◌, Bool, cond, not, nat_eq, nat_lt, min, List, [], ◌∷◌, length, take, Result, Ok, Err, IsOkAnd, MatchResult, refl, ap, ◌∙◌, arith}
+use Rattle.std.proofs.Common.{◌≡◌, ℕ, suc, ◌+◌, ◌-◌, ◌<◌, ◌≤◌, ◌^◌, Bool, true, false, cond, not, nat_eq, nat_lt, min, List, [], ◌∷◌, length, take, Result, Ok, Err, IsOkAnd, MatchResult, refl, ap, sym, ◌∙◌, arith}
 use Rattle.std.specs.List.{AllByRecursion}
+use Rattle.std.proofs.lemmas.Bool.Decides.{nat_tests}
 use Rattle.std.proofs.lemmas.List.Sums.{sum_by-cons}
 use Rattle.jsonb_doc.specs.Tree.{Tree, array}
 use Rattle.jsonb_doc.specs.Equal.{is_equal}
@@ -108,6 +109,49 @@ module _ (form : Form) (left : Entries) (more equal : ℕ) (u : Tree) (whole : �
       let k : equal + count_of u (t ∷ take (more - 1) rest) ≡ whole = rw (take_one more t rest some) at j in
       let next = count_next u t (take (more - 1) rest) in
       record { rest = rest; holds = hold; joined = omega (arith, is, k, next) }
+
+-- What is left has as many equal to the tree as all have, less those that may still be passed.
+pub record MoreLeft (form : Form) (left : Entries) (more count : ℕ) (u : Tree) (whole : ℕ) : Type 0 where
+  pub rest : List Tree
+  pub holds : HoldTrees form left rest
+  pub joined : whole + more ≡ count + count_of u rest
+
+module _ (form : Form) (left : Entries) (more count : ℕ) (u : Tree) (whole : ℕ) (h : MoreLeft form left more count u whole) where
+  pub MoreLeft-none : h.rest ≡ [] → false ≡ nat_lt count whole
+  MoreLeft-none none =
+      let j : whole + more ≡ count + 0 = rw none at h.joined in
+      let few : nat_lt count whole ≡ false = grind (arith, nat_tests, j) in
+      sym few
+
+  pub MoreLeft-found : (equal : ℕ) (t : Tree) (rest : List Tree) → h.rest ≡ t ∷ rest → equal ≡ cond (is_equal t u) 1 0 → more < equal
+      → true ≡ nat_lt count whole
+  MoreLeft-found equal t rest split is less =
+      let j : whole + more ≡ count + count_of u (t ∷ rest) = rw split at h.joined in
+      let next = count_next u t rest in
+      let above : count < whole = omega (arith, is, less, j, next) in
+      let many : nat_lt count whole ≡ true = grind (arith, nat_tests, above) in
+      sym many
+
+  pub MoreLeft-next : (others : Entries) (now equal : ℕ) (t : Tree) (rest : List Tree) → h.rest ≡ t ∷ rest → HoldTrees form others rest
+      → equal ≡ cond (is_equal t u) 1 0 → now + equal ≡ more → MoreLeft form others now count u whole
+  MoreLeft-next others now equal t rest split hold is less =
+      let j : whole + more ≡ count + count_of u (t ∷ rest) = rw split at h.joined in
+      let next = count_next u t rest in
+      record { rest = rest; holds = hold; joined = omega (arith, is, less, j, next) }
+
+pub none_left : (n whole : ℕ) → false ≡ nat_lt 0 whole → false ≡ nat_lt n whole
+none_left n whole none =
+    let few : nat_lt n whole ≡ false = grind (arith, nat_tests, sym none) in
+    sym few
+
+pub some_left : (n m whole : ℕ) → m ≡ n → m ≡ 0 → true ≡ nat_lt 0 whole → true ≡ nat_lt n whole
+some_left n m whole is none some =
+    let many : nat_lt n whole ≡ true = grind (arith, nat_tests, is, none, sym some) in
+    sym many
+
+pub left_counted : (n m whole : ℕ) (r : Result Bool Error) → m ≡ n → IsOkAnd r (λ b. b ≡ nat_lt m whole)
+    → IsOkAnd r (λ b. b ≡ nat_lt n whole)
+left_counted n m whole r is told = rw is at told
 
 -- ---- counts before the first element
 

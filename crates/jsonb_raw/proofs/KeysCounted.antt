@@ -27,14 +27,14 @@ picked : (a b : Bool) (w : ℕ) (x : Option ℕ) → a ≡ b → unwrap_or (cond
 picked true b w x e = rw (sym e) refl
 picked false b w x e = rw (sym e) refl
 
-inserted : (m n : KeyCounts) (key : Vec ℕ Global) (w : ℕ) → map.Updates key_cmp m.counts n.counts key (Some w) → (q : Vec ℕ Global)
+pub inserted : (m n : KeyCounts) (key : Vec ℕ Global) (w : ℕ) → map.Updates key_cmp m.counts n.counts key (Some w) → (q : Vec ℕ Global)
     → counted n q ≡ cond (bytes_eq key.items q.items) w (counted m q)
 inserted m n key w u q =
     ap (λ o. unwrap_or o 0) (u.0 q)
     ∙ picked (is_eq (slice_cmp nat_cmp key.items q.items)) (bytes_eq key.items q.items) w (map.get key_cmp m.counts q) (is_eq-slice_cmp key.items q.items)
 
 -- keys of the same bytes have one count
-same_count : (m : KeyCounts) (key q : Vec ℕ Global) → key.items ≡ q.items → counted m key ≡ counted m q
+pub same_count : (m : KeyCounts) (key q : Vec ℕ Global) → key.items ≡ q.items → counted m key ≡ counted m q
 same_count m key q e = ap (λ k. unwrap_or (map.get_by (λ (v : Vec ℕ Global). slice_cmp nat_cmp k v.items) m.counts) 0) e
 
 pub counted_more : (m n : KeyCounts) (key : Vec ℕ Global) (w : ℕ) → map.Updates key_cmp m.counts n.counts key (Some w) → w ≡ counted m key + 1
@@ -59,6 +59,26 @@ pub counted_new : (m n : KeyCounts) (key copy : Vec ℕ Global) → copy.items �
 counted_new m n key copy same u none q =
     let zero : counted m copy ≡ 0 = same_count m copy key same ∙ none in
     counted_more m n copy 1 u (ap (λ x. x + 1) (sym zero)) q ∙ ap (λ k. counted m q + one_at k q) same
+
+-- a key that was counted before, whose copy was inserted with the count 1, and is then set
+pub counted_again : (m n o : KeyCounts) (key copy : Vec ℕ Global) (before w : ℕ) → copy.items ≡ key.items
+    → map.Updates key_cmp m.counts n.counts copy (Some 1) → Some before ≡ map.get key_cmp m.counts copy → w ≡ before + 1
+    → (0 < counted n key → (q : Vec ℕ Global) → counted o q ≡ cond (bytes_eq key.items q.items) w (counted n q))
+    → (q : Vec ℕ Global) → counted o q ≡ counted m q + one_at key.items q
+counted_again m n o key copy before w same u had is set q =
+    set some q ∙ by (bytes_eq key.items q.items) (bytes_eq-Decides key.items q.items).0 put
+  where
+    once : counted n copy ≡ 1
+    once = inserted m n copy 1 u copy ∙ ap (λ b. cond b 1 (counted m copy)) ((bytes_eq-Decides copy.items copy.items).1 refl)
+    some : 0 < counted n key
+    some = let one : counted n key ≡ 1 = sym (same_count n copy key same) ∙ once in omega (arith, one)
+    put : counted n q ≡ cond (bytes_eq key.items q.items) 1 (counted m q)
+    put = inserted m n copy 1 u q ∙ ap (λ k. cond (bytes_eq k q.items) 1 (counted m q)) same
+    here : before ≡ counted m key
+    here = ap (λ x. unwrap_or x 0) had ∙ same_count m copy key same
+    by : (b : Bool) → (b ≡ true → key.items ≡ q.items) → counted n q ≡ cond b 1 (counted m q) → cond b w (counted n q) ≡ counted m q + cond b 1 0
+    by true d e = let there : before ≡ counted m q = here ∙ same_count m key q (d refl) in omega (arith, is, there)
+    by false d e = let there : counted n q ≡ counted m q = e in omega (arith, there)
 
 pub counted_none : (m : KeyCounts) (key : Vec ℕ Global) → counted m key ≡ 0 → (q : Vec ℕ Global) → counted m q ≡ counted m q - one_at key.items q
 counted_none m key e q = by (bytes_eq key.items q.items) (bytes_eq-Decides key.items q.items).0

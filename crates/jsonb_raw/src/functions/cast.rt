@@ -36,6 +36,7 @@ impl RawJsonb<'_> {
     /// |---|---|
     /// | `"YES"` | true |
     /// | `"1"` | refused: `InvalidCast` |
+    #[inline(always)]
     pub fn to_bool(&self) -> Result<bool, Error>
         ensures value { (form : Form) (tree : Tree) → Decodes form (raw_bytes self.now) tree → CastsToBool tree result }
         ensures errors { IfErr result (IsDecodingError or InvalidCast) }

@@ -81,6 +81,7 @@ impl<'a> RawJsonb<'a> {
     /// | Document | Result |
     /// |---|---|
     /// | `null` | true |
+    #[inline(always)]
     pub fn is_null(&self) -> Result<bool, Error>
         ensures kind { Computes is_null (raw_bytes self.now) result }
         ensures errors { IfErr result IsDecodingError }
@@ -105,6 +106,7 @@ impl<'a> RawJsonb<'a> {
     /// | Document | Result |
     /// |---|---|
     /// | `false` | true |
+    #[inline(always)]
     pub fn is_boolean(&self) -> Result<bool, Error>
         ensures kind { Computes (λ tree. is_some (boolean_in tree)) (raw_bytes self.now) result }
         ensures errors { IfErr result IsDecodingError }
@@ -129,6 +131,7 @@ impl<'a> RawJsonb<'a> {
     /// | Document | Result |
     /// |---|---|
     /// | `1.0` | true |
+    #[inline(always)]
     pub fn is_number(&self) -> Result<bool, Error>
         ensures kind { Computes (λ tree. is_some (number_in tree)) (raw_bytes self.now) result }
         ensures errors { IfErr result IsDecodingError }
@@ -153,6 +156,7 @@ impl<'a> RawJsonb<'a> {
     /// | Document | Result |
     /// |---|---|
     /// | `"ab"` | true |
+    #[inline(always)]
     pub fn is_string(&self) -> Result<bool, Error>
         ensures kind { Computes (λ tree. is_some (text_in tree)) (raw_bytes self.now) result }
         ensures errors { IfErr result IsDecodingError }
@@ -177,6 +181,7 @@ impl<'a> RawJsonb<'a> {
     /// | Document | Result |
     /// |---|---|
     /// | `[]` | true |
+    #[inline(always)]
     pub fn is_array(&self) -> Result<bool, Error>
         ensures kind { Computes is_array (raw_bytes self.now) result }
         ensures errors { IfErr result IsDecodingError }
@@ -201,6 +206,7 @@ impl<'a> RawJsonb<'a> {
     /// | Document | Result |
     /// |---|---|
     /// | `{}` | true |
+    #[inline(always)]
     pub fn is_object(&self) -> Result<bool, Error>
         ensures kind { Computes is_object (raw_bytes self.now) result }
         ensures errors { IfErr result IsDecodingError }

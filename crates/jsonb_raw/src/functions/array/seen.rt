@@ -31,6 +31,10 @@ const FEW: usize = 8;
 /// take 8,700 instructions by their keys and 6,100 pair by pair, eight objects four times those of their keys.
 const FEW_CONTAINERS: usize = 2;
 
+/// The number of elements up to which all pairs are compared if each is a string, null or a Boolean: two of them are
+/// equal if their bytes are. 20 strings take 40,000 instructions by their keys and 22,000 pair by pair.
+const FEW_LITERALS: usize = 24;
+
 /// How often the key of each element is still counted, and a vector for the next key.
 #[derive(Drop)]
 pub(super) struct KeysCounted {
@@ -160,21 +164,24 @@ pub(super) fn few_elements<'a>(
     Ok(Some((entries, few)))
 }
 
-/// Returns `true` if there are few entries: at most two, or more of which none is a container.
+/// Returns `true` if there are few entries for their types.
 fn are_few(entries: Entries<'_>) -> bool {
     let count = entries.len();
-    count <= FEW_CONTAINERS || count <= FEW && has_no_container(entries)
+    count <= FEW_CONTAINERS || count <= FEW_LITERALS && count <= most_pairwise(entries)
 }
 
-/// Returns `true` if none of the entries is a container.
-fn has_no_container(entries: Entries<'_>) -> bool {
+/// Returns the number of entries up to which all pairs are compared, by their types.
+fn most_pairwise(entries: Entries<'_>) -> usize {
     let (words, _) = entries.words.as_chunks::<WORD>();
+    let mut most = FEW_LITERALS;
     for word in words {
-        if read_entry_word(word).0 == EntryKind::Container {
-            return false;
+        match read_entry_word(word).0 {
+            EntryKind::Container => return FEW_CONTAINERS,
+            EntryKind::Number | EntryKind::Extension => most = FEW,
+            _ => {}
         }
     }
-    true
+    most
 }
 
 /// Fails for a number or an extension value that cannot be read: nothing else reads an element that is compared with no
@@ -205,12 +212,35 @@ fn keeps_among(
         → count_of t (take passed ts) ≡ count_of t before → IsOkAnd result (λ b. b ≡ keeps kind other (before, t)) }
     ensures errors { IfErr result IsDecodingError }
 {
-    let before = count_equal(all, passed, entry)?;
     match kind {
-        SetOperation::First => Ok(before == 0),
-        SetOperation::Shared => has_more_than(others, before, entry),
-        SetOperation::Unshared => Ok(!has_more_than(others, before, entry)?),
+        SetOperation::First => Ok(count_equal(all, passed, entry)? == 0),
+        SetOperation::Shared => has_more_left(all, passed, others, entry),
+        SetOperation::Unshared => Ok(!has_more_left(all, passed, others, entry)?),
     }
+}
+
+/// Returns whether more of the others equal an entry by value than of the elements before it, which are visited only if
+/// one of the others does.
+fn has_more_left(
+    all: Entries<'_>,
+    passed: usize,
+    others: Entries<'_>,
+    entry: &StoredEntry<'_>,
+) -> Result<bool, Error>
+    ensures more { (form other_form : Form) (ts other : List Tree) (t : Tree) → HoldTrees form all.entry ts
+        → HoldTrees other_form others.entry other → Stores form entry.now t
+        → IsOkAnd result (λ b. b ≡ nat_lt (count_of t (take passed ts)) (count_of t other)) }
+    ensures errors { IfErr result IsDecodingError }
+{
+    let is_found = has_more_than(others, 0, entry)?;
+    if !is_found {
+        return Ok(false);
+    }
+    let before = count_equal(all, passed, entry)?;
+    if before == 0 {
+        return Ok(true);
+    }
+    has_more_than(others, before, entry)
 }
 
 /// Returns whether more than `count` of the entries equal an entry by value.
@@ -223,8 +253,21 @@ fn has_more_than(
         → Stores other_form wanted.now u → IsOkAnd result (λ b. b ≡ nat_lt count (count_of u ts)) }
     ensures errors { IfErr result IsDecodingError }
 {
-    let found = count_equal(entries, entries.len(), wanted)?;
-    Ok(count < found)
+    let short = wanted.short_number();
+    let mut left = entries;
+    let mut more = count;
+    while let Some((entry, others)) = left.first()? {
+        let mut equal = 0;
+        if stored_equal(&entry, wanted, short)? {
+            equal = 1;
+        }
+        if more < equal {
+            return Ok(true);
+        }
+        more -= equal;
+        left = others;
+    }
+    Ok(false)
 }
 
 /// Returns how many of the first `count` entries equal an entry by value.

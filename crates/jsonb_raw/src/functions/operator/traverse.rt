@@ -117,6 +117,7 @@ fn search_item_but_largest<'a, F: Fn(&[u8]) -> bool>(
 
 /// Searches an entry. A string is not read as an item.
 #[cycle(texts)]
+#[inline(always)]
 fn any_text_in_entry<F: Fn(&[u8]) -> bool>(entry: &StoredEntry<'_>, func: &F) -> Result<bool, Error>
     requires { F.IsAlwaysCallable func.now }
     ensures told { (form : Form) (tree : Tree) → Stores form entry.now tree

@@ -77,6 +77,9 @@ impl RawJsonb<'_> {
         let Some(entries) = element_entries(bytes)? else {
             return Ok(None);
         };
+        if index >= entries.len() {
+            return Ok(None);
+        }
         element_document(alloc, entries, index)
     }
 

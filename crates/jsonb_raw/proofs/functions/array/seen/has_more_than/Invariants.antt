@@ -1,0 +1,17 @@
+use Rattle.std.proofs.Common.{List, length}
+use Rattle.jsonb_doc.specs.Tree.{Tree}
+use Rattle.jsonb_doc.specs.Payload.{Form}
+use Rattle.jsonb_doc.specs.Private.Stored.{Stores}
+use Rattle.jsonb_raw.specs.Sets.{count_of}
+use Rattle.jsonb_raw.specs.Private.Entries.{HoldTrees}
+use Rattle.jsonb_raw.proofs.ElementsSeen.{MoreLeft}
+use Rattle.jsonb_raw.proofs.functions.array.seen.has_more_than.Given as goal
+
+abbrev pub invariant-loop-entry : goal.invariant-loop-entry
+invariant-loop-entry l = record {
+  left : (form other_form : Form) (ts : List Tree) (u : Tree) → HoldTrees form l.fn.entries ts → Stores other_form l.wanted u
+      → MoreLeft form l.left l.more l.fn.count u (count_of u ts);
+}
+
+abbrev pub decreases-loop-entry : goal.decreases-loop-entry
+decreases-loop-entry l = length l.left.words.now
