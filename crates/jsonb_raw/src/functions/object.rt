@@ -253,7 +253,6 @@ fn owned_pairs(alloc: Global, pairs: PairEntries<'_>) -> Result<Vec<(String, Own
 
 /// Returns the key of a member, and the value as a new document.
 #[inline(always)]
-#[inline(always)]
 fn owned_pair(alloc: Global, pair: FirstPair<'_>) -> Result<(String, OwnedJsonb), Error>
     ensures pair { (form : Form) (t : Tree) → IsUtf8 pair.entry.key.now
         → IsContent (number_reader form) t (kind_number pair.entry.kind) pair.entry.content.now
