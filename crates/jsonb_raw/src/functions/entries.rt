@@ -85,7 +85,6 @@ impl<'a> EntryWithWord<'a> {
     ghost use Rattle.jsonb_raw.specs.Private.Entries.{HoldTrees, HoldsTree, IsTooLongRoot};
 
     /// Returns the root of a document as an element. Fails with `TooLarge` if it is too long for one.
-    #[inline(always)]
     pub fn of_root(document: &'a [u8]) -> Result<EntryWithWord<'a>, Error>
         ensures root { (form : Form) (t : Tree) → Decodes form document.now t
             → MatchResult result (λ entry. HoldsTree form entry t) (IsTooLongRoot form t) }
@@ -102,7 +101,6 @@ impl<'a> EntryWithWord<'a> {
     }
 
     /// Returns this one entry as entries.
-    #[inline(always)]
     pub fn as_entries(&self) -> Entries<'_>
         ensures { (form : Form) (t : Tree) → HoldsTree form self.now t → HoldTrees form result (t ∷ []) }
     {
@@ -125,7 +123,6 @@ impl<'a> Elements<'a> {
 
     /// Returns the elements of a document. Fails with `TooLarge` if its root is not an array and is too long for an
     /// element.
-    #[inline(always)]
     pub fn of_document(document: &'a [u8]) -> Result<Elements<'a>, Error>
         ensures elements { (form : Form) (t : Tree) → Decodes form document.now t
             → MatchResult result (λ found. HoldElements form found (as_elements t)) (IsTooLongElement form t) }
@@ -138,7 +135,6 @@ impl<'a> Elements<'a> {
     }
 
     /// Returns these entries.
-    #[inline(always)]
     pub fn as_entries(&self) -> Entries<'_>
         ensures { (form : Form) (ts : List Tree) → HoldElements form self.now ts → HoldTrees form result ts }
     {

@@ -18,7 +18,6 @@ use jsonb_doc::rewriting::container_of_runs;
 use std::alloc::Global;
 
 /// Returns the number of entries of all runs, or `None` if a container cannot have as many.
-#[inline(always)]
 fn count_entries(runs: &[Entries<'_>]) -> Option<usize>
     ensures { (form : Form) (ts : List Tree) → RunsHold form runs.now ts
         → MatchOption result (2 ^ 29 ≤ length ts) (λ n. n ≡ length ts) }
@@ -34,7 +33,6 @@ fn count_entries(runs: &[Entries<'_>]) -> Option<usize>
 }
 
 /// Returns the container of these elements or pairs, whose entries are some runs and then others.
-#[inline(always)]
 fn container_of(
     alloc: Global,
     kind: HeaderKind,
@@ -51,7 +49,6 @@ fn container_of(
 }
 
 /// Returns the array of the entries of all runs.
-#[inline(always)]
 pub fn array_of(alloc: Global, runs: &[Entries<'_>]) -> Result<OwnedJsonb, Error>
     ensures array { (form : Form) (ts : List Tree) → RunsHold form runs.now ts
         → Makes form (array (trees_of ts)) result }
@@ -94,7 +91,6 @@ pub fn array_of_run<'a>(alloc: Global, run: Entries<'a>) -> Result<OwnedJsonb, E
 }
 
 /// Returns the array of the entries of two runs.
-#[inline(always)]
 pub fn array_of_two<'a>(
     alloc: Global,
     front: Entries<'a>,

@@ -45,7 +45,6 @@ fn entries_of_pairs(parts: ObjectParts<'_>) -> Result<PairEntries<'_>, Error>
 }
 
 /// Returns the entries of an object's pairs, or `None` if the root is not an object.
-#[inline(always)]
 pub fn pair_entries(bytes: &[u8]) -> Result<Option<PairEntries<'_>>, Error>
     ensures entries { (form : Form) (t : Tree) → Decodes form bytes.now t → IsOkAnd result (ArePairsOf form t) }
     ensures errors { IfErr result IsDecodingError }

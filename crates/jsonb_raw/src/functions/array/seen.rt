@@ -32,7 +32,7 @@ const FEW: usize = 8;
 const FEW_CONTAINERS: usize = 2;
 
 /// The number of elements up to which all pairs are compared if each is a string, null or a Boolean: two of them are
-/// equal if their bytes are. 20 strings take 40,000 instructions by their keys and 22,000 pair by pair.
+/// equal if their bytes are. 20 strings take 20 to 30 percent fewer instructions than by their keys.
 const FEW_LITERALS: usize = 24;
 
 /// How often the key of each element is still counted, and a vector for the next key.

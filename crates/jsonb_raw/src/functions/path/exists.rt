@@ -333,7 +333,6 @@ pub(crate) enum Texts<'a> {
 }
 
 /// Returns the strings of a document.
-#[inline(always)]
 fn document_texts(bytes: &[u8]) -> Result<Texts<'_>, Error>
     ensures texts { (form : Form) (t : Tree) → Decodes form bytes.now t
         → IsOkAnd result (λ texts. HoldsTexts form texts t) }
@@ -349,7 +348,6 @@ fn document_texts(bytes: &[u8]) -> Result<Texts<'_>, Error>
 }
 
 /// Returns whether the name is one of the strings.
-#[inline(always)]
 fn texts_have(texts: &mut Texts<'_>, name: &str) -> Result<bool, Error>
     ensures has { (form : Form) (t : Tree) → HoldsTexts form texts.old t
         → IsOkAnd result (λ b. b ≡ has_text name.now t) }

@@ -68,7 +68,6 @@ fn push_step<'a>(steps: &mut Vec<KeyPath<'a>>, step: &Step<'a>)
 }
 
 /// Removes the last step, and returns the index after it.
-#[inline(always)]
 fn pop_step(steps: &mut Vec<Step<'_>>) -> u32
     ensures { (front : List Step) (last : Step) → steps.old.items ≡ front ++ last ∷ []
         → (steps.new.items ≡ front) × (result ≡ (last.index + 1) % 2 ^ 32) }
@@ -80,7 +79,6 @@ fn pop_step(steps: &mut Vec<Step<'_>>) -> u32
 }
 
 /// Returns the path of these steps and one more.
-#[inline(always)]
 fn path_to<'a>(alloc: Global, steps: &[Step<'a>], last: Step<'a>) -> Result<KeyPaths<'a>, Error>
     ensures { MatchResult result
         (λ path. key_paths_view path ≡ step_keys steps.now ++ step_key last.entry ∷ []) IsOutOfMemory }
@@ -124,7 +122,6 @@ fn descend_into_container(
 }
 
 /// Returns the children of an item that is entered, or `None` for a leaf.
-#[inline(always)]
 fn parts_entered<'a>(item: &Item<'a>, ignore_array: bool) -> Result<Option<ChildCursor<'a>>, Error>
     ensures leaf { (form : Form) (t : Tree) → StandsFor form item.now t
         → IsOkAnd result (IsEntered form ignore_array t) }
