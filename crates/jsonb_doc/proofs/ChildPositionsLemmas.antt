@@ -5,9 +5,11 @@ use Rattle.std.proofs.lemmas.Slice.{between_to_end}
 use Rattle.jsonb_doc.specs.Tree.{Tree, null, boolean, number, text, extension, array, object, Trees, no_trees, tree, trees_of, elements, count, Pairs, no_pairs, pair, keys, values}
 use Rattle.jsonb_doc.specs.Payload.{NumberReader, Form, any, number_reader, number_of}
 use Rattle.jsonb_doc.specs.Format.{Decodes, header, entry_word, AreEntries, key_words, key_bytes}
-use Rattle.jsonb_doc.specs.Spots.{Locates, HasSpotsLeft, TakesSpot, GivesSpot, PassesSpot}
+use Rattle.jsonb_doc.specs.Spots.{TakesSpot, GivesSpot}
+use Rattle.jsonb_doc.specs.Representation.Positions.{Locates, HasSpotsLeft, AreAt, HasChildrenLeft}
+use Rattle.jsonb_doc.specs.AnyBytes.Spots.{PassesSpot}
 use Rattle.jsonb_doc.specs.Kinds.{kind_number}
-use Rattle.jsonb_doc.specs.ChildPositions.{AreAt, HasChildrenLeft, TakesChild}
+use Rattle.jsonb_doc.specs.ChildPositions.{TakesChild}
 use Rattle.jsonb_doc.specs.Private.Containers.{IsCut, Holds, HasPairParts}
 use Rattle.jsonb_doc.specs.Private.Lengths.{StandBefore}
 use Rattle.jsonb_doc.specs.Private.Stored.{key_trees}

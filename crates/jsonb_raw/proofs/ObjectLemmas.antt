@@ -8,7 +8,8 @@ use Rattle.jsonb_doc.specs.Payload.{Form}
 use Rattle.jsonb_doc.specs.Answer.{IsOutOfMemoryOrTooLarge}
 use Rattle.jsonb_doc.specs.Limits.{IsTooLarge}
 use Rattle.jsonb_doc.specs.declared.error.Error.TheVariants.{OutOfMemory, TooLarge}
-use Rattle.jsonb_doc.specs.ObjectKeys.{HasKeysLeft, TakesKey}
+use Rattle.jsonb_doc.specs.ObjectKeys.{TakesKey}
+use Rattle.jsonb_doc.specs.Representation.Iterators.{HasKeysLeft}
 use Rattle.jsonb_doc.proofs.PairsLemmas.{IsKeysOf}
 use Rattle.jsonb_doc.specs.declared.key_iter.KeyIter.{KeyIter}
 use Rattle.jsonb_doc.proofs.PairsLemmas.{IsPairsOf}

@@ -4,14 +4,15 @@ ghost use Rattle.std.specs.Prelude.{◌≡◌, ◌≤◌, ◌+◌, ◌++◌, ◌
 ghost use Rattle.std.specs.Int.{w32, w64, to_be_bytes};
 ghost use Rattle.jsonb_doc.specs.Tree.{Tree};
 ghost use Rattle.jsonb_doc.specs.View.{number_view, extension_view};
-ghost use Rattle.jsonb_raw.specs.Roots.{HasRoot};
+ghost use Rattle.jsonb_raw.specs.AnyBytes.Roots.{HasRoot};
 ghost use Rattle.jsonb_raw.specs.EqualityKey.{equality_key};
 ghost use Rattle.jsonb_raw.specs.Private.EqualityParts.{equality_start, equality_part_start, AppendsEqualityStart};
 ghost use Rattle.jsonb_raw.specs.Private.Levels.{EntryPrefix, IsKeyOf, IsLevelOf, IsLevelWithin};
 ghost use Rattle.jsonb_raw.specs.SortableKey.{text_bytes};
 ghost use Rattle.jsonb_doc.specs.Payload.{Form, number_reader};
 ghost use Rattle.jsonb_doc.specs.Format.{Decodes, IsContent, container_entry};
-ghost use Rattle.jsonb_doc.specs.Item.{StandsFor, item_size};
+ghost use Rattle.jsonb_doc.specs.Item.{StandsFor};
+ghost use Rattle.jsonb_doc.specs.AnyBytes.Items.{item_size};
 ghost use Rattle.jsonb_doc.specs.Private.Stored.{Stores};
 ghost use Rattle.jsonb_doc.specs.Answer.{IsOutOfMemory, IsDecodingError, ◌or◌};
 ghost use Rattle.jsonb_doc.specs.declared.error.Error.TheVariants.{OutOfMemory};

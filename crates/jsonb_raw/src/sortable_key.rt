@@ -8,7 +8,7 @@ ghost use Rattle.jsonb_doc.specs.Format.{Decodes, IsContent, container_entry, nu
 ghost use Rattle.jsonb_doc.specs.Item.{StandsFor};
 ghost use Rattle.jsonb_doc.specs.Kinds.{kind_number};
 ghost use Rattle.jsonb_doc.specs.Private.Stored.{Stores};
-ghost use Rattle.jsonb_raw.specs.Roots.{HasRoot};
+ghost use Rattle.jsonb_raw.specs.AnyBytes.Roots.{HasRoot};
 ghost use Rattle.jsonb_raw.specs.SortableKey.{text_bytes, number_bytes, sortable_key, depths};
 ghost use Rattle.jsonb_doc.specs.Depth.{deepest};
 ghost use Rattle.jsonb_raw.specs.Private.PackedBytes.{packed_bytes};

@@ -10,7 +10,7 @@ ghost use Rattle.jsonb_doc.specs.Answer.{IsOutOfMemory, IsOutOfMemoryOrTooLarge,
 ghost use Rattle.jsonb_doc.specs.declared.error.Error.TheVariants.{OutOfMemory, TooLarge};
 ghost use Rattle.jsonb_doc.specs.ArrayBuilder.{HoldsElements};
 ghost use Rattle.jsonb_doc.specs.Limits.{IsTooLarge};
-ghost use Rattle.jsonb_doc.specs.Spots.{Locates};
+ghost use Rattle.jsonb_doc.specs.Representation.Positions.{Locates};
 ghost use Rattle.jsonb_raw.specs.Documents.{Makes, MakesOption};
 ghost use Rattle.jsonb.specs.Private.Selection.{IsMadeItem, IsNumberItem, OfSelected};
 ghost use Rattle.jsonb.specs.SelectorAnswers.{array_of, first_item, single_or_array};

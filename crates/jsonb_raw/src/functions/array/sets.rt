@@ -9,7 +9,7 @@ ghost use Rattle.jsonb_doc.specs.Limits.{Fits};
 ghost use Rattle.jsonb_doc.specs.Payload.{Form};
 ghost use Rattle.jsonb_doc.specs.Format.{Decodes};
 ghost use Rattle.jsonb_doc.specs.Item.{StandsFor};
-ghost use Rattle.jsonb_doc.specs.Elements.{HasElementsLeft};
+ghost use Rattle.jsonb_doc.specs.Representation.Iterators.{HasElementsLeft};
 ghost use Rattle.jsonb_doc.specs.ArrayBuilder.{HoldsElements};
 ghost use Rattle.jsonb_doc.specs.Answer.{IsOutOfMemory, IsOutOfMemoryOrTooLarge, ◌or◌, IsDecodingError};
 ghost use Rattle.jsonb_doc.specs.declared.error.Error.TheVariants.{OutOfMemory, TooLarge};

@@ -1,6 +1,7 @@
 use Rattle.std.proofs.Common.{◌≡◌, ◌++◌, ◌∷◌, [], ◌<◌, ap, sym, ◌∙◌, subst, arith, if◌then◌else◌}
 use Rattle.jsonb_doc.proofs.SpotsTaken.{no_refusal}
-use Rattle.jsonb_doc.specs.Spots.{Locates, spots_bound}
+use Rattle.jsonb_doc.specs.Representation.Positions.{Locates}
+use Rattle.jsonb_doc.specs.AnyBytes.Spots.{spots_bound}
 use Rattle.jsonb_doc.specs.Tree.{children_of}
 use Rattle.jsonb.specs.Preorder.{preorder}
 use Rattle.std.specs.List.{AllZip}
