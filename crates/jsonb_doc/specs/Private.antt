@@ -25,3 +25,4 @@ pub mod Closing
 pub mod StoredValue
 pub mod ShapeOf
 pub mod Earlier
+pub mod EntryKinds

@@ -10,7 +10,8 @@ ghost use Rattle.jsonb_raw.specs.Private.EqualityParts.{equality_start, equality
 ghost use Rattle.jsonb_raw.specs.Private.Levels.{EntryPrefix, IsKeyOf, IsLevelOf, IsLevelWithin};
 ghost use Rattle.jsonb_raw.specs.SortableKey.{text_bytes};
 ghost use Rattle.jsonb_doc.specs.Payload.{Form, number_reader};
-ghost use Rattle.jsonb_doc.specs.Format.{Decodes, IsContent, container_entry};
+ghost use Rattle.jsonb_doc.specs.Format.{Decodes, IsContent};
+ghost use Rattle.jsonb_doc.specs.Private.EntryKinds.{container_entry};
 ghost use Rattle.jsonb_doc.specs.Item.{StandsFor};
 ghost use Rattle.jsonb_doc.specs.AnyBytes.Items.{item_size};
 ghost use Rattle.jsonb_doc.specs.Private.Stored.{Stores};

@@ -4,7 +4,8 @@ ghost use Rattle.std.specs.Prelude.{◌≡◌, ◌≤◌, ◌<◌, ◌++◌, ℕ
 ghost use Rattle.std.specs.Int.{to_be_bytes};
 ghost use Rattle.jsonb_doc.specs.Tree.{Tree};
 ghost use Rattle.jsonb_doc.specs.Payload.{Form, number_reader};
-ghost use Rattle.jsonb_doc.specs.Format.{Decodes, IsContent, container_entry, number_entry};
+ghost use Rattle.jsonb_doc.specs.Format.{Decodes, IsContent};
+ghost use Rattle.jsonb_doc.specs.Private.EntryKinds.{container_entry, number_entry};
 ghost use Rattle.jsonb_doc.specs.Item.{StandsFor};
 ghost use Rattle.jsonb_doc.specs.Kinds.{kind_number};
 ghost use Rattle.jsonb_doc.specs.Private.Stored.{Stores};

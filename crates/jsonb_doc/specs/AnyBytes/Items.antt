@@ -2,11 +2,13 @@
 use Rattle.std.specs.Prelude.{◌≡◌, ℕ, List, length}
 use Rattle.jsonb_doc.specs.Tree.{Tree}
 use Rattle.jsonb_doc.specs.Payload.{any, number_reader}
-use Rattle.jsonb_doc.specs.Format.{Decodes, IsContent, container_entry, array_header, object_header}
+use Rattle.jsonb_doc.specs.Format.{Decodes, IsContent, array_header, object_header}
+use Rattle.jsonb_doc.specs.Kinds.{kind_number}
 use Rattle.jsonb_doc.specs.AnyBytes.Parts.{IsHeaded, HasItsWords}
 use Rattle.jsonb_doc.specs.Item.{StandsFor}
 use Rattle.jsonb_doc.specs.declared.item.Item.{Item}
 use Rattle.jsonb_doc.specs.declared.item.Item.TheVariants.{Array, Object}
+use Rattle.jsonb_doc.specs.declared.layout.EntryKind.TheVariants.{Container}
 
 -- The length of the item of a container, in bytes.
 abbrev pub item_size : Item → ℕ
@@ -17,8 +19,10 @@ item_size _ = 0
 -- Holds if the item is the one in an entry of this kind and content, on any bytes. Only the header of a container is
 -- read.
 abbrev pub IsItemOf : ℕ → List ℕ → Item → Type 0
-IsItemOf kind content (Array bytes) = (kind ≡ container_entry) × (bytes.now ≡ content) × IsHeaded array_header content
-IsItemOf kind content (Object bytes) = (kind ≡ container_entry) × (bytes.now ≡ content) × IsHeaded object_header content
+IsItemOf kind content (Array bytes) =
+    (kind ≡ kind_number Container) × (bytes.now ≡ content) × IsHeaded array_header content
+IsItemOf kind content (Object bytes) =
+    (kind ≡ kind_number Container) × (bytes.now ≡ content) × IsHeaded object_header content
 IsItemOf kind content item = (t : Tree) × IsContent (number_reader any) t kind content × StandsFor any item t
 
 -- Holds if there is an item in an entry of this kind and content.
