@@ -26,3 +26,4 @@ pub mod StoredValue
 pub mod ShapeOf
 pub mod Earlier
 pub mod EntryKinds
+pub mod Errors

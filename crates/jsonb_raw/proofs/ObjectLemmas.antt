@@ -5,7 +5,7 @@ use Rattle.std.specs.Map.{values_of}
 use Rattle.std.specs.List.{Any}
 use Rattle.jsonb_doc.specs.Tree.{Tree, object, Pairs, keys}
 use Rattle.jsonb_doc.specs.Payload.{Form}
-use Rattle.jsonb_doc.specs.Answer.{IsOutOfMemoryOrTooLarge}
+use Rattle.jsonb_doc.specs.Private.Errors.{IsOutOfMemoryOrTooLarge}
 use Rattle.jsonb_doc.specs.Limits.{IsTooLarge}
 use Rattle.jsonb_doc.specs.declared.error.Error.TheVariants.{OutOfMemory, TooLarge}
 use Rattle.jsonb_doc.specs.ObjectKeys.{TakesKey}

@@ -18,7 +18,8 @@ ghost use Rattle.jsonb_doc.specs.View.{number_view};
 ghost use Rattle.jsonb_raw.specs.Private.Levels.{IsKeyOf, IsLevelWithin};
 ghost use Rattle.jsonb_raw.specs.Private.KeyParts.{name_start, AppendsItem, AppendsScalar, AppendsStart, AppendsKey};
 ghost use Rattle.jsonb_raw.specs.Private.KeyWidth.{width_of};
-ghost use Rattle.jsonb_raw.specs.KeyAnswer.{GivesKey, RanksAsTree, IsOutOfMemoryOrTooDeep};
+ghost use Rattle.jsonb_raw.specs.KeyAnswer.{GivesKey, RanksAsTree};
+ghost use Rattle.jsonb_raw.specs.Private.KeyErrors.{IsOutOfMemoryOrTooDeep};
 ghost use Rattle.jsonb_doc.specs.Answer.{IsDecodingError, ◌or◌};
 ghost use Rattle.jsonb_doc.specs.declared.error.Error.TheVariants.{OutOfMemory, TooDeep};
 

@@ -20,7 +20,8 @@ use jsonb_keypath::KeyPaths;
 use std::alloc::Global;
 
 impl<'a> LeafOutput<'a> for OwnedJsonb {
-    ghost use Rattle.jsonb_doc.specs.Answer.{IsOutOfMemoryOrTooLarge, ◌or◌, IsDecodingError};
+    ghost use Rattle.jsonb_doc.specs.Answer.{◌or◌, IsDecodingError};
+    ghost use Rattle.jsonb_doc.specs.Private.Errors.{IsOutOfMemoryOrTooLarge};
     ghost use Rattle.jsonb_doc.specs.Format.{Decodes};
     ghost use Rattle.jsonb_doc.specs.declared.error.Error.TheVariants.{OutOfMemory, TooLarge};
 
