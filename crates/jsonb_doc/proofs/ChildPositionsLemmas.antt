@@ -79,7 +79,7 @@ pub first_read : (bytes : List ℕ) (t : Tree) (ts : List Tree) (it : SpotIter) 
     → GivesSpot it (Some r) after → r ≡ Ok spot → HasSpotsLeft bytes it (t ∷ ts) → IsFirst bytes t ts it spot after
 first_read bytes t ts it r spot after g is h =
     let taken : TakesSpot bytes (t ∷ ts) (Some (Ok spot)) after = rw is at (g.takes bytes (t ∷ ts) h) in
-    record { passes = rw is at g.reads; marks = taken.0; rest = taken.1 }
+    record { passes = rw is at g.any_bytes.reads; marks = taken.0; rest = taken.1 }
 
 pub first_not_read : (bytes : List ℕ) (t : Tree) (ts : List Tree) (it : SpotIter) (r : Result Spot Error) (e : Error) (after : SpotIter)
     → GivesSpot it (Some r) after → r ≡ Err e → HasSpotsLeft bytes it (t ∷ ts) → ⊥

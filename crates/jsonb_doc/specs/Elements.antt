@@ -1,15 +1,12 @@
 -- The iterator over the elements of an array.
-use Rattle.std.specs.Prelude.{◌≡◌, ◌≤◌, length, Option, Some, None, Result, Ok, IfSome, IfNone, IfOk, IfErr}
+use Rattle.std.specs.Prelude.{Option, Some, None, Result, Ok, IfSome, IfOk}
 use Rattle.jsonb_doc.specs.Tree.{Trees, no_trees, tree}
 use Rattle.jsonb_doc.specs.Payload.{Form}
-use Rattle.jsonb_doc.specs.AnyBytes.Parts.{words_left}
 use Rattle.jsonb_doc.specs.Item.{StandsFor, IsNormal}
-use Rattle.jsonb_doc.specs.AnyBytes.Items.{item_size}
-use Rattle.jsonb_doc.specs.Answer.{IsDecodingError}
 use Rattle.jsonb_doc.specs.declared.item.Item.{Item}
 use Rattle.jsonb_doc.specs.declared.element_iter.ElementIter.{ElementIter}
 use Rattle.jsonb_doc.specs.declared.error.Error.{Error}
-use Rattle.jsonb_doc.specs.AnyBytes.Iterators.{ReadsElement}
+use Rattle.jsonb_doc.specs.AnyBytes.Iterators.{NextElement}
 use Rattle.jsonb_doc.specs.Representation.Iterators.{HasElementsLeft}
 
 -- Holds if the result is the first of the trees, and the others remain.
@@ -18,13 +15,8 @@ TakesElement form no_trees None after = HasElementsLeft form after no_trees
 TakesElement form (tree t ts) (Some (Ok item)) after = StandsFor form item t × HasElementsLeft form after ts
 TakesElement form _ _ after = ⊥
 
--- Holds if this is what a call of `next` does. On any bytes it yields an item, an error or `None`, and after `None`
--- nothing more.
+-- Holds if this is what a call of `next` does.
 pub record GivesElement (before : ElementIter) (r : Option (Result Item Error)) (after : ElementIter) : Type 0 where
-  pub reads : ReadsElement before r after
+  pub any_bytes : NextElement before r after
   pub takes : (form : Form) (ts : Trees) → HasElementsLeft form before ts → TakesElement form ts r after
   pub normal : IfSome r (λ x. IfOk x IsNormal)
-  pub errors : IfSome r (λ x. IfErr x IsDecodingError)
-  pub ended : IfNone r (words_left after.entries.words.now ≡ 0)
-  pub size : IfSome r (λ x. IfOk x (λ item. item_size item ≤ length before.entries.contents.now))
-  pub room : length after.entries.contents.now ≤ length before.entries.contents.now

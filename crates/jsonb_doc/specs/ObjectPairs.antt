@@ -1,16 +1,13 @@
 -- The iterator over the pairs of an object.
-use Rattle.std.specs.Prelude.{◌≡◌, ℕ, ◌≤◌, List, length, Option, Some, None, Result, Ok, IfSome, IfNone, IfOk, IfErr}
+use Rattle.std.specs.Prelude.{◌≡◌, ℕ, List, Option, Some, None, Result, Ok, IfSome, IfOk}
 use Rattle.std.specs.Borrow.{Bor}
 use Rattle.jsonb_doc.specs.Tree.{Pairs, no_pairs, pair}
 use Rattle.jsonb_doc.specs.Payload.{Form}
-use Rattle.jsonb_doc.specs.AnyBytes.Parts.{words_left}
 use Rattle.jsonb_doc.specs.Item.{StandsFor, IsNormal}
-use Rattle.jsonb_doc.specs.AnyBytes.Items.{item_size}
-use Rattle.jsonb_doc.specs.Answer.{IsDecodingError}
 use Rattle.jsonb_doc.specs.declared.item.Item.{Item}
 use Rattle.jsonb_doc.specs.declared.pair_iter.PairIter.{PairIter}
 use Rattle.jsonb_doc.specs.declared.error.Error.{Error}
-use Rattle.jsonb_doc.specs.AnyBytes.Iterators.{ReadsPair}
+use Rattle.jsonb_doc.specs.AnyBytes.Iterators.{NextPair}
 use Rattle.jsonb_doc.specs.Representation.Iterators.{HasPairsLeft}
 
 -- Holds if the result is the first of the members, and the others remain.
@@ -20,14 +17,9 @@ TakesPair form (pair key t ps) (Some (Ok given)) after =
     (given.0.now ≡ key) × StandsFor form given.1 t × HasPairsLeft form after ps
 TakesPair form _ _ after = ⊥
 
--- Holds if this is what a call of `next` does. On any bytes it yields a member, an error or `None`, and after `None`
--- nothing more.
+-- Holds if this is what a call of `next` does.
 pub record GivesPair (before : PairIter) (r : Option (Result (Bor (List ℕ) × Item) Error))
     (after : PairIter) : Type 0 where
-  pub reads : ReadsPair before r after
+  pub any_bytes : NextPair before r after
   pub takes : (form : Form) (ps : Pairs) → HasPairsLeft form before ps → TakesPair form ps r after
   pub normal : IfSome r (λ x. IfOk x (λ given. IsNormal given.1))
-  pub errors : IfSome r (λ x. IfErr x IsDecodingError)
-  pub ended : IfNone r (words_left after.key_words.now ≡ 0)
-  pub size : IfSome r (λ x. IfOk x (λ given. item_size given.1 ≤ length before.value_contents.now))
-  pub room : length after.value_contents.now ≤ length before.value_contents.now

@@ -1,9 +1,10 @@
 -- What the iterators over elements, members, keys and values read, in any bytes.
-use Rattle.std.specs.Prelude.{◌≡◌, ◌⊎◌, ℕ, List, [], Option, Some, None, Result, Ok, Err, ◌++◌, IsUtf8}
+use Rattle.std.specs.Prelude.{◌≡◌, ◌⊎◌, ℕ, ◌≤◌, List, [], ◌++◌, length, IsUtf8, Option, Some, None, Result, Ok, Err, IfSome, IfNone, IfOk, IfErr}
 use Rattle.std.specs.Borrow.{Bor}
-use Rattle.jsonb_doc.specs.AnyBytes.Parts.{AreArrayParts, BeginWithNone, AreObjectParts}
+use Rattle.jsonb_doc.specs.AnyBytes.Parts.{AreArrayParts, AreObjectParts, BeginWithNone, words_left}
 use Rattle.jsonb_doc.specs.Format.{BeginWith}
-use Rattle.jsonb_doc.specs.AnyBytes.Items.{IsItemOf, HasItem}
+use Rattle.jsonb_doc.specs.AnyBytes.Items.{IsItemOf, HasItem, item_size}
+use Rattle.jsonb_doc.specs.Answer.{IsDecodingError}
 use Rattle.jsonb_doc.specs.declared.item.Item.{Item}
 use Rattle.jsonb_doc.specs.declared.element_iter.ElementIter.{ElementIter}
 use Rattle.jsonb_doc.specs.declared.error.Error.{Error}
@@ -30,6 +31,15 @@ ReadsElement before (Some (Ok item)) after =
 ReadsElement before (Some (Err e)) after =
     (BeginWithNone before.entries.words.now before.entries.contents.now × (after.entries.words.now ≡ []))
     ⊎ ((kind : ℕ) × (content : List ℕ) × PassesElement before kind content after × (HasItem kind content → ⊥))
+
+-- Holds if this is what a call of `next` does, on any bytes: it yields an item, an error or `None`, and after `None`
+-- nothing more.
+pub record NextElement (before : ElementIter) (r : Option (Result Item Error)) (after : ElementIter) : Type 0 where
+  pub reads : ReadsElement before r after
+  pub errors : IfSome r (λ x. IfErr x IsDecodingError)
+  pub ended : IfNone r (words_left after.entries.words.now ≡ 0)
+  pub size : IfSome r (λ x. IfOk x (λ item. item_size item ≤ length before.entries.contents.now))
+  pub room : length after.entries.contents.now ≤ length before.entries.contents.now
 
 -- Holds if the bytes are the header of an object, and all words and contents of the iterator, the keys before the
 -- values. The contents of values end with the bytes.
@@ -61,6 +71,16 @@ ReadsPair before (Some (Err e)) after =
     ⊎ ((key : List ℕ) × (kind : ℕ) × (content : List ℕ) × PassesPair before key kind content after
     × (IsUtf8 key → HasItem kind content → ⊥))
 
+-- Holds if this is what a call of `next` does, on any bytes: it yields a member, an error or `None`, and after `None`
+-- nothing more.
+pub record NextPair (before : PairIter) (r : Option (Result (Bor (List ℕ) × Item) Error))
+    (after : PairIter) : Type 0 where
+  pub reads : ReadsPair before r after
+  pub errors : IfSome r (λ x. IfErr x IsDecodingError)
+  pub ended : IfNone r (words_left after.key_words.now ≡ 0)
+  pub size : IfSome r (λ x. IfOk x (λ given. item_size given.1 ≤ length before.value_contents.now))
+  pub room : length after.value_contents.now ≤ length before.value_contents.now
+
 -- Holds if the bytes are the header of an object, and all words of keys and all contents of the iterator, with the
 -- words of values between.
 abbrev pub HasAllKeys : List ℕ → KeyIter → Type 0
@@ -80,6 +100,13 @@ ReadsKey before (Some (Ok given)) after = PassesKey before given.now after × Is
 ReadsKey before (Some (Err e)) after =
     (BeginWithNone before.key_words.now before.key_bytes.now × (after.key_words.now ≡ []))
     ⊎ ((key : List ℕ) × PassesKey before key after × (IsUtf8 key → ⊥))
+
+-- Holds if this is what a call of `next` does, on any bytes: it yields a key, an error or `None`, and after `None`
+-- nothing more.
+pub record NextKey (before : KeyIter) (r : Option (Result (Bor (List ℕ)) Error)) (after : KeyIter) : Type 0 where
+  pub reads : ReadsKey before r after
+  pub errors : IfSome r (λ x. IfErr x IsDecodingError)
+  pub ended : IfNone r (words_left after.key_words.now ≡ 0)
 
 -- Holds if the bytes are the header of an object, the words of its keys, all words of the iterator, the keys, and all
 -- contents of the iterator.

@@ -1,8 +1,9 @@
 -- What the iterator over positions reads, and bounds of lengths, in any bytes.
-use Rattle.std.specs.Prelude.{◌≡◌, ℕ, ◌-◌, ◌^◌, ◌<◌, ◌≤◌, [], ◌++◌, Option, Some, None, Result, Ok, Err}
+use Rattle.std.specs.Prelude.{◌≡◌, ℕ, ◌-◌, ◌^◌, ◌<◌, ◌≤◌, [], ◌++◌, Option, Some, None, Result, Ok, Err, IfSome, IfNone, IfOk, IfErr}
 use Rattle.jsonb_doc.specs.Format.{entry_word}
 use Rattle.jsonb_doc.specs.AnyBytes.Parts.{words_left}
 use Rattle.jsonb_doc.specs.Kinds.{kind_number}
+use Rattle.jsonb_doc.specs.Answer.{IsDecodingError}
 use Rattle.jsonb_doc.specs.declared.error.Error.{Error}
 use Rattle.jsonb_doc.specs.declared.spot.Spot.{Spot}
 use Rattle.jsonb_doc.specs.declared.spot_iter.SpotIter.{SpotIter}
@@ -37,3 +38,12 @@ ReadsSpot before None after = before.words.now ≡ []
 ReadsSpot before (Some (Ok spot)) after = PassesSpot before spot after
 ReadsSpot before (Some (Err e)) after =
     ((spot : Spot) (rest : SpotIter) → PassesSpot before spot rest → ⊥) × (after.words.now ≡ [])
+
+-- Holds if this is what a call of `next` does, on any bytes: it yields a spot, an error or `None`, and after `None`
+-- nothing more.
+pub record NextSpot (before : SpotIter) (r : Option (Result Spot Error)) (after : SpotIter) : Type 0 where
+  pub reads : ReadsSpot before r after
+  pub errors : IfSome r (λ x. IfErr x IsDecodingError)
+  pub ended : IfNone r (spots_bound after ≡ 0)
+  pub size : IfSome r (λ x. IfOk x (λ spot. spot_size spot ≤ spots_room before))
+  pub room : spots_room after ≤ spots_room before
