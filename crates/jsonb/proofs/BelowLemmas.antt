@@ -4,7 +4,8 @@ use Rattle.std.proofs.Common.{◌≡◌, ℕ, ◌+◌, ◌^◌, ◌<◌, ◌≤�
 use Rattle.std.specs.Prelude.{reverse}
 use Rattle.std.proofs.lemmas.List.{reverse-append}
 use Rattle.std.proofs.lemmas.Grind.{flat_map-append}
-use Rattle.jsonb_doc.specs.Spots.{HasSpotsLeft, Locates, spots_room, spots_bound}
+use Rattle.jsonb_doc.specs.Representation.Positions.{Locates, HasSpotsLeft}
+use Rattle.jsonb_doc.specs.AnyBytes.Spots.{spots_room, spots_bound}
 use Rattle.jsonb_doc.specs.Tree.{Tree}
 use Rattle.jsonb_doc.proofs.Weights.{weight_of, weight-pos, inner_weighs, taken_weighs, weight_of_all, falls_inward, falls_outward}
 use Rattle.jsonb_doc.specs.declared.spot.Spot.{Spot}

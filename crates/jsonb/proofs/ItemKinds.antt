@@ -1,7 +1,7 @@
 -- What the type of an item says of its tree.
 use Rattle.std.proofs.Common.{◌≡◌, List, ℕ, flat_map, Option, Some, None, Result, Ok, Err, IsOkAnd, refl, ap}
 use Rattle.jsonb_doc.specs.Answer.{SameOption}
-use Rattle.jsonb_doc.specs.Spots.{HasSpotsLeft}
+use Rattle.jsonb_doc.specs.Representation.Positions.{HasSpotsLeft}
 use Rattle.jsonb_doc.specs.Tree as tree
 use Rattle.jsonb_doc.specs.Tree.{Tree}
 use Rattle.jsonb_doc.specs.declared.error.Error.{Error}

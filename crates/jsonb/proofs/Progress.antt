@@ -9,7 +9,8 @@ use Rattle.jsonb_doc.specs.declared.layout.EntryKind.TheVariants as kind
 use Rattle.jsonb_doc.specs.declared.spot.Spot.{Spot}
 use Rattle.jsonb_doc.specs.declared.spot_iter.SpotIter.{SpotIter}
 use Rattle.jsonb_doc.specs.Tree.{Tree}
-use Rattle.jsonb_doc.specs.Spots.{Locates, HasSpotsLeft, GivesSpot}
+use Rattle.jsonb_doc.specs.Spots.{GivesSpot}
+use Rattle.jsonb_doc.specs.Representation.Positions.{Locates, HasSpotsLeft}
 use Rattle.jsonb_doc.proofs.SpotsTaken.{taken_spot, no_refusal, no_spots_left}
 use Rattle.std.specs.List.{AllZip}
 

@@ -6,7 +6,7 @@ use Rattle.jsonb_doc.specs.Answer.{Outcome, and_then, try_flat_map, Refines, IsO
 use Rattle.jsonb_doc.specs.Format.{Decodes}
 use Rattle.jsonb_doc.specs.Kinds.{kind_number}
 use Rattle.jsonb_doc.specs.Payload.{any, number_reader}
-use Rattle.jsonb_doc.specs.Spots.{Locates, spot_content}
+use Rattle.jsonb_doc.specs.Representation.Positions.{Locates, spot_content}
 use Rattle.jsonb_doc.specs.Tree.{Tree}
 use Rattle.jsonb_doc.specs.declared.error.Error.{Error}
 use Rattle.jsonb_doc.specs.declared.spot.Spot.{Spot}

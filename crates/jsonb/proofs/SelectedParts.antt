@@ -5,9 +5,10 @@ use Rattle.std.proofs.Math.ListN.{drop_of_length-le}
 use Rattle.jsonb_doc.specs.Tree.{Tree}
 use Rattle.jsonb_doc.specs.Payload.{Form}
 use Rattle.jsonb_doc.specs.Limits.{IsTooLarge}
-use Rattle.jsonb_doc.specs.Spots.{Locates}
+use Rattle.jsonb_doc.specs.Representation.Positions.{Locates}
 use Rattle.jsonb_doc.specs.ArrayBuilder.{Parts, no_parts, HoldsElements}
-use Rattle.jsonb_doc.specs.Answer.{IsOutOfMemoryOrTooLarge, IsOutOfMemory, ◌or◌when◌}
+use Rattle.jsonb_doc.specs.Answer.{IsOutOfMemory, ◌or◌when◌}
+use Rattle.jsonb_doc.specs.Private.Errors.{IsOutOfMemoryOrTooLarge}
 use Rattle.jsonb_doc.specs.declared.error.Error.{Error}
 use Rattle.jsonb_doc.specs.declared.number.Number.{Number}
 use Rattle.jsonb_doc.specs.declared.spot.Spot.{Spot}

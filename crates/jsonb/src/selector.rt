@@ -9,7 +9,7 @@ ghost use Rattle.jsonb_doc.specs.Tree.{Tree};
 ghost use Rattle.jsonb.specs.Meaning.{is_some_item};
 ghost use Rattle.jsonb_doc.specs.Format.{Decodes};
 ghost use Rattle.jsonb_doc.specs.Answer.{IsDecodingError};
-ghost use Rattle.jsonb_doc.specs.Readable.{HasReadableRoot};
+ghost use Rattle.jsonb_doc.specs.AnyBytes.Roots.{HasReadableRoot};
 ghost use Rattle.jsonb.specs.PathViews.{path_view};
 ghost use Rattle.jsonb.specs.SelectionErrors.{IsSelectionError};
 ghost use Rattle.jsonb.specs.SelectorAnswers.{ByMeanings};
@@ -102,7 +102,7 @@ impl<'a> Selector<'a> {
     ghost use Rattle.jsonb.specs.PathTree.{is_predicate};
     ghost use Rattle.jsonb.specs.PathViews.{path_view};
     ghost use Rattle.jsonb.specs.SelectionErrors.{IsSelectionError, IsDocumentError};
-    ghost use Rattle.jsonb_doc.specs.Readable.{HasReadableRoot};
+    ghost use Rattle.jsonb_doc.specs.AnyBytes.Roots.{HasReadableRoot};
     ghost use Rattle.jsonb.specs.FirstItems.{FindsFirst};
     ghost use Rattle.jsonb.specs.SelectorAnswers.{root_bytes, mode_of, first_item, single_or_array, ByMeanings, AreAll, IsArrayOf, IsPicked, IsFound, IsTruthOf};
     ghost use Rattle.jsonb.specs.declared.selector.document.Mode.TheVariants.{Lax, Strict};

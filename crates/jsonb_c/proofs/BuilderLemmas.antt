@@ -2,7 +2,8 @@
 use Rattle.std.proofs.Common.{◌≡◌, ◌⊎◌, ◌∙◌, true, false, ℕ, List, Vec, Global, ap, inl, inr, refl, Option, Some, None, Result, Ok, Err}
 use Rattle.std.specs.Prelude.{MatchOption, MatchResult, OnErr}
 use Rattle.jsonb_doc.specs.Answer.{IsOutOfMemory}
-use Rattle.jsonb_doc.specs.DocumentBuilder.{Holds, Takes}
+use Rattle.jsonb_doc.specs.Representation.DocumentBuilder.{Holds}
+use Rattle.jsonb_doc.specs.DocumentBuilder.{Takes}
 use Rattle.jsonb_doc.specs.Events.{Event, State, next, no_events}
 use Rattle.jsonb_doc.specs.Format.{Decodes}
 use Rattle.jsonb_doc.specs.Payload.{Form}

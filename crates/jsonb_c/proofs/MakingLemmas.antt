@@ -4,10 +4,12 @@ use Rattle.std.specs.Prelude.{slice_get}
 use Rattle.std.proofs.lemmas.Bool.Decides.{nat_tests}
 use Rattle.std.specs.declared.alloc.Global.{Global}
 use Rattle.jsonb_doc.specs.declared.error.Error.{Error}
-use Rattle.jsonb_doc.specs.Answer.{SameOption, IsOutOfMemoryOrTooLarge}
+use Rattle.jsonb_doc.specs.Answer.{SameOption}
+use Rattle.jsonb_doc.specs.Private.Errors.{IsOutOfMemoryOrTooLarge}
 use Rattle.jsonb_doc.specs.Tree.{Tree, null, boolean, number, text, extension, array, object, Trees, no_trees, tree, Pairs, no_pairs, pair, count, elements, keys, values}
 use Rattle.jsonb_doc.specs.Payload.{Form, number_reader}
-use Rattle.jsonb_doc.specs.Format.{Decodes, IsContent, array_header, container_entry, header, object_header, scalar_header}
+use Rattle.jsonb_doc.specs.Format.{Decodes, IsContent, array_header, header, object_header, scalar_header}
+use Rattle.jsonb_doc.specs.Private.EntryKinds.{container_entry}
 use Rattle.std.specs.List.{AllZip}
 use Rattle.jsonb_raw.specs.Documents.{raw_bytes}
 use Rattle.jsonb_raw.specs.declared.raw.RawJsonb.{RawJsonb}

@@ -12,7 +12,8 @@ use Rattle.jsonb_doc.specs.Tree.{Tree, null, object, pairs_of, keys}
 use Rattle.jsonb_doc.specs.Format.{Decodes}
 use Rattle.jsonb_doc.specs.Payload.{Form}
 use Rattle.jsonb_doc.specs.Limits.{IsShort, HasShortParts, AreShortKeys, HasShortValues, IsWithinLimits, IsTooLarge}
-use Rattle.jsonb_doc.specs.Answer.{IsOutOfMemory, IsOutOfMemoryOrTooLarge, ◌or◌when◌}
+use Rattle.jsonb_doc.specs.Answer.{IsOutOfMemory, ◌or◌when◌}
+use Rattle.jsonb_doc.specs.Private.Errors.{IsOutOfMemoryOrTooLarge}
 use Rattle.jsonb_doc.specs.Encoding.{EntryParts}
 use Rattle.jsonb_doc.specs.ObjectBuilder.{HoldsPairs, has_key, insert_pair}
 use Rattle.jsonb_doc.proofs.ObjectLemmas.{held_key, length-inserted}

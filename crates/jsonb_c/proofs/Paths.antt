@@ -7,7 +7,8 @@ use Rattle.jsonb_doc.specs.Answer.{IsOutOfMemory, ◌or◌when◌}
 use Rattle.jsonb.specs.KeyPathGrammar.{Key}
 use Rattle.jsonb.specs.PathGrammar.{json_path}
 use Rattle.jsonb.specs.PathTree.{Step}
-use Rattle.jsonb.specs.PathDocuments.{has_document, IsOwningError}
+use Rattle.jsonb.specs.PathDocuments.{has_document}
+use Rattle.jsonb.specs.Private.Copying.{IsOwningError}
 use Rattle.jsonb.proofs.DocumentLemmas.{read_has_none}
 use Rattle.jsonb_c.specs.Answers.{With, WritesResult}
 use Rattle.jsonb_c.specs.Calls.{DeletesPlace}

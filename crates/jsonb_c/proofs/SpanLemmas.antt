@@ -6,7 +6,7 @@ use Rattle.jsonb_doc.specs.ChildPositions.{TakesChild}
 use Rattle.jsonb_doc.specs.Format.{IsContent}
 use Rattle.jsonb_doc.specs.Item.{StandsFor}
 use Rattle.jsonb_doc.specs.Payload.{Form, number_reader}
-use Rattle.jsonb_doc.specs.Spots.{Locates}
+use Rattle.jsonb_doc.specs.Representation.Positions.{Locates}
 use Rattle.jsonb_doc.specs.Tree.{Tree, null, boolean, number, text, extension, array, object, no_trees, tree, no_pairs, pair}
 use Rattle.jsonb_doc.specs.declared.child_positions.Child.{Child}
 use Rattle.jsonb_doc.specs.declared.child_positions.ChildPositions.{ChildPositions}

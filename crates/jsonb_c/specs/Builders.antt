@@ -1,7 +1,8 @@
 -- Documents built from events, with a builder that a handle keeps.
 use Rattle.std.specs.Prelude.{◌≡◌, ◌⊎◌, ℕ, List, Option, Some, None, IsSome, Result, IsOkAnd, MatchOption, MatchResult}
 use Rattle.jsonb_doc.specs.Answer.{IsOutOfMemory}
-use Rattle.jsonb_doc.specs.DocumentBuilder.{Holds, IsFailureAt}
+use Rattle.jsonb_doc.specs.DocumentBuilder.{IsFailureAt}
+use Rattle.jsonb_doc.specs.Representation.DocumentBuilder.{Holds}
 use Rattle.jsonb_doc.specs.Events.{Event, State, next, no_events, whole}
 use Rattle.jsonb_doc.specs.Format.{Decodes}
 use Rattle.jsonb_doc.specs.Payload.{Form}

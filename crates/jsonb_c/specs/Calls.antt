@@ -6,7 +6,8 @@ use Rattle.jsonb_doc.specs.declared.error.Error.{Error}
 use Rattle.jsonb_doc.specs.declared.error.Error.TheVariants.{OutOfMemory, InvalidJsonb, UnsupportedNumber, InvalidCast, InvalidJsonType, InvalidObject, ObjectDuplicateKey, TooDeep, TooLarge}
 use Rattle.jsonb_doc.specs.Tree.{Tree, Trees, array, elements}
 use Rattle.jsonb_doc.specs.Payload.{Form, any}
-use Rattle.jsonb_doc.specs.Format.{Decodes, IsUnsupportedDocument, IsNoDocument}
+use Rattle.jsonb_doc.specs.Format.{Decodes}
+use Rattle.jsonb_doc.specs.AnyBytes.Unsupported.{IsUnsupportedDocument, IsNoDocument}
 use Rattle.jsonb_doc.specs.Answer.{IsDecodingError, IsOutOfMemory, ◌or◌}
 use Rattle.jsonb_raw.specs.Casts.{CastsToI64, CastsToText, text_of}
 use Rattle.jsonb_raw.specs.Children.{without_index}

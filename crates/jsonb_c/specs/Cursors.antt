@@ -1,6 +1,7 @@
 -- The children of a document one by one.
 use Rattle.std.specs.Prelude.{ℕ, List, Option, Result, IsOkAnd}
-use Rattle.jsonb_doc.specs.ChildPositions.{HasChildrenLeft, TakesChild}
+use Rattle.jsonb_doc.specs.Representation.Positions.{HasChildrenLeft}
+use Rattle.jsonb_doc.specs.ChildPositions.{TakesChild}
 use Rattle.jsonb_doc.specs.Format.{Decodes}
 use Rattle.jsonb_doc.specs.Payload.{Form}
 use Rattle.jsonb_doc.specs.Tree.{Tree}

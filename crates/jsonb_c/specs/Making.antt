@@ -4,7 +4,7 @@ use Rattle.std.specs.Int.{Width, w64}
 use Rattle.jsonb_doc.specs.declared.error.Error.{Error}
 use Rattle.std.specs.List.{zip, AllZip, list_all}
 use Rattle.jsonb_doc.specs.declared.error.Error.TheVariants.{ObjectDuplicateKey, TooLarge}
-use Rattle.jsonb_doc.specs.Answer.{Refines, Outcome, IsOutOfMemory, IsOutOfMemoryOrTooLarge, ◌or◌when◌}
+use Rattle.jsonb_doc.specs.Answer.{Refines, Outcome, IsOutOfMemory, ◌or◌when◌}
 use Rattle.jsonb_doc.specs.Limits.{IsTooLarge}
 use Rattle.jsonb_doc.specs.ObjectBuilder.{has_key, insert_pair}
 use Rattle.jsonb_doc.specs.Number.{Number, number_from, decimal64, decimal128}
@@ -90,7 +90,7 @@ abbrev pub FindsPair : Form → ℕ → Tree → Result (Option (List ℕ × Lis
 FindsPair form index t answer =
     MatchOption (option_and_then (λ ps. slice_get ps index) (object_each t)) (answer ≡ Ok None)
     (λ p. MatchResult answer (λ found. IsSomeAnd found (λ made. (made.0 ≡ p.0) × Decodes form made.1 p.1))
-    (IsOutOfMemoryOrTooLarge form p.1))
+    (IsOutOfMemory or TooLarge when IsTooLarge form p.1))
 
 -- Holds if the key and the document of the value are delivered, each to its buffer. Neither is written if one does not
 -- fit, if there is no such member, or if the call fails.

@@ -1,7 +1,8 @@
 //! Documents built from values, and from columns.
 
 ghost use Rattle.std.specs.Prelude.{◌≡◌, IfErr, IsUtf8, MatchResult, true, false, length, pos};
-ghost use Rattle.jsonb_doc.specs.Answer.{IsDecodingError, IsOutOfMemory, IsOutOfMemoryOrTooLarge, ◌or◌};
+ghost use Rattle.jsonb_doc.specs.Answer.{IsDecodingError, IsOutOfMemory, ◌or◌};
+ghost use Rattle.jsonb_doc.specs.Private.Errors.{IsOutOfMemoryOrTooLarge};
 ghost use Rattle.jsonb_doc.specs.declared.error.Error.TheVariants.{OutOfMemory, TooLarge};
 ghost use Rattle.jsonb_doc.specs.Format.{Decodes};
 ghost use Rattle.jsonb_doc.specs.Item.{StandsFor};

@@ -7,7 +7,8 @@ use Rattle.jsonb_doc.specs.Tree.{Tree, array, trees_of}
 use Rattle.jsonb_doc.specs.Payload.{Form}
 use Rattle.jsonb_doc.specs.Format.{IsBelowFirst, AreKeys, Decodes}
 use Rattle.jsonb_doc.specs.Limits.{IsTooLarge}
-use Rattle.jsonb_doc.specs.Answer.{IsOutOfMemoryOrTooLarge, IsOutOfMemory}
+use Rattle.jsonb_doc.specs.Answer.{IsOutOfMemory}
+use Rattle.jsonb_doc.specs.Private.Errors.{IsOutOfMemoryOrTooLarge}
 use Rattle.jsonb_doc.specs.ArrayBuilder.{Parts, no_parts, HoldsElements}
 use Rattle.jsonb_doc.specs.declared.error.Error.{Error}
 use Rattle.jsonb_doc.proofs.LimitLemmas.{array_too_large-more}

@@ -1,6 +1,7 @@
 -- What is left of a whole decides it.
 use Rattle.std.proofs.Common.{◌≡◌, ◌≢◌, ℕ, ◌+◌, ◌/◌, ◌<◌, ◌≤◌, List, length, Option, Some, None, Bool, true, false, ◌&&◌, ◌↔◌, refl, arith}
-use Rattle.jsonb_doc.specs.Payload.{NumberReader, number_of, number_or_unsupported}
+use Rattle.jsonb_doc.specs.Payload.{NumberReader, number_of}
+use Rattle.jsonb_doc.specs.AnyBytes.Unsupported.{number_or_unsupported}
 use Rattle.jsonb_doc.specs.Private.Checking.{IsValidationError, ReducesTo, HasContent, HasEntries, HasParts, HasLarge, IsNoLonger}
 use Rattle.jsonb_doc.specs.declared.error.Error.{Error}
 use Rattle.jsonb_doc.specs.declared.error.Error.TheVariants.{InvalidJsonb, UnsupportedNumber}

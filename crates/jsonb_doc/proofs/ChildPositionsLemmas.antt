@@ -5,9 +5,11 @@ use Rattle.std.proofs.lemmas.Slice.{between_to_end}
 use Rattle.jsonb_doc.specs.Tree.{Tree, null, boolean, number, text, extension, array, object, Trees, no_trees, tree, trees_of, elements, count, Pairs, no_pairs, pair, keys, values}
 use Rattle.jsonb_doc.specs.Payload.{NumberReader, Form, any, number_reader, number_of}
 use Rattle.jsonb_doc.specs.Format.{Decodes, header, entry_word, AreEntries, key_words, key_bytes}
-use Rattle.jsonb_doc.specs.Spots.{Locates, HasSpotsLeft, TakesSpot, GivesSpot, PassesSpot}
+use Rattle.jsonb_doc.specs.Spots.{TakesSpot, GivesSpot}
+use Rattle.jsonb_doc.specs.Representation.Positions.{Locates, HasSpotsLeft, AreAt, HasChildrenLeft}
+use Rattle.jsonb_doc.specs.AnyBytes.Spots.{PassesSpot}
 use Rattle.jsonb_doc.specs.Kinds.{kind_number}
-use Rattle.jsonb_doc.specs.ChildPositions.{AreAt, HasChildrenLeft, TakesChild}
+use Rattle.jsonb_doc.specs.ChildPositions.{TakesChild}
 use Rattle.jsonb_doc.specs.Private.Containers.{IsCut, Holds, HasPairParts}
 use Rattle.jsonb_doc.specs.Private.Lengths.{StandBefore}
 use Rattle.jsonb_doc.specs.Private.Stored.{key_trees}
@@ -77,7 +79,7 @@ pub first_read : (bytes : List ℕ) (t : Tree) (ts : List Tree) (it : SpotIter) 
     → GivesSpot it (Some r) after → r ≡ Ok spot → HasSpotsLeft bytes it (t ∷ ts) → IsFirst bytes t ts it spot after
 first_read bytes t ts it r spot after g is h =
     let taken : TakesSpot bytes (t ∷ ts) (Some (Ok spot)) after = rw is at (g.takes bytes (t ∷ ts) h) in
-    record { passes = rw is at g.reads; marks = taken.0; rest = taken.1 }
+    record { passes = rw is at g.any_bytes.reads; marks = taken.0; rest = taken.1 }
 
 pub first_not_read : (bytes : List ℕ) (t : Tree) (ts : List Tree) (it : SpotIter) (r : Result Spot Error) (e : Error) (after : SpotIter)
     → GivesSpot it (Some r) after → r ≡ Err e → HasSpotsLeft bytes it (t ∷ ts) → ⊥

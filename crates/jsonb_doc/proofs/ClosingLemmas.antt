@@ -17,8 +17,8 @@ use Rattle.jsonb_doc.specs.Events.{Level, root, array_of, object_of, container}
 use Rattle.jsonb_doc.specs.ArrayBuilder.{Parts, entry_count, HoldsElements}
 use Rattle.jsonb_doc.specs.ObjectBuilder.{HoldsPairs}
 use Rattle.jsonb_doc.specs.Private.ObjectBytes.{FitsEntry, words_of_entries, contents_of_entries, object_bytes}
-use Rattle.jsonb_doc.specs.Pieces.{stacked, all_heads, joined, bytes_at}
-use Rattle.jsonb_doc.specs.DocumentBuilder.{IsPieceOf, IsEntryOf, AreMembersOf, AreSortedTexts, HoldsLevel}
+use Rattle.jsonb_doc.specs.Representation.Pieces.{stacked, all_heads, joined, bytes_at}
+use Rattle.jsonb_doc.specs.Representation.DocumentBuilder.{IsPieceOf, IsEntryOf, AreMembersOf, AreSortedTexts, HoldsLevel}
 use Rattle.jsonb_doc.specs.Private.Closing.{entry_words, total_len, member_keys, member_entries, array_head, object_head, IsClosed, HasShortHead, Closes}
 use Rattle.jsonb_doc.specs.declared.error.Error.{Error}
 use Rattle.jsonb_doc.specs.declared.error.Error.TheVariants.{TooLarge}

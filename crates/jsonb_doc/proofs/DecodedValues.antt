@@ -13,8 +13,9 @@ use Rattle.jsonb_doc.specs.Tree.{Tree, Trees, no_trees, tree, Pairs, no_pairs, p
 use Rattle.jsonb_doc.specs.Payload.{Form}
 use Rattle.jsonb_doc.specs.Format.{AreKeys, IsBelowFirst}
 use Rattle.jsonb_doc.specs.Item.{StandsFor, IsNormal}
-use Rattle.jsonb_doc.specs.Elements.{HasElementsLeft, TakesElement}
-use Rattle.jsonb_doc.specs.ObjectPairs.{HasPairsLeft, TakesPair}
+use Rattle.jsonb_doc.specs.Elements.{TakesElement}
+use Rattle.jsonb_doc.specs.Representation.Iterators.{HasElementsLeft, HasPairsLeft}
+use Rattle.jsonb_doc.specs.ObjectPairs.{TakesPair}
 use Rattle.jsonb_doc.specs.Answer.{IsOutOfMemory}
 use Rattle.jsonb_doc.specs.ObjectBuilder.{insert_pair}
 use Rattle.jsonb_doc.specs.View.{number_view}

@@ -3,7 +3,7 @@ use Rattle.std.proofs.Common.{◌≡◌, ◌≢◌, ℕ, List, Option, Some}
 use Rattle.jsonb_doc.specs.Tree.{Tree, Trees, array, trees_in}
 use Rattle.jsonb_doc.specs.Payload.{Form, number_reader}
 use Rattle.jsonb_doc.specs.Format.{Decodes}
-use Rattle.jsonb_doc.specs.Elements.{HasElementsLeft}
+use Rattle.jsonb_doc.specs.Representation.Iterators.{HasElementsLeft}
 use Rattle.jsonb_doc.specs.Answer.{SameOption}
 use Rattle.jsonb_doc.specs.Private.Containers.{IsCut, Holds}
 use Rattle.jsonb_doc.specs.declared.container.ArrayParts.{ArrayParts}

@@ -4,7 +4,8 @@ use Rattle.std.proofs.Common.{◌≡◌, ℕ, ◌+◌, ◌*◌, ◌^◌, ◌<◌
 use Rattle.std.proofs.lemmas.List.{length-append}
 use Rattle.jsonb_doc.specs.Number.{Number}
 use Rattle.jsonb_doc.specs.Tree.{Tree, null, boolean, number, text, extension, array, object, Trees, no_trees, tree, Pairs, no_pairs, pair, count, keys}
-use Rattle.jsonb_doc.specs.Payload.{NumberReader, Form, any, canonical, number_reader, number_payload, number_of, number_or_unsupported}
+use Rattle.jsonb_doc.specs.Payload.{NumberReader, Form, any, canonical, number_reader, number_payload, number_of}
+use Rattle.jsonb_doc.specs.AnyBytes.Unsupported.{number_or_unsupported}
 use Rattle.std.specs.Str.{bytes_eq}
 use Rattle.jsonb_doc.proofs.WordLemmas.{bytes_eq-true, bytes_eq-same}
 use Rattle.jsonb_doc.specs.Format.{BeginWith, HasFirstEntry, IsContainer, AreMembers, array_header, object_header, scalar_header, IsDocument, IsContent, AreEntries, AreValues}

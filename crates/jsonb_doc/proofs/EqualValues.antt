@@ -3,8 +3,7 @@ use Rattle.std.proofs.Common.{◌≡◌, ℕ, zero, suc, ◌*◌, ◌^◌, ◌�
 use Rattle.std.specs.Ordering.{eq_by_cmp, is_eq, int_cmp, int_eq}
 use native.Mathlib.Nat.{one-le-pow}
 use Rattle.std.proofs.lemmas.Cmp.{tied_itself, alike_right}
-use Rattle.jsonb_doc.specs.Number.{Variant, int64, uint64, decimal64, number_cmp, number_from}
-use Rattle.jsonb_doc.specs.Number.{Number as Number'}
+use Rattle.jsonb_doc.specs.Number.{Variant, int64, uint64, decimal64, number_cmp, number_from, Number as Number'}
 use Rattle.jsonb_doc.specs.Proofs.NumberOrder.{number_cmp_total, int_cmp_scaled}
 use Rattle.jsonb_doc.specs.Private.Short.{short_value, short_parts}
 use Rattle.jsonb_doc.specs.View.{number_parts, number_view}

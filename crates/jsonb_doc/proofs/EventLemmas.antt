@@ -13,9 +13,9 @@ use Rattle.jsonb_doc.specs.Payload.{Form}
 use Rattle.jsonb_doc.specs.Format.{Decodes}
 use Rattle.jsonb_doc.specs.Limits.{content_size, IsTooLarge}
 use Rattle.jsonb_doc.specs.ObjectBuilder.{has_key, insert_pair}
-use Rattle.jsonb_doc.specs.Pieces.{bytes_at}
+use Rattle.jsonb_doc.specs.Representation.Pieces.{bytes_at}
 use Rattle.jsonb_doc.specs.Events.{Level, root, array_of, object_of, takes_value, filled, so_far}
-use Rattle.jsonb_doc.specs.DocumentBuilder.{IsPieceOf, IsEntryOf, AreMembersOf, AreSortedTexts, HoldsLevel, HoldsOuter}
+use Rattle.jsonb_doc.specs.Representation.DocumentBuilder.{IsPieceOf, IsEntryOf, AreMembersOf, AreSortedTexts, HoldsLevel, HoldsOuter}
 use Rattle.jsonb_doc.specs.declared.pieces.Piece.{Piece}
 use Rattle.jsonb_doc.specs.declared.piece_entry.PieceEntry.{PieceEntry}
 use Rattle.jsonb_doc.specs.declared.document_builder.frame.Frame.{Frame}

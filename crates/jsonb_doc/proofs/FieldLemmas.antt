@@ -8,10 +8,9 @@ use Rattle.std.specs.Prelude.{slice_range}
 use Rattle.jsonb_doc.specs.Tree.{Tree, object, Pairs, no_pairs, pair, keys, value_under, field_of}
 use Rattle.jsonb_doc.specs.Payload.{NumberReader, Form, any, number_reader}
 use Rattle.jsonb_doc.specs.Format.{Decodes, header, entry_word, BeginWith, AreValues, IsContent, key_words, key_bytes}
-use Rattle.jsonb_doc.specs.Private.Lengths.{StandBefore}
-use Rattle.jsonb_doc.specs.Private.Lengths.{HoldKeys, IsNoneOf, FoundKey, KeysLeft}
+use Rattle.jsonb_doc.specs.Private.Lengths.{StandBefore, HoldKeys, IsNoneOf, FoundKey, KeysLeft}
 use Rattle.jsonb_doc.specs.Answer.{SameOption}
-use Rattle.jsonb_doc.specs.Spots.{Locates, spot_content}
+use Rattle.jsonb_doc.specs.Representation.Positions.{Locates, spot_content}
 use Rattle.jsonb_doc.specs.Kinds.{kind_number}
 use Rattle.jsonb_doc.specs.declared.spot.Spot.{Spot}
 use Rattle.jsonb_doc.proofs.WordLemmas.{bytes_eq-true, bytes_eq-same}

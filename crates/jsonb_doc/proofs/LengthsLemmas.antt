@@ -10,8 +10,7 @@ use Rattle.std.specs.Int.{w32, from_be_bytes}
 use Rattle.std.proofs.lemmas.Nat.{from_be_bytes-to_be_bytes_4}
 use Rattle.std.specs.Simd.{first_chunks}
 use Rattle.jsonb_doc.specs.Format.{BeginWith, AreKeys, key_words, key_bytes}
-use Rattle.jsonb_doc.specs.Private.Lengths.{StandBefore}
-use Rattle.jsonb_doc.specs.Private.Lengths.{HoldKeys}
+use Rattle.jsonb_doc.specs.Private.Lengths.{StandBefore, HoldKeys}
 use Rattle.jsonb_doc.proofs.Entries.{BeginWith-long}
 use Rattle.jsonb_doc.proofs.KeysRead.{begin_key}
 

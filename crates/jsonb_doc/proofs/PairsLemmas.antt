@@ -4,9 +4,8 @@ use Rattle.std.specs.Prelude.{IsUtf8}
 use Rattle.jsonb_doc.specs.Tree.{Tree, object, Pairs, no_pairs, pair, keys, values, pairs_in}
 use Rattle.jsonb_doc.specs.Payload.{NumberReader, Form, number_reader}
 use Rattle.jsonb_doc.specs.Format.{Decodes, AreValues, AreKeys, key_words, key_bytes, BeginWith, HasFirstEntry, IsContent}
-use Rattle.jsonb_doc.specs.ObjectPairs.{HasPairsLeft}
-use Rattle.jsonb_doc.specs.ObjectKeys.{HasKeysLeft, HasAllValues}
-use Rattle.jsonb_doc.specs.Elements.{HasElementsLeft}
+use Rattle.jsonb_doc.specs.Representation.Iterators.{HasPairsLeft, HasKeysLeft, HasElementsLeft}
+use Rattle.jsonb_doc.specs.AnyBytes.Iterators.{HasAllValues}
 use Rattle.jsonb_doc.specs.Answer.{SameOption}
 use Rattle.jsonb_doc.specs.declared.key_iter.KeyIter.{KeyIter}
 use Rattle.jsonb_doc.specs.declared.value_iter.ValueIter.{ValueIter}

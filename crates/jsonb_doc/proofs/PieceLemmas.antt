@@ -6,7 +6,7 @@ use Rattle.std.proofs.lemmas.List.Elements.{All-nil, All-cons}
 use Rattle.std.proofs.Math.Nat.{add-zero, zero-add}
 use Rattle.std.proofs.lemmas.Bool.{ltb-true, ltb-false}
 use Rattle.std.proofs.lemmas.List.{append-nil, length-append, get_or_append_left, get_or_push, get_or_past}
-use Rattle.jsonb_doc.specs.Pieces.{Heads, heads_at, stacked, piece_heads, heads_after, all_heads, joined, bytes_at}
+use Rattle.jsonb_doc.specs.Representation.Pieces.{Heads, heads_at, stacked, piece_heads, heads_after, all_heads, joined, bytes_at}
 use Rattle.jsonb_doc.specs.Private.Earlier.{earlier}
 use Rattle.jsonb_doc.specs.declared.pieces.Piece.{Piece}
 

@@ -3,15 +3,14 @@ use Rattle.std.proofs.Common.{◌≡◌, ◌≢◌, ℕ, List, [], ◌++◌, len
 use Rattle.std.specs.Prelude.{MatchResult, IfOk}
 use Rattle.std.proofs.lemmas.List.{length-append, append-nil}
 use Rattle.jsonb_doc.specs.Payload.{any, number_reader}
-use Rattle.jsonb_doc.specs.Format.{HeadedBy, HasItsWords, entry_word}
-use Rattle.jsonb_doc.specs.Item.{IsItemOf, IsRootOf}
+use Rattle.jsonb_doc.specs.Format.{HeadedBy, entry_word, IsContent, Decodes, IsContainer, HasFirstEntry, AreNone}
+use Rattle.jsonb_doc.specs.AnyBytes.Parts.{HasItsWords}
+use Rattle.jsonb_doc.specs.AnyBytes.Items.{IsItemOf, IsRootOf}
 use Rattle.jsonb_doc.specs.Tree.{Tree}
-use Rattle.jsonb_doc.specs.Format.{IsContent, Decodes, IsContainer, HasFirstEntry, AreNone}
 use Rattle.jsonb_doc.specs.Private.ShapeOf.{IsShapeOf}
-use Rattle.jsonb_doc.specs.Shapes.{IsRootShape}
+use Rattle.jsonb_doc.specs.AnyBytes.Roots.{IsRootShape, HasReadableRoot}
 use Rattle.jsonb_doc.specs.declared.shape.Shape.{Shape}
 use Rattle.jsonb_doc.specs.declared.shape.Shape.TheVariants as shapes
-use Rattle.jsonb_doc.specs.Readable.{HasReadableRoot}
 use Rattle.jsonb_doc.specs.Private.Containers.{IsCut}
 use Rattle.jsonb_doc.specs.Kinds.{kind_number}
 use Rattle.jsonb_doc.specs.Private.Headers.{header_number}

@@ -4,8 +4,9 @@ use Rattle.std.specs.Prelude.{IsUtf8, MatchResult, IsOk, IsErrOf}
 use Rattle.jsonb_doc.specs.Number as spec
 use Rattle.jsonb_doc.specs.Extension.{Extension}
 use Rattle.jsonb_doc.specs.Tree.{Tree, null, boolean, number, text, extension, array, object}
-use Rattle.jsonb_doc.specs.Payload.{NumberReader, any, number_of, number_or_unsupported, is_unsupported, extension_of}
-use Rattle.jsonb_doc.specs.Format.{IsContent, Decodes, WouldDecode}
+use Rattle.jsonb_doc.specs.Payload.{NumberReader, any, number_of, extension_of}
+use Rattle.jsonb_doc.specs.AnyBytes.Unsupported.{number_or_unsupported, is_unsupported, WouldDecode}
+use Rattle.jsonb_doc.specs.Format.{IsContent, Decodes}
 use Rattle.jsonb_doc.specs.Private.Checking.{HasContent, HasDocument, IsValidationError, Validates}
 use Rattle.jsonb_doc.specs.Private.Payloads.{IsNoNumber}
 use Rattle.jsonb_doc.specs.declared.error.Error.{Error}

@@ -4,7 +4,7 @@ use Rattle.jsonb_doc.specs.Tree.{Tree, array, object, elements, values, children
 use Rattle.jsonb_doc.specs.Payload.{any, number_reader}
 use Rattle.jsonb_doc.specs.Answer.{SameOption}
 use Rattle.jsonb_doc.specs.Private.Containers.{IsCut, Holds}
-use Rattle.jsonb_doc.specs.Spots.{Locates, HasSpotsLeft, spot_content}
+use Rattle.jsonb_doc.specs.Representation.Positions.{Locates, spot_content, HasSpotsLeft}
 use Rattle.jsonb_doc.specs.Kinds.{kind_number}
 use Rattle.jsonb_doc.specs.declared.spot.Spot.{Spot}
 use Rattle.jsonb_doc.specs.declared.spot_iter.SpotIter.{SpotIter}

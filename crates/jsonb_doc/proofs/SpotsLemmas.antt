@@ -10,7 +10,9 @@ use Rattle.jsonb_doc.specs.Format.{Decodes, header, entry_word, BeginWith, IsCon
 use Rattle.jsonb_doc.specs.Answer.{SameOption}
 use Rattle.jsonb_doc.specs.Private.Lengths.{StandBefore}
 use Rattle.jsonb_doc.specs.Private.Containers.{StartWith, IsCut, Holds}
-use Rattle.jsonb_doc.specs.Spots.{Locates, HasSpotsLeft, TakesSpot, PassesSpot, spot_content}
+use Rattle.jsonb_doc.specs.Spots.{TakesSpot}
+use Rattle.jsonb_doc.specs.Representation.Positions.{Locates, spot_content, HasSpotsLeft}
+use Rattle.jsonb_doc.specs.AnyBytes.Spots.{PassesSpot}
 use Rattle.jsonb_doc.specs.Kinds.{kind_number}
 use Rattle.jsonb_doc.specs.declared.spot.Spot.{Spot}
 use Rattle.jsonb_doc.specs.declared.spot_iter.SpotIter.{SpotIter}

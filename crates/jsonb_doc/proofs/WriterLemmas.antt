@@ -5,7 +5,8 @@ use Rattle.std.specs.Map.{keys_of, values_of}
 use Rattle.std.proofs.lemmas.List.{length-append, take_at, drop_at, take_all, length-take, length-drop, take-append-drop}
 use Rattle.jsonb_doc.specs.Tree.{Tree, text, count, keys, values, trees_of, pairs_of, tree, no_trees}
 use Rattle.jsonb_doc.specs.Payload.{NumberReader, Form, number_reader}
-use Rattle.jsonb_doc.specs.Format.{Decodes, IsContent, AreEntries, AreValues, AreKeys, entry_word, header, container_entry, key_words, key_bytes}
+use Rattle.jsonb_doc.specs.Format.{Decodes, IsContent, AreEntries, AreValues, AreKeys, entry_word, header, key_words, key_bytes}
+use Rattle.jsonb_doc.specs.Private.EntryKinds.{container_entry}
 use Rattle.jsonb_doc.specs.Private.Headers.{header_number}
 use Rattle.jsonb_doc.specs.declared.layout.HeaderKind.{HeaderKind}
 use Rattle.jsonb_doc.specs.declared.layout.HeaderKind.TheVariants.{Scalar, Object, Array}

@@ -5,7 +5,8 @@ use Rattle.jsonb_doc.specs.Tree.{Tree, text, trees_of, pairs_of}
 use Rattle.jsonb_doc.specs.Payload.{Form, any, canonical, number_reader}
 use Rattle.jsonb_doc.specs.Format.{IsContent}
 use Rattle.jsonb_doc.specs.Limits.{IsShort, HasShortParts, HasShortElements, HasShortValues, AreShortKeys, IsTooLarge, IsWithinLimits}
-use Rattle.jsonb_doc.specs.Answer.{IsOutOfMemory, IsOutOfMemoryOrTooLarge, ◌or◌when◌}
+use Rattle.jsonb_doc.specs.Answer.{IsOutOfMemory, ◌or◌when◌}
+use Rattle.jsonb_doc.specs.Private.Errors.{IsOutOfMemoryOrTooLarge}
 use Rattle.jsonb_doc.specs.declared.error.Error.{Error}
 use Rattle.jsonb_doc.specs.declared.error.Error.TheVariants.{TooLarge}
 use Rattle.jsonb_doc.specs.declared.layout.HeaderKind.{HeaderKind}

@@ -4,10 +4,7 @@
 -- one of the errors. `Refines` is for functions whose meaning may itself be an error.
 use Rattle.std.specs.Prelude.{◌≡◌, ◌⊎◌, List, [], ◌∷◌, ◌++◌, Option, Some, None, Result, Ok, Err, IfOk, IfErr, IsOkAnd, ⊤}
 use Rattle.jsonb_doc.specs.declared.error.Error.{Error}
-use Rattle.jsonb_doc.specs.declared.error.Error.TheVariants.{InvalidJsonb, UnsupportedNumber, OutOfMemory, TooLarge}
-use Rattle.jsonb_doc.specs.Tree.{Tree}
-use Rattle.jsonb_doc.specs.Payload.{Form}
-use Rattle.jsonb_doc.specs.Limits.{IsTooLarge}
+use Rattle.jsonb_doc.specs.declared.error.Error.TheVariants.{InvalidJsonb, UnsupportedNumber, OutOfMemory}
 
 -- ---- sets of errors
 
@@ -29,10 +26,6 @@ abbrev pub ◌or◌ : (Error → Type 0) → Error → Error → Type 0
 infixl 5 ◌or◌when◌
 abbrev pub ◌or◌when◌ : (Error → Type 0) → Error → Type 0 → Error → Type 0
 (Refusals or refusal when Fact) e = Refusals e ⊎ ((e ≡ refusal) × Fact)
-
--- Holds if an allocation failed, or the error is `TooLarge` and documents of the tree exceed the limits.
-abbrev pub IsOutOfMemoryOrTooLarge : Form → Tree → Error → Type 0
-IsOutOfMemoryOrTooLarge form t e = (e ≡ OutOfMemory) ⊎ ((e ≡ TooLarge) × IsTooLarge form t)
 
 -- ---- meanings that may be errors
 

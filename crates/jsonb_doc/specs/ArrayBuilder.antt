@@ -1,8 +1,10 @@
 -- What an array's builder holds.
 use Rattle.std.specs.Prelude.{ℕ, ◌+◌, ◌/◌, ◌^◌, ◌≤◌, ◌⊎◌, List, [], ◌∷◌, ◌++◌, length, Result, MatchResult}
 use Rattle.jsonb_doc.specs.declared.error.Error.{Error}
+use Rattle.jsonb_doc.specs.declared.error.Error.TheVariants.{TooLarge}
 use Rattle.jsonb_doc.specs.Tree.{Tree, array, trees_of}
-use Rattle.jsonb_doc.specs.Answer.{IsOutOfMemoryOrTooLarge}
+use Rattle.jsonb_doc.specs.Answer.{IsOutOfMemory, ◌or◌when◌}
+use Rattle.jsonb_doc.specs.Limits.{IsTooLarge}
 use Rattle.jsonb_doc.specs.Payload.{Form, number_reader}
 use Rattle.jsonb_doc.specs.Format.{AreEntries}
 use Rattle.jsonb_doc.specs.Encoding.{IsTooLong, item_word, item_content}
@@ -33,7 +35,7 @@ HoldsElements form parts ts = AreEntries (number_reader form) (trees_of ts) part
 abbrev pub PushesElement : Form → List Tree → Tree → Result (Unit {0}) Error → Parts → Type 0
 PushesElement form ts t answer after =
     MatchResult answer (λ _. HoldsElements form after (ts ++ t ∷ []))
-    (IsOutOfMemoryOrTooLarge form (array (trees_of (ts ++ t ∷ []))))
+    (IsOutOfMemory or TooLarge when IsTooLarge form (array (trees_of (ts ++ t ∷ []))))
 
 -- Holds if one more entry for the item exceeds the limits.
 abbrev pub IsTooLargeElement : Parts → Item → Type 0

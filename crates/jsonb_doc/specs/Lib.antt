@@ -9,7 +9,6 @@ pub mod Depth
 pub mod Payload
 pub mod Format
 pub mod Kinds
-pub mod Shapes
 pub mod View
 pub mod Item
 pub mod Encoding
@@ -27,10 +26,10 @@ pub mod Spots
 pub mod ChildPositions
 pub mod Value
 pub mod Equal
+pub mod AnyBytes
+pub mod Representation
 pub mod Private
 pub mod Proofs
-pub mod Readable
-pub mod Pieces
 pub mod Events
 pub mod EventErrorText
 pub mod DocumentBuilder

@@ -5,8 +5,10 @@ use Rattle.std.specs.Ordering.{nat_cmp, match_ordering}
 use Rattle.std.specs.Cmp.Lexicographic.{slice_cmp}
 use Rattle.std.specs.Str.{bytes_eq}
 use Rattle.jsonb_doc.specs.declared.error.Error.{Error}
+use Rattle.jsonb_doc.specs.declared.error.Error.TheVariants.{TooLarge}
 use Rattle.jsonb_doc.specs.Tree.{Tree, object, pairs_of}
-use Rattle.jsonb_doc.specs.Answer.{IsOutOfMemoryOrTooLarge}
+use Rattle.jsonb_doc.specs.Answer.{IsOutOfMemory, ◌or◌when◌}
+use Rattle.jsonb_doc.specs.Limits.{IsTooLarge}
 use Rattle.jsonb_doc.specs.Payload.{Form, number_reader}
 use Rattle.jsonb_doc.specs.Format.{IsContent}
 use Rattle.jsonb_doc.specs.Encoding.{EntryParts, IsTooLong, item_content}
@@ -37,7 +39,7 @@ abbrev pub PushesPair :
     Form → List (List ℕ × Tree) → List ℕ → Tree → Result (Unit {0}) Error → List (List ℕ × EntryParts) → Type 0
 PushesPair form ps key t answer after =
     MatchResult answer (λ _. HoldsPairs form after (insert_pair key t ps))
-    (IsOutOfMemoryOrTooLarge form (object (pairs_of (insert_pair key t ps))))
+    (IsOutOfMemory or TooLarge when IsTooLarge form (object (pairs_of (insert_pair key t ps))))
 
 -- Holds if one more member of the key and the item exceeds the limits.
 abbrev pub IsTooLargePair : List (List ℕ × EntryParts) → List ℕ → Item → Type 0

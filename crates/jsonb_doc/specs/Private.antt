@@ -25,3 +25,5 @@ pub mod Closing
 pub mod StoredValue
 pub mod ShapeOf
 pub mod Earlier
+pub mod EntryKinds
+pub mod Errors

@@ -1,48 +1,11 @@
--- Positions of trees within the bytes of a document.
-use Rattle.std.specs.Prelude.{◌≡◌, ℕ, ◌-◌, ◌^◌, ◌<◌, ◌≤◌, List, [], ◌∷◌, ◌++◌, length, slice_range, Option, Some, None, Result, Ok, Err, IfSome, IfNone, IfOk, IfErr}
-use Rattle.jsonb_doc.specs.Tree.{Tree, trees_of}
-use Rattle.jsonb_doc.specs.Payload.{Form, any, number_reader}
-use Rattle.jsonb_doc.specs.Format.{Decodes, IsContent, AreEntries, entry_word, words_left}
-use Rattle.jsonb_doc.specs.Kinds.{kind_number}
-use Rattle.jsonb_doc.specs.Answer.{IsDecodingError}
+-- The iterator over the spots of children.
+use Rattle.std.specs.Prelude.{ℕ, List, [], ◌∷◌, Option, Some, None, Result, Ok}
+use Rattle.jsonb_doc.specs.Tree.{Tree}
 use Rattle.jsonb_doc.specs.declared.error.Error.{Error}
 use Rattle.jsonb_doc.specs.declared.spot.Spot.{Spot}
 use Rattle.jsonb_doc.specs.declared.spot_iter.SpotIter.{SpotIter}
-
--- The length of the content of a spot, in bytes.
-abbrev pub spot_size : Spot → ℕ
-spot_size spot = spot.end - spot.start
-
--- The content of a spot within these bytes.
-abbrev pub spot_content : List ℕ → Spot → List ℕ
-spot_content bytes spot = slice_range bytes spot.start spot.end
-
--- Holds if the spot is a position of the tree in bytes that decode, in each form in which they do.
-pub record Locates (bytes : List ℕ) (spot : Spot) (t : Tree) : Type 0 where
-  pub whole : Tree
-  pub decodes : Decodes any bytes whole
-  pub ordered : spot.start ≤ spot.end
-  pub within : spot.end ≤ length bytes
-  pub content : (form : Form) (top : Tree) → Decodes form bytes top
-      → IsContent (number_reader form) t (kind_number spot.kind) (spot_content bytes spot)
-
--- Holds if these trees are left in the iterator, for spots of these bytes.
-pub record HasSpotsLeft (bytes : List ℕ) (it : SpotIter) (ts : List Tree) : Type 0 where
-  pub whole : Tree
-  pub decodes : Decodes any bytes whole
-  pub few : length ts < 2 ^ 29
-  pub ordered : it.start ≤ it.end
-  pub within : it.end ≤ length bytes
-  pub entries : (form : Form) (top : Tree) → Decodes form bytes top
-      → AreEntries (number_reader form) (trees_of ts) it.words.now (slice_range bytes it.start it.end)
-
--- An upper bound of the number of spots that the iterator yields, on any bytes.
-abbrev pub spots_bound : SpotIter → ℕ
-spots_bound it = words_left it.words.now
-
--- An upper bound of the length of a child, on any bytes.
-abbrev pub spots_room : SpotIter → ℕ
-spots_room it = it.end - it.start
+use Rattle.jsonb_doc.specs.AnyBytes.Spots.{NextSpot}
+use Rattle.jsonb_doc.specs.Representation.Positions.{HasSpotsLeft, Locates}
 
 -- Holds if the result is the spot of the first of the trees, and the others remain.
 abbrev pub TakesSpot : List ℕ → List Tree → Option (Result Spot Error) → SpotIter → Type 0
@@ -50,31 +13,7 @@ TakesSpot bytes [] None after = HasSpotsLeft bytes after []
 TakesSpot bytes (t ∷ ts) (Some (Ok spot)) after = Locates bytes spot t × HasSpotsLeft bytes after ts
 TakesSpot bytes _ _ after = ⊥
 
--- Holds if the first remaining word is that of the content at this spot, which is within the contents, and the others
--- remain.
-pub record PassesSpot (before : SpotIter) (spot : Spot) (after : SpotIter) : Type 0 where
-  pub word : before.words.now ≡ entry_word (kind_number spot.kind) (spot.end - spot.start) ++ after.words.now
-  pub fits : spot.end - spot.start < 2 ^ 28
-  pub front : spot.start ≡ before.start
-  pub ordered : spot.start ≤ spot.end
-  pub within : spot.end ≤ before.end
-  pub next : after.start ≡ spot.end
-  pub last : after.end ≡ before.end
-
--- Holds if the result is what is read, on any bytes. While words remain there is a result: the spot of the first, or an
--- error if it has none, after which nothing remains.
-abbrev pub ReadsSpot : SpotIter → Option (Result Spot Error) → SpotIter → Type 0
-ReadsSpot before None after = before.words.now ≡ []
-ReadsSpot before (Some (Ok spot)) after = PassesSpot before spot after
-ReadsSpot before (Some (Err e)) after =
-    ((spot : Spot) (rest : SpotIter) → PassesSpot before spot rest → ⊥) × (after.words.now ≡ [])
-
--- Holds if this is what a call of `next` does. On any bytes it yields a spot, an error or `None`, and after `None`
--- nothing more.
+-- Holds if this is what a call of `next` does.
 pub record GivesSpot (before : SpotIter) (r : Option (Result Spot Error)) (after : SpotIter) : Type 0 where
-  pub reads : ReadsSpot before r after
+  pub any_bytes : NextSpot before r after
   pub takes : (bytes : List ℕ) (ts : List Tree) → HasSpotsLeft bytes before ts → TakesSpot bytes ts r after
-  pub errors : IfSome r (λ x. IfErr x IsDecodingError)
-  pub ended : IfNone r (spots_bound after ≡ 0)
-  pub size : IfSome r (λ x. IfOk x (λ spot. spot_size spot ≤ spots_room before))
-  pub room : spots_room after ≤ spots_room before

@@ -1,5 +1,6 @@
 -- A JSON document as a mathematical value. A string is its UTF-8 bytes.
 use Rattle.std.specs.Prelude.{ℕ, suc, Bool, List, [], ◌∷◌, Option, Some, None, if◌then◌else◌}
+use Rattle.std.specs.Option.{option_and_then}
 use Rattle.std.specs.Str.{bytes_eq}
 use Rattle.jsonb_doc.specs.Number.{Number}
 use Rattle.jsonb_doc.specs.Extension.{Extension}
@@ -79,5 +80,4 @@ value_under name (pair key value ps) = if bytes_eq key name then Some value else
 
 -- The value of a key of an object.
 abbrev pub field_of : List ℕ → Tree → Option Tree
-field_of name (object ps) = value_under name ps
-field_of name _ = None
+field_of name t = option_and_then (value_under name) (pairs_in t)

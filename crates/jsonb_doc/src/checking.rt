@@ -2,8 +2,9 @@
 
 ghost use Rattle.std.specs.Prelude.{◌≡◌, ◌≢◌, ◌↔◌, IsOk, IsErrOf, ℕ, List, [], MatchOption, MatchResult, option_copied};
 ghost use Rattle.jsonb_doc.specs.Tree.{Tree};
-ghost use Rattle.jsonb_doc.specs.Payload.{any, number_or_unsupported};
-ghost use Rattle.jsonb_doc.specs.Format.{Decodes, IsUnsupportedDocument, IsNoDocument};
+ghost use Rattle.jsonb_doc.specs.Payload.{any};
+ghost use Rattle.jsonb_doc.specs.AnyBytes.Unsupported.{number_or_unsupported, IsUnsupportedDocument, IsNoDocument};
+ghost use Rattle.jsonb_doc.specs.Format.{Decodes};
 ghost use Rattle.jsonb_doc.specs.Kinds.{kind_number};
 ghost use Rattle.jsonb_doc.specs.Private.Checking.{Validates, HasContent, HasEntries, HasDocument, HasKeys, IsNextKey, HasParts, HasLarge, IsNoLonger, ReducesTo};
 

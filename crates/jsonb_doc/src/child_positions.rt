@@ -5,8 +5,8 @@ ghost use Rattle.jsonb_doc.specs.Tree.{Tree};
 ghost use Rattle.jsonb_doc.specs.Payload.{any};
 ghost use Rattle.jsonb_doc.specs.Format.{Decodes};
 ghost use Rattle.jsonb_doc.specs.Answer.{IsDecodingError};
-ghost use Rattle.jsonb_doc.specs.Spots.{Locates};
-ghost use Rattle.jsonb_doc.specs.ChildPositions.{AreAt, HasChildrenLeft, OpensChildren, TakesChild};
+ghost use Rattle.jsonb_doc.specs.Representation.Positions.{Locates, AreAt, HasChildrenLeft};
+ghost use Rattle.jsonb_doc.specs.ChildPositions.{OpensChildren, TakesChild};
 ghost use Rattle.jsonb_doc.specs.Private.Containers.{IsCut};
 ghost use Rattle.jsonb_doc.specs.declared.container.Container.TheVariants.{Array, Object};
 

@@ -8,7 +8,8 @@ ghost use Rattle.jsonb_doc.specs.Format.{Decodes};
 ghost use Rattle.jsonb_doc.specs.Item.{StandsFor};
 ghost use Rattle.jsonb_doc.specs.Answer.{IsDecodingError};
 ghost use Rattle.jsonb_doc.specs.Events.{Level, State, no_events, next, array_begins, object_begins, key_is, value_is, ends, whole, within};
-ghost use Rattle.jsonb_doc.specs.DocumentBuilder.{Holds, HoldsLevel, Takes};
+ghost use Rattle.jsonb_doc.specs.DocumentBuilder.{Takes};
+ghost use Rattle.jsonb_doc.specs.Representation.DocumentBuilder.{Holds, HoldsLevel};
 ghost use Rattle.jsonb_doc.specs.declared.error.Error.TheVariants.{OutOfMemory};
 ghost use Rattle.jsonb_doc.specs.declared.event_error.EventError.TheVariants.{OutOfOrder, Failed};
 

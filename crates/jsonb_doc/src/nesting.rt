@@ -3,7 +3,8 @@
 ghost use Rattle.std.specs.Prelude.{◌≡◌, ◌↔◌, ◌≤◌, ◌<◌, ◌+◌, IsOk, IsErrOf, IfSome, length, option_copied, MatchOption, Ok};
 ghost use Rattle.jsonb_doc.specs.Tree.{Tree, Trees, no_trees};
 ghost use Rattle.jsonb_doc.specs.Payload.{Form, any, number_reader};
-ghost use Rattle.jsonb_doc.specs.Format.{AreEntries, Decodes, IsUnsupportedDocument, IsNoDocument};
+ghost use Rattle.jsonb_doc.specs.Format.{AreEntries, Decodes};
+ghost use Rattle.jsonb_doc.specs.AnyBytes.Unsupported.{IsUnsupportedDocument, IsNoDocument};
 ghost use Rattle.jsonb_doc.specs.Depth.{deepest};
 ghost use Rattle.jsonb_doc.specs.Private.Checking.{IsNoLonger};
 ghost use Rattle.jsonb_doc.specs.Private.Depths.{parts_of, AreDeep};

@@ -1,7 +1,7 @@
 //! Bytes in pieces that refer to earlier ones, so that bytes are put before others without moving them.
 
 ghost use Rattle.std.specs.Prelude.{◌≡◌, ◌++◌, OnOk, IfOk};
-ghost use Rattle.jsonb_doc.specs.Pieces.{bytes_at};
+ghost use Rattle.jsonb_doc.specs.Representation.Pieces.{bytes_at};
 ghost use Rattle.jsonb_doc.specs.Private.Earlier.{earlier};
 
 use std::alloc::{AllocError, Global};

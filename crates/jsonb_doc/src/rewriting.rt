@@ -6,7 +6,8 @@ ghost use Rattle.std.specs.Prelude.{◌≡◌, ℕ, ◌+◌, ◌^◌, ◌<◌, �
 ghost use Rattle.jsonb_doc.specs.Tree.{Tree};
 ghost use Rattle.jsonb_doc.specs.Payload.{Form};
 ghost use Rattle.jsonb_doc.specs.Format.{Decodes};
-ghost use Rattle.jsonb_doc.specs.Answer.{IsOutOfMemory, IsOutOfMemoryOrTooLarge, ◌or◌, ◌or◌when◌};
+ghost use Rattle.jsonb_doc.specs.Answer.{IsOutOfMemory, ◌or◌, ◌or◌when◌};
+ghost use Rattle.jsonb_doc.specs.Private.Errors.{IsOutOfMemoryOrTooLarge};
 ghost use Rattle.jsonb_doc.specs.declared.error.Error.TheVariants.{TooLarge};
 ghost use Rattle.jsonb_doc.specs.Private.Cursor.{RunsHold, words_of_runs, contents_of_runs};
 ghost use Rattle.jsonb_doc.specs.Private.Writer.{Make, IsOpen, ExceedsLimits, head_size};
@@ -43,7 +44,8 @@ impl Writer {
     ghost use Rattle.jsonb_doc.specs.Payload.{Form, number_reader};
     ghost use Rattle.jsonb_doc.specs.Format.{Decodes, IsContent};
     ghost use Rattle.jsonb_doc.specs.Kinds.{kind_number};
-    ghost use Rattle.jsonb_doc.specs.Answer.{IsOutOfMemory, IsOutOfMemoryOrTooLarge, IsDecodingError, ◌or◌};
+    ghost use Rattle.jsonb_doc.specs.Answer.{IsOutOfMemory, IsDecodingError, ◌or◌};
+    ghost use Rattle.jsonb_doc.specs.Private.Errors.{IsOutOfMemoryOrTooLarge};
     ghost use Rattle.jsonb_doc.specs.declared.error.Error.TheVariants.{TooLarge};
     ghost use Rattle.jsonb_doc.specs.Private.Cursor.{HoldTrees};
     ghost use Rattle.jsonb_doc.specs.Private.Writer.{Make, Around, IsWriting, Rooms, HasRoom, head_size};

@@ -5,7 +5,7 @@ ghost use Rattle.jsonb_doc.specs.Tree.{Tree};
 ghost use Rattle.jsonb_doc.specs.Payload.{Form, number_reader};
 ghost use Rattle.jsonb_doc.specs.Format.{Decodes, IsContent};
 ghost use Rattle.jsonb_doc.specs.Kinds.{kind_number};
-ghost use Rattle.jsonb_doc.specs.Shapes.{HasShape, IsRootShape};
+ghost use Rattle.jsonb_doc.specs.AnyBytes.Roots.{HasShape, IsRootShape};
 ghost use Rattle.jsonb_doc.specs.Private.ShapeOf.{IsShapeOf};
 ghost use Rattle.jsonb_doc.specs.declared.shape.Shape.{Shape};
 ghost use Rattle.jsonb_doc.specs.Answer.{IsDecodingError};

@@ -5,11 +5,13 @@ ghost use Rattle.jsonb_doc.specs.Tree.{Tree, number, children_of, field_of};
 ghost use Rattle.jsonb_doc.specs.Payload.{Form, any, number_reader};
 ghost use Rattle.jsonb_doc.specs.Format.{Decodes, IsContent, HeadedBy};
 ghost use Rattle.jsonb_doc.specs.Kinds.{kind_number};
-ghost use Rattle.jsonb_doc.specs.Item.{StandsFor, IsNormal, item_size};
+ghost use Rattle.jsonb_doc.specs.Item.{StandsFor, IsNormal};
+ghost use Rattle.jsonb_doc.specs.AnyBytes.Items.{item_size};
 ghost use Rattle.jsonb_doc.specs.Answer.{SameOption, IsDecodingError};
-ghost use Rattle.jsonb_doc.specs.Readable.{HasReadableRoot};
+ghost use Rattle.jsonb_doc.specs.AnyBytes.Roots.{HasReadableRoot};
 ghost use Rattle.jsonb_doc.specs.Private.Short.{short_value};
-ghost use Rattle.jsonb_doc.specs.Spots.{Locates, HasSpotsLeft, spot_size, spot_content, spots_bound, spots_room};
+ghost use Rattle.jsonb_doc.specs.Representation.Positions.{Locates, spot_content, HasSpotsLeft};
+ghost use Rattle.jsonb_doc.specs.AnyBytes.Spots.{spot_size, spots_bound, spots_room};
 
 use crate::container::{Container, read_container};
 use crate::entry_iter::StoredEntry;

@@ -23,7 +23,7 @@ pub struct SpotIter<'a> {
 impl<'a> SpotIter<'a> {
     ghost use Rattle.std.specs.Prelude.{◌≡◌, ◌<◌, ℕ, List, length, drop, MatchOption};
     ghost use Rattle.jsonb_doc.specs.Tree.{Tree};
-    ghost use Rattle.jsonb_doc.specs.Spots.{HasSpotsLeft};
+    ghost use Rattle.jsonb_doc.specs.Representation.Positions.{HasSpotsLeft};
 
     pub(crate) fn new(words: &'a [u8], start: usize, end: usize) -> SpotIter<'a>
         ensures words { result.words.now ≡ words.now }
@@ -90,7 +90,8 @@ impl<'a> SpotIter<'a> {
 
 impl<'a> Iterator for SpotIter<'a> {
     ghost use Rattle.std.specs.Iterator.{at_most};
-    ghost use Rattle.jsonb_doc.specs.Spots.{GivesSpot, spots_bound};
+    ghost use Rattle.jsonb_doc.specs.Spots.{GivesSpot};
+    ghost use Rattle.jsonb_doc.specs.AnyBytes.Spots.{spots_bound};
 
     type Item = Result<Spot, Error>;
 

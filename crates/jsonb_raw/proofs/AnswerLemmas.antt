@@ -4,7 +4,8 @@ use Rattle.jsonb_doc.specs.declared.error.Error.{Error}
 use Rattle.jsonb_doc.specs.declared.error.Error.TheVariants.{OutOfMemory}
 use Rattle.jsonb_doc.specs.Tree.{Tree}
 use Rattle.jsonb_doc.specs.Payload.{Form}
-use Rattle.jsonb_doc.specs.Answer.{IsOutOfMemoryOrTooLarge, IsOutOfMemory}
+use Rattle.jsonb_doc.specs.Answer.{IsOutOfMemory}
+use Rattle.jsonb_doc.specs.Private.Errors.{IsOutOfMemoryOrTooLarge}
 use Rattle.jsonb_raw.specs.Documents.{MakesOption}
 
 pub answered : {A : Type 0} (P : A → Type 0) (r : Result A Error) → IsOkAnd r P → MatchResult r P IsOutOfMemory

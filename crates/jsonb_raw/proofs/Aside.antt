@@ -4,7 +4,8 @@ use Rattle.std.specs.Prelude.{is_some, IfOk}
 use Rattle.jsonb_doc.specs.Tree.{Tree, Trees, no_trees, tree}
 use Rattle.jsonb_doc.specs.Equal.{are_equal}
 use Rattle.jsonb_doc.specs.Payload.{Form}
-use Rattle.jsonb_doc.specs.Item.{StandsFor, item_size}
+use Rattle.jsonb_doc.specs.Item.{StandsFor}
+use Rattle.jsonb_doc.specs.AnyBytes.Items.{item_size}
 use Rattle.jsonb_doc.specs.Private.Stored.{Stores, GivesEntry, TakesEntry}
 use Rattle.jsonb_doc.specs.declared.error.Error.{Error}
 use Rattle.jsonb_doc.specs.declared.item.Item.{Item}

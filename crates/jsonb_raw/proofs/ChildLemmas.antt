@@ -4,7 +4,8 @@ use Rattle.std.specs.Prelude.{option_and_then}
 use Rattle.std.proofs.lemmas.Bool.Decides.{nat_tests}
 use Rattle.jsonb_doc.specs.Tree.{Tree}
 use Rattle.jsonb_doc.specs.Answer.{SameOption}
-use Rattle.jsonb_doc.specs.Spots.{Locates, HasSpotsLeft, TakesSpot}
+use Rattle.jsonb_doc.specs.Spots.{TakesSpot}
+use Rattle.jsonb_doc.specs.Representation.Positions.{Locates, HasSpotsLeft}
 use Rattle.jsonb_doc.specs.declared.error.Error.{Error}
 use Rattle.jsonb_doc.specs.declared.spot.Spot.{Spot}
 use Rattle.jsonb_doc.specs.declared.spot_iter.SpotIter.{SpotIter}

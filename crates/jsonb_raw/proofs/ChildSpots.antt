@@ -4,7 +4,7 @@ use Rattle.std.specs.Map.{keys_of, values_of}
 use Rattle.std.specs.Option.{option_or}
 use Rattle.jsonb_doc.specs.Tree.{Tree, Trees, array, elements, trees_in, object, Pairs, members, field_of}
 use Rattle.jsonb_doc.specs.Answer.{SameOption}
-use Rattle.jsonb_doc.specs.Spots.{HasSpotsLeft}
+use Rattle.jsonb_doc.specs.Representation.Positions.{HasSpotsLeft}
 use Rattle.jsonb_doc.specs.declared.spot_iter.SpotIter.{SpotIter}
 use Rattle.jsonb_raw.specs.Places.{children}
 use Rattle.jsonb_raw.specs.Children.{element_at, named_child}

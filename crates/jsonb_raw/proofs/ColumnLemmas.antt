@@ -11,7 +11,7 @@ use Rattle.jsonb_doc.specs.Depth.{deepest}
 use Rattle.jsonb_doc.specs.Answer.{SameOption}
 use Rattle.jsonb_doc.specs.declared.error.Error.{Error}
 use Rattle.jsonb_raw.specs.Documents.{raw_bytes}
-use Rattle.jsonb_raw.specs.KeyAnswer.{IsOutOfMemoryOrTooDeep}
+use Rattle.jsonb_raw.specs.Private.KeyErrors.{IsOutOfMemoryOrTooDeep}
 use Rattle.jsonb_raw.specs.SortableKey.{depths}
 use Rattle.jsonb_raw.specs.CompositeKeys.{column_key, deepest_of_columns, AppendsColumn}
 use Rattle.jsonb_raw.specs.declared.raw.RawJsonb.{RawJsonb}

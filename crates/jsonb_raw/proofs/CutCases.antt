@@ -3,7 +3,8 @@ use Rattle.std.proofs.Common.{◌≡◌, ◌⊎◌, inl, inr, ℕ, ◌+◌, ◌*
 use Rattle.std.proofs.lemmas.Option.{slice_get_within}
 use Rattle.jsonb_doc.specs.Tree.{Tree, boolean, array, object, Trees, Pairs, elements, count, keys, values}
 use Rattle.jsonb_doc.specs.Payload.{NumberReader}
-use Rattle.jsonb_doc.specs.Format.{header, array_header, object_header, container_entry, HeadedBy, IsContainer, AreMembers, IsContent, AreEntries, AreValues}
+use Rattle.jsonb_doc.specs.Format.{header, array_header, object_header, HeadedBy, IsContainer, AreMembers, IsContent, AreEntries, AreValues}
+use Rattle.jsonb_doc.specs.Private.EntryKinds.{container_entry}
 use Rattle.jsonb_doc.specs.Encoding.{EntryParts}
 use Rattle.jsonb_doc.proofs.Containers.{HeadedBy-unique, count-values}
 use Rattle.jsonb_raw.specs.declared.functions.path.entry_range.EntryRange.{EntryRange}

@@ -4,7 +4,8 @@ use Rattle.std.proofs.lemmas.Cmp.{nat_list_cmp_total}
 use Rattle.std.proofs.lemmas.List.{length-append}
 use Rattle.jsonb_doc.specs.Tree.{Tree, array, object, Trees, Pairs, elements, count, keys, values}
 use Rattle.jsonb_doc.specs.Payload.{NumberReader}
-use Rattle.jsonb_doc.specs.Format.{header, array_header, object_header, container_entry, text_entry, entry_word, key_words, key_bytes, IsBelowFirst, AreKeys, IsContainer, AreMembers, AreEntries, AreValues}
+use Rattle.jsonb_doc.specs.Format.{header, array_header, object_header, entry_word, key_words, key_bytes, IsBelowFirst, AreKeys, IsContainer, AreMembers, AreEntries, AreValues}
+use Rattle.jsonb_doc.specs.Private.EntryKinds.{container_entry, text_entry}
 use Rattle.jsonb_doc.specs.Encoding.{EntryParts}
 use Rattle.jsonb_doc.specs.Private.ObjectBytes.{words_of_entries, contents_of_entries}
 use Rattle.jsonb_doc.proofs.Containers.{entries_of, count-values}

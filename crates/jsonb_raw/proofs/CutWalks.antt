@@ -8,7 +8,8 @@ use Rattle.jsonb_doc.specs.Tree.{Tree}
 use Rattle.jsonb_doc.specs.Payload.{NumberReader}
 use Rattle.jsonb_doc.specs.Answer.{IsOutOfMemory}
 use Rattle.jsonb_doc.specs.declared.error.Error.{Error}
-use Rattle.jsonb_doc.specs.Format.{container_entry, entry_word, IsContent}
+use Rattle.jsonb_doc.specs.Format.{entry_word, IsContent}
+use Rattle.jsonb_doc.specs.Private.EntryKinds.{container_entry}
 use Rattle.jsonb_raw.specs.declared.functions.path.entry_range.EntryRange.{EntryRange}
 use Rattle.jsonb_raw.specs.declared.functions.path.entry_range.ChildEntries.{ChildEntries}
 use Rattle.jsonb_raw.specs.Places.{children, tree_at}

@@ -4,8 +4,7 @@ use Rattle.std.specs.Prelude.{slice_range}
 use Rattle.std.proofs.lemmas.List.{length-append, take_at, drop_at}
 use Rattle.jsonb_doc.specs.Format.{entry_word}
 use Rattle.jsonb_doc.specs.Encoding.{EntryParts}
-use Rattle.jsonb_doc.specs.Private.ObjectBytes.{FitsEntry}
-use Rattle.jsonb_doc.specs.Private.ObjectBytes.{words_of_entries, contents_of_entries}
+use Rattle.jsonb_doc.specs.Private.ObjectBytes.{FitsEntry, words_of_entries, contents_of_entries}
 use Rattle.jsonb_raw.specs.Private.Cuts.{FitEntries, HoldEntries}
 use Rattle.jsonb_raw.proofs.EntryLists.{words-append, within-front, within-back, length-kept_words}
 use Rattle.jsonb_raw.proofs.CutLemmas.{slice_of}

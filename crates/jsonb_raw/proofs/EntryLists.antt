@@ -4,7 +4,8 @@ use Rattle.std.specs.Prelude.{⊤, option_map}
 use Rattle.std.specs.Option.{option_to_list}
 use Rattle.jsonb_doc.specs.Tree.{Tree, Trees, no_trees, tree, Pairs, no_pairs, pair, elements, count, keys, values, trees_of, members, pairs_of}
 use Rattle.jsonb_doc.specs.Payload.{NumberReader}
-use Rattle.jsonb_doc.specs.Format.{entry_word, text_entry, key_words, key_bytes, AreKeys, IsContent, AreEntries, AreValues}
+use Rattle.jsonb_doc.specs.Format.{entry_word, key_words, key_bytes, AreKeys, IsContent, AreEntries, AreValues}
+use Rattle.jsonb_doc.specs.Private.EntryKinds.{text_entry}
 use Rattle.jsonb_doc.specs.Encoding.{EntryParts}
 use Rattle.jsonb_doc.proofs.TreeLists.{trees_of-elements, pairs_of-members}
 use Rattle.jsonb_doc.specs.Private.Lengths.{StandBefore}

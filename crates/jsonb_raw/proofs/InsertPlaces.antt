@@ -12,7 +12,7 @@ use Rattle.jsonb_doc.specs.Tree.{Tree, object, Pairs, no_pairs, pair, keys, valu
 use Rattle.jsonb_doc.specs.Payload.{Form}
 use Rattle.jsonb_doc.specs.Format.{Decodes, IsBelowFirst, AreKeys}
 use Rattle.jsonb_doc.specs.ObjectBuilder.{insert_pair}
-use Rattle.jsonb_doc.specs.ObjectKeys.{HasKeysLeft}
+use Rattle.jsonb_doc.specs.Representation.Iterators.{HasKeysLeft}
 use Rattle.jsonb_doc.specs.declared.key_iter.KeyIter.{KeyIter}
 use Rattle.jsonb_doc.proofs.BuilderSteps.{keys_rise}
 use Rattle.jsonb_doc.proofs.LimitLemmas.{decoded_keys}

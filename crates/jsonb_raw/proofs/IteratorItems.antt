@@ -8,9 +8,10 @@ use Rattle.jsonb_doc.specs.declared.element_iter.ElementIter.{ElementIter}
 use Rattle.jsonb_doc.specs.Tree.{Tree, array, object, Trees, no_trees, tree, Pairs, no_pairs, pair}
 use Rattle.jsonb_doc.specs.Payload.{Form}
 use Rattle.jsonb_doc.specs.Item.{StandsFor}
-use Rattle.jsonb_doc.specs.Elements.{HasElementsLeft, TakesElement, GivesElement}
+use Rattle.jsonb_doc.specs.Elements.{TakesElement, GivesElement}
+use Rattle.jsonb_doc.specs.Representation.Iterators.{HasElementsLeft, HasPairsLeft}
 use Rattle.jsonb_doc.proofs.ElementsLemmas.{IsElementsOf}
-use Rattle.jsonb_doc.specs.ObjectPairs.{HasPairsLeft, TakesPair, GivesPair}
+use Rattle.jsonb_doc.specs.ObjectPairs.{TakesPair, GivesPair}
 use Rattle.jsonb_doc.proofs.PairsLemmas.{IsPairsOf}
 
 -- the elements that are left have the property Q

@@ -5,7 +5,7 @@ use Rattle.jsonb_doc.specs.Tree.{Tree, Trees, text, array, object, trees_of, pai
 use Rattle.jsonb_doc.specs.Payload.{Form, number_reader}
 use Rattle.jsonb_doc.specs.Format.{IsContent}
 use Rattle.jsonb_doc.specs.Limits.{IsShort, HasShortElements, IsTooLarge}
-use Rattle.jsonb_doc.specs.Answer.{IsOutOfMemoryOrTooLarge}
+use Rattle.jsonb_doc.specs.Private.Errors.{IsOutOfMemoryOrTooLarge}
 use Rattle.std.specs.List.{insert}
 use Rattle.jsonb_doc.specs.declared.error.Error.{Error}
 use Rattle.jsonb_doc.proofs.TreeLists.{trees_of-elements}

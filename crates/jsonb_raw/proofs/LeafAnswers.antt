@@ -8,7 +8,8 @@ use Rattle.jsonb_doc.specs.Tree.{Tree, number}
 use Rattle.jsonb_doc.specs.Number.{Number}
 use Rattle.jsonb_doc.specs.Payload.{Form, number_reader, number_of}
 use Rattle.jsonb_doc.specs.Format.{Decodes, IsContent}
-use Rattle.jsonb_doc.specs.Answer.{IsOutOfMemory, IsOutOfMemoryOrTooLarge}
+use Rattle.jsonb_doc.specs.Answer.{IsOutOfMemory}
+use Rattle.jsonb_doc.specs.Private.Errors.{IsOutOfMemoryOrTooLarge}
 use Rattle.jsonb_doc.specs.Value.{value_tree, value_parts}
 use Rattle.jsonb_keypath.specs.declared.key_path.KeyPaths.{KeyPaths}
 use Rattle.jsonb_keypath.specs.KeyPathGrammar.{Key}

@@ -10,7 +10,7 @@ use Rattle.jsonb_doc.specs.Private.Stored.{Stores}
 use Rattle.jsonb_doc.specs.Tree.{Tree, Trees, Pairs}
 use Rattle.jsonb_doc.specs.Depth.{deepest, deepest_of_trees, deepest_of_pairs}
 use Rattle.jsonb_raw.specs.SortableKey.{sortable_key, keys_of_trees, keys_of_pairs, item_bytes, text_bytes, depths}
-use Rattle.jsonb_raw.specs.KeyAnswer.{IsOutOfMemoryOrTooDeep}
+use Rattle.jsonb_raw.specs.Private.KeyErrors.{IsOutOfMemoryOrTooDeep}
 use Rattle.jsonb_raw.specs.declared.level.ChildCursor.{ChildCursor}
 use Rattle.jsonb_raw.specs.Private.Levels.{EntryPrefix, parts, parts_of_trees, parts_of_pairs, HasPartsLeft, TakesPart, IsKeyOf}
 use Rattle.jsonb_raw.specs.Private.KeyParts.{start, name_start, part_start}

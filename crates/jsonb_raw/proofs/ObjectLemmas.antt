@@ -5,10 +5,11 @@ use Rattle.std.specs.Map.{values_of}
 use Rattle.std.specs.List.{Any}
 use Rattle.jsonb_doc.specs.Tree.{Tree, object, Pairs, keys}
 use Rattle.jsonb_doc.specs.Payload.{Form}
-use Rattle.jsonb_doc.specs.Answer.{IsOutOfMemoryOrTooLarge}
+use Rattle.jsonb_doc.specs.Private.Errors.{IsOutOfMemoryOrTooLarge}
 use Rattle.jsonb_doc.specs.Limits.{IsTooLarge}
 use Rattle.jsonb_doc.specs.declared.error.Error.TheVariants.{OutOfMemory, TooLarge}
-use Rattle.jsonb_doc.specs.ObjectKeys.{HasKeysLeft, TakesKey}
+use Rattle.jsonb_doc.specs.ObjectKeys.{TakesKey}
+use Rattle.jsonb_doc.specs.Representation.Iterators.{HasKeysLeft}
 use Rattle.jsonb_doc.proofs.PairsLemmas.{IsKeysOf}
 use Rattle.jsonb_doc.specs.declared.key_iter.KeyIter.{KeyIter}
 use Rattle.jsonb_doc.proofs.PairsLemmas.{IsPairsOf}

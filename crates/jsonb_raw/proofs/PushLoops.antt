@@ -7,7 +7,7 @@ use Rattle.jsonb_doc.specs.declared.element_iter.ElementIter.{ElementIter}
 use Rattle.jsonb_doc.specs.Tree.{Tree, array, Trees, tree, trees_of}
 use Rattle.jsonb_doc.specs.Payload.{Form}
 use Rattle.jsonb_doc.specs.Item.{StandsFor}
-use Rattle.jsonb_doc.specs.Answer.{IsOutOfMemoryOrTooLarge}
+use Rattle.jsonb_doc.specs.Private.Errors.{IsOutOfMemoryOrTooLarge}
 use Rattle.jsonb_doc.specs.Elements.{GivesElement}
 use Rattle.jsonb_doc.proofs.ElementsLemmas.{IsElementsOf}
 use Rattle.jsonb_doc.specs.ArrayBuilder.{Parts, no_parts, HoldsElements}

@@ -6,7 +6,8 @@ use Rattle.std.proofs.lemmas.Bool.Decides.{nat_tests}
 use Rattle.std.proofs.lemmas.List.Edits.{split_between, length-between}
 use Rattle.jsonb_doc.specs.Tree.{Tree, null, boolean, number, text, extension, array, object}
 use Rattle.jsonb_doc.specs.Payload.{NumberReader}
-use Rattle.jsonb_doc.specs.Format.{container_entry, IsContent}
+use Rattle.jsonb_doc.specs.Format.{IsContent}
+use Rattle.jsonb_doc.specs.Private.EntryKinds.{container_entry}
 use Rattle.jsonb_raw.specs.Places.{tree_at}
 use Rattle.jsonb_raw.proofs.CutLemmas.{slice_of}
 

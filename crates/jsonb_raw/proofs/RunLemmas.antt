@@ -3,7 +3,8 @@ use Rattle.std.proofs.Common.{◌≡◌, ℕ, List, [], ◌∷◌, ◌++◌, len
 use Rattle.std.specs.Map.{keys_of, values_of}
 use Rattle.jsonb_doc.specs.Tree.{Tree, text, array, object, trees_of, Pairs, no_pairs, pair, keys, values, members}
 use Rattle.jsonb_doc.specs.Payload.{NumberReader, Form, number_reader}
-use Rattle.jsonb_doc.specs.Format.{AreEntries, AreValues, AreKeys, entry_word, text_entry, key_words, key_bytes}
+use Rattle.jsonb_doc.specs.Format.{AreEntries, AreValues, AreKeys, entry_word, key_words, key_bytes}
+use Rattle.jsonb_doc.specs.Private.EntryKinds.{text_entry}
 use Rattle.jsonb_doc.specs.Kinds.{kind_number}
 use Rattle.jsonb_doc.proofs.TreeLists.{keys_of-members}
 use Rattle.jsonb_doc.proofs.KeyEntries.{front_of}

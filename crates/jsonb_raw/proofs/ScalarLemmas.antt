@@ -6,7 +6,7 @@ use Rattle.jsonb_doc.specs.Item.{StandsFor}
 use Rattle.jsonb_doc.specs.declared.number.Number as code
 use Rattle.jsonb_doc.specs.declared.item.Item.{Item}
 use Rattle.jsonb_doc.specs.declared.item.Item.TheVariants.{Null, Boolean, Number, String, Extension, Array, Object}
-use Rattle.jsonb_doc.specs.Shapes.{HasShape}
+use Rattle.jsonb_doc.specs.AnyBytes.Roots.{HasShape}
 use Rattle.jsonb_doc.specs.declared.shape.Shape.{Shape}
 use Rattle.jsonb_doc.specs.declared.shape.Shape.TheVariants as shapes
 use Rattle.jsonb_raw.specs.Casts.{text_of}

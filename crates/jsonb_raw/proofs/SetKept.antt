@@ -6,9 +6,9 @@ use Rattle.jsonb_doc.specs.Payload.{Form, canonical}
 use Rattle.jsonb_doc.specs.Kinds.{kind_number}
 use Rattle.jsonb_doc.specs.declared.entry_iter.StoredEntry.{StoredEntry}
 use Rattle.jsonb_doc.specs.Limits.{Fits, AreInRange, IsShort, HasShortParts, HasShortElements, IsWithinLimits, IsTooLarge}
-use Rattle.jsonb_doc.specs.Answer.{IsOutOfMemoryOrTooLarge}
+use Rattle.jsonb_doc.specs.Private.Errors.{IsOutOfMemoryOrTooLarge}
 use Rattle.jsonb_doc.specs.ArrayBuilder.{Parts, no_parts, HoldsElements}
-use Rattle.jsonb_doc.specs.Elements.{HasElementsLeft}
+use Rattle.jsonb_doc.specs.Representation.Iterators.{HasElementsLeft}
 use Rattle.jsonb_doc.specs.Item.{StandsFor}
 use Rattle.jsonb_doc.specs.declared.item.Item.{Item}
 use Rattle.jsonb_doc.specs.declared.item.Item.TheVariants as item

@@ -5,7 +5,8 @@ use Rattle.std.specs.Map.{values_of}
 use Rattle.std.proofs.lemmas.Bool.Decides.{nat_tests}
 use Rattle.jsonb_doc.specs.Tree.{Tree, boolean, array, object, Trees, no_trees, tree, Pairs, no_pairs, pair, elements, values, keys, members, trees_of}
 use Rattle.jsonb_doc.specs.Payload.{Form, number_reader}
-use Rattle.jsonb_doc.specs.Format.{IsContent, container_entry, null_entry, AreKeys}
+use Rattle.jsonb_doc.specs.Format.{IsContent, AreKeys}
+use Rattle.jsonb_doc.specs.Private.EntryKinds.{container_entry, null_entry}
 use Rattle.jsonb_doc.specs.Private.Writer.{Make}
 use Rattle.jsonb_doc.proofs.BuilderSteps.{keys_rise}
 use Rattle.jsonb_doc.proofs.TreeLists.{keys_of-members, pairs_of-members}

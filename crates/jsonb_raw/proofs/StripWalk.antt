@@ -5,7 +5,8 @@ use Rattle.jsonb_doc.specs.declared.error.Error.{Error}
 use Rattle.jsonb_doc.specs.Kinds.{kind_number}
 use Rattle.jsonb_doc.specs.Tree.{Tree, boolean, text, array, object, no_pairs, pair, elements, values, keys}
 use Rattle.jsonb_doc.specs.Payload.{Form, number_reader}
-use Rattle.jsonb_doc.specs.Format.{IsContent, container_entry}
+use Rattle.jsonb_doc.specs.Format.{IsContent}
+use Rattle.jsonb_doc.specs.Private.EntryKinds.{container_entry}
 use Rattle.jsonb_doc.specs.declared.entry_iter.StoredEntry.{StoredEntry}
 use Rattle.jsonb_doc.specs.declared.cursor.Entries.{Entries}
 use Rattle.jsonb_doc.specs.declared.rewriting.Writer.{Writer}

@@ -1,7 +1,7 @@
 -- What calls decided of strings that are joined.
 use Rattle.std.proofs.Common.{◌≡◌, ◌==◌, ℕ, Option, Some, None, ◌+◌, zero, suc, Bool, true, false, List, [], ◌∷◌, ◌++◌, length, refl, ◌∙◌, arith, length-append, true≢false}
 use Rattle.std.proofs.lemmas.Bool.{eqb-true}
-use Rattle.jsonb_doc.specs.Payload.{number_reader}
+use Rattle.jsonb_doc.specs.Payload.{number_reader, Form}
 use Rattle.jsonb_doc.specs.Private.Stored.{Stores}
 use Rattle.jsonb_doc.specs.Kinds.{kind_number}
 use Rattle.jsonb_doc.specs.declared.entry_iter.StoredEntry.{StoredEntry}
@@ -14,7 +14,6 @@ use Rattle.std.proofs.lemmas.List.Elements.{All-append}
 use Rattle.jsonb_raw.specs.Texts.{Tells, texts}
 use Rattle.jsonb_raw.specs.Private.LargeTexts.{LargeTells, LeavesTexts}
 use Rattle.jsonb_doc.specs.Tree.{Tree, null, boolean, number, text, extension, array, object}
-use Rattle.jsonb_doc.specs.Payload.{Form}
 use Rattle.jsonb_doc.specs.Item.{StandsFor}
 use Rattle.jsonb_doc.specs.declared.item.Item.{Item}
 

@@ -1,12 +1,11 @@
 -- Definitions of the functions on arrays.
-use Rattle.std.specs.Prelude.{ℕ, suc, ◌-◌, min, ℤ, pos, negsuc, List, [], ◌∷◌, length, Option, Some, None, option_map}
+use Rattle.std.specs.Prelude.{ℕ, suc, ◌-◌, min, ℤ, pos, negsuc, List, [], ◌∷◌, length, Option, option_map, unwrap_or}
 use Rattle.std.specs.List.{insert}
-use Rattle.jsonb_doc.specs.Tree.{Tree, array, elements, trees_of}
+use Rattle.jsonb_doc.specs.Tree.{Tree, array, elements, trees_of, trees_in}
 
 -- The elements of an array.
 abbrev pub array_values : Tree → Option (List Tree)
-array_values (array ts) = Some (elements ts)
-array_values _ = None
+array_values t = option_map elements (trees_in t)
 
 -- The number of elements of an array.
 abbrev pub array_length : Tree → Option ℕ
@@ -14,8 +13,7 @@ array_length t = option_map length (array_values t)
 
 -- The elements of an array; another tree counts as one element.
 abbrev pub as_elements : Tree → List Tree
-as_elements (array ts) = elements ts
-as_elements t = t ∷ []
+as_elements t = unwrap_or (array_values t) (t ∷ [])
 
 -- The index that a position denotes in a list of this length: from the end if negative, and clamped to the range from 0
 -- to the length.

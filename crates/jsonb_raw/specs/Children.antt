@@ -3,7 +3,7 @@ use Rattle.std.specs.Prelude.{ℕ, ℤ, Bool, not, List, filter, length, slice_g
 use Rattle.std.specs.List.{find, remove}
 use Rattle.std.specs.Option.{option_or}
 use Rattle.std.specs.Str.{bytes_eq, str_eq_ignore_ascii_case}
-use Rattle.jsonb_doc.specs.Tree.{Tree, array, object, elements, members, field_of, trees_of, pairs_of}
+use Rattle.jsonb_doc.specs.Tree.{Tree, array, object, elements, members, field_of, pairs_in, trees_of, pairs_of}
 use Rattle.jsonb_raw.specs.Places.{index_position}
 use Rattle.jsonb_raw.specs.Arrays.{array_values}
 use Rattle.jsonb_raw.specs.Exists.{is_text}
@@ -14,9 +14,8 @@ element_at i t = option_and_then (λ ts. slice_get ts i) (array_values t)
 
 -- The value of an object's first member whose key equals the name under ASCII case folding.
 abbrev pub field_ignoring_case : List ℕ → Tree → Option Tree
-field_ignoring_case name (object ps) =
-    option_map (λ p. p.1) (find (λ p. str_eq_ignore_ascii_case p.0 name) (members ps))
-field_ignoring_case name _ = None
+field_ignoring_case name t =
+    option_map (λ p. p.1) (option_and_then (λ ps. find (λ p. str_eq_ignore_ascii_case p.0 name) (members ps)) (pairs_in t))
 
 -- The value of a name, otherwise, ignoring case, of the first key that equals the name.
 abbrev pub named_child : List ℕ → Bool → Tree → Option Tree

@@ -9,11 +9,13 @@ use Rattle.jsonb_raw.specs.SortableKey.{number_bytes, text_bytes}
 -- A type byte and the content: counts in four bytes, the length of an extension's payload in eight.
 abbrev mutual
   pub equality_key : Tree → List ℕ
-  equality_key (Tree.number n) = 4 ∷ number_bytes n.whole n.scale
-  equality_key (Tree.text bytes) = 5 ∷ text_bytes bytes
-  equality_key (Tree.extension x) = 1 ∷ to_be_bytes w64 (length (extension_payload x)) ++ extension_payload x
-  equality_key (Tree.array ts) = 7 ∷ to_be_bytes w32 (count ts) ++ equality_keys_of_trees ts
-  equality_key (Tree.object ps) = 6 ∷ to_be_bytes w32 (length (keys ps)) ++ equality_keys_of_pairs ps
+  equality_key (Tree.number n) = rank (Tree.number n) ∷ number_bytes n.whole n.scale
+  equality_key (Tree.text bytes) = rank (Tree.text bytes) ∷ text_bytes bytes
+  equality_key (Tree.extension x) =
+      rank (Tree.extension x) ∷ to_be_bytes w64 (length (extension_payload x)) ++ extension_payload x
+  equality_key (Tree.array ts) = rank (Tree.array ts) ∷ to_be_bytes w32 (count ts) ++ equality_keys_of_trees ts
+  equality_key (Tree.object ps) =
+      rank (Tree.object ps) ∷ to_be_bytes w32 (length (keys ps)) ++ equality_keys_of_pairs ps
   equality_key t = rank t ∷ []
 
   pub equality_keys_of_trees : Trees → List ℕ
@@ -22,4 +24,5 @@ abbrev mutual
 
   pub equality_keys_of_pairs : Pairs → List ℕ
   equality_keys_of_pairs Pairs.no_pairs = []
-  equality_keys_of_pairs (Pairs.pair k v ps) = (5 ∷ text_bytes k) ++ (equality_key v ++ equality_keys_of_pairs ps)
+  equality_keys_of_pairs (Pairs.pair k v ps) =
+      (rank (Tree.text k) ∷ text_bytes k) ++ (equality_key v ++ equality_keys_of_pairs ps)

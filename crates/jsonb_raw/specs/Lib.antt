@@ -1,6 +1,5 @@
 pub mod Documents
 pub mod Computes
-pub mod Roots
 pub mod Iterators
 pub mod Places
 pub mod NoExtension
@@ -24,5 +23,6 @@ pub mod Making
 pub mod Objects
 pub mod Arrays
 pub mod Children
+pub mod AnyBytes
 pub mod Private
 pub mod Partition

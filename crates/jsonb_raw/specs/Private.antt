@@ -25,3 +25,4 @@ pub mod PlainWords
 pub mod Entries
 pub mod NamePositions
 pub mod NameBlocks
+pub mod KeyErrors

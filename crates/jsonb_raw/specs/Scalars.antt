@@ -5,7 +5,7 @@ use Rattle.std.specs.declared.borrow.CowStr.{CowStr}
 use Rattle.std.specs.declared.borrow.CowStr.TheVariants.{Borrowed, Owned}
 use Rattle.jsonb_doc.specs.Number.{Number, Variant, int64, uint64}
 use Rattle.jsonb_doc.specs.Extension.{Extension, binary, date, timestamp, timestamp_tz, interval}
-use Rattle.jsonb_doc.specs.Tree.{Tree, null, boolean, number, text, extension, array, object}
+use Rattle.jsonb_doc.specs.Tree.{Tree, null, boolean, number, text, extension, array, object, trees_in, pairs_in}
 use Rattle.jsonb_doc.specs.Rounding.{IsWhole}
 
 -- ---- the part of a scalar
@@ -55,12 +55,10 @@ is_null null = true
 is_null _ = false
 
 abbrev pub is_array : Tree → Bool
-is_array (array ts) = true
-is_array _ = false
+is_array t = is_some (trees_in t)
 
 abbrev pub is_object : Tree → Bool
-is_object (object ps) = true
-is_object _ = false
+is_object t = is_some (pairs_in t)
 
 abbrev pub is_extension_value : Tree → Bool
 is_extension_value t = is_some (extension_in t)

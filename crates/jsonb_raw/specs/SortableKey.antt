@@ -43,11 +43,11 @@ item_bytes w depth kind content = to_be_bytes w depth ++ kind ∷ content
 
 abbrev mutual
   pub sortable_key : Width → Tree → ℕ → List ℕ
-  sortable_key w (Tree.number n) d = item_bytes w d 4 (number_bytes n.whole n.scale)
-  sortable_key w (Tree.text bytes) d = item_bytes w d 5 (text_bytes bytes)
-  sortable_key w (Tree.extension x) d = item_bytes w d 1 (extension_payload x ++ 0 ∷ [])
-  sortable_key w (Tree.array ts) d = item_bytes w d 7 (keys_of_trees w ts (suc d))
-  sortable_key w (Tree.object ps) d = item_bytes w d 6 (keys_of_pairs w ps (suc d))
+  sortable_key w (Tree.number n) d = item_bytes w d (rank (Tree.number n)) (number_bytes n.whole n.scale)
+  sortable_key w (Tree.text bytes) d = item_bytes w d (rank (Tree.text bytes)) (text_bytes bytes)
+  sortable_key w (Tree.extension x) d = item_bytes w d (rank (Tree.extension x)) (extension_payload x ++ 0 ∷ [])
+  sortable_key w (Tree.array ts) d = item_bytes w d (rank (Tree.array ts)) (keys_of_trees w ts (suc d))
+  sortable_key w (Tree.object ps) d = item_bytes w d (rank (Tree.object ps)) (keys_of_pairs w ps (suc d))
   sortable_key w t d = item_bytes w d (rank t) []
 
   pub keys_of_trees : Width → Trees → ℕ → List ℕ
@@ -56,8 +56,8 @@ abbrev mutual
 
   pub keys_of_pairs : Width → Pairs → ℕ → List ℕ
   keys_of_pairs w Pairs.no_pairs d = []
-  keys_of_pairs w (Pairs.pair k v ps) d = item_bytes w d 5 (text_bytes k)
-      ++ (sortable_key w v d ++ keys_of_pairs w ps d)
+  keys_of_pairs w (Pairs.pair k v ps) d =
+      item_bytes w d (rank (Tree.text k)) (text_bytes k) ++ (sortable_key w v d ++ keys_of_pairs w ps d)
 
 -- The number of depths that the width's bytes distinguish.
 abbrev pub depths : Width → ℕ

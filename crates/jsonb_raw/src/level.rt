@@ -4,7 +4,8 @@
 ghost use Rattle.std.specs.Prelude.{◌≡◌, IsOkAnd, IfOk, IfSome, IfErr, List, length};
 ghost use Rattle.jsonb_doc.specs.Tree.{Tree};
 ghost use Rattle.jsonb_doc.specs.Payload.{Form, number_reader};
-ghost use Rattle.jsonb_doc.specs.Format.{IsContent, container_entry};
+ghost use Rattle.jsonb_doc.specs.Format.{IsContent};
+ghost use Rattle.jsonb_doc.specs.Private.EntryKinds.{container_entry};
 ghost use Rattle.jsonb_doc.specs.Answer.{IsDecodingError};
 ghost use Rattle.jsonb_raw.specs.Scalars.{is_array};
 ghost use Rattle.jsonb_raw.specs.Private.Levels.{EntryPrefix, HasPartsLeft, HasAllLeft, IsLevelWithin, TakesPart, IsSmaller};

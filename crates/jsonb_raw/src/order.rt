@@ -13,7 +13,7 @@ ghost use Rattle.jsonb_doc.specs.Format.{Decodes};
 ghost use Rattle.jsonb_doc.specs.Item.{StandsFor};
 ghost use Rattle.jsonb_doc.specs.Private.Stored.{Stores};
 ghost use Rattle.jsonb_doc.specs.Answer.{IsDecodingError};
-ghost use Rattle.jsonb_raw.specs.Roots.{HasRootShape};
+ghost use Rattle.jsonb_raw.specs.AnyBytes.Roots.{HasRootShape};
 ghost use Rattle.jsonb_raw.specs.Private.Levels.{EntryPrefix, HasPartsLeft, IsKeyOf, level_room};
 ghost use Rattle.jsonb_raw.specs.Private.Order.{Decides, IsShorter, key_cmp, part_cmp};
 

@@ -3,7 +3,8 @@
 ghost use Rattle.std.specs.Prelude.{◌≡◌, ◌↔◌, ◌≤◌, ◌<◌, IsOk, IsErrOf, Ok};
 ghost use Rattle.jsonb_doc.specs.Tree.{Tree};
 ghost use Rattle.jsonb_doc.specs.Payload.{Form, any};
-ghost use Rattle.jsonb_doc.specs.Format.{Decodes, IsUnsupportedDocument, IsNoDocument};
+ghost use Rattle.jsonb_doc.specs.Format.{Decodes};
+ghost use Rattle.jsonb_doc.specs.AnyBytes.Unsupported.{IsUnsupportedDocument, IsNoDocument};
 ghost use Rattle.jsonb_doc.specs.Depth.{deepest};
 ghost use Rattle.jsonb_raw.specs.Documents.{raw_bytes};
 

@@ -5,7 +5,8 @@ use Rattle.jsonb.specs.Error.{Error}
 use Rattle.jsonb.specs.Error.TheVariants.{InvalidJsonb, UnsupportedNumber}
 use Rattle.jsonb.specs.Tree.{Tree}
 use Rattle.jsonb.specs.Payload.{any}
-use Rattle.jsonb.specs.Format.{Decodes, WouldDecode}
+use Rattle.jsonb.specs.Format.{Decodes}
+use Rattle.jsonb.specs.Unsupported.{WouldDecode}
 use Rattle.jsonb_tool.specs.Output.{IsDamage}
 
 -- an error of a check says why the bytes are not a document

@@ -7,7 +7,8 @@ use Rattle.jsonb.specs.Error.{Error}
 use Rattle.jsonb.specs.Error.TheVariants.{InvalidJsonb, UnsupportedNumber, InvalidJsonPath, InvalidKeyPath, TooLarge}
 use Rattle.jsonb.specs.Tree.{Tree}
 use Rattle.jsonb.specs.Payload.{Form, any}
-use Rattle.jsonb.specs.Format.{Decodes, IsUnsupportedDocument, IsNoDocument}
+use Rattle.jsonb.specs.Format.{Decodes}
+use Rattle.jsonb.specs.Unsupported.{IsUnsupportedDocument, IsNoDocument}
 use Rattle.jsonb.specs.Limits.{IsTooLarge}
 use Rattle.jsonb.specs.KeyPathGrammar.{key_path}
 use Rattle.jsonb.specs.KeyPathText.{key_path_text}

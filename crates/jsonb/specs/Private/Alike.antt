@@ -1,7 +1,7 @@
 -- Lists that differ in repeats alone, as far as an expression can tell.
 use Rattle.std.specs.Prelude.{◌≡◌, ℕ, Bool, List, find}
 use Rattle.std.specs.List.{AllZip}
-use Rattle.jsonb_doc.specs.Spots.{Locates}
+use Rattle.jsonb_doc.specs.Representation.Positions.{Locates}
 use Rattle.jsonb_doc.specs.Tree.{Tree}
 use Rattle.jsonb_doc.specs.declared.spot.Spot.{Spot}
 use Rattle.jsonb.specs.declared.selector.document.Repeats.{Repeats}

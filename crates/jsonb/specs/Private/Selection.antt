@@ -10,7 +10,7 @@ use Rattle.jsonb_doc.specs.View.{number_view}
 use Rattle.jsonb_doc.specs.Payload.{Form}
 use Rattle.jsonb_doc.specs.Format.{Decodes}
 use Rattle.jsonb_doc.specs.Item.{StandsFor}
-use Rattle.jsonb_doc.specs.Spots.{Locates}
+use Rattle.jsonb_doc.specs.Representation.Positions.{Locates}
 use Rattle.jsonb_doc.specs.Tree.{Tree, number, array, trees_of}
 use Rattle.jsonb.specs.PathTree.{Expression, Step, UnaryOp, current, filter, whole_expression}
 use Rattle.jsonb.specs.PathArithmetic.{signed_number}

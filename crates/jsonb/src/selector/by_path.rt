@@ -5,7 +5,7 @@ ghost use Rattle.jsonb_raw.specs.Documents.{raw_bytes};
 ghost use Rattle.jsonb.specs.PathTree.{is_predicate};
 ghost use Rattle.jsonb.specs.PathViews.{path_view};
 ghost use Rattle.jsonb_doc.specs.Format.{Decodes};
-ghost use Rattle.jsonb_doc.specs.Readable.{HasReadableRoot};
+ghost use Rattle.jsonb_doc.specs.AnyBytes.Roots.{HasReadableRoot};
 ghost use Rattle.jsonb.specs.SelectionErrors.{IsSelectionError, IsDocumentError};
 ghost use Rattle.jsonb.specs.SelectorAnswers.{first_item, single_or_array, ByMeanings, AreAll, IsArrayOf, IsPicked, IsFound, IsTruthOf};
 ghost use Rattle.jsonb.specs.declared.selector.document.Mode.TheVariants.{Lax};

@@ -3,7 +3,8 @@
 ghost use Rattle.std.specs.Prelude.{◌≡◌, ℕ, ◌<◌, ◌^◌, ◌++◌, ◌∷◌, [], map, List, Ok, false, IfOk, IfSome, IfErr, OnOk, IsOkAnd, if◌then◌else◌, pos, ⊤, MatchOption, filter_map, slice_get};
 ghost use Rattle.jsonb_doc.specs.Answer.{Refines, SameOption, IsOutOfMemory, ◌or◌, IsDecodingError};
 ghost use Rattle.jsonb_doc.specs.declared.error.Error.TheVariants.{OutOfMemory, StrictPath};
-ghost use Rattle.jsonb_doc.specs.Spots.{Locates, HasSpotsLeft, spots_bound};
+ghost use Rattle.jsonb_doc.specs.Representation.Positions.{Locates, HasSpotsLeft};
+ghost use Rattle.jsonb_doc.specs.AnyBytes.Spots.{spots_bound};
 ghost use Rattle.jsonb_doc.specs.Tree.{Tree};
 ghost use Rattle.jsonb_raw.specs.Arrays.{array_values};
 ghost use Rattle.jsonb.specs.PathTree.{single, from_front};

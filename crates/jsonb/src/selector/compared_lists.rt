@@ -2,7 +2,7 @@
 
 ghost use Rattle.std.specs.Prelude.{◌≡◌, ◌≤◌, drop, length, List, true, MatchOption, ⊤, IfErr};
 ghost use Rattle.jsonb_doc.specs.Answer.{Refines, IsOutOfMemory};
-ghost use Rattle.jsonb_doc.specs.Spots.{Locates};
+ghost use Rattle.jsonb_doc.specs.Representation.Positions.{Locates};
 ghost use Rattle.jsonb_doc.specs.Tree.{Tree};
 ghost use Rattle.jsonb.specs.PathTree.{Expression, steps_of, paths};
 ghost use Rattle.jsonb.specs.PathViews.{steps_view, expression_view};

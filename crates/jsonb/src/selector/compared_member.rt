@@ -3,7 +3,7 @@
 
 ghost use Rattle.std.specs.Prelude.{◌≡◌, ◌∷◌, [], Ok, List, map, flat_map, true, IfErr};
 ghost use Rattle.jsonb_doc.specs.Answer.{Refines, and_then, IsOutOfMemory, IsDecodingError};
-ghost use Rattle.jsonb_doc.specs.Spots.{Locates, HasSpotsLeft};
+ghost use Rattle.jsonb_doc.specs.Representation.Positions.{Locates, HasSpotsLeft};
 ghost use Rattle.jsonb_doc.specs.Tree.{Tree};
 ghost use Rattle.jsonb.specs.PathTree.{Expression, steps_of, paths};
 ghost use Rattle.jsonb.specs.PathViews.{steps_view};

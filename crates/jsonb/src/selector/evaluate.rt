@@ -2,7 +2,7 @@
 
 ghost use Rattle.std.specs.Prelude.{◌≡◌, ◌++◌, ◌∷◌, [], List, Ok, reverse, IfErr};
 ghost use Rattle.jsonb_doc.specs.Answer.{Refines, and_then, try_flat_map, IsOutOfMemory};
-ghost use Rattle.jsonb_doc.specs.Spots.{Locates};
+ghost use Rattle.jsonb_doc.specs.Representation.Positions.{Locates};
 ghost use Rattle.jsonb_doc.specs.Tree.{Tree};
 ghost use Rattle.jsonb.specs.PathTree.{Expression, filter};
 ghost use Rattle.std.specs.List.{AllZip};

@@ -22,7 +22,8 @@ pub(crate) struct DocumentSize {
 
 impl DocumentSize {
     ghost use Rattle.std.specs.Prelude.{◌≡◌, ◌↔◌, IsOkAnd, IsErrOf};
-    ghost use Rattle.jsonb_doc.specs.Format.{Decodes, IsUnsupportedDocument, IsNoDocument};
+    ghost use Rattle.jsonb_doc.specs.Format.{Decodes};
+    ghost use Rattle.jsonb_doc.specs.AnyBytes.Unsupported.{IsUnsupportedDocument, IsNoDocument};
     ghost use Rattle.jsonb_doc.specs.Payload.{Form};
     ghost use Rattle.jsonb_doc.specs.Tree.{Tree};
     ghost use Rattle.jsonb_doc.specs.declared.error.Error.TheVariants as error;

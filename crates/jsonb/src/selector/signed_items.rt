@@ -2,7 +2,7 @@
 
 ghost use Rattle.std.specs.Prelude.{◌≡◌, ◌++◌, ◌∷◌, [], List, OnOk, IfErr, IsOkAnd, MatchOption, ⊤, map, flat_map};
 ghost use Rattle.jsonb_doc.specs.Answer.{Refines, IsOutOfMemory, IsDecodingError};
-ghost use Rattle.jsonb_doc.specs.Spots.{Locates, HasSpotsLeft};
+ghost use Rattle.jsonb_doc.specs.Representation.Positions.{Locates, HasSpotsLeft};
 ghost use Rattle.jsonb_doc.specs.Private.StoredValue.{IsStoredAs};
 ghost use Rattle.jsonb_doc.specs.Tree.{Tree};
 ghost use Rattle.jsonb_doc.specs.View.{number_view};

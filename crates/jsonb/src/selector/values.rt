@@ -3,7 +3,7 @@
 ghost use Rattle.std.specs.Prelude.{◌≡◌, ◌++◌, ◌∷◌, [], List, Ok, OnOk, IfErr, flat_map};
 ghost use Rattle.jsonb_doc.specs.Answer.{Refines, IsOutOfMemory, IsDecodingError, ◌or◌};
 ghost use Rattle.jsonb_doc.specs.declared.error.Error.TheVariants.{OutOfMemory};
-ghost use Rattle.jsonb_doc.specs.Spots.{Locates, HasSpotsLeft};
+ghost use Rattle.jsonb_doc.specs.Representation.Positions.{Locates, HasSpotsLeft};
 ghost use Rattle.jsonb_doc.specs.Private.StoredValue.{IsStoredAs};
 ghost use Rattle.jsonb_doc.specs.Tree.{Tree};
 ghost use Rattle.std.specs.List.{AllZip};

@@ -2,7 +2,8 @@
 
 ghost use Rattle.std.specs.Prelude.{◌≡◌, IsErr, MatchResult, None, OnErr, Some};
 ghost use Rattle.jsonb_doc.specs.Answer.{IsOutOfMemory};
-ghost use Rattle.jsonb_doc.specs.DocumentBuilder.{Holds, Takes};
+ghost use Rattle.jsonb_doc.specs.DocumentBuilder.{Takes};
+ghost use Rattle.jsonb_doc.specs.Representation.DocumentBuilder.{Holds};
 ghost use Rattle.jsonb_doc.specs.Events as spec;
 ghost use Rattle.jsonb_doc.specs.Events.{State, next};
 ghost use Rattle.jsonb_doc.specs.Payload.{Form};

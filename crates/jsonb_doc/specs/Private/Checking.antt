@@ -4,7 +4,8 @@ use Rattle.std.specs.Ordering.{nat_cmp}
 use Rattle.std.specs.Cmp.Lexicographic.{slice_cmp}
 use Rattle.std.specs.declared.cmp.Ordering.TheVariants.{Less}
 use Rattle.jsonb_doc.specs.Tree.{Tree, Trees}
-use Rattle.jsonb_doc.specs.Payload.{NumberReader, number_of, number_or_unsupported}
+use Rattle.jsonb_doc.specs.Payload.{NumberReader, number_of}
+use Rattle.jsonb_doc.specs.AnyBytes.Unsupported.{number_or_unsupported}
 use Rattle.jsonb_doc.specs.Format.{IsContent, AreEntries, IsDocument, AreKeys, key_words, key_bytes}
 use Rattle.jsonb_doc.specs.declared.error.Error.{Error}
 use Rattle.jsonb_doc.specs.declared.error.Error.TheVariants.{InvalidJsonb, UnsupportedNumber}

@@ -4,10 +4,11 @@ use Rattle.std.specs.declared.alloc.Global.{Global}
 use Rattle.std.specs.declared.string.String.{String}
 use Rattle.jsonb_doc.specs.Tree.{Tree}
 use Rattle.jsonb_doc.specs.Payload.{Form}
-use Rattle.jsonb_doc.specs.Format.{entry_word, header, array_header, object_header, container_entry, key_words, key_bytes}
+use Rattle.jsonb_doc.specs.Format.{entry_word, header, array_header, object_header, key_words, key_bytes}
+use Rattle.jsonb_doc.specs.Private.EntryKinds.{container_entry}
 use Rattle.jsonb_doc.specs.Kinds.{kind_number}
 use Rattle.jsonb_doc.specs.Limits.{AreShortKeys, HasShortParts}
-use Rattle.jsonb_doc.specs.DocumentBuilder.{IsPieceOf}
+use Rattle.jsonb_doc.specs.Representation.DocumentBuilder.{IsPieceOf}
 use Rattle.jsonb_doc.specs.declared.error.Error.TheVariants.{OutOfMemory, TooLarge}
 use Rattle.jsonb_doc.specs.declared.event_error.EventError.{EventError}
 use Rattle.jsonb_doc.specs.declared.event_error.EventError.TheVariants.{OutOfOrder, Failed}

@@ -2,7 +2,9 @@
 use Rattle.std.specs.Prelude.{◌≡◌, ◌≢◌, ◌<◌, ◌^◌, ℕ, List, ◌++◌, length}
 use Rattle.jsonb_doc.specs.Tree.{Tree, array, object, Pairs, keys}
 use Rattle.jsonb_doc.specs.Payload.{NumberReader}
-use Rattle.jsonb_doc.specs.Format.{scalar_header, container_entry, entry_word, AreKeys, key_words, key_bytes, HeadedBy, AreArrayParts, AreObjectParts, AreEntries, AreValues, IsScalar}
+use Rattle.jsonb_doc.specs.Format.{scalar_header, entry_word, AreKeys, key_words, key_bytes, HeadedBy, AreEntries, AreValues, IsScalar}
+use Rattle.jsonb_doc.specs.Private.EntryKinds.{container_entry}
+use Rattle.jsonb_doc.specs.AnyBytes.Parts.{AreArrayParts, AreObjectParts}
 use Rattle.jsonb_doc.specs.Kinds.{kind_number}
 use Rattle.jsonb_doc.specs.declared.container.ObjectParts.{ObjectParts}
 use Rattle.jsonb_doc.specs.declared.container.Container.{Container}

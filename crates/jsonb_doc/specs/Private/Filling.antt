@@ -4,9 +4,9 @@ use Rattle.jsonb_doc.specs.Number as spec
 use Rattle.jsonb_doc.specs.Tree.{Tree, Trees, Pairs, array, object, elements, members, keys, trees_of, pairs_of}
 use Rattle.jsonb_doc.specs.Payload.{Form}
 use Rattle.jsonb_doc.specs.Format.{AreKeys}
-use Rattle.jsonb_doc.specs.Item.{StandsFor, item_size}
-use Rattle.jsonb_doc.specs.Elements.{HasElementsLeft}
-use Rattle.jsonb_doc.specs.ObjectPairs.{HasPairsLeft}
+use Rattle.jsonb_doc.specs.Item.{StandsFor}
+use Rattle.jsonb_doc.specs.AnyBytes.Items.{item_size}
+use Rattle.jsonb_doc.specs.Representation.Iterators.{HasElementsLeft, HasPairsLeft}
 use Rattle.jsonb_doc.specs.Value.{tree_seen}
 use Rattle.jsonb_doc.specs.Private.Values.{trees_seen, members_seen, SeesItem}
 use Rattle.jsonb_doc.specs.declared.item.Item.{Item}

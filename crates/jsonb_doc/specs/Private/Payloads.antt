@@ -1,6 +1,7 @@
 -- Results of reading a payload.
 use Rattle.std.specs.Prelude.{◌≡◌, ℕ, true, false, List, Some, None, Result, Ok, Err}
-use Rattle.jsonb_doc.specs.Payload.{number_of, is_unsupported, extension_of}
+use Rattle.jsonb_doc.specs.Payload.{number_of, extension_of}
+use Rattle.jsonb_doc.specs.AnyBytes.Unsupported.{is_unsupported}
 use Rattle.jsonb_doc.specs.declared.number.Number.{Number}
 use Rattle.jsonb_doc.specs.declared.extension.ExtensionValue.{ExtensionValue}
 use Rattle.jsonb_doc.specs.declared.error.Error.{Error}

@@ -2,8 +2,9 @@
 use Rattle.std.specs.Prelude.{◌≡◌, ℕ, List}
 use Rattle.jsonb_doc.specs.Tree.{Tree}
 use Rattle.jsonb_doc.specs.Payload.{any, number_reader}
-use Rattle.jsonb_doc.specs.Format.{IsContent, text_entry}
-use Rattle.jsonb_doc.specs.Shapes.{HasShape}
+use Rattle.jsonb_doc.specs.Format.{IsContent}
+use Rattle.jsonb_doc.specs.Private.EntryKinds.{text_entry}
+use Rattle.jsonb_doc.specs.AnyBytes.Roots.{HasShape}
 use Rattle.jsonb_doc.specs.declared.shape.Shape.{Shape}
 use Rattle.jsonb_doc.specs.declared.shape.Shape.TheVariants.{Text, Array, Object}
 

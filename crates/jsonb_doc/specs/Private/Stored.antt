@@ -3,7 +3,8 @@ use Rattle.std.specs.Prelude.{◌≡◌, ℕ, ◌≤◌, List, [], ◌∷◌, le
 use Rattle.std.specs.Borrow.{Bor}
 use Rattle.jsonb_doc.specs.Tree.{Tree, text, Trees, no_trees, tree, Pairs, no_pairs, pair, keys, values}
 use Rattle.jsonb_doc.specs.Payload.{Form, number_reader}
-use Rattle.jsonb_doc.specs.Format.{BeginWith, BeginWithNone, words_left, IsContent, AreEntries, AreKeys}
+use Rattle.jsonb_doc.specs.Format.{BeginWith, IsContent, AreEntries, AreKeys}
+use Rattle.jsonb_doc.specs.AnyBytes.Parts.{BeginWithNone, words_left}
 use Rattle.jsonb_doc.specs.Kinds.{kind_number}
 use Rattle.jsonb_doc.specs.Answer.{IsDecodingError}
 use Rattle.jsonb_doc.specs.declared.entry_iter.EntryIter.{EntryIter}

@@ -2,7 +2,8 @@
 use Rattle.std.specs.Prelude.{◌≡◌, ℕ, List, ◌++◌, take, length, ⊤, IsUtf8}
 use Rattle.jsonb_doc.specs.Number.{FitsNumber}
 use Rattle.jsonb_doc.specs.Extension.{FitsExtension}
-use Rattle.jsonb_doc.specs.Format.{header, entry_word, scalar_header, number_entry}
+use Rattle.jsonb_doc.specs.Format.{header, entry_word, scalar_header}
+use Rattle.jsonb_doc.specs.Private.EntryKinds.{number_entry}
 use Rattle.jsonb_doc.specs.View.{number_view, extension_view}
 use Rattle.jsonb_doc.specs.declared.item.Item.{Item}
 use Rattle.jsonb_doc.specs.declared.item.Item.TheVariants.{Number, String, Extension}

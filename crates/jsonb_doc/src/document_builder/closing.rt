@@ -6,7 +6,7 @@ ghost use Rattle.jsonb_doc.specs.Format.{key_words, key_bytes};
 ghost use Rattle.jsonb_doc.specs.Limits.{AreShortKeys};
 ghost use Rattle.jsonb_doc.specs.Answer.{IsOutOfMemory, ◌or◌when◌};
 ghost use Rattle.jsonb_doc.specs.Events.{Level, container};
-ghost use Rattle.jsonb_doc.specs.DocumentBuilder.{HoldsLevel};
+ghost use Rattle.jsonb_doc.specs.Representation.DocumentBuilder.{HoldsLevel};
 ghost use Rattle.jsonb_doc.specs.Private.Closing.{IsClosed, HasShortHead, Closes, entry_words, total_len, array_head, object_head, member_keys, member_entries};
 ghost use Rattle.jsonb_doc.specs.declared.error.Error.TheVariants.{TooLarge};
 ghost use Rattle.jsonb_doc.specs.declared.pieces.Piece as pieces;

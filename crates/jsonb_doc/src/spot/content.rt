@@ -5,7 +5,8 @@ ghost use Rattle.jsonb_doc.specs.Tree.{Tree, elements, values, trees_in, pairs_i
 ghost use Rattle.jsonb_doc.specs.Payload.{any, number_reader};
 ghost use Rattle.jsonb_doc.specs.Format.{IsContent};
 ghost use Rattle.jsonb_doc.specs.Answer.{SameOption, IsDecodingError};
-ghost use Rattle.jsonb_doc.specs.Spots.{Locates, HasSpotsLeft, spots_bound};
+ghost use Rattle.jsonb_doc.specs.Representation.Positions.{Locates, HasSpotsLeft};
+ghost use Rattle.jsonb_doc.specs.AnyBytes.Spots.{spots_bound};
 ghost use Rattle.jsonb_doc.specs.Private.StoredValue.{IsStoredAs};
 
 use super::{Spot, spot_entry};

@@ -2,10 +2,10 @@
 use Rattle.std.specs.Prelude.{◌≡◌, ℕ, ◌+◌, ◌-◌, ◌*◌, ◌^◌, ◌<◌, ◌≤◌, List, [], ◌∷◌, ◌++◌, length, slice_get, slice_range, Option, Some, None, ⊤}
 use Rattle.jsonb_doc.specs.Tree.{Tree}
 use Rattle.jsonb_doc.specs.Payload.{NumberReader}
-use Rattle.jsonb_doc.specs.Format.{IsContent, container_entry, entry_word}
+use Rattle.jsonb_doc.specs.Format.{IsContent, entry_word}
+use Rattle.jsonb_doc.specs.Private.EntryKinds.{container_entry}
 use Rattle.jsonb_doc.specs.Encoding.{EntryParts}
-use Rattle.jsonb_doc.specs.Private.ObjectBytes.{FitsEntry}
-use Rattle.jsonb_doc.specs.Private.ObjectBytes.{words_of_entries, contents_of_entries}
+use Rattle.jsonb_doc.specs.Private.ObjectBytes.{FitsEntry, words_of_entries, contents_of_entries}
 use Rattle.jsonb_raw.specs.declared.functions.path.entry_range.EntryRange.{EntryRange}
 use Rattle.jsonb_raw.specs.declared.functions.path.entry_range.ChildEntries.{ChildEntries}
 use Rattle.jsonb_raw.specs.Places.{children}

@@ -3,7 +3,8 @@ use Rattle.std.specs.Prelude.{◌≡◌, ℕ, List, [], ◌∷◌, ◌++◌, map
 use Rattle.std.specs.Map.{keys_of, values_of}
 use Rattle.jsonb_doc.specs.Tree.{Tree, no_trees, tree, text, array, object, elements, keys, members, trees_of}
 use Rattle.jsonb_doc.specs.Payload.{Form, number_reader}
-use Rattle.jsonb_doc.specs.Format.{AreEntries, AreKeys, text_entry}
+use Rattle.jsonb_doc.specs.Format.{AreEntries, AreKeys}
+use Rattle.jsonb_doc.specs.Private.EntryKinds.{text_entry}
 pub use Rattle.jsonb_doc.specs.Private.Cursor.{HoldTrees, IsFirst, TakesFirst, RunsHold}
 use Rattle.jsonb_doc.specs.Limits.{IsShort}
 use Rattle.jsonb_doc.specs.Kinds.{kind_number}

@@ -8,7 +8,8 @@ use Rattle.jsonb_doc.specs.Depth.{deepest}
 use Rattle.jsonb_doc.specs.Payload.{Form}
 use Rattle.jsonb_raw.specs.declared.level.ChildCursor.{ChildCursor}
 use Rattle.jsonb_raw.specs.declared.sortable_key.Depth.{Depth}
-use Rattle.jsonb_raw.specs.KeyAnswer.{GivesKey, IsOutOfMemoryOrTooDeep}
+use Rattle.jsonb_raw.specs.KeyAnswer.{GivesKey}
+use Rattle.jsonb_raw.specs.Private.KeyErrors.{IsOutOfMemoryOrTooDeep}
 use Rattle.jsonb_raw.specs.Private.KeyWidth.{width_of}
 use Rattle.jsonb_raw.specs.Private.Levels.{EntryPrefix, parts, HasPartsLeft}
 use Rattle.jsonb_raw.specs.Private.StartHints.{is_container}

@@ -8,7 +8,7 @@ ghost use Rattle.jsonb_doc.specs.Tree.{Tree};
 ghost use Rattle.jsonb_doc.specs.Payload.{Form};
 ghost use Rattle.jsonb_doc.specs.Format.{Decodes};
 ghost use Rattle.jsonb_doc.specs.View.{number_parts};
-ghost use Rattle.jsonb_raw.specs.Roots.{HasRoot};
+ghost use Rattle.jsonb_raw.specs.AnyBytes.Roots.{HasRoot};
 ghost use Rattle.jsonb_raw.specs.Documents.{raw_bytes};
 ghost use Rattle.jsonb_raw.specs.Casts.{CastsToBool, CastsToI64, CastsToU64, CastsToText, text_of, bool_text};
 ghost use Rattle.jsonb_doc.specs.Answer.{IsDecodingError, ◌or◌};

@@ -11,10 +11,8 @@ ghost use Rattle.jsonb_doc.specs.Answer.{SameOption, IsDecodingError};
 ghost use Rattle.jsonb_doc.specs.View.{number_parts, extension_view};
 ghost use Rattle.jsonb_raw.specs.Computes.{Computes};
 ghost use Rattle.jsonb_raw.specs.Documents.{raw_bytes};
-ghost use Rattle.jsonb_raw.specs.Roots.{HasRoot, HasRootShape};
-ghost use Rattle.jsonb_raw.specs.Scalars.{boolean_in, number_in, text_in};
-ghost use Rattle.jsonb_raw.specs.Scalars.{is_null, is_array, is_object};
-ghost use Rattle.jsonb_raw.specs.Scalars.{type_name, number_type, IsWholeNumber, BorrowsText};
+ghost use Rattle.jsonb_raw.specs.AnyBytes.Roots.{HasRoot, HasRootShape};
+ghost use Rattle.jsonb_raw.specs.Scalars.{boolean_in, number_in, text_in, is_null, is_array, is_object, type_name, number_type, IsWholeNumber, BorrowsText};
 
 mod extension;
 #[cfg(test)]

@@ -1,7 +1,7 @@
 use Rattle.std.proofs.Common.{◌≤◌, Ok, Err, length, Vec, ℕ, arith}
 use Rattle.std.proofs.lemmas.Result.{err_from_is_err_and}
 use Rattle.std.specs.declared.alloc.Global.{Global}
-use Rattle.jsonb_doc.specs.Answer.{IsOutOfMemoryOrTooLarge}
+use Rattle.jsonb_doc.specs.Private.Errors.{IsOutOfMemoryOrTooLarge}
 use Rattle.jsonb_doc.specs.Format.{Decodes}
 use Rattle.jsonb_doc.specs.Tree.{array, null, trees_of}
 use Rattle.jsonb_doc.proofs.BuilderSteps.{front_step, front_built}

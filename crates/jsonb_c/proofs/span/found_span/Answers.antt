@@ -1,4 +1,4 @@
-use Rattle.jsonb_doc.specs.Spots.{Locates}
+use Rattle.jsonb_doc.specs.Representation.Positions.{Locates}
 use Rattle.jsonb_c.specs.Spans.{IsSpanOf}
 use Rattle.jsonb_c.proofs.SpanLemmas.{found_as}
 use Rattle.jsonb_c.proofs.span.found_span.Goals as goal

@@ -4,7 +4,8 @@ use Rattle.std.proofs.lemmas.Bool.{false≢true}
 use Rattle.std.proofs.lemmas.Bool.Decides.{nat_tests}
 use Rattle.std.proofs.lemmas.List.{nil_from_length, length-append}
 use Rattle.std.proofs.lemmas.Grind.{common_steps}
-use Rattle.jsonb_doc.specs.Payload.{NumberReader, number_or_unsupported}
+use Rattle.jsonb_doc.specs.Payload.{NumberReader}
+use Rattle.jsonb_doc.specs.AnyBytes.Unsupported.{number_or_unsupported}
 use Rattle.jsonb_doc.specs.Private.Checking.{HasContent, HasEntries, HasLarge}
 use Rattle.jsonb_doc.specs.Kinds.{kind_number}
 use Rattle.jsonb_doc.proofs.Entries.{HasEntries-nil, HasEntries-empty, HasEntries-stop, HasEntries-step, has_content_lenient}

@@ -1,7 +1,7 @@
 use Rattle.std.proofs.Common.{ℕ, List, ◌≡◌, Ok, refl}
 use Rattle.jsonb_doc.specs.Payload.{number_reader}
 use Rattle.jsonb_doc.specs.Private.Containers.{IsCut}
-use Rattle.jsonb_doc.specs.Shapes.{IsRootShape}
+use Rattle.jsonb_doc.specs.AnyBytes.Roots.{IsRootShape}
 use Rattle.jsonb_doc.specs.declared.container.Container.{Container}
 use Rattle.jsonb_doc.specs.declared.container.Container.TheVariants as parts
 use Rattle.jsonb_doc.specs.declared.entry_iter.StoredEntry.{StoredEntry}

@@ -3,7 +3,8 @@ use Rattle.std.specs.Prelude.{IfSome}
 use Rattle.jsonb_doc.specs.Tree.{Tree, Trees}
 use Rattle.jsonb_doc.specs.Equal.{is_equal, are_equal}
 use Rattle.jsonb_doc.specs.Payload.{Form}
-use Rattle.jsonb_doc.specs.Item.{StandsFor, item_size}
+use Rattle.jsonb_doc.specs.Item.{StandsFor}
+use Rattle.jsonb_doc.specs.AnyBytes.Items.{item_size}
 use Rattle.jsonb_doc.specs.Private.Stored.{HasEntriesLeft, entries_room}
 use Rattle.jsonb_raw.specs.Private.Compared.{Decides}
 use Rattle.jsonb_raw.proofs.EntriesLeft.{SomeEntries}

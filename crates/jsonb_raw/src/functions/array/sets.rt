@@ -5,13 +5,13 @@ ghost use Rattle.std.specs.Prelude.{◌≡◌, ◌<◌, ◌^◌, List, [], ◌�
 ghost use Rattle.std.specs.List.{AllByRecursion, list_any};
 ghost use Rattle.jsonb_doc.specs.Tree.{Tree, Trees, array, trees_of, elements as elements_of};
 ghost use Rattle.jsonb_doc.specs.Equal.{is_equal};
-ghost use Rattle.jsonb_doc.specs.Limits.{Fits};
+ghost use Rattle.jsonb_doc.specs.Limits.{Fits, IsTooLarge};
 ghost use Rattle.jsonb_doc.specs.Payload.{Form};
 ghost use Rattle.jsonb_doc.specs.Format.{Decodes};
 ghost use Rattle.jsonb_doc.specs.Item.{StandsFor};
-ghost use Rattle.jsonb_doc.specs.Elements.{HasElementsLeft};
+ghost use Rattle.jsonb_doc.specs.Representation.Iterators.{HasElementsLeft};
 ghost use Rattle.jsonb_doc.specs.ArrayBuilder.{HoldsElements};
-ghost use Rattle.jsonb_doc.specs.Answer.{IsOutOfMemory, IsOutOfMemoryOrTooLarge, ◌or◌, IsDecodingError};
+ghost use Rattle.jsonb_doc.specs.Answer.{IsOutOfMemory, ◌or◌, ◌or◌when◌, IsDecodingError};
 ghost use Rattle.jsonb_doc.specs.declared.error.Error.TheVariants.{OutOfMemory, TooLarge};
 ghost use Rattle.jsonb_raw.specs.Documents.{raw_bytes, Makes};
 ghost use Rattle.jsonb_raw.specs.EqualityKey.{equality_key};
@@ -107,7 +107,7 @@ fn push_kept(
         → HoldsElements form builder.old held
         → MatchResult result
         (λ _. HoldsElements form builder.new (held ++ kept_one kind other (before, t)))
-        (IsOutOfMemoryOrTooLarge form (array (trees_of (held ++ kept_one kind other (before, t))))) }
+        (IsOutOfMemory or TooLarge when IsTooLarge form (array (trees_of (held ++ kept_one kind other (before, t))))) }
     ensures behind { (form : Form) (other before : List Tree) (t : Tree) → StandsFor form item.now t → Fits t
         → CountsAfter kind counts.old other before → length before < 2 ^ 63
         → OnOk result (CountsAfter kind counts.new other (t ∷ before)) }

@@ -10,7 +10,7 @@ ghost use Rattle.jsonb_doc.specs.Answer.{IsOutOfMemory, IsDecodingError, â—Œorâ—
 ghost use Rattle.jsonb_doc.specs.declared.error.Error.TheVariants.{OutOfMemory, TooDeep};
 ghost use Rattle.jsonb_raw.specs.CompositeKeys.{column_key, AppendsColumn, AreColumns, deepest_of_columns};
 ghost use Rattle.jsonb_raw.specs.KeyAnswer.{GivesKey};
-ghost use Rattle.jsonb_raw.specs.Roots.{HasRoot};
+ghost use Rattle.jsonb_raw.specs.AnyBytes.Roots.{HasRoot};
 ghost use Rattle.jsonb_raw.specs.Documents.{raw_bytes};
 ghost use Rattle.jsonb_raw.specs.Private.KeyWidth.{width_of};
 

@@ -3,9 +3,11 @@
 ghost use Rattle.std.specs.Prelude.{◌≡◌, ℕ, ◌+◌, ◌≤◌, true, List, [], ◌∷◌, ◌++◌, map, length, IfOk, IfSome, IfErr, IsOkAnd, MatchResult, ⊤};
 ghost use Rattle.jsonb_doc.specs.Tree.{Tree, text};
 ghost use Rattle.jsonb_doc.specs.Payload.{Form, number_reader};
-ghost use Rattle.jsonb_doc.specs.Format.{Decodes, IsContent, container_entry};
+ghost use Rattle.jsonb_doc.specs.Format.{Decodes, IsContent};
+ghost use Rattle.jsonb_doc.specs.Private.EntryKinds.{container_entry};
 ghost use Rattle.jsonb_doc.specs.Kinds.{kind_number};
-ghost use Rattle.jsonb_doc.specs.Answer.{IsOutOfMemory, IsOutOfMemoryOrTooLarge, IsDecodingError, ◌or◌};
+ghost use Rattle.jsonb_doc.specs.Answer.{IsOutOfMemory, IsDecodingError, ◌or◌};
+ghost use Rattle.jsonb_doc.specs.Private.Errors.{IsOutOfMemoryOrTooLarge};
 ghost use Rattle.jsonb_doc.specs.declared.error.Error.TheVariants.{OutOfMemory, TooLarge};
 ghost use Rattle.jsonb_doc.specs.Private.Writer.{AreSortedKeys, Around, IsWriting};
 ghost use Rattle.jsonb_raw.specs.Strip.{strip};

@@ -3,7 +3,8 @@
 ghost use Rattle.std.specs.Prelude.{◌≡◌, ℕ, ◌+◌, ◌*◌, ◌^◌, ◌<◌, ◌≤◌, ◌-◌, List, [], ◌∷◌, ◌++◌, length, take, drop, IsSomeAnd, IsOkAnd, IfErr, Some, None, slice_get, slice_range, MatchResult};
 ghost use Rattle.jsonb_doc.specs.Tree.{Tree};
 ghost use Rattle.jsonb_doc.specs.Payload.{NumberReader, Form, number_reader};
-ghost use Rattle.jsonb_doc.specs.Format.{IsContent, container_entry, entry_word};
+ghost use Rattle.jsonb_doc.specs.Format.{IsContent, entry_word};
+ghost use Rattle.jsonb_doc.specs.Private.EntryKinds.{container_entry};
 ghost use Rattle.jsonb_doc.specs.Encoding.{EntryParts};
 ghost use Rattle.jsonb_doc.specs.Private.ObjectBytes.{words_of_entries, contents_of_entries};
 ghost use Rattle.jsonb_doc.specs.Answer.{IsOutOfMemory, IsDecodingError, ◌or◌};

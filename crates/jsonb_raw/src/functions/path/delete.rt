@@ -10,7 +10,7 @@ ghost use Rattle.jsonb_doc.specs.Format.{Decodes};
 ghost use Rattle.jsonb_doc.specs.Item.{StandsFor};
 ghost use Rattle.jsonb_doc.specs.Answer.{SameOption, IsOutOfMemory, ◌or◌, IsDecodingError};
 ghost use Rattle.jsonb_doc.specs.declared.error.Error.TheVariants.{OutOfMemory, InvalidJsonType};
-ghost use Rattle.jsonb_doc.specs.Spots.{Locates};
+ghost use Rattle.jsonb_doc.specs.Representation.Positions.{Locates};
 ghost use Rattle.jsonb_keypath.specs.declared.key_path.KeyPath.{KeyPath};
 ghost use Rattle.jsonb_keypath.specs.KeyPathViews.{key_view, keys_view};
 ghost use Rattle.jsonb_raw.specs.Documents.{raw_bytes};

@@ -7,8 +7,7 @@ ghost use Rattle.jsonb_doc.specs.Tree.{Tree};
 ghost use Rattle.jsonb_doc.specs.Payload.{Form};
 ghost use Rattle.jsonb_doc.specs.Private.Stored.{Stores, entries_bound};
 ghost use Rattle.jsonb_doc.specs.Answer.{IsDecodingError};
-ghost use Rattle.jsonb_raw.specs.Private.NameBlocks.{HasTextsLeft, TakesText, is_one_of, decided_by};
-ghost use Rattle.jsonb_raw.specs.Private.NameBlocks.{names_of, IsBlock, IsPlaced, AreSeen};
+ghost use Rattle.jsonb_raw.specs.Private.NameBlocks.{HasTextsLeft, TakesText, is_one_of, decided_by, names_of, IsBlock, IsPlaced, AreSeen};
 
 use crate::functions::array::hashes::{HASHES, text_hash};
 use jsonb_doc::layout::EntryKind;

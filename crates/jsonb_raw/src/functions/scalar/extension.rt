@@ -10,11 +10,9 @@ ghost use Rattle.jsonb_doc.specs.Answer.{SameOption, ◌or◌, IsDecodingError, 
 ghost use Rattle.jsonb_doc.specs.View.{extension_view};
 ghost use Rattle.jsonb_raw.specs.Computes.{Computes};
 ghost use Rattle.jsonb_raw.specs.Documents.{raw_bytes};
-ghost use Rattle.jsonb_raw.specs.Roots.{HasRootShape};
+ghost use Rattle.jsonb_raw.specs.AnyBytes.Roots.{HasRootShape};
 ghost use Rattle.jsonb_doc.specs.declared.error.Error.TheVariants.{OutOfMemory};
-ghost use Rattle.jsonb_raw.specs.Scalars.{extension_in};
-ghost use Rattle.jsonb_raw.specs.Scalars.{binary_in, date_in, timestamp_in, timestamp_tz_in, interval_in};
-ghost use Rattle.jsonb_raw.specs.Scalars.{is_extension_value};
+ghost use Rattle.jsonb_raw.specs.Scalars.{extension_in, binary_in, date_in, timestamp_in, timestamp_tz_in, interval_in, is_extension_value};
 
 use crate::raw::RawJsonb;
 use jsonb_doc::{Date, Error, ExtensionValue, Interval, Shape, Timestamp, TimestampTz, root_shape};

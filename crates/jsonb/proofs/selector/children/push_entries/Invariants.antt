@@ -1,5 +1,5 @@
 use Rattle.std.proofs.Common.{◌≡◌, ℕ, ◌++◌, map, List, drop}
-use Rattle.jsonb_doc.specs.Spots.{Locates}
+use Rattle.jsonb_doc.specs.Representation.Positions.{Locates}
 use Rattle.jsonb_doc.specs.Tree.{Tree}
 use Rattle.std.specs.List.{AllZip}
 use Rattle.jsonb.specs.ItemSteps.{picked}

@@ -1,6 +1,6 @@
 use Rattle.std.proofs.Common.{◌≡◌, ℕ, ◌<◌, ◌≤◌, ◌↔◌, Ok, length, ap, subst}
 use Rattle.std.specs.Prelude.{slice_range}
-use Rattle.jsonb_doc.specs.Spots.{Locates}
+use Rattle.jsonb_doc.specs.Representation.Positions.{Locates}
 use Rattle.jsonb.specs.Positions.{IsPosition}
 use Rattle.jsonb.proofs.RefinesLemmas.{pushed_all, same_outcome}
 use Rattle.jsonb.proofs.PickLemmas.{picked_between, AllZip-length, AllZip-between}

@@ -1,6 +1,6 @@
 use Rattle.std.proofs.Common.{[], Ok, ap, sym, ◌∙◌, refl, subst}
 use Rattle.std.specs.List.{cons_option, AllZip}
-use Rattle.jsonb_doc.specs.Spots.{Locates, HasSpotsLeft}
+use Rattle.jsonb_doc.specs.Representation.Positions.{Locates, HasSpotsLeft}
 use Rattle.jsonb_doc.proofs.SpotsTaken.{no_refusal}
 use Rattle.jsonb.proofs.RefinesLemmas.{pushed, unchanged, same_outcome}
 use Rattle.jsonb.proofs.Progress.{spot_first, spot_end}

@@ -1,6 +1,6 @@
 use Rattle.std.proofs.Common.{[], Ok, Err, ap, sym, ◌∙◌, subst}
 use Rattle.std.proofs.lemmas.Result.{err_from_is_err_and}
-use Rattle.jsonb_doc.specs.Spots.{Locates}
+use Rattle.jsonb_doc.specs.Representation.Positions.{Locates}
 use Rattle.std.specs.List.{AllZip}
 use Rattle.jsonb.specs.ItemSteps.{picked}
 use Rattle.jsonb.proofs.RefinesLemmas.{only_memory, same_answer, same_outcome}

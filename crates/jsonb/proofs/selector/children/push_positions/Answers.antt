@@ -1,5 +1,5 @@
 use Rattle.std.proofs.Common.{[], map}
-use Rattle.jsonb_doc.specs.Spots.{Locates, HasSpotsLeft}
+use Rattle.jsonb_doc.specs.Representation.Positions.{Locates, HasSpotsLeft}
 use Rattle.jsonb_raw.specs.Arrays.{array_values}
 use Rattle.jsonb.specs.ItemSteps.{picked}
 use Rattle.jsonb.proofs.RefinesLemmas.{listed, none_found, mismatches, same_answer}

@@ -1,5 +1,5 @@
 use Rattle.std.proofs.Common.{◌++◌, [], ◌∷◌, Ok}
-use Rattle.jsonb_doc.specs.Spots.{Locates, HasSpotsLeft}
+use Rattle.jsonb_doc.specs.Representation.Positions.{Locates, HasSpotsLeft}
 use Rattle.std.specs.List.{AllZip}
 use Rattle.jsonb.proofs.RefinesLemmas.{pushed}
 use Rattle.jsonb.proofs.Progress.{singles_start, one_more, at_end, spot_first, spot_end, spot_refused}

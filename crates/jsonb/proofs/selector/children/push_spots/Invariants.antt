@@ -1,5 +1,5 @@
 use Rattle.std.proofs.Common.{ℕ, ◌++◌, ◌∷◌, [], List, Ok}
-use Rattle.jsonb_doc.specs.Spots.{Locates, HasSpotsLeft}
+use Rattle.jsonb_doc.specs.Representation.Positions.{Locates, HasSpotsLeft}
 use Rattle.jsonb_doc.specs.Tree.{Tree}
 use Rattle.std.specs.List.{AllZip}
 use Rattle.jsonb.proofs.Progress.{Progress}

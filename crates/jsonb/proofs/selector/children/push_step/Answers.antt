@@ -1,6 +1,6 @@
 use Rattle.std.proofs.Common.{map, ap, sym, ◌∙◌, refl, inl, inr}
 use Rattle.jsonb.specs.ItemSteps.{field_step, indices_step}
-use Rattle.jsonb_doc.specs.Spots.{Locates}
+use Rattle.jsonb_doc.specs.Representation.Positions.{Locates}
 use Rattle.jsonb.specs.Meaning.{step_meaning}
 use Rattle.jsonb.proofs.RefinesLemmas.{same_outcome, pushed}
 use Rattle.jsonb.proofs.PathNodes.{root_is, current_is, values_is, elements_is, levels_is, dot_field_is, colon_field_is, object_field_is, indices_is}

@@ -1,5 +1,5 @@
 use Rattle.std.proofs.Common.{◌≡◌, List, map, flat_map}
-use Rattle.jsonb_doc.specs.Spots.{HasSpotsLeft}
+use Rattle.jsonb_doc.specs.Representation.Positions.{HasSpotsLeft}
 use Rattle.jsonb_doc.specs.Tree.{Tree}
 use Rattle.jsonb.specs.Compare.{compare}
 use Rattle.jsonb.specs.Private.Selection.{value_view}

@@ -1,5 +1,5 @@
 use Rattle.std.proofs.Common.{Ok, map, flat_map, ap, sym, append-nil, ◌∙◌}
-use Rattle.jsonb_doc.specs.Spots.{Locates}
+use Rattle.jsonb_doc.specs.Representation.Positions.{Locates}
 use Rattle.jsonb.specs.Compare.{compare}
 use Rattle.jsonb.specs.Private.Selection.{value_view}
 use Rattle.jsonb.specs.Values.{values_of_item}

@@ -1,5 +1,5 @@
 use Rattle.std.proofs.Common.{List}
-use Rattle.jsonb_doc.specs.Spots.{Locates}
+use Rattle.jsonb_doc.specs.Representation.Positions.{Locates}
 use Rattle.jsonb_doc.specs.Tree.{Tree}
 use Rattle.jsonb.specs.PathTree.{Expression, filter}
 use Rattle.std.specs.List.{AllZip}

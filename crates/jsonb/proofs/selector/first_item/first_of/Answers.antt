@@ -1,6 +1,6 @@
 use Rattle.std.proofs.Common.{◌<◌, length, arith, sym, subst}
 use Rattle.std.specs.List.{AllZip}
-use Rattle.jsonb_doc.specs.Spots.{Locates}
+use Rattle.jsonb_doc.specs.Representation.Positions.{Locates}
 use Rattle.jsonb.specs.Private.Selection.{IsAt, AreSelected}
 use Rattle.jsonb.proofs.FirstItems.{place_first}
 use Rattle.jsonb.proofs.selector.first_item.first_of.Goals as goal

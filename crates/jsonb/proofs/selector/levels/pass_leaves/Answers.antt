@@ -1,6 +1,7 @@
 use Rattle.std.proofs.Common.{◌≡◌, ◌++◌, ◌∷◌, [], ◌<◌, ap, sym, ◌∙◌, subst, arith, if◌then◌else◌}
 use Rattle.jsonb_doc.proofs.SpotsTaken.{no_refusal}
-use Rattle.jsonb_doc.specs.Spots.{Locates, spots_bound}
+use Rattle.jsonb_doc.specs.Representation.Positions.{Locates}
+use Rattle.jsonb_doc.specs.AnyBytes.Spots.{spots_bound}
 use Rattle.jsonb_doc.specs.Tree.{children_of}
 use Rattle.jsonb.specs.Preorder.{preorder}
 use Rattle.std.specs.List.{AllZip}
@@ -29,10 +30,10 @@ returns-then-is_container-clause-meant c = λ bytes levels n ts before l m a.
     (spot_first bytes _ _ _ _ c.in_ok-child.was c.in-Some.ensures.steps w.rest w.left)
 
 pub returns-then-is_container-clause-size : goal.returns-then-is_container-clause-size
-returns-then-is_container-clause-size c = omega (arith, c.loop-child.invariant.room, rw c.in_ok-child.was at c.in-Some.ensures.steps.size)
+returns-then-is_container-clause-size c = omega (arith, c.loop-child.invariant.room, rw c.in_ok-child.was at c.in-Some.ensures.steps.any_bytes.size)
 
 pub returns-then-is_container-clause-room : goal.returns-then-is_container-clause-room
-returns-then-is_container-clause-room c = omega (arith, c.loop-child.invariant.room, c.in-Some.ensures.steps.room)
+returns-then-is_container-clause-room c = omega (arith, c.loop-child.invariant.room, c.in-Some.ensures.steps.any_bytes.room)
 
 pub returns-then-is_container-clause-bound : goal.returns-then-is_container-clause-bound
 returns-then-is_container-clause-bound c =
@@ -43,7 +44,7 @@ pub loop-child-preserved : goal.loop-child-preserved
 loop-child-preserved c =
     let fewer : spots_bound c.next.new.self < spots_bound c.loop-child.left = (c.in-Some.ensures.goes.on tt).2 in
     record {
-      room = omega (arith, c.loop-child.invariant.room, c.in-Some.ensures.steps.room);
+      room = omega (arith, c.loop-child.invariant.room, c.in-Some.ensures.steps.any_bytes.room);
       bound = omega (arith, c.loop-child.invariant.bound, fewer);
       passed = λ bytes levels n ts before l m a.
           let w = c.loop-child.invariant.passed bytes levels n ts before l m a in

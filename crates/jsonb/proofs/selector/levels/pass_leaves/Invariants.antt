@@ -1,5 +1,6 @@
 use Rattle.std.proofs.Common.{◌≡◌, ◌≤◌, ℕ, List, Option}
-use Rattle.jsonb_doc.specs.Spots.{Locates, HasSpotsLeft, spots_room, spots_bound}
+use Rattle.jsonb_doc.specs.Representation.Positions.{Locates, HasSpotsLeft}
+use Rattle.jsonb_doc.specs.AnyBytes.Spots.{spots_room, spots_bound}
 use Rattle.jsonb_doc.specs.Tree.{Tree}
 use Rattle.jsonb.specs.PathTree.{Levels}
 use Rattle.jsonb.specs.Preorder.{answer_at}

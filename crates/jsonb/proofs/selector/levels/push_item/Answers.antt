@@ -1,6 +1,6 @@
 use Rattle.std.proofs.Common.{◌++◌, [], ◌∷◌, ap, subst, if◌then◌else◌, arith}
 use Rattle.jsonb_doc.specs.Tree.{children_of}
-use Rattle.jsonb_doc.specs.Spots.{Locates}
+use Rattle.jsonb_doc.specs.Representation.Positions.{Locates}
 use Rattle.jsonb_doc.proofs.SpotsTaken.{some_spots, no_spots}
 use Rattle.std.specs.List.{AllZip}
 use Rattle.jsonb.proofs.LevelLemmas.{preorder-entered, preorder-leaf}

@@ -1,6 +1,6 @@
 use Rattle.std.proofs.Common.{◌++◌, Err, inl, ap, sym, ◌∙◌, refl, subst, option_map, arith}
 use Rattle.std.proofs.lemmas.Result.{err_from_is_err_and}
-use Rattle.jsonb_doc.specs.Spots.{Locates}
+use Rattle.jsonb_doc.specs.Representation.Positions.{Locates}
 use Rattle.std.specs.List.{AllZip}
 use Rattle.jsonb.proofs.RefinesLemmas.{same_answer}
 use Rattle.jsonb.proofs.BelowLemmas.{no_levels, walk_begun, leaves_passed, all_passed, item_passed, item_entered, level_done, walk_done, told_first, falls_within, falls_beside, falls_done}

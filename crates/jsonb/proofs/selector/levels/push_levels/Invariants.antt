@@ -1,6 +1,6 @@
 use Rattle.std.proofs.Common.{◌≡◌, ◌++◌, ◌+◌, ℕ, List, min, option_map}
 use Rattle.std.specs.Prelude.{reverse}
-use Rattle.jsonb_doc.specs.Spots.{Locates}
+use Rattle.jsonb_doc.specs.Representation.Positions.{Locates}
 use Rattle.jsonb_doc.specs.Tree.{Tree}
 use Rattle.jsonb.specs.Preorder.{preorder}
 use Rattle.std.specs.List.{AllZip}

@@ -1,6 +1,6 @@
 use Rattle.std.proofs.Common.{List, [], drop}
 use Rattle.jsonb_doc.specs.Answer.{try_flat_map}
-use Rattle.jsonb_doc.specs.Spots.{Locates}
+use Rattle.jsonb_doc.specs.Representation.Positions.{Locates}
 use Rattle.jsonb_doc.specs.Tree.{Tree}
 use Rattle.jsonb.specs.PathArithmetic.{all_numbers}
 use Rattle.std.specs.List.{AllZip}

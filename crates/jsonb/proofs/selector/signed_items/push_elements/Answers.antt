@@ -1,7 +1,7 @@
 use Rattle.std.proofs.Common.{Err, map, ap, sym, ◌∙◌, append-nil}
 use Rattle.std.proofs.lemmas.Result.{err_from_is_err_and}
 use Rattle.jsonb_doc.specs.Answer.{try_flat_map}
-use Rattle.jsonb_doc.specs.Spots.{Locates, HasSpotsLeft}
+use Rattle.jsonb_doc.specs.Representation.Positions.{Locates, HasSpotsLeft}
 use Rattle.jsonb_doc.specs.View.{number_view}
 use Rattle.jsonb.specs.PathArithmetic.{all_numbers}
 use Rattle.jsonb.specs.Values.{value_of_item}

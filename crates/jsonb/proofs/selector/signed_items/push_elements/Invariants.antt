@@ -1,6 +1,6 @@
 use Rattle.std.proofs.Common.{List}
 use Rattle.jsonb_doc.specs.Answer.{try_flat_map}
-use Rattle.jsonb_doc.specs.Spots.{HasSpotsLeft}
+use Rattle.jsonb_doc.specs.Representation.Positions.{HasSpotsLeft}
 use Rattle.jsonb_doc.specs.Tree.{Tree}
 use Rattle.jsonb.specs.PathArithmetic.{all_numbers}
 use Rattle.jsonb.specs.Values.{value_of_item}

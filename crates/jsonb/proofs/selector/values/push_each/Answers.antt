@@ -1,6 +1,6 @@
 use Rattle.std.proofs.Common.{◌≡◌, ◌++◌, Ok, Err, map, flat_map, ap, ◌∙◌, refl}
 use Rattle.std.proofs.lemmas.Result.{err_from_is_err_and}
-use Rattle.jsonb_doc.specs.Spots.{Locates, HasSpotsLeft}
+use Rattle.jsonb_doc.specs.Representation.Positions.{Locates, HasSpotsLeft}
 use Rattle.jsonb.specs.Values.{value_of_item}
 use Rattle.jsonb.specs.Private.Selection.{value_view}
 use Rattle.jsonb.proofs.RefinesLemmas.{same_answer, only_memory}

@@ -1,5 +1,5 @@
 use Rattle.std.proofs.Common.{◌≡◌, ◌++◌, Ok, List, map, flat_map}
-use Rattle.jsonb_doc.specs.Spots.{HasSpotsLeft}
+use Rattle.jsonb_doc.specs.Representation.Positions.{HasSpotsLeft}
 use Rattle.jsonb_doc.specs.Tree.{Tree}
 use Rattle.jsonb.specs.Values.{value_of_item}
 use Rattle.jsonb.specs.Private.Selection.{value_view}

@@ -1,5 +1,5 @@
 use Rattle.std.proofs.Common.{◌≡◌, Option, Some, None, Bool}
-use Rattle.jsonb_doc.specs.Spots.{Locates}
+use Rattle.jsonb_doc.specs.Representation.Positions.{Locates}
 use Rattle.jsonb_c.specs.Spans.{IsSpanOf}
 use Rattle.jsonb_c.proofs.FirstSpans.{item_of, nothing_of}
 use Rattle.jsonb_c.proofs.span.first.first_span.Goals as goal

@@ -2,7 +2,7 @@ use Rattle.std.proofs.Common.{◌≡◌, ◌∙◌, ◌++◌, ◌∷◌, [], ℕ
 use Rattle.std.specs.Prelude.{◌==◌, vec_len}
 use Rattle.std.proofs.lemmas.List.{length-reverse}
 use Rattle.jsonb_doc.specs.Events.{filled}
-use Rattle.jsonb_doc.specs.DocumentBuilder.{IsPieceOf}
+use Rattle.jsonb_doc.specs.Representation.DocumentBuilder.{IsPieceOf}
 use Rattle.jsonb_doc.specs.declared.event_error.EventError.TheVariants.{Failed}
 use Rattle.jsonb_doc.specs.declared.error.Error.TheVariants.{OutOfMemory}
 use Rattle.jsonb_doc.proofs.EventLemmas.{level_stays}

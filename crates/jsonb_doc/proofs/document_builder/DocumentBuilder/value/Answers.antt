@@ -4,9 +4,9 @@ use Rattle.jsonb_doc.specs.Encoding.{EntryParts}
 use Rattle.jsonb_doc.specs.Payload.{number_reader}
 use Rattle.jsonb_doc.specs.Format.{IsContent, Decodes}
 use Rattle.jsonb_doc.specs.Kinds.{kind_number}
-use Rattle.jsonb_doc.specs.Pieces.{bytes_at}
+use Rattle.jsonb_doc.specs.Representation.Pieces.{bytes_at}
 use Rattle.jsonb_doc.specs.Events.{State, takes_value, filled}
-use Rattle.jsonb_doc.specs.DocumentBuilder.{IsPieceOf, HoldsLevel}
+use Rattle.jsonb_doc.specs.Representation.DocumentBuilder.{IsPieceOf, HoldsLevel}
 use Rattle.jsonb_doc.specs.declared.pieces.Piece.{Piece}
 use Rattle.jsonb_doc.specs.declared.document_builder.frame.Frame.TheVariants.{Root}
 use Rattle.jsonb_doc.proofs.Encoded.{content_stands, long_content}

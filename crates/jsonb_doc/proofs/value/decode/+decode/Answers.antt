@@ -156,7 +156,7 @@ pub fill_array-loop-item-preserved : goal.fill_array-loop-item-preserved
 fill_array-loop-item-preserved t c = record {
   can = tt;
   finite = tt;
-  room = omega (arith, c.in-Some.ensures.steps.room, c.loop-item.invariant.room);
+  room = omega (arith, c.in-Some.ensures.steps.any_bytes.room, c.loop-item.invariant.room);
   left = λ seen keeps form ts h.
       let (left, has, joined) = c.loop-item.invariant.left seen keeps form ts h in
       let now = first_element form left c.in-Some.item _ _ c.in_ok-item.was (c.in-Some.ensures.steps.takes form left has) in
@@ -204,7 +204,7 @@ pub fill_object-loop-pair-preserved : goal.fill_object-loop-pair-preserved
 fill_object-loop-pair-preserved t c = record {
   can = tt;
   finite = tt;
-  room = omega (arith, c.in-Some.ensures.steps.room, c.loop-pair.invariant.room);
+  room = omega (arith, c.in-Some.ensures.steps.any_bytes.room, c.loop-pair.invariant.room);
   left = λ seen keeps form ps h rising.
       let (left, has, joined) = c.loop-pair.invariant.left seen keeps form ps h rising in
       let now = first_member form left c.in-Some.pair _ _ c.in_ok-key.was (c.in-Some.ensures.steps.takes form left has) in

@@ -10,13 +10,13 @@ use Rattle.std.proofs.lemmas.Str.Ascii.{IsAscii-nil, IsAscii-cons}
 use Rattle.jsonb_doc.specs.Tree as spec
 use Rattle.jsonb_doc.specs.Payload.{any, number_reader}
 use Rattle.jsonb_doc.specs.Format.{IsContent}
-use Rattle.jsonb_doc.specs.Item.{IsRootOf}
-use Rattle.jsonb_doc.specs.Shapes.{IsRootShape}
+use Rattle.jsonb_doc.specs.AnyBytes.Items.{IsRootOf}
+use Rattle.jsonb_doc.specs.AnyBytes.Roots.{IsRootShape}
 use Rattle.jsonb_doc.specs.declared.error.Error.{Error}
 use Rattle.jsonb_doc.specs.declared.shape.Shape.TheVariants.{Boolean as BooleanShape, Text}
 use Rattle.jsonb_doc.specs.declared.item.Item.TheVariants.{Boolean, String}
 use Rattle.jsonb_raw.specs.Casts.{Spells, SpellsBool, CastsToBool}
-use Rattle.jsonb_raw.specs.Roots.{HasRoot}
+use Rattle.jsonb_raw.specs.AnyBytes.Roots.{HasRoot}
 use Rattle.jsonb_raw.proofs.raw.RawJsonb.to_bool.Goals as goal
 
 ascii_byte : (b : ℕ) → to_ascii_lowercase b < 128 → b < 128

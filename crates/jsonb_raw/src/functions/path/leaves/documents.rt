@@ -6,7 +6,7 @@ ghost use Rattle.jsonb_doc.specs.Payload.{Form};
 ghost use Rattle.jsonb_doc.specs.Format.{Decodes};
 ghost use Rattle.jsonb_doc.specs.Answer.{◌or◌, IsDecodingError};
 ghost use Rattle.jsonb_doc.specs.declared.error.Error.TheVariants.{OutOfMemory, TooLarge};
-ghost use Rattle.jsonb_raw.specs.Roots.{HasRoot};
+ghost use Rattle.jsonb_raw.specs.AnyBytes.Roots.{HasRoot};
 ghost use Rattle.jsonb_raw.specs.Documents.{raw_bytes};
 ghost use Rattle.jsonb_raw.specs.Leaves.{leaves};
 ghost use Rattle.jsonb_raw.specs.LeafDocuments.{MakesLeaves};
@@ -20,7 +20,8 @@ use jsonb_keypath::KeyPaths;
 use std::alloc::Global;
 
 impl<'a> LeafOutput<'a> for OwnedJsonb {
-    ghost use Rattle.jsonb_doc.specs.Answer.{IsOutOfMemoryOrTooLarge, ◌or◌, IsDecodingError};
+    ghost use Rattle.jsonb_doc.specs.Answer.{◌or◌, IsDecodingError};
+    ghost use Rattle.jsonb_doc.specs.Private.Errors.{IsOutOfMemoryOrTooLarge};
     ghost use Rattle.jsonb_doc.specs.Format.{Decodes};
     ghost use Rattle.jsonb_doc.specs.declared.error.Error.TheVariants.{OutOfMemory, TooLarge};
 

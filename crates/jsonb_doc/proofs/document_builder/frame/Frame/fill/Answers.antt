@@ -1,5 +1,5 @@
 use Rattle.std.proofs.Common.{sym, ap, inl, inr, subst, Some, Option, String, Global}
-use Rattle.jsonb_doc.specs.DocumentBuilder.{HoldsLevel, IsEntryOf}
+use Rattle.jsonb_doc.specs.Representation.DocumentBuilder.{HoldsLevel, IsEntryOf}
 use Rattle.jsonb_doc.specs.Events.{filled}
 use Rattle.jsonb_doc.specs.declared.event_error.EventError.TheVariants.{Failed}
 use Rattle.jsonb_doc.specs.declared.document_builder.frame.Frame.TheVariants.{Object}

@@ -4,7 +4,7 @@ use Rattle.jsonb_doc.specs.Tree.{Tree, Trees, elements}
 use Rattle.jsonb_doc.specs.Equal.{is_equal}
 use Rattle.jsonb_doc.specs.Payload.{Form}
 use Rattle.jsonb_doc.specs.Item.{StandsFor}
-use Rattle.jsonb_doc.specs.Elements.{HasElementsLeft}
+use Rattle.jsonb_doc.specs.Representation.Iterators.{HasElementsLeft}
 use Rattle.jsonb_raw.proofs.IteratorItems.{SomeElements}
 use Rattle.jsonb_raw.proofs.functions.array.sets.has_element.Given as goal
 

@@ -5,7 +5,7 @@ use Rattle.jsonb_doc.specs.Tree.{Tree}
 use Rattle.jsonb_doc.specs.Payload.{Form}
 use Rattle.jsonb_raw.specs.CompositeKeys.{AreColumns}
 use Rattle.jsonb_raw.specs.Documents.{raw_bytes}
-use Rattle.jsonb_raw.specs.Roots.{HasRoot}
+use Rattle.jsonb_raw.specs.AnyBytes.Roots.{HasRoot}
 use Rattle.jsonb_raw.specs.Private.KeyWidth.{width_of}
 use Rattle.jsonb_raw.proofs.ColumnLemmas.{KeyLeft}
 use Rattle.jsonb_raw.proofs.functions.operator.column_key.key_of_columns.Given as goal

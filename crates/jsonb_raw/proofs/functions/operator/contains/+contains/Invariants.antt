@@ -4,7 +4,8 @@ use Rattle.std.specs.List.{list_any}
 use Rattle.jsonb_doc.specs.Tree.{Tree, Trees, Pairs, array, object, keys, elements, members}
 use Rattle.jsonb_doc.specs.Payload.{Form}
 use Rattle.jsonb_doc.specs.Format.{Decodes}
-use Rattle.jsonb_doc.specs.Item.{StandsFor, item_size}
+use Rattle.jsonb_doc.specs.Item.{StandsFor}
+use Rattle.jsonb_doc.specs.AnyBytes.Items.{item_size}
 use Rattle.jsonb_doc.specs.Private.Stored.{HasEntriesLeft, Stores, entries_room}
 use Rattle.jsonb_doc.proofs.BuilderSteps.{AreRising}
 use Rattle.jsonb_raw.specs.Contains.{is_part_of, each_is_matched, each_pair_is_matched}

@@ -39,7 +39,7 @@ pub loop-item-preserved : goal.loop-item-preserved
 loop-item-preserved c = record {
   can = tt;
   finite = tt;
-  room = omega (arith, c.in-Some-item.ensures.steps.room);
+  room = omega (arith, c.in-Some-item.ensures.steps.any_bytes.room);
   left = λ form other_form xs y d s.
       SomeElements-first form _ _ _ _ _ c.in_ok-item.was c.in-Some-item.ensures.steps (c.loop-item.invariant.left form other_form xs y d s)
       (λ first rest left stands fact.

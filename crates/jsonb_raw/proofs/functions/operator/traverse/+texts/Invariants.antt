@@ -2,7 +2,8 @@ use Rattle.std.proofs.Common.{◌<◌, ◌≤◌, ◌+◌, ◌*◌, length, Bool
 use Rattle.jsonb_doc.specs.Tree.{Tree, Trees, Pairs, array, object}
 use Rattle.jsonb_doc.specs.Payload.{Form}
 use Rattle.jsonb_doc.specs.Format.{Decodes}
-use Rattle.jsonb_doc.specs.Item.{StandsFor, item_size}
+use Rattle.jsonb_doc.specs.Item.{StandsFor}
+use Rattle.jsonb_doc.specs.AnyBytes.Items.{item_size}
 use Rattle.jsonb_doc.specs.Private.Stored.{entries_room}
 use Rattle.jsonb_raw.specs.Texts.{texts, texts_of_trees, texts_of_pairs, Tells}
 use Rattle.std.specs.Prelude.{IfSome}

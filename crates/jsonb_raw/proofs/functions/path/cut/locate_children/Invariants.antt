@@ -1,7 +1,8 @@
 use Rattle.std.proofs.Common.{◌≡◌, ◌++◌, [], ◌∷◌, ℕ, Some, drop}
 use Rattle.jsonb_doc.specs.Tree.{Tree}
 use Rattle.jsonb_doc.specs.Payload.{Form, number_reader}
-use Rattle.jsonb_doc.specs.Format.{IsContent, container_entry}
+use Rattle.jsonb_doc.specs.Format.{IsContent}
+use Rattle.jsonb_doc.specs.Private.EntryKinds.{container_entry}
 use Rattle.jsonb_raw.specs.Places.{tree_at}
 use Rattle.jsonb_raw.proofs.CutWalks.{WalkedInto}
 use Rattle.jsonb_raw.proofs.functions.path.cut.locate_children.Given as goal

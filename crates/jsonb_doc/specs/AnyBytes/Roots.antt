@@ -1,12 +1,22 @@
--- What the shape of a root states about its tree.
-use Rattle.std.specs.Prelude.{◌≡◌, ℕ, List}
-use Rattle.jsonb_doc.specs.Tree as spec
+-- The roots that can be read, of any bytes.
+use Rattle.std.specs.Prelude.{ℕ, List, ◌≢◌, ◌⊎◌, ◌≡◌}
+use Rattle.jsonb_doc.specs.AnyBytes.Parts.{HasItsWords}
+use Rattle.jsonb_doc.specs.Format.{IsContainer, HasFirstEntry, AreNone, scalar_header, object_header, array_header, Decodes}
+use Rattle.jsonb_doc.specs.Kinds.{kind_number}
 use Rattle.jsonb_doc.specs.Tree.{Tree}
 use Rattle.jsonb_doc.specs.Payload.{any}
-use Rattle.jsonb_doc.specs.Format.{Decodes, IsContainer, HasFirstEntry, AreNone, HasItsWords, scalar_header, array_header, object_header, text_entry}
 use Rattle.jsonb_doc.specs.View.{number_parts, extension_view}
+use Rattle.jsonb_doc.specs.Tree as spec
 use Rattle.jsonb_doc.specs.declared.shape.Shape.{Shape}
 use Rattle.jsonb_doc.specs.declared.shape.Shape.TheVariants.{Null, Boolean, Number, Text, Extension, Array, Object}
+use Rattle.jsonb_doc.specs.declared.layout.EntryKind.TheVariants as entry
+
+-- Holds if the root can be read: after the header of an array there is a word for each element, after that of an object
+-- two for each member, and after that of a scalar one scalar entry.
+abbrev pub HasReadableRoot : List ℕ → Type 0
+HasReadableRoot bytes =
+    HasItsWords array_header 4 bytes ⊎ HasItsWords object_header 8 bytes
+    ⊎ IsContainer scalar_header 0 (HasFirstEntry (λ kind content. kind ≢ kind_number entry.Container) AreNone) bytes
 
 -- Holds if the tree is of this shape.
 abbrev pub HasShape : Shape → Tree → Type 0
@@ -23,7 +33,8 @@ HasShape Object t = (ps : spec.Pairs) × (t ≡ spec.object ps)
 -- entry words follow.
 abbrev pub IsRootShape : List ℕ → Shape → Type 0
 IsRootShape bytes (Text s) =
-    IsContainer scalar_header 0 (HasFirstEntry (λ kind content. (kind ≡ text_entry) × (content ≡ s.now)) AreNone) bytes
+    IsContainer scalar_header 0
+    (HasFirstEntry (λ kind content. (kind ≡ kind_number entry.Text) × (content ≡ s.now)) AreNone) bytes
 IsRootShape bytes Array = HasItsWords array_header 4 bytes
 IsRootShape bytes Object = HasItsWords object_header 8 bytes
 IsRootShape bytes shape = (t : Tree) × Decodes any bytes t × HasShape shape t

@@ -1,7 +1,7 @@
 -- Roots that can be read, whether the bytes decode or not.
 use Rattle.std.specs.Prelude.{ℕ, List}
-use Rattle.jsonb_doc.specs.Item.{IsRootOf}
-use Rattle.jsonb_doc.specs.Shapes.{IsRootShape}
+use Rattle.jsonb_doc.specs.AnyBytes.Items.{IsRootOf}
+use Rattle.jsonb_doc.specs.AnyBytes.Roots.{IsRootShape}
 use Rattle.jsonb_doc.specs.declared.item.Item.{Item}
 use Rattle.jsonb_doc.specs.declared.shape.Shape.{Shape}
 

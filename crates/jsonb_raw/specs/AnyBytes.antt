@@ -1,0 +1,2 @@
+-- Definitions for bytes that may not decode, which clauses for any bytes cite.
+pub mod Roots
