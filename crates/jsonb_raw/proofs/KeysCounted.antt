@@ -70,12 +70,16 @@ counted_again m n o key copy before w same u had is set q =
   where
     once : counted n copy ≡ 1
     once = inserted m n copy 1 u copy ∙ ap (λ b. cond b 1 (counted m copy)) ((bytes_eq-Decides copy.items copy.items).1 refl)
+
     some : 0 < counted n key
     some = let one : counted n key ≡ 1 = sym (same_count n copy key same) ∙ once in omega (arith, one)
+
     put : counted n q ≡ cond (bytes_eq key.items q.items) 1 (counted m q)
     put = inserted m n copy 1 u q ∙ ap (λ k. cond (bytes_eq k q.items) 1 (counted m q)) same
+
     here : before ≡ counted m key
     here = ap (λ x. unwrap_or x 0) had ∙ same_count m copy key same
+
     by : (b : Bool) → (b ≡ true → key.items ≡ q.items) → counted n q ≡ cond b 1 (counted m q) → cond b w (counted n q) ≡ counted m q + cond b 1 0
     by true d e = let there : before ≡ counted m q = here ∙ same_count m key q (d refl) in omega (arith, is, there)
     by false d e = let there : counted n q ≡ counted m q = e in omega (arith, there)
