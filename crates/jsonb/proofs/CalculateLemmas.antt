@@ -1,5 +1,6 @@
 -- Values that are numbers, and the results of arithmetic.
 use Rattle.std.specs.Prelude.{◌+ℤ◌, ◌-ℤ◌, ◌*ℤ◌, int_div, int_rem, nat_lt, ◌||◌, ◌^◌}
+use Rattle.std.specs.Ordering.{int_eq}
 use Rattle.std.proofs.Common.{◌≡◌, zero, suc, ℤ, pos, negsuc, Bool, true, false, if◌then◌else◌, IfOk, IfErr, subst, List, [], ◌∷◌, ◌++◌, Some, Ok, Err, IsOkAnd, refl, sym, ap, ◌∙◌, inl, inr}
 use Rattle.jsonb_doc.specs.Answer.{Outcome, Refines, and_then, try_flat_map, IsOutOfMemory}
 use Rattle.jsonb_doc.specs.Arithmetic as op
@@ -45,9 +46,9 @@ on_integers_normal op.add x y = integer_normal (x +ℤ y)
 on_integers_normal op.subtract x y = integer_normal (x -ℤ y)
 on_integers_normal op.multiply x y = integer_normal (x *ℤ y)
 on_integers_normal op.divide x y =
-    chosen (op.is_zero y) (Err (Arithmetic ZeroDivisor)) (if op.is_zero (int_rem x y) then integer (int_div x y) else Err (Arithmetic Inexact)) tt
-    (chosen (op.is_zero (int_rem x y)) (integer (int_div x y)) (Err (Arithmetic Inexact)) (integer_normal (int_div x y)) tt)
-on_integers_normal op.modulo x y = chosen (op.is_zero y) (Err (Arithmetic ZeroDivisor)) (integer (int_rem x y)) tt (integer_normal (int_rem x y))
+    chosen (int_eq y (pos 0)) (Err (Arithmetic ZeroDivisor)) (if int_eq (int_rem x y) (pos 0) then integer (int_div x y) else Err (Arithmetic Inexact)) tt
+    (chosen (int_eq (int_rem x y) (pos 0)) (integer (int_div x y)) (Err (Arithmetic Inexact)) (integer_normal (int_div x y)) tt)
+on_integers_normal op.modulo x y = chosen (int_eq y (pos 0)) (Err (Arithmetic ZeroDivisor)) (integer (int_rem x y)) tt (integer_normal (int_rem x y))
 
 calculated_normal : (o : Operation) (m n : Number) → IfOk (calculated o m n) IsNormal
 calculated_normal o m n =
@@ -71,9 +72,9 @@ module _ (mode : Mode) where
   on_integers_refused op.subtract x y = integer_refused (x -ℤ y)
   on_integers_refused op.multiply x y = integer_refused (x *ℤ y)
   on_integers_refused op.divide x y =
-      one_of (op.is_zero y) (Err (Arithmetic ZeroDivisor)) (if op.is_zero (int_rem x y) then integer (int_div x y) else Err (Arithmetic Inexact)) tt
-      (one_of (op.is_zero (int_rem x y)) (integer (int_div x y)) (Err (Arithmetic Inexact)) (integer_refused (int_div x y)) tt)
-  on_integers_refused op.modulo x y = one_of (op.is_zero y) (Err (Arithmetic ZeroDivisor)) (integer (int_rem x y)) tt (integer_refused (int_rem x y))
+      one_of (int_eq y (pos 0)) (Err (Arithmetic ZeroDivisor)) (if int_eq (int_rem x y) (pos 0) then integer (int_div x y) else Err (Arithmetic Inexact)) tt
+      (one_of (int_eq (int_rem x y) (pos 0)) (integer (int_div x y)) (Err (Arithmetic Inexact)) (integer_refused (int_div x y)) tt)
+  on_integers_refused op.modulo x y = one_of (int_eq y (pos 0)) (Err (Arithmetic ZeroDivisor)) (integer (int_rem x y)) tt (integer_refused (int_rem x y))
 
   calculated_refused : (o : Operation) (m n : Number) → IfErr (calculated o m n) (IsPathError mode)
   calculated_refused o m n =
