@@ -1,10 +1,10 @@
 -- Children by their positions: all of a root, and those after the first.
-use Rattle.std.proofs.Common.{◌≡◌, ℕ, suc, zero, ◌+◌, ◌-◌, ◌*◌, ◌/◌, ◌^◌, ◌<◌, ◌≤◌, List, [], ◌∷◌, ◌++◌, map, length, drop, slice_range, Option, Some, None, Result, Ok, Err, IsOkAnd, refl, sym, ap, ◌∙◌, arith, append_assoc}
+use Rattle.std.proofs.Common.{◌≡◌, ℕ, suc, ◌+◌, ◌-◌, ◌*◌, ◌/◌, ◌<◌, ◌≤◌, List, [], ◌∷◌, ◌++◌, map, length, drop, slice_range, Some, None, Result, Ok, Err, refl, sym, ap, ◌∙◌, arith, append_assoc}
 use Rattle.std.proofs.lemmas.List.{length-append, append-nil, drop_at}
 use Rattle.std.proofs.lemmas.Slice.{between_to_end}
-use Rattle.jsonb_doc.specs.Tree.{Tree, null, boolean, number, text, extension, array, object, Trees, no_trees, tree, trees_of, elements, count, Pairs, no_pairs, pair, keys, values}
-use Rattle.jsonb_doc.specs.Payload.{NumberReader, Form, any, number_reader, number_of}
-use Rattle.jsonb_doc.specs.Format.{Decodes, header, entry_word, AreEntries, key_words, key_bytes}
+use Rattle.jsonb_doc.specs.Tree.{Tree, text, array, object, no_trees, tree, trees_of, elements, count, no_pairs, pair, keys, values}
+use Rattle.jsonb_doc.specs.Payload.{Form, any, number_reader, number_of}
+use Rattle.jsonb_doc.specs.Format.{Decodes, header, entry_word, AreEntries, key_bytes}
 use Rattle.jsonb_doc.specs.Spots.{TakesSpot, GivesSpot}
 use Rattle.jsonb_doc.specs.Representation.Positions.{Locates, HasSpotsLeft, AreAt, HasChildrenLeft}
 use Rattle.jsonb_doc.specs.AnyBytes.Spots.{PassesSpot}
@@ -13,7 +13,6 @@ use Rattle.jsonb_doc.specs.ChildPositions.{TakesChild}
 use Rattle.jsonb_doc.specs.Private.Containers.{IsCut, Holds, HasPairParts}
 use Rattle.jsonb_doc.specs.Private.Lengths.{StandBefore}
 use Rattle.jsonb_doc.specs.Private.Stored.{key_trees}
-use Rattle.jsonb_doc.specs.declared.child_positions.Child.{Child}
 use Rattle.jsonb_doc.specs.declared.child_positions.ChildPositions.{ChildPositions}
 use Rattle.jsonb_doc.specs.declared.child_positions.EntryPositions.{EntryPositions}
 use Rattle.jsonb_doc.specs.declared.container.ArrayParts.{ArrayParts}
@@ -27,7 +26,7 @@ use Rattle.jsonb_doc.proofs.Containers.{Decodes-array, Decodes-object, entries_o
 use Rattle.jsonb_doc.proofs.KeyEntries.{key_entries}
 use Rattle.jsonb_doc.proofs.OneTree.{document_unique}
 use Rattle.jsonb_doc.proofs.PairsLemmas.{SkipsKeys, HoldsPairs-skipped, HoldsPairs-values}
-use Rattle.jsonb_doc.proofs.SpotsLemmas.{range_part, range_rest, spots_counted, trees_of-elements}
+use Rattle.jsonb_doc.proofs.SpotsLemmas.{range_part, range_rest, trees_of-elements}
 use Rattle.jsonb_doc.proofs.TreeLists.{count-trees_of}
 
 -- ---- entries

@@ -1,14 +1,12 @@
 -- The tree that bytes decode to fits.
 use Rattle.std.proofs.Common.{◌≡◌, ℕ, ◌^◌, ◌<◌, ◌≤◌, List, [], ◌∷◌, ◌++◌, length, ap, arith, true, inl, inr}
-use Rattle.std.proofs.lemmas.List.{length-append}
 use Rattle.jsonb_doc.specs.Bytes.{AreBytes}
 use Rattle.jsonb_doc.specs.Tree.{Tree, null, boolean, number, text, extension, array, object, Trees, no_trees, tree, Pairs, no_pairs, pair, count, keys}
 use Rattle.jsonb_doc.specs.Payload.{Form, canonical, number_of}
-use Rattle.jsonb_doc.specs.Format.{header, BeginWith, HeadedBy, AreKeys, key_bytes, IsContent, AreEntries, AreValues, IsDocument, Decodes}
-use Rattle.jsonb_doc.specs.Canonical.{content, contents, value_contents}
-use Rattle.jsonb_doc.specs.Limits.{IsInRange, AreInRange, ValuesAreInRange, HasShortParts, HasShortElements, HasShortValues, AreShortKeys, IsWithinLimits, Fits}
+use Rattle.jsonb_doc.specs.Format.{header, HeadedBy, AreKeys, key_bytes, IsContent, AreEntries, AreValues, IsDocument, Decodes}
+use Rattle.jsonb_doc.specs.Limits.{content_size, elements_size, values_size, IsInRange, AreInRange, ValuesAreInRange, HasShortParts, HasShortElements, HasShortValues, AreShortKeys, IsWithinLimits, Fits}
 use Rattle.jsonb_doc.proofs.CanonicalLemmas.{in_any}
-use Rattle.jsonb_doc.proofs.Sizes.{extension_size, length-array, length-object, length-canonical_array, length-canonical_object, length-contents}
+use Rattle.jsonb_doc.proofs.Sizes.{extension_size, length-array, length-object, length-contents}
 use Rattle.jsonb_doc.proofs.PayloadsRead.{AreBytes-left, AreBytes-right, number_within, extension_within}
 
 -- the parts of bytes are bytes
@@ -49,15 +47,10 @@ mutual
       let rest = joined_bytes cs e.content e.other_contents e.begin.contents_joined all in
       (content_in_range t e.kind e.content rest.0 e.part, values_in_range ps e.other_words e.other_contents rest.1 e.others)
 
-first_is_shortest : (words contents : List ℕ) (kind : ℕ) (content other_words other_contents : List ℕ)
-    → BeginWith words contents kind content other_words other_contents → (one others : List ℕ) → length one ≤ length content
-    → length others ≤ length other_contents → length (one ++ others) ≤ length contents
-first_is_shortest words contents kind content other_words other_contents b one others e f =
-    omega (arith, length-contents words contents kind content other_words other_contents b, e, f, length-append one others)
-
 mutual
   -- no content is shorter than the canonical one
-  canonical_is_shortest : (t : Tree) (kind : ℕ) (bytes : List ℕ) → AreBytes bytes → IsContent number_of t kind bytes → length (content t) ≤ length bytes
+  canonical_is_shortest : (t : Tree) (kind : ℕ) (bytes : List ℕ) → AreBytes bytes → IsContent number_of t kind bytes
+      → content_size canonical t ≤ length bytes
   canonical_is_shortest null kind bytes all h = omega arith
   canonical_is_shortest (boolean b) kind bytes all h = omega arith
   canonical_is_shortest (number n) kind bytes all h = (number_within bytes n all h.1).1
@@ -65,31 +58,28 @@ mutual
   canonical_is_shortest (extension x) kind bytes all h = omega (arith, extension_size bytes x h.1)
   canonical_is_shortest (array ts) kind bytes all (is, c) =
       let inner = headed_bytes bytes 4 (count ts) c.words c.contents c.headed all in
-      omega (arith, length-array number_of bytes ts c, length-canonical_array ts, entries_are_shortest ts c.words c.contents inner c.parts)
+      omega (arith, length-array number_of bytes ts c, entries_are_shortest ts c.words c.contents inner c.parts)
   canonical_is_shortest (object ps) kind bytes all (is, c) =
       let m = c.parts in
       let inner = headed_bytes bytes 2 (length (keys ps)) c.words c.contents c.headed all in
       let rest = joined_bytes c.contents (key_bytes (keys ps)) m.value_contents m.contents_joined inner in
-      omega (
-        arith,
-        length-object number_of bytes ps c,
-        length-canonical_object ps,
-        values_are_shortest ps m.value_words m.value_contents rest.1 m.values,
-      )
+      omega (arith, length-object number_of bytes ps c, values_are_shortest ps m.value_words m.value_contents rest.1 m.values)
 
-  entries_are_shortest : (ts : Trees) (ws cs : List ℕ) → AreBytes cs → AreEntries number_of ts ws cs → length (contents ts) ≤ length cs
+  entries_are_shortest : (ts : Trees) (ws cs : List ℕ) → AreBytes cs → AreEntries number_of ts ws cs → elements_size canonical ts ≤ length cs
   entries_are_shortest no_trees ws cs all h = omega arith
   entries_are_shortest (tree t ts) ws cs all e =
       let rest = joined_bytes cs e.content e.other_contents e.begin.contents_joined all in
-      first_is_shortest _ _ _ _ _ _ e.begin (content t) (contents ts) (canonical_is_shortest t e.kind e.content rest.0 e.part)
-      (entries_are_shortest ts e.other_words e.other_contents rest.1 e.others)
+      let first = canonical_is_shortest t e.kind e.content rest.0 e.part in
+      let others = entries_are_shortest ts e.other_words e.other_contents rest.1 e.others in
+      omega (arith, length-contents _ _ _ _ _ _ e.begin, first, others)
 
-  values_are_shortest : (ps : Pairs) (ws cs : List ℕ) → AreBytes cs → AreValues number_of ps ws cs → length (value_contents ps) ≤ length cs
+  values_are_shortest : (ps : Pairs) (ws cs : List ℕ) → AreBytes cs → AreValues number_of ps ws cs → values_size canonical ps ≤ length cs
   values_are_shortest no_pairs ws cs all h = omega arith
   values_are_shortest (pair key t ps) ws cs all e =
       let rest = joined_bytes cs e.content e.other_contents e.begin.contents_joined all in
-      first_is_shortest _ _ _ _ _ _ e.begin (content t) (value_contents ps) (canonical_is_shortest t e.kind e.content rest.0 e.part)
-      (values_are_shortest ps e.other_words e.other_contents rest.1 e.others)
+      let first = canonical_is_shortest t e.kind e.content rest.0 e.part in
+      let others = values_are_shortest ps e.other_words e.other_contents rest.1 e.others in
+      omega (arith, length-contents _ _ _ _ _ _ e.begin, first, others)
 
 short_keys : (ks : List (List ℕ)) → AreKeys ks → AreShortKeys ks
 short_keys [] h = tt

@@ -84,13 +84,6 @@ array_filled form ps es new e t (array_of ts) h is part = rw is (AllZip-more (Is
 array_filled form ps es new e t (root u) h is part = absurd h
 array_filled form ps es new e t (object_of prs next) h is part = absurd h
 
--- the same entries are the same elements
-pub array_same : (form : Form) (ps : List Piece) (es new : Vec PieceEntry Global) (level : Level) → HoldsLevel form ps (Array es) level
-    → new.items ≡ es.items → HoldsLevel form ps (Array new) level
-array_same form ps es new (array_of ts) h is = rw is h
-array_same form ps es new (root u) h is = absurd h
-array_same form ps es new (object_of prs next) h is = absurd h
-
 members_filled : (form : Form) (ps : List Piece) (es : List (String Global × PieceEntry)) (prs : List (List ℕ × Tree)) (name : String Global)
     (e : PieceEntry) (t : Tree) (key : List ℕ) → string_bytes name ≡ key → AreMembersOf form ps es prs → IsEntryOf form ps e t
     → AreMembersOf form ps (insert_entry string_cmp es name e) (insert_pair key t prs)

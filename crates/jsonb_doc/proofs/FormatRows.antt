@@ -6,7 +6,7 @@ use Rattle.jsonb_doc.specs.Extension.{binary, date, timestamp, timestamp_tz, int
 use Rattle.jsonb_doc.specs.Tree.{Tree, null, boolean, number, text, extension, array, object, trees_of, pairs_of}
 use Rattle.jsonb_doc.specs.Payload.{canonical, number_reader, number_of, extension_of}
 use Rattle.jsonb_doc.specs.AnyBytes.Unsupported.{is_unsupported}
-use Rattle.jsonb_doc.specs.Canonical.{document}
+use Rattle.jsonb_doc.specs.Private.Canonical.{document}
 use Rattle.jsonb_doc.specs.Depth.{deepest}
 use Rattle.jsonb_doc.proofs.Tables.{AreRows}
 

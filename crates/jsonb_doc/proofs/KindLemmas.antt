@@ -3,7 +3,6 @@ use Rattle.std.proofs.Common.{◌≡◌, ◌≢◌, ℕ, ◌<◌, ◌≤◌, Boo
 use Rattle.std.specs.Prelude.{◌==◌, not, MatchOption, unwrap_or}
 use Rattle.std.proofs.lemmas.Bool.Decides.{nat_tests}
 use denote.Enum.Declared.{tag_of}
-use denote.Enum.Bare.{tag_one}
 use Rattle.jsonb_doc.specs.Kinds.{kind_number}
 use Rattle.jsonb_doc.specs.Private.Headers.{header_number}
 use Rattle.jsonb_doc.specs.declared.layout.EntryKind.{EntryKind}
@@ -30,10 +29,6 @@ read_number None n large known = absurd (omega arith)
 number_is : (kind : EntryKind) → tag_of the_type kind ≡ kind_number kind
 number_is Null = refl
 number_is _ = refl
-
--- kinds of one number are one kind
-pub one_kind : (a b : EntryKind) → kind_number a ≡ kind_number b → a ≡ b
-one_kind a b same = tag_one the_type tt a b (number_is a ∙ same ∙ sym (number_is b))
 
 -- a test decides whether their numbers are one
 pub kinds_told : (a b : EntryKind) → kind_equal.it a b ≡ (kind_number a == kind_number b)

@@ -55,12 +55,6 @@ pub no_spots : (bytes : List ℕ) (found : Option (List Tree)) → SameOption (H
 no_spots bytes (Some ts) h = absurd h
 no_spots bytes None h = refl
 
--- a spot of a part that is there
-pub some_spot : (bytes : List ℕ) (spot : Spot) (found : Option Tree) → SameOption (Locates bytes) (Some spot) found
-    → (t : Tree) × (found ≡ Some t) × Locates bytes spot t
-some_spot bytes spot (Some t) h = (t, refl, h)
-some_spot bytes spot None h = absurd h
-
 pub no_spot : (bytes : List ℕ) (found : Option Tree) → SameOption (Locates bytes) None found → found ≡ None
 no_spot bytes (Some t) h = absurd h
 no_spot bytes None h = refl

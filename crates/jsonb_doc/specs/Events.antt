@@ -1,5 +1,5 @@
 -- Documents as events: what is there before and after each.
-use Rattle.std.specs.Prelude.{ℕ, Bool, true, List, [], ◌∷◌, ◌++◌, Option, Some, None, is_some, is_none, Result, Ok, Err, if◌then◌else◌}
+use Rattle.std.specs.Prelude.{ℕ, Bool, true, List, [], ◌∷◌, ◌++◌, Option, Some, None, is_some, is_none, unwrap_or, Result, Ok, Err, if◌then◌else◌}
 use Rattle.jsonb_doc.specs.Tree.{Tree, null, array, object, trees_of, pairs_of}
 use Rattle.jsonb_doc.specs.ObjectBuilder.{has_key, insert_pair}
 use Rattle.jsonb_doc.specs.declared.error.Error.TheVariants.{ObjectDuplicateKey}
@@ -85,7 +85,6 @@ whole _ = None
 
 -- The tree of what a level has so far.
 abbrev pub so_far : Level → Tree
-so_far (root (Some t)) = t
-so_far (root None) = null
+so_far (root t) = unwrap_or t null
 so_far (array_of ts) = array (trees_of ts)
 so_far (object_of ps key) = object (pairs_of ps)

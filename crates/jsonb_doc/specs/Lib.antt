@@ -13,7 +13,6 @@ pub mod View
 pub mod Item
 pub mod Encoding
 pub mod Elements
-pub mod Canonical
 pub mod Limits
 pub mod Order
 pub mod ObjectPairs
@@ -32,4 +31,5 @@ pub mod Private
 pub mod Proofs
 pub mod Events
 pub mod EventErrorText
+pub mod EventList
 pub mod DocumentBuilder

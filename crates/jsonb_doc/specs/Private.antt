@@ -12,6 +12,7 @@ pub mod Parts
 pub mod Copying
 pub mod Comparing
 pub mod Containers
+pub mod Canonical
 pub mod Short
 pub mod Integers
 pub mod Writing
@@ -19,6 +20,9 @@ pub mod ObjectBytes
 pub mod Values
 pub mod Payloads
 pub mod EqualBytes
+pub mod EventParts
+pub mod Unique
+pub mod Collecting
 pub mod Cursor
 pub mod Writer
 pub mod Closing

@@ -11,7 +11,7 @@ ghost use Rattle.jsonb_doc.specs.Private.EqualBytes.{AreEnds};
 ///
 /// O(1) for up to 16 bytes, otherwise O(n) for n bytes. Does not allocate.
 #[inline(always)]
-pub(crate) fn bytes_equal(bytes: &[u8], other: &[u8]) -> bool
+pub fn bytes_equal(bytes: &[u8], other: &[u8]) -> bool
     ensures { IsTrue result ↔ (bytes.now ≡ other.now) }
 {
     let len = bytes.len();

@@ -18,6 +18,8 @@ use crate::error::Error;
 use crate::layout::{
     EntryKind, HeaderKind, MAX_CONTENT, MAX_ENTRIES, WORD, encode_entry_word, encode_header,
 };
+use crate::number::Number;
+use crate::payload::{number_len, push_number_payload};
 use std::alloc::{AllocError, Global};
 
 /// An open container: where it begins in the buffer, and where the word of its next entry goes.
@@ -40,7 +42,9 @@ pub struct Writer {
 
 impl Writer {
     ghost use Rattle.std.specs.Prelude.{◌≡◌, ℕ, ◌+◌, ◌<◌, ◌≤◌, ◌^◌, List, [], ◌∷◌, ◌++◌, take, drop, length, OnOk, IfOk, IfErr, IsOkAnd, MatchResult};
+    ghost use Rattle.jsonb_doc.specs.Tree as spec;
     ghost use Rattle.jsonb_doc.specs.Tree.{Tree};
+    ghost use Rattle.jsonb_doc.specs.View.{number_view};
     ghost use Rattle.jsonb_doc.specs.Payload.{Form, number_reader};
     ghost use Rattle.jsonb_doc.specs.Format.{Decodes, IsContent};
     ghost use Rattle.jsonb_doc.specs.Kinds.{kind_number};
@@ -125,6 +129,28 @@ impl Writer {
         }
         let word = encode_entry_word(entry.kind, entry.content.len());
         self.out.extend_from_slice(entry.content)?;
+        self.set_words(self.inner, &word);
+        Ok(())
+    }
+
+    /// Appends a number to the innermost container, each zero as one byte.
+    ///
+    /// # Errors
+    ///
+    /// `OutOfMemory`.
+    ///
+    /// # Complexity
+    ///
+    /// O(1). Allocates if the capacity is consumed.
+    #[inline(always)]
+    pub(crate) fn put_number(&mut self, number: Number) -> Result<(), Error>
+        ensures put { (form : Form) (coming : List Tree) (around : Around) (whole : Tree)
+            → IsWriting form self.old (spec.number (number_view number) ∷ coming) around whole
+            → MatchResult result (λ _. IsWriting form self.new coming around whole) IsOutOfMemory }
+        ensures errors { IfErr result IsOutOfMemory }
+    {
+        let word = encode_entry_word(EntryKind::Number, number_len(number));
+        push_number_payload(&mut self.out, number)?;
         self.set_words(self.inner, &word);
         Ok(())
     }

@@ -292,3 +292,6 @@ fn whole(filled: Filled<'_>) -> Result<Value<'_>, Error>
         Filled::Within(_, _) => Err(Error::InvalidJsonb),
     }
 }
+
+#[cfg(test)]
+mod tests;

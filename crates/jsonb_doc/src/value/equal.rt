@@ -302,3 +302,6 @@ fn both<'v, 'a, 'w, 'b>(
         }
     }
 }
+
+#[cfg(test)]
+mod tests;

@@ -1,5 +1,6 @@
+use Rattle.std.proofs.Common.{◌∙◌, sym}
 use Rattle.jsonb_doc.proofs.OneDocument.{one_canonical_document}
 use Rattle.jsonb_doc.proofs.laws.one_canonical_document.Goals as goal
 
 pub returns : goal.returns
-returns c = λ bytes t all h. one_canonical_document bytes t all h
+returns c = λ bytes other t all each h g. one_canonical_document bytes t all h ∙ sym (one_canonical_document other t each g)

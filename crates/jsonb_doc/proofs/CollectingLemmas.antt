@@ -1,0 +1,393 @@
+-- What the collector holds after each event.
+use Rattle.std.proofs.Common.{◌≡◌, ℕ, suc, ◌<◌, ◌≤◌, List, [], ◌∷◌, ◌++◌, length, map, refl, sym, ap, ◌∙◌, arith, Bool, true, false, Some, None, Option, Ordering, Less, Equal, Greater, nat_cmp, IsTrue, subst, inl, inr}
+use Rattle.std.specs.Prelude.{slice_range, slice_get, option_copied, is_some, unwrap_or, take, drop, ◌-◌, IfErr, MatchResult, IsSome, IsUtf8, Result, Ok, Err, OnOk}
+use Rattle.std.specs.Borrow.{Bor}
+use Rattle.std.specs.List.{AllZip}
+use Rattle.std.specs.List.Sorted.{IsSortedBy, IsStableBy}
+use Rattle.std.specs.Ordering.{match_ordering}
+use Rattle.std.specs.Cmp.Lexicographic.{slice_cmp}
+use borrow.Rule.Slice.PartMut.{mid_of}
+use Rattle.std.specs.Str.{IsCharBoundary}
+use Rattle.std.proofs.lemmas.Str.{IsCharBoundary-from_take}
+use Rattle.std.proofs.lemmas.List.{length-map, length-append, append-nil, take_at, drop_at}
+use Rattle.jsonb_doc.specs.Tree.{Tree, array, object, trees_of, pairs_of}
+use Rattle.jsonb_doc.specs.ObjectBuilder.{insert_pair}
+use Rattle.jsonb_doc.specs.Events.{Level, root, array_of, object_of, takes_value, whole}
+use Rattle.jsonb_doc.specs.Private.EventParts.{IsPart, AreElements, AreMembers, HoldParts}
+use Rattle.jsonb_doc.specs.Private.Unique.{has_lower_key, unique, as_pair}
+use Rattle.jsonb_doc.specs.Private.Collecting.{insert_all, appended, EndsAs, Ends, IsMemberOf, HoldsFrame, WaitsFor, AreAround, Keeps, Pushes, IsDue, IsRepeated, IsPushRefused}
+use Rattle.jsonb_doc.specs.declared.layout.HeaderKind.{HeaderKind}
+use Rattle.jsonb_doc.specs.declared.layout.HeaderKind.TheVariants.{Scalar, Object, Array}
+use Rattle.jsonb_doc.specs.declared.event_list.collecting.Run.{Run}
+use Rattle.jsonb_doc.specs.declared.event_list.collecting.Part.{Part}
+use Rattle.jsonb_doc.specs.declared.event_list.collecting.Part.TheVariants.{Nested}
+use Rattle.jsonb_doc.specs.declared.event_list.collecting.Member.{Member}
+use Rattle.jsonb_doc.specs.declared.event_list.collecting.Frame.{Frame}
+use Rattle.jsonb_doc.proofs.TreeLists.{keys-pairs_of}
+use Rattle.jsonb_doc.proofs.EventPartLemmas.{part_stays, last_run}
+use Rattle.jsonb_doc.proofs.UniqueLemmas.{all_rise, sorted_keys, unique_inserted}
+use Rattle.jsonb_doc.specs.declared.event_error.EventError.{EventError}
+use Rattle.jsonb_doc.specs.EventList.{BeginWithText, IsListError}
+
+-- ---- lists in step
+
+zip_along : {A B : Type 0} (R S : A → B → Type 0) → ((x : A) (y : B) → R x y → S x y) → (xs : List A) (ys : List B) → AllZip R xs ys → AllZip S xs ys
+zip_along R S along [] [] h = tt
+zip_along R S along (x ∷ xs) (y ∷ ys) h = (along x y h.0, zip_along R S along xs ys h.1)
+zip_along R S along [] (y ∷ ys) h = absurd h
+zip_along R S along (x ∷ xs) [] h = absurd h
+
+zip_more : {A B : Type 0} (R : A → B → Type 0) (xs : List A) (ys : List B) (x : A) (y : B) → AllZip R xs ys → R x y
+    → AllZip R (xs ++ x ∷ []) (ys ++ y ∷ [])
+zip_more R [] [] x y h last = (last, tt)
+zip_more R (a ∷ xs) (b ∷ ys) x y h last = (h.0, zip_more R xs ys x y h.1 last)
+zip_more R [] (b ∷ ys) x y h last = absurd h
+zip_more R (a ∷ xs) [] x y h last = absurd h
+
+zip_len : {A B : Type 0} (R : A → B → Type 0) (xs : List A) (ys : List B) → AllZip R xs ys → length xs ≡ length ys
+zip_len R [] [] h = refl
+zip_len R (x ∷ xs) (y ∷ ys) h = ap suc (zip_len R xs ys h.1)
+zip_len R [] (y ∷ ys) h = absurd h
+zip_len R (x ∷ xs) [] h = absurd h
+
+-- ---- more members after those of containers that have ended
+
+module _ (ds more : List Member) where
+  stays : (p : Part) (t : Tree) → IsPart ds (suc (length ds)) p t → IsPart (ds ++ more) (suc (length (ds ++ more))) p t
+  stays p t h = part_stays ds more _ _ p t (omega (arith, length-append ds more)) h
+
+  parts_stay : (ms : List Member) (ts : List Tree) → HoldParts ds (suc (length ds)) ms ts → HoldParts (ds ++ more) (suc (length (ds ++ more))) ms ts
+  parts_stay = zip_along _ _ (λ m t. stays m.part t)
+
+  members_stay : (ms : List Member) (ps : List (List ℕ × Tree)) → AllZip (IsMemberOf ds) ms ps → AllZip (IsMemberOf (ds ++ more)) ms ps
+  members_stay = zip_along _ _ (λ m p h. (h.0, stays m.part p.1 h.1))
+
+  waits_stay : (kind : HeaderKind) (key : List ℕ) (ms : List Member) (level : Level) → WaitsFor ds kind key ms level → WaitsFor (ds ++ more) kind key ms level
+  waits_stay Scalar key ms (root None) h = h
+  waits_stay Array key ms (array_of ts) h = parts_stay ms ts h
+  waits_stay Object key ms (object_of ps (Some name)) h = (h.0, members_stay ms ps h.1)
+  waits_stay Scalar key ms (root (Some t)) h = absurd h
+  waits_stay Scalar key ms (array_of ts) h = absurd h
+  waits_stay Scalar key ms (object_of ps next) h = absurd h
+  waits_stay Array key ms (root t) h = absurd h
+  waits_stay Array key ms (object_of ps next) h = absurd h
+  waits_stay Object key ms (root t) h = absurd h
+  waits_stay Object key ms (array_of ts) h = absurd h
+  waits_stay Object key ms (object_of ps None) h = absurd h
+
+  pub around_stay : (kind : HeaderKind) (before : List Member) (ls : List Level) → AreAround ds kind before ls → AreAround (ds ++ more) kind before ls
+  around_stay Scalar before ls h = h
+  around_stay Array before [] h = absurd h
+  around_stay Object before [] h = absurd h
+  around_stay Array before (l ∷ ls) h =
+      (h.0, h.1, h.2, h.3, h.4, h.5, h.6, waits_stay h.3.kind h.2.key.now h.1 l h.7, around_stay h.3.kind h.0 ls h.8)
+  around_stay Object before (l ∷ ls) h =
+      (h.0, h.1, h.2, h.3, h.4, h.5, h.6, waits_stay h.3.kind h.2.key.now h.1 l h.7, around_stay h.3.kind h.0 ls h.8)
+
+-- ---- a value
+
+-- a frame that waits for a value, with it
+pub filled_frame : (ds : List Member) (f : Frame) (kind : HeaderKind) (ms : List Member) (m : Member) (level : Level) (t : Tree) → f.kind ≡ kind
+    → option_copied f.key ≡ None → WaitsFor ds kind m.key.now ms level → IsPart ds (suc (length ds)) m.part t
+    → IsTrue (takes_value level) × HoldsFrame ds f (ms ++ m ∷ []) (appended t level)
+filled_frame ds f Scalar ms m (root None) t is none waits part = (refl, (is, none, rw waits (part, tt)))
+filled_frame ds f Array ms m (array_of ts) t is none waits part = (refl, (is, none, zip_more _ ms ts m t waits part))
+filled_frame ds f Object ms m (object_of ps (Some name)) t is none waits part =
+    (refl, (is, none, zip_more _ ms ps m (name, t) waits.1 (waits.0, part)))
+filled_frame ds f Scalar ms m (root (Some u)) t is none waits part = absurd waits
+filled_frame ds f Scalar ms m (array_of ts) t is none waits part = absurd waits
+filled_frame ds f Scalar ms m (object_of ps next) t is none waits part = absurd waits
+filled_frame ds f Array ms m (root u) t is none waits part = absurd waits
+filled_frame ds f Array ms m (object_of ps next) t is none waits part = absurd waits
+filled_frame ds f Object ms m (root u) t is none waits part = absurd waits
+filled_frame ds f Object ms m (array_of ts) t is none waits part = absurd waits
+filled_frame ds f Object ms m (object_of ps None) t is none waits part = absurd waits
+
+-- a value that is waited for may come next
+pub waits_takes : (ds : List Member) (kind : HeaderKind) (key : List ℕ) (ms : List Member) (level : Level) → WaitsFor ds kind key ms level
+    → IsTrue (takes_value level)
+waits_takes ds Scalar key ms (root None) h = refl
+waits_takes ds Array key ms (array_of ts) h = refl
+waits_takes ds Object key ms (object_of ps (Some name)) h = refl
+waits_takes ds Scalar key ms (root (Some t)) h = absurd h
+waits_takes ds Scalar key ms (array_of ts) h = absurd h
+waits_takes ds Scalar key ms (object_of ps next) h = absurd h
+waits_takes ds Array key ms (root t) h = absurd h
+waits_takes ds Array key ms (object_of ps next) h = absurd h
+waits_takes ds Object key ms (root t) h = absurd h
+waits_takes ds Object key ms (array_of ts) h = absurd h
+waits_takes ds Object key ms (object_of ps None) h = absurd h
+
+-- a key in an object
+pub named_frame : (ds : List Member) (f g : Frame) (ms : List Member) (key : List ℕ) (level : Level) → f.kind ≡ Object → option_copied f.key ≡ None
+    → g.kind ≡ f.kind → option_copied g.key ≡ Some key → HoldsFrame ds f ms level
+    → (ps : List (List ℕ × Tree)) × (level ≡ object_of ps None) × HoldsFrame ds g ms (object_of ps (Some key))
+named_frame ds f g ms key (object_of ps next) is none same some h = (ps, ap (object_of ps) (sym h.1 ∙ none), (same ∙ is, some, h.2))
+named_frame ds f g ms key (root None) is none same some h = let bad : Object ≡ Scalar = sym is ∙ h.0 in absurd (cc)
+named_frame ds f g ms key (root (Some t)) is none same some h = let bad : Object ≡ Scalar = sym is ∙ h.0 in absurd (cc)
+named_frame ds f g ms key (array_of ts) is none same some h = let bad : Object ≡ Array = sym is ∙ h.0 in absurd (cc)
+
+-- ---- the containers around
+
+-- one more container, whose members come next
+pub around_more : (ds : List Member) (kind : HeaderKind) → (kind ≡ Scalar → ⊥) → (earlier ms : List Member) (m : Member) (run : Run) (l : Level) (ls : List Level)
+    → m.part ≡ Nested run → run.first ≡ length earlier → WaitsFor ds run.kind m.key.now ms l → AreAround ds run.kind earlier ls
+    → AreAround ds kind ((earlier ++ ms) ++ m ∷ []) (l ∷ ls)
+around_more ds Scalar some earlier ms m run l ls part first waits around = absurd (some refl)
+around_more ds Array some earlier ms m run l ls part first waits around = (earlier, ms, m, run, refl, part, first, waits, around)
+around_more ds Object some earlier ms m run l ls part first waits around = (earlier, ms, m, run, refl, part, first, waits, around)
+
+pub record OpenedAround (ds before : List Member) (l : Level) (ls : List Level) : Type 0 where
+  pub earlier : List Member
+  pub ms : List Member
+  pub m : Member
+  pub run : Run
+  pub joined : before ≡ (earlier ++ ms) ++ m ∷ []
+  pub part : m.part ≡ Nested run
+  pub first : run.first ≡ length earlier
+  pub waits : WaitsFor ds run.kind m.key.now ms l
+  pub around : AreAround ds run.kind earlier ls
+
+pub opened_around : (ds : List Member) (kind : HeaderKind) (before : List Member) (l : Level) (ls : List Level) → AreAround ds kind before (l ∷ ls)
+    → OpenedAround ds before l ls
+opened_around ds Scalar before l ls h = absurd (cc)
+opened_around ds Array before l ls h =
+    record { earlier = h.0; ms = h.1; m = h.2; run = h.3; joined = h.4; part = h.5; first = h.6; waits = h.7; around = h.8 }
+opened_around ds Object before l ls h =
+    record { earlier = h.0; ms = h.1; m = h.2; run = h.3; joined = h.4; part = h.5; first = h.6; waits = h.7; around = h.8 }
+
+abbrev run_of : Run → Part → Run
+run_of none (Nested run) = run
+run_of none _ = none
+
+pub same_run : (run other : Run) (part : Part) → part ≡ Nested run → part ≡ Nested other → run ≡ other
+same_run run other part e f = ap (run_of run) (sym e ∙ f)
+
+-- the root, once it is complete
+pub root_finished : (ds : List Member) (f : Frame) (ms : List Member) (m : Member) (level : Level) → f.kind ≡ Scalar → Some m ≡ slice_get ms 0
+    → HoldsFrame ds f ms level → (t : Tree) × (whole level ≡ Some t) × IsPart ds (suc (length ds)) m.part t
+root_finished ds f [] m level is first h = let bad : Some m ≡ None = first in absurd (cc)
+root_finished ds f (n ∷ ms) m (root (Some t)) is first h =
+    let same : m ≡ n = ap (λ (o : Option Member). unwrap_or o m) first in
+    (t, refl, rw same h.2.0)
+root_finished ds f (n ∷ ms) m (root None) is first h = let bad : n ∷ ms ≡ [] = h.2 in absurd (cc)
+root_finished ds f (n ∷ ms) m (array_of ts) is first h = let bad : Scalar ≡ Array = sym is ∙ h.0 in absurd (cc)
+root_finished ds f (n ∷ ms) m (object_of ps next) is first h = let bad : Scalar ≡ Object = sym is ∙ h.0 in absurd (cc)
+
+-- ---- the pairs of an object
+
+module _ (ds : List Member) where
+  abbrev IsPairOf : List ℕ × Part → List ℕ × Tree → Type 0
+  IsPairOf e p = (e.0 ≡ p.0) × IsPart ds (suc (length ds)) e.1 p.1
+
+  pub as_pairs : (ms : List Member) (ps : List (List ℕ × Tree)) → AllZip (IsMemberOf ds) ms ps → AllZip IsPairOf (map as_pair ms) ps
+  as_pairs [] [] h = tt
+  as_pairs (m ∷ ms) (p ∷ ps) h = (h.0, as_pairs ms ps h.1)
+  as_pairs [] (p ∷ ps) h = absurd h
+  as_pairs (m ∷ ms) [] h = absurd h
+
+  as_members : (ms : List Member) (ps : List (List ℕ × Tree)) → AllZip IsPairOf (map as_pair ms) ps → AllZip (IsMemberOf ds) ms ps
+  as_members [] [] h = tt
+  as_members (m ∷ ms) (p ∷ ps) h = (h.0, as_members ms ps h.1)
+  as_members [] (p ∷ ps) h = absurd h
+  as_members (m ∷ ms) [] h = absurd h
+
+  pair_inserted : (k key : List ℕ) (part : Part) (t : Tree) (es : List (List ℕ × Part)) (ps : List (List ℕ × Tree)) → k ≡ key
+      → IsPart ds (suc (length ds)) part t → AllZip IsPairOf es ps → AllZip IsPairOf (insert_pair k part es) (insert_pair key t ps)
+  pair_inserted k key part t [] [] named is h = ((named, is), tt)
+  pair_inserted k key part t (e ∷ es) (p ∷ ps) named is h =
+      let same : slice_cmp nat_cmp k e.0 ≡ slice_cmp nat_cmp key p.0 = rw (← named, ← h.0.0) refl in
+      go (slice_cmp nat_cmp k e.0) (slice_cmp nat_cmp key p.0) same (pair_inserted k key part t es ps named is h.1)
+    where
+      go : (o o' : Ordering) → o ≡ o' → AllZip IsPairOf (insert_pair k part es) (insert_pair key t ps)
+          → AllZip IsPairOf (match_ordering o ((k, part) ∷ e ∷ es) ((e.0, part) ∷ es) (e ∷ insert_pair k part es))
+          (match_ordering o' ((key, t) ∷ p ∷ ps) ((p.0, t) ∷ ps) (p ∷ insert_pair key t ps))
+      go Less o' same rest = rw (← same) ((named, is), h)
+      go Equal o' same rest = rw (← same) ((h.0.0, is), h.1)
+      go Greater o' same rest = rw (← same) (h.0, rest)
+  pair_inserted k key part t [] (p ∷ ps) named is h = absurd h
+  pair_inserted k key part t (e ∷ es) [] named is h = absurd h
+
+  all_inserted : (es fs : List (List ℕ × Part)) (ps qs : List (List ℕ × Tree)) → AllZip IsPairOf es ps → AllZip IsPairOf fs qs
+      → AllZip IsPairOf (insert_all es fs) (insert_all ps qs)
+  all_inserted es [] ps [] h g = h
+  all_inserted es (f ∷ fs) ps (q ∷ qs) h g =
+      all_inserted (insert_pair f.0 f.1 es) fs (insert_pair q.0 q.1 ps) qs (pair_inserted f.0 q.0 f.1 q.1 es ps g.0.0 g.0.1 h) g.1
+  all_inserted es [] ps (q ∷ qs) h g = absurd g
+  all_inserted es (f ∷ fs) ps [] h g = absurd g
+
+  -- the members that are kept are the pairs, inserted one after the other
+  pub kept_members : (ms kept : List Member) (qs : List (List ℕ × Tree)) → AllZip (IsMemberOf ds) ms qs
+      → map as_pair kept ≡ insert_all [] (map as_pair ms) → AllZip (IsMemberOf ds) kept (insert_all [] qs)
+  kept_members ms kept qs h is =
+      as_members kept (insert_all [] qs) (rw is (all_inserted [] (map as_pair ms) [] qs tt (as_pairs ms qs h)))
+
+  pub all_kept : (ms kept : List Member) (qs : List (List ℕ × Tree)) → AllZip (IsMemberOf ds) ms qs → AllZip (IsMemberOf ds) kept (insert_all [] qs)
+      → length kept ≡ length ms → length (insert_all [] qs) ≡ length qs
+  all_kept ms kept qs h g same = sym (zip_len _ kept (insert_all [] qs) g) ∙ same ∙ zip_len _ ms qs h
+
+  -- ---- a container that ends
+
+  elements_in : (more : List Member) (room : ℕ) (ms : List Member) (ts : List Tree) → (0 < length ms → suc (length ds) ≤ room) → HoldParts ds (suc (length ds)) ms ts
+      → AreElements (ds ++ more) room ms (trees_of ts)
+  elements_in more room [] [] within h = tt
+  elements_in more room (m ∷ ms) (t ∷ ts) within h =
+      let le = within (omega arith) in
+      (part_stays ds more _ room m.part t le h.0, elements_in more room ms ts (λ some. le) h.1)
+  elements_in more room [] (t ∷ ts) within h = absurd h
+  elements_in more room (m ∷ ms) [] within h = absurd h
+
+  members_in : (more : List Member) (room : ℕ) (ms : List Member) (ps : List (List ℕ × Tree)) → (0 < length ms → suc (length ds) ≤ room)
+      → AllZip (IsMemberOf ds) ms ps → AreMembers (ds ++ more) room ms (pairs_of ps)
+  members_in more room [] [] within h = tt
+  members_in more room (m ∷ ms) (p ∷ ps) within h =
+      let le = within (omega arith) in
+      (h.0.0, part_stays ds more _ room m.part p.1 le h.0.1, members_in more room ms ps (λ some. le) h.1)
+  members_in more room [] (p ∷ ps) within h = absurd h
+  members_in more room (m ∷ ms) [] within h = absurd h
+
+  pub array_part : (run : Run) (ms : List Member) (ts : List Tree) → run.kind ≡ Array → run.first ≡ length ds → run.end ≡ length (ds ++ ms)
+      → HoldParts ds (suc (length ds)) ms ts → IsPart (ds ++ ms) (suc (length (ds ++ ms))) (Nested run) (array (trees_of ts))
+  array_part run ms ts kind first end h =
+      let len = length-append ds ms in
+      let is : slice_range (ds ++ ms) run.first run.end ≡ ms = rw (first, end ∙ len) (last_run ds ms) in (
+        kind,
+        omega (arith, end),
+        omega (arith, first, end, len),
+        omega (arith, end),
+        rw is (elements_in ms run.end ms ts (λ some. omega (arith, some, end, len)) h),
+      )
+
+  pub object_part : (run : Run) (ms : List Member) (qs : List (List ℕ × Tree)) → run.kind ≡ Object → run.first ≡ length ds → run.end ≡ length (ds ++ ms)
+      → AllZip (IsMemberOf ds) ms (insert_all [] qs) → IsPart (ds ++ ms) (suc (length (ds ++ ms))) (Nested run) (object (pairs_of (insert_all [] qs)))
+  object_part run ms qs kind first end h =
+      let len = length-append ds ms in
+      let is : slice_range (ds ++ ms) run.first run.end ≡ ms = rw (first, end ∙ len) (last_run ds ms) in (
+        kind,
+        omega (arith, end),
+        omega (arith, first, end, len),
+        omega (arith, end),
+        rw (keys-pairs_of (insert_all [] qs)) (sorted_keys (insert_all [] qs) (all_rise qs)),
+        rw is (members_in ms run.end ms (insert_all [] qs) (λ some. omega (arith, some, end, len)) h),
+      )
+
+-- ---- the end of a container
+
+pub array_ends : (keep_last : Bool) (ds new : List Member) (f : Frame) (ms : List Member) (level : Level) (run : Run) → f.kind ≡ Array → HoldsFrame ds f ms level
+    → new ≡ ds ++ ms → run.kind ≡ Array → run.first ≡ length ds → run.end ≡ length new → Ends keep_last ds new level run
+array_ends keep_last ds new f ms (array_of ts) run is h joined kind first end = record {
+  t = array (trees_of ts);
+  more = ms;
+  ends_as = refl;
+  joined = joined;
+  part = rw joined (array_part ds run ms ts kind first (end ∙ ap length joined) h.2);
+}
+array_ends keep_last ds new f ms (root None) run is h joined kind first end = let bad : Array ≡ Scalar = sym is ∙ h.0 in absurd (cc)
+array_ends keep_last ds new f ms (root (Some t)) run is h joined kind first end = let bad : Array ≡ Scalar = sym is ∙ h.0 in absurd (cc)
+array_ends keep_last ds new f ms (object_of ps next) run is h joined kind first end = let bad : Array ≡ Object = sym is ∙ h.0 in absurd (cc)
+
+pub object_ends : (keep_last : Bool) (ds new : List Member) (f : Frame) (ms : List Member) (level : Level) (run : Run) → f.kind ≡ Object
+    → option_copied f.key ≡ None → HoldsFrame ds f ms level → Keeps keep_last ds new ms → run.kind ≡ Object → run.first ≡ length ds → run.end ≡ length new
+    → Ends keep_last ds new level run
+object_ends keep_last ds new f ms (object_of qs None) run is none h keeps kind first end =
+    let members = kept_members ds ms keeps.0 qs h.2 keeps.2 in
+    record {
+      t = object (pairs_of (insert_all [] qs));
+      more = keeps.0;
+      ends_as = (refl, λ e. all_kept ds ms keeps.0 qs h.2 members (keeps.3 e));
+      joined = keeps.1;
+      part = rw keeps.1 (object_part ds run keeps.0 qs kind first (end ∙ ap length keeps.1) members);
+    }
+object_ends keep_last ds new f ms (object_of qs (Some key)) run is none h keeps kind first end =
+    let bad : None ≡ Some key = sym none ∙ h.1 in absurd (cc)
+object_ends keep_last ds new f ms (root None) run is none h keeps kind first end = let bad : Object ≡ Scalar = sym is ∙ h.0 in absurd (cc)
+object_ends keep_last ds new f ms (root (Some t)) run is none h keeps kind first end = let bad : Object ≡ Scalar = sym is ∙ h.0 in absurd (cc)
+object_ends keep_last ds new f ms (array_of ts) run is none h keeps kind first end = let bad : Object ≡ Array = sym is ∙ h.0 in absurd (cc)
+
+pub sorted_pushed : {A : Type 0} (r : Result A EventError) (keep_last : Bool) (ms ns old new : List Member) → OnOk r (new ≡ old ++ unique ns)
+    → OnOk r (keep_last ≡ false → unique ns ≡ ns) → IfErr r (IsDue keep_last ((keep_last ≡ false) × (length (unique ns) < length ns)))
+    → IsSortedBy has_lower_key ns → IsStableBy has_lower_key ms ns → length ns ≡ length ms
+    → MatchResult r (λ _. Keeps keep_last old new ms) (IsDue keep_last (IsRepeated keep_last ms))
+sorted_pushed (Ok x) keep_last ms ns old new pushed all errors sorted stable len =
+    (unique ns, pushed, unique_inserted ms ns len sorted stable, λ e. ap length (all e) ∙ len)
+sorted_pushed (Err e) keep_last ms ns old new pushed all (inl memory) sorted stable len = inl memory
+sorted_pushed (Err e) keep_last ms ns old new pushed all (inr due) sorted stable len =
+    let same = ap (λ (ps : List (List ℕ × Part)). length ps) (unique_inserted ms ns len sorted stable) in
+    inr (due.0, (due.1.0, omega (arith, due.1.1, same, len, length-map (unique ns) as_pair)))
+
+pub due_along : (keep_last : Bool) (P Q : Type 0) (e : EventError) → (P → Q) → IsDue keep_last P e → IsDue keep_last Q e
+due_along keep_last P Q e along (inl memory) = inl memory
+due_along keep_last P Q e along (inr due) = inr (due.0, along due.1)
+
+-- an error apart from duplicate keys is one in both cases
+pub due_anyway : (keep_last : Bool) (P Q : Type 0) (e : EventError) → (P → Q) → IsDue true P e → IsDue keep_last Q e
+due_anyway keep_last P Q e along (inl memory) = inl memory
+due_anyway keep_last P Q e along (inr due) = inr (go due.0, along due.1)
+  where
+    go : IsListError true e → IsListError keep_last e
+    go (inl order) = inl order
+    go (inr repeated) = let bad : true ≡ false = repeated.1 in absurd (cc)
+
+pub pushed_ends : (keep_last : Bool) (ds new : List Member) (f : Frame) (ms : List Member) (level : Level) (run : Run) → option_copied f.key ≡ None
+    → HoldsFrame ds f ms level → Pushes keep_last f.kind ds new ms → run.kind ≡ f.kind → run.first ≡ length ds → run.end ≡ length new
+    → Ends keep_last ds new level run
+pushed_ends keep_last ds new f ms level run none h pushes kind first end = go f.kind refl pushes
+  where
+    go : (k : HeaderKind) → f.kind ≡ k → Pushes keep_last k ds new ms → Ends keep_last ds new level run
+    go Array is pushes = array_ends keep_last ds new f ms level run is h pushes (kind ∙ is) first end
+    go Object is pushes = object_ends keep_last ds new f ms level run is none h pushes (kind ∙ is) first end
+    go Scalar is pushes = absurd pushes
+
+pub innermost_is : (items before ms : List Member) (a k : ℕ) → items ≡ before ++ ms → a ≡ length before → k ≡ length items - a → ms ≡ mid_of a k items
+innermost_is items before ms a k joined start len =
+    let rest : drop a items ≡ ms = ap (drop a) joined ∙ drop_at before ms a (sym start) in
+    let all : k ≡ length ms = omega (arith, len, start, ap (λ (xs : List Member). length xs) joined, length-append before ms) in
+    sym (ap (take k) rest ∙ ap (take k) (sym (append-nil ms)) ∙ take_at ms [] k (sym all))
+
+pub none_of : (o : Option (Bor (List ℕ))) → is_some o ≡ false → option_copied o ≡ None
+none_of None e = refl
+none_of (Some x) e = let bad : true ≡ false = e in absurd (cc)
+
+-- a container that ends is within another one
+pub ends_around : (keep_last : Bool) (ds : List Member) (f : Frame) (ms before : List Member) (level : Level) (t : Tree) (ls : List Level)
+    → EndsAs keep_last level t → HoldsFrame ds f ms level → AreAround ds f.kind before ls → (l : Level) × (rest : List Level) × (ls ≡ l ∷ rest)
+ends_around keep_last ds f ms before level t (l ∷ rest) ends h around = (l, rest, refl)
+ends_around keep_last ds f ms before (array_of ts) t [] ends h around = absurd (rw h.0 at around)
+ends_around keep_last ds f ms before (object_of ps next) t [] ends h around = absurd (rw h.0 at around)
+ends_around keep_last ds f ms before (root u) t [] ends h around = absurd ends
+
+-- ---- events that may not come next
+
+copied_none : (o : Option (Bor (List ℕ))) → is_some o ≡ true → option_copied o ≡ None → ⊥
+copied_none None some none = let bad : false ≡ true = some in absurd (cc)
+copied_none (Some x) some none = let bad : Some x.now ≡ None = none in absurd (cc)
+
+-- a container does not end after a key
+pub named_stays : (keep_last : Bool) (ds : List Member) (f : Frame) (ms : List Member) (level : Level) (t : Tree) → HoldsFrame ds f ms level
+    → is_some f.key ≡ true → EndsAs keep_last level t → ⊥
+named_stays keep_last ds f ms (array_of ts) t h some ends = copied_none f.key some h.1
+named_stays keep_last ds f ms (object_of ps None) t h some ends = copied_none f.key some h.1
+named_stays keep_last ds f ms (object_of ps (Some key)) t h some ends = absurd ends
+named_stays keep_last ds f ms (root u) t h some ends = absurd ends
+
+-- a container with such members may not end
+pub refused_stays : (keep_last : Bool) (ds : List Member) (f : Frame) (ms : List Member) (level : Level) (t : Tree) → HoldsFrame ds f ms level
+    → IsPushRefused keep_last f.kind ms → EndsAs keep_last level t → ⊥
+refused_stays keep_last ds f ms (array_of ts) t h refused ends = absurd (rw h.0 at refused)
+refused_stays keep_last ds f ms (object_of qs None) t h refused ends =
+    let repeated : IsRepeated keep_last ms = rw h.0 at refused in
+    let zip = all_inserted ds [] (map as_pair ms) [] qs tt (as_pairs ds ms qs h.2) in
+    absurd (omega (arith, repeated.1, ends.1 repeated.0, zip_len _ _ _ zip, zip_len _ ms qs h.2))
+refused_stays keep_last ds f ms (object_of qs (Some key)) t h refused ends = absurd ends
+refused_stays keep_last ds f ms (root u) t h refused ends = absurd ends
+
+pub no_some : {A : Type 0} (o : Option A) → o ≡ None → IsSome o → ⊥
+no_some None is some = let bad : false ≡ true = some in absurd (cc)
+no_some (Some x) is some = let bad : Some x ≡ None = is in absurd (cc)
+
+-- bytes that begin with a string can be split after it
+pub can_split : (bytes : List ℕ) (len : ℕ) (s rest : List ℕ) → IsUtf8 bytes → BeginWithText len bytes s rest → IsCharBoundary bytes len
+can_split bytes len s rest utf8 begins =
+    let front : take len bytes ≡ s = ap (take len) begins.2 ∙ take_at s rest len begins.0 in
+    let long : len ≤ length bytes = omega (arith, begins.0, ap (λ (bs : List ℕ). length bs) begins.2, length-append s rest) in
+    IsCharBoundary-from_take bytes len utf8 long (subst IsUtf8 (sym front) begins.1)

@@ -1,0 +1,413 @@
+-- The pairs of an open object in the order of the events, and sorted: both are the same states.
+use Rattle.std.proofs.Common.{◌≡◌, ℕ, ◌+◌, ◌≤◌, List, [], ◌∷◌, ◌++◌, length, map, refl, sym, ap, subst, ◌∙◌, arith, Bool, true, false, Some, None, Option, nat_cmp, IsTrue}
+use Rattle.std.specs.Prelude.{Result, Ok, Err, IsOkAnd, ⊤, if◌then◌else◌, unwrap_or}
+use Rattle.std.specs.Cmp.Lexicographic.{slice_cmp}
+use Rattle.std.specs.List.Sorted.{IsStrictlySortedBy}
+use Rattle.std.specs.Map.{keys_of}
+use Rattle.std.proofs.lemmas.Bool.{true≢false}
+use Rattle.jsonb_doc.specs.Tree.{Tree}
+use Rattle.jsonb_doc.specs.ObjectBuilder.{has_key, insert_pair}
+use Rattle.jsonb_doc.specs.Events.{Level, root, array_of, object_of, State, Event, array_begins, object_begins, key_is, value_is, ends, no_events, takes_value, filled, container, whole, within, with_inner, with_key, with_value, closed}
+use Rattle.jsonb_doc.specs.EventList as lists
+use Rattle.jsonb_doc.specs.EventList.{Reads, AreEvents, with_key_again, next_of, AreEventsOf}
+use Rattle.jsonb_doc.specs.Private.Collecting.{insert_all, appended, EndsAs, TakesTree, Opens, LeadsTo, Happen}
+use Rattle.jsonb_doc.specs.declared.event_error.EventError.{EventError}
+use Rattle.jsonb_doc.specs.declared.event_error.EventError.TheVariants.{OutOfOrder, Failed}
+use Rattle.jsonb_doc.specs.declared.error.Error.TheVariants.{ObjectDuplicateKey}
+use Rattle.jsonb_doc.specs.declared.text_event.TextEvent.{TextEvent}
+use Rattle.jsonb_doc.proofs.ObjectLemmas.{length-inserted}
+use Rattle.jsonb_doc.proofs.UniqueLemmas.{rise_inserted, none_rise, one_more}
+
+-- ---- pairs that are new
+
+-- Holds if none of these pairs has a key of those before it.
+abbrev AreNew : List (List ℕ × Tree) → List (List ℕ × Tree) → Type 0
+AreNew ps [] = ⊤
+AreNew ps (q ∷ qs) = (has_key q.0 ps ≡ false) × AreNew (insert_pair q.0 q.1 ps) qs
+
+insert_more : (ps qs : List (List ℕ × Tree)) (q : List ℕ × Tree) → insert_all ps (qs ++ q ∷ []) ≡ insert_pair q.0 q.1 (insert_all ps qs)
+insert_more ps [] q = refl
+insert_more ps (p ∷ qs) q = insert_more (insert_pair p.0 p.1 ps) qs q
+
+more_new : (ps qs : List (List ℕ × Tree)) (q : List ℕ × Tree) → AreNew ps (qs ++ q ∷ []) → AreNew ps qs × (has_key q.0 (insert_all ps qs) ≡ false)
+more_new ps [] q new = (tt, new.0)
+more_new ps (p ∷ qs) q new =
+    let rest = more_new (insert_pair p.0 p.1 ps) qs q new.1 in
+    ((new.0, rest.0), rest.1)
+
+all_more : (ps qs : List (List ℕ × Tree)) → IsStrictlySortedBy (slice_cmp nat_cmp) (keys_of ps) → (length (insert_all ps qs) ≤ length ps + length qs)
+    × (length ps + length qs ≤ length (insert_all ps qs) → AreNew ps qs)
+all_more ps [] rise = (omega arith, λ le. tt)
+all_more ps (q ∷ qs) rise =
+    let one = one_more q.0 q.1 ps rise in
+    let rest = all_more (insert_pair q.0 q.1 ps) qs (rise_inserted q.0 q.1 ps rise) in (
+      omega (arith, one.0, rest.0),
+      λ le. (one.1 (omega (arith, le, rest.0)), rest.1 (omega (arith, le, one.0))),
+    )
+
+-- ---- levels with sorted pairs
+
+abbrev sorted : Level → Level
+sorted (object_of ps key) = object_of (insert_all [] ps) key
+sorted (root t) = root t
+sorted (array_of ts) = array_of ts
+
+abbrev sorted_levels : List Level → List Level
+sorted_levels ls = map sorted ls
+
+abbrev sorted_state : State → State
+sorted_state s = record { inner = sorted s.inner; around = sorted_levels s.around }
+
+takes_sorted : (level : Level) → takes_value (sorted level) ≡ takes_value level
+takes_sorted (root t) = refl
+takes_sorted (array_of ts) = refl
+takes_sorted (object_of ps key) = refl
+
+filled_sorted : (t : Tree) (level : Level) → filled t (sorted level) ≡ sorted (appended t level)
+filled_sorted t (root u) = refl
+filled_sorted t (array_of ts) = refl
+filled_sorted t (object_of ps None) = refl
+filled_sorted t (object_of ps (Some key)) =
+    ap (λ (qs : List (List ℕ × Tree)). object_of qs None) (sym (insert_more [] ps (key, t)))
+
+ends_sorted : (keep_last : Bool) (level : Level) (t : Tree) → EndsAs keep_last level t → container (sorted level) ≡ Some t
+ends_sorted keep_last (array_of ts) t e = ap Some (sym e)
+ends_sorted keep_last (object_of ps None) t e = ap Some (sym e.0)
+ends_sorted keep_last (object_of ps (Some key)) t e = absurd e
+ends_sorted keep_last (root u) t e = absurd e
+
+value_sorted : (t : Tree) (level : Level) (around : List Level) (s : State) → TakesTree t level around s
+    → with_value t (sorted level) ≡ Ok (sorted s.inner)
+value_sorted t level around s h =
+    rw (takes_sorted level, h.0, filled_sorted t level, h.1) refl
+
+-- ---- keys that are new
+
+-- Holds if no key of the level is a duplicate.
+abbrev IsNew : Level → Type 0
+IsNew (object_of ps None) = AreNew [] ps
+IsNew (object_of ps (Some key)) = AreNew [] ps × (has_key key (insert_all [] ps) ≡ false)
+IsNew _ = ⊤
+
+abbrev AreAllNew : List Level → Type 0
+AreAllNew [] = ⊤
+AreAllNew (l ∷ ls) = IsNew l × AreAllNew ls
+
+abbrev IsNewState : State → Type 0
+IsNewState s = IsNew s.inner × AreAllNew s.around
+
+new_before : (t : Tree) (level : Level) → IsTrue (takes_value level) → IsNew (appended t level) → IsNew level
+new_before t (root u) takes new = tt
+new_before t (array_of ts) takes new = tt
+new_before t (object_of ps (Some key)) takes new = more_new [] ps (key, t) new
+new_before t (object_of ps None) takes new = let bad : false ≡ true = takes in absurd (cc)
+
+new_container : (level : Level) (t : Tree) → EndsAs false level t → IsNew level
+new_container (array_of ts) t e = tt
+new_container (object_of ps None) t e = (all_more [] ps none_rise).1 (omega (arith, e.1 refl))
+new_container (object_of ps (Some key)) t e = absurd e
+new_container (root u) t e = absurd e
+
+-- ---- events
+
+-- Holds if the event leads to the state, with sorted pairs.
+abbrev Leads : Bool → Event → State → State → Type 0
+Leads keep_last e s s' = next_of keep_last e (sorted_state s) ≡ Ok (sorted_state s')
+
+opened : (level : Level) (s s' : State) → sorted level ≡ level → Opens level s s' → within level (sorted_state s) ≡ Ok (sorted_state s')
+opened level s s' same h = rw (takes_sorted s.inner, h.0, h.1, same) refl
+
+ended : (keep_last : Bool) (s s' : State) → LeadsTo keep_last ends s s' → closed (container (sorted s.inner)) (sorted_levels s.around) ≡ Ok (sorted_state s')
+ended keep_last s s' h =
+    let takes = h.5 in
+    rw (ends_sorted keep_last s.inner h.0 h.3, h.4, value_sorted h.0 h.1 h.2 s' takes)
+    (ap (λ (ls : List Level). Ok (record { inner = sorted s'.inner; around = sorted_levels ls })) (sym (ap (λ (x : State). x.around) takes.1)))
+
+-- if the last value of a key is kept
+pub leads_last : (e : Event) (s s' : State) → LeadsTo true e s s' → Leads true e s s'
+leads_last array_begins s s' h = opened (array_of []) s s' refl h
+leads_last object_begins s s' h = opened (object_of [] None) s s' refl h
+leads_last (key_is key) s s' h = rw (h.1, h.2) refl
+leads_last (value_is t) s s' h = rw (value_sorted t s.inner s.around s' h, h.1) refl
+leads_last ends s s' h = ended true s s' h
+
+-- if all keys are new
+pub leads_new : (e : Event) (s s' : State) → LeadsTo false e s s' → IsNewState s' → IsNewState s × Leads false e s s'
+leads_new array_begins s s' h new =
+    let old = subst IsNewState h.1 new in
+    (old.1, opened (array_of []) s s' refl h)
+leads_new object_begins s s' h new =
+    let old = subst IsNewState h.1 new in
+    (old.1, opened (object_of [] None) s s' refl h)
+leads_new (key_is key) s s' h new =
+    let old = subst IsNewState h.2 new in
+    ((subst IsNew (sym h.1) old.0.0, old.1), rw (h.1, h.2, old.0.1) refl)
+leads_new (value_is t) s s' h new =
+    let old = subst IsNewState h.1 new in
+    ((new_before t s.inner h.0 old.0, old.1), rw (value_sorted t s.inner s.around s' h, h.1) refl)
+leads_new ends s s' h new =
+    let takes = h.5 in
+    let old = subst IsNewState takes.1 new in (
+      (new_container s.inner h.0 h.3, subst AreAllNew (sym h.4) (new_before h.0 h.1 takes.0 old.0, old.1)),
+      ended false s s' h,
+    )
+
+-- ---- all events
+
+pub record AreAll (keep_last : Bool) (es : List TextEvent) (bytes : List ℕ) (s s' : State) : Type 0 where
+  pub events : List Event
+  pub are : AreEvents es bytes events
+  pub leads : lists.after keep_last events (Ok (sorted_state s)) ≡ Ok (sorted_state s')
+
+all_last : (es : List TextEvent) (bytes : List ℕ) (s : State) (rest : List ℕ) (s' : State) → Happen true es bytes s rest s' → AreAll true es bytes s s'
+all_last [] bytes s rest s' h = record { events = []; are = tt; leads = ap (λ (x : State). Ok (sorted_state x)) h.1 }
+all_last (e ∷ es) bytes s rest s' h =
+    let more = all_last es h.1 h.2 rest s' h.5 in
+    record {
+      events = h.0 ∷ more.events;
+      are = (h.1, h.3, more.are);
+      leads = rw (leads_last h.0 s h.2 h.4) more.leads;
+    }
+
+all_new : (es : List TextEvent) (bytes : List ℕ) (s : State) (rest : List ℕ) (s' : State) → Happen false es bytes s rest s' → IsNewState s'
+    → IsNewState s × AreAll false es bytes s s'
+all_new [] bytes s rest s' h new = (subst IsNewState (sym h.1) new, record { events = []; are = tt; leads = ap (λ (x : State). Ok (sorted_state x)) h.1 })
+all_new (e ∷ es) bytes s rest s' h new =
+    let more = all_new es h.1 h.2 rest s' h.5 new in
+    let first = leads_new h.0 s h.2 h.4 more.0 in (
+      first.0,
+      record {
+        events = h.0 ∷ more.1.events;
+        are = (h.1, h.3, more.1.are);
+        leads = rw first.1 more.1.leads;
+      },
+    )
+
+whole_new : (s : State) (t : Tree) → whole s.inner ≡ Some t → s.around ≡ [] → IsNewState s
+whole_new s t is none = (go s.inner is, rw none tt)
+  where
+    go : (level : Level) → whole level ≡ Some t → IsNew level
+    go (root u) is = tt
+    go (array_of ts) is = tt
+    go (object_of ps key) is = let bad : None ≡ Some t = is in absurd (cc)
+
+whole_sorted : (level : Level) (t : Tree) → whole level ≡ Some t → whole (sorted level) ≡ Some t
+whole_sorted (root u) t is = is
+whole_sorted (array_of ts) t is = is
+whole_sorted (object_of ps key) t is = is
+
+complete : (keep_last : Bool) (es : List TextEvent) (bytes : List ℕ) (s : State) (t : Tree) → whole s.inner ≡ Some t → AreAll keep_last es bytes no_events s
+    → AreEventsOf keep_last es bytes t
+complete keep_last es bytes s t is all = (all.events, all.are, rw all.leads (whole_sorted s.inner t is))
+
+-- events that lead to a complete root are those of its tree
+pub events_of : (keep_last : Bool) (es : List TextEvent) (bytes : List ℕ) (rest : List ℕ) (s : State) (t : Tree) → Happen keep_last es bytes no_events rest s
+    → whole s.inner ≡ Some t → s.around ≡ [] → AreEventsOf keep_last es bytes t
+events_of true es bytes rest s t h is none = complete true es bytes s t is (all_last es bytes no_events rest s h)
+events_of false es bytes rest s t h is none =
+    complete false es bytes s t is (all_new es bytes no_events rest s h (whole_new s t is none)).1
+
+-- ---- events that lead on
+
+pub record LeadsBack (keep_last : Bool) (e : Event) (s after : State) : Type 0 where
+  pub state : State
+  pub leads : LeadsTo keep_last e s state
+  pub is : after ≡ sorted_state state
+  pub new : keep_last ≡ false → IsNewState state
+
+abbrev ok_or : {A E : Type 0} → A → Result A E → A
+ok_or x (Ok y) = y
+ok_or x (Err e) = x
+
+abbrev is_value : Result State EventError → Bool
+is_value (Ok s) = true
+is_value (Err e) = false
+
+not_ok : (e : EventError) (s : State) → Err e ≡ Ok s → ⊥
+not_ok e s is = true≢false (sym (ap is_value is))
+
+-- a container that begins
+within_back : (level : Level) (s after : State) → within level s ≡ Ok after
+    → IsTrue (takes_value s.inner) × (after ≡ record { inner = level; around = s.inner ∷ s.around })
+within_back level s after = go (takes_value s.inner)
+  where
+    go : (b : Bool) → (if b then Ok (record { inner = level; around = s.inner ∷ s.around }) else Err OutOfOrder) ≡ Ok after
+        → IsTrue b × (after ≡ record { inner = level; around = s.inner ∷ s.around })
+    go true is = (refl, sym (ap (ok_or after) is))
+    go false is = absurd (not_ok OutOfOrder after is)
+
+-- a value
+value_back : (t : Tree) (level : Level) (around : List Level) (after : State) → with_inner around (with_value t level) ≡ Ok after
+    → IsTrue (takes_value level) × (after ≡ record { inner = filled t level; around = around })
+value_back t level around after = go (takes_value level)
+  where
+    go : (b : Bool) → with_inner around (if b then Ok (filled t level) else Err OutOfOrder) ≡ Ok after
+        → IsTrue b × (after ≡ record { inner = filled t level; around = around })
+    go true is = (refl, sym (ap (ok_or after) is))
+    go false is = absurd (not_ok OutOfOrder after is)
+
+opens_back : (keep_last : Bool) (e : Event) (level : Level) (s after : State) → sorted level ≡ level → IsNew level
+    → ((state : State) → Opens level s state → LeadsTo keep_last e s state) → within level (sorted_state s) ≡ Ok after
+    → (keep_last ≡ false → IsNewState s) → LeadsBack keep_last e s after
+opens_back keep_last e level s after same fresh leads is new =
+    let back = within_back level (sorted_state s) after is in
+    let takes : IsTrue (takes_value s.inner) = rw (takes_sorted s.inner) at back.0 in
+    record {
+      state = record { inner = level; around = s.inner ∷ s.around };
+      leads = leads _ (takes, refl);
+      is = back.1 ∙ rw same refl;
+      new = λ ne. (fresh, new ne);
+    }
+
+new_more : (ps qs : List (List ℕ × Tree)) (q : List ℕ × Tree) → AreNew ps qs → has_key q.0 (insert_all ps qs) ≡ false → AreNew ps (qs ++ q ∷ [])
+new_more ps [] q new none = (none, tt)
+new_more ps (p ∷ qs) q new none = (new.0, new_more (insert_pair p.0 p.1 ps) qs q new.1 none)
+
+new_len : (ps qs : List (List ℕ × Tree)) → AreNew ps qs → length (insert_all ps qs) ≡ length ps + length qs
+new_len ps [] new = omega arith
+new_len ps (q ∷ qs) new = omega (arith, new_len (insert_pair q.0 q.1 ps) qs new.1, length-inserted q.0 q.1 ps new.0)
+
+new_after : (t : Tree) (level : Level) → IsTrue (takes_value level) → IsNew level → IsNew (appended t level)
+new_after t (root u) takes new = tt
+new_after t (array_of ts) takes new = tt
+new_after t (object_of ps (Some key)) takes new = new_more [] ps (key, t) new.0 new.1
+new_after t (object_of ps None) takes new = let bad : false ≡ true = takes in absurd (cc)
+
+takes_back : (t : Tree) (level : Level) (around : List Level) (after : State) → with_inner (sorted_levels around) (with_value t (sorted level)) ≡ Ok after
+    → IsTrue (takes_value level) × (after ≡ sorted_state (record { inner = appended t level; around = around }))
+takes_back t level around after is =
+    let back = value_back t (sorted level) (sorted_levels around) after is in
+    (rw (takes_sorted level) at back.0, back.1 ∙ rw (filled_sorted t level) refl)
+
+-- a key
+key_last : (key : List ℕ) (s after : State) → next_of true (key_is key) (sorted_state s) ≡ Ok after → LeadsBack true (key_is key) s after
+key_last key s after = go s.inner refl
+  where
+    go : (level : Level) → s.inner ≡ level → with_inner (sorted_levels s.around) (with_key_again key (sorted level)) ≡ Ok after
+        → LeadsBack true (key_is key) s after
+    go (object_of ps None) here is = record {
+      state = record { inner = object_of ps (Some key); around = s.around };
+      leads = (ps, here, refl);
+      is = sym (ap (ok_or after) is);
+      new = λ ne. absurd (true≢false ne);
+    }
+    go (object_of ps (Some name)) here is = absurd (not_ok OutOfOrder after is)
+    go (array_of ts) here is = absurd (not_ok OutOfOrder after is)
+    go (root u) here is = absurd (not_ok OutOfOrder after is)
+
+key_new : (key : List ℕ) (s after : State) → next_of false (key_is key) (sorted_state s) ≡ Ok after → IsNewState s → LeadsBack false (key_is key) s after
+key_new key s after is new = go s.inner refl is
+  where
+    go : (level : Level) → s.inner ≡ level → with_inner (sorted_levels s.around) (with_key key (sorted level)) ≡ Ok after
+        → LeadsBack false (key_is key) s after
+    go (object_of ps None) here is = fresh (has_key key (insert_all [] ps)) refl is
+      where
+        fresh : (b : Bool) → has_key key (insert_all [] ps) ≡ b
+            → with_inner (sorted_levels s.around) (if b then Err (Failed ObjectDuplicateKey) else Ok (object_of (insert_all [] ps) (Some key))) ≡ Ok after
+            → LeadsBack false (key_is key) s after
+        fresh true there is = absurd (not_ok (Failed ObjectDuplicateKey) after is)
+        fresh false there is = record {
+          state = record { inner = object_of ps (Some key); around = s.around };
+          leads = (ps, here, refl);
+          is = sym (ap (ok_or after) is);
+          new = λ ne. ((rw here at new.0, there), new.1);
+        }
+    go (object_of ps (Some name)) here is = absurd (not_ok OutOfOrder after is)
+    go (array_of ts) here is = absurd (not_ok OutOfOrder after is)
+    go (root u) here is = absurd (not_ok OutOfOrder after is)
+
+-- a container that ends
+container_back : (keep_last : Bool) (level : Level) (t : Tree) → container (sorted level) ≡ Some t → (keep_last ≡ false → IsNew level) → EndsAs keep_last level t
+container_back keep_last (array_of ts) t is new = sym (ap (λ (o : Option Tree). unwrap_or o t) is)
+container_back keep_last (object_of ps None) t is new =
+    (sym (ap (λ (o : Option Tree). unwrap_or o t) is), λ ne. omega (arith, new_len [] ps (new ne)))
+container_back keep_last (object_of ps (Some key)) t is new = let bad : None ≡ Some t = is in absurd (cc)
+container_back keep_last (root u) t is new = let bad : None ≡ Some t = is in absurd (cc)
+
+ends_back : (keep_last : Bool) (s after : State) → closed (container (sorted s.inner)) (sorted_levels s.around) ≡ Ok after
+    → (keep_last ≡ false → IsNewState s) → LeadsBack keep_last ends s after
+ends_back keep_last s after is new = go (container (sorted s.inner)) s.around refl refl is
+  where
+    go : (o : Option Tree) (ls : List Level) → container (sorted s.inner) ≡ o → s.around ≡ ls → closed o (sorted_levels ls) ≡ Ok after
+        → LeadsBack keep_last ends s after
+    go None ls here around is = absurd (not_ok OutOfOrder after is)
+    go (Some t) [] here around is = absurd (not_ok OutOfOrder after is)
+    go (Some t) (l ∷ ls) here around is =
+        let back = takes_back t l ls after is in
+        let outer = λ (ne : keep_last ≡ false). subst AreAllNew around (new ne).1 in
+        record {
+          state = record { inner = appended t l; around = ls };
+          leads = (t, l, ls, container_back keep_last s.inner t here (λ ne. (new ne).0), around, (back.0, refl));
+          is = back.1;
+          new = λ ne. (new_after t l back.0 (outer ne).0, (outer ne).1);
+        }
+
+value_leads : (keep_last : Bool) (t : Tree) (s after : State) → with_inner (sorted_levels s.around) (with_value t (sorted s.inner)) ≡ Ok after
+    → (keep_last ≡ false → IsNewState s) → LeadsBack keep_last (value_is t) s after
+value_leads keep_last t s after is new =
+    let back = takes_back t s.inner s.around after is in
+    record {
+      state = record { inner = appended t s.inner; around = s.around };
+      leads = (back.0, refl);
+      is = back.1;
+      new = λ ne. (new_after t s.inner back.0 (new ne).0, (new ne).1);
+    }
+
+pub leads_back : (keep_last : Bool) (e : Event) (s after : State) → next_of keep_last e (sorted_state s) ≡ Ok after → (keep_last ≡ false → IsNewState s)
+    → LeadsBack keep_last e s after
+leads_back true array_begins s after is new = opens_back true array_begins (array_of []) s after refl tt (λ state h. h) is new
+leads_back true object_begins s after is new = opens_back true object_begins (object_of [] None) s after refl tt (λ state h. h) is new
+leads_back true (key_is key) s after is new = key_last key s after is
+leads_back true (value_is t) s after is new = value_leads true t s after is new
+leads_back true ends s after is new = ends_back true s after is new
+leads_back false array_begins s after is new = opens_back false array_begins (array_of []) s after refl tt (λ state h. h) is new
+leads_back false object_begins s after is new = opens_back false object_begins (object_of [] None) s after refl tt (λ state h. h) is new
+leads_back false (key_is key) s after is new = key_new key s after is (new refl)
+leads_back false (value_is t) s after is new = value_leads false t s after is new
+leads_back false ends s after is new = ends_back false s after is new
+
+-- ---- all events of a tree
+
+pub record Happens (keep_last : Bool) (es : List TextEvent) (bytes : List ℕ) (s after : State) : Type 0 where
+  pub rest : List ℕ
+  pub state : State
+  pub happen : Happen keep_last es bytes s rest state
+  pub is : after ≡ sorted_state state
+
+stuck : (keep_last : Bool) (xs : List Event) (e : EventError) (after : State) → lists.after keep_last xs (Err e) ≡ Ok after → Err e ≡ Ok after
+stuck keep_last [] e after is = is
+stuck keep_last (x ∷ xs) e after is = is
+
+all_back : (keep_last : Bool) (es : List TextEvent) (bytes : List ℕ) (events : List Event) (s after : State) → AreEvents es bytes events
+    → lists.after keep_last events (Ok (sorted_state s)) ≡ Ok after → (keep_last ≡ false → IsNewState s) → Happens keep_last es bytes s after
+all_back keep_last [] bytes [] s after are is new = record { rest = bytes; state = s; happen = (refl, refl); is = sym (ap (ok_or after) is) }
+all_back keep_last (e ∷ es) bytes (event ∷ events) s after are is new =
+    first (next_of keep_last event (sorted_state s)) refl is (λ x leads new. all_back keep_last es are.0 events x after are.2 leads new)
+  where
+    first : (r : Result State EventError) → next_of keep_last event (sorted_state s) ≡ r → lists.after keep_last events r ≡ Ok after
+        → ((x : State) → lists.after keep_last events (Ok (sorted_state x)) ≡ Ok after → (keep_last ≡ false → IsNewState x) → Happens keep_last es are.0 x after)
+        → Happens keep_last (e ∷ es) bytes s after
+    first (Err failed) leads is more = absurd (not_ok failed after (stuck keep_last events failed after is))
+    first (Ok next) leads is more =
+        let one = leads_back keep_last event s next leads new in
+        let rest = more one.state (subst (λ (x : State). lists.after keep_last events (Ok x) ≡ Ok after) one.is is) one.new in
+        record { rest = rest.rest; state = rest.state; happen = (event, are.0, one.state, are.1, one.leads, rest.happen); is = rest.is }
+all_back keep_last [] bytes (event ∷ events) s after are is new = absurd are
+all_back keep_last (e ∷ es) bytes [] s after are is new = absurd are
+
+whole_back : (level : Level) (t : Tree) → whole (sorted level) ≡ Some t → whole level ≡ Some t
+whole_back (root u) t is = is
+whole_back (array_of ts) t is = is
+whole_back (object_of ps key) t is = is
+
+-- the events of a tree lead to it
+pub happen_of : (keep_last : Bool) (es : List TextEvent) (bytes : List ℕ) (t : Tree) → AreEventsOf keep_last es bytes t
+    → (rest : List ℕ) × (s : State) × Happen keep_last es bytes no_events rest s × (whole s.inner ≡ Some t)
+happen_of keep_last es bytes t of = go (lists.after keep_last of.0 (Ok no_events)) refl of.2
+  where
+    go : (r : Result State EventError) → lists.after keep_last of.0 (Ok no_events) ≡ r → IsOkAnd r (λ s. whole s.inner ≡ Some t)
+        → (rest : List ℕ) × (s : State) × Happen keep_last es bytes no_events rest s × (whole s.inner ≡ Some t)
+    go (Err e) is h = absurd h
+    go (Ok after) is h =
+        let back = all_back keep_last es bytes of.0 no_events after of.1 is (λ ne. (tt, tt)) in
+        (back.rest, back.state, back.happen, whole_back back.state.inner t (subst (λ (x : State). whole x.inner ≡ Some t) back.is h))

@@ -1,0 +1,248 @@
+-- Events lead to at most one state.
+use Rattle.std.proofs.Common.{◌≡◌, ℕ, zero, suc, ◌≤◌, ◌^◌, List, [], ◌∷◌, refl, sym, ap, subst, ◌∙◌, arith, Bool, true, false, Some, None, inl, inr, ◌⊎◌, Option, unwrap_or}
+use Rattle.std.specs.Prelude.{take, drop, pos, ◌+ℤ◌, ◌*ℤ◌, ◌==◌, if◌then◌else◌}
+use Rattle.std.proofs.lemmas.Bool.{eqb-true}
+use Rattle.std.proofs.lemmas.List.{take_at, drop_at}
+use Rattle.jsonb_doc.specs.Number.{int64, uint64, decimal64, decimal128, number_from}
+use Rattle.jsonb_doc.specs.Tree.{Tree, null, boolean, number, text}
+use Rattle.jsonb_doc.specs.Events.{Level, root, array_of, object_of, State, Event, array_begins, object_begins, key_is, value_is, ends, takes_value, no_events, whole}
+use Rattle.jsonb_doc.specs.EventList.{scalar_of, BeginWithText, Reads, AreEventsOf, IsListError}
+use Rattle.jsonb_doc.specs.Private.Collecting.{EndsAs, LeadsTo, Happen, Refuses, TakesTree, Opens, IsDue}
+use Rattle.jsonb_doc.specs.Private.Errors.{IsOutOfMemoryOrTooLarge}
+use Rattle.jsonb_doc.specs.Limits.{IsTooLarge}
+use Rattle.jsonb_doc.specs.declared.error.Error.{Error}
+use Rattle.jsonb_doc.specs.declared.error.Error.TheVariants.{OutOfMemory, TooLarge}
+use Rattle.jsonb_doc.specs.declared.event_error.EventError.{EventError}
+use Rattle.jsonb_doc.specs.declared.event_error.EventError.TheVariants.{Failed}
+use Rattle.jsonb_doc.specs.Payload.{Form}
+use Rattle.jsonb_doc.specs.Item.{StandsFor}
+use Rattle.jsonb_doc.specs.Private.EventParts.{IsPlain, IsPlainItem}
+use Rattle.jsonb_doc.specs.declared.item.Item.{Item}
+use Rattle.jsonb_doc.specs.declared.item.Item.TheVariants.{Null, Boolean, Number, String, Extension, Array, Object}
+use Rattle.jsonb_doc.proofs.EventListLemmas.{happen_of}
+use Rattle.jsonb_doc.specs.declared.text_event.TextEvent.{TextEvent}
+
+-- ---- one event
+
+-- The scalar of an event of this kind.
+abbrev plain_tree : ℕ → TextEvent → Tree
+plain_tree kind e =
+    if kind == 0 then null
+    else if kind == 1 then boolean false
+    else if kind == 2 then boolean true
+    else if kind == 3 then number (number_from int64 e.high 0)
+    else if kind == 4 then number (number_from uint64 (pos e.low) 0)
+    else if kind == 5 then number (number_from decimal64 e.high e.scale)
+    else number (number_from decimal128 ((e.high *ℤ pos (2 ^ 64)) +ℤ pos e.low) e.scale)
+
+-- a scalar is one of these
+first_or : (e : TextEvent) (t u : Tree) (rest : Option Tree) (kind : ℕ) → (if e.kind == kind then Some u else rest) ≡ Some t
+    → ((e.kind ≡ kind) × (t ≡ u)) ⊎ (rest ≡ Some t)
+first_or e t u rest kind = go (e.kind == kind) refl
+  where
+    go : (b : Bool) → (e.kind == kind) ≡ b → (if b then Some u else rest) ≡ Some t → ((e.kind ≡ kind) × (t ≡ u)) ⊎ (rest ≡ Some t)
+    go true is h = inl (eqb-true e.kind kind is, sym (ap (λ (o : Option Tree). unwrap_or o t) h))
+    go false is h = inr h
+
+or_else : {A B C : Type 0} → A ⊎ B → (B → C) → A ⊎ C
+or_else (inl a) f = inl a
+or_else (inr b) f = inr (f b)
+
+last_of : {A : Type 0} (t : Tree) → A ⊎ (None ≡ Some t) → A
+last_of t (inl a) = a
+last_of t (inr h) = absurd (cc)
+
+pub plain_from : (e : TextEvent) (t : Tree) → scalar_of e ≡ Some t → IsPlain e t
+plain_from e t h =
+    or_else (first_or e t _ _ 0 h) (λ h. or_else (first_or e t _ _ 1 h) (λ h. or_else (first_or e t _ _ 2 h) (λ h. or_else (first_or e t _ _ 3 h)
+    (λ h. or_else (first_or e t _ _ 4 h) (λ h. or_else (first_or e t _ _ 5 h) (λ h. last_of t (first_or e t _ _ 6 h)))))))
+
+pub plain_to : (e : TextEvent) (t : Tree) → IsPlain e t → scalar_of e ≡ Some t
+plain_to e t (inl h) = rw (h.0, h.1) refl
+plain_to e t (inr (inl h)) = rw (h.0, h.1) refl
+plain_to e t (inr (inr (inl h))) = rw (h.0, h.1) refl
+plain_to e t (inr (inr (inr (inl h)))) = rw (h.0, h.1) refl
+plain_to e t (inr (inr (inr (inr (inl h))))) = rw (h.0, h.1) refl
+plain_to e t (inr (inr (inr (inr (inr (inl h)))))) = rw (h.0, h.1) refl
+plain_to e t (inr (inr (inr (inr (inr (inr h)))))) = rw (h.0, h.1) refl
+
+-- The event of this kind, and the bytes that it leaves.
+abbrev read_at : ℕ → TextEvent → List ℕ → Event × List ℕ
+read_at kind e bytes =
+    if kind == 7 then (value_is (text (take e.low bytes)), drop e.low bytes)
+    else if kind == 8 then (key_is (take e.low bytes), drop e.low bytes)
+    else if kind == 9 then (array_begins, bytes)
+    else if kind == 10 then (object_begins, bytes)
+    else if kind == 11 then (ends, bytes)
+    else (value_is (plain_tree kind e), bytes)
+
+same_kind : (e : TextEvent) (bytes : List ℕ) (kind : ℕ) (x : Event × List ℕ) → e.kind ≡ kind → x ≡ read_at kind e bytes → x ≡ read_at e.kind e bytes
+same_kind e bytes kind x is same = same ∙ sym (ap (λ (k : ℕ). read_at k e bytes) is)
+
+plain_reads : (e : TextEvent) (t : Tree) (bytes : List ℕ) → IsPlain e t → (value_is t, bytes) ≡ read_at e.kind e bytes
+plain_reads e t bytes (inl h) = same_kind e bytes 0 (value_is t, bytes) h.0 (ap (λ (u : Tree). (value_is u, bytes)) h.1)
+plain_reads e t bytes (inr (inl h)) = same_kind e bytes 1 (value_is t, bytes) h.0 (ap (λ (u : Tree). (value_is u, bytes)) h.1)
+plain_reads e t bytes (inr (inr (inl h))) = same_kind e bytes 2 (value_is t, bytes) h.0 (ap (λ (u : Tree). (value_is u, bytes)) h.1)
+plain_reads e t bytes (inr (inr (inr (inl h)))) = same_kind e bytes 3 (value_is t, bytes) h.0 (ap (λ (u : Tree). (value_is u, bytes)) h.1)
+plain_reads e t bytes (inr (inr (inr (inr (inl h))))) = same_kind e bytes 4 (value_is t, bytes) h.0 (ap (λ (u : Tree). (value_is u, bytes)) h.1)
+plain_reads e t bytes (inr (inr (inr (inr (inr (inl h)))))) = same_kind e bytes 5 (value_is t, bytes) h.0 (ap (λ (u : Tree). (value_is u, bytes)) h.1)
+plain_reads e t bytes (inr (inr (inr (inr (inr (inr h)))))) = same_kind e bytes 6 (value_is t, bytes) h.0 (ap (λ (u : Tree). (value_is u, bytes)) h.1)
+
+-- an event of such a kind is a scalar
+pub plain_exists : (e : TextEvent) → e.kind ≤ 6 → (t : Tree) × IsPlain e t
+plain_exists e le = go e.kind refl le
+  where
+    go : (kind : ℕ) → e.kind ≡ kind → kind ≤ 6 → (t : Tree) × IsPlain e t
+    go zero is le = (null, inl (is, refl))
+    go (suc zero) is le = (boolean false, inr (inl (is, refl)))
+    go (suc (suc zero)) is le = (boolean true, inr (inr (inl (is, refl))))
+    go (suc (suc (suc zero))) is le = (number (number_from int64 e.high 0), inr (inr (inr (inl (is, refl)))))
+    go (suc (suc (suc (suc zero)))) is le = (number (number_from uint64 (pos e.low) 0), inr (inr (inr (inr (inl (is, refl))))))
+    go (suc (suc (suc (suc (suc zero))))) is le = (number (number_from decimal64 e.high e.scale), inr (inr (inr (inr (inr (inl (is, refl)))))))
+    go (suc (suc (suc (suc (suc (suc zero)))))) is le =
+        (number (number_from decimal128 ((e.high *ℤ pos (2 ^ 64)) +ℤ pos e.low) e.scale), inr (inr (inr (inr (inr (inr (is, refl)))))))
+    go (suc (suc (suc (suc (suc (suc (suc kind))))))) is le = absurd (omega (arith, le))
+
+text_is : (len : ℕ) (bytes s rest : List ℕ) → BeginWithText len bytes s rest → (s ≡ take len bytes) × (rest ≡ drop len bytes)
+text_is len bytes s rest h = (
+  sym (ap (take len) h.2 ∙ take_at s rest len h.0),
+  sym (ap (drop len) h.2 ∙ drop_at s rest len h.0),
+)
+
+reads_is : (e : TextEvent) (bytes : List ℕ) (event : Event) (rest : List ℕ) → Reads e bytes event rest → (event, rest) ≡ read_at e.kind e bytes
+reads_is e bytes (value_is t) rest (inl h) = ap (λ (bs : List ℕ). (value_is t, bs)) (sym h.1) ∙ plain_reads e t bytes (plain_from e t h.0)
+reads_is e bytes (value_is t) rest (inr h) =
+    let is = text_is e.low bytes h.0 rest h.2 in
+    same_kind e bytes 7 (value_is t, rest) h.1 (rw (h.3, is.1, ← is.0) refl)
+reads_is e bytes (key_is key) rest h =
+    let is = text_is e.low bytes key rest h.1 in
+    same_kind e bytes 8 (key_is key, rest) h.0 (rw (is.1, ← is.0) refl)
+reads_is e bytes array_begins rest h = same_kind e bytes 9 (array_begins, rest) h.0 (rw h.1 refl)
+reads_is e bytes object_begins rest h = same_kind e bytes 10 (object_begins, rest) h.0 (rw h.1 refl)
+reads_is e bytes ends rest h = same_kind e bytes 11 (ends, rest) h.0 (rw h.1 refl)
+
+pub one_read : (e : TextEvent) (bytes : List ℕ) (event other : Event) (rest left : List ℕ) → Reads e bytes event rest → Reads e bytes other left
+    → (event ≡ other) × (rest ≡ left)
+one_read e bytes event other rest left h g =
+    let same = reads_is e bytes event rest h ∙ sym (reads_is e bytes other left g) in
+    (ap (λ (p : Event × List ℕ). p.0) same, ap (λ (p : Event × List ℕ). p.1) same)
+
+-- only the event that is read may come next
+pub only_event : (keep_last : Bool) (e : TextEvent) (bytes : List ℕ) (event : Event) (rest : List ℕ) (s : State) → Reads e bytes event rest
+    → ((after : State) → LeadsTo keep_last event s after → ⊥) → Refuses keep_last e bytes s
+only_event keep_last e bytes event rest s reads refused = λ other left after other_reads leads.
+    let same = one_read e bytes other event left rest other_reads reads in
+    refused after (subst (λ (x : Event). LeadsTo keep_last x s after) same.0 leads)
+
+-- a scalar stands for its tree
+pub plain_stands : (form : Form) (item : Item) (t : Tree) → IsPlainItem item t → StandsFor form item t
+plain_stands form Null t is = is
+plain_stands form (Boolean b) t is = is
+plain_stands form (Number n) t is = is
+plain_stands form (String s) t is = absurd is
+plain_stands form (Extension x) t is = absurd is
+plain_stands form (Array bytes) t is = absurd is
+plain_stands form (Object bytes) t is = absurd is
+
+-- ---- states
+
+one_end : (keep_last : Bool) (level : Level) (t u : Tree) → EndsAs keep_last level t → EndsAs keep_last level u → t ≡ u
+one_end keep_last (array_of ts) t u h g = h ∙ sym g
+one_end keep_last (object_of ps None) t u h g = h.0 ∙ sym g.0
+one_end keep_last (object_of ps (Some key)) t u h g = absurd h
+one_end keep_last (root v) t u h g = absurd h
+
+abbrev pairs_at : Level → List (List ℕ × Tree)
+pairs_at (object_of ps key) = ps
+pairs_at _ = []
+
+abbrev first_of : Level → List Level → Level
+first_of none [] = none
+first_of none (l ∷ ls) = l
+
+one_lead : (keep_last : Bool) (e : Event) (s after other : State) → LeadsTo keep_last e s after → LeadsTo keep_last e s other → after ≡ other
+one_lead keep_last array_begins s after other h g = h.1 ∙ sym g.1
+one_lead keep_last object_begins s after other h g = h.1 ∙ sym g.1
+one_lead keep_last (key_is key) s after other h g =
+    let same : h.0 ≡ g.0 = ap pairs_at (sym h.1 ∙ g.1) in
+    h.2 ∙ ap (λ (ps : List (List ℕ × Tree)). record { inner = object_of ps (Some key); around = s.around }) same ∙ sym g.2
+one_lead keep_last (value_is t) s after other h g = h.1 ∙ sym g.1
+one_lead keep_last ends s after other h g =
+    let tree = one_end keep_last s.inner h.0 g.0 h.3 g.3 in
+    let both = sym h.4 ∙ g.4 in
+    let outer : h.1 ≡ g.1 = ap (first_of h.1) both in
+    let around : h.2 ≡ g.2 = ap (drop 1) both in
+    h.5.1 ∙ rw (tree, outer, around) refl ∙ sym g.5.1
+
+-- the same events lead to the same state
+pub one_run : (keep_last : Bool) (es : List TextEvent) (bytes : List ℕ) (s : State) (rest left : List ℕ) (after other : State)
+    → Happen keep_last es bytes s rest after → Happen keep_last es bytes s left other → after ≡ other
+one_run keep_last [] bytes s rest left after other h g = sym h.1 ∙ g.1
+one_run keep_last (e ∷ es) bytes s rest left after other h g =
+    let read = one_read e bytes h.0 g.0 h.1 g.1 h.3 g.3 in
+    let next = one_lead keep_last h.0 s h.2 g.2 h.4 (subst (λ (x : Event). LeadsTo keep_last x s g.2) (sym read.0) g.4) in
+    one_run keep_last es h.1 h.2 rest left after other h.5
+    (subst (λ (b : List ℕ). Happen keep_last es b h.2 left other) (sym read.1) (subst (λ (x : State). Happen keep_last es g.1 x left other) (sym next) g.5))
+
+-- a value may not come next
+pub value_refused : (t : Tree) (level : Level) (around : List Level) (after : State) → takes_value level ≡ false → TakesTree t level around after → ⊥
+value_refused t level around after ne takes = let bad : true ≡ false = sym takes.0 ∙ ne in absurd (cc)
+
+pub opens_refused : (level : Level) (s after : State) → takes_value s.inner ≡ false → Opens level s after → ⊥
+opens_refused level s after ne takes = let bad : true ≡ false = sym takes.0 ∙ ne in absurd (cc)
+
+-- the events of a tree lead to it
+pub same_tree : (keep_last : Bool) (es : List TextEvent) (bytes rest : List ℕ) (s : State) (t u : Tree) → Happen keep_last es bytes no_events rest s
+    → whole s.inner ≡ Some t → AreEventsOf keep_last es bytes u → t ≡ u
+same_tree keep_last es bytes rest s t u happen is of =
+    let other = happen_of keep_last es bytes u of in
+    let same = one_run keep_last es bytes no_events rest other.0 s other.1 happen other.2 in
+    ap (λ (o : Option Tree). unwrap_or o t) (sym is ∙ ap (λ (x : State). whole x.inner) same ∙ other.3)
+
+-- after an event there are the events that are left
+pub one_step : (keep_last : Bool) (e : TextEvent) (es : List TextEvent) (bytes : List ℕ) (s : State) (event : Event) (left : List ℕ) (next : State)
+    (rest : List ℕ) (after : State) → Reads e bytes event left → LeadsTo keep_last event s next → Happen keep_last (e ∷ es) bytes s rest after
+    → Happen keep_last es left next rest after
+one_step keep_last e es bytes s event left next rest after reads leads h =
+    let read = one_read e bytes h.0 event h.1 left h.3 reads in
+    let same = one_lead keep_last event s h.2 next (subst (λ (x : Event). LeadsTo keep_last x s h.2) read.0 h.4) leads in
+    subst (λ (b : List ℕ). Happen keep_last es b next rest after) read.1 (subst (λ (x : State). Happen keep_last es h.1 x rest after) same h.5)
+
+-- no tree has events of which one may not come next
+pub stopped : (keep_last : Bool) (all : List TextEvent) (whole_text : List ℕ) (e : TextEvent) (es : List TextEvent) (bytes : List ℕ) (s : State)
+    → ((rest : List ℕ) (after : State) → Happen keep_last all whole_text no_events rest after → Happen keep_last (e ∷ es) bytes s rest after)
+    → Refuses keep_last e bytes s → (t : Tree) → AreEventsOf keep_last all whole_text t → ⊥
+stopped keep_last all whole_text e es bytes s back refuses t of =
+    let run = happen_of keep_last all whole_text t of in
+    let h = back run.0 run.1 run.2 in
+    refuses h.0 h.1 h.2 h.3 h.4
+
+-- nor events after which the root is not complete
+pub unfinished : (keep_last : Bool) (all : List TextEvent) (whole_text bytes : List ℕ) (s : State)
+    → ((rest : List ℕ) (after : State) → Happen keep_last all whole_text no_events rest after → Happen keep_last [] bytes s rest after)
+    → whole s.inner ≡ None → (t : Tree) → AreEventsOf keep_last all whole_text t → ⊥
+unfinished keep_last all whole_text bytes s back none t of =
+    let run = happen_of keep_last all whole_text t of in
+    let h = back run.0 run.1 run.2 in
+    let bad : None ≡ Some t = sym none ∙ ap (λ (x : State). whole x.inner) h.1 ∙ run.3 in absurd (cc)
+
+-- ---- errors
+
+pub only_memory : (keep_last : Bool) (P : Type 0) (e : EventError) → (P → ⊥) → IsDue keep_last P e → e ≡ Failed OutOfMemory
+only_memory keep_last P e never (inl memory) = memory
+only_memory keep_last P e never (inr due) = absurd (never due.1)
+
+pub list_fails : (keep_last : Bool) (P : Type 0) (e : EventError) → IsDue keep_last P e
+    → IsListError keep_last e ⊎ ((e ≡ Failed OutOfMemory) ⊎ (e ≡ Failed TooLarge))
+list_fails keep_last P e (inl memory) = inr (inl memory)
+list_fails keep_last P e (inr due) = inl due.0
+
+pub write_fails : (keep_last : Bool) (form : Form) (t : Tree) (d : Error) → IsOutOfMemoryOrTooLarge form t d
+    → IsListError keep_last (Failed d) ⊎ ((Failed d ≡ Failed OutOfMemory) ⊎ (Failed d ≡ Failed TooLarge))
+write_fails keep_last form t d (inl memory) = inr (inl (ap Failed memory))
+write_fails keep_last form t d (inr large) = inr (inr (ap Failed large.0))
+
+pub failed_large : (form : Form) (t u : Tree) (d : Error) → t ≡ u → IsOutOfMemoryOrTooLarge form t d
+    → (Failed d ≡ Failed OutOfMemory) ⊎ ((Failed d ≡ Failed TooLarge) × IsTooLarge form u)
+failed_large form t u d same (inl memory) = inl (ap Failed memory)
+failed_large form t u d same (inr large) = inr (ap Failed large.0, subst (IsTooLarge form) same large.1)

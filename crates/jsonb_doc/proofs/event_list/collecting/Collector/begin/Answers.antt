@@ -1,0 +1,36 @@
+use Rattle.std.proofs.Common.{◌++◌, ◌∷◌, [], ◌∙◌, List, ap, refl, sym, subst, length, arith, None}
+use Rattle.std.proofs.lemmas.List.{append-nil}
+use Rattle.jsonb_doc.specs.Private.Collecting.{WaitsFor, AreAround}
+use Rattle.jsonb_doc.specs.declared.layout.HeaderKind.{HeaderKind}
+use Rattle.jsonb_doc.specs.declared.event_list.collecting.Run.{Run}
+use Rattle.jsonb_doc.specs.declared.event_list.collecting.Part.TheVariants.{Nested}
+use Rattle.jsonb_doc.specs.declared.event_list.collecting.Member.{Member}
+use Rattle.jsonb_doc.specs.declared.event_list.collecting.Frame.{Frame}
+use Rattle.jsonb_doc.proofs.CollectingLemmas.{waits_takes, around_more}
+use Rattle.jsonb_doc.proofs.event_list.collecting.Collector.begin.Goals as goal
+
+pub returns : goal.returns
+returns c = λ s level h some empty.
+    let b = c.args.self.now in
+    let ds = b.ended.items in
+    let key = c.in-Some.ensures in
+    let frame = c.take_key.new.self in
+    let waits = key.waits ds h.ms s.inner h.inner in
+    let outer : Run = record { kind = frame.kind; first = frame.start; end = 0 } in
+    let m : Member = record { key = c.in-Some.key; part = Nested outer } in
+    let before = (h.before ++ h.ms) ++ m ∷ [] in
+    let pushed = c.in_ok-push.ensures.items ∙ ap (λ (ms : List Member). ms ++ m ∷ []) h.joined in
+    let inner : Frame = record { kind = c.args.kind; start = c.len.result; key = None } in (
+      record { inner = level; around = s.inner ∷ s.around },
+      (waits_takes ds b.inner.kind c.in-Some.key.now h.ms s.inner waits, refl),
+      record {
+        before = before;
+        ms = [];
+        joined = pushed ∙ sym (append-nil before);
+        start = omega (arith, c.len.ensures, ap (λ (ms : List Member). length ms) pushed);
+        inner = empty ds inner refl refl;
+        around = around_more ds c.args.kind some h.before h.ms m outer s.inner s.around refl (key.kept.1 ∙ h.start)
+            (subst (λ (kind : HeaderKind). WaitsFor ds kind c.in-Some.key.now h.ms s.inner) (sym key.kept.0) waits)
+            (subst (λ (kind : HeaderKind). AreAround ds kind h.before s.around) (sym key.kept.0) h.around);
+      },
+    )

@@ -1,0 +1,17 @@
+use Rattle.std.proofs.Common.{◌++◌, map, subst, List}
+use Rattle.std.proofs.lemmas.Result.{err_from_is_err_and}
+use Rattle.std.proofs.lemmas.Slice.{first_rest}
+use Rattle.jsonb_doc.specs.Tree.{text}
+use Rattle.jsonb_doc.specs.Private.Writer.{IsWriting}
+use Rattle.jsonb_doc.specs.Private.EventParts.{member_keys}
+use Rattle.jsonb_doc.specs.declared.event_list.collecting.Member.{Member}
+use Rattle.jsonb_doc.proofs.event_list.writing.put_keys.Goals as goal
+
+pub returns-in_err-put_text : goal.returns-in_err-put_text
+returns-in_err-put_text c = record {
+  put = λ form coming around whole w.
+      let i = c.loop-left.invariant form coming around whole w in
+      let first = subst (λ (ms : List Member). IsWriting form c.loop-left.writer (map text (member_keys ms) ++ coming) around whole) (first_rest c.loop-left.left.now _ c.in-len1-up.len_at_least) i in
+      let e = err_from_is_err_and c.from_residual.result c.from_residual.ensures.1 in
+      rw (e.1, e.2) (c.in_err-put_text.ensures.put form _ around whole first);
+}

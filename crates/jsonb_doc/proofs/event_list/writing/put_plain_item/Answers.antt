@@ -1,0 +1,27 @@
+use Rattle.std.proofs.Common.{◌∷◌, refl, subst}
+use Rattle.jsonb_doc.specs.Tree.{Tree}
+use Rattle.jsonb_doc.specs.Private.Writer.{IsWriting}
+use Rattle.jsonb_doc.proofs.EventPartLemmas.{not_too_large}
+use Rattle.jsonb_doc.proofs.event_list.writing.put_plain_item.Goals as goal
+
+pub returns-in-Null : goal.returns-in-Null
+returns-in-Null c = record {
+  put = λ form t coming around whole is w.
+      let same = rw c.in-Null.is at is in
+      c.put_empty.ensures.put form t coming around whole (rw same (refl, refl)) w;
+}
+
+pub returns-in-Boolean : goal.returns-in-Boolean
+returns-in-Boolean c = record {
+  put = λ form t coming around whole is w.
+      let same = rw c.in-Boolean.is at is in
+      c.put_boolean.ensures.put form coming around whole (subst (λ (u : Tree). IsWriting form c.args.writer.now (u ∷ coming) around whole) same w);
+}
+
+pub returns-in-Number : goal.returns-in-Number
+returns-in-Number c = record {
+  put = λ form t coming around whole is w.
+      let same = rw c.in-Number.is at is in
+      not_too_large (λ _. IsWriting form c.put_number.new.self coming around whole) form whole c.put_number.result
+      (c.put_number.ensures.put form coming around whole (subst (λ (u : Tree). IsWriting form c.args.writer.now (u ∷ coming) around whole) same w));
+}

@@ -1,0 +1,90 @@
+use Rattle.std.proofs.Common.{ℕ, Vec, Global, [], ◌∷◌, arith, subst}
+use Rattle.std.proofs.lemmas.List.{nil_from_length}
+use Rattle.std.proofs.lemmas.Result.{err_from_is_err_and}
+use Rattle.jsonb_doc.specs.Format.{Decodes}
+use Rattle.jsonb_doc.specs.Private.Errors.{IsOutOfMemoryOrTooLarge}
+use Rattle.jsonb_doc.specs.Private.Writer.{Around, IsWriting}
+use Rattle.jsonb_doc.proofs.EventPartLemmas.{pushed_outer, popped_outer, none_outside, only_ok, walk_falls_inward, walk_falls_outward}
+use Rattle.jsonb_doc.proofs.event_list.writing.write_container.Goals as goal
+
+pub walk-init : goal.walk-init
+walk-init c = λ form room t h. record {
+  outside = [];
+  are_left = rw c.new-around.ensures.items tt;
+  begun = c.in_ok-writer.ensures.begun form room t h;
+}
+
+pub returns-in_err-inner : goal.returns-in_err-inner
+returns-in_err-inner c = record {
+  written = λ form room t h.
+      let e = err_from_is_err_and c.from_residual-in_err-inner.result c.from_residual-in_err-inner.ensures.1 in
+      let s = c.walk.invariant form room t h in
+      rw (e.1, e.2) (c.in_err-inner.ensures.put form c.args.all.now c.walk.left.room s.begun.trees s.outside t s.begun.holds s.begun.writing);
+}
+
+pub returns-in_err-container-in-Some : goal.returns-in_err-container-in-Some
+returns-in_err-container-in-Some c = record {
+  written = λ form room t h.
+      let e = err_from_is_err_and c.from_residual-in_err-container-in-Some.result c.from_residual-in_err-container-in-Some.ensures.1 in
+      let s = c.walk.invariant form room t h in
+      let found = rw c.in-Some.is at (c.in_ok-inner.ensures.put form c.args.all.now c.walk.left.room s.begun.trees s.outside t s.begun.holds s.begun.writing) in
+      rw (e.1, e.2) (c.in_err-container-in-Some.ensures.entered form found.0 found.1 s.outside t found.2 found.4);
+}
+
+pub walk-smaller-in-Some : goal.walk-smaller-in-Some
+walk-smaller-in-Some c =
+    let fewer = rw c.in-Some.is at c.in_ok-inner.ensures.fewer in
+    let within = c.in_ok-container-in-Some.ensures.inner in
+    walk_falls_inward c.walk.left (record { members = c.in-Some.others; room = c.walk.left.room }) c.in_ok-container-in-Some.entered
+    c.in_ok-container-in-Some.container _ _ fewer (omega arith) within.0 within.1 c.in_ok-push-in-Some.ensures.items
+
+pub walk-preserved-in-Some : goal.walk-preserved-in-Some
+walk-preserved-in-Some c = λ form room t h.
+    let s = c.walk.invariant form room t h in
+    let found = rw c.in-Some.is at (c.in_ok-inner.ensures.put form c.args.all.now c.walk.left.room s.begun.trees s.outside t s.begun.holds s.begun.writing) in
+    record {
+      outside = (c.in_ok-container-in-Some.container, found.1) ∷ s.outside;
+      are_left = pushed_outer c.args.all.now _ _ _ s.outside found.1 c.in_ok-push-in-Some.ensures.items found.3 s.are_left;
+      begun = c.in_ok-container-in-Some.ensures.entered form found.0 found.1 s.outside t found.2 found.4;
+    }
+
+pub returns-in_default : goal.returns-in_default
+returns-in_default c = record {
+  written = λ form room t h.
+      let s = c.walk.invariant form room t h in
+      let done = rw c.in-None.is at (c.in_ok-inner.ensures.put form c.args.all.now c.walk.left.room s.begun.trees s.outside t s.begun.holds s.begun.writing) in
+      let none = none_outside c.args.all.now c.walk.around.items s.outside
+      (nil_from_length c.walk.around.items (omega (arith, c.in_default.ensures.cases.0, c.walk.around.ok.0))) s.are_left in
+      only_ok (λ (made : Vec ℕ Global). Decodes form made.items t) (IsOutOfMemoryOrTooLarge form t) c.finish.result
+      (c.finish.ensures.written form t (subst (λ (os : Around). IsWriting form c.put_scalars.new.writer [] os t) none done));
+}
+
+pub returns-in_err-leave-in-None : goal.returns-in_err-leave-in-None
+returns-in_err-leave-in-None c = record {
+  written = λ form room t h.
+      let e = err_from_is_err_and c.from_residual-in_err-leave-in-None.result c.from_residual-in_err-leave-in-None.ensures.1 in
+      let s = c.walk.invariant form room t h in
+      let done = rw c.in-None.is at (c.in_ok-inner.ensures.put form c.args.all.now c.walk.left.room s.begun.trees s.outside t s.begun.holds s.begun.writing) in
+      let p = popped_outer c.args.all.now _ _ c.in-Some-pop.outer s.outside c.in-Some-pop.ensures.items s.are_left in
+      let closed = subst (λ (os : Around). IsWriting form c.put_scalars.new.writer [] os t) p.outside_is done in
+      rw (e.1, e.2) (c.in_err-leave-in-None.ensures.left form p.trees p.rest t closed);
+}
+
+pub walk-smaller : goal.walk-smaller
+walk-smaller c = walk_falls_outward c.walk.left c.in-Some-pop.outer _ _ c.in-Some-pop.ensures.items
+
+pub walk-preserved : goal.walk-preserved
+walk-preserved c = λ form room t h.
+    let s = c.walk.invariant form room t h in
+    let done = rw c.in-None.is at (c.in_ok-inner.ensures.put form c.args.all.now c.walk.left.room s.begun.trees s.outside t s.begun.holds s.begun.writing) in
+    let p = popped_outer c.args.all.now _ _ c.in-Some-pop.outer s.outside c.in-Some-pop.ensures.items s.are_left in
+    let closed = subst (λ (os : Around). IsWriting form c.put_scalars.new.writer [] os t) p.outside_is done in
+    record {
+      outside = p.rest;
+      are_left = p.are_left;
+      begun = record {
+        trees = p.trees;
+        holds = p.holds;
+        writing = c.in_ok-leave-in-None.ensures.left form p.trees p.rest t closed;
+      };
+    }

@@ -1,0 +1,81 @@
+//! Documents from lists of events.
+
+ghost use Rattle.std.specs.Prelude.{◌≡◌, ◌⊎◌, IfOk, IfErr, MatchResult};
+ghost use Rattle.jsonb_doc.specs.Tree.{Tree};
+ghost use Rattle.jsonb_doc.specs.Payload.{Form};
+ghost use Rattle.jsonb_doc.specs.Format.{Decodes};
+ghost use Rattle.jsonb_doc.specs.Limits.{IsTooLarge};
+ghost use Rattle.jsonb_doc.specs.EventList.{AreEventsOf, IsListError};
+ghost use Rattle.jsonb_doc.specs.declared.error.Error.TheVariants.{OutOfMemory, TooLarge};
+ghost use Rattle.jsonb_doc.specs.declared.event_error.EventError.TheVariants.{Failed};
+
+pub(crate) mod collecting;
+mod sorting;
+mod writing;
+
+use crate::encoding::encode_item;
+use crate::event_error::EventError;
+use crate::event_list::collecting::{Part, collect};
+use crate::event_list::writing::write_container;
+use crate::item::Item;
+use crate::text_event::{TextEvent, plain_item};
+use std::alloc::Global;
+
+/// Returns the document of a list of events, such as those of a parser. The bytes of their keys and strings are in
+/// `text`, one after the other. It may have more bytes.
+///
+/// Members are sorted by key. If `keep_last`, the last value of a duplicate key is kept.
+///
+/// # Errors
+///
+/// `OutOfOrder` or, unless `keep_last`, `Failed` with `ObjectDuplicateKey`, only if the list has no document. `Failed`
+/// with `TooLarge` if the document exceeds the limits, or with `OutOfMemory` if an allocation fails.
+///
+/// # Complexity
+///
+/// O(n) for n events and bytes, and O(k log k) comparisons of keys, for k members of an object. Allocates. No call
+/// recurses, however deep the containers are.
+///
+/// # Examples
+///
+/// ```rust crates/jsonb_examples/src/events.rt
+/// let events = [
+///     event(OBJECT, 0),
+///     event(KEY, 2),
+///     event(TRUE, 0),
+///     event(END, 0),
+/// ];
+/// document_from_events(alloc, "ok", &events, false)
+/// ```
+pub fn document_from_events(
+    alloc: Global,
+    text: &str,
+    events: &[TextEvent],
+    keep_last: bool,
+) -> Result<Vec<u8>, EventError>
+    ensures document { (form : Form) → IfOk result (λ v. (t : Tree)
+        × AreEventsOf keep_last events.now text.now t × Decodes form v.items t) }
+    ensures complete { (form : Form) (t : Tree) → AreEventsOf keep_last events.now text.now t
+        → MatchResult result (λ v. Decodes form v.items t)
+        (λ e. (e ≡ Failed OutOfMemory) ⊎ ((e ≡ Failed TooLarge) × IsTooLarge form t)) }
+    ensures errors { IfErr result (λ e. IsListError keep_last e ⊎ ((e ≡ Failed OutOfMemory) ⊎ (e ≡ Failed TooLarge))) }
+{
+    let collected = collect(alloc, text, events, keep_last)?;
+    match collected.root {
+        Part::Text(text) => Ok(encode_item(alloc, &Item::String(text))?),
+        Part::Plain(event) => match plain_item(event) {
+            Some(item) => Ok(encode_item(alloc, &item)?),
+            None => Err(EventError::OutOfOrder),
+        },
+        Part::Nested(run) => {
+            let capacity = text
+                .len()
+                .saturating_add(events.len().saturating_mul(12))
+                .saturating_add(8);
+            Ok(write_container(alloc, &collected.members, run, capacity)?)
+        }
+    }
+}
+
+#[cfg(test)]
+mod tests;
