@@ -39,12 +39,15 @@ grows-if : {A : Type 0} (test : Bool) (first second : Rule A) → NeverGrows fir
 grows-if true first second h k = h
 grows-if false first second h k = k
 
+some-hex_digit : ReadsSome hex_digit
+some-hex_digit = some-byte_as _
+
 some-four_hex_digits : ReadsSome four_hex_digits
 unfolding four_hex_digits
 some-four_hex_digits =
-    some-then (byte_as hex_digit) _ (some-byte_as hex_digit) (λ a. grows-then (byte_as hex_digit) _ (some-no_more (byte_as hex_digit) (some-byte_as hex_digit))
-    (λ b. grows-then (byte_as hex_digit) _ (some-no_more (byte_as hex_digit) (some-byte_as hex_digit)) (λ c.
-    grows-then (byte_as hex_digit) _ (some-no_more (byte_as hex_digit) (some-byte_as hex_digit)) (λ d. grows-give (((a * 16 + b) * 16 + c) * 16 + d)))))
+    some-then hex_digit _ some-hex_digit (λ a. grows-then hex_digit _ (some-no_more hex_digit some-hex_digit)
+    (λ b. grows-then hex_digit _ (some-no_more hex_digit some-hex_digit) (λ c.
+    grows-then hex_digit _ (some-no_more hex_digit some-hex_digit) (λ d. grows-give (((a * 16 + b) * 16 + c) * 16 + d)))))
 
 some-code_unit : ReadsSome code_unit
 unfolding code_unit

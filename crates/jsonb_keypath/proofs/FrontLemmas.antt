@@ -5,7 +5,8 @@ use Rattle.std.specs.Str.{is_utf8}
 use Rattle.jsonb_keypath.specs.Rules.{Rule, give, ◌>>◌, only_if, literal, repeat}
 use Rattle.jsonb_keypath.specs.Tokens.{ws, unit, units, text, is_stop, is_quote}
 use Rattle.jsonb_keypath.specs.TokenLaws.{ReadsSome}
-use Rattle.jsonb_keypath.specs.KeyPathGrammar.{spaced_key, another_key, key_list}
+use Rattle.jsonb_keypath.specs.KeyPathGrammar.{spaced_key, key_list}
+use Rattle.jsonb_keypath.specs.Private.LaterKeys.{another_key}
 use Rattle.jsonb_keypath.specs.ErrorPosition.{perhaps, key_front, closing_brace, after_keys, inside_front, key_path_front}
 use Rattle.jsonb_keypath.proofs.ReadsLemmas.{NeverGrows, some-no_more, grows-give, grows-then, grows-choice, grows-only_if, repeated-repeat}
 use Rattle.jsonb_keypath.proofs.CutLemmas.{some-literal, some-unit}

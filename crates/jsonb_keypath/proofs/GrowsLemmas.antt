@@ -10,7 +10,8 @@ use Rattle.std.proofs.lemmas.List.{length-drop}
 use Rattle.jsonb_doc.specs.Rounding.{with_sign}
 use Rattle.jsonb_keypath.specs.Rules.{Rule, only_if, literal}
 use Rattle.jsonb_keypath.specs.Tokens.{past, is_space, ws, sign, natural, natural_below, integer, integer_within, is_within, int32, name, quoted, is_stop, is_quote, unit}
-use Rattle.jsonb_keypath.specs.KeyPathGrammar.{key, index, quoted_name, unquoted_name, spaced_key, another_key}
+use Rattle.jsonb_keypath.specs.KeyPathGrammar.{key, index, quoted_name, unquoted_name, spaced_key}
+use Rattle.jsonb_keypath.specs.Private.LaterKeys.{another_key}
 use Rattle.jsonb_keypath.specs.TokenLaws.{ReadsSome, IsRun}
 use Rattle.jsonb_keypath.proofs.ReadsLemmas.{NeverGrows, given, some-no_more, grows-give, grows-then, some-then, then-some, grows-choice, some-choice, grows-only_if}
 use Rattle.jsonb_keypath.proofs.CutLemmas.{nothing, some-literal, some-unit, name-cut, quoted-cut}

@@ -7,8 +7,9 @@ use Rattle.std.proofs.lemmas.Grind.{flat_map-append}
 use Rattle.std.proofs.lemmas.Str.{encodes-append}
 use Rattle.std.proofs.lemmas.Bool.Decides.{nat_tests}
 use lib.Utf8.{encode, next}
-use Rattle.jsonb_keypath.specs.KeyPathText.{quoted_byte, needs_no_escape}
-use Rattle.jsonb_keypath.proofs.ReadBackLemmas.{both, opposite}
+use Rattle.jsonb_keypath.specs.Tokens.{is_unescaped, is_quote}
+use Rattle.jsonb_keypath.specs.KeyPathText.{quoted_byte}
+use Rattle.jsonb_keypath.proofs.ReadBackLemmas.{both}
 
 -- the text of one more element of a list that is seen by `view`
 pub text_of_one_more : {X Y : Type 0} (text : Y → List ℕ) (view : X → Y) (xs : List X) (i : ℕ) (d : X) → i < length xs
@@ -17,14 +18,14 @@ text_of_one_more text view xs i d h =
     flat_map_more text [] (map view (take i xs)) (view (get_or xs i d)) ∙ ap (flat_map text) (sym (map_more view xs i d h))
 
 -- a string without quotes and backslashes is unchanged between quotes
-pub no_escapes : (text : List ℕ) → list_all needs_no_escape text ≡ true → flat_map quoted_byte text ≡ text
+pub no_escapes : (text : List ℕ) → list_all (is_unescaped is_quote) text ≡ true → flat_map quoted_byte text ≡ text
 no_escapes [] h = refl
 no_escapes (b ∷ text) h =
-    let parts = both (needs_no_escape b) (list_all needs_no_escape text) h in
-    rw (opposite (b == 34 || b == 92) parts.0, no_escapes text parts.1) refl
+    let parts = both (is_unescaped is_quote b) (list_all (is_unescaped is_quote) text) h in
+    rw (parts.0, no_escapes text parts.1) refl
 
 quoted_high_byte : (b : ℕ) → 128 ≤ b → quoted_byte b ≡ b ∷ []
-quoted_high_byte b h = let other : (b == 34 || b == 92) ≡ false = grind (arith, nat_tests) in rw other refl
+quoted_high_byte b h = let other : is_unescaped is_quote b ≡ true = grind (arith, nat_tests) in rw other refl
 
 -- a character that is neither a quote nor a backslash is unchanged
 pub quoted_char : (c : ℕ) → (c == 34) ≡ false → (c == 92) ≡ false → flat_map quoted_byte (encode_utf8 c) ≡ encode_utf8 c

@@ -20,10 +20,6 @@ key =
 unfoldable pub spaced_key : Rule Key
 spaced_key = do ws; k ← key; ws; give k
 
--- Parses a comma and the step after it.
-abbrev pub another_key : Rule Key
-another_key = literal "," >> spaced_key
-
 -- Parses one or more steps, separated by commas.
 abbrev pub key_list : Rule (List Key)
 key_list = list_of spaced_key (literal ",")

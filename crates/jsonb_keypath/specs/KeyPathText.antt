@@ -1,10 +1,10 @@
 -- The text of a key path, from which it reads back.
 use Rattle.std.specs.Prelude.{◌≡◌, ℕ, ◌<◌, ◌^◌, Bool, true, false, not, ◌&&◌, ◌||◌, ◌==◌, List, [], ◌∷◌, ◌++◌, length, flat_map, codes, if◌then◌else◌}
-use Rattle.std.specs.List.{list_all}
+use Rattle.std.specs.List.{list_all, join_by}
 use Rattle.std.specs.Char.{is_ascii_digit, is_ascii_alphanumeric}
 use Rattle.std.specs.Str.{is_utf8}
 use Rattle.std.specs.Fmt.{signed_decimal}
-use Rattle.jsonb_keypath.specs.Tokens.{is_within}
+use Rattle.jsonb_keypath.specs.Tokens.{is_within, is_unescaped, is_quote}
 use Rattle.jsonb_keypath.specs.KeyPathGrammar.{Key, index, quoted_name, unquoted_name}
 
 -- Whether the byte is an ASCII letter, an ASCII digit or an underscore.
@@ -18,11 +18,7 @@ is_plain_name (b ∷ rest) = not (is_ascii_digit b) && list_all is_word_byte (b 
 
 -- The text of a byte between quotes: a backslash precedes a quote and a backslash.
 abbrev pub quoted_byte : ℕ → List ℕ
-quoted_byte b = if b == 34 || b == 92 then codes "\\" ++ b ∷ [] else b ∷ []
-
--- Whether the byte appears between quotes without a backslash.
-abbrev pub needs_no_escape : ℕ → Bool
-needs_no_escape b = not (b == 34 || b == 92)
+quoted_byte b = if is_unescaped is_quote b then b ∷ [] else codes "\\" ++ b ∷ []
 
 -- The text of a quoted string.
 abbrev pub quoted_text : List ℕ → List ℕ
@@ -38,18 +34,9 @@ key_text (index i) = signed_decimal i
 key_text (quoted_name text) = quoted_text text
 key_text (unquoted_name text) = name_text text
 
--- The text of a step after another one.
-abbrev pub other_key_text : Key → List ℕ
-other_key_text key = codes "," ++ key_text key
-
--- The text of steps, separated by commas.
-abbrev pub keys_text : List Key → List ℕ
-keys_text [] = []
-keys_text (first ∷ rest) = key_text first ++ flat_map other_key_text rest
-
--- The text of a key path: its steps between braces.
+-- The text of a key path: its steps between braces, separated by commas.
 abbrev pub key_path_text : List Key → List ℕ
-key_path_text keys = codes "{" ++ keys_text keys ++ codes "}"
+key_path_text keys = codes "{" ++ join_by key_text (codes ",") keys ++ codes "}"
 
 -- The step without its quotes, which locates the same value in every document.
 abbrev pub without_quotes : Key → Key
@@ -59,5 +46,6 @@ without_quotes key = key
 -- Holds if the step is a 32-bit index, a plain name, or a quoted name without quotes and backslashes.
 abbrev pub IsPlainKey : Key → Type 0
 IsPlainKey (index i) = is_within (2 ^ 31) i ≡ true
-IsPlainKey (quoted_name text) = (0 < length text) × (is_utf8 text ≡ true) × (list_all needs_no_escape text ≡ true)
+IsPlainKey (quoted_name text) =
+    (0 < length text) × (is_utf8 text ≡ true) × (list_all (is_unescaped is_quote) text ≡ true)
 IsPlainKey (unquoted_name text) = is_plain_name text ≡ true

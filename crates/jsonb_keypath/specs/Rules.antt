@@ -19,9 +19,6 @@ parsed_map f o = option_map (λ p. (f p.0, p.1)) o
 abbrev pub give : {A : Type 0} → A → Rule A
 give a = λ input. Some (a, input)
 
-abbrev pub fail : {A : Type 0} → Rule A
-fail = λ input. None
-
 -- A sequence of rules. It fails if one of them fails, and later rules may depend on the values of earlier ones.
 infixl 10 ◌>>=◌
 abbrev pub ◌>>=◌ : {A B : Type 0} → Rule A → (A → Rule B) → Rule B

@@ -35,9 +35,6 @@ natural_below bound = do n ← natural; only_if (nat_lt n bound); give n
 abbrev pub nat8 : Rule ℕ
 nat8 = natural_below (2 ^ 8)
 
-abbrev pub nat64 : Rule ℕ
-nat64 = natural_below (2 ^ 64)
-
 -- Reads a minus, a plus or no sign. The value is `true` for a minus.
 unfoldable pub sign : Rule Bool
 sign = (literal "-" >> give true) </> (literal "+" >> give false) </> give false
@@ -57,9 +54,6 @@ integer_within bound = do z ← integer; only_if (is_within bound z); give z
 abbrev pub int32 : Rule ℤ
 int32 = integer_within (2 ^ 31)
 
-abbrev pub int64 : Rule ℤ
-int64 = integer_within (2 ^ 63)
-
 -- ---- escapes
 
 -- The byte that an escape of this byte denotes: itself, or for `b`, `f`, `n`, `r` and `t` a control character.
@@ -74,17 +68,13 @@ abbrev pub byte_as : {A : Type 0} → (ℕ → Option A) → Rule A
 byte_as value [] = None
 byte_as value (b ∷ rest) = option_map (λ a. (a, rest)) (value b)
 
-abbrev pub hex_digit : ℕ → Option ℕ
-hex_digit b = if nat_lt (digit_value b) 16 then Some (digit_value b) else None
+abbrev pub hex_digit : Rule ℕ
+hex_digit = byte_as (λ b. if nat_lt (digit_value b) 16 then Some (digit_value b) else None)
 
 -- Reads four hexadecimal digits.
 unfoldable pub four_hex_digits : Rule ℕ
-four_hex_digits = do
-  a ← byte_as hex_digit
-  b ← byte_as hex_digit
-  c ← byte_as hex_digit
-  d ← byte_as hex_digit
-  give (((a * 16 + b) * 16 + c) * 16 + d)
+four_hex_digits =
+    do a ← hex_digit; b ← hex_digit; c ← hex_digit; d ← hex_digit; give (((a * 16 + b) * 16 + c) * 16 + d)
 
 -- Reads a UTF-16 code unit: four hexadecimal digits after `\u`, in braces or without.
 unfoldable pub code_unit : Rule ℕ

@@ -5,7 +5,8 @@
 
 ghost use Rattle.std.specs.Prelude.{Some, flat_map, map};
 ghost use Rattle.std.specs.Fmt.{WritesOnOk};
-ghost use Rattle.jsonb_keypath.specs.KeyPathText.{key_text, other_key_text, key_path_text};
+ghost use Rattle.jsonb_keypath.specs.KeyPathText.{key_text, key_path_text};
+ghost use Rattle.jsonb_keypath.specs.Private.LaterKeys.{other_key_text};
 ghost use Rattle.jsonb_keypath.specs.KeyPathViews.{key_view, keys_view, key_paths_view, owned_key_view, owned_key_paths_view};
 
 use crate::key_path::{KeyPath, KeyPaths};

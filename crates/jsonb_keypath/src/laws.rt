@@ -5,10 +5,10 @@
 
 ghost use Rattle.std.specs.Prelude.{◌≡◌, ◌↔◌, ℕ, Bool, true, List, ◌∷◌, map, Some, None, IfSome};
 ghost use Rattle.std.specs.List.{AllByRecursion};
-ghost use Rattle.jsonb_keypath.specs.KeyPathGrammar.{Key, another_key, key_path};
+ghost use Rattle.jsonb_keypath.specs.KeyPathGrammar.{Key, spaced_key, key_path};
 ghost use Rattle.jsonb_keypath.specs.KeyPathText.{key_path_text, without_quotes, IsPlainKey};
 ghost use Rattle.jsonb_keypath.specs.KeyPathViews.{key_view, key_paths_view, owned_key_view, owned_key_paths_view};
-ghost use Rattle.jsonb_keypath.specs.Rules.{Rule, repeat};
+ghost use Rattle.jsonb_keypath.specs.Rules.{Rule, repeat, literal, ◌>>◌ as behind};
 ghost use Rattle.jsonb_keypath.specs.TokenLaws.{ReadsSome, IsRun, IsText};
 ghost use Rattle.jsonb_keypath.specs.Tokens.{name, quoted, unit, is_stop, is_quote, ahead};
 ghost use Rattle.jsonb_keypath.specs.contracts.key_path.KeyPathPartialEq.TheImpl.{eq-value as key_equal};
@@ -39,7 +39,7 @@ pub fn unit_reads_some()
 
 /// A comma with a step after it reads at least one byte.
 pub fn another_key_reads_some()
-    ensures { ReadsSome another_key }
+    ensures { ReadsSome (behind (literal ",") spaced_key) }
 {}
 
 /// A rule that reads at least one byte is repeated until it fails.

@@ -7,7 +7,7 @@ ghost use Rattle.jsonb_keypath.specs.Views.{read_as, ConsumesInput};
 use super::literal;
 
 fn hex_digit_at(input: &[u8]) -> Option<(u32, &[u8])>
-    ensures value { read_as (λ value. value) result ≡ byte_as hex_digit input.now }
+    ensures value { read_as (λ value. value) result ≡ hex_digit input.now }
     ensures small { IfSome result (λ found. found.0 < 16) }
     ensures shrinks { ConsumesInput input.now result }
 {

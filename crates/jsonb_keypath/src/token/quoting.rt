@@ -3,7 +3,8 @@
 ghost use Rattle.std.specs.Prelude.{◌≡◌, flat_map, encode_utf8};
 ghost use Rattle.std.specs.List.{list_all};
 ghost use Rattle.std.specs.Fmt.{WritesOnOk};
-ghost use Rattle.jsonb_keypath.specs.KeyPathText.{is_word_byte, is_plain_name as spec_is_plain_name, needs_no_escape, quoted_byte, quoted_text, name_text};
+ghost use Rattle.jsonb_keypath.specs.Tokens.{is_unescaped, is_quote};
+ghost use Rattle.jsonb_keypath.specs.KeyPathText.{is_word_byte, is_plain_name as spec_is_plain_name, quoted_byte, quoted_text, name_text};
 
 use std::fmt;
 
@@ -90,7 +91,7 @@ fn write_inside<W: fmt::Write>(text: &str, f: &mut fmt::Formatter<W>) -> fmt::Re
 }
 
 fn need_no_escapes(bytes: &[u8]) -> bool
-    ensures { result ≡ list_all needs_no_escape bytes.now }
+    ensures { result ≡ list_all (is_unescaped is_quote) bytes.now }
 {
     bytes.iter().all(|b| !(*b == b'"' || *b == b'\\'))
 }

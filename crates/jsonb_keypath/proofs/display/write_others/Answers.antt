@@ -1,6 +1,6 @@
 use Rattle.std.proofs.Common.{refl, true, arith}
 use Rattle.std.proofs.Output.{has_written_append, has_written_of_eq}
-use Rattle.jsonb_keypath.specs.KeyPathText.{other_key_text}
+use Rattle.jsonb_keypath.specs.Private.LaterKeys.{other_key_text}
 use Rattle.jsonb_keypath.specs.KeyPathViews.{key_view}
 use Rattle.jsonb_keypath.proofs.ShowLemmas.{text_of_one_more}
 use Rattle.jsonb_keypath.proofs.display.write_others.Goals as goal
