@@ -70,9 +70,6 @@ without_none i ts is = rw is (ap (λ us. Some (array us)) (trees_of-elements ts)
 
 -- ---- names
 
-pub named_there : (name : List ℕ) (ignore : Bool) (t u : Tree) → field_of name t ≡ Some u → named_child name ignore t ≡ Some u
-named_there name ignore t u is = rw is refl
-
 pub no_member : (name : List ℕ) (t : Tree) → is_object t ≡ false → named_child name false t ≡ None
 no_member name (object ps) is = absurd (cc)
 no_member name t is = refl

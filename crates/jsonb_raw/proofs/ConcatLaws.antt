@@ -11,7 +11,8 @@ use Rattle.jsonb_doc.specs.Limits.{Fits}
 use Rattle.jsonb_doc.specs.ObjectBuilder.{insert_pair}
 use Rattle.jsonb_doc.proofs.BuilderSteps.{AreRising, keys_rise}
 use Rattle.jsonb_doc.proofs.TreeLists.{elements-trees_of, members-pairs_of, keys_of-members}
-use Rattle.jsonb_raw.specs.Concat.{concat, merged}
+use Rattle.jsonb_raw.specs.Concat.{concat}
+use Rattle.jsonb_raw.specs.Private.Merging.{merged}
 use Rattle.jsonb_raw.proofs.PairStepLemmas.{test_of_order, above_key, below_key, below_further}
 use Rattle.jsonb_raw.proofs.MatchLemmas.{order_of_test}
 use Rattle.jsonb_raw.proofs.MergedLemmas.{rising_inserted}

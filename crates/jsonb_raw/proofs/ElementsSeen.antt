@@ -79,13 +79,6 @@ kept_unshared kind n other before t b is e h = rw is (ap not (rw e at h))
 
 -- ---- counting
 
-take_all : {X : Type 0} (xs : List X) → take (length xs) xs ≡ xs
-take_all [] = refl
-take_all (x ∷ xs) = ap (λ l. x ∷ l) (take_all xs)
-
-pub whole_count : (u : Tree) (ts : List Tree) (n : ℕ) → n ≡ length ts → count_of u (take n ts) ≡ count_of u ts
-whole_count u ts n is = rw is (ap (count_of u) (take_all ts))
-
 -- What is counted, and those that equal the tree among the next of what is left, are the whole.
 pub record EqualLeft (form : Form) (left : Entries) (more equal : ℕ) (u : Tree) (whole : ℕ) : Type 0 where
   pub rest : List Tree

@@ -1,9 +1,9 @@
 -- Runs of entries, and the containers that they make.
-use Rattle.std.proofs.Common.{◌≡◌, inr, ℕ, zero, suc, ◌+◌, ◌^◌, ◌<◌, ◌≤◌, List, [], ◌∷◌, ◌++◌, length, map, take, drop, get_or, Option, Some, refl, sym, ap, subst, ◌∙◌, arith, append-nil}
+use Rattle.std.proofs.Common.{◌≡◌, inl, inr, ℕ, zero, suc, ◌+◌, ◌^◌, ◌<◌, ◌≤◌, List, [], ◌∷◌, ◌++◌, length, map, take, drop, get_or, Option, Some, Result, refl, sym, ap, subst, ◌∙◌, arith, append-nil}
 use Rattle.std.specs.Map.{keys_of, values_of}
 use Rattle.jsonb_doc.specs.Tree.{Tree, Trees, text, array, object, trees_of, pairs_of, elements}
 use Rattle.jsonb_doc.specs.Payload.{Form, number_reader}
-use Rattle.jsonb_doc.specs.Format.{IsContent}
+use Rattle.jsonb_doc.specs.Format.{IsContent, Decodes, header, array_header}
 use Rattle.jsonb_doc.specs.Limits.{IsShort, HasShortElements, IsTooLarge}
 use Rattle.jsonb_doc.specs.Private.Errors.{IsOutOfMemoryOrTooLarge}
 use Rattle.std.specs.List.{insert}
@@ -18,6 +18,8 @@ use Rattle.jsonb_doc.specs.declared.layout.HeaderKind.{HeaderKind}
 use Rattle.jsonb_doc.specs.declared.layout.HeaderKind.TheVariants as header_kind
 use Rattle.jsonb_doc.specs.Private.Writer.{Make, AreSortedKeys}
 use Rattle.jsonb_doc.proofs.WriterLimits.{too_many, within_parts}
+use Rattle.jsonb_raw.specs.declared.owned.OwnedJsonb.{OwnedJsonb}
+use Rattle.jsonb_raw.specs.Documents.{Makes}
 use Rattle.jsonb_raw.specs.Arrays.{as_elements}
 use Rattle.jsonb_raw.proofs.Lists.{drop_first, none_behind}
 use Rattle.jsonb_raw.specs.Private.Entries.{HoldTrees, RunsHold, AreElementsOf, IsTooLongRoot, IsTooLongElement}
@@ -125,3 +127,23 @@ pub array_of_entries : (form : Form) (t : Tree) (found : Option Entries) (entrie
     → (ts : Trees) × (t ≡ array ts) × HoldTrees form entries (elements ts)
 array_of_entries form (array ts) found entries is h = (ts, refl, rw is at h)
 array_of_entries form _ found entries is h = absurd (rw is at h)
+
+-- ---- no entries
+
+pub empty_decodes : (form : Form) → Decodes form (header array_header 0) (array (trees_of []))
+empty_decodes form = record {
+  document = inl (
+    refl,
+    record {
+      words = [];
+      contents = [];
+      headed = record { known = omega arith; fits = omega arith; joined = sym (append-nil (header array_header 0)) };
+      parts = (refl, refl);
+    },
+  );
+}
+
+pub no_entries : (form : Form) (ts : List Tree) (r : Result OwnedJsonb Error) → 0 ≡ length ts → Makes form (array (trees_of [])) r
+    → Makes form (array (trees_of ts)) r
+no_entries form [] r is h = h
+no_entries form (t ∷ ts) r is h = absurd (omega (arith, is))

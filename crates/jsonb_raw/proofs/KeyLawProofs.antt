@@ -6,6 +6,7 @@ use Rattle.std.specs.Int.{Width}
 use Rattle.jsonb_doc.specs.Proofs.Orderings.{then_Equal}
 use Rattle.jsonb_raw.proofs.Ranking.{bytes_cmp, same_from_bytes_cmp, bytes_cmp_refl}
 use Rattle.jsonb_raw.proofs.TreeKeys.{keys_rank}
+use Rattle.jsonb_raw.proofs.ExtensionLeaves.{lacks_extension}
 use Rattle.jsonb_doc.proofs.TreeOrder.{equal_from_tree_cmp, tree_cmp-equal}
 use Rattle.jsonb_raw.proofs.EqualityKeys.{equal_from_keys, same_key, keyable}
 use Rattle.jsonb_doc.specs.Tree.{Tree}
@@ -24,7 +25,7 @@ use Rattle.jsonb_raw.specs.EqualityKey.{equality_key}
 
 pub ranked : (w : Width) (t u : Tree) (d : ℕ) (r s : List ℕ) → HasKey w t d → HasKey w u d → IsRest w d r → IsRest w d s
     → bytes_cmp (sortable_key w t d ++ r) (sortable_key w u d ++ s) ≡ ordering_then (tree_cmp t u) (bytes_cmp r s)
-ranked w t u d r s h k hr hs = keys_rank w t u d r s (h.in_range, h.no_extension) (k.in_range, k.no_extension) h.deep k.deep hr hs
+ranked w t u d r s h k hr hs = keys_rank w t u d r s (h.in_range, lacks_extension t h.no_extension) (k.in_range, lacks_extension u k.no_extension) h.deep k.deep hr hs
 
 alone : (w : Width) (t u : Tree) (d : ℕ) → HasKey w t d → HasKey w u d → bytes_cmp (sortable_key w t d) (sortable_key w u d) ≡ tree_cmp t u
 alone w t u d h k = ap₂ bytes_cmp (sym (append-nil (sortable_key w t d))) (sym (append-nil (sortable_key w u d)))

@@ -8,6 +8,7 @@ mod OperatorRows
 pub mod Ranking
 pub mod DecimalDigits
 pub mod NumberKeys
+pub mod ExtensionLeaves
 pub mod TreeKeys
 pub mod EqualityKeys
 pub mod KeyLawProofs

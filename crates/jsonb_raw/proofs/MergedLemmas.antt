@@ -14,7 +14,7 @@ use Rattle.jsonb_doc.proofs.ObjectLemmas.{below_inserted}
 use Rattle.jsonb_raw.specs.declared.functions.parts.PairEntries.{PairEntries}
 use Rattle.jsonb_raw.specs.declared.functions.parts.FirstPair.{FirstPair}
 use Rattle.jsonb_raw.specs.declared.functions.parts.PairRuns.{PairRuns}
-use Rattle.jsonb_raw.specs.Concat.{merged}
+use Rattle.jsonb_raw.specs.Private.Merging.{merged}
 use Rattle.jsonb_raw.specs.Private.Entries.{HoldPairs, TakesFirstPair, IsFirstPair, PairsHeld, PairsOpen}
 use Rattle.jsonb_raw.proofs.PairStepLemmas.{test_of_order, above_key, below_key, below_further, same_below}
 use Rattle.jsonb_raw.proofs.RunLemmas.{pairs_begun, no_pairs_held, pair_kept, others_hold, left_holds}

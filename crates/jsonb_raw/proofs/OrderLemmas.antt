@@ -56,12 +56,6 @@ not_decided Less e = absurd (cc)
 not_decided Equal e = refl
 not_decided Greater e = absurd (cc)
 
--- an entry with this content stores the tree
-pub stores_content : (form : Form) (t : Tree) (r : Result StoredEntry Error)
-    → IsOkAnd r (λ entry. IsContent (number_reader form) t (kind_number entry.kind) entry.content.now) → IsOkAnd r (λ entry. Stores form entry t)
-stores_content form t (Ok entry) h = record { content = h }
-stores_content form t (Err e) h = absurd h
-
 -- the order of trees that are short numbers
 pub numbers_told : (form other_form : Form) (entry other : StoredEntry) (t u : Tree) (m n : ShortNumber) → Stores form entry t → Stores other_form other u
     → kind_number entry.kind ≡ 2 → kind_number other.kind ≡ 2

@@ -1,5 +1,5 @@
 -- What the loops of the set functions keep true.
-use Rattle.std.proofs.Common.{Bor, ap₂, nat_lt, not, ℕ, ◌≡◌, ◌+◌, ◌<◌, ◌^◌, suc, Bool, true, false, ◌||◌, cond, List, [], ◌∷◌, ◌++◌, length, map, filter, Option, Some, None, inl, inr, refl, sym, ap, subst, ◌∙◌, append_assoc, append-nil, arith}
+use Rattle.std.proofs.Common.{ap₂, nat_lt, not, ℕ, ◌≡◌, ◌+◌, ◌<◌, ◌^◌, suc, Bool, true, false, ◌||◌, cond, List, [], ◌∷◌, ◌++◌, length, map, filter, Option, Some, None, inl, inr, refl, sym, ap, subst, ◌∙◌, append_assoc, append-nil, arith}
 use Rattle.std.specs.List.{AllByRecursion, list_any}
 use Rattle.jsonb_doc.specs.Tree.{Tree, array, object, Trees, no_trees, tree, elements, count, trees_of}
 use Rattle.jsonb_doc.specs.Payload.{Form, canonical}
@@ -9,7 +9,6 @@ use Rattle.jsonb_doc.specs.Limits.{Fits, AreInRange, IsShort, HasShortParts, Has
 use Rattle.jsonb_doc.specs.Private.Errors.{IsOutOfMemoryOrTooLarge}
 use Rattle.jsonb_doc.specs.ArrayBuilder.{Parts, no_parts, HoldsElements}
 use Rattle.jsonb_doc.specs.Representation.Iterators.{HasElementsLeft}
-use Rattle.jsonb_doc.specs.Item.{StandsFor}
 use Rattle.jsonb_doc.specs.declared.item.Item.{Item}
 use Rattle.jsonb_doc.specs.declared.item.Item.TheVariants as item
 use Rattle.jsonb_doc.proofs.ElementsLemmas.{IsElementsOf}
@@ -20,8 +19,8 @@ use Rattle.jsonb_raw.specs.Arrays.{as_elements}
 use Rattle.jsonb_doc.specs.Equal.{is_equal}
 use Rattle.jsonb_doc.specs.Proofs.Equality.{is_equal_equiv}
 use Rattle.std.proofs.lemmas.List.Sums.{sum_by-cons}
-use Rattle.jsonb_raw.specs.Sets.{Occurrence, occurrences, overlap, count_of, intersection_of, difference_of}
-use Rattle.jsonb_raw.specs.Private.SetCounts.{keeps, kept_one, CountsAfter, HaveSeen}
+use Rattle.jsonb_raw.specs.Sets.{occurrences, overlap, count_of, intersection_of, difference_of}
+use Rattle.jsonb_raw.specs.Private.SetCounts.{Occurrence, keeps, kept_one, CountsAfter, HaveSeen}
 use Rattle.jsonb_raw.specs.Private.Entries.{HoldTrees, AreElementsOf, RunsHold, IsFirst, TakesFirst, Holding}
 use Rattle.jsonb_doc.specs.declared.cursor.Entries.{Entries}
 use Rattle.jsonb_raw.specs.declared.functions.array.counts.KeyCounts.{KeyCounts}
@@ -74,12 +73,6 @@ no_array form t h = refl
 pub no_array_entries : (form : Form) (t : Tree) (found : Option Entries) → found ≡ None → AreElementsOf form t found → as_elements t ≡ t ∷ []
 no_array_entries form (array ts) found is h = absurd (rw is at h)
 no_array_entries form _ found is h = refl
-
--- an item that is not an array counts as one element
-pub lone_item : (form : Form) (x : Item) (t : Tree) → StandsFor form x t → ((b : Bor (List ℕ)) → x ≡ item.Array b → ⊥) → as_elements t ≡ t ∷ []
-lone_item form (item.Array b) t stands not_array = absurd (not_array b refl)
-lone_item form (item.Object b) t stands not_array = rw stands.1 refl
-lone_item form _ t stands not_array = rw stands refl
 
 pub or_false : (b : Bool) → (b || false) ≡ b
 or_false true = refl

@@ -7,7 +7,8 @@ use Rattle.std.proofs.lemmas.List.Sums.{sum_by-cons}
 use Rattle.jsonb_doc.specs.Tree.{Tree}
 use Rattle.jsonb_doc.specs.Equal.{is_equal}
 use Rattle.jsonb_doc.specs.Proofs.Equality.{is_equal_equiv}
-use Rattle.jsonb_raw.specs.Sets.{count_of, Occurrence, occurrences, is_first, is_shared, distinct, intersection_of, difference_of, overlap}
+use Rattle.jsonb_raw.specs.Private.SetCounts.{Occurrence, is_first}
+use Rattle.jsonb_raw.specs.Sets.{count_of, occurrences, is_shared, distinct, intersection_of, difference_of, overlap}
 use Rattle.jsonb_raw.specs.Partition.{IsPartitionedInto}
 
 -- ---- a test and its opposite deal

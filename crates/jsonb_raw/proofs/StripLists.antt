@@ -50,12 +50,6 @@ pub null_kind : (form : Form) (t : Tree) (kind : ℕ) (bytes : List ℕ) → IsC
 null_kind form (boolean true) kind bytes h = rw h.0 refl
 null_kind form _ kind bytes h = rw h.0 refl
 
-pub scalar_strips : (form : Form) (t : Tree) (kind : ℕ) (bytes : List ℕ) → IsContent (number_reader form) t kind bytes → (kind ≡ container_entry → ⊥)
-    → strip t ≡ t
-scalar_strips form (array ts) kind bytes h other = absurd (other h.0)
-scalar_strips form (object ps) kind bytes h other = absurd (other h.0)
-scalar_strips form _ kind bytes h other = refl
-
 pub is_none : (k : ℕ) → k ≡ 0 → (k == null_entry) ≡ true
 is_none k e = rw e refl
 
@@ -68,12 +62,6 @@ is_some (suc n) other = grind (arith, nat_tests)
 -- what the kind of an entry says
 abbrev pub stops_kind : Bool → ℕ → Bool
 stops_kind is_object kind = (kind == container_entry) || leaves_out is_object (kind == null_entry)
-
-pub stops_by_kind : (form : Form) (is_object : Bool) (t : Tree) (kind : ℕ) (bytes : List ℕ) → IsContent (number_reader form) t kind bytes
-    → stops_kind is_object kind ≡ stops is_object t
-stops_by_kind form is_object (boolean true) kind bytes h = rw h.0 refl
-stops_by_kind form is_object (boolean false) kind bytes h = rw h.0 refl
-stops_by_kind form is_object _ kind bytes h = rw h.0 refl
 
 -- a tree that doesn't change stays
 pub stays : (is_object : Bool) (t : Tree) (ts : List Tree) → stops is_object t ≡ false → stripped is_object (t ∷ ts) ≡ t ∷ stripped is_object ts

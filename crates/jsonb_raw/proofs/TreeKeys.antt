@@ -9,20 +9,20 @@ use Rattle.jsonb_raw.proofs.NumberKeys.{Ranks-number_bytes, bounded_from_fits}
 use Rattle.jsonb_doc.specs.Tree.{Tree, Trees, Pairs}
 use Rattle.jsonb_doc.specs.Payload.{extension_payload}
 use Rattle.jsonb_doc.specs.Depth.{deepest, deepest_of_trees, deepest_of_pairs}
-use Rattle.jsonb_raw.specs.NoExtension.{HasNoExtension, HaveNoExtension, ValuesHaveNoExtension}
+use Rattle.jsonb_raw.proofs.ExtensionLeaves.{LacksExtension, LackExtension, ValuesLackExtension}
 use Rattle.jsonb_doc.specs.Limits.{IsInRange, AreInRange, ValuesAreInRange}
 use Rattle.jsonb_doc.specs.Order.{rank, tree_cmp, trees_cmp, pairs_cmp}
 use Rattle.jsonb_raw.specs.SortableKey.{sortable_key, keys_of_trees, keys_of_pairs, depths, item_bytes, text_bytes, number_bytes, IsRest}
 
 -- The parts are in range, and no extension occurs: what sortable keys put in order.
 abbrev pub IsSortable : Tree → Type 0
-IsSortable t = IsInRange t × HasNoExtension t
+IsSortable t = IsInRange t × LacksExtension t
 
 abbrev pub AreSortable : Trees → Type 0
-AreSortable ts = AreInRange ts × HaveNoExtension ts
+AreSortable ts = AreInRange ts × LackExtension ts
 
 abbrev pub HasSortableValues : Pairs → Type 0
-HasSortableValues ps = ValuesAreInRange ps × ValuesHaveNoExtension ps
+HasSortableValues ps = ValuesAreInRange ps × ValuesLackExtension ps
 
 -- depths rank as numbers
 depth_ranks : (w : Width) (d e : ℕ) (r s : List ℕ) → d < depths w → e < depths w

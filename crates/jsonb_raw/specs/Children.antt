@@ -12,22 +12,15 @@ use Rattle.jsonb_raw.specs.Exists.{is_text}
 abbrev pub element_at : ℕ → Tree → Option Tree
 element_at i t = option_and_then (λ ts. slice_get ts i) (array_values t)
 
--- The value of an object's first member whose key equals the name under ASCII case folding.
-abbrev pub field_ignoring_case : List ℕ → Tree → Option Tree
-field_ignoring_case name t =
-    option_map (λ p. p.1) (option_and_then (λ ps. find (λ p. str_eq_ignore_ascii_case p.0 name) (members ps)) (pairs_in t))
-
--- The value of a name, otherwise, ignoring case, of the first key that equals the name.
+-- The value of a name, otherwise, ignoring ASCII case, of the first key that equals the name.
 abbrev pub named_child : List ℕ → Bool → Tree → Option Tree
-named_child name ignore_case t = option_or (field_of name t) (if ignore_case then field_ignoring_case name t else None)
+named_child name ignore_case t = option_or (field_of name t) (if ignore_case then option_map (λ p. p.1)
+    (option_and_then (λ ps. find (λ p. str_eq_ignore_ascii_case p.0 name) (members ps)) (pairs_in t)) else None)
 
--- The list without the element at an index, counted from the end if negative.
-abbrev pub without_position : ℤ → List Tree → List Tree
-without_position i ts = unwrap_or (option_map (remove ts) (index_position (length ts) i)) ts
-
--- The array without the element that an index denotes.
+-- The array without the element at an index, counted from the end if negative.
 abbrev pub without_index : ℤ → Tree → Option Tree
-without_index i t = option_map (λ ts. array (trees_of (without_position i ts))) (array_values t)
+without_index i t = option_map
+    (λ ts. array (trees_of (unwrap_or (option_map (remove ts) (index_position (length ts) i)) ts))) (array_values t)
 
 -- The array without the strings equal to the name, or the object without the key.
 abbrev pub without_name : List ℕ → Tree → Option Tree

@@ -1,18 +1,11 @@
--- Whether extensions are among the items of a tree.
-use Rattle.jsonb_doc.specs.Tree.{Tree, Trees, Pairs}
+-- Trees without extension values.
+use Rattle.std.specs.Prelude.{◌∷◌, false, not, IsTrue}
+use Rattle.std.specs.List.{AllByRecursion}
+use Rattle.std.specs.Map.{values_of}
+use Rattle.jsonb_doc.specs.Tree.{Tree}
+use Rattle.jsonb_raw.specs.Leaves.{leaves}
+use Rattle.jsonb_raw.specs.Scalars.{is_extension_value}
 
--- Holds if no extension occurs in the tree.
-abbrev mutual
-  pub HasNoExtension : Tree → Type 0
-  HasNoExtension (Tree.extension x) = ⊥
-  HasNoExtension (Tree.array ts) = HaveNoExtension ts
-  HasNoExtension (Tree.object ps) = ValuesHaveNoExtension ps
-  HasNoExtension _ = Unit {0}
-
-  pub HaveNoExtension : Trees → Type 0
-  HaveNoExtension Trees.no_trees = Unit {0}
-  HaveNoExtension (Trees.tree t ts) = HasNoExtension t × HaveNoExtension ts
-
-  pub ValuesHaveNoExtension : Pairs → Type 0
-  ValuesHaveNoExtension Pairs.no_pairs = Unit {0}
-  ValuesHaveNoExtension (Pairs.pair k v ps) = HasNoExtension v × ValuesHaveNoExtension ps
+-- Holds if no extension occurs in the tree: it is not one, and none of its leaves is.
+abbrev pub HasNoExtension : Tree → Type 0
+HasNoExtension t = AllByRecursion (λ u. IsTrue (not (is_extension_value u))) (t ∷ values_of (leaves false t))

@@ -8,6 +8,7 @@ pub mod LeafSteps
 pub mod Steps
 pub mod LargeTexts
 pub mod Cuts
+pub mod Merging
 pub mod Inserts
 pub mod Levels
 pub mod KeyKinds

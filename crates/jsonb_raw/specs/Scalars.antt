@@ -1,10 +1,11 @@
 -- The types of trees, and the values of scalars.
-use Rattle.std.specs.Prelude.{◌≡◌, ◌||◌, ℕ, Bool, true, false, not, List, Option, Some, None, ℤ, is_some, codes}
+use Rattle.std.specs.Prelude.{◌≡◌, ◌||◌, ℕ, Bool, true, false, not, if◌then◌else◌, List, Option, Some, None, ℤ, is_some, IsSomeAnd, codes}
 use Rattle.std.specs.declared.alloc.Global.{Global}
 use Rattle.std.specs.declared.borrow.CowStr.{CowStr}
 use Rattle.std.specs.declared.borrow.CowStr.TheVariants.{Borrowed, Owned}
-use Rattle.jsonb_doc.specs.Number.{Number, Variant, int64, uint64}
-use Rattle.jsonb_doc.specs.Extension.{Extension, binary, date, timestamp, timestamp_tz, interval}
+use Rattle.jsonb_doc.specs.Number.{Number}
+use Rattle.jsonb_doc.specs.Arithmetic.{is_decimal}
+use Rattle.jsonb_doc.specs.Extension.{binary, date, timestamp, timestamp_tz, interval}
 use Rattle.jsonb_doc.specs.Tree.{Tree, null, boolean, number, text, extension, array, object, trees_in, pairs_in}
 use Rattle.jsonb_doc.specs.Rounding.{IsWhole}
 
@@ -22,33 +23,7 @@ abbrev pub text_in : Tree → Option (List ℕ)
 text_in (text s) = Some s
 text_in _ = None
 
-abbrev pub extension_in : Tree → Option Extension
-extension_in (extension x) = Some x
-extension_in _ = None
-
-abbrev pub binary_in : Tree → Option (List ℕ)
-binary_in (extension (binary bytes)) = Some bytes
-binary_in _ = None
-
-abbrev pub date_in : Tree → Option ℤ
-date_in (extension (date value)) = Some value
-date_in _ = None
-
-abbrev pub timestamp_in : Tree → Option ℤ
-timestamp_in (extension (timestamp value)) = Some value
-timestamp_in _ = None
-
--- The offset and the value.
-abbrev pub timestamp_tz_in : Tree → Option (ℤ × ℤ)
-timestamp_tz_in (extension (timestamp_tz offset value)) = Some (offset, value)
-timestamp_tz_in _ = None
-
--- The months, the days and the microseconds.
-abbrev pub interval_in : Tree → Option (ℤ × ℤ × ℤ)
-interval_in (extension (interval months days micros)) = Some (months, days, micros)
-interval_in _ = None
-
--- ---- types. A tree is of the other types if and only if it has a value of that type.
+-- ---- types. A tree is a Boolean, a number or a string if and only if it has that part.
 
 abbrev pub is_null : Tree → Bool
 is_null null = true
@@ -61,19 +36,14 @@ abbrev pub is_object : Tree → Bool
 is_object t = is_some (pairs_in t)
 
 abbrev pub is_extension_value : Tree → Bool
-is_extension_value t = is_some (extension_in t)
-
--- The name of a stored form of numbers.
-abbrev pub number_type : Variant → List ℕ
-number_type int64 = codes "INTEGER"
-number_type uint64 = codes "INTEGER"
-number_type _ = codes "DECIMAL"
+is_extension_value (extension x) = true
+is_extension_value _ = false
 
 -- The name of a tree's type. Each zero is the unsigned one, and so an integer.
 abbrev pub type_name : Tree → List ℕ
 type_name null = codes "NULL_VALUE"
 type_name (boolean b) = codes "BOOLEAN"
-type_name (number n) = number_type n.variant
+type_name (number n) = if is_decimal n.variant then codes "DECIMAL" else codes "INTEGER"
 type_name (text s) = codes "STRING"
 type_name (extension (binary bytes)) = codes "BINARY"
 type_name (extension (date value)) = codes "DATE"
@@ -92,8 +62,7 @@ BorrowsText (Owned s) wanted = ⊥
 
 -- Holds if the tree is a number that is this integer.
 abbrev pub IsWholeNumber : Tree → ℤ → Type 0
-IsWholeNumber (number n) z = IsWhole n z
-IsWholeNumber _ z = ⊥
+IsWholeNumber t z = IsSomeAnd (number_in t) (λ n. IsWhole n z)
 
 -- Whether the tree is null, a Boolean, a number or a string.
 abbrev pub is_json_scalar : Tree → Bool

@@ -8,30 +8,23 @@ use Rattle.jsonb_doc.specs.Equal.{is_equal}
 abbrev pub count_of : Tree → List Tree → ℕ
 count_of t us = count_by (λ u. is_equal u t) us
 
--- An occurrence of an element in a list: the elements before it, the last of them first, and itself.
-abbrev pub Occurrence : Type 0
-Occurrence = List Tree × Tree
-
--- Each occurrence in a list, after the elements `before`.
-abbrev pub occurrences : List Tree → List Tree → List Occurrence
+-- Each occurrence of an element in a list, after the elements `before`: the elements before it, the last of them first,
+-- and itself.
+abbrev pub occurrences : List Tree → List Tree → List (List Tree × Tree)
 occurrences before [] = []
 occurrences before (t ∷ ts) = (before, t) ∷ occurrences (t ∷ before) ts
 
 -- The elements whose occurrences pass a test, in order.
-abbrev pub select_occurrences : (Occurrence → Bool) → List Tree → List Tree
+abbrev pub select_occurrences : (List Tree × Tree → Bool) → List Tree → List Tree
 select_occurrences test ts = map (λ o. o.1) (filter test (occurrences [] ts))
 
--- Whether no element before it equals it.
-abbrev pub is_first : Occurrence → Bool
-is_first o = count_of o.1 o.0 == 0
-
 -- Whether fewer elements before it equal it than elements of the other list do.
-abbrev pub is_shared : List Tree → Occurrence → Bool
+abbrev pub is_shared : List Tree → List Tree × Tree → Bool
 is_shared other o = nat_lt (count_of o.1 o.0) (count_of o.1 other)
 
--- The first of each group of equal elements.
+-- The first of each group of equal elements: those that no element before them equals.
 abbrev pub distinct : List Tree → List Tree
-distinct ts = select_occurrences is_first ts
+distinct ts = select_occurrences (λ o. count_of o.1 o.0 == 0) ts
 
 -- The intersection of a list with another one, and the difference: each occurrence goes to one of the two.
 abbrev pub intersection_of : List Tree → List Tree → List Tree

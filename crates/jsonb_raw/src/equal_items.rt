@@ -3,6 +3,7 @@
 
 ghost use Rattle.std.specs.Prelude.{◌≡◌, ◌+◌, ℕ, true, List, length, take, IsOkAnd, IfOk, IfErr, IfSome};
 ghost use Rattle.std.specs.List.{list_any};
+ghost use Rattle.std.specs.Str.{bytes_eq};
 ghost use Rattle.std.specs.Ordering.{eq_by_cmp};
 ghost use Rattle.jsonb_doc.specs.Number.{number_cmp};
 ghost use Rattle.jsonb_doc.specs.Tree.{Tree, Trees, Pairs, elements};
@@ -19,7 +20,7 @@ ghost use Rattle.jsonb_raw.specs.Private.Compared.{Decides, IsShorter, IsShortOf
 use crate::compared::{Compared, is_container_longer_than};
 use jsonb_doc::{
     EntryIter, Error, ExtensionValue, Item, Number, ShortNumber, StoredEntry, array_entries,
-    object_entries, short_equal,
+    bytes_equal, object_entries, short_equal,
 };
 
 /// Returns `true` if two items are equal by value: of one type, with numbers of one exact value and extensions of the
@@ -184,6 +185,15 @@ fn stored_items_equal(entry: &StoredEntry<'_>, wanted: &StoredEntry<'_>) -> Resu
     items_equal(&entry.item()?, &wanted.item()?)
 }
 
+/// Returns `true` if two strings are equal. Strings of one length often differ in the last byte, so that few are
+/// compared as a whole.
+#[inline(always)]
+fn same_bytes(bytes: &[u8], other: &[u8]) -> bool
+    ensures { result ≡ bytes_eq bytes.now other.now }
+{
+    bytes_equal(bytes, other)
+}
+
 /// Returns whether an entry equals another one, if their bytes decide.
 #[inline(always)]
 fn bytes_tell(
@@ -199,7 +209,7 @@ fn bytes_tell(
         return Some(false);
     }
     if entry.has_one_spelling() {
-        return Some(entry.content == wanted.content);
+        return Some(same_bytes(entry.content, wanted.content));
     }
     if let (Some(number), Some(other)) = (entry.short_number(), short) {
         return Some(short_equal(number, other));

@@ -1,5 +1,5 @@
 -- How often the equality keys of elements are counted while an array is gone over.
-use Rattle.std.specs.Prelude.{◌≡◌, ℕ, ◌+◌, ◌-◌, ◌<◌, ◌^◌, length, Bool, not, cond, if◌then◌else◌, List, [], ◌∷◌, Vec, unwrap_or, count_by}
+use Rattle.std.specs.Prelude.{◌≡◌, ℕ, ◌+◌, ◌-◌, ◌<◌, ◌^◌, ◌==◌, length, Bool, not, cond, if◌then◌else◌, List, [], ◌∷◌, Vec, unwrap_or, count_by}
 use Rattle.std.specs.Ordering.{nat_cmp}
 use Rattle.std.specs.List.{AllByRecursion}
 use Rattle.std.specs.declared.cmp.Ordering.{Ordering}
@@ -11,7 +11,7 @@ use Rattle.jsonb_doc.specs.Tree.{Tree}
 use Rattle.jsonb_doc.specs.Payload.{Form}
 use Rattle.jsonb_doc.specs.Limits.{Fits}
 use Rattle.jsonb_raw.specs.EqualityKey.{equality_key}
-use Rattle.jsonb_raw.specs.Sets.{Occurrence, is_first, is_shared}
+use Rattle.jsonb_raw.specs.Sets.{count_of, is_shared}
 use Rattle.jsonb_raw.specs.Private.Entries.{HoldTrees}
 use Rattle.jsonb_raw.specs.declared.functions.array.counts.KeyCounts.{KeyCounts}
 use Rattle.jsonb_raw.specs.declared.functions.array.seen.ElementsPassed.{ElementsPassed}
@@ -19,6 +19,14 @@ use Rattle.jsonb_raw.specs.declared.functions.array.seen.Seen.{Seen}
 use Rattle.jsonb_raw.specs.declared.functions.array.seen.Seen.TheVariants.{Keys, Elements}
 use Rattle.jsonb_raw.specs.declared.functions.array.sets.SetOperation.{SetOperation}
 use Rattle.jsonb_raw.specs.declared.functions.array.sets.SetOperation.TheVariants.{First, Shared, Unshared}
+
+-- an occurrence of an element in a list: the elements before it, the last of them first, and itself
+abbrev pub Occurrence : Type 0
+Occurrence = List Tree × Tree
+
+-- whether no element before it equals it
+abbrev pub is_first : Occurrence → Bool
+is_first o = count_of o.1 o.0 == 0
 
 -- the order of keys, as a map compares them
 abbrev pub key_cmp : Vec ℕ Global → Vec ℕ Global → Ordering

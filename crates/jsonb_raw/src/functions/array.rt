@@ -2,7 +2,7 @@
 //!
 //! On bytes that do not decode each function returns; its result is not specified.
 
-ghost use Rattle.std.specs.Prelude.{◌≡◌, List, [], ◌∷◌, IfErr, IsOkAnd, MatchResult};
+ghost use Rattle.std.specs.Prelude.{◌≡◌, List, [], ◌∷◌, Ok, None, IfErr, IsSomeAnd, MatchOption, MatchResult};
 ghost use Rattle.std.specs.List.{insert, Any, AllZip};
 ghost use Rattle.jsonb_doc.specs.Tree.{Tree, array, trees_of};
 ghost use Rattle.jsonb_doc.specs.Payload.{Form};
@@ -12,7 +12,6 @@ ghost use Rattle.jsonb_raw.specs.Documents.{raw_bytes, Makes};
 ghost use Rattle.jsonb_doc.specs.Limits.{IsTooLarge};
 ghost use Rattle.jsonb_doc.specs.Answer.{◌or◌, ◌or◌when◌, IsOutOfMemory, IsDecodingError};
 ghost use Rattle.jsonb_doc.specs.declared.error.Error.TheVariants.{OutOfMemory, TooLarge};
-ghost use Rattle.jsonb_raw.specs.Making.{MakesEach};
 ghost use Rattle.jsonb_raw.specs.Private.Entries.{HoldTrees};
 ghost use Rattle.jsonb_raw.specs.Arrays.{array_length, array_values, array_insert, insert_place};
 
@@ -80,7 +79,9 @@ impl RawJsonb<'_> {
     /// | `[false,10,{"k":"v"}]` | `false`, `10`, `{"k":"v"}` |
     pub fn array_values(&self, alloc: Global) -> Result<Option<Vec<OwnedJsonb>>, Error>
         ensures values { (form : Form) (t : Tree) → Decodes form (raw_bytes self.now) t
-            → MakesEach form (array_values t) result }
+            → MatchOption (array_values t) (result ≡ Ok None) (λ ts. MatchResult result
+            (λ found. IsSomeAnd found (λ made. AllZip (Decodes form) made.items ts))
+            (IsOutOfMemory or TooLarge when Any (IsTooLarge form) ts)) }
         ensures errors { IfErr result (IsDecodingError or OutOfMemory or TooLarge) }
     {
         let Some(entries) = element_entries(self.as_bytes())? else {

@@ -2,7 +2,8 @@
 //!
 //! On bytes that do not decode each function returns; its result is not specified. Only the root is read.
 
-ghost use Rattle.std.specs.Prelude.{◌≡◌, IfErr, OnOk};
+ghost use Rattle.std.specs.Prelude.{◌≡◌, ◌<◌, ◌^◌, Some, FitsSigned, IfErr, OnOk};
+ghost use Rattle.std.specs.Int.{w64};
 ghost use Rattle.jsonb_doc.specs.Tree as spec;
 ghost use Rattle.jsonb_doc.specs.Tree.{Tree};
 ghost use Rattle.jsonb_doc.specs.Payload.{Form};
@@ -10,7 +11,7 @@ ghost use Rattle.jsonb_doc.specs.Format.{Decodes};
 ghost use Rattle.jsonb_doc.specs.View.{number_parts};
 ghost use Rattle.jsonb_raw.specs.AnyBytes.Roots.{HasRoot};
 ghost use Rattle.jsonb_raw.specs.Documents.{raw_bytes};
-ghost use Rattle.jsonb_raw.specs.Casts.{CastsToBool, CastsToI64, CastsToU64, CastsToText, text_of, bool_text};
+ghost use Rattle.jsonb_raw.specs.Casts.{Casts, IsBoolOf, IsSignedOf, IsUnsignedOf, CastsToText, text_of};
 ghost use Rattle.jsonb_doc.specs.Answer.{IsDecodingError, ◌or◌};
 ghost use Rattle.jsonb_doc.specs.declared.error.Error.TheVariants.{OutOfMemory, InvalidCast};
 
@@ -38,7 +39,8 @@ impl RawJsonb<'_> {
     /// | `"1"` | refused: `InvalidCast` |
     #[inline(always)]
     pub fn to_bool(&self) -> Result<bool, Error>
-        ensures value { (form : Form) (tree : Tree) → Decodes form (raw_bytes self.now) tree → CastsToBool tree result }
+        ensures value { (form : Form) (tree : Tree) → Decodes form (raw_bytes self.now) tree
+            → Casts (IsBoolOf tree) result }
         ensures errors { IfErr result (IsDecodingError or InvalidCast) }
         ensures reads { OnOk result (HasRoot (raw_bytes self.now)) }
     {
@@ -70,7 +72,8 @@ impl RawJsonb<'_> {
     /// | `"-5"` | `-5` |
     /// | `"2.5"` | refused: `InvalidCast` |
     pub fn to_i64(&self) -> Result<i64, Error>
-        ensures value { (form : Form) (tree : Tree) → Decodes form (raw_bytes self.now) tree → CastsToI64 tree result }
+        ensures value { (form : Form) (tree : Tree) → Decodes form (raw_bytes self.now) tree
+            → Casts (λ z. IsSignedOf tree z × FitsSigned w64 z) result }
         ensures errors { IfErr result (IsDecodingError or InvalidCast) }
         ensures reads { OnOk result (HasRoot (raw_bytes self.now)) }
     {
@@ -100,7 +103,8 @@ impl RawJsonb<'_> {
     /// |---|---|
     /// | `-0.5` | refused: `InvalidCast` |
     pub fn to_u64(&self) -> Result<u64, Error>
-        ensures value { (form : Form) (tree : Tree) → Decodes form (raw_bytes self.now) tree → CastsToU64 tree result }
+        ensures value { (form : Form) (tree : Tree) → Decodes form (raw_bytes self.now) tree
+            → Casts (λ n. IsUnsignedOf tree n × (n < 2 ^ 64)) result }
         ensures errors { IfErr result (IsDecodingError or InvalidCast) }
         ensures reads { OnOk result (HasRoot (raw_bytes self.now)) }
     {
@@ -147,7 +151,7 @@ impl RawJsonb<'_> {
 
 /// Returns the Boolean that a string names. Its bytes are compared, and not validated first.
 fn bool_from_text(text: &[u8]) -> Result<bool, Error>
-    ensures { CastsToBool (spec.text text.now) result }
+    ensures { Casts (IsBoolOf (spec.text text.now)) result }
 {
     if text.eq_ignore_ascii_case(b"true") || text.eq_ignore_ascii_case(b"yes") {
         Ok(true)
@@ -159,7 +163,7 @@ fn bool_from_text(text: &[u8]) -> Result<bool, Error>
 }
 
 fn bool_text(value: bool) -> &'static str
-    ensures { result.now ≡ bool_text value }
+    ensures { text_of (spec.boolean value) ≡ Some result.now }
 {
     if value { "true" } else { "false" }
 }

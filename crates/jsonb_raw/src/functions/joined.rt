@@ -1,6 +1,6 @@
 //! Containers of runs of entries. Each byte is copied once, as it is stored.
 
-ghost use Rattle.std.specs.Prelude.{◌≡◌, ◌^◌, ◌≤◌, ◌++◌, ℕ, List, map, length, IfErr, MatchOption};
+ghost use Rattle.std.specs.Prelude.{◌≡◌, ◌^◌, ◌≤◌, ◌++◌, ℕ, List, [], map, length, IfErr, MatchOption};
 ghost use Rattle.std.specs.Map.{keys_of, values_of};
 ghost use Rattle.jsonb_doc.specs.Tree.{Tree, text, array, object, trees_of, pairs_of};
 ghost use Rattle.jsonb_doc.specs.Payload.{Form};
@@ -13,7 +13,7 @@ ghost use Rattle.jsonb_raw.specs.Private.Entries.{HoldTrees, RunsHold};
 use crate::functions::parts::Entries;
 use crate::owned::OwnedJsonb;
 use jsonb_doc::Error;
-use jsonb_doc::layout::{HeaderKind, MAX_ENTRIES};
+use jsonb_doc::layout::{HeaderKind, MAX_ENTRIES, encode_header};
 use jsonb_doc::rewriting::container_of_runs;
 use std::alloc::Global;
 
@@ -57,7 +57,20 @@ pub fn array_of(alloc: Global, runs: &[Entries<'_>]) -> Result<OwnedJsonb, Error
     let Some(count) = count_entries(runs) else {
         return Err(Error::TooLarge);
     };
+    if count == 0 {
+        return empty_array(alloc);
+    }
     container_of(alloc, HeaderKind::Array, count, runs, &[])
+}
+
+/// Returns the empty array: a header alone, for which no runs are visited.
+#[inline(always)]
+fn empty_array(alloc: Global) -> Result<OwnedJsonb, Error>
+    ensures array { (form : Form) → Makes form (array (trees_of [])) result }
+    ensures errors { IfErr result IsOutOfMemory }
+{
+    let header = encode_header(HeaderKind::Array, 0);
+    Ok(OwnedJsonb::new(Vec::from_slice(alloc, &header)?))
 }
 
 /// Returns the object whose keys are the entries of some runs, and whose values are those of others.

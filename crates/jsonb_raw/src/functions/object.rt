@@ -4,7 +4,7 @@
 
 ghost use Rattle.std.specs.List.{Any, AllZip};
 ghost use Rattle.std.specs.Map.{keys_of, values_of};
-ghost use Rattle.std.specs.Prelude.{◌≡◌, ℕ, List, ◌⊎◌, ◌||◌, false, not, None, Ok, IsTrue, IfErr, IsErrOf, MatchResult, MatchOption, Err, IsUtf8};
+ghost use Rattle.std.specs.Prelude.{◌≡◌, ℕ, List, ◌⊎◌, ◌||◌, false, not, None, Ok, IsSomeAnd, IsTrue, IfErr, IsErrOf, MatchResult, MatchOption, Err, IsUtf8};
 ghost use Rattle.jsonb_doc.specs.Tree.{Tree, object, pairs_of};
 ghost use Rattle.jsonb_doc.specs.Payload.{Form, number_reader};
 ghost use Rattle.jsonb_doc.specs.Format.{Decodes, AreKeys, IsContent};
@@ -16,7 +16,7 @@ ghost use Rattle.jsonb_doc.specs.declared.error.Error.TheVariants.{OutOfMemory, 
 ghost use Rattle.jsonb_raw.specs.Documents.{raw_bytes, MakesOption, Makes};
 ghost use Rattle.jsonb_raw.specs.Private.Entries.{HoldPairs};
 ghost use Rattle.jsonb_raw.specs.Private.PairSteps.{parted};
-ghost use Rattle.jsonb_raw.specs.Making.{MakesPairs, IsPairOf};
+ghost use Rattle.jsonb_raw.specs.Making.{IsPairOf};
 ghost use Rattle.jsonb_raw.specs.Objects.{object_pick, object_delete, object_keys, object_each, object_insert, has_name};
 
 mod insert;
@@ -113,7 +113,9 @@ impl RawJsonb<'_> {
     /// | `{"a":null,"b":[null]}` | `a`: `null`, `b`: `[null]` |
     pub fn object_each(&self, alloc: Global) -> Result<Option<Vec<(String, OwnedJsonb)>>, Error>
         ensures pairs { (form : Form) (t : Tree) → Decodes form (raw_bytes self.now) t
-            → MakesPairs form (object_each t) result }
+            → MatchOption (object_each t) (result ≡ Ok None) (λ ps. MatchResult result
+            (λ found. IsSomeAnd found (λ made. AllZip (IsPairOf form) made.items ps))
+            (IsOutOfMemory or TooLarge when Any (IsTooLarge form) (values_of ps))) }
         ensures errors { IfErr result (IsDecodingError or OutOfMemory or TooLarge) }
     {
         let Some(pairs) = pair_entries(self.as_bytes())? else {

@@ -4,6 +4,7 @@
 
 ghost use Rattle.std.specs.Prelude.{◌≡◌, ◌↔◌, ◌^◌, ◌<◌, ℕ, ℤ, pos, FitsSigned, IfErr, IsOkAnd, IsTrue, MatchOption, OnOk, is_some};
 ghost use Rattle.std.specs.Int.{w64};
+ghost use Rattle.jsonb_doc.specs.Tree as spec;
 ghost use Rattle.jsonb_doc.specs.Tree.{Tree, extension};
 ghost use Rattle.jsonb_doc.specs.Payload.{Form};
 ghost use Rattle.jsonb_doc.specs.Format.{Decodes};
@@ -12,7 +13,7 @@ ghost use Rattle.jsonb_doc.specs.View.{number_parts, extension_view};
 ghost use Rattle.jsonb_raw.specs.Computes.{Computes};
 ghost use Rattle.jsonb_raw.specs.Documents.{raw_bytes};
 ghost use Rattle.jsonb_raw.specs.AnyBytes.Roots.{HasRoot, HasRootShape};
-ghost use Rattle.jsonb_raw.specs.Scalars.{boolean_in, number_in, text_in, is_null, is_array, is_object, type_name, number_type, IsWholeNumber, BorrowsText};
+ghost use Rattle.jsonb_raw.specs.Scalars.{boolean_in, number_in, text_in, is_null, is_array, is_object, type_name, IsWholeNumber, BorrowsText};
 
 mod extension;
 #[cfg(test)]
@@ -452,7 +453,7 @@ impl<'a> RawJsonb<'a> {
 }
 
 fn number_type(number: &Number) -> &'static str
-    ensures { result.now ≡ number_type (number_parts number.now).variant }
+    ensures { result.now ≡ type_name (spec.number (number_parts number.now)) }
 {
     match number {
         Number::Int64(_) | Number::UInt64(_) => "INTEGER",

@@ -26,8 +26,9 @@ impl KeyCounts {
         }
     }
 
-    /// Increments the key's count, and returns what it was. A copy of the key is inserted without a search before it,
-    /// which takes a tenth of the instructions of `array_except` on 200 strings: most keys are new.
+    /// Increments the key's count, and returns what it was. A copy of the key is inserted at once: a search before it
+    /// takes a tenth of the instructions of `array_except` on 200 strings, whose keys are new. Integers that occur
+    /// again take 5 to 8 percent more.
     pub(super) fn add(&mut self, alloc: Global, key: &Vec<u8>) -> Result<usize, Error>
         ensures before { MatchResult result (λ before. before ≡ counted self.old key.now) IsOutOfMemory }
         ensures more { MatchResult result (λ _. counted self.old key.now < 2 ^ 63

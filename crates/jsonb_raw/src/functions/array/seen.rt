@@ -292,3 +292,6 @@ fn count_equal(entries: Entries<'_>, count: usize, wanted: &StoredEntry<'_>) -> 
     }
     Ok(equal)
 }
+
+#[cfg(test)]
+mod tests;

@@ -9,7 +9,8 @@ ghost use Rattle.jsonb_doc.specs.Answer.{IsDecodingError, ◌or◌};
 ghost use Rattle.jsonb_doc.specs.declared.error.Error.TheVariants.{OutOfMemory, TooLarge};
 ghost use Rattle.jsonb_raw.specs.Documents.{raw_bytes, Makes};
 ghost use Rattle.jsonb_raw.specs.Arrays.{as_elements};
-ghost use Rattle.jsonb_raw.specs.Concat.{concat, merged};
+ghost use Rattle.jsonb_raw.specs.Concat.{concat};
+ghost use Rattle.jsonb_raw.specs.Private.Merging.{merged};
 ghost use Rattle.jsonb_raw.specs.Private.Entries.{HoldPairs};
 
 use crate::functions::joined::array_of_two;

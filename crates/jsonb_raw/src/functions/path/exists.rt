@@ -476,3 +476,6 @@ impl RawJsonb<'_> {
         short_circuit(self.as_bytes(), names, true)
     }
 }
+
+#[cfg(test)]
+mod tests;

@@ -1,6 +1,6 @@
 //! The leaves of a document, with their key paths.
 
-ghost use Rattle.std.specs.Prelude.{◌≡◌, ◌⊎◌, ◌+◌, ◌%◌, ◌^◌, ◌<◌, ◌&&◌, ◌++◌, [], ◌∷◌, ℕ, List, Option, length, vec_len, vec_capacity, IsOkAnd, IfOk, IfErr, MatchResult, OnOk};
+ghost use Rattle.std.specs.Prelude.{◌≡◌, ◌⊎◌, ◌+◌, ◌%◌, ◌^◌, ◌<◌, ◌&&◌, ◌++◌, [], ◌∷◌, ℕ, List, Option, length, vec_len, vec_capacity, IsOkAnd, IfOk, IfErr, map, MatchResult, OnOk};
 ghost use Rattle.std.specs.List.{Any, AllZip};
 ghost use Rattle.jsonb_doc.specs.Tree.{Tree, text, number};
 ghost use Rattle.jsonb_doc.specs.Payload.{Form, number_reader};
@@ -19,7 +19,6 @@ ghost use Rattle.jsonb_raw.specs.AnyBytes.Roots.{HasRoot};
 ghost use Rattle.jsonb_raw.specs.Documents.{raw_bytes};
 ghost use Rattle.jsonb_raw.specs.Scalars.{is_array};
 ghost use Rattle.jsonb_raw.specs.Leaves.{leaves};
-ghost use Rattle.jsonb_raw.specs.LeafViews.{leaves_seen};
 ghost use Rattle.jsonb_raw.specs.declared.functions.path.leaves.Step.{Step};
 ghost use Rattle.jsonb_raw.specs.Private.LeafSteps.{IsEntered, IsKept, AppendsLeaf, IsValueOf, step_key, step_keys};
 ghost use Rattle.jsonb_raw.specs.Private.Levels.{IsKeyOf, IsLevelWithin};
@@ -375,11 +374,13 @@ impl<'a> RawJsonb<'a> {
         ignore_array: bool,
     ) -> Result<Vec<(KeyPaths<'a>, Value<'a>)>, Error>
         ensures leaves { (form : Form) (t : Tree) → Decodes form (raw_bytes self.now) t
-            → MatchResult result (λ found. leaves_seen value_tree found.items ≡ leaves ignore_array t) IsOutOfMemory }
+            → MatchResult result (λ found. map (λ leaf. (key_paths_view leaf.0, value_tree leaf.1)) found.items
+            ≡ leaves ignore_array t) IsOutOfMemory }
 
         // The numbers of the values keep their variants and scales.
         ensures parts { (form : Form) (t : Tree) → Decodes form (raw_bytes self.now) t
-            → IfOk result (λ found. leaves_seen value_parts found.items ≡ leaves ignore_array t) }
+            → IfOk result (λ found. map (λ leaf. (key_paths_view leaf.0, value_parts leaf.1)) found.items
+            ≡ leaves ignore_array t) }
         ensures errors { IfErr result (IsDecodingError or OutOfMemory) }
         ensures reads { OnOk result (HasRoot (raw_bytes self.now)) }
     {

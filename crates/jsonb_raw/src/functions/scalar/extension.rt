@@ -2,17 +2,18 @@
 //!
 //! On bytes that do not decode each function returns; its result is not specified. Only the root is read.
 
-ghost use Rattle.std.specs.Prelude.{◌≡◌, IfErr, IsOkAnd, IsSome, MatchResult, OnOk, is_some};
-ghost use Rattle.jsonb_doc.specs.Tree.{Tree};
+ghost use Rattle.std.specs.Prelude.{◌≡◌, ◌↔◌, ℕ, ℤ, List, IsTrue, IfErr, IsOkAnd, MatchOption, MatchResult, OnOk};
+ghost use Rattle.jsonb_doc.specs.Extension.{Extension, binary, date, timestamp, timestamp_tz, interval};
+ghost use Rattle.jsonb_doc.specs.Tree.{Tree, extension};
 ghost use Rattle.jsonb_doc.specs.Payload.{Form};
 ghost use Rattle.jsonb_doc.specs.Format.{Decodes};
-ghost use Rattle.jsonb_doc.specs.Answer.{SameOption, ◌or◌, IsDecodingError, IsOutOfMemory};
+ghost use Rattle.jsonb_doc.specs.Answer.{◌or◌, IsDecodingError, IsOutOfMemory};
 ghost use Rattle.jsonb_doc.specs.View.{extension_view};
 ghost use Rattle.jsonb_raw.specs.Computes.{Computes};
 ghost use Rattle.jsonb_raw.specs.Documents.{raw_bytes};
 ghost use Rattle.jsonb_raw.specs.AnyBytes.Roots.{HasRootShape};
 ghost use Rattle.jsonb_doc.specs.declared.error.Error.TheVariants.{OutOfMemory};
-ghost use Rattle.jsonb_raw.specs.Scalars.{extension_in, binary_in, date_in, timestamp_in, timestamp_tz_in, interval_in, is_extension_value};
+ghost use Rattle.jsonb_raw.specs.Scalars.{is_extension_value};
 
 use crate::raw::RawJsonb;
 use jsonb_doc::{Date, Error, ExtensionValue, Interval, Shape, Timestamp, TimestampTz, root_shape};
@@ -62,7 +63,8 @@ impl<'a> RawJsonb<'a> {
     /// }
     /// ```
     pub fn is_binary(&self) -> Result<bool, Error>
-        ensures kind { Computes (λ tree. is_some (binary_in tree)) (raw_bytes self.now) result }
+        ensures kind { (form : Form) (tree : Tree) → Decodes form (raw_bytes self.now) tree
+            → IsOkAnd result (λ b. IsTrue b ↔ ((bytes : List ℕ) × (tree ≡ extension (binary bytes)))) }
         ensures errors { IfErr result IsDecodingError }
         ensures reads { OnOk result (HasRootShape (raw_bytes self.now)) }
     {
@@ -90,7 +92,8 @@ impl<'a> RawJsonb<'a> {
     /// }
     /// ```
     pub fn is_date(&self) -> Result<bool, Error>
-        ensures kind { Computes (λ tree. is_some (date_in tree)) (raw_bytes self.now) result }
+        ensures kind { (form : Form) (tree : Tree) → Decodes form (raw_bytes self.now) tree
+            → IsOkAnd result (λ b. IsTrue b ↔ ((value : ℤ) × (tree ≡ extension (date value)))) }
         ensures errors { IfErr result IsDecodingError }
         ensures reads { OnOk result (HasRootShape (raw_bytes self.now)) }
     {
@@ -118,7 +121,8 @@ impl<'a> RawJsonb<'a> {
     /// }
     /// ```
     pub fn is_timestamp(&self) -> Result<bool, Error>
-        ensures kind { Computes (λ tree. is_some (timestamp_in tree)) (raw_bytes self.now) result }
+        ensures kind { (form : Form) (tree : Tree) → Decodes form (raw_bytes self.now) tree
+            → IsOkAnd result (λ b. IsTrue b ↔ ((value : ℤ) × (tree ≡ extension (timestamp value)))) }
         ensures errors { IfErr result IsDecodingError }
         ensures reads { OnOk result (HasRootShape (raw_bytes self.now)) }
     {
@@ -146,7 +150,8 @@ impl<'a> RawJsonb<'a> {
     /// }
     /// ```
     pub fn is_timestamp_tz(&self) -> Result<bool, Error>
-        ensures kind { Computes (λ tree. is_some (timestamp_tz_in tree)) (raw_bytes self.now) result }
+        ensures kind { (form : Form) (tree : Tree) → Decodes form (raw_bytes self.now) tree
+            → IsOkAnd result (λ b. IsTrue b ↔ ((offset value : ℤ) × (tree ≡ extension (timestamp_tz offset value)))) }
         ensures errors { IfErr result IsDecodingError }
         ensures reads { OnOk result (HasRootShape (raw_bytes self.now)) }
     {
@@ -174,7 +179,9 @@ impl<'a> RawJsonb<'a> {
     /// }
     /// ```
     pub fn is_interval(&self) -> Result<bool, Error>
-        ensures kind { Computes (λ tree. is_some (interval_in tree)) (raw_bytes self.now) result }
+        ensures kind { (form : Form) (tree : Tree) → Decodes form (raw_bytes self.now) tree
+            → IsOkAnd result (λ b. IsTrue b
+            ↔ ((months days micros : ℤ) × (tree ≡ extension (interval months days micros)))) }
         ensures errors { IfErr result IsDecodingError }
         ensures reads { OnOk result (HasRootShape (raw_bytes self.now)) }
     {
@@ -206,7 +213,8 @@ impl<'a> RawJsonb<'a> {
     /// ```
     pub fn as_extension_value(&self) -> Result<Option<ExtensionValue<'a>>, Error>
         ensures value { (form : Form) (tree : Tree) → Decodes form (raw_bytes self.now) tree
-            → IsOkAnd result (λ found. SameOption (λ x y. extension_view x ≡ y) found (extension_in tree)) }
+            → IsOkAnd result (λ found. MatchOption found ((x : Extension) → tree ≡ extension x → ⊥)
+            (λ x. tree ≡ extension (extension_view x))) }
         ensures errors { IfErr result IsDecodingError }
         ensures reads { OnOk result (HasRootShape (raw_bytes self.now)) }
     {
@@ -234,7 +242,8 @@ impl<'a> RawJsonb<'a> {
     /// ```
     pub fn as_date(&self) -> Result<Option<Date>, Error>
         ensures value { (form : Form) (tree : Tree) → Decodes form (raw_bytes self.now) tree
-            → IsOkAnd result (λ found. SameOption (λ day value. day.value ≡ value) found (date_in tree)) }
+            → IsOkAnd result (λ found. MatchOption found ((value : ℤ) → tree ≡ extension (date value) → ⊥)
+            (λ day. tree ≡ extension (date day.value))) }
         ensures errors { IfErr result IsDecodingError }
         ensures reads { OnOk result (HasRootShape (raw_bytes self.now)) }
     {
@@ -263,7 +272,8 @@ impl<'a> RawJsonb<'a> {
     /// ```
     pub fn as_timestamp(&self) -> Result<Option<Timestamp>, Error>
         ensures value { (form : Form) (tree : Tree) → Decodes form (raw_bytes self.now) tree
-            → IsOkAnd result (λ found. SameOption (λ time value. time.value ≡ value) found (timestamp_in tree)) }
+            → IsOkAnd result (λ found. MatchOption found ((value : ℤ) → tree ≡ extension (timestamp value) → ⊥)
+            (λ time. tree ≡ extension (timestamp time.value))) }
         ensures errors { IfErr result IsDecodingError }
         ensures reads { OnOk result (HasRootShape (raw_bytes self.now)) }
     {
@@ -294,7 +304,8 @@ impl<'a> RawJsonb<'a> {
     pub fn as_timestamp_tz(&self) -> Result<Option<TimestampTz>, Error>
         ensures value { (form : Form) (tree : Tree) → Decodes form (raw_bytes self.now) tree
             → IsOkAnd result (λ found.
-            SameOption (λ time parts. (time.offset, time.value) ≡ parts) found (timestamp_tz_in tree)) }
+            MatchOption found ((offset value : ℤ) → tree ≡ extension (timestamp_tz offset value) → ⊥)
+            (λ time. tree ≡ extension (timestamp_tz time.offset time.value))) }
         ensures errors { IfErr result IsDecodingError }
         ensures reads { OnOk result (HasRootShape (raw_bytes self.now)) }
     {
@@ -325,7 +336,8 @@ impl<'a> RawJsonb<'a> {
     pub fn as_interval(&self) -> Result<Option<Interval>, Error>
         ensures value { (form : Form) (tree : Tree) → Decodes form (raw_bytes self.now) tree
             → IsOkAnd result (λ found.
-            SameOption (λ time parts. (time.months, time.days, time.micros) ≡ parts) found (interval_in tree)) }
+            MatchOption found ((months days micros : ℤ) → tree ≡ extension (interval months days micros) → ⊥)
+            (λ time. tree ≡ extension (interval time.months time.days time.micros))) }
         ensures errors { IfErr result IsDecodingError }
         ensures reads { OnOk result (HasRootShape (raw_bytes self.now)) }
     {
@@ -355,8 +367,10 @@ impl<'a> RawJsonb<'a> {
     /// ```
     pub fn as_binary(&self, alloc: Global) -> Result<Option<Vec<u8>>, Error>
         ensures value { (form : Form) (tree : Tree) → Decodes form (raw_bytes self.now) tree
-            → MatchResult result (λ found. SameOption (λ copy bytes. copy.items ≡ bytes) found (binary_in tree))
-            (λ e. IsOutOfMemory e × IsSome (binary_in tree)) }
+            → MatchResult result
+            (λ found. MatchOption found ((bytes : List ℕ) → tree ≡ extension (binary bytes) → ⊥)
+            (λ copy. tree ≡ extension (binary copy.items)))
+            (λ e. IsOutOfMemory e × ((bytes : List ℕ) × (tree ≡ extension (binary bytes)))) }
         ensures errors { IfErr result (IsDecodingError or OutOfMemory) }
         ensures reads { OnOk result (HasRootShape (raw_bytes self.now)) }
     {

@@ -9,7 +9,6 @@ use Rattle.jsonb_doc.specs.declared.container.Container.TheVariants.{Scalar, Arr
 use Rattle.jsonb_doc.specs.declared.container.ObjectParts.{ObjectParts}
 use Rattle.jsonb_doc.proofs.Containers.{IsCut-same, Decodes-object}
 use Rattle.jsonb_raw.specs.Children.{named_child}
-use Rattle.jsonb_raw.specs.Documents.{MakesOption}
 use Rattle.jsonb_raw.proofs.ChildAnswers.{named_nowhere}
 use Rattle.jsonb_raw.proofs.raw.RawJsonb.get_by_name.Goals as goal
 

@@ -1,4 +1,4 @@
-use Rattle.std.proofs.Common.{◌≡◌, ◌&&◌, ℕ, suc, ◌<◌, List, [], ◌∷◌, map, Bool, true, false, Result, Ok, Err, inl, inr, refl, sym, arith}
+use Rattle.std.proofs.Common.{◌≡◌, ◌&&◌, ℕ, suc, ◌<◌, List, [], ◌∷◌, map, Bool, true, false, Result, Ok, Err, inl, inr, refl, arith}
 use Rattle.std.specs.Prelude.{codes, OnOk, nat_lt}
 use Rattle.std.specs.Borrow.{Bor}
 use Rattle.std.specs.List.{list_all}
@@ -15,7 +15,7 @@ use Rattle.jsonb_doc.specs.AnyBytes.Roots.{IsRootShape}
 use Rattle.jsonb_doc.specs.declared.error.Error.{Error}
 use Rattle.jsonb_doc.specs.declared.shape.Shape.TheVariants.{Boolean as BooleanShape, Text}
 use Rattle.jsonb_doc.specs.declared.item.Item.TheVariants.{Boolean, String}
-use Rattle.jsonb_raw.specs.Casts.{Spells, SpellsBool, CastsToBool}
+use Rattle.jsonb_raw.specs.Casts.{IsBoolOf, Casts}
 use Rattle.jsonb_raw.specs.AnyBytes.Roots.{HasRoot}
 use Rattle.jsonb_raw.proofs.raw.RawJsonb.to_bool.Goals as goal
 
@@ -40,17 +40,17 @@ ascii_word (b ∷ s) h =
     IsAscii-cons b s (ascii_test b parts.0) (ascii_word s parts.1)
 
 -- a string that spells a word of ASCII is ASCII
-spelled : (word s : List ℕ) → list_all (λ b. nat_lt b 128) word ≡ true → Spells word s → IsUtf8 s
+spelled : (word s : List ℕ) → list_all (λ b. nat_lt b 128) word ≡ true → map to_ascii_lowercase s ≡ word → IsUtf8 s
 spelled word s all e = IsUtf8-from_ascii s (ascii_bytes s (rw e (ascii_word word all)))
 
-spelled_bool : (b : Bool) (s : List ℕ) → SpellsBool b s → IsUtf8 s
+spelled_bool : (b : Bool) (s : List ℕ) → IsBoolOf (spec.text s) b → IsUtf8 s
 spelled_bool true s (inl e) = spelled (codes "true") s refl e
 spelled_bool true s (inr e) = spelled (codes "yes") s refl e
 spelled_bool false s (inl e) = spelled (codes "false") s refl e
 spelled_bool false s (inr e) = spelled (codes "no") s refl e
 
 -- a string root that spells a Boolean is UTF-8
-text_root : (bytes : List ℕ) (s : Bor (List ℕ)) (r : Result Bool Error) → IsRootShape bytes (Text s) → CastsToBool (spec.text s.now) r
+text_root : (bytes : List ℕ) (s : Bor (List ℕ)) (r : Result Bool Error) → IsRootShape bytes (Text s) → Casts (IsBoolOf (spec.text s.now)) r
     → OnOk r (HasRoot bytes)
 text_root bytes s (Err e) h cast = tt
 text_root bytes s (Ok b) h cast =

@@ -7,11 +7,11 @@ use Rattle.jsonb_doc.specs.View.{number_parts, number_view}
 use Rattle.jsonb_doc.specs.Rounding.{rounded}
 use Rattle.jsonb_doc.specs.declared.error.Error.{Error}
 use Rattle.jsonb_doc.specs.declared.error.Error.TheVariants.{InvalidCast}
-use Rattle.jsonb_raw.specs.Casts.{CastsToI64}
+use Rattle.jsonb_raw.specs.Casts.{Casts, IsSignedOf}
 use Rattle.jsonb_raw.proofs.raw.RawJsonb.to_i64.Goals as goal
 
 cast_number : (n : Number) (found : Option ℤ) (r : Result ℤ Error) → r ≡ ok_or found InvalidCast → ((z : ℤ) → found ≡ Some z → FitsSigned w64 z)
-    → MatchOption found (FitsSigned w64 (rounded n) → ⊥) (λ z. rounded n ≡ z) → CastsToI64 (spec.number n) r
+    → MatchOption found (FitsSigned w64 (rounded n) → ⊥) (λ z. rounded n ≡ z) → Casts (λ z. IsSignedOf (spec.number n) z × FitsSigned w64 z) r
 cast_number n None r is fits value = rw is (refl, λ z w. value (subst (FitsSigned w64) w.0 w.1))
 cast_number n (Some z) r is fits value = rw is (sym value, fits z refl)
 

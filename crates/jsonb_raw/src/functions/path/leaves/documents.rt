@@ -1,15 +1,17 @@
 //! The leaves of a document as new documents, with their key paths.
 
-ghost use Rattle.std.specs.Prelude.{IfErr, OnOk};
+ghost use Rattle.std.specs.Prelude.{IfErr, MatchResult, OnOk};
+ghost use Rattle.std.specs.List.{Any, AllZip};
 ghost use Rattle.jsonb_doc.specs.Tree.{Tree};
 ghost use Rattle.jsonb_doc.specs.Payload.{Form};
 ghost use Rattle.jsonb_doc.specs.Format.{Decodes};
-ghost use Rattle.jsonb_doc.specs.Answer.{◌or◌, IsDecodingError};
+ghost use Rattle.jsonb_doc.specs.Limits.{IsTooLarge};
+ghost use Rattle.jsonb_doc.specs.Answer.{◌or◌, ◌or◌when◌, IsDecodingError, IsOutOfMemory};
 ghost use Rattle.jsonb_doc.specs.declared.error.Error.TheVariants.{OutOfMemory, TooLarge};
 ghost use Rattle.jsonb_raw.specs.AnyBytes.Roots.{HasRoot};
 ghost use Rattle.jsonb_raw.specs.Documents.{raw_bytes};
 ghost use Rattle.jsonb_raw.specs.Leaves.{leaves};
-ghost use Rattle.jsonb_raw.specs.LeafDocuments.{MakesLeaves};
+ghost use Rattle.jsonb_raw.specs.LeafDocuments.{IsLeafDocument};
 
 use super::{LeafOutput, leaves_within, push_part};
 use crate::functions::entries::entry_document;
@@ -20,9 +22,10 @@ use jsonb_keypath::KeyPaths;
 use std::alloc::Global;
 
 impl<'a> LeafOutput<'a> for OwnedJsonb {
-    ghost use Rattle.jsonb_doc.specs.Answer.{◌or◌, IsDecodingError};
+    ghost use Rattle.jsonb_doc.specs.Answer.{◌or◌, ◌or◌when◌, IsDecodingError, IsOutOfMemory};
     ghost use Rattle.jsonb_doc.specs.Private.Errors.{IsOutOfMemoryOrTooLarge};
     ghost use Rattle.jsonb_doc.specs.Format.{Decodes};
+    ghost use Rattle.jsonb_doc.specs.Limits.{IsTooLarge};
     ghost use Rattle.jsonb_doc.specs.declared.error.Error.TheVariants.{OutOfMemory, TooLarge};
 
     ghost IsOf = { λ form t document. Decodes form document t };
@@ -72,7 +75,8 @@ impl<'a> RawJsonb<'a> {
         ignore_array: bool,
     ) -> Result<Vec<(KeyPaths<'a>, OwnedJsonb)>, Error>
         ensures leaves { (form : Form) (t : Tree) → Decodes form (raw_bytes self.now) t
-            → MakesLeaves form (leaves ignore_array t) result }
+            → MatchResult result (λ made. AllZip (IsLeafDocument form) made.items (leaves ignore_array t))
+            (IsOutOfMemory or TooLarge when Any (λ leaf. IsTooLarge form leaf.1) (leaves ignore_array t)) }
         ensures errors { IfErr result (IsDecodingError or OutOfMemory or TooLarge) }
         ensures reads { OnOk result (HasRoot (raw_bytes self.now)) }
     {

@@ -2,7 +2,7 @@ use Rattle.std.proofs.Common.{◌≡◌, ◌++◌, ◌∙◌, Some, inl, sym, su
 use Rattle.std.proofs.lemmas.Result.{err_from_is_err_and}
 use Rattle.std.specs.Map.{keys_of}
 use Rattle.jsonb_doc.proofs.BuilderSteps.{keys_rise}
-use Rattle.jsonb_raw.specs.Concat.{merged}
+use Rattle.jsonb_raw.specs.Private.Merging.{merged}
 use Rattle.jsonb_raw.specs.Private.Entries.{PairsHeld}
 use Rattle.jsonb_raw.specs.declared.functions.parts.FirstPair.{FirstPair}
 use Rattle.jsonb_raw.proofs.MergedLemmas.{there_or_none, merged_rising, merging_begun, left_of, merging_less, merging_equal_second, merging_equal, merging_greater, merging_ended}

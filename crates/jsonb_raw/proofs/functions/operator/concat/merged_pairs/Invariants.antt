@@ -3,7 +3,7 @@ use Rattle.std.specs.Map.{keys_of}
 use Rattle.jsonb_doc.specs.Tree.{Tree}
 use Rattle.jsonb_doc.specs.Payload.{Form}
 use Rattle.jsonb_doc.specs.Format.{AreKeys}
-use Rattle.jsonb_raw.specs.Concat.{merged}
+use Rattle.jsonb_raw.specs.Private.Merging.{merged}
 use Rattle.jsonb_raw.specs.Private.Entries.{HoldPairs}
 use Rattle.jsonb_raw.proofs.MergedLemmas.{Merging}
 use Rattle.jsonb_raw.proofs.functions.operator.concat.merged_pairs.Given as goal

@@ -1,0 +1,99 @@
+//! Counts the keys that searches for names pass.
+
+use super::*;
+use std::alloc::{AllocError, Global};
+use std::test::Fail;
+
+/// The number of keys of the object.
+const COUNT: u16 = 320;
+
+/// Appends as many words as there are keys.
+fn push_words(bytes: &mut Vec<u8>, word: [u8; 4]) -> Result<(), AllocError> {
+    for _ in 0..COUNT {
+        bytes.extend_from_slice(&word)?;
+    }
+    Ok(())
+}
+
+/// Returns an object of 320 nulls. The key of each is its index, in two bytes.
+fn object(alloc: Global) -> Result<Vec<u8>, AllocError> {
+    let mut bytes = Vec::from_slice(alloc, b"\x40\0\x01\x40")?;
+    push_words(&mut bytes, [0x10, 0, 0, 2])?;
+    push_words(&mut bytes, [0, 0, 0, 0])?;
+    for index in 0..COUNT {
+        bytes.extend_from_slice(&index.to_be_bytes())?;
+    }
+    Ok(bytes)
+}
+
+/// Searches for a key in a table, and returns how many keys the search passes.
+fn passed_by_table(table: &mut KeyTable<'_>, name: &[u8]) -> Result<usize, Error> {
+    let before = table.start(name).cursor.left.len();
+    let has = table.has(name)?;
+    let passed = before.wrapping_sub(table.near.cursor.left.len());
+    Ok(if has { passed } else { usize::MAX })
+}
+
+/// Searches for a key by a cursor, and returns how many keys the search passes.
+fn passed_by_cursor(cursor: &mut KeyCursor<'_>, name: &[u8]) -> Result<usize, Error> {
+    let mut start = *cursor;
+    start.rewind(name);
+    let has = cursor.has(name)?;
+    let passed = start.left.len().wrapping_sub(cursor.left.len());
+    Ok(if has { passed } else { usize::MAX })
+}
+
+/// The first name, the distance to the next one, the number of names, and the most keys that all searches may pass in
+/// a table whose cursors are all stored.
+static SEARCHES: [(u16, u16, u16, usize); 3] = [
+    // in order
+    (0, 1, COUNT, 320),
+    // in reverse order: a block of 6 keys each
+    (319, u16::MAX, COUNT, 1_920),
+    // each in another block
+    (0, 32, 10, 60),
+];
+
+/// Returns how many keys such searches pass.
+fn passed_by_searches(
+    keys: EntryIter<'_>,
+    first: u16,
+    distance: u16,
+    count: u16,
+) -> Result<usize, Error> {
+    let mut table = KeyTable::new(keys);
+    table.has(&(COUNT - 1).to_be_bytes())?;
+    let mut name = first;
+    let mut all = 0usize;
+    for _ in 0..count {
+        all = all.saturating_add(passed_by_table(&mut table, &name.to_be_bytes())?);
+        name = name.wrapping_add(distance);
+    }
+    Ok(all)
+}
+
+#[test]
+fn a_table_passes_few_keys(rt: HostRuntime) -> Result<(), Fail> {
+    let bytes = object(rt.alloc())?;
+    let keys = object_entries(&bytes)?.keys();
+    for (first, distance, count, most) in &SEARCHES {
+        let passed = passed_by_searches(keys, *first, *distance, *count)?;
+        assert!(rt;
+            passed <= *most,
+            "{first} and each {distance} after it: {passed}"
+        );
+    }
+    Ok(())
+}
+
+#[test]
+fn a_cursor_passes_each_key_once(rt: HostRuntime) -> Result<(), Fail> {
+    let bytes = object(rt.alloc())?;
+    let mut cursor = KeyCursor::new(object_entries(&bytes)?.keys());
+    let mut all = 0usize;
+    for index in 0..COUNT {
+        all = all.saturating_add(passed_by_cursor(&mut cursor, &index.to_be_bytes())?);
+    }
+    assert!(rt; all <= 320, "{all}");
+    Ok(())
+}
