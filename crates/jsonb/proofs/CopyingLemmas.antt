@@ -4,7 +4,7 @@ use Rattle.std.specs.Prelude.{◌||◌}
 use Rattle.std.specs.Slice.Iter.{iter_rest}
 use Rattle.std.proofs.lemmas.List.{append-nil, map-append}
 use Rattle.jsonb_doc.specs.declared.error.Error.{Error}
-use Rattle.jsonb.specs.PathDocuments.{step_has_document, expression_has_document, has_document}
+use Rattle.jsonb.specs.Private.Documents.{step_has_document, expression_has_document, has_document}
 use Rattle.jsonb.specs.PathTree.{Step, Expression, steps_of}
 use Rattle.jsonb.specs.PathViews.{step_view, steps_view, expression_view}
 use Rattle.jsonb.specs.Private.Copying.{IsOwningError, listed, held, around, framed, frame_waiting, waiting, frame_has_document, have_document}

@@ -3,10 +3,14 @@ use Rattle.std.proofs.Common.{◌≡◌, ℕ, ◌+◌, ◌<◌, Bool, true, fals
 use Rattle.std.specs.Prelude.{◌||◌, IfSome, map}
 use Rattle.std.proofs.Math.Seq.{drop-cons}
 use Rattle.std.proofs.lemmas.List.{take_more, take-append-drop, map-append}
+use Rattle.jsonb_doc.specs.Answer.{IsOutOfMemory, ◌or◌when◌}
 use Rattle.jsonb_doc.specs.declared.error.Error.{Error}
-use Rattle.jsonb.specs.PathDocuments.{is_document, step_has_document, steps_have_document, expression_has_document, has_document}
+use Rattle.jsonb_doc.specs.declared.error.Error.TheVariants.{InvalidJsonPath}
+use Rattle.jsonb.specs.PathDocuments.{is_document, HasNoDocument}
+use Rattle.jsonb.specs.Private.Documents.{step_has_document, steps_have_document, expression_has_document, has_document}
 use Rattle.jsonb.specs.Private.Copying.{IsOwningError}
-use Rattle.jsonb.specs.PathEquality.{SameLiteral, SameStep, SameStepsBut, SameExpression, SamePath}
+use Rattle.jsonb.specs.PathEquality.{SameLiteral, SameStepBut, SameStepsBut, SameExpressionBut, SamePath}
+use Rattle.jsonb.specs.Private.SamePath.{SameStep, SameExpression}
 use Rattle.jsonb.specs.PathGrammar.{json_path}
 use Rattle.jsonb.specs.Proofs.PathOrder.{container_with_none}
 use Rattle.jsonb.specs.Values.{literal_value}
@@ -24,29 +28,105 @@ literal_none : (l : Literal) → SameLiteral l l → is_document l ≡ false
 literal_none (raw document) h = cc
 literal_none _ h = refl
 
+abbrev NoDocument : Literal → Literal → Type 0
+NoDocument l m = is_document l ≡ false
+
 mutual
-  step_none : (s : Step) → SameStep s s → step_has_document s ≡ false
+  step_none : (s : Step) → SameStep s s → SameStepBut NoDocument s s
   step_none (filter e) h = expression_none e h
   step_none (whole_expression e) h = expression_none e h
   step_none _ h = refl
 
-  steps_none : (ss : Steps) → SameStepsBut SameLiteral ss ss → steps_have_document ss ≡ false
-  steps_none no_steps h = refl
-  steps_none (step s rest) h = rw (step_none s h.0, steps_none rest h.1) refl
+  steps_none : (ss : Steps) → SameStepsBut SameLiteral ss ss → SameStepsBut NoDocument ss ss
+  steps_none no_steps h = tt
+  steps_none (step s rest) h = (step_none s h.0, steps_none rest h.1)
 
-  expression_none : (e : Expression) → SameExpression e e → expression_has_document e ≡ false
+  expression_none : (e : Expression) → SameExpression e e → SameExpressionBut NoDocument e e
   expression_none (paths ss) h = steps_none ss h
   expression_none (value l) h = literal_none l h
-  expression_none (binary op l r) h = rw (expression_none l h.1, expression_none r h.2) refl
-  expression_none (unary op e) h = expression_none e h.1
+  expression_none (binary op l r) h = (refl, expression_none l h.1, expression_none r h.2)
+  expression_none (unary op e) h = (refl, expression_none e h.1)
   expression_none (exists ss) h = steps_none ss h
 
-none_of : (o : Option (List Step)) → IfSome o (λ p. SamePath p p) → IfSome o (λ p. has_document p ≡ false)
+none_of : (o : Option (List Step)) → IfSome o (λ p. SamePath p p) → IfSome o HasNoDocument
 none_of (Some p) h = steps_none (steps_of p) h
 none_of None h = tt
 
-pub read_has_none : (text : List ℕ) → IfSome (json_path text) (λ p. has_document p ≡ false)
+pub read_has_none : (text : List ℕ) → IfSome (json_path text) HasNoDocument
 read_has_none text = none_of (json_path text) (read_equals_itself text)
+
+-- ---- the test of a path is right
+
+not_first : (a b : Bool) → a || b ≡ false → a ≡ false
+not_first true b h = h
+not_first false b h = refl
+
+not_second : (a b : Bool) → a || b ≡ false → b ≡ false
+not_second true b h = cc
+not_second false b h = h
+
+mutual
+  step_tested : (s : Step) → SameStepBut NoDocument s s → step_has_document s ≡ false
+  step_tested (filter e) h = expression_tested e h
+  step_tested (whole_expression e) h = expression_tested e h
+  step_tested _ h = refl
+
+  steps_tested : (ss : Steps) → SameStepsBut NoDocument ss ss → steps_have_document ss ≡ false
+  steps_tested no_steps h = refl
+  steps_tested (step s rest) h = rw (step_tested s h.0, steps_tested rest h.1) refl
+
+  expression_tested : (e : Expression) → SameExpressionBut NoDocument e e → expression_has_document e ≡ false
+  expression_tested (paths ss) h = steps_tested ss h
+  expression_tested (value l) h = h
+  expression_tested (binary op l r) h = rw (expression_tested l h.1, expression_tested r h.2) refl
+  expression_tested (unary op e) h = expression_tested e h.1
+  expression_tested (exists ss) h = steps_tested ss h
+
+mutual
+  step_without : (s : Step) → step_has_document s ≡ false → SameStepBut NoDocument s s
+  step_without (filter e) h = expression_without e h
+  step_without (whole_expression e) h = expression_without e h
+  step_without _ h = refl
+
+  steps_without : (ss : Steps) → steps_have_document ss ≡ false → SameStepsBut NoDocument ss ss
+  steps_without no_steps h = tt
+  steps_without (step s rest) h = (step_without s (not_first _ _ h), steps_without rest (not_second _ _ h))
+
+  expression_without : (e : Expression) → expression_has_document e ≡ false → SameExpressionBut NoDocument e e
+  expression_without (paths ss) h = steps_without ss h
+  expression_without (value l) h = h
+  expression_without (binary op l r) h = (refl, expression_without l (not_first _ _ h), expression_without r (not_second _ _ h))
+  expression_without (unary op e) h = (refl, expression_without e h)
+  expression_without (exists ss) h = steps_without ss h
+
+pub path_without : (p : List Step) → has_document p ≡ false → HasNoDocument p
+path_without p h = steps_without (steps_of p) h
+
+-- a step alone, and one that is an expression
+pub alone_without : (s : Step) → step_has_document s ≡ false → HasNoDocument (s ∷ [])
+alone_without s h = (step_without s h, tt)
+
+pub alone_tested : (s : Step) → HasNoDocument (s ∷ []) → step_has_document s ≡ false
+alone_tested s h = step_tested s h.0
+
+-- the errors of a path by its test, and by its literals
+pub refused_path : (p : List Step) (e : Error) → IsOwningError (has_document p) e
+    → (IsOutOfMemory or InvalidJsonPath when (¬ HasNoDocument p)) e
+refused_path p e (inl memory) = inl memory
+refused_path p e (inr other) = inr (other.0, λ h. let none = steps_tested (steps_of p) h in cc)
+
+pub refused_alone : (s : Step) (e : Error) → IsOwningError (step_has_document s) e
+    → (IsOutOfMemory or InvalidJsonPath when (¬ HasNoDocument (s ∷ []))) e
+refused_alone s e (inl memory) = inl memory
+refused_alone s e (inr other) = inr (other.0, λ h. let none = step_tested s h.0 in cc)
+
+pub tested_alone : (s : Step) (e : Error) → (IsOutOfMemory or InvalidJsonPath when (¬ HasNoDocument (s ∷ []))) e
+    → IsOwningError (step_has_document s) e
+tested_alone s e (inl memory) = inl memory
+tested_alone s e (inr other) = inr (other.0, go (step_has_document s) refl) where
+  go : (b : Bool) → step_has_document s ≡ b → b ≡ true
+  go true h = refl
+  go false h = absurd (other.1 (alone_without s h))
 
 -- ---- lists of steps
 

@@ -11,7 +11,7 @@ use Rattle.jsonb_keypath.proofs.CutLemmas.{nothing, some-literal}
 use Rattle.jsonb_keypath.proofs.GrowsLemmas.{grows-ws, some-integer_within}
 use Prim.Native.String.{String}
 use Rattle.jsonb.specs.PathTree.{from_front, single, slice}
-use Rattle.jsonb.specs.PathGrammar.{in_any_case, keyword, spaced, last_and, place, entry, spaced_entry}
+use Rattle.jsonb.specs.PathGrammar.{in_any_case, keyword, spaced, last_and, place, entry}
 use Rattle.jsonb.specs.Private.Repeated.{another_entry}
 
 shorter : (n : ℕ) (b : ℕ) (input : List ℕ) → length (drop (suc n) (b ∷ input)) < length (b ∷ input)
@@ -53,5 +53,4 @@ some-entry =
     (some-then place _ some-place (λ p. grows-give (single p)))
 
 pub some-another_entry : ReadsSome another_entry
-unfolding spaced_entry
 some-another_entry = some-then (literal ",") _ (some-literal 44 []) (λ _. some-no_more (spaced entry) (some-spaced entry some-entry))

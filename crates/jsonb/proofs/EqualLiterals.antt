@@ -7,24 +7,18 @@ use Rattle.jsonb_doc.specs.declared.number.Number.{Number}
 use Rattle.jsonb_doc.specs.declared.number.Number.TheVariants.{Int64, UInt64, Decimal64, Decimal128}
 use Rattle.jsonb_doc.proofs.EqualValues.{number_cmp-number_view}
 use Rattle.jsonb.specs.PathEquality.{literal_order}
-use Rattle.jsonb.specs.PathViews.{number_literal, literal_view}
+use Rattle.jsonb.specs.PathViews.{literal_view}
 use Rattle.jsonb.specs.Private.SamePath.{path_value_order, is_same_literal}
 use Rattle.jsonb.specs.Values.{number, literal_value}
 use Rattle.jsonb.specs.declared.path.PathValue.{PathValue}
 use Rattle.jsonb.specs.declared.path.PathValue.TheVariants.{Null, Boolean, String, Raw}
 use Rattle.jsonb.specs.declared.path.PathValue.TheVariants as PathValue'
 
-number_value : (n : Number) → literal_value (number_literal n) ≡ number (number_view n)
-number_value (Int64 z) = refl
-number_value (UInt64 n) = refl
-number_value (Decimal64 d) = refl
-number_value (Decimal128 d) = refl
-
 pub order_is : (a b : PathValue) → path_value_order a b ≡ literal_order (literal_view a) (literal_view b)
-order_is (PathValue'.Number m) (PathValue'.Number n) = rw (number_value m, number_value n, number_cmp-number_view m n) refl
+order_is (PathValue'.Number m) (PathValue'.Number n) = rw (number_cmp-number_view m n) refl
 order_is (Raw d) (PathValue'.Number n) = refl
-order_is (PathValue'.Number m) b = rw (number_value m) refl
-order_is a (PathValue'.Number n) = rw (number_value n) refl
+order_is (PathValue'.Number m) b = refl
+order_is a (PathValue'.Number n) = refl
 order_is Null Null = refl
 order_is (Raw d) Null = refl
 order_is (Raw d) b = refl

@@ -7,12 +7,14 @@ use Rattle.std.specs.Cmp.{bool_cmp_total}
 use Rattle.std.specs.Cmp.Lexicographic.{nat_list_cmp_total}
 use Rattle.jsonb_doc.specs.Number.{Number, int64, uint64, number_from, number_cmp}
 use Rattle.jsonb_doc.specs.Proofs.NumberOrder.{number_cmp_total}
-use Rattle.jsonb.specs.PathEquality.{SameLiteral, SameStep, SameStepsBut, SameExpression, SamePath}
+use Rattle.jsonb_doc.specs.declared.number.Number.TheVariants.{Int64, UInt64, Decimal64, Decimal128}
+use Rattle.jsonb.specs.PathEquality.{SameLiteral, SameStepsBut, SamePath}
+use Rattle.jsonb.specs.Private.SamePath.{SameStep, SameExpression}
 use Rattle.jsonb.specs.PathGrammar.{json_path}
 use Rattle.jsonb.specs.PathLaws.{settled_literal}
 use Rattle.jsonb.proofs.SettledPaths.{settled_step, settled_steps, settled}
 use Rattle.jsonb.specs.PathText.{joins, path_text}
-use Rattle.jsonb.specs.PathTree.{Literal, null, boolean, unsigned, signed, decimal64, decimal128, string, raw, Step, filter, whole_expression, Steps, no_steps, step, Expression, paths, value, binary, unary, exists}
+use Rattle.jsonb.specs.PathTree.{Literal, null, boolean, number, string, raw, Step, filter, whole_expression, Steps, no_steps, step, Expression, paths, value, binary, unary, exists}
 use Rattle.jsonb.proofs.GrammarShape.{json_path_is_path}
 use Rattle.jsonb.proofs.PathReadsBack.{path-text}
 use Rattle.jsonb.specs.Proofs.SameParts.{path-symmetric, path-transitive}
@@ -25,12 +27,12 @@ number_itself n = tied_itself number_cmp_total n
 literal-settled : (l : Literal) → IsLiteral l → SameLiteral l (settled_literal l)
 literal-settled null h = refl
 literal-settled (boolean b) h = ap Some (tied_itself bool_cmp_total b)
-literal-settled (unsigned n) h = ap Some (number_itself (number_from uint64 (pos n) 0))
-literal-settled (signed (pos zero)) h = refl
-literal-settled (signed (pos (suc n))) h = ap Some (number_itself (number_from int64 (pos (suc n)) 0))
-literal-settled (signed (negsuc n)) h = ap Some (number_itself (number_from int64 (negsuc n) 0))
-literal-settled (decimal64 whole scale) h = absurd h
-literal-settled (decimal128 whole scale) h = absurd h
+literal-settled (number (UInt64 n)) h = ap Some (number_itself (number_from uint64 (pos n) 0))
+literal-settled (number (Int64 (pos zero))) h = refl
+literal-settled (number (Int64 (pos (suc n)))) h = ap Some (number_itself (number_from int64 (pos (suc n)) 0))
+literal-settled (number (Int64 (negsuc n))) h = ap Some (number_itself (number_from int64 (negsuc n) 0))
+literal-settled (number (Decimal64 d)) h = absurd h
+literal-settled (number (Decimal128 d)) h = absurd h
 literal-settled (string text) h = ap Some (tied_itself nat_list_cmp_total text)
 literal-settled (raw document) h = absurd h
 

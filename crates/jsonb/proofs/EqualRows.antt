@@ -1,6 +1,7 @@
 -- Which paths are equal: worked pairs, computed from the definitions alone.
 use Rattle.std.proofs.Common.{pos, negsuc, true, false, [], ◌∷◌, Some, None, refl}
 use Rattle.std.specs.Prelude.{codes}
+use Rattle.jsonb_doc.specs.declared.number.Number.TheVariants.{Int64, UInt64, Decimal64, Decimal128}
 use Rattle.jsonb.specs.PathEquality.{SameLiteral, SamePath}
 use Rattle.jsonb.specs.PathTree as p
 use Rattle.jsonb.specs.PathTree.{Literal, Step, Expression, steps_of}
@@ -16,25 +17,25 @@ null_is_not_false h = cc
 true_is_not_false : ¬ SameLiteral (p.boolean true) (p.boolean false)
 true_is_not_false h = cc
 
-variants_of_1 : SameLiteral (p.unsigned 1) (p.signed (pos 1))
+variants_of_1 : SameLiteral (p.number (UInt64 1)) (p.number (Int64 (pos 1)))
 variants_of_1 = refl
 
-one_with_a_scale : SameLiteral (p.unsigned 1) (p.decimal64 (pos 1000) 3)
+one_with_a_scale : SameLiteral (p.number (UInt64 1)) (p.number (Decimal64 (record { value = (pos 1000); scale = 3 })))
 one_with_a_scale = refl
 
-half_with_two_scales : SameLiteral (p.decimal64 (pos 5) 1) (p.decimal128 (pos 50) 2)
+half_with_two_scales : SameLiteral (p.number (Decimal64 (record { value = (pos 5); scale = 1 }))) (p.number (Decimal128 (record { value = (pos 50); scale = 2 })))
 half_with_two_scales = refl
 
-zeros : SameLiteral (p.unsigned 0) (p.decimal128 (pos 0) 7)
+zeros : SameLiteral (p.number (UInt64 0)) (p.number (Decimal128 (record { value = (pos 0); scale = 7 })))
 zeros = refl
 
-other_sign : ¬ SameLiteral (p.signed (negsuc 0)) (p.unsigned 1)
+other_sign : ¬ SameLiteral (p.number (Int64 (negsuc 0))) (p.number (UInt64 1))
 other_sign h = cc
 
 texts_by_bytes : SameLiteral (p.string (codes "a")) (p.string (97 ∷ []))
 texts_by_bytes = refl
 
-text_of_a_number : ¬ SameLiteral (p.string (codes "1")) (p.unsigned 1)
+text_of_a_number : ¬ SameLiteral (p.string (codes "1")) (p.number (UInt64 1))
 text_of_a_number h = cc
 
 document : ¬ SameLiteral (p.raw (codes "d")) (p.raw (codes "d"))
@@ -67,7 +68,7 @@ other_entries h = let first = h.0 in cc
 all_levels_and_level_1 : ¬ SamePath (p.recursive_dot_wildcard None ∷ []) (p.recursive_dot_wildcard (Some (record { start = 1; end = None })) ∷ [])
 all_levels_and_level_1 h = let first = h.0 in cc
 
-filters_by_value : SamePath (p.root ∷ filter_at (p.unsigned 1) ∷ []) (p.root ∷ filter_at (p.decimal64 (pos 10) 1) ∷ [])
+filters_by_value : SamePath (p.root ∷ filter_at (p.number (UInt64 1)) ∷ []) (p.root ∷ filter_at (p.number (Decimal64 (record { value = (pos 10); scale = 1 }))) ∷ [])
 filters_by_value = (refl, ((refl, (refl, (refl, tt)), refl), tt))
 
 filters_of_documents : ¬ SamePath (filter_at (p.raw (codes "d")) ∷ []) (filter_at (p.raw (codes "d")) ∷ [])

@@ -2,12 +2,13 @@
 use Rattle.std.proofs.Common.{ℕ, zero, suc, ◌+◌, ◌^◌, List, [], ◌∷◌, length, Bool, true, false}
 use Rattle.std.specs.Prelude.{codes}
 use Rattle.jsonb_keypath.specs.Rules.{Rule, give, ◌>>=◌, ◌>>◌, only_if, bytes, literal, repeat, list_of}
-use Rattle.jsonb_keypath.specs.Tokens.{ws, nat64, int64, quoted}
+use Rattle.jsonb_keypath.specs.Tokens.{ws, quoted, natural_below, integer_within}
 use Rattle.jsonb_keypath.specs.TokenLaws.{ReadsSome}
 use Rattle.jsonb_keypath.proofs.ReadsLemmas.{NeverGrows, some-no_more, grows-give, grows-then, some-then, then-some, some-choice, grows-only_if}
 use Rattle.jsonb_keypath.proofs.CutLemmas.{some-literal}
 use Rattle.jsonb_keypath.proofs.GrowsLemmas.{grows-ws, some-quoted, some-integer_within, some-natural_below}
-use Rattle.jsonb.specs.PathTree.{null, boolean, unsigned, signed, string, eq, not_eq, lt, lte, gt, gte, starts_with_op, add, subtract, multiply, divide, modulo, plus, minus, root, current, filter, Expression}
+use Rattle.jsonb_doc.specs.declared.number.Number.TheVariants.{Int64, UInt64}
+use Rattle.jsonb.specs.PathTree.{null, boolean, number, string, eq, not_eq, lt, lte, gt, gte, starts_with_op, add, subtract, multiply, divide, modulo, plus, minus, root, current, filter, Expression}
 use Rattle.jsonb.specs.PathGrammar.{spaced, spaced_inner, path_root, literal_value, operand_steps, operand, spaced_operand, arithmetic_operator, operator, unary_operator, unary_atom, binary_atom, filter_with, path_with, group_with, exists_steps, exists_with, atom_with, and_with, or_with, nested_or, path_step}
 use Rattle.jsonb.specs.Private.Repeated.{another_atom, another_and}
 use Rattle.jsonb.proofs.EntryReadsSome.{some-spaced}
@@ -31,8 +32,8 @@ some-literal_value =
     some-choice _ _ (some-named 110 (codes "ull") null)
     (some-choice _ _ (some-named 116 (codes "rue") (boolean true))
     (some-choice _ _ (some-named 102 (codes "alse") (boolean false))
-    (some-choice _ _ (some-then nat64 _ (some-natural_below (2 ^ 64)) (λ n. grows-give (unsigned n)))
-    (some-choice _ _ (some-then int64 _ (some-integer_within (2 ^ 63)) (λ z. grows-give (signed z)))
+    (some-choice _ _ (some-then (natural_below (2 ^ 64)) _ (some-natural_below (2 ^ 64)) (λ n. grows-give (number (UInt64 n))))
+    (some-choice _ _ (some-then (integer_within (2 ^ 63)) _ (some-integer_within (2 ^ 63)) (λ z. grows-give (number (Int64 z))))
     (some-then quoted _ some-quoted (λ text. grows-give (string text)))))))
 
 some-operand_steps : (f : Bool) → ReadsSome (operand_steps f)

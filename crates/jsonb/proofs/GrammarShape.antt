@@ -8,11 +8,12 @@ use Rattle.std.proofs.lemmas.Bool.Decides.{nat_tests, Decides-ltb, Decides-eqb}
 use Rattle.std.specs.List.{AllByRecursion}
 use Rattle.jsonb_doc.specs.Rounding.{with_sign}
 use Rattle.jsonb_keypath.specs.Rules.{Parsed, Rule, give, ◌>>=◌, ◌>>◌, ◌</>◌, optional, only_if, literal, repeat, list_of}
-use Rattle.jsonb_keypath.specs.Tokens.{ws, past, is_space, is_within, int32, int64, nat8, nat64, sign, natural, natural_below, integer, integer_within, name, quoted}
+use Rattle.jsonb_keypath.specs.Tokens.{ws, past, is_space, is_within, int32, nat8, sign, natural, natural_below, integer, integer_within, name, quoted}
 use Rattle.jsonb_keypath.proofs.ReadBackLemmas.{begins, begins-excludes, stops-from_begins, is_sign, sign-none, natural-none}
 use Rattle.jsonb_keypath.proofs.YieldsLemmas.{Yields, IsName, yields-give, yields-then, yields-behind, yields-choice, yields-repeat, yields-list_of, yields-integer_within, yields-natural_below, yields-name, yields-quoted}
-use Rattle.jsonb.specs.PathTree.{LevelEnd, from_front, from_last, Entry, single, slice, level, last_level, Levels, Literal, null, boolean, unsigned, signed, string, BinaryOp, and_op, or_op, eq, not_eq, lt, lte, gt, gte, starts_with_op, add, subtract, multiply, divide, modulo, Step, root, current, dot_wildcard, recursive_dot_wildcard, bracket_wildcard, dot_field, colon_field, object_field, array_indices, filter, whole_expression, Expression, paths, value, binary, unary, exists, steps_of}
-use Rattle.jsonb.specs.PathGrammar.{keyword, spaced, negated, last_and, place, entry, level_end, levels, field, spaced_entry, entries, wildcard, named_field, bracket_field, inner, spaced_inner, path_root, literal_value, operand_steps, operand, spaced_operand, operator, arithmetic_operator, unary_operator, unary_atom, binary_atom, joined_by, filter_with, path_with, group_with, exists_steps, exists_with, atom_with, and_with, or_with, nested_or, expression, root_expression, first_step, front_steps, path_step, plain_path, json_path}
+use Rattle.jsonb_doc.specs.declared.number.Number.TheVariants.{Int64, UInt64}
+use Rattle.jsonb.specs.PathTree.{LevelEnd, from_front, from_last, Entry, single, slice, level, last_level, Levels, Literal, null, boolean, number, string, BinaryOp, and_op, or_op, eq, not_eq, lt, lte, gt, gte, starts_with_op, add, subtract, multiply, divide, modulo, Step, root, current, dot_wildcard, recursive_dot_wildcard, bracket_wildcard, dot_field, colon_field, object_field, array_indices, filter, whole_expression, Expression, paths, value, binary, unary, exists, steps_of}
+use Rattle.jsonb.specs.PathGrammar.{keyword, spaced, negated, last_and, place, entry, level_end, levels, field, entries, wildcard, named_field, bracket_field, inner, spaced_inner, path_root, literal_value, operand_steps, operand, spaced_operand, operator, arithmetic_operator, unary_operator, unary_atom, binary_atom, joined_by, filter_with, path_with, group_with, exists_steps, exists_with, atom_with, and_with, or_with, nested_or, expression, root_expression, first_step, front_steps, path_step, plain_path, json_path}
 use Rattle.jsonb.specs.PathText.{joins}
 use Rattle.jsonb.proofs.PathShape.{IsLevelEnd, IsIndex, IsPlace, IsEntry, AreLevels, IsLiteral, IsInner, AreInner, IsBeginning, IsOperand, is_signed, is_signed_literal, IsPathStep, ArePathSteps, IsExistsPath, IsCondition, IsPath}
 use Rattle.jsonb_keypath.proofs.KeyPathReadsBack.{whole-some}
@@ -90,8 +91,7 @@ field_is_name : Yields IsName field
 unfolding field
 field_is_name = yields-choice IsName quoted name yields-quoted yields-name
 
-spaced_entry_is_entry : Yields IsEntry spaced_entry
-unfolding spaced_entry
+spaced_entry_is_entry : Yields IsEntry (spaced entry)
 spaced_entry_is_entry = yields-spaced IsEntry entry entry_is_entry
 
 abbrev AreEntries : List Entry → Type 0
@@ -100,7 +100,7 @@ AreEntries es = (0 < length es) × AllByRecursion IsEntry es
 entries_are_entries : Yields AreEntries entries
 unfolding entries
 entries_are_entries =
-    yields-behind AreEntries (literal "[") _ (λ _. yields-then AreEntries AreEntries _ _ (yields-list_of IsEntry spaced_entry
+    yields-behind AreEntries (literal "[") _ (λ _. yields-then AreEntries AreEntries _ _ (yields-list_of IsEntry (spaced entry)
     (literal ",") spaced_entry_is_entry)
     (λ es are. yields-behind AreEntries (literal "]") _ (λ _. yields-give AreEntries es are)))
 
@@ -169,10 +169,10 @@ literal_is_literal =
     yields-choice IsLiteral _ _ (yields-behind IsLiteral (literal "null") _ (λ _. yields-give IsLiteral null tt))
     (yields-choice IsLiteral _ _ (yields-behind IsLiteral (literal "true") _ (λ _. yields-give IsLiteral (boolean true) tt))
     (yields-choice IsLiteral _ _ (yields-behind IsLiteral (literal "false") _ (λ _. yields-give IsLiteral (boolean false) tt))
-    (yields-choice IsLiteral _ _ (yields-then IsFull IsLiteral nat64 _ (yields-natural_below (2 ^ 64))
-    (λ n is. yields-give IsLiteral (unsigned n) is))
-    (yields-choice IsLiteral _ _ (yields-then IsLong IsLiteral int64 _ (yields-integer_within (2 ^ 63))
-    (λ z is. yields-give IsLiteral (signed z) is))
+    (yields-choice IsLiteral _ _ (yields-then IsFull IsLiteral (natural_below (2 ^ 64)) _ (yields-natural_below (2 ^ 64))
+    (λ n is. yields-give IsLiteral (number (UInt64 n)) is))
+    (yields-choice IsLiteral _ _ (yields-then IsLong IsLiteral (integer_within (2 ^ 63)) _ (yields-integer_within (2 ^ 63))
+    (λ z is. yields-give IsLiteral (number (Int64 z)) is))
     (yields-then IsName IsLiteral quoted _ yields-quoted (λ text is. yields-give IsLiteral (string text) is))))))
 
 are_inner : (ss : List Step) → AllByRecursion IsInner ss → AreInner (steps_of ss)
@@ -258,7 +258,7 @@ only_if-tells : {A : Type 0} (test : Bool) (next : Rule A) (input : List ℕ) (a
 only_if-tells true next input a rest e = refl
 only_if-tells false next input a rest e = cc
 
-signed_number : (input : List ℕ) (z : ℤ) (rest : List ℕ) → int64 input ≡ Some (z, rest) → SignedNumber input
+signed_number : (input : List ℕ) (z : ℤ) (rest : List ℕ) → integer_within (2 ^ 63) input ≡ Some (z, rest) → SignedNumber input
 unfolding integer_within integer
 signed_number input z rest e =
     inside_sequence (SignedNumber input) integer _ input z rest e (λ y after read_y tested.
@@ -289,13 +289,13 @@ digit_is_no_space b h = grind (arith, nat_tests)
 
 -- digits are an operand
 spaced_operand-digits : (f : Bool) (input : List ℕ) (n : ℕ) (rest : List ℕ) → natural input ≡ Some (n, rest) → nat_lt n (2 ^ 64) ≡ true →
-    spaced_operand f input ≡ Some (value (unsigned n), past is_space rest)
+    spaced_operand f input ≡ Some (value (number (UInt64 n)), past is_space rest)
 unfolding spaced_operand operand
 spaced_operand-digits f input n rest e fits =
     let starts = natural-begins input n rest e in
     let no_space : past is_space input ≡ input = past-none is_space input (stops-from_begins is_space input
     (begins-excludes is_ascii_digit is_space digit_is_no_space input starts)) in
-    spaced-reads (operand f) input (value (unsigned n)) rest
+    spaced-reads (operand f) input (value (number (UInt64 n))) rest
     (rw (
       no_space,
       path_root-none f input (begins-excludes is_ascii_digit is_path_root digit_is_no_root input starts),
@@ -328,7 +328,7 @@ behind_sign input s negative after e =
     let same : s.digits ≡ after = ap (λ (p : Bool × List ℕ). p.1) (same_Some (s.negative, s.digits) (negative, after) (sym s.signs ∙ e)) in
     rw (← same) s.reads
 
-no_signed_number : (f : Bool) (input : List ℕ) → unary_atom f input ≡ None → nat64 input ≡ None → SignedNumber input → ⊥
+no_signed_number : (f : Bool) (input : List ℕ) → unary_atom f input ≡ None → natural_below (2 ^ 64) input ≡ None → SignedNumber input → ⊥
 no_signed_number f input none no_natural s = go (begins is_sign input) refl where
   fits : nat_lt s.n (2 ^ 64) ≡ true
   fits = is_within-magnitude s.negative s.n s.fits
@@ -390,11 +390,11 @@ literal_is_unsigned f =
     (λ _. yields-give IsUnsigned (boolean true) refl)))
     (where-choice _ IsUnsigned _ _ (where-any _ IsUnsigned _ (yields-behind IsUnsigned (literal "false") _
     (λ _. yields-give IsUnsigned (boolean false) refl)))
-    (where-choice _ IsUnsigned _ _ (where-any _ IsUnsigned _ (yields-behind IsUnsigned nat64 _
-    (λ n. yields-give IsUnsigned (unsigned n) refl)))
+    (where-choice _ IsUnsigned _ _ (where-any _ IsUnsigned _ (yields-behind IsUnsigned (natural_below (2 ^ 64)) _
+    (λ n. yields-give IsUnsigned (number (UInt64 n)) refl)))
     (where-choice _ IsUnsigned _ _
-    (λ input g l rest e. inside_sequence (IsUnsigned l) int64 (λ z. give (signed z)) input l rest e (λ z after reads given.
-    absurd (no_signed_number f input g.0.0.0.0 (mapped-none unsigned (nat64 input) g.1) (signed_number input z after reads))))
+    (λ input g l rest e. inside_sequence (IsUnsigned l) (integer_within (2 ^ 63)) (λ z. give (number (Int64 z))) input l rest e (λ z after reads given.
+    absurd (no_signed_number f input g.0.0.0.0 (mapped-none (λ n. number (UInt64 n)) ((natural_below (2 ^ 64)) input) g.1) (signed_number input z after reads))))
     (where-any _ IsUnsigned _ (yields-behind IsUnsigned quoted _ (λ text. yields-give IsUnsigned (string text) refl)))))))
 
 abbrev HasNoSign : Expression → Type 0

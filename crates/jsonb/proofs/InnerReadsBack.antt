@@ -16,7 +16,7 @@ use Rattle.jsonb_keypath.proofs.KeyPathReadsBack.{begins-signed_decimal}
 use Rattle.jsonb_keypath.proofs.RepeatLemmas.{repeat-goes, repeat-ends}
 use Rattle.jsonb_keypath.proofs.YieldsLemmas.{IsName}
 use Rattle.jsonb.specs.PathTree.{Place, from_front, from_last, Entry, single, slice, LevelEnd, level, last_level, Levels, Step, root, current, dot_wildcard, recursive_dot_wildcard, bracket_wildcard, dot_field, colon_field, object_field, array_indices, filter, whole_expression}
-use Rattle.jsonb.specs.PathGrammar.{keyword, spaced, place, entry, levels, field, spaced_entry, entries, wildcard, named_field, bracket_field, inner}
+use Rattle.jsonb.specs.PathGrammar.{keyword, spaced, place, entry, levels, field, entries, wildcard, named_field, bracket_field, inner}
 use Rattle.jsonb.specs.Private.EntriesText.{entries_text, other_entry_text}
 use Rattle.jsonb.specs.PathText.{place_text, entry_text, levels_text, step_text}
 use Rattle.jsonb.proofs.PathShape.{IsIndex, IsPlace, IsEntry, IsLevelEnd, AreLevels, IsInner}
@@ -212,7 +212,7 @@ more_entries (e ∷ es) rest are =
 
 entries-text : (es : List Entry) (rest : List ℕ) → 0 < length es → AllByRecursion IsEntry es →
     entries (91 ∷ entries_text es ++ 93 ∷ rest) ≡ Some (es, rest)
-unfolding entries spaced_entry
+unfolding entries
 entries-text [] rest some are = absurd (omega arith)
 entries-text (e ∷ es) rest some are =
     rw (
@@ -376,7 +376,7 @@ no_star_in_brackets (b ∷ rest) h e = let other : (42 == b) ≡ false = grind (
     rw (past-none is_space (b ∷ rest) h, other) refl
 
 no_entry-quote : (rest : List ℕ) → entries (91 ∷ 34 ∷ rest) ≡ None
-unfolding entries spaced_entry entry place ws
+unfolding entries entry place ws
 no_entry-quote rest = rw (integer_within-none (2 ^ 31) (34 ∷ rest) refl) refl
 
 recursive-text : (l : Option Levels) (rest : List ℕ) → AreLevels l → begins

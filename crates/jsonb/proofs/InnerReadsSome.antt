@@ -8,7 +8,7 @@ use Rattle.jsonb_keypath.proofs.ReadsLemmas.{NeverGrows, some-no_more, grows-giv
 use Rattle.jsonb_keypath.proofs.CutLemmas.{some-literal}
 use Rattle.jsonb_keypath.proofs.GrowsLemmas.{run-no_more, grows-ws, some-name, some-quoted, some-natural_below}
 use Rattle.jsonb.specs.PathTree.{colon_field, dot_field, object_field, array_indices}
-use Rattle.jsonb.specs.PathGrammar.{keyword, spaced, level_end, levels, wildcard, field, named_field, entry, spaced_entry, entries, bracket_field, inner, spaced_inner}
+use Rattle.jsonb.specs.PathGrammar.{keyword, spaced, level_end, levels, wildcard, field, named_field, entry, entries, bracket_field, inner, spaced_inner}
 use Rattle.jsonb.specs.Private.Repeated.{another_entry, entry_list}
 use Rattle.jsonb.proofs.EntryReadsSome.{some-keyword, some-spaced, some-entry, some-another_entry}
 
@@ -62,7 +62,6 @@ some-named_field =
     (λ text. grows-give (dot_field text)))
 
 some-entry_list : ReadsSome entry_list
-unfolding spaced_entry
 some-entry_list = some-then (spaced entry) _ (some-spaced entry some-entry)
     (λ first. grows-then (repeat another_entry) _ (grows-repeat another_entry some-another_entry) (λ others. grows-give (first ∷ others)))
 

@@ -1,10 +1,10 @@
 -- Evaluating the branches of an expression returns its truth.
 use Rattle.std.proofs.Common.{◌≡◌, ℕ, ◌≤◌, List, [], ◌∷◌, length, Bool, true, false, Some, None, Ok, Err, refl, ap, ◌∙◌, arith}
-use Rattle.std.specs.Prelude.{if◌then◌else◌}
+use Rattle.std.specs.Prelude.{◌&&◌, ◌||◌, if◌then◌else◌}
 use Rattle.std.proofs.lemmas.Bool.{le-leb, lt-leb}
 use Rattle.jsonb_doc.specs.Answer.{Outcome, and_then}
 use Rattle.jsonb_doc.specs.Tree.{Tree}
-use Rattle.jsonb.specs.Compare.{Truth, and_truth, or_truth}
+use Rattle.jsonb.specs.Compare.{Truth, joined_truth}
 use Rattle.jsonb.specs.Meaning.{truth}
 use Rattle.jsonb.specs.PathTree.{Expression, binary, and_op, or_op}
 use Rattle.jsonb.specs.Private.Jumps.{Branch, branches_of, taken, passed, evaluated, branches_of_whole}
@@ -43,11 +43,11 @@ module _ (mode : Mode) (top item : Tree) where
   evaluated-unknown (binary and_op l r) t f others =
       evaluated-unknown l (length (branches_of r t f others)) f (branches_of r t f others)
       ∙ same_after (truth mode l top item) _ _ (λ a. evaluated-unknown r t f others)
-      ∙ two_parts (truth mode l top item) (truth mode r top item) and_truth (λ c. evaluated mode top item others None)
+      ∙ two_parts (truth mode l top item) (truth mode r top item) (joined_truth ◌&&◌) (λ c. evaluated mode top item others None)
   evaluated-unknown (binary or_op l r) t f others =
       evaluated-unknown l t (length (branches_of r t f others)) (branches_of r t f others)
       ∙ same_after (truth mode l top item) _ _ (λ a. evaluated-unknown r t f others)
-      ∙ two_parts (truth mode l top item) (truth mode r top item) or_truth (λ c. evaluated mode top item others None)
+      ∙ two_parts (truth mode l top item) (truth mode r top item) (joined_truth ◌||◌) (λ c. evaluated mode top item others None)
   evaluated-unknown e t f others = refl
 
   leaf-passed : (e : Expression) (t f : ℕ) (others : List Branch) (go : Jump) → go.left ≤ length others
@@ -63,27 +63,27 @@ module _ (mode : Mode) (top item : Tree) where
   evaluated-passed (binary and_op l r) t f others go short =
       evaluated-passed l (length (branches_of r t f others)) f (branches_of r t f others) go (let right = longer r t f others in omega (arith, short, right))
       ∙ same_after (truth mode l top item) _ _ (after_left (evaluated-passed r t f others go short))
-      ∙ two_parts (truth mode l top item) (truth mode r top item) and_truth (λ c. evaluated mode top item others (passed go c))
+      ∙ two_parts (truth mode l top item) (truth mode r top item) (joined_truth ◌&&◌) (λ c. evaluated mode top item others (passed go c))
     where
-      both : (a : Bool) (b : Truth) → evaluated mode top item others (passed go b) ≡ evaluated mode top item others (passed go (and_truth (Some a) b))
+      both : (a : Bool) (b : Truth) → evaluated mode top item others (passed go b) ≡ evaluated mode top item others (passed go (joined_truth ◌&&◌ (Some a) b))
       both a (Some b) = refl
       both a None = refl
 
       after_left : (evaluated mode top item (branches_of r t f others) (Some go) ≡ and_then (truth mode r top item) (λ b. evaluated mode top item others (passed go b))) → (a : Truth) → evaluated mode top item (branches_of r t f others) (passed go a)
-          ≡ and_then (truth mode r top item) (λ b. evaluated mode top item others (passed go (and_truth a b)))
+          ≡ and_then (truth mode r top item) (λ b. evaluated mode top item others (passed go (joined_truth ◌&&◌ a b)))
       after_left right None = evaluated-unknown r t f others
       after_left right (Some a) = right ∙ same_after (truth mode r top item) _ _ (both a)
   evaluated-passed (binary or_op l r) t f others go short =
       evaluated-passed l t (length (branches_of r t f others)) (branches_of r t f others) go (let right = longer r t f others in omega (arith, short, right))
       ∙ same_after (truth mode l top item) _ _ (after_left (evaluated-passed r t f others go short))
-      ∙ two_parts (truth mode l top item) (truth mode r top item) or_truth (λ c. evaluated mode top item others (passed go c))
+      ∙ two_parts (truth mode l top item) (truth mode r top item) (joined_truth ◌||◌) (λ c. evaluated mode top item others (passed go c))
     where
-      both : (a : Bool) (b : Truth) → evaluated mode top item others (passed go b) ≡ evaluated mode top item others (passed go (or_truth (Some a) b))
+      both : (a : Bool) (b : Truth) → evaluated mode top item others (passed go b) ≡ evaluated mode top item others (passed go (joined_truth ◌||◌ (Some a) b))
       both a (Some b) = refl
       both a None = refl
 
       after_left : (evaluated mode top item (branches_of r t f others) (Some go) ≡ and_then (truth mode r top item) (λ b. evaluated mode top item others (passed go b))) → (a : Truth) → evaluated mode top item (branches_of r t f others) (passed go a)
-          ≡ and_then (truth mode r top item) (λ b. evaluated mode top item others (passed go (or_truth a b)))
+          ≡ and_then (truth mode r top item) (λ b. evaluated mode top item others (passed go (joined_truth ◌||◌ a b)))
       after_left right None = evaluated-unknown r t f others
       after_left right (Some a) = right ∙ same_after (truth mode r top item) _ _ (both a)
   evaluated-passed e t f others go short = leaf-passed e t f others go short
@@ -104,18 +104,18 @@ module _ (mode : Mode) (top item : Tree) where
       evaluated-taken l (length (branches_of r t f others)) f (branches_of r t f others) go here (omega arith)
       (let right = longer r t f others in omega (arith, after_false, right))
       ∙ same_after (truth mode l top item) _ _ (after_left (evaluated-taken r t f others (jump_at (length (branches_of r t f others)) true) (omega arith) after_true after_false))
-      ∙ two_parts (truth mode l top item) (truth mode r top item) and_truth (λ c. evaluated mode top item others (taken t f c))
+      ∙ two_parts (truth mode l top item) (truth mode r top item) (joined_truth ◌&&◌) (λ c. evaluated mode top item others (taken t f c))
     where
-      if_true : (b : Truth) → evaluated mode top item others (taken t f b) ≡ evaluated mode top item others (taken t f (and_truth (Some true) b))
+      if_true : (b : Truth) → evaluated mode top item others (taken t f b) ≡ evaluated mode top item others (taken t f (joined_truth ◌&&◌ (Some true) b))
       if_true (Some b) = refl
       if_true None = refl
 
-      if_false : (b : Truth) → evaluated mode top item others (passed (jump_at f false) b) ≡ evaluated mode top item others (taken t f (and_truth (Some false) b))
+      if_false : (b : Truth) → evaluated mode top item others (passed (jump_at f false) b) ≡ evaluated mode top item others (taken t f (joined_truth ◌&&◌ (Some false) b))
       if_false (Some b) = refl
       if_false None = refl
 
       after_left : (evaluated mode top item (branches_of r t f others) (Some (jump_at (length (branches_of r t f others)) true)) ≡ and_then (truth mode r top item) (λ b. evaluated mode top item others (taken t f b))) → (a : Truth) → evaluated mode top item (branches_of r t f others) (taken (length (branches_of r t f others)) f a)
-          ≡ and_then (truth mode r top item) (λ b. evaluated mode top item others (taken t f (and_truth a b)))
+          ≡ and_then (truth mode r top item) (λ b. evaluated mode top item others (taken t f (joined_truth ◌&&◌ a b)))
       after_left right None = evaluated-unknown r t f others
       after_left right (Some true) = right
           ∙ same_after (truth mode r top item) _ _ if_true
@@ -124,18 +124,18 @@ module _ (mode : Mode) (top item : Tree) where
       evaluated-taken l t (length (branches_of r t f others)) (branches_of r t f others) go here
       (let right = longer r t f others in omega (arith, after_true, right)) (omega arith)
       ∙ same_after (truth mode l top item) _ _ (after_left (evaluated-taken r t f others (jump_at (length (branches_of r t f others)) false) (omega arith) after_true after_false))
-      ∙ two_parts (truth mode l top item) (truth mode r top item) or_truth (λ c. evaluated mode top item others (taken t f c))
+      ∙ two_parts (truth mode l top item) (truth mode r top item) (joined_truth ◌||◌) (λ c. evaluated mode top item others (taken t f c))
     where
-      if_false : (b : Truth) → evaluated mode top item others (taken t f b) ≡ evaluated mode top item others (taken t f (or_truth (Some false) b))
+      if_false : (b : Truth) → evaluated mode top item others (taken t f b) ≡ evaluated mode top item others (taken t f (joined_truth ◌||◌ (Some false) b))
       if_false (Some b) = refl
       if_false None = refl
 
-      if_true : (b : Truth) → evaluated mode top item others (passed (jump_at t true) b) ≡ evaluated mode top item others (taken t f (or_truth (Some true) b))
+      if_true : (b : Truth) → evaluated mode top item others (passed (jump_at t true) b) ≡ evaluated mode top item others (taken t f (joined_truth ◌||◌ (Some true) b))
       if_true (Some b) = refl
       if_true None = refl
 
       after_left : (evaluated mode top item (branches_of r t f others) (Some (jump_at (length (branches_of r t f others)) false)) ≡ and_then (truth mode r top item) (λ b. evaluated mode top item others (taken t f b))) → (a : Truth) → evaluated mode top item (branches_of r t f others) (taken t (length (branches_of r t f others)) a)
-          ≡ and_then (truth mode r top item) (λ b. evaluated mode top item others (taken t f (or_truth a b)))
+          ≡ and_then (truth mode r top item) (λ b. evaluated mode top item others (taken t f (joined_truth ◌||◌ a b)))
       after_left right None = evaluated-unknown r t f others
       after_left right (Some false) = right
           ∙ same_after (truth mode r top item) _ _ if_false

@@ -5,6 +5,7 @@ use Rattle.jsonb_doc.specs.declared.error.Error.TheVariants.{InvalidJsonPath, Ar
 use Rattle.jsonb_doc.specs.declared.error.ArithmeticFault.TheVariants.{Overflow, Inexact, ZeroDivisor, DecimalOperand}
 use Rattle.jsonb_doc.specs.Number.{Number, int64, uint64, decimal64}
 use Rattle.jsonb_doc.specs.Tree.{Tree, null, boolean, number, text, array, object, trees_of, pairs_of}
+use Rattle.jsonb_doc.specs.declared.number.Number.TheVariants.{Int64, UInt64}
 use Rattle.jsonb.specs.PathTree as p
 use Rattle.jsonb.specs.PathTree.{Step, Expression, steps_of}
 use Rattle.jsonb.specs.Meaning.{meaning, predicate}
@@ -39,7 +40,7 @@ abbrev from : List Step → Expression
 from steps = p.paths (steps_of (p.root ∷ steps))
 
 abbrev lit : ℕ → Expression
-lit n = p.value (p.unsigned n)
+lit n = p.value (p.number (UInt64 n))
 
 abbrev tens : Tree
 tens = arr (whole 10 ∷ whole 20 ∷ whole 30 ∷ [])
@@ -92,7 +93,7 @@ negative_index : of (p.root ∷ p.array_indices (p.single (p.from_front (negsuc 
 negative_index = refl
 
 -- `1 == -1`
-one_is_minus_one : of (p.whole_expression (p.binary p.eq (lit 1) (p.value (p.signed (negsuc 0)))) ∷ []) one_element ≡ Ok (boolean false ∷ [])
+one_is_minus_one : of (p.whole_expression (p.binary p.eq (lit 1) (p.value (p.number (Int64 (negsuc 0))))) ∷ []) one_element ≡ Ok (boolean false ∷ [])
 one_is_minus_one = refl
 
 -- the empty text

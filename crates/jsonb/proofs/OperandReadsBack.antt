@@ -1,17 +1,19 @@
 -- Printed operands, signs and comparisons, read with anything after them that may be there.
-use Rattle.std.proofs.Common.{◌≡◌, ℕ, ◌<◌, ◌≤◌, ◌^◌, List, [], ◌∷◌, ◌++◌, length, Bool, true, false, Some, None, refl, sym, ◌∙◌, ap, arith, append_assoc, length-append, length-drop}
+use Rattle.std.proofs.Common.{◌≡◌, ℕ, suc, ◌<◌, ◌≤◌, ◌^◌, ◌/◌, List, [], ◌∷◌, ◌++◌, length, Bool, true, false, Some, None, refl, sym, ◌∙◌, ap, arith, append_assoc, length-append, length-drop}
 use Rattle.std.specs.Prelude.{pos, negsuc, nat_lt, ◌==◌, ◌||◌}
 use Rattle.std.specs.List.{prefix_len}
 use Rattle.std.specs.Char.{is_ascii_digit}
 use Rattle.std.specs.Fmt.{decimal, signed_decimal}
+use Rattle.std.proofs.lemmas.List.{append-nil}
 use Rattle.std.proofs.lemmas.Bool.Decides.{Decides-ltb, nat_tests}
 use Rattle.jsonb_keypath.specs.Rules.{Rule, parsed_map, repeat}
-use Rattle.jsonb_keypath.specs.Tokens.{past, is_space, is_quote, nat64}
+use Rattle.jsonb_keypath.specs.Tokens.{past, is_space, is_quote, natural_below}
 use Rattle.jsonb_keypath.specs.KeyPathText.{quoted_text}
 use Rattle.jsonb_keypath.proofs.ReadBackLemmas.{neither, front, stops, front-stops, front-implies, begins, begins-implies, begins-excludes, stops-from_begins, begins-decimal, is_number_start, is_sign, natural_below-decimal, natural_below-none, integer_within-signed_decimal, integer_within-none}
 use Rattle.jsonb_keypath.proofs.NameLemmas.{quoted-quoted_text, quoted-none}
 use Rattle.jsonb_keypath.proofs.RepeatLemmas.{repeat-goes, repeat-ends}
-use Rattle.jsonb.specs.PathTree.{Literal, null, boolean, unsigned, signed, decimal64, decimal128, string, raw, BinaryOp, and_op, or_op, UnaryOp, plus, minus, Step, root, current, filter, whole_expression, Steps, no_steps, step, Expression, paths, value, binary, unary, exists, steps_of}
+use Rattle.jsonb_doc.specs.declared.number.Number.TheVariants.{Int64, UInt64, Decimal64, Decimal128}
+use Rattle.jsonb.specs.PathTree.{Literal, null, boolean, number, string, raw, BinaryOp, and_op, or_op, UnaryOp, plus, minus, Step, root, current, filter, whole_expression, Steps, no_steps, step, Expression, paths, value, binary, unary, exists, steps_of}
 use Rattle.jsonb.specs.PathGrammar.{spaced, inner, wildcard, named_field, bracket_field, entries, spaced_inner, path_root, literal_value, operand, spaced_operand, operator, arithmetic_operator, unary_operator, unary_atom, binary_atom}
 use Rattle.jsonb.specs.PathText.{step_text, steps_text, expression_text, literal_text, operator_text, joins}
 use Rattle.jsonb.specs.PathLaws.{settled_literal}
@@ -166,8 +168,8 @@ digit_is_no_t b h = grind (arith, nat_tests)
 digit_is_no_f : (b : ℕ) → is_ascii_digit b ≡ true → (102 == b) ≡ false
 digit_is_no_f b h = grind (arith, nat_tests)
 
-pub literal-digits : (input rest : List ℕ) (n : ℕ) → begins is_ascii_digit input ≡ true → nat64 input ≡ Some (n, rest) →
-    literal_value input ≡ Some (unsigned n, rest)
+pub literal-digits : (input rest : List ℕ) (n : ℕ) → begins is_ascii_digit input ≡ true → natural_below (2 ^ 64) input ≡ Some (n, rest) →
+    literal_value input ≡ Some (number (UInt64 n), rest)
 unfolding literal_value
 literal-digits [] rest n h e = cc
 literal-digits (b ∷ input) rest n h e = rw (digit_is_no_n b h, digit_is_no_t b h, digit_is_no_f b h, e) refl
@@ -175,8 +177,12 @@ literal-digits (b ∷ input) rest n h e = rw (digit_is_no_n b h, digit_is_no_t b
 operand_end_is_no_digit : (b : ℕ) → is_operand_end b ≡ true → is_ascii_digit b ≡ false
 operand_end_is_no_digit b h = grind (arith, nat_tests)
 
+-- the text of an integer
+whole_text : (n : ℕ) → decimal (n / 1) ++ [] ≡ decimal n
+whole_text n = append-nil (decimal (n / 1)) ∙ ap decimal (omega arith)
+
 literal-unsigned : (n : ℕ) (rest : List ℕ) → nat_lt n (2 ^ 64) ≡ true → stops is_ascii_digit rest ≡ true →
-    literal_value (decimal n ++ rest) ≡ Some (unsigned n, rest)
+    literal_value (decimal n ++ rest) ≡ Some (number (UInt64 n), rest)
 literal-unsigned n rest fits h =
     literal-digits (decimal n ++ rest) rest n (begins-decimal n rest (omega (arith, (Decides-ltb n 18446744073709551616).0 fits)))
     (natural_below-decimal (2 ^ 64) n rest (omega arith) fits h)
@@ -187,18 +193,20 @@ unfolding literal_value
 literal-text null rest is h = refl
 literal-text (boolean true) rest is h = refl
 literal-text (boolean false) rest is h = refl
-literal-text (unsigned n) rest is h = literal-unsigned n rest is (front-stops is_operand_end is_ascii_digit operand_end_is_no_digit rest h)
-literal-text (signed (pos n)) rest is h =
-    literal-unsigned n rest ((Decides-ltb n 18446744073709551616).1 (omega (arith, (Decides-ltb n 9223372036854775808).0 is)))
-    (front-stops is_operand_end is_ascii_digit operand_end_is_no_digit rest h)
-literal-text (signed (negsuc n)) rest is h =
+literal-text (number (UInt64 n)) rest is h =
+    rw (whole_text n) (literal-unsigned n rest is (front-stops is_operand_end is_ascii_digit operand_end_is_no_digit rest h))
+literal-text (number (Int64 (pos n))) rest is h =
+    rw (whole_text n) (literal-unsigned n rest ((Decides-ltb n 18446744073709551616).1 (omega (arith, (Decides-ltb n 9223372036854775808).0 is)))
+    (front-stops is_operand_end is_ascii_digit operand_end_is_no_digit rest h))
+literal-text (number (Int64 (negsuc n))) rest is h =
     rw (
+      whole_text (suc n),
       natural_below-none (2 ^ 64) (signed_decimal (negsuc n) ++ rest) refl,
       integer_within-signed_decimal (2 ^ 63) (negsuc n) rest
           (omega arith) is (front-stops is_operand_end is_ascii_digit operand_end_is_no_digit rest h),
     ) refl
-literal-text (decimal64 whole scale) rest is h = absurd is
-literal-text (decimal128 whole scale) rest is h = absurd is
+literal-text (number (Decimal64 d)) rest is h = absurd is
+literal-text (number (Decimal128 d)) rest is h = absurd is
 literal-text (raw document) rest is h = absurd is
 literal-text (string text) rest is h =
     rw (
@@ -313,11 +321,12 @@ begins-literal : (l : Literal) (rest : List ℕ) → IsLiteral l → begins is_l
 begins-literal null rest is = refl
 begins-literal (boolean true) rest is = refl
 begins-literal (boolean false) rest is = refl
-begins-literal (unsigned n) rest is = begins-number n rest (omega (arith, (Decides-ltb n 18446744073709551616).0 is))
-begins-literal (signed (pos n)) rest is = begins-number n rest (omega (arith, (Decides-ltb n 9223372036854775808).0 is))
-begins-literal (signed (negsuc n)) rest is = refl
-begins-literal (decimal64 whole scale) rest is = absurd is
-begins-literal (decimal128 whole scale) rest is = absurd is
+begins-literal (number (UInt64 n)) rest is = rw (whole_text n) (begins-number n rest (omega (arith, (Decides-ltb n 18446744073709551616).0 is)))
+begins-literal (number (Int64 (pos n))) rest is =
+    rw (whole_text n) (begins-number n rest (omega (arith, (Decides-ltb n 9223372036854775808).0 is)))
+begins-literal (number (Int64 (negsuc n))) rest is = refl
+begins-literal (number (Decimal64 d)) rest is = absurd is
+begins-literal (number (Decimal128 d)) rest is = absurd is
 begins-literal (raw document) rest is = absurd is
 begins-literal (string text) rest is = refl
 
@@ -374,14 +383,14 @@ unsigned_operand is_in_filter (paths (step s ss)) rest is h =
 unsigned_operand is_in_filter (value null) rest is h = refl
 unsigned_operand is_in_filter (value (boolean true)) rest is h = refl
 unsigned_operand is_in_filter (value (boolean false)) rest is h = refl
-unsigned_operand is_in_filter (value (unsigned n)) rest is h =
-    begins-excludes is_ascii_digit is_sign digit_is_no_sign (decimal n ++ rest) (begins-decimal n rest (omega (
+unsigned_operand is_in_filter (value (number (UInt64 n))) rest is h =
+    rw (whole_text n) (begins-excludes is_ascii_digit is_sign digit_is_no_sign (decimal n ++ rest) (begins-decimal n rest (omega (
       arith,
       (Decides-ltb n 18446744073709551616).0 is,
-    )))
-unsigned_operand is_in_filter (value (signed z)) rest is h = cc
-unsigned_operand is_in_filter (value (decimal64 whole scale)) rest is h = absurd is
-unsigned_operand is_in_filter (value (decimal128 whole scale)) rest is h = absurd is
+    ))))
+unsigned_operand is_in_filter (value (number (Int64 z))) rest is h = cc
+unsigned_operand is_in_filter (value (number (Decimal64 d))) rest is h = absurd is
+unsigned_operand is_in_filter (value (number (Decimal128 d))) rest is h = absurd is
 unsigned_operand is_in_filter (value (raw document)) rest is h = absurd is
 unsigned_operand is_in_filter (value (string text)) rest is h = refl
 unsigned_operand is_in_filter (binary op left right) rest is h = absurd is

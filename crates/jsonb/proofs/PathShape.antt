@@ -4,7 +4,8 @@ use Rattle.std.specs.Prelude.{⊤, ℤ, nat_lt, MatchBool}
 use Rattle.std.specs.List.{AllByRecursion}
 use Rattle.jsonb_keypath.specs.Tokens.{is_within}
 use Rattle.jsonb_keypath.proofs.YieldsLemmas.{IsName}
-use Rattle.jsonb.specs.PathTree.{Place, from_front, from_last, Entry, single, slice, LevelEnd, level, last_level, Levels, Literal, unsigned, signed, decimal64, decimal128, string, raw, Step, root, current, dot_wildcard, recursive_dot_wildcard, bracket_wildcard, dot_field, colon_field, object_field, array_indices, filter, whole_expression, Steps, no_steps, step, Expression, paths, value, binary, unary, exists}
+use Rattle.jsonb_doc.specs.declared.number.Number.TheVariants.{Int64, UInt64, Decimal64, Decimal128}
+use Rattle.jsonb.specs.PathTree.{Place, from_front, from_last, Entry, single, slice, LevelEnd, level, last_level, Levels, Literal, number, string, raw, Step, root, current, dot_wildcard, recursive_dot_wildcard, bracket_wildcard, dot_field, colon_field, object_field, array_indices, filter, whole_expression, Steps, no_steps, step, Expression, paths, value, binary, unary, exists}
 use Rattle.jsonb.specs.PathText.{joins}
 
 -- an index of 32 bits
@@ -29,10 +30,10 @@ AreLevels None = ⊤
 AreLevels (Some levels) = (nat_lt levels.start (2 ^ 8) ≡ true) × IsLevelEnd levels.end
 
 abbrev pub IsLiteral : Literal → Type 0
-IsLiteral (unsigned n) = nat_lt n (2 ^ 64) ≡ true
-IsLiteral (signed z) = is_within (2 ^ 63) z ≡ true
-IsLiteral (decimal64 whole scale) = ⊥
-IsLiteral (decimal128 whole scale) = ⊥
+IsLiteral (number (UInt64 n)) = nat_lt n (2 ^ 64) ≡ true
+IsLiteral (number (Int64 z)) = is_within (2 ^ 63) z ≡ true
+IsLiteral (number (Decimal64 d)) = ⊥
+IsLiteral (number (Decimal128 d)) = ⊥
 IsLiteral (string text) = IsName text
 IsLiteral (raw document) = ⊥
 IsLiteral _ = ⊤
@@ -64,7 +65,7 @@ IsOperand is_in_filter (value l) = IsLiteral l
 IsOperand is_in_filter _ = ⊥
 
 abbrev pub is_signed_literal : Literal → Bool
-is_signed_literal (signed z) = true
+is_signed_literal (number (Int64 z)) = true
 is_signed_literal _ = false
 
 -- whether a sign may be at the front; such an operand is not a left side

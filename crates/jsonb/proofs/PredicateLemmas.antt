@@ -8,7 +8,8 @@ use Rattle.jsonb.specs.PathTree.{BinaryOp, UnaryOp, plus, minus, Expression, pat
 use Rattle.jsonb.specs.PathArithmetic.{operation, number_list, two_numbers, all_numbers, signed_number, each_signed}
 use Rattle.jsonb.specs.Values.{Value, number}
 use Rattle.jsonb.specs.Compare.{Truth}
-use Rattle.jsonb.specs.Meaning.{operand_values, truth, truth_list, calculation, binary_meaning, expression_meaning, list_truth, expression_predicate}
+use Rattle.jsonb.specs.Meaning.{operand_values, truth, truth_list, binary_meaning, expression_meaning, list_truth, expression_predicate}
+use Rattle.jsonb.specs.Private.Calculation.{calculation}
 use Rattle.jsonb.specs.declared.selector.document.Mode.{Mode}
 
 -- what a list says, and what is run for its error alone

@@ -1,10 +1,11 @@
 -- Which variant holds a whole literal changes no truth, no step and no value.
-use Rattle.std.proofs.Common.{◌≡◌, ℕ, zero, List, [], ◌∷◌, Option, Some, None, refl, sym, ◌∙◌, ap, subst, map, flat_map, Ok, Err}
+use Rattle.std.proofs.Common.{◌≡◌, ℕ, zero, List, [], ◌∷◌, Option, Some, None, refl, sym, ◌∙◌, ap, subst, map, flat_map, Ok, Err, inr}
 use Rattle.std.specs.Prelude.{ℤ, pos, negsuc, IfSome, IsSomeAnd, IsTrue}
 use Rattle.std.specs.declared.cmp.Ordering.TheVariants.{Equal}
 use Rattle.std.proofs.lemmas.Cmp.{tied_itself}
 use Rattle.jsonb_doc.specs.Proofs.NumberOrder.{number_cmp_total}
-use Rattle.jsonb_doc.specs.Answer.{Outcome, and_then, try_flat_map}
+use Rattle.jsonb_doc.specs.declared.error.Error.{Error}
+use Rattle.jsonb_doc.specs.Answer.{Outcome, Refines, and_then, try_flat_map}
 use Rattle.jsonb_doc.specs.Arithmetic.{Operation, is_decimal, calculated, negated}
 use Rattle.jsonb_doc.specs.Number.{Variant, int64, uint64, decimal64, decimal128, Number, number_cmp}
 use Rattle.jsonb_doc.specs.Equal.{is_equal}
@@ -12,9 +13,10 @@ use Rattle.jsonb_doc.specs.Proofs.Equality.{is_equal-true}
 use Rattle.jsonb_doc.specs.Proofs.EqualTrees.{IsEqual, AreEqual, PairsAreEqual}
 use Rattle.jsonb_doc.specs.Tree as tree
 use Rattle.jsonb_doc.specs.Tree.{Tree, Trees, Pairs}
+use Rattle.jsonb_doc.specs.declared.number.Number.TheVariants.{Int64}
 use Rattle.jsonb.specs.PathTree as path
 use Rattle.jsonb.specs.PathTree.{Literal, BinaryOp, and_op, or_op, eq, not_eq, lt, lte, gt, gte, starts_with_op, UnaryOp, plus, minus, Step, root, current, dot_wildcard, recursive_dot_wildcard, bracket_wildcard, dot_field, colon_field, object_field, array_indices, filter, whole_expression, Steps, no_steps, step, Expression, paths, value, binary, unary, exists, steps_of}
-use Rattle.jsonb.specs.PathLaws.{settled_literal, SameButVariants, SameByValue, MeanTheSame}
+use Rattle.jsonb.specs.PathLaws.{settled_literal, SameButVariants, MeanTheSame}
 use Rattle.jsonb.proofs.SettledPaths.{settled_step, settled_steps, settled, one_path}
 use Rattle.jsonb.specs.PathGrammar.{json_path}
 use Rattle.jsonb.specs.PathText.{path_text}
@@ -22,7 +24,8 @@ use Rattle.std.specs.List.{AllZip}
 use Rattle.jsonb.specs.Values.{Value, null, boolean, number, text, container, literal_value, scalar_item}
 use Rattle.jsonb.specs.Compare.{Truth, value_order, starts_with_truth, is_container, pair_truth, first_decisive, compare}
 use Rattle.jsonb.specs.PathArithmetic.{operation, all_numbers, two_numbers, signed_number, each_signed}
-use Rattle.jsonb.specs.Meaning.{start, step_meaning, steps_meaning, operand_values, truth, calculation, binary_meaning, literal_list, expression_meaning, as_filter, meaning, truth_list, list_truth, expression_predicate, predicate}
+use Rattle.jsonb.specs.Meaning.{start, step_meaning, steps_meaning, operand_values, truth, binary_meaning, expression_meaning, as_filter, meaning, truth_list, list_truth, expression_predicate, predicate}
+use Rattle.jsonb.specs.Private.Calculation.{calculation}
 use Rattle.jsonb.specs.declared.selector.document.Mode.{Mode}
 
 -- ---- numbers whose whole values are unsigned if they are not negative
@@ -125,7 +128,7 @@ same_compared op l l' r r' e f = sym (compared-settled op l' r') ∙ ap (λ (o :
 
 literal-settled : (l : Literal)
     → settled_value (literal_value (settled_literal l)) ≡ settled_value (literal_value l)
-literal-settled (path.signed (pos zero)) = refl
+literal-settled (path.number (Int64 (pos zero))) = refl
 literal-settled _ = refl
 
 -- ---- steps, operands and results
@@ -282,10 +285,10 @@ same_calculation op l l' r r' e f =
     through (Ok ls) (Err er) = refl
     through (Ok ls) (Ok rs) = two-settled op ls rs
 
-scalar-settled : (l : Literal) → settled_outcome (literal_list (scalar_item (literal_value (settled_literal l))))
-    ≡ settled_outcome (literal_list (scalar_item (literal_value l)))
-scalar-settled (path.signed (pos zero)) = refl
-scalar-settled _ = refl
+scalar-settled : (l : Literal) (mode : Mode) (top : Tree)
+    → settled_outcome (expression_meaning mode (value (settled_literal l)) top) ≡ settled_outcome (expression_meaning mode (value l) top)
+scalar-settled (path.number (Int64 (pos zero))) mode top = refl
+scalar-settled _ mode top = refl
 
 binary-meaning : (op : BinaryOp) (l r : Expression) (mode : Mode) (top : Tree)
     → expression_meaning mode (settled (binary op l r)) top ≡ expression_meaning mode (binary op l r) top
@@ -297,7 +300,7 @@ binary-meaning op l r mode top = go (operation op) where
 expression-meaning : (e : Expression) (mode : Mode) (top : Tree)
     → settled_outcome (expression_meaning mode (settled e) top) ≡ settled_outcome (expression_meaning mode e top)
 expression-meaning (paths ss) mode top = refl
-expression-meaning (value l) mode top = scalar-settled l
+expression-meaning (value l) mode top = scalar-settled l mode top
 expression-meaning (unary op e) mode top = same_answer (each_signed op) (signed-settled op) _ _ ((expression_same e).0 mode top top)
 expression-meaning (binary op l r) mode top = ap settled_outcome (binary-meaning op l r mode top)
 expression-meaning (exists ss) mode top = rw ((expression_same (exists ss)).1 mode top top) refl
@@ -368,9 +371,10 @@ same_lists (t ∷ ts) (u ∷ us) e =
     (is_equal-true t u (same_tree t u (let k : settled_tree t ≡ settled_tree u = cc in k)), same_lists ts us (let k : map settled_tree ts ≡ map settled_tree us = cc in k))
 same_lists _ _ e = cc
 
-same_by_value : (o o' : Outcome (List Tree)) → settled_outcome o ≡ settled_outcome o' → SameByValue o o'
-same_by_value (Ok ts) (Ok us) e = same_lists ts us (let k : map settled_tree ts ≡ map settled_tree us = cc in k)
-same_by_value (Err a) (Err b) e = cc
+same_by_value : (o o' : Outcome (List Tree)) → settled_outcome o ≡ settled_outcome o'
+    → Refines (AllZip (λ t u. IsTrue (is_equal t u))) (λ (_ : Error). ⊥) o o'
+same_by_value (Ok ts) (Ok us) e = record { ok = same_lists ts us (let k : map settled_tree ts ≡ map settled_tree us = cc in k); err = tt }
+same_by_value (Err a) (Err b) e = record { ok = tt; err = inr (sym e) }
 same_by_value _ _ e = cc
 
 -- ---- predicates

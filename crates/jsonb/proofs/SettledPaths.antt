@@ -1,9 +1,10 @@
 -- A path with each non-negative integer unsigned, and paths that are the same in this form.
 use Rattle.std.proofs.Common.{◌≡◌, List, [], ◌∷◌, map, refl, ap, ap₂, ◌∙◌}
 use Rattle.std.specs.Prelude.{pos}
+use Rattle.jsonb_doc.specs.declared.number.Number.TheVariants.{Int64}
 use Rattle.jsonb.specs.PathEquality.{SameStepBut, SameStepsBut, SameExpressionBut}
 use Rattle.jsonb.specs.PathLaws.{settled_literal, SameButVariants}
-use Rattle.jsonb.specs.PathTree.{Literal, signed, Step, filter, whole_expression, Steps, no_steps, step, Expression, paths, value, binary, unary, exists}
+use Rattle.jsonb.specs.PathTree.{Literal, number, Step, filter, whole_expression, Steps, no_steps, step, Expression, paths, value, binary, unary, exists}
 
 abbrev mutual
   pub settled_step : Step → Step
@@ -56,7 +57,7 @@ one_path (s ∷ p) [] h = absurd h
 -- ---- a path is the same as its form
 
 literal_itself : (l : Literal) → SameVariant l (settled_literal l)
-literal_itself (signed (pos n)) = refl
+literal_itself (number (Int64 (pos n))) = refl
 literal_itself _ = refl
 
 mutual

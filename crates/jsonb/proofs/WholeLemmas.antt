@@ -7,10 +7,9 @@ use Rattle.jsonb_doc.specs.Tree as tree
 use Rattle.jsonb_doc.specs.Tree.{Tree}
 use Rattle.jsonb_doc.specs.declared.error.Error.{Error}
 use Rattle.jsonb_doc.specs.declared.number.Number.{Number}
-use Rattle.jsonb_doc.specs.declared.number.Number.TheVariants.{Int64, UInt64, Decimal64, Decimal128}
 use Rattle.jsonb.specs.PathTree as math
 use Rattle.jsonb.specs.PathTree.{Step, Expression, steps_of}
-use Rattle.jsonb.specs.PathViews.{step_view, number_literal, literal_view}
+use Rattle.jsonb.specs.PathViews.{step_view, literal_view}
 use Rattle.jsonb.specs.Meaning.{steps_meaning, as_filter, Means}
 use Rattle.jsonb.specs.Private.Selection.{step_expression, only_expression, is_relative}
 use Rattle.jsonb.specs.declared.selector.document.Mode.{Mode}
@@ -58,12 +57,9 @@ module _ (form : Form) (mode : Mode) (top : Tree) (outcome : Outcome (List Tree)
       → Means form mode (math.whole_expression (math.value (literal_view w)) ∷ []) top outcome
   literal_meant v w is h = subst (λ x. Means form mode (math.whole_expression (math.value (literal_view x)) ∷ []) top outcome) is h
 
-  pub number_meant : (n : Number) → Means form mode (math.whole_expression (math.value (number_literal n)) ∷ []) top outcome
+  pub number_meant : (n : Number) → Means form mode (math.whole_expression (math.value (math.number n)) ∷ []) top outcome
       → outcome ≡ Ok (tree.array (tree.trees_of (tree.number (number_view n) ∷ [])) ∷ [])
-  number_meant (Int64 z) h = h
-  number_meant (UInt64 z) h = h
-  number_meant (Decimal64 d) h = h
-  number_meant (Decimal128 d) h = h
+  number_meant n h = h
 
 pub some_of : {A : Type 0} (o : Option A) → is_some o ≡ true → (x : A) × (o ≡ Some x)
 some_of (Some x) h = (x, refl)

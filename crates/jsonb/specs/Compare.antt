@@ -62,11 +62,7 @@ first_decisive (decisive ∷ rest) = decisive
 abbrev pub compare : BinaryOp → List Value → List Value → Truth
 compare op ls rs = first_decisive (flat_map (λ l. map (λ r. pair_truth op l r) rs) ls)
 
--- Whether both are true, unknown if either is.
-abbrev pub and_truth : Truth → Truth → Truth
-and_truth (Some a) (Some b) = Some (a && b)
-and_truth _ _ = None
-
-abbrev pub or_truth : Truth → Truth → Truth
-or_truth (Some a) (Some b) = Some (a || b)
-or_truth _ _ = None
+-- The operator's result for two results, unknown if either is.
+abbrev pub joined_truth : (Bool → Bool → Bool) → Truth → Truth → Truth
+joined_truth op (Some a) (Some b) = Some (op a b)
+joined_truth op _ _ = None

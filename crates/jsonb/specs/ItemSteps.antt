@@ -6,7 +6,6 @@ use Rattle.jsonb_doc.specs.Answer.{Outcome}
 use Rattle.jsonb_doc.specs.declared.error.Error.TheVariants.{StrictPath}
 use Rattle.jsonb_doc.specs.Tree as tree
 use Rattle.jsonb_doc.specs.Tree.{Tree, object, field_of}
-use Rattle.jsonb_raw.specs.Arrays.{array_values}
 use Rattle.jsonb.specs.PathTree.{Entry, single, slice}
 use Rattle.jsonb.specs.Positions.{position}
 use Rattle.jsonb.specs.declared.selector.document.Mode.{Mode}
@@ -27,14 +26,6 @@ list_or Strict otherwise None = Err StrictPath
 abbrev pub field_step : Mode → List ℕ → Tree → Outcome (List Tree)
 field_step mode name t = list_or mode [] (option_map (λ u. u ∷ []) (field_of name t))
 
--- An object's values.
-abbrev pub values_step : Mode → Tree → Outcome (List Tree)
-values_step mode t = list_or mode [] (values_of t)
-
--- An array's elements; in lax mode another item itself.
-abbrev pub elements_step : Mode → Tree → Outcome (List Tree)
-elements_step mode t = list_or mode (t ∷ []) (array_values t)
-
 -- Whether a subscript denotes a position of an array of this length.
 abbrev pub is_meant : ℕ → Entry → ℕ → Bool
 is_meant length (single place) k = int_eq (pos k) (position length place)
@@ -47,6 +38,3 @@ picked_by entry ts = filter_map (slice_get ts) (filter (is_meant (length ts) ent
 
 abbrev pub picked : List Entry → List Tree → List Tree
 picked entries ts = flat_map (λ entry. picked_by entry ts) entries
-
-abbrev pub indices_step : Mode → List Entry → Tree → Outcome (List Tree)
-indices_step mode entries t = list_or mode [] (option_map (picked entries) (array_values t))

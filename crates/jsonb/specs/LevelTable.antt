@@ -1,14 +1,9 @@
 -- The effect of a recursive step at a level: whether the item is selected, and whether its children are visited.
-use Rattle.std.specs.Prelude.{ℕ, ◌==◌, nat_lt, nat_le, Bool, true, false, Option, Some, None, if◌then◌else◌}
-use Rattle.jsonb.specs.PathTree.{Levels, LevelEnd, level, last_level}
+use Rattle.std.specs.Prelude.{ℕ, ◌==◌, ◌&&◌, nat_lt, nat_le, Bool, true, Option, Some, None}
+use Rattle.jsonb.specs.PathTree.{LevelEnd, level, last_level}
 
--- Below the start, and from the start on.
+-- From the start to the end an item is selected. Children are visited as long as a deeper level may be selected.
 abbrev pub at_level : Option LevelEnd → ℕ → ℕ → Bool × Bool
-at_level None start n = if nat_lt n start then (false, true) else if n == start then (true, false) else (false, false)
-at_level (Some (level last)) start n =
-    if nat_lt n start then (false, nat_le start last)
-    else if nat_le n last then (true, true) else (false, false)
-at_level (Some last_level) start n = if nat_lt n start then (false, true) else (true, true)
-
-abbrev pub level_answer : Levels → ℕ → Bool × Bool
-level_answer levels n = at_level levels.end levels.start n
+at_level None start n = (n == start, nat_lt n start)
+at_level (Some (level last)) start n = (nat_le start n && nat_le n last, nat_le start last && nat_le n last)
+at_level (Some last_level) start n = (nat_le start n, true)

@@ -14,10 +14,6 @@ abbrev pub limit_error_text : LimitError → List ℕ
 limit_error_text LimitExceeded = codes "LimitExceeded"
 limit_error_text (Failed e) = error_text e
 
--- The bound of a path on the document.
-abbrev pub bound_of : LimitedSelector → List Step → ℕ
-bound_of s path = most_items s.size path
-
 -- Holds if the result is `LimitExceeded`, or this holds for it as a result of the selector.
 abbrev pub UnlessExceeded : {A : Type 0} → (Result A Error → Type 0) → Result A LimitError → Type 0
 UnlessExceeded Holds (Ok x) = Holds (Ok x)
@@ -34,5 +30,5 @@ IsRefusal (Failed e) = e ≡ OutOfMemory
 pub record IsLimited {A : Type 0} (old new : LimitedSelector) (path : List Step) (answer : Result A LimitError)
     : Type 0 where
   pub kept : new ≡ old
-  pub exceeded : IsErrOf answer LimitExceeded → old.limit < bound_of old path
-  pub refused : old.limit < bound_of old path → IsErrAnd answer IsRefusal
+  pub exceeded : IsErrOf answer LimitExceeded → old.limit < most_items old.size path
+  pub refused : old.limit < most_items old.size path → IsErrAnd answer IsRefusal

@@ -1,5 +1,6 @@
 -- The meaning of a path on a tree: a list of items, or the first error.
-use Rattle.std.specs.Prelude.{◌≡◌, Bool, true, false, List, [], ◌∷◌, map, flat_map, Option, Some, None, is_some, Ok, Err, if◌then◌else◌}
+use Rattle.std.specs.Prelude.{◌≡◌, ◌&&◌, ◌||◌, Bool, true, false, List, [], ◌∷◌, map, flat_map, slice_get, Option, Some, None, is_some, option_map, Ok, Err, if◌then◌else◌}
+use Rattle.std.specs.Option.{ok_or}
 use Rattle.jsonb_doc.specs.Answer.{Outcome, and_then, try_flat_map}
 use Rattle.jsonb_doc.specs.Arithmetic.{Operation}
 use Rattle.jsonb_doc.specs.declared.error.Error.TheVariants.{InvalidJsonPath}
@@ -7,12 +8,13 @@ use Rattle.jsonb_doc.specs.Payload.{Form}
 use Rattle.jsonb_doc.specs.Format.{Decodes}
 use Rattle.jsonb_doc.specs.Tree as tree
 use Rattle.jsonb_doc.specs.Tree.{Tree}
+use Rattle.jsonb_raw.specs.Arrays.{array_values}
 use Rattle.jsonb.specs.PathTree.{raw, BinaryOp, and_op, or_op, Step, root, current, dot_wildcard, recursive_dot_wildcard, bracket_wildcard, dot_field, colon_field, object_field, array_indices, filter, whole_expression, Steps, no_steps, step, Expression, paths, value, binary, unary, exists, steps_of}
 use Rattle.jsonb.specs.Values.{Value, values_of_item, literal_value, scalar_item}
-use Rattle.jsonb.specs.Compare.{Truth, compare, and_truth, or_truth}
+use Rattle.jsonb.specs.Compare.{Truth, compare, joined_truth}
 use Rattle.jsonb.specs.PathArithmetic.{operation, two_numbers, each_signed}
 use Rattle.jsonb.specs.Preorder.{preorder}
-use Rattle.jsonb.specs.ItemSteps.{field_step, values_step, elements_step, indices_step}
+use Rattle.jsonb.specs.ItemSteps.{values_of, list_or, field_step, picked}
 use Rattle.jsonb.specs.declared.selector.document.Mode.{Mode}
 
 -- The item, if the filter is true.
@@ -26,21 +28,21 @@ start (step current rest) top item = item
 start _ top item = top
 
 abbrev pub is_some_item : List Tree → Bool
-is_some_item [] = false
-is_some_item (t ∷ ts) = true
+is_some_item ts = is_some (slice_get ts 0)
 
 abbrev mutual
   -- One step, for one item of the document `top`.
   pub step_meaning : Mode → Step → Tree → Tree → Outcome (List Tree)
   step_meaning mode root top item = Ok (item ∷ [])
   step_meaning mode current top item = Ok (item ∷ [])
-  step_meaning mode dot_wildcard top item = values_step mode item
+  step_meaning mode dot_wildcard top item = list_or mode [] (values_of item)
   step_meaning mode (recursive_dot_wildcard levels) top item = Ok (preorder levels 0 item)
-  step_meaning mode bracket_wildcard top item = elements_step mode item
+  -- In lax mode another item than an array is its only element.
+  step_meaning mode bracket_wildcard top item = list_or mode (item ∷ []) (array_values item)
   step_meaning mode (dot_field name) top item = field_step mode name item
   step_meaning mode (colon_field name) top item = field_step mode name item
   step_meaning mode (object_field name) top item = field_step mode name item
-  step_meaning mode (array_indices entries) top item = indices_step mode entries item
+  step_meaning mode (array_indices entries) top item = list_or mode [] (option_map (picked entries) (array_values item))
   step_meaning mode (filter e) top item = and_then (truth mode e top item) (λ b. Ok (filtered item b))
   step_meaning mode (whole_expression e) top item = Err InvalidJsonPath
 
@@ -60,9 +62,9 @@ abbrev mutual
   -- Whether an expression is true of an item.
   pub truth : Mode → Expression → Tree → Tree → Outcome Truth
   truth mode (binary and_op l r) top item =
-      and_then (truth mode l top item) (λ a. and_then (truth mode r top item) (λ b. Ok (and_truth a b)))
+      and_then (truth mode l top item) (λ a. and_then (truth mode r top item) (λ b. Ok (joined_truth ◌&&◌ a b)))
   truth mode (binary or_op l r) top item =
-      and_then (truth mode l top item) (λ a. and_then (truth mode r top item) (λ b. Ok (or_truth a b)))
+      and_then (truth mode l top item) (λ a. and_then (truth mode r top item) (λ b. Ok (joined_truth ◌||◌ a b)))
   -- Arithmetic is unknown, and its operands are not evaluated; a comparison takes the values of both operands first.
   truth mode (binary op l r) top item =
       if is_some (operation op) then Ok None else and_then (operand_values mode l top item)
@@ -81,24 +83,18 @@ truth_item None = tree.null
 abbrev pub truth_list : Outcome Truth → Outcome (List Tree)
 truth_list outcome = and_then outcome (λ b. Ok (truth_item b ∷ []))
 
--- Arithmetic takes the values of both operands first.
-abbrev pub calculation : Operation → Outcome (List Value) → Outcome (List Value) → Outcome (List Tree)
-calculation op left right = and_then left (λ ls. and_then right (λ rs. two_numbers op ls rs))
-
--- A number if the operator is arithmetic, otherwise a three-valued result.
+-- A number if the operator is arithmetic, which takes the values of both operands first; otherwise a three-valued
+-- result.
 abbrev pub binary_meaning : Mode → Option Operation → BinaryOp → Expression → Expression → Tree → Outcome (List Tree)
-binary_meaning mode (Some arithmetic) op l r top =
-    calculation arithmetic (operand_values mode l top top) (operand_values mode r top top)
+binary_meaning mode (Some arith) op l r top =
+    and_then (operand_values mode l top top) (λ ls. and_then (operand_values mode r top top) (two_numbers arith ls))
 binary_meaning mode None op l r top = truth_list (truth mode (binary op l r) top top)
 
--- An array of the literal; for a document as a literal see `Means`.
-abbrev pub literal_list : Option Tree → Outcome (List Tree)
-literal_list (Some t) = Ok (tree.array (tree.trees_of (t ∷ [])) ∷ [])
-literal_list None = Err InvalidJsonPath
-
+-- Of a literal an array of it; for a document as a literal see `Means`.
 abbrev pub expression_meaning : Mode → Expression → Tree → Outcome (List Tree)
 expression_meaning mode (paths steps) top = Err InvalidJsonPath
-expression_meaning mode (value l) top = literal_list (scalar_item (literal_value l))
+expression_meaning mode (value l) top =
+    ok_or (option_map (λ t. tree.array (tree.trees_of (t ∷ [])) ∷ []) (scalar_item (literal_value l))) InvalidJsonPath
 expression_meaning mode (unary op e) top = and_then (operand_values mode e top top) (each_signed op)
 expression_meaning mode (binary op l r) top = binary_meaning mode (operation op) op l r top
 expression_meaning mode (exists steps) top = truth_list (truth mode (exists steps) top top)

@@ -36,11 +36,5 @@ module _ (Alike : Literal → Literal → Type 0) where
     SameExpressionBut (exists ss) (exists ts) = SameStepsBut ss ts
     SameExpressionBut _ _ = ⊥
 
-abbrev pub SameStep : Step → Step → Type 0
-SameStep s t = SameStepBut SameLiteral s t
-
-abbrev pub SameExpression : Expression → Expression → Type 0
-SameExpression e f = SameExpressionBut SameLiteral e f
-
 abbrev pub SamePath : List Step → List Step → Type 0
 SamePath p q = SameStepsBut SameLiteral (steps_of p) (steps_of q)

@@ -11,40 +11,24 @@ longer first second input =
     if nat_lt (length (rest_after input (second input))) (length (rest_after input (first input)))
     then Some (tt, rest_after input (second input)) else Some (tt, rest_after input (first input))
 
--- Reads an operand and an operator.
-unfoldable pub operation_front : Bool → Rule (Unit {0})
-operation_front is_in_filter = spaced_operand is_in_filter >> perhaps (operator >> ws)
-
--- Reads an opening parenthesis and an expression.
-unfoldable pub group_front : Bool → Rule (Unit {0})
-group_front is_in_filter = literal "(" >> (ws >> perhaps (expression is_in_filter >> ws))
-
--- Reads `exists`, an opening parenthesis, and a path up to its first filter.
-unfoldable pub exists_front : Rule (Unit {0})
-exists_front = literal "exists" >> (ws >> perhaps (literal "(" >> (ws >> perhaps (operand_steps true))))
-
--- Reads the beginning of a condition that is not one.
+-- Reads the beginning of a condition that is not one: a sign; an operand and an operator; an opening parenthesis and an
+-- expression; or `exists`, an opening parenthesis, and a path up to its first filter.
 unfoldable pub condition_front : Bool → Rule (Unit {0})
 condition_front is_in_filter =
-    (unary_operator >> ws) </> operation_front is_in_filter </> group_front is_in_filter </> perhaps exists_front
-
--- Reads `&&` or `||`.
-unfoldable pub logical_operator : Rule (Unit {0})
-logical_operator = (literal "&&" </> literal "||") >> ws
+    (unary_operator >> ws) </> (spaced_operand is_in_filter >> perhaps (operator >> ws))
+    </> (literal "(" >> (ws >> perhaps (expression is_in_filter >> ws)))
+    </> perhaps (literal "exists" >> (ws >> perhaps (literal "(" >> (ws >> perhaps (operand_steps true)))))
 
 -- Reads conditions, and the beginning of another one.
 unfoldable pub conditions_front : Bool → Rule (Unit {0})
 conditions_front is_in_filter =
-    ((expression is_in_filter >> ws) >> perhaps (logical_operator >> condition_front is_in_filter))
+    ((expression is_in_filter >> ws)
+    >> perhaps (((literal "&&" </> literal "||") >> ws) >> condition_front is_in_filter))
     </> condition_front is_in_filter
 
--- Reads the beginning of a filter, up to its first condition.
-unfoldable pub opened_filter : Rule (Unit {0})
-opened_filter = do ws; literal "?"; ws; literal "("; ws
-
--- Reads steps, and the beginning of a filter.
+-- Reads steps, and the beginning of a filter up to its first condition.
 unfoldable pub steps_front : Rule (Unit {0})
-steps_front = (plain_path >> ws) >> perhaps (opened_filter >> conditions_front true)
+steps_front = (plain_path >> ws) >> perhaps ((do ws; literal "?"; ws; literal "("; ws) >> conditions_front true)
 
 -- Reads as much of the text as a JSON path begins with, as an expression or as steps; at most one level of
 -- parentheses is entered.

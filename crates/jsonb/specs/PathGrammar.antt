@@ -2,10 +2,11 @@
 use Rattle.std.specs.Prelude.{ℕ, zero, suc, ◌^◌, ◌+◌, ◌++◌, Bool, true, false, List, [], ◌∷◌, length, take, drop, Option, Some, None, ℤ, pos, neg_ℤ, fold, codes, if◌then◌else◌}
 use Rattle.std.specs.Str.{str_eq_ignore_ascii_case}
 use Prim.Native.String.{String}
-use Rattle.jsonb_keypath.specs.Rules.{Rule, give, fail, ◌>>=◌, ◌>>◌, ◌</>◌, optional, only_if, bytes, literal, repeat, list_of, all_consuming}
-use Rattle.jsonb_keypath.specs.Tokens.{ws, nat8, nat64, int32, int64, is_within, name, quoted}
-use Rattle.jsonb.specs.PathText.{operator_text, sign_text}
-use Rattle.jsonb.specs.PathTree.{Place, from_front, from_last, Entry, single, slice, level, last_level, LevelEnd, Levels, Literal, null, boolean, unsigned, signed, string, BinaryOp, and_op, or_op, eq, not_eq, lt, lte, gt, gte, starts_with_op, add, subtract, multiply, divide, modulo, UnaryOp, plus, minus, Step, root, current, dot_wildcard, recursive_dot_wildcard, bracket_wildcard, dot_field, colon_field, object_field, array_indices, filter, whole_expression, Expression, paths, value, binary, unary, exists, steps_of}
+use Rattle.jsonb_keypath.specs.Rules.{Rule, give, ◌>>=◌, ◌>>◌, ◌</>◌, optional, only_if, bytes, literal, repeat, list_of, all_consuming}
+use Rattle.jsonb_keypath.specs.Tokens.{ws, natural_below, nat8, integer_within, int32, is_within, name, quoted}
+use Rattle.jsonb_doc.specs.declared.number.Number.TheVariants.{Int64, UInt64}
+use Rattle.jsonb.specs.PathText.{operator_text}
+use Rattle.jsonb.specs.PathTree.{Place, from_front, from_last, Entry, single, slice, level, last_level, LevelEnd, Levels, Literal, null, boolean, number, string, BinaryOp, and_op, or_op, eq, not_eq, lt, lte, gt, gte, starts_with_op, add, subtract, multiply, divide, modulo, UnaryOp, plus, minus, Step, root, current, dot_wildcard, recursive_dot_wildcard, bracket_wildcard, dot_field, colon_field, object_field, array_indices, filter, whole_expression, Expression, paths, value, binary, unary, exists, steps_of}
 
 -- These letters, each in any case.
 abbrev pub in_any_case : List ℕ → Rule (Unit {0})
@@ -51,11 +52,8 @@ levels =
 unfoldable pub field : Rule (List ℕ)
 field = quoted </> name
 
-unfoldable pub spaced_entry : Rule Entry
-spaced_entry = spaced entry
-
 unfoldable pub entries : Rule (List Entry)
-entries = do literal "["; found ← list_of spaced_entry (literal ","); literal "]"; give found
+entries = do literal "["; found ← list_of (spaced entry) (literal ","); literal "]"; give found
 
 unfoldable pub wildcard : Rule Step
 wildcard =
@@ -86,7 +84,8 @@ unfoldable pub literal_value : Rule Literal
 literal_value =
     (literal "null" >> give null)
     </> (literal "true" >> give (boolean true)) </> (literal "false" >> give (boolean false))
-    </> (nat64 >>= λ n. give (unsigned n)) </> (int64 >>= λ z. give (signed z))
+    </> (natural_below (2 ^ 64) >>= λ n. give (number (UInt64 n)))
+    </> (integer_within (2 ^ 63) >>= λ z. give (number (Int64 z)))
     </> (quoted >>= λ text. give (string text))
 
 -- The root of a path, and the steps after it.
@@ -100,12 +99,9 @@ operand is_in_filter =
 unfoldable pub spaced_operand : Bool → Rule Expression
 spaced_operand is_in_filter = spaced (operand is_in_filter)
 
--- The operator, or the sign, as it prints.
+-- The operator, as it prints.
 abbrev pub printed : BinaryOp → Rule BinaryOp
 printed op = bytes (operator_text op) >> give op
-
-abbrev pub printed_sign : UnaryOp → Rule UnaryOp
-printed_sign op = bytes (sign_text op) >> give op
 
 unfoldable pub arithmetic_operator : Rule BinaryOp
 arithmetic_operator =
@@ -117,7 +113,7 @@ operator =
     </> printed gte </> printed gt </> printed starts_with_op </> arithmetic_operator
 
 unfoldable pub unary_operator : Rule UnaryOp
-unary_operator = printed_sign plus </> printed_sign minus
+unary_operator = (literal "+" >> give plus) </> (literal "-" >> give minus)
 
 unfoldable pub unary_atom : Bool → Rule Expression
 unary_atom is_in_filter = do op ← unary_operator; e ← spaced_operand is_in_filter; give (unary op e)
@@ -168,7 +164,7 @@ module _ (nested : Bool → Rule Expression) where
 
 -- An expression with at most n nested parentheses. The length of the input is a sufficient bound.
 unfoldable pub nested_or : ℕ → Bool → Rule Expression
-nested_or zero is_in_filter = fail
+nested_or zero is_in_filter = λ input. None
 nested_or (suc n) is_in_filter = or_with (nested_or n) is_in_filter
 
 unfoldable pub expression : Bool → Rule Expression

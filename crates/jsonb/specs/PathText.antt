@@ -4,8 +4,9 @@ use Rattle.std.specs.Fmt.{decimal, signed_decimal}
 use Rattle.std.specs.List.{join_by}
 use Rattle.hex.specs.Hex.{encode_lower}
 use Rattle.jsonb_keypath.specs.KeyPathText.{quoted_text, name_text}
-use Rattle.jsonb_doc.specs.NumberText.{decimal_text}
-use Rattle.jsonb.specs.PathTree.{Place, from_front, from_last, Entry, single, slice, LevelEnd, level, last_level, Levels, Literal, null, boolean, unsigned, signed, decimal64, decimal128, string, raw, BinaryOp, and_op, or_op, eq, not_eq, lt, lte, gt, gte, starts_with_op, add, subtract, multiply, divide, modulo, UnaryOp, plus, minus, Step, root, current, dot_wildcard, recursive_dot_wildcard, bracket_wildcard, dot_field, colon_field, object_field, array_indices, filter, whole_expression, Steps, no_steps, step, Expression, paths, value, binary, unary, exists}
+use Rattle.jsonb_doc.specs.NumberText.{number_text}
+use Rattle.jsonb_doc.specs.View.{number_parts}
+use Rattle.jsonb.specs.PathTree.{Place, from_front, from_last, Entry, single, slice, LevelEnd, level, last_level, Levels, Literal, null, boolean, number, string, raw, BinaryOp, and_op, or_op, eq, not_eq, lt, lte, gt, gte, starts_with_op, add, subtract, multiply, divide, modulo, UnaryOp, plus, minus, Step, root, current, dot_wildcard, recursive_dot_wildcard, bracket_wildcard, dot_field, colon_field, object_field, array_indices, filter, whole_expression, Steps, no_steps, step, Expression, paths, value, binary, unary, exists}
 
 -- Nothing for 0, otherwise the number with its sign. The least 32-bit number cannot follow a minus.
 abbrev pub offset_text : ℤ → List ℕ
@@ -58,10 +59,7 @@ abbrev pub literal_text : Literal → List ℕ
 literal_text null = codes "null"
 literal_text (boolean true) = codes "true"
 literal_text (boolean false) = codes "false"
-literal_text (unsigned n) = decimal n
-literal_text (signed z) = signed_decimal z
-literal_text (decimal64 whole scale) = decimal_text whole scale
-literal_text (decimal128 whole scale) = decimal_text whole scale
+literal_text (number n) = number_text (number_parts n)
 literal_text (string text) = quoted_text text
 literal_text (raw document) = codes "raw(" ++ encode_lower document ++ codes ")"
 

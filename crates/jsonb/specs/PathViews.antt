@@ -2,26 +2,18 @@
 use Rattle.std.specs.Prelude.{List, map}
 use Rattle.std.specs.Cow.{cow_str_bytes}
 use Rattle.jsonb_raw.specs.Documents.{raw_bytes}
-use Rattle.jsonb_doc.specs.declared.number.Number.{Number}
-use Rattle.jsonb_doc.specs.declared.number.Number.TheVariants.{Int64, UInt64, Decimal64, Decimal128}
 use Rattle.jsonb.specs.declared.path.Expr.{Expr as CodeExpr, fold-Expr}
 use Rattle.jsonb.specs.declared.path.Path.{Path as CodePath, fold-Path}
 use Rattle.jsonb.specs.declared.path.Expr.TheOpen.{Path-F, Expr-F}
 use Rattle.jsonb.specs.declared.path.JsonPath.{JsonPath}
 use Rattle.jsonb.specs.declared.path.PathValue.{PathValue}
 use Rattle.jsonb.specs.declared.path.PathValue.TheVariants as path_value
-use Rattle.jsonb.specs.PathTree.{Literal, null, boolean, unsigned, signed, decimal64, decimal128, string, raw, Step, root, current, dot_wildcard, recursive_dot_wildcard, bracket_wildcard, dot_field, colon_field, object_field, array_indices, filter, whole_expression, Expression, paths, value, binary, unary, exists, steps_of}
-
-abbrev pub number_literal : Number → Literal
-number_literal (Int64 z) = signed z
-number_literal (UInt64 n) = unsigned n
-number_literal (Decimal64 d) = decimal64 d.value d.scale
-number_literal (Decimal128 d) = decimal128 d.value d.scale
+use Rattle.jsonb.specs.PathTree.{Literal, null, boolean, number, string, raw, Step, root, current, dot_wildcard, recursive_dot_wildcard, bracket_wildcard, dot_field, colon_field, object_field, array_indices, filter, whole_expression, Expression, paths, value, binary, unary, exists, steps_of}
 
 abbrev pub literal_view : PathValue → Literal
 literal_view path_value.Null = null
 literal_view (path_value.Boolean b) = boolean b
-literal_view (path_value.Number n) = number_literal n
+literal_view (path_value.Number n) = number n
 literal_view (path_value.String text) = string (cow_str_bytes text)
 literal_view (path_value.Raw document) = raw (raw_bytes document)
 

@@ -2,11 +2,11 @@
 use Rattle.std.specs.Prelude.{ℕ, ◌+◌, Bool, true, List, [], ◌∷◌, ◌++◌, Option, Some, None, if◌then◌else◌}
 use Rattle.jsonb_doc.specs.Tree.{Tree, array, object, Trees, no_trees, tree, Pairs, no_pairs, pair}
 use Rattle.jsonb.specs.PathTree.{Levels}
-use Rattle.jsonb.specs.LevelTable.{level_answer}
+use Rattle.jsonb.specs.LevelTable.{at_level}
 
 -- Whether an item of this level is selected, and whether its children are visited; without levels both.
 abbrev pub answer_at : Option Levels → ℕ → Bool × Bool
-answer_at (Some levels) n = level_answer levels n
+answer_at (Some levels) n = at_level levels.end levels.start n
 answer_at None n = (true, true)
 
 -- The item itself, if its level is selected.

@@ -3,6 +3,7 @@
 pub mod Positions
 pub mod Selection
 pub mod Selected
+pub mod Calculation
 pub mod Alike
 pub mod Appends
 pub mod FilterCache
@@ -11,8 +12,10 @@ pub mod Jumps
 pub mod Tests
 pub mod Below
 pub mod Frames
+pub mod Fronts
 pub mod Parts
 pub mod Chain
+pub mod Documents
 pub mod Copying
 pub mod ChainText
 pub mod EntriesText
@@ -23,6 +26,7 @@ pub mod Compared
 pub mod Exists
 pub mod Search
 pub mod Steps
+pub mod ItemSteps
 pub mod Repeated
 pub mod Counted
 pub mod Limited

@@ -1,5 +1,5 @@
 -- The results of a selector's calls, by the list of their path.
-use Rattle.std.specs.Prelude.{◌≡◌, ℕ, Bool, List, [], ◌∷◌, Option, Some, None, Result, Vec, IsOkAnd, IsSomeAnd}
+use Rattle.std.specs.Prelude.{◌≡◌, ℕ, Bool, List, [], ◌∷◌, slice_get, Option, Some, None, Result, Vec, IsOkAnd, IsSomeAnd}
 use Rattle.std.specs.declared.alloc.Global.{Global}
 use Rattle.std.specs.List.{AllZip, Any}
 use Rattle.jsonb_doc.specs.declared.error.Error.{Error}
@@ -10,19 +10,10 @@ use Rattle.jsonb_doc.specs.Format.{Decodes}
 use Rattle.jsonb_doc.specs.Limits.{IsTooLarge}
 use Rattle.jsonb_doc.specs.Tree.{Tree, array, trees_of}
 use Rattle.jsonb_raw.specs.declared.owned.OwnedJsonb.{OwnedJsonb}
-use Rattle.jsonb_raw.specs.Documents.{raw_bytes}
 use Rattle.jsonb.specs.Compare.{Truth}
 use Rattle.jsonb.specs.Meaning.{Means, is_some_item, predicate}
 use Rattle.jsonb.specs.PathTree.{Step}
-use Rattle.jsonb.specs.declared.selector.Selector.{Selector}
 use Rattle.jsonb.specs.declared.selector.document.Mode.{Mode}
-
--- The bytes of a selector's root, and its mode.
-abbrev pub root_bytes : Selector → List ℕ
-root_bytes s = raw_bytes s.root
-
-abbrev pub mode_of : Selector → Mode
-mode_of s = s.mode
 
 -- The array of all items.
 abbrev pub array_of : List Tree → Tree
@@ -30,8 +21,7 @@ array_of ts = array (trees_of ts)
 
 -- The first item.
 abbrev pub first_item : List Tree → Option Tree
-first_item [] = None
-first_item (t ∷ ts) = Some t
+first_item ts = slice_get ts 0
 
 -- Nothing, the only item, or an array of several.
 abbrev pub single_or_array : List Tree → Option Tree

@@ -1,7 +1,7 @@
 -- The values of operands, for comparisons and arithmetic.
-use Rattle.std.specs.Prelude.{ℕ, pos, Bool, List, [], ◌∷◌, flat_map, Option, Some, None}
-use Rattle.jsonb_doc.specs.Number.{Number, int64, uint64, number_from}
-use Rattle.jsonb_doc.specs.Number as form
+use Rattle.std.specs.Prelude.{ℕ, Bool, List, [], ◌∷◌, flat_map, Option, Some, None}
+use Rattle.jsonb_doc.specs.Number.{Number}
+use Rattle.jsonb_doc.specs.View.{number_view}
 use Rattle.jsonb_doc.specs.Tree as tree
 use Rattle.jsonb_doc.specs.Tree.{Tree, elements}
 use Rattle.jsonb.specs.PathTree as path
@@ -34,10 +34,7 @@ values_of_item t = value_of_item t
 abbrev pub literal_value : Literal → Value
 literal_value path.null = null
 literal_value (path.boolean b) = boolean b
-literal_value (path.unsigned n) = number (number_from uint64 (pos n) 0)
-literal_value (path.signed z) = number (number_from int64 z 0)
-literal_value (path.decimal64 whole scale) = number (number_from form.decimal64 whole scale)
-literal_value (path.decimal128 whole scale) = number (number_from form.decimal128 whole scale)
+literal_value (path.number n) = number (number_view n)
 literal_value (path.string bytes) = text bytes
 literal_value (path.raw document) = container
 

@@ -7,9 +7,9 @@ ghost use Rattle.std.specs.Prelude.{◌≡◌, ◌↔◌, ℕ, ◌<◌, Bool, tr
 ghost use Rattle.std.specs.Prelude.{Option, Result, IfOk, Vec};
 ghost use Rattle.std.specs.List.{AllByRecursion};
 ghost use Rattle.std.specs.declared.alloc.Global.{Global};
-ghost use Rattle.jsonb.specs.PathDocuments.{has_document};
-ghost use Rattle.jsonb.specs.PathEquality.{SameLiteral, SameStep, SameExpression, SamePath};
-ghost use Rattle.jsonb.specs.PathGrammar.{json_path, spaced, spaced_entry, spaced_inner, path_with, path_step, atom_with, and_with, or_with, nested_or, expression};
+ghost use Rattle.jsonb.specs.PathDocuments.{HasNoDocument};
+ghost use Rattle.jsonb.specs.PathEquality.{SameLiteral, SameStepBut, SameExpressionBut, SamePath};
+ghost use Rattle.jsonb.specs.PathGrammar.{json_path, spaced, spaced_inner, path_with, path_step, atom_with, and_with, or_with, nested_or, expression, entry};
 ghost use Rattle.jsonb.specs.ItemSteps.{is_meant};
 ghost use Rattle.jsonb.specs.Meaning.{Means};
 ghost use Rattle.jsonb.specs.PathLaws.{SameButVariants, MeanTheSame};
@@ -63,7 +63,7 @@ pub fn rules_hold_without_bounds(text: &[u8])
 /// Each rule that the grammar repeats reads at least one byte, inside parentheses too. So a repetition continues until
 /// its rule fails.
 pub fn repeated_rules_read_some()
-    ensures entries { ReadsSome (behind (literal ",") spaced_entry) }
+    ensures entries { ReadsSome (behind (literal ",") (spaced entry)) }
     ensures operand_steps { ReadsSome spaced_inner }
     ensures path_steps { ReadsSome path_step }
     ensures nested_steps { (n : ℕ) → ReadsSome (path_with (nested_or n)) }
@@ -119,13 +119,14 @@ pub fn json_paths_are_equal_by_steps(left: &JsonPath, right: &JsonPath)
 /// Steps are equal by `==` if and only if they are of one variant with the same nodes, whether they borrow or own
 /// strings.
 pub fn steps_are_equal_by_parts(left: &Path, right: &Path)
-    ensures { (steps_equal.it left.now right.now ≡ true) ↔ SameStep (step_view left.now) (step_view right.now) }
+    ensures { (steps_equal.it left.now right.now ≡ true) ↔
+        SameStepBut SameLiteral (step_view left.now) (step_view right.now) }
 {}
 
 /// Expressions are equal by `==` if and only if they are of one variant with the same nodes.
 pub fn expressions_are_equal_by_parts(left: &Expr, right: &Expr)
     ensures { (expressions_equal.it left.now right.now ≡ true) ↔
-        SameExpression (expression_view left.now) (expression_view right.now) }
+        SameExpressionBut SameLiteral (expression_view left.now) (expression_view right.now) }
 {}
 
 /// Literals are equal by `==` if and only if they are equal by value.
@@ -180,5 +181,5 @@ pub fn read_json_path_equals_what_it_prints(text: &[u8])
 
 /// A parsed JSON path has no document among its literals.
 pub fn read_json_path_has_no_document(text: &[u8])
-    ensures { IfSome (json_path text.now) (λ p. has_document p ≡ false) }
+    ensures { IfSome (json_path text.now) HasNoDocument }
 {}

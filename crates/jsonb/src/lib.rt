@@ -21,9 +21,10 @@ pub use self::selector::{
 pub use jsonb_doc::{
     ArithmeticFault, ArrayBuilder, Child, ChildPositions, Date, Decimal64, Decimal128,
     DocumentBuilder, ElementIter, EntryPositions, Error, EventError, ExtensionValue, Interval,
-    Item, KeyIter, Number, ObjectBuilder, PairIter, Spot, SpotIter, Timestamp, TimestampTz, Value,
-    ValueIter, check, check_depth, child_spots, depth, elements, encode_item, field_spot, keys,
-    open_children, pairs, root_item, root_spot, spot_document, spot_item, to_value, values,
+    Item, KeyIter, Number, ObjectBuilder, PairIter, Spot, SpotIter, TextEvent, Timestamp,
+    TimestampTz, Value, ValueIter, check, check_depth, child_spots, depth, document_from_events,
+    elements, encode_item, field_spot, keys, open_children, pairs, root_item, root_spot,
+    spot_document, spot_item, to_value, values,
 };
 pub use jsonb_keypath as keypath;
 pub use jsonb_keypath::{

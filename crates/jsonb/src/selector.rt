@@ -8,7 +8,7 @@ ghost use Rattle.jsonb_doc.specs.Payload.{Form};
 ghost use Rattle.jsonb_doc.specs.Tree.{Tree};
 ghost use Rattle.jsonb.specs.Meaning.{is_some_item};
 ghost use Rattle.jsonb_doc.specs.Format.{Decodes};
-ghost use Rattle.jsonb_doc.specs.Answer.{IsDecodingError};
+ghost use Rattle.jsonb_doc.specs.Answer.{IsDecodingError, ◌or◌};
 ghost use Rattle.jsonb_doc.specs.AnyBytes.Roots.{HasReadableRoot};
 ghost use Rattle.jsonb.specs.PathViews.{path_view};
 ghost use Rattle.jsonb.specs.SelectionErrors.{IsSelectionError};
@@ -97,14 +97,16 @@ pub struct Selector<'a> {
 impl<'a> Selector<'a> {
     ghost use Rattle.std.specs.Prelude.{◌≡◌, Ok, None, true, false, IfErr, OnOk};
     ghost use Rattle.jsonb_raw.specs.Documents.{raw_bytes};
+    ghost use Rattle.jsonb_doc.specs.Answer.{◌or◌};
+    ghost use Rattle.jsonb_doc.specs.declared.error.Error.TheVariants.{TooLarge};
     ghost use Rattle.jsonb_doc.specs.Format.{Decodes};
     ghost use Rattle.jsonb.specs.FoundItems.{IsItemOf};
     ghost use Rattle.jsonb.specs.PathTree.{is_predicate};
     ghost use Rattle.jsonb.specs.PathViews.{path_view};
-    ghost use Rattle.jsonb.specs.SelectionErrors.{IsSelectionError, IsDocumentError};
+    ghost use Rattle.jsonb.specs.SelectionErrors.{IsSelectionError};
     ghost use Rattle.jsonb_doc.specs.AnyBytes.Roots.{HasReadableRoot};
     ghost use Rattle.jsonb.specs.FirstItems.{FindsFirst};
-    ghost use Rattle.jsonb.specs.SelectorAnswers.{root_bytes, mode_of, first_item, single_or_array, ByMeanings, AreAll, IsArrayOf, IsPicked, IsFound, IsTruthOf};
+    ghost use Rattle.jsonb.specs.SelectorAnswers.{first_item, single_or_array, ByMeanings, AreAll, IsArrayOf, IsPicked, IsFound, IsTruthOf};
     ghost use Rattle.jsonb.specs.declared.selector.document.Mode.TheVariants.{Lax, Strict};
 
     /// Creates a selector in lax mode: a step that does not apply to an item selects nothing of it, and `[*]` selects
@@ -124,8 +126,8 @@ impl<'a> Selector<'a> {
     /// let is_cheap = selector.predicate_match(&cheap)?;
     /// ```
     pub fn new(alloc: Global, root: RawJsonb<'a>) -> Selector<'a>
-        ensures root { root_bytes result ≡ raw_bytes root.entry }
-        ensures mode { mode_of result ≡ Lax }
+        ensures root { raw_bytes result.root ≡ raw_bytes root.entry }
+        ensures mode { result.mode ≡ Lax }
     {
         Selector {
             alloc,
@@ -151,8 +153,8 @@ impl<'a> Selector<'a> {
     /// selector.select_array(&path)
     /// ```
     pub fn new_strict(alloc: Global, root: RawJsonb<'a>) -> Selector<'a>
-        ensures root { root_bytes result ≡ raw_bytes root.entry }
-        ensures mode { mode_of result ≡ Strict }
+        ensures root { raw_bytes result.root ≡ raw_bytes root.entry }
+        ensures mode { result.mode ≡ Strict }
     {
         Selector {
             alloc,
@@ -181,10 +183,10 @@ impl<'a> Selector<'a> {
     /// ```
     pub fn select_values(&mut self, path: &JsonPath<'_>) -> Result<Vec<OwnedJsonb>, Error>
         ensures kept { self.new ≡ self.old }
-        ensures values { ByMeanings (mode_of self.old) (root_bytes self.old) (path_view path.now)
+        ensures values { ByMeanings self.old.mode (raw_bytes self.old.root) (path_view path.now)
             (AreAll Decodes) result }
-        ensures errors { IfErr result (IsDocumentError (mode_of self.old)) }
-        ensures readable { OnOk result (HasReadableRoot (root_bytes self.old)) }
+        ensures errors { IfErr result (IsSelectionError self.old.mode or TooLarge) }
+        ensures readable { OnOk result (HasReadableRoot (raw_bytes self.old.root)) }
     {
         let (document, selected) = selected_at(self.alloc, self.mode, self.root, path)?;
         documents(self.alloc, document, &selected)
@@ -207,10 +209,10 @@ impl<'a> Selector<'a> {
     /// ```
     pub fn find_values(&mut self, path: &JsonPath<'_>) -> Result<Vec<FoundItem>, Error>
         ensures kept { self.new ≡ self.old }
-        ensures items { ByMeanings (mode_of self.old) (root_bytes self.old) (path_view path.now)
-            (AreAll (IsItemOf (root_bytes self.old))) result }
-        ensures errors { IfErr result (IsDocumentError (mode_of self.old)) }
-        ensures readable { OnOk result (HasReadableRoot (root_bytes self.old)) }
+        ensures items { ByMeanings self.old.mode (raw_bytes self.old.root) (path_view path.now)
+            (AreAll (IsItemOf (raw_bytes self.old.root))) result }
+        ensures errors { IfErr result (IsSelectionError self.old.mode or TooLarge) }
+        ensures readable { OnOk result (HasReadableRoot (raw_bytes self.old.root)) }
     {
         let (document, selected) = selected_at(self.alloc, self.mode, self.root, path)?;
         found_items(self.alloc, document, &selected)
@@ -235,9 +237,9 @@ impl<'a> Selector<'a> {
     /// ```
     pub fn select_array(&mut self, path: &JsonPath<'_>) -> Result<OwnedJsonb, Error>
         ensures kept { self.new ≡ self.old }
-        ensures array { ByMeanings (mode_of self.old) (root_bytes self.old) (path_view path.now) IsArrayOf result }
-        ensures errors { IfErr result (IsDocumentError (mode_of self.old)) }
-        ensures readable { OnOk result (HasReadableRoot (root_bytes self.old)) }
+        ensures array { ByMeanings self.old.mode (raw_bytes self.old.root) (path_view path.now) IsArrayOf result }
+        ensures errors { IfErr result (IsSelectionError self.old.mode or TooLarge) }
+        ensures readable { OnOk result (HasReadableRoot (raw_bytes self.old.root)) }
     {
         let (document, selected) = selected_at(self.alloc, self.mode, self.root, path)?;
         array_document(self.alloc, document, &selected)
@@ -263,10 +265,10 @@ impl<'a> Selector<'a> {
     /// ```
     pub fn select_first(&mut self, path: &JsonPath<'_>) -> Result<Option<OwnedJsonb>, Error>
         ensures kept { self.new ≡ self.old }
-        ensures first { ByMeanings (mode_of self.old) (root_bytes self.old) (path_view path.now)
+        ensures first { ByMeanings self.old.mode (raw_bytes self.old.root) (path_view path.now)
             (IsPicked first_item) result }
-        ensures errors { IfErr result (IsDocumentError (mode_of self.old)) }
-        ensures readable { OnOk result (HasReadableRoot (root_bytes self.old)) }
+        ensures errors { IfErr result (IsSelectionError self.old.mode or TooLarge) }
+        ensures readable { OnOk result (HasReadableRoot (raw_bytes self.old.root)) }
     {
         let bytes = self.root.as_bytes();
         let document = at_root(bytes)?;
@@ -294,10 +296,10 @@ impl<'a> Selector<'a> {
     /// ```
     pub fn find_first(&mut self, path: &JsonPath<'_>) -> Result<Option<FirstItem<Spot>>, Error>
         ensures kept { self.new ≡ self.old }
-        ensures first { ByMeanings (mode_of self.old) (root_bytes self.old) (path_view path.now)
-            (FindsFirst (root_bytes self.old) (path_view path.now)) result }
-        ensures errors { IfErr result (IsSelectionError (mode_of self.old)) }
-        ensures readable { OnOk result (HasReadableRoot (root_bytes self.old)) }
+        ensures first { ByMeanings self.old.mode (raw_bytes self.old.root) (path_view path.now)
+            (FindsFirst (raw_bytes self.old.root) (path_view path.now)) result }
+        ensures errors { IfErr result (IsSelectionError self.old.mode) }
+        ensures readable { OnOk result (HasReadableRoot (raw_bytes self.old.root)) }
     {
         let bytes = self.root.as_bytes();
         let document = at_root(bytes)?;
@@ -326,10 +328,10 @@ impl<'a> Selector<'a> {
     /// ```
     pub fn select_value(&mut self, path: &JsonPath<'_>) -> Result<Option<OwnedJsonb>, Error>
         ensures kept { self.new ≡ self.old }
-        ensures value { ByMeanings (mode_of self.old) (root_bytes self.old) (path_view path.now)
+        ensures value { ByMeanings self.old.mode (raw_bytes self.old.root) (path_view path.now)
             (IsPicked single_or_array) result }
-        ensures errors { IfErr result (IsDocumentError (mode_of self.old)) }
-        ensures readable { OnOk result (HasReadableRoot (root_bytes self.old)) }
+        ensures errors { IfErr result (IsSelectionError self.old.mode or TooLarge) }
+        ensures readable { OnOk result (HasReadableRoot (raw_bytes self.old.root)) }
     {
         let (document, selected) = selected_at(self.alloc, self.mode, self.root, path)?;
         value_document(self.alloc, document, &selected)
@@ -357,9 +359,9 @@ impl<'a> Selector<'a> {
     /// ```
     pub fn exists(&mut self, path: &JsonPath<'_>) -> Result<bool, Error>
         ensures kept { self.new ≡ self.old }
-        ensures exists { ByMeanings (mode_of self.old) (root_bytes self.old) (path_view path.now) IsFound result }
-        ensures errors { IfErr result (IsSelectionError (mode_of self.old)) }
-        ensures readable { OnOk result (HasReadableRoot (root_bytes self.old)) }
+        ensures exists { ByMeanings self.old.mode (raw_bytes self.old.root) (path_view path.now) IsFound result }
+        ensures errors { IfErr result (IsSelectionError self.old.mode) }
+        ensures readable { OnOk result (HasReadableRoot (raw_bytes self.old.root)) }
     {
         let document = at_root(self.root.as_bytes())?;
         let context = context_of(self.alloc, self.mode, document);
@@ -388,10 +390,10 @@ impl<'a> Selector<'a> {
     pub fn predicate_match(&mut self, path: &JsonPath<'_>) -> Result<Option<bool>, Error>
         ensures kept { self.new ≡ self.old }
         ensures other { is_predicate (path_view path.now) ≡ false → result ≡ Ok None }
-        ensures truth { IsTruthOf (mode_of self.old) (path_view path.now) (root_bytes self.old) result }
-        ensures errors { IfErr result (IsSelectionError (mode_of self.old)) }
+        ensures truth { IsTruthOf self.old.mode (path_view path.now) (raw_bytes self.old.root) result }
+        ensures errors { IfErr result (IsSelectionError self.old.mode) }
         ensures readable { is_predicate (path_view path.now) ≡ true
-            → OnOk result (HasReadableRoot (root_bytes self.old)) }
+            → OnOk result (HasReadableRoot (raw_bytes self.old.root)) }
     {
         match only_expression(&path.paths) {
             Some(e) => {

@@ -1,6 +1,6 @@
 //! A document that is built of events, as a reader of another format does.
 
-use jsonb::{DocumentBuilder, EventError, Item};
+use jsonb::{DocumentBuilder, EventError, Item, TextEvent, document_from_events};
 use std::alloc::Global;
 
 /// Returns the object of a name, its tags, and a document.
@@ -26,6 +26,35 @@ pub fn entry(
     builder.finish()
 }
 
+const TRUE: u8 = 2;
+
+const KEY: u8 = 8;
+
+const OBJECT: u8 = 10;
+
+const END: u8 = 11;
+
+/// Returns an event of this kind, of a key or a string with its number of bytes.
+fn event(kind: u8, low: u64) -> TextEvent {
+    TextEvent {
+        kind,
+        low,
+        high: 0,
+        scale: 0,
+    }
+}
+
+/// Returns the object that says that all is well.
+pub fn well(alloc: Global) -> Result<Vec<u8>, EventError> {
+    let events = [
+        event(OBJECT, 0),
+        event(KEY, 2),
+        event(TRUE, 0),
+        event(END, 0),
+    ];
+    document_from_events(alloc, "ok", &events, false)
+}
+
 #[cfg(test)]
 mod tests {
     use super::*;
@@ -47,6 +76,14 @@ mod tests {
             damaged.err(),
             Some(EventError::Failed(Error::InvalidJsonb))
         );
+        Ok(())
+    }
+
+    #[test]
+    fn a_list_of_events(rt: HostRuntime) -> Result<(), Fail> {
+        let made = well(rt.alloc());
+        let wanted: &[u8] = b"\x40\0\0\x01\x10\0\0\x02\x40\0\0\0ok";
+        assert!(rt; matches!(&made, Ok(document) if document.as_slice() == wanted));
         Ok(())
     }
 }

@@ -1,8 +1,9 @@
-//! The builder of documents from events: after an event it has one more value or is as before; `finish`.
+//! The builder of documents from events: after an event it has one more value or is as before; `finish`. The document of a
+//! list of events.
 
 use crate::documents::*;
 use crate::mark::tell;
-use jsonb::{DocumentBuilder, Error, EventError, Item, Number};
+use jsonb::{DocumentBuilder, Error, EventError, Item, Number, TextEvent, document_from_events};
 use std::alloc::Global;
 use std::io;
 
@@ -34,7 +35,9 @@ pub fn events(rt: &HostRuntime) -> io::Result<()> {
     told(rt, "DocumentBuilder::document", document(rt))?;
     told(rt, "DocumentBuilder::end of an array", end_of_array(rt))?;
     told(rt, "DocumentBuilder::end of an object", end_of_object(rt))?;
-    told(rt, "DocumentBuilder::finish", finish(rt))
+    told(rt, "DocumentBuilder::finish", finish(rt))?;
+    told(rt, "document_from_events", list(rt))?;
+    told(rt, "document_from_events of nested arrays", nested_list(rt))
 }
 
 /// Reports a case. An event that cannot come next is wrong.
@@ -183,4 +186,41 @@ fn finish(rt: &HostRuntime) -> Result<bool, EventError> {
     let document = marked!(rt, builder.finish());
     let is_kept = is_taken(&mut builder, Ok(()), TEN_AND_TWENTY, TEN_AND_TWENTY)?;
     Ok(document?.as_slice() == TEN_AND_TWENTY && is_kept)
+}
+
+/// An event of this kind, with a length or a natural number.
+fn listed(kind: u8, low: u64) -> TextEvent {
+    TextEvent {
+        low,
+        high: 0,
+        kind,
+        scale: 0,
+    }
+}
+
+/// The members are sorted.
+fn list(rt: &HostRuntime) -> Result<bool, EventError> {
+    let events = [
+        listed(10, 0),
+        listed(8, 1),
+        listed(4, 3),
+        listed(8, 1),
+        listed(4, 1),
+        listed(11, 0),
+    ];
+    let document = marked!(rt, document_from_events(rt.alloc(), "ca", &events, false));
+    Ok(document?.as_slice() == LETTERS)
+}
+
+fn nested_list(rt: &HostRuntime) -> Result<bool, EventError> {
+    let events = [
+        listed(9, 0),
+        listed(9, 0),
+        listed(4, 10),
+        listed(4, 20),
+        listed(11, 0),
+        listed(11, 0),
+    ];
+    let document = marked!(rt, document_from_events(rt.alloc(), "", &events, false));
+    Ok(document?.as_slice() == WITHIN)
 }

@@ -3,7 +3,7 @@ use Rattle.std.specs.Prelude.{◌≡◌, ◌⊎◌, ℕ, ◌+◌, Bool, true, fa
 use Rattle.std.specs.Slice.Iter.{iter_rest}
 use Rattle.jsonb_doc.specs.declared.error.Error.{Error}
 use Rattle.jsonb_doc.specs.declared.error.Error.TheVariants.{OutOfMemory, InvalidJsonPath}
-use Rattle.jsonb.specs.PathDocuments.{step_has_document, expression_has_document, has_document}
+use Rattle.jsonb.specs.Private.Documents.{step_has_document, expression_has_document, has_document}
 use Rattle.jsonb.specs.PathTree.{Step, filter, whole_expression, Steps, Expression, paths, value, binary, unary, exists, steps_of}
 use Rattle.jsonb.specs.PathViews.{literal_view, step_view, steps_view, expression_view}
 use Rattle.jsonb.specs.Private.Parts.{steps_parts, parts}

@@ -2,14 +2,14 @@
 use Rattle.std.specs.Prelude.{Bool, List}
 use Rattle.jsonb_keypath.specs.Rules.{Rule, ◌>>◌, literal, list_of}
 use Rattle.jsonb.specs.PathTree.{Entry, Expression}
-use Rattle.jsonb.specs.PathGrammar.{spaced, spaced_entry, atom_with, and_with}
+use Rattle.jsonb.specs.PathGrammar.{spaced, atom_with, and_with, entry}
 
 -- a comma, and the subscript after it
 abbrev pub another_entry : Rule Entry
-another_entry = literal "," >> spaced_entry
+another_entry = literal "," >> spaced entry
 
 abbrev pub entry_list : Rule (List Entry)
-entry_list = list_of spaced_entry (literal ",")
+entry_list = list_of (spaced entry) (literal ",")
 
 -- `&&`, and the condition after it
 abbrev pub another_atom : (Bool → Rule Expression) → Bool → Rule Expression

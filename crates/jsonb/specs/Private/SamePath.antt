@@ -11,7 +11,7 @@ use Rattle.jsonb_doc.specs.View.{number_parts}
 use Rattle.jsonb.specs.declared.path.PathValue.{PathValue}
 use Rattle.jsonb.specs.declared.path.PathValue.TheVariants.{Null, Boolean, String}
 use Rattle.jsonb.specs.declared.path.PathValue.TheVariants as PathValue'
-use Rattle.jsonb.specs.PathEquality.{literal_order}
+use Rattle.jsonb.specs.PathEquality.{literal_order, SameLiteral, SameStepBut, SameExpressionBut}
 use Rattle.jsonb.specs.PathText.{operator_text, sign_text}
 use Rattle.jsonb.specs.PathTree.{Place, from_front, from_last, Entry, single, slice, LevelEnd, level, last_level, Levels, Literal, BinaryOp, UnaryOp, Step, root, current, dot_wildcard, recursive_dot_wildcard, bracket_wildcard, dot_field, colon_field, object_field, array_indices, filter, whole_expression, Steps, no_steps, step, Expression, paths, value, binary, unary, exists}
 
@@ -50,6 +50,12 @@ path_value_order (Boolean b) (Boolean c) = Some (bool_cmp b c)
 path_value_order (PathValue'.Number m) (PathValue'.Number n) = Some (number_cmp (number_parts m) (number_parts n))
 path_value_order (String s) (String t) = Some (slice_cmp nat_cmp (cow_str_bytes s) (cow_str_bytes t))
 path_value_order _ _ = None
+
+abbrev pub SameStep : Step → Step → Type 0
+SameStep s t = SameStepBut SameLiteral s t
+
+abbrev pub SameExpression : Expression → Expression → Type 0
+SameExpression e f = SameExpressionBut SameLiteral e f
 
 abbrev mutual
   pub is_same_step : Step → Step → Bool

@@ -1,6 +1,7 @@
 -- Paths of the same parts: a symmetric and transitive relation.
 use Rattle.std.proofs.Common.{List, refl, sym, ◌∙◌, subst}
-use Rattle.jsonb.specs.PathEquality.{SameLiteral, SameStep, SameStepsBut, SameExpression, SamePath}
+use Rattle.jsonb.specs.PathEquality.{SameLiteral, SameStepsBut, SamePath}
+use Rattle.jsonb.specs.Private.SamePath.{SameStep, SameExpression}
 use Rattle.jsonb.specs.PathTree.{Literal, Step, filter, whole_expression, Steps, no_steps, step, Expression, paths, value, binary, unary, exists, steps_of}
 use Rattle.jsonb.specs.Proofs.PathOrder.{literal-same, is_same_literal_laws}
 
@@ -48,7 +49,8 @@ mutual
   step-transitive (whole_expression e) t u h k = absurd (cc)
   step-transitive s t u h k = subst (λ x. SameStep x u) (sym h) k
 
-  steps-transitive : (ss ts us : Steps) → SameStepsBut SameLiteral ss ts → SameStepsBut SameLiteral ts us → SameStepsBut SameLiteral ss us
+  steps-transitive : (ss ts us : Steps) → SameStepsBut SameLiteral ss ts → SameStepsBut SameLiteral ts us
+      → SameStepsBut SameLiteral ss us
   steps-transitive no_steps no_steps us h k = k
   steps-transitive (step s ss) (step t ts) (step u us) h k = (step-transitive s t u h.0 k.0, steps-transitive ss ts us h.1 k.1)
   steps-transitive (step s ss) (step t ts) no_steps h k = absurd k

@@ -8,12 +8,12 @@ use Rattle.std.proofs.Common.{refl, sym, ◌∙◌, ap}
 use Rattle.std.proofs.lemmas.Bool.Decides.{Decides-eqb, Decides-int_eq, Decides-and}
 use Rattle.std.proofs.lemmas.Option.{same_Some}
 use Rattle.std.proofs.lemmas.Slice.Eq.{slice_eq-Decides}
-use Rattle.jsonb.specs.PathEquality.{SameLiteral, SameStep, SameStepsBut, SameExpression}
+use Rattle.jsonb.specs.PathEquality.{SameLiteral, SameStepsBut}
 use Rattle.jsonb.specs.PathText.{operator_text}
 use Rattle.jsonb.specs.PathTree.{Place, from_front, from_last, Entry, single, slice, LevelEnd, level, last_level, Levels, BinaryOp, and_op, or_op, eq, not_eq, lt, lte, gt, gte, starts_with_op, add, subtract, multiply, divide, modulo, UnaryOp, plus, minus, Step, root, current, dot_wildcard, recursive_dot_wildcard, bracket_wildcard, dot_field, colon_field, object_field, array_indices, filter, whole_expression, Steps, no_steps, step, Expression, paths, value, binary, unary, exists}
 use Rattle.jsonb.specs.Proofs.PathOrder.{literal-same}
 use Rattle.jsonb.specs.Proofs.SameParts.{step-symmetric, expression-symmetric, step-transitive, expression-transitive}
-use Rattle.jsonb.specs.Private.SamePath.{is_same_place, is_same_entry, is_same_end, is_same_level, is_same_operator, is_same_sign, is_same_step, are_same_steps, is_same_expression}
+use Rattle.jsonb.specs.Private.SamePath.{is_same_place, is_same_entry, is_same_end, is_same_level, is_same_operator, is_same_sign, is_same_step, are_same_steps, is_same_expression, SameStep, SameExpression}
 
 -- a constructor around both sides
 around : {A B : Type 0} (f : A → B) (x y : A) (b : Bool) → (f x ≡ f y → x ≡ y) → Decides b (x ≡ y) → Decides b (f x ≡ f y)

@@ -3,7 +3,8 @@
 ghost use Rattle.std.specs.Prelude.{◌≡◌, ◌<◌, ◌≤◌, length, true, Some, option_map, IfOk, IfSome, MatchResult};
 ghost use Rattle.jsonb_doc.specs.Answer.{IsOutOfMemory};
 ghost use Rattle.jsonb_keypath.specs.ErrorPosition.{perhaps};
-ghost use Rattle.jsonb.specs.PathErrorPosition.{operation_front, group_front, exists_front, condition_front, logical_operator, conditions_front, opened_filter, steps_front, json_path_front, json_path_error_position as spec_json_path_error_position};
+ghost use Rattle.jsonb.specs.PathErrorPosition.{condition_front, conditions_front, steps_front, json_path_front, json_path_error_position as spec_json_path_error_position};
+ghost use Rattle.jsonb.specs.Private.Fronts.{operation_front, group_front, exists_front, logical_operator, opened_filter};
 
 use super::expression::expression_at;
 use super::opening::filter_inside;
@@ -83,7 +84,7 @@ fn steps_front_at(alloc: Global, input: &[u8]) -> Front<'_>
     }
 }
 
-#[tactic(auto, unfolding(crate::specs::PathErrorPosition::opened_filter, crate::specs::Private::Frames::filter_front))]
+#[tactic(auto, unfolding(crate::specs::Private::Frames::filter_front))]
 fn opened_filter_at(input: &[u8]) -> Option<&[u8]>
     ensures value { option_map (λ rest. (tt, rest.now)) result ≡ opened_filter input.now }
     ensures shrinks { IfSome result (λ rest. length rest.now < length input.now) }
@@ -107,7 +108,6 @@ fn conditions_front_at(alloc: Global, is_in_filter: bool, input: &[u8]) -> Front
     }
 }
 
-#[tactic(auto, unfolding(crate::specs::PathErrorPosition::logical_operator))]
 fn logical_operator_at(input: &[u8]) -> Option<&[u8]>
     ensures value { option_map (λ rest. (tt, rest.now)) result ≡ logical_operator input.now }
     ensures shrinks { IfSome result (λ rest. length rest.now ≤ length input.now) }
@@ -137,7 +137,6 @@ fn condition_front_at(alloc: Global, is_in_filter: bool, input: &[u8]) -> Front<
     }
 }
 
-#[tactic(auto, unfolding(crate::specs::PathErrorPosition::operation_front))]
 fn operation_front_at(
     alloc: Global,
     is_in_filter: bool,
@@ -156,7 +155,6 @@ fn operation_front_at(
     }
 }
 
-#[tactic(auto, unfolding(crate::specs::PathErrorPosition::group_front))]
 fn group_front_at(
     alloc: Global,
     is_in_filter: bool,
@@ -176,7 +174,6 @@ fn group_front_at(
     }
 }
 
-#[tactic(auto, unfolding(crate::specs::PathErrorPosition::exists_front))]
 fn exists_front_at(alloc: Global, input: &[u8]) -> Front<'_>
     ensures value { IfOk result (λ rest. perhaps exists_front input.now ≡ Some (tt, rest.now)) }
     ensures shrinks { IfOk result (λ rest. length rest.now ≤ length input.now) }

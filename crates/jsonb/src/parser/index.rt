@@ -1,7 +1,7 @@
 //! Subscripts: positions in an array, and slices.
 
 ghost use Rattle.std.specs.Prelude.{◌≡◌, map, IfOk};
-ghost use Rattle.jsonb.specs.PathGrammar.{negated, place, entry, entries, spaced_entry};
+ghost use Rattle.jsonb.specs.PathGrammar.{negated, place, entry, entries, spaced};
 ghost use Rattle.jsonb.specs.Private.Repeated.{another_entry, entry_list};
 ghost use Rattle.jsonb_keypath.specs.Views.{read_as, ConsumesInput};
 
@@ -55,9 +55,8 @@ fn entry_at(input: &[u8]) -> Option<(ArrayIndex, &[u8])>
     Some((ArrayIndex::Index(first), rest))
 }
 
-#[tactic(auto, unfolding(crate::specs::PathGrammar::spaced_entry))]
 fn spaced_entry_at(input: &[u8]) -> Option<(ArrayIndex, &[u8])>
-    ensures value { read_as (λ x. x) result ≡ spaced_entry input.now }
+    ensures value { read_as (λ x. x) result ≡ spaced entry input.now }
     ensures shrinks { ConsumesInput input.now result }
 {
     let (found, rest) = entry_at(skip_space(input))?;

@@ -2,7 +2,7 @@
 
 ghost use Rattle.std.specs.Prelude.{◌≡◌, ◌+◌, ◌≤◌, false, IfOk, IfErr};
 ghost use Rattle.jsonb_doc.specs.Answer.{IsOutOfMemory};
-ghost use Rattle.jsonb.specs.PathDocuments.{expression_has_document};
+ghost use Rattle.jsonb.specs.Private.Documents.{expression_has_document};
 ghost use Rattle.jsonb.specs.PathTree.{steps_of};
 ghost use Rattle.jsonb.specs.PathViews.{step_view, steps_view, expression_view};
 ghost use Rattle.jsonb.specs.Private.Copying.{listed, held, held_view, so_far_view, so_far_parts, so_far_has_document, leaf_view, leaf_parts, leaf_has_document, framed, waiting, have_document, next_view, next_parts, next_has_document, copied_view, copied_parts, copied_has_document, progress_view, progress_parts, progress_has_document};

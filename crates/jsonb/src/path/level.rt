@@ -1,7 +1,7 @@
 //! The effect of a recursive step at a level.
 
 ghost use Rattle.std.specs.Prelude.{◌≡◌};
-ghost use Rattle.jsonb.specs.LevelTable.{level_answer};
+ghost use Rattle.jsonb.specs.LevelTable.{at_level};
 
 use super::{RecursiveLevel, RecursiveLevelEnd};
 
@@ -23,7 +23,7 @@ impl RecursiveLevel {
     /// is_selected
     /// ```
     pub fn check_recursive_level(&self, level: u8) -> (bool, bool)
-        ensures { result ≡ level_answer self.now level }
+        ensures { result ≡ at_level self.now.end self.now.start level }
     {
         let is_below = level < self.start;
         match self.end {

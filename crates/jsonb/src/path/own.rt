@@ -1,11 +1,13 @@
 //! `to_owned`: paths and their nodes with owned strings, which outlive the text that was parsed.
 
-ghost use Rattle.std.specs.Prelude.{◌≡◌, ◌<◌, true, false, IfOk, IfErr, OnOk};
+ghost use Rattle.std.specs.Prelude.{◌≡◌, ◌<◌, [], ◌∷◌, true, false, IfOk, IfErr, OnOk};
 ghost use Rattle.std.specs.Cow.{cow_str_bytes};
 ghost use Rattle.jsonb_doc.specs.Answer.{IsOutOfMemory, ◌or◌when◌};
 ghost use Rattle.jsonb_doc.specs.declared.error.Error.TheVariants.{InvalidJsonPath};
-ghost use Rattle.jsonb.specs.PathDocuments.{is_document, step_has_document, expression_has_document, has_document};
+ghost use Rattle.jsonb.specs.PathDocuments.{is_document, HasNoDocument};
+ghost use Rattle.jsonb.specs.Private.Documents.{step_has_document, expression_has_document, has_document};
 ghost use Rattle.jsonb.specs.Private.Copying.{IsOwningError, leaf_view, leaf_parts, leaf_has_document, so_far_view, so_far_parts, so_far_has_document, copied_view, copied_parts, copied_has_document, step_copy_view, step_copy_has_document};
+ghost use Rattle.jsonb.specs.PathTree.{whole_expression};
 ghost use Rattle.jsonb.specs.PathViews.{literal_view, step_view, steps_view, expression_view, path_view};
 
 use super::copying::{
@@ -37,9 +39,9 @@ impl JsonPath<'_> {
     /// ```
     pub fn to_owned(&self, alloc: Global) -> Result<JsonPath<'static>, Error>
         ensures copy { IfOk result (λ copy. path_view copy ≡ path_view self.now) }
-        ensures whole { OnOk result (has_document (path_view self.now) ≡ false) }
+        ensures whole { OnOk result (HasNoDocument (path_view self.now)) }
         ensures errors { IfErr result
-            (IsOutOfMemory or InvalidJsonPath when (has_document (path_view self.now) ≡ true)) }
+            (IsOutOfMemory or InvalidJsonPath when (¬ HasNoDocument (path_view self.now))) }
     {
         let paths = owned_steps(&self.paths, alloc)?;
         Ok(JsonPath { paths })
@@ -67,9 +69,9 @@ impl Path<'_> {
     /// ```
     pub fn to_owned(&self, alloc: Global) -> Result<Path<'static>, Error>
         ensures copy { IfOk result (λ copy. step_view copy ≡ step_view self.now) }
-        ensures whole { OnOk result (step_has_document (step_view self.now) ≡ false) }
+        ensures whole { OnOk result (HasNoDocument (step_view self.now ∷ [])) }
         ensures errors { IfErr result
-            (IsOutOfMemory or InvalidJsonPath when (step_has_document (step_view self.now) ≡ true)) }
+            (IsOutOfMemory or InvalidJsonPath when (¬ HasNoDocument (step_view self.now ∷ []))) }
     {
         match owned_step(self, alloc)? {
             StepCopy::Whole(copy) => Ok(copy),
@@ -100,9 +102,9 @@ impl Expr<'_> {
     /// ```
     pub fn to_owned(&self, alloc: Global) -> Result<Expr<'static>, Error>
         ensures copy { IfOk result (λ copy. expression_view copy ≡ expression_view self.now) }
-        ensures whole { OnOk result (expression_has_document (expression_view self.now) ≡ false) }
-        ensures errors { IfErr result
-            (IsOutOfMemory or InvalidJsonPath when (expression_has_document (expression_view self.now) ≡ true)) }
+        ensures whole { OnOk result (HasNoDocument (whole_expression (expression_view self.now) ∷ [])) }
+        ensures errors { IfErr result (IsOutOfMemory or InvalidJsonPath
+            when (¬ HasNoDocument (whole_expression (expression_view self.now) ∷ []))) }
     {
         let mut reached = first_leaf(alloc, self, Vec::new(alloc))?;
         loop {

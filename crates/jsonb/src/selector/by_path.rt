@@ -4,9 +4,11 @@ ghost use Rattle.std.specs.Prelude.{◌≡◌, ℕ, true, false, List, None, Ok,
 ghost use Rattle.jsonb_raw.specs.Documents.{raw_bytes};
 ghost use Rattle.jsonb.specs.PathTree.{is_predicate};
 ghost use Rattle.jsonb.specs.PathViews.{path_view};
+ghost use Rattle.jsonb_doc.specs.Answer.{◌or◌};
+ghost use Rattle.jsonb_doc.specs.declared.error.Error.TheVariants.{TooLarge};
 ghost use Rattle.jsonb_doc.specs.Format.{Decodes};
 ghost use Rattle.jsonb_doc.specs.AnyBytes.Roots.{HasReadableRoot};
-ghost use Rattle.jsonb.specs.SelectionErrors.{IsSelectionError, IsDocumentError};
+ghost use Rattle.jsonb.specs.SelectionErrors.{IsSelectionError};
 ghost use Rattle.jsonb.specs.SelectorAnswers.{first_item, single_or_array, ByMeanings, AreAll, IsArrayOf, IsPicked, IsFound, IsTruthOf};
 ghost use Rattle.jsonb.specs.declared.selector.document.Mode.TheVariants.{Lax};
 
@@ -39,7 +41,7 @@ pub trait SelectByPath<'a> {
     /// ```
     fn select_by_path(&self, alloc: Global, path: &JsonPath<'_>) -> Result<Vec<OwnedJsonb>, Error>
         ensures values { ByMeanings Lax (document self.now) (path_view path.now) (AreAll Decodes) result }
-        ensures errors { IfErr result (IsDocumentError Lax) }
+        ensures errors { IfErr result (IsSelectionError Lax or TooLarge) }
         ensures readable { OnOk result (HasReadableRoot (document self.now)) };
 
     /// Returns an array of the items that the path selects.
@@ -60,7 +62,7 @@ pub trait SelectByPath<'a> {
     /// ```
     fn select_array_by_path(&self, alloc: Global, path: &JsonPath<'_>) -> Result<OwnedJsonb, Error>
         ensures array { ByMeanings Lax (document self.now) (path_view path.now) IsArrayOf result }
-        ensures errors { IfErr result (IsDocumentError Lax) }
+        ensures errors { IfErr result (IsSelectionError Lax or TooLarge) }
         ensures readable { OnOk result (HasReadableRoot (document self.now)) };
 
     /// Returns the first item that the path selects, or `None`.
@@ -85,7 +87,7 @@ pub trait SelectByPath<'a> {
         path: &JsonPath<'_>,
     ) -> Result<Option<OwnedJsonb>, Error>
         ensures first { ByMeanings Lax (document self.now) (path_view path.now) (IsPicked first_item) result }
-        ensures errors { IfErr result (IsDocumentError Lax) }
+        ensures errors { IfErr result (IsSelectionError Lax or TooLarge) }
         ensures readable { OnOk result (HasReadableRoot (document self.now)) };
 
     /// Returns the item that the path selects if it is the only one, an array if there are several, or `None`.
@@ -111,7 +113,7 @@ pub trait SelectByPath<'a> {
         path: &JsonPath<'_>,
     ) -> Result<Option<OwnedJsonb>, Error>
         ensures value { ByMeanings Lax (document self.now) (path_view path.now) (IsPicked single_or_array) result }
-        ensures errors { IfErr result (IsDocumentError Lax) }
+        ensures errors { IfErr result (IsSelectionError Lax or TooLarge) }
         ensures readable { OnOk result (HasReadableRoot (document self.now)) };
 
     /// Returns `true` if the path selects an item.

@@ -138,3 +138,6 @@ fn items_truth(comparison: &MemberCompared<'_, '_>, bytes: &[u8], items: &[Spot]
     }
     Ok(Some(false))
 }
+
+#[cfg(test)]
+mod tests;

@@ -68,20 +68,21 @@ pub struct LimitedSelector<'a> {
 
 impl<'a> LimitedSelector<'a> {
     ghost use Rattle.std.specs.Prelude.{◌≡◌, ◌↔◌, ◌<◌, ◌≤◌, Ok, None, true, false, IfOk, IfErr, OnOk, IsOkAnd, IsErrAnd, IsErrOf};
-    ghost use Rattle.jsonb_doc.specs.Answer.{IsOutOfMemory};
+    ghost use Rattle.jsonb_doc.specs.Answer.{IsOutOfMemory, ◌or◌};
     ghost use Rattle.jsonb_doc.specs.Format.{Decodes};
     ghost use Rattle.jsonb_doc.specs.AnyBytes.Unsupported.{IsUnsupportedDocument, IsNoDocument};
     ghost use Rattle.jsonb_doc.specs.Payload.{Form, any};
     ghost use Rattle.jsonb_doc.specs.AnyBytes.Roots.{HasReadableRoot};
     ghost use Rattle.jsonb_doc.specs.Tree.{Tree};
     ghost use Rattle.jsonb_doc.specs.declared.error.Error.TheVariants as error;
+    ghost use Rattle.jsonb_doc.specs.declared.error.Error.TheVariants.{TooLarge};
     ghost use Rattle.jsonb_raw.specs.Documents.{raw_bytes};
-    ghost use Rattle.jsonb.specs.LimitedAnswers.{bound_of, UnlessExceeded, IsRefusal, IsLimited};
-    ghost use Rattle.jsonb.specs.MostItems.{document_size};
+    ghost use Rattle.jsonb.specs.LimitedAnswers.{UnlessExceeded, IsRefusal, IsLimited};
+    ghost use Rattle.jsonb.specs.MostItems.{most_items, document_size};
     ghost use Rattle.jsonb.specs.PathTree.{is_predicate};
     ghost use Rattle.jsonb.specs.PathViews.{path_view};
-    ghost use Rattle.jsonb.specs.SelectionErrors.{IsSelectionError, IsDocumentError};
-    ghost use Rattle.jsonb.specs.SelectorAnswers.{root_bytes, mode_of, first_item, single_or_array, ByMeanings, AreAll, IsArrayOf, IsPicked, IsFound, IsTruthOf};
+    ghost use Rattle.jsonb.specs.SelectionErrors.{IsSelectionError};
+    ghost use Rattle.jsonb.specs.SelectorAnswers.{first_item, single_or_array, ByMeanings, AreAll, IsArrayOf, IsPicked, IsFound, IsTruthOf};
     ghost use Rattle.jsonb.specs.declared.selector.document.Mode.TheVariants.{Lax, Strict};
     ghost use Rattle.jsonb.specs.declared.selector.limited.LimitError.TheVariants.{LimitExceeded};
 
@@ -104,7 +105,7 @@ impl<'a> LimitedSelector<'a> {
     pub fn new(alloc: Global, root: RawJsonb<'a>, limit: u64) -> Result<LimitedSelector<'a>, Error>
         ensures made { (form : Form) (top : Tree) → Decodes form (raw_bytes root.entry) top
             → IsOkAnd result (λ s. s.size ≡ document_size (raw_bytes root.entry) top) }
-        ensures ok { IfOk result (λ s. (root_bytes s.selector ≡ raw_bytes root.entry) × (mode_of s.selector ≡ Lax)
+        ensures ok { IfOk result (λ s. (raw_bytes s.selector.root ≡ raw_bytes root.entry) × (s.selector.mode ≡ Lax)
             × (s.limit ≡ limit)) }
         ensures unsupported { IsErrOf result error.UnsupportedNumber ↔ IsUnsupportedDocument (raw_bytes root.entry) }
         ensures invalid { IsErrOf result error.InvalidJsonb ↔ IsNoDocument (raw_bytes root.entry) }
@@ -141,7 +142,7 @@ impl<'a> LimitedSelector<'a> {
     ) -> Result<LimitedSelector<'a>, Error>
         ensures made { (form : Form) (top : Tree) → Decodes form (raw_bytes root.entry) top
             → IsOkAnd result (λ s. s.size ≡ document_size (raw_bytes root.entry) top) }
-        ensures ok { IfOk result (λ s. (root_bytes s.selector ≡ raw_bytes root.entry) × (mode_of s.selector ≡ Strict)
+        ensures ok { IfOk result (λ s. (raw_bytes s.selector.root ≡ raw_bytes root.entry) × (s.selector.mode ≡ Strict)
             × (s.limit ≡ limit)) }
         ensures unsupported { IsErrOf result error.UnsupportedNumber ↔ IsUnsupportedDocument (raw_bytes root.entry) }
         ensures invalid { IsErrOf result error.InvalidJsonb ↔ IsNoDocument (raw_bytes root.entry) }
@@ -183,7 +184,7 @@ impl<'a> LimitedSelector<'a> {
     /// Ok(selector.most_items(path)? <= limit)
     /// ```
     pub fn most_items(&self, path: &JsonPath<'_>) -> Result<u64, Error>
-        ensures bound { IfOk result (λ n. n ≡ bound_of self.now (path_view path.now)) }
+        ensures bound { IfOk result (λ n. n ≡ most_items self.now.size (path_view path.now)) }
         ensures errors { IfErr result IsOutOfMemory }
     {
         most_items(self.selector.alloc, self.size, &path.paths)
@@ -191,8 +192,9 @@ impl<'a> LimitedSelector<'a> {
 
     /// Fails if the bound of a path is above the limit.
     fn admit(&self, path: &JsonPath<'_>) -> Result<(), LimitError>
-        ensures exceeded { IsErrOf result LimitExceeded → self.now.limit < bound_of self.now (path_view path.now) }
-        ensures within { OnOk result (bound_of self.now (path_view path.now) ≤ self.now.limit) }
+        ensures exceeded { IsErrOf result LimitExceeded
+            → self.now.limit < most_items self.now.size (path_view path.now) }
+        ensures within { OnOk result (most_items self.now.size (path_view path.now) ≤ self.now.limit) }
         ensures errors { IfErr result IsRefusal }
     {
         match self.most_items(path) {
@@ -224,10 +226,11 @@ impl<'a> LimitedSelector<'a> {
     /// ```
     pub fn select_values(&mut self, path: &JsonPath<'_>) -> Result<Vec<OwnedJsonb>, LimitError>
         ensures limited { IsLimited self.old self.new (path_view path.now) result }
-        ensures values { UnlessExceeded (ByMeanings (mode_of self.old.selector) (root_bytes self.old.selector)
+        ensures values { UnlessExceeded (ByMeanings self.old.selector.mode (raw_bytes self.old.selector.root)
             (path_view path.now) (AreAll Decodes)) result }
-        ensures errors { UnlessExceeded (λ answer. IfErr answer (IsDocumentError (mode_of self.old.selector))) result }
-        ensures readable { OnOk result (HasReadableRoot (root_bytes self.old.selector)) }
+        ensures errors { UnlessExceeded (λ answer. IfErr answer
+            (IsSelectionError self.old.selector.mode or TooLarge)) result }
+        ensures readable { OnOk result (HasReadableRoot (raw_bytes self.old.selector.root)) }
     {
         self.admit(path)?;
         lifted(self.selector.select_values(path))
@@ -250,10 +253,11 @@ impl<'a> LimitedSelector<'a> {
     /// ```
     pub fn select_array(&mut self, path: &JsonPath<'_>) -> Result<OwnedJsonb, LimitError>
         ensures limited { IsLimited self.old self.new (path_view path.now) result }
-        ensures array { UnlessExceeded (ByMeanings (mode_of self.old.selector) (root_bytes self.old.selector)
+        ensures array { UnlessExceeded (ByMeanings self.old.selector.mode (raw_bytes self.old.selector.root)
             (path_view path.now) IsArrayOf) result }
-        ensures errors { UnlessExceeded (λ answer. IfErr answer (IsDocumentError (mode_of self.old.selector))) result }
-        ensures readable { OnOk result (HasReadableRoot (root_bytes self.old.selector)) }
+        ensures errors { UnlessExceeded (λ answer. IfErr answer
+            (IsSelectionError self.old.selector.mode or TooLarge)) result }
+        ensures readable { OnOk result (HasReadableRoot (raw_bytes self.old.selector.root)) }
     {
         self.admit(path)?;
         lifted(self.selector.select_array(path))
@@ -276,10 +280,11 @@ impl<'a> LimitedSelector<'a> {
     /// ```
     pub fn select_first(&mut self, path: &JsonPath<'_>) -> Result<Option<OwnedJsonb>, LimitError>
         ensures limited { IsLimited self.old self.new (path_view path.now) result }
-        ensures first { UnlessExceeded (ByMeanings (mode_of self.old.selector) (root_bytes self.old.selector)
+        ensures first { UnlessExceeded (ByMeanings self.old.selector.mode (raw_bytes self.old.selector.root)
             (path_view path.now) (IsPicked first_item)) result }
-        ensures errors { UnlessExceeded (λ answer. IfErr answer (IsDocumentError (mode_of self.old.selector))) result }
-        ensures readable { OnOk result (HasReadableRoot (root_bytes self.old.selector)) }
+        ensures errors { UnlessExceeded (λ answer. IfErr answer
+            (IsSelectionError self.old.selector.mode or TooLarge)) result }
+        ensures readable { OnOk result (HasReadableRoot (raw_bytes self.old.selector.root)) }
     {
         self.admit(path)?;
         lifted(self.selector.select_first(path))
@@ -302,10 +307,11 @@ impl<'a> LimitedSelector<'a> {
     /// ```
     pub fn select_value(&mut self, path: &JsonPath<'_>) -> Result<Option<OwnedJsonb>, LimitError>
         ensures limited { IsLimited self.old self.new (path_view path.now) result }
-        ensures value { UnlessExceeded (ByMeanings (mode_of self.old.selector) (root_bytes self.old.selector)
+        ensures value { UnlessExceeded (ByMeanings self.old.selector.mode (raw_bytes self.old.selector.root)
             (path_view path.now) (IsPicked single_or_array)) result }
-        ensures errors { UnlessExceeded (λ answer. IfErr answer (IsDocumentError (mode_of self.old.selector))) result }
-        ensures readable { OnOk result (HasReadableRoot (root_bytes self.old.selector)) }
+        ensures errors { UnlessExceeded (λ answer. IfErr answer
+            (IsSelectionError self.old.selector.mode or TooLarge)) result }
+        ensures readable { OnOk result (HasReadableRoot (raw_bytes self.old.selector.root)) }
     {
         self.admit(path)?;
         lifted(self.selector.select_value(path))
@@ -328,10 +334,10 @@ impl<'a> LimitedSelector<'a> {
     /// ```
     pub fn exists(&mut self, path: &JsonPath<'_>) -> Result<bool, LimitError>
         ensures limited { IsLimited self.old self.new (path_view path.now) result }
-        ensures exists { UnlessExceeded (ByMeanings (mode_of self.old.selector) (root_bytes self.old.selector)
+        ensures exists { UnlessExceeded (ByMeanings self.old.selector.mode (raw_bytes self.old.selector.root)
             (path_view path.now) IsFound) result }
-        ensures errors { UnlessExceeded (λ answer. IfErr answer (IsSelectionError (mode_of self.old.selector))) result }
-        ensures readable { OnOk result (HasReadableRoot (root_bytes self.old.selector)) }
+        ensures errors { UnlessExceeded (λ answer. IfErr answer (IsSelectionError self.old.selector.mode)) result }
+        ensures readable { OnOk result (HasReadableRoot (raw_bytes self.old.selector.root)) }
     {
         self.admit(path)?;
         lifted(self.selector.exists(path))
@@ -359,10 +365,10 @@ impl<'a> LimitedSelector<'a> {
             → IsLimited self.old self.new (path_view path.now) result }
         ensures other { is_predicate (path_view path.now) ≡ false → (result ≡ Ok None) × (self.new ≡ self.old) }
         ensures truth { UnlessExceeded
-            (IsTruthOf (mode_of self.old.selector) (path_view path.now) (root_bytes self.old.selector)) result }
-        ensures errors { UnlessExceeded (λ answer. IfErr answer (IsSelectionError (mode_of self.old.selector))) result }
+            (IsTruthOf self.old.selector.mode (path_view path.now) (raw_bytes self.old.selector.root)) result }
+        ensures errors { UnlessExceeded (λ answer. IfErr answer (IsSelectionError self.old.selector.mode)) result }
         ensures readable { is_predicate (path_view path.now) ≡ true
-            → OnOk result (HasReadableRoot (root_bytes self.old.selector)) }
+            → OnOk result (HasReadableRoot (raw_bytes self.old.selector.root)) }
     {
         if path.is_predicate() {
             self.admit(path)?;

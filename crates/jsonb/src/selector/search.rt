@@ -7,7 +7,7 @@ ghost use Rattle.jsonb_doc.specs.Tree.{Tree};
 ghost use Rattle.jsonb.specs.PathTree.{Step, Expression, steps_of, filter};
 ghost use Rattle.jsonb.specs.PathViews.{step_view, steps_view, expression_view};
 ghost use Rattle.std.specs.List.{AllZip};
-ghost use Rattle.jsonb.specs.ItemSteps.{values_step, elements_step};
+ghost use Rattle.jsonb.specs.Private.ItemSteps.{values_step, elements_step};
 ghost use Rattle.jsonb.specs.Meaning.{step_meaning, steps_meaning, filtered};
 ghost use Rattle.jsonb.specs.SelectorAnswers.{first_item};
 ghost use Rattle.jsonb.specs.Private.Compared.{RefinesIfAny};

@@ -1,7 +1,10 @@
 use Rattle.std.proofs.Common.{sym, ap, ◌∙◌}
+use Rattle.jsonb.specs.PathTree.{whole_expression}
 use Rattle.jsonb.specs.PathViews.{expression_view}
+use Rattle.jsonb.specs.Private.Documents.{expression_has_document}
 use Rattle.jsonb.specs.Private.Copying.{leaf_view, framed, progress_view, progress_has_document}
 use Rattle.jsonb.proofs.CopyingLemmas.{not_first, not_second, owning_error-framed}
+use Rattle.jsonb.proofs.DocumentLemmas.{alone_without, refused_alone}
 use Rattle.std.proofs.lemmas.Result.{err_from_is_err_and}
 use Rattle.jsonb.proofs.path.Expr.to_owned.Goals as goal
 
@@ -9,8 +12,9 @@ pub returns-in_err-copied-clause-errors : goal.returns-in_err-copied-clause-erro
 returns-in_err-copied-clause-errors c =
     let p = err_from_is_err_and c.from_residual-in_err-copied.result c.from_residual-in_err-copied.ensures.1 in
     let reached = c.loop-copied.reached in
-    rw (p.1, p.2) (owning_error-framed reached.frames.items (leaf_view reached.leaf) (expression_view c.args.self.now) _ c.loop-copied.invariant.whole
-    c.in_err-copied.ensures.errors)
+    rw (p.1, p.2) (refused_alone (whole_expression (expression_view c.args.self.now)) _
+    (owning_error-framed reached.frames.items (leaf_view reached.leaf) (expression_view c.args.self.now) _ c.loop-copied.invariant.whole
+    c.in_err-copied.ensures.errors))
 
 pub loop-copied-preserved : goal.loop-copied-preserved
 loop-copied-preserved c =
@@ -22,3 +26,11 @@ loop-copied-preserved c =
       documents = not_first _ _ none;
       clean = not_second _ _ none;
     }
+
+pub returns-in-Whole-clause-whole : goal.returns-in-Whole-clause-whole
+returns-in-Whole-clause-whole c =
+    let so_far = c.loop-copied.invariant in
+    let none = sym (ap progress_has_document c.in-Whole.is) ∙ c.in_ok-whole.ensures.documents so_far.documents (c.in_ok-copied.ensures.whole so_far.clean) in
+    let same = sym (ap progress_view c.in-Whole.is) ∙ c.in_ok-whole.ensures.whole
+    ∙ ap (framed c.loop-copied.reached.frames.items) c.in_ok-copied.ensures.copy ∙ so_far.whole in
+    alone_without (whole_expression (expression_view c.args.self.now)) (ap expression_has_document (sym same) ∙ none)

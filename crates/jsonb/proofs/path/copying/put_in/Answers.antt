@@ -1,5 +1,5 @@
 use Rattle.std.proofs.Common.{◌≡◌, List, [], ◌∷◌, ◌++◌, false, refl, sym, ap, ◌∙◌, arith}
-use Rattle.jsonb.specs.PathDocuments.{expression_has_document}
+use Rattle.jsonb.specs.Private.Documents.{expression_has_document}
 use Rattle.jsonb.specs.PathTree.{binary, unary}
 use Rattle.jsonb.specs.PathViews.{expression_view}
 use Rattle.jsonb.specs.Private.Copying.{framed, waiting, have_document, frame_has_document}

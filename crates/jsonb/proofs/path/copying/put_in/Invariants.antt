@@ -1,5 +1,5 @@
 use Rattle.std.proofs.Common.{◌≡◌, ◌≤◌, false, vec_len}
-use Rattle.jsonb.specs.PathDocuments.{expression_has_document}
+use Rattle.jsonb.specs.Private.Documents.{expression_has_document}
 use Rattle.jsonb.specs.PathViews.{expression_view}
 use Rattle.jsonb.specs.Private.Copying.{framed, waiting, have_document}
 use Rattle.jsonb.proofs.path.copying.put_in.Given as goal

@@ -1,5 +1,5 @@
 use Rattle.std.proofs.Common.{◌≡◌, ◌≤◌, ◌++◌, false}
-use Rattle.jsonb.specs.PathDocuments.{has_document}
+use Rattle.jsonb.specs.Private.Documents.{has_document}
 use Rattle.std.specs.Slice.Iter.{iter_rest}
 use Rattle.jsonb.specs.PathViews.{steps_view}
 use Rattle.jsonb.specs.Private.Copying.{so_far_has_document}

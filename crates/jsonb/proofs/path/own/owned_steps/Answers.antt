@@ -1,5 +1,5 @@
 use Rattle.std.proofs.lemmas.Result.{err_from_is_err_and}
-use Rattle.jsonb.proofs.DocumentLemmas.{none_more, copied_more, refused_at}
+use Rattle.jsonb.proofs.DocumentLemmas.{none_more, copied_more, refused_at, alone_tested, tested_alone}
 use Rattle.jsonb.proofs.path.own.owned_steps.Goals as goal
 
 pub loop-step-preserved : goal.loop-step-preserved
@@ -7,12 +7,12 @@ loop-step-preserved c = record {
   copied = copied_more _ _ _ c.deref-step-items.result.now c.loop-step.step-index c.step-item.result c.loop-step-test.true c.step-item.is
       c.in_ok-push.ensures.items c.in_ok-to_owned.ensures.copy c.loop-step.invariant.copied;
   whole = none_more c.deref-step-items.result.now c.loop-step.step-index c.step-item.result c.loop-step-test.true
-      c.step-item.is c.in_ok-to_owned.ensures.whole c.loop-step.invariant.whole;
+      c.step-item.is (alone_tested _ c.in_ok-to_owned.ensures.whole) c.loop-step.invariant.whole;
 }
 
 pub returns-in_err-to_owned-clause-errors : goal.returns-in_err-to_owned-clause-errors
 returns-in_err-to_owned-clause-errors c =
     let p = err_from_is_err_and c.from_residual-in_err-to_owned.result c.from_residual-in_err-to_owned.ensures.1 in
     let refused = refused_at c.deref-step-items.result.now c.loop-step.step-index c.step-item.result _
-    c.loop-step-test.true c.step-item.is c.in_err-to_owned.ensures.errors in
+    c.loop-step-test.true c.step-item.is (tested_alone _ _ c.in_err-to_owned.ensures.errors) in
     rw (p.1, p.2) (rw c.deref-step-items.ensures.value at refused)

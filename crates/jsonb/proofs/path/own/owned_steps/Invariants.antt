@@ -1,5 +1,5 @@
 use Rattle.std.proofs.Common.{◌≡◌, take, map, false}
-use Rattle.jsonb.specs.PathDocuments.{has_document}
+use Rattle.jsonb.specs.Private.Documents.{has_document}
 use Rattle.jsonb.specs.PathViews.{step_view, steps_view}
 use Rattle.jsonb.proofs.path.own.owned_steps.Given as goal
 

@@ -2,7 +2,6 @@ use Rattle.std.proofs.Common.{◌≡◌, is_some, ◌∙◌, ap, sym, subst}
 use Rattle.jsonb_doc.specs.Format.{Decodes}
 use Rattle.jsonb.specs.Meaning.{Means}
 use Rattle.jsonb.specs.PathViews.{expression_view, path_view, steps_view}
-use Rattle.jsonb.specs.SelectorAnswers.{mode_of}
 use Rattle.jsonb.specs.Private.Selection.{only_expression}
 use Rattle.jsonb.proofs.FirstItems.{expression_told, is_expression, no_expression, first_is}
 use Rattle.jsonb.proofs.RefinesLemmas.{given_by}
@@ -18,7 +17,7 @@ returns-clause-first c = λ form top outcome d m.
     subst (λ p. c.is_some-computed.result ≡ is_some (only_expression p)) same told in
     let first : steps_view c.deref.result.now ≡ path_view c.args.path.now = ap steps_view c.deref.ensures.value in
     given_by ((rw (c.context_of-context.ensures.mode, c.context_of-context.ensures.document) at c.in_ok-selected.ensures.meant) form top outcome k.1
-    (subst (λ l. Means form (mode_of c.args.self.now) (steps_view l) top outcome) (sym c.deref.ensures.value) m))
+    (subst (λ l. Means form c.args.self.now.mode (steps_view l) top outcome) (sym c.deref.ensures.value) m))
     (λ ts h. record {
       ok = first_is c.in_ok-document.document.bytes.now _ c.is_some-computed.result _ c.first_of.result h.0 ts (k.0 ∙ c.as_bytes-bytes.ensures)
           (is_expression (path_view c.args.path.now) c.is_some-computed.result here) h.2

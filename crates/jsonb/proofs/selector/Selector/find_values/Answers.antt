@@ -3,15 +3,15 @@ use Rattle.std.proofs.lemmas.Result.{err_from_is_err_and}
 use Rattle.std.specs.List.{AllZip, Any}
 use Rattle.jsonb_doc.specs.Format.{Decodes}
 use Rattle.jsonb_doc.specs.Limits.{IsTooLarge}
+use Rattle.jsonb_raw.specs.Documents.{raw_bytes}
 use Rattle.jsonb.specs.FoundItems.{IsItemOf}
-use Rattle.jsonb.specs.SelectorAnswers.{root_bytes}
 use Rattle.jsonb.proofs.DocumentAnswers.{handed_by, handed_error}
 use Rattle.jsonb.proofs.selector.Selector.find_values.Goals as goal
 
 pub returns-in_err-document-clause-items : goal.returns-in_err-document-clause-items
 returns-in_err-document-clause-items c = λ form top outcome d m.
     let p = err_from_is_err_and c.from_residual.result c.from_residual.ensures.1 in
-    handed_error (λ v ts. AllZip (IsItemOf (root_bytes c.args.self.now) form) v.items ts) (Any (IsTooLarge form)) (p.1 ∙ ap Err p.2)
+    handed_error (λ v ts. AllZip (IsItemOf (raw_bytes c.args.self.now.root) form) v.items ts) (Any (IsTooLarge form)) (p.1 ∙ ap Err p.2)
     (c.in_err-document.ensures.meant form top outcome d m)
 
 pub returns-clause-items : goal.returns-clause-items

@@ -3,7 +3,6 @@ use Rattle.jsonb_doc.specs.Format.{Decodes}
 use Rattle.jsonb.specs.PathViews.{steps_view, path_view, expression_view}
 use Rattle.jsonb.specs.Meaning.{predicate}
 use Rattle.jsonb.specs.Private.Selection.{only_expression}
-use Rattle.jsonb.specs.SelectorAnswers.{mode_of}
 use Rattle.jsonb.proofs.RefinesLemmas.{same_outcome}
 use Rattle.jsonb.proofs.WholeLemmas.{lone_is}
 use Rattle.jsonb.proofs.selector.Selector.predicate_match.Goals as goal
@@ -11,7 +10,7 @@ use Rattle.jsonb.proofs.selector.Selector.predicate_match.Goals as goal
 pub returns-in_ok-document-in-Some-clause-truth : goal.returns-in_ok-document-in-Some-clause-truth
 returns-in_ok-document-in-Some-clause-truth c = λ form top d.
     let k = c.in_ok-document-in-Some.ensures.meant form top (subst (λ b. Decodes form b top) (sym c.as_bytes-bytes.ensures) d) in
-    same_outcome (ap (λ p. predicate (mode_of c.args.self.now) p top)
+    same_outcome (ap (λ p. predicate c.args.self.now.mode p top)
     (lone_is (path_view c.args.path.now) (expression_view c.in-Some.e.now)
     (ap (λ l. only_expression (steps_view l)) (sym c.deref.ensures.value) ∙ c.in-Some.ensures)))
     ((rw (c.context_of-context.ensures.mode, c.context_of-context.ensures.document) at c.expression_truth.ensures.meant) top k.1)

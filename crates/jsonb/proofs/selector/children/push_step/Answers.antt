@@ -1,5 +1,6 @@
 use Rattle.std.proofs.Common.{map, ap, sym, ◌∙◌, refl, inl, inr}
-use Rattle.jsonb.specs.ItemSteps.{field_step, indices_step}
+use Rattle.jsonb.specs.ItemSteps.{field_step}
+use Rattle.jsonb.specs.Private.ItemSteps.{indices_step}
 use Rattle.jsonb_doc.specs.Representation.Positions.{Locates}
 use Rattle.jsonb.specs.Meaning.{step_meaning}
 use Rattle.jsonb.proofs.RefinesLemmas.{same_outcome, pushed}

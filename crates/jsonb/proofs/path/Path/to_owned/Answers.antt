@@ -1,0 +1,12 @@
+use Rattle.std.proofs.Common.{sym, ap, ◌∙◌}
+use Rattle.jsonb.specs.PathViews.{step_view}
+use Rattle.jsonb.specs.Private.Documents.{step_has_document}
+use Rattle.jsonb.specs.Private.Copying.{step_copy_view, step_copy_has_document}
+use Rattle.jsonb.proofs.DocumentLemmas.{alone_without}
+use Rattle.jsonb.proofs.path.Path.to_owned.Goals as goal
+
+pub returns-in-Whole-clause-whole : goal.returns-in-Whole-clause-whole
+returns-in-Whole-clause-whole c =
+    let none = sym (ap step_copy_has_document c.in-Whole.is) ∙ c.in_ok-copy.ensures.whole in
+    let same = sym (ap step_copy_view c.in-Whole.is) ∙ c.in_ok-copy.ensures.copy in
+    alone_without (step_view c.args.self.now) (ap step_has_document (sym same) ∙ none)
