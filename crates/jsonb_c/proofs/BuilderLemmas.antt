@@ -1,6 +1,6 @@
 -- The results of events, as statuses, and what the handle keeps after them.
 use Rattle.std.proofs.Common.{◌≡◌, ◌⊎◌, ◌∙◌, true, false, ℕ, List, Vec, Global, ap, inl, inr, refl, Option, Some, None, Result, Ok, Err}
-use Rattle.std.specs.Prelude.{MatchOption, MatchResult, OnErr}
+use Rattle.std.specs.Prelude.{IfOk, IfErr, MatchOption, MatchResult, OnErr}
 use Rattle.jsonb_doc.specs.Answer.{IsOutOfMemory}
 use Rattle.jsonb_doc.specs.Representation.DocumentBuilder.{Holds}
 use Rattle.jsonb_doc.specs.DocumentBuilder.{Takes}
@@ -15,6 +15,7 @@ use Rattle.jsonb_doc.specs.declared.event_error.EventError.TheVariants.{OutOfOrd
 use Rattle.jsonb_c.specs.Answers.{Delivers, DeliversBytes, DeliversNothing, WritesResult, always}
 use Rattle.jsonb_c.specs.Builders.{Follows, TakesEvent, event_status}
 use Rattle.jsonb_c.specs.Private.Events.{IsKeptOrNew, KeepsState}
+use Rattle.jsonb_c.specs.Private.Views.{list_answer}
 use Rattle.jsonb_c.specs.Status.{code}
 use Rattle.jsonb_c.specs.declared.status.Status.TheVariants.{Answered, Refused}
 use Rattle.jsonb_c.specs.declared.status.Status.TheVariants as causes
@@ -103,3 +104,18 @@ finish_fails form None r e old len status is h none failed =
     let same : e ≡ OutOfOrder = cc in (none, refl, failed ∙ ap event_status same)
 finish_fails form (Some t) r e old len status is h none failed =
     let same : e ≡ Failed OutOfMemory = rw is at h in (Err OutOfMemory, refl, refl, (none, refl, failed ∙ ap event_status same))
+
+-- ---- the document of a list
+
+pub list_makes : (P : List ℕ → Type 0) (r : Result (Vec ℕ Global) EventError) → IfOk r (λ made. P made.items) → IfOk (list_answer r) P
+list_makes P (Ok made) h = h
+list_makes P (Err e) h = h
+
+pub list_fails : (Q : EventError → Type 0) (r : Result (Vec ℕ Global) EventError) → IfErr r Q → IfErr (list_answer r) Q
+list_fails Q (Ok made) h = h
+list_fails Q (Err e) h = h
+
+pub list_matches : (P : List ℕ → Type 0) (Q : EventError → Type 0) (r : Result (Vec ℕ Global) EventError) → MatchResult r (λ made. P made.items) Q
+    → MatchResult (list_answer r) P Q
+list_matches P Q (Ok made) h = h
+list_matches P Q (Err e) h = h

@@ -1,14 +1,14 @@
 -- The numbers of types are the positions of their names.
 use Rattle.std.proofs.Common.{◌≡◌, ◌∙◌, ℕ, Some, refl, ap}
-use Rattle.std.specs.Prelude.{slice_get}
+use Rattle.std.specs.Prelude.{slice_get, codes, if◌then◌else◌}
+use Rattle.jsonb_doc.specs.Arithmetic.{is_decimal}
 use Rattle.jsonb_doc.specs.Extension.{Extension, binary, date, timestamp, timestamp_tz, interval}
 use Rattle.jsonb_doc.specs.Number.{Variant, int64, uint64, decimal64, decimal128}
 use Rattle.jsonb_doc.specs.Tree.{Tree, null, boolean, number, text, extension, array, object}
-use Rattle.jsonb_raw.specs.Scalars.{number_type, type_name}
 use Rattle.jsonb_c.specs.Kinds.{IsTypeOf, type_names}
 use Rattle.jsonb_c.specs.Private.Numbers.{kind_number, number_kind, tree_kind}
 
-of_variant : (v : Variant) → slice_get type_names (kind_number (number_kind v)) ≡ Some (number_type v)
+of_variant : (v : Variant) → slice_get type_names (kind_number (number_kind v)) ≡ Some (if is_decimal v then codes "DECIMAL" else codes "INTEGER")
 of_variant int64 = refl
 of_variant uint64 = refl
 of_variant decimal64 = refl

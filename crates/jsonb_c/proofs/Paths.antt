@@ -2,13 +2,12 @@
 use Rattle.std.proofs.Common.{◌≡◌, ◌⊎◌, inl, inr, refl, ap, subst, ℕ, List, false, Option, Some, None, Result, Ok, Err}
 use Rattle.std.specs.Prelude.{IfErr, MatchResult, ok_or}
 use Rattle.jsonb_doc.specs.declared.error.Error.{Error}
-use Rattle.jsonb_doc.specs.declared.error.Error.TheVariants.{InvalidKeyPath, OutOfMemory}
+use Rattle.jsonb_doc.specs.declared.error.Error.TheVariants.{InvalidJsonPath, InvalidKeyPath, OutOfMemory}
 use Rattle.jsonb_doc.specs.Answer.{IsOutOfMemory, ◌or◌when◌}
 use Rattle.jsonb.specs.KeyPathGrammar.{Key}
 use Rattle.jsonb.specs.PathGrammar.{json_path}
 use Rattle.jsonb.specs.PathTree.{Step}
-use Rattle.jsonb.specs.PathDocuments.{has_document}
-use Rattle.jsonb.specs.Private.Copying.{IsOwningError}
+use Rattle.jsonb.specs.PathDocuments.{HasNoDocument}
 use Rattle.jsonb.proofs.DocumentLemmas.{read_has_none}
 use Rattle.jsonb_c.specs.Answers.{With, WritesResult}
 use Rattle.jsonb_c.specs.Calls.{DeletesPlace}
@@ -18,9 +17,9 @@ use Rattle.jsonb_c.specs.declared.status.Status.{Status}
 use Rattle.jsonb_c.specs.declared.status.Status.TheVariants.{Refused}
 
 -- a path that was read has no document, so copying it fails only if an allocation does
-pub copy_refused : (text : List ℕ) (path : List Step) (e : Error) → json_path text ≡ Some path → IsOwningError (has_document path) e → e ≡ OutOfMemory
+pub copy_refused : (text : List ℕ) (path : List Step) (e : Error) → json_path text ≡ Some path → (IsOutOfMemory or InvalidJsonPath when (¬ HasNoDocument path)) e → e ≡ OutOfMemory
 copy_refused text path e read (inl memory) = memory
-copy_refused text path e read (inr other) = let none : has_document path ≡ false = rw read at (read_has_none text) in cc
+copy_refused text path e read (inr other) = let none : HasNoDocument path = rw read at (read_has_none text) in absurd (other.1 none)
 
 -- ---- text that was not read
 

@@ -1,5 +1,5 @@
 -- Spans of strings, and of the children that a cursor has left.
-use Rattle.std.proofs.Common.{◌≡◌, ℕ, true, false, List, Option, Some, None, Bor, IsSomeAnd, refl, arith}
+use Rattle.std.proofs.Common.{◌≡◌, ◌<◌, ℕ, true, false, List, Option, Some, None, Bor, IsSomeAnd, refl, arith}
 use Rattle.std.specs.Prelude.{option_map}
 use Rattle.jsonb_doc.specs.Answer.{SameOption}
 use Rattle.jsonb_doc.specs.ChildPositions.{TakesChild}
@@ -41,6 +41,19 @@ no_string form (item.String s) t other h = absurd (other s refl)
 no_string form (item.Array b) t other h = rw h.1 refl
 no_string form (item.Object b) t other h = rw h.1 refl
 no_string form _ t other h = rw h refl
+
+-- ---- entries
+
+-- the entry of a tree is of one of seven types
+pub known_entry : (form : Form) (t : Tree) (kind : ℕ) (content : List ℕ) → IsContent (number_reader form) t kind content → kind < 7
+known_entry form null kind content h = let k : kind ≡ 0 = h.0 in omega (arith, k)
+known_entry form (boolean true) kind content h = let k : kind ≡ 4 = h.0 in omega (arith, k)
+known_entry form (boolean false) kind content h = let k : kind ≡ 3 = h.0 in omega (arith, k)
+known_entry form (number n) kind content h = let k : kind ≡ 2 = h.0 in omega (arith, k)
+known_entry form (text s) kind content h = let k : kind ≡ 1 = h.0 in omega (arith, k)
+known_entry form (extension x) kind content h = let k : kind ≡ 6 = h.0 in omega (arith, k)
+known_entry form (array ts) kind content h = let k : kind ≡ 5 = h.0 in omega (arith, k)
+known_entry form (object ps) kind content h = let k : kind ≡ 5 = h.0 in omega (arith, k)
 
 -- ---- children
 

@@ -1,17 +1,21 @@
 -- Documents built from events, with a builder that a handle keeps.
-use Rattle.std.specs.Prelude.{◌≡◌, ◌⊎◌, ℕ, List, Option, Some, None, IsSome, Result, IsOkAnd, MatchOption, MatchResult}
+use Rattle.std.specs.Prelude.{◌≡◌, ◌⊎◌, ℕ, Bool, List, Option, Some, None, IsSome, Result, Ok, Err, IfOk, IfErr, IsOkAnd, MatchOption, MatchResult}
 use Rattle.jsonb_doc.specs.Answer.{IsOutOfMemory}
 use Rattle.jsonb_doc.specs.DocumentBuilder.{IsFailureAt}
 use Rattle.jsonb_doc.specs.Representation.DocumentBuilder.{Holds}
-use Rattle.jsonb_doc.specs.Events.{Event, State, next, no_events, whole}
+use Rattle.jsonb_doc.specs.EventList.{AreEventsOf, IsListError}
+use Rattle.jsonb_doc.specs.Events.{root, Event, State, next, no_events, whole}
 use Rattle.jsonb_doc.specs.Format.{Decodes}
 use Rattle.jsonb_doc.specs.Payload.{Form}
-use Rattle.jsonb_doc.specs.declared.error.Error.TheVariants.{OutOfMemory}
+use Rattle.jsonb_doc.specs.Tree.{Tree}
+use Rattle.jsonb_doc.specs.declared.error.Error.TheVariants.{OutOfMemory, TooLarge}
 use Rattle.jsonb_doc.specs.declared.event_error.EventError.{EventError}
+use Rattle.jsonb_doc.specs.declared.event_error.EventError.TheVariants.{Failed}
 use Rattle.jsonb_doc.specs.declared.event_error.EventError.TheVariants as refusal
+use Rattle.jsonb_doc.specs.declared.text_event.TextEvent.{TextEvent}
 use Rattle.jsonb_c.specs.Items.{items_left}
 use Rattle.jsonb_c.specs.Prepared.{json_steps, key_steps}
-use Rattle.jsonb_c.specs.Answers.{Delivers, DeliversNothing, WritesResult, always}
+use Rattle.jsonb_c.specs.Answers.{Delivers, DeliversBytes, DeliversNothing, WritesResult, always}
 use Rattle.jsonb_c.specs.Status.{code}
 use Rattle.jsonb_c.specs.declared.status.Status.TheVariants.{Answered, NoPath, OutOfOrder, Refused}
 use Rattle.jsonb_c.specs.declared.prepared.path.PreparedPath.{PreparedPath}
@@ -58,3 +62,18 @@ pub record Finishes (kept : Option PreparedPath) (old new : List ℕ) (len statu
       (λ t. WritesResult (λ answer. MatchResult answer (λ made. Decodes form made t) IsOutOfMemory) IsOutOfMemory
       (λ answer. Delivers (always answer) old new len status))
   pub other : KeepsOther kept → DeliversNothing NoPath old new len status
+
+-- ---- a list of events
+
+-- Holds if the result is the document of the list, or an error of the list or of its document.
+pub record MakesDocumentOf (keep_last : Bool) (events : List TextEvent) (text : List ℕ)
+    (r : Result (List ℕ) EventError) : Type 0 where
+  pub document : (form : Form) → IfOk r (λ v. (t : Tree) × AreEventsOf keep_last events text t × Decodes form v t)
+  pub complete : (form : Form) (t : Tree) → AreEventsOf keep_last events text t
+      → MatchResult r (λ v. Decodes form v t) (IsFailureAt form (root (Some t)))
+  pub errors : IfErr r (λ e. IsListError keep_last e ⊎ ((e ≡ Failed OutOfMemory) ⊎ (e ≡ Failed TooLarge)))
+
+-- Holds if the document is delivered, or nothing, with the status of the error.
+abbrev pub DeliversAnswer : Result (List ℕ) EventError → List ℕ → List ℕ → ℕ → ℕ → Type 0
+DeliversAnswer (Ok made) old new len status = DeliversBytes made old new len status
+DeliversAnswer (Err e) old new len status = (len ≡ 0) × (new ≡ old) × (status ≡ event_status e)

@@ -1,7 +1,7 @@
 -- Results of the functions on one document.
-use Rattle.std.specs.Prelude.{◌≡◌, ◌⊎◌, ◌↔◌, ◌||◌, not, ℕ, ℤ, Bool, false, IsTrue, IsOkAnd, List, length, Option, Some, None, Result, Ok, Err, String, MatchResult, MatchOption, if◌then◌else◌}
+use Rattle.std.specs.Prelude.{◌≡◌, ◌⊎◌, ◌↔◌, ◌||◌, not, ℕ, ℤ, Bool, false, IsTrue, IsOkAnd, List, length, Option, Some, None, Result, Ok, Err, String, MatchResult, MatchOption, FitsSigned, if◌then◌else◌}
 use Rattle.std.specs.declared.alloc.Global.{Global}
-use Rattle.std.specs.Int.{Width, w8, w16}
+use Rattle.std.specs.Int.{Width, w8, w16, w64}
 use Rattle.jsonb_doc.specs.declared.error.Error.{Error}
 use Rattle.jsonb_doc.specs.declared.error.Error.TheVariants.{OutOfMemory, InvalidJsonb, UnsupportedNumber, InvalidCast, InvalidJsonType, InvalidObject, ObjectDuplicateKey, TooDeep, TooLarge}
 use Rattle.jsonb_doc.specs.Tree.{Tree, Trees, array, elements}
@@ -9,7 +9,7 @@ use Rattle.jsonb_doc.specs.Payload.{Form, any}
 use Rattle.jsonb_doc.specs.Format.{Decodes}
 use Rattle.jsonb_doc.specs.AnyBytes.Unsupported.{IsUnsupportedDocument, IsNoDocument}
 use Rattle.jsonb_doc.specs.Answer.{IsDecodingError, IsOutOfMemory, ◌or◌}
-use Rattle.jsonb_raw.specs.Casts.{CastsToI64, CastsToText, text_of}
+use Rattle.jsonb_raw.specs.Casts.{Casts, IsSignedOf, CastsToText, text_of}
 use Rattle.jsonb_raw.specs.Children.{without_index}
 use Rattle.jsonb_raw.specs.Contains.{contains}
 use Rattle.jsonb_raw.specs.Deletes.{MeetNoPart, without}
@@ -23,7 +23,7 @@ use Rattle.jsonb_raw.specs.EqualityKey.{equality_key}
 use Rattle.jsonb_raw.specs.SortableKey.{sortable_key}
 use Rattle.jsonb_raw.specs.KeyAnswer.{GivesKey}
 use Rattle.jsonb.specs.PathTree.{Step}
-use Rattle.jsonb.specs.SelectionErrors.{IsDocumentError, IsSelectionError}
+use Rattle.jsonb.specs.SelectionErrors.{IsSelectionError}
 use Rattle.jsonb.specs.Compare.{Truth}
 use Rattle.jsonb.specs.SelectorAnswers.{ByMeanings, IsFound, IsPicked, IsTruthOf, array_of}
 use Rattle.jsonb.specs.declared.selector.document.Mode.{Mode}
@@ -40,10 +40,6 @@ Finds form wanted answer = MakesOption form wanted answer × (wanted ≡ None �
 
 -- ---- edits
 
--- Holds if the result is a copy of the document.
-abbrev pub KeepsBytes : List ℕ → Result (List ℕ) Error → Type 0
-KeepsBytes document answer = MatchResult answer (λ made. made ≡ document) IsOutOfMemory
-
 -- Holds if the result is a document of what is built; if there is nothing, this error.
 abbrev pub MakesOr : Error → Form → Option Tree → Result (List ℕ) Error → Type 0
 MakesOr refusal form wanted answer = MatchOption wanted (answer ≡ Err refusal) (λ t. Makes form t answer)
@@ -54,7 +50,7 @@ pub record DeletesIndex (index : ℤ) (document : List ℕ) (answer : Result (Li
   pub deleted : OfDocument document (λ form t. MakesOr InvalidJsonType form (without_index index t)) answer
   pub unchanged : (form : Form) (ts : Trees) → Decodes form document (array ts)
       → index_position (length (elements ts)) index ≡ None
-      → KeepsBytes document answer
+      → MatchResult answer (λ made. made ≡ document) IsOutOfMemory
 
 -- Holds if the result is the document without the value at the steps. If they select nothing, the bytes are the same; a
 -- scalar has no children.
@@ -64,7 +60,7 @@ pub record DeletesPlace (steps : List Key) (document : List ℕ) (answer : Resul
   pub without : OfDocument document (λ form t said. IsTrue (not (is_json_scalar t))
       → MatchResult said (λ made. Decodes form made (without steps t)) IsOutOfMemory) answer
   pub same : OfDocument document (λ form t said. IsTrue (not (is_json_scalar t)) → MeetNoPart steps t
-      → KeepsBytes document said) answer
+      → MatchResult said (λ made. made ≡ document) IsOutOfMemory) answer
 
 -- Holds if the result is the object with the member. If the key exists and its value is not to be replaced, the call
 -- fails.
@@ -126,7 +122,7 @@ TellsTruth mode path document = WritesResult (IsTruthOf mode path document) (IsS
 -- Holds if it is a document of the picked item of what the path selects, if there is one.
 abbrev pub SelectsItem : Mode → (List Tree → Option Tree) → List Step → List ℕ → (Found (List ℕ) → Type 0) → Type 0
 SelectsItem mode pick path document =
-    WritesResult (ByMeanings mode document path (IsPicked pick)) (IsDocumentError mode)
+    WritesResult (ByMeanings mode document path (IsPicked pick)) (IsSelectionError mode or TooLarge)
 
 -- Holds if it is the value at the location of the steps, if there is one.
 abbrev pub FindsPart : List Key → List ℕ → (Found (List ℕ) → Type 0) → Type 0
@@ -145,7 +141,8 @@ TellsContainment wanted document = WritesResult (λ answer. (form other_form : F
 
 -- Holds if it is the document as an integer.
 abbrev pub WritesI64 : List ℕ → (Result ℤ Error → Type 0) → Type 0
-WritesI64 document = WritesResult (OfDocument document (λ form t. CastsToI64 t)) (IsDecodingError or InvalidCast)
+WritesI64 document = WritesResult (OfDocument document (λ form t. Casts (λ z. IsSignedOf t z × FitsSigned w64 z)))
+    (IsDecodingError or InvalidCast)
 
 -- Holds if it is the document as a string.
 abbrev pub WritesText : List ℕ → (Result (String Global) Error → Type 0) → Type 0

@@ -22,6 +22,7 @@ use jsonb::{Item, Number};
 use std::alloc::Global;
 
 mod events;
+pub(crate) mod list;
 
 /// Begins an array.
 #[unsafe(no_mangle)]

@@ -5,7 +5,7 @@ ghost use Rattle.jsonb_doc.specs.Answer.{IsDecodingError, IsOutOfMemory, ◌or�
 ghost use Rattle.jsonb_doc.specs.declared.error.Error.TheVariants.{OutOfMemory, TooLarge};
 ghost use Rattle.jsonb.specs.FoundItems.{IsItemOf};
 ghost use Rattle.jsonb.specs.PathViews.{path_view};
-ghost use Rattle.jsonb.specs.SelectionErrors.{IsDocumentError};
+ghost use Rattle.jsonb.specs.SelectionErrors.{IsSelectionError};
 ghost use Rattle.jsonb.specs.SelectorAnswers.{ByMeanings, AreAll};
 ghost use Rattle.jsonb_c.specs.Answers.{Delivers, DeliversNothing, WritesResult};
 ghost use Rattle.jsonb_c.specs.Calls.{mode_of};
@@ -38,7 +38,7 @@ pub extern "C" fn jdoc_path_items(
     ensures kept { path.new.value ≡ path.old.value }
     ensures items { MatchOption (json_steps path.old.value) ((items.new.value ≡ None) × (result ≡ code NoPath))
         (λ steps. WritesResult (ByMeanings (mode_of strict) document.now steps (AreAll (IsItemOf document.now)))
-        (IsDocumentError (mode_of strict)) (λ answer. MatchResult answer
+        (IsSelectionError (mode_of strict) or TooLarge) (λ answer. MatchResult answer
         (λ found. (result ≡ code Answered) × (items_left items.new.value ≡ Some found.items))
         (λ e. (result ≡ code (Refused e)) × (items.new.value ≡ None)))) }
 {
@@ -59,7 +59,7 @@ fn items_of(
 ) -> Result<Box<PreparedPath>, Status>
     ensures { MatchOption (json_steps (Some path.now)) (result ≡ Err NoPath)
         (λ steps. WritesResult (ByMeanings (mode_of strict) document.now steps (AreAll (IsItemOf document.now)))
-        (IsDocumentError (mode_of strict)) (λ answer. HoldsItems answer result)) }
+        (IsSelectionError (mode_of strict) or TooLarge) (λ answer. HoldsItems answer result)) }
 {
     match path.json() {
         Some(steps) => boxed_items(alloc, steps, document, strict),
@@ -75,7 +75,7 @@ fn boxed_items(
 ) -> Result<Box<PreparedPath>, Status>
     ensures { WritesResult
         (ByMeanings (mode_of strict) document.now (path_view path.now) (AreAll (IsItemOf document.now)))
-        (IsDocumentError (mode_of strict)) (λ answer. HoldsItems answer result) }
+        (IsSelectionError (mode_of strict) or TooLarge) (λ answer. HoldsItems answer result) }
 {
     let found = selector(alloc, document, strict).find_values(path)?;
     Ok(box_items(alloc, found)?)

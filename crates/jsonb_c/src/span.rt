@@ -19,6 +19,7 @@ ghost use Rattle.jsonb_c.specs.Status.{code};
 ghost use Rattle.jsonb_c.specs.declared.status.Status.TheVariants.{Answered, NoPath, Refused};
 
 pub(crate) mod child;
+pub(crate) mod document;
 pub(crate) mod first;
 
 use crate::deliver::store_found;

@@ -11,6 +11,7 @@ use crate::document::decimal::jdoc_as_decimal;
 use crate::leaves::{LeafSizes, jdoc_leaves};
 use crate::read::{jdoc_len, jdoc_pair};
 use crate::span::child::{jdoc_find_by_index, jdoc_find_by_name, jdoc_find_str};
+use crate::span::document::jdoc_span_document;
 use crate::span::first::jdoc_find_first;
 use crate::span::{Span, jdoc_find_by_keypath};
 use crate::status::Status;
@@ -343,6 +344,44 @@ fn spans(rt: HostRuntime) {
         let status = jdoc_find_by_keypath(rt.alloc(), MIXED, path, &mut span);
         let is_so = status == *wanted && parts(span) == *found;
         assert!(rt; is_so, "{path:?}");
+    }
+}
+
+/// Positions, lengths and entry types in `MIXED`, the status, and the values as documents.
+static VALUES_AT: [(usize, usize, u8, u32, &[u8]); 8] = rows! {
+    31, 1, 1, OK, b"\x20\0\0\0\x10\0\0\x01v";
+    16, 2, 2, OK, b"\x20\0\0\0\x20\0\0\x02\x50\x0a";
+    16, 0, 3, OK, b"\x20\0\0\0\x30\0\0\0";
+    18, 14, 5, OK, b"\x40\0\0\x01\x10\0\0\x01\x10\0\0\x01kv";
+    32, 0, 0, OK, b"\x20\0\0\0\0\0\0\0";
+    31, 2, 1, INVALID_JSONB, b"";
+    18_446_744_073_709_551_615, 2, 1, INVALID_JSONB, b"";
+    31, 1, 7, INVALID_JSONB, b"";
+};
+
+#[test]
+fn values_at_spans(rt: HostRuntime) {
+    for (at, len, entry, status, document) in &VALUES_AT {
+        let span = span_of_type(*at, *len, *entry);
+        assert_gives!(rt; jdoc_span_document(MIXED, &span), *status, document);
+    }
+}
+
+#[test]
+fn a_value_without_room(rt: HostRuntime) {
+    let mut out = [9; 8];
+    let mut len = 99;
+    let status = jdoc_span_document(MIXED, &span_of_type(31, 1, 1), &mut out, &mut len);
+    assert!(rt; (status, len, out) == (BUFFER_TOO_SMALL, 9, [9; 8]));
+}
+
+/// Returns a span with an entry of this type.
+fn span_of_type(at: usize, len: usize, entry: u8) -> Span {
+    Span {
+        at,
+        len,
+        kind: 9,
+        entry,
     }
 }
 

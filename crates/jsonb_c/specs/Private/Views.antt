@@ -3,6 +3,7 @@ use Rattle.std.specs.Prelude.{ℕ, List, Option, Some, None, Result, Ok, Err, Ve
 use Rattle.std.specs.Borrow.{Bor}
 use Rattle.std.specs.declared.alloc.Global.{Global}
 use Rattle.jsonb_doc.specs.declared.error.Error.{Error}
+use Rattle.jsonb_doc.specs.declared.event_error.EventError.{EventError}
 use Rattle.jsonb_doc.specs.declared.error.Error.TheVariants.{InvalidJsonPath}
 use Rattle.jsonb_doc.specs.Tree.{Tree}
 use Rattle.jsonb.specs.SelectorAnswers.{first_item, single_or_array}
@@ -31,6 +32,11 @@ use Rattle.jsonb_c.specs.declared.span.Span.{Span}
 abbrev pub vec_answer : Result (Vec ℕ Global) Error → Result (List ℕ) Error
 vec_answer (Ok made) = Ok made.items
 vec_answer (Err e) = Err e
+
+-- likewise, of the events of a list
+abbrev pub list_answer : Result (Vec ℕ Global) EventError → Result (List ℕ) EventError
+list_answer (Ok made) = Ok made.items
+list_answer (Err e) = Err e
 
 abbrev pub found_text : Result (Option (Bor (List ℕ))) Error → Found (List ℕ)
 found_text (Ok (Some found)) = Ok (Some found.now)

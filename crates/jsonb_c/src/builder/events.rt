@@ -102,7 +102,7 @@ fn status_of_event(taken: Result<(), EventError>) -> u32
 }
 
 /// Returns the cause of an event's error.
-fn cause_of(error: EventError) -> Status
+pub(crate) fn cause_of(error: EventError) -> Status
     ensures { code result ≡ event_status error }
 {
     match error {

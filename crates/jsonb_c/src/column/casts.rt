@@ -1,9 +1,10 @@
 //! Each row as an integer or as a string.
 
-ghost use Rattle.std.specs.Prelude.{IfErr, pos, string_bytes};
+ghost use Rattle.std.specs.Prelude.{FitsSigned, IfErr, pos, string_bytes};
+ghost use Rattle.std.specs.Int.{w64};
 ghost use Rattle.jsonb_doc.specs.Answer.{IsDecodingError, ◌or◌};
 ghost use Rattle.jsonb_doc.specs.declared.error.Error.TheVariants.{InvalidCast, OutOfMemory};
-ghost use Rattle.jsonb_raw.specs.Casts.{CastsToI64, CastsToText, text_of};
+ghost use Rattle.jsonb_raw.specs.Casts.{Casts, IsSignedOf, CastsToText, text_of};
 ghost use Rattle.jsonb_c.specs.Answers.{OfDocument, Shows, always, found_as};
 ghost use Rattle.jsonb_c.specs.Calls.{WritesI64, WritesText};
 ghost use Rattle.jsonb_c.specs.Columns.{FillsRows, JoinsRows, rows};
@@ -32,7 +33,7 @@ impl RowCall<i64> for ToI64 {
 }
 
 fn i64_of(document: &[u8]) -> Result<i64, Error>
-    ensures value { OfDocument document.now (λ form t. CastsToI64 t) result }
+    ensures value { OfDocument document.now (λ form t. Casts (λ z. IsSignedOf t z × FitsSigned w64 z)) result }
     ensures errors { IfErr result (IsDecodingError or InvalidCast) }
 {
     RawJsonb::new(document).to_i64()

@@ -1,10 +1,13 @@
 //! The items that a JSON path selects of a document, and its result as a predicate.
 
 ghost use Rattle.std.specs.Prelude.{◌≡◌, IfErr, ok_or};
+ghost use Rattle.jsonb_doc.specs.Answer.{◌or◌};
+ghost use Rattle.jsonb_doc.specs.declared.error.Error.TheVariants.{TooLarge};
 ghost use Rattle.jsonb.specs.PathGrammar.{json_path};
 ghost use Rattle.jsonb.specs.PathViews.{path_view};
-ghost use Rattle.jsonb.specs.SelectionErrors.{IsDocumentError, IsSelectionError};
-ghost use Rattle.jsonb.specs.SelectorAnswers.{first_item, root_bytes, single_or_array, IsArrayOf, IsFound, IsPicked, IsTruthOf, ByMeanings, mode_of as selector_mode};
+ghost use Rattle.jsonb.specs.SelectionErrors.{IsSelectionError};
+ghost use Rattle.jsonb_raw.specs.Documents.{raw_bytes};
+ghost use Rattle.jsonb.specs.SelectorAnswers.{first_item, single_or_array, IsArrayOf, IsFound, IsPicked, IsTruthOf, ByMeanings};
 ghost use Rattle.jsonb_c.specs.Answers.{DeliversBy, Shows, With, always, found_as, truth_byte};
 ghost use Rattle.jsonb_c.specs.Private.Views.{pick_of};
 ghost use Rattle.jsonb_c.specs.Calls.{SelectsItem, TellsExistence, TellsTruth, mode_of, one_array};
@@ -146,8 +149,8 @@ pub extern "C" fn jdoc_exists(
 
 /// Creates a selector in this mode.
 pub(crate) fn selector(alloc: Global, document: &[u8], strict: bool) -> Selector<'_>
-    ensures root { root_bytes result ≡ document.now }
-    ensures mode { selector_mode result ≡ mode_of strict }
+    ensures root { raw_bytes result.root ≡ document.now }
+    ensures mode { result.mode ≡ mode_of strict }
 {
     let document = RawJsonb::new(document);
     if strict {
@@ -167,7 +170,7 @@ pub(crate) fn pick_by_path<'a>(
 ) -> Result<Option<OwnedJsonb>, Error>
     ensures picked { ByMeanings (mode_of strict) document.now (path_view path.now)
         (IsPicked (pick_of pick)) result }
-    ensures errors { IfErr result (IsDocumentError (mode_of strict)) }
+    ensures errors { IfErr result (IsSelectionError (mode_of strict) or TooLarge) }
 {
     match pick {
         Pick::First => selector(alloc, document, strict).select_first(path),
@@ -187,7 +190,7 @@ fn array_by_path(
     strict: bool,
 ) -> Result<OwnedJsonb, Error>
     ensures array { ByMeanings (mode_of strict) document.now (path_view path.now) IsArrayOf result }
-    ensures errors { IfErr result (IsDocumentError (mode_of strict)) }
+    ensures errors { IfErr result (IsSelectionError (mode_of strict) or TooLarge) }
 {
     selector(alloc, document, strict).select_array(path)
 }

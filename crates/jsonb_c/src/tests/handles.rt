@@ -1,9 +1,10 @@
-//! Worked rows of the calls on handles: documents from events, and items in place.
+//! Worked rows of documents from events, of a builder and of a list, and of items in place.
 
 use super::{
     Answer, COMPUTED, INVALID_JSONB, MIXED, NO_PATH, NONE, NOT_UTF8, OBJECT_DUPLICATE_KEY, OK,
     UNTOUCHED, parts,
 };
+use crate::builder::list::jdoc_from_events;
 use crate::builder::{
     jdoc_builder_begin_array, jdoc_builder_begin_object, jdoc_builder_bool, jdoc_builder_decimal,
     jdoc_builder_document, jdoc_builder_end, jdoc_builder_finish, jdoc_builder_free,
@@ -13,7 +14,9 @@ use crate::items::span::jdoc_items_find_next;
 use crate::items::{jdoc_items_free, jdoc_items_next, jdoc_path_items};
 use crate::path::{jdoc_path_free, jdoc_path_read};
 use crate::prepared::PathHandle;
-use std::alloc::Global;
+use jsonb::TextEvent;
+use std::alloc::{AllocError, Global};
+use std::test::Fail;
 
 const OUT_OF_ORDER: u32 = 7;
 
@@ -119,6 +122,80 @@ fn a_builder_after_failures(rt: HostRuntime) {
     assert!(rt; status == OK && a.is(b"\x80\0\0\x01\x20\0\0\x02\x50\x02"));
     let status = jdoc_builder_finish(alloc, &mut builder, &mut a.out, &mut a.len);
     assert!(rt; status == OUT_OF_ORDER && a.len == 0);
+}
+
+/// The event of a letter in a list: those of `pass`, of which strings and keys have one byte, `f`, and `w` for a decimal of
+/// 128 bits.
+fn listed(letter: u8) -> TextEvent {
+    let (kind, low, high) = match letter {
+        b'n' => (0, 0, 0),
+        b'f' => (1, 0, 0),
+        b't' => (2, 0, 0),
+        b'i' => (3, 9, -100),
+        b'u' => (4, 2, 9),
+        b'm' => (5, 9, 1234),
+        b'w' => (6, 5, 1),
+        b's' => (7, 1, 0),
+        b'k' => (8, 1, 0),
+        b'[' => (9, 0, 0),
+        b'{' => (10, 0, 0),
+        b'.' => (11, 0, 0),
+        _ => (12, 0, 0),
+    };
+    TextEvent {
+        low,
+        high,
+        kind,
+        scale: 2,
+    }
+}
+
+fn list_of(alloc: Global, letters: &[u8]) -> Result<Vec<TextEvent>, AllocError> {
+    let mut events = Vec::new(alloc);
+    for letter in letters {
+        events.push(listed(*letter))?;
+    }
+    Ok(events)
+}
+
+/// Events, the bytes of their keys and strings, and the document or the status of the error.
+static LISTS: [(&[u8], &[u8], u32, &[u8]); 14] = rows! {
+    b"n", b"", OK, b"\x20\0\0\0\0\0\0\0";
+    b"f", b"", OK, b"\x20\0\0\0\x30\0\0\0";
+    b"t", b"", OK, b"\x20\0\0\0\x40\0\0\0";
+    b"i", b"", OK, b"\x20\0\0\0\x20\0\0\x02\x40\x9c";
+    b"u", b"", OK, b"\x20\0\0\0\x20\0\0\x02\x50\x02";
+    b"m", b"", OK, b"\x20\0\0\0\x20\0\0\x0a\x70\0\0\0\0\0\0\x04\xd2\x02";
+    b"w", b"", OK, b"\x20\0\0\0\x20\0\0\x12\x70\0\0\0\0\0\0\0\x01\0\0\0\0\0\0\0\x05\x02";
+    b"{kskn.", b"bxa", OK, b"\x40\0\0\x02\x10\0\0\x01\x10\0\0\x01\0\0\0\0\x10\0\0\x01abx";
+    b"[{..", b"more", OK, b"\x80\0\0\x01\x50\0\0\x04\x40\0\0\0";
+    b"{n.", b"", OUT_OF_ORDER, b"";
+    b"?", b"", OUT_OF_ORDER, b"";
+    b"s", b"", OUT_OF_ORDER, b"";
+    b"s", b"\xc3\xa9", OUT_OF_ORDER, b"";
+    b"s", b"\xff", NOT_UTF8, b"";
+};
+
+#[test]
+fn documents_of_lists(rt: HostRuntime) -> Result<(), Fail> {
+    let alloc = rt.alloc();
+    for (letters, text, status, document) in &LISTS {
+        let events = list_of(alloc, letters)?;
+        for keep_last in [false, true] {
+            assert_gives!(rt; jdoc_from_events(alloc, text, &events, keep_last), *status, document);
+        }
+    }
+    Ok(())
+}
+
+#[test]
+fn a_list_with_a_duplicate_key(rt: HostRuntime) -> Result<(), Fail> {
+    let alloc = rt.alloc();
+    let twice = list_of(alloc, b"{kskn.")?;
+    let last = b"\x40\0\0\x01\x10\0\0\x01\0\0\0\0a";
+    assert_gives!(rt; jdoc_from_events(alloc, b"axa", &twice, false), OBJECT_DUPLICATE_KEY, b"");
+    assert_gives!(rt; jdoc_from_events(alloc, b"axa", &twice, true), OK, last);
+    Ok(())
 }
 
 /// Paths, and what each call returns for the items of `MIXED`.

@@ -1,9 +1,10 @@
 use Rattle.std.proofs.Common.{Ok, Err, ap, inl, inr, refl, subst, ◌∙◌}
 use Rattle.std.proofs.lemmas.Result.{err_from_is_err_and}
 use Rattle.jsonb_doc.specs.declared.error.Error.TheVariants.{OutOfMemory}
+use Rattle.jsonb_raw.specs.Documents.{raw_bytes}
 use Rattle.jsonb.specs.FoundItems.{IsItemOf}
 use Rattle.jsonb.specs.PathViews.{path_view}
-use Rattle.jsonb.specs.SelectorAnswers.{ByMeanings, AreAll, root_bytes}
+use Rattle.jsonb.specs.SelectorAnswers.{ByMeanings, AreAll}
 use Rattle.jsonb_c.specs.Calls.{mode_of}
 use Rattle.jsonb_c.specs.declared.status.Status.TheVariants.{Refused}
 use Rattle.jsonb_c.proofs.items.boxed_items.Goals as goal
@@ -21,7 +22,7 @@ pub returns : goal.returns
 returns c =
     let found = c.in_ok-found.found in
     let path = path_view c.args.path.now in
-    let root = root_bytes c.selector.result in (
+    let root = raw_bytes c.selector.result.root in (
       Ok found,
       subst (λ b. ByMeanings (mode_of c.args.strict) b path (AreAll (IsItemOf b)) (Ok found)) c.selector.ensures.root
           (subst (λ mode. ByMeanings mode root path (AreAll (IsItemOf root)) (Ok found)) c.selector.ensures.mode
