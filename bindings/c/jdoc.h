@@ -31,9 +31,9 @@
  * Memory. A function frees what it allocates before it returns, except a prepared path, its items and a builder. It
  * calls malloc, realloc and free of the C library, whose blocks have to be aligned to 16 bytes. These do not allocate:
  * jdoc_version, jdoc_status_name, jdoc_check, jdoc_type, jdoc_len, jdoc_as_.., jdoc_find_str, jdoc_find_by_index,
- * jdoc_find_by_name, jdoc_cursor_.., jdoc_items_find_next, jdoc_to_bool, jdoc_to_i64, jdoc_to_u64, jdoc_contains,
- * jdoc_compare, jdoc_array_overlap, jdoc_column_check, jdoc_column_contains, jdoc_column_to_i64. Most functions use
- * little stack at any depth; docs/STACK.md lists those that use more.
+ * jdoc_find_by_name, jdoc_span_document, jdoc_cursor_.., jdoc_items_find_next, jdoc_to_bool, jdoc_to_i64, jdoc_to_u64,
+ * jdoc_contains, jdoc_compare, jdoc_array_overlap, jdoc_column_check, jdoc_column_contains, jdoc_column_to_i64. Most
+ * functions use little stack at any depth; docs/STACK.md lists those that use more.
  *
  * Errors of any function, which are not listed with each:
  *   JDOC_INVALID_JSONB       the bytes are not a document
@@ -212,9 +212,8 @@ JDOC_NODISCARD enum jdoc_status jdoc_get_by_keypath(const uint8_t *document, siz
 
 /* The span of a value in a document: its content is document[at .. at + len]. The content of an array or object is that
  * value as a document, of a string its UTF-8; `entry` is the type of an entry word (docs/FORMAT.md): 0 null, 1 string,
- * 2 number, 3 false, 4 true, 5 array or object, 6 extension value. The bytes 20 00 00 00, then the entry word of `entry`
- * and `len`, then the content are a scalar as a document. A span that a function stores is within its document, even if
- * the bytes are not one. */
+ * 2 number, 3 false, 4 true, 5 array or object, 6 extension value. A span that a function stores is within its document,
+ * even if the bytes are not one. */
 typedef struct jdoc_span {
     size_t at;
     size_t len;
@@ -226,6 +225,12 @@ typedef struct jdoc_span {
  * JDOC_NONE: there is none. */
 JDOC_NODISCARD enum jdoc_status jdoc_find_by_keypath(const uint8_t *document, size_t document_len, const char *path,
                                                      size_t path_len, jdoc_span *span);
+
+/* The value at a span, as a document: its content as it is stored, after 8 bytes if it is a scalar. `kind` is not read.
+ * JDOC_INVALID_JSONB: the span is not within the document, or `entry` is none of these types. JDOC_TOO_LARGE: only of a
+ * span that no function stored. */
+JDOC_NODISCARD enum jdoc_status jdoc_span_document(const uint8_t *document, size_t document_len, const jdoc_span *span,
+                                                   uint8_t *out, size_t out_size, size_t *out_len);
 
 /* An element of an array. JDOC_NONE: there is none, or this is not an array. */
 JDOC_NODISCARD enum jdoc_status jdoc_get_by_index(const uint8_t *document, size_t document_len, size_t index,
@@ -807,6 +812,41 @@ JDOC_NODISCARD enum jdoc_status jdoc_builder_finish(jdoc_builder *builder, uint8
 
 /* Free the builder. The struct is then as before the first event. */
 void jdoc_builder_free(jdoc_builder *builder);
+
+/* EVENTS IN AN ARRAY
+ *
+ * For programs that store all events before the call, such as a parser: it takes less time than a builder. */
+
+/* What an event is. */
+enum jdoc_text_kind {
+    JDOC_TEXT_NULL = 0,
+    JDOC_TEXT_FALSE = 1,
+    JDOC_TEXT_TRUE = 2,
+    JDOC_TEXT_INT64 = 3,      /* high */
+    JDOC_TEXT_UINT64 = 4,     /* low */
+    JDOC_TEXT_DECIMAL64 = 5,  /* high, and the scale */
+    JDOC_TEXT_DECIMAL128 = 6, /* high * 2^64 + low, and the scale */
+    JDOC_TEXT_STRING = 7,     /* low: its length */
+    JDOC_TEXT_KEY = 8,        /* low: its length. The value that comes next is its value */
+    JDOC_TEXT_ARRAY = 9,      /* begins */
+    JDOC_TEXT_OBJECT = 10,    /* begins */
+    JDOC_TEXT_END = 11        /* of the innermost array or object */
+};
+
+/* An event. The members that its kind does not name are ignored. */
+typedef struct jdoc_text_event {
+    uint64_t low;
+    int64_t high;
+    uint8_t kind, scale;
+} jdoc_text_event;
+
+/* Write the document of some events. The bytes of keys and strings are in `text`, one after the other; more may follow.
+ * JDOC_OBJECT_DUPLICATE_KEY: two members have the same key. With `keep_last` the last one is kept. JDOC_NOT_UTF8: the
+ * text is not UTF-8. JDOC_OUT_OF_ORDER: an event cannot come next or has another kind, its length ends past the text or
+ * within a character, or a container does not end. */
+JDOC_NODISCARD enum jdoc_status jdoc_from_events(const char *text, size_t text_len, const jdoc_text_event *events,
+                                                 size_t events_len, bool keep_last, uint8_t *out, size_t out_size,
+                                                 size_t *out_len);
 
 #ifdef __cplusplus
 }

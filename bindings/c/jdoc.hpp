@@ -304,6 +304,13 @@ inline result<std::optional<jdoc_span>> find_by_name(view it, std::string_view n
     });
 }
 
+/* The value at a span, as a document. */
+inline result<document> value_at(view it, const jdoc_span &span) {
+    return detail::bytes<document>(span.len + 8, [&](std::uint8_t *out, std::size_t size, std::size_t *len) {
+        return jdoc_span_document(it.data(), it.size(), &span, out, size, len);
+    });
+}
+
 /* A child: the span of its key, if it is a member, and that of its value. */
 struct child {
     std::optional<jdoc_span> key;
@@ -673,6 +680,16 @@ inline result<std::pair<column, column>> leaves(view it) {
 }
 
 /* ---- documents from events */
+
+/* Returns the document of some events, whose keys and strings are in `text`. Of members with the same key it has the last
+ * one if `keep_last`, otherwise it fails with JDOC_OBJECT_DUPLICATE_KEY. Fails with JDOC_OUT_OF_ORDER or JDOC_NOT_UTF8. */
+inline result<document> from_events(std::string_view text, const jdoc_text_event *events, std::size_t count,
+                                    bool keep_last = false) {
+    return detail::bytes<document>(
+        text.size() + 22 * count + 8, [=](std::uint8_t *out, std::size_t size, std::size_t *len) {
+            return jdoc_from_events(text.data(), text.size(), events, count, keep_last, out, size, len);
+        });
+}
 
 /* A document that is built from events. With a status other than JDOC_OK a call leaves it as it was. One that was moved
  * from is before its first event. */

@@ -28,6 +28,14 @@ static bytea *varlena_for(size_t len) {
     return made;
 }
 
+/* The size of the document, which is made again after an interrupt, as RUN does. */
+static size_t made_size(jdoc_tape *tape) {
+    size_t size;
+    while (!(size = jdoc_tape_size(tape)) && tape->status == JDOC_OUT_OF_MEMORY && interrupted())
+        tape->status = JDOC_OK;
+    return size;
+}
+
 /* STRINGS WITHOUT U+0000, which the type text cannot hold */
 
 static void refuse_zeros(const bytea *document) {
@@ -52,6 +60,7 @@ static void fail_text(uint32_t status, const jdoc_tape *tape) {
                : status == JDOC_TOO_LARGE        ? ERRCODE_PROGRAM_LIMIT_EXCEEDED
                                                  : ERRCODE_INVALID_TEXT_REPRESENTATION;
     const char *what = tape->what ? tape->what : jdoc_status_text(status);
+    if (status == JDOC_OUT_OF_MEMORY) fail(status);
     ereport(ERROR, (errcode(code), errmsg("invalid input syntax for type %s", "jdoc"),
                     errdetail("Byte %zu: %s.", tape->at, what)));
     pg_unreachable();
@@ -62,7 +71,7 @@ static bytea *document_of_text(const char *text, size_t len) {
     bytea *made;
     uint32_t status;
     begin(&tape);
-    status = jdoc_read_text(&tape, text, len);
+    RUN(status, jdoc_read_text(&tape, text, len));
     if (status != JDOC_OK) fail_text(status, &tape);
     made = varlena_for(jdoc_tape_size(&tape));
     status = jdoc_write_read(&tape, text, len, (uint8_t *)VARDATA(made));
@@ -181,7 +190,7 @@ Datum jdoc_sql_from_jsonb(PG_FUNCTION_ARGS) {
     while ((token = JsonbIteratorNext(&walk, &value, false)) != WJB_DONE && tape.status == JDOC_OK)
         add_token(&tape, token, &value, &is_scalar);
     if (tape.status != JDOC_OK) fail(tape.status);
-    made = varlena_for(jdoc_tape_size(&tape));
+    made = varlena_for(made_size(&tape));
     status = jdoc_tape_write(&tape, (uint8_t *)VARDATA(made));
     if (status != JDOC_OK) fail(status);
     jdoc_tape_free(&tape);

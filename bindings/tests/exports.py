@@ -90,7 +90,7 @@ def of_cpp(_folder):
 def of_statuses(folder):
     """The header's numbers of statuses have these names in the library, and no other number has one."""
     library = ctypes.CDLL(f"{folder}/libjdoc.so")
-    listed = {int(number): name for name, number in re.findall(r"(JDOC_(?!KIND|VERSION)\w+) = (\d+)", read("c", "jdoc.h"))}
+    listed = {int(number): name for name, number in re.findall(r"(JDOC_(?!KIND|TEXT|VERSION)\w+) = (\d+)", read("c", "jdoc.h"))}
     for status in range(256):
         out, length = ctypes.create_string_buffer(64), ctypes.c_size_t()
         found = library.jdoc_status_name(status, out, ctypes.c_size_t(64), ctypes.byref(length)) == 0
@@ -136,7 +136,11 @@ def of_compiled_types(_folder):
         print("skipped: the interface as it is compiled: there is no abidiff (apt-get install abigail-tools)")
         return
     with tempfile.TemporaryDirectory() as folder:
-        words = ["abidiff", "--no-added-syms", "--no-show-locs", "--non-reachable-types", os.path.join(HERE, "..", "c", "jdoc.abi"), stubs(folder)]
+        # abidiff takes a typedef for an added one if all its pointers are to constants; the struct is compared under its own name.
+        with open(os.path.join(folder, "typedefs"), "w", encoding="utf-8") as file:
+            file.write("[suppress_type]\nname = jdoc_text_event\ntype_kind = typedef\n")
+        words = ["abidiff", "--no-added-syms", "--no-show-locs", "--non-reachable-types", "--suppr", file.name]
+        words += [os.path.join(HERE, "..", "c", "jdoc.abi"), stubs(folder)]
         said = subprocess.run(words, capture_output=True, text=True)
     if said.returncode:
         yield f"bindings/c/jdoc.abi describes another interface:\n{said.stdout}{said.stderr}"

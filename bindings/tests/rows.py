@@ -447,6 +447,13 @@ def events():
     for call in ("by_events", "by_events_that_fit"):
         yield from table(call, [(V[1], *row) for row in whole])
         yield from table(call, [(V[1], it, order) for it in ("", "[", "{a", "{au", "[[.")])
+    lists = [(V[1], it, want) for it, want in whole if "d" not in it] + [(V[1], it, order) for it in ("", "[", "{a", "[[.", ".", "nn", "a", "{n", "{aa", "{a.", "[a")]
+    for last in (False, True):
+        yield from table("by_event_list", [(row[0], row[1], last, row[2]) for row in lists])
+        yield from table("by_event_list", [(V[1], "[x.", last, NOT_UTF8), (V[1], "{yn.", last, NOT_UTF8), (V[1], "{bsai.", last, json('{"a":-100,"b":"adf"}'))])
+    yield from table("by_event_list", [
+        (V[1], "{auan.", False, "JDOC_OBJECT_DUPLICATE_KEY"), (V[1], "{auan.", True, json('{"a":null}')), (V[1], "{bnaua[n.bs.", True, json('{"a":[null],"b":"adf"}')),
+    ])
     yield from table("by_events", [(V[1], it, order) for it in (".", "n.", "nn", "n[", "n{", "[..", "a", "[a", "{n", "{[", "{aa", "{a.", "{aun", "da")])
     yield from table("by_events", [
         (V[1], "{aua", "JDOC_OBJECT_DUPLICATE_KEY"), (V[1], "[x", NOT_UTF8), (V[1], "{y", NOT_UTF8), (DAMAGED, "[d", INVALID_JSONB),
@@ -459,6 +466,12 @@ def events():
 
 
 def reading():
+    yield from table("span_of_type", [
+        (b"", 0, json("null")), (b"adf", 1, json('"adf"')), (number(1)[8:], 2, number(1)), (b"", 3, json("false")), (b"", 4, json("true")), (V[1], 5, V[1]),
+        (V[12][8:], 6, V[12]), (b"adf", 7, INVALID_JSONB), (b"adf", 17, INVALID_JSONB), (b"", 255, INVALID_JSONB),
+    ])
+    yield from table("span_from", [(b"adf", 0, json('"adf"')), (b"", 0, json('""'))] + [(it, at, INVALID_JSONB) for it in (b"adf", b"") for at in (1, 2**63 - 1)])
+    yield from table("span_from", [(b"adf", -1, INVALID_JSONB)])
     yield from table("len", [(V[1], 3), (V[10], 2), (EMPTY_ARRAY, 0), (number(1), NONE)])
     yield from table("pair_key", [(V[10], 0, b"a"), (V[10], 1, b"b"), (V[10], 2, NONE), (V[5], 0, NONE), (json('{"":1}'), 0, b"")])
     yield from table("pair_value", [(V[10], 0, json("null")), (V[10], 1, json("[null]")), (V[10], 2, NONE), (V[5], 0, NONE)])

@@ -23,11 +23,6 @@ static inline uint32_t take32(const uint8_t *at) {
     return __builtin_bswap32(word);
 }
 
-static inline void put32(uint8_t *at, uint32_t word) {
-    word = __builtin_bswap32(word);
-    memcpy(at, &word, sizeof word);
-}
-
 static inline uint64_t take_word(const void *at) {
     uint64_t word;
     memcpy(&word, at, sizeof word);

@@ -7,8 +7,9 @@
  * nest. Numbers are exact: a number that no decimal of 128 bits with a scale of 0 to 255 equals is an error, or is
  * rounded if the caller sets that option.
  *
- * None of this is proved. Each document that a tape writes is checked by jdoc_check, which is proved, before the caller
- * gets it. Text is written from exactly the bytes that jdoc_check accepts, which tests compare.
+ * A tape collects events in memory, of which jdoc_from_events makes the document: its bytes are proved to be those of
+ * the events. So is the document of an item, which jdoc_span_document makes. Nothing else here is proved. Text is
+ * written from exactly the bytes that jdoc_check accepts, which tests compare.
  *
  * Statuses are those of jdoc.h, and JDOC_INVALID_JSON. Calls allocate from the caller's jdoc_heap. If it returns NULL,
  * the status is JDOC_OUT_OF_MEMORY. It may also leave by longjmp, as palloc does: calls own nothing except its memory.
@@ -41,28 +42,23 @@ enum {
 
 /* EVENTS TO A DOCUMENT */
 
-typedef struct jdoc_node jdoc_node;
-typedef struct jdoc_ranked jdoc_ranked;
-
 /* A tape copies what it is given. After an error it ignores events; `status`, `what` and `at` describe the first one.
  */
 typedef struct jdoc_tape {
     uint32_t status;
     const char *what; /* a sentence without a full stop, or NULL if the status suffices */
     size_t at;        /* the byte of the JSON text, or the value of `source` at the event */
-    size_t source;    /* the caller's position, which each node keeps */
+    size_t source;    /* the caller's position, which each key keeps */
     unsigned options;
     bool has_key, in_object;
-    uint32_t top; /* the open container, or UINT32_MAX */
+    uint32_t top; /* the event that began the open container, or UINT32_MAX */
     jdoc_heap heap;
-    jdoc_node *nodes;
-    size_t nodes_len, nodes_size;
-    uint8_t *bytes;
+    jdoc_text_event *events;
+    size_t events_len, events_size;
+    uint8_t *bytes; /* of keys and strings, one after the other */
     size_t bytes_len, bytes_size;
-    jdoc_ranked *order;
-    size_t order_len, order_size;
-    uint32_t key_len;
-    size_t key_source;
+    uint8_t *document; /* of all events, if document_len is not 0 */
+    size_t document_len, document_size;
 } jdoc_tape;
 
 /* Sets a tape up, and allocates nothing. */
@@ -89,10 +85,11 @@ bool jdoc_tape_end(jdoc_tape *tape);
  * exact. */
 bool jdoc_tape_number(jdoc_tape *tape, const char *text, size_t len);
 
-/* Returns the size of the document. 0: there is an error, no event, or an open container. */
-size_t jdoc_tape_size(const jdoc_tape *tape);
+/* Makes the document, unless it is made, and returns its size. 0: there is an error, no event, or an open container.
+ * JDOC_OBJECT_DUPLICATE_KEY; JDOC_NOT_UTF8: a string or a key. */
+size_t jdoc_tape_size(jdoc_tape *tape);
 
-/* Writes the document, of jdoc_tape_size bytes, and checks it. JDOC_NOT_UTF8: a string or a key. */
+/* Writes the document, of jdoc_tape_size bytes. */
 uint32_t jdoc_tape_write(jdoc_tape *tape, uint8_t *out);
 
 /* JSON TEXT TO A DOCUMENT */
@@ -159,7 +156,7 @@ uint32_t jdoc_next_item(const uint8_t *document, size_t len, jdoc_cursor *cursor
 /* Returns the size of an item as a separate document. */
 size_t jdoc_item_size(const jdoc_event *item);
 
-/* Writes that document. */
+/* Writes that document, by jdoc_span_document. */
 void jdoc_item_write(const jdoc_event *item, uint8_t *out);
 
 /* A walk allocates only if containers are nested deeper than this. */

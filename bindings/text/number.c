@@ -1,4 +1,4 @@
-/* Numbers: JSON text to a payload of the format. */
+/* Numbers: text to an event. */
 #include "tape.h"
 
 typedef unsigned __int128 wide;
@@ -96,83 +96,45 @@ static bool fit(number *it) {
     return true;
 }
 
-/* Writes the low `width` bytes of a word. `out` has room for eight. */
-static void put_low(uint8_t *out, uint64_t word, size_t width) {
-    word = __builtin_bswap64(word << 8 * (8 - width));
-    memcpy(out, &word, sizeof word);
-}
-
-static size_t put_integer(uint8_t *out, uint8_t kind, uint64_t word, size_t width) {
-    out[0] = kind;
-    put_low(out + 1, word, width);
-    return 1 + width;
-}
-
-static size_t natural_payload(uint64_t value, uint8_t *out) {
-    if (!value) return out[0] = 0, 1;
-    return put_integer(out, 0x50, value,
-                       value <= UINT8_MAX    ? 1
-                       : value <= UINT16_MAX ? 2
-                       : value <= UINT32_MAX ? 4
-                                             : 8);
-}
-
-static size_t negative_payload(int64_t value, uint8_t *out) {
-    return put_integer(out, 0x40, (uint64_t)value,
-                       value >= INT8_MIN    ? 1
-                       : value >= INT16_MIN ? 2
-                       : value >= INT32_MIN ? 4
-                                            : 8);
-}
-
-static size_t decimal_payload(wide value, bool narrow, uint8_t scale, uint8_t *out) {
-    size_t len = 1;
-    out[0] = 0x70;
-    if (!narrow) put_low(out + len, (uint64_t)(value >> 64), 8), len += 8;
-    put_low(out + len, (uint64_t)value, 8), len += 8;
-    out[len] = scale;
-    return len + 1;
-}
-
-size_t jdoc_number_payload(const char *text, size_t len, bool round, uint8_t *out) {
+/* Reads a number's text into an event. False: there is none. */
+static bool read_event(const char *text, size_t len, bool round, jdoc_text_event *event) {
     number it = {0};
     bool narrow;
-    if (!read_number(text, text + len, &it) || !fit(&it) || (it.lost && !round)) return 0;
-    if (!it.digits) return natural_payload(0, out);
-    if (it.whole && !it.negative && it.digits <= UINT64_MAX) return natural_payload((uint64_t)it.digits, out);
-    if (it.whole && it.negative && it.digits <= (wide)1 << 63) return negative_payload((int64_t)-it.digits, out);
+    wide value;
+    if (!read_number(text, text + len, &it) || !fit(&it) || (it.lost && !round)) return false;
     narrow = it.digits <= INT64_MAX || (it.negative && it.digits == (wide)1 << 63);
-    return decimal_payload(it.negative ? -it.digits : it.digits, narrow, (uint8_t)-it.exponent, out);
+    value = it.negative ? -it.digits : it.digits;
+    event->scale = it.digits ? (uint8_t)-it.exponent : 0;
+    event->low = (uint64_t)value;
+    event->high = narrow ? (int64_t)value : (int64_t)(value >> 64);
+    event->kind = it.whole && !it.negative && it.digits <= UINT64_MAX ? JDOC_TEXT_UINT64
+                  : it.whole && it.negative && narrow                 ? JDOC_TEXT_INT64
+                  : narrow                                            ? JDOC_TEXT_DECIMAL64
+                                                                      : JDOC_TEXT_DECIMAL128;
+    return true;
 }
 
-/* Adds the number whose payload was written at the tape's end. 0: there is none. */
-static inline bool take(jdoc_tape *tape, size_t payload_len) {
-    size_t at = tape->bytes_len;
-    if (!payload_len) return jdoc_tape_fail(tape, JDOC_UNSUPPORTED_NUMBER, NULL, tape->source);
-    tape->bytes_len += payload_len;
-    return jdoc_tape_add(tape, NUMBER_NODE, at);
-}
-
-static inline size_t integer_payload(int64_t value, uint8_t *out) {
-    return value < 0 ? negative_payload(value, out) : natural_payload((uint64_t)value, out);
-}
-
-bool jdoc_tape_u64(jdoc_tape *tape, uint64_t value) {
-    uint8_t *out = jdoc_tape_room(tape, 18);
-    return out && take(tape, natural_payload(value, out));
-}
-
-bool jdoc_tape_i64(jdoc_tape *tape, int64_t value) {
-    uint8_t *out = jdoc_tape_room(tape, 18);
-    return out && take(tape, integer_payload(value, out));
-}
-
-bool jdoc_tape_decimal(jdoc_tape *tape, int64_t digits, uint8_t scale) {
-    uint8_t *out = jdoc_tape_room(tape, 18);
-    return out && take(tape, digits ? decimal_payload((wide)digits, true, scale, out) : natural_payload(0, out));
+bool jdoc_tape_put_number(jdoc_tape *tape, const char *text, size_t len) {
+    jdoc_text_event it, *event;
+    if (!read_event(text, len, tape->options & JDOC_ROUND_NUMBERS, &it))
+        return jdoc_tape_fail(tape, JDOC_UNSUPPORTED_NUMBER, NULL, tape->source);
+    event = jdoc_tape_next(tape, it.kind);
+    if (event) *event = it;
+    return event;
 }
 
 bool jdoc_tape_number(jdoc_tape *tape, const char *text, size_t len) {
-    uint8_t *out = jdoc_tape_room(tape, 18);
-    return out && take(tape, jdoc_number_payload(text, len, tape->options & JDOC_ROUND_NUMBERS, out));
+    return jdoc_tape_place(tape) && jdoc_tape_put_number(tape, text, len);
+}
+
+size_t jdoc_number_payload(const char *text, size_t len, bool round, uint8_t *out) {
+    enum { ROOT = 8 }; /* the words before the payload in the document of a number */
+    uint8_t document[ROOT + 18];
+    jdoc_text_event event;
+    size_t made;
+    if (!read_event(text, len, round, &event) ||
+        jdoc_from_events(NULL, 0, &event, 1, false, document, sizeof document, &made) != JDOC_OK)
+        return 0;
+    memcpy(out, document + ROOT, made - ROOT);
+    return made - ROOT;
 }

@@ -32,7 +32,7 @@ static place read_exponent(reader *it, place first, place at) {
         if (!is_digit(it, at)) return fail(it, at, "a digit is expected in the exponent");
         at = read_digits(it, at, &exponent);
     }
-    return jdoc_tape_number(it->tape, (const char *)first, (size_t)(at - first)) ? at : NULL;
+    return jdoc_tape_put_number(it->tape, (const char *)first, (size_t)(at - first)) ? at : NULL;
 }
 
 /* Reads a number, by the short way if it has no exponent and at most 18 digits. */
@@ -48,9 +48,13 @@ static place read_number(reader *it, place first) {
         at = read_digits(it, point, &digits);
     }
     if (at - first > 18 || (at < it->end && (*at | 0x20) == 'e')) return read_exponent(it, first, at);
-    value = *first == '-' ? -(int64_t)digits : (int64_t)digits;
-    return (point ? jdoc_tape_decimal(it->tape, value, (uint8_t)(at - point)) : jdoc_tape_i64(it->tape, value)) ? at
-                                                                                                                : NULL;
+    if (point) {
+        value = *first == '-' ? -(int64_t)digits : (int64_t)digits;
+        return jdoc_tape_decimal(it->tape, value, (uint8_t)(at - point)) ? at : NULL;
+    }
+    return (*first == '-' ? jdoc_tape_negative(it->tape, -(int64_t)digits) : jdoc_tape_natural(it->tape, digits))
+               ? at
+               : NULL;
 }
 
 /* STRINGS: their bytes go to the tape's end, which has room for the rest of the text */
@@ -156,7 +160,7 @@ ALWAYS_INLINE place read_string(reader *it, place at, bool is_key) {
 
 /* VALUES */
 
-static bool is_open(const jdoc_tape *tape) { return tape->top != NO_NODE; }
+static bool is_open(const jdoc_tape *tape) { return tape->top != NO_EVENT; }
 
 static inline place skip_space(const reader *it, place at) {
     while (at < it->end && *at <= ' ' && (*at == ' ' || *at == '\n' || *at == '\r' || *at == '\t')) at++;
@@ -180,9 +184,9 @@ static inline place read_key(reader *it, place at) {
     return skip_space(it, at + 1);
 }
 
-static place read_word(reader *it, place at, const char *word, size_t len) {
+static place read_word(reader *it, place at, const char *word, size_t len, uint8_t kind) {
     if ((size_t)(it->end - at) < len || memcmp(at, word, len)) return fail(it, at, "a value is expected");
-    return (*word == 'n' ? jdoc_tape_null(it->tape) : jdoc_tape_bool(it->tape, *word == 't')) ? at + len : NULL;
+    return jdoc_tape_next(it->tape, kind) ? at + len : NULL;
 }
 
 /* Reads a scalar, or the bracket that begins a container. */
@@ -191,19 +195,18 @@ static inline place read_value(reader *it, place at) {
     switch (*at) {
     case '{':
     case '[':
-        return jdoc_tape_begin(it->tape, *at == '{') ? at + 1 : NULL;
+        return jdoc_tape_open(it->tape, *at == '{') ? at + 1 : NULL;
     case '"':
         return read_string(it, at, false);
     case 'n':
-        return read_word(it, at, "null", 4);
+        return read_word(it, at, "null", 4, JDOC_TEXT_NULL);
     case 't':
-        return read_word(it, at, "true", 4);
+        return read_word(it, at, "true", 4, JDOC_TEXT_TRUE);
     case 'f':
-        return read_word(it, at, "false", 5);
+        return read_word(it, at, "false", 5, JDOC_TEXT_FALSE);
     default:
         if (*at != '-' && !is_digit(it, at)) return fail(it, at, "a value is expected");
-        at = read_number(it, at);
-        return at && jdoc_tape_room(it->tape, (size_t)(it->end - at)) ? at : NULL;
+        return read_number(it, at);
     }
 }
 
@@ -214,7 +217,7 @@ static inline place read_between(reader *it, place at, bool begins) {
         bool object = it->tape->in_object;
         if (at == it->end) return fail(it, at, "the text ends too early");
         if (*at == (object ? '}' : ']')) {
-            if (!jdoc_tape_end(it->tape)) return NULL;
+            if (!jdoc_tape_close(it->tape)) return NULL;
             begins = false;
             at = skip_space(it, at + 1);
             continue;
@@ -224,6 +227,12 @@ static inline place read_between(reader *it, place at, bool begins) {
         return fail(it, at, object ? "a comma or } is expected" : "a comma or ] is expected");
     }
     return at;
+}
+
+/* Makes the document of what was read. jdoc_write_read returns JDOC_NOT_UTF8, since it looks for the byte. */
+static uint32_t make(jdoc_tape *tape) {
+    jdoc_tape_make(tape);
+    return tape->status == JDOC_NOT_UTF8 ? JDOC_OK : tape->status;
 }
 
 /* Reads one value and the spaces around it. */
@@ -243,17 +252,19 @@ static place read_all(reader *it) {
 uint32_t jdoc_read_text(jdoc_tape *tape, const char *text, size_t len) {
     reader it = {tape, (place)text, (place)text + len};
     place at = read_all(&it);
-    if (at && at < it.end) fail(&it, at, "text after the value");
-    return tape->status;
+    if (at && at < it.end) at = fail(&it, at, "text after the value");
+    return at ? make(tape) : tape->status;
 }
 
 uint32_t jdoc_read_next(jdoc_tape *tape, const char *text, size_t len, size_t *used) {
     reader it = {tape, (place)text, (place)text + len};
     place at = skip_space(&it, it.start);
+    uint32_t status;
     if (at == it.end) return jdoc_tape_clear(tape), *used = len, JDOC_NONE;
     at = read_all(&it);
-    *used = at ? (size_t)(at - it.start) : tape->at;
-    return tape->status;
+    status = at ? make(tape) : tape->status;
+    *used = status == JDOC_OK ? (size_t)(at - it.start) : tape->at;
+    return status;
 }
 
 /* THE FIRST BYTE THAT IS NOT UTF-8 */

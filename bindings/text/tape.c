@@ -1,26 +1,28 @@
-/* Events to a document. The nodes are in the order of the events, so a container's children follow it. */
+/* Events to a document. */
 #include "tape.h"
+
+#include <stdlib.h>
 
 void jdoc_tape_init(jdoc_tape *tape, jdoc_heap heap, unsigned options) {
     memset(tape, 0, sizeof *tape);
     tape->heap = heap;
     tape->options = options;
-    tape->top = NO_NODE;
+    tape->top = NO_EVENT;
 }
 
 void jdoc_tape_clear(jdoc_tape *tape) {
-    tape->nodes_len = tape->bytes_len = tape->order_len = 0;
+    tape->events_len = tape->bytes_len = tape->document_len = 0;
     tape->status = JDOC_OK;
     tape->what = NULL;
     tape->at = tape->source = 0;
     tape->has_key = tape->in_object = false;
-    tape->top = NO_NODE;
+    tape->top = NO_EVENT;
 }
 
 void jdoc_tape_free(jdoc_tape *tape) {
-    if (tape->nodes) tape->heap.release(tape->nodes);
+    if (tape->events) tape->heap.release(tape->events);
     if (tape->bytes) tape->heap.release(tape->bytes);
-    if (tape->order) tape->heap.release(tape->order);
+    if (tape->document) tape->heap.release(tape->document);
     jdoc_tape_init(tape, tape->heap, tape->options);
 }
 
@@ -53,235 +55,145 @@ uint8_t *jdoc_tape_more(jdoc_tape *tape, size_t len) {
     return tape->bytes + tape->bytes_len;
 }
 
-bool jdoc_tape_node(jdoc_tape *tape) {
+bool jdoc_tape_grow(jdoc_tape *tape) {
     void *more;
     if (tape->status != JDOC_OK) return false;
-    if (tape->has_key != tape->in_object || (tape->top == NO_NODE && tape->nodes_len > 0)) return fail_place(tape);
-    if (tape->nodes_len >= NO_NODE - 1) return jdoc_tape_fail(tape, JDOC_TOO_LARGE, NULL, tape->source);
-    more = grown(tape, tape->nodes, &tape->nodes_size, tape->nodes_len + 1, sizeof *tape->nodes);
-    if (more) tape->nodes = more;
+    if (tape->events_len >= NO_EVENT - 1) return jdoc_tape_fail(tape, JDOC_TOO_LARGE, NULL, tape->source);
+    more = grown(tape, tape->events, &tape->events_size, tape->events_len + 1, sizeof *tape->events);
+    if (more) tape->events = more;
     return more;
 }
 
-static bool order_room(jdoc_tape *tape, size_t need) {
-    void *more;
-    if (need <= tape->order_size) return true;
-    more = grown(tape, tape->order, &tape->order_size, need, sizeof *tape->order);
-    if (more) tape->order = more;
-    return more;
+bool jdoc_tape_place(jdoc_tape *tape) {
+    if (tape->status != JDOC_OK) return false;
+    if (tape->has_key != tape->in_object || (tape->top == NO_EVENT && tape->events_len > 0)) return fail_place(tape);
+    tape->has_key = false;
+    return true;
 }
 
-bool jdoc_tape_null(jdoc_tape *tape) { return jdoc_tape_add(tape, NULL_NODE, tape->bytes_len); }
+bool jdoc_tape_null(jdoc_tape *tape) { return jdoc_tape_place(tape) && jdoc_tape_next(tape, JDOC_TEXT_NULL); }
 bool jdoc_tape_bool(jdoc_tape *tape, bool value) {
-    return jdoc_tape_add(tape, value ? TRUE_NODE : FALSE_NODE, tape->bytes_len);
+    return jdoc_tape_place(tape) && jdoc_tape_next(tape, value ? JDOC_TEXT_TRUE : JDOC_TEXT_FALSE);
 }
-bool jdoc_tape_string(jdoc_tape *tape, const char *text, size_t len) { return jdoc_tape_put(tape, text, len, false); }
-bool jdoc_tape_key(jdoc_tape *tape, const char *text, size_t len) { return jdoc_tape_put(tape, text, len, true); }
-
-bool jdoc_tape_begin(jdoc_tape *tape, bool object) {
-    uint32_t up = tape->top;
-    jdoc_node *node = jdoc_tape_add(tape, object ? OBJECT_NODE : ARRAY_NODE, tape->bytes_len);
-    if (!node) return false;
-    node->up = up;
-    tape->top = (uint32_t)tape->nodes_len - 1;
-    tape->in_object = object;
-    return true;
+bool jdoc_tape_u64(jdoc_tape *tape, uint64_t value) { return jdoc_tape_place(tape) && jdoc_tape_natural(tape, value); }
+bool jdoc_tape_i64(jdoc_tape *tape, int64_t value) {
+    if (value >= 0) return jdoc_tape_u64(tape, (uint64_t)value);
+    return jdoc_tape_place(tape) && jdoc_tape_negative(tape, value);
 }
 
-/* THE ORDER OF PAIRS: by the bytes of keys, and of one key as they came */
-
-static const uint8_t *key_of(const jdoc_tape *tape, const jdoc_node *node) {
-    return tape->bytes + node->at - node->key_len;
+static bool put(jdoc_tape *tape, const char *text, size_t len, bool is_key) {
+    size_t at = tape->bytes_len;
+    uint8_t *out = jdoc_tape_room(tape, len);
+    if (!out) return false;
+    if (len) memcpy(out, text, len);
+    tape->bytes_len += len;
+    return jdoc_tape_take(tape, at, is_key);
 }
 
-static uint64_t prefix_of(const uint8_t *key, size_t len) {
-    uint64_t word = __builtin_bswap64(take_word(key)); /* TAPE_SLACK */
-    return len < 8 ? word & ~(UINT64_MAX >> 8 * len) : word;
+bool jdoc_tape_string(jdoc_tape *tape, const char *text, size_t len) {
+    return jdoc_tape_place(tape) && put(tape, text, len, false);
 }
 
-static int order_of_keys(const jdoc_tape *tape, const jdoc_ranked *a, const jdoc_ranked *b) {
-    const jdoc_node *x = &tape->nodes[a->node], *y = &tape->nodes[b->node];
-    int order = memcmp(key_of(tape, x), key_of(tape, y), x->key_len < y->key_len ? x->key_len : y->key_len);
-    return order ? order : (x->key_len > y->key_len) - (x->key_len < y->key_len);
+bool jdoc_tape_key(jdoc_tape *tape, const char *text, size_t len) {
+    if (tape->status != JDOC_OK) return false;
+    if (!tape->in_object || tape->has_key) return fail_place(tape);
+    tape->has_key = true;
+    return put(tape, text, len, true);
 }
 
-static inline bool is_after(const jdoc_tape *tape, const jdoc_ranked *a, const jdoc_ranked *b) {
-    return a->prefix == b->prefix ? order_of_keys(tape, a, b) > 0 : a->prefix > b->prefix;
-}
-
-static inline bool same_key(const jdoc_tape *tape, const jdoc_ranked *a, const jdoc_ranked *b) {
-    return a->prefix == b->prefix && order_of_keys(tape, a, b) == 0;
-}
-
-static void insert_each(const jdoc_tape *tape, jdoc_ranked *first, const jdoc_ranked *end) {
-    for (jdoc_ranked *next = first + 1; next < end; next++) {
-        jdoc_ranked moved = *next, *at = next;
-        for (; at > first && is_after(tape, at - 1, &moved); at--) *at = at[-1];
-        *at = moved;
-    }
-}
-
-static void merge(const jdoc_tape *tape, const jdoc_ranked *a, size_t mid, size_t high, jdoc_ranked *out) {
-    size_t i = 0, j = mid;
-    while (i < mid || j < high) *out++ = j >= high || (i < mid && !is_after(tape, &a[i], &a[j])) ? a[i++] : a[j++];
-}
-
-static void merge_runs(const jdoc_tape *tape, jdoc_ranked *at, jdoc_ranked *spare, size_t count, size_t width) {
-    for (size_t low = 0; low < count; low += 2 * width) {
-        size_t left = count - low;
-        merge(tape, at + low, width < left ? width : left, 2 * width < left ? 2 * width : left, spare + low);
-    }
-    memcpy(at, spare, count * sizeof *at);
-}
-
-static bool sort(jdoc_tape *tape, size_t from, uint32_t count) {
-    if (count <= 12) return insert_each(tape, tape->order + from, tape->order + from + count), true;
-    if (!order_room(tape, from + 2 * (size_t)count)) return false;
-    for (size_t width = 1; width < count; width *= 2)
-        merge_runs(tape, tape->order + from, tape->order + from + count, count, width);
-    return true;
-}
-
-/* Drops the members whose key occurs again, from an object and from its order. */
-static bool drop_repeated(jdoc_tape *tape, jdoc_node *object) {
-    jdoc_ranked *first = tape->order + object->order, *end = first + object->count, *kept = first;
-    for (jdoc_ranked *at = first; at < end; at++) {
-        jdoc_node *child = &tape->nodes[at->node];
-        if (at + 1 == end || !same_key(tape, at, at + 1)) {
-            *kept++ = *at;
-            continue;
-        }
-        if (!(tape->options & JDOC_KEEP_LAST))
-            return jdoc_tape_fail(tape, JDOC_OBJECT_DUPLICATE_KEY, "the key comes twice",
-                                  tape->nodes[at[1].node].source);
-        child->kind = DROPPED_NODE;
-        object->len -= 8 + child->key_len + child->len;
-    }
-    object->count = (uint32_t)(kept - first);
-    return true;
-}
-
-/* Counts the pairs of the object that ends, and puts them in order. */
-static bool end_object(jdoc_tape *tape, jdoc_node *object) {
-    const jdoc_node *child = object + 1, *nodes = tape->nodes, *end = nodes + tape->nodes_len;
-    size_t from = tape->order_len, at = from, len = 4;
-    uint64_t last = 0;
-    bool rises = true;
-    for (; child < end; child = &nodes[child->next]) {
-        uint64_t prefix = prefix_of(key_of(tape, child), child->key_len);
-        if (at == tape->order_size && !order_room(tape, at + 1)) return false;
-        tape->order[at++] = (jdoc_ranked){prefix, (uint32_t)(child - nodes)};
-        rises &= prefix > last;
-        last = prefix;
-        len += 8 + child->key_len + child->len;
-    }
-    object->len = len;
-    object->order = from;
-    object->count = (uint32_t)(at - from);
-    if (!rises && (!sort(tape, from, object->count) || !drop_repeated(tape, object))) return false;
-    tape->order_len = from + object->count;
-    return true;
-}
-
-/* Counts the elements of the array that ends. */
-static bool end_array(jdoc_tape *tape, jdoc_node *array) {
-    const jdoc_node *child = array + 1, *nodes = tape->nodes, *end = nodes + tape->nodes_len;
-    array->len = 4, array->count = 0;
-    for (; child < end; child = &nodes[child->next]) {
-        array->len += 4 + child->len;
-        array->count++;
-    }
-    return true;
-}
+bool jdoc_tape_begin(jdoc_tape *tape, bool object) { return jdoc_tape_place(tape) && jdoc_tape_open(tape, object); }
 
 bool jdoc_tape_end(jdoc_tape *tape) {
-    jdoc_node *node;
     if (tape->status != JDOC_OK) return false;
-    if (tape->top == NO_NODE || tape->has_key) return fail_place(tape);
-    node = &tape->nodes[tape->top];
-    if (!(tape->in_object ? end_object(tape, node) : end_array(tape, node))) return false;
-    node->next = (uint32_t)tape->nodes_len;
-    if (node->count > COUNT_LIMIT || (node->up != NO_NODE && node->len > CONTENT_LIMIT))
-        return jdoc_tape_fail(tape, JDOC_TOO_LARGE, "a container past the limits of the format", node->source);
-    tape->top = node->up;
-    tape->in_object = tape->top != NO_NODE && tape->nodes[tape->top].kind == OBJECT_NODE;
-    return true;
+    if (tape->top == NO_EVENT || tape->has_key) return fail_place(tape);
+    return jdoc_tape_close(tape);
 }
 
-/* WRITING */
+/* THE PLACE OF A KEY THAT COMES TWICE, which is looked for only after that error */
 
-size_t jdoc_tape_size(const jdoc_tape *tape) {
-    if (tape->status != JDOC_OK || tape->top != NO_NODE || tape->nodes_len == 0) return 0;
-    return (tape->nodes[0].kind < ARRAY_NODE ? 8 : 0) + tape->nodes[0].len;
+typedef struct named {
+    uint32_t object; /* the event that begins it */
+    const uint8_t *key;
+    size_t len, source;
+} named;
+
+static bool same_key(const named *x, const named *y) {
+    return x->object == y->object && x->len == y->len && memcmp(x->key, y->key, x->len) == 0;
 }
 
-/* Copies bytes of the tape, which has some, and TAPE_SLACK after them. */
-static inline void copy(uint8_t *to, const uint8_t *from, size_t len) {
-    uint64_t word = take_word(from);
-    if (len >= 8) {
-        memcpy(to, from, len);
+static int order_of_keys(const void *a, const void *b) {
+    const named *x = a, *y = b;
+    int order = (x->object > y->object) - (x->object < y->object);
+    if (!order) order = (x->len > y->len) - (x->len < y->len);
+    if (!order) order = memcmp(x->key, y->key, x->len);
+    return order ? order : (x->source > y->source) - (x->source < y->source);
+}
+
+/* Collects the keys of all objects, and returns how many. */
+static size_t collect_keys(const jdoc_tape *tape, named *keys) {
+    const uint8_t *at = tape->bytes;
+    size_t count = 0;
+    uint32_t top = NO_EVENT;
+    for (uint32_t i = 0; i < tape->events_len; i++) {
+        const jdoc_text_event *it = &tape->events[i];
+        if (it->kind == JDOC_TEXT_KEY) keys[count++] = (named){top, at, (size_t)it->low, (size_t)it->high};
+        if (it->kind == JDOC_TEXT_KEY || it->kind == JDOC_TEXT_STRING) at += it->low;
+        if (it->kind == JDOC_TEXT_ARRAY || it->kind == JDOC_TEXT_OBJECT) top = i;
+        if (it->kind == JDOC_TEXT_END) top = (uint32_t)tape->events[top].low;
+    }
+    return count;
+}
+
+/* Sets the error, at the first key that its object already has. */
+static void fail_duplicate(jdoc_tape *tape) {
+    named *keys = tape->heap.resize(NULL, tape->events_len * sizeof *keys);
+    size_t count, first = SIZE_MAX;
+    if (!keys) {
+        jdoc_tape_fail(tape, JDOC_OUT_OF_MEMORY, NULL, 0);
         return;
     }
-    if (len & 4) memcpy(to, &word, 4), to += 4, word >>= 32;
-    if (len & 2) memcpy(to, &word, 2), to += 2, word >>= 16;
-    if (len & 1) *to = (uint8_t)word;
+    count = collect_keys(tape, keys);
+    qsort(keys, count, sizeof *keys, order_of_keys);
+    for (size_t i = 1; i < count; i++)
+        if (same_key(&keys[i - 1], &keys[i]) && keys[i].source < first) first = keys[i].source;
+    tape->heap.release(keys);
+    jdoc_tape_fail(tape, JDOC_OBJECT_DUPLICATE_KEY, "the key comes twice", first);
 }
 
-/* Writes the entry word of a node and its content, or notes the place of a container. Returns the end of the content.
- */
-static inline size_t write_entry(const jdoc_tape *tape, jdoc_node *node, uint8_t *out, size_t word, size_t at) {
-    put32(out + word, (uint32_t)(node->kind & 7) << 28 | (uint32_t)node->len);
-    if (node->kind >= ARRAY_NODE)
-        node->place = at;
-    else if (node->len)
-        copy(out + at, tape->bytes + node->at, node->len);
-    return at + node->len;
+/* THE DOCUMENT */
+
+/* Sets the error of a call that made no document. */
+static void fail_make(jdoc_tape *tape, uint32_t status) {
+    if (status == JDOC_OBJECT_DUPLICATE_KEY)
+        fail_duplicate(tape);
+    else if (status == JDOC_NOT_UTF8 || status == JDOC_OUT_OF_ORDER) /* a character is in two strings */
+        jdoc_tape_fail(tape, JDOC_NOT_UTF8, "a string is not UTF-8", 0);
+    else
+        jdoc_tape_fail(tape, status, status == JDOC_TOO_LARGE ? "a value past the limits of the format" : NULL, 0);
 }
 
-static void write_array(const jdoc_tape *tape, const jdoc_node *array, uint8_t *out) {
-    size_t word = array->place + 4, first = word + 4 * (size_t)array->count, at = first;
-    jdoc_node *nodes = tape->nodes;
-    put32(out + array->place, HEADER_ARRAY | array->count);
-    for (uint32_t i = (uint32_t)(array - nodes) + 1; word < first; word += 4, i = nodes[i].next)
-        at = write_entry(tape, &nodes[i], out, word, at);
-}
-
-static void write_object(const jdoc_tape *tape, const jdoc_node *object, uint8_t *out) {
-    const jdoc_ranked *pairs = tape->order + object->order, *end = pairs + object->count;
-    size_t word = object->place + 4, at = word + 8 * (size_t)object->count;
-    jdoc_node *nodes = tape->nodes;
-    put32(out + object->place, HEADER_OBJECT | object->count);
-    for (const jdoc_ranked *pair = pairs; pair < end; pair++, word += 4) {
-        const jdoc_node *child = &nodes[pair->node];
-        put32(out + word, ENTRY_STRING | child->key_len);
-        copy(out + at, key_of(tape, child), child->key_len);
-        at += child->key_len;
+void jdoc_tape_make(jdoc_tape *tape) {
+    size_t need = 8 + tape->bytes_len + 22 * tape->events_len;
+    uint32_t status;
+    if (need > tape->document_size) {
+        void *more = grown(tape, tape->document, &tape->document_size, need, 1);
+        if (!more) return;
+        tape->document = more;
     }
-    for (const jdoc_ranked *pair = pairs; pair < end; pair++, word += 4)
-        at = write_entry(tape, &nodes[pair->node], out, word, at);
+    status = jdoc_from_events((const char *)tape->bytes, tape->bytes_len, tape->events, tape->events_len,
+                              tape->options & JDOC_KEEP_LAST, tape->document, tape->document_size, &tape->document_len);
+    if (status != JDOC_OK) fail_make(tape, status);
 }
 
-static void write_containers(const jdoc_tape *tape, uint8_t *out) {
-    const jdoc_node *nodes = tape->nodes, *end = nodes + tape->nodes_len, *node = nodes;
-    while (node < end) {
-        if (node->kind == ARRAY_NODE) write_array(tape, node, out);
-        if (node->kind == OBJECT_NODE) write_object(tape, node, out);
-        node = node->kind == DROPPED_NODE ? nodes + node->next : node + 1;
-    }
+size_t jdoc_tape_size(jdoc_tape *tape) {
+    if (tape->status != JDOC_OK || tape->top != NO_EVENT || tape->events_len == 0) return 0;
+    if (!tape->document_len) jdoc_tape_make(tape);
+    return tape->status == JDOC_OK ? tape->document_len : 0;
 }
 
 uint32_t jdoc_tape_write(jdoc_tape *tape, uint8_t *out) {
     size_t size = jdoc_tape_size(tape);
     if (!size) return tape->status == JDOC_OK ? JDOC_INVALID_JSON_TYPE : tape->status;
-    if (tape->nodes[0].kind < ARRAY_NODE) {
-        put32(out, HEADER_SCALAR);
-        write_entry(tape, &tape->nodes[0], out, 4, 8);
-    } else {
-        tape->nodes[0].place = 0;
-        write_containers(tape, out);
-    }
-    /* The one thing that a tape does not look at are the bytes of strings. */
-    if (jdoc_check(out, size) == JDOC_OK) return JDOC_OK;
-    jdoc_tape_fail(tape, JDOC_NOT_UTF8, "a string is not UTF-8", 0);
-    return tape->status;
+    memcpy(out, tape->document, size);
+    return JDOC_OK;
 }

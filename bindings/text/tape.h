@@ -1,53 +1,24 @@
-/* The nodes of a tape, and how the next one is added. */
+/* How the next event of a tape is added. */
 #ifndef JDOC_TEXT_TAPE_H
 #define JDOC_TEXT_TAPE_H
 
 #include "format.h"
 
-#define NO_NODE UINT32_MAX
+#define NO_EVENT UINT32_MAX
 
-/* Kinds of nodes: the type of their entry word, and a bit more of containers. */
-enum {
-    NULL_NODE = JDOC_EVENT_NULL,
-    STRING_NODE = JDOC_EVENT_STRING,
-    NUMBER_NODE = JDOC_EVENT_NUMBER,
-    FALSE_NODE = JDOC_EVENT_FALSE,
-    TRUE_NODE = JDOC_EVENT_TRUE,
-    ARRAY_NODE = 8 | JDOC_EVENT_BEGIN,
-    OBJECT_NODE = 16 | JDOC_EVENT_BEGIN,
-    DROPPED_NODE = 32 /* a later pair has its key */
-};
-
-struct jdoc_node {
-    uint8_t kind;
-    uint32_t key_len; /* of a pair: the key is before `at` in the tape's bytes */
-    uint32_t count;   /* children of a container, without dropped ones */
-    uint32_t up;      /* the container around a container */
-    uint32_t next;    /* the first node after it and its children */
-    size_t at;        /* its content in the tape's bytes, of which a container has none */
-    size_t len;       /* of the content in the document */
-    size_t place;     /* of a container in the document that is written */
-    size_t order;     /* of an object: the index of its first pair, by key, in the tape's order */
-    size_t source;    /* the caller's position of the key, or of the value */
-};
-
-/* A pair in the order of keys: its node, and the first eight bytes of its key, the first byte highest. */
-struct jdoc_ranked {
-    uint64_t prefix;
-    uint32_t node;
-};
-
-/* After its bytes a tape has room for a block, so that whole words and blocks are read and written. */
+/* After its bytes a tape has room for a block, so that whole blocks are written. */
 enum { TAPE_SLACK = sizeof(block) };
 
 /* Sets the error if it is the first, and returns false. */
 bool jdoc_tape_fail(jdoc_tape *tape, uint32_t status, const char *what, size_t at);
 /* The slow part of jdoc_tape_room. */
 uint8_t *jdoc_tape_more(jdoc_tape *tape, size_t len);
-/* The reason why no node can be added, or room for one. */
-bool jdoc_tape_node(jdoc_tape *tape);
-/* Adds a number with a point, before whose last `scale` digits it is. */
-bool jdoc_tape_decimal(jdoc_tape *tape, int64_t digits, uint8_t scale);
+/* Makes room for one event more, or sets the error. */
+bool jdoc_tape_grow(jdoc_tape *tape);
+/* Whether a value may come next, or the reason why not. */
+bool jdoc_tape_place(jdoc_tape *tape);
+/* Makes the document, or sets the error. */
+void jdoc_tape_make(jdoc_tape *tape);
 
 /* Room for `len` bytes more in the tape, at its end, or NULL. */
 static inline uint8_t *jdoc_tape_room(jdoc_tape *tape, size_t len) {
@@ -56,43 +27,62 @@ static inline uint8_t *jdoc_tape_room(jdoc_tape *tape, size_t len) {
     return tape->bytes + tape->bytes_len;
 }
 
-/* Adds a node, whose content is the tape's bytes from `at` on, or NULL. */
-static inline jdoc_node *jdoc_tape_add(jdoc_tape *tape, uint8_t kind, size_t at) {
-    jdoc_node *node;
-    bool misplaced = tape->has_key != tape->in_object || (tape->top == NO_NODE && tape->nodes_len > 0);
-    if ((misplaced || tape->nodes_len == tape->nodes_size || tape->status != JDOC_OK) && !jdoc_tape_node(tape))
-        return NULL;
-    node = &tape->nodes[tape->nodes_len++];
-    node->kind = kind;
-    node->key_len = tape->key_len;
-    node->next = (uint32_t)tape->nodes_len;
-    node->at = at;
-    node->len = tape->bytes_len - at;
-    node->source = tape->in_object ? tape->key_source : tape->source;
-    tape->has_key = false;
-    return node;
+/* Adds an event that may come next, or returns NULL. */
+static inline jdoc_text_event *jdoc_tape_next(jdoc_tape *tape, uint8_t kind) {
+    jdoc_text_event *event;
+    if (tape->events_len == tape->events_size && !jdoc_tape_grow(tape)) return NULL;
+    event = &tape->events[tape->events_len++];
+    event->kind = kind;
+    return event;
+}
+
+/* Adds a number of any text. */
+bool jdoc_tape_put_number(jdoc_tape *tape, const char *text, size_t len);
+
+/* Each adds a number. */
+static inline bool jdoc_tape_natural(jdoc_tape *tape, uint64_t value) {
+    jdoc_text_event *event = jdoc_tape_next(tape, JDOC_TEXT_UINT64);
+    if (event) event->low = value;
+    return event;
+}
+
+static inline bool jdoc_tape_negative(jdoc_tape *tape, int64_t value) {
+    jdoc_text_event *event = jdoc_tape_next(tape, JDOC_TEXT_INT64);
+    if (event) event->high = value;
+    return event;
+}
+
+static inline bool jdoc_tape_decimal(jdoc_tape *tape, int64_t digits, uint8_t scale) {
+    jdoc_text_event *event = jdoc_tape_next(tape, JDOC_TEXT_DECIMAL64);
+    if (event) event->high = digits, event->scale = scale;
+    return event;
 }
 
 /* Makes the tape's bytes from `at` on a string or the next key. */
 static inline bool jdoc_tape_take(jdoc_tape *tape, size_t at, bool is_key) {
-    size_t len = tape->bytes_len - at;
-    if (len > CONTENT_LIMIT)
-        return jdoc_tape_fail(tape, JDOC_TOO_LARGE, "a string of more than 2^28 - 1 bytes", tape->source);
-    if (!is_key) return jdoc_tape_add(tape, STRING_NODE, at);
-    tape->has_key = true;
-    tape->key_len = (uint32_t)len;
-    tape->key_source = tape->source;
+    jdoc_text_event *event = jdoc_tape_next(tape, is_key ? JDOC_TEXT_KEY : JDOC_TEXT_STRING);
+    if (!event) return false;
+    event->low = tape->bytes_len - at;
+    event->high = (int64_t)tape->source;
     return true;
 }
 
-/* Adds a string or the next key. */
-static inline bool jdoc_tape_put(jdoc_tape *tape, const void *text, size_t len, bool is_key) {
-    size_t at = tape->bytes_len;
-    uint8_t *out = jdoc_tape_room(tape, len);
-    if (!out) return false;
-    if (len) memcpy(out, text, len);
-    tape->bytes_len += len;
-    return jdoc_tape_take(tape, at, is_key);
+/* Opens a container, whose event is the next one. */
+static inline bool jdoc_tape_open(jdoc_tape *tape, bool object) {
+    jdoc_text_event *event = jdoc_tape_next(tape, object ? JDOC_TEXT_OBJECT : JDOC_TEXT_ARRAY);
+    if (!event) return false;
+    event->low = tape->top;
+    tape->top = (uint32_t)tape->events_len - 1;
+    tape->in_object = object;
+    return true;
+}
+
+/* Closes the open container. */
+static inline bool jdoc_tape_close(jdoc_tape *tape) {
+    if (!jdoc_tape_next(tape, JDOC_TEXT_END)) return false;
+    tape->top = (uint32_t)tape->events[tape->top].low;
+    tape->in_object = tape->top != NO_EVENT && tape->events[tape->top].kind == JDOC_TEXT_OBJECT;
+    return true;
 }
 
 #endif

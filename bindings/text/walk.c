@@ -27,12 +27,10 @@ uint32_t jdoc_next_item(const uint8_t *document, size_t len, jdoc_cursor *cursor
 size_t jdoc_item_size(const jdoc_event *item) { return (item->kind == JDOC_EVENT_BEGIN ? 0 : 8) + item->len; }
 
 void jdoc_item_write(const jdoc_event *item, uint8_t *out) {
-    if (item->kind != JDOC_EVENT_BEGIN) {
-        put32(out, HEADER_SCALAR);
-        put32(out + 4, (uint32_t)item->kind << 28 | (uint32_t)item->len);
-        out += 8;
-    }
-    if (item->len) memcpy(out, item->bytes, item->len);
+    jdoc_span whole = {.len = item->len, .entry = (uint8_t)item->kind};
+    size_t len;
+    uint32_t status = jdoc_span_document(item->bytes, item->len, &whole, out, jdoc_item_size(item), &len);
+    (void)status; /* JDOC_OK: an item has a type, and the length of a scalar's content is that of its entry word */
 }
 
 void jdoc_walk_init_item(jdoc_walk *walk, jdoc_heap heap, const jdoc_event *item) {

@@ -156,6 +156,8 @@ void prepared() {
     EXPECT((*jdoc::find(mixed, std::size_t{1}))->at == 16);
     EXPECT((*jdoc::find_by_name(object, "ASD", true))->at == 15);
     EXPECT((*jdoc::find_str(v))->at == 8);
+    EXPECT(is(jdoc::value_at(mixed, **key->find(mixed)), v));
+    EXPECT(jdoc::value_at(v, **key->find(mixed)).error() == JDOC_INVALID_JSONB);
     EXPECT((*jdoc::find_first(mixed, "$[*].k"))->at == 31 && !*jdoc::find_first(mixed, "$[9]"));
     EXPECT(jdoc::find_first(tens, "$[1] + 1").error() == JDOC_COMPUTED);
     EXPECT((*jdoc::path::read("$[1]")->find_first(tens))->at == 18);
@@ -208,6 +210,11 @@ void events() {
                              *jdoc::from_decimal({0, 1234, 2}), null, object};
     EXPECT(is(values.finish(), *jdoc::array_of(parts)));
     static_assert(!std::is_copy_constructible_v<jdoc::builder>);
+    jdoc_text_event twice[] = {{0, 0, JDOC_TEXT_OBJECT, 0}, {3, 0, JDOC_TEXT_KEY, 0}, {0, 0, JDOC_TEXT_NULL, 0},
+                               {3, 0, JDOC_TEXT_KEY, 0},    {3, 0, JDOC_TEXT_STRING, 0}, {0, 0, JDOC_TEXT_END, 0}};
+    EXPECT(is(jdoc::from_events("asdasdadf", twice, 6, true), object));
+    EXPECT(jdoc::from_events("asdasdadf", twice, 6).error() == JDOC_OBJECT_DUPLICATE_KEY);
+    EXPECT(jdoc::from_events("asdasdadf", twice, 5).error() == JDOC_OUT_OF_ORDER);
 }
 
 /* One row of each outcome: a result, none, and an error. */

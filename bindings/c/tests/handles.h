@@ -61,17 +61,11 @@ BY_BYTES(keypath, get, PLACE, document, document_len)
 BY_BYTES(keypath, delete, PLACE, document, document_len)
 
 /* The value at a span, as a document: that of jdoc_get_by_keypath. */
-static enum jdoc_status value_at(const jdoc_span *span, const uint8_t *document, uint8_t *out, size_t size,
-                                 size_t *out_len) {
-    bool is_container = span->entry == 5;
-    uint8_t headers[8] = {0x20, 0, 0, 0, (uint8_t)(span->entry << 4 | span->len >> 24), (uint8_t)(span->len >> 16),
-                          (uint8_t)(span->len >> 8), (uint8_t)span->len};
-    *out_len = (is_container ? 0 : sizeof headers) + span->len;
-    if (size < *out_len) return JDOC_BUFFER_TOO_SMALL;
-    if (!is_container) memcpy(out, headers, sizeof headers);
-    if (span->len) memcpy(out + *out_len - span->len, document + span->at, span->len);
+static enum jdoc_status value_at(const jdoc_span *span, BYTES_IN_NAMED, BYTES_OUT_NAMED) {
+    enum jdoc_status status = jdoc_span_document(document, document_len, span, out, size, out_len);
+    if (status != JDOC_OK) return status;
     uint8_t kind = 99;
-    enum jdoc_status status = jdoc_type(out, *out_len, &kind);
+    status = jdoc_type(out, *out_len, &kind);
     return status == JDOC_OK && kind != span->kind ? (enum jdoc_status)CHANGED_PATH : status;
 }
 
@@ -79,7 +73,7 @@ static enum jdoc_status jdoc_by_span PLACE {
     jdoc_span span = {.at = 99}, unchanged = {.at = 99};
     enum jdoc_status status = jdoc_find_by_keypath(document, document_len, text, text_len, &span);
     *out_len = 0;
-    if (status == JDOC_OK) return value_at(&span, document, out, size, out_len);
+    if (status == JDOC_OK) return value_at(&span, document, document_len, out, size, out_len);
     return memcmp(&span, &unchanged, sizeof span) ? (enum jdoc_status)WROTE_WITHOUT_PATH : status;
 }
 
@@ -88,7 +82,7 @@ static enum jdoc_status jdoc_by_keypath_span PLACE {
     jdoc_span span = {.at = 99}, unchanged = {.at = 99};
     *out_len = 0;
     if (status == JDOC_OK) status = jdoc_keypath_find(&path, document, document_len, &span);
-    if (status == JDOC_OK) status = value_at(&span, document, out, size, out_len);
+    if (status == JDOC_OK) status = value_at(&span, document, document_len, out, size, out_len);
     jdoc_keypath_free(&path);
     span = unchanged;
     if (jdoc_keypath_find(&path, document, document_len, &span) != JDOC_NO_PATH ||
@@ -131,24 +125,34 @@ static enum jdoc_status jdoc_by_items SELECTION {
 }
 
 /* The spans of children and strings, and children by a cursor, in the form of the calls that copy them. */
-static enum jdoc_status copied(enum jdoc_status status, const jdoc_span *span, const uint8_t *document, uint8_t *out,
-                               size_t size, size_t *out_len) {
+static enum jdoc_status copied(enum jdoc_status status, const jdoc_span *span, BYTES_IN_NAMED, BYTES_OUT_NAMED) {
     jdoc_span unchanged = {.at = 99};
     *out_len = 0;
-    if (status == JDOC_OK) return value_at(span, document, out, size, out_len);
+    if (status == JDOC_OK) return value_at(span, document, document_len, out, size, out_len);
     return memcmp(span, &unchanged, sizeof unchanged) ? (enum jdoc_status)WROTE_WITHOUT_PATH : status;
 }
 
 static enum jdoc_status jdoc_span_by_index(BYTES_IN_NAMED, size_t index, BYTES_OUT_NAMED) {
     jdoc_span span = {.at = 99};
     enum jdoc_status status = jdoc_find_by_index(document, document_len, index, &span);
-    return copied(status, &span, document, out, size, out_len);
+    return copied(status, &span, document, document_len, out, size, out_len);
 }
 
 static enum jdoc_status jdoc_span_by_name SELECTION {
     jdoc_span span = {.at = 99};
     enum jdoc_status status = jdoc_find_by_name(document, document_len, text, text_len, strict, &span);
-    return copied(status, &span, document, out, size, out_len);
+    return copied(status, &span, document, document_len, out, size, out_len);
+}
+
+/* The document whose content these bytes are, with this entry type; and that of as many bytes after a position. */
+static enum jdoc_status jdoc_span_of_type(BYTES_IN_NAMED, size_t type, BYTES_OUT_NAMED) {
+    jdoc_span span = {.len = document_len, .kind = 99, .entry = (uint8_t)type};
+    return jdoc_span_document(document, document_len, &span, out, size, out_len);
+}
+
+static enum jdoc_status jdoc_span_from(BYTES_IN_NAMED, size_t at, BYTES_OUT_NAMED) {
+    jdoc_span span = {.at = at, .len = document_len, .kind = 99, .entry = 1};
+    return jdoc_span_document(document, document_len, &span, out, size, out_len);
 }
 
 static enum jdoc_status content_at(enum jdoc_status status, const jdoc_span *span, const uint8_t *document,
@@ -186,14 +190,14 @@ static enum jdoc_status jdoc_cursor_element(BYTES_IN_NAMED, size_t index, BYTES_
     jdoc_span key = {.at = 99}, value = {.at = 99};
     enum jdoc_status status = nth_child(document, document_len, index, &key, &value);
     if (status == JDOC_OK && key.at != 99) return *out_len = 0, JDOC_NONE;
-    return status == JDOC_OK ? value_at(&value, document, out, size, out_len) : (*out_len = 0, status);
+    return status == JDOC_OK ? value_at(&value, document, document_len, out, size, out_len) : (*out_len = 0, status);
 }
 
 static enum jdoc_status jdoc_cursor_value(BYTES_IN_NAMED, size_t index, BYTES_OUT_NAMED) {
     jdoc_span key = {.at = 99}, value = {.at = 99};
     enum jdoc_status status = nth_child(document, document_len, index, &key, &value);
     if (status == JDOC_OK && key.at == 99) return *out_len = 0, JDOC_NONE;
-    return status == JDOC_OK ? value_at(&value, document, out, size, out_len) : (*out_len = 0, status);
+    return status == JDOC_OK ? value_at(&value, document, document_len, out, size, out_len) : (*out_len = 0, status);
 }
 
 static enum jdoc_status jdoc_cursor_key(BYTES_IN_NAMED, size_t index, BYTES_OUT_NAMED) {
@@ -218,7 +222,7 @@ static enum jdoc_status jdoc_cursor_len(BYTES_IN_NAMED, size_t *len) {
 static enum jdoc_status jdoc_first_in_place SELECTION {
     jdoc_span span = {.at = 99};
     enum jdoc_status status = jdoc_find_first(document, document_len, text, text_len, strict, &span);
-    return copied(status, &span, document, out, size, out_len);
+    return copied(status, &span, document, document_len, out, size, out_len);
 }
 
 static enum jdoc_status jdoc_by_first_span SELECTION {
@@ -232,7 +236,7 @@ static enum jdoc_status jdoc_by_path_first_span SELECTION {
     jdoc_span span = {.at = 99}, unchanged = {.at = 99};
     *out_len = 0;
     if (status == JDOC_OK) status = jdoc_path_find_first(&path, document, document_len, strict, &span);
-    status = copied(status, &span, document, out, size, out_len);
+    status = copied(status, &span, document, document_len, out, size, out_len);
     if (status == JDOC_COMPUTED)
         status = jdoc_path_select_first(&path, document, document_len, strict, out, size, out_len);
     jdoc_path_free(&path);
@@ -248,7 +252,7 @@ static enum jdoc_status next_in_place(jdoc_items *items, const uint8_t *document
                                       size_t size, size_t *out_len) {
     jdoc_span span = {.at = 99};
     enum jdoc_status status = jdoc_items_find_next(items, document, document_len, &span);
-    status = copied(status, &span, document, out, size, out_len);
+    status = copied(status, &span, document, document_len, out, size, out_len);
     return status == JDOC_COMPUTED ? jdoc_items_next(items, document, document_len, out, size, out_len) : status;
 }
 
@@ -345,6 +349,36 @@ static enum jdoc_status jdoc_by_events_that_fit PLACE {
     }
     jdoc_builder_free(&builder);
     return status;
+}
+
+/* The event of a letter. Its bytes are appended to the text. */
+static jdoc_text_event event_of(char letter, char *text, size_t *len) {
+    static const char letters[] = "nftium   [{.", keys[] = "abky", strings[] = "sx";
+    const char *bytes = letter == 'k' ? "asd" : letter == 's' ? "adf" : letter == 'a' ? "a" : letter == 'b' ? "b" : "\xff";
+    jdoc_text_event event = {.kind = strchr(keys, letter) ? JDOC_TEXT_KEY : JDOC_TEXT_STRING};
+    if (strchr(keys, letter) || strchr(strings, letter)) {
+        event.low = strlen(bytes);
+        memcpy(text + *len, bytes, event.low);
+        *len += event.low;
+        return event;
+    }
+    if (!strchr(letters, letter)) abort();
+    event.kind = (uint8_t)(strchr(letters, letter) - letters);
+    if (event.kind == JDOC_TEXT_INT64) event.high = -100;
+    if (event.kind == JDOC_TEXT_UINT64) event.low = 1;
+    if (event.kind == JDOC_TEXT_DECIMAL64) event.high = 1234, event.scale = 2;
+    return event;
+}
+
+/* The document of events in an array. Of members with the same key the last is kept if the flag is set. */
+static enum jdoc_status jdoc_by_event_list SELECTION {
+    jdoc_text_event events[1024];
+    char bytes[3 * 1024];
+    size_t len = 0;
+    (void)document, (void)document_len;
+    if (text_len > sizeof events / sizeof *events) abort();
+    for (size_t i = 0; i < text_len; i++) events[i] = event_of(text[i], bytes, &len);
+    return jdoc_from_events(bytes, len, events, text_len, strict, out, size, out_len);
 }
 
 /* A struct that was cast contains a path of the other kind: calls return JDOC_NO_PATH and write nothing. */

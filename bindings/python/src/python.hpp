@@ -19,7 +19,7 @@ struct Tape : jdoc_tape {
     Tape() { jdoc_tape_init(this, HEAP, 0); }
     Tape(const Tape &) = delete;
     ~Tape() { jdoc_tape_free(this); }
-    bool is_large() const { return nodes_size > 1 << 14 || bytes_size > 1 << 20; }
+    bool is_large() const { return events_size > 1 << 15 || bytes_size > 1 << 20 || document_size > 1 << 20; }
 };
 
 struct Buffer : jdoc_buffer {

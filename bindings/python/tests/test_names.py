@@ -20,14 +20,14 @@ RUST_TYPES = {
     "size_t": "usize", "size_t *": "*mut usize", "uint8_t *": "*mut u8", "char *": "*mut core::ffi::c_char", "uint64_t *": "*mut u64", "int64_t *": "*mut i64",
     "int32_t": "i32", "int32_t *": "*mut i32", "int64_t": "i64", "uint64_t": "u64", "uint32_t": "u32", "uint8_t": "u8", "bool": "bool",
 }
-# Calls that the package does not make: it writes documents itself, reads objects as events, copies the values it finds, and reads the
+# Calls that the package does not make: bindings/text makes documents of text and of values; it reads objects as events, copies the values it finds, and reads the
 # items of a path from their array.
 UNUSED = {
     "status_name", "pair", "from_null", "from_bool", "from_i64", "from_u64", "from_decimal", "from_str",
-    "find_by_keypath", "keypath_find", "find_by_index", "find_by_name", "find_str", "cursor_next", "find_first", "path_find_first",
+    "find_by_keypath", "keypath_find", "find_by_index", "find_by_name", "find_str", "cursor_next", "find_first", "path_find_first", "span_document",
     "path_items", "items_next", "items_find_next", "items_free",
     "builder_begin_array", "builder_begin_object", "builder_end", "builder_key", "builder_null", "builder_bool", "builder_i64", "builder_u64",
-    "builder_decimal", "builder_str", "builder_document", "builder_finish", "builder_free",
+    "builder_decimal", "builder_str", "builder_document", "builder_finish", "builder_free", "from_events",
 }
 
 
@@ -78,7 +78,7 @@ class Names(unittest.TestCase):
             self.assertEqual(arguments, [rust_type(it) for it in wanted], name)
 
     def test_statuses_have_the_numbers_and_names_of_the_header(self):
-        listed = {int(number): name for name, number in re.findall(r"JDOC_((?!KIND)\w+) = (\d+)", header())}
+        listed = {int(number): name for name, number in re.findall(r"JDOC_((?!KIND|TEXT)\w+) = (\d+)", header())}
         known = {number: kind.__name__.upper() for number, kind in BY_STATUS.items() if kind is not InvalidJson}
         self.assertEqual({number: name.replace("_", "") for number, name in listed.items() if name not in ("OK", "NONE", "BUFFER_TOO_SMALL", "NO_PATH", "COMPUTED", "OUT_OF_ORDER")}, known)
         with open(os.path.join(BINDINGS, "text", "jdoc_text.h")) as file:

@@ -35,7 +35,7 @@ impl Tape {
         // SAFETY: the slice is a pointer and its length, and the buffer has the size of the document.
         unsafe {
             done(sys::jdoc_read_text(&mut self.0, at, text.len()))?;
-            let size = sys::jdoc_tape_size(&self.0);
+            let size = sys::jdoc_tape_size(&mut self.0);
             let mut out = Vec::with_capacity(size);
             done(sys::jdoc_write_read(&mut self.0, at, text.len(), out.as_mut_ptr()))?;
             out.set_len(size);

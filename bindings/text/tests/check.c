@@ -11,6 +11,11 @@
 
 static size_t passed, failed, accepted;
 
+static void put32(uint8_t *at, uint32_t word) {
+    word = __builtin_bswap32(word);
+    memcpy(at, &word, sizeof word);
+}
+
 static void *resize(void *piece, size_t size) { return realloc(piece, size ? size : 1); }
 static const jdoc_heap heap = {resize, free};
 

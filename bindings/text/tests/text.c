@@ -315,6 +315,10 @@ static void test_events(void) {
            0);
     jdoc_tape_clear(&tape);
     expect(jdoc_tape_string(&tape, "\xff", 1) && jdoc_tape_write(&tape, out) == JDOC_NOT_UTF8, "events: not UTF-8", 0);
+    jdoc_tape_clear(&tape);
+    expect(jdoc_tape_begin(&tape, false) && jdoc_tape_string(&tape, "\xc3", 1) && jdoc_tape_string(&tape, "\xa9", 1) &&
+               jdoc_tape_end(&tape) && jdoc_tape_write(&tape, out) == JDOC_NOT_UTF8,
+           "events: not UTF-8", 1);
     jdoc_tape_free(&tape);
 }
 

@@ -148,6 +148,16 @@ extern "C" {
     ) -> jdoc_status;
 }
 extern "C" {
+    pub fn jdoc_span_document(
+        document: *const u8,
+        document_len: usize,
+        span: *const jdoc_span,
+        out: *mut u8,
+        out_size: usize,
+        out_len: *mut usize,
+    ) -> jdoc_status;
+}
+extern "C" {
     pub fn jdoc_get_by_index(
         document: *const u8,
         document_len: usize,
@@ -1346,6 +1356,96 @@ extern "C" {
 extern "C" {
     pub fn jdoc_builder_free(builder: *mut jdoc_builder);
 }
+pub const JDOC_TEXT_NULL: jdoc_text_kind = 0;
+pub const JDOC_TEXT_FALSE: jdoc_text_kind = 1;
+pub const JDOC_TEXT_TRUE: jdoc_text_kind = 2;
+pub const JDOC_TEXT_INT64: jdoc_text_kind = 3;
+pub const JDOC_TEXT_UINT64: jdoc_text_kind = 4;
+pub const JDOC_TEXT_DECIMAL64: jdoc_text_kind = 5;
+pub const JDOC_TEXT_DECIMAL128: jdoc_text_kind = 6;
+pub const JDOC_TEXT_STRING: jdoc_text_kind = 7;
+pub const JDOC_TEXT_KEY: jdoc_text_kind = 8;
+pub const JDOC_TEXT_ARRAY: jdoc_text_kind = 9;
+pub const JDOC_TEXT_OBJECT: jdoc_text_kind = 10;
+pub const JDOC_TEXT_END: jdoc_text_kind = 11;
+pub type jdoc_text_kind = core::ffi::c_uint;
+#[repr(C)]
+#[derive(Debug, Copy, Clone)]
+pub struct jdoc_text_event {
+    pub low: u64,
+    pub high: i64,
+    pub kind: u8,
+    pub scale: u8,
+}
+#[test]
+fn bindgen_test_layout_jdoc_text_event() {
+    assert_eq!(::core::mem::size_of::<jdoc_text_event>(), 24usize, concat!("Size of: ", stringify!(jdoc_text_event)));
+    assert_eq!(
+        ::core::mem::align_of::<jdoc_text_event>(),
+        8usize,
+        concat!("Alignment of ", stringify!(jdoc_text_event))
+    );
+    fn test_field_low() {
+        assert_eq!(
+            unsafe {
+                let uninit = ::core::mem::MaybeUninit::<jdoc_text_event>::uninit();
+                let ptr = uninit.as_ptr();
+                ::core::ptr::addr_of!((*ptr).low) as usize - ptr as usize
+            },
+            0usize,
+            concat!("Offset of field: ", stringify!(jdoc_text_event), "::", stringify!(low))
+        );
+    }
+    test_field_low();
+    fn test_field_high() {
+        assert_eq!(
+            unsafe {
+                let uninit = ::core::mem::MaybeUninit::<jdoc_text_event>::uninit();
+                let ptr = uninit.as_ptr();
+                ::core::ptr::addr_of!((*ptr).high) as usize - ptr as usize
+            },
+            8usize,
+            concat!("Offset of field: ", stringify!(jdoc_text_event), "::", stringify!(high))
+        );
+    }
+    test_field_high();
+    fn test_field_kind() {
+        assert_eq!(
+            unsafe {
+                let uninit = ::core::mem::MaybeUninit::<jdoc_text_event>::uninit();
+                let ptr = uninit.as_ptr();
+                ::core::ptr::addr_of!((*ptr).kind) as usize - ptr as usize
+            },
+            16usize,
+            concat!("Offset of field: ", stringify!(jdoc_text_event), "::", stringify!(kind))
+        );
+    }
+    test_field_kind();
+    fn test_field_scale() {
+        assert_eq!(
+            unsafe {
+                let uninit = ::core::mem::MaybeUninit::<jdoc_text_event>::uninit();
+                let ptr = uninit.as_ptr();
+                ::core::ptr::addr_of!((*ptr).scale) as usize - ptr as usize
+            },
+            17usize,
+            concat!("Offset of field: ", stringify!(jdoc_text_event), "::", stringify!(scale))
+        );
+    }
+    test_field_scale();
+}
+extern "C" {
+    pub fn jdoc_from_events(
+        text: *const core::ffi::c_char,
+        text_len: usize,
+        events: *const jdoc_text_event,
+        events_len: usize,
+        keep_last: bool,
+        out: *mut u8,
+        out_size: usize,
+        out_len: *mut usize,
+    ) -> jdoc_status;
+}
 pub const JDOC_INVALID_JSON: _bindgen_ty_1 = 64;
 pub type _bindgen_ty_1 = core::ffi::c_uint;
 #[repr(C)]
@@ -1390,16 +1490,6 @@ pub const JDOC_KEEP_LAST: _bindgen_ty_2 = 2;
 pub const JDOC_SPACES: _bindgen_ty_2 = 4;
 pub type _bindgen_ty_2 = core::ffi::c_uint;
 #[repr(C)]
-#[derive(Debug, Copy, Clone)]
-pub struct jdoc_node {
-    _unused: [u8; 0],
-}
-#[repr(C)]
-#[derive(Debug, Copy, Clone)]
-pub struct jdoc_ranked {
-    _unused: [u8; 0],
-}
-#[repr(C)]
 #[derive(Debug)]
 pub struct jdoc_tape {
     pub status: u32,
@@ -1411,21 +1501,19 @@ pub struct jdoc_tape {
     pub in_object: bool,
     pub top: u32,
     pub heap: jdoc_heap,
-    pub nodes: *mut jdoc_node,
-    pub nodes_len: usize,
-    pub nodes_size: usize,
+    pub events: *mut jdoc_text_event,
+    pub events_len: usize,
+    pub events_size: usize,
     pub bytes: *mut u8,
     pub bytes_len: usize,
     pub bytes_size: usize,
-    pub order: *mut jdoc_ranked,
-    pub order_len: usize,
-    pub order_size: usize,
-    pub key_len: u32,
-    pub key_source: usize,
+    pub document: *mut u8,
+    pub document_len: usize,
+    pub document_size: usize,
 }
 #[test]
 fn bindgen_test_layout_jdoc_tape() {
-    assert_eq!(::core::mem::size_of::<jdoc_tape>(), 152usize, concat!("Size of: ", stringify!(jdoc_tape)));
+    assert_eq!(::core::mem::size_of::<jdoc_tape>(), 136usize, concat!("Size of: ", stringify!(jdoc_tape)));
     assert_eq!(::core::mem::align_of::<jdoc_tape>(), 8usize, concat!("Alignment of ", stringify!(jdoc_tape)));
     fn test_field_status() {
         assert_eq!(
@@ -1535,42 +1623,42 @@ fn bindgen_test_layout_jdoc_tape() {
         );
     }
     test_field_heap();
-    fn test_field_nodes() {
+    fn test_field_events() {
         assert_eq!(
             unsafe {
                 let uninit = ::core::mem::MaybeUninit::<jdoc_tape>::uninit();
                 let ptr = uninit.as_ptr();
-                ::core::ptr::addr_of!((*ptr).nodes) as usize - ptr as usize
+                ::core::ptr::addr_of!((*ptr).events) as usize - ptr as usize
             },
             64usize,
-            concat!("Offset of field: ", stringify!(jdoc_tape), "::", stringify!(nodes))
+            concat!("Offset of field: ", stringify!(jdoc_tape), "::", stringify!(events))
         );
     }
-    test_field_nodes();
-    fn test_field_nodes_len() {
+    test_field_events();
+    fn test_field_events_len() {
         assert_eq!(
             unsafe {
                 let uninit = ::core::mem::MaybeUninit::<jdoc_tape>::uninit();
                 let ptr = uninit.as_ptr();
-                ::core::ptr::addr_of!((*ptr).nodes_len) as usize - ptr as usize
+                ::core::ptr::addr_of!((*ptr).events_len) as usize - ptr as usize
             },
             72usize,
-            concat!("Offset of field: ", stringify!(jdoc_tape), "::", stringify!(nodes_len))
+            concat!("Offset of field: ", stringify!(jdoc_tape), "::", stringify!(events_len))
         );
     }
-    test_field_nodes_len();
-    fn test_field_nodes_size() {
+    test_field_events_len();
+    fn test_field_events_size() {
         assert_eq!(
             unsafe {
                 let uninit = ::core::mem::MaybeUninit::<jdoc_tape>::uninit();
                 let ptr = uninit.as_ptr();
-                ::core::ptr::addr_of!((*ptr).nodes_size) as usize - ptr as usize
+                ::core::ptr::addr_of!((*ptr).events_size) as usize - ptr as usize
             },
             80usize,
-            concat!("Offset of field: ", stringify!(jdoc_tape), "::", stringify!(nodes_size))
+            concat!("Offset of field: ", stringify!(jdoc_tape), "::", stringify!(events_size))
         );
     }
-    test_field_nodes_size();
+    test_field_events_size();
     fn test_field_bytes() {
         assert_eq!(
             unsafe {
@@ -1607,66 +1695,42 @@ fn bindgen_test_layout_jdoc_tape() {
         );
     }
     test_field_bytes_size();
-    fn test_field_order() {
+    fn test_field_document() {
         assert_eq!(
             unsafe {
                 let uninit = ::core::mem::MaybeUninit::<jdoc_tape>::uninit();
                 let ptr = uninit.as_ptr();
-                ::core::ptr::addr_of!((*ptr).order) as usize - ptr as usize
+                ::core::ptr::addr_of!((*ptr).document) as usize - ptr as usize
             },
             112usize,
-            concat!("Offset of field: ", stringify!(jdoc_tape), "::", stringify!(order))
+            concat!("Offset of field: ", stringify!(jdoc_tape), "::", stringify!(document))
         );
     }
-    test_field_order();
-    fn test_field_order_len() {
+    test_field_document();
+    fn test_field_document_len() {
         assert_eq!(
             unsafe {
                 let uninit = ::core::mem::MaybeUninit::<jdoc_tape>::uninit();
                 let ptr = uninit.as_ptr();
-                ::core::ptr::addr_of!((*ptr).order_len) as usize - ptr as usize
+                ::core::ptr::addr_of!((*ptr).document_len) as usize - ptr as usize
             },
             120usize,
-            concat!("Offset of field: ", stringify!(jdoc_tape), "::", stringify!(order_len))
+            concat!("Offset of field: ", stringify!(jdoc_tape), "::", stringify!(document_len))
         );
     }
-    test_field_order_len();
-    fn test_field_order_size() {
+    test_field_document_len();
+    fn test_field_document_size() {
         assert_eq!(
             unsafe {
                 let uninit = ::core::mem::MaybeUninit::<jdoc_tape>::uninit();
                 let ptr = uninit.as_ptr();
-                ::core::ptr::addr_of!((*ptr).order_size) as usize - ptr as usize
+                ::core::ptr::addr_of!((*ptr).document_size) as usize - ptr as usize
             },
             128usize,
-            concat!("Offset of field: ", stringify!(jdoc_tape), "::", stringify!(order_size))
+            concat!("Offset of field: ", stringify!(jdoc_tape), "::", stringify!(document_size))
         );
     }
-    test_field_order_size();
-    fn test_field_key_len() {
-        assert_eq!(
-            unsafe {
-                let uninit = ::core::mem::MaybeUninit::<jdoc_tape>::uninit();
-                let ptr = uninit.as_ptr();
-                ::core::ptr::addr_of!((*ptr).key_len) as usize - ptr as usize
-            },
-            136usize,
-            concat!("Offset of field: ", stringify!(jdoc_tape), "::", stringify!(key_len))
-        );
-    }
-    test_field_key_len();
-    fn test_field_key_source() {
-        assert_eq!(
-            unsafe {
-                let uninit = ::core::mem::MaybeUninit::<jdoc_tape>::uninit();
-                let ptr = uninit.as_ptr();
-                ::core::ptr::addr_of!((*ptr).key_source) as usize - ptr as usize
-            },
-            144usize,
-            concat!("Offset of field: ", stringify!(jdoc_tape), "::", stringify!(key_source))
-        );
-    }
-    test_field_key_source();
+    test_field_document_size();
 }
 extern "C" {
     pub fn jdoc_tape_init(tape: *mut jdoc_tape, heap: jdoc_heap, options: core::ffi::c_uint);
@@ -1705,7 +1769,7 @@ extern "C" {
     pub fn jdoc_tape_number(tape: *mut jdoc_tape, text: *const core::ffi::c_char, len: usize) -> bool;
 }
 extern "C" {
-    pub fn jdoc_tape_size(tape: *const jdoc_tape) -> usize;
+    pub fn jdoc_tape_size(tape: *mut jdoc_tape) -> usize;
 }
 extern "C" {
     pub fn jdoc_tape_write(tape: *mut jdoc_tape, out: *mut u8) -> u32;
