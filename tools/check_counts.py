@@ -208,8 +208,10 @@ def numbers_of_tools():
     yield "values and paths in a small stack", len([*measure_stack.decoded()])
     yield "witnesses that test the judge", entries_of("tools/test_judge.py", "WITNESSES")
     yield "mutants that test what has a switch", entries_of("tools/test_judge.py", "SWITCHED")
+    yield "folders that test the judge", entries_of("tools/test_judge.py", "FOLDERS")
     yield "cases that test the gate", entries_of("tools/test_gate.py", "CASES")
     yield "rules of the lint", entries_of("tools/lint.py", "RULES")
+    yield "tests that count work", len(tomllib.loads((ROOT / "tools/witnesses.toml").read_text())["counted"])
     kept = tomllib.loads((ROOT / "tools/witnesses.toml").read_text())["prover"]
     yield from ((f"mutants kept for the prover of {crate}", len(named)) for crate, named in kept.items())
     yield "broken outputs in the sweep", len(re.findall(r'"[\w ]+: \$', re.search(r"^for word in (.*); do", text_of(ROOT / "tools/sweep_memory.sh"), re.M)[1]))

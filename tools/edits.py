@@ -11,8 +11,9 @@ FUNCTION = re.compile(r"( *)(?:pub(?:\([^)]*\))? |const |unsafe |extern \"C\" )*
 TRAIT = r"(?:\w+::)*(\w+)(?:<(?:(?:\w+::)*(\w+))?.*>)?"
 IMPL = re.compile(rf"( *)impl(?:<.*?>)? (?:{TRAIT} for )?&?(?:'\w+ )?(?:\w+::)*(\w+)")
 CYCLE = re.compile(r"#\[cycle\((\w+)")
-# The folders of a crate's mutants: those that the prover tries, and those that a test alone rejects.
-TRIED, TOLD = "must-fail", "mutants"
+# The folders of a crate's mutants: those that the prover tries, those that a test alone rejects, and those that return the same results
+# with more work, which a test counts.
+TRIED, TOLD, SLOWER = "must-fail", "mutants", "slower"
 
 
 def stop(why):
@@ -170,8 +171,8 @@ def read(edit, folder):
 
 
 def files_of(folder, *kinds):
-    """Returns the files of a crate's mutants in these folders, or in both."""
-    return [file for kind in kinds or (TRIED, TOLD) for file in sorted((folder / kind).glob("*.edit"))]
+    """Returns the files of a crate's mutants in these folders, or in all."""
+    return [file for kind in kinds or (TRIED, TOLD, SLOWER) for file in sorted((folder / kind).glob("*.edit"))]
 
 
 def edits_below(top, names):

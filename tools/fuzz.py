@@ -103,6 +103,9 @@ class Comparison:
     def events(self):
         events = [*self.events_of(self.tree)]
         self.compare("builder", [], ("OK", encode(self.tree)), self.library.built(events))
+        if all(name != "document" for name, *_ in events):
+            for keep_last in (False, True):
+                self.compare("from_events", [keep_last], ("OK", encode(self.tree)), self.library.listed(events, keep_last))
 
     def events_of(self, tree):
         """Yields the events of a tree, with the members of objects in any order."""

@@ -101,16 +101,32 @@ SWITCHED = [
 ]
 
 
-def can_have_test(pairs):
-    """Returns whether a mutant may have a test as its witness. It is that of these pairs in SOURCE."""
+# Folders of a mutant, what tools/witnesses.toml says of the test that fails with it, and whether the mutant may be there.
+FOLDERS = [
+    (edits.TRIED, "", True),
+    (edits.TOLD, "determined", True),
+    (edits.TOLD, "", False),
+    (edits.SLOWER, "counted", True),
+    (edits.SLOWER, "determined", False),
+    (edits.TOLD, "counted", False),
+    (edits.TRIED, "counted", False),
+]
+
+
+def can_have_test(pairs, folder=edits.TRIED, listed=""):
+    """Returns whether a mutant in a folder may have a test as its witness, which tools/witnesses.toml lists in a part.
+
+    The mutant is that of these pairs in SOURCE.
+    """
     with tempfile.TemporaryDirectory() as room:
         top, crate = Path(room), "jsonb_doc"
         file = top / "crates" / crate / "src/short.rt"
         file.parent.mkdir(parents=True)
         file.write_text(SOURCE)
         text = "file: src/short.rt\n" + "".join(f"old: {old}\nnew: {new}\n" for old, new in pairs)
-        mutant = witness.Mutant(crate, "broken", group_edits.Edit("broken", text, "src/short.rt", []), True)
-        given = witness.Stated({crate: {mutant.words: f"{crate} tests::lengths: 9"}}, {}, {}, {})
+        mutant = witness.Mutant(crate, "broken", group_edits.Edit("broken", text, "src/short.rt", []), folder)
+        determined, counted = ({f"{crate} tests::lengths": ""} if listed == part else {} for part in ("determined", "counted"))
+        given = witness.Stated({crate: {mutant.words: f"{crate} tests::lengths: 9"}}, {}, determined, {}, counted)
         return not witness.fault_of(mutant, given, {crate: {"lengths"}}, top)
 
 
@@ -162,6 +178,12 @@ def main():
         else:
             failed += 1
             print(f"{pairs}: {'no test' if wanted else 'a test'} is accepted as its witness")
+    for folder, listed, wanted in FOLDERS:
+        if can_have_test(SWITCHED[0][0], folder, listed) == wanted:
+            passed += 1
+        else:
+            failed += 1
+            print(f"{folder}/: a mutant whose test is {listed or 'in no list'} is {'not ' * wanted}accepted")
     mutants = {str(it): it for it in witness.mutants(witness.TOP)}
     for edit in (with_mutant(it, mutants) for it in tomllib.loads(JUDGED.read_text())["edit"]):
         why = fault(edit)

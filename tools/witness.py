@@ -5,15 +5,16 @@
   witness.py --run [NAME..]      the same, and runs the test that the file gives for each mutant, which must fail
   witness.py --write [NAME..]    runs all tests with the mutants that have none, and writes those that fail to the file; with --slow also
                                  tests that take long with each mutant
-  witness.py --sort              moves each mutant to the folder that it belongs to: mutants/ or must-fail/
+  witness.py --sort              moves each mutant to the folder that it belongs to: mutants/, slower/ or must-fail/
 
 NAME.. are the crates whose tests are run.
 
 The expected results of tests come from docs/, and the body that a mutant replaces is proved and passes them. So a mutant with which a
 test fails returns another result. If the contracts determine the result (`laws::results_are_determined`), no proof of the mutant
 exists: with one, all functions would meet their contracts, and the test would pass. tools/witnesses.toml lists the tests of such
-results. The mutants with which one of them fails are in mutants/, and the prover does not try them. All others are in must-fail/,
-with those that the file keeps there. The file gives the reason if no test fails.
+results. The mutants with which one of them fails are in mutants/, and the prover does not try them. The file also lists tests that count
+work. A mutant with which one of those fails returns the same results with more work, so it may have a proof: it is in slower/. All others
+are in must-fail/, with those that the file keeps there. The file gives the reason if no test fails.
 
 This runs in a copy of the repository that has all mutants: `if jsonb_doc::witness::is(17) { return { .. }; }` precedes the body that
 mutant 17 replaces. tools/witness/switch.c says which one runs: a test's process forks at each of these, once, and its child goes on with
@@ -69,8 +70,8 @@ class Mutant:
     crate: str
     words: str
     edit: group_edits.Edit = field(compare=False)
-    # Whether the prover has to reject it: it is in must-fail/.
-    is_tried: bool = field(compare=False)
+    # The folder that it is in.
+    kind: str = field(compare=False)
 
     def __str__(self):
         return f"{self.crate}: {self.words}"
@@ -81,8 +82,7 @@ def mutants(top):
     found = []
     for crate in check_counts.crate_names():
         for file in edits.files_of(top / "crates" / crate):
-            is_tried = file.parent.name == edits.TRIED
-            found += [Mutant(crate, it.words, it, is_tried) for it in group_edits.read_edits(file, top / "crates" / crate)]
+            found += [Mutant(crate, it.words, it, file.parent.name) for it in group_edits.read_edits(file, top / "crates" / crate)]
     return found
 
 
@@ -254,6 +254,8 @@ class Stated:
     determined: dict
     # The mutants of each crate that the prover has to reject in any case.
     kept: dict
+    # The tests that count work.
+    counted: dict = field(default_factory=dict)
 
     def witness_of(self, mutant):
         return self.witness.get(mutant.crate, {}).get(mutant.words)
@@ -271,6 +273,16 @@ class Stated:
         if not other and DECODING_ERROR.fullmatch(text):
             return True
         return bool(EXACT.match(text)) or not UNDETERMINED.search(text) and has_canonical_documents(crate_and_test(witness)[0], text)
+
+    def is_counted(self, witness):
+        """Returns whether a test counts more work with a mutant, and nothing else is known to be wrong with it."""
+        return bool(witness) and witness.partition(": ")[0] in self.counted
+
+    def folder_of(self, mutant):
+        """Returns the folder that a mutant belongs to."""
+        if self.is_counted(self.witness_of(mutant)):
+            return edits.SLOWER
+        return edits.TRIED if self.is_for_prover(mutant) else edits.TOLD
 
     def is_for_prover(self, mutant):
         """Returns whether the prover has to reject a mutant, since no witness shows that it has no proof, or in any case."""
@@ -291,7 +303,7 @@ def has_canonical_documents(crate, text):
 
 def stated():
     found = tomllib.loads(STATED.read_text()) if STATED.is_file() else {}
-    return Stated(*(found.get(it, {}) for it in ("witness", "reason", "determined", "prover")))
+    return Stated(*(found.get(it, {}) for it in ("witness", "reason", "determined", "prover", "counted")))
 
 
 def quoted(text):
@@ -325,8 +337,9 @@ def fault_of(mutant, given, tests, top):
         return f"{mutant}: has a test and a reason"
     if witness and not place_of(mutant, top):
         return f"{mutant}: changes something other than one function's body, so it has no switch, and no test runs with it"
-    if not mutant.is_tried and given.is_for_prover(mutant):
-        return f"{mutant}: the prover has to reject it, so it belongs to {edits.TRIED}/: tools/witness.py --sort"
+    folder = given.folder_of(mutant)
+    if mutant.kind != folder and (mutant.kind != edits.TRIED or folder == edits.SLOWER):
+        return f"{mutant}: belongs to {folder}/: tools/witness.py --sort"
     if witness:
         crate, name = crate_and_test(witness)
         return "" if name.rpartition("::")[2] in tests.get(crate, ()) else f"{mutant}: there is no test {name} of {crate}"
@@ -344,7 +357,7 @@ def faults(found):
     for crate, words in named:
         if (crate, words) not in known:
             yield f"{crate}: tools/witnesses.toml has {words!r}, which is no mutant"
-    for test in given.determined:
+    for test in [*given.determined, *given.counted]:
         crate, name = crate_and_test(test)
         if name.rpartition("::")[2] not in tests.get(crate, ()):
             yield f"tools/witnesses.toml has {test!r}, which is no test"
@@ -364,8 +377,10 @@ def faults_of_run(found, witnesses, lost):
     for it in found:
         if it in lost:
             yield f"{it}: {lost[it]} does not fail with it"
-        elif it in witnesses and not it.is_tried and not given.is_determined(witnesses[it]):
+        elif it in witnesses and it.kind == edits.TOLD and not given.is_determined(witnesses[it]):
             yield f"{it}: fails only as {witnesses[it]}, which no contract determines"
+        elif it in witnesses and it.kind == edits.SLOWER and not given.is_counted(witnesses[it]):
+            yield f"{it}: fails as {witnesses[it]}, which counts no work"
         elif it in witnesses:
             yield ""
 
@@ -376,11 +391,12 @@ def sort(found):
     for crate in dict.fromkeys(it.crate for it in found):
         folder = TOP / "crates" / crate
         own = [it for it in found if it.crate == crate]
-        tried = [it.edit for it in own if given.is_for_prover(it)]
-        told = [it.edit for it in own if not given.is_for_prover(it)]
+        in_folder = lambda kind: [it.edit for it in own if given.folder_of(it) == kind]
+        tried, told, slower = map(in_folder, (edits.TRIED, edits.TOLD, edits.SLOWER))
         group_edits.write_edits(tried, group_edits.MOST, folder)
         group_edits.write_by_source(told, folder / edits.TOLD)
-        print(f"{crate}: {len(tried)} in {edits.TRIED}/, {len(told)} in {edits.TOLD}/")
+        group_edits.write_by_source(slower, folder / edits.SLOWER)
+        print(f"{crate}: {len(tried)} in {edits.TRIED}/, {len(told)} in {edits.TOLD}/, {len(slower)} in {edits.SLOWER}/")
 
 
 def run(found, names, in_all, with_slow_tests):

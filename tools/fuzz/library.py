@@ -2,7 +2,6 @@
 
 import ctypes
 import re
-import struct
 from ctypes import POINTER, byref, c_bool, c_char_p, c_int32, c_int64, c_size_t, c_uint8, c_uint64, c_void_p
 
 OUT = 1 << 20
@@ -18,6 +17,16 @@ class Span(ctypes.Structure):
     """The position of an item in a document."""
 
     _fields_ = [("at", c_size_t), ("len", c_size_t), ("kind", c_uint8), ("entry", c_uint8)]
+
+
+class TextEvent(ctypes.Structure):
+    """An event of an array."""
+
+    _fields_ = [("low", c_uint64), ("high", c_int64), ("kind", c_uint8), ("scale", c_uint8)]
+
+
+# The kinds of such events, in the order of their numbers, by the names that tools/fuzz.py gives them.
+KINDS = ["null", "False", "True", "i64", "u64", "decimal64", "decimal128", "str", "key", "begin_array", "begin_object", "end"]
 
 
 class Library:
@@ -74,14 +83,14 @@ class Library:
         status = self.status("items_find_next", [items, *flat([document]), byref(span)])
         if status != "OK":
             return self.bytes_of("items_next", items, document) if status == "COMPUTED" else (status, None)
-        content = document[span.at : span.at + span.len]
-        head = b"" if span.entry == 5 else struct.pack(">II", 0x20000000, span.entry << 28 | span.len)
-        return ("OK", head + content) if len(content) == span.len else ("NOT_WITHIN", None)
+        return self.bytes_of("span_document", document, byref(span))
 
     def is_within(self, name, document, *arguments):
-        """Returns whether a call that finds an item fails, or stores a span in these bytes."""
+        """Returns whether a call that finds an item fails, or stores a span in these bytes, of which there is a document."""
         span = Span()
-        return self.status(name, [*flat([document, *arguments]), byref(span)]) != "OK" or span.at + span.len <= len(document)
+        if self.status(name, [*flat([document, *arguments]), byref(span)]) != "OK":
+            return True
+        return span.at + span.len <= len(document) and self.bytes_of("span_document", document, byref(span))[0] == "OK"
 
     def built(self, events):
         """Returns the status, and the document of events; each is the name of a call and its arguments."""
@@ -91,6 +100,25 @@ class Library:
         found = self.bytes_of("builder_finish", builder) if status == "OK" else (status, None)
         self.function("builder_free")(builder)
         return found
+
+    def listed(self, events, keep_last):
+        """Returns the status, and the document of such events in an array; a value that is a document has no event there."""
+        text, rows = b"", []
+        for name, *arguments in events:
+            low = high = scale = 0
+            if name in ("key", "str"):
+                text += arguments[0]
+                low = len(arguments[0])
+            elif name == "decimal":
+                high, low, scale = (it.value for it in arguments)
+                name += "64" if high == -(low >> 63) else "128"
+                high = high if name == "decimal128" else low - (low >> 63 << 64)
+            elif name == "bool":
+                name = str(arguments[0].value)
+            elif arguments:
+                low = high = arguments[0].value
+            rows.append(TextEvent(low % 2**64, (high + 2**63) % 2**64 - 2**63, KINDS.index(name), scale))
+        return self.bytes_of("from_events", text, (TextEvent * len(rows))(*rows), c_size_t(len(rows)), c_bool(keep_last))
 
     def leaves(self, document):
         """Returns the status, and the key path and the document of each leaf."""
