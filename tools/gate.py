@@ -16,7 +16,8 @@ own program on a copy of the repository, with three things changed:
 
 So the prover says `incremental=trusted` of each crate: it trusts the files that this run wrote in its own folder. rt ci
 by itself, which trusts none, takes the repository as well, and nothing that is kept here. The work tree gets each program
-and the static library once its crate is proved, for the commands that use them. The last line is 'N passed, M failed'.
+and the static library once its crate is proved, for the commands that use them. The last line is 'N passed, M failed'. Before
+it are the first errors of each proof that failed.
 
 With a kit that lacks what tools/kit.py uses of rt, this is plain rt ci, and `rt lib` for the static library.
 """
@@ -37,15 +38,17 @@ import edits
 import kit
 import lanes
 import library
+import reasons
 
 
 class Output:
-    """Standard output that remembers its last line."""
+    """Standard output that remembers what was written, and its last line."""
 
     def __init__(self, to):
-        self.to, self.buffer, self.last = to, to.buffer, ""
+        self.to, self.buffer, self.said, self.last = to, to.buffer, [], ""
 
     def write(self, text):
+        self.said.append(text)
         self.last = text.rstrip("\n").rpartition("\n")[2] or self.last
         return self.to.write(text)
 
@@ -199,6 +202,8 @@ def main():
     failed = (failed or int(status != 0)) + faults
     processor = sum(os.times()[:4]) / 60
     print(f"gate: {lanes.minutes(lanes.BEGUN)}, {processor:.0f} min of processor, on {kit.processors()} processors")
+    for it in reasons.reasons("".join(sys.stdout.said)):
+        print(it)
     print(f"{passed} passed, {failed} failed")
     return 1 if failed else 0
 

@@ -1,6 +1,6 @@
 #!/usr/bin/env python3
 """Tests .ci/run, with commands that do nothing in the place of those that it counts: it must fail if one of them fails, counts nothing,
-skips a test or is killed.
+skips a test or is killed, and repeat the last lines of that command at the end. Tests which errors tools/gate.py repeats.
 
     tools/test_gate.py        the last line is 'N passed, M failed'
 """
@@ -14,10 +14,14 @@ from pathlib import Path
 
 sys.dont_write_bytecode = True
 import check_counts
+import reasons
 
 TOP = Path(__file__).resolve().parent.parent
 GATE = ".ci/run"
 WELL = "echo 1 passed, 0 failed"
+FAILURE = "echo 1 passed, 1 failed; exit 1"
+# How a line begins that names a failed command, at the end.
+REPEATED = "== failed: "
 TOTAL = re.compile(r"(\d+) passed, (\d+) failed")
 # What one of the commands does in the place of what all others do, and how many have failed then, at least.
 CASES = {
@@ -32,6 +36,24 @@ CASES = {
     "two tests are skipped": (f"echo skipped: one; echo skipped: two; {WELL}", 2),
     "killed": ("kill -9 $$", 1),
     "killed with what counts it": ("kill -9 $(ps -o ppid= $$); kill -9 $$", 1),
+}
+# What rt ci prints of crates, and what tools/gate.py repeats of it.
+OPEN_GOAL = "note: src/low.rt:3:1: it is not proved that the result is as stated (`returns-clause`)"
+MISSING_NAME = "./proofs/one/Answers.antt:5:55: error: `returns-clause`: it is not in scope"
+NOT_PROVED = "fn low::one: not proved"
+CALLER = "fn low::two: not proved; it calls `low::one`, which is not proved"
+MANY = [f"{MISSING_NAME} {number}" for number in range(20)]
+PRINTED = {
+    "a proof": (["== low", OPEN_GOAL, "rt: low proved"], []),
+    "an open goal": (["== low", NOT_PROVED, CALLER, OPEN_GOAL, "rt: low NOT PROVED"], ["not proved: low", f"  {OPEN_GOAL}", f"  {NOT_PROVED}"]),
+    "more errors": (["== low", *MANY, "rt: low NOT PROVED"], ["not proved: low", *(f"  {it}" for it in MANY[:10])]),
+    "no error": (["== low", "Killed", "rt: low NOT PROVED"], ["not proved: low", "  Killed"]),
+    "a long line": (["== low", f"error: {'x' * 999}", "rt: low NOT PROVED"], ["not proved: low", f"  error: {'x' * 233}"]),
+    "its library": (["== low", OPEN_GOAL, "rt: low NOT PROVED", "rt: high NOT PROVED: its library low failed"], ["not proved: low", f"  {OPEN_GOAL}"]),
+    "its tests": (
+        ["== low", "rt: low proved", "== low: its tests", MISSING_NAME, "rt: low: its tests are NOT PROVED"],
+        ["not proved: low: its tests", f"  {MISSING_NAME}"],
+    ),
 }
 # The crates whose programs and library other commands wait for.
 BUILT = ("jsonb_c", "jsonb_lines", "jsonb_sweep", "jsonb_tool")
@@ -53,7 +75,7 @@ def file_of(command):
 
 
 def run(room, broken=None, how=WELL):
-    """Runs .ci/run with commands of which one is broken, if one is given, and returns its last line and its status."""
+    """Runs .ci/run with commands of which one is broken, if one is given, and returns its other lines, its last one and its status."""
     shutil.rmtree(room, ignore_errors=True)
     (room / ".ci").mkdir(parents=True)
     shutil.copy(TOP / GATE, room / GATE)
@@ -64,25 +86,64 @@ def run(room, broken=None, how=WELL):
             lines = f"for it in {' '.join(BUILT)}; do sleep 0.1; : >\"$2/$it\"; done; {lines}"
         write_program(room / file_of(command), lines)
     ran = subprocess.run([room / GATE], stdin=subprocess.DEVNULL, stdout=subprocess.PIPE, stderr=subprocess.DEVNULL, text=True, timeout=600)
-    return ran.stdout.rstrip("\n").rpartition("\n")[2], ran.returncode
+    *said, last = ran.stdout.splitlines() or [""]
+    return said, last, ran.returncode
 
 
-def main():
-    commands, passed, failed = check_counts.commands(), 0, 0
+def fault_of_run(room, command, how, faults):
+    """Returns what is wrong with .ci/run if a command does this, or an empty text. There are as many failures, at least."""
+    said, last, status = run(room, command, how)
+    total = TOTAL.fullmatch(last)
+    if not total or bool(faults) != bool(int(total[2])) or int(total[2]) < faults or status != (faults > 0):
+        return f"expected {faults} failures, got {last!r}, status {status}"
+    repeated = [it for it in said if it.startswith(REPEATED)]
+    # (Nothing is noted of a command that is killed with what counts it.)
+    expected = bool(faults) and how != CASES["killed with what counts it"][0]
+    if len(repeated) != expected or not all(it.startswith(REPEATED + command) for it in repeated):
+        return f"expected {int(expected)} command at the end, got {repeated}"
+    return ""
+
+
+def fault_of_end(room, command):
+    """Returns what is wrong with the end of what .ci/run prints if a command that prints many lines fails, or an empty text."""
+    said, *_ = run(room, command, f"seq 100; {FAILURE}")
+    heading, *rest = said[-25:]
+    is_right = heading.startswith(REPEATED + command) and rest == [*map(str, range(78, 101)), "1 passed, 1 failed"]
+    return "" if is_right else f"expected the last 24 lines of {command} at the end, got {said[-25:]}"
+
+
+def fault_of_reasons(printed, expected):
+    """Returns what is wrong with the errors that are repeated of what rt ci prints, or an empty text."""
+    found = reasons.reasons("".join(f"{it}\n" for it in printed))
+    return "" if found == expected else f"expected {expected}, got {found}"
+
+
+def faults():
+    """Yields what is wrong in each case, and an empty text for each in which nothing is."""
+    commands = check_counts.commands()
     # (The gate itself is killed, so that nothing is built.)
     first = [*CASES].index("killed")
     tried = [(commands[(number - first) % len(commands)], *it) for number, it in enumerate(CASES.values())]
     with tempfile.TemporaryDirectory(prefix="test-gate-") as folder:
-        for command, how, faults in [(None, WELL, 0), *tried]:
-            last, status = run(Path(folder) / "repository", command, how)
-            total = TOTAL.fullmatch(last)
-            if total and (faults and faults <= int(total[2]) or int(total[2]) == faults) and status == (faults > 0):
-                passed += 1
-            else:
-                failed += 1
-                print(f"{command}: {how}: expected {faults} failures, got {last!r}, status {status}")
-    print(f"{passed} passed, {failed} failed")
-    return 1 if failed or not passed else 0
+        room = Path(folder) / "repository"
+        for command, how, number in [(None, WELL, 0), *tried]:
+            yield named(f"{command}: {how}", fault_of_run(room, command, how, number))
+        yield fault_of_end(room, commands[0])
+    for words, it in PRINTED.items():
+        yield named(words, fault_of_reasons(*it))
+
+
+def named(words, fault):
+    return f"{words}: {fault}" if fault else ""
+
+
+def main():
+    found = [*faults()]
+    for it in filter(None, found):
+        print(it)
+    failed = sum(map(bool, found))
+    print(f"{len(found) - failed} passed, {failed} failed")
+    return 1 if failed or not found else 0
 
 
 if __name__ == "__main__":
