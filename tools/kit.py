@@ -126,13 +126,29 @@ def crate_that_is_proved_once():
             flags = [*flags, "--incremental", kept]
             if tests:
                 return self.check_tests(flags, kept)
-            status = self.build_program(flags) if self.is_program else super().ci(flags, tests)
+            status = self.build_once(flags)
+            if status > 0:
+                self.tell_and_forget()
+                status = self.build_once(flags)
             if status:
                 self.refused.add(self.name)
                 return status
             self.out.seek(0)
             proofs[self.name] = self.out.read()
             return self.build_library(["--jobs", "1"]) if self.is_static else 0
+
+        def build_once(self, flags):
+            return self.build_program(flags) if self.is_program else super().ci(flags, False)
+
+        def tell_and_forget(self):
+            """Prints what the prover said of a crate that it did not prove, which is then proved once more over what it did prove.
+
+            A check fails too if the machine ends one of its processes.
+            """
+            self.out.seek(0)
+            print(f"== {self.name}, which is proved once more after this\n{self.out.read()}", flush=True)
+            self.out.seek(0)
+            self.out.truncate()
 
         def check_tests(self, flags, kept):
             if self.name in self.refused:
