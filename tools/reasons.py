@@ -4,7 +4,7 @@ import re
 # What is printed of the proof of a crate, or of its tests, that failed. A crate whose library failed has only the last line.
 FAILED_PROOF = re.compile(r"^== (\w+)(|: its tests)\n(.*?)^rt: \1\2(?: are)? NOT PROVED$", re.M | re.S)
 # A row that gives a reason, and one that names a function which is not proved on its own. (A note of rt is not a reason.)
-REASON = re.compile(r"\berror\b|it is not proved that|did not prove|^rt: (?!note: )")
+REASON = re.compile(r"(?:^|: )error: |it is not proved that|did not prove|panicked at|^rt: (?!note: )")
 FUNCTION = re.compile(r"^fn \S+: not proved(?!; it calls)")
 # The most rows of a proof, and characters of a row, that are kept.
 MOST = 10

@@ -45,7 +45,7 @@ CALLER = "fn low::two: not proved; it calls `low::one`, which is not proved"
 MANY = [f"{MISSING_NAME} {number}" for number in range(20)]
 PRINTED = {
     "a proof": (["== low", OPEN_GOAL, "rt: low proved"], []),
-    "an open goal": (["== low", NOT_PROVED, CALLER, OPEN_GOAL, "rt: low NOT PROVED"], ["not proved: low", f"  {OPEN_GOAL}", f"  {NOT_PROVED}"]),
+    "an open goal": (["== low", "fn low::error::Error: proved", NOT_PROVED, CALLER, OPEN_GOAL, "rt: low NOT PROVED"], ["not proved: low", f"  {OPEN_GOAL}", f"  {NOT_PROVED}"]),
     "more errors": (["== low", *MANY, "rt: low NOT PROVED"], ["not proved: low", *(f"  {it}" for it in MANY[:10])]),
     "no error": (["== low", "Killed", "rt: low NOT PROVED"], ["not proved: low", "  Killed"]),
     "a long line": (["== low", f"error: {'x' * 999}", "rt: low NOT PROVED"], ["not proved: low", f"  error: {'x' * 233}"]),
