@@ -63,6 +63,20 @@ Shows (Ok (Some x)) old new status = (new ≡ x) × (status ≡ code Answered)
 Shows (Ok None) old new status = (new ≡ old) × (status ≡ code Absent)
 Shows (Err e) old new status = (new ≡ old) × (status ≡ code (Refused e))
 
+-- ---- values that always exist
+
+-- Holds if the bytes are delivered, or the error.
+abbrev pub DeliversValue : List ℕ → List ℕ → ℕ → ℕ → Result (List ℕ) Error → Type 0
+DeliversValue old new len status answer = Delivers (always answer) old new len status
+
+-- Holds if the value is delivered, or the error.
+abbrev pub ShowsValue : {A : Type 0} → A → A → ℕ → Result A Error → Type 0
+ShowsValue old new status answer = Shows (always answer) old new status
+
+-- Holds if the value in its written form is delivered, or the error.
+abbrev pub ShowsAs : {A B : Type 0} → (A → B) → B → B → ℕ → Result A Error → Type 0
+ShowsAs written old new status answer = Shows (found_as written (always answer)) old new status
+
 -- ---- what a call promises
 
 -- Holds for a document that decodes, in any form.

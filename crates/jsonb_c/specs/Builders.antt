@@ -15,7 +15,7 @@ use Rattle.jsonb_doc.specs.declared.event_error.EventError.TheVariants as refusa
 use Rattle.jsonb_doc.specs.declared.text_event.TextEvent.{TextEvent}
 use Rattle.jsonb_c.specs.Items.{items_left}
 use Rattle.jsonb_c.specs.Prepared.{json_steps, key_steps}
-use Rattle.jsonb_c.specs.Answers.{Delivers, DeliversBytes, DeliversNothing, WritesResult, always}
+use Rattle.jsonb_c.specs.Answers.{DeliversBytes, DeliversNothing, DeliversValue, WritesResult}
 use Rattle.jsonb_c.specs.Status.{code}
 use Rattle.jsonb_c.specs.declared.status.Status.TheVariants.{Answered, NoPath, OutOfOrder, Refused}
 use Rattle.jsonb_c.specs.declared.prepared.path.PreparedPath.{PreparedPath}
@@ -60,7 +60,7 @@ pub record Finishes (kept : Option PreparedPath) (old new : List ℕ) (len statu
   pub document : (form : Form) (s : State) → HoldsEvents form kept s
       → MatchOption (whole s.inner) (DeliversNothing OutOfOrder old new len status)
       (λ t. WritesResult (λ answer. MatchResult answer (λ made. Decodes form made t) IsOutOfMemory) IsOutOfMemory
-      (λ answer. Delivers (always answer) old new len status))
+      (DeliversValue old new len status))
   pub other : KeepsOther kept → DeliversNothing NoPath old new len status
 
 -- ---- a list of events

@@ -49,8 +49,7 @@ MakesOr refusal form wanted answer = MatchOption wanted (answer ≡ Err refusal)
 pub record DeletesIndex (index : ℤ) (document : List ℕ) (answer : Result (List ℕ) Error) : Type 0 where
   pub deleted : OfDocument document (λ form t. MakesOr InvalidJsonType form (without_index index t)) answer
   pub unchanged : (form : Form) (ts : Trees) → Decodes form document (array ts)
-      → index_position (length (elements ts)) index ≡ None
-      → MatchResult answer (λ made. made ≡ document) IsOutOfMemory
+      → index_position (length (elements ts)) index ≡ None → MatchResult answer (λ made. made ≡ document) IsOutOfMemory
 
 -- Holds if the result is the document without the value at the steps. If they select nothing, the bytes are the same; a
 -- scalar has no children.

@@ -43,8 +43,7 @@ Ends all room done status =
 -- Holds if the values and statuses of the first rows are written, and nothing after.
 abbrev pub FillsRows : {A : Type 0} → (List ℕ → A → A → ℕ → Type 0) → A → List (Option (List ℕ)) → List A × List ℕ
     → List A × List ℕ → ℕ → ℕ → Type 0
-FillsRows Writes other column old new done status =
-    DoneRows Writes other column done
+FillsRows Writes other column old new done status = DoneRows Writes other column done
     (λ made. IsWritten (map (λ m. m.0) made) old.0 new.0 × IsWritten (map (λ m. m.1) made) old.1 new.1)
     × Ends (length column) (min (length old.0) (length old.1)) done status
 
@@ -61,8 +60,7 @@ positions_from at (bytes ∷ others) = at ∷ positions_from (at + length bytes)
 
 -- Holds if the bytes of the next row, whose length is reported, do not fit.
 abbrev pub LacksRoom : (List ℕ → List ℕ → List ℕ → ℕ → Type 0) → List (Option (List ℕ)) → ℕ → Progress → ℕ → Type 0
-LacksRoom Writes column room progress status =
-    (status ≡ code BufferTooSmall) × (room < progress.bytes + progress.next)
+LacksRoom Writes column room progress status = (status ≡ code BufferTooSmall) × (room < progress.bytes + progress.next)
     × ((document : Option (List ℕ)) × (made : List ℕ × ℕ) × (slice_get column progress.rows ≡ Some document)
     × IsRow Writes [] document made × (progress.next ≡ length made.0))
 
@@ -70,8 +68,7 @@ LacksRoom Writes column room progress status =
 abbrev pub AreJoined : List (List ℕ × ℕ) → BytesRoom → BytesRoom → ℕ → Type 0
 AreJoined made old new total = (length (flat_map (λ m. m.0) made) ≡ total)
     × IsWritten (flat_map (λ m. m.0) made) old.0 new.0
-    × IsWritten (positions_from 0 (map (λ m. m.0) made)) old.1 new.1
-    × IsWritten (map (λ m. m.1) made) old.2 new.2
+    × IsWritten (positions_from 0 (map (λ m. m.0) made)) old.1 new.1 × IsWritten (map (λ m. m.1) made) old.2 new.2
 
 -- Holds if nothing is written.
 abbrev pub IsUntouched : BytesRoom → BytesRoom → Progress → Type 0

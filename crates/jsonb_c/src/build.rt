@@ -11,7 +11,7 @@ ghost use Rattle.jsonb_doc.specs.Payload.{Form};
 ghost use Rattle.jsonb_doc.specs.Tree as spec;
 ghost use Rattle.jsonb_doc.specs.Tree.{Tree, array, trees_of};
 ghost use Rattle.jsonb_doc.specs.View.{number_view};
-ghost use Rattle.jsonb_c.specs.Answers.{Delivers, DeliversNothing, WritesResult, always};
+ghost use Rattle.jsonb_c.specs.Answers.{DeliversNothing, DeliversValue, WritesResult};
 ghost use Rattle.jsonb_c.specs.Columns.{rows};
 ghost use Rattle.jsonb_c.specs.Making.{Encodes, IsDecimalOf, MakesArray, is_placed, whole_of};
 ghost use Rattle.jsonb_c.specs.declared.status.Status.TheVariants.{BadOffsets, NotUtf8};
@@ -29,7 +29,7 @@ use std::alloc::Global;
 #[unsafe(no_mangle)]
 pub extern "C" fn jdoc_from_null(alloc: Global, out: &mut [u8], out_len: &mut usize) -> u32
     ensures { WritesResult (Encodes spec.null) (IsOutOfMemory or TooLarge)
-        (λ answer. Delivers (always answer) out.old out.new out_len.new result) }
+        (DeliversValue out.old out.new out_len.new result) }
 {
     deliver_item(alloc, &Item::Null, out, out_len)
 }
@@ -43,7 +43,7 @@ pub extern "C" fn jdoc_from_bool(
     out_len: &mut usize,
 ) -> u32
     ensures { WritesResult (Encodes (spec.boolean value)) (IsOutOfMemory or TooLarge)
-        (λ answer. Delivers (always answer) out.old out.new out_len.new result) }
+        (DeliversValue out.old out.new out_len.new result) }
 {
     deliver_item(alloc, &Item::Boolean(value), out, out_len)
 }
@@ -57,7 +57,7 @@ pub extern "C" fn jdoc_from_i64(
     out_len: &mut usize,
 ) -> u32
     ensures { WritesResult (Encodes (spec.number (number_from int64 value 0))) (IsOutOfMemory or TooLarge)
-        (λ answer. Delivers (always answer) out.old out.new out_len.new result) }
+        (DeliversValue out.old out.new out_len.new result) }
 {
     deliver_item(alloc, &Item::Number(Number::Int64(value)), out, out_len)
 }
@@ -71,7 +71,7 @@ pub extern "C" fn jdoc_from_u64(
     out_len: &mut usize,
 ) -> u32
     ensures { WritesResult (Encodes (spec.number (number_from uint64 (pos value) 0))) (IsOutOfMemory or TooLarge)
-        (λ answer. Delivers (always answer) out.old out.new out_len.new result) }
+        (DeliversValue out.old out.new out_len.new result) }
 {
     deliver_item(alloc, &Item::Number(Number::UInt64(value)), out, out_len)
 }
@@ -87,8 +87,7 @@ pub extern "C" fn jdoc_from_decimal(
     out_len: &mut usize,
 ) -> u32
     ensures { (t : Tree) → IsDecimalOf (whole_of high low) scale t
-        → WritesResult (Encodes t) (IsOutOfMemory or TooLarge)
-        (λ answer. Delivers (always answer) out.old out.new out_len.new result) }
+        → WritesResult (Encodes t) (IsOutOfMemory or TooLarge) (DeliversValue out.old out.new out_len.new result) }
 {
     let number = decimal(whole_of(high, low), scale);
     deliver_item(alloc, &Item::Number(number), out, out_len)
@@ -121,7 +120,7 @@ pub extern "C" fn jdoc_from_str(
 ) -> u32
     ensures text { IsUtf8 text.now
         → WritesResult (Encodes (spec.text text.now)) (IsOutOfMemory or TooLarge)
-        (λ answer. Delivers (always answer) out.old out.new out_len.new result) }
+        (DeliversValue out.old out.new out_len.new result) }
     ensures other { ¬ (IsUtf8 text.now) → DeliversNothing NotUtf8 out.old out.new out_len.new result }
 {
     let Ok(text) = str::from_utf8(text) else {
@@ -133,8 +132,7 @@ pub extern "C" fn jdoc_from_str(
 /// Writes the document of an item to the caller's buffer.
 fn deliver_item(alloc: Global, item: &Item<'_>, out: &mut [u8], out_len: &mut usize) -> u32
     ensures { (t : Tree) → ((form : Form) → StandsFor form item.now t)
-        → WritesResult (Encodes t) (IsOutOfMemory or TooLarge)
-        (λ answer. Delivers (always answer) out.old out.new out_len.new result) }
+        → WritesResult (Encodes t) (IsOutOfMemory or TooLarge) (DeliversValue out.old out.new out_len.new result) }
 {
     deliver_vec(encode_item(alloc, item), out, out_len)
 }
@@ -150,7 +148,7 @@ pub extern "C" fn jdoc_array_from_column(
 ) -> u32
     ensures array { is_placed (rows bytes.now offsets.now) ≡ true
         → WritesResult (MakesArray (rows bytes.now offsets.now)) (IsDecodingError or OutOfMemory or TooLarge)
-        (λ answer. Delivers (always answer) out.old out.new out_len.new result) }
+        (DeliversValue out.old out.new out_len.new result) }
     ensures other { is_placed (rows bytes.now offsets.now) ≡ false
         → DeliversNothing BadOffsets out.old out.new out_len.new result }
 {

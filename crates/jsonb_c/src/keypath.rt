@@ -5,7 +5,7 @@ ghost use Rattle.jsonb_doc.specs.Answer.{IsOutOfMemory};
 ghost use Rattle.jsonb_doc.specs.declared.error.Error.TheVariants.{InvalidKeyPath};
 ghost use Rattle.jsonb.specs.ErrorPosition.{key_path_error_position as spec_key_path_error_position};
 ghost use Rattle.jsonb.specs.KeyPathGrammar.{key_path};
-ghost use Rattle.jsonb_c.specs.Answers.{Delivers, DeliversNothing, Shows, With, WritesResult, always};
+ghost use Rattle.jsonb_c.specs.Answers.{Delivers, DeliversNothing, DeliversValue, Shows, With, WritesResult};
 ghost use Rattle.jsonb_c.specs.Calls.{DeletesPart, FindsPart};
 ghost use Rattle.jsonb_c.specs.Status.{code};
 ghost use Rattle.jsonb_c.specs.Prepared.{key_steps};
@@ -103,8 +103,7 @@ pub extern "C" fn jdoc_keypath_delete(
 ) -> u32
     ensures kept { path.new.value ≡ path.old.value }
     ensures rest { MatchOption (key_steps path.old.value) (DeliversNothing NoPath out.old out.new out_len.new result)
-        (λ steps. DeletesPart steps document.now
-        (λ answer. Delivers (always answer) out.old out.new out_len.new result)) }
+        (λ steps. DeletesPart steps document.now (DeliversValue out.old out.new out_len.new result)) }
 {
     let Some(kept) = path.take(alloc) else {
         return deliver_nothing(Status::NoPath, out_len);
@@ -123,8 +122,7 @@ fn deliver_rest(
     out_len: &mut usize,
 ) -> u32
     ensures { MatchOption (key_steps (Some path.now)) (DeliversNothing NoPath out.old out.new out_len.new result)
-        (λ steps. DeletesPart steps document.now
-        (λ answer. Delivers (always answer) out.old out.new out_len.new result)) }
+        (λ steps. DeletesPart steps document.now (DeliversValue out.old out.new out_len.new result)) }
 {
     match path.keys() {
         Some(steps) => {

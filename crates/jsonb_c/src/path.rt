@@ -5,7 +5,7 @@ ghost use Rattle.jsonb_doc.specs.Answer.{IsOutOfMemory};
 ghost use Rattle.jsonb.specs.PathErrorPosition.{json_path_error_position as spec_json_path_error_position};
 ghost use Rattle.jsonb.specs.PathGrammar.{json_path};
 ghost use Rattle.jsonb.specs.SelectorAnswers.{first_item, single_or_array};
-ghost use Rattle.jsonb_c.specs.Answers.{Delivers, DeliversNothing, Shows, With, WritesResult, always, found_as, truth_byte};
+ghost use Rattle.jsonb_c.specs.Answers.{Delivers, DeliversNothing, Shows, ShowsAs, With, WritesResult, truth_byte};
 ghost use Rattle.jsonb_c.specs.Calls.{SelectsItem, TellsExistence, TellsTruth, mode_of, one_array};
 ghost use Rattle.jsonb_c.specs.Status.{code};
 ghost use Rattle.jsonb_raw.specs.Casts.{bool_number};
@@ -158,8 +158,7 @@ pub extern "C" fn jdoc_path_exists(
 ) -> u32
     ensures kept { path.new.value ≡ path.old.value }
     ensures exists { MatchOption (json_steps path.old.value) ((truth.new ≡ truth.old) × (result ≡ code NoPath))
-        (λ steps. TellsExistence (mode_of strict) steps document.now
-        (λ answer. Shows (found_as bool_number (always answer)) truth.old truth.new result)) }
+        (λ steps. TellsExistence (mode_of strict) steps document.now (ShowsAs bool_number truth.old truth.new result)) }
 {
     let Some(kept) = path.take(alloc) else {
         return Status::NoPath.to_u32();
@@ -178,8 +177,7 @@ fn store_exists(
     truth: &mut u8,
 ) -> u32
     ensures { MatchOption (json_steps (Some path.now)) ((truth.new ≡ truth.old) × (result ≡ code NoPath))
-        (λ steps. TellsExistence (mode_of strict) steps document.now
-        (λ answer. Shows (found_as bool_number (always answer)) truth.old truth.new result)) }
+        (λ steps. TellsExistence (mode_of strict) steps document.now (ShowsAs bool_number truth.old truth.new result)) }
 {
     match path.json() {
         Some(steps) => {
@@ -201,8 +199,7 @@ pub extern "C" fn jdoc_path_match(
 ) -> u32
     ensures kept { path.new.value ≡ path.old.value }
     ensures truth { MatchOption (json_steps path.old.value) ((truth.new ≡ truth.old) × (result ≡ code NoPath))
-        (λ steps. TellsTruth (mode_of strict) steps document.now
-        (λ answer. Shows (found_as truth_byte (always answer)) truth.old truth.new result)) }
+        (λ steps. TellsTruth (mode_of strict) steps document.now (ShowsAs truth_byte truth.old truth.new result)) }
 {
     let Some(kept) = path.take(alloc) else {
         return Status::NoPath.to_u32();
@@ -221,8 +218,7 @@ fn store_match(
     truth: &mut u8,
 ) -> u32
     ensures { MatchOption (json_steps (Some path.now)) ((truth.new ≡ truth.old) × (result ≡ code NoPath))
-        (λ steps. TellsTruth (mode_of strict) steps document.now
-        (λ answer. Shows (found_as truth_byte (always answer)) truth.old truth.new result)) }
+        (λ steps. TellsTruth (mode_of strict) steps document.now (ShowsAs truth_byte truth.old truth.new result)) }
 {
     match path.json() {
         Some(steps) => {

@@ -13,7 +13,6 @@ Prints (Err e) lines status = (lines ≡ codes "refused: " ++ error_text e ++ co
 
 -- what the outcome of the request prints, or `usage` if the arguments are not a request, unless an allocation fails
 abbrev pub IsAnswer : List (List ℕ) → List ℕ → ℕ → Type 0
-IsAnswer words lines status =
-    MatchOption (request_of words) ((lines ≡ codes "usage\n") × (status ≡ 2))
+IsAnswer words lines status = MatchOption (request_of words) ((lines ≡ codes "usage\n") × (status ≡ 2))
     (λ request. (outcome : Outcome (List ℕ)) × IsOutputOf request outcome × Prints outcome lines status)
     ⊎ Prints (Err OutOfMemory) lines status

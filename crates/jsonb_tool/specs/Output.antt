@@ -30,8 +30,7 @@ use Rattle.jsonb_tool.specs.Requests.{Request, get, key, leaves, select, path_ma
 -- why bytes are not a document: they would be one if each float and each 256-bit decimal were a number, or not even
 -- then
 abbrev pub IsDamage : List ℕ → Error → Type 0
-IsDamage bytes e =
-    ((e ≡ UnsupportedNumber) × IsUnsupportedDocument bytes) ⊎ ((e ≡ InvalidJsonb) × IsNoDocument bytes)
+IsDamage bytes e = ((e ≡ UnsupportedNumber) × IsUnsupportedDocument bytes) ⊎ ((e ≡ InvalidJsonb) × IsNoDocument bytes)
 
 -- The outcome satisfies this for the tree that the bytes decode to, in each form in which they do. If they do not
 -- decode, it is the error that says why.

@@ -8,7 +8,7 @@ use Rattle.jsonb_doc.specs.Answer.{IsDecodingError, ◌or◌}
 use Rattle.jsonb_doc.specs.Tree.{Tree}
 use Rattle.jsonb_doc.specs.declared.error.Error.TheVariants.{InvalidObject, OutOfMemory, TooLarge}
 use Rattle.jsonb_raw.specs.Casts.{bool_number}
-use Rattle.jsonb_c.specs.Answers.{Delivers, DeliversNothing, OfDocument, Shows, With, WritesResult, always, found_as}
+use Rattle.jsonb_c.specs.Answers.{DeliversNothing, DeliversValue, OfDocument, ShowsAs, With, WritesResult}
 use Rattle.jsonb_c.specs.Calls.{MakesOr}
 use Rattle.jsonb_c.specs.Status.{code}
 use Rattle.jsonb_raw.specs.Exists.{has_all, has_any}
@@ -41,7 +41,7 @@ chosen_pairs Rest = dropped_names
 abbrev pub ShowsKeys : (List (List ℕ) → Tree → Bool) → List ℕ → Result (List (List ℕ)) Status → ℕ → ℕ → ℕ → Type 0
 ShowsKeys has document names old new status = With names (λ wanted. WritesResult
     (OfDocument document (λ form t said. IsOkAnd said (λ b. b ≡ has wanted t))) IsDecodingError
-    (λ answer. Shows (found_as bool_number (always answer)) old new status))
+    (ShowsAs bool_number old new status))
     (λ cause. (new ≡ old) × (status ≡ code cause))
 
 -- the object of the remaining members is delivered
@@ -50,5 +50,5 @@ abbrev pub DeliversPairs : (List (List ℕ) → Tree → Option Tree) → List �
 DeliversPairs kept document names old new len status = With names (λ wanted. WritesResult
     (OfDocument document (λ form t. MakesOr InvalidObject form (kept wanted t)))
     (IsDecodingError or OutOfMemory or TooLarge or InvalidObject)
-    (λ answer. Delivers (always answer) old new len status))
+    (DeliversValue old new len status))
     (λ cause. DeliversNothing cause old new len status)

@@ -7,7 +7,7 @@ use Rattle.jsonb_doc.specs.declared.event_error.EventError.{EventError}
 use Rattle.jsonb_doc.specs.declared.error.Error.TheVariants.{InvalidJsonPath}
 use Rattle.jsonb_doc.specs.Tree.{Tree}
 use Rattle.jsonb.specs.SelectorAnswers.{first_item, single_or_array}
-use Rattle.jsonb_c.specs.Answers.{Found, Shows, always, found_as, truth_byte}
+use Rattle.jsonb_c.specs.Answers.{Found, Shows, ShowsAs, ShowsValue, truth_byte}
 use Rattle.jsonb_c.specs.Calls.{DeletesPart, FindsPart, TellsExistence, TellsTruth, one_array}
 use Rattle.jsonb.specs.KeyPathGrammar.{Key}
 use Rattle.jsonb.specs.PathTree.{Step}
@@ -52,16 +52,16 @@ pick_of Array = one_array
 -- whether the path selects an item, or its result as a predicate
 abbrev pub told : Question → Mode → List Step → List ℕ → ℕ → ℕ → ℕ → Type 0
 told Existence mode path = λ document old new status.
-    TellsExistence mode path document (λ answer. Shows (found_as bool_number (always answer)) old new status)
+    TellsExistence mode path document (ShowsAs bool_number old new status)
 told Truth mode path = λ document old new status.
-    TellsTruth mode path document (λ answer. Shows (found_as truth_byte (always answer)) old new status)
+    TellsTruth mode path document (ShowsAs truth_byte old new status)
 
 -- the value at the location of the steps, or the document without it
 abbrev pub place_of : Operation → List Key → List ℕ → List ℕ → List ℕ → ℕ → Type 0
 place_of Part steps = λ document old new status.
     FindsPart steps document (λ answer. Shows answer old new status)
 place_of Rest steps = λ document old new status.
-    DeletesPart steps document (λ answer. Shows (always answer) old new status)
+    DeletesPart steps document (ShowsValue old new status)
 
 abbrev pub pair_answer : Result (Option KeyValue) Error → Result (Option (List ℕ × List ℕ)) Error
 pair_answer (Ok (Some found)) = Ok (Some (found.key.now, found.value.items))

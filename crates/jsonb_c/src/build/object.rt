@@ -3,7 +3,7 @@
 ghost use Rattle.std.specs.Prelude.{◌≡◌, IfErr, false, length, map, true};
 ghost use Rattle.jsonb_doc.specs.Answer.{IsDecodingError, ◌or◌};
 ghost use Rattle.jsonb_doc.specs.declared.error.Error.TheVariants.{ObjectDuplicateKey, OutOfMemory, TooLarge};
-ghost use Rattle.jsonb_c.specs.Answers.{Delivers, DeliversNothing, With, WritesResult, always};
+ghost use Rattle.jsonb_c.specs.Answers.{DeliversNothing, DeliversValue, With, WritesResult};
 ghost use Rattle.jsonb_c.specs.Columns.{rows};
 ghost use Rattle.jsonb_c.specs.Making.{MakesObject, is_placed};
 ghost use Rattle.jsonb_c.specs.Names.{names_of};
@@ -33,7 +33,7 @@ pub extern "C" fn jdoc_object_from_columns(
         → With (names_of (rows names.now name_offsets.now))
         (λ read. WritesResult (MakesObject read (rows bytes.now offsets.now))
         (IsDecodingError or OutOfMemory or TooLarge or ObjectDuplicateKey)
-        (λ answer. Delivers (always answer) out.old out.new out_len.new result))
+        (DeliversValue out.old out.new out_len.new result))
         (λ cause. DeliversNothing cause out.old out.new out_len.new result) }
     ensures count { ¬ (length (rows names.now name_offsets.now) ≡ length (rows bytes.now offsets.now))
         → DeliversNothing BadOffsets out.old out.new out_len.new result }

@@ -5,7 +5,7 @@ ghost use Rattle.std.specs.Int.{w64};
 ghost use Rattle.jsonb_doc.specs.Answer.{IsDecodingError, ◌or◌};
 ghost use Rattle.jsonb_doc.specs.declared.error.Error.TheVariants.{InvalidCast, OutOfMemory};
 ghost use Rattle.jsonb_raw.specs.Casts.{Casts, IsSignedOf, CastsToText, text_of};
-ghost use Rattle.jsonb_c.specs.Answers.{OfDocument, Shows, always, found_as};
+ghost use Rattle.jsonb_c.specs.Answers.{OfDocument, Shows, ShowsAs, ShowsValue, always, found_as};
 ghost use Rattle.jsonb_c.specs.Calls.{WritesI64, WritesText};
 ghost use Rattle.jsonb_c.specs.Columns.{FillsRows, JoinsRows, rows};
 
@@ -24,7 +24,7 @@ impl RowCall<i64> for ToI64 {
     ghost use Rattle.jsonb_c.specs.Calls.{WritesI64};
 
     ghost Writes = { λ call document old new status.
-        WritesI64 document (λ answer. Shows (always answer) old new status) };
+        WritesI64 document (ShowsValue old new status) };
 
     fn answer(&self, _alloc: Global, document: &[u8]) -> Result<Option<i64>, Error> {
         let number = i64_of(document)?;
@@ -49,7 +49,7 @@ impl RowWriter for ToText {
     ghost use Rattle.jsonb_c.specs.Calls.{WritesText};
 
     ghost Writes = { λ call document old new status.
-        WritesText document (λ answer. Shows (found_as string_bytes (always answer)) old new status) };
+        WritesText document (ShowsAs string_bytes old new status) };
 
     fn write(&self, alloc: Global, document: &[u8], out: &mut Vec<u8>) -> Result<bool, Error> {
         let text = text_of(alloc, document)?;
@@ -76,7 +76,7 @@ pub extern "C" fn jdoc_column_to_i64(
     done: &mut usize,
 ) -> u32
     ensures { FillsRows
-        (λ document old new status. WritesI64 document (λ answer. Shows (always answer) old new status))
+        (λ document old new status. WritesI64 document (ShowsValue old new status))
         (pos 0) (rows bytes.now offsets.now)
         (numbers.old, statuses.old) (numbers.new, statuses.new) done.new result }
 {
@@ -95,7 +95,7 @@ pub extern "C" fn jdoc_column_to_str(
     progress: &mut Progress,
 ) -> u32
     ensures { JoinsRows (λ document old new status. WritesText document
-        (λ answer. Shows (found_as string_bytes (always answer)) old new status)) (rows bytes.now offsets.now)
+        (ShowsAs string_bytes old new status)) (rows bytes.now offsets.now)
         (out.old, positions.old, statuses.old) (out.new, positions.new, statuses.new) progress.new result }
 {
     Column::new(bytes, offsets).join(alloc, &ToText, out, positions, statuses, progress)

@@ -10,7 +10,7 @@ ghost use Rattle.jsonb.specs.KeyPathViews.{key_paths_view};
 ghost use Rattle.jsonb.specs.PathGrammar.{json_path};
 ghost use Rattle.jsonb.specs.PathViews.{path_view};
 ghost use Rattle.jsonb.specs.SelectorAnswers.{first_item, single_or_array};
-ghost use Rattle.jsonb_c.specs.Answers.{OfDocument, Shows, With, always};
+ghost use Rattle.jsonb_c.specs.Answers.{OfDocument, Shows, ShowsValue, With};
 ghost use Rattle.jsonb_c.specs.Calls.{DeletesPart, DeletesPlace, FindsPart, SelectsItem, mode_of, one_array};
 ghost use Rattle.jsonb_c.specs.Columns.{IsUntouched, JoinsRows, rows};
 ghost use Rattle.jsonb_c.specs.Private.Buffers.{written_answer};
@@ -162,7 +162,7 @@ pub extern "C" fn jdoc_column_delete_by_keypath(
 ) -> u32
     ensures { With (ok_or (key_path path.now) (Refused InvalidKeyPath))
         (λ steps. JoinsRows
-        (λ document old new status. DeletesPart steps document (λ answer. Shows (always answer) old new status))
+        (λ document old new status. DeletesPart steps document (ShowsValue old new status))
         (rows bytes.now offsets.now)
         (out.old, positions.old, statuses.old) (out.new, positions.new, statuses.new) progress.new result)
         (λ cause. (result ≡ code cause)

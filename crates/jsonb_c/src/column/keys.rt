@@ -1,6 +1,6 @@
 //! A key per row.
 
-ghost use Rattle.jsonb_c.specs.Answers.{Shows, always};
+ghost use Rattle.jsonb_c.specs.Answers.{Shows, ShowsValue, always};
 ghost use Rattle.jsonb_c.specs.Calls.{WritesEqualityKey, WritesKey, width_of};
 ghost use Rattle.jsonb_c.specs.Columns.{JoinsRows, rows};
 
@@ -22,7 +22,7 @@ impl RowWriter for SortKeys {
     ghost use Rattle.jsonb_c.specs.Calls.{WritesKey, width_of};
 
     ghost Writes = { λ call document old new status.
-        WritesKey (width_of call.wide) document (λ answer. Shows (always answer) old new status) };
+        WritesKey (width_of call.wide) document (ShowsValue old new status) };
 
     fn write(&self, alloc: Global, document: &[u8], out: &mut Vec<u8>) -> Result<bool, Error> {
         write_sort_key(alloc, document, self.wide, out).and(Ok(true))
@@ -38,7 +38,7 @@ impl RowWriter for EqualityKeys {
     ghost use Rattle.jsonb_c.specs.Calls.{WritesEqualityKey};
 
     ghost Writes = { λ call document old new status.
-        WritesEqualityKey document (λ answer. Shows (always answer) old new status) };
+        WritesEqualityKey document (ShowsValue old new status) };
 
     fn write(&self, alloc: Global, document: &[u8], out: &mut Vec<u8>) -> Result<bool, Error> {
         write_equality_key(alloc, document, out).and(Ok(true))
@@ -58,7 +58,7 @@ pub extern "C" fn jdoc_column_key(
     progress: &mut Progress,
 ) -> u32
     ensures { JoinsRows
-        (λ document old new status. WritesKey (width_of wide) document (λ answer. Shows (always answer) old new status))
+        (λ document old new status. WritesKey (width_of wide) document (ShowsValue old new status))
         (rows bytes.now offsets.now)
         (out.old, positions.old, statuses.old) (out.new, positions.new, statuses.new) progress.new result }
 {
@@ -78,7 +78,7 @@ pub extern "C" fn jdoc_column_equality_key(
     progress: &mut Progress,
 ) -> u32
     ensures { JoinsRows
-        (λ document old new status. WritesEqualityKey document (λ answer. Shows (always answer) old new status))
+        (λ document old new status. WritesEqualityKey document (ShowsValue old new status))
         (rows bytes.now offsets.now)
         (out.old, positions.old, statuses.old) (out.new, positions.new, statuses.new) progress.new result }
 {

@@ -6,7 +6,7 @@ ghost use Rattle.jsonb_doc.specs.Answer.{IsDecodingError, ◌or◌};
 ghost use Rattle.jsonb_doc.specs.declared.error.Error.TheVariants.{InvalidCast, OutOfMemory};
 ghost use Rattle.jsonb_raw.specs.Casts.{Casts, IsBoolOf, IsUnsignedOf, CastsToText, bool_number, text_of};
 ghost use Rattle.jsonb_raw.specs.Scalars.{boolean_in, text_in};
-ghost use Rattle.jsonb_c.specs.Answers.{Delivers, OfDocument, Shows, WritesResult, always, found_as};
+ghost use Rattle.jsonb_c.specs.Answers.{Delivers, OfDocument, Shows, ShowsAs, ShowsValue, WritesResult, always, found_as};
 ghost use Rattle.jsonb_c.specs.Calls.{FindsWhole, WritesI64, WritesText};
 ghost use Rattle.jsonb_c.specs.Private.Views.{found_text};
 
@@ -70,7 +70,7 @@ fn as_str(document: &[u8]) -> Result<Option<&str>, Error>
 #[unsafe(no_mangle)]
 pub extern "C" fn jdoc_to_bool(document: &[u8], truth: &mut u8) -> u32
     ensures { WritesResult (OfDocument document.now (λ form t. Casts (IsBoolOf t))) (IsDecodingError or InvalidCast)
-        (λ answer. Shows (found_as bool_number (always answer)) truth.old truth.new result) }
+        (ShowsAs bool_number truth.old truth.new result) }
 {
     store_bool(RawJsonb::new(document).to_bool(), truth)
 }
@@ -78,7 +78,7 @@ pub extern "C" fn jdoc_to_bool(document: &[u8], truth: &mut u8) -> u32
 /// Casts the document to an `i64`: a Boolean to 1 or 0, a number rounded, a string parsed.
 #[unsafe(no_mangle)]
 pub extern "C" fn jdoc_to_i64(document: &[u8], number: &mut i64) -> u32
-    ensures { WritesI64 document.now (λ answer. Shows (always answer) number.old number.new result) }
+    ensures { WritesI64 document.now (ShowsValue number.old number.new result) }
 {
     store(RawJsonb::new(document).to_i64(), number)
 }
@@ -87,8 +87,7 @@ pub extern "C" fn jdoc_to_i64(document: &[u8], number: &mut i64) -> u32
 #[unsafe(no_mangle)]
 pub extern "C" fn jdoc_to_u64(document: &[u8], number: &mut u64) -> u32
     ensures { WritesResult (OfDocument document.now (λ form t. Casts (λ n. IsUnsignedOf t n × (n < 2 ^ 64))))
-        (IsDecodingError or InvalidCast)
-        (λ answer. Shows (always answer) number.old number.new result) }
+        (IsDecodingError or InvalidCast) (ShowsValue number.old number.new result) }
 {
     store(RawJsonb::new(document).to_u64(), number)
 }

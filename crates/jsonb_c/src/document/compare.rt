@@ -8,7 +8,7 @@ ghost use Rattle.jsonb_doc.specs.Order.{tree_cmp};
 ghost use Rattle.jsonb_doc.specs.Payload.{Form};
 ghost use Rattle.jsonb_doc.specs.Tree.{Tree};
 ghost use Rattle.jsonb_raw.specs.Casts.{bool_number};
-ghost use Rattle.jsonb_c.specs.Answers.{Shows, WritesResult, always, found_as};
+ghost use Rattle.jsonb_c.specs.Answers.{ShowsAs, ShowsValue, WritesResult};
 ghost use Rattle.jsonb_c.specs.Calls.{TellsContainment};
 
 use crate::deliver::{store, store_bool};
@@ -18,8 +18,7 @@ use std::cmp::Ordering;
 /// Returns whether a document contains another.
 #[unsafe(no_mangle)]
 pub extern "C" fn jdoc_contains(document: &[u8], other: &[u8], truth: &mut u8) -> u32
-    ensures { TellsContainment other.now document.now
-        (λ answer. Shows (found_as bool_number (always answer)) truth.old truth.new result) }
+    ensures { TellsContainment other.now document.now (ShowsAs bool_number truth.old truth.new result) }
 {
     let document = RawJsonb::new(document);
     store_bool(document.contains(&RawJsonb::new(other)), truth)
@@ -31,7 +30,7 @@ pub extern "C" fn jdoc_compare(document: &[u8], other: &[u8], order: &mut i32) -
     ensures { WritesResult (λ answer. (form other_form : Form) (t u : Tree)
         → Decodes form document.now t → Decodes other_form other.now u
         → IsOkAnd answer (λ z. z ≡ match_ordering (tree_cmp t u) (negsuc 0) (pos 0) (pos 1)))
-        IsDecodingError (λ answer. Shows (always answer) order.old order.new result) }
+        IsDecodingError (ShowsValue order.old order.new result) }
 {
     store(compare(document, other), order)
 }

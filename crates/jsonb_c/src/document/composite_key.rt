@@ -8,7 +8,7 @@ ghost use Rattle.jsonb_doc.specs.Payload.{Form};
 ghost use Rattle.jsonb_doc.specs.Tree.{Tree};
 ghost use Rattle.jsonb_raw.specs.CompositeKeys.{AppendsColumn};
 ghost use Rattle.jsonb_raw.specs.Documents.{raw_bytes};
-ghost use Rattle.jsonb_c.specs.Answers.{Delivers, DeliversNothing, WritesResult, always};
+ghost use Rattle.jsonb_c.specs.Answers.{DeliversNothing, DeliversValue, WritesResult};
 ghost use Rattle.jsonb_c.specs.Calls.{width_of};
 ghost use Rattle.jsonb_c.specs.Columns.{rows};
 ghost use Rattle.jsonb_c.specs.Making.{IsValueOf, MakesCompositeKey, is_placed};
@@ -34,8 +34,7 @@ pub extern "C" fn jdoc_composite_key(
 ) -> u32
     ensures key { is_placed (rows bytes.now offsets.now) ≡ true
         → WritesResult (MakesCompositeKey (width_of wide) (rows bytes.now offsets.now))
-        (IsDecodingError or OutOfMemory or TooDeep)
-        (λ answer. Delivers (always answer) out.old out.new out_len.new result) }
+        (IsDecodingError or OutOfMemory or TooDeep) (DeliversValue out.old out.new out_len.new result) }
     ensures other { is_placed (rows bytes.now offsets.now) ≡ false
         → DeliversNothing BadOffsets out.old out.new out_len.new result }
 {

@@ -13,7 +13,7 @@ ghost use Rattle.jsonb_raw.specs.Concat.{concat};
 ghost use Rattle.jsonb_raw.specs.Documents.{Makes};
 ghost use Rattle.jsonb_raw.specs.Strip.{strip};
 ghost use Rattle.jsonb.specs.KeyPathGrammar.{key_path};
-ghost use Rattle.jsonb_c.specs.Answers.{Delivers, DeliversBy, DeliversNothing, OfDocument, WritesResult, always};
+ghost use Rattle.jsonb_c.specs.Answers.{DeliversBy, DeliversNothing, DeliversValue, OfDocument, WritesResult, always};
 ghost use Rattle.jsonb_c.specs.Calls.{DeletesIndex, DeletesPart, DeletesPlace, InsertsPair, MakesOr};
 ghost use Rattle.jsonb_c.specs.Private.Boxes.{ByPath};
 ghost use Rattle.jsonb_c.specs.declared.status.Status.TheVariants.{NotUtf8, Refused};
@@ -60,7 +60,7 @@ pub extern "C" fn jdoc_delete_by_name(
     ensures named { IsUtf8 name.now
         → WritesResult (OfDocument document.now (λ form t. MakesOr InvalidJsonType form (without_name name.now t)))
         (IsDecodingError or OutOfMemory or TooLarge or InvalidJsonType)
-        (λ answer. Delivers (always answer) out.old out.new out_len.new result) }
+        (DeliversValue out.old out.new out_len.new result) }
     ensures other { ¬ (IsUtf8 name.now) → DeliversNothing NotUtf8 out.old out.new out_len.new result }
 {
     let Ok(name) = str::from_utf8(name) else {
@@ -81,7 +81,7 @@ pub extern "C" fn jdoc_delete_by_index(
 ) -> u32
     ensures { WritesResult (DeletesIndex index document.now)
         (IsDecodingError or OutOfMemory or TooLarge or InvalidJsonType)
-        (λ answer. Delivers (always answer) out.old out.new out_len.new result) }
+        (DeliversValue out.old out.new out_len.new result) }
 {
     let document = RawJsonb::new(document);
     deliver_made(document.delete_by_index(alloc, index), out, out_len)
@@ -98,8 +98,7 @@ pub extern "C" fn jdoc_concat(
 ) -> u32
     ensures { WritesResult (λ answer. (form : Form) (t u : Tree)
         → Decodes form document.now t → Decodes form other.now u → Makes form (concat t u) answer)
-        (IsDecodingError or OutOfMemory or TooLarge)
-        (λ answer. Delivers (always answer) out.old out.new out_len.new result) }
+        (IsDecodingError or OutOfMemory or TooLarge) (DeliversValue out.old out.new out_len.new result) }
 {
     let document = RawJsonb::new(document);
     deliver_made(document.concat(alloc, &RawJsonb::new(other)), out, out_len)
@@ -118,8 +117,7 @@ pub extern "C" fn jdoc_array_insert(
 ) -> u32
     ensures { WritesResult (λ answer. (form : Form) (t v : Tree)
         → Decodes form document.now t → Decodes form value.now v → Makes form (array_insert position v t) answer)
-        (IsDecodingError or OutOfMemory or TooLarge)
-        (λ answer. Delivers (always answer) out.old out.new out_len.new result) }
+        (IsDecodingError or OutOfMemory or TooLarge) (DeliversValue out.old out.new out_len.new result) }
 {
     let made = RawJsonb::new(document).array_insert(alloc, position, &RawJsonb::new(value));
     deliver_made(made, out, out_len)
@@ -139,7 +137,7 @@ pub extern "C" fn jdoc_object_insert(
     ensures named { IsUtf8 name.now
         → WritesResult (InsertsPair name.now update document.now value.now)
         (IsDecodingError or OutOfMemory or TooLarge or InvalidObject or ObjectDuplicateKey)
-        (λ answer. Delivers (always answer) out.old out.new out_len.new result) }
+        (DeliversValue out.old out.new out_len.new result) }
     ensures other { ¬ (IsUtf8 name.now) → DeliversNothing NotUtf8 out.old out.new out_len.new result }
 {
     let Ok(name) = str::from_utf8(name) else {
@@ -158,8 +156,7 @@ pub extern "C" fn jdoc_strip_nulls(
     out_len: &mut usize,
 ) -> u32
     ensures { WritesResult (OfDocument document.now (λ form t. Makes form (strip t)))
-        (IsDecodingError or OutOfMemory or TooLarge)
-        (λ answer. Delivers (always answer) out.old out.new out_len.new result) }
+        (IsDecodingError or OutOfMemory or TooLarge) (DeliversValue out.old out.new out_len.new result) }
 {
     deliver_made(RawJsonb::new(document).strip_nulls(alloc), out, out_len)
 }

@@ -3,7 +3,7 @@
 ghost use Rattle.std.specs.Prelude.{IfErr};
 ghost use Rattle.jsonb_doc.specs.Answer.{IsDecodingError, ◌or◌};
 ghost use Rattle.jsonb_doc.specs.declared.error.Error.TheVariants.{OutOfMemory, TooDeep};
-ghost use Rattle.jsonb_c.specs.Answers.{Delivers, always};
+ghost use Rattle.jsonb_c.specs.Answers.{DeliversValue};
 ghost use Rattle.jsonb_c.specs.Calls.{IsEqualityKeyOf, IsSortableKeyOf, WritesEqualityKey, WritesKey, width_of};
 ghost use Rattle.jsonb_c.specs.Private.Views.{vec_answer};
 ghost use Rattle.jsonb_c.specs.Private.Buffers.{written_key};
@@ -21,8 +21,7 @@ pub extern "C" fn jdoc_sort_key(
     out: &mut [u8],
     out_len: &mut usize,
 ) -> u32
-    ensures { WritesKey (width_of wide) document.now
-        (λ answer. Delivers (always answer) out.old out.new out_len.new result) }
+    ensures { WritesKey (width_of wide) document.now (DeliversValue out.old out.new out_len.new result) }
 {
     deliver_vec(sort_key(alloc, document, wide), out, out_len)
 }
@@ -66,8 +65,7 @@ pub extern "C" fn jdoc_equality_key(
     out: &mut [u8],
     out_len: &mut usize,
 ) -> u32
-    ensures { WritesEqualityKey document.now
-        (λ answer. Delivers (always answer) out.old out.new out_len.new result) }
+    ensures { WritesEqualityKey document.now (DeliversValue out.old out.new out_len.new result) }
 {
     deliver_vec(equality_key(alloc, document), out, out_len)
 }

@@ -6,7 +6,7 @@ ghost use Rattle.jsonb_doc.specs.Item.{IsNormal, StandsFor};
 ghost use Rattle.jsonb_doc.specs.Payload.{Form};
 ghost use Rattle.jsonb_doc.specs.Tree.{Tree};
 ghost use Rattle.jsonb_doc.specs.View.{extension_view, number_parts};
-ghost use Rattle.jsonb_c.specs.Answers.{OfDocument, Shows, WritesResult, always};
+ghost use Rattle.jsonb_c.specs.Answers.{OfDocument, ShowsValue, WritesResult};
 ghost use Rattle.jsonb_c.specs.Kinds.{IsTypeOf};
 ghost use Rattle.jsonb_c.specs.Private.Numbers.{extension_kind, kind_number, number_kind, tree_kind};
 
@@ -68,7 +68,7 @@ impl Kind {
 pub extern "C" fn jdoc_type(document: &[u8], kind: &mut u8) -> u32
     ensures { WritesResult
         (OfDocument document.now (λ form t answer. IsOkAnd answer (IsTypeOf t)))
-        IsDecodingError (λ answer. Shows (always answer) kind.old kind.new result) }
+        IsDecodingError (ShowsValue kind.old kind.new result) }
 {
     store(kind_of(document), kind)
 }

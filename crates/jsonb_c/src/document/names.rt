@@ -4,7 +4,7 @@ ghost use Rattle.std.specs.Prelude.{◌≡◌, ◌⊎◌, ℕ, List, Err, IfErr,
 ghost use Rattle.jsonb_doc.specs.Answer.{IsDecodingError, IsOutOfMemory, ◌or◌};
 ghost use Rattle.jsonb_doc.specs.declared.error.Error.TheVariants.{InvalidObject, OutOfMemory, TooLarge};
 ghost use Rattle.jsonb_raw.specs.Exists.{has_all, has_any};
-ghost use Rattle.jsonb_c.specs.Answers.{Delivers, DeliversNothing, OfDocument, Shows, With, WritesResult, always, found_as};
+ghost use Rattle.jsonb_c.specs.Answers.{DeliversNothing, DeliversValue, OfDocument, ShowsAs, With, WritesResult};
 ghost use Rattle.jsonb_c.specs.Status.{code};
 ghost use Rattle.jsonb_raw.specs.Casts.{bool_number};
 ghost use Rattle.jsonb_c.specs.Calls.{MakesOr};
@@ -32,7 +32,7 @@ pub extern "C" fn jdoc_exists_all_keys(
 ) -> u32
     ensures { With (names_of (rows names.now offsets.now)) (λ wanted. WritesResult
         (OfDocument document.now (λ form t said. IsOkAnd said (λ b. b ≡ has_all wanted t))) IsDecodingError
-        (λ answer. Shows (found_as bool_number (always answer)) truth.old truth.new result))
+        (ShowsAs bool_number truth.old truth.new result))
         (λ cause. (truth.new ≡ truth.old) × (result ≡ code cause)) }
 {
     store_exists_keys(alloc, document, names, offsets, Quantity::All, truth)
@@ -50,7 +50,7 @@ pub extern "C" fn jdoc_exists_any_keys(
 ) -> u32
     ensures { With (names_of (rows names.now offsets.now)) (λ wanted. WritesResult
         (OfDocument document.now (λ form t said. IsOkAnd said (λ b. b ≡ has_any wanted t))) IsDecodingError
-        (λ answer. Shows (found_as bool_number (always answer)) truth.old truth.new result))
+        (ShowsAs bool_number truth.old truth.new result))
         (λ cause. (truth.new ≡ truth.old) × (result ≡ code cause)) }
 {
     store_exists_keys(alloc, document, names, offsets, Quantity::Any, truth)
@@ -108,7 +108,7 @@ pub extern "C" fn jdoc_object_pick(
     ensures { With (names_of (rows names.now offsets.now)) (λ wanted. WritesResult
         (OfDocument document.now (λ form t. MakesOr InvalidObject form (picked_names wanted t)))
         (IsDecodingError or OutOfMemory or TooLarge or InvalidObject)
-        (λ answer. Delivers (always answer) out.old out.new out_len.new result))
+        (DeliversValue out.old out.new out_len.new result))
         (λ cause. DeliversNothing cause out.old out.new out_len.new result) }
 {
     deliver_pairs(alloc, document, names, offsets, Chosen::Named, out, out_len)
@@ -127,7 +127,7 @@ pub extern "C" fn jdoc_object_delete(
     ensures { With (names_of (rows names.now offsets.now)) (λ wanted. WritesResult
         (OfDocument document.now (λ form t. MakesOr InvalidObject form (dropped_names wanted t)))
         (IsDecodingError or OutOfMemory or TooLarge or InvalidObject)
-        (λ answer. Delivers (always answer) out.old out.new out_len.new result))
+        (DeliversValue out.old out.new out_len.new result))
         (λ cause. DeliversNothing cause out.old out.new out_len.new result) }
 {
     deliver_pairs(alloc, document, names, offsets, Chosen::Rest, out, out_len)

@@ -8,7 +8,7 @@ ghost use Rattle.jsonb.specs.PathViews.{path_view};
 ghost use Rattle.jsonb.specs.SelectionErrors.{IsSelectionError};
 ghost use Rattle.jsonb_raw.specs.Documents.{raw_bytes};
 ghost use Rattle.jsonb.specs.SelectorAnswers.{first_item, single_or_array, IsArrayOf, IsFound, IsPicked, IsTruthOf, ByMeanings};
-ghost use Rattle.jsonb_c.specs.Answers.{DeliversBy, Shows, With, always, found_as, truth_byte};
+ghost use Rattle.jsonb_c.specs.Answers.{DeliversBy, ShowsAs, With, truth_byte};
 ghost use Rattle.jsonb_c.specs.Private.Views.{pick_of};
 ghost use Rattle.jsonb_c.specs.Calls.{SelectsItem, TellsExistence, TellsTruth, mode_of, one_array};
 ghost use Rattle.jsonb_c.specs.Status.{code};
@@ -111,8 +111,7 @@ pub extern "C" fn jdoc_match(
     truth: &mut u8,
 ) -> u32
     ensures { With (ok_or (json_path path.now) NotJsonPath)
-        (λ steps. TellsTruth (mode_of strict) steps document.now
-        (λ answer. Shows (found_as truth_byte (always answer)) truth.old truth.new result))
+        (λ steps. TellsTruth (mode_of strict) steps document.now (ShowsAs truth_byte truth.old truth.new result))
         (λ cause. (truth.new ≡ truth.old) × (result ≡ code cause)) }
 {
     match parse_json_path(alloc, path) {
@@ -134,8 +133,7 @@ pub extern "C" fn jdoc_exists(
     truth: &mut u8,
 ) -> u32
     ensures { With (ok_or (json_path path.now) NotJsonPath)
-        (λ steps. TellsExistence (mode_of strict) steps document.now
-        (λ answer. Shows (found_as bool_number (always answer)) truth.old truth.new result))
+        (λ steps. TellsExistence (mode_of strict) steps document.now (ShowsAs bool_number truth.old truth.new result))
         (λ cause. (truth.new ≡ truth.old) × (result ≡ code cause)) }
 {
     match parse_json_path(alloc, path) {

@@ -10,7 +10,7 @@ ghost use Rattle.jsonb_raw.specs.Arrays.{as_elements};
 ghost use Rattle.jsonb_raw.specs.Casts.{bool_number};
 ghost use Rattle.jsonb_raw.specs.Documents.{Makes};
 ghost use Rattle.jsonb_raw.specs.Sets.{difference_of, distinct, intersection_of, overlap};
-ghost use Rattle.jsonb_c.specs.Answers.{Delivers, OfDocument, Shows, WritesResult, always, found_as};
+ghost use Rattle.jsonb_c.specs.Answers.{DeliversValue, OfDocument, ShowsAs, WritesResult};
 
 use crate::deliver::{deliver_made, store_bool};
 use jsonb::RawJsonb;
@@ -26,8 +26,7 @@ pub extern "C" fn jdoc_array_distinct(
 ) -> u32
     ensures { WritesResult
         (OfDocument document.now (λ form t. Makes form (array (trees_of (distinct (as_elements t))))))
-        (IsDecodingError or OutOfMemory or TooLarge)
-        (λ answer. Delivers (always answer) out.old out.new out_len.new result) }
+        (IsDecodingError or OutOfMemory or TooLarge) (DeliversValue out.old out.new out_len.new result) }
 {
     deliver_made(RawJsonb::new(document).array_distinct(alloc), out, out_len)
 }
@@ -44,8 +43,7 @@ pub extern "C" fn jdoc_array_intersection(
     ensures { WritesResult (λ answer. (form other_form : Form) (t u : Tree)
         → Decodes form document.now t → Decodes other_form other.now u
         → Makes form (array (trees_of (intersection_of (as_elements t) (as_elements u)))) answer)
-        (IsDecodingError or OutOfMemory or TooLarge)
-        (λ answer. Delivers (always answer) out.old out.new out_len.new result) }
+        (IsDecodingError or OutOfMemory or TooLarge) (DeliversValue out.old out.new out_len.new result) }
 {
     let made = RawJsonb::new(document).array_intersection(alloc, &RawJsonb::new(other));
     deliver_made(made, out, out_len)
@@ -63,8 +61,7 @@ pub extern "C" fn jdoc_array_except(
     ensures { WritesResult (λ answer. (form other_form : Form) (t u : Tree)
         → Decodes form document.now t → Decodes other_form other.now u
         → Makes form (array (trees_of (difference_of (as_elements t) (as_elements u)))) answer)
-        (IsDecodingError or OutOfMemory or TooLarge)
-        (λ answer. Delivers (always answer) out.old out.new out_len.new result) }
+        (IsDecodingError or OutOfMemory or TooLarge) (DeliversValue out.old out.new out_len.new result) }
 {
     let made = RawJsonb::new(document).array_except(alloc, &RawJsonb::new(other));
     deliver_made(made, out, out_len)
@@ -76,7 +73,7 @@ pub extern "C" fn jdoc_array_overlap(document: &[u8], other: &[u8], truth: &mut 
     ensures { WritesResult (λ answer. (form other_form : Form) (t u : Tree)
         → Decodes form document.now t → Decodes other_form other.now u
         → IsOkAnd answer (λ b. b ≡ overlap (as_elements t) (as_elements u)))
-        IsDecodingError (λ answer. Shows (found_as bool_number (always answer)) truth.old truth.new result) }
+        IsDecodingError (ShowsAs bool_number truth.old truth.new result) }
 {
     let document = RawJsonb::new(document);
     store_bool(document.array_overlap(&RawJsonb::new(other)), truth)

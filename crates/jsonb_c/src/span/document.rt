@@ -6,7 +6,7 @@ ghost use Rattle.jsonb_doc.specs.Kinds.{kind_number};
 ghost use Rattle.jsonb_doc.specs.Payload.{Form, number_reader};
 ghost use Rattle.jsonb_doc.specs.Tree.{Tree};
 ghost use Rattle.jsonb_doc.specs.declared.error.Error.TheVariants.{InvalidJsonb, TooLarge};
-ghost use Rattle.jsonb_c.specs.Answers.{Delivers, DeliversBytes, DeliversNothing, WritesResult, always};
+ghost use Rattle.jsonb_c.specs.Answers.{DeliversBytes, DeliversNothing, DeliversValue, WritesResult};
 ghost use Rattle.jsonb_c.specs.Spans.{IsWithin};
 ghost use Rattle.jsonb_c.specs.declared.status.Status.TheVariants.{Refused};
 
@@ -32,8 +32,7 @@ pub extern "C" fn jdoc_span_document(
         → IsContent (number_reader form) t span.now.entry
         (slice_range document.now span.now.at (span.now.at + span.now.len))
         → MatchResult made (λ bytes. Decodes form bytes t) (λ e. (e ≡ TooLarge) × (2 ^ 28 ≤ span.now.len)))
-        (λ e. (e ≡ InvalidJsonb) ⊎ (e ≡ TooLarge))
-        (λ answer. Delivers (always answer) out.old out.new out_len.new result) }
+        (λ e. (e ≡ InvalidJsonb) ⊎ (e ≡ TooLarge)) (DeliversValue out.old out.new out_len.new result) }
     ensures other { (IsWithin document.now span.now → span.now.entry < 7 → ⊥)
         → DeliversNothing (Refused InvalidJsonb) out.old out.new out_len.new result }
 {
@@ -78,8 +77,7 @@ fn deliver_entry(entry: &StoredEntry<'_>, out: &mut [u8], out_len: &mut usize) -
         → IsContent (number_reader form) t (kind_number entry.now.kind) entry.now.content.now
         → MatchResult made (λ bytes. Decodes form bytes t)
         (λ e. (e ≡ TooLarge) × (2 ^ 28 ≤ length entry.now.content.now)))
-        (λ e. e ≡ TooLarge)
-        (λ answer. Delivers (always answer) out.old out.new out_len.new result) }
+        (λ e. e ≡ TooLarge) (DeliversValue out.old out.new out_len.new result) }
 {
     if entry.kind == EntryKind::Container {
         return deliver_bytes(entry.content, out, out_len);
