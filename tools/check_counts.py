@@ -30,6 +30,7 @@ import check_docs
 import check_quotes
 import edits
 import measure_stack
+import results
 import rows
 
 ROOT = Path(__file__).resolve().parent.parent
@@ -392,12 +393,7 @@ def main(arguments):
     if arguments == ["--write"]:
         write(*given)
         return 0
-    found = [*faults(*given)]
-    for it in filter(None, found):
-        print(it)
-    failed = sum(map(bool, found))
-    print(f"{len(found) - failed} passed, {failed} failed")
-    return 1 if failed else 0
+    return results.report(faults(*given))
 
 
 if __name__ == "__main__":

@@ -17,6 +17,8 @@ import sys
 from dataclasses import dataclass
 from pathlib import Path
 
+import results
+
 ROOT = Path(__file__).resolve().parent.parent
 CRATES = ["jsonb_doc", "jsonb_keypath", "jsonb_raw", "jsonb"]
 USED = "jsonb"
@@ -303,15 +305,7 @@ def faults(crates):
 
 
 def main(arguments):
-    passed = failed = 0
-    for fault in faults(arguments or CRATES):
-        if fault:
-            print(fault)
-            failed += 1
-        else:
-            passed += 1
-    print(f"{passed} passed, {failed} failed")
-    return 1 if failed or not passed else 0
+    return results.report(faults(arguments or CRATES))
 
 
 if __name__ == "__main__":

@@ -16,6 +16,7 @@ from pathlib import Path
 
 import documents
 import measured
+import results
 import rows
 from rows import Problem, code
 
@@ -149,17 +150,13 @@ def checks():
         yield path.relative_to(ROOT), lambda path=path, made=made: check_rows(path, made())
 
 
-def compare():
-    passed = failed = 0
-    for name, check in checks():
-        try:
-            check()
-            passed += 1
-        except (Problem, OSError, ValueError) as problem:
-            print(f"{name}: {problem}")
-            failed += 1
-    print(f"{passed} passed, {failed} failed")
-    return 1 if failed or not passed else 0
+def fault_of(name, check):
+    """Returns what is wrong in a place, or an empty text."""
+    try:
+        check()
+    except (Problem, OSError, ValueError) as problem:
+        return f"{name}: {problem}"
+    return ""
 
 
 def main(arguments):
@@ -174,7 +171,7 @@ def main(arguments):
     if arguments:
         print(__doc__, end="")
         return 2
-    return compare()
+    return results.report(fault_of(*it) for it in checks())
 
 
 if __name__ == "__main__":

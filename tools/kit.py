@@ -17,6 +17,8 @@ import tempfile
 import threading
 
 sys.dont_write_bytecode = True
+import results
+
 TOP = os.path.dirname(os.path.dirname(os.path.abspath(__file__)))
 RT = shutil.which("rt")
 # What is called or replaced, by its owner, with the names of its parameters; `_` means any.
@@ -243,12 +245,7 @@ def try_edits(verdict, in_lanes, how):
 
 
 def main():
-    found = [*faults()]
-    for it in filter(None, found):
-        print(it)
-    failed = sum(map(bool, found))
-    print(f"{len(found) - failed} passed, {failed} failed")
-    return 1 if failed else 0
+    return results.report(faults())
 
 
 if __name__ == "__main__":

@@ -15,6 +15,7 @@ from pathlib import Path
 sys.dont_write_bytecode = True
 import check_counts
 import reasons
+import results
 
 TOP = Path(__file__).resolve().parent.parent
 GATE = ".ci/run"
@@ -138,12 +139,7 @@ def named(words, fault):
 
 
 def main():
-    found = [*faults()]
-    for it in filter(None, found):
-        print(it)
-    failed = sum(map(bool, found))
-    print(f"{len(found) - failed} passed, {failed} failed")
-    return 1 if failed or not found else 0
+    return results.report(faults())
 
 
 if __name__ == "__main__":

@@ -19,6 +19,7 @@ import edits
 import group_edits
 import judge
 import kit
+import results
 import witness
 
 JUDGED = Path(__file__).resolve().parent / "judged.toml"
@@ -160,40 +161,27 @@ def read_otherwise():
                 yield f"{crate}: {text[:60]!r}"
 
 
-def main():
-    passed = failed = 0
-    for text, is_well in [*((f"{it} of another kit is not noticed", is_noticed(it)) for it in OF_OTHERS), *((it, False) for it in read_otherwise())]:
-        passed, failed = passed + is_well, failed + (not is_well)
-        if not is_well:
-            print(text)
+def faults():
+    """Yields what is wrong in each case, and an empty text for each in which nothing is."""
+    for it in OF_OTHERS:
+        yield "" if is_noticed(it) else f"{it} of another kit is not noticed"
+    yield from read_otherwise()
     for text, wanted in WITNESSES:
-        if witness.stated().is_determined(text) == wanted:
-            passed += 1
-        else:
-            failed += 1
-            print(f"{text}: {'not ' * wanted}determined")
+        yield "" if witness.stated().is_determined(text) == wanted else f"{text}: {'not ' * wanted}determined"
     for pairs, wanted in SWITCHED:
-        if can_have_test(pairs) == wanted:
-            passed += 1
-        else:
-            failed += 1
-            print(f"{pairs}: {'no test' if wanted else 'a test'} is accepted as its witness")
+        yield "" if can_have_test(pairs) == wanted else f"{pairs}: {'no test' if wanted else 'a test'} is accepted as its witness"
     for folder, listed, wanted in FOLDERS:
-        if can_have_test(SWITCHED[0][0], folder, listed) == wanted:
-            passed += 1
-        else:
-            failed += 1
-            print(f"{folder}/: a mutant whose test is {listed or 'in no list'} is {'not ' * wanted}accepted")
+        is_right = can_have_test(SWITCHED[0][0], folder, listed) == wanted
+        yield "" if is_right else f"{folder}/: a mutant whose test is {listed or 'in no list'} is {'not ' * wanted}accepted"
     mutants = {str(it): it for it in witness.mutants(witness.TOP)}
     for edit in (with_mutant(it, mutants) for it in tomllib.loads(JUDGED.read_text())["edit"]):
         why = fault(edit)
-        if (why is None) == (not edit["right"] or "limit" in edit):
-            passed += 1
-        else:
-            failed += 1
-            print(f"{edit['words']} ({edit['file']}), which is {'right' if edit['right'] else 'wrong'}: {why or 'counts as rejected'}")
-    print(f"{passed} passed, {failed} failed")
-    return 1 if failed or not passed else 0
+        is_right = (why is None) == (not edit["right"] or "limit" in edit)
+        yield "" if is_right else f"{edit['words']} ({edit['file']}), which is {'right' if edit['right'] else 'wrong'}: {why or 'counts as rejected'}"
+
+
+def main():
+    return results.report(faults())
 
 
 if __name__ == "__main__":

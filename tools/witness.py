@@ -37,6 +37,7 @@ import check_counts
 import edits
 import group_edits
 import lanes
+import results
 
 sys.path.insert(0, str(Path(__file__).resolve().parent / "fuzz"))
 import trees
@@ -436,11 +437,7 @@ def main():
     wrong = [*faults(found)]
     if asked.run:
         wrong += faults_of_run(found, *run(found, asked.names, False, True))
-    for it in filter(None, wrong):
-        print(it)
-    failed = sum(map(bool, wrong))
-    print(f"{len(wrong) - failed} passed, {failed} failed")
-    return 1 if failed else 0
+    return results.report(wrong)
 
 
 if __name__ == "__main__":
