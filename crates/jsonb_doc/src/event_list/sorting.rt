@@ -46,8 +46,8 @@ pub(crate) fn push_unique<'a>(
 ) -> Result<(), EventError>
     ensures pushed { OnOk result (ended.new.items ≡ ended.old.items ++ unique members.now) }
     ensures all { OnOk result (keep_last ≡ false → unique members.now ≡ members.now) }
-    ensures errors { IfErr result (IsDue keep_last ((keep_last ≡ false)
-        × (length (unique members.now) < length members.now))) }
+    ensures errors { IfErr result
+        (IsDue keep_last (λ last. (last ≡ false) × (length (unique members.now) < length members.now))) }
 {
     if are_unique(members) {
         return Ok(ended.extend_from_slice(members)?);
@@ -61,7 +61,7 @@ pub(crate) fn push_unique<'a>(
 /// Appends sorted members to others, of those with the same key the last one.
 fn push_last<'a>(ended: &mut Vec<Member<'a>>, members: &[Member<'a>]) -> Result<(), EventError>
     ensures pushed { OnOk result (ended.new.items ≡ ended.old.items ++ unique members.now) }
-    ensures errors { IfErr result (IsDue true ⊥) }
+    ensures errors { IfErr result (IsDue true (λ _. ⊥)) }
 {
     let mut left = members;
     while let [member, others @ ..] = left {
