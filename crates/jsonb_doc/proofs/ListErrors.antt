@@ -1,6 +1,6 @@
 -- Which errors lists of events have.
-use Rattle.std.proofs.Common.{◌≡◌, ◌⊎◌, ℕ, zero, suc, List, [], ◌∷◌, ◌++◌, length, refl, sym, ap, subst, ◌∙◌, Bool, true, false, Some, None, Option, inl, inr}
-use Rattle.std.specs.Prelude.{Result, Ok, Err, take, unwrap_or, if◌then◌else◌}
+use Rattle.std.proofs.Common.{◌≡◌, ◌⊎◌, ℕ, zero, suc, List, [], ◌∷◌, ◌++◌, length, refl, sym, ap, subst, ◌∙◌, Bool, true, false, Some, None, inl, inr}
+use Rattle.std.specs.Prelude.{Result, Ok, Err, take, if◌then◌else◌}
 use Rattle.std.proofs.lemmas.Bool.{true≢false}
 use Rattle.std.proofs.lemmas.List.{take_at}
 use Rattle.jsonb_doc.specs.Tree.{Tree}
@@ -17,7 +17,7 @@ use Rattle.jsonb_doc.specs.declared.error.Error.TheVariants.{OutOfMemory, Object
 use Rattle.jsonb_doc.specs.declared.event_error.EventError.{EventError}
 use Rattle.jsonb_doc.specs.declared.event_error.EventError.TheVariants.{OutOfOrder, Failed}
 use Rattle.jsonb_doc.specs.declared.text_event.TextEvent.{TextEvent}
-use Rattle.jsonb_doc.proofs.EventListLemmas.{sorted_state, IsNewState, AreAll, Happens, all_last, all_back, complete, stuck, not_ok, happen_anyway, leads_anew, happen_of}
+use Rattle.jsonb_doc.proofs.EventListLemmas.{sorted_state, IsNewState, AreAll, all_last, all_back, complete, stuck, not_ok, happen_anyway, leads_anew, happen_of}
 use Rattle.jsonb_doc.proofs.OneRun.{one_read, one_lead, one_run, only_event, same_tree}
 use Rattle.jsonb_doc.proofs.CollectingLemmas.{due_along, due_anyway}
 
@@ -122,7 +122,7 @@ error_stays (suc n) (x ∷ es) bytes (event ∷ xs) (other ∷ ys) (Err d) e are
 error_stays (suc n) (x ∷ es) bytes (event ∷ xs) (other ∷ ys) (Ok s) e are all is =
     let read = one_read x bytes event other are.0 all.0 are.1 all.1 in
     let more = error_stays n es are.0 xs ys (next_of false event s) e are.2
-        (subst (λ (b : List ℕ). AreEvents es b ys) (sym read.1) all.2) is in
+    (subst (λ (b : List ℕ). AreEvents es b ys) (sym read.1) all.2) is in
     subst (λ (y : Event). lists.after false ys (next_of false y s) ≡ Err e) read.0 more
 error_stays zero es bytes (event ∷ xs) ys r e are all is = absurd are
 error_stays (suc n) [] bytes (event ∷ xs) ys r e are all is = absurd are
@@ -171,10 +171,13 @@ refused form keep_last all es later bytes mid s e d is h (inr (inr twice)) =
 pub unfinished : (form : Form) (keep_last : Bool) (es : List TextEvent) (bytes mid : List ℕ) (s : State) (d : EventError)
     → Happen keep_last es bytes no_events mid s → IsDue true (λ _. whole s.inner ≡ None) d → FailsWith form keep_last es bytes d
 unfinished form keep_last es bytes mid s d h (inl memory) = inl memory
-unfinished form keep_last es bytes mid s d h (inr (inl order)) = inr (inl (order.0, λ t of.
-    let run = happen_of true es bytes t of in
-    let same = one_run true es bytes no_events mid run.0 s run.1 (happen_anyway keep_last es bytes no_events mid s h) run.2 in
-    let bad : None ≡ Some t = sym order.1 ∙ ap (λ (x : State). whole x.inner) same ∙ run.3 in absurd (cc)))
+unfinished form keep_last es bytes mid s d h (inr (inl order)) = inr (inl (
+  order.0,
+  λ t of.
+      let run = happen_of true es bytes t of in
+      let same = one_run true es bytes no_events mid run.0 s run.1 (happen_anyway keep_last es bytes no_events mid s h) run.2 in
+      let bad : None ≡ Some t = sym order.1 ∙ ap (λ (x : State). whole x.inner) same ∙ run.3 in absurd (cc),
+))
 unfinished form keep_last es bytes mid s d h (inr (inr twice)) = absurd (true≢false twice.1)
 
 -- before the first event only an allocation fails
