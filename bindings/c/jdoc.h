@@ -843,7 +843,8 @@ typedef struct jdoc_text_event {
 /* Write the document of some events. The bytes of keys and strings are in `text`, one after the other; more may follow.
  * JDOC_OBJECT_DUPLICATE_KEY: two members have the same key. With `keep_last` the last one is kept. JDOC_NOT_UTF8: the
  * text is not UTF-8. JDOC_OUT_OF_ORDER: an event cannot come next or has another kind, its length ends past the text or
- * within a character, or a container does not end. */
+ * within a character, or a container does not end. The first of these errors is returned. Keys are compared when their
+ * object ends. */
 JDOC_NODISCARD enum jdoc_status jdoc_from_events(const char *text, size_t text_len, const jdoc_text_event *events,
                                                  size_t events_len, bool keep_last, uint8_t *out, size_t out_size,
                                                  size_t *out_len);

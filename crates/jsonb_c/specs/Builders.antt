@@ -3,12 +3,12 @@ use Rattle.std.specs.Prelude.{◌≡◌, ◌⊎◌, ℕ, Bool, List, Option, Som
 use Rattle.jsonb_doc.specs.Answer.{IsOutOfMemory}
 use Rattle.jsonb_doc.specs.DocumentBuilder.{IsFailureAt}
 use Rattle.jsonb_doc.specs.Representation.DocumentBuilder.{Holds}
-use Rattle.jsonb_doc.specs.EventList.{AreEventsOf, IsListError}
+use Rattle.jsonb_doc.specs.EventList.{AreEventsOf, FailsWith}
 use Rattle.jsonb_doc.specs.Events.{root, Event, State, next, no_events, whole}
 use Rattle.jsonb_doc.specs.Format.{Decodes}
 use Rattle.jsonb_doc.specs.Payload.{Form}
 use Rattle.jsonb_doc.specs.Tree.{Tree}
-use Rattle.jsonb_doc.specs.declared.error.Error.TheVariants.{OutOfMemory, TooLarge}
+use Rattle.jsonb_doc.specs.declared.error.Error.TheVariants.{OutOfMemory}
 use Rattle.jsonb_doc.specs.declared.event_error.EventError.{EventError}
 use Rattle.jsonb_doc.specs.declared.event_error.EventError.TheVariants.{Failed}
 use Rattle.jsonb_doc.specs.declared.event_error.EventError.TheVariants as refusal
@@ -71,7 +71,7 @@ pub record MakesDocumentOf (keep_last : Bool) (events : List TextEvent) (text : 
   pub document : (form : Form) → IfOk r (λ v. (t : Tree) × AreEventsOf keep_last events text t × Decodes form v t)
   pub complete : (form : Form) (t : Tree) → AreEventsOf keep_last events text t
       → MatchResult r (λ v. Decodes form v t) (IsFailureAt form (root (Some t)))
-  pub errors : IfErr r (λ e. IsListError keep_last e ⊎ ((e ≡ Failed OutOfMemory) ⊎ (e ≡ Failed TooLarge)))
+  pub errors : (form : Form) → IfErr r (FailsWith form keep_last events text)
 
 -- Holds if the document is delivered, or nothing, with the status of the error.
 abbrev pub DeliversAnswer : Result (List ℕ) EventError → List ℕ → List ℕ → ℕ → ℕ → Type 0

@@ -1,10 +1,11 @@
 -- Results of the functions that build and count documents.
-use Rattle.std.specs.Prelude.{◌≡◌, ◌⊎◌, ◌+ℤ◌, ◌*ℤ◌, ◌^◌, ℕ, ℤ, pos, Bool, List, [], ◌∷◌, length, Option, Some, None, is_some, option_and_then, flat_map, slice_get, Result, Ok, Err, FitsSigned, MatchOption, MatchResult, IsSomeAnd, if◌then◌else◌}
+use Rattle.std.specs.Prelude.{◌≡◌, ◌⊎◌, ℕ, ℤ, Bool, List, [], ◌∷◌, length, Option, Some, None, is_some, option_and_then, flat_map, slice_get, Result, Ok, Err, FitsSigned, MatchOption, MatchResult, IsSomeAnd, if◌then◌else◌}
 use Rattle.std.specs.Int.{Width, w64}
 use Rattle.jsonb_doc.specs.declared.error.Error.{Error}
 use Rattle.std.specs.List.{zip, AllZip, list_all}
 use Rattle.jsonb_doc.specs.declared.error.Error.TheVariants.{ObjectDuplicateKey, TooLarge}
 use Rattle.jsonb_doc.specs.Answer.{Refines, Outcome, IsOutOfMemory, ◌or◌when◌}
+use Rattle.jsonb_doc.specs.EventList.{whole_of}
 use Rattle.jsonb_doc.specs.Limits.{IsTooLarge}
 use Rattle.jsonb_doc.specs.ObjectBuilder.{has_key, insert_pair}
 use Rattle.jsonb_doc.specs.Number.{Number, number_from, decimal64, decimal128}
@@ -24,10 +25,6 @@ use Rattle.jsonb_c.specs.Answers.{WritesAll}
 -- Holds if the result is a document of the tree, in its shortest form.
 abbrev pub Encodes : Tree → Result (List ℕ) Error → Type 0
 Encodes t answer = (form : Form) → Makes form t answer
-
--- The integer of two halves, of which the lower is unsigned.
-abbrev pub whole_of : ℤ → ℕ → ℤ
-whole_of high low = (high *ℤ pos (2 ^ 64)) +ℤ pos low
 
 -- Holds for two halves and a scale that are the parts of the number.
 abbrev pub ArePartsOf : ℤ × ℕ × ℕ → Number → Type 0

@@ -4,6 +4,7 @@ ghost use Rattle.std.specs.Prelude.{◌≡◌, IfErr, IsUtf8, MatchResult, true,
 ghost use Rattle.jsonb_doc.specs.Answer.{IsDecodingError, IsOutOfMemory, ◌or◌};
 ghost use Rattle.jsonb_doc.specs.Private.Errors.{IsOutOfMemoryOrTooLarge};
 ghost use Rattle.jsonb_doc.specs.declared.error.Error.TheVariants.{OutOfMemory, TooLarge};
+ghost use Rattle.jsonb_doc.specs.EventList.{whole_of};
 ghost use Rattle.jsonb_doc.specs.Format.{Decodes};
 ghost use Rattle.jsonb_doc.specs.Item.{StandsFor};
 ghost use Rattle.jsonb_doc.specs.Number.{int64, uint64, number_from};
@@ -13,7 +14,7 @@ ghost use Rattle.jsonb_doc.specs.Tree.{Tree, array, trees_of};
 ghost use Rattle.jsonb_doc.specs.View.{number_view};
 ghost use Rattle.jsonb_c.specs.Answers.{DeliversNothing, DeliversValue, WritesResult};
 ghost use Rattle.jsonb_c.specs.Columns.{rows};
-ghost use Rattle.jsonb_c.specs.Making.{Encodes, IsDecimalOf, MakesArray, is_placed, whole_of};
+ghost use Rattle.jsonb_c.specs.Making.{Encodes, IsDecimalOf, MakesArray, is_placed};
 ghost use Rattle.jsonb_c.specs.declared.status.Status.TheVariants.{BadOffsets, NotUtf8};
 ghost use Rattle.jsonb_c.specs.Private.Views.{vec_answer};
 
@@ -23,6 +24,7 @@ use crate::column::Column;
 use crate::deliver::{deliver_nothing, deliver_vec};
 use crate::status::Status;
 use jsonb::{ArrayBuilder, Decimal64, Decimal128, Error, Item, Number, encode_item};
+use jsonb_doc::whole_of;
 use std::alloc::Global;
 
 /// Returns null as a document.
@@ -91,13 +93,6 @@ pub extern "C" fn jdoc_from_decimal(
 {
     let number = decimal(whole_of(high, low), scale);
     deliver_item(alloc, &Item::Number(number), out, out_len)
-}
-
-/// Returns the integer of two halves.
-pub(crate) fn whole_of(high: i64, low: u64) -> i128
-    ensures { result ≡ whole_of high low }
-{
-    i128::from(high) * 18_446_744_073_709_551_616 + i128::from(low)
 }
 
 /// Returns the 64-bit decimal if the value fits, otherwise the 128-bit decimal.

@@ -1,6 +1,7 @@
 //! Documents built from events. The builder is in a struct of the caller, as a prepared path is.
 
 ghost use Rattle.std.specs.Prelude.{◌≡◌, IsUtf8, None, pos};
+ghost use Rattle.jsonb_doc.specs.EventList.{whole_of};
 ghost use Rattle.jsonb_doc.specs.Events.{State, array_begins, ends, key_is, object_begins, value_is};
 ghost use Rattle.jsonb_doc.specs.Format.{Decodes};
 ghost use Rattle.jsonb_doc.specs.Item.{StandsFor};
@@ -9,16 +10,17 @@ ghost use Rattle.jsonb_doc.specs.Payload.{Form};
 ghost use Rattle.jsonb_doc.specs.Tree as spec;
 ghost use Rattle.jsonb_doc.specs.Tree.{Tree};
 ghost use Rattle.jsonb_c.specs.Builders.{Finishes, Follows, HoldsEvents};
-ghost use Rattle.jsonb_c.specs.Making.{IsDecimalOf, whole_of};
+ghost use Rattle.jsonb_c.specs.Making.{IsDecimalOf};
 ghost use Rattle.jsonb_c.specs.Status.{code};
 ghost use Rattle.jsonb_c.specs.declared.status.Status.TheVariants.{Answered, NotUtf8};
 
-use crate::build::{decimal, whole_of};
+use crate::build::decimal;
 use crate::builder::events::{Event, add, deliver_document};
 use crate::deliver::deliver_nothing;
 use crate::prepared::PathHandle;
 use crate::status::Status;
 use jsonb::{Item, Number};
+use jsonb_doc::whole_of;
 use std::alloc::Global;
 
 mod events;

@@ -9,13 +9,15 @@ use Rattle.std.specs.Cmp.Lexicographic.{slice_cmp}
 use borrow.Rule.Slice.PartMut.{mid_of}
 use Rattle.std.specs.Str.{IsCharBoundary}
 use Rattle.std.proofs.lemmas.Str.{IsCharBoundary-from_take}
+use Rattle.std.proofs.lemmas.Bool.{true≢false}
 use Rattle.std.proofs.lemmas.List.{length-map, length-append, append-nil, take_at, drop_at}
 use Rattle.jsonb_doc.specs.Tree.{Tree, array, object, trees_of, pairs_of}
 use Rattle.jsonb_doc.specs.ObjectBuilder.{insert_pair}
-use Rattle.jsonb_doc.specs.Events.{Level, root, array_of, object_of, takes_value, whole}
+use Rattle.jsonb_doc.specs.Events as events
+use Rattle.jsonb_doc.specs.Events.{Level, State, root, array_of, object_of, takes_value, whole}
 use Rattle.jsonb_doc.specs.Private.EventParts.{IsPart, AreElements, AreMembers, HoldParts}
 use Rattle.jsonb_doc.specs.Private.Unique.{has_lower_key, unique, as_pair}
-use Rattle.jsonb_doc.specs.Private.Collecting.{insert_all, appended, EndsAs, Ends, IsMemberOf, HoldsFrame, WaitsFor, AreAround, Keeps, Pushes, IsDue, IsRepeated, IsPushRefused}
+use Rattle.jsonb_doc.specs.Private.Collecting.{insert_all, appended, EndsAs, Ends, TakesTree, LeadsTo, IsMemberOf, HoldsFrame, HoldsState, WaitsFor, AreAround, Keeps, Pushes, IsDue, IsRepeated, IsPushRefused}
 use Rattle.jsonb_doc.specs.declared.layout.HeaderKind.{HeaderKind}
 use Rattle.jsonb_doc.specs.declared.layout.HeaderKind.TheVariants.{Scalar, Object, Array}
 use Rattle.jsonb_doc.specs.declared.event_list.collecting.Run.{Run}
@@ -23,11 +25,12 @@ use Rattle.jsonb_doc.specs.declared.event_list.collecting.Part.{Part}
 use Rattle.jsonb_doc.specs.declared.event_list.collecting.Part.TheVariants.{Nested}
 use Rattle.jsonb_doc.specs.declared.event_list.collecting.Member.{Member}
 use Rattle.jsonb_doc.specs.declared.event_list.collecting.Frame.{Frame}
+use Rattle.jsonb_doc.specs.declared.event_list.collecting.Collector.{Collector}
 use Rattle.jsonb_doc.proofs.TreeLists.{keys-pairs_of}
 use Rattle.jsonb_doc.proofs.EventPartLemmas.{part_stays, last_run}
 use Rattle.jsonb_doc.proofs.UniqueLemmas.{all_rise, sorted_keys, unique_inserted}
 use Rattle.jsonb_doc.specs.declared.event_error.EventError.{EventError}
-use Rattle.jsonb_doc.specs.EventList.{BeginWithText, IsListError}
+use Rattle.jsonb_doc.specs.EventList.{BeginWithText}
 
 -- ---- lists in step
 
@@ -304,29 +307,29 @@ object_ends keep_last ds new f ms (root None) run is none h keeps kind first end
 object_ends keep_last ds new f ms (root (Some t)) run is none h keeps kind first end = let bad : Object ≡ Scalar = sym is ∙ h.0 in absurd (cc)
 object_ends keep_last ds new f ms (array_of ts) run is none h keeps kind first end = let bad : Object ≡ Array = sym is ∙ h.0 in absurd (cc)
 
+-- the reason of an error is that of another one
+pub due_along : (keep_last : Bool) (P Q : Bool → Type 0) (e : EventError) → ((last : Bool) → P last → Q last) → (Q true → P true)
+    → IsDue keep_last P e → IsDue keep_last Q e
+due_along keep_last P Q e along back (inl memory) = inl memory
+due_along keep_last P Q e along back (inr (inl order)) = inr (inl (order.0, along true order.1))
+due_along keep_last P Q e along back (inr (inr twice)) = inr (inr (twice.0, twice.1, along false twice.2, λ q. twice.3 (back q)))
+
+-- an error apart from duplicate keys is one with both values of `keep_last`
+pub due_anyway : (keep_last : Bool) (P Q : Bool → Type 0) (e : EventError) → (P true → Q true) → IsDue true P e → IsDue keep_last Q e
+due_anyway keep_last P Q e along (inl memory) = inl memory
+due_anyway keep_last P Q e along (inr (inl order)) = inr (inl (order.0, along order.1))
+due_anyway keep_last P Q e along (inr (inr twice)) = absurd (true≢false twice.1)
+
 pub sorted_pushed : {A : Type 0} (r : Result A EventError) (keep_last : Bool) (ms ns old new : List Member) → OnOk r (new ≡ old ++ unique ns)
-    → OnOk r (keep_last ≡ false → unique ns ≡ ns) → IfErr r (IsDue keep_last ((keep_last ≡ false) × (length (unique ns) < length ns)))
+    → OnOk r (keep_last ≡ false → unique ns ≡ ns) → IfErr r (IsDue keep_last (λ last. (last ≡ false) × (length (unique ns) < length ns)))
     → IsSortedBy has_lower_key ns → IsStableBy has_lower_key ms ns → length ns ≡ length ms
-    → MatchResult r (λ _. Keeps keep_last old new ms) (IsDue keep_last (IsRepeated keep_last ms))
+    → MatchResult r (λ _. Keeps keep_last old new ms) (IsDue keep_last (λ last. IsRepeated last ms))
 sorted_pushed (Ok x) keep_last ms ns old new pushed all errors sorted stable len =
     (unique ns, pushed, unique_inserted ms ns len sorted stable, λ e. ap length (all e) ∙ len)
-sorted_pushed (Err e) keep_last ms ns old new pushed all (inl memory) sorted stable len = inl memory
-sorted_pushed (Err e) keep_last ms ns old new pushed all (inr due) sorted stable len =
+sorted_pushed (Err e) keep_last ms ns old new pushed all errors sorted stable len =
     let same = ap (λ (ps : List (List ℕ × Part)). length ps) (unique_inserted ms ns len sorted stable) in
-    inr (due.0, (due.1.0, omega (arith, due.1.1, same, len, length-map (unique ns) as_pair)))
-
-pub due_along : (keep_last : Bool) (P Q : Type 0) (e : EventError) → (P → Q) → IsDue keep_last P e → IsDue keep_last Q e
-due_along keep_last P Q e along (inl memory) = inl memory
-due_along keep_last P Q e along (inr due) = inr (due.0, along due.1)
-
--- an error apart from duplicate keys is one in both cases
-pub due_anyway : (keep_last : Bool) (P Q : Type 0) (e : EventError) → (P → Q) → IsDue true P e → IsDue keep_last Q e
-due_anyway keep_last P Q e along (inl memory) = inl memory
-due_anyway keep_last P Q e along (inr due) = inr (go due.0, along due.1)
-  where
-    go : IsListError true e → IsListError keep_last e
-    go (inl order) = inl order
-    go (inr repeated) = let bad : true ≡ false = repeated.1 in absurd (cc)
+    due_along keep_last (λ last. (last ≡ false) × (length (unique ns) < length ns)) (λ last. IsRepeated last ms) e
+    (λ last fewer. (fewer.0, omega (arith, fewer.1, same, len, length-map (unique ns) as_pair))) (λ repeated. absurd (true≢false repeated.0)) errors
 
 pub pushed_ends : (keep_last : Bool) (ds new : List Member) (f : Frame) (ms : List Member) (level : Level) (run : Run) → option_copied f.key ≡ None
     → HoldsFrame ds f ms level → Pushes keep_last f.kind ds new ms → run.kind ≡ f.kind → run.first ≡ length ds → run.end ≡ length new
@@ -380,6 +383,57 @@ refused_stays keep_last ds f ms (object_of qs None) t h refused ends =
     absurd (omega (arith, repeated.1, ends.1 repeated.0, zip_len _ _ _ zip, zip_len _ ms qs h.2))
 refused_stays keep_last ds f ms (object_of qs (Some key)) t h refused ends = absurd ends
 refused_stays keep_last ds f ms (root u) t h refused ends = absurd ends
+
+-- nor may one that does not end even if the last value of a key is kept
+stays_refused : (ds : List Member) (f : Frame) (ms : List Member) (level : Level) → HoldsFrame ds f ms level → option_copied f.key ≡ None
+    → ((t : Tree) → EndsAs true level t → ⊥) → IsPushRefused true f.kind ms
+stays_refused ds f ms (array_of ts) h none never = absurd (never (array (trees_of ts)) refl)
+stays_refused ds f ms (object_of ps None) h none never =
+    absurd (never (object (pairs_of (insert_all [] ps))) (refl, λ ne. absurd (true≢false ne)))
+stays_refused ds f ms (object_of ps (Some key)) h none never = let bad : None ≡ Some key = sym none ∙ h.1 in absurd (cc)
+stays_refused ds f ms (root None) h none never = rw h.0 tt
+stays_refused ds f ms (root (Some t)) h none never = rw h.0 tt
+
+-- a value may come next in the containers around
+outer_takes : (ds : List Member) (kind : HeaderKind) (before : List Member) (l : Level) (ls : List Level) → AreAround ds kind before (l ∷ ls)
+    → IsTrue (takes_value l)
+outer_takes ds kind before l ls around =
+    let o = opened_around ds kind before l ls around in
+    waits_takes ds o.run.kind o.m.key.now o.ms l o.waits
+
+-- a container that may end does
+end_leads : (c : Collector) (s : State) → HoldsState c s → ((after : State) → LeadsTo true events.ends s after → ⊥) → (t : Tree) → EndsAs true s.inner t → ⊥
+end_leads c s h never t is =
+    let outer = ends_around true c.ended.items c.inner h.ms h.before s.inner t s.around is h.inner h.around in
+    let around = subst (λ (ls : List Level). AreAround c.ended.items c.inner.kind h.before ls) outer.2 h.around in
+    never (record { inner = appended t outer.0; around = outer.1 })
+    (t, outer.0, outer.1, is, outer.2, (outer_takes c.ended.items c.inner.kind h.before outer.0 outer.1 around, refl))
+
+-- ---- the reasons of errors
+
+-- members that may not be those of a container are why it does not end
+pub end_due : (keep_last : Bool) (ds : List Member) (f : Frame) (ms : List Member) (level : Level) (e : EventError) → HoldsFrame ds f ms level
+    → option_copied f.key ≡ None → IsDue keep_last (λ last. IsPushRefused last f.kind ms) e
+    → IsDue keep_last (λ last. (t : Tree) → EndsAs last level t → ⊥) e
+end_due keep_last ds f ms level e h none =
+    due_along keep_last (λ last. IsPushRefused last f.kind ms) (λ last. (t : Tree) → EndsAs last level t → ⊥) e
+    (λ last refused t is. refused_stays last ds f ms level t h refused is) (stays_refused ds f ms level h none)
+
+-- and so why the event may not come next
+pub end_event_due : (keep_last : Bool) (c : Collector) (s : State) (e : EventError) → HoldsState c s
+    → IsDue keep_last (λ last. (t : Tree) → EndsAs last s.inner t → ⊥) e
+    → IsDue keep_last (λ last. (after : State) → LeadsTo last events.ends s after → ⊥) e
+end_event_due keep_last c s e h =
+    due_along keep_last (λ last. (t : Tree) → EndsAs last s.inner t → ⊥) (λ last. (after : State) → LeadsTo last events.ends s after → ⊥) e
+    (λ last refused after leads. refused leads.0 leads.3) (end_leads c s h)
+
+-- the container around takes the one that ended
+pub outer_due : (keep_last : Bool) (Q : Bool → Type 0) (ds : List Member) (kind : HeaderKind) (before : List Member) (t : Tree) (l : Level)
+    (ls : List Level) (e : EventError) → AreAround ds kind before (l ∷ ls) → IsDue true (λ _. (after : State) → TakesTree t l ls after → ⊥) e
+    → IsDue keep_last Q e
+outer_due keep_last Q ds kind before t l ls e around =
+    due_anyway keep_last (λ _. (after : State) → TakesTree t l ls after → ⊥) Q e
+    (λ never. absurd (never (record { inner = appended t l; around = ls }) (outer_takes ds kind before l ls around, refl)))
 
 pub no_some : {A : Type 0} (o : Option A) → o ≡ None → IsSome o → ⊥
 no_some None is some = let bad : false ≡ true = some in absurd (cc)

@@ -21,7 +21,7 @@ use Rattle.jsonb_doc.proofs.UniqueLemmas.{rise_inserted, none_rise, one_more}
 -- ---- pairs that are new
 
 -- Holds if none of these pairs has a key of those before it.
-abbrev AreNew : List (List ℕ × Tree) → List (List ℕ × Tree) → Type 0
+abbrev pub AreNew : List (List ℕ × Tree) → List (List ℕ × Tree) → Type 0
 AreNew ps [] = ⊤
 AreNew ps (q ∷ qs) = (has_key q.0 ps ≡ false) × AreNew (insert_pair q.0 q.1 ps) qs
 
@@ -47,15 +47,15 @@ all_more ps (q ∷ qs) rise =
 
 -- ---- levels with sorted pairs
 
-abbrev sorted : Level → Level
+abbrev pub sorted : Level → Level
 sorted (object_of ps key) = object_of (insert_all [] ps) key
 sorted (root t) = root t
 sorted (array_of ts) = array_of ts
 
-abbrev sorted_levels : List Level → List Level
+abbrev pub sorted_levels : List Level → List Level
 sorted_levels ls = map sorted ls
 
-abbrev sorted_state : State → State
+abbrev pub sorted_state : State → State
 sorted_state s = record { inner = sorted s.inner; around = sorted_levels s.around }
 
 takes_sorted : (level : Level) → takes_value (sorted level) ≡ takes_value level
@@ -84,16 +84,16 @@ value_sorted t level around s h =
 -- ---- keys that are new
 
 -- Holds if no key of the level is a duplicate.
-abbrev IsNew : Level → Type 0
+abbrev pub IsNew : Level → Type 0
 IsNew (object_of ps None) = AreNew [] ps
 IsNew (object_of ps (Some key)) = AreNew [] ps × (has_key key (insert_all [] ps) ≡ false)
 IsNew _ = ⊤
 
-abbrev AreAllNew : List Level → Type 0
+abbrev pub AreAllNew : List Level → Type 0
 AreAllNew [] = ⊤
 AreAllNew (l ∷ ls) = IsNew l × AreAllNew ls
 
-abbrev IsNewState : State → Type 0
+abbrev pub IsNewState : State → Type 0
 IsNewState s = IsNew s.inner × AreAllNew s.around
 
 new_before : (t : Tree) (level : Level) → IsTrue (takes_value level) → IsNew (appended t level) → IsNew level
@@ -159,7 +159,7 @@ pub record AreAll (keep_last : Bool) (es : List TextEvent) (bytes : List ℕ) (s
   pub are : AreEvents es bytes events
   pub leads : lists.after keep_last events (Ok (sorted_state s)) ≡ Ok (sorted_state s')
 
-all_last : (es : List TextEvent) (bytes : List ℕ) (s : State) (rest : List ℕ) (s' : State) → Happen true es bytes s rest s' → AreAll true es bytes s s'
+pub all_last : (es : List TextEvent) (bytes : List ℕ) (s : State) (rest : List ℕ) (s' : State) → Happen true es bytes s rest s' → AreAll true es bytes s s'
 all_last [] bytes s rest s' h = record { events = []; are = tt; leads = ap (λ (x : State). Ok (sorted_state x)) h.1 }
 all_last (e ∷ es) bytes s rest s' h =
     let more = all_last es h.1 h.2 rest s' h.5 in
@@ -196,7 +196,7 @@ whole_sorted (root u) t is = is
 whole_sorted (array_of ts) t is = is
 whole_sorted (object_of ps key) t is = is
 
-complete : (keep_last : Bool) (es : List TextEvent) (bytes : List ℕ) (s : State) (t : Tree) → whole s.inner ≡ Some t → AreAll keep_last es bytes no_events s
+pub complete : (keep_last : Bool) (es : List TextEvent) (bytes : List ℕ) (s : State) (t : Tree) → whole s.inner ≡ Some t → AreAll keep_last es bytes no_events s
     → AreEventsOf keep_last es bytes t
 complete keep_last es bytes s t is all = (all.events, all.are, rw all.leads (whole_sorted s.inner t is))
 
@@ -223,7 +223,7 @@ abbrev is_value : Result State EventError → Bool
 is_value (Ok s) = true
 is_value (Err e) = false
 
-not_ok : (e : EventError) (s : State) → Err e ≡ Ok s → ⊥
+pub not_ok : (e : EventError) (s : State) → Err e ≡ Ok s → ⊥
 not_ok e s is = true≢false (sym (ap is_value is))
 
 -- a container that begins
@@ -366,6 +366,42 @@ leads_back false (key_is key) s after is new = key_new key s after is (new refl)
 leads_back false (value_is t) s after is new = value_leads false t s after is new
 leads_back false ends s after is new = ends_back false s after is new
 
+-- ---- with the other value of `keep_last`
+
+ends_anyway : (keep_last : Bool) (level : Level) (t : Tree) → EndsAs keep_last level t → EndsAs true level t
+ends_anyway keep_last (array_of ts) t e = e
+ends_anyway keep_last (object_of ps None) t e = (e.0, λ ne. absurd (true≢false ne))
+ends_anyway keep_last (object_of ps (Some key)) t e = absurd e
+ends_anyway keep_last (root u) t e = absurd e
+
+leads_anyway : (keep_last : Bool) (e : Event) (s s' : State) → LeadsTo keep_last e s s' → LeadsTo true e s s'
+leads_anyway keep_last array_begins s s' h = h
+leads_anyway keep_last object_begins s s' h = h
+leads_anyway keep_last (key_is key) s s' h = h
+leads_anyway keep_last (value_is t) s s' h = h
+leads_anyway keep_last ends s s' h = (h.0, h.1, h.2, ends_anyway keep_last s.inner h.0 h.3, h.4, h.5)
+
+-- events that happen do so if the last value of a key is kept
+pub happen_anyway : (keep_last : Bool) (es : List TextEvent) (bytes : List ℕ) (s : State) (rest : List ℕ) (s' : State)
+    → Happen keep_last es bytes s rest s' → Happen true es bytes s rest s'
+happen_anyway keep_last [] bytes s rest s' h = h
+happen_anyway keep_last (e ∷ es) bytes s rest s' h =
+    (h.0, h.1, h.2, h.3, leads_anyway keep_last h.0 s h.2 h.4, happen_anyway keep_last es h.1 h.2 rest s' h.5)
+
+ends_new : (level : Level) (t : Tree) → IsNew level → EndsAs true level t → EndsAs false level t
+ends_new (array_of ts) t new e = e
+ends_new (object_of ps None) t new e = (e.0, λ ne. omega (arith, new_len [] ps new))
+ends_new (object_of ps (Some key)) t new e = absurd e
+ends_new (root u) t new e = absurd e
+
+-- an event that may then come next also may if all keys are new
+pub leads_anew : (e : Event) (s s' : State) → IsNewState s → LeadsTo true e s s' → LeadsTo false e s s'
+leads_anew array_begins s s' new h = h
+leads_anew object_begins s s' new h = h
+leads_anew (key_is key) s s' new h = h
+leads_anew (value_is t) s s' new h = h
+leads_anew ends s s' new h = (h.0, h.1, h.2, ends_new s.inner h.0 new.0 h.3, h.4, h.5)
+
 -- ---- all events of a tree
 
 pub record Happens (keep_last : Bool) (es : List TextEvent) (bytes : List ℕ) (s after : State) : Type 0 where
@@ -373,14 +409,15 @@ pub record Happens (keep_last : Bool) (es : List TextEvent) (bytes : List ℕ) (
   pub state : State
   pub happen : Happen keep_last es bytes s rest state
   pub is : after ≡ sorted_state state
+  pub new : keep_last ≡ false → IsNewState state
 
-stuck : (keep_last : Bool) (xs : List Event) (e : EventError) (after : State) → lists.after keep_last xs (Err e) ≡ Ok after → Err e ≡ Ok after
+pub stuck : (keep_last : Bool) (xs : List Event) (e : EventError) (after : State) → lists.after keep_last xs (Err e) ≡ Ok after → Err e ≡ Ok after
 stuck keep_last [] e after is = is
 stuck keep_last (x ∷ xs) e after is = is
 
-all_back : (keep_last : Bool) (es : List TextEvent) (bytes : List ℕ) (events : List Event) (s after : State) → AreEvents es bytes events
+pub all_back : (keep_last : Bool) (es : List TextEvent) (bytes : List ℕ) (events : List Event) (s after : State) → AreEvents es bytes events
     → lists.after keep_last events (Ok (sorted_state s)) ≡ Ok after → (keep_last ≡ false → IsNewState s) → Happens keep_last es bytes s after
-all_back keep_last [] bytes [] s after are is new = record { rest = bytes; state = s; happen = (refl, refl); is = sym (ap (ok_or after) is) }
+all_back keep_last [] bytes [] s after are is new = record { rest = bytes; state = s; happen = (refl, refl); is = sym (ap (ok_or after) is); new = new }
 all_back keep_last (e ∷ es) bytes (event ∷ events) s after are is new =
     first (next_of keep_last event (sorted_state s)) refl is (λ x leads new. all_back keep_last es are.0 events x after are.2 leads new)
   where
@@ -391,7 +428,13 @@ all_back keep_last (e ∷ es) bytes (event ∷ events) s after are is new =
     first (Ok next) leads is more =
         let one = leads_back keep_last event s next leads new in
         let rest = more one.state (subst (λ (x : State). lists.after keep_last events (Ok x) ≡ Ok after) one.is is) one.new in
-        record { rest = rest.rest; state = rest.state; happen = (event, are.0, one.state, are.1, one.leads, rest.happen); is = rest.is }
+        record {
+          rest = rest.rest;
+          state = rest.state;
+          happen = (event, are.0, one.state, are.1, one.leads, rest.happen);
+          is = rest.is;
+          new = rest.new;
+        }
 all_back keep_last [] bytes (event ∷ events) s after are is new = absurd are
 all_back keep_last (e ∷ es) bytes [] s after are is new = absurd are
 

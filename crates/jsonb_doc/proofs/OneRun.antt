@@ -1,19 +1,11 @@
 -- Events lead to at most one state.
-use Rattle.std.proofs.Common.{◌≡◌, ℕ, zero, suc, ◌≤◌, ◌^◌, List, [], ◌∷◌, refl, sym, ap, subst, ◌∙◌, arith, Bool, true, false, Some, None, inl, inr, ◌⊎◌, Option, unwrap_or}
-use Rattle.std.specs.Prelude.{take, drop, pos, ◌+ℤ◌, ◌*ℤ◌, ◌==◌, if◌then◌else◌}
-use Rattle.std.proofs.lemmas.Bool.{eqb-true}
+use Rattle.std.proofs.Common.{◌≡◌, ℕ, zero, suc, ◌≤◌, List, [], ◌∷◌, refl, sym, ap, subst, ◌∙◌, arith, Bool, true, false, Some, None, inl, inr, Option, unwrap_or}
+use Rattle.std.specs.Prelude.{take, drop, ◌==◌, if◌then◌else◌, IsSome}
 use Rattle.std.proofs.lemmas.List.{take_at, drop_at}
-use Rattle.jsonb_doc.specs.Number.{int64, uint64, decimal64, decimal128, number_from}
-use Rattle.jsonb_doc.specs.Tree.{Tree, null, boolean, number, text}
+use Rattle.jsonb_doc.specs.Tree.{Tree, text}
 use Rattle.jsonb_doc.specs.Events.{Level, root, array_of, object_of, State, Event, array_begins, object_begins, key_is, value_is, ends, takes_value, no_events, whole}
-use Rattle.jsonb_doc.specs.EventList.{scalar_of, BeginWithText, Reads, AreEventsOf, IsListError}
-use Rattle.jsonb_doc.specs.Private.Collecting.{EndsAs, LeadsTo, Happen, Refuses, TakesTree, Opens, IsDue}
-use Rattle.jsonb_doc.specs.Private.Errors.{IsOutOfMemoryOrTooLarge}
-use Rattle.jsonb_doc.specs.Limits.{IsTooLarge}
-use Rattle.jsonb_doc.specs.declared.error.Error.{Error}
-use Rattle.jsonb_doc.specs.declared.error.Error.TheVariants.{OutOfMemory, TooLarge}
-use Rattle.jsonb_doc.specs.declared.event_error.EventError.{EventError}
-use Rattle.jsonb_doc.specs.declared.event_error.EventError.TheVariants.{Failed}
+use Rattle.jsonb_doc.specs.EventList.{scalar_of, BeginWithText, Reads, AreEventsOf}
+use Rattle.jsonb_doc.specs.Private.Collecting.{EndsAs, LeadsTo, Happen, Refuses, TakesTree, Opens}
 use Rattle.jsonb_doc.specs.Payload.{Form}
 use Rattle.jsonb_doc.specs.Item.{StandsFor}
 use Rattle.jsonb_doc.specs.Private.EventParts.{IsPlain, IsPlainItem}
@@ -24,84 +16,42 @@ use Rattle.jsonb_doc.specs.declared.text_event.TextEvent.{TextEvent}
 
 -- ---- one event
 
--- The scalar of an event of this kind.
-abbrev plain_tree : ℕ → TextEvent → Tree
-plain_tree kind e =
-    if kind == 0 then null
-    else if kind == 1 then boolean false
-    else if kind == 2 then boolean true
-    else if kind == 3 then number (number_from int64 e.high 0)
-    else if kind == 4 then number (number_from uint64 (pos e.low) 0)
-    else if kind == 5 then number (number_from decimal64 e.high e.scale)
-    else number (number_from decimal128 ((e.high *ℤ pos (2 ^ 64)) +ℤ pos e.low) e.scale)
+abbrev with_kind : ℕ → TextEvent → TextEvent
+with_kind kind e = record { low = e.low; high = e.high; kind = kind; scale = e.scale }
 
--- a scalar is one of these
-first_or : (e : TextEvent) (t u : Tree) (rest : Option Tree) (kind : ℕ) → (if e.kind == kind then Some u else rest) ≡ Some t
-    → ((e.kind ≡ kind) × (t ≡ u)) ⊎ (rest ≡ Some t)
-first_or e t u rest kind = go (e.kind == kind) refl
-  where
-    go : (b : Bool) → (e.kind == kind) ≡ b → (if b then Some u else rest) ≡ Some t → ((e.kind ≡ kind) × (t ≡ u)) ⊎ (rest ≡ Some t)
-    go true is h = inl (eqb-true e.kind kind is, sym (ap (λ (o : Option Tree). unwrap_or o t) h))
-    go false is h = inr h
-
-or_else : {A B C : Type 0} → A ⊎ B → (B → C) → A ⊎ C
-or_else (inl a) f = inl a
-or_else (inr b) f = inr (f b)
-
-last_of : {A : Type 0} (t : Tree) → A ⊎ (None ≡ Some t) → A
-last_of t (inl a) = a
-last_of t (inr h) = absurd (cc)
-
-pub plain_from : (e : TextEvent) (t : Tree) → scalar_of e ≡ Some t → IsPlain e t
-plain_from e t h =
-    or_else (first_or e t _ _ 0 h) (λ h. or_else (first_or e t _ _ 1 h) (λ h. or_else (first_or e t _ _ 2 h) (λ h. or_else (first_or e t _ _ 3 h)
-    (λ h. or_else (first_or e t _ _ 4 h) (λ h. or_else (first_or e t _ _ 5 h) (λ h. last_of t (first_or e t _ _ 6 h)))))))
-
-pub plain_to : (e : TextEvent) (t : Tree) → IsPlain e t → scalar_of e ≡ Some t
-plain_to e t (inl h) = rw (h.0, h.1) refl
-plain_to e t (inr (inl h)) = rw (h.0, h.1) refl
-plain_to e t (inr (inr (inl h))) = rw (h.0, h.1) refl
-plain_to e t (inr (inr (inr (inl h)))) = rw (h.0, h.1) refl
-plain_to e t (inr (inr (inr (inr (inl h))))) = rw (h.0, h.1) refl
-plain_to e t (inr (inr (inr (inr (inr (inl h)))))) = rw (h.0, h.1) refl
-plain_to e t (inr (inr (inr (inr (inr (inr h)))))) = rw (h.0, h.1) refl
-
--- The event of this kind, and the bytes that it leaves.
-abbrev read_at : ℕ → TextEvent → List ℕ → Event × List ℕ
-read_at kind e bytes =
+-- The event of this scalar, or of this kind, and the bytes that it leaves.
+abbrev read_of : Option Tree → ℕ → TextEvent → List ℕ → Event × List ℕ
+read_of (Some t) kind e bytes = (value_is t, bytes)
+read_of None kind e bytes =
     if kind == 7 then (value_is (text (take e.low bytes)), drop e.low bytes)
     else if kind == 8 then (key_is (take e.low bytes), drop e.low bytes)
     else if kind == 9 then (array_begins, bytes)
     else if kind == 10 then (object_begins, bytes)
-    else if kind == 11 then (ends, bytes)
-    else (value_is (plain_tree kind e), bytes)
+    else (ends, bytes)
+
+abbrev read_at : ℕ → TextEvent → List ℕ → Event × List ℕ
+read_at kind e bytes = read_of (scalar_of (with_kind kind e)) kind e bytes
 
 same_kind : (e : TextEvent) (bytes : List ℕ) (kind : ℕ) (x : Event × List ℕ) → e.kind ≡ kind → x ≡ read_at kind e bytes → x ≡ read_at e.kind e bytes
 same_kind e bytes kind x is same = same ∙ sym (ap (λ (k : ℕ). read_at k e bytes) is)
 
-plain_reads : (e : TextEvent) (t : Tree) (bytes : List ℕ) → IsPlain e t → (value_is t, bytes) ≡ read_at e.kind e bytes
-plain_reads e t bytes (inl h) = same_kind e bytes 0 (value_is t, bytes) h.0 (ap (λ (u : Tree). (value_is u, bytes)) h.1)
-plain_reads e t bytes (inr (inl h)) = same_kind e bytes 1 (value_is t, bytes) h.0 (ap (λ (u : Tree). (value_is u, bytes)) h.1)
-plain_reads e t bytes (inr (inr (inl h))) = same_kind e bytes 2 (value_is t, bytes) h.0 (ap (λ (u : Tree). (value_is u, bytes)) h.1)
-plain_reads e t bytes (inr (inr (inr (inl h)))) = same_kind e bytes 3 (value_is t, bytes) h.0 (ap (λ (u : Tree). (value_is u, bytes)) h.1)
-plain_reads e t bytes (inr (inr (inr (inr (inl h))))) = same_kind e bytes 4 (value_is t, bytes) h.0 (ap (λ (u : Tree). (value_is u, bytes)) h.1)
-plain_reads e t bytes (inr (inr (inr (inr (inr (inl h)))))) = same_kind e bytes 5 (value_is t, bytes) h.0 (ap (λ (u : Tree). (value_is u, bytes)) h.1)
-plain_reads e t bytes (inr (inr (inr (inr (inr (inr h)))))) = same_kind e bytes 6 (value_is t, bytes) h.0 (ap (λ (u : Tree). (value_is u, bytes)) h.1)
-
 -- an event of such a kind is a scalar
 pub plain_exists : (e : TextEvent) → e.kind ≤ 6 → (t : Tree) × IsPlain e t
-plain_exists e le = go e.kind refl le
+plain_exists e le = found (scalar_of e) refl (go e.kind le)
   where
-    go : (kind : ℕ) → e.kind ≡ kind → kind ≤ 6 → (t : Tree) × IsPlain e t
-    go zero is le = (null, inl (is, refl))
-    go (suc zero) is le = (boolean false, inr (inl (is, refl)))
-    go (suc (suc zero)) is le = (boolean true, inr (inr (inl (is, refl))))
-    go (suc (suc (suc zero))) is le = (number (number_from int64 e.high 0), inr (inr (inr (inl (is, refl)))))
-    go (suc (suc (suc (suc zero)))) is le = (number (number_from uint64 (pos e.low) 0), inr (inr (inr (inr (inl (is, refl))))))
-    go (suc (suc (suc (suc (suc zero))))) is le = (number (number_from decimal64 e.high e.scale), inr (inr (inr (inr (inr (inl (is, refl)))))))
-    go (suc (suc (suc (suc (suc (suc zero)))))) is le =
-        (number (number_from decimal128 ((e.high *ℤ pos (2 ^ 64)) +ℤ pos e.low) e.scale), inr (inr (inr (inr (inr (inr (is, refl)))))))
-    go (suc (suc (suc (suc (suc (suc (suc kind))))))) is le = absurd (omega (arith, le))
+    go : (kind : ℕ) → kind ≤ 6 → IsSome (scalar_of (with_kind kind e))
+    go zero le = refl
+    go (suc zero) le = refl
+    go (suc (suc zero)) le = refl
+    go (suc (suc (suc zero))) le = refl
+    go (suc (suc (suc (suc zero)))) le = refl
+    go (suc (suc (suc (suc (suc zero))))) le = refl
+    go (suc (suc (suc (suc (suc (suc zero)))))) le = refl
+    go (suc (suc (suc (suc (suc (suc (suc kind))))))) le = absurd (omega (arith, le))
+
+    found : (o : Option Tree) → scalar_of e ≡ o → IsSome o → (t : Tree) × IsPlain e t
+    found (Some t) is some = (t, is)
+    found None is some = let bad : false ≡ true = some in absurd (cc)
 
 text_is : (len : ℕ) (bytes s rest : List ℕ) → BeginWithText len bytes s rest → (s ≡ take len bytes) × (rest ≡ drop len bytes)
 text_is len bytes s rest h = (
@@ -110,7 +60,8 @@ text_is len bytes s rest h = (
 )
 
 reads_is : (e : TextEvent) (bytes : List ℕ) (event : Event) (rest : List ℕ) → Reads e bytes event rest → (event, rest) ≡ read_at e.kind e bytes
-reads_is e bytes (value_is t) rest (inl h) = ap (λ (bs : List ℕ). (value_is t, bs)) (sym h.1) ∙ plain_reads e t bytes (plain_from e t h.0)
+reads_is e bytes (value_is t) rest (inl h) =
+    sym (ap (λ (o : Option Tree). read_of o e.kind e bytes) h.0 ∙ ap (λ (bs : List ℕ). (value_is t, bs)) h.1)
 reads_is e bytes (value_is t) rest (inr h) =
     let is = text_is e.low bytes h.0 rest h.2 in
     same_kind e bytes 7 (value_is t, rest) h.1 (rw (h.3, is.1, ← is.0) refl)
@@ -160,7 +111,7 @@ abbrev first_of : Level → List Level → Level
 first_of none [] = none
 first_of none (l ∷ ls) = l
 
-one_lead : (keep_last : Bool) (e : Event) (s after other : State) → LeadsTo keep_last e s after → LeadsTo keep_last e s other → after ≡ other
+pub one_lead : (keep_last : Bool) (e : Event) (s after other : State) → LeadsTo keep_last e s after → LeadsTo keep_last e s other → after ≡ other
 one_lead keep_last array_begins s after other h g = h.1 ∙ sym g.1
 one_lead keep_last object_begins s after other h g = h.1 ∙ sym g.1
 one_lead keep_last (key_is key) s after other h g =
@@ -198,51 +149,3 @@ same_tree keep_last es bytes rest s t u happen is of =
     let other = happen_of keep_last es bytes u of in
     let same = one_run keep_last es bytes no_events rest other.0 s other.1 happen other.2 in
     ap (λ (o : Option Tree). unwrap_or o t) (sym is ∙ ap (λ (x : State). whole x.inner) same ∙ other.3)
-
--- after an event there are the events that are left
-pub one_step : (keep_last : Bool) (e : TextEvent) (es : List TextEvent) (bytes : List ℕ) (s : State) (event : Event) (left : List ℕ) (next : State)
-    (rest : List ℕ) (after : State) → Reads e bytes event left → LeadsTo keep_last event s next → Happen keep_last (e ∷ es) bytes s rest after
-    → Happen keep_last es left next rest after
-one_step keep_last e es bytes s event left next rest after reads leads h =
-    let read = one_read e bytes h.0 event h.1 left h.3 reads in
-    let same = one_lead keep_last event s h.2 next (subst (λ (x : Event). LeadsTo keep_last x s h.2) read.0 h.4) leads in
-    subst (λ (b : List ℕ). Happen keep_last es b next rest after) read.1 (subst (λ (x : State). Happen keep_last es h.1 x rest after) same h.5)
-
--- no tree has events of which one may not come next
-pub stopped : (keep_last : Bool) (all : List TextEvent) (whole_text : List ℕ) (e : TextEvent) (es : List TextEvent) (bytes : List ℕ) (s : State)
-    → ((rest : List ℕ) (after : State) → Happen keep_last all whole_text no_events rest after → Happen keep_last (e ∷ es) bytes s rest after)
-    → Refuses keep_last e bytes s → (t : Tree) → AreEventsOf keep_last all whole_text t → ⊥
-stopped keep_last all whole_text e es bytes s back refuses t of =
-    let run = happen_of keep_last all whole_text t of in
-    let h = back run.0 run.1 run.2 in
-    refuses h.0 h.1 h.2 h.3 h.4
-
--- nor events after which the root is not complete
-pub unfinished : (keep_last : Bool) (all : List TextEvent) (whole_text bytes : List ℕ) (s : State)
-    → ((rest : List ℕ) (after : State) → Happen keep_last all whole_text no_events rest after → Happen keep_last [] bytes s rest after)
-    → whole s.inner ≡ None → (t : Tree) → AreEventsOf keep_last all whole_text t → ⊥
-unfinished keep_last all whole_text bytes s back none t of =
-    let run = happen_of keep_last all whole_text t of in
-    let h = back run.0 run.1 run.2 in
-    let bad : None ≡ Some t = sym none ∙ ap (λ (x : State). whole x.inner) h.1 ∙ run.3 in absurd (cc)
-
--- ---- errors
-
-pub only_memory : (keep_last : Bool) (P : Type 0) (e : EventError) → (P → ⊥) → IsDue keep_last P e → e ≡ Failed OutOfMemory
-only_memory keep_last P e never (inl memory) = memory
-only_memory keep_last P e never (inr due) = absurd (never due.1)
-
-pub list_fails : (keep_last : Bool) (P : Type 0) (e : EventError) → IsDue keep_last P e
-    → IsListError keep_last e ⊎ ((e ≡ Failed OutOfMemory) ⊎ (e ≡ Failed TooLarge))
-list_fails keep_last P e (inl memory) = inr (inl memory)
-list_fails keep_last P e (inr due) = inl due.0
-
-pub write_fails : (keep_last : Bool) (form : Form) (t : Tree) (d : Error) → IsOutOfMemoryOrTooLarge form t d
-    → IsListError keep_last (Failed d) ⊎ ((Failed d ≡ Failed OutOfMemory) ⊎ (Failed d ≡ Failed TooLarge))
-write_fails keep_last form t d (inl memory) = inr (inl (ap Failed memory))
-write_fails keep_last form t d (inr large) = inr (inr (ap Failed large.0))
-
-pub failed_large : (form : Form) (t u : Tree) (d : Error) → t ≡ u → IsOutOfMemoryOrTooLarge form t d
-    → (Failed d ≡ Failed OutOfMemory) ⊎ ((Failed d ≡ Failed TooLarge) × IsTooLarge form u)
-failed_large form t u d same (inl memory) = inl (ap Failed memory)
-failed_large form t u d same (inr large) = inr (ap Failed large.0, subst (IsTooLarge form) same large.1)

@@ -1,12 +1,18 @@
 -- Lists of events: which events they are, and of which tree.
-use Rattle.std.specs.Prelude.{◌≡◌, ◌⊎◌, ℕ, ◌^◌, Bool, true, false, List, [], ◌∷◌, ◌++◌, length, pos, ◌+ℤ◌, ◌*ℤ◌, Some, None, Result, Ok, Err, IsOkAnd, IsUtf8, ⊤, Option, if◌then◌else◌, ◌==◌}
+use Rattle.std.specs.Prelude.{◌≡◌, ◌⊎◌, ℕ, ℤ, ◌^◌, Bool, true, false, List, [], ◌∷◌, ◌++◌, length, take, pos, ◌+ℤ◌, ◌*ℤ◌, Some, None, Result, Ok, Err, IsOkAnd, IsUtf8, ⊤, Option, if◌then◌else◌, ◌==◌}
 use Rattle.jsonb_doc.specs.Number.{int64, uint64, decimal64, decimal128, number_from}
 use Rattle.jsonb_doc.specs.Tree.{Tree, null, boolean, number, text}
+use Rattle.jsonb_doc.specs.Payload.{Form}
+use Rattle.jsonb_doc.specs.Limits.{IsTooLarge}
 use Rattle.jsonb_doc.specs.Events.{Level, object_of, State, Event, array_begins, object_begins, key_is, value_is, ends, no_events, with_inner, next, whole}
 use Rattle.jsonb_doc.specs.declared.event_error.EventError.{EventError}
 use Rattle.jsonb_doc.specs.declared.event_error.EventError.TheVariants.{OutOfOrder, Failed}
 use Rattle.jsonb_doc.specs.declared.text_event.TextEvent.{TextEvent}
-use Rattle.jsonb_doc.specs.declared.error.Error.TheVariants.{ObjectDuplicateKey}
+use Rattle.jsonb_doc.specs.declared.error.Error.TheVariants.{OutOfMemory, ObjectDuplicateKey, TooLarge}
+
+-- The integer of two halves, of which the lower is unsigned.
+abbrev pub whole_of : ℤ → ℕ → ℤ
+whole_of high low = (high *ℤ pos (2 ^ 64)) +ℤ pos low
 
 -- The tree of a scalar, except for a string.
 abbrev pub scalar_of : TextEvent → Option Tree
@@ -17,7 +23,7 @@ scalar_of e =
     else if e.kind == 3 then Some (number (number_from int64 e.high 0))
     else if e.kind == 4 then Some (number (number_from uint64 (pos e.low) 0))
     else if e.kind == 5 then Some (number (number_from decimal64 e.high e.scale))
-    else if e.kind == 6 then Some (number (number_from decimal128 ((e.high *ℤ pos (2 ^ 64)) +ℤ pos e.low) e.scale))
+    else if e.kind == 6 then Some (number (number_from decimal128 (whole_of e.high e.low) e.scale))
     else None
 
 -- Holds if the bytes are a string of this length, and `rest`.
@@ -56,12 +62,20 @@ after keep_last [] r = r
 after keep_last (event ∷ events) (Ok s) = after keep_last events (next_of keep_last event s)
 after keep_last (event ∷ events) (Err e) = Err e
 
--- Holds if the error is one of a list that has no tree. Duplicate keys are errors unless `keep_last`.
-abbrev pub IsListError : Bool → EventError → Type 0
-IsListError keep_last e = (e ≡ OutOfOrder) ⊎ ((e ≡ Failed ObjectDuplicateKey) × (keep_last ≡ false))
-
 -- Holds if the list, with this text, has the events of the tree.
 abbrev pub AreEventsOf : Bool → List TextEvent → List ℕ → Tree → Type 0
 AreEventsOf keep_last es bytes t =
     (events : List Event) × AreEvents es bytes events
     × IsOkAnd (after keep_last events (Ok no_events)) (λ s. whole s.inner ≡ Some t)
+
+-- Holds if a key of an object is a duplicate, and no event before it is out of order.
+abbrev pub HasDuplicateKey : List TextEvent → List ℕ → Type 0
+HasDuplicateKey es bytes = (count : ℕ) × (events : List Event) × AreEvents (take count es) bytes events
+    × (after false events (Ok no_events) ≡ Err (Failed ObjectDuplicateKey))
+
+-- Holds if an allocation failed, or this is an error of the list or of its document.
+abbrev pub FailsWith : Form → Bool → List TextEvent → List ℕ → EventError → Type 0
+FailsWith form keep_last es bytes e = (e ≡ Failed OutOfMemory)
+    ⊎ ((e ≡ OutOfOrder) × ((t : Tree) → AreEventsOf true es bytes t → ⊥))
+    ⊎ ((e ≡ Failed ObjectDuplicateKey) × (keep_last ≡ false) × HasDuplicateKey es bytes)
+    ⊎ ((e ≡ Failed TooLarge) × (t : Tree) × AreEventsOf keep_last es bytes t × IsTooLarge form t)

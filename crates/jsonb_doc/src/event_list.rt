@@ -5,7 +5,7 @@ ghost use Rattle.jsonb_doc.specs.Tree.{Tree};
 ghost use Rattle.jsonb_doc.specs.Payload.{Form};
 ghost use Rattle.jsonb_doc.specs.Format.{Decodes};
 ghost use Rattle.jsonb_doc.specs.Limits.{IsTooLarge};
-ghost use Rattle.jsonb_doc.specs.EventList.{AreEventsOf, IsListError};
+ghost use Rattle.jsonb_doc.specs.EventList.{AreEventsOf, FailsWith};
 ghost use Rattle.jsonb_doc.specs.declared.error.Error.TheVariants.{OutOfMemory, TooLarge};
 ghost use Rattle.jsonb_doc.specs.declared.event_error.EventError.TheVariants.{Failed};
 
@@ -28,8 +28,11 @@ use std::alloc::Global;
 ///
 /// # Errors
 ///
-/// `OutOfOrder` or, unless `keep_last`, `Failed` with `ObjectDuplicateKey`, only if the list has no document. `Failed`
-/// with `TooLarge` if the document exceeds the limits, or with `OutOfMemory` if an allocation fails.
+/// - `OutOfOrder` if an event cannot come next or has another kind, if its string or key ends past the text or within a
+///   character, or if the root is not complete at the end.
+/// - `Failed` with `ObjectDuplicateKey` if a key is a duplicate, unless `keep_last`. Keys are compared when their object
+///   ends, so an event that is out of order before that is the error.
+/// - `Failed` with `TooLarge` if the document exceeds the limits, or with `OutOfMemory` if an allocation fails.
 ///
 /// # Complexity
 ///
@@ -58,7 +61,7 @@ pub fn document_from_events(
     ensures complete { (form : Form) (t : Tree) → AreEventsOf keep_last events.now text.now t
         → MatchResult result (λ v. Decodes form v.items t)
         (λ e. (e ≡ Failed OutOfMemory) ⊎ ((e ≡ Failed TooLarge) × IsTooLarge form t)) }
-    ensures errors { IfErr result (λ e. IsListError keep_last e ⊎ ((e ≡ Failed OutOfMemory) ⊎ (e ≡ Failed TooLarge))) }
+    ensures errors { (form : Form) → IfErr result (FailsWith form keep_last events.now text.now) }
 {
     let collected = collect(alloc, text, events, keep_last)?;
     match collected.root {

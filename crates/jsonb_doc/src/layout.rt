@@ -80,8 +80,12 @@ pub enum EntryKind {
 
 impl EntryKind {
     /// Returns the type with this number, or `None` if there is none.
+    ///
+    /// # Complexity
+    ///
+    /// O(1). Does not allocate.
     #[inline(always)]
-    fn from_u32(number: u32) -> Option<EntryKind>
+    pub fn from_u32(number: u32) -> Option<EntryKind>
         ensures { MatchOption result (8 ≤ number) (λ kind. kind_number kind ≡ number) }
     {
         match number {

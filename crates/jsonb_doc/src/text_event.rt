@@ -1,6 +1,7 @@
 //! An event of a list, in the layout of C.
 
-ghost use Rattle.std.specs.Prelude.{◌≡◌, ◌^◌, ◌+ℤ◌, ◌*ℤ◌, pos, IsSomeAnd};
+ghost use Rattle.std.specs.Prelude.{◌≡◌, IsSomeAnd};
+ghost use Rattle.jsonb_doc.specs.EventList.{whole_of};
 ghost use Rattle.jsonb_doc.specs.Tree.{Tree};
 ghost use Rattle.jsonb_doc.specs.Private.EventParts.{IsPlain, IsPlainItem};
 
@@ -76,8 +77,12 @@ pub(crate) const END_EVENT: u8 = 11;
 pub(crate) const NO_EVENT: u8 = 12;
 
 /// Returns the integer of two halves.
-fn whole_of(high: i64, low: u64) -> i128
-    ensures { result ≡ (high *ℤ pos (2 ^ 64)) +ℤ pos low }
+///
+/// # Complexity
+///
+/// O(1). Does not allocate.
+pub fn whole_of(high: i64, low: u64) -> i128
+    ensures { result ≡ whole_of high low }
 {
     i128::from(high) * 18_446_744_073_709_551_616 + i128::from(low)
 }

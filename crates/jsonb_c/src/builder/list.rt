@@ -13,7 +13,9 @@ use jsonb::{EventError, TextEvent, document_from_events};
 use std::alloc::Global;
 
 /// Returns the document of some events, whose keys and strings are in `text`, one after the other. It must be
-/// UTF-8.
+/// UTF-8. Fails with `OutOfOrder` at the first event that cannot come next, or unless `keep_last` with
+/// `ObjectDuplicateKey` at the end of the first object with a duplicate key, and with `TooLarge` if the document
+/// exceeds the limits.
 #[unsafe(no_mangle)]
 pub extern "C" fn jdoc_from_events(
     alloc: Global,

@@ -50,24 +50,11 @@ fn entry_at<'a>(document: &'a [u8], span: &Span) -> Option<StoredEntry<'a>>
 {
     let end = span.at.checked_add(span.len)?;
     let content = document.get(span.at..end)?;
-    let kind = entry_kind(span.entry)?;
-    Some(StoredEntry { kind, content })
-}
-
-/// Returns the type of an entry with this number, or `None` if no item has it.
-fn entry_kind(number: u8) -> Option<EntryKind>
-    ensures { MatchOption result (7 ≤ number) (λ kind. (kind_number kind ≡ number) × (number < 7)) }
-{
-    match number {
-        0 => Some(EntryKind::Null),
-        1 => Some(EntryKind::Text),
-        2 => Some(EntryKind::Number),
-        3 => Some(EntryKind::False),
-        4 => Some(EntryKind::True),
-        5 => Some(EntryKind::Container),
-        6 => Some(EntryKind::Extension),
-        _ => None,
+    let kind = EntryKind::from_u32(u32::from(span.entry))?;
+    if kind == EntryKind::Unknown {
+        return None;
     }
+    Some(StoredEntry { kind, content })
 }
 
 /// Stores the document of an entry. The content of a container is that document.

@@ -195,6 +195,9 @@ fn a_list_with_a_duplicate_key(rt: HostRuntime) -> Result<(), Fail> {
     let last = b"\x40\0\0\x01\x10\0\0\x01\0\0\0\0a";
     assert_gives!(rt; jdoc_from_events(alloc, b"axa", &twice, false), OBJECT_DUPLICATE_KEY, b"");
     assert_gives!(rt; jdoc_from_events(alloc, b"axa", &twice, true), OK, last);
+    // the keys of an object are compared when it ends
+    let open = list_of(alloc, b"{knknn.")?;
+    assert_gives!(rt; jdoc_from_events(alloc, b"aa", &open, false), OUT_OF_ORDER, b"");
     Ok(())
 }
 

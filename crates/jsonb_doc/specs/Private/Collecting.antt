@@ -1,15 +1,15 @@
 -- What the collector of events holds. The pairs of an open object are in the order of the events.
-use Rattle.std.specs.Prelude.{◌≡◌, ◌⊎◌, ℕ, suc, ◌<◌, Bool, true, false, List, [], ◌∷◌, ◌++◌, length, map, Some, None, option_copied, is_some, IsTrue, ⊤}
+use Rattle.std.specs.Prelude.{◌≡◌, ◌⊎◌, ℕ, suc, ◌<◌, Bool, true, false, List, [], ◌∷◌, ◌++◌, length, map, Some, None, option_copied, is_some, IsTrue, ⊤, Result, MatchResult}
 use Rattle.std.specs.List.{AllZip}
 use Rattle.jsonb_doc.specs.Tree.{Tree, array, object, trees_of, pairs_of}
 use Rattle.jsonb_doc.specs.ObjectBuilder.{insert_pair}
 use Rattle.jsonb_doc.specs.Events.{Level, root, array_of, object_of, State, Event, array_begins, object_begins, key_is, value_is, ends, takes_value}
-use Rattle.jsonb_doc.specs.EventList.{Reads, IsListError}
+use Rattle.jsonb_doc.specs.EventList.{Reads}
 use Rattle.jsonb_doc.specs.Private.EventParts.{IsPart, HoldParts}
 use Rattle.jsonb_doc.specs.Private.Unique.{as_pair}
-use Rattle.jsonb_doc.specs.declared.error.Error.TheVariants.{OutOfMemory}
+use Rattle.jsonb_doc.specs.declared.error.Error.TheVariants.{OutOfMemory, ObjectDuplicateKey}
 use Rattle.jsonb_doc.specs.declared.event_error.EventError.{EventError}
-use Rattle.jsonb_doc.specs.declared.event_error.EventError.TheVariants.{Failed}
+use Rattle.jsonb_doc.specs.declared.event_error.EventError.TheVariants.{OutOfOrder, Failed}
 use Rattle.jsonb_doc.specs.declared.text_event.TextEvent.{TextEvent}
 use Rattle.jsonb_doc.specs.declared.layout.HeaderKind.{HeaderKind}
 use Rattle.jsonb_doc.specs.declared.layout.HeaderKind.TheVariants.{Scalar, Object, Array}
@@ -74,9 +74,12 @@ abbrev pub Refuses : Bool → TextEvent → List ℕ → State → Type 0
 Refuses keep_last e bytes s =
     (event : Event) → (rest : List ℕ) → (after : State) → Reads e bytes event rest → LeadsTo keep_last event s after → ⊥
 
--- Holds if an allocation failed, or this is an error of a list for the reason.
-abbrev pub IsDue : Bool → Type 0 → EventError → Type 0
-IsDue keep_last Reason e = (e ≡ Failed OutOfMemory) ⊎ (IsListError keep_last e × Reason)
+-- Holds if an allocation failed, or this is an error for the reason, which is that of each value of `keep_last`. An
+-- event out of order is an error with both values, a duplicate key only without `keep_last`.
+abbrev pub IsDue : Bool → (Bool → Type 0) → EventError → Type 0
+IsDue keep_last Reason e = (e ≡ Failed OutOfMemory)
+    ⊎ ((e ≡ OutOfOrder) × Reason true)
+    ⊎ ((e ≡ Failed ObjectDuplicateKey) × (keep_last ≡ false) × Reason false × (Reason true → ⊥))
 
 -- ---- the collector
 
@@ -148,3 +151,9 @@ pub record HoldsState (c : Collector) (s : State) : Type 0 where
   pub start : c.inner.start ≡ length before
   pub inner : HoldsFrame c.ended.items c.inner ms s.inner
   pub around : AreAround c.ended.items c.inner.kind before s.around
+
+-- Holds if the collector has one of the next states. That there is none is the reason of an error.
+abbrev pub MovesTo : Bool → (Bool → State → Type 0) → Collector → Result (Unit {0}) EventError → Type 0
+MovesTo keep_last IsNext c r =
+    MatchResult r (λ _. (after : State) × IsNext keep_last after × HoldsState c after)
+    (IsDue keep_last (λ last. (after : State) → IsNext last after → ⊥))

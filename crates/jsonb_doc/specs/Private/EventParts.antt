@@ -1,10 +1,10 @@
 -- Members of containers in runs, and the trees that they are.
-use Rattle.std.specs.Prelude.{◌≡◌, ℕ, ◌<◌, ◌≤◌, List, [], ◌∷◌, ◌++◌, length, map, slice_range, reverse, Option, Some, None, ⊤, ◌⊎◌, ◌^◌, true, false, pos, ◌+ℤ◌, ◌*ℤ◌}
+use Rattle.std.specs.Prelude.{◌≡◌, ℕ, ◌<◌, ◌≤◌, List, [], ◌∷◌, ◌++◌, length, map, slice_range, reverse, Option, Some, None, ⊤}
 use Rattle.std.specs.Borrow.{Bor}
 use Rattle.std.specs.List.{AllZip}
 use Rattle.jsonb_doc.specs.Tree.{Tree, null, boolean, number, text, array, object, Trees, no_trees, tree, Pairs, no_pairs, pair, keys}
 use Rattle.jsonb_doc.specs.Payload.{Form}
-use Rattle.jsonb_doc.specs.Number.{int64, uint64, decimal64, decimal128, number_from}
+use Rattle.jsonb_doc.specs.EventList.{scalar_of}
 use Rattle.jsonb_doc.specs.declared.text_event.TextEvent.{TextEvent}
 use Rattle.jsonb_doc.specs.Private.Writer.{Around, AreSortedKeys, IsWriting}
 use Rattle.jsonb_doc.specs.declared.layout.HeaderKind.{HeaderKind}
@@ -22,12 +22,7 @@ use Rattle.jsonb_doc.specs.declared.event_list.writing.Outer.{Outer}
 
 -- Holds if the event is a scalar, except for a string, and this is its tree.
 abbrev pub IsPlain : TextEvent → Tree → Type 0
-IsPlain e t =
-    ((e.kind ≡ 0) × (t ≡ null)) ⊎ (((e.kind ≡ 1) × (t ≡ boolean false)) ⊎ (((e.kind ≡ 2) × (t ≡ boolean true))
-    ⊎ (((e.kind ≡ 3) × (t ≡ number (number_from int64 e.high 0)))
-    ⊎ (((e.kind ≡ 4) × (t ≡ number (number_from uint64 (pos e.low) 0)))
-    ⊎ (((e.kind ≡ 5) × (t ≡ number (number_from decimal64 e.high e.scale)))
-    ⊎ ((e.kind ≡ 6) × (t ≡ number (number_from decimal128 ((e.high *ℤ pos (2 ^ 64)) +ℤ pos e.low) e.scale))))))))
+IsPlain e t = scalar_of e ≡ Some t
 
 -- Holds if the item is a scalar, except for a string, and this is its tree.
 abbrev pub IsPlainItem : Item → Tree → Type 0

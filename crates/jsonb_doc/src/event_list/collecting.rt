@@ -2,10 +2,11 @@
 
 ghost use Rattle.std.specs.Prelude.{◌≡◌, ℕ, suc, Bool, true, false, List, [], ◌∷◌, length, Some, None, option_copied, OnOk, IfOk, IfSome, IfNone, MatchResult};
 ghost use Rattle.jsonb_doc.specs.Tree.{Tree};
+ghost use Rattle.jsonb_doc.specs.Payload.{Form};
 ghost use Rattle.jsonb_doc.specs.Events.{Level, State, Event, key_is, ends, no_events, takes_value, whole};
-ghost use Rattle.jsonb_doc.specs.EventList.{BeginWithText, Reads, AreEventsOf};
+ghost use Rattle.jsonb_doc.specs.EventList.{BeginWithText, Reads, FailsWith};
 ghost use Rattle.jsonb_doc.specs.Private.EventParts.{IsPart};
-ghost use Rattle.jsonb_doc.specs.Private.Collecting.{EndsAs, TakesTree, Opens, LeadsTo, Happen, IsDue, Refuses, HoldsFrame, WaitsFor, AreAround, HoldsState, IsRepeated, Keeps, IsPushRefused, Pushes, Ends};
+ghost use Rattle.jsonb_doc.specs.Private.Collecting.{EndsAs, TakesTree, Opens, LeadsTo, Happen, IsDue, MovesTo, Refuses, HoldsFrame, WaitsFor, AreAround, HoldsState, IsRepeated, Keeps, IsPushRefused, Pushes, Ends};
 ghost use Rattle.jsonb_doc.specs.declared.layout.HeaderKind.TheVariants.{Scalar};
 ghost use Rattle.jsonb_doc.specs.declared.event_list.collecting.Part.TheVariants.{Nested};
 
@@ -96,7 +97,7 @@ const UNFINISHED: usize = 16;
 impl<'a> Collector<'a> {
     /// Creates a collector before the first event, for as many members.
     fn new(alloc: Global, members: usize) -> Result<Collector<'a>, EventError>
-        ensures { MatchResult result (λ c. HoldsState c no_events) (IsDue true ⊥) }
+        ensures { MatchResult result (λ c. HoldsState c no_events) (IsDue true (λ _. ⊥)) }
     {
         Ok(Collector {
             unfinished: Vec::with_capacity(alloc, UNFINISHED)?,
@@ -114,9 +115,7 @@ impl<'a> Collector<'a> {
     fn add(&mut self, part: Part<'a>) -> Result<(), EventError>
         ensures { (s : State) (t : Tree) → HoldsState self.old s
             → IsPart self.old.ended.items (suc (length self.old.ended.items)) part.entry t
-            → MatchResult result
-            (λ _. (after : State) × TakesTree t s.inner s.around after × HoldsState self.new after)
-            (IsDue true (takes_value s.inner ≡ false)) }
+            → MovesTo true (λ _. TakesTree t s.inner s.around) self.new result }
     {
         let Some(key) = self.inner.take_key() else {
             return Err(EventError::OutOfOrder);
@@ -129,9 +128,7 @@ impl<'a> Collector<'a> {
     #[inline(always)]
     fn key(&mut self, key: &'a str) -> Result<(), EventError>
         ensures { (keep_last : Bool) (s : State) → HoldsState self.old s
-            → MatchResult result
-            (λ _. (after : State) × LeadsTo keep_last (key_is key.entry.now) s after × HoldsState self.new after)
-            (IsDue keep_last ((after : State) → LeadsTo keep_last (key_is key.entry.now) s after → ⊥)) }
+            → MovesTo true (λ _. LeadsTo keep_last (key_is key.entry.now) s) self.new result }
     {
         match (self.inner.kind, self.inner.key) {
             (HeaderKind::Object, None) => {
@@ -147,8 +144,7 @@ impl<'a> Collector<'a> {
     fn begin(&mut self, kind: HeaderKind) -> Result<(), EventError>
         ensures { (s : State) (level : Level) → HoldsState self.old s → (kind ≡ Scalar → ⊥)
             → ((ds : List Member) (f : Frame) → f.kind ≡ kind → option_copied f.key ≡ None → HoldsFrame ds f [] level)
-            → MatchResult result (λ _. (after : State) × Opens level s after × HoldsState self.new after)
-            (IsDue true (takes_value s.inner ≡ false)) }
+            → MovesTo true (λ _. Opens level s) self.new result }
     {
         let Some(key) = self.inner.take_key() else {
             return Err(EventError::OutOfOrder);
@@ -173,8 +169,7 @@ impl<'a> Collector<'a> {
     /// Ends the innermost container. It is then a value of the one around it.
     fn end(&mut self, alloc: Global, keep_last: bool) -> Result<(), EventError>
         ensures { (s : State) → HoldsState self.old s
-            → MatchResult result (λ _. (after : State) × LeadsTo keep_last ends s after × HoldsState self.new after)
-            (IsDue keep_last ((after : State) → LeadsTo keep_last ends s after → ⊥)) }
+            → MovesTo keep_last (λ last. LeadsTo last ends s) self.new result }
     {
         if self.inner.key.is_some() {
             return Err(EventError::OutOfOrder);
@@ -195,8 +190,7 @@ impl<'a> Collector<'a> {
         ensures { (t : Tree) (level : Level) (around : List Level) → AreAround self.old.ended.items self.old.inner.kind
             self.old.unfinished.items (level ∷ around)
             → IsPart self.old.ended.items (suc (length self.old.ended.items)) (Nested run) t
-            → MatchResult result (λ _. (after : State) × TakesTree t level around after × HoldsState self.new after)
-            (IsDue true ⊥) }
+            → MovesTo true (λ _. TakesTree t level around) self.new result }
     {
         match self.unfinished.pop() {
             Some(
@@ -229,7 +223,7 @@ impl<'a> Collector<'a> {
     ) -> Result<&'a str, EventError>
         ensures { (s : State) → HoldsState self.old s → MatchResult result (λ rest. (e : Event) × (after : State)
             × Reads event.entry.now text.entry.now e rest.now × LeadsTo keep_last e s after
-            × HoldsState self.new after) (IsDue keep_last (Refuses keep_last event.entry.now text.entry.now s)) }
+            × HoldsState self.new after) (IsDue keep_last (λ last. Refuses last event.entry.now text.entry.now s)) }
     {
         match event.kind {
             ..=DECIMAL128_EVENT => {
@@ -266,7 +260,7 @@ impl<'a> Collector<'a> {
     fn finish(self) -> Result<Collected<'a>, EventError>
         ensures { (s : State) → HoldsState self.entry s → MatchResult result (λ c. (t : Tree) × (whole s.inner ≡ Some t)
             × (s.around ≡ []) × IsPart c.members.items (suc (length c.members.items)) c.root t)
-            (IsDue true (whole s.inner ≡ None)) }
+            (IsDue true (λ _. whole s.inner ≡ None)) }
     {
         let Collector {
             unfinished,
@@ -287,7 +281,7 @@ impl<'a> Collector<'a> {
 #[inline(always)]
 fn split_text(text: &str, len: u64) -> Result<(&str, &str), EventError>
     ensures { MatchResult result (λ found. BeginWithText len text.now found.0.now found.1.now)
-        (IsDue true ((s rest : List ℕ) → BeginWithText len text.now s rest → ⊥)) }
+        (IsDue true (λ _. (s rest : List ℕ) → BeginWithText len text.now s rest → ⊥)) }
 {
     match text.split_at_checked(len as usize) {
         Some(found) => Ok(found),
@@ -303,7 +297,7 @@ fn push_sorted<'a>(
     keep_last: bool,
 ) -> Result<(), EventError>
     ensures { MatchResult result (λ _. Keeps keep_last ended.old.items ended.new.items members.old)
-        (IsDue keep_last (IsRepeated keep_last members.old)) }
+        (IsDue keep_last (λ last. IsRepeated last members.old)) }
 {
     sort_members(alloc, members)?;
     push_unique(ended, members, keep_last)
@@ -318,7 +312,7 @@ fn push_members<'a>(
     keep_last: bool,
 ) -> Result<(), EventError>
     ensures { MatchResult result (λ _. Pushes keep_last kind ended.old.items ended.new.items members.old)
-        (IsDue keep_last (IsPushRefused keep_last kind members.old)) }
+        (IsDue keep_last (λ last. IsPushRefused last kind members.old)) }
 {
     match kind {
         HeaderKind::Array => Ok(ended.extend_from_slice(members)?),
@@ -338,7 +332,7 @@ fn finish_members<'a>(
     ensures { (level : Level) → HoldsFrame ended.old.items frame.entry members.old level
         → option_copied frame.entry.key ≡ None
         → MatchResult result (Ends keep_last ended.old.items ended.new.items level)
-        (IsDue keep_last ((t : Tree) → EndsAs keep_last level t → ⊥)) }
+        (IsDue keep_last (λ last. (t : Tree) → EndsAs last level t → ⊥)) }
 {
     let first = ended.len();
     push_members(alloc, frame.kind, members, ended, keep_last)?;
@@ -359,7 +353,7 @@ pub(crate) fn collect<'a>(
     ensures { MatchResult result (λ c. (s : State) × (rest : List ℕ) × (t : Tree)
         × Happen keep_last events.now text.now no_events rest s × (whole s.inner ≡ Some t) × (s.around ≡ [])
         × IsPart c.members.items (suc (length c.members.items)) c.root t)
-        (IsDue keep_last ((t : Tree) → AreEventsOf keep_last events.now text.now t → ⊥)) }
+        (λ e. (form : Form) → FailsWith form keep_last events.now text.now e) }
 {
     let mut collector = Collector::new(alloc, events.len() / 2)?;
     let mut rest = text;

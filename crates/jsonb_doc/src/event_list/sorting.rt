@@ -15,7 +15,10 @@ use crate::event_list::collecting::Member;
 use std::alloc::{AllocError, Global};
 use std::cmp::Ordering;
 
-/// Returns the order of two keys. Compares the first bytes at once.
+/// Returns the order of two keys.
+///
+/// The first bytes are compared without a call. For an object of 10 keys of 3 to 6 bytes, `document_from_events` then
+/// takes 7 per cent fewer instructions (100 keys: 9, 1,000 keys: 2), for 10 keys that begin alike 6 per cent more.
 #[inline(always)]
 fn keys_cmp(key: &str, other: &str) -> Ordering
     ensures { result ≡ slice_cmp nat_cmp key.now other.now }
@@ -46,8 +49,8 @@ pub(crate) fn push_unique<'a>(
 ) -> Result<(), EventError>
     ensures pushed { OnOk result (ended.new.items ≡ ended.old.items ++ unique members.now) }
     ensures all { OnOk result (keep_last ≡ false → unique members.now ≡ members.now) }
-    ensures errors { IfErr result (IsDue keep_last ((keep_last ≡ false)
-        × (length (unique members.now) < length members.now))) }
+    ensures errors { IfErr result
+        (IsDue keep_last (λ last. (last ≡ false) × (length (unique members.now) < length members.now))) }
 {
     if are_unique(members) {
         return Ok(ended.extend_from_slice(members)?);
@@ -61,7 +64,7 @@ pub(crate) fn push_unique<'a>(
 /// Appends sorted members to others, of those with the same key the last one.
 fn push_last<'a>(ended: &mut Vec<Member<'a>>, members: &[Member<'a>]) -> Result<(), EventError>
     ensures pushed { OnOk result (ended.new.items ≡ ended.old.items ++ unique members.now) }
-    ensures errors { IfErr result (IsDue true ⊥) }
+    ensures errors { IfErr result (IsDue true (λ _. ⊥)) }
 {
     let mut left = members;
     while let [member, others @ ..] = left {

@@ -40,7 +40,7 @@ type Row = (
     Result<&'static [u8], EventError>,
 );
 
-static ROWS: [Row; 24] = rows! {
+static ROWS: [Row; 29] = rows! {
     "", &[NULL], false, Ok(b"\x20\0\0\0\0\0\0\0");
     "", &[(3, 0, -2, 0)], false, Ok(b"\x20\0\0\0\x20\0\0\x02\x40\xfe");
     "", &[(5, 0, 1234, 2)], false, Ok(b"\x20\0\0\0\x20\0\0\x0a\x70\0\0\0\0\0\0\x04\xd2\x02");
@@ -65,7 +65,13 @@ static ROWS: [Row; 24] = rows! {
         Err(EventError::Failed(Error::ObjectDuplicateKey));
     "aba", &[OBJECT, KEY, NULL, KEY, FALSE, KEY, TRUE, END], true,
         Ok(b"\x40\0\0\x02\x10\0\0\x01\x10\0\0\x01\x40\0\0\0\x30\0\0\0ab");
+    // the keys of an object are compared when it ends
+    "aa", &[OBJECT, KEY, NULL, KEY, NULL, END, NULL], false, Err(EventError::Failed(Error::ObjectDuplicateKey));
+    "aa", &[OBJECT, KEY, NULL, KEY, NULL, END, NULL], true, OUT_OF_ORDER;
+    "aa", &[OBJECT, KEY, NULL, KEY, NULL, NULL, END], false, OUT_OF_ORDER;
+    "aa", &[ARRAY, OBJECT, KEY, NULL, KEY, NULL, END], false, Err(EventError::Failed(Error::ObjectDuplicateKey));
     "", &[], false, OUT_OF_ORDER;
+    "", &[(12, 0, 0, 0)], false, OUT_OF_ORDER;
     "", &[ARRAY], false, OUT_OF_ORDER;
     "", &[END], false, OUT_OF_ORDER;
     "", &[NULL, NULL], false, OUT_OF_ORDER;

@@ -10,6 +10,6 @@ returns-clause-text c = λ _.
     let made : MakesDocumentOf c.args.keep_last c.args.events.now c.in-Ok.text.now (list_answer r) = record {
       document = λ form. list_makes _ r (h.document form);
       complete = λ form t of. list_matches _ _ r (h.complete form t of);
-      errors = list_fails _ r h.errors;
+      errors = λ form. list_fails _ r (h.errors form);
     } in
     (list_answer r, rw c.in-Ok.ensures.cases.0 at made, c.deliver_made.ensures)

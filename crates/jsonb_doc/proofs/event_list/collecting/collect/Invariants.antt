@@ -1,18 +1,17 @@
-use Rattle.std.proofs.Common.{ℕ, List, length}
+use Rattle.std.proofs.Common.{◌≡◌, List, ◌++◌, length}
 use denote.Shadow.{shadow}
 use denote.Text.{Utf8}
 use Rattle.jsonb_doc.specs.Events.{State, no_events}
 use Rattle.jsonb_doc.specs.Private.Collecting.{Happen, HoldsState}
+use Rattle.jsonb_doc.specs.declared.text_event.TextEvent.{TextEvent}
 use Rattle.jsonb_doc.proofs.event_list.collecting.collect.Given as goal
 
--- the events that are left lead on from what is held to where all events lead, and to nowhere else
+-- the events before those that are left lead to what is held
 abbrev pub invariant-loop-left : goal.invariant-loop-left
 invariant-loop-left l = record {
   utf8 : shadow (Utf8 l.rest);
-  leads : (s : State) × HoldsState l.collector s × ((rest : List ℕ) (after : State)
-      → Happen l.keep_last l.left l.rest s rest after → Happen l.keep_last l.events l.text no_events rest after)
-      × ((rest : List ℕ) (after : State) → Happen l.keep_last l.events l.text no_events rest after
-      → Happen l.keep_last l.left l.rest s rest after);
+  leads : (s : State) × HoldsState l.collector s × (before : List TextEvent) × (l.events ≡ before ++ l.left)
+      × Happen l.keep_last before l.text no_events l.rest s;
 }
 
 abbrev pub decreases-loop-left : goal.decreases-loop-left

@@ -1,9 +1,15 @@
-use Rattle.std.proofs.Common.{◌++◌, ◌∷◌, [], ◌∙◌, List, ap, refl, sym, subst, append_assoc}
+use Rattle.std.proofs.Common.{◌++◌, ◌∷◌, [], ◌∙◌, List, ap, refl, sym, subst, append_assoc, inl, inr}
 use Rattle.jsonb_doc.specs.Private.Collecting.{appended, AreAround}
 use Rattle.jsonb_doc.specs.declared.layout.HeaderKind.{HeaderKind}
 use Rattle.jsonb_doc.specs.declared.event_list.collecting.Member.{Member}
 use Rattle.jsonb_doc.proofs.CollectingLemmas.{filled_frame}
+use Rattle.jsonb_doc.proofs.OneRun.{value_refused}
 use Rattle.jsonb_doc.proofs.event_list.collecting.Collector.add.Goals as goal
+
+pub returns-in_default : goal.returns-in_default
+returns-in_default c = λ s t h part.
+    let full = c.in_default.ensures.missing c.args.self.now.ended.items h.ms s.inner h.inner in
+    inr (inl (refl, λ after takes. value_refused t s.inner s.around after full takes))
 
 pub returns : goal.returns
 returns c = λ s t h part.

@@ -1,4 +1,4 @@
-use Rattle.std.proofs.Common.{◌++◌, ◌∷◌, [], ◌∙◌, List, ap, refl, sym, subst, length, arith, None}
+use Rattle.std.proofs.Common.{◌++◌, ◌∷◌, [], ◌∙◌, List, ap, refl, sym, subst, length, arith, None, inl, inr}
 use Rattle.std.proofs.lemmas.List.{append-nil}
 use Rattle.jsonb_doc.specs.Private.Collecting.{WaitsFor, AreAround}
 use Rattle.jsonb_doc.specs.declared.layout.HeaderKind.{HeaderKind}
@@ -7,7 +7,13 @@ use Rattle.jsonb_doc.specs.declared.event_list.collecting.Part.TheVariants.{Nest
 use Rattle.jsonb_doc.specs.declared.event_list.collecting.Member.{Member}
 use Rattle.jsonb_doc.specs.declared.event_list.collecting.Frame.{Frame}
 use Rattle.jsonb_doc.proofs.CollectingLemmas.{waits_takes, around_more}
+use Rattle.jsonb_doc.proofs.OneRun.{opens_refused}
 use Rattle.jsonb_doc.proofs.event_list.collecting.Collector.begin.Goals as goal
+
+pub returns-in_default : goal.returns-in_default
+returns-in_default c = λ s level h some empty.
+    let full = c.in_default.ensures.missing c.args.self.now.ended.items h.ms s.inner h.inner in
+    inr (inl (refl, λ after opens. opens_refused level s after full opens))
 
 pub returns : goal.returns
 returns c = λ s level h some empty.

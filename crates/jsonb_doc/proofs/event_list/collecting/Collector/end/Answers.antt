@@ -1,18 +1,18 @@
-use Rattle.std.proofs.Common.{length, inr, ◌≡◌, ◌∙◌, ◌∷◌, List, ap, sym, subst, arith, take, rules, inl, refl}
+use Rattle.std.proofs.Common.{true, length, inr, ◌≡◌, ◌∙◌, ◌∷◌, List, ap, sym, subst, arith, take, rules, inl, refl}
 use Rattle.std.proofs.lemmas.Slice.{overwrites}
 use Rattle.std.proofs.lemmas.List.{take_at, length-append}
 use Rattle.std.proofs.lemmas.Result.{err_from_is_err_and}
-use Rattle.jsonb_doc.specs.Events.{Level}
-use Rattle.jsonb_doc.specs.Private.Collecting.{HoldsFrame, AreAround}
+use Rattle.jsonb_doc.specs.Events.{Level, State, ends}
+use Rattle.jsonb_doc.specs.Private.Collecting.{HoldsFrame, LeadsTo, AreAround}
 use Rattle.jsonb_doc.specs.declared.event_list.collecting.Member.{Member}
-use Rattle.jsonb_doc.proofs.CollectingLemmas.{innermost_is, none_of, named_stays, due_along, due_anyway, ends_around, around_stay}
+use Rattle.jsonb_doc.proofs.CollectingLemmas.{innermost_is, none_of, named_stays, ends_around, around_stay, end_event_due, outer_due}
 use Rattle.jsonb_doc.proofs.EventLemmas.{result_along}
 use Rattle.jsonb_doc.proofs.event_list.collecting.Collector.end.Goals as goal
 
 pub returns-then-is_some : goal.returns-then-is_some
 returns-then-is_some c = λ s h.
     let b = c.args.self.now in
-    inr (inl refl, λ after leads. named_stays c.args.keep_last b.ended.items b.inner h.ms s.inner leads.0 h.inner (sym c.is_some.ensures ∙ c.if-is_some.true) leads.3)
+    inr (inl (refl, λ after leads. named_stays true b.ended.items b.inner h.ms s.inner leads.0 h.inner (sym c.is_some.ensures ∙ c.if-is_some.true) leads.3))
 
 pub returns-then-start-len : goal.returns-then-start-len
 returns-then-start-len c = λ s h.
@@ -26,7 +26,7 @@ returns-in_err-run c = λ s h.
     let members = innermost_is _ h.before h.ms _ _ joined h.start (omega arith) in
     let e = err_from_is_err_and c.from_residual.result c.from_residual.ensures.1 in
     let due = c.in_err-run.ensures s.inner (subst (λ (ms : List Member). HoldsFrame b.ended.items b.inner ms s.inner) members h.inner) none in
-    rw (e.1, e.2) (due_along c.args.keep_last _ _ _ (λ refused after leads. refused leads.0 leads.3) due)
+    rw (e.1, e.2) (end_event_due c.args.keep_last b s _ h due)
 
 pub returns : goal.returns
 returns c = λ s h.
@@ -34,14 +34,14 @@ returns c = λ s h.
     let none = none_of b.inner.key (sym c.is_some.ensures ∙ c.if-is_some.false) in
     let joined = c.deref_mut.ensures.value ∙ h.joined in
     let members = innermost_is _ h.before h.ms _ _ joined h.start (omega arith) in
-    let ends = c.in_ok-run.ensures s.inner (subst (λ (ms : List Member). HoldsFrame b.ended.items b.inner ms s.inner) members h.inner) none in
+    let end = c.in_ok-run.ensures s.inner (subst (λ (ms : List Member). HoldsFrame b.ended.items b.inner ms s.inner) members h.inner) none in
     let kept : c.truncate.new.self.items ≡ take b.inner.start c.deref_mut.result.now = search (rules, overwrites) in
     let before = kept ∙ ap (take b.inner.start) joined ∙ take_at h.before h.ms b.inner.start (sym h.start) in
-    let outer = ends_around c.args.keep_last b.ended.items b.inner h.ms h.before s.inner ends.t s.around ends.ends_as h.inner h.around in
-    let stays = around_stay b.ended.items ends.more b.inner.kind h.before s.around h.around in
-    let moved = subst (λ (ds : List Member). AreAround ds b.inner.kind h.before s.around) (sym ends.joined) stays in
+    let outer = ends_around c.args.keep_last b.ended.items b.inner h.ms h.before s.inner end.t s.around end.ends_as h.inner h.around in
+    let stays = around_stay b.ended.items end.more b.inner.kind h.before s.around h.around in
+    let moved = subst (λ (ds : List Member). AreAround ds b.inner.kind h.before s.around) (sym end.joined) stays in
     let around = subst (λ (ls : List Level). AreAround c.finish_members.new.ended.items b.inner.kind h.before ls) outer.2 moved in
     result_along c.reopen.result _ _ _ _
-    (c.reopen.ensures ends.t outer.0 outer.1 (subst (λ (ms : List Member). AreAround c.finish_members.new.ended.items b.inner.kind ms (outer.0 ∷ outer.1)) (sym before) around)
-    ends.part)
-    (λ u x. (x.0, (ends.t, outer.0, outer.1, ends.ends_as, outer.2, x.1), x.2)) (λ e due. due_anyway c.args.keep_last ⊥ _ e (λ bad. absurd bad) due)
+    (c.reopen.ensures end.t outer.0 outer.1 (subst (λ (ms : List Member). AreAround c.finish_members.new.ended.items b.inner.kind ms (outer.0 ∷ outer.1)) (sym before) around)
+    end.part)
+    (λ u x. (x.0, (end.t, outer.0, outer.1, end.ends_as, outer.2, x.1), x.2)) (λ e. outer_due c.args.keep_last (λ last. (after : State) → LeadsTo last ends s after → ⊥) c.finish_members.new.ended.items b.inner.kind h.before end.t outer.0 outer.1 e around)

@@ -2,15 +2,15 @@ use Rattle.std.proofs.Common.{[], refl, inl, inr, arith, None}
 use Rattle.std.proofs.lemmas.Result.{err_from_is_err_and}
 use Rattle.jsonb_doc.specs.Tree.{text}
 use Rattle.jsonb_doc.specs.Events.{array_of, object_of, array_begins, object_begins, key_is, value_is, ends}
-use Rattle.jsonb_doc.proofs.CollectingLemmas.{due_along, due_anyway}
-use Rattle.jsonb_doc.proofs.OneRun.{plain_exists, plain_to, only_event, value_refused, opens_refused}
+use Rattle.jsonb_doc.proofs.OneRun.{plain_exists}
+use Rattle.jsonb_doc.proofs.ListErrors.{event_due, event_due_anyway}
 use Rattle.jsonb_doc.proofs.event_list.collecting.Collector.take.Goals as goal
 
 pub returns-in_ok-add-in-0-to-6 : goal.returns-in_ok-add-in-0-to-6
 returns-in_ok-add-in-0-to-6 c = λ s h.
     let plain = plain_exists c.args.event.now (omega arith) in
     let x = c.in_ok-add-in-0-to-6.ensures s plain.0 h plain.1 in
-    (value_is plain.0, x.0, inl (plain_to c.args.event.now plain.0 plain.1, refl), x.1, x.2)
+    (value_is plain.0, x.0, inl (plain.1, refl), x.1, x.2)
 
 pub returns-in_ok-add-in-7 : goal.returns-in_ok-add-in-7
 returns-in_ok-add-in-7 c = λ s h.
@@ -43,40 +43,38 @@ pub returns-in_err-add-in-0-to-6 : goal.returns-in_err-add-in-0-to-6
 returns-in_err-add-in-0-to-6 c = λ s h.
     let plain = plain_exists c.args.event.now (omega arith) in
     let e = err_from_is_err_and c.from_residual-in_err-add-in-0-to-6.result c.from_residual-in_err-add-in-0-to-6.ensures.1 in
-    rw (e.1, e.2) (due_anyway c.args.keep_last _ _ _ (λ full. only_event c.args.keep_last c.args.event.now c.args.text.now (value_is plain.0) c.args.text.now s (inl (plain_to c.args.event.now plain.0 plain.1, refl))
-    (λ after leads. value_refused plain.0 s.inner s.around after full leads)) (c.in_err-add-in-0-to-6.ensures s plain.0 h plain.1))
+    rw (e.1, e.2) (event_due_anyway c.args.keep_last c.args.event.now c.args.text.now (value_is plain.0) c.args.text.now s _ (inl (plain.1, refl))
+    (c.in_err-add-in-0-to-6.ensures s plain.0 h plain.1))
 
 pub returns-in_err-key-in-8-2 : goal.returns-in_err-key-in-8-2
 returns-in_err-key-in-8-2 c = λ s h.
     let found = c.in_ok-key-in-8 in
     let e = err_from_is_err_and c.from_residual-in_err-key-in-8-2.result c.from_residual-in_err-key-in-8-2.ensures.1 in
-    rw (e.1, e.2) (due_along c.args.keep_last _ _ _ (λ refused. only_event c.args.keep_last c.args.event.now c.args.text.now (key_is found.key.now) found.rest.now s
-    (c.in-8.is, found.ensures) refused) (c.in_err-key-in-8-2.ensures c.args.keep_last s h))
+    rw (e.1, e.2) (event_due_anyway c.args.keep_last c.args.event.now c.args.text.now (key_is found.key.now) found.rest.now s _ (c.in-8.is, found.ensures)
+    (c.in_err-key-in-8-2.ensures c.args.keep_last s h))
 
 pub returns-in_err-begin-in-9 : goal.returns-in_err-begin-in-9
 returns-in_err-begin-in-9 c = λ s h.
     let e = err_from_is_err_and c.from_residual-in_err-begin-in-9.result c.from_residual-in_err-begin-in-9.ensures.1 in
-    rw (e.1, e.2) (due_anyway c.args.keep_last _ _ _ (λ full. only_event c.args.keep_last c.args.event.now c.args.text.now array_begins c.args.text.now s (c.in-9.is, refl)
-    (λ after leads. opens_refused (array_of []) s after full leads))
+    rw (e.1, e.2) (event_due_anyway c.args.keep_last c.args.event.now c.args.text.now array_begins c.args.text.now s _ (c.in-9.is, refl)
     (c.in_err-begin-in-9.ensures s (array_of []) h (λ e. cc) (λ ds f kind none. (kind, none, tt))))
 
 pub returns-in_err-begin-in-10 : goal.returns-in_err-begin-in-10
 returns-in_err-begin-in-10 c = λ s h.
     let e = err_from_is_err_and c.from_residual-in_err-begin-in-10.result c.from_residual-in_err-begin-in-10.ensures.1 in
-    rw (e.1, e.2) (due_anyway c.args.keep_last _ _ _ (λ full. only_event c.args.keep_last c.args.event.now c.args.text.now object_begins c.args.text.now s (c.in-10.is, refl)
-    (λ after leads. opens_refused (object_of [] None) s after full leads))
+    rw (e.1, e.2) (event_due_anyway c.args.keep_last c.args.event.now c.args.text.now object_begins c.args.text.now s _ (c.in-10.is, refl)
     (c.in_err-begin-in-10.ensures s (object_of [] None) h (λ e. cc) (λ ds f kind none. (kind, none, tt))))
 
 pub returns-in_err-end-in-11 : goal.returns-in_err-end-in-11
 returns-in_err-end-in-11 c = λ s h.
     let e = err_from_is_err_and c.from_residual-in_err-end-in-11.result c.from_residual-in_err-end-in-11.ensures.1 in
-    rw (e.1, e.2) (due_along c.args.keep_last _ _ _ (λ refused. only_event c.args.keep_last c.args.event.now c.args.text.now ends c.args.text.now s (c.in-11.is, refl) refused)
+    rw (e.1, e.2) (event_due c.args.keep_last c.args.event.now c.args.text.now ends c.args.text.now s _ (c.in-11.is, refl)
     (c.in_err-end-in-11.ensures s h))
 
 pub returns-in_err-add-in-7 : goal.returns-in_err-add-in-7
 returns-in_err-add-in-7 c = λ s h.
     let found = c.in_ok-string-in-7 in
     let e = err_from_is_err_and c.from_residual-in_err-add-in-7.result c.from_residual-in_err-add-in-7.ensures.1 in
-    rw (e.1, e.2) (due_anyway c.args.keep_last _ _ _ (λ full. only_event c.args.keep_last c.args.event.now c.args.text.now (value_is (text found.string.now)) found.rest.now s
-    (inr (found.string.now, c.in-7.is, found.ensures, refl)) (λ after leads. value_refused (text found.string.now) s.inner s.around after full leads))
+    rw (e.1, e.2) (event_due_anyway c.args.keep_last c.args.event.now c.args.text.now (value_is (text found.string.now)) found.rest.now s _
+    (inr (found.string.now, c.in-7.is, found.ensures, refl))
     (c.in_err-add-in-7.ensures s (text found.string.now) h refl))
