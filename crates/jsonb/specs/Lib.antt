@@ -41,7 +41,7 @@ pub use Rattle.jsonb_keypath.specs.KeyPathViews
 pub use Rattle.jsonb_raw.specs.declared.owned.OwnedJsonb
 pub use Rattle.jsonb_raw.specs.Documents
 pub use Rattle.jsonb_raw.specs.Leaves
-pub use Rattle.jsonb_raw.specs.LeafDocuments
+pub use Rattle.jsonb_raw.specs.Making
 pub use Rattle.jsonb_raw.specs.Places
 pub use Rattle.jsonb_raw.specs.SortableKey
 pub use Rattle.jsonb_raw.specs.KeyAnswer

@@ -1,5 +1,6 @@
 -- The rows of leaves, and the columns that they make.
 use Rattle.std.proofs.Common.{◌≡◌, ◌+◌, ◌≤◌, ◌<◌, ◌++◌, ℕ, zero, suc, Bool, true, false, List, [], ◌∷◌, map, take, length, get_or, refl, sym, ap, add-one, ◌∙◌, arith, append-nil, nat_le, ◌&&◌}
+use Rattle.jsonb.specs.KeyPathViews.{key_paths_view}
 use Rattle.std.proofs.lemmas.Bool.Decides.{nat_tests}
 use Rattle.std.specs.List.{AllZip, concat}
 use Rattle.std.proofs.lemmas.List.{map-append, length-append}
@@ -9,7 +10,7 @@ use Rattle.jsonb.specs.KeyPathText.{key_path_text}
 use Rattle.jsonb.specs.KeyPathGrammar.{Key}
 use Rattle.jsonb.specs.KeyPaths.{KeyPaths}
 use Rattle.jsonb.specs.OwnedJsonb.{OwnedJsonb}
-use Rattle.jsonb_raw.specs.LeafDocuments.{IsLeafDocument}
+use Rattle.jsonb_raw.specs.Making.{IsPairOf}
 use Rattle.jsonb_raw.specs.Leaves.{Leaf}
 use Rattle.jsonb_doc.specs.Format.{Decodes}
 use Rattle.jsonb_c.specs.Columns.{positions_from}
@@ -76,7 +77,7 @@ take_all (x ∷ xs) zero le = absurd (omega arith)
 take_all (x ∷ xs) (suc i) le = ap (λ ys. x ∷ ys) (take_all xs i (omega arith))
 
 -- the rows of documents of the leaves are rows of the leaves
-pub rows_of_leaves : (form : Form) (found : List (KeyPaths × OwnedJsonb)) (all : List Leaf) → AllZip (IsLeafDocument form) found all
+pub rows_of_leaves : (form : Form) (found : List (KeyPaths × OwnedJsonb)) (all : List Leaf) → AllZip (IsPairOf key_paths_view form) found all
     → AllZip (IsRowOfLeaf form) all (map leaf_row found)
 rows_of_leaves form [] [] each = tt
 rows_of_leaves form [] (leaf ∷ all) each = absurd each

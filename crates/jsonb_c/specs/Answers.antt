@@ -7,7 +7,7 @@ use Rattle.jsonb_doc.specs.Answer.{and_then}
 use Rattle.jsonb_doc.specs.Payload.{Form}
 use Rattle.jsonb_doc.specs.Format.{Decodes}
 use Rattle.jsonb_doc.specs.Tree.{Tree}
-use Rattle.jsonb_raw.specs.Casts.{bool_number}
+use Rattle.std.specs.Int.{from_bool}
 use Rattle.jsonb.specs.Compare.{Truth}
 use Rattle.jsonb_c.specs.Status.{code}
 use Rattle.jsonb_c.specs.declared.status.Status.{Status}
@@ -55,7 +55,7 @@ Delivers (Err e) old new len status = DeliversNothing (Refused e) old new len st
 
 -- 0 for false, 1 for true, 2 for unknown.
 abbrev pub truth_byte : Truth → ℕ
-truth_byte truth = unwrap_or (option_map bool_number truth) 2
+truth_byte truth = unwrap_or (option_map from_bool truth) 2
 
 -- Holds if the value is delivered; it is unchanged if there is none or the call fails.
 abbrev pub Shows : {A : Type 0} → Found A → A → A → ℕ → Type 0

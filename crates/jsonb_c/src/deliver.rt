@@ -1,7 +1,7 @@
 //! Results written to the caller's memory.
 
 ghost use Rattle.std.specs.Prelude.{◌≡◌, ◌≤◌, ◌+◌, ◌++◌, take, drop, length, string_bytes};
-ghost use Rattle.jsonb_raw.specs.Casts.{bool_number};
+ghost use Rattle.std.specs.Int.{from_bool};
 ghost use Rattle.jsonb_c.specs.Status.{code};
 ghost use Rattle.jsonb_c.specs.Answers.{Delivers, DeliversBytes, Shows, always, found_as, truth_byte};
 ghost use Rattle.jsonb_c.specs.Private.Buffers.{Places};
@@ -99,7 +99,7 @@ pub(crate) fn truth_byte(truth: Option<bool>) -> u8
 }
 
 pub(crate) fn bool_byte(value: bool) -> u8
-    ensures { result ≡ bool_number value }
+    ensures { result ≡ from_bool value }
 {
     u8::from(value)
 }
@@ -119,7 +119,7 @@ pub(crate) fn store_truth(answer: Result<Option<bool>, Error>, truth: &mut u8) -
 
 /// Stores a Boolean, or returns the status of the error.
 pub(crate) fn store_bool(answer: Result<bool, Error>, truth: &mut u8) -> u32
-    ensures { Shows (found_as bool_number (always answer)) truth.old truth.new result }
+    ensures { Shows (found_as from_bool (always answer)) truth.old truth.new result }
 {
     match answer {
         Ok(value) => {
@@ -132,7 +132,7 @@ pub(crate) fn store_bool(answer: Result<bool, Error>, truth: &mut u8) -> u32
 
 /// Stores a Boolean, or returns the status if there is none or the call failed.
 pub(crate) fn store_found_bool(answer: Result<Option<bool>, Error>, truth: &mut u8) -> u32
-    ensures { Shows (found_as bool_number answer) truth.old truth.new result }
+    ensures { Shows (found_as from_bool answer) truth.old truth.new result }
 {
     match answer {
         Ok(Some(value)) => {

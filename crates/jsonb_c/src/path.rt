@@ -8,7 +8,7 @@ ghost use Rattle.jsonb.specs.SelectorAnswers.{first_item, single_or_array};
 ghost use Rattle.jsonb_c.specs.Answers.{Delivers, DeliversNothing, Shows, ShowsAs, With, WritesResult, truth_byte};
 ghost use Rattle.jsonb_c.specs.Calls.{SelectsItem, TellsExistence, TellsTruth, mode_of, one_array};
 ghost use Rattle.jsonb_c.specs.Status.{code};
-ghost use Rattle.jsonb_raw.specs.Casts.{bool_number};
+ghost use Rattle.std.specs.Int.{from_bool};
 ghost use Rattle.jsonb_c.specs.Prepared.{json_steps};
 ghost use Rattle.jsonb_c.specs.Private.Views.{pick_of};
 ghost use Rattle.jsonb_c.specs.declared.status.Status.TheVariants.{Answered, NoPath, NotJsonPath};
@@ -158,7 +158,7 @@ pub extern "C" fn jdoc_path_exists(
 ) -> u32
     ensures kept { path.new.value ≡ path.old.value }
     ensures exists { MatchOption (json_steps path.old.value) ((truth.new ≡ truth.old) × (result ≡ code NoPath))
-        (λ steps. TellsExistence (mode_of strict) steps document.now (ShowsAs bool_number truth.old truth.new result)) }
+        (λ steps. TellsExistence (mode_of strict) steps document.now (ShowsAs from_bool truth.old truth.new result)) }
 {
     let Some(kept) = path.take(alloc) else {
         return Status::NoPath.to_u32();
@@ -177,7 +177,7 @@ fn store_exists(
     truth: &mut u8,
 ) -> u32
     ensures { MatchOption (json_steps (Some path.now)) ((truth.new ≡ truth.old) × (result ≡ code NoPath))
-        (λ steps. TellsExistence (mode_of strict) steps document.now (ShowsAs bool_number truth.old truth.new result)) }
+        (λ steps. TellsExistence (mode_of strict) steps document.now (ShowsAs from_bool truth.old truth.new result)) }
 {
     match path.json() {
         Some(steps) => {

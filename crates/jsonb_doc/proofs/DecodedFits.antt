@@ -6,8 +6,8 @@ use Rattle.jsonb_doc.specs.Payload.{Form, canonical, number_of}
 use Rattle.jsonb_doc.specs.Format.{header, HeadedBy, AreKeys, key_bytes, IsContent, AreEntries, AreValues, IsDocument, Decodes}
 use Rattle.jsonb_doc.specs.Limits.{content_size, elements_size, values_size, IsInRange, AreInRange, ValuesAreInRange, HasShortParts, HasShortElements, HasShortValues, AreShortKeys, IsWithinLimits, Fits}
 use Rattle.jsonb_doc.proofs.CanonicalLemmas.{in_any}
-use Rattle.jsonb_doc.proofs.Sizes.{extension_size, length-array, length-object, length-contents}
-use Rattle.jsonb_doc.proofs.PayloadsRead.{AreBytes-left, AreBytes-right, number_within, extension_within}
+use Rattle.jsonb_doc.proofs.Sizes.{length-array, length-object, length-contents}
+use Rattle.jsonb_doc.proofs.PayloadsRead.{AreBytes-left, AreBytes-right, number_within}
 
 -- the parts of bytes are bytes
 pub joined_bytes : (bytes front back : List ℕ) → bytes ≡ front ++ back → AreBytes bytes → AreBytes front × AreBytes back
@@ -26,7 +26,7 @@ mutual
   content_in_range (boolean b) kind bytes all h = tt
   content_in_range (number n) kind bytes all h = (number_within bytes n all h.1).0
   content_in_range (text s) kind bytes all h = h.2
-  content_in_range (extension x) kind bytes all h = (extension_within bytes x all h.1).0
+  content_in_range (extension x) kind bytes all h = h.1
   content_in_range (array ts) kind bytes all (is, c) =
       entries_in_range ts c.words c.contents (headed_bytes bytes 4 (count ts) c.words c.contents c.headed all) c.parts
   content_in_range (object ps) kind bytes all (is, c) =
@@ -55,7 +55,7 @@ mutual
   canonical_is_shortest (boolean b) kind bytes all h = omega arith
   canonical_is_shortest (number n) kind bytes all h = (number_within bytes n all h.1).1
   canonical_is_shortest (text s) kind bytes all h = omega (arith, ap length h.1)
-  canonical_is_shortest (extension x) kind bytes all h = omega (arith, extension_size bytes x h.1)
+  canonical_is_shortest (extension x) kind bytes all h = omega (arith, ap length h.2)
   canonical_is_shortest (array ts) kind bytes all (is, c) =
       let inner = headed_bytes bytes 4 (count ts) c.words c.contents c.headed all in
       omega (arith, length-array number_of bytes ts c, entries_are_shortest ts c.words c.contents inner c.parts)

@@ -4,7 +4,8 @@ use Rattle.std.specs.Prelude.{if◌then◌else◌, nat_lt, filter}
 use Rattle.jsonb_doc.specs.Number.{Number, int64, uint64, decimal64, decimal128, zero_number}
 use Rattle.jsonb_doc.specs.Extension.{binary, date, timestamp, timestamp_tz, interval}
 use Rattle.jsonb_doc.specs.Tree.{Tree, null, boolean, number, text, extension, array, object, trees_of, pairs_of}
-use Rattle.jsonb_doc.specs.Payload.{canonical, number_reader, number_of, extension_of}
+use Rattle.jsonb_doc.specs.Payload.{canonical, number_reader, number_of}
+use Rattle.jsonb_doc.specs.Private.Payloads.{extension_of}
 use Rattle.jsonb_doc.specs.AnyBytes.Unsupported.{is_unsupported}
 use Rattle.jsonb_doc.specs.Private.Canonical.{document}
 use Rattle.jsonb_doc.specs.Depth.{deepest}

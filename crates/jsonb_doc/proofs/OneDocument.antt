@@ -7,7 +7,6 @@ use Rattle.jsonb_doc.specs.Payload.{canonical, number_reader}
 use Rattle.jsonb_doc.specs.Format.{header, entry_word, scalar_header, array_header, object_header, key_words, key_bytes, IsContent, AreEntries, AreValues, Decodes, IsDocument}
 use Rattle.jsonb_doc.specs.Private.Canonical.{kind_of, content, words, contents, value_words, value_contents, scalar_document, document}
 use Rattle.jsonb_doc.proofs.Entries.{canonical_payload}
-use Rattle.jsonb_doc.proofs.PayloadsRead.{extension_within}
 use Rattle.jsonb_doc.proofs.DecodedFits.{headed_bytes, joined_bytes}
 
 mutual
@@ -19,7 +18,7 @@ mutual
   canonical_content (boolean false) kind bytes all h = h
   canonical_content (number n) kind bytes all h = (h.0, canonical_payload bytes n h.1)
   canonical_content (text s) kind bytes all h = (h.0, h.1)
-  canonical_content (extension x) kind bytes all h = (h.0, (extension_within bytes x all h.1).1)
+  canonical_content (extension x) kind bytes all h = (h.0, h.2)
   canonical_content (array ts) kind bytes all (is, c) =
       let inner = headed_bytes bytes 4 (count ts) c.words c.contents c.headed all in
       let same = canonical_entries ts c.words c.contents inner c.parts in

@@ -6,6 +6,7 @@ use Rattle.jsonb_doc.specs.Payload.{NumberReader}
 use Rattle.jsonb_doc.specs.Format.{BeginWith, AreKeys, key_words, key_bytes, IsContent, AreEntries, AreValues, IsDocument}
 use Rattle.jsonb_doc.proofs.WordLemmas.{append_cancel}
 use Rattle.jsonb_doc.proofs.Entries.{BeginWith-unique, BeginWith-long}
+use Rattle.jsonb_doc.proofs.ExtensionsRead.{extension_back}
 use Rattle.jsonb_doc.proofs.ScalarLemmas.{null_content, false_content, true_content, text_content, number_content, extension_content, some_injective}
 use Rattle.jsonb_doc.proofs.Containers.{HeadedBy-unique, length-words, entries_of, count-values, length-key_words, scalar_document}
 
@@ -39,7 +40,7 @@ module _ (number_at : NumberReader) where
         ap text (sym h.1) ∙ sym found.0
     content_unique (extension x) t' kind bytes h g =
         let found = extension_content number_at kind bytes t' h.0 g in
-        ap extension (some_injective (sym h.1 ∙ found.2)) ∙ sym found.1
+        ap extension (some_injective (sym (rw h.2 (extension_back x h.1)) ∙ found.2)) ∙ sym found.1
     content_unique (array ts) (array ts') kind bytes h g =
         let a = h.1 in
         let b = g.1 in

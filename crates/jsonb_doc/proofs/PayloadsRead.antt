@@ -14,7 +14,8 @@ use Rattle.byteorder.specs.Numbers.{big_number-reads_back, big_from-lt, big_from
 use Rattle.jsonb_doc.specs.Bytes.{AreBytes}
 use Rattle.jsonb_doc.specs.Number.{Number, Variant, int64, uint64, decimal64, decimal128, number_from, zero_number, FitsNumber}
 use Rattle.jsonb_doc.specs.Extension.{Extension, binary, date, timestamp, timestamp_tz, interval, FitsExtension}
-use Rattle.jsonb_doc.specs.Payload.{is_width, signed, fixed, fixed_bytes, signed_size, unsigned_width, number_of, extension_of, number_payload, number_payload_of, extension_payload}
+use Rattle.jsonb_doc.specs.Payload.{is_width, signed, fixed, fixed_bytes, signed_size, unsigned_width, number_of, number_payload, number_payload_of, extension_payload}
+use Rattle.jsonb_doc.specs.Private.Payloads.{extension_of}
 use Rattle.jsonb_doc.proofs.CanonicalLemmas.{fits_from}
 use Rattle.jsonb_doc.proofs.Sizes.{same_length, number_cases, extension_cases}
 

@@ -3,10 +3,12 @@ use Rattle.std.proofs.Common.{◌≡◌, ◌≢◌, ℕ, List, [], ◌++◌, len
 use Rattle.std.specs.Prelude.{MatchResult, IfOk}
 use Rattle.std.proofs.lemmas.List.{length-append, append-nil}
 use Rattle.jsonb_doc.specs.Payload.{any, number_reader}
-use Rattle.jsonb_doc.specs.Format.{HeadedBy, entry_word, IsContent, Decodes, IsContainer, HasFirstEntry, AreNone}
-use Rattle.jsonb_doc.specs.AnyBytes.Parts.{HasItsWords}
+use Rattle.jsonb_doc.specs.Format.{HeadedBy, entry_word, IsContent, Decodes, IsContainer, HasFirstEntry}
+use Rattle.jsonb_doc.specs.AnyBytes.Parts.{AreNone, HasItsWords}
 use Rattle.jsonb_doc.specs.AnyBytes.Items.{IsItemOf, IsRootOf}
-use Rattle.jsonb_doc.specs.Tree.{Tree}
+use Rattle.jsonb_doc.specs.Bytes.{AreBytes}
+use Rattle.jsonb_doc.specs.Tree.{Tree, extension}
+use Rattle.jsonb_doc.specs.View.{extension_view}
 use Rattle.jsonb_doc.specs.Private.ShapeOf.{IsShapeOf}
 use Rattle.jsonb_doc.specs.AnyBytes.Roots.{IsRootShape, HasReadableRoot}
 use Rattle.jsonb_doc.specs.declared.shape.Shape.{Shape}
@@ -25,6 +27,8 @@ use Rattle.jsonb_doc.specs.declared.error.Error.{Error}
 use Rattle.jsonb_doc.specs.declared.item.Item.{Item}
 use Rattle.jsonb_doc.specs.declared.item.Item.TheVariants.{Array, Object}
 use Rattle.jsonb_doc.proofs.Containers.{HasContent-headed, IsCut-same}
+use Rattle.jsonb_doc.proofs.DecodedFits.{headed_bytes}
+use Rattle.jsonb_doc.proofs.PayloadsRead.{extension_within}
 
 -- a container that is read has a header
 pub item_headed : (content : List ℕ) (item : Item) → IsItemOf 5 content item
@@ -88,14 +92,21 @@ module _ (bytes : List ℕ) where
   readable_root (ObjectOf p) cut = inr (inl (object_root p cut))
   readable_root (Scalar e) cut = inr (inr (lone_root e cut (λ kind content. kind ≢ 5) cut.2.scalar))
 
-  scalar_shape : (e : StoredEntry) → IsCut bytes (Scalar e) → (shape : Shape) → IsShapeOf (kind_number e.kind) e.content.now shape
-      → IsRootShape bytes shape
-  scalar_shape e cut (shapes.Text s) h = lone_root e cut (λ kind content. (kind ≡ 1) × (content ≡ s.now)) (h.0, sym h.1)
-  scalar_shape e cut shapes.Array h = absurd h
-  scalar_shape e cut shapes.Object h = absurd h
-  scalar_shape e cut _ h = (h.0, scalar_decodes e cut h.0 h.1, h.2)
+  lone_bytes : AreBytes bytes → (e : StoredEntry) → IsCut bytes (Scalar e) → AreBytes e.content.now
+  lone_bytes all e (rest, headed, lone) = headed_bytes bytes 1 0 (entry_word (kind_number e.kind) (length e.content.now)) e.content.now
+      (subst (HeadedBy bytes 1 0) lone.start.joined headed) all
 
-  pub shape_root : (e : StoredEntry) → IsCut bytes (Scalar e) → (r : Result Shape Error) → IfOk r (IsShapeOf (kind_number e.kind) e.content.now)
-      → IfOk r (IsRootShape bytes)
-  shape_root e cut (Ok shape) h = scalar_shape e cut shape h
-  shape_root e cut (Err x) h = tt
+  scalar_shape : AreBytes bytes → (e : StoredEntry) → IsCut bytes (Scalar e) → (shape : Shape)
+      → IsShapeOf (kind_number e.kind) e.content.now shape → IsRootShape bytes shape
+  scalar_shape all e cut (shapes.Text s) h = lone_root e cut (λ kind content. (kind ≡ 1) × (content ≡ s.now)) (h.0, sym h.1)
+  scalar_shape all e cut (shapes.Extension x) h =
+      let read = extension_within e.content.now (extension_view x) (lone_bytes all e cut) h.1 in
+      (extension (extension_view x), scalar_decodes e cut (extension (extension_view x)) (h.0, read.0, read.1), refl)
+  scalar_shape all e cut shapes.Array h = absurd h
+  scalar_shape all e cut shapes.Object h = absurd h
+  scalar_shape all e cut _ h = (h.0, scalar_decodes e cut h.0 h.1, h.2)
+
+  pub shape_root : AreBytes bytes → (e : StoredEntry) → IsCut bytes (Scalar e) → (r : Result Shape Error)
+      → IfOk r (IsShapeOf (kind_number e.kind) e.content.now) → IfOk r (IsRootShape bytes)
+  shape_root all e cut (Ok shape) h = scalar_shape all e cut shape h
+  shape_root all e cut (Err x) h = tt

@@ -4,7 +4,8 @@ use Rattle.std.specs.Prelude.{IsUtf8, MatchResult, IsOk, IsErrOf}
 use Rattle.jsonb_doc.specs.Number as spec
 use Rattle.jsonb_doc.specs.Extension.{Extension}
 use Rattle.jsonb_doc.specs.Tree.{Tree, null, boolean, number, text, extension, array, object}
-use Rattle.jsonb_doc.specs.Payload.{NumberReader, any, number_of, extension_of}
+use Rattle.jsonb_doc.specs.Payload.{NumberReader, any, number_of}
+use Rattle.jsonb_doc.specs.Private.Payloads.{extension_of}
 use Rattle.jsonb_doc.specs.AnyBytes.Unsupported.{number_or_unsupported, is_unsupported, WouldDecode}
 use Rattle.jsonb_doc.specs.Format.{IsContent, Decodes}
 use Rattle.jsonb_doc.specs.Private.Checking.{HasContent, HasDocument, IsValidationError, Validates}
@@ -12,6 +13,7 @@ use Rattle.jsonb_doc.specs.Private.Payloads.{IsNoNumber}
 use Rattle.jsonb_doc.specs.declared.error.Error.{Error}
 use Rattle.jsonb_doc.specs.declared.error.Error.TheVariants.{InvalidJsonb, UnsupportedNumber}
 use Rattle.jsonb_doc.proofs.Entries.{kind_below, document_lenient}
+use Rattle.jsonb_doc.proofs.ExtensionsRead.{extension_back}
 
 module _ (number_at : NumberReader) (kind : ℕ) (bytes : List ℕ) where
   pub empty_only : kind ≢ 1 → kind ≢ 2 → kind ≢ 5 → kind ≢ 6 → HasContent kind bytes number_at → bytes ≡ []
@@ -64,7 +66,7 @@ module _ (number_at : NumberReader) (kind : ℕ) (bytes : List ℕ) where
   pub extension_content : (t : Tree) → kind ≡ 6 → IsContent number_at t kind bytes → (x : Extension) × (t ≡ extension x) × (extension_of bytes ≡ Some x)
   extension_content (boolean true) is h = absurd (omega arith)
   extension_content (boolean false) is h = absurd (omega arith)
-  extension_content (extension x) is h = (x, refl, h.1)
+  extension_content (extension x) is h = (x, refl, rw h.2 (extension_back x h.1))
   extension_content _ is h = absurd (omega (arith, h.0))
 
   pub text_only : kind ≡ 1 → HasContent kind bytes number_at → IsUtf8 bytes

@@ -1,10 +1,8 @@
 -- What an array's builder holds.
-use Rattle.std.specs.Prelude.{ℕ, ◌+◌, ◌/◌, ◌^◌, ◌≤◌, ◌⊎◌, List, [], ◌∷◌, ◌++◌, length, Result, MatchResult}
+use Rattle.std.specs.Prelude.{ℕ, ◌+◌, ◌/◌, ◌^◌, ◌≤◌, ◌⊎◌, List, [], ◌∷◌, ◌++◌, length, Result}
 use Rattle.jsonb_doc.specs.declared.error.Error.{Error}
-use Rattle.jsonb_doc.specs.declared.error.Error.TheVariants.{TooLarge}
 use Rattle.jsonb_doc.specs.Tree.{Tree, array, trees_of}
-use Rattle.jsonb_doc.specs.Answer.{IsOutOfMemory, ◌or◌when◌}
-use Rattle.jsonb_doc.specs.Limits.{IsTooLarge}
+use Rattle.jsonb_doc.specs.Limits.{Builds}
 use Rattle.jsonb_doc.specs.Payload.{Form, number_reader}
 use Rattle.jsonb_doc.specs.Format.{AreEntries}
 use Rattle.jsonb_doc.specs.Encoding.{IsTooLong, item_word, item_content}
@@ -30,12 +28,9 @@ add_entry parts item = record { words = parts.words ++ item_word item; contents 
 abbrev pub HoldsElements : Form → Parts → List Tree → Type 0
 HoldsElements form parts ts = AreEntries (number_reader form) (trees_of ts) parts.words parts.contents
 
--- Holds if the tree is appended to these: the builder then holds it too, or an allocation failed, or the array is too
--- large.
-abbrev pub PushesElement : Form → List Tree → Tree → Result (Unit {0}) Error → Parts → Type 0
-PushesElement form ts t answer after =
-    MatchResult answer (λ _. HoldsElements form after (ts ++ t ∷ []))
-    (IsOutOfMemory or TooLarge when IsTooLarge form (array (trees_of (ts ++ t ∷ []))))
+-- Holds if the builder then holds these trees, or an allocation failed, or the array is too large.
+abbrev pub PushesElement : Form → List Tree → Result (Unit {0}) Error → Parts → Type 0
+PushesElement form ts answer after = Builds form (array (trees_of ts)) answer (λ _. HoldsElements form after ts)
 
 -- Holds if one more entry for the item exceeds the limits.
 abbrev pub IsTooLargeElement : Parts → Item → Type 0

@@ -11,8 +11,7 @@ use Rattle.jsonb_doc.specs.Representation.DocumentBuilder.{Holds}
 
 -- Holds if an allocation failed, or the error is `TooLarge` and documents of what the level has exceed the limits.
 abbrev pub IsFailureAt : Form → Level → EventError → Type 0
-IsFailureAt form level e =
-    (e ≡ Failed OutOfMemory) ⊎ ((e ≡ Failed TooLarge) × IsTooLarge form (so_far level))
+IsFailureAt form level e = (e ≡ Failed OutOfMemory) ⊎ ((e ≡ Failed TooLarge) × IsTooLarge form (so_far level))
 
 -- Holds if the result is that of an event which leads to `after`: then the builder has it. After an error the builder
 -- has the state `before` the event.

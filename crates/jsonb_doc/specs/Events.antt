@@ -1,5 +1,6 @@
 -- Documents as events: what is there before and after each.
 use Rattle.std.specs.Prelude.{ℕ, Bool, true, List, [], ◌∷◌, ◌++◌, Option, Some, None, is_some, is_none, unwrap_or, Result, Ok, Err, if◌then◌else◌}
+use Rattle.std.specs.Result.{result_map_both}
 use Rattle.jsonb_doc.specs.Tree.{Tree, null, array, object, trees_of, pairs_of}
 use Rattle.jsonb_doc.specs.ObjectBuilder.{has_key, insert_pair}
 use Rattle.jsonb_doc.specs.declared.error.Error.TheVariants.{ObjectDuplicateKey}
@@ -19,11 +20,9 @@ pub record State : Type 0 where
   pub around : List Level
 
 pub data Event : Type 0 where
-  array_begins : Event
-  object_begins : Event
+  array_begins object_begins ends : Event
   key_is : List ℕ → Event
   value_is : Tree → Event
-  ends : Event
 
 abbrev pub no_events : State
 no_events = record { inner = root None; around = [] }
@@ -54,8 +53,7 @@ container (object_of ps None) = Some (object (pairs_of ps))
 container _ = None
 
 abbrev pub with_inner : List Level → Result Level EventError → Result State EventError
-with_inner around (Ok level) = Ok (record { inner = level; around = around })
-with_inner around (Err e) = Err e
+with_inner around r = result_map_both (λ level. record { inner = level; around = around }) (λ e. e) r
 
 abbrev pub with_value : Tree → Level → Result Level EventError
 with_value t level = if takes_value level then Ok (filled t level) else Err OutOfOrder

@@ -1,14 +1,12 @@
 -- What an object's builder holds, and the bytes that it builds.
-use Rattle.std.specs.Prelude.{◌≡◌, ◌⊎◌, ℕ, ◌+◌, ◌^◌, ◌≤◌, Bool, List, [], ◌∷◌, length, Result, MatchResult}
+use Rattle.std.specs.Prelude.{◌≡◌, ◌⊎◌, ℕ, ◌+◌, ◌^◌, ◌≤◌, Bool, List, [], ◌∷◌, length, Result}
 use Rattle.std.specs.List.{list_any, AllZip}
 use Rattle.std.specs.Ordering.{nat_cmp, match_ordering}
 use Rattle.std.specs.Cmp.Lexicographic.{slice_cmp}
 use Rattle.std.specs.Str.{bytes_eq}
 use Rattle.jsonb_doc.specs.declared.error.Error.{Error}
-use Rattle.jsonb_doc.specs.declared.error.Error.TheVariants.{TooLarge}
 use Rattle.jsonb_doc.specs.Tree.{Tree, object, pairs_of}
-use Rattle.jsonb_doc.specs.Answer.{IsOutOfMemory, ◌or◌when◌}
-use Rattle.jsonb_doc.specs.Limits.{IsTooLarge}
+use Rattle.jsonb_doc.specs.Limits.{Builds}
 use Rattle.jsonb_doc.specs.Payload.{Form, number_reader}
 use Rattle.jsonb_doc.specs.Format.{IsContent}
 use Rattle.jsonb_doc.specs.Encoding.{EntryParts, IsTooLong, item_content}
@@ -33,13 +31,9 @@ insert_pair key x (p ∷ ps) =
 abbrev pub HoldsPairs : Form → List (List ℕ × EntryParts) → List (List ℕ × Tree) → Type 0
 HoldsPairs form es ps = AllZip (λ e p. (e.0 ≡ p.0) × IsContent (number_reader form) p.1 e.1.0 e.1.1) es ps
 
--- Holds if the tree is added with the key: the builder then holds the member too, or an allocation failed, or the
--- object is too large.
-abbrev pub PushesPair :
-    Form → List (List ℕ × Tree) → List ℕ → Tree → Result (Unit {0}) Error → List (List ℕ × EntryParts) → Type 0
-PushesPair form ps key t answer after =
-    MatchResult answer (λ _. HoldsPairs form after (insert_pair key t ps))
-    (IsOutOfMemory or TooLarge when IsTooLarge form (object (pairs_of (insert_pair key t ps))))
+-- Holds if the builder then holds these pairs, or an allocation failed, or the object is too large.
+abbrev pub PushesPair : Form → List (List ℕ × Tree) → Result (Unit {0}) Error → List (List ℕ × EntryParts) → Type 0
+PushesPair form ps answer after = Builds form (object (pairs_of ps)) answer (λ _. HoldsPairs form after ps)
 
 -- Holds if one more member of the key and the item exceeds the limits.
 abbrev pub IsTooLargePair : List (List ℕ × EntryParts) → List ℕ → Item → Type 0

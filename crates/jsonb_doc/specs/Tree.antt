@@ -1,5 +1,5 @@
 -- A JSON document as a mathematical value. A string is its UTF-8 bytes.
-use Rattle.std.specs.Prelude.{ℕ, suc, Bool, List, [], ◌∷◌, Option, Some, None, if◌then◌else◌}
+use Rattle.std.specs.Prelude.{ℕ, Bool, List, [], ◌∷◌, length, Option, Some, None, if◌then◌else◌}
 use Rattle.std.specs.Option.{option_and_then}
 use Rattle.std.specs.Str.{bytes_eq}
 use Rattle.jsonb_doc.specs.Number.{Number}
@@ -30,8 +30,7 @@ elements no_trees = []
 elements (tree t ts) = t ∷ elements ts
 
 abbrev pub count : Trees → ℕ
-count no_trees = 0
-count (tree t ts) = suc (count ts)
+count ts = length (elements ts)
 
 abbrev pub keys : Pairs → List (List ℕ)
 keys no_pairs = []

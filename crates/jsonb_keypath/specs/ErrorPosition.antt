@@ -1,5 +1,6 @@
 -- The position at which text ceases to be the beginning of a path.
 use Rattle.std.specs.Prelude.{ℕ, ◌-◌, List, length, Option, Some, None, is_some, if◌then◌else◌}
+use Rattle.std.specs.Option.{option_map_or}
 use Rattle.jsonb_keypath.specs.Rules.{Parsed, Rule, give, ◌>>=◌, ◌>>◌, ◌</>◌, literal}
 use Rattle.jsonb_keypath.specs.Tokens.{ws, text, is_stop, is_quote}
 use Rattle.jsonb_keypath.specs.KeyPathGrammar.{key_list, key_path}
@@ -10,8 +11,7 @@ perhaps rule = (rule >> give tt) </> give tt
 
 -- The input after what was read; all of it after a failure.
 abbrev pub rest_after : {A : Type 0} → List ℕ → Parsed A → List ℕ
-rest_after input None = input
-rest_after input (Some (a, rest)) = rest
+rest_after input found = option_map_or (λ p. p.1) found input
 
 -- The number of bytes that the front reads, unless the text is accepted.
 abbrev pub error_position : {A B : Type 0} → (List ℕ → Option A) → Rule B → List ℕ → Option ℕ

@@ -46,6 +46,5 @@ without_quotes key = key
 -- Holds if the step is a 32-bit index, a plain name, or a quoted name without quotes and backslashes.
 abbrev pub IsPlainKey : Key → Type 0
 IsPlainKey (index i) = is_within (2 ^ 31) i ≡ true
-IsPlainKey (quoted_name text) =
-    (0 < length text) × (is_utf8 text ≡ true) × (list_all (is_unescaped is_quote) text ≡ true)
+IsPlainKey (quoted_name s) = (0 < length s) × (is_utf8 s ≡ true) × (list_all (is_unescaped is_quote) s ≡ true)
 IsPlainKey (unquoted_name text) = is_plain_name text ≡ true

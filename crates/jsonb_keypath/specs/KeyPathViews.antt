@@ -15,12 +15,9 @@ key_view (Index i) = index i
 key_view (QuotedName text) = quoted_name (cow_str_bytes text)
 key_view (Name text) = unquoted_name (cow_str_bytes text)
 
-abbrev pub keys_view : List KeyPath → List Key
-keys_view keys = map key_view keys
-
 -- The steps of a key path.
 abbrev pub key_paths_view : KeyPaths → List Key
-key_paths_view k = keys_view k.paths.items
+key_paths_view k = map key_view k.paths.items
 
 abbrev pub owned_key_view : OwnedKeyPath → Key
 owned_key_view (owned.Index i) = index i

@@ -7,8 +7,7 @@ use Rattle.jsonb_keypath.specs.Tokens.{unit}
 
 -- Holds if the rule reads at least one byte whenever it succeeds.
 abbrev pub ReadsSome : {A : Type 0} → Rule A → Type 0
-ReadsSome {A} rule =
-    (input : List ℕ) (a : A) (rest : List ℕ) → rule input ≡ Some (a, rest) → length rest < length input
+ReadsSome {A} rule = (input : List ℕ) (a : A) (rest : List ℕ) → rule input ≡ Some (a, rest) → length rest < length input
 
 -- Holds if the input is what the rule reads as these values, one after the other, and then the rest.
 abbrev pub IsRun : {A : Type 0} → Rule A → List ℕ → List A → List ℕ → Type 0

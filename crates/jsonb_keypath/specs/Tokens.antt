@@ -73,8 +73,7 @@ hex_digit = byte_as (λ b. if nat_lt (digit_value b) 16 then Some (digit_value b
 
 -- Reads four hexadecimal digits.
 unfoldable pub four_hex_digits : Rule ℕ
-four_hex_digits =
-    do a ← hex_digit; b ← hex_digit; c ← hex_digit; d ← hex_digit; give (((a * 16 + b) * 16 + c) * 16 + d)
+four_hex_digits = do a ← hex_digit; b ← hex_digit; c ← hex_digit; d ← hex_digit; give (((a * 16 + b) * 16 + c) * 16 + d)
 
 -- Reads a UTF-16 code unit: four hexadecimal digits after `\u`, in braces or without.
 unfoldable pub code_unit : Rule ℕ

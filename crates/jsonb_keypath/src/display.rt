@@ -7,7 +7,8 @@ ghost use Rattle.std.specs.Prelude.{Some, flat_map, map};
 ghost use Rattle.std.specs.Fmt.{WritesOnOk};
 ghost use Rattle.jsonb_keypath.specs.KeyPathText.{key_text, key_path_text};
 ghost use Rattle.jsonb_keypath.specs.Private.LaterKeys.{other_key_text};
-ghost use Rattle.jsonb_keypath.specs.KeyPathViews.{key_view, keys_view, key_paths_view, owned_key_view, owned_key_paths_view};
+ghost use Rattle.jsonb_keypath.specs.KeyPathViews.{key_view, key_paths_view, owned_key_view, owned_key_paths_view};
+ghost use Rattle.jsonb_keypath.specs.Private.KeysView.{keys_view};
 
 use crate::key_path::{KeyPath, KeyPaths};
 use crate::owned::{OwnedKeyPath, OwnedKeyPaths};

@@ -7,7 +7,8 @@ ghost use Rattle.std.specs.Prelude.{◌≡◌, [], ◌⊎◌, Option, None, Some
 ghost use Rattle.jsonb_doc.specs.declared.error.Error.TheVariants.{OutOfMemory, InvalidKeyPath};
 ghost use Rattle.jsonb_keypath.specs.KeyPathGrammar.{key, spaced_key, key_list, some_keys, no_keys, key_path};
 ghost use Rattle.jsonb_keypath.specs.Private.LaterKeys.{another_key};
-ghost use Rattle.jsonb_keypath.specs.KeyPathViews.{key_view, keys_view, key_paths_view};
+ghost use Rattle.jsonb_keypath.specs.KeyPathViews.{key_view, key_paths_view};
+ghost use Rattle.jsonb_keypath.specs.Private.KeysView.{keys_view};
 ghost use Rattle.jsonb_keypath.specs.Views.{read_as, ConsumesInput};
 ghost use Rattle.jsonb_doc.specs.Answer.{IsOutOfMemory, ◌or◌when◌};
 

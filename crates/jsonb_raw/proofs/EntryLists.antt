@@ -10,7 +10,7 @@ use Rattle.jsonb_doc.specs.Encoding.{EntryParts}
 use Rattle.jsonb_doc.proofs.TreeLists.{trees_of-elements, pairs_of-members}
 use Rattle.jsonb_doc.specs.Private.Lengths.{StandBefore}
 use Rattle.jsonb_doc.specs.Private.ObjectBytes.{words_of_entries, contents_of_entries}
-use Rattle.jsonb_raw.specs.Deletes.{change_at, change_value}
+use Rattle.jsonb_raw.specs.Deletes.{change_at}
 use Rattle.jsonb_raw.specs.Private.Cuts.{FitEntries}
 
 -- ---- children that are changed
@@ -21,7 +21,7 @@ changed_trees n change ts = trees_of (change_at n change (elements ts))
 
 -- the pairs with what is made of the value of the one at a position
 abbrev pub changed_pairs : ℕ → (Tree → Option Tree) → Pairs → Pairs
-changed_pairs n change ps = pairs_of (change_at n (change_value change) (members ps))
+changed_pairs n change ps = pairs_of (change_at n (λ p. option_map (λ t. (p.0, t)) (change p.1)) (members ps))
 
 -- ---- entries
 

@@ -6,10 +6,11 @@ use Rattle.jsonb_doc.specs.Proofs.Orderings.{nat_cmp-equal}
 use Rattle.jsonb_raw.proofs.Ranking.{Ranks, bytes_cmp, same_from_bytes_cmp, bytes_cmp_refl, Ranks-bytes_high_first, Ranks-text_bytes}
 use Rattle.jsonb_raw.proofs.NumberKeys.{Ranks-number_bytes, bounded_from_fits, ranks_alone}
 use Rattle.jsonb_raw.proofs.TreeKeys.{rank_boolean}
-use Rattle.jsonb_doc.proofs.CanonicalLemmas.{extension_back}
+use Rattle.jsonb_doc.proofs.ExtensionsRead.{extension_back}
 use Rattle.jsonb_doc.proofs.ScalarLemmas.{some_injective}
 use Rattle.jsonb_doc.specs.Extension.{FitsExtension}
-use Rattle.jsonb_doc.specs.Payload.{canonical, extension_of, extension_payload}
+use Rattle.jsonb_doc.specs.Payload.{canonical, extension_payload}
+use Rattle.jsonb_doc.specs.Private.Payloads.{extension_of}
 use Rattle.jsonb_doc.specs.Limits.{Fits, IsShort, HasShortParts, HasShortElements, HasShortValues, IsInRange, AreInRange, ValuesAreInRange}
 use Rattle.jsonb_doc.specs.Tree.{Tree, Trees, Pairs, count, keys}
 use Rattle.jsonb_doc.specs.Number.{Number, FitsNumber, number_cmp}

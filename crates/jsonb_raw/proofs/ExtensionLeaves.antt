@@ -5,7 +5,8 @@ use Rattle.std.specs.List.{AllByRecursion}
 use Rattle.std.specs.Map.{values_of}
 use Rattle.jsonb_doc.specs.Tree.{Tree, extension, array, object, Trees, no_trees, tree, Pairs, no_pairs, pair}
 use Rattle.jsonb_keypath.specs.KeyPathGrammar.{Key, index, unquoted_name}
-use Rattle.jsonb_raw.specs.Leaves.{Leaf, behind, leaves_at, leaves, leaves_of_trees, leaves_of_pairs}
+use Rattle.jsonb_raw.specs.Leaves.{Leaf, leaves_at, leaves, leaves_of_trees, leaves_of_pairs}
+use Rattle.jsonb_raw.specs.Private.LeafSteps.{behind}
 use Rattle.jsonb_raw.specs.NoExtension.{HasNoExtension}
 use Rattle.jsonb_raw.specs.Scalars.{is_extension_value}
 

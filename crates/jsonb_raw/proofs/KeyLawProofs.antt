@@ -25,7 +25,7 @@ use Rattle.jsonb_raw.specs.EqualityKey.{equality_key}
 
 pub ranked : (w : Width) (t u : Tree) (d : ℕ) (r s : List ℕ) → HasKey w t d → HasKey w u d → IsRest w d r → IsRest w d s
     → bytes_cmp (sortable_key w t d ++ r) (sortable_key w u d ++ s) ≡ ordering_then (tree_cmp t u) (bytes_cmp r s)
-ranked w t u d r s h k hr hs = keys_rank w t u d r s (h.in_range, lacks_extension t h.no_extension) (k.in_range, lacks_extension u k.no_extension) h.deep k.deep hr hs
+ranked w t u d r s h k hr hs = keys_rank w t u d r s (h.0, lacks_extension t h.1) (k.0, lacks_extension u k.1) h.2 k.2 hr hs
 
 alone : (w : Width) (t u : Tree) (d : ℕ) → HasKey w t d → HasKey w u d → bytes_cmp (sortable_key w t d) (sortable_key w u d) ≡ tree_cmp t u
 alone w t u d h k = ap₂ bytes_cmp (sym (append-nil (sortable_key w t d))) (sym (append-nil (sortable_key w u d)))
@@ -44,7 +44,7 @@ keys_order w t u h k = alone w t u 0 h k
 
 pub keys_tell_apart : (w : Width) (t u : Tree) → HasKey w t 0 → HasKey w u 0 → (sortable_key w t 0 ≡ sortable_key w u 0) ↔ IsTrue (is_equal t u)
 keys_tell_apart w t u h k = (
-  λ e. is_equal-true t u (equal_from_tree_cmp t u h.in_range k.in_range
+  λ e. is_equal-true t u (equal_from_tree_cmp t u h.0 k.0
       (sym (alone w t u 0 h k) ∙ ap (λ x. bytes_cmp x (sortable_key w u 0)) e ∙ bytes_cmp_refl (sortable_key w u 0))),
   λ e. keys_keep_equal w t u 0 h k e,
 )
@@ -67,7 +67,7 @@ ranks_with w t u made h k e = rw e (keys_order w t u h k, keys_tell_apart w t u 
 pub decoded_key : (w : Width) (form : Form) (bytes : List ℕ) (t : Tree) → AreBytes bytes → Decodes form bytes t → HasNoExtension t → deepest t < depths w
     → HasKey w t 0
 decoded_key w form bytes t all d none deep =
-    record { in_range = (decoded_fits form bytes t all d).0; no_extension = none; deep = omega (arith, deep) }
+    ((decoded_fits form bytes t all d).0, none, omega (arith, deep))
 
 -- the key of a document ranks as its tree
 pub decoded_ranks : (w : Width) (form : Form) (bytes made : List ℕ) (t : Tree) → AreBytes bytes → Decodes form bytes t → made ≡ sortable_key w t 0

@@ -18,7 +18,7 @@ use Rattle.jsonb_keypath.specs.KeyPathViews.{key_paths_view}
 use Rattle.jsonb_keypath.specs.KeyPathGrammar.{Key}
 use Rattle.jsonb_raw.specs.declared.owned.OwnedJsonb.{OwnedJsonb}
 use Rattle.jsonb_raw.specs.Leaves.{Leaf}
-use Rattle.jsonb_raw.specs.LeafDocuments.{IsLeafDocument}
+use Rattle.jsonb_raw.specs.Making.{IsPairOf}
 use Rattle.jsonb_raw.specs.Private.LeafSteps.{IsKept}
 use Rattle.jsonb_doc.proofs.Entries.{reads_number}
 use Rattle.jsonb_doc.proofs.ScalarLemmas.{number_content, some_injective}
@@ -61,7 +61,7 @@ values_found seen sees (Err e) whole (inr some) = some.4
 pub documents_found : (form : Form) (r : Result (Vec (KeyPaths × OwnedJsonb) Global) Error) (whole : List Leaf)
     → MatchResult r (λ found. AllZip (IsKept (λ t document. Decodes form document t)) found.items whole)
     (λ e. IsOutOfMemory e ⊎ Any (λ leaf. IsOutOfMemoryOrTooLarge form leaf.1 e) whole)
-    → MatchResult r (λ made. AllZip (IsLeafDocument form) made.items whole)
+    → MatchResult r (λ made. AllZip (IsPairOf key_paths_view form) made.items whole)
     (IsOutOfMemory or TooLarge when Any (λ leaf. IsTooLarge form leaf.1) whole)
 documents_found form (Ok found) whole h = h
 documents_found form (Err e) whole (inl memory) = inl memory

@@ -10,7 +10,8 @@ use Rattle.jsonb_doc.specs.Limits.{IsShort, HasShortParts, HasShortElements, Has
 use Rattle.jsonb_doc.specs.declared.error.Error.{Error}
 use Rattle.jsonb_doc.specs.declared.error.Error.TheVariants.{TooLarge}
 use Rattle.jsonb_keypath.specs.KeyPathGrammar.{Key, index, unquoted_name}
-use Rattle.jsonb_raw.specs.Leaves.{Leaf, behind, is_leaf, leaves_at, leaves, leaves_of_trees, leaves_of_pairs}
+use Rattle.jsonb_raw.specs.Leaves.{Leaf, is_leaf, leaves_at, leaves, leaves_of_trees, leaves_of_pairs}
+use Rattle.jsonb_raw.specs.Private.LeafSteps.{behind}
 use Rattle.jsonb_raw.proofs.LeafPlaces.{AllByRecursion-append}
 
 short_number : (variant : Variant) (whole : ℤ) → widest_number variant whole ≤ 18

@@ -10,7 +10,8 @@ use Rattle.jsonb_doc.specs.Format.{AreKeys, IsBelowFirst}
 use Rattle.jsonb_doc.specs.Limits.{IsInRange, AreInRange, ValuesAreInRange, Fits}
 use Rattle.jsonb_doc.proofs.WordLemmas.{bytes_eq-true, bytes_eq-same}
 use Rattle.jsonb_keypath.specs.KeyPathGrammar.{Key, index, unquoted_name}
-use Rattle.jsonb_raw.specs.Leaves.{Leaf, behind, is_leaf, leaves_at, leaves, leaves_of_trees, leaves_of_pairs}
+use Rattle.jsonb_raw.specs.Leaves.{Leaf, is_leaf, leaves_at, leaves, leaves_of_trees, leaves_of_pairs}
+use Rattle.jsonb_raw.specs.Private.LeafSteps.{behind}
 use Rattle.jsonb_raw.specs.Places.{tree_at_steps}
 use Rattle.jsonb_raw.specs.Private.Steps.{child_met}
 use Rattle.jsonb_raw.proofs.ChildLemmas.{split_at, from_front}

@@ -22,8 +22,8 @@ use Rattle.jsonb_raw.specs.declared.functions.path.leaves.Step.{Step}
 use Rattle.jsonb_raw.specs.declared.level.ChildCursor.{ChildCursor}
 use Rattle.jsonb_raw.specs.Scalars.{is_array}
 use Rattle.jsonb_raw.specs.Private.Levels.{EntryPrefix, parts, parts_of_trees, parts_of_pairs, IsKeyOf, HasAllLeft}
-use Rattle.jsonb_raw.specs.Leaves.{Leaf, behind, is_leaf, leaves_at, leaves, leaves_of_trees, leaves_of_pairs}
-use Rattle.jsonb_raw.specs.Private.LeafSteps.{step_at, step_key, step_keys}
+use Rattle.jsonb_raw.specs.Leaves.{Leaf, is_leaf, leaves_at, leaves, leaves_of_trees, leaves_of_pairs}
+use Rattle.jsonb_raw.specs.Private.LeafSteps.{behind, step_at, step_key, step_keys}
 use Rattle.jsonb_raw.proofs.CollectLoops.{Made, none_made, one_made, all_made, one_of_whole}
 use Rattle.jsonb_raw.proofs.LevelLemmas.{count_of_trees, count_of_pairs, innermost}
 

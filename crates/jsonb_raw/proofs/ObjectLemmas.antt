@@ -1,5 +1,6 @@
 -- Which trees have pairs, and what is made of them.
 use Rattle.std.proofs.Common.{◌≡◌, ◌⊎◌, inl, inr, ℕ, List, [], ◌∷◌, ◌++◌, String, Global, subst, Option, Some, None, Result, Ok, Err, refl, sym, ap, ◌∙◌}
+use Rattle.std.specs.Prelude.{string_bytes}
 use Rattle.std.specs.Borrow.{Bor}
 use Rattle.std.specs.Map.{values_of}
 use Rattle.std.specs.List.{Any}
@@ -61,7 +62,7 @@ values_joined (p ∷ ps) left = ap (λ ts. p.1 ∷ ts) (values_joined ps left)
 
 -- if a document of the next value fails, those of all values are
 pub pair_refused_in_list : (form : Form) (made : List (String Global × OwnedJsonb)) (key : List ℕ) (t : Tree) (left whole : List (List ℕ × Tree)) (e : Error)
-    → Made (IsPairOf form) made ((key, t) ∷ left) whole → IsOutOfMemoryOrTooLarge form t e
+    → Made (IsPairOf string_bytes form) made ((key, t) ∷ left) whole → IsOutOfMemoryOrTooLarge form t e
     → (e ≡ OutOfMemory) ⊎ ((e ≡ TooLarge) × Any (IsTooLarge form) (values_of whole))
 pair_refused_in_list form made key t left whole e m (inl memory) = inl memory
 pair_refused_in_list form made key t left whole e m (inr (is, large)) =

@@ -4,7 +4,8 @@ use Rattle.std.specs.Prelude.{option_and_then}
 use Rattle.jsonb_doc.specs.Tree.{Tree}
 use Rattle.jsonb_doc.specs.Answer.{SameOption}
 use Rattle.jsonb_keypath.specs.declared.key_path.KeyPath.{KeyPath}
-use Rattle.jsonb_keypath.specs.KeyPathViews.{key_view, keys_view}
+use Rattle.jsonb_keypath.specs.KeyPathViews.{key_view}
+use Rattle.jsonb_keypath.specs.Private.KeysView.{keys_view}
 use Rattle.jsonb_raw.specs.Places.{tree_at_steps}
 use Rattle.jsonb_raw.specs.Private.Steps.{child_met}
 use Rattle.jsonb_raw.proofs.PlaceLemmas.{step_by_step}

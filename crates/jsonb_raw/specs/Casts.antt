@@ -1,5 +1,6 @@
 -- Casts of documents to Booleans, integers and strings.
-use Rattle.std.specs.Prelude.{◌≡◌, ◌⊎◌, ℕ, Bool, true, false, if◌then◌else◌, List, map, Option, Some, None, ℤ, pos, Result, Err, MatchResult, codes, String, string_bytes}
+use Rattle.std.specs.Prelude.{◌≡◌, ◌⊎◌, ℕ, Bool, true, false, if◌then◌else◌, List, map, Option, Some, None, ℤ, pos, Result, Err, MatchOption, MatchResult, codes, String, string_bytes}
+use Rattle.std.specs.Int.{from_bool}
 use Rattle.std.specs.Char.{to_ascii_lowercase}
 use Rattle.std.specs.Str.Parse.{IsNumeral, digits_value, signed_digits_value, without_leading_plus, without_leading_sign}
 use Rattle.std.specs.declared.alloc.Global.{Global}
@@ -19,12 +20,9 @@ IsBoolOf (text s) true = (map to_ascii_lowercase s ≡ codes "true") ⊎ (map to
 IsBoolOf (text s) false = (map to_ascii_lowercase s ≡ codes "false") ⊎ (map to_ascii_lowercase s ≡ codes "no")
 IsBoolOf _ value = ⊥
 
-abbrev pub bool_number : Bool → ℕ
-bool_number b = if b then 1 else 0
-
 -- Holds if the string is an optional sign and one or more digits, and has this value.
 abbrev pub IsSignedOf : Tree → ℤ → Type 0
-IsSignedOf (boolean b) z = z ≡ pos (bool_number b)
+IsSignedOf (boolean b) z = z ≡ pos (from_bool b)
 IsSignedOf (number n) z = z ≡ rounded n
 IsSignedOf (text s) z = IsNumeral 10 (without_leading_sign s) × (z ≡ signed_digits_value 10 s)
 IsSignedOf _ z = ⊥
@@ -48,5 +46,5 @@ Casts {A = A} IsValue r = MatchResult r IsValue (λ e. (e ≡ InvalidCast) × ((
 
 -- Holds if the result is the string, or `InvalidCast` if there is none, unless an allocation failed.
 abbrev pub CastsToText : Option (List ℕ) → Result (String Global) Error → Type 0
-CastsToText (Some wanted) r = MatchResult r (λ s. string_bytes s ≡ wanted) IsOutOfMemory
-CastsToText None r = r ≡ Err InvalidCast
+CastsToText wanted r =
+    MatchOption wanted (r ≡ Err InvalidCast) (λ text. MatchResult r (λ s. string_bytes s ≡ text) IsOutOfMemory)

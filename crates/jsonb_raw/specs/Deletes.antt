@@ -11,14 +11,11 @@ change_at n change [] = []
 change_at zero change (x ∷ xs) = option_to_list (change x) ++ xs
 change_at (suc n) change (x ∷ xs) = x ∷ change_at n change xs
 
--- The member with its value mapped; without a result the member is left out.
-abbrev pub change_value : (Tree → Option Tree) → List ℕ × Tree → Option (List ℕ × Tree)
-change_value change p = option_map (λ t. (p.0, t)) (change p.1)
-
--- The tree with its child at a position mapped.
+-- The tree with its child at a position mapped; without a result the child is left out.
 abbrev pub change_child : ℕ → (Tree → Option Tree) → Tree → Tree
 change_child n change (array ts) = array (trees_of (change_at n change (elements ts)))
-change_child n change (object ps) = object (pairs_of (change_at n (change_value change) (members ps)))
+change_child n change (object ps) =
+    object (pairs_of (change_at n (λ p. option_map (λ t. (p.0, t)) (change p.1)) (members ps)))
 change_child n change t = t
 
 -- The tree without the value at a location; without the whole, nothing.

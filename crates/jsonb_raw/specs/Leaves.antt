@@ -7,10 +7,6 @@ use Rattle.jsonb_keypath.specs.KeyPathGrammar.{Key, index, unquoted_name}
 abbrev pub Leaf : Type 0
 Leaf = List Key × Tree
 
--- These leaves, with the steps to their container prepended.
-abbrev pub behind : List Key → List Leaf → List Leaf
-behind steps within = map (λ leaf. (steps ++ leaf.0, leaf.1)) within
-
 -- Whether a value is a leaf: a scalar, an empty container, and if arrays are ignored each array.
 abbrev pub is_leaf : Bool → Tree → Bool
 is_leaf ignore_array (array (tree t ts)) = ignore_array
@@ -19,7 +15,8 @@ is_leaf ignore_array _ = true
 
 -- The leaves at the child that a step selects: the child itself if it is a leaf, otherwise those in it.
 abbrev pub leaves_at : Bool → Key → Tree → List Leaf → List Leaf
-leaves_at ignore_array step t within = behind (step ∷ []) (if is_leaf ignore_array t then ([], t) ∷ [] else within)
+leaves_at ignore_array step t within =
+    map (λ leaf. (step ∷ leaf.0, leaf.1)) (if is_leaf ignore_array t then ([], t) ∷ [] else within)
 
 abbrev mutual
   -- The leaves in a tree, in stored order; if arrays are ignored, an array has none.

@@ -15,7 +15,6 @@ pub mod Strip
 pub mod Contains
 pub mod Concat
 pub mod Leaves
-pub mod LeafDocuments
 pub mod Exists
 pub mod Deletes
 pub mod Making

@@ -64,10 +64,8 @@ abbrev pub depths : Width → ℕ
 depths w = 256 ^ byte_len w
 
 -- Holds if a tree at a depth has a key in the width, whose order is specified.
-pub record HasKey (w : Width) (t : Tree) (depth : ℕ) : Type 0 where
-  pub in_range : IsInRange t
-  pub no_extension : HasNoExtension t
-  pub deep : depth + deepest t < depths w
+abbrev pub HasKey : Width → Tree → ℕ → Type 0
+HasKey w t depth = IsInRange t × HasNoExtension t × (depth + deepest t < depths w)
 
 -- Holds if the bytes may follow the key of an item at a depth: nothing, or an item that is no deeper.
 abbrev pub IsRest : Width → ℕ → List ℕ → Type 0

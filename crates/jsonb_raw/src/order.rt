@@ -8,7 +8,7 @@ ghost use Rattle.jsonb_doc.specs.Tree.{Tree, number};
 ghost use Rattle.jsonb_doc.specs.View.{number_parts};
 ghost use Rattle.jsonb_doc.specs.Order.{rank, tree_cmp};
 ghost use Rattle.jsonb_doc.specs.Extension.{Extension};
-ghost use Rattle.jsonb_doc.specs.Payload.{Form, extension_of, extension_payload};
+ghost use Rattle.jsonb_doc.specs.Payload.{Form, extension_payload};
 ghost use Rattle.jsonb_doc.specs.Format.{Decodes};
 ghost use Rattle.jsonb_doc.specs.Item.{StandsFor};
 ghost use Rattle.jsonb_doc.specs.Private.Stored.{Stores};
@@ -142,7 +142,7 @@ fn read_number(entry: &StoredEntry<'_>) -> Result<Number, Error>
 
 /// Returns the order of two extension values, by their payloads.
 fn extensions_order(payload: &[u8], other: &[u8]) -> Ordering
-    ensures { (x y : Extension) → extension_of payload.now ≡ Some x → extension_of other.now ≡ Some y
+    ensures { (x y : Extension) → payload.now ≡ extension_payload x → other.now ≡ extension_payload y
         → result ≡ slice_cmp nat_cmp (extension_payload x) (extension_payload y) }
 {
     bytes_cmp(payload, other)

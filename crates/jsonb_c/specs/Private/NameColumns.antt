@@ -7,7 +7,7 @@ use Rattle.jsonb_raw.specs.Objects.{TextSet, is_in}
 use Rattle.jsonb_doc.specs.Answer.{IsDecodingError, ◌or◌}
 use Rattle.jsonb_doc.specs.Tree.{Tree}
 use Rattle.jsonb_doc.specs.declared.error.Error.TheVariants.{InvalidObject, OutOfMemory, TooLarge}
-use Rattle.jsonb_raw.specs.Casts.{bool_number}
+use Rattle.std.specs.Int.{from_bool}
 use Rattle.jsonb_c.specs.Answers.{DeliversNothing, DeliversValue, OfDocument, ShowsAs, With, WritesResult}
 use Rattle.jsonb_c.specs.Calls.{MakesOr}
 use Rattle.jsonb_c.specs.Status.{code}
@@ -41,7 +41,7 @@ chosen_pairs Rest = dropped_names
 abbrev pub ShowsKeys : (List (List ℕ) → Tree → Bool) → List ℕ → Result (List (List ℕ)) Status → ℕ → ℕ → ℕ → Type 0
 ShowsKeys has document names old new status = With names (λ wanted. WritesResult
     (OfDocument document (λ form t said. IsOkAnd said (λ b. b ≡ has wanted t))) IsDecodingError
-    (ShowsAs bool_number old new status))
+    (ShowsAs from_bool old new status))
     (λ cause. (new ≡ old) × (status ≡ code cause))
 
 -- the object of the remaining members is delivered

@@ -12,7 +12,7 @@ use Rattle.jsonb_c.specs.Calls.{DeletesPart, FindsPart, TellsExistence, TellsTru
 use Rattle.jsonb.specs.KeyPathGrammar.{Key}
 use Rattle.jsonb.specs.PathTree.{Step}
 use Rattle.jsonb.specs.declared.selector.document.Mode.{Mode}
-use Rattle.jsonb_raw.specs.Casts.{bool_number}
+use Rattle.std.specs.Int.{from_bool}
 use Rattle.jsonb_c.specs.declared.column.documents.Operation.{Operation}
 use Rattle.jsonb_c.specs.declared.column.documents.Operation.TheVariants.{Part, Rest}
 use Rattle.jsonb_c.specs.declared.column.truths.Question.{Question}
@@ -52,7 +52,7 @@ pick_of Array = one_array
 -- whether the path selects an item, or its result as a predicate
 abbrev pub told : Question → Mode → List Step → List ℕ → ℕ → ℕ → ℕ → Type 0
 told Existence mode path = λ document old new status.
-    TellsExistence mode path document (ShowsAs bool_number old new status)
+    TellsExistence mode path document (ShowsAs from_bool old new status)
 told Truth mode path = λ document old new status.
     TellsTruth mode path document (ShowsAs truth_byte old new status)
 

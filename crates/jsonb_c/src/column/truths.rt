@@ -5,7 +5,7 @@ ghost use Rattle.jsonb_doc.specs.Answer.{IsDecodingError};
 ghost use Rattle.jsonb_doc.specs.Format.{Decodes};
 ghost use Rattle.jsonb_doc.specs.Payload.{Form};
 ghost use Rattle.jsonb_doc.specs.Tree.{Tree};
-ghost use Rattle.jsonb_raw.specs.Casts.{bool_number};
+ghost use Rattle.std.specs.Int.{from_bool};
 ghost use Rattle.jsonb_raw.specs.Contains.{contains};
 ghost use Rattle.jsonb.specs.PathGrammar.{json_path};
 ghost use Rattle.jsonb_c.specs.Answers.{Shows, ShowsAs, With, always, found_as, truth_byte};
@@ -73,12 +73,12 @@ struct Holds<'a> {
 }
 
 impl RowCall<u8> for Holds<'_> {
-    ghost use Rattle.jsonb_raw.specs.Casts.{bool_number};
+    ghost use Rattle.std.specs.Int.{from_bool};
     ghost use Rattle.jsonb_c.specs.Answers.{Shows, always, found_as};
     ghost use Rattle.jsonb_c.specs.Calls.{TellsContainment};
 
     ghost Writes = { λ call document old new status.
-        TellsContainment call.wanted.now document (ShowsAs bool_number old new status) };
+        TellsContainment call.wanted.now document (ShowsAs from_bool old new status) };
 
     fn answer(&self, _alloc: Global, document: &[u8]) -> Result<Option<u8>, Error> {
         let contains = contains(document, self.wanted)?;
@@ -108,7 +108,7 @@ pub extern "C" fn jdoc_column_exists(
 ) -> u32
     ensures { With (ok_or (json_path path.now) NotJsonPath)
         (λ steps. FillsRows (λ document old new status. TellsExistence (mode_of strict) steps document
-        (ShowsAs bool_number old new status)) 2 (rows bytes.now offsets.now)
+        (ShowsAs from_bool old new status)) 2 (rows bytes.now offsets.now)
         (truths.old, statuses.old) (truths.new, statuses.new) done.new result)
         (λ cause. (result ≡ code cause) × (done.new ≡ 0) × (truths.new ≡ truths.old)
         × (statuses.new ≡ statuses.old)) }
@@ -183,7 +183,7 @@ pub extern "C" fn jdoc_column_contains(
     done: &mut usize,
 ) -> u32
     ensures { FillsRows (λ document old new status. TellsContainment wanted.now document
-        (ShowsAs bool_number old new status)) 2 (rows bytes.now offsets.now)
+        (ShowsAs from_bool old new status)) 2 (rows bytes.now offsets.now)
         (truths.old, statuses.old) (truths.new, statuses.new) done.new result }
 {
     Column::new(bytes, offsets).fill(alloc, &Holds { wanted }, UNKNOWN, truths, statuses, done)

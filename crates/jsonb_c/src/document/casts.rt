@@ -1,10 +1,10 @@
 //! Documents as Booleans, integers and strings.
 
 ghost use Rattle.std.specs.Prelude.{◌≡◌, ◌<◌, ◌^◌, FitsSigned, IfErr, IsOkAnd, pos, string_bytes};
-ghost use Rattle.std.specs.Int.{w64};
+ghost use Rattle.std.specs.Int.{w64, from_bool};
 ghost use Rattle.jsonb_doc.specs.Answer.{IsDecodingError, ◌or◌};
 ghost use Rattle.jsonb_doc.specs.declared.error.Error.TheVariants.{InvalidCast, OutOfMemory};
-ghost use Rattle.jsonb_raw.specs.Casts.{Casts, IsBoolOf, IsUnsignedOf, CastsToText, bool_number, text_of};
+ghost use Rattle.jsonb_raw.specs.Casts.{Casts, IsBoolOf, IsUnsignedOf, CastsToText, text_of};
 ghost use Rattle.jsonb_raw.specs.Scalars.{boolean_in, text_in};
 ghost use Rattle.jsonb_c.specs.Answers.{Delivers, OfDocument, Shows, ShowsAs, ShowsValue, WritesResult, always, found_as};
 ghost use Rattle.jsonb_c.specs.Calls.{FindsWhole, WritesI64, WritesText};
@@ -20,7 +20,7 @@ use std::alloc::Global;
 #[unsafe(no_mangle)]
 pub extern "C" fn jdoc_as_bool(document: &[u8], truth: &mut u8) -> u32
     ensures { WritesResult (OfDocument document.now (λ form t answer. IsOkAnd answer (λ found. found ≡ boolean_in t)))
-        IsDecodingError (λ answer. Shows (found_as bool_number answer) truth.old truth.new result) }
+        IsDecodingError (λ answer. Shows (found_as from_bool answer) truth.old truth.new result) }
 {
     store_found_bool(RawJsonb::new(document).as_bool(), truth)
 }
@@ -70,7 +70,7 @@ fn as_str(document: &[u8]) -> Result<Option<&str>, Error>
 #[unsafe(no_mangle)]
 pub extern "C" fn jdoc_to_bool(document: &[u8], truth: &mut u8) -> u32
     ensures { WritesResult (OfDocument document.now (λ form t. Casts (IsBoolOf t))) (IsDecodingError or InvalidCast)
-        (ShowsAs bool_number truth.old truth.new result) }
+        (ShowsAs from_bool truth.old truth.new result) }
 {
     store_bool(RawJsonb::new(document).to_bool(), truth)
 }

@@ -7,7 +7,7 @@ ghost use Rattle.jsonb_doc.specs.Format.{Decodes};
 ghost use Rattle.jsonb_doc.specs.Order.{tree_cmp};
 ghost use Rattle.jsonb_doc.specs.Payload.{Form};
 ghost use Rattle.jsonb_doc.specs.Tree.{Tree};
-ghost use Rattle.jsonb_raw.specs.Casts.{bool_number};
+ghost use Rattle.std.specs.Int.{from_bool};
 ghost use Rattle.jsonb_c.specs.Answers.{ShowsAs, ShowsValue, WritesResult};
 ghost use Rattle.jsonb_c.specs.Calls.{TellsContainment};
 
@@ -18,7 +18,7 @@ use std::cmp::Ordering;
 /// Returns whether a document contains another.
 #[unsafe(no_mangle)]
 pub extern "C" fn jdoc_contains(document: &[u8], other: &[u8], truth: &mut u8) -> u32
-    ensures { TellsContainment other.now document.now (ShowsAs bool_number truth.old truth.new result) }
+    ensures { TellsContainment other.now document.now (ShowsAs from_bool truth.old truth.new result) }
 {
     let document = RawJsonb::new(document);
     store_bool(document.contains(&RawJsonb::new(other)), truth)

@@ -2,7 +2,8 @@
 
 ghost use Rattle.std.specs.Prelude.{◌≡◌, IfErr, IsOkAnd};
 ghost use Rattle.jsonb_doc.specs.Answer.{IsDecodingError, SameOption};
-ghost use Rattle.jsonb_doc.specs.View.{decimal128_parts, number_parts};
+ghost use Rattle.jsonb_doc.specs.View.{number_parts};
+ghost use Rattle.jsonb_doc.specs.declared.number.Number.TheVariants as code;
 ghost use Rattle.jsonb_raw.specs.Scalars.{number_in};
 ghost use Rattle.jsonb_c.specs.Answers.{OfDocument, Shows, WritesResult};
 ghost use Rattle.jsonb_c.specs.Making.{ArePartsOf};
@@ -91,7 +92,7 @@ fn decimal_of(number: Number) -> Decimal128
 
 /// Returns the halves of the integer, and the scale.
 fn parts_of(decimal: Decimal128) -> Parts
-    ensures { ArePartsOf result (decimal128_parts decimal) }
+    ensures { ArePartsOf result (number_parts (code.Decimal128 decimal)) }
 {
     Parts {
         high: decimal.value.div_euclid(UPPER_UNIT) as i64,

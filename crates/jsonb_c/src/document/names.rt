@@ -6,7 +6,7 @@ ghost use Rattle.jsonb_doc.specs.declared.error.Error.TheVariants.{InvalidObject
 ghost use Rattle.jsonb_raw.specs.Exists.{has_all, has_any};
 ghost use Rattle.jsonb_c.specs.Answers.{DeliversNothing, DeliversValue, OfDocument, ShowsAs, With, WritesResult};
 ghost use Rattle.jsonb_c.specs.Status.{code};
-ghost use Rattle.jsonb_raw.specs.Casts.{bool_number};
+ghost use Rattle.std.specs.Int.{from_bool};
 ghost use Rattle.jsonb_c.specs.Calls.{MakesOr};
 ghost use Rattle.jsonb_c.specs.Columns.{rows};
 ghost use Rattle.jsonb_c.specs.Names.{dropped_names, names_of, picked_names};
@@ -32,7 +32,7 @@ pub extern "C" fn jdoc_exists_all_keys(
 ) -> u32
     ensures { With (names_of (rows names.now offsets.now)) (λ wanted. WritesResult
         (OfDocument document.now (λ form t said. IsOkAnd said (λ b. b ≡ has_all wanted t))) IsDecodingError
-        (ShowsAs bool_number truth.old truth.new result))
+        (ShowsAs from_bool truth.old truth.new result))
         (λ cause. (truth.new ≡ truth.old) × (result ≡ code cause)) }
 {
     store_exists_keys(alloc, document, names, offsets, Quantity::All, truth)
@@ -50,7 +50,7 @@ pub extern "C" fn jdoc_exists_any_keys(
 ) -> u32
     ensures { With (names_of (rows names.now offsets.now)) (λ wanted. WritesResult
         (OfDocument document.now (λ form t said. IsOkAnd said (λ b. b ≡ has_any wanted t))) IsDecodingError
-        (ShowsAs bool_number truth.old truth.new result))
+        (ShowsAs from_bool truth.old truth.new result))
         (λ cause. (truth.new ≡ truth.old) × (result ≡ code cause)) }
 {
     store_exists_keys(alloc, document, names, offsets, Quantity::Any, truth)

@@ -12,7 +12,7 @@ ghost use Rattle.jsonb_c.specs.Answers.{DeliversBy, ShowsAs, With, truth_byte};
 ghost use Rattle.jsonb_c.specs.Private.Views.{pick_of};
 ghost use Rattle.jsonb_c.specs.Calls.{SelectsItem, TellsExistence, TellsTruth, mode_of, one_array};
 ghost use Rattle.jsonb_c.specs.Status.{code};
-ghost use Rattle.jsonb_raw.specs.Casts.{bool_number};
+ghost use Rattle.std.specs.Int.{from_bool};
 ghost use Rattle.jsonb_c.specs.declared.status.Status.TheVariants.{NotJsonPath};
 
 use crate::deliver::{deliver, deliver_nothing, store_bool, store_truth};
@@ -133,7 +133,7 @@ pub extern "C" fn jdoc_exists(
     truth: &mut u8,
 ) -> u32
     ensures { With (ok_or (json_path path.now) NotJsonPath)
-        (λ steps. TellsExistence (mode_of strict) steps document.now (ShowsAs bool_number truth.old truth.new result))
+        (λ steps. TellsExistence (mode_of strict) steps document.now (ShowsAs from_bool truth.old truth.new result))
         (λ cause. (truth.new ≡ truth.old) × (result ≡ code cause)) }
 {
     match parse_json_path(alloc, path) {

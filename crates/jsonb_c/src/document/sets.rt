@@ -7,7 +7,7 @@ ghost use Rattle.jsonb_doc.specs.Format.{Decodes};
 ghost use Rattle.jsonb_doc.specs.Payload.{Form};
 ghost use Rattle.jsonb_doc.specs.Tree.{Tree, array, trees_of};
 ghost use Rattle.jsonb_raw.specs.Arrays.{as_elements};
-ghost use Rattle.jsonb_raw.specs.Casts.{bool_number};
+ghost use Rattle.std.specs.Int.{from_bool};
 ghost use Rattle.jsonb_raw.specs.Documents.{Makes};
 ghost use Rattle.jsonb_raw.specs.Sets.{difference_of, distinct, intersection_of, overlap};
 ghost use Rattle.jsonb_c.specs.Answers.{DeliversValue, OfDocument, ShowsAs, WritesResult};
@@ -73,7 +73,7 @@ pub extern "C" fn jdoc_array_overlap(document: &[u8], other: &[u8], truth: &mut 
     ensures { WritesResult (λ answer. (form other_form : Form) (t u : Tree)
         → Decodes form document.now t → Decodes other_form other.now u
         → IsOkAnd answer (λ b. b ≡ overlap (as_elements t) (as_elements u)))
-        IsDecodingError (ShowsAs bool_number truth.old truth.new result) }
+        IsDecodingError (ShowsAs from_bool truth.old truth.new result) }
 {
     let document = RawJsonb::new(document);
     store_bool(document.array_overlap(&RawJsonb::new(other)), truth)

@@ -1,6 +1,10 @@
 -- Headers, entry words and entries of any bytes.
-use Rattle.std.specs.Prelude.{◌≡◌, ℕ, ◌+◌, ◌*◌, ◌/◌, ◌≤◌, List, ◌++◌, length}
+use Rattle.std.specs.Prelude.{◌≡◌, ℕ, ◌+◌, ◌*◌, ◌/◌, ◌≤◌, List, [], ◌++◌, length}
 use Rattle.jsonb_doc.specs.Format.{object_header, array_header, BeginWith, HeadedBy}
+
+-- Holds if there are no entries.
+abbrev pub AreNone : List ℕ → List ℕ → Type 0
+AreNone words contents = (words ≡ []) × (contents ≡ [])
 
 -- Holds if the words and contents do not begin with an entry: a word is truncated or of no type, or there are fewer
 -- bytes than its length.

@@ -1,7 +1,7 @@
 -- The roots that can be read, of any bytes.
 use Rattle.std.specs.Prelude.{ℕ, List, ◌≢◌, ◌⊎◌, ◌≡◌}
-use Rattle.jsonb_doc.specs.AnyBytes.Parts.{HasItsWords}
-use Rattle.jsonb_doc.specs.Format.{IsContainer, HasFirstEntry, AreNone, scalar_header, object_header, array_header, Decodes}
+use Rattle.jsonb_doc.specs.AnyBytes.Parts.{AreNone, HasItsWords}
+use Rattle.jsonb_doc.specs.Format.{IsContainer, HasFirstEntry, scalar_header, object_header, array_header, Decodes}
 use Rattle.jsonb_doc.specs.Kinds.{kind_number}
 use Rattle.jsonb_doc.specs.Tree.{Tree}
 use Rattle.jsonb_doc.specs.Payload.{any}

@@ -2,10 +2,11 @@
 use Rattle.std.specs.Prelude.{◌≡◌, ◌≢◌, ◌<◌, ◌^◌, ℕ, List, ◌++◌, length}
 use Rattle.jsonb_doc.specs.Tree.{Tree, array, object, Pairs, keys}
 use Rattle.jsonb_doc.specs.Payload.{NumberReader}
-use Rattle.jsonb_doc.specs.Format.{scalar_header, entry_word, AreKeys, key_words, key_bytes, HeadedBy, AreEntries, AreValues, IsScalar}
+use Rattle.jsonb_doc.specs.Format.{scalar_header, entry_word, AreKeys, key_words, key_bytes, HeadedBy, AreEntries, AreValues, IsContent}
 use Rattle.jsonb_doc.specs.Private.EntryKinds.{container_entry}
 use Rattle.jsonb_doc.specs.AnyBytes.Parts.{AreArrayParts, AreObjectParts}
 use Rattle.jsonb_doc.specs.Kinds.{kind_number}
+use Rattle.jsonb_doc.specs.declared.layout.EntryKind.TheVariants as entry
 use Rattle.jsonb_doc.specs.declared.container.ObjectParts.{ObjectParts}
 use Rattle.jsonb_doc.specs.declared.container.Container.{Container}
 use Rattle.jsonb_doc.specs.declared.container.Container.TheVariants.{Scalar, Array, Object}
@@ -38,7 +39,8 @@ pub record HasPairParts (number_at : NumberReader) (ps : Pairs) (p : ObjectParts
 
 -- the parts are those of a document of this tree
 abbrev pub Holds : NumberReader → Tree → Container → Type 0
-Holds number_at t (Scalar e) = IsScalar number_at t (kind_number e.kind) e.content.now
+Holds number_at t (Scalar e) =
+    (kind_number e.kind ≢ kind_number entry.Container) × IsContent number_at t (kind_number e.kind) e.content.now
 Holds number_at (array ts) (Array p) = AreEntries number_at ts p.words.now p.contents.now
 Holds number_at (object ps) (Object p) = HasPairParts number_at ps p
 Holds number_at _ _ = ⊥

@@ -5,8 +5,8 @@ ghost use Rattle.jsonb_doc.specs.Tree.{Tree};
 ghost use Rattle.jsonb_doc.specs.Payload.{Form, number_reader};
 ghost use Rattle.jsonb_doc.specs.Format.{Decodes, IsContent, header, entry_word, scalar_header};
 ghost use Rattle.jsonb_doc.specs.Kinds.{kind_number};
-ghost use Rattle.jsonb_doc.specs.Answer.{IsDecodingError, IsOutOfMemory, ◌or◌, ◌or◌when◌};
-ghost use Rattle.jsonb_doc.specs.Limits.{IsTooLarge};
+ghost use Rattle.jsonb_doc.specs.Answer.{IsDecodingError, ◌or◌};
+ghost use Rattle.jsonb_doc.specs.Limits.{Builds};
 ghost use Rattle.jsonb_doc.specs.Private.Errors.{IsOutOfMemoryOrTooLarge};
 ghost use Rattle.jsonb_doc.specs.Representation.Positions.{Locates};
 ghost use Rattle.jsonb_doc.specs.declared.error.Error.TheVariants.{OutOfMemory, TooLarge};
@@ -46,7 +46,7 @@ const SHORT: usize = 16;
 #[inline(always)]
 pub fn spot_document(alloc: Global, bytes: &[u8], spot: Spot) -> Result<Vec<u8>, Error>
     ensures decodes { (form : Form) (top t : Tree) → Decodes form bytes.now top → Locates bytes.now spot t
-        → MatchResult result (λ v. Decodes form v.items t) (IsOutOfMemory or TooLarge when IsTooLarge form t) }
+        → Builds form t result (λ v. Decodes form v.items t) }
     ensures errors { IfErr result (IsDecodingError or OutOfMemory or TooLarge) }
 {
     let content = spot.content(bytes)?;

@@ -14,6 +14,10 @@ use Rattle.jsonb_raw.specs.declared.level.ChildCursor.{ChildCursor}
 use Rattle.jsonb_raw.specs.Private.Levels.{parts, HasPartsLeft}
 use Rattle.jsonb_raw.specs.Leaves.{Leaf, is_leaf}
 
+-- these leaves, with the steps to their container prepended
+abbrev pub behind : List Key → List Leaf → List Leaf
+behind steps within = map (λ leaf. (steps ++ leaf.0, leaf.1)) within
+
 -- the steps to a leaf, and what is kept of it
 abbrev pub IsKept : {A : Type 0} → (Tree → A → Type 0) → KeyPaths × A → Leaf → Type 0
 IsKept IsOf kept leaf = (key_paths_view kept.0 ≡ leaf.0) × IsOf leaf.1 kept.1

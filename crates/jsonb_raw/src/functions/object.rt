@@ -4,7 +4,7 @@
 
 ghost use Rattle.std.specs.List.{Any, AllZip};
 ghost use Rattle.std.specs.Map.{keys_of, values_of};
-ghost use Rattle.std.specs.Prelude.{◌≡◌, ℕ, List, ◌⊎◌, ◌||◌, false, not, None, Ok, IsSomeAnd, IsTrue, IfErr, IsErrOf, MatchResult, MatchOption, Err, IsUtf8};
+ghost use Rattle.std.specs.Prelude.{◌≡◌, ℕ, List, ◌⊎◌, ◌||◌, false, not, None, Ok, IsSomeAnd, IsTrue, IfErr, IsErrOf, MatchResult, MatchOption, Err, IsUtf8, string_bytes};
 ghost use Rattle.jsonb_doc.specs.Tree.{Tree, object, pairs_of};
 ghost use Rattle.jsonb_doc.specs.Payload.{Form, number_reader};
 ghost use Rattle.jsonb_doc.specs.Format.{Decodes, AreKeys, IsContent};
@@ -114,7 +114,7 @@ impl RawJsonb<'_> {
     pub fn object_each(&self, alloc: Global) -> Result<Option<Vec<(String, OwnedJsonb)>>, Error>
         ensures pairs { (form : Form) (t : Tree) → Decodes form (raw_bytes self.now) t
             → MatchOption (object_each t) (result ≡ Ok None) (λ ps. MatchResult result
-            (λ found. IsSomeAnd found (λ made. AllZip (IsPairOf form) made.items ps))
+            (λ found. IsSomeAnd found (λ made. AllZip (IsPairOf string_bytes form) made.items ps))
             (IsOutOfMemory or TooLarge when Any (IsTooLarge form) (values_of ps))) }
         ensures errors { IfErr result (IsDecodingError or OutOfMemory or TooLarge) }
     {
@@ -241,7 +241,7 @@ fn pairs_by_set<'a>(
 /// Returns the keys of these members, each with its value as a new document.
 fn owned_pairs(alloc: Global, pairs: PairEntries<'_>) -> Result<Vec<(String, OwnedJsonb)>, Error>
     ensures pairs { (form : Form) (ps : List (List ℕ × Tree)) → HoldPairs form pairs.entry ps
-        → MatchResult result (λ made. AllZip (IsPairOf form) made.items ps)
+        → MatchResult result (λ made. AllZip (IsPairOf string_bytes form) made.items ps)
         (IsOutOfMemory or TooLarge when Any (IsTooLarge form) (values_of ps)) }
     ensures errors { IfErr result (IsDecodingError or OutOfMemory or TooLarge) }
 {
@@ -259,7 +259,7 @@ fn owned_pairs(alloc: Global, pairs: PairEntries<'_>) -> Result<Vec<(String, Own
 fn owned_pair(alloc: Global, pair: FirstPair<'_>) -> Result<(String, OwnedJsonb), Error>
     ensures pair { (form : Form) (t : Tree) → IsUtf8 pair.entry.key.now
         → IsContent (number_reader form) t (kind_number pair.entry.kind) pair.entry.content.now
-        → MatchResult result (λ made. IsPairOf form made (pair.entry.key.now, t)) (IsOutOfMemoryOrTooLarge form t) }
+        → MatchResult result (λ made. IsPairOf string_bytes form made (pair.entry.key.now, t)) (IsOutOfMemoryOrTooLarge form t) }
     ensures errors { IfErr result (IsDecodingError or OutOfMemory or TooLarge) }
 {
     let Ok(key) = str::from_utf8(pair.key) else {

@@ -1,6 +1,6 @@
 //! The functions on the locations of a document.
 
-ghost use Rattle.std.specs.Prelude.{ℕ, List, length, slice_get, option_and_then, IsOkAnd, IfErr, MatchResult};
+ghost use Rattle.std.specs.Prelude.{ℕ, List, map, length, slice_get, option_and_then, IsOkAnd, IfErr, MatchResult};
 ghost use Rattle.std.specs.Iterator.{IsFinite};
 ghost use Rattle.std.specs.Fmt.{signed_decimal};
 ghost use Rattle.jsonb_doc.specs.Tree.{Tree, field_of};
@@ -11,7 +11,7 @@ ghost use Rattle.jsonb_doc.specs.declared.error.Error.TheVariants.{OutOfMemory, 
 ghost use Rattle.jsonb_doc.specs.Representation.Positions.{Locates, HasSpotsLeft};
 ghost use Rattle.jsonb_keypath.specs.declared.key_path.KeyPath.{KeyPath};
 ghost use Rattle.jsonb_keypath.specs.KeyPathGrammar.{index as index_step};
-ghost use Rattle.jsonb_keypath.specs.KeyPathViews.{key_view, keys_view};
+ghost use Rattle.jsonb_keypath.specs.KeyPathViews.{key_view};
 ghost use Rattle.jsonb_raw.specs.Documents.{raw_bytes, MakesOption};
 ghost use Rattle.jsonb_raw.specs.Places.{children, index_position, tree_at_steps};
 ghost use Rattle.jsonb_raw.specs.Private.Steps.{child_met};
@@ -161,7 +161,7 @@ impl RawJsonb<'_> {
         requires ends { IsFinite (I.remaining steps) }
         ensures place { (left : I → List KeyPath) → YieldsItemsLeft I.next_gives left
             → (form : Form) (t : Tree) → Decodes form (raw_bytes self.now) t
-            → MakesOption form (tree_at_steps (keys_view (left steps)) t) result }
+            → MakesOption form (tree_at_steps (map key_view (left steps)) t) result }
         ensures errors { IfErr result (IsDecodingError or OutOfMemory or TooLarge) }
     {
         let Some(spot) = self.spot_by_keypath(alloc, steps)? else {
@@ -196,7 +196,7 @@ impl RawJsonb<'_> {
         ensures place { (left : I → List KeyPath) → YieldsItemsLeft I.next_gives left
             → (form : Form) (t : Tree) → Decodes form (raw_bytes self.now) t
             → MatchResult result (λ found. SameOption (Locates (raw_bytes self.now)) found
-            (tree_at_steps (keys_view (left steps)) t)) IsOutOfMemory }
+            (tree_at_steps (map key_view (left steps)) t)) IsOutOfMemory }
         ensures errors { IfErr result (IsDecodingError or OutOfMemory) }
     {
         let bytes = self.as_bytes();

@@ -1,11 +1,12 @@
 use Rattle.std.proofs.Common.{◌≤◌, false, length, map, take, arith}
+use Rattle.jsonb.specs.KeyPathViews.{key_paths_view}
 use Rattle.std.specs.List.{AllZip}
 use Rattle.std.proofs.lemmas.Result.{err_from_is_err_and}
 use Rattle.jsonb.proofs.DecodedFits.{decoded_fits}
 use Rattle.jsonb.proofs.LeafLimits.{leaves_refused}
 use Rattle.jsonb_doc.specs.Format.{Decodes}
 use Rattle.jsonb_raw.specs.Documents.{raw_bytes}
-use Rattle.jsonb_raw.specs.LeafDocuments.{IsLeafDocument}
+use Rattle.jsonb_raw.specs.Making.{IsPairOf}
 use Rattle.jsonb_raw.specs.Leaves.{leaves}
 use Rattle.jsonb_c.specs.Private.LeafColumns.{leaf_row}
 use Rattle.jsonb_c.proofs.LeafRows.{rows_at, rows_of_leaves, take_all}
@@ -30,7 +31,7 @@ returns-clause-leaves c =
       rw all at c.loop-path.invariant,
       λ form t d.
           let d' : Decodes form (raw_bytes c.new.result) t = rw c.new.ensures d in
-          let each : AllZip (IsLeafDocument form) c.deref-path-items.result.now (leaves false t) =
+          let each : AllZip (IsPairOf key_paths_view form) c.deref-path-items.result.now (leaves false t) =
           rw c.deref-path-items.ensures.value (c.in_ok-leaves.ensures.leaves form t d') in
           rows_of_leaves form c.deref-path-items.result.now (leaves false t) each,
     )

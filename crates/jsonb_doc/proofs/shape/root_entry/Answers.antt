@@ -1,4 +1,4 @@
-use Rattle.std.proofs.Common.{ℕ, List, ◌≡◌, Ok, refl}
+use Rattle.std.proofs.Common.{ℕ, List, ◌≡◌, Ok, refl, arith}
 use Rattle.jsonb_doc.specs.Payload.{number_reader}
 use Rattle.jsonb_doc.specs.Private.Containers.{IsCut}
 use Rattle.jsonb_doc.specs.AnyBytes.Roots.{IsRootShape}
@@ -30,7 +30,7 @@ returns-in_ok-scalar_shape-in-Scalar-clause-entry c = λ form t h.
 pub returns-in_ok-scalar_shape-in-Scalar-clause-readable : goal.returns-in_ok-scalar_shape-in-Scalar-clause-readable
 returns-in_ok-scalar_shape-in-Scalar-clause-readable c =
     let cut = rw c.in-Scalar.is at c.in_ok-entry.ensures.cut in
-    (c.in_ok-scalar_shape-in-Scalar.field-0, shape_root c.args.bytes.now c.in-Scalar.entry cut (Ok c.in_ok-scalar_shape-in-Scalar.field-0) c.in_ok-scalar_shape-in-Scalar.ensures.reads)
+    (c.in_ok-scalar_shape-in-Scalar.field-0, shape_root c.args.bytes.now (λ i. omega (arith, c.type_inv.bytes i)) c.in-Scalar.entry cut (Ok c.in_ok-scalar_shape-in-Scalar.field-0) c.in_ok-scalar_shape-in-Scalar.ensures.reads)
 
 pub returns-in_default : goal.returns-in_default
 returns-in_default c = record {

@@ -1,3 +1,4 @@
+use Rattle.std.proofs.Common.{arith}
 use Rattle.jsonb_doc.proofs.Containers.{Decodes-scalar, Decodes-array, Decodes-object, Holds-elements, Holds-pairs}
 use Rattle.jsonb_doc.proofs.ReadItems.{shape_root, array_root, object_root}
 use Rattle.jsonb_doc.proofs.shape.root_shape.Goals as goal
@@ -21,7 +22,7 @@ returns-in-Object-clause-shape c = λ form t h.
 
 pub returns-in-Scalar-clause-readable : goal.returns-in-Scalar-clause-readable
 returns-in-Scalar-clause-readable c =
-    shape_root c.args.bytes.now c.in-Scalar.entry (rw c.in-Scalar.is at c.in_ok-entry.ensures.cut) c.scalar_shape.result c.scalar_shape.ensures.reads
+    shape_root c.args.bytes.now (λ i. omega (arith, c.type_inv.bytes i)) c.in-Scalar.entry (rw c.in-Scalar.is at c.in_ok-entry.ensures.cut) c.scalar_shape.result c.scalar_shape.ensures.reads
 
 pub returns-in-Array-clause-readable : goal.returns-in-Array-clause-readable
 returns-in-Array-clause-readable c = array_root c.args.bytes.now c.in-Array.field-0 (rw c.in-Array.is at c.in_ok-entry.ensures.cut)

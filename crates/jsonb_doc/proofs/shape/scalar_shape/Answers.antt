@@ -58,3 +58,6 @@ returns-in-Null-2-clause-shape c = λ form t h other.
       | in-False+else-is_empty-2 w ↦ grind (arith, common_steps, empty (inr (inl (ap kind_number w.in-False.is))))
       | in-True+else-is_empty-3 w ↦ grind (arith, common_steps, empty (inr (inr (ap kind_number w.in-True.is))))
     ]
+
+pub returns-in-Ok-from_payload-clause-reads : goal.returns-in-Ok-from_payload-clause-reads
+returns-in-Ok-from_payload-clause-reads c = (ap kind_number c.in-Extension.is, c.in-Ok-from_payload.ensures)

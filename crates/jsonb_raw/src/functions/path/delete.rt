@@ -1,6 +1,6 @@
 //! A document without the value at a key path.
 
-ghost use Rattle.std.specs.Prelude.{◌≡◌, List, length, position as first_position, not, IsTrue, IsOkAnd, IsErrOf, IfErr, ◌⊎◌, MatchResult};
+ghost use Rattle.std.specs.Prelude.{◌≡◌, List, map, length, position as first_position, not, IsTrue, IsOkAnd, IsErrOf, IfErr, ◌⊎◌, MatchResult};
 ghost use Rattle.std.specs.Iterator.{IsFinite};
 ghost use Rattle.std.specs.Fmt.{signed_decimal};
 ghost use Rattle.std.specs.Str.{bytes_eq};
@@ -12,7 +12,8 @@ ghost use Rattle.jsonb_doc.specs.Answer.{SameOption, IsOutOfMemory, ◌or◌, Is
 ghost use Rattle.jsonb_doc.specs.declared.error.Error.TheVariants.{OutOfMemory, InvalidJsonType};
 ghost use Rattle.jsonb_doc.specs.Representation.Positions.{Locates};
 ghost use Rattle.jsonb_keypath.specs.declared.key_path.KeyPath.{KeyPath};
-ghost use Rattle.jsonb_keypath.specs.KeyPathViews.{key_view, keys_view};
+ghost use Rattle.jsonb_keypath.specs.KeyPathViews.{key_view};
+ghost use Rattle.jsonb_keypath.specs.Private.KeysView.{keys_view};
 ghost use Rattle.jsonb_raw.specs.Documents.{raw_bytes};
 ghost use Rattle.jsonb_raw.specs.Deletes.{without, MeetNoPart};
 ghost use Rattle.jsonb_raw.specs.Scalars.{is_json_scalar};
@@ -165,10 +166,10 @@ impl RawJsonb<'_> {
             → IsErrOf result Error.InvalidJsonType }
         ensures without { (left : I → List KeyPath) → YieldsItemsLeft I.next_gives left
             → (form : Form) (t : Tree) → Decodes form (raw_bytes self.now) t → IsTrue (not (is_json_scalar t))
-            → MatchResult result (λ made. Decodes form made (without (keys_view (left steps)) t)) IsOutOfMemory }
+            → MatchResult result (λ made. Decodes form made (without (map key_view (left steps)) t)) IsOutOfMemory }
         ensures same { (left : I → List KeyPath) → YieldsItemsLeft I.next_gives left
             → (form : Form) (t : Tree) → Decodes form (raw_bytes self.now) t → IsTrue (not (is_json_scalar t))
-            → MeetNoPart (keys_view (left steps)) t
+            → MeetNoPart (map key_view (left steps)) t
             → MatchResult result (λ made. made ≡ raw_bytes self.now) IsOutOfMemory }
         ensures errors { IfErr result (IsDecodingError or OutOfMemory or InvalidJsonType) }
     {

@@ -14,7 +14,8 @@ ghost use Rattle.jsonb_doc.specs.Answer.{IsOutOfMemory, ◌or◌, IsDecodingErro
 ghost use Rattle.jsonb_doc.specs.declared.error.Error.TheVariants.{OutOfMemory};
 ghost use Rattle.jsonb_doc.specs.Value.{value_tree, value_parts};
 ghost use Rattle.jsonb_keypath.specs.KeyPathGrammar.{unquoted_name};
-ghost use Rattle.jsonb_keypath.specs.KeyPathViews.{key_view, keys_view, key_paths_view};
+ghost use Rattle.jsonb_keypath.specs.KeyPathViews.{key_view, key_paths_view};
+ghost use Rattle.jsonb_keypath.specs.Private.KeysView.{keys_view};
 ghost use Rattle.jsonb_raw.specs.AnyBytes.Roots.{HasRoot};
 ghost use Rattle.jsonb_raw.specs.Documents.{raw_bytes};
 ghost use Rattle.jsonb_raw.specs.Scalars.{is_array};

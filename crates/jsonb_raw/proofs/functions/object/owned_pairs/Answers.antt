@@ -1,4 +1,5 @@
 use Rattle.std.proofs.Common.{◌≡◌, ◌++◌, [], ◌∷◌}
+use Rattle.std.specs.Prelude.{string_bytes}
 use Rattle.std.proofs.lemmas.Result.{err_from_is_err_and}
 use Rattle.jsonb_raw.specs.Making.{IsPairOf}
 use Rattle.jsonb_raw.proofs.CollectLoops.{none_made, one_made, all_made}
@@ -7,7 +8,7 @@ use Rattle.jsonb_raw.proofs.EntryWalks.{pair_taken, no_pair_left}
 use Rattle.jsonb_raw.proofs.functions.object.owned_pairs.Goals as goal
 
 pub loop-each-init : goal.loop-each-init
-loop-each-init c = λ form ps h. (ps, h, none_made (IsPairOf form) _ ps c.in_ok-each.ensures.items)
+loop-each-init c = λ form ps h. (ps, h, none_made (IsPairOf string_bytes form) _ ps c.in_ok-each.ensures.items)
 
 pub loop-each-preserved : goal.loop-each-preserved
 loop-each-preserved c = λ form ps h.
@@ -16,7 +17,7 @@ loop-each-preserved c = λ form ps h.
     let added : c.push.new.self.items ≡ c.loop-each.each.items ++ c.in_ok-owned_pair.field-0 ∷ [] = c.in_ok-push.ensures.items in (
       f.rest,
       f.others,
-      one_made (IsPairOf form) _ _ c.in_ok-owned_pair.field-0 (c.in-Some.pair.key.now, f.value) f.rest ps added
+      one_made (IsPairOf string_bytes form) _ _ c.in_ok-owned_pair.field-0 (c.in-Some.pair.key.now, f.value) f.rest ps added
           (c.in_ok-owned_pair.ensures.pair form f.value f.utf8 f.part) (rw f.split at i.2),
     )
 
@@ -31,4 +32,4 @@ returns-in_err-owned_pair-clause-pairs c = λ form ps h.
 pub returns-clause-pairs : goal.returns-clause-pairs
 returns-clause-pairs c = λ form ps h.
     let i = c.loop-each.invariant form ps h in
-    all_made (IsPairOf form) _ ps (rw (no_pair_left form _ i.0 _ c.in_default.is (c.in_ok-pair.ensures.first form _ i.1)) at i.2)
+    all_made (IsPairOf string_bytes form) _ ps (rw (no_pair_left form _ i.0 _ c.in_default.is (c.in_ok-pair.ensures.first form _ i.1)) at i.2)

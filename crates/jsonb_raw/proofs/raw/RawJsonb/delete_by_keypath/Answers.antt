@@ -3,7 +3,7 @@ use Rattle.std.proofs.lemmas.Bool.{false≢true}
 use Rattle.std.proofs.lemmas.Result.{err_from_is_err_and}
 use Rattle.jsonb_doc.specs.Format.{Decodes}
 use Rattle.jsonb_doc.proofs.CanonicalLemmas.{in_any}
-use Rattle.jsonb_keypath.specs.KeyPathViews.{keys_view}
+use Rattle.jsonb_keypath.specs.Private.KeysView.{keys_view}
 use Rattle.jsonb_raw.proofs.PushSteps.{zero_of, empty_of, not_empty}
 use Rattle.jsonb_raw.proofs.DeleteLemmas.{no_place, some_place, same_decodes, without_none, without_whole, part_met, part_out, pushed_decodes}
 use Rattle.jsonb_raw.proofs.raw.RawJsonb.delete_by_keypath.Goals as goal

@@ -2,7 +2,7 @@ use Rattle.std.proofs.Common.{rules, sym, refl}
 use Rattle.std.proofs.lemmas.Result.{err_from_is_err_and}
 use Rattle.jsonb_doc.specs.Representation.Positions.{Locates}
 use Rattle.jsonb_doc.proofs.CanonicalLemmas.{in_any}
-use Rattle.jsonb_keypath.specs.KeyPathViews.{keys_view}
+use Rattle.jsonb_keypath.specs.Private.KeysView.{keys_view}
 use Rattle.jsonb_raw.specs.Places.{tree_at_steps}
 use Rattle.jsonb_raw.proofs.StepLemmas.{next_child, none_met, some_met}
 use Rattle.jsonb_raw.proofs.raw.RawJsonb.spot_by_keypath.Goals as goal

@@ -4,7 +4,7 @@ use Rattle.jsonb_doc.specs.Payload.{any}
 use Rattle.jsonb_doc.specs.Format.{Decodes}
 use Rattle.jsonb_doc.specs.Representation.Positions.{Locates}
 use Rattle.jsonb_keypath.specs.declared.key_path.KeyPath.{KeyPath}
-use Rattle.jsonb_keypath.specs.KeyPathViews.{keys_view}
+use Rattle.jsonb_keypath.specs.Private.KeysView.{keys_view}
 use Rattle.jsonb_raw.specs.Iterators.{YieldsItemsLeft}
 use Rattle.jsonb_raw.specs.Places.{tree_at_steps}
 use Rattle.jsonb_raw.proofs.raw.RawJsonb.spot_by_keypath.Given as goal

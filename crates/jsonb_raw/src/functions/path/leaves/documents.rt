@@ -1,6 +1,7 @@
 //! The leaves of a document as new documents, with their key paths.
 
 ghost use Rattle.std.specs.Prelude.{IfErr, MatchResult, OnOk};
+ghost use Rattle.jsonb_keypath.specs.KeyPathViews.{key_paths_view};
 ghost use Rattle.std.specs.List.{Any, AllZip};
 ghost use Rattle.jsonb_doc.specs.Tree.{Tree};
 ghost use Rattle.jsonb_doc.specs.Payload.{Form};
@@ -11,7 +12,7 @@ ghost use Rattle.jsonb_doc.specs.declared.error.Error.TheVariants.{OutOfMemory, 
 ghost use Rattle.jsonb_raw.specs.AnyBytes.Roots.{HasRoot};
 ghost use Rattle.jsonb_raw.specs.Documents.{raw_bytes};
 ghost use Rattle.jsonb_raw.specs.Leaves.{leaves};
-ghost use Rattle.jsonb_raw.specs.LeafDocuments.{IsLeafDocument};
+ghost use Rattle.jsonb_raw.specs.Making.{IsPairOf};
 
 use super::{LeafOutput, leaves_within, push_part};
 use crate::functions::entries::entry_document;
@@ -75,7 +76,7 @@ impl<'a> RawJsonb<'a> {
         ignore_array: bool,
     ) -> Result<Vec<(KeyPaths<'a>, OwnedJsonb)>, Error>
         ensures leaves { (form : Form) (t : Tree) → Decodes form (raw_bytes self.now) t
-            → MatchResult result (λ made. AllZip (IsLeafDocument form) made.items (leaves ignore_array t))
+            → MatchResult result (λ made. AllZip (IsPairOf key_paths_view form) made.items (leaves ignore_array t))
             (IsOutOfMemory or TooLarge when Any (λ leaf. IsTooLarge form leaf.1) (leaves ignore_array t)) }
         ensures errors { IfErr result (IsDecodingError or OutOfMemory or TooLarge) }
         ensures reads { OnOk result (HasRoot (raw_bytes self.now)) }

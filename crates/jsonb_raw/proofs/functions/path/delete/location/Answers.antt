@@ -1,6 +1,7 @@
 use Rattle.std.proofs.Common.{rules, ap}
 use Rattle.std.proofs.lemmas.Result.{err_from_is_err_and}
-use Rattle.jsonb_keypath.specs.KeyPathViews.{key_view, keys_view}
+use Rattle.jsonb_keypath.specs.KeyPathViews.{key_view}
+use Rattle.jsonb_keypath.specs.Private.KeysView.{keys_view}
 use Rattle.jsonb_raw.proofs.MetLemmas.{walk_begun, met_next, met_no_position, met_no_child}
 use Rattle.jsonb_raw.proofs.functions.path.delete.location.Goals as goal
 

@@ -3,7 +3,7 @@ use Rattle.jsonb_doc.specs.Tree.{Tree}
 use Rattle.jsonb_doc.specs.Payload.{any}
 use Rattle.jsonb_doc.specs.Format.{Decodes}
 use Rattle.jsonb_keypath.specs.declared.key_path.KeyPath.{KeyPath}
-use Rattle.jsonb_keypath.specs.KeyPathViews.{keys_view}
+use Rattle.jsonb_keypath.specs.Private.KeysView.{keys_view}
 use Rattle.jsonb_raw.specs.Iterators.{YieldsItemsLeft}
 use Rattle.jsonb_raw.specs.Places.{location}
 use Rattle.jsonb_raw.proofs.MetLemmas.{Walked}
