@@ -14,10 +14,12 @@ import kit
 import measured
 from edits import say
 
-# The most memory that a task of each kind was seen to take, in bytes, and what each job of a proof takes after the first.
-MEMORY = {"proof": 3_000_000_000, "seed": 3_000_000_000, "tests": 6_000_000_000, "edits": 3_000_000_000, "sound": 3_000_000_000, "again": 0}
+# The most memory that a task of each kind was seen to take, in bytes; that of tasks which take more; and what each job of a proof takes
+# after the first.
+MEMORY = {"proof": 3_000_000_000, "seed": 3_000_000_000, "tests": 4_500_000_000, "edits": 3_000_000_000, "sound": 3_000_000_000, "again": 0}
+MORE_MEMORY = {("jsonb_raw", "tests"): 6_000_000_000}
 MEMORY_OF_A_JOB = 800_000_000
-# What the commands take that .ci/run runs beside the gate.
+# What the other commands of .ci/run take at the same time.
 MEMORY_BESIDE = 2_000_000_000
 # How many lines of a crate are proved in a minute, about, if it was not measured.
 LINES = 700
@@ -88,7 +90,7 @@ def in_lanes(tasks):
     and a call that takes what was given so far and how many jobs it may use. Of those that are ready, the first goes
     first, and the longest of a kind. Proofs that can be made at one time share the lanes as jobs, so that one alone has all:
     other tasks are nicer, and take what it leaves idle. Any other task has one job, since more jobs take more time of the
-    processors in all. If memory has no room for a task, those after it wait too.
+    processors in all. If a task does not fit into memory, those after it wait too.
     """
     lanes, memory, running, given = kit.processors(), kit.free() - MEMORY_BESIDE, {}, {}
     took = expected(tasks)
@@ -99,7 +101,7 @@ def in_lanes(tasks):
             proofs = [it for it in [*ready, *(key for key, _ in running.values())] if it[1] == "proof"]
             for key in ready[: lanes - len(running)]:
                 jobs = jobs_of(key, proofs, lanes, took)
-                needs = MEMORY[key[1]] + (jobs - 1) * MEMORY_OF_A_JOB
+                needs = MORE_MEMORY.get(key[:2], MEMORY[key[1]]) + (jobs - 1) * MEMORY_OF_A_JOB
                 if running and needs + sum(it for _, it in running.values()) > memory:
                     break
                 left.remove(key)

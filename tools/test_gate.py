@@ -129,7 +129,7 @@ def fault_of_reasons(printed, expected):
 
 
 def fault_of_lanes(free, expected):
-    """Returns what is wrong with how many tasks are done at a time with so much free memory, or an empty text."""
+    """Returns what is wrong with how many tasks are done at a time with this much free memory, or an empty text."""
     kit.processors, kit.free = lambda: 4, lambda: free * 10**9
     running, most, lock = 0, 0, threading.Lock()
 
