@@ -16,7 +16,7 @@ from edits import say
 
 # The most memory that a task of each kind was seen to take, in bytes; that of tasks which take more; and what each job of a proof takes
 # after the first.
-MEMORY = {"proof": 3_000_000_000, "seed": 3_000_000_000, "tests": 4_500_000_000, "edits": 3_000_000_000, "sound": 3_000_000_000, "again": 0}
+MEMORY = {"proof": 3_600_000_000, "seed": 3_000_000_000, "tests": 4_500_000_000, "edits": 3_000_000_000, "sound": 3_000_000_000, "again": 0}
 MORE_MEMORY = {("jsonb_raw", "tests"): 6_000_000_000}
 MEMORY_OF_A_JOB = 800_000_000
 # What the other commands of .ci/run take at the same time.
