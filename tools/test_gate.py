@@ -48,14 +48,19 @@ OPEN_GOAL = "note: src/low.rt:3:1: it is not proved that the result is as stated
 MISSING_NAME = "./proofs/one/Answers.antt:5:55: error: `returns-clause`: it is not in scope"
 NOT_PROVED = "fn low::one: not proved"
 CALLER = "fn low::two: not proved; it calls `low::one`, which is not proved"
+PROVED_MUTANT = "must-fail low/b.edit: NOT REFUSED: the crate is still proved with this edit"
 MANY = [f"{MISSING_NAME} {number}" for number in range(20)]
 PRINTED = {
     "a proof": (["== low", OPEN_GOAL, "rt: low proved"], []),
-    "an open goal": (["== low", "fn low::error::Error: proved", NOT_PROVED, CALLER, OPEN_GOAL, "rt: low NOT PROVED"], ["not proved: low", f"  {OPEN_GOAL}", f"  {NOT_PROVED}"]),
+    "an open goal": (
+        ["== low", "fn low::error::Error: proved", NOT_PROVED, CALLER, OPEN_GOAL, "rt: low NOT PROVED"],
+        ["not proved: low", f"  {OPEN_GOAL}", f"  {NOT_PROVED}"],
+    ),
     "more errors": (["== low", *MANY, "rt: low NOT PROVED"], ["not proved: low", *(f"  {it}" for it in MANY[:10])]),
     "no error": (["== low", "Killed", "rt: low NOT PROVED"], ["not proved: low", "  Killed"]),
     "a long line": (["== low", f"error: {'x' * 999}", "rt: low NOT PROVED"], ["not proved: low", f"  error: {'x' * 233}"]),
     "its library": (["== low", OPEN_GOAL, "rt: low NOT PROVED", "rt: high NOT PROVED: its library low failed"], ["not proved: low", f"  {OPEN_GOAL}"]),
+    "mutants": (["must-fail low/a.edit: refused, as it must be", *2 * [f"rt: {PROVED_MUTANT}"]], [PROVED_MUTANT]),
     "its tests": (
         ["== low", "rt: low proved", "== low: its tests", MISSING_NAME, "rt: low: its tests are NOT PROVED"],
         ["not proved: low: its tests", f"  {MISSING_NAME}"],
