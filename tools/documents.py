@@ -135,14 +135,20 @@ def decode(bytes_):
     return values if kind == HEADERS["array"] else dict(zip(values[:count], values[count:]))
 
 
-class Numbers(json.JSONEncoder):
-    def default(self, value):
-        return float(value) if isinstance(value, Decimal) else super().default(value)
+def written(value):
+    """The JSON text of a value, whose numbers have no exponents."""
+    if isinstance(value, Decimal):
+        return format(value, "f") if value else "0"
+    if isinstance(value, list):
+        return "[%s]" % ",".join(map(written, value))
+    if isinstance(value, dict):
+        return "{%s}" % ",".join(f"{written(key)}:{written(value[key])}" for key in sorted(value, key=str.encode))
+    return json.dumps(value, ensure_ascii=False)
 
 
 def main(arguments):
     if len(arguments) == 2 and arguments[0] == "--text":
-        print(json.dumps(decode(bytes.fromhex(arguments[1])), ensure_ascii=False, cls=Numbers, separators=(",", ":")))
+        print(written(decode(bytes.fromhex(arguments[1]))))
     elif len(arguments) == 1 and not arguments[0].startswith("--"):
         print(hexadecimal(arguments[0]))
     else:

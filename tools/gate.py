@@ -17,7 +17,7 @@ own program on a copy of the repository, with three things changed:
 So the prover says `incremental=trusted` of each crate: it trusts the files that this run wrote in its own folder. rt ci
 by itself, which trusts none, takes the repository as well, and nothing that is kept here. The work tree gets each program
 and the static library once its crate is proved, for the commands that use them. The last line is 'N passed, M failed'. Before
-it are the first errors of each proof that failed.
+it are the first errors of each proof that failed, and the mutants that are not rejected.
 
 With a kit that lacks what tools/kit.py uses of rt, this is plain rt ci, and `rt lib` for the static library.
 """

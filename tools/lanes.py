@@ -1,6 +1,7 @@
 """The tasks of rt ci side by side: as many as there are processors, and no more than free memory has room for.
 
-rt's own estimate of memory is several times what a check of these crates takes, so that it runs nearly one at a time.
+rt's own estimate of memory is several times what a check of these crates takes, so that it runs nearly one at a time. How long a proof
+takes is in docs/measured/gate.csv (tools/gate_times.py).
 """
 import contextlib
 import os
@@ -10,10 +11,18 @@ import traceback
 from concurrent.futures import FIRST_COMPLETED, ThreadPoolExecutor, wait
 
 import kit
+import measured
 from edits import say
 
-# The most memory that a check was seen to take, in bytes: 4.5 GB for a proof from nothing, 2.8 GB for an edit.
-MEMORY_OF_A_CHECK = 4_500_000_000
+# The most memory that a task of each kind was seen to take, in bytes; that of tasks which take more; and what each job of a proof takes
+# after the first.
+MEMORY = {"proof": 3_600_000_000, "seed": 3_000_000_000, "tests": 4_500_000_000, "edits": 3_000_000_000, "sound": 3_000_000_000, "again": 0}
+MORE_MEMORY = {("jsonb_raw", "tests"): 6_000_000_000}
+MEMORY_OF_A_JOB = 800_000_000
+# What the other commands of .ci/run take at the same time.
+MEMORY_BESIDE = 2_000_000_000
+# How many lines of a crate are proved in a minute, about, if it was not measured.
+LINES = 700
 # How much nicer than a proof the other tasks are to the processor.
 NICE = 10
 # The seconds before a task that an exception ended begins again.
@@ -22,8 +31,21 @@ BEGUN = time.time()
 
 
 def lanes_here():
-    """Returns how many checks this machine can do at a time: one a processor, as memory allows."""
-    return max(1, min(kit.processors(), kit.free() // MEMORY_OF_A_CHECK))
+    """Returns how many small checks this machine can do at a time: one a processor, as memory allows."""
+    return max(1, min(kit.processors(), kit.free() // MEMORY["edits"]))
+
+
+def expected(tasks):
+    """Returns how many minutes each task is expected to take: as many as when it was measured, or by its lines."""
+    took = {row["step"]: float(row["minutes"]) for row in measured.read("gate")}
+    steps = {key: key[0] if key[1] == "proof" else " ".join(key[:2]) for key in tasks}
+    return {key: took.get(step, tasks[key][1] / LINES) for key, step in steps.items()}
+
+
+def jobs_of(key, proofs, lanes, took):
+    """Returns how many jobs a task has: a proof its part of the lanes, by the minutes of all proofs that can be made at one time."""
+    whole = sum(took[it] for it in proofs)
+    return max(1, round(lanes * took[key] / whole)) if key[1] == "proof" and whole else 1
 
 
 def minutes(since):
@@ -66,19 +88,24 @@ def in_lanes(tasks):
 
     A key begins with a crate's name and the kind of the task. A task is what it waits for, its work in lines, its memory,
     and a call that takes what was given so far and how many jobs it may use. Of those that are ready, the first goes
-    first. Proofs that can be made at one time share the lanes as jobs, so that one alone has all: other tasks are nicer,
-    and take what it leaves idle. Any other task has one job, since more jobs take more time of the processors in all.
+    first, and the longest of a kind. Proofs that can be made at one time share the lanes as jobs, so that one alone has all:
+    other tasks are nicer, and take what it leaves idle. Any other task has one job, since more jobs take more time of the
+    processors in all. If a task does not fit into memory, those after it wait too.
     """
-    lanes, running, given = lanes_here(), {}, {}
-    left = sorted(tasks, key=lambda it: (kit.KINDS.index(it[1]), -tasks[it][1]))
+    lanes, memory, running, given = kit.processors(), kit.free() - MEMORY_BESIDE, {}, {}
+    took = expected(tasks)
+    left = sorted(tasks, key=lambda it: (kit.KINDS.index(it[1]), -took[it]))
     with kit.rt.ending(), ThreadPoolExecutor(lanes) as pool:
         while left or running:
             ready = [it for it in left if all(below in given for below in tasks[it][0])]
-            proofs = sum(it[1] == "proof" for it in [*ready, *running.values()])
+            proofs = [it for it in [*ready, *(key for key, _ in running.values())] if it[1] == "proof"]
             for key in ready[: lanes - len(running)]:
+                jobs = jobs_of(key, proofs, lanes, took)
+                needs = MORE_MEMORY.get(key[:2], MEMORY[key[1]]) + (jobs - 1) * MEMORY_OF_A_JOB
+                if running and needs + sum(it for _, it in running.values()) > memory:
+                    break
                 left.remove(key)
-                jobs = max(1, lanes // proofs) if key[1] == "proof" else 1
-                running[pool.submit(do_task, key, tasks[key][-1], given, jobs)] = key
+                running[pool.submit(do_task, key, tasks[key][-1], given, jobs)] = key, needs
             for it in wait(running, return_when=FIRST_COMPLETED).done:
-                given[running.pop(it)] = it.result()
+                given[running.pop(it)[0]] = it.result()
     return given

@@ -1,6 +1,7 @@
 #!/usr/bin/env python3
 """Tests .ci/run, with commands that do nothing in the place of those that it counts: it must fail if one of them fails, counts nothing,
-skips a test or is killed, and repeat the last lines of that command at the end. Tests which errors tools/gate.py repeats.
+skips a test or is killed, and repeat the last lines of that command at the end. Tests which errors tools/gate.py repeats, and how
+many tasks it does at a time.
 
     tools/test_gate.py        the last line is 'N passed, M failed'
 """
@@ -10,10 +11,14 @@ import shutil
 import subprocess
 import sys
 import tempfile
+import threading
+import time
 from pathlib import Path
 
 sys.dont_write_bytecode = True
 import check_counts
+import kit
+import lanes
 import reasons
 import results
 
@@ -43,19 +48,28 @@ OPEN_GOAL = "note: src/low.rt:3:1: it is not proved that the result is as stated
 MISSING_NAME = "./proofs/one/Answers.antt:5:55: error: `returns-clause`: it is not in scope"
 NOT_PROVED = "fn low::one: not proved"
 CALLER = "fn low::two: not proved; it calls `low::one`, which is not proved"
+PROVED_MUTANT = "must-fail low/b.edit: NOT REFUSED: the crate is still proved with this edit"
 MANY = [f"{MISSING_NAME} {number}" for number in range(20)]
 PRINTED = {
     "a proof": (["== low", OPEN_GOAL, "rt: low proved"], []),
-    "an open goal": (["== low", "fn low::error::Error: proved", NOT_PROVED, CALLER, OPEN_GOAL, "rt: low NOT PROVED"], ["not proved: low", f"  {OPEN_GOAL}", f"  {NOT_PROVED}"]),
+    "an open goal": (
+        ["== low", "fn low::error::Error: proved", NOT_PROVED, CALLER, OPEN_GOAL, "rt: low NOT PROVED"],
+        ["not proved: low", f"  {OPEN_GOAL}", f"  {NOT_PROVED}"],
+    ),
     "more errors": (["== low", *MANY, "rt: low NOT PROVED"], ["not proved: low", *(f"  {it}" for it in MANY[:10])]),
     "no error": (["== low", "Killed", "rt: low NOT PROVED"], ["not proved: low", "  Killed"]),
     "a long line": (["== low", f"error: {'x' * 999}", "rt: low NOT PROVED"], ["not proved: low", f"  error: {'x' * 233}"]),
     "its library": (["== low", OPEN_GOAL, "rt: low NOT PROVED", "rt: high NOT PROVED: its library low failed"], ["not proved: low", f"  {OPEN_GOAL}"]),
+    "mutants": (["must-fail low/a.edit: refused, as it must be", *2 * [f"rt: {PROVED_MUTANT}"]], [PROVED_MUTANT]),
     "its tests": (
         ["== low", "rt: low proved", "== low: its tests", MISSING_NAME, "rt: low: its tests are NOT PROVED"],
         ["not proved: low: its tests", f"  {MISSING_NAME}"],
     ),
 }
+# The free memory of a machine with four processors, in GB, and how many crates' tests are proved there at a time.
+LANES = {30: 4, 15: 2, 3: 1}
+# The minutes of proofs that can be made at a time, and how many jobs the first of them has on four processors.
+JOBS = {(14,): 4, (0,): 1, (18, 7, 6, 4, 3, 0): 2, (7, 18, 6, 4, 3, 0): 1, (10, 10): 2}
 # The crates whose programs and library other commands wait for.
 BUILT = ("jsonb_c", "jsonb_lines", "jsonb_sweep", "jsonb_tool")
 
@@ -119,6 +133,32 @@ def fault_of_reasons(printed, expected):
     return "" if found == expected else f"expected {expected}, got {found}"
 
 
+def fault_of_lanes(free, expected):
+    """Returns what is wrong with how many tasks are done at a time with this much free memory, or an empty text."""
+    kit.processors, kit.free = lambda: 4, lambda: free * 10**9
+    running, most, lock = 0, 0, threading.Lock()
+
+    def call(given, jobs):
+        nonlocal running, most
+        with lock:
+            running += 1
+            most = max(most, running)
+        time.sleep(0.1)
+        with lock:
+            running -= 1
+        return True
+
+    done = lanes.in_lanes({(f"crate{number}", "tests"): ([], 100, 0, call) for number in range(8)})
+    return "" if most == expected and len(done) == 8 else f"{free} GB: expected {expected} of 8 tasks at a time, got {most} of {len(done)}"
+
+
+def fault_of_jobs(minutes, expected):
+    """Returns what is wrong with the jobs of the first of some proofs, or an empty text."""
+    proofs = [(f"crate{number}", "proof") for number in range(len(minutes))]
+    found = lanes.jobs_of(proofs[0], proofs, 4, dict(zip(proofs, minutes)))
+    return "" if found == expected else f"{minutes}: expected {expected} jobs, got {found}"
+
+
 def faults():
     """Yields what is wrong in each case, and an empty text for each in which nothing is."""
     commands = check_counts.commands()
@@ -132,6 +172,8 @@ def faults():
         yield fault_of_end(room, commands[0])
     for words, it in PRINTED.items():
         yield named(words, fault_of_reasons(*it))
+    yield from (fault_of_lanes(*it) for it in LANES.items())
+    yield from (fault_of_jobs(*it) for it in JOBS.items())
 
 
 def named(words, fault):

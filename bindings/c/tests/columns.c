@@ -321,11 +321,9 @@ static void test_growths(const struct column *column, const struct bytes_call *c
     size_t rows = wanted_cells(column, call->row, NULL, cells);
     for (long refused = 0, growths = 1; can_refuse() && growths > refused; refused++) {
         struct runs given = {malloc(MOST), MOST, malloc((rows + 1) * 8), rows + 1, malloc(rows), rows, {99, 99, 99}};
-        refuse_growth(refused);
-        start_counting();
+        start_counting(refused);
         uint32_t status = call->column(column, 0, &given);
         growths = stop_counting();
-        refuse_growth(-1);
         bool met = growths > refused, right = live_blocks() == 0;
         size_t lacking = 0;
         for (size_t i = 0; status == JDOC_OK && i < rows; i++) {
@@ -349,11 +347,9 @@ static void test_fixed_growths(const struct column *column, const struct fixed_c
     for (long refused = 0, growths = 1; can_refuse() && growths > refused; refused++) {
         struct rows given = {malloc(rows * 8), rows, malloc(rows), rows, 99};
         memset(given.answers, FILL, rows * 8), memset(given.statuses, FILL, rows);
-        refuse_growth(refused);
-        start_counting();
+        start_counting(refused);
         uint32_t status = call->column(column, 0, &given);
         growths = stop_counting();
-        refuse_growth(-1);
         bool met = growths > refused, right = live_blocks() == 0;
         size_t lacking = 0;
         for (size_t i = 0; status == JDOC_OK && i < rows; i++) {

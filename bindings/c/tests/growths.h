@@ -6,7 +6,7 @@
 #include <stddef.h>
 
 #ifdef REFUSING
-static long growths_seen, growth_refused = -1, growths_refused, blocks_live;
+static long growths_seen, growth_refused, growths_refused, blocks_live;
 static bool is_counting;
 
 void *__real_malloc(size_t size);
@@ -39,16 +39,18 @@ void __wrap_free(void *block) {
     __real_free(block);
 }
 
-static void start_counting(void) { growths_seen = 0, blocks_live = 0, is_counting = true; }
+/* Count allocations. The one with this number fails, from 0. */
+static void start_counting(long growth) {
+    growths_seen = 0, blocks_live = 0, growth_refused = growth;
+    is_counting = true;
+}
 static long stop_counting(void) { return is_counting = false, growths_seen; }
-static void refuse_growth(long growth) { growth_refused = growth; }
 static long live_blocks(void) { return blocks_live; }
 static bool can_refuse(void) { return true; }
 static bool has_refused(void) { return growths_refused > 0; }
 #else
-static void start_counting(void) {}
+static void start_counting(long growth) { (void)growth; }
 static long stop_counting(void) { return 0; }
-static void refuse_growth(long growth) { (void)growth; }
 static long live_blocks(void) { return 0; }
 static bool can_refuse(void) { return false; }
 static bool has_refused(void) { return true; }

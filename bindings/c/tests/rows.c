@@ -345,7 +345,7 @@ static bool has_scalar(const struct row *row, const struct result *r) {
 static bool is_right(const struct row *row, uint32_t status, size_t size, long *growths) {
     uint8_t *out = malloc(size + GUARD);
     memset(out, FILL, size + GUARD);
-    start_counting();
+    start_counting(-1);
     struct result r = run(row, out, size);
     *growths = stop_counting();
     bool right = has_scalar(row, &r) && live_blocks() == 0;
@@ -387,15 +387,13 @@ static bool nulls_are_right(const struct row *row) {
 /* Fail each allocation in turn, until a run has no failure. */
 static bool every_refusal_is_right(const struct row *row) {
     for (long refused = 0, growths = 1; can_refuse() && growths > refused; refused++) {
-        refuse_growth(refused);
         struct row asked = *row;
         struct result r;
         uint8_t *out = malloc(row->wanted.len + GUARD);
         memset(out, FILL, row->wanted.len + GUARD);
-        start_counting();
+        start_counting(refused);
         r = run(&asked, out, row->wanted.len);
         growths = stop_counting();
-        refuse_growth(-1);
         bool met = growths > refused;
         bool right = live_blocks() == 0 && r.status == (met ? (uint32_t)JDOC_OUT_OF_MEMORY : row->status) &&
                      has_scalar(row, &r);

@@ -123,17 +123,6 @@ def plain(value, scale):
     return ("-" if value < 0 else "") + text
 
 
-def written(value):
-    """The JSON text of a value of Python's json, whose numbers with a point are Decimals."""
-    if isinstance(value, Decimal):
-        return format(value, "f") if value else "0"
-    if isinstance(value, list):
-        return "[%s]" % ",".join(map(written, value))
-    if isinstance(value, dict):
-        return "{%s}" % ",".join(f"{quoted(key)}:{written(value[key])}" for key in sorted(value, key=str.encode))
-    return quoted(value) if isinstance(value, str) else json.dumps(value)
-
-
 def quoted(text):
     return json.dumps(text, ensure_ascii=False)
 
@@ -148,7 +137,7 @@ def error(options, text, status, at):
 
 
 def document(options, text, value):
-    row(options, text, model.encode(value).hex(), written(value).encode().hex())
+    row(options, text, model.encode(value).hex(), model.written(value).encode().hex())
 
 
 def numbers():

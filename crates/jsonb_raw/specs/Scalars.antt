@@ -1,5 +1,5 @@
 -- The types of trees, and the values of scalars.
-use Rattle.std.specs.Prelude.{◌≡◌, ◌||◌, ℕ, Bool, true, false, not, if◌then◌else◌, List, Option, Some, None, ℤ, is_some, IsSomeAnd, codes}
+use Rattle.std.specs.Prelude.{◌≡◌, ◌||◌, ℕ, Bool, true, false, not, if◌then◌else◌, List, Option, Some, None, ℤ, is_some, IsSomeAnd, MatchOption, codes}
 use Rattle.std.specs.declared.alloc.Global.{Global}
 use Rattle.std.specs.declared.borrow.CowStr.{CowStr}
 use Rattle.std.specs.declared.borrow.CowStr.TheVariants.{Borrowed, Owned}
@@ -54,6 +54,10 @@ type_name (array ts) = codes "ARRAY"
 type_name (object ps) = codes "OBJECT"
 
 -- ---- results
+
+-- Holds if what is found satisfies the condition, or nothing does.
+abbrev pub FindsAny : {A : Type 0} → (A → Type 0) → Option A → Type 0
+FindsAny {A} IsWanted found = MatchOption found ((x : A) → IsWanted x → ⊥) IsWanted
 
 -- Holds if the string is borrowed, and is this one.
 abbrev pub BorrowsText : CowStr Global → List ℕ → Type 0

@@ -2,8 +2,8 @@
 //!
 //! On bytes that do not decode each function returns; its result is not specified. Only the root is read.
 
-ghost use Rattle.std.specs.Prelude.{◌≡◌, ◌↔◌, ℕ, ℤ, List, IsTrue, IfErr, IsOkAnd, MatchOption, MatchResult, OnOk};
-ghost use Rattle.jsonb_doc.specs.Extension.{Extension, binary, date, timestamp, timestamp_tz, interval};
+ghost use Rattle.std.specs.Prelude.{◌≡◌, ◌↔◌, ℕ, ℤ, List, IsTrue, IfErr, IsOkAnd, MatchResult, OnOk, option_map};
+ghost use Rattle.jsonb_doc.specs.Extension.{binary, date, timestamp, timestamp_tz, interval};
 ghost use Rattle.jsonb_doc.specs.Tree.{Tree, extension};
 ghost use Rattle.jsonb_doc.specs.Payload.{Form};
 ghost use Rattle.jsonb_doc.specs.Format.{Decodes};
@@ -13,7 +13,7 @@ ghost use Rattle.jsonb_raw.specs.Computes.{Computes};
 ghost use Rattle.jsonb_raw.specs.Documents.{raw_bytes};
 ghost use Rattle.jsonb_raw.specs.AnyBytes.Roots.{HasRootShape};
 ghost use Rattle.jsonb_doc.specs.declared.error.Error.TheVariants.{OutOfMemory};
-ghost use Rattle.jsonb_raw.specs.Scalars.{is_extension_value};
+ghost use Rattle.jsonb_raw.specs.Scalars.{FindsAny, is_extension_value};
 
 use crate::raw::RawJsonb;
 use jsonb_doc::{Date, Error, ExtensionValue, Interval, Shape, Timestamp, TimestampTz, root_shape};
@@ -213,8 +213,7 @@ impl<'a> RawJsonb<'a> {
     /// ```
     pub fn as_extension_value(&self) -> Result<Option<ExtensionValue<'a>>, Error>
         ensures value { (form : Form) (tree : Tree) → Decodes form (raw_bytes self.now) tree
-            → IsOkAnd result (λ found. MatchOption found ((x : Extension) → tree ≡ extension x → ⊥)
-            (λ x. tree ≡ extension (extension_view x))) }
+            → IsOkAnd result (λ found. FindsAny (λ x. tree ≡ extension x) (option_map extension_view found)) }
         ensures errors { IfErr result IsDecodingError }
         ensures reads { OnOk result (HasRootShape (raw_bytes self.now)) }
     {
@@ -242,8 +241,7 @@ impl<'a> RawJsonb<'a> {
     /// ```
     pub fn as_date(&self) -> Result<Option<Date>, Error>
         ensures value { (form : Form) (tree : Tree) → Decodes form (raw_bytes self.now) tree
-            → IsOkAnd result (λ found. MatchOption found ((value : ℤ) → tree ≡ extension (date value) → ⊥)
-            (λ day. tree ≡ extension (date day.value))) }
+            → IsOkAnd result (FindsAny (λ day. tree ≡ extension (date day.value))) }
         ensures errors { IfErr result IsDecodingError }
         ensures reads { OnOk result (HasRootShape (raw_bytes self.now)) }
     {
@@ -272,8 +270,7 @@ impl<'a> RawJsonb<'a> {
     /// ```
     pub fn as_timestamp(&self) -> Result<Option<Timestamp>, Error>
         ensures value { (form : Form) (tree : Tree) → Decodes form (raw_bytes self.now) tree
-            → IsOkAnd result (λ found. MatchOption found ((value : ℤ) → tree ≡ extension (timestamp value) → ⊥)
-            (λ time. tree ≡ extension (timestamp time.value))) }
+            → IsOkAnd result (FindsAny (λ time. tree ≡ extension (timestamp time.value))) }
         ensures errors { IfErr result IsDecodingError }
         ensures reads { OnOk result (HasRootShape (raw_bytes self.now)) }
     {
@@ -303,9 +300,7 @@ impl<'a> RawJsonb<'a> {
     /// ```
     pub fn as_timestamp_tz(&self) -> Result<Option<TimestampTz>, Error>
         ensures value { (form : Form) (tree : Tree) → Decodes form (raw_bytes self.now) tree
-            → IsOkAnd result (λ found.
-            MatchOption found ((offset value : ℤ) → tree ≡ extension (timestamp_tz offset value) → ⊥)
-            (λ time. tree ≡ extension (timestamp_tz time.offset time.value))) }
+            → IsOkAnd result (FindsAny (λ time. tree ≡ extension (timestamp_tz time.offset time.value))) }
         ensures errors { IfErr result IsDecodingError }
         ensures reads { OnOk result (HasRootShape (raw_bytes self.now)) }
     {
@@ -335,9 +330,7 @@ impl<'a> RawJsonb<'a> {
     /// ```
     pub fn as_interval(&self) -> Result<Option<Interval>, Error>
         ensures value { (form : Form) (tree : Tree) → Decodes form (raw_bytes self.now) tree
-            → IsOkAnd result (λ found.
-            MatchOption found ((months days micros : ℤ) → tree ≡ extension (interval months days micros) → ⊥)
-            (λ time. tree ≡ extension (interval time.months time.days time.micros))) }
+            → IsOkAnd result (FindsAny (λ time. tree ≡ extension (interval time.months time.days time.micros))) }
         ensures errors { IfErr result IsDecodingError }
         ensures reads { OnOk result (HasRootShape (raw_bytes self.now)) }
     {
@@ -368,8 +361,7 @@ impl<'a> RawJsonb<'a> {
     pub fn as_binary(&self, alloc: Global) -> Result<Option<Vec<u8>>, Error>
         ensures value { (form : Form) (tree : Tree) → Decodes form (raw_bytes self.now) tree
             → MatchResult result
-            (λ found. MatchOption found ((bytes : List ℕ) → tree ≡ extension (binary bytes) → ⊥)
-            (λ copy. tree ≡ extension (binary copy.items)))
+            (λ found. FindsAny (λ bytes. tree ≡ extension (binary bytes)) (option_map (λ copy. copy.items) found))
             (λ e. IsOutOfMemory e × ((bytes : List ℕ) × (tree ≡ extension (binary bytes)))) }
         ensures errors { IfErr result (IsDecodingError or OutOfMemory) }
         ensures reads { OnOk result (HasRootShape (raw_bytes self.now)) }
