@@ -10,7 +10,8 @@ use Rattle.jsonb_keypath.proofs.ReadsLemmas.{NeverGrows, some-no_more}
 use Rattle.jsonb_keypath.proofs.CutLemmas.{some-literal}
 use Rattle.jsonb_keypath.proofs.GrowsLemmas.{grows-ws}
 use Rattle.jsonb.specs.PathTree.{filter, Expression}
-use Rattle.jsonb.specs.PathGrammar.{spaced, spaced_inner, path_root, unary_atom, binary_atom, filter_with, path_with, group_with, exists_steps, exists_with, atom_with, and_with, or_with, nested_or, expression, path_step}
+use Rattle.jsonb.specs.PathGrammar.{spaced, spaced_inner, path_root, unary_atom, binary_atom, path_with, group_with, exists_with, atom_with, and_with, or_with, nested_or, expression, path_step}
+use Rattle.jsonb.specs.Private.Fronts.{exists_steps, filter_with}
 use Rattle.jsonb.proofs.ExpressionReadsSome.{some-path_root, some-and_separator, some-or_separator, some-atom, some-and, grows-nested_or}
 
 -- the rules do the same on inputs that are shorter than this
@@ -83,7 +84,7 @@ agree-below k rule rule' h input short = h input (omega arith)
 module _ (k : ℕ) (nested nested' : Bool → Rule Expression) (grows-nested : (f : Bool) → NeverGrows (nested f)) (same : (f : Bool) →
     Agree k (nested f) (nested' f)) where
   agree-filter : Agree (suc k) (filter_with nested) (filter_with nested')
-  unfolding filter_with
+  unfolding group_with
   agree-filter =
       agree-behind k 63 [] _ _ (agree-next k ws _ _ grows-ws (λ _. agree-next k (literal "(") _ _ (some-no_more (literal "(")
       (some-literal 40 [])) (λ _. agree-next k ws _ _ grows-ws (λ _. agree-first k (nested true) (nested' true) _ (same true)))))

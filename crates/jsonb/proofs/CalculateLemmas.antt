@@ -12,7 +12,8 @@ use Rattle.jsonb_doc.specs.Tree as tree
 use Rattle.jsonb_doc.specs.Tree.{Tree}
 use Rattle.jsonb_doc.specs.View.{number_view}
 use Rattle.jsonb_doc.specs.declared.number.Number.{Number as CodeNumber}
-use Rattle.jsonb.specs.PathArithmetic.{number_list, two_numbers, all_numbers, signed_number, each_signed}
+use Rattle.jsonb.specs.PathArithmetic.{two_numbers, all_numbers, signed_number, each_signed}
+use Rattle.jsonb.specs.Private.Calculation.{number_list}
 use Rattle.jsonb.specs.PathTree.{UnaryOp}
 use Rattle.std.specs.List.{AllZip}
 use Rattle.jsonb.specs.Private.Selection.{only_number, are_numbers, signed_value, IsNumberTree, IsNumberItem}

@@ -7,7 +7,8 @@ use Rattle.jsonb_keypath.specs.Tokens.{ws, past, is_space}
 use Rattle.jsonb_keypath.proofs.ReadBackLemmas.{front, stops, front-stops, front-implies, begins, begins-implies, begins-excludes, stops-from_begins, in_sequence}
 use Rattle.jsonb_keypath.proofs.RepeatLemmas.{repeat-goes, repeat-ends}
 use Rattle.jsonb.specs.PathTree.{BinaryOp, and_op, or_op, UnaryOp, plus, minus, Step, root, current, dot_wildcard, recursive_dot_wildcard, bracket_wildcard, dot_field, colon_field, object_field, array_indices, filter, whole_expression, Steps, no_steps, step, Expression, paths, value, binary, unary, exists, steps_of}
-use Rattle.jsonb.specs.PathGrammar.{spaced, binary_atom, joined_by, filter_with, path_with, group_with, exists_with, atom_with, and_with, or_with, nested_or}
+use Rattle.jsonb.specs.PathGrammar.{spaced, binary_atom, joined_by, path_with, group_with, exists_with, atom_with, and_with, or_with, nested_or}
+use Rattle.jsonb.specs.Private.Fronts.{filter_with}
 use Rattle.jsonb.specs.PathText.{step_text, steps_text, expression_text, side_text, needs_parentheses, operator_text, sign_text, joins}
 use Rattle.jsonb.proofs.SettledPaths.{settled_step, settled_steps, settled}
 use Rattle.jsonb.proofs.PathShape.{IsInner, IsBeginning, IsOperand, is_signed, IsPathStep, ArePathSteps, IsCondition}
@@ -375,7 +376,7 @@ filter-shown e rest = append_assoc (63 ∷ 40 ∷ expression_text e) (41 ∷ [])
 filter-text : (nested : Bool → Rule Expression) (text : List ℕ) (e : Expression) (rest : List ℕ) →
     past is_space (text ++ 41 ∷ rest) ≡ text ++ 41 ∷ rest →
     ReadsTo (nested true) (text ++ 41 ∷ rest) e (41 ∷ rest) → filter_with nested (63 ∷ 40 ∷ text ++ 41 ∷ rest) ≡ Some (e, rest)
-unfolding filter_with ws
+unfolding group_with ws
 filter-text nested text e rest no_space r = rw (no_space, r.reads, r.same) refl
 
 filter_step-reads : (e : Expression) → ConditionReads e → StepReads (filter e)
@@ -433,7 +434,7 @@ close_is_no_question b h = grind (arith, nat_tests)
 
 no_filter : (nested : Bool → Rule Expression) (rest : List ℕ) → front is_close rest ≡ true →
     (filter_with nested >>= λ e. give (filter e)) rest ≡ None
-unfolding filter_with
+unfolding group_with
 no_filter nested [] h = refl
 no_filter nested (b ∷ rest) h = rw (close_is_no_question b h) refl
 

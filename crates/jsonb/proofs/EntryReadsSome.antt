@@ -11,7 +11,8 @@ use Rattle.jsonb_keypath.proofs.CutLemmas.{nothing, some-literal}
 use Rattle.jsonb_keypath.proofs.GrowsLemmas.{grows-ws, some-integer_within}
 use Prim.Native.String.{String}
 use Rattle.jsonb.specs.PathTree.{from_front, single, slice}
-use Rattle.jsonb.specs.PathGrammar.{in_any_case, keyword, spaced, last_and, place, entry}
+use Rattle.jsonb.specs.PathGrammar.{keyword, spaced, last_and, place, entry}
+use Rattle.jsonb.specs.Private.Fronts.{in_any_case}
 use Rattle.jsonb.specs.Private.Repeated.{another_entry}
 
 shorter : (n : ℕ) (b : ℕ) (input : List ℕ) → length (drop (suc n) (b ∷ input)) < length (b ∷ input)

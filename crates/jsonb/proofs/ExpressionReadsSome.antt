@@ -9,7 +9,8 @@ use Rattle.jsonb_keypath.proofs.CutLemmas.{some-literal}
 use Rattle.jsonb_keypath.proofs.GrowsLemmas.{grows-ws, some-quoted, some-integer_within, some-natural_below}
 use Rattle.jsonb_doc.specs.declared.number.Number.TheVariants.{Int64, UInt64}
 use Rattle.jsonb.specs.PathTree.{null, boolean, number, string, eq, not_eq, lt, lte, gt, gte, starts_with_op, add, subtract, multiply, divide, modulo, plus, minus, root, current, filter, Expression}
-use Rattle.jsonb.specs.PathGrammar.{spaced, spaced_inner, path_root, literal_value, operand_steps, operand, spaced_operand, arithmetic_operator, operator, unary_operator, unary_atom, binary_atom, filter_with, path_with, group_with, exists_steps, exists_with, atom_with, and_with, or_with, nested_or, path_step}
+use Rattle.jsonb.specs.PathGrammar.{spaced, spaced_inner, path_root, literal_value, operand, spaced_operand, arithmetic_operator, operator, unary_operator, unary_atom, binary_atom, path_with, group_with, exists_with, atom_with, and_with, or_with, nested_or, path_step}
+use Rattle.jsonb.specs.Private.Fronts.{operand_steps, exists_steps, filter_with}
 use Rattle.jsonb.specs.Private.Repeated.{another_atom, another_and}
 use Rattle.jsonb.proofs.EntryReadsSome.{some-spaced}
 use Rattle.jsonb.proofs.InnerReadsSome.{grows-repeat, some-spaced_inner}
@@ -112,7 +113,7 @@ some-or_separator = some-spaced (literal "||") (some-literal 124 (codes "|"))
 
 module _ (nested : Bool → Rule Expression) (grows-nested : (f : Bool) → NeverGrows (nested f)) where
   some-filter : ReadsSome (filter_with nested)
-  unfolding filter_with
+  unfolding group_with
   some-filter =
       some-then (literal "?") _ (some-literal 63 []) (λ _.
       grows-opened _ (grows-then (nested true) _ (grows-nested true) (λ e. grows-closed e)))

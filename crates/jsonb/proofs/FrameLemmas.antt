@@ -12,7 +12,8 @@ use Rattle.jsonb_keypath.proofs.ReadsLemmas.{NeverGrows, some-then, some-no_more
 use Rattle.jsonb_keypath.proofs.RepeatLemmas.{repeat-goes, repeat-ends, behind, loop-goes, loop-ends}
 use Rattle.jsonb_keypath.proofs.CutLemmas.{nothing}
 use Rattle.jsonb.specs.PathTree.{BinaryOp, binary, and_op, or_op, Expression, Step, root, exists, filter, paths, steps_of, whole_expression}
-use Rattle.jsonb.specs.PathGrammar.{spaced, atom_with, and_with, or_with, expression, joined_by, spaced_inner, spaced_operand, operator, path_with, filter_with, path_step, path_root, operand_steps, operand, unary_operator, unary_atom, binary_atom, group_with, exists_with, front_steps, first_step, plain_path, root_expression}
+use Rattle.jsonb.specs.PathGrammar.{spaced, atom_with, and_with, or_with, expression, joined_by, spaced_inner, spaced_operand, operator, path_with, path_step, path_root, operand, unary_operator, unary_atom, binary_atom, group_with, exists_with, front_steps, first_step, plain_path, root_expression}
+use Rattle.jsonb.specs.Private.Fronts.{operand_steps, filter_with}
 use Rattle.jsonb.specs.Private.Repeated.{another_atom, another_and}
 use Rattle.jsonb.specs.PathViews.{expression_view, steps_view}
 use Rattle.jsonb.specs.Private.Frames.{joined_from, joined_view, joined_behind, partial_outcome, IsUnclosed, IsPartial, closed, filter_front, filter_step, steps_behind, opened_outcome, IsOpened, resumed, AreFrames, operation, goes_in_filter, opening_outcome, as_path}
@@ -258,7 +259,7 @@ without_bound front front' input input' same = subst (λ (rule : Rule Step). beh
 -- a filter, if there is no plain step
 pub step-is_filter : (input inside : List ℕ) → spaced_inner input ≡ None → filter_front input ≡ Some (tt, inside) →
     path_with expression input ≡ filter_step (expression true inside)
-unfolding path_with filter_with filter_front ws
+unfolding path_with group_with filter_front ws
 step-is_filter input inside none front = first (bytes (63 ∷ []) (past is_space input)) refl front where
   same : (o : Parsed Expression) → option_and_then {U = Step × List ℕ} (λ (p : Step × List ℕ). Some (p.0, past is_space p.1))
       (option_and_then {U = Step × List ℕ} (λ (p : Expression × List ℕ). Some (filter p.0, p.1)) o)
@@ -279,7 +280,7 @@ step-is_filter input inside none front = first (bytes (63 ∷ []) (past is_space
   first (Some p) at e = second p at (bytes (40 ∷ []) (past is_space p.1)) refl e
 
 pub no_step : (input : List ℕ) → spaced_inner input ≡ None → filter_front input ≡ None → path_with expression input ≡ None
-unfolding path_with filter_with filter_front ws
+unfolding path_with group_with filter_front ws
 no_step input none front = first (bytes (63 ∷ []) (past is_space input)) refl front where
   second : (p : Unit {0} × List ℕ) → bytes (63 ∷ []) (past is_space input) ≡ Some p → (o : Parsed (Unit {0})) → bytes (40 ∷ []) (past is_space p.1) ≡ o
       → filter_front input ≡ None → path_with expression input ≡ None

@@ -13,7 +13,8 @@ use Rattle.jsonb_keypath.proofs.ReadBackLemmas.{begins, begins-excludes, stops-f
 use Rattle.jsonb_keypath.proofs.YieldsLemmas.{Yields, IsName, yields-give, yields-then, yields-behind, yields-choice, yields-repeat, yields-list_of, yields-integer_within, yields-natural_below, yields-name, yields-quoted}
 use Rattle.jsonb_doc.specs.declared.number.Number.TheVariants.{Int64, UInt64}
 use Rattle.jsonb.specs.PathTree.{LevelEnd, from_front, from_last, Entry, single, slice, level, last_level, Levels, Literal, null, boolean, number, string, BinaryOp, and_op, or_op, eq, not_eq, lt, lte, gt, gte, starts_with_op, add, subtract, multiply, divide, modulo, Step, root, current, dot_wildcard, recursive_dot_wildcard, bracket_wildcard, dot_field, colon_field, object_field, array_indices, filter, whole_expression, Expression, paths, value, binary, unary, exists, steps_of}
-use Rattle.jsonb.specs.PathGrammar.{keyword, spaced, negated, last_and, place, entry, level_end, levels, field, entries, wildcard, named_field, bracket_field, inner, spaced_inner, path_root, literal_value, operand_steps, operand, spaced_operand, operator, arithmetic_operator, unary_operator, unary_atom, binary_atom, joined_by, filter_with, path_with, group_with, exists_steps, exists_with, atom_with, and_with, or_with, nested_or, expression, root_expression, first_step, front_steps, path_step, plain_path, json_path}
+use Rattle.jsonb.specs.PathGrammar.{keyword, spaced, negated, last_and, place, entry, level_end, levels, field, entries, wildcard, named_field, bracket_field, inner, spaced_inner, path_root, literal_value, operand, spaced_operand, operator, arithmetic_operator, unary_operator, unary_atom, binary_atom, joined_by, path_with, group_with, exists_with, atom_with, and_with, or_with, nested_or, expression, root_expression, first_step, front_steps, path_step, plain_path, json_path}
+use Rattle.jsonb.specs.Private.Fronts.{operand_steps, exists_steps, filter_with}
 use Rattle.jsonb.specs.PathText.{joins}
 use Rattle.jsonb.proofs.PathShape.{IsLevelEnd, IsIndex, IsPlace, IsEntry, AreLevels, IsLiteral, IsInner, AreInner, IsBeginning, IsOperand, is_signed, is_signed_literal, IsPathStep, ArePathSteps, IsExistsPath, IsCondition, IsPath}
 use Rattle.jsonb_keypath.proofs.KeyPathReadsBack.{whole-some}
@@ -462,7 +463,7 @@ group_is_condition nested f h =
     yields-behind (IsCondition f) ws _ (λ _. yields-behind (IsCondition f) (literal ")") _ (λ _. yields-give (IsCondition f) e is)))))
 
 filter_is_condition : (nested : Bool → Rule Expression) → NestedIs nested → Yields (IsCondition true) (filter_with nested)
-unfolding filter_with
+unfolding group_with
 filter_is_condition nested h =
     yields-behind (IsCondition true) (literal "?") _ (λ _. yields-behind (IsCondition true) ws _
     (λ _. yields-behind (IsCondition true) (literal "(") _ (λ _.

@@ -1,10 +1,26 @@
 -- The items below an item, by its children.
-use Rattle.std.proofs.Common.{◌≡◌, ℕ, ◌+◌, Bool, not, ◌&&◌, true, false, List, [], ◌∷◌, ◌++◌, flat_map, Option, Some, None, refl, ap, ◌∙◌, append-nil, if◌then◌else◌}
+use Rattle.std.proofs.Common.{◌≡◌, ℕ, ◌+◌, Bool, not, ◌&&◌, true, false, List, [], ◌∷◌, ◌++◌, flat_map, Option, Some, None, refl, ap, ◌∙◌, append-nil, arith, if◌then◌else◌}
+use Rattle.std.specs.Prelude.{nat_le}
+use Rattle.std.proofs.lemmas.Bool.Decides.{nat_tests}
 use Rattle.jsonb_doc.specs.Tree as tree
 use Rattle.jsonb_doc.specs.Tree.{Tree, Trees, Pairs, null, boolean, number, text, extension, array, object, no_trees, no_pairs, pair, elements, values, children_of}
-use Rattle.jsonb.specs.PathTree.{Levels}
+use Rattle.jsonb.specs.LevelTable.{at_level}
+use Rattle.jsonb.specs.PathTree.{Levels, LevelEnd, level, last_level}
 use Rattle.jsonb.specs.Private.Below.{is_shut}
 use Rattle.jsonb.specs.Preorder.{answer_at, taken_item, preorder, preorder_elements, preorder_values}
+
+-- ---- below a level whose children are not visited, none is selected
+
+shut_level : (end : Option LevelEnd) (start n : ℕ) → (at_level end start n).1 ≡ false
+    → ((at_level end start (n + 1)).0 ≡ false) × ((at_level end start (n + 1)).1 ≡ false)
+shut_level None start n h = (grind (arith, nat_tests), grind (arith, nat_tests))
+shut_level (Some (level last)) start n h = (grind (arith, nat_tests), grind (arith, nat_tests))
+shut_level (Some last_level) start n h = cc
+
+pub shut_below : (levels : Option Levels) (n : ℕ) → (answer_at levels n).1 ≡ false
+    → ((answer_at levels (n + 1)).0 ≡ false) × ((answer_at levels (n + 1)).1 ≡ false)
+shut_below (Some levels) n h = shut_level levels.end levels.start n h
+shut_below None n h = cc
 
 module _ (levels : Option Levels) where
   elements-is : (n : ℕ) (ts : Trees) → preorder_elements levels n ts ≡ flat_map (preorder levels n) (elements ts)
@@ -15,17 +31,15 @@ module _ (levels : Option Levels) where
   values-is n no_pairs = refl
   values-is n (pair key t ps) = ap (λ l. preorder levels n t ++ l) (values-is n ps)
 
-  -- where the children are looked at
-  pub preorder-entered : (n : ℕ) (t : Tree) (ts : List Tree) → (answer_at levels n).1 ≡ true → children_of t ≡ Some ts
+  -- where there are children
+  pub preorder-entered : (n : ℕ) (t : Tree) (ts : List Tree) → children_of t ≡ Some ts
       → preorder levels n t ≡ taken_item levels n t ++ flat_map (preorder levels (n + 1)) ts
-  preorder-entered n (array us) ts h is =
-      ap (λ b. taken_item levels n (array us) ++ (if b then preorder_elements levels (n + 1) us else [])) h
-      ∙ ap (λ l. taken_item levels n (array us) ++ l) (elements-is (n + 1) us ∙ ap (flat_map (preorder levels (n + 1))) (let e : elements us ≡ ts = cc in e))
-  preorder-entered n (object ps) ts h is =
-      ap (λ b. taken_item levels n (object ps) ++ (if b then preorder_values levels (n + 1) ps else [])) h
-      ∙ ap (λ l. taken_item levels n (object ps) ++ l) (values-is (n + 1) ps ∙ ap (flat_map (preorder levels (n + 1)))
+  preorder-entered n (array us) ts is =
+      ap (λ l. taken_item levels n (array us) ++ l) (elements-is (n + 1) us ∙ ap (flat_map (preorder levels (n + 1))) (let e : elements us ≡ ts = cc in e))
+  preorder-entered n (object ps) ts is =
+      ap (λ l. taken_item levels n (object ps) ++ l) (values-is (n + 1) ps ∙ ap (flat_map (preorder levels (n + 1)))
       (let e : elements (values ps) ≡ ts = cc in e))
-  preorder-entered n _ ts h is = cc
+  preorder-entered n _ ts is = cc
 
   -- where there are none
   pub preorder-leaf : (n : ℕ) (t : Tree) → children_of t ≡ None → preorder levels n t ≡ taken_item levels n t
@@ -33,34 +47,53 @@ module _ (levels : Option Levels) where
   preorder-leaf n (object ps) is = cc
   preorder-leaf n _ is = refl
 
-  -- where they are not looked at
+  -- an item of a level that is not selected
+  untaken : (n : ℕ) (t : Tree) → (answer_at levels n).0 ≡ false → taken_item levels n t ≡ []
+  untaken n t h = ap (λ b. if b then t ∷ [] else []) h
+
+  -- where neither this level nor one below it is selected
+  mutual
+    nothing : (n : ℕ) (t : Tree) → (answer_at levels n).0 ≡ false → (answer_at levels n).1 ≡ false → preorder levels n t ≡ []
+    nothing n (array us) h k = ap (λ l. l ++ preorder_elements levels (n + 1) us) (untaken n (array us) h) ∙ nothing_below n us k
+    nothing n (object ps) h k = ap (λ l. l ++ preorder_values levels (n + 1) ps) (untaken n (object ps) h) ∙ no_value_below n ps k
+    nothing n t h k = untaken n t h
+
+    nothing_below : (n : ℕ) (ts : Trees) → (answer_at levels n).1 ≡ false → preorder_elements levels (n + 1) ts ≡ []
+    nothing_below n no_trees k = refl
+    nothing_below n (tree.tree t ts) k =
+        let s = shut_below levels n k in
+        ap (λ l. l ++ preorder_elements levels (n + 1) ts) (nothing (n + 1) t s.0 s.1) ∙ nothing_below n ts k
+
+    no_value_below : (n : ℕ) (ps : Pairs) → (answer_at levels n).1 ≡ false → preorder_values levels (n + 1) ps ≡ []
+    no_value_below n no_pairs k = refl
+    no_value_below n (pair key t ps) k =
+        let s = shut_below levels n k in
+        ap (λ l. l ++ preorder_values levels (n + 1) ps) (nothing (n + 1) t s.0 s.1) ∙ no_value_below n ps k
+
+  -- where the children are not looked at
   pub preorder-left : (n : ℕ) (t : Tree) → (answer_at levels n).1 ≡ false → preorder levels n t ≡ taken_item levels n t
-  preorder-left n (array us) h = ap (λ b. taken_item levels n (array us) ++ (if b then preorder_elements levels (n + 1) us else [])) h ∙ append-nil _
-  preorder-left n (object ps) h = ap (λ b. taken_item levels n (object ps) ++ (if b then preorder_values levels (n + 1) ps else [])) h ∙ append-nil _
-  preorder-left n _ h = refl
+  preorder-left n (array us) k = ap (λ l. taken_item levels n (array us) ++ l) (nothing_below n us k) ∙ append-nil _
+  preorder-left n (object ps) k = ap (λ l. taken_item levels n (object ps) ++ l) (no_value_below n ps k) ∙ append-nil _
+  preorder-left n _ k = refl
 
   -- where the level below is shut
   shut-item : (n : ℕ) (t : Tree) → is_shut levels n ≡ true → preorder levels n t ≡ []
   shut-item n t h = go (answer_at levels n) refl h
     where
       go : (a : Bool × Bool) → answer_at levels n ≡ a → not a.0 && not a.1 ≡ true → preorder levels n t ≡ []
-      go (false, false) is h = preorder-left n t (ap (λ r. r.1) is) ∙ ap (λ r. if r.0 then t ∷ [] else []) is
+      go (false, false) is h = nothing n t (ap (λ r. r.0) is) (ap (λ r. r.1) is)
       go (true, b) is h = cc
       go (false, true) is h = cc
 
-  shut-items : (n : ℕ) (ts : List Tree) → is_shut levels n ≡ true → flat_map (preorder levels n) ts ≡ []
-  shut-items n [] h = refl
-  shut-items n (t ∷ ts) h = ap (λ l. l ++ flat_map (preorder levels n) ts) (shut-item n t h) ∙ shut-items n ts h
+  shut-elements : (n : ℕ) (ts : Trees) → is_shut levels n ≡ true → preorder_elements levels n ts ≡ []
+  shut-elements n no_trees h = refl
+  shut-elements n (tree.tree t ts) h = ap (λ l. l ++ preorder_elements levels n ts) (shut-item n t h) ∙ shut-elements n ts h
 
-  nothing : (b : Bool) (mine below : List Tree) → below ≡ [] → mine ++ (if b then below else []) ≡ mine
-  nothing true mine below h = ap (λ l. mine ++ l) h ∙ append-nil mine
-  nothing false mine below h = append-nil mine
+  shut-values : (n : ℕ) (ps : Pairs) → is_shut levels n ≡ true → preorder_values levels n ps ≡ []
+  shut-values n no_pairs h = refl
+  shut-values n (pair key t ps) h = ap (λ l. l ++ preorder_values levels n ps) (shut-item n t h) ∙ shut-values n ps h
 
   pub preorder-shut : (n : ℕ) (t : Tree) → is_shut levels (n + 1) ≡ true → preorder levels n t ≡ taken_item levels n t
-  preorder-shut n (array us) h =
-      nothing (answer_at levels n).1 (taken_item levels n (array us)) (preorder_elements levels (n + 1) us)
-      (elements-is (n + 1) us ∙ shut-items (n + 1) (elements us) h)
-  preorder-shut n (object ps) h =
-      nothing (answer_at levels n).1 (taken_item levels n (object ps)) (preorder_values levels (n + 1) ps)
-      (values-is (n + 1) ps ∙ shut-items (n + 1) (elements (values ps)) h)
+  preorder-shut n (array us) h = ap (λ l. taken_item levels n (array us) ++ l) (shut-elements (n + 1) us h) ∙ append-nil _
+  preorder-shut n (object ps) h = ap (λ l. taken_item levels n (object ps) ++ l) (shut-values (n + 1) ps h) ∙ append-nil _
   preorder-shut n _ h = refl

@@ -9,7 +9,8 @@ use Rattle.jsonb.specs.PathTree.{BinaryOp, and_op, or_op, add, subtract, multipl
 use Rattle.jsonb.specs.Compare.{Truth}
 use Rattle.jsonb.specs.PathArithmetic.{operation, two_numbers, each_signed}
 use Rattle.jsonb.specs.ItemSteps.{list_or, picked, values_of}
-use Rattle.jsonb.specs.Meaning.{step_meaning, steps_meaning, operand_values, truth, start, as_filter, expression_meaning, binary_meaning, truth_list, meaning, Means}
+use Rattle.jsonb.specs.Meaning.{step_meaning, steps_meaning, operand_values, truth, start, as_filter, expression_meaning, meaning, Means}
+use Rattle.jsonb.specs.Private.Calculation.{binary_meaning, truth_list}
 use Rattle.jsonb.specs.declared.selector.document.Mode.TheVariants.{Lax, Strict}
 
 -- a value of the first is the second's

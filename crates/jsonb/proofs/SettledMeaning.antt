@@ -21,10 +21,12 @@ use Rattle.jsonb.proofs.SettledPaths.{settled_step, settled_steps, settled, one_
 use Rattle.jsonb.specs.PathGrammar.{json_path}
 use Rattle.jsonb.specs.PathText.{path_text}
 use Rattle.std.specs.List.{AllZip}
-use Rattle.jsonb.specs.Values.{Value, null, boolean, number, text, container, literal_value, scalar_item}
-use Rattle.jsonb.specs.Compare.{Truth, value_order, starts_with_truth, is_container, pair_truth, first_decisive, compare}
+use Rattle.jsonb.specs.Values.{Value, null, boolean, number, text, container, literal_value}
+use Rattle.jsonb.specs.Compare.{Truth, value_order, is_container, pair_truth, first_decisive, compare}
+use Rattle.jsonb.specs.Private.Calculation.{starts_with_truth}
 use Rattle.jsonb.specs.PathArithmetic.{operation, all_numbers, two_numbers, signed_number, each_signed}
-use Rattle.jsonb.specs.Meaning.{start, step_meaning, steps_meaning, operand_values, truth, binary_meaning, expression_meaning, as_filter, meaning, truth_list, list_truth, expression_predicate, predicate}
+use Rattle.jsonb.specs.Meaning.{start, step_meaning, steps_meaning, operand_values, truth, expression_meaning, as_filter, meaning, list_truth, predicate}
+use Rattle.jsonb.specs.Private.Calculation.{binary_meaning, truth_list, expression_predicate}
 use Rattle.jsonb.specs.Private.Calculation.{calculation}
 use Rattle.jsonb.specs.declared.selector.document.Mode.{Mode}
 
@@ -405,10 +407,16 @@ expression-predicate (unary op e) mode top = told (unary op e) mode top
 expression-predicate (binary op l r) mode top = told (binary op l r) mode top
 expression-predicate (exists ss) mode top = told (exists ss) mode top
 
+-- several steps say nothing
+several-predicate : (e : Expression) (s : Step) (p : List Step) (mode : Mode) (top : Tree) → predicate mode (whole_expression e ∷ s ∷ p) top ≡ Ok None
+several-predicate (value l) s p mode top = refl
+several-predicate _ s p mode top = refl
+
 predicate-settled : (p : List Step) (mode : Mode) (top : Tree) → predicate mode (map settled_step p) top ≡ predicate mode p top
 predicate-settled [] mode top = refl
 predicate-settled (whole_expression e ∷ []) mode top = expression-predicate e mode top
-predicate-settled (whole_expression e ∷ t ∷ p) mode top = refl
+predicate-settled (whole_expression e ∷ t ∷ p) mode top =
+    several-predicate (settled e) (settled_step t) (map settled_step p) mode top ∙ sym (several-predicate e t p mode top)
 predicate-settled (root ∷ p) mode top = refl
 predicate-settled (current ∷ p) mode top = refl
 predicate-settled (dot_wildcard ∷ p) mode top = refl

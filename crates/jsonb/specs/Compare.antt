@@ -1,6 +1,7 @@
 -- Comparisons of values, and of lists of them.
-use Rattle.std.specs.Prelude.{nat_eq, Bool, true, false, not, ◌&&◌, ◌||◌, List, [], ◌∷◌, map, flat_map, Option, Some, None, if◌then◌else◌}
+use Rattle.std.specs.Prelude.{nat_eq, Bool, true, false, not, ◌||◌, List, [], ◌∷◌, map, flat_map, Option, Some, None, option_map, if◌then◌else◌}
 use Rattle.std.specs.List.{starts_with}
+use Rattle.std.specs.Option.{option_zip}
 use Rattle.std.specs.Ordering.{nat_cmp, bool_cmp, is_eq, is_lt, is_gt}
 use Rattle.std.specs.Cmp.Lexicographic.{slice_cmp}
 use Rattle.std.specs.declared.cmp.Ordering.{Ordering}
@@ -38,18 +39,15 @@ truth_of_order op (Some o) = Some (holds_for op o)
 truth_of_order not_eq None = Some true
 truth_of_order op None = None
 
--- Whether the right string begins the left one.
-abbrev pub starts_with_truth : Value → Value → Truth
-starts_with_truth (text a) (text b) = Some (starts_with nat_eq a b)
-starts_with_truth _ _ = None
-
 abbrev pub is_container : Value → Bool
 is_container container = true
 is_container _ = false
 
--- The result of one pair: with a container it is unknown.
+-- The result of one pair: whether the right string begins the left one, or of a comparison. With a container it is
+-- unknown.
 abbrev pub pair_truth : BinaryOp → Value → Value → Truth
-pair_truth starts_with_op a b = starts_with_truth a b
+pair_truth starts_with_op (text a) (text b) = Some (starts_with nat_eq a b)
+pair_truth starts_with_op _ _ = None
 pair_truth op a b = if is_container a || is_container b then None else truth_of_order op (value_order a b)
 
 -- The first result that is true or unknown, and false if there is none.
@@ -64,5 +62,4 @@ compare op ls rs = first_decisive (flat_map (λ l. map (λ r. pair_truth op l r)
 
 -- The operator's result for two results, unknown if either is.
 abbrev pub joined_truth : (Bool → Bool → Bool) → Truth → Truth → Truth
-joined_truth op (Some a) (Some b) = Some (op a b)
-joined_truth op _ _ = None
+joined_truth op a b = option_map (λ both. op both.0 both.1) (option_zip a b)

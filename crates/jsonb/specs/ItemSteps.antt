@@ -5,7 +5,7 @@ use Rattle.std.specs.List.{range_with_len}
 use Rattle.jsonb_doc.specs.Answer.{Outcome}
 use Rattle.jsonb_doc.specs.declared.error.Error.TheVariants.{StrictPath}
 use Rattle.jsonb_doc.specs.Tree as tree
-use Rattle.jsonb_doc.specs.Tree.{Tree, object, field_of}
+use Rattle.jsonb_doc.specs.Tree.{Tree, pairs_in, field_of}
 use Rattle.jsonb.specs.PathTree.{Entry, single, slice}
 use Rattle.jsonb.specs.Positions.{position}
 use Rattle.jsonb.specs.declared.selector.document.Mode.{Mode}
@@ -13,8 +13,7 @@ use Rattle.jsonb.specs.declared.selector.document.Mode.TheVariants.{Lax, Strict}
 
 -- The values of an object, in the order of its keys.
 abbrev pub values_of : Tree → Option (List Tree)
-values_of (object ps) = Some (tree.elements (tree.values ps))
-values_of _ = None
+values_of t = option_map (λ ps. tree.elements (tree.values ps)) (pairs_in t)
 
 -- The list; without one the step does not apply to the item: lax mode returns the other list, and strict mode fails.
 abbrev pub list_or : Mode → List Tree → Option (List Tree) → Outcome (List Tree)

@@ -1,5 +1,5 @@
 -- The results of calls with a limit: those of the selector, or `LimitExceeded`.
-use Rattle.std.specs.Prelude.{◌≡◌, ◌<◌, ℕ, List, Result, Ok, Err, IsErrOf, IsErrAnd, ⊤, codes}
+use Rattle.std.specs.Prelude.{◌≡◌, ◌⊎◌, ◌<◌, ℕ, List, Result, Ok, Err, IsErrOf, IsErrAnd, ⊤, codes}
 use Rattle.jsonb_doc.specs.declared.error.Error.{Error}
 use Rattle.jsonb_doc.specs.declared.error.Error.TheVariants.{OutOfMemory}
 use Rattle.jsonb_doc.specs.ErrorText.{error_text}
@@ -20,15 +20,11 @@ UnlessExceeded Holds (Ok x) = Holds (Ok x)
 UnlessExceeded Holds (Err (Failed e)) = Holds (Err e)
 UnlessExceeded Holds (Err LimitExceeded) = ⊤
 
--- Holds for the errors of a call whose path exceeds the limit.
-abbrev pub IsRefusal : LimitError → Type 0
-IsRefusal LimitExceeded = ⊤
-IsRefusal (Failed e) = e ≡ OutOfMemory
-
 -- Holds if a call leaves the selector unchanged, and fails with `LimitExceeded` if and only if the bound of the path is
 -- above the limit, unless an allocation fails.
 pub record IsLimited {A : Type 0} (old new : LimitedSelector) (path : List Step) (answer : Result A LimitError)
     : Type 0 where
   pub kept : new ≡ old
   pub exceeded : IsErrOf answer LimitExceeded → old.limit < most_items old.size path
-  pub refused : old.limit < most_items old.size path → IsErrAnd answer IsRefusal
+  pub refused : old.limit < most_items old.size path
+      → IsErrAnd answer (λ e. (e ≡ LimitExceeded) ⊎ (e ≡ Failed OutOfMemory))

@@ -1,18 +1,17 @@
 -- The meaning of a path on a tree: a list of items, or the first error.
-use Rattle.std.specs.Prelude.{◌≡◌, ◌&&◌, ◌||◌, Bool, true, false, List, [], ◌∷◌, map, flat_map, slice_get, Option, Some, None, is_some, option_map, Ok, Err, if◌then◌else◌}
-use Rattle.std.specs.Option.{ok_or}
+use Rattle.std.specs.Prelude.{◌≡◌, ◌&&◌, ◌||◌, Bool, true, List, [], ◌∷◌, map, flat_map, slice_get, Some, None, is_some, option_map, unwrap_or, Ok, Err, if◌then◌else◌}
+use Rattle.std.specs.Option.{ok_or, option_map_or}
 use Rattle.jsonb_doc.specs.Answer.{Outcome, and_then, try_flat_map}
-use Rattle.jsonb_doc.specs.Arithmetic.{Operation}
 use Rattle.jsonb_doc.specs.declared.error.Error.TheVariants.{InvalidJsonPath}
 use Rattle.jsonb_doc.specs.Payload.{Form}
 use Rattle.jsonb_doc.specs.Format.{Decodes}
 use Rattle.jsonb_doc.specs.Tree as tree
 use Rattle.jsonb_doc.specs.Tree.{Tree}
 use Rattle.jsonb_raw.specs.Arrays.{array_values}
-use Rattle.jsonb.specs.PathTree.{raw, BinaryOp, and_op, or_op, Step, root, current, dot_wildcard, recursive_dot_wildcard, bracket_wildcard, dot_field, colon_field, object_field, array_indices, filter, whole_expression, Steps, no_steps, step, Expression, paths, value, binary, unary, exists, steps_of}
-use Rattle.jsonb.specs.Values.{Value, values_of_item, literal_value, scalar_item}
+use Rattle.jsonb.specs.PathTree.{raw, and_op, or_op, Step, root, current, dot_wildcard, recursive_dot_wildcard, bracket_wildcard, dot_field, colon_field, object_field, array_indices, filter, whole_expression, Steps, no_steps, step, Expression, paths, value, binary, unary, exists, steps_of}
+use Rattle.jsonb.specs.Values.{Value, values_of_item, literal_value, literal_item}
 use Rattle.jsonb.specs.Compare.{Truth, compare, joined_truth}
-use Rattle.jsonb.specs.PathArithmetic.{operation, two_numbers, each_signed}
+use Rattle.jsonb.specs.PathArithmetic.{operation, two_numbers, each_signed, as_list}
 use Rattle.jsonb.specs.Preorder.{preorder}
 use Rattle.jsonb.specs.ItemSteps.{values_of, list_or, field_step, picked}
 use Rattle.jsonb.specs.declared.selector.document.Mode.{Mode}
@@ -77,27 +76,19 @@ abbrev mutual
 
 -- A three-valued result as an item: unknown is null.
 abbrev pub truth_item : Truth → Tree
-truth_item (Some b) = tree.boolean b
-truth_item None = tree.null
+truth_item b = unwrap_or (option_map tree.boolean b) tree.null
 
-abbrev pub truth_list : Outcome Truth → Outcome (List Tree)
-truth_list outcome = and_then outcome (λ b. Ok (truth_item b ∷ []))
-
--- A number if the operator is arithmetic, which takes the values of both operands first; otherwise a three-valued
--- result.
-abbrev pub binary_meaning : Mode → Option Operation → BinaryOp → Expression → Expression → Tree → Outcome (List Tree)
-binary_meaning mode (Some arith) op l r top =
-    and_then (operand_values mode l top top) (λ ls. and_then (operand_values mode r top top) (two_numbers arith ls))
-binary_meaning mode None op l r top = truth_list (truth mode (binary op l r) top top)
-
--- Of a literal an array of it; for a document as a literal see `Means`.
+-- Of a literal an array of it; for a document as a literal see `Means`. Of an arithmetic operator, which takes the
+-- values of both operands first, a number; of another one a three-valued result.
 abbrev pub expression_meaning : Mode → Expression → Tree → Outcome (List Tree)
 expression_meaning mode (paths steps) top = Err InvalidJsonPath
 expression_meaning mode (value l) top =
-    ok_or (option_map (λ t. tree.array (tree.trees_of (t ∷ [])) ∷ []) (scalar_item (literal_value l))) InvalidJsonPath
+    ok_or (option_map (λ t. tree.array (tree.trees_of (t ∷ [])) ∷ []) (literal_item l)) InvalidJsonPath
 expression_meaning mode (unary op e) top = and_then (operand_values mode e top top) (each_signed op)
-expression_meaning mode (binary op l r) top = binary_meaning mode (operation op) op l r top
-expression_meaning mode (exists steps) top = truth_list (truth mode (exists steps) top top)
+expression_meaning mode (binary op l r) top = option_map_or
+    (λ o. and_then (operand_values mode l top top) (λ ls. and_then (operand_values mode r top top) (two_numbers o ls)))
+    (operation op) (as_list truth_item (truth mode (binary op l r) top top))
+expression_meaning mode (exists steps) top = as_list truth_item (truth mode (exists steps) top top)
 
 -- ---- whole paths
 
@@ -125,12 +116,8 @@ abbrev pub list_truth : List Tree → Truth
 list_truth (tree.boolean b ∷ []) = Some b
 list_truth _ = None
 
--- The three-valued result that the list of an expression is; a literal has none.
-abbrev pub expression_predicate : Mode → Expression → Tree → Outcome Truth
-expression_predicate mode (value l) top = Ok None
-expression_predicate mode e top = and_then (expression_meaning mode e top) (λ ts. Ok (list_truth ts))
-
--- The result of a path as a predicate, and `None` if it is not a single expression, or unknown.
+-- The result of a path as a predicate, and `None` if it is a literal or not a single expression, or unknown.
 abbrev pub predicate : Mode → List Step → Tree → Outcome Truth
-predicate mode (whole_expression e ∷ []) top = expression_predicate mode e top
+predicate mode (whole_expression (value l) ∷ []) top = Ok None
+predicate mode (whole_expression e ∷ []) top = and_then (expression_meaning mode e top) (λ ts. Ok (list_truth ts))
 predicate mode _ top = Ok None

@@ -1,10 +1,11 @@
 -- At most how many items the evaluation of a path lists, and how many values it compares: a number that is known
 -- before.
-use Rattle.std.specs.Prelude.{ℕ, ◌+◌, ◌*◌, ◌/◌, ◌-◌, ◌^◌, min, length, Bool, true, false, List}
+use Rattle.std.specs.Prelude.{ℕ, ◌+◌, ◌*◌, ◌/◌, ◌-◌, ◌^◌, min, length, Bool, true, false, List, if◌then◌else◌}
 use Rattle.std.specs.List.{list_all}
 use Rattle.jsonb_doc.specs.Depth.{deepest}
 use Rattle.jsonb_doc.specs.Tree.{Tree}
-use Rattle.jsonb.specs.PathTree.{Entry, single, slice, BinaryOp, and_op, or_op, Step, root, current, dot_wildcard, recursive_dot_wildcard, bracket_wildcard, array_indices, filter, whole_expression, Steps, no_steps, step, Expression, paths, value, binary, unary, exists, steps_of}
+use Rattle.jsonb.specs.PathText.{joins}
+use Rattle.jsonb.specs.PathTree.{Entry, single, slice, BinaryOp, Step, current, dot_wildcard, recursive_dot_wildcard, bracket_wildcard, array_indices, filter, whole_expression, Steps, no_steps, step, Expression, paths, value, binary, unary, exists, steps_of}
 use Rattle.jsonb.specs.declared.selector.most_items.DocumentSize.{DocumentSize}
 use Rattle.jsonb.specs.declared.selector.most_items.ListBound.{ListBound}
 
@@ -22,8 +23,8 @@ is_single (slice (first, last)) = false
 
 -- The list of the elements at `count` subscripts; each selects one element of an array, or many.
 abbrev pub picked_list : Bool → ℕ → ListBound → ListBound
-picked_list true count l = record { items = capped (l.items * count); below = capped (l.below * count) }
-picked_list false count l = record { items = capped (l.below * count); below = capped (l.below * count) }
+picked_list one count l =
+    record { items = capped ((if one then l.items else l.below) * count); below = capped (l.below * count) }
 
 -- The list after a step. An item is below at most as many items as the document has levels.
 abbrev pub after : DocumentSize → Step → ListBound → ListBound
@@ -56,9 +57,8 @@ most_pairs size a b l = min
 
 -- The values that an operator takes, and their pairs; `&&` and `||` take none.
 abbrev pub most_compared : DocumentSize → BinaryOp → Expression → Expression → ListBound → ℕ
-most_compared size and_op a b l = 0
-most_compared size or_op a b l = 0
-most_compared size op a b l = most_values size a l + (most_values size b l + most_pairs size a b l)
+most_compared size op a b l =
+    if joins op then 0 else most_values size a l + (most_values size b l + most_pairs size a b l)
 
 abbrev mutual
   -- The items that a step lists, and what its filter takes.

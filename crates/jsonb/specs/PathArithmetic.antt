@@ -19,13 +19,13 @@ operation divide = Some arith.divide
 operation modulo = Some arith.modulo
 operation _ = None
 
--- A number as a list of one item.
-abbrev pub number_list : Outcome Number → Outcome (List Tree)
-number_list outcome = and_then outcome (λ n. Ok (tree.number n ∷ []))
+-- The value as a list of one item.
+abbrev pub as_list : {A : Type 0} → (A → Tree) → Outcome A → Outcome (List Tree)
+as_list item outcome = and_then outcome (λ x. Ok (item x ∷ []))
 
 -- The result of two operands, of one number each.
 abbrev pub two_numbers : Operation → List Value → List Value → Outcome (List Tree)
-two_numbers op (number m ∷ []) (number n ∷ []) = number_list (calculated op m n)
+two_numbers op (number m ∷ []) (number n ∷ []) = as_list tree.number (calculated op m n)
 two_numbers op _ _ = Err InvalidJsonPath
 
 -- The numbers that the values are; another value is an error.
@@ -37,7 +37,7 @@ all_numbers (value ∷ rest) = Err InvalidJsonPath
 -- The number with a sign.
 abbrev pub signed_number : UnaryOp → Number → Outcome (List Tree)
 signed_number plus n = Ok (tree.number n ∷ [])
-signed_number minus n = number_list (negated n)
+signed_number minus n = as_list tree.number (negated n)
 
 -- Each value with a sign: first all have to be numbers, then the results are computed from left to right.
 abbrev pub each_signed : UnaryOp → List Value → Outcome (List Tree)

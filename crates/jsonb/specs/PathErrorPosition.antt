@@ -3,7 +3,7 @@ use Rattle.std.specs.Prelude.{ℕ, Bool, true, false, List, length, nat_lt, Opti
 use Rattle.jsonb_keypath.specs.Rules.{Rule, ◌>>=◌, ◌>>◌, ◌</>◌, literal}
 use Rattle.jsonb_keypath.specs.Tokens.{ws}
 use Rattle.jsonb_keypath.specs.ErrorPosition.{perhaps, rest_after, error_position}
-use Rattle.jsonb.specs.PathGrammar.{operand_steps, spaced_operand, operator, unary_operator, expression, plain_path, json_path}
+use Rattle.jsonb.specs.PathGrammar.{spaced_inner, rooted, spaced_operand, operator, unary_operator, expression, plain_path, json_path}
 
 -- Reads what one of the rules reads, the one that reads more.
 abbrev pub longer : {A B : Type 0} → Rule A → Rule B → Rule (Unit {0})
@@ -17,13 +17,12 @@ unfoldable pub condition_front : Bool → Rule (Unit {0})
 condition_front is_in_filter =
     (unary_operator >> ws) </> (spaced_operand is_in_filter >> perhaps (operator >> ws))
     </> (literal "(" >> (ws >> perhaps (expression is_in_filter >> ws)))
-    </> perhaps (literal "exists" >> (ws >> perhaps (literal "(" >> (ws >> perhaps (operand_steps true)))))
+    </> perhaps (literal "exists" >> (ws >> perhaps (literal "(" >> (ws >> perhaps (rooted true spaced_inner)))))
 
 -- Reads conditions, and the beginning of another one.
 unfoldable pub conditions_front : Bool → Rule (Unit {0})
 conditions_front is_in_filter =
-    ((expression is_in_filter >> ws)
-    >> perhaps (((literal "&&" </> literal "||") >> ws) >> condition_front is_in_filter))
+    (expression is_in_filter >> ws >> perhaps ((literal "&&" </> literal "||") >> ws >> condition_front is_in_filter))
     </> condition_front is_in_filter
 
 -- Reads steps, and the beginning of a filter up to its first condition.

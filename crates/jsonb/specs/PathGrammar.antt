@@ -8,13 +8,16 @@ use Rattle.jsonb_doc.specs.declared.number.Number.TheVariants.{Int64, UInt64}
 use Rattle.jsonb.specs.PathText.{operator_text}
 use Rattle.jsonb.specs.PathTree.{Place, from_front, from_last, Entry, single, slice, level, last_level, LevelEnd, Levels, Literal, null, boolean, number, string, BinaryOp, and_op, or_op, eq, not_eq, lt, lte, gt, gte, starts_with_op, add, subtract, multiply, divide, modulo, UnaryOp, plus, minus, Step, root, current, dot_wildcard, recursive_dot_wildcard, bracket_wildcard, dot_field, colon_field, object_field, array_indices, filter, whole_expression, Expression, paths, value, binary, unary, exists, steps_of}
 
--- These letters, each in any case.
-abbrev pub in_any_case : List ℕ → Rule (Unit {0})
-in_any_case text input =
-    if str_eq_ignore_ascii_case (take (length text) input) text then Some (tt, drop (length text) input) else None
+-- The rule, with its value mapped.
+infixr 9 ◌<$>◌
+abbrev pub ◌<$>◌ : {A B : Type 0} → (A → B) → Rule A → Rule B
+f <$> rule = rule >>= λ a. give (f a)
 
+-- The letters of the text, each in any case.
 abbrev pub keyword : String → Rule (Unit {0})
-keyword text = in_any_case (codes text)
+keyword text input =
+    if str_eq_ignore_ascii_case (take (length (codes text)) input) (codes text)
+    then Some (tt, drop (length (codes text)) input) else None
 
 -- White space around the rule.
 abbrev pub spaced : {A : Type 0} → Rule A → Rule A
@@ -32,22 +35,20 @@ last_and sign = do keyword "last"; ws; literal sign; ws; int32
 
 unfoldable pub place : Rule Place
 place =
-    (int32 >>= λ i. give (from_front i))
-    </> (last_and "-" >>= λ i. give (from_last (negated i))) </> (last_and "+" >>= λ i. give (from_last i))
+    from_front <$> int32 </> (λ i. from_last (negated i)) <$> last_and "-" </> from_last <$> last_and "+"
     </> (keyword "last" >> give (from_last (pos 0)))
 
 unfoldable pub entry : Rule Entry
 entry =
     (do first ← place; ws; keyword "to"; ws; last ← place; give (slice (first, last)))
-    </> (place >>= λ p. give (single p))
+    </> single <$> place
 
 -- `to`, and the level at which the levels end.
 abbrev pub level_end : Rule LevelEnd
-level_end = do ws; keyword "to"; ws; (nat8 >>= λ n. give (level n)) </> (keyword "last" >> give last_level)
+level_end = do ws; keyword "to"; ws; level <$> nat8 </> (keyword "last" >> give last_level)
 
 unfoldable pub levels : Rule Levels
-levels =
-    do literal "{"; ws; n ← nat8; end ← optional level_end; ws; literal "}"; give (record { start = n; end = end })
+levels = do literal "{"; ws; n ← nat8; end ← optional level_end; ws; literal "}"; give (record { start = n; end = end })
 
 unfoldable pub field : Rule (List ℕ)
 field = quoted </> name
@@ -62,15 +63,13 @@ wildcard =
     </> (do literal "["; ws; literal "*"; ws; literal "]"; give bracket_wildcard)
 
 unfoldable pub named_field : Rule Step
-named_field =
-    (literal ":" >> field >>= λ text. give (colon_field text))
-    </> (literal "." >> field >>= λ text. give (dot_field text))
+named_field = colon_field <$> (literal ":" >> field) </> dot_field <$> (literal "." >> field)
 
 unfoldable pub bracket_field : Rule Step
 bracket_field = do literal "["; ws; text ← quoted; ws; literal "]"; give (object_field text)
 
 unfoldable pub inner : Rule Step
-inner = wildcard </> named_field </> (entries >>= λ found. give (array_indices found)) </> bracket_field
+inner = wildcard </> named_field </> array_indices <$> entries </> bracket_field
 
 unfoldable pub spaced_inner : Rule Step
 spaced_inner = spaced inner
@@ -82,19 +81,16 @@ path_root is_in_filter = (literal "$" >> give root) </> (only_if is_in_filter >>
 
 unfoldable pub literal_value : Rule Literal
 literal_value =
-    (literal "null" >> give null)
-    </> (literal "true" >> give (boolean true)) </> (literal "false" >> give (boolean false))
-    </> (natural_below (2 ^ 64) >>= λ n. give (number (UInt64 n)))
-    </> (integer_within (2 ^ 63) >>= λ z. give (number (Int64 z)))
-    </> (quoted >>= λ text. give (string text))
+    (literal "null" >> give null) </> (literal "true" >> give (boolean true))
+    </> (literal "false" >> give (boolean false)) </> (λ n. number (UInt64 n)) <$> natural_below (2 ^ 64)
+    </> (λ z. number (Int64 z)) <$> integer_within (2 ^ 63) </> string <$> quoted
 
 -- The root of a path, and the steps after it.
-abbrev pub operand_steps : Bool → Rule (List Step)
-operand_steps is_in_filter = do first ← path_root is_in_filter; others ← repeat spaced_inner; give (first ∷ others)
+abbrev pub rooted : Bool → Rule Step → Rule (List Step)
+rooted is_in_filter next = do first ← path_root is_in_filter; others ← repeat next; give (first ∷ others)
 
 unfoldable pub operand : Bool → Rule Expression
-operand is_in_filter =
-    (operand_steps is_in_filter >>= λ steps. give (paths (steps_of steps))) </> (literal_value >>= λ l. give (value l))
+operand is_in_filter = (λ ss. paths (steps_of ss)) <$> rooted is_in_filter spaced_inner </> value <$> literal_value
 
 unfoldable pub spaced_operand : Bool → Rule Expression
 spaced_operand is_in_filter = spaced (operand is_in_filter)
@@ -104,8 +100,7 @@ abbrev pub printed : BinaryOp → Rule BinaryOp
 printed op = bytes (operator_text op) >> give op
 
 unfoldable pub arithmetic_operator : Rule BinaryOp
-arithmetic_operator =
-    printed add </> printed subtract </> printed multiply </> printed divide </> printed modulo
+arithmetic_operator = printed add </> printed subtract </> printed multiply </> printed divide </> printed modulo
 
 unfoldable pub operator : Rule BinaryOp
 operator =
@@ -131,36 +126,27 @@ joined_by op (first ∷ others) = fold (λ left right. binary op left right) fir
 
 -- `nested` reads an expression inside parentheses, in a filter or not.
 module _ (nested : Bool → Rule Expression) where
-  -- `?( .. )`.
-  unfoldable pub filter_with : Rule Expression
-  filter_with = do literal "?"; ws; literal "("; ws; e ← nested true; ws; literal ")"; give e
-
-  unfoldable pub path_with : Rule Step
-  path_with = spaced_inner </> spaced (filter_with >>= λ e. give (filter e))
-
   -- `( .. )`.
   unfoldable pub group_with : Bool → Rule Expression
   group_with is_in_filter = do literal "("; ws; e ← nested is_in_filter; ws; literal ")"; give e
 
-  -- The root of a path in `exists`, and the steps after it.
-  abbrev pub exists_steps : Rule (List Step)
-  exists_steps = do first ← path_root true; others ← repeat path_with; give (first ∷ others)
+  -- A filter is `?( .. )`.
+  unfoldable pub path_with : Rule Step
+  path_with = spaced_inner </> spaced (filter <$> (do literal "?"; ws; group_with true))
 
   unfoldable pub exists_with : Rule Expression
   exists_with =
-      do literal "exists"; ws; literal "("; ws; steps ← exists_steps; ws; literal ")"; give (exists (steps_of steps))
+      do literal "exists"; ws; literal "("; ws; ss ← rooted true path_with; ws; literal ")"; give (exists (steps_of ss))
 
   unfoldable pub atom_with : Bool → Rule Expression
   atom_with is_in_filter =
       unary_atom is_in_filter </> binary_atom is_in_filter </> group_with is_in_filter </> exists_with
 
   unfoldable pub and_with : Bool → Rule Expression
-  and_with is_in_filter =
-      list_of (atom_with is_in_filter) (spaced (literal "&&")) >>= λ members. give (joined_by and_op members)
+  and_with is_in_filter = joined_by and_op <$> list_of (atom_with is_in_filter) (spaced (literal "&&"))
 
   unfoldable pub or_with : Bool → Rule Expression
-  or_with is_in_filter =
-      list_of (and_with is_in_filter) (spaced (literal "||")) >>= λ members. give (joined_by or_op members)
+  or_with is_in_filter = joined_by or_op <$> list_of (and_with is_in_filter) (spaced (literal "||"))
 
 -- An expression with at most n nested parentheses. The length of the input is a sufficient bound.
 unfoldable pub nested_or : ℕ → Bool → Rule Expression
@@ -173,14 +159,14 @@ expression is_in_filter input = nested_or (length input + 1) is_in_filter input
 -- ---- whole paths
 
 unfoldable pub root_expression : Rule (List Step)
-root_expression = spaced (expression false) >>= λ e. give (whole_expression e ∷ [])
+root_expression = (λ e. whole_expression e ∷ []) <$> spaced (expression false)
 
 unfoldable pub first_step : Rule Step
-first_step = (literal "$" >> give root) </> (spaced name >>= λ text. give (dot_field text))
+first_step = (literal "$" >> give root) </> dot_field <$> spaced name
 
 -- The first step, if there is one.
 unfoldable pub front_steps : Rule (List Step)
-front_steps = (first_step >>= λ s. give (s ∷ [])) </> give []
+front_steps = (λ s. s ∷ []) <$> first_step </> give []
 
 -- One step of a path; a filter may contain any expression.
 unfoldable pub path_step : Rule Step

@@ -22,7 +22,6 @@ SameButVariants p q = SameStepsBut (λ l m. settled_literal l ≡ settled_litera
 -- Holds if, on every tree, the paths have the same error or lists that are equal by value member by member, and the
 -- same result as predicates.
 abbrev pub MeanTheSame : List Step → List Step → Type 0
-MeanTheSame p q =
-    (mode : Mode) (top : Tree)
+MeanTheSame p q = (mode : Mode) (top : Tree)
     → Refines (AllZip (λ t u. IsTrue (is_equal t u))) (λ e. ⊥) (meaning mode p top) (meaning mode q top)
     × (predicate mode p top ≡ predicate mode q top)

@@ -57,8 +57,7 @@ sign_text minus = codes "-"
 
 abbrev pub literal_text : Literal → List ℕ
 literal_text null = codes "null"
-literal_text (boolean true) = codes "true"
-literal_text (boolean false) = codes "false"
+literal_text (boolean b) = if b then codes "true" else codes "false"
 literal_text (number n) = number_text (number_parts n)
 literal_text (string text) = quoted_text text
 literal_text (raw document) = codes "raw(" ++ encode_lower document ++ codes ")"

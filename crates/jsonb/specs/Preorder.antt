@@ -4,7 +4,7 @@ use Rattle.jsonb_doc.specs.Tree.{Tree, array, object, Trees, no_trees, tree, Pai
 use Rattle.jsonb.specs.PathTree.{Levels}
 use Rattle.jsonb.specs.LevelTable.{at_level}
 
--- Whether an item of this level is selected, and whether its children are visited; without levels both.
+-- Whether an item of this level is selected, and whether one of a deeper level may be; without levels both.
 abbrev pub answer_at : Option Levels → ℕ → Bool × Bool
 answer_at (Some levels) n = at_level levels.end levels.start n
 answer_at None n = (true, true)
@@ -16,10 +16,8 @@ taken_item levels n t = if (answer_at levels n).0 then t ∷ [] else []
 -- The items from this one down, each before its children.
 abbrev mutual
   pub preorder : Option Levels → ℕ → Tree → List Tree
-  preorder levels n (array ts) =
-      taken_item levels n (array ts) ++ (if (answer_at levels n).1 then preorder_elements levels (n + 1) ts else [])
-  preorder levels n (object ps) =
-      taken_item levels n (object ps) ++ (if (answer_at levels n).1 then preorder_values levels (n + 1) ps else [])
+  preorder levels n (array ts) = taken_item levels n (array ts) ++ preorder_elements levels (n + 1) ts
+  preorder levels n (object ps) = taken_item levels n (object ps) ++ preorder_values levels (n + 1) ps
   preorder levels n t = taken_item levels n t
 
   pub preorder_elements : Option Levels → ℕ → Trees → List Tree

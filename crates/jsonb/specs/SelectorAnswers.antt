@@ -1,5 +1,5 @@
 -- The results of a selector's calls, by the list of their path.
-use Rattle.std.specs.Prelude.{◌≡◌, ℕ, Bool, List, [], ◌∷◌, slice_get, Option, Some, None, Result, Vec, IsOkAnd, IsSomeAnd}
+use Rattle.std.specs.Prelude.{◌≡◌, ℕ, Bool, List, ◌∷◌, slice_get, Option, Some, Result, Vec, IsOkAnd, IsSomeAnd}
 use Rattle.std.specs.declared.alloc.Global.{Global}
 use Rattle.std.specs.List.{AllZip, Any}
 use Rattle.jsonb_doc.specs.declared.error.Error.{Error}
@@ -23,11 +23,10 @@ array_of ts = array (trees_of ts)
 abbrev pub first_item : List Tree → Option Tree
 first_item ts = slice_get ts 0
 
--- Nothing, the only item, or an array of several.
+-- An array of several items, otherwise the only one, if there is one.
 abbrev pub single_or_array : List Tree → Option Tree
-single_or_array [] = None
-single_or_array (t ∷ []) = Some t
 single_or_array (t ∷ u ∷ ts) = Some (array_of (t ∷ u ∷ ts))
+single_or_array ts = first_item ts
 
 -- ---- results
 
@@ -40,20 +39,17 @@ ByMeanings mode document path Promise answer = (form : Form) (top : Tree) (outco
 -- Holds if the result is all items that the path selects, each as `Shows` relates it to its tree.
 abbrev pub AreAll : {A : Type 0} → (Form → A → Tree → Type 0) → Form → Outcome (List Tree) → Result (Vec A Global) Error
     → Type 0
-AreAll Shows form outcome answer =
-    Refines (λ v ts. AllZip (Shows form) v.items ts)
+AreAll Shows form outcome answer = Refines (λ v ts. AllZip (Shows form) v.items ts)
     (IsOutOfMemory or TooLarge when IsOkAnd outcome (Any (IsTooLarge form))) answer outcome
 
 -- Holds if the result is an array of the items that the path selects.
 abbrev pub IsArrayOf : Form → Outcome (List Tree) → Result OwnedJsonb Error → Type 0
-IsArrayOf form outcome answer =
-    Refines (λ made ts. Decodes form made (array_of ts))
+IsArrayOf form outcome answer = Refines (λ made ts. Decodes form made (array_of ts))
     (IsOutOfMemory or TooLarge when IsOkAnd outcome (λ ts. IsTooLarge form (array_of ts))) answer outcome
 
 -- Holds if the result is a document of the picked item, if there is one.
 abbrev pub IsPicked : (List Tree → Option Tree) → Form → Outcome (List Tree) → Result (Option OwnedJsonb) Error → Type 0
-IsPicked pick form outcome answer =
-    Refines (λ found ts. SameOption (Decodes form) found (pick ts))
+IsPicked pick form outcome answer = Refines (λ found ts. SameOption (Decodes form) found (pick ts))
     (IsOutOfMemory or TooLarge when IsOkAnd outcome (λ ts. IsSomeAnd (pick ts) (IsTooLarge form))) answer outcome
 
 -- Holds if the result is whether the path selects an item.

@@ -1,5 +1,5 @@
 -- The values of operands, for comparisons and arithmetic.
-use Rattle.std.specs.Prelude.{ℕ, Bool, List, [], ◌∷◌, flat_map, Option, Some, None}
+use Rattle.std.specs.Prelude.{ℕ, Bool, List, [], ◌∷◌, flat_map, slice_get, Option, Some, None, option_and_then, unwrap_or}
 use Rattle.jsonb_doc.specs.Number.{Number}
 use Rattle.jsonb_doc.specs.View.{number_view}
 use Rattle.jsonb_doc.specs.Tree as tree
@@ -9,11 +9,10 @@ use Rattle.jsonb.specs.PathTree.{Literal}
 
 -- A scalar, or a container, which is not compared.
 pub data Value : Type 0 where
-  null : Value
+  null container : Value
   boolean : Bool → Value
   number : Number → Value
   text : List ℕ → Value
-  container : Value
 
 -- The value of an element, and of an item that is not an array; an extension has none, and arrays and objects are the
 -- value `container`.
@@ -30,18 +29,14 @@ abbrev pub values_of_item : Tree → List Value
 values_of_item (tree.array ts) = flat_map value_of_item (elements ts)
 values_of_item t = value_of_item t
 
+-- The item that a literal is, unless it is a document.
+abbrev pub literal_item : Literal → Option Tree
+literal_item path.null = Some tree.null
+literal_item (path.boolean b) = Some (tree.boolean b)
+literal_item (path.number n) = Some (tree.number (number_view n))
+literal_item (path.string bytes) = Some (tree.text bytes)
+literal_item (path.raw document) = None
+
 -- The value of a literal. A document, whatever its root, is not compared, like a container.
 abbrev pub literal_value : Literal → Value
-literal_value path.null = null
-literal_value (path.boolean b) = boolean b
-literal_value (path.number n) = number (number_view n)
-literal_value (path.string bytes) = text bytes
-literal_value (path.raw document) = container
-
--- The item that a value is, unless it is a container.
-abbrev pub scalar_item : Value → Option Tree
-scalar_item null = Some tree.null
-scalar_item (boolean b) = Some (tree.boolean b)
-scalar_item (number n) = Some (tree.number n)
-scalar_item (text bytes) = Some (tree.text bytes)
-scalar_item container = None
+literal_value l = unwrap_or (option_and_then (λ t. slice_get (value_of_item t) 0) (literal_item l)) container

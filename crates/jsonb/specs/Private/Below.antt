@@ -34,11 +34,10 @@ PassesLeaves bytes levels n ts before nodes (Some (spot, others)) =
 abbrev pub is_shut : Option Levels → ℕ → Bool
 is_shut levels n = not (answer_at levels n).0 && not (answer_at levels n).1
 
--- The range holds the levels at which these select an item, with more than 256 counted as 256. Above its last level
--- they visit children, and from there on they do not, or nothing below is selected.
+-- The range holds the levels at which these select an item, with more than 256 counted as 256. From its last level on
+-- they do not visit children, or nothing below is selected.
 pub record AreLevelsOf (levels : Option Levels) (range : LevelRange) : Type 0 where
   pub taken : (n : ℕ) → (nat_le range.first (min n 256) && nat_le (min n 256) range.last) ≡ (answer_at levels n).0
-  pub entered : (n : ℕ) → min n 256 < range.last → (answer_at levels n).1 ≡ true
   pub left : (n : ℕ) → range.last ≤ min n 256 → ((answer_at levels n).1 ≡ false) ⊎ (is_shut levels (n + 1) ≡ true)
 
 -- the level is added to those around it, or it has nothing left

@@ -1,9 +1,28 @@
--- Beginnings of conditions and filters, each read by a function of its own.
-use Rattle.std.specs.Prelude.{Bool, true}
+-- Parts of the rules, each read by a function of its own.
+use Rattle.std.specs.Prelude.{ℕ, Bool, true, List, length, take, drop, Some, None, if◌then◌else◌}
+use Rattle.std.specs.Str.{str_eq_ignore_ascii_case}
 use Rattle.jsonb_keypath.specs.Rules.{Rule, ◌>>=◌, ◌>>◌, ◌</>◌, literal}
 use Rattle.jsonb_keypath.specs.Tokens.{ws}
 use Rattle.jsonb_keypath.specs.ErrorPosition.{perhaps}
-use Rattle.jsonb.specs.PathGrammar.{operand_steps, spaced_operand, operator, expression}
+use Rattle.jsonb.specs.PathGrammar.{spaced_inner, spaced_operand, rooted, operator, expression, group_with, path_with}
+use Rattle.jsonb.specs.PathTree.{Step, Expression}
+
+-- these letters, each in any case
+abbrev pub in_any_case : List ℕ → Rule (Unit {0})
+in_any_case text input =
+    if str_eq_ignore_ascii_case (take (length text) input) text then Some (tt, drop (length text) input) else None
+
+-- the path of an operand
+abbrev pub operand_steps : Bool → Rule (List Step)
+operand_steps is_in_filter = rooted is_in_filter spaced_inner
+
+-- `?( .. )`
+abbrev pub filter_with : (Bool → Rule Expression) → Rule Expression
+filter_with nested = do literal "?"; ws; group_with nested true
+
+-- the path of `exists`
+abbrev pub exists_steps : (Bool → Rule Expression) → Rule (List Step)
+exists_steps nested = rooted true (path_with nested)
 
 -- an operand and an operator
 abbrev pub operation_front : Bool → Rule (Unit {0})

@@ -2,7 +2,8 @@
 
 ghost use Rattle.std.specs.Prelude.{◌≡◌, ◌++◌, false, IfOk, IfSome};
 ghost use Rattle.jsonb_keypath.specs.Rules.{parsed_map, repeat};
-ghost use Rattle.jsonb.specs.PathGrammar.{path_root, literal_value, operand_steps, operand, spaced_operand, operator, arithmetic_operator, unary_operator, unary_atom, binary_atom, path_step, plain_path};
+ghost use Rattle.jsonb.specs.PathGrammar.{path_root, literal_value, operand, spaced_operand, operator, arithmetic_operator, unary_operator, unary_atom, binary_atom, path_step, plain_path};
+ghost use Rattle.jsonb.specs.Private.Fronts.{operand_steps};
 ghost use Rattle.jsonb.specs.Private.Frames.{operation};
 ghost use Rattle.jsonb_keypath.specs.Views.{read_as, ConsumesInput};
 ghost use Rattle.jsonb.specs.PathViews.{literal_view, step_view, steps_view, expression_view};

@@ -5,7 +5,8 @@ ghost use Rattle.std.specs.Cow.{cow_str_bytes};
 ghost use Rattle.jsonb_keypath.specs.Rules.{bytes};
 ghost use Rattle.jsonb_keypath.specs.Tokens.{name, quoted};
 ghost use Rattle.jsonb_keypath.specs.Views.{read_as, ConsumesInput};
-ghost use Rattle.jsonb.specs.PathGrammar.{in_any_case, field, spaced};
+ghost use Rattle.jsonb.specs.PathGrammar.{field, spaced};
+ghost use Rattle.jsonb.specs.Private.Fronts.{in_any_case};
 
 use super::Reading;
 use jsonb_keypath::token::{literal, read_name, read_quoted, skip_space};

@@ -77,7 +77,8 @@ impl<'a> LimitedSelector<'a> {
     ghost use Rattle.jsonb_doc.specs.declared.error.Error.TheVariants as error;
     ghost use Rattle.jsonb_doc.specs.declared.error.Error.TheVariants.{TooLarge};
     ghost use Rattle.jsonb_raw.specs.Documents.{raw_bytes};
-    ghost use Rattle.jsonb.specs.LimitedAnswers.{UnlessExceeded, IsRefusal, IsLimited};
+    ghost use Rattle.jsonb.specs.LimitedAnswers.{UnlessExceeded, IsLimited};
+    ghost use Rattle.jsonb.specs.Private.Limited.{IsRefusal};
     ghost use Rattle.jsonb.specs.MostItems.{most_items, document_size};
     ghost use Rattle.jsonb.specs.PathTree.{is_predicate};
     ghost use Rattle.jsonb.specs.PathViews.{path_view};

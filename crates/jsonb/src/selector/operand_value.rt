@@ -6,7 +6,8 @@ ghost use Rattle.jsonb_doc.specs.Private.StoredValue.{IsStoredAs};
 ghost use Rattle.jsonb.specs.PathViews.{literal_view};
 ghost use Rattle.jsonb_doc.specs.Private.Short.{short_value};
 ghost use Rattle.jsonb.specs.Values.{number, value_of_item, literal_value};
-ghost use Rattle.jsonb.specs.Compare.{compare, pair_truth, value_order, holds_for, truth_of_order, starts_with_truth, is_container};
+ghost use Rattle.jsonb.specs.Compare.{compare, pair_truth, value_order, holds_for, truth_of_order, is_container};
+ghost use Rattle.jsonb.specs.Private.Calculation.{starts_with_truth};
 ghost use Rattle.jsonb.specs.Private.Selection.{value_view, values_view, option_values};
 
 use crate::path::{BinaryOperator, PathValue};

@@ -19,7 +19,7 @@ returns-in-Some-clause-meant c = λ levels u n before ranged l m a.
       (
         found.0,
         (found.2, c.next_level.ensures n l),
-        preorder-entered levels n u found.0 (ranged.entered n (omega (arith, l, c.if-range-level.false))) found.1,
+        preorder-entered levels n u found.0 found.1,
       ),
     )
 

@@ -6,7 +6,8 @@ use Rattle.jsonb_doc.specs.View.{number_view}
 use Rattle.jsonb.specs.PathTree.{value}
 use Rattle.jsonb.specs.PathViews.{expression_view, literal_view}
 use Rattle.jsonb.specs.PathArithmetic.{operation, each_signed}
-use Rattle.jsonb.specs.Meaning.{operand_values, truth, truth_list, binary_meaning}
+use Rattle.jsonb.specs.Meaning.{operand_values, truth}
+use Rattle.jsonb.specs.Private.Calculation.{truth_list, binary_meaning}
 use Rattle.jsonb.specs.Private.Calculation.{calculation}
 use Rattle.jsonb.specs.Private.Selection.{AreSelected}
 use Rattle.jsonb.proofs.RefinesLemmas.{same_outcome, same_answer, refused_as, one_given}

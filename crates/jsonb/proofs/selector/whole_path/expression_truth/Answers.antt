@@ -5,7 +5,8 @@ use Rattle.jsonb.specs.PathTree as math
 use Rattle.jsonb.specs.PathTree.{steps_of}
 use Rattle.jsonb.specs.PathViews.{steps_view, expression_view}
 use Rattle.jsonb.specs.PathArithmetic.{operation, each_signed}
-use Rattle.jsonb.specs.Meaning.{operand_values, truth, expression_predicate}
+use Rattle.jsonb.specs.Meaning.{operand_values, truth}
+use Rattle.jsonb.specs.Private.Calculation.{expression_predicate}
 use Rattle.jsonb.specs.Private.Calculation.{calculation}
 use Rattle.jsonb.proofs.RefinesLemmas.{same_outcome, same_answer, first_refused, one_ok}
 use Rattle.jsonb.proofs.PredicateLemmas.{binary_predicate, predicate_by_cases}
