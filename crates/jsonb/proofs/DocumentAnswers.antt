@@ -10,7 +10,7 @@ use Rattle.jsonb_doc.specs.declared.error.Error.{Error}
 use Rattle.jsonb_doc.specs.declared.error.Error.TheVariants.{OutOfMemory, TooLarge}
 use Rattle.jsonb_raw.specs.Documents.{Makes, MakesOption}
 use Rattle.jsonb_raw.specs.declared.owned.OwnedJsonb.{OwnedJsonb}
-use Rattle.jsonb.specs.SelectorAnswers.{array_of}
+use Rattle.jsonb.specs.Private.Selected.{array_of}
 
 -- one array of the list
 pub array_handed : (form : Form) (ts : List Tree) (r : Result OwnedJsonb Error) → Makes form (array_of ts) r

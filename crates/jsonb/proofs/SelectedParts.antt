@@ -17,9 +17,9 @@ use Rattle.jsonb.specs.declared.selector.selected.MadeItem.{MadeItem}
 use Rattle.std.specs.Prelude.{Vec}
 use Rattle.std.specs.declared.alloc.Global.{Global}
 use Rattle.std.specs.List.{Any, AllZip}
-use Rattle.jsonb.specs.Private.Selected.{selected_len}
+use Rattle.jsonb.specs.Private.Selected.{selected_len, array_of}
 use Rattle.jsonb.specs.Private.Selection.{IsAt, IsMadeItem, IsNumberItem, AreSelected, node_spots}
-use Rattle.jsonb.specs.SelectorAnswers.{first_item, single_or_array, array_of}
+use Rattle.jsonb.specs.SelectorAnswers.{first_item, single_or_array}
 use Rattle.jsonb_doc.specs.declared.error.Error.TheVariants.{TooLarge}
 use Rattle.jsonb.specs.declared.selector.document.Document.{Document}
 use Rattle.jsonb.specs.declared.selector.node_list.NodeList.{NodeList}

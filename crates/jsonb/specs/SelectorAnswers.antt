@@ -15,17 +15,13 @@ use Rattle.jsonb.specs.Meaning.{Means, is_some_item, predicate}
 use Rattle.jsonb.specs.PathTree.{Step}
 use Rattle.jsonb.specs.declared.selector.document.Mode.{Mode}
 
--- The array of all items.
-abbrev pub array_of : List Tree → Tree
-array_of ts = array (trees_of ts)
-
 -- The first item.
 abbrev pub first_item : List Tree → Option Tree
 first_item ts = slice_get ts 0
 
 -- An array of several items, otherwise the only one, if there is one.
 abbrev pub single_or_array : List Tree → Option Tree
-single_or_array (t ∷ u ∷ ts) = Some (array_of (t ∷ u ∷ ts))
+single_or_array (t ∷ u ∷ ts) = Some (array (trees_of (t ∷ u ∷ ts)))
 single_or_array ts = first_item ts
 
 -- ---- results
@@ -44,8 +40,8 @@ AreAll Shows form outcome answer = Refines (λ v ts. AllZip (Shows form) v.items
 
 -- Holds if the result is an array of the items that the path selects.
 abbrev pub IsArrayOf : Form → Outcome (List Tree) → Result OwnedJsonb Error → Type 0
-IsArrayOf form outcome answer = Refines (λ made ts. Decodes form made (array_of ts))
-    (IsOutOfMemory or TooLarge when IsOkAnd outcome (λ ts. IsTooLarge form (array_of ts))) answer outcome
+IsArrayOf form outcome answer = Refines (λ made ts. Decodes form made (array (trees_of ts)))
+    (IsOutOfMemory or TooLarge when IsOkAnd outcome (λ ts. IsTooLarge form (array (trees_of ts)))) answer outcome
 
 -- Holds if the result is a document of the picked item, if there is one.
 abbrev pub IsPicked : (List Tree → Option Tree) → Form → Outcome (List Tree) → Result (Option OwnedJsonb) Error → Type 0

@@ -4,7 +4,7 @@ use Rattle.std.specs.declared.alloc.Global.{Global}
 use Rattle.std.specs.Int.{Width, w8, w16, w64}
 use Rattle.jsonb_doc.specs.declared.error.Error.{Error}
 use Rattle.jsonb_doc.specs.declared.error.Error.TheVariants.{OutOfMemory, InvalidJsonb, UnsupportedNumber, InvalidCast, InvalidJsonType, InvalidObject, ObjectDuplicateKey, TooDeep, TooLarge}
-use Rattle.jsonb_doc.specs.Tree.{Tree, Trees, array, elements}
+use Rattle.jsonb_doc.specs.Tree.{Tree, Trees, array, elements, trees_of}
 use Rattle.jsonb_doc.specs.Payload.{Form, any}
 use Rattle.jsonb_doc.specs.Format.{Decodes}
 use Rattle.jsonb_doc.specs.AnyBytes.Unsupported.{IsUnsupportedDocument, IsNoDocument}
@@ -25,7 +25,7 @@ use Rattle.jsonb_raw.specs.KeyAnswer.{GivesKey}
 use Rattle.jsonb.specs.PathTree.{Step}
 use Rattle.jsonb.specs.SelectionErrors.{IsSelectionError}
 use Rattle.jsonb.specs.Compare.{Truth}
-use Rattle.jsonb.specs.SelectorAnswers.{ByMeanings, IsFound, IsPicked, IsTruthOf, array_of}
+use Rattle.jsonb.specs.SelectorAnswers.{ByMeanings, IsFound, IsPicked, IsTruthOf}
 use Rattle.jsonb.specs.declared.selector.document.Mode.{Mode}
 use Rattle.jsonb.specs.declared.selector.document.Mode.TheVariants.{Lax, Strict}
 use Rattle.jsonb_c.specs.Status.{code}
@@ -108,7 +108,7 @@ mode_of strict = if strict then Strict else Lax
 
 -- The array of all items.
 abbrev pub one_array : List Tree → Option Tree
-one_array ts = Some (array_of ts)
+one_array ts = Some (array (trees_of ts))
 
 -- Holds if the result is whether the path selects an item.
 abbrev pub TellsExistence : Mode → List Step → List ℕ → (Result Bool Error → Type 0) → Type 0

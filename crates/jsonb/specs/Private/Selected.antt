@@ -1,5 +1,6 @@
--- How many parts a path selects.
-use Rattle.std.specs.Prelude.{ℕ, Bool, true, false, length}
+-- How many parts a path selects, and the array of the selected items.
+use Rattle.std.specs.Prelude.{ℕ, Bool, true, false, List, length}
+use Rattle.jsonb_doc.specs.Tree.{Tree, array, trees_of}
 use Rattle.jsonb.specs.Private.Selection.{node_spots}
 use Rattle.jsonb.specs.declared.selector.selected.Selected.{Selected}
 use Rattle.jsonb.specs.declared.selector.selected.Selected.TheVariants as selected
@@ -14,3 +15,6 @@ abbrev pub is_computed : Selected → Bool
 is_computed (selected.Nodes spots) = false
 is_computed (selected.Numbers numbers) = true
 is_computed (selected.Made part) = true
+
+abbrev pub array_of : List Tree → Tree
+array_of ts = array (trees_of ts)

@@ -14,8 +14,8 @@ ghost use Rattle.jsonb_doc.specs.Limits.{IsTooLarge};
 ghost use Rattle.jsonb_doc.specs.Representation.Positions.{Locates};
 ghost use Rattle.jsonb_raw.specs.Documents.{Makes, MakesOption};
 ghost use Rattle.jsonb.specs.Private.Selection.{IsMadeItem, IsNumberItem, OfSelected};
-ghost use Rattle.jsonb.specs.SelectorAnswers.{array_of, first_item, single_or_array};
-ghost use Rattle.jsonb.specs.Private.Selected.{selected_len};
+ghost use Rattle.jsonb.specs.SelectorAnswers.{first_item, single_or_array};
+ghost use Rattle.jsonb.specs.Private.Selected.{selected_len, array_of};
 
 use super::document::Document;
 use super::selected::{MadeItem, Selected};

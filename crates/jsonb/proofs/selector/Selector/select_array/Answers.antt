@@ -2,7 +2,7 @@ use Rattle.std.proofs.Common.{Err, ap, sym, ◌∙◌, subst}
 use Rattle.std.proofs.lemmas.Result.{err_from_is_err_and}
 use Rattle.jsonb_doc.specs.Format.{Decodes}
 use Rattle.jsonb_doc.specs.Limits.{IsTooLarge}
-use Rattle.jsonb.specs.SelectorAnswers.{array_of}
+use Rattle.jsonb.specs.Private.Selected.{array_of}
 use Rattle.jsonb.proofs.DocumentAnswers.{handed_by, handed_error, array_handed}
 use Rattle.jsonb.proofs.selector.Selector.select_array.Goals as goal
 

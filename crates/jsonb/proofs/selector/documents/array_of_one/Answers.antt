@@ -2,7 +2,7 @@ use Rattle.std.proofs.Common.{[], ◌∷◌}
 use Rattle.std.proofs.lemmas.Result.{err_from_is_err_and}
 use Rattle.jsonb_doc.specs.Format.{Decodes}
 use Rattle.jsonb_doc.proofs.BuilderSteps.{answered}
-use Rattle.jsonb.specs.SelectorAnswers.{array_of}
+use Rattle.jsonb.specs.Private.Selected.{array_of}
 use Rattle.jsonb.proofs.SelectedParts.{none_held}
 use Rattle.jsonb.proofs.selector.documents.array_of_one.Goals as goal
 
