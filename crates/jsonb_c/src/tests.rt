@@ -348,7 +348,7 @@ fn spans(rt: HostRuntime) {
 }
 
 /// Positions, lengths and entry types in `MIXED`, the status, and the values as documents.
-static VALUES_AT: [(usize, usize, u8, u32, &[u8]); 8] = rows! {
+static VALUES_AT: [(usize, usize, u8, u32, &[u8]); 9] = rows! {
     31, 1, 1, OK, b"\x20\0\0\0\x10\0\0\x01v";
     16, 2, 2, OK, b"\x20\0\0\0\x20\0\0\x02\x50\x0a";
     16, 0, 3, OK, b"\x20\0\0\0\x30\0\0\0";
@@ -357,6 +357,7 @@ static VALUES_AT: [(usize, usize, u8, u32, &[u8]); 8] = rows! {
     31, 2, 1, INVALID_JSONB, b"";
     18_446_744_073_709_551_615, 2, 1, INVALID_JSONB, b"";
     31, 1, 7, INVALID_JSONB, b"";
+    31, 1, 8, INVALID_JSONB, b"";
 };
 
 #[test]
