@@ -59,6 +59,7 @@ PRINTED = {
     "more errors": (["== low", *MANY, "rt: low NOT PROVED"], ["not proved: low", *(f"  {it}" for it in MANY[:10])]),
     "no error": (["== low", "Killed", "rt: low NOT PROVED"], ["not proved: low", "  Killed"]),
     "a long line": (["== low", f"error: {'x' * 999}", "rt: low NOT PROVED"], ["not proved: low", f"  error: {'x' * 233}"]),
+    "tests of it": (["== low: its tests", "rt: the crate itself is not proved", "rt: low: its tests are NOT PROVED"], []),
     "its library": (["== low", OPEN_GOAL, "rt: low NOT PROVED", "rt: high NOT PROVED: its library low failed"], ["not proved: low", f"  {OPEN_GOAL}"]),
     "mutants": (["must-fail low/a.edit: refused, as it must be", *2 * [f"rt: {PROVED_MUTANT}"]], [PROVED_MUTANT]),
     "its tests": (
