@@ -12,7 +12,7 @@ use Rattle.jsonb_doc.specs.declared.document_builder.DocumentBuilder.{DocumentBu
 use Rattle.jsonb_doc.specs.declared.error.Error.TheVariants.{OutOfMemory}
 use Rattle.jsonb_doc.specs.declared.event_error.EventError.{EventError}
 use Rattle.jsonb_doc.specs.declared.event_error.EventError.TheVariants.{OutOfOrder, Failed}
-use Rattle.jsonb_c.specs.Answers.{Delivers, DeliversBytes, DeliversNothing, WritesResult, always}
+use Rattle.jsonb_c.specs.Answers.{DeliversBytes, DeliversNothing, DeliversValue, WritesResult}
 use Rattle.jsonb_c.specs.Builders.{Follows, TakesEvent, event_status}
 use Rattle.jsonb_c.specs.Private.Events.{IsKeptOrNew, KeepsState}
 use Rattle.jsonb_c.specs.Private.Views.{list_answer}
@@ -88,7 +88,7 @@ abbrev WritesWhole : Form → Option Tree → List ℕ → List ℕ → ℕ → 
 WritesWhole form found old new len status =
     MatchOption found (DeliversNothing causes.OutOfOrder old new len status)
     (λ t. WritesResult (λ answer. MatchResult answer (λ made. Decodes form made t) IsOutOfMemory) IsOutOfMemory
-    (λ answer. Delivers (always answer) old new len status))
+    (DeliversValue old new len status))
 
 pub finish_writes : (form : Form) (found : Option Tree) (r : Result (Vec ℕ Global) EventError) (made : Vec ℕ Global) (old new : List ℕ) (len status : ℕ)
     → r ≡ Ok made → MatchOption found (r ≡ Err OutOfOrder) (λ t. MatchResult r (λ v. Decodes form v.items t) (λ e. e ≡ Failed OutOfMemory))

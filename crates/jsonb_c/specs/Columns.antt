@@ -1,9 +1,10 @@
 -- Columns: rows of documents in one buffer, and what is written for them.
-use Rattle.std.specs.Prelude.{◌≡◌, ◌⊎◌, ◌<◌, ◌+◌, ◌-◌, ◌&&◌, nat_le, min, ℕ, List, [], ◌∷◌, map, flat_map, take, length, slice_range, slice_get, Option, Some, None, if◌then◌else◌}
+use Rattle.std.specs.Prelude.{◌≡◌, ◌⊎◌, ◌<◌, ◌+◌, ◌-◌, ◌&&◌, nat_le, min, ℕ, List, [], ◌∷◌, map, flat_map, take, length, slice_range, slice_get, Option, Some, None, Result, if◌then◌else◌}
 use Rattle.std.specs.List.{AllZip}
 use Rattle.jsonb_c.specs.Status.{code}
+use Rattle.jsonb_c.specs.declared.status.Status.{Status}
 use Rattle.jsonb_c.specs.declared.status.Status.TheVariants.{Answered, BadOffsets, BufferTooSmall}
-use Rattle.jsonb_c.specs.Answers.{IsWritten}
+use Rattle.jsonb_c.specs.Answers.{IsWritten, With}
 use Rattle.jsonb_c.specs.declared.column.join.Progress.{Progress}
 
 -- ---- rows
@@ -82,3 +83,10 @@ JoinsRows Writes column old new progress status =
     ⊎ (DoneRows Writes [] column progress.rows (λ made. AreJoined made old new progress.bytes)
     × (((progress.next ≡ 0) × Ends (length column) (min (length old.1 - 1) (length old.2)) progress.rows status)
     ⊎ LacksRoom Writes column (length old.0) progress status))
+
+-- Holds if what the call finds with its input is written for the first rows. If the input cannot be read, nothing is.
+abbrev pub JoinsBy : {P : Type 0} → Result P Status → (P → List ℕ → List ℕ → List ℕ → ℕ → Type 0)
+    → List (Option (List ℕ)) → BytesRoom → BytesRoom → Progress → ℕ → Type 0
+JoinsBy read Writes column old new progress status =
+    With read (λ input. JoinsRows (Writes input) column old new progress status)
+    (λ cause. (status ≡ code cause) × IsUntouched old new progress)

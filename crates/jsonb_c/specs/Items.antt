@@ -44,6 +44,5 @@ IsNextSpan document left answer = (form : Form) (top : Tree) (ts : List Tree) �
 
 -- Holds if the first item is removed if it was delivered; otherwise the handle is unchanged.
 abbrev pub LeavesItems : ℕ → Option PreparedPath → Option PreparedPath → Type 0
-LeavesItems status old new =
-    ((status ≡ code Answered) × (items_left new ≡ option_map (drop 1) (items_left old)))
+LeavesItems status old new = ((status ≡ code Answered) × (items_left new ≡ option_map (drop 1) (items_left old)))
     ⊎ ((status ≡ code Answered → ⊥) × (new ≡ old))

@@ -5,8 +5,7 @@ use Rattle.jsonb_raw.specs.Scalars.{type_name}
 
 -- The names of the types, by their numbers.
 abbrev pub type_names : List (List ℕ)
-type_names =
-    codes "NULL_VALUE" ∷ codes "BOOLEAN" ∷ codes "INTEGER" ∷ codes "DECIMAL" ∷ codes "STRING" ∷ codes "BINARY"
+type_names = codes "NULL_VALUE" ∷ codes "BOOLEAN" ∷ codes "INTEGER" ∷ codes "DECIMAL" ∷ codes "STRING" ∷ codes "BINARY"
     ∷ codes "DATE" ∷ codes "TIMESTAMP" ∷ codes "TIMESTAMP_TZ" ∷ codes "INTERVAL" ∷ codes "ARRAY" ∷ codes "OBJECT" ∷ []
 
 -- Holds if the number is that of the tree's type.

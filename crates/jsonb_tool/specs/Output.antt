@@ -35,8 +35,7 @@ IsDamage bytes e = ((e ≡ UnsupportedNumber) × IsUnsupportedDocument bytes) �
 -- The outcome satisfies this for the tree that the bytes decode to, in each form in which they do. If they do not
 -- decode, it is the error that says why.
 abbrev pub OnDocument : List ℕ → (Form → Tree → Outcome (List ℕ) → Type 0) → Outcome (List ℕ) → Type 0
-OnDocument bytes IsOutcomeOn outcome =
-    (((t : Tree) × Decodes any bytes t)
+OnDocument bytes IsOutcomeOn outcome = (((t : Tree) × Decodes any bytes t)
     × ((form : Form) (t : Tree) → Decodes form bytes t → IsOutcomeOn form t outcome))
     ⊎ IsErrAnd outcome (IsDamage bytes)
 

@@ -19,11 +19,9 @@ bytes_of digits = result_ok (decode_of digits)
 -- The request of the arguments: a command by its name, with as many arguments as it takes, and hexadecimal for its
 -- document. Other arguments are not a request.
 abbrev pub request_of : List (List ℕ) → Option Request
-request_of (name ∷ path ∷ digits ∷ []) =
-    if bytes_eq name (codes "get") then option_map (get path) (bytes_of digits)
+request_of (name ∷ path ∷ digits ∷ []) = if bytes_eq name (codes "get") then option_map (get path) (bytes_of digits)
     else if bytes_eq name (codes "select") then option_map (select path) (bytes_of digits)
     else if bytes_eq name (codes "match") then option_map (path_match path) (bytes_of digits) else None
-request_of (name ∷ digits ∷ []) =
-    if bytes_eq name (codes "key") then option_map key (bytes_of digits)
+request_of (name ∷ digits ∷ []) = if bytes_eq name (codes "key") then option_map key (bytes_of digits)
     else (if bytes_eq name (codes "leaves") then option_map leaves (bytes_of digits) else None)
 request_of _ = None

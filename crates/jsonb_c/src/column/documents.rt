@@ -10,12 +10,11 @@ ghost use Rattle.jsonb.specs.KeyPathViews.{key_paths_view};
 ghost use Rattle.jsonb.specs.PathGrammar.{json_path};
 ghost use Rattle.jsonb.specs.PathViews.{path_view};
 ghost use Rattle.jsonb.specs.SelectorAnswers.{first_item, single_or_array};
-ghost use Rattle.jsonb_c.specs.Answers.{OfDocument, Shows, ShowsValue, With};
+ghost use Rattle.jsonb_c.specs.Answers.{OfDocument, Shows, ShowsValue};
 ghost use Rattle.jsonb_c.specs.Calls.{DeletesPart, DeletesPlace, FindsPart, SelectsItem, mode_of, one_array};
-ghost use Rattle.jsonb_c.specs.Columns.{IsUntouched, JoinsRows, rows};
+ghost use Rattle.jsonb_c.specs.Columns.{JoinsBy, rows};
 ghost use Rattle.jsonb_c.specs.Private.Buffers.{written_answer};
 ghost use Rattle.jsonb_c.specs.Private.Views.{place_of};
-ghost use Rattle.jsonb_c.specs.Status.{code};
 ghost use Rattle.jsonb_c.specs.declared.status.Status.TheVariants.{NotJsonPath, Refused};
 ghost use Rattle.jsonb_c.specs.Private.Views.{pick_of};
 
@@ -136,13 +135,10 @@ pub extern "C" fn jdoc_column_get(
     statuses: &mut [u8],
     progress: &mut Progress,
 ) -> u32
-    ensures { With (ok_or (key_path path.now) (Refused InvalidKeyPath))
-        (λ steps. JoinsRows
-        (λ document old new status. FindsPart steps document (λ answer. Shows answer old new status))
+    ensures { JoinsBy (ok_or (key_path path.now) (Refused InvalidKeyPath))
+        (λ steps document old new status. FindsPart steps document (λ answer. Shows answer old new status))
         (rows bytes.now offsets.now)
-        (out.old, positions.old, statuses.old) (out.new, positions.new, statuses.new) progress.new result)
-        (λ cause. (result ≡ code cause)
-        × IsUntouched (out.old, positions.old, statuses.old) (out.new, positions.new, statuses.new) progress.new) }
+        (out.old, positions.old, statuses.old) (out.new, positions.new, statuses.new) progress.new result }
 {
     let asked = PathColumn::new(alloc, bytes, offsets, path);
     asked.place(Operation::Part, out, positions, statuses, progress)
@@ -160,13 +156,10 @@ pub extern "C" fn jdoc_column_delete_by_keypath(
     statuses: &mut [u8],
     progress: &mut Progress,
 ) -> u32
-    ensures { With (ok_or (key_path path.now) (Refused InvalidKeyPath))
-        (λ steps. JoinsRows
-        (λ document old new status. DeletesPart steps document (ShowsValue old new status))
+    ensures { JoinsBy (ok_or (key_path path.now) (Refused InvalidKeyPath))
+        (λ steps document old new status. DeletesPart steps document (ShowsValue old new status))
         (rows bytes.now offsets.now)
-        (out.old, positions.old, statuses.old) (out.new, positions.new, statuses.new) progress.new result)
-        (λ cause. (result ≡ code cause)
-        × IsUntouched (out.old, positions.old, statuses.old) (out.new, positions.new, statuses.new) progress.new) }
+        (out.old, positions.old, statuses.old) (out.new, positions.new, statuses.new) progress.new result }
 {
     let asked = PathColumn::new(alloc, bytes, offsets, path);
     asked.place(Operation::Rest, out, positions, statuses, progress)
@@ -185,13 +178,10 @@ pub extern "C" fn jdoc_column_select_first(
     statuses: &mut [u8],
     progress: &mut Progress,
 ) -> u32
-    ensures { With (ok_or (json_path path.now) NotJsonPath)
-        (λ steps. JoinsRows (λ document old new status. SelectsItem (mode_of strict) first_item steps document
-        (λ answer. Shows answer old new status))
-        (rows bytes.now offsets.now)
-        (out.old, positions.old, statuses.old) (out.new, positions.new, statuses.new) progress.new result)
-        (λ cause. (result ≡ code cause)
-        × IsUntouched (out.old, positions.old, statuses.old) (out.new, positions.new, statuses.new) progress.new) }
+    ensures { JoinsBy (ok_or (json_path path.now) NotJsonPath)
+        (λ steps document old new status. SelectsItem (mode_of strict) first_item steps document
+        (λ answer. Shows answer old new status)) (rows bytes.now offsets.now)
+        (out.old, positions.old, statuses.old) (out.new, positions.new, statuses.new) progress.new result }
 {
     let asked = PathColumn::new(alloc, bytes, offsets, path);
     asked.select(strict, Pick::First, out, positions, statuses, progress)
@@ -210,13 +200,10 @@ pub extern "C" fn jdoc_column_select_value(
     statuses: &mut [u8],
     progress: &mut Progress,
 ) -> u32
-    ensures { With (ok_or (json_path path.now) NotJsonPath)
-        (λ steps. JoinsRows (λ document old new status. SelectsItem (mode_of strict) single_or_array steps document
-        (λ answer. Shows answer old new status))
-        (rows bytes.now offsets.now)
-        (out.old, positions.old, statuses.old) (out.new, positions.new, statuses.new) progress.new result)
-        (λ cause. (result ≡ code cause)
-        × IsUntouched (out.old, positions.old, statuses.old) (out.new, positions.new, statuses.new) progress.new) }
+    ensures { JoinsBy (ok_or (json_path path.now) NotJsonPath)
+        (λ steps document old new status. SelectsItem (mode_of strict) single_or_array steps document
+        (λ answer. Shows answer old new status)) (rows bytes.now offsets.now)
+        (out.old, positions.old, statuses.old) (out.new, positions.new, statuses.new) progress.new result }
 {
     let asked = PathColumn::new(alloc, bytes, offsets, path);
     asked.select(strict, Pick::Value, out, positions, statuses, progress)
@@ -235,13 +222,10 @@ pub extern "C" fn jdoc_column_select_array(
     statuses: &mut [u8],
     progress: &mut Progress,
 ) -> u32
-    ensures { With (ok_or (json_path path.now) NotJsonPath)
-        (λ steps. JoinsRows (λ document old new status. SelectsItem (mode_of strict) one_array steps document
-        (λ answer. Shows answer old new status))
-        (rows bytes.now offsets.now)
-        (out.old, positions.old, statuses.old) (out.new, positions.new, statuses.new) progress.new result)
-        (λ cause. (result ≡ code cause)
-        × IsUntouched (out.old, positions.old, statuses.old) (out.new, positions.new, statuses.new) progress.new) }
+    ensures { JoinsBy (ok_or (json_path path.now) NotJsonPath)
+        (λ steps document old new status. SelectsItem (mode_of strict) one_array steps document
+        (λ answer. Shows answer old new status)) (rows bytes.now offsets.now)
+        (out.old, positions.old, statuses.old) (out.new, positions.new, statuses.new) progress.new result }
 {
     let asked = PathColumn::new(alloc, bytes, offsets, path);
     asked.select(strict, Pick::Array, out, positions, statuses, progress)
@@ -257,11 +241,9 @@ impl PathColumn<'_> {
         statuses: &mut [u8],
         progress: &mut Progress,
     ) -> u32
-        ensures { With (ok_or (key_path self.now.path.now) (Refused InvalidKeyPath))
-            (λ steps. JoinsRows (place_of wanted steps) self.now.column
-            (out.old, positions.old, statuses.old) (out.new, positions.new, statuses.new) progress.new result)
-            (λ cause. (result ≡ code cause)
-            × IsUntouched (out.old, positions.old, statuses.old) (out.new, positions.new, statuses.new) progress.new) }
+        ensures { JoinsBy (ok_or (key_path self.now.path.now) (Refused InvalidKeyPath))
+            (place_of wanted) self.now.column
+            (out.old, positions.old, statuses.old) (out.new, positions.new, statuses.new) progress.new result }
     {
         match parse_key_paths(self.alloc, self.path) {
             Ok(steps) => {
@@ -283,12 +265,10 @@ impl PathColumn<'_> {
         statuses: &mut [u8],
         progress: &mut Progress,
     ) -> u32
-        ensures { With (ok_or (json_path self.now.path.now) NotJsonPath)
-            (λ steps. JoinsRows (λ document old new status. SelectsItem (mode_of strict) (pick_of pick) steps document
+        ensures { JoinsBy (ok_or (json_path self.now.path.now) NotJsonPath)
+            (λ steps document old new status. SelectsItem (mode_of strict) (pick_of pick) steps document
             (λ answer. Shows answer old new status)) self.now.column
-            (out.old, positions.old, statuses.old) (out.new, positions.new, statuses.new) progress.new result)
-            (λ cause. (result ≡ code cause)
-            × IsUntouched (out.old, positions.old, statuses.old) (out.new, positions.new, statuses.new) progress.new) }
+            (out.old, positions.old, statuses.old) (out.new, positions.new, statuses.new) progress.new result }
     {
         match parse_json_path(self.alloc, self.path) {
             Ok(path) => {
