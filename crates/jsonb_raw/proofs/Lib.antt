@@ -34,6 +34,7 @@ pub mod StripLists
 pub mod StripWalk
 pub mod InsertPlaces
 pub mod InsertEntries
+pub mod InStep
 pub mod KeysCounted
 pub mod SetKept
 pub mod ElementsSeen

@@ -110,7 +110,7 @@ fn texts_equal(found: EntryIter<'_>, others: EntryIter<'_>) -> Result<bool, Erro
             return Ok(false);
         };
         let other = other?;
-        if !same_bytes(entry.content, other.content) {
+        if entry.content != other.content {
             return Ok(false);
         }
     }
@@ -185,8 +185,8 @@ fn stored_items_equal(entry: &StoredEntry<'_>, wanted: &StoredEntry<'_>) -> Resu
     items_equal(&entry.item()?, &wanted.item()?)
 }
 
-/// Returns `true` if two contents have the same bytes. Those of one length often differ in the last byte, so that few
-/// are compared as a whole.
+/// Returns `true` if two strings are equal. Strings of one length often differ in the last byte, so that few are
+/// compared as a whole.
 #[inline(always)]
 fn same_bytes(bytes: &[u8], other: &[u8]) -> bool
     ensures { result ≡ bytes_eq bytes.now other.now }
@@ -208,13 +208,13 @@ fn bytes_tell(
     if entry.kind != wanted.kind {
         return Some(false);
     }
-    if wanted.has_one_spelling() {
+    if entry.has_one_spelling() {
         return Some(same_bytes(entry.content, wanted.content));
     }
     if let (Some(number), Some(other)) = (entry.short_number(), short) {
         return Some(short_equal(number, other));
     }
-    if same_bytes(entry.content, wanted.content) {
+    if entry.content == wanted.content {
         return Some(true);
     }
     None

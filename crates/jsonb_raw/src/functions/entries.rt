@@ -1,13 +1,12 @@
 //! Entries of containers, as they are stored, and the documents of single entries.
 
-ghost use Rattle.std.specs.Prelude.{◌≡◌, List, length, take, drop, IsOkAnd, IfOk, IfSome, IfErr};
+ghost use Rattle.std.specs.Prelude.{◌≡◌, List, length, take, drop, IsOkAnd, IfErr};
 ghost use Rattle.jsonb_doc.specs.Tree.{Tree};
 ghost use Rattle.jsonb_doc.specs.Payload.{Form, number_reader};
 ghost use Rattle.jsonb_doc.specs.Format.{Decodes, IsContent};
 ghost use Rattle.jsonb_doc.specs.Kinds.{kind_number};
 ghost use Rattle.jsonb_doc.specs.Answer.{IsDecodingError, ◌or◌};
 ghost use Rattle.jsonb_doc.specs.declared.error.Error.TheVariants.{OutOfMemory, TooLarge};
-ghost use Rattle.jsonb_raw.specs.AnyBytes.Roots.{HasRootShape};
 ghost use Rattle.jsonb_raw.specs.Documents.{Makes};
 ghost use Rattle.jsonb_raw.specs.Private.Entries.{HoldTrees, AreElementsOf};
 
@@ -21,7 +20,6 @@ use std::alloc::Global;
 #[inline(always)]
 pub fn element_entries(bytes: &[u8]) -> Result<Option<Entries<'_>>, Error>
     ensures entries { (form : Form) (t : Tree) → Decodes form bytes.now t → IsOkAnd result (AreElementsOf form t) }
-    ensures readable { IfOk result (λ found. IfSome found (λ _. HasRootShape bytes.now)) }
     ensures errors { IfErr result IsDecodingError }
 {
     match read_container(bytes)? {

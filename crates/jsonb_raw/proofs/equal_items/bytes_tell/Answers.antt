@@ -10,7 +10,7 @@ returns-in-Some-Some c = λ form other_form t u h k.
     (rw c.in-Some-Some.is-1 at c.requires.kind)
     c.in-Some-Some.ensures.number (rw c.in-Some-Some.is-1 at c.requires.number) c.short_equal.ensures
 
-pub returns-then-same_bytes : goal.returns-then-same_bytes
-returns-then-same_bytes c = λ form other_form t u h k.
+pub returns-then-eq : goal.returns-then-eq
+returns-then-eq c = λ form other_form t u h k.
     same_tell form other_form _ _ t u h k (equal_kind _ c.args.entry.now.kind c.args.wanted.now.kind c.ne.ensures c.if-ne.false)
-    ((bytes_eq-Decides _ _).0 (sym c.same_bytes-2.ensures ∙ c.if-same_bytes.true))
+    ((bytes_eq-Decides _ _).0 (sym c.eq.ensures ∙ c.if-eq.true))

@@ -2,6 +2,7 @@ use Rattle.std.proofs.Common.{◌≡◌, Bool, true, false, refl, sym, ◌∙◌
 use Rattle.jsonb_doc.specs.Equal.{is_equal, are_equal}
 use Rattle.jsonb_doc.specs.Private.Stored.{key_trees}
 use Rattle.jsonb_raw.proofs.EntriesLeft.{SomeEntries-first, SomeEntries-error, SomeEntries-none}
+use Rattle.jsonb_raw.proofs.InStep.{told_none, told_some}
 use Rattle.jsonb_raw.proofs.TextTrees.{key_trees_are_texts, first_text, texts_by_bytes}
 use Rattle.jsonb_raw.proofs.Aside.{entries_ended}
 use Rattle.jsonb_raw.proofs.equal_items.texts_equal.Goals as goal
@@ -31,15 +32,15 @@ returns-in_err-other-clause-equal c = λ form other_form ks ls d e.
     SomeEntries-first form _ _ _ _ _ c.in_ok-entry.was c.in-Some.ensures.steps (c.loop-entry.invariant.left form other_form ks ls d e)
     (λ first rest left stored fact. SomeEntries-error other_form _ _ _ _ _ c.in_err-other.was c.in-Some-next.ensures.steps fact.1)
 
-pub returns-then-not-same_bytes-clause-equal : goal.returns-then-not-same_bytes-clause-equal
-returns-then-not-same_bytes-clause-equal c = λ form other_form ks ls d e.
+pub returns-then-ne-clause-equal : goal.returns-then-ne-clause-equal
+returns-then-ne-clause-equal c = λ form other_form ks ls d e.
     SomeEntries-first form _ _ _ _ _ c.in_ok-entry.was c.in-Some.ensures.steps (c.loop-entry.invariant.left form other_form ks ls d e)
     (λ first rest left stored fact.
     SomeEntries-first other_form _ _ _ _ _ c.in_ok-other.was c.in-Some-next.ensures.steps fact.1
     (λ second others right means both.
     let differs : is_equal first second
     ≡ false = texts_by_bytes form other_form c.in_ok-entry.entry c.in_ok-other.other first second rest others fact.0 both.0 stored means
-    ∙ (sym c.same_bytes.ensures ∙ c.if-not-same_bytes.true) in
+    ∙ told_some _ (sym c.if-ne.true ∙ c.ne.ensures) in
     rw differs at both.1))
 
 pub loop-entry-preserved : goal.loop-entry-preserved
@@ -53,7 +54,7 @@ loop-entry-preserved c = record {
       (λ second others right means both.
       let same : is_equal first second
       ≡ true = texts_by_bytes form other_form c.in_ok-entry.entry c.in_ok-other.other first second rest others fact.0 both.0 stored means
-      ∙ (sym c.same_bytes.ensures ∙ c.if-not-same_bytes.false) in
+      ∙ told_none _ (sym c.if-ne.false ∙ c.ne.ensures) in
       record {
         trees = rest;
         left = left;

@@ -193,8 +193,7 @@ fn read_entry(entry: &StoredEntry<'_>) -> Result<(), Error>
         → IsOkAnd result (λ _. ⊤) }
     ensures errors { IfErr result IsDecodingError }
 {
-    let is_read = entry.is_text() || entry.is_container() || entry.short_number().is_some();
-    if !is_read {
+    if entry.kind != EntryKind::Text && entry.short_number().is_none() {
         entry.item()?;
     }
     Ok(())

@@ -31,7 +31,7 @@ use crate::owned::OwnedJsonb;
 use crate::raw::RawJsonb;
 use jsonb_doc::layout::EntryKind;
 use jsonb_doc::{
-    ArrayBuilder, Container, Error, Item, ObjectParts, array_elements, read_container,
+    ArrayBuilder, Container, Error, Item, ObjectParts, Shape, array_elements, read_container,
     root_item, root_shape,
 };
 use std::alloc::Global;
@@ -71,8 +71,10 @@ impl RawJsonb<'_> {
         ensures reads { OnOk result (HasRootShape (raw_bytes self.now)) }
     {
         let bytes = self.as_bytes();
+        let Shape::Array = root_shape(bytes)? else {
+            return Ok(None);
+        };
         let Some(entries) = element_entries(bytes)? else {
-            root_shape(bytes)?;
             return Ok(None);
         };
         if index >= entries.len() {

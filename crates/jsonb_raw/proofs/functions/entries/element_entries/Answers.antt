@@ -1,7 +1,5 @@
 use Rattle.std.proofs.Common.{refl}
 use Rattle.jsonb_doc.proofs.Containers.{Decodes-array}
-use Rattle.jsonb_doc.proofs.ReadItems.{array_root}
-use Rattle.jsonb_doc.specs.declared.shape.Shape.TheVariants.{Array}
 use Rattle.jsonb_raw.proofs.JoinedEntries.{entries_of_array}
 use Rattle.jsonb_raw.proofs.functions.entries.element_entries.Goals as goal
 
@@ -9,6 +7,3 @@ pub returns-in-Array-clause-entries : goal.returns-in-Array-clause-entries
 returns-in-Array-clause-entries c = λ form t d.
     entries_of_array form t c.in-Array.parts _ refl refl
     (Decodes-array form c.args.bytes.now c.in-Array.parts (rw c.in-Array.is at c.in_ok-parts.ensures.cut) t d)
-
-pub returns-in-Array-clause-readable : goal.returns-in-Array-clause-readable
-returns-in-Array-clause-readable c = (Array, array_root c.args.bytes.now c.in-Array.parts (rw c.in-Array.is at c.in_ok-parts.ensures.cut))

@@ -17,10 +17,10 @@ returns-in_err-entries-clause-none c = λ form t d none.
     let d' : Decodes form c.as_bytes-bytes.result.now t = rw c.as_bytes-bytes.ensures d in
     absurd (c.in_err-entries.ensures.entries form t d')
 
-pub returns-in_default-clause-element : goal.returns-in_default-clause-element
-returns-in_default-clause-element c = λ form t d.
+pub returns-in_default-2-clause-element : goal.returns-in_default-2-clause-element
+returns-in_default-2-clause-element c = λ form t d.
     let d' : Decodes form c.as_bytes-bytes.result.now t = rw c.as_bytes-bytes.ensures d in
-    rw (no_element form t _ c.args.index c.in_default.is (c.in_ok-entries.ensures.entries form t d')) refl
+    rw (no_element form t _ c.args.index c.in_default-2.is (c.in_ok-entries.ensures.entries form t d')) refl
 
 pub returns-then-index-len-clause-element : goal.returns-then-index-len-clause-element
 returns-then-index-len-clause-element c = λ form t d.
