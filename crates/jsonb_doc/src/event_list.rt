@@ -30,8 +30,8 @@ use std::alloc::Global;
 ///
 /// - `OutOfOrder` if an event cannot come next or has another kind, if its string or key ends past the text or within a
 ///   character, or if the root is not complete at the end.
-/// - `Failed` with `ObjectDuplicateKey` if a key is a duplicate, unless `keep_last`. Keys are compared when their object
-///   ends, so an event that is out of order before that is the error.
+/// - `Failed` with `ObjectDuplicateKey` if a key is a duplicate, unless `keep_last`. Keys are compared when their
+///   object ends, so an event that is out of order before that is the error.
 /// - `Failed` with `TooLarge` if the document exceeds the limits, or with `OutOfMemory` if an allocation fails.
 ///
 /// # Complexity

@@ -259,7 +259,8 @@ fn owned_pairs(alloc: Global, pairs: PairEntries<'_>) -> Result<Vec<(String, Own
 fn owned_pair(alloc: Global, pair: FirstPair<'_>) -> Result<(String, OwnedJsonb), Error>
     ensures pair { (form : Form) (t : Tree) → IsUtf8 pair.entry.key.now
         → IsContent (number_reader form) t (kind_number pair.entry.kind) pair.entry.content.now
-        → MatchResult result (λ made. IsPairOf string_bytes form made (pair.entry.key.now, t)) (IsOutOfMemoryOrTooLarge form t) }
+        → MatchResult result (λ made. IsPairOf string_bytes form made (pair.entry.key.now, t))
+        (IsOutOfMemoryOrTooLarge form t) }
     ensures errors { IfErr result (IsDecodingError or OutOfMemory or TooLarge) }
 {
     let Ok(key) = str::from_utf8(pair.key) else {
