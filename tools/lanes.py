@@ -19,6 +19,9 @@ from edits import say
 MEMORY = {"proof": 3_600_000_000, "seed": 3_000_000_000, "tests": 4_500_000_000, "edits": 3_000_000_000, "sound": 3_000_000_000, "again": 0}
 MORE_MEMORY = {("jsonb_raw", "tests"): 6_000_000_000}
 MEMORY_OF_A_JOB = 800_000_000
+# The most jobs that a proof has. Each loads what it needs: the proof of jsonb_doc takes 13 minutes of the processors with one job, 19 with
+# two and 26 with four, and other tasks wait for them.
+MOST_JOBS = 2
 # What the other commands of .ci/run take at the same time.
 MEMORY_BESIDE = 2_000_000_000
 # How many lines of a crate are proved in a minute, about, if it was not measured.
@@ -45,7 +48,7 @@ def expected(tasks):
 def jobs_of(key, proofs, lanes, took):
     """Returns how many jobs a task has: a proof its part of the lanes, by the minutes of all proofs that can be made at one time."""
     whole = sum(took[it] for it in proofs)
-    return max(1, round(lanes * took[key] / whole)) if key[1] == "proof" and whole else 1
+    return min(MOST_JOBS, max(1, round(lanes * took[key] / whole))) if key[1] == "proof" and whole else 1
 
 
 def minutes(since):
@@ -88,8 +91,8 @@ def in_lanes(tasks):
 
     A key begins with a crate's name and the kind of the task. A task is what it waits for, its work in lines, its memory,
     and a call that takes what was given so far and how many jobs it may use. Of those that are ready, the first goes
-    first, and the longest of a kind. Proofs that can be made at one time share the lanes as jobs, so that one alone has all:
-    other tasks are nicer, and take what it leaves idle. Any other task has one job, since more jobs take more time of the
+    first, and the longest of a kind. Proofs that can be made at one time share the lanes as jobs, up to MOST_JOBS each: other
+    tasks are nicer, and take what they leave idle. Any other task has one job, since more jobs take more time of the
     processors in all. If a task does not fit into memory, those after it wait too.
     """
     lanes, memory, running, given = kit.processors(), kit.free() - MEMORY_BESIDE, {}, {}

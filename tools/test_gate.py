@@ -70,7 +70,7 @@ PRINTED = {
 # The free memory of a machine with four processors, in GB, and how many crates' tests are proved there at a time.
 LANES = {30: 4, 15: 2, 3: 1}
 # The minutes of proofs that can be made at a time, and how many jobs the first of them has on four processors.
-JOBS = {(14,): 4, (0,): 1, (18, 7, 6, 4, 3, 0): 2, (7, 18, 6, 4, 3, 0): 1, (10, 10): 2}
+JOBS = {(14,): 2, (0,): 1, (18, 7, 6, 4, 3, 0): 2, (7, 18, 6, 4, 3, 0): 1, (10, 10): 2}
 # The crates whose programs and library other commands wait for.
 BUILT = ("jsonb_c", "jsonb_lines", "jsonb_sweep", "jsonb_tool")
 
