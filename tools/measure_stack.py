@@ -1,8 +1,7 @@
 #!/usr/bin/env python3
 """Measures the stack that calls use, on documents and paths nested a million deep.
 
-  measure_stack.py            runs each call in 256 KiB: it must return the result of a model, or be listed in NEEDS_MORE. The last
-                              line is 'N passed, M failed'
+  measure_stack.py            runs each call in 256 KiB: it must return the result of a model. The last line is 'N passed, M failed'
   measure_stack.py --table    prints the least stack that each call returns in; with --write, writes docs/measured/stack.csv
   measure_stack.py --more     runs the calls that C lacks, which the gate does not; with --table, their least stacks, and with
                               --write docs/measured/stack_more.csv
@@ -102,11 +101,24 @@ def document_runs(shape):
     yield Run("delete_by_keypath", shape, MILLION, f"JDOC_OK {length - (4 + TEXT if by_zeros else 0)} 0")
 
 
+# Filters within filters in each form, with their truth for the array in deep.c.
+FILTERS = {
+    "filters": 1,
+    "filters_of_elements": 1,
+    "filters_in_parentheses": 1,
+    "filters_and_step": 0,
+    "filters_and_filter": 1,
+    "filters_with_and": 1,
+    "filters_with_or": 1,
+    "filters_with_arithmetic": 0,
+}
+
+
 def path_runs():
     for shape in ("open_parentheses", "unfinished_filters"):
         yield Run("exists", shape, MILLION, "JDOC_INVALID_JSON_PATH 0 0")
-    truths = {"parentheses": 0, "filters": 1, "filters_of_elements": 1, "and_chain": 1, "or_chain": 0}
-    for shape, truth in {**truths, "right_sides": 1, "fields": 0}.items():
+    truths = {"parentheses": 0, "and_chain": 1, "or_chain": 0, "right_sides": 1, "fields": 0}
+    for shape, truth in {**truths, **FILTERS}.items():
         yield Run("exists", shape, MILLION, f"JDOC_OK 0 {truth}")
 
 
@@ -129,18 +141,9 @@ def printed(words, stack, content=b""):
 
 SMALL_STACK = 256 << 10
 
-# Calls that need a stack that grows with the path (docs/STACK.md says why). They are run all the same: one that no longer
-# needs it is a failure, so that this list stays true.
-NEEDS_MORE = {
-    ("exists", "filters_of_elements"),
-}
-
-
 def judged(run):
     """The fault of a run, or None."""
     said = ends(run, SMALL_STACK)
-    if (run.call, run.shape) in NEEDS_MORE:
-        return None if said is None else "needs no large stack any more"
     if said is None:
         return "was killed"
     if run.answer is not None and said != run.answer:

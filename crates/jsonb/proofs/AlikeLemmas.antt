@@ -1,11 +1,11 @@
 -- Lists in which any test finds the same first item: what is computed from them is the same.
-use Rattle.std.proofs.Common.{◌≡◌, ◌⊎◌, inl, inr, ℕ, ◌<◌, suc, zero, length, List, [], ◌∷◌, ◌++◌, map, flat_map, Bool, true, false, Option, Some, None, is_some, option_map, Result, Ok, Err, refl, sym, ap, subst, ◌∙◌, cond, arith}
+use Rattle.std.proofs.Common.{◌≡◌, ℕ, ◌<◌, suc, zero, length, List, [], ◌∷◌, ◌++◌, map, flat_map, Bool, true, false, Option, Some, None, is_some, option_map, Ok, Err, refl, sym, ap, subst, ◌∙◌, cond, arith}
 use Rattle.std.specs.Prelude.{find, slice_index_or, Contains}
 use Rattle.std.specs.Option.{option_or}
 use Rattle.std.proofs.lemmas.List.Folds.{find-append}
 use Rattle.jsonb_doc.specs.Answer.{Outcome, and_then, try_flat_map}
 use Rattle.jsonb_doc.specs.declared.error.Error.{Error}
-use Rattle.jsonb.specs.Private.Alike.{AreAlike}
+use Rattle.jsonb.specs.Private.Alike.{AreAlike, AlikeOutcomes}
 
 pub alike_itself : {A : Type 0} (xs : List A) → AreAlike xs xs
 alike_itself xs = record { finds = λ test. refl }
@@ -122,12 +122,6 @@ ends {A} {B} f (x ∷ xs) = go (f x) refl (find (λ y. fails (f y)) xs) (try_fla
     go (Ok us) is (Some y) rest ends_so =
         subst (λ o. Ends f (x ∷ xs) (cond (fails o) (Some x) (Some y)) (and_then o (λ front. and_then rest (λ back. Ok (front ++ back)))))
         (sym is) (ends_so.0, ends_so.1, ap (λ r. and_then r (λ back. Ok (us ++ back))) ends_so.2)
-
--- two outcomes are lists that are alike, or one error
-abbrev pub AlikeOutcomes : {A : Type 0} → Outcome (List A) → Outcome (List A) → Type 0
-AlikeOutcomes (Ok xs) (Ok ys) = AreAlike xs ys
-AlikeOutcomes (Err e) (Err d) = e ≡ d
-AlikeOutcomes _ _ = ⊥
 
 pub alike_results : {A B : Type 0} (f : A → Outcome (List B)) {xs ys : List A} → AreAlike xs ys → AlikeOutcomes (try_flat_map f xs) (try_flat_map f ys)
 alike_results {A} {B} f {xs} {ys} h = go (find (λ x. fails (f x)) xs) (try_flat_map f xs) (try_flat_map f ys) (ends f xs)

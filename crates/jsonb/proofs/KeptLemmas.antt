@@ -1,7 +1,6 @@
 -- What is kept of a filter from one item to the next.
-use Rattle.std.proofs.Common.{◌≡◌, Vec, Box, Global, ℕ, ◌≤◌, ◌+◌, zero, suc, List, [], ◌∷◌, ◌++◌, length, drop, true, Some, None, Ok, Err, IsOkAnd, OnOk, arith, refl, sym, ap, ◌∙◌, subst, inl, inr, add-one}
+use Rattle.std.proofs.Common.{◌≡◌, Box, Global, ℕ, ◌≤◌, ◌+◌, zero, suc, List, [], ◌∷◌, ◌++◌, length, drop, true, Some, None, Ok, Err, IsOkAnd, arith, refl, sym, ap, ◌∙◌, subst, inl, inr, add-one}
 use Rattle.std.specs.List.{slice_get}
-use Rattle.std.specs.Prelude.{if◌then◌else◌}
 use Rattle.std.proofs.lemmas.Option.{slice_get_cases}
 use Rattle.jsonb_doc.specs.Answer.{Outcome, and_then, Refines, IsOutOfMemory}
 use Rattle.jsonb_doc.specs.Tree.{Tree}
@@ -9,7 +8,7 @@ use Rattle.jsonb.specs.PathTree as math
 use Rattle.jsonb.specs.PathTree.{Expression}
 use Rattle.jsonb.specs.Meaning.{truth, operand_values}
 use Rattle.jsonb.specs.Private.Selection.{values_view}
-use Rattle.jsonb.specs.Private.FilterCache.{is_fixed, is_comparison, is_condition, conditions, IsSame, AreSame, AreKept, kept_part}
+use Rattle.jsonb.specs.Private.FilterCache.{is_fixed, is_comparison, is_condition, IsSame, AreSame, AreKept, kept_part}
 use Rattle.jsonb.specs.declared.selector.document.Mode.{Mode}
 use Rattle.jsonb.specs.declared.selector.operand_value.OperandValues.{OperandValues}
 use Rattle.jsonb.specs.declared.selector.filter_cache.CachedPart.{CachedPart}
@@ -19,13 +18,12 @@ use Rattle.jsonb.specs.declared.selector.filter_cache.FilterCache.TheVariants as
 use Rattle.jsonb.specs.PathViews.{expression_view}
 use Rattle.jsonb.specs.Compare.{compare}
 use Rattle.jsonb.specs.Values.{Value}
-use Rattle.jsonb.specs.declared.path.Path.{Path}
 use Rattle.jsonb.specs.declared.path.Expr.{Expr}
 use Rattle.jsonb.specs.declared.path.Expr.TheVariants as expr
 use Rattle.jsonb.specs.declared.path.BinaryOperator.{BinaryOperator}
 use Rattle.jsonb.specs.Private.Alike.{AreAlike}
-use Rattle.jsonb.proofs.PathNodes.{binary_is, exists_is}
-use Rattle.jsonb.proofs.RepeatLemmas.{compared_left, compared_right, compared_both}
+use Rattle.jsonb.proofs.PathNodes.{binary_is}
+use Rattle.jsonb.proofs.RepeatLemmas.{compared_right, compared_both}
 
 -- ---- what does not look at the item
 
@@ -76,9 +74,6 @@ at_last ps n none short = elim (slice_get_cases ps n).1 [
 
 -- ---- comparisons
 
-pub one_condition : (e : Expression) → is_condition e ≡ true → conditions e ≡ e ∷ []
-one_condition e is = ap (λ b. if b then e ∷ [] else []) is
-
 pub comparison_is : (mode : Mode) (op : math.BinaryOp) (l r : Expression) (top u : Tree) → is_comparison op ≡ true → truth mode (math.binary op l r) top u
     ≡ and_then (operand_values mode l top u) (λ ls. and_then (operand_values mode r top u) (λ rs. Ok (compare op ls rs)))
 comparison_is mode math.and_op l r top u h = cc
@@ -98,27 +93,11 @@ fixed_truth mode op l r top t u h hl hr =
     ∙ (λ i. and_then (fixed_values mode l top t u hl i) (λ ls. and_then (fixed_values mode r top t u hr i) (λ rs. Ok (compare op ls rs))))
     ∙ sym (comparison_is mode op l r top u h)
 
--- a comparison is one condition
-pub one_comparison : (e : Expr) (op : BinaryOperator) (l r : Box Expr Global) → e ≡ expr.BinaryOp op l r → is_comparison op ≡ true →
-    (is_condition (expression_view e) ≡ true) × (conditions (expression_view e) ≡ expression_view e ∷ [])
-one_comparison e op l r is compares =
-    let condition : is_condition (expression_view e) ≡ true = ap is_condition (binary_is e op l r is) ∙ compares in
-    (condition, one_condition (expression_view e) condition)
-
-pub one_exists : (e : Expr) (steps : Vec Path Global) → e ≡ expr.ExistsFunc steps →
-    (is_condition (expression_view e) ≡ true) × (conditions (expression_view e) ≡ expression_view e ∷ [])
-one_exists e steps is =
-    let condition : is_condition (expression_view e) ≡ true = ap is_condition (exists_is e steps is) in
-    (condition, one_condition (expression_view e) condition)
-
 -- ---- values that are known
 
 pub value_is : {A : Type 0} {x : A} {o : Outcome A} → IsOkAnd o (λ y. x ≡ y) → o ≡ Ok x
 value_is {o = Ok y} h = ap Ok (sym h)
 value_is {o = Err e} h = absurd h
-
-pub value_of : {A B : Type 0} (f : A → B) {x : A} {o : Outcome B} → Refines (λ v y. f v ≡ y) IsOutOfMemory (Ok x) o → o ≡ Ok (f x)
-value_of f h = value_is h.ok
 
 pub known : {A B : Type 0} {R : A → B → Type 0} {x : A} {y : B} {o : Outcome B} → o ≡ Ok y → R x y → Refines R IsOutOfMemory (Ok x) o
 known {R = R} {x = x} is h = record { ok = subst (λ z. IsOkAnd z (R x)) (sym is) h; err = tt }
@@ -148,30 +127,8 @@ module _ (mode : Mode) (top u : Tree) (e : Expr) (op : BinaryOperator) (l r : Bo
       both ∙ (λ i. and_then (operand_values mode (expression_view l.value) top u)
       (λ ls. compared_right op (values_view values) ls (operand_values mode (expression_view r.value) top u) (known u) i))
 
-  pub kept_left : p ≡ part.Left values → truth mode (expression_view e) top u
-      ≡ and_then (operand_values mode (expression_view r.value) top u) (λ rs. Ok (compare op (values_view values) rs))
-  kept_left kept =
-      let known = subst (λ q. IsSame mode top q (math.binary op (expression_view l.value) (expression_view r.value))) kept
-      (subst (λ x. IsSame mode top p x) (binary_is e op l r is) same) in
-      both ∙ compared_left op (values_view values) (operand_values mode (expression_view l.value) top u)
-      (operand_values mode (expression_view r.value) top u) (known u)
-
 -- what is kept of the condition that comes next
 pub kept_same : (mode : Mode) (top : Tree) (k : FilterCache) (all more : List Expression) (e : Expression) (p : CachedPart) → AreKept mode top k all (e ∷ more)
     → kept_part k ≡ Some p → IsSame mode top p e
 kept_same mode top kept.Nothing all more e p a g = cc
 kept_same mode top (kept.Parts k) all more e p a g = same_part mode top k.parts.items all more e p k.next a.0 a.1 g
-
--- ---- what the two results of a call say together
-
-pub from_ok : {A : Type 0} (P : Type 0) (R : A → Type 0) (o : Outcome A) → IsOkAnd o (λ c. R c × P) → P
-from_ok P R (Ok c) h = h.1
-from_ok P R (Err e) h = absurd h
-
-pub without : {A B : Type 0} {R : A → B → Type 0} {x : A} (P : Type 0) (o : Outcome B) → IsOkAnd o (λ c. R x c × P) → Refines R IsOutOfMemory (Ok x) o
-without P (Ok c) h = record { ok = h.0; err = tt }
-without P (Err e) h = absurd h
-
-pub always : {A P : Type 0} (r : Outcome A) → P → OnOk r P
-always (Ok x) p = p
-always (Err e) p = tt

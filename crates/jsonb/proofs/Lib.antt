@@ -31,7 +31,6 @@ pub mod BelowLemmas
 pub mod PathNodes
 pub mod StepLemmas
 pub mod MemberLemmas
-pub mod ExistsLemmas
 pub mod AlikeLemmas
 pub mod RepeatLemmas
 pub mod KeptLemmas
@@ -41,6 +40,10 @@ pub mod ListLemmas
 pub mod SearchLemmas
 pub mod JumpLemmas
 pub mod TestLemmas
+pub mod OperandLemmas
+pub mod AskingLemmas
+pub mod AroundLemmas
+pub mod WeightLemmas
 pub mod CalculateLemmas
 pub mod SignLemmas
 pub mod ReadMeans

@@ -75,6 +75,11 @@ same_outcome {A} {B} {R} {r} e h = subst (λ z. Refines R IsOutOfMemory r z) (sy
 pub same_answer : {A B : Type 0} {R : A → B → Type 0} {r s : Outcome A} {o : Outcome B} → s ≡ r → Refines R IsOutOfMemory r o → Refines R IsOutOfMemory s o
 same_answer {A} {B} {R} {r} {s} {o} e h = subst (λ z. Refines R IsOutOfMemory z o) (sym e) h
 
+-- what holds of a list that is known
+pub on_ok : {A B : Type 0} (P : List B → Type 0) (r : Outcome A) (ts : List B) → Refines (λ _ us. P us) IsOutOfMemory r (Ok ts) → OnOk r (P ts)
+on_ok P (Ok x) ts h = h.ok
+on_ok P (Err e) ts h = tt
+
 -- a value that is known
 pub one_given : {A B : Type 0} (R : A → List B → Type 0) (ts : List B) {x : A} → R x ts → Refines R IsOutOfMemory (Ok x) (Ok ts)
 one_given R ts h = record { ok = h; err = tt }

@@ -1,14 +1,12 @@
 -- What an expression makes of lists that differ in repeats alone.
-use Rattle.std.proofs.Common.{◌≡◌, ◌⊎◌, inl, inr, ℕ, ◌+◌, ◌<◌, zero, suc, length, drop, get_or, List, [], ◌∷◌, ◌++◌, map, flat_map, Bool, true, false, Some, None, Option, Ok, Err, OnOk, IsOkAnd, refl, sym, ap, subst, ◌∙◌, append_assoc, append-nil, arith}
+use Rattle.std.proofs.Common.{◌≡◌, ◌⊎◌, inl, inr, ℕ, ◌<◌, zero, suc, length, List, [], ◌∷◌, ◌++◌, map, flat_map, Bool, true, false, Some, None, Option, Ok, Err, IsOkAnd, refl, sym, ap, subst, ◌∙◌, append_assoc, append-nil, arith}
 use Rattle.std.specs.Prelude.{find, Contains, slice_index_or}
 use Rattle.std.specs.List.{AllZip}
 use Rattle.jsonb_doc.specs.Answer.{Outcome, and_then, try_flat_map, Refines, IsOutOfMemory}
-use Rattle.jsonb_doc.specs.Format.{Decodes}
 use Rattle.jsonb_doc.specs.Kinds.{kind_number}
 use Rattle.jsonb_doc.specs.Payload.{any, number_reader}
 use Rattle.jsonb_doc.specs.Representation.Positions.{Locates, spot_content}
 use Rattle.jsonb_doc.specs.Tree.{Tree}
-use Rattle.jsonb_doc.specs.declared.error.Error.{Error}
 use Rattle.jsonb_doc.specs.declared.spot.Spot.{Spot}
 use Rattle.jsonb_doc.proofs.OneTree.{content_unique}
 use Rattle.jsonb.specs.PathTree as math
@@ -18,7 +16,7 @@ use Rattle.jsonb.specs.Compare.{Truth, compare, pair_truth, first_decisive}
 use Rattle.jsonb.specs.Values.{Value, values_of_item}
 use Rattle.jsonb.specs.Meaning.{step_meaning, steps_meaning, is_some_item}
 use Rattle.jsonb.specs.SelectorAnswers.{first_item}
-use Rattle.jsonb.specs.Private.Alike.{AreAlike, AreSame, HasSame}
+use Rattle.jsonb.specs.Private.Alike.{AreAlike, AreSame, HasSame, AlikeOutcomes, SameOutcomes}
 use Rattle.jsonb.specs.Private.Compared.{items_truth}
 use Rattle.jsonb.specs.Private.Selection.{value_view}
 use Rattle.jsonb.specs.declared.selector.document.Mode.{Mode}
@@ -26,7 +24,7 @@ use Rattle.jsonb.specs.declared.selector.document.Mode.TheVariants.{Lax}
 use Rattle.jsonb.specs.declared.selector.document.Repeats.{Repeats}
 use Rattle.jsonb.specs.declared.selector.document.Repeats.TheVariants.{AreKept, AreDropped}
 use Rattle.jsonb.specs.declared.selector.plan.MemberCompared.{MemberCompared}
-use Rattle.jsonb.proofs.AlikeLemmas.{AlikeOutcomes, alike_itself, alike_same, alike_then, alike_flat_map, alike_each, alike_map, alike_results, alike_without}
+use Rattle.jsonb.proofs.AlikeLemmas.{alike_itself, alike_same, alike_then, alike_flat_map, alike_each, alike_map, alike_results, alike_without}
 use Rattle.jsonb.proofs.Progress.{First}
 use Rattle.jsonb.proofs.RefinesLemmas.{AllZip-append}
 
@@ -40,11 +38,6 @@ pub same_flat_map : {A B : Type 0} (repeats : Repeats) (f : A → List B) (xs ys
     → AreSame repeats (flat_map f xs) (flat_map f ys)
 same_flat_map AreKept f xs ys is = ap (flat_map f) is
 same_flat_map AreDropped f xs ys alike = alike_flat_map f alike
-
--- two outcomes are the same lists, or one error
-abbrev pub SameOutcomes : {A : Type 0} → Repeats → Outcome (List A) → Outcome (List A) → Type 0
-SameOutcomes AreKept a b = a ≡ b
-SameOutcomes AreDropped a b = AlikeOutcomes a b
 
 alike_outcome : {A : Type 0} (o : Outcome (List A)) → AlikeOutcomes o o
 alike_outcome (Ok xs) = alike_itself xs
@@ -90,20 +83,6 @@ same_steps AreKept mode ss top us ts is = ap (steps_meaning mode ss top) is
 same_steps AreDropped mode ss top us ts alike = alike_steps mode ss top us ts alike
 
 -- ---- what the results say of the whole
-
--- an error of the list without repeats
-pub same_refused : {B C : Type 0} {S : C → List B → Type 0} {e : Error} (repeats : Repeats) {o whole : Outcome (List B)} → SameOutcomes repeats o whole
-    → Refines {A = Unit {0}} {B = List B} (λ _ _. Unit {0}) IsOutOfMemory (Err e) o → Refines S IsOutOfMemory (Err e) whole
-same_refused {B = B} {e = e} repeats {o} {whole} same h = record { ok = tt; err = elim h.err [ inl memory ↦ inl memory | inr is ↦ inr (go repeats is same) ] }
-  where
-    alike_error : (a b : Outcome (List B)) → a ≡ Err e → AlikeOutcomes a b → b ≡ Err e
-    alike_error (Ok xs) b is h = cc
-    alike_error (Err d) (Ok ys) is h = absurd h
-    alike_error (Err d) (Err f) is h = ap Err (sym h) ∙ is
-
-    go : (repeats : Repeats) → o ≡ Err e → SameOutcomes repeats o whole → whole ≡ Err e
-    go AreKept is same = sym same ∙ is
-    go AreDropped is same = alike_error o whole is same
 
 -- the list itself
 pub same_found : (repeats : Repeats) (bytes : List ℕ) (spots : List Spot) (us : List Tree) (whole : Outcome (List Tree)) → AllZip (Locates bytes) spots us
@@ -183,11 +162,6 @@ pub compared_right : (op : math.BinaryOp) (rs ls : List Value) (o : Outcome (Lis
     → and_then o (λ ss. Ok (compare op ls ss)) ≡ Ok (compare op ls rs)
 compared_right op rs ls (Ok ss) h = ap Ok (sym (alike_compare op (alike_itself ls) h))
 compared_right op rs ls (Err e) h = absurd h
-
-pub compared_left : (op : math.BinaryOp) (ls : List Value) (o p : Outcome (List Value)) → IsOkAnd o (AreAlike ls)
-    → and_then o (λ ms. and_then p (λ rs. Ok (compare op ms rs))) ≡ and_then p (λ rs. Ok (compare op ls rs))
-compared_left op ls (Ok ms) p h = λ i. and_then p (λ rs. Ok (sym (alike_compare op h (alike_itself rs)) i))
-compared_left op ls (Err e) p h = absurd h
 
 pub compared_both : (op : math.BinaryOp) (ls rs : List Value) (o p : Outcome (List Value)) → IsOkAnd o (AreAlike ls) → IsOkAnd p (AreAlike rs)
     → and_then o (λ ms. and_then p (λ ss. Ok (compare op ms ss))) ≡ Ok (compare op ls rs)

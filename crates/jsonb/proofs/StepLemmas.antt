@@ -68,3 +68,14 @@ pub from_start : (mode : Mode) (vs d1 d2 : List Path) (top u : Tree) → d1 ≡ 
 from_start mode vs d1 d2 top u p q =
     (λ i. steps_meaning mode (steps_of (steps_view (sym p i))) top (start (steps_of (steps_view (sym q i))) top u ∷ []))
     ∙ ap (λ l. steps_meaning mode (steps_of l) top (start (steps_of (steps_view d2)) top u ∷ [])) (sym (refused_steps (steps_view d1)))
+
+pub from_root : (mode : Mode) (vs d : List Path) (top : Tree) → d ≡ vs →
+    steps_meaning mode (steps_of (steps_view vs)) top (start (steps_of (steps_view vs)) top top ∷ [])
+    ≡ steps_meaning mode (steps_of (map (taken_step AreRefused) (steps_view d))) top (top ∷ [])
+from_root mode vs d top is =
+    from_start mode vs d vs top top is refl
+    ∙ ap (λ t. steps_meaning mode (steps_of (map (taken_step AreRefused) (steps_view d))) top (t ∷ [])) (root_start (steps_of (steps_view vs)))
+  where
+    root_start : (ss : math.Steps) → start ss top top ≡ top
+    root_start (math.step math.current rest) = refl
+    root_start _ = refl

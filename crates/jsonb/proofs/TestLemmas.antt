@@ -1,8 +1,7 @@
 -- Conditions that are compiled to tests.
-use Rattle.std.proofs.Common.{◌≡◌, ℕ, ◌+◌, ◌≤◌, ◌<◌, List, [], ◌∷◌, ◌++◌, length, take, get_or, map, flat_map, option_to_list, Bool, true, false, Option, Some, None, is_some, Ok, Err, IsOkAnd, refl, sym, ap, ◌∙◌, subst, arith, length-append}
-use Rattle.std.specs.Prelude.{reverse, not, ◌==◌, ◌&&◌, if◌then◌else◌}
-use Rattle.std.specs.List.{All, AllZip}
-use Rattle.std.specs.Borrow.{Bor}
+use Rattle.std.proofs.Common.{◌≡◌, ℕ, ◌+◌, ◌≤◌, List, [], ◌∷◌, ◌++◌, length, take, get_or, map, flat_map, option_to_list, Bool, true, false, Option, Some, None, is_some, Ok, Err, IsOkAnd, refl, sym, ap, ◌∙◌, subst, arith, length-append}
+use Rattle.std.specs.Prelude.{reverse, not, ◌==◌, ◌&&◌, if◌then◌else◌, MatchOption, ⊤}
+use Rattle.std.specs.List.{AllZip}
 use Rattle.std.proofs.lemmas.Bool.{eqb-true, lt-leb}
 use Rattle.std.proofs.lemmas.List.{reverse-append, length-reverse, length-take-le, take_more}
 use Rattle.jsonb_doc.specs.Answer.{Outcome, and_then}
@@ -12,13 +11,12 @@ use Rattle.jsonb.specs.Compare.{Truth, compare}
 use Rattle.jsonb.specs.Meaning.{steps_meaning, truth, filtered, is_some_item}
 use Rattle.jsonb.specs.PathTree.{BinaryOp, and_op, or_op, current, Steps, step, Expression, paths, binary, steps_of}
 use Rattle.jsonb.specs.PathViews.{steps_view, expression_view}
-use Rattle.jsonb.specs.Private.FilterCache.{is_comparison, conditions}
+use Rattle.jsonb.specs.Private.FilterCache.{is_comparison}
 use Rattle.jsonb.specs.Private.Jumps.{Branch, branches_of, branches_of_whole, taken, next_jump, jump_truth, evaluated}
 use Rattle.jsonb.specs.Private.Selection.{option_spots, taken_step}
 use Rattle.jsonb.specs.Private.Pairs.{is_joined, joining_op, IsPairOf}
-use Rattle.jsonb.specs.Private.Tests.{AreMembersCompared, IsPlainQuestionOf, IsQuestionOf, IsQuestionBelow, IsTestBelow, IsTestOf, AreBranches, AreTestsOf, ArePlainTestsOf, is_plain, are_plain, question_conditions, test_conditions, tests_conditions, is_settled, jump_to, left_true, left_false, left_of, right_of, pending, waiting_left}
+use Rattle.jsonb.specs.Private.Tests.{AreMembersCompared, IsPlainQuestionOf, IsQuestionOf, IsTestOf, AreBranches, AreTestsOf, ArePlainTestsOf, is_plain, are_plain, question_conditions, test_conditions, tests_conditions, is_settled, jump_to, left_true, left_false, left_of, right_of, pending, waiting_left}
 use Rattle.jsonb.specs.Values.{values_of_item}
-use Rattle.jsonb.specs.declared.path.Expr.{Expr, size-Expr}
 use Rattle.jsonb.specs.declared.selector.document.Expressions.TheVariants.{AreRefused}
 use Rattle.jsonb.specs.declared.selector.document.Mode.{Mode}
 use Rattle.jsonb.specs.declared.selector.document.Mode.TheVariants.{Lax, Strict}
@@ -116,6 +114,11 @@ one_in_front tests test e done a q =
 
 -- ---- questions of members, and others
 
+-- what holds if an expression is not a question of members
+pub if_none : {A : Type 0} (N : Type 0) (P : A → Type 0) (o : Option A) → N → MatchOption o ⊤ P → MatchOption o N P
+if_none N P (Some x) n h = h
+if_none N P None n h = n
+
 pub plain_question : (q : Question) (e : Expression) → is_plain q ≡ true → IsQuestionOf q e → IsPlainQuestionOf q e
 plain_question (question.Expression part) e plain h = cc
 plain_question _ e plain h = h
@@ -144,6 +147,23 @@ plain_reverse (x ∷ xs) plain =
 
 pub plain_tests : (tests : List Test) (e : Expression) → are_plain tests ≡ true → AreTestsOf IsQuestionOf tests e → ArePlainTestsOf tests e
 plain_tests tests e plain a = plain_branches (reverse tests) (branches_of_whole e) (plain_reverse tests plain) a
+
+-- each test of members is a test
+any_question : (q : Question) (e : Expression) → IsPlainQuestionOf q e → IsQuestionOf q e
+any_question (question.Expression part) e h = absurd h
+any_question _ e h = h
+
+any_branches : (tests : List Test) (branches : List Branch) → AreBranches IsPlainQuestionOf tests branches → AreBranches IsQuestionOf tests branches
+any_branches [] [] a = tt
+any_branches [] (b ∷ bs) a = absurd a
+any_branches (x ∷ xs) [] a = absurd a
+any_branches (x ∷ xs) (b ∷ bs) a = (
+  record { on_true = a.0.on_true; on_false = a.0.on_false; question = any_question x.question b.condition a.0.question },
+  any_branches xs bs a.1,
+)
+
+pub any_tests : (tests : List Test) (e : Expression) → ArePlainTestsOf tests e → AreTestsOf IsQuestionOf tests e
+any_tests tests e a = any_branches (reverse tests) (branches_of_whole e) a
 
 pub no_conditions : (q : Question) → is_plain q ≡ true → question_conditions q ≡ []
 no_conditions (question.Expression part) plain = cc
@@ -199,26 +219,6 @@ conditions_at tests n i x within next is =
     ap tests_conditions (ap (λ k. take k tests) next ∙ take_more tests i x (omega (arith, within, next)) ∙ ap (λ y. take i tests ++ y ∷ []) (sym is))
     ∙ ap (flat_map test_conditions) (last_first (take i tests) x)
 
--- the next test is an expression
-pub record AskedHere (e part : Expr) (tests : List Test) (n i : ℕ) (condition : Expression) : Type 0 where
-  pub is : expression_view part ≡ condition
-  pub smaller : size-Expr part < size-Expr e
-  pub alone : is_joined (expression_view part) ≡ false
-  pub comes : tests_conditions (take n tests) ≡ conditions (expression_view part) ++ tests_conditions (take i tests)
-
-pub asked_here : (e : Expr) (tests : List Test) (n i : ℕ) (x : Test) (part : Bor Expr) (rest : List Branch) (state : Option Jump) (mode : Mode) (top t : Tree)
-    → n ≤ length tests → n ≡ i + 1 → x ≡ get_or tests i x → x.question ≡ question.Expression part → All (IsTestBelow (size-Expr e)) tests
-    → (next : NextTest IsQuestionOf (take i tests) n x rest state mode top t) → AskedHere e part.now tests n i next.condition
-asked_here e tests n i x part rest state mode top t within after at is fits next =
-    let short : i < length tests = omega (arith, within, after) in
-    let fit = subst (IsQuestionBelow (size-Expr e)) is (subst (IsTestBelow (size-Expr e)) (sym at) (fits i x short)) in
-    record {
-      is = subst (λ q. IsQuestionOf q next.condition) is next.question;
-      smaller = fit.0;
-      alone = fit.1;
-      comes = conditions_at tests n i x within after at ∙ ap (λ q. question_conditions q ++ tests_conditions (take i tests)) is;
-    }
-
 -- no test is left
 pub no_test : (IsOf : Question → Expression → Type 0) (tests : List Test) (n : ℕ) (rest : List Branch) → n ≡ 0 → AreBranches IsOf (reverse (take n tests)) rest → rest ≡ []
 no_test IsOf tests n [] none related = refl
@@ -232,6 +232,29 @@ from_first IsOf mode tests e top t state jump is all related =
     let same = length-reverse tests in
     sym (ap (evaluated mode top t (branches_of_whole e)) is
     ∙ evaluated-whole mode top t e jump (let few : length (branches_of_whole e) ≤ jump.left = omega (arith, many, same, all) in few))
+
+-- a condition that is one test has its truth
+pub only_question : (mode : Mode) (top t : Tree) (test : Test) (e : Expression) → ArePlainTestsOf (test ∷ []) e
+    → (c : Expression) × IsPlainQuestionOf test.question c × (truth mode e top t ≡ truth mode c top t)
+only_question mode top t test e a =
+    let one = only (branches_of_whole e) a in (
+      one.0,
+      one.1,
+      from_first IsPlainQuestionOf mode (test ∷ []) e top t (Some (record { left = 1; truth = false })) _ refl refl a ∙ one.2,
+    )
+  where
+    itself : (b : Branch) (o : Outcome Truth)
+        → and_then o (λ v. Ok (jump_truth (next_jump b.on_true b.on_false 1 (Some (record { left = 1; truth = false })) v))) ≡ o
+    itself b (Ok (Some true)) = refl
+    itself b (Ok (Some false)) = refl
+    itself b (Ok None) = refl
+    itself b (Err e) = refl
+
+    only : (bs : List Branch) → AreBranches IsPlainQuestionOf (test ∷ []) bs → (c : Expression) × IsPlainQuestionOf test.question c
+        × (evaluated mode top t bs (Some (record { left = 1; truth = false })) ≡ truth mode c top t)
+    only [] a = absurd a
+    only (b ∷ []) a = (b.condition, a.0.question, itself b (truth mode b.condition top t))
+    only (b ∷ d ∷ bs) a = absurd a.1
 
 -- the first test of all, which is the last of the list
 pub first_test : {IsOf : Question → Expression → Type 0} (others : List Test) (x : Test) (e : Expression) (mode : Mode) (top t : Tree) → AreTestsOf IsOf (others ++ x ∷ []) e

@@ -1,6 +1,6 @@
 -- Paths that are one expression, and all others.
 use Rattle.std.proofs.Common.{◌≡◌, List, [], ◌∷◌, map, Some, None, is_some, subst, Option, true, false, Ok, Err, IsOkAnd, refl, ap, sym, ◌∙◌, inl, inr, Box, Global}
-use Rattle.jsonb_doc.specs.Answer.{Outcome, Refines, IsOutOfMemory}
+use Rattle.jsonb_doc.specs.Answer.{Outcome, and_then, Refines, IsOutOfMemory}
 use Rattle.jsonb_doc.specs.Payload.{Form}
 use Rattle.jsonb_doc.specs.View.{number_view}
 use Rattle.jsonb_doc.specs.Tree as tree
@@ -10,7 +10,8 @@ use Rattle.jsonb_doc.specs.declared.number.Number.{Number}
 use Rattle.jsonb.specs.PathTree as math
 use Rattle.jsonb.specs.PathTree.{Step, Expression, steps_of}
 use Rattle.jsonb.specs.PathViews.{step_view, literal_view}
-use Rattle.jsonb.specs.Meaning.{steps_meaning, as_filter, Means}
+use Rattle.jsonb.specs.Compare.{Truth}
+use Rattle.jsonb.specs.Meaning.{step_meaning, steps_meaning, truth, filtered, as_filter, Means}
 use Rattle.jsonb.specs.Private.Selection.{step_expression, only_expression, is_relative}
 use Rattle.jsonb.specs.declared.selector.document.Mode.{Mode}
 use Rattle.jsonb.specs.declared.path.PathValue.{PathValue}
@@ -20,6 +21,7 @@ use Rattle.jsonb.specs.declared.path.Expr.TheViews.{roll-Path, roll-out-Path}
 use Rattle.jsonb.specs.declared.path.Path.{Path, out-Path}
 use Rattle.jsonb.specs.declared.path.Path.TheVariants as step
 use Rattle.jsonb.proofs.PathNodes.{step_is}
+use Rattle.jsonb.proofs.StepLemmas.{joined_one}
 
 -- a step that is not an expression is the same as a filter
 others : (s : Path) (x : Path-F Expr Path) → out-Path s ≡ x → ((e : Box Expr Global) → s ≡ step.Expr e → ⊥)
@@ -60,6 +62,17 @@ module _ (form : Form) (mode : Mode) (top : Tree) (outcome : Outcome (List Tree)
   pub number_meant : (n : Number) → Means form mode (math.whole_expression (math.value (math.number n)) ∷ []) top outcome
       → outcome ≡ Ok (tree.array (tree.trees_of (tree.number (number_view n) ∷ [])) ∷ [])
   number_meant n h = h
+
+-- a filter of the root alone
+pub root_filtered : (mode : Mode) (path : List Step) (e : Expression) (top : Tree) → path ≡ math.root ∷ math.filter e ∷ []
+    → steps_meaning mode (steps_of (map as_filter path)) top (top ∷ []) ≡ and_then (truth mode e top top) (λ b. Ok (filtered top b))
+root_filtered mode path e top is =
+    ap (λ l. steps_meaning mode (steps_of (map as_filter l)) top (top ∷ [])) is
+    ∙ ap (λ o. and_then o (λ us. Ok us)) (joined_one (step_meaning mode (math.filter e) top) top) ∙ go (truth mode e top top)
+  where
+    go : (o : Outcome Truth) → and_then (and_then o (λ b. Ok (filtered top b))) (λ us. Ok us) ≡ and_then o (λ b. Ok (filtered top b))
+    go (Ok b) = refl
+    go (Err e) = refl
 
 pub some_of : {A : Type 0} (o : Option A) → is_some o ≡ true → (x : A) × (o ≡ Some x)
 some_of (Some x) h = (x, refl)

@@ -23,7 +23,10 @@ pub mod Last
 pub mod SamePath
 pub mod Members
 pub mod Compared
-pub mod Exists
+pub mod Running
+pub mod Operands
+pub mod Asking
+pub mod Weights
 pub mod Search
 pub mod Steps
 pub mod ItemSteps

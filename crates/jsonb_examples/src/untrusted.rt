@@ -6,7 +6,7 @@ use jsonb::{
 };
 use std::alloc::Global;
 
-/// The longest path that is accepted. Evaluating nested filters uses stack in proportion to their nesting.
+/// The longest path that is accepted.
 const LONGEST_PATH: usize = 1_000;
 
 /// The depth of the deepest item that is accepted, below the 255 levels of a sortable key.

@@ -1,7 +1,7 @@
 -- What a filter keeps from one item to the next: what is the same for each.
-use Rattle.std.specs.Prelude.{◌≡◌, ◌≤◌, Bool, true, false, List, [], ◌∷◌, drop, length, slice_get, Option, None, Ok, IsOkAnd, if◌then◌else◌}
+use Rattle.std.specs.Prelude.{◌≡◌, ◌≤◌, Bool, true, false, List, [], ◌∷◌, drop, length, slice_get, Option, None, Ok, IsOkAnd}
 use Rattle.jsonb_doc.specs.Tree.{Tree}
-use Rattle.jsonb.specs.PathTree.{BinaryOp, and_op, or_op, add, subtract, multiply, divide, modulo, current, step, Expression, paths, binary, exists}
+use Rattle.jsonb.specs.PathTree.{BinaryOp, and_op, or_op, add, subtract, multiply, divide, modulo, current, step, Expression, paths, binary}
 use Rattle.jsonb.specs.Meaning.{truth, operand_values}
 use Rattle.jsonb.specs.Private.Alike.{AreAlike}
 use Rattle.jsonb.specs.Private.Selection.{values_view}
@@ -26,15 +26,10 @@ is_comparison divide = false
 is_comparison modulo = false
 is_comparison op = true
 
--- a comparison or `exists`
+-- neither `&&` and `||`, nor arithmetic
 abbrev pub is_condition : Expression → Bool
 is_condition (binary op l r) = is_comparison op
-is_condition (exists steps) = true
-is_condition e = false
-
--- the comparison or `exists` that an expression is, of those that join no others
-abbrev pub conditions : Expression → List Expression
-conditions e = if is_condition e then e ∷ [] else []
+is_condition e = true
 
 -- what is kept of a condition is the same for each item
 abbrev pub IsSame : Mode → Tree → CachedPart → Expression → Type 0

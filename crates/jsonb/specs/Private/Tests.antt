@@ -1,5 +1,5 @@
 -- The tests that a condition is compiled to.
-use Rattle.std.specs.Prelude.{◌≡◌, ◌==◌, ◌&&◌, ◌+◌, ◌<◌, ℕ, Bool, true, false, not, List, [], ◌∷◌, length, flat_map, reverse, sum_by, Option, Some, None, Result, Ok, All, if◌then◌else◌}
+use Rattle.std.specs.Prelude.{◌≡◌, ◌==◌, ◌&&◌, ◌+◌, ℕ, Bool, true, false, not, List, [], ◌∷◌, length, flat_map, reverse, sum_by, Option, Some, None, Result, Ok}
 use Rattle.std.specs.List.{AllZip}
 use Rattle.jsonb_doc.specs.Answer.{and_then, Refines, IsOutOfMemory}
 use Rattle.jsonb_doc.specs.Tree.{Tree}
@@ -10,12 +10,10 @@ use Rattle.jsonb.specs.Compare.{Truth, compare}
 use Rattle.jsonb.specs.Values.{values_of_item}
 use Rattle.jsonb.specs.Meaning.{steps_meaning, truth, is_some_item}
 use Rattle.jsonb.specs.Private.Compared.{IsMemberCompared}
-use Rattle.jsonb.specs.Private.FilterCache.{conditions}
+use Rattle.jsonb.specs.Private.FilterCache.{is_condition}
 use Rattle.jsonb.specs.Private.Jumps.{Branch, branches_of, branches_of_whole}
 use Rattle.jsonb.specs.Private.Members.{are_members}
-use Rattle.jsonb.specs.Private.Pairs.{is_joined}
 use Rattle.jsonb.specs.Private.Parts.{parts}
-use Rattle.jsonb.specs.declared.path.Expr.{Expr, size-Expr}
 use Rattle.jsonb.specs.declared.selector.compile.Target.{Target}
 use Rattle.jsonb.specs.declared.selector.compile.Target.TheVariants.{Next, At}
 use Rattle.jsonb.specs.declared.selector.compile.Waiting.{Waiting}
@@ -26,6 +24,10 @@ use Rattle.jsonb.specs.declared.selector.plan.Condition.TheVariants as condition
 use Rattle.jsonb.specs.declared.selector.plan.Jump.{Jump}
 use Rattle.jsonb.specs.declared.selector.plan.MemberFound.{MemberFound}
 use Rattle.jsonb.specs.declared.selector.plan.MembersCompared.{MembersCompared}
+use Rattle.jsonb.specs.declared.selector.plan.Compiled.{Compiled}
+use Rattle.jsonb.specs.declared.selector.plan.Compiled.TheVariants as compiled
+use Rattle.jsonb.specs.declared.selector.plan.Tests.{Tests}
+use Rattle.jsonb.specs.declared.selector.plan.Tests.TheVariants as tests
 use Rattle.jsonb.specs.declared.selector.plan.Question.{Question}
 use Rattle.jsonb.specs.declared.selector.plan.Question.TheVariants as question
 use Rattle.jsonb.specs.declared.selector.plan.Test.{Test}
@@ -57,9 +59,9 @@ IsPlainQuestionOf (question.MemberFound found) e = IsMemberFound found e
 IsPlainQuestionOf question.Unknown e = (mode : Mode) (top t : Tree) → truth mode e top t ≡ Ok None
 IsPlainQuestionOf (question.Expression part) e = ⊥
 
--- the question has the truth of the expression, or is the expression itself
+-- the question has the truth of the expression, or is the expression itself, which is not `&&`, `||` or arithmetic
 abbrev pub IsQuestionOf : Question → Expression → Type 0
-IsQuestionOf (question.Expression part) e = expression_view part.now ≡ e
+IsQuestionOf (question.Expression part) e = (expression_view part.now ≡ e) × (is_condition e ≡ true)
 IsQuestionOf question e = IsPlainQuestionOf question e
 
 abbrev pub is_plain : Question → Bool
@@ -95,26 +97,9 @@ abbrev pub are_plain : List Test → Bool
 are_plain [] = true
 are_plain (test ∷ tests) = is_plain test.question && are_plain tests
 
--- an expression that is a question joins no others, and is smaller than this
-abbrev pub IsQuestionBelow : ℕ → Question → Type 0
-IsQuestionBelow n (question.Expression e) = (size-Expr e.now < n) × (is_joined (expression_view e.now) ≡ false)
-IsQuestionBelow n question = Unit {0}
-
-abbrev pub IsTestBelow : ℕ → Test → Type 0
-IsTestBelow n test = IsQuestionBelow n test.question
-
--- the expression, which joins others, is compiled to these tests, the last one first
-abbrev pub AreJoinedTests : Expr → List Test → Type 0
-AreJoinedTests e tests = AreTestsOf IsQuestionOf tests (expression_view e) × All (IsTestBelow (size-Expr e)) tests
-
--- the expression is compiled to these tests
-abbrev pub AreCompiled : Expr → List Test → Type 0
-AreCompiled e tests = AreTestsOf IsQuestionOf tests (expression_view e)
-    × (is_joined (expression_view e) ≡ true → All (IsTestBelow (size-Expr e)) tests)
-
--- the comparisons and `exists` that are evaluated as expressions, in order
+-- the conditions that are evaluated as expressions, in order
 abbrev pub question_conditions : Question → List Expression
-question_conditions (question.Expression e) = conditions (expression_view e.now)
+question_conditions (question.Expression e) = expression_view e.now ∷ []
 question_conditions question = []
 
 abbrev pub test_conditions : Test → List Expression
@@ -123,9 +108,15 @@ test_conditions test = question_conditions test.question
 abbrev pub tests_conditions : List Test → List Expression
 tests_conditions tests = flat_map test_conditions (reverse tests)
 
--- those of an expression; one that joins no others is evaluated itself
-abbrev pub compiled_conditions : Expression → List Test → List Expression
-compiled_conditions e tests = if is_joined e then tests_conditions tests else conditions e
+-- the tests that are evaluated for each item, the last one first
+abbrev pub item_tests : Tests → List Test
+item_tests (tests.Single e) = record { question = question.Expression e; on_true = 0; on_false = 0 } ∷ []
+item_tests (tests.Joined v) = v.items
+
+-- the condition is compiled to these tests
+abbrev pub IsCompiled : Compiled → Expression → Type 0
+IsCompiled (compiled.Plain condition) e = ArePlainTestsOf (tests_in condition) e
+IsCompiled (compiled.Items tests) e = AreTestsOf IsQuestionOf (item_tests tests) e
 
 -- no test that is left changes what a filter selects: in lax mode, in which no test fails
 abbrev pub is_settled : Mode → Option Jump → Bool
@@ -171,7 +162,3 @@ parts_waiting waiting = sum_by (λ (part : Waiting). parts part.e.now) waiting
 abbrev pub parts_to_compile : Option Waiting → List Waiting → ℕ
 parts_to_compile (Some part) waiting = parts part.e.now + parts_waiting waiting
 parts_to_compile None waiting = 0
-
--- the expression of a part is smaller than this, or joins others and is at most this large
-abbrev pub IsPartWithin : ℕ → Waiting → Type 0
-IsPartWithin n part = size-Expr part.e.now < n + (if is_joined (expression_view part.e.now) then 1 else 0)

@@ -20,6 +20,7 @@ use super::document::{Context, Current, Document, Expressions, Mode, Repeats, Tr
 use super::filter_cache::is_comparison;
 use super::members::is_member;
 use super::plan::MemberCompared;
+use super::search::search;
 use super::steps::{select_steps, truth};
 use crate::path::{Expr, Path};
 use jsonb_doc::Spot;
@@ -40,6 +41,11 @@ pub(crate) fn root_truth<'a>(context: &Context<'a>, e: &'a Expr<'_>) -> TruthRes
 {
     let document = &context.document;
     let item = document.root;
+    if let Expr::ExistsFunc(steps) = e {
+        if let Some(found) = search(context, Expressions::AreRefused, steps, item)? {
+            return Ok(Some(found.is_some()));
+        }
+    }
     match (context.mode, list_compared(e)) {
         (Mode::Lax, Some(list)) => list_compared_truth(context.alloc, &list, document),
         _ => truth(Current { context, item }, e),

@@ -1,6 +1,6 @@
 //! Compiles an expression to the tests of a condition.
 
-ghost use Rattle.std.specs.Prelude.{◌≡◌, ◌<◌, ◌+◌, ◌++◌, ◌∷◌, [], ℕ, List, Ok, Some, map, true, false, option_map, reverse, All, MatchOption, IfSome, ⊤, IfOk, IfErr};
+ghost use Rattle.std.specs.Prelude.{◌≡◌, ◌<◌, ◌+◌, ◌∷◌, [], List, Ok, Some, true, false, reverse, MatchOption, ⊤, IfOk, IfErr};
 ghost use Rattle.jsonb_doc.specs.Answer.{IsOutOfMemory};
 ghost use Rattle.jsonb_doc.specs.Tree.{Tree};
 ghost use Rattle.jsonb.specs.PathTree.{steps_of, step, current, paths, binary, exists};
@@ -8,20 +8,22 @@ ghost use Rattle.jsonb.specs.PathViews.{expression_view, steps_view};
 ghost use Rattle.jsonb.specs.Meaning.{operand_values};
 ghost use Rattle.jsonb.specs.Private.Compared.{mirrored};
 ghost use Rattle.jsonb.specs.Private.Jumps.{Branch};
-ghost use Rattle.jsonb.specs.Private.FilterCache.{is_comparison};
+ghost use Rattle.jsonb.specs.Private.FilterCache.{is_comparison, is_condition};
 ghost use Rattle.jsonb.specs.Private.Members.{are_members};
 ghost use Rattle.jsonb.specs.Private.Parts.{parts};
 ghost use Rattle.jsonb.specs.Private.Selection.{value_view};
 ghost use Rattle.jsonb.specs.Private.Pairs.{is_joined};
-ghost use Rattle.jsonb.specs.Private.Tests.{IsMemberFound, IsPlainQuestionOf, IsQuestionOf, IsQuestionBelow, IsTestBelow, IsPartWithin, AreBranches, AreTestsOf, AreCompiled, tests_in, jump_to, left_of, right_of, pending, waiting_left, parts_waiting, parts_to_compile};
-ghost use Rattle.jsonb.specs.declared.path.Expr.{size-Expr};
+ghost use Rattle.jsonb.specs.Private.Tests.{IsMemberFound, IsPlainQuestionOf, IsQuestionOf, AreBranches, jump_to, left_of, right_of, pending, waiting_left, parts_waiting, parts_to_compile, IsCompiled};
 ghost use Rattle.jsonb.specs.declared.selector.document.Mode.{Mode};
 
 use super::filter_cache::is_comparison;
 use super::members::{are_members, member_steps};
 use super::operand_value::{OperandValue, value_of_literal};
 use super::pair::{Join, Pair, is_joined, pair_of};
-use super::plan::{Condition, MemberCompared, MemberFound, MembersCompared, Question, Test};
+use super::plan::{
+    Compiled, Condition, MemberCompared, MemberFound, MembersCompared, Question, Test, Tests,
+    are_plain,
+};
 use crate::path::{BinaryOperator, Expr, Path};
 use jsonb_doc::Error;
 use std::alloc::Global;
@@ -44,31 +46,37 @@ pub(crate) struct Waiting<'s, 'p> {
 }
 
 /// Returns the tests of an expression.
-pub(crate) fn condition_of<'s, 'p>(
-    alloc: Global,
-    e: &'s Expr<'p>,
-) -> Result<Condition<'s, 'p>, Error>
-    ensures tests { IfOk result (λ condition. AreCompiled e.now (tests_in condition)) }
+pub(crate) fn compiled<'s, 'p>(alloc: Global, e: &'s Expr<'p>) -> Result<Compiled<'s, 'p>, Error>
+    ensures tests { IfOk result (λ made. IsCompiled made (expression_view e.now)) }
     ensures errors { IfErr result IsOutOfMemory }
 {
     if is_joined(e) {
         return joined_condition(alloc, e);
     }
-    Ok(Condition::One(Test {
-        question: question_of(e),
-        on_true: 0,
-        on_false: 0,
-    }))
+    Ok(single_condition(e))
+}
+
+/// Returns the test of an expression that joins no others.
+#[inline(always)]
+fn single_condition<'s, 'p>(e: &'s Expr<'p>) -> Compiled<'s, 'p>
+    ensures { is_joined (expression_view e.now) ≡ false → IsCompiled result (expression_view e.now) }
+{
+    match plain_question(e) {
+        Some(question) => Compiled::Plain(Condition::One(Test {
+            question,
+            on_true: 0,
+            on_false: 0,
+        })),
+        None => Compiled::Items(Tests::Single(e)),
+    }
 }
 
 /// Returns the tests of an expression that joins others.
 ///
 /// They are found from the last to the first, so that the number of tests after each is known.
 #[inline(never)]
-fn joined_condition<'s, 'p>(alloc: Global, e: &'s Expr<'p>) -> Result<Condition<'s, 'p>, Error>
-    ensures tests { IfOk result (λ condition. AreTestsOf IsQuestionOf (tests_in condition) (expression_view e.now)) }
-    ensures below { is_joined (expression_view e.now) ≡ true
-        → IfOk result (λ condition. All (IsTestBelow (size-Expr e.now)) (tests_in condition)) }
+fn joined_condition<'s, 'p>(alloc: Global, e: &'s Expr<'p>) -> Result<Compiled<'s, 'p>, Error>
+    ensures tests { IfOk result (λ made. IsCompiled made (expression_view e.now)) }
     ensures errors { IfErr result IsOutOfMemory }
 {
     let mut tests = Vec::new(alloc);
@@ -81,7 +89,11 @@ fn joined_condition<'s, 'p>(alloc: Global, e: &'s Expr<'p>) -> Result<Condition<
     while let Some(part) = next {
         next = compile_part(part, &mut tests, &mut waiting)?;
     }
-    Ok(Condition::Many(tests))
+    if are_plain(&tests) {
+        Ok(Compiled::Plain(Condition::Many(tests)))
+    } else {
+        Ok(Compiled::Items(Tests::Joined(tests)))
+    }
 }
 
 /// Compiles the last test of a part of a condition, which the tests so far follow. Returns the part that comes next.
@@ -96,10 +108,6 @@ fn compile_part<'s, 'p>(
         → (more : List Branch) × AreBranches IsQuestionOf (reverse tests.new.items) more
         × (pending (waiting_left next waiting.new.items) more
         ≡ pending (part.entry ∷ reverse waiting.old.items) done)) }
-    ensures within { (n : ℕ) → IsPartWithin n part.entry → All (IsTestBelow n) tests.old.items
-        → All (IsPartWithin n) waiting.old.items
-        → IfOk result (λ next. All (IsTestBelow n) tests.new.items × All (IsPartWithin n) waiting.new.items
-        × IfSome next (IsPartWithin n)) }
     ensures fewer { IfOk result (λ next. parts_to_compile next waiting.new.items
         < parts part.entry.e.now + parts_waiting waiting.old.items) }
     ensures errors { IfErr result IsOutOfMemory }
@@ -129,8 +137,6 @@ fn push_test<'s, 'p>(
     ensures tests { IfOk result (λ _. is_joined (expression_view e.now) ≡ false → (done : List Branch)
         → AreBranches IsQuestionOf (reverse tests.old.items) done → AreBranches IsQuestionOf (reverse tests.new.items)
         (record { condition = expression_view e.now; on_true = on_true; on_false = on_false } ∷ done)) }
-    ensures within { (n : ℕ) → is_joined (expression_view e.now) ≡ false → size-Expr e.now < n
-        → All (IsTestBelow n) tests.old.items → IfOk result (λ _. All (IsTestBelow n) tests.new.items) }
     ensures errors { IfErr result IsOutOfMemory }
 {
     tests.push(Test {
@@ -186,9 +192,7 @@ fn jump_to(target: Target, left: usize) -> usize
 /// Returns the question that an expression is, if it is not `&&` or `||`.
 #[inline(always)]
 fn question_of<'s, 'p>(e: &'s Expr<'p>) -> Question<'s, 'p>
-    ensures question { is_joined (expression_view e.now) ≡ false → IsQuestionOf result (expression_view e.now) }
-    ensures below { (n : ℕ) → is_joined (expression_view e.now) ≡ false → size-Expr e.now < n
-        → IsQuestionBelow n result }
+    ensures { is_joined (expression_view e.now) ≡ false → IsQuestionOf result (expression_view e.now) }
 {
     match plain_question(e) {
         Some(question) => question,
@@ -199,7 +203,8 @@ fn question_of<'s, 'p>(e: &'s Expr<'p>) -> Question<'s, 'p>
 /// Returns the question of members that an expression is, if it is one.
 fn plain_question<'s, 'p>(e: &'s Expr<'p>) -> Option<Question<'s, 'p>>
     ensures { is_joined (expression_view e.now) ≡ false
-        → MatchOption result ⊤ (λ question. IsPlainQuestionOf question (expression_view e.now)) }
+        → MatchOption result (is_condition (expression_view e.now) ≡ true)
+        (λ question. IsPlainQuestionOf question (expression_view e.now)) }
 {
     match e {
         Expr::BinaryOp { op, left, right } => {

@@ -26,8 +26,7 @@ use std::alloc::Global;
 /// Returns the items of a list for which the condition is true, in order.
 ///
 /// The first test determines the result for most items. If it is a comparison, it is inlined here: by `tested_truth`,
-/// an item of 600 instructions takes 66 more. The function has a frame of its own, so that filters within filters do not
-/// need that stack.
+/// an item of 600 instructions takes 66 more.
 #[inline(never)]
 pub(crate) fn tested_items(
     alloc: Global,

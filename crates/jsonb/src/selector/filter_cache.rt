@@ -1,6 +1,6 @@
 //! What a filter caches from one item of a list to the next: its parts that begin at the root.
 
-ghost use Rattle.std.specs.Prelude.{◌≡◌, ◌∷◌, List, Ok, Some, None, true, MatchOption, OnOk, IfErr, IsOkAnd};
+ghost use Rattle.std.specs.Prelude.{◌≡◌, ◌∷◌, List, Ok, Some, None, true, MatchOption, OnOk, IfErr, IsOkAnd, ⊤, []};
 ghost use Rattle.jsonb_doc.specs.Answer.{IsOutOfMemory};
 ghost use Rattle.jsonb_doc.specs.Tree.{Tree};
 ghost use Rattle.jsonb.specs.PathTree.{Expression, BinaryOp, binary, exists, steps_of};
@@ -8,7 +8,7 @@ ghost use Rattle.jsonb.specs.PathViews.{expression_view, steps_view};
 ghost use Rattle.jsonb.specs.Meaning.{truth, operand_values, filtered};
 ghost use Rattle.jsonb.specs.Private.Alike.{AreAlike};
 ghost use Rattle.jsonb.specs.Private.Selection.{values_view, is_relative, IsKept};
-ghost use Rattle.jsonb.specs.Private.FilterCache.{AreKept, IsSame, kept_part, is_condition, is_comparison, is_fixed};
+ghost use Rattle.jsonb.specs.Private.FilterCache.{AreKept, IsSame, kept_part, is_comparison, is_fixed};
 ghost use Rattle.jsonb.specs.declared.selector.document.Mode.{Mode};
 
 use super::operand_value::OperandValues;
@@ -43,10 +43,13 @@ pub(crate) enum FilterCache<'a> {
 }
 
 impl<'a> FilterCache<'a> {
-    /// Creates a cache for a list of items, without allocating.
-    pub(crate) fn new(alloc: Global) -> FilterCache<'a>
+    /// Creates a cache for a number of items, without allocating. For one item nothing is cached.
+    pub(crate) fn new(alloc: Global, items: usize) -> FilterCache<'a>
         ensures { (mode : Mode) (top : Tree) (all : List Expression) → AreKept mode top result all all }
     {
+        if items < 2 {
+            return FilterCache::Nothing;
+        }
         FilterCache::Parts(CachedParts {
             parts: Vec::new(alloc),
             next: 0,
@@ -61,6 +64,21 @@ impl<'a> FilterCache<'a> {
         match self {
             FilterCache::Nothing => None,
             FilterCache::Parts(kept) => kept.parts.get(kept.next),
+        }
+    }
+
+    /// Returns the truth of the first part, if it is the same for each item.
+    #[inline(always)]
+    pub(crate) fn fixed(&self) -> Option<Option<bool>>
+        ensures { MatchOption result ⊤ (λ b. (mode : Mode) (top t : Tree) (e : Expression) (more : List Expression)
+            → AreKept mode top self.now (e ∷ []) more → truth mode e top t ≡ Ok b) }
+    {
+        match self {
+            FilterCache::Nothing => None,
+            FilterCache::Parts(kept) => match kept.parts.first() {
+                Some(CachedPart::Truth(truth)) => Some(*truth),
+                _ => None,
+            },
         }
     }
 
@@ -120,7 +138,7 @@ pub(crate) fn comparison_part<'a>(
     answer: Option<bool>,
 ) -> CachedPart<'a>
     ensures { (mode : Mode) (top t : Tree) (op : BinaryOp)
-        → is_condition (binary op (expression_view left.now) (expression_view right.now)) ≡ true
+        → is_comparison op ≡ true
         → IsOkAnd (operand_values mode (expression_view left.now) top t) (AreAlike (values_view lefts.entry))
         → IsOkAnd (operand_values mode (expression_view right.now) top t) (AreAlike (values_view rights.entry))
         → truth mode (binary op (expression_view left.now) (expression_view right.now)) top t ≡ Ok answer

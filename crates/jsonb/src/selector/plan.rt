@@ -1,7 +1,7 @@
 //! A condition as a list of tests, each with the places at which the condition continues after it.
 
-ghost use Rattle.std.specs.Prelude.{◌≡◌, true, MatchOption};
-ghost use Rattle.jsonb.specs.Private.Tests.{tests_in, is_plain, are_plain};
+ghost use Rattle.std.specs.Prelude.{◌≡◌, true, MatchOption, length};
+ghost use Rattle.jsonb.specs.Private.Tests.{tests_in, is_plain, are_plain, item_tests};
 ghost use Rattle.jsonb.specs.declared.selector.plan.Question.TheVariants as question;
 
 use super::operand_value::OperandValue;
@@ -98,6 +98,36 @@ impl<'s, 'p> Condition<'s, 'p> {
             Condition::Many(tests) => tests.as_slice(),
         }
     }
+}
+
+/// The tests of a condition that are evaluated for each item.
+#[derive(Drop)]
+pub(crate) enum Tests<'s, 'p> {
+    /// One comparison or `exists`.
+    Single(&'s Expr<'p>),
+    /// The last one first.
+    Joined(Vec<Test<'s, 'p>>),
+}
+
+impl<'s, 'p> Tests<'s, 'p> {
+    #[inline(always)]
+    pub(crate) fn len(&self) -> usize
+        ensures { result ≡ length (item_tests self.now) }
+    {
+        match self {
+            Tests::Single(_) => 1,
+            Tests::Joined(tests) => tests.len(),
+        }
+    }
+}
+
+/// A condition, compiled.
+#[derive(Drop)]
+pub(crate) enum Compiled<'s, 'p> {
+    /// Each test is one of members of the item.
+    Plain(Condition<'s, 'p>),
+    /// A test is evaluated by the operands or the path of an expression.
+    Items(Tests<'s, 'p>),
 }
 
 /// Returns `true` if no test is evaluated by the operands or the path of an expression.

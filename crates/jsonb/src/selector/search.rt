@@ -19,12 +19,12 @@ ghost use Rattle.jsonb.specs.SelectionErrors.{IsSelectionError};
 ghost use Rattle.jsonb.specs.declared.selector.document.Mode.TheVariants.{Lax};
 
 use super::children::{elements, push_step, values};
-use super::compile::condition_of;
+use super::compile::compiled;
 use super::document::{Context, Document, Expressions, Mode};
 use super::evaluate::tested_truth;
 use super::filter_cache::is_true;
 use super::members::{are_members, member, member_of};
-use super::plan::{Condition, are_plain};
+use super::plan::{Compiled, Condition};
 use super::steps::filter_of;
 use crate::path::{Expr, Path};
 use jsonb_doc::{Error, Spot, SpotIter, spot_by_parts};
@@ -240,11 +240,9 @@ fn plain_condition<'s, 'p>(
         (λ condition. ArePlainTestsOf (tests_in condition) (expression_view e.now))) }
     ensures errors { IfErr result IsOutOfMemory }
 {
-    let condition = condition_of(alloc, e)?;
-    if are_plain(condition.as_slice()) {
-        Ok(Some(condition))
-    } else {
-        Ok(None)
+    match compiled(alloc, e)? {
+        Compiled::Plain(condition) => Ok(Some(condition)),
+        Compiled::Items(_) => Ok(None),
     }
 }
 

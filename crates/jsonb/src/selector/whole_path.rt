@@ -1,11 +1,11 @@
 //! A path as a whole: its top steps, or one expression.
 
-ghost use Rattle.std.specs.Prelude.{◌≡◌, ◌++◌, ◌∷◌, [], List, Ok, Err, None, Some, false, MatchOption, IfOk, IfErr};
+ghost use Rattle.std.specs.Prelude.{◌≡◌, ◌++◌, ◌∷◌, [], List, Ok, Err, None, Some, false, MatchOption, IfOk, IfErr, ⊤};
 ghost use Rattle.jsonb_doc.specs.Answer.{Refines, Outcome, and_then, IsOutOfMemory, ◌or◌};
 ghost use Rattle.jsonb_doc.specs.Arithmetic.{Operation};
 ghost use Rattle.jsonb_doc.specs.Payload.{Form};
 ghost use Rattle.jsonb_doc.specs.Tree.{Tree};
-ghost use Rattle.jsonb.specs.PathTree.{whole_expression, value};
+ghost use Rattle.jsonb.specs.PathTree.{root, filter, whole_expression, value};
 ghost use Rattle.jsonb.specs.PathViews.{step_view, steps_view, expression_view, literal_view};
 ghost use Rattle.std.specs.List.{AllZip};
 ghost use Rattle.jsonb.specs.PathArithmetic.{operation, each_signed};
@@ -23,7 +23,7 @@ ghost use Rattle.jsonb.specs.SelectionErrors.{IsSelectionError};
 use super::calculate::{binary_number, is_arithmetic, unary_numbers};
 use super::compared_lists::root_truth;
 use super::document::{Context, Current, Expressions, Repeats, TruthResult};
-use super::filter_cache::is_relative;
+use super::filter_cache::{is_relative, is_true};
 use super::members::start_spot;
 use super::node_list::NodeList;
 use super::search::search;
@@ -50,6 +50,11 @@ pub(crate) fn selection<'a>(
     }
     let all = Expressions::AreFilters;
     let root = context.document.root;
+    if let Some(e) = root_filter(steps) {
+        let keeps = is_true(root_truth(context, e)?);
+        let found = NodeList::at_most_one(context.alloc, keeps.then_some(root));
+        return Ok(Selected::Nodes(found));
+    }
     let spots = select_steps(context, all, Repeats::AreKept, steps, root)?;
     Ok(Selected::Nodes(spots))
 }
@@ -63,7 +68,7 @@ pub(crate) fn first_selection<'a>(
     ensures nodes { only_expression (steps_view steps.now) ≡ None → IfOk result (λ found. is_computed found ≡ false) }
     ensures errors { IfErr result (IsSelectionError context.now.mode) }
 {
-    if only_expression(steps).is_some() || is_relative(steps) {
+    if only_expression(steps).is_some() || is_relative(steps) || root_filter(steps).is_some() {
         return selection(context, steps);
     }
     let all = Expressions::AreFilters;
@@ -74,6 +79,20 @@ pub(crate) fn first_selection<'a>(
             let firsts = select_steps(context, all, Repeats::AreDropped, steps, root)?;
             Ok(Selected::Nodes(firsts))
         }
+    }
+}
+
+/// Returns the expression of a filter of the root, if the path is one.
+fn root_filter<'s, 'a>(steps: &'s [Path<'a>]) -> Option<&'s Expr<'a>>
+    ensures { MatchOption result ⊤
+        (λ e. steps_view steps.now ≡ root ∷ filter (expression_view e.now) ∷ []) }
+{
+    match steps {
+        [Path::Root, step] => match step {
+            Path::FilterExpr(e) => Some(e),
+            _ => None,
+        },
+        _ => None,
     }
 }
 

@@ -51,3 +51,30 @@ fn selected_strictly(alloc: Global, path: &str, document: &str) -> Result<String
     let mut selector = Selector::new_strict(alloc, RawJsonb::new(&document));
     shown(alloc, selector.select_values(&path))
 }
+
+/// How a filter is nested: the start, what begins each level, what is innermost, and what ends each level.
+static NESTED: [(&str, &str, &str, &str, &str); 5] = [
+    ("$", "[*]?(exists(@", "", "))", "1"),
+    ("$", "?(exists(@", "", ".b))", ""),
+    ("$", "?(exists(@", "", "?(1 == 1)))", "[1]"),
+    ("$", "?(1 == 1 && exists(@", "", "))", "[1]"),
+    ("$", "?(exists(@.*) || exists(@[*]", "", "))", "[1]"),
+];
+
+#[test]
+fn nested_filters_use_no_stack(rt: HostRuntime) -> Result<(), Fail> {
+    for (start, again, within, end, wanted) in &NESTED {
+        let mut text = String::new(rt.alloc());
+        text.push_str(start)?;
+        for _ in 0..5_000 {
+            text.push_str(again)?;
+        }
+        text.push_str(within)?;
+        for _ in 0..5_000 {
+            text.push_str(end)?;
+        }
+        let found = selected(rt.alloc(), text.as_str(), "[1]")?;
+        assert_eq!(rt; found.as_str(), *wanted, "{again}");
+    }
+    Ok(())
+}

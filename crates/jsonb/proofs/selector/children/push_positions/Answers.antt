@@ -1,4 +1,4 @@
-use Rattle.std.proofs.Common.{[], map}
+use Rattle.std.proofs.Common.{[]}
 use Rattle.jsonb_doc.specs.Representation.Positions.{Locates, HasSpotsLeft}
 use Rattle.jsonb_raw.specs.Arrays.{array_values}
 use Rattle.jsonb.specs.ItemSteps.{picked}

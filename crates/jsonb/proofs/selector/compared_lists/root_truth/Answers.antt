@@ -1,7 +1,15 @@
-use Rattle.std.proofs.Common.{ap}
+use Rattle.std.proofs.Common.{◌≡◌, Bool, List, Option, Some, Ok, Err, ap, ◌∙◌}
+use Rattle.std.proofs.lemmas.Result.{err_from_is_err_and}
+use Rattle.jsonb_doc.specs.Answer.{Outcome, and_then}
+use Rattle.jsonb_doc.specs.Tree.{Tree}
+use Rattle.jsonb.specs.Compare.{Truth}
 use Rattle.jsonb.specs.PathViews.{expression_view}
-use Rattle.jsonb.specs.Meaning.{truth}
-use Rattle.jsonb.proofs.RefinesLemmas.{same_outcome}
+use Rattle.jsonb.specs.Meaning.{truth, is_some_item}
+use Rattle.jsonb.specs.Private.Selection.{IsAt}
+use Rattle.jsonb.proofs.PathNodes.{exists_is}
+use Rattle.jsonb.proofs.RefinesLemmas.{same_outcome, same_answer, first_refused, one_ok}
+use Rattle.jsonb.proofs.SearchLemmas.{found_any}
+use Rattle.jsonb.proofs.StepLemmas.{from_root}
 use Rattle.jsonb.proofs.selector.compared_lists.root_truth.Goals as goal
 
 pub returns-in-Lax-Some-clause-meant : goal.returns-in-Lax-Some-clause-meant
@@ -9,5 +17,24 @@ returns-in-Lax-Some-clause-meant c = λ top r.
     same_outcome (ap (λ mode. truth mode (expression_view c.args.e.now) top top) c.in-Lax-Some.is-0)
     (c.list_compared_truth.ensures.meant (expression_view c.args.e.now) top c.in-Lax-Some.ensures r)
 
-pub returns-in_default-clause-meant : goal.returns-in_default-clause-meant
-returns-in_default-clause-meant c = λ top r. c.truth.ensures.meant top top r r
+pub returns-in_default-3-clause-meant : goal.returns-in_default-3-clause-meant
+returns-in_default-3-clause-meant c = λ top r. c.truth.ensures.meant top top r r
+
+pub returns-in_err-found-clause-meant : goal.returns-in_err-found-clause-meant
+returns-in_err-found-clause-meant c = λ top r.
+    let mode = c.args.context.now.mode in
+    let told : List Tree → Outcome Truth = λ ts. Ok (Some (is_some_item ts)) in
+    let view = ap (λ x. truth mode x top top) (exists_is c.args.e.now c.in-ExistsFunc.steps c.in-ExistsFunc.is)
+    ∙ ap (λ o. and_then o told) (from_root mode c.in-ExistsFunc.steps.items _ top c.deref.ensures.value) in
+    let p = err_from_is_err_and c.from_residual.result c.from_residual.ensures.1 in
+    same_answer (p.1 ∙ ap Err p.2) (same_outcome view (first_refused told (c.in_err-found.ensures.meant top top r r)))
+
+pub returns-in-Some-clause-meant : goal.returns-in-Some-clause-meant
+returns-in-Some-clause-meant c = λ top r.
+    let mode = c.args.context.now.mode in
+    let told : List Tree → Outcome Truth = λ ts. Ok (Some (is_some_item ts)) in
+    let view = ap (λ x. truth mode x top top) (exists_is c.args.e.now c.in-ExistsFunc.steps c.in-ExistsFunc.is)
+    ∙ ap (λ o. and_then o told) (from_root mode c.in-ExistsFunc.steps.items _ top c.deref.ensures.value) in
+    same_outcome view (one_ok {S = λ (b : Option Bool) d. b ≡ d} {z = Some c.is_some.result} told
+    (found_any (IsAt c.args.context.now.document) c.in-Some.found c.is_some.result _ c.is_some.ensures
+    (rw c.in-Some.is at (c.in_ok-found.ensures.meant top top r r))) (λ ts same. ap Some same))

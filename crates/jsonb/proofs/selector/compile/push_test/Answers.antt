@@ -1,8 +1,6 @@
 use Rattle.std.proofs.Common.{◌∷◌, sym, subst, reverse}
 use Rattle.jsonb.specs.PathViews.{expression_view}
-use Rattle.std.proofs.lemmas.List.Elements.{All-push}
-use Rattle.std.specs.List.{All}
-use Rattle.jsonb.specs.Private.Tests.{IsQuestionOf, IsTestBelow, AreBranches}
+use Rattle.jsonb.specs.Private.Tests.{IsQuestionOf, AreBranches}
 use Rattle.jsonb.proofs.TestLemmas.{one_in_front}
 use Rattle.jsonb.proofs.selector.compile.push_test.Goals as goal
 
@@ -10,10 +8,4 @@ pub returns-clause-tests : goal.returns-clause-tests
 returns-clause-tests c = λ alone done a.
     let e = expression_view c.args.e.now in
     subst (λ l. AreBranches IsQuestionOf (reverse l) (record { condition = e; on_true = c.args.on_true; on_false = c.args.on_false } ∷ done))
-    (sym c.in_ok-push.ensures.items) (one_in_front c.args.tests.now.items _ e done a (c.question_of.ensures.question alone))
-
-pub returns-clause-within : goal.returns-clause-within
-returns-clause-within c = λ n alone small a.
-    subst (All (IsTestBelow n)) (sym c.in_ok-push.ensures.items)
-    (All-push (IsTestBelow n) c.args.tests.now.items _ a
-    (c.question_of.ensures.below n alone small))
+    (sym c.in_ok-push.ensures.items) (one_in_front c.args.tests.now.items _ e done a (c.question_of.ensures alone))

@@ -1,4 +1,4 @@
-use Rattle.std.proofs.Common.{◌++◌, Err, inl, ap, sym, ◌∙◌, refl, subst, option_map, arith}
+use Rattle.std.proofs.Common.{◌++◌, Err, inl, ap, sym, ◌∙◌, refl, subst, arith}
 use Rattle.std.proofs.lemmas.Result.{err_from_is_err_and}
 use Rattle.jsonb_doc.specs.Representation.Positions.{Locates}
 use Rattle.std.specs.List.{AllZip}

@@ -1,0 +1,286 @@
+-- Conditions whose tests wait for paths.
+use Rattle.std.proofs.Common.{◌≡◌, ◌⊎◌, Bool, Box, Vec, Global, ℕ, ◌+◌, ◌<◌, ◌≤◌, List, [], ◌∷◌, ◌++◌, true, false, length, get_or, take, Option, Some, None, Ok, Err, inl, inr, refl, sym, ap, ◌∙◌, subst, arith}
+use Rattle.std.specs.Prelude.{reverse, slice_get, MatchOption, ⊤}
+use Rattle.std.proofs.Math.Seq.{take-length}
+use Rattle.std.proofs.lemmas.Option.{get_or_from_slice_get, slice_get_within, slice_get_cases, slice_get_read, slice_get_past}
+use Rattle.jsonb_doc.specs.Answer.{Outcome, and_then, IsOutOfMemory}
+use Rattle.jsonb_doc.specs.Tree.{Tree}
+use Rattle.jsonb_doc.specs.declared.error.Error.{Error}
+use Rattle.jsonb_doc.specs.declared.spot.Spot.{Spot}
+use Rattle.jsonb.specs.PathTree.{Expression}
+use Rattle.jsonb.specs.Compare.{Truth}
+use Rattle.jsonb.specs.Meaning.{truth}
+use Rattle.jsonb.specs.Private.Asking.{at_first, asking_tests, IsCached, IsAsking, IsTested, IsTurn}
+use Rattle.jsonb.specs.Private.FilterCache.{is_condition, AreKept}
+use Rattle.jsonb.specs.Private.Jumps.{Branch, branches_of_whole, evaluated, next_jump, jump_truth}
+use Rattle.jsonb.specs.Private.Operands.{IsAnswer, IsHeld}
+use Rattle.jsonb.specs.Private.Selection.{IsAt}
+use Rattle.jsonb.specs.Private.Tests.{IsQuestionOf, AreBranches, AreTestsOf, item_tests, question_conditions, tests_conditions}
+use Rattle.jsonb.specs.declared.selector.document.Context.{Context}
+use Rattle.jsonb.specs.declared.selector.document.Mode.{Mode}
+use Rattle.jsonb.specs.declared.selector.filter_cache.FilterCache.{FilterCache}
+use Rattle.jsonb.specs.declared.selector.filters.Asking.{Asking}
+use Rattle.jsonb.specs.declared.selector.operands.Asked.{Asked}
+use Rattle.jsonb.specs.declared.selector.operands.Asked.TheVariants as asked
+use Rattle.jsonb.specs.declared.selector.operands.Operands.{Operands}
+use Rattle.jsonb.specs.declared.selector.operands.Pending.{Pending}
+use Rattle.jsonb.specs.declared.selector.plan.Jump.{Jump}
+use Rattle.jsonb.specs.declared.selector.plan.Test.{Test}
+use Rattle.jsonb.specs.declared.selector.plan.Tests.{Tests}
+use Rattle.jsonb.specs.declared.selector.plan.Tests.TheVariants as tests
+use Rattle.jsonb.proofs.OperandLemmas.{as_refused}
+use Rattle.jsonb.proofs.TestLemmas.{next_test, conditions_at, from_first, no_test}
+
+-- the next test, before those that are left then
+pub next_tested : (context : Context) (top t : Tree) (a : Asking) (i : ℕ) (x : Test) (whole : Outcome Truth) → a.left ≡ i + 1
+    → slice_get (asking_tests a) i ≡ Some x → IsAsking context top t a whole → (e : Expression) × IsQuestionOf x.question e
+    × IsTested context top t a.operands.item (asking_tests a) i a.state (truth context.mode e top t) whole
+    × IsCached context top a (question_conditions x.question ++ tests_conditions (take i (asking_tests a)))
+next_tested context top t a i x whole after has h =
+    let tests = asking_tests a in
+    let at : x ≡ get_or tests i x = sym (get_or_from_slice_get tests i x x has) in
+    let n = next_test tests a.left i x h.rest a.state context.mode top t h.within after at h.branches in (
+      n.condition,
+      n.question,
+      record {
+        at = h.at;
+        rest = n.behind;
+        branches = n.left;
+        next = x;
+        has = has;
+        begins = λ all. h.begins (after ∙ all);
+        is = h.is ∙ n.is ∙ ap (λ k. and_then (truth context.mode n.condition top t)
+            (λ b. evaluated context.mode top t n.behind (next_jump x.on_true x.on_false k a.state b))) after;
+      },
+      subst (IsCached context top a) (conditions_at tests a.left i x h.within after at) h.kept,
+    )
+
+module _ (context : Context) (top t : Tree) {item item' : Spot} {tests tests' : List Test} {left left' : ℕ} {state state' : Option Jump}
+    {test test' whole : Outcome Truth} where
+  -- the same of equal parts
+  pub tested_as : item ≡ item' → tests ≡ tests' → left ≡ left' → state ≡ state' → test ≡ test'
+      → IsTested context top t item tests left state test whole → IsTested context top t item' tests' left' state' test' whole
+  tested_as p q r s u h =
+      subst (λ x. IsTested context top t item' tests' left' state' x whole) u
+      (subst (λ x. IsTested context top t item' tests' left' x test whole) s
+      (subst (λ x. IsTested context top t item' tests' x state test whole) r
+      (subst (λ x. IsTested context top t item' x left state test whole) q
+      (subst (λ x. IsTested context top t x tests left state test whole) p h))))
+
+-- ---- before and after a test
+
+abbrev pub with_state : Asking → Option Jump → Asking
+with_state a after = record { tests = a.tests; left = a.left; state = after; operands = a.operands }
+
+-- a test whose truth is known
+pub asked_after : (context : Context) (top t : Tree) (a : Asking) (x : Test) (b : Truth) (after : Option Jump) (whole : Outcome Truth)
+    → IsTested context top t a.operands.item (asking_tests a) a.left a.state (Ok b) whole → slice_get (asking_tests a) a.left ≡ Some x
+    → after ≡ next_jump x.on_true x.on_false (a.left + 1) a.state b → IsCached context top a (tests_conditions (take a.left (asking_tests a)))
+    → IsAsking context top t (with_state a after) whole
+asked_after context top t a x b after whole h has is kept =
+    let same : h.next ≡ x = some_same h.next x (sym h.has ∙ has) in
+    let short = slice_get_within (asking_tests a) a.left x has in
+    record {
+      at = h.at;
+      within = omega (arith, short);
+      begins = λ all. absurd (omega (arith, short, all));
+      rest = h.rest;
+      branches = h.branches;
+      kept = kept;
+      is = h.is ∙ ap (λ y. evaluated context.mode top t h.rest (next_jump y.on_true y.on_false (a.left + 1) a.state b)) same
+          ∙ ap (evaluated context.mode top t h.rest) (sym is);
+    }
+  where
+    some_same : (x y : Test) → Some x ≡ Some y → x ≡ y
+    some_same x y is = cc
+
+-- a condition that begins with all tests
+pub asked_from_first : (context : Context) (top t : Tree) (a : Asking) (e : Expression) → a.left ≡ length (asking_tests a)
+    → a.state ≡ at_first (length (asking_tests a)) → IsAt context.document a.operands.item t → AreTestsOf IsQuestionOf (asking_tests a) e
+    → IsCached context top a (tests_conditions (asking_tests a)) → IsAsking context top t a (truth context.mode e top t)
+asked_from_first context top t a e all begins at compiled kept =
+    let tests = asking_tests a in
+    let taken : take a.left tests ≡ tests = ap (λ n. take n tests) all ∙ take-length tests in
+    record {
+      at = at;
+      within = omega (arith, all);
+      begins = λ _. begins;
+      rest = branches_of_whole e;
+      branches = subst (λ l. AreBranches IsQuestionOf (reverse l) (branches_of_whole e)) (sym taken) compiled;
+      kept = subst (λ l. IsCached context top a (tests_conditions l)) (sym taken) kept;
+      is = from_first IsQuestionOf context.mode tests e top t a.state _ begins refl compiled;
+    }
+
+-- no test is left
+pub asked_all : (context : Context) (top t : Tree) (a : Asking) (whole : Outcome Truth) → a.left ≡ 0 → IsAsking context top t a whole
+    → (whole ≡ Ok (jump_truth a.state)) × IsCached context top a []
+asked_all context top t a whole none h = (
+  h.is ∙ ap (λ l. evaluated context.mode top t l a.state) (no_test IsQuestionOf (asking_tests a) a.left h.rest none h.branches),
+  subst (λ n. IsCached context top a (tests_conditions (take n (asking_tests a)))) none h.kept,
+)
+
+-- ---- what the result for a test says of the condition
+
+module _ (context : Context) (top t : Tree) (a : Asking) {item : Spot} {tests : List Test} {left : ℕ} {state : Option Jump} {test whole : Outcome Truth}
+    (h : IsTested context top t item tests left state test whole) (same_item : a.operands.item ≡ item) (same_tests : asking_tests a ≡ tests)
+    (same_left : a.left ≡ left) (same_state : a.state ≡ state) where
+  pub path_waits : (p : Box Pending Global)
+      → IsAnswer context top t (tests_conditions tests) (tests_conditions (take left tests)) a.operands test (Ok (asked.Path p))
+      → IsTurn context top t a whole (Ok (Some p))
+  path_waits p answer = (
+    answer.0,
+    answer.1,
+    (
+      tested_as context top t (sym same_item) (sym same_tests) (sym same_left) (sym same_state) answer.3 h,
+      subst (λ k. IsHeld context.mode top t (tests_conditions (asking_tests a)) (tests_conditions (take k (asking_tests a))) a.operands.cache p.value.waits answer.0)
+          (sym same_left)
+          (subst (λ l. IsHeld context.mode top t (tests_conditions l) (tests_conditions (take left l)) a.operands.cache p.value.waits answer.0)
+          (sym same_tests) answer.2),
+    ),
+  )
+
+  pub truth_known : (b : Truth)
+      → IsAnswer context top t (tests_conditions tests) (tests_conditions (take left tests)) a.operands test (Ok (asked.Truth b))
+      → IsTested context top t a.operands.item (asking_tests a) a.left a.state (Ok b) whole
+      × IsCached context top a (tests_conditions (take a.left (asking_tests a)))
+  truth_known b answer = (
+    tested_as context top t (sym same_item) (sym same_tests) (sym same_left) (sym same_state) answer.0 h,
+    subst (λ k. IsCached context top a (tests_conditions (take k (asking_tests a)))) (sym same_left)
+        (subst (λ l. AreKept context.mode top a.operands.cache (tests_conditions l) (tests_conditions (take left l))) (sym same_tests) answer.1),
+  )
+
+  pub test_refused : (e : Error)
+      → IsAnswer context top t (tests_conditions tests) (tests_conditions (take left tests)) a.operands test (Err e)
+      → IsTurn context top t a whole (Err e)
+  test_refused e answer = as_refused (λ is. h.is ∙ ap (λ o. and_then o (λ b. evaluated context.mode top t h.rest
+      (next_jump h.next.on_true h.next.on_false (left + 1) state b))) is) answer
+
+-- the condition after the test before the first i
+abbrev pub after_test : Asking → ℕ → Option Jump → Operands → Asking
+after_test a i after operands = record { tests = a.tests; left = i; state = after; operands = operands }
+
+module _ (context : Context) (top t : Tree) (a : Asking) (i : ℕ) (x : Test) (whole : Outcome Truth) (after : a.left ≡ i + 1)
+    (has : slice_get (asking_tests a) i ≡ Some x) (h : IsAsking context top t a whole) (operands : Operands) (same : operands.item ≡ a.operands.item)
+    (r : Outcome Asked)
+    (answers : (e : Expression) → IsAt context.document a.operands.item t → IsQuestionOf x.question e
+    → AreKept context.mode top a.operands.cache (tests_conditions (asking_tests a))
+    (question_conditions x.question ++ tests_conditions (take i (asking_tests a)))
+    → IsAnswer context top t (tests_conditions (asking_tests a)) (tests_conditions (take i (asking_tests a))) operands
+    (truth context.mode e top t) r) where
+  answer : (b : Outcome Asked) → r ≡ b → (e : Expression)
+      × IsTested context top t a.operands.item (asking_tests a) i a.state (truth context.mode e top t) whole
+      × IsAnswer context top t (tests_conditions (asking_tests a)) (tests_conditions (take i (asking_tests a))) operands
+      (truth context.mode e top t) b
+  answer b is =
+      let n = next_tested context top t a i x whole after has h in (
+        n.0,
+        n.2,
+        subst (IsAnswer context top t (tests_conditions (asking_tests a)) (tests_conditions (take i (asking_tests a))) operands
+            (truth context.mode n.0 top t)) is (answers n.0 n.2.at n.1 n.3),
+      )
+
+  pub turn_refused : (e : Error) → r ≡ Err e → IsOutOfMemory e ⊎ (whole ≡ Err e)
+  turn_refused e is =
+      let n = answer (Err e) is in test_refused context top t (after_test a i a.state operands) n.1 same refl refl refl e n.2
+
+  pub turn_waits : (p : Box Pending Global) → r ≡ Ok (asked.Path p) → IsTurn context top t (after_test a i a.state operands) whole (Ok (Some p))
+  turn_waits p is =
+      let n = answer (Ok (asked.Path p)) is in path_waits context top t (after_test a i a.state operands) n.1 same refl refl refl p n.2
+
+  pub turn_known : (b : Truth) → r ≡ Ok (asked.Truth b) → (next : Option Jump) → next ≡ next_jump x.on_true x.on_false (i + 1) a.state b
+      → IsAsking context top t (after_test a i next operands) whole
+  turn_known b is next jumps =
+      let n = answer (Ok (asked.Truth b)) is in
+      let known = truth_known context top t (after_test a i a.state operands) n.1 same refl refl refl b n.2 in
+      asked_after context top t (after_test a i a.state operands) x b next whole known.0 has jumps known.1
+
+-- the same of the tests that the condition is known to have
+pub turn_of : (context : Context) (top t : Tree) (a : Asking) (all : Tests) (i : ℕ) (after : Option Jump) (operands : Operands) (whole : Outcome Truth)
+    (r : Outcome (Option (Box Pending Global))) → a.tests ≡ all → IsTurn context top t (after_test a i after operands) whole r
+    → IsTurn context top t (record { tests = all; left = i; state = after; operands = operands }) whole r
+turn_of context top t a all i after operands whole r is turn =
+    subst (λ x. IsTurn context top t (record { tests = x; left = i; state = after; operands = operands }) whole r) is turn
+
+-- the only condition of a test that is an expression
+pub part_answers : (context : Context) (top t : Tree) (all more : List Expression) (cache : FilterCache) (operands : Operands) (part e : Expression)
+    (r : Outcome Asked) → (is_condition part ≡ true → AreKept context.mode top cache all (part ∷ more)
+    → IsAnswer context top t all more operands (truth context.mode part top t) r)
+    → (part ≡ e) × (is_condition e ≡ true) → AreKept context.mode top cache all (part ∷ more)
+    → IsAnswer context top t all more operands (truth context.mode e top t) r
+part_answers context top t all more cache operands part e r told q kept =
+    subst (λ x. IsAnswer context top t all more operands (truth context.mode x top t) r) q.0
+    (told (subst (λ x. is_condition x ≡ true) (sym q.0) q.1) kept)
+
+-- there is a next test
+pub some_test : {A : Type 0} (context : Context) (top t : Tree) (a : Asking) (i : ℕ) (whole : Outcome Truth) → a.left ≡ i + 1
+    → slice_get (asking_tests a) i ≡ None → IsAsking context top t a whole → A
+some_test context top t a i whole after none h = elim (slice_get_cases (asking_tests a) i).1 [
+  | inl found ↦ absurd (some_none found.0 (sym found.2 ∙ none))
+  | inr past ↦ absurd (omega (arith, past.0, after, h.within))
+]
+  where
+    some_none : (x : Test) → Some x ≡ None → ⊥
+    some_none x is = cc
+
+-- ---- the tests of a condition that joins several
+
+pub test_read : (all : Tests) (v : Vec Test Global) (l : List Test) (i : ℕ) (x : Test) → all ≡ tests.Joined v → l ≡ v.items → i < length l
+    → x ≡ get_or l i x → slice_get (item_tests all) i ≡ Some x
+test_read all v l i x is same short at = ap (λ y. slice_get (item_tests y) i) is ∙ ap (λ k. slice_get k i) (sym same)
+    ∙ slice_get_read l (length l) i x refl short at
+
+pub test_missing : (all : Tests) (v : Vec Test Global) (l : List Test) (i : ℕ) → all ≡ tests.Joined v → l ≡ v.items → length l ≤ i
+    → slice_get (item_tests all) i ≡ None
+test_missing all v l i is same past = ap (λ y. slice_get (item_tests y) i) is ∙ ap (λ k. slice_get k i) (sym same) ∙ slice_get_past l i past
+
+-- ---- a condition that is one test
+
+-- the state after it
+pub single_done : (b : Truth) → jump_truth (next_jump 0 0 1 (at_first 1) b) ≡ b
+single_done (Some true) = refl
+single_done (Some false) = refl
+single_done None = refl
+
+pub single_step : (b : Bool) → next_jump 0 0 1 (at_first 1) (Some b) ≡ Some (record { left = 0; truth = b })
+single_step true = refl
+single_step false = refl
+
+-- its truth is that of the test
+pub single_truth : (context : Context) (top t : Tree) (e : Expression) (b : Truth) (test : Test) → test.on_true ≡ 0 → test.on_false ≡ 0
+    → ((c : Expression) → IsQuestionOf test.question c → truth context.mode c top t ≡ Ok b) → AreTestsOf IsQuestionOf (test ∷ []) e
+    → truth context.mode e top t ≡ Ok b
+single_truth context top t e b test zero_true zero_false known compiled =
+    from_first IsQuestionOf context.mode (test ∷ []) e top t (at_first 1) _ refl refl compiled ∙ go (branches_of_whole e) compiled
+  where
+    go : (bs : List Branch) → AreBranches IsQuestionOf (test ∷ []) bs → evaluated context.mode top t bs (at_first 1) ≡ Ok b
+    go [] a = absurd a
+    go (c ∷ []) a = ap (λ o. and_then o (λ v. Ok (jump_truth (next_jump c.on_true c.on_false 1 (at_first 1) v)))) (known c.condition a.0.question)
+        ∙ (λ k. Ok (jump_truth (next_jump ((sym a.0.on_true ∙ zero_true) k) ((sym a.0.on_false ∙ zero_false) k) 1 (at_first 1) b)))
+        ∙ ap Ok (single_done b)
+    go (c ∷ d ∷ bs) a = absurd a.1
+
+pub single_after : (context : Context) (top t : Tree) (a : Asking) (x : Test) (b : Truth) (after : Option Jump) (whole : Outcome Truth)
+    → asking_tests a ≡ x ∷ [] → x.on_true ≡ 0 → x.on_false ≡ 0
+    → IsTested context top t a.operands.item (asking_tests a) a.left a.state (Ok b) whole → after ≡ next_jump 0 0 1 (at_first 1) b
+    → IsCached context top a (tests_conditions (take a.left (asking_tests a))) → IsAsking context top t (with_state a after) whole
+single_after context top t a x b after whole one zero_true zero_false h is kept =
+    let many : length (asking_tests a) ≡ 1 = ap length one in
+    let short = slice_get_within (asking_tests a) a.left h.next h.has in
+    let first : a.left ≡ 0 = omega (arith, short, many) in
+    let begins : a.state ≡ at_first 1 = h.begins (omega (arith, first, many)) ∙ ap at_first many in
+    asked_after context top t a x b after whole h (λ k. slice_get (one k) (first k))
+    (is ∙ (λ k. next_jump (sym zero_true k) (sym zero_false k) (sym first k + 1) (sym begins k) b)) kept
+
+-- its cached result, which is the same for each item
+pub fixed_whole : (a : Asking) (x : Test) (part : Expression) (found : Option Truth) → asking_tests a ≡ x ∷ [] → x.on_true ≡ 0 → x.on_false ≡ 0
+    → question_conditions x.question ≡ part ∷ [] → ((e : Expression) → IsQuestionOf x.question e → part ≡ e)
+    → MatchOption found ⊤ (λ b. (mode : Mode) (top t : Tree) (e : Expression) (more : List Expression)
+    → AreKept mode top a.operands.cache (e ∷ []) more → truth mode e top t ≡ Ok b)
+    → MatchOption found ⊤ (λ b. (context : Context) (top t : Tree) (e : Expression) (more : List Expression)
+    → AreTestsOf IsQuestionOf (asking_tests a) e → IsCached context top a more → truth context.mode e top t ≡ Ok b)
+fixed_whole a x part None one zero_true zero_false only view known = known
+fixed_whole a x part (Some b) one zero_true zero_false only view known = λ context top t e more compiled cached.
+    let kept = subst (λ l. AreKept context.mode top a.operands.cache l more) (ap tests_conditions one ∙ ap (λ l. l ++ []) only) cached in
+    single_truth context top t e b x zero_true zero_false
+    (λ c asks. subst (λ y. truth context.mode y top t ≡ Ok b) (view c asks) (known context.mode top t part more kept))
+    (subst (λ l. AreTestsOf IsQuestionOf l e) one compiled)

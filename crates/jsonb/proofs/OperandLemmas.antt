@@ -1,0 +1,106 @@
+-- Comparisons and `exists` that wait for a path.
+use Rattle.std.proofs.Common.{◌≡◌, ◌⊎◌, ℕ, List, length, flat_map, true, Option, Some, None, Ok, Err, IsOkAnd, sym, ap, ◌∙◌, subst, inl, inr}
+use Rattle.std.specs.Prelude.{not, ◌==◌}
+use Rattle.std.specs.List.{AllZip}
+use Rattle.jsonb_doc.specs.Answer.{Outcome, and_then, IsOutOfMemory}
+use Rattle.jsonb_doc.specs.Representation.Positions.{Locates}
+use Rattle.jsonb_doc.specs.Tree.{Tree}
+use Rattle.jsonb_doc.specs.declared.error.Error.{Error}
+use Rattle.jsonb_doc.specs.declared.spot.Spot.{Spot}
+use Rattle.jsonb.specs.PathTree.{Expression}
+use Rattle.jsonb.specs.PathViews.{expression_view}
+use Rattle.jsonb.specs.Compare.{Truth, compare}
+use Rattle.jsonb.specs.Values.{Value, values_of_item}
+use Rattle.jsonb.specs.Meaning.{truth, operand_values, is_some_item}
+use Rattle.jsonb.specs.Private.Alike.{AreAlike, HasSame}
+use Rattle.jsonb.specs.Private.FilterCache.{is_comparison}
+use Rattle.jsonb.specs.Private.Operands.{comparison_view, values_found, ComesNext, HasLeft, IsHeld, waits_expression}
+use Rattle.jsonb.specs.Private.Selection.{values_view}
+use Rattle.jsonb.specs.declared.selector.document.Mode.{Mode}
+use Rattle.jsonb.specs.declared.selector.document.Repeats.TheVariants.{AreDropped}
+use Rattle.jsonb.specs.declared.selector.filter_cache.CachedPart.TheVariants as part
+use Rattle.jsonb.specs.declared.selector.filter_cache.FilterCache.{FilterCache}
+use Rattle.jsonb.specs.declared.selector.operand_value.OperandValues.{OperandValues}
+use Rattle.jsonb.specs.declared.selector.operands.Comparison.{Comparison}
+use Rattle.jsonb.specs.declared.selector.operands.Waits.{Waits}
+use Rattle.jsonb.specs.declared.selector.operands.Waits.TheVariants as waits
+use Rattle.jsonb.proofs.AlikeLemmas.{alike_same, alike_then, alike_flat_map}
+use Rattle.jsonb.proofs.KeptLemmas.{comparison_is, kept_same}
+use Rattle.jsonb.proofs.RefinesLemmas.{some_related}
+use Rattle.jsonb.proofs.RepeatLemmas.{alike_some}
+
+-- ---- what a path has selected
+
+pub exists_found : (bytes : List ℕ) (spots : List Spot) (o : Outcome (List Tree)) (whole : Outcome Truth)
+    → whole ≡ and_then o (λ us. Ok (Some (is_some_item us))) → IsOkAnd o (HasSame AreDropped bytes spots)
+    → whole ≡ Ok (Some (not (length spots == 0)))
+exists_found bytes spots (Ok us) whole is h =
+    is ∙ ap (λ b. Ok (Some b)) (sym (some_related (Locates bytes) spots h.0 h.1 ∙ alike_some h.0 us h.2))
+exists_found bytes spots (Err e) whole is h = absurd h
+
+pub values_read : (P : List Tree → Type 0) (o : Outcome (List Tree)) (values : Outcome (List Value)) (ls : List Value) → values ≡ values_found o
+    → IsOkAnd o P → ((us : List Tree) → P us → AreAlike ls (flat_map values_of_item us)) → IsOkAnd values (AreAlike ls)
+values_read P (Ok us) values ls is h g = subst (λ w. IsOkAnd w (AreAlike ls)) (sym is) (g us h)
+values_read P (Err e) values ls is h g = absurd h
+
+pub values_known : (bytes : List ℕ) (spots : List Spot) (o : Outcome (List Tree)) (values : Outcome (List Value)) (ls : List Value)
+    → values ≡ values_found o → IsOkAnd o (HasSame AreDropped bytes spots)
+    → ((us : List Tree) → AllZip (Locates bytes) spots us → ls ≡ flat_map values_of_item us) → IsOkAnd values (AreAlike ls)
+values_known bytes spots o values ls is h g =
+    values_read (HasSame AreDropped bytes spots) o values ls is h
+    (λ us has. alike_then (alike_same (g has.0 has.1)) (alike_flat_map values_of_item has.2))
+
+-- reading the values of what was found fails only by the memory
+pub read_fails : {A : Type 0} (bytes : List ℕ) (spots : List Spot) (o : Outcome (List Tree)) (f : List Tree → A) (e : Error)
+    → IsOkAnd o (HasSame AreDropped bytes spots)
+    → ((us : List Tree) → AllZip (Locates bytes) spots us → IsOutOfMemory e ⊎ (Ok (f us) ≡ Err e)) → IsOutOfMemory e
+read_fails bytes spots (Ok us) f e h g = elim (g h.0 h.1) [ inl memory ↦ memory | inr is ↦ cc ]
+read_fails bytes spots (Err d) f e h g = absurd h
+
+-- an error of a part is that of the whole
+pub as_refused : {A B : Type 0} {e : Error} {o : Outcome A} {p : Outcome B} → (o ≡ Err e → p ≡ Err e) → IsOutOfMemory e ⊎ (o ≡ Err e)
+    → IsOutOfMemory e ⊎ (p ≡ Err e)
+as_refused f h = elim h [ inl memory ↦ inl memory | inr is ↦ inr (f is) ]
+
+-- ---- comparisons
+
+module _ (mode : Mode) (top t : Tree) (c : Comparison) (compares : is_comparison c.op ≡ true) where
+  both_sides : truth mode (comparison_view c) top t ≡ and_then (operand_values mode (expression_view c.left.now) top t)
+      (λ ls. and_then (operand_values mode (expression_view c.right.now) top t) (λ rs. Ok (compare c.op ls rs)))
+  both_sides = comparison_is mode c.op (expression_view c.left.now) (expression_view c.right.now) top t compares
+
+  pub left_refused : (e : Error) → operand_values mode (expression_view c.left.now) top t ≡ Err e → truth mode (comparison_view c) top t ≡ Err e
+  left_refused e is = both_sides ∙ ap (λ o. and_then o (λ ls. and_then (operand_values mode (expression_view c.right.now) top t)
+      (λ rs. Ok (compare c.op ls rs)))) is
+
+  pub right_refused : (e : Error) (P : List Value → Type 0) → IsOkAnd (operand_values mode (expression_view c.left.now) top t) P
+      → operand_values mode (expression_view c.right.now) top t ≡ Err e → truth mode (comparison_view c) top t ≡ Err e
+  right_refused e P known is = both_sides ∙ go (operand_values mode (expression_view c.left.now) top t) known
+    where
+      go : (o : Outcome (List Value)) → IsOkAnd o P → and_then o (λ ls. and_then (operand_values mode (expression_view c.right.now) top t)
+          (λ rs. Ok (compare c.op ls rs))) ≡ Err e
+      go (Ok ls) h = ap (λ o. and_then o (λ rs. Ok (compare c.op ls rs))) is
+      go (Err d) h = absurd h
+
+-- the values of the left operand
+pub left_known : (mode : Mode) (top t : Tree) (all more : List Expression) (cache : FilterCache) (c : Comparison) (lefts : Option OperandValues)
+    → ComesNext mode top all more cache c → HasLeft mode top t cache c lefts
+    → (ls : List Value) × IsOkAnd (operand_values mode (expression_view c.left.now) top t) (AreAlike ls)
+left_known mode top t all more cache c (Some ls) next has = (values_view ls, has)
+left_known mode top t all more cache c None next has =
+    (values_view has.0, kept_same mode top cache all more (comparison_view c) (part.Left has.0) next.1 has.1 t)
+
+-- ---- a path that fails
+
+failed_values : (o : Outcome (List Tree)) (values : Outcome (List Value)) (e : Error) → o ≡ Err e → values ≡ values_found o → values ≡ Err e
+failed_values o values e is found = found ∙ ap values_found is
+
+pub path_refused : (mode : Mode) (top t : Tree) (all more : List Expression) (cache : FilterCache) (w : Waits) (o : Outcome (List Tree)) (e : Error)
+    → IsHeld mode top t all more cache w o → o ≡ Err e → truth mode (waits_expression w) top t ≡ Err e
+path_refused mode top t all more cache (waits.Exists found) o e held is = held.1 ∙ ap (λ p. and_then p (λ us. Ok (Some (is_some_item us)))) is
+path_refused mode top t all more cache (waits.Left c) o e held is =
+    left_refused mode top t c held.0.0 e (failed_values o (operand_values mode (expression_view c.left.now) top t) e is held.1)
+path_refused mode top t all more cache (waits.Right c lefts) o e held is =
+    let known = left_known mode top t all more cache c lefts held.0 held.1 in
+    right_refused mode top t c held.0.0 e (AreAlike known.0) known.1
+    (failed_values o (operand_values mode (expression_view c.right.now) top t) e is held.2)

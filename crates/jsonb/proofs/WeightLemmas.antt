@@ -1,0 +1,197 @@
+-- How often the loop over filters turns.
+use Rattle.std.proofs.Common.{◌≡◌, Box, Global, ℕ, zero, suc, ◌+◌, ◌-◌, ◌*◌, ◌^◌, ◌<◌, ◌≤◌, List, [], ◌∷◌, ◌++◌, length, drop, get_or, add-one, Some, Ok, Err, OnOk, IfOk, refl, sym, ap, ◌∙◌, subst, arith}
+use Rattle.std.specs.Prelude.{reverse, take, slice_get}
+use Rattle.std.proofs.Math.Nat.{suc-mul}
+use Rattle.std.proofs.Math.Seq.{drop-cons}
+use Rattle.std.proofs.lemmas.List.{reverse-append, take_more}
+use Rattle.std.proofs.lemmas.List.Sums.{sum_by-append, sum_by-cons}
+use Rattle.std.proofs.lemmas.Nat.{row_fits}
+use Rattle.std.proofs.lemmas.Option.{get_or_from_slice_get, slice_get_within}
+use Rattle.jsonb_doc.specs.Answer.{Outcome}
+use Rattle.jsonb.specs.PathTree.{Step, Steps, no_steps, step, steps_of, filter, whole_expression, Expression, binary, and_op, or_op}
+use Rattle.jsonb.specs.PathViews.{step_view, steps_view, expression_view}
+use Rattle.jsonb.specs.Private.Jumps.{Branch, branches_of, branches_of_whole}
+use Rattle.jsonb.specs.Private.Selection.{node_spots, taken_step}
+use Rattle.jsonb.specs.Private.Tests.{IsQuestionOf, AreBranches, AreTestsOf}
+use Rattle.jsonb.specs.Private.Weights.{weight, step_weight, steps_weight, running_weight, question_weight, tests_weight, asked_weight, at_filter_weight, progress_weight, frame_weight, around_weight}
+use Rattle.jsonb.specs.declared.path.Path.{Path}
+use Rattle.jsonb.specs.declared.selector.document.Expressions.{Expressions}
+use Rattle.jsonb.specs.declared.selector.document.Expressions.TheVariants.{AreFilters, AreRefused}
+use Rattle.jsonb.specs.declared.selector.filters.Frame.{Frame}
+use Rattle.jsonb.specs.declared.selector.node_list.NodeList.{NodeList}
+use Rattle.jsonb.specs.declared.selector.node_list.NodeList.TheVariants as node_list
+use Rattle.jsonb.specs.declared.selector.operands.Asked.{Asked}
+use Rattle.jsonb.specs.declared.selector.plan.Question.{Question}
+use Rattle.jsonb.specs.declared.selector.plan.Question.TheVariants as question
+use Rattle.jsonb.specs.declared.selector.plan.Test.{Test}
+use Rattle.jsonb.specs.declared.selector.running.AtFilter.{AtFilter}
+use Rattle.jsonb.specs.declared.selector.running.Progress.{Progress}
+use Rattle.jsonb.specs.declared.selector.running.Progress.TheVariants as progress
+use Rattle.jsonb.specs.declared.selector.running.Running.{Running}
+
+-- ---- a condition
+
+abbrev branches_weight : List Branch → ℕ
+branches_weight [] = 0
+branches_weight (b ∷ bs) = weight b.condition + branches_weight bs
+
+branches_within : (e : Expression) (t f : ℕ) (others : List Branch) → branches_weight (branches_of e t f others) ≤ weight e + branches_weight others
+branches_within (binary and_op l r) t f others =
+    let right = branches_within r t f others in
+    let left = branches_within l (length (branches_of r t f others)) f (branches_of r t f others) in
+    omega (arith, right, left)
+branches_within (binary or_op l r) t f others =
+    let right = branches_within r t f others in
+    let left = branches_within l t (length (branches_of r t f others)) (branches_of r t f others) in
+    omega (arith, right, left)
+branches_within e t f others = omega arith
+
+question_within : (q : Question) (e : Expression) → IsQuestionOf q e → question_weight q ≤ weight e
+question_within (question.Expression part) e is = subst (λ x. weight (expression_view part.now) ≤ weight x) is.0 (omega arith)
+question_within q e is = omega arith
+
+first_test : (x : Test) (xs : List Test) → tests_weight (x ∷ xs) ≡ question_weight x.question + tests_weight xs
+first_test x xs = sum_by-cons (λ (test : Test). question_weight test.question) x xs
+
+tests_within : (tests : List Test) (bs : List Branch) → AreBranches IsQuestionOf tests bs → tests_weight tests ≤ branches_weight bs
+tests_within [] bs a = omega arith
+tests_within (x ∷ xs) [] a = absurd a
+tests_within (x ∷ xs) (b ∷ bs) a =
+    let here = question_within x.question b.condition a.0.question in
+    let rest = tests_within xs bs a.1 in
+    let first = first_test x xs in
+    omega (arith, here, rest, first)
+
+weight_append : (xs ys : List Test) → tests_weight (xs ++ ys) ≡ tests_weight xs + tests_weight ys
+weight_append xs ys = sum_by-append (λ (test : Test). question_weight test.question) xs ys
+
+weight_reverse : (tests : List Test) → tests_weight (reverse tests) ≡ tests_weight tests
+weight_reverse [] = refl
+weight_reverse (x ∷ xs) =
+    let rest = weight_reverse xs in
+    let parts = ap tests_weight (reverse-append (x ∷ []) xs) ∙ weight_append (reverse xs) (x ∷ []) in
+    let first = first_test x xs in
+    let one = first_test x [] in
+    omega (arith, rest, parts, first, one)
+
+-- the tests of an expression are no more than it
+pub compiled_within : (tests : List Test) (e : Expression) → AreTestsOf IsQuestionOf tests e → tests_weight tests ≤ weight e
+compiled_within tests e a =
+    let tested = tests_within (reverse tests) (branches_of_whole e) a in
+    let whole = branches_within e 0 0 [] in
+    let same = weight_reverse tests in
+    omega (arith, tested, whole, same)
+
+-- the next test, and those that are left
+pub test_weight : (tests : List Test) (n i : ℕ) (x : Test) → n ≡ i + 1 → slice_get tests i ≡ Some x
+    → tests_weight (take n tests) ≡ question_weight x.question + tests_weight (take i tests)
+test_weight tests n i x after has =
+    let more = ap tests_weight (ap (λ k. take k tests) after ∙ take_more tests i x (slice_get_within tests i x has)
+    ∙ ap (λ y. take i tests ++ y ∷ []) (get_or_from_slice_get tests i x x has)) in
+    let parts = weight_append (take i tests) (x ∷ []) in
+    let one = first_test x [] in
+    omega (arith, more, parts, one)
+
+-- the only test
+pub only_weighs : (tests : List Test) (x : Test) (n : ℕ) → tests ≡ x ∷ [] → 1 ≤ n → tests_weight (take n tests) ≡ question_weight x.question
+only_weighs tests x n one some =
+    let whole = ap (λ l. tests_weight (take n l)) one ∙ ap tests_weight (all_taken n some) in
+    let first = first_test x [] in
+    omega (arith, whole, first)
+  where
+    all_taken : (n : ℕ) → 1 ≤ n → take n (x ∷ []) ≡ x ∷ []
+    all_taken zero some = absurd (omega (arith, some))
+    all_taken (suc zero) some = refl
+    all_taken (suc (suc n)) some = refl
+
+-- ---- steps
+
+pub steps_some : (ss : Steps) → 1 ≤ steps_weight ss
+steps_some no_steps = omega arith
+steps_some (step s rest) = let others = steps_some rest in omega (arith, others)
+
+pub running_some : (r : Running) → 1 ≤ running_weight r
+running_some r = steps_some (steps_of (steps_view (drop r.next r.steps.now)))
+
+-- the next step, and those after it
+pub next_weighs : (r : Running) (steps : List Path) (x : Path) → r.steps.now ≡ steps → r.next < length steps → x ≡ get_or steps r.next x
+    → running_weight r ≡ step_weight (step_view x) + steps_weight (steps_of (steps_view (drop (r.next + 1) r.steps.now)))
+next_weighs r steps x all short is =
+    ap (λ l. steps_weight (steps_of (steps_view l))) (drop-cons r.steps.now r.next x (subst (λ l. r.next < length l) (sym all) short)
+    ∙ ap (λ y. y ∷ drop (suc r.next) r.steps.now) (sym (subst (λ l. x ≡ get_or l r.next x) (sym all) is))
+    ∙ ap (λ n. x ∷ drop n r.steps.now) (sym (add-one r.next)))
+
+taken_weighs : (expressions : Expressions) (s : Step) → step_weight (taken_step expressions s) ≡ step_weight s
+taken_weighs AreFilters (whole_expression e) = refl
+taken_weighs AreFilters _ = refl
+taken_weighs AreRefused (whole_expression e) = refl
+taken_weighs AreRefused _ = refl
+
+-- the same if it is a filter
+pub filter_next_weighs : (r : Running) (steps : List Path) (x : Path) (e : Expression) → r.steps.now ≡ steps → r.next < length steps
+    → x ≡ get_or steps r.next x → taken_step r.expressions (step_view x) ≡ filter e
+    → running_weight r ≡ step_weight (filter e) + steps_weight (steps_of (steps_view (drop (r.next + 1) r.steps.now)))
+filter_next_weighs r steps x e all short is taken =
+    next_weighs r steps x all short is ∙ ap (λ w. w + steps_weight (steps_of (steps_view (drop (r.next + 1) r.steps.now))))
+    (sym (taken_weighs r.expressions (step_view x)) ∙ ap step_weight taken)
+
+-- a filter whose condition is compiled
+pub filter_weighs : (e : Expression) (tests : List Test) → AreTestsOf IsQuestionOf tests e → 2 ^ 64 * (1 + tests_weight tests) ≤ step_weight (filter e)
+filter_weighs e tests compiled = let within = compiled_within tests e compiled in omega (arith, within)
+
+-- ---- filters
+
+-- the next item, and those after it
+pub item_weighs : (n i w : ℕ) → i < n → (n - i) * w ≡ (n - (i + 1)) * w + w
+item_weighs n i w short =
+    let one : n - i ≡ n - (i + 1) + 1 = omega (arith, short) in
+    ap (λ k. k * w) (one ∙ add-one (n - (i + 1))) ∙ suc-mul (n - (i + 1)) w
+
+-- a list has fewer than 2^64 items
+few_items : (n w : ℕ) → n < 2 ^ 64 → n * (1 + w) < 2 ^ 64 * (1 + w)
+few_items n w few =
+    let fits = row_fits n (1 + w) (2 ^ 64) (1 + w) few (omega arith) in
+    omega (arith, fits)
+
+pub few_nodes : (nodes : NodeList) (w : ℕ) → length (node_spots nodes) * (1 + w) < 2 ^ 64 * (1 + w)
+few_nodes (node_list.One spot) w = few_items 1 w (omega arith)
+few_nodes (node_list.Many v) w = few_items (length v.items) w (omega (arith, v.ok.0, v.small))
+
+-- the innermost filter
+pub around_pushed : (fs : List Frame) (f : Frame) → around_weight (fs ++ f ∷ []) ≡ around_weight fs + frame_weight f
+around_pushed fs f =
+    let parts = sum_by-append frame_weight fs (f ∷ []) in
+    let one = sum_by-cons frame_weight f [] in
+    omega (arith, parts, one)
+
+-- ---- results
+
+-- a filter that waits
+pub waits_weigh : (old new : List Frame) (f : Frame) (path : Box AtFilter Global) (r : Outcome Progress)
+    → OnOk r ((r ≡ Ok (progress.AtFilter path)) × (new ≡ old ++ f ∷ []))
+    → IfOk r (λ x. progress_weight x + around_weight new ≤ at_filter_weight path.value + (around_weight old + frame_weight f))
+waits_weigh old new f path (Ok x) h =
+    let weighs = ap outcome_weight h.0 in
+    let more = ap around_weight h.1 ∙ around_pushed old f in
+    omega (arith, weighs, more)
+  where
+    outcome_weight : Outcome Progress → ℕ
+    outcome_weight (Ok y) = progress_weight y
+    outcome_weight (Err e) = 0
+waits_weigh old new f path (Err e) h = tt
+
+pub beside : {A : Type 0} (r : Outcome A) (f : A → ℕ) (m n k : ℕ) → m ≤ n → IfOk r (λ x. f x ≤ m) → IfOk r (λ x. f x + k ≤ n + k)
+beside (Ok x) f m n k within h = omega (arith, within, h)
+beside (Err e) f m n k within h = tt
+
+pub no_more : {A : Type 0} (r : Outcome A) (f : A → ℕ) (m n : ℕ) → m ≤ n → IfOk r (λ x. f x ≤ m) → IfOk r (λ x. f x ≤ n)
+no_more (Ok x) f m n within h = omega (arith, within, h)
+no_more (Err e) f m n within h = tt
+
+pub fewer_than : {A : Type 0} (r : Outcome A) (f : A → ℕ) (m n : ℕ) → m < n → IfOk r (λ x. f x ≤ m) → IfOk r (λ x. f x < n)
+fewer_than (Ok x) f m n within h = omega (arith, within, h)
+fewer_than (Err e) f m n within h = tt
+
+pub nothing_waits : (r : Outcome Asked) (n : ℕ) → IfOk r (λ asked. asked_weight asked ≡ 0) → IfOk r (λ asked. asked_weight asked ≤ n)
+nothing_waits (Ok asked) n h = omega (arith, h)
+nothing_waits (Err e) n h = tt

@@ -1,0 +1,32 @@
+use Rattle.std.proofs.Common.{◌≡◌, ◌-◌, arith, [], ap, refl, sym, ◌∙◌, subst, length, ◌*◌, ◌+◌}
+use Rattle.std.specs.List.{AllZip}
+use Rattle.jsonb.specs.Private.Asking.{asking_tests}
+use Rattle.jsonb.specs.Private.FilterCache.{AreKept}
+use Rattle.jsonb.specs.Private.Selection.{IsAt, node_spots}
+use Rattle.jsonb.specs.Private.Tests.{IsQuestionOf, AreTestsOf, tests_conditions}
+use Rattle.jsonb.specs.Private.Weights.{running_weight, tests_weight}
+use Rattle.jsonb.proofs.selector.filters.Filter.new.Goals as goal
+
+pub returns-clause-meant : goal.returns-clause-meant
+returns-clause-meant c = λ top e ts zip compiled.
+    let mode = c.args.context.now.mode in
+    let all = tests_conditions (asking_tests c.new-2.result) in record {
+      e = e;
+      others = ts;
+      found = [];
+      state = record {
+        compiled = subst (λ l. AreTestsOf IsQuestionOf l e) (sym c.new-2.ensures.tests) compiled;
+        left = subst (λ v. AllZip (IsAt c.args.context.now.document) (node_spots v) ts) (sym c.replace-items.ensures.value) zip;
+        done = subst (λ l. AllZip (IsAt c.args.context.now.document) l []) (sym c.new-3.ensures.items) tt;
+      };
+      more = all;
+      kept = subst (λ k. AreKept mode top k all all) (sym c.new-2.ensures.cached) (c.new-cache.ensures mode top all);
+      is = refl;
+    }
+
+pub returns-clause-fewer : goal.returns-clause-fewer
+returns-clause-fewer c =
+    let items = c.args.path.running.items in
+    let all : length (node_spots c.replace-items.result) - 0 ≡ length (node_spots items) =
+    ap (λ v. length (node_spots v) - 0) c.replace-items.ensures.value ∙ omega arith in
+    (λ k. all k * (1 + tests_weight (c.new-2.ensures.tests k)) + running_weight c.args.path.running)

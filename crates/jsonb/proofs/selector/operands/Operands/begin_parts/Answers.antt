@@ -1,0 +1,23 @@
+use Rattle.std.proofs.Common.{◌∷◌, ap, sym, ◌∙◌, subst, ◌≤◌, IfOk}
+use Rattle.jsonb.specs.PathTree.{exists, steps_of}
+use Rattle.jsonb.specs.PathViews.{steps_view}
+use Rattle.jsonb.specs.Meaning.{truth}
+use Rattle.jsonb.specs.Private.FilterCache.{AreKept}
+use Rattle.jsonb.specs.Private.Operands.{IsAnswer}
+use Rattle.jsonb.proofs.PathNodes.{exists_is}
+use Rattle.jsonb.proofs.selector.operands.Operands.begin_parts.Goals as goal
+use Rattle.jsonb.specs.Private.Weights.{weight, asked_weight}
+
+pub returns-in-ExistsFunc-clause-meant : goal.returns-in-ExistsFunc-clause-meant
+returns-in-ExistsFunc-clause-meant c = λ top t all more r s is kept.
+    let mode = c.args.context.now.mode in
+    let view = exists_is c.args.e.now c.in-ExistsFunc.steps c.in-ExistsFunc.is
+    ∙ ap (λ l. exists (steps_of (steps_view l))) (sym c.deref-in-ExistsFunc.ensures.value) in
+    subst (λ x. IsAnswer c.args.context.now top t all more c.begin_exists.new.self (truth mode x top t) c.begin_exists.result) (sym view)
+    (c.begin_exists.ensures.meant top t all more r s (subst (λ x. AreKept mode top c.args.self.now.cache all (x ∷ more)) view kept))
+
+pub returns-in-ExistsFunc-clause-fewer : goal.returns-in-ExistsFunc-clause-fewer
+returns-in-ExistsFunc-clause-fewer c =
+    let view = exists_is c.args.e.now c.in-ExistsFunc.steps c.in-ExistsFunc.is
+    ∙ ap (λ l. exists (steps_of (steps_view l))) (sym c.deref-in-ExistsFunc.ensures.value) in
+    subst (λ x. IfOk c.begin_exists.result (λ asked. asked_weight asked ≤ weight x)) (sym view) c.begin_exists.ensures.fewer

@@ -1,0 +1,34 @@
+use Rattle.std.proofs.Common.{Ok, ap, sym, ◌∙◌, subst, inl, inr}
+use Rattle.std.specs.List.{AllZip}
+use Rattle.jsonb_doc.specs.Answer.{try_flat_map, Refines, IsOutOfMemory}
+use Rattle.jsonb.specs.PathViews.{step_view}
+use Rattle.jsonb.specs.Meaning.{step_meaning}
+use Rattle.jsonb.specs.Private.Selection.{IsAt, node_spots}
+use Rattle.jsonb.proofs.PathNodes.{root_is, current_is}
+use Rattle.jsonb.proofs.Progress.{joined_singles}
+use Rattle.jsonb.proofs.RefinesLemmas.{same_outcome}
+use Rattle.jsonb.proofs.StepLemmas.{joined_one, only_one}
+use Rattle.jsonb.proofs.selector.steps.plain_found.Goals as goal
+
+pub returns-in-Root-clause-meant : goal.returns-in-Root-clause-meant
+returns-in-Root-clause-meant c = λ top ts plain a.
+    let mode = c.args.context.now.mode in
+    let filtered : Refines (λ found us. AllZip (IsAt c.args.context.now.document) (node_spots found) us) IsOutOfMemory (Ok c.args.items)
+    (Ok ts) = record { ok = a; err = tt } in
+    elim c.in-Root.is [
+      | inl is ↦ same_outcome (ap (λ x. try_flat_map (step_meaning mode x top) ts) (root_is c.args.step.now is) ∙ joined_singles ts) filtered
+      | inr is ↦ same_outcome (ap (λ x. try_flat_map (step_meaning mode x top) ts) (current_is c.args.step.now is) ∙ joined_singles ts) filtered
+    ]
+
+pub returns-in-One-clause-meant : goal.returns-in-One-clause-meant
+returns-in-One-clause-meant c = λ top ts plain a.
+    let f = step_meaning c.args.context.now.mode (step_view c.args.step.now) top in
+    let one = only_one (IsAt c.args.context.now.document) c.in-One.item ts (subst (λ x. AllZip (IsAt c.args.context.now.document) (node_spots x) ts)
+    c.in-One.is a) in
+    same_outcome (ap (try_flat_map f) one.1 ∙ joined_one f one.0) (c.plain_step.ensures.meant top one.0 plain one.2)
+
+pub returns-in-Many-clause-meant : goal.returns-in-Many-clause-meant
+returns-in-Many-clause-meant c = λ top ts plain a.
+    c.plain_steps.ensures.meant top ts plain
+    (subst (λ l. AllZip (IsAt c.args.context.now.document) l ts) (sym c.deref.ensures.value)
+    (subst (λ x. AllZip (IsAt c.args.context.now.document) (node_spots x) ts) c.in-Many.is a))

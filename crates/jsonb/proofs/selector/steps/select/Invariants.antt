@@ -1,0 +1,16 @@
+use Rattle.std.proofs.Common.{◌+◌, List, Ok}
+use Rattle.jsonb_doc.specs.Answer.{Outcome}
+use Rattle.jsonb_doc.specs.Tree.{Tree}
+use Rattle.jsonb.specs.Private.Asking.{IsOnward}
+use Rattle.jsonb.specs.Private.Running.{IsAtFilter}
+use Rattle.jsonb.specs.Private.Selection.{HasTree}
+use Rattle.jsonb.specs.Private.Weights.{progress_weight, around_weight}
+use Rattle.jsonb.proofs.selector.steps.select.Given as goal
+
+-- what runs, and what waits for it, have the outcome of the whole
+abbrev pub invariant-loop-progress : goal.invariant-loop-progress
+invariant-loop-progress l = (top : Tree) (whole : Outcome (List Tree)) → HasTree l.context.document top → IsAtFilter l.context top l.fn.first whole
+    → IsOnward l.context top l.around.items l.fn.first.running.repeats whole (Ok l.progress)
+
+abbrev pub decreases-loop-progress : goal.decreases-loop-progress
+decreases-loop-progress l = progress_weight l.progress + around_weight l.around.items
