@@ -144,13 +144,13 @@ static inline const char *jdoc_status_text(uint32_t status) {
     case JDOC_OUT_OF_ORDER:
         return "the event cannot come next";
     case JDOC_INVALID_JSONB:
-        return "the bytes are not a document";
+        return "the bytes are not a document (JSON text is not one)";
     case JDOC_UNSUPPORTED_NUMBER:
-        return "a float or a 256-bit decimal";
+        return "a float, or another number that is neither a 64-bit integer nor a 128-bit decimal";
     case JDOC_INVALID_JSON_PATH:
-        return "not a JSON path";
+        return "not a JSON path such as $.a[0]";
     case JDOC_INVALID_KEY_PATH:
-        return "not a key path";
+        return "not a key path such as {a,0}";
     case JDOC_INVALID_CAST:
         return "the value cannot be cast to this type";
     case JDOC_INVALID_OBJECT:
@@ -166,9 +166,9 @@ static inline const char *jdoc_status_text(uint32_t status) {
     case JDOC_OUT_OF_MEMORY:
         return "an allocation fails";
     case JDOC_STRICT_PATH:
-        return "a structural error of a strict path";
+        return "a step of the strict path does not apply: no such key, or a value of another type";
     case JDOC_PATH_FAILED:
-        return "the path has no value on this document";
+        return "the path cannot be evaluated: an operand is not one number, or a condition is neither a comparison nor exists(..)";
     case JDOC_OVERFLOW:
         return "arithmetic: below -2^63 or above 2^64 - 1";
     case JDOC_ZERO_DIVISOR:
@@ -176,7 +176,7 @@ static inline const char *jdoc_status_text(uint32_t status) {
     case JDOC_INEXACT:
         return "arithmetic: the quotient is not an integer";
     case JDOC_DECIMAL_OPERAND:
-        return "arithmetic: a decimal other than zero";
+        return "arithmetic: an operand is a decimal, not an integer";
     default:
         return "not a status";
     }

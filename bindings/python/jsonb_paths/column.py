@@ -20,7 +20,7 @@ exceptions are stored there by row, and the other rows have results:
 >>> damaged.match("$[0] == 1")
 Traceback (most recent call last):
     ...
-jsonb_paths.errors.InvalidJsonb: row 1: the bytes are not a document
+jsonb_paths.errors.InvalidJsonb: row 1: the bytes are not a document (JSON text is not one)
 >>> errors = {}
 >>> list(damaged.match("$[0] == 1", errors=errors)), list(errors)
 ([True, None, False, None], [1])
