@@ -121,6 +121,8 @@ class Column(Sequence[Optional[bytes]]):
         >>> Column.from_json(b'{"a":1}\\n[2]\\n')
         <Column: 2 rows, 25 bytes>
         """
+        if isinstance(texts, str):
+            raise TypeError("JSON lines are bytes, and JSON texts are several str, not one")
         if isinstance(texts, (bytes, bytearray, memoryview)):
             return cls._from_lines(texts, floats, duplicates, errors)
         rows: List[Optional[bytes]] = []
