@@ -125,7 +125,7 @@ class Aggregates(Case):
         self.assertEqual(self.one("jdoc_json(jdoc_object_agg(k, d)) FROM t WHERE g = 1"), '{"a":"x","b":1}')
         self.assertEqual(self.one("jdoc_json(jdoc_object_agg(k, d)) FROM t WHERE 0"), "{}")
         self.fails("jdoc_object_agg JDOC_OBJECT_DUPLICATE_KEY", "jdoc_object_agg(k, d) FROM t WHERE g = 2")
-        self.fails("jdoc_object_agg", "jdoc_object_agg(NULL, d) FROM t")
+        self.fails("jdoc_object_agg NULL", "jdoc_object_agg(NULL, d) FROM t")
 
     def test_errors(self):
         self.fails("jdoc_array_agg JDOC_INVALID_JSON", "jdoc_array_agg(k) FROM t")
