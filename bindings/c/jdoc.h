@@ -168,7 +168,7 @@ static inline const char *jdoc_status_text(uint32_t status) {
     case JDOC_STRICT_PATH:
         return "a step of the strict path does not apply: no such key, or a value of another type";
     case JDOC_PATH_FAILED:
-        return "the path cannot be evaluated: an operand is not one number, or a condition is neither a comparison nor exists(..)";
+        return "the path cannot be evaluated: an operand of arithmetic is not one number";
     case JDOC_OVERFLOW:
         return "arithmetic: below -2^63 or above 2^64 - 1";
     case JDOC_ZERO_DIVISOR:
@@ -302,7 +302,7 @@ JDOC_NODISCARD enum jdoc_status jdoc_select_array(const uint8_t *document, size_
                                                   size_t path_len, bool strict, uint8_t *out, size_t out_size,
                                                   size_t *out_len);
 
-/* *truth: whether a JSON path selects an item, 1 or 0. */
+/* *truth: whether a JSON path selects an item, 1 or 0. A predicate selects its result: for that call jdoc_match. */
 JDOC_NODISCARD enum jdoc_status jdoc_exists(const uint8_t *document, size_t document_len, const char *path,
                                             size_t path_len, bool strict, uint8_t *truth);
 

@@ -106,7 +106,11 @@ def _names(names: Iterable[str]) -> "Tuple[bytes, array[int]]":
     """A column of names. Half of a surrogate pair becomes bytes that are not UTF-8, which the library rejects (NotUtf8)."""
     if isinstance(names, str):
         raise TypeError("names are several str, not one")
-    return joined(it.encode("utf-8", "surrogatepass") for it in names)
+    rows = list(names)
+    for it in rows:
+        if not isinstance(it, str):
+            raise TypeError(f"a name is a str, not {type(it)}")
+    return joined(it.encode("utf-8", "surrogatepass") for it in rows)
 
 
 def kind(document: "Document") -> str:

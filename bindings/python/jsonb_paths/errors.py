@@ -91,7 +91,7 @@ class StrictPath(JsonbError, LookupError):
 
 
 class PathFailed(InvalidJsonPath):
-    status, meaning = 28, "the path cannot be evaluated: an operand is not one number, or a condition is neither a comparison nor exists(..)"
+    status, meaning = 28, "the path cannot be evaluated: an operand of arithmetic is not one number"
 
 
 class Overflow(JsonbError, OverflowError):
