@@ -11,10 +11,11 @@ static void fail_path(const char *text, const sql_path *path) {
     size_t at = 0;
     uint32_t status;
     RUN(status, jdoc_path_error_position(path->text, path->len, &at));
+    if (status != JDOC_OK && status != JDOC_NONE) fail(status);
     ereport(ERROR, (errcode(ERRCODE_SYNTAX_ERROR), errmsg("invalid input syntax for type %s: \"%s\"", "jdocpath", text),
-                    status != JDOC_OK ? errdetail("The path is empty. The root is $.")
-                                      : errdetail("Byte %zu: %s.", at + (size_t)(path->text - text),
-                                                  jdoc_status_text(JDOC_INVALID_JSON_PATH))));
+                    status == JDOC_NONE
+                        ? errdetail("The path is empty. The root is $.")
+                        : errdetail("Byte %zu: %s.", at + (size_t)(path->text - text), sql_path_fault(path, at))));
     pg_unreachable();
 }
 

@@ -33,10 +33,13 @@ static bool is_of_path(const fault *why) {
 
 void locate_fault(fault *why, const char *text, const sql_path *path) {
     size_t at = 0;
+    bool is_key = why->status == JDOC_INVALID_KEY_PATH;
     uint32_t status = JDOC_NONE;
+    if (is_key) status = jdoc_keypath_error_position(path->text, path->len, &at);
     if (why->status == JDOC_INVALID_JSON_PATH) status = jdoc_path_error_position(path->text, path->len, &at);
-    if (why->status == JDOC_INVALID_KEY_PATH) status = jdoc_keypath_error_position(path->text, path->len, &at);
-    if (status == JDOC_OK) *why = (fault){why->status, jdoc_status_text(why->status), at + (size_t)(path->text - text)};
+    if (status != JDOC_OK) return;
+    why->what = is_key ? jdoc_status_text(why->status) : sql_path_fault(path, at);
+    why->at = at + (size_t)(path->text - text);
 }
 
 void write_fault(const char *function, const fault *why, char *out, int size) {

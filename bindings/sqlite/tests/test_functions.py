@@ -16,6 +16,8 @@ ERRORS = [
     ("JDOC_UNSUPPORTED_NUMBER REAL text", "jdoc_type(1.5)"), ("JDOC_INVALID_KEY_PATH jdoc_get: byte 2 of the path", "jdoc_get(jdoc('{}'), '{a')"),
     ("JDOC_INVALID_JSON_PATH jdoc_match: byte 5 of the path", "jdoc_match(jdoc('{}'), '$.a >')"),
     ("JDOC_INVALID_JSON_PATH byte 13", "jdoc_match(jdoc('{}'), ' strict $.a >')"),
+    ("byte 7 integers", "jdoc_match(jdoc('{}'), '$.a > 0.5')"), ("byte 7 variables", "jdoc_match(jdoc('{}'), '$.a > $x')"),
+    ("byte 6 exists", "jdoc_first(jdoc('{}'), '$?(@.a) ')"), ("byte 12 such as", "jdoc_first(jdoc('{}'), '$?(@.a == 1))')"),
     ("JDOC_PATH_FAILED jdoc_first", "jdoc_first(jdoc('[1,2]'), '$[*] + 1')"),
     ("JDOC_STRICT_PATH", "jdoc_first(jdoc('{}'), 'strict $.a')"), ("JDOC_INVALID_JSONB", "jdoc_get(x'00', '{a}')"),
     ("JDOC_INVALID_JSONB", "jdoc(x'00')"), ("JDOC_INVALID_JSONB", "jdoc_value(x'2000000020000001')"),
