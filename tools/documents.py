@@ -3,6 +3,8 @@
 
     tools/documents.py '[false, 10, {"k":"v"}]'     prints the document in hexadecimal
     tools/documents.py --text 80000001200000025001  prints the JSON text of a canonical document
+    tools/documents.py -                            converts each line of standard input, such as for jsonb_lines
+    tools/documents.py --text -                     converts back each line that is hexadecimal; others, such as `none`, are unchanged
 
 It is written from docs/FORMAT.md alone and shares nothing with the crates. 64-bit integers and numbers
 with a point, such as 12.34, are read; numbers with an exponent are not. Extension values have no JSON text.
@@ -82,9 +84,13 @@ def encode(value):
     return word(HEADERS["scalar"]) + b"".join(entry(value))
 
 
+def no_number(word):
+    raise ValueError(f"{word} is not JSON")
+
+
 def read(text):
     """The value of a JSON text."""
-    return json.loads(text, parse_float=Decimal)
+    return json.loads(text, parse_float=Decimal, parse_constant=no_number)
 
 
 def hexadecimal(text):
@@ -146,14 +152,33 @@ def written(value):
     return json.dumps(value, ensure_ascii=False)
 
 
+def json_text(digits):
+    """The JSON text of a document in hexadecimal."""
+    document = bytes.fromhex(digits)
+    try:
+        return written(decode(document))
+    except (struct.error, LookupError) as fault:
+        raise ValueError(f"not a document: {digits}") from fault
+
+
+def json_text_of_line(line):
+    try:
+        bytes.fromhex(line)
+    except ValueError:
+        return line
+    return json_text(line)
+
+
 def main(arguments):
-    if len(arguments) == 2 and arguments[0] == "--text":
-        print(written(decode(bytes.fromhex(arguments[1]))))
-    elif len(arguments) == 1 and not arguments[0].startswith("--"):
-        print(hexadecimal(arguments[0]))
-    else:
+    is_back, words = arguments[:1] == ["--text"], arguments[arguments[:1] == ["--text"]:]
+    if len(words) != 1 or words[0].startswith("--"):
         print(__doc__, end="")
         return 2
+    if words == ["-"]:
+        for line in sys.stdin:
+            print((json_text_of_line if is_back else hexadecimal)(line.rstrip("\n")))
+    else:
+        print((json_text if is_back else hexadecimal)(words[0]))
     return 0
 
 
@@ -162,3 +187,5 @@ if __name__ == "__main__":
         sys.exit(main(sys.argv[1:]))
     except ValueError as refused:
         sys.exit(f"documents.py: {refused}")
+    except RecursionError:
+        sys.exit("documents.py: the value is nested too deeply for this script")

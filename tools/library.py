@@ -10,6 +10,7 @@ of the sources, which are src, specs and proofs of jsonb_c and of the crates bel
 """
 import hashlib
 import os
+import shutil
 import subprocess
 import sys
 from pathlib import Path
@@ -51,6 +52,8 @@ def note(library, sum_of_sources):
 
 
 def build(top):
+    if not shutil.which("rt"):
+        sys.exit("library: the toolchain's `rt` is not on the PATH; README.md, \"Without the toolchain\", says what needs none")
     before = sources(top)
     subprocess.run(["rt", "lib", "--jobs", "1"], cwd=top / "crates" / CRATE, check=True)
     if sources(top) != before:

@@ -144,13 +144,13 @@ static inline const char *jdoc_status_text(uint32_t status) {
     case JDOC_OUT_OF_ORDER:
         return "the event cannot come next";
     case JDOC_INVALID_JSONB:
-        return "the bytes are not a document";
+        return "the bytes are not a document (JSON text is not one)";
     case JDOC_UNSUPPORTED_NUMBER:
-        return "a float or a 256-bit decimal";
+        return "a float, or another number that is neither a 64-bit integer nor a 128-bit decimal";
     case JDOC_INVALID_JSON_PATH:
-        return "not a JSON path";
+        return "not a JSON path such as $.a[0]";
     case JDOC_INVALID_KEY_PATH:
-        return "not a key path";
+        return "not a key path such as {a,0}";
     case JDOC_INVALID_CAST:
         return "the value cannot be cast to this type";
     case JDOC_INVALID_OBJECT:
@@ -166,9 +166,9 @@ static inline const char *jdoc_status_text(uint32_t status) {
     case JDOC_OUT_OF_MEMORY:
         return "an allocation fails";
     case JDOC_STRICT_PATH:
-        return "a structural error of a strict path";
+        return "a step of the strict path does not apply: no such key, or a value of another type";
     case JDOC_PATH_FAILED:
-        return "the path has no value on this document";
+        return "the path cannot be evaluated: an operand of arithmetic is not one number";
     case JDOC_OVERFLOW:
         return "arithmetic: below -2^63 or above 2^64 - 1";
     case JDOC_ZERO_DIVISOR:
@@ -176,7 +176,7 @@ static inline const char *jdoc_status_text(uint32_t status) {
     case JDOC_INEXACT:
         return "arithmetic: the quotient is not an integer";
     case JDOC_DECIMAL_OPERAND:
-        return "arithmetic: a decimal other than zero";
+        return "arithmetic: an operand is a decimal, not an integer";
     default:
         return "not a status";
     }
@@ -302,7 +302,7 @@ JDOC_NODISCARD enum jdoc_status jdoc_select_array(const uint8_t *document, size_
                                                   size_t path_len, bool strict, uint8_t *out, size_t out_size,
                                                   size_t *out_len);
 
-/* *truth: whether a JSON path selects an item, 1 or 0. */
+/* *truth: whether a JSON path selects an item, 1 or 0. A predicate selects its result: for that call jdoc_match. */
 JDOC_NODISCARD enum jdoc_status jdoc_exists(const uint8_t *document, size_t document_len, const char *path,
                                             size_t path_len, bool strict, uint8_t *truth);
 

@@ -33,12 +33,17 @@ CREATE FUNCTION jdoc(jsonb) RETURNS jdoc
     AS 'MODULE_PATHNAME', 'jdoc_sql_from_jsonb' LANGUAGE C IMMUTABLE STRICT PARALLEL SAFE;
 CREATE FUNCTION jdoc_to_jsonb(jdoc) RETURNS jsonb
     AS 'MODULE_PATHNAME', 'jdoc_sql_to_jsonb' LANGUAGE C IMMUTABLE STRICT PARALLEL SAFE;
+CREATE FUNCTION jdoc_to_json(jdoc) RETURNS json
+    AS 'MODULE_PATHNAME', 'jdoc_sql_to_json' LANGUAGE C IMMUTABLE STRICT PARALLEL SAFE;
 CREATE FUNCTION jdoc_to_int8(jdoc) RETURNS int8
     AS 'MODULE_PATHNAME', 'jdoc_sql_to_int8' LANGUAGE C IMMUTABLE STRICT PARALLEL SAFE;
 CREATE CAST (bytea AS jdoc) WITH FUNCTION jdoc(bytea);
 CREATE CAST (jdoc AS bytea) WITHOUT FUNCTION;
 CREATE CAST (jsonb AS jdoc) WITH FUNCTION jdoc(jsonb) AS ASSIGNMENT;
 CREATE CAST (jdoc AS jsonb) WITH FUNCTION jdoc_to_jsonb(jdoc) AS ASSIGNMENT;
+-- By the cast to json, to_jsonb, jsonb_agg, row_to_json and others have the value, not a string of its text.
+CREATE CAST (json AS jdoc) WITH INOUT AS ASSIGNMENT;
+CREATE CAST (jdoc AS json) WITH FUNCTION jdoc_to_json(jdoc) AS ASSIGNMENT;
 CREATE CAST (jdoc AS int8) WITH FUNCTION jdoc_to_int8(jdoc);
 
 -- CHILDREN AND EDITS

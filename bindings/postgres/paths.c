@@ -5,6 +5,20 @@
 
 #include <string.h>
 
+/* Raise the error of text that is not a path, with its position. */
+static void fail_path(const char *text, const sql_path *path) pg_attribute_noreturn();
+static void fail_path(const char *text, const sql_path *path) {
+    size_t at = 0;
+    uint32_t status;
+    RUN(status, jdoc_path_error_position(path->text, path->len, &at));
+    if (status != JDOC_OK && status != JDOC_NONE) fail(status);
+    ereport(ERROR, (errcode(ERRCODE_SYNTAX_ERROR), errmsg("invalid input syntax for type %s: \"%s\"", "jdocpath", text),
+                    status == JDOC_NONE
+                        ? errdetail("The path is empty. The root is $.")
+                        : errdetail("Byte %zu: %s.", at + (size_t)(path->text - text), sql_path_fault(path, at))));
+    pg_unreachable();
+}
+
 /* A jdocpath is its text. It is parsed on input, so that an invalid path is a syntax error of the query. */
 PG_FUNCTION_INFO_V1(jdocpath_in);
 Datum jdocpath_in(PG_FUNCTION_ARGS) {
@@ -14,9 +28,7 @@ Datum jdocpath_in(PG_FUNCTION_ARGS) {
     uint32_t status = JDOC_INVALID_JSON_PATH; /* the empty path selects the root, and is more likely a mistake */
     if (it.len != 0) RUN_KEPT(status, jdoc_path_read(it.text, it.len, &path));
     jdoc_path_free(&path);
-    if (status == JDOC_INVALID_JSON_PATH)
-        ereport(ERROR,
-                (errcode(ERRCODE_SYNTAX_ERROR), errmsg("invalid input syntax for type %s: \"%s\"", "jdocpath", text)));
+    if (status == JDOC_INVALID_JSON_PATH) fail_path(text, &it);
     if (status != JDOC_OK) fail(status);
     PG_RETURN_TEXT_P(cstring_to_text(text));
 }

@@ -106,6 +106,15 @@ Datum jdoc_sql_out(PG_FUNCTION_ARGS) {
     PG_RETURN_CSTRING(text);
 }
 
+PG_FUNCTION_INFO_V1(jdoc_sql_to_json);
+Datum jdoc_sql_to_json(PG_FUNCTION_ARGS) {
+    size_t len;
+    const bytea *it = PG_GETARG_BYTEA_PP(0);
+    char *text = text_of_document(BYTES(it), &len);
+    if (len > MaxAllocSize - VARHDRSZ) fail(JDOC_TOO_LARGE);
+    PG_RETURN_TEXT_P(cstring_to_text_with_len(text, (int)len));
+}
+
 /* BYTES */
 
 static void check(const bytea *document) {

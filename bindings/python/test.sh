@@ -66,6 +66,7 @@ for file in "$room"/out/dist/*; do
 done
 cp -r "$room/out/tree" "$room/bare" && rm -rf "$room/bare/lib" "$room/bare/build"
 count "no library, no package" fails_with "libjdoc.a is not here" env -u JDOC_LIBRARY_DIR -C "$room/bare" "$python" setup.py -q bdist_wheel
+count "a module that is not built" fails_with "make. in bindings/python" env -C "$room/bare" "$python" -c "import jsonb_paths"
 
 # A fresh virtual environment without network.
 count "a virtual environment" "$python" -m venv "$room/venv"

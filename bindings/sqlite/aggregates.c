@@ -68,7 +68,7 @@ static void object_step(sqlite3_context *to, int count, sqlite3_value **values) 
     if (it->why.status != JDOC_OK) return;
     const void *name = sqlite3_value_text(values[0]);
     if (sqlite3_value_type(values[0]) == SQLITE_NULL)
-        it->why = (fault){JDOC_NOT_UTF8, NULL, 0};
+        it->why = (fault){JDOC_NOT_UTF8, "a name is NULL", NOWHERE};
     else if (!name || !push(&it->names, name, (size_t)sqlite3_value_bytes(values[0])))
         it->why.status = JDOC_OUT_OF_MEMORY;
     else

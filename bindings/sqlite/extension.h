@@ -25,12 +25,14 @@ typedef struct connection {
     int uses;         /* functions that hold it */
 } connection;
 
-/* Why there is no result: a status, and for JSON text the position and a sentence. */
+/* Why there is no result: a status, a sentence in place of that of the status, or NULL, and the position in JSON text or
+ * a path, or NOWHERE. */
 typedef struct fault {
     uint32_t status;
     const char *what;
     size_t at;
 } fault;
+#define NOWHERE SIZE_MAX
 
 /* A document that was built from an argument. */
 typedef struct made {
@@ -53,6 +55,9 @@ bool reserve(connection *own, size_t size);
 /* Read a value as a document: BLOB as it is, TEXT as JSON text, an integer as a number. The caller frees it->own by
  * sqlite3_free. False: *why is the reason; JDOC_NONE is NULL. */
 bool document_of_value(connection *own, sqlite3_value *value, document *it, fault *why);
+
+/* Add the position in a path's text, if it is why the text does not parse. */
+void locate_fault(fault *why, const char *text, const sql_path *path);
 
 /* Write a fault as a message of at most `size` bytes. */
 void write_fault(const char *function, const fault *why, char *out, int size);

@@ -113,9 +113,10 @@ static bool take_path(sqlite3_context *to, sqlite3_value *value, bool is_key, ar
     if (!it->path) return false; /* *why is JDOC_OUT_OF_MEMORY */
     memset(it->path, 0, sizeof *it->path);
     it->is_path_new = true;
-    sql_path of = sql_path_of(text, len);
+    sql_path of = is_key ? (sql_path){text, len, false} : sql_path_of(text, len);
     it->path->strict = of.strict;
     why->status = is_key ? jdoc_keypath_read(text, len, &it->path->key) : jdoc_path_read(of.text, of.len, &it->path->json);
+    locate_fault(why, text, &of);
     return why->status == JDOC_OK;
 }
 

@@ -137,18 +137,20 @@ static int next(sqlite3_vtab_cursor *base) {
 }
 
 /* Parse the path, unless it is that of the last call. A join calls once per document. */
-static enum jdoc_status read_path(cursor *it, const char *text, size_t len) {
-    if (it->path_text && it->path_len == len && memcmp(it->path_text, text, len) == 0) return JDOC_OK;
+static bool read_path(cursor *it, const char *text, size_t len, fault *why) {
+    if (it->path_text && it->path_len == len && memcmp(it->path_text, text, len) == 0) return true;
     sqlite3_free(it->path_text);
     it->path_text = sqlite3_malloc64(len + 1);
-    if (!it->path_text) return JDOC_OUT_OF_MEMORY;
+    why->status = it->path_text ? JDOC_OK : JDOC_OUT_OF_MEMORY;
+    if (!it->path_text) return false;
     memcpy(it->path_text, text, len);
     it->path_len = len;
     sql_path of = sql_path_of(text, len);
     it->strict = of.strict;
-    enum jdoc_status status = jdoc_path_read(of.text, of.len, &it->path);
-    if (status != JDOC_OK) sqlite3_free(it->path_text), it->path_text = NULL;
-    return status;
+    why->status = jdoc_path_read(of.text, of.len, &it->path);
+    locate_fault(why, text, &of);
+    if (why->status != JDOC_OK) sqlite3_free(it->path_text), it->path_text = NULL;
+    return why->status == JDOC_OK;
 }
 
 /* Read the document, and keep it for the rows. A BLOB is copied, since it is SQLite's after the call. */
@@ -178,8 +180,7 @@ static int filter(sqlite3_vtab_cursor *base, int is_given, const char *text, int
     if (sqlite3_value_type(argv[0]) == SQLITE_NULL || sqlite3_value_type(argv[1]) == SQLITE_NULL) return SQLITE_OK;
     const char *path = (const char *)sqlite3_value_text(argv[1]);
     if (!path) return SQLITE_NOMEM;
-    why.status = read_path(it, path, (size_t)sqlite3_value_bytes(argv[1]));
-    if (why.status == JDOC_OK && read_document(it, argv[0], &why))
+    if (read_path(it, path, (size_t)sqlite3_value_bytes(argv[1]), &why) && read_document(it, argv[0], &why))
         why.status = jdoc_path_items(&it->path, it->document->bytes, it->document->len, it->strict, &it->items);
     return why.status == JDOC_OK ? next(base) : fail(it, &why);
 }

@@ -27,15 +27,31 @@ static bool fail(fault *why, uint32_t status, const char *what, size_t at) {
     return false;
 }
 
+static bool is_of_path(const fault *why) {
+    return why->status == JDOC_INVALID_JSON_PATH || why->status == JDOC_INVALID_KEY_PATH;
+}
+
+void locate_fault(fault *why, const char *text, const sql_path *path) {
+    size_t at = 0;
+    bool is_key = why->status == JDOC_INVALID_KEY_PATH;
+    uint32_t status = JDOC_NONE;
+    if (is_key) status = jdoc_keypath_error_position(path->text, path->len, &at);
+    if (why->status == JDOC_INVALID_JSON_PATH) status = jdoc_path_error_position(path->text, path->len, &at);
+    if (status != JDOC_OK) return;
+    why->what = is_key ? jdoc_status_text(why->status) : sql_path_fault(path, at);
+    why->at = at + (size_t)(path->text - text);
+}
+
 void write_fault(const char *function, const fault *why, char *out, int size) {
     char name[40] = "JDOC_INVALID_JSON";
     size_t len = strlen(name);
+    const char *what = why->what ? why->what : jdoc_status_text(why->status);
     if (why->status != JDOC_INVALID_JSON) jdoc_status_name(why->status, name, sizeof name, &len);
-    if (why->what)
-        sqlite3_snprintf(size, out, "%s: byte %lld of the JSON text: %s (%.*s)", function, (sqlite3_int64)why->at,
-                         why->what, (int)len, name);
+    if (why->what && why->at != NOWHERE)
+        sqlite3_snprintf(size, out, "%s: byte %lld of the %s: %s (%.*s)", function, (sqlite3_int64)why->at,
+                         is_of_path(why) ? "path" : "JSON text", what, (int)len, name);
     else
-        sqlite3_snprintf(size, out, "%s: %s (%.*s)", function, jdoc_status_text(why->status), (int)len, name);
+        sqlite3_snprintf(size, out, "%s: %s (%.*s)", function, what, (int)len, name);
 }
 
 void return_fault(sqlite3_context *to, const char *function, const fault *why) {
@@ -90,7 +106,7 @@ bool document_of_value(connection *own, sqlite3_value *value, document *it, faul
     case SQLITE_INTEGER:
         return document_of_integer(sqlite3_value_int64(value), it, why);
     case SQLITE_FLOAT:
-        return fail(why, JDOC_UNSUPPORTED_NUMBER, NULL, 0);
+        return fail(why, JDOC_UNSUPPORTED_NUMBER, "a REAL is not exact: pass its text, such as '1.5'", NOWHERE);
     default:
         return fail(why, JDOC_NONE, NULL, 0);
     }

@@ -27,6 +27,10 @@ SELECT '5'::jsonb::jdoc, '"x"'::jdoc::jsonb, 'null'::jdoc::jsonb, '[]'::jdoc::js
 SELECT '1e300'::jsonb::jdoc;
 SELECT ('{"n":' || repeat('[', 3000) || repeat(']', 3000) || '}')::jdoc::jsonb::jdoc::text = ('{"n": ' || repeat('[', 3000) || repeat(']', 3000) || '}');
 SELECT '42'::jdoc::int8, '"7"'::jdoc::int8;
+-- json, and functions that use the cast to it
+SELECT '{"b":[1,2.50],"a":"x"}'::json::jdoc, '{"b":[1,2.50],"a":"x"}'::jdoc::json, '"x"'::text::jdoc;
+SELECT to_jsonb(d), jsonb_agg(d), row_to_json(r) FROM (SELECT '{"a":["x",1]}'::jdoc AS d) AS r GROUP BY d, r;
+SELECT jsonb_build_object('price', 9.50)::jdoc, ('{"price":9.50}'::jdoc ->> 'price')::numeric;
 -- toasted
 CREATE TABLE big (d jdoc);
 INSERT INTO big SELECT ('{"a":[' || string_agg(it::text, ',') || '],"z":"end"}')::jdoc FROM generate_series(1, 30000) AS it;

@@ -10,6 +10,10 @@
 Calls on one document are in `documents`, on many in `column`, exceptions in `errors`, files of columns in `shards`.
 """
 
+try:
+    from ._core import LIBRARY_VERSION as _LIBRARY_VERSION
+except ModuleNotFoundError as _fault:
+    raise ImportError("jsonb_paths._core is not built: `make` in bindings/python builds it") from _fault
 from ._version import __version__
 from .column import Booleans, Column, Numbers, Results
 from .documents import (

@@ -41,7 +41,7 @@ HELP = {
     "select": "each item that a JSON path selects",
     "filter": "each document for which a JSON path that is a predicate is true",
     "get": "the item at a key path such as {a,0}",
-    "exists": "whether a JSON path selects an item",
+    "exists": "whether a JSON path selects an item, as each predicate does",
     "match": "the value of a JSON path that is a predicate: true, false, or null for unknown",
     "delete": "each document without the item at a key path",
     "set": "each document with a value at a key path of names; missing objects are created",

@@ -20,7 +20,7 @@ exceptions are stored there by row, and the other rows have results:
 >>> damaged.match("$[0] == 1")
 Traceback (most recent call last):
     ...
-jsonb_paths.errors.InvalidJsonb: row 1: the bytes are not a document
+jsonb_paths.errors.InvalidJsonb: row 1: the bytes are not a document (JSON text is not one)
 >>> errors = {}
 >>> list(damaged.match("$[0] == 1", errors=errors)), list(errors)
 ([True, None, False, None], [1])
@@ -121,6 +121,8 @@ class Column(Sequence[Optional[bytes]]):
         >>> Column.from_json(b'{"a":1}\\n[2]\\n')
         <Column: 2 rows, 25 bytes>
         """
+        if isinstance(texts, str):
+            raise TypeError("JSON lines are bytes, and JSON texts are several str, not one")
         if isinstance(texts, (bytes, bytearray, memoryview)):
             return cls._from_lines(texts, floats, duplicates, errors)
         rows: List[Optional[bytes]] = []
@@ -282,7 +284,7 @@ class Column(Sequence[Optional[bytes]]):
 
     def get(self, path: "Union[str, KeyPath]", *, errors: Errors = None) -> "Results":
         """Returns for each row the item at a key path, or None."""
-        return self._results(*_core.column_get(self.data, self.offsets, self.validity, str(path)), errors)
+        return self._results(*_core.column_get(self.data, self.offsets, self.validity, _key_path(path)), errors)
 
     def select_first(self, path: "Union[str, Path]", *, strict: bool = False, errors: Errors = None) -> "Results":
         """Returns for each row the first item that a JSON path selects, or None."""
@@ -298,7 +300,7 @@ class Column(Sequence[Optional[bytes]]):
 
     def delete(self, path: "Union[str, KeyPath]", *, errors: Errors = None) -> "Results":
         """Returns each row without the item at a key path."""
-        return self._results(*_core.column_delete(self.data, self.offsets, self.validity, str(path)), errors)
+        return self._results(*_core.column_delete(self.data, self.offsets, self.validity, _key_path(path)), errors)
 
     def sort_keys(self, *, wide: bool = False, errors: Errors = None) -> "Results":
         """Returns the sortable key of each row."""
@@ -474,7 +476,17 @@ def _numbers(data: bytes, statuses: bytes) -> Numbers:
 
 
 def _path(path: "Union[str, Path]", strict: bool) -> Tuple[str, bool]:
-    return (path, strict) if isinstance(path, str) else (path.text, strict or path.strict)
+    if isinstance(path, _core.Path):
+        return path.text, strict or path.strict
+    if not isinstance(path, str):
+        raise TypeError(f"a JSON path is a str or a Path, not {type(path)}")
+    return path, strict
+
+
+def _key_path(path: "Union[str, KeyPath]") -> str:
+    if not isinstance(path, (str, _core.KeyPath)):
+        raise TypeError(f"a key path is a str or a KeyPath, not {type(path)}")
+    return str(path)
 
 
 def _report(faults: Dict[int, JsonbError], errors: Errors) -> None:

@@ -91,15 +91,26 @@ __all__ = [
 
 def joined(rows: "Iterable[Document]") -> "Tuple[bytes, array[int]]":
     """The rows in one buffer, and their offsets."""
-    parts = [it if type(it) is bytes else bytes(memoryview(it)) for it in rows]
+    parts = [it if type(it) is bytes else _bytes_of(it) for it in rows]
     return b"".join(parts), array("q", accumulate(map(len, parts), initial=0))
+
+
+def _bytes_of(row: "Document") -> bytes:
+    try:
+        return bytes(memoryview(row))
+    except TypeError:
+        raise TypeError(f"a document (from_json and dumps return one) is bytes or another buffer, not {type(row)}") from None
 
 
 def _names(names: Iterable[str]) -> "Tuple[bytes, array[int]]":
     """A column of names. Half of a surrogate pair becomes bytes that are not UTF-8, which the library rejects (NotUtf8)."""
     if isinstance(names, str):
         raise TypeError("names are several str, not one")
-    return joined(it.encode("utf-8", "surrogatepass") for it in names)
+    rows = list(names)
+    for it in rows:
+        if not isinstance(it, str):
+            raise TypeError(f"a name is a str, not {type(it)}")
+    return joined(it.encode("utf-8", "surrogatepass") for it in rows)
 
 
 def kind(document: "Document") -> str:

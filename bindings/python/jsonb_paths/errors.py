@@ -4,7 +4,7 @@
 >>> select(b"", "$.a[")
 Traceback (most recent call last):
     ...
-jsonb_paths.errors.InvalidJsonPath: byte 3: not a JSON path: '$.a['
+jsonb_paths.errors.InvalidJsonPath: byte 3: not a JSON path such as $.a[0]: '$.a['
 """
 
 from __future__ import annotations
@@ -40,7 +40,7 @@ class NotUtf8(JsonbError, ValueError):
 
 
 class InvalidJsonb(JsonbError, ValueError):
-    status, meaning = 16, "the bytes are not a document"
+    status, meaning = 16, "the bytes are not a document (JSON text is not one)"
 
 
 class UnsupportedNumber(JsonbError, ValueError):
@@ -48,11 +48,11 @@ class UnsupportedNumber(JsonbError, ValueError):
 
 
 class InvalidJsonPath(JsonbError, ValueError):
-    status, meaning = 18, "not a JSON path"
+    status, meaning = 18, "not a JSON path such as $.a[0]"
 
 
 class InvalidKeyPath(JsonbError, ValueError):
-    status, meaning = 19, "not a key path"
+    status, meaning = 19, "not a key path such as {a,0}"
 
 
 class InvalidCast(JsonbError, ValueError):
@@ -87,11 +87,11 @@ class OutOfMemory(JsonbError, MemoryError):
 
 
 class StrictPath(JsonbError, LookupError):
-    status, meaning = 27, "a structural error of a strict path"
+    status, meaning = 27, "a step of the strict path does not apply: no such key, or a value of another type"
 
 
 class PathFailed(InvalidJsonPath):
-    status, meaning = 28, "the path has no value on this document"
+    status, meaning = 28, "the path cannot be evaluated: an operand of arithmetic is not one number"
 
 
 class Overflow(JsonbError, OverflowError):
@@ -107,7 +107,7 @@ class Inexact(JsonbError, ArithmeticError):
 
 
 class DecimalOperand(JsonbError, ArithmeticError):
-    status, meaning = 51, "arithmetic: a decimal other than zero"
+    status, meaning = 51, "arithmetic: an operand is a decimal, not an integer"
 
 
 BY_STATUS: Dict[int, Type[JsonbError]] = {

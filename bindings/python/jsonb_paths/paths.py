@@ -7,7 +7,7 @@
 >>> KeyPath("{a")
 Traceback (most recent call last):
     ...
-jsonb_paths.errors.InvalidKeyPath: byte 2: not a key path: '{a'
+jsonb_paths.errors.InvalidKeyPath: byte 2: not a key path such as {a,0}: '{a'
 """
 
 from __future__ import annotations

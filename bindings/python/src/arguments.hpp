@@ -19,7 +19,7 @@ struct Memory {
     ~Memory() {
         if (held) PyBuffer_Release(&view);
     }
-    bool take(PyObject *it, const char *what = "a document") {
+    bool take(PyObject *it, const char *what = "a document (from_json and dumps return one)") {
         if (PyBytes_CheckExact(it)) {
             at = reinterpret_cast<const uint8_t *>(PyBytes_AsString(it)), length = size_t(PyBytes_Size(it));
             return true;
@@ -51,7 +51,7 @@ struct Text {
     Ref encoded;
 
     bool take(PyObject *it) {
-        if (!PyUnicode_Check(it)) return PyErr_Format(PyExc_TypeError, "a text is a str, not %R", Py_TYPE(it)), false;
+        if (!PyUnicode_Check(it)) return PyErr_Format(PyExc_TypeError, "a path or a name is a str, not %R", Py_TYPE(it)), false;
         Py_ssize_t size;
         at = PyUnicode_AsUTF8AndSize(it, &size);
         if (!at && PyErr_ExceptionMatches(PyExc_UnicodeEncodeError)) return take_surrogates(it);
@@ -158,11 +158,17 @@ struct Names : Documents {
 // The value of a word, as strict=True, which may be left out. `expected` is the word that the call has.
 inline bool take_word(Flag &flag, PyObject *name, const char *expected, PyObject *value) {
     if (PyUnicode_CompareWithASCIIString(name, expected))
-        return PyErr_Format(PyExc_TypeError, "the word here is %s, not %R", expected, name), false;
+        return PyErr_Format(PyExc_TypeError, "the only keyword argument is %s, not %R", expected, name), false;
     return flag.take(value);
 }
 
 inline bool wrong_count(Py_ssize_t expected, Py_ssize_t given) {
-    PyErr_Format(PyExc_TypeError, "%zd arguments are expected, %zd were given", expected, given);
+    PyErr_Format(PyExc_TypeError, "%zd positional arguments are expected, not %zd", expected, given);
+    return false;
+}
+
+// `known` is the only word that the call has, or empty.
+inline bool wrong_names(const char *known) {
+    PyErr_Format(PyExc_TypeError, *known ? "the only keyword argument is %s" : "there are no keyword arguments%s", known);
     return false;
 }

@@ -12,7 +12,8 @@ PyObject *one(PyObject *module, PyObject *const *arguments, Py_ssize_t count, Py
     constexpr bool has_flag = (is_flag<Kinds> || ...);
     std::tuple<Kinds...> taken;
     Py_ssize_t named = names ? PyTuple_Size(names) : 0, next = 0;
-    if (count != expected || named > has_flag) return wrong_count(expected, count + named), nullptr;
+    if (count != expected) return wrong_count(expected, count), nullptr;
+    if (named > has_flag) return wrong_names(WORD), nullptr;
     auto take = [&](auto &it) {
         if constexpr (is_flag<std::decay_t<decltype(it)>>)
             return !named || take_word(it, PyTuple_GetItem(names, 0), WORD, arguments[count]);

@@ -56,7 +56,8 @@ inline PyObject *select_items(PyObject *module, PyObject *const *arguments, Py_s
     Text path;
     Flag strict;
     Py_ssize_t named = names ? PyTuple_Size(names) : 0;
-    if (count != 2 || named > 1) return wrong_count(2, count + named), nullptr;
+    if (count != 2) return wrong_count(2, count), nullptr;
+    if (named > 1) return wrong_names("strict"), nullptr;
     if (!document.take(arguments[0]) || !path.take(arguments[1])) return nullptr;
     if (named && !take_word(strict, PyTuple_GetItem(names, 0), "strict", arguments[2])) return nullptr;
     return selected(state_of(module), arguments + 1, [&](uint8_t *out, size_t size, size_t *length) {

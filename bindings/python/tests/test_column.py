@@ -200,6 +200,9 @@ class Memory(unittest.TestCase):
         for wrong in ([5], [10**9], [10**13], ["text"], 5):
             with self.assertRaises(TypeError):
                 Column(wrong)
+        for call in (lambda: Column.from_json('{"a":1}'), lambda: Column().get(Path("$")), lambda: Column().match(3), lambda: Column().match(jsonb_paths.KeyPath("{}"))):
+            with self.assertRaises(TypeError):
+                call()
 
     def test_numpy(self):
         try:

@@ -106,8 +106,14 @@ class Arguments(unittest.TestCase):
             with self.assertRaises(TypeError):
                 call()
         for names in ([3], ["a", None], "ab", 5):
-            with self.assertRaises((TypeError, AttributeError)):
+            with self.assertRaises(TypeError):
                 jsonb_paths.exists_any_keys(self.DOCUMENT, names)
+        for call, words in [
+            (lambda: jsonb_paths.get(self.DOCUMENT, path="{a}"), "2 positional arguments"), (lambda: jsonb_paths.get(self.DOCUMENT, "{a}", strict=True), "no keyword"),
+            (lambda: jsonb_paths.select(self.DOCUMENT, "$", strict=True, x=1), "strict"), (lambda: jsonb_paths.get("{}", "{a}"), "from_json"),
+        ]:
+            with self.assertRaisesRegex(TypeError, words):
+                call()
 
     def test_positions_that_do_not_fit_are_errors(self):
         for call, number in ((jsonb_paths.delete_by_index, 2**31), (jsonb_paths.get_by_index, -1), (jsonb_paths.get_by_index, 2**64)):

@@ -13,8 +13,11 @@ TEXTS = [
 ERRORS = [
     ("JDOC_INVALID_JSON byte 1", "jdoc('{')"), ("JDOC_INVALID_JSON", "jdoc('')"), ("JDOC_INVALID_JSON byte 2", "jdoc('1 2')"),
     ("JDOC_OBJECT_DUPLICATE_KEY", """jdoc('{"a":1,"a":2}')"""), ("JDOC_UNSUPPORTED_NUMBER", "jdoc('1e300')"),
-    ("JDOC_UNSUPPORTED_NUMBER", "jdoc_type(1.5)"), ("JDOC_INVALID_KEY_PATH jdoc_get", "jdoc_get(jdoc('{}'), '{a')"),
-    ("JDOC_INVALID_JSON_PATH jdoc_match", "jdoc_match(jdoc('{}'), '$.a >')"),
+    ("JDOC_UNSUPPORTED_NUMBER REAL text", "jdoc_type(1.5)"), ("JDOC_INVALID_KEY_PATH jdoc_get: byte 2 of the path", "jdoc_get(jdoc('{}'), '{a')"),
+    ("JDOC_INVALID_JSON_PATH jdoc_match: byte 5 of the path", "jdoc_match(jdoc('{}'), '$.a >')"),
+    ("JDOC_INVALID_JSON_PATH byte 13", "jdoc_match(jdoc('{}'), ' strict $.a >')"),
+    ("byte 7 integers", "jdoc_match(jdoc('{}'), '$.a > 0.5')"), ("byte 7 variables", "jdoc_match(jdoc('{}'), '$.a > $x')"),
+    ("byte 6 exists", "jdoc_first(jdoc('{}'), '$?(@.a) ')"), ("byte 12 such as", "jdoc_first(jdoc('{}'), '$?(@.a == 1))')"),
     ("JDOC_PATH_FAILED jdoc_first", "jdoc_first(jdoc('[1,2]'), '$[*] + 1')"),
     ("JDOC_STRICT_PATH", "jdoc_first(jdoc('{}'), 'strict $.a')"), ("JDOC_INVALID_JSONB", "jdoc_get(x'00', '{a}')"),
     ("JDOC_INVALID_JSONB", "jdoc(x'00')"), ("JDOC_INVALID_JSONB", "jdoc_value(x'2000000020000001')"),
@@ -124,7 +127,7 @@ class Aggregates(Case):
         self.assertEqual(self.one("jdoc_json(jdoc_object_agg(k, d)) FROM t WHERE g = 1"), '{"a":"x","b":1}')
         self.assertEqual(self.one("jdoc_json(jdoc_object_agg(k, d)) FROM t WHERE 0"), "{}")
         self.fails("jdoc_object_agg JDOC_OBJECT_DUPLICATE_KEY", "jdoc_object_agg(k, d) FROM t WHERE g = 2")
-        self.fails("jdoc_object_agg", "jdoc_object_agg(NULL, d) FROM t")
+        self.fails("jdoc_object_agg NULL", "jdoc_object_agg(NULL, d) FROM t")
 
     def test_errors(self):
         self.fails("jdoc_array_agg JDOC_INVALID_JSON", "jdoc_array_agg(k) FROM t")
@@ -175,7 +178,7 @@ class Rows(Case):
 
     def test_errors(self):
         self.fails("jdoc_rows document path", "* FROM jdoc_rows")
-        self.fails("jdoc_rows JDOC_INVALID_JSON_PATH", "* FROM jdoc_rows('1', '$.')")
+        self.fails("jdoc_rows JDOC_INVALID_JSON_PATH byte 1", "* FROM jdoc_rows('1', '$.')")
         self.fails("jdoc_rows JDOC_STRICT_PATH", "* FROM jdoc_rows('1', 'strict $.a')")
         self.fails("jdoc_rows JDOC_INVALID_JSON", "* FROM jdoc_rows('{', '$')")
         self.fails("jdoc_rows JDOC_INVALID_JSONB", "* FROM jdoc_rows(x'00', '$')")
