@@ -14,11 +14,11 @@ const FAULT: u8 = 3;
 
 /// What is printed to standard error if the arguments are not a command.
 const COMMANDS: &str = "\
-usage: jsonb_tool COMMAND WORD..
+usage: jsonb_tool COMMAND ARGUMENT..
   get KEYPATH HEX   the value at the key path, as a document, or none
   leaves HEX        a line for each leaf: its document and its key path, or none
   select PATH HEX   a line for each document that the JSON path selects, or none
-  match PATH HEX    true, false or unknown, of a path that is one condition
+  match PATH HEX    true, false or unknown, of a path that is a predicate
   key HEX           the document's sortable key
 HEX is a document in hexadecimal.";
 
