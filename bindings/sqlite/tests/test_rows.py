@@ -10,7 +10,7 @@ import unittest
 from support import EXTENSION, Case
 
 # Prints the first row of a query of the document in a file, the megabytes by which it raises the greatest memory of the process, and
-# its seconds.
+# its seconds of the processor.
 PROGRAM = """
 import json, re, sqlite3, sys, time
 def peak():
@@ -19,8 +19,8 @@ db = sqlite3.connect(":memory:")
 db.enable_load_extension(True)
 db.load_extension(sys.argv[1])
 document = open(sys.argv[2], "rb").read()
-before, begun = peak(), time.monotonic()
-print(json.dumps([db.execute(sys.argv[3], (document,)).fetchone(), peak() - before, time.monotonic() - begun]))
+before, begun = peak(), time.process_time()
+print(json.dumps([db.execute(sys.argv[3], (document,)).fetchone(), peak() - before, time.process_time() - begun]))
 """
 MEGABYTE = 1 << 20
 IS_SANITIZED = "libasan" in os.environ.get("LD_PRELOAD", "")  # memory is not that of a user
