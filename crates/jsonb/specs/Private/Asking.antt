@@ -49,8 +49,8 @@ pub record IsAsking (context : Context) (top t : Tree) (a : Asking) (whole : Out
   pub is : whole ≡ evaluated context.mode top t rest a.state
 
 -- a test with this outcome, and those that are left, have this outcome as the truth of the condition
-pub record IsTested (context : Context) (top t : Tree) (item : Spot) (tests : List Test) (left : ℕ) (state : Option Jump)
-    (test whole : Outcome Truth) : Type 0 where
+pub record IsTested (context : Context) (top t : Tree) (item : Spot) (tests : List Test) (left : ℕ)
+    (state : Option Jump) (test whole : Outcome Truth) : Type 0 where
   pub at : IsAt context.document item t
   pub rest : List Branch
   pub branches : AreBranches IsQuestionOf (reverse (take left tests)) rest
@@ -71,7 +71,8 @@ IsWaiting context top t a waits o whole =
 -- the result is the truth of the condition, or the path that it waits for
 abbrev pub IsTurn : Context → Tree → Tree → Asking → Outcome Truth → Outcome (Option (Box Pending Global)) → Type 0
 IsTurn context top t new whole (Ok (Some p)) =
-    (o : Outcome (List Tree)) × IsAtFilter context top p.value.path.value o × IsWaiting context top t new p.value.waits o whole
+    (o : Outcome (List Tree)) × IsAtFilter context top p.value.path.value o
+    × IsWaiting context top t new p.value.waits o whole
 IsTurn context top t new whole (Ok None) = (whole ≡ Ok (jump_truth new.state)) × IsCached context top new []
 IsTurn context top t new whole (Err e) = IsOutOfMemory e ⊎ (whole ≡ Err e)
 
@@ -84,7 +85,8 @@ filtered_later context top f e others found =
     (λ us. steps_meaning context.mode (running_steps f.after) top (found ++ us))
 
 -- the filter by this condition has selected these items, and these are left
-pub record IsFiltering (context : Context) (top : Tree) (f : Filter) (e : Expression) (others found : List Tree) : Type 0 where
+pub record IsFiltering (context : Context) (top : Tree) (f : Filter) (e : Expression)
+    (others found : List Tree) : Type 0 where
   pub compiled : AreTestsOf IsQuestionOf (asking_tests f.asking) e
   pub left : AllZip (IsAt context.document) (drop f.next (node_spots f.items)) others
   pub done : AllZip (IsAt context.document) (node_spots f.nodes) found
@@ -114,7 +116,8 @@ pub record IsFilterWaiting (context : Context) (top : Tree) (f : Filter) (w : Wa
 -- the result is the path that the filter waits for; if there is none, the items that it selects are complete
 abbrev pub IsFilterTurn : Context → Tree → Filter → Outcome (List Tree) → Outcome (Option (Box Pending Global)) → Type 0
 IsFilterTurn context top new whole (Ok (Some p)) =
-    (o : Outcome (List Tree)) × IsAtFilter context top p.value.path.value o × IsFilterWaiting context top new p.value.waits o whole
+    (o : Outcome (List Tree)) × IsAtFilter context top p.value.path.value o
+    × IsFilterWaiting context top new p.value.waits o whole
 IsFilterTurn context top new whole (Ok None) = (found : List Tree)
     × AllZip (IsAt context.document) (node_spots new.nodes) found
     × (whole ≡ steps_meaning context.mode (running_steps new.after) top found)
@@ -124,7 +127,8 @@ IsFilterTurn context top new whole (Err e) = IsOutOfMemory e ⊎ (whole ≡ Err 
 
 -- The steps that run within these filters, the innermost first, have this outcome, and those of the outermost filter
 -- that one.
-abbrev pub IsAround : Context → Tree → List Frame → Repeats → Outcome (List Tree) → Repeats → Outcome (List Tree) → Type 0
+abbrev pub IsAround : Context → Tree → List Frame → Repeats → Outcome (List Tree) → Repeats → Outcome (List Tree)
+    → Type 0
 IsAround context top [] now o repeats whole = (now ≡ repeats) × (o ≡ whole)
 IsAround context top (f ∷ fs) now o repeats whole = (p : Outcome (List Tree)) × (q : Outcome (List Tree))
     × IsFilterWaiting context top f.filter.value f.waits o p × SameOutcomes f.filter.value.after.repeats p q

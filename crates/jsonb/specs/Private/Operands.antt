@@ -62,7 +62,8 @@ abbrev pub IsHeld : Mode → Tree → Tree → List Expression → List Expressi
     → Type 0
 IsHeld mode top t all more cache (waits.Exists found) o =
     AreKept mode top cache all (exists (steps_of (steps_view found.steps.now)) ∷ more)
-    × (truth mode (exists (steps_of (steps_view found.steps.now))) top t ≡ and_then o (λ us. Ok (Some (is_some_item us))))
+    × (truth mode (exists (steps_of (steps_view found.steps.now))) top t
+    ≡ and_then o (λ us. Ok (Some (is_some_item us))))
 IsHeld mode top t all more cache (waits.Left c) o =
     ComesNext mode top all more cache c × (operand_values mode (expression_view c.left.now) top t ≡ values_found o)
 IsHeld mode top t all more cache (waits.Right c lefts) o =

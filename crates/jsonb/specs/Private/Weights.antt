@@ -88,7 +88,8 @@ asking_weight a = tests_weight (take a.left (asking_tests a))
 
 -- the items of a filter that are left, and the steps after it
 abbrev pub items_weight : Filter → ℕ
-items_weight f = (length (node_spots f.items) - f.next) * (1 + tests_weight (asking_tests f.asking)) + running_weight f.after
+items_weight f =
+    (length (node_spots f.items) - f.next) * (1 + tests_weight (asking_tests f.asking)) + running_weight f.after
 
 abbrev pub filter_weight : Filter → ℕ
 filter_weight f = asking_weight f.asking + items_weight f
