@@ -19,8 +19,8 @@ from edits import say
 MEMORY = {"proof": 3_600_000_000, "seed": 3_000_000_000, "tests": 4_500_000_000, "edits": 3_000_000_000, "sound": 3_000_000_000, "again": 0}
 MORE_MEMORY = {("jsonb_raw", "tests"): 6_000_000_000}
 MEMORY_OF_A_JOB = 800_000_000
-# The most jobs that a proof has. Each loads what it needs: the proof of jsonb_doc takes 13 minutes of the processors with one job, 19 with
-# two and 26 with four, and other tasks wait for them.
+# The most jobs that a proof has. Each loads what it needs: four fifths of the proof of jsonb_doc took 11 minutes of the processors with one
+# job and 16 with two, and the whole 26 with four. Other tasks wait for them.
 MOST_JOBS = 2
 # What the other commands of .ci/run take at the same time.
 MEMORY_BESIDE = 2_000_000_000
