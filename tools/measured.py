@@ -35,7 +35,7 @@ COLUMNS = {
     "jq": ["jdoc", "jq", "jdoc_seconds", "jq_seconds"],
     "dask": ["workers", "counts", "rows_back", "sorted", "groups"],
     "readers": ["reader", "instructions_298", "instructions_4900"],
-    "verdict": ["crate", "functions", "seconds", "processors"],
+    "verdict": ["crate", "functions", "seconds", "processors", "day"],
     "gate": ["step", "minutes"],
 }
 
@@ -276,7 +276,8 @@ def verdict():
     rows = read("verdict")
     functions, minutes = sum(int(it["functions"]) for it in rows), max(int(it["seconds"]) for it in rows) / 60
     crates = ", ".join(f"`{it['crate']}`" for it in rows)
-    return f"{functions:,} functions of {crates}: {minutes:.0f} minutes on {rows[0]['processors']} processors."
+    how_long = f"{minutes:.0f} minutes on {rows[0]['processors']} processors"
+    return f"It passed on {rows[0]['day']}, in {how_long}: {functions:,} functions of {crates}."
 
 
 BINDINGS = "bindings/test.sh"

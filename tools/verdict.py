@@ -67,7 +67,8 @@ def run(words, names):
         ran = subprocess.Popen([os.environ.get("RT", "rt"), "all", "verdict", *words], cwd=f"{room}/repository", **how)
         found = proved(ran.stdout, started)
     columns = measured.COLUMNS["verdict"]
-    return [dict(zip(columns, (crate, *its, os.cpu_count()))) for crate, its in found.items()], not ran.wait()
+    of_all = os.cpu_count(), time.strftime("%Y-%m-%d")
+    return [dict(zip(columns, (crate, *its, *of_all))) for crate, its in found.items()], not ran.wait()
 
 
 def main():
