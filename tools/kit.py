@@ -12,6 +12,7 @@ import inspect
 import os
 import re
 import shutil
+import subprocess
 import sys
 import tempfile
 import threading
@@ -32,7 +33,7 @@ CALLED = {
     "rt.Kept": {"key": "self crate", "of_edit": "self edit sum"},
     "rt.Crate": {
         "ci": "self flags tests", "prove": "self commands", "link": "self made program", "compile_by": "self backend words to",
-        "words": "self flags tests keeps as_source", "build_static": "self flags", "build_rlib": "self flags anew", "below": "self",
+        "words": "self flags tests keeps as_source", "build_rlib": "self flags anew", "below": "self",
     },
     "rt.rtlib": {"crates_below": "top"},
 }
@@ -44,6 +45,10 @@ KINDS = ("proof", "seed", "tests", "edits", "sound", "again")
 END = r"\n\Z"
 # What the prover said of each unchanged crate, by its name.
 proofs = {}
+# What stands for the folder that edits begin with, if that is a run's own proof. Without one, rt tries the only edit of a crate from nothing.
+OWN_PROOF = "the proof of this run"
+# The folders of what such proofs made.
+own_seeds = set()
 
 
 def load():
@@ -137,9 +142,11 @@ def crate_that_is_proved_once():
                 return status
             self.out.seek(0)
             proofs[self.name] = self.out.read()
-            return self.build_library(["--jobs", "1"]) if self.is_static else 0
+            return 0
 
         def build_once(self, flags):
+            if self.is_static:
+                return self.build_library(flags)
             return self.build_program(flags) if self.is_program else super().ci(flags, False)
 
         def tell_and_forget(self):
@@ -163,18 +170,21 @@ def crate_that_is_proved_once():
 
         def build_program(self, flags):
             """Proves a program and builds it by both compilers, as rt does from a checked crate, which keeps no work."""
-            words = [*self.words(flags, keeps=False), "--toolchain", f"{rt.KIT}/toolchain"]
-            to = f"out/{self.name}"
+            words, to = self.words_to_build(flags), f"out/{self.name}"
             status = self.prove(["build", *words, "--backend", "llvm", "-o", f"{to}.o"])
             return status or self.link(f"{to}.o", to) or self.compile_by("rattle", words, to)
 
         def build_library(self, flags):
-            """Builds the static library over the crate's proof, and puts it with what a crate's proof made."""
-            status, folder = self.build_static(flags), f"{self.folder}/out/rlib/{self.name}.rlib"
+            """Proves a static library and builds it, and puts it with what a crate's proof made."""
+            built, folder = f"out/lib{self.name}.a", f"{self.folder}/out/rlib/{self.name}.rlib"
+            status = self.prove(["build", *self.words_to_build(flags), "--backend", "llvm", "-o", built])
             if not status:
                 os.makedirs(folder, exist_ok=True)
-                os.replace(f"{self.folder}/out/lib{self.name}.a", f"{folder}/lib{self.name}.a")
+                os.replace(f"{self.folder}/{built}", f"{folder}/lib{self.name}.a")
             return status
+
+        def words_to_build(self, flags):
+            return [*self.words(flags, keeps=False), "--toolchain", f"{rt.KIT}/toolchain"]
 
         def build_rlib(self, flags, anew):
             # (A library of statements alone can't be built over kept work.)
@@ -215,6 +225,7 @@ def seed(crate):
     room = tempfile.mkdtemp(prefix=f"rt-edits-{os.getpid()}-")
     rt.SEEDS.append(room)
     rt.linked(made, f"{room}/seed")
+    own_seeds.add(f"{room}/seed")
     return room
 
 
@@ -226,9 +237,13 @@ def try_edits(verdict, in_lanes, how):
     for it.
     """
     this_thread = threading.local()
-    checked, must_fail, seeded, of_edit = rt.checked, rt.must_fail, rt.seeded, rt.Kept.of_edit
+    checked, must_fail, seeded, add_edits, of_edit = rt.checked, rt.must_fail, rt.seeded, rt.add_edits, rt.Kept.of_edit
 
     def check(crate, texts, flags, kept):
+        if not texts and kept in own_seeds:
+            # rt asks whether the crate is still proved over these files, once all edits were tried and none of the files was changed. The
+            # crate's tests, which it waits for, are proved over the same files.
+            return subprocess.CompletedProcess([], 0, proofs[crate.name])
         ran = checked(crate, texts, flags, kept)
         if not texts and not ran.returncode:
             proofs[crate.name] = ran.stdout
@@ -239,8 +254,14 @@ def try_edits(verdict, in_lanes, how):
         this_thread.said = ""
         return verdict(crate, edit, lambda words: (must_fail(crate, edit, [*flags, *words], kept), this_thread.said))
 
-    rt.checked, rt.must_fail, rt.in_lanes = check, judged, in_lanes
-    rt.seeded = lambda crate, flags, start=None: not start and seed(crate) or seeded(crate, flags, start)
+    def add(tasks, crate, edits, first, waits, is_well, kept, start=None, in_ci=True):
+        return add_edits(tasks, crate, edits, first, waits, is_well, kept, start or in_ci and OWN_PROOF, in_ci)
+
+    def begun(crate, flags, start=None):
+        start = None if start == OWN_PROOF else start
+        return not start and seed(crate) or seeded(crate, flags, start)
+
+    rt.checked, rt.must_fail, rt.in_lanes, rt.add_edits, rt.seeded = check, judged, in_lanes, add, begun
     rt.Kept.of_edit = lambda kept, edit, sum: of_edit(kept, edit, f"{sum} {how}")
 
 
