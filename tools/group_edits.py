@@ -18,7 +18,7 @@ from dataclasses import dataclass, field
 sys.dont_write_bytecode = True
 import edits
 
-MOST = 24
+MOST = 36
 
 
 @dataclass

@@ -18,6 +18,18 @@ const PHONES: &[u8] = b"\x80\0\0\x02\x50\0\0\x27\x50\0\0\x27\
       \x40\0\0\x02\x10\0\0\x06\x10\0\0\x04\x20\0\0\x05\x10\0\0\x04numbertype\x50\0\x38\xc5\x05home\
       \x40\0\0\x02\x10\0\0\x06\x10\0\0\x04\x20\0\0\x05\x10\0\0\x04numbertype\x50\0\x4d\x3d\xa3work";
 
+/// `{"A":null, .., "a":null}`, with 33 keys of one letter. Keys are searched in blocks of 32.
+const LETTERS: &[u8] = b"\x40\0\0\x21\
+      \x10\0\0\x01\x10\0\0\x01\x10\0\0\x01\x10\0\0\x01\x10\0\0\x01\x10\0\0\x01\x10\0\0\x01\x10\0\0\x01\
+      \x10\0\0\x01\x10\0\0\x01\x10\0\0\x01\x10\0\0\x01\x10\0\0\x01\x10\0\0\x01\x10\0\0\x01\x10\0\0\x01\
+      \x10\0\0\x01\x10\0\0\x01\x10\0\0\x01\x10\0\0\x01\x10\0\0\x01\x10\0\0\x01\x10\0\0\x01\x10\0\0\x01\
+      \x10\0\0\x01\x10\0\0\x01\x10\0\0\x01\x10\0\0\x01\x10\0\0\x01\x10\0\0\x01\x10\0\0\x01\x10\0\0\x01\
+      \x10\0\0\x01\
+      \0\0\0\0\0\0\0\0\0\0\0\0\0\0\0\0\0\0\0\0\0\0\0\0\0\0\0\0\0\0\0\0\0\0\0\0\0\0\0\0\0\0\0\0\
+      \0\0\0\0\0\0\0\0\0\0\0\0\0\0\0\0\0\0\0\0\0\0\0\0\0\0\0\0\0\0\0\0\0\0\0\0\0\0\0\0\0\0\0\0\
+      \0\0\0\0\0\0\0\0\0\0\0\0\0\0\0\0\0\0\0\0\0\0\0\0\0\0\0\0\0\0\0\0\0\0\0\0\0\0\0\0\0\0\0\0\
+      ABCDEFGHIJKLMNOPQRSTUVWXYZ[\\]^_`a";
+
 /// A step from a spot to one below it.
 #[derive(Clone, Copy, Debug)]
 enum Step {
@@ -26,7 +38,7 @@ enum Step {
 }
 
 /// Documents, the steps from the root to a part of it, and the item and the document of the part, if it is there.
-static PARTS: [(&[u8], &[Step], Option<(Item<'static>, &[u8])>); 18] = rows! {
+static PARTS: [(&[u8], &[Step], Option<(Item<'static>, &[u8])>); 22] = rows! {
     FRED, &[Step::Member("phones"), Step::Child(0), Step::Member("number")],
         Some((Item::Number(Number::UInt64(3720453)), b"\x20\0\0\0\x20\0\0\x05\x50\0\x38\xc5\x05"));
     FRED, &[Step::Member("phones"), Step::Child(1), Step::Member("number")],
@@ -44,6 +56,10 @@ static PARTS: [(&[u8], &[Step], Option<(Item<'static>, &[u8])>); 18] = rows! {
     // as long as a key
     FRED, &[Step::Member("nave")], None;
     FRED, &[Step::Member("")], None;
+    LETTERS, &[Step::Member("A")], Some((Item::Null, b"\x20\0\0\0\0\0\0\0"));
+    LETTERS, &[Step::Member("`")], Some((Item::Null, b"\x20\0\0\0\0\0\0\0"));
+    LETTERS, &[Step::Member("a")], Some((Item::Null, b"\x20\0\0\0\0\0\0\0"));
+    LETTERS, &[Step::Member("b")], None;
     // of an array and of a scalar
     MIXED, &[Step::Member("k")], None;
     DATE, &[Step::Member("")], None;
