@@ -29,8 +29,9 @@ CONVERSIONS = {
     "jsonb_doc/src/error.rt": 2,
     "jsonb/src/parser/token.rt": 2,
     "jsonb_c/src/document/names.rt": 1,
-    "jsonb_lines/src/lines.rt": 1,
+    "jsonb_lines/src/problem.rt": 1,
     "jsonb_tool/src/command.rt": 1,
+    "jsonb_tool/src/problem.rt": 1,
 }
 ONLY_TESTS = {"jsonb_examples", "jsonb_sweep", "jsonb_vectors"}
 

@@ -352,6 +352,21 @@ def lines_of(command, text, tree):
     return lines or ["none"], 0
 
 
+def problem_of(command, text, lines, status):
+    """Returns what the program prints to standard error, after its name."""
+    if status == 3:
+        return "the arguments cannot be read: one is not UTF-8"
+    at = KeyPath(text).error_position() if command == "get" else JsonPath(text).error_position()
+    if lines[0] in ("refused: InvalidKeyPath", "refused: InvalidJsonPath") and at is not None:
+        return f"not a {'key' if command == 'get' else 'JSON'} path: error at byte {at}"
+    name = lines[0].removeprefix("refused: ").split("(")[0]
+    return {
+        "InvalidJsonPath": "the JSON path cannot be evaluated on this document",
+        "Arithmetic": "arithmetic of the JSON path fails on this document",
+        "TooDeep": "an item is nested too deeply for a sortable key",
+    }[name]
+
+
 def is_utf8(word):
     """Returns whether the program can read an argument: it takes UTF-8 alone, otherwise it ends with status 3."""
     try:
@@ -370,6 +385,8 @@ def program_case(tool, cases, report):
     made = subprocess.run([tool, *words], capture_output=True, check=False)
     lines, status = lines_of(command, text, tree) if all(map(is_utf8, words)) else ([], 3)
     report(f"jsonb_tool {command}", words[1:], (status, lines), (made.returncode, made.stdout.decode().splitlines()))
+    problem = f"jsonb_tool: {problem_of(command, text, lines, status)}\n" if status else ""
+    report(f"jsonb_tool {command}, standard error", words[1:], problem, made.stderr.decode())
 
 
 # ---- running

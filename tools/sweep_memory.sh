@@ -114,19 +114,20 @@ diff -u "$stated_large" "$work/names" || fault "the large cases are not those in
 [ -s "$work/large" ] || fault "nothing large was asked"
 echo "sweep: $(wc -l < "$work/large") cases on what is large"
 
-# run_tool NUMBER ALL WORDS..: a run of jsonb_tool in which that allocation fails. Sets its status, its output, and the
-# numbers of allocations, failures and blocks held.
+# run_tool NUMBER ALL WORDS..: a run of jsonb_tool in which that allocation fails. Sets its status, its output, what it prints to
+# standard error, and the numbers of allocations, failures and blocks held.
 run_tool() {
     local number=$1 behind=$2
     shift 2
     wrote=$(env REFUSE_ALL=1 REFUSE="$number" ${behind:+REFUSE_BEHIND=1} LD_PRELOAD="$work/shim.so" "$tool" "$@" \
-        3> "$work/counts")
+        2> "$work/why" 3> "$work/counts")
     status=$?
+    why=$(cat "$work/why")
     read -r grown refused held < <(tail -n 1 "$work/counts")
 }
 
 # sweep_tool LINES WORDS..: a run writes its lines if no allocation failed. Otherwise it writes the one line of the error with
-# status 1, or ends with status 3 if the arguments themselves could not be read. It frees what it held.
+# status 1, or ends with status 3 if the arguments themselves could not be read, and says why on standard error. It frees what it held.
 sweep_tool() {
     local lines=$1 behind number
     shift
@@ -135,10 +136,11 @@ sweep_tool() {
         while :; do
             run_tool "$number" "$behind" "$@"
             [ "$held" = 0 ] || { fault "jsonb_tool $1: allocation $number: $held blocks leaked"; return; }
-            case $((refused > 0))/$status/$wrote in
-            0/0/"$lines") [ "$number" = 0 ] || break ;;
-            1/1/'refused: OutOfMemory' | 1/3/) ;;
-            *) fault "jsonb_tool $1: allocation $number: status $status, $refused failed, '$wrote'"; return ;;
+            case $((refused > 0))/$status/$wrote/$why in
+            0/0/"$lines"/) [ "$number" = 0 ] || break ;;
+            1/1/'refused: OutOfMemory/jsonb_tool: an allocation failed') ;;
+            1/3//'jsonb_tool: the arguments cannot be read: an allocation failed') ;;
+            *) fault "jsonb_tool $1: allocation $number: status $status, $refused failed, '$wrote', '$why'"; return ;;
             esac
             number=$((number + 1))
         done
@@ -155,6 +157,13 @@ sweep_tool "$(printf '%s\n' '2000000030000000 {0}' '2000000020000002500a {1}' '2
 sweep_tool "$(printf '%s\n' 2000000020000002501e 2000000020000002500a)" select '$[last, 0]' "$tens"
 sweep_tool true match '$[*] > 25' "$tens"
 sweep_tool 00048103e90200 key 20000000200000025001
+
+# A full disk.
+"$tool" get '{}' "$mixed" > /dev/full 2> "$work/why"
+case $?/$(cat "$work/why") in
+3/'jsonb_tool: the output cannot be written') passed=$((passed + 1)) ;;
+*) fault "jsonb_tool on a full disk: '$(cat "$work/why")'" ;;
+esac
 
 # large_tool LINES WORDS..: a run on a large argument writes its lines.
 large_tool() {

@@ -318,3 +318,37 @@ class BesideTheProgram(unittest.TestCase):
 
     def test_key(self):
         self.assertEqual(list(self.lines(lambda it: [jsonb_paths.sort_key(it).hex()])), self.program("key"))
+
+    def problems(self, words, given=b"", out=subprocess.DEVNULL):
+        """Returns the status of the program, and what it prints to standard error."""
+        made = subprocess.run([LINES, *words], input=given, stdout=out, stderr=subprocess.PIPE)
+        return made.returncode, made.stderr.decode()
+
+    def test_standard_error(self):
+        given = b"".join(it.hex().encode() + b"\n" for it in (dumps(5), b"damaged", dumps("a"), dumps(0)))
+        for words, status, said in [
+            (["key"], 1, "line 2: not a document"),
+            (["select", "-$"], 1, "line 2: not a document|line 3: the JSON path cannot be evaluated on this document"),
+            (["select", "1 / $"], 1, "line 1: arithmetic of the JSON path fails on this document|line 2: not a document|"
+             "line 3: the JSON path cannot be evaluated on this document|line 4: arithmetic of the JSON path fails on this document"),
+            (["select", "$.a["], 1, "not a JSON path: error at byte 3"),
+            (["get", "{1a}"], 1, "not a key path: error at byte 2"),
+            (["get", b"\xff"], 3, "the arguments cannot be read: one is not UTF-8"),
+        ]:
+            lines = "".join(f"jsonb_lines: {it}\n" for it in said.split("|"))
+            self.assertEqual(self.problems(words, given), (status, lines), words)
+        self.assertEqual(self.problems(["key"], b"8\n\xff\n"), (3, (
+            "jsonb_lines: line 1: not hexadecimal: Odd number of digits\n"
+            "jsonb_lines: line 2 cannot be read: stream did not contain valid UTF-8\n")))
+
+    def test_usage(self):
+        status, said = self.problems(["get"])
+        self.assertEqual(status, 2)
+        self.assertEqual([it.split()[0] for it in said.splitlines()], ["usage:", "get", "select", "match", "key", "Each"])
+
+    def test_full_disk(self):
+        with open("/dev/full", "wb") as full:
+            status, said = self.problems(["key"], dumps(5).hex().encode(), full)
+            self.assertEqual(status, 3)
+            self.assertTrue(said.startswith("jsonb_lines: the output cannot be written: "), said)
+            self.assertEqual(subprocess.run([LINES, "put"], stdout=subprocess.DEVNULL, stderr=full).returncode, 2)

@@ -1,11 +1,17 @@
 //! The result of a command on a document: the lines of `jsonb_tool`.
 
+use crate::problem::Problem;
 use crate::question::Question;
 use jsonb::{Error, OwnedJsonb, RawJsonb, SelectByPath};
 use std::alloc::Global;
 
-/// Returns the lines of a command, each with its line feed.
-pub fn answer(alloc: Global, question: &Question<'_>, bytes: &[u8]) -> Result<String, Error> {
+/// Returns the lines of a command on a document in hexadecimal, each with its line feed.
+pub fn answer(alloc: Global, question: &Question<'_>, digits: &str) -> Result<String, Problem> {
+    let bytes = hex::decode(alloc, digits)?;
+    Ok(document_answer(alloc, question, bytes.as_slice())?)
+}
+
+fn document_answer(alloc: Global, question: &Question<'_>, bytes: &[u8]) -> Result<String, Error> {
     let document = RawJsonb::new(bytes);
     document.check()?;
     match question {

@@ -1,4 +1,5 @@
 pub mod Requests
 pub mod Answers
 pub mod Output
+pub mod Problems
 pub mod Private

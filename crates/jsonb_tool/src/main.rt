@@ -3,38 +3,30 @@
 
 mod command;
 mod output;
+mod problem;
 mod tool;
 
 use std::env::Env;
+use std::io::ErrorKind;
 use std::process::ExitCode;
 use std::{env, io};
 
 /// The status if a write failed, or the arguments cannot be read.
 const FAULT: u8 = 3;
 
-/// What is printed to standard error if the arguments are not a command.
-const COMMANDS: &str = "\
-usage: jsonb_tool COMMAND ARGUMENT..
-  get KEYPATH HEX   the value at the key path, as a document, or none
-  leaves HEX        a line for each leaf: its document and its key path, or none
-  select PATH HEX   a line for each document that the JSON path selects, or none
-  match PATH HEX    true, false or unknown, of a path that is a predicate
-  key HEX           the document's sortable key
-HEX is a document in hexadecimal.";
-
 fn main(rt: HostRuntime) -> ExitCode {
-    let Ok(words) = words(&rt) else {
-        return ExitCode::from(FAULT);
+    let words = match words(&rt) {
+        Ok(words) => words,
+        Err(error) => return fault(&rt, unreadable(&error)),
     };
     match tool::run(rt.alloc(), words.as_slice(), &mut io::writer(&rt)) {
         Ok(status) => {
-            if status == tool::USAGE {
-                // If standard error cannot be written either, the status alone reports it.
-                let _unwritten = rt.eprintln(COMMANDS);
+            if status != tool::SUCCESS {
+                print_problem(&rt, words.as_slice());
             }
             ExitCode::from(status)
         },
-        Err(tool::ToolFault::Write) => ExitCode::from(FAULT),
+        Err(tool::ToolFault::Write) => fault(&rt, "the output cannot be written"),
     }
 }
 
@@ -45,4 +37,26 @@ fn words<R: Env + AllocGlobal>(rt: &R) -> io::Result<Vec<String>> {
         words.push(word)?;
     }
     Ok(words)
+}
+
+/// Why the arguments cannot be read.
+fn unreadable(error: &io::Error) -> &'static str {
+    match error.kind() {
+        ErrorKind::InvalidData => "the arguments cannot be read: one is not UTF-8",
+        _ => "the arguments cannot be read: an allocation failed",
+    }
+}
+
+/// Prints to standard error why arguments have no result. If it cannot be written, the status alone reports that.
+fn print_problem<R: Eprint + AllocGlobal>(rt: &R, words: &[String]) {
+    let _unwritten = match problem::explain(rt.alloc(), words) {
+        Ok(Some(problem)) => rt.eprintln(problem),
+        Ok(None) | Err(_) => rt.eprintln("jsonb_tool: an allocation failed"),
+    };
+}
+
+/// Prints to standard error what failed, if possible, and returns the status.
+fn fault<R: Eprint>(rt: &R, what: &str) -> ExitCode {
+    let _unwritten = eprintln!(rt; "jsonb_tool: {what}");
+    ExitCode::from(FAULT)
 }

@@ -20,13 +20,13 @@ pub enum ToolFault {
 }
 
 /// The exit status after the lines of a command.
-const SUCCESS: u8 = 0;
+pub const SUCCESS: u8 = 0;
 
 /// The exit status after an error.
 const REFUSED: u8 = 1;
 
 /// The exit status after `usage`.
-pub const USAGE: u8 = 2;
+const USAGE: u8 = 2;
 
 /// What the program writes, and its exit status.
 #[derive(Drop)]

@@ -1,5 +1,6 @@
 //! Runs over a writer in memory: what they write, and their status.
 use super::*;
+use crate::problem::{Problem, explain};
 use std::alloc::AllocError;
 use std::io;
 use std::io::ErrorKind;
@@ -181,6 +182,65 @@ static COMMANDS: [&[Row]; 5] = [&GET, &PATHS, &KEY, &LEAVES, &OTHERS];
 fn commands_are_answered(rt: HostRuntime) -> Result<(), Fail> {
     for rows in &COMMANDS {
         assert_eq!(rt; first_wrong(rt.alloc(), rows)?, None);
+    }
+    Ok(())
+}
+
+/// Arguments without a result, and what is printed to standard error.
+type ProblemRow = (&'static [&'static str], &'static str);
+
+const PROBLEMS: [ProblemRow; 13] = rows! {
+    &["get", "{1a}", ARRAY], "jsonb_tool: not a key path: error at byte 2";
+    &["get", "{1a}", CUT], "jsonb_tool: not a key path: error at byte 2";
+    &["get", "{}", CUT], "jsonb_tool: HEX is not a document";
+    &["get", "{}", "80000"], "jsonb_tool: HEX is not hexadecimal: Odd number of digits";
+    &["select", "$[", "8000000g"], "jsonb_tool: HEX is not hexadecimal: Invalid character 'g' at position 7";
+    &["select", "$.a[", ARRAY], "jsonb_tool: not a JSON path: error at byte 3";
+    &["match", "$.a[", CUT], "jsonb_tool: not a JSON path: error at byte 3";
+    &["select", "$[*] + 1", TENS], "jsonb_tool: the JSON path cannot be evaluated on this document";
+    &["match", "$[*] + 1", TENS], "jsonb_tool: the JSON path cannot be evaluated on this document";
+    &["select", "$ / 0", FIVE], "jsonb_tool: arithmetic of the JSON path fails on this document";
+    &["leaves", "0"], "jsonb_tool: HEX is not hexadecimal: Odd number of digits";
+    &["key", "g0"], "jsonb_tool: HEX is not hexadecimal: Invalid character 'g' at position 0";
+    &["key", FLOAT], "jsonb_tool: the document has a float or a 256-bit decimal";
+};
+
+/// Arguments that are another command, too few or too many.
+const NO_COMMANDS: [&[&str]; 4] = [
+    &[],
+    &["get", "8000000g"],
+    &["put", "{}", "8000000g"],
+    &["key", "{}", "0"],
+];
+
+#[test]
+fn problems_are_explained(rt: HostRuntime) -> Result<(), Fail> {
+    for (texts, wanted) in &PROBLEMS {
+        let words = words_of(rt.alloc(), texts)?;
+        let found = explain(rt.alloc(), words.as_slice())?.expect(&rt, "no problem");
+        let text = format!(in rt.alloc(); "{found}")?;
+        assert_eq!(rt; text.as_str(), *wanted);
+    }
+    for texts in &NO_COMMANDS {
+        let words = words_of(rt.alloc(), texts)?;
+        assert_eq!(rt;
+            explain(rt.alloc(), words.as_slice()),
+            Ok(Some(Problem::Command)),
+            "{texts:?}"
+        );
+    }
+    Ok(())
+}
+
+/// There is a problem if the status is not 0.
+#[test]
+fn each_other_status_has_a_problem(rt: HostRuntime) -> Result<(), Fail> {
+    for rows in &COMMANDS {
+        for (texts, _, status) in *rows {
+            let words = words_of(rt.alloc(), texts)?;
+            let found = explain(rt.alloc(), words.as_slice())?;
+            assert_eq!(rt; found.is_none(), *status == SUCCESS, "{texts:?}");
+        }
     }
     Ok(())
 }
