@@ -277,7 +277,7 @@ def verdict():
     functions, minutes = sum(int(it["functions"]) for it in rows), max(int(it["seconds"]) for it in rows) / 60
     crates = ", ".join(f"`{it['crate']}`" for it in rows)
     how_long = f"{minutes:.0f} minutes on {rows[0]['processors']} processors"
-    return f"It passed on {rows[0]['day']}, in {how_long}: {functions:,} functions of {crates}."
+    return f"`tools/verdict.py` passed on {rows[0]['day']}, in {how_long}: {functions:,} functions of {crates}."
 
 
 BINDINGS = "bindings/test.sh"
