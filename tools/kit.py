@@ -5,6 +5,7 @@
 
 rt has no other interface for what tools/gate.py and tools/check_edits.py do. If the kit lacks something, gate.py runs `rt ci` as it is.
 """
+import contextlib
 import hashlib
 import importlib.machinery
 import importlib.util
@@ -35,7 +36,7 @@ CALLED = {
         "ci": "self flags tests", "prove": "self commands", "link": "self made program", "compile_by": "self backend words to",
         "words": "self flags tests keeps as_source", "build_rlib": "self flags anew", "below": "self",
     },
-    "rt.rtlib": {"crates_below": "top"},
+    "rt.rtlib": {"crates_below": "top", "help_of": "verb"},
 }
 # What else is used: constants, what each crate knows of itself, and the kinds of tasks that rt ci does, those that others wait for first.
 VALUES = {"rt": "KIT SEEDS REFUSED MISSED UNSURE", "rt.rtlib": "VERDICT"}
@@ -120,6 +121,31 @@ def free():
 
 # ---- a crate's proof, once
 
+EMPTY_CONTRACTS = "--empty-contracts"
+# Whether this thread's checks look for contracts that no call can satisfy.
+looks = threading.local()
+
+
+@contextlib.contextmanager
+def empty_contracts(are_looked_for):
+    """Has the checks that this thread begins look for contracts that no call can satisfy, or not."""
+    looks.for_empty_contracts = are_looked_for
+    try:
+        yield
+    finally:
+        looks.for_empty_contracts = True
+
+
+def look_if_asked():
+    """Has rt pass the flag for such contracts only if `empty_contracts` says so. It passes it if the prover's help names it."""
+    help_by_rt = rt.rtlib.help_of
+
+    def help_of(verb):
+        said = help_by_rt(verb)
+        return said if getattr(looks, "for_empty_contracts", True) else said.replace(EMPTY_CONTRACTS, "")
+
+    rt.rtlib.help_of = help_of
+
 
 def crate_that_is_proved_once():
     """Returns the class of crates under rt ci whose proof is kept, for their tests, programs, edits and the crates above."""
@@ -145,9 +171,11 @@ def crate_that_is_proved_once():
             return 0
 
         def build_once(self, flags):
-            if self.is_static:
-                return self.build_library(flags)
-            return self.build_program(flags) if self.is_program else super().ci(flags, False)
+            # Contracts that no call can satisfy are looked for with a crate's tests, if it has any: other crates wait for its proof.
+            with empty_contracts(not self.has_tests()):
+                if self.is_static:
+                    return self.build_library(flags)
+                return self.build_program(flags) if self.is_program else super().ci(flags, False)
 
         def tell_and_forget(self):
             """Prints what the prover said of a crate that it did not prove, which is then proved once more over what it did prove.
@@ -197,6 +225,7 @@ def crate_that_is_proved_once():
 def prove_once(in_lanes):
     """Has rt ci prove each crate once, and do its tasks by this function."""
     rt.Crate, rt.in_lanes = crate_that_is_proved_once(), in_lanes
+    look_if_asked()
     rt.rtlib.VERDICT = re.compile(rt.rtlib.VERDICT.pattern.removesuffix(END) + r" incremental=trusted" + END, re.M)
     how = hashlib.sha256(inspect.getsource(crate_that_is_proved_once).encode()).hexdigest()
     key_by_rt = rt.Kept.key
