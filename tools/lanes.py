@@ -19,10 +19,9 @@ from edits import say
 MEMORY = {"proof": 3_600_000_000, "seed": 3_000_000_000, "tests": 4_500_000_000, "edits": 3_000_000_000, "sound": 3_000_000_000, "again": 0}
 MORE_MEMORY = {("jsonb_raw", "tests"): 6_000_000_000}
 MEMORY_OF_A_JOB = 800_000_000
-# The most jobs that a proof has, and the most if no other task is ready. Each loads what it needs: four fifths of the proof of jsonb_doc
-# took 11 minutes of the processors with one job and 16 with two, and the whole 26 with four. Other tasks wait for them.
+# The most jobs that a proof has. Each loads what it needs: four fifths of the proof of jsonb_doc took 11 minutes of the processors with one
+# job and 16 with two, and the whole 26 with four. Other tasks wait for them.
 MOST_JOBS = 2
-MOST_JOBS_ALONE = 3
 # What the other commands of .ci/run take at the same time.
 MEMORY_BESIDE = 2_000_000_000
 # How many lines of a crate are proved in a minute, about, if it was not measured.
@@ -46,11 +45,10 @@ def expected(tasks):
     return {key: took.get(step, tasks[key][1] / LINES) for key, step in steps.items()}
 
 
-def jobs_of(key, proofs, lanes, took, is_alone=False):
+def jobs_of(key, proofs, lanes, took):
     """Returns how many jobs a task has: a proof its part of the lanes, by the minutes of all proofs that can be made at one time."""
     whole = sum(took[it] for it in proofs)
-    most = MOST_JOBS_ALONE if is_alone else MOST_JOBS
-    return min(most, max(1, round(lanes * took[key] / whole))) if key[1] == "proof" and whole else 1
+    return min(MOST_JOBS, max(1, round(lanes * took[key] / whole))) if key[1] == "proof" and whole else 1
 
 
 def minutes(since):
@@ -93,9 +91,9 @@ def in_lanes(tasks):
 
     A key begins with a crate's name and the kind of the task. A task is what it waits for, its work in lines, its memory,
     and a call that takes what was given so far and how many jobs it may use. Of those that are ready, the first goes
-    first, and the longest of a kind. Proofs that can be made at one time share the lanes as jobs, up to MOST_JOBS each, or up to
-    MOST_JOBS_ALONE: other tasks are nicer, and take what they leave idle. Any other task has one job, since more jobs take more time of
-    the processors in all. If a task does not fit into memory, those after it wait too.
+    first, and the longest of a kind. Proofs that can be made at one time share the lanes as jobs, up to MOST_JOBS each: other
+    tasks are nicer, and take what they leave idle. Any other task has one job, since more jobs take more time of the
+    processors in all. If a task does not fit into memory, those after it wait too.
     """
     lanes, memory, running, given = kit.processors(), kit.free() - MEMORY_BESIDE, {}, {}
     took = expected(tasks)
@@ -105,7 +103,7 @@ def in_lanes(tasks):
             ready = [it for it in left if all(below in given for below in tasks[it][0])]
             proofs = [it for it in [*ready, *(key for key, _ in running.values())] if it[1] == "proof"]
             for key in ready[: lanes - len(running)]:
-                jobs = jobs_of(key, proofs, lanes, took, len(ready) == 1 and not running)
+                jobs = jobs_of(key, proofs, lanes, took)
                 needs = MORE_MEMORY.get(key[:2], MEMORY[key[1]]) + (jobs - 1) * MEMORY_OF_A_JOB
                 if running and needs + sum(it for _, it in running.values()) > memory:
                     break

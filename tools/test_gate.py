@@ -69,9 +69,8 @@ PRINTED = {
 }
 # The free memory of a machine with four processors, in GB, and how many crates' tests are proved there at a time.
 LANES = {30: 4, 15: 2, 3: 1}
-# The minutes of proofs that can be made at a time, and how many jobs the first of them has on four processors if other tasks are ready,
-# and if none is.
-JOBS = {(14,): (2, 3), (0,): (1, 1), (18, 7, 6, 4, 3, 0): (2, 2), (7, 18, 6, 4, 3, 0): (1, 1), (10, 10): (2, 2)}
+# The minutes of proofs that can be made at a time, and how many jobs the first of them has on four processors.
+JOBS = {(14,): 2, (0,): 1, (18, 7, 6, 4, 3, 0): 2, (7, 18, 6, 4, 3, 0): 1, (10, 10): 2}
 # The crates whose programs and library other commands wait for.
 BUILT = ("jsonb_c", "jsonb_lines", "jsonb_sweep", "jsonb_tool")
 
@@ -157,7 +156,7 @@ def fault_of_lanes(free, expected):
 def fault_of_jobs(minutes, expected):
     """Returns what is wrong with the jobs of the first of some proofs, or an empty text."""
     proofs = [(f"crate{number}", "proof") for number in range(len(minutes))]
-    found = tuple(lanes.jobs_of(proofs[0], proofs, 4, dict(zip(proofs, minutes)), it) for it in (False, True))
+    found = lanes.jobs_of(proofs[0], proofs, 4, dict(zip(proofs, minutes)))
     return "" if found == expected else f"{minutes}: expected {expected} jobs, got {found}"
 
 
