@@ -269,7 +269,7 @@ def try_edits(verdict, in_lanes, how):
     checked, must_fail, seeded, add_edits, of_edit = rt.checked, rt.must_fail, rt.seeded, rt.add_edits, rt.Kept.of_edit
 
     def check(crate, texts, flags, kept):
-        if not texts and kept in own_seeds:
+        if not texts and kept in own_seeds and crate.has_tests():
             # rt asks whether the crate is still proved over these files, once all edits were tried and none of the files was changed. The
             # crate's tests, which it waits for, are proved over the same files.
             return subprocess.CompletedProcess([], 0, proofs[crate.name])

@@ -275,7 +275,9 @@ def verdict():
         return "`tools/verdict.py` has not been run yet."
     rows = read("verdict")
     functions, minutes = sum(int(it["functions"]) for it in rows), max(int(it["seconds"]) for it in rows) / 60
-    crates = ", ".join(f"`{it['crate']}`" for it in rows)
+    with open(os.path.join(TOP, "crates.txt")) as lines:
+        every = {re.match(r"\w+", it)[0] for it in lines if it[0].isalpha()}
+    crates = "all crates" if {it["crate"] for it in rows} == every else ", ".join(f"`{it['crate']}`" for it in rows)
     how_long = f"{minutes:.0f} minutes on {rows[0]['processors']} processors"
     return f"`tools/verdict.py` passed on {rows[0]['day']}, in {how_long}: {functions:,} functions of {crates}."
 

@@ -14,7 +14,7 @@ IsUsage Command = Unit {0}
 IsUsage (Digits error) = Unit {0}
 IsUsage _ = ⊥
 
--- the position of the error in the text of the request's path, if it is not a path
+-- The position of the error in the text of the request's path, if that does not parse.
 abbrev pub path_problem : Request → Option Problem
 path_problem (get path document) = option_map KeyPath (key_path_error_position path)
 path_problem (select path document) = option_map JsonPath (json_path_error_position path)
