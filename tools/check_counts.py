@@ -212,7 +212,7 @@ def numbers_of_tools():
     yield "folders that test the judge", entries_of("tools/test_judge.py", "FOLDERS")
     yield "cases that test the gate", entries_of("tools/test_gate.py", "CASES")
     yield "outputs that test what the gate repeats", entries_of("tools/test_gate.py", "PRINTED")
-    yield "cases that test the gate's lanes", sum(entries_of("tools/test_gate.py", it) for it in ("LANES", "JOBS"))
+    yield "cases that test the gate's lanes", sum(entries_of("tools/test_gate.py", it) for it in ("LANES", "JOBS", "CHAINS"))
     yield "rules of the lint", entries_of("tools/lint.py", "RULES")
     yield "tests that count work", len(tomllib.loads((ROOT / "tools/witnesses.toml").read_text())["counted"])
     kept = tomllib.loads((ROOT / "tools/witnesses.toml").read_text())["prover"]

@@ -19,9 +19,6 @@ from edits import say
 MEMORY = {"proof": 3_600_000_000, "seed": 3_000_000_000, "tests": 4_500_000_000, "edits": 3_000_000_000, "sound": 3_000_000_000, "again": 0}
 MORE_MEMORY = {("jsonb_raw", "tests"): 6_000_000_000}
 MEMORY_OF_A_JOB = 800_000_000
-# The most jobs that a proof has. Each loads what it needs: four fifths of the proof of jsonb_doc took 11 minutes of the processors with one
-# job and 16 with two, and the whole 26 with four. Other tasks wait for them.
-MOST_JOBS = 2
 # What the other commands of .ci/run take at the same time.
 MEMORY_BESIDE = 2_000_000_000
 # How many lines of a crate are proved in a minute, about, if it was not measured.
@@ -41,14 +38,29 @@ def lanes_here():
 def expected(tasks):
     """Returns how many minutes each task is expected to take: as many as when it was measured, or by its lines."""
     took = {row["step"]: float(row["minutes"]) for row in measured.read("gate")}
-    steps = {key: key[0] if key[1] == "proof" else " ".join(key[:2]) for key in tasks}
+    steps = {key: key[0] if key[1] == "proof" else " ".join(map(str, key)) for key in tasks}
     return {key: took.get(step, tasks[key][1] / LINES) for key, step in steps.items()}
 
 
-def jobs_of(key, proofs, lanes, took):
-    """Returns how many jobs a task has: a proof its part of the lanes, by the minutes of all proofs that can be made at one time."""
-    whole = sum(took[it] for it in proofs)
-    return min(MOST_JOBS, max(1, round(lanes * took[key] / whole))) if key[1] == "proof" and whole else 1
+def chains(tasks):
+    """Returns the minutes from the start of each task to the end of the last one that waits for it, if none waits for a lane."""
+    took, found = expected(tasks), {}
+
+    def chain(key):
+        if key not in found:
+            found[key] = took[key] + max((chain(it) for it in tasks if key in tasks[it][0]), default=0)
+        return found[key]
+
+    return {key: chain(key) for key in tasks}
+
+
+def jobs_of(key, proofs, lanes):
+    """Returns how many jobs a task has: all lanes except one for a proof while there is no other one to make, otherwise one.
+
+    Each job loads what it needs: jsonb_doc takes 13 minutes of the processors with one job, 20 with two and 24 with four, and 6 from
+    beginning to end. While crates above wait for one proof, only tests and edits are left to do, which are nicer and have the other lane.
+    """
+    return max(1, lanes - 1) if key[1] == "proof" and len(proofs) == 1 else 1
 
 
 def minutes(since):
@@ -90,20 +102,18 @@ def in_lanes(tasks):
     """Does tasks in parallel, up to the number of lanes, and returns the result of each by its key.
 
     A key begins with a crate's name and the kind of the task. A task is what it waits for, its work in lines, its memory,
-    and a call that takes what was given so far and how many jobs it may use. Of those that are ready, the first goes
-    first, and the longest of a kind. Proofs that can be made at one time share the lanes as jobs, up to MOST_JOBS each: other
-    tasks are nicer, and take what they leave idle. Any other task has one job, since more jobs take more time of the
-    processors in all. If a task does not fit into memory, those after it wait too.
+    and a call that takes what was given so far and how many jobs it may use. Of those that are ready, that which begins the longest
+    chain goes first. If a task does not fit into memory, those after it wait too.
     """
     lanes, memory, running, given = kit.processors(), kit.free() - MEMORY_BESIDE, {}, {}
-    took = expected(tasks)
-    left = sorted(tasks, key=lambda it: (kit.KINDS.index(it[1]), -took[it]))
+    chain = chains(tasks)
+    left = sorted(tasks, key=lambda it: -chain[it])
     with kit.rt.ending(), ThreadPoolExecutor(lanes) as pool:
         while left or running:
             ready = [it for it in left if all(below in given for below in tasks[it][0])]
             proofs = [it for it in [*ready, *(key for key, _ in running.values())] if it[1] == "proof"]
             for key in ready[: lanes - len(running)]:
-                jobs = jobs_of(key, proofs, lanes, took)
+                jobs = jobs_of(key, proofs, lanes)
                 needs = MORE_MEMORY.get(key[:2], MEMORY[key[1]]) + (jobs - 1) * MEMORY_OF_A_JOB
                 if running and needs + sum(it for _, it in running.values()) > memory:
                     break

@@ -1,7 +1,7 @@
 #!/usr/bin/env python3
 """Tests .ci/run, with commands that do nothing in the place of those that it counts: it must fail if one of them fails, counts nothing,
-skips a test or is killed, and repeat the last lines of that command at the end. Tests which errors tools/gate.py repeats, and how
-many tasks it does at a time.
+skips a test or is killed, and repeat the last lines of that command at the end. Tests which errors tools/gate.py repeats, how
+many tasks it does at a time, and in which order.
 
     tools/test_gate.py        the last line is 'N passed, M failed'
 """
@@ -69,8 +69,16 @@ PRINTED = {
 }
 # The free memory of a machine with four processors, in GB, and how many crates' tests are proved there at a time.
 LANES = {30: 4, 15: 2, 3: 1}
-# The minutes of proofs that can be made at a time, and how many jobs the first of them has on four processors.
-JOBS = {(14,): 2, (0,): 1, (18, 7, 6, 4, 3, 0): 2, (7, 18, 6, 4, 3, 0): 1, (10, 10): 2}
+# How many proofs can be made at a time, and how many jobs the first of them has on four processors.
+JOBS = {1: 3, 2: 1, 3: 1, 5: 1}
+# The minutes of some tasks, and what each waits for, in the order in which one processor does them.
+CHAINS = {
+    ("low", "proof"): (5, []),
+    ("high", "proof"): (2, [("low", "proof")]),
+    ("high", "tests"): (7, [("high", "proof")]),
+    ("apart", "proof"): (6, []),
+    ("low", "tests"): (3, [("low", "proof")]),
+}
 # The crates whose programs and library other commands wait for.
 BUILT = ("jsonb_c", "jsonb_lines", "jsonb_sweep", "jsonb_tool")
 
@@ -153,11 +161,19 @@ def fault_of_lanes(free, expected):
     return "" if most == expected and len(done) == 8 else f"{free} GB: expected {expected} of 8 tasks at a time, got {most} of {len(done)}"
 
 
-def fault_of_jobs(minutes, expected):
+def fault_of_jobs(number, expected):
     """Returns what is wrong with the jobs of the first of some proofs, or an empty text."""
-    proofs = [(f"crate{number}", "proof") for number in range(len(minutes))]
-    found = lanes.jobs_of(proofs[0], proofs, 4, dict(zip(proofs, minutes)))
-    return "" if found == expected else f"{minutes}: expected {expected} jobs, got {found}"
+    proofs = [(f"crate{it}", "proof") for it in range(number)]
+    found = lanes.jobs_of(proofs[0], proofs, 4)
+    return "" if found == expected else f"{number} proofs: expected {expected} jobs, got {found}"
+
+
+def fault_of_chains():
+    """Returns what is wrong with the order in which one processor does tasks, or an empty text."""
+    kit.processors, kit.free, done = lambda: 1, lambda: 30 * 10**9, []
+    made = sorted(CHAINS)
+    lanes.in_lanes({key: (CHAINS[key][1], CHAINS[key][0] * lanes.LINES, 0, lambda given, jobs, key=key: done.append(key) or True) for key in made})
+    return "" if done == [*CHAINS] else f"expected the tasks in the order {[*CHAINS]}, got {done}"
 
 
 def faults():
@@ -175,6 +191,7 @@ def faults():
         yield named(words, fault_of_reasons(*it))
     yield from (fault_of_lanes(*it) for it in LANES.items())
     yield from (fault_of_jobs(*it) for it in JOBS.items())
+    yield fault_of_chains()
 
 
 def named(words, fault):

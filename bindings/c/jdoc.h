@@ -8,7 +8,7 @@
  *
  * Status. Functions return an enum jdoc_status, except jdoc_version and .._free. JDOC_OK is 0. JDOC_NONE means that
  * there is no result, such as a child that does not exist. All others are errors. jdoc_status_name returns their names,
- * jdoc_status_text their meaning.
+ * jdoc_status_text their meaning. Of a document of the wrong type, jdoc_type and jdoc_kind_text say which it has.
  *
  * Input is a pointer and a length: documents are uint8_t, paths, names and other strings char. It needs no null byte at
  * its end and no alignment. NULL with length 0 is empty. Input is only read, must not change during the call, and may
@@ -202,6 +202,13 @@ enum jdoc_kind {
     JDOC_KIND_ARRAY = 10,
     JDOC_KIND_OBJECT = 11
 };
+
+/* Return the name of a type, such as "array", or "not a type" if no type has this number. */
+static inline const char *jdoc_kind_text(uint32_t kind) {
+    static const char *const texts[] = {"null",      "boolean",      "integer",  "decimal", "string", "binary", "date",
+                                        "timestamp", "timestamp_tz", "interval", "array",   "object"};
+    return kind < sizeof texts / sizeof *texts ? texts[kind] : "not a type";
+}
 
 /* *kind: the type of the document, of enum jdoc_kind. */
 JDOC_NODISCARD enum jdoc_status jdoc_type(const uint8_t *document, size_t document_len, uint8_t *kind);

@@ -53,6 +53,9 @@ inline std::uint32_t version() noexcept { return jdoc_version(); }
 /* Returns what a status means. */
 inline const char *text(jdoc_status status) noexcept { return jdoc_status_text(status); }
 
+/* Returns the name of a type. */
+inline const char *text(jdoc_kind kind) noexcept { return jdoc_kind_text(kind); }
+
 /* Documents or strings, one after the other, with the offsets between them. */
 class column {
   public:

@@ -2,6 +2,7 @@
 #include "jdoc_pg.h"
 
 #include "catalog/pg_type.h"
+#include "mb/pg_wchar.h"
 #include "utils/array.h"
 #include "utils/builtins.h"
 
@@ -48,9 +49,40 @@ static int sqlstate_of(uint32_t status) {
     }
 }
 
+/* Only of an extension value is JDOC_INVALID_JSON_TYPE raised here: fail_type raises it of a document. */
 void fail(uint32_t status) {
-    ereport(ERROR, (errcode(sqlstate_of(status)), errmsg("jdoc: %s", jdoc_status_text(status))));
+    const char *what = status == JDOC_INVALID_JSON_TYPE ? "an extension value, such as a date, has no JSON text"
+                                                        : jdoc_status_text(status);
+    ereport(ERROR, (errcode(sqlstate_of(status)), errmsg("jdoc: %s", what)));
     pg_unreachable();
+}
+
+const char *type_of(const uint8_t *document, size_t len) {
+    uint8_t kind = 0;
+    uint32_t status = jdoc_type(document, len, &kind);
+    if (status != JDOC_OK) fail(status);
+    return kind == JDOC_KIND_INTEGER || kind == JDOC_KIND_DECIMAL ? "number" : jdoc_kind_text(kind);
+}
+
+void fail_type(const edit *of, uint32_t status, const bytea *document) {
+    ereport(ERROR, (errcode(sqlstate_of(status)),
+                    errmsg("%s: expected %s, found %s", of->name, of->types, type_of(BYTES(document)))));
+    pg_unreachable();
+}
+
+enum { SHOWN_OF_KEY = 200 }; /* bytes */
+
+/* Raise the error of a call, with what its status does not say: the type of the document, or the key that it has. */
+static void fail_call(const given *it, uint32_t status) pg_attribute_noreturn();
+static void fail_call(const given *it, uint32_t status) {
+    if (it->edit && (status == JDOC_INVALID_JSON_TYPE || status == JDOC_INVALID_OBJECT))
+        fail_type(it->edit, status, it->documents[0]);
+    if (it->edit && status == JDOC_OBJECT_DUPLICATE_KEY) {
+        int shown = pg_mbcliplen(TEXT(it->name), SHOWN_OF_KEY);
+        ereport(ERROR, (errcode(sqlstate_of(status)), errmsg("%s: the object already has the key \"%.*s\"",
+                                                             it->edit->name, shown, VARDATA_ANY(it->name))));
+    }
+    fail(status);
 }
 
 bool is_hidden(uint32_t status, bool silent) {
@@ -186,7 +218,7 @@ static bool result_of(const given *it, maker *makes, bool silent, result *found)
         RUN(status, makes(it, (uint8_t *)VARDATA(found->large), found->len, &found->len));
     }
     if (status == JDOC_NONE || is_hidden(status, silent)) return false;
-    if (status != JDOC_OK) fail(status);
+    if (status != JDOC_OK) fail_call(it, status);
     return true;
 }
 
@@ -201,9 +233,14 @@ bytea *made_by(const given *it, maker *makes, bool silent) {
 }
 
 Datum return_made(FunctionCallInfo fcinfo, const char *letters, maker *makes) {
+    return return_edited(fcinfo, NULL, letters, makes);
+}
+
+Datum return_edited(FunctionCallInfo fcinfo, const edit *of, const char *letters, maker *makes) {
     given it;
     bytea *made;
     given_of(fcinfo, letters, &it);
+    it.edit = of;
     made = made_by(&it, makes, false);
     if (!made) PG_RETURN_NULL();
     PG_RETURN_BYTEA_P(made);

@@ -35,8 +35,16 @@ CREATE FUNCTION jdoc_to_jsonb(jdoc) RETURNS jsonb
     AS 'MODULE_PATHNAME', 'jdoc_sql_to_jsonb' LANGUAGE C IMMUTABLE STRICT PARALLEL SAFE;
 CREATE FUNCTION jdoc_to_json(jdoc) RETURNS json
     AS 'MODULE_PATHNAME', 'jdoc_sql_to_json' LANGUAGE C IMMUTABLE STRICT PARALLEL SAFE;
+CREATE FUNCTION jdoc_to_int4(jdoc) RETURNS int4
+    AS 'MODULE_PATHNAME', 'jdoc_sql_to_int4' LANGUAGE C IMMUTABLE STRICT PARALLEL SAFE;
 CREATE FUNCTION jdoc_to_int8(jdoc) RETURNS int8
     AS 'MODULE_PATHNAME', 'jdoc_sql_to_int8' LANGUAGE C IMMUTABLE STRICT PARALLEL SAFE;
+CREATE FUNCTION jdoc_to_numeric(jdoc) RETURNS numeric
+    AS 'MODULE_PATHNAME', 'jdoc_sql_to_numeric' LANGUAGE C IMMUTABLE STRICT PARALLEL SAFE;
+CREATE FUNCTION jdoc_to_float8(jdoc) RETURNS float8
+    AS 'MODULE_PATHNAME', 'jdoc_sql_to_float8' LANGUAGE C IMMUTABLE STRICT PARALLEL SAFE;
+CREATE FUNCTION jdoc_to_bool(jdoc) RETURNS bool
+    AS 'MODULE_PATHNAME', 'jdoc_sql_to_bool' LANGUAGE C IMMUTABLE STRICT PARALLEL SAFE;
 CREATE CAST (bytea AS jdoc) WITH FUNCTION jdoc(bytea);
 CREATE CAST (jdoc AS bytea) WITHOUT FUNCTION;
 CREATE CAST (jsonb AS jdoc) WITH FUNCTION jdoc(jsonb) AS ASSIGNMENT;
@@ -44,7 +52,11 @@ CREATE CAST (jdoc AS jsonb) WITH FUNCTION jdoc_to_jsonb(jdoc) AS ASSIGNMENT;
 -- By the cast to json, to_jsonb, jsonb_agg, row_to_json and others have the value, not a string of its text.
 CREATE CAST (json AS jdoc) WITH INOUT AS ASSIGNMENT;
 CREATE CAST (jdoc AS json) WITH FUNCTION jdoc_to_json(jdoc) AS ASSIGNMENT;
+CREATE CAST (jdoc AS int4) WITH FUNCTION jdoc_to_int4(jdoc);
 CREATE CAST (jdoc AS int8) WITH FUNCTION jdoc_to_int8(jdoc);
+CREATE CAST (jdoc AS numeric) WITH FUNCTION jdoc_to_numeric(jdoc);
+CREATE CAST (jdoc AS float8) WITH FUNCTION jdoc_to_float8(jdoc);
+CREATE CAST (jdoc AS bool) WITH FUNCTION jdoc_to_bool(jdoc);
 
 -- CHILDREN AND EDITS
 CREATE FUNCTION jdoc_field(jdoc, text) RETURNS jdoc
@@ -71,6 +83,9 @@ CREATE OPERATOR #- (LEFTARG = jdoc, RIGHTARG = text[], FUNCTION = jdoc_delete);
 CREATE FUNCTION jdoc_delete(jdoc, text) RETURNS jdoc
     AS 'MODULE_PATHNAME', 'jdoc_sql_delete_name' LANGUAGE C IMMUTABLE STRICT PARALLEL SAFE;
 CREATE OPERATOR - (LEFTARG = jdoc, RIGHTARG = text, FUNCTION = jdoc_delete);
+CREATE FUNCTION jdoc_delete_names(jdoc, text[]) RETURNS jdoc
+    AS 'MODULE_PATHNAME', 'jdoc_sql_delete_names' LANGUAGE C IMMUTABLE STRICT PARALLEL SAFE;
+CREATE OPERATOR - (LEFTARG = jdoc, RIGHTARG = text[], FUNCTION = jdoc_delete_names);
 CREATE FUNCTION jdoc_delete(jdoc, int4) RETURNS jdoc
     AS 'MODULE_PATHNAME', 'jdoc_sql_delete_index' LANGUAGE C IMMUTABLE STRICT PARALLEL SAFE;
 CREATE OPERATOR - (LEFTARG = jdoc, RIGHTARG = int4, FUNCTION = jdoc_delete);
@@ -110,11 +125,13 @@ CREATE FUNCTION jdoc_path_match_opr(jdoc, jdocpath) RETURNS bool
 CREATE OPERATOR @@ (LEFTARG = jdoc, RIGHTARG = jdocpath, FUNCTION = jdoc_path_match_opr,
     RESTRICT = matchingsel, JOIN = matchingjoinsel);
 
--- PATHS, with the arguments of jsonb's functions; variables have to be {}
+-- PATHS; functions of documents have the arguments of jsonb's, and variables have to be {}
 CREATE FUNCTION jdoc_path_exists(target jdoc, path jdocpath, vars jdoc DEFAULT '{}', silent bool DEFAULT false)
     RETURNS bool AS 'MODULE_PATHNAME', 'jdoc_sql_path_exists' LANGUAGE C IMMUTABLE STRICT PARALLEL SAFE;
 CREATE FUNCTION jdoc_path_match(target jdoc, path jdocpath, vars jdoc DEFAULT '{}', silent bool DEFAULT false)
     RETURNS bool AS 'MODULE_PATHNAME', 'jdoc_sql_path_match' LANGUAGE C IMMUTABLE STRICT PARALLEL SAFE;
+CREATE FUNCTION jdoc_path_is_predicate(path jdocpath) RETURNS bool
+    AS 'MODULE_PATHNAME', 'jdoc_sql_path_is_predicate' LANGUAGE C IMMUTABLE STRICT PARALLEL SAFE;
 CREATE FUNCTION jdoc_path_query(target jdoc, path jdocpath, vars jdoc DEFAULT '{}', silent bool DEFAULT false)
     RETURNS SETOF jdoc AS 'MODULE_PATHNAME', 'jdoc_sql_path_query' LANGUAGE C IMMUTABLE STRICT PARALLEL SAFE ROWS 10;
 CREATE FUNCTION jdoc_path_query_array(target jdoc, path jdocpath, vars jdoc DEFAULT '{}', silent bool DEFAULT false)
@@ -123,6 +140,10 @@ CREATE FUNCTION jdoc_path_query_first(target jdoc, path jdocpath, vars jdoc DEFA
     RETURNS jdoc AS 'MODULE_PATHNAME', 'jdoc_sql_path_query_first' LANGUAGE C IMMUTABLE STRICT PARALLEL SAFE;
 CREATE FUNCTION jdoc_array_elements(jdoc, OUT value jdoc) RETURNS SETOF jdoc
     AS 'MODULE_PATHNAME', 'jdoc_sql_array_elements' LANGUAGE C IMMUTABLE STRICT PARALLEL SAFE ROWS 100;
+CREATE FUNCTION jdoc_each(jdoc, OUT key text, OUT value jdoc) RETURNS SETOF record
+    AS 'MODULE_PATHNAME', 'jdoc_sql_each' LANGUAGE C IMMUTABLE STRICT PARALLEL SAFE ROWS 100;
+CREATE FUNCTION jdoc_object_keys(jdoc) RETURNS SETOF text
+    AS 'MODULE_PATHNAME', 'jdoc_sql_object_keys' LANGUAGE C IMMUTABLE STRICT PARALLEL SAFE ROWS 100;
 
 -- FURTHER FUNCTIONS
 CREATE FUNCTION jdoc_set(target jdoc, name text, value jdoc, replace bool DEFAULT true) RETURNS jdoc

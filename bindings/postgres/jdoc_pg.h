@@ -10,6 +10,7 @@
 
 #include "fmgr.h"
 #include "utils/memutils.h"
+#include "utils/numeric.h"
 #if PG_VERSION_NUM >= 160000
 #include "varatt.h"
 #endif
@@ -65,6 +66,17 @@ extern arena *heap_arena;
 /* Raise the error of a status. */
 void fail(uint32_t status) pg_attribute_noreturn();
 
+/* The name of a document's type, as jdoc_typeof returns it. */
+const char *type_of(const uint8_t *document, size_t len);
+
+/* How SQL writes a call that fails for documents of other types, and the types that it takes. */
+typedef struct edit {
+    const char *name, *types;
+} edit;
+
+/* Raise the error of such a call, with the status of the document's type. */
+void fail_type(const edit *of, uint32_t status, const bytea *document) pg_attribute_noreturn();
+
 /* The text[] of names as a column of strings, without its nulls. */
 typedef struct names {
     char *bytes;
@@ -88,6 +100,7 @@ typedef struct given {
     names names;
     int32 index;
     bool flag;
+    const edit *edit; /* the call, if it fails for documents of some types, or NULL */
 } given;
 
 void given_of(FunctionCallInfo fcinfo, const char *letters, given *it);
@@ -101,6 +114,7 @@ bytea *made_by(const given *it, maker *makes, bool silent);
 
 /* Return what makes or asks writes, as the result of an SQL function. */
 Datum return_made(FunctionCallInfo fcinfo, const char *letters, maker *makes);
+Datum return_edited(FunctionCallInfo fcinfo, const edit *of, const char *letters, maker *makes);
 Datum return_truth(FunctionCallInfo fcinfo, const char *letters, asker *asks, bool silent);
 bool is_hidden(uint32_t status, bool silent);
 
@@ -118,6 +132,13 @@ bool is_hidden(uint32_t status, bool silent);
     MAKER(name##_call, call)                                                                                           \
     PG_FUNCTION_INFO_V1(name);                                                                                         \
     Datum name(PG_FUNCTION_ARGS) { return return_made(fcinfo, letters, name##_call); }
+#define EDITS(name, in_sql, types, letters, call)                                                                      \
+    MAKER(name##_call, call)                                                                                           \
+    PG_FUNCTION_INFO_V1(name);                                                                                         \
+    Datum name(PG_FUNCTION_ARGS) {                                                                                     \
+        static const edit of = {in_sql, types};                                                                        \
+        return return_edited(fcinfo, &of, letters, name##_call);                                                       \
+    }
 #define ASKS(name, letters, call)                                                                                      \
     ASKER(name##_call, call)                                                                                           \
     PG_FUNCTION_INFO_V1(name);                                                                                         \
@@ -145,6 +166,9 @@ typedef struct children {
 
 void open_children(children *it, const uint8_t *container, size_t len);
 bool next_child(children *it, jdoc_event *child);
+
+/* The value of an item that is a number (casts.c). */
+Numeric numeric_of(const jdoc_event *number);
 
 /* An item as text: a string without quotes, others as JSON text. NULL: it is null. */
 text *text_of_item(const jdoc_event *item);

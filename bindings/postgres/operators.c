@@ -109,10 +109,10 @@ CHILD(jdoc_sql_descendant, the_descendant)
 
 /* EDITS */
 
-MAKES(jdoc_sql_delete_name, "dn", jdoc_delete_by_name(D(0), NAME, OUT))
-MAKES(jdoc_sql_delete_index, "di", jdoc_delete_by_index(D(0), it->index, OUT))
+EDITS(jdoc_sql_delete_name, "jdoc - text", "an array or an object", "dn", jdoc_delete_by_name(D(0), NAME, OUT))
+EDITS(jdoc_sql_delete_index, "jdoc - integer", "an array", "di", jdoc_delete_by_index(D(0), it->index, OUT))
+EDITS(jdoc_sql_set, "jdoc_set", "an object", "dndf", jdoc_object_insert(D(0), D(1), NAME, it->flag, OUT))
 MAKES(jdoc_sql_concat, "dd", jdoc_concat(D(0), D(1), OUT))
-MAKES(jdoc_sql_set, "dndf", jdoc_object_insert(D(0), D(1), NAME, it->flag, OUT))
 MAKES(jdoc_sql_array_insert, "did", jdoc_array_insert(D(0), D(1), it->index, OUT))
 MAKES(jdoc_sql_strip_nulls, "d", jdoc_strip_nulls(D(0), OUT))
 MAKES(jdoc_sql_sort_key, "d", jdoc_sort_key(D(0), false, OUT))
@@ -143,9 +143,11 @@ MAKER(delete_by_keypath, jdoc_delete_by_keypath(D(0), NAME, OUT))
 
 PG_FUNCTION_INFO_V1(jdoc_sql_delete_descendant);
 Datum jdoc_sql_delete_descendant(PG_FUNCTION_ARGS) {
+    static const edit of = {"jdoc #- text[]", "an array or an object"};
     given it;
     StringInfoData path;
     given_of(fcinfo, "dN", &it);
+    it.edit = &of;
     if (it.names.has_null) ereport(ERROR, (errcode(ERRCODE_NULL_VALUE_NOT_ALLOWED), errmsg("path element is null")));
     initStringInfo(&path);
     appendStringInfoChar(&path, '{');
@@ -156,6 +158,30 @@ Datum jdoc_sql_delete_descendant(PG_FUNCTION_ARGS) {
     appendStringInfoChar(&path, '}');
     it.name = cstring_to_text_with_len(path.data, path.len);
     PG_RETURN_BYTEA_P(made_by(&it, delete_by_keypath, false));
+}
+
+MAKER(delete_keys, jdoc_object_delete(D(0), NAMES, OUT))
+MAKER(delete_strings, jdoc_delete_by_name(D(0), NAME, OUT))
+
+/* The object without the keys, or the array without the strings, name by name. */
+PG_FUNCTION_INFO_V1(jdoc_sql_delete_names);
+Datum jdoc_sql_delete_names(PG_FUNCTION_ARGS) {
+    static const edit of = {"jdoc - text[]", "an array or an object"};
+    given it;
+    uint8_t kind = 0;
+    uint32_t status;
+    given_of(fcinfo, "dN", &it);
+    it.edit = &of;
+    status = jdoc_type(BYTES(it.documents[0]), &kind);
+    if (status != JDOC_OK) fail(status);
+    if (kind == JDOC_KIND_OBJECT) PG_RETURN_BYTEA_P(made_by(&it, delete_keys, false));
+    if (kind != JDOC_KIND_ARRAY) fail_type(&of, JDOC_INVALID_JSON_TYPE, it.documents[0]);
+    for (size_t i = 0; i < it.names.count; i++) {
+        const char *name = it.names.bytes + it.names.offsets[i];
+        it.name = cstring_to_text_with_len(name, (int)(it.names.offsets[i + 1] - it.names.offsets[i]));
+        it.documents[0] = made_by(&it, delete_strings, false);
+    }
+    PG_RETURN_BYTEA_P(it.documents[0]);
 }
 
 /* QUESTIONS */
@@ -185,13 +211,8 @@ ASKS(jdoc_sql_has_all, "dN", jdoc_exists_all_keys(D(0), NAMES, truth))
 
 PG_FUNCTION_INFO_V1(jdoc_sql_typeof);
 Datum jdoc_sql_typeof(PG_FUNCTION_ARGS) {
-    static const char *const names[] = {"null", "boolean",   "number",       "number",   "string", "binary",
-                                        "date", "timestamp", "timestamp_tz", "interval", "array",  "object"};
-    bytea *it = PG_GETARG_BYTEA_PP(0);
-    uint8_t kind = 0;
-    uint32_t status = jdoc_type(BYTES(it), &kind);
-    if (status != JDOC_OK) fail(status);
-    PG_RETURN_TEXT_P(cstring_to_text(names[kind]));
+    const bytea *it = PG_GETARG_BYTEA_PP(0);
+    PG_RETURN_TEXT_P(cstring_to_text(type_of(BYTES(it))));
 }
 
 PG_FUNCTION_INFO_V1(jdoc_sql_length);

@@ -33,6 +33,18 @@ Datum jdocpath_in(PG_FUNCTION_ARGS) {
     PG_RETURN_TEXT_P(cstring_to_text(text));
 }
 
+PG_FUNCTION_INFO_V1(jdoc_sql_path_is_predicate);
+Datum jdoc_sql_path_is_predicate(PG_FUNCTION_ARGS) {
+    const text *path = PG_GETARG_TEXT_PP(0);
+    sql_path it = sql_path_of(TEXT(path));
+    char *room = palloc(it.len + 2);
+    bool is_predicate;
+    uint32_t status;
+    RUN(status, path_is_predicate(it.text, it.len, room, &is_predicate));
+    if (status != JDOC_OK) fail(status);
+    PG_RETURN_BOOL(is_predicate);
+}
+
 ASKER(exists, jdoc_path_exists(it->path, D(0), it->strict, truth))
 ASKER(match, jdoc_path_match(it->path, D(0), it->strict, truth))
 MAKER(first, jdoc_path_select_first(it->path, D(0), it->strict, OUT))

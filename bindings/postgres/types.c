@@ -1,4 +1,4 @@
-/* types.c - jdoc in and out: JSON text, bytes, jsonb, integers */
+/* types.c - jdoc in and out: JSON text, bytes, jsonb */
 #include "jdoc_pg.h"
 
 #include "lib/stringinfo.h"
@@ -216,7 +216,6 @@ static JsonbValue string_value(const uint8_t *bytes, size_t len) {
 }
 
 static JsonbValue scalar_value(const jdoc_event *event) {
-    char text[JDOC_NUMBER_TEXT + 1];
     JsonbValue value = {.type = jbvNull};
     switch (event->kind) {
     case JDOC_EVENT_NULL:
@@ -229,10 +228,8 @@ static JsonbValue scalar_value(const jdoc_event *event) {
     case JDOC_EVENT_STRING:
         return string_value(event->bytes, event->len);
     case JDOC_EVENT_NUMBER:
-        text[jdoc_number_text(event->bytes, event->len, text)] = 0;
         value.type = jbvNumeric;
-        value.val.numeric = DatumGetNumeric(
-            DirectFunctionCall3(numeric_in, CStringGetDatum(text), ObjectIdGetDatum(InvalidOid), Int32GetDatum(-1)));
+        value.val.numeric = numeric_of(event);
         return value;
     default: /* a date or another extension value */
         fail(JDOC_INVALID_JSON_TYPE);
@@ -277,15 +274,4 @@ Datum jdoc_sql_to_jsonb(PG_FUNCTION_ARGS) {
     if (status != JDOC_NONE) fail(status);
     jdoc_walk_free(&walk);
     PG_RETURN_JSONB_P(JsonbValueToJsonb(made));
-}
-
-/* INTEGERS */
-
-PG_FUNCTION_INFO_V1(jdoc_sql_to_int8);
-Datum jdoc_sql_to_int8(PG_FUNCTION_ARGS) {
-    bytea *it = PG_GETARG_BYTEA_PP(0);
-    int64_t number = 0;
-    uint32_t status = jdoc_to_i64(BYTES(it), &number);
-    if (status != JDOC_OK) fail(status);
-    PG_RETURN_INT64(number);
 }

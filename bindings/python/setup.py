@@ -32,6 +32,8 @@ class Build(build_ext):
         extension.extra_objects = [os.path.join(library, "libjdoc.a")]
         extension.include_dirs += [header, text]
         extension.sources += sorted(os.path.join(text, it) for it in os.listdir(text) if it.endswith(".c"))
+        headers = sorted(os.path.join(text, it) for it in os.listdir(text) if it.endswith(".h"))
+        extension.depends += [*extension.extra_objects, os.path.join(header, "jdoc.h"), *headers]
         compile_one = self.compiler._compile
 
         def compile_by_language(obj, src, ext, cc_args, extra_postargs, pp_opts):

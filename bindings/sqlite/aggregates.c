@@ -66,10 +66,13 @@ static void object_step(sqlite3_context *to, int count, sqlite3_value **values) 
         return;
     }
     if (it->why.status != JDOC_OK) return;
+    if (!has_type(values[0], SQLITE_TEXT, NAME_EXPECTED, &it->why)) {
+        if (it->why.status == JDOC_NONE)
+            it->why = (fault){.status = JDOC_INVALID_ARGUMENT, .what = NAME_EXPECTED, .at = NOWHERE, .detail = "NULL"};
+        return;
+    }
     const void *name = sqlite3_value_text(values[0]);
-    if (sqlite3_value_type(values[0]) == SQLITE_NULL)
-        it->why = (fault){JDOC_NOT_UTF8, "a name is NULL", NOWHERE};
-    else if (!name || !push(&it->names, name, (size_t)sqlite3_value_bytes(values[0])))
+    if (!name || !push(&it->names, name, (size_t)sqlite3_value_bytes(values[0])))
         it->why.status = JDOC_OUT_OF_MEMORY;
     else
         push_document(sqlite3_user_data(to), it, values[1]);
@@ -86,6 +89,29 @@ static enum jdoc_status make(const group *it, bool is_object, uint8_t *out, size
                                     documents->bytes, documents->len, offsets, documents->rows + 1, out, size, len);
 }
 
+/* Copy a name to connection->bytes, with a null byte after it. NULL: an allocation fails. */
+static const char *copied(connection *own, const char *name, size_t len) {
+    if (!reserve(own, len + 1)) return NULL;
+    if (len) memcpy(own->bytes, name, len);
+    own->bytes[len] = 0;
+    return (const char *)own->bytes;
+}
+
+/* Add the name that occurs twice to a fault: the first that a builder of an object rejects. */
+static void explain(connection *own, const column *names, fault *why) {
+    jdoc_builder builder = {0};
+    enum jdoc_status status = jdoc_builder_begin_object(&builder);
+    for (size_t row = 0; status == JDOC_OK && row < names->rows; row++) {
+        const char *name = (const char *)names->bytes + names->offsets[row];
+        size_t len = names->offsets[row + 1] - names->offsets[row];
+        status = jdoc_builder_key(&builder, name, len);
+        if (status == JDOC_OK) status = jdoc_builder_null(&builder);
+        if (status == JDOC_OBJECT_DUPLICATE_KEY) why->key = copied(own, name, len);
+    }
+    jdoc_builder_free(&builder);
+    if (why->key) why->what = "two rows have the key", why->at = NOWHERE;
+}
+
 static void finish(sqlite3_context *to, const char *function, bool is_object) {
     static const group empty;
     connection *own = sqlite3_user_data(to);
@@ -96,6 +122,7 @@ static void finish(sqlite3_context *to, const char *function, bool is_object) {
     if (why.status == JDOC_OK) why.status = make(it, is_object, NULL, 0, &len);
     if (why.status == JDOC_BUFFER_TOO_SMALL)
         why.status = reserve(own, len) ? make(it, is_object, own->bytes, own->size, &len) : JDOC_OUT_OF_MEMORY;
+    if (why.status == JDOC_OBJECT_DUPLICATE_KEY && it->why.status == JDOC_OK) explain(own, &it->names, &why);
     if (why.status == JDOC_OK)
         sqlite3_result_blob64(to, own->bytes, len, SQLITE_TRANSIENT);
     else

@@ -25,12 +25,16 @@ typedef struct connection {
     int uses;         /* functions that hold it */
 } connection;
 
-/* Why there is no result: a status, a sentence in place of that of the status, or NULL, and the position in JSON text or
- * a path, or NOWHERE. */
+/* A status of this extension alone: an argument of an SQL type that the function does not take. */
+enum { JDOC_INVALID_ARGUMENT = 128 };
+
+/* Why there is no result. */
 typedef struct fault {
     uint32_t status;
-    const char *what;
-    size_t at;
+    const char *what;   /* a sentence in place of that of the status, or NULL */
+    size_t at;          /* the position in JSON text or a path, or NOWHERE; read only if there is a sentence */
+    const char *detail; /* a word at the end of the sentence, or NULL */
+    const char *key;    /* a key in place of the word, or NULL; its first 60 characters are shown, in quotes */
 } fault;
 #define NOWHERE SIZE_MAX
 
@@ -52,32 +56,41 @@ extern const jdoc_heap sqlite_heap;
 /* Grow connection->bytes to at least this size. False: the allocation fails. */
 bool reserve(connection *own, size_t size);
 
+/* Whether a value has an SQL type, which SQLite does not check: it would convert the value. False: *why is the reason,
+ * with a sentence that ends before the value's type; JDOC_NONE is NULL. */
+bool has_type(sqlite3_value *value, int type, const char *expected, fault *why);
+#define PATH_EXPECTED "expected TEXT as the path, found"
+#define NAME_EXPECTED "expected TEXT as the name, found"
+
 /* Read a value as a document: BLOB as it is, TEXT as JSON text, an integer as a number. The caller frees it->own by
  * sqlite3_free. False: *why is the reason; JDOC_NONE is NULL. */
 bool document_of_value(connection *own, sqlite3_value *value, document *it, fault *why);
 
-/* Add the position in a path's text, if it is why the text does not parse. */
-void locate_fault(fault *why, const char *text, const sql_path *path);
+/* Parse a JSON path with its mode, or a key path. False: *why is the reason, with the position in the text. */
+bool read_json_path(const char *text, size_t len, jdoc_path *path, bool *strict, fault *why);
+bool read_key_path(const char *text, size_t len, jdoc_keypath *path, fault *why);
 
-/* Write a fault as a message of at most `size` bytes. */
-void write_fault(const char *function, const fault *why, char *out, int size);
+/* Write a fault as a message of at most MESSAGE bytes. */
+enum { MESSAGE = 400 };
+void write_fault(const char *function, const fault *why, char out[MESSAGE]);
 
 /* Return a fault as an error of a function, and JDOC_NONE as NULL. */
 void return_fault(sqlite3_context *to, const char *function, const fault *why);
 
+/* The reason why a document, or an item of it, has no JSON text. */
+fault fault_of_text(uint32_t status);
+
 /* Write the JSON text of a document to connection->text, and return it. */
 uint32_t return_text(sqlite3_context *to, connection *own, const uint8_t *bytes, size_t len);
 
-/* Return a document as an SQL value: a scalar as itself, an array or an object as JSON text, a null as NULL. */
-void return_value(sqlite3_context *to, connection *own, const jdoc_event *item);
+/* Return a document as an SQL value: a scalar as itself, an array or an object as JSON text, a null as NULL. An error
+ * is that of the function. */
+void return_value(sqlite3_context *to, const char *function, connection *own, const jdoc_event *item);
 
 /* Return an item as a document. JDOC_OUT_OF_MEMORY, or JDOC_OK. */
 enum jdoc_status return_item(sqlite3_context *to, connection *own, const jdoc_event *item);
 
-/* Return the name of a type of jdoc_type, or NULL. */
-const char *type_name(uint8_t kind);
-
-/* Add the functions, the aggregates or the table to a connection. Each function holds the connection and
+/* Add the functions, the aggregates or the tables to a connection. Each of them holds the connection and
  * releases it by release_connection, also if it cannot be added. */
 int add_functions(sqlite3 *db, connection *own);
 int add_aggregates(sqlite3 *db, connection *own);

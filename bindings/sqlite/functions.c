@@ -4,6 +4,10 @@ SQLITE_EXTENSION_INIT3
 
 #include <string.h>
 
+#ifndef SQLITE_RESULT_SUBTYPE
+#define SQLITE_RESULT_SUBTYPE 0x001000000 /* of SQLite 3.45; earlier versions ignore it */
+#endif
+
 enum { MOST_DOCUMENTS = 2, PATH_AT = 1 };
 
 /* A path, one of the two. It is parsed once per statement if it is constant. */
@@ -33,12 +37,15 @@ typedef enum jdoc_status maker(const arguments *it, uint8_t *out, size_t size, s
 typedef enum jdoc_status asker(const arguments *it, uint8_t *truth);
 
 /* `takes` has a letter for each argument: d a document, p a JSON path, k a key path or the index of an element, n a
- * name, i an index. The result is a BLOB that `makes` writes, a Boolean that `asks` writes, or what `does` sets. */
+ * name, i an index. The result is a BLOB that `makes` writes, a Boolean that `asks` writes, or what `does` sets. If it
+ * fails for documents of some types, `expects` is how the sentence about a type begins. */
 struct function {
     const char *name, *takes;
     maker *makes;
     asker *asks;
     enum jdoc_status (*does)(sqlite3_context *to, arguments *it);
+    const char *expects;
+    int flags; /* of SQLite, in addition to FLAGS */
 };
 
 /* A function of a connection, as SQLite keeps it. */
@@ -46,6 +53,8 @@ typedef struct bound {
     connection *own;
     const function *is;
 } bound;
+
+#define D(i) it->documents[i].bytes, it->documents[i].len
 
 /* RESULTS */
 
@@ -89,12 +98,15 @@ static bool take_document(sqlite3_context *to, sqlite3_value *value, int at, arg
     return true;
 }
 
-static bool take_text(sqlite3_value *value, const char **text, size_t *len, fault *why) {
-    *why = (fault){sqlite3_value_type(value) == SQLITE_NULL ? JDOC_NONE : JDOC_OUT_OF_MEMORY, NULL, 0};
+static bool take_text(sqlite3_value *value, const char *expected, const char **text, size_t *len, fault *why) {
+    if (!has_type(value, SQLITE_TEXT, expected, why)) return false;
+    why->status = JDOC_OUT_OF_MEMORY;
     *text = (const char *)sqlite3_value_text(value);
     *len = (size_t)sqlite3_value_bytes(value);
     return *text != NULL;
 }
+
+static const char KEY_PATH_EXPECTED[] = "expected a key path, which is TEXT, or an INTEGER, found";
 
 static void release_path(void *it) {
     jdoc_path_free(&((prepared *)it)->json);
@@ -108,16 +120,13 @@ static bool take_path(sqlite3_context *to, sqlite3_value *value, bool is_key, ar
     size_t len;
     it->path = sqlite3_get_auxdata(to, PATH_AT);
     if (it->path) return true;
-    if (!take_text(value, &text, &len, why)) return false;
-    it->path = sqlite3_malloc(sizeof *it->path);
-    if (!it->path) return false; /* *why is JDOC_OUT_OF_MEMORY */
-    memset(it->path, 0, sizeof *it->path);
+    if (!take_text(value, is_key ? KEY_PATH_EXPECTED : PATH_EXPECTED, &text, &len, why)) return false;
+    prepared *path = it->path = sqlite3_malloc(sizeof *path);
+    if (!path) return false; /* *why is JDOC_OUT_OF_MEMORY */
+    memset(path, 0, sizeof *path);
     it->is_path_new = true;
-    sql_path of = is_key ? (sql_path){text, len, false} : sql_path_of(text, len);
-    it->path->strict = of.strict;
-    why->status = is_key ? jdoc_keypath_read(text, len, &it->path->key) : jdoc_path_read(of.text, of.len, &it->path->json);
-    locate_fault(why, text, &of);
-    return why->status == JDOC_OK;
+    return is_key ? read_key_path(text, len, &path->key, why)
+                  : read_json_path(text, len, &path->json, &path->strict, why);
 }
 
 static bool take(sqlite3_context *to, sqlite3_value *value, char letter, int at, arguments *it, fault *why) {
@@ -131,12 +140,25 @@ static bool take(sqlite3_context *to, sqlite3_value *value, char letter, int at,
         it->index = it->is_index ? index_of(value) : 0;
         return it->is_index || take_path(to, value, true, it, why);
     case 'n':
-        return take_text(value, &it->text, &it->text_len, why);
+        return take_text(value, NAME_EXPECTED, &it->text, &it->text_len, why);
     default:
         it->index = index_of(value);
-        *why = (fault){JDOC_NONE, NULL, 0};
-        return sqlite3_value_type(value) != SQLITE_NULL;
+        return has_type(value, SQLITE_INTEGER, "expected an INTEGER as the index, found", why);
     }
+}
+
+/* Add to a fault of a call what its status does not say: the types that are expected and the one that the document has,
+ * the key that the object has, or what has no JSON text. */
+static void explain(const function *is, const arguments *it, fault *why) {
+    uint8_t kind = 0;
+    bool is_of_type = why->status == JDOC_INVALID_JSON_TYPE || why->status == JDOC_INVALID_OBJECT;
+    const char *expects = it->is_index ? "expected an array, found" : is->expects;
+    if (is_of_type && !is->expects) *why = fault_of_text(why->status);
+    if (is_of_type && is->expects && jdoc_type(D(0), &kind) == JDOC_OK)
+        *why = (fault){.status = why->status, .what = expects, .at = NOWHERE, .detail = jdoc_kind_text(kind)};
+    if (why->status == JDOC_OBJECT_DUPLICATE_KEY)
+        *why = (fault){
+            .status = why->status, .what = "the object already has the key", .at = NOWHERE, .key = it->text};
 }
 
 /* Pass what was built from TEXT arguments to the statement, which caches that of constants and frees the rest. */
@@ -155,20 +177,20 @@ static void call(sqlite3_context *to, int count, sqlite3_value **values) {
     const bound *bound = sqlite3_user_data(to);
     const function *is = bound->is;
     arguments it = {.own = bound->own, .count = count};
-    fault why = {JDOC_OK, NULL, 0};
+    fault why = {0};
     bool taken = true;
     for (int i = 0; taken && i < count; i++) taken = take(to, values[i], is->takes[i], i, &it, &why);
     if (taken)
         why.status = is->makes  ? return_made(to, &it, is->makes)
                      : is->asks ? return_truth(to, &it, is->asks)
                                 : is->does(to, &it);
+    if (taken && why.status != JDOC_OK) explain(is, &it, &why);
     if (why.status != JDOC_OK) return_fault(to, is->name, &why);
     keep(to, values, &it);
 }
 
 /* THE CALLS */
 
-#define D(i) it->documents[i].bytes, it->documents[i].len
 #define TEXT it->text, it->text_len
 #define OUT  out, size, len
 #define MAKER(name, call)                                                                                              \
@@ -208,8 +230,11 @@ static enum jdoc_status return_document(sqlite3_context *to, arguments *it) {
     return status;
 }
 
+/* The JSON text of a document. By its subtype SQLite's own functions take it as JSON, and not as a string. */
 static enum jdoc_status return_json(sqlite3_context *to, arguments *it) {
-    return (enum jdoc_status)return_text(to, it->own, D(0));
+    uint32_t status = return_text(to, it->own, D(0));
+    if (status == JDOC_OK) sqlite3_result_subtype(to, 'J');
+    return (enum jdoc_status)status;
 }
 
 /* Find the child at the key path or the index of a call, in the document. */
@@ -233,7 +258,7 @@ static enum jdoc_status return_value_of(sqlite3_context *to, connection *own, co
     uint8_t kind;
     uint32_t status = jdoc_type(bytes, len, &kind); /* fails if a scalar is not one */
     if (status == JDOC_OK) status = jdoc_root(&root, bytes, len);
-    if (status == JDOC_OK) return_value(to, own, &root);
+    if (status == JDOC_OK) return_value(to, "jdoc_value", own, &root);
     return (enum jdoc_status)status;
 }
 
@@ -242,14 +267,14 @@ static enum jdoc_status return_child(sqlite3_context *to, arguments *it) {
     jdoc_event child;
     if (it->count == 1) return return_value_of(to, it->own, D(0));
     enum jdoc_status status = find(it, &child);
-    if (status == JDOC_OK) return_value(to, it->own, &child);
+    if (status == JDOC_OK) return_value(to, "jdoc_value", it->own, &child);
     return status;
 }
 
 static enum jdoc_status return_type(sqlite3_context *to, arguments *it) {
     uint8_t kind = 0;
     enum jdoc_status status = jdoc_type(D(0), &kind);
-    if (status == JDOC_OK) sqlite3_result_text(to, type_name(kind), -1, SQLITE_STATIC);
+    if (status == JDOC_OK) sqlite3_result_text(to, jdoc_kind_text(kind), -1, SQLITE_STATIC);
     return status;
 }
 
@@ -262,7 +287,7 @@ static enum jdoc_status return_length(sqlite3_context *to, arguments *it) {
 
 static const function functions[] = {
     {"jdoc", "d", .does = return_document},
-    {"jdoc_json", "d", .does = return_json},
+    {"jdoc_json", "d", .does = return_json, .flags = SQLITE_RESULT_SUBTYPE},
     {"jdoc_value", "d", .does = return_child},
     {"jdoc_value", "dk", .does = return_child},
     {"jdoc_type", "d", .does = return_type},
@@ -280,9 +305,9 @@ static const function functions[] = {
     {"jdoc_except", "dd", .makes = except},
     {"jdoc_distinct", "d", .makes = distinct},
     {"jdoc_strip_nulls", "d", .makes = strip_nulls},
-    {"jdoc_delete", "dk", .makes = delete},
-    {"jdoc_insert", "dnd", .makes = insert},
-    {"jdoc_set", "dnd", .makes = set},
+    {"jdoc_delete", "dk", .makes = delete, .expects = "expected an array or an object, found"},
+    {"jdoc_insert", "dnd", .makes = insert, .expects = "expected an object, found"},
+    {"jdoc_set", "dnd", .makes = set, .expects = "expected an object, found"},
     {"jdoc_array_insert", "did", .makes = array_insert},
     {"jdoc_equality_key", "d", .makes = equality_key},
 };
@@ -299,12 +324,34 @@ static void check(sqlite3_context *to, int count, sqlite3_value **values) {
     sqlite3_result_int(to, type == SQLITE_BLOB && jdoc_check(bytes, len) == JDOC_OK);
 }
 
+/* jdoc_path_is_predicate(path): 1 if the result of the path is a Boolean or unknown, otherwise 0. */
+static void is_predicate(sqlite3_context *to, int count, sqlite3_value **values) {
+    (void)count;
+    connection *own = sqlite3_user_data(to);
+    prepared path = {0};
+    const char *text;
+    size_t len;
+    bool truth = false;
+    fault why = {0};
+    if (take_text(values[0], PATH_EXPECTED, &text, &len, &why) &&
+        read_json_path(text, len, &path.json, &path.strict, &why)) {
+        sql_path of = sql_path_of(text, len);
+        why.status = reserve(own, of.len + 2) ? path_is_predicate(of.text, of.len, (char *)own->bytes, &truth)
+                                              : JDOC_OUT_OF_MEMORY;
+    }
+    jdoc_path_free(&path.json);
+    if (why.status == JDOC_OK)
+        sqlite3_result_int(to, truth);
+    else
+        return_fault(to, "jdoc_path_is_predicate", &why);
+}
+
 /* jdoc_quote(x): the document of an SQL value; TEXT is a string, NULL is null, a BLOB is a document already. */
 static void quote(sqlite3_context *to, int count, sqlite3_value **values) {
     (void)count;
     connection *own = sqlite3_user_data(to);
     document it = {NULL, 0, NULL};
-    fault why = {JDOC_OK, NULL, 0};
+    fault why = {0};
     size_t len = (size_t)sqlite3_value_bytes(values[0]);
     int type = sqlite3_value_type(values[0]);
     if (type == SQLITE_TEXT || type == SQLITE_NULL) {
@@ -351,8 +398,9 @@ static uint32_t add_key(connection *own, sqlite3_value *value, size_t *used, fau
  * that is less than all others. */
 static void key(sqlite3_context *to, int count, sqlite3_value **values) {
     connection *own = sqlite3_user_data(to);
-    fault why = {JDOC_OK, NULL, 0};
+    fault why = {0};
     size_t used = 0;
+    if (count == 0) why = (fault){.status = JDOC_INVALID_ARGUMENT, .what = "expected a document", .at = NOWHERE};
     if (count == 1 && sqlite3_value_type(values[0]) == SQLITE_NULL) return;
     for (int i = 0; why.status == JDOC_OK && i < count; i++) why.status = add_key(own, values[i], &used, &why);
     if (why.status == JDOC_OK)
@@ -377,7 +425,8 @@ static int add_one(sqlite3 *db, connection *own, const function *is) {
     if (!it) return SQLITE_NOMEM;
     *it = (bound){own, is};
     own->uses++;
-    return sqlite3_create_function_v2(db, is->name, (int)strlen(is->takes), FLAGS, it, call, NULL, NULL, release_bound);
+    return sqlite3_create_function_v2(db, is->name, (int)strlen(is->takes), FLAGS | is->flags, it, call, NULL, NULL,
+                                      release_bound);
 }
 
 static int add_plain(sqlite3 *db, connection *own, const char *name, int count,
@@ -388,6 +437,7 @@ static int add_plain(sqlite3 *db, connection *own, const char *name, int count,
 
 int add_functions(sqlite3 *db, connection *own) {
     int rc = add_plain(db, own, "jdoc_check", 1, check);
+    if (rc == SQLITE_OK) rc = add_plain(db, own, "jdoc_path_is_predicate", 1, is_predicate);
     if (rc == SQLITE_OK) rc = add_plain(db, own, "jdoc_quote", 1, quote);
     if (rc == SQLITE_OK) rc = add_plain(db, own, "jdoc_key", -1, key);
     for (int i = 0; rc == SQLITE_OK && i < COUNT; i++) rc = add_one(db, own, &functions[i]);

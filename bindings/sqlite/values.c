@@ -23,7 +23,7 @@ bool reserve(connection *own, size_t size) {
 /* FAULTS */
 
 static bool fail(fault *why, uint32_t status, const char *what, size_t at) {
-    *why = (fault){status, what, at};
+    *why = (fault){.status = status, .what = what, .at = at};
     return false;
 }
 
@@ -31,38 +31,71 @@ static bool is_of_path(const fault *why) {
     return why->status == JDOC_INVALID_JSON_PATH || why->status == JDOC_INVALID_KEY_PATH;
 }
 
-void locate_fault(fault *why, const char *text, const sql_path *path) {
-    size_t at = 0;
-    bool is_key = why->status == JDOC_INVALID_KEY_PATH;
-    uint32_t status = JDOC_NONE;
-    if (is_key) status = jdoc_keypath_error_position(path->text, path->len, &at);
-    if (why->status == JDOC_INVALID_JSON_PATH) status = jdoc_path_error_position(path->text, path->len, &at);
-    if (status != JDOC_OK) return;
-    why->what = is_key ? jdoc_status_text(why->status) : sql_path_fault(path, at);
-    why->at = at + (size_t)(path->text - text);
+/* Write the name of a status, and return its length. */
+static int name_of(uint32_t status, char name[40]) {
+    size_t len = 0;
+    const char *own = status == JDOC_INVALID_JSON       ? "JDOC_INVALID_JSON"
+                      : status == JDOC_INVALID_ARGUMENT ? "JDOC_INVALID_ARGUMENT"
+                                                        : NULL;
+    if (own) return (int)strlen(strcpy(name, own));
+    return jdoc_status_name(status, name, 40, &len) == JDOC_OK ? (int)len : 0;
 }
 
-void write_fault(const char *function, const fault *why, char *out, int size) {
-    char name[40] = "JDOC_INVALID_JSON";
-    size_t len = strlen(name);
+void write_fault(const char *function, const fault *why, char out[MESSAGE]) {
+    char name[40];
+    int len = name_of(why->status, name);
     const char *what = why->what ? why->what : jdoc_status_text(why->status);
-    if (why->status != JDOC_INVALID_JSON) jdoc_status_name(why->status, name, sizeof name, &len);
     if (why->what && why->at != NOWHERE)
-        sqlite3_snprintf(size, out, "%s: byte %lld of the %s: %s (%.*s)", function, (sqlite3_int64)why->at,
-                         is_of_path(why) ? "path" : "JSON text", what, (int)len, name);
+        sqlite3_snprintf(MESSAGE, out, "%s: byte %lld of the %s: %s (%.*s)", function, (sqlite3_int64)why->at,
+                         is_of_path(why) ? "path" : "JSON text", what, len, name);
+    else if (why->key)
+        sqlite3_snprintf(MESSAGE, out, "%s: %s \"%!.60w\" (%.*s)", function, what, why->key, len, name);
     else
-        sqlite3_snprintf(size, out, "%s: %s (%.*s)", function, what, (int)len, name);
+        sqlite3_snprintf(MESSAGE, out, "%s: %s%s%s (%.*s)", function, what, why->detail ? " " : "",
+                         why->detail ? why->detail : "", len, name);
 }
 
 void return_fault(sqlite3_context *to, const char *function, const fault *why) {
-    char message[200];
+    char message[MESSAGE];
     if (why->status == JDOC_NONE) return; /* NULL */
     if (why->status == JDOC_OUT_OF_MEMORY) {
         sqlite3_result_error_nomem(to);
         return;
     }
-    write_fault(function, why, message, sizeof message);
+    write_fault(function, why, message);
     sqlite3_result_error(to, message, -1);
+}
+
+/* ARGUMENTS */
+
+bool has_type(sqlite3_value *value, int type, const char *expected, fault *why) {
+    static const char *const names[] = {"", "INTEGER", "REAL", "TEXT", "BLOB", "NULL"};
+    int found = sqlite3_value_type(value);
+    if (found == type) return true;
+    if (found == SQLITE_NULL) return fail(why, JDOC_NONE, NULL, 0);
+    *why = (fault){.status = JDOC_INVALID_ARGUMENT, .what = expected, .at = NOWHERE, .detail = names[found]};
+    return false;
+}
+
+/* PATHS */
+
+bool read_json_path(const char *text, size_t len, jdoc_path *path, bool *strict, fault *why) {
+    size_t at = 0;
+    sql_path of = sql_path_of(text, len);
+    *strict = of.strict;
+    if (of.len == 0) return fail(why, JDOC_INVALID_JSON_PATH, "the path is empty, and the root is $", NOWHERE);
+    *why = (fault){.status = jdoc_path_read(of.text, of.len, path)};
+    if (why->status == JDOC_INVALID_JSON_PATH && jdoc_path_error_position(of.text, of.len, &at) == JDOC_OK)
+        return fail(why, JDOC_INVALID_JSON_PATH, sql_path_fault(&of, at), at + (size_t)(of.text - text));
+    return why->status == JDOC_OK;
+}
+
+bool read_key_path(const char *text, size_t len, jdoc_keypath *path, fault *why) {
+    size_t at = 0;
+    *why = (fault){.status = jdoc_keypath_read(text, len, path)};
+    if (why->status == JDOC_INVALID_KEY_PATH && jdoc_keypath_error_position(text, len, &at) == JDOC_OK)
+        return fail(why, JDOC_INVALID_KEY_PATH, sql_key_path_fault(text, len, at), at);
+    return why->status == JDOC_OK;
 }
 
 /* DOCUMENTS OF VALUES */
@@ -114,12 +147,6 @@ bool document_of_value(connection *own, sqlite3_value *value, document *it, faul
 
 /* VALUES OF DOCUMENTS */
 
-const char *type_name(uint8_t kind) {
-    static const char *const names[] = {"null",      "boolean",      "integer",  "decimal", "string", "binary", "date",
-                                        "timestamp", "timestamp_tz", "interval", "array",   "object"};
-    return kind < sizeof names / sizeof *names ? names[kind] : NULL;
-}
-
 /* An integer if it is one of 64 bits with a sign, otherwise the nearest REAL, as SQLite has numbers of JSON text. */
 static void return_number(sqlite3_context *to, connection *own, const jdoc_event *item) {
     char text[JDOC_NUMBER_TEXT + 1], *end;
@@ -135,6 +162,11 @@ static void return_number(sqlite3_context *to, connection *own, const jdoc_event
         sqlite3_result_int64(to, whole);
     else
         sqlite3_result_double(to, strtod_l(text, &end, own->numbers));
+}
+
+fault fault_of_text(uint32_t status) {
+    const char *what = "an extension value, such as a date, has no JSON text";
+    return (fault){.status = status, .what = status == JDOC_INVALID_JSON_TYPE ? what : NULL, .at = NOWHERE};
 }
 
 /* SQLite copies a short text to memory that it has from row to row, and takes over a longer one. */
@@ -154,13 +186,14 @@ uint32_t return_text(sqlite3_context *to, connection *own, const uint8_t *bytes,
 }
 
 /* An array or an object as JSON text. */
-static void return_container(sqlite3_context *to, connection *own, const jdoc_event *item) {
+static void return_container(sqlite3_context *to, const char *function, connection *own, const jdoc_event *item) {
     uint32_t status = item->kind == JDOC_EVENT_BEGIN ? return_text(to, own, item->bytes, item->len)
                                                      : JDOC_INVALID_JSON_TYPE; /* a date or another extension value */
-    if (status != JDOC_OK) return_fault(to, "jdoc_value", &(fault){status, NULL, 0});
+    fault why = fault_of_text(status);
+    if (status != JDOC_OK) return_fault(to, function, &why);
 }
 
-void return_value(sqlite3_context *to, connection *own, const jdoc_event *item) {
+void return_value(sqlite3_context *to, const char *function, connection *own, const jdoc_event *item) {
     switch (item->kind) {
     case JDOC_EVENT_NULL:
         return;
@@ -175,7 +208,7 @@ void return_value(sqlite3_context *to, connection *own, const jdoc_event *item) 
         sqlite3_result_text64(to, (const char *)item->bytes, item->len, SQLITE_TRANSIENT, SQLITE_UTF8);
         return;
     default:
-        return_container(to, own, item);
+        return_container(to, function, own, item);
     }
 }
 

@@ -128,6 +128,18 @@ def selection_cases(people):
     yield select("the first of 1,000 objects", "$[*]", people, "select_first")
 
 
+def filter_cases():
+    """Filters by expressions, which are not comparisons of members with literals."""
+    home, work = {"number": 3720453, "type": "home"}, {"number": 5062051, "type": "work"}
+    fred = document({"name": "Fred", "age": 40, "phones": [home, work]})
+    boxes = document([{"id": i, "tags": [i, i + 1, 7], "in": {"a": i, "b": [1, 2]}} for i in range(300)])
+    for call in ["exists", "select_first"]:
+        yield Case(f"`{call}` of one item by an expression", call, fred, "$.phones?(@[*].number > 5)")
+    yield Case("filters within filters", "select", boxes, "$[*]?(exists(@?(@.* == 5)))")
+    yield Case("three filters within one another", "select", boxes, "$[*]?(exists(@?(exists(@.in?(exists(@.b[*]))))))")
+    yield Case("filters within filters that compare with the root", "select", boxes, "$[*]?(exists(@.tags[*]?(@ == $[0].id)))")
+
+
 def list_cases(people, few):
     for count in (10, 100, 1000):
         one, other = document(whole_numbers(count)), document(whole_numbers(count))
@@ -360,6 +372,7 @@ def cases():
         *object_cases(),
         *document_cases(all_people, few),
         *single_cases(),
+        *filter_cases(),
         *scalar_cases(),
         *nested_cases(),
         *short_text_cases(),

@@ -116,6 +116,7 @@ void scalars() {
     EXPECT(jdoc::check(mixed) == JDOC_OK);
     EXPECT(jdoc::check(std::string_view("\x80\0\0", 3)) == JDOC_INVALID_JSONB);
     EXPECT(std::string(jdoc::text(JDOC_NOT_UTF8)) == jdoc_status_text(JDOC_NOT_UTF8));
+    EXPECT(std::string(jdoc::text(*jdoc::type(one))) == "integer");
     EXPECT(jdoc::to_i64(v).value_or(7) == 7);
 }
 

@@ -161,12 +161,12 @@ class Calls(unittest.TestCase):
     """Random calls of each function: all return or fail with a documented SQLSTATE."""
 
     CALLS = [
-        "a -> name", "a ->> name", "a -> i", "a ->> i", "a #> steps", "a #>> steps", "a #- steps", "a - name", "a - i", "a || b", "a @> b",
+        "a -> name", "a ->> name", "a -> i", "a ->> i", "a #> steps", "a #>> steps", "a #- steps", "a - name", "a - steps", "a - i", "a || b", "a @> b",
         "a <@ b", "a ? name", "a ?| steps", "a ?& steps", "a @? path", "a @@ path", "jdoc_path_exists(a, path)", "jdoc_path_match(a, path)",
         "jdoc_path_query_first(a, path)", "jdoc_path_query_array(a, path, silent => true)", "(SELECT count(*) FROM jdoc_path_query(a, path))",
-        "(SELECT count(*) FROM jdoc_array_elements(a))", "jdoc_set(a, name, b)", "jdoc_set(a, name, b, false)", "jdoc_array_insert(a, i, b)",
+        "(SELECT count(*) FROM jdoc_array_elements(a))", "(SELECT count(value) FROM jdoc_each(a))", "(SELECT count(*) FROM jdoc_object_keys(a))", "jdoc_path_is_predicate(path)", "jdoc_set(a, name, b)", "jdoc_set(a, name, b, false)", "jdoc_array_insert(a, i, b)",
         "jdoc_strip_nulls(a)", "jdoc_sort_key(a)", "jdoc_equality_key(a)", "jdoc_typeof(a)", "jdoc_length(a)", "a = b", "a < b", "jdoc_cmp(a, b)",
-        "jdoc_hash(a)", "a::text::jdoc", "a::jsonb::jdoc", "a::bytea::jdoc", "a::int8", "(a::text || name)::jdoc", "name::jdocpath",
+        "jdoc_hash(a)", "a::text::jdoc", "a::jsonb::jdoc", "a::bytea::jdoc", "a::int8", "a::int4", "a::numeric", "a::float8", "a::bool", "(a::text || name)::jdoc", "name::jdocpath",
         "overlay(a::bytea PLACING '\\xff'::bytea FROM 1 + abs(i) % length(a::bytea))::jdoc",
     ]
     STATES = {"22P02", "22003", "22P03", "22P05", "42601", "22038", "2203A", "22012", "0A000", "22030", "2203C", "22023", "22018", "54000", "22004"}
@@ -240,6 +240,7 @@ class BesideJsonb(unittest.TestCase):
             self.differing(f"(d -> {it})::jsonb IS NOT DISTINCT FROM j -> {it}")
             self.differing(f"jsonb_typeof(j -> {it}) IN ('array', 'object') OR (d ->> {it}) IS NOT DISTINCT FROM (j ->> {it})")
             self.differing(f"(d ? {it}) = (j ? {it}) AND (jsonb_typeof(j) NOT IN ('array', 'object') OR (d - {it})::jsonb = j - {it})")
+            self.differing(f"jsonb_typeof(j) NOT IN ('array', 'object') OR (d - ARRAY[{it}, NULL, 'a'])::jsonb = j - ARRAY[{it}, NULL, 'a']")
             self.differing(f"(d #> ARRAY[{it}, '0'])::jsonb IS NOT DISTINCT FROM j #> ARRAY[{it}, '0']")
             self.differing(f"jsonb_typeof(j) <> 'object' OR (d #- ARRAY[{it}, '0'])::jsonb = j #- ARRAY[{it}, '0']")
         self.differing("NOT EXISTS (SELECT 1 FROM both_types AS y WHERE y.n % 50 = x.n % 50 AND (x.d @> y.d) <> (x.j @> y.j))")
@@ -260,6 +261,13 @@ class BesideJsonb(unittest.TestCase):
                     FROM containers, generate_series(-n - 2, n + 2) AS i, LATERAL (SELECT repeat('k', abs(i) % 5) || abs(i) % 100 AS k) AS keys);
                 END $$""")
 
+    def test_members(self):
+        objects = "jsonb_typeof(j) <> 'object'"
+        self.assertGreater(int(psql("SELECT count(*) FROM both_types WHERE jsonb_typeof(j) = 'object' AND j <> '{}'")), 100)
+        self.differing(f"{objects} OR (SELECT coalesce(jsonb_object_agg(key, value::jsonb), '{{}}') FROM jdoc_each(d)) = j")
+        keys = "SELECT array_agg(key ORDER BY key COLLATE \"C\") FROM {} AS key"
+        self.differing(f"{objects} OR ({keys.format('jdoc_object_keys(d)')}) IS NOT DISTINCT FROM ({keys.format('jsonb_object_keys(j)')})")
+
     def test_paths(self):
         """Items of a path, in any order: both types order keys in their own way. What is an error for one is left out."""
         psql("""CREATE OR REPLACE FUNCTION items(j jsonb, p jsonpath) RETURNS jsonb LANGUAGE plpgsql IMMUTABLE AS $$
@@ -279,6 +287,7 @@ class BesideJsonb(unittest.TestCase):
         for path in MATCHES:
             it = literal(path)
             self.differing(f"t LIKE '%[%' OR ((d @@ {it}) IS TRUE) = ((j @@ {it}) IS TRUE)")
+            self.assertEqual(psql(f"SELECT jdoc_path_is_predicate({it})"), "t")
 
 
 class Sorting(unittest.TestCase):

@@ -3,6 +3,7 @@
 from __future__ import annotations
 
 import argparse
+import codecs
 import contextlib
 import json
 import os
@@ -13,8 +14,10 @@ from typing import Any, BinaryIO, Callable, Dict, Iterable, Iterator, List, NoRe
 
 from . import __version__, _core
 from .column import Column
-from .documents import check, dumps, from_json, get_by_name
-from .errors import InvalidJson, InvalidJsonb, InvalidJsonPath, InvalidJsonType, InvalidKeyPath, JsonbError, exception_of
+from .documents import check, dumps, from_json, get_by_name, kind
+from .errors import (
+    InvalidJson, InvalidJsonb, InvalidJsonPath, InvalidJsonType, InvalidKeyPath, InvalidObject, JsonbError, exception_of,
+)
 from .paths import KeyPath, Path
 
 EXAMPLES = """\
@@ -30,7 +33,7 @@ examples:
   jdoc sort people.jsonl
 
 exit status, as that of jq:
-  0  done; with -e: the last result is neither false nor null   3  the path is not in the grammar
+  0  done; with -e: the last result is neither false nor null   3  not a path; filter, match: not a predicate
   1  with -e: the last result is false or null                  4  with -e: there is no result
   2  usage, or a file that can't be read or written             5  a row is an error: file, line and text are on standard error
 """
@@ -51,7 +54,8 @@ HELP = {
     "key": "the sortable key, in hexadecimal",
     "sort": "the documents in the order of their sortable keys",
 }
-PATHS, KEY_PATHS, PREDICATES = ("select", "filter", "exists", "match"), ("get", "delete", "set", "insert"), ("exists", "match", "contains")
+PATHS, KEY_PATHS, BOOLEANS = ("select", "filter", "exists", "match"), ("get", "delete", "set", "insert"), ("exists", "match", "contains")
+PREDICATES = ("filter", "match")
 WORDS = {None: b"null", False: b"false", True: b"true"}
 FALSE_LINES = (b"false", b"null", dumps(False).hex().encode(), dumps(None).hex().encode())
 
@@ -74,11 +78,18 @@ def parser() -> argparse.ArgumentParser:
     return top
 
 
+def count(text: str) -> int:
+    number = int(text)
+    if number < 0:
+        raise argparse.ArgumentTypeError(f"{text} is negative")
+    return number
+
+
 def add_words(command: argparse.ArgumentParser, name: str) -> None:
     command.add_argument("-e", "--exit-status", action="store_true", help="set the exit status by the last result")
     command.add_argument("-r", "--raw-output", action="store_true", help="write strings without quotes")
     command.add_argument("--hex", action="store_true", help="documents in hexadecimal, in and out")
-    command.add_argument("--limit", type=int, metavar="N", help="end after N results")
+    command.add_argument("--limit", type=count, metavar="N", help="end after N results")
     if name in PATHS:
         command.add_argument("--strict", action="store_true", help="strict mode: a step that does not apply to an item is an error")
         command.add_argument("--arg", nargs=2, action="append", default=[], metavar=("NAME", "STRING"), help="a string for $NAME in the path")
@@ -169,6 +180,11 @@ def names_of(path: str) -> List[str]:
     return names
 
 
+def key_path_of(names: List[str]) -> str:
+    """The key path of names without escapes."""
+    return "{" + ",".join(it if re.fullmatch(r"[A-Za-z_]\w*", it, re.ASCII) else f'"{it}"' for it in names) + "}"
+
+
 def document_of(text: str, in_hex: bool) -> bytes:
     if not in_hex:
         return from_json(text)
@@ -188,6 +204,8 @@ class Query:
         try:
             if asked.command in PATHS:
                 self.path = Path(with_variables(asked), strict=asked.strict)
+                if asked.command in PREDICATES and not self.path.is_predicate:
+                    raise Stop(NO_PATH, f"{asked.command} takes a predicate, such as $.age > 40, not {plain(asked.path)}")
             if asked.command in KEY_PATHS:
                 self.key_path = KeyPath(asked.path)
         except (InvalidJsonPath, InvalidKeyPath) as fault:
@@ -200,15 +218,20 @@ class Query:
         if asked.command in ("set", "insert"):
             self.names = names_of(asked.path)
 
+    def object_of(self, document: bytes, place: str = "") -> bytes:
+        if kind(document) != "object":
+            raise InvalidObject(f"{self.asked.command}: expected an object{place}, found {kind(document)}")
+        return document
+
     def keys(self, document: bytes) -> bytes:
-        return dumps([key for key, _ in _core.pairs(document)])
+        return dumps([key for key, _ in _core.pairs(self.object_of(document))])
 
     def changed(self, document: bytes) -> bytes:
         """The document with the other one at the key path, built from the innermost object outwards."""
-        objects = [document]
-        for name in self.names[:-1]:
+        objects = [self.object_of(document)]
+        for depth, name in enumerate(self.names[:-1], 1):
             inner = get_by_name(objects[-1], name)
-            objects.append(dumps({}) if inner is None else inner)
+            objects.append(dumps({}) if inner is None else self.object_of(inner, f" at {key_path_of(self.names[:depth])}"))
         made = _core.object_insert_value(objects[-1], self.other, self.names[-1], update=self.asked.command == "set")
         for outer, name in zip(objects[-2::-1], self.names[-2::-1]):
             made = _core.object_insert_value(outer, made, name, update=True)
@@ -259,6 +282,8 @@ class Source:
         with progress(file) as passed:
             blocks = self.whole_lines(file)
             for text in blocks:
+                if line == 1:
+                    text = text.removeprefix(codecs.BOM_UTF8)
                 if line == 1 and not self.in_hex and self.is_of_any_layout(text):
                     yield self.block(b"".join((text, *blocks)), line, _core.texts_in)
                     return
@@ -359,7 +384,7 @@ class Run:
             self.documents(column.get(query.key_path, errors=faults))
         elif command == "delete":
             self.documents(column.delete(query.key_path, errors=faults))
-        elif command in PREDICATES:
+        elif command in BOOLEANS:
             self.booleans(column, faults)
         elif command in ("key", "sort"):
             self.keys(column, faults)

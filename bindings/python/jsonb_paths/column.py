@@ -34,11 +34,11 @@ from __future__ import annotations
 import pickle
 import sys
 from array import array
-from typing import TYPE_CHECKING, Any, Dict, Iterable, Iterator, List, Optional, Protocol, Sequence, Tuple, Union, overload
+from typing import TYPE_CHECKING, Any, Callable, Dict, Iterable, Iterator, List, Optional, Protocol, Sequence, Tuple, Union, overload
 
 from . import _core
 from .documents import joined
-from .errors import BadOffsets, JsonbError, exception_of
+from .errors import BadOffsets, InvalidCast, InvalidJsonType, JsonbError, exception_of
 
 if TYPE_CHECKING:
     import numpy
@@ -51,6 +51,7 @@ __all__ = ["Booleans", "Column", "Numbers", "Results"]
 
 Errors = Optional[Dict[int, JsonbError]]
 OK, NONE = 0, 1
+MISTYPED = (InvalidJsonType.status, InvalidCast.status)
 
 
 class ArrowArray(Protocol):
@@ -122,7 +123,7 @@ class Column(Sequence[Optional[bytes]]):
         <Column: 2 rows, 25 bytes>
         """
         if isinstance(texts, str):
-            raise TypeError("JSON lines are bytes, and JSON texts are several str, not one")
+            raise TypeError("JSON lines are bytes (text.encode()), and JSON texts are several str, not one")
         if isinstance(texts, (bytes, bytearray, memoryview)):
             return cls._from_lines(texts, floats, duplicates, errors)
         rows: List[Optional[bytes]] = []
@@ -228,6 +229,10 @@ class Column(Sequence[Optional[bytes]]):
         validity = None if known is None else _core.bits_of(known[chosen.start : chosen.stop], 1)
         return Column.from_buffers(self.data, self.offsets[chosen.start : chosen.stop + 1], validity)
 
+    def _document(self, row: int) -> bytes:
+        """The bytes of a row, also if it is null."""
+        return bytes(self.data[self.offsets[row] : self.offsets[row + 1]])
+
     def __iter__(self) -> Iterator[Optional[bytes]]:
         return (self[row] for row in range(len(self)))
 
@@ -279,7 +284,7 @@ class Column(Sequence[Optional[bytes]]):
     def to_i64(self, *, errors: Errors = None) -> "Numbers":
         """Returns each row cast to an int; None if it is null or an error."""
         numbers, statuses = _core.column_to_i64(self.data, self.offsets, self.validity)
-        _sort_out(statuses, errors)
+        _sort_out(statuses, errors, lambda row: _core.to_i64(self._document(row)))
         return Numbers(numbers.cast("q"), bytes(statuses))
 
     def get(self, path: "Union[str, KeyPath]", *, errors: Errors = None) -> "Results":
@@ -300,7 +305,9 @@ class Column(Sequence[Optional[bytes]]):
 
     def delete(self, path: "Union[str, KeyPath]", *, errors: Errors = None) -> "Results":
         """Returns each row without the item at a key path."""
-        return self._results(*_core.column_delete(self.data, self.offsets, self.validity, _key_path(path)), errors)
+        text = _key_path(path)
+        found = _core.column_delete(self.data, self.offsets, self.validity, text)
+        return self._results(*found, errors, lambda row: _core.delete(self._document(row), text))
 
     def sort_keys(self, *, wide: bool = False, errors: Errors = None) -> "Results":
         """Returns the sortable key of each row."""
@@ -312,7 +319,8 @@ class Column(Sequence[Optional[bytes]]):
 
     def to_str(self, *, errors: Errors = None) -> List[Optional[str]]:
         """Returns each row cast to a str; None if it is null or an error."""
-        results = self._results(*_core.column_to_str(self.data, self.offsets, self.validity), errors)
+        found = _core.column_to_str(self.data, self.offsets, self.validity)
+        results = self._results(*found, errors, lambda row: _core.to_str(self._document(row)))
         return [None if it is None else it.decode() for it in results]
 
     def to_json_lines(self) -> bytes:
@@ -325,8 +333,10 @@ class Column(Sequence[Optional[bytes]]):
         _sort_out(statuses, errors)
         return Booleans(bytes(booleans))
 
-    def _results(self, data: memoryview, offsets: memoryview, statuses: "Document", errors: Errors) -> "Results":
-        _sort_out(statuses, errors)
+    def _results(
+        self, data: memoryview, offsets: memoryview, statuses: "Document", errors: Errors, call: "Optional[Callable[[int], Any]]" = None
+    ) -> "Results":
+        _sort_out(statuses, errors, call)
         return _with_statuses(data, offsets.cast("q"), bytes(statuses))
 
     def __arrow_c_schema__(self) -> Any:
@@ -497,8 +507,18 @@ def _report(faults: Dict[int, JsonbError], errors: Errors) -> None:
         raise faults[min(faults)]
 
 
-def _sort_out(statuses: "Document", errors: Errors) -> None:
-    """Reports the rows whose status is an error."""
+def _sort_out(statuses: "Document", errors: Errors, call: "Optional[Callable[[int], Any]]" = None) -> None:
+    """Reports the rows whose status is an error. The call is that on one row, whose exception names the types."""
     found = bytes(statuses)
     if found.strip(b"\0\1"):
-        _report({row: exception_of(status, row=row) for row, status in enumerate(found) if status > NONE}, errors)
+        rows = [row for row, status in enumerate(found) if status > NONE]
+        _report({row: _exception_of_row(found[row], row, call) for row in (rows if errors is not None else rows[:1])}, errors)
+
+
+def _exception_of_row(status: int, row: int, call: "Optional[Callable[[int], Any]]") -> JsonbError:
+    if call and status in MISTYPED:
+        try:
+            call(row)
+        except JsonbError as fault:
+            return type(fault)(fault.what, row)
+    return exception_of(status, row=row)

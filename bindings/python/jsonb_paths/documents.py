@@ -25,6 +25,7 @@ jsonb_paths.errors.UnsupportedNumber: a number that the format does not hold: th
 from __future__ import annotations
 
 from array import array
+from collections import Counter
 from itertools import accumulate
 from typing import TYPE_CHECKING, Iterable, Optional, Tuple
 
@@ -72,6 +73,7 @@ from ._core import (
     to_str,
     to_u64,
 )
+from .errors import BadOffsets, ObjectDuplicateKey
 
 if TYPE_CHECKING:
     from .values import Document
@@ -143,7 +145,15 @@ def object_from_columns(names: Iterable[str], documents: "Iterable[Document]") -
     >>> loads(object_from_columns(["b", "a"], [dumps(1), dumps([2])]))
     {'a': [2], 'b': 1}
     """
-    return _core.object_of(_names(names), joined(documents))
+    keys = names if isinstance(names, str) else list(names)
+    column, rows = _names(keys), joined(documents)
+    if len(column[1]) != len(rows[1]):
+        raise BadOffsets(f"{len(column[1]) - 1} names, and {len(rows[1]) - 1} documents")
+    try:
+        return _core.object_of(column, rows)
+    except ObjectDuplicateKey:
+        twice = next(it for it, count in Counter(keys).items() if count > 1)
+        raise ObjectDuplicateKey(repr(twice[:60])) from None
 
 
 def array_from_column(documents: "Iterable[Document]") -> bytes:

@@ -82,7 +82,7 @@ template <typename Number, long long LEAST, unsigned long long MOST> struct Whol
             return !PyErr_Occurred();
         }
         if (over || value < LEAST || (value > 0 && (unsigned long long)value > MOST))
-            return PyErr_Format(PyExc_OverflowError, "%R is out of range", whole.it), false;
+            return PyErr_Format(PyExc_OverflowError, "expected an integer from %lld to %llu", LEAST, MOST), false;
         return number = Number(value), true;
     }
     auto words() const { return std::make_tuple(number); }

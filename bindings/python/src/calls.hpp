@@ -24,5 +24,6 @@ PyObject *one(PyObject *module, PyObject *const *arguments, Py_ssize_t count, Py
     auto call = [&](auto out) {
         return std::apply([&](auto &...it) { return std::apply(CALL, std::tuple_cat(it.words()..., out)); }, taken);
     };
-    return Result::of(state_of(module), call, [=] { return Shown{arguments + 1, count - 1}; });
+    auto show = [=] { return Shown{arguments + 1, count - 1, arguments[0], EXPECTED<CALL>}; };
+    return Result::of(state_of(module), call, show);
 }

@@ -21,8 +21,8 @@ inline PyObject *children_of(State *state, const uint8_t *document, size_t lengt
     uint32_t status = jdoc_check(document, length);
     if (status == JDOC_OK) status = jdoc_root(&root, document, length);
     if (status == JDOC_OK && (root.kind != JDOC_EVENT_BEGIN || root.object != object))
-        return object ? fail(state, JDOC_INVALID_OBJECT, "the value is not an object")
-                      : fail(state, JDOC_INVALID_JSON_TYPE, "the value is not an array");
+        return object ? fail(state, JDOC_INVALID_OBJECT, mistyped({"pairs", "an object"}, document, length))
+                      : fail(state, JDOC_INVALID_JSON_TYPE, mistyped({"elements", "an array"}, document, length));
     if (status == JDOC_OK) status = jdoc_cursor_open(document, length, &cursor);
     Ref list(status == JDOC_OK ? PyList_New(root.count) : fail(state, status));
     for (Py_ssize_t at = 0; list.it && (status = jdoc_next_item(document, length, &cursor, &item)) == JDOC_OK; at++) {

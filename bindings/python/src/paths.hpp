@@ -3,6 +3,7 @@
 #pragma once
 
 #include "items.hpp"
+#include "path_predicate.h"
 
 struct PathObject {
     PyObject_HEAD PyObject *text;
@@ -47,6 +48,16 @@ template <bool KEY> PyObject *path_repr(PyObject *self) {
 inline PyObject *path_text(PyObject *self, void *) { return Py_NewRef(path_of(self)->text); }
 inline PyObject *path_str(PyObject *self) { return path_text(self, nullptr); }
 inline PyObject *path_strict(PyObject *self, void *) { return PyBool_FromLong(path_of(self)->strict); }
+inline PyObject *path_predicate(PyObject *self, void *) {
+    PyObject *module = PyType_GetModule(Py_TYPE(self));
+    Text text;
+    if (!module || !text.take(path_of(self)->text)) return nullptr;
+    Block room(text.length + 2);
+    bool truth = false;
+    uint32_t status = room.at ? path_is_predicate(text.at, text.length, reinterpret_cast<char *>(room.at), &truth)
+                              : JDOC_OUT_OF_MEMORY;
+    return status == JDOC_OK ? PyBool_FromLong(truth) : fail(state_of(module), status);
+}
 inline Py_hash_t path_hash(PyObject *self) { return PyObject_Hash(path_of(self)->text); }
 
 inline PyObject *path_compare(PyObject *self, PyObject *other, int how) {
@@ -77,7 +88,7 @@ template <auto CALL, typename Result> PyObject *by_path(PyObject *self, PyObject
             return std::apply(
                 CALL, std::tuple_cat(std::make_tuple(&it->json), document.words(), std::make_tuple(it->strict), out));
     };
-    return Result::of(state_of(module), call, [=] { return Shown{&it->text, 1}; });
+    return Result::of(state_of(module), call, [=] { return Shown{&it->text, 1, argument, EXPECTED<CALL>}; });
 }
 
 inline PyObject *path_select(PyObject *self, PyObject *argument) {
@@ -93,6 +104,9 @@ inline PyObject *path_select(PyObject *self, PyObject *argument) {
 inline PyGetSetDef PATH_GETS[] = {
     {"text", path_text, nullptr, "The text of the path.", nullptr},
     {"strict", path_strict, nullptr, "Whether the path is strict.", nullptr},
+    {"is_predicate", path_predicate, nullptr,
+     "Whether the path is a predicate: a comparison, &&, || or exists(..). Other paths have no Boolean result.",
+     nullptr},
     {nullptr, nullptr, nullptr, nullptr, nullptr},
 };
 inline PyGetSetDef KEY_PATH_GETS[] = {

@@ -2,6 +2,7 @@
 #pragma once
 
 #include "arguments.hpp"
+#include "path_fault.h"
 
 #include <algorithm>
 
@@ -12,10 +13,52 @@ struct Out {
     operator char *() const { return static_cast<char *>(at); }
 };
 
+// A call that fails for documents of some types, and what it expects.
+struct Expected {
+    const char *call, *types;
+};
+template <auto CALL> inline constexpr Expected EXPECTED = {nullptr, nullptr};
+template <> inline constexpr Expected EXPECTED<jdoc_delete_by_keypath> = {"delete", "an array or an object"};
+template <> inline constexpr Expected EXPECTED<jdoc_keypath_delete> = {"delete", "an array or an object"};
+template <> inline constexpr Expected EXPECTED<jdoc_delete_by_index> = {"delete_by_index", "an array"};
+template <> inline constexpr Expected EXPECTED<jdoc_delete_by_name> = {"delete_by_name", "an array or an object"};
+template <> inline constexpr Expected EXPECTED<jdoc_object_insert> = {"object_insert", "an object"};
+template <> inline constexpr Expected EXPECTED<jdoc_object_pick> = {"object_pick", "an object"};
+template <> inline constexpr Expected EXPECTED<jdoc_object_delete> = {"object_delete", "an object"};
+template <> inline constexpr Expected EXPECTED<jdoc_to_bool> = {"to_bool", "a Boolean or a string such as yes"};
+template <> inline constexpr Expected EXPECTED<jdoc_to_str> = {"to_str", "a string, a number or a Boolean"};
+template <>
+inline constexpr Expected EXPECTED<jdoc_to_i64> = {
+    "to_i64", "a number from -2**63 to 2**63 - 1, a Boolean or a string of digits"};
+template <>
+inline constexpr Expected EXPECTED<jdoc_to_u64> = {
+    "to_u64", "a number from 0 to 2**64 - 1, a Boolean or a string of digits"};
+
+// What an exception says of a document of another type.
+inline std::string mistyped(const Expected &expected, const uint8_t *document, size_t length) {
+    uint8_t kind = 0;
+    bool is_known = jdoc_type(document, length, &kind) == JDOC_OK;
+    std::string found = is_known ? std::string(", found ") + jdoc_kind_text(kind) : "";
+    return std::string(expected.call) + ": expected " + expected.types + found;
+}
+
 // The arguments of a call that an exception shows. The path, if there is one, is the first.
 struct Shown {
     PyObject *const *arguments;
     Py_ssize_t count;
+    PyObject *document = nullptr;
+    Expected expected = {nullptr, nullptr};
+
+    // What is shown with a status: the types if one is wrong, otherwise the first str.
+    std::string what(uint32_t status) const {
+        bool is_of_type =
+            status == JDOC_INVALID_JSON_TYPE || status == JDOC_INVALID_OBJECT || status == JDOC_INVALID_CAST;
+        Document it;
+        if (!is_of_type || !expected.call) return text();
+        if (it.take(document)) return mistyped(expected, it.at, it.length);
+        PyErr_Clear();
+        return "";
+    }
 
     // The first str, as an exception shows it.
     std::string text() const {
@@ -41,12 +84,35 @@ struct Shown {
                         : jdoc_path_error_position(path.at, path.length, &at);
         return status == JDOC_OK ? PyLong_FromSize_t(at) : Py_NewRef(Py_None);
     }
+
+    // The path, after what looks like another language at the position of its error, if something does.
+    std::string path(uint32_t status, PyObject *position) const {
+        Text path;
+        const char *found = nullptr;
+        if (position != Py_None && path.take(arguments[0])) found = hint(status, path, PyLong_AsSize_t(position));
+        PyErr_Clear();
+        return found ? std::string(found) + ": " + text() : text();
+    }
+
+  private:
+    static bool ends_a_mode(const Text &path, size_t at, const char *mode) {
+        return at == strlen(mode) && at < path.length && !memcmp(path.at, mode, at);
+    }
+    static const char *hint(uint32_t status, const Text &path, size_t at) {
+        if (status == JDOC_INVALID_KEY_PATH) return key_path_fault(path.at, path.length, at);
+        if (ends_a_mode(path, at, "strict ") || ends_a_mode(path, at, "lax "))
+            return "a mode is not part of the path, but the argument strict";
+        return path_fault(path.at, path.length, at);
+    }
 };
 
 // Raises the exception of a status for a call with these arguments.
 inline PyObject *fail(State *state, uint32_t status, const Shown &shown) {
     Ref at(shown.position(status));
-    return at.it ? fail(state, status, shown.text(), Py_None, at.it) : nullptr;
+    if (!at.it) return nullptr;
+    bool is_of_path = status == JDOC_INVALID_JSON_PATH || status == JDOC_INVALID_KEY_PATH;
+    std::string what = is_of_path ? shown.path(status, at.it) : shown.what(status);
+    return fail(state, status, what, Py_None, at.it);
 }
 
 // `call` makes the call with these last arguments and returns its status. `show` returns what an exception shows.

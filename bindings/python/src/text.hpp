@@ -31,7 +31,7 @@ inline bool take_option(unsigned &options, PyObject *name, PyObject *value) {
         for (auto &it : known)
             if (!PyUnicode_CompareWithASCIIString(name, it.name) && !PyUnicode_CompareWithASCIIString(value, it.value))
                 return options |= it.option, true;
-    return PyErr_Format(PyExc_TypeError, "floats is 'error' or 'decimal', and duplicates 'error' or 'last', not %U=%R",
+    return PyErr_Format(PyExc_TypeError, "floats is 'error' or 'decimal', and duplicates 'error' or 'last', not %U=%.60A",
                         name, value),
            false;
 }

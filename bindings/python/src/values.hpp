@@ -71,7 +71,8 @@ class Maker {
         Py_ssize_t at = 0;
         while (PyDict_Next(dict, &at, &key, &value)) {
             Ref name(Py_NewRef(key));
-            if (!PyUnicode_Check(key)) return no_document(key, "the keys of an object are str: %R");
+            if (!PyUnicode_Check(key))
+                return no_document(reinterpret_cast<PyObject *>(Py_TYPE(key)), "the keys of an object are str, not %R");
             if (!text(key, true)) return false;
             if (!put(value)) return step(key), false;
         }

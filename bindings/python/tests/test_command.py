@@ -59,6 +59,8 @@ class Commands(unittest.TestCase):
             (["sort"], '[2]\n"a"\n10\n9.5\nnull', 0, '9.5\n10\n"a"\n[2]\nnull\n'),
             (["get", "{a}"], '{"a":\n  1.50}\n\n[2,\n3]\n{"a":"é"}', 0, '1.50\n"é"\n'),
             (["get", "-e", "{a}"], "", 4, ""),
+            (["get", "{a}"], '\ufeff{"a":1}\r\n{"a":2}\r\n', 0, "1\n2\n"),
+            (["get", "{a}"], '\ufeff\n{"a":\n1}', 0, "1\n"),
             (["select", "--", "-$"], "5", 0, "-5\n"),
             (["--help"], "", 0, None),
             (["select", "--help"], "", 0, None),
@@ -115,11 +117,40 @@ class Commands(unittest.TestCase):
         for words, status in [([], 2), (["other"], 2), (["select"], 2), (["select", "$["], 3), (["get", "{"], 3), (["contains", "{"], 2), (["contains", "5", "--hex"], 2),
                               (["contains", '{"a":1,"a":2}'], 2), (["contains", "[" * 2000], 2), (["select", "\udcff"], 3), (["select", "$.a == $b"], 3),
                               (["select", "$", "--argjson", "a", "[1]"], 2), (["select", "$", "--argjson", "a", "x"], 2), (["set", "{a,0}", "1"], 3), (["set", "{}", "1"], 3),
-                              (["select", "$", "--limit", "x"], 2), (["select", "$", "--none"], 2)]:
+                              (["select", "$", "--limit", "x"], 2), (["select", "$", "--limit", "-1"], 2), (["select", "$", "--none"], 2)]:
             got = run(*words)
             self.assertEqual((got[0], got[1]), (status, ""), words)
             self.assertTrue(got[2])
             self.assertNotIn("Traceback", got[2])
+
+    def test_a_path_that_is_not_a_predicate(self):
+        """Steps and arithmetic, with any input."""
+        for command in ("filter", "match"):
+            for path, text in [("$.age", PEOPLE), ("$.age", ""), ("$", PEOPLE), ("", PEOPLE), ("true", PEOPLE), ("$?(@.age > 40)", PEOPLE),
+                               ("$.age + 1", '{"age":1}'), ("$.age + 1", ""), ("-$.none", PEOPLE), ("+$.age", PEOPLE), ("$ - 1", "null\n5\n")]:
+                with self.subTest(command=command, path=path):
+                    status, out, said = run(command, "--", path, text=text)
+                    self.assertEqual((status, out), (3, ""))
+                    self.assertIn(f"{command} takes a predicate, such as $.age > 40, not {path}\n", said)
+            for path, text in [("$.none > 1", PEOPLE), ("$.name > 1", PEOPLE), ("($.age > 99)", PEOPLE), ("exists($.none)", PEOPLE), ("null == 1", "null"),
+                               ("$.a == null && $.b > 1", '{"a":null,"b":"x"}\n')]:
+                with self.subTest(command=command, path=path):
+                    status, out, said = run(command, path, text=text)
+                    self.assertEqual((status, out.count("\n"), said), (0, text.count("{") or 1, "") if command == "match" else (0, 0, ""))
+
+    def test_a_fraction_in_a_path(self):
+        got = run("filter", "$.price > 9.99")
+        self.assertEqual(got, (3, "", "InvalidJsonPath: byte 11: not a JSON path such as $.a[0]: numbers in a path are integers: '$.price > 9.99'\n"))
+
+    def test_documents_of_the_wrong_type_are_named(self):
+        for words, text, said in [
+            (["delete", "{a}"], "5", "InvalidJsonType: the value has the wrong type: delete: expected an array or an object, found integer"),
+            (["keys"], "[1]", "InvalidObject: the value is not an object: keys: expected an object, found array"),
+            (["set", "{a}", "1"], '"x"', "InvalidObject: the value is not an object: set: expected an object, found string"),
+            (["insert", '{a,"b c",d}', "1"], '{"a":{"b c":[]}}', 'InvalidObject: the value is not an object: insert: expected an object at {a,"b c"}, found array'),
+        ]:
+            got = run(*words, text=text)
+            self.assertEqual(got, (5, "", f"-:1: {said}\n    {text}\n"), words)
 
     def test_a_key_that_is_there_is_not_inserted(self):
         self.assertRegex(run("insert", "{age}", "1")[2], "-:1: ObjectDuplicateKey(.|\n)*-:2: ObjectDuplicateKey")

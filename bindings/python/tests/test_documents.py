@@ -5,6 +5,7 @@ import itertools
 import os
 import random
 import subprocess
+import sys
 import threading
 import unittest
 from decimal import Decimal
@@ -14,6 +15,9 @@ import jsonb_paths
 from jsonb_paths import Column, KeyPath, Path, dumps, errors, loads
 
 TOP = os.path.join(os.path.dirname(os.path.abspath(__file__)), "..", "..", "..")
+sys.path.append(os.path.join(TOP, "tools", "fuzz"))
+from grammar import JsonPath
+from random_cases import Cases
 
 LINES = os.path.join(TOP, "crates", "jsonb_lines", "out", "jsonb_lines")
 NAMES = ["a", "b", "a b", "é", "k", "0", ""]
@@ -115,6 +119,53 @@ class Arguments(unittest.TestCase):
             with self.assertRaisesRegex(TypeError, words):
                 call()
 
+    def test_messages_are_short(self):
+        for kind, call in [
+            (OverflowError, lambda: jsonb_paths.delete_by_index(dumps([]), 10**5000)), (OverflowError, lambda: jsonb_paths.get_by_index(dumps([]), -(10**5000))),
+            (TypeError, lambda: dumps({("x" * 10**6,): 1})), (TypeError, lambda: jsonb_paths.from_json("1", floats="x" * 10**6)),
+            (errors.InvalidJsonPath, lambda: Path("$.a" * 10**6 + "[")), (errors.InvalidKeyPath, lambda: KeyPath("{" + "a" * 10**6)),
+            (errors.ObjectDuplicateKey, lambda: jsonb_paths.object_insert(dumps({"x" * 10**6: 1}), "x" * 10**6, dumps(2))),
+            (errors.UnsupportedNumber, lambda: jsonb_paths.from_json("1" * 10**6)), (errors.UnsupportedNumber, lambda: dumps(10**5000)),
+        ]:
+            with self.assertRaises(kind) as caught:
+                call()
+            self.assertLess(len(str(caught.exception)), 400)
+
+    def test_documents_of_the_wrong_type_are_named(self):
+        date = bytes.fromhex("20000000600000051000000001")
+        for call, kind, said in [
+            (lambda: jsonb_paths.delete(dumps(5), "{a}"), errors.InvalidJsonType, "delete: expected an array or an object, found integer"),
+            (lambda: KeyPath("{a}").delete(dumps(None)), errors.InvalidJsonType, "delete: expected an array or an object, found null"),
+            (lambda: jsonb_paths.delete_by_index(dumps({}), 0), errors.InvalidJsonType, "delete_by_index: expected an array, found object"),
+            (lambda: jsonb_paths.delete_by_name(dumps("a"), "a"), errors.InvalidJsonType, "delete_by_name: expected an array or an object, found string"),
+            (lambda: jsonb_paths.object_insert(dumps([]), "a", dumps(1)), errors.InvalidObject, "object_insert: expected an object, found array"),
+            (lambda: jsonb_paths.object_pick(dumps(True), ["a"]), errors.InvalidObject, "object_pick: expected an object, found boolean"),
+            (lambda: jsonb_paths.object_delete(bytearray(dumps(Decimal("1.5"))), ["a"]), errors.InvalidObject, "object_delete: expected an object, found decimal"),
+            (lambda: jsonb_paths.elements(date), errors.InvalidJsonType, "elements: expected an array, found date"),
+            (lambda: jsonb_paths.pairs(dumps([])), errors.InvalidObject, "pairs: expected an object, found array"),
+            (lambda: jsonb_paths.to_bool(dumps(1)), errors.InvalidCast, "to_bool: expected a Boolean or a string such as yes, found integer"),
+            (lambda: jsonb_paths.to_str(dumps([])), errors.InvalidCast, "to_str: expected a string, a number or a Boolean, found array"),
+            (lambda: jsonb_paths.to_i64(dumps("x")), errors.InvalidCast,
+             "to_i64: expected a number from -2**63 to 2**63 - 1, a Boolean or a string of digits, found string"),
+            (lambda: jsonb_paths.to_u64(dumps(-1)), errors.InvalidCast, "to_u64: expected a number from 0 to 2**64 - 1, a Boolean or a string of digits, found integer"),
+            (lambda: jsonb_paths.to_json(date), errors.InvalidJsonType, "an extension value, such as a date, has no JSON text"),
+        ]:
+            with self.assertRaises(kind) as caught:
+                call()
+            self.assertEqual(str(caught.exception), f"{kind.meaning}: {said}")
+        rows = Column([dumps([1]), None, dumps(5), dumps({})])
+        for on_rows, kind, row, said in [
+            (lambda **words: rows.delete("{a}", **words), errors.InvalidJsonType, 2, "delete: expected an array or an object, found integer"),
+            (rows.to_i64, errors.InvalidCast, 0, "to_i64: expected a number from -2**63 to 2**63 - 1, a Boolean or a string of digits, found array"),
+            (rows.to_str, errors.InvalidCast, 0, "to_str: expected a string, a number or a Boolean, found array"),
+        ]:
+            with self.assertRaises(kind) as caught:
+                on_rows()
+            self.assertEqual(str(caught.exception), f"row {row}: {kind.meaning}: {said}")
+            found = {}
+            on_rows(errors=found)
+            self.assertEqual((str(found[row]), found[row].row), (str(caught.exception), row))
+
     def test_positions_that_do_not_fit_are_errors(self):
         for call, number in ((jsonb_paths.delete_by_index, 2**31), (jsonb_paths.get_by_index, -1), (jsonb_paths.get_by_index, 2**64)):
             with self.assertRaises(OverflowError):
@@ -184,11 +235,13 @@ class Calls(unittest.TestCase):
             values = [random_value(source) for _ in names]
             made = jsonb_paths.object_from_columns(names, map(dumps, values))
             self.assertEqual(made, model.encode(dict(zip(names, values))))
-        for kind, names, values in [
-            (errors.ObjectDuplicateKey, ["a", "b", "a"], [1, 2, 3]), (errors.BadOffsets, ["a"], []), (errors.NotUtf8, ["\udcff"], [1]),
+        for kind, what, names, values in [
+            (errors.ObjectDuplicateKey, "'b'", ["a", "b", "c", "b", "c"], [1, 2, 3, 4, 5]), (errors.ObjectDuplicateKey, "''", iter(["", ""]), [1, 2]),
+            (errors.BadOffsets, "1 names, and 0 documents", ["a"], []), (errors.NotUtf8, "", ["\udcff"], [1]),
         ]:
-            with self.assertRaises(kind):
+            with self.assertRaises(kind) as caught:
                 jsonb_paths.object_from_columns(names, map(dumps, values))
+            self.assertEqual(caught.exception.what, what)
 
     def test_leaves(self):
         def leaves(value, steps=()):
@@ -252,6 +305,63 @@ class Paths(unittest.TestCase):
                 else:
                     self.assertEqual(self.outcome(getattr(path, name), document),
                                      self.outcome(getattr(jsonb_paths, name), document, text, strict=strict), (text, name, document))
+
+    def test_predicates(self):
+        """Compared with the model of the fuzzer on random paths, with operators in their keys too."""
+        for path, wanted in [("$.a > 1", True), ("(exists($))", True), ('"a" starts with "b"', True), ("1+1&&2+2", True), ("-$ || 1 % 2", True),
+                             ("$", False), ("", False), ("exists", False), ("$?(@ > 1)", False), ("$.a&&b + 1", False), ('-$."a==b"', False)]:
+            self.assertIs(Path(path).is_predicate, wanted, path)
+            self.assertIs(Path(path, strict=True).is_predicate, wanted, path)
+        source = random.Random(6)
+        cases, found = Cases(source), []
+        keys = [".a", ".a&&b", '."x<"', '["a=b"]', ".\\u{0026}&k", '.\\"=', ":exists", ".starts"]
+        for _ in range(4000):
+            text = source.choice([cases.json_path(), cases.condition(2, "$").replace(".a", source.choice(keys)).encode()])
+            tree = JsonPath(text).read()
+            if tree is not None:
+                found.append(self.is_predicate(tree))
+                self.assertIs(Path(text.decode()).is_predicate, found[-1], text)
+        self.assertGreater(min(found.count(True), found.count(False)), 300)
+
+    @staticmethod
+    def is_predicate(tree):
+        if [it[0] for it in tree] != ["expression"]:
+            return False
+        operator, *operands = tree[0][1]
+        return operator in ("and", "or", "exists") or operator == "binary" and operands[0] not in "+-*/%"
+
+    def test_what_looks_like_another_language(self):
+        for text, at, said in [
+            ("$.a > 1.5", 7, "numbers in a path are integers: "), ("$.a == $b", 8, "paths have no variables: "),
+            ("$?(@.a)", 6, "a condition is a comparison or exists(..): "), ("strict $.a", 7, "a mode is not part of the path, but the argument strict: "),
+            ("lax $.a", 4, "a mode is not part of the path, but the argument strict: "), ("$.a[", 3, ""), ("lax $", 4, "a mode is not part of the path, but the argument strict: "),
+            ("lax.a $", 6, ""), ("$.strict $", 9, ""), ("$.a == \"x", 7, ""), ("$.a, $.b", 3, ""), ("$ | $", 2, ""), ("$.a == x.y", 7, "strings are in double quotes: "),
+            ("age > 40", 4, "a key in a condition begins with $. or @.: "), ("$.a == 1 && b == 2", 12, "a key in a condition begins with $. or @.: "),
+            ("a starts with \"x\"", 2, "a key in a condition begins with $. or @.: "), ("$.a = 1", 4, "equality is written ==: "), ("exists($.a) = 1", 12, "equality is written ==: "),
+            ("$.a > 1 AND $.b > 1", 8, "and is written &&: "), ("$.a > 1 or $.b > 1", 8, "or is written ||: "), ("!($.a == 1)", 0, "paths have no negation: "),
+            ("$.a == 'x'", 7, "strings are in double quotes: "), ("$['a']", 1, "strings are in double quotes: "), ("$.a == x", 7, "strings are in double quotes: "),
+            ("$.a == NULL", 7, "null, true and false are in lower case: "), ("$..a", 1, "descendants are selected by .**: "), ("$[1:3]", 1, "a slice is written [1 to 3]: "),
+            ("$[?(@.a > 1)]", 1, "in brackets are integers, last, * or a key in double quotes: "), ("$.a.size()", 8, "paths have no methods or functions: "),
+            ('$.a like_regex "x"', 4, "conditions have the operators ==, !=, <, <=, >, >=, starts with, && and ||: "), (" {a,0}", 1, "key paths begin with {, JSON paths with $: "),
+            ("EXISTS($.a)", 6, "exists is in lower case: "), ("$?(EXISTS (@.a))", 3, "exists is in lower case: "), ("$.a.exists()", 10, "paths have no methods or functions: "),
+            ("$?(match(@.a, 1))", 3, "paths have no methods or functions: "), ("$.a == lower(1)", 7, "paths have no methods or functions: "),
+            ("$.a == 1 && not exists($.b)", 12, "paths have no negation: "), ("$?(TRUE == @)", 3, "null, true and false are in lower case: "),
+            ("$.a starts with x", 16, "strings are in double quotes: "), ("$.a * b", 6, "a key in a condition begins with $. or @.: "), ("$.a/b", 4, ""),
+            ("$.a =~ 1", 4, ""), ('$["a:b","c"]', 1, ""), ('$["it\'s", 0:1]', 1, "a slice is written [1 to 3]: "),
+        ]:
+            for call in (lambda: Path(text), lambda: jsonb_paths.select(dumps(1), text), lambda: Column([dumps(1)]).match(text)):
+                with self.assertRaises(errors.InvalidJsonPath) as caught:
+                    call()
+                self.assertEqual(str(caught.exception), f"byte {at}: {errors.InvalidJsonPath.meaning}: {said}{text!r}")
+
+    def test_what_looks_like_another_key_path(self):
+        for text, at, said in [("$.a", 0, "JSON paths begin with $, key paths with {: "), ("a", 0, "a key path is in braces, such as {a,0}: "), ("", 0, ""),
+                               ("{a.b}", 2, "the steps of a key path are separated by commas: "), ("{'a'}", 1, "keys are in double quotes: "), ("{a", 2, ""), ("{1a}", 2, ""),
+                               (" $.a", 1, "JSON paths begin with $, key paths with {: "), ("{a$b}", 2, ""), ("{$}", 1, "")]:
+            for call in (lambda: KeyPath(text), lambda: jsonb_paths.get(dumps(1), text), lambda: Column([dumps(1)]).get(text)):
+                with self.assertRaises(errors.InvalidKeyPath) as caught:
+                    call()
+                self.assertEqual(str(caught.exception), f"byte {at}: {errors.InvalidKeyPath.meaning}: {said}{text!r}")
 
     def test_key_paths(self):
         source = random.Random(4)

@@ -124,11 +124,11 @@ class Values(unittest.TestCase):
         row[1] = Index()
         self.assertEqual(loads(dumps(row)), ["x" * 100, 7])
 
-    def test_integers_of_other_types(self):
+    def test_tuples_and_integers_of_other_types(self):
         class Mine(int):
             pass
 
-        self.assertEqual(loads(dumps([Mine(3), Mine(2**100), True])), [3, 2**100, True])
+        self.assertEqual(loads(dumps((Mine(3), (Mine(2**100), ()), {"k": (True,)}))), [3, [2**100, []], {"k": [True]}])
         try:
             import numpy
         except ImportError:

@@ -44,13 +44,29 @@ pub fn parse_json_path(input: &[u8]) -> Result<JsonPath<'_>> {
     Ok(JsonPath { text, path: UnsafeCell::new(path) })
 }
 
+/// Returns the byte at which text is not a JSON path (docs/PATHS.md), or `None` if it is one.
+///
+/// # Errors
+///
+/// `OutOfMemory`.
+///
+/// ```
+/// # use jsonb_paths::json_path_error_position;
+/// assert_eq!(json_path_error_position(b"$.price > 9.99"), Ok(Some(11)));
+/// assert_eq!(json_path_error_position(b"$.price > 9"), Ok(None));
+/// ```
+pub fn json_path_error_position(input: &[u8]) -> Result<Option<usize>> {
+    // SAFETY: the slice is a pointer and its length.
+    one(|position| unsafe { sys::jdoc_path_error_position(at(input), input.len(), position) })
+}
+
 impl<'a> JsonPath<'a> {
     /// The text that was parsed.
     pub fn text(&self) -> &'a str {
         self.text
     }
 
-    /// Returns `true` if the path is one expression, such as `$.a == 1`, and not a list of steps.
+    /// Returns `true` if the path is one expression, such as `$.a == 1` or `$.a + 1`, and not a list of steps.
     pub fn is_predicate(&self) -> bool {
         // No bytes are not a document, which only an expression reads: another path is unknown on any bytes.
         Selector::new(RawJsonb::new(&[])).predicate_match(self).is_err()

@@ -1,6 +1,6 @@
 //! Key paths: their text, their steps, and their printed form (docs/PATHS.md).
 
-use crate::call::{at, done};
+use crate::call::{at, done, one};
 use crate::{Error, OwnedJsonb, RawJsonb, Result};
 use jdoc_sys as sys;
 use std::borrow::Cow;
@@ -204,6 +204,22 @@ impl Drop for PreparedKeyPath {
         // SAFETY: the struct contains a path, which nothing uses any more.
         unsafe { sys::jdoc_keypath_free(self.0.get()) }
     }
+}
+
+/// Returns the byte at which text is not a key path (docs/PATHS.md), or `None` if it is one.
+///
+/// # Errors
+///
+/// `OutOfMemory`.
+///
+/// ```
+/// # use jsonb_paths::key_path_error_position;
+/// assert_eq!(key_path_error_position(b"{a,1b}"), Ok(Some(4)));
+/// assert_eq!(key_path_error_position(b"{a,1}"), Ok(None));
+/// ```
+pub fn key_path_error_position(input: &[u8]) -> Result<Option<usize>> {
+    // SAFETY: the slice is a pointer and its length.
+    one(|position| unsafe { sys::jdoc_keypath_error_position(at(input), input.len(), position) })
 }
 
 fn trimmed(text: &str) -> &str {

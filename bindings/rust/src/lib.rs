@@ -36,8 +36,10 @@ pub use document::{OwnedJsonb, RawJsonb};
 pub use error::{ArithmeticFault, Error, Result};
 pub use extension::{Date, ExtensionValue, Interval, Timestamp, TimestampTz};
 pub use functions::{composite_key, composite_key_wide};
-pub use jsonpath::{get_by_path, parse_json_path, JsonPath, Selector};
-pub use keypath::{parse_key_paths, KeyPath, KeyPaths, OwnedKeyPath, OwnedKeyPaths, PreparedKeyPath};
+pub use jsonpath::{get_by_path, json_path_error_position, parse_json_path, JsonPath, Selector};
+pub use keypath::{
+    key_path_error_position, parse_key_paths, KeyPath, KeyPaths, OwnedKeyPath, OwnedKeyPaths, PreparedKeyPath,
+};
 pub use number::{Decimal128, Decimal64, Number};
-pub use text::{parse_value, to_string};
+pub use text::{json_text_error_position, parse_value, to_string};
 pub use value::{from_slice, Object, Value};

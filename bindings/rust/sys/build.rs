@@ -4,12 +4,16 @@
 use std::env;
 use std::path::Path;
 
-fn link(variable: &str, built: &str, library: &str) {
+fn link(variable: &str, part: &str, library: &str) {
     let released = concat!(env!("CARGO_MANIFEST_DIR"), "/../lib");
     let folder = env::var(variable).unwrap_or_else(|_| match Path::new(released).exists() {
         true => released.to_string(),
-        false => format!("{}/../../{built}", env!("CARGO_MANIFEST_DIR")),
+        false => format!("{}/../../{part}/out", env!("CARGO_MANIFEST_DIR")),
     });
+    if !Path::new(&format!("{folder}/lib{library}.a")).exists() {
+        let builds = format!("`make` in bindings/{part} builds it, or {variable} names its folder");
+        println!("cargo:warning=lib{library}.a is not in {folder}: {builds}");
+    }
     println!("cargo:rustc-link-search=native={folder}");
     println!("cargo:rustc-link-lib=static={library}");
     println!("cargo:rerun-if-env-changed={variable}");
@@ -17,6 +21,6 @@ fn link(variable: &str, built: &str, library: &str) {
 }
 
 fn main() {
-    link("JDOC_TEXT_LIB_DIR", "text/out", "jdoc_text"); // needs the library after it
-    link("JDOC_LIB_DIR", "c/out", "jdoc");
+    link("JDOC_TEXT_LIB_DIR", "text", "jdoc_text"); // needs the library after it
+    link("JDOC_LIB_DIR", "c", "jdoc");
 }

@@ -1,7 +1,8 @@
 //! Values, JSON text, construction, and paths on other threads.
 
 use jsonb_paths::{
-    composite_key, composite_key_wide, from_slice, get_by_path, parse_json_path, parse_key_paths, parse_value, to_string, Date, Decimal128, Decimal64,
+    composite_key, composite_key_wide, from_slice, get_by_path, json_path_error_position, json_text_error_position,
+    key_path_error_position, parse_json_path, parse_key_paths, parse_value, to_string, Date, Decimal128, Decimal64,
     Error, ExtensionValue, Interval, KeyPath, KeyPaths, Number, OwnedJsonb, OwnedKeyPath, OwnedKeyPaths, RawJsonb,
     Timestamp, TimestampTz, Value,
 };
@@ -239,6 +240,25 @@ fn a_path_is_used_and_dropped_on_other_threads() {
     thread::spawn(move || drop(find(path))).join().unwrap();
     assert!(RawJsonb::new(DOCUMENT).path_exists(&copy).unwrap());
     assert_eq!((format!("{copy:?}"), copy.text()), (r#"JsonPath("$[*].k")"#.to_string(), "$[*].k"));
+}
+
+#[test]
+fn errors_of_text_have_positions() {
+    let paths: [(&[u8], _); 4] = [(b"$.a", None), (b"$.a[", Some(3)), (b"", None), (b"$.\xff", Some(1))];
+    for (text, position) in paths {
+        assert_eq!(json_path_error_position(text), Ok(position), "{text:?}");
+        assert_eq!(parse_json_path(text).is_err(), position.is_some(), "{text:?}");
+    }
+    let key_paths: [(&[u8], _); 4] = [(b"{a}", None), (b"{a", Some(2)), (b"", Some(0)), (b"{1a}", Some(2))];
+    for (text, position) in key_paths {
+        assert_eq!(key_path_error_position(text), Ok(position), "{text:?}");
+        assert_eq!(parse_key_paths(text).is_err(), position.is_some(), "{text:?}");
+    }
+    let texts: [(&[u8], _); 4] = [(b"[1.50]", None), (b"[1,", Some(3)), (b"[1e300]", Some(1)), (b"", Some(0))];
+    for (text, position) in texts {
+        assert_eq!(json_text_error_position(text), position, "{text:?}");
+        assert_eq!(parse_value(text).is_err(), position.is_some(), "{text:?}");
+    }
 }
 
 #[test]

@@ -30,5 +30,10 @@ class Case(unittest.TestCase):
         for word in words.split():
             self.assertIn(word, str(caught.exception), sql)
 
+    def says(self, message, sql, *values):
+        with self.assertRaises(sqlite3.OperationalError) as caught:
+            self.db.execute(f"SELECT {sql}", values).fetchall()
+        self.assertEqual(str(caught.exception), message, sql)
+
     def plan(self, sql):
         return " ".join(row[3] for row in self.db.execute(f"EXPLAIN QUERY PLAN {sql}"))

@@ -66,6 +66,9 @@ class BesideJson(Case):
             self.both("iif(jdoc_type(jdoc_get(:t, :k)) = 'array', jdoc_length(jdoc_get(:t, :k)), 0)", "json_array_length(:t, :p)", it, "length")
             mine, other = self.db.execute("SELECT jdoc_type(jdoc_get(:t, :k)), json_type(:t, :p)", it).fetchone()
             self.assertEqual(mine, types.get(other, other), it)
+            if isinstance(value, (list, dict)):
+                rows = "SELECT e.key, e.value FROM {}(:t) AS e"
+                self.assertEqual(self.db.execute(rows.format("jdoc_each"), it).fetchall(), self.db.execute(rows.format("json_each"), it).fetchall(), it)
             if isinstance(value, list):
                 rows = "SELECT r.key, r.value FROM {}(:t, :p) AS r"
                 whole = dict(it, p="$")

@@ -13,7 +13,7 @@ CALLS = [
     "jdoc_overlap(:d, :e)", "jdoc_concat(:d, :e)", "jdoc_intersection(:d, :e)", "jdoc_except(:d, :e)", "jdoc_distinct(:d)",
     "jdoc_strip_nulls(:d)", "jdoc_delete(:d, '{a,0}')", "jdoc_delete(:d, 0)", "jdoc_set(:d, 'a', :e)", "jdoc_insert(:d, 'k', :e)",
     "jdoc_array_insert(:d, 1, :e)", "jdoc_key(:d, :e)", "jdoc_equality_key(:d)", "jdoc_array_agg(:d)", "jdoc_object_agg('k', :d)",
-    "count(value) FROM jdoc_rows(:d, '$.**')",
+    "count(value) FROM jdoc_rows(:d, '$.**')", "count(key), count(value), count(doc) FROM jdoc_each(:d)",
 ]
 
 

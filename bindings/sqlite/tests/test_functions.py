@@ -17,6 +17,9 @@ ERRORS = [
     ("JDOC_INVALID_JSON_PATH jdoc_match: byte 5 of the path", "jdoc_match(jdoc('{}'), '$.a >')"),
     ("JDOC_INVALID_JSON_PATH byte 13", "jdoc_match(jdoc('{}'), ' strict $.a >')"),
     ("byte 7 integers", "jdoc_match(jdoc('{}'), '$.a > 0.5')"), ("byte 7 variables", "jdoc_match(jdoc('{}'), '$.a > $x')"),
+    ("JDOC_INVALID_JSON_PATH jdoc_path_is_predicate: byte 5 of the path", "jdoc_path_is_predicate('$.a >')"),
+    ("byte 11 of the path: equality is written ==", "jdoc_match(jdoc('{}'), 'strict $.a = 1')"), ("byte 0 of the path: JSON paths begin with $, key paths with {", "jdoc_get('{}', '$.a')"),
+    ("byte 0 of the path: a key path is in braces JDOC_INVALID_KEY_PATH", "jdoc_value('{}', 'a')"),
     ("byte 6 exists", "jdoc_first(jdoc('{}'), '$?(@.a) ')"), ("byte 12 such as", "jdoc_first(jdoc('{}'), '$?(@.a == 1))')"),
     ("JDOC_PATH_FAILED jdoc_first", "jdoc_first(jdoc('[1,2]'), '$[*] + 1')"),
     ("JDOC_STRICT_PATH", "jdoc_first(jdoc('{}'), 'strict $.a')"), ("JDOC_INVALID_JSONB", "jdoc_get(x'00', '{a}')"),
@@ -28,11 +31,67 @@ ERRORS = [
     ("JDOC_INVALID_JSON_TYPE", "jdoc_json(x'20000000600000051000000001')"),
 ]
 
+# Errors with their messages: documents of the wrong type, keys that exist, and empty paths.
+DATE = "x'20000000600000051000000001'"
+MESSAGES = [
+    ("jdoc_delete: expected an array, found integer (JDOC_INVALID_JSON_TYPE)", "jdoc_delete(1, 0)"),
+    ("jdoc_delete: expected an array, found object (JDOC_INVALID_JSON_TYPE)", "jdoc_delete('{}', -1)"),
+    ("jdoc_delete: expected an array, found date (JDOC_INVALID_JSON_TYPE)", f"jdoc_delete({DATE}, 0)"),
+    ("jdoc_delete: expected an array or an object, found string (JDOC_INVALID_JSON_TYPE)", """jdoc_delete('"a"', '{0}')"""),
+    ("jdoc_delete: expected an array or an object, found null (JDOC_INVALID_JSON_TYPE)", "jdoc_delete('null', '{}')"),
+    ("jdoc_delete: expected an array or an object, found boolean (JDOC_INVALID_JSON_TYPE)", "jdoc_delete('true', '{a,b}')"),
+    ("jdoc_insert: expected an object, found array (JDOC_INVALID_OBJECT)", "jdoc_insert('[]', 'a', 1)"),
+    ("jdoc_set: expected an object, found decimal (JDOC_INVALID_OBJECT)", "jdoc_set('1.5', 'a', 1)"),
+    ('jdoc_insert: the object already has the key "é" (JDOC_OBJECT_DUPLICATE_KEY)', """jdoc_insert('{"é":1}', 'é', 2)"""),
+    ('jdoc_insert: the object already has the key "" (JDOC_OBJECT_DUPLICATE_KEY)', """jdoc_insert('{"":1}', '', 2)"""),
+    (f"""jdoc_insert: the object already has the key "{60 * 'é'}" (JDOC_OBJECT_DUPLICATE_KEY)""", f"""jdoc_insert('{{"{99 * 'é'}":1}}', '{99 * 'é'}', 2)"""),
+    ("jdoc_json: an extension value, such as a date, has no JSON text (JDOC_INVALID_JSON_TYPE)", f"jdoc_json({DATE})"),
+    ("jdoc_value: an extension value, such as a date, has no JSON text (JDOC_INVALID_JSON_TYPE)", f"jdoc_value({DATE})"),
+    ("jdoc_rows: an extension value, such as a date, has no JSON text (JDOC_INVALID_JSON_TYPE)", f"value FROM jdoc_rows({DATE}, '$')"),
+    ("jdoc_first: the path is empty, and the root is $ (JDOC_INVALID_JSON_PATH)", "jdoc_first('1', '')"),
+    ("jdoc_match: the path is empty, and the root is $ (JDOC_INVALID_JSON_PATH)", "jdoc_match('1', 'strict')"),
+    ("jdoc_rows: the path is empty, and the root is $ (JDOC_INVALID_JSON_PATH)", "* FROM jdoc_rows('1', ' lax ')"),
+    ("jdoc_key: expected a document (JDOC_INVALID_ARGUMENT)", "jdoc_key()"),
+    ("jdoc_rows: expected a document and a path (JDOC_INVALID_ARGUMENT)", "* FROM jdoc_rows"),
+    ("jdoc_rows: expected a document and a path (JDOC_INVALID_ARGUMENT)", "* FROM jdoc_rows('1')"),
+    ("jdoc_each: expected a document (JDOC_INVALID_ARGUMENT)", "* FROM jdoc_each"),
+]
+
+# The arguments of each function: d a document, p a JSON path, k a key path or an index, n a name, i an index, v any value.
+ARGUMENTS = [
+    ("jdoc", "d"), ("jdoc_json", "d"), ("jdoc_quote", "v"), ("jdoc_value", "d"), ("jdoc_value", "dk"), ("jdoc_get", "dk"), ("jdoc_first", "dp"),
+    ("jdoc_select", "dp"), ("jdoc_array", "dp"), ("jdoc_exists", "dp"), ("jdoc_match", "dp"), ("jdoc_contains", "dd"), ("jdoc_overlap", "dd"),
+    ("jdoc_concat", "dd"), ("jdoc_intersection", "dd"), ("jdoc_except", "dd"), ("jdoc_distinct", "d"), ("jdoc_strip_nulls", "d"),
+    ("jdoc_delete", "dk"), ("jdoc_insert", "dnd"), ("jdoc_set", "dnd"), ("jdoc_array_insert", "did"), ("jdoc_equality_key", "d"),
+    ("jdoc_type", "d"), ("jdoc_length", "d"), ("jdoc_check", "v"), ("jdoc_array_agg", "d"), ("jdoc_object_agg", "nd"), ("jdoc_path_is_predicate", "p"),
+]
+# A value of each SQL type, one that each argument accepts, the types that it does not accept, and the error.
+TYPED = {"INTEGER": "1", "REAL": "0.5", "TEXT": "'x'", "BLOB": "x'7b7d'"}
+ACCEPTED = {"d": "'[{}]'", "p": "'$'", "k": "'{0}'", "n": "'a'", "i": "0", "v": "1"}
+REJECTED = {
+    "d": (["REAL"], "a REAL is not exact: pass its text, such as '1.5' (JDOC_UNSUPPORTED_NUMBER)"),
+    "p": (["INTEGER", "REAL", "BLOB"], "expected TEXT as the path, found {} (JDOC_INVALID_ARGUMENT)"),
+    "k": (["REAL", "BLOB"], "expected a key path, which is TEXT, or an INTEGER, found {} (JDOC_INVALID_ARGUMENT)"),
+    "n": (["INTEGER", "REAL", "BLOB"], "expected TEXT as the name, found {} (JDOC_INVALID_ARGUMENT)"),
+    "i": (["REAL", "TEXT", "BLOB"], "expected an INTEGER as the index, found {} (JDOC_INVALID_ARGUMENT)"),
+    "v": ([], ""),
+}
+
+# Paths that are predicates, and others: steps and arithmetic, with operators in keys and strings.
+PREDICATES = [
+    "$.a > 1", "1 == 1", "$ <> 2", "exists($.a)", "(((exists ($.a))))", '$.a starts with "b"', "strict $.a == null", " lax($ >= 1) ", "1 + 1 && 2 + 2",
+    "1+1&&2+2", "-$ || 1 % 2", "($.a == 2 || 1 == 1)", '"\\"" == $."\\\\"', "$[1 to last] < 1", "1 + $.a&& && 1 + 1",
+]
+OTHERS = [
+    "$", "$.a", "a", "exists", "true", "a.exists", "strict.a", "$?(@.a > 1)", "$.a[*]?(exists(@.b))", "$.**{1 to last}", "$.a + 1", "-$", "(+$.a)", "((7 - 10))",
+    "$.exists * $.starts", "$.a&&b + 1", '$."a>b" - $["c==d"]', '"x==y" + "\\"<"', "$.\\u{0026}&a / 2", "$.a\\\"&b % 3", "$:a&b:exists + 1", "strict -$[0, last].x",
+]
+
 NULLS = [
     "jdoc(NULL)", "jdoc_json(NULL)", "jdoc_get(NULL, '{a}')", "jdoc_get(jdoc('{}'), NULL)", "jdoc_match(NULL, '$')", "jdoc_match('1', NULL)",
     "jdoc_contains(NULL, '1')", "jdoc_contains('1', NULL)", "jdoc_key(NULL)", "jdoc_check(NULL)", "jdoc_set('{}', NULL, 1)",
     "jdoc_set('{}', 'a', NULL)", "jdoc_get('{}', '{a}')", "jdoc_value('{\"a\":null}', '{a}')", "jdoc_match('{\"a\":\"x\"}', '$.a > 1')",
-    "jdoc_length('1')", "jdoc_delete('[]', NULL)", "jdoc_array_insert('[]', NULL, 1)", "jdoc_get('[1]', 1)", "jdoc_get('[1]', -1)",
+    "jdoc_length('1')", "jdoc_path_is_predicate(NULL)", "jdoc_delete('[]', NULL)", "jdoc_array_insert('[]', NULL, 1)", "jdoc_get('[1]', 1)", "jdoc_get('[1]', -1)",
 ]
 
 VALUES = [
@@ -60,7 +119,9 @@ CALLS = [
     ("jdoc_key(1, 2) < jdoc_key(1, 10)", 1), ("jdoc_key(1, NULL) < jdoc_key(1, 'true')", 1), ("hex(jdoc_key(NULL, NULL))", "00000000"),
     ("jdoc_equality_key('1.0') = jdoc_equality_key('1')", 1), ("jdoc_json(jdoc_quote('a\"'))", '"a\\""'), ("jdoc_json(jdoc_quote(5))", "5"),
     ("jdoc_json(jdoc_quote(NULL))", "null"), ("jdoc_json(jdoc_quote(jdoc('[1]')))", "[1]"), ("jdoc_json(jdoc_set('{}', 'k', jdoc_quote('1')))", '{"k":"1"}'),
-    ("hex(jdoc(jdoc(5)))", "2000000020000002" + "4005"),
+    ("jdoc_json(jdoc_set(:d, 'b', jdoc_set(jdoc_get(:d, '{b}'), 'c', 1)))", '{"a":[1,2,3],"b":{"c":1},"n":null}'),
+    ("hex(jdoc(jdoc(5)))", "2000000020000002" + "4005"), ("json_object('d', jdoc_json(:d))", f'{{"d":{DOCUMENT}}}'),
+    ("json_array(jdoc_json('\"x\"'), jdoc_value('\"x\"'))", '["x","x"]'), ("json_quote(jdoc_json(jdoc('[1.50]')))", "[1.50]"),
 ]
 
 
@@ -81,6 +142,29 @@ class Functions(Case):
         for words, call in ERRORS:
             self.fails(words, call)
 
+    def test_messages(self):
+        for message, call in MESSAGES:
+            self.says(message, call)
+
+    def test_types_of_arguments(self):
+        """SQLite would convert an argument of another type, such as 'x' to the integer 0. Here it is an error that names both types."""
+        for name, letters in ARGUMENTS:
+            for at, letter in enumerate(letters):
+                types, message = REJECTED[letter]
+                for it in types:
+                    words = [ACCEPTED[other] for other in letters]
+                    words[at] = TYPED[it]
+                    self.says(f"{name}: {message.format(it)}", f"{name}({', '.join(words)})")
+        for it in REJECTED["p"][0]:
+            self.says(f"jdoc_rows: {REJECTED['p'][1].format(it)}", f"* FROM jdoc_rows('1', {TYPED[it]})")
+        self.says("jdoc_key: " + REJECTED["d"][1], "jdoc_key(1, 0.5)")
+        self.says("jdoc_each: " + REJECTED["d"][1], "* FROM jdoc_each(0.5)")
+        self.says("jdoc_object_agg: expected TEXT as the name, found NULL (JDOC_INVALID_ARGUMENT)", "jdoc_object_agg(NULL, 1)")
+
+    def test_each_function_is_among_them(self):
+        found = self.db.execute("SELECT DISTINCT name, narg FROM pragma_function_list WHERE name LIKE 'jdoc%' AND narg >= 0").fetchall()
+        self.assertEqual(sorted(found), sorted((name, len(letters)) for name, letters in ARGUMENTS))
+
     def test_nulls(self):
         for call in NULLS:
             self.assertIsNone(self.one(call), call)
@@ -93,6 +177,12 @@ class Functions(Case):
     def test_calls(self):
         for call, answer in CALLS:
             self.assertEqual(self.db.execute(f"SELECT {call}", {"d": DOCUMENT}).fetchone()[0], answer, call)
+
+    def test_predicates(self):
+        for path in PREDICATES:
+            self.assertEqual(self.one("jdoc_path_is_predicate(?)", path), 1, path)
+        for path in OTHERS:
+            self.assertEqual(self.one("jdoc_path_is_predicate(?)", path), 0, path)
 
     def test_constant_documents_are_kept(self):
         self.db.execute("CREATE TABLE t (d)")
@@ -126,8 +216,11 @@ class Aggregates(Case):
     def test_objects(self):
         self.assertEqual(self.one("jdoc_json(jdoc_object_agg(k, d)) FROM t WHERE g = 1"), '{"a":"x","b":1}')
         self.assertEqual(self.one("jdoc_json(jdoc_object_agg(k, d)) FROM t WHERE 0"), "{}")
-        self.fails("jdoc_object_agg JDOC_OBJECT_DUPLICATE_KEY", "jdoc_object_agg(k, d) FROM t WHERE g = 2")
-        self.fails("jdoc_object_agg NULL", "jdoc_object_agg(NULL, d) FROM t")
+        self.says('jdoc_object_agg: two rows have the key "c" (JDOC_OBJECT_DUPLICATE_KEY)', "jdoc_object_agg(k, d) FROM t WHERE g = 2")
+        keys = "VALUES ('b'), ('say \"it\"'), ('a'), ('say \"it\"'), ('b')"
+        self.says('jdoc_object_agg: two rows have the key "say ""it""" (JDOC_OBJECT_DUPLICATE_KEY)', f"jdoc_object_agg(column1, 1) FROM ({keys})")
+        self.fails("byte 7 of the JSON text JDOC_OBJECT_DUPLICATE_KEY", """jdoc_object_agg('a', '{"b":1,"b":2}')""")
+        self.fails("jdoc_object_agg NULL JDOC_INVALID_ARGUMENT", "jdoc_object_agg(NULL, d) FROM t")
 
     def test_errors(self):
         self.fails("jdoc_array_agg JDOC_INVALID_JSON", "jdoc_array_agg(k) FROM t")
@@ -184,6 +277,34 @@ class Rows(Case):
         self.fails("jdoc_rows JDOC_INVALID_JSONB", "* FROM jdoc_rows(x'00', '$')")
         self.fails("jdoc_rows JDOC_INVALID_JSONB", "value FROM jdoc_rows(x'800000012000000109', '$[*]')")
         self.fails("JDOC_INVALID_JSON_TYPE", "value FROM jdoc_rows(x'20000000600000051000000001', '$')")
+
+
+class Each(Case):
+    SQL = "SELECT e.key, e.value, e.type, jdoc_json(e.doc) FROM jdoc_each(?) AS e"
+
+    def test_members(self):
+        rows = self.db.execute(self.SQL, ('{"b":[1],"":null,"a":{"k":2.5},"é\\u0000":"x"}',)).fetchall()
+        self.assertEqual(rows, [("", None, "null", "null"), ("a", '{"k":2.5}', "object", '{"k":2.5}'), ("b", "[1]", "array", "[1]"), ("é\0", "x", "string", '"x"')])
+
+    def test_elements(self):
+        rows = self.db.execute(self.SQL, ('[5,"x",false,{}]',)).fetchall()
+        self.assertEqual(rows, [(0, 5, "integer", "5"), (1, "x", "string", '"x"'), (2, 0, "boolean", "false"), (3, "{}", "object", "{}")])
+
+    def test_no_rows(self):
+        for call in ("NULL", "'[]'", "'{}'", "'5'", "'\"x\"'", "'null'"):
+            self.assertEqual(self.db.execute(f"SELECT * FROM jdoc_each({call})").fetchall(), [], call)
+
+    def test_joins(self):
+        """Members and elements alternately, in a join and in a nested one."""
+        self.db.execute("CREATE TABLE t (d)")
+        self.db.executemany("INSERT INTO t VALUES (jdoc(?))", [('{"a":1,"b":[2]}',), ("[3,4]",), ("5",), ('{"c":{"d":6}}',)])
+        found = self.db.execute("SELECT a.key, b.key, b.value FROM t, jdoc_each(t.d) AS a LEFT JOIN jdoc_each(a.doc) AS b").fetchall()
+        self.assertEqual(found, [("a", None, None), ("b", 0, 2), (0, None, None), (1, None, None), ("c", "d", 6)])
+
+    def test_errors(self):
+        self.fails("jdoc_each byte 0 of the JSON text JDOC_INVALID_JSON", "* FROM jdoc_each('x')")
+        self.fails("jdoc_each JDOC_INVALID_JSONB", "* FROM jdoc_each(x'8000000120')")
+        self.fails("jdoc_each an extension value JDOC_INVALID_JSON_TYPE", "value FROM jdoc_each(x'80000001600000051000000001')")
 
 
 if __name__ == "__main__":

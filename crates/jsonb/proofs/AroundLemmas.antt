@@ -15,7 +15,7 @@ use Rattle.jsonb.specs.Private.Asking.{asking_tests, IsCached, IsWaiting, IsTurn
 use Rattle.jsonb.specs.Private.Jumps.{evaluated, next_jump}
 use Rattle.jsonb.specs.Private.Running.{IsRunning, IsAtFilter, IsProgress, IsBeforeFilter, running_steps}
 use Rattle.jsonb.specs.Private.Selection.{IsAt, node_spots, taken_step}
-use Rattle.jsonb.specs.Private.Tests.{tests_conditions}
+use Rattle.jsonb.specs.Private.Tests.{IsQuestionOf, AreTestsOf, tests_conditions}
 use Rattle.jsonb.specs.declared.path.Path.{Path}
 use Rattle.jsonb.specs.declared.selector.document.Context.{Context}
 use Rattle.jsonb.specs.declared.selector.document.Repeats.{Repeats}
@@ -35,7 +35,7 @@ use Rattle.jsonb.proofs.OperandLemmas.{path_refused, as_refused}
 use Rattle.jsonb.proofs.Progress.{list_end}
 use Rattle.jsonb.proofs.RefinesLemmas.{continued}
 use Rattle.jsonb.proofs.RepeatLemmas.{same_equal, same_steps, same_outcomes_then}
-use Rattle.jsonb.proofs.StepLemmas.{steps_at}
+use Rattle.jsonb.proofs.StepLemmas.{joined_one, steps_at}
 use Rattle.jsonb.proofs.TestLemmas.{last_first}
 
 -- an error is the same with and without repeats
@@ -84,7 +84,7 @@ progress_as context top repeats o p (Ok (progress.AtFilter f)) h same = (
     h.1.1,
     h.1.2,
     h.1.3,
-    same_outcomes_then f.value.running.repeats _ o p h.1.4 (subst (λ x. SameOutcomes x o p) (sym h.0) same),
+    same_outcomes_then f.value.running.repeats _ o p h.1.4 (rw (sym h.0) at same),
   ),
 )
 progress_as context top repeats o p (Ok (progress.Complete items)) h same = found_as repeats (node_spots items) o p h same
@@ -137,29 +137,23 @@ abbrev pub reached : Running → ℕ → NodeList → Running
 reached r n nodes = record { expressions = r.expressions; repeats = r.repeats; steps = r.steps; next = n; items = nodes }
 
 -- the next step of those that are left, and the steps after it
-pub running_step : (context : Context) (top : Tree) (r : Running) (steps : List Path) (x : Path) (o : Outcome (List Tree)) → r.steps.now ≡ steps
-    → r.next < length steps → x ≡ get_or steps r.next x → IsRunning context top r o
+pub running_step : (context : Context) (top : Tree) (r : Running) (x : Path) (o : Outcome (List Tree)) → r.next < length r.steps.now
+    → x ≡ get_or r.steps.now r.next x → IsRunning context top r o
     → (ts : List Tree) × AllZip (IsAt context.document) (node_spots r.items) ts
     × SameOutcomes r.repeats (and_then (try_flat_map (step_meaning context.mode (taken_step r.expressions (step_view x)) top) ts)
     (steps_meaning context.mode (steps_of (map (taken_step r.expressions) (steps_view (drop (r.next + 1) r.steps.now)))) top)) o
-running_step context top r steps x o all short is h = (
-  h.0,
-  h.1,
-  subst (λ p. SameOutcomes r.repeats p o)
-      (steps_at context.mode r.expressions r.steps.now r.next x top h.0 (subst (λ l. r.next < length l) (sym all) short)
-      (subst (λ l. x ≡ get_or l r.next x) (sym all) is)) h.2,
-)
+running_step context top r x o short is h =
+    (h.0, h.1, rw (steps_at context.mode r.expressions r.steps.now r.next x top h.0 short is) at h.2)
 
 -- the same if it is a filter
-pub filter_next : (context : Context) (top : Tree) (r : Running) (steps : List Path) (x : Path) (e : Expression) (o : Outcome (List Tree))
-    → r.steps.now ≡ steps → r.next < length steps → x ≡ get_or steps r.next x → taken_step r.expressions (step_view x) ≡ filter e
-    → IsRunning context top r o → IsBeforeFilter context top e (reached r (r.next + 1) r.items) o
-filter_next context top r steps x e o all short is taken h =
-    let left = running_step context top r steps x o all short is h in (
+pub filter_next : (context : Context) (top : Tree) (r : Running) (x : Path) (e : Expression) (o : Outcome (List Tree)) → r.next < length r.steps.now
+    → x ≡ get_or r.steps.now r.next x → taken_step r.expressions (step_view x) ≡ filter e → IsRunning context top r o
+    → IsBeforeFilter context top e (reached r (r.next + 1) r.items) o
+filter_next context top r x e o short is taken h =
+    let left = running_step context top r x o short is h in (
       left.0,
       left.1,
-      subst (λ s. SameOutcomes r.repeats (and_then (try_flat_map (step_meaning context.mode s top) left.0)
-          (steps_meaning context.mode (running_steps (reached r (r.next + 1) r.items)) top)) o) taken left.2,
+      rw taken at left.2,
     )
 
 -- what the next step selects
@@ -173,7 +167,7 @@ step_taken context top repeats s rest nodes ts o found same =
       next.1.0,
       next.1.1,
       same_outcomes_then repeats (steps_meaning context.mode rest top next.1.0) (steps_meaning context.mode rest top next.0) o
-          (same_steps repeats context.mode rest top next.1.0 next.0 next.1.2) (subst (λ p. SameOutcomes repeats p o) next.2 same),
+          (same_steps repeats context.mode rest top next.1.0 next.0 next.1.2) (rw next.2 at same),
     )
 
 -- its error
@@ -246,3 +240,45 @@ items_done context top f whole past h =
       h.is ∙ ap (λ l. filtered_later context top f h.e l h.found) none
           ∙ ap (steps_meaning context.mode (running_steps f.after) top) (append-nil h.found),
     )
+
+-- ---- a filter of one item
+
+-- its outcome, and that of the steps after it
+pub filter_one : (context : Context) (top t : Tree) (e : Expression) (run : Running) (ts : List Tree) (o : Outcome (List Tree)) → ts ≡ t ∷ []
+    → SameOutcomes run.repeats (and_then (try_flat_map (step_meaning context.mode (filter e) top) ts) (steps_meaning context.mode (running_steps run) top)) o
+    → SameOutcomes run.repeats (and_then (truth context.mode e top t) (λ b. steps_meaning context.mode (running_steps run) top (filtered t b))) o
+filter_one context top t e run ts o is = subst (λ p. SameOutcomes run.repeats p o)
+    (ap (λ l. and_then (try_flat_map (step_meaning context.mode (filter e) top) l) (steps_meaning context.mode (running_steps run) top)) is
+    ∙ ap (λ p. and_then p (steps_meaning context.mode (running_steps run) top)) (joined_one (step_meaning context.mode (filter e) top) t)
+    ∙ go (truth context.mode e top t))
+  where
+    go : (keeps : Outcome Truth) → and_then (and_then keeps (λ b. Ok (filtered t b))) (steps_meaning context.mode (running_steps run) top)
+        ≡ and_then keeps (λ b. steps_meaning context.mode (running_steps run) top (filtered t b))
+    go (Ok b) = refl
+    go (Err e) = refl
+
+-- a test of its condition waits for a path
+pub one_waits : (context : Context) (top t : Tree) (f : Filter) (e : Expression) (run : Running) (p : Box Pending Global) → f.after ≡ run
+    → node_spots f.items ≡ [] → f.next ≡ 0 → node_spots f.nodes ≡ [] → AreTestsOf IsQuestionOf (asking_tests f.asking) e
+    → IsTurn context top t f.asking (truth context.mode e top t) (Ok (Some p))
+    → IsFilterTurn context top f (and_then (truth context.mode e top t) (λ b. steps_meaning context.mode (running_steps run) top (filtered t b))) (Ok (Some p))
+one_waits context top t f e run p after items next nodes compiled turn = (
+  turn.0,
+  turn.1,
+  record {
+    e = e;
+    others = [];
+    found = [];
+    state = record { compiled = compiled; left = rw (next, items) tt; done = rw nodes tt };
+    t = t;
+    keeps = truth context.mode e top t;
+    waits = turn.2;
+    is = ap (λ r. and_then (truth context.mode e top t) (λ b. steps_meaning context.mode (running_steps r) top (filtered t b))) (sym after)
+        ∙ go (truth context.mode e top t);
+  },
+)
+  where
+    go : (keeps : Outcome Truth) → and_then keeps (λ b. steps_meaning context.mode (running_steps f.after) top (filtered t b))
+        ≡ and_then keeps (λ b. filtered_later context top f e [] ([] ++ filtered t b))
+    go (Ok b) = ap (steps_meaning context.mode (running_steps f.after) top) (sym (append-nil (filtered t b)))
+    go (Err e) = refl

@@ -13,7 +13,7 @@ use Rattle.jsonb.specs.Meaning.{truth}
 use Rattle.jsonb.specs.Private.Asking.{at_first, asking_tests, IsCached, IsAsking, IsTested, IsTurn}
 use Rattle.jsonb.specs.Private.FilterCache.{is_condition, AreKept}
 use Rattle.jsonb.specs.Private.Jumps.{Branch, branches_of_whole, evaluated, next_jump, jump_truth}
-use Rattle.jsonb.specs.Private.Operands.{IsAnswer, IsHeld}
+use Rattle.jsonb.specs.Private.Operands.{IsAnswer}
 use Rattle.jsonb.specs.Private.Selection.{IsAt}
 use Rattle.jsonb.specs.Private.Tests.{IsQuestionOf, AreBranches, AreTestsOf, item_tests, question_conditions, tests_conditions}
 use Rattle.jsonb.specs.declared.selector.document.Context.{Context}
@@ -61,11 +61,7 @@ module _ (context : Context) (top t : Tree) {item item' : Spot} {tests tests' : 
   pub tested_as : item ≡ item' → tests ≡ tests' → left ≡ left' → state ≡ state' → test ≡ test'
       → IsTested context top t item tests left state test whole → IsTested context top t item' tests' left' state' test' whole
   tested_as p q r s u h =
-      subst (λ x. IsTested context top t item' tests' left' state' x whole) u
-      (subst (λ x. IsTested context top t item' tests' left' x test whole) s
-      (subst (λ x. IsTested context top t item' tests' x state test whole) r
-      (subst (λ x. IsTested context top t item' x left state test whole) q
-      (subst (λ x. IsTested context top t x tests left state test whole) p h))))
+      rw u at (rw s at (rw r at (rw q at (rw p at h))))
 
 -- ---- before and after a test
 
@@ -116,7 +112,7 @@ pub asked_all : (context : Context) (top t : Tree) (a : Asking) (whole : Outcome
     → (whole ≡ Ok (jump_truth a.state)) × IsCached context top a []
 asked_all context top t a whole none h = (
   h.is ∙ ap (λ l. evaluated context.mode top t l a.state) (no_test IsQuestionOf (asking_tests a) a.left h.rest none h.branches),
-  subst (λ n. IsCached context top a (tests_conditions (take n (asking_tests a)))) none h.kept,
+  rw none at h.kept,
 )
 
 -- ---- what the result for a test says of the condition
@@ -132,10 +128,7 @@ module _ (context : Context) (top t : Tree) (a : Asking) {item : Spot} {tests : 
     answer.1,
     (
       tested_as context top t (sym same_item) (sym same_tests) (sym same_left) (sym same_state) answer.3 h,
-      subst (λ k. IsHeld context.mode top t (tests_conditions (asking_tests a)) (tests_conditions (take k (asking_tests a))) a.operands.cache p.value.waits answer.0)
-          (sym same_left)
-          (subst (λ l. IsHeld context.mode top t (tests_conditions l) (tests_conditions (take left l)) a.operands.cache p.value.waits answer.0)
-          (sym same_tests) answer.2),
+      rw (sym same_left) at (rw (sym same_tests) at answer.2),
     ),
   )
 
@@ -145,8 +138,7 @@ module _ (context : Context) (top t : Tree) (a : Asking) {item : Spot} {tests : 
       × IsCached context top a (tests_conditions (take a.left (asking_tests a)))
   truth_known b answer = (
     tested_as context top t (sym same_item) (sym same_tests) (sym same_left) (sym same_state) answer.0 h,
-    subst (λ k. IsCached context top a (tests_conditions (take k (asking_tests a)))) (sym same_left)
-        (subst (λ l. AreKept context.mode top a.operands.cache (tests_conditions l) (tests_conditions (take left l))) (sym same_tests) answer.1),
+    rw (sym same_left) at (rw (sym same_tests) at answer.1),
   )
 
   pub test_refused : (e : Error)
@@ -199,7 +191,7 @@ pub turn_of : (context : Context) (top t : Tree) (a : Asking) (all : Tests) (i :
     (r : Outcome (Option (Box Pending Global))) → a.tests ≡ all → IsTurn context top t (after_test a i after operands) whole r
     → IsTurn context top t (record { tests = all; left = i; state = after; operands = operands }) whole r
 turn_of context top t a all i after operands whole r is turn =
-    subst (λ x. IsTurn context top t (record { tests = x; left = i; state = after; operands = operands }) whole r) is turn
+    rw is at turn
 
 -- the only condition of a test that is an expression
 pub part_answers : (context : Context) (top t : Tree) (all more : List Expression) (cache : FilterCache) (operands : Operands) (part e : Expression)
@@ -208,8 +200,7 @@ pub part_answers : (context : Context) (top t : Tree) (all more : List Expressio
     → (part ≡ e) × (is_condition e ≡ true) → AreKept context.mode top cache all (part ∷ more)
     → IsAnswer context top t all more operands (truth context.mode e top t) r
 part_answers context top t all more cache operands part e r told q kept =
-    subst (λ x. IsAnswer context top t all more operands (truth context.mode x top t) r) q.0
-    (told (subst (λ x. is_condition x ≡ true) (sym q.0) q.1) kept)
+    rw q.0 at (told (rw (sym q.0) at q.1) kept)
 
 -- there is a next test
 pub some_test : {A : Type 0} (context : Context) (top t : Tree) (a : Asking) (i : ℕ) (whole : Outcome Truth) → a.left ≡ i + 1
@@ -265,8 +256,7 @@ pub single_after : (context : Context) (top t : Tree) (a : Asking) (x : Test) (b
     → IsCached context top a (tests_conditions (take a.left (asking_tests a))) → IsAsking context top t (with_state a after) whole
 single_after context top t a x b after whole one zero_true zero_false h is kept =
     let many : length (asking_tests a) ≡ 1 = ap length one in
-    let short = slice_get_within (asking_tests a) a.left h.next h.has in
-    let first : a.left ≡ 0 = omega (arith, short, many) in
+    let first : a.left ≡ 0 = omega (arith, slice_get_within (asking_tests a) a.left h.next h.has, many) in
     let begins : a.state ≡ at_first 1 = h.begins (omega (arith, first, many)) ∙ ap at_first many in
     asked_after context top t a x b after whole h (λ k. slice_get (one k) (first k))
     (is ∙ (λ k. next_jump (sym zero_true k) (sym zero_false k) (sym first k + 1) (sym begins k) b)) kept
@@ -280,7 +270,6 @@ pub fixed_whole : (a : Asking) (x : Test) (part : Expression) (found : Option Tr
     → AreTestsOf IsQuestionOf (asking_tests a) e → IsCached context top a more → truth context.mode e top t ≡ Ok b)
 fixed_whole a x part None one zero_true zero_false only view known = known
 fixed_whole a x part (Some b) one zero_true zero_false only view known = λ context top t e more compiled cached.
-    let kept = subst (λ l. AreKept context.mode top a.operands.cache l more) (ap tests_conditions one ∙ ap (λ l. l ++ []) only) cached in
-    single_truth context top t e b x zero_true zero_false
-    (λ c asks. subst (λ y. truth context.mode y top t ≡ Ok b) (view c asks) (known context.mode top t part more kept))
-    (subst (λ l. AreTestsOf IsQuestionOf l e) one compiled)
+    let kept = rw (ap tests_conditions one ∙ ap (λ l. l ++ []) only) at cached in
+    single_truth context top t e b x zero_true zero_false (λ c asks. rw (view c asks) at (known context.mode top t part more kept))
+    (rw one at compiled)

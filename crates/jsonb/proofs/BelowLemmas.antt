@@ -1,8 +1,7 @@
 -- A walk over the items below an item: what is given, and then what each level has left, the innermost first, is the
 -- whole.
-use Rattle.std.proofs.Common.{◌≡◌, ℕ, ◌+◌, ◌^◌, ◌<◌, ◌≤◌, min, List, [], ◌∷◌, ◌++◌, flat_map, length, Option, Some, None, inl, inr, refl, sym, ap, subst, ◌∙◌, arith, append_assoc, append-nil}
+use Rattle.std.proofs.Common.{◌≡◌, ℕ, ◌+◌, ◌^◌, ◌<◌, ◌≤◌, min, List, [], ◌∷◌, ◌++◌, flat_map, Option, Some, None, inl, inr, refl, sym, ap, subst, ◌∙◌, arith, append_assoc, append-nil}
 use Rattle.std.specs.Prelude.{reverse}
-use Rattle.std.proofs.lemmas.List.{reverse-append}
 use Rattle.std.proofs.lemmas.Grind.{flat_map-append}
 use Rattle.jsonb_doc.specs.Representation.Positions.{Locates, HasSpotsLeft}
 use Rattle.jsonb_doc.specs.AnyBytes.Spots.{spots_room, spots_bound}
@@ -15,6 +14,7 @@ use Rattle.jsonb.specs.Preorder.{taken_item, preorder}
 use Rattle.std.specs.List.{AllZip}
 use Rattle.jsonb.specs.Private.Below.{HasLeft, KeepsLevel, PassesLeaves}
 use Rattle.jsonb.specs.declared.selector.levels.OpenLevel.{OpenLevel}
+pub use Rattle.jsonb_doc.proofs.Basics.{innermost, empty_of as no_levels}
 use Rattle.jsonb.proofs.Progress.{First}
 
 -- ---- what is left at levels, the innermost first
@@ -48,13 +48,6 @@ pub record Walking (bytes : List ℕ) (levels : Option Levels) (Left : List Tree
 
 abbrev pub Walked : List ℕ → Option Levels → OpenLevel → List OpenLevel → List Spot → List Tree → Type 0
 Walked bytes levels within around nodes whole = Walking bytes levels (HasSpotsLeft bytes within.children) within.level around nodes whole
-
-innermost : {A : Type 0} (around : List A) (x : A) → reverse (around ++ x ∷ []) ≡ x ∷ reverse around
-innermost around x = reverse-append around (x ∷ [])
-
-pub no_levels : (around : List OpenLevel) → length around ≡ 0 → around ≡ []
-no_levels [] h = refl
-no_levels (within ∷ around) h = absurd (omega (arith, h))
 
 -- what is known of each item at a place, of the one that comes next
 pub told_first : {Others : List Tree → Type 0} {P Q : Tree → Type 0} {rest : List Tree} → First Others P rest → ((t : Tree) → P t → Q t) → First Others Q rest
@@ -179,7 +172,7 @@ module _ (bytes : List ℕ) (levels : Option Levels) where
           given = w.given ++ mine;
           left = told.1.1.0;
           deep = told.1.1.1;
-          left_around = subst (λ l. HaveLeft bytes (reverse l) w.others) (sym done.0) w.left_around;
+          left_around = rw (sym done.0) at w.left_around;
           done = told.0;
           is = regrouped w.given mine below outside
               ∙ ap (λ l. w.given ++ (l ++ outside)) (sym told.1.2)
@@ -193,8 +186,7 @@ module _ (bytes : List ℕ) (levels : Option Levels) where
   pub level_done : {depth : ℕ} (outer : OpenLevel) (around around' : List OpenLevel) (nodes : List Spot) (whole : List Tree)
       (w : Walking bytes levels (λ ts. ts ≡ []) depth around nodes whole)
       → around ≡ around' ++ outer ∷ [] → Walked bytes levels outer around' nodes whole
-  level_done outer around around' nodes whole w e = go w.others
-      (subst (λ l. HaveLeft bytes l w.others) (ap reverse e ∙ innermost around' outer) w.left_around)
+  level_done outer around around' nodes whole w e = go w.others (rw (ap reverse e ∙ innermost around' outer) at w.left_around)
       (ap (λ l. w.given ++ (flat_map (preorder levels w.level) l ++ items_of levels w.others)) (sym w.left) ∙ w.is)
     where
       go : (rs : List Rest) → HaveLeft bytes (outer ∷ reverse around') rs → w.given ++ items_of levels rs ≡ whole
@@ -205,7 +197,7 @@ module _ (bytes : List ℕ) (levels : Option Levels) where
   -- all are done
   pub walk_done : {depth : ℕ} (around : List OpenLevel) (nodes : List Spot) (whole : List Tree)
       (w : Walking bytes levels (λ ts. ts ≡ []) depth around nodes whole) → around ≡ [] → AllZip (Locates bytes) nodes whole
-  walk_done around nodes whole w e = go w.others (subst (λ l. HaveLeft bytes (reverse l) w.others) e w.left_around)
+  walk_done around nodes whole w e = go w.others (rw e at w.left_around)
       (ap (λ l. w.given ++ (flat_map (preorder levels w.level) l ++ items_of levels w.others)) (sym w.left) ∙ w.is)
     where
       go : (rs : List Rest) → HaveLeft bytes [] rs → w.given ++ items_of levels rs ≡ whole → AllZip (Locates bytes) nodes whole
@@ -259,8 +251,7 @@ module _ (bytes : List ℕ) (levels : Option Levels) (n : ℕ) (ts before : List
   -- none is left
   pub none_left : (Left : List Tree → Type 0) (nodes : List Spot) (w : PassedSo bytes levels n Left ts before nodes) → w.rest ≡ []
       → PassesLeaves bytes levels n ts before nodes None
-  none_left Left nodes w none = subst (λ l. AllZip (Locates bytes) nodes (before ++ flat_map (preorder levels n) l))
-      (sym (w.split ∙ ap (λ l. w.passed ++ l) none ∙ append-nil w.passed)) w.done
+  none_left Left nodes w none = rw (sym (w.split ∙ ap (λ l. w.passed ++ l) none ∙ append-nil w.passed)) at w.done
 
 -- ---- how the levels shrink
 

@@ -4,37 +4,36 @@ use Rattle.std.specs.Prelude.{nat_eq, nat_lt, codes, if◌then◌else◌}
 use Rattle.std.specs.List.{starts_with}
 use Rattle.std.specs.Option.{option_and_then}
 use Rattle.std.proofs.lemmas.Bool.Decides.{Decides-ltb}
-use Rattle.jsonb_keypath.specs.Rules.{Parsed, Rule, give, ◌>>=◌, ◌>>◌, ◌</>◌, parsed_map, bytes, literal, turn, up_to, repeat, list_of}
-use Rattle.jsonb_keypath.specs.Tokens.{ws}
+use Rattle.jsonb_keypath.specs.Rules.{Parsed, Rule, ◌>>=◌, ◌>>◌, ◌</>◌, parsed_map, bytes, literal, turn, up_to, repeat, list_of}
 use Rattle.jsonb_keypath.proofs.ReadsLemmas.{NeverGrows, some-no_more}
 use Rattle.jsonb_keypath.proofs.CutLemmas.{some-literal}
 use Rattle.jsonb_keypath.proofs.GrowsLemmas.{grows-ws}
-use Rattle.jsonb.specs.PathTree.{filter, Expression}
-use Rattle.jsonb.specs.PathGrammar.{spaced, spaced_inner, path_root, unary_atom, binary_atom, path_with, group_with, exists_with, atom_with, and_with, or_with, nested_or, expression, path_step}
-use Rattle.jsonb.specs.Private.Fronts.{exists_steps, filter_with}
+use Rattle.jsonb.specs.PathTree.{Expression}
+use Rattle.jsonb.specs.PathGrammar.{spaced, path_root, path_with, group_with, exists_with, atom_with, and_with, or_with, nested_or, expression, path_step}
+use Rattle.jsonb.specs.Private.Fronts.{filter_with}
 use Rattle.jsonb.proofs.ExpressionReadsSome.{some-path_root, some-and_separator, some-or_separator, some-atom, some-and, grows-nested_or}
 
 -- the rules do the same on inputs that are shorter than this
 abbrev Agree : {A : Type 0} → ℕ → Rule A → Rule A → Type 0
 Agree k r s = (input : List ℕ) → length input < k → r input ≡ s input
 
-agree-next : {A B : Type 0} (k : ℕ) (rule : Rule A) (next other : A → Rule B) → NeverGrows rule → ((a : A) → Agree k (next a) (other a)) →
+agree-next : {A B : Type 0} {rule : Rule A} {next other : A → Rule B} (k : ℕ) → NeverGrows rule → ((a : A) → Agree k (next a) (other a)) →
     Agree k (rule >>= next) (rule >>= other)
-agree-next {A} {B} k rule next other h same input short = go (rule input) refl where
+agree-next {A = A} {rule = rule} {next = next} {other = other} k h same input short = go (rule input) refl where
   go : (o : Parsed A) → rule input ≡ o → option_and_then (λ (p : A × List ℕ). next p.0 p.1) o ≡ option_and_then
       (λ (p : A × List ℕ). other p.0 p.1) o
   go None at = refl
   go (Some p) at = same p.0 p.1 (omega (arith, h input p.0 p.1 at))
 
-agree-first : {A B : Type 0} (k : ℕ) (rule rule' : Rule A) (next : A → Rule B) → Agree k rule rule' →
+agree-first : {A B : Type 0} {rule rule' : Rule A} (k : ℕ) (next : A → Rule B) → Agree k rule rule' →
     Agree k (rule >>= next) (rule' >>= next)
-agree-first k rule rule' next same input short = rw (same input short) refl
+agree-first k next same input short = rw (same input short) refl
 
 -- what follows a byte is shorter
-agree-behind : {B : Type 0} (k : ℕ) (c : ℕ) (cs : List ℕ) (next other : Rule B) → Agree k next other →
+agree-behind : {B : Type 0} {next other : Rule B} (k c : ℕ) (cs : List ℕ) → Agree k next other →
     Agree (suc k) (bytes (c ∷ cs) >> next) (bytes (c ∷ cs) >> other)
-agree-behind k c cs next other same [] short = refl
-agree-behind k c cs next other same (b ∷ input) short = go (starts_with nat_eq (b ∷ input) (c ∷ cs)) where
+agree-behind k c cs same [] short = refl
+agree-behind {next = next} {other = other} k c cs same (b ∷ input) short = go (starts_with nat_eq (b ∷ input) (c ∷ cs)) where
   go : (t : Bool) → option_and_then (λ (p : Unit {0} × List ℕ). next p.1) (if t then Some (
     tt,
     drop
@@ -47,9 +46,9 @@ agree-behind k c cs next other same (b ∷ input) short = go (starts_with nat_eq
   go true = same (drop (length cs) input) (omega (arith, length-drop (length cs) input))
   go false = refl
 
-agree-choice : {A : Type 0} (k : ℕ) (first first' second second' : Rule A) → Agree k first first' → Agree k second second' →
+agree-choice : {A : Type 0} {first first' second second' : Rule A} (k : ℕ) → Agree k first first' → Agree k second second' →
     Agree k (first </> second) (first' </> second')
-agree-choice k first first' second second' h h' input short = rw (h input short, h' input short) refl
+agree-choice k h h' input short = rw (h input short, h' input short) refl
 
 agree-up_to : {A : Type 0} (k : ℕ) (rule rule' : Rule A) → Agree k rule rule' → (n : ℕ) → Agree k (up_to n rule) (up_to n rule')
 unfolding up_to
@@ -64,79 +63,68 @@ agree-up_to {A} k rule rule' h (suc n) input short = rw (h input short) (go (agr
     pick true at = ap (parsed_map (λ (os : List A). p.0 ∷ os)) (more p.1 (omega (arith, (Decides-ltb (length p.1) (length input)).0 at)))
     pick false at = refl
 
-agree-repeat : {A : Type 0} (k : ℕ) (rule rule' : Rule A) → Agree k rule rule' → Agree k (repeat rule) (repeat rule')
+agree-repeat : {A : Type 0} {rule rule' : Rule A} (k : ℕ) → Agree k rule rule' → Agree k (repeat rule) (repeat rule')
 unfolding repeat
-agree-repeat k rule rule' h input short = agree-up_to k rule rule' h (length input) input short
+agree-repeat {rule = rule} {rule' = rule'} k h input short = agree-up_to k rule rule' h (length input) input short
 
-agree-list_of : {A S : Type 0} (k : ℕ) (rule rule' : Rule A) (separator : Rule S) → NeverGrows rule → NeverGrows separator →
+agree-list_of : {A S : Type 0} {rule rule' : Rule A} {separator : Rule S} (k : ℕ) → NeverGrows rule → NeverGrows separator →
     Agree k rule rule' → Agree k (list_of rule separator) (list_of rule' separator)
-agree-list_of k rule rule' separator h s same input short =
-    agree-next k rule _ _ h (λ first. agree-first k (repeat (separator >> rule)) (repeat (separator >> rule')) _ (agree-repeat k
-    (separator >> rule) (separator >> rule') (agree-next k separator _ _ s (λ _. same)))) input short
-    ∙ agree-first k rule rule' _ same input short
+agree-list_of {rule = rule} {rule' = rule'} {separator = separator} k h s same input short =
+    agree-next {rule = rule} k h (λ first. agree-first k _ (agree-repeat k (agree-next {rule = separator} k s (λ _. same)))) input short
+    ∙ agree-first {rule = rule} {rule' = rule'} k _ same input short
 
 agree-same : {A : Type 0} (k : ℕ) (rule : Rule A) → Agree k rule rule
 agree-same k rule input short = refl
 
-agree-below : {A : Type 0} (k : ℕ) (rule rule' : Rule A) → Agree (suc k) rule rule' → Agree k rule rule'
-agree-below k rule rule' h input short = h input (omega arith)
+agree-below : {A : Type 0} {rule rule' : Rule A} (k : ℕ) → Agree (suc k) rule rule' → Agree k rule rule'
+agree-below k h input short = h input (omega arith)
 
 module _ (k : ℕ) (nested nested' : Bool → Rule Expression) (grows-nested : (f : Bool) → NeverGrows (nested f)) (same : (f : Bool) →
     Agree k (nested f) (nested' f)) where
   agree-filter : Agree (suc k) (filter_with nested) (filter_with nested')
   unfolding group_with
   agree-filter =
-      agree-behind k 63 [] _ _ (agree-next k ws _ _ grows-ws (λ _. agree-next k (literal "(") _ _ (some-no_more (literal "(")
-      (some-literal 40 [])) (λ _. agree-next k ws _ _ grows-ws (λ _. agree-first k (nested true) (nested' true) _ (same true)))))
+      agree-behind k 63 [] (agree-next k grows-ws (λ _. agree-next k (some-no_more (literal "(") (some-literal 40 []))
+      (λ _. agree-next k grows-ws (λ _. agree-first k _ (same true)))))
 
   agree-path : Agree (suc k) (path_with nested) (path_with nested')
   unfolding path_with
   agree-path =
-      agree-choice (suc k) spaced_inner spaced_inner _ _ (agree-same (suc k) spaced_inner)
-      (agree-next (suc k) ws _ _ grows-ws (λ _. agree-first (suc k) (filter_with nested >>= λ e. give (filter e))
-      (filter_with nested' >>= λ e. give (filter e)) _
-      (agree-first (suc k) (filter_with nested) (filter_with nested') _ agree-filter)))
+      agree-choice (suc k) (agree-same (suc k) _) (agree-next (suc k) grows-ws (λ _. agree-first (suc k) _ (agree-first (suc k) _ agree-filter)))
 
   agree-group : (f : Bool) → Agree (suc k) (group_with nested f) (group_with nested' f)
   unfolding group_with
-  agree-group f = agree-behind k 40 [] _ _ (agree-next k ws _ _ grows-ws (λ _. agree-first k (nested f) (nested' f) _ (same f)))
+  agree-group f = agree-behind k 40 [] (agree-next k grows-ws (λ _. agree-first k _ (same f)))
 
   agree-exists : Agree (suc k) (exists_with nested) (exists_with nested')
   unfolding exists_with
   agree-exists =
-      agree-behind k 101 (codes "xists") _ _ (agree-next k ws _ _ grows-ws
-      (λ _. agree-next k (literal "(") _ _ (some-no_more (literal "(") (some-literal 40 [])) (λ _. agree-next k ws _ _ grows-ws (λ _.
-      agree-first k (exists_steps nested) (exists_steps nested') _
-      (agree-next k (path_root true) _ _ (some-no_more (path_root true) (some-path_root true))
-      (λ first. agree-first k (repeat (path_with nested)) (repeat (path_with nested')) _
-      (agree-repeat k (path_with nested) (path_with nested') (agree-below k (path_with nested) (path_with nested') agree-path))))))))
+      agree-behind k 101 (codes "xists") (agree-next k grows-ws (λ _. agree-next k (some-no_more (literal "(") (some-literal 40 []))
+      (λ _. agree-next k grows-ws (λ _. agree-first k _ (agree-next k (some-no_more (path_root true) (some-path_root true))
+      (λ first. agree-first k _ (agree-repeat k (agree-below k agree-path))))))))
 
   agree-atom : (f : Bool) → Agree (suc k) (atom_with nested f) (atom_with nested' f)
   unfolding atom_with
   agree-atom f =
-      agree-choice (suc k) (unary_atom f) (unary_atom f) _ _ (agree-same (suc k) (unary_atom f))
-      (agree-choice (suc k) (binary_atom f) (binary_atom f) _ _ (agree-same (suc k) (binary_atom f)) (agree-choice (suc k)
-      (group_with nested f) (group_with nested' f) _ _ (agree-group f) agree-exists))
+      agree-choice (suc k) (agree-same (suc k) _) (agree-choice (suc k) (agree-same (suc k) _) (agree-choice (suc k) (agree-group f) agree-exists))
 
   agree-and : (f : Bool) → Agree (suc k) (and_with nested f) (and_with nested' f)
   unfolding and_with
   agree-and f =
-      agree-first (suc k) _ _ _ (agree-list_of (suc k) (atom_with nested f) (atom_with nested' f) (spaced (literal "&&")) (some-no_more
-      (atom_with nested f) (some-atom nested grows-nested f)) (some-no_more (spaced (literal "&&")) some-and_separator) (agree-atom f))
+      agree-first (suc k) _ (agree-list_of (suc k) (some-no_more (atom_with nested f) (some-atom nested grows-nested f))
+      (some-no_more (spaced (literal "&&")) some-and_separator) (agree-atom f))
 
   agree-or : (f : Bool) → Agree (suc k) (or_with nested f) (or_with nested' f)
   unfolding or_with
   agree-or f =
-      agree-first (suc k) _ _ _ (agree-list_of (suc k) (and_with nested f) (and_with nested' f) (spaced (literal "||")) (some-no_more
-      (and_with nested f) (some-and nested grows-nested f)) (some-no_more (spaced (literal "||")) some-or_separator) (agree-and f))
+      agree-first (suc k) _ (agree-list_of (suc k) (some-no_more (and_with nested f) (some-and nested grows-nested f))
+      (some-no_more (spaced (literal "||")) some-or_separator) (agree-and f))
 
 agree-nested_or : (k n m : ℕ) → k ≤ n → k ≤ m → (f : Bool) → Agree k (nested_or n f) (nested_or m f)
 unfolding nested_or
-agree-nested_or zero n m p q f input short = absurd (omega arith)
-agree-nested_or (suc k) zero m p q f input short = absurd (omega arith)
-agree-nested_or (suc k) (suc n) zero p q f input short = absurd (omega arith)
 agree-nested_or (suc k) (suc n) (suc m) p q f input short =
     agree-or k (nested_or n) (nested_or m) (grows-nested_or n) (λ g. agree-nested_or k n m (omega arith) (omega arith) g) f input short
+agree-nested_or _ _ _ p q f input short = absurd (omega arith)
 
 -- any bound past the length of the input does the same
 pub nested_or-enough : (n m : ℕ) (f : Bool) (input : List ℕ) → length input < n → length input < m →

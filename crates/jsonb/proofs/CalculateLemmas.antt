@@ -1,7 +1,7 @@
 -- Values that are numbers, and the results of arithmetic.
 use Rattle.std.specs.Prelude.{◌+ℤ◌, ◌-ℤ◌, ◌*ℤ◌, int_div, int_rem, nat_lt, ◌||◌, ◌^◌}
 use Rattle.std.specs.Ordering.{int_eq}
-use Rattle.std.proofs.Common.{◌≡◌, zero, suc, ℤ, pos, negsuc, Bool, true, false, if◌then◌else◌, IfOk, IfErr, subst, List, [], ◌∷◌, ◌++◌, Some, Ok, Err, IsOkAnd, refl, sym, ap, ◌∙◌, inl, inr}
+use Rattle.std.proofs.Common.{◌≡◌, zero, suc, ℤ, pos, negsuc, Bool, true, false, if◌then◌else◌, MatchResult, IfErr, subst, List, [], ◌∷◌, ◌++◌, Some, Ok, Err, IsOkAnd, refl, sym, ap, ◌∙◌, inl, inr}
 use Rattle.jsonb_doc.specs.Answer.{Outcome, Refines, and_then, try_flat_map, IsOutOfMemory}
 use Rattle.jsonb_doc.specs.Arithmetic as op
 use Rattle.jsonb_doc.specs.Arithmetic.{Operation, calculated, integer, on_integers, IsResultOf}
@@ -20,6 +20,7 @@ use Rattle.jsonb.specs.Private.Selection.{only_number, are_numbers, signed_value
 use Rattle.jsonb.specs.SelectionErrors.{IsPathError, IsSelectionError}
 use Rattle.jsonb.specs.Values.{Value, number}
 use Rattle.jsonb.specs.declared.selector.document.Mode.{Mode}
+use Rattle.jsonb.specs.declared.selector.document.Mode.TheVariants.{Lax}
 use Rattle.jsonb.proofs.RefinesLemmas.{AllZip-append}
 
 -- what never fails for lack of memory
@@ -27,74 +28,52 @@ pub as_memory : {A B : Type 0} {R : A → B → Type 0} {r : Outcome A} {o : Out
 as_memory {r = Ok x} h = record { ok = h.ok; err = tt }
 as_memory {r = Err e} h = record { ok = tt; err = inr (elim h.err [ inl none ↦ absurd none | inr is ↦ is ]) }
 
--- ---- a result of arithmetic is a number as in a tree, in which every zero is one number
+-- ---- a result of arithmetic is a number as in a tree, in which every zero is one number, or an arithmetic fault
 
 abbrev pub IsNormal : Number → Type 0
 IsNormal r = number_from r.variant r.whole r.scale ≡ r
 
-chosen : (b : Bool) (o p : Outcome Number) → IfOk o IsNormal → IfOk p IsNormal → IfOk (if b then o else p) IsNormal
-chosen true o p h k = h
-chosen false o p h k = k
-
-integer_normal : (z : ℤ) → IfOk (integer z) IsNormal
-integer_normal (pos zero) = chosen (nat_lt 0 (2 ^ 64)) (Ok (record { variant = uint64; whole = pos 0; scale = 0 })) (Err (Arithmetic Overflow)) refl tt
-integer_normal (pos (suc n)) = chosen (nat_lt (suc n) (2 ^ 64)) (Ok (record { variant = uint64; whole = pos (suc n); scale = 0 }))
-    (Err (Arithmetic Overflow)) refl tt
-integer_normal (negsuc n) = chosen (nat_lt n (2 ^ 63)) (Ok (record { variant = int64; whole = negsuc n; scale = 0 })) (Err (Arithmetic Overflow)) refl tt
-
-on_integers_normal : (o : Operation) (x y : ℤ) → IfOk (on_integers o x y) IsNormal
-on_integers_normal op.add x y = integer_normal (x +ℤ y)
-on_integers_normal op.subtract x y = integer_normal (x -ℤ y)
-on_integers_normal op.multiply x y = integer_normal (x *ℤ y)
-on_integers_normal op.divide x y =
-    chosen (int_eq y (pos 0)) (Err (Arithmetic ZeroDivisor)) (if int_eq (int_rem x y) (pos 0) then integer (int_div x y) else Err (Arithmetic Inexact)) tt
-    (chosen (int_eq (int_rem x y) (pos 0)) (integer (int_div x y)) (Err (Arithmetic Inexact)) (integer_normal (int_div x y)) tt)
-on_integers_normal op.modulo x y = chosen (int_eq y (pos 0)) (Err (Arithmetic ZeroDivisor)) (integer (int_rem x y)) tt (integer_normal (int_rem x y))
-
-calculated_normal : (o : Operation) (m n : Number) → IfOk (calculated o m n) IsNormal
-calculated_normal o m n =
-    chosen (op.is_decimal m.variant || op.is_decimal n.variant) (Err (Arithmetic DecimalOperand)) (on_integers o m.whole n.whole) tt
-    (on_integers_normal o m.whole n.whole)
-
--- arithmetic fails by an arithmetic fault alone
 module _ (mode : Mode) where
-  one_of : (b : Bool) (o p : Outcome Number) → IfErr o (IsPathError mode) → IfErr p (IsPathError mode) → IfErr (if b then o else p) (IsPathError mode)
-  one_of true o p h k = h
-  one_of false o p h k = k
+  abbrev IsSound : Outcome Number → Type 0
+  IsSound o = MatchResult o IsNormal (IsPathError mode)
 
-  integer_refused : (z : ℤ) → IfErr (integer z) (IsPathError mode)
-  integer_refused (pos zero) = one_of (nat_lt 0 (2 ^ 64)) (Ok (record { variant = uint64; whole = pos 0; scale = 0 })) (Err (Arithmetic Overflow)) tt tt
-  integer_refused (pos (suc n)) = one_of (nat_lt (suc n) (2 ^ 64)) (Ok (record { variant = uint64; whole = pos (suc n); scale = 0 }))
-      (Err (Arithmetic Overflow)) tt tt
-  integer_refused (negsuc n) = one_of (nat_lt n (2 ^ 63)) (Ok (record { variant = int64; whole = negsuc n; scale = 0 })) (Err (Arithmetic Overflow)) tt tt
+  chosen : (b : Bool) (o p : Outcome Number) → IsSound o → IsSound p → IsSound (if b then o else p)
+  chosen true o p h k = h
+  chosen false o p h k = k
 
-  on_integers_refused : (o : Operation) (x y : ℤ) → IfErr (on_integers o x y) (IsPathError mode)
-  on_integers_refused op.add x y = integer_refused (x +ℤ y)
-  on_integers_refused op.subtract x y = integer_refused (x -ℤ y)
-  on_integers_refused op.multiply x y = integer_refused (x *ℤ y)
-  on_integers_refused op.divide x y =
-      one_of (int_eq y (pos 0)) (Err (Arithmetic ZeroDivisor)) (if int_eq (int_rem x y) (pos 0) then integer (int_div x y) else Err (Arithmetic Inexact)) tt
-      (one_of (int_eq (int_rem x y) (pos 0)) (integer (int_div x y)) (Err (Arithmetic Inexact)) (integer_refused (int_div x y)) tt)
-  on_integers_refused op.modulo x y = one_of (int_eq y (pos 0)) (Err (Arithmetic ZeroDivisor)) (integer (int_rem x y)) tt (integer_refused (int_rem x y))
+  integer_sound : (z : ℤ) → IsSound (integer z)
+  integer_sound (pos zero) = chosen (nat_lt 0 (2 ^ 64)) (Ok (record { variant = uint64; whole = pos 0; scale = 0 })) (Err (Arithmetic Overflow)) refl tt
+  integer_sound (pos (suc n)) = chosen (nat_lt (suc n) (2 ^ 64)) (Ok (record { variant = uint64; whole = pos (suc n); scale = 0 }))
+      (Err (Arithmetic Overflow)) refl tt
+  integer_sound (negsuc n) = chosen (nat_lt n (2 ^ 63)) (Ok (record { variant = int64; whole = negsuc n; scale = 0 })) (Err (Arithmetic Overflow)) refl tt
 
-  calculated_refused : (o : Operation) (m n : Number) → IfErr (calculated o m n) (IsPathError mode)
-  calculated_refused o m n =
-      one_of (op.is_decimal m.variant || op.is_decimal n.variant) (Err (Arithmetic DecimalOperand)) (on_integers o m.whole n.whole) tt
-      (on_integers_refused o m.whole n.whole)
+  on_integers_sound : (o : Operation) (x y : ℤ) → IsSound (on_integers o x y)
+  on_integers_sound op.add x y = integer_sound (x +ℤ y)
+  on_integers_sound op.subtract x y = integer_sound (x -ℤ y)
+  on_integers_sound op.multiply x y = integer_sound (x *ℤ y)
+  on_integers_sound op.divide x y =
+      chosen (int_eq y (pos 0)) (Err (Arithmetic ZeroDivisor)) (if int_eq (int_rem x y) (pos 0) then integer (int_div x y) else Err (Arithmetic Inexact)) tt
+      (chosen (int_eq (int_rem x y) (pos 0)) (integer (int_div x y)) (Err (Arithmetic Inexact)) (integer_sound (int_div x y)) tt)
+  on_integers_sound op.modulo x y = chosen (int_eq y (pos 0)) (Err (Arithmetic ZeroDivisor)) (integer (int_rem x y)) tt (integer_sound (int_rem x y))
 
-  refused_so : (o : Outcome Number) (r : Outcome CodeNumber) → IsResultOf o r → IfErr o (IsPathError mode) → IfErr r (IsPathError mode)
+  calculated_sound : (o : Operation) (m n : Number) → IsSound (calculated o m n)
+  calculated_sound o m n =
+      chosen (op.is_decimal m.variant || op.is_decimal n.variant) (Err (Arithmetic DecimalOperand)) (on_integers o m.whole n.whole) tt
+      (on_integers_sound o m.whole n.whole)
+
+  refused_so : (o : Outcome Number) (r : Outcome CodeNumber) → IsResultOf o r → IsSound o → IfErr r (IsPathError mode)
   refused_so o (Ok n) is h = tt
-  refused_so o (Err e) is h = subst (λ q. IfErr q (IsPathError mode)) is h
+  refused_so o (Err e) is h = subst IsSound is h
 
   pub calculation_refused : (o : Operation) (m n : Number) (r : Outcome CodeNumber) → IsResultOf (calculated o m n) r → IfErr r (IsPathError mode)
-  calculation_refused o m n r is = refused_so (calculated o m n) r is (calculated_refused o m n)
+  calculation_refused o m n r is = refused_so (calculated o m n) r is (calculated_sound o m n)
 
   -- a path's error is one of a selection
   pub refused_as_path : {A : Type 0} (r : Outcome A) → IfErr r (IsPathError mode) → IfErr r (IsSelectionError mode)
   refused_as_path (Ok x) h = tt
   refused_as_path (Err e) h = inr h
 
-outcome_given : (o : Outcome Number) (r : Outcome CodeNumber) → IfOk o IsNormal → IsResultOf o r → Refines IsNumberTree (λ _. ⊥) r (number_list o)
+outcome_given : (o : Outcome Number) (r : Outcome CodeNumber) → IsSound Lax o → IsResultOf o r → Refines IsNumberTree (λ _. ⊥) r (number_list o)
 outcome_given o (Ok n) normal is = record { ok = rw is (ap (λ k. tree.number k ∷ []) (rw is at normal)); err = tt }
 outcome_given o (Err e) normal is = record { ok = tt; err = inr (rw is refl) }
 
@@ -112,7 +91,7 @@ two_are o ls rs m n p q = λ i. two_numbers o (lone_is ls m (sym p) i) (lone_is 
 pub two_given : (o : Operation) (ls rs : List Value) (m n : CodeNumber) (r : Outcome CodeNumber) → Some (number_view m) ≡ only_number ls
     → Some (number_view n) ≡ only_number rs
     → IsResultOf (calculated o (number_view m) (number_view n)) r → Refines IsNumberTree (λ _. ⊥) r (two_numbers o ls rs)
-two_given o ls rs m n r p q is = rw (two_are o ls rs _ _ p q) (outcome_given _ r (calculated_normal o (number_view m) (number_view n)) is)
+two_given o ls rs m n r p q is = rw (two_are o ls rs _ _ p q) (outcome_given _ r (calculated_sound Lax o (number_view m) (number_view n)) is)
 
 -- ---- values after a sign
 

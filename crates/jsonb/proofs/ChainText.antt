@@ -3,7 +3,7 @@ use Rattle.std.proofs.Common.{◌≡◌, ℕ, zero, suc, ◌+◌, List, [], ◌+
 use Rattle.std.specs.Prelude.{codes, if◌then◌else◌}
 use Rattle.std.proofs.lemmas.List.{append-nil}
 use Rattle.jsonb.specs.PathText.{operator_text, needs_parentheses, side_text, expression_text}
-use Rattle.jsonb.specs.PathTree.{Expression, paths, value, binary, unary, exists}
+use Rattle.jsonb.specs.PathTree.{Expression, binary}
 use Rattle.jsonb.specs.Private.Chain.{left_of, below}
 use Rattle.jsonb.specs.Private.ChainText.{front_text, fronts_text, link_text, links_text}
 
@@ -39,10 +39,7 @@ around_side false left operator right = simp append_assoc refl
 
 one_link : (e : Expression) → expression_text e ≡ front_text e ++ expression_text (left_of e) ++ link_text e
 one_link (binary op left right) = around_side (needs_parentheses left) (expression_text left) (operator_text op) (side_text right (expression_text right))
-one_link (paths ss) = sym (append-nil (expression_text (paths ss)))
-one_link (value l) = sym (append-nil (expression_text (value l)))
-one_link (unary op e) = sym (append-nil (expression_text (unary op e)))
-one_link (exists ss) = sym (append-nil (expression_text (exists ss)))
+one_link e = sym (append-nil (expression_text e))
 
 inside : (front fronts text links link : List ℕ) → front ++ (fronts ++ text ++ links) ++ link ≡ (front ++ fronts) ++ text ++ (links ++ link)
 inside front fronts text links link = simp append_assoc refl

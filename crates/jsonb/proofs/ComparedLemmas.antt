@@ -67,12 +67,7 @@ member_total math.current top t h = tt
 member_total (math.dot_field name) top t h = listed_total [] _
 member_total (math.colon_field name) top t h = listed_total [] _
 member_total (math.object_field name) top t h = listed_total [] _
-member_total math.dot_wildcard top t h = cc
-member_total (math.recursive_dot_wildcard levels) top t h = cc
-member_total math.bracket_wildcard top t h = cc
-member_total (math.array_indices entries) top t h = cc
-member_total (math.filter e) top t h = cc
-member_total (math.whole_expression e) top t h = cc
+member_total _ top t h = cc
 
 pub all_total : (f : Tree → Outcome (List Tree)) → ((t : Tree) → IsOkAnd (f t) Any) → (ts : List Tree) → IsOkAnd (try_flat_map f ts) Any
 all_total f h [] = tt
@@ -104,17 +99,14 @@ members_total ss top ts h = steps_total ss top ts (members_are_total ss h)
 
 pub comparison_total : (c : MemberCompared) (e : Expression) (top t : Tree) → IsMemberCompared c e → IsOkAnd (truth Lax e top t) Any
 comparison_total c e top t k =
-    subst (λ o. IsOkAnd o Any) (sym (k.compares Lax top t))
-    (with_ok Any (λ o. IsOkAnd o Any) (steps_meaning Lax (steps_of (steps_view c.names.now)) top (t ∷ [])) (told_by c)
+    rw (sym (k.compares Lax top t)) at (with_ok Any (λ o. IsOkAnd o Any) (steps_meaning Lax (steps_of (steps_view c.names.now)) top (t ∷ [])) (told_by c)
     (members_total (steps_view c.names.now) top (t ∷ []) k.members) (λ ts _. tt))
 
 -- ---- related lists in reverse
 
 pub related_reverse : {A B : Type 0} (R : A → B → Type 0) (xs : List A) (ys : List B) → AllZip R xs ys → AllZip R (reverse xs) (reverse ys)
 related_reverse R [] [] h = tt
-related_reverse R [] (y ∷ ys) h = absurd h
-related_reverse R (x ∷ xs) [] h = absurd h
 related_reverse R (x ∷ xs) (y ∷ ys) h =
     subst (λ l. AllZip R l (reverse (y ∷ ys))) (sym (reverse-append (x ∷ []) xs))
-    (subst (λ l. AllZip R (reverse xs ++ x ∷ []) l) (sym (reverse-append (y ∷ []) ys))
-    (related_more R (reverse xs) (reverse ys) x y (related_reverse R xs ys h.1) h.0))
+    (rw (sym (reverse-append (y ∷ []) ys)) at (related_more R (reverse xs) (reverse ys) x y (related_reverse R xs ys h.1) h.0))
+related_reverse R _ _ h = absurd h

@@ -6,14 +6,14 @@ use Rattle.jsonb_keypath.specs.Rules.{Rule, give, ◌>>=◌, ◌>>◌, parsed_ma
 use Rattle.jsonb_keypath.specs.Tokens.{ws, past, is_space}
 use Rattle.jsonb_keypath.proofs.ReadBackLemmas.{front, stops, front-stops, front-implies, begins, begins-implies, begins-excludes, stops-from_begins, in_sequence}
 use Rattle.jsonb_keypath.proofs.RepeatLemmas.{repeat-goes, repeat-ends}
-use Rattle.jsonb.specs.PathTree.{BinaryOp, and_op, or_op, UnaryOp, plus, minus, Step, root, current, dot_wildcard, recursive_dot_wildcard, bracket_wildcard, dot_field, colon_field, object_field, array_indices, filter, whole_expression, Steps, no_steps, step, Expression, paths, value, binary, unary, exists, steps_of}
+use Rattle.jsonb.specs.PathTree.{BinaryOp, and_op, or_op, UnaryOp, plus, minus, Step, root, current, filter, whole_expression, Steps, no_steps, step, Expression, paths, value, binary, unary, exists, steps_of}
 use Rattle.jsonb.specs.PathGrammar.{spaced, binary_atom, joined_by, path_with, group_with, exists_with, atom_with, and_with, or_with, nested_or}
 use Rattle.jsonb.specs.Private.Fronts.{filter_with}
 use Rattle.jsonb.specs.PathText.{step_text, steps_text, expression_text, side_text, needs_parentheses, operator_text, sign_text, joins}
 use Rattle.jsonb.proofs.SettledPaths.{settled_step, settled_steps, settled}
 use Rattle.jsonb.proofs.PathShape.{IsInner, IsBeginning, IsOperand, is_signed, IsPathStep, ArePathSteps, IsCondition}
-use Rattle.jsonb.proofs.InnerReadsBack.{past-none, past-space, spaced-reads, spaced-none, is_step_end}
-use Rattle.jsonb.proofs.OperandReadsBack.{ReadsTo, length-past, reads_to_rest, reads_past_rest, is_inner_start, spaced_inner-none, begins-some, front-from_begins, spaced_inner-text, is_operand_end, IsBehindOperand, steps_list, steps_of-steps_list, is_operand_start, is_path_root, path_root-text, settled-beginning, begins-beginning, begins-operand, unsigned_operand, spaced_operand-none, unary-text, unary-none, behind_operator, binary-text}
+use Rattle.jsonb.proofs.InnerReadsBack.{past-none, no_space, past-space, spaced-reads, spaced-none, is_step_end}
+use Rattle.jsonb.proofs.OperandReadsBack.{ReadsTo, length-past, reads_to_rest, reads_past_rest, is_inner_start, spaced_inner-none, begins-some, front-from_begins, spaced_inner-text, is_operand_end, IsBehindOperand, steps_list, steps_of-steps_list, is_operand_start, is_path_root, path_root-text, settled-beginning, begins-beginning, begins-operand, unsigned_operand, settled-inner, spaced_operand-none, unary-text, unary-none, behind_operator, binary-text}
 
 -- ---- lists of one and of two
 
@@ -86,21 +86,16 @@ or-single nested f input e rest r h = or-joined nested f input (e ∷ []) rest (
 abbrev pub is_close : ℕ → Bool
 is_close b = b == 41
 
-close_is_operand_end : (b : ℕ) → is_close b ≡ true → is_operand_end b ≡ true
-close_is_operand_end b h = grind (arith, nat_tests)
-
-close_is_no_space : (b : ℕ) → is_close b ≡ true → is_space b ≡ false
-close_is_no_space b h = grind (arith, nat_tests)
-
 pub no_space-close : (rest : List ℕ) → front is_close rest ≡ true → past is_space rest ≡ rest
-no_space-close rest h = past-none is_space rest (front-stops is_close is_space close_is_no_space rest h)
+no_space-close rest h = past-none is_space rest (front-stops is_close is_space (λ b e. grind (arith, nat_tests)) rest h)
 
 no_step-close : (rest : List ℕ) → front is_close rest ≡ true → begins is_inner_start rest ≡ false
 no_step-close [] h = refl
 no_step-close (b ∷ rest) h = grind (arith, nat_tests)
 
 behind_close : (rest : List ℕ) → front is_close rest ≡ true → IsBehindOperand rest
-behind_close rest h = (front-implies is_close is_operand_end close_is_operand_end rest h, rw (no_space-close rest h) (no_step-close rest h))
+behind_close rest h =
+    (front-implies is_close is_operand_end (λ b e. grind (arith, nat_tests)) rest h, rw (no_space-close rest h) (no_step-close rest h))
 
 no_and-close : (rest : List ℕ) → front is_close rest ≡ true → literal "&&" (past is_space rest) ≡ None
 no_and-close rest h = rw (no_space-close rest h) (go rest h) where
@@ -136,25 +131,20 @@ side-joined e rest h = rw h (append_assoc (40 ∷ expression_text e) (41 ∷ [])
 operand-alone : (f : Bool) (e : Expression) → IsOperand f e → needs_parentheses e ≡ false
 operand-alone f (paths ss) is = refl
 operand-alone f (value l) is = refl
-operand-alone f (binary op left right) is = absurd is
-operand-alone f (unary op e) is = absurd is
-operand-alone f (exists ss) is = absurd is
+operand-alone f _ is = absurd is
 
 -- ---- how expressions begin
 
 abbrev pub is_condition_start : ℕ → Bool
 is_condition_start b = b == 40 || b == 101 || is_operand_start b
 
-operand_start_is_condition_start : (b : ℕ) → is_operand_start b ≡ true → is_condition_start b ≡ true
-operand_start_is_condition_start b h = grind (arith, nat_tests)
-
 condition_start_is_no_space : (b : ℕ) → is_condition_start b ≡ true → is_space b ≡ false
 condition_start_is_no_space b h = grind (arith, nat_tests)
 
 begins-operand_as_condition : (f : Bool) (e : Expression) (rest : List ℕ) → IsOperand f e →
     begins is_condition_start (expression_text e ++ rest) ≡ true
-begins-operand_as_condition f e rest is = begins-implies is_operand_start is_condition_start operand_start_is_condition_start
-    (expression_text e ++ rest) (begins-operand f e rest is)
+begins-operand_as_condition f e rest is = begins-implies is_operand_start is_condition_start
+    (λ b e. grind (arith, nat_tests)) (expression_text e ++ rest) (begins-operand f e rest is)
 
 begins-sign : (op : UnaryOp) (rest : List ℕ) → begins is_condition_start (sign_text op ++ rest) ≡ true
 begins-sign plus rest = refl
@@ -162,8 +152,6 @@ begins-sign minus rest = refl
 
 pub begins-condition : (f : Bool) (e : Expression) (rest : List ℕ) → IsCondition f e →
     begins is_condition_start (expression_text e ++ rest) ≡ true
-begins-condition f (paths ss) rest is = absurd is
-begins-condition f (value l) rest is = absurd is
 begins-condition f (binary op left right) rest is = rw (binary-shown op left right rest) (go
     (λ more is'. begins-condition f left more is') (joins op) is) where
       tail : List ℕ
@@ -182,13 +170,12 @@ begins-condition f (binary op left right) rest is = rw (binary-shown op left rig
 begins-condition f (unary op e) rest is = rw (append_assoc (sign_text op) (expression_text e) rest) (begins-sign op
     (expression_text e ++ rest))
 begins-condition f (exists ss) rest is = refl
+begins-condition f _ rest is = absurd is
 
 pub no_space-condition : (f : Bool) (e : Expression) (rest : List ℕ) → IsCondition f e →
     past is_space (expression_text e ++ rest) ≡ expression_text e ++ rest
 no_space-condition f e rest is =
-    past-none is_space (expression_text e ++ rest) (stops-from_begins is_space (expression_text e ++ rest)
-    (begins-excludes is_condition_start is_space condition_start_is_no_space (expression_text e ++ rest)
-    (begins-condition f e rest is)))
+    no_space is_condition_start condition_start_is_no_space (expression_text e ++ rest) (begins-condition f e rest is)
 
 no_space-side : (f : Bool) (e : Expression) (rest : List ℕ) → IsCondition f e → stops is_space (side e ++ rest) ≡ true
 no_space-side f e rest is = go (needs_parentheses e) refl where
@@ -240,10 +227,9 @@ sides_read : (op : BinaryOp) (left right : Expression) → AtomReads left → At
 sides_read op left right l r n f rest is_left is_right h short =
     let between = behind_left op right rest in
     let short' : length (side left ++ between) < suc n = rw (binary-shown op left right rest) at short in
-    let whole = length-append (side left) between in
     let behind = length-append (operator_text op) (32 ∷ side right ++ rest) in
     let first = l n f between is_left (behind_operator op (32 ∷ side right ++ rest)).0 (omega arith) in
-    let second = r n f rest is_right (behind_close rest h) (omega (arith, whole, behind)) in
+    let second = r n f rest is_right (behind_close rest h) (omega (arith, length-append (side left) between, behind)) in
     (first, rw (past-space (side right ++ rest) (no_space-side f right rest is_right)) second)
 
 and-condition : (left right : Expression) → AtomReads left → AtomReads right → ConditionReads (binary and_op left right)
@@ -322,13 +308,9 @@ binary_atom-reads op left right j n f rest is h short =
       binary-text f op left right rest j parts.1 parts.2 h,
     ) refl))
 
-root_is_no_space : (b : ℕ) → is_path_root b ≡ true → is_space b ≡ false
-root_is_no_space b h = grind (arith, nat_tests)
-
 no_space-beginning : (f : Bool) (s : Step) (rest : List ℕ) → IsBeginning f s → past is_space (step_text s ++ rest) ≡ step_text s ++ rest
 no_space-beginning f s rest is =
-    past-none is_space (step_text s ++ rest) (stops-from_begins is_space (step_text s ++ rest)
-    (begins-excludes is_path_root is_space root_is_no_space (step_text s ++ rest) (begins-beginning f s rest is)))
+    no_space is_path_root (λ b e. grind (arith, nat_tests)) (step_text s ++ rest) (begins-beginning f s rest is)
 
 exists-shown : (s : Step) (ss : Steps) (rest : List ℕ) → expression_text (exists (step s ss)) ++ rest ≡ codes "exists(" ++ (step_text s ++
     (steps_text ss ++ (41 ∷ rest)))
@@ -390,10 +372,10 @@ filter_step-reads e condition n rest is h short =
     rw (filter-shown e rest, spaced_inner-none input refl) (spaced-reads (filter_with (nested_or n) >>= λ e'. give (filter e')) input
     (filter (settled e)) rest found)
 
-inner_step-reads : (s : Step) → (IsPathStep s → IsInner s) → (IsInner s → settled_step s ≡ s) → StepReads s
+inner_step-reads : (s : Step) → (IsPathStep s → IsInner s) → StepReads s
 unfolding path_with
-inner_step-reads s as_inner same n rest is h short = rw (spaced_inner-text s rest (as_inner is) h) (ap
-    (λ (t : Step). Some (t, past is_space rest)) (sym (same (as_inner is))))
+inner_step-reads s as_inner n rest is h short = rw (spaced_inner-text s rest (as_inner is) h) (ap
+    (λ (t : Step). Some (t, past is_space rest)) (sym (settled-inner s (as_inner is))))
 
 abbrev pub is_step_start : ℕ → Bool
 is_step_start b = is_inner_start b || b == 63
@@ -407,7 +389,7 @@ begins-step _ rest is = refl
 pub step_start_is_no_space : (b : ℕ) → is_step_start b ≡ true → is_space b ≡ false
 step_start_is_no_space b h = grind (arith, nat_tests)
 
-step_start_is_step_end : (b : ℕ) → is_step_start b ≡ true → is_step_end b ≡ true
+pub step_start_is_step_end : (b : ℕ) → is_step_start b ≡ true → is_step_end b ≡ true
 step_start_is_step_end b h = grind (arith, nat_tests)
 
 close_is_step_end : (b : ℕ) → is_close b ≡ true → is_step_end b ≡ true
@@ -425,9 +407,7 @@ no_space-steps : (ss : Steps) (rest : List ℕ) → ArePathSteps ss → front is
 no_space-steps no_steps rest are h = no_space-close rest h
 no_space-steps (step s ss) rest are h =
     rw (append_assoc (step_text s) (steps_text ss) rest)
-    (past-none is_space (step_text s ++ (steps_text ss ++ rest)) (stops-from_begins is_space (step_text s ++ (steps_text ss ++ rest))
-    (begins-excludes is_step_start is_space step_start_is_no_space (step_text s ++ (steps_text ss ++ rest)) (begins-step s
-    (steps_text ss ++ rest) are.0))))
+    (no_space is_step_start step_start_is_no_space (step_text s ++ (steps_text ss ++ rest)) (begins-step s (steps_text ss ++ rest) are.0))
 
 close_is_no_question : (b : ℕ) → is_close b ≡ true → (63 == b) ≡ false
 close_is_no_question b h = grind (arith, nat_tests)
@@ -487,29 +467,15 @@ binary-reads op left right l r = go (joins op) refl where
 
 mutual
   pub expression-reads : (e : Expression) → ConditionReads e × AtomReads e
-  expression-reads (paths ss) = (λ n f rest is. absurd is, λ n f rest is. absurd is)
-  expression-reads (value l) = (λ n f rest is. absurd is, λ n f rest is. absurd is)
   expression-reads (binary op left right) = binary-reads op left right (expression-reads left).1 (expression-reads right).1
   expression-reads (unary op e) = (single-condition (unary op e) refl (unary_atom-reads op e), unary_atom-reads op e)
-  expression-reads (exists no_steps) = (λ n f rest is. absurd is, λ n f rest is. absurd is)
-  expression-reads (exists (step s ss)) = (
-    single-condition (exists (step s ss)) refl (exists_atom-reads s ss
-        (steps-read ss)),
-    exists_atom-reads s ss (steps-read ss),
-  )
+  expression-reads (exists (step s ss)) =
+      let atom = exists_atom-reads s ss (steps-read ss) in (single-condition (exists (step s ss)) refl atom, atom)
+  expression-reads _ = (λ n f rest is. absurd is, λ n f rest is. absurd is)
 
   pub step-reads : (s : Step) → StepReads s
-  step-reads root = λ n rest is. absurd is
-  step-reads current = λ n rest is. absurd is
-  step-reads dot_wildcard = inner_step-reads dot_wildcard (λ is. is) (λ is. refl)
-  step-reads (recursive_dot_wildcard l) = inner_step-reads (recursive_dot_wildcard l) (λ is. is) (λ is. refl)
-  step-reads bracket_wildcard = inner_step-reads bracket_wildcard (λ is. is) (λ is. refl)
-  step-reads (dot_field text) = inner_step-reads (dot_field text) (λ is. is) (λ is. refl)
-  step-reads (colon_field text) = inner_step-reads (colon_field text) (λ is. is) (λ is. refl)
-  step-reads (object_field text) = inner_step-reads (object_field text) (λ is. is) (λ is. refl)
-  step-reads (array_indices es) = inner_step-reads (array_indices es) (λ is. is) (λ is. refl)
   step-reads (filter e) = filter_step-reads e (expression-reads e).0
-  step-reads (whole_expression e) = λ n rest is. absurd is
+  step-reads s = inner_step-reads s (λ is. is)
 
   pub steps-read : (ss : Steps) → StepsRead ss
   steps-read no_steps = steps-end

@@ -17,7 +17,9 @@ use Rattle.jsonb.specs.declared.path.copying.Holder.TheVariants as holder
 use Rattle.jsonb.specs.declared.path.copying.StepsKind.{StepsKind}
 use Rattle.jsonb.specs.declared.path.copying.StepsKind.TheVariants as kind
 use Rattle.jsonb.proofs.PartLemmas.{row_parts, some_step_parts}
-use Rattle.jsonb.proofs.DocumentLemmas.{has_document-append}
+use Rattle.jsonb.proofs.DocumentLemmas.{has_document-append, or_true, or_assoc}
+pub use Rattle.jsonb.proofs.DocumentLemmas.{not_first, not_second}
+pub use Rattle.jsonb_doc.proofs.Basics.{or_false}
 
 pub framed-push : (fs : List Frame) (f : Frame) (e : Expression) → framed (fs ++ f ∷ []) e ≡ framed fs (around f e)
 framed-push [] f e = refl
@@ -31,18 +33,6 @@ pub waiting-push : (fs : List Frame) (f : Frame) → waiting (fs ++ f ∷ []) �
 waiting-push [] f = omega arith
 waiting-push (g ∷ fs) f = let rest = waiting-push fs f in omega arith
 
-pub or_false : (a : Bool) → a || false ≡ a
-or_false true = refl
-or_false false = refl
-
-or_true : (a : Bool) → a || true ≡ true
-or_true true = refl
-or_true false = refl
-
-or_assoc : (a b c : Bool) → a || (b || c) ≡ (a || b) || c
-or_assoc true b c = refl
-or_assoc false b c = refl
-
 pub have_document-push : (fs : List Frame) (f : Frame) → have_document (fs ++ f ∷ []) ≡ have_document fs || frame_has_document f
 have_document-push [] f = or_false (frame_has_document f)
 have_document-push (g ∷ fs) f = ap (λ b. frame_has_document g || b) (have_document-push fs f)
@@ -50,14 +40,6 @@ have_document-push (g ∷ fs) f = ap (λ b. frame_has_document g || b) (have_doc
 
 pub none_of_both : (a b : Bool) → a ≡ false → b ≡ false → a || b ≡ false
 none_of_both a b h k = rw (h, k) refl
-
-pub not_first : (a b : Bool) → a || b ≡ false → a ≡ false
-not_first true b h = h
-not_first false b h = refl
-
-pub not_second : (a b : Bool) → a || b ≡ false → b ≡ false
-not_second true b h = absurd (cc)
-not_second false b h = h
 
 -- ---- steps, the first ones copied
 

@@ -1,5 +1,5 @@
 -- From the documents that are made of a selection to what a call returns.
-use Rattle.std.proofs.Common.{◌≡◌, List, Option, Some, None, Result, Ok, Err, ◌⊎◌, inl, inr, subst, sym, IsOkAnd}
+use Rattle.std.proofs.Common.{◌≡◌, List, Option, Some, None, Result, Ok, Err, ◌⊎◌, inl, inr, sym, IsOkAnd}
 use Rattle.std.specs.Prelude.{IsSomeAnd}
 use Rattle.jsonb_doc.specs.Answer.{Outcome, Refines, IsOutOfMemory, ◌or◌when◌, SameOption}
 use Rattle.jsonb_doc.specs.Format.{Decodes}
@@ -51,7 +51,7 @@ handed_refused R IsPastLimits h = record { ok = tt; err = elim h.err [ inl memor
 -- likewise for an equal result
 pub handed_same : {A B : Type 0} (R : A → B → Type 0) (IsPastLimits : B → Type 0) {r s : Outcome A} {o : Outcome B} → s ≡ r
     → Refines R (IsOutOfMemory or TooLarge when IsOkAnd o IsPastLimits) r o → Refines R (IsOutOfMemory or TooLarge when IsOkAnd o IsPastLimits) s o
-handed_same R IsPastLimits {o = o} is h = subst (λ z. Refines R (IsOutOfMemory or TooLarge when IsOkAnd o IsPastLimits) z o) (sym is) h
+handed_same R IsPastLimits {o = o} is h = rw (sym is) at h
 
 pub handed_error : {A C D : Type 0} {Q : C → D → Type 0} (R : A → D → Type 0) (IsPastLimits : D → Type 0) {s : Outcome A} {e : Error} {o : Outcome D} → s ≡
     Err e

@@ -57,11 +57,11 @@ read_has_none text = none_of (json_path text) (read_equals_itself text)
 
 -- ---- the test of a path is right
 
-not_first : (a b : Bool) → a || b ≡ false → a ≡ false
+pub not_first : (a b : Bool) → a || b ≡ false → a ≡ false
 not_first true b h = h
 not_first false b h = refl
 
-not_second : (a b : Bool) → a || b ≡ false → b ≡ false
+pub not_second : (a b : Bool) → a || b ≡ false → b ≡ false
 not_second true b h = cc
 not_second false b h = h
 
@@ -130,11 +130,11 @@ tested_alone s e (inr other) = inr (other.0, go (step_has_document s) refl) wher
 
 -- ---- lists of steps
 
-or_assoc : (a b c : Bool) → a || (b || c) ≡ (a || b) || c
+pub or_assoc : (a b c : Bool) → a || (b || c) ≡ (a || b) || c
 or_assoc true b c = refl
 or_assoc false b c = refl
 
-or_true : (a : Bool) → a || true ≡ true
+pub or_true : (a : Bool) → a || true ≡ true
 or_true true = refl
 or_true false = refl
 

@@ -1,17 +1,12 @@
 -- The order of two literals of the code is that of what they stand for.
-use Rattle.std.proofs.Common.{◌≡◌, Bool, Some, None, refl, sym, ap, ◌∙◌}
-use Rattle.std.specs.Bool.{Decides}
+use Rattle.std.proofs.Common.{◌≡◌, refl, ap}
 use Rattle.std.specs.Ordering.{is_eq, is_some_and}
-use Rattle.jsonb_doc.specs.View.{number_view}
-use Rattle.jsonb_doc.specs.declared.number.Number.{Number}
-use Rattle.jsonb_doc.specs.declared.number.Number.TheVariants.{Int64, UInt64, Decimal64, Decimal128}
 use Rattle.jsonb_doc.proofs.EqualValues.{number_cmp-number_view}
 use Rattle.jsonb.specs.PathEquality.{literal_order}
 use Rattle.jsonb.specs.PathViews.{literal_view}
 use Rattle.jsonb.specs.Private.SamePath.{path_value_order, is_same_literal}
-use Rattle.jsonb.specs.Values.{number, literal_value}
 use Rattle.jsonb.specs.declared.path.PathValue.{PathValue}
-use Rattle.jsonb.specs.declared.path.PathValue.TheVariants.{Null, Boolean, String, Raw}
+use Rattle.jsonb.specs.declared.path.PathValue.TheVariants.{Null, Raw}
 use Rattle.jsonb.specs.declared.path.PathValue.TheVariants as PathValue'
 
 pub order_is : (a b : PathValue) → path_value_order a b ≡ literal_order (literal_view a) (literal_view b)

@@ -1,6 +1,6 @@
 -- Equality of the small parts of paths is equality of what they stand for.
-use Rattle.std.proofs.Common.{◌≡◌, List, [], ◌∷◌, map, Bool, Some, None, Option, refl, sym, ◌∙◌, ap, ap₂}
-use Rattle.std.specs.Prelude.{◌&&◌, nat_eq, option_map}
+use Rattle.std.proofs.Common.{◌≡◌, List, [], ◌∷◌, Bool, Some, None, Option, refl, ap, ap₂}
+use Rattle.std.specs.Prelude.{◌&&◌, nat_eq}
 use Rattle.std.specs.Bool.{Decides}
 use Rattle.std.specs.Option.{option_eq}
 use Rattle.std.specs.Cmp.Lexicographic.{pointwise}
@@ -29,22 +29,19 @@ module _ {A : Type 0} (E F : A → A → Bool) (same : (a b : A) → E a b ≡ F
   maybe-is : (o p : Option A) → option_eq E o p ≡ option_eq F o p
   maybe-is None None = refl
   maybe-is (Some a) (Some b) = same a b
-  maybe-is None (Some b) = refl
-  maybe-is (Some a) None = refl
+  maybe-is _ _ = refl
 
   list-is : (xs ys : List A) → pointwise E xs ys ≡ pointwise F xs ys
   list-is [] [] = refl
   list-is (x ∷ xs) (y ∷ ys) = ap₂ (λ a b. a && b) (same x y) (list-is xs ys)
-  list-is [] (y ∷ ys) = refl
-  list-is (x ∷ xs) [] = refl
+  list-is _ _ = refl
 
 -- ---- places, entries and levels
 
 index-is : (a b : Index) → index_equal.it a b ≡ is_same_place a b
 index-is (index.Index i) (index.Index j) = refl
 index-is (index.LastIndex i) (index.LastIndex j) = refl
-index-is (index.Index i) (index.LastIndex j) = refl
-index-is (index.LastIndex i) (index.Index j) = refl
+index-is _ _ = refl
 
 pub index-equal : (a b : Index) → Decides (index_equal.it a b) (a ≡ b)
 index-equal a b = rw (index-is a b) (place-same a b)
@@ -52,8 +49,7 @@ index-equal a b = rw (index-is a b) (place-same a b)
 array_index-is : (a b : ArrayIndex) → array_index_equal.it a b ≡ is_same_entry a b
 array_index-is (array_index.Index i) (array_index.Index j) = index-is i j
 array_index-is (array_index.Slice (i, k)) (array_index.Slice (j, l)) = ap₂ (λ a b. a && b) (index-is i j) (index-is k l)
-array_index-is (array_index.Index i) (array_index.Slice ends) = refl
-array_index-is (array_index.Slice ends) (array_index.Index j) = refl
+array_index-is _ _ = refl
 
 pub array_index-equal : (a b : ArrayIndex) → Decides (array_index_equal.it a b) (a ≡ b)
 array_index-equal a b = rw (array_index-is a b) (entry-same a b)
@@ -64,8 +60,7 @@ entries-is es fs = list-is array_index_equal.it is_same_entry array_index-is es 
 level_end-is : (a b : RecursiveLevelEnd) → level_end_equal.it a b ≡ is_same_end a b
 level_end-is (level_end.Index m) (level_end.Index n) = refl
 level_end-is level_end.Last level_end.Last = refl
-level_end-is (level_end.Index m) level_end.Last = refl
-level_end-is level_end.Last (level_end.Index n) = refl
+level_end-is _ _ = refl
 
 pub level_end-equal : (a b : RecursiveLevelEnd) → Decides (level_end_equal.it a b) (a ≡ b)
 level_end-equal a b = rw (level_end-is a b) (end-same a b)
@@ -84,8 +79,7 @@ operator-equal a b = (λ h. same_true the_operator tt a b h, λ e. true_same the
 pub sign-is : (a b : UnaryOperator) → sign_equal.it a b ≡ is_same_sign a b
 sign-is sign.Add sign.Add = refl
 sign-is sign.Subtract sign.Subtract = refl
-sign-is sign.Add sign.Subtract = refl
-sign-is sign.Subtract sign.Add = refl
+sign-is _ _ = refl
 
 pub sign-equal : (a b : UnaryOperator) → Decides (sign_equal.it a b) (a ≡ b)
 sign-equal a b = rw (sign-is a b) (sign-same a b)

@@ -7,14 +7,14 @@ use Rattle.std.specs.Cmp.{bool_cmp_total}
 use Rattle.std.specs.Cmp.Lexicographic.{nat_list_cmp_total}
 use Rattle.jsonb_doc.specs.Number.{Number, int64, uint64, number_from, number_cmp}
 use Rattle.jsonb_doc.specs.Proofs.NumberOrder.{number_cmp_total}
-use Rattle.jsonb_doc.specs.declared.number.Number.TheVariants.{Int64, UInt64, Decimal64, Decimal128}
+use Rattle.jsonb_doc.specs.declared.number.Number.TheVariants.{Int64, UInt64}
 use Rattle.jsonb.specs.PathEquality.{SameLiteral, SameStepsBut, SamePath}
 use Rattle.jsonb.specs.Private.SamePath.{SameStep, SameExpression}
 use Rattle.jsonb.specs.PathGrammar.{json_path}
 use Rattle.jsonb.specs.PathLaws.{settled_literal}
 use Rattle.jsonb.proofs.SettledPaths.{settled_step, settled_steps, settled}
 use Rattle.jsonb.specs.PathText.{joins, path_text}
-use Rattle.jsonb.specs.PathTree.{Literal, null, boolean, number, string, raw, Step, filter, whole_expression, Steps, no_steps, step, Expression, paths, value, binary, unary, exists}
+use Rattle.jsonb.specs.PathTree.{Literal, null, boolean, number, string, Step, filter, whole_expression, Steps, no_steps, step, Expression, paths, value, binary, unary, exists}
 use Rattle.jsonb.proofs.GrammarShape.{json_path_is_path}
 use Rattle.jsonb.proofs.PathReadsBack.{path-text}
 use Rattle.jsonb.specs.Proofs.SameParts.{path-symmetric, path-transitive}
@@ -31,10 +31,8 @@ literal-settled (number (UInt64 n)) h = ap Some (number_itself (number_from uint
 literal-settled (number (Int64 (pos zero))) h = refl
 literal-settled (number (Int64 (pos (suc n)))) h = ap Some (number_itself (number_from int64 (pos (suc n)) 0))
 literal-settled (number (Int64 (negsuc n))) h = ap Some (number_itself (number_from int64 (negsuc n) 0))
-literal-settled (number (Decimal64 d)) h = absurd h
-literal-settled (number (Decimal128 d)) h = absurd h
 literal-settled (string text) h = ap Some (tied_itself nat_list_cmp_total text)
-literal-settled (raw document) h = absurd h
+literal-settled _ h = absurd h
 
 inner-settled : (s : Step) → IsInner s → SameStep s (settled_step s)
 inner-settled (filter e) h = absurd h

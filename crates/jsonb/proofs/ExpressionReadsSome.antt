@@ -6,14 +6,14 @@ use Rattle.jsonb_keypath.specs.Tokens.{ws, quoted, natural_below, integer_within
 use Rattle.jsonb_keypath.specs.TokenLaws.{ReadsSome}
 use Rattle.jsonb_keypath.proofs.ReadsLemmas.{NeverGrows, some-no_more, grows-give, grows-then, some-then, then-some, some-choice, grows-only_if}
 use Rattle.jsonb_keypath.proofs.CutLemmas.{some-literal}
-use Rattle.jsonb_keypath.proofs.GrowsLemmas.{grows-ws, some-quoted, some-integer_within, some-natural_below}
+use Rattle.jsonb_keypath.proofs.GrowsLemmas.{some-quoted, some-integer_within, some-natural_below}
 use Rattle.jsonb_doc.specs.declared.number.Number.TheVariants.{Int64, UInt64}
 use Rattle.jsonb.specs.PathTree.{null, boolean, number, string, eq, not_eq, lt, lte, gt, gte, starts_with_op, add, subtract, multiply, divide, modulo, plus, minus, root, current, filter, Expression}
 use Rattle.jsonb.specs.PathGrammar.{spaced, spaced_inner, path_root, literal_value, operand, spaced_operand, arithmetic_operator, operator, unary_operator, unary_atom, binary_atom, path_with, group_with, exists_with, atom_with, and_with, or_with, nested_or, path_step}
 use Rattle.jsonb.specs.Private.Fronts.{operand_steps, exists_steps, filter_with}
 use Rattle.jsonb.specs.Private.Repeated.{another_atom, another_and}
 use Rattle.jsonb.proofs.EntryReadsSome.{some-spaced}
-use Rattle.jsonb.proofs.InnerReadsSome.{grows-repeat, some-spaced_inner}
+use Rattle.jsonb.proofs.InnerReadsSome.{grows-repeat, past_ws, past_byte, some-spaced_inner}
 
 -- ---- operands
 
@@ -97,13 +97,10 @@ some-list_of rule separator h s =
     (λ others. grows-give (first ∷ others)))
 
 grows-opened : {A : Type 0} (next : Rule A) → NeverGrows next → NeverGrows (ws >>= λ _. literal "(" >>= λ _. ws >>= λ _. next)
-grows-opened next h =
-    grows-then ws _ grows-ws (λ _. grows-then (literal "(") _ (some-no_more (literal "(") (some-literal 40 [])) (λ _.
-    grows-then ws _ grows-ws (λ _. h)))
+grows-opened next h = past_ws (past_byte 40 (past_ws h))
 
 grows-closed : {A : Type 0} (a : A) → NeverGrows (ws >>= λ _. literal ")" >>= λ _. give a)
-grows-closed a =
-    grows-then ws _ grows-ws (λ _. grows-then (literal ")") _ (some-no_more (literal ")") (some-literal 41 [])) (λ _. grows-give a))
+grows-closed a = past_ws (past_byte 41 (grows-give a))
 
 pub some-and_separator : ReadsSome (spaced (literal "&&"))
 some-and_separator = some-spaced (literal "&&") (some-literal 38 (codes "&"))
@@ -128,8 +125,7 @@ module _ (nested : Bool → Rule Expression) (grows-nested : (f : Bool) → Neve
   some-group : (f : Bool) → ReadsSome (group_with nested f)
   unfolding group_with
   some-group f =
-      some-then (literal "(") _ (some-literal 40 []) (λ _.
-      grows-then ws _ grows-ws (λ _. grows-then (nested f) _ (grows-nested f) (λ e. grows-closed e)))
+      some-then (literal "(") _ (some-literal 40 []) (λ _. past_ws (grows-then (nested f) _ (grows-nested f) (λ e. grows-closed e)))
 
   some-exists_steps : ReadsSome (exists_steps nested)
   some-exists_steps =

@@ -1,5 +1,5 @@
 -- The first item that a path selects, in place, or computed.
-use Rattle.std.proofs.Common.{◌≡◌, ℕ, ◌<◌, Bool, true, false, List, [], ◌∷◌, length, slice_index_or, Option, Some, None, is_some, MatchOption, refl, subst, arith}
+use Rattle.std.proofs.Common.{◌≡◌, ℕ, ◌<◌, Bool, false, List, [], ◌∷◌, length, slice_index_or, Option, Some, None, is_some, MatchOption, refl, arith}
 use Rattle.std.specs.List.{AllZip}
 use Rattle.jsonb_doc.specs.Answer.{SameOption}
 use Rattle.jsonb_doc.specs.Representation.Positions.{Locates}
@@ -20,11 +20,9 @@ expression_told view path None b is h = rw h is
 expression_told view path (Some e) b is h = rw h is
 
 pub is_expression : (path : List Step) (b : Bool) → b ≡ is_some (only_expression path) → b ≡ is_predicate path
-is_expression [] b h = h
 is_expression (whole_expression e ∷ []) b h = h
 is_expression (s ∷ []) b h = h
-is_expression (whole_expression e ∷ t ∷ rest) b h = h
-is_expression (s ∷ t ∷ rest) b h = h
+is_expression _ b h = h
 
 pub no_expression : (o : Option Expression) (b : Bool) → b ≡ is_some o → b ≡ false → o ≡ None
 no_expression None b is f = refl
@@ -37,9 +35,7 @@ pub first_is : (bytes root : List ℕ) (computed told : Bool) (found : Option (F
     → first_item us ≡ first_item ts → SameOption (IsFirstItem (Locates bytes) computed) found (first_item us)
     → SameOption (IsFirstItem (Locates root) told) found (first_item ts)
 first_is bytes root computed told found us ts same_bytes same_told same_item h =
-    subst (λ r. SameOption (IsFirstItem (Locates r) told) found (first_item ts)) same_bytes
-    (subst (λ b. SameOption (IsFirstItem (Locates bytes) b) found (first_item ts)) same_told
-    (subst (λ o. SameOption (IsFirstItem (Locates bytes) computed) found o) same_item h))
+    rw same_bytes at (rw same_told at (rw same_item at h))
 
 pub place_first : {S : Type 0} (Marks : S → Tree → Type 0) (places : List S) (ts : List Tree) (e : S) → 0 < length places → AllZip Marks places ts
     → SameOption (IsFirstItem Marks false) (Some (At (slice_index_or places 0 e))) (first_item ts)

@@ -21,16 +21,14 @@ use Rattle.jsonb.specs.declared.selector.selected.MadeItem.{MadeItem}
 pub spots_are : (form : Form) (document : List ℕ) (spots : List Spot) (ts : List Tree) → AllZip (Locates document) spots ts
     → AllZip (IsItemOf document form) (map At spots) ts
 spots_are form document [] [] h = tt
-spots_are form document [] (t ∷ ts) h = absurd h
-spots_are form document (spot ∷ spots) [] h = absurd h
 spots_are form document (spot ∷ spots) (t ∷ ts) h = (h.0, spots_are form document spots ts h.1)
+spots_are form document _ _ h = absurd h
 
 pub numbers_are : (form : Form) (document : List ℕ) (numbers : List CodeNumber) (ts : List Tree) → AllZip IsNumberItem numbers ts
     → AllZip (IsItemOf document form) (map Number numbers) ts
 numbers_are form document [] [] h = tt
-numbers_are form document [] (t ∷ ts) h = absurd h
-numbers_are form document (n ∷ numbers) [] h = absurd h
 numbers_are form document (n ∷ numbers) (t ∷ ts) h = (h.0, numbers_are form document numbers ts h.1)
+numbers_are form document _ _ h = absurd h
 
 -- a list of items, unless an allocation failed
 pub all_found : (form : Form) (document : List ℕ) (items : List FoundItem) (ts : List Tree) (r : Result (Vec FoundItem Global) Error)

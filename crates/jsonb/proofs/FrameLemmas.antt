@@ -1,5 +1,5 @@
 -- What is open while an expression is read: each step of the reading keeps what the rules make of it.
-use Rattle.std.proofs.Common.{◌≡◌, ℕ, ◌+◌, List, [], ◌∷◌, ◌++◌, length, Bool, true, false, Option, Some, None, Result, Ok, Err, IfOk, Bor, refl, sym, ap, ◌∙◌, subst, arith}
+use Rattle.std.proofs.Common.{◌≡◌, ℕ, ◌+◌, List, [], ◌∷◌, ◌++◌, length, Bool, true, false, Option, Some, None, Result, Ok, Err, IfOk, Bor, refl, sym, ap, ◌∙◌, arith}
 use Rattle.std.specs.Prelude.{nat_eq, ◌==◌, fold, option_and_then}
 use Rattle.std.proofs.lemmas.Bool.Decides.{nat_tests}
 use Rattle.std.proofs.lemmas.Option.{same_Some}
@@ -13,7 +13,7 @@ use Rattle.jsonb_keypath.proofs.RepeatLemmas.{repeat-goes, repeat-ends, behind, 
 use Rattle.jsonb_keypath.proofs.CutLemmas.{nothing}
 use Rattle.jsonb.specs.PathTree.{BinaryOp, binary, and_op, or_op, Expression, Step, root, exists, filter, paths, steps_of, whole_expression}
 use Rattle.jsonb.specs.PathGrammar.{spaced, atom_with, and_with, or_with, expression, joined_by, spaced_inner, spaced_operand, operator, path_with, path_step, path_root, operand, unary_operator, unary_atom, binary_atom, group_with, exists_with, front_steps, first_step, plain_path, root_expression}
-use Rattle.jsonb.specs.Private.Fronts.{operand_steps, filter_with}
+use Rattle.jsonb.specs.Private.Fronts.{operand_steps}
 use Rattle.jsonb.specs.Private.Repeated.{another_atom, another_and}
 use Rattle.jsonb.specs.PathViews.{expression_view, steps_view}
 use Rattle.jsonb.specs.Private.Frames.{joined_from, joined_view, joined_behind, partial_outcome, IsUnclosed, IsPartial, closed, filter_front, filter_step, steps_behind, opened_outcome, IsOpened, resumed, AreFrames, operation, goes_in_filter, opening_outcome, as_path}
@@ -25,6 +25,7 @@ use Rattle.jsonb.specs.declared.parser.expression.Frame.{Frame}
 use Rattle.jsonb.specs.declared.parser.opening.Opening.{Opening}
 use Rattle.jsonb.proofs.ExpressionReadsSome.{some-atom, some-and, some-path, some-and_separator, some-or_separator, grows-nested_or, some-nested_or}
 use Rattle.jsonb.proofs.Bounds.{expression-rule, path_step-rule}
+pub use Rattle.jsonb_doc.proofs.Basics.{empty_of as none_open}
 
 grows-expression : (f : Bool) → NeverGrows (expression f)
 unfolding expression
@@ -211,10 +212,6 @@ pub frames-pop : (frames : List Frame) (frame : Frame) → AreFrames (frames ++ 
 frames-pop [] frame are = (tt, are.0, are.1)
 frames-pop (first ∷ frames) frame are = let others = frames-pop frames frame are.2 in ((are.0, are.1, others.0), others.1, others.2)
 
-pub none_open : (frames : List Frame) → length frames ≡ 0 → frames ≡ []
-none_open [] none = refl
-none_open (frame ∷ frames) none = absurd (omega (arith, none))
-
 -- a failure goes through what is open
 pub failure-goes : (frames : List Frame) (frame : Frame) (l : PartialExpr) → IsPartial l → IsOpened frame.opened →
     resumed (frames ++ frame ∷ []) (partial_outcome l None) ≡ resumed frames (partial_outcome frame.partial None)
@@ -253,8 +250,7 @@ path_step-is = λ i input. path_step-rule input i
 pub without_bound : (front front' : List Step) (input input' : List ℕ) →
     behind front (repeat path_step input) ≡ behind front' (repeat path_step input') →
     behind front (repeat (path_with expression) input) ≡ behind front' (repeat (path_with expression) input')
-without_bound front front' input input' same = subst (λ (rule : Rule Step). behind front (repeat rule input) ≡ behind front' (repeat rule input'))
-    path_step-is same
+without_bound front front' input input' same = rw path_step-is at same
 
 -- a filter, if there is no plain step
 pub step-is_filter : (input inside : List ℕ) → spaced_inner input ≡ None → filter_front input ≡ Some (tt, inside) →
@@ -409,10 +405,7 @@ pub front-operation : (input rest here : List ℕ) (ss : List Step) (op : Binary
 front-operation input rest here ss op e after reads space is = go (dollar input (ss, rest) reads) where
   go : (tail : List ℕ) × (input ≡ 36 ∷ tail) → as_path (partial_outcome (record { is_in_filter = false; all = None; any = None })
       (Some (binary op (paths (steps_of ss)) e, after))) ≡ root_expression input
-  go d = subst (λ (i : List ℕ). as_path (partial_outcome (record { is_in_filter = false; all = None; any = None })
-      (Some (binary op (paths (steps_of ss)) e, after))) ≡ root_expression i) (sym d.1)
-      (front-is (36 ∷ d.0) (36 ∷ d.0) _ (ws-dollar d.0)
-      (sym (atom-some d.0 ss rest here (subst (λ (i : List ℕ). operand_steps false i ≡ Some (ss, rest)) d.1 reads)
+  go d = rw (sym d.1) at (front-is (36 ∷ d.0) (36 ∷ d.0) _ (ws-dollar d.0) (sym (atom-some d.0 ss rest here (rw d.1 at reads)
       space op e after is)))
 
 -- steps alone
@@ -421,9 +414,7 @@ pub front-steps : (input rest here : List ℕ) (ss : List Step) → operand_step
 unfolding partial_outcome
 front-steps input rest here ss reads space none = go (dollar input (ss, rest) reads) where
   go : (tail : List ℕ) × (input ≡ 36 ∷ tail) → root_expression input ≡ None
-  go d = subst (λ (i : List ℕ). root_expression i ≡ None) (sym d.1)
-      (sym (front-is (36 ∷ d.0) (36 ∷ d.0) None (ws-dollar d.0)
-      (sym (atom-none d.0 ss rest here (subst (λ (i : List ℕ). operand_steps false i ≡ Some (ss, rest)) d.1 reads)
+  go d = rw (sym d.1) at (sym (front-is (36 ∷ d.0) (36 ∷ d.0) None (ws-dollar d.0) (sym (atom-none d.0 ss rest here (rw d.1 at reads)
       space none))))
 
 -- ---- the loop over what is open

@@ -8,12 +8,12 @@ use Rattle.jsonb_keypath.specs.Rules.{up_to, repeat}
 use Rattle.jsonb_keypath.specs.Tokens.{ws, natural, natural_below, sign, integer, integer_within, four_hex_digits, code_unit, unicode_escape, escape, unit, units, text, name, quoted}
 use Rattle.jsonb_doc.specs.declared.number.Number.TheVariants.{Int64, UInt64}
 use Rattle.jsonb.specs.PathTree.{Step, root, value, binary, eq, number, whole_expression, dot_field}
-use Rattle.jsonb.specs.PathGrammar.{place, entry, levels, field, entries, wildcard, named_field, bracket_field, inner, spaced_inner, path_root, literal_value, operand, spaced_operand, operator, arithmetic_operator, unary_operator, unary_atom, binary_atom, path_with, group_with, exists_with, atom_with, and_with, or_with, nested_or, expression, root_expression, first_step, front_steps, path_step, plain_path, json_path, spaced}
+use Rattle.jsonb.specs.PathGrammar.{place, entry, levels, field, entries, wildcard, named_field, bracket_field, inner, spaced_inner, path_root, literal_value, operand, spaced_operand, operator, arithmetic_operator, unary_operator, unary_atom, binary_atom, path_with, group_with, exists_with, atom_with, and_with, or_with, nested_or, expression, root_expression, first_step, front_steps, path_step, plain_path, json_path}
 use Rattle.jsonb.specs.PathText.{path_text}
 use Rattle.jsonb_doc.proofs.Tables.{AreRows}
 
 -- the steps of the text, if it is a path; `unfolding read` opens all that it takes
-read : List ℕ → Option (List Step)
+unfoldable pub read : List ℕ → Option (List Step)
 unfolding json_path plain_path path_step front_steps first_step root_expression expression nested_or or_with and_with atom_with exists_with group_with
     path_with binary_atom unary_atom unary_operator operator arithmetic_operator spaced_operand operand literal_value path_root spaced_inner
     inner bracket_field named_field wildcard entries field levels entry place name quoted text units unit escape unicode_escape code_unit

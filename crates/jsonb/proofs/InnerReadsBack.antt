@@ -15,7 +15,7 @@ use Rattle.jsonb_keypath.proofs.NameLemmas.{quoted-quoted_text, quoted-none, nam
 use Rattle.jsonb_keypath.proofs.KeyPathReadsBack.{begins-signed_decimal}
 use Rattle.jsonb_keypath.proofs.RepeatLemmas.{repeat-goes, repeat-ends}
 use Rattle.jsonb_keypath.proofs.YieldsLemmas.{IsName}
-use Rattle.jsonb.specs.PathTree.{Place, from_front, from_last, Entry, single, slice, LevelEnd, level, last_level, Levels, Step, root, current, dot_wildcard, recursive_dot_wildcard, bracket_wildcard, dot_field, colon_field, object_field, array_indices, filter, whole_expression}
+use Rattle.jsonb.specs.PathTree.{Place, from_front, from_last, Entry, single, slice, LevelEnd, level, last_level, Levels, Step, dot_wildcard, recursive_dot_wildcard, bracket_wildcard, dot_field, colon_field, object_field, array_indices}
 use Rattle.jsonb.specs.PathGrammar.{keyword, spaced, place, entry, levels, field, entries, wildcard, named_field, bracket_field, inner}
 use Rattle.jsonb.specs.Private.EntriesText.{entries_text, other_entry_text}
 use Rattle.jsonb.specs.PathText.{place_text, entry_text, levels_text, step_text}
@@ -40,6 +40,11 @@ past-stops test (b ∷ rest) = go (past-stops test rest) (test b) refl where
 pub past-none : (test : ℕ → Bool) (input : List ℕ) → stops test input ≡ true → past test input ≡ input
 past-none test input h = past-run test [] input refl h
 
+-- a first byte that is not white space
+pub no_space : (test : ℕ → Bool) → ((b : ℕ) → test b ≡ true → is_space b ≡ false) → (input : List ℕ) → begins test input ≡ true →
+    past is_space input ≡ input
+no_space test excludes input h = past-none is_space input (stops-from_begins is_space input (begins-excludes test is_space excludes input h))
+
 pub past-space : (input : List ℕ) → stops is_space input ≡ true → past is_space (32 ∷ input) ≡ input
 past-space input h = past-run is_space (32 ∷ []) input refl h
 
@@ -62,20 +67,13 @@ is_place_end b = b == 44 || b == 93 || b == 32
 abbrev pub IsBehindPlace : List ℕ → Type 0
 IsBehindPlace rest = (front is_place_end rest ≡ true) × (begins is_sign (past is_space rest) ≡ false)
 
-number_is_no_space : (b : ℕ) → is_number_start b ≡ true → is_space b ≡ false
-number_is_no_space b h = grind (arith, nat_tests)
-
 no_space-signed_decimal : (i : ℤ) (rest : List ℕ) → IsIndex i → past is_space (signed_decimal i ++ rest) ≡ signed_decimal i ++ rest
 no_space-signed_decimal i rest fits =
-    past-none is_space (signed_decimal i ++ rest) (stops-from_begins is_space (signed_decimal i ++ rest)
-    (begins-excludes is_number_start is_space number_is_no_space (signed_decimal i ++ rest) (begins-signed_decimal i rest fits)))
-
-place_end_is_no_digit : (b : ℕ) → is_place_end b ≡ true → is_ascii_digit b ≡ false
-place_end_is_no_digit b h = grind (arith, nat_tests)
+    no_space is_number_start (λ b e. grind (arith, nat_tests)) (signed_decimal i ++ rest) (begins-signed_decimal i rest fits)
 
 int32-text : (i : ℤ) (rest : List ℕ) → IsIndex i → front is_place_end rest ≡ true → int32 (signed_decimal i ++ rest) ≡ Some (i, rest)
 int32-text i rest is h = integer_within-signed_decimal (2 ^ 31) i rest (omega arith) is
-    (front-stops is_place_end is_ascii_digit place_end_is_no_digit rest h)
+    (front-stops is_place_end is_ascii_digit (λ b e. grind (arith, nat_tests)) rest h)
 
 literal_minus-none : (input : List ℕ) → begins is_sign input ≡ false → literal "-" input ≡ None
 literal_minus-none [] h = refl
@@ -149,11 +147,8 @@ behind_bracket rest = record { place = (refl, refl); no_to = refl; no_space = re
 abbrev is_place_start : ℕ → Bool
 is_place_start b = is_number_start b || b == 108
 
-number_is_place_start : (b : ℕ) → is_number_start b ≡ true → is_place_start b ≡ true
-number_is_place_start b h = rw h refl
-
 begins-place : (p : Place) (rest : List ℕ) → IsPlace p → begins is_place_start (place_text p ++ rest) ≡ true
-begins-place (from_front i) rest is = begins-implies is_number_start is_place_start number_is_place_start (signed_decimal i ++ rest)
+begins-place (from_front i) rest is = begins-implies is_number_start is_place_start (λ b e. rw e refl) (signed_decimal i ++ rest)
     (begins-signed_decimal i rest is)
 begins-place (from_last i) rest is = refl
 
@@ -166,11 +161,8 @@ begins-entry : (e : Entry) (rest : List ℕ) → IsEntry e → begins is_place_s
 begins-entry (single p) rest is = begins-place p rest is
 begins-entry (slice (p, q)) rest is = rw (slice-shown p q rest) (begins-place p _ is.0)
 
-place_start_is_no_space : (b : ℕ) → is_place_start b ≡ true → is_space b ≡ false
-place_start_is_no_space b h = grind (arith, nat_tests)
-
 stops-place : (input : List ℕ) → begins is_place_start input ≡ true → stops is_space input ≡ true
-stops-place input h = stops-from_begins is_space input (begins-excludes is_place_start is_space place_start_is_no_space input h)
+stops-place input h = stops-from_begins is_space input (begins-excludes is_place_start is_space (λ b e. grind (arith, nat_tests)) input h)
 
 entry-text : (e : Entry) (rest : List ℕ) → IsEntry e → IsBehindEntry rest → entry (entry_text e ++ rest) ≡ Some (e, rest)
 unfolding entry ws
@@ -229,16 +221,12 @@ begins-entries (e ∷ es) rest some are = rw (append_assoc (entry_text e) (flat_
 
 -- ---- levels
 
-digit_is_no_space : (b : ℕ) → is_ascii_digit b ≡ true → is_space b ≡ false
+pub digit_is_no_space : (b : ℕ) → is_ascii_digit b ≡ true → is_space b ≡ false
 digit_is_no_space b h = grind (arith, nat_tests)
 
 no_space-decimal : (n : ℕ) (rest : List ℕ) → nat_lt n 256 ≡ true → past is_space (decimal n ++ rest) ≡ decimal n ++ rest
 no_space-decimal n rest fits =
-    past-none is_space (decimal n ++ rest) (stops-from_begins is_space (decimal n ++ rest)
-    (begins-excludes is_ascii_digit is_space digit_is_no_space (decimal n ++ rest) (begins-decimal n rest (omega (
-      arith,
-      (Decides-ltb n 256).0 fits,
-    )))))
+    no_space is_ascii_digit digit_is_no_space (decimal n ++ rest) (begins-decimal n rest (omega (arith, (Decides-ltb n 256).0 fits)))
 
 nat8-text : (n : ℕ) (rest : List ℕ) → nat_lt n 256 ≡ true → stops is_ascii_digit rest ≡ true → nat8 (decimal n ++ rest) ≡ Some (n, rest)
 nat8-text n rest fits h = natural_below-decimal 256 n rest (omega arith) fits h
@@ -413,8 +401,6 @@ bracket_field-text text rest is = rw (quoted-quoted_text text (93 ∷ rest) is.0
 
 pub inner-text : (s : Step) (rest : List ℕ) → IsInner s → front is_step_end rest ≡ true → inner (step_text s ++ rest) ≡ Some (s, rest)
 unfolding inner
-inner-text root rest is h = absurd is
-inner-text current rest is h = absurd is
 inner-text dot_wildcard rest is h = rw (one_star rest (begins-front is_step_end (λ b. b == 42) step_end_is_no_star rest h)) refl
 inner-text (recursive_dot_wildcard l) rest is h = rw (recursive-text l rest is (begins-front is_step_end
     (λ b. b == 123) step_end_is_no_brace rest h)) refl
@@ -438,5 +424,4 @@ inner-text (array_indices es) rest is h =
       bracket_is_no_named_field (entries_text es ++ 93 ∷ rest),
       entries-text es rest is.0 is.1,
     ) refl
-inner-text (filter e) rest is h = absurd is
-inner-text (whole_expression e) rest is h = absurd is
+inner-text _ rest is h = absurd is

@@ -1,42 +1,43 @@
 -- A step without an expression reads a byte at least.
-use Rattle.std.proofs.Common.{◌^◌, [], ◌∷◌, Some, None}
+use Rattle.std.proofs.Common.{ℕ, ◌^◌, [], ◌∷◌, Some, None}
 use Rattle.std.specs.Prelude.{codes}
-use Rattle.jsonb_keypath.specs.Rules.{Rule, give, ◌>>=◌, ◌>>◌, optional, literal, repeat}
+use Rattle.jsonb_keypath.specs.Rules.{Rule, give, ◌>>=◌, ◌>>◌, optional, bytes, literal, repeat}
 use Rattle.jsonb_keypath.specs.Tokens.{ws, nat8, name, quoted}
 use Rattle.jsonb_keypath.specs.TokenLaws.{ReadsSome}
-use Rattle.jsonb_keypath.proofs.ReadsLemmas.{NeverGrows, some-no_more, grows-give, grows-then, some-then, grows-choice, some-choice, repeated-repeat}
+use Rattle.jsonb_keypath.proofs.ReadsLemmas.{NeverGrows, some-no_more, grows-give, grows-then, some-then, grows-choice, some-choice}
 use Rattle.jsonb_keypath.proofs.CutLemmas.{some-literal}
-use Rattle.jsonb_keypath.proofs.GrowsLemmas.{run-no_more, grows-ws, some-name, some-quoted, some-natural_below}
+pub use Rattle.jsonb_keypath.proofs.FrontLemmas.{grows-repeat}
+use Rattle.jsonb_keypath.proofs.GrowsLemmas.{grows-ws, some-name, some-quoted, some-natural_below}
 use Rattle.jsonb.specs.PathTree.{colon_field, dot_field, object_field, array_indices}
 use Rattle.jsonb.specs.PathGrammar.{keyword, spaced, level_end, levels, wildcard, field, named_field, entry, entries, bracket_field, inner, spaced_inner}
 use Rattle.jsonb.specs.Private.Repeated.{another_entry, entry_list}
 use Rattle.jsonb.proofs.EntryReadsSome.{some-keyword, some-spaced, some-entry, some-another_entry}
 
-pub grows-repeat : {A : Type 0} (rule : Rule A) → ReadsSome rule → NeverGrows (repeat rule)
-grows-repeat rule reads input values rest e = run-no_more rule reads input values rest (repeated-repeat rule reads input values rest e).0
+pub past_ws : {A : Type 0} {next : Rule A} → NeverGrows next → NeverGrows (ws >> next)
+past_ws h = grows-then ws _ grows-ws (λ _. h)
+
+pub past_byte : {A : Type 0} {next : Rule A} (b : ℕ) → NeverGrows next → NeverGrows (bytes (b ∷ []) >> next)
+past_byte b h = grows-then (bytes (b ∷ [])) _ (some-no_more (bytes (b ∷ [])) (some-literal b [])) (λ _. h)
 
 some-nat8 : ReadsSome nat8
 some-nat8 = some-natural_below (2 ^ 8)
 
 grows-closing : {A : Type 0} (a : A) → NeverGrows (ws >>= λ _. literal "}" >>= λ _. give a)
-grows-closing a = grows-then ws _ grows-ws (λ _. grows-then (literal "}") _ (some-no_more (literal "}") (some-literal 125 []))
-    (λ _. grows-give a))
+grows-closing a = past_ws (past_byte 125 (grows-give a))
 
 grows-optional : {A : Type 0} (rule : Rule A) → NeverGrows rule → NeverGrows (optional rule)
 grows-optional rule h = grows-choice _ _ (grows-then rule _ h (λ a. grows-give (Some a))) (grows-give None)
 
 grows-level_end : NeverGrows level_end
 grows-level_end =
-    grows-then ws _ grows-ws
-    (λ _. grows-then (keyword "to") _ (some-no_more (keyword "to") (some-keyword 116 (codes "o"))) (λ _. grows-then ws _ grows-ws
-    (λ _. grows-choice _ _ (grows-then nat8 _ (some-no_more nat8 some-nat8) (λ n. grows-give _))
+    past_ws (grows-then (keyword "to") _ (some-no_more (keyword "to") (some-keyword 116 (codes "o"))) (λ _. past_ws
+    (grows-choice _ _ (grows-then nat8 _ (some-no_more nat8 some-nat8) (λ n. grows-give _))
     (grows-then (keyword "last") _ (some-no_more (keyword "last") (some-keyword 108 (codes "ast"))) (λ _. grows-give _)))))
 
 some-levels : ReadsSome levels
 unfolding levels
 some-levels =
-    some-then (literal "{") _ (some-literal 123 []) (λ _. grows-then ws _ grows-ws
-    (λ _. grows-then nat8 _ (some-no_more nat8 some-nat8)
+    some-then (literal "{") _ (some-literal 123 []) (λ _. past_ws (grows-then nat8 _ (some-no_more nat8 some-nat8)
     (λ n. grows-then (optional level_end) _ (grows-optional level_end grows-level_end) (λ end. grows-closing _))))
 
 some-wildcard : ReadsSome wildcard
@@ -45,9 +46,7 @@ some-wildcard =
     some-choice _ _ (some-then (literal ".**") _ (some-literal 46 (42 ∷ 42 ∷ []))
     (λ _. grows-then (optional levels) _ (grows-optional levels (some-no_more levels some-levels)) (λ found. grows-give _)))
     (some-choice _ _ (some-then (literal ".*") _ (some-literal 46 (42 ∷ [])) (λ _. grows-give _))
-    (some-then (literal "[") _ (some-literal 91 []) (λ _. grows-then ws _ grows-ws
-    (λ _. grows-then (literal "*") _ (some-no_more (literal "*") (some-literal 42 [])) (λ _. grows-then ws _ grows-ws
-    (λ _. grows-then (literal "]") _ (some-no_more (literal "]") (some-literal 93 [])) (λ _. grows-give _)))))))
+    (some-then (literal "[") _ (some-literal 91 []) (λ _. past_ws (past_byte 42 (past_ws (past_byte 93 (grows-give _)))))))
 
 some-field : ReadsSome field
 unfolding field
@@ -68,13 +67,12 @@ some-entry_list = some-then (spaced entry) _ (some-spaced entry some-entry)
 some-entries : ReadsSome entries
 unfolding entries
 some-entries = some-then (literal "[") _ (some-literal 91 []) (λ _. grows-then entry_list _ (some-no_more entry_list some-entry_list)
-    (λ found. grows-then (literal "]") _ (some-no_more (literal "]") (some-literal 93 [])) (λ _. grows-give found)))
+    (λ found. past_byte 93 (grows-give found)))
 
 some-bracket_field : ReadsSome bracket_field
 unfolding bracket_field
-some-bracket_field = some-then (literal "[") _ (some-literal 91 []) (λ _. grows-then ws _ grows-ws
-    (λ _. grows-then quoted _ (some-no_more quoted some-quoted) (λ text. grows-then ws _ grows-ws
-    (λ _. grows-then (literal "]") _ (some-no_more (literal "]") (some-literal 93 [])) (λ _. grows-give (object_field text))))))
+some-bracket_field = some-then (literal "[") _ (some-literal 91 []) (λ _. past_ws (grows-then quoted _ (some-no_more quoted some-quoted)
+    (λ text. past_ws (past_byte 93 (grows-give (object_field text))))))
 
 pub some-inner : ReadsSome inner
 unfolding inner

@@ -20,20 +20,16 @@ two_parts (Err e) p f after = refl
 abbrev jump_at : ℕ → Bool → Jump
 jump_at left truth = record { left = left; truth = truth }
 
-same_after : {A B : Type 0} (o : Outcome A) (f g : A → Outcome B) → ((x : A) → f x ≡ g x) → and_then o f ≡ and_then o g
+pub same_after : {A B : Type 0} (o : Outcome A) (f g : A → Outcome B) → ((x : A) → f x ≡ g x) → and_then o f ≡ and_then o g
 same_after (Ok x) f g h = h x
 same_after (Err e) f g h = refl
 
 -- the branches of an expression precede the others
 pub longer : (e : Expression) (t f : ℕ) (others : List Branch) → length others ≤ length (branches_of e t f others)
 longer (binary and_op l r) t f others =
-    let right = longer r t f others in
-    let left = longer l (length (branches_of r t f others)) f (branches_of r t f others) in
-    omega (arith, right, left)
+    omega (arith, longer r t f others, longer l (length (branches_of r t f others)) f (branches_of r t f others))
 longer (binary or_op l r) t f others =
-    let right = longer r t f others in
-    let left = longer l t (length (branches_of r t f others)) (branches_of r t f others) in
-    omega (arith, right, left)
+    omega (arith, longer r t f others, longer l t (length (branches_of r t f others)) (branches_of r t f others))
 longer e t f others = omega arith
 
 module _ (mode : Mode) (top item : Tree) where
@@ -57,35 +53,29 @@ module _ (mode : Mode) (top item : Tree) where
       ap (λ here. and_then (truth mode e top item) (λ b. evaluated mode top item others (if here then taken t f b else passed go b)))
       (lt-leb (length (record { condition = e; on_true = t; on_false = f } ∷ others)) go.left (omega (arith, short)))
 
+  -- the right side of two that a jump passes over
+  passed-right : (join : Bool → Bool → Bool) (r : Expression) (t f : ℕ) (others : List Branch) (go : Jump)
+      → evaluated mode top item (branches_of r t f others) (Some go) ≡ and_then (truth mode r top item) (λ b. evaluated mode top item others (passed go b))
+      → (a : Truth) → evaluated mode top item (branches_of r t f others) (passed go a)
+      ≡ and_then (truth mode r top item) (λ b. evaluated mode top item others (passed go (joined_truth join a b)))
+  passed-right join r t f others go right None = evaluated-unknown r t f others
+  passed-right join r t f others go right (Some a) = right ∙ same_after (truth mode r top item) _ _ both
+    where
+      both : (b : Truth) → evaluated mode top item others (passed go b) ≡ evaluated mode top item others (passed go (joined_truth join (Some a) b))
+      both (Some b) = refl
+      both None = refl
+
   -- branches that a jump passes over
   evaluated-passed : (e : Expression) (t f : ℕ) (others : List Branch) (go : Jump) → go.left ≤ length others
       → evaluated mode top item (branches_of e t f others) (Some go) ≡ and_then (truth mode e top item) (λ b. evaluated mode top item others (passed go b))
   evaluated-passed (binary and_op l r) t f others go short =
       evaluated-passed l (length (branches_of r t f others)) f (branches_of r t f others) go (let right = longer r t f others in omega (arith, short, right))
-      ∙ same_after (truth mode l top item) _ _ (after_left (evaluated-passed r t f others go short))
+      ∙ same_after (truth mode l top item) _ _ (passed-right ◌&&◌ r t f others go (evaluated-passed r t f others go short))
       ∙ two_parts (truth mode l top item) (truth mode r top item) (joined_truth ◌&&◌) (λ c. evaluated mode top item others (passed go c))
-    where
-      both : (a : Bool) (b : Truth) → evaluated mode top item others (passed go b) ≡ evaluated mode top item others (passed go (joined_truth ◌&&◌ (Some a) b))
-      both a (Some b) = refl
-      both a None = refl
-
-      after_left : (evaluated mode top item (branches_of r t f others) (Some go) ≡ and_then (truth mode r top item) (λ b. evaluated mode top item others (passed go b))) → (a : Truth) → evaluated mode top item (branches_of r t f others) (passed go a)
-          ≡ and_then (truth mode r top item) (λ b. evaluated mode top item others (passed go (joined_truth ◌&&◌ a b)))
-      after_left right None = evaluated-unknown r t f others
-      after_left right (Some a) = right ∙ same_after (truth mode r top item) _ _ (both a)
   evaluated-passed (binary or_op l r) t f others go short =
       evaluated-passed l t (length (branches_of r t f others)) (branches_of r t f others) go (let right = longer r t f others in omega (arith, short, right))
-      ∙ same_after (truth mode l top item) _ _ (after_left (evaluated-passed r t f others go short))
+      ∙ same_after (truth mode l top item) _ _ (passed-right ◌||◌ r t f others go (evaluated-passed r t f others go short))
       ∙ two_parts (truth mode l top item) (truth mode r top item) (joined_truth ◌||◌) (λ c. evaluated mode top item others (passed go c))
-    where
-      both : (a : Bool) (b : Truth) → evaluated mode top item others (passed go b) ≡ evaluated mode top item others (passed go (joined_truth ◌||◌ (Some a) b))
-      both a (Some b) = refl
-      both a None = refl
-
-      after_left : (evaluated mode top item (branches_of r t f others) (Some go) ≡ and_then (truth mode r top item) (λ b. evaluated mode top item others (passed go b))) → (a : Truth) → evaluated mode top item (branches_of r t f others) (passed go a)
-          ≡ and_then (truth mode r top item) (λ b. evaluated mode top item others (passed go (joined_truth ◌||◌ a b)))
-      after_left right None = evaluated-unknown r t f others
-      after_left right (Some a) = right ∙ same_after (truth mode r top item) _ _ (both a)
   evaluated-passed e t f others go short = leaf-passed e t f others go short
 
   leaf-taken : (e : Expression) (t f : ℕ) (others : List Branch) (go : Jump) → length (branches_of e t f others) ≤ go.left

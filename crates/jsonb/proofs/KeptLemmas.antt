@@ -44,14 +44,14 @@ module _ (mode : Mode) (top : Tree) where
   same_part (q ∷ ps) (f ∷ fs) more e p zero a d g =
       let e_is : f ≡ e = cc in
       let p_is : q ≡ p = cc in
-      subst (λ x. IsSame mode top x e) p_is (subst (λ x. IsSame mode top q x) e_is a.0)
+      subst (λ x. IsSame mode top x e) p_is (rw e_is at a.0)
   same_part (q ∷ ps) (f ∷ fs) more e p (suc n) a d g = same_part ps fs more e p n a.1 d g
 
   -- one more part, after all existing
   pub one_part : (ps : List CachedPart) (all more : List Expression) (e : Expression) (p : CachedPart) → AreSame mode top ps all → (e ∷ more) ≡ drop (length ps) all
       → IsSame mode top p e → AreSame mode top (ps ++ p ∷ []) all
   one_part [] [] more e p a d s = cc
-  one_part [] (f ∷ fs) more e p a d s = let e_is : e ≡ f = cc in (subst (λ x. IsSame mode top p x) e_is s, tt)
+  one_part [] (f ∷ fs) more e p a d s = let e_is : e ≡ f = cc in (rw e_is at s, tt)
   one_part (q ∷ ps) [] more e p a d s = absurd a
   one_part (q ∷ ps) (f ∷ fs) more e p a d s = (a.0, one_part ps fs more e p a.1 d s)
 
@@ -61,9 +61,8 @@ passed {A} all more e n d = go all n d ∙ ap (λ m. drop m all) (sym (add-one n
   where
     go : (all : List A) (n : ℕ) → (e ∷ more) ≡ drop n all → more ≡ drop (suc n) all
     go [] zero d = cc
-    go [] (suc n) d = cc
-    go (f ∷ fs) zero d = cc
     go (f ∷ fs) (suc n) d = go fs n d
+    go _ _ d = cc
 
 -- no part is there: the place is after the last
 pub at_last : (ps : List CachedPart) (n : ℕ) → slice_get ps n ≡ None → n ≤ length ps → n ≡ length ps
@@ -122,8 +121,7 @@ module _ (mode : Mode) (top u : Tree) (e : Expr) (op : BinaryOperator) (l r : Bo
   pub kept_right : p ≡ part.Right values → truth mode (expression_view e) top u
       ≡ and_then (operand_values mode (expression_view l.value) top u) (λ ls. Ok (compare op ls (values_view values)))
   kept_right kept =
-      let known = subst (λ q. IsSame mode top q (math.binary op (expression_view l.value) (expression_view r.value))) kept
-      (subst (λ x. IsSame mode top p x) (binary_is e op l r is) same) in
+      let known = rw kept at (rw (binary_is e op l r is) at same) in
       both ∙ (λ i. and_then (operand_values mode (expression_view l.value) top u)
       (λ ls. compared_right op (values_view values) ls (operand_values mode (expression_view r.value) top u) (known u) i))
 

@@ -37,7 +37,6 @@ down_of text (Some e) = down text e
 
 held_down : (text : Expression → List ℕ) (s : Step) → step_down text s ≡ down_of text (held_by s)
 held_down text (filter e) = refl
-held_down text (whole_expression e) = refl
 held_down text s = refl
 
 last_down : (text : Expression → List ℕ) (ss : Steps) → steps_down text ss ≡ down_of text (held_by_last (last_step ss))
@@ -70,7 +69,6 @@ parts_of (Some e) = expression_parts e
 
 held_parts : (s : Step) → parts_of (held_by s) ≤ step_parts s
 held_parts (filter e) = omega arith
-held_parts (whole_expression e) = omega arith
 held_parts s = omega arith
 
 last_parts : (ss : Steps) → parts_of (held_by_last (last_step ss)) ≤ steps_parts ss
@@ -80,10 +78,8 @@ last_parts (step s (step t ts)) = let rest = last_parts (step t ts) in omega ari
 
 pub fewer_parts : (e : Expression) → parts_of (last_of e) < expression_parts e
 fewer_parts (paths ss) = let held = last_parts ss in omega arith
-fewer_parts (value l) = omega arith
-fewer_parts (binary op left right) = omega arith
-fewer_parts (unary op e) = omega arith
 fewer_parts (exists ss) = let held = last_parts ss in omega arith
+fewer_parts _ = omega arith
 
 -- ---- closing parentheses, in any order
 
@@ -233,16 +229,13 @@ step_split s t = and_true (is_same_step s t)
 
 steps_split : (ss ts : Steps) →
     are_same_steps ss ts ≡ are_same_before ss ts && same_lasts (held_by_last (last_step ss)) (held_by_last (last_step ts))
-steps_split no_steps no_steps = refl
 steps_split no_steps (step t no_steps) = refl
-steps_split no_steps (step t (step u ts)) = refl
-steps_split (step s no_steps) no_steps = refl
-steps_split (step s (step r ss)) no_steps = refl
 steps_split (step s no_steps) (step t no_steps) = sym (and_true (is_same_step s t)) ∙ step_split s t
 steps_split (step s no_steps) (step t (step u ts)) = and_false (is_same_step s t)
 steps_split (step s (step r ss)) (step t no_steps) = and_false (is_same_step s t)
 steps_split (step s (step r ss)) (step t (step u ts)) = ap (λ b. is_same_step s t && b) (steps_split (step r ss) (step u ts))
     ∙ regroup (is_same_step s t) (are_same_steps (but_last (step r ss)) (but_last (step u ts))) _ _
+steps_split _ _ = refl
 
 same_split : (e f : Expression) → is_same_expression e f ≡ is_same_before e f && same_lasts (last_of e) (last_of f)
 same_split (paths ss) (paths ts) = steps_split ss ts
@@ -273,14 +266,12 @@ next_parts None = 0
 next_parts (Some p) = parts p.0.now
 
 pub same_zip : (next other : Option (Bor Expr)) → same_next (option_zip next other) ≡ same_lasts (seen next) (seen other)
-same_zip None other = refl
-same_zip (Some e) None = refl
 same_zip (Some e) (Some f) = refl
+same_zip _ _ = refl
 
 pub zip_parts : (next other : Option (Bor Expr)) → next_parts (option_zip next other) ≤ parts_of (seen next)
-zip_parts None other = omega arith
-zip_parts (Some e) None = omega arith
 zip_parts (Some e) (Some f) = omega arith
+zip_parts _ _ = omega arith
 
 -- ---- lists of steps that the code has are the same before what the last ones hold
 

@@ -1,9 +1,8 @@
 -- The items below an item, by its children.
 use Rattle.std.proofs.Common.{◌≡◌, ℕ, ◌+◌, Bool, not, ◌&&◌, true, false, List, [], ◌∷◌, ◌++◌, flat_map, Option, Some, None, refl, ap, ◌∙◌, append-nil, arith, if◌then◌else◌}
-use Rattle.std.specs.Prelude.{nat_le}
 use Rattle.std.proofs.lemmas.Bool.Decides.{nat_tests}
 use Rattle.jsonb_doc.specs.Tree as tree
-use Rattle.jsonb_doc.specs.Tree.{Tree, Trees, Pairs, null, boolean, number, text, extension, array, object, no_trees, no_pairs, pair, elements, values, children_of}
+use Rattle.jsonb_doc.specs.Tree.{Tree, Trees, Pairs, array, object, no_trees, no_pairs, pair, elements, values, children_of}
 use Rattle.jsonb.specs.LevelTable.{at_level}
 use Rattle.jsonb.specs.PathTree.{Levels, LevelEnd, level, last_level}
 use Rattle.jsonb.specs.Private.Below.{is_shut}
@@ -82,8 +81,7 @@ module _ (levels : Option Levels) where
     where
       go : (a : Bool × Bool) → answer_at levels n ≡ a → not a.0 && not a.1 ≡ true → preorder levels n t ≡ []
       go (false, false) is h = nothing n t (ap (λ r. r.0) is) (ap (λ r. r.1) is)
-      go (true, b) is h = cc
-      go (false, true) is h = cc
+      go _ is h = cc
 
   shut-elements : (n : ℕ) (ts : Trees) → is_shut levels n ≡ true → preorder_elements levels n ts ≡ []
   shut-elements n no_trees h = refl

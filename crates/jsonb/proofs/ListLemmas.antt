@@ -76,8 +76,7 @@ members-append ss top xs ys h = steps_in_parts ss top xs ys (members_are_total s
 first_passes : (xs ys : List Truth) → first_decisive xs ≡ Some false → first_decisive (xs ++ ys) ≡ first_decisive ys
 first_passes [] ys h = refl
 first_passes (Some false ∷ xs) ys h = first_passes xs ys h
-first_passes (Some true ∷ xs) ys h = cc
-first_passes (None ∷ xs) ys h = cc
+first_passes _ ys h = cc
 
 first_stops : (xs ys : List Truth) → (first_decisive xs ≡ Some false → ⊥) → first_decisive (xs ++ ys) ≡ first_decisive xs
 first_stops [] ys h = absurd (h refl)
@@ -99,14 +98,12 @@ compare_stops op rs xs ys b is decides =
 
 -- a test whether a result is known to be false
 pub is_false : (b : Truth) → not (option_eq beq b (Some false)) ≡ false → b ≡ Some false
-is_false (Some true) h = cc
 is_false (Some false) h = refl
-is_false None h = cc
+is_false _ h = cc
 
 pub is_not_false : (b : Truth) → not (option_eq beq b (Some false)) ≡ true → b ≡ Some false → ⊥
-is_not_false (Some true) h is = cc
 is_not_false (Some false) h is = cc
-is_not_false None h is = cc
+is_not_false _ h is = cc
 
 module _ (c : MemberCompared) where
   -- The results of the values of items.

@@ -10,7 +10,7 @@ use Rattle.jsonb.specs.PathTree as math
 use Rattle.jsonb.specs.PathTree.{BinaryOp, Expression}
 use Rattle.jsonb.specs.Proofs.PathOrder.{antisymmetric}
 use Rattle.jsonb.specs.Compare.{Truth, value_order, truth_of_order, is_container, pair_truth, first_decisive, compare}
-use Rattle.jsonb.specs.Values.{Value, null, boolean, number, text, container, values_of_item}
+use Rattle.jsonb.specs.Values.{Value, null, values_of_item}
 use Rattle.jsonb.specs.Meaning.{steps_meaning, truth, operand_values}
 use Rattle.jsonb.specs.Private.Compared.{mirrored}
 use Rattle.jsonb.specs.Private.FilterCache.{is_comparison}

@@ -12,14 +12,14 @@ use Rattle.jsonb_keypath.specs.KeyPathText.{quoted_text}
 use Rattle.jsonb_keypath.proofs.ReadBackLemmas.{neither, front, stops, front-stops, front-implies, begins, begins-implies, begins-excludes, stops-from_begins, begins-decimal, is_number_start, is_sign, natural_below-decimal, natural_below-none, integer_within-signed_decimal, integer_within-none}
 use Rattle.jsonb_keypath.proofs.NameLemmas.{quoted-quoted_text, quoted-none}
 use Rattle.jsonb_keypath.proofs.RepeatLemmas.{repeat-goes, repeat-ends}
-use Rattle.jsonb_doc.specs.declared.number.Number.TheVariants.{Int64, UInt64, Decimal64, Decimal128}
-use Rattle.jsonb.specs.PathTree.{Literal, null, boolean, number, string, raw, BinaryOp, and_op, or_op, UnaryOp, plus, minus, Step, root, current, filter, whole_expression, Steps, no_steps, step, Expression, paths, value, binary, unary, exists, steps_of}
+use Rattle.jsonb_doc.specs.declared.number.Number.TheVariants.{Int64, UInt64}
+use Rattle.jsonb.specs.PathTree.{Literal, null, boolean, number, string, BinaryOp, and_op, or_op, UnaryOp, plus, minus, Step, root, current, filter, whole_expression, Steps, no_steps, step, Expression, paths, value, binary, unary, steps_of}
 use Rattle.jsonb.specs.PathGrammar.{spaced, inner, wildcard, named_field, bracket_field, entries, spaced_inner, path_root, literal_value, operand, spaced_operand, operator, arithmetic_operator, unary_operator, unary_atom, binary_atom}
 use Rattle.jsonb.specs.PathText.{step_text, steps_text, expression_text, literal_text, operator_text, joins}
 use Rattle.jsonb.specs.PathLaws.{settled_literal}
 use Rattle.jsonb.proofs.SettledPaths.{settled_step, settled_steps, settled}
 use Rattle.jsonb.proofs.PathShape.{IsInner, AreInner, IsBeginning, IsLiteral, IsOperand, is_signed}
-use Rattle.jsonb.proofs.InnerReadsBack.{past-none, past-space, spaced-reads, spaced-none, past-stops, is_step_end, inner-text}
+use Rattle.jsonb.proofs.InnerReadsBack.{past-none, no_space, past-space, spaced-reads, spaced-none, past-stops, is_step_end, inner-text}
 
 -- The rule reads the value, and what it leaves is the rest except for spaces at the front.
 pub record ReadsTo {A : Type 0} (rule : Rule A) (input : List ℕ) (a : A) (rest : List ℕ) : Type 0 where
@@ -81,9 +81,6 @@ pub begins-some : (test : ℕ → Bool) (xs : List ℕ) → begins test (xs ++ [
 begins-some test [] h = cc
 begins-some test (x ∷ xs) h = omega arith
 
-inner_start_is_no_space : (b : ℕ) → is_inner_start b ≡ true → is_space b ≡ false
-inner_start_is_no_space b h = grind (arith, nat_tests)
-
 inner_start_is_step_end : (b : ℕ) → is_inner_start b ≡ true → is_step_end b ≡ true
 inner_start_is_step_end b h = grind (arith, nat_tests)
 
@@ -93,8 +90,7 @@ front-from_begins test other h [] e = cc
 front-from_begins test other h (b ∷ rest) e = h b e
 
 no_space-inner : (s : Step) (rest : List ℕ) → IsInner s → past is_space (step_text s ++ rest) ≡ step_text s ++ rest
-no_space-inner s rest is = past-none is_space (step_text s ++ rest) (stops-from_begins is_space (step_text s ++ rest)
-    (begins-excludes is_inner_start is_space inner_start_is_no_space (step_text s ++ rest) (begins-inner s rest is)))
+no_space-inner s rest is = no_space is_inner_start (λ b e. grind (arith, nat_tests)) (step_text s ++ rest) (begins-inner s rest is)
 
 pub spaced_inner-text : (s : Step) (rest : List ℕ) → IsInner s → front is_step_end rest ≡ true →
     spaced_inner (step_text s ++ rest) ≡ Some (s, past is_space rest)
@@ -148,7 +144,7 @@ inners-text (step s ss) rest are h =
     reads_past_rest (repeat spaced_inner) (steps_text (step s ss) ++ rest) (steps_list (step s ss)) rest (ap (repeat spaced_inner)
     (sym here) ∙ inners_past-text (step s ss) rest are h)
 
-settled-inner : (s : Step) → IsInner s → settled_step s ≡ s
+pub settled-inner : (s : Step) → IsInner s → settled_step s ≡ s
 settled-inner (filter e) is = absurd is
 settled-inner (whole_expression e) is = absurd is
 settled-inner _ is = refl
@@ -205,9 +201,6 @@ literal-text (number (Int64 (negsuc n))) rest is h =
       integer_within-signed_decimal (2 ^ 63) (negsuc n) rest
           (omega arith) is (front-stops is_operand_end is_ascii_digit operand_end_is_no_digit rest h),
     ) refl
-literal-text (number (Decimal64 d)) rest is h = absurd is
-literal-text (number (Decimal128 d)) rest is h = absurd is
-literal-text (raw document) rest is h = absurd is
 literal-text (string text) rest is h =
     rw (
       natural_below-none (2 ^ 64) (quoted_text text ++ rest) refl,
@@ -215,6 +208,7 @@ literal-text (string text) rest is h =
           (quoted_text text ++ rest) refl,
       quoted-quoted_text text rest is.0 is.1,
     ) refl
+literal-text _ rest is h = absurd is
 
 -- ---- operands
 
@@ -262,18 +256,13 @@ pub not_begins : (test other : ℕ → Bool) → ((b : ℕ) → test b ≡ false
 not_begins test other h [] e = refl
 not_begins test other h (b ∷ rest) e = h b e
 
-no_operand_is_no_root : (b : ℕ) → is_operand_start b ≡ false → is_path_root b ≡ false
-no_operand_is_no_root b h = (neither (is_path_root b) (is_literal_start b) h).0
-
-no_operand_is_no_literal : (b : ℕ) → is_operand_start b ≡ false → is_literal_start b ≡ false
-no_operand_is_no_literal b h = (neither (is_path_root b) (is_literal_start b) h).1
-
 pub operand-none : (is_in_filter : Bool) (input : List ℕ) → begins is_operand_start input ≡ false → operand is_in_filter input ≡ None
 unfolding operand
 operand-none is_in_filter input h =
+    let no = λ (b : ℕ) (e : is_operand_start b ≡ false). neither (is_path_root b) (is_literal_start b) e in
     rw (
-      path_root-none is_in_filter input (not_begins is_operand_start is_path_root no_operand_is_no_root input h),
-      literal_value-none input (not_begins is_operand_start is_literal_start no_operand_is_no_literal input h),
+      path_root-none is_in_filter input (not_begins is_operand_start is_path_root (λ b e. (no b e).0) input h),
+      literal_value-none input (not_begins is_operand_start is_literal_start (λ b e. (no b e).1) input h),
     ) refl
 
 pub path_root-text : (is_in_filter : Bool) (s : Step) (rest : List ℕ) → IsBeginning is_in_filter s →
@@ -310,12 +299,9 @@ operand-paths is_in_filter s ss rest is are h =
       no_longer = inners.no_longer;
     }
 
-digit_is_literal_start : (b : ℕ) → is_ascii_digit b ≡ true → is_literal_start b ≡ true
-digit_is_literal_start b h = grind (arith, nat_tests)
-
 begins-number : (n : ℕ) (rest : List ℕ) → n < 2 ^ 64 → begins is_literal_start (decimal n ++ rest) ≡ true
-begins-number n rest fits = begins-implies is_ascii_digit is_literal_start digit_is_literal_start (decimal n ++ rest)
-    (begins-decimal n rest fits)
+begins-number n rest fits = begins-implies is_ascii_digit is_literal_start
+    (λ b e. grind (arith, nat_tests)) (decimal n ++ rest) (begins-decimal n rest fits)
 
 begins-literal : (l : Literal) (rest : List ℕ) → IsLiteral l → begins is_literal_start (literal_text l ++ rest) ≡ true
 begins-literal null rest is = refl
@@ -325,10 +311,8 @@ begins-literal (number (UInt64 n)) rest is = rw (whole_text n) (begins-number n 
 begins-literal (number (Int64 (pos n))) rest is =
     rw (whole_text n) (begins-number n rest (omega (arith, (Decides-ltb n 9223372036854775808).0 is)))
 begins-literal (number (Int64 (negsuc n))) rest is = refl
-begins-literal (number (Decimal64 d)) rest is = absurd is
-begins-literal (number (Decimal128 d)) rest is = absurd is
-begins-literal (raw document) rest is = absurd is
 begins-literal (string text) rest is = refl
+begins-literal _ rest is = absurd is
 
 literal_is_no_root : (b : ℕ) → is_literal_start b ≡ true → is_path_root b ≡ false
 literal_is_no_root b h = grind (arith, nat_tests)
@@ -336,7 +320,6 @@ literal_is_no_root b h = grind (arith, nat_tests)
 pub operand-text : (is_in_filter : Bool) (e : Expression) (rest : List ℕ) → IsOperand is_in_filter e → IsBehindOperand rest →
     ReadsTo (operand is_in_filter) (expression_text e ++ rest) (settled e) rest
 unfolding operand
-operand-text is_in_filter (paths no_steps) rest is h = absurd is
 operand-text is_in_filter (paths (step s ss)) rest is h = operand-paths is_in_filter s ss rest is.0 is.1 h
 operand-text is_in_filter (value l) rest is h =
     reads_to_rest (operand is_in_filter) (literal_text l ++ rest) (value (settled_literal l)) rest
@@ -345,27 +328,19 @@ operand-text is_in_filter (value l) rest is h =
           (literal_text l ++ rest) (begins-literal l rest is)),
       literal-text l rest is h.0,
     ) refl)
-operand-text is_in_filter (binary op left right) rest is h = absurd is
-operand-text is_in_filter (unary op e) rest is h = absurd is
-operand-text is_in_filter (exists ss) rest is h = absurd is
-
-root_is_operand_start : (b : ℕ) → is_path_root b ≡ true → is_operand_start b ≡ true
-root_is_operand_start b h = rw h refl
+operand-text is_in_filter _ rest is h = absurd is
 
 literal_is_operand_start : (b : ℕ) → is_literal_start b ≡ true → is_operand_start b ≡ true
 literal_is_operand_start b h = grind (arith, nat_tests)
 
 pub begins-operand : (is_in_filter : Bool) (e : Expression) (rest : List ℕ) → IsOperand is_in_filter e →
     begins is_operand_start (expression_text e ++ rest) ≡ true
-begins-operand is_in_filter (paths no_steps) rest is = absurd is
 begins-operand is_in_filter (paths (step s ss)) rest is =
-    rw (append_assoc (step_text s) (steps_text ss) rest) (begins-implies is_path_root is_operand_start root_is_operand_start
+    rw (append_assoc (step_text s) (steps_text ss) rest) (begins-implies is_path_root is_operand_start (λ b e. rw e refl)
     (step_text s ++ (steps_text ss ++ rest)) (begins-beginning is_in_filter s (steps_text ss ++ rest) is.0))
 begins-operand is_in_filter (value l) rest is = begins-implies is_literal_start is_operand_start literal_is_operand_start
     (literal_text l ++ rest) (begins-literal l rest is)
-begins-operand is_in_filter (binary op left right) rest is = absurd is
-begins-operand is_in_filter (unary op e) rest is = absurd is
-begins-operand is_in_filter (exists ss) rest is = absurd is
+begins-operand is_in_filter _ rest is = absurd is
 
 root_is_no_sign : (b : ℕ) → is_path_root b ≡ true → is_sign b ≡ false
 root_is_no_sign b h = grind (arith, nat_tests)
@@ -376,7 +351,6 @@ digit_is_no_sign b h = grind (arith, nat_tests)
 -- no sign before what may be a left side
 pub unsigned_operand : (is_in_filter : Bool) (e : Expression) (rest : List ℕ) → IsOperand is_in_filter e → is_signed e ≡ false →
     begins is_sign (expression_text e ++ rest) ≡ false
-unsigned_operand is_in_filter (paths no_steps) rest is h = absurd is
 unsigned_operand is_in_filter (paths (step s ss)) rest is h =
     rw (append_assoc (step_text s) (steps_text ss) rest) (begins-excludes is_path_root is_sign root_is_no_sign (step_text s ++
     (steps_text ss ++ rest)) (begins-beginning is_in_filter s (steps_text ss ++ rest) is.0))
@@ -389,21 +363,13 @@ unsigned_operand is_in_filter (value (number (UInt64 n))) rest is h =
       (Decides-ltb n 18446744073709551616).0 is,
     ))))
 unsigned_operand is_in_filter (value (number (Int64 z))) rest is h = cc
-unsigned_operand is_in_filter (value (number (Decimal64 d))) rest is h = absurd is
-unsigned_operand is_in_filter (value (number (Decimal128 d))) rest is h = absurd is
-unsigned_operand is_in_filter (value (raw document)) rest is h = absurd is
 unsigned_operand is_in_filter (value (string text)) rest is h = refl
-unsigned_operand is_in_filter (binary op left right) rest is h = absurd is
-unsigned_operand is_in_filter (unary op e) rest is h = absurd is
-unsigned_operand is_in_filter (exists ss) rest is h = absurd is
-
-operand_start_is_no_space : (b : ℕ) → is_operand_start b ≡ true → is_space b ≡ false
-operand_start_is_no_space b h = grind (arith, nat_tests)
+unsigned_operand is_in_filter _ rest is h = absurd is
 
 stops-operand : (is_in_filter : Bool) (e : Expression) (rest : List ℕ) → IsOperand is_in_filter e →
     stops is_space (expression_text e ++ rest) ≡ true
 stops-operand is_in_filter e rest is =
-    stops-from_begins is_space (expression_text e ++ rest) (begins-excludes is_operand_start is_space operand_start_is_no_space
+    stops-from_begins is_space (expression_text e ++ rest) (begins-excludes is_operand_start is_space (λ b e. grind (arith, nat_tests))
     (expression_text e ++ rest) (begins-operand is_in_filter e rest is))
 
 pub spaced_operand-text : (is_in_filter : Bool) (e : Expression) (rest : List ℕ) → IsOperand is_in_filter e → IsBehindOperand rest →

@@ -2,7 +2,7 @@
 use Rattle.std.proofs.Common.{◌≡◌, ℕ, zero, suc, ◌+◌, ◌<◌, ◌≤◌, List, [], ◌∷◌, ◌++◌, Option, None, Some, IfSome, length, get_or, take, drop, Vec, Box, Global, refl, ap, arith}
 use Rattle.std.proofs.Math.Seq.{drop-cons}
 use Rattle.std.proofs.lemmas.List.{take-append-drop}
-use Rattle.jsonb.specs.PathTree.{Step, filter, whole_expression, Expression, paths, value, binary, unary, exists, steps_of}
+use Rattle.jsonb.specs.PathTree.{Step, filter, Expression, binary, steps_of}
 use Rattle.jsonb.specs.PathViews.{step_view, steps_view}
 use Rattle.jsonb.specs.Private.Chain.{left_of, below}
 use Rattle.jsonb.specs.Private.Parts.{step_parts, steps_parts, expression_parts, parts, remaining}
@@ -17,7 +17,6 @@ use Rattle.jsonb.proofs.PathNodes.{paths_is, binary_is}
 
 pub some_step_parts : (s : Step) → 0 < step_parts s
 some_step_parts (filter e) = omega arith
-some_step_parts (whole_expression e) = omega arith
 some_step_parts _ = omega arith
 
 -- ---- lists of steps, and what holds them
@@ -65,10 +64,7 @@ step_parts-among ss i s short is =
 
 left_parts : (e : Expression) → expression_parts (left_of e) ≤ expression_parts e
 left_parts (binary op left right) = omega arith
-left_parts (paths ss) = omega arith
-left_parts (value l) = omega arith
-left_parts (unary op e) = omega arith
-left_parts (exists ss) = omega arith
+left_parts _ = omega arith
 
 pub below_parts : (n : ℕ) (e : Expression) → expression_parts (below n e) ≤ expression_parts e
 below_parts zero e = omega arith

@@ -1,5 +1,5 @@
 -- The tree of a step and of an expression, one level opened.
-use Rattle.std.proofs.Common.{◌≡◌, ap, ◌∙◌, map, Option, option_map, Vec, Box, Global}
+use Rattle.std.proofs.Common.{◌≡◌, ap, ◌∙◌, Option, Vec, Box, Global}
 use Rattle.std.specs.Cow.{cow_str_bytes}
 use Rattle.std.specs.declared.borrow.CowStr.{CowStr}
 use Rattle.jsonb.specs.PathTree as math

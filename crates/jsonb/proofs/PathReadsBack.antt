@@ -8,14 +8,14 @@ use Rattle.jsonb_keypath.specs.Tokens.{ws, past, is_space, is_stop, name}
 use Rattle.jsonb_keypath.proofs.ReadBackLemmas.{front, front-stops, front-implies, begins, begins-excludes, stops-from_begins, is_sign}
 use Rattle.jsonb_keypath.proofs.NameLemmas.{name-none}
 use Rattle.jsonb_keypath.proofs.RepeatLemmas.{repeat-goes, repeat-ends}
-use Rattle.jsonb.specs.PathTree.{Step, root, current, filter, whole_expression, Expression}
+use Rattle.jsonb.specs.PathTree.{Step, root, filter, whole_expression, Expression}
 use Rattle.jsonb.specs.PathGrammar.{spaced_inner, path_root, operand, spaced_operand, operator, arithmetic_operator, binary_atom, group_with, exists_with, atom_with, and_with, or_with, nested_or, expression, root_expression, first_step, front_steps, path_step, plain_path, json_path}
 use Rattle.jsonb.specs.PathText.{step_text, expression_text, path_text}
 use Rattle.jsonb.proofs.SettledPaths.{settled_step, settled}
 use Rattle.jsonb.proofs.PathShape.{IsInner, IsPathStep, IsCondition, IsPath}
 use Rattle.jsonb.proofs.InnerReadsBack.{begins-front, past-none, spaced-reads, spaced-none, is_step_end}
 use Rattle.jsonb.proofs.OperandReadsBack.{not_begins, ReadsTo, spaced-to, is_inner_start, spaced_inner-none, begins-some, front-from_begins, spaced_inner-text, is_operand_start, unary-none}
-use Rattle.jsonb.proofs.ConditionReadsBack.{is_condition_start, no_space-condition, expression-reads, step-reads, is_step_start, begins-step, step_start_is_no_space, no_step, binary-none}
+use Rattle.jsonb.proofs.ConditionReadsBack.{is_condition_start, no_space-condition, expression-reads, step-reads, is_step_start, begins-step, step_start_is_no_space, step_start_is_step_end, no_step, binary-none}
 
 -- ---- a whole expression
 
@@ -73,20 +73,14 @@ unfolding exists_with
 no_exists nested [] h = refl
 no_exists nested (b ∷ rest) h = let other : (101 == b) ≡ false = grind (arith, nat_tests) in rw other refl
 
-no_condition_is_no_sign : (b : ℕ) → is_condition_start b ≡ false → is_sign b ≡ false
-no_condition_is_no_sign b h = grind (arith, nat_tests)
-
-no_condition_is_no_operand : (b : ℕ) → is_condition_start b ≡ false → is_operand_start b ≡ false
-no_condition_is_no_operand b h = grind (arith, nat_tests)
-
 -- nothing that an expression begins with
 no_atom : (nested : Bool → Rule Expression) (f : Bool) (input : List ℕ) → past is_space input ≡ input →
     begins is_condition_start input ≡ false → atom_with nested f input ≡ None
 unfolding atom_with
 no_atom nested f input no_space h =
     rw (
-      unary-none f input (not_begins is_condition_start is_sign no_condition_is_no_sign input h),
-      binary-none f input (rw no_space (not_begins is_condition_start is_operand_start no_condition_is_no_operand input h)),
+      unary-none f input (not_begins is_condition_start is_sign (λ b e. grind (arith, nat_tests)) input h),
+      binary-none f input (rw no_space (not_begins is_condition_start is_operand_start (λ b e. grind (arith, nat_tests)) input h)),
       no_group nested f input h,
       no_exists nested input h,
     ) refl
@@ -113,14 +107,8 @@ record Leading (input : List ℕ) : Type 0 where
   ends : front is_question after ≡ true
 
 inner_or_filter : (s : Step) (rest : List ℕ) → IsPathStep s → IsInner s ⊎ (begins is_question (step_text s ++ rest) ≡ true)
-inner_or_filter root rest is = absurd is
-inner_or_filter current rest is = absurd is
 inner_or_filter (filter e) rest is = inr refl
-inner_or_filter (whole_expression e) rest is = absurd is
 inner_or_filter _ rest is = inl is
-
-step_start_is_step_end : (b : ℕ) → is_step_start b ≡ true → is_step_end b ≡ true
-step_start_is_step_end b h = grind (arith, nat_tests)
 
 question_is_no_inner : (b : ℕ) → is_question b ≡ true → is_inner_start b ≡ false
 question_is_no_inner b h = grind (arith, nat_tests)
@@ -215,9 +203,6 @@ plain_path-root : (ss : List Step) → AllByRecursion IsPathStep ss → plain_pa
 unfolding plain_path front_steps first_step
 plain_path-root ss are = rw (path_steps-text ss are) refl
 
-step_start_is_stop : (b : ℕ) → is_step_start b ≡ true → is_stop b ≡ true
-step_start_is_stop b h = grind (arith, nat_tests)
-
 no_first_step : (input : List ℕ) → front is_step_start input ≡ true → first_step input ≡ None
 unfolding first_step
 no_first_step input h =
@@ -225,7 +210,7 @@ no_first_step input h =
       no_dollar input h,
       spaced-none name input (rw (past-none is_space input
           (front-stops is_step_start is_space step_start_is_no_space input h)) (name-none input
-          (front-implies is_step_start is_stop step_start_is_stop input h))),
+          (front-implies is_step_start is_stop (λ b e. grind (arith, nat_tests)) input h))),
     ) refl
   where
     no_dollar : (input : List ℕ) → front is_step_start input ≡ true → literal "$" input ≡ None
@@ -247,14 +232,11 @@ path-of_root ss are =
       plain_path-root ss are,
     ) refl)
 
-step_start_is_no_condition : (b : ℕ) → is_step_start b ≡ true → is_condition_start b ≡ false
-step_start_is_no_condition b h = grind (arith, nat_tests)
-
 path-of_steps : (ss : List Step) → AllByRecursion IsPathStep ss → json_path (path_text ss) ≡ Some (map settled_step ss)
 path-of_steps ss are =
     let input = flat_map step_text ss in
     let no_space = no_space-steps ss are in
-    let none = begins-front is_step_start is_condition_start step_start_is_no_condition input (begins-steps ss are) in
+    let none = begins-front is_step_start is_condition_start (λ b e. grind (arith, nat_tests)) input (begins-steps ss are) in
     whole_path input (map settled_step ss) no_space (rw (
       no_root_expression input no_space
           (λ nested. no_atom nested false input no_space none),

@@ -102,25 +102,17 @@ picked_between entry ts start end h k meant =
 -- ---- related lists, cut at the same places
 
 module _ {A B : Type 0} (R : A → B → Type 0) where
-  pub AllZip-length : (xs : List A) (ys : List B) → AllZip R xs ys → length xs ≡ length ys
-  AllZip-length [] [] h = refl
-  AllZip-length [] (y ∷ ys) h = absurd h
-  AllZip-length (x ∷ xs) [] h = absurd h
-  AllZip-length (x ∷ xs) (y ∷ ys) h = ap suc (AllZip-length xs ys h.1)
-
   AllZip-take : (d : ℕ) (xs : List A) (ys : List B) → AllZip R xs ys → AllZip R (take d xs) (take d ys)
   AllZip-take zero xs ys h = tt
   AllZip-take (suc d) [] [] h = tt
-  AllZip-take (suc d) [] (y ∷ ys) h = absurd h
-  AllZip-take (suc d) (x ∷ xs) [] h = absurd h
   AllZip-take (suc d) (x ∷ xs) (y ∷ ys) h = (h.0, AllZip-take d xs ys h.1)
+  AllZip-take _ _ _ h = absurd h
 
   AllZip-drop : (d : ℕ) (xs : List A) (ys : List B) → AllZip R xs ys → AllZip R (drop d xs) (drop d ys)
   AllZip-drop zero xs ys h = h
   AllZip-drop (suc d) [] [] h = tt
-  AllZip-drop (suc d) [] (y ∷ ys) h = absurd h
-  AllZip-drop (suc d) (x ∷ xs) [] h = absurd h
   AllZip-drop (suc d) (x ∷ xs) (y ∷ ys) h = AllZip-drop d xs ys h.1
+  AllZip-drop _ _ _ h = absurd h
 
   pub AllZip-between : (start end : ℕ) (xs : List A) (ys : List B) → AllZip R xs ys → AllZip R (slice_range xs start end) (slice_range ys start end)
   AllZip-between start end xs ys h = AllZip-take (end - start) (drop start xs) (drop start ys) (AllZip-drop start xs ys h)

@@ -1,6 +1,6 @@
 -- A path of steps is no longer than its text.
 use Rattle.std.proofs.Common.{◌≡◌, ◌≤◌, ℕ, List, [], ◌∷◌, ◌++◌, length, Some, sym}
-use Rattle.jsonb_keypath.specs.Rules.{give, ◌>>◌, literal, repeat}
+use Rattle.jsonb_keypath.specs.Rules.{literal, repeat}
 use Rattle.jsonb_keypath.specs.Tokens.{name}
 use Rattle.jsonb_keypath.proofs.ReadsLemmas.{NeverGrows, some-no_more, grows-give, grows-then, grows-choice}
 use Rattle.jsonb_keypath.proofs.CutLemmas.{some-literal}

@@ -6,12 +6,10 @@ use Rattle.jsonb_doc.specs.Number.{Number}
 use Rattle.jsonb_doc.specs.Tree.{Tree}
 use Rattle.jsonb.specs.PathTree.{BinaryOp, UnaryOp, plus, minus, Expression, paths, value, binary, unary, exists}
 use Rattle.jsonb.specs.PathArithmetic.{operation, two_numbers, all_numbers, signed_number, each_signed}
-use Rattle.jsonb.specs.Private.Calculation.{number_list}
+use Rattle.jsonb.specs.Private.Calculation.{number_list, truth_list, binary_meaning, expression_predicate, calculation}
 use Rattle.jsonb.specs.Values.{Value, number}
 use Rattle.jsonb.specs.Compare.{Truth}
 use Rattle.jsonb.specs.Meaning.{operand_values, truth, expression_meaning, list_truth}
-use Rattle.jsonb.specs.Private.Calculation.{truth_list, binary_meaning, expression_predicate}
-use Rattle.jsonb.specs.Private.Calculation.{calculation}
 use Rattle.jsonb.specs.declared.selector.document.Mode.{Mode}
 
 -- what a list says, and what is run for its error alone

@@ -4,7 +4,6 @@ use Rattle.std.proofs.Math.Seq.{drop-cons}
 use Rattle.std.proofs.Math.ListN.{drop_of_length-le}
 use Rattle.jsonb_doc.specs.Answer.{Outcome, and_then, try_flat_map, Refines, IsOutOfMemory}
 use Rattle.jsonb_doc.specs.declared.error.Error.{Error}
-use Rattle.jsonb_doc.specs.declared.error.Error.TheVariants.{OutOfMemory}
 use Rattle.jsonb_doc.specs.declared.layout.EntryKind.TheVariants as kind
 use Rattle.jsonb_doc.specs.declared.spot.Spot.{Spot}
 use Rattle.jsonb_doc.specs.declared.spot_iter.SpotIter.{SpotIter}
@@ -46,15 +45,16 @@ pub joined_total : {B C : Type 0} (g : B → List C) (ts : List B) → try_flat_
 joined_total g [] = refl
 joined_total g (t ∷ ts) = ap (λ o. and_then o (λ back. Ok (g t ++ back))) (joined_total g ts)
 
-module _ {B C : Type 0} (f : B → Outcome (List C)) where
-  pub at_start : (Left : List B → Type 0) (Done : List C → Type 0) (ts : List B) → Left ts → Done [] → Progress Left Done f (try_flat_map f ts)
-  at_start Left Done ts l d = record { rest = ts; given = []; left = l; done = d; is = behind-nil (try_flat_map f ts) }
+pub at_start : {B C : Type 0} (f : B → Outcome (List C)) (Left : List B → Type 0) (Done : List C → Type 0) (ts : List B) → Left ts → Done []
+    → Progress Left Done f (try_flat_map f ts)
+at_start f Left Done ts l d = record { rest = ts; given = []; left = l; done = d; is = behind-nil (try_flat_map f ts) }
 
+module _ {B C : Type 0} {f : B → Outcome (List C)} {Left : List B → Type 0} {Done : List C → Type 0} {outcome : Outcome (List C)} where
   -- one turn
-  pub one_more : (Left Left' : List B → Type 0) (Done Done' : List C → Type 0) (P : B → Type 0) (outcome : Outcome (List C)) → Progress Left Done f outcome →
-      ((rest : List B) → Left rest → First Left' P rest) → ((t : B) (before : List C) → P t → Done before → IsOkAnd (f t) (λ us. Done' (before ++ us)))
+  pub one_more : {Left' : List B → Type 0} {Done' : List C → Type 0} {P : B → Type 0} → Progress Left Done f outcome
+      → ((rest : List B) → Left rest → First Left' P rest) → ((t : B) (before : List C) → P t → Done before → IsOkAnd (f t) (λ us. Done' (before ++ us)))
       → Progress Left' Done' f outcome
-  one_more Left Left' Done Done' P outcome p first one = let k = first p.rest p.left in added p.given k.first k.others (f k.first) refl k.left
+  one_more {Left' = Left'} {Done' = Done'} p first one = let k = first p.rest p.left in added p.given k.first k.others (f k.first) refl k.left
       (one k.first p.given k.holds p.done) (p.is ∙ ap (λ l. behind p.given (try_flat_map f l)) k.whole)
     where
       added : (given : List C) (t : B) (rest : List B) (o : Outcome (List C)) → f t ≡ o → Left' rest → IsOkAnd o (λ us. Done' (given ++ us))
@@ -69,27 +69,18 @@ module _ {B C : Type 0} (f : B → Outcome (List C)) where
       added given t rest (Err e) eq l h is = absurd h
 
   -- an error
-  pub refused_in : {G : Type 0} (Q : G → List C → Type 0) (Left Left' : List B → Type 0) (Done Done' : List C → Type 0) (P : B → Type 0) (e : Error)
-      (outcome : Outcome (List C)) → Progress Left Done f outcome →
-      ((rest : List B) → Left rest → First Left' P rest)
-      → ((t : B) (before : List C) → P t → Done before → Refines (λ (_ : Unit {0}) us. Done' (before ++ us)) IsOutOfMemory (Err e) (f t))
-      → Refines Q IsOutOfMemory (Err e) outcome
-  refused_in Q Left Left' Done Done' P e outcome p first one =
-      let k = first p.rest p.left in go k.first k.others ((one k.first p.given k.holds p.done).err) (p.is ∙ ap (λ l. behind p.given (try_flat_map f l)) k.whole)
-    where
-      go : (t : B) (rest : List B) → (e ≡ OutOfMemory) ⊎ (f t ≡ Err e) → outcome ≡ behind p.given (try_flat_map f (t ∷ rest))
-          → Refines Q IsOutOfMemory (Err e) outcome
-      go t rest (inl memory) is = record { ok = tt; err = inl memory }
-      go t rest (inr refusal) is = record {
-        ok = tt;
-        err = inr
-            (is ∙ ap (λ v. behind p.given (and_then v (λ front. behind front (try_flat_map f rest)))) refusal);
-      }
+  pub refused_in : {Left' : List B → Type 0} {P : B → Type 0} {e : Error} → Progress Left Done f outcome
+      → ((rest : List B) → Left rest → First Left' P rest) → ((t : B) (before : List C) → P t → Done before → IsOutOfMemory e ⊎ (f t ≡ Err e))
+      → IsOutOfMemory e ⊎ (outcome ≡ Err e)
+  refused_in p first one =
+      let k = first p.rest p.left in
+      let is = p.is ∙ ap (λ l. behind p.given (try_flat_map f l)) k.whole in
+      let next = λ (o : Outcome (List C)). behind p.given (and_then o (λ front. behind front (try_flat_map f k.others))) in
+      elim (one k.first p.given k.holds p.done) [ inl memory ↦ inl memory | inr refused ↦ inr (is ∙ ap next refused) ]
 
   -- the end
-  pub at_end : (Left : List B → Type 0) (Done : List C → Type 0) (outcome : Outcome (List C)) → Progress Left Done f outcome
-      → ((rest : List B) → Left rest → rest ≡ []) → IsOkAnd outcome Done
-  at_end Left Done outcome p none = subst (λ o. IsOkAnd o Done)
+  pub at_end : Progress Left Done f outcome → ((rest : List B) → Left rest → rest ≡ []) → IsOkAnd outcome Done
+  at_end p none = subst (λ o. IsOkAnd o Done)
       (sym (p.is ∙ ap (λ l. behind p.given (try_flat_map f l)) (none p.rest p.left) ∙ ap Ok (append-nil p.given))) p.done
 
 -- parts that never fail, after what there was
@@ -115,14 +106,14 @@ no_spot = record { kind = kind.Null; start = 0; end = 0 }
 module _ {A B : Type 0} (R : A → B → Type 0) (xs : List A) where
   pub list_first : (i : ℕ) (d : A) → i < length xs → (rest : List B) → AllZip R (drop i xs) rest
       → First (AllZip R (drop (i + 1) xs)) (R (get_or xs i d)) rest
-  list_first i d h rest a = go rest (subst (λ l. AllZip R l rest) (drop-cons xs i d h ∙ ap (λ n. get_or xs i d ∷ drop n xs) (sym (add-one i))) a)
+  list_first i d h rest a = go rest (rw (drop-cons xs i d h ∙ ap (λ n. get_or xs i d ∷ drop n xs) (sym (add-one i))) at a)
     where
       go : (rest : List B) → AllZip R (get_or xs i d ∷ drop (i + 1) xs) rest → First (AllZip R (drop (i + 1) xs)) (R (get_or xs i d)) rest
       go [] a = absurd a
       go (t ∷ ts) a = record { first = t; others = ts; whole = refl; holds = a.0; left = a.1 }
 
   pub list_end : (i : ℕ) → length xs ≤ i → (rest : List B) → AllZip R (drop i xs) rest → rest ≡ []
-  list_end i h rest a = go rest (subst (λ l. AllZip R l rest) (drop_of_length-le xs h) a)
+  list_end i h rest a = go rest (rw (drop_of_length-le xs h) at a)
     where
       go : (rest : List B) → AllZip R [] rest → rest ≡ []
       go [] a = refl
@@ -145,34 +136,31 @@ module _ (f : Tree → Outcome (List Tree)) (bytes : List ℕ) (spots : List Spo
         → IsOkAnd (f t) (λ us. AllZip (Locates bytes) found' (before ++ us)))
         → SpotsPassed (i + 1) found'
     spot_passed less one =
-        one_more f (AllZip (Locates bytes) (drop i spots)) (AllZip (Locates bytes) (drop (i + 1) spots)) (AllZip (Locates bytes) found)
-        (AllZip (Locates bytes) found') _ _ passed (list_first (Locates bytes) spots i no_spot less) one
+        one_more passed (list_first (Locates bytes) spots i no_spot less) one
 
     pub spot_not_passed : {G : Type 0} (Q : G → List Tree → Type 0) (e : Error) → i < length spots
         → ((t : Tree) (before : List Tree) → Locates bytes (get_or spots i no_spot) t → AllZip (Locates bytes) found before
         → Refines (λ (_ : Unit {0}) us. AllZip (Locates bytes) found' (before ++ us)) IsOutOfMemory (Err e) (f t))
         → Refines Q IsOutOfMemory (Err e) (try_flat_map f ts)
     spot_not_passed Q e less one =
-        refused_in f Q (AllZip (Locates bytes) (drop i spots)) (AllZip (Locates bytes) (drop (i + 1) spots)) (AllZip (Locates bytes) found)
-        (AllZip (Locates bytes) found') _ e _ passed (list_first (Locates bytes) spots i no_spot less) one
+        record { ok = tt; err = refused_in passed (list_first (Locates bytes) spots i no_spot less) (λ t before m a. (one t before m a).err) }
 
   pub all_passed : (i : ℕ) (found : List Spot) → SpotsPassed i found → length spots ≤ i → IsOkAnd (try_flat_map f ts) (AllZip (Locates bytes) found)
   all_passed i found passed end =
-      at_end f (AllZip (Locates bytes) (drop i spots)) (AllZip (Locates bytes) found) _ passed (list_end (Locates bytes) spots i end)
+      at_end passed (list_end (Locates bytes) spots i end)
 
 -- ---- over the children of an item
 
-pub spot_first : (bytes : List ℕ) (it it' : SpotIter) (r : Result Spot Error) (spot : Spot) → r ≡ Ok spot → GivesSpot it (Some r) it' → (rest : List Tree)
+pub spot_first : {it it' : SpotIter} {r : Result Spot Error} {spot : Spot} (bytes : List ℕ) → r ≡ Ok spot → GivesSpot it (Some r) it' → (rest : List Tree)
     → HasSpotsLeft bytes it rest → First (HasSpotsLeft bytes it') (Locates bytes spot) rest
-spot_first bytes it it' r spot is g rest l =
-    let k = taken_spot bytes rest r spot it' is (g.takes bytes rest l) in
+spot_first bytes is g rest l =
+    let k = taken_spot bytes rest _ _ _ is (g.takes bytes rest l) in
     record { first = k.first; others = k.others; whole = k.whole; holds = k.marks; left = k.left }
 
-pub spot_end : (bytes : List ℕ) (it it' : SpotIter) → GivesSpot it None it' → (rest : List Tree) → HasSpotsLeft bytes it rest → rest ≡ []
-spot_end bytes it it' g rest l = no_spots_left bytes rest it' (g.takes bytes rest l)
+pub spot_end : {it it' : SpotIter} (bytes : List ℕ) → GivesSpot it None it' → (rest : List Tree) → HasSpotsLeft bytes it rest → rest ≡ []
+spot_end bytes g rest l = no_spots_left bytes rest _ (g.takes bytes rest l)
 
 -- an iterator of bytes that decode never fails
-pub spot_refused : {G : Type 0} {C : Type 0} (f : Tree → Outcome (List C)) (Done : List C → Type 0) (outcome : Outcome (List C)) (bytes : List ℕ)
-    (it it' : SpotIter) (r : Result Spot Error) (e : Error) →
-    r ≡ Err e → GivesSpot it (Some r) it' → Progress (HasSpotsLeft bytes it) Done f outcome → G
-spot_refused f Done outcome bytes it it' r e is g p = absurd (no_refusal bytes p.rest r e it' is (g.takes bytes p.rest p.left))
+pub spot_refused : {G C : Type 0} {f : Tree → Outcome (List C)} {Done : List C → Type 0} {outcome : Outcome (List C)} {it it' : SpotIter}
+    {r : Result Spot Error} {e : Error} (bytes : List ℕ) → r ≡ Err e → GivesSpot it (Some r) it' → Progress (HasSpotsLeft bytes it) Done f outcome → G
+spot_refused bytes is g p = absurd (no_refusal bytes p.rest _ _ _ is (g.takes bytes p.rest p.left))

@@ -1,5 +1,5 @@
 -- Results that refine meanings: what the result for a part says of the whole.
-use Rattle.std.proofs.Common.{◌≡◌, List, [], ◌∷◌, ◌++◌, Option, Some, None, option_map, Result, Ok, Err, OnOk, IfErr, IsOkAnd, refl, inl, inr, subst, sym, ap, append-nil, length, map, rules}
+use Rattle.std.proofs.Common.{◌≡◌, ◌⊎◌, List, [], ◌∷◌, ◌++◌, Option, Some, None, option_map, Result, Ok, Err, OnOk, IfErr, IsOkAnd, IsErrAnd, refl, inl, inr, subst, sym, ap, append-nil, length, map, rules}
 use Rattle.std.specs.Prelude.{not, ◌==◌}
 use Rattle.jsonb_doc.specs.Answer.{Outcome, and_then, Refines, SameOption, IsOutOfMemory}
 use Rattle.jsonb_doc.specs.declared.error.Error.{Error}
@@ -16,16 +16,14 @@ use Rattle.jsonb.specs.declared.selector.document.Mode.TheVariants.{Lax, Strict}
 pub AllZip-append : {A B : Type 0} (R : A → B → Type 0) (xs ys : List A) (us vs : List B) → AllZip R xs us → AllZip R ys vs
     → AllZip R (xs ++ ys) (us ++ vs)
 AllZip-append R [] ys [] vs p q = q
-AllZip-append R [] ys (u ∷ us) vs p q = absurd p
-AllZip-append R (x ∷ xs) ys [] vs p q = absurd p
 AllZip-append R (x ∷ xs) ys (u ∷ us) vs p q = (p.0, AllZip-append R xs ys us vs p.1 q)
+AllZip-append R _ ys _ vs p q = absurd p
 
 -- related lists are empty together
 pub some_related : {A : Type 0} (R : A → Tree → Type 0) (xs : List A) (ts : List Tree) → AllZip R xs ts → not (length xs == 0) ≡ is_some_item ts
 some_related R [] [] h = refl
-some_related R [] (t ∷ ts) h = absurd h
-some_related R (x ∷ xs) [] h = absurd h
 some_related R (x ∷ xs) (t ∷ ts) h = search rules
+some_related R _ _ h = absurd h
 
 -- what each member is, one by one or as a list
 abbrev pub Is : {A B : Type 0} → (A → B) → A → B → Type 0
@@ -44,7 +42,7 @@ pub pushed_all : {A B : Type 0} (R : A → B → Type 0) (r : Result (Unit {0}) 
     OnOk r (new ≡ old ++ more) → IfErr r IsOutOfMemory → AllZip R old before → AllZip R more us →
     Refines (λ _ ts. AllZip R new (before ++ ts)) IsOutOfMemory r (Ok us)
 pushed_all R (Ok v) old new more before us is none a h = record {
-  ok = subst (λ l. AllZip R l (before ++ us)) (sym is) (AllZip-append R old more before us a h);
+  ok = rw (sym is) at (AllZip-append R old more before us a h);
   err = tt;
 }
 pushed_all R (Err e) old new more before us is none a h = record { ok = tt; err = inl none }
@@ -57,7 +55,7 @@ pushed R r old new x before u is none a h = pushed_all R r old new (x ∷ []) be
 -- nothing
 pub unchanged : {A B : Type 0} (R : A → B → Type 0) (xs : List A) (before : List B) → AllZip R xs before →
     Refines {A = Unit {0}} (λ _ ts. AllZip R xs (before ++ ts)) IsOutOfMemory (Ok tt) (Ok [])
-unchanged R xs before a = record { ok = subst (λ l. AllZip R xs l) (sym (append-nil before)) a; err = tt }
+unchanged R xs before a = record { ok = rw (sym (append-nil before)) at a; err = tt }
 
 -- a step that doesn't fit yields nothing, or fails
 pub mismatches : {A : Type 0} (mode : Mode) (R : A → Tree → Type 0) (xs : List A) (before : List Tree) → AllZip R xs before →
@@ -69,11 +67,30 @@ mismatches Strict R xs before a = record { ok = tt; err = inr refl }
 
 -- the same result at an equal outcome
 pub same_outcome : {A B : Type 0} {R : A → B → Type 0} {r : Outcome A} {o p : Outcome B} → p ≡ o → Refines R IsOutOfMemory r o → Refines R IsOutOfMemory r p
-same_outcome {A} {B} {R} {r} e h = subst (λ z. Refines R IsOutOfMemory r z) (sym e) h
+same_outcome {A} {B} {R} {r} e h = rw (sym e) at h
 
 -- the same outcome of an equal result
 pub same_answer : {A B : Type 0} {R : A → B → Type 0} {r s : Outcome A} {o : Outcome B} → s ≡ r → Refines R IsOutOfMemory r o → Refines R IsOutOfMemory s o
-same_answer {A} {B} {R} {r} {s} {o} e h = subst (λ z. Refines R IsOutOfMemory z o) (sym e) h
+same_answer {A} {B} {R} {r} {s} {o} e h = rw (sym e) at h
+
+-- the error that `?` returns
+pub err_is : {T : Type 0} {e : Error} {r : Result T Error} → IsErrAnd r (λ d. d ≡ e) → r ≡ Err e
+err_is {r = Ok x} h = absurd h
+err_is {r = Err d} h = ap Err h
+
+pub failed_as : {A B : Type 0} {R : A → B → Type 0} {e : Error} {s : Outcome A} {o : Outcome B} → IsErrAnd s (λ d. d ≡ e) → Refines R IsOutOfMemory (Err e) o
+    → Refines R IsOutOfMemory s o
+failed_as h g = same_answer (err_is h) g
+
+pub answered : {A B : Type 0} {R : A → B → Type 0} {E : Error → Type 0} {x : A} {o : Outcome B} → IsOkAnd o (R x) → Refines R E (Ok x) o
+answered h = record { ok = h; err = tt }
+
+pub refused : {A B : Type 0} {R : A → B → Type 0} {E : Error → Type 0} {e : Error} {o : Outcome B} → E e ⊎ (o ≡ Err e) → Refines R E (Err e) o
+refused h = record { ok = tt; err = h }
+
+pub failed_with : {A B : Type 0} {R : A → B → Type 0} {e : Error} {s : Outcome A} {o : Outcome B} → IsErrAnd s (λ d. d ≡ e) → IsOutOfMemory e ⊎ (o ≡ Err e)
+    → Refines R IsOutOfMemory s o
+failed_with h g = failed_as h (refused g)
 
 -- what holds of a list that is known
 pub on_ok : {A B : Type 0} (P : List B → Type 0) (r : Outcome A) (ts : List B) → Refines (λ _ us. P us) IsOutOfMemory r (Ok ts) → OnOk r (P ts)
@@ -90,9 +107,12 @@ pub refused_as : {A B C : Type 0} {R : A → B → Type 0} {Q : C → B → Type
 refused_as h = record { ok = tt; err = h.err }
 
 -- a value is never an error
+pub memory_only : {B P : Type 0} {e : Error} {x : B} → IsOutOfMemory e ⊎ (◌≡◌ {A = Outcome B} (Ok x) (Err e)) → IsOutOfMemory e ⊎ P
+memory_only h = elim h [ inl memory ↦ inl memory | inr is ↦ absurd (cc) ]
+
 pub only_memory : {A B C D : Type 0} {R : A → B → Type 0} {Q : C → D → Type 0} {e : Error} {x : B} {y : D} → Refines R IsOutOfMemory (Err e) (Ok x)
     → Refines Q IsOutOfMemory (Err e) (Ok y)
-only_memory h = record { ok = tt; err = elim h.err [ inl memory ↦ inl memory | inr is ↦ cc ] }
+only_memory h = record { ok = tt; err = memory_only h.err }
 
 -- a value of the first part goes on
 pub with_ok : {B D : Type 0} (P : B → Type 0) (Q : Outcome D → Type 0) (o : Outcome B) (next : B → Outcome D) → IsOkAnd o P → ((y : B) → P y → Q (next y))

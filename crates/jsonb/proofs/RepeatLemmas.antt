@@ -26,7 +26,7 @@ use Rattle.jsonb.specs.declared.selector.document.Repeats.TheVariants.{AreKept, 
 use Rattle.jsonb.specs.declared.selector.plan.MemberCompared.{MemberCompared}
 use Rattle.jsonb.proofs.AlikeLemmas.{alike_itself, alike_same, alike_then, alike_flat_map, alike_each, alike_map, alike_results, alike_without}
 use Rattle.jsonb.proofs.Progress.{First}
-use Rattle.jsonb.proofs.RefinesLemmas.{AllZip-append}
+use Rattle.jsonb.proofs.RefinesLemmas.{answered, AllZip-append}
 
 -- ---- the same lists
 
@@ -49,11 +49,10 @@ same_outcome_itself AreDropped o = alike_outcome o
 
 alike_outcomes_then : {A : Type 0} (a b c : Outcome (List A)) → AlikeOutcomes a b → AlikeOutcomes b c → AlikeOutcomes a c
 alike_outcomes_then (Ok xs) (Ok ys) (Ok zs) h g = alike_then h g
-alike_outcomes_then (Ok xs) (Ok ys) (Err e) h g = absurd g
-alike_outcomes_then (Ok xs) (Err d) c h g = absurd h
-alike_outcomes_then (Err e) (Ok ys) c h g = absurd h
-alike_outcomes_then (Err e) (Err d) (Ok zs) h g = absurd g
 alike_outcomes_then (Err e) (Err d) (Err f) h g = h ∙ g
+alike_outcomes_then (Ok xs) (Ok ys) (Err e) h g = absurd g
+alike_outcomes_then (Err e) (Err d) (Ok zs) h g = absurd g
+alike_outcomes_then _ _ c h g = absurd h
 
 pub same_outcomes_then : {A : Type 0} (repeats : Repeats) (a b c : Outcome (List A)) → SameOutcomes repeats a b → SameOutcomes repeats b c
     → SameOutcomes repeats a c
@@ -73,9 +72,8 @@ alike_steps mode (math.step s rest) top us ts h =
         → (a b : Outcome (List Tree)) → AlikeOutcomes a b
         → AlikeOutcomes (and_then a (steps_meaning mode rest top)) (and_then b (steps_meaning mode rest top))
     go others (Ok us) (Ok ts) h = others us ts h
-    go others (Ok us) (Err e) h = absurd h
-    go others (Err e) (Ok ts) h = absurd h
     go others (Err e) (Err d) h = h
+    go others _ _ h = absurd h
 
 pub same_steps : (repeats : Repeats) (mode : Mode) (ss : math.Steps) (top : Tree) (us ts : List Tree) → AreSame repeats us ts
     → SameOutcomes repeats (steps_meaning mode ss top us) (steps_meaning mode ss top ts)
@@ -107,10 +105,7 @@ all_exactly bytes spots (Err e) h = absurd h
 -- values of the list
 pub same_values : {A B C : Type 0} {e : Outcome A} (repeats : Repeats) (view : A → List C) (f : B → List C) (us ts : List B) → AreSame repeats us ts
     → Refines (λ v vs. view v ≡ vs) IsOutOfMemory e (Ok (flat_map f us)) → Refines (λ v vs. AreSame repeats (view v) vs) IsOutOfMemory e (Ok (flat_map f ts))
-same_values {e = Ok v} repeats view f us ts same h = record {
-  ok = subst (λ l. AreSame repeats l (flat_map f ts)) (sym h.ok) (same_flat_map repeats f us ts same);
-  err = tt;
-}
+same_values {e = Ok v} repeats view f us ts same h = answered (rw (sym h.ok) at (same_flat_map repeats f us ts same))
 same_values {e = Err e} repeats view f us ts same h = record { ok = tt; err = elim h.err [ inl memory ↦ inl memory | inr is ↦ cc ] }
 
 -- ---- the first item
@@ -181,9 +176,8 @@ alike_items_truth c top us ts h = go (steps_meaning Lax (steps_of (steps_view c.
         → and_then a (λ ts. Ok (compare c.op (flat_map values_of_item ts) (value_view c.literal ∷ [])))
         ≡ and_then b (λ ts. Ok (compare c.op (flat_map values_of_item ts) (value_view c.literal ∷ [])))
     go (Ok us) (Ok ts) h = ap Ok (alike_compare c.op (alike_flat_map values_of_item h) (alike_itself (value_view c.literal ∷ [])))
-    go (Ok us) (Err e) h = absurd h
-    go (Err e) (Ok ts) h = absurd h
     go (Err e) (Err d) h = ap Err h
+    go _ _ h = absurd h
 
 -- ---- a list whose repeats are left out
 
@@ -199,7 +193,7 @@ contained_tree {A} {B} R one xs us x t a r has = let k = go xs us has.0 a has.1 
     go : (xs : List A) (us : List B) (k : ℕ) → AllZip R xs us → k < length xs → slice_index_or xs k x ≡ x → (k < length us) × (slice_index_or us k t ≡ t)
     go [] us k a short is = absurd (omega arith)
     go (y ∷ xs) [] k a short is = absurd a
-    go (y ∷ xs) (u ∷ us) zero a short is = (omega arith, one x u t (subst (λ z. R z u) is a.0) r)
+    go (y ∷ xs) (u ∷ us) zero a short is = (omega arith, one x u t (rw is at a.0) r)
     go (y ∷ xs) (u ∷ us) (suc k) a short is = let rest = go xs us k a.1 (omega arith) is in (omega (arith, rest.0), rest.1)
 
 -- the first items so far and the items that are left are alike to the whole
@@ -224,20 +218,19 @@ pub thinned_more : {A B : Type 0} (R : A → B → Type 0) → ((x : A) (t u : B
     → (nodes' ≡ nodes ++ x ∷ []) ⊎ ((nodes' ≡ nodes) × Contains nodes x) → Thinned R nodes' left' ts
 thinned_more R one nodes nodes' left left' x ts thinned first next =
     let k = first thinned.rest thinned.left in
-    let whole : AreAlike (thinned.firsts ++ k.first ∷ k.others) ts = subst (λ l. AreAlike (thinned.firsts ++ l) ts) k.whole thinned.alike in
+    let whole : AreAlike (thinned.firsts ++ k.first ∷ k.others) ts = rw k.whole at thinned.alike in
     elim next [
       | inl pushed ↦ record {
         firsts = thinned.firsts ++ k.first ∷ [];
         rest = k.others;
-        done = subst (λ l. AllZip R l (thinned.firsts ++ k.first ∷ [])) (sym pushed)
-            (AllZip-append R nodes (x ∷ []) thinned.firsts (k.first ∷ []) thinned.done (k.holds, tt));
+        done = rw (sym pushed) at (AllZip-append R nodes (x ∷ []) thinned.firsts (k.first ∷ []) thinned.done (k.holds, tt));
         left = k.left;
-        alike = subst (λ l. AreAlike l ts) (sym (append_assoc thinned.firsts (k.first ∷ []) k.others)) whole;
+        alike = rw (sym (append_assoc thinned.firsts (k.first ∷ []) k.others)) at whole;
       }
       | inr known ↦ record {
         firsts = thinned.firsts;
         rest = k.others;
-        done = subst (λ l. AllZip R l thinned.firsts) (sym known.0) thinned.done;
+        done = rw (sym known.0) at thinned.done;
         left = k.left;
         alike = alike_then
             (alike_without thinned.firsts k.others k.first (contained_tree R one nodes thinned.firsts x k.first thinned.done k.holds known.1)) whole;
@@ -249,5 +242,5 @@ pub thinned_end : {A B : Type 0} (R : A → B → Type 0) (nodes left : List A) 
 thinned_end R nodes left ts thinned none = (
   thinned.firsts,
   thinned.done,
-  subst (λ l. AreAlike l ts) (ap (λ l. thinned.firsts ++ l) (none thinned.rest thinned.left) ∙ append-nil thinned.firsts) thinned.alike,
+  rw (ap (λ l. thinned.firsts ++ l) (none thinned.rest thinned.left) ∙ append-nil thinned.firsts) at thinned.alike,
 )

@@ -25,14 +25,14 @@ use Rattle.jsonb.specs.declared.selector.document.Document.{Document}
 use Rattle.jsonb.specs.declared.selector.node_list.NodeList.{NodeList}
 use Rattle.jsonb.specs.declared.selector.selected.Selected.{Selected}
 use Rattle.jsonb.specs.declared.selector.selected.Selected.TheVariants as selected
+pub use Rattle.jsonb_doc.proofs.Basics.{zip_more as related_more}
 
 -- ---- related lists
 
 pub related_length : {A B : Type 0} (R : A → B → Type 0) (xs : List A) (ys : List B) → AllZip R xs ys → length xs ≡ length ys
 related_length R [] [] h = refl
-related_length R [] (y ∷ ys) h = absurd h
-related_length R (x ∷ xs) [] h = absurd h
 related_length R (x ∷ xs) (y ∷ ys) h = ap suc (related_length R xs ys h.1)
+related_length R _ _ h = absurd h
 
 pub related_at : {A B : Type 0} (R : A → B → Type 0) (xs : List A) (ys : List B) (k : ℕ) (d : A) (e : B) → k < length xs → AllZip R xs ys
     → R (get_or xs k d) (get_or ys k e)
@@ -40,13 +40,6 @@ related_at R [] ys k d e short h = absurd (omega (arith, short))
 related_at R (x ∷ xs) [] k d e short h = absurd h
 related_at R (x ∷ xs) (y ∷ ys) zero d e short h = h.0
 related_at R (x ∷ xs) (y ∷ ys) (suc k) d e short h = related_at R xs ys k d e (omega (arith, short)) h.1
-
-pub related_more : {A B : Type 0} (R : A → B → Type 0) (xs : List A) (ys : List B) (x : A) (y : B) → AllZip R xs ys → R x y
-    → AllZip R (xs ++ x ∷ []) (ys ++ y ∷ [])
-related_more R [] [] x y h r = (r, tt)
-related_more R [] (v ∷ ys) x y h r = absurd h
-related_more R (u ∷ xs) [] x y h r = absurd h
-related_more R (u ∷ xs) (v ∷ ys) x y h r = (h.0, related_more R xs ys x y h.1 r)
 
 -- ---- what is selected
 
@@ -104,9 +97,8 @@ value_few (t ∷ []) h = refl
 value_few (t ∷ u ∷ ts) h = absurd (omega (arith, h))
 
 pub value_many : (ts : List Tree) → 1 < length ts → single_or_array ts ≡ Some (array_of ts)
-value_many [] h = absurd (omega (arith, h))
-value_many (t ∷ []) h = absurd (omega (arith, h))
 value_many (t ∷ u ∷ ts) h = refl
+value_many _ h = absurd (omega (arith, h))
 
 pub first_some : (ts : List Tree) (e : Tree) → 0 < length ts → first_item ts ≡ Some (get_or ts 0 e)
 first_some [] e h = absurd (omega (arith, h))

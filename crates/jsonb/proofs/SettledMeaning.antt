@@ -1,13 +1,13 @@
 -- Which variant holds a whole literal changes no truth, no step and no value.
 use Rattle.std.proofs.Common.{◌≡◌, ℕ, zero, List, [], ◌∷◌, Option, Some, None, refl, sym, ◌∙◌, ap, subst, map, flat_map, Ok, Err, inr}
-use Rattle.std.specs.Prelude.{ℤ, pos, negsuc, IfSome, IsSomeAnd, IsTrue}
+use Rattle.std.specs.Prelude.{ℤ, pos, IfSome, IsSomeAnd, IsTrue}
 use Rattle.std.specs.declared.cmp.Ordering.TheVariants.{Equal}
 use Rattle.std.proofs.lemmas.Cmp.{tied_itself}
 use Rattle.jsonb_doc.specs.Proofs.NumberOrder.{number_cmp_total}
 use Rattle.jsonb_doc.specs.declared.error.Error.{Error}
 use Rattle.jsonb_doc.specs.Answer.{Outcome, Refines, and_then, try_flat_map}
 use Rattle.jsonb_doc.specs.Arithmetic.{Operation, is_decimal, calculated, negated}
-use Rattle.jsonb_doc.specs.Number.{Variant, int64, uint64, decimal64, decimal128, Number, number_cmp}
+use Rattle.jsonb_doc.specs.Number.{Variant, int64, uint64, Number, number_cmp}
 use Rattle.jsonb_doc.specs.Equal.{is_equal}
 use Rattle.jsonb_doc.specs.Proofs.Equality.{is_equal-true}
 use Rattle.jsonb_doc.specs.Proofs.EqualTrees.{IsEqual, AreEqual, PairsAreEqual}
@@ -15,49 +15,39 @@ use Rattle.jsonb_doc.specs.Tree as tree
 use Rattle.jsonb_doc.specs.Tree.{Tree, Trees, Pairs}
 use Rattle.jsonb_doc.specs.declared.number.Number.TheVariants.{Int64}
 use Rattle.jsonb.specs.PathTree as path
-use Rattle.jsonb.specs.PathTree.{Literal, BinaryOp, and_op, or_op, eq, not_eq, lt, lte, gt, gte, starts_with_op, UnaryOp, plus, minus, Step, root, current, dot_wildcard, recursive_dot_wildcard, bracket_wildcard, dot_field, colon_field, object_field, array_indices, filter, whole_expression, Steps, no_steps, step, Expression, paths, value, binary, unary, exists, steps_of}
+use Rattle.jsonb.specs.PathTree.{Literal, BinaryOp, and_op, or_op, starts_with_op, add, subtract, multiply, divide, modulo, UnaryOp, plus, minus, Step, root, current, filter, whole_expression, Steps, no_steps, step, Expression, paths, value, binary, unary, exists, steps_of}
 use Rattle.jsonb.specs.PathLaws.{settled_literal, SameButVariants, MeanTheSame}
+use Rattle.jsonb.proofs.JumpLemmas.{same_after}
 use Rattle.jsonb.proofs.SettledPaths.{settled_step, settled_steps, settled, one_path}
 use Rattle.jsonb.specs.PathGrammar.{json_path}
 use Rattle.jsonb.specs.PathText.{path_text}
 use Rattle.std.specs.List.{AllZip}
 use Rattle.jsonb.specs.Values.{Value, null, boolean, number, text, container, literal_value}
 use Rattle.jsonb.specs.Compare.{Truth, value_order, is_container, pair_truth, first_decisive, compare}
-use Rattle.jsonb.specs.Private.Calculation.{starts_with_truth}
 use Rattle.jsonb.specs.PathArithmetic.{operation, all_numbers, two_numbers, signed_number, each_signed}
 use Rattle.jsonb.specs.Meaning.{start, step_meaning, steps_meaning, operand_values, truth, expression_meaning, as_filter, meaning, list_truth, predicate}
-use Rattle.jsonb.specs.Private.Calculation.{binary_meaning, truth_list, expression_predicate}
-use Rattle.jsonb.specs.Private.Calculation.{calculation}
+use Rattle.jsonb.specs.Private.Calculation.{starts_with_truth, binary_meaning, truth_list, expression_predicate, calculation}
 use Rattle.jsonb.specs.declared.selector.document.Mode.{Mode}
 
 -- ---- numbers whose whole values are unsigned if they are not negative
 
 abbrev settled_variant : Variant → ℤ → Variant
 settled_variant int64 (pos n) = uint64
-settled_variant int64 (negsuc n) = int64
-settled_variant uint64 z = uint64
-settled_variant decimal64 z = decimal64
-settled_variant decimal128 z = decimal128
+settled_variant v z = v
 
 abbrev settled_number : Number → Number
 settled_number n = record { variant = settled_variant n.variant n.whole; whole = n.whole; scale = n.scale }
 
 abbrev settled_value : Value → Value
-settled_value null = null
-settled_value (boolean b) = boolean b
 settled_value (number n) = number (settled_number n)
-settled_value (text bs) = text bs
-settled_value container = container
+settled_value v = v
 
 abbrev mutual
   settled_tree : Tree → Tree
-  settled_tree tree.null = tree.null
-  settled_tree (tree.boolean b) = tree.boolean b
   settled_tree (tree.number n) = tree.number (settled_number n)
-  settled_tree (tree.text bs) = tree.text bs
-  settled_tree (tree.extension x) = tree.extension x
   settled_tree (tree.array ts) = tree.array (settled_trees ts)
   settled_tree (tree.object ps) = tree.object (settled_pairs ps)
+  settled_tree t = t
 
   settled_trees : Trees → Trees
   settled_trees tree.no_trees = tree.no_trees
@@ -144,10 +134,6 @@ start-settled no_steps top item = refl
 start-settled (step current rest) top item = refl
 start-settled (step _ rest) top item = refl
 
-with-same : {A B : Type 0} (o : Outcome A) (f g : A → Outcome B) → ((a : A) → f a ≡ g a) → and_then o f ≡ and_then o g
-with-same (Ok a) f g h = h a
-with-same (Err e) f g h = refl
-
 abbrev Values : Expression → Type 0
 Values e = (mode : Mode) (top item : Tree) → settled_values (operand_values mode (settled e) top item) ≡ settled_values (operand_values mode e top item)
 
@@ -169,19 +155,17 @@ exists-truth ss h mode top item = rw (start-settled ss top item, h mode top (sta
 binary-truth : (op : BinaryOp) (l r : Expression) → Values l → Values r → Truths l → Truths r → Truths (binary op l r)
 binary-truth and_op l r vl vr tl tr mode top item = rw (tl mode top item, tr mode top item) refl
 binary-truth or_op l r vl vr tl tr mode top item = rw (tl mode top item, tr mode top item) refl
-binary-truth eq l r vl vr tl tr mode top item = same_compared eq _ _ _ _ (vl mode top item) (vr mode top item)
-binary-truth not_eq l r vl vr tl tr mode top item = same_compared not_eq _ _ _ _ (vl mode top item) (vr mode top item)
-binary-truth lt l r vl vr tl tr mode top item = same_compared lt _ _ _ _ (vl mode top item) (vr mode top item)
-binary-truth lte l r vl vr tl tr mode top item = same_compared lte _ _ _ _ (vl mode top item) (vr mode top item)
-binary-truth gt l r vl vr tl tr mode top item = same_compared gt _ _ _ _ (vl mode top item) (vr mode top item)
-binary-truth gte l r vl vr tl tr mode top item = same_compared gte _ _ _ _ (vl mode top item) (vr mode top item)
-binary-truth starts_with_op l r vl vr tl tr mode top item = same_compared starts_with_op _ _ _ _ (vl mode top item) (vr mode top item)
-binary-truth _ l r vl vr tl tr mode top item = refl
+binary-truth add l r vl vr tl tr mode top item = refl
+binary-truth subtract l r vl vr tl tr mode top item = refl
+binary-truth multiply l r vl vr tl tr mode top item = refl
+binary-truth divide l r vl vr tl tr mode top item = refl
+binary-truth modulo l r vl vr tl tr mode top item = refl
+binary-truth op l r vl vr tl tr mode top item = same_compared op _ _ _ _ (vl mode top item) (vr mode top item)
 
 steps-same : (s : Step) (ss : Steps) → StepSame s → StepsSame ss → StepsSame (step s ss)
 steps-same s ss one more mode top items =
     rw (joined-same (step_meaning mode (settled_step s) top) (step_meaning mode s top) (one mode top) items)
-    (with-same (try_flat_map (step_meaning mode s top) items) (steps_meaning mode (settled_steps ss) top) (steps_meaning mode ss top) (more mode top))
+    (same_after (try_flat_map (step_meaning mode s top) items) (steps_meaning mode (settled_steps ss) top) (steps_meaning mode ss top) (more mode top))
 
 mutual
   step_same : (s : Step) → StepSame s
@@ -204,20 +188,14 @@ mutual
 
 settled_variant-twice : (v : Variant) (z : ℤ) → settled_variant (settled_variant v z) z ≡ settled_variant v z
 settled_variant-twice int64 (pos n) = refl
-settled_variant-twice int64 (negsuc n) = refl
-settled_variant-twice uint64 z = refl
-settled_variant-twice decimal64 z = refl
-settled_variant-twice decimal128 z = refl
+settled_variant-twice _ _ = refl
 
 settled_number-twice : (n : Number) → settled_number (settled_number n) ≡ settled_number n
 settled_number-twice n = ap (λ (v : Variant). record { variant = v; whole = n.whole; scale = n.scale }) (settled_variant-twice n.variant n.whole)
 
 decimal-settled : (v : Variant) (z : ℤ) → is_decimal (settled_variant v z) ≡ is_decimal v
 decimal-settled int64 (pos n) = refl
-decimal-settled int64 (negsuc n) = refl
-decimal-settled uint64 z = refl
-decimal-settled decimal64 z = refl
-decimal-settled decimal128 z = refl
+decimal-settled _ _ = refl
 
 calculated-settled : (op : Operation) (m n : Number) → calculated op (settled_number m) (settled_number n) ≡ calculated op m n
 calculated-settled op m n = rw (decimal-settled m.variant m.whole, decimal-settled n.variant n.whole) refl
@@ -236,16 +214,13 @@ same_answer f h o o' e = sym (through o') ∙ ap (λ (x : Outcome (List Value)).
 
 numbers-settled : (vs : List Value) → all_numbers (map settled_value vs) ≡ and_then (all_numbers vs) (λ ns. Ok (map settled_number ns))
 numbers-settled [] = refl
-numbers-settled (null ∷ vs) = refl
-numbers-settled (boolean b ∷ vs) = refl
-numbers-settled (text bs ∷ vs) = refl
-numbers-settled (container ∷ vs) = refl
 numbers-settled (number n ∷ vs) = rw (numbers-settled vs) (go (all_numbers vs)) where
   go : (o : Outcome (List Number))
       → and_then (and_then o (λ ns. Ok (map settled_number ns))) (λ ns. Ok (settled_number n ∷ ns))
       ≡ and_then (and_then o (λ ns. Ok (n ∷ ns))) (λ ns. Ok (map settled_number ns))
   go (Ok ns) = refl
   go (Err e) = refl
+numbers-settled (_ ∷ vs) = refl
 
 joined-minus : (ns : List Number) → try_flat_map (signed_number minus) (map settled_number ns) ≡ try_flat_map (signed_number minus) ns
 joined-minus [] = refl
@@ -322,17 +297,8 @@ plain-meaning p mode top = rw (filters-settled p) (steps_same (steps_of (map as_
 meaning-settled : (p : List Step) (mode : Mode) (top : Tree) → settled_outcome (meaning mode (map settled_step p) top) ≡ settled_outcome (meaning mode p top)
 meaning-settled [] mode top = refl
 meaning-settled (whole_expression e ∷ []) mode top = expression-meaning e mode top
-meaning-settled (whole_expression e ∷ t ∷ p) mode top = ap settled_outcome (plain-meaning (whole_expression e ∷ t ∷ p) mode top)
 meaning-settled (current ∷ p) mode top = refl
-meaning-settled (root ∷ p) mode top = ap settled_outcome (plain-meaning (root ∷ p) mode top)
-meaning-settled (dot_wildcard ∷ p) mode top = ap settled_outcome (plain-meaning (dot_wildcard ∷ p) mode top)
-meaning-settled (recursive_dot_wildcard levels ∷ p) mode top = ap settled_outcome (plain-meaning (recursive_dot_wildcard levels ∷ p) mode top)
-meaning-settled (bracket_wildcard ∷ p) mode top = ap settled_outcome (plain-meaning (bracket_wildcard ∷ p) mode top)
-meaning-settled (dot_field name ∷ p) mode top = ap settled_outcome (plain-meaning (dot_field name ∷ p) mode top)
-meaning-settled (colon_field name ∷ p) mode top = ap settled_outcome (plain-meaning (colon_field name ∷ p) mode top)
-meaning-settled (object_field name ∷ p) mode top = ap settled_outcome (plain-meaning (object_field name ∷ p) mode top)
-meaning-settled (array_indices entries ∷ p) mode top = ap settled_outcome (plain-meaning (array_indices entries ∷ p) mode top)
-meaning-settled (filter e ∷ p) mode top = ap settled_outcome (plain-meaning (filter e ∷ p) mode top)
+meaning-settled (s ∷ p) mode top = ap settled_outcome (plain-meaning (s ∷ p) mode top)
 
 -- ---- what differs at most in variants is equal by value
 
@@ -401,11 +367,8 @@ told : (e : Expression) (mode : Mode) (top : Tree) →
 told e mode top = same_truth (expression_meaning mode (settled e) top) (expression_meaning mode e top) (expression-meaning e mode top)
 
 expression-predicate : (e : Expression) (mode : Mode) (top : Tree) → expression_predicate mode (settled e) top ≡ expression_predicate mode e top
-expression-predicate (paths ss) mode top = told (paths ss) mode top
 expression-predicate (value l) mode top = refl
-expression-predicate (unary op e) mode top = told (unary op e) mode top
-expression-predicate (binary op l r) mode top = told (binary op l r) mode top
-expression-predicate (exists ss) mode top = told (exists ss) mode top
+expression-predicate e mode top = told e mode top
 
 -- several steps say nothing
 several-predicate : (e : Expression) (s : Step) (p : List Step) (mode : Mode) (top : Tree) → predicate mode (whole_expression e ∷ s ∷ p) top ≡ Ok None
@@ -417,16 +380,7 @@ predicate-settled [] mode top = refl
 predicate-settled (whole_expression e ∷ []) mode top = expression-predicate e mode top
 predicate-settled (whole_expression e ∷ t ∷ p) mode top =
     several-predicate (settled e) (settled_step t) (map settled_step p) mode top ∙ sym (several-predicate e t p mode top)
-predicate-settled (root ∷ p) mode top = refl
-predicate-settled (current ∷ p) mode top = refl
-predicate-settled (dot_wildcard ∷ p) mode top = refl
-predicate-settled (recursive_dot_wildcard levels ∷ p) mode top = refl
-predicate-settled (bracket_wildcard ∷ p) mode top = refl
-predicate-settled (dot_field name ∷ p) mode top = refl
-predicate-settled (colon_field name ∷ p) mode top = refl
-predicate-settled (object_field name ∷ p) mode top = refl
-predicate-settled (array_indices entries ∷ p) mode top = refl
-predicate-settled (filter e ∷ p) mode top = refl
+predicate-settled (_ ∷ p) mode top = refl
 
 pub variants_change_no_meaning : (p q : List Step) → SameButVariants p q → MeanTheSame p q
 variants_change_no_meaning p q alike mode top = let same = one_path p q alike in (

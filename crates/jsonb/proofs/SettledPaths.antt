@@ -1,5 +1,5 @@
 -- A path with each non-negative integer unsigned, and paths that are the same in this form.
-use Rattle.std.proofs.Common.{◌≡◌, List, [], ◌∷◌, map, refl, ap, ap₂, ◌∙◌}
+use Rattle.std.proofs.Common.{◌≡◌, List, [], ◌∷◌, map, refl, ap, ap₂}
 use Rattle.std.specs.Prelude.{pos}
 use Rattle.jsonb_doc.specs.declared.number.Number.TheVariants.{Int64}
 use Rattle.jsonb.specs.PathEquality.{SameStepBut, SameStepsBut, SameExpressionBut}
@@ -51,8 +51,7 @@ mutual
 pub one_path : (p q : List Step) → SameButVariants p q → map settled_step p ≡ map settled_step q
 one_path [] [] h = refl
 one_path (s ∷ p) (t ∷ q) h = ap₂ (λ u r. u ∷ r) (one_step s t h.0) (one_path p q h.1)
-one_path [] (t ∷ q) h = absurd h
-one_path (s ∷ p) [] h = absurd h
+one_path _ _ h = absurd h
 
 -- ---- a path is the same as its form
 

@@ -1,5 +1,5 @@
 -- Numbers of the items that were found, each with a sign.
-use Rattle.std.proofs.Common.{◌≡◌, ℕ, ◌+◌, ◌<◌, ◌≤◌, List, [], ◌∷◌, ◌++◌, Ok, Err, OnOk, IfErr, IsOkAnd, refl, ap, ◌∙◌, inl, subst, map, flat_map, append_assoc, length, get_or, set, take, drop, arith}
+use Rattle.std.proofs.Common.{◌≡◌, ℕ, ◌+◌, ◌<◌, ◌≤◌, List, [], ◌∷◌, ◌++◌, Ok, Err, OnOk, IfErr, IsOkAnd, refl, ap, ◌∙◌, inl, map, flat_map, append_assoc, length, get_or, set, take, drop, arith}
 use Rattle.std.proofs.lemmas.List.{map-append, take_all, take_more_set, drop-set-lt}
 use Rattle.jsonb_doc.specs.Answer.{Outcome, and_then, try_flat_map, Refines, IsOutOfMemory}
 use Rattle.jsonb_doc.specs.Private.StoredValue.{IsStoredAs}
@@ -91,9 +91,7 @@ module _ (op : UnaryOp) (xs : List CodeNumber) (i : ℕ) (d : CodeNumber) (outco
   one_signed v short is =
       let next : i < i + 1 = omega arith in
       rw (drop-set-lt (i + 1) xs i v next, take_more_set xs i v short)
-      (one_more (signed_number op) (AllZip (Is number_view) (drop i xs)) (AllZip (Is number_view) (drop (i + 1) xs))
-      (AllZip IsNumberItem (take i xs)) (AllZip IsNumberItem (take i xs ++ v ∷ [])) (Is number_view (get_or xs i d)) outcome done
-      (list_first (Is number_view) xs i d short)
+      (one_more {Done' = AllZip IsNumberItem (take i xs ++ v ∷ [])} done (list_first (Is number_view) xs i d short)
       (λ n before same held. rw (← same)
       (number_added (take i xs) (take i xs ++ v ∷ []) v (signed_number op (number_view (get_or xs i d))) before refl is held)))
 
@@ -101,16 +99,12 @@ module _ (op : UnaryOp) (xs : List CodeNumber) (i : ℕ) (d : CodeNumber) (outco
       → Refines {A = CodeNumber} IsNumberTree (λ _. ⊥) (Err e) (signed_number op (number_view (get_or xs i d))) → Refines {A = Unit {0}} Q IsOutOfMemory
       (Err e) outcome
   one_refused {Q} {e} short is =
-      refused_in (signed_number op) Q (AllZip (Is number_view) (drop i xs)) (AllZip (Is number_view) (drop (i + 1) xs))
-      (AllZip IsNumberItem (take i xs)) (AllZip IsNumberItem (take i xs)) (Is number_view (get_or xs i d)) e outcome done
-      (list_first (Is number_view) xs i d short) (λ n before same held. record { ok = tt; err = rw (← same) ((as_memory is).err) })
+      record { ok = tt; err = refused_in done (list_first (Is number_view) xs i d short) (λ n before same held. rw (← same) ((as_memory is).err)) }
 
 pub all_signed : (op : UnaryOp) (xs : List CodeNumber) (i : ℕ) (outcome : Outcome (List Tree)) → SignedUntil op xs i outcome → length xs ≤ i
     → IsOkAnd outcome (AllZip IsNumberItem xs)
 all_signed op xs i outcome done end =
-    subst (λ l. IsOkAnd outcome (AllZip IsNumberItem l)) (take_all i xs end)
-    (at_end (signed_number op) (AllZip (Is number_view) (drop i xs)) (AllZip IsNumberItem (take i xs)) outcome done
-    (list_end (Is number_view) xs i end))
+    rw (take_all i xs end) at (at_end done (list_end (Is number_view) xs i end))
 
 -- ---- what follows the values of an operand
 

@@ -29,6 +29,8 @@ use Rattle.jsonb.specs.declared.selector.compile.Waiting.{Waiting}
 use Rattle.jsonb.specs.declared.selector.pair.Join.{Join}
 use Rattle.jsonb.specs.declared.selector.pair.Join.TheVariants.{And, Or}
 use Rattle.jsonb.specs.declared.selector.pair.Pair.{Pair}
+pub use Rattle.jsonb_doc.proofs.Basics.{empty_of as none_waiting, innermost as last_first}
+use Rattle.jsonb_doc.proofs.Basics.{zip_along}
 use Rattle.jsonb.proofs.ComparedLemmas.{Any, comparison_total, members_total}
 use Rattle.jsonb.proofs.RefinesLemmas.{with_ok}
 use Rattle.jsonb.proofs.JumpLemmas.{evaluated-whole}
@@ -52,9 +54,6 @@ pair_branches : (j : Join) (l r : Expression) (t f : ℕ) (others : List Branch)
     (branches_of r t f others)
 pair_branches And l r t f others = refl
 pair_branches Or l r t f others = refl
-
-pub last_first : {A : Type 0} (xs : List A) (x : A) → reverse (xs ++ x ∷ []) ≡ x ∷ reverse xs
-last_first xs x = reverse-append xs (x ∷ [])
 
 -- the parts of a pair
 pair_parts : (waiting : List Waiting) (part : Waiting) (p : Pair) (t f : ℕ) (others : List Branch) → IsPairOf part.e.now p
@@ -96,10 +95,6 @@ pub popped : (old new : List Waiting) (found : Option Waiting) → old ≡ new +
 popped old new (Some part) is empty = sym (ap reverse is ∙ last_first new part)
 popped old new None is empty = sym (ap reverse (empty refl))
 
-pub none_waiting : {A : Type 0} (waiting : List A) → length waiting ≡ 0 → waiting ≡ []
-none_waiting [] none = refl
-none_waiting (e ∷ waiting) none = cc
-
 -- as many branches as tests
 pub as_many : (tests : List Test) (done : List Branch) → AreBranches IsQuestionOf (reverse tests) done → length tests ≡ length done
 as_many tests done a = sym (length-reverse tests) ∙ related_length (IsTestOf IsQuestionOf) (reverse tests) done a
@@ -126,13 +121,12 @@ plain_question _ e plain h = h
 plain_branches : (tests : List Test) (branches : List Branch) → are_plain tests ≡ true → AreBranches IsQuestionOf tests branches
     → AreBranches IsPlainQuestionOf tests branches
 plain_branches [] [] plain a = tt
-plain_branches [] (b ∷ bs) plain a = absurd a
-plain_branches (x ∷ xs) [] plain a = absurd a
 plain_branches (x ∷ xs) (b ∷ bs) plain a =
     let k = both_true (is_plain x.question) (are_plain xs) plain in (
       record { on_true = a.0.on_true; on_false = a.0.on_false; question = plain_question x.question b.condition k.0 a.0.question },
       plain_branches xs bs k.1 a.1,
     )
+plain_branches _ _ plain a = absurd a
 
 plain_last : (tests : List Test) (x : Test) → are_plain tests ≡ true → is_plain x.question ≡ true → are_plain (tests ++ x ∷ []) ≡ true
 plain_last [] x plain last = ap (λ b. b && true) last
@@ -153,17 +147,10 @@ any_question : (q : Question) (e : Expression) → IsPlainQuestionOf q e → IsQ
 any_question (question.Expression part) e h = absurd h
 any_question _ e h = h
 
-any_branches : (tests : List Test) (branches : List Branch) → AreBranches IsPlainQuestionOf tests branches → AreBranches IsQuestionOf tests branches
-any_branches [] [] a = tt
-any_branches [] (b ∷ bs) a = absurd a
-any_branches (x ∷ xs) [] a = absurd a
-any_branches (x ∷ xs) (b ∷ bs) a = (
-  record { on_true = a.0.on_true; on_false = a.0.on_false; question = any_question x.question b.condition a.0.question },
-  any_branches xs bs a.1,
-)
-
 pub any_tests : (tests : List Test) (e : Expression) → ArePlainTestsOf tests e → AreTestsOf IsQuestionOf tests e
-any_tests tests e a = any_branches (reverse tests) (branches_of_whole e) a
+any_tests tests e a = zip_along (IsTestOf IsPlainQuestionOf) (IsTestOf IsQuestionOf)
+    (λ x b h. record { on_true = h.on_true; on_false = h.on_false; question = any_question x.question b.condition h.question })
+    (reverse tests) (branches_of_whole e) a
 
 pub no_conditions : (q : Question) → is_plain q ≡ true → question_conditions q ≡ []
 no_conditions (question.Expression part) plain = cc
@@ -183,9 +170,9 @@ pub record NextTest (IsOf : Question → Expression → Type 0) (before : List T
 pub next_branch : {IsOf : Question → Expression → Type 0} (tests before : List Test) (x : Test) (rest : List Branch) (state : Option Jump) (mode : Mode) (top t : Tree)
     → tests ≡ before ++ x ∷ [] → AreBranches IsOf (reverse tests) rest → NextTest IsOf before (length tests) x rest state mode top t
 next_branch {IsOf} tests before x [] state mode top t is related =
-    absurd (subst (λ l. AreBranches IsOf l []) (ap reverse is ∙ last_first before x) related)
+    absurd (rw (ap reverse is ∙ last_first before x) at related)
 next_branch {IsOf} tests before x (b ∷ bs) state mode top t is related =
-    let each : AreBranches IsOf (x ∷ reverse before) (b ∷ bs) = subst (λ l. AreBranches IsOf l (b ∷ bs)) (ap reverse is ∙ last_first before x) related in
+    let each : AreBranches IsOf (x ∷ reverse before) (b ∷ bs) = rw (ap reverse is ∙ last_first before x) at related in
     let many : length (b ∷ bs) ≡ length tests = sym (related_length (IsTestOf IsOf) (reverse tests) (b ∷ bs) related) ∙ length-reverse tests in
     record {
       condition = b.condition;
@@ -200,8 +187,7 @@ pub next_test : {IsOf : Question → Expression → Type 0} (tests : List Test) 
     → n ≤ length tests → n ≡ i + 1 → x ≡ get_or tests i x → AreBranches IsOf (reverse (take n tests)) rest
     → NextTest IsOf (take i tests) n x rest state mode top t
 next_test {IsOf} tests n i x rest state mode top t within next is related =
-    subst (λ k. NextTest IsOf (take i tests) k x rest state mode top t) (length-take-le n tests within)
-    (next_branch (take n tests) (take i tests) x rest state mode top t
+    rw (length-take-le n tests within) at (next_branch (take n tests) (take i tests) x rest state mode top t
     (ap (λ k. take k tests) next ∙ take_more tests i x (omega (arith, within, next)) ∙ ap (λ y. take i tests ++ y ∷ []) (sym is)) related)
 
 -- after its truth
@@ -222,7 +208,7 @@ conditions_at tests n i x within next is =
 -- no test is left
 pub no_test : (IsOf : Question → Expression → Type 0) (tests : List Test) (n : ℕ) (rest : List Branch) → n ≡ 0 → AreBranches IsOf (reverse (take n tests)) rest → rest ≡ []
 no_test IsOf tests n [] none related = refl
-no_test IsOf tests n (b ∷ bs) none related = absurd (subst (λ k. AreBranches IsOf (reverse (take k tests)) (b ∷ bs)) none related)
+no_test IsOf tests n (b ∷ bs) none related = absurd (rw none at related)
 
 -- all tests, from a jump that passes over none
 pub from_first : (IsOf : Question → Expression → Type 0) (mode : Mode) (tests : List Test) (e : Expression) (top t : Tree) (state : Option Jump) (jump : Jump) → state ≡ Some jump
@@ -263,8 +249,7 @@ pub first_test : {IsOf : Question → Expression → Type 0} (others : List Test
 first_test {IsOf} others x e mode top t a =
     let start : Jump = record { left = length others + 1; truth = false } in
     let many : length (others ++ x ∷ []) ≡ length others + 1 = length-append others (x ∷ []) in (
-      subst (λ n. NextTest IsOf others n x (branches_of_whole e) (Some start) mode top t) many
-          (next_branch (others ++ x ∷ []) others x (branches_of_whole e) (Some start) mode top t refl a),
+      rw many at (next_branch (others ++ x ∷ []) others x (branches_of_whole e) (Some start) mode top t refl a),
       from_first IsOf mode (others ++ x ∷ []) e top t (Some start) start refl (sym many) a,
     )
 
@@ -275,7 +260,7 @@ first_branch (binary or_op l r) t f others = first_branch l t (length (branches_
 first_branch e t f others = (record { condition = e; on_true = t; on_false = f }, others, refl)
 
 pub no_tests : {A : Type 0} (tests : List Test) (e : Expression) → length tests ≡ 0 → ArePlainTestsOf tests e → A
-no_tests [] e none a = let k = first_branch e 0 0 [] in absurd (subst (λ bs. AreBranches IsPlainQuestionOf [] bs) k.2 a)
+no_tests [] e none a = let k = first_branch e 0 0 [] in absurd (rw k.2 at a)
 no_tests (x ∷ xs) e none a = cc
 
 -- ---- in lax mode no test fails
@@ -301,17 +286,16 @@ question_total question.Unknown e top t h = subst (λ o. IsOkAnd o Any) (sym (h 
 branches_total : (tests : List Test) (branches : List Branch) (state : Option Jump) (top t : Tree) → AreBranches IsPlainQuestionOf tests branches
     → IsOkAnd (evaluated Lax top t branches state) Any
 branches_total [] [] state top t a = tt
-branches_total [] (b ∷ bs) state top t a = absurd a
-branches_total (x ∷ xs) [] state top t a = absurd a
 branches_total (x ∷ xs) (b ∷ bs) state top t a =
     with_ok Any (λ o. IsOkAnd o Any) (truth Lax b.condition top t)
     (λ v. evaluated Lax top t bs (next_jump b.on_true b.on_false (length (b ∷ bs)) state v)) (question_total x.question b.condition top t a.0.question)
     (λ v _. branches_total xs bs (next_jump b.on_true b.on_false (length (b ∷ bs)) state v) top t a.1)
+branches_total _ _ state top t a = absurd a
 
 pub condition_total : (tests : List Test) (e : Expression) (top t : Tree) → ArePlainTestsOf tests e → IsOkAnd (truth Lax e top t) Any
 condition_total tests e top t a =
     let jump : Jump = record { left = length tests; truth = false } in
-    subst (λ o. IsOkAnd o Any) (sym (from_first IsPlainQuestionOf Lax tests e top t (Some jump) jump refl refl a)) (branches_total (reverse tests) (branches_of_whole e) (Some jump) top t a)
+    rw (sym (from_first IsPlainQuestionOf Lax tests e top t (Some jump) jump refl refl a)) at (branches_total (reverse tests) (branches_of_whole e) (Some jump) top t a)
 
 -- ---- a filter whose result is determined
 
@@ -328,8 +312,6 @@ pub settled : (tests : List Test) (branches : List Branch) (mode : Mode) (state 
     → AreBranches IsPlainQuestionOf tests branches → and_then (evaluated mode top t branches state) (λ b. Ok (filtered t b)) ≡ Ok (filtered t (jump_truth state))
 settled tests branches Strict state top t h a = cc
 settled [] [] Lax state top t h a = refl
-settled [] (b ∷ bs) Lax state top t h a = absurd a
-settled (x ∷ xs) [] Lax state top t h a = absurd a
 settled (x ∷ xs) (b ∷ bs) Lax None top t h a =
     go (truth Lax b.condition top t) (question_total x.question b.condition top t a.0.question) (settled xs bs Lax None top t h a.1)
   where
@@ -356,15 +338,15 @@ settled (x ∷ xs) (b ∷ bs) Lax (Some jump) top t h a =
         (lt-leb (length (b ∷ bs)) jump.left (omega (arith, closed.0)))
         ∙ unknown ∙ ap (λ v. Ok (filtered t (Some v))) (sym closed.1)
     go (Err e) u rest unknown closed = absurd u
+settled _ _ Lax state top t h a = absurd a
 
 -- ---- members
 
 -- what was found is there if and only if the list has an item
 pub found_is_item : (R : Spot → Tree → Type 0) (found : Option Spot) (ts : List Tree) → AllZip R (option_spots found) ts → is_some found ≡ is_some_item ts
 found_is_item R None [] a = refl
-found_is_item R None (t ∷ ts) a = absurd a
-found_is_item R (Some x) [] a = absurd a
 found_is_item R (Some x) (t ∷ ts) a = refl
+found_is_item R _ _ a = absurd a
 
 -- the truth by the steps as they are evaluated within an operand
 pub both_members : (c : MembersCompared) (e : Expression) (mode : Mode) (top t : Tree) → AreMembersCompared c e → truth mode e top t

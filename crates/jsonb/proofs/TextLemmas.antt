@@ -1,8 +1,8 @@
 -- Text that one part is appended to.
-use Rattle.std.proofs.Common.{◌≡◌, ℕ, ◌+◌, ◌/◌, ◌%◌, ◌<◌, List, [], ◌∷◌, ◌++◌, length, get_or, take, map, refl, sym, ap, ◌∙◌, append_assoc}
+use Rattle.std.proofs.Common.{◌≡◌, ℕ, ◌+◌, ◌/◌, ◌%◌, ◌<◌, List, [], ◌∷◌, ◌++◌, length, get_or, take, refl, sym, ap, ◌∙◌, append_assoc}
 use Rattle.std.specs.Prelude.{flat_map, slice_index}
 use Rattle.hex.specs.Hex.{encode_with, encode_lower, lower_digits}
-use Rattle.std.proofs.lemmas.List.{flat_map_more, take_more, map_more, append-nil}
+use Rattle.std.proofs.lemmas.List.{flat_map_more, take_more, append-nil}
 use Rattle.jsonb.specs.PathText.{step_text, steps_text, path_text}
 use Rattle.jsonb.specs.PathTree.{Step, steps_of}
 use Rattle.jsonb.specs.PathViews.{step_view, steps_view}

@@ -37,13 +37,9 @@ branches_weight (b ∷ bs) = weight b.condition + branches_weight bs
 
 branches_within : (e : Expression) (t f : ℕ) (others : List Branch) → branches_weight (branches_of e t f others) ≤ weight e + branches_weight others
 branches_within (binary and_op l r) t f others =
-    let right = branches_within r t f others in
-    let left = branches_within l (length (branches_of r t f others)) f (branches_of r t f others) in
-    omega (arith, right, left)
+    omega (arith, branches_within r t f others, branches_within l (length (branches_of r t f others)) f (branches_of r t f others))
 branches_within (binary or_op l r) t f others =
-    let right = branches_within r t f others in
-    let left = branches_within l t (length (branches_of r t f others)) (branches_of r t f others) in
-    omega (arith, right, left)
+    omega (arith, branches_within r t f others, branches_within l t (length (branches_of r t f others)) (branches_of r t f others))
 branches_within e t f others = omega arith
 
 question_within : (q : Question) (e : Expression) → IsQuestionOf q e → question_weight q ≤ weight e
@@ -57,10 +53,7 @@ tests_within : (tests : List Test) (bs : List Branch) → AreBranches IsQuestion
 tests_within [] bs a = omega arith
 tests_within (x ∷ xs) [] a = absurd a
 tests_within (x ∷ xs) (b ∷ bs) a =
-    let here = question_within x.question b.condition a.0.question in
-    let rest = tests_within xs bs a.1 in
-    let first = first_test x xs in
-    omega (arith, here, rest, first)
+    omega (arith, question_within x.question b.condition a.0.question, tests_within xs bs a.1, first_test x xs)
 
 weight_append : (xs ys : List Test) → tests_weight (xs ++ ys) ≡ tests_weight xs + tests_weight ys
 weight_append xs ys = sum_by-append (λ (test : Test). question_weight test.question) xs ys
@@ -68,19 +61,13 @@ weight_append xs ys = sum_by-append (λ (test : Test). question_weight test.ques
 weight_reverse : (tests : List Test) → tests_weight (reverse tests) ≡ tests_weight tests
 weight_reverse [] = refl
 weight_reverse (x ∷ xs) =
-    let rest = weight_reverse xs in
     let parts = ap tests_weight (reverse-append (x ∷ []) xs) ∙ weight_append (reverse xs) (x ∷ []) in
-    let first = first_test x xs in
-    let one = first_test x [] in
-    omega (arith, rest, parts, first, one)
+    omega (arith, weight_reverse xs, parts, first_test x xs, first_test x [])
 
 -- the tests of an expression are no more than it
 pub compiled_within : (tests : List Test) (e : Expression) → AreTestsOf IsQuestionOf tests e → tests_weight tests ≤ weight e
 compiled_within tests e a =
-    let tested = tests_within (reverse tests) (branches_of_whole e) a in
-    let whole = branches_within e 0 0 [] in
-    let same = weight_reverse tests in
-    omega (arith, tested, whole, same)
+    omega (arith, tests_within (reverse tests) (branches_of_whole e) a, branches_within e 0 0 [], weight_reverse tests)
 
 -- the next test, and those that are left
 pub test_weight : (tests : List Test) (n i : ℕ) (x : Test) → n ≡ i + 1 → slice_get tests i ≡ Some x
@@ -88,16 +75,12 @@ pub test_weight : (tests : List Test) (n i : ℕ) (x : Test) → n ≡ i + 1 →
 test_weight tests n i x after has =
     let more = ap tests_weight (ap (λ k. take k tests) after ∙ take_more tests i x (slice_get_within tests i x has)
     ∙ ap (λ y. take i tests ++ y ∷ []) (get_or_from_slice_get tests i x x has)) in
-    let parts = weight_append (take i tests) (x ∷ []) in
-    let one = first_test x [] in
-    omega (arith, more, parts, one)
+    omega (arith, more, weight_append (take i tests) (x ∷ []), first_test x [])
 
 -- the only test
 pub only_weighs : (tests : List Test) (x : Test) (n : ℕ) → tests ≡ x ∷ [] → 1 ≤ n → tests_weight (take n tests) ≡ question_weight x.question
 only_weighs tests x n one some =
-    let whole = ap (λ l. tests_weight (take n l)) one ∙ ap tests_weight (all_taken n some) in
-    let first = first_test x [] in
-    omega (arith, whole, first)
+    omega (arith, ap (λ l. tests_weight (take n l)) one ∙ ap tests_weight (all_taken n some), first_test x [])
   where
     all_taken : (n : ℕ) → 1 ≤ n → take n (x ∷ []) ≡ x ∷ []
     all_taken zero some = absurd (omega (arith, some))
@@ -108,18 +91,17 @@ only_weighs tests x n one some =
 
 pub steps_some : (ss : Steps) → 1 ≤ steps_weight ss
 steps_some no_steps = omega arith
-steps_some (step s rest) = let others = steps_some rest in omega (arith, others)
+steps_some (step s rest) = omega (arith, steps_some rest)
 
 pub running_some : (r : Running) → 1 ≤ running_weight r
 running_some r = steps_some (steps_of (steps_view (drop r.next r.steps.now)))
 
 -- the next step, and those after it
-pub next_weighs : (r : Running) (steps : List Path) (x : Path) → r.steps.now ≡ steps → r.next < length steps → x ≡ get_or steps r.next x
+pub next_weighs : (r : Running) (x : Path) → r.next < length r.steps.now → x ≡ get_or r.steps.now r.next x
     → running_weight r ≡ step_weight (step_view x) + steps_weight (steps_of (steps_view (drop (r.next + 1) r.steps.now)))
-next_weighs r steps x all short is =
-    ap (λ l. steps_weight (steps_of (steps_view l))) (drop-cons r.steps.now r.next x (subst (λ l. r.next < length l) (sym all) short)
-    ∙ ap (λ y. y ∷ drop (suc r.next) r.steps.now) (sym (subst (λ l. x ≡ get_or l r.next x) (sym all) is))
-    ∙ ap (λ n. x ∷ drop n r.steps.now) (sym (add-one r.next)))
+next_weighs r x short is =
+    ap (λ l. steps_weight (steps_of (steps_view l))) (drop-cons r.steps.now r.next x short
+    ∙ ap (λ y. y ∷ drop (suc r.next) r.steps.now) (sym is) ∙ ap (λ n. x ∷ drop n r.steps.now) (sym (add-one r.next)))
 
 taken_weighs : (expressions : Expressions) (s : Step) → step_weight (taken_step expressions s) ≡ step_weight s
 taken_weighs AreFilters (whole_expression e) = refl
@@ -128,16 +110,16 @@ taken_weighs AreRefused (whole_expression e) = refl
 taken_weighs AreRefused _ = refl
 
 -- the same if it is a filter
-pub filter_next_weighs : (r : Running) (steps : List Path) (x : Path) (e : Expression) → r.steps.now ≡ steps → r.next < length steps
-    → x ≡ get_or steps r.next x → taken_step r.expressions (step_view x) ≡ filter e
+pub filter_next_weighs : (r : Running) (x : Path) (e : Expression) → r.next < length r.steps.now → x ≡ get_or r.steps.now r.next x
+    → taken_step r.expressions (step_view x) ≡ filter e
     → running_weight r ≡ step_weight (filter e) + steps_weight (steps_of (steps_view (drop (r.next + 1) r.steps.now)))
-filter_next_weighs r steps x e all short is taken =
-    next_weighs r steps x all short is ∙ ap (λ w. w + steps_weight (steps_of (steps_view (drop (r.next + 1) r.steps.now))))
+filter_next_weighs r x e short is taken =
+    next_weighs r x short is ∙ ap (λ w. w + steps_weight (steps_of (steps_view (drop (r.next + 1) r.steps.now))))
     (sym (taken_weighs r.expressions (step_view x)) ∙ ap step_weight taken)
 
 -- a filter whose condition is compiled
 pub filter_weighs : (e : Expression) (tests : List Test) → AreTestsOf IsQuestionOf tests e → 2 ^ 64 * (1 + tests_weight tests) ≤ step_weight (filter e)
-filter_weighs e tests compiled = let within = compiled_within tests e compiled in omega (arith, within)
+filter_weighs e tests compiled = omega (arith, compiled_within tests e compiled)
 
 -- ---- filters
 
@@ -149,9 +131,7 @@ item_weighs n i w short =
 
 -- a list has fewer than 2^64 items
 few_items : (n w : ℕ) → n < 2 ^ 64 → n * (1 + w) < 2 ^ 64 * (1 + w)
-few_items n w few =
-    let fits = row_fits n (1 + w) (2 ^ 64) (1 + w) few (omega arith) in
-    omega (arith, fits)
+few_items n w few = omega (arith, row_fits n (1 + w) (2 ^ 64) (1 + w) few (omega arith))
 
 pub few_nodes : (nodes : NodeList) (w : ℕ) → length (node_spots nodes) * (1 + w) < 2 ^ 64 * (1 + w)
 few_nodes (node_list.One spot) w = few_items 1 w (omega arith)
@@ -159,10 +139,7 @@ few_nodes (node_list.Many v) w = few_items (length v.items) w (omega (arith, v.o
 
 -- the innermost filter
 pub around_pushed : (fs : List Frame) (f : Frame) → around_weight (fs ++ f ∷ []) ≡ around_weight fs + frame_weight f
-around_pushed fs f =
-    let parts = sum_by-append frame_weight fs (f ∷ []) in
-    let one = sum_by-cons frame_weight f [] in
-    omega (arith, parts, one)
+around_pushed fs f = omega (arith, sum_by-append frame_weight fs (f ∷ []), sum_by-cons frame_weight f [])
 
 -- ---- results
 
@@ -171,9 +148,7 @@ pub waits_weigh : (old new : List Frame) (f : Frame) (path : Box AtFilter Global
     → OnOk r ((r ≡ Ok (progress.AtFilter path)) × (new ≡ old ++ f ∷ []))
     → IfOk r (λ x. progress_weight x + around_weight new ≤ at_filter_weight path.value + (around_weight old + frame_weight f))
 waits_weigh old new f path (Ok x) h =
-    let weighs = ap outcome_weight h.0 in
-    let more = ap around_weight h.1 ∙ around_pushed old f in
-    omega (arith, weighs, more)
+    omega (arith, ap outcome_weight h.0, ap around_weight h.1 ∙ around_pushed old f)
   where
     outcome_weight : Outcome Progress → ℕ
     outcome_weight (Ok y) = progress_weight y

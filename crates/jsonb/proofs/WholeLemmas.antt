@@ -1,18 +1,18 @@
 -- Paths that are one expression, and all others.
-use Rattle.std.proofs.Common.{◌≡◌, List, [], ◌∷◌, map, Some, None, is_some, subst, Option, true, false, Ok, Err, IsOkAnd, refl, ap, sym, ◌∙◌, inl, inr, Box, Global}
-use Rattle.jsonb_doc.specs.Answer.{Outcome, and_then, Refines, IsOutOfMemory}
+use Rattle.std.proofs.Common.{◌≡◌, List, [], ◌∷◌, map, Some, None, is_some, Option, true, false, Ok, Err, refl, ap, sym, ◌∙◌, Box, Global}
+use Rattle.jsonb_doc.specs.Answer.{Outcome, and_then}
 use Rattle.jsonb_doc.specs.Payload.{Form}
 use Rattle.jsonb_doc.specs.View.{number_view}
 use Rattle.jsonb_doc.specs.Tree as tree
 use Rattle.jsonb_doc.specs.Tree.{Tree}
-use Rattle.jsonb_doc.specs.declared.error.Error.{Error}
 use Rattle.jsonb_doc.specs.declared.number.Number.{Number}
 use Rattle.jsonb.specs.PathTree as math
 use Rattle.jsonb.specs.PathTree.{Step, Expression, steps_of}
 use Rattle.jsonb.specs.PathViews.{step_view, literal_view}
 use Rattle.jsonb.specs.Compare.{Truth}
 use Rattle.jsonb.specs.Meaning.{step_meaning, steps_meaning, truth, filtered, as_filter, Means}
-use Rattle.jsonb.specs.Private.Selection.{step_expression, only_expression, is_relative}
+use Rattle.jsonb.specs.Private.Selection.{step_expression, only_expression, is_relative, taken_step}
+use Rattle.jsonb.specs.declared.selector.document.Expressions.TheVariants.{AreFilters}
 use Rattle.jsonb.specs.declared.selector.document.Mode.{Mode}
 use Rattle.jsonb.specs.declared.path.PathValue.{PathValue}
 use Rattle.jsonb.specs.declared.path.Expr.{Expr}
@@ -21,7 +21,7 @@ use Rattle.jsonb.specs.declared.path.Expr.TheViews.{roll-Path, roll-out-Path}
 use Rattle.jsonb.specs.declared.path.Path.{Path, out-Path}
 use Rattle.jsonb.specs.declared.path.Path.TheVariants as step
 use Rattle.jsonb.proofs.PathNodes.{step_is}
-use Rattle.jsonb.proofs.StepLemmas.{joined_one}
+use Rattle.jsonb.proofs.StepLemmas.{filter_steps, joined_one}
 
 -- a step that is not an expression is the same as a filter
 others : (s : Path) (x : Path-F Expr Path) → out-Path s ≡ x → ((e : Box Expr Global) → s ≡ step.Expr e → ⊥)
@@ -38,9 +38,8 @@ step_expression_is (math.whole_expression x) e h = let k : x ≡ e = cc in ap ma
 step_expression_is _ e h = cc
 
 pub lone_is : (path : List Step) (e : Expression) → only_expression path ≡ Some e → path ≡ math.whole_expression e ∷ []
-lone_is [] e h = cc
 lone_is (s ∷ []) e h = ap (λ x. x ∷ []) (step_expression_is s e h)
-lone_is (s ∷ t ∷ rest) e h = cc
+lone_is _ e h = cc
 
 module _ (form : Form) (mode : Mode) (top : Tree) (outcome : Outcome (List Tree)) where
   pub by_steps : (path : List Step) → only_expression path ≡ None → is_relative path ≡ false → Means form mode path top outcome
@@ -50,14 +49,19 @@ module _ (form : Form) (mode : Mode) (top : Tree) (outcome : Outcome (List Tree)
   by_steps (math.whole_expression e ∷ []) n b h = cc
   by_steps _ n b h = h
 
+  -- the same for the steps that are taken
+  pub by_taken : (path : List Step) → only_expression path ≡ None → is_relative path ≡ false → Means form mode path top outcome
+      → outcome ≡ steps_meaning mode (steps_of (map (taken_step AreFilters) path)) top (top ∷ [])
+  by_taken path n b h = rw (filter_steps path) (by_steps path n b h)
+
   -- an expression that is seen as another
   pub meant : (x y : Expression) → x ≡ y → Means form mode (math.whole_expression x ∷ []) top outcome
       → Means form mode (math.whole_expression y ∷ []) top outcome
-  meant x y is h = subst (λ z. Means form mode (math.whole_expression z ∷ []) top outcome) is h
+  meant x y is h = rw is at h
 
   pub literal_meant : (v w : PathValue) → v ≡ w → Means form mode (math.whole_expression (math.value (literal_view v)) ∷ []) top outcome
       → Means form mode (math.whole_expression (math.value (literal_view w)) ∷ []) top outcome
-  literal_meant v w is h = subst (λ x. Means form mode (math.whole_expression (math.value (literal_view x)) ∷ []) top outcome) is h
+  literal_meant v w is h = rw is at h
 
   pub number_meant : (n : Number) → Means form mode (math.whole_expression (math.value (math.number n)) ∷ []) top outcome
       → outcome ≡ Ok (tree.array (tree.trees_of (tree.number (number_view n) ∷ [])) ∷ [])
@@ -81,13 +85,3 @@ some_of None h = cc
 pub none_of : {A : Type 0} (o : Option A) → is_some o ≡ false → o ≡ None
 none_of (Some x) h = cc
 none_of None h = refl
-
--- an outcome with this value
-pub is_outcome : {B : Type 0} (o : Outcome B) (x : B) → IsOkAnd o (λ y. x ≡ y) → o ≡ Ok x
-is_outcome (Ok y) x h = ap Ok (sym h)
-is_outcome (Err e) x h = absurd h
-
--- a call that does not allocate
-pub without_memory : {A B : Type 0} {R : A → B → Type 0} {r : Outcome A} {o : Outcome B} → Refines R (λ (_ : Error). ⊥) r o → Refines R IsOutOfMemory r o
-without_memory {A} {B} {R} {r = Ok x} {o} h = record { ok = h.ok; err = tt }
-without_memory {A} {B} {R} {r = Err e} {o} h = record { ok = tt; err = elim h.err [ inl none ↦ absurd none | inr is ↦ inr is ] }

@@ -1,6 +1,6 @@
 -- The position at which text ceases to be the beginning of a JSON path.
 use Rattle.std.specs.Prelude.{ℕ, Bool, true, false, List, length, nat_lt, Option, Some, if◌then◌else◌}
-use Rattle.jsonb_keypath.specs.Rules.{Rule, ◌>>=◌, ◌>>◌, ◌</>◌, literal}
+use Rattle.jsonb_keypath.specs.Rules.{Rule, ◌>>◌, ◌</>◌, literal}
 use Rattle.jsonb_keypath.specs.Tokens.{ws}
 use Rattle.jsonb_keypath.specs.ErrorPosition.{perhaps, rest_after, error_position}
 use Rattle.jsonb.specs.PathGrammar.{spaced_inner, rooted, spaced_operand, operator, unary_operator, expression, plain_path, json_path}

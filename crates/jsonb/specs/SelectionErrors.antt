@@ -1,5 +1,5 @@
 -- The results of a selection on any bytes, whether they decode or not.
-use Rattle.std.specs.Prelude.{◌≡◌, ◌⊎◌, ⊤}
+use Rattle.std.specs.Prelude.{◌⊎◌, ⊤}
 use Rattle.jsonb_doc.specs.declared.error.Error.{Error}
 use Rattle.jsonb_doc.specs.declared.error.Error.TheVariants.{InvalidJsonPath, Arithmetic, StrictPath, OutOfMemory}
 use Rattle.jsonb_doc.specs.Answer.{IsDecodingError, ◌or◌}

@@ -26,8 +26,8 @@ use Rattle.jsonb_doc.proofs.Containers.{Decodes-array, Decodes-object, entries_o
 use Rattle.jsonb_doc.proofs.KeyEntries.{key_entries}
 use Rattle.jsonb_doc.proofs.OneTree.{document_unique}
 use Rattle.jsonb_doc.proofs.PairsLemmas.{SkipsKeys, HoldsPairs-skipped, HoldsPairs-values}
-use Rattle.jsonb_doc.proofs.SpotsLemmas.{range_part, range_rest, trees_of-elements}
-use Rattle.jsonb_doc.proofs.TreeLists.{count-trees_of}
+use Rattle.jsonb_doc.proofs.SpotsLemmas.{range_part, range_rest}
+use Rattle.jsonb_doc.proofs.TreeLists.{count-trees_of, trees_of-elements}
 
 -- ---- entries
 

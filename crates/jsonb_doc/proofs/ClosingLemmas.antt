@@ -1,5 +1,5 @@
 -- The pieces of containers that are closed.
-use Rattle.std.proofs.Common.{◌≡◌, true, ℕ, suc, ◌+◌, ◌<◌, ◌≤◌, ◌^◌, List, [], ◌∷◌, ◌++◌, length, map, reverse, refl, sym, ap, ◌∙◌, arith, inl, inr, append_assoc, Global, string_bytes, String, Vec, BTreeMap, Option, Some, None, Result, Ok, Err}
+use Rattle.std.proofs.Common.{◌≡◌, true, ℕ, ◌+◌, ◌<◌, ◌≤◌, ◌^◌, List, [], ◌∷◌, ◌++◌, length, map, reverse, refl, sym, ap, ◌∙◌, arith, inl, inr, append_assoc, Global, string_bytes, String, Vec, BTreeMap, Option, Some, None, Result, Ok, Err}
 use Rattle.std.specs.Prelude.{flat_map, IsErrAnd, is_none}
 use Rattle.std.specs.List.{All, AllZip}
 use Rattle.std.specs.Map.{keys_of, values_of}
@@ -13,7 +13,7 @@ use Rattle.jsonb_doc.specs.Kinds.{kind_number}
 use Rattle.jsonb_doc.specs.Limits.{AreShortKeys, HasShortParts}
 use Rattle.jsonb_doc.specs.Answer.{IsOutOfMemory, ◌or◌when◌}
 use Rattle.jsonb_doc.specs.Encoding.{EntryParts}
-use Rattle.jsonb_doc.specs.Events.{Level, root, array_of, object_of, container}
+use Rattle.jsonb_doc.specs.Events.{Level, array_of, object_of, container}
 use Rattle.jsonb_doc.specs.ArrayBuilder.{Parts, entry_count, HoldsElements}
 use Rattle.jsonb_doc.specs.ObjectBuilder.{HoldsPairs}
 use Rattle.jsonb_doc.specs.Private.ObjectBytes.{FitsEntry, words_of_entries, contents_of_entries, object_bytes}
@@ -34,6 +34,7 @@ use Rattle.jsonb_doc.proofs.ObjectLemmas.{object_decodes}
 use Rattle.jsonb_doc.proofs.Entries.{kind_below}
 use Rattle.jsonb_doc.proofs.TreeLists.{count-trees_of, keys-pairs_of}
 use Rattle.jsonb_doc.proofs.PieceLemmas.{bytes_new, stacked-append, joined-append}
+use Rattle.std.proofs.lemmas.Slice.Zip.{AllZip-long}
 
 -- the contents of entries
 abbrev pub contents_in : List Piece → List PieceEntry → List ℕ
@@ -75,14 +76,7 @@ entries_held form ps (e ∷ es) (t ∷ ts) h = record {
   part = h.0.content;
   others = entries_held form ps es ts h.1;
 }
-entries_held form ps [] (t ∷ ts) h = absurd h
-entries_held form ps (e ∷ es) [] h = absurd h
-
-zip_length : {A B : Type 0} (R : A → B → Type 0) (xs : List A) (ys : List B) → AllZip R xs ys → length xs ≡ length ys
-zip_length R [] [] h = refl
-zip_length R (x ∷ xs) (y ∷ ys) h = ap suc (zip_length R xs ys h.1)
-zip_length R [] (y ∷ ys) h = absurd h
-zip_length R (x ∷ xs) [] h = absurd h
+entries_held form ps _ _ h = absurd h
 
 contents_size : (form : Form) (ps : List Piece) (es : List PieceEntry) (ts : List Tree) → AllZip (IsEntryOf form ps) es ts
     → length (contents_in ps es) ≡ total_len es
@@ -90,8 +84,7 @@ contents_size form ps [] [] h = refl
 contents_size form ps (e ∷ es) (t ∷ ts) h =
     let step : total_len (e ∷ es) ≡ e.len + total_len es = sum_by-cons (λ (d : PieceEntry). d.len) e es in
     omega (arith, step, length-append (bytes_at ps e.piece) (contents_in ps es), contents_size form ps es ts h.1, h.0.size)
-contents_size form ps [] (t ∷ ts) h = absurd h
-contents_size form ps (e ∷ es) [] h = absurd h
+contents_size form ps _ _ h = absurd h
 
 closed_size : (form : Form) (ps : List Piece) (head : List ℕ) (es : List PieceEntry) (ts : List Tree) (c : Closed) → AllZip (IsEntryOf form ps) es ts
     → IsClosed head es c → length (bytes_at (ps ++ c.piece ∷ []) (length ps)) ≡ c.len
@@ -105,7 +98,7 @@ array_closes form ps es ts c h few is =
     let bytes = bytes_at (ps ++ c.piece ∷ []) (length ps) in
     let parts : Parts = record { words = entry_words es; contents = contents_in ps es } in
     let held : HoldsElements form parts ts = entries_held form ps es ts h in
-    let many : entry_count parts ≡ length es = held_count form parts ts held ∙ sym (zip_length (IsEntryOf form ps) es ts h) in
+    let many : entry_count parts ≡ length es = held_count form parts ts held ∙ AllZip-long (IsEntryOf form ps) es ts h in
     let same : bytes ≡ header array_header (entry_count parts) ++ (parts.words ++ parts.contents) =
     rw many (closed_bytes ps (array_head es) es c is
     ∙ append_assoc (header array_header (length es)) (entry_words es) (contents_in ps es)) in
@@ -130,22 +123,19 @@ parts_held : (form : Form) (ps : List Piece) (es : List (String Global × PieceE
 unfolding parts_in
 parts_held form ps [] [] h = tt
 parts_held form ps (e ∷ es) (p ∷ prs) h = ((h.0.0, h.0.1.content), parts_held form ps es prs h.1)
-parts_held form ps [] (p ∷ prs) h = absurd h
-parts_held form ps (e ∷ es) [] h = absurd h
+parts_held form ps _ _ h = absurd h
 
 values_zip : (form : Form) (ps : List Piece) (es : List (String Global × PieceEntry)) (prs : List (List ℕ × Tree)) → AreMembersOf form ps es prs
     → AllZip (IsEntryOf form ps) (member_entries es) (values_of prs)
 values_zip form ps [] [] h = tt
 values_zip form ps (e ∷ es) (p ∷ prs) h = (h.0.1, values_zip form ps es prs h.1)
-values_zip form ps [] (p ∷ prs) h = absurd h
-values_zip form ps (e ∷ es) [] h = absurd h
+values_zip form ps _ _ h = absurd h
 
 pub member_keys_is : (form : Form) (ps : List Piece) (es : List (String Global × PieceEntry)) (prs : List (List ℕ × Tree)) → AreMembersOf form ps es prs
     → member_keys es ≡ keys_of prs
 member_keys_is form ps [] [] h = refl
 member_keys_is form ps (e ∷ es) (p ∷ prs) h = rw (h.0.0, member_keys_is form ps es prs h.1) refl
-member_keys_is form ps [] (p ∷ prs) h = absurd h
-member_keys_is form ps (e ∷ es) [] h = absurd h
+member_keys_is form ps _ _ h = absurd h
 
 parts_keys : (ps : List Piece) (es : List (String Global × PieceEntry)) → keys_of (parts_in ps es) ≡ member_keys es
 unfolding parts_in
@@ -165,8 +155,7 @@ parts_words form ps (e ∷ es) (p ∷ prs) h =
     let rest = parts_words form ps es prs h.1 in
     ap (λ (n : ℕ). entry_word (kind_number e.1.kind) n ++ words_of_entries (values_of (parts_in ps es))) h.0.1.size
     ∙ ap (λ (b : List ℕ). entry_word (kind_number e.1.kind) e.1.len ++ b) rest
-parts_words form ps [] (p ∷ prs) h = absurd h
-parts_words form ps (e ∷ es) [] h = absurd h
+parts_words form ps _ _ h = absurd h
 
 parts_fit : (form : Form) (ps : List Piece) (es : List (String Global × PieceEntry)) (prs : List (List ℕ × Tree)) → AreMembersOf form ps es prs
     → All FitsEntry (values_of (parts_in ps es))
@@ -176,8 +165,7 @@ parts_fit form ps (e ∷ es) (p ∷ prs) h =
     let below = kind_below (number_reader form) p.1 (kind_number e.1.kind) (bytes_at ps e.1.piece) h.0.1.content in
     All-cons FitsEntry (kind_number e.1.kind, bytes_at ps e.1.piece) (values_of (parts_in ps es))
     (omega (arith, below), omega (arith, h.0.1.size, e.1.short)) (parts_fit form ps es prs h.1)
-parts_fit form ps [] (p ∷ prs) h = absurd h
-parts_fit form ps (e ∷ es) [] h = absurd h
+parts_fit form ps _ _ h = absurd h
 
 are_keys : (ks : List (List ℕ)) → AreSortedTexts ks → AreShortKeys ks → AreKeys ks
 are_keys [] sorted short = tt
@@ -212,7 +200,7 @@ object_closes form ps es prs c h sorted short is =
 
 pub array_too_many : (form : Form) (ps : List Piece) (es : List PieceEntry) (ts : List Tree) → AllZip (IsEntryOf form ps) es ts → 2 ^ 29 ≤ length es
     → HasShortParts form (array (trees_of ts)) → ⊥
-array_too_many form ps es ts h many = λ short. omega (arith, short.0, count-trees_of ts, zip_length (IsEntryOf form ps) es ts h)
+array_too_many form ps es ts h many = λ short. omega (arith, short.0, count-trees_of ts, AllZip-long (IsEntryOf form ps) es ts h)
 
 pub object_too_large : (form : Form) (ps : List Piece) (es : List (String Global × PieceEntry)) (prs : List (List ℕ × Tree)) → AreMembersOf form ps es prs
     → (HasShortHead es → ⊥) → HasShortParts form (object (pairs_of prs)) → ⊥
@@ -226,8 +214,7 @@ object_too_large form ps es prs h large = λ short.
 pub array_closed : (form : Form) (ps : List Piece) (es : Vec PieceEntry Global) (level : Level) (c : Closed) → HoldsLevel form ps (Array es) level
     → length es.items < 2 ^ 29 → IsClosed (array_head es.items) es.items c → Closes form ps (container level) (Ok c)
 array_closed form ps es (array_of ts) c h few is = array_closes form ps es.items ts c h few is
-array_closed form ps es (root t) c h few is = absurd h
-array_closed form ps es (object_of prs next) c h few is = absurd h
+array_closed form ps es _ c h few is = absurd h
 
 pub object_closed : (form : Form) (ps : List Piece) (members : BTreeMap (String Global) PieceEntry) (key : Option (String Global)) (level : Level) (c : Closed)
     → HoldsLevel form ps (Object members key) level → true ≡ is_none key → HasShortHead members.entries
@@ -235,8 +222,7 @@ pub object_closed : (form : Form) (ps : List Piece) (members : BTreeMap (String 
 object_closed form ps members None (object_of prs None) c h none short is = object_closes form ps members.entries prs c h.0 h.1 short is
 object_closed form ps members None (object_of prs (Some next)) c h none short is = absurd h.2
 object_closed form ps members (Some name) level c h none short is = absurd (cc)
-object_closed form ps members None (root t) c h none short is = absurd h
-object_closed form ps members None (array_of ts) c h none short is = absurd h
+object_closed form ps members None _ c h none short is = absurd h
 
 pub array_fails : (form : Form) (ps : List Piece) (es : Vec PieceEntry Global) (level : Level) (r : Result Closed EventError) (e : Error)
     → HoldsLevel form ps (Array es) level → IsErrAnd r (λ d. d ≡ Failed e) → (IsOutOfMemory or TooLarge when 2 ^ 29 ≤ length es.items) e
@@ -245,8 +231,7 @@ array_fails form ps es (array_of ts) (Err d) e h is (inl memory) = inl (is ∙ a
 array_fails form ps es (array_of ts) (Err d) e h is (inr large) =
     inr (is ∙ ap Failed large.0, array_too_many form ps es.items ts h large.1)
 array_fails form ps es (array_of ts) (Ok c) e h is why = absurd is
-array_fails form ps es (root t) r e h is why = absurd h
-array_fails form ps es (object_of prs next) r e h is why = absurd h
+array_fails form ps es _ r e h is why = absurd h
 
 pub object_fails : (form : Form) (ps : List Piece) (members : BTreeMap (String Global) PieceEntry) (key : Option (String Global)) (level : Level)
     (r : Result Closed EventError) (e : Error) → HoldsLevel form ps (Object members key) level → true ≡ is_none key → IsErrAnd r (λ d. d ≡ Failed e)
@@ -257,5 +242,4 @@ object_fails form ps members None (object_of prs None) (Err d) e h none is (inr 
 object_fails form ps members None (object_of prs None) (Ok c) e h none is why = absurd is
 object_fails form ps members None (object_of prs (Some next)) r e h none is why = absurd h.2
 object_fails form ps members (Some name) level r e h none is why = absurd (cc)
-object_fails form ps members None (root t) r e h none is why = absurd h
-object_fails form ps members None (array_of ts) r e h none is why = absurd h
+object_fails form ps members None _ r e h none is why = absurd h

@@ -31,27 +31,8 @@ use Rattle.jsonb_doc.proofs.EventPartLemmas.{part_stays, last_run}
 use Rattle.jsonb_doc.proofs.UniqueLemmas.{all_rise, sorted_keys, unique_inserted}
 use Rattle.jsonb_doc.specs.declared.event_error.EventError.{EventError}
 use Rattle.jsonb_doc.specs.EventList.{BeginWithText}
-
--- ---- lists in step
-
-zip_along : {A B : Type 0} (R S : A → B → Type 0) → ((x : A) (y : B) → R x y → S x y) → (xs : List A) (ys : List B) → AllZip R xs ys → AllZip S xs ys
-zip_along R S along [] [] h = tt
-zip_along R S along (x ∷ xs) (y ∷ ys) h = (along x y h.0, zip_along R S along xs ys h.1)
-zip_along R S along [] (y ∷ ys) h = absurd h
-zip_along R S along (x ∷ xs) [] h = absurd h
-
-zip_more : {A B : Type 0} (R : A → B → Type 0) (xs : List A) (ys : List B) (x : A) (y : B) → AllZip R xs ys → R x y
-    → AllZip R (xs ++ x ∷ []) (ys ++ y ∷ [])
-zip_more R [] [] x y h last = (last, tt)
-zip_more R (a ∷ xs) (b ∷ ys) x y h last = (h.0, zip_more R xs ys x y h.1 last)
-zip_more R [] (b ∷ ys) x y h last = absurd h
-zip_more R (a ∷ xs) [] x y h last = absurd h
-
-zip_len : {A B : Type 0} (R : A → B → Type 0) (xs : List A) (ys : List B) → AllZip R xs ys → length xs ≡ length ys
-zip_len R [] [] h = refl
-zip_len R (x ∷ xs) (y ∷ ys) h = ap suc (zip_len R xs ys h.1)
-zip_len R [] (y ∷ ys) h = absurd h
-zip_len R (x ∷ xs) [] h = absurd h
+use Rattle.jsonb_doc.proofs.Basics.{zip_along, zip_more}
+use Rattle.std.proofs.lemmas.Slice.Zip.{AllZip-long}
 
 -- ---- more members after those of containers that have ended
 
@@ -69,23 +50,15 @@ module _ (ds more : List Member) where
   waits_stay Scalar key ms (root None) h = h
   waits_stay Array key ms (array_of ts) h = parts_stay ms ts h
   waits_stay Object key ms (object_of ps (Some name)) h = (h.0, members_stay ms ps h.1)
-  waits_stay Scalar key ms (root (Some t)) h = absurd h
-  waits_stay Scalar key ms (array_of ts) h = absurd h
-  waits_stay Scalar key ms (object_of ps next) h = absurd h
-  waits_stay Array key ms (root t) h = absurd h
-  waits_stay Array key ms (object_of ps next) h = absurd h
-  waits_stay Object key ms (root t) h = absurd h
-  waits_stay Object key ms (array_of ts) h = absurd h
-  waits_stay Object key ms (object_of ps None) h = absurd h
+  waits_stay _ key ms _ h = absurd h
 
   pub around_stay : (kind : HeaderKind) (before : List Member) (ls : List Level) → AreAround ds kind before ls → AreAround (ds ++ more) kind before ls
   around_stay Scalar before ls h = h
-  around_stay Array before [] h = absurd h
-  around_stay Object before [] h = absurd h
   around_stay Array before (l ∷ ls) h =
       (h.0, h.1, h.2, h.3, h.4, h.5, h.6, waits_stay h.3.kind h.2.key.now h.1 l h.7, around_stay h.3.kind h.0 ls h.8)
   around_stay Object before (l ∷ ls) h =
       (h.0, h.1, h.2, h.3, h.4, h.5, h.6, waits_stay h.3.kind h.2.key.now h.1 l h.7, around_stay h.3.kind h.0 ls h.8)
+  around_stay _ before [] h = absurd h
 
 -- ---- a value
 
@@ -97,14 +70,7 @@ filled_frame ds f Scalar ms m (root None) t is none waits part = (refl, (is, non
 filled_frame ds f Array ms m (array_of ts) t is none waits part = (refl, (is, none, zip_more _ ms ts m t waits part))
 filled_frame ds f Object ms m (object_of ps (Some name)) t is none waits part =
     (refl, (is, none, zip_more _ ms ps m (name, t) waits.1 (waits.0, part)))
-filled_frame ds f Scalar ms m (root (Some u)) t is none waits part = absurd waits
-filled_frame ds f Scalar ms m (array_of ts) t is none waits part = absurd waits
-filled_frame ds f Scalar ms m (object_of ps next) t is none waits part = absurd waits
-filled_frame ds f Array ms m (root u) t is none waits part = absurd waits
-filled_frame ds f Array ms m (object_of ps next) t is none waits part = absurd waits
-filled_frame ds f Object ms m (root u) t is none waits part = absurd waits
-filled_frame ds f Object ms m (array_of ts) t is none waits part = absurd waits
-filled_frame ds f Object ms m (object_of ps None) t is none waits part = absurd waits
+filled_frame ds f _ ms m _ t is none waits part = absurd waits
 
 -- a value that is waited for may come next
 pub waits_takes : (ds : List Member) (kind : HeaderKind) (key : List ℕ) (ms : List Member) (level : Level) → WaitsFor ds kind key ms level
@@ -112,14 +78,7 @@ pub waits_takes : (ds : List Member) (kind : HeaderKind) (key : List ℕ) (ms : 
 waits_takes ds Scalar key ms (root None) h = refl
 waits_takes ds Array key ms (array_of ts) h = refl
 waits_takes ds Object key ms (object_of ps (Some name)) h = refl
-waits_takes ds Scalar key ms (root (Some t)) h = absurd h
-waits_takes ds Scalar key ms (array_of ts) h = absurd h
-waits_takes ds Scalar key ms (object_of ps next) h = absurd h
-waits_takes ds Array key ms (root t) h = absurd h
-waits_takes ds Array key ms (object_of ps next) h = absurd h
-waits_takes ds Object key ms (root t) h = absurd h
-waits_takes ds Object key ms (array_of ts) h = absurd h
-waits_takes ds Object key ms (object_of ps None) h = absurd h
+waits_takes ds _ key ms _ h = absurd h
 
 -- a key in an object
 pub named_frame : (ds : List Member) (f g : Frame) (ms : List Member) (key : List ℕ) (level : Level) → f.kind ≡ Object → option_copied f.key ≡ None
@@ -186,14 +145,12 @@ module _ (ds : List Member) where
   pub as_pairs : (ms : List Member) (ps : List (List ℕ × Tree)) → AllZip (IsMemberOf ds) ms ps → AllZip IsPairOf (map as_pair ms) ps
   as_pairs [] [] h = tt
   as_pairs (m ∷ ms) (p ∷ ps) h = (h.0, as_pairs ms ps h.1)
-  as_pairs [] (p ∷ ps) h = absurd h
-  as_pairs (m ∷ ms) [] h = absurd h
+  as_pairs _ _ h = absurd h
 
   as_members : (ms : List Member) (ps : List (List ℕ × Tree)) → AllZip IsPairOf (map as_pair ms) ps → AllZip (IsMemberOf ds) ms ps
   as_members [] [] h = tt
   as_members (m ∷ ms) (p ∷ ps) h = (h.0, as_members ms ps h.1)
-  as_members [] (p ∷ ps) h = absurd h
-  as_members (m ∷ ms) [] h = absurd h
+  as_members _ _ h = absurd h
 
   pair_inserted : (k key : List ℕ) (part : Part) (t : Tree) (es : List (List ℕ × Part)) (ps : List (List ℕ × Tree)) → k ≡ key
       → IsPart ds (suc (length ds)) part t → AllZip IsPairOf es ps → AllZip IsPairOf (insert_pair k part es) (insert_pair key t ps)
@@ -208,16 +165,14 @@ module _ (ds : List Member) where
       go Less o' same rest = rw (← same) ((named, is), h)
       go Equal o' same rest = rw (← same) ((h.0.0, is), h.1)
       go Greater o' same rest = rw (← same) (h.0, rest)
-  pair_inserted k key part t [] (p ∷ ps) named is h = absurd h
-  pair_inserted k key part t (e ∷ es) [] named is h = absurd h
+  pair_inserted k key part t _ _ named is h = absurd h
 
   all_inserted : (es fs : List (List ℕ × Part)) (ps qs : List (List ℕ × Tree)) → AllZip IsPairOf es ps → AllZip IsPairOf fs qs
       → AllZip IsPairOf (insert_all es fs) (insert_all ps qs)
   all_inserted es [] ps [] h g = h
   all_inserted es (f ∷ fs) ps (q ∷ qs) h g =
       all_inserted (insert_pair f.0 f.1 es) fs (insert_pair q.0 q.1 ps) qs (pair_inserted f.0 q.0 f.1 q.1 es ps g.0.0 g.0.1 h) g.1
-  all_inserted es [] ps (q ∷ qs) h g = absurd g
-  all_inserted es (f ∷ fs) ps [] h g = absurd g
+  all_inserted es _ ps _ h g = absurd g
 
   -- the members that are kept are the pairs, inserted one after the other
   pub kept_members : (ms kept : List Member) (qs : List (List ℕ × Tree)) → AllZip (IsMemberOf ds) ms qs
@@ -227,7 +182,7 @@ module _ (ds : List Member) where
 
   pub all_kept : (ms kept : List Member) (qs : List (List ℕ × Tree)) → AllZip (IsMemberOf ds) ms qs → AllZip (IsMemberOf ds) kept (insert_all [] qs)
       → length kept ≡ length ms → length (insert_all [] qs) ≡ length qs
-  all_kept ms kept qs h g same = sym (zip_len _ kept (insert_all [] qs) g) ∙ same ∙ zip_len _ ms qs h
+  all_kept ms kept qs h g same = AllZip-long _ kept (insert_all [] qs) g ∙ same ∙ sym (AllZip-long _ ms qs h)
 
   -- ---- a container that ends
 
@@ -237,8 +192,7 @@ module _ (ds : List Member) where
   elements_in more room (m ∷ ms) (t ∷ ts) within h =
       let le = within (omega arith) in
       (part_stays ds more _ room m.part t le h.0, elements_in more room ms ts (λ some. le) h.1)
-  elements_in more room [] (t ∷ ts) within h = absurd h
-  elements_in more room (m ∷ ms) [] within h = absurd h
+  elements_in more room _ _ within h = absurd h
 
   members_in : (more : List Member) (room : ℕ) (ms : List Member) (ps : List (List ℕ × Tree)) → (0 < length ms → suc (length ds) ≤ room)
       → AllZip (IsMemberOf ds) ms ps → AreMembers (ds ++ more) room ms (pairs_of ps)
@@ -246,8 +200,7 @@ module _ (ds : List Member) where
   members_in more room (m ∷ ms) (p ∷ ps) within h =
       let le = within (omega arith) in
       (h.0.0, part_stays ds more _ room m.part p.1 le h.0.1, members_in more room ms ps (λ some. le) h.1)
-  members_in more room [] (p ∷ ps) within h = absurd h
-  members_in more room (m ∷ ms) [] within h = absurd h
+  members_in more room _ _ within h = absurd h
 
   pub array_part : (run : Run) (ms : List Member) (ts : List Tree) → run.kind ≡ Array → run.first ≡ length ds → run.end ≡ length (ds ++ ms)
       → HoldParts ds (suc (length ds)) ms ts → IsPart (ds ++ ms) (suc (length (ds ++ ms))) (Nested run) (array (trees_of ts))
@@ -370,8 +323,7 @@ pub named_stays : (keep_last : Bool) (ds : List Member) (f : Frame) (ms : List M
     → is_some f.key ≡ true → EndsAs keep_last level t → ⊥
 named_stays keep_last ds f ms (array_of ts) t h some ends = copied_none f.key some h.1
 named_stays keep_last ds f ms (object_of ps None) t h some ends = copied_none f.key some h.1
-named_stays keep_last ds f ms (object_of ps (Some key)) t h some ends = absurd ends
-named_stays keep_last ds f ms (root u) t h some ends = absurd ends
+named_stays keep_last ds f ms _ t h some ends = absurd ends
 
 -- a container with such members may not end
 pub refused_stays : (keep_last : Bool) (ds : List Member) (f : Frame) (ms : List Member) (level : Level) (t : Tree) → HoldsFrame ds f ms level
@@ -380,9 +332,8 @@ refused_stays keep_last ds f ms (array_of ts) t h refused ends = absurd (rw h.0 
 refused_stays keep_last ds f ms (object_of qs None) t h refused ends =
     let repeated : IsRepeated keep_last ms = rw h.0 at refused in
     let zip = all_inserted ds [] (map as_pair ms) [] qs tt (as_pairs ds ms qs h.2) in
-    absurd (omega (arith, repeated.1, ends.1 repeated.0, zip_len _ _ _ zip, zip_len _ ms qs h.2))
-refused_stays keep_last ds f ms (object_of qs (Some key)) t h refused ends = absurd ends
-refused_stays keep_last ds f ms (root u) t h refused ends = absurd ends
+    absurd (omega (arith, repeated.1, ends.1 repeated.0, AllZip-long _ _ _ zip, AllZip-long _ ms qs h.2))
+refused_stays keep_last ds f ms _ t h refused ends = absurd ends
 
 -- nor may one that does not end even if the last value of a key is kept
 stays_refused : (ds : List Member) (f : Frame) (ms : List Member) (level : Level) → HoldsFrame ds f ms level → option_copied f.key ≡ None

@@ -1,7 +1,6 @@
 -- Entries as they are stored: the first one, and the first `n` of them.
-use Rattle.std.proofs.Common.{◌≡◌, ◌≢◌, ℕ, zero, suc, min, ◌*◌, ◌-◌, ◌==◌, false, List, [], ◌∷◌, ◌++◌, length, take, drop, Some, refl, sym, ap, subst, ◌∙◌, arith, append_assoc, ◌≤◌}
+use Rattle.std.proofs.Common.{◌≡◌, ◌≢◌, ℕ, zero, suc, min, ◌*◌, ◌-◌, List, [], ◌∷◌, ◌++◌, length, take, drop, Some, refl, sym, ap, subst, ◌∙◌, arith, append_assoc, ◌≤◌}
 use Rattle.std.proofs.lemmas.List.{length-append, take_at, drop_at, take_all, drop_all}
-use Rattle.std.proofs.lemmas.Bool.Decides.{nat_tests}
 use Rattle.jsonb_doc.specs.Tree.{Tree, trees_of}
 use Rattle.jsonb_doc.specs.Payload.{NumberReader, Form, number_reader}
 use Rattle.jsonb_doc.specs.Format.{AreEntries, BeginWith, entry_word}
@@ -152,6 +151,3 @@ module _ (form : Form) (run : Entries) (ts : List Tree) (n m : ℕ) (h : HoldTre
         record { entries = rw (fw, fc) cut.front },
         record { entries = rw (dropped back.words.now back_is, bc) cut.back },
       )
-
-pub not_zero_of : (n : ℕ) → false ≡ (n == 0) → n ≡ 0 → ⊥
-not_zero_of n e h = grind (arith, nat_tests)

@@ -7,7 +7,7 @@ use Rattle.std.specs.Ordering.{ordering_reverse}
 use Rattle.std.specs.Cmp.Lexicographic.{slice_cmp}
 use Rattle.std.proofs.lemmas.Cmp.{nat_list_cmp_total}
 use Rattle.std.proofs.lemmas.List.{map-append}
-use Rattle.std.proofs.Common.{append-nil, MatchResult}
+use Rattle.std.proofs.Common.{append-nil}
 use Rattle.jsonb_doc.specs.Number as spec
 use Rattle.jsonb_doc.specs.Tree.{Tree, Trees, no_trees, tree, Pairs, no_pairs, pair, elements, members, keys, trees_of, pairs_of}
 use Rattle.jsonb_doc.specs.Payload.{Form}
@@ -16,7 +16,6 @@ use Rattle.jsonb_doc.specs.Item.{StandsFor, IsNormal}
 use Rattle.jsonb_doc.specs.Elements.{TakesElement}
 use Rattle.jsonb_doc.specs.Representation.Iterators.{HasElementsLeft, HasPairsLeft}
 use Rattle.jsonb_doc.specs.ObjectPairs.{TakesPair}
-use Rattle.jsonb_doc.specs.Answer.{IsOutOfMemory}
 use Rattle.jsonb_doc.specs.ObjectBuilder.{insert_pair}
 use Rattle.jsonb_doc.specs.View.{number_view}
 use Rattle.jsonb_doc.specs.Value.{tree_seen}
@@ -29,6 +28,7 @@ use Rattle.jsonb_doc.specs.declared.error.Error.{Error}
 use Rattle.jsonb_doc.specs.declared.number.Number.{Number}
 use Rattle.jsonb_doc.specs.declared.value.Value.{Value}
 use Rattle.jsonb_doc.proofs.ValueTrees.{Entry, members_seen-insert_entry}
+use Rattle.jsonb_doc.proofs.TreeLists.{trees_of-elements, pairs_of-members}
 
 -- ---- what an iterator yields
 
@@ -105,19 +105,7 @@ pub sees_view : (x : Item) → SeesItem number_view x
 sees_view (item.Number n) = refl
 sees_view _ = tt
 
-pub ok_of_Answers : {A : Type 0} (P : A → Type 0) (r : Result A Error) → MatchResult r P IsOutOfMemory → IfOk r P
-ok_of_Answers P (Ok x) h = h
-ok_of_Answers P (Err e) h = tt
-
 -- ---- decoded values
-
-pub trees_of-elements : (ts : Trees) → trees_of (elements ts) ≡ ts
-trees_of-elements no_trees = refl
-trees_of-elements (tree t ts) = ap (tree t) (trees_of-elements ts)
-
-pub pairs_of-members : (ps : Pairs) → pairs_of (members ps) ≡ ps
-pairs_of-members no_pairs = refl
-pairs_of-members (pair key t ps) = ap (pair key t) (pairs_of-members ps)
 
 module _ (seen : Number → spec.Number) where
   -- at first nothing is decoded

@@ -24,6 +24,7 @@ use Rattle.jsonb_doc.proofs.ArrayLemmas.{last_is_short}
 use Rattle.jsonb_doc.proofs.ObjectLemmas.{long_value, not_first, not_equal, above, below_inserted}
 use Rattle.jsonb_doc.proofs.Sizes.{size_within}
 use Rattle.jsonb_doc.proofs.PieceLemmas.{bytes_stay}
+use Rattle.jsonb_doc.proofs.Basics.{zip_along, zip_more}
 
 -- ---- levels of frames
 
@@ -36,53 +37,32 @@ is_none_from (Some x) false e = refl
 pub root_takes : (form : Form) (ps : List Piece) (piece : Option ℕ) (level : Level) → HoldsLevel form ps (Root piece) level → is_none piece ≡ takes_value level
 root_takes form ps None (root None) h = refl
 root_takes form ps (Some i) (root (Some t)) h = refl
-root_takes form ps None (root (Some t)) h = absurd h
-root_takes form ps (Some i) (root None) h = absurd h
-root_takes form ps None (array_of ts) h = absurd h
-root_takes form ps (Some i) (array_of ts) h = absurd h
-root_takes form ps None (object_of prs next) h = absurd h
-root_takes form ps (Some i) (object_of prs next) h = absurd h
+root_takes form ps _ _ h = absurd h
 
 pub array_takes : (form : Form) (ps : List Piece) (es : Vec PieceEntry Global) (level : Level) → HoldsLevel form ps (Array es) level → true ≡ takes_value level
 array_takes form ps es (array_of ts) h = refl
-array_takes form ps es (root t) h = absurd h
-array_takes form ps es (object_of prs next) h = absurd h
+array_takes form ps es _ h = absurd h
 
 pub object_takes : (form : Form) (ps : List Piece) (members : BTreeMap (String Global) PieceEntry) (key : Option (String Global)) (level : Level)
     → HoldsLevel form ps (Object members key) level → is_some key ≡ takes_value level
 object_takes form ps members None (object_of prs None) h = refl
 object_takes form ps members (Some name) (object_of prs (Some next)) h = refl
-object_takes form ps members None (object_of prs (Some next)) h = absurd h.2
-object_takes form ps members (Some name) (object_of prs None) h = absurd h.2
-object_takes form ps members key (root t) h = absurd h
-object_takes form ps members key (array_of ts) h = absurd h
+object_takes form ps members _ (object_of prs _) h = absurd h.2
+object_takes form ps members key _ h = absurd h
 
 -- ---- one more value
-
-AllZip-more : {A B : Type 0} (R : A → B → Type 0) (xs : List A) (ys : List B) (x : A) (y : B) → AllZip R xs ys → R x y
-    → AllZip R (xs ++ x ∷ []) (ys ++ y ∷ [])
-AllZip-more R [] [] x y h last = (last, tt)
-AllZip-more R (a ∷ xs) (b ∷ ys) x y h last = (h.0, AllZip-more R xs ys x y h.1 last)
-AllZip-more R [] (b ∷ ys) x y h last = absurd h
-AllZip-more R (a ∷ xs) [] x y h last = absurd h
 
 pub root_filled : (form : Form) (ps : List Piece) (piece : Option ℕ) (i : ℕ) (t : Tree) (level : Level) → HoldsLevel form ps (Root piece) level
     → IsTrue (takes_value level) → i < length ps → (level ≡ root None → Decodes form (bytes_at ps i) t)
     → HoldsLevel form ps (Root (Some i)) (filled t level)
 root_filled form ps None i t (root None) h takes before decodes = (before, decodes refl)
 root_filled form ps (Some j) i t (root (Some u)) h takes before decodes = let bad : false ≡ true = takes in absurd (cc)
-root_filled form ps None i t (root (Some u)) h takes before decodes = absurd h
-root_filled form ps (Some j) i t (root None) h takes before decodes = absurd h
-root_filled form ps None i t (array_of ts) h takes before decodes = absurd h
-root_filled form ps (Some j) i t (array_of ts) h takes before decodes = absurd h
-root_filled form ps None i t (object_of prs next) h takes before decodes = absurd h
-root_filled form ps (Some j) i t (object_of prs next) h takes before decodes = absurd h
+root_filled form ps _ i t _ h takes before decodes = absurd h
 
 pub array_filled : (form : Form) (ps : List Piece) (es new : Vec PieceEntry Global) (e : PieceEntry) (t : Tree) (level : Level)
     → HoldsLevel form ps (Array es) level → new.items ≡ es.items ++ e ∷ [] → IsEntryOf form ps e t → HoldsLevel form ps (Array new) (filled t level)
-array_filled form ps es new e t (array_of ts) h is part = rw is (AllZip-more (IsEntryOf form ps) es.items ts e t h part)
-array_filled form ps es new e t (root u) h is part = absurd h
-array_filled form ps es new e t (object_of prs next) h is part = absurd h
+array_filled form ps es new e t (array_of ts) h is part = rw is (zip_more (IsEntryOf form ps) es.items ts e t h part)
+array_filled form ps es new e t _ h is part = absurd h
 
 members_filled : (form : Form) (ps : List Piece) (es : List (String Global × PieceEntry)) (prs : List (List ℕ × Tree)) (name : String Global)
     (e : PieceEntry) (t : Tree) (key : List ℕ) → string_bytes name ≡ key → AreMembersOf form ps es prs → IsEntryOf form ps e t
@@ -98,8 +78,7 @@ members_filled form ps (d ∷ es) (p ∷ prs) name e t key named h part =
     go Less o' same rest = rw (← same) ((named, part), h)
     go Equal o' same rest = rw (← same) ((h.0.0, part), h.1)
     go Greater o' same rest = rw (← same) (h.0, rest)
-members_filled form ps [] (p ∷ prs) name e t key named h part = absurd h
-members_filled form ps (d ∷ es) [] name e t key named h part = absurd h
+members_filled form ps _ _ name e t key named h part = absurd h
 
 sorted_filled : (key : List ℕ) (t : Tree) (prs : List (List ℕ × Tree)) → IsUtf8 key → has_key key prs ≡ false → AreSortedTexts (keys_of prs)
     → AreSortedTexts (keys_of (insert_pair key t prs))
@@ -122,14 +101,12 @@ object_filled form ps members new name e t (object_of prs (Some key)) h is part 
   tt,
 )
 object_filled form ps members new name e t (object_of prs None) h is part = absurd h.2
-object_filled form ps members new name e t (root u) h is part = absurd h
-object_filled form ps members new name e t (array_of ts) h is part = absurd h
+object_filled form ps members new name e t _ h is part = absurd h
 
 pub object_same : (form : Form) (ps : List Piece) (members new : BTreeMap (String Global) PieceEntry) (key : Option (String Global)) (level : Level)
     → HoldsLevel form ps (Object members key) level → new.entries ≡ members.entries → HoldsLevel form ps (Object new key) level
 object_same form ps members new key (object_of prs next) h is = (rw is h.0, h.1, h.2)
-object_same form ps members new key (root u) h is = absurd h
-object_same form ps members new key (array_of ts) h is = absurd h
+object_same form ps members new key _ h is = absurd h
 
 -- a value comes after its key
 pub object_named : (form : Form) (ps : List Piece) (members : BTreeMap (String Global) PieceEntry) (key : Option (String Global)) (level : Level)
@@ -137,8 +114,7 @@ pub object_named : (form : Form) (ps : List Piece) (members : BTreeMap (String G
 object_named form ps members (Some name) level h takes = (name, refl)
 object_named form ps members None (object_of prs None) h takes = let bad : false ≡ true = takes in absurd (cc)
 object_named form ps members None (object_of prs (Some next)) h takes = absurd h.2
-object_named form ps members None (root t) h takes = absurd h
-object_named form ps members None (array_of ts) h takes = absurd h
+object_named form ps members None _ h takes = absurd h
 
 -- ---- values that are too long
 
@@ -154,11 +130,8 @@ too_long form ps (Array es) t (array_of ts) h not_root takes long =
 too_long form ps (Object members (Some name)) t (object_of prs (Some next)) h not_root takes long = long_value form next t prs h.2.2 long
 too_long form ps (Object members None) t (object_of prs (Some next)) h not_root takes long = absurd h.2
 too_long form ps (Object members key) t (object_of prs None) h not_root takes long = let bad : false ≡ true = takes in absurd (cc)
-too_long form ps (Array es) t (root u) h not_root takes long = absurd h
-too_long form ps (Array es) t (object_of prs next) h not_root takes long = absurd h
-too_long form ps (Object members key) t (root u) h not_root takes long = absurd h
-too_long form ps (Object members key) t (array_of ts) h not_root takes long = absurd h
 too_long form ps (Root piece) t level h not_root takes long = absurd (not_root piece refl)
+too_long form ps _ t _ h not_root takes long = absurd h
 
 pub array_too_long : (form : Form) (ps : List Piece) (es : Vec PieceEntry Global) (kind piece len : ℕ) (t : Tree) (level : Level)
     → HoldsLevel form ps (Array es) level → IsTrue (takes_value level) → IsPieceOf form ps kind piece len t → 2 ^ 28 ≤ len
@@ -184,39 +157,24 @@ piece_stays form ps p kind piece len t part =
       content = rw same part.content;
     }
 
-AllZip-along : {A B : Type 0} (R S : A → B → Type 0) → ((x : A) (y : B) → R x y → S x y) → (xs : List A) (ys : List B) → AllZip R xs ys → AllZip S xs ys
-AllZip-along R S along [] [] h = tt
-AllZip-along R S along (x ∷ xs) (y ∷ ys) h = (along x y h.0, AllZip-along R S along xs ys h.1)
-AllZip-along R S along [] (y ∷ ys) h = absurd h
-AllZip-along R S along (x ∷ xs) [] h = absurd h
-
 pub level_stays : (form : Form) (ps : List Piece) (p : Piece) (frame : Frame) (level : Level) → HoldsLevel form ps frame level
     → HoldsLevel form (ps ++ p ∷ []) frame level
 level_stays form ps p (Root None) (root None) h = tt
 level_stays form ps p (Root (Some i)) (root (Some t)) h =
     (omega (arith, h.0, length-append ps (p ∷ [])), rw (bytes_stay ps p i h.0) h.1)
 level_stays form ps p (Array es) (array_of ts) h =
-    AllZip-along (IsEntryOf form ps) (IsEntryOf form (ps ++ p ∷ [])) (λ e t. piece_stays form ps p _ e.piece e.len t) es.items ts h
+    zip_along (IsEntryOf form ps) (IsEntryOf form (ps ++ p ∷ [])) (λ e t. piece_stays form ps p _ e.piece e.len t) es.items ts h
 level_stays form ps p (Object members key) (object_of prs next) h = (
-  AllZip-along (λ e q. (string_bytes e.0 ≡ q.0) × IsEntryOf form ps e.1 q.1) (λ e q. (string_bytes e.0 ≡ q.0) × IsEntryOf form (ps ++ p ∷ []) e.1 q.1)
+  zip_along (λ e q. (string_bytes e.0 ≡ q.0) × IsEntryOf form ps e.1 q.1) (λ e q. (string_bytes e.0 ≡ q.0) × IsEntryOf form (ps ++ p ∷ []) e.1 q.1)
       (λ e q h. (h.0, piece_stays form ps p _ e.1.piece e.1.len q.1 h.1)) members.entries prs h.0,
   h.1,
   h.2,
 )
-level_stays form ps p (Root None) (root (Some t)) h = absurd h
-level_stays form ps p (Root (Some i)) (root None) h = absurd h
-level_stays form ps p (Root None) (array_of ts) h = absurd h
-level_stays form ps p (Root (Some i)) (array_of ts) h = absurd h
-level_stays form ps p (Root None) (object_of prs next) h = absurd h
-level_stays form ps p (Root (Some i)) (object_of prs next) h = absurd h
-level_stays form ps p (Array es) (root t) h = absurd h
-level_stays form ps p (Array es) (object_of prs next) h = absurd h
-level_stays form ps p (Object members key) (root t) h = absurd h
-level_stays form ps p (Object members key) (array_of ts) h = absurd h
+level_stays form ps p _ _ h = absurd h
 
 pub outer_stay : (form : Form) (ps : List Piece) (p : Piece) (frames : List Frame) (levels : List Level) → AllZip (HoldsOuter form ps) frames levels
     → AllZip (HoldsOuter form (ps ++ p ∷ [])) frames levels
-outer_stay form ps p = AllZip-along (HoldsOuter form ps) (HoldsOuter form (ps ++ p ∷ [])) (λ frame level h. (level_stays form ps p frame level h.0, h.1))
+outer_stay form ps p = zip_along (HoldsOuter form ps) (HoldsOuter form (ps ++ p ∷ [])) (λ frame level h. (level_stays form ps p frame level h.0, h.1))
 
 -- ---- results
 

@@ -73,8 +73,7 @@ filled_sorted t (object_of ps (Some key)) =
 ends_sorted : (keep_last : Bool) (level : Level) (t : Tree) → EndsAs keep_last level t → container (sorted level) ≡ Some t
 ends_sorted keep_last (array_of ts) t e = ap Some (sym e)
 ends_sorted keep_last (object_of ps None) t e = ap Some (sym e.0)
-ends_sorted keep_last (object_of ps (Some key)) t e = absurd e
-ends_sorted keep_last (root u) t e = absurd e
+ends_sorted keep_last _ t e = absurd e
 
 value_sorted : (t : Tree) (level : Level) (around : List Level) (s : State) → TakesTree t level around s
     → with_value t (sorted level) ≡ Ok (sorted s.inner)
@@ -105,8 +104,7 @@ new_before t (object_of ps None) takes new = let bad : false ≡ true = takes in
 new_container : (level : Level) (t : Tree) → EndsAs false level t → IsNew level
 new_container (array_of ts) t e = tt
 new_container (object_of ps None) t e = (all_more [] ps none_rise).1 (omega (arith, e.1 refl))
-new_container (object_of ps (Some key)) t e = absurd e
-new_container (root u) t e = absurd e
+new_container _ t e = absurd e
 
 -- ---- events
 
@@ -371,8 +369,7 @@ leads_back false ends s after is new = ends_back false s after is new
 ends_anyway : (keep_last : Bool) (level : Level) (t : Tree) → EndsAs keep_last level t → EndsAs true level t
 ends_anyway keep_last (array_of ts) t e = e
 ends_anyway keep_last (object_of ps None) t e = (e.0, λ ne. absurd (true≢false ne))
-ends_anyway keep_last (object_of ps (Some key)) t e = absurd e
-ends_anyway keep_last (root u) t e = absurd e
+ends_anyway keep_last _ t e = absurd e
 
 leads_anyway : (keep_last : Bool) (e : Event) (s s' : State) → LeadsTo keep_last e s s' → LeadsTo true e s s'
 leads_anyway keep_last array_begins s s' h = h
@@ -391,8 +388,7 @@ happen_anyway keep_last (e ∷ es) bytes s rest s' h =
 ends_new : (level : Level) (t : Tree) → IsNew level → EndsAs true level t → EndsAs false level t
 ends_new (array_of ts) t new e = e
 ends_new (object_of ps None) t new e = (e.0, λ ne. omega (arith, new_len [] ps new))
-ends_new (object_of ps (Some key)) t new e = absurd e
-ends_new (root u) t new e = absurd e
+ends_new _ t new e = absurd e
 
 -- an event that may then come next also may if all keys are new
 pub leads_anew : (e : Event) (s s' : State) → IsNewState s → LeadsTo true e s s' → LeadsTo false e s s'
@@ -435,8 +431,7 @@ all_back keep_last (e ∷ es) bytes (event ∷ events) s after are is new =
           is = rest.is;
           new = rest.new;
         }
-all_back keep_last [] bytes (event ∷ events) s after are is new = absurd are
-all_back keep_last (e ∷ es) bytes [] s after are is new = absurd are
+all_back keep_last _ bytes _ s after are is new = absurd are
 
 whole_back : (level : Level) (t : Tree) → whole (sorted level) ≡ Some t → whole level ≡ Some t
 whole_back (root u) t is = is

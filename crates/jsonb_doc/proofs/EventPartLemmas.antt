@@ -1,17 +1,17 @@
 -- Members of containers in runs: what a run's container is, and what walks over runs are within.
 use Rattle.std.proofs.Common.{◌≡◌, ℕ, ◌+◌, ◌<◌, ◌≤◌, drop, List, [], ◌∷◌, ◌++◌, length, refl, sym, ap, subst, ◌∙◌, ◌^◌, inl, arith}
-use Rattle.std.specs.Prelude.{slice_range, reverse, Result, Ok, Err, MatchResult, IsOkAnd}
+use Rattle.std.specs.Prelude.{slice_range, reverse, Result, Ok, Err, MatchResult}
 use Rattle.std.specs.Map.{keys_of, values_of}
-use Rattle.std.proofs.lemmas.List.{reverse-append, length-append, take-append-le, drop_at}
+use Rattle.std.proofs.lemmas.List.{length-append, take-append-le, drop_at}
 use Rattle.std.proofs.lemmas.Slice.{between_is, between_to_end}
-use Rattle.jsonb_doc.specs.Tree.{Tree, null, boolean, number, text, extension, array, object, Trees, no_trees, tree, Pairs, no_pairs, pair, elements, members, keys}
+use Rattle.jsonb_doc.specs.Tree.{Tree, array, object, Trees, no_trees, tree, Pairs, no_pairs, pair, elements, members, keys}
 use Rattle.jsonb_doc.specs.Payload.{Form}
 use Rattle.jsonb_doc.specs.Answer.{IsOutOfMemory}
 use Rattle.jsonb_doc.specs.Private.Errors.{IsOutOfMemoryOrTooLarge}
 use Rattle.jsonb_doc.specs.declared.error.Error.{Error}
 use Rattle.jsonb_doc.specs.declared.rewriting.OpenContainer.{OpenContainer}
-use Rattle.jsonb_doc.specs.Private.Writer.{Around, AreSortedKeys, Make}
-use Rattle.jsonb_doc.specs.Private.EventParts.{IsPart, AreElements, AreMembers, HoldParts, AreLeft, member_keys, keys_first}
+use Rattle.jsonb_doc.specs.Private.Writer.{AreSortedKeys, Make}
+use Rattle.jsonb_doc.specs.Private.EventParts.{IsPart, AreElements, AreMembers, HoldParts, member_keys, keys_first}
 use Rattle.jsonb_doc.specs.declared.layout.HeaderKind.{HeaderKind}
 use Rattle.jsonb_doc.specs.declared.layout.HeaderKind.TheVariants.{Object, Array}
 use Rattle.jsonb_doc.specs.declared.event_list.collecting.Run.{Run}
@@ -22,36 +22,25 @@ use Rattle.jsonb_doc.specs.declared.event_list.writing.Left.{Left}
 use Rattle.jsonb_doc.specs.declared.event_list.writing.Outer.{Outer}
 use Rattle.jsonb_doc.proofs.Weights.{weight_of, weight-pos, weight_of_all, inner_weighs, falls_inward, falls_outward}
 use Rattle.jsonb_doc.proofs.TreeLists.{trees_of-elements, pairs_of-members, keys_of-members}
+use Rattle.std.proofs.lemmas.Map.Entries.{length-values_of}
+use Rattle.std.proofs.lemmas.Slice.Zip.{AllZip-long}
 
 -- ---- children as lists
 
 elements_hold : (ds : List Member) (room : ℕ) (ms : List Member) (ts : Trees) → AreElements ds room ms ts → HoldParts ds room ms (elements ts)
 elements_hold ds room [] no_trees h = tt
 elements_hold ds room (m ∷ ms) (tree t ts) h = (h.0, elements_hold ds room ms ts h.1)
-elements_hold ds room [] (tree t ts) h = absurd h
-elements_hold ds room (m ∷ ms) no_trees h = absurd h
+elements_hold ds room _ _ h = absurd h
 
 values_hold : (ds : List Member) (room : ℕ) (ms : List Member) (ps : Pairs) → AreMembers ds room ms ps → HoldParts ds room ms (values_of (members ps))
 values_hold ds room [] no_pairs h = tt
 values_hold ds room (m ∷ ms) (pair key t ps) h = (h.1, values_hold ds room ms ps h.2)
-values_hold ds room [] (pair key t ps) h = absurd h
-values_hold ds room (m ∷ ms) no_pairs h = absurd h
+values_hold ds room _ _ h = absurd h
 
 keys_hold : (ds : List Member) (room : ℕ) (ms : List Member) (ps : Pairs) → AreMembers ds room ms ps → member_keys ms ≡ keys_of (members ps)
 keys_hold ds room [] no_pairs h = refl
 keys_hold ds room (m ∷ ms) (pair key t ps) h = rw (h.0, keys_hold ds room ms ps h.2) refl
-keys_hold ds room [] (pair key t ps) h = absurd h
-keys_hold ds room (m ∷ ms) no_pairs h = absurd h
-
-parts_len : (ds : List Member) (room : ℕ) (ms : List Member) (ts : List Tree) → HoldParts ds room ms ts → length ms ≡ length ts
-parts_len ds room [] [] h = refl
-parts_len ds room (m ∷ ms) (t ∷ ts) h = omega (arith, parts_len ds room ms ts h.1)
-parts_len ds room [] (t ∷ ts) h = absurd h
-parts_len ds room (m ∷ ms) [] h = absurd h
-
-len_values : (ps : List (List ℕ × Tree)) → length (values_of ps) ≡ length ps
-len_values [] = refl
-len_values (p ∷ ps) = omega (arith, len_values ps)
+keys_hold ds room _ _ h = absurd h
 
 -- ---- more members after those of containers that have ended
 
@@ -77,25 +66,19 @@ mutual
     h.4,
     rw (same_run ds more run.first run.end h.3) (members_stay ds more run.end (slice_range ds run.first run.end) ps h.5),
   )
-  part_stays ds more room room' (Nested run) null le h = absurd h
-  part_stays ds more room room' (Nested run) (boolean b) le h = absurd h
-  part_stays ds more room room' (Nested run) (number n) le h = absurd h
-  part_stays ds more room room' (Nested run) (text s) le h = absurd h
-  part_stays ds more room room' (Nested run) (extension x) le h = absurd h
   part_stays ds more room room' (Text s) t le h = h
   part_stays ds more room room' (Plain e) t le h = h
+  part_stays ds more room room' (Nested run) _ le h = absurd h
 
   elements_stay : (ds more : List Member) (room : ℕ) (ms : List Member) (ts : Trees) → AreElements ds room ms ts → AreElements (ds ++ more) room ms ts
   elements_stay ds more room [] no_trees h = tt
   elements_stay ds more room (m ∷ ms) (tree t ts) h = (part_stays ds more room room m.part t (omega arith) h.0, elements_stay ds more room ms ts h.1)
-  elements_stay ds more room [] (tree t ts) h = absurd h
-  elements_stay ds more room (m ∷ ms) no_trees h = absurd h
+  elements_stay ds more room _ _ h = absurd h
 
   members_stay : (ds more : List Member) (room : ℕ) (ms : List Member) (ps : Pairs) → AreMembers ds room ms ps → AreMembers (ds ++ more) room ms ps
   members_stay ds more room [] no_pairs h = tt
   members_stay ds more room (m ∷ ms) (pair key t ps) h = (h.0, part_stays ds more room room m.part t (omega arith) h.1, members_stay ds more room ms ps h.2)
-  members_stay ds more room [] (pair key t ps) h = absurd h
-  members_stay ds more room (m ∷ ms) no_pairs h = absurd h
+  members_stay ds more room _ _ h = absurd h
 
 -- the members of a container that has just ended are the last ones
 pub last_run : (ds ms : List Member) → slice_range (ds ++ ms) (length ds) (length ds + length ms) ≡ ms
@@ -117,7 +100,7 @@ array_opened ds room run ms ts kind h =
       trees = elements ts;
       holds = holds;
       makes = λ n is. subst (λ (k : HeaderKind). Make k n (keys_first k ms (elements ts)) (array ts)) (sym kind)
-          (is ∙ parts_len ds run.end ms (elements ts) holds, ap array (sym (trees_of-elements ts)));
+          (is ∙ sym (AllZip-long _ ms (elements ts) holds), ap array (sym (trees_of-elements ts)));
     }
 
 object_opened : (ds : List Member) (room : ℕ) (run : Run) (ms : List Member) (ps : Pairs) → run.kind ≡ Object → AreSortedKeys (keys ps)
@@ -129,7 +112,7 @@ object_opened ds room run ms ps kind sorted h =
       holds = holds;
       makes = λ n is. subst (λ (k : HeaderKind). Make k n (keys_first k ms (values_of (members ps))) (object ps)) (sym kind) (
         members ps,
-        is ∙ parts_len ds run.end ms (values_of (members ps)) holds ∙ len_values (members ps),
+        is ∙ sym (AllZip-long _ ms (values_of (members ps)) holds) ∙ length-values_of (members ps),
         rw (keys_of-members ps) sorted,
         rw (keys_hold ds run.end ms ps h) refl,
         ap object (sym (pairs_of-members ps)),
@@ -140,49 +123,7 @@ pub part_opened : (ds : List Member) (room : ℕ) (run : Run) (ms : List Member)
     → ms ≡ slice_range ds run.first run.end → PartOpened ds run ms t
 part_opened ds room run ms (array ts) h is = array_opened ds room run ms ts h.0 (rw is h.4)
 part_opened ds room run ms (object ps) h is = object_opened ds room run ms ps h.0 h.4 (rw is h.5)
-part_opened ds room run ms null h is = absurd h
-part_opened ds room run ms (boolean b) h is = absurd h
-part_opened ds room run ms (number n) h is = absurd h
-part_opened ds room run ms (text s) h is = absurd h
-part_opened ds room run ms (extension x) h is = absurd h
-
--- ---- the containers around
-
-innermost : {A : Type 0} (xs : List A) (x : A) → reverse (xs ++ x ∷ []) ≡ x ∷ reverse xs
-innermost xs x = reverse-append xs (x ∷ [])
-
-pub pushed_outer : (ds : List Member) (around around' : List Outer) (outer : Outer) (outside : Around) (ts : List Tree) → around' ≡ around ++ outer ∷ []
-    → HoldParts ds outer.left.room outer.left.members.now ts → AreLeft ds (reverse around) outside
-    → AreLeft ds (reverse around') ((outer.container, ts) ∷ outside)
-pushed_outer ds around around' outer outside ts e holds h =
-    subst (λ (os : List Outer). AreLeft ds os ((outer.container, ts) ∷ outside)) (sym (ap reverse e ∙ innermost around outer))
-    ((ts, holds, refl), h)
-
-pub record Popped (ds : List Member) (around : List Outer) (outer : Outer) (outside : Around) : Type 0 where
-  pub trees : List Tree
-  pub rest : Around
-  pub holds : HoldParts ds outer.left.room outer.left.members.now trees
-  pub outside_is : outside ≡ (outer.container, trees) ∷ rest
-  pub are_left : AreLeft ds (reverse around) rest
-
-pub popped_outer : (ds : List Member) (around around' : List Outer) (outer : Outer) (outside : Around) → around ≡ around' ++ outer ∷ []
-    → AreLeft ds (reverse around) outside → Popped ds around' outer outside
-popped_outer ds around around' outer outside e h =
-    pop outside (subst (λ (os : List Outer). AreLeft ds os outside) (ap reverse e ∙ innermost around' outer) h) refl
-  where
-    pop : (ls : Around) → AreLeft ds (outer ∷ reverse around') ls → outside ≡ ls → Popped ds around' outer outside
-    pop [] t is = absurd t
-    pop (l ∷ ls) t is = record {
-      trees = t.0.0;
-      rest = ls;
-      holds = t.0.1;
-      outside_is = is ∙ ap (λ o. o ∷ ls) t.0.2;
-      are_left = t.1;
-    }
-
-pub none_outside : (ds : List Member) (around : List Outer) (outside : Around) → around ≡ [] → AreLeft ds (reverse around) outside → outside ≡ []
-none_outside ds around [] none h = refl
-none_outside ds around (l ∷ ls) none h = absurd (rw none at h)
+part_opened ds room run ms _ h is = absurd h
 
 -- ---- the first of some members
 
@@ -212,10 +153,6 @@ pub not_too_large : {A : Type 0} (P : A → Type 0) (form : Form) (whole : Tree)
     → MatchResult r P (IsOutOfMemoryOrTooLarge form whole)
 not_too_large P form whole (Ok x) h = h
 not_too_large P form whole (Err e) h = inl h
-
-pub only_ok : {A : Type 0} (P : A → Type 0) (Q : Error → Type 0) (r : Result A Error) → IsOkAnd r P → MatchResult r P Q
-only_ok P Q (Ok x) h = h
-only_ok P Q (Err e) h = absurd h
 
 -- ---- how a walk ends
 

@@ -16,6 +16,7 @@ use Rattle.jsonb_doc.proofs.KeysRead.{begin_key}
 use Rattle.jsonb_doc.proofs.Containers.{length-key_words}
 use Rattle.jsonb_doc.proofs.FieldLemmas.{first_key, KeysLeft-end}
 use Rattle.jsonb_doc.proofs.LengthsLemmas.{keys_before, StandBefore-joined, IsPart-some}
+use Rattle.jsonb_doc.proofs.Basics.{below_next}
 
 -- ---- keys in order
 
@@ -39,10 +40,6 @@ differs low key less same =
     let own : slice_cmp nat_cmp low low ≡ Less = ap (λ (k : List ℕ). slice_cmp nat_cmp low k) (sym same) ∙ less in
     let turned : slice_cmp nat_cmp low low ≡ Greater = nat_list_cmp_total.antisymm low low ∙ ap ordering_reverse own in
     cc (own, turned)
-
-below_next : (low key : List ℕ) (ks : List (List ℕ)) → slice_cmp nat_cmp low key ≡ Less → IsBelowFirst key ks → IsBelowFirst low ks
-below_next low key [] less below = tt
-below_next low key (next ∷ ks) less below = nat_list_cmp_total.trans low key next less below
 
 -- a name below the first key is none of them
 below_all : (name : List ℕ) (ks : List (List ℕ)) → AreKeys ks → IsBelowFirst name ks → IsNoneOf name ks

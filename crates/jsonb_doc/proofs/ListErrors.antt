@@ -1,5 +1,5 @@
 -- Which errors lists of events have.
-use Rattle.std.proofs.Common.{◌≡◌, ◌⊎◌, ℕ, zero, suc, List, [], ◌∷◌, ◌++◌, length, refl, sym, ap, subst, ◌∙◌, Bool, true, false, Some, None, inl, inr}
+use Rattle.std.proofs.Common.{◌≡◌, ◌⊎◌, ℕ, suc, List, [], ◌∷◌, ◌++◌, length, refl, sym, ap, subst, ◌∙◌, Bool, true, false, Some, None, inl, inr}
 use Rattle.std.specs.Prelude.{Result, Ok, Err, take, if◌then◌else◌}
 use Rattle.std.proofs.lemmas.Bool.{true≢false}
 use Rattle.std.proofs.lemmas.List.{take_at}
@@ -124,9 +124,8 @@ error_stays (suc n) (x ∷ es) bytes (event ∷ xs) (other ∷ ys) (Ok s) e are 
     let more = error_stays n es are.0 xs ys (next_of false event s) e are.2
     (subst (λ (b : List ℕ). AreEvents es b ys) (sym read.1) all.2) is in
     subst (λ (y : Event). lists.after false ys (next_of false y s) ≡ Err e) read.0 more
-error_stays zero es bytes (event ∷ xs) ys r e are all is = absurd are
-error_stays (suc n) [] bytes (event ∷ xs) ys r e are all is = absurd are
 error_stays (suc n) (x ∷ es) bytes (event ∷ xs) [] r e are all is = absurd all
+error_stays _ _ bytes (event ∷ xs) ys r e are all is = absurd are
 
 -- a list with a duplicate key has no tree unless the last value is kept
 duplicate_fails : (es : List TextEvent) (bytes : List ℕ) (t : Tree) → HasDuplicateKey es bytes → AreEventsOf false es bytes t → ⊥

@@ -3,14 +3,14 @@ use Rattle.std.proofs.Common.{◌≡◌, ℕ, zero, suc, ◌≤◌, List, [], �
 use Rattle.std.specs.Prelude.{take, drop, ◌==◌, if◌then◌else◌, IsSome}
 use Rattle.std.proofs.lemmas.List.{take_at, drop_at}
 use Rattle.jsonb_doc.specs.Tree.{Tree, text}
-use Rattle.jsonb_doc.specs.Events.{Level, root, array_of, object_of, State, Event, array_begins, object_begins, key_is, value_is, ends, takes_value, no_events, whole}
+use Rattle.jsonb_doc.specs.Events.{Level, array_of, object_of, State, Event, array_begins, object_begins, key_is, value_is, ends, takes_value, no_events, whole}
 use Rattle.jsonb_doc.specs.EventList.{scalar_of, BeginWithText, Reads, AreEventsOf}
 use Rattle.jsonb_doc.specs.Private.Collecting.{EndsAs, LeadsTo, Happen, Refuses, TakesTree, Opens}
 use Rattle.jsonb_doc.specs.Payload.{Form}
 use Rattle.jsonb_doc.specs.Item.{StandsFor}
 use Rattle.jsonb_doc.specs.Private.EventParts.{IsPlain, IsPlainItem}
 use Rattle.jsonb_doc.specs.declared.item.Item.{Item}
-use Rattle.jsonb_doc.specs.declared.item.Item.TheVariants.{Null, Boolean, Number, String, Extension, Array, Object}
+use Rattle.jsonb_doc.specs.declared.item.Item.TheVariants.{Null, Boolean, Number}
 use Rattle.jsonb_doc.proofs.EventListLemmas.{happen_of}
 use Rattle.jsonb_doc.specs.declared.text_event.TextEvent.{TextEvent}
 
@@ -90,18 +90,14 @@ pub plain_stands : (form : Form) (item : Item) (t : Tree) → IsPlainItem item t
 plain_stands form Null t is = is
 plain_stands form (Boolean b) t is = is
 plain_stands form (Number n) t is = is
-plain_stands form (String s) t is = absurd is
-plain_stands form (Extension x) t is = absurd is
-plain_stands form (Array bytes) t is = absurd is
-plain_stands form (Object bytes) t is = absurd is
+plain_stands form _ t is = absurd is
 
 -- ---- states
 
 one_end : (keep_last : Bool) (level : Level) (t u : Tree) → EndsAs keep_last level t → EndsAs keep_last level u → t ≡ u
 one_end keep_last (array_of ts) t u h g = h ∙ sym g
 one_end keep_last (object_of ps None) t u h g = h.0 ∙ sym g.0
-one_end keep_last (object_of ps (Some key)) t u h g = absurd h
-one_end keep_last (root v) t u h g = absurd h
+one_end keep_last _ t u h g = absurd h
 
 abbrev pairs_at : Level → List (List ℕ × Tree)
 pairs_at (object_of ps key) = ps

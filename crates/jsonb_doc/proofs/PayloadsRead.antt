@@ -16,7 +16,7 @@ use Rattle.jsonb_doc.specs.Number.{Number, Variant, int64, uint64, decimal64, de
 use Rattle.jsonb_doc.specs.Extension.{Extension, binary, date, timestamp, timestamp_tz, interval, FitsExtension}
 use Rattle.jsonb_doc.specs.Payload.{is_width, signed, fixed, fixed_bytes, signed_size, unsigned_width, number_of, number_payload, number_payload_of, extension_payload}
 use Rattle.jsonb_doc.specs.Private.Payloads.{extension_of}
-use Rattle.jsonb_doc.proofs.CanonicalLemmas.{fits_from}
+use Rattle.jsonb_doc.proofs.CanonicalLemmas.{fits_from, width_bound}
 use Rattle.jsonb_doc.proofs.Sizes.{same_length, number_cases, extension_cases}
 
 -- ---- bytes
@@ -122,9 +122,6 @@ width_2 n h = grind (arith, nat_tests)
 width_4 : (n : ℕ) → n < 2 ^ 32 → unsigned_width n ≤ 4
 width_4 n h = grind (arith, nat_tests)
 
-width_8 : (n : ℕ) → unsigned_width n ≤ 8
-width_8 n = grind (arith, nat_tests)
-
 -- the number in k bytes, read as a signed one, needs no more than they hold
 signed_1 : (n : ℕ) → n < 2 ^ 8 → FitsSigned w64 (twos_complement 1 n) × (signed_size (twos_complement 1 n) < 2 ^ 8)
 signed_1 n h = elim (cases_lt n (2 ^ 7)) [
@@ -164,7 +161,7 @@ signed_within k xs is bytes = elim (width_cases k is) [
       rw e (both.0, width_4 (signed_size (signed 4 xs)) both.1)
   | inr (inr (inr e)) ↦
       let fits = signed_8 (big_number 8 xs) (big_from-lt 0 8 xs bytes) in
-      rw e (fits, width_8 (signed_size (signed 8 xs)))
+      rw e (fits, width_bound (signed_size (signed 8 xs)))
 ]
 
 unsigned_within : (k : ℕ) (xs : List ℕ) → is_width k ≡ true → AreBytes xs → (big_number k xs < 2 ^ 64) × (unsigned_width (big_number k xs) ≤ k)
@@ -179,7 +176,7 @@ unsigned_within k xs is bytes = elim (width_cases k is) [
       let small = big_from-lt 0 4 xs bytes in
       rw e (omega (arith, small), width_4 (big_number 4 xs) small)
   | inr (inr (inr e)) ↦
-      let small = big_from-lt 0 8 xs bytes in rw e (small, width_8 (big_number 8 xs))
+      let small = big_from-lt 0 8 xs bytes in rw e (small, width_bound (big_number 8 xs))
 ]
 
 -- ---- numbers
@@ -254,9 +251,6 @@ number_within (first ∷ rest) n all e =
 
 -- ---- extension values
 
-first_is : (first k : ℕ) → (first == k) ≡ true → first ≡ k
-first_is first k e = same_length first k e
-
 -- the one field that is left
 last32 : (xs : List ℕ) → length xs ≡ 4 → AreBytes xs → fixed_bytes w32 (fixed w32 xs) ≡ xs
 last32 xs len bytes =
@@ -290,20 +284,20 @@ extension_within (first ∷ rest) x all e =
     elim (extension_cases (first == 0x00) (first == 0x10) (first == 0x20) (first == 0x30) (first == 0x40) (length rest == 4) (length rest == 8)
     (length rest == 12) (length rest == 16) (binary rest) (date (fixed w32 rest)) (timestamp (fixed w64 rest))
     (timestamp_tz (fixed w32 rest) (fixed w64 (drop 4 rest))) (interval (fixed w32 rest) (fixed w32 (drop 4 rest)) (fixed w64 (drop 8 rest))) x e) [
-      | inl f ↦ rw (← f.1, first_is first 0x00 f.0) (bytes, refl)
+      | inl f ↦ rw (← f.1, same_length first 0x00 f.0) (bytes, refl)
       | inr (inl f) ↦
           let written = last32 rest (same_length (length rest) 4 f.1) bytes in
-          rw (← f.2, first_is first 0x10 f.0) (fits32 rest bytes, ap (λ ys. 0x10 ∷ ys) (sym written))
+          rw (← f.2, same_length first 0x10 f.0) (fits32 rest bytes, ap (λ ys. 0x10 ∷ ys) (sym written))
       | inr (inr (inl f)) ↦
           let written = last64 rest (same_length (length rest) 8 f.1) bytes in
-          rw (← f.2, first_is first 0x20 f.0) (fits64 rest bytes, ap (λ ys. 0x20 ∷ ys) (sym written))
+          rw (← f.2, same_length first 0x20 f.0) (fits64 rest bytes, ap (λ ys. 0x20 ∷ ys) (sym written))
       | inr (inr (inr (inl f))) ↦
           let written = zoned rest (same_length (length rest) 12 f.1) bytes in
           let others = AreBytes-drop 4 rest bytes in
-          rw (← f.2, first_is first 0x30 f.0) ((fits32 rest bytes, fits64 (drop 4 rest) others), ap (λ ys. 0x30 ∷ ys) (sym written))
+          rw (← f.2, same_length first 0x30 f.0) ((fits32 rest bytes, fits64 (drop 4 rest) others), ap (λ ys. 0x30 ∷ ys) (sym written))
       | inr (inr (inr (inr f))) ↦
           let written = spanned rest (same_length (length rest) 16 f.1) bytes in
           let others = AreBytes-drop 4 rest bytes in
           let last = AreBytes-drop 8 rest bytes in
-          rw (← f.2, first_is first 0x40 f.0) ((fits32 rest bytes, fits32 (drop 4 rest) others, fits64 (drop 8 rest) last), ap (λ ys. 0x40 ∷ ys) (sym written))
+          rw (← f.2, same_length first 0x40 f.0) ((fits32 rest bytes, fits32 (drop 4 rest) others, fits64 (drop 8 rest) last), ap (λ ys. 0x40 ∷ ys) (sym written))
     ]

@@ -4,7 +4,7 @@ use Rattle.std.proofs.lemmas.List.{length-append, length-take-le, length-drop, d
 use Rattle.std.proofs.Math.Seq.{take-add}
 use Rattle.std.proofs.lemmas.Slice.{between_to_end}
 use Rattle.std.specs.Prelude.{◌==◌, is_some, slice_range, true, false}
-use Rattle.jsonb_doc.specs.Tree.{Tree, null, boolean, number, text, extension, array, object, Trees, no_trees, tree, trees_of, elements, values, keys, children_of, field_of}
+use Rattle.jsonb_doc.specs.Tree.{Tree, null, boolean, number, text, extension, array, object, Trees, tree, trees_of, elements, values, keys, children_of, field_of}
 use Rattle.jsonb_doc.specs.Payload.{NumberReader, Form, any, number_reader, number_of}
 use Rattle.jsonb_doc.specs.Format.{Decodes, header, entry_word, BeginWith, IsContent, IsDocument, AreEntries, key_bytes}
 use Rattle.jsonb_doc.specs.Answer.{SameOption}
@@ -28,6 +28,7 @@ use Rattle.jsonb_doc.specs.declared.container.ObjectParts.{ObjectParts}
 use Rattle.jsonb_doc.specs.declared.container.Container.TheVariants.{Scalar, Array, Object}
 use Rattle.jsonb_doc.proofs.CanonicalLemmas.{in_any}
 use Rattle.jsonb_doc.proofs.OneTree.{document_unique}
+use Rattle.jsonb_doc.proofs.TreeLists.{trees_of-elements}
 
 -- ---- parts of bytes
 
@@ -82,10 +83,6 @@ range_end bytes s e front back ordered within joined =
     let found = range_part bytes s e (e - length back) e front back [] ordered within (joined ∙ ap (λ (w : List ℕ). front ++ w) (sym (append-nil back)))
     (omega arith) refl in
     (found.0, found.2)
-
-pub trees_of-elements : (ts : Trees) → trees_of (elements ts) ≡ ts
-trees_of-elements no_trees = refl
-trees_of-elements (tree t ts) = ap (tree t) (trees_of-elements ts)
 
 -- ---- an iterator and its first spot
 

@@ -275,8 +275,7 @@ above_unique key m (n ∷ ms) up less = go (is_lt (cmp m.key.now n.key.now)) (ab
 
 less_from : (o : Ordering) → is_lt o ≡ true → o ≡ Less
 less_from Less e = refl
-less_from Equal e = absurd (cc)
-less_from Greater e = absurd (cc)
+less_from _ e = absurd (cc)
 
 unique_rise : (m : Member) (ms : List Member) → Ascend m ms → IsStrictlySortedBy cmp (keys_of (map as_pair (unique (m ∷ ms))))
 unfolding IsStrictlySortedBy

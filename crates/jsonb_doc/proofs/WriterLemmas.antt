@@ -17,6 +17,8 @@ use Rattle.jsonb_doc.specs.Private.Writer.{Make, AreSortedKeys, IsOpen, AreAroun
 use Rattle.jsonb_doc.proofs.Containers.{length-words}
 use Rattle.jsonb_doc.proofs.TreeLists.{count-trees_of, keys-pairs_of}
 use Rattle.jsonb_doc.proofs.Entries.{kind_below}
+use Rattle.std.proofs.lemmas.Map.Entries.{length-values_of, length-keys_of}
+use Rattle.jsonb_doc.proofs.Basics.{many_keys}
 
 -- ---- entries one after the other
 
@@ -60,15 +62,7 @@ one_entry number_at t kind content part short = record {
 pub entries_object : (kind : HeaderKind) (n : ℕ) (ts : List Tree) (t : Tree) → kind ≡ Object → Make kind n ts t → 2 * n ≡ length ts
 entries_object kind n ts t is m =
     let (ps, counted, rising, ts_is, t_is) = subst (λ (k : HeaderKind). Make k n ts t) is m in
-    omega (arith, counted, ap length ts_is, length-append (map text (keys_of ps)) (values_of ps), many_keys ps, many_values ps)
-  where
-    many_keys : (qs : List (List ℕ × Tree)) → length (map text (keys_of qs)) ≡ length qs
-    many_keys [] = refl
-    many_keys (q ∷ qs) = omega (arith, many_keys qs)
-
-    many_values : (qs : List (List ℕ × Tree)) → length (values_of qs) ≡ length qs
-    many_values [] = refl
-    many_values (q ∷ qs) = omega (arith, many_values qs)
+    omega (arith, counted, ap length ts_is, length-append (map text (keys_of ps)) (values_of ps), many_keys ps, length-values_of ps)
 
 pub entries_array : (kind : HeaderKind) (n : ℕ) (ts : List Tree) (t : Tree) → (kind ≡ Object → ⊥) → Make kind n ts t → n ≡ length ts
 entries_array Scalar n ts t other m = absurd m
@@ -211,7 +205,7 @@ built form Object n ts t words contents (ps, counted, rising, ts_is, is) few are
     let (are_keys, v, d, v_is, d_is, values) = entries_as_keys (number_reader form) (keys_of ps) (values_of ps) words contents rising
     (subst (λ (us : List Tree). AreEntries (number_reader form) (trees_of us) words contents) ts_is are) in
     let same : keys (pairs_of ps) ≡ keys_of ps = keys-pairs_of ps in
-    let many : n ≡ length (keys (pairs_of ps)) = counted ∙ sym (as_many ps) ∙ ap length (sym same) in
+    let many : n ≡ length (keys (pairs_of ps)) = counted ∙ sym (length-keys_of ps) ∙ ap length (sym same) in
     subst (λ (u : Tree). IsContent (number_reader form) u container_entry (header (header_number Object) n ++ (words ++ contents))) (sym is) (
       refl,
       record {
@@ -228,10 +222,6 @@ built form Object n ts t words contents (ps, counted, rising, ts_is, is) few are
         };
       },
     )
-  where
-    as_many : (qs : List (List ℕ × Tree)) → length (keys_of qs) ≡ length qs
-    as_many [] = refl
-    as_many (q ∷ qs) = omega (arith, as_many qs)
 
 -- once nothing is coming, the container follows what was there before
 pub record IsDone (form : Form) (before out : List ℕ) (at : OpenContainer) (t : Tree) : Type 0 where

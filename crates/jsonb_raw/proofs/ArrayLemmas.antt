@@ -1,6 +1,5 @@
 -- Which trees are arrays, and what is made of them.
-use Rattle.std.proofs.Common.{◌≡◌, ◌⊎◌, inl, inr, suc, List, ◌∷◌, length, Option, Some, refl, ap}
-use Rattle.std.specs.List.{Any}
+use Rattle.std.proofs.Common.{◌≡◌, ◌⊎◌, inl, inr, suc, List, ◌∷◌, length, Option, Some, refl, ap, Any}
 use Rattle.jsonb_doc.specs.Tree.{Tree, array, Trees, no_trees, tree, elements, count}
 use Rattle.jsonb_doc.specs.Payload.{Form}
 use Rattle.jsonb_doc.specs.Format.{Decodes}

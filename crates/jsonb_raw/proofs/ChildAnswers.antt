@@ -1,6 +1,5 @@
 -- What the calls on children return, by the item or the spot that was found.
-use Rattle.std.proofs.Common.{◌≡◌, ◌≤◌, ◌↔◌, ℕ, suc, zero, ℤ, Bool, true, false, IsTrue, List, [], ◌∷◌, map, length, drop, slice_get, Option, Some, None, Bor, refl, sym, ap, ◌∙◌, arith}
-use Rattle.std.specs.List.{remove}
+use Rattle.std.proofs.Common.{◌≡◌, ◌≤◌, ◌↔◌, ℕ, suc, zero, ℤ, Bool, true, false, IsTrue, List, [], ◌∷◌, map, length, drop, slice_get, Option, Some, None, Bor, refl, ap, arith, remove, drop_of_length-le}
 use Rattle.std.specs.Char.{to_ascii_lowercase}
 use Rattle.std.proofs.lemmas.Slice.Eq.{bytes_eq-Decides}
 use Rattle.std.specs.Str.{str_eq_ignore_ascii_case}
@@ -31,26 +30,17 @@ object_item form x b t is stands = rw is at stands
 -- an item that is not a container has no children with a name
 pub no_names : (form : Form) (x : Item) (t : Tree) (name : List ℕ) → StandsFor form x t → ((b : Bor (List ℕ)) → x ≡ item.Array b → ⊥)
     → ((b : Bor (List ℕ)) → x ≡ item.Object b → ⊥) → without_name name t ≡ None
-no_names form (item.Array b) t name stands not_array not_object = absurd (not_array b refl)
-no_names form (item.Object b) t name stands not_array not_object = absurd (not_object b refl)
-no_names form _ t name stands not_array not_object = rw stands refl
+no_names form x t name h k e = grind arith
 
 -- only an array has elements
 pub no_element : (form : Form) (t : Tree) (found : Option Entries) (i : ℕ) → found ≡ None → AreElementsOf form t found → element_at i t ≡ None
-no_element form (array ts) found i is h = absurd (rw is at h)
-no_element form _ found i is h = refl
+no_element form t found i h k = grind arith
 
 pub no_such_element : (ts : List Tree) (i : ℕ) → drop i ts ≡ [] → slice_get ts i ≡ None
 no_such_element ts i none = nowhere (drop i ts) 0 _ none (first_behind ts i)
 
-all_dropped : {A : Type 0} (n : ℕ) (xs : List A) → length xs ≤ n → drop n xs ≡ []
-all_dropped zero [] few = refl
-all_dropped (suc n) [] few = refl
-all_dropped zero (x ∷ xs) few = absurd (omega (arith, few))
-all_dropped (suc n) (x ∷ xs) few = all_dropped n xs (omega (arith, few))
-
 pub beyond_all : (ts : List Tree) (i n : ℕ) → n ≡ length ts → n ≤ i → slice_get ts i ≡ None
-beyond_all ts i n is few = no_such_element ts i (all_dropped i ts (omega (arith, is, few)))
+beyond_all ts i n is few = no_such_element ts i (drop_of_length-le ts {i = i} (omega (arith, is, few)))
 
 -- ---- an element less
 
@@ -71,8 +61,7 @@ without_none i ts is = rw is (ap (λ us. Some (array us)) (trees_of-elements ts)
 -- ---- names
 
 pub no_member : (name : List ℕ) (t : Tree) → is_object t ≡ false → named_child name false t ≡ None
-no_member name (object ps) is = absurd (cc)
-no_member name t is = refl
+no_member name t h = grind arith
 
 pub named_nowhere : (name : List ℕ) (t : Tree) → field_of name t ≡ None → named_child name false t ≡ None
 named_nowhere name t is = rw is refl
@@ -83,12 +72,4 @@ decided a b true test = (bytes_eq-Decides (map to_ascii_lowercase a) (map to_asc
 decided a b false test = go (str_eq_ignore_ascii_case a b) refl
   where
     go : (s : Bool) → str_eq_ignore_ascii_case a b ≡ s → s ≡ false
-    go false e = refl
-    go true e = sym (test.1 ((bytes_eq-Decides (map to_ascii_lowercase a) (map to_ascii_lowercase b)).0 e))
-
--- ---- what `!=` returns
-
--- ---- positions
-
-pub some_or_none : {n : ℕ} (found : Option ℕ) → found ≡ Some n → found ≡ None → ⊥
-some_or_none {n} found some none = let bad : Some n ≡ None = sym some ∙ none in cc
+    go s h = grind (arith, bytes_eq-Decides)

@@ -1,6 +1,5 @@
 -- What the iterator over the spots of children gives, and the children of a list.
-use Rattle.std.proofs.Common.{◌≡◌, ℕ, zero, suc, ◌<◌, ◌≤◌, pos, Bool, true, false, nat_lt, if◌then◌else◌, List, [], ◌∷◌, length, drop, Option, Some, None, Result, Ok, Err, IsOkAnd, unwrap_or, refl, arith, slice_get, sym}
-use Rattle.std.specs.Prelude.{option_and_then}
+use Rattle.std.proofs.Common.{◌≡◌, ℕ, zero, suc, ◌<◌, ◌≤◌, pos, List, [], ◌∷◌, length, drop, Option, Some, None, Result, Ok, Err, IsOkAnd, unwrap_or, refl, arith, slice_get, sym, option_and_then}
 use Rattle.std.proofs.lemmas.Bool.Decides.{nat_tests}
 use Rattle.jsonb_doc.specs.Tree.{Tree}
 use Rattle.jsonb_doc.specs.Answer.{SameOption}
@@ -27,13 +26,8 @@ pub record FirstLeft (bytes : List ℕ) (ts : List Tree) (r : Result Spot Error)
 
 pub first_left : (bytes : List ℕ) (ts : List Tree) (r : Result Spot Error) (after : SpotIter) → TakesSpot bytes ts (Some r) after
     → FirstLeft bytes ts r after
-first_left bytes [] r after h = absurd h
 first_left bytes (t ∷ ts) (Ok spot) after h = record { first = t; rest = ts; split = refl; marks = h.0; left = h.1 }
-first_left bytes (t ∷ ts) (Err e) after h = absurd h
-
-pub none_left : (bytes : List ℕ) (ts : List Tree) (after : SpotIter) → TakesSpot bytes ts None after → ts ≡ []
-none_left bytes [] after h = refl
-none_left bytes (t ∷ ts) after h = absurd h
+first_left bytes _ _ after h = absurd h
 
 -- the child at a position, of those that are left
 pub here : (ts : List Tree) (n : ℕ) (first : Tree) (rest : List Tree) (wanted : Option Tree) → ts ≡ first ∷ rest → n ≡ 0
@@ -87,9 +81,4 @@ beyond (t ∷ ts) (suc n) h = beyond ts n (omega arith)
 
 pub from_front : (ts : List Tree) (n : ℕ)
     → option_and_then (λ n. slice_get ts n) (index_position (length ts) (pos n)) ≡ slice_get ts n
-from_front ts n = by (nat_lt n (length ts)) refl
-  where
-    by : (b : Bool) → nat_lt n (length ts) ≡ b
-        → option_and_then (λ n. slice_get ts n) (if nat_lt n (length ts) then Some n else None) ≡ slice_get ts n
-    by true e = rw e refl
-    by false e = let h : length ts ≤ n = grind (arith, nat_tests, e) in rw (e, beyond ts n h) refl
+from_front ts n = grind (arith, nat_tests, beyond ts n)

@@ -1,6 +1,7 @@
 -- A loop that makes one value for each part: those that were made, followed by the parts that are left, are the whole.
 use Rattle.std.proofs.Common.{◌≡◌, List, [], ◌∷◌, ◌++◌, suc, arith, refl, sym, subst, ◌∙◌, append_assoc, append-nil}
 use Rattle.std.specs.List.{Any, AllZip}
+use Rattle.jsonb_doc.proofs.Basics.{zip_more}
 
 -- R holds of what was made and the parts at the front
 pub record Made {A B : Type 0} (R : A → B → Type 0) (made : List A) (left whole : List B) : Type 0 where
@@ -12,18 +13,12 @@ pub record Made {A B : Type 0} (R : A → B → Type 0) (made : List A) (left wh
 pub none_made : {A B : Type 0} (R : A → B → Type 0) (made : List A) (whole : List B) → made ≡ [] → Made R made whole whole
 none_made R made whole is = record { front = []; each = rw is tt; joined = refl }
 
-pushed_each : {A B : Type 0} (R : A → B → Type 0) (xs : List A) (ys : List B) (x : A) (y : B) → AllZip R xs ys → R x y → AllZip R (xs ++ x ∷ []) (ys ++ y ∷ [])
-pushed_each R [] [] x y each r = (r, tt)
-pushed_each R [] (v ∷ ys) x y each r = absurd each
-pushed_each R (u ∷ xs) [] x y each r = absurd each
-pushed_each R (u ∷ xs) (v ∷ ys) x y each r = (each.0, pushed_each R xs ys x y each.1 r)
-
 -- with a value for the next part, the rest is left
 pub one_made : {A B : Type 0} (R : A → B → Type 0) (made made' : List A) (x : A) (y : B) (left whole : List B) → made' ≡ made ++ x ∷ [] → R x y
     → Made R made (y ∷ left) whole → Made R made' left whole
 one_made R made made' x y left whole is r m = record {
   front = m.front ++ y ∷ [];
-  each = rw is (pushed_each R made m.front x y m.each r);
+  each = rw is (zip_more R made m.front x y m.each r);
   joined = append_assoc m.front (y ∷ []) left ∙ m.joined;
 }
 

@@ -1,6 +1,5 @@
 -- A loop that makes a composite key: what is written, followed by the keys of the values that are left, is the whole.
-use Rattle.std.proofs.Common.{◌≡◌, ℕ, zero, suc, ◌<◌, ◌≤◌, ◌+◌, List, [], ◌∷◌, ◌++◌, flat_map, drop, length, get_or, Option, None, Some, Result, Ok, Err, refl, inl, ap, sym, subst, ◌∙◌, arith, append_assoc, append-nil}
-use Rattle.std.specs.Prelude.{IsSomeAnd}
+use Rattle.std.proofs.Common.{◌≡◌, ℕ, zero, suc, ◌<◌, ◌≤◌, ◌+◌, List, [], ◌∷◌, ◌++◌, flat_map, drop, length, get_or, Option, None, Some, Result, Ok, Err, refl, inl, sym, subst, ◌∙◌, arith, append_assoc, append-nil, IsSomeAnd}
 use Rattle.std.specs.Int.{Width}
 use Rattle.std.specs.List.{AllZip, AllByRecursion}
 use Rattle.std.proofs.lemmas.List.{drop_more}
@@ -15,7 +14,7 @@ use Rattle.jsonb_raw.specs.Private.KeyErrors.{IsOutOfMemoryOrTooDeep}
 use Rattle.jsonb_raw.specs.SortableKey.{depths}
 use Rattle.jsonb_raw.specs.CompositeKeys.{column_key, deepest_of_columns, AppendsColumn}
 use Rattle.jsonb_raw.specs.declared.raw.RawJsonb.{RawJsonb}
-use Rattle.jsonb_raw.proofs.CompositeKeyProofs.{some_depth}
+use Rattle.jsonb_raw.proofs.KeyLawProofs.{some_depth}
 use Rattle.jsonb_raw.proofs.LevelKeys.{IsToward, IsToward-refused}
 
 -- the key of all values is what is written, followed by the keys of those that are left
@@ -29,8 +28,7 @@ key_begun w all = record { written = refl; shallow = λ h. h; deeper = omega ari
 
 written_more : (w : Width) (old new : List ℕ) (value : Option Tree) (left all : List (Option Tree)) → KeyLeft w old (value ∷ left) all
     → new ≡ old ++ column_key w value → new ++ flat_map (column_key w) left ≡ flat_map (column_key w) all
-written_more w old new value left all h e =
-    ap (λ bytes. bytes ++ flat_map (column_key w) left) e ∙ append_assoc old (column_key w value) (flat_map (column_key w) left) ∙ h.written
+written_more w old new value left all h e = cc (append_assoc old (column_key w value) (flat_map (column_key w) left))
 
 -- the key of the next value is appended
 pub key_appended : (w : Width) (old new : List ℕ) (value : Option Tree) (left all : List (Option Tree)) → KeyLeft w old (value ∷ left) all
@@ -68,8 +66,7 @@ pub column_appended : (w : Width) (form : Form) (column : Option RawJsonb) (valu
     → SameOption (λ raw t. Decodes form (raw_bytes raw) t) column value → AppendsColumn w value old r new
 column_appended w form (Some raw) (Some t) old new r present missing h = present t h
 column_appended w form None None old new r present missing h = missing refl
-column_appended w form (Some raw) None old new r present missing h = absurd h
-column_appended w form None (Some t) old new r present missing h = absurd h
+column_appended w form _ _ old new r present missing h = absurd h
 
 -- the first of what is left, and the others
 pub record FirstLeft {X Y : Type 0} (R : X → Y → Type 0) (x : X) (xs : List X) (ys : List Y) : Type 0 where

@@ -1,70 +1,153 @@
--- Which roots contain which.
-use Rattle.std.proofs.Common.{◌≡◌, ◌≢◌, ◌⊎◌, inl, inr, ℕ, Bool, true, false, List, length, Option, Some, None, refl, ap, arith}
-use Rattle.std.specs.Prelude.{IfSome}
-use Rattle.std.proofs.lemmas.List.{length-append}
+-- Which items and which roots contain which, and the starts of the searches.
+use Rattle.std.proofs.Common.{◌≡◌, ℕ, Bool, true, false, ◌&&◌, ◌||◌, List, [], ◌∷◌, arith, Option, Some, None, refl, sym, ap, ap₂, ◌∙◌, Ordering, Less, Equal, Greater, ◌≢◌, ◌⊎◌, inl, inr, length, bytes_eq, Bor, length-append, ◌==◌, IfSome, nat_cmp, is_eq, zero, suc, replicate, slice_index_or, slice_set, true≢false}
+use Rattle.std.proofs.lemmas.Bool.Decides.{nat_tests}
+use Rattle.std.specs.Option.{option_map_or}
+use Rattle.std.specs.Cmp.Lexicographic.{slice_cmp, nat_list_cmp_total}
 use Rattle.std.specs.List.{list_any}
-use Rattle.std.specs.Borrow.{Bor}
+use Rattle.jsonb_doc.specs.Kinds.{kind_number}
 use Rattle.jsonb_doc.specs.declared.item.Item.{Item}
 use Rattle.jsonb_doc.specs.declared.item.Item.TheVariants as item
+use Rattle.jsonb_doc.specs.Payload.{Form, number_reader}
+use Rattle.jsonb_doc.specs.Item.{StandsFor}
+use Rattle.jsonb_doc.specs.Private.Stored.{Stores, HasEntriesLeft}
+use Rattle.jsonb_doc.specs.declared.entry_iter.StoredEntry.{StoredEntry}
+use Rattle.jsonb_doc.specs.Answer.{SameOption}
+use Rattle.jsonb_doc.specs.Tree.{Tree, array, object, Pairs, no_pairs, pair, keys, members, value_under, extension, Trees, no_trees, tree, elements}
+use Rattle.jsonb_doc.specs.Equal.{is_equal}
+use Rattle.jsonb_doc.specs.Format.{IsBelowFirst, Decodes, key_words}
+use Rattle.jsonb_doc.proofs.BuilderSteps.{AreRising}
+use Rattle.jsonb_raw.specs.Private.PairSteps.{pairs_above}
+use Rattle.jsonb_raw.specs.Contains.{is_part_of, each_pair_is_matched, contains, each_is_matched}
+use Rattle.jsonb_raw.proofs.PairStepLemmas.{test_of_order, same_below, no_value}
+use Rattle.jsonb_doc.proofs.Basics.{or_false, below_next}
 use Rattle.jsonb_doc.specs.declared.extension.ExtensionValue.{ExtensionValue}
 use Rattle.jsonb_doc.specs.Extension.{Extension}
-use Rattle.jsonb_doc.specs.Tree.{Tree, null, boolean, extension, array, object, Trees, no_trees, tree, Pairs, no_pairs, pair, keys, elements}
-use Rattle.jsonb_doc.specs.Equal.{is_equal}
-use Rattle.jsonb_doc.specs.Payload.{Form, number_reader}
-use Rattle.jsonb_doc.specs.Format.{Decodes, key_words}
 use Rattle.jsonb_doc.proofs.Containers.{array_document, object_document, length-words, length-key_words}
-use Rattle.jsonb_doc.specs.Item.{StandsFor}
-use Rattle.jsonb_raw.specs.Contains.{contains, is_part_of}
 use Rattle.jsonb_raw.specs.Scalars.{is_json_scalar}
+use Rattle.jsonb_doc.specs.declared.entry_iter.EntryIter.{EntryIter}
+use Rattle.jsonb_raw.specs.Private.StartHints.{is_container, scalars_matched}
+use Rattle.jsonb_raw.proofs.EntryEquals.{Aside, part_holds}
+use Rattle.jsonb_raw.proofs.EntriesLeft.{SomeEntries}
+
+pub order_of_test : (o : Ordering) → is_eq o ≡ true → o ≡ Equal
+order_of_test o h = grind arith
+
+module _ (key : List ℕ) (m : Tree → Bool) where
+  abbrev passes : List ℕ × Tree → Bool
+  passes p = bytes_eq p.0 key && m p.1
+
+  -- if keys are sorted, the pair with the key is the one that is asked
+  pub any_by_value : (ps : Pairs) → AreRising (keys ps) → list_any (λ p. bytes_eq p.0 key && m p.1) (members ps) ≡ option_map_or m (value_under key ps) false
+  any_by_value no_pairs rising = refl
+  any_by_value (pair k t ps) rising = by (bytes_eq k key) refl (any_by_value ps rising.1)
+    where
+      by : (b : Bool) → bytes_eq k key ≡ b → list_any passes (members ps) ≡ option_map_or m (value_under key ps) false
+          → list_any passes (members (pair k t ps)) ≡ option_map_or m (value_under key (pair k t ps)) false
+      by true e rest =
+          let same = order_of_test (slice_cmp nat_cmp k key) (sym (test_of_order k key (slice_cmp nat_cmp k key) refl) ∙ e) in
+          let none = no_value key ps (same_below k key (keys ps) same rising.0) rising.1 in
+          rw e (ap (λ b. m t || b) (rest ∙ ap (λ o. option_map_or m o false) none) ∙ or_false (m t))
+      by false e rest = rw e rest
+
+  -- pairs with lower keys change nothing
+  pub any_above : (low : List ℕ) (ps : Pairs) → slice_cmp nat_cmp low key ≡ Less
+      → list_any (λ p. bytes_eq p.0 key && m p.1) (members ps) ≡ list_any (λ p. bytes_eq p.0 key && m p.1) (members (pairs_above low ps))
+  any_above low no_pairs below = refl
+  any_above low (pair k t ps) below = by (slice_cmp nat_cmp k low) refl (any_above low ps below)
+    where
+      other : slice_cmp nat_cmp k key ≡ Less → list_any passes (members ps) ≡ list_any passes (members (pairs_above low ps))
+          → list_any passes (members (pair k t ps)) ≡ list_any passes (members (pairs_above low ps))
+      other less rest = rw (test_of_order k key Less less) rest
+
+      by : (o : Ordering) → slice_cmp nat_cmp k low ≡ o → list_any passes (members ps) ≡ list_any passes (members (pairs_above low ps))
+          → list_any passes (members (pair k t ps)) ≡ list_any passes (members (pairs_above low (pair k t ps)))
+      by Less e rest = rw e (other (nat_list_cmp_total.trans k low key e below) rest)
+      by Equal e rest = rw e (other (nat_list_cmp_total.congr k low key e ∙ below) rest)
+      by Greater e rest = rw e (ap (λ b. passes (k, t) || b) rest)
+
+-- what is above the first given key suffices for the given pairs after it
+each_above : (low : List ℕ) (qs ps : Pairs) → IsBelowFirst low (keys qs) → AreRising (keys qs)
+    → each_pair_is_matched qs (members ps) ≡ each_pair_is_matched qs (members (pairs_above low ps))
+each_above low no_pairs ps below rising = refl
+each_above low (pair k y qs) ps below rising =
+    ap₂ (λ a b. a && b) (any_above k (is_part_of y) low ps below) (each_above low qs ps (below_next low k (keys qs) below rising.0) rising.1)
+
+module _ (key : List ℕ) (y : Tree) (qs ps : Pairs) (rising : AreRising (keys ps)) where
+  -- a key that isn't there
+  pub unmatched_key : value_under key ps ≡ None → each_pair_is_matched (pair key y qs) (members ps) ≡ false
+  unmatched_key none = rw (any_by_value key (is_part_of y) ps rising, none) refl
+
+  -- the value under the key decides with the pairs above
+  pub matched_pair : (v : Tree) → value_under key ps ≡ Some v → AreRising (key ∷ keys qs)
+      → each_pair_is_matched (pair key y qs) (members ps) ≡ (is_part_of y v && each_pair_is_matched qs (members (pairs_above key ps)))
+  matched_pair v some wanted =
+      rw (any_by_value key (is_part_of y) ps rising, some) (ap (λ (b : Bool). is_part_of y v && b) (each_above key qs ps wanted.0 wanted.1))
+
+-- ---- entries
+
+no_container : (kind : ℕ) → (kind == 5) ≡ false → kind ≡ 5 → ⊥
+no_container kind other is = grind (arith, nat_tests)
+
+-- what the search for a key returns
+pub no_entry_found : (form : Form) (o : Option Tree) → SameOption (Stores form) None o → o ≡ None
+no_entry_found form o h = grind arith
+
+pub entry_found : (form : Form) (e : StoredEntry) (o : Option Tree) → SameOption (Stores form) (Some e) o → (t : Tree) × (o ≡ Some t) × Stores form e t
+entry_found form e None h = absurd h
+entry_found form e (Some t) h = (t, refl, h)
+
+-- what is not a container matches if it is equal
+pub scalar_match : (form : Form) (e : StoredEntry) (y : Tree) → Stores form e y → (kind_number e.kind == 5) ≡ false → (x : Tree) → is_equal x y ≡ is_part_of y x
+scalar_match form e y h k x = grind (arith, no_container)
+
+pub scalar_matches : (form : Form) (e : StoredEntry) (y : Tree) → Stores form e y → (kind_number e.kind == 5) ≡ false → (xs : List Tree)
+    → list_any (λ x. is_equal x y) xs ≡ list_any (is_part_of y) xs
+scalar_matches form e y h k [] = refl
+scalar_matches form e y h k (x ∷ xs) = ap₂ (λ a b. a || b) (scalar_match form e y h k x) (scalar_matches form e y h k xs)
+
+-- ---- items
+
+pub no_object : (x : Item) (b d : Bor (List ℕ)) → x ≡ item.Array b → x ≡ item.Object d → ⊥
+no_object x b d h k = cc
+
+-- items that are not two arrays nor two objects match if they are equal
+pub matches_if_equal : (form other_form : Form) (x y : Item) (t u : Tree) → StandsFor form x t → StandsFor other_form y u
+    → ((b d : Bor (List ℕ)) → x ≡ item.Array b → y ≡ item.Array d → ⊥)
+    → ((b d : Bor (List ℕ)) → x ≡ item.Object b → y ≡ item.Object d → ⊥)
+    → is_equal t u ≡ is_part_of u t
+matches_if_equal form other_form x y t u h k e f = grind arith
+
+-- ---- which roots contain which
 
 pub contains-extension : (t : Tree) (x : Extension) → contains t (extension x) ≡ false
-contains-extension null x = refl
-contains-extension _ x = refl
+contains-extension t x = grind arith
 
 -- a container is contained if it is matched
 pub contains-array : (t : Tree) (ys : Trees) → contains t (array ys) ≡ is_part_of (array ys) t
-contains-array (boolean true) ys = refl
-contains-array _ ys = refl
+contains-array t ys = grind arith
 
 pub contains-object : (t : Tree) (qs : Pairs) → contains t (object qs) ≡ is_part_of (object qs) t
-contains-object (boolean true) qs = refl
-contains-object _ qs = refl
+contains-object t qs = grind arith
 
 -- an item that is not an extension and no container
 pub plain_item : (form : Form) (y : Item) (u : Tree) → StandsFor form y u → ((x : ExtensionValue) → y ≡ item.Extension x → ⊥)
     → ((b : Bor (List ℕ)) → y ≡ item.Array b → ⊥) → ((b : Bor (List ℕ)) → y ≡ item.Object b → ⊥) → is_json_scalar u ≡ true
-plain_item form (item.Extension x) u h e a o = absurd (e x refl)
-plain_item form (item.Array b) u h e a o = absurd (a b refl)
-plain_item form (item.Object b) u h e a o = absurd (o b refl)
-plain_item form _ u h e a o = rw h refl
+plain_item form y u h k e f = grind arith
 
 -- an array contains what one of its elements equals
 pub array_contains_plain : (ts : Trees) (u : Tree) → is_json_scalar u ≡ true → list_any (is_part_of u) (elements ts) ≡ contains (array ts) u
-array_contains_plain ts (extension x) h = absurd (cc)
-array_contains_plain ts (array us) h = absurd (cc)
-array_contains_plain ts (object qs) h = absurd (cc)
-array_contains_plain ts _ h = refl
+array_contains_plain ts u h = grind arith
 
 pub object_equals_no_plain : (ps : Pairs) (u : Tree) → is_json_scalar u ≡ true → is_equal (object ps) u ≡ contains (object ps) u
-object_equals_no_plain ps (extension x) h = absurd (cc)
-object_equals_no_plain ps (array us) h = absurd (cc)
-object_equals_no_plain ps (object qs) h = absurd (cc)
-object_equals_no_plain ps (boolean true) h = refl
-object_equals_no_plain ps _ h = refl
+object_equals_no_plain ps u h = grind arith
 
 pub extension_equals_no_plain : (x : Extension) (u : Tree) → is_json_scalar u ≡ true → is_equal (extension x) u ≡ false
-extension_equals_no_plain x (extension y) h = absurd (cc)
-extension_equals_no_plain x (array us) h = absurd (cc)
-extension_equals_no_plain x (object qs) h = absurd (cc)
-extension_equals_no_plain x _ h = refl
+extension_equals_no_plain x u h = grind arith
 
 -- another tree contains what it equals
 pub other_contains_plain : (form : Form) (x : Item) (t u : Tree) → StandsFor form x t → ((b : Bor (List ℕ)) → x ≡ item.Array b → ⊥) → is_json_scalar u ≡ true
     → is_equal t u ≡ contains t u
-other_contains_plain form (item.Extension x) t u h a plain = rw h (extension_equals_no_plain _ u plain)
-other_contains_plain form (item.Array b) t u h a plain = absurd (a b refl)
-other_contains_plain form (item.Object b) t u h a plain = rw h.1 (object_equals_no_plain h.0 u plain)
-other_contains_plain form _ t u h a plain = rw (h, plain) refl
+other_contains_plain form x t u h k e = grind (arith, extension_equals_no_plain, object_equals_no_plain)
 
 -- the header alone is that of an empty container
 pub array_of_header : (form : Form) (bytes : List ℕ) (ts : Trees) → Decodes form bytes (array ts) → length bytes ≡ 4 → ts ≡ no_trees
@@ -75,22 +158,10 @@ array_of_header form bytes (tree t ts) d short =
     absurd (omega (arith, short, ap length c.headed.joined, length-append c.words c.contents, len))
 
 array_header_alone : (form : Form) (bytes : List ℕ) → Decodes form bytes (array no_trees) → length bytes ≡ 4
-array_header_alone form bytes d =
-    let c = (array_document (number_reader form) no_trees bytes d.document).1 in
-    omega (arith, ap length c.headed.joined, length-append c.words c.contents, ap length c.parts.0, ap length c.parts.1)
+array_header_alone form bytes h = grind (arith, array_document, length-append)
 
 object_header_alone : (form : Form) (bytes : List ℕ) → Decodes form bytes (object no_pairs) → length bytes ≡ 4
-object_header_alone form bytes d =
-    let c = (object_document (number_reader form) no_pairs bytes d.document).1 in
-    omega (
-      arith,
-      ap length c.headed.joined,
-      length-append c.words c.contents,
-      ap length c.parts.words_joined,
-      ap length c.parts.contents_joined,
-      ap length c.parts.values.0,
-      ap length c.parts.values.1,
-    )
+object_header_alone form bytes h = grind (arith, object_document, length-append)
 
 pub object_of_header : (form : Form) (bytes : List ℕ) (ps : Pairs) → Decodes form bytes (object ps) → length bytes ≡ 4 → ps ≡ no_pairs
 object_of_header form bytes no_pairs d short = refl
@@ -126,3 +197,66 @@ objects_decided form other_form bytes others ps qs None d e h = h
 objects_decided form other_form bytes others ps qs (Some b) d e (inl h) = rw (h.0, object_of_header other_form others qs e h.1) refl
 objects_decided form other_form bytes others ps no_pairs (Some b) d e (inr h) = absurd (h.2 (object_header_alone other_form others e))
 objects_decided form other_form bytes others ps (pair key y qs) (Some b) d e (inr h) = rw (h.0, object_of_header form bytes ps d h.1) refl
+
+-- ---- starts of searches, and which of the trees to be found are containers
+
+module _ {A : Type 0} (P : A → Type 0) (d : A) where
+  -- what holds of each holds of each after a write of one of which it holds
+  pub set_each : (y : A) (xs : List A) (i : ℕ) → P y → ((k : ℕ) → P (slice_index_or xs k d)) → (k : ℕ) → P (slice_index_or (slice_set xs i y) k d)
+  set_each y [] i p h k = h k
+  set_each y (x ∷ xs) zero p h zero = p
+  set_each y (x ∷ xs) zero p h (suc k) = h (suc k)
+  set_each y (x ∷ xs) (suc i) p h zero = h zero
+  set_each y (x ∷ xs) (suc i) p h (suc k) = set_each y xs i p (λ j. h (suc j)) k
+
+  -- as often as it is repeated
+  pub repeated_each : (n : ℕ) → P d → (k : ℕ) → P (slice_index_or (replicate n d) k d)
+  repeated_each zero p k = p
+  repeated_each (suc n) p zero = p
+  repeated_each (suc n) p (suc k) = repeated_each n p k
+
+-- the kind of an entry determines a container
+container_kind : (form : Form) (e : StoredEntry) (t : Tree) → Stores form e t → is_container t ≡ (kind_number e.kind == 5)
+container_kind form e t h = grind arith
+
+module _ (form : Form) (e : StoredEntry) (t : Tree) (h : Stores form e t) where
+  pub container_told : (kind_number e.kind == 5) ≡ true → is_container t ≡ true
+  container_told k = container_kind form e t h ∙ k
+
+  pub scalar_told : (kind_number e.kind == 5) ≡ false → is_container t ≡ false
+  scalar_told k = container_kind form e t h ∙ k
+
+module _ (y : Tree) (ys : Trees) (xs : List Tree) (whole : Bool) (is : scalars_matched (tree y ys) xs ≡ whole) where
+  -- a container is passed over
+  pub container_passed : is_container y ≡ true → scalars_matched ys xs ≡ whole
+  container_passed k = rw k at is
+
+  -- what is found is passed over
+  pub found_passed : list_any (is_part_of y) xs ≡ true → scalars_matched ys xs ≡ whole
+  found_passed k = grind (arith, is, k)
+
+  -- what is missing determines
+  pub missing_tells : is_container y ≡ false → list_any (is_part_of y) xs ≡ false → false ≡ whole
+  missing_tells k l = rw (k, l) at is
+
+-- if one that is not a container is missing, not each element is matched
+pub scalars_decide : (ys : Trees) (xs : List Tree) → scalars_matched ys xs ≡ false → each_is_matched ys xs ≡ false
+scalars_decide no_trees xs h = absurd (true≢false h)
+scalars_decide (tree y ys) xs h = grind (arith, scalars_decide ys xs, h)
+
+-- each that is not a container is found
+pub scalar_found : (y : Tree) (ys : Trees) (xs : List Tree) → scalars_matched (tree y ys) xs ≡ true → is_container y ≡ false → list_any (is_part_of y) xs ≡ true
+scalar_found y ys xs h k = grind (arith, h, k)
+
+pub scalars_left : (y : Tree) (ys : Trees) (xs : List Tree) → scalars_matched (tree y ys) xs ≡ true → scalars_matched ys xs ≡ true
+scalars_left y ys xs h = grind (arith, h)
+
+-- an element that is matched leaves the others to match, with the pair that was put aside
+pub matched_left : (form : Form) (it : EntryIter) (Large : Bool → Type 0) (y : Tree) (ys : Trees) (xs : List Tree) (whole : Bool) → HasEntriesLeft form it ys
+    → list_any (is_part_of y) xs ≡ true → (scalars_matched (tree y ys) xs ≡ true) × Aside Large (each_is_matched (tree y ys) xs) whole
+    → SomeEntries form it (λ left. (scalars_matched left xs ≡ true) × Aside Large (each_is_matched left xs) whole)
+matched_left form it Large y ys xs whole left holds fact = record {
+  trees = ys;
+  left = left;
+  fact = (scalars_left y ys xs fact.0, part_holds Large (list_any (is_part_of y) xs) (each_is_matched ys xs) whole holds fact.1);
+}

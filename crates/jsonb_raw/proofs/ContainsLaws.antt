@@ -1,7 +1,6 @@
 -- A tree contains itself, and what the trees that it contains do.
-use Rattle.std.proofs.Common.{◌≡◌, ℕ, Bool, true, false, ◌&&◌, ◌||◌, not, IsTrue, List, [], ◌∷◌, ◌++◌, refl, sym, ◌∙◌, append_assoc}
+use Rattle.std.proofs.Common.{◌≡◌, ℕ, Bool, true, false, ◌&&◌, ◌||◌, not, IsTrue, List, [], ◌∷◌, ◌++◌, refl, sym, ◌∙◌, append_assoc, bytes_eq, arith}
 use Rattle.std.specs.List.{list_any}
-use Rattle.std.specs.Str.{bytes_eq}
 use Rattle.std.proofs.lemmas.Slice.Eq.{bytes_eq-Decides}
 use Rattle.jsonb_doc.specs.Tree.{Tree, null, boolean, number, text, extension, array, object, Trees, no_trees, tree, Pairs, no_pairs, pair, elements, members}
 use Rattle.jsonb_doc.specs.Equal.{is_equal}
@@ -10,43 +9,23 @@ use Rattle.std.specs.Cmp.{partial_equiv_from_equiv}
 use Rattle.jsonb_raw.specs.Scalars.{is_extension_value, is_json_scalar}
 use Rattle.jsonb_raw.specs.Contains.{contains, is_part_of, each_is_matched, each_pair_is_matched}
 use Rattle.jsonb_raw.proofs.ContainLemmas.{contains-extension, contains-array, contains-object, array_contains_plain, object_equals_no_plain, extension_equals_no_plain}
-
-same_bytes : (a : List ℕ) → bytes_eq a a ≡ true
-same_bytes a = (bytes_eq-Decides a a).1 refl
+use Rattle.jsonb_doc.proofs.WordLemmas.{bytes_eq-same}
 
 bytes_trans : (a b c : List ℕ) → bytes_eq a b ≡ true → bytes_eq b c ≡ true → bytes_eq a c ≡ true
 bytes_trans a b c h k = (bytes_eq-Decides a c).1 ((bytes_eq-Decides a b).0 h ∙ (bytes_eq-Decides b c).0 k)
-
-equal_refl : (t : Tree) → is_equal t t ≡ true
-equal_refl t = is_equal_equiv.refl t
-
-equal_trans : (t u v : Tree) → is_equal t u ≡ true → is_equal u v ≡ true → is_equal t v ≡ true
-equal_trans t u v h k = (partial_equiv_from_equiv is_equal_equiv).trans t u v h k
 
 -- ---- lists
 
 -- a test that an element in the middle passes
 any_middle : {A : Type 0} (p : A → Bool) (before after : List A) (x : A) → p x ≡ true → list_any p (before ++ x ∷ after) ≡ true
 any_middle p [] after x h = rw h refl
-any_middle p (y ∷ ys) after x h = by (p y) (any_middle p ys after x h)
-  where
-    by : (b : Bool) → list_any p (ys ++ x ∷ after) ≡ true → (b || list_any p (ys ++ x ∷ after)) ≡ true
-    by true e = refl
-    by false e = e
+any_middle p (y ∷ ys) after x h = grind (arith, any_middle p ys after x h)
 
 -- a weaker test is passed too
 any_more : {A : Type 0} (p q : A → Bool) (xs : List A) → list_any p xs ≡ true → ((x : A) → p x ≡ true → q x ≡ true) → list_any q xs ≡ true
 any_more p q [] h f = absurd (cc)
-any_more {A = A} p q (x ∷ xs) h f = by (p x) refl h (any_more p q xs)
-  where
-    or_second : (b c : Bool) → c ≡ true → (b || c) ≡ true
-    or_second true c h = refl
-    or_second false c h = h
-
-    by : (b : Bool) → p x ≡ b → (b || list_any p xs) ≡ true → (list_any p xs ≡ true → ((x : A) → p x ≡ true → q x ≡ true) → list_any q xs ≡ true)
-        → (q x || list_any q xs) ≡ true
-    by true e k more = rw (f x e) refl
-    by false e k more = or_second (q x) _ (more k f)
+any_more {A = A} p q (x ∷ xs) h f =
+    let more : list_any p xs ≡ true → list_any q xs ≡ true = λ k. any_more p q xs k f in grind (arith, h, f x, more)
 
 -- one of the elements passes p, so what matches it passes q
 each_any : (us : Trees) (xs : List Tree) (p q : Tree → Bool) → each_is_matched us xs ≡ true → list_any p (elements us) ≡ true
@@ -76,10 +55,10 @@ each_pair_any (pair l u us) xs p q h k f = by (p (l, u)) refl k
 mutual
   pub matched_refl : (t : Tree) → is_part_of t t ≡ true
   matched_refl null = refl
-  matched_refl (boolean b) = equal_refl (boolean b)
-  matched_refl (number n) = equal_refl (number n)
-  matched_refl (text s) = equal_refl (text s)
-  matched_refl (extension x) = equal_refl (extension x)
+  matched_refl (boolean b) = is_equal_equiv.refl (boolean b)
+  matched_refl (number n) = is_equal_equiv.refl (number n)
+  matched_refl (text s) = is_equal_equiv.refl (text s)
+  matched_refl (extension x) = is_equal_equiv.refl (extension x)
   matched_refl (array ts) = each_refl ts (elements ts) [] refl
   matched_refl (object ps) = each_pair_refl ps (members ps) [] refl
 
@@ -93,14 +72,14 @@ mutual
   each_pair_refl : (ps : Pairs) (whole before : List (List ℕ × Tree)) → whole ≡ before ++ members ps → each_pair_is_matched ps whole ≡ true
   each_pair_refl no_pairs whole before e = refl
   each_pair_refl (pair k t ps) whole before e = both _ _
-      (rw e (any_middle (λ p. bytes_eq p.0 k && is_part_of t p.1) before (members ps) (k, t) (both _ _ (same_bytes k) (matched_refl t))))
+      (rw e (any_middle (λ p. bytes_eq p.0 k && is_part_of t p.1) before (members ps) (k, t) (both _ _ (bytes_eq-same k) (matched_refl t))))
       (each_pair_refl ps whole (before ++ (k, t) ∷ []) (e ∙ sym (append_assoc before ((k, t) ∷ []) (members ps))))
 
 pub contains_refl : (t : Tree) → IsTrue (not (is_extension_value t)) → contains t t ≡ true
 contains_refl null e = refl
-contains_refl (boolean b) e = equal_refl (boolean b)
-contains_refl (number n) e = equal_refl (number n)
-contains_refl (text s) e = equal_refl (text s)
+contains_refl (boolean b) e = is_equal_equiv.refl (boolean b)
+contains_refl (number n) e = is_equal_equiv.refl (number n)
+contains_refl (text s) e = is_equal_equiv.refl (text s)
 contains_refl (extension x) e = absurd (cc)
 contains_refl (array ts) e = each_refl ts (elements ts) [] refl
 contains_refl (object ps) e = each_pair_refl ps (members ps) [] refl
@@ -114,23 +93,13 @@ not_container _ = true
 
 -- what equals a tree that is not a container is none
 like : (u y : Tree) → is_equal u y ≡ true → not_container y ≡ true → not_container u ≡ true
-like null y h e = refl
-like (boolean b) y h e = refl
-like (number n) y h e = refl
-like (text s) y h e = refl
-like (extension x) y h e = refl
-like (array us) (array ys) h e = absurd (cc)
-like (array us) _ h e = absurd (cc)
-like (object us) (object ys) h e = absurd (cc)
-like (object us) _ h e = absurd (cc)
+like u y h k = grind arith
 
 matched_equal : (u x : Tree) → not_container u ≡ true → is_part_of u x ≡ is_equal x u
-matched_equal (array us) x e = absurd (cc)
-matched_equal (object us) x e = absurd (cc)
-matched_equal _ x e = refl
+matched_equal u x h = grind arith
 
 equal_passed : (y u x : Tree) → not_container y ≡ true → is_equal u y ≡ true → is_part_of u x ≡ true → is_equal x y ≡ true
-equal_passed y u x e h k = equal_trans x u y (sym (matched_equal u x (like u y h e)) ∙ k) h
+equal_passed y u x e h k = (partial_equiv_from_equiv is_equal_equiv).trans x u y (sym (matched_equal u x (like u y h e)) ∙ k) h
 
 -- an array is matched by arrays alone, and an object by objects
 from_array : (us : Trees) (x : Tree) → is_part_of (array us) x ≡ true → (xs : Trees) × (x ≡ array xs)
@@ -179,10 +148,7 @@ mutual
 -- ---- what is contained is passed on
 
 plain_matched : (v t : Tree) → is_json_scalar v ≡ true → is_part_of v t ≡ is_equal t v
-plain_matched (extension x) t h = absurd (cc)
-plain_matched (array us) t h = absurd (cc)
-plain_matched (object us) t h = absurd (cc)
-plain_matched _ t h = refl
+plain_matched v t h = grind arith
 
 -- a plain value is matched by an element of an array, or by the tree
 abbrev plain_in : Tree → Tree → Bool
@@ -190,13 +156,7 @@ plain_in v (array ts) = list_any (is_part_of v) (elements ts)
 plain_in v t = is_part_of v t
 
 contains_plain : (t v : Tree) → is_json_scalar v ≡ true → contains t v ≡ plain_in v t
-contains_plain null v h = rw h (sym (plain_matched v null h))
-contains_plain (boolean b) v h = rw h (sym (plain_matched v (boolean b) h))
-contains_plain (number n) v h = rw h (sym (plain_matched v (number n) h))
-contains_plain (text s) v h = rw h (sym (plain_matched v (text s) h))
-contains_plain (extension x) v h = sym (plain_matched v (extension x) h ∙ extension_equals_no_plain x v h)
-contains_plain (array ts) v h = sym (array_contains_plain ts v h)
-contains_plain (object ps) v h = sym (plain_matched v (object ps) h ∙ object_equals_no_plain ps v h)
+contains_plain t v h = grind (arith, plain_matched, extension_equals_no_plain, array_contains_plain, object_equals_no_plain)
 
 plain_in_trans : (v u t : Tree) → is_part_of v u ≡ true → plain_in u t ≡ true → plain_in v t ≡ true
 plain_in_trans v u null h k = matched_trans v u null h k
@@ -207,20 +167,16 @@ plain_in_trans v u (extension x) h k = matched_trans v u (extension x) h k
 plain_in_trans v u (object ps) h k = matched_trans v u (object ps) h k
 plain_in_trans v u (array ts) h k = any_more (is_part_of u) (is_part_of v) (elements ts) k (λ x a. matched_trans v u x h a)
 
-no_true : (b : Bool) → b ≡ false → b ≡ true → ⊥
-no_true b e h = cc
-
 plain_trans : (t u v : Tree) → is_json_scalar v ≡ true → contains t u ≡ true → contains u v ≡ true → plain_in v t ≡ true
 plain_trans t (array us) v p h k =
     let m = sym (contains-array t us) ∙ h in
     let (ts, e) = from_array us t m in
     rw e (each_any us (elements ts) (is_part_of v) (is_part_of v) (rw e at m) (sym (contains_plain (array us) v p) ∙ k) (λ u x a b. matched_trans v u x a b))
-plain_trans t (object us) v p h k = absurd (no_true _ (sym (object_equals_no_plain us v p) ∙ none us v p) k)
+plain_trans t (object us) v p h k = absurd (cc (sym (object_equals_no_plain us v p) ∙ none us v p, k))
   where
     none : (us : Pairs) (v : Tree) → is_json_scalar v ≡ true → is_equal (object us) v ≡ false
-    none us (object vs) p = absurd (cc)
-    none us _ p = refl
-plain_trans t (extension x) v p h k = absurd (no_true _ (contains-extension t x) h)
+    none us v h = grind arith
+plain_trans t (extension x) v p h k = absurd (cc (contains-extension t x, h))
 plain_trans t null v p h k = plain_in_trans v null t (sym (contains_plain null v p) ∙ k) (sym (contains_plain t null refl) ∙ h)
 plain_trans t (boolean b) v p h k = plain_in_trans v (boolean b) t (sym (contains_plain (boolean b) v p) ∙ k) (sym (contains_plain t (boolean b) refl) ∙ h)
 plain_trans t (number n) v p h k = plain_in_trans v (number n) t (sym (contains_plain (number n) v p) ∙ k) (sym (contains_plain t (number n) refl) ∙ h)
@@ -235,7 +191,7 @@ contains_trans t u (object vs) h k =
     let m = sym (contains-object u vs) ∙ k in
     let (us, e) = from_object vs u m in
     contains-object t vs ∙ matched_trans (object vs) u t m (rw e (sym (contains-object t us) ∙ rw e at h))
-contains_trans t u (extension x) h k = absurd (no_true _ (contains-extension u x) k)
+contains_trans t u (extension x) h k = absurd (cc (contains-extension u x, k))
 contains_trans t u null h k = contains_plain t null refl ∙ plain_trans t u null refl h k
 contains_trans t u (boolean b) h k = contains_plain t (boolean b) refl ∙ plain_trans t u (boolean b) refl h k
 contains_trans t u (number n) h k = contains_plain t (number n) refl ∙ plain_trans t u (number n) refl h k

@@ -1,9 +1,7 @@
 -- An iterator of copies determines what is left in it if the iterator below does.
-use Rattle.std.proofs.Common.{List, map, Option, Some, None, ap}
+use Rattle.std.proofs.Common.{List, map, Option, Some, None, ap, option_copied, Bor}
 use Rattle.std.specs.Iterator.{YieldsFirstRef}
 use Rattle.std.specs.Iterator.Adapters.{copied_steps, copied_source}
-use Rattle.std.specs.Option.{option_copied}
-use Rattle.std.specs.Borrow.{Bor}
 use Rattle.jsonb_raw.specs.Iterators.{YieldsItemsLeft}
 
 -- `copied()` of an iterator over references

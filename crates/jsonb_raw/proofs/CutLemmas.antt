@@ -1,147 +1,413 @@
--- A container's bytes around one of its entries.
-use Rattle.std.proofs.Common.{◌≡◌, ℕ, ◌+◌, ◌-◌, ◌≤◌, List, [], ◌∷◌, ◌++◌, length, take, drop, Some, None, refl, sym, ap, ◌∙◌, arith, append_assoc}
-use Rattle.std.specs.Prelude.{slice_range}
-use Rattle.std.proofs.lemmas.List.{length-append, take_at, drop_at, append-nil}
-use Rattle.jsonb_doc.specs.Format.{entry_word}
+-- Containers without a value within them: their entries, the way to the value, and numbers of bytes.
+use Rattle.std.proofs.Common.{◌≡◌, ℕ, zero, suc, ◌+◌, ◌-◌, ◌^◌, ◌<◌, ◌≤◌, inl, List, [], ◌∷◌, ◌++◌, length, take, drop, map, Option, Some, None, refl, sym, ap, ap₂, subst, ◌∙◌, arith, append_assoc, append-nil, slice_get}
+use Rattle.std.specs.Prelude.{reverse, option_map}
+use Rattle.std.specs.Option.{option_to_list}
+use Rattle.std.specs.List.{remove}
+use Rattle.std.specs.Map.{keys_of, values_of}
+use Rattle.std.proofs.lemmas.Cmp.{nat_list_cmp_total}
+use Rattle.std.proofs.lemmas.List.{length-append, length-take-le, length-drop, take_all}
+use Rattle.std.proofs.lemmas.Map.Entries.{length-values_of}
+use Rattle.jsonb_doc.specs.Tree.{Tree, text, array, object, Trees, Pairs, no_pairs, pair, elements, keys, values, members, trees_of, pairs_of, children_of}
+use Rattle.jsonb_doc.specs.Payload.{Form, number_reader}
+use Rattle.jsonb_doc.specs.Format.{IsBelowFirst, AreKeys, IsContent, Decodes}
+use Rattle.jsonb_doc.specs.Kinds.{kind_number}
 use Rattle.jsonb_doc.specs.Private.EntryKinds.{container_entry}
-use Rattle.jsonb_doc.specs.Encoding.{EntryParts}
-use Rattle.jsonb_doc.specs.Private.ObjectBytes.{words_of_entries, contents_of_entries}
-use Rattle.jsonb_raw.specs.declared.functions.path.entry_range.EntryRange.{EntryRange}
-use Rattle.jsonb_raw.specs.Private.Cuts.{IsPlaceOf, LiesWithin, AreInOrder, content_at, with_content, around}
-use Rattle.jsonb_raw.proofs.EntryLists.{words-append, contents-append, length-kept_words}
+use Rattle.jsonb_doc.specs.Private.Writer.{Make, AreSortedKeys, Around, Rooms, IsWriting, EndsWithin, head_size}
+use Rattle.jsonb_doc.specs.declared.cursor.Entries.{Entries}
+use Rattle.jsonb_doc.specs.declared.entry_iter.StoredEntry.{StoredEntry}
+use Rattle.jsonb_doc.specs.declared.layout.EntryKind.TheVariants.{Container}
+use Rattle.jsonb_doc.specs.declared.layout.HeaderKind.{HeaderKind}
+use Rattle.jsonb_doc.specs.declared.layout.HeaderKind.TheVariants as header_kind
+use Rattle.jsonb_doc.specs.declared.rewriting.Writer.{Writer}
+use Rattle.jsonb_doc.proofs.Basics.{innermost}
+use Rattle.jsonb_doc.proofs.BuilderSteps.{keys_rise}
+use Rattle.jsonb_doc.proofs.TreeLists.{keys_of-members}
+use Rattle.jsonb_keypath.specs.KeyPathGrammar.{Key}
+use Rattle.jsonb_raw.specs.declared.functions.parts.ContainerEntries.{ContainerEntries}
+use Rattle.jsonb_raw.specs.declared.functions.path.parent_entries.ParentEntries.{ParentEntries}
+use Rattle.jsonb_raw.specs.declared.functions.path.cut.Outer.{Outer}
+use Rattle.jsonb_raw.specs.Places.{children, child_position}
+use Rattle.jsonb_raw.specs.Deletes.{change_at, change_child, remove_at}
+use Rattle.jsonb_raw.specs.Private.Entries.{HoldTrees, TakesFirst, AreEntriesOf, AreContainerEntries}
+use Rattle.jsonb_raw.specs.Private.Cuts.{entries_kept, count_kept, IsParent, LeadTo, HoldsValue, StepsInto, children_kept, size, sizes, AreShort, AreLeft, rooms_after}
+use Rattle.jsonb_raw.proofs.ChildAnswers.{drop_one_more}
+use Rattle.jsonb_raw.proofs.ChildLemmas.{split_at}
+use Rattle.jsonb_raw.proofs.NamedPairs.{names_around, values_around}
+use Rattle.jsonb_raw.proofs.PositionLemmas.{nothing_at}
+use Rattle.jsonb_raw.proofs.StripLists.{values_of-members}
+use Rattle.jsonb_raw.proofs.RunLemmas.{entry_taken, no_entry_left}
 
--- ---- slices of what is joined
+abbrev Member : Type 0
+Member = List ℕ × Tree
 
-pub slice_of : (bytes front part behind : List ℕ) (a b : ℕ) → bytes ≡ front ++ (part ++ behind) → a ≡ length front → b ≡ length front + length part
-    → slice_range bytes a b ≡ part
-slice_of bytes front part behind a b is from to =
-    let dropped : drop a bytes ≡ part ++ behind = ap (drop a) is ∙ drop_at front (part ++ behind) a (sym from) in
-    ap (take (b - a)) dropped ∙ take_at part behind (b - a) (omega arith)
+-- ---- lists with an element changed or left out
 
-pub slice_end : (bytes front part : List ℕ) (a : ℕ) → bytes ≡ front ++ part → a ≡ length front → slice_range bytes a (length bytes) ≡ part
-slice_end bytes front part a is from =
-    let len = ap length is ∙ length-append front part in
-    let is' : bytes ≡ front ++ (part ++ []) = is ∙ ap (λ (w : List ℕ). front ++ w) (sym (append-nil part)) in
-    slice_of bytes front part [] a (length bytes) is' from (omega (arith, len))
+changed_at : {A : Type 0} (n : ℕ) (change : A → Option A) (xs : List A) (x : A) → slice_get xs n ≡ Some x
+    → change_at n change xs ≡ take n xs ++ (option_to_list (change x) ++ drop (suc n) xs)
+changed_at n change [] x at = let bad : None ≡ Some x = at in absurd (cc)
+changed_at zero change (y ∷ xs) x at = let e : y ≡ x = cc at in ap (λ z. option_to_list (change z) ++ xs) e
+changed_at (suc n) change (y ∷ xs) x at = ap (λ zs. y ∷ zs) (changed_at n change xs x at)
 
--- ---- one entry
+pub none_left : (n : ℕ) → ◌≡◌ {A = List Tree} (remove [] n) []
+none_left zero = refl
+none_left (suc n) = refl
 
--- the parts of the bytes around an entry
-pub record Around (bytes : List ℕ) (place : EntryRange) (head words_before words_behind contents_before contents_behind : List ℕ) : Type 0 where
-  pub before_word : slice_range bytes 0 place.word ≡ head ++ words_before
-  pub behind_head : slice_range bytes 4 place.word ≡ words_before
-  pub between : slice_range bytes (place.word + 4) place.start ≡ words_behind ++ contents_before
-  pub behind : slice_range bytes place.end (length bytes) ≡ contents_behind
+member_at : (ps : Pairs) (n : ℕ) (child : Tree) → slice_get (elements (values ps)) n ≡ Some child
+    → (key : List ℕ) × (slice_get (members ps) n ≡ Some (key, child))
+member_at no_pairs n child at = let bad : None ≡ Some child = at in absurd (cc)
+member_at (pair key t ps) zero child at =
+    let e : t ≡ child = cc at in
+    let of : Tree → Option Member = λ u. Some (key, u) in (key, ap of e)
+member_at (pair key t ps) (suc n) child at = member_at ps n child at
 
-module _ (bytes head wf w wb cf e cb : List ℕ) (place : EntryRange) (is : bytes ≡ head ++ ((wf ++ (w ++ wb)) ++ (cf ++ (e ++ cb)))) (four : length head ≡ 4)
-    (word_four : length w ≡ 4)
-    (word : place.word ≡ 4 + length wf) (start : place.start ≡ 8 + length wf + length wb + length cf) (end : place.end ≡ place.start + length e) where
-  pub parts_around : Around bytes place head wf wb cf cb
-  parts_around = record {
-    before_word = slice_of bytes [] (head ++ wf) (w ++ (wb ++ (cf ++ (e ++ cb)))) 0 place.word (is ∙ simp append_assoc) refl
-        (omega (arith, length-append head wf));
-    behind_head = slice_of bytes head wf (w ++ (wb ++ (cf ++ (e ++ cb)))) 4 place.word (is ∙ simp append_assoc) (sym four) (omega arith);
-    between = slice_of bytes (head ++ (wf ++ w)) (wb ++ cf) (e ++ cb) (place.word + 4) place.start (is ∙ simp append_assoc)
-        (simp length-append (omega arith)) (simp length-append (omega arith));
-    behind = slice_end bytes (head ++ (wf ++ (w ++ (wb ++ (cf ++ e))))) cb place.end (is ∙ simp append_assoc) (simp length-append (omega arith));
-  }
+values_put : (n : ℕ) (ps : List Member) (key : List ℕ) (u : Tree)
+    → values_of (take n ps ++ (key, u) ∷ drop (suc n) ps) ≡ take n (values_of ps) ++ u ∷ drop (suc n) (values_of ps)
+values_put zero [] key u = refl
+values_put zero (p ∷ ps) key u = refl
+values_put (suc n) [] key u = refl
+values_put (suc n) (p ∷ ps) key u = ap (λ ts. p.1 ∷ ts) (values_put n ps key u)
 
-  pub content_is : content_at bytes place ≡ e
-  content_is = slice_of bytes (head ++ (wf ++ (w ++ (wb ++ cf)))) e cb place.start place.end (is ∙ simp append_assoc)
-      (simp length-append (omega arith)) (simp length-append (omega arith))
+keys_put : (n : ℕ) (ps : List Member) (key : List ℕ) (t u : Tree) → slice_get ps n ≡ Some (key, t)
+    → keys_of (take n ps ++ (key, u) ∷ drop (suc n) ps) ≡ keys_of ps
+keys_put n [] key t u at =
+    let there : Option Member = Some (key, t) in
+    let bad : None ≡ there = at in absurd (cc)
+keys_put zero (p ∷ ps) key t u at = let e : p ≡ (key, t) = cc at in ap (λ (q : Member). q.0 ∷ keys_of ps) (sym e)
+keys_put (suc n) (p ∷ ps) key t u at = ap (λ ks. p.0 ∷ ks) (keys_put n ps key t u at)
 
--- ---- the content of one entry replaced, or the entry left out
+-- sorted keys without one are sorted
 
-module _ (bytes head : List ℕ) (front back : List EntryParts) (e : EntryParts) (place : EntryRange) (total : ℕ)
-    (is : bytes ≡ head ++ (words_of_entries (front ++ e ∷ back) ++ contents_of_entries (front ++ e ∷ back)))
-    (four : length head ≡ 4) (same : total ≡ length (front ++ e ∷ back)) (at : IsPlaceOf place total front e) where
-  in_parts : bytes ≡ head ++
-      ((words_of_entries front ++ (entry_word e.0 (length e.1) ++ words_of_entries back)) ++ (contents_of_entries front ++ (e.1 ++ contents_of_entries back)))
-  in_parts = is ∙ rw (words-append front (e ∷ back), contents-append front (e ∷ back)) refl
+below_without : (low : List ℕ) (n : ℕ) (ps : List Member) → IsBelowFirst low (keys_of ps) → AreSortedKeys (keys_of ps)
+    → IsBelowFirst low (keys_of (remove ps n))
+below_without low zero [] below sorted = tt
+below_without low zero (p ∷ []) below sorted = tt
+below_without low zero (p ∷ q ∷ ps) below sorted = nat_list_cmp_total.trans low p.0 q.0 below sorted.0
+below_without low (suc n) [] below sorted = tt
+below_without low (suc n) (p ∷ ps) below sorted = below
 
-  word_at : place.word ≡ 4 + length (words_of_entries front)
-  word_at = omega (arith, at.word, length-kept_words front)
+sorted_without : (n : ℕ) (ps : List Member) → AreSortedKeys (keys_of ps) → AreSortedKeys (keys_of (remove ps n))
+sorted_without zero [] sorted = tt
+sorted_without zero (p ∷ ps) sorted = sorted.1
+sorted_without (suc n) [] sorted = tt
+sorted_without (suc n) (p ∷ ps) sorted = (below_without p.0 n ps sorted.0 sorted.1, sorted_without n ps sorted.1)
 
-  start_at : place.start ≡ 8 + length (words_of_entries front) + length (words_of_entries back) + length (contents_of_entries front)
-  start_at = omega (arith, at.start, same, length-append front (e ∷ back), length-kept_words front, length-kept_words back)
+-- ---- what a container becomes
 
-  end_at : place.end ≡ place.start + length e.1
-  end_at = omega (arith, at.start, at.end)
+-- The member with its value mapped.
+abbrev at_value : (Tree → Option Tree) → Member → Option Member
+at_value change p = option_map (λ t. (p.0, t)) (change p.1)
 
-  parts : Around bytes place head (words_of_entries front) (words_of_entries back) (contents_of_entries front) (contents_of_entries back)
-  parts = parts_around bytes head (words_of_entries front) (entry_word e.0 (length e.1)) (words_of_entries back) (contents_of_entries front) e.1
-      (contents_of_entries back) place in_parts four refl word_at start_at end_at
-
-  pub content_there : content_at bytes place ≡ e.1
-  content_there = content_is bytes head (words_of_entries front) (entry_word e.0 (length e.1)) (words_of_entries back) (contents_of_entries front) e.1
-      (contents_of_entries back) place in_parts four refl word_at start_at end_at
-
-  pub content_replaced : (content : List ℕ)
-      → with_content bytes place content
-      ≡ head ++ (words_of_entries (front ++ (container_entry, content) ∷ back) ++ contents_of_entries (front ++ (container_entry, content) ∷ back))
-  content_replaced content =
-      rw (
-        parts.before_word,
-        parts.between,
-        parts.behind,
-        words-append front ((container_entry, content) ∷ back),
-        contents-append front
-            ((container_entry, content) ∷ back),
-      ) (simp append_assoc)
-
-  pub entry_within : LiesWithin place (length bytes)
-  entry_within =
-      let len = simp length-append at (ap length in_parts) in
-      (omega (arith, word_at, start_at), omega (arith, end_at), omega (arith, len, four, start_at, end_at))
-
-  pub entry_in_order : AreInOrder None place (length bytes)
-  entry_in_order = (omega (arith, word_at), entry_within)
-
-  pub entry_left_out : around bytes None place ≡ words_of_entries (front ++ back) ++ contents_of_entries (front ++ back)
-  entry_left_out = rw (parts.behind_head, parts.between, parts.behind, words-append front back, contents-append front back) (simp append_assoc)
-
-  pub replaced_no_longer : (content : List ℕ) → length content ≤ length e.1 → length (with_content bytes place content) ≤ length bytes
-  replaced_no_longer content short =
-      rw (parts.before_word, parts.between, parts.behind) (simp length-append (omega (arith, short, simp length-append at (ap length in_parts))))
-
-  pub left_out_shorter : length (around bytes None place) + 8 + length e.1 ≡ length bytes
-  left_out_shorter = rw (parts.behind_head, parts.between, parts.behind) (simp length-append (omega (arith, four, simp length-append at (ap length in_parts))))
-
--- ---- a key's entry and its value's left out
-
-module _ (bytes head kw k m v vw kc x mc e cb : List ℕ) (key value : EntryRange)
-    (is : bytes ≡ head ++ ((kw ++ (k ++ (m ++ (v ++ vw)))) ++ (kc ++ (x ++ (mc ++ (e ++ cb))))))
-    (four : length head ≡ 4) (key_four : length k ≡ 4) (value_four : length v ≡ 4) (key_word : key.word ≡ 4 + length kw)
-    (value_word : value.word ≡ 8 + length kw + length m)
-    (key_start : key.start ≡ 12 + length kw + length m + length vw + length kc) (key_end : key.end ≡ key.start + length x)
-    (value_start : value.start ≡ key.end + length mc)
-    (value_end : value.end ≡ value.start + length e) where
-  pub both_left_out : around bytes (Some key) value ≡ kw ++ (m ++ ((vw ++ kc) ++ (mc ++ cb)))
-  both_left_out =
-      let first = slice_of bytes head kw (k ++ (m ++ (v ++ (vw ++ (kc ++ (x ++ (mc ++ (e ++ cb)))))))) 4 key.word (is ∙ simp append_assoc) (sym four)
-      (omega (arith, four)) in
-      let second = slice_of bytes (head ++ (kw ++ k)) m (v ++ (vw ++ (kc ++ (x ++ (mc ++ (e ++ cb)))))) (key.word + 4) value.word (is ∙ simp append_assoc)
-      (simp length-append (omega arith)) (simp length-append (omega arith)) in
-      let third = slice_of bytes (head ++ (kw ++ (k ++ (m ++ v)))) (vw ++ kc) (x ++ (mc ++ (e ++ cb))) (value.word + 4) key.start (is ∙ simp append_assoc)
-      (simp length-append (omega arith)) (simp length-append (omega arith)) in
-      let fourth = slice_of bytes (head ++ (kw ++ (k ++ (m ++ (v ++ (vw ++ (kc ++ x))))))) mc (e ++ cb) key.end value.start (is ∙ simp append_assoc)
-      (simp length-append (omega arith)) (simp length-append (omega arith)) in
-      let fifth = slice_end bytes (head ++ (kw ++ (k ++ (m ++ (v ++ (vw ++ (kc ++ (x ++ (mc ++ e))))))))) cb value.end (is ∙ simp append_assoc)
-      (simp length-append (omega arith)) in
-      rw (first, second, third, fourth, fifth) refl
-
-  pub both_in_order : AreInOrder (Some key) value (length bytes)
-  both_in_order =
-      let len = simp length-append at (ap length is) in (
-        omega (arith, key_word),
-        omega (arith, key_word, value_word),
-        omega (arith, value_word, key_start),
-        omega (arith, key_end),
-        omega
-            (arith, value_start),
-        omega (arith, value_end),
-        omega (arith, len, four, key_four, value_four, key_start, key_end, value_start, value_end),
+module _ (n others : ℕ) (child : Tree) where
+  array_makes : (ts : Trees) → slice_get (elements ts) n ≡ Some child
+      → others ≡ length (take n (elements ts)) + length (drop (suc n) (elements ts)) → (ns : List ℕ)
+      → Make header_kind.Array (count_kept others ns) (entries_kept (array ts) n child ns) (change_child n (remove_at ns) (array ts))
+  array_makes ts at is [] =
+      let front = take n (elements ts) in
+      let after = drop (suc n) (elements ts) in
+      let kept : remove [] n ++ (front ++ after) ≡ front ++ after = ap (λ us. us ++ (front ++ after)) (none_left n) in (
+        is ∙ sym (length-append front after) ∙ ap length (sym kept),
+        ap (λ us. array (trees_of us)) (changed_at n (remove_at []) (elements ts) child at ∙ sym kept),
+      )
+  array_makes ts at is (m ∷ ns) =
+      let u = change_child m (remove_at ns) child in (
+        omega (arith, is, length-append (take n (elements ts)) (u ∷ drop (suc n) (elements ts))),
+        ap (λ us. array (trees_of us)) (changed_at n (remove_at (m ∷ ns)) (elements ts) child at),
       )
 
-  pub both_shorter : length (around bytes (Some key) value) + 4 ≤ length bytes
-  both_shorter = rw both_left_out (simp length-append (omega (arith, four, simp length-append at (ap length is))))
+  object_makes : (ps : Pairs) → AreKeys (keys ps) → slice_get (elements (values ps)) n ≡ Some child
+      → others ≡ length (take n (elements (values ps))) + length (drop (suc n) (elements (values ps))) → (ns : List ℕ)
+      → Make header_kind.Object (count_kept others ns) (entries_kept (object ps) n child ns) (change_child n (remove_at ns) (object ps))
+  object_makes ps are at is [] =
+      let ms = members ps in
+      let cs = elements (values ps) in
+      let m = member_at ps n child at in
+      let names : remove (map text (keys ps)) n ≡ map text (keys_of (remove ms n)) =
+      ap (λ ks. remove (map text ks) n) (sym (keys_of-members ps)) ∙ sym (names_around n ms) in
+      let trees : remove cs n ≡ values_of (remove ms n) = ap (λ us. remove us n) (sym (values_of-members ps)) ∙ sym (values_around n ms) in (
+        remove ms n,
+        is ∙ sym (length-append (take n cs) (drop (suc n) cs)) ∙ ap length trees ∙ length-values_of (remove ms n),
+        sorted_without n ms (rw (keys_of-members ps) (keys_rise (keys ps) are)),
+        ap₂ (λ ks vs. ks ++ vs) names trees,
+        ap (λ qs. object (pairs_of qs)) (changed_at n (at_value (remove_at [])) ms (m.0, child) m.1),
+      )
+  object_makes ps are at is (k ∷ ns) =
+      let ms = members ps in
+      let cs = elements (values ps) in
+      let m = member_at ps n child at in
+      let u = change_child k (remove_at ns) child in
+      let qs = take n ms ++ (m.0, u) ∷ drop (suc n) ms in
+      let same : keys_of qs ≡ keys ps = keys_put n ms m.0 child u m.1 ∙ keys_of-members ps in
+      let trees : take n cs ++ u ∷ drop (suc n) cs ≡ values_of qs =
+      ap (λ vs. take n vs ++ u ∷ drop (suc n) vs) (sym (values_of-members ps)) ∙ sym (values_put n ms m.0 u) in (
+        qs,
+        omega (arith, is, length-append (take n cs) (u ∷ drop (suc n) cs), ap length trees, length-values_of qs),
+        subst AreSortedKeys (sym same) (keys_rise (keys ps) are),
+        ap₂ (λ ks vs. ks ++ vs) (ap (map text) (sym same)) trees,
+        ap (λ rs. object (pairs_of rs)) (changed_at n (at_value (remove_at (k ∷ ns))) ms (m.0, child) m.1),
+      )
+
+parent_of : (form : Form) (t : Tree) (e : ContainerEntries) (p : ParentEntries) (n : ℕ) (child : Tree) → AreEntriesOf form t e → p.kind ≡ e.kind
+    → p.keys ≡ e.keys → HoldTrees form p.front (take n (children t)) → HoldTrees form p.after (drop (suc n) (children t))
+    → p.others ≡ length (take n (children t)) + length (drop (suc n) (children t)) → n < length (children t)
+    → slice_get (children t) n ≡ Some child → IsParent form p t n child
+parent_of form (array ts) e p n child h kind same front after is inside at = record {
+  keys_hold = subst (λ run. HoldTrees form run []) (sym same) h.1;
+  front_hold = front;
+  after_hold = after;
+  passed = sym (length-take-le n (elements ts) (omega arith));
+  makes = λ ns.
+      subst (λ k. Make k (count_kept p.others ns) (entries_kept (array ts) n child ns) (change_child n (remove_at ns) (array ts)))
+      (sym (kind ∙ h.0)) (array_makes n p.others child ts at is ns);
+}
+parent_of form (object ps) e p n child h kind same front after is inside at = record {
+  keys_hold = subst (λ run. HoldTrees form run (map text (keys ps))) (sym same) (rw (keys_of-members ps) at h.2.names);
+  front_hold = front;
+  after_hold = after;
+  passed = sym (length-take-le n (elements (values ps)) (omega arith));
+  makes = λ ns.
+      subst (λ k. Make k (count_kept p.others ns) (entries_kept (object ps) n child ns) (change_child n (remove_at ns) (object ps)))
+      (sym (kind ∙ h.0)) (object_makes n p.others child ps h.1 at is ns);
+}
+parent_of form _ e p n child h kind same front after is inside at = absurd h
+
+-- ---- the child that a step selects
+
+pub values_hold : (form : Form) (t : Tree) (e : ContainerEntries) → AreEntriesOf form t e → HoldTrees form e.values (children t)
+values_hold form (array ts) e h = h.2
+values_hold form (object ps) e h = rw (values_of-members ps) at h.2.parts
+values_hold form _ e h = absurd h
+
+-- Holds if this is the entry of the child at a position, and these are the entries after it.
+pub record ChildTaken (form : Form) (cs : List Tree) (n : ℕ) (entry : StoredEntry) (after : Entries) : Type 0 where
+  pub child : Tree
+  pub inside : n < length cs
+  pub at : slice_get cs n ≡ Some child
+  pub part : IsContent (number_reader form) child (kind_number entry.kind) entry.content.now
+  pub after_hold : HoldTrees form after (drop (suc n) cs)
+
+pub child_taken : (form : Form) (cs : List Tree) (n : ℕ) (others : Entries) (found : Option (StoredEntry × Entries)) (entry : StoredEntry) (after : Entries)
+    → found ≡ Some (entry, after) → TakesFirst form others (drop n cs) found → ChildTaken form cs n entry after
+child_taken form cs n others found entry after is h =
+    let f = entry_taken form others (drop n cs) found entry after is h in
+    let s = split_at cs n f.t f.rest f.split in
+    record { child = f.t; inside = s.inside; at = s.at; part = f.is_first.part; after_hold = subst (HoldTrees form after) (sym s.behind) f.is_first.others_hold }
+
+none_there : (cs : List Tree) (n : ℕ) → drop n cs ≡ [] → slice_get cs n ≡ None
+none_there [] n none = refl
+none_there (c ∷ cs) zero none = absurd (cc)
+none_there (c ∷ cs) (suc n) none = none_there cs n none
+
+not_container : (form : Form) (t : Tree) (kind : ℕ) (bytes : List ℕ) → IsContent (number_reader form) t kind bytes → (kind ≡ container_entry → ⊥)
+    → children_of t ≡ None
+not_container form (array ts) kind bytes is other = absurd (other is.0)
+not_container form (object ps) kind bytes is other = absurd (other is.0)
+not_container form _ kind bytes is other = refl
+
+pub root_value : (form : Form) (entry : StoredEntry) (t : Tree) → entry.kind ≡ Container → Decodes form entry.content.now t → HoldsValue form entry t
+root_value form entry t is d = record { container = λ _. d; scalar = λ other. absurd (other (ap kind_number is)) }
+
+pub no_entries : (form : Form) (t : Tree) → AreContainerEntries form t None → children_of t ≡ None
+no_entries form (array ts) h = absurd h
+no_entries form (object ps) h = absurd h
+no_entries form _ h = refl
+
+module _ (form : Form) (t : Tree) (step : Key) where
+  pub no_position : None ≡ child_position step t → StepsInto form t step None
+  no_position none = rw (← none) refl
+
+  pub no_children : children_of t ≡ None → StepsInto form t step None
+  no_children none = no_position (nothing_at step t none)
+
+  pub no_child : (n : ℕ) (others : Entries) (found : Option (StoredEntry × Entries)) → Some n ≡ child_position step t → found ≡ None
+      → TakesFirst form others (drop n (children t)) found → StepsInto form t step None
+  no_child n others found position none h =
+      let missing = none_there (children t) n (no_entry_left form others (drop n (children t)) found none h) in rw (← position, missing) refl
+
+  pub step_into : (e : ContainerEntries) (p : ParentEntries) (n : ℕ) (entry : StoredEntry) → AreEntriesOf form t e → Some n ≡ child_position step t
+      → p.kind ≡ e.kind → p.keys ≡ e.keys → (f : ChildTaken form (children t) n entry p.after) → HoldTrees form p.front (take n (children t))
+      → p.others ≡ length (take n (children t)) + length (drop (suc n) (children t)) → StepsInto form t step (Some (p, entry))
+  step_into e p n entry h position kind same f front is = (
+    n,
+    f.child,
+    sym position,
+    f.at,
+    parent_of form t e p n f.child h kind same front f.after_hold is f.inside f.at,
+    record {
+      container = λ k. record { document = inl (rw k at f.part) };
+      scalar = λ other. not_container form f.child _ _ f.part other;
+    },
+  )
+
+-- ---- the way to the value
+
+pub lead_more : (form : Form) (ps : List ParentEntries) (ns : List ℕ) (t u child : Tree) (p : ParentEntries) (n : ℕ) → LeadTo form ps ns t u
+    → IsParent form p u n child → LeadTo form (ps ++ p ∷ []) (ns ++ n ∷ []) t child
+lead_more form [] [] t u child p n led is = (child, subst (λ v. IsParent form p v n child) (sym led) is, refl)
+lead_more form (q ∷ ps) (m ∷ ns) t u child p n led is = (led.0, led.1, lead_more form ps ns led.0 u child p n led.2 is)
+lead_more form _ _ t u child p n led is = absurd led
+
+kept_same : (form : Form) (ps : List ParentEntries) (ns : List ℕ) (t end : Tree) (p : ParentEntries) → LeadTo form ps ns t end
+    → count_kept p.others ns ≡ children_kept p ps
+kept_same form [] [] t end p led = refl
+kept_same form (q ∷ ps) (m ∷ ns) t end p led = refl
+kept_same form _ _ t end p led = absurd led
+
+pub makes_kept : (form : Form) (p : ParentEntries) (ps : List ParentEntries) (t child end : Tree) (n : ℕ) (ns : List ℕ) (kept : ℕ) → IsParent form p t n child
+    → LeadTo form ps ns child end → kept ≡ children_kept p ps → Make p.kind kept (entries_kept t n child ns) (change_child n (remove_at ns) t)
+makes_kept form p ps t child end n ns kept is led same =
+    subst (λ k. Make p.kind k (entries_kept t n child ns) (change_child n (remove_at ns) t)) (kept_same form ps ns child end p led ∙ sym same) (is.makes ns)
+
+pub no_more : (form : Form) (ps : List ParentEntries) (ns : List ℕ) (t end : Tree) → ps ≡ [] → LeadTo form ps ns t end → ns ≡ []
+no_more form ps ns t end none led = go ns (subst (λ qs. LeadTo form qs ns t end) none led)
+  where
+    go : (ms : List ℕ) → LeadTo form [] ms t end → ms ≡ []
+    go [] h = refl
+    go (m ∷ ms) h = absurd h
+
+-- The entries of a container that are not written yet, which is in these containers and around those.
+pub record IsOpening (form : Form) (w : Writer) (around : List Outer) (p : ParentEntries) (ps : List ParentEntries) (whole : Tree) : Type 0 where
+  pub t : Tree
+  pub child : Tree
+  pub end : Tree
+  pub n : ℕ
+  pub ns : List ℕ
+  pub outside : Around
+  pub parent : IsParent form p t n child
+  pub inner : LeadTo form ps ns child end
+  pub are_left : AreLeft form (reverse around) outside
+  pub writing : IsWriting form w (entries_kept t n child ns) outside whole
+
+-- The entries that are not written yet, given the next of the containers within the open one.
+pub record OpensNext (form : Form) (w : Writer) (around : List Outer) (p q : ParentEntries) (qs : List ParentEntries) (whole : Tree) : Type 0 where
+  pub t : Tree
+  pub child : Tree
+  pub inner : Tree
+  pub end : Tree
+  pub n : ℕ
+  pub m : ℕ
+  pub ns : List ℕ
+  pub outside : Around
+  pub parent : IsParent form p t n child
+  pub next : IsParent form q child m inner
+  pub others : LeadTo form qs ns inner end
+  pub are_left : AreLeft form (reverse around) outside
+  pub writing : IsWriting form w (entries_kept t n child (m ∷ ns)) outside whole
+
+pub opening_begun : (form : Form) (w : Writer) (around : List Outer) (p : ParentEntries) (ps : List ParentEntries) (t end : Tree) (n : ℕ) (ns : List ℕ)
+    → around ≡ [] → (led : LeadTo form (p ∷ ps) (n ∷ ns) t end) → IsWriting form w (entries_kept t n led.0 ns) [] (change_child n (remove_at ns) t)
+    → IsOpening form w around p ps (change_child n (remove_at ns) t)
+opening_begun form w around p ps t end n ns none led writing = record {
+  t = t;
+  child = led.0;
+  end = end;
+  n = n;
+  ns = ns;
+  outside = [];
+  parent = led.1;
+  inner = led.2;
+  are_left = subst (λ os. AreLeft form (reverse os) []) (sym none) tt;
+  writing = writing;
+}
+
+module _ (form : Form) (w : Writer) (around : List Outer) (p : ParentEntries) (ps : List ParentEntries) (whole : Tree)
+    (o : IsOpening form w around p ps whole) where
+  pub opens_next : (q : ParentEntries) (qs : List ParentEntries) → ps ≡ q ∷ qs → OpensNext form w around p q qs whole
+  opens_next q qs is = go o.ns (subst (λ rs. LeadTo form rs o.ns o.child o.end) is o.inner) o.writing
+    where
+      go : (ns : List ℕ) → LeadTo form (q ∷ qs) ns o.child o.end → IsWriting form w (entries_kept o.t o.n o.child ns) o.outside whole
+          → OpensNext form w around p q qs whole
+      go [] led writing = absurd led
+      go (m ∷ ns) led writing = record {
+        t = o.t;
+        child = o.child;
+        inner = led.0;
+        end = o.end;
+        n = o.n;
+        m = m;
+        ns = ns;
+        outside = o.outside;
+        parent = o.parent;
+        next = led.1;
+        others = led.2;
+        are_left = o.are_left;
+        writing = writing;
+      }
+
+  pub opens_none : ps ≡ [] → IsWriting form w (entries_kept o.t o.n o.child []) o.outside whole
+  opens_none is = go o.ns (subst (λ rs. LeadTo form rs o.ns o.child o.end) is o.inner) o.writing
+    where
+      go : (ns : List ℕ) → LeadTo form [] ns o.child o.end → IsWriting form w (entries_kept o.t o.n o.child ns) o.outside whole
+          → IsWriting form w (entries_kept o.t o.n o.child []) o.outside whole
+      go [] led writing = writing
+      go (m ∷ ns) led writing = absurd led
+
+-- the runs around one entry
+pub held_around : (form : Form) (front back : Entries) (ts : List Tree) (n passed : ℕ) → passed ≡ n
+    → HoldTrees form front (take passed ts) × HoldTrees form back (drop 1 (drop passed ts))
+    → HoldTrees form front (take n ts) × HoldTrees form back (drop (suc n) ts)
+held_around form front back ts n passed is h = (rw is at h.0, rw (is, drop_one_more) at h.1)
+
+-- a run without words holds no trees
+pub no_trees_held : (form : Form) (run : Entries) (ts : List Tree) → HoldTrees form run ts → length run.words.now ≡ 0 → ts ≡ []
+no_trees_held form run [] h none = refl
+no_trees_held form run (t ∷ ts) h none = let e = h.entries in absurd (omega (arith, none, ap length e.begin.words_joined))
+
+-- the entries around the ones that are left out, in runs
+pub in_runs : (names front after : List Tree) (n passed : ℕ) → passed ≡ n
+    → remove names n ++ (front ++ after) ≡ take passed names ++ (drop 1 (drop passed names) ++ (front ++ (after ++ [])))
+in_runs names front after n passed is =
+    append_assoc (take n names) (drop (suc n) names) (front ++ after)
+    ∙ ap (λ us. take n names ++ us) (ap₂ (λ us vs. us ++ (front ++ vs)) (sym (drop_one_more n names)) (sym (append-nil after)))
+    ∙ ap (λ k. take k names ++ (drop 1 (drop k names) ++ (front ++ (after ++ [])))) (sym is)
+
+-- ---- numbers of bytes
+
+pub all_behind : (ps : List ParentEntries) (i : ℕ) → take (length ps - i) (drop i ps) ≡ drop i ps
+all_behind ps i = take_all (length ps - i) (drop i ps) (omega (arith, length-drop i ps))
+
+pub kept_none : (p : ParentEntries) (ps : List ParentEntries) → ps ≡ [] → p.others ≡ children_kept p ps
+kept_none p ps none = rw none refl
+
+pub kept_all : (p : ParentEntries) (ps : List ParentEntries) → (length ps ≡ 0 → ⊥) → p.others + 1 ≡ children_kept p ps
+kept_all p [] some = absurd (some refl)
+kept_all p (q ∷ qs) some = refl
+
+pub kept_at_most : (p : ParentEntries) (ps : List ParentEntries) → children_kept p ps ≤ p.others + 1
+kept_at_most p [] = omega arith
+kept_at_most p (q ∷ qs) = omega arith
+
+pub head_less : (kind : HeaderKind) (m n : ℕ) → m ≤ n → head_size kind m ≤ head_size kind n
+head_less header_kind.Object m n less = omega arith
+head_less _ m n less = omega arith
+
+sizes_more : (ps : List ParentEntries) (p : ParentEntries) → sizes (ps ++ p ∷ []) ≡ sizes ps + size p
+sizes_more [] p = omega arith
+sizes_more (q ∷ ps) p = omega (arith, sizes_more ps p)
+
+pub short_more : (ps ps' : List ParentEntries) (p : ParentEntries) (len len' : ℕ) → ps' ≡ ps ++ p ∷ [] → AreShort ps len → size p + len' ≤ len
+    → len' < 2 ^ 28 → AreShort ps' len'
+short_more ps ps' p len len' is short within fits = subst (λ qs. AreShort qs len') (sym is) (go ps short)
+  where
+    go : (qs : List ParentEntries) → AreShort qs len → AreShort (qs ++ p ∷ []) len'
+    go [] h = omega arith
+    go (q ∷ qs) h = omega (arith, sizes_more qs p)
+
+pub short_all : (ps : List ParentEntries) (len : ℕ) → AreShort ps len → AreShort ps 0
+short_all [] len h = tt
+short_all (p ∷ ps) len h = omega arith
+
+pub room_less : (start end end' : ℕ) (around : Rooms) → end' ≤ end → EndsWithin start end around → EndsWithin start end' around
+room_less start end end' [] less h = tt
+room_less start end end' (o ∷ os) less h =
+    (omega (arith, h.0), room_less o.0.start (end + o.1) (end' + o.1) os (omega arith) h.1)
+
+pub room_passed : (start len passed : ℕ) (around : Rooms) (coming : ℕ) → EndsWithin start (len + (passed + coming)) around → EndsWithin start (len + coming) around
+room_passed start len passed around coming h = room_less start (len + (passed + coming)) (len + coming) around (omega arith) h
+
+-- if nothing more comes, no more is written
+pub room_none : (start len : ℕ) (around : Rooms) (coming : ℕ) → EndsWithin start (len + coming) around → EndsWithin start (len + (coming + 0)) around
+room_none start len around coming h = room_less start (len + coming) (len + (coming + 0)) around (omega arith) h
+
+pub rooms_pushed : (around around' : List Outer) (o : Outer) → around' ≡ around ++ o ∷ []
+    → rooms_after (reverse around') ≡ (o.open, length o.after.contents.now) ∷ rooms_after (reverse around)
+rooms_pushed around around' o is = ap (λ os. rooms_after (reverse os)) is ∙ ap rooms_after (innermost around o)

@@ -1,26 +1,35 @@
 -- A document without the place that steps select, or the same document.
-use Rattle.std.proofs.Common.{◌≡◌, inl, inr, ℕ, List, [], ◌∷◌, ◌++◌, Option, Some, None, Result, Ok, Err, refl, sym, ap, subst, ◌∙◌, slice_get, Vec, Global, MatchResult}
+use Rattle.std.proofs.Common.{◌≡◌, inl, inr, ℕ, List, [], ◌∷◌, Option, Some, None, Result, Ok, Err, refl, sym, subst, ◌∙◌, Vec, Global, MatchResult}
 use Rattle.jsonb_doc.specs.declared.error.Error.{Error}
-use Rattle.jsonb_doc.specs.Tree.{Tree, null, boolean, number, text, extension, array, object}
-use Rattle.jsonb_doc.specs.Payload.{Form, number_reader}
-use Rattle.jsonb_doc.specs.Format.{Decodes, IsContent}
-use Rattle.jsonb_doc.specs.Private.EntryKinds.{container_entry}
+use Rattle.jsonb_doc.specs.Tree.{Tree}
+use Rattle.jsonb_doc.specs.Payload.{Form}
+use Rattle.jsonb_doc.specs.Format.{Decodes}
 use Rattle.jsonb_doc.specs.Answer.{SameOption, IsOutOfMemory}
-use Rattle.jsonb_doc.proofs.Containers.{array_document, object_document}
 use Rattle.jsonb_keypath.specs.KeyPathGrammar.{Key}
-use Rattle.jsonb_raw.specs.Places.{children, location, tree_at}
+use Rattle.jsonb_raw.specs.declared.functions.path.parent_entries.ParentEntries.{ParentEntries}
+use Rattle.jsonb_raw.specs.Places.{location}
 use Rattle.jsonb_raw.specs.Deletes.{change_child, remove_at, without, MeetNoPart}
-use Rattle.jsonb_raw.specs.Private.Cuts.{AppendsContainer}
-use Rattle.jsonb_raw.proofs.GoneLemmas.{first_met}
+use Rattle.jsonb_raw.specs.Private.Cuts.{LeadTo, Leads}
+use Rattle.jsonb_raw.proofs.CutLemmas.{no_more}
 
--- the place that was found, or none
-pub no_place : (found : Option (List ℕ)) → SameOption (λ (v : Vec ℕ Global) ns. v.items ≡ ns) None found → found ≡ None
-no_place None h = refl
-no_place (Some ns) h = absurd h
+-- the way to the place that was found, or none
+pub no_place : (form : Form) (t : Tree) (found : Option (List ℕ)) → SameOption (λ (v : Vec ParentEntries Global) ns. Leads form v.items ns t) None found
+    → found ≡ None
+no_place form t None h = refl
+no_place form t (Some ns) h = absurd h
 
-pub some_place : (v : Vec ℕ Global) (found : Option (List ℕ)) → SameOption (λ (v : Vec ℕ Global) ns. v.items ≡ ns) (Some v) found → found ≡ Some v.items
-some_place v None h = absurd h
-some_place v (Some ns) h = ap Some (sym h)
+pub some_place : (form : Form) (t : Tree) (v : Vec ParentEntries Global) (found : Option (List ℕ))
+    → SameOption (λ (v : Vec ParentEntries Global) ns. Leads form v.items ns t) (Some v) found → (ns : List ℕ) × (found ≡ Some ns) × Leads form v.items ns t
+some_place form t v None h = absurd h
+some_place form t v (Some ns) h = (ns, refl, h)
+
+pub place_is : (form : Form) (t : Tree) (v : Vec ParentEntries Global) (found : Option (List ℕ))
+    → (ns : List ℕ) × (found ≡ Some ns) × Leads form v.items ns t → SameOption (λ (v : Vec ParentEntries Global) ns. Leads form v.items ns t) (Some v) found
+place_is form t v found (ns, is, led) = rw is led
+
+-- the way to the whole
+pub no_way : (form : Form) (ps : List ParentEntries) (ns : List ℕ) (t : Tree) → ps ≡ [] → Leads form ps ns t → ns ≡ []
+no_way form ps ns t none (end, led) = no_more form ps ns t end none led
 
 -- ---- the same document
 
@@ -37,57 +46,37 @@ pub without_whole : (steps : List Key) (t : Tree) (ns : List ℕ) → ns ≡ [] 
 without_whole steps t ns empty e = rw (e, empty) refl
 
 -- steps that select a part don't select none
-pub part_met : (steps : List Key) (t : Tree) (ns : List ℕ) → (ns ≡ [] → ⊥) → location steps t ≡ Some ns → MeetNoPart steps t → ⊥
-part_met steps t ns some e (inl none) = let bad : Some ns ≡ None = sym e ∙ none in absurd (cc)
-part_met steps t ns some e (inr no_steps) = some (whole steps no_steps e)
+pub part_met : (steps : List Key) (t : Tree) (n : ℕ) (ns : List ℕ) → location steps t ≡ Some (n ∷ ns) → MeetNoPart steps t → ⊥
+part_met steps t n ns e (inl none) = let bad : Some (n ∷ ns) ≡ None = sym e ∙ none in absurd (cc)
+part_met steps t n ns e (inr no_steps) = whole steps no_steps e
   where
-    whole : (keys : List Key) → keys ≡ [] → location keys t ≡ Some ns → ns ≡ []
-    whole [] is h = cc h
+    whole : (keys : List Key) → keys ≡ [] → location keys t ≡ Some (n ∷ ns) → ⊥
+    whole [] is h = let bad : [] ≡ n ∷ ns = cc h in absurd (cc)
     whole (k ∷ keys) is h = absurd (cc)
 
 -- ---- a document
 
--- something is at the place of steps
-pub place_there : (steps : List Key) (t : Tree) (ns : List ℕ) → location steps t ≡ Some ns → (end : Tree) × (tree_at ns t ≡ Some end)
-place_there [] t ns e = let empty : [] ≡ ns = cc e in (t, rw (← empty) refl)
-place_there (step ∷ steps) t ns e =
-    let f = first_met step steps t ns e in
-    let rest = place_there steps f.child f.others f.placed in
-    (rest.0, go ns f.at f.others f.child rest.0 f.split f.is rest.1)
-  where
-    go : (ns : List ℕ) (n : ℕ) (others : List ℕ) (child end : Tree) → ns ≡ n ∷ others → slice_get (children t) n ≡ Some child → tree_at others child ≡ Some end
-        → tree_at ns t ≡ Some end
-    go ns n others child end split is there = rw (split, is) there
-
--- what is left without a part
-pub record PartOut (steps : List Key) (t : Tree) (ns : List ℕ) (form : Form) (bytes : List ℕ) : Type 0 where
+-- the way to a part
+pub record PartOut (form : Form) (t : Tree) (p : ParentEntries) (ps : List ParentEntries) (found : Option (List ℕ)) : Type 0 where
+  pub n : ℕ
+  pub ns : List ℕ
   pub end : Tree
-  pub there : tree_at ns t ≡ Some end
-  pub left : Tree
-  pub out : remove_at ns t ≡ Some left
-  pub is : without steps t ≡ left
-  pub content : IsContent (number_reader form) t container_entry bytes
+  pub is : found ≡ Some (n ∷ ns)
+  pub led : LeadTo form (p ∷ ps) (n ∷ ns) t end
 
-root_container : (form : Form) (bytes : List ℕ) (t end : Tree) (n : ℕ) (ns : List ℕ) → tree_at (n ∷ ns) t ≡ Some end → Decodes form bytes t
-    → IsContent (number_reader form) t container_entry bytes
-root_container form bytes (array ts) end n ns there d = array_document (number_reader form) ts bytes d.document
-root_container form bytes (object ps) end n ns there d = object_document (number_reader form) ps bytes d.document
-root_container form bytes null end n ns there d = let bad : None ≡ Some end = there in absurd (cc)
-root_container form bytes (boolean b) end n ns there d = let bad : None ≡ Some end = there in absurd (cc)
-root_container form bytes (number x) end n ns there d = let bad : None ≡ Some end = there in absurd (cc)
-root_container form bytes (text s) end n ns there d = let bad : None ≡ Some end = there in absurd (cc)
-root_container form bytes (extension x) end n ns there d = let bad : None ≡ Some end = there in absurd (cc)
+pub part_out : (form : Form) (t : Tree) (v : Vec ParentEntries Global) (found : Option (List ℕ)) (p : ParentEntries) (ps : List ParentEntries)
+    → v.items ≡ p ∷ ps → SameOption (λ (v : Vec ParentEntries Global) ns. Leads form v.items ns t) (Some v) found → PartOut form t p ps found
+part_out form t v found p ps split h =
+    let place = some_place form t v found h in
+    let led = place.2 in go place.0 place.1 led.0 (subst (λ qs. LeadTo form qs place.0 t led.0) split led.1)
+  where
+    go : (ns : List ℕ) → found ≡ Some ns → (end : Tree) → LeadTo form (p ∷ ps) ns t end → PartOut form t p ps found
+    go [] is end led = absurd led
+    go (n ∷ ns) is end led = record { n = n; ns = ns; end = end; is = is; led = led }
 
-pub part_out : (steps : List Key) (t : Tree) (ns : List ℕ) (form : Form) (bytes : List ℕ) → (ns ≡ [] → ⊥) → location steps t ≡ Some ns → Decodes form bytes t
-    → PartOut steps t ns form bytes
-part_out steps t [] form bytes some e d = absurd (some refl)
-part_out steps t (n ∷ ns) form bytes some e d =
-    let p = place_there steps t (n ∷ ns) e in
-    record { end = p.0; there = p.1; left = change_child n (remove_at ns) t; out = refl; is = rw e refl; content = root_container form bytes t p.0 n ns p.1 d }
+pub without_part : (steps : List Key) (t : Tree) (n : ℕ) (ns : List ℕ) → location steps t ≡ Some (n ∷ ns) → without steps t ≡ change_child n (remove_at ns) t
+without_part steps t n ns e = rw e refl
 
--- the bytes that were pushed are a document
-pub pushed_decodes : (form : Form) (left wanted : Tree) (most : ℕ) (before after made : List ℕ) → AppendsContainer (number_reader form) left most before after
-    → before ≡ [] → made ≡ after → wanted ≡ left → Decodes form made wanted
-pushed_decodes form left wanted most before after made p none is same =
-    let made_is : made ≡ p.bytes = is ∙ p.joined ∙ ap (λ (w : List ℕ). w ++ p.bytes) none in
-    subst (λ (u : Tree). Decodes form made u) (sym same) (subst (λ (w : List ℕ). Decodes form w left) (sym made_is) (record { document = inl p.content }))
+-- the bytes that were made are a document
+pub made_decodes : (form : Form) (left wanted : Tree) (bytes made : List ℕ) → Decodes form bytes left → made ≡ bytes → wanted ≡ left → Decodes form made wanted
+made_decodes form left wanted bytes made d is same = rw (same, is) d

@@ -1,13 +1,14 @@
 -- Steps from a number's digits to those of the number without its last digit.
-use Rattle.std.proofs.Common.{◌≡◌, ◌≢◌, ℕ, zero, suc, ◌+◌, ◌/◌, ◌%◌, ◌^◌, ◌<◌, ◌≤◌, ◌==◌, ◌&&◌, Bool, true, false, cond, List, [], ◌∷◌, ◌++◌, map, length, drop, refl, sym, ap, ap₂, ◌∙◌, arith, append_assoc}
+use Rattle.std.proofs.Common.{◌≡◌, ◌≢◌, ℕ, suc, ◌+◌, ◌/◌, ◌%◌, ◌^◌, ◌<◌, ◌≤◌, ◌==◌, ◌&&◌, Bool, true, false, cond, List, [], ◌∷◌, ◌++◌, map, length, drop, refl, sym, ap, ap₂, ◌∙◌, arith, append_assoc, ◌-◌, take, w16, ne_eqb}
 use Rattle.std.specs.List.{list_all}
 use Rattle.std.specs.Int.Digits.{digits_of}
-use Rattle.std.proofs.lemmas.List.{map-append}
-use Rattle.std.proofs.lemmas.Bool.{ne_eqb}
+use Rattle.std.proofs.lemmas.List.{map-append, take-take}
 use Rattle.std.proofs.lemmas.Int.Digits.{digits_of_step, length-digits_of_step, length-digits_of-le}
-use Rattle.jsonb_raw.specs.SortableKey.{significant}
+use Rattle.jsonb_raw.specs.SortableKey.{significant, magnitude_bytes}
 use Rattle.jsonb_raw.specs.Private.Complements.{complement_byte, complement_bytes}
 use Rattle.jsonb_raw.specs.Private.WrittenBefore.{WritesBefore}
+use Rattle.std.specs.Int.{to_be_bytes}
+use Rattle.std.proofs.Math.Seq.{take-append-add}
 
 pub count_step : (n : ℕ) → 0 < n → length (digits_of 10 (n / 10)) + 1 ≡ length (digits_of 10 n)
 count_step n h = sym (length-digits_of_step 10 n (omega arith) h)
@@ -21,12 +22,7 @@ count_short n h = length-digits_of-le 10 20 n (omega arith) (omega arith)
 pub digits_pushed : (negative : Bool) (old : List ℕ) (n : ℕ) → 0 < n
     → (old ++ complement_bytes negative (map suc (digits_of 10 (n / 10)))) ++ complement_byte negative (suc (n % 10)) ∷ []
     ≡ old ++ complement_bytes negative (map suc (digits_of 10 n))
-digits_pushed negative old n h =
-    append_assoc old (complement_bytes negative (map suc (digits_of 10 (n / 10)))) (complement_byte negative (suc (n % 10)) ∷ [])
-    ∙ ap (λ x. old ++ x)
-    (sym (map-append (complement_byte negative) (map suc (digits_of 10 (n / 10))) (suc (n % 10) ∷ []))
-    ∙ ap (map (complement_byte negative))
-    (sym (map-append suc (digits_of 10 (n / 10)) (n % 10 ∷ [])) ∙ ap (map suc) (sym (digits_of_step 10 n (omega arith) h))))
+digits_pushed negative old n h = grind (arith, append_assoc, map-append, digits_of_step)
 
 -- one digit more is written before a place
 pub digit_written : (negative : Bool) (n m : ℕ) (behind before whole : List ℕ) (byte : ℕ) → 0 < n → m ≡ n / 10
@@ -35,11 +31,7 @@ pub digit_written : (negative : Bool) (n m : ℕ) (behind before whole : List �
     → complement_bytes negative (map suc (digits_of 10 m)) ++ before ≡ whole
 digit_written negative n m behind before whole byte some less is more h =
     let others = complement_bytes negative (map suc (digits_of 10 (n / 10))) in
-    ap (λ k. complement_bytes negative (map suc (digits_of 10 k)) ++ before) less
-    ∙ ap (λ xs. others ++ xs) (more ∙ ap (λ b. b ∷ behind) is)
-    ∙ sym (append_assoc others (complement_byte negative (suc (n % 10)) ∷ []) behind)
-    ∙ ap (λ xs. xs ++ behind) (digits_pushed negative [] n some)
-    ∙ h
+    cc (append_assoc others (complement_byte negative (suc (n % 10)) ∷ []) behind, digits_pushed negative [] n some)
 
 all_zero_behind : (ds : List ℕ) → list_all (λ d. d == 0) (ds ++ 0 ∷ []) ≡ list_all (λ d. d == 0) ds
 all_zero_behind [] = refl
@@ -51,35 +43,24 @@ significant-zero_behind (d ∷ ds) = ap₂ (λ b x. cond ((d == 0) && b) [] (d �
 
 not_all_zero_behind : (c : ℕ) (ds : List ℕ) → c ≢ 0 → list_all (λ d. d == 0) (ds ++ c ∷ []) ≡ false
 not_all_zero_behind c [] h = ap (λ b. b && true) (ne_eqb c 0 h)
-not_all_zero_behind c (d ∷ ds) h = ap (λ b. (d == 0) && b) (not_all_zero_behind c ds h) ∙ and-false (d == 0)
-  where
-    and-false : (b : Bool) → (b && false) ≡ false
-    and-false true = refl
-    and-false false = refl
+not_all_zero_behind c (d ∷ ds) h = grind (arith, not_all_zero_behind c ds h)
 
 significant-behind : (c : ℕ) (ds : List ℕ) → c ≢ 0 → significant (ds ++ c ∷ []) ≡ ds ++ c ∷ []
 significant-behind c [] h = ap (λ b. cond (b && true) [] (c ∷ [])) (ne_eqb c 0 h)
 significant-behind c (d ∷ ds) h = ap₂ (λ b x. cond b [] (d ∷ x)) (not_all_zero_behind c (d ∷ ds) h) (significant-behind c ds h)
 
 pub significant_step : (n : ℕ) → 0 < n → n % 10 ≡ 0 → significant (digits_of 10 (n / 10)) ≡ significant (digits_of 10 n)
-significant_step n h e = sym (significant-zero_behind (digits_of 10 (n / 10))) ∙ ap (λ d. significant (digits_of 10 (n / 10) ++ d ∷ [])) (sym e)
-    ∙ ap significant (sym (digits_of_step 10 n (omega arith) h))
+significant_step n h e = cc (significant-zero_behind (digits_of 10 (n / 10)), digits_of_step 10 n (omega arith) h)
 
 pub significant_whole : (n : ℕ) → n % 10 ≢ 0 → significant (digits_of 10 n) ≡ digits_of 10 n
-significant_whole n ne =
-    ap significant step ∙ significant-behind (n % 10) (digits_of 10 (n / 10)) ne ∙ sym step
-  where
-    step : digits_of 10 n ≡ digits_of 10 (n / 10) ++ (n % 10 ∷ [])
-    step = digits_of_step 10 n (omega arith) (omega arith)
+significant_whole n h = grind (arith, significant-behind, digits_of_step)
 
 -- 0 has no digits
 pub significant-nothing : (n : ℕ) → n ≡ 0 → significant (digits_of 10 n) ≡ digits_of 10 n
-significant-nothing zero e = refl
-significant-nothing (suc n) e = absurd (omega arith)
+significant-nothing n h = grind arith
 
 pub no_digits : (n : ℕ) → n ≡ 0 → digits_of 10 n ≡ []
-no_digits zero e = refl
-no_digits (suc n) e = absurd (omega arith)
+no_digits n h = grind arith
 
 -- ---- a number taken apart from its last digit on
 
@@ -128,3 +109,51 @@ module _ (negative : Bool) (n end : ℕ) (buffer : List ℕ) (left at : ℕ) (no
 
   pub all_digits : left ≡ 0 → drop at now ≡ complement_bytes negative (map suc (digits_of 10 n)) ++ drop end buffer
   all_digits none = ap (λ ds. complement_bytes negative (map suc ds) ++ drop at now) (sym (no_digits left none)) ∙ h.written
+
+-- ---- digits of a number that are put before the bytes of a word, the last digit first
+
+-- one byte more, at the front
+pub packed_behind : (len byte : ℕ) (now before : List ℕ) → len < 16 → now ≡ byte ∷ take 15 before → take (len + 1) now ≡ byte ∷ take len before
+packed_behind len byte now before room is =
+    let next : len + 1 ≡ suc len = omega arith in
+    ap₂ take next is ∙ ap (λ xs. byte ∷ xs) (take-take len 15 before (omega arith))
+
+-- both words are appended, and as many of their bytes stay
+pub packed_pushed : (old one two bytes : List ℕ) (len at : ℕ) → at ≡ length old + len → one ≡ old ++ bytes → two ≡ take at one → two ≡ old ++ take len bytes
+packed_pushed old one two bytes len at place pushed cut = cut ∙ ap₂ take place pushed ∙ take-append-add old bytes len
+
+-- Holds if the digits that are left and the packed bytes are together the number's digits and the end marker.
+pub record DigitsPacked (negative : Bool) (n left len : ℕ) (bytes : List ℕ) : Type 0 where
+  pub counted : len + length (digits_of 10 left) ≡ length (digits_of 10 n) + 1
+  pub few : length (digits_of 10 n) ≤ 9
+  pub packed : complement_bytes negative (map suc (digits_of 10 left)) ++ bytes ≡ complement_bytes negative (map suc (digits_of 10 n) ++ 0 ∷ [])
+
+pub none_packed : (negative : Bool) (n len byte : ℕ) (bytes : List ℕ) → n < 1000000000 → len ≡ 1 → bytes ≡ byte ∷ []
+    → byte ≡ complement_byte negative 0 → DigitsPacked negative n n len bytes
+none_packed negative n len byte bytes small one is end = record {
+  counted = omega arith;
+  few = length-digits_of-le 10 9 n (omega arith) (omega arith);
+  packed = cc (map-append (complement_byte negative) (map suc (digits_of 10 n)) (0 ∷ []));
+}
+
+module _ (negative : Bool) (n left len : ℕ) (bytes : List ℕ) (h : DigitsPacked negative n left len bytes) where
+  pub digit_packed : (others len' byte : ℕ) (bytes' : List ℕ) → 0 < left → others ≡ left / 10 → len' ≡ len + 1
+      → byte ≡ complement_byte negative (suc (left % 10)) → bytes' ≡ byte ∷ bytes → DigitsPacked negative n others len' bytes'
+  digit_packed others len' byte bytes' some is more byte_is bytes_are =
+      let counted = h.counted in
+      let step : length (digits_of 10 others) + 1 ≡ length (digits_of 10 left) = ap (λ k. length (digits_of 10 k) + 1) is ∙ count_step left some in
+      record {
+        counted = omega arith;
+        few = h.few;
+        packed = digit_written negative left others bytes bytes' _ byte some is byte_is bytes_are h.packed;
+      }
+
+-- the exponent's bytes before the digits
+pub magnitude_packed : (negative : Bool) (exponent digits : List ℕ) (n shorter scale e : ℕ) → e ≡ length (digits_of 10 n) + 1000 - scale
+    → digits_of 10 shorter ≡ significant (digits_of 10 n) → exponent ≡ complement_bytes negative (to_be_bytes w16 e)
+    → digits ≡ complement_bytes negative (map suc (digits_of 10 shorter) ++ 0 ∷ []) → exponent ++ digits ≡ complement_bytes negative (magnitude_bytes n scale)
+unfolding magnitude_bytes
+magnitude_packed negative exponent digits n shorter scale e moved same front back =
+    ap₂ (λ xs ys. xs ++ ys) (front ∙ ap (λ k. complement_bytes negative (to_be_bytes w16 k)) moved)
+    (back ∙ ap (λ ds. complement_bytes negative (map suc ds ++ 0 ∷ [])) same)
+    ∙ sym (map-append (complement_byte negative) (to_be_bytes w16 (length (digits_of 10 n) + 1000 - scale)) (map suc (significant (digits_of 10 n)) ++ 0 ∷ []))

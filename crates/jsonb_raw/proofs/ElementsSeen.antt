@@ -1,29 +1,170 @@
--- The elements that are passed of an array, and how many of them equal one.
-use Rattle.std.proofs.Common.{◌≡◌, ℕ, suc, ◌+◌, ◌-◌, ◌<◌, ◌≤◌, ◌^◌, Bool, true, false, cond, not, nat_eq, nat_lt, min, List, [], ◌∷◌, length, take, Result, Ok, Err, IsOkAnd, MatchResult, refl, ap, sym, ◌∙◌, arith}
+-- How the counts of equality keys change, and what a count says of equal elements.
+use Rattle.std.proofs.Common.{◌≡◌, ◌+◌, ◌-◌, ◌<◌, ◌≤◌, ◌^◌, ℕ, Bool, true, false, not, List, [], ◌∷◌, refl, sym, ap, ap₂, ◌∙◌, cond, Vec, arith, length, Option, Some, unwrap_or, nat_lt, nat_eq, suc, min, take, Result, Ok, Err, IsOkAnd, MatchResult, bytes_eq, nat_cmp, is_eq}
 use Rattle.std.specs.List.{AllByRecursion}
-use Rattle.std.proofs.lemmas.Bool.Decides.{nat_tests}
-use Rattle.std.proofs.lemmas.List.Sums.{sum_by-cons}
-use Rattle.jsonb_doc.specs.Tree.{Tree, array}
-use Rattle.jsonb_doc.specs.Equal.{is_equal}
+use Rattle.std.specs.Cmp.Lexicographic.{slice_cmp}
+use Rattle.std.specs.declared.alloc.Global.{Global}
+use Rattle.std.specs.BTreeMap as map
+use Rattle.std.proofs.lemmas.Map.Text.{is_eq-slice_cmp}
+use Rattle.std.proofs.lemmas.Slice.Eq.{bytes_eq-Decides}
+use Rattle.std.proofs.lemmas.List.Sums.{count_by-le-length, sum_by-cons}
+use Rattle.jsonb_doc.specs.Tree.{Tree}
 use Rattle.jsonb_doc.specs.Limits.{Fits}
+use Rattle.jsonb_doc.specs.Equal.{is_equal}
+use Rattle.jsonb_raw.specs.EqualityKey.{equality_key}
+use Rattle.jsonb_raw.specs.Sets.{count_of, is_shared}
+use Rattle.jsonb_raw.specs.Private.SetCounts.{key_cmp, counted, one_at, with_key, CountsKeys, keeps, CountsAfter, in_order, ArePassed}
+use Rattle.jsonb_raw.specs.declared.functions.array.counts.KeyCounts.{KeyCounts}
+use Rattle.jsonb_raw.specs.declared.functions.array.sets.SetOperation.{SetOperation}
+use Rattle.jsonb_raw.specs.declared.functions.array.sets.SetOperation.TheVariants.{First, Shared, Unshared}
+use Rattle.std.proofs.lemmas.Bool.Decides.{nat_tests}
+use Rattle.jsonb_raw.proofs.KeyLawProofs.{equality_keys_tell_apart}
+use Rattle.jsonb_doc.proofs.Basics.{same_test}
 use Rattle.jsonb_doc.specs.Payload.{Form}
 use Rattle.jsonb_doc.specs.Answer.{IsOutOfMemory}
 use Rattle.jsonb_doc.specs.declared.error.Error.{Error}
 use Rattle.jsonb_doc.specs.declared.cursor.Entries.{Entries}
 use Rattle.jsonb_raw.specs.Arrays.{as_elements}
-use Rattle.jsonb_raw.specs.Sets.{count_of}
 use Rattle.jsonb_raw.specs.Private.Entries.{HoldTrees}
-use Rattle.jsonb_raw.specs.Private.SetCounts.{CountsKeys, CountsAfter, keeps, in_order, ArePassed}
-use Rattle.jsonb_raw.specs.declared.functions.array.counts.KeyCounts.{KeyCounts}
 use Rattle.jsonb_raw.specs.declared.functions.array.seen.ElementsPassed.{ElementsPassed}
-use Rattle.jsonb_raw.specs.declared.functions.array.sets.SetOperation.{SetOperation}
-use Rattle.jsonb_raw.specs.declared.functions.array.sets.SetOperation.TheVariants.{First, Shared, Unshared}
-use Rattle.jsonb_raw.proofs.KeysCounted.{shared_begun, unshared_begun}
 use Rattle.jsonb_raw.proofs.SetKept.{elements_few}
-use Rattle.jsonb_raw.proofs.TakenEntries.{take_one, take_no, take_zero}
+use Rattle.jsonb_raw.proofs.SetLawProofs.{count-cons}
+use Rattle.jsonb_raw.proofs.EntriesLeft.{take_one, take_no, take_zero}
 
-count_next : (t u : Tree) (us : List Tree) → count_of t (u ∷ us) ≡ cond (is_equal u t) 1 0 + count_of t us
-count_next t u us = sum_by-cons (λ x. cond (is_equal x t) 1 0) u us
+-- ---- the map
+
+picked : (a b : Bool) (w : ℕ) (x : Option ℕ) → a ≡ b → unwrap_or (cond a (Some w) x) 0 ≡ cond b w (unwrap_or x 0)
+picked a b w x h = grind arith
+
+pub inserted : (m n : KeyCounts) (key : Vec ℕ Global) (w : ℕ) → map.Updates key_cmp m.counts n.counts key (Some w) → (q : Vec ℕ Global)
+    → counted n q ≡ cond (bytes_eq key.items q.items) w (counted m q)
+inserted m n key w u q =
+    ap (λ o. unwrap_or o 0) (u.0 q)
+    ∙ picked (is_eq (slice_cmp nat_cmp key.items q.items)) (bytes_eq key.items q.items) w (map.get key_cmp m.counts q) (is_eq-slice_cmp key.items q.items)
+
+-- keys of the same bytes have one count
+pub same_count : (m : KeyCounts) (key q : Vec ℕ Global) → key.items ≡ q.items → counted m key ≡ counted m q
+same_count m key q e = ap (λ k. unwrap_or (map.get_by (λ (v : Vec ℕ Global). slice_cmp nat_cmp k v.items) m.counts) 0) e
+
+same_if : (m : KeyCounts) (key q : Vec ℕ Global) → bytes_eq key.items q.items ≡ true → counted m key ≡ counted m q
+same_if m key q h = same_count m key q ((bytes_eq-Decides key.items q.items).0 h)
+
+pub counted_more : (m n : KeyCounts) (key : Vec ℕ Global) (w : ℕ) → map.Updates key_cmp m.counts n.counts key (Some w) → w ≡ counted m key + 1
+    → (q : Vec ℕ Global) → counted n q ≡ counted m q + one_at key.items q
+counted_more m n key w u e q = grind (arith, inserted m n key w u q, same_if m key q, e)
+
+pub counted_less : (m n : KeyCounts) (key : Vec ℕ Global) (w : ℕ) → map.Updates key_cmp m.counts n.counts key (Some w) → w ≡ counted m key - 1
+    → (q : Vec ℕ Global) → counted n q ≡ counted m q - one_at key.items q
+counted_less m n key w u e q = grind (arith, inserted m n key w u q, same_if m key q, e)
+
+-- a new key, whose copy the map has
+pub counted_new : (m n : KeyCounts) (key copy : Vec ℕ Global) → copy.items ≡ key.items → map.Updates key_cmp m.counts n.counts copy (Some 1) → counted m key ≡ 0
+    → (q : Vec ℕ Global) → counted n q ≡ counted m q + one_at key.items q
+counted_new m n key copy h e k q = grind (arith, same_count, counted_more)
+
+-- a key that was counted before, whose copy was inserted with the count 1, and is then set
+pub counted_again : (m n o : KeyCounts) (key copy : Vec ℕ Global) (before w : ℕ) → copy.items ≡ key.items
+    → map.Updates key_cmp m.counts n.counts copy (Some 1) → Some before ≡ map.get key_cmp m.counts copy → w ≡ before + 1
+    → (0 < counted n key → (q : Vec ℕ Global) → counted o q ≡ cond (bytes_eq key.items q.items) w (counted n q))
+    → (q : Vec ℕ Global) → counted o q ≡ counted m q + one_at key.items q
+counted_again m n o key copy before w same u had is set q =
+    set some q ∙ by (bytes_eq key.items q.items) (bytes_eq-Decides key.items q.items).0 put
+  where
+    once : counted n copy ≡ 1
+    once = inserted m n copy 1 u copy ∙ ap (λ b. cond b 1 (counted m copy)) ((bytes_eq-Decides copy.items copy.items).1 refl)
+
+    some : 0 < counted n key
+    some = let one : counted n key ≡ 1 = sym (same_count n copy key same) ∙ once in omega (arith, one)
+
+    put : counted n q ≡ cond (bytes_eq key.items q.items) 1 (counted m q)
+    put = inserted m n copy 1 u q ∙ ap (λ k. cond (bytes_eq k q.items) 1 (counted m q)) same
+
+    here : before ≡ counted m key
+    here = ap (λ x. unwrap_or x 0) had ∙ same_count m copy key same
+
+    by : (b : Bool) → (b ≡ true → key.items ≡ q.items) → counted n q ≡ cond b 1 (counted m q) → cond b w (counted n q) ≡ counted m q + cond b 1 0
+    by b h k = grind (arith, here, same_count)
+
+pub counted_none : (m : KeyCounts) (key : Vec ℕ Global) → counted m key ≡ 0 → (q : Vec ℕ Global) → counted m q ≡ counted m q - one_at key.items q
+counted_none m key e q = grind (arith, same_if m key q, e)
+
+-- ---- keys and equality by value
+
+-- equality keys decide which trees are equal by value
+pub keys_decide : (t u : Tree) → Fits t → Fits u → bytes_eq (equality_key t) (equality_key u) ≡ is_equal t u
+keys_decide t u h e = grind (arith, same_test, equality_keys_tell_apart, bytes_eq-Decides)
+
+-- so the count of a tree's key is that of the trees which equal it
+pub with_key-equality_key : (t : Tree) (us : List Tree) (key : Vec ℕ Global) → Fits t → AllByRecursion Fits us → key.items ≡ equality_key t
+    → with_key key us ≡ count_of t us
+with_key-equality_key t [] key f all e = refl
+with_key-equality_key t (u ∷ us) key f all e =
+    let same : bytes_eq (equality_key u) key.items ≡ is_equal u t = ap (bytes_eq (equality_key u)) e ∙ keys_decide u t all.0 f in
+    let front : with_key key (u ∷ us)
+    ≡ cond (bytes_eq (equality_key u) key.items) 1 0 + with_key key us = sum_by-cons (λ x. cond (bytes_eq (equality_key x) key.items) 1 0) u us in
+    let back : count_of t (u ∷ us) ≡ cond (is_equal u t) 1 0 + count_of t us = sum_by-cons (λ x. cond (is_equal x t) 1 0) u us in
+    front ∙ ap₂ (λ b n. cond b 1 0 + n) same (with_key-equality_key t us key f all.1 e) ∙ sym back
+
+-- ---- which occurrences are kept
+
+more_left : (a b : ℕ) → nat_lt 0 (a - b) ≡ nat_lt b a
+more_left a b = grind (arith, nat_tests)
+
+module _ (m : KeyCounts) (other before : List Tree) (t : Tree) (key : Vec ℕ Global) (f : Fits t) (e : key.items ≡ equality_key t) where
+  first_test : CountsAfter First m other before → nat_eq (counted m key) 0 ≡ keeps First other (before, t)
+  first_test h = ap (λ n. nat_eq n 0) (h.counts key ∙ with_key-equality_key t before key f h.fit_before e)
+
+  left_test : counted m key ≡ with_key key other - with_key key before → AllByRecursion Fits other → AllByRecursion Fits before
+      → nat_lt 0 (counted m key) ≡ is_shared other (before, t)
+  left_test left all all_before =
+      cc (left, with_key-equality_key t other key f all e, with_key-equality_key t before key f all_before e, more_left (count_of t other) (count_of t before))
+
+  pub test_first : (kind : SetOperation) → kind ≡ First → CountsAfter kind m other before → nat_eq (counted m key) 0 ≡ keeps kind other (before, t)
+  test_first kind is = rw is first_test
+
+  pub test_shared : (kind : SetOperation) → kind ≡ Shared → CountsAfter kind m other before → nat_lt 0 (counted m key) ≡ keeps kind other (before, t)
+  test_shared kind is = rw is (λ (h : CountsAfter Shared m other before). left_test (h.counts key) h.fit_other h.fit_before)
+
+  pub test_unshared : (kind : SetOperation) → kind ≡ Unshared → CountsAfter kind m other before → not (nat_lt 0 (counted m key)) ≡ keeps kind other (before, t)
+  test_unshared kind is = rw is (λ (h : CountsAfter Unshared m other before). ap not (left_test (h.counts key) h.fit_other h.fit_before))
+
+-- ---- counting
+
+-- what is counted and what is left are the whole
+pub record CountsLeft (m : KeyCounts) (left whole : List Tree) : Type 0 where
+  pub joined : (key : Vec ℕ Global) → counted m key + with_key key left ≡ with_key key whole
+
+pub CountsLeft-all : (m : KeyCounts) (ts : List Tree) → ((key : Vec ℕ Global) → counted m key ≡ 0) → CountsLeft m ts ts
+CountsLeft-all m ts none = record { joined = λ key. let z : counted m key ≡ 0 = none key in omega arith }
+
+pub CountsLeft-next : (m n : KeyCounts) (key : Vec ℕ Global) (first : Tree) (rest whole : List Tree) → CountsLeft m (first ∷ rest) whole
+    → key.items ≡ equality_key first → length whole < 2 ^ 63
+    → (counted m key < 2 ^ 63 → (other : Vec ℕ Global) → counted n other ≡ counted m other + one_at key.items other) → CountsLeft n rest whole
+CountsLeft-next m n key first rest whole h e short more = record { joined = joined }
+  where
+    joined : (other : Vec ℕ Global) → counted n other + with_key other rest ≡ with_key other whole
+    joined other =
+        let few : with_key key whole ≤ length whole = count_by-le-length (λ t. bytes_eq (equality_key t) key.items) whole in
+        let at_key : counted m key + with_key key (first ∷ rest) ≡ with_key key whole = h.joined key in
+        let below : counted m key < 2 ^ 63 = omega arith in
+        let one : one_at key.items other ≡ one_at (equality_key first) other = ap (λ k. one_at k other) e in
+        let now : counted n other ≡ counted m other + one_at key.items other = more below other in
+        let split : with_key other (first ∷ rest)
+        ≡ one_at (equality_key first) other + with_key other rest = sum_by-cons (λ t. one_at (equality_key t) other) first rest in
+        let whole_other : counted m other + with_key other (first ∷ rest) ≡ with_key other whole = h.joined other in
+        omega arith
+
+pub CountsLeft-done : (m : KeyCounts) (whole : List Tree) → CountsLeft m [] whole → CountsKeys m whole
+CountsLeft-done m whole h key = let e : counted m key + 0 ≡ with_key key whole = h.joined key in omega arith
+
+nothing_met : (n w : ℕ) → n ≡ w → n ≡ w - 0
+nothing_met n w e = omega arith
+
+-- before the first element all of the other list is left
+pub shared_begun : (m : KeyCounts) (other : List Tree) → CountsKeys m other → AllByRecursion Fits other → CountsAfter Shared m other []
+shared_begun m other counts fit = record { counts = λ key. nothing_met (counted m key) (with_key key other) (counts key); fit_other = fit; fit_before = tt }
+
+pub unshared_begun : (m : KeyCounts) (other : List Tree) → CountsKeys m other → AllByRecursion Fits other → CountsAfter Unshared m other []
+unshared_begun m other counts fit = record { counts = λ key. nothing_met (counted m key) (with_key key other) (counts key); fit_other = fit; fit_before = tt }
 
 -- ---- elements that are passed
 
@@ -38,8 +179,8 @@ count_in_order t (b ∷ before) rest n =
     let one_more : length (b ∷ before) + n ≡ length before + suc n = omega arith in
     let all : count_of t (take (length before + suc n) (in_order before (b ∷ rest)))
     ≡ count_of t before + count_of t (b ∷ take n rest) = count_in_order t before (b ∷ rest) (suc n) in
-    let next = count_next t b (take n rest) in
-    let first = count_next t b before in
+    let next = count-cons t b (take n rest) in
+    let first = count-cons t b before in
     rw one_more (omega (arith, all, next, first))
 
 pub passed_count : (form : Form) (elements : ElementsPassed) (other before rest : List Tree) (t : Tree)
@@ -100,7 +241,7 @@ module _ (form : Form) (left : Entries) (more equal : ℕ) (u : Tree) (whole : �
   EqualLeft-next others now t rest split hold some is =
       let j : equal + count_of u (take more (t ∷ rest)) ≡ whole = rw split at h.joined in
       let k : equal + count_of u (t ∷ take (more - 1) rest) ≡ whole = rw (take_one more t rest some) at j in
-      let next = count_next u t (take (more - 1) rest) in
+      let next = count-cons u t (take (more - 1) rest) in
       record { rest = rest; holds = hold; joined = omega (arith, is, k, next) }
 
 -- What is left has as many equal to the tree as all have, less those that may still be passed.
@@ -120,7 +261,7 @@ module _ (form : Form) (left : Entries) (more count : ℕ) (u : Tree) (whole : �
       → true ≡ nat_lt count whole
   MoreLeft-found equal t rest split is less =
       let j : whole + more ≡ count + count_of u (t ∷ rest) = rw split at h.joined in
-      let next = count_next u t rest in
+      let next = count-cons u t rest in
       let above : count < whole = omega (arith, is, less, j, next) in
       let many : nat_lt count whole ≡ true = grind (arith, nat_tests, above) in
       sym many
@@ -129,7 +270,7 @@ module _ (form : Form) (left : Entries) (more count : ℕ) (u : Tree) (whole : �
       → equal ≡ cond (is_equal t u) 1 0 → now + equal ≡ more → MoreLeft form others now count u whole
   MoreLeft-next others now equal t rest split hold is less =
       let j : whole + more ≡ count + count_of u (t ∷ rest) = rw split at h.joined in
-      let next = count_next u t rest in
+      let next = count-cons u t rest in
       record { rest = rest; holds = hold; joined = omega (arith, is, less, j, next) }
 
 pub none_left : (n whole : ℕ) → false ≡ nat_lt 0 whole → false ≡ nat_lt n whole
@@ -149,8 +290,7 @@ left_counted n m whole r is told = rw is at told
 -- ---- counts before the first element
 
 pub members_few : (t : Tree) → Fits t → length (as_elements t) < 2 ^ 63
-members_few (array ts) f = elements_few ts f
-members_few t f = omega arith
+members_few t h = grind (arith, elements_few)
 
 not_first_begun : (kind : SetOperation) (m : KeyCounts) (other : List Tree) → (kind ≡ First → ⊥) → CountsKeys m other → AllByRecursion Fits other
     → CountsAfter kind m other []
@@ -163,6 +303,7 @@ pub counted_begun : (kind : SetOperation) (r : Result KeyCounts Error) (other : 
 counted_begun kind (Ok m) other not_first fit h = not_first_begun kind m other not_first h fit
 counted_begun kind (Err e) other not_first fit h = h
 
-pub follows : {P Q : Type 0} (r : Result Bool Error) → (P → Q) → MatchResult r (λ _. P) IsOutOfMemory → MatchResult r (λ _. Q) IsOutOfMemory
-follows (Ok b) f h = f h
-follows (Err e) f h = h
+pub follows : {P Q : Type 0} (R : Bool → Type 0) (r : Result Bool Error) → (P → Q) → MatchResult r R IsOutOfMemory → MatchResult r (λ _. P) IsOutOfMemory
+    → MatchResult r (λ b. R b × Q) IsOutOfMemory
+follows R (Ok b) f h g = (h, f g)
+follows R (Err e) f h g = h

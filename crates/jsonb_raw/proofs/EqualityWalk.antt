@@ -1,9 +1,7 @@
 -- A walk over levels that spells equality keys: what is written, and then the keys of what each level has left, the
 -- innermost first, is the whole.
-use Rattle.std.proofs.Common.{◌≡◌, ◌++◌, ℕ, List, [], ◌∷◌, Some, None, refl, sym, ap, ◌∙◌, append_assoc, append-nil, length, arith}
-use Rattle.std.specs.Prelude.{reverse}
-use Rattle.std.specs.Int.{w32, to_be_bytes}
-use Rattle.jsonb_doc.specs.Tree.{Tree, Trees, Pairs, count, keys}
+use Rattle.std.proofs.Common.{◌≡◌, ◌++◌, ℕ, List, [], ◌∷◌, Some, None, refl, sym, ap, ◌∙◌, append_assoc, append-nil, length, arith, reverse}
+use Rattle.jsonb_doc.specs.Tree.{Tree, Trees, Pairs}
 use Rattle.jsonb_doc.specs.Payload.{Form}
 use Rattle.jsonb_raw.specs.SortableKey.{text_bytes}
 use Rattle.jsonb_raw.specs.EqualityKey.{equality_key, equality_keys_of_trees, equality_keys_of_pairs}
@@ -28,22 +26,14 @@ trees_keys (Trees.tree t ts) = ap (λ x. equality_key t ++ x) (trees_keys ts)
 
 pairs_keys : (ps : Pairs) → keys_of_parts (parts_of_pairs ps) ≡ equality_keys_of_pairs ps
 pairs_keys Pairs.no_pairs = refl
-pairs_keys (Pairs.pair k t ps) =
-    append_assoc (5 ∷ text_bytes k) (equality_key t) (keys_of_parts (parts_of_pairs ps)) ∙ ap (λ x. (5 ∷ text_bytes k) ++ (equality_key t ++ x)) (pairs_keys ps)
+pairs_keys (Pairs.pair k t ps) = cc (append_assoc (5 ∷ text_bytes k) (equality_key t) (keys_of_parts (parts_of_pairs ps)), pairs_keys ps)
 
 key_split : (t : Tree) → equality_key t ≡ equality_start t ++ keys_of_parts (parts t)
-key_split Tree.null = refl
-key_split (Tree.boolean b) = sym (append-nil (equality_key (Tree.boolean b)))
-key_split (Tree.number n) = sym (append-nil (equality_key (Tree.number n)))
-key_split (Tree.text bytes) = sym (append-nil (equality_key (Tree.text bytes)))
-key_split (Tree.extension x) = sym (append-nil (equality_key (Tree.extension x)))
-key_split (Tree.array ts) = ap (λ x. (7 ∷ to_be_bytes w32 (count ts)) ++ x) (sym (trees_keys ts))
-key_split (Tree.object ps) = ap (λ x. (6 ∷ to_be_bytes w32 (length (keys ps))) ++ x) (sym (pairs_keys ps))
+key_split t = grind (arith, append-nil, trees_keys, pairs_keys)
 
 part_split : (p : EntryPrefix) → part_key p ≡ equality_part_start p ++ keys_of_parts (parts p.1)
 part_split (None, t) = key_split t
-part_split (Some k, t) =
-    ap (λ x. (5 ∷ text_bytes k) ++ x) (key_split t) ∙ sym (append_assoc (5 ∷ text_bytes k) (equality_start t) (keys_of_parts (parts t)))
+part_split (Some k, t) = cc (key_split t, append_assoc (5 ∷ text_bytes k) (equality_start t) (keys_of_parts (parts t)))
 
 -- ---- what is left at levels, the innermost first
 
@@ -52,22 +42,13 @@ keys_of_levels [] = []
 keys_of_levels (ps ∷ ls) = keys_of_parts ps ++ keys_of_levels ls
 
 pub walk_begun : (t : Tree) (old out : List ℕ) → out ≡ old ++ equality_start t → out ++ keys_of_levels (parts t ∷ []) ≡ old ++ equality_key t
-walk_begun t old out e =
-    ap (λ x. out ++ x) (append-nil (keys_of_parts (parts t))) ∙ ap (λ x. x ++ keys_of_parts (parts t)) e
-    ∙ append_assoc old (equality_start t) (keys_of_parts (parts t)) ∙ ap (λ x. old ++ x) (sym (key_split t))
+walk_begun t old out e = cc (append-nil (keys_of_parts (parts t)), e, append_assoc old (equality_start t) (keys_of_parts (parts t)), key_split t)
 
 -- a part's start is written, and its own parts are left within
 pub part_begun : (p : EntryPrefix) (ps : List EntryPrefix) (ls : List (List EntryPrefix)) (out out' whole : List ℕ) → out ++ keys_of_levels ((p ∷ ps) ∷ ls) ≡ whole
     → out' ≡ out ++ equality_part_start p
     → out' ++ keys_of_levels (parts p.1 ∷ ps ∷ ls) ≡ whole
-part_begun p ps ls out out' whole h e =
-    let s = equality_part_start p in
-    let k = keys_of_parts (parts p.1) in
-    let others = keys_of_parts ps in
-    let r = keys_of_levels ls in
-    ap (λ x. x ++ (k ++ (others ++ r))) e ∙ append_assoc out s (k ++ (others ++ r))
-    ∙ ap (λ x. out ++ x) (sym (append_assoc s k (others ++ r)) ∙ ap (λ x. x ++ (others ++ r)) (sym (part_split p)) ∙ sym (append_assoc (part_key p) others r))
-    ∙ h
+part_begun p ps ls out out' whole h e = grind (arith, append_assoc, part_split)
 
 -- a part without parts
 pub part_done : (p : EntryPrefix) (ps : List EntryPrefix) (ls : List (List EntryPrefix)) (out out' whole : List ℕ) → parts p.1 ≡ [] → out ++ keys_of_levels ((p ∷ ps) ∷ ls) ≡ whole

@@ -1,6 +1,5 @@
 -- A tree whose leaves are not extensions has none, at every depth.
-use Rattle.std.proofs.Common.{◌≡◌, ℕ, suc, pos, false, true, List, [], ◌∷◌, ◌++◌}
-use Rattle.std.specs.Prelude.{not, IsTrue}
+use Rattle.std.proofs.Common.{ℕ, suc, pos, false, List, [], ◌∷◌, ◌++◌, not, IsTrue}
 use Rattle.std.specs.List.{AllByRecursion}
 use Rattle.std.specs.Map.{values_of}
 use Rattle.jsonb_doc.specs.Tree.{Tree, extension, array, object, Trees, no_trees, tree, Pairs, no_pairs, pair}
@@ -43,12 +42,9 @@ within : (step : Key) (found : List Leaf) → AreOthers (behind (step ∷ []) fo
 within step [] h = tt
 within step (leaf ∷ found) h = (h.0, within step found h.1)
 
-no_other : {A : Type 0} → false ≡ true → A
-no_other e = absurd (cc e)
-
 mutual
   part : (step : Key) (t : Tree) → AreOthers (leaves_at false step t (leaves false t)) → LacksExtension t
-  part step (extension x) h = no_other h.0
+  part step (extension x) h = absurd (cc h.0)
   part step (array no_trees) h = tt
   part step (array (tree t ts)) h = elements 0 (tree t ts) (within step (leaves_of_trees false 0 (tree t ts)) h)
   part step (object no_pairs) h = tt
@@ -74,7 +70,7 @@ by_leaf [] h = tt
 by_leaf (leaf ∷ found) h = (h.0, by_leaf found h.1)
 
 pub lacks_extension : (t : Tree) → HasNoExtension t → LacksExtension t
-lacks_extension (extension x) h = no_other h.0
+lacks_extension (extension x) h = absurd (cc h.0)
 lacks_extension (array ts) h = elements 0 ts (by_leaf (leaves false (array ts)) h.1)
 lacks_extension (object ps) h = values ps (by_leaf (leaves false (object ps)) h.1)
 lacks_extension _ h = tt

@@ -1,21 +1,24 @@
 -- A pair that is taken out of an object is gone.
-use Rattle.std.proofs.Common.{◌≡◌, ℕ, zero, suc, Bool, true, false, List, [], ◌∷◌, ◌++◌, length, Option, Some, None, refl, sym, ap, subst, ◌∙◌, slice_get}
-use Rattle.std.specs.Prelude.{position, option_and_then, option_map, unwrap_or}
-use Rattle.std.specs.Ordering.{is_eq}
-use Rattle.std.specs.Str.{bytes_eq}
+use Rattle.std.proofs.Common.{◌≡◌, ℕ, zero, suc, Bool, true, false, List, [], ◌∷◌, ◌++◌, length, Option, Some, None, refl, sym, ap, subst, ◌∙◌, slice_get, is_eq, bytes_eq, position, option_and_then, option_map, unwrap_or}
 use Rattle.std.proofs.lemmas.Cmp.{nat_list_cmp_total}
 use Rattle.std.proofs.lemmas.Map.Text.{is_eq-slice_cmp}
-use Rattle.jsonb_doc.specs.Tree.{Tree, null, boolean, number, text, extension, array, object, Trees, no_trees, tree, Pairs, no_pairs, pair, elements, keys, values}
+use Rattle.jsonb_doc.specs.Tree.{Tree, null, boolean, number, text, extension, array, object, Trees, no_trees, tree, Pairs, no_pairs, pair, elements, keys, values, members, trees_of, pairs_of}
 use Rattle.jsonb_doc.specs.Format.{IsBelowFirst, AreKeys}
 use Rattle.jsonb_doc.specs.Limits.{IsInRange, AreInRange, ValuesAreInRange, Fits}
 use Rattle.jsonb_doc.proofs.WordLemmas.{bytes_eq-true}
 use Rattle.jsonb_keypath.specs.KeyPathGrammar.{Key, index, quoted_name, unquoted_name}
 use Rattle.jsonb_raw.specs.Places.{children, asked_key, child_position, location, tree_at_steps, index_position}
-use Rattle.jsonb_raw.specs.Deletes.{change_child, remove_at, without}
+use Rattle.jsonb_raw.specs.Deletes.{change_at, change_child, remove_at, without}
 use Rattle.jsonb_doc.proofs.TreeLists.{trees_of-elements, pairs_of-members}
-use Rattle.jsonb_raw.proofs.EntryLists.{changed_trees, changed_pairs}
-use Rattle.jsonb_raw.proofs.PlaceLemmas.{position-cons, step_by_step}
-use Rattle.jsonb_raw.proofs.PositionLemmas.{position_in_object}
+use Rattle.jsonb_raw.proofs.PositionLemmas.{position-cons, step_by_step, position_in_object}
+
+-- the trees with what is made of the one at a position
+abbrev changed_trees : ℕ → (Tree → Option Tree) → Trees → Trees
+changed_trees n change ts = trees_of (change_at n change (elements ts))
+
+-- the pairs with what is made of the value of the one at a position
+abbrev changed_pairs : ℕ → (Tree → Option Tree) → Pairs → Pairs
+changed_pairs n change ps = pairs_of (change_at n (λ p. option_map (λ t. (p.0, t)) (change p.1)) (members ps))
 
 -- ---- keys
 

@@ -1,10 +1,8 @@
 -- Hashes of numbers, and of trees that are equal by value.
-use Rattle.std.proofs.Common.{◌≡◌, ℕ, zero, suc, ◌-◌, ◌*◌, ◌^◌, ◌<◌, ◌≤◌, ◌+◌, ◌%◌, ◌&&◌, Bool, true, false, List, length, slice_index_or, slice_set, ℤ, pos, negsuc, neg_ℤ, refl, sym, ap, ◌∙◌, arith, true≢false, unsigned_abs, int_lt}
+use Rattle.std.proofs.Common.{◌≡◌, ℕ, zero, suc, ◌-◌, ◌*◌, ◌^◌, ◌<◌, ◌≤◌, ◌+◌, ◌%◌, ◌&&◌, Bool, true, false, List, length, slice_index_or, slice_set, ℤ, pos, negsuc, neg_ℤ, refl, sym, ap, ◌∙◌, arith, true≢false, unsigned_abs, int_lt, bytes_eq}
 use native.Mathlib.Nat.{one-le-pow}
 use Rattle.std.specs.Ordering.{eq_by_cmp, is_eq, int_cmp}
 use Rattle.std.specs.declared.cmp.Ordering.{Ordering}
-use Rattle.std.specs.declared.cmp.Ordering.TheVariants.{Less, Equal, Greater}
-use Rattle.std.specs.Str.{bytes_eq}
 use Rattle.std.proofs.lemmas.Bool.{and_parts}
 use Rattle.std.proofs.lemmas.Bool.Decides.{nat_tests}
 use Rattle.std.proofs.lemmas.Grind.{get_or-set_at}
@@ -14,7 +12,7 @@ use Rattle.jsonb_doc.specs.Number.{Number, Variant, number_cmp, number_from}
 use Rattle.jsonb_doc.specs.Proofs.NumberOrder.{common, at_common}
 use Rattle.jsonb_doc.specs.Equal.{is_equal, are_equal, pairs_are_equal}
 use Rattle.jsonb_doc.specs.Tree.{Tree, null, boolean, number, text, extension, array, object, Trees, no_trees, tree, Pairs, no_pairs, pair, values}
-use Rattle.jsonb_raw.specs.Private.Hashes.{value_hash, text_hash, IsPartHash, AreHashed, IsHashOf}
+use Rattle.jsonb_raw.specs.Private.Hashes.{value_hash, IsPartHash, AreHashed, IsHashOf}
 
 module _ (variant : Variant) (scale power m : ℕ) (few : scale ≤ 6) (is : power ≡ 10 ^ (6 - scale)) where
   -- a number of these parts has the hash of their product
@@ -39,9 +37,7 @@ module _ (variant : Variant) (scale power m : ℕ) (few : scale ≤ 6) (is : pow
   magnitude_hashed z magnitude e above below = parts_marked z (rw e at above) (rw e at below)
 
 same_whole : (x y : ℤ) (r : Ordering) → is_eq r ≡ true → r ≡ int_cmp x y → x ≡ y
-same_whole x y Less e h = absurd (true≢false (sym e))
-same_whole x y Equal e h = int_ranked x y Equal h
-same_whole x y Greater e h = absurd (true≢false (sym e))
+same_whole x y r h k = grind (arith, int_ranked)
 
 -- numbers of one value have one hash
 numbers_marked : (n k : Number) (a b : ℕ) → eq_by_cmp number_cmp n k ≡ true → IsPartHash (number n) a → IsPartHash (number k) b → a ≡ b
@@ -53,15 +49,7 @@ numbers_marked n k a b same p q =
 
 -- trees that are equal by value have one hash in a container
 one_part_hash : (t u : Tree) (a b : ℕ) → is_equal t u ≡ true → IsPartHash t a → IsPartHash u b → a ≡ b
-one_part_hash null null a b e p q = p ∙ sym q
-one_part_hash (boolean true) (boolean true) a b e p q = p ∙ sym q
-one_part_hash (boolean false) (boolean false) a b e p q = p ∙ sym q
-one_part_hash (number n) (number k) a b e p q = numbers_marked n k a b e p q
-one_part_hash (text s) (text r) a b e p q = p ∙ ap text_hash ((bytes_eq-Decides _ _).0 e) ∙ sym q
-one_part_hash (extension x) (extension y) a b e p q = p ∙ sym q
-one_part_hash (array ts) (array us) a b e p q = p ∙ sym q
-one_part_hash (object ps) (object qs) a b e p q = p ∙ sym q
-one_part_hash t u a b e p q = absurd (true≢false (sym e))
+one_part_hash t u a b h k e = grind (arith, numbers_marked, bytes_eq-Decides)
 
 lists_hashed : (ts us : Trees) (before a b : ℕ) → are_equal ts us ≡ true → AreHashed ts before a → AreHashed us before b → a ≡ b
 lists_hashed no_trees no_trees before a b e p q = p ∙ sym q

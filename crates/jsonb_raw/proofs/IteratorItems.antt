@@ -1,11 +1,10 @@
 -- What an iterator of a document has left, as a loop's invariant says it.
-use Rattle.std.proofs.Common.{◌≡◌, ℕ, List, Option, Some, None, Result, Ok, Err, sym, ap, subst}
-use Rattle.std.specs.Borrow.{Bor}
+use Rattle.std.proofs.Common.{◌≡◌, ℕ, List, Option, Some, None, Result, Ok, Err, sym, ap, subst, [], ◌∷◌, ◌++◌, Bor}
 use Rattle.jsonb_doc.specs.declared.error.Error.{Error}
 use Rattle.jsonb_doc.specs.declared.item.Item.{Item}
 use Rattle.jsonb_doc.specs.declared.pair_iter.PairIter.{PairIter}
 use Rattle.jsonb_doc.specs.declared.element_iter.ElementIter.{ElementIter}
-use Rattle.jsonb_doc.specs.Tree.{Tree, array, object, Trees, no_trees, tree, Pairs, no_pairs, pair}
+use Rattle.jsonb_doc.specs.Tree.{Tree, array, object, Trees, no_trees, tree, Pairs, no_pairs, pair, trees_of}
 use Rattle.jsonb_doc.specs.Payload.{Form}
 use Rattle.jsonb_doc.specs.Item.{StandsFor}
 use Rattle.jsonb_doc.specs.Elements.{TakesElement, GivesElement}
@@ -13,6 +12,10 @@ use Rattle.jsonb_doc.specs.Representation.Iterators.{HasElementsLeft, HasPairsLe
 use Rattle.jsonb_doc.proofs.ElementsLemmas.{IsElementsOf}
 use Rattle.jsonb_doc.specs.ObjectPairs.{TakesPair, GivesPair}
 use Rattle.jsonb_doc.proofs.PairsLemmas.{IsPairsOf}
+use Rattle.jsonb_doc.specs.Private.Errors.{IsOutOfMemoryOrTooLarge}
+use Rattle.jsonb_doc.specs.ArrayBuilder.{Parts, no_parts, HoldsElements}
+use Rattle.jsonb_doc.proofs.BuilderSteps.{front_empty, front_pushed, front_refused}
+use Rattle.jsonb_doc.specs.Private.Builders.{HoldsFront}
 
 -- the elements that are left have the property Q
 pub record SomeElements (form : Form) (it : ElementIter) (Q : Trees → Type 0) : Type 0 where
@@ -96,3 +99,51 @@ no_more_pairs form it' Q (pair key t ps) h q = absurd h
 
 pub SomePairs-none : (form : Form) (it it' : PairIter) (Q : Pairs → Type 0) → GivesPair it None it' → SomePairs form it Q → Q no_pairs
 SomePairs-none form it it' Q n s = no_more_pairs form it' Q s.pairs (n.takes form s.pairs s.left) s.fact
+
+-- ---- a loop that pushes elements into a builder
+
+-- the trees that the builder holds, followed by what the elements that are left give, are the whole
+abbrev pub HeldElements : Form → Parts → ElementIter → (Trees → List Tree) → List Tree → Type 0
+HeldElements form parts it gives whole = SomeElements form it (λ ts. HoldsFront form parts (gives ts) whole)
+
+-- at first nothing is held
+pub elements_begun : (form : Form) (gives : Trees → List Tree) (parts : Parts) (ts : Trees) (found : Option ElementIter) (it it' : ElementIter)
+    → found ≡ Some it → it' ≡ it → IsElementsOf form (array ts) found → parts ≡ no_parts → HeldElements form parts it' gives (gives ts)
+elements_begun form gives parts ts found it it' is same left none =
+    SomeElements-all form ts found it it' (λ us. HoldsFront form parts (gives us) (gives ts)) is same left (front_empty form parts (gives ts) none)
+
+module _ (form : Form) (gives : Trees → List Tree) (whole : List Tree) (before : Parts) (it it' : ElementIter) (r : Result Item Error) (x : Item)
+    (is : r ≡ Ok x) (step : GivesElement it (Some r) it') (h : HeldElements form before it gives whole) where
+  next_front : (t : Tree) (part : Tree) (ts : Trees) → gives (tree t ts) ≡ part ∷ gives ts → HoldsFront form before (gives (tree t ts)) whole
+      → HoldsFront form before (part ∷ gives ts) whole
+  next_front t part ts same front = subst (λ (us : List Tree). HoldsFront form before us whole) same front
+
+  -- with what the next element gives after the others, what the rest gives is left
+  pub elements_pushed : (part : Tree → Tree) (after : Parts)
+      → ((t : Tree) (ts : Trees) → StandsFor form x t → gives (tree t ts) ≡ part t ∷ gives ts)
+      → ((t : Tree) (held : List Tree) → StandsFor form x t → HoldsElements form before held → HoldsElements form after (held ++ part t ∷ []))
+      → HeldElements form after it' gives whole
+  elements_pushed part after next pushed =
+      SomeElements-first form it it' r x (λ ts. HoldsFront form before (gives ts) whole) is step h
+      (λ t ts left stands front.
+      let f = next_front t (part t) ts (next t ts stands) front in
+      record { trees = ts; left = left; fact = front_pushed form before (part t) (gives ts) whole f after (pushed t f.held stands f.holds) })
+
+  -- if that push fails, the whole is
+  pub elements_refused : (part : Tree → Tree) (e : Error)
+      → ((t : Tree) (ts : Trees) → StandsFor form x t → gives (tree t ts) ≡ part t ∷ gives ts)
+      → ((t : Tree) (held : List Tree) → StandsFor form x t → HoldsElements form before held
+      → IsOutOfMemoryOrTooLarge form (array (trees_of (held ++ part t ∷ []))) e)
+      → IsOutOfMemoryOrTooLarge form (array (trees_of whole)) e
+  elements_refused part e next refused =
+      SomeElements-first form it it' r x (λ ts. HoldsFront form before (gives ts) whole) is step h
+      (λ t ts left stands front.
+      let f = next_front t (part t) ts (next t ts stands) front in
+      front_refused form before (part t) (gives ts) whole f e (refused t f.held stands f.holds))
+
+  -- an element that yields nothing is passed over
+  pub elements_skipped : ((t : Tree) (ts : Trees) → StandsFor form x t → gives (tree t ts) ≡ gives ts) → HeldElements form before it' gives whole
+  elements_skipped next =
+      SomeElements-first form it it' r x (λ ts. HoldsFront form before (gives ts) whole) is step h
+      (λ t ts left stands front.
+      record { trees = ts; left = left; fact = subst (λ (us : List Tree). HoldsFront form before us whole) (next t ts stands) front })

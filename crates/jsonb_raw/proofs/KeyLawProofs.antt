@@ -1,36 +1,218 @@
--- The laws of keys, from the one equation on keys with rests.
-use Rattle.std.proofs.Common.{◌≡◌, ◌↔◌, ℕ, ◌<◌, List, [], ◌++◌, inl, arith, Less, refl, sym, ap, ap₂, ◌∙◌, append-nil}
+-- Laws of sortable, composite and equality keys.
+use Rattle.std.proofs.Common.{◌≡◌, ℕ, suc, ◌%◌, ◌^◌, ◌<◌, List, [], ◌∷◌, ◌++◌, length, refl, sym, ap, ap₂, ◌∙◌, arith, nat_cmp, Bool, Ordering, Equal, append_assoc, mod-eq_of_lt, ◌↔◌, inl, Less, append-nil, flat_map, Option, None, Some, IfSome, Greater, subst, IsTrue}
+use Rattle.std.specs.Int.{bytes_high_first, Width, byte_len}
+use Rattle.jsonb_doc.specs.Proofs.Orderings.{nat_cmp-equal, then_Equal}
+use Rattle.jsonb_raw.proofs.Ranking.{Ranks, Ranks-bytes_high_first, Ranks-text_bytes}
+use Rattle.jsonb_raw.proofs.NumberKeys.{Ranks-number_bytes, bounded_from_fits, ranks_alone}
+use Rattle.jsonb_raw.proofs.TreeKeys.{rank_boolean, keys_rank, items_rank, key_is_item, IsRest-item, nothing_below_depth, nothing_above_depth}
+use Rattle.jsonb_doc.proofs.ExtensionsRead.{extension_back}
+use Rattle.jsonb_doc.proofs.ScalarLemmas.{some_injective}
+use Rattle.jsonb_doc.specs.Extension.{FitsExtension}
+use Rattle.jsonb_doc.specs.Payload.{canonical, extension_payload, Form}
+use Rattle.jsonb_doc.specs.Private.Payloads.{extension_of}
+use Rattle.jsonb_doc.specs.Limits.{Fits, IsShort, HasShortParts, HasShortElements, HasShortValues, IsInRange, AreInRange, ValuesAreInRange}
+use Rattle.jsonb_doc.specs.Tree.{Tree, Trees, Pairs, count, keys}
+use Rattle.jsonb_doc.specs.Number.{Number, FitsNumber, number_cmp}
+use Rattle.jsonb_doc.specs.Order.{rank, tree_cmp}
+use Rattle.jsonb_doc.specs.Proofs.EqualTrees.{IsEqual, AreEqual, PairsAreEqual}
+use Rattle.jsonb_raw.specs.SortableKey.{number_bytes, text_bytes, sortable_key, depths, HasKey, IsRest, item_bytes}
+use Rattle.jsonb_raw.specs.EqualityKey.{equality_key, equality_keys_of_trees, equality_keys_of_pairs}
+use Rattle.jsonb_doc.proofs.Basics.{both_equal, bytes_cmp, same_from_bytes_cmp, bytes_cmp_refl}
 use Rattle.std.specs.Ordering.{ordering_then}
-use Rattle.std.specs.Prelude.{IsTrue}
-use Rattle.std.specs.Int.{Width}
-use Rattle.jsonb_doc.specs.Proofs.Orderings.{then_Equal}
-use Rattle.jsonb_raw.proofs.Ranking.{bytes_cmp, same_from_bytes_cmp, bytes_cmp_refl}
-use Rattle.jsonb_raw.proofs.TreeKeys.{keys_rank}
 use Rattle.jsonb_raw.proofs.ExtensionLeaves.{lacks_extension}
 use Rattle.jsonb_doc.proofs.TreeOrder.{equal_from_tree_cmp, tree_cmp-equal}
-use Rattle.jsonb_raw.proofs.EqualityKeys.{equal_from_keys, same_key, keyable}
-use Rattle.jsonb_doc.specs.Tree.{Tree}
 use Rattle.jsonb_doc.specs.Bytes.{AreBytes}
-use Rattle.jsonb_doc.specs.Payload.{Form}
 use Rattle.jsonb_doc.specs.Format.{Decodes}
 use Rattle.jsonb_doc.proofs.DecodedFits.{decoded_fits}
 use Rattle.jsonb_doc.specs.Depth.{deepest}
-use Rattle.jsonb_doc.specs.Limits.{Fits}
 use Rattle.jsonb_raw.specs.NoExtension.{HasNoExtension}
-use Rattle.jsonb_doc.specs.Order.{tree_cmp}
 use Rattle.jsonb_doc.specs.Equal.{is_equal}
 use Rattle.jsonb_doc.specs.Proofs.Equality.{equal_from_test, is_equal-true}
-use Rattle.jsonb_raw.specs.SortableKey.{sortable_key, depths, HasKey, IsRest}
-use Rattle.jsonb_raw.specs.EqualityKey.{equality_key}
+use Rattle.std.specs.Cmp.Lexicographic.{slice_cmp}
+use Rattle.std.specs.Option.{option_cmp}
+use native.Mathlib.Nat.{one-le-pow}
+use Rattle.jsonb_raw.specs.CompositeKeys.{column_key, HaveKeys}
+
+-- Numbers and extensions lie in the ranges of their types, and counts and lengths within the limits.
+abbrev mutual
+  pub IsKeyable : Tree → Type 0
+  IsKeyable (Tree.number n) = FitsNumber n
+  IsKeyable (Tree.extension x) = FitsExtension x × (length (extension_payload x) < 2 ^ 28)
+  IsKeyable (Tree.array ts) = (count ts < 2 ^ 29) × AreKeyable ts
+  IsKeyable (Tree.object ps) = (length (keys ps) < 2 ^ 29) × HasKeyableValues ps
+  IsKeyable _ = Unit {0}
+
+  pub AreKeyable : Trees → Type 0
+  AreKeyable Trees.no_trees = Unit {0}
+  AreKeyable (Trees.tree t ts) = IsKeyable t × AreKeyable ts
+
+  pub HasKeyableValues : Pairs → Type 0
+  HasKeyableValues Pairs.no_pairs = Unit {0}
+  HasKeyableValues (Pairs.pair k v ps) = IsKeyable v × HasKeyableValues ps
+
+-- such are the trees that fit
+mutual
+  keyable_part : (t : Tree) → IsInRange t → HasShortParts canonical t → IsShort canonical t → IsKeyable t
+  keyable_part Tree.null r p s = tt
+  keyable_part (Tree.boolean b) r p s = tt
+  keyable_part (Tree.number n) r p s = r
+  keyable_part (Tree.text bytes) r p s = tt
+  keyable_part (Tree.extension x) r p s = (r, s)
+  keyable_part (Tree.array ts) r p s = (p.0, keyable_elements ts r p.1)
+  keyable_part (Tree.object ps) r p s = (p.0, keyable_values ps r.1 p.2)
+
+  keyable_elements : (ts : Trees) → AreInRange ts → HasShortElements canonical ts → AreKeyable ts
+  keyable_elements Trees.no_trees r p = tt
+  keyable_elements (Trees.tree t ts) r p = (keyable_part t r.0 p.1 p.0, keyable_elements ts r.1 p.2)
+
+  keyable_values : (ps : Pairs) → ValuesAreInRange ps → HasShortValues canonical ps → HasKeyableValues ps
+  keyable_values Pairs.no_pairs r p = tt
+  keyable_values (Pairs.pair k v ps) r p = (keyable_part v r.0 p.1 p.0, keyable_values ps r.1 p.2)
+
+pub keyable : (t : Tree) → Fits t → IsKeyable t
+keyable Tree.null f = tt
+keyable (Tree.boolean b) f = tt
+keyable (Tree.number n) f = f.0
+keyable (Tree.text bytes) f = tt
+keyable (Tree.extension x) f = f
+keyable (Tree.array ts) f = (f.1.0, keyable_elements ts f.0 f.1.1)
+keyable (Tree.object ps) f = (f.1.0, keyable_values ps f.0.1 f.1.2)
+
+same_rank_boolean : (a b : Bool) → rank (Tree.boolean a) ≡ rank (Tree.boolean b) → a ≡ b
+same_rank_boolean a b h = grind arith
+
+-- if lists that rank so are the fronts of one list, they rank as equal and the rests are equal
+ranks_apart : (xs ys r s : List ℕ) (o : Ordering) → Ranks xs ys o → xs ++ r ≡ ys ++ s → (o ≡ Equal) × (r ≡ s)
+ranks_apart xs ys r s o h e =
+    let b = both_equal o (bytes_cmp r s) (sym (h.ranks r s) ∙ ap (λ x. bytes_cmp x (ys ++ s)) e ∙ bytes_cmp_refl (ys ++ s)) in
+    (b.0, same_from_bytes_cmp r s b.1)
+
+heads : (k l : ℕ) (xs ys : List ℕ) → k ∷ xs ≡ l ∷ ys → (k ≡ l) × (xs ≡ ys)
+heads k l xs ys e = (cc, cc)
+
+-- numbers in as many bytes at the front
+same_count : (k m n : ℕ) (r s : List ℕ) → m < 256 ^ k → n < 256 ^ k → (bytes_high_first k m ++ r) ≡ (bytes_high_first k n ++ s) → (m ≡ n) × (r ≡ s)
+same_count k m n r s hm hn e =
+    let h = ranks_apart (bytes_high_first k m) (bytes_high_first k n) r s (nat_cmp (m % 256 ^ k) (n % 256 ^ k)) (Ranks-bytes_high_first k m n) e in
+    (sym (mod-eq_of_lt hm) ∙ nat_cmp-equal (m % 256 ^ k) (n % 256 ^ k) h.0 ∙ mod-eq_of_lt hn, h.1)
+
+counted : (k m n : ℕ) (xs ys r s : List ℕ) → m < 256 ^ k → n < 256 ^ k → (bytes_high_first k m ++ xs) ++ r ≡ (bytes_high_first k n ++ ys) ++ s
+    → (m ≡ n) × (xs ++ r ≡ ys ++ s)
+counted k m n xs ys r s hm hn e = same_count k m n (xs ++ r) (ys ++ s) hm hn
+    (sym (append_assoc (bytes_high_first k m) xs r) ∙ e ∙ append_assoc (bytes_high_first k n) ys s)
+
+-- fronts of one length
+same_front : (xs ys r s : List ℕ) → length xs ≡ length ys → xs ++ r ≡ ys ++ s → (xs ≡ ys) × (r ≡ s)
+same_front [] [] r s l e = (refl, e)
+same_front [] (y ∷ ys) r s l e = absurd (omega arith)
+same_front (x ∷ xs) [] r s l e = absurd (omega arith)
+same_front (x ∷ xs) (y ∷ ys) r s l e =
+    let h = heads x y (xs ++ r) (ys ++ s) e in
+    let k = same_front xs ys r s (omega arith) h.1 in
+    (ap₂ (λ a b. a ∷ b) h.0 k.0, k.1)
+
+mutual
+  pub equal_from_keys : (t u : Tree) (r s : List ℕ) → IsKeyable t → IsKeyable u → equality_key t ++ r ≡ equality_key u ++ s → IsEqual t u × (r ≡ s)
+  equal_from_keys Tree.null Tree.null r s ht hu e = (tt, (heads 8 8 r s e).1)
+  equal_from_keys (Tree.boolean a) (Tree.boolean b) r s ht hu e = let h = heads (rank (Tree.boolean a)) (rank (Tree.boolean b)) r s e in
+      (same_rank_boolean a b h.0, h.1)
+  equal_from_keys (Tree.number m) (Tree.number n) r s ht hu e =
+      ranks_apart (number_bytes m.whole m.scale) (number_bytes n.whole n.scale) r s (number_cmp m n)
+      (Ranks-number_bytes m.whole n.whole m.scale n.scale (bounded_from_fits m ht) (bounded_from_fits n hu)) (heads 4 4 _ _ e).1
+  equal_from_keys (Tree.text a) (Tree.text b) r s ht hu e =
+      let h = ranks_apart (text_bytes a) (text_bytes b) r s (bytes_cmp a b) (Ranks-text_bytes a b) (heads 5 5 _ _ e).1 in
+      (same_from_bytes_cmp a b h.0, h.1)
+  equal_from_keys (Tree.extension a) (Tree.extension b) r s ht hu e =
+      let h = counted 8 (length (extension_payload a)) (length (extension_payload b)) (extension_payload a) (extension_payload b) r s (omega (arith, ht.1))
+      (omega (arith, hu.1)) (heads 1 1 _ _ e).1 in
+      let same = same_front (extension_payload a) (extension_payload b) r s h.0 h.1 in
+      (some_injective (sym (extension_back a ht.0) ∙ ap extension_of same.0 ∙ extension_back b hu.0), same.1)
+  equal_from_keys (Tree.array ts) (Tree.array us) r s ht hu e =
+      let h = counted 4 (count ts) (count us) (equality_keys_of_trees ts) (equality_keys_of_trees us) r s (omega arith) (omega arith) (heads 7 7 _ _ e).1 in
+      equal_from_keys_of_trees ts us r s ht.1 hu.1 h.0 h.1
+  equal_from_keys (Tree.object ps) (Tree.object qs) r s ht hu e =
+      let h = counted 4 (length (keys ps)) (length (keys qs)) (equality_keys_of_pairs ps) (equality_keys_of_pairs qs) r s (omega arith) (omega arith)
+      (heads 6 6 _ _ e).1 in
+      equal_from_keys_of_pairs ps qs r s ht.1 hu.1 h.0 h.1
+  equal_from_keys t u r s ht hu e = absurd (let h = heads (rank t) (rank u) _ _ e in omega (arith, h.0, rank_boolean))
+
+  pub equal_from_keys_of_trees : (ts us : Trees) (r s : List ℕ) → AreKeyable ts → AreKeyable us → count ts ≡ count us
+      → equality_keys_of_trees ts ++ r ≡ equality_keys_of_trees us ++ s → AreEqual ts us × (r ≡ s)
+  equal_from_keys_of_trees Trees.no_trees Trees.no_trees r s ht hu c e = (tt, e)
+  equal_from_keys_of_trees Trees.no_trees (Trees.tree u us) r s ht hu c e = absurd (omega arith)
+  equal_from_keys_of_trees (Trees.tree t ts) Trees.no_trees r s ht hu c e = absurd (omega arith)
+  equal_from_keys_of_trees (Trees.tree t ts) (Trees.tree u us) r s ht hu c e =
+      let h = equal_from_keys t u (equality_keys_of_trees ts ++ r) (equality_keys_of_trees us ++ s) ht.0 hu.0
+      (sym (append_assoc (equality_key t) (equality_keys_of_trees ts) r) ∙ e ∙ append_assoc (equality_key u) (equality_keys_of_trees us) s) in
+      let k = equal_from_keys_of_trees ts us r s ht.1 hu.1 (omega arith) h.1 in
+      ((h.0, k.0), k.1)
+
+  pub equal_from_keys_of_pairs : (ps qs : Pairs) (r s : List ℕ) → HasKeyableValues ps → HasKeyableValues qs → length (keys ps) ≡ length (keys qs)
+      → equality_keys_of_pairs ps ++ r ≡ equality_keys_of_pairs qs ++ s → PairsAreEqual ps qs × (r ≡ s)
+  equal_from_keys_of_pairs Pairs.no_pairs Pairs.no_pairs r s ht hu c e = (tt, e)
+  equal_from_keys_of_pairs Pairs.no_pairs (Pairs.pair l u qs) r s ht hu c e = absurd (omega arith)
+  equal_from_keys_of_pairs (Pairs.pair k t ps) Pairs.no_pairs r s ht hu c e = absurd (omega arith)
+  equal_from_keys_of_pairs (Pairs.pair k t ps) (Pairs.pair l u qs) r s ht hu c e =
+      let f = ranks_apart (text_bytes k) (text_bytes l) (equality_key t ++ (equality_keys_of_pairs ps ++ r))
+      (equality_key u ++ (equality_keys_of_pairs qs ++ s)) (bytes_cmp k l) (Ranks-text_bytes k l)
+      (heads 5 5 _ _ (sym (apart k t ps r) ∙ e ∙ apart l u qs s)).1 in
+      let h = equal_from_keys t u (equality_keys_of_pairs ps ++ r) (equality_keys_of_pairs qs ++ s) ht.0 hu.0 f.1 in
+      let g = equal_from_keys_of_pairs ps qs r s ht.1 hu.1 (omega arith) h.1 in
+      ((same_from_bytes_cmp k l f.0, h.0, g.0), g.1)
+    where
+      apart : (k : List ℕ) (t : Tree) (ps : Pairs) (r : List ℕ)
+          → equality_keys_of_pairs (Pairs.pair k t ps) ++ r ≡ (5 ∷ text_bytes k) ++ (equality_key t ++ (equality_keys_of_pairs ps ++ r))
+      apart k t ps r = append_assoc (5 ∷ text_bytes k) (equality_key t ++ equality_keys_of_pairs ps) r
+          ∙ ap (λ x. (5 ∷ text_bytes k) ++ x) (append_assoc (equality_key t) (equality_keys_of_pairs ps) r)
+
+-- numbers of one exact value have one spelling
+same_number : (m n : Number) → FitsNumber m → FitsNumber n → number_cmp m n ≡ Equal → number_bytes m.whole m.scale ≡ number_bytes n.whole n.scale
+same_number m n hm hn e =
+    same_from_bytes_cmp (number_bytes m.whole m.scale) (number_bytes n.whole n.scale)
+    (ranks_alone (number_bytes m.whole m.scale) (number_bytes n.whole n.scale) (number_cmp m n)
+    (Ranks-number_bytes m.whole n.whole m.scale n.scale (bounded_from_fits m hm) (bounded_from_fits n hn)) ∙ e)
+
+same_count_of_trees : (ts us : Trees) → AreEqual ts us → count ts ≡ count us
+same_count_of_trees Trees.no_trees Trees.no_trees h = refl
+same_count_of_trees (Trees.tree t ts) (Trees.tree u us) h = ap suc (same_count_of_trees ts us h.1)
+same_count_of_trees ts us h = absurd h
+
+same_count_of_pairs : (ps qs : Pairs) → PairsAreEqual ps qs → length (keys ps) ≡ length (keys qs)
+same_count_of_pairs Pairs.no_pairs Pairs.no_pairs h = refl
+same_count_of_pairs (Pairs.pair k t ps) (Pairs.pair l u qs) h = ap suc (same_count_of_pairs ps qs h.2)
+same_count_of_pairs ps qs h = absurd h
+
+mutual
+  pub same_key : (t u : Tree) → IsKeyable t → IsKeyable u → IsEqual t u → equality_key t ≡ equality_key u
+  same_key Tree.null Tree.null ht hu h = refl
+  same_key (Tree.boolean a) (Tree.boolean b) ht hu h = ap (λ b. equality_key (Tree.boolean b)) h
+  same_key (Tree.number m) (Tree.number n) ht hu h = ap (λ x. 4 ∷ x) (same_number m n ht hu h)
+  same_key (Tree.text a) (Tree.text b) ht hu h = ap (λ b. equality_key (Tree.text b)) h
+  same_key (Tree.extension a) (Tree.extension b) ht hu h = ap (λ b. equality_key (Tree.extension b)) h
+  same_key (Tree.array ts) (Tree.array us) ht hu h = cc (same_count_of_trees ts us h, same_keys_of_trees ts us ht.1 hu.1 h)
+  same_key (Tree.object ps) (Tree.object qs) ht hu h = cc (same_count_of_pairs ps qs h, same_keys_of_pairs ps qs ht.1 hu.1 h)
+  same_key t u ht hu h = absurd h
+
+  pub same_keys_of_trees : (ts us : Trees) → AreKeyable ts → AreKeyable us → AreEqual ts us → equality_keys_of_trees ts ≡ equality_keys_of_trees us
+  same_keys_of_trees Trees.no_trees Trees.no_trees ht hu h = refl
+  same_keys_of_trees (Trees.tree t ts) (Trees.tree u us) ht hu h = ap₂ (λ x y. x ++ y) (same_key t u ht.0 hu.0 h.0) (same_keys_of_trees ts us ht.1 hu.1 h.1)
+  same_keys_of_trees ts us ht hu h = absurd h
+
+  pub same_keys_of_pairs : (ps qs : Pairs) → HasKeyableValues ps → HasKeyableValues qs → PairsAreEqual ps qs
+      → equality_keys_of_pairs ps ≡ equality_keys_of_pairs qs
+  same_keys_of_pairs Pairs.no_pairs Pairs.no_pairs ht hu h = refl
+  same_keys_of_pairs (Pairs.pair k t ps) (Pairs.pair l u qs) ht hu h = cc (same_key t u ht.0 hu.0 h.1, same_keys_of_pairs ps qs ht.1 hu.1 h.2)
+  same_keys_of_pairs ps qs ht hu h = absurd h
+
+-- ---- the laws of keys, from the one equation on keys with rests
 
 pub ranked : (w : Width) (t u : Tree) (d : ℕ) (r s : List ℕ) → HasKey w t d → HasKey w u d → IsRest w d r → IsRest w d s
     → bytes_cmp (sortable_key w t d ++ r) (sortable_key w u d ++ s) ≡ ordering_then (tree_cmp t u) (bytes_cmp r s)
 ranked w t u d r s h k hr hs = keys_rank w t u d r s (h.0, lacks_extension t h.1) (k.0, lacks_extension u k.1) h.2 k.2 hr hs
 
 alone : (w : Width) (t u : Tree) (d : ℕ) → HasKey w t d → HasKey w u d → bytes_cmp (sortable_key w t d) (sortable_key w u d) ≡ tree_cmp t u
-alone w t u d h k = ap₂ bytes_cmp (sym (append-nil (sortable_key w t d))) (sym (append-nil (sortable_key w u d)))
-    ∙ ranked w t u d [] [] h k (inl refl) (inl refl)
-    ∙ then_Equal (tree_cmp t u)
+alone w t u d h k =
+    cc (append-nil (sortable_key w t d), append-nil (sortable_key w u d), ranked w t u d [] [] h k (inl refl) (inl refl), then_Equal (tree_cmp t u))
 
 pub keys_keep_below : (w : Width) (t u : Tree) (d : ℕ) (r s : List ℕ) → HasKey w t d → HasKey w u d → IsRest w d r → IsRest w d s → tree_cmp t u ≡ Less
     → bytes_cmp (sortable_key w t d ++ r) (sortable_key w u d ++ s) ≡ Less
@@ -74,3 +256,54 @@ pub decoded_ranks : (w : Width) (form : Form) (bytes made : List ℕ) (t : Tree)
     → deepest t < depths w → HasNoExtension t → (u : Tree) → HasKey w u 0 → RanksWith w t u made
 decoded_ranks w form bytes made t all d e deep none u k =
     ranks_with w t u made (decoded_key w form bytes t all d none deep) k e
+
+-- ---- keys of several values, one after the other, from the keys of each with what follows it
+
+abbrev composite_key : Width → List (Option Tree) → List ℕ
+composite_key w columns = flat_map (column_key w) columns
+
+pub some_depth : (w : Width) → 0 < depths w
+some_depth w = one-le-pow (byte_len w) 256 (omega arith)
+
+rank_positive : (t : Tree) → 0 < rank t
+rank_positive t = grind arith
+
+-- a column is an item at depth 0
+column_is_item : (w : Width) (column : Option Tree) → (k : ℕ) × (xs : List ℕ) × (column_key w column ≡ item_bytes w 0 k xs)
+column_is_item w None = (0, [], refl)
+column_is_item w (Some t) = let i = key_is_item w t 0 in (rank t, i.0, i.1)
+
+-- so that columns may follow a column
+follows : (w : Width) (columns : List (Option Tree)) → IsRest w 0 (composite_key w columns)
+follows w [] = inl refl
+follows w (column ∷ columns) =
+    let i = column_is_item w column in
+    subst (IsRest w 0) (ap (λ x. x ++ composite_key w columns) (sym i.2)) (IsRest-item w 0 i.0 i.1 (composite_key w columns))
+
+below_column : (w : Width) (column : Option Tree) (s : List ℕ) → bytes_cmp [] (column_key w column ++ s) ≡ Less
+below_column w column s = grind (arith, column_is_item, bytes_cmp, append_assoc, nothing_below_depth)
+
+above_nothing : (w : Width) (column : Option Tree) (r : List ℕ) → bytes_cmp (column_key w column ++ r) [] ≡ Greater
+above_nothing w column r = grind (arith, column_is_item, bytes_cmp, append_assoc, nothing_above_depth)
+
+-- a missing value next to one that is there
+missing_below : (w : Width) (u : Tree) (r s : List ℕ) → bytes_cmp (column_key w None ++ r) (sortable_key w u 0 ++ s) ≡ Less
+missing_below w u r s = grind (arith, key_is_item, items_rank, some_depth, rank_positive)
+
+above_missing : (w : Width) (t : Tree) (r s : List ℕ) → bytes_cmp (sortable_key w t 0 ++ r) (column_key w None ++ s) ≡ Greater
+above_missing w t r s = grind (arith, key_is_item, items_rank, some_depth, rank_positive)
+
+columns_rank : (w : Width) (t u : Option Tree) (r s : List ℕ) → IfSome t (λ x. HasKey w x 0) → IfSome u (λ x. HasKey w x 0) → IsRest w 0 r → IsRest w 0 s
+    → bytes_cmp (column_key w t ++ r) (column_key w u ++ s) ≡ ordering_then (option_cmp tree_cmp t u) (bytes_cmp r s)
+columns_rank w None None r s ht hu hr hs = items_rank w 0 0 0 [] [] r s (some_depth w)
+columns_rank w None (Some u) r s ht hu hr hs = missing_below w u r s
+columns_rank w (Some t) None r s ht hu hr hs = above_missing w t r s
+columns_rank w (Some t) (Some u) r s ht hu hr hs = ranked w t u 0 r s ht hu hr hs
+
+pub composite_keys_order : (w : Width) (ts us : List (Option Tree)) → HaveKeys w ts → HaveKeys w us
+    → bytes_cmp (composite_key w ts) (composite_key w us) ≡ slice_cmp (option_cmp tree_cmp) ts us
+composite_keys_order w [] [] ht hu = refl
+composite_keys_order w [] (u ∷ us) ht hu = below_column w u (composite_key w us)
+composite_keys_order w (t ∷ ts) [] ht hu = above_nothing w t (composite_key w ts)
+composite_keys_order w (t ∷ ts) (u ∷ us) ht hu =
+    cc (columns_rank w t u (composite_key w ts) (composite_key w us) ht.0 hu.0 (follows w ts) (follows w us), composite_keys_order w ts us ht.1 hu.1)

@@ -1,8 +1,7 @@
 -- No leaf is too large for a document.
-use Rattle.std.proofs.Common.{◌≡◌, ◌≤◌, ◌<◌, ℕ, zero, suc, pos, negsuc, ℤ, Bool, true, false, List, [], ◌∷◌, length, arith, inl, inr, lit<, if◌then◌else◌, refl}
-use Rattle.std.specs.Prelude.{slice_index_or}
+use Rattle.std.proofs.Common.{◌≡◌, ◌≤◌, ◌<◌, ℕ, zero, suc, pos, ℤ, Bool, true, false, List, [], ◌∷◌, length, arith, inl, inr, lit<, if◌then◌else◌, refl, slice_index_or}
 use Rattle.std.specs.List.{AllByRecursion, Any}
-use Rattle.jsonb_doc.specs.Number.{Variant, int64, uint64, decimal64, decimal128}
+use Rattle.jsonb_doc.specs.Number.{Variant}
 use Rattle.jsonb_doc.specs.Tree.{Tree, null, boolean, number, text, extension, array, object, Trees, no_trees, tree, Pairs, no_pairs, pair}
 use Rattle.jsonb_doc.specs.Payload.{Form, any, canonical}
 use Rattle.jsonb_doc.specs.Answer.{IsOutOfMemory, ◌or◌when◌}
@@ -15,15 +14,7 @@ use Rattle.jsonb_raw.specs.Private.LeafSteps.{behind}
 use Rattle.jsonb_raw.proofs.LeafPlaces.{AllByRecursion-append}
 
 short_number : (variant : Variant) (whole : ℤ) → widest_number variant whole ≤ 18
-short_number variant (pos zero) = omega arith
-short_number int64 (pos (suc n)) = omega arith
-short_number uint64 (pos (suc n)) = omega arith
-short_number decimal64 (pos (suc n)) = omega arith
-short_number decimal128 (pos (suc n)) = omega arith
-short_number int64 (negsuc n) = omega arith
-short_number uint64 (negsuc n) = omega arith
-short_number decimal64 (negsuc n) = omega arith
-short_number decimal128 (negsuc n) = omega arith
+short_number variant whole = grind arith
 
 -- a leaf whose canonical content is short is within the limits, in either form
 leaf_within_limits : (form : Form) (t : Tree) → is_leaf false t ≡ true → IsShort canonical t → IsWithinLimits form t

@@ -1,9 +1,6 @@
 -- The places of leaves.
-use Rattle.std.proofs.Common.{◌≡◌, ◌⊎◌, ℕ, zero, suc, pos, Bool, true, false, List, [], ◌∷◌, ◌++◌, drop, Option, Some, Less, nat_cmp, refl, sym, ap, ◌∙◌, arith, inl, inr, Contains, if◌then◌else◌}
-use Rattle.std.specs.Prelude.{option_and_then}
-use Rattle.std.specs.Str.{bytes_eq}
-use Rattle.std.specs.Cmp.Lexicographic.{slice_cmp}
-use Rattle.std.proofs.lemmas.Cmp.{nat_list_cmp_total}
+use Rattle.std.proofs.Common.{◌≡◌, ◌⊎◌, ℕ, zero, suc, pos, Bool, true, false, List, [], ◌∷◌, ◌++◌, drop, Option, Some, Less, nat_cmp, refl, sym, ap, ◌∙◌, arith, inl, inr, Contains, if◌then◌else◌, option_and_then, bytes_eq}
+use Rattle.std.specs.Cmp.Lexicographic.{slice_cmp, nat_list_cmp_total}
 use Rattle.std.specs.List.{AllByRecursion}
 use Rattle.jsonb_doc.specs.Tree.{Tree, null, boolean, number, text, extension, array, object, Trees, no_trees, tree, Pairs, no_pairs, pair, elements, keys, value_under}
 use Rattle.jsonb_doc.specs.Format.{AreKeys, IsBelowFirst}
@@ -15,7 +12,7 @@ use Rattle.jsonb_raw.specs.Private.LeafSteps.{behind}
 use Rattle.jsonb_raw.specs.Places.{tree_at_steps}
 use Rattle.jsonb_raw.specs.Private.Steps.{child_met}
 use Rattle.jsonb_raw.proofs.ChildLemmas.{split_at, from_front}
-use Rattle.jsonb_raw.proofs.PlaceLemmas.{field_met, step_by_step}
+use Rattle.jsonb_raw.proofs.PositionLemmas.{field_met, step_by_step}
 
 -- the leaf is at its place in the tree
 abbrev pub IsInPlace : Tree → Leaf → Type 0

@@ -1,21 +1,17 @@
--- A walk over levels that finds leaves: what is found, and then the leaves of what each level has left, the innermost
--- first, are all.
-use Rattle.std.proofs.Common.{◌≡◌, ◌==◌, ◌+◌, ◌%◌, ◌<◌, ◌^◌, ◌++◌, ℕ, suc, pos, Bool, true, false, ◌&&◌, List, [], ◌∷◌, Option, Some, None, length, refl, sym, ap, ◌∙◌, arith, append_assoc, append-nil, true≢false}
-use Rattle.std.specs.Prelude.{reverse}
-use Rattle.std.specs.Borrow.{Bor}
+-- What a walk keeps of leaves, and the results of the functions.
+use Rattle.std.proofs.Common.{◌≡◌, ◌==◌, ◌+◌, ◌%◌, ◌<◌, ◌^◌, ◌++◌, ℕ, suc, pos, Bool, true, false, ◌&&◌, List, [], ◌∷◌, Option, Some, None, length, refl, sym, ap, ◌∙◌, arith, append_assoc, append-nil, true≢false, reverse, Bor, ◌⊎◌, Result, Ok, Err, Vec, map, MatchResult, inl, inr}
 use Rattle.std.specs.Int.{w32, cast_signed}
 use Rattle.std.specs.List.{Any, AllZip}
 use Rattle.std.proofs.lemmas.List.{length-append, map-append, reverse-reverse}
 use Rattle.std.proofs.lemmas.Int.{ints}
 use Rattle.jsonb_doc.specs.Tree as spec
-use Rattle.jsonb_doc.specs.Tree.{Tree, Trees, no_trees, tree, Pairs, no_pairs, pair, count}
-use Rattle.jsonb_doc.specs.Payload.{Form, number_reader}
+use Rattle.jsonb_doc.specs.Tree.{Tree, Trees, no_trees, tree, Pairs, no_pairs, pair, count, number}
+use Rattle.jsonb_doc.specs.Payload.{Form, number_reader, number_of}
 use Rattle.jsonb_doc.specs.Item.{StandsFor}
 use Rattle.jsonb_doc.specs.Private.Stored.{Stores}
 use Rattle.jsonb_doc.specs.Kinds.{kind_number}
 use Rattle.jsonb_doc.specs.declared.entry_iter.StoredEntry.{StoredEntry}
 use Rattle.jsonb_doc.specs.declared.item.Item.{Item}
-use Rattle.jsonb_doc.specs.declared.item.Item.TheVariants as item
 use Rattle.jsonb_doc.proofs.Containers.{array_document, object_document}
 use Rattle.jsonb_keypath.specs.KeyPathGrammar.{Key, index, unquoted_name}
 use Rattle.jsonb_raw.specs.declared.functions.path.leaves.Step.{Step}
@@ -23,33 +19,39 @@ use Rattle.jsonb_raw.specs.declared.level.ChildCursor.{ChildCursor}
 use Rattle.jsonb_raw.specs.Scalars.{is_array}
 use Rattle.jsonb_raw.specs.Private.Levels.{EntryPrefix, parts, parts_of_trees, parts_of_pairs, IsKeyOf, HasAllLeft}
 use Rattle.jsonb_raw.specs.Leaves.{Leaf, is_leaf, leaves_at, leaves, leaves_of_trees, leaves_of_pairs}
-use Rattle.jsonb_raw.specs.Private.LeafSteps.{behind, step_at, step_key, step_keys}
+use Rattle.jsonb_raw.specs.Private.LeafSteps.{behind, step_at, step_key, step_keys, IsKept}
 use Rattle.jsonb_raw.proofs.CollectLoops.{Made, none_made, one_made, all_made, one_of_whole}
-use Rattle.jsonb_raw.proofs.LevelLemmas.{count_of_trees, count_of_pairs, innermost}
+use Rattle.jsonb_raw.proofs.LevelLemmas.{count_of_trees, count_of_pairs}
+use Rattle.jsonb_doc.proofs.Basics.{innermost}
+use Rattle.std.specs.declared.alloc.Global.{Global}
+use Rattle.jsonb_doc.specs.declared.error.Error.{Error}
+use Rattle.jsonb_doc.specs.declared.value.Value.{Value}
+use Rattle.jsonb_doc.specs.Number.{Number}
+use Rattle.jsonb_doc.specs.Format.{Decodes, IsContent}
+use Rattle.jsonb_doc.specs.Answer.{IsOutOfMemory, ◌or◌when◌}
+use Rattle.jsonb_doc.specs.Limits.{IsTooLarge}
+use Rattle.jsonb_doc.specs.declared.error.Error.TheVariants.{TooLarge}
+use Rattle.jsonb_doc.specs.Private.Errors.{IsOutOfMemoryOrTooLarge}
+use Rattle.jsonb_doc.specs.Value.{value_tree, value_parts}
+use Rattle.jsonb_keypath.specs.declared.key_path.KeyPaths.{KeyPaths}
+use Rattle.jsonb_keypath.specs.KeyPathViews.{key_paths_view}
+use Rattle.jsonb_raw.specs.declared.owned.OwnedJsonb.{OwnedJsonb}
+use Rattle.jsonb_raw.specs.Making.{IsPairOf}
+use Rattle.jsonb_doc.proofs.Entries.{reads_number}
+use Rattle.jsonb_doc.proofs.ScalarLemmas.{number_content, some_injective}
 
 -- ---- which parts are entered
 
 -- a container without parts is a leaf
 pub empty_leaf : (ignore_array : Bool) (t : Tree) (n : ℕ) → n ≡ length (parts t) → n ≡ 0 → is_leaf ignore_array t ≡ true
-empty_leaf ignore_array (spec.array (tree t ts)) n is none = absurd (omega (arith, is, none))
-empty_leaf ignore_array (spec.object (pair k t ps)) n is none = absurd (omega (arith, is, none))
-empty_leaf ignore_array _ n is none = refl
+empty_leaf ignore_array t n h k = grind arith
 
 pub full_container : (form : Form) (ignore_array : Bool) (t : Tree) (level : ChildCursor) (n : ℕ) → HasAllLeft form t level → n ≡ length (parts t) → (n ≡ 0 → ⊥)
     → (ignore_array && is_array t) ≡ false → is_leaf ignore_array t ≡ false
-full_container form ignore_array (spec.array no_trees) level n h is some whole = absurd (some is)
-full_container form true (spec.array (tree t ts)) level n h is some whole = whole
-full_container form false (spec.array (tree t ts)) level n h is some whole = refl
-full_container form ignore_array (spec.object no_pairs) level n h is some whole = absurd (some is)
-full_container form ignore_array (spec.object (pair k t ps)) level n h is some whole = refl
-full_container form ignore_array _ level n h is some whole = absurd h
+full_container form ignore_array t level n h k e f = grind arith
 
 pub whole_array : (ignore_array : Bool) (t : Tree) → (ignore_array && is_array t) ≡ true → is_leaf ignore_array t ≡ true
-whole_array true (spec.array no_trees) h = refl
-whole_array true (spec.array (tree t ts)) h = refl
-whole_array false (spec.array ts) h = cc
-whole_array true _ h = cc
-whole_array false _ h = cc
+whole_array ignore_array t h = grind arith
 
 -- ---- the leaves within a tree by its parts
 
@@ -76,39 +78,19 @@ trees_leaves : (ignore_array : Bool) (n : ℕ) (ts : Trees) → n + count ts < 2
 trees_leaves ignore_array n no_trees few = refl
 trees_leaves ignore_array n (tree t ts) few =
     let small : n < 2 ^ 31 = omega arith in
-    ap (λ z. leaves_at ignore_array (index z) t (leaves ignore_array t) ++ leaves_of_parts ignore_array (next n) (parts_of_trees ts)) (signed n small)
-    ∙ ap (λ m. leaves_at ignore_array (index (pos n)) t (leaves ignore_array t) ++ leaves_of_parts ignore_array m (parts_of_trees ts)) (next_is n small)
-    ∙ ap (λ (ls : List Leaf). leaves_at ignore_array (index (pos n)) t (leaves ignore_array t) ++ ls) (trees_leaves ignore_array (suc n) ts (omega arith))
+    cc (signed n small, next_is n small, trees_leaves ignore_array (suc n) ts (omega arith))
 
 pairs_leaves : (ignore_array : Bool) (n : ℕ) (ps : Pairs) → leaves_of_parts ignore_array n (parts_of_pairs ps) ≡ leaves_of_pairs ignore_array ps
 pairs_leaves ignore_array n no_pairs = refl
-pairs_leaves ignore_array n (pair k t ps) =
-    ap (λ (ls : List Leaf). leaves_at ignore_array (unquoted_name k) t (leaves ignore_array t) ++ ls) (pairs_leaves ignore_array (next n) ps)
+pairs_leaves ignore_array n (pair k t ps) = cc (pairs_leaves ignore_array (next n) ps)
 
 -- bytes decode to less parts than an index can count
 few_parts : (form : Form) (x : Item) (t : Tree) → StandsFor form x t → length (parts t) < 2 ^ 31
-few_parts form item.Null t stands = rw stands (omega arith)
-few_parts form (item.Array bytes) t stands =
-    let (ts, is, d) = stands in
-    let fits = (array_document (number_reader form) ts bytes.now d.document).1.headed.fits in
-    rw is (omega (arith, fits, count_of_trees ts))
-few_parts form (item.Object bytes) t stands =
-    let (ps, is, d) = stands in
-    let fits = (object_document (number_reader form) ps bytes.now d.document).1.headed.fits in
-    rw is (omega (arith, fits, count_of_pairs ps))
-few_parts form _ t stands = rw stands (omega arith)
+few_parts form x t h = grind (arith, array_document, count_of_trees, object_document, count_of_pairs)
 
 parts_leaves : (ignore_array : Bool) (t : Tree) → length (parts t) < 2 ^ 31 → is_leaf ignore_array t ≡ false
     → leaves ignore_array t ≡ leaves_of_parts ignore_array 0 (parts t)
-parts_leaves ignore_array spec.null few entered = cc
-parts_leaves ignore_array (spec.boolean b) few entered = cc
-parts_leaves ignore_array (spec.number m) few entered = cc
-parts_leaves ignore_array (spec.text s) few entered = cc
-parts_leaves ignore_array (spec.extension x) few entered = cc
-parts_leaves ignore_array (spec.array no_trees) few entered = cc
-parts_leaves true (spec.array (tree t ts)) few entered = cc
-parts_leaves false (spec.array (tree t ts)) few entered = sym (trees_leaves false 0 (tree t ts) (omega (arith, few, count_of_trees ts)))
-parts_leaves ignore_array (spec.object ps) few entered = sym (pairs_leaves ignore_array 0 ps)
+parts_leaves ignore_array t h k = grind (arith, trees_leaves, count_of_trees, pairs_leaves)
 
 pub item_leaves : (form : Form) (x : Item) (ignore_array : Bool) (t : Tree) → StandsFor form x t → is_leaf ignore_array t ≡ false
     → leaves ignore_array t ≡ leaves_of_parts ignore_array 0 (parts t)
@@ -116,9 +98,7 @@ item_leaves form x ignore_array t stands entered = parts_leaves ignore_array t (
 
 -- the same of an entry
 few_stored : (form : Form) (e : StoredEntry) (t : Tree) → Stores form e t → length (parts t) < 2 ^ 31
-few_stored form e (spec.array ts) h = let fits = h.content.1.headed.fits in omega (arith, fits, count_of_trees ts)
-few_stored form e (spec.object ps) h = let fits = h.content.1.headed.fits in omega (arith, fits, count_of_pairs ps)
-few_stored form e _ h = omega arith
+few_stored form e t h = grind (arith, count_of_trees, count_of_pairs)
 
 pub entry_leaves : (form : Form) (e : StoredEntry) (ignore_array : Bool) (t : Tree) → Stores form e t → is_leaf ignore_array t ≡ false
     → leaves ignore_array t ≡ leaves_of_parts ignore_array 0 (parts t)
@@ -132,19 +112,14 @@ lone_leaf form e ignore_array (spec.object ps) h k = absurd (true≢false (rw h.
 lone_leaf form e ignore_array _ h k = refl
 
 pub keyed_step : (key : Option (Bor (List ℕ))) (k : Option (List ℕ)) (n : ℕ) → IsKeyOf key k → step_at key n ≡ part_step k n
-keyed_step None None n h = refl
-keyed_step None (Some k) n h = absurd h
-keyed_step (Some key) None n h = absurd h
-keyed_step (Some key) (Some k) n h = ap unquoted_name h.0
+keyed_step key k n h = grind arith
 
 -- ---- what is left at levels
 
 -- the same leaves, first one step further in, and then further
 behind-step : (path : List Key) (step : Key) (within : List Leaf) → behind (path ++ step ∷ []) within ≡ behind path (behind (step ∷ []) within)
 behind-step path step [] = refl
-behind-step path step (leaf ∷ within) =
-    ap (λ (steps : List Key). (steps, leaf.1) ∷ behind (path ++ step ∷ []) within) (append_assoc path (step ∷ []) leaf.0)
-    ∙ ap (λ (ls : List Leaf). (path ++ step ∷ leaf.0, leaf.1) ∷ ls) (behind-step path step within)
+behind-step path step (leaf ∷ within) = cc (append_assoc path (step ∷ []) leaf.0, behind-step path step within)
 
 behind-append : (path : List Key) (xs ys : List Leaf) → behind path (xs ++ ys) ≡ behind path xs ++ behind path ys
 behind-append path xs ys = map-append (λ (leaf : Leaf). (path ++ leaf.0, leaf.1)) xs ys
@@ -175,15 +150,7 @@ leaf_left : (ignore_array : Bool) (around : List Step) (n : ℕ) (key : Option (
     → is_leaf ignore_array p.1 ≡ true → IsKeyOf key p.0
     → leaves_left ignore_array around n (p ∷ ps) others
     ≡ (step_keys around ++ step_at key n ∷ [], p.1) ∷ leaves_left ignore_array around (next n) ps others
-leaf_left ignore_array around n key p ps others leaf keyed =
-    let steps = step_keys around in
-    let left = leaves_of_parts ignore_array (next n) ps in
-    let outside = leaves_around ignore_array (reverse around) others in
-    ap (λ (ls : List Leaf). behind steps (ls ++ left) ++ outside) (at_leaf (part_step p.0 n) p.1 (leaves ignore_array p.1) leaf)
-    ∙ ap (λ s. (steps ++ s ∷ [], p.1) ∷ (behind steps left ++ outside)) (sym (keyed_step key p.0 n keyed))
-  where
-    at_leaf : (step : Key) (t : Tree) (within : List Leaf) → is_leaf ignore_array t ≡ true → leaves_at ignore_array step t within ≡ (step ∷ [], t) ∷ []
-    at_leaf step t within leaf = rw leaf refl
+leaf_left ignore_array around n key p ps others h e = grind (arith, keyed_step)
 
 -- in the place of a part that is not a leaf are those within it
 part_left : (ignore_array : Bool) (around around' : List Step) (e : Step) (p : EntryPrefix) (ps : List EntryPrefix) (others : List (List EntryPrefix))
@@ -214,13 +181,7 @@ part_left ignore_array around around' e p ps others entered keyed within pushed 
 outside_left : (ignore_array : Bool) (around around' : List Step) (outer : Step) (n : ℕ) (here : List EntryPrefix) (others more : List (List EntryPrefix))
     → others ≡ here ∷ more → around ≡ around' ++ outer ∷ []
     → leaves_left ignore_array around' (next outer.index) here more ≡ leaves_left ignore_array around n [] others
-outside_left ignore_array around around' outer n here others more same popped =
-    let left = leaves_of_parts ignore_array (next outer.index) here in
-    let outside = leaves_around ignore_array (reverse around') more in
-    ap (λ (es : List Step). behind (step_keys es) left ++ outside) (sym (reverse-reverse around'))
-    ∙ ap (λ (es : List Step). leaves_around ignore_array es (here ∷ more)) (sym (innermost around' outer))
-    ∙ ap (λ (es : List Step). leaves_around ignore_array (reverse es) (here ∷ more)) (sym popped)
-    ∙ ap (λ (ls : List (List EntryPrefix)). leaves_around ignore_array (reverse around) ls) (sym same)
+outside_left ignore_array around around' outer n here others more h e = grind (arith, reverse-reverse, innermost)
 
 -- ---- what is found
 
@@ -273,10 +234,6 @@ module _ {A : Type 0} (R : A → Leaf → Type 0) (ignore_array : Bool) where
       → LeavesToward R ignore_array found around n [] others whole → AllZip R found whole
   walk_done found around n others whole root h = all_made R found whole (rw root at h)
 
-pub no_items : {A : Type 0} (xs : List A) → length xs ≡ 0 → xs ≡ []
-no_items [] none = refl
-no_items (x ∷ xs) none = absurd (omega (arith, none))
-
 -- the last of a list, and what precedes it
 pub record HasLast {A : Type 0} (xs : List A) : Type 0 where
   pub front : List A
@@ -302,3 +259,42 @@ pub one_more : {A B : Type 0} (xs xs' : List A) (x : A) (ys ys' : List B) (y : B
     → length xs' ≡ length ys'
 one_more xs xs' x ys ys' y same pushed pushed' =
     omega (arith, same, ap length pushed, length-append xs (x ∷ []), ap length pushed', length-append ys (y ∷ []))
+
+-- ---- from what a walk keeps of leaves to the results of the functions
+
+-- a payload that is read as a number stores that number
+pub number_stored : (form : Form) (t : Tree) (kind : ℕ) (bytes : List ℕ) (n : Number) → kind ≡ 2 → number_of bytes ≡ Some n
+    → IsContent (number_reader form) t kind bytes → number n ≡ t
+number_stored form t kind bytes n h e k = grind (arith, number_content, some_injective, reads_number)
+
+-- the value was decoded from the tree, and its numbers have the tree's parts
+abbrev IsValueOf : Tree → Value → Type 0
+IsValueOf t value = (value_tree value ≡ t) × (value_parts value ≡ t)
+
+-- key paths with values as leaves
+abbrev leaves_seen : (Value → Tree) → List (KeyPaths × Value) → List Leaf
+leaves_seen seen found = map (λ leaf. (key_paths_view leaf.0, seen leaf.1)) found
+
+values_are_seen : (seen : Value → Tree) → ((value : Value) (t : Tree) → IsValueOf t value → seen value ≡ t) → (found : List (KeyPaths × Value))
+    (whole : List Leaf) → AllZip (IsKept IsValueOf) found whole → leaves_seen seen found ≡ whole
+values_are_seen seen sees [] [] h = refl
+values_are_seen seen sees (x ∷ found) ((steps, t) ∷ whole) h = cc (h.0.0, sees x.1 t h.0.1, values_are_seen seen sees found whole h.1)
+values_are_seen seen sees _ _ h = absurd h
+
+-- the values of the leaves, seen in such a way
+pub values_found : (seen : Value → Tree) → ((value : Value) (t : Tree) → IsValueOf t value → seen value ≡ t)
+    → (r : Result (Vec (KeyPaths × Value) Global) Error) (whole : List Leaf)
+    → MatchResult r (λ found. AllZip (IsKept IsValueOf) found.items whole) (λ e. IsOutOfMemory e ⊎ Any (λ leaf. IsOutOfMemory e) whole)
+    → MatchResult r (λ found. leaves_seen seen found.items ≡ whole) IsOutOfMemory
+values_found seen h r whole k = grind (arith, values_are_seen)
+
+-- the documents of the leaves
+pub documents_found : (form : Form) (r : Result (Vec (KeyPaths × OwnedJsonb) Global) Error) (whole : List Leaf)
+    → MatchResult r (λ found. AllZip (IsKept (λ t document. Decodes form document t)) found.items whole)
+    (λ e. IsOutOfMemory e ⊎ Any (λ leaf. IsOutOfMemoryOrTooLarge form leaf.1 e) whole)
+    → MatchResult r (λ made. AllZip (IsPairOf key_paths_view form) made.items whole)
+    (IsOutOfMemory or TooLarge when Any (λ leaf. IsTooLarge form leaf.1) whole)
+documents_found form (Ok found) whole h = h
+documents_found form (Err e) whole (inl memory) = inl memory
+documents_found form (Err e) whole (inr (i, leaf, inside, is, inl memory)) = inl memory
+documents_found form (Err e) whole (inr (i, leaf, inside, is, inr large)) = inr (large.0, (i, leaf, inside, is, large.1))

@@ -1,7 +1,6 @@
 -- A walk over levels that spells sortable keys: what is written, and then the keys of what each level has left, the
 -- innermost first, is the whole.
-use Rattle.std.proofs.Common.{◌≡◌, ◌+◌, ◌<◌, ◌≤◌, ◌++◌, ℕ, List, [], ◌∷◌, Option, Some, None, Ok, refl, sym, ap, ◌∙◌, arith, append_assoc, inl, inr, suc, max, append-nil, length, false}
-use Rattle.std.specs.Borrow.{Bor}
+use Rattle.std.proofs.Common.{◌≡◌, ◌+◌, ◌<◌, ◌≤◌, ◌++◌, ℕ, List, [], ◌∷◌, Option, Some, None, Ok, refl, sym, ap, ◌∙◌, arith, append_assoc, inl, inr, suc, max, append-nil, length, false, Bor}
 use Rattle.std.specs.Int.{Width, to_be_bytes}
 use Rattle.jsonb_doc.specs.declared.entry_iter.StoredEntry.{StoredEntry}
 use Rattle.jsonb_doc.specs.declared.error.Error.{Error}
@@ -54,8 +53,7 @@ trees_keys w (Trees.tree t ts) d = ap (λ x. sortable_key w t d ++ x) (trees_key
 pairs_keys : (w : Width) (ps : Pairs) (d : ℕ) → keys_of_parts w (parts_of_pairs ps) d ≡ keys_of_pairs w ps d
 pairs_keys w Pairs.no_pairs d = refl
 pairs_keys w (Pairs.pair k t ps) d =
-    append_assoc (item_bytes w d 5 (text_bytes k)) (sortable_key w t d) (keys_of_parts w (parts_of_pairs ps) d)
-    ∙ ap (λ x. item_bytes w d 5 (text_bytes k) ++ (sortable_key w t d ++ x)) (pairs_keys w ps d)
+    cc (append_assoc (item_bytes w d 5 (text_bytes k)) (sortable_key w t d) (keys_of_parts w (parts_of_pairs ps) d), pairs_keys w ps d)
 
 trees_deep : (ts : Trees) → deepest_of_trees ts ≡ deep_of_parts (parts_of_trees ts)
 trees_deep Trees.no_trees = refl
@@ -66,9 +64,7 @@ pairs_deep Pairs.no_pairs = refl
 pairs_deep (Pairs.pair k t ps) = ap (λ n. max (suc (deepest t)) n) (pairs_deep ps)
 
 parts_deep : (t : Tree) → deepest t ≡ deep_of_parts (parts t)
-parts_deep (Tree.array ts) = trees_deep ts
-parts_deep (Tree.object ps) = pairs_deep ps
-parts_deep _ = refl
+parts_deep t = grind (arith, trees_deep, pairs_deep)
 
 key_split : (w : Width) (t : Tree) (d : ℕ) → sortable_key w t d ≡ start w t d ++ keys_of_parts w (parts t) (suc d)
 key_split w Tree.null d = sym (append-nil (sortable_key w Tree.null d))
@@ -76,33 +72,24 @@ key_split w (Tree.boolean b) d = sym (append-nil (sortable_key w (Tree.boolean b
 key_split w (Tree.number n) d = sym (append-nil (sortable_key w (Tree.number n) d))
 key_split w (Tree.text bytes) d = sym (append-nil (sortable_key w (Tree.text bytes) d))
 key_split w (Tree.extension x) d = sym (append-nil (sortable_key w (Tree.extension x) d))
-key_split w (Tree.array ts) d =
-    ap (λ x. item_bytes w d 7 x) (sym (trees_keys w ts (suc d))) ∙ sym (append_assoc (to_be_bytes w d) (7 ∷ []) (keys_of_parts w (parts_of_trees ts) (suc d)))
-key_split w (Tree.object ps) d =
-    ap (λ x. item_bytes w d 6 x) (sym (pairs_keys w ps (suc d))) ∙ sym (append_assoc (to_be_bytes w d) (6 ∷ []) (keys_of_parts w (parts_of_pairs ps) (suc d)))
+key_split w (Tree.array ts) d = cc (trees_keys w ts (suc d), append_assoc (to_be_bytes w d) (7 ∷ []) (keys_of_parts w (parts_of_trees ts) (suc d)))
+key_split w (Tree.object ps) d = cc (pairs_keys w ps (suc d), append_assoc (to_be_bytes w d) (6 ∷ []) (keys_of_parts w (parts_of_pairs ps) (suc d)))
 
 part_split : (w : Width) (p : EntryPrefix) (d : ℕ) → part_key w p d ≡ part_start w p d ++ keys_of_parts w (parts p.1) (suc d)
 part_split w (None, t) d = key_split w t d
-part_split w (Some k, t) d =
-    ap (λ x. item_bytes w d 5 (text_bytes k) ++ x) (key_split w t d)
-    ∙ sym (append_assoc (item_bytes w d 5 (text_bytes k)) (start w t d) (keys_of_parts w (parts t) (suc d)))
+part_split w (Some k, t) d = cc (key_split w t d, append_assoc (item_bytes w d 5 (text_bytes k)) (start w t d) (keys_of_parts w (parts t) (suc d)))
 
 -- a part's key is written, if it has one, and then its start
 pub part_written : (w : Width) (p : EntryPrefix) (d : ℕ) (out named out' : List ℕ) → named ≡ out ++ name_start w p.0 d → out' ≡ named ++ start w p.1 d
     → out' ≡ out ++ part_start w p d
-part_written w p d out named out' is written =
-    written ∙ ap (λ x. x ++ start w p.1 d) is ∙ append_assoc out (name_start w p.0 d) (start w p.1 d)
+part_written w p d out named out' is written = cc (written, append_assoc out (name_start w p.0 d) (start w p.1 d))
 
 -- the start of a tree without parts is its key
 pub scalar_start : (w : Width) (t : Tree) (d : ℕ) → is_container t ≡ false → start w t d ≡ sortable_key w t d
-scalar_start w (Tree.array ts) d h = cc
-scalar_start w (Tree.object ps) d h = cc
-scalar_start w _ d h = refl
+scalar_start w t d h = grind arith
 
 pub scalar_parts : (t : Tree) → is_container t ≡ false → parts t ≡ []
-scalar_parts (Tree.array ts) h = cc
-scalar_parts (Tree.object ps) h = cc
-scalar_parts _ h = refl
+scalar_parts t h = grind arith
 
 -- ---- what is left at levels, the innermost first: each is one deeper than the next
 
@@ -125,8 +112,7 @@ walk_begun w t old out p =
     let deep = parts_deep t in
     record {
       toward = record {
-        written = ap (λ x. out ++ x) (append-nil (keys_of_parts w (parts t) 1)) ∙ ap (λ x. x ++ keys_of_parts w (parts t) 1) p.0
-            ∙ append_assoc old (start w t 0) (keys_of_parts w (parts t) 1) ∙ ap (λ x. old ++ x) (sym (key_split w t 0));
+        written = cc (append-nil (keys_of_parts w (parts t) 1), append_assoc old (start w t 0) (keys_of_parts w (parts t) 1), key_split w t 0);
         shallow = λ h. omega (arith, h, deep);
         deeper = omega (arith, deep);
       };
@@ -171,10 +157,7 @@ pub part_refused : (w : Width) (p : EntryPrefix) (ps : List EntryPrefix) (ls : L
     → IsOutOfMemoryOrTooDeep (length ls + 1) (depths w) e → IsOutOfMemoryOrTooDeep deep (depths w) e
 part_refused w p ps ls out old whole deep e h r =
     IsToward-refused (depths w) out (keys_of_levels w ((p ∷ ps) ∷ ls)) (length ls + 1) (deep_of_levels ((p ∷ ps) ∷ ls)) old whole deep e h.toward
-    (part_deep (length ls) (deepest p.1) (deep_of_parts ps) (deep_of_levels ls)) r
-  where
-    part_deep : (n t b c : ℕ) → n + 1 ≤ max (n + max (suc t) b) c
-    part_deep n t b c = omega arith
+    (omega arith) r
 
 -- nothing is left at the innermost level
 pub level_done : (w : Width) (ls : List (List EntryPrefix)) (out old whole : List ℕ) (deep : ℕ) → IsWithin w out ([] ∷ ls) old whole deep

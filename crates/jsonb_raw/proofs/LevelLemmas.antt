@@ -1,13 +1,11 @@
 -- What walks have left of containers: the first part of a level, the levels that a walk is within, and how they shrink.
-use Rattle.std.proofs.Common.{◌≡◌, ℕ, suc, ◌+◌, ◌<◌, List, [], ◌∷◌, ◌++◌, length, Option, Some, None, Result, Ok, Err, refl, sym, ap, subst, ◌∙◌, arith}
-use Rattle.std.specs.Prelude.{reverse}
-use Rattle.std.specs.Borrow.{Bor}
-use Rattle.std.proofs.lemmas.List.{reverse-append, length-reverse}
+use Rattle.std.proofs.Common.{◌≡◌, ℕ, suc, ◌+◌, ◌<◌, List, [], ◌∷◌, ◌++◌, length, Option, Some, None, Result, Ok, Err, refl, sym, ap, subst, ◌∙◌, arith, reverse, Bor}
+use Rattle.std.proofs.lemmas.List.{length-reverse}
 use Rattle.jsonb_doc.specs.declared.error.Error.{Error}
 use Rattle.jsonb_doc.specs.declared.entry_iter.StoredEntry.{StoredEntry}
 use Rattle.jsonb_doc.specs.declared.entry_iter.PairEntryIter.{PairEntryIter}
 use Rattle.jsonb_doc.specs.Tree as spec
-use Rattle.jsonb_doc.specs.Tree.{Tree, Trees, count, keys}
+use Rattle.jsonb_doc.specs.Tree.{Trees, count, keys}
 use Rattle.jsonb_doc.specs.Payload.{Form}
 use Rattle.jsonb_doc.specs.Format.{AreKeys}
 use Rattle.jsonb_doc.specs.Private.Stored.{Stores, TakesPairEntry, key_trees}
@@ -15,6 +13,7 @@ use Rattle.jsonb_doc.proofs.Weights.{weight_of, weight-pos, inner_weighs, taken_
 use Rattle.jsonb_raw.specs.declared.level.ChildCursor.{ChildCursor}
 use Rattle.jsonb_raw.specs.declared.level.ChildCursor.TheVariants.{Pairs}
 use Rattle.jsonb_raw.specs.Private.Levels.{EntryPrefix, parts_of_trees, parts_of_pairs, HasPartsLeft, TakesPart, IsKeyOf, IsSmaller, IsLevelWithin, level_room, level_bound}
+use Rattle.jsonb_doc.proofs.Basics.{innermost}
 
 -- ---- the first part
 
@@ -35,8 +34,7 @@ pair_some form it x ps (spec.pair k t qs) e are h = part_is form (Pairs it) (Ok 
     ((h.0, are.0.0), h.1, (qs, h.2, refl))
 
 pub no_pair_error : (form : Form) (it : PairEntryIter) (e : Error) (qs : spec.Pairs) → TakesPairEntry form qs (Some (Err e)) it → ⊥
-no_pair_error form it e spec.no_pairs h = h
-no_pair_error form it e (spec.pair k t qs) h = h
+no_pair_error form it e qs h = grind arith
 
 -- how many parts a container has
 pub count_of_trees : (ts : Trees) → count ts ≡ length (parts_of_trees ts)
@@ -72,12 +70,8 @@ parts_left form level around Q here others left outside fact = record { here = h
 
 pub as_many : (form : Form) (ls : List ChildCursor) (ps : List (List EntryPrefix)) → HavePartsLeft form ls ps → length ls ≡ length ps
 as_many form [] [] h = refl
-as_many form [] (p ∷ ps) h = absurd h
-as_many form (l ∷ ls) [] h = absurd h
 as_many form (l ∷ ls) (p ∷ ps) h = ap suc (as_many form ls ps h.1)
-
-pub innermost : {A : Type 0} (around : List A) (l : A) → reverse (around ++ l ∷ []) ≡ l ∷ reverse around
-innermost around l = reverse-append around (l ∷ [])
+as_many form _ _ h = absurd h
 
 -- there are as many parts left around as levels
 pub as_many_around : (form : Form) (around : List ChildCursor) (others : List (List EntryPrefix)) → HavePartsLeft form (reverse around) others

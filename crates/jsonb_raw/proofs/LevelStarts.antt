@@ -1,5 +1,5 @@
 -- Levels of all parts of a container, and the starts of their keys.
-use Rattle.std.proofs.Common.{◌≡◌, ◌==◌, ℕ, true, false, List, ◌∷◌, length, refl, ap, sym, ◌∙◌, ◌⊎◌, inl, inr, Bor, arith}
+use Rattle.std.proofs.Common.{◌≡◌, ◌==◌, ℕ, true, false, List, ◌∷◌, length, refl, ◌⊎◌, inl, inr, Bor, arith}
 use Rattle.std.specs.Int.{w32, to_be_bytes}
 use Rattle.std.proofs.lemmas.Bool.Decides.{nat_tests}
 use Rattle.jsonb_doc.specs.Tree as spec
@@ -74,8 +74,4 @@ stored_container form e t h k = let is : kind_number e.kind ≡ 5 = grind (arith
 
 pub container_equality_start : (form : Form) (t : Tree) (level : ChildCursor) (kind n : ℕ) → HasAllLeft form t level → kind ≡ rank t → n ≡ length (parts t)
     → kind ∷ to_be_bytes w32 n ≡ equality_start t
-container_equality_start form (spec.array ts) level kind n h is counted =
-    ap (λ k. k ∷ to_be_bytes w32 n) is ∙ ap (λ m. 7 ∷ to_be_bytes w32 m) (counted ∙ sym (count_of_trees ts))
-container_equality_start form (spec.object ps) level kind n h is counted =
-    ap (λ k. k ∷ to_be_bytes w32 n) is ∙ ap (λ m. 6 ∷ to_be_bytes w32 m) (counted ∙ sym (count_of_pairs ps))
-container_equality_start form _ level kind n h is counted = absurd h
+container_equality_start form t level kind n h k e = grind (arith, count_of_trees, count_of_pairs)

@@ -1,23 +1,12 @@
 pub mod ChildLemmas
-mod ChildSpots
-pub mod PlaceLemmas
-pub mod IndexLemmas
-pub mod StepLemmas
-pub mod SamePlaceLemmas
-mod OperatorRows
+mod Rows
 pub mod Ranking
-pub mod DecimalDigits
 pub mod NumberKeys
 pub mod ExtensionLeaves
 pub mod TreeKeys
-pub mod EqualityKeys
 pub mod KeyLawProofs
-pub mod CompositeKeyProofs
-pub mod WorkedKeys
 pub mod DigitSteps
-pub mod PackedDigits
 pub mod PushedNumbers
-pub mod WrittenDigits
 pub mod LevelLemmas
 pub mod Lists
 pub mod LevelStarts
@@ -27,75 +16,39 @@ pub mod ScalarLemmas
 pub mod TextChunks
 pub mod WordTexts
 pub mod HashLemmas
-pub mod TakenEntries
 pub mod NameBlockLemmas
-pub mod StartLemmas
 pub mod StripLists
 pub mod StripWalk
-pub mod InsertPlaces
-pub mod InsertEntries
-pub mod InStep
-pub mod KeysCounted
 pub mod SetKept
 pub mod ElementsSeen
 pub mod SetLawProofs
 pub mod LeafWalk
-pub mod LeafAnswers
 pub mod LeafPlaces
-mod LeafRows
 pub mod GoneLemmas
-pub mod ExistsLemmas
 pub mod MetLemmas
 pub mod PositionLemmas
 pub mod ObjectLemmas
-mod SetRows
 pub mod PairStepLemmas
-pub mod MatchLemmas
 pub mod ContainLemmas
 pub mod ArrayLemmas
-pub mod EntryLists
-pub mod JoinedEntries
 pub mod RunLemmas
-pub mod NameLemmas
 pub mod PartedRuns
 pub mod CutLemmas
-pub mod CutWords
 pub mod LeafLimits
 pub mod ChildAnswers
 mod Bound
-mod CallRows
-pub mod CutChild
-pub mod CutCases
-pub mod PushLemmas
-pub mod PushSteps
 pub mod DeleteLemmas
-pub mod MergedLemmas
-pub mod StripLaws
 pub mod ContainsLaws
-pub mod ConcatEntries
-pub mod ConcatLaws
-mod DeleteRows
 pub mod Copies
 pub mod EntriesLeft
 pub mod EntryEquals
-pub mod EntryTails
-pub mod Aside
-pub mod TextTrees
-pub mod EqualAny
-pub mod CursorSteps
 pub mod AnswerLemmas
-pub mod PushLoops
 pub mod CollectLoops
 pub mod TextLemmas
 pub mod IteratorItems
-pub mod PartitionLemmas
-pub mod StripLemmas
 pub mod IteratorLemmas
-pub mod PlaceRows
 pub mod NamedPairs
-pub mod NamePlaces
-pub mod EntryDocuments
-pub mod EntryWalks
-pub mod CutWalks
 pub mod OrderLemmas
 pub mod ColumnLemmas
+pub mod InsertLemmas
+pub mod ConcatLemmas

@@ -1,21 +1,28 @@
--- A walk along steps that keeps the positions of the children that they select.
-use Rattle.std.proofs.Common.{◌≡◌, ◌++◌, ℕ, List, [], ◌∷◌, Option, Some, None, refl, sym, ap, ◌∙◌, append_assoc, slice_get}
-use Rattle.std.specs.Prelude.{option_map}
+-- A walk along steps that keeps the containers around the children that they select.
+use Rattle.std.proofs.Common.{◌≡◌, ◌++◌, ℕ, List, [], ◌∷◌, Option, Some, None, refl, sym, ap, subst, ◌∙◌, append_assoc, append-nil, slice_get}
+use Rattle.std.specs.Prelude.{option_map, option_and_then}
 use Rattle.jsonb_doc.specs.Tree.{Tree}
-use Rattle.jsonb_doc.specs.Answer.{SameOption}
-use Rattle.jsonb_doc.specs.Representation.Positions.{Locates}
-use Rattle.jsonb_doc.specs.declared.spot.Spot.{Spot}
+use Rattle.jsonb_doc.specs.Payload.{Form}
+use Rattle.jsonb_doc.specs.declared.entry_iter.StoredEntry.{StoredEntry}
 use Rattle.jsonb_keypath.specs.KeyPathGrammar.{Key}
+use Rattle.jsonb_raw.specs.declared.functions.path.parent_entries.ParentEntries.{ParentEntries}
 use Rattle.jsonb_raw.specs.Places.{children, child_position, location}
+use Rattle.jsonb_raw.specs.Private.Cuts.{LeadTo, Leads, HoldsValue, StepsInto}
+use Rattle.jsonb_raw.proofs.CutLemmas.{lead_more}
 
--- The spot marks a tree. What the steps that are left select there is, after the positions so far, what is given.
-pub record Walked (bytes : List ℕ) (passed : List ℕ) (spot : Spot) (steps : List Key) (wanted : Option (List ℕ)) : Type 0 where
+-- The containers lead to a tree, whose entry this is. What the steps that are left select there is, after the positions so
+-- far, what is expected.
+pub record Walked (form : Form) (t : Tree) (parents : List ParentEntries) (entry : StoredEntry) (steps : List Key) (wanted : Option (List ℕ)) : Type 0 where
+  pub passed : List ℕ
   pub here : Tree
-  pub marks : Locates bytes spot here
+  pub led : LeadTo form parents passed t here
+  pub holds : HoldsValue form entry here
   pub left : option_map (λ ns. passed ++ ns) (location steps here) ≡ wanted
 
-pub walk_begun : (bytes : List ℕ) (spot : Spot) (steps : List Key) (t : Tree) → Locates bytes spot t → Walked bytes [] spot steps (location steps t)
-walk_begun bytes spot steps t m = record { here = t; marks = m; left = by (location steps t) }
+pub walk_begun : (form : Form) (t : Tree) (parents : List ParentEntries) (entry : StoredEntry) (steps : List Key) → parents ≡ [] → HoldsValue form entry t
+    → Walked form t parents entry steps (location steps t)
+walk_begun form t parents entry steps none holds =
+    record { passed = []; here = t; led = subst (λ ps. LeadTo form ps [] t t) (sym none) refl; holds = holds; left = by (location steps t) }
   where
     by : (o : Option (List ℕ)) → option_map (λ ns. [] ++ ns) o ≡ o
     by None = refl
@@ -30,40 +37,40 @@ next_place : (step : Key) (steps : List Key) (here child : Tree) (n : ℕ) → c
     → location (step ∷ steps) here ≡ option_map (λ ns. n ∷ ns) (location steps child)
 next_place step steps here child n meets is = rw (meets, is) refl
 
--- one child more is met
-pub met_next : (bytes : List ℕ) (passed : List ℕ) (spot : Spot) (step : Key) (now steps : List Key) (wanted : Option (List ℕ)) → now ≡ step ∷ steps
-    → (w : Walked bytes passed spot now wanted) → (child : Spot) (n : ℕ) → Some n ≡ child_position step w.here
-    → SameOption (Locates bytes) (Some child) (slice_get (children w.here) n)
-    → Walked bytes (passed ++ n ∷ []) child steps wanted
-met_next bytes passed spot step now steps wanted is w child n meets marks = by (slice_get (children w.here) n) refl marks
-  where
-    by : (o : Option Tree) → slice_get (children w.here) n ≡ o → SameOption (Locates bytes) (Some child) o → Walked bytes (passed ++ n ∷ []) child steps wanted
-    by None e h = absurd h
-    by (Some x) e h = record {
-      here = x;
-      marks = h;
-      left = sym (behind passed n (location steps x)) ∙ ap (option_map (λ ns. passed ++ ns)) (sym (next_place step steps w.here x n (sym meets) e))
-          ∙ rw is at w.left;
-    }
-
--- a step that selects nothing
-
-no_position : (step : Key) (steps : List Key) (here : Tree) → None ≡ child_position step here → location (step ∷ steps) here ≡ None
-no_position step steps here none = rw (← none) refl
-
-no_child : (step : Key) (steps : List Key) (here : Tree) (n : ℕ) → Some n ≡ child_position step here → slice_get (children here) n ≡ None
+nowhere : (step : Key) (steps : List Key) (here : Tree) → option_and_then (λ n. slice_get (children here) n) (child_position step here) ≡ None
     → location (step ∷ steps) here ≡ None
-no_child step steps here n meets none = rw (← meets, none) refl
-
-pub met_no_position : (bytes : List ℕ) (passed : List ℕ) (spot : Spot) (step : Key) (now steps : List Key) (wanted : Option (List ℕ)) → now ≡ step ∷ steps
-    → (w : Walked bytes passed spot now wanted) → None ≡ child_position step w.here → wanted ≡ None
-met_no_position bytes passed spot step now steps wanted is w none = sym (rw is at w.left) ∙ ap (option_map (λ ns. passed ++ ns)) (no_position step steps w.here none)
-
-pub met_no_child : (bytes : List ℕ) (passed : List ℕ) (spot : Spot) (step : Key) (now steps : List Key) (wanted : Option (List ℕ)) → now ≡ step ∷ steps
-    → (w : Walked bytes passed spot now wanted) → (n : ℕ) → Some n ≡ child_position step w.here
-    → SameOption (Locates bytes) None (slice_get (children w.here) n) → wanted ≡ None
-met_no_child bytes passed spot step now steps wanted is w n meets none = by (slice_get (children w.here) n) refl none
+nowhere step steps here none = by (child_position step here) refl none
   where
-    by : (o : Option Tree) → slice_get (children w.here) n ≡ o → SameOption (Locates bytes) None o → wanted ≡ None
-    by None e h = sym (rw is at w.left) ∙ ap (option_map (λ ns. passed ++ ns)) (no_child step steps w.here n meets e)
-    by (Some x) e h = absurd h
+    at_child : (n : ℕ) (o : Option Tree) → o ≡ None → option_map (λ ns. n ∷ ns) (option_and_then (location steps) o) ≡ None
+    at_child n o is = rw is refl
+
+    by : (o : Option ℕ) → child_position step here ≡ o → option_and_then (λ n. slice_get (children here) n) o ≡ None → location (step ∷ steps) here ≡ None
+    by None is e = rw is refl
+    by (Some n) is e = rw is (at_child n (slice_get (children here) n) e)
+
+module _ (form : Form) (t : Tree) (parents : List ParentEntries) (entry : StoredEntry) (step : Key) (now steps : List Key) (wanted : Option (List ℕ))
+    (is : now ≡ step ∷ steps) (w : Walked form t parents entry now wanted) where
+  here_left : option_map (λ ns. w.passed ++ ns) (location (step ∷ steps) w.here) ≡ wanted
+  here_left = subst (λ keys. option_map (λ ns. w.passed ++ ns) (location keys w.here) ≡ wanted) is w.left
+
+  -- one child more is selected
+  pub met_next : (p : ParentEntries) (child : StoredEntry) (parents' : List ParentEntries) → parents' ≡ parents ++ p ∷ []
+      → StepsInto form w.here step (Some (p, child)) → Walked form t parents' child steps wanted
+  met_next p child parents' more (n, u, meets, at, parent, holds) = record {
+    passed = w.passed ++ n ∷ [];
+    here = u;
+    led = subst (λ ps. LeadTo form ps (w.passed ++ n ∷ []) t u) (sym more) (lead_more form parents w.passed t w.here u p n w.led parent);
+    holds = holds;
+    left = sym (behind w.passed n (location steps u)) ∙ ap (option_map (λ ns. w.passed ++ ns)) (sym (next_place step steps w.here u n meets at)) ∙ here_left;
+  }
+
+  -- the step selects nothing
+  pub met_none : StepsInto form w.here step None → wanted ≡ None
+  met_none none = sym here_left ∙ ap (option_map (λ ns. w.passed ++ ns)) (nowhere step steps w.here none)
+
+-- no steps are left
+pub met_all : (form : Form) (t : Tree) (v : List ParentEntries) (entry : StoredEntry) (now : List Key) (wanted : Option (List ℕ)) → now ≡ []
+    → Walked form t v entry now wanted → (ns : List ℕ) × (wanted ≡ Some ns) × Leads form v ns t
+met_all form t v entry now wanted is w =
+    let left = subst (λ keys. option_map (λ ns. w.passed ++ ns) (location keys w.here) ≡ wanted) is w.left in
+    (w.passed, sym left ∙ ap Some (append-nil w.passed), (w.here, w.led))

@@ -1,9 +1,7 @@
 -- Names that are looked up among the strings of an array.
-use Rattle.std.proofs.Common.{◌≡◌, ◌==◌, ◌||◌, ◌&&◌, ◌++◌, ◌<◌, ◌≤◌, ◌+◌, ℕ, zero, suc, Bool, true, false, not, List, [], ◌∷◌, map, take, drop, length, get_or, Option, Some, None, Result, Ok, Err, refl, sym, ap, ap₂, ◌∙◌, subst, true≢false, arith}
+use Rattle.std.proofs.Common.{◌≡◌, ◌==◌, ◌||◌, ◌&&◌, ◌++◌, ◌<◌, ◌≤◌, ◌+◌, ℕ, zero, suc, Bool, true, false, not, List, [], ◌∷◌, map, take, drop, length, get_or, Option, Some, None, Result, Ok, Err, refl, sym, ap, ap₂, ◌∙◌, subst, true≢false, arith, Bor, bytes_eq}
 use Rattle.std.specs.Bool.{beq}
-use Rattle.std.specs.Borrow.{Bor}
 use Rattle.std.specs.List.{list_any, All}
-use Rattle.std.specs.Str.{bytes_eq}
 use Rattle.std.proofs.lemmas.List.Elements.{All-head, All-tail}
 use Rattle.std.proofs.lemmas.List.Folds.{list_all-append, list_any-append}
 use Rattle.jsonb_doc.proofs.WordLemmas.{bytes_eq-same, bytes_eq-true}
@@ -19,18 +17,13 @@ use Rattle.jsonb_raw.specs.Private.Cursors.{has_by}
 use Rattle.jsonb_raw.specs.Private.NameBlocks.{texts_of, is_one_of, decided_by, HasTextsLeft, TakesText, IsPlaced}
 use Rattle.jsonb_raw.specs.declared.functions.path.name_block.NameTable.{NameTable}
 use Rattle.jsonb_raw.proofs.EntriesLeft.{SomeEntries, SomeEntries-first, SomeEntries-error, SomeEntries-none}
+use Rattle.jsonb_doc.proofs.Basics.{shuffled}
 
 -- ---- the strings among entries
 
 module _ (form : Form) (e : StoredEntry) where
   no_text : (t : Tree) (ts : Trees) → Stores form e t → (kind_number e.kind == 1) ≡ false → texts_of (tree t ts) ≡ texts_of ts
-  no_text (text s) ts h k = absurd (true≢false (rw h.content.0 at k))
-  no_text null ts h k = refl
-  no_text (boolean b) ts h k = refl
-  no_text (number n) ts h k = refl
-  no_text (extension x) ts h k = refl
-  no_text (array us) ts h k = refl
-  no_text (object ps) ts h k = refl
+  no_text t ts h k = grind arith
 
   one_text : (it : EntryIter) (t : Tree) (ts : Trees) → Stores form e t → (kind_number e.kind == 1) ≡ true → HasEntriesLeft form it ts
       → TakesText form (texts_of (tree t ts)) (Some e.content) it
@@ -104,17 +97,9 @@ module _ (form : Form) (it it' : EntryIter) (Q : List (List ℕ) → Type 0) (s 
 abbrev pub names_have : List (List ℕ) → List ℕ → Bool
 names_have names s = list_any (λ name. bytes_eq s name) names
 
-shuffled : (a b c d : Bool) → ((a || b) || (c || d)) ≡ ((a || c) || (b || d))
-shuffled true b c d = refl
-shuffled false true true d = refl
-shuffled false true false d = refl
-shuffled false false c d = refl
-
 one_string : (s : List ℕ) (ss names : List (List ℕ)) → list_any (is_one_of (s ∷ ss)) names ≡ (names_have names s || list_any (is_one_of ss) names)
 one_string s ss [] = refl
-one_string s ss (n ∷ names) =
-    ap (λ b. (bytes_eq s n || is_one_of ss n) || b) (one_string s ss names)
-    ∙ shuffled (bytes_eq s n) (is_one_of ss n) (names_have names s) (list_any (is_one_of ss) names)
+one_string s ss (n ∷ names) = cc (one_string s ss names, shuffled (bytes_eq s n) (is_one_of ss n) (names_have names s) (list_any (is_one_of ss) names))
 
 pub none_of_none : (names : List (List ℕ)) → list_any (is_one_of []) names ≡ false
 none_of_none [] = refl
@@ -141,33 +126,22 @@ pub first_is_one : (s : List ℕ) (ss : List (List ℕ)) → is_one_of (s ∷ ss
 first_is_one s ss = rw (bytes_eq-same s) refl
 
 pub later_is_one : (s name : List ℕ) (ss : List (List ℕ)) → is_one_of ss name ≡ true → is_one_of (s ∷ ss) name ≡ true
-later_is_one s name ss h = by (bytes_eq s name)
-  where
-    by : (b : Bool) → (b || is_one_of ss name) ≡ true
-    by true = refl
-    by false = h
+later_is_one s name ss h = grind (arith, h)
 
 -- ---- a name at a time
 
 module _ (ss : List (List ℕ)) (name : List ℕ) (names : List (List ℕ)) (all : Bool) where
   -- a name that decides
   pub name_decides : (found has : Bool) → beq has found ≡ true → has ≡ is_one_of ss name → decided_by found ss (name ∷ names) ≡ all → found ≡ all
-  name_decides true true test is e = rw (sym is) at e
-  name_decides true false test is e = absurd (cc)
-  name_decides false true test is e = absurd (cc)
-  name_decides false false test is e = rw (sym is) at e
+  name_decides found has h k e = grind arith
 
   -- a name that leaves it to the others
   pub name_leaves : (found has : Bool) → beq has found ≡ false → has ≡ is_one_of ss name → decided_by found ss (name ∷ names) ≡ all
       → decided_by found ss names ≡ all
-  name_leaves true true test is e = absurd (cc)
-  name_leaves true false test is e = rw (sym is) at e
-  name_leaves false true test is e = rw (sym is) at e
-  name_leaves false false test is e = absurd (cc)
+  name_leaves found has h k e = grind arith
 
 pub no_name_left : (found : Bool) (ss : List (List ℕ)) → decided_by found ss [] ≡ not found
-no_name_left true ss = refl
-no_name_left false ss = refl
+no_name_left found ss = grind arith
 
 -- ---- the strings of an array
 
@@ -223,22 +197,15 @@ none_taken (x ∷ xs) (suc n) (suc i) few = none_taken xs n i (omega arith)
 module _ (ss names others : List (List ℕ)) where
   -- names that decide
   pub names_decide : (found : Bool) → decided_by found ss names ≡ found → decided_by found ss (names ++ others) ≡ found
-  names_decide true e = list_any-append (is_one_of ss) names others ∙ rw e refl
-  names_decide false e = list_all-append (is_one_of ss) names others ∙ rw e refl
+  names_decide found h = grind (arith, list_any-append, list_all-append)
 
   -- names that leave it to the others
   pub names_leave : (found has : Bool) → beq has found ≡ false → has ≡ decided_by found ss names
       → decided_by found ss others ≡ decided_by found ss (names ++ others)
-  names_leave true true test is = absurd (cc)
-  names_leave true false test is = sym (list_any-append (is_one_of ss) names others ∙ rw (sym is) refl)
-  names_leave false true test is = sym (list_all-append (is_one_of ss) names others ∙ rw (sym is) refl)
-  names_leave false false test is = absurd (cc)
+  names_leave found has h k = grind (arith, list_any-append, list_all-append)
 
 pub beq_true : (a b : Bool) → beq a b ≡ true → a ≡ b
-beq_true true true e = refl
-beq_true true false e = absurd (cc)
-beq_true false true e = absurd (cc)
-beq_true false false e = refl
+beq_true a b e = grind arith
 
 -- the names by the strings of an array
 pub array_decided : (found : Bool) (names : List (List ℕ)) (ts : Trees) → decided_by found (texts_of ts) names ≡ has_by found names (array ts)

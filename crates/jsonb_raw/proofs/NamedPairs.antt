@@ -1,50 +1,27 @@
--- Strings that are visited one by one, and members without the one of a key.
-use Rattle.std.proofs.Common.{◌≡◌, ℕ, zero, suc, Bool, true, false, not, List, [], ◌∷◌, map, filter, cond, Option, Some, None, refl, sym, ap, subst, ◌∙◌}
-use Rattle.std.specs.Prelude.{position, option_map}
-use Rattle.std.specs.List.{remove}
+-- The pairs of a key, their positions and the children that they hold.
+use Rattle.std.proofs.Common.{◌≡◌, ℕ, zero, suc, Bool, true, false, not, List, [], ◌∷◌, map, filter, cond, Option, Some, None, refl, sym, ap, ◌∙◌, ◌+◌, drop, ap₂, arith, slice_get, position, option_map, remove, find}
+use Rattle.std.proofs.lemmas.Option.{none-some}
 use Rattle.std.specs.Map.{keys_of, values_of}
-use Rattle.std.specs.Str.{bytes_eq}
-use Rattle.jsonb_doc.specs.Tree.{Tree, text}
-use Rattle.jsonb_doc.specs.Payload.{Form, number_reader}
-use Rattle.jsonb_doc.specs.Kinds.{kind_number}
-use Rattle.jsonb_doc.specs.Format.{AreKeys, IsContent}
+use Rattle.std.specs.Str.{bytes_eq, str_eq_ignore_ascii_case}
+use Rattle.jsonb_doc.specs.Tree.{Tree, text, object, Pairs, no_pairs, pair, members, value_under, elements, trees_in, field_of}
+use Rattle.jsonb_doc.specs.Format.{AreKeys}
 use Rattle.jsonb_doc.proofs.BuilderSteps.{AreRising, keys_rise, AreRising-filter}
-use Rattle.jsonb_doc.proofs.WordLemmas.{bytes_eq-true}
-use Rattle.jsonb_doc.specs.declared.cursor.Entries.{Entries}
-use Rattle.jsonb_doc.specs.declared.entry_iter.StoredEntry.{StoredEntry}
-use Rattle.jsonb_raw.specs.Private.Entries.{HoldTrees, TakesFirst}
-use Rattle.jsonb_raw.proofs.PlaceLemmas.{position-cons}
+use Rattle.jsonb_doc.proofs.WordLemmas.{bytes_eq-true, bytes_eq-same}
+use Rattle.jsonb_raw.proofs.PositionLemmas.{position-cons}
 use Rattle.jsonb_raw.proofs.GoneLemmas.{below_all}
+use Rattle.std.specs.Char.{to_ascii_lowercase}
+use Rattle.std.specs.Option.{option_or}
+use Rattle.jsonb_raw.specs.Children.{named_child, element_at}
+use Rattle.jsonb_raw.specs.Private.NamePositions.{position_in_some_case}
+use Rattle.jsonb_raw.proofs.ChildLemmas.{split_at}
+use Rattle.jsonb_doc.specs.Answer.{SameOption}
+use Rattle.jsonb_doc.specs.Representation.Positions.{HasSpotsLeft}
+use Rattle.jsonb_doc.specs.declared.spot_iter.SpotIter.{SpotIter}
+use Rattle.jsonb_raw.specs.Places.{children}
+use Rattle.jsonb_raw.proofs.StripLists.{values_of-members}
 
 abbrev Member : Type 0
 Member = List ℕ × Tree
-
--- ---- strings
-
--- Holds if the first of the strings is this entry's content.
-pub record TextFirst (form : Form) (ks : List (List ℕ)) (entry : StoredEntry) (others : Entries) : Type 0 where
-  pub rest : List (List ℕ)
-  pub split : ks ≡ entry.content.now ∷ rest
-  pub part : IsContent (number_reader form) (text entry.content.now) (kind_number entry.kind) entry.content.now
-  pub others_hold : HoldTrees form others (map text rest)
-
-pub text_first : (form : Form) (entries : Entries) (ks : List (List ℕ)) (found : Option (StoredEntry × Entries)) (entry : StoredEntry) (others : Entries)
-    → found ≡ Some (entry, others) → TakesFirst form entries (map text ks) found → TextFirst form ks entry others
-text_first form entries ks found entry others is h = by ks (rw is at h)
-  where
-    by : (ls : List (List ℕ)) → TakesFirst form entries (map text ls) (Some (entry, others)) → TextFirst form ls entry others
-    by [] g = absurd g
-    by (l ∷ ls) g = record {
-      rest = ls;
-      split = ap (λ (k : List ℕ). k ∷ ls) (sym g.part.1);
-      part = subst (λ (k : List ℕ). IsContent (number_reader form) (text k) (kind_number entry.kind) entry.content.now) (sym g.part.1) g.part;
-      others_hold = g.others_hold;
-    }
-
-pub no_text_left : (form : Form) (entries : Entries) (ks : List (List ℕ)) (found : Option (StoredEntry × Entries)) → found ≡ None
-    → TakesFirst form entries (map text ks) found → ks ≡ []
-no_text_left form entries [] found is h = refl
-no_text_left form entries (k ∷ ks) found is h = absurd (rw is at h)
 
 -- ---- pairs without the one of a key
 
@@ -62,9 +39,6 @@ AreKeys-filter test (p ∷ ps) are =
 abbrev without_key : List ℕ → List Member → List Member
 without_key name ps = filter (λ p. not (bytes_eq p.0 name)) ps
 
-not_none : (n : ℕ) → Some n ≡ None → ⊥
-not_none n e = cc
-
 -- if no key is the name, all members stay
 pub all_stay : (name : List ℕ) (ps : List Member) → position (λ k. bytes_eq k name) (keys_of ps) ≡ None → without_key name ps ≡ ps
 all_stay name [] none = refl
@@ -72,15 +46,7 @@ all_stay name (p ∷ ps) none = by (λ others. all_stay name ps others) (bytes_e
   where
     by : (position (λ k. bytes_eq k name) (keys_of ps) ≡ None → without_key name ps ≡ ps) → (b : Bool) → bytes_eq p.0 name ≡ b
         → without_key name (p ∷ ps) ≡ p ∷ ps
-    by stay true same =
-        absurd (not_none 0 (sym (position-cons (λ k. bytes_eq k name) p.0 (keys_of ps) true same) ∙ none))
-    by stay false other = rw other (ap (λ (qs : List Member). p ∷ qs) (stay (rest (position (λ k. bytes_eq k name) (keys_of ps)) refl)))
-      where
-        rest : (o : Option ℕ) → position (λ k. bytes_eq k name) (keys_of ps) ≡ o → position (λ k. bytes_eq k name) (keys_of ps) ≡ None
-        rest None is = is
-        rest (Some m) is =
-            absurd (not_none (suc m) (ap (option_map suc) (sym is)
-            ∙ sym (position-cons (λ k. bytes_eq k name) p.0 (keys_of ps) false other) ∙ none))
+    by h b e = grind (arith, none-some, position-cons)
 
 -- if the first key that is the name has this position, only the member there is left out
 pub one_goes : (name : List ℕ) (ps : List Member) (n : ℕ) → AreKeys (keys_of ps) → position (λ k. bytes_eq k name) (keys_of ps) ≡ Some n
@@ -119,3 +85,159 @@ values_around zero [] = refl
 values_around zero (p ∷ ps) = refl
 values_around (suc n) [] = refl
 values_around (suc n) (p ∷ ps) = ap (λ (ts : List Tree). p.1 ∷ ts) (values_around n ps)
+
+-- ---- the position of a name among the keys that are left, in its own case or in some case
+
+-- a position after those that were passed
+abbrev pub behind : ℕ → Option ℕ → Option ℕ
+behind passed o = option_map (λ n. passed + n) o
+
+-- the position of the first visited key that differs in case only is known
+abbrev pub found_behind_both : ℕ → Option ℕ → List ℕ → List (List ℕ) → Option ℕ
+found_behind_both passed first name ks =
+    option_or (behind passed (position (λ key. bytes_eq key name) ks))
+    (option_or first (behind passed (position (λ key. str_eq_ignore_ascii_case key name) ks)))
+
+one_behind : (passed : ℕ) (o : Option ℕ) → behind (passed + 1) o ≡ behind passed (option_map suc o)
+one_behind passed o = grind arith
+
+pub both_here : (passed : ℕ) (first : Option ℕ) (name key : List ℕ) (ks rest : List (List ℕ)) (wanted : Option ℕ) → ks ≡ key ∷ rest
+    → bytes_eq key name ≡ true → found_behind_both passed first name ks ≡ wanted → Some passed ≡ wanted
+both_here passed first name key ks rest wanted h e k = grind (arith, position-cons)
+
+pub both_other : (passed : ℕ) (first : Option ℕ) (name key : List ℕ) (ks rest : List (List ℕ)) (wanted : Option ℕ) → ks ≡ key ∷ rest
+    → bytes_eq key name ≡ false → str_eq_ignore_ascii_case key name ≡ true → found_behind_both passed first name ks ≡ wanted
+    → found_behind_both (passed + 1) (option_or first (Some passed)) name rest ≡ wanted
+both_other passed first name key ks rest wanted split other same e =
+    let exact = position-cons (λ k. bytes_eq k name) key rest false other in
+    let in_case = position-cons (λ k. str_eq_ignore_ascii_case k name) key rest true same in
+    let zero_more : passed + 0 ≡ passed = omega arith in
+    ap₂ option_or (one_behind passed (position (λ k. bytes_eq k name) rest)) (by first _) ∙ rw (split, exact, in_case, zero_more) at e
+  where
+    by : (o r : Option ℕ) → option_or (option_or o (Some passed)) r ≡ option_or o (Some passed)
+    by o r = grind arith
+
+pub both_further : (passed : ℕ) (first : Option ℕ) (name key : List ℕ) (ks rest : List (List ℕ)) (wanted : Option ℕ) → ks ≡ key ∷ rest
+    → str_eq_ignore_ascii_case key name ≡ false → found_behind_both passed first name ks ≡ wanted
+    → found_behind_both (passed + 1) first name rest ≡ wanted
+both_further passed first name key ks rest wanted split differs e =
+    let exact = position-cons (λ k. bytes_eq k name) key rest false (not_exact (bytes_eq key name) refl) in
+    let in_case = position-cons (λ k. str_eq_ignore_ascii_case k name) key rest false differs in
+    ap₂ (λ a b. option_or a (option_or first b)) (one_behind passed (position (λ k. bytes_eq k name) rest))
+    (one_behind passed (position (λ k. str_eq_ignore_ascii_case k name) rest))
+    ∙ rw (split, exact, in_case) at e
+  where
+    not_exact : (b : Bool) → bytes_eq key name ≡ b → b ≡ false
+    not_exact false is = refl
+    not_exact true is =
+        sym (bytes_eq-same (map to_ascii_lowercase name)) ∙ ap (λ k. str_eq_ignore_ascii_case k name) (sym (bytes_eq-true key name is)) ∙ differs
+
+pub both_nowhere : (passed : ℕ) (first : Option ℕ) (name : List ℕ) (ks : List (List ℕ)) (wanted : Option ℕ) → ks ≡ []
+    → found_behind_both passed first name ks ≡ wanted → first ≡ wanted
+both_nowhere passed first name ks wanted none e = by first ∙ rw none at e
+  where
+    by : (o : Option ℕ) → o ≡ option_or o None
+    by o = grind arith
+
+-- ---- the value there
+
+-- a pair that passes is at this position
+pub record StandsAt (test : List ℕ → Bool) (ps : List Member) (n : ℕ) : Type 0 where
+  pub value : Tree
+  pub rest : List Tree
+  pub there : drop n (values_of ps) ≡ value ∷ rest
+  pub found : option_map (λ p. p.1) (find (λ p. test p.0) ps) ≡ Some value
+
+some_more : (o : Option ℕ) (n : ℕ) → option_map suc o ≡ Some n → (m : ℕ) × (o ≡ Some m) × (suc m ≡ n)
+some_more None n e = absurd (cc)
+some_more (Some m) n e = (m, refl, cc e)
+
+none_more : (o : Option ℕ) → option_map suc o ≡ None → o ≡ None
+none_more o h = grind arith
+
+pub stands_at : (test : List ℕ → Bool) (ps : List Member) (n : ℕ) → position test (keys_of ps) ≡ Some n → StandsAt test ps n
+stands_at test [] n at = let bad : None ≡ Some n = at in absurd (cc)
+stands_at test (p ∷ ps) n at = by (λ m is. stands_at test ps m is) (test p.0) refl
+  where
+    by : ((m : ℕ) → position test (keys_of ps) ≡ Some m → StandsAt test ps m) → (b : Bool) → test p.0 ≡ b → StandsAt test (p ∷ ps) n
+    by others true passes =
+        let first : 0 ≡ n = cc (sym (position-cons test p.0 (keys_of ps) true passes) ∙ at) in
+        record {
+          value = p.1;
+          rest = values_of ps;
+          there = ap (λ k. drop k (values_of (p ∷ ps))) (sym first);
+          found = ap (λ t. option_map (λ q. q.1) (cond t (Some p) (find (λ q. test q.0) ps))) passes;
+        }
+    by others false fails =
+        let (m, is, next) = some_more _ n (sym (position-cons test p.0 (keys_of ps) false fails) ∙ at) in
+        let s = others m is in
+        record {
+          value = s.value;
+          rest = s.rest;
+          there = ap (λ k. drop k (values_of (p ∷ ps))) (sym next) ∙ s.there;
+          found = ap (λ t. option_map (λ q. q.1) (cond t (Some p) (find (λ q. test q.0) ps))) fails ∙ s.found;
+        }
+
+pub stands_nowhere : (test : List ℕ → Bool) (ps : List Member) → position test (keys_of ps) ≡ None → find (λ p. test p.0) ps ≡ None
+stands_nowhere test [] none = refl
+stands_nowhere test (p ∷ ps) none = by (λ is. stands_nowhere test ps is) (test p.0) refl
+  where
+    by : (position test (keys_of ps) ≡ None → find (λ q. test q.0) ps ≡ None) → (b : Bool) → test p.0 ≡ b → find (λ q. test q.0) (p ∷ ps) ≡ None
+    by h b e = grind (arith, none-some, position-cons, none_more)
+
+value_found : (name : List ℕ) (ps : Pairs) → value_under name ps ≡ option_map (λ p. p.1) (find (λ p. bytes_eq p.0 name) (members ps))
+value_found name no_pairs = refl
+value_found name (pair key value ps) = grind (arith, value_found name ps)
+
+-- the value of the pair at the position of the name
+pub record IsNamed (name : List ℕ) (ps : Pairs) (n : ℕ) : Type 0 where
+  pub value : Tree
+  pub rest : List Tree
+  pub there : drop n (values_of (members ps)) ≡ value ∷ rest
+  pub named : named_child name true (object ps) ≡ Some value
+
+pub named_at : (name : List ℕ) (ps : Pairs) (n : ℕ) → position_in_some_case name (keys_of (members ps)) ≡ Some n → IsNamed name ps n
+named_at name ps n at = by (position (λ key. bytes_eq key name) (keys_of (members ps))) refl
+  where
+    by : (o : Option ℕ) → position (λ key. bytes_eq key name) (keys_of (members ps)) ≡ o → IsNamed name ps n
+    by (Some m) is =
+        let same : m ≡ n = cc (rw is at at) in
+        let s = stands_at (λ key. bytes_eq key name) (members ps) n (rw same at is) in
+        record { value = s.value; rest = s.rest; there = s.there; named = rw (value_found name ps ∙ s.found) refl }
+    by None is =
+        let s = stands_at (λ key. str_eq_ignore_ascii_case key name) (members ps) n (rw is at at) in
+        let none = stands_nowhere (λ key. bytes_eq key name) (members ps) is in
+        record { value = s.value; rest = s.rest; there = s.there; named = rw (value_found name ps, none) s.found }
+
+-- what is at the position of the name's key is the child of that name
+pub named_value : (name : List ℕ) (ps : Pairs) (t : Tree) (n : ℕ) → t ≡ object ps → position_in_some_case name (keys_of (members ps)) ≡ Some n
+    → slice_get (values_of (members ps)) n ≡ named_child name true t
+named_value name ps t n is at =
+    let s = named_at name ps n at in
+    (split_at (values_of (members ps)) n s.value s.rest s.there).at ∙ sym s.named ∙ ap (named_child name true) (sym is)
+
+pub named_at_none : (name : List ℕ) (ps : Pairs) → position_in_some_case name (keys_of (members ps)) ≡ None → named_child name true (object ps) ≡ None
+named_at_none name ps none = by (position (λ key. bytes_eq key name) (keys_of (members ps))) refl
+  where
+    by : (o : Option ℕ) → position (λ key. bytes_eq key name) (keys_of (members ps)) ≡ o → named_child name true (object ps) ≡ None
+    by (Some m) is = absurd (none-some m (sym (rw is at none)))
+    by None is =
+        let exact = stands_nowhere (λ key. bytes_eq key name) (members ps) is in
+        let in_case = stands_nowhere (λ key. str_eq_ignore_ascii_case key name) (members ps) (rw is at none) in
+        rw (value_found name ps, exact, in_case) refl
+
+-- ---- the children at an index and of a name, by their positions
+
+-- only an array has elements
+pub no_element_spots : (bytes : List ℕ) (t : Tree) (i : ℕ) → SameOption (λ (it : SpotIter) ts. HasSpotsLeft bytes it (elements ts)) None (trees_in t)
+    → element_at i t ≡ None
+no_element_spots bytes t i h = grind arith
+
+-- the value of the name is the child at the position of its key
+pub named_place : (name : List ℕ) (ps : Pairs) (t : Tree) (n : ℕ) → t ≡ object ps → position_in_some_case name (keys_of (members ps)) ≡ Some n
+    → slice_get (children t) n ≡ named_child name true t
+named_place name ps t n is at = rw is (ap (λ ts. slice_get ts n) (sym (values_of-members ps)) ∙ named_value name ps (object ps) n refl at)
+
+-- without another case a name is a key
+pub exact_child : (name : List ℕ) (t : Tree) → named_child name false t ≡ field_of name t
+exact_child name t = grind arith

@@ -1,18 +1,237 @@
--- The bytes of numbers rank as their exact values do, for both signs.
-use Rattle.std.proofs.Common.{◌≡◌, ◌⊎◌, ℕ, zero, suc, ◌-◌, ◌*◌, ◌^◌, ◌<◌, List, [], ◌∷◌, ◌++◌, map, ℤ, pos, negsuc, ◌*ℤ◌, FitsSigned, nat_abs, ◌==◌, Bool, true, false, cond, mul-pos, inl, inr, refl, sym, ap, ap₂, subst, ◌∙◌, arith, nat_cmp, int_cmp, Ordering, Less, Greater, append-nil}
-use native.Mathlib.Nat.{one-le-pow}
-use Rattle.std.specs.Int.{w64, w128}
+-- Digits with an exponent rank as the exact values do, and so do the bytes of numbers, for both signs.
+use Rattle.std.proofs.Common.{◌≡◌, ◌≢◌, ◌⊎◌, ℕ, zero, suc, ◌+◌, ◌-◌, ◌*◌, ◌^◌, ◌%◌, ◌<◌, ◌≤◌, ◌==◌, true, false, List, [], ◌∷◌, ◌++◌, map, length, inl, inr, refl, sym, ap, ap₂, subst, ◌∙◌, arith, nat_cmp, Equal, ⊎_elim, pow-suc, mul_comm, mul-lt-mul_of_pos_right, mul-pos, mul-le-mul_right, zero-add, true≢false, le_trans, le_of_eq, lt_of_lt_of_le, mul_assoc, mul_right_comm, add_comm, lit<, w16, ℤ, pos, negsuc, ◌*ℤ◌, FitsSigned, nat_abs, Bool, cond, int_cmp, Ordering, Less, Greater, append-nil, pow-add}
+use native.Mathlib.Nat.{one-le-pow, pow-le-pow_right}
 use Rattle.std.specs.Ordering.{ordering_then, ordering_reverse}
-use Rattle.std.specs.List.{AllByRecursion, list_all}
-use Rattle.std.specs.Int.Digits.{digits_of, AllBelowBase}
-use Rattle.std.proofs.lemmas.Int.Digits.{all_below_base_digits_of}
-use Rattle.std.proofs.lemmas.Bool.{cases_order}
-use Rattle.jsonb_doc.specs.Proofs.NumberOrder.{int_cmp-pos, int_cmp-negative, int_cmp-below, int_cmp-above}
-use Rattle.jsonb_doc.specs.Proofs.Orderings.{nat_cmp-lt, nat_cmp-gt, nat_cmp_refl, then_Equal}
-use Rattle.jsonb_raw.proofs.Ranking.{Ranks, bytes_cmp, Ranks-nil, Ranks-lower, Ranks-higher, Ranks-same_head}
-use Rattle.jsonb_raw.proofs.DecimalDigits.{Ranks-magnitude_bytes}
+use Rattle.std.specs.List.{list_all, AllByRecursion}
+use Rattle.std.specs.Int.{to_be_bytes, w64, w128}
+use Rattle.std.specs.Int.Digits.{digits_of, number_from_digits, number_from_digits_after, AllBelowBase}
+use Rattle.std.proofs.lemmas.Bool.{cases_order, cases_lt, cases_Bool, eqb-true, eqb-false, and_parts, and_cases}
+use Rattle.std.proofs.lemmas.Bool.Decides.{nat_tests}
+use Rattle.std.proofs.lemmas.Int.Digits.{number_lt, number_digits_of, all_below_base_digits_of, length-digits_of-le}
+use Rattle.jsonb_doc.specs.Proofs.Orderings.{nat_cmp-lt, nat_cmp-gt, nat_cmp_refl, nat_cmp_places, nat_cmp_scaled, then_Equal}
+use Rattle.jsonb_raw.proofs.Ranking.{Ranks, Ranks-nil, Ranks-head, Ranks-append, Ranks-lower, Ranks-higher, Ranks-same_head, Ranks-bytes_high_first}
 use Rattle.jsonb_raw.specs.SortableKey.{significant, magnitude_bytes, number_bytes}
+use Rattle.jsonb_doc.specs.Proofs.NumberOrder.{int_cmp-pos, int_cmp-negative, int_cmp-below, int_cmp-above}
 use Rattle.jsonb_doc.specs.Number.{Number, Variant, FitsParts, FitsNumber}
+use Rattle.jsonb_doc.proofs.Basics.{bytes_cmp, scaled_pos}
+
+-- the number that decimal digits write
+abbrev pub value : List ℕ → ℕ
+value ds = number_from_digits 10 ds
+
+value_after : (n : ℕ) (ds : List ℕ) → number_from_digits_after 10 n ds ≡ n * 10 ^ length ds + value ds
+value_after n [] = omega arith
+value_after n (d ∷ ds) =
+    value_after (n * 10 + d) ds ∙ regroup n d (10 ^ length ds) (10 ^ suc (length ds)) (value ds) (pow-suc 10 (length ds))
+    ∙ ap (λ v. n * 10 ^ suc (length ds) + v) (sym (value_after d ds) ∙ ap (λ m. number_from_digits_after 10 m ds) (sym (zero-add d)))
+  where
+    regroup : (n d p q v : ℕ) → q ≡ p * 10 → (n * 10 + d) * p + v ≡ n * q + (d * p + v)
+    regroup n d p q v e = rw e (omega arith)
+
+pub value-cons : (d : ℕ) (ds : List ℕ) → value (d ∷ ds) ≡ d * 10 ^ length ds + value ds
+value-cons d ds = ap (λ m. number_from_digits_after 10 m ds) (zero-add d) ∙ value_after d ds
+
+-- the digits as a key holds them
+abbrev pub marked : List ℕ → List ℕ
+marked ds = map suc (significant ds) ++ 0 ∷ []
+
+-- Holds if a list of digits is 0 and only its end marker is left, or its first digit stays.
+abbrev View : ℕ → List ℕ → Type 0
+View d ds = ((value (d ∷ ds) ≡ 0) × (marked (d ∷ ds) ≡ 0 ∷ [])) ⊎ ((0 < value (d ∷ ds)) × (marked (d ∷ ds) ≡ suc d ∷ marked ds))
+
+pub all_zero : (ds : List ℕ) → list_all (λ d. d == 0) ds ≡ true → value ds ≡ 0
+all_zero [] h = refl
+all_zero (d ∷ ds) h = value-cons d ds
+    ∙ nothing d (10 ^ length ds) (value ds) (eqb-true d 0 (and_parts (d == 0) (list_all (λ d. d == 0) ds) h).0)
+    (all_zero ds (and_parts (d == 0) (list_all (λ d. d == 0) ds) h).1)
+  where
+    nothing : (d p v : ℕ) → d ≡ 0 → v ≡ 0 → d * p + v ≡ 0
+    nothing d p v e f = rw (e, f) (omega arith)
+
+not_all_zero : (ds : List ℕ) → list_all (λ d. d == 0) ds ≡ false → 0 < value ds
+not_all_zero [] h = absurd (true≢false h)
+not_all_zero (d ∷ ds) h = subst (λ v. 0 < v) (sym (value-cons d ds))
+    (⊎_elim (λ (e : (d == 0) ≡ false). by_first e) (λ (e : list_all (λ d. d == 0) ds ≡ false). by_rest (not_all_zero ds e))
+    (and_cases (d == 0) (list_all (λ d. d == 0) ds) h))
+  where
+    by_first : (d == 0) ≡ false → 0 < d * 10 ^ length ds + value ds
+    by_first e =
+        let ne : d ≢ 0 = eqb-false d 0 e in
+        let product : 0 < d * 10 ^ length ds = mul-pos (omega arith) (one-le-pow (length ds) 10 (omega arith)) in
+        omega arith
+
+    by_rest : 0 < value ds → 0 < d * 10 ^ length ds + value ds
+    by_rest h = omega arith
+
+view : (d : ℕ) (ds : List ℕ) → View d ds
+view d ds = ⊎_elim (λ (e : list_all (λ d. d == 0) (d ∷ ds) ≡ true). inl (all_zero (d ∷ ds) e, rw e))
+    (λ (e : list_all (λ d. d == 0) (d ∷ ds) ≡ false). inr (not_all_zero (d ∷ ds) e, rw e)) (cases_Bool (list_all (λ d. d == 0) (d ∷ ds)))
+
+both_end : (xs ys : List ℕ) (a b : ℕ) → xs ≡ 0 ∷ [] → ys ≡ 0 ∷ [] → a ≡ 0 → b ≡ 0 → Ranks xs ys (nat_cmp a b)
+both_end xs ys a b ex ey ea eb = rw (ex, ey, ea, eb) (Ranks-same_head 0 [] [] Equal Ranks-nil)
+
+first_ends : (xs ys zs : List ℕ) (z a b : ℕ) → xs ≡ 0 ∷ [] → ys ≡ suc z ∷ zs → a ≡ 0 → 0 < b → Ranks xs ys (nat_cmp a b)
+first_ends xs ys zs z a b ex ey ea hb = rw (ex, ey, ea, nat_cmp-lt 0 b hb) (Ranks-lower 0 (suc z) [] zs (omega arith))
+
+second_ends : (xs ys zs : List ℕ) (z a b : ℕ) → xs ≡ suc z ∷ zs → ys ≡ 0 ∷ [] → 0 < a → b ≡ 0 → Ranks xs ys (nat_cmp a b)
+second_ends xs ys zs z a b ex ey ha eb = rw (ex, ey, eb, nat_cmp-gt a 0 ha) (Ranks-higher (suc z) 0 zs [] (omega arith))
+
+no_product : (v p : ℕ) → v ≡ 0 → v * p ≡ 0
+no_product v p e = rw e (omega arith)
+
+-- a scaled number is above 0
+digits_pos : (v k : ℕ) → 0 < v → 0 < v * 10 ^ k
+digits_pos v k h = mul-pos h (one-le-pow k 10 (omega arith))
+
+-- the first digits decide, and otherwise the other digits, here with the fractions' common scale
+first_digits : (x y v w p q : ℕ) → v < p → w < q
+    → nat_cmp ((x * p + v) * (q * 10)) ((y * q + w) * (p * 10)) ≡ ordering_then (nat_cmp (suc x) (suc y)) (nat_cmp (v * q) (w * p))
+first_digits x y v w p q hv hw =
+    ap₂ nat_cmp (regroup x v p q) (regroup y w q p ∙ ap (λ z. (y * z + w * p) * 10) (mul_comm q p))
+    ∙ nat_cmp_scaled 10 (x * (p * q) + v * q) (y * (p * q) + w * p) (omega arith)
+    ∙ nat_cmp_places (p * q) x y (v * q) (w * p) (mul-lt-mul_of_pos_right hv (omega arith)) (rw (mul_comm p q) (mul-lt-mul_of_pos_right hw (omega arith)))
+    ∙ ap (λ o. ordering_then o (nat_cmp (v * q) (w * p))) (grind (arith, nat_tests))
+  where
+    regroup : (x v p q : ℕ) → (x * p + v) * (q * 10) ≡ (x * (p * q) + v * q) * 10
+    regroup x v p q = omega arith
+
+-- Two fractions, of the digits after a point, in one scale.
+pub Ranks-marked : (xs ys : List ℕ) → AllBelowBase 10 xs → AllBelowBase 10 ys
+    → Ranks (marked xs) (marked ys) (nat_cmp (value xs * 10 ^ length ys) (value ys * 10 ^ length xs))
+Ranks-marked [] [] hx hy = Ranks-same_head 0 [] [] Equal Ranks-nil
+Ranks-marked [] (y ∷ ys) hx hy = elim (view y ys) [
+  | inl h ↦ both_end (marked []) (marked (y ∷ ys)) (value [] * 10 ^ suc (length ys)) (value (y ∷ ys) * 1) refl h.1 (no_product 0 (10 ^ suc (length ys)) refl)
+      (no_product (value (y ∷ ys)) 1 h.0)
+  | inr h ↦ first_ends (marked []) (marked (y ∷ ys)) (marked ys) y (value [] * 10 ^ suc (length ys)) (value (y ∷ ys) * 1) refl h.1
+      (no_product 0 (10 ^ suc (length ys)) refl) (digits_pos (value (y ∷ ys)) 0 h.0)
+]
+Ranks-marked (x ∷ xs) [] hx hy = elim (view x xs) [
+  | inl h ↦ both_end (marked (x ∷ xs)) (marked []) (value (x ∷ xs) * 1) (value [] * 10 ^ suc (length xs)) h.1 refl (no_product (value (x ∷ xs)) 1 h.0)
+      (no_product 0 (10 ^ suc (length xs)) refl)
+  | inr h ↦ second_ends (marked (x ∷ xs)) (marked []) (marked xs) x (value (x ∷ xs) * 1) (value [] * 10 ^ suc (length xs)) h.1 refl
+      (digits_pos (value (x ∷ xs)) 0 h.0) (no_product 0 (10 ^ suc (length xs)) refl)
+]
+Ranks-marked (x ∷ xs) (y ∷ ys) hx hy = by_views (view x xs) (view y ys) (Ranks-marked xs ys hx.1 hy.1)
+  where
+    by_views : View x xs → View y ys → Ranks (marked xs) (marked ys) (nat_cmp (value xs * 10 ^ length ys) (value ys * 10 ^ length xs))
+        → Ranks (marked (x ∷ xs)) (marked (y ∷ ys)) (nat_cmp (value (x ∷ xs) * 10 ^ suc (length ys)) (value (y ∷ ys) * 10 ^ suc (length xs)))
+    by_views (inl h) (inl k) more = both_end (marked (x ∷ xs)) (marked (y ∷ ys)) (value (x ∷ xs) * 10 ^ suc (length ys))
+        (value (y ∷ ys) * 10 ^ suc (length xs)) h.1 k.1 (no_product (value (x ∷ xs)) (10 ^ suc (length ys)) h.0)
+        (no_product (value (y ∷ ys)) (10 ^ suc (length xs)) k.0)
+    by_views (inl h) (inr k) more = first_ends (marked (x ∷ xs)) (marked (y ∷ ys)) (marked ys) y (value (x ∷ xs) * 10 ^ suc (length ys))
+        (value (y ∷ ys) * 10 ^ suc (length xs)) h.1 k.1 (no_product (value (x ∷ xs)) (10 ^ suc (length ys)) h.0)
+        (digits_pos (value (y ∷ ys)) (suc (length xs)) k.0)
+    by_views (inr h) (inl k) more = second_ends (marked (x ∷ xs)) (marked (y ∷ ys)) (marked xs) x (value (x ∷ xs) * 10 ^ suc (length ys))
+        (value (y ∷ ys) * 10 ^ suc (length xs)) h.1 k.1 (digits_pos (value (x ∷ xs)) (suc (length ys)) h.0)
+        (no_product (value (y ∷ ys)) (10 ^ suc (length xs)) k.0)
+    by_views (inr h) (inr k) more =
+        rw (
+          h.1,
+          k.1,
+          value-cons x xs,
+          value-cons y ys,
+          pow-suc 10 (length xs),
+          pow-suc 10 (length ys),
+          first_digits x y (value xs) (value ys) (10 ^ length xs)
+              (10 ^ length ys) (number_lt 10 xs hx.1) (number_lt 10 ys hy.1),
+        )
+        (Ranks-head (suc x) (suc y) (marked xs) (marked ys) (nat_cmp (value xs * 10 ^ length ys) (value ys * 10 ^ length xs)) more)
+
+-- a number below its decade, times a power of ten, is below one that begins a later decade
+decades_apart : (m n s t l k : ℕ) → m < 10 ^ suc l → 10 ^ k ≤ n → suc l + t ≤ k + s → m * 10 ^ t < n * 10 ^ s
+decades_apart m n s t l k mu nl h =
+    let first : m * 10 ^ t < 10 ^ suc l * 10 ^ t = mul-lt-mul_of_pos_right mu (one-le-pow t 10 (omega arith)) in
+    let second : 10 ^ (suc l + t) ≤ 10 ^ (k + s) = pow-le-pow_right (lit< tt) h in
+    let third : 10 ^ k * 10 ^ s ≤ n * 10 ^ s = mul-le-mul_right (10 ^ s) nl in
+    let e : 10 ^ (suc l + t) ≡ 10 ^ suc l * 10 ^ t = pow-add 10 (suc l) t in
+    let f : 10 ^ (k + s) ≡ 10 ^ k * 10 ^ s = pow-add 10 k s in
+    lt_of_lt_of_le first (le_trans (le_of_eq (sym e)) (le_trans second (le_trans (le_of_eq f) third)))
+
+-- Exact order by exponents first: each number lies in its decade.
+pub number_order : (m n s t l k : ℕ) → 10 ^ l ≤ m → m < 10 ^ suc l → 10 ^ k ≤ n → n < 10 ^ suc k → s ≤ 1000 → t ≤ 1000
+    → nat_cmp (m * 10 ^ t) (n * 10 ^ s) ≡ ordering_then (nat_cmp (suc l + 1000 - s) (suc k + 1000 - t)) (nat_cmp (m * 10 ^ suc k) (n * 10 ^ suc l))
+number_order m n s t l k ml mu nl nu hs ht =
+    ⊎_elim (λ (e : suc l + t ≡ suc k + s). same e) (λ h. ⊎_elim (λ (h : suc l + t < suc k + s). below h) (λ (h : suc k + s < suc l + t). above h) h)
+    (cases_order (suc l + t) (suc k + s))
+  where
+    below : suc l + t < suc k + s
+        → nat_cmp (m * 10 ^ t) (n * 10 ^ s) ≡ ordering_then (nat_cmp (suc l + 1000 - s) (suc k + 1000 - t)) (nat_cmp (m * 10 ^ suc k) (n * 10 ^ suc l))
+    below h = rw (
+      nat_cmp-lt (m * 10 ^ t) (n * 10 ^ s) (decades_apart m n s t l k mu nl (omega arith)),
+      nat_cmp-lt (suc l + 1000 - s) (suc k + 1000 - t)
+          (omega arith),
+    ) refl
+
+    above : suc k + s < suc l + t
+        → nat_cmp (m * 10 ^ t) (n * 10 ^ s) ≡ ordering_then (nat_cmp (suc l + 1000 - s) (suc k + 1000 - t)) (nat_cmp (m * 10 ^ suc k) (n * 10 ^ suc l))
+    above h = rw (
+      nat_cmp-gt (m * 10 ^ t) (n * 10 ^ s) (decades_apart n m t s k l nu ml (omega arith)),
+      nat_cmp-gt (suc l + 1000 - s) (suc k + 1000 - t)
+          (omega arith),
+    ) refl
+
+    regroup : suc l + t ≡ suc k + s → m * 10 ^ t * 10 ^ suc l ≡ m * 10 ^ suc k * 10 ^ s
+    regroup e = cc (mul_assoc m (10 ^ t) (10 ^ suc l), pow-add 10 t (suc l), add_comm t (suc l), e, pow-add 10 (suc k) s, mul_assoc m (10 ^ suc k) (10 ^ s))
+
+    same : suc l + t ≡ suc k + s
+        → nat_cmp (m * 10 ^ t) (n * 10 ^ s) ≡ ordering_then (nat_cmp (suc l + 1000 - s) (suc k + 1000 - t)) (nat_cmp (m * 10 ^ suc k) (n * 10 ^ suc l))
+    same e =
+        let exponents : suc l + 1000 - s ≡ suc k + 1000 - t = omega arith in
+        sym (nat_cmp_scaled (10 ^ suc l) (m * 10 ^ t) (n * 10 ^ s) (one-le-pow (suc l) 10 (omega arith)))
+        ∙ ap₂ nat_cmp (regroup e) (mul_right_comm n (10 ^ s) (10 ^ suc l))
+        ∙ nat_cmp_scaled (10 ^ s) (m * 10 ^ suc k) (n * 10 ^ suc l) (one-le-pow s 10 (omega arith))
+        ∙ sym (ap (λ o. ordering_then o (nat_cmp (m * 10 ^ suc k) (n * 10 ^ suc l)))
+        (ap (λ x. nat_cmp x (suc k + 1000 - t)) exponents ∙ nat_cmp_refl (suc k + 1000 - t)))
+
+-- the count of a number's digits says between which powers of ten it lies
+decade : (m : ℕ) → 0 < m → (l : ℕ) × (length (digits_of 10 m) ≡ suc l) × (10 ^ l ≤ m) × (m < 10 ^ suc l)
+decade m h = of_length (length (digits_of 10 m)) refl
+  where
+    upper : m < 10 ^ length (digits_of 10 m)
+    upper = subst (λ x. x < 10 ^ length (digits_of 10 m)) (number_digits_of 10 m (omega arith))
+        (number_lt 10 (digits_of 10 m) (all_below_base_digits_of 10 m (omega arith)))
+
+    of_length : (j : ℕ) → length (digits_of 10 m) ≡ j → (l : ℕ) × (length (digits_of 10 m) ≡ suc l) × (10 ^ l ≤ m) × (m < 10 ^ suc l)
+    of_length zero e = absurd (let u : m < 10 ^ zero = subst (λ j. m < 10 ^ j) e upper in omega arith)
+    of_length (suc l) e = (
+      l,
+      e,
+      ⊎_elim (λ (b : m < 10 ^ l). absurd (let c : length (digits_of 10 m) ≤ l = length-digits_of-le 10 l m (omega arith) b in omega arith))
+          (λ (b : 10 ^ l ≤ m). b) (cases_lt m (10 ^ l)),
+      subst (λ j. m < 10 ^ j) e upper,
+    )
+
+pub Ranks-magnitude_bytes : (m n s t : ℕ) → 0 < m → 0 < n → m < 2 ^ 128 → n < 2 ^ 128 → s < 2 ^ 8 → t < 2 ^ 8
+    → Ranks (magnitude_bytes m s) (magnitude_bytes n t) (nat_cmp (m * 10 ^ t) (n * 10 ^ s))
+unfolding magnitude_bytes
+Ranks-magnitude_bytes m n s t m0 n0 hm hn hs ht =
+    subst (Ranks (magnitude_bytes m s) (magnitude_bytes n t)) exact
+    (Ranks-append (to_be_bytes w16 (count m + 1000 - s)) (to_be_bytes w16 (count n + 1000 - t)) (marked (digits_of 10 m)) (marked (digits_of 10 n))
+    (nat_cmp ((count m + 1000 - s) % 256 ^ 2) ((count n + 1000 - t) % 256 ^ 2))
+    (nat_cmp (value (digits_of 10 m) * 10 ^ count n) (value (digits_of 10 n) * 10 ^ count m))
+    (Ranks-bytes_high_first 2 (count m + 1000 - s) (count n + 1000 - t))
+    (Ranks-marked (digits_of 10 m) (digits_of 10 n) (all_below_base_digits_of 10 m (omega arith)) (all_below_base_digits_of 10 n (omega arith))))
+  where
+    count : ℕ → ℕ
+    count x = length (digits_of 10 x)
+
+    small : (x : ℕ) → x < 2 ^ 128 → count x ≤ 39
+    small x h = length-digits_of-le 10 39 x (omega arith) (omega arith)
+
+    fits : (x r : ℕ) → x < 2 ^ 128 → (count x + 1000 - r) % 256 ^ 2 ≡ count x + 1000 - r
+    fits x r h = let b : count x ≤ 39 = small x h in omega arith
+
+    exact : ordering_then (nat_cmp ((count m + 1000 - s) % 256 ^ 2) ((count n + 1000 - t) % 256 ^ 2))
+        (nat_cmp (value (digits_of 10 m) * 10 ^ count n) (value (digits_of 10 n) * 10 ^ count m)) ≡ nat_cmp (m * 10 ^ t) (n * 10 ^ s)
+    exact =
+        let d = decade m m0 in
+        let e = decade n n0 in
+        ap₂ ordering_then
+        (ap₂ nat_cmp (fits m s hm ∙ ap (λ x. x + 1000 - s) d.1) (fits n t hn ∙ ap (λ x. x + 1000 - t) e.1))
+        (ap₂ nat_cmp (ap₂ (λ x y. x * 10 ^ y) (number_digits_of 10 m (omega arith)) e.1) (ap₂ (λ x y. x * 10 ^ y) (number_digits_of 10 n (omega arith)) d.1))
+        ∙ sym (number_order m n s t d.0 e.0 d.2 d.3 e.2 e.3 (omega arith) (omega arith))
+
+-- ---- bytes and their complements
 
 abbrev AllBytes : List ℕ → Type 0
 AllBytes bs = AllByRecursion (λ b. b < 256) bs
@@ -89,22 +308,16 @@ pub record IsBounded (z : ℤ) (s : ℕ) : Type 0 where
   pub magnitude : nat_abs z < 2 ^ 128
   pub scale : s < 2 ^ 8
 
-pub scaled_pos : (n k : ℕ) → 0 < suc n * 10 ^ k
-scaled_pos n k = mul-pos (omega arith) (one-le-pow k 10 (omega arith))
-
-no_product : (p : ℕ) → 0 * p ≡ 0
-no_product p = omega arith
-
 pub Ranks-number_bytes : (y z : ℤ) (s t : ℕ) → IsBounded y s → IsBounded z t
     → Ranks (number_bytes y s) (number_bytes z t) (int_cmp (y *ℤ pos (10 ^ t)) (z *ℤ pos (10 ^ s)))
-Ranks-number_bytes (pos zero) (pos zero) s t h k = rw (no_product (10 ^ t), no_product (10 ^ s)) (record { ranks = λ r s. refl })
+Ranks-number_bytes (pos zero) (pos zero) s t h k = rw (no_product 0 (10 ^ t) refl, no_product 0 (10 ^ s) refl) (record { ranks = λ r s. refl })
 Ranks-number_bytes (pos zero) (pos (suc n)) s t h k = rw
-    (int_cmp-pos (0 * 10 ^ t) (suc n * 10 ^ s), no_product (10 ^ t), nat_cmp-lt 0 (suc n * 10 ^ s) (scaled_pos n s))
+    (int_cmp-pos (0 * 10 ^ t) (suc n * 10 ^ s), no_product 0 (10 ^ t) refl, nat_cmp-lt 0 (suc n * 10 ^ s) (scaled_pos n s))
     (Ranks-lower 0x80 0x81 [] (magnitude_bytes (suc n) t) (omega arith))
 Ranks-number_bytes (pos zero) (negsuc n) s t h k = rw (int_cmp-above (0 * 10 ^ t) (suc n * 10 ^ s) (scaled_pos n s))
     (Ranks-higher 0x80 0x7f [] (complement (magnitude_bytes (suc n) t)) (omega arith))
 Ranks-number_bytes (pos (suc m)) (pos zero) s t h k = rw
-    (int_cmp-pos (suc m * 10 ^ t) (0 * 10 ^ s), no_product (10 ^ s), nat_cmp-gt (suc m * 10 ^ t) 0 (scaled_pos m t))
+    (int_cmp-pos (suc m * 10 ^ t) (0 * 10 ^ s), no_product 0 (10 ^ s) refl, nat_cmp-gt (suc m * 10 ^ t) 0 (scaled_pos m t))
     (Ranks-higher 0x81 0x80 (magnitude_bytes (suc m) s) [] (omega arith))
 Ranks-number_bytes (pos (suc m)) (pos (suc n)) s t h k = rw (int_cmp-pos (suc m * 10 ^ t) (suc n * 10 ^ s))
     (Ranks-same_head 0x81 (magnitude_bytes (suc m) s) (magnitude_bytes (suc n) t) (nat_cmp (suc m * 10 ^ t) (suc n * 10 ^ s))
@@ -127,12 +340,10 @@ pub bounded_from_fits : (n : Number) → FitsNumber n → IsBounded n.whole n.sc
 bounded_from_fits n h = by_variant n.variant n.whole n.scale h.0
   where
     signed_64 : (z : ℤ) → FitsSigned w64 z → nat_abs z < 2 ^ 128
-    signed_64 (pos n) h = omega arith
-    signed_64 (negsuc n) h = omega arith
+    signed_64 z h = grind arith
 
     signed_128 : (z : ℤ) → FitsSigned w128 z → nat_abs z < 2 ^ 128
-    signed_128 (pos n) h = omega arith
-    signed_128 (negsuc n) h = omega arith
+    signed_128 z h = grind arith
 
     by_variant : (v : Variant) (z : ℤ) (s : ℕ) → FitsParts v z s → IsBounded z s
     by_variant Variant.int64 z s h = record { magnitude = signed_64 z h.0; scale = omega arith }

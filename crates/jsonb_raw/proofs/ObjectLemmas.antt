@@ -1,9 +1,6 @@
 -- Which trees have pairs, and what is made of them.
-use Rattle.std.proofs.Common.{◌≡◌, ◌⊎◌, inl, inr, ℕ, List, [], ◌∷◌, ◌++◌, String, Global, subst, Option, Some, None, Result, Ok, Err, refl, sym, ap, ◌∙◌}
-use Rattle.std.specs.Prelude.{string_bytes}
-use Rattle.std.specs.Borrow.{Bor}
+use Rattle.std.proofs.Common.{◌≡◌, ◌⊎◌, inl, inr, ℕ, List, [], ◌∷◌, ◌++◌, String, Global, subst, Option, Some, None, Result, Ok, Err, refl, sym, ap, ◌∙◌, string_bytes, Bor, Any, arith}
 use Rattle.std.specs.Map.{values_of}
-use Rattle.std.specs.List.{Any}
 use Rattle.jsonb_doc.specs.Tree.{Tree, object, Pairs, keys}
 use Rattle.jsonb_doc.specs.Payload.{Form}
 use Rattle.jsonb_doc.specs.Private.Errors.{IsOutOfMemoryOrTooLarge}
@@ -11,9 +8,8 @@ use Rattle.jsonb_doc.specs.Limits.{IsTooLarge}
 use Rattle.jsonb_doc.specs.declared.error.Error.TheVariants.{OutOfMemory, TooLarge}
 use Rattle.jsonb_doc.specs.ObjectKeys.{TakesKey}
 use Rattle.jsonb_doc.specs.Representation.Iterators.{HasKeysLeft}
-use Rattle.jsonb_doc.proofs.PairsLemmas.{IsKeysOf}
 use Rattle.jsonb_doc.specs.declared.key_iter.KeyIter.{KeyIter}
-use Rattle.jsonb_doc.proofs.PairsLemmas.{IsPairsOf}
+use Rattle.jsonb_doc.proofs.PairsLemmas.{IsPairsOf, IsKeysOf}
 use Rattle.jsonb_doc.specs.declared.error.Error.{Error}
 use Rattle.jsonb_doc.specs.declared.pair_iter.PairIter.{PairIter}
 use Rattle.jsonb_raw.specs.declared.owned.OwnedJsonb.{OwnedJsonb}
@@ -47,12 +43,10 @@ first_key (k ∷ ks) r x after is h =
     record { rest = ks; split = ap (λ j. j ∷ ks) (sym g.0); left = g.1 }
 
 pub no_key_refused : (ks : List (List ℕ)) (r : Result (Bor (List ℕ)) Error) (e : Error) (after : KeyIter) → r ≡ Err e → TakesKey ks (Some r) after → ⊥
-no_key_refused [] r e after is h = h
-no_key_refused (k ∷ ks) r e after is h = rw is at h
+no_key_refused ks r e after h k = grind arith
 
 pub no_more_keys : (ks : List (List ℕ)) (after : KeyIter) → TakesKey ks None after → ks ≡ []
-no_more_keys [] after h = refl
-no_more_keys (k ∷ ks) after h = absurd h
+no_more_keys ks after h = grind arith
 
 -- ---- documents of the values
 

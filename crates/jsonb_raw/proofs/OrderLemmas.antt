@@ -1,7 +1,5 @@
 -- Walks along two containers up to the first difference.
-use Rattle.std.proofs.Common.{◌≡◌, ℕ, ◌+◌, ◌<◌, ◌≤◌, List, [], ◌∷◌, length, Bool, true, false, Option, Some, None, Result, Ok, Err, inl, inr, ◌⊎◌, refl, sym, ap, subst, ◌∙◌, Ordering, Less, Equal, Greater, arith}
-use Rattle.std.specs.Prelude.{IsOkAnd, IfSome, is_some}
-use Rattle.std.specs.Borrow.{Bor}
+use Rattle.std.proofs.Common.{◌≡◌, ℕ, ◌+◌, ◌<◌, ◌≤◌, List, [], ◌∷◌, length, Bool, true, false, Option, Some, None, Result, Ok, Err, inl, inr, ◌⊎◌, refl, sym, ap, subst, ◌∙◌, Ordering, Less, Equal, arith, Bor, IsOkAnd, IfSome, is_some}
 use Rattle.std.specs.Cmp.Lexicographic.{slice_cmp}
 use Rattle.std.specs.Ordering.{ordering_then, is_ne, nat_cmp}
 use Rattle.jsonb_doc.specs.declared.error.Error.{Error}
@@ -33,28 +31,19 @@ first_left None = 0
 first_left (Some p) = 1 + length p.0.content.now
 
 pub first_falls : (o : Option (StoredEntry × StoredEntry)) (n : ℕ) → IfSome o (λ p. length p.0.content.now < n) → first_left o ≤ n
-first_falls None n h = omega arith
-first_falls (Some p) n h = omega arith
+first_falls o n h = grind arith
 
 -- a length that is at most another is below one more
 pub shorter_by_one : (o : Option (StoredEntry × StoredEntry)) (n : ℕ) → IfSome o (λ p. length p.0.content.now ≤ n)
     → IfSome o (λ p. length p.0.content.now < n + 1)
-shorter_by_one None n h = h
-shorter_by_one (Some p) n h = omega arith
-
-pub within : {a b c : ℕ} → a ≤ b → b ≤ c → a ≤ c
-within h k = omega arith
+shorter_by_one o n h = grind arith
 
 -- an order that is not equal decides
 pub then_decided : (o rest : Ordering) → is_ne o ≡ true → ordering_then o rest ≡ o
-then_decided Less rest e = refl
-then_decided Equal rest e = absurd (cc)
-then_decided Greater rest e = refl
+then_decided o rest h = grind arith
 
 pub not_decided : (o : Ordering) → is_ne o ≡ false → o ≡ Equal
-not_decided Less e = absurd (cc)
-not_decided Equal e = refl
-not_decided Greater e = absurd (cc)
+not_decided o h = grind arith
 
 -- the order of trees that are short numbers
 pub numbers_told : (form other_form : Form) (entry other : StoredEntry) (t u : Tree) (m n : ShortNumber) → Stores form entry t → Stores other_form other u
@@ -85,8 +74,7 @@ module _ (form other_form : Form) (deferred : Option (StoredEntry × StoredEntry
 -- with no pair left the order is the whole
 pub none_left : (form other_form : Form) (deferred : Option (StoredEntry × StoredEntry)) (o whole : Ordering)
     → ((p : StoredEntry × StoredEntry) → deferred ≡ Some p → ⊥) → Decides form other_form deferred o whole → o ≡ whole
-none_left form other_form None o whole none h = h
-none_left form other_form (Some p) o whole none h = absurd (none p refl)
+none_left form other_form deferred o whole h k = grind arith
 
 -- two children that are compared
 pub child_told : (form other_form : Form) (deferred : Option (StoredEntry × StoredEntry)) (r : Result Ordering Error) (told rest whole : Ordering)
@@ -130,9 +118,8 @@ children_ended form it it' r after Q takes s = by r s.here (takes s.here s.left)
     by : (r : Option (Option (Bor (List ℕ)) × StoredEntry)) (qs : List EntryPrefix) → TakesPart form qs (Ok r) it'
         → Q (ordering_then (slice_cmp part_cmp [] qs) after) → Q (ended (is_some r) after)
     by None [] h q = q
-    by (Some x) [] h q = absurd h
-    by None (p ∷ qs) h q = absurd h
     by (Some x) (p ∷ qs) h q = q
+    by _ _ h q = absurd h
 
 -- ---- containers
 
@@ -147,19 +134,12 @@ pairs_in_order spec.no_pairs spec.no_pairs = refl
 pairs_in_order spec.no_pairs (spec.pair l u qs) = refl
 pairs_in_order (spec.pair k t ps) spec.no_pairs = refl
 pairs_in_order (spec.pair k t ps) (spec.pair l u qs) =
-    ap (λ o. ordering_then (slice_cmp nat_cmp k l) (ordering_then (tree_cmp t u) o)) (pairs_in_order ps qs)
-    ∙ sym (then_assoc (slice_cmp nat_cmp k l) (tree_cmp t u) (slice_cmp part_cmp (parts_of_pairs ps) (parts_of_pairs qs)))
+    cc (pairs_in_order ps qs, then_assoc (slice_cmp nat_cmp k l) (tree_cmp t u) (slice_cmp part_cmp (parts_of_pairs ps) (parts_of_pairs qs)))
 
 -- two containers of one rank are in the order of their children
 pub parts_in_order : (form other_form : Form) (t u : Tree) (level other : ChildCursor) → rank t ≡ rank u → HasAllLeft form t level → HasAllLeft other_form u other
     → tree_cmp t u ≡ slice_cmp part_cmp (parts t) (parts u)
-parts_in_order form other_form (spec.array ts) (spec.array us) level other e h k = trees_in_order ts us
-parts_in_order form other_form (spec.object ps) (spec.object qs) level other e h k = pairs_in_order ps qs
-parts_in_order form other_form (spec.array ts) (spec.object qs) level other e h k = absurd (omega (arith, e))
-parts_in_order form other_form (spec.object ps) (spec.array us) level other e h k = absurd (omega (arith, e))
-parts_in_order form other_form (spec.array ts) u level other e h k = absurd k
-parts_in_order form other_form (spec.object ps) u level other e h k = absurd k
-parts_in_order form other_form t u level other e h k = absurd h
+parts_in_order form other_form t u level other h k e = grind (arith, trees_in_order, pairs_in_order)
 
 -- an item of a container is of the rank of one
 pub container_rank : (form : Form) (item : Item) (t : Tree) → ((bytes : Bor (List ℕ)) × (item ≡ Array bytes)) ⊎ ((bytes : Bor (List ℕ)) × (item ≡ Object bytes))

@@ -1,28 +1,34 @@
 -- Steps along pairs whose keys are sorted.
-use Rattle.std.proofs.Common.{◌≡◌, ℕ, List, [], ◌∷◌, Some, None, refl, sym, ap, ◌∙◌, Ordering, Less, Equal, Greater}
+use Rattle.std.proofs.Common.{◌≡◌, ℕ, List, [], ◌∷◌, Some, None, refl, sym, ap, ◌∙◌, Ordering, Less, Equal, Greater, Bool, true, false, Option, Result, Ok, Err, subst, not, bytes_eq, Bor, IfOk, arith}
 use Rattle.std.specs.Ordering.{nat_cmp, is_eq, ordering_reverse}
-use Rattle.std.specs.Cmp.Lexicographic.{slice_cmp}
-use Rattle.std.specs.Str.{bytes_eq}
-use Rattle.std.proofs.lemmas.Cmp.{nat_list_cmp_total}
+use Rattle.std.specs.Cmp.Lexicographic.{slice_cmp, nat_list_cmp_total}
 use Rattle.std.proofs.lemmas.Map.Text.{is_eq-slice_cmp}
-use Rattle.jsonb_doc.specs.Tree.{Tree, Pairs, no_pairs, pair, keys, value_under}
+use Rattle.jsonb_doc.specs.Tree.{Tree, Pairs, no_pairs, pair, keys, value_under, object}
 use Rattle.jsonb_doc.specs.Format.{IsBelowFirst}
-use Rattle.jsonb_doc.proofs.BuilderSteps.{AreRising}
+use Rattle.jsonb_doc.proofs.BuilderSteps.{AreRising, keys_rise}
 use Rattle.jsonb_raw.specs.Private.PairSteps.{pairs_above}
+use Rattle.jsonb_doc.proofs.Basics.{below_next}
+use Rattle.std.proofs.lemmas.Slice.Eq.{bytes_eq-Decides}
+use Rattle.std.specs.List.{list_any, list_all}
+use Rattle.jsonb_doc.specs.declared.error.Error.{Error}
+use Rattle.jsonb_doc.specs.declared.entry_iter.EntryIter.{EntryIter}
+use Rattle.jsonb_doc.specs.declared.entry_iter.StoredEntry.{StoredEntry}
+use Rattle.jsonb_doc.specs.Payload.{Form}
+use Rattle.jsonb_doc.specs.Private.Stored.{HasEntriesLeft, GivesEntry, TakesEntry, key_trees}
+use Rattle.jsonb_raw.specs.Private.Cursors.{IsCursorOf, IsPassed, IsBefore, HoldsTexts, has_by}
+use Rattle.jsonb_raw.specs.declared.functions.path.exists.KeyCursor.{KeyCursor}
+use Rattle.jsonb_raw.specs.declared.functions.path.exists.Texts.TheVariants.{Keys}
+use Rattle.std.specs.Bool.{beq}
+use Rattle.jsonb_raw.specs.Exists.{has_text}
 
 pub test_of_order : (k key : List ℕ) (o : Ordering) → slice_cmp nat_cmp k key ≡ o → bytes_eq k key ≡ is_eq o
 test_of_order k key o e = sym (is_eq-slice_cmp k key) ∙ ap is_eq e
 
-pub above_key : (k key : List ℕ) → slice_cmp nat_cmp key k ≡ Less → slice_cmp nat_cmp k key ≡ Greater
-above_key k key less = nat_list_cmp_total.antisymm k key ∙ ap ordering_reverse less
+pub equal_keys : (k key : List ℕ) → slice_cmp nat_cmp k key ≡ Equal → k ≡ key
+equal_keys k key e = (bytes_eq-Decides k key).0 (test_of_order k key Equal e)
 
-pub below_key : (k key : List ℕ) → slice_cmp nat_cmp k key ≡ Greater → slice_cmp nat_cmp key k ≡ Less
-below_key k key greater = nat_list_cmp_total.antisymm key k ∙ ap ordering_reverse greater
-
--- what is below a key is below those after it
-pub below_further : (low k : List ℕ) (ks : List (List ℕ)) → slice_cmp nat_cmp low k ≡ Less → IsBelowFirst k ks → IsBelowFirst low ks
-below_further low k [] less below = tt
-below_further low k (next ∷ ks) less below = nat_list_cmp_total.trans low k next less below
+pub turned : (k key : List ℕ) (o : Ordering) → slice_cmp nat_cmp k key ≡ o → slice_cmp nat_cmp key k ≡ ordering_reverse o
+turned k key o e = nat_list_cmp_total.antisymm key k ∙ ap ordering_reverse e
 
 pub same_below : (k key : List ℕ) (ks : List (List ℕ)) → slice_cmp nat_cmp k key ≡ Equal → IsBelowFirst k ks → IsBelowFirst key ks
 same_below k key [] same below = tt
@@ -32,12 +38,12 @@ same_below k key (next ∷ ks) same below = sym (nat_list_cmp_total.congr k key 
 pub no_value : (key : List ℕ) (ps : Pairs) → IsBelowFirst key (keys ps) → AreRising (keys ps) → value_under key ps ≡ None
 no_value key no_pairs below rising = refl
 no_value key (pair k t ps) below rising =
-    rw (test_of_order k key Greater (above_key k key below)) (no_value key ps (below_further key k (keys ps) below rising.0) rising.1)
+    rw (test_of_order k key Greater (turned key k Less below)) (no_value key ps (below_next key k (keys ps) below rising.0) rising.1)
 
 pub all_above : (key : List ℕ) (ps : Pairs) → IsBelowFirst key (keys ps) → AreRising (keys ps) → pairs_above key ps ≡ ps
 all_above key no_pairs below rising = refl
 all_above key (pair k t ps) below rising =
-    rw (above_key k key below) (ap (pair k t) (all_above key ps (below_further key k (keys ps) below rising.0) rising.1))
+    rw (turned key k Less below) (ap (pair k t) (all_above key ps (below_next key k (keys ps) below rising.0) rising.1))
 
 module _ (key k : List ℕ) (t : Tree) (ps : Pairs) where
   pub value_after_less : slice_cmp nat_cmp k key ≡ Less → value_under key (pair k t ps) ≡ value_under key ps
@@ -53,4 +59,120 @@ module _ (key k : List ℕ) (t : Tree) (ps : Pairs) where
   above_at_equal e rising = rw e (all_above key ps (same_below k key (keys ps) e rising.0) rising.1)
 
   pub no_value_at_greater : slice_cmp nat_cmp k key ≡ Greater → AreRising (k ∷ keys ps) → value_under key (pair k t ps) ≡ None
-  no_value_at_greater e rising = no_value key (pair k t ps) (below_key k key e) rising
+  no_value_at_greater e rising = no_value key (pair k t ps) (turned k key Greater e) rising
+
+-- ---- how a cursor goes on along keys
+
+-- a key below all of them is none of them
+none_below : (key : List ℕ) (ks : List (List ℕ)) → IsBelowFirst key ks → AreRising ks → list_any (λ k. bytes_eq k key) ks ≡ false
+none_below key [] below rising = refl
+none_below key (k ∷ ks) below rising =
+    rw (test_of_order k key Greater (turned key k Less below)) (none_below key ks (below_next key k ks below rising.0) rising.1)
+
+passed_before : (passed : Option (Bor (List ℕ))) (k name : List ℕ) (ks : List (List ℕ)) → IsBefore passed (k ∷ ks) → slice_cmp nat_cmp k name ≡ Less
+    → IsPassed passed name
+passed_before None k name ks before less = tt
+passed_before (Some key) k name ks before less = nat_list_cmp_total.trans key.now k name before less
+
+module _ (form : Form) (ks : List (List ℕ)) (c : KeyCursor) (ahead' : EntryIter) (h : IsCursorOf form c ks) where
+  module _ (r : Result StoredEntry Error) (x : StoredEntry) (e : r ≡ Ok x) (n : GivesEntry c.left (Some r) ahead') where
+    -- the key that was given is the first of those after the cursor
+    pub record FirstKey : Type 0 where
+      pub others : List (List ℕ)
+      pub whole : h.behind ≡ x.content.now ∷ others
+      pub left : HasEntriesLeft form ahead' (key_trees others)
+
+    pub first_key : FirstKey
+    first_key = go h.behind refl
+        (subst (λ (y : Result StoredEntry Error). TakesEntry form (key_trees h.behind) (Some y) ahead') e (n.takes form (key_trees h.behind) h.left))
+      where
+        go : (behind : List (List ℕ)) → h.behind ≡ behind → TakesEntry form (key_trees behind) (Some (Ok x)) ahead' → FirstKey
+        go [] is t = absurd t
+        go (k ∷ rest) is t = record { others = rest; whole = is ∙ ap (λ (l : List ℕ). l ∷ rest) (sym t.0.content.1); left = t.1 }
+
+    pub cursor_next : IsCursorOf form (record { all = c.all; left = ahead'; last_key = Some x.content }) ks
+    cursor_next =
+        let f = first_key in
+        let are = rw f.whole at h.are_keys in
+        let before = rw f.whole at h.before in
+        record {
+          all_keys = h.all_keys;
+          all = h.all;
+          behind = f.others;
+          are_keys = are.2;
+          left = f.left;
+          before = are.1;
+          decides = λ name less.
+              let whole = rw (f.whole, test_of_order x.content.now name Less less) at
+              (h.decides name (passed_before c.last_key x.content.now name f.others before less)) in
+              whole;
+        }
+
+    -- the key is the name
+    pub cursor_meets : (name : List ℕ) → IsPassed c.last_key name → slice_cmp nat_cmp x.content.now name ≡ Equal → true ≡ list_any (λ key. bytes_eq key name) ks
+    cursor_meets name passed same =
+        let f = first_key in
+        rw (f.whole, test_of_order x.content.now name Equal same) at (h.decides name passed)
+
+    -- the key is above the name, and so are those after it
+    pub cursor_misses : (name : List ℕ) → IsPassed c.last_key name → slice_cmp nat_cmp x.content.now name ≡ Greater
+        → false ≡ list_any (λ key. bytes_eq key name) ks
+    cursor_misses name passed above =
+        let f = first_key in
+        let rising = keys_rise (x.content.now ∷ f.others) (rw f.whole at h.are_keys) in
+        let none : list_any (λ key. bytes_eq key name) (x.content.now ∷ f.others)
+        ≡ false = none_below name (x.content.now ∷ f.others) (turned x.content.now name Greater above) rising in
+        sym none ∙ (rw f.whole at (h.decides name passed))
+
+  -- no key is after the cursor
+  pub cursor_ends : GivesEntry c.left None ahead' → (name : List ℕ) → IsPassed c.last_key name → false ≡ list_any (λ key. bytes_eq key name) ks
+  cursor_ends n name passed = go h.behind (n.takes form (key_trees h.behind) h.left) (h.decides name passed)
+    where
+      go : (behind : List (List ℕ)) → TakesEntry form (key_trees behind) None ahead'
+          → list_any (λ key. bytes_eq key name) behind ≡ list_any (λ key. bytes_eq key name) ks → false ≡ list_any (λ key. bytes_eq key name) ks
+      go [] t whole = whole
+      go (k ∷ rest) t whole = absurd t
+
+  no_error : {G : Type 0} (error : Error) (behind : List (List ℕ)) → TakesEntry form (key_trees behind) (Some (Err error)) ahead' → G
+  no_error error [] t = absurd t
+  no_error error (k ∷ rest) t = absurd t
+
+  -- no error is given while keys are left
+  pub cursor_error : {G : Type 0} (r : Result StoredEntry Error) (error : Error) → r ≡ Err error → GivesEntry c.left (Some r) ahead' → G
+  cursor_error r error e n =
+      no_error error h.behind (subst (λ (y : Result StoredEntry Error). TakesEntry form (key_trees h.behind) (Some y) ahead') e
+      (n.takes form (key_trees h.behind) h.left))
+
+-- the strings are those of the same tree after a search
+pub still_texts : (form : Form) (t : Tree) (ps : Pairs) (s : KeyCursor) (r : Result Bool Error) → t ≡ object ps
+    → IfOk r (λ b. IsCursorOf form s (keys ps)) → IfOk r (λ b. HoldsTexts form (Keys s) t)
+still_texts form t ps s (Ok b) is h = (ps, is, h)
+still_texts form t ps s (Err e) is h = tt
+
+-- ---- one more that is tested
+
+pub any_first : {A : Type 0} (p : A → Bool) (x : A) (xs : List A) (all : Bool) → p x ≡ true → list_any p (x ∷ xs) ≡ all → true ≡ all
+any_first p x xs all test e = rw test at e
+
+pub any_next : {A : Type 0} (p : A → Bool) (x : A) (xs : List A) (all : Bool) → p x ≡ false → list_any p (x ∷ xs) ≡ all → list_any p xs ≡ all
+any_next p x xs all test e = rw test at e
+
+all_first : {A : Type 0} (p : A → Bool) (x : A) (xs : List A) (all : Bool) → p x ≡ false → list_all p (x ∷ xs) ≡ all → false ≡ all
+all_first p x xs all test e = rw test at e
+
+all_next : {A : Type 0} (p : A → Bool) (x : A) (xs : List A) (all : Bool) → p x ≡ true → list_all p (x ∷ xs) ≡ all → list_all p xs ≡ all
+all_next p x xs all test e = rw test at e
+
+-- a name that decides
+pub decided : (found has : Bool) (t : Tree) (name : List ℕ) (names : List (List ℕ)) (all : Bool) → beq has found ≡ true → has ≡ has_text name t
+    → has_by found (name ∷ names) t ≡ all → found ≡ all
+decided found has t name names all h k e = grind (arith, any_first, all_first)
+
+-- a name that leaves it to the others
+pub left_open : (found has : Bool) (t : Tree) (name : List ℕ) (names : List (List ℕ)) (all : Bool) → beq has found ≡ false → has ≡ has_text name t
+    → has_by found (name ∷ names) t ≡ all → has_by found names t ≡ all
+left_open found has t name names all h k e = grind (arith, any_next, all_next)
+
+-- no name is left
+pub none_decided : (found : Bool) (t : Tree) → has_by found [] t ≡ not found
+none_decided found t = grind arith

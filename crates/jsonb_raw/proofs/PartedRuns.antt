@@ -1,23 +1,99 @@
--- The pairs of an object that a set parts, as runs.
-use Rattle.std.proofs.Common.{◌≡◌, ℕ, ◌+◌, Bool, true, false, not, List, [], ◌∷◌, ◌++◌, length, take, drop, map, Option, Some, None, refl, sym, ap, ◌∙◌, arith, append_assoc, append-nil, length-append}
+-- Names among the keys of an object, and the runs of its members that have one or have none.
+use Rattle.std.proofs.Common.{◌≡◌, ℕ, true, false, List, [], ◌∷◌, Option, Some, None, Ordering, refl, sym, ◌∙◌, nat_cmp, option_copied, Bor, is_eq, ◌+◌, Bool, not, ◌++◌, length, take, drop, map, ap, arith, append_assoc, append-nil, length-append, IsUtf8}
+use Rattle.std.specs.Cmp.Lexicographic.{slice_cmp, nat_list_cmp_total}
+use Rattle.std.specs.List.{AllByRecursion}
+use Rattle.std.specs.List.Sorted.{IsStrictlySortedBy}
+use Rattle.std.specs.Map.Iter.{TakesFirst as TakesName, deref}
+use Rattle.std.specs.declared.cmp.Ordering.TheVariants.{Less, Equal, Greater}
+use Rattle.jsonb_doc.specs.Format.{IsBelowFirst, AreKeys}
+use Rattle.jsonb_raw.specs.Objects.{TextSet, is_in, with_pairs}
+use Rattle.jsonb_raw.specs.Private.Names.{first_and_others, is_among, AreSorted, IsNotBelow, DecideFrom, DecideForKeys, PartsFirst, all_or_none}
+use Rattle.jsonb_raw.proofs.PairStepLemmas.{turned}
 use Rattle.std.specs.Map.{keys_of, values_of}
 use Rattle.std.specs.Bool.{beq}
-use Rattle.std.specs.Borrow.{Bor}
-use Rattle.std.specs.Str.{IsUtf8}
 use Rattle.jsonb_doc.specs.Tree.{Tree, text, object, Pairs, members}
 use Rattle.jsonb_doc.specs.Payload.{Form}
-use Rattle.jsonb_doc.specs.Format.{AreKeys}
 use Rattle.jsonb_doc.proofs.BuilderSteps.{AreRising, AreRising-filter}
 use Rattle.jsonb_doc.specs.declared.cursor.Entries.{Entries}
 use Rattle.jsonb_doc.specs.declared.entry_iter.StoredEntry.{StoredEntry}
 use Rattle.jsonb_raw.specs.declared.functions.parts.PairEntries.{PairEntries}
 use Rattle.jsonb_raw.specs.declared.functions.parts.PairRuns.{PairRuns}
-use Rattle.jsonb_raw.specs.Objects.{TextSet, is_in, with_pairs}
 use Rattle.jsonb_raw.specs.Private.PairSteps.{parted}
-use Rattle.jsonb_raw.specs.Private.Names.{DecideFrom, DecideForKeys, PartsFirst, all_or_none}
 use Rattle.jsonb_raw.specs.Private.Entries.{HoldTrees, HoldPairs, ArePairsOf, TakesFirst, PairsHeld}
-use Rattle.jsonb_raw.proofs.NameLemmas.{names_passed}
 use Rattle.jsonb_raw.proofs.RunLemmas.{no_pairs_held}
+
+-- the first of the names that an iterator had left, and the others
+pub name_taken : (names others : List (Bor (List ℕ))) (r : Option (Bor (Bor (List ℕ)))) (first : Option (Bor (List ℕ))) → first ≡ option_copied r
+    → TakesName deref names r others → first_and_others first others ≡ names
+name_taken h k e = grind arith
+
+-- no key is below itself
+not_below_itself : (key : List ℕ) → IsNotBelow key key
+not_below_itself key less = let flip = turned key key Less less in cc
+
+-- a name below the key is none of the keys from it on
+other_name : (key later : List ℕ) (name : Bor (List ℕ)) → slice_cmp nat_cmp name.now key ≡ Less → IsNotBelow key later
+    → is_eq (slice_cmp nat_cmp later name.now) ≡ false
+other_name key later name less above = go (slice_cmp nat_cmp later name.now) refl
+  where
+    go : (o : Ordering) → slice_cmp nat_cmp later name.now ≡ o → is_eq o ≡ false
+    go Less e = refl
+    go Equal e = absurd (above (nat_list_cmp_total.congr later name.now key e ∙ less))
+    go Greater e = refl
+
+-- the first name, which is below the key, is passed
+pub first_passed : (set : TextSet) (key : List ℕ) (names left : List (Bor (List ℕ))) (name : Bor (List ℕ)) → Less ≡ slice_cmp nat_cmp name.now key
+    → DecideFrom set key (name ∷ left) → names ≡ left → DecideFrom set key names
+unfolding IsStrictlySortedBy
+first_passed set key names left name below d is = rw is (record {
+  sorted = d.sorted.1;
+  agree = λ later above. rw (other_name key later name (sym below) above) at (d.agree later above);
+})
+
+none_above : (key name : List ℕ) (others : List (Bor (List ℕ))) → slice_cmp nat_cmp key name ≡ Less
+    → AllByRecursion (λ (other : Bor (List ℕ)). slice_cmp nat_cmp name other.now ≡ Less) others → is_among key others ≡ false
+none_above key name [] below all = refl
+none_above key name (other ∷ others) below all =
+    rw (nat_list_cmp_total.trans key name other.now below all.0) (none_above key name others below all.1)
+
+module _ (set : TextSet) (key : List ℕ) (name : Bor (List ℕ)) (names : List (Bor (List ℕ))) (d : DecideFrom set key (name ∷ names)) where
+  agreed : is_in set key ≡ is_among key (name ∷ names)
+  agreed = d.agree key (not_below_itself key)
+
+  -- the first name is the key
+  pub first_found : Equal ≡ slice_cmp nat_cmp name.now key → true ≡ is_in set key
+  first_found e = rw agreed (rw (turned name.now key Equal (sym e)) refl)
+
+  -- the first name is above the key, and so are the others
+  pub first_above : Greater ≡ slice_cmp nat_cmp name.now key → false ≡ is_in set key
+  unfolding IsStrictlySortedBy
+  first_above e =
+      let below : slice_cmp nat_cmp key name.now ≡ Less = turned name.now key Greater (sym e) in
+      rw agreed (rw below (sym (none_above key name.now names below d.sorted.0)))
+
+pub none_decides : (set : TextSet) (key : List ℕ) → DecideFrom set key [] → false ≡ is_in set key
+none_decides set key d = sym (d.agree key (not_below_itself key))
+
+pub all_decide : (set : TextSet) (names : List (Bor (List ℕ))) → AreSorted set.keys → names ≡ set.keys → (key : List ℕ) → DecideFrom set key names
+all_decide set names sorted is key = rw is (record { sorted = sorted; agree = λ later above. refl })
+
+-- ---- names and keys
+
+pub names_begun : (set : TextSet) (names : List (Bor (List ℕ))) (ks : List (List ℕ)) → ((key : List ℕ) → DecideFrom set key names)
+    → DecideForKeys set names ks
+names_begun set names [] d = tt
+names_begun set names (key ∷ ks) d = d key
+
+-- after a key the names decide for the keys above it
+pub names_passed : (set : TextSet) (names : List (Bor (List ℕ))) (key : List ℕ) (ks : List (List ℕ)) → IsBelowFirst key ks → DecideFrom set key names
+    → DecideForKeys set names ks
+names_passed set names key [] below d = tt
+names_passed set names key (next ∷ ks) below d = record {
+  sorted = d.sorted;
+  agree = λ later above. d.agree later (λ (less : slice_cmp nat_cmp later key ≡ Less). above (nat_list_cmp_total.trans later key next less below));
+}
+
+-- ---- the pairs of an object that a set parts, as runs
 
 abbrev Member : Type 0
 Member = List ℕ × Tree
@@ -26,18 +102,13 @@ Member = List ℕ × Tree
 
 parted_first : (wanted is : Bool) (set : TextSet) (p : Member) (ps : List Member) → is_in set p.0 ≡ is
     → parted wanted set (p ∷ ps) ≡ all_or_none (beq is wanted) (p ∷ []) ++ parted wanted set ps
-parted_first true true set p ps same = rw same refl
-parted_first true false set p ps same = rw same refl
-parted_first false true set p ps same = rw same refl
-parted_first false false set p ps same = rw same refl
+parted_first wanted is set p ps h = grind arith
 
 none_of_none : (b : Bool) → all_or_none b [] ≡ []
-none_of_none true = refl
-none_of_none false = refl
+none_of_none b = grind arith
 
 both_runs : (b : Bool) (xs ys : List Member) → all_or_none b xs ++ all_or_none b ys ≡ all_or_none b (xs ++ ys)
-both_runs true xs ys = refl
-both_runs false xs ys = refl
+both_runs b xs ys = grind arith
 
 -- no member is in the run yet
 run_begun : (form : Form) (set : TextSet) (names : List (Bor (List ℕ))) (is : Bool) (left : Entries) (ps : List Member)
@@ -187,8 +258,7 @@ module _ (form : Form) (runs : PairRuns) (left : PairEntries) (wanted : Bool) (s
       rest = f.others;
       runs_hold = held;
       pairs = record { names = f.hold; parts = rw (f.joined, f.size, drop_values f.run f.others) at behind };
-      joined = append_assoc m.held (all_or_none (beq is wanted) f.run) (parted wanted set f.others)
-          ∙ ap (λ (l : List Member). m.held ++ l) (sym (f.parts wanted)) ∙ m.joined;
+      joined = cc (append_assoc m.held (all_or_none (beq is wanted) f.run) (parted wanted set f.others), f.parts wanted);
       decide = f.decide;
       are_keys = f.are_keys;
     }
@@ -197,8 +267,7 @@ module _ (form : Form) (runs : PairRuns) (left : PairEntries) (wanted : Bool) (s
   parting_done none = sym (append-nil m.held) ∙ ap (λ (l : List Member). m.held ++ l) (sym (rw none (nothing wanted))) ∙ m.joined
     where
       nothing : (b : Bool) → parted b set [] ≡ []
-      nothing true = refl
-      nothing false = refl
+      nothing b = grind arith
 
 pub parted_rising : (wanted : Bool) (set : TextSet) (ps : List Member) → AreRising (keys_of ps) → AreRising (keys_of (parted wanted set ps))
 parted_rising true set ps rising = AreRising-filter (λ p. is_in set p.0) ps rising
@@ -206,10 +275,7 @@ parted_rising false set ps rising = AreRising-filter (λ p. not (is_in set p.0))
 
 -- what a test of two Booleans determines
 pub same_truth : (a b : Bool) → not (beq a b) ≡ false → a ≡ b
-same_truth true true same = refl
-same_truth true false same = absurd (cc)
-same_truth false true same = absurd (cc)
-same_truth false false same = refl
+same_truth a b same = grind arith
 
 -- ---- objects by their entries
 
@@ -220,5 +286,4 @@ pairs_there form _ found pairs is h = absurd (rw is at h)
 
 pub no_pairs_there : (form : Form) (t : Tree) (found : Option PairEntries) (change : List Member → List Member) → found ≡ None → ArePairsOf form t found
     → with_pairs change t ≡ None
-no_pairs_there form (object ps) found change is h = absurd (rw is at h)
-no_pairs_there form _ found change is h = refl
+no_pairs_there form t found change h k = grind arith

@@ -1,62 +1,181 @@
--- The position of the child that a step selects, found by its index or by its key.
-use Rattle.std.proofs.Common.{◌≡◌, ℕ, suc, ◌+◌, ℤ, true, false, List, [], ◌∷◌, length, Option, Some, None, Result, IsOkAnd, refl, ap, ◌∙◌, arith, Global, MatchResult}
-use Rattle.std.specs.Prelude.{position, option_map}
-use Rattle.std.specs.Borrow.{Bor}
-use Rattle.std.specs.Str.{bytes_eq}
+-- The positions of the children that steps and indices select.
+use Rattle.std.proofs.Common.{◌≡◌, ℕ, suc, ◌+◌, ◌<◌, Bool, true, false, cond, nat_lt, List, ◌∷◌, length, Option, Some, None, refl, ◌∙◌, arith, slice_get, sym, ℤ, [], Result, IsOkAnd, Global, MatchResult, is_some, bytes_eq, position, option_and_then, option_map, map, ap}
+use Rattle.std.specs.List.{position_or_len}
+use Rattle.std.proofs.lemmas.Bool.Decides.{nat_tests}
+use Rattle.jsonb_doc.specs.Tree.{Tree, object, Pairs, no_pairs, pair, elements, keys, values, value_under, field_of, array, Trees, children_of, trees_in, text}
+use Rattle.jsonb_keypath.specs.KeyPathGrammar.{Key, index, quoted_name, unquoted_name}
+use Rattle.jsonb_raw.specs.Places.{children, asked_key, child_position, location, tree_at, tree_at_steps, index_position}
+use Rattle.jsonb_raw.specs.Private.Steps.{child_met}
+use Rattle.jsonb_doc.specs.Answer.{SameOption, IsOutOfMemory}
+use Rattle.jsonb_keypath.specs.declared.key_path.KeyPath.{KeyPath}
+use Rattle.jsonb_keypath.specs.KeyPathViews.{key_view}
+use Rattle.jsonb_keypath.specs.Private.KeysView.{keys_view}
 use Rattle.std.specs.Fmt.{signed_decimal}
 use Rattle.std.specs.Cow.{cow_str_bytes}
 use Rattle.std.specs.declared.borrow.CowStr.{CowStr}
-use Rattle.jsonb_doc.specs.Tree.{Tree, array, object, Trees, no_trees, tree, Pairs, count, elements, keys, children_of}
-use Rattle.jsonb_doc.specs.Payload.{any}
-use Rattle.jsonb_doc.specs.Format.{Decodes}
-use Rattle.jsonb_doc.specs.Item.{StandsFor}
-use Rattle.jsonb_doc.specs.Answer.{IsOutOfMemory}
-use Rattle.jsonb_doc.specs.declared.item.Item.{Item}
-use Rattle.jsonb_doc.specs.declared.item.Item.TheVariants as item
-use Rattle.jsonb_keypath.specs.declared.key_path.KeyPath.{KeyPath}
+use Rattle.jsonb_doc.specs.Payload.{Form}
 use Rattle.jsonb_keypath.specs.declared.key_path.KeyPath.TheVariants.{Index, QuotedName, Name}
-use Rattle.jsonb_keypath.specs.KeyPathGrammar.{Key, index, quoted_name, unquoted_name}
-use Rattle.jsonb_keypath.specs.KeyPathViews.{key_view}
 use Rattle.jsonb_doc.specs.declared.error.Error.{Error}
-use Rattle.jsonb_raw.specs.Places.{asked_key, index_position, child_position}
 use Rattle.jsonb_raw.proofs.AnswerLemmas.{answered}
-use Rattle.jsonb_raw.proofs.PlaceLemmas.{position-cons}
+use Rattle.jsonb_doc.specs.Representation.Positions.{Locates, HasSpotsLeft}
+use Rattle.jsonb_doc.specs.declared.spot.Spot.{Spot}
+use Rattle.jsonb_doc.specs.declared.spot_iter.SpotIter.{SpotIter}
+use Rattle.std.specs.Prelude.{position, option_map}
+use Rattle.std.specs.Str.{bytes_eq}
+use Rattle.jsonb_doc.specs.declared.layout.HeaderKind.TheVariants as header_kind
+use Rattle.jsonb_doc.proofs.TreeLists.{keys_of-members}
+use Rattle.jsonb_raw.specs.declared.functions.parts.ContainerEntries.{ContainerEntries}
+use Rattle.jsonb_raw.specs.Private.Entries.{HoldTrees, AreEntriesOf}
+
+-- ---- the child that a step selects
+
+below : (m n : ℕ) → m < n → nat_lt m n ≡ true
+below m n h = grind (arith, nat_tests)
+
+shifted : (n len : ℕ) (b : Bool) → nat_lt n len ≡ b
+    → cond (nat_lt (1 + n) (suc len)) (Some (1 + n)) None ≡ option_map suc (cond (nat_lt n len) (Some n) None)
+shifted n len true e =
+    let e' : nat_lt (1 + n) (suc len) ≡ true = grind (arith, nat_tests) in
+    let one : 1 + n ≡ suc n = omega arith in
+    rw (e, e', one) refl
+shifted n len false e =
+    let e' : nat_lt (1 + n) (suc len) ≡ false = grind (arith, nat_tests) in rw (e, e') refl
+
+-- the first position at which a test holds, in a list with one more at the front
+pub position-cons : {A : Type 0} (p : A → Bool) (x : A) (xs : List A) (b : Bool) → p x ≡ b
+    → position p (x ∷ xs) ≡ cond b (Some 0) (option_map suc (position p xs))
+position-cons p x xs true e = let e' = below 0 (suc (length xs)) (omega arith) in rw (e, e') refl
+position-cons p x xs false e = rw e (shifted (position_or_len p xs) (length xs) _ refl)
+
+-- the value at the position of a key is the value under it
+pub value_at_key : (name : List ℕ) (ps : Pairs)
+    → option_and_then (λ n. slice_get (elements (values ps)) n) (position (λ key. bytes_eq key name) (keys ps)) ≡ value_under name ps
+value_at_key name no_pairs = refl
+value_at_key name (pair key value ps) = by (value_at_key name ps) (bytes_eq key name) refl
+  where
+    past : (o : Option ℕ)
+        → option_and_then (λ n. slice_get (value ∷ elements (values ps)) n) (option_map suc o) ≡ option_and_then (λ n. slice_get (elements (values ps)) n) o
+    past o = grind arith
+
+    by : option_and_then (λ n. slice_get (elements (values ps)) n) (position (λ key. bytes_eq key name) (keys ps)) ≡ value_under name ps
+        → (b : Bool) → bytes_eq key name ≡ b
+        → option_and_then (λ n. slice_get (value ∷ elements (values ps)) n) (position (λ key. bytes_eq key name) (key ∷ keys ps))
+        ≡ value_under name (pair key value ps)
+    by h b k = grind (arith, position-cons, past)
+
+-- a step selects the value of its key in an object
+pub field_met : (step : Key) (ps : Pairs) → child_met step (object ps) ≡ value_under (asked_key step) ps
+field_met (index i) ps = value_at_key _ ps
+field_met (quoted_name name) ps = value_at_key name ps
+field_met (unquoted_name name) ps = value_at_key name ps
+
+pub plain_met : (name : List ℕ) (t : Tree) → child_met (unquoted_name name) t ≡ field_of name t
+plain_met name (object ps) = value_at_key name ps
+plain_met name _ = refl
+
+pub quoted_met : (name : List ℕ) (t : Tree) → child_met (quoted_name name) t ≡ field_of name t
+quoted_met name (object ps) = value_at_key name ps
+quoted_met name _ = refl
+
+-- ---- several steps
+
+-- the steps select what the others select in the child that the first selects
+pub step_by_step : (step : Key) (steps : List Key) (t : Tree)
+    → tree_at_steps (step ∷ steps) t ≡ option_and_then (tree_at_steps steps) (child_met step t)
+step_by_step step steps t = at_position (child_position step t)
+  where
+    join : (n : ℕ) (child : Tree) → slice_get (children t) n ≡ Some child → (o : Option (List ℕ))
+        → option_and_then (λ ns. tree_at ns t) (option_map (λ ns. n ∷ ns) o) ≡ option_and_then (λ ns. tree_at ns child) o
+    join n child h o = grind arith
+
+    at_child : (n : ℕ) (o : Option Tree) → slice_get (children t) n ≡ o
+        → option_and_then (λ ns. tree_at ns t) (option_map (λ ns. n ∷ ns) (option_and_then (location steps) o)) ≡ option_and_then (tree_at_steps steps) o
+    at_child n o h = grind (arith, join)
+
+    at_position : (o : Option ℕ)
+        → option_and_then (λ ns. tree_at ns t)
+        (option_and_then (λ n. option_map (λ ns. n ∷ ns) (option_and_then (location steps) (slice_get (children t) n))) o)
+        ≡ option_and_then (tree_at_steps steps) (option_and_then (λ n. slice_get (children t) n) o)
+    at_position None = refl
+    at_position (Some n) = at_child n (slice_get (children t) n) refl
+
+-- ---- one step of a walk along a key path
+
+pub next_child : (step : KeyPath) (steps now : List KeyPath) (here : Tree) (wanted : Option Tree) → now ≡ step ∷ steps
+    → tree_at_steps (keys_view now) here ≡ wanted
+    → option_and_then (tree_at_steps (keys_view steps)) (child_met (key_view step) here) ≡ wanted
+next_child step steps now here wanted s e = sym (step_by_step (key_view step) (keys_view steps) here) ∙ rw s at e
+
+pub none_same : {A : Type 0} (R : A → Tree → Type 0) (found : Option A) (wanted : Option Tree) → found ≡ None → SameOption R found wanted → wanted ≡ None
+none_same R (Some a) wanted n h = cc
+none_same R None None n h = refl
+none_same R None (Some t) n h = absurd h
+
+pub some_same : {A : Type 0} (R : A → Tree → Type 0) (a : A) (found : Option A) (wanted : Option Tree) → found ≡ Some a → SameOption R found wanted
+    → (t : Tree) × R a t × (Some t ≡ wanted)
+some_same R a found None n h = absurd (rw n at h)
+some_same R a found (Some t) n h = (t, rw n at h, refl)
+
+pub none_met : {A : Type 0} (R : A → Tree → Type 0) (next : Tree → Option Tree) (found : Option A) (child wanted : Option Tree)
+    → found ≡ None → SameOption R found child → option_and_then next child ≡ wanted → wanted ≡ None
+none_met R next (Some a) child wanted n h e = cc
+none_met R next None None wanted n h e = sym e
+none_met R next None (Some t) wanted n h e = absurd h
+
+pub some_met : {A : Type 0} (R : A → Tree → Type 0) (next : Tree → Option Tree) (a : A) (found : Option A) (child wanted : Option Tree)
+    → found ≡ Some a → SameOption R found child → option_and_then next child ≡ wanted → (t : Tree) × R a t × (next t ≡ wanted)
+some_met R next a found None wanted n h e = absurd (rw n at h)
+some_met R next a found (Some t) wanted n h e = (t, rw n at h, e)
+
+-- ---- containers of a kind
+
+-- Holds if the entries are those of these elements.
+pub record OfArray (form : Form) (t : Tree) (e : ContainerEntries) : Type 0 where
+  pub trees : Trees
+  pub is : t ≡ array trees
+  pub hold : HoldTrees form e.values (elements trees)
+
+-- Holds if the entries are those of these members.
+pub record OfObject (form : Form) (t : Tree) (e : ContainerEntries) : Type 0 where
+  pub pairs : Pairs
+  pub is : t ≡ object pairs
+  pub hold : HoldTrees form e.keys (map text (keys pairs))
+
+pub of_array : (form : Form) (t : Tree) (e : ContainerEntries) → e.kind ≡ header_kind.Array → AreEntriesOf form t e → OfArray form t e
+of_array form (array ts) e is h = record { trees = ts; is = refl; hold = h.2 }
+of_array form (object ps) e is h = let bad : header_kind.Array ≡ header_kind.Object = sym is ∙ h.0 in absurd (cc)
+of_array form _ e is h = absurd h
+
+pub of_object : (form : Form) (t : Tree) (e : ContainerEntries) → e.kind ≡ header_kind.Object → AreEntriesOf form t e → OfObject form t e
+of_object form (array ts) e is h = let bad : header_kind.Object ≡ header_kind.Array = sym is ∙ h.0 in absurd (cc)
+of_object form (object ps) e is h = record { pairs = ps; is = refl; hold = rw (keys_of-members ps) at h.2.names }
+of_object form _ e is h = absurd h
+
+pub of_neither : (form : Form) (t : Tree) (e : ContainerEntries) → e.kind ≡ header_kind.Scalar → AreEntriesOf form t e → ⊥
+of_neither form (array ts) e is h = let bad : header_kind.Scalar ≡ header_kind.Array = sym is ∙ h.0 in absurd (cc)
+of_neither form (object ps) e is h = let bad : header_kind.Scalar ≡ header_kind.Object = sym is ∙ h.0 in absurd (cc)
+of_neither form _ e is h = h
 
 -- ---- indices
 
-pub count_elements : (ts : Trees) → count ts ≡ length (elements ts)
-count_elements no_trees = refl
-count_elements (tree t ts) = ap suc (count_elements ts)
-
-pub met_in_array : (j i : ℤ) (x : Item) (b : Bor (List ℕ)) (t : Tree) (step : KeyPath) (r : Result (Option ℕ) Error) → j ≡ i → x ≡ item.Array b
-    → step ≡ Index i → StandsFor any x t
-    → ((ts : Trees) → Decodes any b.now (array ts) → IsOkAnd r (λ found. found ≡ index_position (length (elements ts)) j))
-    → MatchResult r (λ found. found ≡ child_position (key_view step) t) IsOutOfMemory
-met_in_array j i x b t step r same is step_is stands h =
-    let s = rw is at stands in
-    rw (step_is, s.1) (answered (λ found. found ≡ index_position (length (elements s.0)) i) r (rw same at (h s.0 s.2)))
+pub met_in_array : (form : Form) (j i : ℤ) (t : Tree) (e : ContainerEntries) (step : KeyPath) (found : Option ℕ) → j ≡ i → step ≡ Index i
+    → OfArray form t e → ((ts : List Tree) → HoldTrees form e.values ts → found ≡ index_position (length ts) j)
+    → found ≡ child_position (key_view step) t
+met_in_array form j i t e step found same step_is a h = rw (step_is, a.is) (rw same at (h (elements a.trees) a.hold))
 
 -- an array has no child for a name
-pub name_at_array : (x : Item) (b : Bor (List ℕ)) (t : Tree) (step : KeyPath) → x ≡ item.Array b → ((i : ℤ) → step ≡ Index i → ⊥) → StandsFor any x t
+pub name_at_array : (form : Form) (t : Tree) (e : ContainerEntries) (step : KeyPath) → ((i : ℤ) → step ≡ Index i → ⊥) → OfArray form t e
     → None ≡ child_position (key_view step) t
-name_at_array x b t (Index i) is no_index stands = absurd (no_index i refl)
-name_at_array x b t (QuotedName name) is no_index stands = let s = rw is at stands in rw s.1 refl
-name_at_array x b t (Name name) is no_index stands = let s = rw is at stands in rw s.1 refl
+name_at_array form t e (Index i) no_index a = absurd (no_index i refl)
+name_at_array form t e (QuotedName name) no_index a = rw a.is refl
+name_at_array form t e (Name name) no_index a = rw a.is refl
 
-nothing_at : (step : Key) (t : Tree) → children_of t ≡ None → None ≡ child_position step t
+pub nothing_at : (step : Key) (t : Tree) → children_of t ≡ None → None ≡ child_position step t
 nothing_at step (array ts) e = absurd (cc)
 nothing_at step (object ps) e = absurd (cc)
 nothing_at (index i) _ e = refl
 nothing_at (quoted_name name) _ e = refl
 nothing_at (unquoted_name name) _ e = refl
-
--- an item that is not a container has no child
-pub no_child_in_scalar : (x : Item) (t : Tree) (step : Key) → ((b : Bor (List ℕ)) → x ≡ item.Array b → ⊥) → ((b : Bor (List ℕ)) → x ≡ item.Object b → ⊥)
-    → StandsFor any x t
-    → None ≡ child_position step t
-no_child_in_scalar (item.Array bytes) t step no_array no_object h = absurd (no_array bytes refl)
-no_child_in_scalar (item.Object bytes) t step no_array no_object h = absurd (no_object bytes refl)
-no_child_in_scalar _ t step no_array no_object h = nothing_at step t (rw h refl)
 
 -- ---- keys
 
@@ -66,21 +185,20 @@ position_in_object (index i) ps = refl
 position_in_object (quoted_name name) ps = refl
 position_in_object (unquoted_name name) ps = refl
 
-pub met_in_object : (x : Item) (b : Bor (List ℕ)) (t : Tree) (step : KeyPath) (name : List ℕ) (r : Result (Option ℕ) Error) → x ≡ item.Object b
-    → name ≡ asked_key (key_view step) → StandsFor any x t
-    → ((ps : Pairs) → Decodes any b.now (object ps) → IsOkAnd r (λ found. found ≡ position (λ key. bytes_eq key name) (keys ps)))
+pub met_in_object : (form : Form) (t : Tree) (e : ContainerEntries) (step : KeyPath) (name : List ℕ) (r : Result (Option ℕ) Error)
+    → name ≡ asked_key (key_view step) → OfObject form t e
+    → ((ks : List (List ℕ)) → HoldTrees form e.keys (map text ks) → IsOkAnd r (λ found. found ≡ position (λ key. bytes_eq key name) ks))
     → MatchResult r (λ found. found ≡ child_position (key_view step) t) IsOutOfMemory
-met_in_object x b t step name r is asked stands h =
-    let s = rw is at stands in
-    rw (s.1, position_in_object (key_view step) s.0, ← asked) (answered (λ found. found ≡ position (λ key. bytes_eq key name) (keys s.0)) r (h s.0 s.2))
+met_in_object form t e step name r asked o h =
+    rw (o.is, position_in_object (key_view step) o.pairs, ← asked)
+    (answered (λ found. found ≡ position (λ key. bytes_eq key name) (keys o.pairs)) r (h (keys o.pairs) o.hold))
 
-pub met_by_index : (x : Item) (b : Bor (List ℕ)) (t : Tree) (step : KeyPath) (j i : ℤ) (r : Result (Option ℕ) Error) → j ≡ i → x ≡ item.Object b
-    → step ≡ Index i → StandsFor any x t
-    → ((ps : Pairs) → Decodes any b.now (object ps)
-    → MatchResult r (λ found. found ≡ position (λ key. bytes_eq key (signed_decimal j)) (keys ps)) IsOutOfMemory)
+pub met_by_index : (form : Form) (t : Tree) (e : ContainerEntries) (step : KeyPath) (j i : ℤ) (r : Result (Option ℕ) Error) → j ≡ i → step ≡ Index i
+    → OfObject form t e
+    → ((ks : List (List ℕ)) → HoldTrees form e.keys (map text ks)
+    → MatchResult r (λ found. found ≡ position (λ key. bytes_eq key (signed_decimal j)) ks) IsOutOfMemory)
     → MatchResult r (λ found. found ≡ child_position (key_view step) t) IsOutOfMemory
-met_by_index x b t step j i r same is step_is stands h =
-    let s = rw is at stands in rw (step_is, s.1) (rw same at (h s.0 s.2))
+met_by_index form t e step j i r same step_is o h = rw (step_is, o.is) (rw same at (h (keys o.pairs) o.hold))
 
 pub found_decimal : (name : List ℕ) (i j : ℤ) (ks : List (List ℕ)) (r : Result (Option ℕ) Error) → name ≡ signed_decimal j → j ≡ i
     → IsOkAnd r (λ found. found ≡ position (λ key. bytes_eq key name) ks)
@@ -120,3 +238,41 @@ key_further passed name key ks rest wanted split other e =
 
 pub key_nowhere : (passed : ℕ) (name : List ℕ) (ks : List (List ℕ)) (wanted : Option ℕ) → ks ≡ [] → position_behind passed name ks ≡ wanted → None ≡ wanted
 key_nowhere passed name ks wanted none e = rw none at e
+
+-- ---- what an index selects in a tree, by the spots that it has
+
+-- an iterator over elements is that of an array
+pub array_spots : (bytes : List ℕ) (it : SpotIter) (t : Tree) → SameOption (λ it ts. HasSpotsLeft bytes it (elements ts)) (Some it) (trees_in t)
+    → (ts : Trees) × (t ≡ array ts) × HasSpotsLeft bytes it (elements ts)
+array_spots bytes it (array ts) h = (ts, refl, h)
+array_spots bytes it _ h = absurd h
+
+pub spot_in_array : (bytes : List ℕ) (i j : ℤ) (ts : Trees) (t : Tree) (r : Result (Option Spot) Error) → j ≡ i → t ≡ array ts
+    → IsOkAnd r (λ found. SameOption (Locates bytes) found
+    (option_and_then (λ n. slice_get (elements ts) n) (index_position (length (elements ts)) j)))
+    → MatchResult r (λ found. SameOption (Locates bytes) found (child_met (index i) t)) IsOutOfMemory
+spot_in_array bytes i j ts t r same is h =
+    answered (λ found. SameOption (Locates bytes) found (child_met (index i) t)) r (rw is (rw same at h))
+
+pub field_by_key : (bytes : List ℕ) (i j : ℤ) (t : Tree) (key : List ℕ) (r : Result (Option Spot) Error) → j ≡ i → key ≡ signed_decimal j
+    → IsOkAnd r (λ found. SameOption (Locates bytes) found (field_of key t))
+    → MatchResult r (λ found. SameOption (Locates bytes) found (field_of (signed_decimal i) t)) IsOutOfMemory
+field_by_key bytes i j t key r same decimal h =
+    answered (λ found. SameOption (Locates bytes) found (field_of (signed_decimal i) t)) r (rw (decimal, same) at h)
+
+pub no_field : (name : List ℕ) (t : Tree) → is_some (children_of t) ≡ false → field_of name t ≡ None
+no_field name t h = grind arith
+
+pub met_by_key : (bytes : List ℕ) (i j : ℤ) (t : Tree) (r : Result (Option Spot) Error) → j ≡ i
+    → SameOption (λ (it : SpotIter) ts. HasSpotsLeft bytes it (elements ts)) None (trees_in t)
+    → MatchResult r (λ found. SameOption (Locates bytes) found (field_of (signed_decimal j) t)) IsOutOfMemory
+    → MatchResult r (λ found. SameOption (Locates bytes) found (child_met (index i) t)) IsOutOfMemory
+met_by_key bytes i j (array ts) r same none h = absurd none
+met_by_key bytes i j (object ps) r same none h = rw (field_met (index i) ps) (rw same at h)
+met_by_key bytes i j _ r same none h = h
+
+-- the same index, as it is passed
+pub passed : (bytes : List ℕ) (j i : ℤ) (t : Tree) (r : Result (Option Spot) Error) → j ≡ i
+    → MatchResult r (λ found. SameOption (Locates bytes) found (child_met (index j) t)) IsOutOfMemory
+    → MatchResult r (λ found. SameOption (Locates bytes) found (child_met (index i) t)) IsOutOfMemory
+passed bytes j i t r same h = rw (← same) h

@@ -1,9 +1,8 @@
 -- What a push of a number's bytes leaves.
-use Rattle.std.proofs.Common.{◌≡◌, ◌≢◌, ◌⊎◌, inl, inr, subst, ℕ, zero, suc, ◌+◌, ◌-◌, ◌<◌, Bool, true, false, List, [], ◌∷◌, ◌++◌, map, length, ℤ, pos, negsuc, nat_abs, int_lt, refl, sym, ap, ap₂, ◌∙◌, arith, append_assoc, true≢false, w16}
+use Rattle.std.proofs.Common.{◌≡◌, ◌≢◌, ◌⊎◌, inl, inr, subst, ℕ, suc, ◌+◌, ◌-◌, ◌<◌, Bool, true, false, List, [], ◌∷◌, ◌++◌, map, length, ℤ, pos, negsuc, nat_abs, int_lt, refl, sym, ap, ◌∙◌, arith, append_assoc, w16, ltb-true}
 use Rattle.std.specs.Int.{to_be_bytes}
 use Rattle.std.specs.Int.Digits.{digits_of}
 use Rattle.std.proofs.lemmas.List.{map-append}
-use Rattle.std.proofs.lemmas.Bool.{ltb-true}
 use Rattle.jsonb_raw.specs.SortableKey.{significant, magnitude_bytes, number_bytes}
 use Rattle.jsonb_raw.specs.Private.Complements.{complement_byte, complement_bytes}
 
@@ -41,23 +40,14 @@ negative_pushed old (negsuc n) scale h = append_assoc old (0x7f ∷ []) (complem
 
 pub positive_pushed : (old : List ℕ) (z : ℤ) (scale : ℕ) → int_lt z (pos 0) ≡ false → z ≢ pos 0
     → (old ++ 0x81 ∷ []) ++ complement_bytes false (magnitude_bytes (nat_abs z) scale) ≡ old ++ number_bytes z scale
-positive_pushed old (pos zero) scale h ne = absurd (ne refl)
-positive_pushed old (pos (suc n)) scale h ne = append_assoc old (0x81 ∷ []) (complement_bytes false (magnitude_bytes (suc n) scale))
-    ∙ ap (λ x. old ++ 0x81 ∷ x) (same_bytes (magnitude_bytes (suc n) scale))
-positive_pushed old (negsuc n) scale h ne = absurd (true≢false h)
+positive_pushed old z scale h e = grind (arith, append_assoc, same_bytes)
 
 -- a sign byte and a magnitude make a number, if v is the whole value unchanged read
 pub number_steps : (old first : List ℕ) (sign m : ℕ) (z v : ℤ) (scale : ℕ) → v ≡ z → z ≢ pos 0 → m ≡ nat_abs v → first ≡ old ++ sign ∷ []
     → ((int_lt v (pos 0) ≡ true) × (sign ≡ 0x7f)) ⊎ ((int_lt v (pos 0) ≡ false) × (sign ≡ 0x81))
     → first ++ complement_bytes (int_lt v (pos 0)) (magnitude_bytes m scale) ≡ old ++ number_bytes z scale
-number_steps old first sign m z v scale e ne a f (inl h) =
-    ap₂ (λ xs k. xs ++ complement_bytes (int_lt v (pos 0)) (magnitude_bytes k scale)) (f ∙ ap (λ b. old ++ b ∷ []) h.1) (a ∙ ap nat_abs e)
-    ∙ ap (λ b. (old ++ 0x7f ∷ []) ++ complement_bytes b (magnitude_bytes (nat_abs z) scale)) h.0
-    ∙ negative_pushed old z scale (subst (λ x. int_lt x (pos 0) ≡ true) e h.0)
-number_steps old first sign m z v scale e ne a f (inr h) =
-    ap₂ (λ xs k. xs ++ complement_bytes (int_lt v (pos 0)) (magnitude_bytes k scale)) (f ∙ ap (λ b. old ++ b ∷ []) h.1) (a ∙ ap nat_abs e)
-    ∙ ap (λ b. (old ++ 0x81 ∷ []) ++ complement_bytes b (magnitude_bytes (nat_abs z) scale)) h.0
-    ∙ positive_pushed old z scale (subst (λ x. int_lt x (pos 0) ≡ false) e h.0) ne
+number_steps old first sign m z v scale e ne a f (inl h) = cc (f, h.1, a, e, h.0, negative_pushed old z scale (subst (λ x. int_lt x (pos 0) ≡ true) e h.0))
+number_steps old first sign m z v scale e ne a f (inr h) = cc (f, h.1, a, e, h.0, positive_pushed old z scale (subst (λ x. int_lt x (pos 0) ≡ false) e h.0) ne)
 
 -- a buffer that holds the sign byte, the exponent, the digits and the end marker is appended
 pub buffer_steps : (negative : Bool) (old last whole front tail : List ℕ) (sign n scale e byte : ℕ) → e ≡ length (digits_of 10 n) + 1000 - scale

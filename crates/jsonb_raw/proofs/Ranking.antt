@@ -1,16 +1,12 @@
 -- Byte lists that rank in some way whatever follows them, and the parts that keys are made of.
 use Rattle.std.proofs.Common.{◌≡◌, ℕ, zero, suc, ◌+◌, ◌*◌, ◌%◌, ◌^◌, ◌<◌, List, [], ◌∷◌, ◌++◌, refl, sym, ap, ap₂, subst, ◌∙◌, arith, nat_cmp, Ordering, Less, Equal, Greater, append_assoc, pow-suc, mul_comm}
 use Rattle.std.specs.Ordering.{ordering_then}
-use Rattle.std.specs.Cmp.Lexicographic.{slice_cmp}
 use Rattle.std.specs.Int.{bytes_high_first, byte_at}
-use Rattle.std.proofs.lemmas.Map.Lookups.{exact_bytes}
 use native.Mathlib.Nat.{one-le-pow}
 use Rattle.jsonb_doc.specs.Proofs.Orderings.{nat_cmp-lt, nat_cmp-gt, nat_cmp_refl, then_assoc, nat_cmp_places, mod_places}
 use Rattle.std.proofs.lemmas.Nat.{mod_below}
 use Rattle.jsonb_raw.specs.SortableKey.{escaped_byte, text_bytes}
-
-abbrev pub bytes_cmp : List ℕ → List ℕ → Ordering
-bytes_cmp xs ys = slice_cmp nat_cmp xs ys
+use Rattle.jsonb_doc.proofs.Basics.{bytes_cmp}
 
 -- the two lists rank so, whatever follows each of them
 pub record Ranks (xs ys : List ℕ) (o : Ordering) : Type 0 where
@@ -37,14 +33,6 @@ Ranks-higher x y xs ys h = record { ranks = λ r s. rw (nat_cmp-gt x y h) refl }
 
 pub Ranks-same_head : (x : ℕ) (xs ys : List ℕ) (o : Ordering) → Ranks xs ys o → Ranks (x ∷ xs) (x ∷ ys) o
 Ranks-same_head x xs ys o h = subst (λ p. Ranks (x ∷ xs) (x ∷ ys) (ordering_then p o)) (nat_cmp_refl x) (Ranks-head x x xs ys o h)
-
--- lists that compare as equal are equal
-pub same_from_bytes_cmp : (xs ys : List ℕ) → bytes_cmp xs ys ≡ Equal → xs ≡ ys
-same_from_bytes_cmp xs ys e = exact_bytes xs ys e
-
-pub bytes_cmp_refl : (xs : List ℕ) → bytes_cmp xs xs ≡ Equal
-bytes_cmp_refl [] = refl
-bytes_cmp_refl (x ∷ xs) = rw (nat_cmp_refl x) (bytes_cmp_refl xs)
 
 -- lists that begin apart, in the order of two other numbers
 lower : (a b x y : ℕ) (xs ys : List ℕ) → a < b → x < y → Ranks (x ∷ xs) (y ∷ ys) (nat_cmp a b)

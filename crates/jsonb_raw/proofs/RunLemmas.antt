@@ -1,29 +1,156 @@
--- Entries that are gone through one by one, and runs of them that are kept.
-use Rattle.std.proofs.Common.{◌≡◌, ℕ, List, [], ◌∷◌, ◌++◌, length, take, ◌-◌, map, Some, None, refl, sym, ap, subst, ◌∙◌, arith, append_assoc, append-nil}
+-- Runs of entries, the containers that they make, and walks that keep some of them.
+use Rattle.std.proofs.Common.{◌≡◌, inl, inr, ℕ, zero, suc, ◌+◌, ◌^◌, ◌<◌, ◌≤◌, List, [], ◌∷◌, ◌++◌, length, map, take, drop, get_or, Option, Some, Result, refl, sym, ap, subst, ◌∙◌, arith, append-nil, ◌-◌, None, append_assoc, insert}
 use Rattle.std.specs.Map.{keys_of, values_of}
-use Rattle.jsonb_doc.specs.Tree.{Tree, text, array, object, trees_of, Pairs, no_pairs, pair, keys, values, members}
-use Rattle.jsonb_doc.specs.Payload.{NumberReader, Form, number_reader}
-use Rattle.jsonb_doc.specs.Format.{AreEntries, AreValues, AreKeys, entry_word, key_words, key_bytes}
+use Rattle.jsonb_doc.specs.Tree.{Tree, Trees, text, array, object, trees_of, pairs_of, elements, Pairs, no_pairs, pair, keys, values, members}
+use Rattle.jsonb_doc.specs.Payload.{Form, number_reader, NumberReader}
+use Rattle.jsonb_doc.specs.Format.{Decodes, header, array_header, AreEntries, AreValues, AreKeys, entry_word, key_words, key_bytes}
+use Rattle.jsonb_doc.specs.Limits.{IsShort, HasShortElements, IsTooLarge}
+use Rattle.jsonb_doc.specs.Private.Errors.{IsOutOfMemoryOrTooLarge}
+use Rattle.jsonb_doc.specs.declared.error.Error.{Error}
+use Rattle.jsonb_doc.proofs.TreeLists.{trees_of-elements, keys_of-members}
+use Rattle.jsonb_doc.specs.Private.Containers.{Holds}
+use Rattle.jsonb_doc.specs.declared.container.ArrayParts.{ArrayParts}
+use Rattle.jsonb_doc.specs.declared.container.Container.TheVariants.{Array, Object}
+use Rattle.jsonb_doc.specs.declared.cursor.Entries.{Entries}
+use Rattle.jsonb_doc.specs.declared.layout.HeaderKind.{HeaderKind}
+use Rattle.jsonb_doc.specs.declared.layout.HeaderKind.TheVariants as header_kind
+use Rattle.jsonb_doc.specs.Private.Writer.{Make, AreSortedKeys}
+use Rattle.jsonb_doc.proofs.WriterLimits.{too_many, within_parts}
+use Rattle.jsonb_raw.specs.declared.owned.OwnedJsonb.{OwnedJsonb}
+use Rattle.jsonb_raw.specs.Documents.{Makes}
+use Rattle.jsonb_raw.specs.Arrays.{as_elements}
+use Rattle.jsonb_raw.proofs.Lists.{drop_first, none_behind}
+use Rattle.jsonb_raw.specs.Private.Entries.{HoldTrees, RunsHold, AreElementsOf, IsTooLongRoot, IsTooLongElement, IsFirst, TakesFirst, HoldPairs, ArePairsOf, AreContainerEntries, Holding, PairsHeld, PairsOpen, IsFirstPair, TakesFirstPair, AreWithin}
+use Rattle.jsonb_doc.proofs.Basics.{many_keys}
 use Rattle.jsonb_doc.specs.Private.EntryKinds.{text_entry}
 use Rattle.jsonb_doc.specs.Kinds.{kind_number}
-use Rattle.jsonb_doc.proofs.TreeLists.{keys_of-members}
 use Rattle.jsonb_doc.proofs.KeyEntries.{front_of}
 use Rattle.jsonb_doc.proofs.PairsLemmas.{HoldsPairs-skipped, HoldsPairs-values}
-use Rattle.jsonb_doc.specs.Private.Containers.{Holds}
 use Rattle.jsonb_doc.specs.Private.Lengths.{StandBefore}
 use Rattle.jsonb_doc.specs.declared.container.ObjectParts.{ObjectParts}
-use Rattle.jsonb_doc.specs.declared.container.ArrayParts.{ArrayParts}
-use Rattle.jsonb_doc.specs.declared.container.Container.TheVariants.{Object, Array}
-use Rattle.jsonb_doc.specs.declared.layout.HeaderKind.TheVariants as header_kind
 use Rattle.jsonb_raw.specs.declared.functions.parts.ContainerEntries.{ContainerEntries}
-use Rattle.jsonb_raw.proofs.JoinedEntries.{entries_of_array}
-use Rattle.jsonb_doc.specs.declared.cursor.Entries.{Entries}
 use Rattle.jsonb_doc.specs.declared.entry_iter.StoredEntry.{StoredEntry}
 use Rattle.jsonb_raw.specs.declared.functions.parts.PairEntries.{PairEntries}
 use Rattle.jsonb_raw.specs.declared.functions.parts.FirstPair.{FirstPair}
 use Rattle.jsonb_raw.specs.declared.functions.parts.PairRuns.{PairRuns}
-use Rattle.jsonb_raw.specs.Private.Entries.{HoldTrees, RunsHold, IsFirst, TakesFirst, HoldPairs, ArePairsOf, AreContainerEntries, Holding, PairsHeld, PairsOpen, IsFirstPair}
 use Rattle.jsonb_doc.proofs.WriterLemmas.{entries_append, one_entry}
+use Rattle.std.proofs.lemmas.List.{length-append}
+use Rattle.jsonb_doc.specs.AnyBytes.Parts.{AreArrayParts, AreObjectParts}
+
+-- ---- runs one after the other
+
+pub no_runs : (form : Form) → RunsHold form [] []
+no_runs form = refl
+
+pub run_before : (form : Form) (entries : Entries) (runs : List Entries) (xs ys : List Tree) → HoldTrees form entries xs → RunsHold form runs ys
+    → RunsHold form (entries ∷ runs) (xs ++ ys)
+run_before form entries runs xs ys h g = (xs, ys, h, g, refl)
+
+pub one_run : (form : Form) (entries : Entries) (xs : List Tree) → HoldTrees form entries xs → RunsHold form (entries ∷ []) xs
+one_run form entries xs h = subst (RunsHold form (entries ∷ [])) (append-nil xs) (run_before form entries [] xs [] h (no_runs form))
+
+pub two_runs : (form : Form) (a b : Entries) (xs ys : List Tree) → HoldTrees form a xs → HoldTrees form b ys → RunsHold form (a ∷ b ∷ []) (xs ++ ys)
+two_runs form a b xs ys h g = run_before form a (b ∷ []) xs ys h (one_run form b ys g)
+
+pub three_runs : (form : Form) (a b c : Entries) (xs ys zs : List Tree) → HoldTrees form a xs → HoldTrees form b ys → HoldTrees form c zs
+    → RunsHold form (a ∷ b ∷ c ∷ []) (xs ++ (ys ++ zs))
+three_runs form a b c xs ys zs h g k = run_before form a (b ∷ c ∷ []) xs (ys ++ zs) h (two_runs form b c ys zs g k)
+
+-- the first of the runs that are left
+pub record FirstRun (form : Form) (run : Entries) (runs : List Entries) (ts : List Tree) : Type 0 where
+  pub xs : List Tree
+  pub ys : List Tree
+  pub holds : HoldTrees form run xs
+  pub others_hold : RunsHold form runs ys
+  pub joined : ts ≡ xs ++ ys
+
+pub first_run : (form : Form) (runs : List Entries) (i : ℕ) (run : Entries) (ts : List Tree) → i < length runs → run ≡ get_or runs i run
+    → RunsHold form (drop i runs) ts → FirstRun form run (drop (i + 1) runs) ts
+first_run form runs i run ts inside is h = by (subst (λ (rs : List Entries). RunsHold form rs ts) (drop_first runs i run inside is) h)
+  where
+    by : RunsHold form (run ∷ drop (i + 1) runs) ts → FirstRun form run (drop (i + 1) runs) ts
+    by (xs, ys, holds, rest, joined) = record { xs = xs; ys = ys; holds = holds; others_hold = rest; joined = joined }
+
+pub no_runs_left : (form : Form) (runs : List Entries) (i : ℕ) (ts : List Tree) → length runs ≤ i → RunsHold form (drop i runs) ts → ts ≡ []
+no_runs_left form runs i ts all h = subst (λ (rs : List Entries). RunsHold form rs ts) (none_behind runs i all) h
+
+-- ---- what runs make
+
+pub array_made : (n : ℕ) (ts : List Tree) → n ≡ length ts → Make header_kind.Array n (ts ++ []) (array (trees_of ts))
+array_made n ts is = (is ∙ ap length (sym (append-nil ts)), ap (λ (us : List Tree). array (trees_of us)) (sym (append-nil ts)))
+
+pub object_made : (n : ℕ) (ps : List (List ℕ × Tree)) → AreSortedKeys (keys_of ps) → n ≡ length (map text (keys_of ps))
+    → Make header_kind.Object n (map text (keys_of ps) ++ values_of ps) (object (pairs_of ps))
+object_made n ps sorted is = (ps, is ∙ many_keys ps, sorted, refl, refl)
+
+-- too many entries have no document
+pub too_many_made : (form : Form) (kind : HeaderKind) (n : ℕ) (ts : List Tree) (t : Tree) → Make kind n ts t → 2 ^ 29 ≤ n → IsTooLarge form t
+too_many_made form kind n ts t m many = λ within. too_many form kind n ts t m many (within_parts form kind n ts t m within)
+
+-- ---- arrays
+
+short_among : (form : Form) (xs ys : List Tree) (t : Tree) → HasShortElements form (trees_of (xs ++ t ∷ ys)) → IsShort form t
+short_among form [] ys t h = h.0
+short_among form (x ∷ xs) ys t h = short_among form xs ys t h.2
+
+-- an array with an element that is too long has no document
+pub long_element : (form : Form) (xs ys : List Tree) (t : Tree) → (IsShort form t → ⊥) → IsTooLarge form (array (trees_of (xs ++ t ∷ ys)))
+long_element form xs ys t long = λ within. long (short_among form xs ys t within.1)
+
+-- a document of the elements of several fails if that of one does
+pub refused_between : (form : Form) (xs ys : List Tree) (t : Tree) (e : Error) → IsTooLongRoot form t e
+    → IsOutOfMemoryOrTooLarge form (array (trees_of (xs ++ t ∷ ys))) e
+refused_between form xs ys t e h = inr (h.0, long_element form xs ys t h.1)
+
+pub refused_front : (form : Form) (t : Tree) (ys : List Tree) (e : Error) → IsTooLongElement form t e
+    → IsOutOfMemoryOrTooLarge form (array (trees_of (as_elements t ++ ys))) e
+refused_front form t ys e h = rw h.1 (refused_between form [] ys t e h.0)
+
+pub refused_back : (form : Form) (xs : List Tree) (t : Tree) (e : Error) → IsTooLongElement form t e
+    → IsOutOfMemoryOrTooLarge form (array (trees_of (xs ++ as_elements t))) e
+refused_back form xs t e h = rw h.1 (refused_between form xs [] t e h.0)
+
+pub refused_beside : (form : Form) (t u : Tree) (place : ℕ) (e : Error) → IsTooLongElement form t e
+    → IsOutOfMemoryOrTooLarge form (array (trees_of (insert (as_elements t) place u))) e
+refused_beside form t u place e h = rw h.1 (at place)
+  where
+    at : (n : ℕ) → IsOutOfMemoryOrTooLarge form (array (trees_of (insert (t ∷ []) n u))) e
+    at zero = refused_between form (u ∷ []) [] t e h.0
+    at (suc n) = refused_between form [] (take n [] ++ u ∷ drop n []) t e h.0
+
+-- the entries of an array, by its parts
+pub entries_of_array : (form : Form) (t : Tree) (p : ArrayParts) (entries : Entries) → entries.words.now ≡ p.words.now → entries.contents.now ≡ p.contents.now
+    → Holds (number_reader form) t (Array p) → AreElementsOf form t (Some entries)
+entries_of_array form (array ts) p entries words contents h = record { entries = rw (words, contents, trees_of-elements ts) h }
+entries_of_array form _ p entries words contents h = absurd h
+
+-- a tree with such entries is an array
+pub array_of_entries : (form : Form) (t : Tree) (found : Option Entries) (entries : Entries) → found ≡ Some entries → AreElementsOf form t found
+    → (ts : Trees) × (t ≡ array ts) × HoldTrees form entries (elements ts)
+array_of_entries form (array ts) found entries is h = (ts, refl, rw is at h)
+array_of_entries form _ found entries is h = absurd (rw is at h)
+
+-- ---- no entries
+
+pub empty_decodes : (form : Form) → Decodes form (header array_header 0) (array (trees_of []))
+empty_decodes form = record {
+  document = inl (
+    refl,
+    record {
+      words = [];
+      contents = [];
+      headed = record { known = omega arith; fits = omega arith; joined = sym (append-nil (header array_header 0)) };
+      parts = (refl, refl);
+    },
+  );
+}
+
+pub no_entries : (form : Form) (ts : List Tree) (r : Result OwnedJsonb Error) → 0 ≡ length ts → Makes form (array (trees_of [])) r
+    → Makes form (array (trees_of ts)) r
+no_entries form [] r is h = h
+no_entries form (t ∷ ts) r is h = absurd (omega (arith, is))
+
+-- ---- entries that are gone through one by one, and runs of them that are kept
 
 abbrev Member : Type 0
 Member = List ℕ × Tree
@@ -75,10 +202,8 @@ module _ (form : Form) (runs : List Entries) (run left others : Entries) (xs ys 
     held = h.held;
     run_held = entries_append (number_reader form) h.here (t ∷ []) h.run_words h.run_contents (entry_word kind (length content)) content h.run_held
         (one_entry (number_reader form) t kind content f.part f.begin.fits);
-    words_joined = h.words_joined ∙ ap (λ (l : List ℕ). h.run_words ++ l) f.begin.words_joined
-        ∙ sym (append_assoc h.run_words (entry_word kind (length content)) others.words.now);
-    contents_joined = h.contents_joined ∙ ap (λ (l : List ℕ). h.run_contents ++ l) f.begin.contents_joined
-        ∙ sym (append_assoc h.run_contents content others.contents.now);
+    words_joined = cc (append_assoc h.run_words (entry_word kind (length content)) others.words.now);
+    contents_joined = cc (append_assoc h.run_contents content others.contents.now);
     left_hold = f.others_hold;
   }
 
@@ -133,8 +258,7 @@ values_as_entries number_at (pair key t ps) words contents h = record {
 module _ (form : Form) where
   pub values_skipped : (t : Tree) (p : ObjectParts)
       → ((parts : List (List ℕ)) (rest : List ℕ) → StandBefore parts p.key_words.now p.contents.now rest → ⊥) → Holds (number_reader form) t (Object p) → ⊥
-  values_skipped (object ps) p none h = HoldsPairs-skipped form p none ps h
-  values_skipped _ p none h = h
+  values_skipped t p h k = grind (arith, HoldsPairs-skipped)
 
   pub pairs_of_object : (ps : Pairs) (p : ObjectParts) (pairs : PairEntries) (rest : List ℕ)
       → ((parts : List (List ℕ)) (left : List ℕ) → StandBefore parts p.key_words.now p.contents.now left → rest ≡ left)
@@ -158,8 +282,7 @@ module _ (form : Form) where
 
   pub no_parts : (t : Tree) (p : ObjectParts) → Holds (number_reader form) t (Object p)
       → ((ps : Pairs) → Holds (number_reader form) (object ps) (Object p) → ⊥) → ⊥
-  no_parts (object ps) p h none = none ps h
-  no_parts _ p h none = h
+  no_parts t p h k = grind arith
 
   pub object_entries_are : (t : Tree) (p : ObjectParts) (e : ContainerEntries) → e.kind ≡ header_kind.Object → Holds (number_reader form) t (Object p)
       → ((ps : Pairs) → Holds (number_reader form) (object ps) (Object p) → HoldPairs form (record { keys = e.keys; values = e.values }) (members ps))
@@ -231,3 +354,92 @@ others_hold form left first ys p f = record { names = f.name.others_hold; parts 
 
 pub left_holds : (form : Form) (runs : PairRuns) (run left : PairEntries) (xs ys : List Member) → PairsOpen form runs run left xs ys → HoldPairs form left ys
 left_holds form runs run left xs ys h = record { names = h.names.left_hold; parts = h.parts.left_hold }
+
+-- ---- the first of the entries or members that are left, in a walk that takes one after the other
+
+-- Holds if this is the entry of the first tree, and those after it are of the others.
+pub record EntryTaken (form : Form) (left : Entries) (ts : List Tree) (entry : StoredEntry) (others : Entries) : Type 0 where
+  pub t : Tree
+  pub rest : List Tree
+  pub split : ts ≡ t ∷ rest
+  pub is_first : IsFirst form left t rest (kind_number entry.kind) entry.content.now others
+
+pub entry_taken : (form : Form) (left : Entries) (ts : List Tree) (found : Option (StoredEntry × Entries)) (entry : StoredEntry) (others : Entries)
+    → found ≡ Some (entry, others) → TakesFirst form left ts found → EntryTaken form left ts entry others
+entry_taken form left [] found entry others is h = absurd (rw is at h)
+entry_taken form left (t ∷ ts) found entry others is h = record { t = t; rest = ts; split = refl; is_first = rw is at h }
+
+pub no_entry_left : (form : Form) (entries : Entries) (ts : List Tree) (found : Option (StoredEntry × Entries)) → found ≡ None
+    → TakesFirst form entries ts found → ts ≡ []
+no_entry_left form entries [] found is h = refl
+no_entry_left form entries (t ∷ ts) found is h = absurd (rw is at h)
+
+-- Holds if the first of the strings is this entry's content.
+pub record TextFirst (form : Form) (left : Entries) (ks : List (List ℕ)) (entry : StoredEntry) (others : Entries) : Type 0 where
+  pub rest : List (List ℕ)
+  pub split : ks ≡ entry.content.now ∷ rest
+  pub is_first : IsFirst form left (text entry.content.now) (map text rest) (kind_number entry.kind) entry.content.now others
+
+pub text_first : (form : Form) (left : Entries) (ks : List (List ℕ)) (found : Option (StoredEntry × Entries)) (entry : StoredEntry) (others : Entries)
+    → found ≡ Some (entry, others) → TakesFirst form left (map text ks) found → TextFirst form left ks entry others
+text_first form left [] found entry others is h = absurd (rw is at h)
+text_first form left (k ∷ ks) found entry others is h =
+    let first : IsFirst form left (text k) (map text ks) (kind_number entry.kind) entry.content.now others = rw is at h in
+    let same : k ≡ entry.content.now = sym first.part.1 in
+    record { rest = ks; split = ap (λ (l : List ℕ). l ∷ ks) same; is_first = rw same at first }
+
+pub no_text_left : (form : Form) (left : Entries) (ks : List (List ℕ)) (found : Option (StoredEntry × Entries)) → found ≡ None
+    → TakesFirst form left (map text ks) found → ks ≡ []
+no_text_left form left [] found is h = refl
+no_text_left form left (k ∷ ks) found is h = absurd (rw is at h)
+
+-- Holds if this is the first of the members.
+pub record PairTaken (form : Form) (left : PairEntries) (ps : List Member) (first : FirstPair) : Type 0 where
+  pub value : Tree
+  pub rest : List Member
+  pub split : ps ≡ (first.key.now, value) ∷ rest
+  pub is_first : IsFirstPair form left (first.key.now, value) rest first
+
+pub pair_taken : (form : Form) (left : PairEntries) (ps : List Member) (found : Option FirstPair) (first : FirstPair) → found ≡ Some first
+    → TakesFirstPair form left ps found → PairTaken form left ps first
+pair_taken form left [] found first is h = absurd (rw is at h)
+pair_taken form left (p ∷ ps) found first is h =
+    let taken : IsFirstPair form left p ps first = rw is at h in
+    let is_first = subst (λ (k : List ℕ). IsFirstPair form left (k, p.1) ps first) (sym taken.key) taken in
+    record { value = p.1; rest = ps; split = rw taken.key refl; is_first = is_first }
+
+pub no_pair_left : (form : Form) (pairs : PairEntries) (ps : List Member) (found : Option FirstPair) → found ≡ None
+    → TakesFirstPair form pairs ps found → ps ≡ []
+no_pair_left form pairs [] found is h = refl
+no_pair_left form pairs (p ∷ ps) found is h = absurd (rw is at h)
+
+-- ---- numbers of bytes
+
+pub array_within : (bytes : List ℕ) (p : ArrayParts) (e : ContainerEntries) → AreArrayParts bytes p.words.now p.contents.now → e.kind ≡ header_kind.Array
+    → e.keys.contents.now ≡ [] → e.values.words.now ≡ p.words.now → e.values.contents.now ≡ p.contents.now → AreWithin (length bytes) e
+array_within bytes p e (n, headed, many) kind none words contents = record {
+  few = omega (arith, headed.fits, many, ap length words);
+  fit = λ k fits.
+      rw kind
+      (omega (arith, many, fits, ap length headed.joined, length-append p.words.now p.contents.now, ap length none, ap length words, ap length contents));
+}
+
+pub object_within : (bytes : List ℕ) (p : ObjectParts) (e : ContainerEntries) → AreObjectParts bytes p.key_words.now p.value_words.now p.contents.now
+    → e.kind ≡ header_kind.Object → e.values.words.now ≡ p.value_words.now
+    → length e.keys.contents.now + length e.values.contents.now ≤ length p.contents.now → AreWithin (length bytes) e
+object_within bytes p e (n, headed, many_keys, many) kind words contents = record {
+  few = omega (arith, headed.fits, many, ap length words);
+  fit = λ k fits.
+      rw kind
+      (omega (
+        arith,
+        many_keys,
+        many,
+        fits,
+        ap length headed.joined,
+        length-append (p.key_words.now ++ p.value_words.now) p.contents.now,
+        length-append p.key_words.now p.value_words.now,
+        ap length words,
+        contents,
+      ));
+}

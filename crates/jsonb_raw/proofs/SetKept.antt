@@ -1,7 +1,8 @@
 -- What the loops of the set functions keep true.
-use Rattle.std.proofs.Common.{ap₂, nat_lt, not, ℕ, ◌≡◌, ◌+◌, ◌<◌, ◌^◌, suc, Bool, true, false, ◌||◌, cond, List, [], ◌∷◌, ◌++◌, length, map, filter, Option, Some, None, inl, inr, refl, sym, ap, subst, ◌∙◌, append_assoc, append-nil, arith}
+use Rattle.std.proofs.Common.{ap₂, not, ◌≡◌, ◌+◌, ◌<◌, ◌^◌, Bool, true, false, ◌||◌, cond, List, [], ◌∷◌, ◌++◌, length, map, filter, Option, Some, None, inl, inr, refl, sym, ap, subst, ◌∙◌, append_assoc, append-nil, arith}
+use Rattle.std.proofs.lemmas.Bool.Decides.{nat_tests}
 use Rattle.std.specs.List.{AllByRecursion, list_any}
-use Rattle.jsonb_doc.specs.Tree.{Tree, array, object, Trees, no_trees, tree, elements, count, trees_of}
+use Rattle.jsonb_doc.specs.Tree.{Tree, array, object, Trees, no_trees, tree, elements, trees_of}
 use Rattle.jsonb_doc.specs.Payload.{Form, canonical}
 use Rattle.jsonb_doc.specs.Kinds.{kind_number}
 use Rattle.jsonb_doc.specs.declared.entry_iter.StoredEntry.{StoredEntry}
@@ -9,8 +10,6 @@ use Rattle.jsonb_doc.specs.Limits.{Fits, AreInRange, IsShort, HasShortParts, Has
 use Rattle.jsonb_doc.specs.Private.Errors.{IsOutOfMemoryOrTooLarge}
 use Rattle.jsonb_doc.specs.ArrayBuilder.{Parts, no_parts, HoldsElements}
 use Rattle.jsonb_doc.specs.Representation.Iterators.{HasElementsLeft}
-use Rattle.jsonb_doc.specs.declared.item.Item.{Item}
-use Rattle.jsonb_doc.specs.declared.item.Item.TheVariants as item
 use Rattle.jsonb_doc.proofs.ElementsLemmas.{IsElementsOf}
 use Rattle.jsonb_doc.specs.declared.element_iter.ElementIter.{ElementIter}
 use Rattle.jsonb_doc.specs.declared.error.Error.{Error}
@@ -26,7 +25,9 @@ use Rattle.jsonb_doc.specs.declared.cursor.Entries.{Entries}
 use Rattle.jsonb_raw.specs.declared.functions.array.counts.KeyCounts.{KeyCounts}
 use Rattle.jsonb_raw.specs.declared.functions.array.seen.Seen.{Seen}
 use Rattle.jsonb_raw.specs.declared.functions.array.sets.SetOperation.{SetOperation}
-use Rattle.jsonb_raw.proofs.RunLemmas.{holding_begun, holding_kept, holding_again}
+use Rattle.jsonb_raw.proofs.RunLemmas.{holding_begun, holding_kept, holding_again, entry_taken, no_entry_left}
+use Rattle.jsonb_doc.proofs.Basics.{or_false}
+use Rattle.jsonb_raw.proofs.ArrayLemmas.{length-elements}
 
 -- ---- the elements of a document
 
@@ -40,16 +41,12 @@ fit_elements : (ts : Trees) → AreInRange ts → HasShortElements canonical ts 
 fit_elements no_trees range short = tt
 fit_elements (tree t ts) range short = ((range.0, short_part t short.0 short.1), fit_elements ts range.1 short.2)
 
-count_elements : (ts : Trees) → length (elements ts) ≡ count ts
-count_elements no_trees = refl
-count_elements (tree t ts) = ap suc (count_elements ts)
-
 -- the elements of an array that fits do, and there are not too many
 pub elements_fit : (ts : Trees) → Fits (array ts) → AllByRecursion Fits (elements ts)
 elements_fit ts f = fit_elements ts f.0 f.1.1
 
 pub elements_few : (ts : Trees) → Fits (array ts) → length (elements ts) < 2 ^ 63
-elements_few ts f = omega (arith, f.1.0, count_elements ts)
+elements_few ts f = omega (arith, f.1.0, length-elements ts)
 
 pub members_fit : (t : Tree) → Fits t → AllByRecursion Fits (as_elements t)
 members_fit (array ts) f = elements_fit ts f
@@ -66,17 +63,12 @@ array_found form (array ts) it h = record { trees = ts; is = refl; left = h }
 array_found form t it h = absurd h
 
 pub no_array : (form : Form) (t : Tree) → IsElementsOf form t None → as_elements t ≡ t ∷ []
-no_array form (array ts) h = absurd h
-no_array form t h = refl
+no_array form t h = grind arith
 
 -- the same of the entries of an array
 pub no_array_entries : (form : Form) (t : Tree) (found : Option Entries) → found ≡ None → AreElementsOf form t found → as_elements t ≡ t ∷ []
 no_array_entries form (array ts) found is h = absurd (rw is at h)
 no_array_entries form _ found is h = refl
-
-pub or_false : (b : Bool) → (b || false) ≡ b
-or_false true = refl
-or_false false = refl
 
 -- one tree overlaps those that it is among
 pub overlap_one : (ts : List Tree) (u : Tree) → overlap ts (u ∷ []) ≡ list_any (is_equal u) ts
@@ -90,20 +82,11 @@ count_of_one t u b e = sum_by-cons (λ x. cond (is_equal x t) 1 0) u [] ∙ ap (
 
 -- a test for equality decides whether it is in the intersection
 pub shared_one : (t u : Tree) (b : Bool) → b ≡ is_equal u t → cond b (t ∷ []) [] ≡ intersection_of (t ∷ []) (u ∷ [])
-shared_one t u b e = by b (count_of t (u ∷ [])) (count_of_one t u b e)
-  where
-    by : (b : Bool) (n : ℕ) → n ≡ cond b 1 0 + 0 → cond b (t ∷ []) [] ≡ map (λ (o : Occurrence). o.1) (cond (nat_lt 0 n) (([], t) ∷ []) [])
-    by true n is = rw is refl
-    by false n is = rw is refl
+shared_one t u b e = grind (arith, nat_tests, count_of_one t u b e)
 
 -- and in the difference
 pub unshared_one : (t u : Tree) (b : Bool) → b ≡ is_equal u t → cond (not b) (t ∷ []) [] ≡ difference_of (t ∷ []) (u ∷ [])
-unshared_one t u b e = by b (count_of t (u ∷ [])) (count_of_one t u b e)
-  where
-    by : (b : Bool) (n : ℕ) → n ≡ cond b 1 0 + 0
-        → cond (not b) (t ∷ []) [] ≡ map (λ (o : Occurrence). o.1) (cond (not (nat_lt 0 n)) (([], t) ∷ []) [])
-    by true n is = rw is refl
-    by false n is = rw is refl
+unshared_one t u b e = grind (arith, nat_tests, count_of_one t u b e)
 
 -- ---- what is kept
 
@@ -119,8 +102,7 @@ kept_next kind other before t left = by (keeps kind other (before, t))
     others = filter (keeps kind other) (occurrences (t ∷ before) left)
 
     by : (b : Bool) → cond b (t ∷ []) [] ++ map (λ o. o.1) others ≡ map (λ o. o.1) (cond b ((before, t) ∷ others) others)
-    by true = refl
-    by false = refl
+    by b = grind arith
 
 -- What is held, followed by what is kept of the elements that are left, is the whole.
 pub record KeptLeft (form : Form) (kind : SetOperation) (m : KeyCounts) (other : List Tree) (parts : Parts) (left whole : List Tree) : Type 0 where
@@ -213,11 +195,7 @@ module _ (form : Form) (kind : SetOperation) (seen : Seen) (other : List Tree) (
   KeptRuns-left = h.holds.left_hold
 
   pub KeptRuns-done : TakesFirst form left h.rest None → h.held ≡ whole
-  KeptRuns-done none = go h.rest h.joined none
-    where
-      go : (ts : List Tree) → h.held ++ kept_behind kind other h.before ts ≡ whole → TakesFirst form left ts None → h.held ≡ whole
-      go [] j g = sym (append-nil h.held) ∙ j
-      go (t ∷ ts) j g = absurd g
+  KeptRuns-done none = sym (append-nil h.held) ∙ (rw (no_entry_left form left h.rest None refl none) at h.joined)
 
 module _ (form : Form) (kind : SetOperation) (seen : Seen) (other : List Tree) (runs : List Entries) (run left : Entries) (whole : List Tree)
     (h : KeptRuns form kind seen other runs run left whole) (entry : StoredEntry) (after_it : Entries)
@@ -232,12 +210,9 @@ module _ (form : Form) (kind : SetOperation) (seen : Seen) (other : List Tree) (
     pub whole_is : h.held ++ kept_behind kind other h.before (t ∷ ts) ≡ whole
 
   pub next_of : Next
-  next_of = go h.rest h.holds h.behind h.joined mine
-    where
-      go : (ts : List Tree) → Holding form runs run left h.held ts → HaveSeen form kind seen other h.before ts
-          → h.held ++ kept_behind kind other h.before ts ≡ whole → TakesFirst form left ts (Some (entry, after_it)) → Next
-      go [] o b j g = absurd g
-      go (t ∷ ts) o b j g = record { t = t; ts = ts; first_is = g; opened = o; behind = b; whole_is = j }
+  next_of =
+      let f = entry_taken form left h.rest (Some (entry, after_it)) entry after_it refl mine in
+      record { t = f.t; ts = f.rest; first_is = f.is_first; opened = rw f.split at h.holds; behind = rw f.split at h.behind; whole_is = rw f.split at h.joined }
 
   pub KeptRuns-kept : (n : Next) (after : Seen) → keeps kind other (h.before, n.t) ≡ true → HaveSeen form kind after other (n.t ∷ h.before) n.ts
       → KeptRuns form kind after other runs run after_it whole
@@ -247,8 +222,7 @@ module _ (form : Form) (kind : SetOperation) (seen : Seen) (other : List Tree) (
     rest = n.ts;
     behind = behind;
     holds = holding_kept form runs run left after_it h.held n.ts n.t (kind_number entry.kind) entry.content.now n.opened n.first_is;
-    joined = append_assoc h.held (n.t ∷ []) (kept_behind kind other (n.t ∷ h.before) n.ts)
-        ∙ ap (λ (l : List Tree). h.held ++ l) (sym (kept_in kind other h.before n.t n.ts is)) ∙ n.whole_is;
+    joined = cc (append_assoc h.held (n.t ∷ []) (kept_behind kind other (n.t ∷ h.before) n.ts), kept_in kind other h.before n.t n.ts is);
   }
 
   pub KeptRuns-dropped : (n : Next) (after : Seen) (runs' : List Entries) → RunsHold form runs' h.held → keeps kind other (h.before, n.t) ≡ false

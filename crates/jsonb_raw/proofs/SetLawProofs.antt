@@ -1,5 +1,5 @@
 -- The laws of arrays as sets: what is kept, counted by value.
-use Rattle.std.proofs.Common.{◌≡◌, ◌≢◌, ◌↔◌, ◌+◌, ◌-◌, ◌<◌, ◌≤◌, ℕ, min, Bool, true, false, not, ◌||◌, cond, List, [], ◌∷◌, map, filter, nat_lt, nat_eq, IsTrue, inl, inr, refl, sym, ap, ap₂, ◌∙◌, arith}
+use Rattle.std.proofs.Common.{◌≡◌, ◌≢◌, ◌↔◌, ◌+◌, ◌-◌, ◌<◌, ◌≤◌, ℕ, min, Bool, true, false, not, ◌||◌, cond, List, [], ◌∷◌, map, filter, nat_lt, IsTrue, inl, inr, refl, sym, ap, ap₂, ◌∙◌, arith}
 use Rattle.std.specs.Cmp.{IsPartialEquivalence, partial_equiv_from_equiv}
 use Rattle.std.specs.List.{list_any}
 use Rattle.std.proofs.lemmas.Bool.Decides.{nat_tests}
@@ -10,6 +10,7 @@ use Rattle.jsonb_doc.specs.Proofs.Equality.{is_equal_equiv}
 use Rattle.jsonb_raw.specs.Private.SetCounts.{Occurrence, is_first}
 use Rattle.jsonb_raw.specs.Sets.{count_of, occurrences, is_shared, distinct, intersection_of, difference_of, overlap}
 use Rattle.jsonb_raw.specs.Partition.{IsPartitionedInto}
+use Rattle.jsonb_doc.proofs.Basics.{same_test}
 
 -- ---- a test and its opposite deal
 
@@ -40,11 +41,6 @@ split_deals ts other = tests_deal (is_shared other) [] ts
 equal_per : IsPartialEquivalence is_equal
 equal_per = partial_equiv_from_equiv is_equal_equiv
 
-same_test : (a b : Bool) → (a ≡ true → b ≡ true) → (b ≡ true → a ≡ true) → a ≡ b
-same_test true b f g = sym (f refl)
-same_test false true f g = g refl
-same_test false false f g = refl
-
 -- equal trees equal the same ones
 alike : (u t v : Tree) → is_equal t v ≡ true → is_equal u t ≡ is_equal u v
 alike u t v e =
@@ -52,14 +48,13 @@ alike u t v e =
     (λ h. equal_per.trans u t v h e)
     (λ h. equal_per.trans u v t h (equal_per.symm v t ∙ e))
 
-count-cons : (t x : Tree) (ts : List Tree) → count_of t (x ∷ ts) ≡ cond (is_equal x t) 1 0 + count_of t ts
+pub count-cons : (t x : Tree) (ts : List Tree) → count_of t (x ∷ ts) ≡ cond (is_equal x t) 1 0 + count_of t ts
 count-cons t x ts = sum_by-cons (λ u. cond (is_equal u t) 1 0) x ts
 
 -- equal trees are counted alike
 pub same_counts : (t v : Tree) (ts : List Tree) → is_equal t v ≡ true → count_of t ts ≡ count_of v ts
 same_counts t v [] e = refl
-same_counts t v (x ∷ ts) e =
-    count-cons t x ts ∙ ap₂ (λ b n. cond b 1 0 + n) (alike x t v e) (same_counts t v ts e) ∙ sym (count-cons v x ts)
+same_counts t v (x ∷ ts) e = cc (count-cons t x ts, alike x t v e, same_counts t v ts e, count-cons v x ts)
 
 dealt_counts : (t : Tree) (zs xs ys : List Tree) → IsPartitionedInto zs xs ys → count_of t xs + count_of t ys ≡ count_of t zs
 dealt_counts t [] xs ys h = rw (h.0, h.1) refl
@@ -119,11 +114,8 @@ difference_counts ts other t =
 
 pub distinct_counts : (ts : List Tree) (t : Tree) → count_of t (distinct ts) ≡ min (count_of t ts) 1
 distinct_counts ts t =
-    let h = kept_counts is_first (λ x. 1) (λ before x. none (count_of x before)) (λ x v e. refl) t [] ts in
+    let h = kept_counts is_first (λ x. 1) (λ before x. grind (arith, nat_tests)) (λ x v e. refl) t [] ts in
     omega (arith, h)
-  where
-    none : (n : ℕ) → nat_eq n 0 ≡ nat_lt n 1
-    none n = grind (arith, nat_tests)
 
 -- ---- overlap
 
@@ -140,20 +132,11 @@ behind_another t x ts e h = let h' : count_of t (x ∷ ts) ≡ 0 + count_of t ts
 -- some tree equals it if and only if it is counted
 any_from_count : (t : Tree) (ts : List Tree) → 0 < count_of t ts → list_any (λ u. is_equal t u) ts ≡ true
 any_from_count t [] h = absurd (omega (arith, h))
-any_from_count t (x ∷ ts) h = by (is_equal t x) (equal_per.symm t x) (any_from_count t ts)
-  where
-    by : (b : Bool) → b ≡ is_equal x t → (0 < count_of t ts → list_any (λ u. is_equal t u) ts ≡ true) → (b || list_any (λ u. is_equal t u) ts) ≡ true
-    by true e rest = refl
-    by false e rest = rest (behind_another t x ts (sym e) h)
+any_from_count t (x ∷ ts) h = grind (arith, equal_per.symm t x, any_from_count t ts, behind_another t x ts, h)
 
 count_from_any : (t : Tree) (ts : List Tree) → list_any (λ u. is_equal t u) ts ≡ true → 0 < count_of t ts
 count_from_any t [] h = absurd (cc)
-count_from_any t (x ∷ ts) h = by (is_equal t x) (equal_per.symm t x) (count_from_any t ts) h
-  where
-    by : (b : Bool) → b ≡ is_equal x t → (list_any (λ u. is_equal t u) ts ≡ true → 0 < count_of t ts) → (b || list_any (λ u. is_equal t u) ts) ≡ true
-        → 0 < count_of t (x ∷ ts)
-    by true e rest h' = counted t x ts (sym e)
-    by false e rest h' = counted_behind t x ts (rest h')
+count_from_any t (x ∷ ts) h = grind (arith, equal_per.symm t x, count_from_any t ts, counted t x ts, counted_behind t x ts, h)
 
 -- a value that both lists have
 pub record HasBoth (ts other : List Tree) : Type 0 where
@@ -171,8 +154,7 @@ overlap_value (x ∷ ts) other h = by (list_any (λ u. is_equal x u) other) refl
     by false e rest h' = let v = rest h' in record { value = v.value; first = counted_behind v.value x ts v.first; second = v.second }
 
 or_true : (b : Bool) → (b || true) ≡ true
-or_true true = refl
-or_true false = refl
+or_true b = grind arith
 
 value_overlaps : (ts other : List Tree) (t : Tree) → 0 < count_of t ts → 0 < count_of t other → overlap ts other ≡ true
 value_overlaps [] other t h k = absurd (omega (arith, h))

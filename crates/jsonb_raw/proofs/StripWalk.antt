@@ -1,9 +1,7 @@
 -- Containers that are written again without the nulls of their objects: what is read, written, and left.
-use Rattle.std.proofs.Common.{◌≡◌, ℕ, suc, ◌+◌, ◌*◌, ◌^◌, ◌≤◌, ap₂, Bool, true, false, List, [], ◌∷◌, ◌++◌, Option, Some, None, length, map, refl, sym, ap, subst, ◌∙◌, arith, append_assoc}
-use Rattle.std.specs.Prelude.{reverse, Result, Ok, Err, IsOkAnd, MatchResult}
-use Rattle.jsonb_doc.specs.declared.error.Error.{Error}
+use Rattle.std.proofs.Common.{◌≡◌, ℕ, ◌+◌, ◌*◌, ◌^◌, ◌≤◌, ap₂, Bool, true, false, List, [], ◌∷◌, ◌++◌, Some, None, length, map, refl, sym, ap, subst, ◌∙◌, arith, append_assoc}
 use Rattle.jsonb_doc.specs.Kinds.{kind_number}
-use Rattle.jsonb_doc.specs.Tree.{Tree, boolean, text, array, object, no_pairs, pair, elements, values, keys}
+use Rattle.jsonb_doc.specs.Tree.{Tree, text, array, object, no_pairs, pair, elements, values, keys}
 use Rattle.jsonb_doc.specs.Payload.{Form, number_reader}
 use Rattle.jsonb_doc.specs.Format.{IsContent}
 use Rattle.jsonb_doc.specs.Private.EntryKinds.{container_entry}
@@ -11,7 +9,6 @@ use Rattle.jsonb_doc.specs.declared.entry_iter.StoredEntry.{StoredEntry}
 use Rattle.jsonb_doc.specs.declared.cursor.Entries.{Entries}
 use Rattle.jsonb_doc.specs.declared.rewriting.Writer.{Writer}
 use Rattle.jsonb_doc.specs.declared.layout.HeaderKind.TheVariants as header_kind
-use Rattle.jsonb_doc.specs.Private.Cursor.{IsFirst, TakesFirst}
 use Rattle.jsonb_doc.specs.Private.Containers.{StartWith}
 use Rattle.jsonb_doc.specs.Private.Writer.{AreSortedKeys, Around, IsWriting}
 use Rattle.jsonb_doc.proofs.WordLemmas.{word_cancel}
@@ -21,25 +18,19 @@ use Rattle.jsonb_raw.specs.declared.functions.operator.stripping.ValuesLeft.{Val
 use Rattle.jsonb_raw.specs.declared.functions.operator.stripping.Outer.{Outer}
 use Rattle.jsonb_raw.specs.declared.functions.parts.ContainerEntries.{ContainerEntries}
 use Rattle.jsonb_raw.specs.Private.Entries.{HoldTrees, AreEntriesOf, AreContainerEntries, Holding}
-use Rattle.jsonb_raw.specs.Private.Stripping.{WordsHold, stops, stripped, beside, entries_kept, values_kept, HoldValues, Begins, AreWritten, AreLeft}
+use Rattle.jsonb_raw.specs.Private.Stripping.{WordsHold, stops, stripped, beside, entries_kept, values_kept, HoldValues, Begins, AreWritten}
 use Rattle.jsonb_raw.specs.Scalars.{is_null}
 use Rattle.jsonb_raw.specs.Strip.{strip, strip_pairs}
-use Rattle.jsonb_raw.proofs.LevelLemmas.{innermost}
-use Rattle.jsonb_raw.proofs.RunLemmas.{holding_begun, holding_kept}
-use Rattle.jsonb_raw.proofs.StripLists.{null_kind, is_none, is_some, stays, container_stays, left_out, all_keys, keys_count, as_many_keys, beside_keys, values_of-members, all_elements}
+use Rattle.jsonb_raw.proofs.RunLemmas.{holding_begun, holding_kept, EntryTaken, TextFirst}
+use Rattle.jsonb_raw.proofs.StripLists.{null_kind, is_none, is_some, stays, container_stays, left_out, all_keys, keys_count, as_many_keys, beside_keys, values_of-members, all_elements, beside_none}
+use Rattle.jsonb_doc.proofs.Basics.{many_texts}
 
 -- a scalar stays
 pub scalar_stays : (form : Form) (t : Tree) → AreContainerEntries form t None → strip t ≡ t
-scalar_stays form (array ts) h = absurd h
-scalar_stays form (object ps) h = absurd h
-scalar_stays form _ h = refl
+scalar_stays form t h = grind arith
 
 pub no_container : (form : Form) (t : Tree) (bytes : List ℕ) → IsContent (number_reader form) t container_entry bytes → AreContainerEntries form t None → ⊥
-no_container form (array ts) bytes is h = h
-no_container form (object ps) bytes is h = h
-no_container form (boolean true) bytes is h = omega (arith, is.0)
-no_container form (boolean false) bytes is h = omega (arith, is.0)
-no_container form _ bytes is h = omega (arith, is.0)
+no_container form t bytes h k = grind arith
 
 -- ---- words are read
 
@@ -85,18 +76,6 @@ words_of_run form run ts h = record { contents = run.contents.now; entries = h.e
 
 -- ---- values are written in runs
 
--- Holds if this is the entry of the first tree, and those after it are of the others.
-pub record FirstOf (form : Form) (left : Entries) (ts : List Tree) (entry : StoredEntry) (others : Entries) : Type 0 where
-  pub t : Tree
-  pub rest : List Tree
-  pub split : ts ≡ t ∷ rest
-  pub is_first : IsFirst form left t rest (kind_number entry.kind) entry.content.now others
-
-pub first_of : (form : Form) (left : Entries) (ts : List Tree) (found : Option (StoredEntry × Entries)) (entry : StoredEntry) (others : Entries)
-    → found ≡ Some (entry, others) → TakesFirst form left ts found → FirstOf form left ts entry others
-first_of form left [] found entry others is h = absurd (rw is at h)
-first_of form left (t ∷ ts) found entry others is h = record { t = t; rest = ts; split = refl; is_first = rw is at h }
-
 -- Holds if the trees of the run before the remaining ones are coming next, and then the remaining ones without nulls.
 pub record ScalarsOpen (form : Form) (is_object : Bool) (w : Writer) (run left : Entries) (around : Around) (whole : Tree) : Type 0 where
   pub here : List Tree
@@ -111,7 +90,7 @@ scalars_begun form is_object w run around whole ts h writing =
 
 module _ (form : Form) (is_object : Bool) (w : Writer) (run left : Entries) (around : Around) (whole : Tree)
     (o : ScalarsOpen form is_object w run left around whole) where
-  module _ (entry : StoredEntry) (others : Entries) (f : FirstOf form left o.trees entry others) where
+  module _ (entry : StoredEntry) (others : Entries) (f : EntryTaken form left o.trees entry others) where
     next_coming : IsWriting form w (o.here ++ stripped is_object (f.t ∷ f.rest)) around whole
     next_coming = subst (λ us. IsWriting form w (o.here ++ stripped is_object us) around whole) f.split o.writing
 
@@ -182,12 +161,7 @@ object_count form _ e is h n counted = absurd h
 
 pub array_count : (form : Form) (t : Tree) (e : ContainerEntries) → (e.kind ≡ header_kind.Object → ⊥) → AreEntriesOf form t e → (n : ℕ)
     → ((ts : List Tree) → HoldTrees form e.values ts → n ≡ length ts) → n ≡ length (values_kept t)
-array_count form (array ts) e other h n counted = counted (elements ts) h.2 ∙ sym (all_elements ts)
-array_count form (object ps) e other h n counted = absurd (other h.0)
-array_count form _ e other h n counted = absurd h
-
-pub both_ways : (b : Bool) → b ≡ true → b ≡ false → ⊥
-both_ways b e f = cc
+array_count form t e h k n f = grind (arith, all_elements)
 
 -- the keys of a container are sorted
 pub sorted_names : (form : Form) (t : Tree) (e : ContainerEntries) → AreEntriesOf form t e
@@ -217,29 +191,13 @@ pub record KeysOpen (form : Form) (run left : Entries) (words : List ℕ) (w : W
   pub enough : length names ≤ length trees
   pub writing : IsWriting form w (here ++ (map text (beside trees names) ++ coming)) around whole
 
--- Holds if this is the entry of the first key, and those after it are of the others.
-pub record FirstKey (form : Form) (left : Entries) (names : List (List ℕ)) (entry : StoredEntry) (others : Entries) : Type 0 where
-  pub name : List ℕ
-  pub rest : List (List ℕ)
-  pub split : names ≡ name ∷ rest
-  pub is_first : IsFirst form left (text name) (map text rest) (kind_number entry.kind) entry.content.now others
-
-pub first_key : (form : Form) (left : Entries) (names : List (List ℕ)) (found : Option (StoredEntry × Entries)) (entry : StoredEntry) (others : Entries)
-    → found ≡ Some (entry, others) → TakesFirst form left (map text names) found → FirstKey form left names entry others
-first_key form left [] found entry others is h = absurd (rw is at h)
-first_key form left (name ∷ names) found entry others is h = record { name = name; rest = names; split = refl; is_first = rw is at h }
-
 module _ (form : Form) (run left : Entries) (words : List ℕ) (w : Writer) (coming : List Tree) (around : Around) (whole : Tree)
     (o : KeysOpen form run left words w coming around whole) where
   pub keys_done : o.names ≡ [] → IsWriting form w (o.here ++ coming) around whole
   keys_done none =
       subst (λ us. IsWriting form w (o.here ++ (map text us ++ coming)) around whole) (ap (beside o.trees) none ∙ beside_none o.trees) o.writing
-    where
-      beside_none : (ts : List Tree) → beside ts [] ≡ []
-      beside_none [] = refl
-      beside_none (t ∷ ts) = refl
 
-  module _ (key : StoredEntry) (others : Entries) (k : FirstKey form left o.names key others) where
+  module _ (key : StoredEntry) (others : Entries) (k : TextFirst form left o.names key others) where
     pub value_there : o.trees ≡ [] → ⊥
     value_there none = let enough = o.enough in omega (arith, enough, ap length k.split, ap length none)
 
@@ -247,31 +205,31 @@ module _ (form : Form) (run left : Entries) (words : List ℕ) (w : Writer) (com
       few : length k.rest ≤ length f.rest
       few = let enough = o.enough in omega (arith, enough, ap length k.split, ap length f.split)
 
-      split_both : beside o.trees o.names ≡ beside (f.t ∷ f.rest) (k.name ∷ k.rest)
+      split_both : beside o.trees o.names ≡ beside (f.t ∷ f.rest) (key.content.now ∷ k.rest)
       split_both = ap₂ beside f.split k.split
 
       pub key_kept : (kind ≡ 0 → ⊥) → KeysOpen form run others after w coming around whole
       key_kept some =
           let null : is_null f.t ≡ false = sym (null_kind form f.t _ _ f.part) ∙ is_some _ some in
-          let kept : beside (f.t ∷ f.rest) (k.name ∷ k.rest) ≡ k.name ∷ beside f.rest k.rest = rw null refl in
+          let kept : beside (f.t ∷ f.rest) (key.content.now ∷ k.rest) ≡ key.content.now ∷ beside f.rest k.rest = rw null refl in
           record {
-            here = o.here ++ text k.name ∷ [];
+            here = o.here ++ text key.content.now ∷ [];
             names = k.rest;
             trees = f.rest;
-            holding = holding_kept form [] run left others o.here (map text k.rest) (text k.name) (kind_number key.kind) key.content.now
+            holding = holding_kept form [] run left others o.here (map text k.rest) (text key.content.now) (kind_number key.kind) key.content.now
                 (subst (λ (ks : List (List ℕ)). Holding form [] run left o.here (map text ks)) k.split o.holding) k.is_first;
             words_hold = f.others_hold;
             enough = few;
             writing = subst (λ us. IsWriting form w us around whole)
                 (ap (λ ks. o.here ++ (map text ks ++ coming)) (split_both ∙ kept)
-                ∙ sym (append_assoc o.here (text k.name ∷ []) (map text (beside f.rest k.rest) ++ coming))) o.writing;
+                ∙ sym (append_assoc o.here (text key.content.now ∷ []) (map text (beside f.rest k.rest) ++ coming))) o.writing;
           }
 
       pub key_dropped : (w' : Writer) → IsWriting form w' (map text (beside o.trees o.names) ++ coming) around whole → kind ≡ 0
           → KeysOpen form others others after w' coming around whole
       key_dropped w' copied none =
           let null : is_null f.t ≡ true = sym (null_kind form f.t _ _ f.part) ∙ is_none _ none in
-          let dropped : beside (f.t ∷ f.rest) (k.name ∷ k.rest) ≡ beside f.rest k.rest = rw null refl in
+          let dropped : beside (f.t ∷ f.rest) (key.content.now ∷ k.rest) ≡ beside f.rest k.rest = rw null refl in
           record {
             here = [];
             names = k.rest;
@@ -305,12 +263,8 @@ pub all_keys_stay : (form : Form) (t : Tree) (e : ContainerEntries) (h : AreEntr
 all_keys_stay form (array ts) e h w around whole writing n m is counted same = record { names = []; hold = h.1; coming = writing }
 all_keys_stay form (object ps) e h w around whole writing n m is counted same =
     let names : HoldTrees form e.keys (map text (keys ps)) = rw (keys_of-members ps) at h.2.names in
-    let all : keys (strip_pairs ps) ≡ keys ps = all_keys ps (omega (arith, keys_count ps, is, same, counted _ names, many (keys ps))) in
+    let all : keys (strip_pairs ps) ≡ keys ps = all_keys ps (omega (arith, keys_count ps, is, same, counted _ names, many_texts (keys ps))) in
     record { names = map text (keys ps); hold = names; coming = rw all at writing }
-  where
-    many : (ks : List (List ℕ)) → length (map text ks) ≡ length ks
-    many [] = refl
-    many (k ∷ ks) = ap suc (many ks)
 all_keys_stay form _ e h w around whole writing n m is counted same = absurd h
 
 pub some_keys_stay : (form : Form) (t : Tree) (e : ContainerEntries) (h : AreEntriesOf form t e) (w : Writer) (around : Around) (whole : Tree)
@@ -321,12 +275,8 @@ some_keys_stay form (array ts) e h w around whole writing = record {
   names_hold = h.1;
   trees_hold = h.2;
   enough = omega arith;
-  coming = subst (λ (ks : List (List ℕ)). IsWriting form w (map text ks ++ values_kept (array ts)) around whole) (sym (none (elements ts))) writing;
+  coming = subst (λ (ks : List (List ℕ)). IsWriting form w (map text ks ++ values_kept (array ts)) around whole) (sym (beside_none (elements ts))) writing;
 }
-  where
-    none : (us : List Tree) → beside us [] ≡ []
-    none [] = refl
-    none (u ∷ us) = refl
 some_keys_stay form (object ps) e h w around whole writing = record {
   names = keys ps;
   trees = elements (values ps);
@@ -352,41 +302,6 @@ pub begun_with : (form : Form) (left : ValuesLeft) (w : Writer) (around : Around
 begun_with form left w around t whole h writing =
     record { trees = h.trees; holds = h.holds; writing = subst (λ us. IsWriting form w us around whole) (sym h.kept) writing }
 
--- ---- the containers around
-
-pub pushed_outer : (form : Form) (around around' : List Outer) (outer : Outer) (outside : Around) (ts : List Tree) → around' ≡ around ++ outer ∷ []
-    → HoldTrees form outer.left.entries ts → AreLeft form (reverse around) outside
-    → AreLeft form (reverse around') ((outer.open, stripped outer.left.is_object ts) ∷ outside)
-pushed_outer form around around' outer outside ts e holds h =
-    subst (λ (os : List Outer). AreLeft form os ((outer.open, stripped outer.left.is_object ts) ∷ outside)) (sym (ap reverse e ∙ innermost around outer))
-    ((ts, holds, refl), h)
-
-pub record Popped (form : Form) (around : List Outer) (outer : Outer) (outside : Around) : Type 0 where
-  pub trees : List Tree
-  pub rest : Around
-  pub holds : HoldTrees form outer.left.entries trees
-  pub outside_is : outside ≡ (outer.open, stripped outer.left.is_object trees) ∷ rest
-  pub are_left : AreLeft form (reverse around) rest
-
-pub popped_outer : (form : Form) (around around' : List Outer) (outer : Outer) (outside : Around) → around ≡ around' ++ outer ∷ []
-    → AreLeft form (reverse around) outside → Popped form around' outer outside
-popped_outer form around around' outer outside e h =
-    pop outside (subst (λ (os : List Outer). AreLeft form os outside) (ap reverse e ∙ innermost around' outer) h) refl
-  where
-    pop : (ls : Around) → AreLeft form (outer ∷ reverse around') ls → outside ≡ ls → Popped form around' outer outside
-    pop [] t is = absurd t
-    pop (l ∷ ls) t is = record {
-      trees = t.0.0;
-      rest = ls;
-      holds = t.0.1;
-      outside_is = is ∙ ap (λ o. o ∷ ls) t.0.2;
-      are_left = t.1;
-    }
-
-pub none_outside : (form : Form) (around : List Outer) (outside : Around) → around ≡ [] → AreLeft form (reverse around) outside → outside ≡ []
-none_outside form around [] none h = refl
-none_outside form around (l ∷ ls) none h = absurd (rw none at h)
-
 -- ---- how much is left
 
 abbrev pub room : ValuesLeft → ℕ
@@ -402,8 +317,3 @@ rooms-pushed around around' o e = ap rooms e ∙ more around
     more : (os : List Outer) → rooms (os ++ o ∷ []) ≡ rooms os + room o.left
     more [] = omega arith
     more (p ∷ os) = omega (arith, more os)
-
--- a result that is not an error
-pub only_ok : {A : Type 0} (P : A → Type 0) (Q : Error → Type 0) (r : Result A Error) → IsOkAnd r P → MatchResult r P Q
-only_ok P Q (Ok x) h = h
-only_ok P Q (Err e) h = absurd h

@@ -1,19 +1,16 @@
 -- What calls decided of strings that are joined.
-use Rattle.std.proofs.Common.{◌≡◌, ◌==◌, ℕ, Option, Some, None, ◌+◌, zero, suc, Bool, true, false, List, [], ◌∷◌, ◌++◌, length, refl, ◌∙◌, arith, length-append, true≢false}
-use Rattle.std.proofs.lemmas.Bool.{eqb-true}
-use Rattle.jsonb_doc.specs.Payload.{number_reader, Form}
+use Rattle.std.proofs.Common.{◌≡◌, ◌==◌, ℕ, Option, Some, None, ◌+◌, Bool, true, false, List, [], ◌∷◌, ◌++◌, length, refl, ◌∙◌, arith, length-append, eqb-true, Bor, Any}
+use Rattle.jsonb_doc.specs.Payload.{Form}
 use Rattle.jsonb_doc.specs.Private.Stored.{Stores}
 use Rattle.jsonb_doc.specs.Kinds.{kind_number}
 use Rattle.jsonb_doc.specs.declared.entry_iter.StoredEntry.{StoredEntry}
 use Rattle.jsonb_doc.proofs.ScalarLemmas.{text_content}
-use Rattle.std.specs.Prelude.{All, Any}
-use Rattle.std.specs.Borrow.{Bor}
 use Rattle.std.specs.Fn.{Shared, FnReturnsAt}
 use Rattle.std.proofs.lemmas.List.{get_or_append_left, get_or-append-add}
-use Rattle.std.proofs.lemmas.List.Elements.{All-append}
+use Rattle.std.proofs.lemmas.List.Elements.{All-append, All-cons}
 use Rattle.jsonb_raw.specs.Texts.{Tells, texts}
 use Rattle.jsonb_raw.specs.Private.LargeTexts.{LargeTells, LeavesTexts}
-use Rattle.jsonb_doc.specs.Tree.{Tree, null, boolean, number, text, extension, array, object}
+use Rattle.jsonb_doc.specs.Tree.{Tree}
 use Rattle.jsonb_doc.specs.Item.{StandsFor}
 use Rattle.jsonb_doc.specs.declared.item.Item.{Item}
 
@@ -31,10 +28,6 @@ module _ {X : Type 0} (P : X → Type 0) where
   any_head : (x : X) (xs : List X) → P x → Any P (x ∷ xs)
   any_head x xs p = (0, x, omega arith, refl, p)
 
-  all_head : (x : X) (xs : List X) → P x → All P xs → All P (x ∷ xs)
-  all_head x xs p h zero d below = p
-  all_head x xs p h (suc k) d below = h k d (omega arith)
-
 -- The strings that are left, and those that were not asked about, decide what all determine.
 pub record Leaves {F : Type 0} (calls : Shared F (Bor (List ℕ) × Unit {0}) Bool) (func : F) (form : Form) (all left : List (List ℕ))
     (large : Option Item) : Type 0 where
@@ -50,7 +43,7 @@ module _ {F : Type 0} (calls : Shared F (Bor (List ℕ) × Unit {0}) Bool) (func
 
   pub told_alone : (x : List ℕ) (answer : Bool) → FnReturnsAt calls func x answer → Tells calls func (x ∷ []) answer
   told_alone x true h = any_head (Answered true) x [] h
-  told_alone x false h = all_head (Answered false) x [] h told_none
+  told_alone x false h = All-cons (Answered false) x [] h told_none
 
   pub told_first : (xs ys : List (List ℕ)) → Tells calls func xs true → Tells calls func (xs ++ ys) true
   told_first xs ys h = any_in_first (Answered true) xs ys h
@@ -69,7 +62,7 @@ module _ {F : Type 0} (calls : Shared F (Bor (List ℕ) × Unit {0}) Bool) (func
   pub told_after : (x : List ℕ) (xs : List (List ℕ)) → FnReturnsAt calls func x false → (answer : Bool) → Tells calls func xs answer
       → Tells calls func (x ∷ xs) answer
   told_after x xs h true k = any_in_second (Answered true) (x ∷ []) xs k
-  told_after x xs h false k = all_head (Answered false) x xs h k
+  told_after x xs h false k = All-cons (Answered false) x xs h k
 
   module _ (form : Form) (all : List (List ℕ)) where
     pub leaves_all : Leaves calls func form all all None
@@ -102,17 +95,8 @@ module _ {F : Type 0} (calls : Shared F (Bor (List ℕ) × Unit {0}) Bool) (func
 module _ (form : Form) (e : StoredEntry) where
   -- an entry of that kind is the text of its bytes
   pub text_stored : (t : Tree) → Stores form e t → (kind_number e.kind == 1) ≡ true → texts t ≡ e.content.now ∷ []
-  text_stored t h k =
-      let is : kind_number e.kind ≡ 1 = eqb-true (kind_number e.kind) 1 k in
-      let told = text_content (number_reader form) (kind_number e.kind) e.content.now t is h.content in
-      rw told.0 refl
+  text_stored t h e = grind (arith, eqb-true, text_content)
 
   -- what is neither a string nor a container has none
   pub no_texts : (t : Tree) → Stores form e t → (kind_number e.kind == 1) ≡ false → (kind_number e.kind == 5) ≡ false → texts t ≡ []
-  no_texts null h k l = refl
-  no_texts (boolean b) h k l = refl
-  no_texts (number n) h k l = refl
-  no_texts (text s) h k l = absurd (true≢false (rw h.content.0 at k))
-  no_texts (extension x) h k l = refl
-  no_texts (array ts) h k l = absurd (true≢false (rw h.content.0 at l))
-  no_texts (object ps) h k l = absurd (true≢false (rw h.content.0 at l))
+  no_texts t h k e = grind arith

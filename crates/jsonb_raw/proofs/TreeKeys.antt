@@ -1,10 +1,10 @@
 -- The keys of trees, with any rests after them, rank as the trees do.
-use Rattle.std.proofs.Common.{◌≡◌, ◌≢◌, ◌⊎◌, ℕ, suc, ◌+◌, ◌<◌, ◌≤◌, List, [], ◌∷◌, ◌++◌, Bool, true, false, inl, inr, refl, sym, ap, ap₂, subst, ◌∙◌, arith, nat_cmp, Ordering, Less, Greater, append_assoc, mod-eq_of_lt, w8}
+use Rattle.std.proofs.Common.{◌≡◌, ◌≢◌, ◌⊎◌, ℕ, suc, ◌+◌, ◌<◌, ◌≤◌, List, [], ◌∷◌, ◌++◌, Bool, true, false, inl, inr, refl, sym, ap, ap₂, subst, ◌∙◌, arith, nat_cmp, Ordering, Less, Greater, append_assoc, mod-eq_of_lt}
 use Rattle.std.specs.Ordering.{ordering_then}
 use Rattle.std.specs.Int.{Width, to_be_bytes, byte_len}
 use Rattle.std.proofs.lemmas.Bool.{cases_order}
-use Rattle.jsonb_doc.specs.Proofs.Orderings.{nat_cmp-lt, nat_cmp-gt, nat_cmp_refl, then_assoc}
-use Rattle.jsonb_raw.proofs.Ranking.{bytes_cmp, Ranks-bytes_high_first, Ranks-text_bytes}
+use Rattle.jsonb_doc.specs.Proofs.Orderings.{nat_cmp_refl, then_assoc}
+use Rattle.jsonb_raw.proofs.Ranking.{Ranks-bytes_high_first, Ranks-text_bytes}
 use Rattle.jsonb_raw.proofs.NumberKeys.{Ranks-number_bytes, bounded_from_fits}
 use Rattle.jsonb_doc.specs.Tree.{Tree, Trees, Pairs}
 use Rattle.jsonb_doc.specs.Payload.{extension_payload}
@@ -13,6 +13,7 @@ use Rattle.jsonb_raw.proofs.ExtensionLeaves.{LacksExtension, LackExtension, Valu
 use Rattle.jsonb_doc.specs.Limits.{IsInRange, AreInRange, ValuesAreInRange}
 use Rattle.jsonb_doc.specs.Order.{rank, tree_cmp, trees_cmp, pairs_cmp}
 use Rattle.jsonb_raw.specs.SortableKey.{sortable_key, keys_of_trees, keys_of_pairs, depths, item_bytes, text_bytes, number_bytes, IsRest}
+use Rattle.jsonb_doc.proofs.Basics.{bytes_cmp}
 
 -- The parts are in range, and no extension occurs: what sortable keys put in order.
 abbrev pub IsSortable : Tree → Type 0
@@ -34,9 +35,7 @@ depth_ranks w d e r s hd he = (Ranks-bytes_high_first (byte_len w) d e).ranks r 
 pub items_rank : (w : Width) (d k l : ℕ) (xs ys r s : List ℕ) → d < depths w
     → bytes_cmp (item_bytes w d k xs ++ r) (item_bytes w d l ys ++ s) ≡ ordering_then (nat_cmp k l) (bytes_cmp (xs ++ r) (ys ++ s))
 items_rank w d k l xs ys r s h =
-    ap₂ bytes_cmp (append_assoc (to_be_bytes w d) (k ∷ xs) r) (append_assoc (to_be_bytes w d) (l ∷ ys) s)
-    ∙ depth_ranks w d d (k ∷ xs ++ r) (l ∷ ys ++ s) h h
-    ∙ ap (λ o. ordering_then o (ordering_then (nat_cmp k l) (bytes_cmp (xs ++ r) (ys ++ s)))) (nat_cmp_refl d)
+    cc (append_assoc (to_be_bytes w d) (k ∷ xs) r, append_assoc (to_be_bytes w d) (l ∷ ys) s, depth_ranks w d d (k ∷ xs ++ r) (l ∷ ys ++ s) h h, nat_cmp_refl d)
 
 -- items of one kind
 same_kind : (w : Width) (d k : ℕ) (xs ys r s : List ℕ) (o : Ordering) → d < depths w → bytes_cmp (xs ++ r) (ys ++ s) ≡ ordering_then o (bytes_cmp r s)
@@ -49,9 +48,7 @@ other_kind : (w : Width) (d k l : ℕ) (xs ys r s : List ℕ) → d < depths w �
 other_kind w d k l xs ys r s h ne = items_rank w d k l xs ys r s h ∙ by_order (cases_order k l)
   where
     by_order : (k ≡ l) ⊎ ((k < l) ⊎ (l < k)) → ordering_then (nat_cmp k l) (bytes_cmp (xs ++ r) (ys ++ s)) ≡ ordering_then (nat_cmp k l) (bytes_cmp r s)
-    by_order (inl e) = absurd (ne e)
-    by_order (inr (inl b)) = rw (nat_cmp-lt k l b) refl
-    by_order (inr (inr g)) = rw (nat_cmp-gt k l g) refl
+    by_order h = grind arith
 
 -- what may follow an item at one depth may follow one further down
 IsRest-deeper : (w : Width) (d : ℕ) (r : List ℕ) → IsRest w d r → IsRest w (suc d) r
@@ -64,27 +61,17 @@ IsRest-item w d k xs r = inr (d, k ∷ xs ++ r, omega arith, append_assoc (to_be
 
 -- bytes that begin with a depth are not empty
 pub nothing_below_depth : (w : Width) (d : ℕ) (s : List ℕ) → bytes_cmp [] (to_be_bytes w d ++ s) ≡ Less
-nothing_below_depth w8 d s = refl
-nothing_below_depth _ d s = refl
+nothing_below_depth w d s = grind arith
 
 pub nothing_above_depth : (w : Width) (d : ℕ) (r : List ℕ) → bytes_cmp (to_be_bytes w d ++ r) [] ≡ Greater
-nothing_above_depth w8 d r = refl
-nothing_above_depth _ d r = refl
+nothing_above_depth w d r = grind arith
 
 -- a rest is below an item that is deeper
 rest_below : (w : Width) (d k : ℕ) (xs r s : List ℕ) → suc d < depths w → IsRest w d r → bytes_cmp r (item_bytes w (suc d) k xs ++ s) ≡ Less
-rest_below w d k xs r s h (inl e) = ap₂ bytes_cmp e (append_assoc (to_be_bytes w (suc d)) (k ∷ xs) s) ∙ nothing_below_depth w (suc d) (k ∷ xs ++ s)
-rest_below w d k xs r s h (inr f) =
-    ap₂ bytes_cmp f.3 (append_assoc (to_be_bytes w (suc d)) (k ∷ xs) s)
-    ∙ depth_ranks w f.0 (suc d) f.1 (k ∷ xs ++ s) (omega arith) h
-    ∙ ap (λ o. ordering_then o (bytes_cmp f.1 (k ∷ xs ++ s))) (nat_cmp-lt f.0 (suc d) (omega arith))
+rest_below w d k xs r s h e = grind (arith, bytes_cmp, append_assoc, nothing_below_depth, depth_ranks)
 
 rest_above : (w : Width) (d k : ℕ) (xs r s : List ℕ) → suc d < depths w → IsRest w d s → bytes_cmp (item_bytes w (suc d) k xs ++ r) s ≡ Greater
-rest_above w d k xs r s h (inl e) = ap₂ bytes_cmp (append_assoc (to_be_bytes w (suc d)) (k ∷ xs) r) e ∙ nothing_above_depth w (suc d) (k ∷ xs ++ r)
-rest_above w d k xs r s h (inr f) =
-    ap₂ bytes_cmp (append_assoc (to_be_bytes w (suc d)) (k ∷ xs) r) f.3
-    ∙ depth_ranks w (suc d) f.0 (k ∷ xs ++ r) f.1 h (omega arith)
-    ∙ ap (λ o. ordering_then o (bytes_cmp (k ∷ xs ++ r) f.1)) (nat_cmp-gt (suc d) f.0 (omega arith))
+rest_above w d k xs r s h e = grind (arith, bytes_cmp, append_assoc, nothing_above_depth, depth_ranks)
 
 -- a key is an item
 pub key_is_item : (w : Width) (t : Tree) (d : ℕ) → (xs : List ℕ) × (sortable_key w t d ≡ item_bytes w d (rank t) xs)

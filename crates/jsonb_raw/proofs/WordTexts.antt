@@ -31,9 +31,7 @@ worth_written (suc k) (b ∷ bs) zs small few =
     let byte = small 0 in
     let low : (b + 256 * worth bs) % 256 ≡ b = omega arith in
     let next : suc (length bs) + 1 ≡ suc (length bs + 1) = omega arith in
-    ap (λ n. take n (bytes_low_first 0 (suc k) (b + 256 * worth bs) ++ 0 ∷ zs)) next
-    ∙ ap₂ (λ x xs. x ∷ take (length bs + 1) (xs ++ 0 ∷ zs)) low (bytes_up k 0 b _ (worth bs) byte refl)
-    ∙ ap (λ xs. b ∷ xs) (worth_written k bs zs (λ i. small (suc i)) (omega arith))
+    cc (bytes_up k 0 b _ (worth bs) byte refl, worth_written k bs zs (λ i. small (suc i)) (omega arith))
 
 -- a word that is the number of a plain text's bytes
 pub plain_word : (text : List ℕ) (word : ℕ) → ((i : ℕ) → get_or text i 0 < 256) → length text ≤ 8 → is_plain_text text ≡ true
@@ -81,6 +79,4 @@ quad_joined (a ∷ b ∷ c ∷ d ∷ e ∷ f ∷ g ∷ h ∷ i ∷ xs) first las
 -- what is packed of a plain word is the text's key
 pub word_packed : (text bytes : List ℕ) (word len : ℕ) → IsPlainWord text word → len ≡ length text + 1
     → bytes ≡ take len (to_le_bytes w64 word ++ to_le_bytes w64 0) → bytes ≡ text_bytes text
-word_packed text bytes word len h counted is =
-    is ∙ ap (λ n. take n (to_le_bytes w64 word ++ to_le_bytes w64 0)) counted ∙ h.bytes
-    ∙ ap (λ xs. xs ++ 0 ∷ []) (sym (escaped_plain text h.plain)) ∙ sym (text_bytes-append text []) ∙ ap text_bytes (append-nil text)
+word_packed text bytes word len h counted is = cc (is, counted, h.bytes, escaped_plain text h.plain, text_bytes-append text [], append-nil text)

@@ -1,5 +1,5 @@
 -- The key of several values, one after the other, such as the columns of an index.
-use Rattle.std.specs.Prelude.{◌≡◌, ◌<◌, ◌++◌, max, ℕ, List, Option, None, Some, [], ◌∷◌, IfSome, Result, MatchResult}
+use Rattle.std.specs.Prelude.{◌≡◌, ◌++◌, max, ℕ, List, Option, None, Some, [], ◌∷◌, IfSome, Result, MatchResult}
 use Rattle.std.specs.Int.{Width}
 use Rattle.std.specs.List.{AllByRecursion, AllZip}
 use Rattle.jsonb_doc.specs.Tree.{Tree}
@@ -10,7 +10,7 @@ use Rattle.jsonb_doc.specs.Answer.{SameOption, IsOutOfMemory}
 use Rattle.jsonb_doc.specs.declared.error.Error.{Error}
 use Rattle.jsonb_raw.specs.Documents.{raw_bytes}
 use Rattle.jsonb_raw.specs.KeyAnswer.{GivesKey}
-use Rattle.jsonb_raw.specs.SortableKey.{item_bytes, sortable_key, depths, HasKey}
+use Rattle.jsonb_raw.specs.SortableKey.{item_bytes, sortable_key, HasKey}
 use Rattle.jsonb_raw.specs.declared.raw.RawJsonb.{RawJsonb}
 
 -- The key of a value that may be missing. A missing one has the type 0, which no item has.

@@ -24,6 +24,7 @@ pub mod WrittenBefore
 pub mod PackedBytes
 pub mod PlainWords
 pub mod Entries
+pub mod Found
 pub mod NamePositions
 pub mod NameBlocks
 pub mod KeyErrors

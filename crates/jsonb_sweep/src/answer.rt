@@ -9,9 +9,8 @@ use std::fmt::Display;
 pub enum Answer {
     Nothing,
     Truth(bool),
+    /// A document, a string, or other bytes.
     Bytes(Vec<u8>),
-    Text(String),
-    Document(OwnedJsonb),
     Documents(Vec<OwnedJsonb>),
 }
 
@@ -21,17 +20,25 @@ pub enum Wanted<'a> {
     Nothing,
     Truth(bool),
     Bytes(&'a [u8]),
-    Text(&'a str),
-    Document(&'a [u8]),
     Documents(&'a [&'a [u8]]),
     /// This many documents.
     Count(u64),
 }
 
 impl Answer {
+    /// A document.
+    pub fn document(document: OwnedJsonb) -> Answer {
+        Answer::Bytes(document.to_vec())
+    }
+
+    /// A string.
+    pub fn string(text: String) -> Answer {
+        Answer::Bytes(text.into_bytes())
+    }
+
     /// The document that was found, if there is one.
     pub fn found(document: Option<OwnedJsonb>) -> Answer {
-        document.map_or(Answer::Nothing, Answer::Document)
+        document.map_or(Answer::Nothing, Answer::document)
     }
 
     /// The documents that were found, if there are any.
@@ -55,35 +62,33 @@ impl Answer {
             Answer::Nothing => Wanted::Nothing,
             Answer::Truth(truth) => Wanted::Truth(*truth),
             Answer::Bytes(bytes) => Wanted::Bytes(bytes),
-            Answer::Text(text) => Wanted::Text(text.as_str()),
-            Answer::Document(document) => Wanted::Document(document.as_raw().as_bytes()),
             Answer::Documents(documents) => Wanted::Count(documents.len() as u64),
         }
     }
 
     /// Returns `true` if the result is the expected one.
     pub fn is(&self, wanted: Wanted<'_>) -> bool {
-        match (self, wanted) {
-            (Answer::Nothing, Wanted::Nothing) => true,
-            (Answer::Truth(truth), Wanted::Truth(wanted)) => *truth == wanted,
-            (Answer::Bytes(bytes), Wanted::Bytes(wanted)) => bytes.as_slice() == wanted,
-            (Answer::Text(text), Wanted::Text(wanted)) => text.as_str() == wanted,
-            (Answer::Document(document), Wanted::Document(wanted)) => {
-                document.as_raw().as_bytes() == wanted
-            }
-            (Answer::Documents(documents), Wanted::Documents(wanted)) => are(documents, wanted),
-            (Answer::Documents(documents), Wanted::Count(wanted)) => documents.len() as u64
-                == wanted,
-            _ => false,
+        match self {
+            Answer::Nothing => matches!(wanted, Wanted::Nothing),
+            Answer::Truth(truth) => matches!(wanted, Wanted::Truth(it) if it == *truth),
+            Answer::Bytes(bytes) => matches!(wanted, Wanted::Bytes(it) if it == bytes.as_slice()),
+            Answer::Documents(documents) => are(documents, wanted),
         }
     }
 }
 
-/// Returns `true` if these are the expected documents.
-fn are(documents: &[OwnedJsonb], wanted: &[&[u8]]) -> bool {
-    documents.len() == wanted.len()
-        && documents.iter().zip(wanted.iter()).all(|(document, wanted)| document.as_raw().as_bytes()
-            == *wanted)
+/// Returns `true` if these are the expected documents, or as many as expected.
+fn are(documents: &[OwnedJsonb], wanted: Wanted<'_>) -> bool {
+    match wanted {
+        Wanted::Documents(wanted) => {
+            documents.len() == wanted.len()
+                && documents.iter().zip(wanted.iter()).all(|(document, wanted)| {
+                    document.as_raw().as_bytes() == *wanted
+                })
+        }
+        Wanted::Count(wanted) => documents.len() as u64 == wanted,
+        _ => false,
+    }
 }
 
 /// Returns `true` if a call returned this value.

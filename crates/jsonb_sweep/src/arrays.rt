@@ -24,16 +24,16 @@ const ONLY_TEXT_C: &[u8] = b"\x80\x00\x00\x01\x10\x00\x00\x01c";
 
 static CASES: [Case; 11] = rows! {
     "array_values", Call::Values, TENS, Wanted::Documents(&[TEN, TWENTY, THIRTY]);
-    "array_distinct", Call::Distinct, EQUAL_NUMBERS, Wanted::Document(ONE_AND_TWO);
-    "array_intersection", Call::Intersection(ONE_ELEMENT), EQUAL_NUMBERS, Wanted::Document(ONE_ELEMENT);
-    "array_except", Call::Except(ONE_ELEMENT), EQUAL_NUMBERS, Wanted::Document(ALL_BUT_ONE);
-    "array_insert in front", Call::InsertAt(-2147483648, NINE), ONE_ELEMENT, Wanted::Document(NINE_THEN_ONE);
-    "array_insert behind", Call::InsertAt(3, ONE), TENS, Wanted::Document(TENS_AND_ONE);
-    "get_by_index", Call::GetAt(0), TENS, Wanted::Document(TEN);
+    "array_distinct", Call::Distinct, EQUAL_NUMBERS, Wanted::Bytes(ONE_AND_TWO);
+    "array_intersection", Call::Intersection(ONE_ELEMENT), EQUAL_NUMBERS, Wanted::Bytes(ONE_ELEMENT);
+    "array_except", Call::Except(ONE_ELEMENT), EQUAL_NUMBERS, Wanted::Bytes(ALL_BUT_ONE);
+    "array_insert in front", Call::InsertAt(-2147483648, NINE), ONE_ELEMENT, Wanted::Bytes(NINE_THEN_ONE);
+    "array_insert behind", Call::InsertAt(3, ONE), TENS, Wanted::Bytes(TENS_AND_ONE);
+    "get_by_index", Call::GetAt(0), TENS, Wanted::Bytes(TEN);
     "get_by_index of none", Call::GetAt(3), TENS, Wanted::Nothing;
-    "delete_by_index", Call::DeleteAt(1), MIXED, Wanted::Document(WITHOUT_TEN);
-    "delete_by_index of none", Call::DeleteAt(-2147483648), ONE_ELEMENT, Wanted::Document(ONE_ELEMENT);
-    "delete_by_name of a text", Call::Delete("a"), KEYS, Wanted::Document(ONLY_TEXT_C);
+    "delete_by_index", Call::DeleteAt(1), MIXED, Wanted::Bytes(WITHOUT_TEN);
+    "delete_by_index of none", Call::DeleteAt(-2147483648), ONE_ELEMENT, Wanted::Bytes(ONE_ELEMENT);
+    "delete_by_name of a text", Call::Delete("a"), KEYS, Wanted::Bytes(ONLY_TEXT_C);
 };
 
 /// Runs each case, and reports its result.

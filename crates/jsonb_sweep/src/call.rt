@@ -110,10 +110,10 @@ impl Call<'_> {
             Call::CompositeWide => return composite_wide(alloc, on).map(Answer::Bytes),
             Call::Row => return composite_key(alloc, &[Some(on), None]).map(Answer::Bytes),
             Call::RowWide => return composite_key_wide(alloc, &[Some(on), None]).map(Answer::Bytes),
-            Call::ToStr => return on.to_str(alloc).map(Answer::Text),
+            Call::ToStr => return on.to_str(alloc).map(Answer::string),
             Call::AsBinary => return on.as_binary(alloc).map(Answer::found_bytes),
         };
-        made.map(Answer::Document)
+        made.map(Answer::document)
     }
 }
 

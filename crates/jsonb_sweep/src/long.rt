@@ -118,15 +118,16 @@ fn of_text(rt: &HostRuntime, call: TextCall, count: u64) -> Result<bool, Error> 
     let text = repeated(rt.alloc(), ["", "sixteen_bytes_16", ""], count)?;
     let text = text.as_str();
     let item = Item::String(text);
+    let document = encode_item(rt.alloc(), &item)?;
     match call {
-        TextCall::Encode => values::encode(rt, &encode_item(rt.alloc(), &item)?),
-        TextCall::CopyAsStored => values::copy(rt, &encode_item(rt.alloc(), &item)?),
+        TextCall::Encode => values::encode(rt, &document),
+        TextCall::CopyAsStored => values::copy(rt, &document),
         TextCall::PushItem => builders::array_takes(rt, &item),
         TextCall::PushPair => builders::object_takes(rt, text, &item),
         TextCall::PushPayload => values::push_payload(rt, text.as_bytes()),
-        TextCall::Document(call) => asked_again(rt, &call, &encode_item(rt.alloc(), &item)?),
+        TextCall::Document(call) => asked_again(rt, &call, &document),
         TextCall::AsBinary => as_binary(rt, text.as_bytes()),
-        TextCall::CloneDocument => wholes::clone(rt, &encode_item(rt.alloc(), &item)?),
+        TextCall::CloneDocument => wholes::clone(rt, &document),
         TextCall::CloneValue => values::clone_own_text(rt, text),
         TextCall::OwnKeyPaths => own_key_paths(rt, text),
         TextCall::ReadName => name(rt, text),

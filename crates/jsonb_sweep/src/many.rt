@@ -151,7 +151,7 @@ fn ask_each(rt: &HostRuntime, of: Kind, count: u64, calls: &[(&str, ManyCall)]) 
 impl ManyCall {
     fn ask(self, rt: &HostRuntime, of: Kind, count: u64) -> Result<bool, Error> {
         let document = of.document(rt.alloc(), count)?;
-        let same = Wanted::Document(&document);
+        let same = Wanted::Bytes(&document);
         match self {
             ManyCall::Keep(call) => asked(rt, &call, &document, same),
             ManyCall::Again(call) => asked_again(rt, &call, &document),
@@ -302,7 +302,7 @@ fn select(rt: &HostRuntime, selecting: &Selecting, way: Way, count: u64) -> Resu
     let document = made::elements(rt.alloc(), count)?;
     let (_, selection, path, given) = *selecting;
     let wanted = match given {
-        Given::All => Wanted::Document(&document),
+        Given::All => Wanted::Bytes(&document),
         Given::Each => Wanted::Count(count),
         Given::Truth(truth) => Wanted::Truth(truth),
     };

@@ -12,14 +12,14 @@ use std::io;
 const ONLY_C: &[u8] = b"\x40\x00\x00\x01\x10\x00\x00\x01 \x00\x00\x02cP\x03";
 
 static CASES: [Case; 8] = rows! {
-    "object_keys", Call::Keys, LETTERS, Wanted::Document(KEYS);
+    "object_keys", Call::Keys, LETTERS, Wanted::Bytes(KEYS);
     "object_keys of an array", Call::Keys, TENS, Wanted::Nothing;
-    "object_insert", Call::Insert("b", NINE), LETTERS, Wanted::Document(MORE_LETTERS);
-    "object_insert of a key that is there", Call::Replace("b", NINE), MORE_LETTERS, Wanted::Document(MORE_LETTERS);
-    "get_by_name", Call::Get("a"), LETTERS, Wanted::Document(ONE);
+    "object_insert", Call::Insert("b", NINE), LETTERS, Wanted::Bytes(MORE_LETTERS);
+    "object_insert of a key that is there", Call::Replace("b", NINE), MORE_LETTERS, Wanted::Bytes(MORE_LETTERS);
+    "get_by_name", Call::Get("a"), LETTERS, Wanted::Bytes(ONE);
     "get_by_name of none", Call::Get("A"), LETTERS, Wanted::Nothing;
-    "get_by_name in another case", Call::GetIgnoringCase("A"), LETTERS, Wanted::Document(ONE);
-    "delete_by_name", Call::Delete("a"), LETTERS, Wanted::Document(ONLY_C);
+    "get_by_name in another case", Call::GetIgnoringCase("A"), LETTERS, Wanted::Bytes(ONE);
+    "delete_by_name", Call::Delete("a"), LETTERS, Wanted::Bytes(ONLY_C);
 };
 
 /// Runs each case, and reports its result.

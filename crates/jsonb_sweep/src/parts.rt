@@ -30,22 +30,18 @@ pub enum PartCall {
 impl PartCall {
     /// Makes the call on a part with this text.
     pub fn ask(self, rt: &HostRuntime, text: &str) -> Result<bool, Error> {
-        let alloc = rt.alloc();
         match self {
-            PartCall::CloneBorrowedKey => clones!(rt, KeyPath::Name(CowStr::Borrowed(text))),
-            PartCall::CloneKey => clones!(rt, KeyPath::Name(owned(alloc, text)?)),
+            PartCall::CloneBorrowedKey => clone_key(rt, CowStr::Borrowed(text)),
+            PartCall::CloneKey => clone_key(rt, owned(rt.alloc(), text)?),
             PartCall::OwnKey => own_key(rt, text),
-            PartCall::CloneOwnedKey => clones!(rt, quoted(alloc, text)?),
-            PartCall::CloneStep => clones!(rt, filter(alloc, text)?),
-            PartCall::OwnStep => owns!(rt, filter(alloc, text)?),
-            PartCall::CloneExpression => clones!(rt, comparison(alloc, text)?),
-            PartCall::OwnExpression => owns!(rt, comparison(alloc, text)?),
-            PartCall::CloneLiteral => clones!(rt, literal(alloc, text)?),
-            PartCall::CloneBorrowedLiteral => clones!(
-                rt,
-                PathValue::String(CowStr::Borrowed(text))
-            ),
-            PartCall::OwnLiteral => owns!(rt, literal(alloc, text)?),
+            PartCall::CloneOwnedKey => clone_owned_key(rt, text),
+            PartCall::CloneStep => clone_step(rt, text),
+            PartCall::OwnStep => own_step(rt, text),
+            PartCall::CloneExpression => clone_expression(rt, text),
+            PartCall::OwnExpression => own_expression(rt, text),
+            PartCall::CloneLiteral => clone_literal(rt, owned(rt.alloc(), text)?),
+            PartCall::CloneBorrowedLiteral => clone_literal(rt, CowStr::Borrowed(text)),
+            PartCall::OwnLiteral => own_literal(rt, text),
         }
     }
 }
@@ -60,16 +56,11 @@ fn quoted(alloc: Global, text: &str) -> Result<OwnedKeyPath, Error> {
     Ok(OwnedKeyPath::QuotedName(String::from_str(alloc, text)?))
 }
 
-/// A literal that owns its text.
-fn literal(alloc: Global, text: &str) -> Result<PathValue<'static>, Error> {
-    Ok(PathValue::String(owned(alloc, text)?))
-}
-
 /// `@ == "c"`, of any text.
 fn comparison(alloc: Global, text: &str) -> Result<Expr<'static>, Error> {
     let mut steps = Vec::new(alloc);
     steps.push(Path::Current)?;
-    let right = Expr::Value(Box::new(alloc, literal(alloc, text)?)?);
+    let right = Expr::Value(Box::new(alloc, PathValue::String(owned(alloc, text)?))?);
     Ok(Expr::BinaryOp {
         op: BinaryOperator::Eq,
         left: Box::new(alloc, Expr::Paths(steps))?,
@@ -82,10 +73,42 @@ fn filter(alloc: Global, text: &str) -> Result<Path<'static>, Error> {
     Ok(Path::FilterExpr(Box::new(alloc, comparison(alloc, text)?)?))
 }
 
+fn clone_key(rt: &HostRuntime, name: CowStr<'_, Global>) -> Result<bool, Error> {
+    clones!(rt, KeyPath::Name(name))
+}
+
 fn own_key(rt: &HostRuntime, text: &str) -> Result<bool, Error> {
     let step = KeyPath::Name(CowStr::Borrowed(text));
     let answer = marked!(rt, step.to_owned(rt.alloc()));
     Ok(answer?.as_key_path() == step)
+}
+
+fn clone_owned_key(rt: &HostRuntime, text: &str) -> Result<bool, Error> {
+    clones!(rt, quoted(rt.alloc(), text)?)
+}
+
+fn clone_step(rt: &HostRuntime, text: &str) -> Result<bool, Error> {
+    clones!(rt, filter(rt.alloc(), text)?)
+}
+
+fn own_step(rt: &HostRuntime, text: &str) -> Result<bool, Error> {
+    owns!(rt, filter(rt.alloc(), text)?)
+}
+
+fn clone_expression(rt: &HostRuntime, text: &str) -> Result<bool, Error> {
+    clones!(rt, comparison(rt.alloc(), text)?)
+}
+
+fn own_expression(rt: &HostRuntime, text: &str) -> Result<bool, Error> {
+    owns!(rt, comparison(rt.alloc(), text)?)
+}
+
+fn clone_literal(rt: &HostRuntime, text: CowStr<'_, Global>) -> Result<bool, Error> {
+    clones!(rt, PathValue::String(text))
+}
+
+fn own_literal(rt: &HostRuntime, text: &str) -> Result<bool, Error> {
+    owns!(rt, PathValue::String(owned(rt.alloc(), text)?))
 }
 
 static OF_KEY_PATHS: [(&str, PartCall); 4] = rows! {

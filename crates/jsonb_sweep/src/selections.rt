@@ -32,7 +32,7 @@ impl Selection {
         match self {
             Selection::Values => selector.select_values(path).map(Answer::Documents),
             Selection::Found => found(alloc, document, selector, path).map(Answer::Documents),
-            Selection::Array => selector.select_array(path).map(Answer::Document),
+            Selection::Array => selector.select_array(path).map(Answer::document),
             Selection::First => selector.select_first(path).map(Answer::found),
             Selection::Value => selector.select_value(path).map(Answer::found),
             Selection::Exists => selector.exists(path).map(Answer::Truth),
@@ -53,7 +53,7 @@ impl Selection {
                 .map(Answer::Documents),
             Selection::Array => document
                 .select_array_by_path(alloc, path)
-                .map(Answer::Document),
+                .map(Answer::document),
             Selection::First => document
                 .select_first_by_path(alloc, path)
                 .map(Answer::found),
@@ -136,9 +136,9 @@ const BOTH: &[u8] = b"$.phones[*]?(@.number > 1 && exists(@.type?(@ != \"fax\"))
 /// The six calls, each with the name of its method on a selector and in `SelectByPath`.
 static CALLS: [(&str, &str, Asked<'static>); 6] = rows! {
     "select_values", "select_by_path", (Selection::Values, BOTH, PHONES, Wanted::Documents(&[HOME, WORK]));
-    "select_array", "select_array_by_path", (Selection::Array, BOTH, PHONES, Wanted::Document(BOTH_PHONES));
-    "select_first", "select_first_by_path", (Selection::First, BOTH, PHONES, Wanted::Document(HOME));
-    "select_value", "select_value_by_path", (Selection::Value, BOTH, PHONES, Wanted::Document(BOTH_PHONES));
+    "select_array", "select_array_by_path", (Selection::Array, BOTH, PHONES, Wanted::Bytes(BOTH_PHONES));
+    "select_first", "select_first_by_path", (Selection::First, BOTH, PHONES, Wanted::Bytes(HOME));
+    "select_value", "select_value_by_path", (Selection::Value, BOTH, PHONES, Wanted::Bytes(BOTH_PHONES));
     "exists", "path_exists", (Selection::Exists, BOTH, PHONES, Wanted::Truth(true));
     "predicate_match", "path_match",
         (Selection::Truth, b"$.phones[*].number > 5000000 && exists($.name)", PHONES, Wanted::Truth(true));
@@ -173,11 +173,11 @@ static OTHERS: [(&str, Asked<'static>); 12] = rows! {
     "find_values of a sign", (Selection::Found, b"-$.a.b", A_OF_B, Wanted::Documents(&[MINUS_ONE]));
     "find_values of a comparison", (Selection::Found, b"1 == 1", A_OF_B, Wanted::Documents(&[TRUE]));
     "select_array of an arithmetic list",
-        (Selection::Array, b"-$[*]", TENS, Wanted::Document(MINUS_TEN_TO_MINUS_THIRTY));
+        (Selection::Array, b"-$[*]", TENS, Wanted::Bytes(MINUS_TEN_TO_MINUS_THIRTY));
     "select_values of index entries", (Selection::Values, b"$[last, 0]", TENS, Wanted::Documents(&[THIRTY, TEN]));
     "select_values of each level", (Selection::Values, b"$.**", ONE_ELEMENT, Wanted::Documents(&[ONE_ELEMENT, ONE]));
-    "select_first of a member of a member", (Selection::First, b"$.a.b", A_OF_B, Wanted::Document(ONE));
-    "select_first of an element", (Selection::First, b"$.phones[0]", PHONES, Wanted::Document(HOME));
+    "select_first of a member of a member", (Selection::First, b"$.a.b", A_OF_B, Wanted::Bytes(ONE));
+    "select_first of an element", (Selection::First, b"$.phones[0]", PHONES, Wanted::Bytes(HOME));
     "exists of a member", (Selection::Exists, b"$.name", PHONES, Wanted::Truth(true));
     "exists of a member of a member", (Selection::Exists, b"$.a.b", A_OF_B, Wanted::Truth(true));
     "predicate_match of no predicate", (Selection::Truth, b"$.a", LETTERS, Wanted::Nothing);

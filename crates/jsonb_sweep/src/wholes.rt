@@ -40,10 +40,10 @@ const COMPOSITE_KEY: &[u8] = b"\x00\x07\x01\x04\x81\x03\xe9\x02\x00\x00\x00";
 const WIDE_COMPOSITE_KEY: &[u8] = b"\x00\x00\x07\x00\x01\x04\x81\x03\xe9\x02\x00\x00\x00\x00";
 
 static CASES: [Case; 19] = rows! {
-    "concat of arrays", Call::Concat(ONE_ELEMENT), TENS, Wanted::Document(TENS_AND_ONE);
-    "concat of objects", Call::Concat(ONLY_A), LETTERS, Wanted::Document(LETTERS);
-    "strip_nulls", Call::StripNulls, NULLS, Wanted::Document(STRIPPED);
-    "strip_nulls of a nested document", Call::StripNulls, NESTED, Wanted::Document(NESTED_STRIPPED);
+    "concat of arrays", Call::Concat(ONE_ELEMENT), TENS, Wanted::Bytes(TENS_AND_ONE);
+    "concat of objects", Call::Concat(ONLY_A), LETTERS, Wanted::Bytes(LETTERS);
+    "strip_nulls", Call::StripNulls, NULLS, Wanted::Bytes(STRIPPED);
+    "strip_nulls of a nested document", Call::StripNulls, NESTED, Wanted::Bytes(NESTED_STRIPPED);
     "convert_to_comparable", Call::Make(Key::Comparable), ONE, Wanted::Bytes(b"\x00\x04\x81\x03\xe9\x02\x00");
     "convert_to_comparable of an array", Call::Make(Key::Comparable), ONE_ELEMENT, Wanted::Bytes(KEY_OF_ARRAY);
     "convert_to_comparable_wide", Call::Make(Key::ComparableWide), ONE, Wanted::Bytes(b"\x00\x00\x04\x81\x03\xe9\x02\x00");
@@ -55,8 +55,8 @@ static CASES: [Case; 19] = rows! {
     "push_column_key_wide", Call::CompositeWide, ONE_ELEMENT, Wanted::Bytes(WIDE_COMPOSITE_KEY);
     "composite_key", Call::Row, ONE_ELEMENT, Wanted::Bytes(COMPOSITE_KEY);
     "composite_key_wide", Call::RowWide, ONE_ELEMENT, Wanted::Bytes(WIDE_COMPOSITE_KEY);
-    "to_str of a text", Call::ToStr, V, Wanted::Text("v");
-    "to_str of a decimal", Call::ToStr, PRICE, Wanted::Text("12.34");
+    "to_str of a text", Call::ToStr, V, Wanted::Bytes(b"v");
+    "to_str of a decimal", Call::ToStr, PRICE, Wanted::Bytes(b"12.34");
     "as_binary", Call::AsBinary, BYTES, Wanted::Bytes(b"abc");
     "as_binary of a number", Call::AsBinary, ONE, Wanted::Nothing;
 };
@@ -88,7 +88,7 @@ fn finds(rt: &HostRuntime, document: &[u8], path: &[u8], part: &[u8]) -> Result<
     let steps = parse_key_paths(rt.alloc(), path)?;
     let document = RawJsonb::new(document);
     let answer = marked!(rt, document.get_by_keypath(rt.alloc(), steps.paths.iter()));
-    Ok(Answer::found(answer?).is(Wanted::Document(part)))
+    Ok(Answer::found(answer?).is(Wanted::Bytes(part)))
 }
 
 /// The document without the part at a key path.
@@ -115,7 +115,7 @@ pub fn number_is_deleted(rt: &HostRuntime, elements: &[u8]) -> Result<bool, Erro
     let edited = deleted(rt, elements, b"{20,number}")?;
     let rest = edited.as_raw().get_by_index(rt.alloc(), 20)?;
     let is_as_long = edited.as_raw().array_length()? == RawJsonb::new(elements).array_length()?;
-    Ok(Answer::found(rest).is(Wanted::Document(EMPTY_OBJECT)) && is_as_long)
+    Ok(Answer::found(rest).is(Wanted::Bytes(EMPTY_OBJECT)) && is_as_long)
 }
 
 fn leaves(rt: &HostRuntime) -> Result<bool, Error> {

@@ -14,7 +14,7 @@ use Rattle.jsonb.specs.Private.FilterCache.{AreKept}
 use Rattle.jsonb.specs.Private.Jumps.{Branch, evaluated, next_jump, jump_truth}
 use Rattle.jsonb.specs.Private.Operands.{IsHeld, waits_expression}
 use Rattle.jsonb.specs.Private.Running.{IsAtFilter, IsProgress, running_steps}
-use Rattle.jsonb.specs.Private.Selection.{IsAt, node_spots}
+use Rattle.jsonb.specs.Private.Selection.{IsAt, HasTree, node_spots}
 use Rattle.jsonb.specs.Private.Tests.{IsQuestionOf, AreBranches, AreTestsOf, item_tests, tests_conditions}
 use Rattle.jsonb.specs.declared.selector.document.Context.{Context}
 use Rattle.jsonb.specs.declared.selector.document.Repeats.{Repeats}
@@ -25,6 +25,7 @@ use Rattle.jsonb.specs.declared.selector.operands.Pending.{Pending}
 use Rattle.jsonb.specs.declared.selector.operands.Waits.{Waits}
 use Rattle.jsonb.specs.declared.selector.plan.Jump.{Jump}
 use Rattle.jsonb.specs.declared.selector.plan.Test.{Test}
+use Rattle.jsonb.specs.declared.selector.running.AtFilter.{AtFilter}
 use Rattle.jsonb.specs.declared.selector.running.Progress.{Progress}
 
 -- before its first test the condition has no result
@@ -139,3 +140,10 @@ abbrev pub IsOnward : Context → Tree → List Frame → Repeats → Outcome (L
 IsOnward context top around repeats whole (Ok p) = (now : Repeats) × (o : Outcome (List Tree))
     × IsProgress context top now o (Ok p) × IsAround context top (reverse around) now o repeats whole
 IsOnward context top around repeats whole (Err e) = IsOutOfMemory e ⊎ (whole ≡ Err e)
+
+-- the result is how far a filter of the items that steps have selected has come, within these filters
+abbrev pub BeginsFilter : Context → AtFilter → List Frame → List Frame → Outcome Progress → Type 0
+BeginsFilter context path old new result = (top : Tree) (o whole : Outcome (List Tree)) (repeats : Repeats)
+    → HasTree context.document top → IsAtFilter context top path o
+    → IsAround context top (reverse old) path.running.repeats o repeats whole
+    → IsOnward context top new repeats whole result

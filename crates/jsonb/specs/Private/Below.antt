@@ -1,5 +1,5 @@
 -- What a recursive step has left of the containers that it is sized.
-use Rattle.std.specs.Prelude.{◌≡◌, ◌⊎◌, ℕ, ◌+◌, ◌<◌, ◌≤◌, min, nat_le, Bool, true, false, not, ◌&&◌, List, [], ◌∷◌, ◌++◌, flat_map, Option, Some, None}
+use Rattle.std.specs.Prelude.{◌≡◌, ◌⊎◌, ℕ, ◌+◌, ◌≤◌, min, nat_le, Bool, true, false, not, ◌&&◌, List, [], ◌∷◌, ◌++◌, flat_map, Option, Some, None}
 use Rattle.jsonb_doc.specs.Representation.Positions.{Locates, HasSpotsLeft}
 use Rattle.jsonb_doc.specs.declared.spot.Spot.{Spot}
 use Rattle.jsonb_doc.specs.declared.spot_iter.SpotIter.{SpotIter}

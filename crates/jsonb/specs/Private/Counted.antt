@@ -1,5 +1,5 @@
 -- The items that are counted so far, and those of the expressions that wait.
-use Rattle.std.specs.Prelude.{◌≡◌, ℕ, ◌+◌, List, sum_by}
+use Rattle.std.specs.Prelude.{◌≡◌, ℕ, ◌+◌, sum_by}
 use Rattle.jsonb.specs.MostItems.{capped, expression_items}
 use Rattle.jsonb.specs.PathViews.{expression_view}
 use Rattle.jsonb.specs.Private.Parts.{parts}

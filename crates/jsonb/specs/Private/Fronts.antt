@@ -1,7 +1,7 @@
 -- Parts of the rules, each read by a function of its own.
 use Rattle.std.specs.Prelude.{ℕ, Bool, true, List, length, take, drop, Some, None, if◌then◌else◌}
 use Rattle.std.specs.Str.{str_eq_ignore_ascii_case}
-use Rattle.jsonb_keypath.specs.Rules.{Rule, ◌>>=◌, ◌>>◌, ◌</>◌, literal}
+use Rattle.jsonb_keypath.specs.Rules.{Rule, ◌>>◌, ◌</>◌, literal}
 use Rattle.jsonb_keypath.specs.Tokens.{ws}
 use Rattle.jsonb_keypath.specs.ErrorPosition.{perhaps}
 use Rattle.jsonb.specs.PathGrammar.{spaced_inner, spaced_operand, rooted, operator, expression, group_with, path_with}

@@ -1,16 +1,19 @@
 -- Steps in progress.
-use Rattle.std.specs.Prelude.{◌≡◌, ◌⊎◌, List, drop, map, Ok, Err, IsOkAnd}
+use Rattle.std.specs.Prelude.{◌≡◌, ◌⊎◌, List, [], ◌∷◌, drop, map, Ok, Err, IsOkAnd}
 use Rattle.std.specs.List.{AllZip}
 use Rattle.jsonb_doc.specs.Answer.{Outcome, and_then, try_flat_map, IsOutOfMemory}
 use Rattle.jsonb_doc.specs.Tree.{Tree}
+use Rattle.jsonb_doc.specs.declared.spot.Spot.{Spot}
 use Rattle.jsonb.specs.PathTree.{Expression, Steps, steps_of, filter}
 use Rattle.jsonb.specs.PathViews.{steps_view}
 use Rattle.jsonb.specs.Meaning.{step_meaning, steps_meaning}
 use Rattle.jsonb.specs.Private.Alike.{HasSame, SameOutcomes}
-use Rattle.jsonb.specs.Private.Selection.{IsAt, node_spots, taken_step}
+use Rattle.jsonb.specs.Private.Selection.{IsAt, HasTree, node_spots, taken_step}
 use Rattle.jsonb.specs.Private.Tests.{IsQuestionOf, AreTestsOf, item_tests}
+use Rattle.jsonb.specs.declared.path.Path.{Path}
 use Rattle.jsonb.specs.declared.selector.document.Context.{Context}
 use Rattle.jsonb.specs.declared.selector.document.Repeats.{Repeats}
+use Rattle.jsonb.specs.declared.selector.document.Repeats.TheVariants.{AreDropped}
 use Rattle.jsonb.specs.declared.selector.running.AtFilter.{AtFilter}
 use Rattle.jsonb.specs.declared.selector.running.Progress.{Progress}
 use Rattle.jsonb.specs.declared.selector.running.Progress.TheVariants as progress
@@ -39,6 +42,11 @@ IsProgress context top repeats o (Ok (progress.AtFilter f)) =
 IsProgress context top repeats o (Ok (progress.Complete items)) =
     IsOkAnd o (HasSame repeats context.document.bytes.now (node_spots items))
 IsProgress context top repeats o (Err e) = IsOutOfMemory e ⊎ (o ≡ Err e)
+
+-- the result is how far the steps of an operand or of `exists` have come from an item
+abbrev pub RunsSteps : Context → List Path → Spot → Outcome Progress → Type 0
+RunsSteps context steps first result = (top t : Tree) → HasTree context.document top → IsAt context.document first t
+    → IsProgress context top AreDropped (steps_meaning context.mode (steps_of (steps_view steps)) top (t ∷ [])) result
 
 -- this is the outcome of a filter of the items, and of the steps after it
 abbrev pub IsBeforeFilter : Context → Tree → Expression → Running → Outcome (List Tree) → Type 0

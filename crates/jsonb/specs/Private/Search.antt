@@ -1,5 +1,5 @@
 -- The first item that steps select, in lax mode. Each step is evaluated item by item.
-use Rattle.std.specs.Prelude.{◌≡◌, ℕ, Bool, true, false, List, [], ◌∷◌, reverse, Option, Some, None, Result, Ok}
+use Rattle.std.specs.Prelude.{◌≡◌, ℕ, Bool, true, false, List, [], ◌∷◌, ◌++◌, reverse, Option, Some, None, Result, Ok, IfOk}
 use Rattle.jsonb_doc.specs.Answer.{Outcome, Refines, IsOutOfMemory}
 use Rattle.jsonb_doc.specs.Payload.{Form}
 use Rattle.jsonb_doc.specs.Representation.Positions.{Locates, HasSpotsLeft}
@@ -10,14 +10,17 @@ use Rattle.jsonb.specs.PathTree.{Step, filter, whole_expression, Expression, ste
 use Rattle.jsonb.specs.PathViews.{step_view}
 use Rattle.std.specs.List.{AllZip}
 use Rattle.jsonb.specs.Meaning.{steps_meaning}
-use Rattle.jsonb.specs.Private.Selection.{AreSelected, option_spots}
+use Rattle.jsonb.specs.Private.Selection.{AreSelected, option_spots, taken_step}
 use Rattle.jsonb.specs.Private.Tests.{tests_in, ArePlainTestsOf}
 use Rattle.jsonb.specs.SelectorAnswers.{first_item}
 use Rattle.jsonb.specs.declared.path.Path.{Path}
 use Rattle.jsonb.specs.declared.selector.document.Document.{Document}
+use Rattle.jsonb.specs.declared.selector.document.Expressions.{Expressions}
 use Rattle.jsonb.specs.declared.selector.document.Mode.TheVariants.{Lax}
 use Rattle.jsonb.specs.declared.selector.plan.Condition.{Condition}
 use Rattle.jsonb.specs.declared.selector.search.Ahead.{Ahead}
+use Rattle.jsonb.specs.declared.selector.search.Conditions.{Conditions}
+use Rattle.jsonb.specs.declared.selector.search.Conditions.TheVariants as conditions
 use Rattle.jsonb.specs.declared.selector.search.SearchStep.{SearchStep}
 use Rattle.jsonb.specs.declared.selector.search.SearchStep.TheVariants as search
 use Rattle.jsonb.specs.declared.selector.search.Items.{Items}
@@ -56,6 +59,17 @@ AreAhead [] [] [] = Unit {0}
 AreAhead (path ∷ paths) (s ∷ ss) conditions =
     FirstAhead (has_condition (step_view path)) path s conditions (λ others. AreAhead paths ss others)
 AreAhead _ _ _ = ⊥
+
+abbrev pub conditions_in : Conditions → List Condition
+conditions_in (conditions.One condition) = condition ∷ []
+conditions_in (conditions.Many v) = v.items
+
+-- Holds if the conditions are those of the steps before and of this one, unless the result is false: the step cannot be
+-- one of a search.
+abbrev pub AddsStep : Expressions → Path → List Condition → Result Bool Error → List Condition → Type 0
+AddsStep expressions path before answer after = (paths : List Path) (ss : List Step) → AreAhead paths ss before
+    → IfOk answer (λ fits. fits ≡ true
+    → AreAhead (paths ++ path ∷ []) (ss ++ taken_step expressions (step_view path) ∷ []) after)
 
 abbrev pub IsAhead : Ahead → List Step → Type 0
 IsAhead ahead ss = AreAhead ahead.steps.now ss ahead.conditions.now

@@ -1,8 +1,9 @@
 -- At most how often the loop over filters turns, so that it ends. A filter evaluates its condition for each of fewer
 -- than 2^64 items.
-use Rattle.std.specs.Prelude.{◌+◌, ◌*◌, ◌-◌, ◌^◌, ℕ, List, drop, length, sum_by, take, Option, Some, None}
+use Rattle.std.specs.Prelude.{◌+◌, ◌*◌, ◌-◌, ◌^◌, ℕ, ◌<◌, List, drop, length, sum_by, take, Option, Some, None, IfOk}
 use Rattle.std.specs.declared.alloc.Global.{Global}
 use Rattle.std.specs.declared.boxed.Box.{Box}
+use Rattle.jsonb_doc.specs.Answer.{Outcome}
 use Rattle.jsonb.specs.PathTree.{Step, Steps, no_steps, step, filter, whole_expression, Expression, paths, value, binary, unary, exists, steps_of}
 use Rattle.jsonb.specs.PathViews.{steps_view, expression_view}
 use Rattle.jsonb.specs.Private.Asking.{asking_tests}
@@ -104,3 +105,8 @@ frame_weight f = filter_weight f.filter.value + waits_weight f.waits
 
 abbrev pub around_weight : List Frame → ℕ
 around_weight fs = sum_by frame_weight fs
+
+-- what comes after the beginning of a filter turns less often
+abbrev pub IsFewer : AtFilter → List Frame → List Frame → Outcome Progress → Type 0
+IsFewer path old new result =
+    IfOk result (λ next. progress_weight next + around_weight new < at_filter_weight path + around_weight old)

@@ -21,7 +21,7 @@ use super::filter_cache::is_comparison;
 use super::members::is_member;
 use super::plan::MemberCompared;
 use super::search::search;
-use super::steps::{select_steps, truth};
+use super::steps::{listed_steps, truth};
 use crate::path::{Expr, Path};
 use jsonb_doc::Spot;
 use std::alloc::Global;
@@ -117,7 +117,7 @@ fn list_compared_truth<'a>(
         document: *document,
     };
     let all = Expressions::AreRefused;
-    let found = select_steps(
+    let found = listed_steps(
         &context,
         all,
         Repeats::AreDropped,

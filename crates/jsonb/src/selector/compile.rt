@@ -16,7 +16,7 @@ ghost use Rattle.jsonb.specs.Private.Pairs.{is_joined};
 ghost use Rattle.jsonb.specs.Private.Tests.{IsMemberFound, IsPlainQuestionOf, IsQuestionOf, AreBranches, jump_to, left_of, right_of, pending, waiting_left, parts_waiting, parts_to_compile, IsCompiled};
 ghost use Rattle.jsonb.specs.declared.selector.document.Mode.{Mode};
 
-use super::filter_cache::is_comparison;
+use super::filter_cache::{is_comparison, is_relative};
 use super::members::{are_members, member_steps};
 use super::operand_value::{OperandValue, value_of_literal};
 use super::pair::{Join, Pair, is_joined, pair_of};
@@ -186,6 +186,37 @@ fn jump_to(target: Target, left: usize) -> usize
     match target {
         Target::Next => left,
         Target::At(at) => at,
+    }
+}
+
+/// Returns `false` only if a part of a condition is a path that is not a member of the item, or has such an operand. It
+/// costs less than compiling the condition. All left sides are examined, and of each right side the outermost operator.
+pub(crate) fn may_be_plain(e: &Expr<'_>) -> bool {
+    let mut rest = e;
+    while let Expr::BinaryOp { left, right, .. } = rest {
+        if !may_be_of_members(right) {
+            return false;
+        }
+        rest = left;
+    }
+    may_be_of_members(rest)
+}
+
+/// Returns `false` only if a part is a path that is not a member of the item, or has such an operand.
+#[inline(always)]
+fn may_be_of_members(part: &Expr<'_>) -> bool {
+    match part {
+        Expr::BinaryOp { left, right, .. } => may_be_member(left) && may_be_member(right),
+        _ => may_be_member(part),
+    }
+}
+
+/// Returns `false` if an operand or an `exists` is of a path that is not a member of the item.
+#[inline(always)]
+fn may_be_member(operand: &Expr<'_>) -> bool {
+    match operand {
+        Expr::Paths(steps) | Expr::ExistsFunc(steps) => is_relative(steps) && are_members(steps),
+        Expr::Value(_) | Expr::BinaryOp { .. } | Expr::UnaryOp { .. } => true,
     }
 }
 

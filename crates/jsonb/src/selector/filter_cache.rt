@@ -1,6 +1,6 @@
 //! What a filter caches from one item of a list to the next: its parts that begin at the root.
 
-ghost use Rattle.std.specs.Prelude.{◌≡◌, ◌∷◌, List, Ok, Some, None, true, MatchOption, OnOk, IfErr, IsOkAnd, ⊤, []};
+ghost use Rattle.std.specs.Prelude.{◌≡◌, ◌∷◌, List, Ok, Some, None, true, false, MatchOption, OnOk, IfErr, IsOkAnd, ⊤, []};
 ghost use Rattle.jsonb_doc.specs.Answer.{IsOutOfMemory};
 ghost use Rattle.jsonb_doc.specs.Tree.{Tree};
 ghost use Rattle.jsonb.specs.PathTree.{Expression, BinaryOp, binary, exists, steps_of};
@@ -54,6 +54,18 @@ impl<'a> FilterCache<'a> {
             parts: Vec::new(alloc),
             next: 0,
         })
+    }
+
+    /// Returns `true` if parts are cached.
+    #[inline(always)]
+    pub(crate) fn is_used(&self) -> bool
+        ensures { result ≡ false → (mode : Mode) (top : Tree) (all more : List Expression)
+            → AreKept mode top self.now all more }
+    {
+        match self {
+            FilterCache::Nothing => false,
+            FilterCache::Parts(_) => true,
+        }
     }
 
     /// Returns the next part, if it is cached.

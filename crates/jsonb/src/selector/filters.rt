@@ -74,6 +74,7 @@ impl<'a, 'p> Asking<'a, 'p> {
             → AreTestsOf IsQuestionOf (item_tests tests.entry) e
             → IsKeptFor context.mode top (tests_conditions (item_tests tests.entry)) cache.entry
             → IsAsking context top t result (truth context.mode e top t) }
+        ensures fewer { asking_weight result ≡ tests_weight (item_tests tests.entry) }
     {
         let left = tests.len();
         Asking {
@@ -284,6 +285,28 @@ impl<'a, 'p> Filter<'a, 'p> {
         }
     }
 
+    /// Creates the filter of one item, whose condition waits for a path.
+    #[inline(always)]
+    pub(crate) fn waiting(
+        alloc: Global,
+        asking: Asking<'a, 'p>,
+        after: Running<'a, 'p>,
+    ) -> Filter<'a, 'p>
+        ensures same { (result.asking ≡ asking.entry) × (result.after ≡ after.entry) }
+        ensures items { node_spots result.items ≡ [] }
+        ensures nodes { node_spots result.nodes ≡ [] }
+        ensures next { result.next ≡ 0 }
+        ensures fewer { filter_weight result ≡ asking_weight asking.entry + running_weight after.entry }
+    {
+        Filter {
+            asking,
+            items: NodeList::Many(Vec::new(alloc)),
+            next: 0,
+            nodes: NodeList::Many(Vec::new(alloc)),
+            after,
+        }
+    }
+
     /// Evaluates the condition for the items that are left, up to a test that waits for a path, which it returns.
     pub(crate) fn next(
         &mut self,
@@ -365,11 +388,6 @@ impl<'a, 'p> Filter<'a, 'p> {
         ensures errors { IfErr result (IsSelectionError context.now.mode) }
     {
         let Filter { nodes, after, .. } = self;
-        if after.next == after.steps.len() {
-            return Ok(Progress::Complete(nodes));
-        }
-        let mut after = after;
-        after.items = nodes;
-        after.run(context)
+        after.resume(context, nodes)
     }
 }

@@ -1,6 +1,6 @@
 //! Paths that name at most one member: `$` or `@`, and the names of fields.
 
-ghost use Rattle.std.specs.Prelude.{◌≡◌, ◌∷◌, [], Ok, map, true, MatchOption, ⊤, IfErr, IfSome};
+ghost use Rattle.std.specs.Prelude.{◌≡◌, ◌∷◌, [], Ok, map, true, MatchOption, ⊤, IfErr};
 ghost use Rattle.jsonb_doc.specs.Answer.{Refines, IsOutOfMemory};
 ghost use Rattle.jsonb_doc.specs.Representation.Positions.{Locates};
 ghost use Rattle.jsonb_doc.specs.Tree.{Tree};
@@ -86,11 +86,10 @@ fn field(bytes: &[u8], mode: Mode, name: &str, item: Spot) -> Result<Option<Spot
 /// Returns the name of a step that is one.
 #[inline(always)]
 pub(crate) fn member_name<'s>(step: &'s Path<'_>) -> Option<&'s str>
-    ensures member { (mode : Mode) (top t : Tree) → is_member (step_view step.now) ≡ true
-        → MatchOption result (step_meaning mode (step_view step.now) top t ≡ Ok (t ∷ []))
-        (λ name. step_meaning mode (step_view step.now) top t ≡ field_step mode name.now t) }
-    ensures named { IfSome result (λ name. (mode : Mode) (top : Tree)
-        → step_meaning mode (step_view step.now) top ≡ field_step mode name.now) }
+    ensures { (mode : Mode) (top : Tree) → MatchOption result
+        (is_member (step_view step.now) ≡ true → (t : Tree)
+        → step_meaning mode (step_view step.now) top t ≡ Ok (t ∷ []))
+        (λ name. step_meaning mode (step_view step.now) top ≡ field_step mode name.now) }
 {
     match step {
         Path::DotField(name) => Some(name.as_str()),

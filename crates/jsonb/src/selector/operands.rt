@@ -3,17 +3,17 @@
 //! A path that is not a single member is not evaluated here: it is returned, and `take` continues with what it has
 //! selected.
 
-ghost use Rattle.std.specs.Prelude.{◌≡◌, ◌⊎◌, ◌≤◌, [], ◌∷◌, List, Some, Ok, true, IfOk, IfErr, OnOk, IsOkAnd};
+ghost use Rattle.std.specs.Prelude.{◌≡◌, ◌⊎◌, ◌≤◌, ◌∷◌, List, Some, Ok, true, IfOk, IfErr, OnOk, IsOkAnd};
 ghost use Rattle.jsonb_doc.specs.Answer.{Outcome, IsOutOfMemory};
 ghost use Rattle.jsonb_doc.specs.Tree.{Tree};
-ghost use Rattle.jsonb.specs.PathTree.{Expression, exists, steps_of};
+ghost use Rattle.jsonb.specs.PathTree.{Expression, paths, exists, steps_of};
 ghost use Rattle.jsonb.specs.PathViews.{expression_view, steps_view};
-ghost use Rattle.jsonb.specs.Meaning.{truth, operand_values, steps_meaning};
+ghost use Rattle.jsonb.specs.Meaning.{truth, operand_values};
 ghost use Rattle.jsonb.specs.SelectionErrors.{IsSelectionError};
 ghost use Rattle.jsonb.specs.Private.Alike.{AreAlike, HasSame};
 ghost use Rattle.jsonb.specs.Private.FilterCache.{is_condition, IsSame, AreKept};
 ghost use Rattle.jsonb.specs.Private.Operands.{IsOperand, IsAnswer, ComesNext, HasLeft, IsHeld, comparison_view, waits_expression};
-ghost use Rattle.jsonb.specs.Private.Running.{IsProgress};
+ghost use Rattle.jsonb.specs.Private.Running.{RunsSteps};
 ghost use Rattle.jsonb.specs.Private.Selection.{IsAt, HasTree, node_spots, values_view};
 ghost use Rattle.jsonb.specs.Private.Weights.{steps_weight, weight, operand_weight, waits_weight, asked_weight, progress_weight};
 ghost use Rattle.jsonb_doc.specs.declared.error.Error.TheVariants.{InvalidJsonPath};
@@ -93,9 +93,7 @@ fn path_of<'a, 'p>(
     steps: &'a [Path<'p>],
     first: Spot,
 ) -> Result<Progress<'a, 'p>, Error>
-    ensures meant { (top t : Tree) → HasTree context.now.document top → IsAt context.now.document first t
-        → IsProgress context.now top AreDropped
-        (steps_meaning context.now.mode (steps_of (steps_view steps.now)) top (t ∷ [])) result }
+    ensures meant { RunsSteps context.now steps.now first result }
     ensures fewer { IfOk result (λ progress. progress_weight progress
         ≤ steps_weight (steps_of (steps_view steps.now))) }
     ensures errors { IfErr result (IsSelectionError context.now.mode) }
@@ -111,6 +109,7 @@ fn path_of<'a, 'p>(
 }
 
 /// Returns the values of an operand, or its path if that has come to a filter.
+#[inline(always)]
 fn operand_of<'a, 'p>(
     context: &Context<'a>,
     item: Spot,
@@ -122,20 +121,34 @@ fn operand_of<'a, 'p>(
     ensures errors { IfErr result (IsSelectionError context.now.mode) }
 {
     match e {
-        Expr::Paths(steps) => {
-            let first = start_spot(steps, context.document, item);
-            match operand_path(context, steps, first)? {
-                Progress::AtFilter(path) => Ok(Operand::Path(path)),
-                Progress::Complete(found) => {
-                    let values = found_values(context.alloc, context.document.bytes, found)?;
-                    Ok(Operand::Values(values))
-                }
-            }
-        }
+        Expr::Paths(steps) => path_operand(context, item, steps),
         Expr::Value(literal) => Ok(Operand::Values(OperandValues::One(value_of_literal(literal)))),
         Expr::BinaryOp { .. } | Expr::UnaryOp { .. } | Expr::ExistsFunc(_) => Err(
             Error::InvalidJsonPath,
         ),
+    }
+}
+
+/// Returns the values of an operand that is a path, or the path if it has come to a filter.
+#[inline(never)]
+fn path_operand<'a, 'p>(
+    context: &Context<'a>,
+    item: Spot,
+    steps: &'a [Path<'p>],
+) -> Result<Operand<'a, 'p>, Error>
+    ensures meant { (top t : Tree) → HasTree context.now.document top → IsAt context.now.document item t
+        → IsOperand context.now top (operand_values context.now.mode (paths (steps_of (steps_view steps.now))) top t)
+        result }
+    ensures fewer { IfOk result (λ operand. operand_weight operand ≤ steps_weight (steps_of (steps_view steps.now))) }
+    ensures errors { IfErr result (IsSelectionError context.now.mode) }
+{
+    let first = start_spot(steps, context.document, item);
+    match operand_path(context, steps, first)? {
+        Progress::AtFilter(path) => Ok(Operand::Path(path)),
+        Progress::Complete(found) => {
+            let values = found_values(context.alloc, context.document.bytes, found)?;
+            Ok(Operand::Values(values))
+        }
     }
 }
 
@@ -146,9 +159,7 @@ fn operand_path<'a, 'p>(
     steps: &'a [Path<'p>],
     first: Spot,
 ) -> Result<Progress<'a, 'p>, Error>
-    ensures meant { (top t : Tree) → HasTree context.now.document top → IsAt context.now.document first t
-        → IsProgress context.now top AreDropped
-        (steps_meaning context.now.mode (steps_of (steps_view steps.now)) top (t ∷ [])) result }
+    ensures meant { RunsSteps context.now steps.now first result }
     ensures fewer { IfOk result (λ progress. progress_weight progress
         ≤ steps_weight (steps_of (steps_view steps.now))) }
     ensures errors { IfErr result (IsSelectionError context.now.mode) }
@@ -308,6 +319,9 @@ impl<'a> Operands<'a> {
         ensures errors { IfErr result IsOutOfMemory }
     {
         let truth = Some(is_found);
+        if !self.cache.is_used() {
+            return Ok(Asked::Truth(truth));
+        }
         self.keep(exists_part(steps, truth))?;
         Ok(Asked::Truth(truth))
     }
@@ -413,6 +427,9 @@ impl<'a> Operands<'a> {
         match lefts {
             Some(lefts) => {
                 let truth = compare(op, lefts.as_slice(), rights.as_slice());
+                if !self.cache.is_used() {
+                    return Ok(Asked::Truth(truth));
+                }
                 self.keep(comparison_part(left, right, lefts, rights, truth))?;
                 Ok(Asked::Truth(truth))
             }

@@ -1,6 +1,6 @@
 //! The first item that steps select, in lax mode: a traversal down to it that visits nothing after it.
 
-ghost use Rattle.std.specs.Prelude.{◌≡◌, ◌<◌, ◌++◌, ◌∷◌, [], ℕ, List, map, length, true, false, MatchOption, MatchResult, IfOk, IfSome, IfErr, ⊤};
+ghost use Rattle.std.specs.Prelude.{◌≡◌, ◌<◌, ◌++◌, ◌∷◌, [], ℕ, List, map, length, true, false, MatchOption, MatchResult, IfOk, OnOk, IfSome, IfErr, ⊤};
 ghost use Rattle.jsonb_doc.specs.Answer.{Refines, SameOption, IsOutOfMemory, IsDecodingError};
 ghost use Rattle.jsonb_doc.specs.Representation.Positions.{Locates};
 ghost use Rattle.jsonb_doc.specs.Tree.{Tree};
@@ -11,16 +11,17 @@ ghost use Rattle.jsonb.specs.Private.ItemSteps.{values_step, elements_step};
 ghost use Rattle.jsonb.specs.Meaning.{step_meaning, steps_meaning, filtered};
 ghost use Rattle.jsonb.specs.SelectorAnswers.{first_item};
 ghost use Rattle.jsonb.specs.Private.Compared.{RefinesIfAny};
-ghost use Rattle.jsonb.specs.Private.Search.{has_condition, IsSearched, IsAhead, AreAhead, TakesStep, HasItems, TakesItem, AreGiven, GivesItems, IsReached};
-ghost use Rattle.jsonb.specs.Private.Selection.{IsAt, HasTree, taken_step};
+ghost use Rattle.jsonb.specs.Private.Search.{has_condition, IsSearched, IsAhead, AreAhead, AddsStep, conditions_in, TakesStep, HasItems, TakesItem, AreGiven, GivesItems, IsReached};
+ghost use Rattle.jsonb.specs.Private.Selection.{IsAt, HasTree, IsPlain, taken_step};
 ghost use Rattle.jsonb.specs.Private.Tests.{tests_in, ArePlainTestsOf};
 ghost use Rattle.jsonb.specs.declared.path.Path.{Path};
 ghost use Rattle.jsonb.specs.SelectionErrors.{IsSelectionError};
+ghost use Rattle.jsonb.specs.declared.selector.document.Expressions.{Expressions};
 ghost use Rattle.jsonb.specs.declared.selector.document.Mode.TheVariants.{Lax};
 
 use super::children::{elements, push_step, values};
-use super::compile::compiled;
-use super::document::{Context, Document, Expressions, Mode};
+use super::compile::{compiled, may_be_plain};
+use super::document::{Context, Expressions, Mode};
 use super::evaluate::tested_truth;
 use super::filter_cache::is_true;
 use super::members::{are_members, member, member_of};
@@ -29,6 +30,8 @@ use super::steps::filter_of;
 use crate::path::{Expr, Path};
 use jsonb_doc::{Error, Spot, SpotIter, spot_by_parts};
 use std::alloc::Global;
+use std::mem::replace;
+use std::slice;
 
 /// A step that does not fail for any item in lax mode.
 #[derive(Clone, Copy)]
@@ -46,10 +49,19 @@ pub(crate) struct Ahead<'t, 's, 'p> {
     conditions: &'t [Condition<'s, 'p>],
 }
 
-/// The conditions of the filters among some steps, in order, and how many of the steps may select an item again.
+/// The conditions of the filters among some steps, in order. A single one is not allocated, which saves 100 of 1,340
+/// instructions on a document of 200 bytes.
 #[derive(Drop)]
-pub(crate) struct Searched<'s, 'p> {
-    conditions: Vec<Condition<'s, 'p>>,
+pub(crate) enum Conditions<'s, 'p> {
+    One(Condition<'s, 'p>),
+    Many(Vec<Condition<'s, 'p>>),
+}
+
+/// What is known of the steps of a search before their filters are compiled.
+#[derive(Clone, Copy)]
+pub(crate) struct Outline {
+    has_filter: bool,
+    /// How many of the steps may select an item again.
     repeating: usize,
 }
 
@@ -144,7 +156,13 @@ pub(crate) fn search<'s>(
     }
     match context.mode {
         Mode::Strict => Ok(None),
-        Mode::Lax => lax_search(context.alloc, expressions, steps, context.document, first),
+        Mode::Lax => lax_search(
+            context.alloc,
+            expressions,
+            steps,
+            context.document.bytes,
+            first,
+        ),
     }
 }
 
@@ -155,56 +173,155 @@ fn lax_search<'s>(
     alloc: Global,
     expressions: Expressions,
     steps: &'s [Path<'_>],
-    document: Document<'_>,
+    bytes: &[u8],
     first: Spot,
 ) -> Result<Option<Option<Spot>>, Error>
-    ensures meant { (top t : Tree) → HasTree document.entry top → IsAt document.entry first t
-        → RefinesIfAny (λ found us. SameOption (IsAt document.entry) found (first_item us)) result
+    ensures meant { (top t : Tree) → Locates bytes.now first t
+        → RefinesIfAny (λ found us. SameOption (Locates bytes.now) found (first_item us)) result
         (steps_meaning Lax (steps_of (map (taken_step expressions) (steps_view steps.now))) top (t ∷ [])) }
     ensures errors { IfErr result (IsSelectionError Lax) }
 {
-    let Some(searched) = searched_steps(alloc, expressions, steps)? else {
+    let Some(outline) = outline_of(expressions, steps) else {
         return Ok(None);
     };
-    let bytes = document.bytes;
+    let most = most_visits(outline.repeating, bytes);
+    if outline.has_filter {
+        return filtered_search(alloc, expressions, steps, most, bytes, first);
+    }
     let ahead = Ahead {
         steps,
-        conditions: searched.conditions.as_slice(),
+        conditions: &[],
     };
-    first_found(
-        alloc,
-        ahead,
-        most_visits(searched.repeating, bytes),
-        bytes,
-        first,
-    )
+    first_found(alloc, ahead, most, bytes, first)
 }
 
-/// Returns the conditions of the filters among steps, if each step can be one of a search. Does not allocate if no
-/// step is a filter.
-fn searched_steps<'s, 'p>(
+/// Returns the first item that steps with a filter select in lax mode. It is a separate function so that other steps
+/// need no frame for the conditions.
+#[inline(never)]
+fn filtered_search<'s>(
     alloc: Global,
     expressions: Expressions,
-    steps: &'s [Path<'p>],
-) -> Result<Option<Searched<'s, 'p>>, Error>
-    ensures searched { IfOk result (λ found. MatchOption found ⊤ (λ searched. AreAhead steps.now
-        (map (taken_step expressions) (steps_view steps.now)) searched.conditions.items)) }
-    ensures errors { IfErr result IsOutOfMemory }
+    steps: &'s [Path<'_>],
+    most_visits: usize,
+    bytes: &[u8],
+    first: Spot,
+) -> Result<Option<Option<Spot>>, Error>
+    ensures meant { (top t : Tree) → Locates bytes.now first t
+        → RefinesIfAny (λ found us. SameOption (Locates bytes.now) found (first_item us)) result
+        (steps_meaning Lax (steps_of (map (taken_step expressions) (steps_view steps.now))) top (t ∷ [])) }
+    ensures errors { IfErr result (IsSelectionError Lax) }
 {
-    let mut searched = Searched {
-        conditions: Vec::new(alloc),
+    let mut conditions = Conditions::Many(Vec::new(alloc));
+    if !conditions.add_all(alloc, expressions, steps)? {
+        return Ok(None);
+    }
+    let ahead = Ahead {
+        steps,
+        conditions: conditions.as_slice(),
+    };
+    first_found(alloc, ahead, most_visits, bytes, first)
+}
+
+/// Returns the outline of steps, or `None` if one of them cannot be one of a search. A filter by an expression is
+/// rejected before it is compiled: on a path with one filter, 110 instructions instead of 300.
+fn outline_of(expressions: Expressions, steps: &[Path<'_>]) -> Option<Outline>
+    ensures { MatchOption result ⊤ (λ outline. outline.has_filter ≡ false → AreAhead steps.now
+        (map (taken_step expressions) (steps_view steps.now)) []) }
+{
+    let mut outline = Outline {
+        has_filter: false,
         repeating: 0,
     };
     for step in steps {
-        let fits = searched.add(alloc, expressions, step)?;
-        if !fits {
-            return Ok(None);
+        if !outline.add(expressions, step) {
+            return None;
         }
     }
-    Ok(Some(searched))
+    Some(outline)
 }
 
-impl<'s, 'p> Searched<'s, 'p> {
+impl Outline {
+    /// Adds a step. Returns `false` if it cannot be one of a search.
+    #[inline(always)]
+    fn add(&mut self, expressions: Expressions, step: &Path<'_>) -> bool
+        ensures { result ≡ true → self.new.has_filter ≡ false → (self.old.has_filter ≡ false)
+            × (has_condition (step_view step.now) ≡ false) × IsPlain expressions (step_view step.now) }
+    {
+        let Some(e) = filter_of(expressions, step) else {
+            let repeats = usize::from(may_repeat(step));
+            self.repeating = self.repeating.saturating_add(repeats);
+            return !has_condition(step);
+        };
+        self.has_filter = true;
+        may_be_plain(e)
+    }
+}
+
+impl<'s, 'p> Conditions<'s, 'p> {
+    #[inline(always)]
+    fn as_slice(&self) -> &[Condition<'s, 'p>]
+        ensures { result.now ≡ conditions_in self.now }
+    {
+        match self {
+            Conditions::One(condition) => slice::from_ref(condition),
+            Conditions::Many(conditions) => conditions.as_slice(),
+        }
+    }
+
+    /// Appends a condition. The first one is not allocated.
+    #[inline(always)]
+    fn push(&mut self, alloc: Global, condition: Condition<'s, 'p>) -> Result<(), Error>
+        ensures ok { OnOk result (conditions_in self.new ≡ conditions_in self.old ++ condition.entry ∷ []) }
+        ensures err { IfErr result IsOutOfMemory }
+    {
+        if !self.as_slice().is_empty() {
+            return self.push_next(alloc, condition);
+        }
+        *self = Conditions::One(condition);
+        Ok(())
+    }
+
+    /// Appends a condition to at least one.
+    #[inline(never)]
+    fn push_next(&mut self, alloc: Global, condition: Condition<'s, 'p>) -> Result<(), Error>
+        ensures ok { OnOk result (conditions_in self.new ≡ conditions_in self.old ++ condition.entry ∷ []) }
+        ensures err { IfErr result IsOutOfMemory }
+    {
+        match replace(self, Conditions::Many(Vec::new(alloc))) {
+            Conditions::One(first) => {
+                let both = vec![in alloc; first, condition]?;
+                *self = Conditions::Many(both);
+                Ok(())
+            }
+            Conditions::Many(before) => {
+                let mut conditions = before;
+                conditions.push(condition)?;
+                *self = Conditions::Many(conditions);
+                Ok(())
+            }
+        }
+    }
+
+    /// Adds the conditions of steps to an empty list. Returns `false` if a step cannot be one of a search.
+    fn add_all(
+        &mut self,
+        alloc: Global,
+        expressions: Expressions,
+        steps: &'s [Path<'p>],
+    ) -> Result<bool, Error>
+        ensures added { conditions_in self.old ≡ [] → IfOk result (λ fits. fits ≡ true → AreAhead steps.now
+            (map (taken_step expressions) (steps_view steps.now)) (conditions_in self.new)) }
+        ensures errors { IfErr result IsOutOfMemory }
+    {
+        for step in steps {
+            let fits = self.add(alloc, expressions, step)?;
+            if !fits {
+                return Ok(false);
+            }
+        }
+        Ok(true)
+    }
+
     /// Adds a step, with its condition if it is a filter. Returns `false` if it cannot be one of a search.
     #[inline(always)]
     fn add(
@@ -213,36 +330,29 @@ impl<'s, 'p> Searched<'s, 'p> {
         expressions: Expressions,
         step: &'s Path<'p>,
     ) -> Result<bool, Error>
-        ensures added { (paths : List Path) (ss : List Step) → AreAhead paths ss self.old.conditions.items
-            → IfOk result (λ fits. fits ≡ true → AreAhead (paths ++ step.now ∷ [])
-            (ss ++ taken_step expressions (step_view step.now) ∷ []) self.new.conditions.items) }
+        ensures added { AddsStep expressions step.now (conditions_in self.old) result (conditions_in self.new) }
         ensures errors { IfErr result IsOutOfMemory }
     {
         let Some(e) = filter_of(expressions, step) else {
-            let repeats = usize::from(may_repeat(step));
-            self.repeating = self.repeating.saturating_add(repeats);
             return Ok(!has_condition(step));
         };
-        let Some(condition) = plain_condition(alloc, e)? else {
-            return Ok(false);
-        };
-        self.conditions.push(condition)?;
-        Ok(true)
+        self.add_filter(alloc, e)
     }
-}
 
-/// Returns the condition of a filter, if it is one by members of the item.
-fn plain_condition<'s, 'p>(
-    alloc: Global,
-    e: &'s Expr<'p>,
-) -> Result<Option<Condition<'s, 'p>>, Error>
-    ensures plain { IfOk result (λ found. MatchOption found ⊤
-        (λ condition. ArePlainTestsOf (tests_in condition) (expression_view e.now))) }
-    ensures errors { IfErr result IsOutOfMemory }
-{
-    match compiled(alloc, e)? {
-        Compiled::Plain(condition) => Ok(Some(condition)),
-        Compiled::Items(_) => Ok(None),
+    /// Adds a filter by its expression. Returns `false` if its condition is not one by members of the item.
+    fn add_filter(&mut self, alloc: Global, e: &'s Expr<'p>) -> Result<bool, Error>
+        ensures added { (expressions : Expressions) (path : Path)
+            → taken_step expressions (step_view path) ≡ filter (expression_view e.now)
+            → AddsStep expressions path (conditions_in self.old) result (conditions_in self.new) }
+        ensures errors { IfErr result IsOutOfMemory }
+    {
+        match compiled(alloc, e)? {
+            Compiled::Plain(condition) => {
+                self.push(alloc, condition)?;
+                Ok(true)
+            }
+            Compiled::Items(_) => Ok(false),
+        }
     }
 }
 
@@ -287,7 +397,8 @@ fn may_repeat(step: &Path<'_>) -> bool {
 }
 
 /// Returns the first item that the steps select from one item, or the outer `None` if the search ends before. What
-/// remains of the enclosing items is in a `Vec`.
+/// remains of the enclosing items is in a `Vec`. Inlined: as a call it takes 41 of 650 instructions more.
+#[inline(always)]
 fn first_found(
     alloc: Global,
     ahead: Ahead<'_, '_, '_>,
@@ -477,3 +588,6 @@ fn element_items<'a>(bytes: &'a [u8], item: Spot) -> Result<StepItems<'a>, Error
         None => Ok(StepItems::AtMostOne(Some(item))),
     }
 }
+
+#[cfg(test)]
+mod tests;

@@ -1,22 +1,22 @@
 //! Evaluation of the steps of a path, one after the other, and of the filters in them.
 
-ghost use Rattle.std.specs.Prelude.{◌≡◌, ◌∷◌, ◌+◌, ◌<◌, ◌≤◌, [], List, map, Ok, false, IfOk, IfErr, IsOkAnd, MatchOption, reverse, OnOk, ◌++◌};
+ghost use Rattle.std.specs.Prelude.{◌≡◌, ◌∷◌, ◌+◌, ◌≤◌, [], List, Ok, false, IfOk, IfErr, IsOkAnd, MatchOption, reverse, OnOk, ◌++◌};
 ghost use Rattle.std.specs.List.{AllZip};
 ghost use Rattle.jsonb_doc.specs.Answer.{Outcome, Refines, try_flat_map, IsOutOfMemory};
 ghost use Rattle.jsonb_doc.specs.Representation.Positions.{Locates};
 ghost use Rattle.jsonb_doc.specs.Tree.{Tree};
-ghost use Rattle.jsonb.specs.PathTree.{Expression, steps_of, filter};
+ghost use Rattle.jsonb.specs.PathTree.{Expression, filter};
 ghost use Rattle.jsonb.specs.ItemSteps.{field_step};
-ghost use Rattle.jsonb.specs.PathViews.{step_view, steps_view, expression_view};
+ghost use Rattle.jsonb.specs.PathViews.{step_view, expression_view};
 ghost use Rattle.jsonb.specs.Meaning.{step_meaning, steps_meaning, operand_values};
 ghost use Rattle.jsonb.specs.SelectionErrors.{IsSelectionError};
 ghost use Rattle.jsonb.specs.Private.Alike.{AreSame, HasSame, SameOutcomes};
-ghost use Rattle.jsonb.specs.Private.Asking.{IsFilterWaiting, IsAround, IsOnward};
-ghost use Rattle.jsonb.specs.Private.Running.{IsRunning, IsAtFilter, IsProgress, IsBeforeFilter, IsFiltered};
+ghost use Rattle.jsonb.specs.Private.Asking.{IsFilterWaiting, IsAround, IsOnward, BeginsFilter};
+ghost use Rattle.jsonb.specs.Private.Running.{running_steps, IsRunning, IsAtFilter, IsProgress, IsBeforeFilter, IsFiltered};
 ghost use Rattle.jsonb.specs.Private.Selection.{IsAt, HasTree, node_spots, values_view, taken_step, is_filter, IsPlain};
-ghost use Rattle.jsonb.specs.Private.Steps.{RefinesTruth};
+ghost use Rattle.jsonb.specs.Private.Steps.{RefinesTruth, SelectsSteps};
 ghost use Rattle.jsonb.specs.Private.Tests.{ArePlainTestsOf, tests_in};
-ghost use Rattle.jsonb.specs.Private.Weights.{step_weight, running_weight, frame_weight, around_weight, progress_weight, at_filter_weight};
+ghost use Rattle.jsonb.specs.Private.Weights.{step_weight, running_weight, frame_weight, around_weight, progress_weight, IsFewer};
 ghost use Rattle.jsonb.specs.declared.selector.document.Context.{Context};
 ghost use Rattle.jsonb.specs.declared.selector.document.Repeats.TheVariants.{AreDropped};
 ghost use Rattle.jsonb.specs.declared.selector.running.Progress.TheVariants as progress;
@@ -26,7 +26,7 @@ use super::compile::compiled;
 use super::distinct::{can_repeat, distinct};
 use super::document::{Context, Current, Expressions, Mode, Repeats, TruthResult};
 use super::evaluate::{question_truth, tested_items};
-use super::filter_cache::FilterCache;
+use super::filter_cache::{FilterCache, is_true};
 use super::filters::{Asking, Filter, Frame};
 use super::members::{are_members, is_member, member, member_name, member_of, start_spot};
 use super::node_list::NodeList;
@@ -207,6 +207,28 @@ impl<'a, 'p> Running<'a, 'p> {
         Ok(Progress::Complete(items))
     }
 
+    /// Evaluates the steps that are left for other items.
+    #[inline(never)]
+    pub(crate) fn resume(
+        self,
+        context: &Context<'a>,
+        items: NodeList,
+    ) -> Result<Progress<'a, 'p>, Error>
+        ensures meant { (top : Tree) (found : List Tree) → HasTree context.now.document top
+            → AllZip (IsAt context.now.document) (node_spots items) found
+            → IsProgress context.now top self.entry.repeats
+            (steps_meaning context.now.mode (running_steps self.entry) top found) result }
+        ensures fewer { IfOk result (λ progress. progress_weight progress ≤ running_weight self.entry) }
+        ensures errors { IfErr result (IsSelectionError context.now.mode) }
+    {
+        if self.next == self.steps.len() {
+            return Ok(Progress::Complete(items));
+        }
+        let mut running = self;
+        running.items = items;
+        running.run(context)
+    }
+
     /// Evaluates a filter, which precedes the next step. Returns the items that it selects, in `Complete` even if
     /// steps are left, or else, if a test is an expression, the filter and these steps.
     #[inline(never)]
@@ -265,17 +287,35 @@ fn tested_list(
 }
 
 /// Begins a filter of the items that the steps before it have selected.
+#[inline(always)]
 fn begin<'a, 'p>(
+    context: &Context<'a>,
+    path: Box<AtFilter<'a, 'p>>,
+    around: &mut Vec<Frame<'a, 'p>>,
+) -> Result<Progress<'a, 'p>, Error>
+    ensures meant { BeginsFilter context.now path.entry.value around.old.items around.new.items result }
+    ensures fewer { IsFewer path.entry.value around.old.items around.new.items result }
+    ensures errors { IfErr result (IsSelectionError context.now.mode) }
+{
+    let path = Box::into_inner(path);
+    match &path.running.items {
+        NodeList::One(item) => {
+            let item = *item;
+            begin_one(context, path, item, around)
+        }
+        NodeList::Many(_) => begin_many(context, path, around),
+    }
+}
+
+/// Begins a filter of a list of items.
+#[inline(never)]
+fn begin_many<'a, 'p>(
     context: &Context<'a>,
     path: AtFilter<'a, 'p>,
     around: &mut Vec<Frame<'a, 'p>>,
 ) -> Result<Progress<'a, 'p>, Error>
-    ensures meant { (top : Tree) (o whole : Outcome (List Tree)) (repeats : Repeats) → HasTree context.now.document top
-        → IsAtFilter context.now top path.entry o
-        → IsAround context.now top (reverse around.old.items) path.entry.running.repeats o repeats whole
-        → IsOnward context.now top around.new.items repeats whole result }
-    ensures fewer { IfOk result (λ next. progress_weight next + around_weight around.new.items
-        < at_filter_weight path.entry + around_weight around.old.items) }
+    ensures meant { BeginsFilter context.now path.entry around.old.items around.new.items result }
+    ensures fewer { IsFewer path.entry around.old.items around.new.items result }
     ensures errors { IfErr result (IsSelectionError context.now.mode) }
 {
     let mut filter = Filter::new(context, path);
@@ -285,6 +325,35 @@ fn begin<'a, 'p>(
             wait(pending, filter, around)
         }
         None => filter.finish(context),
+    }
+}
+
+/// Begins a filter of one item. Only one with a test that waits for a path becomes a frame.
+#[inline(never)]
+fn begin_one<'a, 'p>(
+    context: &Context<'a>,
+    path: AtFilter<'a, 'p>,
+    item: Spot,
+    around: &mut Vec<Frame<'a, 'p>>,
+) -> Result<Progress<'a, 'p>, Error>
+    ensures meant { node_spots path.entry.running.items ≡ item ∷ []
+        → BeginsFilter context.now path.entry around.old.items around.new.items result }
+    ensures fewer { IsFewer path.entry around.old.items around.new.items result }
+    ensures errors { IfErr result (IsSelectionError context.now.mode) }
+{
+    let AtFilter { tests, running } = path;
+    let mut asking = Asking::new(tests, item, FilterCache::Nothing);
+    match asking.next(context)? {
+        Some(pending) => {
+            let filter = Filter::waiting(context.alloc, asking, running);
+            let filter = Box::new(context.alloc, filter)?;
+            wait(pending, filter, around)
+        }
+        None => {
+            let keeps = is_true(asking.truth());
+            let found = NodeList::at_most_one(context.alloc, keeps.then_some(item));
+            running.resume(context, found)
+        }
     }
 }
 
@@ -331,18 +400,18 @@ fn wait<'a, 'p>(
 }
 
 /// Evaluates steps, one after the other. The filters that wait for them are in a `Vec`.
-fn select<'a, 'p>(context: &Context<'a>, first: AtFilter<'a, 'p>) -> Result<NodeList, Error>
+fn select<'a, 'p>(context: &Context<'a>, first: Box<AtFilter<'a, 'p>>) -> Result<NodeList, Error>
     ensures meant { (top : Tree) (o : Outcome (List Tree)) → HasTree context.now.document top
-        → IsAtFilter context.now top first.entry o
-        → Refines (λ found us. HasSame first.entry.running.repeats context.now.document.bytes.now (node_spots found) us)
-        IsOutOfMemory result o }
+        → IsAtFilter context.now top first.entry.value o
+        → Refines (λ found us. HasSame first.entry.value.running.repeats context.now.document.bytes.now
+        (node_spots found) us) IsOutOfMemory result o }
     ensures errors { IfErr result (IsSelectionError context.now.mode) }
 {
     let mut around = Vec::new(context.alloc);
     let mut progress = begin(context, first, &mut around)?;
     loop {
         progress = match progress {
-            Progress::AtFilter(path) => begin(context, Box::into_inner(path), &mut around)?,
+            Progress::AtFilter(path) => begin(context, path, &mut around)?,
             Progress::Complete(found) => match around.pop() {
                 Some(frame) => resume(context, frame, found, &mut around)?,
                 None => return Ok(found),
@@ -351,8 +420,8 @@ fn select<'a, 'p>(context: &Context<'a>, first: AtFilter<'a, 'p>) -> Result<Node
     }
 }
 
-/// Evaluates several steps, one after the other, from one item.
-#[inline(never)]
+/// Evaluates several steps, one after the other, from one item. Names alone are looked up without a list.
+#[inline(always)]
 pub(crate) fn select_steps<'a>(
     context: &Context<'a>,
     expressions: Expressions,
@@ -360,16 +429,28 @@ pub(crate) fn select_steps<'a>(
     steps: &'a [Path<'_>],
     first: Spot,
 ) -> Result<NodeList, Error>
-    ensures meant { (top t : Tree) → HasTree context.now.document top → IsAt context.now.document first t
-        → Refines (λ found us. HasSame repeats context.now.document.bytes.now (node_spots found) us) IsOutOfMemory
-        result (steps_meaning context.now.mode (steps_of (map (taken_step expressions) (steps_view steps.now)))
-        top (t ∷ [])) }
+    ensures meant { SelectsSteps context.now expressions repeats steps.now first result }
     ensures errors { IfErr result (IsSelectionError context.now.mode) }
 {
-    if are_members(steps) {
-        let found = member(context.mode, steps, context.document.bytes, first)?;
-        return Ok(NodeList::at_most_one(context.alloc, found));
+    if !are_members(steps) {
+        return listed_steps(context, expressions, repeats, steps, first);
     }
+    let found = member(context.mode, steps, context.document.bytes, first)?;
+    Ok(NodeList::at_most_one(context.alloc, found))
+}
+
+/// Evaluates several steps, one after the other, from one item, as lists of items.
+#[inline(never)]
+pub(crate) fn listed_steps<'a>(
+    context: &Context<'a>,
+    expressions: Expressions,
+    repeats: Repeats,
+    steps: &'a [Path<'_>],
+    first: Spot,
+) -> Result<NodeList, Error>
+    ensures meant { SelectsSteps context.now expressions repeats steps.now first result }
+    ensures errors { IfErr result (IsSelectionError context.now.mode) }
+{
     let running = Running {
         expressions,
         repeats,
@@ -378,7 +459,7 @@ pub(crate) fn select_steps<'a>(
         items: NodeList::One(first),
     };
     match running.run(context)? {
-        Progress::AtFilter(path) => select(context, Box::into_inner(path)),
+        Progress::AtFilter(path) => select(context, path),
         Progress::Complete(found) => Ok(found),
     }
 }
@@ -406,7 +487,7 @@ pub(crate) fn truth<'a>(current: Current<'_, 'a>, e: &'a Expr<'_>) -> TruthResul
     let mut next = asking.next(context)?;
     while let Some(pending) = next {
         let Pending { path, waits } = Box::into_inner(pending);
-        let found = select(context, Box::into_inner(path))?;
+        let found = select(context, path)?;
         next = asking.take(context, waits, found)?;
     }
     Ok(asking.truth())

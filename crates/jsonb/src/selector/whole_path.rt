@@ -29,7 +29,7 @@ use super::node_list::NodeList;
 use super::search::search;
 use super::selected::{MadeItem, Selected};
 use super::signed_items::signed_items;
-use super::steps::{operand_values, select_steps};
+use super::steps::{listed_steps, operand_values, select_steps};
 use crate::path::{BinaryOperator, Expr, Path, PathValue, UnaryOperator};
 use jsonb_doc::{Error, Item, Number, root_item};
 
@@ -76,7 +76,7 @@ pub(crate) fn first_selection<'a>(
     match search(context, all, steps, root)? {
         Some(first) => Ok(Selected::Nodes(NodeList::at_most_one(context.alloc, first))),
         None => {
-            let firsts = select_steps(context, all, Repeats::AreDropped, steps, root)?;
+            let firsts = listed_steps(context, all, Repeats::AreDropped, steps, root)?;
             Ok(Selected::Nodes(firsts))
         }
     }

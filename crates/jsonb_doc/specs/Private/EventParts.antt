@@ -85,10 +85,8 @@ pub record Begins (form : Form) (ds : List Member) (left : Left) (w : Writer) (a
 
 -- The containers around, the innermost first, each with the trees that come after it.
 abbrev pub AreLeft : List Member → List Outer → Around → Type 0
-AreLeft ds [] [] = ⊤
-AreLeft ds (o ∷ os) (l ∷ ls) =
-    ((ts : List Tree) × HoldParts ds o.left.room o.left.members.now ts × (l ≡ (o.container, ts))) × AreLeft ds os ls
-AreLeft ds _ _ = ⊥
+AreLeft ds os ls = AllZip
+    (λ o l. (ts : List Tree) × HoldParts ds o.left.room o.left.members.now ts × (l ≡ (o.container, ts))) os ls
 
 -- Holds if what is written becomes the whole with the members that are left, here and in the containers around, of
 -- which the `Vec` holds the innermost last.

@@ -1,145 +1,113 @@
--- Containers as bytes: their entries, one of them replaced or left out.
-use Rattle.std.specs.Prelude.{◌≡◌, ℕ, ◌+◌, ◌-◌, ◌*◌, ◌^◌, ◌<◌, ◌≤◌, List, [], ◌∷◌, ◌++◌, length, slice_get, slice_range, Option, Some, None, ⊤}
-use Rattle.jsonb_doc.specs.Tree.{Tree}
-use Rattle.jsonb_doc.specs.Payload.{NumberReader}
-use Rattle.jsonb_doc.specs.Format.{IsContent, entry_word}
+-- Containers around a value: their entries, and what they become without it.
+use Rattle.std.specs.Prelude.{◌≡◌, ℕ, suc, ◌+◌, ◌^◌, ◌<◌, List, [], ◌∷◌, ◌++◌, length, take, drop, map, reverse, slice_get, Option, Some, None, option_and_then, ⊤}
+use Rattle.std.specs.List.{AllZip, remove}
+use Rattle.jsonb_doc.specs.Tree.{Tree, text, object, keys, children_of}
+use Rattle.jsonb_doc.specs.Payload.{Form}
+use Rattle.jsonb_doc.specs.Format.{Decodes}
+use Rattle.jsonb_doc.specs.Kinds.{kind_number}
 use Rattle.jsonb_doc.specs.Private.EntryKinds.{container_entry}
-use Rattle.jsonb_doc.specs.Encoding.{EntryParts}
-use Rattle.jsonb_doc.specs.Private.ObjectBytes.{FitsEntry, words_of_entries, contents_of_entries}
-use Rattle.jsonb_raw.specs.declared.functions.path.entry_range.EntryRange.{EntryRange}
-use Rattle.jsonb_raw.specs.declared.functions.path.entry_range.ChildEntries.{ChildEntries}
-use Rattle.jsonb_raw.specs.Places.{children}
-use Rattle.jsonb_raw.specs.Deletes.{change_child}
+use Rattle.jsonb_doc.specs.Private.Writer.{Make, Around, Rooms, IsWriting, head_size}
+use Rattle.jsonb_doc.specs.declared.entry_iter.StoredEntry.{StoredEntry}
+use Rattle.jsonb_doc.specs.declared.rewriting.Writer.{Writer}
+use Rattle.jsonb_keypath.specs.KeyPathGrammar.{Key}
+use Rattle.jsonb_raw.specs.declared.functions.path.parent_entries.ParentEntries.{ParentEntries}
+use Rattle.jsonb_raw.specs.declared.functions.path.cut.Outer.{Outer}
+use Rattle.jsonb_raw.specs.Places.{children, child_position}
+use Rattle.jsonb_raw.specs.Deletes.{change_child, remove_at}
+use Rattle.jsonb_raw.specs.Private.Entries.{HoldTrees}
 
--- each of the entries has its place in the format
-abbrev pub FitEntries : List EntryParts → Type 0
-FitEntries [] = ⊤
-FitEntries (e ∷ es) = FitsEntry e × FitEntries es
+-- ---- what a container becomes
 
--- the bytes are a header, and the words and the contents of these entries
-pub record HoldEntries (bytes : List ℕ) (es : List EntryParts) : Type 0 where
-  pub head : List ℕ
-  pub four : length head ≡ 4
-  pub within : FitEntries es
-  pub joined : bytes ≡ head ++ (words_of_entries es ++ contents_of_entries es)
+-- The entries of an object's keys; another tree has none.
+abbrev pub key_trees : Tree → List Tree
+key_trees (object ps) = map text (keys ps)
+key_trees _ = []
 
--- the range of an entry that these others precede
-pub record IsPlaceOf (place : EntryRange) (total : ℕ) (front : List EntryParts) (e : EntryParts) : Type 0 where
-  pub word : place.word ≡ 4 + 4 * length front
-  pub start : place.start ≡ 4 + 4 * total + length (contents_of_entries front)
-  pub end : place.end ≡ 4 + 4 * total + length (contents_of_entries front) + length e.1
+-- The entries of a container without the value at this location in its child at position n; without that child, if the
+-- location is empty.
+abbrev pub entries_kept : Tree → ℕ → Tree → List ℕ → List Tree
+entries_kept t n child [] = remove (key_trees t) n ++ (take n (children t) ++ drop (suc n) (children t))
+entries_kept t n child (m ∷ ns) =
+    key_trees t ++ (take n (children t) ++ change_child m (remove_at ns) child ∷ drop (suc n) (children t))
 
--- the content of an entry
-abbrev pub content_at : List ℕ → EntryRange → List ℕ
-content_at bytes place = slice_range bytes place.start place.end
+-- The number of children that the container keeps, of this many others than the one at n: that one too, if only a value
+-- within it goes.
+abbrev pub count_kept : ℕ → List ℕ → ℕ
+count_kept others [] = others
+count_kept others (m ∷ ns) = others + 1
 
--- the container with another container as the content of an entry
-abbrev pub with_content : List ℕ → EntryRange → List ℕ → List ℕ
-with_content bytes place content =
-    slice_range bytes 0 place.word ++ (entry_word container_entry (length content)
-    ++ (slice_range bytes (place.word + 4) place.start ++ (content ++ slice_range bytes place.end (length bytes))))
+-- Holds if these are the entries of a container of this tree, around its child at position n.
+pub record IsParent (form : Form) (p : ParentEntries) (t : Tree) (n : ℕ) (child : Tree) : Type 0 where
+  pub keys_hold : HoldTrees form p.keys (key_trees t)
+  pub front_hold : HoldTrees form p.front (take n (children t))
+  pub after_hold : HoldTrees form p.after (drop (suc n) (children t))
+  pub passed : n ≡ length (take n (children t))
+  pub makes : (ns : List ℕ)
+      → Make p.kind (count_kept p.others ns) (entries_kept t n child ns) (change_child n (remove_at ns) t)
 
--- the parts of the bytes around the entries of a child
-abbrev pub around : List ℕ → Option EntryRange → EntryRange → List ℕ
-around bytes None value =
-    slice_range bytes 4 value.word ++ (slice_range bytes (value.word + 4) value.start
-    ++ slice_range bytes value.end (length bytes))
-around bytes (Some key) value =
-    slice_range bytes 4 key.word ++ (slice_range bytes (key.word + 4) value.word
-    ++ (slice_range bytes (value.word + 4) key.start
-    ++ (slice_range bytes key.end value.start ++ slice_range bytes value.end (length bytes))))
+-- Holds if the first of these containers is the tree `t`, each other one is the child of the one before it at one of
+-- these positions, and `end` is the child of the last.
+abbrev pub LeadTo : Form → List ParentEntries → List ℕ → Tree → Tree → Type 0
+LeadTo form [] [] t end = t ≡ end
+LeadTo form (p ∷ ps) (n ∷ ns) t end = (child : Tree) × IsParent form p t n child × LeadTo form ps ns child end
+LeadTo form _ _ t end = ⊥
 
--- the container without a child
-abbrev pub without_child : List ℕ → ChildEntries → List ℕ
-without_child bytes child = child.header ++ around bytes child.key child.value
+abbrev pub Leads : Form → List ParentEntries → List ℕ → Tree → Type 0
+Leads form ps ns t = (end : Tree) × LeadTo form ps ns t end
 
--- the range is within this many bytes, its word before its content
-abbrev pub LiesWithin : EntryRange → ℕ → Type 0
-LiesWithin place len = (place.word + 4 ≤ place.start) × (place.start ≤ place.end) × (place.end ≤ len)
+-- ---- a step
 
--- after a header, the words of the entries precede their contents, a key's its value's
-abbrev pub AreInOrder : Option EntryRange → EntryRange → ℕ → Type 0
-AreInOrder None value len = (4 ≤ value.word) × LiesWithin value len
-AreInOrder (Some key) value len =
-    (4 ≤ key.word) × (key.word + 4 ≤ value.word) × (value.word + 4 ≤ key.start) × (key.start ≤ key.end)
-    × (key.end ≤ value.start)
-    × (value.start ≤ value.end) × (value.end ≤ len)
+-- Holds if the entry is of this tree; the root of a document counts as the entry of a container.
+pub record HoldsValue (form : Form) (entry : StoredEntry) (t : Tree) : Type 0 where
+  pub container : kind_number entry.kind ≡ container_entry → Decodes form entry.content.now t
+  pub scalar : (kind_number entry.kind ≡ container_entry → ⊥) → children_of t ≡ None
 
--- The entries are those of the child at a position of a container's tree: its content is there, and without it, or
--- with another content in its place, the bytes are those of the changed tree.
-pub record AreOfChild (number_at : NumberReader) (bytes : List ℕ) (t : Tree) (n : ℕ) (child : Tree)
-    (entries : ChildEntries) : Type 0 where
-  pub four : length entries.header ≡ 4
-  pub kind : ℕ
-  pub content : IsContent number_at child kind (content_at bytes entries.value)
-  pub short : length (content_at bytes entries.value) < 2 ^ 28
-  pub within : LiesWithin entries.value (length bytes)
-  pub ordered : AreInOrder entries.key entries.value (length bytes)
-  pub cut : (change : Tree → Option Tree) → change child ≡ None
-      → IsContent number_at (change_child n change t) container_entry (without_child bytes entries)
-  pub shorter : length (without_child bytes entries) ≤ length bytes
-  pub changed : (change : Tree → Option Tree) (child' : Tree) (content' : List ℕ) → change child ≡ Some child'
-      → IsContent number_at child' container_entry content' → length content' ≤ length (content_at bytes entries.value)
-      → IsContent number_at (change_child n change t) container_entry (with_content bytes entries.value content')
-  pub no_longer : (content' : List ℕ) → length content' ≤ length (content_at bytes entries.value)
-      → length (with_content bytes entries.value content') ≤ length bytes
+-- Holds if these are the entries around the child that a step selects, and the child, or `None` and it selects nothing.
+abbrev pub StepsInto : Form → Tree → Key → Option (ParentEntries × StoredEntry) → Type 0
+StepsInto form t step None = option_and_then (λ n. slice_get (children t) n) (child_position step t) ≡ None
+StepsInto form t step (Some found) =
+    (n : ℕ) × (child : Tree) × (child_position step t ≡ Some n) × (slice_get (children t) n ≡ Some child)
+    × IsParent form found.0 t n child × HoldsValue form found.1 child
 
--- the length of the entry of a key, if there is one
-abbrev pub key_size : Option EntryRange → ℕ
-key_size None = 0
-key_size (Some key) = key.end - key.start + 4
+-- ---- numbers of bytes
 
--- how many bytes the entries of a child take, with their words
-abbrev pub entries_size : ChildEntries → ℕ
-entries_size child = (child.value.end - child.value.start + 4) + key_size child.key
+-- The number of children that a container keeps, by the containers within it that lead to the value: only the innermost
+-- one loses a child.
+abbrev pub children_kept : ParentEntries → List ParentEntries → ℕ
+children_kept p [] = p.others
+children_kept p (q ∷ qs) = p.others + 1
 
--- ---- children within children
+-- The number of bytes of the keys and of the other children.
+abbrev pub contents_size : ParentEntries → ℕ
+contents_size p = length p.keys.contents.now + (length p.front.contents.now + length p.after.contents.now)
 
--- the child at a position is a container, whose content is in this range
-pub record StepsInto (number_at : NumberReader) (bytes : List ℕ) (t : Tree) (n : ℕ) (child : Tree)
-    (place : EntryRange) : Type 0 where
-  pub entries : ChildEntries
-  pub value_is : entries.value ≡ place
-  pub of_child : AreOfChild number_at bytes t n child entries
-  pub container : IsContent number_at child container_entry (content_at bytes place)
+-- The number of bytes of the container without the content of the child.
+abbrev pub size : ParentEntries → ℕ
+size p = head_size p.kind (p.others + 1) + contents_size p
 
--- the children at these positions, each within the one before it, have these places, and the last is this tree with
--- this content
-abbrev pub LeadTo : NumberReader → List ℕ → Tree → List ℕ → List EntryRange → List ℕ → Tree → Type 0
-LeadTo number_at bytes t [] [] inner u = (bytes ≡ inner) × (t ≡ u)
-LeadTo number_at bytes t (n ∷ ns) (place ∷ places) inner u =
-    (child : Tree) × StepsInto number_at bytes t n child place
-    × LeadTo number_at (content_at bytes place) child ns places inner u
-LeadTo number_at bytes t _ _ inner u = ⊥
+abbrev pub sizes : List ParentEntries → ℕ
+sizes [] = 0
+sizes (p ∷ ps) = size p + sizes ps
 
--- Holds if `LeadTo` does, and the last child is a container with a child at this position.
-pub record LeadInto (number_at : NumberReader) (bytes : List ℕ) (t : Tree) (ns : List ℕ) (places : List EntryRange)
-    (inner : List ℕ) (last : ℕ) : Type 0 where
-  pub u : Tree
-  pub child : Tree
-  pub walk : LeadTo number_at bytes t ns places inner u
-  pub content : IsContent number_at u container_entry inner
-  pub there : slice_get (children u) last ≡ Some child
+-- Holds if the containers within the outermost one are short enough for an entry, with this many bytes in the child of
+-- the innermost one.
+abbrev pub AreShort : List ParentEntries → ℕ → Type 0
+AreShort [] len = ⊤
+AreShort (p ∷ ps) len = sizes ps + len < 2 ^ 28
 
--- the bytes before the content of a child that becomes this many bytes shorter
-abbrev pub front_of : List ℕ → EntryRange → ℕ → List ℕ
-front_of bytes place removed =
-    slice_range bytes 0 place.word ++ (entry_word container_entry (place.end - place.start - removed)
-    ++ slice_range bytes (place.word + 4) place.start)
+-- ---- containers that are open
 
--- those before the innermost child
-abbrev pub fronts : List ℕ → List EntryRange → ℕ → List ℕ
-fronts bytes [] removed = []
-fronts bytes (place ∷ places) removed = front_of bytes place removed ++ fronts (content_at bytes place) places removed
+-- The containers around, the innermost first, each with the trees that come after it.
+abbrev pub AreLeft : Form → List Outer → Around → Type 0
+AreLeft form os ls = AllZip (λ o l. (ts : List Tree) × HoldTrees form o.after ts × (l ≡ (o.open, ts))) os ls
 
--- the position of the innermost child
-abbrev pub starts : List EntryRange → ℕ
-starts [] = 0
-starts (place ∷ places) = place.start + starts places
+-- The containers around, the innermost first, each with the number of bytes that come after it.
+abbrev pub rooms_after : List Outer → Rooms
+rooms_after os = map (λ o. (o.open, length o.after.contents.now)) os
 
--- the bytes of a container of this tree, at most this many, were appended
-pub record AppendsContainer (number_at : NumberReader) (t : Tree) (most : ℕ) (before after : List ℕ) : Type 0 where
-  pub bytes : List ℕ
-  pub joined : after ≡ before ++ bytes
-  pub short : length bytes ≤ most
-  pub content : IsContent number_at t container_entry bytes
+-- Holds if what is written becomes the whole with the values that are left in the containers around, of which the `Vec`
+-- holds the innermost last.
+pub record IsClosing (form : Form) (w : Writer) (around : List Outer) (whole : Tree) : Type 0 where
+  pub outside : Around
+  pub are_left : AreLeft form (reverse around) outside
+  pub writing : IsWriting form w [] outside whole

@@ -1,11 +1,12 @@
 -- Entries of containers in runs, as they are stored.
-use Rattle.std.specs.Prelude.{◌≡◌, ℕ, List, [], ◌∷◌, ◌++◌, map, Option, Some, None, ⊤}
+use Rattle.std.specs.Prelude.{◌≡◌, ℕ, ◌+◌, ◌*◌, ◌^◌, ◌<◌, ◌≤◌, List, [], ◌∷◌, ◌++◌, length, map, Option, Some, None, ⊤}
 use Rattle.std.specs.Map.{keys_of, values_of}
 use Rattle.jsonb_doc.specs.Tree.{Tree, no_trees, tree, text, array, object, elements, keys, members, trees_of}
 use Rattle.jsonb_doc.specs.Payload.{Form, number_reader}
 use Rattle.jsonb_doc.specs.Format.{AreEntries, AreKeys}
 use Rattle.jsonb_doc.specs.Private.EntryKinds.{text_entry}
 pub use Rattle.jsonb_doc.specs.Private.Cursor.{HoldTrees, IsFirst, TakesFirst, RunsHold}
+use Rattle.jsonb_doc.specs.Private.Writer.{head_size}
 use Rattle.jsonb_doc.specs.Limits.{IsShort}
 use Rattle.jsonb_doc.specs.Kinds.{kind_number}
 use Rattle.jsonb_doc.specs.declared.error.Error.{Error}
@@ -118,3 +119,9 @@ AreContainerEntries form t (Some e) = AreEntriesOf form t e
 AreContainerEntries form (array ts) None = ⊥
 AreContainerEntries form (object ps) None = ⊥
 AreContainerEntries form _ None = ⊤
+
+-- Holds if a container of this many bytes may have these entries.
+pub record AreWithin (len : ℕ) (e : ContainerEntries) : Type 0 where
+  pub few : length e.values.words.now < 2 ^ 31
+  pub fit : (n : ℕ) → 4 * n ≤ length e.values.words.now
+      → head_size e.kind n + (length e.keys.contents.now + length e.values.contents.now) ≤ len

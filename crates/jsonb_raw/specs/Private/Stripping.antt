@@ -1,6 +1,7 @@
 -- Containers that are written again without the nulls of their objects.
 use Rattle.std.specs.Prelude.{◌≡◌, ℕ, Bool, true, false, List, [], ◌∷◌, ◌++◌, map, Option, Some, None, if◌then◌else◌, reverse, ⊤}
 use Rattle.std.specs.Borrow.{Bor}
+use Rattle.std.specs.List.{AllZip}
 use Rattle.jsonb_doc.specs.Tree.{Tree, text, array, object, elements, values, keys, trees_of}
 use Rattle.jsonb_doc.specs.Payload.{Form, number_reader}
 use Rattle.jsonb_doc.specs.Format.{IsContent, AreEntries, IsBelowFirst}
@@ -78,11 +79,8 @@ AreWritten form is_object w around whole (Some found) =
 
 -- The containers around, the innermost first, each with the trees that come after it.
 abbrev pub AreLeft : Form → List Outer → Around → Type 0
-AreLeft form [] [] = ⊤
-AreLeft form (o ∷ os) (l ∷ ls) =
-    ((ts : List Tree) × HoldTrees form o.left.entries ts × (l ≡ (o.open, stripped o.left.is_object ts)))
-    × AreLeft form os ls
-AreLeft form _ _ = ⊥
+AreLeft form os ls = AllZip
+    (λ o l. (ts : List Tree) × HoldTrees form o.left.entries ts × (l ≡ (o.open, stripped o.left.is_object ts))) os ls
 
 -- Holds if what is written becomes the whole with the values that are left without nulls, here and in the containers
 -- around, of which the `Vec` holds the innermost last.

@@ -1,6 +1,6 @@
 //! Entries of containers, as they are stored, and the documents of single entries.
 
-ghost use Rattle.std.specs.Prelude.{◌≡◌, List, length, take, drop, IsOkAnd, IfErr};
+ghost use Rattle.std.specs.Prelude.{◌≡◌, ◌+◌, ◌≤◌, List, length, take, drop, IsOkAnd, IfOk, IfErr};
 ghost use Rattle.jsonb_doc.specs.Tree.{Tree};
 ghost use Rattle.jsonb_doc.specs.Payload.{Form, number_reader};
 ghost use Rattle.jsonb_doc.specs.Format.{Decodes, IsContent};
@@ -47,6 +47,8 @@ pub fn around_entries(
     ensures around { (form : Form) (ts : List Tree) → HoldTrees form entries.entry ts
         → IsOkAnd result (λ parts. HoldTrees form parts.0 (take position ts)
         × HoldTrees form parts.1 (drop count (drop position ts))) }
+    ensures room { IfOk result (λ parts. length parts.0.contents.now + length parts.1.contents.now
+        ≤ length entries.entry.contents.now) }
     ensures errors { IfErr result IsDecodingError }
 {
     let (front, others) = entries.split(position)?;

@@ -18,12 +18,12 @@ ghost use Rattle.jsonb_raw.specs.Private.Steps.{child_met};
 ghost use Rattle.jsonb_raw.specs.Iterators.{YieldsItemsLeft};
 
 mod child;
-pub(crate) mod cut;
+mod cut;
 mod delete;
-mod entry_range;
 mod exists;
 mod leaves;
 mod name_block;
+mod parent_entries;
 mod spots;
 
 use crate::owned::OwnedJsonb;

@@ -10,7 +10,7 @@ ghost use Rattle.jsonb_doc.specs.Format.{Decodes};
 ghost use Rattle.jsonb_doc.specs.Answer.{IsDecodingError, IsOutOfMemory, ◌or◌};
 ghost use Rattle.jsonb_doc.specs.declared.error.Error.TheVariants.{OutOfMemory};
 ghost use Rattle.jsonb_doc.specs.Private.Writer.{Around, IsWriting};
-ghost use Rattle.jsonb_raw.specs.Private.Entries.{HoldTrees, HoldPairs, ArePairsOf, AreContainerEntries, TakesFirstPair, RunsHold, Holding};
+ghost use Rattle.jsonb_raw.specs.Private.Entries.{HoldTrees, HoldPairs, ArePairsOf, AreContainerEntries, AreWithin, TakesFirstPair, RunsHold, Holding};
 
 use crate::functions::joined::object_of;
 use crate::functions::parts::{ContainerEntries, Entries, FirstPair, PairEntries, PairRuns};
@@ -28,6 +28,8 @@ fn entries_of_pairs(parts: ObjectParts<'_>) -> Result<PairEntries<'_>, Error>
         → IsOkAnd result (λ pairs. HoldPairs form pairs (members ps)) }
     ensures room { IfOk result (λ pairs. (pairs.values.words.now ≡ parts.entry.value_words.now)
         × (length pairs.values.contents.now ≤ length parts.entry.contents.now)) }
+    ensures size { IfOk result (λ pairs. length pairs.keys.contents.now + length pairs.values.contents.now
+        ≤ length parts.entry.contents.now) }
     ensures errors { IfErr result IsDecodingError }
 {
     let values = parts.value_contents()?;
@@ -61,6 +63,7 @@ pub fn container_entries(bytes: &[u8]) -> Result<Option<ContainerEntries<'_>>, E
         → IsOkAnd result (AreContainerEntries form t) }
     ensures room { IfOk result (λ found. IfSome found (λ e.
         length e.values.words.now + length e.values.contents.now + 4 ≤ length bytes.now)) }
+    ensures size { IfOk result (λ found. IfSome found (AreWithin (length bytes.now))) }
     ensures errors { IfErr result IsDecodingError }
 {
     match read_container(bytes)? {

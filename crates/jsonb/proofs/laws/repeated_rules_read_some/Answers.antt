@@ -4,20 +4,12 @@ use Rattle.jsonb.proofs.InnerReadsSome.{some-spaced_inner}
 use Rattle.jsonb.proofs.ExpressionReadsSome.{some-path, grows-nested_or, some-path_step, some-another_atom, some-another_and}
 use Rattle.jsonb.proofs.laws.repeated_rules_read_some.Goals as goal
 
-pub returns-clause-entries : goal.returns-clause-entries
-returns-clause-entries c = some-another_entry
-
-pub returns-clause-operand_steps : goal.returns-clause-operand_steps
-returns-clause-operand_steps c = some-spaced_inner
-
-pub returns-clause-path_steps : goal.returns-clause-path_steps
-returns-clause-path_steps c = some-path_step
-
-pub returns-clause-conditions : goal.returns-clause-conditions
-returns-clause-conditions c = λ n f. some-another_atom n f
-
-pub returns-clause-alternatives : goal.returns-clause-alternatives
-returns-clause-alternatives c = λ n f. some-another_and n f
-
-pub returns-clause-nested_steps : goal.returns-clause-nested_steps
-returns-clause-nested_steps c = λ n. some-path (nested_or n) (grows-nested_or n)
+pub returns : goal.returns
+returns c = record {
+  entries = some-another_entry;
+  operand_steps = some-spaced_inner;
+  path_steps = some-path_step;
+  nested_steps = λ n. some-path (nested_or n) (grows-nested_or n);
+  conditions = λ n f. some-another_atom n f;
+  alternatives = λ n f. some-another_and n f;
+}

@@ -22,20 +22,18 @@ each_document : (ts : List Tree) (made other : List OwnedJsonb) → AllZip (Deco
     → AllZip (Decodes canonical) other ts → AllByRecursion AreBytes made → AllByRecursion AreBytes other → other ≡ made
 each_document [] [] [] h k all all' = refl
 each_document [] [] (y ∷ ys) h k all all' = elim k [ ]
-each_document [] (x ∷ xs) other h k all all' = elim h [ ]
-each_document (t ∷ ts) [] other h k all all' = elim h [ ]
 each_document (t ∷ ts) (x ∷ xs) [] h k all all' = elim k [ ]
 each_document (t ∷ ts) (x ∷ xs) (y ∷ ys) h k all all' =
     ap₂ (λ first rest. first ∷ rest) (one_document t x y h.0 k.0 all.0 all'.0) (each_document ts xs ys h.1 k.1 all.1 all'.1)
+each_document _ _ other h k all all' = elim h [ ]
 
 maybe_document : (found : Option Tree) (made other : Option OwnedJsonb) → SameOption (Decodes canonical) made found
     → SameOption (Decodes canonical) other found → IfSome made AreBytes → IfSome other AreBytes → other ≡ made
 maybe_document None None None h k all all' = refl
 maybe_document None None (Some y) h k all all' = elim k [ ]
-maybe_document None (Some x) other h k all all' = elim h [ ]
-maybe_document (Some t) None other h k all all' = elim h [ ]
 maybe_document (Some t) (Some x) None h k all all' = elim k [ ]
 maybe_document (Some t) (Some x) (Some y) h k all all' = ap Some (one_document t x y h k all all')
+maybe_document _ _ other h k all all' = elim h [ ]
 
 all : (meaning : Outcome (List Tree)) (r s : Result (Vec OwnedJsonb Global) Error)
     → AreAll Decodes canonical meaning r → AreAll Decodes canonical meaning s
@@ -62,11 +60,5 @@ picked pick (Err e) (Ok made) s h k = elim h.ok [ ]
 picked pick (Ok ts) (Ok made) (Err e) h k = tt
 picked pick meaning (Err e) s h k = tt
 
-pub returns-clause-all : goal.returns-clause-all
-returns-clause-all c = all
-
-pub returns-clause-array : goal.returns-clause-array
-returns-clause-array c = whole
-
-pub returns-clause-picked : goal.returns-clause-picked
-returns-clause-picked c = picked
+pub returns : goal.returns
+returns c = record { all = all; array = whole; picked = picked }

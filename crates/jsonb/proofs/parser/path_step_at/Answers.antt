@@ -1,7 +1,4 @@
-use Rattle.std.proofs.Common.{◌≡◌, ◌∙◌, sym, subst, None, IfOk}
-use Rattle.jsonb_keypath.specs.Rules.{Parsed}
-use Rattle.jsonb_keypath.specs.Views.{read_as}
-use Rattle.jsonb.specs.PathTree.{Step}
+use Rattle.std.proofs.Common.{◌≡◌, ◌∙◌, sym, None}
 use Rattle.jsonb.specs.PathGrammar.{spaced_inner}
 use Rattle.jsonb.specs.PathViews.{step_view}
 use Rattle.jsonb.proofs.Bounds.{path_step-rule}
@@ -16,10 +13,8 @@ returns-in-Some-clause-value c =
 pub returns-in-Some-filter_inside-clause-value : goal.returns-in-Some-filter_inside-clause-value
 returns-in-Some-filter_inside-clause-value c =
     let none : spaced_inner c.args.input.now ≡ None = sym (rw c.in-None.is at c.in_ok-found.ensures.value) in
-    subst (λ (o : Parsed Step). IfOk c.filter_at.result (λ found. read_as step_view found ≡ o))
-    (sym (path_step-rule c.args.input.now
-    ∙ step-is_filter c.args.input.now c.in-Some-filter_inside.inside.now none (sym c.in-Some-filter_inside.ensures.value)))
-    c.filter_at.ensures.value
+    rw (sym (path_step-rule c.args.input.now
+    ∙ step-is_filter c.args.input.now c.in-Some-filter_inside.inside.now none (sym c.in-Some-filter_inside.ensures.value))) at c.filter_at.ensures.value
 
 pub returns-in-None-filter_inside-clause-value : goal.returns-in-None-filter_inside-clause-value
 returns-in-None-filter_inside-clause-value c =

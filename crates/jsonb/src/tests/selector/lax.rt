@@ -30,6 +30,7 @@ const FILTERS: &str = r#"
 [1,"a"] $[*]?(@ starts with "a") => "a"
 [false,10,{"k":"v"}] $[*]?(exists(@.k)) => {"k":"v"}
 {"a":null,"b":[null]} $.b[*]?(@ == null) => null
+{"a":null,"b":[null]} $.b?(@[*] == null) => [null]
 [1,"a"] $?(@ == 1) => [1,"a"]
 ["a",1] $?(@ == 1) =>
 [10,20,30] $[*]?(20 <= @) => 20 30

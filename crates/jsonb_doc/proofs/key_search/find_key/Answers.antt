@@ -1,11 +1,8 @@
-use Rattle.std.proofs.Common.{◌≡◌, ◌==◌, ℕ, true, arith}
-use Rattle.std.proofs.lemmas.Bool.Decides.{nat_tests}
+use Rattle.std.proofs.Common.{arith}
 use Rattle.jsonb_doc.proofs.FieldLemmas.{KeysLeft-start, KeysLeft-end}
 use Rattle.jsonb_doc.proofs.KeyBlocks.{found_among}
+use Rattle.jsonb_doc.proofs.Basics.{zero_of}
 use Rattle.jsonb_doc.proofs.key_search.find_key.Goals as goal
-
-zero_of : (n : ℕ) → true ≡ (n == 0) → n ≡ 0
-zero_of n e = grind (arith, nat_tests)
 
 pub returns-then-is_empty-clause-found : goal.returns-then-is_empty-clause-found
 returns-then-is_empty-clause-found c = λ ks rest h.

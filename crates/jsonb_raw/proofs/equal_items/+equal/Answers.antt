@@ -1,12 +1,10 @@
-use Rattle.std.proofs.Common.{◌≡◌, Bool, Some, None, true, false, arith, rules, refl, sym, subst, ◌∙◌}
-use Rattle.std.specs.Prelude.{IsOkAnd}
+use Rattle.std.proofs.Common.{◌≡◌, Bool, Some, None, true, false, arith, rules, refl, sym, subst, ◌∙◌, IsOkAnd}
 use Rattle.jsonb_doc.specs.Tree.{keys, values}
 use Rattle.jsonb_doc.specs.Equal.{is_equal, are_equal, pairs_are_equal}
 use Rattle.jsonb_doc.specs.Private.Stored.{key_trees}
 use Rattle.jsonb_raw.specs.Private.Compared.{Decides}
 use Rattle.jsonb_raw.proofs.EntriesLeft.{SomeEntries-first, SomeEntries-error, SomeEntries-none}
-use Rattle.jsonb_raw.proofs.Aside.{Aside, IsAnswer, first_falls, decided_along, put_aside, part_holds, part_fails, rest_fails, entries_ended, shorter_than}
-use Rattle.jsonb_raw.proofs.TextTrees.{equal_by_parts}
+use Rattle.jsonb_raw.proofs.EntryEquals.{Aside, IsAnswer, first_falls, decided_along, put_aside, part_holds, part_fails, rest_fails, entries_ended, shorter_than, equal_by_parts}
 use Rattle.jsonb_raw.proofs.equal_items.+equal.Goals as goal
 
 -- ---- entries
@@ -30,8 +28,6 @@ entries_equal-loop-entry-preserved-then-is_container_longer_than t c =
     let none : c.loop-entry.large ≡ None = search rules in
     let size = rw c.in_ok-entry.was at c.in-Some.ensures.steps.size in
     record {
-      can = tt;
-      finite = tt;
       room = omega (arith, c.in-Some.ensures.steps.room, c.loop-entry.invariant.room);
       size = omega (arith, size, c.loop-entry.invariant.room);
       left = λ form other_form ts us d e.
@@ -68,8 +64,6 @@ entries_equal-returns-then-not-branch-clause-equal t c = λ form other_form ts u
 
 pub entries_equal-loop-entry-preserved : goal.entries_equal-loop-entry-preserved
 entries_equal-loop-entry-preserved t c = record {
-  can = tt;
-  finite = tt;
   room = omega (arith, c.in-Some.ensures.steps.room, c.loop-entry.invariant.room);
   size = c.loop-entry.invariant.size;
   left = λ form other_form ts us d e.

@@ -1,5 +1,4 @@
-use Rattle.std.proofs.Common.{◌≤◌, ◌+◌, ◌*◌, length}
-use Rattle.std.specs.Prelude.{IfSome}
+use Rattle.std.proofs.Common.{◌≤◌, ◌+◌, ◌*◌, length, IfSome}
 use Rattle.jsonb_doc.specs.Tree.{Tree, Trees}
 use Rattle.jsonb_doc.specs.Equal.{is_equal, are_equal}
 use Rattle.jsonb_doc.specs.Payload.{Form}
@@ -8,7 +7,7 @@ use Rattle.jsonb_doc.specs.AnyBytes.Items.{item_size}
 use Rattle.jsonb_doc.specs.Private.Stored.{HasEntriesLeft, entries_room}
 use Rattle.jsonb_raw.specs.Private.Compared.{Decides}
 use Rattle.jsonb_raw.proofs.EntriesLeft.{SomeEntries}
-use Rattle.jsonb_raw.proofs.Aside.{Aside, IsAnswer, first_left}
+use Rattle.jsonb_raw.proofs.EntryEquals.{Aside, IsAnswer, first_left}
 use Rattle.jsonb_raw.proofs.equal_items.+equal.Given as goal
 
 abbrev pub decreases-items_equal : goal.decreases-items_equal
@@ -43,8 +42,6 @@ decreases-items_equal-loop-left l = first_left l.left
 -- what is left of both decides what all decides, with the pair that was put aside
 abbrev pub invariant-entries_equal-loop-entry : goal.invariant-entries_equal-loop-entry
 invariant-entries_equal-loop-entry l = record {
-  can : (goal.iterator-entries_equal-loop-entry).can_next l.entry-iterator;
-  finite : (goal.iterator-entries_equal-loop-entry).is_finite l.entry-iterator;
   room : entries_room l.entry-iterator ≤ entries_room l.fn.found;
   size : IfSome l.large (λ pair. length pair.0.content.now ≤ entries_room l.fn.found);
   left : (form other_form : Form) (ts us : Trees) → HasEntriesLeft form l.fn.found ts → HasEntriesLeft other_form l.fn.others us

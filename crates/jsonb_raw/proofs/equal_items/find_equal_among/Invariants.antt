@@ -9,11 +9,9 @@ use Rattle.jsonb_raw.proofs.EntriesLeft.{SomeEntries}
 
 -- no entry so far is equal, so the next of those that are left decide
 abbrev pub invariant-loop-more : goal.invariant-loop-more
-invariant-loop-more l = record {
-  left : (form other_form : Form) (ts : Trees) (u : Tree) → HasEntriesLeft form l.fn.found ts → Stores other_form l.wanted u
-      → SomeEntries form l.left (λ left. list_any (λ t. is_equal t u) (take l.more (elements left))
-      ≡ list_any (λ t. is_equal t u) (take l.fn.count (elements ts)));
-}
+invariant-loop-more l = (form other_form : Form) (ts : Trees) (u : Tree) → HasEntriesLeft form l.fn.found ts → Stores other_form l.wanted u
+    → SomeEntries form l.left (λ left. list_any (λ t. is_equal t u) (take l.more (elements left))
+    ≡ list_any (λ t. is_equal t u) (take l.fn.count (elements ts)))
 
 abbrev pub decreases-loop-more : goal.decreases-loop-more
 decreases-loop-more l = l.more

@@ -3,15 +3,11 @@ use Rattle.jsonb_doc.specs.Equal.{are_equal}
 use Rattle.jsonb_doc.specs.Payload.{Form}
 use Rattle.jsonb_doc.specs.Private.Stored.{HasEntriesLeft, key_trees}
 use Rattle.jsonb_raw.proofs.EntriesLeft.{SomeEntries}
-use Rattle.jsonb_raw.proofs.TextTrees.{AreTexts}
+use Rattle.jsonb_raw.proofs.EntryEquals.{AreTexts}
 use Rattle.jsonb_raw.proofs.equal_items.texts_equal.Given as goal
 
 -- what is left of both decides what all decides
 abbrev pub invariant-loop-entry : goal.invariant-loop-entry
-invariant-loop-entry l = record {
-  can : (goal.iterator-loop-entry).can_next l.entry-iterator;
-  finite : (goal.iterator-loop-entry).is_finite l.entry-iterator;
-  left : (form other_form : Form) (ks ls : List (List ℕ)) → HasEntriesLeft form l.fn.found (key_trees ks) → HasEntriesLeft other_form l.fn.others (key_trees ls)
-      → SomeEntries form l.entry-iterator
-      (λ left. AreTexts left × SomeEntries other_form l.rest (λ right. AreTexts right × (are_equal left right ≡ are_equal (key_trees ks) (key_trees ls))));
-}
+invariant-loop-entry l = (form other_form : Form) (ks ls : List (List ℕ)) → HasEntriesLeft form l.fn.found (key_trees ks) → HasEntriesLeft other_form l.fn.others (key_trees ls)
+    → SomeEntries form l.entry-iterator
+    (λ left. AreTexts left × SomeEntries other_form l.rest (λ right. AreTexts right × (are_equal left right ≡ are_equal (key_trees ks) (key_trees ls))))

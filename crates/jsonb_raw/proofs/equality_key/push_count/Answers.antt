@@ -1,15 +1,10 @@
-use Rattle.std.proofs.Common.{arith, ap₂, ◌∙◌, ◌≡◌, ℕ, ◌%◌, ◌/◌, ◌++◌, ◌∷◌, [], append_assoc}
+use Rattle.std.proofs.Common.{arith, ap₂, ◌∙◌, ◌≡◌, ℕ, ◌%◌, ◌++◌, ◌∷◌, [], append_assoc}
 use Rattle.std.specs.Int.{w32, to_be_bytes}
 use Rattle.jsonb_raw.proofs.equality_key.push_count.Goals as goal
 
 -- four bytes hold a count except for its multiples of 2 ^ 32
 low_bytes : (n : ℕ) → to_be_bytes w32 (n % 4294967296) ≡ to_be_bytes w32 n
-low_bytes n =
-    let a : n % 4294967296 / 16777216 % 256 ≡ n / 16777216 % 256 = omega arith in
-    let b : n % 4294967296 / 65536 % 256 ≡ n / 65536 % 256 = omega arith in
-    let c : n % 4294967296 / 256 % 256 ≡ n / 256 % 256 = omega arith in
-    let d : n % 4294967296 % 256 ≡ n % 256 = omega arith in
-    cc
+low_bytes n = grind arith
 
 pub returns : goal.returns
 returns c =

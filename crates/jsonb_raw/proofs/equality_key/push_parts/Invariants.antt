@@ -1,5 +1,4 @@
-use Rattle.std.proofs.Common.{◌≡◌, ◌+◌, ◌++◌, ◌∷◌, ℕ, List, Some}
-use Rattle.std.specs.Prelude.{reverse}
+use Rattle.std.proofs.Common.{◌≡◌, ◌+◌, ◌++◌, ◌∷◌, ℕ, List, Some, reverse}
 use Rattle.jsonb_doc.specs.Tree.{Tree}
 use Rattle.jsonb_doc.specs.Payload.{Form}
 use Rattle.jsonb_raw.specs.EqualityKey.{equality_key}
@@ -11,10 +10,8 @@ use Rattle.jsonb_raw.proofs.equality_key.push_parts.Given as goal
 
 -- what is written, and then the keys of what each level has left, the innermost first, is the key of the whole
 abbrev pub invariant-walk : goal.invariant-walk
-invariant-walk l = record {
-  left : (form : Form) (tree : Tree) (front : List ℕ) → IsLevelOf form tree (Some l.fn.found) → l.fn.out.items ≡ front ++ equality_start tree
-      → SomeParts form l.level l.around.items (λ here others. l.out.items ++ keys_of_levels (here ∷ others) ≡ front ++ equality_key tree);
-}
+invariant-walk l = (form : Form) (tree : Tree) (front : List ℕ) → IsLevelOf form tree (Some l.fn.found) → l.fn.out.items ≡ front ++ equality_start tree
+    → SomeParts form l.level l.around.items (λ here others. l.out.items ++ keys_of_levels (here ∷ others) ≡ front ++ equality_key tree)
 
 abbrev pub decreases-walk : goal.decreases-walk
 decreases-walk l = weight l.level + weights (reverse l.around.items)

@@ -1,5 +1,4 @@
-use Rattle.std.proofs.Common.{◌≡◌, take}
-use Rattle.std.specs.Prelude.{nat_lt}
+use Rattle.std.proofs.Common.{◌≡◌, take, nat_lt}
 use Rattle.std.specs.List.{list_all}
 use Rattle.jsonb_raw.proofs.key_bytes.is_plain.Given as goal
 

@@ -1,6 +1,6 @@
 use Rattle.std.proofs.Common.{refl, ap, ◌∙◌, arith}
 use Rattle.jsonb_raw.specs.Private.Complements.{complement_byte}
-use Rattle.jsonb_raw.proofs.PackedDigits.{none_packed, digit_packed}
+use Rattle.jsonb_raw.proofs.DigitSteps.{none_packed, digit_packed}
 use Rattle.jsonb_raw.proofs.key_bytes.pack_digits.Goals as goal
 
 pub loop-left-init : goal.loop-left-init

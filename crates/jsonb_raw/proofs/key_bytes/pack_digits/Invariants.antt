@@ -1,5 +1,5 @@
 use Rattle.jsonb_raw.specs.Private.PackedBytes.{packed_bytes}
-use Rattle.jsonb_raw.proofs.PackedDigits.{DigitsPacked}
+use Rattle.jsonb_raw.proofs.DigitSteps.{DigitsPacked}
 use Rattle.jsonb_raw.proofs.key_bytes.pack_digits.Given as goal
 
 abbrev pub invariant-loop-left : goal.invariant-loop-left

@@ -1,6 +1,5 @@
-use Rattle.std.proofs.Common.{arith, ap, ◌∙◌, ◌≡◌, ◌+◌, ◌-◌, ◌++◌, length, take, drop, length-drop}
+use Rattle.std.proofs.Common.{arith, ap, ◌∙◌, ◌≡◌, ◌+◌, ◌-◌, ◌++◌, length, take, drop, length-drop, take_all}
 use Rattle.std.specs.Int.Digits.{digits_of}
-use Rattle.std.proofs.lemmas.List.{take_all}
 use Rattle.jsonb_raw.proofs.PushedNumbers.{buffer_steps}
 use Rattle.jsonb_raw.proofs.key_bytes.push_magnitude.Goals as goal
 

@@ -5,9 +5,6 @@ use Rattle.jsonb_raw.proofs.key_bytes.short_without_zeros.Goals as goal
 pub loop-left-init : goal.loop-left-init
 loop-left-init c = record { same = refl; count = omega arith; few = count_short c.args.n (omega arith) }
 
-pub overflow_add-count : goal.overflow_add-count
-overflow_add-count c = let few = c.loop-left.invariant.few in let count = c.loop-left.invariant.count in omega (arith, few, count)
-
 pub loop-left-preserved : goal.loop-left-preserved
 loop-left-preserved c = zero_passed _ c.loop-left.left _ c.loop-left.count _ c.loop-left.invariant (omega arith) refl (omega arith)
 

@@ -1,4 +1,4 @@
-use Rattle.jsonb_raw.proofs.ConcatLaws.{concat_arrays_assoc, concat_objects_assoc}
+use Rattle.jsonb_raw.proofs.ConcatLemmas.{concat_arrays_assoc, concat_objects_assoc}
 use Rattle.jsonb_raw.proofs.laws.concat_is_associative.Goals as goal
 
 pub returns-clause-arrays : goal.returns-clause-arrays

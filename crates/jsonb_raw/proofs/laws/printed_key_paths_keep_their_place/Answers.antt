@@ -1,7 +1,36 @@
-use Rattle.jsonb_keypath.specs.KeyPathGrammar.{key_path}
-use Rattle.jsonb_keypath.proofs.KeyPathReadsBack.{reads_back_if_read}
-use Rattle.jsonb_raw.proofs.SamePlaceLemmas.{prints_to_its_place}
+use Rattle.std.proofs.Common.{◌≡◌, ℕ, List, [], ◌∷◌, Option, Some, None, IfSome, refl, sym, ap, ◌∙◌, slice_get, option_and_then, option_map, map, arith}
+use Rattle.jsonb_doc.specs.Tree.{Tree}
+use Rattle.jsonb_keypath.specs.KeyPathGrammar.{Key, key_path}
+use Rattle.jsonb_keypath.specs.KeyPathText.{key_path_text, without_quotes}
+use Rattle.jsonb_keypath.proofs.KeyPathReadsBack.{ReadsBack, reads_back_if_read}
+use Rattle.jsonb_raw.specs.Places.{children, child_position, location}
 use Rattle.jsonb_raw.proofs.laws.printed_key_paths_keep_their_place.Goals as goal
+
+same_child : (step : Key) (t : Tree) → child_position (without_quotes step) t ≡ child_position step t
+same_child step t = grind arith
+
+same_place : (steps : List Key) (t : Tree) → location (map without_quotes steps) t ≡ location steps t
+same_place [] t = refl
+same_place (step ∷ steps) t = rw (same_child step t) (by (same_place steps) (child_position step t))
+  where
+    at_child : ((child : Tree) → location (map without_quotes steps) child ≡ location steps child) → (o : Option Tree)
+        → option_and_then (location (map without_quotes steps)) o ≡ option_and_then (location steps) o
+    at_child h o = grind arith
+
+    by : ((child : Tree) → location (map without_quotes steps) child ≡ location steps child) → (o : Option ℕ)
+        → option_and_then (λ n. option_map (λ ns. n ∷ ns) (option_and_then (location (map without_quotes steps)) (slice_get (children t) n))) o
+        ≡ option_and_then (λ n. option_map (λ ns. n ∷ ns) (option_and_then (location steps) (slice_get (children t) n))) o
+    by h o = grind (arith, at_child)
+
+-- the printed text reads as a key path that has the same place on every tree
+abbrev PrintsToItsPlace : List Key → Type 0
+PrintsToItsPlace steps = (found : List Key) × (key_path (key_path_text steps) ≡ Some found) × ((t : Tree) → location found t ≡ location steps t)
+
+-- a string that reads back with the same steps, except for quotes, has the same place on every tree
+prints_to_its_place : (o : Option (List Key)) → IfSome o ReadsBack → IfSome o PrintsToItsPlace
+prints_to_its_place None h = tt
+prints_to_its_place (Some steps) h =
+    (h.0, h.1, λ t. sym (same_place h.0 t) ∙ ap (λ (others : List Key). location others t) (sym h.2) ∙ same_place steps t)
 
 pub returns : goal.returns
 returns c = prints_to_its_place (key_path c.args.text.now) (reads_back_if_read c.args.text.now)

@@ -1,4 +1,4 @@
-use Rattle.std.proofs.Common.{◌≡◌, [], arith, sym, ap, ◌∙◌, Ordering}
+use Rattle.std.proofs.Common.{◌≡◌, [], arith, sym, ap, ◌∙◌, Ordering, le_trans}
 use Rattle.std.specs.Ordering.{ordering_then}
 use Rattle.std.specs.Cmp.Lexicographic.{slice_cmp}
 use Rattle.jsonb_doc.specs.Order.{rank, tree_cmp}
@@ -6,7 +6,7 @@ use Rattle.jsonb_raw.specs.Private.Levels.{level_room, parts}
 use Rattle.jsonb_raw.specs.Private.Order.{Decides, part_cmp}
 use Rattle.jsonb_raw.proofs.LevelLemmas.{parts_left, SomeParts-first, SomeParts-error, SomeParts-none}
 use Rattle.jsonb_raw.proofs.LevelStarts.{all_left}
-use Rattle.jsonb_raw.proofs.OrderLemmas.{child_told, first_falls, none_left, shorter_by_one, within, decided, decides_along, equal_passes, next_children, ended, children_ended, parts_in_order, container_rank, container_content}
+use Rattle.jsonb_raw.proofs.OrderLemmas.{child_told, first_falls, none_left, shorter_by_one, decided, decides_along, equal_passes, next_children, ended, children_ended, parts_in_order, container_rank, container_content}
 use Rattle.jsonb_raw.proofs.order.+order.Goals.{children_order-then-is_some, children_order-else-is_some}
 use Rattle.jsonb_raw.proofs.order.+order.Goals as goal
 
@@ -69,14 +69,14 @@ children_order-returns-then-is_ne-clause-order t c = λ form other_form ps qs h 
 pub children_order-returns-then-is_ne-clause-shorter : goal.children_order-returns-then-is_ne-clause-shorter
 children_order-returns-then-is_ne-clause-shorter t c =
     let smaller = rw c.in-Some.is at c.in_ok-child.ensures.smaller in
-    shorter_by_one _ _ (c.in_ok-order.ensures.size (level_room c.args.found) (within smaller.size c.loop-child.invariant.room) c.loop-child.invariant.size)
+    shorter_by_one _ _ (c.in_ok-order.ensures.size (level_room c.args.found) (le_trans smaller.size c.loop-child.invariant.room) c.loop-child.invariant.size)
 
 pub children_order-loop-child-preserved : goal.children_order-loop-child-preserved
 children_order-loop-child-preserved t c =
     let smaller = rw c.in-Some.is at c.in_ok-child.ensures.smaller in
     record {
-      room = within smaller.room c.loop-child.invariant.room;
-      size = c.in_ok-order.ensures.size (level_room c.args.found) (within smaller.size c.loop-child.invariant.room) c.loop-child.invariant.size;
+      room = le_trans smaller.room c.loop-child.invariant.room;
+      size = c.in_ok-order.ensures.size (level_room c.args.found) (le_trans smaller.size c.loop-child.invariant.room) c.loop-child.invariant.size;
       left = λ form other_form ps qs h k.
           next_children form other_form _ c.args.after (ordering_then (slice_cmp part_cmp ps qs) c.args.after) _ _ _ _ _ _ (λ xs i. rw c.in-Some.is at (c.in_ok-child.ensures.takes form xs i))
           (λ xs i. rw c.in-Some-2.is at (c.in_ok-other.ensures.takes other_form xs i)) (c.loop-child.invariant.left form other_form ps qs h k)

@@ -1,5 +1,4 @@
-use Rattle.std.proofs.Common.{◌≤◌, ◌+◌, ◌*◌, List, length}
-use Rattle.std.specs.Prelude.{IfSome}
+use Rattle.std.proofs.Common.{◌≤◌, ◌+◌, ◌*◌, List, length, IfSome}
 use Rattle.std.specs.Ordering.{ordering_then}
 use Rattle.std.specs.Cmp.Lexicographic.{slice_cmp}
 use Rattle.jsonb_doc.specs.Tree.{Tree}

@@ -1,5 +1,4 @@
-use Rattle.std.proofs.Common.{◌+◌, ◌∷◌}
-use Rattle.std.specs.Prelude.{reverse}
+use Rattle.std.proofs.Common.{◌+◌, ◌∷◌, reverse}
 use Rattle.jsonb_doc.specs.Tree.{Tree}
 use Rattle.jsonb_doc.specs.Payload.{Form, number_reader}
 use Rattle.jsonb_doc.specs.Format.{IsContent}
@@ -12,11 +11,9 @@ use Rattle.jsonb_raw.proofs.sortable_key.push_parts.Given as goal
 
 -- what is written, and then the keys of what each level has left, the innermost first, is the key of the whole
 abbrev pub invariant-walk : goal.invariant-walk
-invariant-walk l = record {
-  left : (form : Form) (tree : Tree) → IsContent (number_reader form) tree 5 l.fn.bytes
-      → SomeParts form l.level l.around.items
-      (λ here others. IsWithin (width_of l.fn.width) l.out.items (here ∷ others) l.fn.out.items (sortable_key (width_of l.fn.width) tree 0) (deepest tree));
-}
+invariant-walk l = (form : Form) (tree : Tree) → IsContent (number_reader form) tree 5 l.fn.bytes
+    → SomeParts form l.level l.around.items
+    (λ here others. IsWithin (width_of l.fn.width) l.out.items (here ∷ others) l.fn.out.items (sortable_key (width_of l.fn.width) tree 0) (deepest tree))
 
 abbrev pub decreases-walk : goal.decreases-walk
 decreases-walk l = weight l.level + weights (reverse l.around.items)

@@ -1,5 +1,5 @@
 use Rattle.std.proofs.Common.{◌++◌, ◌∙◌, ap, arith}
-use Rattle.std.proofs.lemmas.Result.{err_from_is_err_and}
+use Rattle.jsonb_raw.proofs.AnswerLemmas.{failed}
 use Rattle.jsonb_raw.specs.SortableKey.{sortable_key}
 use Rattle.jsonb_raw.specs.Private.KeyWidth.{width_of}
 use Rattle.jsonb_raw.proofs.KeyLawProofs.{decoded_ranks}
@@ -7,8 +7,7 @@ use Rattle.jsonb_raw.proofs.sortable_key.sortable_key.Goals as goal
 
 pub returns-in_err-push_sortable_key-clause-key : goal.returns-in_err-push_sortable_key-clause-key
 returns-in_err-push_sortable_key-clause-key c = λ form tree d.
-    let p = err_from_is_err_and c.from_residual-in_err-push_sortable_key.result c.from_residual-in_err-push_sortable_key.ensures.1 in
-    rw (p.1, p.2) (c.in_err-push_sortable_key.ensures.key form tree d)
+    failed _ _ _ c.from_residual-in_err-push_sortable_key.ensures.1 (c.in_err-push_sortable_key.ensures.key form tree d)
 
 pub returns-clause-order : goal.returns-clause-order
 returns-clause-order c = λ form tree d none u k.

@@ -73,12 +73,10 @@ impl KeysCounted {
         kind: SetOperation,
         entry: &StoredEntry<'_>,
     ) -> Result<bool, Error>
-        ensures kept { (form : Form) (other before rest : List Tree) (t : Tree)
+        ensures passed { (form : Form) (other before rest : List Tree) (t : Tree)
             → AreCounted kind self.old.counts other before (t ∷ rest) → Stores form entry.now t
-            → MatchResult result (λ b. b ≡ keeps kind other (before, t)) IsOutOfMemory }
-        ensures behind { (form : Form) (other before rest : List Tree) (t : Tree)
-            → AreCounted kind self.old.counts other before (t ∷ rest) → Stores form entry.now t
-            → MatchResult result (λ _. AreCounted kind self.new.counts other (t ∷ before) rest) IsOutOfMemory }
+            → MatchResult result (λ b. (b ≡ keeps kind other (before, t))
+            × AreCounted kind self.new.counts other (t ∷ before) rest) IsOutOfMemory }
         ensures errors { IfErr result (IsDecodingError or OutOfMemory) }
     {
         write_entry_key(alloc, &mut self.key, entry)?;
@@ -96,12 +94,10 @@ impl<'a> ElementsPassed<'a> {
 
     /// Returns `true` if the next element, which this entry stores, is kept, and passes it.
     fn keep_by_value(&mut self, kind: SetOperation, entry: &StoredEntry<'_>) -> Result<bool, Error>
-        ensures kept { (form : Form) (other before rest : List Tree) (t : Tree)
+        ensures passed { (form : Form) (other before rest : List Tree) (t : Tree)
             → ArePassed form self.old other before (t ∷ rest) → Stores form entry.now t
-            → IsOkAnd result (λ b. b ≡ keeps kind other (before, t)) }
-        ensures behind { (form : Form) (other before rest : List Tree) (t : Tree)
-            → ArePassed form self.old other before (t ∷ rest) → Stores form entry.now t
-            → IsOkAnd result (λ _. ArePassed form self.new other (t ∷ before) rest) }
+            → IsOkAnd result (λ b. (b ≡ keeps kind other (before, t))
+            × ArePassed form self.new other (t ∷ before) rest) }
         ensures errors { IfErr result IsDecodingError }
     {
         read_entry(entry)?;
@@ -127,12 +123,10 @@ impl<'a> Seen<'a> {
         kind: SetOperation,
         entry: &StoredEntry<'_>,
     ) -> Result<bool, Error>
-        ensures kept { (form : Form) (other before rest : List Tree) (t : Tree)
+        ensures passed { (form : Form) (other before rest : List Tree) (t : Tree)
             → HaveSeen form kind self.old other before (t ∷ rest) → Stores form entry.now t
-            → MatchResult result (λ b. b ≡ keeps kind other (before, t)) IsOutOfMemory }
-        ensures behind { (form : Form) (other before rest : List Tree) (t : Tree)
-            → HaveSeen form kind self.old other before (t ∷ rest) → Stores form entry.now t
-            → MatchResult result (λ _. HaveSeen form kind self.new other (t ∷ before) rest) IsOutOfMemory }
+            → MatchResult result (λ b. (b ≡ keeps kind other (before, t))
+            × HaveSeen form kind self.new other (t ∷ before) rest) IsOutOfMemory }
         ensures errors { IfErr result (IsDecodingError or OutOfMemory) }
     {
         match self {

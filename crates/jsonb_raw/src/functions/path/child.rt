@@ -20,6 +20,7 @@ ghost use Rattle.jsonb_raw.specs.Private.Entries.{HoldTrees, HoldPairs};
 ghost use Rattle.jsonb_raw.specs.Documents.{raw_bytes, Makes, MakesOption};
 ghost use Rattle.jsonb_raw.specs.Places.{index_position};
 ghost use Rattle.jsonb_raw.specs.Children.{element_at, named_child, without_index, without_name};
+ghost use Rattle.jsonb_raw.specs.Private.Found.{Finds};
 ghost use Rattle.jsonb_raw.specs.Private.NamePositions.{position_in_some_case};
 ghost use Rattle.jsonb_raw.specs.Exists.{is_text};
 
@@ -256,10 +257,8 @@ fn element_document(
     entries: Entries<'_>,
     index: usize,
 ) -> Result<Option<OwnedJsonb>, Error>
-    ensures element { (form : Form) (ts : List Tree) → HoldTrees form entries.entry ts
-        → MakesOption form (slice_get ts index) result }
-    ensures none { (form : Form) (ts : List Tree) → HoldTrees form entries.entry ts → slice_get ts index ≡ None
-        → result ≡ Ok None }
+    ensures found { (form : Form) (ts : List Tree) → HoldTrees form entries.entry ts
+        → Finds form (slice_get ts index) result }
     ensures errors { IfErr result (IsDecodingError or OutOfMemory or TooLarge) }
 {
     let (_, back) = entries.split(index)?;
@@ -278,10 +277,8 @@ fn value_of_key(
 ) -> Result<Option<OwnedJsonb>, Error>
     requires short { length object.key_words.now < 2 ^ 32 }
     requires paired { length object.value_words.now ≡ length object.key_words.now }
-    ensures value { (form : Form) (ps : Pairs) → HasPairParts (number_reader form) ps object.entry
-        → MakesOption form (value_under name.now ps) result }
-    ensures none { (form : Form) (ps : Pairs) → HasPairParts (number_reader form) ps object.entry
-        → value_under name.now ps ≡ None → result ≡ Ok None }
+    ensures found { (form : Form) (ps : Pairs) → HasPairParts (number_reader form) ps object.entry
+        → Finds form (value_under name.now ps) result }
     ensures errors { IfErr result (IsDecodingError or OutOfMemory or TooLarge) }
 {
     match object.value_of(name.as_bytes())? {
@@ -318,10 +315,8 @@ pub(super) fn position_ignoring_case(
 
 /// Returns the value of the key, otherwise that of the first key that equals it under ASCII case folding.
 fn value_ignoring_case(alloc: Global, bytes: &[u8], name: &str) -> Result<Option<OwnedJsonb>, Error>
-    ensures value { (form : Form) (t : Tree) → Decodes form bytes.now t
-        → MakesOption form (named_child name.now true t) result }
-    ensures none { (form : Form) (t : Tree) → Decodes form bytes.now t → named_child name.now true t ≡ None
-        → result ≡ Ok None }
+    ensures found { (form : Form) (t : Tree) → Decodes form bytes.now t
+        → Finds form (named_child name.now true t) result }
     ensures errors { IfErr result (IsDecodingError or OutOfMemory or TooLarge) }
 {
     let Some(pairs) = pair_entries(bytes)? else {
@@ -330,11 +325,7 @@ fn value_ignoring_case(alloc: Global, bytes: &[u8], name: &str) -> Result<Option
     let Some(position) = position_ignoring_case(pairs.keys, name.as_bytes())? else {
         return Ok(None);
     };
-    let (_, values) = pairs.values.split(position)?;
-    let Some((value, _)) = values.first()? else {
-        return Err(Error::InvalidJsonb);
-    };
-    Ok(Some(found_document(alloc, value.kind, value.content)?))
+    element_document(alloc, pairs.values, position)
 }
 
 /// Returns the position that an index denotes in an array of this length, from the end if negative.

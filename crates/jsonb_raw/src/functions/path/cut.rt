@@ -1,255 +1,168 @@
-//! Containers as bytes, with the entries of a child left out.
+//! Documents written without a value, whatever its depth.
 
-ghost use Rattle.std.specs.Prelude.{◌≡◌, ℕ, ◌+◌, ◌*◌, ◌^◌, ◌<◌, ◌≤◌, ◌-◌, List, [], ◌∷◌, ◌++◌, length, take, drop, IsSomeAnd, IsOkAnd, IfErr, Some, None, slice_get, slice_range, MatchResult};
+ghost use Rattle.std.specs.Prelude.{◌≡◌, ℕ, ◌+◌, ◌^◌, ◌<◌, List, [], ◌∷◌, ◌++◌, length, reverse, OnOk, IfOk, IfErr, MatchResult};
+ghost use Rattle.std.specs.List.{remove};
 ghost use Rattle.jsonb_doc.specs.Tree.{Tree};
-ghost use Rattle.jsonb_doc.specs.Payload.{NumberReader, Form, number_reader};
-ghost use Rattle.jsonb_doc.specs.Format.{IsContent, entry_word};
-ghost use Rattle.jsonb_doc.specs.Private.EntryKinds.{container_entry};
-ghost use Rattle.jsonb_doc.specs.Encoding.{EntryParts};
-ghost use Rattle.jsonb_doc.specs.Private.ObjectBytes.{words_of_entries, contents_of_entries};
+ghost use Rattle.jsonb_doc.specs.Payload.{Form};
+ghost use Rattle.jsonb_doc.specs.Format.{Decodes};
 ghost use Rattle.jsonb_doc.specs.Answer.{IsOutOfMemory, IsDecodingError, ◌or◌};
 ghost use Rattle.jsonb_doc.specs.declared.error.Error.TheVariants.{OutOfMemory};
-ghost use Rattle.jsonb_raw.specs.Places.{children, tree_at};
-ghost use Rattle.jsonb_raw.specs.Deletes.{remove_at};
-ghost use Rattle.jsonb_raw.specs.Private.Cuts.{FitEntries, HoldEntries, IsPlaceOf, LiesWithin, AreInOrder, AreOfChild, LeadTo, LeadInto, around, without_child, entries_size, front_of, fronts, starts, AppendsContainer};
+ghost use Rattle.jsonb_doc.specs.Private.Writer.{Make, Around, IsWriting, Rooms, HasRoom};
+ghost use Rattle.jsonb_raw.specs.Deletes.{change_child, remove_at};
+ghost use Rattle.jsonb_raw.specs.Private.Entries.{HoldTrees};
+ghost use Rattle.jsonb_raw.specs.Private.Cuts.{LeadTo, children_kept, contents_size, sizes, rooms_after, IsClosing};
 
-use super::entry_range::{ChildEntries, EntryRange};
-use jsonb_doc::layout::{
-    EntryKind, HeaderKind, MAX_CONTENT, WORD, encode_entry_word, encode_header, read_entry_word,
-    split_header,
-};
-use jsonb_doc::{Error, contents_len};
+use super::parent_entries::ParentEntries;
+use crate::functions::entries::around_entries;
+use crate::functions::parts::Entries;
+use jsonb_doc::Error;
+use jsonb_doc::rewriting::{OpenContainer, Writer, container_of_runs};
 use std::alloc::Global;
 
-/// Returns the range of an entry, given the number of all entries and of those before it.
-fn entry_range(container: &[u8], total: usize, passed: usize) -> Option<EntryRange>
-    requires total { total < 2 ^ 30 }
-    requires passed { passed < total }
-    ensures { (front back : List EntryParts) (e : EntryParts) → HoldEntries container.now (front ++ e ∷ back)
-        → total ≡ length (front ++ e ∷ back) → passed ≡ length front
-        → IsSomeAnd result (λ place. IsPlaceOf place total front e) }
-{
-    let words = container.get(WORD..WORD + WORD * total)?;
-    let (before, behind) = words.split_at_checked(WORD * passed)?;
-    let (word, _) = behind.split_first_chunk::<WORD>()?;
-    let start = WORD + WORD * total + contents_len(before);
-    Some(EntryRange {
-        word: WORD + WORD * passed,
-        start,
-        end: start + read_entry_word(word).1,
-    })
+/// A container around another one, and its values after that one.
+#[derive(Clone, Copy)]
+struct Outer<'a> {
+    open: OpenContainer,
+    after: Entries<'a>,
 }
 
-/// Returns the entries of the child at a position.
-fn child_entries(container: &[u8], position: usize) -> Option<ChildEntries>
-    ensures { (form : Form) (t child : Tree) → IsContent (number_reader form) t container_entry container.now
-        → slice_get (children t) position ≡ Some child
-        → IsSomeAnd result (λ entries. AreOfChild (number_reader form) container.now t position child entries) }
+/// Returns the number of children that a container keeps, given the containers within it: only the innermost one loses
+/// a child.
+#[inline(always)]
+fn children_kept(parent: &ParentEntries<'_>, inner: &[ParentEntries<'_>]) -> usize
+    ensures { result ≡ children_kept parent.now inner.now }
 {
-    let (kind, count, _) = split_header(container)?;
-    if position >= count {
-        return None;
-    }
-    let header = encode_header(kind, count - 1);
-    match kind {
-        HeaderKind::Array => Some(ChildEntries {
-            header,
-            key: None,
-            value: entry_range(container, count, position)?,
-        }),
-        HeaderKind::Object => Some(ChildEntries {
-            header,
-            key: Some(entry_range(container, 2 * count, position)?),
-            value: entry_range(container, 2 * count, count + position)?,
-        }),
-        HeaderKind::Scalar => None,
+    if inner.is_empty() {
+        parent.others
+    } else {
+        parent.others + 1
     }
 }
 
-/// Appends a range of these bytes. Fails with `InvalidJsonb` if they have no such range.
-fn push_part(out: &mut Vec<u8>, bytes: &[u8], start: usize, end: usize) -> Result<(), Error>
-    ensures pushed { start ≤ end → end ≤ length bytes.now
-        → MatchResult result (λ _. out.new.items ≡ out.old.items ++ slice_range bytes.now start end) IsOutOfMemory }
+/// Appends a run of entries to a container, if there are any. An empty run would take 70 instructions.
+#[inline(always)]
+fn copy_some(writer: &mut Writer, run: Entries<'_>) -> Result<(), Error>
+    ensures copied { (form : Form) (ts coming : List Tree) (around : Around) (whole : Tree)
+        → HoldTrees form run.entry ts → IsWriting form writer.old (ts ++ coming) around whole
+        → MatchResult result (λ _. IsWriting form writer.new coming around whole) IsOutOfMemory }
+    ensures room { (coming : ℕ) (around : Rooms) → HasRoom writer.old (length run.entry.contents.now + coming) around
+        → OnOk result (HasRoom writer.new coming around) }
+    ensures errors { IfErr result IsOutOfMemory }
+{
+    if run.words.is_empty() {
+        return Ok(());
+    }
+    writer.copy(run)
+}
+
+/// Appends the entries of a container without those of the child.
+fn put_others(writer: &mut Writer, parent: &ParentEntries<'_>) -> Result<(), Error>
+    ensures put { (form : Form) (names front after : List Tree) (n : ℕ) (around : Around) (whole : Tree)
+        → HoldTrees form parent.now.keys names → HoldTrees form parent.now.front front
+        → HoldTrees form parent.now.after after → n ≡ length front
+        → IsWriting form writer.old (remove names n ++ (front ++ after)) around whole
+        → MatchResult result (λ _. IsWriting form writer.new [] around whole) IsOutOfMemory }
+    ensures room { (around : Rooms) → HasRoom writer.old (contents_size parent.now) around
+        → OnOk result (HasRoom writer.new 0 around) }
     ensures errors { IfErr result (IsDecodingError or OutOfMemory) }
 {
-    let Some(part) = bytes.get(start..end) else {
-        return Err(Error::InvalidJsonb);
-    };
-    out.extend_from_slice(part)?;
+    let (keys, other_keys) = around_entries(parent.keys, parent.front.len(), 1)?;
+    copy_some(writer, keys)?;
+    copy_some(writer, other_keys)?;
+    copy_some(writer, parent.front)?;
+    copy_some(writer, parent.after)?;
     Ok(())
 }
 
-/// Appends the bytes of an array around the entry of an element, without its header.
-fn push_around_element(out: &mut Vec<u8>, array: &[u8], value: EntryRange) -> Result<(), Error>
-    ensures pushed { AreInOrder None value (length array.now)
-        → MatchResult result (λ _. out.new.items ≡ out.old.items ++ around array.now None value) IsOutOfMemory }
+/// Returns the document of a container without the child. Its words are written once: in an array of 1,000 elements a
+/// `Writer`, which clears their room first, takes up to three times the instructions.
+fn container_of_others(alloc: Global, parent: &ParentEntries<'_>) -> Result<Vec<u8>, Error>
+    ensures container { (form : Form) (names front after : List Tree) (n : ℕ) (t : Tree)
+        → HoldTrees form parent.now.keys names → HoldTrees form parent.now.front front
+        → HoldTrees form parent.now.after after → n ≡ length front
+        → Make parent.now.kind parent.now.others (remove names n ++ (front ++ after)) t
+        → MatchResult result (λ made. Decodes form made.items t) IsOutOfMemory }
     ensures errors { IfErr result (IsDecodingError or OutOfMemory) }
 {
-    push_part(out, array, WORD, value.word)?;
-    push_part(out, array, value.word + WORD, value.start)?;
-    push_part(out, array, value.end, array.len())
-}
-
-/// Appends the bytes of an object around a member's entries, without its header.
-fn push_around_pair(
-    out: &mut Vec<u8>,
-    object: &[u8],
-    key: EntryRange,
-    value: EntryRange,
-) -> Result<(), Error>
-    ensures pushed { AreInOrder (Some key) value (length object.now)
-        → MatchResult result (λ _. out.new.items ≡ out.old.items ++ around object.now (Some key) value) IsOutOfMemory }
-    ensures errors { IfErr result (IsDecodingError or OutOfMemory) }
-{
-    push_part(out, object, WORD, key.word)?;
-    push_part(out, object, key.word + WORD, value.word)?;
-    push_part(out, object, value.word + WORD, key.start)?;
-    push_part(out, object, key.end, value.start)?;
-    push_part(out, object, value.end, object.len())
-}
-
-/// Appends a container without the child of these entries.
-fn push_without_child(
-    out: &mut Vec<u8>,
-    container: &[u8],
-    entries: &ChildEntries,
-) -> Result<(), Error>
-    ensures pushed { AreInOrder entries.now.key entries.now.value (length container.now)
-        → MatchResult result (λ _. out.new.items
-        ≡ out.old.items ++ without_child container.now entries.now) IsOutOfMemory }
-    ensures errors { IfErr result (IsDecodingError or OutOfMemory) }
-{
-    out.extend_from_slice(&entries.header)?;
-    match entries.key {
-        Some(key) => push_around_pair(out, container, key, entries.value),
-        None => push_around_element(out, container, entries.value),
+    let (kind, count) = (parent.kind, parent.others);
+    let values = [parent.front, parent.after];
+    if parent.keys.words.is_empty() {
+        let made = container_of_runs(alloc, kind, count, &[], &values)?;
+        return Ok(made);
     }
+    let (keys, other_keys) = around_entries(parent.keys, parent.front.len(), 1)?;
+    let made = container_of_runs(alloc, kind, count, &[keys, other_keys], &values)?;
+    Ok(made)
 }
 
-/// Returns the number of bytes of the entries of a child, with their words.
-fn entries_len(entries: &ChildEntries) -> usize
-    ensures { (len : ℕ) → len < 2 ^ 64 → AreInOrder entries.now.key entries.now.value len
-        → result ≡ entries_size entries.now }
-{
-    let value = entries.value;
-    let value_len = value.end.saturating_sub(value.start).saturating_add(WORD);
-    match entries.key {
-        Some(key) => value_len
-            .saturating_add(key.end.saturating_sub(key.start))
-            .saturating_add(WORD),
-        None => value_len,
-    }
-}
-
-/// Returns the ranges of the children at these positions, each within the one before it, and the content of the last.
-fn locate_children<'a>(
+/// Writes the containers, each within the one before it, without the innermost child. They remain open. Returns the
+/// writer, and the containers around the innermost one.
+fn write_down<'a>(
     alloc: Global,
-    container: &'a [u8],
-    positions: &[usize],
-) -> Result<(Vec<EntryRange>, &'a [u8]), Error>
-    ensures places { (form : Form) (t end : Tree) (last : ℕ)
-        → IsContent (number_reader form) t container_entry container.now
-        → tree_at (positions.now ++ last ∷ []) t ≡ Some end
-        → MatchResult result (λ found.
-        LeadInto (number_reader form) container.now t positions.now found.0.items found.1.now last) IsOutOfMemory }
-    ensures errors { IfErr result (IsDecodingError or OutOfMemory) }
-{
-    let mut places = Vec::with_capacity(alloc, positions.len())?;
-    let mut inner = container;
-    for position in positions {
-        let Some(entries) = child_entries(inner, *position) else {
-            return Err(Error::InvalidJsonb);
-        };
-        let child = entries.value;
-        let Some(content) = inner.get(child.start..child.end) else {
-            return Err(Error::InvalidJsonb);
-        };
-        places.push(child)?;
-        inner = content;
-    }
-    Ok((places, inner))
-}
-
-/// Appends the bytes before a child's content. The length of the child, a container, is written `removed` bytes
-/// shorter.
-fn push_prefix(
-    out: &mut Vec<u8>,
-    container: &[u8],
-    child: EntryRange,
-    removed: usize,
-) -> Result<(), Error>
-    ensures pushed { LiesWithin child (length container.now) → removed ≤ child.end - child.start
-        → child.end - child.start < 2 ^ 28
-        → MatchResult result (λ _. out.new.items ≡ out.old.items ++ front_of container.now child removed)
+    outermost: &ParentEntries<'a>,
+    inner: &[ParentEntries<'a>],
+    capacity: usize,
+) -> Result<(Writer, Vec<Outer<'a>>), Error>
+    requires short { sizes inner.now < 2 ^ 28 }
+    ensures written { (form : Form) (t end : Tree) (n : ℕ) (ns : List ℕ)
+        → LeadTo form (outermost.now ∷ inner.now) (n ∷ ns) t end
+        → MatchResult result (λ made. IsClosing form made.0 made.1.items (change_child n (remove_at ns) t))
         IsOutOfMemory }
+    ensures room { IfOk result (λ made. HasRoom made.0 0 (rooms_after (reverse made.1.items))) }
     ensures errors { IfErr result (IsDecodingError or OutOfMemory) }
 {
-    let len = child
-        .end
-        .saturating_sub(child.start)
-        .saturating_sub(removed);
-    if len > MAX_CONTENT {
-        return Err(Error::InvalidJsonb);
+    let mut parent = *outermost;
+    let mut writer = Writer::new(
+        alloc,
+        parent.kind,
+        children_kept(outermost, inner),
+        capacity,
+    )?;
+    let mut around = Vec::with_capacity(alloc, inner.len())?;
+    for (index, next) in inner.iter().enumerate() {
+        copy_some(&mut writer, parent.keys)?;
+        copy_some(&mut writer, parent.front)?;
+        let open = writer.enter(next.kind, children_kept(next, &inner[index + 1..]))?;
+        let after = parent.after;
+        around.push(Outer { open, after })?;
+        parent = *next;
     }
-    push_part(out, container, 0, child.word)?;
-    out.extend_from_slice(&encode_entry_word(EntryKind::Container, len))?;
-    push_part(out, container, child.word + WORD, child.start)
+    put_others(&mut writer, &parent)?;
+    Ok((writer, around))
 }
 
-/// Appends the bytes before the innermost of the children in these ranges. The length of each is written `removed`
-/// bytes shorter. Returns the start of the innermost one.
-fn push_prefixes(
-    out: &mut Vec<u8>,
-    container: &[u8],
-    places: &[EntryRange],
-    removed: usize,
-) -> Result<usize, Error>
-    ensures pushed { (number_at : NumberReader) (t u : Tree) (ns inner : List ℕ)
-        → LeadTo number_at container.now t ns places.now inner u → removed ≤ length inner
-        → MatchResult result (λ start. (start ≡ starts places.now)
-        × (out.new.items ≡ out.old.items ++ fronts container.now places.now removed)) IsOutOfMemory }
-    ensures errors { IfErr result (IsDecodingError or OutOfMemory) }
+/// Closes the containers, the innermost first, and appends to each around it the values that follow.
+fn close_all(writer: &mut Writer, mut around: Vec<Outer<'_>>) -> Result<(), Error>
+    requires room { HasRoom writer.old 0 (rooms_after (reverse around.items)) }
+    ensures closed { (form : Form) (whole : Tree) → IsClosing form writer.old around.entry.items whole
+        → MatchResult result (λ _. IsWriting form writer.new [] [] whole) IsOutOfMemory }
+    ensures errors { IfErr result IsOutOfMemory }
 {
-    let mut inner = container;
-    let mut start = 0;
-    for place in places {
-        push_prefix(out, inner, *place, removed)?;
-        let Some(content) = inner.get(place.start..place.end) else {
-            return Err(Error::InvalidJsonb);
-        };
-        inner = content;
-        start += place.start;
+    while let Some(outer) = around.pop() {
+        writer.leave(outer.open)?;
+        copy_some(writer, outer.after)?;
     }
-    Ok(start)
+    Ok(())
 }
 
-/// Appends a container without the value at the location of these positions. The ranges of all children on the way are
-/// found first, so that their new lengths are known and each byte is copied once.
-pub fn push_without(
+/// Returns the document of the outermost of these containers, each within the one before it, without the child of the
+/// innermost one.
+pub fn without_child(
     alloc: Global,
-    out: &mut Vec<u8>,
-    container: &[u8],
-    positions: &[usize],
-) -> Result<(), Error>
-    ensures pushed { (form : Form) (t end left : Tree) → IsContent (number_reader form) t container_entry container.now
-        → tree_at positions.now t ≡ Some end → remove_at positions.now t ≡ Some left
-        → MatchResult result (λ _. AppendsContainer (number_reader form) left
-        (length container.now) out.old.items out.new.items) IsOutOfMemory }
+    outermost: &ParentEntries<'_>,
+    inner: &[ParentEntries<'_>],
+    capacity: usize,
+) -> Result<Vec<u8>, Error>
+    requires short { sizes inner.now < 2 ^ 28 }
+    ensures without { (form : Form) (t end : Tree) (n : ℕ) (ns : List ℕ)
+        → LeadTo form (outermost.now ∷ inner.now) (n ∷ ns) t end
+        → MatchResult result (λ made. Decodes form made.items (change_child n (remove_at ns) t)) IsOutOfMemory }
     ensures errors { IfErr result (IsDecodingError or OutOfMemory) }
 {
-    let Some((last, around)) = positions.split_last() else {
-        return Err(Error::InvalidJsonb);
-    };
-    let (places, inner) = locate_children(alloc, container, around)?;
-    let Some(entries) = child_entries(inner, *last) else {
-        return Err(Error::InvalidJsonb);
-    };
-    let start = push_prefixes(out, container, places.as_slice(), entries_len(&entries))?;
-    push_without_child(out, inner, &entries)?;
-    push_part(
-        out,
-        container,
-        start.saturating_add(inner.len()),
-        container.len(),
-    )
+    if inner.is_empty() {
+        return container_of_others(alloc, outermost);
+    }
+    let (mut writer, around) = write_down(alloc, outermost, inner, capacity)?;
+    close_all(&mut writer, around)?;
+    writer.finish()
 }

@@ -1,16 +1,15 @@
 //! A document without the value at a key path.
 
-ghost use Rattle.std.specs.Prelude.{◌≡◌, List, map, length, position as first_position, not, IsTrue, IsOkAnd, IsErrOf, IfErr, ◌⊎◌, MatchResult};
+ghost use Rattle.std.specs.Prelude.{◌≡◌, ℕ, ◌+◌, ◌^◌, ◌<◌, ◌≤◌, List, map, length, position as first_position, not, IsTrue, IsErrOf, IfOk, IfSome, IfErr, MatchResult};
 ghost use Rattle.std.specs.Iterator.{IsFinite};
 ghost use Rattle.std.specs.Fmt.{signed_decimal};
 ghost use Rattle.std.specs.Str.{bytes_eq};
-ghost use Rattle.jsonb_doc.specs.Tree.{Tree, Trees, Pairs, array, object, elements, keys};
-ghost use Rattle.jsonb_doc.specs.Payload.{Form, any};
+ghost use Rattle.jsonb_doc.specs.Tree.{Tree, text};
+ghost use Rattle.jsonb_doc.specs.Payload.{Form};
 ghost use Rattle.jsonb_doc.specs.Format.{Decodes};
 ghost use Rattle.jsonb_doc.specs.Item.{StandsFor};
 ghost use Rattle.jsonb_doc.specs.Answer.{SameOption, IsOutOfMemory, ◌or◌, IsDecodingError};
 ghost use Rattle.jsonb_doc.specs.declared.error.Error.TheVariants.{OutOfMemory, InvalidJsonType};
-ghost use Rattle.jsonb_doc.specs.Representation.Positions.{Locates};
 ghost use Rattle.jsonb_keypath.specs.declared.key_path.KeyPath.{KeyPath};
 ghost use Rattle.jsonb_keypath.specs.KeyPathViews.{key_view};
 ghost use Rattle.jsonb_keypath.specs.Private.KeysView.{keys_view};
@@ -19,97 +18,144 @@ ghost use Rattle.jsonb_raw.specs.Deletes.{without, MeetNoPart};
 ghost use Rattle.jsonb_raw.specs.Scalars.{is_json_scalar};
 ghost use Rattle.jsonb_raw.specs.Iterators.{YieldsItemsLeft};
 ghost use Rattle.jsonb_raw.specs.Places.{index_position, child_position, location};
+ghost use Rattle.jsonb_raw.specs.Private.Entries.{HoldTrees, AreEntriesOf};
+ghost use Rattle.jsonb_raw.specs.Private.Cuts.{Leads, StepsInto, HoldsValue, AreShort, size};
 
 use super::child::index_position;
-use super::cut::push_without;
-use super::nth_child;
-use crate::functions::runs::{name_position, pair_entries};
+use super::cut::without_child;
+use super::parent_entries::ParentEntries;
+use crate::functions::parts::{ContainerEntries, Entries};
+use crate::functions::runs::{container_entries, name_position};
 use crate::owned::OwnedJsonb;
 use crate::raw::RawJsonb;
-use jsonb_doc::{Error, Item, Spot, array_elements, root_item, root_spot, spot_item};
+use jsonb_doc::layout::{EntryKind, HeaderKind};
+use jsonb_doc::{Error, Item, StoredEntry, root_item};
 use jsonb_keypath::KeyPath;
 use std::alloc::Global;
 
-/// Returns the position that an index denotes in an array, from the end if negative.
-fn element_position(bytes: &[u8], index: i32) -> Result<Option<usize>, Error>
-    ensures position { (form : Form) (ts : Trees) → Decodes form bytes.now (array ts)
-        → IsOkAnd result (λ found. found ≡ index_position (length (elements ts)) index) }
-    ensures errors { IfErr result IsDecodingError }
+/// Returns the position that an index denotes among elements, from the end if negative.
+fn element_position(elements: Entries<'_>, index: i32) -> Option<usize>
+    ensures { (form : Form) (ts : List Tree) → HoldTrees form elements.entry ts
+        → result ≡ index_position (length ts) index }
 {
-    let elements = array_elements(bytes)?;
-    Ok(index_position(elements.len(), index))
+    index_position(elements.len(), index)
 }
 
-/// Returns the position of the key of an object that is this name.
-fn key_position(bytes: &[u8], name: &str) -> Result<Option<usize>, Error>
-    ensures position { (form : Form) (ps : Pairs) → Decodes form bytes.now (object ps)
-        → IsOkAnd result (λ found. found ≡ first_position (λ key. bytes_eq key name.now) (keys ps)) }
-    ensures errors { IfErr result IsDecodingError }
-{
-    match pair_entries(bytes)? {
-        Some(object) => name_position(object.keys, name.as_bytes()),
-        None => Ok(None),
-    }
-}
-
-/// Returns the position of the key of an object that is an index in decimal.
-fn decimal_position(alloc: Global, bytes: &[u8], index: i32) -> Result<Option<usize>, Error>
-    ensures position { (form : Form) (ps : Pairs) → Decodes form bytes.now (object ps)
+/// Returns the position of the key that is an index in decimal.
+fn decimal_position(alloc: Global, keys: Entries<'_>, index: i32) -> Result<Option<usize>, Error>
+    ensures position { (form : Form) (ks : List (List ℕ)) → HoldTrees form keys.entry (map text ks)
         → MatchResult result (λ found. found
-        ≡ first_position (λ key. bytes_eq key (signed_decimal index)) (keys ps)) IsOutOfMemory }
+        ≡ first_position (λ key. bytes_eq key (signed_decimal index)) ks) IsOutOfMemory }
     ensures errors { IfErr result (IsDecodingError or OutOfMemory) }
 {
     let key = format!(in alloc; "{index}")?;
-    key_position(bytes, key.as_str())
+    name_position(keys, key.as_str().as_bytes())
 }
 
 /// Returns the position of the child that a step selects.
 fn child_position(
     alloc: Global,
-    bytes: &[u8],
-    spot: Spot,
+    container: &ContainerEntries<'_>,
     step: &KeyPath<'_>,
 ) -> Result<Option<usize>, Error>
-    ensures position { (t : Tree) → Locates bytes.now spot t
+    ensures position { (form : Form) (t : Tree) → AreEntriesOf form t container.now
         → MatchResult result (λ found. found ≡ child_position (key_view step.now) t) IsOutOfMemory }
     ensures errors { IfErr result (IsDecodingError or OutOfMemory) }
 {
-    match (spot_item(bytes, spot)?, step) {
-        (Item::Array(array), KeyPath::Index(index)) => element_position(array, *index),
-        (Item::Object(object), KeyPath::Index(index)) => decimal_position(alloc, object, *index),
-        (Item::Object(object), KeyPath::QuotedName(name)) => key_position(object, name.as_str()),
-        (Item::Object(object), KeyPath::Name(name)) => key_position(object, name.as_str()),
+    let keys = container.keys;
+    match (container.kind, step) {
+        (HeaderKind::Array, KeyPath::Index(index)) => Ok(element_position(
+            container.values,
+            *index,
+        )),
+        (HeaderKind::Object, KeyPath::Index(index)) => decimal_position(alloc, keys, *index),
+        (HeaderKind::Object, KeyPath::QuotedName(name)) => {
+            name_position(keys, name.as_str().as_bytes())
+        }
+        (HeaderKind::Object, KeyPath::Name(name)) => name_position(keys, name.as_str().as_bytes()),
         _ => Ok(None),
     }
 }
 
-/// Returns the positions of the children that the steps select, each in the one before it.
-fn location<'k, I: Iterator<Item = &'k KeyPath<'k>> + Drop>(
+/// Returns the entries of a container around the child that a step selects, and the child.
+fn split_container<'a>(
     alloc: Global,
-    bytes: &[u8],
+    container: &'a [u8],
+    step: &KeyPath<'_>,
+) -> Result<Option<(ParentEntries<'a>, StoredEntry<'a>)>, Error>
+    ensures child { (form : Form) (t : Tree) → Decodes form container.now t
+        → MatchResult result (StepsInto form t (key_view step.now)) IsOutOfMemory }
+    ensures short { IfOk result (λ found. IfSome found (λ f.
+        (size f.0 + length f.1.content.now ≤ length container.now) × (length f.1.content.now < 2 ^ 28))) }
+    ensures errors { IfErr result (IsDecodingError or OutOfMemory) }
+{
+    let Some(entries) = container_entries(container)? else {
+        return Ok(None);
+    };
+    let Some(position) = child_position(alloc, &entries, step)? else {
+        return Ok(None);
+    };
+    let (front, others) = entries.values.split(position)?;
+    let Some((child, after)) = others.first()? else {
+        return Ok(None);
+    };
+    let parent = ParentEntries {
+        kind: entries.kind,
+        others: front.len() + after.len(),
+        keys: entries.keys,
+        front,
+        after,
+    };
+    Ok(Some((parent, child)))
+}
+
+/// Returns the child that a step selects, with the entries around it.
+fn split_at_step<'a>(
+    alloc: Global,
+    entry: StoredEntry<'a>,
+    step: &KeyPath<'_>,
+) -> Result<Option<(ParentEntries<'a>, StoredEntry<'a>)>, Error>
+    ensures child { (form : Form) (t : Tree) → HoldsValue form entry.entry t
+        → MatchResult result (StepsInto form t (key_view step.now)) IsOutOfMemory }
+    ensures short { IfOk result (λ found. IfSome found (λ f.
+        (size f.0 + length f.1.content.now ≤ length entry.entry.content.now)
+        × (length f.1.content.now < 2 ^ 28))) }
+    ensures errors { IfErr result (IsDecodingError or OutOfMemory) }
+{
+    if entry.kind == EntryKind::Container {
+        return split_container(alloc, entry.content, step);
+    }
+    Ok(None)
+}
+
+/// Returns the containers around the value that the steps select, the outermost first.
+fn location<'a, 'k, I: Iterator<Item = &'k KeyPath<'k>> + Drop>(
+    alloc: Global,
+    bytes: &'a [u8],
     steps: I,
-) -> Result<Option<Vec<usize>>, Error>
+) -> Result<Option<Vec<ParentEntries<'a>>>, Error>
     requires can { I.can_next steps }
     requires ends { IsFinite (I.remaining steps) }
     ensures place { (left : I → List KeyPath) → YieldsItemsLeft I.next_gives left
-        → (t : Tree) → Decodes any bytes.now t
-        → MatchResult result (λ found. SameOption (λ positions ns. positions.items ≡ ns) found
+        → (form : Form) (t : Tree) → Decodes form bytes.now t
+        → MatchResult result (λ found. SameOption (λ parents ns. Leads form parents.items ns t) found
         (location (keys_view (left steps)) t)) IsOutOfMemory }
+    ensures short { IfOk result (λ found. IfSome found (λ parents. AreShort parents.items 0)) }
     ensures errors { IfErr result (IsDecodingError or OutOfMemory) }
 {
-    let mut spot = root_spot(bytes)?;
-    let mut positions = Vec::new(alloc);
+    let mut entry = StoredEntry {
+        kind: EntryKind::Container,
+        content: bytes,
+    };
+    let mut parents = Vec::new(alloc);
     for step in steps {
-        let Some(position) = child_position(alloc, bytes, spot, step)? else {
+        let Some((parent, child)) = split_at_step(alloc, entry, step)? else {
             return Ok(None);
         };
-        let Some(child) = nth_child(bytes, spot, position)? else {
-            return Ok(None);
-        };
-        positions.push(position)?;
-        spot = child;
+        parents.push(parent)?;
+        entry = child;
     }
-    Ok(Some(positions))
+    Ok(Some(parents))
 }
 
 /// Returns `true` if an item is null, a Boolean, a number or a string.
@@ -177,14 +223,13 @@ impl RawJsonb<'_> {
         if is_json_scalar(&root_item(bytes)?) {
             return Err(Error::InvalidJsonType);
         }
-        let Some(positions) = location(alloc, bytes, steps)? else {
+        let Some(parents) = location(alloc, bytes, steps)? else {
             return copy_of(alloc, bytes);
         };
-        if positions.is_empty() {
+        let Some((outermost, inner)) = parents.as_slice().split_first() else {
             return copy_of(alloc, bytes);
-        }
-        let mut document = Vec::with_capacity(alloc, bytes.len())?;
-        push_without(alloc, &mut document, bytes, positions.as_slice())?;
+        };
+        let document = without_child(alloc, outermost, inner, bytes.len())?;
         Ok(OwnedJsonb::new(document))
     }
 }

@@ -1,22 +1,14 @@
-use Rattle.std.proofs.Common.{◌≡◌, ◌∙◌, ap, subst, None, IfOk}
-use Rattle.jsonb_keypath.specs.Rules.{Parsed}
-use Rattle.jsonb_keypath.specs.Views.{read_as}
-use Rattle.jsonb.specs.PathTree.{Expression}
-use Rattle.jsonb.specs.PathViews.{expression_view}
+use Rattle.std.proofs.Common.{◌∙◌, ap, None}
 use Rattle.jsonb.specs.Private.Frames.{partial_outcome}
 use Rattle.jsonb.proofs.FrameLemmas.{partial-begins, less_left}
 use Rattle.jsonb.proofs.parser.expression.expression_at.Goals as goal
 
 pub returns-clause-value : goal.returns-clause-value
 returns-clause-value c =
-    subst (λ (o : Parsed Expression). IfOk c.expression_from.result (λ found. read_as expression_view found ≡ o))
-    (ap (partial_outcome (record { is_in_filter = c.args.is_in_filter; all = None; any = None })) c.in_ok-first.ensures.value
-    ∙ partial-begins c.args.is_in_filter c.args.input.now)
-    c.expression_from.ensures
+    rw (ap (partial_outcome (record { is_in_filter = c.args.is_in_filter; all = None; any = None })) c.in_ok-first.ensures.value
+    ∙ partial-begins c.args.is_in_filter c.args.input.now) at c.expression_from.ensures
 
 pub returns-clause-shrinks : goal.returns-clause-shrinks
 returns-clause-shrinks c = less_left c.args.is_in_filter c.args.input.now c.expression_from.result
-    (subst (λ (o : Parsed Expression). IfOk c.expression_from.result (λ found. read_as expression_view found ≡ o))
-    (ap (partial_outcome (record { is_in_filter = c.args.is_in_filter; all = None; any = None })) c.in_ok-first.ensures.value
-    ∙ partial-begins c.args.is_in_filter c.args.input.now)
-    c.expression_from.ensures)
+    (rw (ap (partial_outcome (record { is_in_filter = c.args.is_in_filter; all = None; any = None })) c.in_ok-first.ensures.value
+    ∙ partial-begins c.args.is_in_filter c.args.input.now) at c.expression_from.ensures)

@@ -1,5 +1,4 @@
 use Rattle.std.proofs.Common.{◌≡◌, ◌<◌, length}
-use Rattle.std.specs.Prelude.{map}
 use Rattle.jsonb_keypath.specs.Rules.{repeat}
 use Rattle.jsonb.specs.Private.Repeated.{another_entry, entry_list}
 use Rattle.jsonb_keypath.proofs.RepeatLemmas.{behind}

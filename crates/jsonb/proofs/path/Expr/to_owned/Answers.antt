@@ -5,14 +5,13 @@ use Rattle.jsonb.specs.Private.Documents.{expression_has_document}
 use Rattle.jsonb.specs.Private.Copying.{leaf_view, framed, progress_view, progress_has_document}
 use Rattle.jsonb.proofs.CopyingLemmas.{not_first, not_second, owning_error-framed}
 use Rattle.jsonb.proofs.DocumentLemmas.{alone_without, refused_alone}
-use Rattle.std.proofs.lemmas.Result.{err_from_is_err_and}
+use Rattle.jsonb.proofs.RefinesLemmas.{err_is}
 use Rattle.jsonb.proofs.path.Expr.to_owned.Goals as goal
 
 pub returns-in_err-copied-clause-errors : goal.returns-in_err-copied-clause-errors
 returns-in_err-copied-clause-errors c =
-    let p = err_from_is_err_and c.from_residual-in_err-copied.result c.from_residual-in_err-copied.ensures.1 in
     let reached = c.loop-copied.reached in
-    rw (p.1, p.2) (refused_alone (whole_expression (expression_view c.args.self.now)) _
+    rw (err_is c.from_residual-in_err-copied.ensures.1) (refused_alone (whole_expression (expression_view c.args.self.now)) _
     (owning_error-framed reached.frames.items (leaf_view reached.leaf) (expression_view c.args.self.now) _ c.loop-copied.invariant.whole
     c.in_err-copied.ensures.errors))
 

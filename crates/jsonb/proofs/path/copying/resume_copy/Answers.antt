@@ -12,8 +12,7 @@ returns-in-Within-clause-whole c =
 pub returns-in-Within-clause-fewer : goal.returns-in-Within-clause-fewer
 returns-in-Within-clause-fewer c =
     let pushed = ap waiting c.in_ok-push-in-Within.ensures.items ∙ waiting-push c.args.frames.items c.in-Within.frame in
-    let same = ap copied_parts c.in-Within.is in
-    omega (arith, pushed, same, c.in_ok-first_leaf-in-Within.ensures.fewer)
+    omega (arith, pushed, ap copied_parts c.in-Within.is, c.in_ok-first_leaf-in-Within.ensures.fewer)
 
 pub returns-in-Within-clause-documents : goal.returns-in-Within-clause-documents
 returns-in-Within-clause-documents c none clean =

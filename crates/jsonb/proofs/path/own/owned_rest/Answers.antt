@@ -22,8 +22,7 @@ loop-step-preserved c =
 
 pub loop-step-smaller : goal.loop-step-smaller
 loop-step-smaller c =
-    let less = step_fewer (iter_rest c.loop-step.steps.rest) (iter_rest c.next.new.self) c.in-Some.step.now c.in-Some.ensures.steps in
-    omega (arith, less)
+    omega (arith, step_fewer (iter_rest c.loop-step.steps.rest) (iter_rest c.next.new.self) c.in-Some.step.now c.in-Some.ensures.steps)
 
 pub returns-in-Holding-clause-copy : goal.returns-in-Holding-clause-copy
 returns-in-Holding-clause-copy c =

@@ -1,4 +1,4 @@
-use Rattle.std.proofs.lemmas.Result.{err_from_is_err_and}
+use Rattle.jsonb.proofs.RefinesLemmas.{err_is}
 use Rattle.jsonb.proofs.DocumentLemmas.{none_more, copied_more, refused_at, alone_tested, tested_alone}
 use Rattle.jsonb.proofs.path.own.owned_steps.Goals as goal
 
@@ -12,7 +12,6 @@ loop-step-preserved c = record {
 
 pub returns-in_err-to_owned-clause-errors : goal.returns-in_err-to_owned-clause-errors
 returns-in_err-to_owned-clause-errors c =
-    let p = err_from_is_err_and c.from_residual-in_err-to_owned.result c.from_residual-in_err-to_owned.ensures.1 in
     let refused = refused_at c.deref-step-items.result.now c.loop-step.step-index c.step-item.result _
     c.loop-step-test.true c.step-item.is (tested_alone _ _ c.in_err-to_owned.ensures.errors) in
-    rw (p.1, p.2) (rw c.deref-step-items.ensures.value at refused)
+    rw (err_is c.from_residual-in_err-to_owned.ensures.1) (rw c.deref-step-items.ensures.value at refused)

@@ -1,27 +1,22 @@
-use Rattle.std.proofs.Common.{◌≡◌, is_some, ◌∙◌, ap, sym, subst}
-use Rattle.jsonb_doc.specs.Format.{Decodes}
-use Rattle.jsonb.specs.Meaning.{Means}
+use Rattle.std.proofs.Common.{◌≡◌, is_some, ◌∙◌, ap, sym}
 use Rattle.jsonb.specs.PathViews.{expression_view, path_view, steps_view}
 use Rattle.jsonb.specs.Private.Selection.{only_expression}
 use Rattle.jsonb.proofs.FirstItems.{expression_told, is_expression, no_expression, first_is}
-use Rattle.jsonb.proofs.RefinesLemmas.{given_by}
+use Rattle.jsonb.proofs.RefinesLemmas.{answered, given_by}
 use Rattle.jsonb.proofs.selector.Selector.find_first.Goals as goal
 
 pub returns-clause-first : goal.returns-clause-first
 returns-clause-first c = λ form top outcome d m.
-    let k = c.in_ok-document.ensures.meant form top (subst (λ b. Decodes form b top) (sym c.as_bytes-bytes.ensures) d) in
+    let k = c.in_ok-document.ensures.meant form top (rw (sym c.as_bytes-bytes.ensures) at d) in
     let told = expression_told (λ e. expression_view e.now) (steps_view c.deref-2.result.now) c.only_expression.result c.is_some-computed.result
     c.is_some-computed.ensures c.only_expression.ensures in
     let same : steps_view c.deref-2.result.now ≡ path_view c.args.path.now = ap steps_view c.deref-2.ensures.value in
     let here : c.is_some-computed.result ≡ is_some (only_expression (path_view c.args.path.now)) =
-    subst (λ p. c.is_some-computed.result ≡ is_some (only_expression p)) same told in
+    rw same at told in
     let first : steps_view c.deref.result.now ≡ path_view c.args.path.now = ap steps_view c.deref.ensures.value in
     given_by ((rw (c.context_of-context.ensures.mode, c.context_of-context.ensures.document) at c.in_ok-selected.ensures.meant) form top outcome k.1
-    (subst (λ l. Means form c.args.self.now.mode (steps_view l) top outcome) (sym c.deref.ensures.value) m))
-    (λ ts h. record {
-      ok = first_is c.in_ok-document.document.bytes.now _ c.is_some-computed.result _ c.first_of.result h.0 ts (k.0 ∙ c.as_bytes-bytes.ensures)
-          (is_expression (path_view c.args.path.now) c.is_some-computed.result here) h.2
-          (c.first_of.ensures form c.in_ok-document.document h.0
-          (λ f. c.in_ok-selected.ensures.nodes (ap only_expression first ∙ no_expression _ c.is_some-computed.result here f)) h.1);
-      err = tt;
-    })
+    (rw (sym c.deref.ensures.value) at m)) (λ ts h. answered
+    (first_is c.in_ok-document.document.bytes.now _ c.is_some-computed.result _ c.first_of.result h.0 ts (k.0 ∙ c.as_bytes-bytes.ensures)
+    (is_expression (path_view c.args.path.now) c.is_some-computed.result here) h.2
+    (c.first_of.ensures form c.in_ok-document.document h.0
+    (λ f. c.in_ok-selected.ensures.nodes (ap only_expression first ∙ no_expression _ c.is_some-computed.result here f)) h.1)))

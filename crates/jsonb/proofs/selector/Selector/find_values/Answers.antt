@@ -1,7 +1,6 @@
-use Rattle.std.proofs.Common.{Err, ap, sym, ◌∙◌, subst}
-use Rattle.std.proofs.lemmas.Result.{err_from_is_err_and}
+use Rattle.std.proofs.Common.{sym}
+use Rattle.jsonb.proofs.RefinesLemmas.{err_is}
 use Rattle.std.specs.List.{AllZip, Any}
-use Rattle.jsonb_doc.specs.Format.{Decodes}
 use Rattle.jsonb_doc.specs.Limits.{IsTooLarge}
 use Rattle.jsonb_raw.specs.Documents.{raw_bytes}
 use Rattle.jsonb.specs.FoundItems.{IsItemOf}
@@ -10,11 +9,10 @@ use Rattle.jsonb.proofs.selector.Selector.find_values.Goals as goal
 
 pub returns-in_err-document-clause-items : goal.returns-in_err-document-clause-items
 returns-in_err-document-clause-items c = λ form top outcome d m.
-    let p = err_from_is_err_and c.from_residual.result c.from_residual.ensures.1 in
-    handed_error (λ v ts. AllZip (IsItemOf (raw_bytes c.args.self.now.root) form) v.items ts) (Any (IsTooLarge form)) (p.1 ∙ ap Err p.2)
+    handed_error (λ v ts. AllZip (IsItemOf (raw_bytes c.args.self.now.root) form) v.items ts) (Any (IsTooLarge form)) (err_is c.from_residual.ensures.1)
     (c.in_err-document.ensures.meant form top outcome d m)
 
 pub returns-clause-items : goal.returns-clause-items
 returns-clause-items c = λ form top outcome d m.
     handed_by (Any (IsTooLarge form)) (c.in_ok-document.ensures.meant form top outcome d m)
-    (λ ts h. rw h.0 at (c.found_items.ensures.items form top ts (subst (λ b. Decodes form b top) (sym h.0) d) h.1))
+    (λ ts h. rw h.0 at (c.found_items.ensures.items form top ts (rw (sym h.0) at d) h.1))

@@ -1,5 +1,4 @@
-use Rattle.std.proofs.Common.{ap, sym, ◌∙◌, subst}
-use Rattle.jsonb_doc.specs.Format.{Decodes}
+use Rattle.std.proofs.Common.{ap, sym, ◌∙◌}
 use Rattle.jsonb.specs.PathViews.{steps_view, path_view, expression_view}
 use Rattle.jsonb.specs.Meaning.{predicate}
 use Rattle.jsonb.specs.Private.Selection.{only_expression}
@@ -9,7 +8,7 @@ use Rattle.jsonb.proofs.selector.Selector.predicate_match.Goals as goal
 
 pub returns-in_ok-document-in-Some-clause-truth : goal.returns-in_ok-document-in-Some-clause-truth
 returns-in_ok-document-in-Some-clause-truth c = λ form top d.
-    let k = c.in_ok-document-in-Some.ensures.meant form top (subst (λ b. Decodes form b top) (sym c.as_bytes-bytes.ensures) d) in
+    let k = c.in_ok-document-in-Some.ensures.meant form top (rw (sym c.as_bytes-bytes.ensures) at d) in
     same_outcome (ap (λ p. predicate c.args.self.now.mode p top)
     (lone_is (path_view c.args.path.now) (expression_view c.in-Some.e.now)
     (ap (λ l. only_expression (steps_view l)) (sym c.deref.ensures.value) ∙ c.in-Some.ensures)))

@@ -1,5 +1,5 @@
-use Rattle.std.proofs.Common.{Err, ap, sym, ◌∙◌, subst}
-use Rattle.std.proofs.lemmas.Result.{err_from_is_err_and}
+use Rattle.std.proofs.Common.{sym}
+use Rattle.jsonb.proofs.RefinesLemmas.{err_is}
 use Rattle.jsonb_doc.specs.Format.{Decodes}
 use Rattle.jsonb_doc.specs.Limits.{IsTooLarge}
 use Rattle.jsonb.specs.Private.Selected.{array_of}
@@ -8,11 +8,10 @@ use Rattle.jsonb.proofs.selector.Selector.select_array.Goals as goal
 
 pub returns-in_err-document-clause-array : goal.returns-in_err-document-clause-array
 returns-in_err-document-clause-array c = λ form top outcome d m.
-    let p = err_from_is_err_and c.from_residual.result c.from_residual.ensures.1 in
-    handed_error (λ made ts. Decodes form made (array_of ts)) (λ ts. IsTooLarge form (array_of ts)) (p.1 ∙ ap Err p.2)
+    handed_error (λ made ts. Decodes form made (array_of ts)) (λ ts. IsTooLarge form (array_of ts)) (err_is c.from_residual.ensures.1)
     (c.in_err-document.ensures.meant form top outcome d m)
 
 pub returns-clause-array : goal.returns-clause-array
 returns-clause-array c = λ form top outcome d m.
     handed_by (λ ts. IsTooLarge form (array_of ts)) (c.in_ok-document.ensures.meant form top outcome d m)
-    (λ ts h. array_handed form ts c.array_document.result (c.array_document.ensures.document form top ts (subst (λ b. Decodes form b top) (sym h.0) d) h.1))
+    (λ ts h. array_handed form ts c.array_document.result (c.array_document.ensures.document form top ts (rw (sym h.0) at d) h.1))

@@ -1,5 +1,5 @@
-use Rattle.std.proofs.Common.{Err, ap, sym, ◌∙◌, subst}
-use Rattle.std.proofs.lemmas.Result.{err_from_is_err_and}
+use Rattle.std.proofs.Common.{sym}
+use Rattle.jsonb.proofs.RefinesLemmas.{err_is}
 use Rattle.std.specs.Prelude.{IsSomeAnd}
 use Rattle.jsonb_doc.specs.Format.{Decodes}
 use Rattle.jsonb_doc.specs.Limits.{IsTooLarge}
@@ -10,12 +10,11 @@ use Rattle.jsonb.proofs.selector.Selector.select_value.Goals as goal
 
 pub returns-in_err-document-clause-value : goal.returns-in_err-document-clause-value
 returns-in_err-document-clause-value c = λ form top outcome d m.
-    let p = err_from_is_err_and c.from_residual.result c.from_residual.ensures.1 in
     handed_error (λ found ts. SameOption (Decodes form) found (single_or_array ts)) (λ ts. IsSomeAnd (single_or_array ts) (IsTooLarge form))
-    (p.1 ∙ ap Err p.2) (c.in_err-document.ensures.meant form top outcome d m)
+    (err_is c.from_residual.ensures.1) (c.in_err-document.ensures.meant form top outcome d m)
 
 pub returns-clause-value : goal.returns-clause-value
 returns-clause-value c = λ form top outcome d m.
     handed_by (λ ts. IsSomeAnd (single_or_array ts) (IsTooLarge form)) (c.in_ok-document.ensures.meant form top outcome d m)
     (λ ts h. option_handed form single_or_array ts c.value_document.result
-    (c.value_document.ensures.document form top ts (subst (λ b. Decodes form b top) (sym h.0) d) h.1))
+    (c.value_document.ensures.document form top ts (rw (sym h.0) at d) h.1))

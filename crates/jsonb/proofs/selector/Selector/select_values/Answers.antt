@@ -1,5 +1,5 @@
-use Rattle.std.proofs.Common.{Err, ap, sym, ◌∙◌, subst}
-use Rattle.std.proofs.lemmas.Result.{err_from_is_err_and}
+use Rattle.std.proofs.Common.{sym}
+use Rattle.jsonb.proofs.RefinesLemmas.{err_is}
 use Rattle.std.specs.List.{AllZip, Any}
 use Rattle.jsonb_doc.specs.Format.{Decodes}
 use Rattle.jsonb_doc.specs.Limits.{IsTooLarge}
@@ -8,10 +8,9 @@ use Rattle.jsonb.proofs.selector.Selector.select_values.Goals as goal
 
 pub returns-in_err-document-clause-values : goal.returns-in_err-document-clause-values
 returns-in_err-document-clause-values c = λ form top outcome d m.
-    let p = err_from_is_err_and c.from_residual.result c.from_residual.ensures.1 in
-    handed_error (λ v ts. AllZip (Decodes form) v.items ts) (Any (IsTooLarge form)) (p.1 ∙ ap Err p.2) (c.in_err-document.ensures.meant form top outcome d m)
+    handed_error (λ v ts. AllZip (Decodes form) v.items ts) (Any (IsTooLarge form)) (err_is c.from_residual.ensures.1) (c.in_err-document.ensures.meant form top outcome d m)
 
 pub returns-clause-values : goal.returns-clause-values
 returns-clause-values c = λ form top outcome d m.
     handed_by (Any (IsTooLarge form)) (c.in_ok-document.ensures.meant form top outcome d m)
-    (λ ts h. c.documents.ensures.documents form top ts (subst (λ b. Decodes form b top) (sym h.0) d) h.1)
+    (λ ts h. c.documents.ensures.documents form top ts (rw (sym h.0) at d) h.1)

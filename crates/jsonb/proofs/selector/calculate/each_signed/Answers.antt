@@ -1,8 +1,7 @@
 use Rattle.std.proofs.Common.{[], map, refl}
-use Rattle.std.proofs.lemmas.Result.{err_from_is_err_and}
 use Rattle.std.specs.List.{AllZip}
 use Rattle.jsonb.specs.Private.Selection.{value_view, signed_value, IsNumberItem}
-use Rattle.jsonb.proofs.RefinesLemmas.{Is, related_of_map}
+use Rattle.jsonb.proofs.RefinesLemmas.{answered, failed_with, Is, related_of_map}
 use Rattle.jsonb.proofs.Progress.{at_start, one_more, refused_in, at_end, list_first, list_end}
 use Rattle.jsonb.proofs.CalculateLemmas.{as_memory, number_added}
 use Rattle.jsonb.proofs.selector.calculate.each_signed.Goals as goal
@@ -16,22 +15,15 @@ loop-value-init c =
 
 pub returns-in_err-signed_value-clause-meant : goal.returns-in_err-signed_value-clause-meant
 returns-in_err-signed_value-clause-meant c =
-    let p = err_from_is_err_and c.from_residual-in_err-signed_value.result c.from_residual-in_err-signed_value.ensures.1 in
-    rw (p.1, p.2)
-    (refused_in (signed_value c.args.op) (λ v ts. AllZip IsNumberItem v.items ts) _ _ _
-    (AllZip IsNumberItem c.loop-value.numbers.items) _ _ _ c.loop-value.invariant
-    (list_first (Is value_view) c.args.values.now c.loop-value.value-index _ c.loop-value-test.true)
-    (λ v before is held. record { ok = tt; err = rw (← is) ((as_memory c.in_err-signed_value.ensures.meant).err) }))
+    failed_with c.from_residual-in_err-signed_value.ensures.1
+    (refused_in c.loop-value.invariant (list_first (Is value_view) c.args.values.now c.loop-value.value-index _ c.loop-value-test.true)
+    (λ v before is held. rw (← is) ((as_memory c.in_err-signed_value.ensures.meant).err)))
 
 pub loop-value-preserved : goal.loop-value-preserved
 loop-value-preserved c =
-    one_more (signed_value c.args.op) _ _ _ _ _ _ c.loop-value.invariant
+    one_more c.loop-value.invariant
     (list_first (Is value_view) c.args.values.now c.loop-value.value-index _ c.loop-value-test.true)
     (λ v before is held. rw (← is) (number_added _ _ _ _ before c.in_ok-push.ensures.items (c.in_ok-signed_value.ensures.meant.ok) held))
 
 pub returns-clause-meant : goal.returns-clause-meant
-returns-clause-meant c = record {
-  ok = at_end (signed_value c.args.op) _ _ _ c.loop-value.invariant
-      (list_end (Is value_view) c.args.values.now c.loop-value.value-index c.loop-value-test.false);
-  err = tt;
-}
+returns-clause-meant c = answered (at_end c.loop-value.invariant (list_end (Is value_view) c.args.values.now c.loop-value.value-index c.loop-value-test.false))

@@ -3,7 +3,7 @@ use Rattle.jsonb_doc.specs.Answer.{and_then, try_flat_map}
 use Rattle.jsonb.specs.PathArithmetic.{signed_number}
 use Rattle.jsonb.specs.Private.Selection.{value_view}
 use Rattle.jsonb.proofs.CalculateLemmas.{other_refused, values_signed}
-use Rattle.jsonb.proofs.RefinesLemmas.{same_outcome}
+use Rattle.jsonb.proofs.RefinesLemmas.{refused, same_outcome}
 use Rattle.jsonb.proofs.selector.calculate.unary_numbers.Goals as goal
 
 pub returns-then-are_numbers-clause-meant : goal.returns-then-are_numbers-clause-meant
@@ -12,8 +12,6 @@ returns-then-are_numbers-clause-meant c =
     c.each_signed.ensures.meant
 
 pub returns-else-are_numbers-clause-meant : goal.returns-else-are_numbers-clause-meant
-returns-else-are_numbers-clause-meant c = record {
-  ok = tt;
-  err = inr (ap (λ o. and_then o (try_flat_map (signed_number c.args.op)))
-      (other_refused (map value_view c.args.values.now) (sym c.are_numbers.ensures ∙ c.if-are_numbers.false)));
-}
+returns-else-are_numbers-clause-meant c = refused
+    (inr (ap (λ o. and_then o (try_flat_map (signed_number c.args.op)))
+    (other_refused (map value_view c.args.values.now) (sym c.are_numbers.ensures ∙ c.if-are_numbers.false))))

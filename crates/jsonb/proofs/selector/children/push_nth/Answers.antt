@@ -1,6 +1,6 @@
-use Rattle.std.proofs.Common.{[], Ok, ap, sym, ◌∙◌, refl, subst}
-use Rattle.std.specs.List.{cons_option, AllZip}
-use Rattle.jsonb_doc.specs.Representation.Positions.{Locates, HasSpotsLeft}
+use Rattle.std.proofs.Common.{[], Ok, ap, sym, ◌∙◌, refl}
+use Rattle.std.specs.List.{cons_option}
+use Rattle.jsonb_doc.specs.Representation.Positions.{Locates}
 use Rattle.jsonb_doc.proofs.SpotsTaken.{no_refusal}
 use Rattle.jsonb.proofs.RefinesLemmas.{pushed, unchanged, same_outcome}
 use Rattle.jsonb.proofs.Progress.{spot_first, spot_end}
@@ -10,7 +10,7 @@ use Rattle.jsonb.proofs.selector.children.push_nth.Goals as goal
 pub loop-element-init : goal.loop-element-init
 loop-element-init c = record {
   same = refl;
-  left = λ bytes ts h. (ts, subst (λ it. HasSpotsLeft bytes it ts) (sym c.into_iter-element-iterator.ensures.into_iter_gives) h, refl);
+  left = λ bytes ts h. (ts, rw (sym c.into_iter-element-iterator.ensures.into_iter_gives) at h, refl);
 }
 
 pub returns-in_err-element-clause-meant : goal.returns-in_err-element-clause-meant
@@ -21,23 +21,23 @@ returns-in_err-element-clause-meant c = λ bytes ts before h a.
 pub returns-then-before-eq0-clause-meant : goal.returns-then-before-eq0-clause-meant
 returns-then-before-eq0-clause-meant c = λ bytes ts before h a.
     let inv = c.loop-element.invariant.left bytes ts h in
-    let k = spot_first bytes c.loop-element.element-iterator c.next.new.self c.in-Some.element _ c.in_ok-element.was c.in-Some.ensures.steps inv.0 inv.1 in
+    let k = spot_first bytes c.in_ok-element.was c.in-Some.ensures.steps inv.0 inv.1 in
     same_outcome (ap (λ o. Ok (cons_option o [])) (sym inv.2 ∙ get_first inv.0 k.first k.others c.loop-element.before k.whole c.if-before-eq0.true))
     (pushed (Locates bytes) c.push_spot.result _ c.push_spot.new.nodes.items _ before k.first c.push_spot.ensures.ok c.push_spot.ensures.err
-    (subst (λ l. AllZip (Locates bytes) l before) (sym c.loop-element.invariant.same) a) k.holds)
+    (rw (sym c.loop-element.invariant.same) at a) k.holds)
 
 pub loop-element-preserved : goal.loop-element-preserved
 loop-element-preserved c = record {
   same = c.loop-element.invariant.same;
   left = λ bytes ts h.
       let inv = c.loop-element.invariant.left bytes ts h in
-      let k = spot_first bytes c.loop-element.element-iterator c.next.new.self c.in-Some.element _ c.in_ok-element.was c.in-Some.ensures.steps inv.0 inv.1 in
+      let k = spot_first bytes c.in_ok-element.was c.in-Some.ensures.steps inv.0 inv.1 in
       (k.others, k.left, get_further inv.0 k.first k.others c.loop-element.before k.whole c.if-before-eq0.false ∙ inv.2);
 }
 
 pub returns-clause-meant : goal.returns-clause-meant
 returns-clause-meant c = λ bytes ts before h a.
     let inv = c.loop-element.invariant.left bytes ts h in
-    let none = spot_end bytes c.loop-element.element-iterator c.next.new.self c.in-None.ensures.steps inv.0 inv.1 in
+    let none = spot_end bytes c.in-None.ensures.steps inv.0 inv.1 in
     same_outcome (ap (λ o. Ok (cons_option o [])) (sym inv.2 ∙ get_none inv.0 c.loop-element.before none))
-    (unchanged (Locates bytes) c.loop-element.nodes.items before (subst (λ l. AllZip (Locates bytes) l before) (sym c.loop-element.invariant.same) a))
+    (unchanged (Locates bytes) c.loop-element.nodes.items before (rw (sym c.loop-element.invariant.same) at a))

@@ -1,9 +1,8 @@
-use Rattle.std.proofs.Common.{[], Ok, Err, ap, sym, ◌∙◌, subst}
-use Rattle.std.proofs.lemmas.Result.{err_from_is_err_and}
+use Rattle.std.proofs.Common.{[], Ok, ap, sym, ◌∙◌, subst}
 use Rattle.jsonb_doc.specs.Representation.Positions.{Locates}
 use Rattle.std.specs.List.{AllZip}
 use Rattle.jsonb.specs.ItemSteps.{picked}
-use Rattle.jsonb.proofs.RefinesLemmas.{only_memory, same_answer, same_outcome}
+use Rattle.jsonb.proofs.RefinesLemmas.{failed_as, only_memory, same_outcome}
 use Rattle.jsonb.proofs.PickLemmas.{picked_plain}
 use Rattle.jsonb.proofs.selector.children.push_picked.Goals as goal
 
@@ -13,12 +12,10 @@ returns-in-Some-clause-meant c = λ bytes ts before h a.
 
 pub returns-in_err-push_spots-clause-meant : goal.returns-in_err-push_spots-clause-meant
 returns-in_err-push_spots-clause-meant c = λ bytes ts before h a.
-    let p = err_from_is_err_and c.from_residual.result c.from_residual.ensures.1 in
-    same_answer (p.1 ∙ ap Err p.2)
+    failed_as c.from_residual.ensures.1
     (only_memory (c.in_err-push_spots.ensures.meant bytes ts [] h (subst (λ l. AllZip (Locates bytes) l []) (sym c.new-spots.ensures.items) tt)))
 
 pub returns-clause-meant : goal.returns-clause-meant
 returns-clause-meant c = λ bytes ts before h a.
     c.push_entries.ensures.meant bytes ts before
-    (subst (λ l. AllZip (Locates bytes) l ts) (sym c.deref.ensures.value)
-    (c.in_ok-push_spots.ensures.meant bytes ts [] h (subst (λ l. AllZip (Locates bytes) l []) (sym c.new-spots.ensures.items) tt)).ok) a
+    (rw (sym c.deref.ensures.value) at (c.in_ok-push_spots.ensures.meant bytes ts [] h (subst (λ l. AllZip (Locates bytes) l []) (sym c.new-spots.ensures.items) tt)).ok) a

@@ -1,4 +1,4 @@
-use Rattle.std.proofs.Common.{map, ap, sym, ◌∙◌, refl, inl, inr}
+use Rattle.std.proofs.Common.{ap, sym, ◌∙◌, refl, inl, inr}
 use Rattle.jsonb.specs.ItemSteps.{field_step}
 use Rattle.jsonb.specs.Private.ItemSteps.{indices_step}
 use Rattle.jsonb_doc.specs.Representation.Positions.{Locates}

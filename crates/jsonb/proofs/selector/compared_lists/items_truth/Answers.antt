@@ -1,9 +1,8 @@
-use Rattle.std.proofs.Common.{Ok, Err, refl, ap, sym, ◌∙◌}
-use Rattle.std.proofs.lemmas.Result.{err_from_is_err_and}
+use Rattle.std.proofs.Common.{Ok, refl, ap, sym, ◌∙◌}
 use Rattle.jsonb_doc.specs.Representation.Positions.{Locates}
 use Rattle.jsonb.specs.Private.Compared.{items_truth}
 use Rattle.jsonb.specs.declared.selector.document.Mode.TheVariants.{Lax}
-use Rattle.jsonb.proofs.RefinesLemmas.{same_answer}
+use Rattle.jsonb.proofs.RefinesLemmas.{failed_as}
 use Rattle.jsonb.proofs.KeptLemmas.{known, value_is}
 use Rattle.jsonb.proofs.ListLemmas.{is_false, is_not_false, list_passes, list_stops, list_refused, list_none}
 use Rattle.jsonb.proofs.Progress.{no_spot, list_first, list_end}
@@ -16,8 +15,7 @@ pub returns-in_err-truth-clause-meant : goal.returns-in_err-truth-clause-meant
 returns-in_err-truth-clause-meant c = λ e top ts k a.
     let inv = c.loop-item.invariant e top ts k a in
     let f = list_first (Locates c.args.bytes.now) c.args.items.now c.loop-item.item-index no_spot c.loop-item-test.true inv.0 inv.1 in
-    let p = err_from_is_err_and c.from_residual.result c.from_residual.ensures.1 in
-    same_answer (p.1 ∙ ap Err p.2) (list_refused c.args.comparison.now e top k f.first (c.in_err-truth.ensures.meant e Lax top f.first k (c.compared_member-found.ensures.meant top f.first k.members f.holds)))
+    failed_as c.from_residual.ensures.1 (list_refused c.args.comparison.now e top k f.first (c.in_err-truth.ensures.meant e Lax top f.first k (c.compared_member-found.ensures.meant top f.first k.members f.holds)))
 
 pub returns-then-ne-clause-meant : goal.returns-then-ne-clause-meant
 returns-then-ne-clause-meant c = λ e top ts k a.

@@ -1,9 +1,8 @@
-use Rattle.std.proofs.Common.{Err, ap, sym, ◌∙◌, arith}
+use Rattle.std.proofs.Common.{sym, ◌∙◌, arith}
 use Rattle.std.proofs.lemmas.Bool.Decides.{nat_tests}
 use Rattle.std.proofs.lemmas.List.{nil_from_length}
-use Rattle.std.proofs.lemmas.Result.{err_from_is_err_and}
 use Rattle.jsonb.specs.Private.Compared.{items_truth}
-use Rattle.jsonb.proofs.RefinesLemmas.{same_answer, same_outcome, first_refused, followed}
+use Rattle.jsonb.proofs.RefinesLemmas.{failed_as, same_outcome, first_refused, followed}
 use Rattle.jsonb.proofs.ListLemmas.{by_front, by_names}
 use Rattle.jsonb.proofs.RepeatLemmas.{alike_items_truth}
 use Rattle.jsonb.proofs.selector.compared_lists.list_compared_truth.Goals as goal
@@ -16,8 +15,7 @@ returns-then-is_empty-clause-meant c = λ e top k r.
 
 pub returns-in_err-found-clause-meant : goal.returns-in_err-found-clause-meant
 returns-in_err-found-clause-meant c = λ e top k r.
-    let p = err_from_is_err_and c.from_residual.result c.from_residual.ensures.1 in
-    same_answer (p.1 ∙ ap Err p.2) (same_outcome (by_front c.args.list.now e top k)
+    failed_as c.from_residual.ensures.1 (same_outcome (by_front c.args.list.now e top k)
     (first_refused (items_truth c.args.list.now.comparison top) (c.in_err-found.ensures.meant top top r r)))
 
 pub returns-clause-meant : goal.returns-clause-meant

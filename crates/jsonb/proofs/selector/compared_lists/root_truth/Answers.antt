@@ -1,5 +1,4 @@
-use Rattle.std.proofs.Common.{◌≡◌, Bool, List, Option, Some, Ok, Err, ap, ◌∙◌}
-use Rattle.std.proofs.lemmas.Result.{err_from_is_err_and}
+use Rattle.std.proofs.Common.{◌≡◌, Bool, List, Option, Some, Ok, ap, ◌∙◌}
 use Rattle.jsonb_doc.specs.Answer.{Outcome, and_then}
 use Rattle.jsonb_doc.specs.Tree.{Tree}
 use Rattle.jsonb.specs.Compare.{Truth}
@@ -7,7 +6,7 @@ use Rattle.jsonb.specs.PathViews.{expression_view}
 use Rattle.jsonb.specs.Meaning.{truth, is_some_item}
 use Rattle.jsonb.specs.Private.Selection.{IsAt}
 use Rattle.jsonb.proofs.PathNodes.{exists_is}
-use Rattle.jsonb.proofs.RefinesLemmas.{same_outcome, same_answer, first_refused, one_ok}
+use Rattle.jsonb.proofs.RefinesLemmas.{failed_as, same_outcome, first_refused, one_ok}
 use Rattle.jsonb.proofs.SearchLemmas.{found_any}
 use Rattle.jsonb.proofs.StepLemmas.{from_root}
 use Rattle.jsonb.proofs.selector.compared_lists.root_truth.Goals as goal
@@ -26,8 +25,7 @@ returns-in_err-found-clause-meant c = λ top r.
     let told : List Tree → Outcome Truth = λ ts. Ok (Some (is_some_item ts)) in
     let view = ap (λ x. truth mode x top top) (exists_is c.args.e.now c.in-ExistsFunc.steps c.in-ExistsFunc.is)
     ∙ ap (λ o. and_then o told) (from_root mode c.in-ExistsFunc.steps.items _ top c.deref.ensures.value) in
-    let p = err_from_is_err_and c.from_residual.result c.from_residual.ensures.1 in
-    same_answer (p.1 ∙ ap Err p.2) (same_outcome view (first_refused told (c.in_err-found.ensures.meant top top r r)))
+    failed_as c.from_residual.ensures.1 (same_outcome view (first_refused told (c.in_err-found.ensures.meant top top r r)))
 
 pub returns-in-Some-clause-meant : goal.returns-in-Some-clause-meant
 returns-in-Some-clause-meant c = λ top r.

@@ -2,6 +2,7 @@ use Rattle.std.proofs.Common.{map, ap, sym, ◌∙◌}
 use Rattle.jsonb.specs.Compare.{compare}
 use Rattle.jsonb.specs.Private.Selection.{value_view}
 use Rattle.jsonb.specs.Values.{values_of_item}
+use Rattle.jsonb.proofs.RefinesLemmas.{answered}
 use Rattle.jsonb.proofs.selector.compared_member.compared_truth.Goals as goal
 
 pub returns-in_err-number-clause-meant : goal.returns-in_err-number-clause-meant
@@ -10,8 +11,6 @@ returns-in_err-number-clause-meant c = λ t l. absurd (c.in_err-number.ensures.n
 pub returns-in-Some-clause-meant : goal.returns-in-Some-clause-meant
 returns-in-Some-clause-meant c = λ t l.
     let is = rw c.in-Some.is at (c.in_ok-number.ensures.number t l) in
-    record {
-      ok = c.compare_short.ensures
-          ∙ ap (λ vs. compare c.args.op vs (map value_view c.args.rights.now)) (sym (ap values_of_item is));
-      err = tt;
-    }
+    answered
+    (c.compare_short.ensures
+    ∙ ap (λ vs. compare c.args.op vs (map value_view c.args.rights.now)) (sym (ap values_of_item is)))

@@ -1,12 +1,10 @@
-use Rattle.std.proofs.Common.{Ok, Err, List, map, flat_map, refl, ap, sym, subst, ◌∙◌}
-use Rattle.std.proofs.lemmas.Result.{err_from_is_err_and}
+use Rattle.std.proofs.Common.{Ok, List, map, flat_map, refl, ap, sym, ◌∙◌}
 use Rattle.jsonb_doc.proofs.SpotsTaken.{no_refusal}
-use Rattle.jsonb_doc.specs.Representation.Positions.{HasSpotsLeft}
 use Rattle.jsonb_doc.specs.Tree.{Tree}
 use Rattle.jsonb.specs.Compare.{compare}
 use Rattle.jsonb.specs.Private.Selection.{value_view}
 use Rattle.jsonb.specs.Values.{value_of_item}
-use Rattle.jsonb.proofs.RefinesLemmas.{same_answer, only_memory}
+use Rattle.jsonb.proofs.RefinesLemmas.{failed_as, only_memory}
 use Rattle.jsonb.proofs.KeptLemmas.{known}
 use Rattle.jsonb.proofs.ListLemmas.{is_false, is_not_false, compare_passes, compare_stops}
 use Rattle.jsonb.proofs.Progress.{spot_first, spot_end}
@@ -14,7 +12,7 @@ use Rattle.jsonb.proofs.selector.compared_member.elements_truth.Goals as goal
 
 pub loop-element-init : goal.loop-element-init
 loop-element-init c = λ ts h.
-    (ts, subst (λ it. HasSpotsLeft c.args.bytes.now it ts) (sym c.into_iter-element-iterator.ensures.into_iter_gives) h, refl)
+    (ts, rw (sym c.into_iter-element-iterator.ensures.into_iter_gives) at h, refl)
 
 pub returns-in_err-element-clause-meant : goal.returns-in_err-element-clause-meant
 returns-in_err-element-clause-meant c = λ ts h.
@@ -25,17 +23,14 @@ returns-in_err-element-clause-meant c = λ ts h.
 pub returns-in_err-truth-clause-meant : goal.returns-in_err-truth-clause-meant
 returns-in_err-truth-clause-meant c = λ ts h.
     let inv = c.loop-element.invariant ts h in
-    let k = spot_first c.args.bytes.now c.loop-element.element-iterator c.next.new.self c.in-Some.element _ c.in_ok-element.was c.in-Some.ensures.steps
-    inv.0 inv.1 in
-    let p = err_from_is_err_and c.from_residual-in_err-truth.result c.from_residual-in_err-truth.ensures.1 in
-    same_answer (p.1 ∙ ap Err p.2) (only_memory (c.in_err-truth.ensures.meant k.first k.holds))
+    let k = spot_first c.args.bytes.now c.in_ok-element.was c.in-Some.ensures.steps inv.0 inv.1 in
+    failed_as c.from_residual-in_err-truth.ensures.1 (only_memory (c.in_err-truth.ensures.meant k.first k.holds))
 
 pub returns-then-ne-clause-meant : goal.returns-then-ne-clause-meant
 returns-then-ne-clause-meant c = λ ts h.
     let rights = map value_view c.args.rights.now in
     let inv = c.loop-element.invariant ts h in
-    let k = spot_first c.args.bytes.now c.loop-element.element-iterator c.next.new.self c.in-Some.element _ c.in_ok-element.was c.in-Some.ensures.steps
-    inv.0 inv.1 in
+    let k = spot_first c.args.bytes.now c.in_ok-element.was c.in-Some.ensures.steps inv.0 inv.1 in
     known (ap Ok (inv.2 ∙ ap (λ (l : List Tree). compare c.args.op (flat_map value_of_item l) rights) k.whole
     ∙ compare_stops c.args.op rights (value_of_item k.first) (flat_map value_of_item k.others) c.in_ok-truth.truth
     (sym (c.in_ok-truth.ensures.meant k.first k.holds).ok) (is_not_false c.in_ok-truth.truth (sym c.ne.ensures ∙ c.if-ne.true)))) refl
@@ -44,8 +39,7 @@ pub loop-element-preserved : goal.loop-element-preserved
 loop-element-preserved c = λ ts h.
     let rights = map value_view c.args.rights.now in
     let inv = c.loop-element.invariant ts h in
-    let k = spot_first c.args.bytes.now c.loop-element.element-iterator c.next.new.self c.in-Some.element _ c.in_ok-element.was c.in-Some.ensures.steps
-    inv.0 inv.1 in (
+    let k = spot_first c.args.bytes.now c.in_ok-element.was c.in-Some.ensures.steps inv.0 inv.1 in (
       k.others,
       k.left,
       inv.2 ∙ ap (λ (l : List Tree). compare c.args.op (flat_map value_of_item l) rights) k.whole
@@ -57,4 +51,4 @@ pub returns-clause-meant : goal.returns-clause-meant
 returns-clause-meant c = λ ts h.
     let inv = c.loop-element.invariant ts h in
     known (ap Ok (inv.2 ∙ ap (λ (l : List Tree). compare c.args.op (flat_map value_of_item l) (map value_view c.args.rights.now))
-    (spot_end c.args.bytes.now c.loop-element.element-iterator c.next.new.self c.in-None.ensures.steps inv.0 inv.1))) refl
+    (spot_end c.args.bytes.now c.in-None.ensures.steps inv.0 inv.1))) refl

@@ -3,7 +3,7 @@ use Rattle.jsonb_doc.specs.Representation.Positions.{Locates}
 use Rattle.jsonb.specs.Compare.{compare}
 use Rattle.jsonb.specs.Private.Selection.{value_view}
 use Rattle.jsonb.specs.Values.{values_of_item}
-use Rattle.jsonb.proofs.RefinesLemmas.{same_outcome}
+use Rattle.jsonb.proofs.RefinesLemmas.{answered, same_outcome}
 use Rattle.jsonb.proofs.MemberLemmas.{one_member, no_member}
 use Rattle.jsonb.proofs.selector.compared_member.found_truth.Goals as goal
 
@@ -16,8 +16,6 @@ returns-in-Some-clause-meant c = λ ts related.
 
 pub returns-in-None-clause-meant : goal.returns-in-None-clause-meant
 returns-in-None-clause-meant c = λ ts related.
-    record {
-      ok = ap (λ l. compare c.args.op (flat_map values_of_item l) (map value_view c.args.rights.now))
-          (sym (no_member (Locates c.args.bytes.now) _ ts c.in-None.is related));
-      err = tt;
-    }
+    answered
+    (ap (λ l. compare c.args.op (flat_map values_of_item l) (map value_view c.args.rights.now))
+    (sym (no_member (Locates c.args.bytes.now) _ ts c.in-None.is related)))

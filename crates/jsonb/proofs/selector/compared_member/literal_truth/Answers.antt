@@ -1,16 +1,14 @@
-use Rattle.std.proofs.Common.{Ok, Err, map, flat_map, ap, sym, ◌∙◌}
-use Rattle.std.proofs.lemmas.Result.{err_from_is_err_and}
+use Rattle.std.proofs.Common.{Ok, map, flat_map, sym}
 use Rattle.jsonb.specs.Compare.{compare}
 use Rattle.jsonb.specs.Private.Selection.{value_view}
 use Rattle.jsonb.specs.Values.{values_of_item}
-use Rattle.jsonb.proofs.RefinesLemmas.{same_outcome, same_answer, first_refused, followed}
+use Rattle.jsonb.proofs.RefinesLemmas.{failed_as, same_outcome, first_refused, followed}
 use Rattle.jsonb.proofs.ComparedLemmas.{told_by, truth_is}
 use Rattle.jsonb.proofs.selector.compared_member.literal_truth.Goals as goal
 
 pub returns-in_err-member-clause-meant : goal.returns-in_err-member-clause-meant
 returns-in_err-member-clause-meant c = λ e mode top t k g.
-    let p = err_from_is_err_and c.from_residual.result c.from_residual.ensures.1 in
-    same_answer (p.1 ∙ ap Err p.2) (same_outcome (truth_is c.args.comparison.now e mode top t k)
+    failed_as c.from_residual.ensures.1 (same_outcome (truth_is c.args.comparison.now e mode top t k)
     (first_refused (told_by c.args.comparison.now) (rw c.in_err-member.was at g)))
 
 pub returns-clause-meant : goal.returns-clause-meant

@@ -1,12 +1,11 @@
 use Rattle.std.proofs.Common.{◌≡◌, List, Ok, Err, map, flat_map, refl, ap, ◌∙◌}
-use Rattle.std.proofs.lemmas.Result.{err_from_is_err_and}
 use Rattle.jsonb_doc.specs.Answer.{Outcome, and_then}
 use Rattle.jsonb_doc.specs.Tree.{Tree}
 use Rattle.jsonb.specs.Compare.{compare}
 use Rattle.jsonb.specs.Private.Selection.{value_view}
 use Rattle.jsonb.specs.Values.{Value, values_of_item}
 use Rattle.jsonb.specs.declared.selector.document.Expressions.TheVariants.{AreRefused}
-use Rattle.jsonb.proofs.RefinesLemmas.{same_outcome, same_answer, first_refused, followed}
+use Rattle.jsonb.proofs.RefinesLemmas.{failed_as, same_outcome, first_refused, followed}
 use Rattle.jsonb.proofs.StepLemmas.{from_start}
 use Rattle.jsonb.proofs.selector.compared_member.member_truth.Goals as goal
 
@@ -18,8 +17,7 @@ pub returns-in_err-found-clause-meant : goal.returns-in_err-found-clause-meant
 returns-in_err-found-clause-meant c = λ top u all r s.
     let rights = map value_view c.args.rights.now in
     let compares = λ (vs : List Value). Ok (compare c.args.op vs rights) in
-    let p = err_from_is_err_and c.from_residual.result c.from_residual.ensures.1 in
-    same_answer (p.1 ∙ ap Err p.2) (same_outcome
+    failed_as c.from_residual.ensures.1 (same_outcome
     (joined _ (flat_map values_of_item) compares
     ∙ ap (λ o. and_then o (λ ts. compares (flat_map values_of_item ts)))
     (from_start c.args.current.context.now.mode c.args.steps.now c.args.steps.now c.args.steps.now top u refl refl))

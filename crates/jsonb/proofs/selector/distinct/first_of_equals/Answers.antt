@@ -1,6 +1,7 @@
 use Rattle.jsonb_doc.specs.Representation.Positions.{Locates}
 use Rattle.jsonb.proofs.Progress.{no_spot, list_first, list_end}
 use Rattle.jsonb.proofs.RepeatLemmas.{one_tree, thinned_start, thinned_more, thinned_end}
+use Rattle.jsonb.proofs.RefinesLemmas.{answered}
 use Rattle.jsonb.proofs.selector.distinct.first_of_equals.Goals as goal
 
 pub loop-item-init : goal.loop-item-init
@@ -12,8 +13,6 @@ loop-item-preserved c = λ bytes ts a.
     (list_first (Locates bytes) c.args.items.now c.loop-item.item-index no_spot c.loop-item-test.true) c.in_ok-push_first.ensures.pushed
 
 pub returns-clause-meant : goal.returns-clause-meant
-returns-clause-meant c = λ bytes ts a. record {
-  ok = thinned_end (Locates bytes) c.loop-item.nodes.items _ ts (c.loop-item.invariant bytes ts a)
-      (list_end (Locates bytes) c.args.items.now c.loop-item.item-index c.loop-item-test.false);
-  err = tt;
-}
+returns-clause-meant c = λ bytes ts a. answered
+    (thinned_end (Locates bytes) c.loop-item.nodes.items _ ts (c.loop-item.invariant bytes ts a)
+    (list_end (Locates bytes) c.args.items.now c.loop-item.item-index c.loop-item-test.false))

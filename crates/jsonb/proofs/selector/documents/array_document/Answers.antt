@@ -1,5 +1,5 @@
 use Rattle.std.proofs.Common.{◌<◌, ◌≤◌, Ok, Err, length, arith}
-use Rattle.std.proofs.lemmas.Result.{err_from_is_err_and}
+use Rattle.jsonb.proofs.RefinesLemmas.{err_is}
 use Rattle.jsonb_doc.specs.Tree.{null}
 use Rattle.jsonb_doc.proofs.BuilderSteps.{front_step, front_whole}
 use Rattle.jsonb.proofs.SelectedParts.{Selects-length, left_first, left_none}
@@ -7,11 +7,10 @@ use Rattle.jsonb.proofs.selector.documents.array_document.Goals as goal
 
 pub returns-in_err-push_at-clause-document : goal.returns-in_err-push_at-clause-document
 returns-in_err-push_at-clause-document c = λ form top ts decodes h.
-    let p = err_from_is_err_and c.from_residual.result c.from_residual.ensures.1 in
     let short : c.loop-position.position < length ts = omega
     (arith, c.selected_len-position-end.ensures, Selects-length form c.args.document c.args.selected.now ts h) in
     let front = rw (left_first ts c.loop-position.position null short) at (c.loop-position.invariant form top ts decodes h) in
-    rw (p.1, p.2) (front_step form c.loop-position.builder _ _ ts front {A = Unit {0}} c.push_at.new.builder (Err c.in_err-push_at.field-0.0)
+    rw (err_is c.from_residual.ensures.1) (front_step form c.loop-position.builder _ _ ts front {A = Unit {0}} c.push_at.new.builder (Err c.in_err-push_at.field-0.0)
     (λ us held. c.in_err-push_at.ensures.pushed form top ts decodes h us held null))
 
 pub loop-position-preserved : goal.loop-position-preserved

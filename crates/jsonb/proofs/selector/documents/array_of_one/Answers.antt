@@ -1,5 +1,5 @@
 use Rattle.std.proofs.Common.{[], ◌∷◌}
-use Rattle.std.proofs.lemmas.Result.{err_from_is_err_and}
+use Rattle.jsonb.proofs.RefinesLemmas.{err_is}
 use Rattle.jsonb_doc.specs.Format.{Decodes}
 use Rattle.jsonb_doc.proofs.BuilderSteps.{answered}
 use Rattle.jsonb.specs.Private.Selected.{array_of}
@@ -8,8 +8,7 @@ use Rattle.jsonb.proofs.selector.documents.array_of_one.Goals as goal
 
 pub returns-in_err-push_item-clause-document : goal.returns-in_err-push_item-clause-document
 returns-in_err-push_item-clause-document c = λ form t stands.
-    let p = err_from_is_err_and c.from_residual.result c.from_residual.ensures.1 in
-    rw (p.1, p.2) (c.in_err-push_item.ensures.pushed form [] t (none_held form _ c.new-builder.ensures) stands)
+    rw (err_is c.from_residual.ensures.1) (c.in_err-push_item.ensures.pushed form [] t (none_held form _ c.new-builder.ensures) stands)
 
 pub returns-clause-document : goal.returns-clause-document
 returns-clause-document c = λ form t stands.

@@ -1,14 +1,13 @@
 use Rattle.std.proofs.Common.{◌<◌, length, arith}
-use Rattle.std.proofs.lemmas.Result.{err_from_is_err_and}
+use Rattle.jsonb.proofs.RefinesLemmas.{err_is}
 use Rattle.jsonb_doc.specs.Tree.{null}
 use Rattle.jsonb.proofs.SelectedParts.{Selects-length, first_some}
 use Rattle.jsonb.proofs.selector.documents.first_document.Goals as goal
 
 pub returns-in_err-document_at-clause-document : goal.returns-in_err-document_at-clause-document
 returns-in_err-document_at-clause-document c = λ form top ts decodes h.
-    let p = err_from_is_err_and c.from_residual.result c.from_residual.ensures.1 in
     let short : 0 < length ts = omega (arith, c.selected_len.ensures, Selects-length form c.args.document c.args.selected.now ts h) in
-    rw (p.1, p.2, first_some ts null short) (c.in_err-document_at.ensures.document form top ts decodes h null)
+    rw (err_is c.from_residual.ensures.1, first_some ts null short) (c.in_err-document_at.ensures.document form top ts decodes h null)
 
 pub returns-clause-document : goal.returns-clause-document
 returns-clause-document c = λ form top ts decodes h.

@@ -1,7 +1,7 @@
 -- node_documents
 use Rattle.std.proofs.Common.{◌<◌, ◌≤◌, ◌∙◌, length, arith, inl}
 use Rattle.std.proofs.lemmas.List.{take_more, take_all}
-use Rattle.std.proofs.lemmas.Result.{err_from_is_err_and}
+use Rattle.jsonb.proofs.RefinesLemmas.{refused, err_is}
 use Rattle.jsonb_doc.specs.Format.{Decodes}
 use Rattle.jsonb_doc.specs.Representation.Positions.{Locates}
 use Rattle.jsonb_doc.specs.Tree.{null}
@@ -11,22 +11,18 @@ use Rattle.jsonb.proofs.selector.documents.node_documents.Goals as goal
 
 pub returns-in_err-document-clause-documents : goal.returns-in_err-document-clause-documents
 returns-in_err-document-clause-documents c = λ form top ts decodes h.
-    let p = err_from_is_err_and c.from_residual-in_err-document.result c.from_residual-in_err-document.ensures.1 in
     let long = related_length (Locates c.args.bytes.now) c.args.spots.now ts h in
     let at = related_at (Locates c.args.bytes.now) c.args.spots.now ts c.loop-spot.spot-index no_spot null c.loop-spot-test.true h in
     let short : c.loop-spot.spot-index < length ts = omega (arith, long, c.loop-spot-test.true) in
-    rw (p.1, p.2) (record {
-      ok = tt;
-      err = inl (list_refused form ts c.loop-spot.spot-index null _ short (c.in_err-document.ensures.decodes form top _ decodes at));
-    })
+    rw (err_is c.from_residual-in_err-document.ensures.1) (refused
+    (inl (list_refused form ts c.loop-spot.spot-index null _ short (c.in_err-document.ensures.decodes form top _ decodes at))))
 
 pub loop-spot-preserved : goal.loop-spot-preserved
 loop-spot-preserved c = record {
   documents = λ form top ts decodes h.
       let long = related_length (Locates c.args.bytes.now) c.args.spots.now ts h in
       let at = related_at (Locates c.args.bytes.now) c.args.spots.now ts c.loop-spot.spot-index no_spot null c.loop-spot-test.true h in
-      let short : c.loop-spot.spot-index < length ts = omega (arith, long, c.loop-spot-test.true) in
-      rw (take_more ts c.loop-spot.spot-index null short, c.push_reserved.ensures.items, c.new.ensures)
+      rw (take_more ts c.loop-spot.spot-index null (omega (arith, long, c.loop-spot-test.true)), c.push_reserved.ensures.items, c.new.ensures)
       (related_more (Decodes form) _ _ _ _ (c.loop-spot.invariant.documents form top ts decodes h)
       (c.in_ok-document.ensures.decodes form top _ decodes at));
   len = omega (arith, c.push_reserved.ensures.len, c.loop-spot.invariant.len);

@@ -1,7 +1,7 @@
 -- number_documents
 use Rattle.std.proofs.Common.{◌<◌, ◌≤◌, length, arith, inl}
 use Rattle.std.proofs.lemmas.List.{take_more, take_all}
-use Rattle.std.proofs.lemmas.Result.{err_from_is_err_and}
+use Rattle.jsonb.proofs.RefinesLemmas.{refused, err_is}
 use Rattle.jsonb_doc.specs.Format.{Decodes}
 use Rattle.jsonb_doc.specs.Tree.{null}
 use Rattle.jsonb.specs.Private.Selection.{IsNumberItem}
@@ -10,21 +10,17 @@ use Rattle.jsonb.proofs.selector.documents.number_documents.Goals as goal
 
 pub returns-in_err-number_document-clause-documents : goal.returns-in_err-number_document-clause-documents
 returns-in_err-number_document-clause-documents c = λ form ts h.
-    let p = err_from_is_err_and c.from_residual-in_err-number_document.result c.from_residual-in_err-number_document.ensures.1 in
     let long = related_length IsNumberItem c.args.numbers.now ts h in
     let short : c.loop-number.number-index < length ts = omega (arith, long, c.loop-number-test.true) in
     let at = related_at IsNumberItem c.args.numbers.now ts c.loop-number.number-index _ null c.loop-number-test.true h in
-    rw (p.1, p.2) (record {
-      ok = tt;
-      err = inl (list_refused form ts c.loop-number.number-index null _ short (c.in_err-number_document.ensures.document form _ at));
-    })
+    rw (err_is c.from_residual-in_err-number_document.ensures.1) (refused
+    (inl (list_refused form ts c.loop-number.number-index null _ short (c.in_err-number_document.ensures.document form _ at))))
 
 pub loop-number-preserved : goal.loop-number-preserved
 loop-number-preserved c = λ form ts h.
     let long = related_length IsNumberItem c.args.numbers.now ts h in
-    let short : c.loop-number.number-index < length ts = omega (arith, long, c.loop-number-test.true) in
     let at = related_at IsNumberItem c.args.numbers.now ts c.loop-number.number-index _ null c.loop-number-test.true h in
-    rw (take_more ts c.loop-number.number-index null short, c.in_ok-push.ensures.items)
+    rw (take_more ts c.loop-number.number-index null (omega (arith, long, c.loop-number-test.true)), c.in_ok-push.ensures.items)
     (related_more (Decodes form) _ _ _ _ (c.loop-number.invariant form ts h) (c.in_ok-number_document.ensures.document form _ at))
 
 pub returns-clause-documents : goal.returns-clause-documents

@@ -1,14 +1,13 @@
 use Rattle.std.proofs.Common.{[], ◌∷◌}
-use Rattle.std.proofs.lemmas.Result.{err_from_is_err_and}
+use Rattle.jsonb.proofs.RefinesLemmas.{err_is}
 use Rattle.jsonb_doc.specs.Tree.{trees_of}
 use Rattle.jsonb.proofs.SelectedParts.{part_refused}
 use Rattle.jsonb.proofs.selector.documents.push_part.Goals as goal
 
 pub returns-in_err-array-in-ArrayOf-clause-pushed : goal.returns-in_err-array-in-ArrayOf-clause-pushed
 returns-in_err-array-in-ArrayOf-clause-pushed c = λ form ts t held is.
-    let p = err_from_is_err_and c.from_residual.result c.from_residual.ensures.1 in
     let part = rw c.in-ArrayOf.is at is in
-    rw (p.1, p.2) (part_refused form ts t _ _ part.1 (c.in_err-array-in-ArrayOf.ensures.document form part.0 part.2))
+    rw (err_is c.from_residual.ensures.1) (part_refused form ts t _ _ part.1 (c.in_err-array-in-ArrayOf.ensures.document form part.0 part.2))
 
 pub returns-in-Item-clause-pushed : goal.returns-in-Item-clause-pushed
 returns-in-Item-clause-pushed c = λ form ts t held is. c.push_item.ensures.pushed form ts t held (rw c.in-Item.is at is)

@@ -1,13 +1,12 @@
 use Rattle.std.proofs.Common.{◌<◌, ◌≤◌, length, arith}
-use Rattle.std.proofs.lemmas.Result.{err_from_is_err_and}
+use Rattle.jsonb.proofs.RefinesLemmas.{err_is}
 use Rattle.jsonb.proofs.SelectedParts.{Selects-length, value_few, value_many}
 use Rattle.jsonb.proofs.selector.documents.value_document.Goals as goal
 
 pub returns-in_err-array_document-clause-document : goal.returns-in_err-array_document-clause-document
 returns-in_err-array_document-clause-document c = λ form top ts decodes h.
-    let p = err_from_is_err_and c.from_residual.result c.from_residual.ensures.1 in
     let several : 1 < length ts = omega (arith, c.selected_len.ensures, Selects-length form c.args.document c.args.selected.now ts h) in
-    rw (p.1, p.2, value_many ts several) (c.in_err-array_document.ensures.document form top ts decodes h)
+    rw (err_is c.from_residual.ensures.1, value_many ts several) (c.in_err-array_document.ensures.document form top ts decodes h)
 
 pub returns-then-selected_len-gt1-clause-document : goal.returns-then-selected_len-gt1-clause-document
 returns-then-selected_len-gt1-clause-document c = λ form top ts decodes h.

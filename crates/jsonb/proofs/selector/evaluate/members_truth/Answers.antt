@@ -1,35 +1,29 @@
-use Rattle.std.proofs.Common.{◌≡◌, Ok, Err, ap, sym, ◌∙◌, subst, flat_map}
-use Rattle.std.proofs.lemmas.Result.{err_from_is_err_and}
-use Rattle.std.specs.List.{AllZip}
-use Rattle.jsonb_doc.specs.Representation.Positions.{Locates}
+use Rattle.std.proofs.Common.{◌≡◌, Ok, ap, sym, ◌∙◌, flat_map}
 use Rattle.jsonb.specs.Compare.{compare}
 use Rattle.jsonb.specs.Private.Selection.{values_view}
 use Rattle.jsonb.specs.Values.{values_of_item}
 use Rattle.jsonb.specs.declared.selector.document.Expressions.TheVariants.{AreRefused}
-use Rattle.jsonb.proofs.RefinesLemmas.{same_outcome, same_answer, first_refused, second_refused, followed, only_memory}
+use Rattle.jsonb.proofs.RefinesLemmas.{failed_as, same_outcome, first_refused, second_refused, followed, only_memory}
 use Rattle.jsonb.proofs.TestLemmas.{both_members}
 use Rattle.jsonb.proofs.selector.evaluate.members_truth.Goals as goal
 
 pub returns-in_err-left-clause-meant : goal.returns-in_err-left-clause-meant
 returns-in_err-left-clause-meant c = λ e top t k m.
-    let p = err_from_is_err_and c.from_residual.result c.from_residual.ensures.1 in
-    same_answer (p.1 ∙ ap Err p.2) (same_outcome (both_members c.args.comparison.now e c.args.mode top t k)
+    failed_as c.from_residual.ensures.1 (same_outcome (both_members c.args.comparison.now e c.args.mode top t k)
     (first_refused _ (c.in_err-left.ensures.meant AreRefused top t k.left m)))
 
 pub returns-in_err-right-clause-meant : goal.returns-in_err-right-clause-meant
 returns-in_err-right-clause-meant c = λ e top t k m.
-    let p = err_from_is_err_and c.from_residual-in_err-right.result c.from_residual-in_err-right.ensures.1 in
-    same_answer (p.1 ∙ ap Err p.2) (same_outcome (both_members c.args.comparison.now e c.args.mode top t k)
+    failed_as c.from_residual-in_err-right.ensures.1 (same_outcome (both_members c.args.comparison.now e c.args.mode top t k)
     (second_refused (λ ls rs. Ok (compare c.args.comparison.now.op (flat_map values_of_item ls) (flat_map values_of_item rs)))
     (c.in_ok-left.ensures.meant AreRefused top t k.left m) (c.in_err-right.ensures.meant AreRefused top t k.right m)))
 
 pub returns-in_err-rights-clause-meant : goal.returns-in_err-rights-clause-meant
 returns-in_err-rights-clause-meant c = λ e top t k m.
-    let p = err_from_is_err_and c.from_residual-in_err-rights.result c.from_residual-in_err-rights.ensures.1 in
-    same_answer (p.1 ∙ ap Err p.2) (same_outcome (both_members c.args.comparison.now e c.args.mode top t k)
+    failed_as c.from_residual-in_err-rights.ensures.1 (same_outcome (both_members c.args.comparison.now e c.args.mode top t k)
     (followed _ (c.in_ok-left.ensures.meant AreRefused top t k.left m) (λ ls a.
     followed _ (c.in_ok-right.ensures.meant AreRefused top t k.right m) (λ rs b.
-    only_memory (c.in_err-rights.ensures.meant rs (subst (λ l. AllZip (Locates c.args.bytes.now) l rs) (sym c.at_most_one.ensures) b))))))
+    only_memory (c.in_err-rights.ensures.meant rs (rw (sym c.at_most_one.ensures) at b))))))
 
 pub returns-clause-meant : goal.returns-clause-meant
 returns-clause-meant c = λ e top t k m.
@@ -37,6 +31,6 @@ returns-clause-meant c = λ e top t k m.
     (followed _ (c.in_ok-left.ensures.meant AreRefused top t k.left m) (λ ls a.
     followed _ (c.in_ok-right.ensures.meant AreRefused top t k.right m) (λ rs b.
     let values : values_view c.in_ok-rights.rights ≡ flat_map values_of_item rs =
-    (c.in_ok-rights.ensures.meant rs (subst (λ l. AllZip (Locates c.args.bytes.now) l rs) (sym c.at_most_one.ensures) b)).ok in
+    (c.in_ok-rights.ensures.meant rs (rw (sym c.at_most_one.ensures) at b)).ok in
     same_outcome (ap (λ v. Ok (compare c.args.comparison.now.op (flat_map values_of_item ls) v)) (sym values ∙ sym c.as_slice.ensures))
     (c.found_truth.ensures.meant ls a))))

@@ -1,12 +1,11 @@
-use Rattle.std.proofs.Common.{[], ◌∷◌, Ok, Err, Some, ap, sym, ◌∙◌, refl}
-use Rattle.std.proofs.lemmas.Result.{err_from_is_err_and}
+use Rattle.std.proofs.Common.{[], ◌∷◌, Ok, Some, ap, sym, ◌∙◌, refl}
 use Rattle.jsonb_doc.specs.Answer.{and_then}
 use Rattle.jsonb_doc.specs.Representation.Positions.{Locates}
 use Rattle.jsonb.specs.Meaning.{steps_meaning, is_some_item}
 use Rattle.jsonb.specs.PathTree.{steps_of}
 use Rattle.jsonb.specs.PathViews.{steps_view}
 use Rattle.jsonb.specs.declared.selector.document.Expressions.TheVariants.{AreRefused}
-use Rattle.jsonb.proofs.RefinesLemmas.{same_outcome, same_answer, first_refused, one_ok}
+use Rattle.jsonb.proofs.RefinesLemmas.{failed_as, same_outcome, first_refused, one_ok}
 use Rattle.jsonb.proofs.KeptLemmas.{known}
 use Rattle.jsonb.proofs.StepLemmas.{refused_steps}
 use Rattle.jsonb.proofs.TestLemmas.{found_is_item}
@@ -22,8 +21,7 @@ returns-in-MembersCompared-clause-meant c = λ e top t q m.
 pub returns-in_err-found-in-MemberFound-clause-meant : goal.returns-in_err-found-in-MemberFound-clause-meant
 returns-in_err-found-in-MemberFound-clause-meant c = λ e top t q m.
     let k = rw c.in-MemberFound.is at q in
-    let p = err_from_is_err_and c.from_residual.result c.from_residual.ensures.1 in
-    same_answer (p.1 ∙ ap Err p.2) (same_outcome (k.finds c.args.mode top t
+    failed_as c.from_residual.ensures.1 (same_outcome (k.finds c.args.mode top t
     ∙ ap (λ l. and_then (steps_meaning c.args.mode (steps_of l) top (t ∷ [])) (λ ts. Ok (Some (is_some_item ts)))) (sym (refused_steps (steps_view c.in-MemberFound.asked.names.now))))
     (first_refused (λ ts. Ok (Some (is_some_item ts))) (c.in_err-found-in-MemberFound.ensures.meant AreRefused top t k.members (rw c.spot_by_parts-in-MemberFound.ensures m))))
 

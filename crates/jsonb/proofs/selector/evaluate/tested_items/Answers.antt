@@ -1,9 +1,6 @@
-use Rattle.std.proofs.Common.{Err, ap, subst, ◌∙◌}
-use Rattle.std.proofs.lemmas.Result.{err_from_is_err_and}
 use Rattle.jsonb.specs.PathTree.{filter}
 use Rattle.jsonb.specs.Meaning.{step_meaning}
-use Rattle.jsonb.specs.Private.Tests.{ArePlainTestsOf}
-use Rattle.jsonb.proofs.RefinesLemmas.{same_answer}
+use Rattle.jsonb.proofs.RefinesLemmas.{failed_as}
 use Rattle.jsonb.proofs.Progress.{none_passed, spot_passed, spot_not_passed, all_passed}
 use Rattle.jsonb.proofs.TestLemmas.{no_tests}
 use Rattle.jsonb.proofs.selector.evaluate.tested_items.Goals as goal
@@ -18,26 +15,24 @@ loop-item-init c = λ e top ts k a.
 
 pub returns-in_err-push_tested-in-Compared-clause-meant : goal.returns-in_err-push_tested-in-Compared-clause-meant
 returns-in_err-push_tested-in-Compared-clause-meant c = λ e top ts k a.
-    let p = err_from_is_err_and c.from_residual.result c.from_residual.ensures.1 in
-    same_answer (p.1 ∙ ap Err p.2)
+    failed_as c.from_residual.ensures.1
     (spot_not_passed (step_meaning c.args.mode (filter e) top) c.args.bytes.now c.args.items.now ts c.loop-item.item-index c.loop-item.nodes.items
     c.push_tested.new.nodes.items (c.loop-item.invariant e top ts k a) _ _ c.loop-item-test.true
-    (λ u before s b. c.in_err-push_tested-in-Compared.ensures.meant e top u before (subst (λ l. ArePlainTestsOf l e) c.in-Some.ensures.cases.0 k) s
+    (λ u before s b. c.in_err-push_tested-in-Compared.ensures.meant e top u before (rw c.in-Some.ensures.cases.0 at k) s
     (λ condition h. let is = rw c.in-Compared.is at h in
     c.literal_truth-truth.ensures.meant condition c.args.mode top u is (c.compared_member-found.ensures.meant top u is.members s)) b))
 
 pub returns-in_err-push_tested-in_default-question-clause-meant : goal.returns-in_err-push_tested-in_default-question-clause-meant
 returns-in_err-push_tested-in_default-question-clause-meant c = λ e top ts k a.
-    let p = err_from_is_err_and c.from_residual-in_err-push_tested-in_default-question.result c.from_residual-in_err-push_tested-in_default-question.ensures.1 in
-    same_answer (p.1 ∙ ap Err p.2)
+    failed_as c.from_residual-in_err-push_tested-in_default-question.ensures.1
     (spot_not_passed (step_meaning c.args.mode (filter e) top) c.args.bytes.now c.args.items.now ts c.loop-item.item-index c.loop-item.nodes.items
     c.push_tested-in_default-question.new.nodes.items (c.loop-item.invariant e top ts k a) _ _ c.loop-item-test.true
-    (λ u before s b. c.in_err-push_tested-in_default-question.ensures.meant e top u before (subst (λ l. ArePlainTestsOf l e) c.in-Some.ensures.cases.0 k) s
+    (λ u before s b. c.in_err-push_tested-in_default-question.ensures.meant e top u before (rw c.in-Some.ensures.cases.0 at k) s
     (λ condition h. c.question_truth-truth.ensures.meant condition top u h s) b))
 
 pub loop-item-preserved : goal.loop-item-preserved
 loop-item-preserved c = λ e top ts k a.
-    let compiled = subst (λ l. ArePlainTestsOf l e) c.in-Some.ensures.cases.0 k in
+    let compiled = rw c.in-Some.ensures.cases.0 at k in
     elim c.match-first.branch [
       | in-Compared+in_ok-push_tested-in-Compared w ↦ rw w.nodes-is (spot_passed (step_meaning c.args.mode (filter e) top) c.args.bytes.now c.args.items.now ts
           c.loop-item.item-index c.loop-item.nodes.items w.push_tested.new.nodes.items (c.loop-item.invariant e top ts k a) c.loop-item-test.true

@@ -1,20 +1,19 @@
-use Rattle.std.proofs.Common.{◌≡◌, ◌≤◌, ◌+◌, ◌-◌, length, Ok, Err, ap, ◌∙◌, refl, sym, subst, reverse, arith}
-use Rattle.std.proofs.lemmas.Result.{err_from_is_err_and}
+use Rattle.std.proofs.Common.{◌-◌, Ok, ap, ◌∙◌, refl, sym, arith}
 use Rattle.std.proofs.Math.Seq.{take-length}
 use Rattle.jsonb_doc.specs.Answer.{and_then}
 use Rattle.jsonb.specs.Meaning.{filtered}
 use Rattle.jsonb.specs.Private.Jumps.{evaluated}
-use Rattle.jsonb.specs.Private.Tests.{IsPlainQuestionOf, AreBranches}
-use Rattle.jsonb.proofs.RefinesLemmas.{same_outcome, same_answer, first_of_three_refused}
+use Rattle.jsonb.specs.Private.Tests.{IsPlainQuestionOf}
+use Rattle.jsonb.proofs.RefinesLemmas.{failed_as, same_outcome, first_of_three_refused}
 use Rattle.jsonb.proofs.KeptLemmas.{known, value_is}
 use Rattle.jsonb.proofs.TestLemmas.{next_test, test_done, no_test, settled}
 use Rattle.jsonb.proofs.selector.evaluate.tests_truth.Goals as goal
 
 pub loop-left-init : goal.loop-left-init
 loop-left-init c = record {
-  within = let all : length c.args.tests.now ≤ length c.args.tests.now = omega arith in all;
+  within = omega arith;
   meant = λ branches top t a m.
-      (branches, subst (λ l. AreBranches IsPlainQuestionOf (reverse l) branches) (sym (take-length c.args.tests.now)) a, refl);
+      (branches, rw (sym (take-length c.args.tests.now)) at a, refl);
 }
 
 pub returns-then-is_settled-clause-meant : goal.returns-then-is_settled-clause-meant
@@ -22,7 +21,7 @@ returns-then-is_settled-clause-meant c = λ branches top t a m.
     let inv = c.loop-left.invariant.meant branches top t a m in
     let i = c.loop-left.left - 1 in
     let next = next_test c.args.tests.now c.loop-left.left i c.index-tests-left.result inv.0 c.loop-left.state c.args.mode top t
-    c.loop-left.invariant.within (let l : c.loop-left.left ≡ i + 1 = omega (arith, c.loop-left-test.true) in l) c.index-tests-left.is inv.1 in
+    c.loop-left.invariant.within (omega (arith, c.loop-left-test.true)) c.index-tests-left.is inv.1 in
     known (ap (λ o. and_then o (λ b. Ok (filtered t b))) (inv.2
     ∙ test_done next c.in_ok-truth.truth c.next_jump-state.result
     (value_is (c.in_ok-truth.ensures.meant next.condition top t next.question m).ok) c.next_jump-state.ensures)
@@ -34,19 +33,18 @@ returns-in_err-truth-clause-meant c = λ branches top t a m.
     let inv = c.loop-left.invariant.meant branches top t a m in
     let i = c.loop-left.left - 1 in
     let next = next_test c.args.tests.now c.loop-left.left i c.index-tests-left.result inv.0 c.loop-left.state c.args.mode top t
-    c.loop-left.invariant.within (let l : c.loop-left.left ≡ i + 1 = omega (arith, c.loop-left-test.true) in l) c.index-tests-left.is inv.1 in
-    let p = err_from_is_err_and c.from_residual.result c.from_residual.ensures.1 in
-    same_answer (p.1 ∙ ap Err p.2) (same_outcome (ap (λ o. and_then o (λ b. Ok (filtered t b))) (inv.2 ∙ next.is))
+    c.loop-left.invariant.within (omega (arith, c.loop-left-test.true)) c.index-tests-left.is inv.1 in
+    failed_as c.from_residual.ensures.1 (same_outcome (ap (λ o. and_then o (λ b. Ok (filtered t b))) (inv.2 ∙ next.is))
     (first_of_three_refused _ (λ b. Ok (filtered t b)) (c.in_err-truth.ensures.meant next.condition top t next.question m)))
 
 pub loop-left-preserved : goal.loop-left-preserved
 loop-left-preserved c = record {
-  within = let most = c.loop-left.invariant.within in let k : c.loop-left.left - 1 ≤ length c.args.tests.now = omega (arith, most) in k;
+  within = omega (arith, c.loop-left.invariant.within);
   meant = λ branches top t a m.
       let inv = c.loop-left.invariant.meant branches top t a m in
       let i = c.loop-left.left - 1 in
       let next = next_test c.args.tests.now c.loop-left.left i c.index-tests-left.result inv.0 c.loop-left.state c.args.mode top t
-      c.loop-left.invariant.within (let l : c.loop-left.left ≡ i + 1 = omega (arith, c.loop-left-test.true) in l) c.index-tests-left.is inv.1 in (
+      c.loop-left.invariant.within (omega (arith, c.loop-left-test.true)) c.index-tests-left.is inv.1 in (
         next.behind,
         next.left,
         inv.2

@@ -1,10 +1,8 @@
-use Rattle.std.proofs.Common.{◌≡◌, ◌++◌, ◌∷◌, [], ◌<◌, ap, sym, ◌∙◌, subst, arith, if◌then◌else◌}
+use Rattle.std.proofs.Common.{◌≡◌, ◌∷◌, [], ◌<◌, ap, sym, ◌∙◌, arith, if◌then◌else◌}
 use Rattle.jsonb_doc.proofs.SpotsTaken.{no_refusal}
-use Rattle.jsonb_doc.specs.Representation.Positions.{Locates}
 use Rattle.jsonb_doc.specs.AnyBytes.Spots.{spots_bound}
 use Rattle.jsonb_doc.specs.Tree.{children_of}
 use Rattle.jsonb.specs.Preorder.{preorder}
-use Rattle.std.specs.List.{AllZip}
 use Rattle.jsonb.proofs.BelowLemmas.{none_passed, leaf_passed, next_left, none_left}
 use Rattle.jsonb.proofs.LevelLemmas.{preorder-leaf}
 use Rattle.jsonb.proofs.Progress.{spot_first, spot_end}
@@ -27,7 +25,7 @@ pub returns-then-is_container-clause-meant : goal.returns-then-is_container-clau
 returns-then-is_container-clause-meant c = λ bytes levels n ts before l m a.
     let w = c.loop-child.invariant.passed bytes levels n ts before l m a in
     next_left bytes levels n ts before _ _ _ _ w
-    (spot_first bytes _ _ _ _ c.in_ok-child.was c.in-Some.ensures.steps w.rest w.left)
+    (spot_first bytes c.in_ok-child.was c.in-Some.ensures.steps w.rest w.left)
 
 pub returns-then-is_container-clause-size : goal.returns-then-is_container-clause-size
 returns-then-is_container-clause-size c = omega (arith, c.loop-child.invariant.room, rw c.in_ok-child.was at c.in-Some.ensures.steps.any_bytes.size)
@@ -48,16 +46,15 @@ loop-child-preserved c =
       bound = omega (arith, c.loop-child.invariant.bound, fewer);
       passed = λ bytes levels n ts before l m a.
           let w = c.loop-child.invariant.passed bytes levels n ts before l m a in
-          let f = spot_first bytes _ _ _ _ c.in_ok-child.was c.in-Some.ensures.steps w.rest w.left in
+          let f = spot_first bytes c.in_ok-child.was c.in-Some.ensures.steps w.rest w.left in
           let leaf = none_of (children_of f.first) (sym (c.is_container.ensures bytes f.first f.holds) ∙ c.if-is_container.false) in
           let own_is : (if c.args.is_taken then f.first ∷ [] else []) ≡ preorder levels n f.first =
           ap (λ b. if b then f.first ∷ [] else []) l ∙ sym (preorder-leaf levels n f.first leaf) in
           leaf_passed bytes levels n ts before _ _ _ _ _ w f
-          (λ given done. subst (λ us. AllZip (Locates bytes) c.push_if.new.nodes.items (given ++ us)) own_is
-          ((c.in_ok-push_if.ensures.meant bytes f.first given f.holds done).ok));
+          (λ given done. rw own_is at ((c.in_ok-push_if.ensures.meant bytes f.first given f.holds done).ok));
     }
 
 pub returns-clause-meant : goal.returns-clause-meant
 returns-clause-meant c = λ bytes levels n ts before l m a.
     let w = c.loop-child.invariant.passed bytes levels n ts before l m a in
-    none_left bytes levels n ts before _ _ w (spot_end bytes _ _ c.in_default.ensures.steps w.rest w.left)
+    none_left bytes levels n ts before _ _ w (spot_end bytes c.in_default.ensures.steps w.rest w.left)

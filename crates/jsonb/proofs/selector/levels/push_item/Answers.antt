@@ -1,8 +1,6 @@
-use Rattle.std.proofs.Common.{◌++◌, [], ◌∷◌, ap, subst, if◌then◌else◌, arith}
+use Rattle.std.proofs.Common.{arith}
 use Rattle.jsonb_doc.specs.Tree.{children_of}
-use Rattle.jsonb_doc.specs.Representation.Positions.{Locates}
 use Rattle.jsonb_doc.proofs.SpotsTaken.{some_spots, no_spots}
-use Rattle.std.specs.List.{AllZip}
 use Rattle.jsonb.proofs.LevelLemmas.{preorder-entered, preorder-leaf}
 use Rattle.jsonb.proofs.LevelRanges.{range_taken, preorder-passed}
 use Rattle.jsonb.proofs.selector.levels.push_item.Goals as goal
@@ -13,28 +11,18 @@ returns-in_err-children-clause-meant c = λ levels u n before ranged l m a. absu
 pub returns-in-Some-clause-meant : goal.returns-in-Some-clause-meant
 returns-in-Some-clause-meant c = λ levels u n before ranged l m a.
     let found = some_spots c.args.bytes.now c.in-Some.children (children_of u) (rw c.in-Some.is at (c.in_ok-children.ensures.spots u m)) in (
-      subst (λ l. AllZip (Locates c.args.bytes.now) c.push_if.new.nodes.items (before ++ l))
-          (ap (λ b. if b then u ∷ [] else []) (range_taken levels _ _ n _ ranged l c.contains.ensures))
-          ((c.in_ok-push_if.ensures.meant c.args.bytes.now u before m a).ok),
-      (
-        found.0,
-        (found.2, c.next_level.ensures n l),
-        preorder-entered levels n u found.0 found.1,
-      ),
+      rw (range_taken levels _ _ n _ ranged l c.contains.ensures) at (c.in_ok-push_if.ensures.meant c.args.bytes.now u before m a).ok,
+      (found.0, (found.2, c.next_level.ensures n l), preorder-entered levels n u found.0 found.1),
     )
 
 pub returns-in-None-clause-meant : goal.returns-in-None-clause-meant
 returns-in-None-clause-meant c = λ levels u n before ranged l m a. (
-  subst (λ l. AllZip (Locates c.args.bytes.now) c.push_if.new.nodes.items (before ++ l))
-      (ap (λ b. if b then u ∷ [] else []) (range_taken levels _ _ n _ ranged l c.contains.ensures))
-      ((c.in_ok-push_if.ensures.meant c.args.bytes.now u before m a).ok),
+  rw (range_taken levels _ _ n _ ranged l c.contains.ensures) at (c.in_ok-push_if.ensures.meant c.args.bytes.now u before m a).ok,
   preorder-leaf levels n u (no_spots c.args.bytes.now (children_of u) (rw c.in-None.is at (c.in_ok-children.ensures.spots u m))),
 )
 
 pub returns-then-range-level-clause-meant : goal.returns-then-range-level-clause-meant
 returns-then-range-level-clause-meant c = λ levels u n before ranged l m a. (
-  subst (λ l. AllZip (Locates c.args.bytes.now) c.push_if.new.nodes.items (before ++ l))
-      (ap (λ b. if b then u ∷ [] else []) (range_taken levels _ _ n _ ranged l c.contains.ensures))
-      ((c.in_ok-push_if.ensures.meant c.args.bytes.now u before m a).ok),
+  rw (range_taken levels _ _ n _ ranged l c.contains.ensures) at (c.in_ok-push_if.ensures.meant c.args.bytes.now u before m a).ok,
   preorder-passed levels n u (ranged.left n (omega (arith, l, c.if-range-level.true))),
 )

@@ -1,27 +1,19 @@
-use Rattle.std.proofs.Common.{◌++◌, Err, inl, ap, sym, ◌∙◌, refl, subst, arith}
-use Rattle.std.proofs.lemmas.Result.{err_from_is_err_and}
-use Rattle.jsonb_doc.specs.Representation.Positions.{Locates}
-use Rattle.std.specs.List.{AllZip}
-use Rattle.jsonb.proofs.RefinesLemmas.{same_answer}
+use Rattle.std.proofs.Common.{inl, sym, refl, arith}
+use Rattle.jsonb.proofs.RefinesLemmas.{answered, failed_with}
 use Rattle.jsonb.proofs.BelowLemmas.{no_levels, walk_begun, leaves_passed, all_passed, item_passed, item_entered, level_done, walk_done, told_first, falls_within, falls_beside, falls_done}
 use Rattle.jsonb.proofs.LevelRanges.{range_taken}
 use Rattle.jsonb.proofs.selector.levels.push_levels.Goals as goal
 
 pub returns-in_err-below-clause-meant : goal.returns-in_err-below-clause-meant
 returns-in_err-below-clause-meant c = λ u n before l m a.
-    let p = err_from_is_err_and c.from_residual.result c.from_residual.ensures.1 in
-    same_answer (p.1 ∙ ap Err p.2) (record {
-      ok = tt;
-      err = inl (c.in_err-below.ensures.meant c.args.levels u n before
-          c.of_step-range.ensures l m a);
-    })
+    failed_with c.from_residual.ensures.1
+    (inl (c.in_err-below.ensures.meant c.args.levels u n before
+    c.of_step-range.ensures l m a))
 
 pub returns-in_default-clause-meant : goal.returns-in_default-clause-meant
 returns-in_default-clause-meant c = λ u n before l m a.
-    let told = rw c.in_default.is at (c.in_ok-below.ensures.meant c.args.levels u n before c.of_step-range.ensures l m a) in record {
-      ok = subst (λ ts. AllZip (Locates c.args.bytes.now) c.push_item.new.nodes.items (before ++ ts)) (sym told.1) told.0;
-      err = tt;
-    }
+    let told = rw c.in_default.is at (c.in_ok-below.ensures.meant c.args.levels u n before c.of_step-range.ensures l m a) in answered
+    (rw (sym told.1) at told.0)
 
 pub walk-init : goal.walk-init
 walk-init c = record {
@@ -33,13 +25,9 @@ walk-init c = record {
 pub returns-in_err-container-clause-meant : goal.returns-in_err-container-clause-meant
 returns-in_err-container-clause-meant c = λ u n before l m a.
     let w = c.walk.invariant.whole u n before l m a in
-    let p = err_from_is_err_and c.from_residual-in_err-container.result c.from_residual-in_err-container.ensures.1 in
-    same_answer (p.1 ∙ ap Err p.2)
-    (record {
-      ok = tt;
-      err = inl (c.in_err-container.ensures.meant c.args.bytes.now c.args.levels w.level w.here w.given
-          (range_taken c.args.levels _ _ w.level _ c.of_step-range.ensures w.deep c.contains-is_taken.ensures) w.left w.done);
-    })
+    failed_with c.from_residual-in_err-container.ensures.1
+    (inl (c.in_err-container.ensures.meant c.args.bytes.now c.args.levels w.level w.here w.given
+    (range_taken c.args.levels _ _ w.level _ c.of_step-range.ensures w.deep c.contains-is_taken.ensures) w.left w.done))
 
 pub returns-in_err-below-in-Some-2-clause-meant : goal.returns-in_err-below-in-Some-2-clause-meant
 returns-in_err-below-in-Some-2-clause-meant c = λ u n before l m a.
@@ -47,13 +35,9 @@ returns-in_err-below-in-Some-2-clause-meant c = λ u n before l m a.
     let v = leaves_passed c.args.bytes.now c.args.levels _ _ _ _ _ _ _ w
     (rw c.in-Some-2.is at (c.in_ok-container.ensures.meant c.args.bytes.now c.args.levels w.level w.here w.given
     (range_taken c.args.levels _ _ w.level _ c.of_step-range.ensures w.deep c.contains-is_taken.ensures) w.left w.done)) in
-    let p = err_from_is_err_and c.from_residual-in_err-below-in-Some-2.result c.from_residual-in_err-below-in-Some-2.ensures.1 in
-    same_answer (p.1 ∙ ap Err p.2)
-    (record {
-      ok = tt;
-      err = inl (c.in_err-below-in-Some-2.ensures.meant c.args.levels v.left.first v.level v.given
-          c.of_step-range.ensures v.deep v.left.holds v.done);
-    })
+    failed_with c.from_residual-in_err-below-in-Some-2.ensures.1
+    (inl (c.in_err-below-in-Some-2.ensures.meant c.args.levels v.left.first v.level v.given
+    c.of_step-range.ensures v.deep v.left.holds v.done))
 
 pub walk-smaller-in-Some-below : goal.walk-smaller-in-Some-below
 walk-smaller-in-Some-below c =
@@ -110,11 +94,9 @@ walk-preserved c = record {
 
 pub returns-in-None-pop-clause-meant : goal.returns-in-None-pop-clause-meant
 returns-in-None-pop-clause-meant c = λ u n before l m a.
-    let w = c.walk.invariant.whole u n before l m a in record {
-      ok = walk_done c.args.bytes.now c.args.levels _ _ _
-          (all_passed c.args.bytes.now c.args.levels _ _ _ _ _ w
-          (rw c.in-None.is at (c.in_ok-container.ensures.meant c.args.bytes.now c.args.levels w.level w.here w.given
-          (range_taken c.args.levels _ _ w.level _ c.of_step-range.ensures w.deep c.contains-is_taken.ensures) w.left w.done)))
-          (no_levels c.walk.around.items (omega (arith, c.in-None-pop.ensures.cases.0, c.walk.around.ok.0)));
-      err = tt;
-    }
+    let w = c.walk.invariant.whole u n before l m a in answered
+    (walk_done c.args.bytes.now c.args.levels _ _ _
+    (all_passed c.args.bytes.now c.args.levels _ _ _ _ _ w
+    (rw c.in-None.is at (c.in_ok-container.ensures.meant c.args.bytes.now c.args.levels w.level w.here w.given
+    (range_taken c.args.levels _ _ w.level _ c.of_step-range.ensures w.deep c.contains-is_taken.ensures) w.left w.done)))
+    (no_levels c.walk.around.items (omega (arith, c.in-None-pop.ensures.cases.0, c.walk.around.ok.0))))

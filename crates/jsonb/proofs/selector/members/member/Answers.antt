@@ -1,13 +1,12 @@
-use Rattle.std.proofs.Common.{◌+◌, ◌∷◌, [], Err, IsOkAnd, map, drop, ap, sym, ◌∙◌, subst}
+use Rattle.std.proofs.Common.{◌+◌, ◌∷◌, [], IsOkAnd, map, drop, ap, sym, ◌∙◌, subst}
 use Rattle.std.proofs.Math.ListN.{drop_of_length-le}
-use Rattle.std.proofs.lemmas.Result.{err_from_is_err_and}
 use Rattle.jsonb_doc.specs.Representation.Positions.{Locates}
 use Rattle.jsonb.specs.PathTree.{steps_of}
 use Rattle.jsonb.specs.PathViews.{step_view, steps_view}
 use Rattle.std.specs.List.{AllZip}
 use Rattle.jsonb.specs.Meaning.{step_meaning, steps_meaning}
 use Rattle.jsonb.specs.Private.Selection.{option_spots, taken_step}
-use Rattle.jsonb.proofs.RefinesLemmas.{same_outcome, same_answer, first_refused, one_ok, continued}
+use Rattle.jsonb.proofs.RefinesLemmas.{failed_as, same_outcome, first_refused, one_ok, continued}
 use Rattle.jsonb.proofs.MemberLemmas.{none_left, no_member, one_member, member_first, member_next}
 use Rattle.jsonb.proofs.selector.members.member.Goals as goal
 
@@ -15,8 +14,7 @@ pub returns-in_err-next-clause-meant : goal.returns-in_err-next-clause-meant
 returns-in_err-next-clause-meant c = λ expressions top t all m.
     let inv = c.loop-step.invariant expressions top t all m in
     let first = member_first c.args.steps.now c.loop-step.step-index c.step-item.result c.loop-step-test.true c.step-item.is inv.2 in
-    let p = err_from_is_err_and c.from_residual.result c.from_residual.ensures.1 in
-    same_answer (p.1 ∙ ap Err p.2) (same_outcome
+    failed_as c.from_residual.ensures.1 (same_outcome
     (inv.3 ∙ member_next c.args.steps.now c.loop-step.step-index c.step-item.result c.loop-step-test.true
     c.step-item.is c.args.mode expressions top inv.0 first.0)
     (first_refused (steps_meaning c.args.mode (steps_of (map (taken_step expressions) (steps_view (drop (c.loop-step.step-index + 1) c.args.steps.now)))) top)

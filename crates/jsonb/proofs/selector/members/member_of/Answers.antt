@@ -1,5 +1,6 @@
+use Rattle.std.proofs.Common.{ap}
 use Rattle.jsonb.proofs.RefinesLemmas.{same_outcome}
 use Rattle.jsonb.proofs.selector.members.member_of.Goals as goal
 
 pub returns-in-Some-clause-meant : goal.returns-in-Some-clause-meant
-returns-in-Some-clause-meant c = λ top u n s. same_outcome (c.in-Some.ensures.member c.args.mode top u n) (c.field.ensures.meant u s)
+returns-in-Some-clause-meant c = λ top u n s. same_outcome (ap (λ f. f u) (c.in-Some.ensures c.args.mode top)) (c.field.ensures.meant u s)

@@ -1,10 +1,9 @@
-use Rattle.std.proofs.Common.{[], ◌∷◌, Err, IsOkAnd, ap, sym, ◌∙◌, subst}
-use Rattle.std.proofs.lemmas.Result.{err_from_is_err_and}
+use Rattle.std.proofs.Common.{[], ◌∷◌, IsOkAnd, ap, sym, ◌∙◌, subst}
+use Rattle.jsonb.proofs.RefinesLemmas.{err_is}
 use Rattle.jsonb.specs.PathTree.{steps_of}
 use Rattle.jsonb.specs.PathViews.{steps_view}
 use Rattle.jsonb.specs.Meaning.{steps_meaning}
 use Rattle.jsonb.specs.Private.Alike.{HasSame}
-use Rattle.jsonb.specs.Private.Running.{IsProgress}
 use Rattle.jsonb.specs.Private.Selection.{node_spots}
 use Rattle.jsonb.specs.declared.selector.document.Expressions.TheVariants.{AreRefused}
 use Rattle.jsonb.specs.declared.selector.document.Repeats.TheVariants.{AreDropped}
@@ -19,9 +18,7 @@ returns-in_err-found-clause-meant c = λ top t r at.
     let mode = c.args.context.now.mode in
     let ss = steps_view c.args.steps.now in
     let members = sym c.are_members.ensures ∙ c.if-not-are_members.false in
-    let p = err_from_is_err_and c.from_residual.result c.from_residual.ensures.1 in
-    subst (IsProgress c.args.context.now top AreDropped (steps_meaning mode (steps_of ss) top (t ∷ []))) (sym (p.1 ∙ ap Err p.2))
-    (as_refused (λ is. ap (λ l. steps_meaning mode (steps_of l) top (t ∷ [])) (sym (refused_steps ss)) ∙ is)
+    rw (err_is c.from_residual.ensures.1) (as_refused (λ is. ap (λ l. steps_meaning mode (steps_of l) top (t ∷ [])) (sym (refused_steps ss)) ∙ is)
     (c.in_err-found.ensures.meant AreRefused top t members at).err)
 
 pub returns-clause-meant : goal.returns-clause-meant

@@ -15,4 +15,4 @@ returns-then-are_members-clause-meant c = λ top t r h.
     (c.in_ok-found.ensures.meant c.args.expressions top t (sym c.are_members.ensures ∙ c.if-are_members.true) h)
 
 pub returns-in-Lax-clause-meant : goal.returns-in-Lax-clause-meant
-returns-in-Lax-clause-meant c = λ top t r h. rw (sym c.in-Lax.is) at (c.lax_search.ensures.meant top t r h)
+returns-in-Lax-clause-meant c = λ top t r h. rw (sym c.in-Lax.is) at (c.lax_search.ensures.meant top t h)

@@ -1,12 +1,10 @@
-use Rattle.std.proofs.Common.{[], Err, drop, map, ap, ◌∙◌, ◌+◌}
-use Rattle.std.proofs.lemmas.Result.{err_from_is_err_and}
-use Rattle.jsonb_doc.specs.Answer.{try_flat_map}
+use Rattle.std.proofs.Common.{[], map, ap}
 use Rattle.jsonb_doc.specs.Representation.Positions.{Locates}
 use Rattle.jsonb_doc.specs.View.{number_view}
 use Rattle.jsonb.specs.PathArithmetic.{all_numbers}
 use Rattle.std.specs.List.{AllZip}
 use Rattle.jsonb.specs.Values.{values_of_item}
-use Rattle.jsonb.proofs.RefinesLemmas.{same_answer, same_outcome, refused_as}
+use Rattle.jsonb.proofs.RefinesLemmas.{answered, failed_as, refused, same_outcome}
 use Rattle.jsonb.proofs.Progress.{no_spot, at_start, one_more, refused_in, at_end, list_first, list_end}
 use Rattle.jsonb.proofs.SignLemmas.{Behind, numbers_of_parts, more_behind}
 use Rattle.jsonb.proofs.selector.signed_items.item_numbers.Goals as goal
@@ -18,30 +16,16 @@ loop-item-init c = λ ts h.
 
 pub returns-in_err-push_item-clause-meant : goal.returns-in_err-push_item-clause-meant
 returns-in_err-push_item-clause-meant c = λ ts h.
-    let p = err_from_is_err_and c.from_residual-in_err-push_item.result c.from_residual-in_err-push_item.ensures.1 in
-    same_answer (p.1 ∙ ap Err p.2) (same_outcome (numbers_of_parts values_of_item ts)
-    (refused_in (λ t. all_numbers (values_of_item t)) _
-    (AllZip (Locates c.args.bytes.now) (drop c.loop-item.item-index c.args.items.now))
-    (AllZip (Locates c.args.bytes.now) (drop (c.loop-item.item-index + 1) c.args.items.now))
-    (Behind [] c.loop-item.numbers.items) (Behind [] c.push_item.new.numbers.items) _ _
-    (try_flat_map (λ t. all_numbers (values_of_item t)) ts) (c.loop-item.invariant ts h)
-    (list_first (Locates c.args.bytes.now) c.args.items.now c.loop-item.item-index no_spot c.loop-item-test.true)
-    (λ t before m d. refused_as (c.in_err-push_item.ensures.meant t m))))
+    failed_as c.from_residual-in_err-push_item.ensures.1 (same_outcome (numbers_of_parts values_of_item ts)
+    (refused (refused_in (c.loop-item.invariant ts h) (list_first (Locates c.args.bytes.now) c.args.items.now c.loop-item.item-index no_spot c.loop-item-test.true)
+    (λ t before m d. (c.in_err-push_item.ensures.meant t m).err))))
 
 pub loop-item-preserved : goal.loop-item-preserved
 loop-item-preserved c = λ ts h.
-    one_more (λ t. all_numbers (values_of_item t)) (AllZip (Locates c.args.bytes.now) (drop c.loop-item.item-index c.args.items.now))
-    (AllZip (Locates c.args.bytes.now) (drop (c.loop-item.item-index + 1) c.args.items.now))
-    (Behind [] c.loop-item.numbers.items) (Behind [] c.push_item.new.numbers.items) _
-    (try_flat_map (λ t. all_numbers (values_of_item t)) ts) (c.loop-item.invariant ts h)
-    (list_first (Locates c.args.bytes.now) c.args.items.now c.loop-item.item-index no_spot c.loop-item-test.true)
+    one_more (c.loop-item.invariant ts h) (list_first (Locates c.args.bytes.now) c.args.items.now c.loop-item.item-index no_spot c.loop-item-test.true)
     (λ t before m d.
     more_behind [] c.loop-item.numbers.items c.push_item.new.numbers.items (all_numbers (values_of_item t)) before d (c.in_ok-push_item.ensures.meant t m).ok)
 
 pub returns-clause-meant : goal.returns-clause-meant
-returns-clause-meant c = λ ts h. same_outcome (numbers_of_parts values_of_item ts) (record {
-  ok = at_end (λ t. all_numbers (values_of_item t)) (AllZip (Locates c.args.bytes.now) (drop c.loop-item.item-index c.args.items.now))
-      (Behind [] c.loop-item.numbers.items) (try_flat_map (λ t. all_numbers (values_of_item t)) ts) (c.loop-item.invariant ts h)
-      (list_end (Locates c.args.bytes.now) c.args.items.now c.loop-item.item-index c.loop-item-test.false);
-  err = tt;
-})
+returns-clause-meant c = λ ts h. same_outcome (numbers_of_parts values_of_item ts) (answered
+    (at_end (c.loop-item.invariant ts h) (list_end (Locates c.args.bytes.now) c.args.items.now c.loop-item.item-index c.loop-item-test.false)))

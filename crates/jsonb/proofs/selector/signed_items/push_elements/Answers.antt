@@ -1,11 +1,9 @@
-use Rattle.std.proofs.Common.{Err, map, ap, sym, ◌∙◌, append-nil}
-use Rattle.std.proofs.lemmas.Result.{err_from_is_err_and}
-use Rattle.jsonb_doc.specs.Answer.{try_flat_map}
-use Rattle.jsonb_doc.specs.Representation.Positions.{Locates, HasSpotsLeft}
+use Rattle.std.proofs.Common.{map, sym, append-nil}
+use Rattle.jsonb_doc.specs.Representation.Positions.{HasSpotsLeft}
 use Rattle.jsonb_doc.specs.View.{number_view}
 use Rattle.jsonb.specs.PathArithmetic.{all_numbers}
 use Rattle.jsonb.specs.Values.{value_of_item}
-use Rattle.jsonb.proofs.RefinesLemmas.{same_answer, same_outcome, refused_as}
+use Rattle.jsonb.proofs.RefinesLemmas.{answered, failed_as, refused, same_outcome}
 use Rattle.jsonb.proofs.Progress.{at_start, one_more, refused_in, at_end, spot_first, spot_end, spot_refused}
 use Rattle.jsonb.proofs.SignLemmas.{Behind, numbers_of_parts, more_behind}
 use Rattle.jsonb.proofs.selector.signed_items.push_elements.Goals as goal
@@ -18,39 +16,20 @@ loop-element-init c = λ ts h.
 
 pub returns-in_err-element-clause-meant : goal.returns-in_err-element-clause-meant
 returns-in_err-element-clause-meant c = λ ts h.
-    spot_refused (λ t. all_numbers (value_of_item t)) (Behind c.args.numbers.now.items c.loop-element.numbers.items)
-    (try_flat_map (λ t. all_numbers (value_of_item t)) ts) c.args.bytes.now
-    c.loop-element.element-iterator _ c.in-Some.element _ c.in_err-element.was c.in-Some.ensures.steps (c.loop-element.invariant ts h)
+    spot_refused c.args.bytes.now c.in_err-element.was c.in-Some.ensures.steps (c.loop-element.invariant ts h)
 
 pub returns-in_err-push_element-clause-meant : goal.returns-in_err-push_element-clause-meant
 returns-in_err-push_element-clause-meant c = λ ts h.
-    let p = err_from_is_err_and c.from_residual-in_err-push_element.result c.from_residual-in_err-push_element.ensures.1 in
-    same_answer (p.1 ∙ ap Err p.2) (same_outcome (numbers_of_parts value_of_item ts)
-    (refused_in (λ t. all_numbers (value_of_item t)) _
-    (HasSpotsLeft c.args.bytes.now c.loop-element.element-iterator) (HasSpotsLeft c.args.bytes.now c.next.new.self)
-    (Behind c.args.numbers.now.items c.loop-element.numbers.items) (Behind c.args.numbers.now.items c.push_element.new.numbers.items)
-    (Locates c.args.bytes.now c.in_ok-element.field-0) _
-    (try_flat_map (λ t. all_numbers (value_of_item t)) ts) (c.loop-element.invariant ts h)
-    (spot_first c.args.bytes.now c.loop-element.element-iterator c.next.new.self c.in-Some.element
-    c.in_ok-element.field-0 c.in_ok-element.was c.in-Some.ensures.steps)
-    (λ t before m d. refused_as (c.in_err-push_element.ensures.meant t m))))
+    failed_as c.from_residual-in_err-push_element.ensures.1 (same_outcome (numbers_of_parts value_of_item ts)
+    (refused (refused_in (c.loop-element.invariant ts h) (spot_first c.args.bytes.now c.in_ok-element.was c.in-Some.ensures.steps)
+    (λ t before m d. (c.in_err-push_element.ensures.meant t m).err))))
 
 pub loop-element-preserved : goal.loop-element-preserved
 loop-element-preserved c = λ ts h.
-    one_more (λ t. all_numbers (value_of_item t)) (HasSpotsLeft c.args.bytes.now c.loop-element.element-iterator)
-    (HasSpotsLeft c.args.bytes.now c.next.new.self)
-    (Behind c.args.numbers.now.items c.loop-element.numbers.items) (Behind c.args.numbers.now.items c.push_element.new.numbers.items)
-    (Locates c.args.bytes.now c.in_ok-element.field-0)
-    (try_flat_map (λ t. all_numbers (value_of_item t)) ts) (c.loop-element.invariant ts h)
-    (spot_first c.args.bytes.now c.loop-element.element-iterator c.next.new.self c.in-Some.element
-    c.in_ok-element.field-0 c.in_ok-element.was c.in-Some.ensures.steps)
+    one_more (c.loop-element.invariant ts h) (spot_first c.args.bytes.now c.in_ok-element.was c.in-Some.ensures.steps)
     (λ t before m d. more_behind c.args.numbers.now.items c.loop-element.numbers.items c.push_element.new.numbers.items (all_numbers (value_of_item t))
     before d (c.in_ok-push_element.ensures.meant t m).ok)
 
 pub returns-clause-meant : goal.returns-clause-meant
-returns-clause-meant c = λ ts h. same_outcome (numbers_of_parts value_of_item ts) (record {
-  ok = at_end (λ t. all_numbers (value_of_item t)) (HasSpotsLeft c.args.bytes.now c.loop-element.element-iterator)
-      (Behind c.args.numbers.now.items c.loop-element.numbers.items) (try_flat_map (λ t. all_numbers (value_of_item t)) ts) (c.loop-element.invariant ts h)
-      (spot_end c.args.bytes.now c.loop-element.element-iterator c.next.new.self c.in-None.ensures.steps);
-  err = tt;
-})
+returns-clause-meant c = λ ts h. same_outcome (numbers_of_parts value_of_item ts) (answered
+    (at_end (c.loop-element.invariant ts h) (spot_end c.args.bytes.now c.in-None.ensures.steps)))

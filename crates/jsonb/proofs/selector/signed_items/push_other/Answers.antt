@@ -11,8 +11,7 @@ returns-in_err-elements-clause-meant c = λ t m. absurd (c.in_err-elements.ensur
 
 pub returns-in-Some-clause-meant : goal.returns-in-Some-clause-meant
 returns-in-Some-clause-meant c = λ t m.
-    let found = some_spots c.args.bytes.now c.in-Some.elements (array_values t)
-    (rw c.in-Some.is at (c.in_ok-elements.ensures.meant t m)) in
+    let found = some_spots c.args.bytes.now c.in-Some.elements (array_values t) (rw c.in-Some.is at (c.in_ok-elements.ensures.meant t m)) in
     same_outcome (ap all_numbers (values_of_array t found.0 found.1)) (c.push_elements.ensures.meant found.0 found.2)
 
 pub returns-in_err-spot_value-in-None-clause-meant : goal.returns-in_err-spot_value-in-None-clause-meant

@@ -1,22 +1,19 @@
-use Rattle.std.proofs.Common.{◌≡◌, Err, ap, sym, ◌∙◌, map, arith}
+use Rattle.std.proofs.Common.{◌≡◌, ap, sym, ◌∙◌, map, arith}
 use Rattle.std.specs.Vec.{with_items}
 use Rattle.std.proofs.lemmas.List.{with_items_is}
-use Rattle.std.proofs.lemmas.Result.{err_from_is_err_and}
 use Rattle.jsonb_doc.specs.Answer.{try_flat_map}
 use Rattle.jsonb_doc.specs.View.{number_view}
 use Rattle.jsonb.specs.PathArithmetic.{signed_number}
-use Rattle.jsonb.proofs.RefinesLemmas.{same_answer, same_outcome, refused_as, first_refused, followed}
+use Rattle.jsonb.proofs.RefinesLemmas.{failed_as, same_outcome, refused_as, first_refused, followed}
 use Rattle.jsonb.proofs.selector.signed_items.signed_items.Goals as goal
 
 pub returns-in_err-numbers-clause-meant : goal.returns-in_err-numbers-clause-meant
 returns-in_err-numbers-clause-meant c = λ ts h.
-    let p = err_from_is_err_and c.from_residual.result c.from_residual.ensures.1 in
-    same_answer (p.1 ∙ ap Err p.2) (first_refused (try_flat_map (signed_number c.args.op)) (c.in_err-numbers.ensures.meant ts h))
+    failed_as c.from_residual.ensures.1 (first_refused (try_flat_map (signed_number c.args.op)) (c.in_err-numbers.ensures.meant ts h))
 
 pub returns-in_err-sign_each-clause-meant : goal.returns-in_err-sign_each-clause-meant
 returns-in_err-sign_each-clause-meant c = λ ts h.
-    let p = err_from_is_err_and c.from_residual-in_err-sign_each.result c.from_residual-in_err-sign_each.ensures.1 in
-    same_answer (p.1 ∙ ap Err p.2) (followed (try_flat_map (signed_number c.args.op)) (c.in_ok-numbers.ensures.meant ts h) (λ ns is.
+    failed_as c.from_residual-in_err-sign_each.ensures.1 (followed (try_flat_map (signed_number c.args.op)) (c.in_ok-numbers.ensures.meant ts h) (λ ns is.
     same_outcome (ap (try_flat_map (signed_number c.args.op)) (sym is ∙ ap (map number_view) (sym c.deref_mut.ensures.value)))
     (refused_as c.in_err-sign_each.ensures.meant)))
 

@@ -1,11 +1,10 @@
-use Rattle.std.proofs.Common.{Ok, Err, flat_map, ap, ◌∙◌}
-use Rattle.std.proofs.lemmas.Result.{err_from_is_err_and}
+use Rattle.std.proofs.Common.{Ok, flat_map, ap, ◌∙◌}
 use Rattle.jsonb_doc.specs.Answer.{and_then}
 use Rattle.jsonb.specs.Values.{values_of_item}
 use Rattle.jsonb.specs.Meaning.{operand_values}
 use Rattle.jsonb.specs.Private.Selection.{values_view}
 use Rattle.jsonb.proofs.PathNodes.{paths_is}
-use Rattle.jsonb.proofs.RefinesLemmas.{same_outcome, same_answer, first_refused, followed}
+use Rattle.jsonb.proofs.RefinesLemmas.{failed_as, same_outcome, first_refused, followed}
 use Rattle.jsonb.proofs.RepeatLemmas.{same_values}
 use Rattle.jsonb.proofs.StepLemmas.{from_start}
 use Rattle.jsonb.proofs.selector.steps.operand_values.Goals as goal
@@ -13,8 +12,7 @@ use Rattle.jsonb.proofs.selector.steps.operand_values.Goals as goal
 pub returns-in_err-found-in-Paths-clause-meant : goal.returns-in_err-found-in-Paths-clause-meant
 returns-in_err-found-in-Paths-clause-meant c = λ top u r s.
     let mode = c.args.current.context.now.mode in
-    let p = err_from_is_err_and c.from_residual.result c.from_residual.ensures.1 in
-    same_answer (p.1 ∙ ap Err p.2) (same_outcome (ap (λ x. operand_values mode x top u) (paths_is c.args.e.now c.in-Paths.steps c.in-Paths.is)
+    failed_as c.from_residual.ensures.1 (same_outcome (ap (λ x. operand_values mode x top u) (paths_is c.args.e.now c.in-Paths.steps c.in-Paths.is)
     ∙ ap (λ o. and_then o (λ ts. Ok (flat_map values_of_item ts)))
     (from_start mode _ _ _ top u c.deref-in-Paths.ensures.value c.deref.ensures.value))
     (first_refused (λ ts. Ok (flat_map values_of_item ts)) (c.in_err-found-in-Paths.ensures.meant top _ r (c.start_spot-first.ensures top u r s))))

@@ -1,4 +1,4 @@
-use Rattle.std.proofs.Common.{Ok, ap, sym, ◌∙◌, subst, inl, inr}
+use Rattle.std.proofs.Common.{Ok, ap, sym, ◌∙◌, inl, inr}
 use Rattle.std.specs.List.{AllZip}
 use Rattle.jsonb_doc.specs.Answer.{try_flat_map, Refines, IsOutOfMemory}
 use Rattle.jsonb.specs.PathViews.{step_view}
@@ -23,12 +23,9 @@ returns-in-Root-clause-meant c = λ top ts plain a.
 pub returns-in-One-clause-meant : goal.returns-in-One-clause-meant
 returns-in-One-clause-meant c = λ top ts plain a.
     let f = step_meaning c.args.context.now.mode (step_view c.args.step.now) top in
-    let one = only_one (IsAt c.args.context.now.document) c.in-One.item ts (subst (λ x. AllZip (IsAt c.args.context.now.document) (node_spots x) ts)
-    c.in-One.is a) in
+    let one = only_one (IsAt c.args.context.now.document) c.in-One.item ts (rw c.in-One.is at a) in
     same_outcome (ap (try_flat_map f) one.1 ∙ joined_one f one.0) (c.plain_step.ensures.meant top one.0 plain one.2)
 
 pub returns-in-Many-clause-meant : goal.returns-in-Many-clause-meant
 returns-in-Many-clause-meant c = λ top ts plain a.
-    c.plain_steps.ensures.meant top ts plain
-    (subst (λ l. AllZip (IsAt c.args.context.now.document) l ts) (sym c.deref.ensures.value)
-    (subst (λ x. AllZip (IsAt c.args.context.now.document) (node_spots x) ts) c.in-Many.is a))
+    c.plain_steps.ensures.meant top ts plain (rw (sym c.deref.ensures.value) at (rw c.in-Many.is at a))

@@ -1,20 +1,16 @@
-use Rattle.std.proofs.Common.{[], Err, ap, sym, ◌∙◌, subst}
-use Rattle.std.proofs.lemmas.Result.{err_from_is_err_and}
+use Rattle.std.proofs.Common.{[], sym, subst}
 use Rattle.jsonb_doc.specs.Representation.Positions.{Locates}
 use Rattle.std.specs.List.{AllZip}
-use Rattle.jsonb.proofs.RefinesLemmas.{same_answer, refused_as}
+use Rattle.jsonb.proofs.RefinesLemmas.{answered, failed_as, refused_as}
 use Rattle.jsonb.proofs.selector.steps.plain_step.Goals as goal
 
 pub returns-in_err-push_step-clause-meant : goal.returns-in_err-push_step-clause-meant
 returns-in_err-push_step-clause-meant c = λ top u n s.
-    let p = err_from_is_err_and c.from_residual-in_err-push_step.result c.from_residual-in_err-push_step.ensures.1 in
-    same_answer (p.1 ∙ ap Err p.2)
+    failed_as c.from_residual-in_err-push_step.ensures.1
     (refused_as (c.in_err-push_step.ensures.meant top u [] n s
     (subst (λ l. AllZip (Locates c.args.bytes.now) l []) (sym c.new-nodes.ensures.items) tt)))
 
 pub returns-clause-meant : goal.returns-clause-meant
-returns-clause-meant c = λ top u n s. record {
-  ok = (c.in_ok-push_step.ensures.meant top u [] n s
-      (subst (λ l. AllZip (Locates c.args.bytes.now) l []) (sym c.new-nodes.ensures.items) tt)).ok;
-  err = tt;
-}
+returns-clause-meant c = λ top u n s. answered
+    ((c.in_ok-push_step.ensures.meant top u [] n s
+    (subst (λ l. AllZip (Locates c.args.bytes.now) l []) (sym c.new-nodes.ensures.items) tt)).ok)

@@ -1,10 +1,7 @@
-use Rattle.std.proofs.Common.{None, Ok, Err, ap, sym, ◌∙◌, subst, ◌≤◌, ◌+◌, arith}
-use Rattle.std.specs.Prelude.{reverse}
-use Rattle.std.proofs.lemmas.Result.{err_from_is_err_and}
+use Rattle.std.proofs.Common.{Err, ap, sym, ◌∙◌, ◌≤◌, ◌+◌, arith}
+use Rattle.jsonb.proofs.RefinesLemmas.{err_is}
 use Rattle.jsonb.specs.Meaning.{steps_meaning}
-use Rattle.jsonb.specs.Private.Alike.{SameOutcomes}
-use Rattle.jsonb.specs.Private.Asking.{IsAround, IsFilterTurn, IsFilterWaiting, IsOnward}
-use Rattle.jsonb.specs.Private.Running.{IsProgress, running_steps}
+use Rattle.jsonb.specs.Private.Running.{running_steps}
 use Rattle.jsonb.specs.Private.Weights.{running_weight, progress_weight, at_filter_weight, filter_weight, waits_weight, frame_weight, turn_weight, around_weight}
 use Rattle.jsonb.proofs.AroundLemmas.{onward_done, onward_waits}
 use Rattle.jsonb.proofs.WeightLemmas.{waits_weigh, beside, no_more}
@@ -13,44 +10,37 @@ use Rattle.jsonb.proofs.selector.steps.resume.Goals as goal
 pub returns-in_err-pending-clause-meant : goal.returns-in_err-pending-clause-meant
 returns-in_err-pending-clause-meant c = λ top o p q whole repeats r waiting same found around.
     let context = c.args.context.now in
-    let held = subst (λ g. IsFilterWaiting context top g c.args.frame.waits o p) (sym c.deref_mut.ensures.value) waiting in
-    let x = err_from_is_err_and c.from_residual.result c.from_residual.ensures.1 in
-    subst (IsOnward context top c.args.around.now.items repeats whole) (sym (x.1 ∙ ap Err x.2))
-    (onward_done context top c.args.around.now.items c.args.frame.filter.value.after.repeats repeats p q whole (Err _)
+    let held = rw (sym c.deref_mut.ensures.value) at waiting in
+    rw (err_is c.from_residual.ensures.1) (onward_done context top c.args.around.now.items c.args.frame.filter.value.after.repeats repeats p q whole (Err _)
     (c.in_err-pending.ensures.meant top o p r held found) same around)
 
 pub returns-in-Some-clause-meant : goal.returns-in-Some-clause-meant
 returns-in-Some-clause-meant c = λ top o p q whole repeats r waiting same found around.
     let context = c.args.context.now in
-    let held = subst (λ g. IsFilterWaiting context top g c.args.frame.waits o p) (sym c.deref_mut.ensures.value) waiting in
+    let held = rw (sym c.deref_mut.ensures.value) at waiting in
     let kept = sym (ap (λ a. a.repeats) c.in_ok-pending.ensures.same ∙ ap (λ g. g.after.repeats) c.deref_mut.ensures.value) in
-    let turn = subst (λ x. IsFilterTurn context top c.take.new.self p (Ok x)) c.in-Some.is (c.in_ok-pending.ensures.meant top o p r held found) in
+    let turn = rw c.in-Some.is at (c.in_ok-pending.ensures.meant top o p r held found) in
     onward_waits context top c.args.around.now.items c.wait.new.around.items _ c.in-Some.pending.value.path repeats turn.0 p q whole c.wait.result
-    c.wait.ensures.waits c.wait.ensures.errors turn.1 turn.2
-    (subst (λ x. SameOutcomes x p q) kept same)
-    (subst (λ x. IsAround context top (reverse c.args.around.now.items) x q repeats whole) kept around)
+    c.wait.ensures.waits c.wait.ensures.errors turn.1 turn.2 (rw kept at same) (rw kept at around)
 
 pub returns-in-None-clause-meant : goal.returns-in-None-clause-meant
 returns-in-None-clause-meant c = λ top o p q whole repeats r waiting same found around.
     let context = c.args.context.now in
     let now = c.args.frame.filter.value.after.repeats in
-    let held = subst (λ g. IsFilterWaiting context top g c.args.frame.waits o p) (sym c.deref_mut.ensures.value) waiting in
+    let held = rw (sym c.deref_mut.ensures.value) at waiting in
     let kept = ap (λ g. g.after.repeats) c.into_inner.ensures ∙ ap (λ a. a.repeats) c.in_ok-pending.ensures.same
     ∙ ap (λ g. g.after.repeats) c.deref_mut.ensures.value in
-    let turn = subst (λ g. IsFilterTurn context top g p (Ok None)) (sym c.into_inner.ensures)
-    (subst (λ x. IsFilterTurn context top c.take.new.self p (Ok x)) c.in-None.is (c.in_ok-pending.ensures.meant top o p r held found)) in
+    let turn = rw (sym c.into_inner.ensures) at (rw c.in-None.is at (c.in_ok-pending.ensures.meant top o p r held found)) in
     let done = steps_meaning context.mode (running_steps c.into_inner.result.after) top turn.0 in
     onward_done context top c.args.around.now.items now repeats done q whole c.finish.result
-    (subst (λ x. IsProgress context top x done c.finish.result) kept (c.finish.ensures.meant top turn.0 r turn.1))
-    (subst (λ x. SameOutcomes now x q) turn.2 same) around
+    (rw kept at (c.finish.ensures.meant top turn.0 r turn.1)) (rw turn.2 at same) around
 
 pub returns-in-Some-clause-fewer : goal.returns-in-Some-clause-fewer
 returns-in-Some-clause-fewer c =
     let around = around_weight c.args.around.now.items in
-    let lent = ap filter_weight c.deref_mut.ensures.value in
     let turn = ap (turn_weight c.take.new.self) c.in-Some.is in
     let low : at_filter_weight c.in-Some.pending.value.path.value + (around + (filter_weight c.take.new.self + waits_weight c.in-Some.pending.value.waits))
-    ≤ frame_weight c.args.frame + around = omega (arith, turn, lent, c.in_ok-pending.ensures.fewer) in
+    ≤ frame_weight c.args.frame + around = omega (arith, turn, ap filter_weight c.deref_mut.ensures.value, c.in_ok-pending.ensures.fewer) in
     no_more c.wait.result (λ next. progress_weight next + around_weight c.wait.new.around.items) _ _ low
     (waits_weigh c.args.around.now.items c.wait.new.around.items _ c.in-Some.pending.value.path c.wait.result c.wait.ensures.waits)
 

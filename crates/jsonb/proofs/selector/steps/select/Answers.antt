@@ -1,80 +1,63 @@
-use Rattle.std.proofs.Common.{◌≡◌, ◌+◌, ◌<◌, [], Ok, Err, IsOkAnd, refl, ap, sym, ◌∙◌, subst, arith}
+use Rattle.std.proofs.Common.{◌≡◌, [], refl, ap, sym, ◌∙◌, subst, arith}
 use Rattle.std.specs.Prelude.{reverse}
-use Rattle.std.proofs.lemmas.Result.{err_from_is_err_and}
-use Rattle.jsonb.specs.Private.Alike.{HasSame}
 use Rattle.jsonb.specs.Private.Asking.{IsAround}
-use Rattle.jsonb.specs.Private.Running.{IsAtFilter, IsProgress}
 use Rattle.jsonb.specs.Private.Selection.{node_spots}
-use Rattle.jsonb.specs.Private.Weights.{progress_weight, at_filter_weight, around_weight}
+use Rattle.jsonb.specs.Private.Weights.{progress_weight, around_weight}
 use Rattle.jsonb.proofs.AroundLemmas.{around_popped, around_none, dropped}
-use Rattle.jsonb.proofs.RefinesLemmas.{same_answer}
+use Rattle.jsonb.proofs.RefinesLemmas.{answered, failed_with}
 use Rattle.jsonb.proofs.TestLemmas.{none_waiting}
 use Rattle.jsonb.proofs.WeightLemmas.{around_pushed}
 use Rattle.jsonb.proofs.selector.steps.select.Goals as goal
 
 pub returns-in_err-progress-clause-meant : goal.returns-in_err-progress-clause-meant
 returns-in_err-progress-clause-meant c = λ top o r g.
-    let repeats = c.args.first.running.repeats in
-    let p = err_from_is_err_and c.from_residual.result c.from_residual.ensures.1 in
-    same_answer (p.1 ∙ ap Err p.2) (record {
-      ok = tt;
-      err = c.in_err-progress.ensures.meant top o o repeats r g
-          (subst (λ fs. IsAround c.args.context.now top (reverse fs) repeats o repeats o) (sym c.new-around.ensures.items) (refl, refl));
-    })
+    let repeats = c.args.first.value.running.repeats in
+    failed_with c.from_residual.ensures.1
+    (c.in_err-progress.ensures.meant top o o repeats r g
+    (subst (λ fs. IsAround c.args.context.now top (reverse fs) repeats o repeats o) (sym c.new-around.ensures.items) (refl, refl)))
 
 pub loop-progress-init : goal.loop-progress-init
 loop-progress-init c = λ top o r g.
-    let repeats = c.args.first.running.repeats in
+    let repeats = c.args.first.value.running.repeats in
     c.in_ok-progress.ensures.meant top o o repeats r g
     (subst (λ fs. IsAround c.args.context.now top (reverse fs) repeats o repeats o) (sym c.new-around.ensures.items) (refl, refl))
 
 pub returns-in_err-progress-in-AtFilter-clause-meant : goal.returns-in_err-progress-in-AtFilter-clause-meant
 returns-in_err-progress-in-AtFilter-clause-meant c = λ top o r g.
     let context = c.args.context.now in
-    let repeats = c.args.first.running.repeats in
+    let repeats = c.args.first.value.running.repeats in
     let inv = c.loop-progress.invariant top o r g in
-    let at = subst (λ x. IsProgress context top inv.0 inv.1 (Ok x)) c.in-AtFilter.is inv.2 in
-    let around = subst (λ p. IsAround context top (reverse c.loop-progress.around.items) p inv.1 repeats o) (sym at.0) inv.3 in
-    let p = err_from_is_err_and c.from_residual-in_err-progress-in-AtFilter.result c.from_residual-in_err-progress-in-AtFilter.ensures.1 in
-    same_answer (p.1 ∙ ap Err p.2) (record {
-      ok = tt;
-      err = c.in_err-progress-in-AtFilter.ensures.meant top inv.1 o repeats r
-          (subst (λ f. IsAtFilter context top f inv.1) (sym c.into_inner.ensures) at.1)
-          (subst (λ f. IsAround context top (reverse c.loop-progress.around.items) f.running.repeats inv.1 repeats o) (sym c.into_inner.ensures) around);
-    })
+    let at = rw c.in-AtFilter.is at inv.2 in
+    let around = rw (sym at.0) at inv.3 in
+    failed_with c.from_residual-in_err-progress-in-AtFilter.ensures.1 (c.in_err-progress-in-AtFilter.ensures.meant top inv.1 o repeats r at.1 around)
 
 pub loop-progress-preserved-in_ok-progress-in-AtFilter : goal.loop-progress-preserved-in_ok-progress-in-AtFilter
 loop-progress-preserved-in_ok-progress-in-AtFilter c = λ top o r g.
     let context = c.args.context.now in
-    let repeats = c.args.first.running.repeats in
+    let repeats = c.args.first.value.running.repeats in
     let inv = c.loop-progress.invariant top o r g in
-    let at = subst (λ x. IsProgress context top inv.0 inv.1 (Ok x)) c.in-AtFilter.is inv.2 in
-    let around = subst (λ p. IsAround context top (reverse c.loop-progress.around.items) p inv.1 repeats o) (sym at.0) inv.3 in
-    c.in_ok-progress-in-AtFilter.ensures.meant top inv.1 o repeats r
-    (subst (λ f. IsAtFilter context top f inv.1) (sym c.into_inner.ensures) at.1)
-    (subst (λ f. IsAround context top (reverse c.loop-progress.around.items) f.running.repeats inv.1 repeats o) (sym c.into_inner.ensures) around)
+    let at = rw c.in-AtFilter.is at inv.2 in
+    let around = rw (sym at.0) at inv.3 in
+    c.in_ok-progress-in-AtFilter.ensures.meant top inv.1 o repeats r at.1 around
 
 pub returns-in_err-progress-in-Some-clause-meant : goal.returns-in_err-progress-in-Some-clause-meant
 returns-in_err-progress-in-Some-clause-meant c = λ top o r g.
     let context = c.args.context.now in
-    let repeats = c.args.first.running.repeats in
+    let repeats = c.args.first.value.running.repeats in
     let inv = c.loop-progress.invariant top o r g in
-    let done = subst (λ x. IsProgress context top inv.0 inv.1 (Ok x)) c.in-Complete.is inv.2 in
+    let done = rw c.in-Complete.is at inv.2 in
     let w = around_popped context top c.loop-progress.around.items c.pop.new.self.items c.in-Some.frame inv.0 repeats inv.1 o
     c.in-Some.ensures.items inv.3 in
-    let p = err_from_is_err_and c.from_residual-in_err-progress-in-Some.result c.from_residual-in_err-progress-in-Some.ensures.1 in
-    same_answer (p.1 ∙ ap Err p.2) (record {
-      ok = tt;
-      err = c.in_err-progress-in-Some.ensures.meant top inv.1 w.0 w.1 o repeats r w.2 w.3
-          (dropped inv.0 context (node_spots c.in-Complete.found) inv.1 done) w.4;
-    })
+    failed_with c.from_residual-in_err-progress-in-Some.ensures.1
+    (c.in_err-progress-in-Some.ensures.meant top inv.1 w.0 w.1 o repeats r w.2 w.3
+    (dropped inv.0 context (node_spots c.in-Complete.found) inv.1 done) w.4)
 
 pub loop-progress-preserved : goal.loop-progress-preserved
 loop-progress-preserved c = λ top o r g.
     let context = c.args.context.now in
-    let repeats = c.args.first.running.repeats in
+    let repeats = c.args.first.value.running.repeats in
     let inv = c.loop-progress.invariant top o r g in
-    let done = subst (λ x. IsProgress context top inv.0 inv.1 (Ok x)) c.in-Complete.is inv.2 in
+    let done = rw c.in-Complete.is at inv.2 in
     let w = around_popped context top c.loop-progress.around.items c.pop.new.self.items c.in-Some.frame inv.0 repeats inv.1 o
     c.in-Some.ensures.items inv.3 in
     c.in_ok-progress-in-Some.ensures.meant top inv.1 w.0 w.1 o repeats r w.2 w.3 (dropped inv.0 context (node_spots c.in-Complete.found) inv.1 done) w.4
@@ -82,30 +65,21 @@ loop-progress-preserved c = λ top o r g.
 pub returns-in-None-clause-meant : goal.returns-in-None-clause-meant
 returns-in-None-clause-meant c = λ top o r g.
     let context = c.args.context.now in
-    let repeats = c.args.first.running.repeats in
+    let repeats = c.args.first.value.running.repeats in
     let inv = c.loop-progress.invariant top o r g in
-    let done = subst (λ x. IsProgress context top inv.0 inv.1 (Ok x)) c.in-Complete.is inv.2 in
+    let done = rw c.in-Complete.is at inv.2 in
     let spots = node_spots c.in-Complete.found in
     let empty : c.loop-progress.around.items ≡ [] =
     none_waiting c.loop-progress.around.items (omega (arith, c.in-None.ensures.cases.0, c.loop-progress.around.ok.0)) in
     let none = around_none context top c.loop-progress.around.items inv.0 repeats inv.1 o empty inv.3 in
-    record {
-      ok = subst (λ w. IsOkAnd w (HasSame repeats context.document.bytes.now spots)) none.1
-          (subst (λ p. IsOkAnd inv.1 (HasSame p context.document.bytes.now spots)) none.0 done);
-      err = tt;
-    }
+    answered (rw none.1 at (rw none.0 at done))
 
 pub loop-progress-smaller-in_ok-progress-in-AtFilter : goal.loop-progress-smaller-in_ok-progress-in-AtFilter
 loop-progress-smaller-in_ok-progress-in-AtFilter c =
     let before = ap progress_weight c.in-AtFilter.is in
-    let boxed = ap at_filter_weight c.into_inner.ensures in
-    let low : progress_weight c.in_ok-progress-in-AtFilter.progress + around_weight c.begin-in-AtFilter.new.around.items
-    < progress_weight c.loop-progress.progress + around_weight c.loop-progress.around.items = omega (arith, before, boxed, c.in_ok-progress-in-AtFilter.ensures.fewer) in low
+    omega (arith, before, c.in_ok-progress-in-AtFilter.ensures.fewer)
 
 pub loop-progress-smaller : goal.loop-progress-smaller
 loop-progress-smaller c =
-    let before = ap progress_weight c.in-Complete.is in
     let popped = ap around_weight c.in-Some.ensures.items ∙ around_pushed c.pop.new.self.items c.in-Some.frame in
-    let low : progress_weight c.in_ok-progress-in-Some.progress + around_weight c.resume.new.around.items
-    < progress_weight c.loop-progress.progress + around_weight c.loop-progress.around.items =
-    omega (arith, before, popped, c.in_ok-progress-in-Some.ensures.fewer) in low
+    omega (arith, ap progress_weight c.in-Complete.is, popped, c.in_ok-progress-in-Some.ensures.fewer)

@@ -1,10 +1,9 @@
-use Rattle.std.proofs.Common.{◌≡◌, ◌++◌, [], Ok, Err, drop, map, flat_map, ap, ◌∙◌, ◌+◌}
-use Rattle.std.proofs.lemmas.Result.{err_from_is_err_and}
+use Rattle.std.proofs.Common.{◌≡◌, ◌++◌, [], map, ap, ◌∙◌}
 use Rattle.jsonb_doc.specs.Representation.Positions.{Locates}
 use Rattle.std.specs.List.{AllZip}
 use Rattle.jsonb.specs.Values.{values_of_item}
 use Rattle.jsonb.specs.Private.Selection.{value_view}
-use Rattle.jsonb.proofs.RefinesLemmas.{same_answer, only_memory}
+use Rattle.jsonb.proofs.RefinesLemmas.{answered, failed_with, memory_only}
 use Rattle.jsonb.proofs.Progress.{no_spot, total_start, one_more, refused_in, at_end, list_first, list_end}
 use Rattle.jsonb.proofs.selector.values.many_values.Goals as goal
 
@@ -15,30 +14,15 @@ loop-item-init c = λ ts h.
 
 pub returns-in_err-push_values-clause-meant : goal.returns-in_err-push_values-clause-meant
 returns-in_err-push_values-clause-meant c = λ ts h.
-    let p = err_from_is_err_and c.from_residual-in_err-push_values.result c.from_residual-in_err-push_values.ensures.1 in
-    same_answer (p.1 ∙ ap Err p.2)
-    (only_memory (refused_in (λ t. Ok (values_of_item t)) (λ (_ : Unit {0}) vs. map value_view c.push_values.new.values.items ≡ vs)
-    (AllZip (Locates c.args.bytes.now) (drop c.loop-item.item-index c.args.items.now))
-    (AllZip (Locates c.args.bytes.now) (drop (c.loop-item.item-index + 1) c.args.items.now))
-    (λ vs. map value_view c.loop-item.values.items ≡ vs) (λ vs. map value_view c.push_values.new.values.items ≡ vs) _ _
-    (Ok (flat_map values_of_item ts)) (c.loop-item.invariant ts h)
-    (list_first (Locates c.args.bytes.now) c.args.items.now c.loop-item.item-index no_spot c.loop-item-test.true)
-    (λ t so_far m d. only_memory (c.in_err-push_values.ensures.meant t m))))
+    failed_with c.from_residual-in_err-push_values.ensures.1
+    (memory_only (refused_in (c.loop-item.invariant ts h) (list_first (Locates c.args.bytes.now) c.args.items.now c.loop-item.item-index no_spot c.loop-item-test.true)
+    (λ t so_far m d. memory_only (c.in_err-push_values.ensures.meant t m).err)))
 
 pub loop-item-preserved : goal.loop-item-preserved
 loop-item-preserved c = λ ts h.
-    one_more (λ t. Ok (values_of_item t)) (AllZip (Locates c.args.bytes.now) (drop c.loop-item.item-index c.args.items.now))
-    (AllZip (Locates c.args.bytes.now) (drop (c.loop-item.item-index + 1) c.args.items.now))
-    (λ vs. map value_view c.loop-item.values.items ≡ vs) (λ vs. map value_view c.push_values.new.values.items ≡ vs) _
-    (Ok (flat_map values_of_item ts)) (c.loop-item.invariant ts h)
-    (list_first (Locates c.args.bytes.now) c.args.items.now c.loop-item.item-index no_spot c.loop-item-test.true)
+    one_more (c.loop-item.invariant ts h) (list_first (Locates c.args.bytes.now) c.args.items.now c.loop-item.item-index no_spot c.loop-item-test.true)
     (λ t so_far m d. (c.in_ok-push_values.ensures.meant t m).ok ∙ ap (λ l. l ++ values_of_item t) d)
 
 pub returns-clause-meant : goal.returns-clause-meant
-returns-clause-meant c = λ ts h. record {
-  ok = at_end (λ t. Ok (values_of_item t)) (AllZip (Locates c.args.bytes.now) (drop c.loop-item.item-index c.args.items.now))
-      (λ vs. map value_view c.loop-item.values.items ≡ vs)
-      (Ok (flat_map values_of_item ts)) (c.loop-item.invariant ts h)
-      (list_end (Locates c.args.bytes.now) c.args.items.now c.loop-item.item-index c.loop-item-test.false);
-  err = tt;
-}
+returns-clause-meant c = λ ts h. answered
+    (at_end (c.loop-item.invariant ts h) (list_end (Locates c.args.bytes.now) c.args.items.now c.loop-item.item-index c.loop-item-test.false))

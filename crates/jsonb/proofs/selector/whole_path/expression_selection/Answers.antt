@@ -1,5 +1,4 @@
-use Rattle.std.proofs.Common.{[], ◌∷◌, Err, sym, ◌∙◌, ap, refl}
-use Rattle.std.proofs.lemmas.Result.{err_from_is_err_and}
+use Rattle.std.proofs.Common.{[], ◌∷◌, sym, ◌∙◌, ap, refl}
 use Rattle.jsonb_doc.specs.Answer.{and_then}
 use Rattle.jsonb_doc.specs.Tree.{number}
 use Rattle.jsonb_doc.specs.View.{number_view}
@@ -7,12 +6,12 @@ use Rattle.jsonb.specs.PathTree.{value}
 use Rattle.jsonb.specs.PathViews.{expression_view, literal_view}
 use Rattle.jsonb.specs.PathArithmetic.{operation, each_signed}
 use Rattle.jsonb.specs.Meaning.{operand_values, truth}
-use Rattle.jsonb.specs.Private.Calculation.{truth_list, binary_meaning}
-use Rattle.jsonb.specs.Private.Calculation.{calculation}
+use Rattle.jsonb.specs.Private.Calculation.{truth_list, binary_meaning, calculation}
 use Rattle.jsonb.specs.Private.Selection.{AreSelected}
-use Rattle.jsonb.proofs.RefinesLemmas.{same_outcome, same_answer, refused_as, one_given}
+use Rattle.jsonb.proofs.RefinesLemmas.{failed_as, same_outcome, refused_as, one_given}
 use Rattle.jsonb.proofs.PathNodes.{literal_is, unary_is, binary_is, exists_is}
-use Rattle.jsonb.proofs.WholeLemmas.{meant, some_of, none_of, is_outcome}
+use Rattle.jsonb.proofs.KeptLemmas.{value_is}
+use Rattle.jsonb.proofs.WholeLemmas.{meant, some_of, none_of}
 use Rattle.jsonb.proofs.selector.whole_path.expression_selection.Goals as goal
 
 pub returns-in-Value-clause-meant : goal.returns-in-Value-clause-meant
@@ -23,8 +22,7 @@ returns-in-Value-clause-meant c = λ form top outcome r h.
 
 pub returns-in_err-numbers-in-UnaryOp-clause-meant : goal.returns-in_err-numbers-in-UnaryOp-clause-meant
 returns-in_err-numbers-in-UnaryOp-clause-meant c = λ form top outcome r h.
-    let p = err_from_is_err_and c.from_residual.result c.from_residual.ensures.1 in
-    same_answer (p.1 ∙ ap Err p.2)
+    failed_as c.from_residual.ensures.1
     (same_outcome (meant form c.args.context.now.mode top outcome _ _ (unary_is c.args.e.now c.in-UnaryOp.op c.in-UnaryOp.operand c.in-UnaryOp.is) h
     ∙ ap (λ x. and_then (operand_values c.args.context.now.mode (expression_view x) top top) (each_signed c.in-UnaryOp.op))
     (sym c.deref-in-UnaryOp.ensures))
@@ -39,9 +37,8 @@ returns-in_ok-numbers-in-UnaryOp-clause-meant c = λ form top outcome r h.
 
 pub returns-in_err-number-in-BinaryOp-clause-meant : goal.returns-in_err-number-in-BinaryOp-clause-meant
 returns-in_err-number-in-BinaryOp-clause-meant c = λ form top outcome r h.
-    let p = err_from_is_err_and c.from_residual-in_err-number-in-BinaryOp.result c.from_residual-in_err-number-in-BinaryOp.ensures.1 in
     let o = some_of (operation c.in-BinaryOp.op) (sym c.is_arithmetic.ensures ∙ c.if-is_arithmetic.true) in
-    same_answer (p.1 ∙ ap Err p.2)
+    failed_as c.from_residual-in_err-number-in-BinaryOp.ensures.1
     (same_outcome (meant form c.args.context.now.mode top outcome _ _
     (binary_is c.args.e.now c.in-BinaryOp.op c.in-BinaryOp.left c.in-BinaryOp.right c.in-BinaryOp.is) h
     ∙ ap (λ x. binary_meaning c.args.context.now.mode x c.in-BinaryOp.op (expression_view c.in-BinaryOp.left.value)
@@ -59,7 +56,7 @@ returns-in_ok-number-in-BinaryOp-clause-meant c = λ form top outcome r h.
     (expression_view c.in-BinaryOp.right.value) top) o.1
     ∙ (λ i. calculation o.0 (operand_values c.args.context.now.mode (expression_view (sym c.deref-then-is_arithmetic.ensures i)) top top)
     (operand_values c.args.context.now.mode (expression_view (sym c.deref-then-is_arithmetic-2.ensures i)) top top))
-    ∙ is_outcome _ (number (number_view c.in_ok-number-in-BinaryOp.number) ∷ []) ((c.in_ok-number-in-BinaryOp.ensures.meant top o.0 r o.1).ok))
+    ∙ value_is {x = number (number_view c.in_ok-number-in-BinaryOp.number) ∷ []} ((c.in_ok-number-in-BinaryOp.ensures.meant top o.0 r o.1).ok))
     (one_given (AreSelected form c.args.context.now.document) _
     (c.one_item.ensures form c.args.context.now.document (number (number_view c.in_ok-number-in-BinaryOp.number)) refl))
 

@@ -1,14 +1,12 @@
-use Rattle.std.proofs.Common.{Ok, Err, None, sym, ◌∙◌, ap, refl}
-use Rattle.std.proofs.lemmas.Result.{err_from_is_err_and}
+use Rattle.std.proofs.Common.{Ok, None, sym, ◌∙◌, ap, refl}
 use Rattle.jsonb_doc.specs.Answer.{and_then}
 use Rattle.jsonb.specs.PathTree as math
 use Rattle.jsonb.specs.PathTree.{steps_of}
 use Rattle.jsonb.specs.PathViews.{steps_view, expression_view}
 use Rattle.jsonb.specs.PathArithmetic.{operation, each_signed}
 use Rattle.jsonb.specs.Meaning.{operand_values, truth}
-use Rattle.jsonb.specs.Private.Calculation.{expression_predicate}
-use Rattle.jsonb.specs.Private.Calculation.{calculation}
-use Rattle.jsonb.proofs.RefinesLemmas.{same_outcome, same_answer, first_refused, one_ok}
+use Rattle.jsonb.specs.Private.Calculation.{expression_predicate, calculation}
+use Rattle.jsonb.proofs.RefinesLemmas.{failed_as, same_outcome, first_refused, one_ok}
 use Rattle.jsonb.proofs.PredicateLemmas.{binary_predicate, predicate_by_cases}
 use Rattle.jsonb.proofs.PathNodes.{unary_is, binary_is, exists_is}
 use Rattle.jsonb.proofs.WholeLemmas.{some_of, none_of}
@@ -16,8 +14,7 @@ use Rattle.jsonb.proofs.selector.whole_path.expression_truth.Goals as goal
 
 pub returns-in_err-_numbers-in-UnaryOp-clause-meant : goal.returns-in_err-_numbers-in-UnaryOp-clause-meant
 returns-in_err-_numbers-in-UnaryOp-clause-meant c = λ top r.
-    let p = err_from_is_err_and c.from_residual.result c.from_residual.ensures.1 in
-    same_answer (p.1 ∙ ap Err p.2)
+    failed_as c.from_residual.ensures.1
     (same_outcome (ap (λ x. expression_predicate c.args.context.now.mode x top) (unary_is c.args.e.now c.in-UnaryOp.op c.in-UnaryOp.operand c.in-UnaryOp.is)
     ∙ predicate_by_cases c.args.context.now.mode (math.unary c.in-UnaryOp.op (expression_view c.in-UnaryOp.operand.value)) top
     ∙ ap (λ x. and_then (and_then (operand_values c.args.context.now.mode (expression_view x) top top) (each_signed c.in-UnaryOp.op))
@@ -36,9 +33,8 @@ returns-in_ok-_numbers-in-UnaryOp-clause-meant c = λ top r.
 
 pub returns-in_err-_number-in-BinaryOp-clause-meant : goal.returns-in_err-_number-in-BinaryOp-clause-meant
 returns-in_err-_number-in-BinaryOp-clause-meant c = λ top r.
-    let p = err_from_is_err_and c.from_residual-in_err-_number-in-BinaryOp.result c.from_residual-in_err-_number-in-BinaryOp.ensures.1 in
     let o = some_of (operation c.in-BinaryOp.op) (sym c.is_arithmetic.ensures ∙ c.if-is_arithmetic.true) in
-    same_answer (p.1 ∙ ap Err p.2)
+    failed_as c.from_residual-in_err-_number-in-BinaryOp.ensures.1
     (same_outcome (ap (λ x. expression_predicate c.args.context.now.mode x top)
     (binary_is c.args.e.now c.in-BinaryOp.op c.in-BinaryOp.left c.in-BinaryOp.right c.in-BinaryOp.is)
     ∙ predicate_by_cases c.args.context.now.mode

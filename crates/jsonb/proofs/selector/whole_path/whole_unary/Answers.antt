@@ -1,12 +1,9 @@
-use Rattle.std.proofs.Common.{Err, flat_map, sym, ◌∙◌, ap, subst}
-use Rattle.std.proofs.lemmas.Result.{err_from_is_err_and}
+use Rattle.std.proofs.Common.{flat_map, sym, ◌∙◌, ap}
 use Rattle.jsonb_doc.specs.Answer.{and_then}
 use Rattle.jsonb.specs.PathArithmetic.{each_signed}
-use Rattle.std.specs.List.{AllZip}
 use Rattle.jsonb.specs.Values.{values_of_item}
 use Rattle.jsonb.specs.Meaning.{operand_values}
-use Rattle.jsonb.specs.Private.Selection.{IsAt}
-use Rattle.jsonb.proofs.RefinesLemmas.{first_refused, followed, same_answer, same_outcome}
+use Rattle.jsonb.proofs.RefinesLemmas.{failed_as, first_refused, followed, same_outcome}
 use Rattle.jsonb.proofs.PathNodes.{paths_is}
 use Rattle.jsonb.proofs.RepeatLemmas.{exactly}
 use Rattle.jsonb.proofs.SignLemmas.{by_path}
@@ -14,8 +11,7 @@ use Rattle.jsonb.proofs.selector.whole_path.whole_unary.Goals as goal
 
 pub returns-in_err-found-in-Paths-clause-meant : goal.returns-in_err-found-in-Paths-clause-meant
 returns-in_err-found-in-Paths-clause-meant c = λ top r.
-    let p = err_from_is_err_and c.from_residual.result c.from_residual.ensures.1 in
-    same_answer (p.1 ∙ ap Err p.2) (same_outcome (ap (λ x. and_then (operand_values c.args.context.now.mode x top top) (each_signed c.args.op))
+    failed_as c.from_residual.ensures.1 (same_outcome (ap (λ x. and_then (operand_values c.args.context.now.mode x top top) (each_signed c.args.op))
     (paths_is c.args.operand.now c.in-Paths.steps c.in-Paths.is)
     ∙ by_path (each_signed c.args.op) c.args.context.now.mode _ _ _ top top c.deref-in-Paths.ensures.value c.deref.ensures.value)
     (first_refused (λ ts. each_signed c.args.op (flat_map values_of_item ts))
@@ -28,8 +24,7 @@ returns-in_ok-found-in-Paths-clause-meant c = λ top r.
     ∙ by_path (each_signed c.args.op) c.args.context.now.mode _ _ _ top top c.deref-in-Paths.ensures.value c.deref.ensures.value)
     (followed (λ ts. each_signed c.args.op (flat_map values_of_item ts))
     (c.in_ok-found-in-Paths.ensures.meant top _ r (c.start_spot-first.ensures top top r r))
-    (λ ts found. c.signed_items.ensures.meant ts
-    (subst (λ l. AllZip (IsAt c.args.context.now.document) l ts) (sym c.as_slice.ensures) (exactly _ _ ts found))))
+    (λ ts found. c.signed_items.ensures.meant ts (rw (sym c.as_slice.ensures) at (exactly _ _ ts found))))
 
 pub returns-in_ok-values-in-Value-clause-meant : goal.returns-in_ok-values-in-Value-clause-meant
 returns-in_ok-values-in-Value-clause-meant c = λ top r.

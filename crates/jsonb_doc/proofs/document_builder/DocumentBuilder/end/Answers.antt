@@ -6,7 +6,8 @@ use Rattle.jsonb_doc.specs.Representation.DocumentBuilder.{IsPieceOf}
 use Rattle.jsonb_doc.specs.declared.event_error.EventError.TheVariants.{Failed}
 use Rattle.jsonb_doc.specs.declared.error.Error.TheVariants.{OutOfMemory}
 use Rattle.jsonb_doc.proofs.EventLemmas.{level_stays}
-use Rattle.jsonb_doc.proofs.BuilderLemmas.{err_result, end_fails, end_out_of_memory, end_takes, around_popped, holds_back, holds_inner}
+use Rattle.jsonb_doc.proofs.Basics.{popped}
+use Rattle.jsonb_doc.proofs.BuilderLemmas.{err_result, end_fails, end_out_of_memory, end_takes, holds_back, holds_inner}
 use Rattle.jsonb_doc.proofs.document_builder.DocumentBuilder.end.Goals as goal
 
 pub returns-in_err-piece : goal.returns-in_err-piece
@@ -33,15 +34,15 @@ returns-in-Err c = λ form s h.
     let b = c.args.self.now in
     let ps = b.pieces.items in
     let closed = c.in_ok-piece.field-0 in
-    let popped = around_popped form ps b.around.items c.pop.new.self.items c.in-Some.outer s.around h.around c.in-Some.ensures.items in
+    let outer = popped _ b.around.items c.pop.new.self.items c.in-Some.outer s.around h.around c.in-Some.ensures.items in
     let index : c.len-index.result ≡ length ps = omega arith in
-    end_takes form s _ ps closed popped.0 popped.1 _ popped.2 popped.3.1 (c.in_ok-piece.ensures form ps s.inner h.inner)
+    end_takes form s _ ps closed outer.0 outer.1 _ outer.2 outer.3.1 (c.in_ok-piece.ensures form ps s.inner h.inner)
     (λ t part.
     let part' : IsPieceOf form (ps ++ closed.piece ∷ []) 5 c.len-index.result closed.len t = rw index part in
-    let failed = c.in-Err.ensures.filled form (ps ++ closed.piece ∷ []) popped.0 t (level_stays form ps closed.piece c.in-Some.outer popped.0 popped.3.0) popped.3.1
+    let failed = c.in-Err.ensures.filled form (ps ++ closed.piece ∷ []) outer.0 t (level_stays form ps closed.piece c.in-Some.outer outer.0 outer.3.0) outer.3.1
     part' (λ e. record { document = inl part'.content }) in (
-      holds_back form s b _ closed.piece c.fill.new.self c.pop.new.self.items popped.0 popped.1 h c.in_ok-push.ensures.items refl c.push_reserved.ensures.items
-          popped.2 popped.3.1 failed.0 popped.4,
+      holds_back form s b _ closed.piece c.fill.new.self c.pop.new.self.items outer.0 outer.1 h c.in_ok-push.ensures.items refl c.push_reserved.ensures.items
+          outer.2 outer.3.1 failed.0 outer.4,
       failed.1,
     ))
 
@@ -50,11 +51,11 @@ returns c = λ form s h.
     let b = c.args.self.now in
     let ps = b.pieces.items in
     let closed = c.in_ok-piece.field-0 in
-    let popped = around_popped form ps b.around.items c.pop.new.self.items c.in-Some.outer s.around h.around c.in-Some.ensures.items in
+    let outer = popped _ b.around.items c.pop.new.self.items c.in-Some.outer s.around h.around c.in-Some.ensures.items in
     let index : c.len-index.result ≡ length ps = omega arith in
-    end_takes form s _ ps closed popped.0 popped.1 _ popped.2 popped.3.1 (c.in_ok-piece.ensures form ps s.inner h.inner)
+    end_takes form s _ ps closed outer.0 outer.1 _ outer.2 outer.3.1 (c.in_ok-piece.ensures form ps s.inner h.inner)
     (λ t part.
     let part' : IsPieceOf form (ps ++ closed.piece ∷ []) 5 c.len-index.result closed.len t = rw index part in
-    let held = c.in_default-fill.ensures.filled form (ps ++ closed.piece ∷ []) popped.0 t (level_stays form ps closed.piece c.in-Some.outer popped.0 popped.3.0) popped.3.1
+    let held = c.in_default-fill.ensures.filled form (ps ++ closed.piece ∷ []) outer.0 t (level_stays form ps closed.piece c.in-Some.outer outer.0 outer.3.0) outer.3.1
     part' (λ e. record { document = inl part'.content }) in
-    holds_inner form ps _ closed.piece c.pop.new.self.items (filled t popped.0) popped.1 c.in_ok-push.ensures.items refl held popped.4)
+    holds_inner form ps _ closed.piece c.pop.new.self.items (filled t outer.0) outer.1 c.in_ok-push.ensures.items refl held outer.4)

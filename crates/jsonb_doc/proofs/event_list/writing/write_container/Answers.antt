@@ -1,10 +1,11 @@
-use Rattle.std.proofs.Common.{ℕ, Vec, Global, [], ◌∷◌, arith, subst}
+use Rattle.std.proofs.Common.{ℕ, Vec, Global, [], ◌∷◌, arith, refl, ap, ◌∙◌, subst}
 use Rattle.std.proofs.lemmas.List.{nil_from_length}
 use Rattle.std.proofs.lemmas.Result.{err_from_is_err_and}
 use Rattle.jsonb_doc.specs.Format.{Decodes}
 use Rattle.jsonb_doc.specs.Private.Errors.{IsOutOfMemoryOrTooLarge}
 use Rattle.jsonb_doc.specs.Private.Writer.{Around, IsWriting}
-use Rattle.jsonb_doc.proofs.EventPartLemmas.{pushed_outer, popped_outer, none_outside, only_ok, walk_falls_inward, walk_falls_outward}
+use Rattle.jsonb_doc.proofs.EventPartLemmas.{walk_falls_inward, walk_falls_outward}
+use Rattle.jsonb_doc.proofs.Basics.{pushed, popped, none_around, only_ok}
 use Rattle.jsonb_doc.proofs.event_list.writing.write_container.Goals as goal
 
 pub walk-init : goal.walk-init
@@ -44,7 +45,7 @@ walk-preserved-in-Some c = λ form room t h.
     let found = rw c.in-Some.is at (c.in_ok-inner.ensures.put form c.args.all.now c.walk.left.room s.begun.trees s.outside t s.begun.holds s.begun.writing) in
     record {
       outside = (c.in_ok-container-in-Some.container, found.1) ∷ s.outside;
-      are_left = pushed_outer c.args.all.now _ _ _ s.outside found.1 c.in_ok-push-in-Some.ensures.items found.3 s.are_left;
+      are_left = pushed _ _ _ _ _ s.outside c.in_ok-push-in-Some.ensures.items (found.1, found.3, refl) s.are_left;
       begun = c.in_ok-container-in-Some.ensures.entered form found.0 found.1 s.outside t found.2 found.4;
     }
 
@@ -53,7 +54,7 @@ returns-in_default c = record {
   written = λ form room t h.
       let s = c.walk.invariant form room t h in
       let done = rw c.in-None.is at (c.in_ok-inner.ensures.put form c.args.all.now c.walk.left.room s.begun.trees s.outside t s.begun.holds s.begun.writing) in
-      let none = none_outside c.args.all.now c.walk.around.items s.outside
+      let none = none_around _ c.walk.around.items s.outside
       (nil_from_length c.walk.around.items (omega (arith, c.in_default.ensures.cases.0, c.walk.around.ok.0))) s.are_left in
       only_ok (λ (made : Vec ℕ Global). Decodes form made.items t) (IsOutOfMemoryOrTooLarge form t) c.finish.result
       (c.finish.ensures.written form t (subst (λ (os : Around). IsWriting form c.put_scalars.new.writer [] os t) none done));
@@ -65,9 +66,9 @@ returns-in_err-leave-in-None c = record {
       let e = err_from_is_err_and c.from_residual-in_err-leave-in-None.result c.from_residual-in_err-leave-in-None.ensures.1 in
       let s = c.walk.invariant form room t h in
       let done = rw c.in-None.is at (c.in_ok-inner.ensures.put form c.args.all.now c.walk.left.room s.begun.trees s.outside t s.begun.holds s.begun.writing) in
-      let p = popped_outer c.args.all.now _ _ c.in-Some-pop.outer s.outside c.in-Some-pop.ensures.items s.are_left in
-      let closed = subst (λ (os : Around). IsWriting form c.put_scalars.new.writer [] os t) p.outside_is done in
-      rw (e.1, e.2) (c.in_err-leave-in-None.ensures.left form p.trees p.rest t closed);
+      let p = popped _ _ _ c.in-Some-pop.outer s.outside s.are_left c.in-Some-pop.ensures.items in
+      let closed = subst (λ (os : Around). IsWriting form c.put_scalars.new.writer [] os t) (p.2 ∙ ap (λ o. o ∷ p.1) p.3.2) done in
+      rw (e.1, e.2) (c.in_err-leave-in-None.ensures.left form p.3.0 p.1 t closed);
 }
 
 pub walk-smaller : goal.walk-smaller
@@ -77,14 +78,10 @@ pub walk-preserved : goal.walk-preserved
 walk-preserved c = λ form room t h.
     let s = c.walk.invariant form room t h in
     let done = rw c.in-None.is at (c.in_ok-inner.ensures.put form c.args.all.now c.walk.left.room s.begun.trees s.outside t s.begun.holds s.begun.writing) in
-    let p = popped_outer c.args.all.now _ _ c.in-Some-pop.outer s.outside c.in-Some-pop.ensures.items s.are_left in
-    let closed = subst (λ (os : Around). IsWriting form c.put_scalars.new.writer [] os t) p.outside_is done in
+    let p = popped _ _ _ c.in-Some-pop.outer s.outside s.are_left c.in-Some-pop.ensures.items in
+    let closed = subst (λ (os : Around). IsWriting form c.put_scalars.new.writer [] os t) (p.2 ∙ ap (λ o. o ∷ p.1) p.3.2) done in
     record {
-      outside = p.rest;
-      are_left = p.are_left;
-      begun = record {
-        trees = p.trees;
-        holds = p.holds;
-        writing = c.in_ok-leave-in-None.ensures.left form p.trees p.rest t closed;
-      };
+      outside = p.1;
+      are_left = p.4;
+      begun = record { trees = p.3.0; holds = p.3.1; writing = c.in_ok-leave-in-None.ensures.left form p.3.0 p.1 t closed };
     }

@@ -1,7 +1,8 @@
 use Rattle.std.proofs.Common.{◌≡◌, refl}
 use Rattle.jsonb_doc.specs.View.{number_parts, number_view}
 use Rattle.jsonb_doc.specs.Value.{value_parts}
-use Rattle.jsonb_doc.proofs.DecodedValues.{sees_normal, sees_view, ok_of_Answers}
+use Rattle.jsonb_doc.proofs.DecodedValues.{sees_normal, sees_view}
+use Rattle.jsonb_doc.proofs.Basics.{if_answered}
 use Rattle.jsonb_doc.proofs.value.decode.to_value.Goals as goal
 
 pub returns-clause-decodes : goal.returns-clause-decodes
@@ -10,4 +11,4 @@ returns-clause-decodes c = λ form t stands. c.item_value.ensures.decodes number
 pub returns-clause-parts : goal.returns-clause-parts
 returns-clause-parts c = λ form t stands normal.
     let sees = sees_normal number_parts (λ n h. h) _ c.args.item.now refl normal in
-    ok_of_Answers (λ v. value_parts v ≡ t) _ (c.item_value.ensures.decodes number_parts (λ n h. h) sees form t stands)
+    if_answered (λ v. value_parts v ≡ t) _ (c.item_value.ensures.decodes number_parts (λ n h. h) sees form t stands)

@@ -1,20 +1,18 @@
 use Rattle.std.proofs.Common.{◌≡◌, length, take, drop, ap, ◌∙◌, w32}
 use Rattle.std.proofs.lemmas.Int.{to_z-of_z}
-use Rattle.std.proofs.lemmas.Result.{err_from_is_err_and}
+use Rattle.jsonb_raw.proofs.AnswerLemmas.{failed}
 use Rattle.jsonb_raw.specs.Arrays.{as_elements, insert_place}
-use Rattle.jsonb_raw.proofs.JoinedEntries.{refused_between, refused_beside}
+use Rattle.jsonb_raw.proofs.RunLemmas.{refused_between, refused_beside}
 use Rattle.jsonb_raw.proofs.functions.array.array_with_element.Goals as goal
 
 pub returns-in_err-elements-clause-inserted : goal.returns-in_err-elements-clause-inserted
 returns-in_err-elements-clause-inserted c = λ form t u d e.
-    let p = err_from_is_err_and c.from_residual.result c.from_residual.ensures.1 in
-    rw (p.1, p.2) (refused_beside form t u (insert_place (length (as_elements t)) c.args.pos) _ (c.in_err-elements.ensures.elements form t d))
+    failed _ _ _ c.from_residual.ensures.1 (refused_beside form t u (insert_place (length (as_elements t)) c.args.pos) _ (c.in_err-elements.ensures.elements form t d))
 
 pub returns-in_err-element-clause-inserted : goal.returns-in_err-element-clause-inserted
 returns-in_err-element-clause-inserted c = λ form t u d e.
-    let p = err_from_is_err_and c.from_residual-in_err-element.result c.from_residual-in_err-element.ensures.1 in
     let place = insert_place (length (as_elements t)) c.args.pos in
-    rw (p.1, p.2) (refused_between form (take place (as_elements t)) (drop place (as_elements t)) u _ (c.in_err-element.ensures.root form u e))
+    failed _ _ _ c.from_residual-in_err-element.ensures.1 (refused_between form (take place (as_elements t)) (drop place (as_elements t)) u _ (c.in_err-element.ensures.root form u e))
 
 pub returns-clause-inserted : goal.returns-clause-inserted
 returns-clause-inserted c = λ form t u d e.

@@ -1,9 +1,6 @@
 use Rattle.std.proofs.Common.{[], ◌∷◌, take, drop}
-use Rattle.jsonb_raw.proofs.JoinedEntries.{three_runs}
+use Rattle.jsonb_raw.proofs.RunLemmas.{three_runs}
 use Rattle.jsonb_raw.proofs.functions.array.array_with_entry.Goals as goal
-
-pub returns-in_err-front-clause-inserted : goal.returns-in_err-front-clause-inserted
-returns-in_err-front-clause-inserted c = λ form ts t h g. absurd (c.in_err-front.ensures.split form ts h)
 
 pub returns-clause-inserted : goal.returns-clause-inserted
 returns-clause-inserted c = λ form ts t h g.

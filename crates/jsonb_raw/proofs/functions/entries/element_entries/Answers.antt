@@ -1,6 +1,6 @@
 use Rattle.std.proofs.Common.{refl}
 use Rattle.jsonb_doc.proofs.Containers.{Decodes-array}
-use Rattle.jsonb_raw.proofs.JoinedEntries.{entries_of_array}
+use Rattle.jsonb_raw.proofs.RunLemmas.{entries_of_array}
 use Rattle.jsonb_raw.proofs.functions.entries.element_entries.Goals as goal
 
 pub returns-in-Array-clause-entries : goal.returns-in-Array-clause-entries

@@ -1,4 +1,4 @@
-use Rattle.jsonb_raw.proofs.JoinedEntries.{one_run}
+use Rattle.jsonb_raw.proofs.RunLemmas.{one_run}
 use Rattle.jsonb_raw.proofs.functions.joined.array_of_run.Goals as goal
 
 pub returns-clause-array : goal.returns-clause-array

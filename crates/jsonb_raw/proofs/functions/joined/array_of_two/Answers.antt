@@ -1,4 +1,4 @@
-use Rattle.jsonb_raw.proofs.JoinedEntries.{two_runs}
+use Rattle.jsonb_raw.proofs.RunLemmas.{two_runs}
 use Rattle.jsonb_raw.proofs.functions.joined.array_of_two.Goals as goal
 
 pub returns-clause-array : goal.returns-clause-array

@@ -1,10 +1,6 @@
-use Rattle.std.proofs.Common.{length, ap, arith}
-use Rattle.std.proofs.lemmas.List.{length-append}
-use Rattle.jsonb_raw.proofs.JoinedEntries.{first_run, no_runs_left}
+use Rattle.std.proofs.Common.{length, ap, arith, length-append}
+use Rattle.jsonb_raw.proofs.RunLemmas.{first_run, no_runs_left}
 use Rattle.jsonb_raw.proofs.functions.joined.count_entries.Goals as goal
-
-pub loop-run-init : goal.loop-run-init
-loop-run-init c = record { few = omega arith; whole = λ form ts h. (ts, h, omega arith) }
 
 pub returns-then-count-gt-MAX_ENTRIES : goal.returns-then-count-gt-MAX_ENTRIES
 returns-then-count-gt-MAX_ENTRIES c = λ form ts h.

@@ -1,4 +1,4 @@
-use Rattle.jsonb_raw.proofs.JoinedEntries.{empty_decodes}
+use Rattle.jsonb_raw.proofs.RunLemmas.{empty_decodes}
 use Rattle.jsonb_raw.proofs.functions.joined.empty_array.Goals as goal
 
 pub returns-clause-array : goal.returns-clause-array

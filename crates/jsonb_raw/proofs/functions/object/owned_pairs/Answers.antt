@@ -1,10 +1,9 @@
-use Rattle.std.proofs.Common.{◌≡◌, ◌++◌, [], ◌∷◌}
-use Rattle.std.specs.Prelude.{string_bytes}
-use Rattle.std.proofs.lemmas.Result.{err_from_is_err_and}
+use Rattle.std.proofs.Common.{◌≡◌, ◌++◌, [], ◌∷◌, string_bytes}
+use Rattle.jsonb_raw.proofs.AnswerLemmas.{failed}
 use Rattle.jsonb_raw.specs.Making.{IsPairOf}
 use Rattle.jsonb_raw.proofs.CollectLoops.{none_made, one_made, all_made}
 use Rattle.jsonb_raw.proofs.ObjectLemmas.{pair_refused_in_list}
-use Rattle.jsonb_raw.proofs.EntryWalks.{pair_taken, no_pair_left}
+use Rattle.jsonb_raw.proofs.RunLemmas.{others_hold, pair_taken, no_pair_left}
 use Rattle.jsonb_raw.proofs.functions.object.owned_pairs.Goals as goal
 
 pub loop-each-init : goal.loop-each-init
@@ -16,18 +15,17 @@ loop-each-preserved c = λ form ps h.
     let f = pair_taken form _ i.0 _ _ c.in-Some.is (c.in_ok-pair.ensures.first form _ i.1) in
     let added : c.push.new.self.items ≡ c.loop-each.each.items ++ c.in_ok-owned_pair.field-0 ∷ [] = c.in_ok-push.ensures.items in (
       f.rest,
-      f.others,
+      others_hold form _ _ f.rest _ f.is_first,
       one_made (IsPairOf string_bytes form) _ _ c.in_ok-owned_pair.field-0 (c.in-Some.pair.key.now, f.value) f.rest ps added
-          (c.in_ok-owned_pair.ensures.pair form f.value f.utf8 f.part) (rw f.split at i.2),
+          (c.in_ok-owned_pair.ensures.pair form f.value f.is_first.name.part.2 f.is_first.value.part) (rw f.split at i.2),
     )
 
 pub returns-in_err-owned_pair-clause-pairs : goal.returns-in_err-owned_pair-clause-pairs
 returns-in_err-owned_pair-clause-pairs c = λ form ps h.
-    let p = err_from_is_err_and c.from_residual-in_err-owned_pair.result c.from_residual-in_err-owned_pair.ensures.1 in
     let i = c.loop-each.invariant form ps h in
     let f = pair_taken form _ i.0 _ _ c.in-Some.is (c.in_ok-pair.ensures.first form _ i.1) in
-    rw (p.1, p.2) (pair_refused_in_list form _ c.in-Some.pair.key.now f.value f.rest ps c.in_err-owned_pair.field-0.0 (rw f.split at i.2)
-    (c.in_err-owned_pair.ensures.pair form f.value f.utf8 f.part))
+    failed _ _ _ c.from_residual-in_err-owned_pair.ensures.1 (pair_refused_in_list form _ c.in-Some.pair.key.now f.value f.rest ps c.in_err-owned_pair.field-0.0 (rw f.split at i.2)
+    (c.in_err-owned_pair.ensures.pair form f.value f.is_first.name.part.2 f.is_first.value.part))
 
 pub returns-clause-pairs : goal.returns-clause-pairs
 returns-clause-pairs c = λ form ps h.

@@ -1,5 +1,4 @@
-use Rattle.std.proofs.Common.{List, ℕ, length}
-use Rattle.std.specs.Prelude.{string_bytes}
+use Rattle.std.proofs.Common.{List, ℕ, length, string_bytes}
 use Rattle.jsonb_doc.specs.Tree.{Tree}
 use Rattle.jsonb_doc.specs.Payload.{Form}
 use Rattle.jsonb_raw.specs.Making.{IsPairOf}

@@ -1,12 +1,11 @@
 use Rattle.std.proofs.Common.{◌∙◌, inl, subst, append-nil}
-use Rattle.std.proofs.lemmas.Result.{err_from_is_err_and}
+use Rattle.jsonb_raw.proofs.AnswerLemmas.{failed}
 use Rattle.std.specs.Map.{keys_of}
 use Rattle.jsonb_doc.proofs.BuilderSteps.{keys_rise}
 use Rattle.jsonb_raw.specs.Private.PairSteps.{parted}
 use Rattle.jsonb_raw.specs.Private.Names.{names_left}
-use Rattle.jsonb_raw.proofs.NameLemmas.{names_begun}
+use Rattle.jsonb_raw.proofs.PartedRuns.{names_begun, parting_begun, run_hold, parting_on, parting_done, parted_rising}
 use Rattle.jsonb_raw.specs.Private.Entries.{PairsHeld}
-use Rattle.jsonb_raw.proofs.PartedRuns.{parting_begun, run_hold, parting_on, parting_done, parted_rising}
 use Rattle.jsonb_raw.proofs.functions.object.pairs_by_set.Goals.{then-run-wanted+in_ok-keys+in_ok-push, else-run-wanted}
 use Rattle.jsonb_raw.proofs.functions.object.pairs_by_set.Goals as goal
 
@@ -18,19 +17,6 @@ loop-runs-init c = record {
   names = c.new-sorted.ensures.names;
 }
 
-pub returns-in_err-run-clause-pairs : goal.returns-in_err-run-clause-pairs
-returns-in_err-run-clause-pairs c = λ form ps h a.
-    let m = c.loop-runs.invariant.left form ps h a in
-    absurd (c.in_err-run.ensures.run form m.rest m.pairs.names m.are_keys (rw c.loop-runs.invariant.names m.decide))
-
-pub returns-in_err-values-clause-pairs : goal.returns-in_err-values-clause-pairs
-returns-in_err-values-clause-pairs c = λ form ps h a.
-    let m = c.loop-runs.invariant.left form ps h a in absurd (c.in_err-values.ensures.split form _ m.pairs.parts)
-
-pub returns-in_err-keys-clause-pairs : goal.returns-in_err-keys-clause-pairs
-returns-in_err-keys-clause-pairs c = λ form ps h a.
-    let m = c.loop-runs.invariant.left form ps h a in absurd (c.in_err-keys.ensures.split form _ m.pairs.names)
-
 pub returns-in_err-push-clause-pairs : goal.returns-in_err-push-clause-pairs
 returns-in_err-push-clause-pairs c = λ form ps h a.
     let m = c.loop-runs.invariant.left form ps h a in
@@ -38,8 +24,7 @@ returns-in_err-push-clause-pairs c = λ form ps h a.
     (c.in_ok-run.ensures.run form m.rest m.pairs.names m.are_keys (rw c.loop-runs.invariant.names m.decide)) in
     let parts = c.in_ok-values.ensures.split form _ m.pairs.parts in
     let names = c.in_ok-keys.ensures.split form _ m.pairs.names in
-    let p = err_from_is_err_and c.from_residual-in_err-push.result c.from_residual-in_err-push.ensures.1 in
-    rw (p.1, p.2) (inl (c.in_err-push.ensures.pushed form m.held f.run m.runs_hold
+    failed _ _ _ c.from_residual-in_err-push.ensures.1 (inl (c.in_err-push.ensures.pushed form m.held f.run m.runs_hold
     (run_hold form _ _ _ _ _ _ m _ _ _ (record { keys = c.in-Some.run'.others; values = c.in_ok-values.other_values }) f parts.1 _ names.0 parts.0)))
 
 pub loop-runs-preserved : goal.loop-runs-preserved

@@ -1,12 +1,10 @@
-use Rattle.std.proofs.Common.{rules, w32}
-use mir.Val.{SFits}
+use Rattle.std.proofs.Common.{rules, w32, SFits}
 use Rattle.std.proofs.lemmas.Int.{to_z-of_z}
-use Rattle.jsonb_raw.proofs.IndexLemmas.{passed}
+use Rattle.jsonb_raw.proofs.PositionLemmas.{passed, plain_met, quoted_met}
 use Rattle.jsonb_doc.specs.Tree.{field_of}
 use Rattle.jsonb_doc.specs.Answer.{SameOption}
 use Rattle.jsonb_doc.specs.Representation.Positions.{Locates}
 use Rattle.jsonb_raw.proofs.AnswerLemmas.{answered}
-use Rattle.jsonb_raw.proofs.PlaceLemmas.{plain_met, quoted_met}
 use Rattle.jsonb_raw.proofs.functions.path.child_at_step.Goals as goal
 
 pub returns-in-Index-clause-child : goal.returns-in-Index-clause-child

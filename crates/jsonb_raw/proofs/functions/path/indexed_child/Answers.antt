@@ -1,6 +1,6 @@
 use Rattle.std.proofs.Common.{w32}
 use Rattle.std.proofs.lemmas.Int.{to_z-of_z}
-use Rattle.jsonb_raw.proofs.IndexLemmas.{array_spots, met_in_array, met_by_key}
+use Rattle.jsonb_raw.proofs.PositionLemmas.{array_spots, spot_in_array, met_by_key}
 use Rattle.jsonb_raw.proofs.functions.path.indexed_child.Goals as goal
 
 pub returns-in_err-elements-clause-child : goal.returns-in_err-elements-clause-child
@@ -9,7 +9,7 @@ returns-in_err-elements-clause-child c = λ t m. absurd (c.in_err-elements.ensur
 pub returns-in-Some-clause-child : goal.returns-in-Some-clause-child
 returns-in-Some-clause-child c = λ t m.
     let a = array_spots _ _ t (rw c.in-Some.is at (c.in_ok-elements.ensures.spots t m)) in
-    met_in_array _ c.args.index _ a.0 t _ (to_z-of_z w32 c.args.index c.ranges.index) a.1 (c.spot_at.ensures.spot _ _ a.2)
+    spot_in_array _ c.args.index _ a.0 t _ (to_z-of_z w32 c.args.index c.ranges.index) a.1 (c.spot_at.ensures.spot _ _ a.2)
 
 pub returns-in-None-clause-child : goal.returns-in-None-clause-child
 returns-in-None-clause-child c = λ t m.

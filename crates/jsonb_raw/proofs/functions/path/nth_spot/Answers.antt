@@ -1,5 +1,6 @@
 use Rattle.std.proofs.Common.{refl, arith, drop}
-use Rattle.jsonb_raw.proofs.ChildLemmas.{first_left, first_marked, first_given, none_left, here, nowhere, beyond, first_behind}
+use Rattle.jsonb_doc.proofs.SpotsTaken.{no_spots_left}
+use Rattle.jsonb_raw.proofs.ChildLemmas.{first_left, first_marked, first_given, here, nowhere, beyond, first_behind}
 use Rattle.jsonb_raw.proofs.functions.path.nth_spot.Goals as goal
 
 pub returns-in_default-clause-spot : goal.returns-in_default-clause-spot
@@ -10,7 +11,7 @@ returns-in_default-clause-spot c = λ bytes ts h.
 pub returns-in_default-next-clause-spot : goal.returns-in_default-next-clause-spot
 returns-in_default-next-clause-spot c = λ bytes ts h.
     let left = c.in-Some.ensures.left bytes ts h in
-    let none = none_left _ _ _ (rw c.in_default-next.is at (c.next.ensures.steps.takes _ _ left)) in
+    let none = no_spots_left _ _ _ (rw c.in_default-next.is at (c.next.ensures.steps.takes _ _ left)) in
     rw (nowhere (drop c.args.position ts) 0 _ none (first_behind ts c.args.position)) tt
 
 pub returns-in_err-spot-clause-spot : goal.returns-in_err-spot-clause-spot

@@ -1,6 +1,6 @@
 use Rattle.std.proofs.Common.{refl}
 use Rattle.jsonb_doc.proofs.Containers.{Decodes-array, Decodes-object}
-use Rattle.jsonb_raw.proofs.RunLemmas.{array_entries_are, object_entries_are, no_parts}
+use Rattle.jsonb_raw.proofs.RunLemmas.{array_entries_are, object_entries_are, no_parts, array_within, object_within}
 use Rattle.jsonb_raw.proofs.functions.runs.container_entries.Goals as goal
 
 pub returns-in-Array-clause-entries : goal.returns-in-Array-clause-entries
@@ -19,3 +19,12 @@ returns-in_ok-keys-in-Object-clause-entries c = λ form t d.
     object_entries_are form t c.in-Object.parts _ refl
     (Decodes-object form c.args.bytes.now c.in-Object.parts (rw c.in-Object.is at c.in_ok-read_container.ensures.cut) t d)
     (c.in_ok-keys-in-Object.ensures.entries form)
+
+pub returns-in-Array-clause-size : goal.returns-in-Array-clause-size
+returns-in-Array-clause-size c =
+    array_within c.args.bytes.now c.in-Array.parts _ (rw c.in-Array.is at c.in_ok-read_container.ensures.cut) refl refl refl refl
+
+pub returns-in_ok-keys-in-Object-clause-size : goal.returns-in_ok-keys-in-Object-clause-size
+returns-in_ok-keys-in-Object-clause-size c =
+    object_within c.args.bytes.now c.in-Object.parts _ (rw c.in-Object.is at c.in_ok-read_container.ensures.cut) refl c.in_ok-keys-in-Object.ensures.room.0
+    c.in_ok-keys-in-Object.ensures.size

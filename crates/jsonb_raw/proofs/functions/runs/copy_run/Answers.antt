@@ -1,13 +1,9 @@
 use Rattle.std.proofs.Common.{◌++◌, List, ap, sym, subst, length, ◌∙◌}
 use Rattle.jsonb_doc.specs.Tree.{Tree}
 use Rattle.jsonb_doc.specs.Private.Writer.{IsWriting}
-use Rattle.jsonb_raw.proofs.PushSteps.{zero_of}
 use Rattle.jsonb_raw.proofs.RunLemmas.{holding_none, holding_one}
+use Rattle.jsonb_doc.proofs.Basics.{zero_of}
 use Rattle.jsonb_raw.proofs.functions.runs.copy_run.Goals as goal
-
-pub returns-in_default-clause-copied : goal.returns-in_default-clause-copied
-returns-in_default-clause-copied c = λ form xs ys coming around whole h w.
-    absurd (rw c.in_default.is at (c.entries_before.ensures h.run_words h.run_contents h.words_joined h.contents_joined))
 
 pub returns-then-is_empty-clause-copied : goal.returns-then-is_empty-clause-copied
 returns-then-is_empty-clause-copied c = λ form xs ys coming around whole h w.

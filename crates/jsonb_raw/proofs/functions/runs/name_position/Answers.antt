@@ -1,6 +1,6 @@
 use Rattle.std.proofs.Common.{◌∙◌, sym, rules}
 use Rattle.jsonb_raw.proofs.PositionLemmas.{key_here, key_further, key_nowhere}
-use Rattle.jsonb_raw.proofs.NamedPairs.{text_first, no_text_left}
+use Rattle.jsonb_raw.proofs.RunLemmas.{text_first, no_text_left}
 use Rattle.jsonb_raw.proofs.functions.runs.name_position.Goals as goal
 
 pub returns-then-eq-clause-position : goal.returns-then-eq-clause-position
@@ -15,7 +15,7 @@ loop-key-preserved c = record {
   left = λ form ks h.
       let i = c.loop-key.invariant.left form ks h in
       let f = text_first form _ i.0 _ _ _ c.in-Some.is (c.in_ok-key.ensures.first form _ i.1) in
-      (f.rest, f.others_hold, key_further c.loop-key.passed c.args.name.now _ i.0 f.rest _ f.split (sym c.eq.ensures ∙ c.if-eq.false) i.2);
+      (f.rest, f.is_first.others_hold, key_further c.loop-key.passed c.args.name.now _ i.0 f.rest _ f.split (sym c.eq.ensures ∙ c.if-eq.false) i.2);
 }
 
 pub returns-clause-position : goal.returns-clause-position

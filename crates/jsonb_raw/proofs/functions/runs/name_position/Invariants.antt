@@ -1,6 +1,4 @@
-use Rattle.std.proofs.Common.{◌≡◌, ◌+◌, ◌≤◌, List, ℕ, length, map}
-use Rattle.std.specs.Prelude.{position}
-use Rattle.std.specs.Str.{bytes_eq}
+use Rattle.std.proofs.Common.{◌≡◌, ◌+◌, ◌≤◌, List, ℕ, length, map, position, bytes_eq}
 use Rattle.jsonb_doc.specs.Tree.{text}
 use Rattle.jsonb_doc.specs.Payload.{Form}
 use Rattle.jsonb_raw.specs.Private.Entries.{HoldTrees}

@@ -1,11 +1,7 @@
 use Rattle.std.proofs.Common.{ap, sym, length, ◌∙◌}
-use Rattle.jsonb_raw.proofs.PushSteps.{zero_of}
 use Rattle.jsonb_raw.proofs.RunLemmas.{holding_none, holding_pushed}
+use Rattle.jsonb_doc.proofs.Basics.{zero_of}
 use Rattle.jsonb_raw.proofs.functions.runs.push_run.Goals as goal
-
-pub returns-in_default-clause-pushed : goal.returns-in_default-clause-pushed
-returns-in_default-clause-pushed c = λ form xs ys h.
-    absurd (rw c.in_default.is at (c.entries_before.ensures h.run_words h.run_contents h.words_joined h.contents_joined))
 
 pub returns-then-is_empty-clause-pushed : goal.returns-then-is_empty-clause-pushed
 returns-then-is_empty-clause-pushed c = λ form xs ys h.

@@ -1,6 +1,6 @@
 use Rattle.std.proofs.Common.{◌++◌, ap₂, arith}
 use Rattle.std.specs.Int.{to_le_bytes, w64}
-use Rattle.jsonb_raw.proofs.PackedDigits.{packed_behind}
+use Rattle.jsonb_raw.proofs.DigitSteps.{packed_behind}
 use Rattle.jsonb_raw.proofs.packed.PackedBytes.prepend.Goals as goal
 
 pub returns-clause-bytes : goal.returns-clause-bytes

@@ -1,5 +1,5 @@
 use Rattle.std.proofs.Common.{◌++◌, ap, ◌∙◌, arith}
-use Rattle.jsonb_raw.proofs.PackedDigits.{packed_pushed}
+use Rattle.jsonb_raw.proofs.DigitSteps.{packed_pushed}
 use Rattle.jsonb_raw.proofs.packed.PackedBytes.push.Goals as goal
 
 pub returns : goal.returns

@@ -1,35 +1,35 @@
-use Rattle.std.proofs.Common.{subst}
-use Rattle.jsonb_doc.specs.Tree.{members}
+use Rattle.std.proofs.Common.{◌≡◌, ◌++◌, Option, None, subst, arith}
+use Rattle.jsonb_doc.specs.Tree.{Tree, array, trees_of, members}
+use Rattle.jsonb_doc.specs.Payload.{Form}
+use Rattle.jsonb_raw.specs.declared.functions.parts.PairEntries.{PairEntries}
+use Rattle.jsonb_raw.specs.Arrays.{as_elements}
+use Rattle.jsonb_raw.specs.Concat.{concat}
+use Rattle.jsonb_raw.specs.Private.Entries.{ArePairsOf}
 use Rattle.jsonb_doc.specs.Format.{Decodes}
 use Rattle.jsonb_doc.proofs.LimitLemmas.{decoded_members}
 use Rattle.jsonb_raw.specs.Documents.{Makes}
-use Rattle.jsonb_raw.proofs.ConcatEntries.{first_not_object, second_not_object}
 use Rattle.jsonb_raw.proofs.PartedRuns.{pairs_there}
 use Rattle.jsonb_raw.proofs.raw.RawJsonb.concat.Goals as goal
 
-pub returns-in_err-first-clause-document : goal.returns-in_err-first-clause-document
-returns-in_err-first-clause-document c = λ form t u d e.
-    let d' : Decodes form c.as_bytes-bytes.result.now t = rw c.as_bytes-bytes.ensures d in
-    absurd (c.in_err-first.ensures.entries form t d')
+first_not_object : (form : Form) (found : Option PairEntries) (t u : Tree) → found ≡ None → ArePairsOf form t found
+    → array (trees_of (as_elements t ++ as_elements u)) ≡ concat t u
+first_not_object form found t u h k = grind arith
+
+second_not_object : (form : Form) (found : Option PairEntries) (t u : Tree) → found ≡ None → ArePairsOf form u found
+    → array (trees_of (as_elements t ++ as_elements u)) ≡ concat t u
+second_not_object form found t u h k = grind arith
 
 pub returns-in_default-clause-document : goal.returns-in_default-clause-document
 returns-in_default-clause-document c = λ form t u d e.
     let d' : Decodes form c.as_bytes-bytes.result.now t = rw c.as_bytes-bytes.ensures d in
-    let e' : Decodes form c.as_bytes-others.result.now u = rw c.as_bytes-others.ensures e in
     subst (λ whole. Makes form whole c.joined_arrays.result)
-    (first_not_object form _ t u c.in_default.is (c.in_ok-first.ensures.entries form t d')) (c.joined_arrays.ensures.document form t u d' e')
-
-pub returns-in_err-second-clause-document : goal.returns-in_err-second-clause-document
-returns-in_err-second-clause-document c = λ form t u d e.
-    let e' : Decodes form c.as_bytes-others.result.now u = rw c.as_bytes-others.ensures e in
-    absurd (c.in_err-second.ensures.entries form u e')
+    (first_not_object form _ t u c.in_default.is (c.in_ok-first.ensures.entries form t d')) (c.joined_arrays.ensures.document form t u d' (rw c.as_bytes-others.ensures e))
 
 pub returns-in_default-2-clause-document : goal.returns-in_default-2-clause-document
 returns-in_default-2-clause-document c = λ form t u d e.
-    let d' : Decodes form c.as_bytes-bytes.result.now t = rw c.as_bytes-bytes.ensures d in
     let e' : Decodes form c.as_bytes-others.result.now u = rw c.as_bytes-others.ensures e in
     subst (λ whole. Makes form whole c.joined_arrays-in_default-2.result)
-    (second_not_object form _ t u c.in_default-2.is (c.in_ok-second.ensures.entries form u e')) (c.joined_arrays-in_default-2.ensures.document form t u d' e')
+    (second_not_object form _ t u c.in_default-2.is (c.in_ok-second.ensures.entries form u e')) (c.joined_arrays-in_default-2.ensures.document form t u (rw c.as_bytes-bytes.ensures d) e')
 
 pub returns-clause-document : goal.returns-clause-document
 returns-clause-document c = λ form t u d e.

@@ -1,19 +1,17 @@
-use Rattle.std.proofs.Common.{◌≡◌, None, Some, length, sym, ap, ◌∙◌, w32}
+use Rattle.std.proofs.Common.{◌≡◌, None, Some, length, sym, ap, ◌∙◌, w32, remove}
 use Rattle.std.proofs.lemmas.Int.{to_z-of_z}
-use Rattle.std.specs.List.{remove}
 use Rattle.jsonb_doc.specs.Tree.{array, elements, trees_of}
 use Rattle.jsonb_doc.specs.Format.{Decodes}
 use Rattle.jsonb_raw.specs.Private.Entries.{HoldTrees}
 use Rattle.jsonb_raw.specs.Places.{index_position}
 use Rattle.jsonb_raw.specs.Children.{without_index}
-use Rattle.jsonb_raw.proofs.JoinedEntries.{array_of_entries}
-use Rattle.jsonb_raw.proofs.ChildAnswers.{without_some, without_none, some_or_none}
+use Rattle.jsonb_raw.proofs.RunLemmas.{array_of_entries}
+use Rattle.jsonb_raw.proofs.ChildAnswers.{without_some, without_none}
 use Rattle.jsonb_raw.proofs.raw.RawJsonb.delete_by_index.Goals as goal
 
 pub returns-in-Some-index_position-clause-deleted : goal.returns-in-Some-index_position-clause-deleted
 returns-in-Some-index_position-clause-deleted c = λ form t d.
-    let d' : Decodes form c.as_bytes-bytes.result.now t = rw c.as_bytes-bytes.ensures d in
-    let o = array_of_entries form t _ _ c.in-Some.is (c.in_ok-entries.ensures.entries form t d') in
+    let o = array_of_entries form t _ _ c.in-Some.is (c.in_ok-entries.ensures.entries form t (rw c.as_bytes-bytes.ensures d)) in
     let found : index_position (length (elements o.0)) c.args.index ≡ Some c.in-Some-index_position.position =
     ap (λ n. index_position n c.args.index) (sym (c.entry_count.ensures form (elements o.0) o.2))
     ∙ ap (index_position c.entry_count.result) (sym (to_z-of_z w32 c.args.index c.ranges.index)) ∙ sym c.index_position.ensures ∙ c.in-Some-index_position.is in
@@ -34,19 +32,16 @@ returns-in_ok-from_slice-in-None-clause-deleted c = λ form t d.
 
 pub returns-in_err-entries-clause-unchanged : goal.returns-in_err-entries-clause-unchanged
 returns-in_err-entries-clause-unchanged c = λ form ts d none.
-    let d' : Decodes form c.as_bytes-bytes.result.now (array ts) = rw c.as_bytes-bytes.ensures d in
-    absurd (c.in_err-entries.ensures.entries form (array ts) d')
+    absurd (c.in_err-entries.ensures.entries form (array ts) (rw c.as_bytes-bytes.ensures d))
 
 pub returns-in_default-clause-unchanged : goal.returns-in_default-clause-unchanged
 returns-in_default-clause-unchanged c = λ form ts d none.
-    let d' : Decodes form c.as_bytes-bytes.result.now (array ts) = rw c.as_bytes-bytes.ensures d in
-    absurd (rw c.in_default.is at (c.in_ok-entries.ensures.entries form (array ts) d'))
+    absurd (rw c.in_default.is at (c.in_ok-entries.ensures.entries form (array ts) (rw c.as_bytes-bytes.ensures d)))
 
 pub returns-in-Some-index_position-clause-unchanged : goal.returns-in-Some-index_position-clause-unchanged
 returns-in-Some-index_position-clause-unchanged c = λ form ts d none.
-    let d' : Decodes form c.as_bytes-bytes.result.now (array ts) = rw c.as_bytes-bytes.ensures d in
-    let left : HoldTrees form c.in-Some.entries (elements ts) = rw c.in-Some.is at (c.in_ok-entries.ensures.entries form (array ts) d') in
+    let left : HoldTrees form c.in-Some.entries (elements ts) = rw c.in-Some.is at (c.in_ok-entries.ensures.entries form (array ts) (rw c.as_bytes-bytes.ensures d)) in
     let found : index_position (length (elements ts)) c.args.index ≡ Some c.in-Some-index_position.position =
     ap (λ n. index_position n c.args.index) (sym (c.entry_count.ensures form (elements ts) left))
     ∙ ap (index_position c.entry_count.result) (sym (to_z-of_z w32 c.args.index c.ranges.index)) ∙ sym c.index_position.ensures ∙ c.in-Some-index_position.is in
-    absurd (some_or_none _ found none)
+    absurd (cc (found, none))

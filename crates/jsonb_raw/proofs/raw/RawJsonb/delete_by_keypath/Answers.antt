@@ -1,87 +1,89 @@
-use Rattle.std.proofs.Common.{◌≡◌, Bool, true, false, sym, ◌∙◌}
+use Rattle.std.proofs.Common.{◌≡◌, Bool, true, false, arith, sym, subst, ◌∙◌}
 use Rattle.std.proofs.lemmas.Bool.{false≢true}
 use Rattle.std.proofs.lemmas.Result.{err_from_is_err_and}
 use Rattle.jsonb_doc.specs.Format.{Decodes}
-use Rattle.jsonb_doc.proofs.CanonicalLemmas.{in_any}
+use Rattle.jsonb_doc.proofs.Basics.{empty_of}
 use Rattle.jsonb_keypath.specs.Private.KeysView.{keys_view}
-use Rattle.jsonb_raw.proofs.PushSteps.{zero_of, empty_of, not_empty}
-use Rattle.jsonb_raw.proofs.DeleteLemmas.{no_place, some_place, same_decodes, without_none, without_whole, part_met, part_out, pushed_decodes}
+use Rattle.jsonb_raw.specs.Private.Cuts.{AreShort}
+use Rattle.jsonb_raw.proofs.DeleteLemmas.{no_place, some_place, no_way, same_decodes, without_none, without_whole, without_part, part_met, part_out, made_decodes}
 use Rattle.jsonb_raw.proofs.raw.RawJsonb.delete_by_keypath.Goals as goal
 
 not_scalar : {A : Type 0} (told is : Bool) → told ≡ is → told ≡ false → is ≡ true → A
 not_scalar told is same other scalar = absurd (false≢true (sym other ∙ same ∙ scalar))
 
-pub returns-in_err-positions-clause-without : goal.returns-in_err-positions-clause-without
-returns-in_err-positions-clause-without g c = λ left tells form t d other.
-    let p = err_from_is_err_and c.from_residual-in_err-positions.result c.from_residual-in_err-positions.ensures.1 in
-    rw (p.1, p.2) (c.in_err-positions.ensures.place left tells t (in_any form t _ (rw c.as_bytes-bytes.ensures d)))
+pub without_child-requires : goal.without_child-requires
+without_child-requires g c =
+    let split = sym c.as_slice.ensures.value ∙ c.in-Some-split_first.ensures.cases.0 in
+    let short = subst (λ ps. AreShort ps 0) split (rw c.in-Some.is at c.in_ok-parents.ensures.short) in
+    omega (arith, short)
 
-pub returns-in_err-positions-clause-same : goal.returns-in_err-positions-clause-same
-returns-in_err-positions-clause-same g c = λ left tells form t d other none.
-    let p = err_from_is_err_and c.from_residual-in_err-positions.result c.from_residual-in_err-positions.ensures.1 in
-    rw (p.1, p.2) (c.in_err-positions.ensures.place left tells t (in_any form t _ (rw c.as_bytes-bytes.ensures d)))
+pub returns-in_err-parents-clause-without : goal.returns-in_err-parents-clause-without
+returns-in_err-parents-clause-without g c = λ left tells form t d other.
+    let p = err_from_is_err_and c.from_residual-in_err-parents.result c.from_residual-in_err-parents.ensures.1 in
+    rw (p.1, p.2) (c.in_err-parents.ensures.place left tells form t (rw c.as_bytes-bytes.ensures d))
+
+pub returns-in_err-parents-clause-same : goal.returns-in_err-parents-clause-same
+returns-in_err-parents-clause-same g c = λ left tells form t d other none.
+    let p = err_from_is_err_and c.from_residual-in_err-parents.result c.from_residual-in_err-parents.ensures.1 in
+    rw (p.1, p.2) (c.in_err-parents.ensures.place left tells form t (rw c.as_bytes-bytes.ensures d))
 
 pub returns-in_default-clause-without : goal.returns-in_default-clause-without
 returns-in_default-clause-without g c = λ left tells form t d other.
     let d' : Decodes form c.as_bytes-bytes.result.now t = rw c.as_bytes-bytes.ensures d in
-    let none = no_place _ (rw c.in_default.is at (c.in_ok-positions.ensures.place left tells t (in_any form t _ d'))) in
+    let none = no_place form t _ (rw c.in_default.is at (c.in_ok-parents.ensures.place left tells form t d')) in
     same_decodes form _ t _ _ (without_none (keys_view (left c.args.steps)) t none) d' c.copy_of.ensures.same
 
-pub returns-then-is_empty-clause-without : goal.returns-then-is_empty-clause-without
-returns-then-is_empty-clause-without g c = λ left tells form t d other.
+pub returns-in_default-split_first-clause-without : goal.returns-in_default-split_first-clause-without
+returns-in_default-split_first-clause-without g c = λ left tells form t d other.
     let d' : Decodes form c.as_bytes-bytes.result.now t = rw c.as_bytes-bytes.ensures d in
-    let place = some_place c.in-Some.positions _ (rw c.in-Some.is at (c.in_ok-positions.ensures.place left tells t (in_any form t _ d'))) in
-    let empty = empty_of _ (sym c.in-Some.positions.ok.0 ∙ zero_of _ c.if-is_empty.ensures) in
-    same_decodes form _ t _ _ (without_whole (keys_view (left c.args.steps)) t _ empty place) d' c.copy_of-then-is_empty.ensures.same
+    let place = some_place form t c.in-Some.parents _ (rw c.in-Some.is at (c.in_ok-parents.ensures.place left tells form t d')) in
+    let empty = no_way form _ _ t (sym c.as_slice.ensures.value ∙ empty_of _ c.in_default-split_first.ensures.cases) place.2 in
+    same_decodes form _ t _ _ (without_whole (keys_view (left c.args.steps)) t _ empty place.1) d' c.copy_of-in_default-split_first.ensures.same
 
-pub returns-in_err-push_without-clause-without : goal.returns-in_err-push_without-clause-without
-returns-in_err-push_without-clause-without g c = λ left tells form t d other.
-    let p = err_from_is_err_and c.from_residual-in_err-push_without.result c.from_residual-in_err-push_without.ensures.1 in
+pub returns-in_err-document-clause-without : goal.returns-in_err-document-clause-without
+returns-in_err-document-clause-without g c = λ left tells form t d other.
+    let p = err_from_is_err_and c.from_residual-in_err-document.result c.from_residual-in_err-document.ensures.1 in
     let d' : Decodes form c.as_bytes-bytes.result.now t = rw c.as_bytes-bytes.ensures d in
-    let place = some_place c.in-Some.positions _ (rw c.in-Some.is at (c.in_ok-positions.ensures.place left tells t (in_any form t _ d'))) in
-    let some = not_empty _ _ c.in-Some.positions.ok.0 c.if-is_empty.ensures in
-    let o = part_out (keys_view (left c.args.steps)) t c.in-Some.positions.items form c.as_bytes-bytes.result.now some place d' in
-    rw (p.1, p.2) (c.in_err-push_without.ensures.pushed form t o.end o.left o.content (rw c.as_slice.ensures.value o.there) (rw c.as_slice.ensures.value o.out))
+    let split = sym c.as_slice.ensures.value ∙ c.in-Some-split_first.ensures.cases.0 in
+    let o = part_out form t c.in-Some.parents _ _ _ split (rw c.in-Some.is at (c.in_ok-parents.ensures.place left tells form t d')) in
+    rw (p.1, p.2) (c.in_err-document.ensures.without form t o.end o.n o.ns o.led)
 
-pub returns-in_err-push_without-clause-same : goal.returns-in_err-push_without-clause-same
-returns-in_err-push_without-clause-same g c = λ left tells form t d other none.
+pub returns-in_err-document-clause-same : goal.returns-in_err-document-clause-same
+returns-in_err-document-clause-same g c = λ left tells form t d other none.
     let d' : Decodes form c.as_bytes-bytes.result.now t = rw c.as_bytes-bytes.ensures d in
-    let place = some_place c.in-Some.positions _ (rw c.in-Some.is at (c.in_ok-positions.ensures.place left tells t (in_any form t _ d'))) in
-    absurd (part_met (keys_view (left c.args.steps)) t _ (not_empty _ _ c.in-Some.positions.ok.0 c.if-is_empty.ensures) place none)
+    let split = sym c.as_slice.ensures.value ∙ c.in-Some-split_first.ensures.cases.0 in
+    let o = part_out form t c.in-Some.parents _ _ _ split (rw c.in-Some.is at (c.in_ok-parents.ensures.place left tells form t d')) in
+    absurd (part_met (keys_view (left c.args.steps)) t o.n o.ns o.is none)
 
 pub returns-clause-without : goal.returns-clause-without
 returns-clause-without g c = λ left tells form t d other.
     let d' : Decodes form c.as_bytes-bytes.result.now t = rw c.as_bytes-bytes.ensures d in
-    let place = some_place c.in-Some.positions _ (rw c.in-Some.is at (c.in_ok-positions.ensures.place left tells t (in_any form t _ d'))) in
-    let some = not_empty _ _ c.in-Some.positions.ok.0 c.if-is_empty.ensures in
-    let o = part_out (keys_view (left c.args.steps)) t c.in-Some.positions.items form c.as_bytes-bytes.result.now some place d' in
-    let pushed = c.in_ok-push_without.ensures.pushed form t o.end o.left o.content (rw c.as_slice.ensures.value o.there) (rw c.as_slice.ensures.value o.out) in
-    pushed_decodes form o.left _ _ _ _ _ pushed c.in_ok-document.ensures.items c.new.ensures o.is
+    let split = sym c.as_slice.ensures.value ∙ c.in-Some-split_first.ensures.cases.0 in
+    let o = part_out form t c.in-Some.parents _ _ _ split (rw c.in-Some.is at (c.in_ok-parents.ensures.place left tells form t d')) in
+    made_decodes form _ _ _ _ (c.in_ok-document.ensures.without form t o.end o.n o.ns o.led) c.new.ensures
+    (without_part (keys_view (left c.args.steps)) t o.n o.ns o.is)
 
 pub returns-clause-same : goal.returns-clause-same
 returns-clause-same g c = λ left tells form t d other none.
     let d' : Decodes form c.as_bytes-bytes.result.now t = rw c.as_bytes-bytes.ensures d in
-    let place = some_place c.in-Some.positions _ (rw c.in-Some.is at (c.in_ok-positions.ensures.place left tells t (in_any form t _ d'))) in
-    absurd (part_met (keys_view (left c.args.steps)) t _ (not_empty _ _ c.in-Some.positions.ok.0 c.if-is_empty.ensures) place none)
+    let split = sym c.as_slice.ensures.value ∙ c.in-Some-split_first.ensures.cases.0 in
+    let o = part_out form t c.in-Some.parents _ _ _ split (rw c.in-Some.is at (c.in_ok-parents.ensures.place left tells form t d')) in
+    absurd (part_met (keys_view (left c.args.steps)) t o.n o.ns o.is none)
 
-pub returns-in_err-positions-clause-scalar : goal.returns-in_err-positions-clause-scalar
-returns-in_err-positions-clause-scalar g c = λ form t d scalar.
+pub returns-in_err-parents-clause-scalar : goal.returns-in_err-parents-clause-scalar
+returns-in_err-parents-clause-scalar g c = λ form t d scalar.
     not_scalar _ _ (c.is_json_scalar.ensures form t (c.in_ok-root_item.ensures.decodes form t (rw c.as_bytes-bytes.ensures d))) c.if-is_json_scalar.false scalar
 
 pub returns-in_default-clause-scalar : goal.returns-in_default-clause-scalar
 returns-in_default-clause-scalar g c = λ form t d scalar.
     not_scalar _ _ (c.is_json_scalar.ensures form t (c.in_ok-root_item.ensures.decodes form t (rw c.as_bytes-bytes.ensures d))) c.if-is_json_scalar.false scalar
 
-pub returns-then-is_empty-clause-scalar : goal.returns-then-is_empty-clause-scalar
-returns-then-is_empty-clause-scalar g c = λ form t d scalar.
+pub returns-in_default-split_first-clause-scalar : goal.returns-in_default-split_first-clause-scalar
+returns-in_default-split_first-clause-scalar g c = λ form t d scalar.
     not_scalar _ _ (c.is_json_scalar.ensures form t (c.in_ok-root_item.ensures.decodes form t (rw c.as_bytes-bytes.ensures d))) c.if-is_json_scalar.false scalar
 
 pub returns-in_err-document-clause-scalar : goal.returns-in_err-document-clause-scalar
 returns-in_err-document-clause-scalar g c = λ form t d scalar.
-    not_scalar _ _ (c.is_json_scalar.ensures form t (c.in_ok-root_item.ensures.decodes form t (rw c.as_bytes-bytes.ensures d))) c.if-is_json_scalar.false scalar
-
-pub returns-in_err-push_without-clause-scalar : goal.returns-in_err-push_without-clause-scalar
-returns-in_err-push_without-clause-scalar g c = λ form t d scalar.
     not_scalar _ _ (c.is_json_scalar.ensures form t (c.in_ok-root_item.ensures.decodes form t (rw c.as_bytes-bytes.ensures d))) c.if-is_json_scalar.false scalar
 
 pub returns-clause-scalar : goal.returns-clause-scalar
@@ -89,7 +91,9 @@ returns-clause-scalar g c = λ form t d scalar.
     not_scalar _ _ (c.is_json_scalar.ensures form t (c.in_ok-root_item.ensures.decodes form t (rw c.as_bytes-bytes.ensures d))) c.if-is_json_scalar.false scalar
 
 pub returns-in_default-clause-same : goal.returns-in_default-clause-same
-returns-in_default-clause-same g c = λ left tells form t d other none. rw c.as_bytes-bytes.ensures at c.copy_of.ensures.same
+returns-in_default-clause-same g c = λ left tells form t d other none.
+    rw c.as_bytes-bytes.ensures at c.copy_of.ensures.same
 
-pub returns-then-is_empty-clause-same : goal.returns-then-is_empty-clause-same
-returns-then-is_empty-clause-same g c = λ left tells form t d other none. rw c.as_bytes-bytes.ensures at c.copy_of-then-is_empty.ensures.same
+pub returns-in_default-split_first-clause-same : goal.returns-in_default-split_first-clause-same
+returns-in_default-split_first-clause-same g c = λ left tells form t d other none.
+    rw c.as_bytes-bytes.ensures at c.copy_of-in_default-split_first.ensures.same

@@ -1,20 +1,20 @@
-use Rattle.std.proofs.Common.{◌≡◌, List, ℕ, Option, Some, None, true, false, refl, sym, ap, ◌∙◌}
+use Rattle.std.proofs.Common.{◌≡◌, List, ℕ, Option, None, true, false, refl, sym, ap, ◌∙◌, arith}
 use Rattle.std.specs.Option.{option_or}
 use Rattle.jsonb_doc.specs.Tree.{Tree, Pairs, object, field_of, value_under}
 use Rattle.jsonb_doc.specs.Payload.{Form, NumberReader, number_reader}
 use Rattle.jsonb_doc.specs.Format.{Decodes}
 use Rattle.jsonb_doc.specs.Private.Containers.{Holds, HasPairParts}
 use Rattle.jsonb_doc.specs.declared.container.Container.{Container}
-use Rattle.jsonb_doc.specs.declared.container.Container.TheVariants.{Scalar, Array, Object}
+use Rattle.jsonb_doc.specs.declared.container.Container.TheVariants.{Object}
 use Rattle.jsonb_doc.specs.declared.container.ObjectParts.{ObjectParts}
 use Rattle.jsonb_doc.proofs.Containers.{IsCut-same, Decodes-object}
 use Rattle.jsonb_raw.specs.Children.{named_child}
+use Rattle.jsonb_raw.proofs.AnswerLemmas.{found_made, found_none}
 use Rattle.jsonb_raw.proofs.ChildAnswers.{named_nowhere}
 use Rattle.jsonb_raw.proofs.raw.RawJsonb.get_by_name.Goals as goal
 
 or_none : (found : Option Tree) → option_or found None ≡ found
-or_none None = refl
-or_none (Some t) = refl
+or_none found = grind arith
 
 -- a tree with the parts of an object is one
 object_with : (form : Form) (t : Tree) (p : ObjectParts) → Holds (number_reader form) t (Object p)
@@ -24,54 +24,37 @@ object_with form _ p held = absurd held
 
 no_object : (number_at : NumberReader) (t : Tree) (found : Container) (name : List ℕ) → Holds number_at t found
     → ((p : ObjectParts) → found ≡ Object p → ⊥) → field_of name t ≡ None
-no_object number_at (object ps) (Scalar e) name held other = absurd (held.0 held.1.0)
-no_object number_at (object ps) (Array p) name held other = absurd held
-no_object number_at (object ps) (Object p) name held other = absurd (other p refl)
-no_object number_at _ found name held other = refl
+no_object number_at t found name h k = grind arith
 
 pub returns-then-ignore_case-clause-value : goal.returns-then-ignore_case-clause-value
 returns-then-ignore_case-clause-value c = λ form t d.
-    let d' : Decodes form c.as_bytes-bytes.result.now t = rw c.as_bytes-bytes.ensures d in
     let is : named_child c.args.name.now c.args.ignore_case t ≡ named_child c.args.name.now true t =
     ap (λ b. named_child c.args.name.now b t) c.if-ignore_case.true in
-    rw is (c.value_ignoring_case.ensures.value form t d')
+    rw is (found_made form _ _ (c.value_ignoring_case.ensures.found form t (rw c.as_bytes-bytes.ensures d)))
 
 pub returns-then-ignore_case-clause-none : goal.returns-then-ignore_case-clause-none
 returns-then-ignore_case-clause-none c = λ form t d none.
-    let d' : Decodes form c.as_bytes-bytes.result.now t = rw c.as_bytes-bytes.ensures d in
     let is : named_child c.args.name.now c.args.ignore_case t ≡ named_child c.args.name.now true t =
     ap (λ b. named_child c.args.name.now b t) c.if-ignore_case.true in
-    c.value_ignoring_case.ensures.none form t d' (sym is ∙ none)
-
-pub returns-in_err-parts-clause-value : goal.returns-in_err-parts-clause-value
-returns-in_err-parts-clause-value c = λ form t d.
-    let d' : Decodes form c.as_bytes-bytes.result.now t = rw c.as_bytes-bytes.ensures d in
-    absurd (c.in_err-parts.ensures.cut.1 (number_reader form) t d'.document)
-
-pub returns-in_err-parts-clause-none : goal.returns-in_err-parts-clause-none
-returns-in_err-parts-clause-none c = λ form t d none.
-    let d' : Decodes form c.as_bytes-bytes.result.now t = rw c.as_bytes-bytes.ensures d in
-    absurd (c.in_err-parts.ensures.cut.1 (number_reader form) t d'.document)
+    found_none form _ _ (c.value_ignoring_case.ensures.found form t (rw c.as_bytes-bytes.ensures d)) (sym is ∙ none)
 
 pub returns-in-Object-clause-value : goal.returns-in-Object-clause-value
 returns-in-Object-clause-value c = λ form t d.
-    let d' : Decodes form c.as_bytes-bytes.result.now t = rw c.as_bytes-bytes.ensures d in
     let o = object_with form t c.in-Object.parts
-    (Decodes-object form c.as_bytes-bytes.result.now c.in-Object.parts (rw c.in-Object.is at c.in_ok-parts.ensures.cut) t d') in
+    (Decodes-object form c.as_bytes-bytes.result.now c.in-Object.parts (rw c.in-Object.is at c.in_ok-parts.ensures.cut) t (rw c.as_bytes-bytes.ensures d)) in
     let name = c.args.name.now in
     let is : named_child name c.args.ignore_case t ≡ value_under name o.0 =
     ap (λ b. named_child name b t) c.if-ignore_case.false ∙ ap (named_child name false) o.1 ∙ or_none (value_under name o.0) in
-    rw is (c.value_of_key.ensures.value form o.0 o.2)
+    rw is (found_made form _ _ (c.value_of_key.ensures.found form o.0 o.2))
 
 pub returns-in-Object-clause-none : goal.returns-in-Object-clause-none
 returns-in-Object-clause-none c = λ form t d none.
-    let d' : Decodes form c.as_bytes-bytes.result.now t = rw c.as_bytes-bytes.ensures d in
     let o = object_with form t c.in-Object.parts
-    (Decodes-object form c.as_bytes-bytes.result.now c.in-Object.parts (rw c.in-Object.is at c.in_ok-parts.ensures.cut) t d') in
+    (Decodes-object form c.as_bytes-bytes.result.now c.in-Object.parts (rw c.in-Object.is at c.in_ok-parts.ensures.cut) t (rw c.as_bytes-bytes.ensures d)) in
     let name = c.args.name.now in
     let is : named_child name c.args.ignore_case t ≡ value_under name o.0 =
     ap (λ b. named_child name b t) c.if-ignore_case.false ∙ ap (named_child name false) o.1 ∙ or_none (value_under name o.0) in
-    c.value_of_key.ensures.none form o.0 o.2 (sym is ∙ none)
+    found_none form _ _ (c.value_of_key.ensures.found form o.0 o.2) (sym is ∙ none)
 
 pub returns-in_default-clause-value : goal.returns-in_default-clause-value
 returns-in_default-clause-value c = λ form t d.

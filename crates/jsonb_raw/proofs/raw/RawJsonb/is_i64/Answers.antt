@@ -1,5 +1,4 @@
-use Rattle.std.proofs.Common.{◌≡◌, ℤ, Bool, true, false, IsTrue, Option, Some, None, is_some, MatchOption, FitsSigned, refl, sym, ◌∙◌, rules, arith}
-use Rattle.std.specs.Int.{w64}
+use Rattle.std.proofs.Common.{◌≡◌, ℤ, Bool, true, false, IsTrue, Option, Some, None, is_some, MatchOption, FitsSigned, refl, sym, ◌∙◌, rules, arith, w64}
 use Rattle.jsonb_doc.specs.Tree.{Tree}
 use Rattle.jsonb_raw.specs.Scalars.{IsWholeNumber}
 use Rattle.jsonb_raw.proofs.raw.RawJsonb.is_i64.Goals as goal

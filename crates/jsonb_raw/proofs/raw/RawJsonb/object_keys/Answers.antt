@@ -2,22 +2,19 @@ use Rattle.std.proofs.Common.{map}
 use Rattle.std.proofs.lemmas.Result.{err_from_is_err_and}
 use Rattle.std.specs.Map.{keys_of}
 use Rattle.jsonb_doc.specs.Tree.{members, text}
-use Rattle.jsonb_doc.specs.Format.{Decodes}
 use Rattle.jsonb_doc.proofs.TreeLists.{keys_of-members}
-use Rattle.jsonb_raw.proofs.JoinedEntries.{one_run}
+use Rattle.jsonb_raw.proofs.RunLemmas.{one_run}
 use Rattle.jsonb_raw.proofs.PartedRuns.{pairs_there}
 use Rattle.jsonb_raw.proofs.raw.RawJsonb.object_keys.Goals as goal
 
 pub returns-in_err-array_of-clause-keys : goal.returns-in_err-array_of-clause-keys
 returns-in_err-array_of-clause-keys c = λ form t d.
-    let d' : Decodes form c.as_bytes.result.now t = rw c.as_bytes.ensures d in
-    let o = pairs_there form t _ _ c.in-Some.is (c.in_ok-object.ensures.entries form t d') in
+    let o = pairs_there form t _ _ c.in-Some.is (c.in_ok-object.ensures.entries form t (rw c.as_bytes.ensures d)) in
     let p = err_from_is_err_and c.from_residual-in_err-array_of.result c.from_residual-in_err-array_of.ensures.1 in
     rw (p.1, p.2, o.1, ← keys_of-members o.0)
     (c.in_err-array_of.ensures.array form (map text (keys_of (members o.0))) (one_run form _ _ o.2.names))
 
 pub returns-clause-keys : goal.returns-clause-keys
 returns-clause-keys c = λ form t d.
-    let d' : Decodes form c.as_bytes.result.now t = rw c.as_bytes.ensures d in
-    let o = pairs_there form t _ _ c.in-Some.is (c.in_ok-object.ensures.entries form t d') in
+    let o = pairs_there form t _ _ c.in-Some.is (c.in_ok-object.ensures.entries form t (rw c.as_bytes.ensures d)) in
     rw (o.1, ← keys_of-members o.0) (c.in_ok-array_of.ensures.array form (map text (keys_of (members o.0))) (one_run form _ _ o.2.names))

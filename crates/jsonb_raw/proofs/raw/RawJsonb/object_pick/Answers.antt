@@ -9,9 +9,8 @@ use Rattle.jsonb_raw.specs.Private.PairSteps.{parted}
 
 pub returns-in_default-clause-pairs : goal.returns-in_default-clause-pairs
 returns-in_default-clause-pairs c = λ form t d.
-    let d' : Decodes form c.as_bytes.result.now t = rw c.as_bytes.ensures d in
     let none : object_pick c.args.keys.now t ≡ None = no_pairs_there form t _ (parted true c.args.keys.now) c.in_default.is
-    (c.in_ok-pairs.ensures.entries form t d') in
+    (c.in_ok-pairs.ensures.entries form t (rw c.as_bytes.ensures d)) in
     rw none refl
 
 pub returns-clause-pairs : goal.returns-clause-pairs

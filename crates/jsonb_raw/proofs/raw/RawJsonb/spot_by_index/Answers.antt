@@ -1,8 +1,8 @@
 use Rattle.std.proofs.Common.{◌≡◌, None, sym}
 use Rattle.jsonb_doc.proofs.CanonicalLemmas.{in_any}
 use Rattle.jsonb_raw.specs.Children.{element_at}
-use Rattle.jsonb_raw.proofs.ChildSpots.{no_element_spots}
-use Rattle.jsonb_raw.proofs.IndexLemmas.{array_spots}
+use Rattle.jsonb_raw.proofs.NamedPairs.{no_element_spots}
+use Rattle.jsonb_raw.proofs.PositionLemmas.{array_spots}
 use Rattle.jsonb_raw.proofs.raw.RawJsonb.spot_by_index.Goals as goal
 
 pub returns-in_err-root-clause-element : goal.returns-in_err-root-clause-element

@@ -1,10 +1,10 @@
 use Rattle.std.proofs.Common.{rules, sym, refl}
-use Rattle.std.proofs.lemmas.Result.{err_from_is_err_and}
+use Rattle.jsonb_raw.proofs.AnswerLemmas.{failed}
 use Rattle.jsonb_doc.specs.Representation.Positions.{Locates}
 use Rattle.jsonb_doc.proofs.CanonicalLemmas.{in_any}
 use Rattle.jsonb_keypath.specs.Private.KeysView.{keys_view}
 use Rattle.jsonb_raw.specs.Places.{tree_at_steps}
-use Rattle.jsonb_raw.proofs.StepLemmas.{next_child, none_met, some_met}
+use Rattle.jsonb_raw.proofs.PositionLemmas.{next_child, none_met, some_met}
 use Rattle.jsonb_raw.proofs.raw.RawJsonb.spot_by_keypath.Goals as goal
 
 pub returns-in_err-spot-clause-place : goal.returns-in_err-spot-clause-place
@@ -20,10 +20,9 @@ loop-step-init g c = record {
 
 pub returns-in_err-child-clause-place : goal.returns-in_err-child-clause-place
 returns-in_err-child-clause-place g c = λ left tells form t d.
-    let p = err_from_is_err_and c.from_residual-in_err-child.result c.from_residual-in_err-child.ensures.1 in
     let d' = in_any form t _ (rw c.as_bytes-bytes.ensures d) in
     let i = c.loop-step.invariant.left left tells t d' in
-    rw (p.1, p.2) (c.in_err-child.ensures.child i.0 i.1)
+    failed _ _ _ c.from_residual-in_err-child.ensures.1 (c.in_err-child.ensures.child i.0 i.1)
 
 pub returns-in_default-clause-place : goal.returns-in_default-clause-place
 returns-in_default-clause-place g c = λ left tells form t d.

@@ -3,7 +3,7 @@ use Rattle.jsonb_doc.specs.Tree.{field_of}
 use Rattle.jsonb_doc.specs.Format.{Decodes}
 use Rattle.jsonb_doc.proofs.CanonicalLemmas.{in_any}
 use Rattle.jsonb_raw.specs.Children.{named_child}
-use Rattle.jsonb_raw.proofs.ChildSpots.{exact_child}
+use Rattle.jsonb_raw.proofs.NamedPairs.{exact_child}
 use Rattle.jsonb_raw.proofs.raw.RawJsonb.spot_by_name.Goals as goal
 
 pub returns-in_err-root-clause-value : goal.returns-in_err-root-clause-value

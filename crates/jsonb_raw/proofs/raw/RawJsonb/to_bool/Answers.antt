@@ -1,9 +1,6 @@
-use Rattle.std.proofs.Common.{◌≡◌, ◌&&◌, ℕ, suc, ◌<◌, List, [], ◌∷◌, map, Bool, true, false, Result, Ok, Err, inl, inr, refl, arith}
-use Rattle.std.specs.Prelude.{codes, OnOk, nat_lt}
-use Rattle.std.specs.Borrow.{Bor}
+use Rattle.std.proofs.Common.{◌≡◌, ◌&&◌, ℕ, suc, ◌<◌, List, [], ◌∷◌, map, Bool, true, false, Result, Ok, Err, inl, inr, refl, arith, Bor, IsAscii, IsUtf8, codes, OnOk, nat_lt}
 use Rattle.std.specs.List.{list_all}
 use Rattle.std.specs.Char.{to_ascii_lowercase}
-use Rattle.std.specs.Str.{IsAscii, IsUtf8}
 use Rattle.std.proofs.lemmas.Bool.Decides.{nat_tests}
 use Rattle.std.proofs.lemmas.Str.{IsUtf8-from_ascii}
 use Rattle.std.proofs.lemmas.Str.Ascii.{IsAscii-nil, IsAscii-cons}

@@ -1,6 +1,4 @@
-use Rattle.std.proofs.Common.{◌≡◌, ℤ, Option, Some, None, Result, MatchOption, FitsSigned, refl, sym, subst, rules, arith}
-use Rattle.std.specs.Int.{w64}
-use Rattle.std.specs.Option.{ok_or}
+use Rattle.std.proofs.Common.{◌≡◌, ℤ, Option, Some, None, Result, MatchOption, FitsSigned, refl, sym, subst, rules, arith, w64, ok_or}
 use Rattle.jsonb_doc.specs.Tree as spec
 use Rattle.jsonb_doc.specs.Number.{Number}
 use Rattle.jsonb_doc.specs.View.{number_parts, number_view}

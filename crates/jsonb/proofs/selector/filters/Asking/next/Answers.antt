@@ -1,13 +1,12 @@
-use Rattle.std.proofs.Common.{◌≡◌, ◌+◌, ◌-◌, ◌≤◌, Ok, Err, Some, None, refl, length, ap, sym, ◌∙◌, subst, arith}
+use Rattle.std.proofs.Common.{◌≡◌, ◌+◌, ◌-◌, Ok, Err, Some, None, refl, length, ap, sym, ◌∙◌, subst, arith}
 use Rattle.std.specs.Prelude.{slice_get, take}
 use Rattle.std.proofs.lemmas.Result.{err_from_is_err_and}
-use Rattle.jsonb.specs.Meaning.{truth}
+use Rattle.jsonb.proofs.RefinesLemmas.{err_is}
 use Rattle.jsonb.specs.PathViews.{expression_view}
 use Rattle.jsonb.specs.Private.Asking.{asking_tests, at_first, IsTurn}
 use Rattle.jsonb.specs.Private.Jumps.{next_jump}
-use Rattle.jsonb.specs.Private.Operands.{IsAnswer}
 use Rattle.jsonb.specs.Private.Tests.{item_tests, tests_conditions}
-use Rattle.jsonb.specs.Private.Weights.{tests_weight, pending_weight, asked_weight, asking_weight}
+use Rattle.jsonb.specs.Private.Weights.{tests_weight, asked_weight}
 use Rattle.jsonb.proofs.AskingLemmas.{after_test, turn_refused, turn_waits, turn_known, asked_all, some_test, test_read, test_missing, turn_of, part_answers}
 use Rattle.jsonb.proofs.WeightLemmas.{only_weighs, test_weight}
 use Rattle.jsonb.proofs.selector.filters.Asking.next.Goals as goal
@@ -34,8 +33,7 @@ returns-in_err-truth-in-Single-clause-meant c = λ top t whole r h.
     (subst (IsTurn context top t (after_test a 0 a.state c.begin.new.self) whole) (sym p.1)
     (turn_refused context top t a 0 _ whole after (ap (λ l. slice_get l 0) tests) h c.begin.new.self c.in_err-truth-in-Single.ensures.same (Err p.0)
     (λ e at q kept. part_answers context top t all more a.operands.cache c.begin.new.self part e (Err p.0)
-    (λ is k. subst (λ x. IsAnswer context top t all more c.begin.new.self (truth context.mode part top t) (Err x)) (sym p.2)
-    (c.in_err-truth-in-Single.ensures.meant top t all more r at is k)) q kept) p.0 refl))
+    (λ is k. rw (sym p.2) at (c.in_err-truth-in-Single.ensures.meant top t all more r at is k)) q kept) p.0 refl))
 
 pub returns-in-Truth-clause-meant : goal.returns-in-Truth-clause-meant
 returns-in-Truth-clause-meant c = λ top t whole r h.
@@ -71,26 +69,22 @@ pub returns-in_default-clause-meant : goal.returns-in_default-clause-meant
 returns-in_default-clause-meant c = λ top t whole r h.
     let s = after_test c.args.self.now c.loop-left.left c.loop-left.state c.loop-left.operands in
     let i = s.left - 1 in
-    let after : s.left ≡ i + 1 = omega (arith, c.loop-left-test.true) in
-    some_test c.args.context.now top t s i whole after
+    some_test c.args.context.now top t s i whole (omega (arith, c.loop-left-test.true))
     (test_missing c.args.self.now.tests c.in-Joined.tests c.deref.result.now i c.in-Joined.is c.deref.ensures.value c.in_default.ensures.lookup.3)
     (c.loop-left.invariant.meant top t whole r h)
 
 pub loop-left-preserved : goal.loop-left-preserved
 loop-left-preserved c =
     let s = after_test c.args.self.now c.loop-left.left c.loop-left.state c.loop-left.operands in
-    let i = s.left - 1 in
-    let x = c.in-Some.test.now in
-    let after : s.left ≡ i + 1 = omega (arith, c.loop-left-test.true) in
-    let found = c.in-Some.ensures.lookup in
-    let has = test_read c.args.self.now.tests c.in-Joined.tests c.deref.result.now i x c.in-Joined.is c.deref.ensures.value found.3.0 found.1 in
+    let after : s.left ≡ (s.left - 1) + 1 = omega (arith, c.loop-left-test.true) in
+    let has = test_read _ _ _ (s.left - 1) c.in-Some.test.now c.in-Joined.is c.deref.ensures.value c.in-Some.ensures.lookup.3.0 c.in-Some.ensures.lookup.1 in
     record {
       item = c.in_ok-truth-in-Joined.ensures.same ∙ c.loop-left.invariant.item;
       fewer =
-          let here = test_weight (asking_tests s) s.left i x after has in
-          let low : tests_weight (take i (asking_tests s)) ≤ asking_weight c.args.self.now = omega (arith, here, c.loop-left.invariant.fewer) in low;
+          let here = test_weight (asking_tests s) s.left _ _ after has in
+          omega (arith, here, c.loop-left.invariant.fewer);
       meant = λ top t whole r h.
-          turn_known c.args.context.now top t s i x whole after has (c.loop-left.invariant.meant top t whole r h) c.ask.new.operands
+          turn_known c.args.context.now top t s _ _ whole after has (c.loop-left.invariant.meant top t whole r h) c.ask.new.operands
           c.in_ok-truth-in-Joined.ensures.same (Ok c.in_ok-truth-in-Joined.field-0)
           (λ e at q kept. c.in_ok-truth-in-Joined.ensures.meant top t _ _ e r at q kept) c.in-Truth-2.truth (ap Ok c.in-Truth-2.is)
           c.next_jump.result c.next_jump.ensures;
@@ -99,27 +93,20 @@ loop-left-preserved c =
 pub returns-in_err-truth-in-Joined-clause-meant : goal.returns-in_err-truth-in-Joined-clause-meant
 returns-in_err-truth-in-Joined-clause-meant c = λ top t whole r h.
     let s = after_test c.args.self.now c.loop-left.left c.loop-left.state c.loop-left.operands in
-    let i = s.left - 1 in
-    let x = c.in-Some.test.now in
-    let after : s.left ≡ i + 1 = omega (arith, c.loop-left-test.true) in
-    let found = c.in-Some.ensures.lookup in
-    let has = test_read c.args.self.now.tests c.in-Joined.tests c.deref.result.now i x c.in-Joined.is c.deref.ensures.value found.3.0 found.1 in
-    let p = err_from_is_err_and c.from_residual-in_err-truth-in-Joined.result c.from_residual-in_err-truth-in-Joined.ensures.1 in
-    turn_of c.args.context.now top t c.args.self.now _ i s.state c.ask.new.operands whole c.from_residual-in_err-truth-in-Joined.result c.in-Joined.is
-    (subst (IsTurn c.args.context.now top t (after_test s i s.state c.ask.new.operands) whole) (sym (p.1 ∙ ap Err p.2))
-    (turn_refused c.args.context.now top t s i x whole after has (c.loop-left.invariant.meant top t whole r h) c.ask.new.operands
+    let after : s.left ≡ (s.left - 1) + 1 = omega (arith, c.loop-left-test.true) in
+    let has = test_read _ _ _ (s.left - 1) c.in-Some.test.now c.in-Joined.is c.deref.ensures.value c.in-Some.ensures.lookup.3.0 c.in-Some.ensures.lookup.1 in
+    turn_of c.args.context.now top t c.args.self.now _ _ s.state c.ask.new.operands whole c.from_residual-in_err-truth-in-Joined.result c.in-Joined.is
+    (rw (err_is c.from_residual-in_err-truth-in-Joined.ensures.1)
+    (turn_refused c.args.context.now top t s _ _ whole after has (c.loop-left.invariant.meant top t whole r h) c.ask.new.operands
     c.in_err-truth-in-Joined.ensures.same (Err _) (λ e at q kept. c.in_err-truth-in-Joined.ensures.meant top t _ _ e r at q kept) _ refl))
 
 pub returns-in-Path-2-clause-meant : goal.returns-in-Path-2-clause-meant
 returns-in-Path-2-clause-meant c = λ top t whole r h.
     let s = after_test c.args.self.now c.loop-left.left c.loop-left.state c.loop-left.operands in
-    let i = s.left - 1 in
-    let x = c.in-Some.test.now in
-    let after : s.left ≡ i + 1 = omega (arith, c.loop-left-test.true) in
-    let found = c.in-Some.ensures.lookup in
-    let has = test_read c.args.self.now.tests c.in-Joined.tests c.deref.result.now i x c.in-Joined.is c.deref.ensures.value found.3.0 found.1 in
-    turn_of c.args.context.now top t c.args.self.now _ i s.state c.ask.new.operands whole (Ok (Some c.in-Path-2.path)) c.in-Joined.is
-    (turn_waits c.args.context.now top t s i x whole after has (c.loop-left.invariant.meant top t whole r h) c.ask.new.operands
+    let after : s.left ≡ (s.left - 1) + 1 = omega (arith, c.loop-left-test.true) in
+    let has = test_read _ _ _ (s.left - 1) c.in-Some.test.now c.in-Joined.is c.deref.ensures.value c.in-Some.ensures.lookup.3.0 c.in-Some.ensures.lookup.1 in
+    turn_of c.args.context.now top t c.args.self.now _ _ s.state c.ask.new.operands whole (Ok (Some c.in-Path-2.path)) c.in-Joined.is
+    (turn_waits c.args.context.now top t s _ _ whole after has (c.loop-left.invariant.meant top t whole r h) c.ask.new.operands
     c.in_ok-truth-in-Joined.ensures.same (Ok c.in_ok-truth-in-Joined.field-0) (λ e at q kept. c.in_ok-truth-in-Joined.ensures.meant top t _ _ e r at q kept)
     c.in-Path-2.path (ap Ok c.in-Path-2.is))
 
@@ -137,18 +124,12 @@ returns-in-Path-clause-fewer c =
     let a = c.args.self.now in
     let here = only_weighs (asking_tests a) _ a.left (ap item_tests c.in-Single.is) (omega (arith, c.if-left-eq0.false)) in
     let path = ap asked_weight c.in-Path.is in
-    let low : pending_weight c.in-Path.path.value + 0 ≤ asking_weight a = omega (arith, here, path, c.in_ok-truth-in-Single.ensures.fewer) in low
+    omega (arith, here, path, c.in_ok-truth-in-Single.ensures.fewer)
 
 pub returns-in-Path-2-clause-fewer : goal.returns-in-Path-2-clause-fewer
 returns-in-Path-2-clause-fewer c =
     let s = after_test c.args.self.now c.loop-left.left c.loop-left.state c.loop-left.operands in
-    let i = s.left - 1 in
-    let x = c.in-Some.test.now in
-    let after : s.left ≡ i + 1 = omega (arith, c.loop-left-test.true) in
-    let found = c.in-Some.ensures.lookup in
-    let has = test_read c.args.self.now.tests c.in-Joined.tests c.deref.result.now i x c.in-Joined.is c.deref.ensures.value found.3.0 found.1 in
-    let here = test_weight (asking_tests s) s.left i x after has in
-    let path = ap asked_weight c.in-Path-2.is in
-    let same = ap (λ y. tests_weight (take i (item_tests y))) c.in-Joined.is in
-    let low : pending_weight c.in-Path-2.path.value + tests_weight (take i c.in-Joined.tests.items) ≤ asking_weight c.args.self.now =
-    omega (arith, here, path, same, c.in_ok-truth-in-Joined.ensures.fewer, c.loop-left.invariant.fewer) in low
+    let has = test_read _ _ _ (s.left - 1) c.in-Some.test.now c.in-Joined.is c.deref.ensures.value c.in-Some.ensures.lookup.3.0 c.in-Some.ensures.lookup.1 in
+    let here = test_weight (asking_tests s) s.left _ _ (omega (arith, c.loop-left-test.true)) has in
+    let same = ap (λ y. tests_weight (take (s.left - 1) (item_tests y))) c.in-Joined.is in
+    omega (arith, here, ap asked_weight c.in-Path-2.is, same, c.in_ok-truth-in-Joined.ensures.fewer, c.loop-left.invariant.fewer)

@@ -1,23 +1,19 @@
-use Rattle.std.proofs.Common.{Ok, Err, refl, ap, sym, ◌∙◌, subst, ◌≡◌, ◌≤◌, ◌+◌, arith}
+use Rattle.std.proofs.Common.{ap, refl, ◌≡◌, ◌+◌, arith}
 use Rattle.std.specs.Prelude.{take}
-use Rattle.std.proofs.lemmas.Result.{err_from_is_err_and}
-use Rattle.jsonb.specs.Meaning.{truth}
-use Rattle.jsonb.specs.Private.Asking.{asking_tests, IsTurn}
-use Rattle.jsonb.specs.Private.Operands.{IsAnswer, waits_expression}
+use Rattle.jsonb.proofs.RefinesLemmas.{err_is}
+use Rattle.jsonb.specs.Private.Asking.{asking_tests}
 use Rattle.jsonb.specs.Private.Tests.{item_tests, tests_conditions}
 use Rattle.jsonb.specs.declared.selector.filters.Asking.{Asking}
 use Rattle.jsonb.proofs.AskingLemmas.{path_waits, truth_known, test_refused}
 use Rattle.jsonb.proofs.selector.filters.Asking.take.Goals as goal
-use Rattle.jsonb.specs.Private.Weights.{tests_weight, asking_weight, waits_weight, asked_weight, next_weight, pending_weight}
+use Rattle.jsonb.specs.Private.Weights.{tests_weight, asking_weight, next_weight, asked_weight}
 use Rattle.jsonb.proofs.WeightLemmas.{no_more}
 
 pub returns-in_err-truth-clause-meant : goal.returns-in_err-truth-clause-meant
 returns-in_err-truth-clause-meant c = λ top t o whole r w found.
     let s = c.args.self.now in
-    let p = err_from_is_err_and c.from_residual.result c.from_residual.ensures.1 in
     let a : Asking = record { tests = s.tests; left = s.left; state = s.state; operands = c.take.new.self } in
-    subst (IsTurn c.args.context.now top t a whole) (sym (p.1 ∙ ap Err p.2))
-    (test_refused c.args.context.now top t a w.0 c.in_err-truth.ensures.same refl refl refl _
+    rw (err_is c.from_residual.ensures.1) (test_refused c.args.context.now top t a w.0 c.in_err-truth.ensures.same refl refl refl _
     (c.in_err-truth.ensures.meant top t (tests_conditions (asking_tests s)) (tests_conditions (take s.left (asking_tests s))) o r w.0.at w.1 found))
 
 pub returns-in-Truth-clause-meant : goal.returns-in-Truth-clause-meant
@@ -27,9 +23,7 @@ returns-in-Truth-clause-meant c = λ top t o whole r w found.
     let more = tests_conditions (take s.left (asking_tests s)) in
     let answer = c.in_ok-truth.ensures.meant top t all more o r w.0.at w.1 found in
     let known = truth_known c.args.context.now top t (record { tests = s.tests; left = s.left; state = s.state; operands = c.take.new.self })
-    w.0 c.in_ok-truth.ensures.same refl refl refl c.in-Truth.truth
-    (subst (λ x. IsAnswer c.args.context.now top t all more c.take.new.self (truth c.args.context.now.mode (waits_expression c.args.waits) top t) (Ok x))
-    c.in-Truth.is answer) in
+    w.0 c.in_ok-truth.ensures.same refl refl refl c.in-Truth.truth (rw c.in-Truth.is at answer) in
     c.next.ensures.meant top t whole r (c.took.ensures.meant c.args.context.now top t whole known.0 known.1)
 
 pub returns-in-Path-clause-meant : goal.returns-in-Path-clause-meant
@@ -39,9 +33,7 @@ returns-in-Path-clause-meant c = λ top t o whole r w found.
     let more = tests_conditions (take s.left (asking_tests s)) in
     let answer = c.in_ok-truth.ensures.meant top t all more o r w.0.at w.1 found in
     path_waits c.args.context.now top t (record { tests = s.tests; left = s.left; state = s.state; operands = c.take.new.self })
-    w.0 c.in_ok-truth.ensures.same refl refl refl c.in-Path.path
-    (subst (λ x. IsAnswer c.args.context.now top t all more c.take.new.self (truth c.args.context.now.mode (waits_expression c.args.waits) top t) (Ok x))
-    c.in-Path.is answer)
+    w.0 c.in_ok-truth.ensures.same refl refl refl c.in-Path.path (rw c.in-Path.is at answer)
 
 pub returns-in-Truth-clause-fewer : goal.returns-in-Truth-clause-fewer
 returns-in-Truth-clause-fewer c =
@@ -50,8 +42,4 @@ returns-in-Truth-clause-fewer c =
     no_more c.next.result (λ next. next_weight next + asking_weight c.next.new.self) (asking_weight c.took.new.self) _ (omega (arith, left)) c.next.ensures.fewer
 
 pub returns-in-Path-clause-fewer : goal.returns-in-Path-clause-fewer
-returns-in-Path-clause-fewer c =
-    let kept = asking_weight c.args.self.now in
-    let waits = waits_weight c.args.waits in
-    let path : pending_weight c.in-Path.path.value ≤ waits = subst (λ x. asked_weight x ≤ waits) c.in-Path.is c.in_ok-truth.ensures.fewer in
-    let low : pending_weight c.in-Path.path.value + kept ≤ kept + waits = omega (arith, path) in low
+returns-in-Path-clause-fewer c = omega (arith, ap asked_weight c.in-Path.is, c.in_ok-truth.ensures.fewer)

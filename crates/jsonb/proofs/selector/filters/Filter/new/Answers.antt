@@ -1,9 +1,8 @@
 use Rattle.std.proofs.Common.{◌≡◌, ◌-◌, arith, [], ap, refl, sym, ◌∙◌, subst, length, ◌*◌, ◌+◌}
 use Rattle.std.specs.List.{AllZip}
 use Rattle.jsonb.specs.Private.Asking.{asking_tests}
-use Rattle.jsonb.specs.Private.FilterCache.{AreKept}
 use Rattle.jsonb.specs.Private.Selection.{IsAt, node_spots}
-use Rattle.jsonb.specs.Private.Tests.{IsQuestionOf, AreTestsOf, tests_conditions}
+use Rattle.jsonb.specs.Private.Tests.{tests_conditions}
 use Rattle.jsonb.specs.Private.Weights.{running_weight, tests_weight}
 use Rattle.jsonb.proofs.selector.filters.Filter.new.Goals as goal
 
@@ -15,12 +14,12 @@ returns-clause-meant c = λ top e ts zip compiled.
       others = ts;
       found = [];
       state = record {
-        compiled = subst (λ l. AreTestsOf IsQuestionOf l e) (sym c.new-2.ensures.tests) compiled;
-        left = subst (λ v. AllZip (IsAt c.args.context.now.document) (node_spots v) ts) (sym c.replace-items.ensures.value) zip;
+        compiled = rw (sym c.new-2.ensures.tests) at compiled;
+        left = rw (sym c.replace-items.ensures.value) at zip;
         done = subst (λ l. AllZip (IsAt c.args.context.now.document) l []) (sym c.new-3.ensures.items) tt;
       };
       more = all;
-      kept = subst (λ k. AreKept mode top k all all) (sym c.new-2.ensures.cached) (c.new-cache.ensures mode top all);
+      kept = rw (sym c.new-2.ensures.cached) at (c.new-cache.ensures mode top all);
       is = refl;
     }
 

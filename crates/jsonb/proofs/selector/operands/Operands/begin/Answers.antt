@@ -1,11 +1,10 @@
-use Rattle.std.proofs.Common.{Some, Ok, Err, refl, ap, sym, ◌∙◌, subst}
-use Rattle.std.proofs.lemmas.Result.{err_from_is_err_and}
+use Rattle.std.proofs.Common.{Some, Ok, refl, ap, sym, ◌∙◌}
+use Rattle.jsonb.proofs.RefinesLemmas.{err_is}
 use Rattle.jsonb_doc.specs.Answer.{and_then}
 use Rattle.jsonb.specs.Compare.{compare}
 use Rattle.jsonb.specs.PathTree.{paths, steps_of}
 use Rattle.jsonb.specs.PathViews.{steps_view, expression_view}
-use Rattle.jsonb.specs.Meaning.{truth, operand_values}
-use Rattle.jsonb.specs.Private.Operands.{IsAnswer}
+use Rattle.jsonb.specs.Meaning.{operand_values}
 use Rattle.jsonb.specs.Private.Selection.{values_view}
 use Rattle.jsonb.specs.declared.selector.filter_cache.CachedPart.TheVariants as part
 use Rattle.jsonb.proofs.KeptLemmas.{kept_same, kept_right, value_is}
@@ -34,9 +33,7 @@ returns-in_err-truth-in-Some-Right-clause-meant c = λ top t all more r s is kep
     (ap expression_view (sym c.deref.ensures) ∙ c.in-Some.ensures.1)
     ∙ ap (λ rs. and_then (operand_values mode (paths (steps_of (steps_view c.in-Some.steps.now))) top t) (λ ls. Ok (compare k.op ls rs)))
     (sym c.as_slice.ensures) in
-    let p = err_from_is_err_and c.from_residual.result c.from_residual.ensures.1 in
-    subst (IsAnswer c.args.context.now top t all more c.args.self.now (truth mode e top t)) (sym (p.1 ∙ ap Err p.2))
-    (as_refused (λ is. told ∙ is) (c.in_err-truth-in-Some-Right.ensures.meant top t c.in-Some.ensures.0 r s).err)
+    rw (err_is c.from_residual.ensures.1) (as_refused (λ is. told ∙ is) (c.in_err-truth-in-Some-Right.ensures.meant top t c.in-Some.ensures.0 r s).err)
 
 pub returns-in-Some-clause-meant : goal.returns-in-Some-clause-meant
 returns-in-Some-clause-meant c = λ top t all more r s is kept.

@@ -1,31 +1,26 @@
-use Rattle.std.proofs.Common.{◌≡◌, [], ◌∷◌, Bool, Option, Some, Ok, Err, refl, ap, sym, ◌∙◌, subst, ◌≤◌, ◌+◌, arith}
-use Rattle.std.proofs.lemmas.Result.{err_from_is_err_and}
+use Rattle.std.proofs.Common.{◌≡◌, [], ◌∷◌, Bool, Option, Some, Ok, refl, ap, sym, ◌∙◌, subst, arith}
 use Rattle.jsonb_doc.specs.Answer.{and_then}
 use Rattle.jsonb.specs.PathTree.{exists, steps_of}
 use Rattle.jsonb.specs.PathViews.{steps_view}
 use Rattle.jsonb.specs.Meaning.{truth, steps_meaning, start, is_some_item}
 use Rattle.std.specs.Prelude.{not, ◌==◌, length}
-use Rattle.jsonb.specs.Private.Operands.{IsAnswer, IsPending}
-use Rattle.jsonb.specs.Private.Running.{IsProgress}
+use Rattle.jsonb.specs.Private.Operands.{IsPending}
 use Rattle.jsonb.specs.Private.Selection.{IsAt, node_spots}
-use Rattle.jsonb.specs.declared.selector.document.Repeats.TheVariants.{AreDropped}
 use Rattle.jsonb.proofs.KeptLemmas.{value_is}
 use Rattle.jsonb.proofs.OperandLemmas.{as_refused, exists_found}
-use Rattle.jsonb.proofs.RefinesLemmas.{one_ok}
+use Rattle.jsonb.proofs.RefinesLemmas.{err_is, one_ok}
 use Rattle.jsonb.proofs.SearchLemmas.{found_any}
 use Rattle.jsonb.proofs.StepLemmas.{from_start}
 use Rattle.jsonb.proofs.selector.operands.Operands.begin_exists.Goals as goal
-use Rattle.jsonb.specs.Private.Weights.{steps_weight, at_filter_weight, progress_weight, pending_weight}
+use Rattle.jsonb.specs.Private.Weights.{progress_weight, pending_weight}
 use Rattle.jsonb.proofs.WeightLemmas.{nothing_waits}
 
 pub returns-in_err-found-clause-meant : goal.returns-in_err-found-clause-meant
 returns-in_err-found-clause-meant c = λ top t all more r s kept.
     let mode = c.args.context.now.mode in
     let ss = c.args.steps.now in
-    let p = err_from_is_err_and c.from_residual.result c.from_residual.ensures.1 in
     let view = ap (λ o. and_then o (λ ts. Ok (Some (is_some_item ts)))) (from_start mode ss ss ss top t refl refl) in
-    subst (IsAnswer c.args.context.now top t all more c.args.self.now (truth mode (exists (steps_of (steps_view ss))) top t)) (sym (p.1 ∙ ap Err p.2))
-    (as_refused (λ is. view ∙ ap (λ o. and_then o (λ ts. Ok (Some (is_some_item ts)))) is)
+    rw (err_is c.from_residual.ensures.1) (as_refused (λ is. view ∙ ap (λ o. and_then o (λ ts. Ok (Some (is_some_item ts)))) is)
     (c.in_err-found.ensures.meant top _ r (c.start_spot-first.ensures top t r s)).err)
 
 pub returns-in-Some-clause-meant : goal.returns-in-Some-clause-meant
@@ -42,9 +37,7 @@ pub returns-in_err-path-in-None-clause-meant : goal.returns-in_err-path-in-None-
 returns-in_err-path-in-None-clause-meant c = λ top t all more r s kept.
     let mode = c.args.context.now.mode in
     let ss = c.args.steps.now in
-    let p = err_from_is_err_and c.from_residual-in_err-path-in-None.result c.from_residual-in_err-path-in-None.ensures.1 in
-    subst (IsAnswer c.args.context.now top t all more c.args.self.now (truth mode (exists (steps_of (steps_view ss))) top t)) (sym (p.1 ∙ ap Err p.2))
-    (as_refused (λ is. ap (λ o. and_then o (λ ts. Ok (Some (is_some_item ts)))) is)
+    rw (err_is c.from_residual-in_err-path-in-None.ensures.1) (as_refused (λ is. ap (λ o. and_then o (λ ts. Ok (Some (is_some_item ts)))) is)
     (c.in_err-path-in-None.ensures.meant top _ r (c.start_spot-first.ensures top t r s)))
 
 pub returns-in_ok-new-in-AtFilter-clause-meant : goal.returns-in_ok-new-in-AtFilter-clause-meant
@@ -52,8 +45,7 @@ returns-in_ok-new-in-AtFilter-clause-meant c = λ top t all more r s kept.
     let context = c.args.context.now in
     let ss = steps_of (steps_view c.args.steps.now) in
     let o = steps_meaning context.mode ss top (start ss top t ∷ []) in
-    let at = subst (λ x. IsProgress context top AreDropped o (Ok x)) c.in-AtFilter.is
-    (c.in_ok-path-in-None.ensures.meant top _ r (c.start_spot-first.ensures top t r s)) in
+    let at = rw c.in-AtFilter.is at (c.in_ok-path-in-None.ensures.meant top _ r (c.start_spot-first.ensures top t r s)) in
     subst (IsPending context top t all more c.args.self.now (truth context.mode (exists (steps_of (steps_view c.args.steps.now))) top t))
     (sym c.in_ok-new-in-AtFilter.ensures.ok) (o, at.1, (kept, refl), refl)
 
@@ -62,8 +54,7 @@ returns-in-Complete-clause-meant c = λ top t all more r s kept.
     let context = c.args.context.now in
     let ss = steps_of (steps_view c.args.steps.now) in
     let o = steps_meaning context.mode ss top (start ss top t ∷ []) in
-    let done = subst (λ x. IsProgress context top AreDropped o (Ok x)) c.in-Complete.is
-    (c.in_ok-path-in-None.ensures.meant top _ r (c.start_spot-first.ensures top t r s)) in
+    let done = rw c.in-Complete.is at (c.in_ok-path-in-None.ensures.meant top _ r (c.start_spot-first.ensures top t r s)) in
     let told = exists_found context.document.bytes.now (node_spots c.in-Complete.found) o _ refl done
     ∙ ap (λ b. Ok (Some (not b))) (sym (c.is_empty.ensures ∙ ap (λ l. length l == 0) c.as_slice.ensures)) in
     c.take_exists-in-Complete.ensures.meant context top t all more kept told
@@ -73,11 +64,7 @@ returns-in-Some-clause-fewer c = nothing_waits c.take_exists.result _ c.take_exi
 
 pub returns-in_ok-new-in-AtFilter-clause-fewer : goal.returns-in_ok-new-in-AtFilter-clause-fewer
 returns-in_ok-new-in-AtFilter-clause-fewer c =
-    let path = ap progress_weight c.in-AtFilter.is in
-    let made : pending_weight c.in_ok-new-in-AtFilter.field-0.value ≡ at_filter_weight c.in-AtFilter.path.value + 0 =
-    ap pending_weight c.in_ok-new-in-AtFilter.ensures.ok in
-    let low : pending_weight c.in_ok-new-in-AtFilter.field-0.value ≤ steps_weight (steps_of (steps_view c.args.steps.now)) =
-    omega (arith, path, made, c.in_ok-path-in-None.ensures.fewer) in low
+    omega (arith, ap progress_weight c.in-AtFilter.is, ap pending_weight c.in_ok-new-in-AtFilter.ensures.ok, c.in_ok-path-in-None.ensures.fewer)
 
 pub returns-in-Complete-clause-fewer : goal.returns-in-Complete-clause-fewer
 returns-in-Complete-clause-fewer c = nothing_waits c.take_exists-in-Complete.result _ c.take_exists-in-Complete.ensures.fewer

@@ -1,32 +1,29 @@
-use Rattle.std.proofs.Common.{Ok, Err, refl, ap, sym, ◌∙◌, subst, ◌≡◌, ◌≤◌, ◌+◌, arith}
-use Rattle.std.proofs.lemmas.Result.{err_from_is_err_and}
+use Rattle.std.proofs.Common.{refl, ap, sym, subst, arith}
+use Rattle.jsonb.proofs.RefinesLemmas.{err_is}
 use Rattle.jsonb.specs.PathViews.{expression_view}
 use Rattle.jsonb.specs.Meaning.{truth, operand_values}
-use Rattle.jsonb.specs.Private.Operands.{IsOperand, IsAnswer, IsPending, comparison_view}
+use Rattle.jsonb.specs.Private.Operands.{IsPending, comparison_view}
 use Rattle.jsonb.proofs.OperandLemmas.{left_refused, as_refused}
 use Rattle.jsonb.proofs.selector.operands.Operands.begin_left.Goals as goal
-use Rattle.jsonb.specs.Private.Weights.{weight, operand_weight, at_filter_weight, pending_weight, asked_weight}
+use Rattle.jsonb.specs.Private.Weights.{weight, pending_weight, asked_weight, operand_weight}
 use Rattle.jsonb.proofs.WeightLemmas.{no_more}
 
 pub returns-in_err-lefts-clause-meant : goal.returns-in_err-lefts-clause-meant
 returns-in_err-lefts-clause-meant c = λ top t all more r s next.
     let mode = c.args.context.now.mode in
-    let p = err_from_is_err_and c.from_residual.result c.from_residual.ensures.1 in
-    subst (IsAnswer c.args.context.now top t all more c.args.self.now (truth mode (comparison_view c.args.comparison) top t)) (sym (p.1 ∙ ap Err p.2))
-    (as_refused (left_refused mode top t c.args.comparison next.0 _) (c.in_err-lefts.ensures.meant top t r s))
+    rw (err_is c.from_residual.ensures.1) (as_refused (left_refused mode top t c.args.comparison next.0 _) (c.in_err-lefts.ensures.meant top t r s))
 
 pub returns-in-Values-clause-meant : goal.returns-in-Values-clause-meant
 returns-in-Values-clause-meant c = λ top t all more r s next.
     let values = operand_values c.args.context.now.mode (expression_view c.args.comparison.left.now) top t in
-    c.take_left.ensures.meant top t all more r s next
-    (subst (λ x. IsOperand c.args.context.now top values (Ok x)) c.in-Values.is (c.in_ok-lefts.ensures.meant top t r s))
+    c.take_left.ensures.meant top t all more r s next (rw c.in-Values.is at (c.in_ok-lefts.ensures.meant top t r s))
 
 pub returns-in_ok-new-in-Path-clause-meant : goal.returns-in_ok-new-in-Path-clause-meant
 returns-in_ok-new-in-Path-clause-meant c = λ top t all more r s next.
     let context = c.args.context.now in
     let k = c.args.comparison in
     let values = operand_values context.mode (expression_view k.left.now) top t in
-    let found = subst (λ x. IsOperand context top values (Ok x)) c.in-Path.is (c.in_ok-lefts.ensures.meant top t r s) in
+    let found = rw c.in-Path.is at (c.in_ok-lefts.ensures.meant top t r s) in
     subst (IsPending context top t all more c.args.self.now (truth context.mode (comparison_view k) top t)) (sym c.in_ok-new-in-Path.ensures.ok)
     (found.0, found.1, (next, found.2), refl)
 
@@ -36,8 +33,4 @@ returns-in-Values-clause-fewer c =
 
 pub returns-in_ok-new-in-Path-clause-fewer : goal.returns-in_ok-new-in-Path-clause-fewer
 returns-in_ok-new-in-Path-clause-fewer c =
-    let left = weight (expression_view c.args.comparison.left.now) in
-    let right = weight (expression_view c.args.comparison.right.now) in
-    let path : at_filter_weight c.in-Path.path.value ≤ left = subst (λ x. operand_weight x ≤ left) c.in-Path.is c.in_ok-lefts.ensures.fewer in
-    let made : pending_weight c.in_ok-new-in-Path.field-0.value ≡ at_filter_weight c.in-Path.path.value + right = ap pending_weight c.in_ok-new-in-Path.ensures.ok in
-    let low : pending_weight c.in_ok-new-in-Path.field-0.value ≤ left + right = omega (arith, path, made) in low
+    omega (arith, ap operand_weight c.in-Path.is, ap pending_weight c.in_ok-new-in-Path.ensures.ok, c.in_ok-lefts.ensures.fewer)

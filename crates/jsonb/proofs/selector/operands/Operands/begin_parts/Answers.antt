@@ -1,8 +1,7 @@
-use Rattle.std.proofs.Common.{◌∷◌, ap, sym, ◌∙◌, subst, ◌≤◌, IfOk}
+use Rattle.std.proofs.Common.{ap, sym, ◌∙◌, subst, ◌≤◌, IfOk}
 use Rattle.jsonb.specs.PathTree.{exists, steps_of}
 use Rattle.jsonb.specs.PathViews.{steps_view}
 use Rattle.jsonb.specs.Meaning.{truth}
-use Rattle.jsonb.specs.Private.FilterCache.{AreKept}
 use Rattle.jsonb.specs.Private.Operands.{IsAnswer}
 use Rattle.jsonb.proofs.PathNodes.{exists_is}
 use Rattle.jsonb.proofs.selector.operands.Operands.begin_parts.Goals as goal
@@ -14,7 +13,7 @@ returns-in-ExistsFunc-clause-meant c = λ top t all more r s is kept.
     let view = exists_is c.args.e.now c.in-ExistsFunc.steps c.in-ExistsFunc.is
     ∙ ap (λ l. exists (steps_of (steps_view l))) (sym c.deref-in-ExistsFunc.ensures.value) in
     subst (λ x. IsAnswer c.args.context.now top t all more c.begin_exists.new.self (truth mode x top t) c.begin_exists.result) (sym view)
-    (c.begin_exists.ensures.meant top t all more r s (subst (λ x. AreKept mode top c.args.self.now.cache all (x ∷ more)) view kept))
+    (c.begin_exists.ensures.meant top t all more r s (rw view at kept))
 
 pub returns-in-ExistsFunc-clause-fewer : goal.returns-in-ExistsFunc-clause-fewer
 returns-in-ExistsFunc-clause-fewer c =

@@ -1,35 +1,32 @@
-use Rattle.std.proofs.Common.{Ok, Err, refl, ap, sym, ◌∙◌, subst, ◌≡◌, ◌≤◌, ◌+◌, arith}
-use Rattle.std.proofs.lemmas.Result.{err_from_is_err_and}
+use Rattle.std.proofs.Common.{refl, ap, sym, subst, arith}
+use Rattle.jsonb.proofs.RefinesLemmas.{err_is}
 use Rattle.jsonb.specs.PathViews.{expression_view}
 use Rattle.jsonb.specs.Meaning.{truth, operand_values}
 use Rattle.jsonb.specs.Private.Alike.{AreAlike}
-use Rattle.jsonb.specs.Private.Operands.{IsOperand, IsAnswer, IsPending, comparison_view}
+use Rattle.jsonb.specs.Private.Operands.{IsPending, comparison_view}
 use Rattle.jsonb.proofs.OperandLemmas.{left_known, right_refused, as_refused}
 use Rattle.jsonb.proofs.selector.operands.Operands.begin_right.Goals as goal
-use Rattle.jsonb.specs.Private.Weights.{weight, operand_weight, at_filter_weight, pending_weight}
+use Rattle.jsonb.specs.Private.Weights.{pending_weight, operand_weight}
 use Rattle.jsonb.proofs.WeightLemmas.{nothing_waits}
 
 pub returns-in_err-rights-clause-meant : goal.returns-in_err-rights-clause-meant
 returns-in_err-rights-clause-meant c = λ top t all more r s next left.
     let mode = c.args.context.now.mode in
     let k = c.args.comparison in
-    let p = err_from_is_err_and c.from_residual.result c.from_residual.ensures.1 in
     let known = left_known mode top t all more c.args.self.now.cache k c.args.lefts next left in
-    subst (IsAnswer c.args.context.now top t all more c.args.self.now (truth mode (comparison_view k) top t)) (sym (p.1 ∙ ap Err p.2))
-    (as_refused (right_refused mode top t k next.0 _ (AreAlike known.0) known.1) (c.in_err-rights.ensures.meant top t r s))
+    rw (err_is c.from_residual.ensures.1) (as_refused (right_refused mode top t k next.0 _ (AreAlike known.0) known.1) (c.in_err-rights.ensures.meant top t r s))
 
 pub returns-in-Values-clause-meant : goal.returns-in-Values-clause-meant
 returns-in-Values-clause-meant c = λ top t all more r s next left.
     let values = operand_values c.args.context.now.mode (expression_view c.args.comparison.right.now) top t in
-    c.take_right.ensures.meant c.args.context.now top t all more next left
-    (subst (λ x. IsOperand c.args.context.now top values (Ok x)) c.in-Values.is (c.in_ok-rights.ensures.meant top t r s))
+    c.take_right.ensures.meant c.args.context.now top t all more next left (rw c.in-Values.is at (c.in_ok-rights.ensures.meant top t r s))
 
 pub returns-in_ok-new-in-Path-clause-meant : goal.returns-in_ok-new-in-Path-clause-meant
 returns-in_ok-new-in-Path-clause-meant c = λ top t all more r s next left.
     let context = c.args.context.now in
     let k = c.args.comparison in
     let values = operand_values context.mode (expression_view k.right.now) top t in
-    let found = subst (λ x. IsOperand context top values (Ok x)) c.in-Path.is (c.in_ok-rights.ensures.meant top t r s) in
+    let found = rw c.in-Path.is at (c.in_ok-rights.ensures.meant top t r s) in
     subst (IsPending context top t all more c.args.self.now (truth context.mode (comparison_view k) top t)) (sym c.in_ok-new-in-Path.ensures.ok)
     (found.0, found.1, (next, left, found.2), refl)
 
@@ -38,8 +35,4 @@ returns-in-Values-clause-fewer c = nothing_waits c.take_right.result _ c.take_ri
 
 pub returns-in_ok-new-in-Path-clause-fewer : goal.returns-in_ok-new-in-Path-clause-fewer
 returns-in_ok-new-in-Path-clause-fewer c =
-    let left = weight (expression_view c.args.comparison.left.now) in
-    let right = weight (expression_view c.args.comparison.right.now) in
-    let path : at_filter_weight c.in-Path.path.value ≤ right = subst (λ x. operand_weight x ≤ right) c.in-Path.is c.in_ok-rights.ensures.fewer in
-    let made : pending_weight c.in_ok-new-in-Path.field-0.value ≡ at_filter_weight c.in-Path.path.value + 0 = ap pending_weight c.in_ok-new-in-Path.ensures.ok in
-    let low : pending_weight c.in_ok-new-in-Path.field-0.value ≤ right = omega (arith, path, made) in low
+    omega (arith, ap operand_weight c.in-Path.is, ap pending_weight c.in_ok-new-in-Path.ensures.ok, c.in_ok-rights.ensures.fewer)

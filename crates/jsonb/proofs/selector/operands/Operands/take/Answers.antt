@@ -1,7 +1,7 @@
 use Rattle.std.proofs.Common.{Ok, Some, ap, sym, ◌∙◌, subst, ◌≤◌, IfOk}
 use Rattle.std.specs.Prelude.{not, ◌==◌, length}
 use Rattle.jsonb.specs.Meaning.{truth}
-use Rattle.jsonb.specs.Private.Operands.{IsHeld, IsAnswer, waits_expression}
+use Rattle.jsonb.specs.Private.Operands.{IsAnswer, waits_expression}
 use Rattle.jsonb.specs.Private.Selection.{node_spots, values_view}
 use Rattle.jsonb.proofs.OperandLemmas.{exists_found, values_known}
 use Rattle.jsonb.proofs.selector.operands.Operands.take.Goals as goal
@@ -11,7 +11,7 @@ use Rattle.jsonb.proofs.WeightLemmas.{nothing_waits}
 pub returns-in-Exists-clause-meant : goal.returns-in-Exists-clause-meant
 returns-in-Exists-clause-meant c = λ top t all more o r s held found.
     let mode = c.args.context.now.mode in
-    let h = subst (λ w. IsHeld mode top t all more c.args.self.now.cache w o) c.in-Exists.is held in
+    let h = rw c.in-Exists.is at held in
     let told = exists_found c.args.context.now.document.bytes.now (node_spots c.args.found) o _ h.1 found
     ∙ ap (λ b. Ok (Some (not b))) (sym (c.is_empty.ensures ∙ ap (λ l. length l == 0) c.as_slice.ensures)) in
     subst (λ w. IsAnswer c.args.context.now top t all more c.take_exists.new.self (truth mode (waits_expression w) top t) c.take_exists.result)
@@ -20,7 +20,7 @@ returns-in-Exists-clause-meant c = λ top t all more o r s held found.
 pub returns-in-Left-clause-meant : goal.returns-in-Left-clause-meant
 returns-in-Left-clause-meant c = λ top t all more o r s held found.
     let mode = c.args.context.now.mode in
-    let h = subst (λ w. IsHeld mode top t all more c.args.self.now.cache w o) c.in-Left.is held in
+    let h = rw c.in-Left.is at held in
     let lefts = values_known c.args.context.now.document.bytes.now (node_spots c.args.found) o _ (values_view c.in_ok-lefts-in-Left.lefts) h.1 found
     (λ us zip. (c.in_ok-lefts-in-Left.ensures.meant us zip).ok) in
     subst (λ w. IsAnswer c.args.context.now top t all more c.take_left.new.self (truth mode (waits_expression w) top t) c.take_left.result)
@@ -29,7 +29,7 @@ returns-in-Left-clause-meant c = λ top t all more o r s held found.
 pub returns-clause-meant : goal.returns-clause-meant
 returns-clause-meant c = λ top t all more o r s held found.
     let mode = c.args.context.now.mode in
-    let h = subst (λ w. IsHeld mode top t all more c.args.self.now.cache w o) c.in-Right.is held in
+    let h = rw c.in-Right.is at held in
     let rights = values_known c.args.context.now.document.bytes.now (node_spots c.args.found) o _ (values_view c.in_ok-rights-in-Right.rights) h.2 found
     (λ us zip. (c.in_ok-rights-in-Right.ensures.meant us zip).ok) in
     subst (λ w. IsAnswer c.args.context.now top t all more c.take_right.new.self (truth mode (waits_expression w) top t) c.take_right.result)

@@ -1,10 +1,10 @@
-use Rattle.std.proofs.Common.{◌≡◌, ◌+◌, ◌*◌, ◌^◌, ◌≤◌, Err, ap, sym, ◌∙◌, subst, arith}
-use Rattle.std.proofs.lemmas.Result.{err_from_is_err_and}
+use Rattle.std.proofs.Common.{ap, sym, subst, arith}
+use Rattle.jsonb.proofs.RefinesLemmas.{err_is}
 use Rattle.jsonb.specs.PathTree.{filter}
 use Rattle.jsonb.specs.PathViews.{expression_view}
-use Rattle.jsonb.specs.Private.Running.{IsAtFilter, IsFiltered, running_steps}
-use Rattle.jsonb.specs.Private.Tests.{IsCompiled, item_tests}
-use Rattle.jsonb.specs.Private.Weights.{step_weight, running_weight, tests_weight, at_filter_weight}
+use Rattle.jsonb.specs.Private.Running.{IsAtFilter, running_steps}
+use Rattle.jsonb.specs.Private.Tests.{item_tests}
+use Rattle.jsonb.specs.Private.Weights.{at_filter_weight}
 use Rattle.jsonb.proofs.AroundLemmas.{step_failed}
 use Rattle.jsonb.proofs.WeightLemmas.{filter_weighs}
 use Rattle.jsonb.proofs.selector.running.Running.filter.Goals as goal
@@ -14,9 +14,8 @@ returns-in_err-found-in-Plain-clause-meant c = λ top o h.
     let context = c.args.context.now in
     let s = c.args.self in
     let e = expression_view c.args.e.now in
-    let plain = subst (λ x. IsCompiled x e) c.in-Plain.is c.in_ok-condition.ensures.tests in
-    let p = err_from_is_err_and c.from_residual-in_err-found-in-Plain.result c.from_residual-in_err-found-in-Plain.ensures.1 in
-    subst (IsFiltered context top s o) (sym (p.1 ∙ ap Err p.2))
+    let plain = rw c.in-Plain.is at c.in_ok-condition.ensures.tests in
+    rw (err_is c.from_residual-in_err-found-in-Plain.ensures.1)
     (step_failed context top s.repeats (filter e) (running_steps s) h.0 o _ (c.in_err-found-in-Plain.ensures.meant e top h.0 plain h.1).err h.2)
 
 pub returns-clause-meant : goal.returns-clause-meant
@@ -25,16 +24,12 @@ returns-clause-meant c = λ top o h.
     let s = c.args.self in
     let e = expression_view c.args.e.now in
     let at : IsAtFilter context top (record { tests = c.in-Items.tests; running = s }) o =
-    (e, h.0, h.1, subst (λ x. IsCompiled x e) c.in-Items.is c.in_ok-condition.ensures.tests, h.2) in
+    (e, h.0, h.1, rw c.in-Items.is at c.in_ok-condition.ensures.tests, h.2) in
     let made = c.in_ok-path-in-Items.ensures.ok in
     (ap (λ f. f.running.repeats) made, subst (λ f. IsAtFilter context top f o) (sym made) at)
 
 pub returns-clause-fewer : goal.returns-clause-fewer
 returns-clause-fewer c =
     let e = expression_view c.args.e.now in
-    let tests = item_tests c.in-Items.tests in
-    let whole = filter_weighs e tests (subst (λ x. IsCompiled x e) c.in-Items.is c.in_ok-condition.ensures.tests) in
-    let made : at_filter_weight c.in_ok-path-in-Items.path.value ≡ 2 ^ 64 * (1 + tests_weight tests) + running_weight c.args.self =
-    ap at_filter_weight c.in_ok-path-in-Items.ensures.ok in
-    let low : at_filter_weight c.in_ok-path-in-Items.path.value ≤ step_weight (filter e) + running_weight c.args.self =
-    omega (arith, whole, made) in low
+    let whole = filter_weighs e (item_tests c.in-Items.tests) (rw c.in-Items.is at c.in_ok-condition.ensures.tests) in
+    omega (arith, whole, ap at_filter_weight c.in_ok-path-in-Items.ensures.ok)

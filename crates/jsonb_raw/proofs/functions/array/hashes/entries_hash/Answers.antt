@@ -4,8 +4,6 @@ use Rattle.jsonb_raw.proofs.functions.array.hashes.entries_hash.Goals as goal
 
 pub loop-entry-preserved : goal.loop-entry-preserved
 loop-entry-preserved c = record {
-  can = tt;
-  finite = tt;
   few = omega arith;
   left = λ form ts h.
       SomeEntries-first form _ _ _ _ _ c.in-Ok.is c.in-Some.ensures.steps (c.loop-entry.invariant.left form ts h)

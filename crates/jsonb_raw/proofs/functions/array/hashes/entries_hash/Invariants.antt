@@ -9,8 +9,6 @@ use Rattle.jsonb_raw.proofs.functions.array.hashes.entries_hash.Given as goal
 -- a hash of the entries that are left, after those before them, is one of all
 abbrev pub invariant-loop-entry : goal.invariant-loop-entry
 invariant-loop-entry l = record {
-  can : (goal.iterator-loop-entry).can_next l.entry-iterator;
-  finite : (goal.iterator-loop-entry).is_finite l.entry-iterator;
   few : l.hash < 65536;
   left : (form : Form) (ts : Trees) → HasEntriesLeft form l.fn.entries ts
       → SomeEntries form l.entry-iterator (λ left. (m : ℕ) → AreHashed left l.hash m → AreHashed ts 5 m);

@@ -1,31 +1,24 @@
-use Rattle.std.proofs.Common.{◌≡◌, true, false, take, refl, sym, ◌∙◌, true≢false}
+use Rattle.std.proofs.Common.{◌≡◌, true, false, take, sym, ◌∙◌, true≢false}
 use Rattle.std.specs.List.{list_any}
+use Rattle.std.proofs.lemmas.Bool.{false_from_ne_true}
 use Rattle.jsonb_doc.specs.Tree.{elements}
 use Rattle.jsonb_doc.specs.Equal.{is_equal}
 use Rattle.jsonb_raw.proofs.EntriesLeft.{SomeEntries-first, SomeEntries-error, SomeEntries-none}
-use Rattle.jsonb_raw.proofs.EqualAny.{equals_one}
-use Rattle.jsonb_raw.proofs.TakenEntries.{false_unless}
+use Rattle.jsonb_raw.proofs.EntryEquals.{equals_one}
 use Rattle.jsonb_raw.proofs.functions.array.overlap.block_overlaps.Goals as goal
-
-pub loop-entry-init : goal.loop-entry-init
-loop-entry-init c = record {
-  can = tt;
-  finite = tt;
-  left = λ form other_form ts us l d marked. record { trees = ts; left = rw c.into_iter-entry-iterator.ensures.into_iter_gives l; fact = refl };
-}
 
 pub returns-in_err-entry-clause-overlap : goal.returns-in_err-entry-clause-overlap
 returns-in_err-entry-clause-overlap c = λ form other_form ts us l d marked.
-    SomeEntries-error form _ _ _ _ _ c.in_err-entry.was c.in-Some.ensures.steps (c.loop-entry.invariant.left form other_form ts us l d marked)
+    SomeEntries-error form _ _ _ _ _ c.in_err-entry.was c.in-Some.ensures.steps (c.loop-entry.invariant form other_form ts us l d marked)
 
 pub returns-in_err-find_equal_among-clause-overlap : goal.returns-in_err-find_equal_among-clause-overlap
 returns-in_err-find_equal_among-clause-overlap c = λ form other_form ts us l d marked.
-    SomeEntries-first form _ _ _ _ _ c.in_ok-entry.was c.in-Some.ensures.steps (c.loop-entry.invariant.left form other_form ts us l d marked)
+    SomeEntries-first form _ _ _ _ _ c.in_ok-entry.was c.in-Some.ensures.steps (c.loop-entry.invariant form other_form ts us l d marked)
     (λ first rest left stored fact. absurd (c.in_err-find_equal_among.ensures.found other_form form us first d stored))
 
 pub returns-then-branch-clause-overlap : goal.returns-then-branch-clause-overlap
 returns-then-branch-clause-overlap c = λ form other_form ts us l d marked.
-    SomeEntries-first form _ _ _ _ _ c.in_ok-entry.was c.in-Some.ensures.steps (c.loop-entry.invariant.left form other_form ts us l d marked)
+    SomeEntries-first form _ _ _ _ _ c.in_ok-entry.was c.in-Some.ensures.steps (c.loop-entry.invariant form other_form ts us l d marked)
     (λ first rest left stored fact.
     let found : list_any (is_equal first) (take c.args.count (elements us)) ≡ true = equals_one first (take c.args.count (elements us))
     ∙ sym (c.in_ok-find_equal_among.ensures.found other_form form us first d stored) ∙ c.if-branch.true in
@@ -33,30 +26,22 @@ returns-then-branch-clause-overlap c = λ form other_form ts us l d marked.
 
 -- its hash is free
 pub loop-entry-preserved-then-not-may_have : goal.loop-entry-preserved-then-not-may_have
-loop-entry-preserved-then-not-may_have c = record {
-  can = tt;
-  finite = tt;
-  left = λ form other_form ts us l d marked.
-      SomeEntries-first form _ _ _ _ _ c.in_ok-entry.was c.in-Some.ensures.steps (c.loop-entry.invariant.left form other_form ts us l d marked)
-      (λ first rest left stored fact.
-      let missing : list_any (is_equal first) (take c.args.count (elements us)) ≡ false =
-      false_unless (list_any (is_equal first) (take c.args.count (elements us)))
-      (λ some. true≢false (sym (c.may_have.ensures form first stored (marked first some)) ∙ c.if-not-may_have.true)) in
-      record { trees = rest; left = left; fact = rw missing at fact });
-}
+loop-entry-preserved-then-not-may_have c = λ form other_form ts us l d marked.
+    SomeEntries-first form _ _ _ _ _ c.in_ok-entry.was c.in-Some.ensures.steps (c.loop-entry.invariant form other_form ts us l d marked)
+    (λ first rest left stored fact.
+    let missing : list_any (is_equal first) (take c.args.count (elements us)) ≡ false =
+    false_from_ne_true (list_any (is_equal first) (take c.args.count (elements us)))
+    (λ some. true≢false (sym (c.may_have.ensures form first stored (marked first some)) ∙ c.if-not-may_have.true)) in
+    record { trees = rest; left = left; fact = rw missing at fact })
 
 pub loop-entry-preserved : goal.loop-entry-preserved
-loop-entry-preserved c = record {
-  can = tt;
-  finite = tt;
-  left = λ form other_form ts us l d marked.
-      SomeEntries-first form _ _ _ _ _ c.in_ok-entry.was c.in-Some.ensures.steps (c.loop-entry.invariant.left form other_form ts us l d marked)
-      (λ first rest left stored fact.
-      let missing : list_any (is_equal first) (take c.args.count (elements us)) ≡ false = equals_one first (take c.args.count (elements us))
-      ∙ sym (c.in_ok-find_equal_among.ensures.found other_form form us first d stored) ∙ c.if-branch.false in
-      record { trees = rest; left = left; fact = rw missing at fact });
-}
+loop-entry-preserved c = λ form other_form ts us l d marked.
+    SomeEntries-first form _ _ _ _ _ c.in_ok-entry.was c.in-Some.ensures.steps (c.loop-entry.invariant form other_form ts us l d marked)
+    (λ first rest left stored fact.
+    let missing : list_any (is_equal first) (take c.args.count (elements us)) ≡ false = equals_one first (take c.args.count (elements us))
+    ∙ sym (c.in_ok-find_equal_among.ensures.found other_form form us first d stored) ∙ c.if-branch.false in
+    record { trees = rest; left = left; fact = rw missing at fact })
 
 pub returns-clause-overlap : goal.returns-clause-overlap
 returns-clause-overlap c = λ form other_form ts us l d marked.
-    SomeEntries-none form _ _ _ c.in-None.ensures.steps (c.loop-entry.invariant.left form other_form ts us l d marked)
+    SomeEntries-none form _ _ _ c.in-None.ensures.steps (c.loop-entry.invariant form other_form ts us l d marked)

@@ -1,30 +1,30 @@
 use Rattle.std.proofs.Common.{sym, ap, ◌∙◌}
 use Rattle.jsonb_doc.specs.Tree.{elements}
 use Rattle.jsonb_raw.specs.Sets.{overlap}
-use Rattle.jsonb_raw.proofs.TakenEntries.{overlap_none, first_overlap, others_decide}
+use Rattle.jsonb_raw.proofs.EntriesLeft.{overlap_none, first_overlap, others_decide}
 use Rattle.jsonb_raw.proofs.functions.array.overlap.blocks_overlap.Goals as goal
 
 pub returns-in_err-ended-clause-overlap : goal.returns-in_err-ended-clause-overlap
 returns-in_err-ended-clause-overlap c = λ form other_form ts us l d.
-    let some = c.loop-ended.invariant.left form other_form ts us l d in
+    let some = c.loop-ended.invariant form other_form ts us l d in
     absurd (c.in_err-ended.ensures.passed other_form some.trees some.left)
 
 pub returns-in_err-block_overlaps-clause-overlap : goal.returns-in_err-block_overlaps-clause-overlap
 returns-in_err-block_overlaps-clause-overlap c = λ form other_form ts us l d.
-    let some = c.loop-ended.invariant.left form other_form ts us l d in
+    let some = c.loop-ended.invariant form other_form ts us l d in
     absurd (c.in_err-block_overlaps.ensures.overlap form other_form ts some.trees l some.left
     (λ t any. c.in_ok-ended.ensures.marked other_form some.trees t some.left any))
 
 pub returns-then-branch-clause-overlap : goal.returns-then-branch-clause-overlap
 returns-then-branch-clause-overlap c = λ form other_form ts us l d.
-    let some = c.loop-ended.invariant.left form other_form ts us l d in
+    let some = c.loop-ended.invariant form other_form ts us l d in
     let told = c.in_ok-block_overlaps.ensures.overlap form other_form ts some.trees l some.left
     (λ t any. c.in_ok-ended.ensures.marked other_form some.trees t some.left any) in
     first_overlap c.args.count (elements ts) (elements some.trees) _ some.fact (sym told ∙ c.if-branch.true)
 
 pub returns-then-ended-clause-overlap : goal.returns-then-ended-clause-overlap
 returns-then-ended-clause-overlap c = λ form other_form ts us l d.
-    let some = c.loop-ended.invariant.left form other_form ts us l d in
+    let some = c.loop-ended.invariant form other_form ts us l d in
     let told = c.in_ok-block_overlaps.ensures.overlap form other_form ts some.trees l some.left
     (λ t any. c.in_ok-ended.ensures.marked other_form some.trees t some.left any) in
     let none = c.in_ok-ended.ensures.ended other_form some.trees some.left c.if-ended.true in
@@ -32,16 +32,13 @@ returns-then-ended-clause-overlap c = λ form other_form ts us l d.
     ∙ others_decide c.args.count (elements ts) (elements some.trees) _ some.fact (sym told ∙ c.if-branch.false)
 
 pub loop-ended-preserved : goal.loop-ended-preserved
-loop-ended-preserved c = record {
-  left = λ form other_form ts us l d.
-      let some = c.loop-ended.invariant.left form other_form ts us l d in
-      let told = c.in_ok-block_overlaps.ensures.overlap form other_form ts some.trees l some.left
-      (λ t any. c.in_ok-ended.ensures.marked other_form some.trees t some.left any) in
-      let rest = c.in_ok-ended.ensures.passed other_form some.trees some.left in
-      record {
-        trees = rest.0;
-        left = rest.1;
-        fact = ap (overlap (elements ts)) rest.2
-            ∙ others_decide c.args.count (elements ts) (elements some.trees) _ some.fact (sym told ∙ c.if-branch.false);
-      };
-}
+loop-ended-preserved c = λ form other_form ts us l d.
+    let some = c.loop-ended.invariant form other_form ts us l d in
+    let told = c.in_ok-block_overlaps.ensures.overlap form other_form ts some.trees l some.left
+    (λ t any. c.in_ok-ended.ensures.marked other_form some.trees t some.left any) in
+    let rest = c.in_ok-ended.ensures.passed other_form some.trees some.left in
+    record {
+      trees = rest.0;
+      left = rest.1;
+      fact = cc (others_decide c.args.count (elements ts) (elements some.trees) _ some.fact (sym told ∙ c.if-branch.false));
+    }

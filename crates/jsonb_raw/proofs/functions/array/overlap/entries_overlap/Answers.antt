@@ -1,6 +1,6 @@
 use Rattle.std.proofs.Common.{inl, inr}
 use Rattle.jsonb_doc.specs.Tree.{elements}
-use Rattle.jsonb_raw.proofs.EqualAny.{overlap_swapped}
+use Rattle.jsonb_raw.proofs.EntryEquals.{overlap_swapped}
 use Rattle.jsonb_raw.proofs.functions.array.overlap.entries_overlap.Goals as goal
 
 pub returns-then-count-le1-clause-overlap : goal.returns-then-count-le1-clause-overlap

@@ -1,47 +1,36 @@
-use Rattle.std.proofs.Common.{◌≡◌, true, false, refl, sym, ◌∙◌}
+use Rattle.std.proofs.Common.{◌≡◌, true, false, sym, ◌∙◌}
 use Rattle.std.specs.List.{list_any}
 use Rattle.jsonb_doc.specs.Tree.{elements}
 use Rattle.jsonb_doc.specs.Equal.{is_equal}
 use Rattle.jsonb_raw.proofs.EntriesLeft.{SomeEntries-first, SomeEntries-error, SomeEntries-none}
-use Rattle.jsonb_raw.proofs.EqualAny.{equals_one}
+use Rattle.jsonb_raw.proofs.EntryEquals.{equals_one}
 use Rattle.jsonb_raw.proofs.functions.array.overlap.pairs_overlap.Goals as goal
-
-pub loop-entry-init : goal.loop-entry-init
-loop-entry-init c = record {
-  can = tt;
-  finite = tt;
-  left = λ form other_form ts us l d. record { trees = ts; left = rw c.into_iter-entry-iterator.ensures.into_iter_gives l; fact = refl };
-}
 
 pub returns-in_err-entry-clause-overlap : goal.returns-in_err-entry-clause-overlap
 returns-in_err-entry-clause-overlap c = λ form other_form ts us l d.
-    SomeEntries-error form _ _ _ _ _ c.in_err-entry.was c.in-Some.ensures.steps (c.loop-entry.invariant.left form other_form ts us l d)
+    SomeEntries-error form _ _ _ _ _ c.in_err-entry.was c.in-Some.ensures.steps (c.loop-entry.invariant form other_form ts us l d)
 
 pub returns-in_err-find_equal-clause-overlap : goal.returns-in_err-find_equal-clause-overlap
 returns-in_err-find_equal-clause-overlap c = λ form other_form ts us l d.
-    SomeEntries-first form _ _ _ _ _ c.in_ok-entry.was c.in-Some.ensures.steps (c.loop-entry.invariant.left form other_form ts us l d)
+    SomeEntries-first form _ _ _ _ _ c.in_ok-entry.was c.in-Some.ensures.steps (c.loop-entry.invariant form other_form ts us l d)
     (λ first rest left stored fact. absurd (c.in_err-find_equal.ensures.found other_form form us first d stored))
 
 pub returns-then-branch-clause-overlap : goal.returns-then-branch-clause-overlap
 returns-then-branch-clause-overlap c = λ form other_form ts us l d.
-    SomeEntries-first form _ _ _ _ _ c.in_ok-entry.was c.in-Some.ensures.steps (c.loop-entry.invariant.left form other_form ts us l d)
+    SomeEntries-first form _ _ _ _ _ c.in_ok-entry.was c.in-Some.ensures.steps (c.loop-entry.invariant form other_form ts us l d)
     (λ first rest left stored fact.
     let found : list_any (is_equal first) (elements us) ≡ true = equals_one first (elements us)
     ∙ sym (c.in_ok-find_equal.ensures.found other_form form us first d stored) ∙ c.if-branch.true in
     rw found at fact)
 
 pub loop-entry-preserved : goal.loop-entry-preserved
-loop-entry-preserved c = record {
-  can = tt;
-  finite = tt;
-  left = λ form other_form ts us l d.
-      SomeEntries-first form _ _ _ _ _ c.in_ok-entry.was c.in-Some.ensures.steps (c.loop-entry.invariant.left form other_form ts us l d)
-      (λ first rest left stored fact.
-      let missing : list_any (is_equal first) (elements us) ≡ false = equals_one first (elements us)
-      ∙ sym (c.in_ok-find_equal.ensures.found other_form form us first d stored) ∙ c.if-branch.false in
-      record { trees = rest; left = left; fact = rw missing at fact });
-}
+loop-entry-preserved c = λ form other_form ts us l d.
+    SomeEntries-first form _ _ _ _ _ c.in_ok-entry.was c.in-Some.ensures.steps (c.loop-entry.invariant form other_form ts us l d)
+    (λ first rest left stored fact.
+    let missing : list_any (is_equal first) (elements us) ≡ false = equals_one first (elements us)
+    ∙ sym (c.in_ok-find_equal.ensures.found other_form form us first d stored) ∙ c.if-branch.false in
+    record { trees = rest; left = left; fact = rw missing at fact })
 
 pub returns-clause-overlap : goal.returns-clause-overlap
 returns-clause-overlap c = λ form other_form ts us l d.
-    SomeEntries-none form _ _ _ c.in-None.ensures.steps (c.loop-entry.invariant.left form other_form ts us l d)
+    SomeEntries-none form _ _ _ c.in-None.ensures.steps (c.loop-entry.invariant form other_form ts us l d)

@@ -2,14 +2,6 @@ use Rattle.std.proofs.Common.{sym, ◌∙◌}
 use Rattle.jsonb_raw.proofs.ElementsSeen.{none_left, some_left, left_counted}
 use Rattle.jsonb_raw.proofs.functions.array.seen.has_more_left.Goals as goal
 
-pub returns-in_err-is_found-clause-more : goal.returns-in_err-is_found-clause-more
-returns-in_err-is_found-clause-more c = λ form other_form ts other t h k s.
-    absurd (c.in_err-is_found.ensures.more other_form form other t k s)
-
-pub returns-in_err-before-clause-more : goal.returns-in_err-before-clause-more
-returns-in_err-before-clause-more c = λ form other_form ts other t h k s.
-    absurd (c.in_err-before.ensures.count form form ts t h s)
-
 pub returns-then-not-is_found-clause-more : goal.returns-then-not-is_found-clause-more
 returns-then-not-is_found-clause-more c = λ form other_form ts other t h k s.
     none_left _ _ (sym c.if-not-is_found.true ∙ c.in_ok-is_found.ensures.more other_form form other t k s)

@@ -2,14 +2,12 @@ use Rattle.std.proofs.Common.{List, length, ◌<◌, ◌^◌}
 use Rattle.jsonb_doc.specs.Tree.{Tree}
 use Rattle.jsonb_doc.specs.Payload.{Form}
 use Rattle.jsonb_raw.specs.Private.Entries.{HoldTrees}
-use Rattle.jsonb_raw.proofs.KeysCounted.{CountsLeft}
+use Rattle.jsonb_raw.proofs.ElementsSeen.{CountsLeft}
 use Rattle.jsonb_raw.proofs.functions.array.sets.count_elements.Given as goal
 
 abbrev pub invariant-loop-key : goal.invariant-loop-key
-invariant-loop-key l = record {
-  left : (form : Form) (ts : List Tree) → HoldTrees form l.entries ts → length ts < 2 ^ 63
-      → (others : List Tree) × HoldTrees form l.left others × CountsLeft l.counts others ts;
-}
+invariant-loop-key l = (form : Form) (ts : List Tree) → HoldTrees form l.entries ts → length ts < 2 ^ 63
+    → (others : List Tree) × HoldTrees form l.left others × CountsLeft l.counts others ts
 
 abbrev pub decreases-loop-key : goal.decreases-loop-key
 decreases-loop-key l = length l.left.words.now

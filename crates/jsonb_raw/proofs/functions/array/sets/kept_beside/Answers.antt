@@ -1,12 +1,9 @@
 use Rattle.std.proofs.Common.{inl, refl, arith}
-use Rattle.std.proofs.lemmas.Result.{err_from_is_err_and}
+use Rattle.jsonb_raw.proofs.AnswerLemmas.{failed}
 use Rattle.jsonb_doc.proofs.DecodedFits.{decoded_fits}
 use Rattle.jsonb_raw.specs.Arrays.{as_elements}
 use Rattle.jsonb_raw.proofs.ElementsSeen.{members_few}
 use Rattle.jsonb_raw.proofs.functions.array.sets.kept_beside.Goals as goal
-
-pub returns-in_err-entries-clause-made : goal.returns-in_err-entries-clause-made
-returns-in_err-entries-clause-made c = λ form other_form t u d e. absurd (c.in_err-entries.ensures.few form other_form t u d e)
 
 pub returns-in-Some-clause-made : goal.returns-in-Some-clause-made
 returns-in-Some-clause-made c = λ form other_form t u d e.
@@ -17,8 +14,7 @@ returns-in-Some-clause-made c = λ form other_form t u d e.
 
 pub returns-in_err-counts-clause-made : goal.returns-in_err-counts-clause-made
 returns-in_err-counts-clause-made c = λ form other_form t u d e.
-    let p = err_from_is_err_and c.from_residual-in_err-counts.result c.from_residual-in_err-counts.ensures.1 in
-    rw (p.1, p.2) (inl (c.in_err-counts.ensures.counts other_form u e))
+    failed _ _ _ c.from_residual-in_err-counts.ensures.1 (inl (c.in_err-counts.ensures.counts other_form u e))
 
 pub returns-clause-made : goal.returns-clause-made
 returns-clause-made c = λ form other_form t u d e.

@@ -1,5 +1,5 @@
 use Rattle.std.proofs.Common.{◌∙◌, inl, sym, subst}
-use Rattle.std.proofs.lemmas.Result.{err_from_is_err_and}
+use Rattle.jsonb_raw.proofs.AnswerLemmas.{failed}
 use Rattle.jsonb_raw.specs.Sets.{select_occurrences}
 use Rattle.jsonb_raw.specs.Private.Entries.{RunsHold}
 use Rattle.jsonb_raw.specs.Private.SetCounts.{keeps}
@@ -7,62 +7,51 @@ use Rattle.jsonb_raw.proofs.SetKept.{KeptRuns-all, KeptRuns-left, KeptRuns-done,
 use Rattle.jsonb_raw.proofs.functions.array.sets.kept_elements.Goals as goal
 
 pub loop-runs-init : goal.loop-runs-init
-loop-runs-init c = record {
-  left = λ form other ts h b.
-      KeptRuns-all form c.args.kind c.args.seen other c.new-runs.result.items c.args.entries ts c.new-runs.ensures.items h b;
-}
+loop-runs-init c = λ form other ts h b.
+    KeptRuns-all form c.args.kind c.args.seen other c.new-runs.result.items c.args.entries ts c.new-runs.ensures.items h b
 
 pub returns-in_err-entry-clause-made : goal.returns-in_err-entry-clause-made
 returns-in_err-entry-clause-made c = λ form other ts h b.
-    let m = c.loop-runs.invariant.left form other ts h b in
+    let m = c.loop-runs.invariant form other ts h b in
     absurd (c.in_err-entry.ensures.first form m.rest (KeptRuns-left form _ _ other _ _ _ _ m))
 
 pub returns-in_err-keep_next-clause-made : goal.returns-in_err-keep_next-clause-made
 returns-in_err-keep_next-clause-made c = λ form other ts h b.
-    let p = err_from_is_err_and c.from_residual-in_err-keep_next.result c.from_residual-in_err-keep_next.ensures.1 in
-    let m = c.loop-runs.invariant.left form other ts h b in
+    let m = c.loop-runs.invariant form other ts h b in
     let mine = rw c.in-Some.is at (c.in_ok-entry.ensures.first form m.rest (KeptRuns-left form _ _ other _ _ _ _ m)) in
     let n = next_of form _ _ other _ _ _ _ m _ _ mine in
-    rw (p.1, p.2) (inl (c.in_err-keep_next.ensures.kept form other m.before n.ts n.t n.behind (record { content = n.first_is.part })))
+    failed _ _ _ c.from_residual-in_err-keep_next.ensures.1 (inl (c.in_err-keep_next.ensures.passed form other m.before n.ts n.t n.behind (record { content = n.first_is.part })))
 
 pub returns-in_err-push_run-clause-made : goal.returns-in_err-push_run-clause-made
 returns-in_err-push_run-clause-made c = λ form other ts h b.
-    let p = err_from_is_err_and c.from_residual-in_err-push_run.result c.from_residual-in_err-push_run.ensures.1 in
-    let m = c.loop-runs.invariant.left form other ts h b in
-    rw (p.1, p.2) (inl (c.in_err-push_run.ensures.pushed form m.held m.rest m.holds))
+    let m = c.loop-runs.invariant form other ts h b in
+    failed _ _ _ c.from_residual-in_err-push_run.ensures.1 (inl (c.in_err-push_run.ensures.pushed form m.held m.rest m.holds))
 
 pub loop-runs-preserved-in_ok-push_run : goal.loop-runs-preserved-in_ok-push_run
-loop-runs-preserved-in_ok-push_run c = record {
-  left = λ form other ts h b.
-      let m = c.loop-runs.invariant.left form other ts h b in
-      let mine = rw c.in-Some.is at (c.in_ok-entry.ensures.first form m.rest (KeptRuns-left form _ _ other _ _ _ _ m)) in
-      let n = next_of form _ _ other _ _ _ _ m _ _ mine in
-      let kept = c.in_ok-keep_next.ensures.kept form other m.before n.ts n.t n.behind (record { content = n.first_is.part }) in
-      let behind = c.in_ok-keep_next.ensures.behind form other m.before n.ts n.t n.behind (record { content = n.first_is.part }) in
-      KeptRuns-dropped form _ _ other _ _ _ _ m _ _ mine n _ _ (c.in_ok-push_run.ensures.pushed form m.held m.rest m.holds)
-      (sym kept ∙ c.if-not-branch.true) behind;
-}
+loop-runs-preserved-in_ok-push_run c = λ form other ts h b.
+    let m = c.loop-runs.invariant form other ts h b in
+    let mine = rw c.in-Some.is at (c.in_ok-entry.ensures.first form m.rest (KeptRuns-left form _ _ other _ _ _ _ m)) in
+    let n = next_of form _ _ other _ _ _ _ m _ _ mine in
+    let passed = c.in_ok-keep_next.ensures.passed form other m.before n.ts n.t n.behind (record { content = n.first_is.part }) in
+    KeptRuns-dropped form _ _ other _ _ _ _ m _ _ mine n _ _ (c.in_ok-push_run.ensures.pushed form m.held m.rest m.holds)
+    (sym passed.0 ∙ c.if-not-branch.true) passed.1
 
 pub loop-runs-preserved : goal.loop-runs-preserved
-loop-runs-preserved c = record {
-  left = λ form other ts h b.
-      let m = c.loop-runs.invariant.left form other ts h b in
-      let mine = rw c.in-Some.is at (c.in_ok-entry.ensures.first form m.rest (KeptRuns-left form _ _ other _ _ _ _ m)) in
-      let n = next_of form _ _ other _ _ _ _ m _ _ mine in
-      let kept = c.in_ok-keep_next.ensures.kept form other m.before n.ts n.t n.behind (record { content = n.first_is.part }) in
-      let behind = c.in_ok-keep_next.ensures.behind form other m.before n.ts n.t n.behind (record { content = n.first_is.part }) in
-      KeptRuns-kept form _ _ other _ _ _ _ m _ _ mine n _ (sym kept ∙ c.if-not-branch.false) behind;
-}
+loop-runs-preserved c = λ form other ts h b.
+    let m = c.loop-runs.invariant form other ts h b in
+    let mine = rw c.in-Some.is at (c.in_ok-entry.ensures.first form m.rest (KeptRuns-left form _ _ other _ _ _ _ m)) in
+    let n = next_of form _ _ other _ _ _ _ m _ _ mine in
+    let passed = c.in_ok-keep_next.ensures.passed form other m.before n.ts n.t n.behind (record { content = n.first_is.part }) in
+    KeptRuns-kept form _ _ other _ _ _ _ m _ _ mine n _ (sym passed.0 ∙ c.if-not-branch.false) passed.1
 
 pub returns-in_err-push_run-2-clause-made : goal.returns-in_err-push_run-2-clause-made
 returns-in_err-push_run-2-clause-made c = λ form other ts h b.
-    let p = err_from_is_err_and c.from_residual-in_err-push_run-2.result c.from_residual-in_err-push_run-2.ensures.1 in
-    let m = c.loop-runs.invariant.left form other ts h b in
-    rw (p.1, p.2) (inl (c.in_err-push_run-2.ensures.pushed form m.held m.rest m.holds))
+    let m = c.loop-runs.invariant form other ts h b in
+    failed _ _ _ c.from_residual-in_err-push_run-2.ensures.1 (inl (c.in_err-push_run-2.ensures.pushed form m.held m.rest m.holds))
 
 pub returns-clause-made : goal.returns-clause-made
 returns-clause-made c = λ form other ts h b.
-    let m = c.loop-runs.invariant.left form other ts h b in
+    let m = c.loop-runs.invariant form other ts h b in
     let none = rw c.in_default.is at (c.in_ok-entry.ensures.first form m.rest (KeptRuns-left form _ _ other _ _ _ _ m)) in
     let whole = KeptRuns-done form _ _ other _ _ _ _ m none in
     let held = c.in_ok-push_run-2.ensures.pushed form m.held m.rest m.holds in

@@ -8,10 +8,8 @@ use Rattle.jsonb_raw.proofs.SetKept.{KeptRuns}
 use Rattle.jsonb_raw.proofs.functions.array.sets.kept_elements.Given as goal
 
 abbrev pub invariant-loop-runs : goal.invariant-loop-runs
-invariant-loop-runs l = record {
-  left : (form : Form) (other ts : List Tree) → HoldTrees form l.entries ts → HaveSeen form l.kind l.fn.seen other [] ts
-      → KeptRuns form l.kind l.seen other l.runs.items l.run l.left (select_occurrences (keeps l.kind other) ts);
-}
+invariant-loop-runs l = (form : Form) (other ts : List Tree) → HoldTrees form l.entries ts → HaveSeen form l.kind l.fn.seen other [] ts
+    → KeptRuns form l.kind l.seen other l.runs.items l.run l.left (select_occurrences (keeps l.kind other) ts)
 
 abbrev pub decreases-loop-runs : goal.decreases-loop-runs
 decreases-loop-runs l = length l.left.words.now

@@ -1,14 +1,13 @@
 use Rattle.std.proofs.Common.{[], ◌∷◌, arith}
-use Rattle.std.proofs.lemmas.Result.{err_from_is_err_and}
+use Rattle.jsonb_raw.proofs.AnswerLemmas.{failed}
 use Rattle.jsonb_raw.proofs.SetKept.{KeptLeft-all, KeptLeft-next, KeptLeft-refused, KeptLeft-done, few_before}
 use Rattle.jsonb_raw.proofs.functions.array.sets.kept_item.Goals as goal
 
 pub returns-in_err-push_kept-clause-made : goal.returns-in_err-push_kept-clause-made
 returns-in_err-push_kept-clause-made c = λ form other t stands f b.
-    let p = err_from_is_err_and c.from_residual.result c.from_residual.ensures.1 in
     let fact = KeptLeft-all form c.args.kind c.args.counts other c.new-builder.result (t ∷ []) c.new-builder.ensures (omega arith) (f, tt) b in
     let short = few_before form c.args.kind c.args.counts other c.new-builder.result t [] _ fact in
-    rw (p.1, p.2)
+    failed _ _ _ c.from_residual.ensures.1
     (KeptLeft-refused form c.args.kind c.args.counts other c.new-builder.result t [] _ fact _
     (c.in_err-push_kept.ensures.pushed form other fact.before fact.held t stands f fact.behind short fact.holds))
 

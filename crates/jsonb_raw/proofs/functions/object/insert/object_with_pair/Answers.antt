@@ -1,9 +1,9 @@
 use Rattle.std.proofs.Common.{refl, arith, ◌+◌, [], ◌∷◌, ◌++◌}
 use Rattle.std.specs.Map.{values_of}
-use Rattle.std.proofs.lemmas.Result.{err_from_is_err_and}
+use Rattle.jsonb_raw.proofs.AnswerLemmas.{failed}
 use Rattle.jsonb_doc.specs.Tree.{text, object}
 use Rattle.jsonb_raw.proofs.Bound.{given}
-use Rattle.jsonb_raw.proofs.InsertEntries.{is_around, keys_around, values_around, all_coming, none_after}
+use Rattle.jsonb_raw.proofs.InsertLemmas.{is_around, keys_around, values_around, all_coming, none_after}
 use Rattle.jsonb_raw.proofs.functions.object.insert.object_with_pair.Goals as goal
 
 pub returns-in_err-pairs-clause-inserted : goal.returns-in_err-pairs-clause-inserted
@@ -25,17 +25,15 @@ returns-in_err-values-clause-inserted c = λ form ps t d dv at.
 
 pub returns-in_err-object-clause-inserted : goal.returns-in_err-object-clause-inserted
 returns-in_err-object-clause-inserted c = λ form ps t d dv at.
-    let e = err_from_is_err_and c.from_residual-in_err-object.result c.from_residual-in_err-object.ensures.1 in
     let h = rw c.in-Some.is at (c.in_ok-pairs.ensures.entries form (object ps) d) in
     given (is_around form _ _ _ t ps c.in-Some.pairs d h at) (λ a.
     given (keys_around form _ _ t ps _ a _ _ (c.in_ok-keys.ensures.around form _ a.names)) (λ keys.
     given (all_coming form _ _ t ps _ a (c.len.result + 1 + c.len-2.result)
     (omega (arith, c.len.ensures.count form _ keys.0, c.len-2.ensures.count form _ keys.1))) (λ makes.
-    rw (e.1, e.2) (c.in_err-object.ensures.opened form _ _ makes))))
+    failed _ _ _ c.from_residual-in_err-object.ensures.1 (c.in_err-object.ensures.opened form _ _ makes))))
 
 pub returns-in_err-copy_with-clause-inserted : goal.returns-in_err-copy_with-clause-inserted
 returns-in_err-copy_with-clause-inserted c = λ form ps t d dv at.
-    let e = err_from_is_err_and c.from_residual-in_err-copy_with.result c.from_residual-in_err-copy_with.ensures.1 in
     let h = rw c.in-Some.is at (c.in_ok-pairs.ensures.entries form (object ps) d) in
     given (is_around form _ _ _ t ps c.in-Some.pairs d h at) (λ a.
     given (keys_around form _ _ t ps _ a _ _ (c.in_ok-keys.ensures.around form _ a.names)) (λ keys.
@@ -43,11 +41,10 @@ returns-in_err-copy_with-clause-inserted c = λ form ps t d dv at.
     (omega (arith, c.len.ensures.count form _ keys.0, c.len-2.ensures.count form _ keys.1))) (λ makes.
     given (c.in_ok-object.ensures.opened form _ _ makes) (λ begun.
     let rest = values_of a.front ++ (t ∷ values_of a.back) in
-    rw (e.1, e.2) (c.in_err-copy_with.ensures.copied form _ (text c.args.key.now) _ rest [] _ keys.0 (refl, c.as_bytes.ensures.value, c.utf8.key) keys.1 begun)))))
+    failed _ _ _ c.from_residual-in_err-copy_with.ensures.1 (c.in_err-copy_with.ensures.copied form _ (text c.args.key.now) _ rest [] _ keys.0 (refl, c.as_bytes.ensures.value, c.utf8.key) keys.1 begun)))))
 
 pub returns-in_err-copy_with-2-clause-inserted : goal.returns-in_err-copy_with-2-clause-inserted
 returns-in_err-copy_with-2-clause-inserted c = λ form ps t d dv at.
-    let e = err_from_is_err_and c.from_residual-in_err-copy_with-2.result c.from_residual-in_err-copy_with-2.ensures.1 in
     let h = rw c.in-Some.is at (c.in_ok-pairs.ensures.entries form (object ps) d) in
     given (is_around form _ _ _ t ps c.in-Some.pairs d h at) (λ a.
     given (keys_around form _ _ t ps _ a _ _ (c.in_ok-keys.ensures.around form _ a.names)) (λ keys.
@@ -58,7 +55,7 @@ returns-in_err-copy_with-2-clause-inserted c = λ form ps t d dv at.
     let rest = values_of a.front ++ (t ∷ values_of a.back) in
     given (c.in_ok-copy_with.ensures.copied form _ (text c.args.key.now) _ rest [] _ keys.0 (refl, c.as_bytes.ensures.value, c.utf8.key) keys.1 begun) (λ keyed.
     let is = c.in_ok-value.ensures.entry form t dv in
-    rw (e.1, e.2) (c.in_err-copy_with-2.ensures.copied form _ t _ [] [] _ values.0 is values.1 (none_after form _ _ _ t [] _ keyed))))))))
+    failed _ _ _ c.from_residual-in_err-copy_with-2.ensures.1 (c.in_err-copy_with-2.ensures.copied form _ t _ [] [] _ values.0 is values.1 (none_after form _ _ _ t [] _ keyed))))))))
 
 pub returns-in_err-finish-clause-inserted : goal.returns-in_err-finish-clause-inserted
 returns-in_err-finish-clause-inserted c = λ form ps t d dv at.

@@ -1,5 +1,5 @@
 use Rattle.std.proofs.Common.{None, arith}
-use Rattle.std.proofs.lemmas.Result.{err_from_is_err_and}
+use Rattle.jsonb_raw.proofs.AnswerLemmas.{failed}
 use Rattle.jsonb_raw.proofs.ColumnLemmas.{key_begun, key_appended, key_refused, key_written, column_appended, first_left_of, none_left_of, read_more}
 use Rattle.jsonb_raw.proofs.functions.operator.column_key.key_of_columns.Goals as goal
 
@@ -13,8 +13,7 @@ pub returns-in_err-push_column-clause-key : goal.returns-in_err-push_column-clau
 returns-in_err-push_column-clause-key c = λ form values a.
     let inv = c.loop-column.invariant.left form values a in
     let f = first_left_of _ c.args.columns.now c.loop-column.column-index None inv.0 c.loop-column-test.true inv.1 in
-    let p = err_from_is_err_and c.from_residual.result c.from_residual.ensures.1 in
-    rw (p.1, p.2) (key_refused _ _ c.push_column.new.key.items f.first f.others values _ (rw f.whole at inv.2)
+    failed _ _ _ c.from_residual.ensures.1 (key_refused _ _ c.push_column.new.key.items f.first f.others values _ (rw f.whole at inv.2)
     (column_appended _ form _ f.first _ _ _ (λ tree d. c.in_err-push_column.ensures.key form tree d) c.in_err-push_column.ensures.missing f.holds))
 
 pub loop-column-preserved : goal.loop-column-preserved

@@ -1,5 +1,4 @@
-use Rattle.std.proofs.Common.{List, Option, drop}
-use Rattle.std.specs.Prelude.{IfSome}
+use Rattle.std.proofs.Common.{List, Option, drop, IfSome}
 use Rattle.std.specs.List.{AllByRecursion}
 use Rattle.jsonb_doc.specs.Tree.{Tree}
 use Rattle.jsonb_doc.specs.Payload.{Form}

@@ -1,8 +1,6 @@
-use Rattle.std.proofs.Common.{rules, arith, ℕ, ◌-◌, ◌||◌, List, take, Bool, Some, None, true, false, ◌≡◌, refl, sym, ◌∙◌, subst}
-use Rattle.std.specs.Prelude.{IsOkAnd}
+use Rattle.std.proofs.Common.{rules, arith, ℕ, ◌-◌, ◌||◌, List, take, Bool, Some, None, true, false, ◌≡◌, refl, sym, ◌∙◌, subst, IsOkAnd, Bor}
 use Rattle.std.proofs.lemmas.Slice.Eq.{bytes_eq-Decides}
 use Rattle.std.specs.List.{list_any}
-use Rattle.std.specs.Borrow.{Bor}
 use Rattle.jsonb_doc.specs.declared.item.Item.TheVariants as item
 use Rattle.jsonb_doc.specs.Tree.{keys, elements, members}
 use Rattle.jsonb_doc.proofs.BuilderSteps.{keys_rise}
@@ -11,13 +9,10 @@ use Rattle.jsonb_raw.specs.Private.PairSteps.{pairs_above}
 use Rattle.jsonb_raw.specs.Contains.{is_part_of, each_is_matched, each_pair_is_matched}
 use Rattle.jsonb_raw.specs.Private.Compared.{IsOneAnswer, IsTailOf, matches}
 use Rattle.jsonb_raw.proofs.ContainsLaws.{matched_refl}
-use Rattle.jsonb_raw.proofs.TakenEntries.{take_one, take_no, take_zero}
-use Rattle.jsonb_raw.proofs.EntryTails.{tail_none, tail_next, tail_along}
-use Rattle.jsonb_raw.proofs.EntriesLeft.{or_second, SomeEntries-first, SomeEntries-error, SomeEntries-none, SomePairEntries-first, SomePairEntries-error, SomePairEntries-none}
-use Rattle.jsonb_raw.proofs.EntryEquals.{same_tree}
-use Rattle.jsonb_raw.proofs.Aside.{IsAnswer, IsItemAnswer, none_aside, put_aside, part_holds, part_fails, whole_fails, aside_along, put_one_aside, one_holds, one_fails}
-use Rattle.jsonb_raw.proofs.MatchLemmas.{unmatched_key, matched_pair, no_entry_found, entry_found, scalar_match, matches_if_equal, no_object}
-use Rattle.jsonb_raw.proofs.StartLemmas.{scalar_told, scalar_found, scalars_left, scalars_decide, matched_left}
+use Rattle.jsonb_raw.proofs.EntriesLeft.{take_one, take_no, take_zero, tail_none, tail_next, tail_along, SomeEntries-first, SomeEntries-error, SomeEntries-none, SomePairEntries-first, SomePairEntries-error, SomePairEntries-none}
+use Rattle.jsonb_raw.proofs.EntryEquals.{same_tree, IsAnswer, IsItemAnswer, none_aside, put_aside, part_holds, part_fails, whole_fails, aside_along, put_one_aside, one_holds, one_fails}
+use Rattle.jsonb_raw.proofs.ContainLemmas.{unmatched_key, matched_pair, no_entry_found, entry_found, scalar_match, matches_if_equal, no_object, scalar_told, scalar_found, scalars_left, scalars_decide, matched_left}
+use Rattle.jsonb_doc.proofs.Basics.{or_second}
 use Rattle.jsonb_raw.proofs.functions.operator.contains.+contains.Goals as goal
 use Rattle.jsonb_raw.proofs.functions.operator.contains.+contains.Goals.{parts_match-in_default-via-in-Array+in_default, parts_match-in_default-via-in-Object+in_default, parts_match-in_default-via-in_default}
 
@@ -71,8 +66,6 @@ array_contains-returns-in_err-all-clause-answer t c = λ form other_form xs ys d
 
 pub array_contains-loop-wanted-init : goal.array_contains-loop-wanted-init
 array_contains-loop-wanted-init t c = record {
-  can = tt;
-  finite = tt;
   tail = tail_none c.in_ok-all.all;
   room = search rules;
   size = tt;
@@ -98,8 +91,6 @@ array_contains-returns-in_err-container_match-clause-answer t c = λ form other_
 
 pub array_contains-loop-wanted-preserved-in-Known-true : goal.array_contains-loop-wanted-preserved-in-Known-true
 array_contains-loop-wanted-preserved-in-Known-true t c = record {
-  can = tt;
-  finite = tt;
   tail = c.in_ok-container_match.ensures.tail;
   room = omega (arith, c.in-Some.ensures.steps.room, c.loop-wanted.invariant.room);
   size = c.loop-wanted.invariant.size;
@@ -124,8 +115,6 @@ array_contains-loop-wanted-preserved-then-wanted-others t c =
     let size = rw c.in_ok-wanted.was at c.in-Some.ensures.steps.size in
     let within = rw c.in-Deferred.is at c.in_ok-container_match.ensures.within in
     record {
-      can = tt;
-      finite = tt;
       tail = c.in_ok-container_match.ensures.tail;
       room = omega (arith, c.in-Some.ensures.steps.room, c.loop-wanted.invariant.room);
       size = (omega (arith, within.0, c.in_ok-all.ensures.room), omega (arith, within.1, size, c.loop-wanted.invariant.room));
@@ -170,8 +159,6 @@ array_contains-returns-then-not-branch-2-clause-answer t c = λ form other_form 
 
 pub array_contains-loop-wanted-preserved : goal.array_contains-loop-wanted-preserved
 array_contains-loop-wanted-preserved t c = record {
-  can = tt;
-  finite = tt;
   tail = c.in_ok-container_match.ensures.tail;
   room = omega (arith, c.in-Some.ensures.steps.room, c.loop-wanted.invariant.room);
   size = c.loop-wanted.invariant.size;
@@ -196,8 +183,6 @@ array_contains-returns-in-None-large-clause-answer t c = λ form other_form xs y
 -- a scalar was found
 pub array_contains-loop-wanted-preserved-then-not-is_container : goal.array_contains-loop-wanted-preserved-then-not-is_container
 array_contains-loop-wanted-preserved-then-not-is_container t c = record {
-  can = tt;
-  finite = tt;
   tail = c.loop-wanted.invariant.tail;
   room = omega (arith, c.in-Some.ensures.steps.room, c.loop-wanted.invariant.room);
   size = c.loop-wanted.invariant.size;
@@ -207,9 +192,6 @@ array_contains-loop-wanted-preserved-then-not-is_container t c = record {
       let scalar = scalar_told other_form _ first stored (sym c.is_container.ensures ∙ c.if-not-is_container.true) in
       matched_left other_form _ _ first rest (elements xs) (each_is_matched ys (elements xs)) left (scalar_found first rest (elements xs) fact.0 scalar) fact);
 }
-
-pub array_contains-returns-in_err-entries-clause-answer : goal.array_contains-returns-in_err-entries-clause-answer
-array_contains-returns-in_err-entries-clause-answer t c = λ form other_form xs ys d e. absurd (c.in_err-entries.ensures.decodes other_form ys e)
 
 pub array_contains-returns-in_err-scalars_matched-clause-answer : goal.array_contains-returns-in_err-scalars_matched-clause-answer
 array_contains-returns-in_err-scalars_matched-clause-answer t c = λ form other_form xs ys d e.
@@ -368,8 +350,6 @@ object_contains-returns-in_err-pair-items-clause-answer t c = λ form other_form
 
 pub object_contains-loop-pair-init : goal.object_contains-loop-pair-init
 object_contains-loop-pair-init t c = record {
-  can = tt;
-  finite = tt;
   room = rw c.into_iter-pair-iterator.ensures.into_iter_gives c.in_ok-pair-items.ensures.room.1;
   room_left = c.in_ok-left.ensures.room.1;
   size = tt;
@@ -413,8 +393,6 @@ object_contains-loop-pair-preserved-then-is_container_longer_than-2 t c =
     let size = rw c.in-Some-2.is at c.in_ok-entry.ensures.size in
     let wanted_size = rw c.in_ok-key.was at c.in-Some.ensures.steps.size in
     record {
-      can = tt;
-      finite = tt;
       room = omega (arith, c.in-Some.ensures.steps.room, c.loop-pair.invariant.room);
       room_left = omega (arith, c.advance_to_key.ensures.room, c.loop-pair.invariant.room_left);
       size = (omega (arith, size, c.loop-pair.invariant.room_left), omega (arith, wanted_size, c.loop-pair.invariant.room));
@@ -462,8 +440,6 @@ object_contains-returns-then-not-branch-clause-answer t c = λ form other_form p
 
 pub object_contains-loop-pair-preserved : goal.object_contains-loop-pair-preserved
 object_contains-loop-pair-preserved t c = record {
-  can = tt;
-  finite = tt;
   room = omega (arith, c.in-Some.ensures.steps.room, c.loop-pair.invariant.room);
   room_left = omega (arith, c.advance_to_key.ensures.room, c.loop-pair.invariant.room_left);
   size = c.loop-pair.invariant.size;

@@ -1,5 +1,4 @@
-use Rattle.std.proofs.Common.{◌≡◌, ℕ, ◌<◌, ◌≤◌, ◌+◌, ◌*◌, ◌||◌, Bool, true, length, take}
-use Rattle.std.specs.Prelude.{IfSome}
+use Rattle.std.proofs.Common.{◌≡◌, ℕ, ◌<◌, ◌≤◌, ◌+◌, ◌*◌, ◌||◌, Bool, true, length, take, IfSome}
 use Rattle.std.specs.List.{list_any}
 use Rattle.jsonb_doc.specs.Tree.{Tree, Trees, Pairs, array, object, keys, elements, members}
 use Rattle.jsonb_doc.specs.Payload.{Form}
@@ -12,7 +11,7 @@ use Rattle.jsonb_raw.specs.Contains.{is_part_of, each_is_matched, each_pair_is_m
 use Rattle.jsonb_raw.specs.Private.Compared.{IsOneAnswer, IsTailOf, matches}
 use Rattle.jsonb_raw.specs.Private.StartHints.{scalars_matched}
 use Rattle.jsonb_raw.proofs.EntriesLeft.{SomeEntries, SomePairEntries}
-use Rattle.jsonb_raw.proofs.Aside.{Aside, IsAnswer, IsItemAnswer, OneAside}
+use Rattle.jsonb_raw.proofs.EntryEquals.{Aside, IsAnswer, IsItemAnswer, OneAside}
 use Rattle.jsonb_raw.proofs.functions.operator.contains.+contains.Given as goal
 
 abbrev pub decreases-item_matches : goal.decreases-item_matches
@@ -50,8 +49,6 @@ decreases-item_matches-loop-answer l = item_size l.left + item_size l.right
 -- the given elements that are left decide, with the pair that was put aside
 abbrev pub invariant-array_contains-loop-wanted : goal.invariant-array_contains-loop-wanted
 invariant-array_contains-loop-wanted l = record {
-  can : (goal.iterator-array_contains-loop-wanted).can_next l.wanted-iterator;
-  finite : (goal.iterator-array_contains-loop-wanted).is_finite l.wanted-iterator;
   tail : IsTailOf l.all l.last.left;
   room : entries_room l.wanted-iterator < length l.fn.others;
   size : IfSome l.large (λ pair. (item_size pair.0 < length l.fn.bytes) × (item_size pair.1 < length l.fn.others));
@@ -79,8 +76,6 @@ decreases-find_match-loop-more l = l.more
 -- the given pairs that are left decide, by the pairs that are left, with the pair of values that was put aside
 abbrev pub invariant-object_contains-loop-pair : goal.invariant-object_contains-loop-pair
 invariant-object_contains-loop-pair l = record {
-  can : (goal.iterator-object_contains-loop-pair).can_next l.pair-iterator;
-  finite : (goal.iterator-object_contains-loop-pair).is_finite l.pair-iterator;
   room : entries_room l.pair-iterator.values < length l.fn.others;
   room_left : entries_room l.left.values < length l.fn.bytes;
   size : IfSome l.large (λ pair. (length pair.0.content.now < length l.fn.bytes) × (length pair.1.content.now < length l.fn.others));

@@ -12,8 +12,6 @@ returns-in_default-clause-answer c = λ form other_form xs y d s. absurd (rw c.i
 
 pub loop-item-init : goal.loop-item-init
 loop-item-init c = record {
-  can = tt;
-  finite = tt;
   room = search rules;
   left = λ form other_form xs y d s. SomeElements-all form xs _ _ _ _ c.in-Some.is c.into_iter-item-iterator.ensures.into_iter_gives
       (c.in_ok-found.ensures.decodes form (array xs) d) refl;
@@ -37,8 +35,6 @@ returns-then-branch-clause-answer c = λ form other_form xs y d s.
 
 pub loop-item-preserved : goal.loop-item-preserved
 loop-item-preserved c = record {
-  can = tt;
-  finite = tt;
   room = omega (arith, c.in-Some-item.ensures.steps.any_bytes.room);
   left = λ form other_form xs y d s.
       SomeElements-first form _ _ _ _ _ c.in_ok-item.was c.in-Some-item.ensures.steps (c.loop-item.invariant.left form other_form xs y d s)

@@ -11,8 +11,6 @@ use Rattle.jsonb_raw.proofs.functions.operator.contains.element_matches.Given as
 -- no element so far matches, so those that are left decide
 abbrev pub invariant-loop-item : goal.invariant-loop-item
 invariant-loop-item l = record {
-  can : (goal.iterator-loop-item).can_next l.item-iterator;
-  finite : (goal.iterator-loop-item).is_finite l.item-iterator;
   room : length l.item-iterator.entries.contents.now < length l.fn.bytes;
   left : (form other_form : Form) (xs : Trees) (y : Tree) → Decodes form l.fn.bytes (array xs) → StandsFor other_form l.fn.wanted y
       → SomeElements form l.item-iterator (λ left. list_any (is_part_of y) (elements left) ≡ list_any (is_part_of y) (elements xs));

@@ -6,8 +6,7 @@ use Rattle.jsonb_doc.specs.declared.entry_iter.EntryIter.{EntryIter}
 use Rattle.jsonb_raw.specs.Contains.{is_part_of}
 use Rattle.jsonb_raw.specs.Private.Compared.{PassesOver}
 use Rattle.jsonb_raw.proofs.EntriesLeft.{SomeEntries-first, SomeEntries-error, SomeEntries-none, passes_none}
-use Rattle.jsonb_raw.proofs.MatchLemmas.{scalar_matches}
-use Rattle.jsonb_raw.proofs.StartLemmas.{container_told, scalar_told, container_passed, found_passed, missing_tells}
+use Rattle.jsonb_raw.proofs.ContainLemmas.{scalar_matches, container_told, scalar_told, container_passed, found_passed, missing_tells}
 use Rattle.jsonb_raw.proofs.functions.operator.starts.scalars_matched.Goals as goal
 
 passes_both : (all left right : EntryIter) → PassesOver all left → PassesOver left right → PassesOver all right

@@ -3,8 +3,7 @@ use Rattle.std.specs.List.{list_any}
 use Rattle.jsonb_doc.specs.Tree.{elements}
 use Rattle.jsonb_raw.specs.Contains.{is_part_of}
 use Rattle.jsonb_raw.proofs.EntriesLeft.{SomeEntries-first, SomeEntries-error, SomeEntries-none}
-use Rattle.jsonb_raw.proofs.MatchLemmas.{scalar_matches}
-use Rattle.jsonb_raw.proofs.StartLemmas.{container_told, scalar_told, container_passed, found_passed, missing_tells}
+use Rattle.jsonb_raw.proofs.ContainLemmas.{scalar_matches, container_told, scalar_told, container_passed, found_passed, missing_tells}
 use Rattle.jsonb_raw.proofs.functions.operator.starts.scattered_matched.Goals as goal
 
 pub returns-in_default-clause-matched : goal.returns-in_default-clause-matched

@@ -1,5 +1,5 @@
 use Rattle.std.proofs.Common.{[], inl}
-use Rattle.std.proofs.lemmas.Result.{err_from_is_err_and}
+use Rattle.jsonb_raw.proofs.AnswerLemmas.{failed}
 use Rattle.jsonb_raw.specs.Private.Stripping.{entries_kept}
 use Rattle.jsonb_raw.specs.Strip.{strip}
 use Rattle.jsonb_raw.proofs.StripLists.{kept_makes}
@@ -8,14 +8,12 @@ use Rattle.jsonb_raw.proofs.functions.operator.stripping.begin.Goals as goal
 
 pub returns-in_err-writer-clause-begun : goal.returns-in_err-writer-clause-begun
 returns-in_err-writer-clause-begun c = λ form t h.
-    let e = err_from_is_err_and c.from_residual.result c.from_residual.ensures.1 in
-    rw (e.1, e.2) (c.in_err-writer.ensures.opened form (entries_kept t) (strip t) (kept_makes form t _ _ h (c.count_kept-count.ensures form t h)))
+    failed _ _ _ c.from_residual.ensures.1 (c.in_err-writer.ensures.opened form (entries_kept t) (strip t) (kept_makes form t _ _ h (c.count_kept-count.ensures form t h)))
 
 pub returns-in_err-put_keys-clause-begun : goal.returns-in_err-put_keys-clause-begun
 returns-in_err-put_keys-clause-begun c = λ form t h.
-    let e = err_from_is_err_and c.from_residual-in_err-put_keys.result c.from_residual-in_err-put_keys.ensures.1 in
     let count = c.count_kept-count.ensures form t h in
-    rw (e.1, e.2) (inl (c.in_err-put_keys.ensures.put form t [] (strip t) h count
+    failed _ _ _ c.from_residual-in_err-put_keys.ensures.1 (inl (c.in_err-put_keys.ensures.put form t [] (strip t) h count
     (c.in_ok-writer.ensures.opened form (entries_kept t) (strip t) (kept_makes form t _ _ h count))))
 
 pub returns-clause-begun : goal.returns-clause-begun

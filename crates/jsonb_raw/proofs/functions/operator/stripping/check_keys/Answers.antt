@@ -1,27 +1,18 @@
 use Rattle.std.proofs.Common.{List, ℕ, subst}
 use Rattle.jsonb_doc.specs.Private.Writer.{AreSortedKeys}
 use Rattle.jsonb_raw.specs.Private.Stripping.{IsAboveLast}
-use Rattle.jsonb_raw.proofs.NamedPairs.{text_first}
-use Rattle.jsonb_raw.proofs.StripWalk.{both_ways}
+use Rattle.jsonb_raw.proofs.RunLemmas.{text_first}
 use Rattle.jsonb_raw.proofs.functions.operator.stripping.check_keys.Goals as goal
-
-pub loop-key-init : goal.loop-key-init
-loop-key-init c = λ form ks h sorted. (ks, h, sorted, tt)
-
-pub returns-in_err-key-clause-sorted : goal.returns-in_err-key-clause-sorted
-returns-in_err-key-clause-sorted c = λ form ks h sorted.
-    let i = c.loop-key.invariant form ks h sorted in absurd (c.in_err-key.ensures.first form _ i.1)
 
 pub returns-then-not-is_above-clause-sorted : goal.returns-then-not-is_above-clause-sorted
 returns-then-not-is_above-clause-sorted c = λ form ks h sorted.
     let i = c.loop-key.invariant form ks h sorted in
     let k = text_first form _ i.0 _ _ _ c.in-Some.is (c.in_ok-key.ensures.first form _ i.1) in
-    absurd (both_ways c.is_above.result
-    (c.is_above.ensures k.rest (subst (λ (names : List (List ℕ)). IsAboveLast c.loop-key.last names) k.split i.3)) c.if-not-is_above.true)
+    absurd (cc (c.is_above.ensures k.rest (subst (λ (names : List (List ℕ)). IsAboveLast c.loop-key.last names) k.split i.3), c.if-not-is_above.true))
 
 pub loop-key-preserved : goal.loop-key-preserved
 loop-key-preserved c = λ form ks h sorted.
     let i = c.loop-key.invariant form ks h sorted in
     let k = text_first form _ i.0 _ _ _ c.in-Some.is (c.in_ok-key.ensures.first form _ i.1) in
     let rising = subst AreSortedKeys k.split i.2 in
-    (k.rest, k.others_hold, rising.1, rising.0)
+    (k.rest, k.is_first.others_hold, rising.1, rising.0)

@@ -1,13 +1,10 @@
 use Rattle.std.proofs.Common.{inl}
-use Rattle.std.proofs.lemmas.Result.{err_from_is_err_and}
+use Rattle.jsonb_raw.proofs.AnswerLemmas.{failed}
 use Rattle.jsonb_raw.specs.Private.Stripping.{entries_kept}
 use Rattle.jsonb_raw.specs.Strip.{strip}
 use Rattle.jsonb_raw.proofs.StripLists.{kept_makes}
 use Rattle.jsonb_raw.proofs.StripWalk.{begun_with, no_container}
 use Rattle.jsonb_raw.proofs.functions.operator.stripping.enter.Goals as goal
-
-pub returns-in_err-entries-clause-entered : goal.returns-in_err-entries-clause-entered
-returns-in_err-entries-clause-entered c = λ form t coming around whole is w. absurd (c.in_err-entries.ensures.entries form t (record { document = inl is }))
 
 pub returns-in_default-clause-entered : goal.returns-in_default-clause-entered
 returns-in_default-clause-entered c = λ form t coming around whole is w.
@@ -15,18 +12,16 @@ returns-in_default-clause-entered c = λ form t coming around whole is w.
 
 pub returns-in_err-outer-clause-entered : goal.returns-in_err-outer-clause-entered
 returns-in_err-outer-clause-entered c = λ form t coming around whole is w.
-    let e = err_from_is_err_and c.from_residual-in_err-outer.result c.from_residual-in_err-outer.ensures.1 in
     let h = rw c.in-Some.is at (c.in_ok-entries.ensures.entries form t (record { document = inl is })) in
     let count = c.count_kept-count.ensures form t h in
-    rw (e.1, e.2) (c.in_err-outer.ensures.entered form (entries_kept t) (strip t) coming around whole (kept_makes form t _ _ h count) w)
+    failed _ _ _ c.from_residual-in_err-outer.ensures.1 (c.in_err-outer.ensures.entered form (entries_kept t) (strip t) coming around whole (kept_makes form t _ _ h count) w)
 
 pub returns-in_err-put_keys-clause-entered : goal.returns-in_err-put_keys-clause-entered
 returns-in_err-put_keys-clause-entered c = λ form t coming around whole is w.
-    let e = err_from_is_err_and c.from_residual-in_err-put_keys.result c.from_residual-in_err-put_keys.ensures.1 in
     let h = rw c.in-Some.is at (c.in_ok-entries.ensures.entries form t (record { document = inl is })) in
     let count = c.count_kept-count.ensures form t h in
     let entered = c.in_ok-outer.ensures.entered form (entries_kept t) (strip t) coming around whole (kept_makes form t _ _ h count) w in
-    rw (e.1, e.2) (inl (c.in_err-put_keys.ensures.put form t _ whole h count entered))
+    failed _ _ _ c.from_residual-in_err-put_keys.ensures.1 (inl (c.in_err-put_keys.ensures.put form t _ whole h count entered))
 
 pub returns-clause-entered : goal.returns-clause-entered
 returns-clause-entered c = λ form t coming around whole is w.

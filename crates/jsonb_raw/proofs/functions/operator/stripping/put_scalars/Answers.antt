@@ -1,9 +1,9 @@
 use Rattle.std.proofs.Common.{arith, sym, ◌∙◌}
-use Rattle.std.proofs.lemmas.Result.{err_from_is_err_and}
+use Rattle.jsonb_raw.proofs.AnswerLemmas.{failed}
 use Rattle.jsonb_doc.specs.declared.layout.EntryKind.TheVariants.{Container}
 use Rattle.jsonb_doc.proofs.KindLemmas.{same_kind, other_kind}
-use Rattle.jsonb_raw.proofs.EntryWalks.{no_entry_left}
-use Rattle.jsonb_raw.proofs.StripWalk.{first_of, scalars_begun, scalar_kept, container_next, null_next, no_value_left}
+use Rattle.jsonb_raw.proofs.RunLemmas.{no_entry_left, entry_taken}
+use Rattle.jsonb_raw.proofs.StripWalk.{scalars_begun, scalar_kept, container_next, null_next, no_value_left}
 use Rattle.jsonb_raw.proofs.functions.operator.stripping.put_scalars.Goals as goal
 
 pub loop-entry-init : goal.loop-entry-init
@@ -17,13 +17,12 @@ returns-in_err-entry-clause-put c = λ form ts around whole h w.
 pub returns-in_err-copy_run-clause-put : goal.returns-in_err-copy_run-clause-put
 returns-in_err-copy_run-clause-put c = λ form ts around whole h w.
     let o = c.loop-entry.invariant.values form ts around whole h w in
-    let e = err_from_is_err_and c.from_residual-in_err-copy_run.result c.from_residual-in_err-copy_run.ensures.1 in
-    rw (e.1, e.2) (c.in_err-copy_run.ensures.copied form o.here _ _ around whole o.holding o.writing)
+    failed _ _ _ c.from_residual-in_err-copy_run.ensures.1 (c.in_err-copy_run.ensures.copied form o.here _ _ around whole o.holding o.writing)
 
 pub returns-then-eq-clause-put : goal.returns-then-eq-clause-put
 returns-then-eq-clause-put c = λ form ts around whole h w.
     let o = c.loop-entry.invariant.values form ts around whole h w in
-    let f = first_of form _ o.trees _ _ _ c.in-Some.is (c.in_ok-entry.ensures.first form _ o.holding.left_hold) in
+    let f = entry_taken form _ o.trees _ _ _ c.in-Some.is (c.in_ok-entry.ensures.first form _ o.holding.left_hold) in
     let copied = c.in_ok-copy_run.ensures.copied form o.here _ _ around whole o.holding o.writing in
     container_next form c.args.left.is_object _ _ _ around whole o c.in-Some.entry _ f _ copied
     (same_kind _ c.in-Some.entry.kind Container c.eq.ensures c.if-eq.true)
@@ -37,7 +36,7 @@ loop-entry-preserved-else-eq c = record {
       omega (arith, fewer, room, before);
   values = λ form ts around whole h w.
       let o = c.loop-entry.invariant.values form ts around whole h w in
-      let f = first_of form _ o.trees _ _ _ c.in-Some.is (c.in_ok-entry.ensures.first form _ o.holding.left_hold) in
+      let f = entry_taken form _ o.trees _ _ _ c.in-Some.is (c.in_ok-entry.ensures.first form _ o.holding.left_hold) in
       let copied = c.in_ok-copy_run.ensures.copied form o.here _ _ around whole o.holding o.writing in
       null_next form c.args.left.is_object _ _ _ around whole o c.in-Some.entry _ f _ copied
       (other_kind _ c.in-Some.entry.kind Container c.eq.ensures c.if-eq.false) (sym (c.stops.ensures form f.t _ f.is_first.part) ∙ c.if-stops.true);
@@ -52,7 +51,7 @@ loop-entry-preserved c = record {
       omega (arith, fewer, room, before);
   values = λ form ts around whole h w.
       let o = c.loop-entry.invariant.values form ts around whole h w in
-      let f = first_of form _ o.trees _ _ _ c.in-Some.is (c.in_ok-entry.ensures.first form _ o.holding.left_hold) in
+      let f = entry_taken form _ o.trees _ _ _ c.in-Some.is (c.in_ok-entry.ensures.first form _ o.holding.left_hold) in
       scalar_kept form c.args.left.is_object _ _ _ around whole o c.in-Some.entry _ f
       (sym (c.stops.ensures form f.t _ f.is_first.part) ∙ c.if-stops.false);
 }
@@ -60,8 +59,7 @@ loop-entry-preserved c = record {
 pub returns-in_err-copy_run-2-clause-put : goal.returns-in_err-copy_run-2-clause-put
 returns-in_err-copy_run-2-clause-put c = λ form ts around whole h w.
     let o = c.loop-entry.invariant.values form ts around whole h w in
-    let e = err_from_is_err_and c.from_residual-in_err-copy_run-2.result c.from_residual-in_err-copy_run-2.ensures.1 in
-    rw (e.1, e.2) (c.in_err-copy_run-2.ensures.copied form o.here _ _ around whole o.holding o.writing)
+    failed _ _ _ c.from_residual-in_err-copy_run-2.ensures.1 (c.in_err-copy_run-2.ensures.copied form o.here _ _ around whole o.holding o.writing)
 
 pub returns-clause-put : goal.returns-clause-put
 returns-clause-put c = λ form ts around whole h w.

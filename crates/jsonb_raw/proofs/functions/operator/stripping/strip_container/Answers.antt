@@ -1,26 +1,24 @@
-use Rattle.std.proofs.Common.{ℕ, Vec, Global, [], ◌∷◌, arith, inl, subst}
+use Rattle.std.proofs.Common.{ℕ, Vec, Global, [], ◌∷◌, arith, inl, refl, ap, ◌∙◌, subst}
 use Rattle.jsonb_doc.specs.Format.{Decodes}
 use Rattle.jsonb_doc.specs.Private.Errors.{IsOutOfMemoryOrTooLarge}
-use Rattle.std.proofs.lemmas.Result.{err_from_is_err_and}
+use Rattle.jsonb_raw.proofs.AnswerLemmas.{failed}
 use Rattle.jsonb_doc.specs.Private.Writer.{Around, IsWriting}
 use Rattle.jsonb_raw.specs.Strip.{strip}
 use Rattle.jsonb_raw.specs.Private.Stripping.{stripped}
-use Rattle.jsonb_raw.proofs.LeafWalk.{no_items}
-use Rattle.jsonb_raw.proofs.StripWalk.{pushed_outer, popped_outer, none_outside, rooms-pushed, only_ok}
+use Rattle.jsonb_raw.proofs.StripWalk.{rooms-pushed}
+use Rattle.jsonb_doc.proofs.Basics.{pushed, popped, none_around, empty_of, only_ok}
 use Rattle.jsonb_raw.proofs.functions.operator.stripping.strip_container.Goals as goal
 
 pub returns-in_err-container-clause-stripped : goal.returns-in_err-container-clause-stripped
 returns-in_err-container-clause-stripped c = λ form t h.
-    let e = err_from_is_err_and c.from_residual-in_err-container.result c.from_residual-in_err-container.ensures.1 in
     let s = c.walk.invariant form t h in
-    rw (e.1, e.2) (inl (c.in_err-container.ensures.put form s.begun.trees s.outside (strip t) s.begun.holds s.begun.writing))
+    failed _ _ _ c.from_residual-in_err-container.ensures.1 (inl (c.in_err-container.ensures.put form s.begun.trees s.outside (strip t) s.begun.holds s.begun.writing))
 
 pub returns-in_err-open-in-Some-clause-stripped : goal.returns-in_err-open-in-Some-clause-stripped
 returns-in_err-open-in-Some-clause-stripped c = λ form t h.
-    let e = err_from_is_err_and c.from_residual-in_err-open-in-Some.result c.from_residual-in_err-open-in-Some.ensures.1 in
     let s = c.walk.invariant form t h in
     let found = rw c.in-Some.is at (c.in_ok-container.ensures.put form s.begun.trees s.outside (strip t) s.begun.holds s.begun.writing) in
-    rw (e.1, e.2) (c.in_err-open-in-Some.ensures.entered form found.0 (stripped c.walk.left.is_object found.1) s.outside (strip t) found.2 found.4)
+    failed _ _ _ c.from_residual-in_err-open-in-Some.ensures.1 (c.in_err-open-in-Some.ensures.entered form found.0 (stripped c.walk.left.is_object found.1) s.outside (strip t) found.2 found.4)
 
 pub walk-smaller-in-Some : goal.walk-smaller-in-Some
 walk-smaller-in-Some c =
@@ -34,7 +32,7 @@ walk-preserved-in-Some c = λ form t h.
     let found = rw c.in-Some.is at (c.in_ok-container.ensures.put form s.begun.trees s.outside (strip t) s.begun.holds s.begun.writing) in
     record {
       outside = (c.in_ok-open-in-Some.open, stripped c.walk.left.is_object found.1) ∷ s.outside;
-      are_left = pushed_outer form _ _ _ s.outside found.1 c.in_ok-push-in-Some.ensures.items found.3 s.are_left;
+      are_left = pushed _ _ _ _ _ s.outside c.in_ok-push-in-Some.ensures.items (found.1, found.3, refl) s.are_left;
       begun = c.in_ok-open-in-Some.ensures.entered form found.0 (stripped c.walk.left.is_object found.1) s.outside (strip t) found.2 found.4;
     }
 
@@ -42,19 +40,18 @@ pub returns-in_default-clause-stripped : goal.returns-in_default-clause-stripped
 returns-in_default-clause-stripped c = λ form t h.
     let s = c.walk.invariant form t h in
     let done = rw c.in-None.is at (c.in_ok-container.ensures.put form s.begun.trees s.outside (strip t) s.begun.holds s.begun.writing) in
-    let none = none_outside form c.walk.around.items s.outside
-    (no_items c.walk.around.items (omega (arith, c.in_default.ensures.cases.0, c.walk.around.ok.0))) s.are_left in
+    let none = none_around _ c.walk.around.items s.outside
+    (empty_of c.walk.around.items (omega (arith, c.in_default.ensures.cases.0, c.walk.around.ok.0))) s.are_left in
     only_ok (λ (made : Vec ℕ Global). Decodes form made.items (strip t)) (IsOutOfMemoryOrTooLarge form (strip t)) c.finish.result
     (c.finish.ensures.written form (strip t) (subst (λ (os : Around). IsWriting form c.put_scalars.new.writer [] os (strip t)) none done))
 
 pub returns-in_err-leave-in-None-clause-stripped : goal.returns-in_err-leave-in-None-clause-stripped
 returns-in_err-leave-in-None-clause-stripped c = λ form t h.
-    let e = err_from_is_err_and c.from_residual-in_err-leave-in-None.result c.from_residual-in_err-leave-in-None.ensures.1 in
     let s = c.walk.invariant form t h in
     let done = rw c.in-None.is at (c.in_ok-container.ensures.put form s.begun.trees s.outside (strip t) s.begun.holds s.begun.writing) in
-    let p = popped_outer form _ _ c.in-Some-pop.outer s.outside c.in-Some-pop.ensures.items s.are_left in
-    let closed = subst (λ (os : Around). IsWriting form c.put_scalars.new.writer [] os (strip t)) p.outside_is done in
-    rw (e.1, e.2) (c.in_err-leave-in-None.ensures.left form (stripped c.in-Some-pop.outer.left.is_object p.trees) p.rest (strip t) closed)
+    let p = popped _ _ _ c.in-Some-pop.outer s.outside s.are_left c.in-Some-pop.ensures.items in
+    let closed = subst (λ (os : Around). IsWriting form c.put_scalars.new.writer [] os (strip t)) (p.2 ∙ ap (λ o. o ∷ p.1) p.3.2) done in
+    failed _ _ _ c.from_residual-in_err-leave-in-None.ensures.1 (c.in_err-leave-in-None.ensures.left form (stripped c.in-Some-pop.outer.left.is_object p.3.0) p.1 (strip t) closed)
 
 pub walk-smaller : goal.walk-smaller
 walk-smaller c = omega (arith, rooms-pushed _ _ _ c.in-Some-pop.ensures.items)
@@ -63,14 +60,14 @@ pub walk-preserved : goal.walk-preserved
 walk-preserved c = λ form t h.
     let s = c.walk.invariant form t h in
     let done = rw c.in-None.is at (c.in_ok-container.ensures.put form s.begun.trees s.outside (strip t) s.begun.holds s.begun.writing) in
-    let p = popped_outer form _ _ c.in-Some-pop.outer s.outside c.in-Some-pop.ensures.items s.are_left in
-    let closed = subst (λ (os : Around). IsWriting form c.put_scalars.new.writer [] os (strip t)) p.outside_is done in
+    let p = popped _ _ _ c.in-Some-pop.outer s.outside s.are_left c.in-Some-pop.ensures.items in
+    let closed = subst (λ (os : Around). IsWriting form c.put_scalars.new.writer [] os (strip t)) (p.2 ∙ ap (λ o. o ∷ p.1) p.3.2) done in
     record {
-      outside = p.rest;
-      are_left = p.are_left;
+      outside = p.1;
+      are_left = p.4;
       begun = record {
-        trees = p.trees;
-        holds = p.holds;
-        writing = c.in_ok-leave-in-None.ensures.left form (stripped c.in-Some-pop.outer.left.is_object p.trees) p.rest (strip t) closed;
+        trees = p.3.0;
+        holds = p.3.1;
+        writing = c.in_ok-leave-in-None.ensures.left form (stripped c.in-Some-pop.outer.left.is_object p.3.0) p.1 (strip t) closed;
       };
     }

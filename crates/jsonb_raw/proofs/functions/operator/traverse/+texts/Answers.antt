@@ -7,20 +7,10 @@ use Rattle.jsonb_raw.proofs.functions.operator.traverse.+texts.Goals as goal
 
 -- ---- items
 
-pub any_text_in_item-returns-in_err-told-clause-told : goal.any_text_in_item-returns-in_err-told-clause-told
-any_text_in_item-returns-in_err-told-clause-told g t c = λ form tree stands.
-    let l = c.loop-told.invariant.left form tree stands in
-    absurd (c.in_err-told.ensures.told form l.0 l.1)
-
 pub any_text_in_item-returns-then-told-clause-told : goal.any_text_in_item-returns-then-told-clause-told
 any_text_in_item-returns-then-told-clause-told g t c = λ form tree stands.
     let l = c.loop-told.invariant.left form tree stands in
     l.2 true (rw c.if-told.true at (c.in_ok-told.ensures.told form l.0 l.1))
-
-pub any_text_in_item-returns-in_default-clause-told : goal.any_text_in_item-returns-in_default-clause-told
-any_text_in_item-returns-in_default-clause-told g t c = λ form tree stands.
-    let l = c.loop-told.invariant.left form tree stands in
-    l.2 false (rw (c.if-told.false, c.in_default.is) at (c.in_ok-told.ensures.told form l.0 l.1))
 
 pub any_text_in_item-loop-told-preserved : goal.any_text_in_item-loop-told-preserved
 any_text_in_item-loop-told-preserved g t c = record {
@@ -71,8 +61,6 @@ array_tells-returns-in_err-entry-items-clause-told g t c = λ form ts d. absurd 
 
 pub array_tells-loop-entry-init : goal.array_tells-loop-entry-init
 array_tells-loop-entry-init g t c = record {
-  can = tt;
-  finite = tt;
   size = tt;
   room = search rules;
   left = λ form ts d. record {
@@ -84,8 +72,6 @@ array_tells-loop-entry-init g t c = record {
 
 pub array_tells-loop-entry-preserved : goal.array_tells-loop-entry-preserved
 array_tells-loop-entry-preserved g t c = record {
-  can = tt;
-  finite = tt;
   size = c.loop-entry.invariant.size;
   room = omega (arith, c.in-Some.ensures.steps.room, c.loop-entry.invariant.room);
   left = λ form ts d.
@@ -122,8 +108,6 @@ array_tells-loop-entry-preserved-then-is_container_longer_than g t c =
     let none : c.loop-entry.large ≡ None = none_yet _ _ c.is_none.ensures c.if-is_none.true in
     let size = rw c.in_ok-entry.was at c.in-Some.ensures.steps.size in
     record {
-      can = tt;
-      finite = tt;
       size = omega (arith, c.in_ok-item.ensures.size, size, c.loop-entry.invariant.room);
       room = omega (arith, c.in-Some.ensures.steps.room, c.loop-entry.invariant.room);
       left = λ form ts d.
@@ -143,8 +127,6 @@ object_tells-returns-in_err-pair-items-clause-told g t c = λ form ps d. absurd 
 
 pub object_tells-loop-pair-init : goal.object_tells-loop-pair-init
 object_tells-loop-pair-init g t c = record {
-  can = tt;
-  finite = tt;
   size = tt;
   room = search rules;
   left = λ form ps d. record {
@@ -182,8 +164,6 @@ object_tells-returns-then-branch-clause-told g t c = λ form ps d.
 
 pub object_tells-loop-pair-preserved : goal.object_tells-loop-pair-preserved
 object_tells-loop-pair-preserved g t c = record {
-  can = tt;
-  finite = tt;
   size = c.loop-pair.invariant.size;
   room = omega (arith, c.in-Some.ensures.steps.room, c.loop-pair.invariant.room);
   left = λ form ps d.
@@ -206,8 +186,6 @@ object_tells-loop-pair-preserved-then-is_container_longer_than g t c =
     let none : c.loop-pair.large ≡ None = none_yet _ _ c.is_none.ensures c.if-is_none.true in
     let size = rw c.in_ok-key.was at c.in-Some.ensures.steps.size in
     record {
-      can = tt;
-      finite = tt;
       size = omega (arith, c.in_ok-item.ensures.size, size, c.loop-pair.invariant.room);
       room = omega (arith, c.in-Some.ensures.steps.room, c.loop-pair.invariant.room);
       left = λ form ps d.
@@ -239,12 +217,3 @@ pub object_tells-returns-in_err-item-clause-told : goal.object_tells-returns-in_
 object_tells-returns-in_err-item-clause-told g t c = λ form ps d.
     SomePairEntries-first form _ _ _ _ _ c.in_ok-key.was c.in-Some.ensures.steps (c.loop-pair.invariant.left form ps d)
     (λ value rest left stored fact. absurd (c.in_err-item.ensures.decodes form value stored.content))
-
-pub array_tells-returns-then-branch-clause-less : goal.array_tells-returns-then-branch-clause-less
-array_tells-returns-then-branch-clause-less g t c = rw c.of.ensures.all tt
-
-pub object_tells-returns-then-func-clause-less : goal.object_tells-returns-then-func-clause-less
-object_tells-returns-then-func-clause-less g t c = rw c.of.ensures.all tt
-
-pub object_tells-returns-then-branch-clause-less : goal.object_tells-returns-then-branch-clause-less
-object_tells-returns-then-branch-clause-less g t c = rw c.of-then-branch.ensures.all tt

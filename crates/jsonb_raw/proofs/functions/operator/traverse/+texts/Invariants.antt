@@ -1,4 +1,4 @@
-use Rattle.std.proofs.Common.{◌<◌, ◌≤◌, ◌+◌, ◌*◌, length, Bool}
+use Rattle.std.proofs.Common.{◌<◌, ◌≤◌, ◌+◌, ◌*◌, length, Bool, IfSome}
 use Rattle.jsonb_doc.specs.Tree.{Tree, Trees, Pairs, array, object}
 use Rattle.jsonb_doc.specs.Payload.{Form}
 use Rattle.jsonb_doc.specs.Format.{Decodes}
@@ -6,7 +6,6 @@ use Rattle.jsonb_doc.specs.Item.{StandsFor}
 use Rattle.jsonb_doc.specs.AnyBytes.Items.{item_size}
 use Rattle.jsonb_doc.specs.Private.Stored.{entries_room}
 use Rattle.jsonb_raw.specs.Texts.{texts, texts_of_trees, texts_of_pairs, Tells}
-use Rattle.std.specs.Prelude.{IfSome}
 use Rattle.jsonb_raw.proofs.TextLemmas.{Leaves}
 use Rattle.jsonb_raw.proofs.EntriesLeft.{SomeEntries, SomePairEntries}
 use Rattle.jsonb_raw.proofs.functions.operator.traverse.+texts.Given as goal
@@ -40,8 +39,6 @@ decreases-object_tells g l = 4 * length l.bytes.now
 -- each call so far returned false, so what is left decides
 abbrev pub invariant-array_tells-loop-entry : goal.invariant-array_tells-loop-entry
 invariant-array_tells-loop-entry g l = record {
-  can : (goal.iterator-array_tells-loop-entry g).can_next l.entry-iterator;
-  finite : (goal.iterator-array_tells-loop-entry g).is_finite l.entry-iterator;
   size : IfSome l.large (λ item. item_size item < length l.fn.bytes);
   room : entries_room l.entry-iterator < length l.fn.bytes;
   left : (form : Form) (ts : Trees) → Decodes form l.fn.bytes (array ts)
@@ -50,8 +47,6 @@ invariant-array_tells-loop-entry g l = record {
 
 abbrev pub invariant-object_tells-loop-pair : goal.invariant-object_tells-loop-pair
 invariant-object_tells-loop-pair g l = record {
-  can : (goal.iterator-object_tells-loop-pair g).can_next l.pair-iterator;
-  finite : (goal.iterator-object_tells-loop-pair g).is_finite l.pair-iterator;
   size : IfSome l.large (λ item. item_size item < length l.fn.bytes);
   room : entries_room l.pair-iterator.values < length l.fn.bytes;
   left : (form : Form) (ps : Pairs) → Decodes form l.fn.bytes (object ps)

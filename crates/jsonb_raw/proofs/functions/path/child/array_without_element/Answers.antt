@@ -2,9 +2,6 @@ use Rattle.std.proofs.Common.{take}
 use Rattle.jsonb_raw.proofs.ChildAnswers.{drop_one_more}
 use Rattle.jsonb_raw.proofs.functions.path.child.array_without_element.Goals as goal
 
-pub returns-in_err-front-clause-deleted : goal.returns-in_err-front-clause-deleted
-returns-in_err-front-clause-deleted c = λ form ts h. absurd (c.in_err-front.ensures.around form ts h)
-
 pub returns-clause-deleted : goal.returns-clause-deleted
 returns-clause-deleted c = λ form ts h.
     let parts = rw drop_one_more at (c.in_ok-front.ensures.around form ts h) in

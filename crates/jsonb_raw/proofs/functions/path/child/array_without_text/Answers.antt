@@ -1,10 +1,9 @@
 use Rattle.std.proofs.Common.{◌≡◌, true, false, not, filter, refl, sym, ◌∙◌}
-use Rattle.std.proofs.lemmas.Result.{err_from_is_err_and}
+use Rattle.jsonb_raw.proofs.AnswerLemmas.{failed}
 use Rattle.jsonb_doc.specs.Tree.{elements}
 use Rattle.jsonb_raw.specs.Exists.{is_text}
 use Rattle.jsonb_doc.proofs.BuilderSteps.{front_whole}
-use Rattle.jsonb_raw.proofs.IteratorItems.{SomeElements-error, SomeElements-none}
-use Rattle.jsonb_raw.proofs.PushLoops.{elements_begun, elements_pushed, elements_refused, elements_skipped}
+use Rattle.jsonb_raw.proofs.IteratorItems.{SomeElements-error, SomeElements-none, elements_begun, elements_pushed, elements_refused, elements_skipped}
 use Rattle.jsonb_raw.proofs.functions.path.child.array_without_text.Goals as goal
 
 pub returns-in_err-elements-clause-deleted : goal.returns-in_err-elements-clause-deleted
@@ -28,8 +27,7 @@ loop-element-preserved-in_ok-push_item c = λ form ts d.
 
 pub returns-in_err-push_item-clause-deleted : goal.returns-in_err-push_item-clause-deleted
 returns-in_err-push_item-clause-deleted c = λ form ts d.
-    let p = err_from_is_err_and c.from_residual-in_err-push_item.result c.from_residual-in_err-push_item.ensures.1 in
-    rw (p.1, p.2) (elements_refused form (λ left. filter (λ t. not (is_text c.args.name.now t)) (elements left))
+    failed _ _ _ c.from_residual-in_err-push_item.ensures.1 (elements_refused form (λ left. filter (λ t. not (is_text c.args.name.now t)) (elements left))
     (filter (λ t. not (is_text c.args.name.now t)) (elements ts)) _ _ _ _ _ c.in_ok-element.was c.in-Some.ensures.steps
     (c.loop-element.invariant form ts d) (λ t. t) c.in_err-push_item.field-0.0
     (λ t rest stands. let other : is_text c.args.name.now t ≡ false = sym (c.is_text.ensures form t stands) ∙ c.if-not-is_text.true in rw other refl)

@@ -3,7 +3,7 @@ use Rattle.jsonb_doc.specs.Tree.{Trees, array, elements}
 use Rattle.jsonb_doc.specs.Payload.{Form}
 use Rattle.jsonb_doc.specs.Format.{Decodes}
 use Rattle.jsonb_raw.specs.Exists.{is_text}
-use Rattle.jsonb_raw.proofs.PushLoops.{HeldElements}
+use Rattle.jsonb_raw.proofs.IteratorItems.{HeldElements}
 use Rattle.jsonb_raw.proofs.functions.path.child.array_without_text.Given as goal
 
 abbrev pub invariant-loop-element : goal.invariant-loop-element

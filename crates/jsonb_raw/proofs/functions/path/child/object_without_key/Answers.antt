@@ -1,7 +1,5 @@
-use Rattle.std.proofs.Common.{◌≡◌, Some, None, not, sym, ◌∙◌}
-use Rattle.std.specs.Prelude.{position}
+use Rattle.std.proofs.Common.{◌≡◌, Some, None, not, sym, ◌∙◌, position, bytes_eq}
 use Rattle.std.specs.Map.{keys_of}
-use Rattle.std.specs.Str.{bytes_eq}
 use Rattle.jsonb_doc.specs.Tree.{object, members}
 use Rattle.jsonb_doc.proofs.TreeLists.{pairs_of-members}
 use Rattle.jsonb_doc.proofs.LimitLemmas.{decoded_members}

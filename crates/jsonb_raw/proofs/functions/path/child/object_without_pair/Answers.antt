@@ -1,15 +1,9 @@
 use Rattle.std.specs.List.{remove}
 use Rattle.jsonb_doc.proofs.BuilderSteps.{keys_rise}
 use Rattle.jsonb_raw.proofs.ChildAnswers.{drop_one_more}
-use Rattle.jsonb_raw.proofs.JoinedEntries.{two_runs}
+use Rattle.jsonb_raw.proofs.RunLemmas.{two_runs}
 use Rattle.jsonb_raw.proofs.NamedPairs.{names_around, values_around}
 use Rattle.jsonb_raw.proofs.functions.path.child.object_without_pair.Goals as goal
-
-pub returns-in_err-keys-clause-deleted : goal.returns-in_err-keys-clause-deleted
-returns-in_err-keys-clause-deleted c = λ form ps h are. absurd (c.in_err-keys.ensures.around form _ h.names)
-
-pub returns-in_err-values-clause-deleted : goal.returns-in_err-values-clause-deleted
-returns-in_err-values-clause-deleted c = λ form ps h are. absurd (c.in_err-values.ensures.around form _ h.parts)
 
 pub returns-clause-deleted : goal.returns-clause-deleted
 returns-clause-deleted c = λ form ps h are.

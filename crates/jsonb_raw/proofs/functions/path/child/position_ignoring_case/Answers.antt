@@ -1,7 +1,7 @@
 use Rattle.std.proofs.Common.{◌≡◌, ◌+◌, ◌∙◌, refl, sym, ap, rules}
 use Rattle.jsonb_raw.proofs.ChildAnswers.{decided}
-use Rattle.jsonb_raw.proofs.NamePlaces.{found_behind_both, both_here, both_other, both_further, both_nowhere}
-use Rattle.jsonb_raw.proofs.NamedPairs.{text_first, no_text_left}
+use Rattle.jsonb_raw.proofs.NamedPairs.{found_behind_both, both_here, both_other, both_further, both_nowhere}
+use Rattle.jsonb_raw.proofs.RunLemmas.{text_first, no_text_left}
 use Rattle.jsonb_raw.proofs.functions.path.child.position_ignoring_case.Goals as goal
 use Rattle.jsonb_raw.proofs.functions.path.child.position_ignoring_case.Goals.{then-eq_ignore_ascii_case+else-eq, else-eq_ignore_ascii_case}
 
@@ -28,7 +28,7 @@ loop-key-preserved c = record {
         | else-eq_ignore_ascii_case w ↦ ap (λ o. found_behind_both (passed + 1) o name f.rest) w.in_other_case-is
             ∙ both_further passed first name _ i.0 f.rest _ f.split (case ∙ w.if-eq_ignore_ascii_case.false) refl
       ] in
-      (f.rest, f.others_hold, left ∙ i.2);
+      (f.rest, f.is_first.others_hold, left ∙ i.2);
 }
 
 pub returns-clause-position : goal.returns-clause-position

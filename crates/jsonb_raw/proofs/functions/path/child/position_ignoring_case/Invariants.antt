@@ -3,7 +3,7 @@ use Rattle.jsonb_doc.specs.Tree.{text}
 use Rattle.jsonb_doc.specs.Payload.{Form}
 use Rattle.jsonb_raw.specs.Private.NamePositions.{position_in_some_case}
 use Rattle.jsonb_raw.specs.Private.Entries.{HoldTrees}
-use Rattle.jsonb_raw.proofs.NamePlaces.{found_behind_both}
+use Rattle.jsonb_raw.proofs.NamedPairs.{found_behind_both}
 use Rattle.jsonb_raw.proofs.functions.path.child.position_ignoring_case.Given as goal
 
 -- the position is that among the keys that are left, after those that were passed

@@ -1,51 +1,55 @@
-use Rattle.std.proofs.Common.{rules, ap}
+use Rattle.std.proofs.Common.{rules, refl, ap}
 use Rattle.std.proofs.lemmas.Result.{err_from_is_err_and}
 use Rattle.jsonb_keypath.specs.KeyPathViews.{key_view}
 use Rattle.jsonb_keypath.specs.Private.KeysView.{keys_view}
-use Rattle.jsonb_raw.proofs.MetLemmas.{walk_begun, met_next, met_no_position, met_no_child}
+use Rattle.jsonb_raw.proofs.CutLemmas.{root_value, short_more, short_all}
+use Rattle.jsonb_raw.proofs.DeleteLemmas.{place_is}
+use Rattle.jsonb_raw.proofs.MetLemmas.{walk_begun, met_next, met_none, met_all}
 use Rattle.jsonb_raw.proofs.functions.path.delete.location.Goals as goal
 
 pub loop-step-init : goal.loop-step-init
 loop-step-init g c = record {
   can = search rules;
   finite = search rules;
-  left = λ left tells t d.
-      rw (c.new-positions.ensures.items, c.into_iter-step-iterator.ensures.into_iter_gives) (walk_begun _ _ _ t (c.in_ok-spot.ensures.marks t d));
+  short = rw c.new-parents.ensures.items tt;
+  left = λ left tells form t d.
+      rw c.into_iter-step-iterator.ensures.into_iter_gives
+      (walk_begun form t c.new-parents.result.items _ (keys_view (left c.args.steps)) c.new-parents.ensures.items (root_value form _ t refl d));
 }
 
-pub returns-in_err-position-clause-place : goal.returns-in_err-position-clause-place
-returns-in_err-position-clause-place g c = λ left tells t d.
-    let p = err_from_is_err_and c.from_residual-in_err-position.result c.from_residual-in_err-position.ensures.1 in
-    let w = c.loop-step.invariant.left left tells t d in
-    rw (p.1, p.2) (c.in_err-position.ensures.position w.here w.marks)
+pub returns-in_err-parent-clause-place : goal.returns-in_err-parent-clause-place
+returns-in_err-parent-clause-place g c = λ left tells form t d.
+    let p = err_from_is_err_and c.from_residual.result c.from_residual.ensures.1 in
+    let w = c.loop-step.invariant.left left tells form t d in
+    rw (p.1, p.2) (c.in_err-parent.ensures.child form w.here w.holds)
 
-pub returns-in_err-child-clause-place : goal.returns-in_err-child-clause-place
-returns-in_err-child-clause-place g c = λ left tells t d.
-    let w = c.loop-step.invariant.left left tells t d in absurd (c.in_err-child.ensures.child w.here w.marks)
+pub returns-in_default-clause-place : goal.returns-in_default-clause-place
+returns-in_default-clause-place g c = λ left tells form t d.
+    let w = c.loop-step.invariant.left left tells form t d in
+    let steps = ap keys_view (tells _ _ _ c.in-Some.ensures.steps) in
+    let none = rw c.in_default.is at (c.in_ok-parent.ensures.child form w.here w.holds) in
+    rw (met_none form t _ _ (key_view c.in-Some.step.now) _ (keys_view (left c.next.new.self)) _ steps w none) tt
 
 pub loop-step-preserved : goal.loop-step-preserved
 loop-step-preserved g c = record {
   can = search rules;
   finite = search rules;
-  left = λ left tells t d.
-      let w = c.loop-step.invariant.left left tells t d in
+  short =
+      let s = rw c.in-Some-2.is at c.in_ok-parent.ensures.short in
+      short_more c.loop-step.parents.items _ c.in-Some-2.parent _ _ c.in_ok-push.ensures.items c.loop-step.invariant.short s.0 s.1;
+  left = λ left tells form t d.
+      let w = c.loop-step.invariant.left left tells form t d in
       let steps = ap keys_view (tells _ _ _ c.in-Some.ensures.steps) in
-      let meets = rw c.in-Some-2.is at (c.in_ok-position.ensures.position w.here w.marks) in
-      let marks = rw c.in-Some-3.is at (c.in_ok-child.ensures.child w.here w.marks) in
-      rw c.in_ok-push.ensures.items (met_next _ _ _ (key_view c.in-Some.step.now) _ (keys_view (left c.next.new.self)) _ steps w _ _ meets marks);
+      let into = rw c.in-Some-2.is at (c.in_ok-parent.ensures.child form w.here w.holds) in
+      met_next form t _ _ (key_view c.in-Some.step.now) _ (keys_view (left c.next.new.self)) _ steps w c.in-Some-2.parent c.in-Some-2.child _
+      c.in_ok-push.ensures.items into;
 }
 
-pub returns-in_default-clause-place : goal.returns-in_default-clause-place
-returns-in_default-clause-place g c = λ left tells t d.
-    let w = c.loop-step.invariant.left left tells t d in
-    let steps = ap keys_view (tells _ _ _ c.in-Some.ensures.steps) in
-    let none = rw c.in_default.is at (c.in_ok-position.ensures.position w.here w.marks) in
-    rw (met_no_position _ _ _ (key_view c.in-Some.step.now) _ (keys_view (left c.next.new.self)) _ steps w none) tt
+pub returns-clause-place : goal.returns-clause-place
+returns-clause-place g c = λ left tells form t d.
+    let w = c.loop-step.invariant.left left tells form t d in
+    let none = ap keys_view (tells _ _ _ c.in-None.ensures.steps).0 in
+    place_is form t c.loop-step.parents _ (met_all form t _ _ _ _ none w)
 
-pub returns-in_default-2-clause-place : goal.returns-in_default-2-clause-place
-returns-in_default-2-clause-place g c = λ left tells t d.
-    let w = c.loop-step.invariant.left left tells t d in
-    let steps = ap keys_view (tells _ _ _ c.in-Some.ensures.steps) in
-    let meets = rw c.in-Some-2.is at (c.in_ok-position.ensures.position w.here w.marks) in
-    let none = rw c.in_default-2.is at (c.in_ok-child.ensures.child w.here w.marks) in
-    rw (met_no_child _ _ _ (key_view c.in-Some.step.now) _ (keys_view (left c.next.new.self)) _ steps w _ meets none) tt
+pub returns-clause-short : goal.returns-clause-short
+returns-clause-short g c = short_all c.loop-step.parents.items _ c.loop-step.invariant.short

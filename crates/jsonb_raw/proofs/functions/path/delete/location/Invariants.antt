@@ -1,19 +1,21 @@
-use Rattle.std.proofs.Common.{List}
+use Rattle.std.proofs.Common.{List, length}
 use Rattle.jsonb_doc.specs.Tree.{Tree}
-use Rattle.jsonb_doc.specs.Payload.{any}
+use Rattle.jsonb_doc.specs.Payload.{Form}
 use Rattle.jsonb_doc.specs.Format.{Decodes}
 use Rattle.jsonb_keypath.specs.declared.key_path.KeyPath.{KeyPath}
 use Rattle.jsonb_keypath.specs.Private.KeysView.{keys_view}
 use Rattle.jsonb_raw.specs.Iterators.{YieldsItemsLeft}
 use Rattle.jsonb_raw.specs.Places.{location}
+use Rattle.jsonb_raw.specs.Private.Cuts.{AreShort}
 use Rattle.jsonb_raw.proofs.MetLemmas.{Walked}
 use Rattle.jsonb_raw.proofs.functions.path.delete.location.Given as goal
 
--- what the steps that are left select in the tree at the spot comes after the positions so far
+-- what the steps that are left select in the tree of the entry comes after the positions so far
 abbrev pub invariant-loop-step : goal.invariant-loop-step
 invariant-loop-step g l = record {
   can : (goal.iterator-loop-step g).can_next l.step-iterator;
   finite : (goal.iterator-loop-step g).is_finite l.step-iterator;
-  left : (left : _ → List KeyPath) → YieldsItemsLeft (goal.iterator-loop-step g).next_gives left → (t : Tree) → Decodes any l.bytes t
-      → Walked l.bytes l.positions.items l.spot (keys_view (left l.step-iterator)) (location (keys_view (left l.fn.steps)) t);
+  short : AreShort l.parents.items (length l.entry.content.now);
+  left : (left : _ → List KeyPath) → YieldsItemsLeft (goal.iterator-loop-step g).next_gives left → (form : Form) (t : Tree) → Decodes form l.bytes t
+      → Walked form t l.parents.items l.entry (keys_view (left l.step-iterator)) (location (keys_view (left l.fn.steps)) t);
 }

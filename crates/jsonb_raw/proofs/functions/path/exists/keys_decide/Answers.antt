@@ -1,6 +1,6 @@
 use Rattle.std.proofs.Common.{rules, sym, ◌∙◌}
 use Rattle.jsonb_doc.specs.Tree.{object, keys}
-use Rattle.jsonb_raw.proofs.ExistsLemmas.{decided, left_open, none_decided}
+use Rattle.jsonb_raw.proofs.PairStepLemmas.{decided, left_open, none_decided}
 use Rattle.jsonb_raw.proofs.functions.path.exists.keys_decide.Goals as goal
 
 pub returns-in_err-has-clause-has : goal.returns-in_err-has-clause-has

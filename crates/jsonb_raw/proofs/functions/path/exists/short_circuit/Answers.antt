@@ -1,7 +1,7 @@
 use Rattle.std.proofs.Common.{rules, refl, sym, ◌∙◌}
 use Rattle.jsonb_raw.specs.Private.NameBlocks.{texts_of}
 use Rattle.jsonb_raw.proofs.NameBlockLemmas.{array_decided}
-use Rattle.jsonb_raw.proofs.ExistsLemmas.{decided, left_open, none_decided}
+use Rattle.jsonb_raw.proofs.PairStepLemmas.{decided, left_open, none_decided}
 use Rattle.jsonb_raw.proofs.functions.path.exists.short_circuit.Goals as goal
 
 pub returns-in_err-has-clause-has : goal.returns-in_err-has-clause-has

@@ -2,7 +2,7 @@ use Rattle.std.proofs.Common.{refl}
 use Rattle.jsonb_doc.specs.Tree.{keys}
 use Rattle.jsonb_raw.specs.Private.NameBlocks.{texts_of}
 use Rattle.jsonb_raw.proofs.NameBlockLemmas.{text_among}
-use Rattle.jsonb_raw.proofs.CursorSteps.{still_texts}
+use Rattle.jsonb_raw.proofs.PairStepLemmas.{still_texts}
 use Rattle.jsonb_raw.proofs.functions.path.exists.texts_have.Goals as goal
 
 pub returns-in-Keys-clause-has : goal.returns-in-Keys-clause-has

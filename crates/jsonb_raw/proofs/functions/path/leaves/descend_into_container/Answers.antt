@@ -7,9 +7,6 @@ pub returns-then-is_ignored_array-clause-leaf : goal.returns-then-is_ignored_arr
 returns-then-is_ignored_array-clause-leaf c = λ form t content.
     whole_array c.args.ignore_array t (sym (c.is_ignored_array.ensures form t content) ∙ c.if-is_ignored_array.true)
 
-pub returns-in_err-level-clause-leaf : goal.returns-in_err-level-clause-leaf
-returns-in_err-level-clause-leaf c = λ form t content. absurd (c.in_err-level.ensures.level form t content)
-
 pub returns-then-len-eq0-clause-leaf : goal.returns-then-len-eq0-clause-leaf
 returns-then-len-eq0-clause-leaf c = λ form t content.
     let left = all_left form t _ (c.in_ok-level.ensures.level form t content) in

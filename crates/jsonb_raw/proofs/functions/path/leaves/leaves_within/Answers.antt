@@ -1,9 +1,10 @@
 use Rattle.std.proofs.Common.{arith, inr, [], ◌∷◌, ap, length}
-use Rattle.std.proofs.lemmas.Result.{err_from_is_err_and}
+use Rattle.jsonb_raw.proofs.AnswerLemmas.{failed}
 use Rattle.jsonb_raw.specs.Private.Levels.{parts}
 use Rattle.jsonb_raw.specs.Private.LeafSteps.{IsKept}
 use Rattle.jsonb_raw.proofs.LevelLemmas.{parts_left, pushed_around, popped_around, SomeParts-first, SomeParts-none, SomeParts-error, falls_within, falls_beside, falls_done}
-use Rattle.jsonb_raw.proofs.LeafWalk.{no_items, last_of, fronts_as_many, one_more, item_leaves, walk_begun, entry_leaves, leaf_found, leaf_of_whole, part_entered, level_done, walk_done}
+use Rattle.jsonb_raw.proofs.LeafWalk.{last_of, fronts_as_many, one_more, item_leaves, walk_begun, entry_leaves, leaf_found, leaf_of_whole, part_entered, level_done, walk_done}
+use Rattle.jsonb_doc.proofs.Basics.{empty_of}
 use Rattle.jsonb_raw.proofs.functions.path.leaves.leaves_within.Goals as goal
 
 pub walk-init : goal.walk-init
@@ -50,10 +51,9 @@ walk-preserved-in-Some-3 g c = record {
 
 pub returns-in_err-push_leaf-in-None-2-clause-leaves : goal.returns-in_err-push_leaf-in-None-2-clause-leaves
 returns-in_err-push_leaf-in-None-2-clause-leaves g c = λ form t stands.
-    let p = err_from_is_err_and c.from_residual-in_err-push_leaf-in-None-2.result c.from_residual-in_err-push_leaf-in-None-2.ensures.1 in
     SomeParts-first form _ _ _ _ _ _ (λ ps h. rw c.in-Some-2.is at (c.in_ok-name.ensures.takes form ps h)) (c.walk.invariant.left form t stands)
     (λ part rest others keyed is left around fact.
-    rw (p.1, p.2) (inr (leaf_of_whole (IsKept (g.P.LeafOutput.IsOf form)) c.args.ignore_array
+    failed _ _ _ c.from_residual-in_err-push_leaf-in-None-2.ensures.1 (inr (leaf_of_whole (IsKept (g.P.LeafOutput.IsOf form)) c.args.ignore_array
     (λ leaf. g.P.LeafOutput.IsRefusalOf form leaf.1 c.in_err-push_leaf-in-None-2.field-0.0) _ _ _ _ part rest others _ fact
     (rw c.in-None-2.is at (c.in_ok-inner-in-Some-2.ensures.leaf form part.1 is)) (c.in_ok-key-in-Some-2.ensures.name part.0 keyed)
     (c.in_err-push_leaf-in-None-2.ensures.leaf form part.1 is))))
@@ -99,4 +99,4 @@ pub returns-in-None-pop-clause-leaves : goal.returns-in-None-pop-clause-leaves
 returns-in-None-pop-clause-leaves g c = λ form t stands.
     SomeParts-none form _ _ _ _ (λ ps h. rw c.in-None.is at (c.in_ok-name.ensures.takes form ps h)) (c.walk.invariant.left form t stands)
     (λ others around fact. walk_done (IsKept (g.P.LeafOutput.IsOf form)) c.args.ignore_array _ _ c.walk.index others _
-    (no_items c.walk.steps.items (omega (arith, c.walk.invariant.as_many, c.in-None-pop.ensures.cases.0, c.walk.around.ok.0))) fact)
+    (empty_of c.walk.steps.items (omega (arith, c.walk.invariant.as_many, c.in-None-pop.ensures.cases.0, c.walk.around.ok.0))) fact)

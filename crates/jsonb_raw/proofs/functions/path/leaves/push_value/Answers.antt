@@ -1,6 +1,6 @@
 use Rattle.std.proofs.Common.{◌∙◌}
 use Rattle.std.proofs.lemmas.Result.{MatchResult-weaker}
-use Rattle.jsonb_raw.proofs.LeafAnswers.{number_stored}
+use Rattle.jsonb_raw.proofs.LeafWalk.{number_stored}
 use Rattle.jsonb_raw.proofs.functions.path.leaves.push_value.Goals as goal
 
 pub returns-in-Some-clause-leaf : goal.returns-in-Some-clause-leaf

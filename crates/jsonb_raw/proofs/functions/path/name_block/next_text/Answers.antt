@@ -22,8 +22,6 @@ returns-clause-takes c = λ form ss h.
 
 pub loop-entry-preserved : goal.loop-entry-preserved
 loop-entry-preserved c = record {
-  can = tt;
-  finite = tt;
   fewer = let lower = c.in-Some.ensures.goes.on tt in omega (arith, lower.2, c.loop-entry.invariant.fewer);
   texts = λ form ss h.
       text_passed form _ _ ss (c.loop-entry.invariant.texts form ss h) _ _ c.in_ok-entry.was c.in-Some.ensures.steps

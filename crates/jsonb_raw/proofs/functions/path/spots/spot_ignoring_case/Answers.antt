@@ -3,8 +3,7 @@ use Rattle.std.specs.Map.{keys_of}
 use Rattle.jsonb_doc.specs.Tree.{members}
 use Rattle.jsonb_raw.specs.Children.{named_child}
 use Rattle.jsonb_raw.specs.Private.NamePositions.{position_in_some_case}
-use Rattle.jsonb_raw.proofs.ChildSpots.{named_place}
-use Rattle.jsonb_raw.proofs.NamePlaces.{named_at_none}
+use Rattle.jsonb_raw.proofs.NamedPairs.{named_place, named_at_none}
 use Rattle.jsonb_raw.proofs.PartedRuns.{pairs_there}
 use Rattle.jsonb_raw.proofs.functions.path.spots.spot_ignoring_case.Goals as goal
 

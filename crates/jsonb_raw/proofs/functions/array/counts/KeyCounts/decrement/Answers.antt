@@ -1,5 +1,5 @@
 use Rattle.std.proofs.Common.{◌∙◌, ◌-◌, ap, sym, unwrap_or, rules}
-use Rattle.jsonb_raw.proofs.KeysCounted.{counted_less, counted_none}
+use Rattle.jsonb_raw.proofs.ElementsSeen.{counted_less, counted_none}
 use Rattle.jsonb_raw.proofs.functions.array.counts.KeyCounts.decrement.Goals as goal
 
 pub returns-in-Some-clause-less : goal.returns-in-Some-clause-less

@@ -1,6 +1,6 @@
 use Rattle.std.proofs.Common.{◌∷◌}
 use Rattle.jsonb_raw.specs.Private.Names.{DecideFrom}
-use Rattle.jsonb_raw.proofs.NameLemmas.{first_found, first_above, first_passed, none_decides, name_taken}
+use Rattle.jsonb_raw.proofs.PartedRuns.{first_found, first_above, first_passed, none_decides, name_taken}
 use Rattle.jsonb_raw.proofs.functions.object.names.SortedNames.has.Goals as goal
 
 pub returns-in_default-clause-found : goal.returns-in_default-clause-found
@@ -28,6 +28,3 @@ loop-step-preserved c = record {
       (name_taken _ _ _ _ c.copied-self.ensures c.next.ensures.steps);
   names = c.loop-step.invariant.names;
 }
-
-pub returns-clause-found : goal.returns-clause-found
-returns-clause-found c = λ utf8 d. rw c.loop-step.invariant.names at (c.look_up.ensures utf8)

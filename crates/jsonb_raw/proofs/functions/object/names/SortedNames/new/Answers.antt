@@ -1,5 +1,5 @@
 use Rattle.std.proofs.Common.{◌∙◌}
-use Rattle.jsonb_raw.proofs.NameLemmas.{all_decide, name_taken}
+use Rattle.jsonb_raw.proofs.PartedRuns.{all_decide, name_taken}
 use Rattle.jsonb_raw.proofs.functions.object.names.SortedNames.new.Goals as goal
 
 pub returns-clause-decides : goal.returns-clause-decides

@@ -16,13 +16,6 @@ loop-key-init c = record {
   names = c.has-is_in.ensures.names;
 }
 
-pub returns-in_err-key-clause-run : goal.returns-in_err-key-clause-run
-returns-in_err-key-clause-run c = λ form ps h a d.
-    let m = c.loop-key.invariant.run form ps h a d in absurd (c.in_err-key.ensures.first form _ m.hold)
-
-pub returns-in_err-key-clause-names : goal.returns-in_err-key-clause-names
-returns-in_err-key-clause-names c = c.loop-key.invariant.names
-
 pub returns-then-has-is_in-clause-run : goal.returns-then-has-is_in-clause-run
 returns-then-has-is_in-clause-run c = λ form ps h a d.
     let m = c.loop-key.invariant.run form ps h a d in
@@ -30,12 +23,6 @@ returns-then-has-is_in-clause-run c = λ form ps h a d.
     let decided : DecideFrom c.loop-key.self.names.now c.in-Some-2.key.content.now (names_left c.loop-key.self) =
     rw c.loop-key.invariant.names (key_decided form _ _ _ _ _ _ m _ _ n) in
     names_again form _ _ _ _ _ _ m _ _ n _ (rw c.loop-key.invariant.names at (c.has.ensures.decides decided))
-
-pub returns-then-has-is_in-clause-names : goal.returns-then-has-is_in-clause-names
-returns-then-has-is_in-clause-names c = c.has.ensures.names ∙ c.loop-key.invariant.names
-
-pub returns-then-has-is_in-clause-fewer : goal.returns-then-has-is_in-clause-fewer
-returns-then-has-is_in-clause-fewer c = c.loop-key.invariant.fewer
 
 pub loop-key-preserved : goal.loop-key-preserved
 loop-key-preserved c = record {
@@ -51,12 +38,3 @@ loop-key-preserved c = record {
       (found ∙ same_truth _ _ c.if-has-is_in.false);
   names = c.has.ensures.names ∙ c.loop-key.invariant.names;
 }
-
-pub returns-clause-run : goal.returns-clause-run
-returns-clause-run c = λ form ps h a d. c.loop-key.invariant.run form ps h a d
-
-pub returns-clause-names : goal.returns-clause-names
-returns-clause-names c = c.loop-key.invariant.names
-
-pub returns-clause-fewer : goal.returns-clause-fewer
-returns-clause-fewer c = c.loop-key.invariant.fewer

@@ -1,6 +1,6 @@
 use Rattle.std.proofs.Common.{◌≡◌, ◌-◌, arith}
 use Rattle.jsonb_doc.specs.Tree.{count}
-use Rattle.jsonb_raw.proofs.EntryTails.{tail_none, tail_whole, tail_turned}
+use Rattle.jsonb_raw.proofs.EntriesLeft.{tail_none, tail_whole, tail_turned}
 use Rattle.jsonb_raw.proofs.functions.operator.contains.LastMatch.parts.Goals as goal
 
 pub returns-then-self : goal.returns-then-self

@@ -1,7 +1,7 @@
 use Rattle.std.proofs.Common.{refl}
 use Rattle.jsonb_raw.specs.Private.Compared.{PassesOver}
 use Rattle.jsonb_raw.proofs.EntriesLeft.{passes_none}
-use Rattle.jsonb_raw.proofs.StartLemmas.{repeated_each}
+use Rattle.jsonb_raw.proofs.ContainLemmas.{repeated_each}
 use Rattle.jsonb_raw.proofs.functions.operator.starts.StartHints.new.Goals as goal
 
 pub returns : goal.returns

@@ -1,9 +1,9 @@
 use Rattle.std.proofs.Common.{arith, ◌<◌, length, subst}
 use Rattle.jsonb_raw.specs.Private.Compared.{PassesOver}
-use Rattle.jsonb_raw.proofs.StartLemmas.{any_default}
+use Rattle.std.proofs.lemmas.List.{get_or_default}
 use Rattle.jsonb_raw.proofs.functions.operator.starts.StartHints.take.Goals as goal
 
 pub returns-clause-start : goal.returns-clause-start
 returns-clause-start c =
     let within : c.args.self.now.passed < length c.args.self.now.at = omega (arith, c.requires.many) in
-    subst (λ start. PassesOver c.args.all start) (any_default c.args.self.now.at c.args.self.now.passed _ _ within) (c.requires.at c.args.self.now.passed)
+    subst (λ start. PassesOver c.args.all start) (get_or_default c.args.self.now.at c.args.self.now.passed _ _ within) (c.requires.at c.args.self.now.passed)

@@ -2,7 +2,7 @@ use Rattle.std.proofs.Common.{◌≡◌, false, sym, ◌∙◌, true≢false}
 use Rattle.std.specs.List.{list_any}
 use Rattle.jsonb_raw.specs.Private.NameBlocks.{is_one_of, names_of}
 use Rattle.jsonb_raw.proofs.NameBlockLemmas.{SomeTexts-first, SomeTexts-none, names_have, string_found, string_missing, placed_one, none_of_none}
-use Rattle.jsonb_raw.proofs.TakenEntries.{false_unless}
+use Rattle.std.proofs.lemmas.Bool.{false_from_ne_true}
 use Rattle.jsonb_raw.proofs.functions.path.name_block.NameBlock.any_among.Goals.{else-is_some-via-then-is_some+else-has, else-is_some-via-else-is_some}
 use Rattle.jsonb_raw.proofs.functions.path.name_block.NameBlock.any_among.Goals as goal
 
@@ -24,7 +24,7 @@ loop-text-preserved c = λ form ss h.
     (λ rest left fact.
     let missing : names_have (names_of c.args.self.now) c.in-Some.text.now ≡ false = elim c.else-is_some.branch [
       | else-is_some-via-then-is_some+else-has w ↦ sym w.has.ensures ∙ w.if-has.false
-      | else-is_some-via-else-is_some w ↦ false_unless (names_have (names_of c.args.self.now) c.in-Some.text.now)
+      | else-is_some-via-else-is_some w ↦ false_from_ne_true (names_have (names_of c.args.self.now) c.in-Some.text.now)
           (λ some. true≢false
           (sym (c.place_of.ensures.placed (placed_one c.of-table.result c.in-Some.text.now (names_of c.args.self.now) c.of-table.ensures some))
           ∙ sym c.is_some.ensures ∙ w.if-is_some.false))

@@ -1,5 +1,4 @@
-use Rattle.std.proofs.Common.{◌≡◌, ℕ, List, map, take, drop}
-use Rattle.std.specs.Borrow.{Bor}
+use Rattle.std.proofs.Common.{◌≡◌, ℕ, List, map, take, drop, Bor}
 use Rattle.jsonb_doc.specs.Payload.{Form}
 use Rattle.jsonb_raw.specs.Private.NameBlocks.{names_of, decided_by, HasTextsLeft, AreSeen}
 use Rattle.jsonb_raw.proofs.functions.path.name_block.NameBlock.each.Given as goal

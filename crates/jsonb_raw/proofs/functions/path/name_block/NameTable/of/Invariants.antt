@@ -1,6 +1,4 @@
-use Rattle.std.proofs.Common.{ℕ, List, map, take}
-use Rattle.std.specs.Borrow.{Bor}
-use Rattle.std.specs.List.{All}
+use Rattle.std.proofs.Common.{ℕ, List, map, take, Bor, All}
 use Rattle.jsonb_raw.specs.Private.NameBlocks.{IsPlaced}
 use Rattle.jsonb_raw.proofs.functions.path.name_block.NameTable.of.Given as goal
 

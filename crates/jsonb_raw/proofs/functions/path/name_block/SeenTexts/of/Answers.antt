@@ -1,9 +1,6 @@
-use Rattle.std.proofs.Common.{◌≡◌, ℕ, List, Option, Some, true, ◌∙◌}
-use Rattle.std.specs.Borrow.{Bor}
-use Rattle.std.specs.Option.{IfSome}
+use Rattle.std.proofs.Common.{◌≡◌, ℕ, List, Option, Some, true, ◌∙◌, Bor, IfSome, length-set}
 use Rattle.std.proofs.lemmas.List.Elements.{All-set}
 use Rattle.jsonb_raw.specs.Private.NameBlocks.{is_one_of}
-use Rattle.jsonb_raw.proofs.StartLemmas.{set_length}
 use Rattle.jsonb_raw.proofs.NameBlockLemmas.{SomeTexts-first, first_is_one, later_is_one}
 use Rattle.jsonb_raw.proofs.functions.path.name_block.SeenTexts.of.Goals as goal
 
@@ -29,7 +26,7 @@ loop-text-preserved-then-eq c = record {
         each = All-set (λ (found : Option (Bor (List ℕ))). IfSome found (λ s. is_one_of ss s.now ≡ true))
             c.loop-text.seen.texts c.in-Some-place_of.place (Some c.in-Some.text)
             (fact c.in-Some.text.now (first_is_one c.in-Some.text.now rest)) before.each;
-        size = set_length c.loop-text.seen.texts c.in-Some-place_of.place (Some c.in-Some.text) ∙ before.size;
+        size = length-set c.loop-text.seen.texts c.in-Some-place_of.place (Some c.in-Some.text) ∙ before.size;
       });
   left = λ form ss h.
       SomeTexts-first form _ _ (λ left. (name : List ℕ) → is_one_of left name ≡ true → is_one_of ss name ≡ true)

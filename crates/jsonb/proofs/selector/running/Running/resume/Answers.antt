@@ -1,0 +1,31 @@
+use Rattle.std.proofs.Common.{length, map, ap, subst, ◌≤◌, arith}
+use Rattle.std.proofs.Math.ListN.{drop_of_length-le}
+use Rattle.jsonb.specs.PathTree.{steps_of}
+use Rattle.jsonb.specs.PathViews.{steps_view}
+use Rattle.jsonb.specs.Meaning.{steps_meaning}
+use Rattle.jsonb.specs.Private.Alike.{SameOutcomes}
+use Rattle.jsonb.specs.Private.Running.{running_steps}
+use Rattle.jsonb.specs.Private.Selection.{node_spots, taken_step}
+use Rattle.jsonb.proofs.RepeatLemmas.{same_found, same_outcome_itself}
+use Rattle.jsonb.proofs.WeightLemmas.{running_some}
+use Rattle.jsonb.proofs.selector.running.Running.resume.Goals as goal
+
+pub returns-then-self-clause-meant : goal.returns-then-self-clause-meant
+returns-then-self-clause-meant c = λ top found r zip.
+    let context = c.args.context.now in
+    let s = c.args.self in
+    let meant = steps_meaning context.mode (running_steps s) top found in
+    let past : length s.steps.now ≤ s.next = omega (arith, c.if-self.true) in
+    let none = ap (λ l. steps_meaning context.mode (steps_of (map (taken_step s.expressions) (steps_view l))) top found) (drop_of_length-le s.steps.now past) in
+    same_found s.repeats context.document.bytes.now (node_spots c.args.items) found meant zip
+    (subst (λ x. SameOutcomes s.repeats x meant) none (same_outcome_itself s.repeats meant))
+
+pub returns-clause-meant : goal.returns-clause-meant
+returns-clause-meant c = λ top found r zip.
+    let context = c.args.context.now in
+    let s = c.args.self in
+    let meant = steps_meaning context.mode (running_steps s) top found in
+    c.run.ensures.meant top meant r (found, zip, same_outcome_itself s.repeats meant)
+
+pub returns-then-self-clause-fewer : goal.returns-then-self-clause-fewer
+returns-then-self-clause-fewer c = running_some c.args.self

@@ -1,0 +1,23 @@
+use Rattle.std.proofs.Common.{◌++◌, [], List, refl, sym, ap, subst, ◌∙◌}
+use Rattle.std.specs.List.{remove}
+use Rattle.jsonb_doc.specs.Tree.{Tree}
+use Rattle.jsonb_doc.specs.Private.Writer.{Make}
+use Rattle.jsonb_doc.proofs.Basics.{zero_of}
+use Rattle.jsonb_raw.proofs.CutLemmas.{held_around, no_trees_held, none_left}
+use Rattle.jsonb_raw.proofs.functions.path.cut.container_of_others.Goals as goal
+use Rattle.jsonb_raw.proofs.RunLemmas.{two_runs}
+
+pub returns-in_err-keys-clause-container : goal.returns-in_err-keys-clause-container
+returns-in_err-keys-clause-container c = λ form names front after n t names_hold front_hold after_hold passed makes.
+    absurd (c.in_err-keys.ensures.around form names names_hold)
+
+pub returns-then-is_empty-clause-container : goal.returns-then-is_empty-clause-container
+returns-then-is_empty-clause-container c = λ form names front after n t names_hold front_hold after_hold passed makes.
+    c.in_ok-made.ensures.container form [] (front ++ after) t refl (two_runs form _ _ _ _ front_hold after_hold)
+    (subst (λ (us : List Tree). Make c.args.parent.now.kind c.args.parent.now.others (us ++ (front ++ after)) t)
+    (ap (λ (us : List Tree). remove us n) (no_trees_held form _ names names_hold (zero_of _ c.if-is_empty.ensures)) ∙ none_left n) makes)
+
+pub returns-clause-container : goal.returns-clause-container
+returns-clause-container c = λ form names front after n t names_hold front_hold after_hold passed makes.
+    let k = held_around form _ _ names n c.len.result (c.len.ensures.count form front front_hold ∙ sym passed) (c.in_ok-keys.ensures.around form names names_hold) in
+    c.in_ok-made-2.ensures.container form (remove names n) (front ++ after) t (two_runs form _ _ _ _ k.0 k.1) (two_runs form _ _ _ _ front_hold after_hold) makes

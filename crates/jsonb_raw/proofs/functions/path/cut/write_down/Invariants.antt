@@ -1,0 +1,18 @@
+use Rattle.std.proofs.Common.{◌+◌, ◌^◌, ◌<◌, ◌∷◌, ℕ, List, drop}
+use Rattle.std.specs.Prelude.{reverse}
+use Rattle.jsonb_doc.specs.Tree.{Tree}
+use Rattle.jsonb_doc.specs.Payload.{Form}
+use Rattle.jsonb_doc.specs.Private.Writer.{HasRoom}
+use Rattle.jsonb_raw.specs.Deletes.{change_child, remove_at}
+use Rattle.jsonb_raw.specs.Private.Cuts.{LeadTo, contents_size, sizes, rooms_after}
+use Rattle.jsonb_raw.proofs.CutLemmas.{IsOpening}
+use Rattle.jsonb_raw.proofs.functions.path.cut.write_down.Given as goal
+
+-- the innermost container that is open still gets all its entries, and those within it come next
+abbrev pub invariant-loop-index : goal.invariant-loop-index
+invariant-loop-index l = record {
+  short : sizes (drop l.index l.inner) < 2 ^ 28;
+  room : HasRoom l.writer (contents_size l.parent + sizes (drop l.index l.inner)) (rooms_after (reverse l.around.items));
+  opening : (form : Form) (t end : Tree) (n : ℕ) (ns : List ℕ) → LeadTo form (l.fn.outermost ∷ l.inner) (n ∷ ns) t end
+      → IsOpening form l.writer l.around.items l.parent (drop l.index l.inner) (change_child n (remove_at ns) t);
+}

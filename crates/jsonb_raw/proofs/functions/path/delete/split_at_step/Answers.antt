@@ -1,0 +1,13 @@
+use Rattle.jsonb_doc.specs.declared.layout.EntryKind.TheVariants.{Container}
+use Rattle.jsonb_doc.proofs.KindLemmas.{same_kind, other_kind}
+use Rattle.jsonb_keypath.specs.KeyPathViews.{key_view}
+use Rattle.jsonb_raw.proofs.CutLemmas.{no_children}
+use Rattle.jsonb_raw.proofs.functions.path.delete.split_at_step.Goals as goal
+
+pub returns-then-eq-clause-child : goal.returns-then-eq-clause-child
+returns-then-eq-clause-child c = λ form t h.
+    c.split_container.ensures.child form t (h.container (same_kind _ c.args.entry.kind Container c.eq.ensures c.if-eq.true))
+
+pub returns-clause-child : goal.returns-clause-child
+returns-clause-child c = λ form t h.
+    no_children form t (key_view c.args.step.now) (h.scalar (other_kind _ c.args.entry.kind Container c.eq.ensures c.if-eq.false))

@@ -1,0 +1,62 @@
+use Rattle.std.proofs.Common.{◌+◌, arith, refl, ap₂}
+use Rattle.std.proofs.lemmas.Result.{err_from_is_err_and}
+use Rattle.jsonb_keypath.specs.KeyPathViews.{key_view}
+use Rattle.jsonb_raw.specs.Places.{children}
+use Rattle.jsonb_raw.proofs.CutLemmas.{values_hold, child_taken, no_entries, no_children, no_position, no_child, step_into}
+use Rattle.jsonb_raw.proofs.functions.path.delete.split_container.Goals as goal
+
+pub returns-in_err-entries-clause-child : goal.returns-in_err-entries-clause-child
+returns-in_err-entries-clause-child c = λ form t d. absurd (c.in_err-entries.ensures.entries form t d)
+
+pub returns-in_default-clause-child : goal.returns-in_default-clause-child
+returns-in_default-clause-child c = λ form t d.
+    no_children form t (key_view c.args.step.now) (no_entries form t (rw c.in_default.is at (c.in_ok-entries.ensures.entries form t d)))
+
+pub returns-in_err-position-clause-child : goal.returns-in_err-position-clause-child
+returns-in_err-position-clause-child c = λ form t d.
+    let e = err_from_is_err_and c.from_residual-in_err-position.result c.from_residual-in_err-position.ensures.1 in
+    let h = rw c.in-Some.is at (c.in_ok-entries.ensures.entries form t d) in
+    rw (e.1, e.2) (c.in_err-position.ensures.position form t h)
+
+pub returns-in_default-2-clause-child : goal.returns-in_default-2-clause-child
+returns-in_default-2-clause-child c = λ form t d.
+    let h = rw c.in-Some.is at (c.in_ok-entries.ensures.entries form t d) in
+    no_position form t (key_view c.args.step.now) (rw c.in_default-2.is at (c.in_ok-position.ensures.position form t h))
+
+pub returns-in_err-front-clause-child : goal.returns-in_err-front-clause-child
+returns-in_err-front-clause-child c = λ form t d.
+    let h = rw c.in-Some.is at (c.in_ok-entries.ensures.entries form t d) in
+    absurd (c.in_err-front.ensures.split form (children t) (values_hold form t c.in-Some.entries h))
+
+pub returns-in_err-child-clause-child : goal.returns-in_err-child-clause-child
+returns-in_err-child-clause-child c = λ form t d.
+    let h = rw c.in-Some.is at (c.in_ok-entries.ensures.entries form t d) in
+    let parts = c.in_ok-front.ensures.split form (children t) (values_hold form t c.in-Some.entries h) in absurd (c.in_err-child.ensures.first form _ parts.1)
+
+pub returns-in_default-3-clause-child : goal.returns-in_default-3-clause-child
+returns-in_default-3-clause-child c = λ form t d.
+    let h = rw c.in-Some.is at (c.in_ok-entries.ensures.entries form t d) in
+    let parts = c.in_ok-front.ensures.split form (children t) (values_hold form t c.in-Some.entries h) in
+    let at = rw c.in-Some-2.is at (c.in_ok-position.ensures.position form t h) in
+    no_child form t (key_view c.args.step.now) c.in-Some-2.position _ _ at c.in_default-3.is (c.in_ok-child.ensures.first form _ parts.1)
+
+pub returns-clause-child : goal.returns-clause-child
+returns-clause-child c = λ form t d.
+    let n = c.in-Some-2.position in
+    let h = rw c.in-Some.is at (c.in_ok-entries.ensures.entries form t d) in
+    let parts = c.in_ok-front.ensures.split form (children t) (values_hold form t c.in-Some.entries h) in
+    let at = rw c.in-Some-2.is at (c.in_ok-position.ensures.position form t h) in
+    let f = child_taken form (children t) n _ _ _ _ c.in-Some-3.is (c.in_ok-child.ensures.first form _ parts.1) in
+    step_into form t (key_view c.args.step.now) c.in-Some.entries _ n _ h at refl refl f parts.0
+    (ap₂ (λ a b. a + b) (c.len.ensures.count form _ parts.0) (c.len-2.ensures.count form _ f.after_hold))
+
+pub returns-clause-short : goal.returns-clause-short
+returns-clause-short c =
+    let within = rw c.in-Some.is at c.in_ok-entries.ensures.size in
+    let taken = rw c.in-Some-3.is at c.in_ok-child.ensures.room in
+    let fewer = rw c.in-Some-3.is at c.in_ok-child.ensures.fewer in
+    let short = rw c.in-Some-3.is at c.in_ok-child.ensures.short in
+    let room = c.in_ok-front.ensures.room in
+    let count = c.len.result + c.len-2.result + 1 in
+    let fit = within.fit count (omega (arith, c.len.ensures.bound, c.len-2.ensures.bound, fewer, room.0)) in
+    (omega (arith, fit, taken, room.1), short)
