@@ -81,6 +81,9 @@ CHAINS = {
 }
 # The crates whose programs and library other commands wait for.
 BUILT = ("jsonb_c", "jsonb_lines", "jsonb_sweep", "jsonb_tool")
+# The rule that makes the library of bindings/c, and the commands that must begin after it.
+LIBRARY = "all deep: made\nmade:\n\tmkdir begun && sleep 0.3 && touch made\n"
+USES_LIBRARY = ("tools/fuzz.py", "tools/measure_stack.py")
 
 
 def write_program(path, lines):
@@ -108,7 +111,11 @@ def run(room, broken=None, how=WELL):
         lines = how if command == broken else WELL
         if file_of(command) == "tools/gate.py" and lines == WELL:
             lines = f"for it in {' '.join(BUILT)}; do sleep 0.1; : >\"$2/$it\"; done; {lines}"
+        if file_of(command) in USES_LIBRARY and lines == WELL:
+            lines = f"test -e bindings/c/made || exit 1; {lines}"
         write_program(room / file_of(command), lines)
+    (room / "bindings/c").mkdir()
+    (room / "bindings/c/Makefile").write_text(LIBRARY)
     ran = subprocess.run([room / GATE], stdin=subprocess.DEVNULL, stdout=subprocess.PIPE, stderr=subprocess.DEVNULL, text=True, timeout=600)
     *said, last = ran.stdout.splitlines() or [""]
     return said, last, ran.returncode
