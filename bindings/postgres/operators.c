@@ -178,8 +178,12 @@ Datum jdoc_sql_delete_names(PG_FUNCTION_ARGS) {
     if (kind != JDOC_KIND_ARRAY) fail_type(&of, JDOC_INVALID_JSON_TYPE, it.documents[0]);
     for (size_t i = 0; i < it.names.count; i++) {
         const char *name = it.names.bytes + it.names.offsets[i];
-        it.name = cstring_to_text_with_len(name, (int)(it.names.offsets[i + 1] - it.names.offsets[i]));
+        bytea *before = it.documents[0];
+        text *deleted = cstring_to_text_with_len(name, (int)(it.names.offsets[i + 1] - it.names.offsets[i]));
+        it.name = deleted;
         it.documents[0] = made_by(&it, delete_strings, false);
+        pfree(deleted);
+        if (i > 0) pfree(before);
     }
     PG_RETURN_BYTEA_P(it.documents[0]);
 }

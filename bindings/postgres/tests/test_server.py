@@ -234,6 +234,16 @@ class BesideJsonb(unittest.TestCase):
         self.differing("d::text::jsonb = j AND d::jsonb = j AND j::jdoc = d AND d::bytea::jdoc = d")
         self.differing("jdoc_typeof(d) = jsonb_typeof(j)")
 
+    def test_casts_of_scalars(self):
+        """Numbers of all sizes and signs, halves, which are rounded away from zero, and the ends of the types."""
+        numbers = ["0", "-0", "1", "-1", "0.5", "-0.5", "1.5", "2.5", "-2.5", "2.4999", "1e3", "1.25e2", "12345e-4", "2147483647", "-2147483648", "0.1"]
+        casts = " AND ".join(f"t::jdoc::{it} = t::jsonb::{it}" for it in ("int4", "int8", "numeric", "float8"))
+        self.assertEqual(psql(f"SELECT count(*) FROM unnest(ARRAY[{','.join(map(literal, numbers))}]) AS t WHERE {casts}"), str(len(numbers)))
+        wide = ["9223372036854775807", "-9223372036854775808", "2147483648", "9007199254740993"]
+        self.assertEqual(psql(f"SELECT count(*) FROM unnest(ARRAY[{','.join(map(literal, wide))}]) AS t WHERE t::jdoc::int8 = t::jsonb::int8"), str(len(wide)))
+        self.differing("jsonb_typeof(j) <> 'number' OR d::numeric = j::numeric AND d::float8 = j::float8")
+        self.differing("jsonb_typeof(j) <> 'boolean' OR d::bool = j::bool")
+
     def test_operators(self):
         for key in KEYS:
             it = literal(key)

@@ -115,6 +115,11 @@ def _names(names: Iterable[str]) -> "Tuple[bytes, array[int]]":
     return joined(it.encode("utf-8", "surrogatepass") for it in rows)
 
 
+def _plain(name: str) -> str:
+    """The text of a name, whose own type may compare by something else."""
+    return "".join(name)
+
+
 def kind(document: "Document") -> str:
     """Returns the type of the value, one of KINDS.
 
@@ -152,7 +157,7 @@ def object_from_columns(names: Iterable[str], documents: "Iterable[Document]") -
     try:
         return _core.object_of(column, rows)
     except ObjectDuplicateKey:
-        twice = next(it for it, count in Counter(keys).items() if count > 1)
+        twice = next(it for it, count in Counter(map(_plain, keys)).items() if count > 1)
         raise ObjectDuplicateKey(repr(twice[:60])) from None
 
 

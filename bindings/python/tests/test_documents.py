@@ -49,6 +49,12 @@ def random_path(source):
     return path
 
 
+class Apart(str):
+    """A text that equals only itself."""
+    __eq__ = object.__eq__
+    __hash__ = object.__hash__
+
+
 class Values(unittest.TestCase):
     def test_dumps_writes_what_the_model_writes_and_loads_reads_it(self):
         source = random.Random(1)
@@ -238,6 +244,7 @@ class Calls(unittest.TestCase):
         for kind, what, names, values in [
             (errors.ObjectDuplicateKey, "'b'", ["a", "b", "c", "b", "c"], [1, 2, 3, 4, 5]), (errors.ObjectDuplicateKey, "''", iter(["", ""]), [1, 2]),
             (errors.BadOffsets, "1 names, and 0 documents", ["a"], []), (errors.NotUtf8, "", ["\udcff"], [1]),
+            (errors.ObjectDuplicateKey, "'b'", [Apart("b"), Apart("b")], [1, 2]),
         ]:
             with self.assertRaises(kind) as caught:
                 jsonb_paths.object_from_columns(names, map(dumps, values))

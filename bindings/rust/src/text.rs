@@ -111,6 +111,10 @@ impl fmt::Display for OwnedJsonb {
 /// Returns the byte at which JSON text is an error of `parse_value`, or `None` if a document is read from it. `TooDeep`
 /// has no position.
 ///
+/// # Panics
+///
+/// If memory is short.
+///
 /// ```
 /// # use jsonb_paths::json_text_error_position;
 /// assert_eq!(json_text_error_position(b"{\"a\":1,}"), Some(7));
@@ -118,8 +122,11 @@ impl fmt::Display for OwnedJsonb {
 /// ```
 pub fn json_text_error_position(buf: &[u8]) -> Option<usize> {
     let mut tape = Tape::new();
-    let is_error = tape.document(buf).is_err();
-    is_error.then_some(tape.0.at)
+    match tape.document(buf) {
+        Ok(_) => None,
+        Err(Error::OutOfMemory) => panic!("memory is short"),
+        Err(_) => Some(tape.0.at),
+    }
 }
 
 /// Reads JSON text and decodes it.
