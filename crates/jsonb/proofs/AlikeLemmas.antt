@@ -1,11 +1,5 @@
 -- Lists in which any test finds the same first item: what is computed from them is the same.
-use Rattle.std.proofs.Common.{◌≡◌, ℕ, ◌<◌, suc, zero, length, List, [], ◌∷◌, ◌++◌, map, flat_map, Bool, true, false, Option, Some, None, is_some, option_map, Ok, Err, refl, sym, ap, subst, ◌∙◌, cond, arith}
-use Rattle.std.specs.Prelude.{find, slice_index_or, Contains}
-use Rattle.std.specs.Option.{option_or}
-use Rattle.std.proofs.lemmas.List.Folds.{find-append}
-use Rattle.jsonb_doc.specs.Answer.{Outcome, and_then, try_flat_map}
-use Rattle.jsonb_doc.specs.declared.error.Error.{Error}
-use Rattle.jsonb.specs.Private.Alike.{AreAlike, AlikeOutcomes}
+use Rattle.jsonb.proofs.Common.{◌≡◌, ℕ, ◌<◌, suc, zero, length, List, [], ◌∷◌, ◌++◌, map, flat_map, Bool, true, false, Option, Some, None, is_some, option_map, Ok, Err, refl, sym, ap, subst, ◌∙◌, cond, arith, find, slice_index_or, Contains, option_or, find-append, Outcome, and_then, try_flat_map, Error, AreAlike, AlikeOutcomes}
 
 pub alike_itself : {A : Type 0} (xs : List A) → AreAlike xs xs
 alike_itself xs = record { finds = λ test. refl }

@@ -1,35 +1,7 @@
 -- Filters within filters, of which the innermost waits for a path.
-use Rattle.std.proofs.Common.{◌≡◌, ℕ, Box, Global, ◌⊎◌, ◌+◌, ◌<◌, ◌≤◌, List, [], ◌∷◌, ◌++◌, length, drop, get_or, map, append_assoc, append-nil, Some, None, Ok, Err, OnOk, IfErr, IsOkAnd, refl, inl, sym, ap, ◌∙◌, subst}
-use Rattle.std.specs.Prelude.{reverse}
-use Rattle.std.specs.List.{AllZip}
-use Rattle.jsonb_doc.specs.Answer.{Outcome, and_then, try_flat_map, IsOutOfMemory}
-use Rattle.jsonb_doc.specs.Tree.{Tree}
-use Rattle.jsonb_doc.specs.declared.error.Error.{Error}
-use Rattle.jsonb_doc.specs.declared.spot.Spot.{Spot}
-use Rattle.jsonb.specs.Compare.{Truth}
-use Rattle.jsonb.specs.Meaning.{step_meaning, steps_meaning, truth, filtered}
-use Rattle.jsonb.specs.PathTree.{Expression, Step, Steps, steps_of, filter}
-use Rattle.jsonb.specs.PathViews.{step_view, steps_view}
-use Rattle.jsonb.specs.Private.Alike.{HasSame, SameOutcomes}
-use Rattle.jsonb.specs.Private.Asking.{asking_tests, IsCached, IsWaiting, IsTurn, IsFiltering, IsFilter, IsFilterWaiting, IsFilterTurn, IsAround, IsOnward, filtered_later}
-use Rattle.jsonb.specs.Private.Jumps.{evaluated, next_jump}
-use Rattle.jsonb.specs.Private.Running.{IsRunning, IsAtFilter, IsProgress, IsBeforeFilter, running_steps}
-use Rattle.jsonb.specs.Private.Selection.{IsAt, node_spots, taken_step}
-use Rattle.jsonb.specs.Private.Tests.{IsQuestionOf, AreTestsOf, tests_conditions}
-use Rattle.jsonb.specs.declared.path.Path.{Path}
-use Rattle.jsonb.specs.declared.selector.document.Context.{Context}
-use Rattle.jsonb.specs.declared.selector.document.Repeats.{Repeats}
-use Rattle.jsonb.specs.declared.selector.document.Repeats.TheVariants.{AreKept, AreDropped}
-use Rattle.jsonb.specs.declared.selector.filters.Asking.{Asking}
-use Rattle.jsonb.specs.declared.selector.filters.Filter.{Filter}
-use Rattle.jsonb.specs.declared.selector.filters.Frame.{Frame}
-use Rattle.jsonb.specs.declared.selector.node_list.NodeList.{NodeList}
-use Rattle.jsonb.specs.declared.selector.operands.Pending.{Pending}
-use Rattle.jsonb.specs.declared.selector.operands.Waits.{Waits}
-use Rattle.jsonb.specs.declared.selector.running.AtFilter.{AtFilter}
-use Rattle.jsonb.specs.declared.selector.running.Progress.{Progress}
+use Rattle.jsonb.proofs.Common.{◌≡◌, ℕ, Box, Global, ◌⊎◌, ◌+◌, ◌<◌, ◌≤◌, List, [], ◌∷◌, ◌++◌, length, drop, get_or, map, append_assoc, append-nil, Some, None, Ok, Err, OnOk, IfErr, IsOkAnd, refl, inl, sym, ap, ◌∙◌, subst, reverse, AllZip, Outcome, and_then, try_flat_map, IsOutOfMemory, Tree, Error, Spot, Truth, step_meaning, steps_meaning, truth, filtered, Expression, Step, Steps, steps_of, filter, step_view, steps_view, HasSame, SameOutcomes, asking_tests, IsCached, IsWaiting, IsTurn, IsFiltering, IsFilter, IsFilterWaiting, IsFilterTurn, IsAround, IsOnward, filtered_later, evaluated, next_jump, IsRunning, IsAtFilter, IsProgress, IsBeforeFilter, running_steps, IsAt, node_spots, taken_step, IsQuestionOf, AreTestsOf, tests_conditions, Path, Context, Repeats, AreDropped, Asking, Filter, Frame, NodeList, Pending, Waits, AtFilter, Progress, Running}
+use Rattle.jsonb.specs.declared.selector.document.Repeats.TheVariants.{AreKept}
 use Rattle.jsonb.specs.declared.selector.running.Progress.TheVariants as progress
-use Rattle.jsonb.specs.declared.selector.running.Running.{Running}
 use Rattle.jsonb.proofs.AlikeLemmas.{alike_then}
 use Rattle.jsonb.proofs.OperandLemmas.{path_refused, as_refused}
 use Rattle.jsonb.proofs.Progress.{list_end}

@@ -1,32 +1,6 @@
 -- Conditions whose tests wait for paths.
-use Rattle.std.proofs.Common.{◌≡◌, ◌⊎◌, Bool, Box, Vec, Global, ℕ, ◌+◌, ◌<◌, ◌≤◌, List, [], ◌∷◌, ◌++◌, true, false, length, get_or, take, Option, Some, None, Ok, Err, inl, inr, refl, sym, ap, ◌∙◌, subst, arith}
-use Rattle.std.specs.Prelude.{reverse, slice_get, MatchOption, ⊤}
-use Rattle.std.proofs.Math.Seq.{take-length}
-use Rattle.std.proofs.lemmas.Option.{get_or_from_slice_get, slice_get_within, slice_get_cases, slice_get_read, slice_get_past}
-use Rattle.jsonb_doc.specs.Answer.{Outcome, and_then, IsOutOfMemory}
-use Rattle.jsonb_doc.specs.Tree.{Tree}
-use Rattle.jsonb_doc.specs.declared.error.Error.{Error}
-use Rattle.jsonb_doc.specs.declared.spot.Spot.{Spot}
-use Rattle.jsonb.specs.PathTree.{Expression}
-use Rattle.jsonb.specs.Compare.{Truth}
-use Rattle.jsonb.specs.Meaning.{truth}
-use Rattle.jsonb.specs.Private.Asking.{at_first, asking_tests, IsCached, IsAsking, IsTested, IsTurn}
-use Rattle.jsonb.specs.Private.FilterCache.{is_condition, AreKept}
-use Rattle.jsonb.specs.Private.Jumps.{Branch, branches_of_whole, evaluated, next_jump, jump_truth}
-use Rattle.jsonb.specs.Private.Operands.{IsAnswer}
-use Rattle.jsonb.specs.Private.Selection.{IsAt}
-use Rattle.jsonb.specs.Private.Tests.{IsQuestionOf, AreBranches, AreTestsOf, item_tests, question_conditions, tests_conditions}
-use Rattle.jsonb.specs.declared.selector.document.Context.{Context}
-use Rattle.jsonb.specs.declared.selector.document.Mode.{Mode}
-use Rattle.jsonb.specs.declared.selector.filter_cache.FilterCache.{FilterCache}
-use Rattle.jsonb.specs.declared.selector.filters.Asking.{Asking}
-use Rattle.jsonb.specs.declared.selector.operands.Asked.{Asked}
+use Rattle.jsonb.proofs.Common.{◌≡◌, ◌⊎◌, Bool, Box, Vec, Global, ℕ, ◌+◌, ◌<◌, ◌≤◌, List, [], ◌∷◌, ◌++◌, true, false, length, get_or, take, Option, Some, None, Ok, Err, inl, inr, refl, sym, ap, ◌∙◌, subst, arith, reverse, slice_get, MatchOption, ⊤, take-length, get_or_from_slice_get, slice_get_within, slice_get_cases, slice_get_read, slice_get_past, Outcome, and_then, IsOutOfMemory, Tree, Error, Spot, Expression, Truth, truth, at_first, asking_tests, IsCached, IsAsking, IsTested, IsTurn, is_condition, AreKept, Branch, branches_of_whole, evaluated, next_jump, jump_truth, IsAnswer, IsAt, IsQuestionOf, AreBranches, AreTestsOf, item_tests, question_conditions, tests_conditions, Context, Mode, FilterCache, Asking, Asked, Operands, Pending, Jump, Test, Tests}
 use Rattle.jsonb.specs.declared.selector.operands.Asked.TheVariants as asked
-use Rattle.jsonb.specs.declared.selector.operands.Operands.{Operands}
-use Rattle.jsonb.specs.declared.selector.operands.Pending.{Pending}
-use Rattle.jsonb.specs.declared.selector.plan.Jump.{Jump}
-use Rattle.jsonb.specs.declared.selector.plan.Test.{Test}
-use Rattle.jsonb.specs.declared.selector.plan.Tests.{Tests}
 use Rattle.jsonb.specs.declared.selector.plan.Tests.TheVariants as tests
 use Rattle.jsonb.proofs.OperandLemmas.{as_refused}
 use Rattle.jsonb.proofs.TestLemmas.{next_test, conditions_at, from_first, no_test}

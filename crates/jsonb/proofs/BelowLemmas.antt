@@ -1,19 +1,7 @@
 -- A walk over the items below an item: what is given, and then what each level has left, the innermost first, is the
 -- whole.
-use Rattle.std.proofs.Common.{◌≡◌, ℕ, ◌+◌, ◌^◌, ◌<◌, ◌≤◌, min, List, [], ◌∷◌, ◌++◌, flat_map, Option, Some, None, inl, inr, refl, sym, ap, subst, ◌∙◌, arith, append_assoc, append-nil}
-use Rattle.std.specs.Prelude.{reverse}
-use Rattle.std.proofs.lemmas.Grind.{flat_map-append}
-use Rattle.jsonb_doc.specs.Representation.Positions.{Locates, HasSpotsLeft}
-use Rattle.jsonb_doc.specs.AnyBytes.Spots.{spots_room, spots_bound}
-use Rattle.jsonb_doc.specs.Tree.{Tree}
-use Rattle.jsonb_doc.proofs.Weights.{weight_of, weight-pos, inner_weighs, taken_weighs, weight_of_all, falls_inward, falls_outward}
-use Rattle.jsonb_doc.specs.declared.spot.Spot.{Spot}
-use Rattle.jsonb_doc.specs.declared.spot_iter.SpotIter.{SpotIter}
-use Rattle.jsonb.specs.PathTree.{Levels}
-use Rattle.jsonb.specs.Preorder.{taken_item, preorder}
-use Rattle.std.specs.List.{AllZip}
-use Rattle.jsonb.specs.Private.Below.{HasLeft, KeepsLevel, PassesLeaves}
-use Rattle.jsonb.specs.declared.selector.levels.OpenLevel.{OpenLevel}
+use Rattle.jsonb.proofs.Common.{◌≡◌, ℕ, ◌+◌, ◌^◌, ◌<◌, ◌≤◌, min, List, [], ◌∷◌, ◌++◌, flat_map, Option, Some, None, inl, inr, refl, sym, ap, subst, ◌∙◌, arith, append_assoc, append-nil, reverse, flat_map-append, Locates, HasSpotsLeft, spots_room, spots_bound, Tree, weight_of, weight-pos, inner_weighs, taken_weighs, weight_of_all, falls_inward, falls_outward, Spot, SpotIter, Levels, taken_item, preorder, AllZip, KeepsLevel, PassesLeaves, OpenLevel}
+use Rattle.jsonb.specs.Private.Below.{HasLeft}
 pub use Rattle.jsonb_doc.proofs.Basics.{innermost, empty_of as no_levels}
 use Rattle.jsonb.proofs.Progress.{First}
 

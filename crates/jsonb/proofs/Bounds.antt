@@ -1,16 +1,5 @@
 -- The bound on parentheses changes nothing, once it passes the length of the input.
-use Rattle.std.proofs.Common.{◌≡◌, ℕ, zero, suc, ◌+◌, ◌<◌, ◌≤◌, List, [], ◌∷◌, length, drop, Bool, true, false, cond, Some, None, refl, ◌∙◌, ap, arith, length-drop, add-one}
-use Rattle.std.specs.Prelude.{nat_eq, nat_lt, codes, if◌then◌else◌}
-use Rattle.std.specs.List.{starts_with}
-use Rattle.std.specs.Option.{option_and_then}
-use Rattle.std.proofs.lemmas.Bool.Decides.{Decides-ltb}
-use Rattle.jsonb_keypath.specs.Rules.{Parsed, Rule, ◌>>=◌, ◌>>◌, ◌</>◌, parsed_map, bytes, literal, turn, up_to, repeat, list_of}
-use Rattle.jsonb_keypath.proofs.ReadsLemmas.{NeverGrows, some-no_more}
-use Rattle.jsonb_keypath.proofs.CutLemmas.{some-literal}
-use Rattle.jsonb_keypath.proofs.GrowsLemmas.{grows-ws}
-use Rattle.jsonb.specs.PathTree.{Expression}
-use Rattle.jsonb.specs.PathGrammar.{spaced, path_root, path_with, group_with, exists_with, atom_with, and_with, or_with, nested_or, expression, path_step}
-use Rattle.jsonb.specs.Private.Fronts.{filter_with}
+use Rattle.jsonb.proofs.Common.{◌≡◌, ℕ, zero, suc, ◌+◌, ◌<◌, ◌≤◌, List, [], ◌∷◌, length, drop, Bool, true, false, cond, Some, None, refl, ◌∙◌, ap, arith, length-drop, add-one, nat_eq, nat_lt, codes, if◌then◌else◌, starts_with, option_and_then, Decides-ltb, Parsed, Rule, ◌>>=◌, ◌>>◌, ◌</>◌, parsed_map, bytes, literal, turn, up_to, repeat, list_of, NeverGrows, some-no_more, some-literal, grows-ws, Expression, spaced, path_root, path_with, group_with, exists_with, atom_with, and_with, or_with, nested_or, expression, path_step, filter_with}
 use Rattle.jsonb.proofs.ExpressionReadsSome.{some-path_root, some-and_separator, some-or_separator, some-atom, some-and, grows-nested_or}
 
 -- the rules do the same on inputs that are shorter than this

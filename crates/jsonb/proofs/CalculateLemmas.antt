@@ -1,26 +1,10 @@
 -- Values that are numbers, and the results of arithmetic.
-use Rattle.std.specs.Prelude.{◌+ℤ◌, ◌-ℤ◌, ◌*ℤ◌, int_div, int_rem, nat_lt, ◌||◌, ◌^◌}
-use Rattle.std.specs.Ordering.{int_eq}
-use Rattle.std.proofs.Common.{◌≡◌, zero, suc, ℤ, pos, negsuc, Bool, true, false, if◌then◌else◌, MatchResult, IfErr, subst, List, [], ◌∷◌, ◌++◌, Some, Ok, Err, IsOkAnd, refl, sym, ap, ◌∙◌, inl, inr}
-use Rattle.jsonb_doc.specs.Answer.{Outcome, Refines, and_then, try_flat_map, IsOutOfMemory}
+use Rattle.jsonb.proofs.Common.{◌+ℤ◌, ◌-ℤ◌, ◌*ℤ◌, int_div, int_rem, nat_lt, ◌||◌, ◌^◌, int_eq, ◌≡◌, zero, suc, ℤ, pos, negsuc, Bool, true, false, if◌then◌else◌, MatchResult, IfErr, subst, List, [], ◌∷◌, ◌++◌, Some, Ok, Err, IsOkAnd, refl, sym, ap, ◌∙◌, inl, inr, Outcome, Refines, and_then, try_flat_map, IsOutOfMemory, Operation, calculated, on_integers, IsResultOf, Number, number_from, int64, uint64, Arithmetic, InvalidJsonPath, Overflow, ZeroDivisor, Inexact, DecimalOperand, Tree, number_view, two_numbers, all_numbers, signed_number, each_signed, number_list, UnaryOp, AllZip, only_number, are_numbers, signed_value, IsNumberTree, IsNumberItem, IsPathError, IsSelectionError, Value, Mode, Lax}
 use Rattle.jsonb_doc.specs.Arithmetic as op
-use Rattle.jsonb_doc.specs.Arithmetic.{Operation, calculated, integer, on_integers, IsResultOf}
-use Rattle.jsonb_doc.specs.Number.{Number, number_from, int64, uint64}
-use Rattle.jsonb_doc.specs.declared.error.Error.TheVariants.{Arithmetic, InvalidJsonPath}
-use Rattle.jsonb_doc.specs.declared.error.ArithmeticFault.TheVariants.{Overflow, ZeroDivisor, Inexact, DecimalOperand}
+use Rattle.jsonb_doc.specs.Arithmetic.{integer}
 use Rattle.jsonb_doc.specs.Tree as tree
-use Rattle.jsonb_doc.specs.Tree.{Tree}
-use Rattle.jsonb_doc.specs.View.{number_view}
 use Rattle.jsonb_doc.specs.declared.number.Number.{Number as CodeNumber}
-use Rattle.jsonb.specs.PathArithmetic.{two_numbers, all_numbers, signed_number, each_signed}
-use Rattle.jsonb.specs.Private.Calculation.{number_list}
-use Rattle.jsonb.specs.PathTree.{UnaryOp}
-use Rattle.std.specs.List.{AllZip}
-use Rattle.jsonb.specs.Private.Selection.{only_number, are_numbers, signed_value, IsNumberTree, IsNumberItem}
-use Rattle.jsonb.specs.SelectionErrors.{IsPathError, IsSelectionError}
-use Rattle.jsonb.specs.Values.{Value, number}
-use Rattle.jsonb.specs.declared.selector.document.Mode.{Mode}
-use Rattle.jsonb.specs.declared.selector.document.Mode.TheVariants.{Lax}
+use Rattle.jsonb.specs.Values.{number}
 use Rattle.jsonb.proofs.RefinesLemmas.{AllZip-append}
 
 -- what never fails for lack of memory

@@ -1,11 +1,6 @@
 -- The text of a chain of expressions, part by part.
-use Rattle.std.proofs.Common.{◌≡◌, ℕ, zero, suc, ◌+◌, List, [], ◌++◌, Bool, true, false, refl, sym, ap, ◌∙◌, append_assoc, add-zero, arith}
-use Rattle.std.specs.Prelude.{codes, if◌then◌else◌}
+use Rattle.jsonb.proofs.Common.{◌≡◌, ℕ, zero, suc, ◌+◌, List, [], ◌++◌, Bool, true, false, refl, sym, ap, ◌∙◌, append_assoc, add-zero, arith, codes, if◌then◌else◌, operator_text, needs_parentheses, side_text, expression_text, Expression, binary, left_of, below, front_text, fronts_text, link_text, links_text}
 use Rattle.std.proofs.lemmas.List.{append-nil}
-use Rattle.jsonb.specs.PathText.{operator_text, needs_parentheses, side_text, expression_text}
-use Rattle.jsonb.specs.PathTree.{Expression, binary}
-use Rattle.jsonb.specs.Private.Chain.{left_of, below}
-use Rattle.jsonb.specs.Private.ChainText.{front_text, fronts_text, link_text, links_text}
 
 -- ---- one more
 

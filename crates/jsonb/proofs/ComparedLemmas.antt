@@ -1,25 +1,6 @@
 -- Comparisons of members of the item with literals.
-use Rattle.std.proofs.Common.{◌≡◌, List, [], ◌∷◌, ◌++◌, map, flat_map, true, Option, Some, None, Ok, Err, IsOkAnd, refl, sym, ap, ◌∙◌, subst}
-use Rattle.std.specs.Prelude.{reverse}
-use Rattle.std.proofs.lemmas.List.{reverse-append}
-use Rattle.jsonb_doc.specs.Answer.{Outcome, and_then, try_flat_map}
-use Rattle.jsonb_doc.specs.Tree.{Tree}
+use Rattle.jsonb.proofs.Common.{◌≡◌, List, [], ◌∷◌, ◌++◌, map, flat_map, true, Option, Some, None, Ok, Err, IsOkAnd, refl, sym, ap, ◌∙◌, subst, reverse, reverse-append, Outcome, and_then, try_flat_map, Tree, Expression, steps_of, steps_view, Truth, compare, Value, values_of_item, list_or, step_meaning, steps_meaning, truth, operand_values, IsMemberCompared, is_comparison, is_member, are_members, AllZip, value_view, taken_step, AreRefused, Mode, Lax, MemberCompared}
 use Rattle.jsonb.specs.PathTree as math
-use Rattle.jsonb.specs.PathTree.{Expression, steps_of}
-use Rattle.jsonb.specs.PathViews.{steps_view}
-use Rattle.jsonb.specs.Compare.{Truth, compare}
-use Rattle.jsonb.specs.Values.{Value, values_of_item}
-use Rattle.jsonb.specs.ItemSteps.{list_or}
-use Rattle.jsonb.specs.Meaning.{step_meaning, steps_meaning, truth, operand_values}
-use Rattle.jsonb.specs.Private.Compared.{IsMemberCompared}
-use Rattle.jsonb.specs.Private.FilterCache.{is_comparison}
-use Rattle.jsonb.specs.Private.Members.{is_member, are_members}
-use Rattle.std.specs.List.{AllZip}
-use Rattle.jsonb.specs.Private.Selection.{value_view, taken_step}
-use Rattle.jsonb.specs.declared.selector.document.Expressions.TheVariants.{AreRefused}
-use Rattle.jsonb.specs.declared.selector.document.Mode.{Mode}
-use Rattle.jsonb.specs.declared.selector.document.Mode.TheVariants.{Lax}
-use Rattle.jsonb.specs.declared.selector.plan.MemberCompared.{MemberCompared}
 use Rattle.jsonb.proofs.RefinesLemmas.{with_ok}
 use Rattle.jsonb.proofs.MemberLemmas.{both_true}
 use Rattle.jsonb.proofs.SelectedParts.{related_more}

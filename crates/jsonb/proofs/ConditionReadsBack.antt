@@ -1,15 +1,5 @@
 -- Printed expressions and steps, read with anything after them that may be there.
-use Rattle.std.proofs.Common.{◌≡◌, ℕ, zero, suc, ◌<◌, ◌≤◌, List, [], ◌∷◌, ◌++◌, length, Bool, true, false, Some, None, refl, sym, ◌∙◌, ap, subst, arith, append_assoc, length-append}
-use Rattle.std.specs.Prelude.{◌==◌, ◌||◌, codes, MatchBool}
-use Rattle.std.proofs.lemmas.Bool.Decides.{nat_tests}
-use Rattle.jsonb_keypath.specs.Rules.{Rule, give, ◌>>=◌, ◌>>◌, parsed_map, literal, repeat, list_of}
-use Rattle.jsonb_keypath.specs.Tokens.{ws, past, is_space}
-use Rattle.jsonb_keypath.proofs.ReadBackLemmas.{front, stops, front-stops, front-implies, begins, begins-implies, begins-excludes, stops-from_begins, in_sequence}
-use Rattle.jsonb_keypath.proofs.RepeatLemmas.{repeat-goes, repeat-ends}
-use Rattle.jsonb.specs.PathTree.{BinaryOp, and_op, or_op, UnaryOp, plus, minus, Step, root, current, filter, whole_expression, Steps, no_steps, step, Expression, paths, value, binary, unary, exists, steps_of}
-use Rattle.jsonb.specs.PathGrammar.{spaced, binary_atom, joined_by, path_with, group_with, exists_with, atom_with, and_with, or_with, nested_or}
-use Rattle.jsonb.specs.Private.Fronts.{filter_with}
-use Rattle.jsonb.specs.PathText.{step_text, steps_text, expression_text, side_text, needs_parentheses, operator_text, sign_text, joins}
+use Rattle.jsonb.proofs.Common.{◌≡◌, ℕ, zero, suc, ◌<◌, ◌≤◌, List, [], ◌∷◌, ◌++◌, length, Bool, true, false, Some, None, refl, sym, ◌∙◌, ap, subst, arith, append_assoc, length-append, ◌==◌, ◌||◌, codes, MatchBool, nat_tests, Rule, give, ◌>>=◌, ◌>>◌, parsed_map, literal, repeat, list_of, ws, past, is_space, front, stops, front-stops, front-implies, begins, begins-implies, begins-excludes, stops-from_begins, in_sequence, repeat-goes, repeat-ends, BinaryOp, and_op, or_op, UnaryOp, plus, minus, Step, root, current, filter, whole_expression, Steps, no_steps, step, Expression, paths, value, binary, unary, exists, steps_of, spaced, binary_atom, joined_by, path_with, group_with, exists_with, atom_with, and_with, or_with, nested_or, filter_with, step_text, steps_text, expression_text, side_text, needs_parentheses, operator_text, sign_text, joins}
 use Rattle.jsonb.proofs.SettledPaths.{settled_step, settled_steps, settled}
 use Rattle.jsonb.proofs.PathShape.{IsInner, IsBeginning, IsOperand, is_signed, IsPathStep, ArePathSteps, IsCondition}
 use Rattle.jsonb.proofs.InnerReadsBack.{past-none, no_space, past-space, spaced-reads, spaced-none, is_step_end}

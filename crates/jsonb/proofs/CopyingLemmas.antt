@@ -1,20 +1,9 @@
 -- Frames that grow and shrink at their inner end.
-use Rattle.std.proofs.Common.{◌≡◌, ◌+◌, ◌<◌, List, [], ◌∷◌, ◌++◌, Bool, true, false, refl, sym, ap, ◌∙◌, append_assoc, arith, inl, inr}
-use Rattle.std.specs.Prelude.{◌||◌}
-use Rattle.std.specs.Slice.Iter.{iter_rest}
-use Rattle.std.proofs.lemmas.List.{append-nil, map-append}
-use Rattle.jsonb_doc.specs.declared.error.Error.{Error}
-use Rattle.jsonb.specs.Private.Documents.{step_has_document, expression_has_document, has_document}
-use Rattle.jsonb.specs.PathTree.{Step, Expression, steps_of}
-use Rattle.jsonb.specs.PathViews.{step_view, steps_view, expression_view}
-use Rattle.jsonb.specs.Private.Copying.{IsOwningError, listed, held, around, framed, frame_waiting, waiting, frame_has_document, have_document}
-use Rattle.jsonb.specs.Private.Parts.{step_parts, expression_parts}
-use Rattle.jsonb.specs.declared.path.Path.{Path}
+use Rattle.jsonb.proofs.Common.{◌≡◌, ◌+◌, ◌<◌, List, [], ◌∷◌, ◌++◌, Bool, true, false, refl, sym, ap, ◌∙◌, append_assoc, arith, inl, inr, ◌||◌, iter_rest, map-append, Error, step_has_document, expression_has_document, has_document, Step, Expression, steps_of, step_view, steps_view, expression_view, IsOwningError, listed, held, around, framed, frame_waiting, waiting, frame_has_document, have_document, step_parts, expression_parts, Path, Holder, StepsKind}
+use Rattle.std.proofs.lemmas.List.{append-nil}
 use Rattle.jsonb.specs.declared.path.copying.Frame.{Frame}
 use Rattle.jsonb.specs.declared.path.copying.Frame.TheVariants as frame
-use Rattle.jsonb.specs.declared.path.copying.Holder.{Holder}
 use Rattle.jsonb.specs.declared.path.copying.Holder.TheVariants as holder
-use Rattle.jsonb.specs.declared.path.copying.StepsKind.{StepsKind}
 use Rattle.jsonb.specs.declared.path.copying.StepsKind.TheVariants as kind
 use Rattle.jsonb.proofs.PartLemmas.{row_parts, some_step_parts}
 use Rattle.jsonb.proofs.DocumentLemmas.{has_document-append, or_true, or_assoc}

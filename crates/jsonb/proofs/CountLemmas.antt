@@ -1,9 +1,5 @@
 -- Counting the items of a path, expression by expression.
-use Rattle.std.proofs.Common.{◌≡◌, ℕ, suc, ◌+◌, ◌<◌, List, ◌∷◌, length, get_or, drop, ap, sym, ◌∙◌, add-one, arith}
-use Rattle.std.proofs.Math.Seq.{drop-cons}
-use Rattle.jsonb.specs.MostItems.{capped}
-use Rattle.jsonb.specs.PathViews.{step_view, steps_view}
-use Rattle.jsonb.specs.declared.path.Path.{Path}
+use Rattle.jsonb.proofs.Common.{◌≡◌, ℕ, suc, ◌+◌, ◌<◌, List, ◌∷◌, length, get_or, drop, ap, sym, ◌∙◌, add-one, arith, drop-cons, capped, step_view, steps_view, Path}
 
 -- one addition, and then another
 pub grows_then : (a b c x y : ℕ) → capped b ≡ capped (a + x) → capped c ≡ capped (b + y) → capped c ≡ capped (a + (x + y))

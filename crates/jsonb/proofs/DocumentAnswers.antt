@@ -1,16 +1,5 @@
 -- From the documents that are made of a selection to what a call returns.
-use Rattle.std.proofs.Common.{◌≡◌, List, Option, Some, None, Result, Ok, Err, ◌⊎◌, inl, inr, sym, IsOkAnd}
-use Rattle.std.specs.Prelude.{IsSomeAnd}
-use Rattle.jsonb_doc.specs.Answer.{Outcome, Refines, IsOutOfMemory, ◌or◌when◌, SameOption}
-use Rattle.jsonb_doc.specs.Format.{Decodes}
-use Rattle.jsonb_doc.specs.Limits.{IsTooLarge}
-use Rattle.jsonb_doc.specs.Payload.{Form}
-use Rattle.jsonb_doc.specs.Tree.{Tree}
-use Rattle.jsonb_doc.specs.declared.error.Error.{Error}
-use Rattle.jsonb_doc.specs.declared.error.Error.TheVariants.{OutOfMemory, TooLarge}
-use Rattle.jsonb_raw.specs.Documents.{Makes, MakesOption}
-use Rattle.jsonb_raw.specs.declared.owned.OwnedJsonb.{OwnedJsonb}
-use Rattle.jsonb.specs.Private.Selected.{array_of}
+use Rattle.jsonb.proofs.Common.{◌≡◌, List, Option, Some, None, Result, Ok, Err, ◌⊎◌, inl, inr, sym, IsOkAnd, IsSomeAnd, Outcome, Refines, IsOutOfMemory, ◌or◌when◌, SameOption, Decodes, IsTooLarge, Form, Tree, Error, OutOfMemory, TooLarge, Makes, MakesOption, OwnedJsonb, array_of}
 
 -- one array of the list
 pub array_handed : (form : Form) (ts : List Tree) (r : Result OwnedJsonb Error) → Makes form (array_of ts) r

@@ -1,22 +1,6 @@
 -- Which paths have documents among their literals.
-use Rattle.std.proofs.Common.{◌≡◌, ℕ, ◌+◌, ◌<◌, Bool, true, false, List, [], ◌∷◌, ◌++◌, length, take, drop, get_or, suc, Option, Some, None, refl, sym, ap, ◌∙◌, inl, inr}
-use Rattle.std.specs.Prelude.{◌||◌, IfSome, map}
-use Rattle.std.proofs.Math.Seq.{drop-cons}
-use Rattle.std.proofs.lemmas.List.{take_more, take-append-drop, map-append}
-use Rattle.jsonb_doc.specs.Answer.{IsOutOfMemory, ◌or◌when◌}
-use Rattle.jsonb_doc.specs.declared.error.Error.{Error}
-use Rattle.jsonb_doc.specs.declared.error.Error.TheVariants.{InvalidJsonPath}
-use Rattle.jsonb.specs.PathDocuments.{is_document, HasNoDocument}
-use Rattle.jsonb.specs.Private.Documents.{step_has_document, steps_have_document, expression_has_document, has_document}
-use Rattle.jsonb.specs.Private.Copying.{IsOwningError}
-use Rattle.jsonb.specs.PathEquality.{SameLiteral, SameStepBut, SameStepsBut, SameExpressionBut, SamePath}
-use Rattle.jsonb.specs.Private.SamePath.{SameStep, SameExpression}
-use Rattle.jsonb.specs.PathGrammar.{json_path}
-use Rattle.jsonb.specs.Proofs.PathOrder.{container_with_none}
+use Rattle.jsonb.proofs.Common.{◌≡◌, ℕ, ◌+◌, ◌<◌, Bool, true, false, List, [], ◌∷◌, ◌++◌, length, take, drop, get_or, suc, Option, Some, None, refl, sym, ap, ◌∙◌, inl, inr, ◌||◌, IfSome, map, drop-cons, take_more, take-append-drop, map-append, IsOutOfMemory, ◌or◌when◌, Error, InvalidJsonPath, is_document, HasNoDocument, step_has_document, steps_have_document, expression_has_document, has_document, IsOwningError, SameLiteral, SameStepBut, SameStepsBut, SameExpressionBut, SamePath, SameStep, SameExpression, json_path, container_with_none, Literal, raw, Step, filter, whole_expression, Steps, no_steps, step, Expression, paths, value, binary, unary, exists, steps_of, step_view, steps_view, Path}
 use Rattle.jsonb.specs.Values.{literal_value}
-use Rattle.jsonb.specs.PathTree.{Literal, raw, Step, filter, whole_expression, Steps, no_steps, step, Expression, paths, value, binary, unary, exists, steps_of}
-use Rattle.jsonb.specs.PathViews.{step_view, steps_view}
-use Rattle.jsonb.specs.declared.path.Path.{Path}
 use Rattle.jsonb.proofs.EqualPrinted.{read_equals_itself}
 
 pub document_equals_nothing : (document : List ℕ) (l : Literal) → ¬ SameLiteral (raw document) l

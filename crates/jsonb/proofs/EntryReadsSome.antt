@@ -1,19 +1,6 @@
 -- An index entry reads a byte at least.
-use Rattle.std.proofs.Common.{◌≡◌, ℕ, suc, ◌^◌, ◌<◌, List, [], ◌∷◌, length, take, drop, Bool, true, false, refl, arith}
-use Rattle.std.specs.Prelude.{codes}
-use Rattle.std.specs.Str.{str_eq_ignore_ascii_case}
+use Rattle.jsonb.proofs.Common.{◌≡◌, ℕ, suc, ◌^◌, ◌<◌, List, [], ◌∷◌, length, take, drop, Bool, true, false, refl, arith, codes, str_eq_ignore_ascii_case, Rule, literal, ws, int32, ReadsSome, given, some-no_more, grows-give, grows-then, some-then, then-some, some-choice, nothing, some-literal, grows-ws, some-integer_within, String, from_front, single, slice, keyword, spaced, last_and, place, entry, in_any_case, another_entry}
 use Rattle.std.proofs.lemmas.List.{length-drop}
-use Rattle.jsonb_keypath.specs.Rules.{Rule, literal}
-use Rattle.jsonb_keypath.specs.Tokens.{ws, int32}
-use Rattle.jsonb_keypath.specs.TokenLaws.{ReadsSome}
-use Rattle.jsonb_keypath.proofs.ReadsLemmas.{given, some-no_more, grows-give, grows-then, some-then, then-some, some-choice}
-use Rattle.jsonb_keypath.proofs.CutLemmas.{nothing, some-literal}
-use Rattle.jsonb_keypath.proofs.GrowsLemmas.{grows-ws, some-integer_within}
-use Prim.Native.String.{String}
-use Rattle.jsonb.specs.PathTree.{from_front, single, slice}
-use Rattle.jsonb.specs.PathGrammar.{keyword, spaced, last_and, place, entry}
-use Rattle.jsonb.specs.Private.Fronts.{in_any_case}
-use Rattle.jsonb.specs.Private.Repeated.{another_entry}
 
 shorter : (n : ℕ) (b : ℕ) (input : List ℕ) → length (drop (suc n) (b ∷ input)) < length (b ∷ input)
 shorter n b input = rw (length-drop (suc n) (b ∷ input)) (omega arith)

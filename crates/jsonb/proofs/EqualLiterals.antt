@@ -1,12 +1,5 @@
 -- The order of two literals of the code is that of what they stand for.
-use Rattle.std.proofs.Common.{◌≡◌, refl, ap}
-use Rattle.std.specs.Ordering.{is_eq, is_some_and}
-use Rattle.jsonb_doc.proofs.EqualValues.{number_cmp-number_view}
-use Rattle.jsonb.specs.PathEquality.{literal_order}
-use Rattle.jsonb.specs.PathViews.{literal_view}
-use Rattle.jsonb.specs.Private.SamePath.{path_value_order, is_same_literal}
-use Rattle.jsonb.specs.declared.path.PathValue.{PathValue}
-use Rattle.jsonb.specs.declared.path.PathValue.TheVariants.{Null, Raw}
+use Rattle.jsonb.proofs.Common.{◌≡◌, refl, ap, is_eq, is_some_and, number_cmp-number_view, literal_order, literal_view, path_value_order, is_same_literal, PathValue, Null, Raw}
 use Rattle.jsonb.specs.declared.path.PathValue.TheVariants as PathValue'
 
 pub order_is : (a b : PathValue) → path_value_order a b ≡ literal_order (literal_view a) (literal_view b)

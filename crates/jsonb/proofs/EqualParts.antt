@@ -1,21 +1,8 @@
 -- Equality of the small parts of paths is equality of what they stand for.
-use Rattle.std.proofs.Common.{◌≡◌, List, [], ◌∷◌, Bool, Some, None, Option, refl, ap, ap₂}
-use Rattle.std.specs.Prelude.{◌&&◌, nat_eq}
-use Rattle.std.specs.Bool.{Decides}
-use Rattle.std.specs.Option.{option_eq}
-use Rattle.std.specs.Cmp.Lexicographic.{pointwise}
-use denote.Enum.Bare.{same_true, true_same}
-use Rattle.jsonb.specs.Proofs.SamePath.{place-same, entry-same, end-same, level-same, sign-same}
-use Rattle.jsonb.specs.Private.SamePath.{is_same_place, is_same_entry, is_same_end, is_same_level, is_same_sign}
-use Rattle.jsonb.specs.declared.path.Index.{Index}
+use Rattle.jsonb.proofs.Common.{◌≡◌, List, [], ◌∷◌, Bool, Some, None, Option, refl, ap, ap₂, ◌&&◌, nat_eq, Decides, option_eq, pointwise, same_true, true_same, place-same, entry-same, end-same, level-same, sign-same, is_same_place, is_same_entry, is_same_end, is_same_level, is_same_sign, Index, ArrayIndex, RecursiveLevelEnd, RecursiveLevel, BinaryOperator, UnaryOperator}
 use Rattle.jsonb.specs.declared.path.Index.TheVariants as index
-use Rattle.jsonb.specs.declared.path.ArrayIndex.{ArrayIndex}
 use Rattle.jsonb.specs.declared.path.ArrayIndex.TheVariants as array_index
-use Rattle.jsonb.specs.declared.path.RecursiveLevelEnd.{RecursiveLevelEnd}
 use Rattle.jsonb.specs.declared.path.RecursiveLevelEnd.TheVariants as level_end
-use Rattle.jsonb.specs.declared.path.RecursiveLevel.{RecursiveLevel}
-use Rattle.jsonb.specs.declared.path.BinaryOperator.{BinaryOperator}
-use Rattle.jsonb.specs.declared.path.UnaryOperator.{UnaryOperator}
 use Rattle.jsonb.specs.declared.path.UnaryOperator.TheVariants as sign
 use Rattle.jsonb.specs.contracts.path.IndexPartialEq.TheImpl.{eq-value as index_equal}
 use Rattle.jsonb.specs.contracts.path.ArrayIndexPartialEq.TheImpl.{eq-value as array_index_equal}

@@ -1,13 +1,5 @@
 -- The derived equality of paths goes step by step.
-use Rattle.std.proofs.Common.{List, [], ◌∷◌, refl}
-use Rattle.std.specs.Bool.{Decides}
-use Rattle.std.specs.Cmp.Lexicographic.{pointwise}
-use Rattle.std.proofs.lemmas.Bool.Decides.{Decides-and}
-use Rattle.jsonb.specs.PathEquality.{SamePath}
-use Rattle.jsonb.specs.PathViews.{step_view, steps_view, path_view}
-use Rattle.jsonb.specs.Proofs.SamePath.{step-same}
-use Rattle.jsonb.specs.declared.path.JsonPath.{JsonPath}
-use Rattle.jsonb.specs.declared.path.Path.{Path}
+use Rattle.jsonb.proofs.Common.{List, [], ◌∷◌, refl, Decides, pointwise, Decides-and, SamePath, step_view, steps_view, path_view, step-same, JsonPath, Path}
 use Rattle.jsonb.specs.contracts.path.compare.PathPartialEq.TheImpl.{eq-value as path_equal}
 use Rattle.jsonb.specs.contracts.path.JsonPathPartialEq.TheImpl.{eq-value as json_path_equal}
 

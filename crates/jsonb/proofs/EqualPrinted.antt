@@ -1,23 +1,10 @@
 -- A JSON path that was read equals itself, and what its printed text reads as.
-use Rattle.std.proofs.Common.{◌≡◌, ℕ, List, [], ◌∷◌, Bool, true, false, Option, Some, None, pos, negsuc, zero, suc, refl, ap, inl, inr, map, Equal}
-use Rattle.std.specs.Prelude.{IfSome, IsSomeAnd, MatchBool}
-use Rattle.std.proofs.lemmas.Cmp.{tied_itself}
-use Rattle.std.specs.List.{AllByRecursion}
-use Rattle.std.specs.Cmp.{bool_cmp_total}
-use Rattle.std.specs.Cmp.Lexicographic.{nat_list_cmp_total}
-use Rattle.jsonb_doc.specs.Number.{Number, int64, uint64, number_from, number_cmp}
-use Rattle.jsonb_doc.specs.Proofs.NumberOrder.{number_cmp_total}
-use Rattle.jsonb_doc.specs.declared.number.Number.TheVariants.{Int64, UInt64}
-use Rattle.jsonb.specs.PathEquality.{SameLiteral, SameStepsBut, SamePath}
-use Rattle.jsonb.specs.Private.SamePath.{SameStep, SameExpression}
-use Rattle.jsonb.specs.PathGrammar.{json_path}
-use Rattle.jsonb.specs.PathLaws.{settled_literal}
+use Rattle.jsonb.proofs.Common.{◌≡◌, ℕ, List, [], ◌∷◌, Bool, true, false, Option, Some, None, pos, negsuc, zero, suc, refl, ap, inl, inr, map, IfSome, IsSomeAnd, MatchBool, tied_itself, AllByRecursion, bool_cmp_total, nat_list_cmp_total, Number, int64, uint64, number_from, number_cmp, number_cmp_total, Int64, UInt64, SameLiteral, SameStepsBut, SamePath, SameStep, SameExpression, json_path, settled_literal, joins, path_text, Literal, boolean, number, string, Step, filter, whole_expression, Steps, no_steps, step, Expression, paths, value, binary, unary, exists, path-symmetric, path-transitive}
+use Rattle.std.proofs.Common.{Equal}
 use Rattle.jsonb.proofs.SettledPaths.{settled_step, settled_steps, settled}
-use Rattle.jsonb.specs.PathText.{joins, path_text}
-use Rattle.jsonb.specs.PathTree.{Literal, null, boolean, number, string, Step, filter, whole_expression, Steps, no_steps, step, Expression, paths, value, binary, unary, exists}
+use Rattle.jsonb.specs.PathTree.{null}
 use Rattle.jsonb.proofs.GrammarShape.{json_path_is_path}
 use Rattle.jsonb.proofs.PathReadsBack.{path-text}
-use Rattle.jsonb.specs.Proofs.SameParts.{path-symmetric, path-transitive}
 use Rattle.jsonb.proofs.PathShape.{IsLiteral, IsInner, AreInner, IsBeginning, IsOperand, is_signed, IsPathStep, ArePathSteps, IsExistsPath, IsCondition, IsPath}
 
 number_itself : (n : Number) → number_cmp n n ≡ Equal

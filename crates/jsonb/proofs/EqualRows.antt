@@ -1,10 +1,6 @@
 -- Which paths are equal: worked pairs, computed from the definitions alone.
-use Rattle.std.proofs.Common.{pos, negsuc, true, false, [], ◌∷◌, Some, None, refl}
-use Rattle.std.specs.Prelude.{codes}
-use Rattle.jsonb_doc.specs.declared.number.Number.TheVariants.{Int64, UInt64, Decimal64, Decimal128}
-use Rattle.jsonb.specs.PathEquality.{SameLiteral, SamePath}
+use Rattle.jsonb.proofs.Common.{pos, negsuc, true, false, [], ◌∷◌, Some, None, refl, codes, Int64, UInt64, Decimal64, Decimal128, SameLiteral, SamePath, Literal, Step, Expression, steps_of}
 use Rattle.jsonb.specs.PathTree as p
-use Rattle.jsonb.specs.PathTree.{Literal, Step, Expression, steps_of}
 
 -- ---- literals
 

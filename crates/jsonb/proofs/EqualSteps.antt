@@ -1,16 +1,8 @@
 -- Steps of two kinds have not the same parts.
-use Rattle.std.proofs.Common.{◌≡◌, ℕ, List, false, Option, Box, Vec, Global, refl}
-use Rattle.std.specs.declared.borrow.CowStr.{CowStr}
+use Rattle.jsonb.proofs.Common.{◌≡◌, ℕ, List, false, Option, Box, Vec, Global, refl, CowStr, Step, Expression, Entry, Levels, step_layer, step_view, expression_view, is_same_step, ArrayIndex, Expr, out-Expr, Path, map-Path, out-Path, RecursiveLevel}
 use Rattle.jsonb.specs.PathTree as tree
-use Rattle.jsonb.specs.PathTree.{Step, Expression, Entry, Levels}
-use Rattle.jsonb.specs.PathViews.{step_layer, step_view, expression_view}
-use Rattle.jsonb.specs.Private.SamePath.{is_same_step}
-use Rattle.jsonb.specs.declared.path.ArrayIndex.{ArrayIndex}
-use Rattle.jsonb.specs.declared.path.Expr.{Expr, out-Expr}
 use Rattle.jsonb.specs.declared.path.Expr.TheBlock as block
-use Rattle.jsonb.specs.declared.path.Path.{Path, map-Path, out-Path}
 use Rattle.jsonb.specs.declared.path.Path.TheVariants as step
-use Rattle.jsonb.specs.declared.path.RecursiveLevel.{RecursiveLevel}
 use Rattle.jsonb.proofs.PathNodes.{step_is}
 use denote.Hole.Carrier
 

@@ -1,9 +1,5 @@
 -- How a list of steps begins, and that a plain step is a step.
-use Rattle.std.proofs.Common.{◌≡◌, ℕ, List, ◌++◌, Some, None, refl}
-use Rattle.jsonb_keypath.specs.Rules.{Parsed, repeat}
-use Rattle.jsonb_keypath.proofs.RepeatLemmas.{behind}
-use Rattle.jsonb.specs.PathTree.{Step}
-use Rattle.jsonb.specs.PathGrammar.{front_steps, path_step, plain_path, path_with, spaced_inner}
+use Rattle.jsonb.proofs.Common.{◌≡◌, ℕ, List, ◌++◌, Some, None, refl, Parsed, repeat, behind, Step, front_steps, path_step, plain_path, path_with, spaced_inner}
 
 pub path-begins : (input : List ℕ) (front : List Step) (rest : List ℕ) → Some (front, rest) ≡ front_steps input →
     behind front (repeat path_step rest) ≡ plain_path input

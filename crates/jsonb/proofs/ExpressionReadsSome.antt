@@ -1,17 +1,6 @@
 -- Each rule for operands, expressions and steps reads a byte at least.
-use Rattle.std.proofs.Common.{ℕ, zero, suc, ◌+◌, ◌^◌, List, [], ◌∷◌, length, Bool, true, false}
-use Rattle.std.specs.Prelude.{codes}
-use Rattle.jsonb_keypath.specs.Rules.{Rule, give, ◌>>=◌, ◌>>◌, only_if, bytes, literal, repeat, list_of}
-use Rattle.jsonb_keypath.specs.Tokens.{ws, quoted, natural_below, integer_within}
-use Rattle.jsonb_keypath.specs.TokenLaws.{ReadsSome}
-use Rattle.jsonb_keypath.proofs.ReadsLemmas.{NeverGrows, some-no_more, grows-give, grows-then, some-then, then-some, some-choice, grows-only_if}
-use Rattle.jsonb_keypath.proofs.CutLemmas.{some-literal}
-use Rattle.jsonb_keypath.proofs.GrowsLemmas.{some-quoted, some-integer_within, some-natural_below}
-use Rattle.jsonb_doc.specs.declared.number.Number.TheVariants.{Int64, UInt64}
-use Rattle.jsonb.specs.PathTree.{null, boolean, number, string, eq, not_eq, lt, lte, gt, gte, starts_with_op, add, subtract, multiply, divide, modulo, plus, minus, root, current, filter, Expression}
-use Rattle.jsonb.specs.PathGrammar.{spaced, spaced_inner, path_root, literal_value, operand, spaced_operand, arithmetic_operator, operator, unary_operator, unary_atom, binary_atom, path_with, group_with, exists_with, atom_with, and_with, or_with, nested_or, path_step}
-use Rattle.jsonb.specs.Private.Fronts.{operand_steps, exists_steps, filter_with}
-use Rattle.jsonb.specs.Private.Repeated.{another_atom, another_and}
+use Rattle.jsonb.proofs.Common.{ℕ, zero, suc, ◌+◌, ◌^◌, List, [], ◌∷◌, length, Bool, true, false, codes, Rule, give, ◌>>=◌, ◌>>◌, only_if, bytes, literal, repeat, list_of, ws, quoted, natural_below, integer_within, ReadsSome, NeverGrows, some-no_more, grows-give, grows-then, some-then, then-some, some-choice, grows-only_if, some-literal, some-quoted, some-integer_within, some-natural_below, Int64, UInt64, boolean, number, string, eq, not_eq, lt, lte, gt, gte, starts_with_op, add, subtract, multiply, divide, modulo, plus, minus, root, current, filter, Expression, spaced, spaced_inner, path_root, literal_value, operand, spaced_operand, arithmetic_operator, operator, unary_operator, unary_atom, binary_atom, path_with, group_with, exists_with, atom_with, and_with, or_with, nested_or, path_step, operand_steps, exists_steps, filter_with, another_atom, another_and}
+use Rattle.jsonb.specs.PathTree.{null}
 use Rattle.jsonb.proofs.EntryReadsSome.{some-spaced}
 use Rattle.jsonb.proofs.InnerReadsSome.{grows-repeat, past_ws, past_byte, some-spaced_inner}
 

@@ -1,15 +1,5 @@
 -- The first item that a path selects, in place, or computed.
-use Rattle.std.proofs.Common.{◌≡◌, ℕ, ◌<◌, Bool, false, List, [], ◌∷◌, length, slice_index_or, Option, Some, None, is_some, MatchOption, refl, arith}
-use Rattle.std.specs.List.{AllZip}
-use Rattle.jsonb_doc.specs.Answer.{SameOption}
-use Rattle.jsonb_doc.specs.Representation.Positions.{Locates}
-use Rattle.jsonb_doc.specs.Tree.{Tree}
-use Rattle.jsonb_doc.specs.declared.spot.Spot.{Spot}
-use Rattle.jsonb.specs.FirstItems.{IsFirstItem}
-use Rattle.jsonb.specs.PathTree.{Step, Expression, is_predicate, whole_expression}
-use Rattle.jsonb.specs.SelectorAnswers.{first_item}
-use Rattle.jsonb.specs.Private.Selection.{only_expression}
-use Rattle.jsonb.specs.declared.selector.first_item.FirstItem.{FirstItem}
+use Rattle.jsonb.proofs.Common.{◌≡◌, ℕ, ◌<◌, Bool, false, List, [], ◌∷◌, length, slice_index_or, Option, Some, None, is_some, MatchOption, refl, arith, AllZip, SameOption, Locates, Tree, Spot, IsFirstItem, Step, Expression, is_predicate, whole_expression, first_item, only_expression, FirstItem}
 use Rattle.jsonb.specs.declared.selector.first_item.FirstItem.TheVariants.{At}
 
 -- ---- paths that are expressions

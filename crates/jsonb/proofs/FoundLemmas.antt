@@ -1,22 +1,8 @@
 -- Items that are found in place.
-use Rattle.std.proofs.Common.{◌≡◌, ℕ, List, [], ◌∷◌, map, Result, Ok, Err, inl}
-use Rattle.std.specs.Prelude.{Vec, MatchResult}
+use Rattle.jsonb.proofs.Common.{◌≡◌, ℕ, List, [], ◌∷◌, map, Result, Ok, Err, inl, Vec, MatchResult, AllZip, Any, Refines, IsOutOfMemory, ◌or◌when◌, IsTooLarge, Form, Locates, Tree, Error, TooLarge, Spot, IsItemOf, IsMadeItem, IsNumberItem, FoundItem, At, MadeItem}
 use Rattle.std.specs.declared.alloc.Global.{Global}
-use Rattle.std.specs.List.{AllZip, Any}
-use Rattle.jsonb_doc.specs.Answer.{Refines, IsOutOfMemory, ◌or◌when◌}
-use Rattle.jsonb_doc.specs.Limits.{IsTooLarge}
-use Rattle.jsonb_doc.specs.Payload.{Form}
-use Rattle.jsonb_doc.specs.Representation.Positions.{Locates}
-use Rattle.jsonb_doc.specs.Tree.{Tree}
-use Rattle.jsonb_doc.specs.declared.error.Error.{Error}
-use Rattle.jsonb_doc.specs.declared.error.Error.TheVariants.{TooLarge}
 use Rattle.jsonb_doc.specs.declared.number.Number.{Number as CodeNumber}
-use Rattle.jsonb_doc.specs.declared.spot.Spot.{Spot}
-use Rattle.jsonb.specs.FoundItems.{IsItemOf}
-use Rattle.jsonb.specs.Private.Selection.{IsMadeItem, IsNumberItem}
-use Rattle.jsonb.specs.declared.selector.found.FoundItem.{FoundItem}
-use Rattle.jsonb.specs.declared.selector.found.FoundItem.TheVariants.{At, Number}
-use Rattle.jsonb.specs.declared.selector.selected.MadeItem.{MadeItem}
+use Rattle.jsonb.specs.declared.selector.found.FoundItem.TheVariants.{Number}
 
 pub spots_are : (form : Form) (document : List ℕ) (spots : List Spot) (ts : List Tree) → AllZip (Locates document) spots ts
     → AllZip (IsItemOf document form) (map At spots) ts

@@ -1,28 +1,11 @@
 -- What is open while an expression is read: each step of the reading keeps what the rules make of it.
-use Rattle.std.proofs.Common.{◌≡◌, ℕ, ◌+◌, List, [], ◌∷◌, ◌++◌, length, Bool, true, false, Option, Some, None, Result, Ok, Err, IfOk, Bor, refl, sym, ap, ◌∙◌, arith}
-use Rattle.std.specs.Prelude.{nat_eq, ◌==◌, fold, option_and_then}
-use Rattle.std.proofs.lemmas.Bool.Decides.{nat_tests}
-use Rattle.std.proofs.lemmas.Option.{same_Some}
-use Rattle.jsonb_keypath.specs.Rules.{Parsed, Rule, give, ◌>>=◌, ◌>>◌, parsed_map, bytes, literal, repeat}
-use Rattle.jsonb_keypath.specs.Tokens.{ws, past, is_space}
-use Rattle.jsonb_keypath.specs.TokenLaws.{ReadsSome}
-use Rattle.jsonb_keypath.specs.Views.{read_as, ConsumesInput}
+use Rattle.jsonb.proofs.Common.{◌≡◌, ℕ, ◌+◌, List, [], ◌∷◌, ◌++◌, length, Bool, true, false, Option, Some, None, Result, Ok, Err, IfOk, refl, sym, ap, ◌∙◌, arith, nat_eq, ◌==◌, fold, nat_tests, same_Some, Parsed, Rule, give, ◌>>=◌, ◌>>◌, parsed_map, bytes, literal, repeat, ws, past, is_space, ReadsSome, read_as, ConsumesInput, NeverGrows, some-then, some-no_more, repeat-goes, repeat-ends, behind, loop-goes, loop-ends, nothing, BinaryOp, binary, and_op, or_op, Expression, Step, root, exists, filter, paths, steps_of, whole_expression, spaced, atom_with, and_with, or_with, expression, joined_by, spaced_inner, spaced_operand, operator, path_with, path_step, path_root, operand, unary_operator, unary_atom, binary_atom, group_with, exists_with, front_steps, first_step, plain_path, root_expression, operand_steps, another_atom, another_and, expression_view, steps_view, joined_from, joined_view, joined_behind, partial_outcome, IsUnclosed, IsPartial, closed, filter_front, filter_step, steps_behind, opened_outcome, IsOpened, resumed, AreFrames, goes_in_filter, opening_outcome, as_path, Joined, PartialExpr, Opened, Opening}
+use Rattle.std.proofs.Common.{Bor}
+use Rattle.std.specs.Prelude.{option_and_then}
 use Rattle.jsonb.specs.declared.path.Expr.{Expr as CodeExpr}
-use Rattle.jsonb_keypath.proofs.ReadsLemmas.{NeverGrows, some-then, some-no_more}
-use Rattle.jsonb_keypath.proofs.RepeatLemmas.{repeat-goes, repeat-ends, behind, loop-goes, loop-ends}
-use Rattle.jsonb_keypath.proofs.CutLemmas.{nothing}
-use Rattle.jsonb.specs.PathTree.{BinaryOp, binary, and_op, or_op, Expression, Step, root, exists, filter, paths, steps_of, whole_expression}
-use Rattle.jsonb.specs.PathGrammar.{spaced, atom_with, and_with, or_with, expression, joined_by, spaced_inner, spaced_operand, operator, path_with, path_step, path_root, operand, unary_operator, unary_atom, binary_atom, group_with, exists_with, front_steps, first_step, plain_path, root_expression}
-use Rattle.jsonb.specs.Private.Fronts.{operand_steps}
-use Rattle.jsonb.specs.Private.Repeated.{another_atom, another_and}
-use Rattle.jsonb.specs.PathViews.{expression_view, steps_view}
-use Rattle.jsonb.specs.Private.Frames.{joined_from, joined_view, joined_behind, partial_outcome, IsUnclosed, IsPartial, closed, filter_front, filter_step, steps_behind, opened_outcome, IsOpened, resumed, AreFrames, operation, goes_in_filter, opening_outcome, as_path}
-use Rattle.jsonb.specs.declared.parser.condition.Joined.{Joined}
-use Rattle.jsonb.specs.declared.parser.condition.PartialExpr.{PartialExpr}
-use Rattle.jsonb.specs.declared.parser.opening.Opened.{Opened}
+use Rattle.jsonb.specs.Private.Frames.{operation}
 use Rattle.jsonb.specs.declared.parser.opening.Opened.TheVariants as opened
 use Rattle.jsonb.specs.declared.parser.expression.Frame.{Frame}
-use Rattle.jsonb.specs.declared.parser.opening.Opening.{Opening}
 use Rattle.jsonb.proofs.ExpressionReadsSome.{some-atom, some-and, some-path, some-and_separator, some-or_separator, grows-nested_or, some-nested_or}
 use Rattle.jsonb.proofs.Bounds.{expression-rule, path_step-rule}
 pub use Rattle.jsonb_doc.proofs.Basics.{empty_of as none_open}

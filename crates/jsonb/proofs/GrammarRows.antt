@@ -1,16 +1,6 @@
 -- Rows of the JSON path grammar and of printed paths, computed from the definitions alone.
-use Rattle.std.proofs.Common.{ℕ, List, [], ◌∷◌, Option, Some, None, refl}
-use Rattle.std.specs.Prelude.{codes, negsuc, option_map}
-use Rattle.std.specs.Fmt.{digits}
-use Rattle.std.specs.Str.{is_utf8, chars}
-use lib.Utf8.{encode}
-use Rattle.jsonb_keypath.specs.Rules.{up_to, repeat}
-use Rattle.jsonb_keypath.specs.Tokens.{ws, natural, natural_below, sign, integer, integer_within, four_hex_digits, code_unit, unicode_escape, escape, unit, units, text, name, quoted}
-use Rattle.jsonb_doc.specs.declared.number.Number.TheVariants.{Int64, UInt64}
-use Rattle.jsonb.specs.PathTree.{Step, root, value, binary, eq, number, whole_expression, dot_field}
-use Rattle.jsonb.specs.PathGrammar.{place, entry, levels, field, entries, wildcard, named_field, bracket_field, inner, spaced_inner, path_root, literal_value, operand, spaced_operand, operator, arithmetic_operator, unary_operator, unary_atom, binary_atom, path_with, group_with, exists_with, atom_with, and_with, or_with, nested_or, expression, root_expression, first_step, front_steps, path_step, plain_path, json_path}
-use Rattle.jsonb.specs.PathText.{path_text}
-use Rattle.jsonb_doc.proofs.Tables.{AreRows}
+use Rattle.jsonb.proofs.Common.{ℕ, List, [], ◌∷◌, Option, Some, None, refl, codes, negsuc, option_map, digits, is_utf8, chars, encode, up_to, repeat, ws, natural, natural_below, sign, integer, integer_within, four_hex_digits, code_unit, unicode_escape, escape, unit, units, name, quoted, Int64, UInt64, Step, root, value, binary, eq, number, whole_expression, dot_field, place, entry, levels, field, entries, wildcard, named_field, bracket_field, inner, spaced_inner, path_root, literal_value, operand, spaced_operand, operator, arithmetic_operator, unary_operator, unary_atom, binary_atom, path_with, group_with, exists_with, atom_with, and_with, or_with, nested_or, expression, root_expression, first_step, front_steps, path_step, plain_path, json_path, path_text, AreRows}
+use Rattle.jsonb_keypath.specs.Tokens.{text}
 
 -- the steps of the text, if it is a path; `unfolding read` opens all that it takes
 unfoldable pub read : List ℕ → Option (List Step)

@@ -1,23 +1,7 @@
 -- What the grammar makes is a path as `IsPath` says.
-use Rattle.std.proofs.Common.{◌≡◌, ℕ, zero, suc, ◌+◌, ◌<◌, ◌^◌, List, [], ◌∷◌, ◌++◌, length, Bool, true, false, Some, None, refl, sym, ◌∙◌, ap, subst, arith, ◌⊎◌, inl, inr}
-use Rattle.std.specs.Prelude.{ℤ, pos, neg_ℤ, nat_lt, ◌==◌, ◌||◌, fold, if◌then◌else◌}
-use Rattle.std.specs.Option.{option_and_then, option_or}
-use Rattle.std.specs.Char.{is_ascii_digit}
-use Rattle.std.proofs.lemmas.Option.{same_Some}
-use Rattle.std.proofs.lemmas.Bool.Decides.{nat_tests, Decides-ltb, Decides-eqb}
-use Rattle.std.specs.List.{AllByRecursion}
-use Rattle.jsonb_doc.specs.Rounding.{with_sign}
-use Rattle.jsonb_keypath.specs.Rules.{Parsed, Rule, give, ◌>>=◌, ◌>>◌, ◌</>◌, optional, only_if, literal, list_of}
-use Rattle.jsonb_keypath.specs.Tokens.{ws, quoted, past, is_space, is_within, sign, natural, natural_below, integer, integer_within}
-use Rattle.jsonb_keypath.proofs.ReadBackLemmas.{begins, begins-excludes, is_sign, sign-none, natural-none}
-use Rattle.jsonb_keypath.proofs.YieldsLemmas.{Yields, IsName, yields-give, yields-then, yields-behind, yields-choice, yields-repeat, yields-list_of, yields-integer_within, yields-natural_below, yields-name, yields-quoted}
-use Rattle.jsonb_doc.specs.declared.number.Number.TheVariants.{Int64, UInt64}
-use Rattle.jsonb.specs.PathTree.{LevelEnd, Entry, Levels, Literal, number, BinaryOp, and_op, or_op, eq, not_eq, lt, lte, gt, gte, starts_with_op, add, subtract, multiply, divide, modulo, Step, root, filter, Expression, paths, value, binary, steps_of}
-use Rattle.jsonb.specs.PathGrammar.{spaced, negated, last_and, place, entry, level_end, levels, field, entries, wildcard, named_field, bracket_field, inner, spaced_inner, path_root, literal_value, operand, spaced_operand, operator, arithmetic_operator, unary_operator, unary_atom, binary_atom, joined_by, path_with, group_with, exists_with, atom_with, and_with, or_with, nested_or, expression, root_expression, first_step, front_steps, path_step, plain_path, json_path}
-use Rattle.jsonb.specs.PathText.{joins}
+use Rattle.jsonb.proofs.Common.{◌≡◌, ℕ, zero, suc, ◌+◌, ◌<◌, ◌^◌, List, [], ◌∷◌, ◌++◌, length, Bool, true, false, Some, None, refl, sym, ◌∙◌, ap, subst, arith, ◌⊎◌, inl, inr, ℤ, pos, neg_ℤ, nat_lt, ◌==◌, ◌||◌, fold, if◌then◌else◌, option_and_then, option_or, is_ascii_digit, same_Some, nat_tests, Decides-ltb, Decides-eqb, AllByRecursion, with_sign, Parsed, Rule, give, ◌>>=◌, ◌>>◌, ◌</>◌, optional, only_if, literal, list_of, ws, quoted, past, is_space, is_within, sign, natural, natural_below, integer, integer_within, begins, begins-excludes, is_sign, sign-none, natural-none, Yields, IsName, yields-give, yields-then, yields-behind, yields-choice, yields-repeat, yields-list_of, yields-integer_within, yields-natural_below, yields-name, yields-quoted, Int64, UInt64, LevelEnd, Entry, Levels, Literal, number, BinaryOp, and_op, or_op, eq, not_eq, lt, lte, gt, gte, starts_with_op, add, subtract, multiply, divide, modulo, Step, root, filter, Expression, paths, value, binary, steps_of, spaced, last_and, place, entry, level_end, levels, field, entries, wildcard, named_field, bracket_field, inner, spaced_inner, path_root, literal_value, operand, spaced_operand, operator, arithmetic_operator, unary_operator, unary_atom, binary_atom, joined_by, path_with, group_with, exists_with, atom_with, and_with, or_with, nested_or, expression, root_expression, first_step, front_steps, path_step, plain_path, json_path, joins, whole-some, String}
+use Rattle.jsonb.specs.PathGrammar.{negated}
 use Rattle.jsonb.proofs.PathShape.{IsLevelEnd, IsIndex, IsPlace, IsEntry, AreLevels, IsLiteral, IsInner, AreInner, IsBeginning, IsOperand, is_signed, is_signed_literal, IsPathStep, ArePathSteps, IsExistsPath, IsCondition, IsPath}
-use Rattle.jsonb_keypath.proofs.KeyPathReadsBack.{whole-some}
-use Prim.Native.String.{String}
 use Rattle.jsonb.proofs.InnerReadsBack.{past-stops, past-none, no_space, digit_is_no_space, spaced-reads}
 use Rattle.jsonb.proofs.OperandReadsBack.{is_path_root, path_root-none, literal-digits}
 

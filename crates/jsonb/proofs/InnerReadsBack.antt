@@ -1,24 +1,6 @@
 -- Printed steps without expressions, read with anything after them that may be there.
-use Rattle.std.proofs.Common.{◌≡◌, ℕ, zero, suc, ◌+◌, ◌<◌, ◌^◌, List, [], ◌∷◌, ◌++◌, length, Bool, true, false, not, Option, Some, None, refl, ◌∙◌, ap, arith, append_assoc, length-append, cond, drop}
+use Rattle.jsonb.proofs.Common.{◌≡◌, ℕ, zero, suc, ◌+◌, ◌<◌, ◌^◌, List, [], ◌∷◌, ◌++◌, length, Bool, true, false, not, Option, Some, None, refl, ◌∙◌, ap, arith, append_assoc, length-append, cond, drop, ℤ, pos, negsuc, nat_lt, ◌==◌, ◌&&◌, ◌||◌, flat_map, codes, if◌then◌else◌, is_ascii_digit, AllByRecursion, prefix_len, common_steps, decimal, signed_decimal, Decides-ltb, nat_tests, Rule, ◌>>◌, parsed_map, optional, literal, repeat, ws, past, is_space, is_quote, is_stop, int32, nat8, is_plain_name, is_word_byte, quoted_text, name_text, front, stops, front-stops, front-implies, begins, begins-implies, begins-excludes, stops-from_begins, begins-decimal, is_number_start, is_sign, past-run, natural_below-decimal, natural_below-none, integer_within-signed_decimal, integer_within-none, quoted-quoted_text, quoted-none, name-plain, begins-plain, begins-signed_decimal, repeat-goes, repeat-ends, IsName, Place, from_front, from_last, Entry, single, slice, LevelEnd, level, last_level, Levels, Step, dot_wildcard, recursive_dot_wildcard, bracket_wildcard, dot_field, colon_field, object_field, array_indices, keyword, spaced, place, entry, levels, field, entries, wildcard, named_field, bracket_field, inner, entries_text, other_entry_text, place_text, entry_text, levels_text, step_text}
 use Rattle.std.proofs.lemmas.List.{append-nil}
-use Rattle.std.specs.Prelude.{ℤ, pos, negsuc, nat_lt, ◌==◌, ◌&&◌, ◌||◌, flat_map, codes, if◌then◌else◌}
-use Rattle.std.specs.Char.{is_ascii_digit}
-use Rattle.std.specs.List.{AllByRecursion, prefix_len}
-use Rattle.std.proofs.lemmas.Grind.{common_steps}
-use Rattle.std.specs.Fmt.{decimal, signed_decimal}
-use Rattle.std.proofs.lemmas.Bool.Decides.{Decides-ltb, nat_tests}
-use Rattle.jsonb_keypath.specs.Rules.{Rule, ◌>>◌, parsed_map, optional, literal, repeat}
-use Rattle.jsonb_keypath.specs.Tokens.{ws, past, is_space, is_quote, is_stop, int32, nat8}
-use Rattle.jsonb_keypath.specs.KeyPathText.{is_plain_name, is_word_byte, quoted_text, name_text}
-use Rattle.jsonb_keypath.proofs.ReadBackLemmas.{front, stops, front-stops, front-implies, begins, begins-implies, begins-excludes, stops-from_begins, begins-decimal, is_number_start, is_sign, past-run, natural_below-decimal, natural_below-none, integer_within-signed_decimal, integer_within-none}
-use Rattle.jsonb_keypath.proofs.NameLemmas.{quoted-quoted_text, quoted-none, name-plain, begins-plain}
-use Rattle.jsonb_keypath.proofs.KeyPathReadsBack.{begins-signed_decimal}
-use Rattle.jsonb_keypath.proofs.RepeatLemmas.{repeat-goes, repeat-ends}
-use Rattle.jsonb_keypath.proofs.YieldsLemmas.{IsName}
-use Rattle.jsonb.specs.PathTree.{Place, from_front, from_last, Entry, single, slice, LevelEnd, level, last_level, Levels, Step, dot_wildcard, recursive_dot_wildcard, bracket_wildcard, dot_field, colon_field, object_field, array_indices}
-use Rattle.jsonb.specs.PathGrammar.{keyword, spaced, place, entry, levels, field, entries, wildcard, named_field, bracket_field, inner}
-use Rattle.jsonb.specs.Private.EntriesText.{entries_text, other_entry_text}
-use Rattle.jsonb.specs.PathText.{place_text, entry_text, levels_text, step_text}
 use Rattle.jsonb.proofs.PathShape.{IsIndex, IsPlace, IsEntry, IsLevelEnd, AreLevels, IsInner}
 
 -- ---- white space

@@ -1,16 +1,6 @@
 -- A step without an expression reads a byte at least.
-use Rattle.std.proofs.Common.{ℕ, ◌^◌, [], ◌∷◌, Some, None}
-use Rattle.std.specs.Prelude.{codes}
-use Rattle.jsonb_keypath.specs.Rules.{Rule, give, ◌>>=◌, ◌>>◌, optional, bytes, literal, repeat}
-use Rattle.jsonb_keypath.specs.Tokens.{ws, nat8, name, quoted}
-use Rattle.jsonb_keypath.specs.TokenLaws.{ReadsSome}
-use Rattle.jsonb_keypath.proofs.ReadsLemmas.{NeverGrows, some-no_more, grows-give, grows-then, some-then, grows-choice, some-choice}
-use Rattle.jsonb_keypath.proofs.CutLemmas.{some-literal}
+use Rattle.jsonb.proofs.Common.{ℕ, ◌^◌, [], ◌∷◌, Some, None, codes, Rule, give, ◌>>=◌, ◌>>◌, optional, bytes, literal, repeat, ws, nat8, name, quoted, ReadsSome, NeverGrows, some-no_more, grows-give, grows-then, some-then, grows-choice, some-choice, some-literal, grows-ws, some-name, some-quoted, some-natural_below, colon_field, dot_field, object_field, array_indices, keyword, spaced, level_end, levels, wildcard, field, named_field, entry, entries, bracket_field, inner, spaced_inner, another_entry, entry_list}
 pub use Rattle.jsonb_keypath.proofs.FrontLemmas.{grows-repeat}
-use Rattle.jsonb_keypath.proofs.GrowsLemmas.{grows-ws, some-name, some-quoted, some-natural_below}
-use Rattle.jsonb.specs.PathTree.{colon_field, dot_field, object_field, array_indices}
-use Rattle.jsonb.specs.PathGrammar.{keyword, spaced, level_end, levels, wildcard, field, named_field, entry, entries, bracket_field, inner, spaced_inner}
-use Rattle.jsonb.specs.Private.Repeated.{another_entry, entry_list}
 use Rattle.jsonb.proofs.EntryReadsSome.{some-keyword, some-spaced, some-entry, some-another_entry}
 
 pub past_ws : {A : Type 0} {next : Rule A} → NeverGrows next → NeverGrows (ws >> next)

@@ -1,14 +1,6 @@
 -- What the type of an item says of its tree.
-use Rattle.std.proofs.Common.{◌≡◌, List, ℕ, flat_map, Option, Some, None, Result, Ok, IsOkAnd, refl, ap}
-use Rattle.jsonb_doc.specs.Answer.{SameOption}
-use Rattle.jsonb_doc.specs.Representation.Positions.{HasSpotsLeft}
+use Rattle.jsonb.proofs.Common.{◌≡◌, List, ℕ, flat_map, Option, Some, None, Result, Ok, IsOkAnd, refl, ap, SameOption, HasSpotsLeft, Tree, Error, SpotIter, array_values, values_of, values_of_item, value_of_item}
 use Rattle.jsonb_doc.specs.Tree as tree
-use Rattle.jsonb_doc.specs.Tree.{Tree}
-use Rattle.jsonb_doc.specs.declared.error.Error.{Error}
-use Rattle.jsonb_doc.specs.declared.spot_iter.SpotIter.{SpotIter}
-use Rattle.jsonb_raw.specs.Arrays.{array_values}
-use Rattle.jsonb.specs.ItemSteps.{values_of}
-use Rattle.jsonb.specs.Values.{values_of_item, value_of_item}
 
 -- the elements of an array, and the values of an object, as lists
 module _ (bytes : List ℕ) where

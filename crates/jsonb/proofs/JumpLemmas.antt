@@ -1,15 +1,5 @@
 -- Evaluating the branches of an expression returns its truth.
-use Rattle.std.proofs.Common.{◌≡◌, ℕ, ◌≤◌, List, [], ◌∷◌, length, Bool, true, false, Some, None, Ok, Err, refl, ap, ◌∙◌, arith}
-use Rattle.std.specs.Prelude.{◌&&◌, ◌||◌, if◌then◌else◌}
-use Rattle.std.proofs.lemmas.Bool.{le-leb, lt-leb}
-use Rattle.jsonb_doc.specs.Answer.{Outcome, and_then}
-use Rattle.jsonb_doc.specs.Tree.{Tree}
-use Rattle.jsonb.specs.Compare.{Truth, joined_truth}
-use Rattle.jsonb.specs.Meaning.{truth}
-use Rattle.jsonb.specs.PathTree.{Expression, binary, and_op, or_op}
-use Rattle.jsonb.specs.Private.Jumps.{Branch, branches_of, taken, passed, evaluated, branches_of_whole}
-use Rattle.jsonb.specs.declared.selector.document.Mode.{Mode}
-use Rattle.jsonb.specs.declared.selector.plan.Jump.{Jump}
+use Rattle.jsonb.proofs.Common.{◌≡◌, ℕ, ◌≤◌, List, [], ◌∷◌, length, Bool, true, false, Some, None, Ok, Err, refl, ap, ◌∙◌, arith, ◌&&◌, ◌||◌, if◌then◌else◌, le-leb, lt-leb, Outcome, and_then, Tree, Truth, joined_truth, truth, Expression, binary, and_op, or_op, Branch, branches_of, taken, passed, evaluated, branches_of_whole, Mode, Jump}
 
 two_parts : {A B : Type 0} (o p : Outcome A) (f : A → A → A) (after : A → Outcome B) →
     and_then o (λ a. and_then p (λ b. after (f a b))) ≡ and_then (and_then o (λ a. and_then p (λ b. Ok (f a b)))) after

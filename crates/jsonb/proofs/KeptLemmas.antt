@@ -1,27 +1,10 @@
 -- What is kept of a filter from one item to the next.
-use Rattle.std.proofs.Common.{◌≡◌, Box, Global, ℕ, ◌≤◌, ◌+◌, zero, suc, List, [], ◌∷◌, ◌++◌, length, drop, true, Some, None, Ok, Err, IsOkAnd, arith, refl, sym, ap, ◌∙◌, subst, inl, inr, add-one}
+use Rattle.jsonb.proofs.Common.{◌≡◌, Box, Global, ℕ, ◌≤◌, ◌+◌, zero, suc, List, [], ◌∷◌, ◌++◌, length, drop, true, Some, None, Ok, Err, IsOkAnd, arith, refl, sym, ap, ◌∙◌, subst, inl, inr, add-one, slice_get_cases, Outcome, and_then, Refines, IsOutOfMemory, Tree, Expression, truth, operand_values, values_view, is_fixed, is_comparison, is_condition, IsSame, AreSame, AreKept, kept_part, Mode, OperandValues, CachedPart, FilterCache, expression_view, compare, Value, Expr, BinaryOperator, AreAlike}
 use Rattle.std.specs.List.{slice_get}
-use Rattle.std.proofs.lemmas.Option.{slice_get_cases}
-use Rattle.jsonb_doc.specs.Answer.{Outcome, and_then, Refines, IsOutOfMemory}
-use Rattle.jsonb_doc.specs.Tree.{Tree}
 use Rattle.jsonb.specs.PathTree as math
-use Rattle.jsonb.specs.PathTree.{Expression}
-use Rattle.jsonb.specs.Meaning.{truth, operand_values}
-use Rattle.jsonb.specs.Private.Selection.{values_view}
-use Rattle.jsonb.specs.Private.FilterCache.{is_fixed, is_comparison, is_condition, IsSame, AreSame, AreKept, kept_part}
-use Rattle.jsonb.specs.declared.selector.document.Mode.{Mode}
-use Rattle.jsonb.specs.declared.selector.operand_value.OperandValues.{OperandValues}
-use Rattle.jsonb.specs.declared.selector.filter_cache.CachedPart.{CachedPart}
 use Rattle.jsonb.specs.declared.selector.filter_cache.CachedPart.TheVariants as part
-use Rattle.jsonb.specs.declared.selector.filter_cache.FilterCache.{FilterCache}
 use Rattle.jsonb.specs.declared.selector.filter_cache.FilterCache.TheVariants as kept
-use Rattle.jsonb.specs.PathViews.{expression_view}
-use Rattle.jsonb.specs.Compare.{compare}
-use Rattle.jsonb.specs.Values.{Value}
-use Rattle.jsonb.specs.declared.path.Expr.{Expr}
 use Rattle.jsonb.specs.declared.path.Expr.TheVariants as expr
-use Rattle.jsonb.specs.declared.path.BinaryOperator.{BinaryOperator}
-use Rattle.jsonb.specs.Private.Alike.{AreAlike}
 use Rattle.jsonb.proofs.PathNodes.{binary_is}
 use Rattle.jsonb.proofs.RepeatLemmas.{compared_right, compared_both}
 

@@ -1,17 +1,7 @@
 -- An expression up to what is last in it: its text, its parts, and whether two are the same.
-use Rattle.std.proofs.Common.{◌≡◌, ℕ, ◌<◌, ◌≤◌, List, [], ◌∷◌, ◌++◌, Bool, true, false, Option, None, Some, refl, sym, ap, ap₂, ◌∙◌, append_assoc, arith}
-use Rattle.std.specs.Borrow.{Bor}
-use Rattle.std.specs.Prelude.{codes, ◌&&◌, if◌then◌else◌, option_map}
-use Rattle.std.specs.Option.{option_zip}
+use Rattle.jsonb.proofs.Common.{◌≡◌, ℕ, ◌<◌, ◌≤◌, List, [], ◌∷◌, ◌++◌, Bool, true, false, Option, None, Some, refl, sym, ap, ap₂, ◌∙◌, append_assoc, arith, Bor, codes, ◌&&◌, if◌then◌else◌, option_map, option_zip, operator_text, sign_text, literal_text, needs_parentheses, side_text, step_text, steps_text, expression_text, Step, filter, whole_expression, Steps, no_steps, step, Expression, paths, value, binary, unary, exists, steps_of, step_view, steps_view, expression_view, but_last, last_step, held_by, held_by_last, last_of, down, steps_down, step_down, step_before, last_before, steps_before, text_before, ends_in_filter, closing, is_same_opening, is_same_last, are_same_before, is_same_before, step_parts, steps_parts, expression_parts, parts, is_same_operator, is_same_literal, is_same_step, are_same_steps, is_same_expression, Expr, Path}
 use Rattle.std.proofs.lemmas.List.{append-nil}
-use Rattle.jsonb.specs.PathText.{operator_text, sign_text, literal_text, needs_parentheses, side_text, step_text, steps_text, expression_text}
-use Rattle.jsonb.specs.PathTree.{Step, filter, whole_expression, Steps, no_steps, step, Expression, paths, value, binary, unary, exists, steps_of}
-use Rattle.jsonb.specs.PathViews.{step_view, steps_view, expression_view}
-use Rattle.jsonb.specs.Private.Last.{but_last, last_step, is_filter, held_by, held_by_last, last_of, down, steps_down, step_down, step_before, last_before, steps_before, text_before, ends_in_filter, closing, is_same_opening, is_same_last, are_same_before, is_same_before}
-use Rattle.jsonb.specs.Private.Parts.{step_parts, steps_parts, expression_parts, parts}
-use Rattle.jsonb.specs.Private.SamePath.{is_same_operator, is_same_literal, is_same_step, are_same_steps, is_same_expression}
-use Rattle.jsonb.specs.declared.path.Expr.{Expr}
-use Rattle.jsonb.specs.declared.path.Path.{Path}
+use Rattle.jsonb.specs.Private.Last.{is_filter}
 
 -- ---- lists of steps that the code has
 

@@ -1,12 +1,6 @@
 -- The items below an item, by its children.
-use Rattle.std.proofs.Common.{◌≡◌, ℕ, ◌+◌, Bool, not, ◌&&◌, true, false, List, [], ◌∷◌, ◌++◌, flat_map, Option, Some, None, refl, ap, ◌∙◌, append-nil, arith, if◌then◌else◌}
-use Rattle.std.proofs.lemmas.Bool.Decides.{nat_tests}
+use Rattle.jsonb.proofs.Common.{◌≡◌, ℕ, ◌+◌, Bool, not, ◌&&◌, true, false, List, [], ◌∷◌, ◌++◌, flat_map, Option, Some, None, refl, ap, ◌∙◌, append-nil, arith, if◌then◌else◌, nat_tests, Tree, Trees, Pairs, array, object, no_trees, no_pairs, pair, elements, values, children_of, at_level, Levels, LevelEnd, level, last_level, is_shut, answer_at, taken_item, preorder, preorder_elements, preorder_values}
 use Rattle.jsonb_doc.specs.Tree as tree
-use Rattle.jsonb_doc.specs.Tree.{Tree, Trees, Pairs, array, object, no_trees, no_pairs, pair, elements, values, children_of}
-use Rattle.jsonb.specs.LevelTable.{at_level}
-use Rattle.jsonb.specs.PathTree.{Levels, LevelEnd, level, last_level}
-use Rattle.jsonb.specs.Private.Below.{is_shut}
-use Rattle.jsonb.specs.Preorder.{answer_at, taken_item, preorder, preorder_elements, preorder_values}
 
 -- ---- below a level whose children are not visited, none is selected
 

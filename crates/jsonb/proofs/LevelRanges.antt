@@ -1,11 +1,5 @@
 -- The levels at which items are taken, as a range.
-use Rattle.std.proofs.Common.{◌≡◌, ◌⊎◌, ℕ, ◌+◌, min, Bool, true, false, ◌&&◌, Option, inl, inr, ap, ◌∙◌}
-use Rattle.std.specs.Prelude.{nat_le}
-use Rattle.jsonb_doc.specs.Tree.{Tree}
-use Rattle.jsonb.specs.PathTree.{Levels}
-use Rattle.jsonb.specs.Preorder.{answer_at, taken_item, preorder}
-use Rattle.jsonb.specs.Private.Below.{AreLevelsOf, is_shut}
-use Rattle.jsonb.specs.declared.selector.levels.LevelRange.{LevelRange}
+use Rattle.jsonb.proofs.Common.{◌≡◌, ◌⊎◌, ℕ, ◌+◌, min, Bool, true, false, ◌&&◌, Option, inl, inr, ap, ◌∙◌, nat_le, Tree, Levels, answer_at, taken_item, preorder, AreLevelsOf, is_shut, LevelRange}
 use Rattle.jsonb.proofs.LevelLemmas.{preorder-left, preorder-shut}
 
 -- the range has a level if an item of it is taken

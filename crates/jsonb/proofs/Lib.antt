@@ -1,3 +1,4 @@
+pub mod Common
 pub mod ExpressionLemmas
 pub mod ViewLemmas
 pub mod PartLemmas

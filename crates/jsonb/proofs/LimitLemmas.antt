@@ -1,8 +1,5 @@
 -- The results of calls with a limit.
-use Rattle.std.proofs.Common.{Result, Ok, Err}
-use Rattle.jsonb_doc.specs.declared.error.Error.{Error}
-use Rattle.jsonb.specs.LimitedAnswers.{UnlessExceeded}
-use Rattle.jsonb.specs.Private.Limited.{lifted}
+use Rattle.jsonb.proofs.Common.{Result, Ok, Err, Error, UnlessExceeded, lifted}
 
 -- what holds of a result of the selector
 pub lifted_keeps : {A : Type 0} (Holds : Result A Error → Type 0) (r : Result A Error) → Holds r → UnlessExceeded Holds (lifted r)

@@ -1,27 +1,6 @@
 -- Comparisons of members of the items of a list, in lax mode, in which none fails.
-use Rattle.std.proofs.Common.{◌≡◌, List, [], ◌∷◌, ◌++◌, flat_map, map, true, false, Some, None, Ok, Err, IsOkAnd, refl, sym, ap, ◌∙◌, inl, inr, append_assoc}
-use Rattle.std.proofs.Math.Bool.{beq}
-use Rattle.std.proofs.lemmas.Grind.{flat_map-append}
-use Rattle.std.specs.Option.{option_eq}
-use Rattle.std.specs.Prelude.{not}
-use Rattle.jsonb_doc.specs.Answer.{Outcome, and_then, try_flat_map, Refines, IsOutOfMemory}
-use Rattle.jsonb_doc.specs.Tree.{Tree}
-use Rattle.jsonb_doc.specs.declared.error.Error.{Error}
+use Rattle.jsonb.proofs.Common.{◌≡◌, List, [], ◌∷◌, ◌++◌, flat_map, map, true, false, Some, None, Ok, Err, IsOkAnd, refl, sym, ap, ◌∙◌, inl, inr, append_assoc, beq, flat_map-append, option_eq, not, Outcome, and_then, try_flat_map, Refines, IsOutOfMemory, Tree, Error, Expression, steps_of, steps_view, Truth, compare, pair_truth, first_decisive, Value, values_of_item, step_meaning, steps_meaning, truth, operand_values, start, IsMemberCompared, IsListCompared, items_truth, is_comparison, are_members, value_view, taken_step, MemberCompared, ListCompared, AreRefused, Mode, Lax}
 use Rattle.jsonb.specs.PathTree as math
-use Rattle.jsonb.specs.PathTree.{Expression, steps_of}
-use Rattle.jsonb.specs.PathViews.{steps_view}
-use Rattle.jsonb.specs.Compare.{Truth, compare, pair_truth, first_decisive}
-use Rattle.jsonb.specs.Values.{Value, values_of_item}
-use Rattle.jsonb.specs.Meaning.{step_meaning, steps_meaning, truth, operand_values, start}
-use Rattle.jsonb.specs.Private.Compared.{IsMemberCompared, IsListCompared, items_truth}
-use Rattle.jsonb.specs.Private.FilterCache.{is_comparison}
-use Rattle.jsonb.specs.Private.Members.{are_members}
-use Rattle.jsonb.specs.Private.Selection.{value_view, taken_step}
-use Rattle.jsonb.specs.declared.selector.plan.MemberCompared.{MemberCompared}
-use Rattle.jsonb.specs.declared.selector.compared_lists.ListCompared.{ListCompared}
-use Rattle.jsonb.specs.declared.selector.document.Expressions.TheVariants.{AreRefused}
-use Rattle.jsonb.specs.declared.selector.document.Mode.{Mode}
-use Rattle.jsonb.specs.declared.selector.document.Mode.TheVariants.{Lax}
 use Rattle.jsonb.proofs.ComparedLemmas.{Any, AreTotal, all_total, members_are_total, members_total, comparison_total, told_by}
 use Rattle.jsonb.proofs.KeptLemmas.{comparison_is}
 use Rattle.jsonb.proofs.MemberLemmas.{none_left}

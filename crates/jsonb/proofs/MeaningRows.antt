@@ -1,20 +1,7 @@
 -- Worked paths on documents: what they select, as the definitions compute it.
-use Rattle.std.proofs.Common.{ℕ, pos, negsuc, true, false, List, [], ◌∷◌, Option, Some, None, Ok, Err, refl}
-use Rattle.std.specs.Prelude.{codes, option_map}
-use Prim.Native.String.{String}
-use Rattle.jsonb_doc.specs.Answer.{Outcome}
-use Rattle.jsonb_doc.specs.declared.error.Error.TheVariants.{InvalidJsonPath, Arithmetic, StrictPath}
-use Rattle.jsonb_doc.specs.declared.error.ArithmeticFault.TheVariants.{Overflow, Inexact, ZeroDivisor, DecimalOperand}
-use Rattle.jsonb_doc.specs.Number.{Number, int64, uint64, decimal64}
-use Rattle.jsonb_doc.specs.Tree.{Tree, null, boolean, number, text, array, object, trees_of, pairs_of}
-use Rattle.jsonb_doc.specs.declared.number.Number.TheVariants.{UInt64}
-use Rattle.jsonb_doc.proofs.Tables.{AreRows}
+use Rattle.jsonb.proofs.Common.{ℕ, pos, negsuc, true, false, List, [], ◌∷◌, Option, Some, None, Ok, Err, refl, codes, option_map, String, Outcome, InvalidJsonPath, Arithmetic, StrictPath, Overflow, Inexact, ZeroDivisor, DecimalOperand, Number, int64, uint64, decimal64, Tree, null, text, array, object, trees_of, pairs_of, UInt64, AreRows, Step, Expression, steps_of, Truth, meaning, predicate, Mode, Lax, Strict}
+use Rattle.jsonb_doc.specs.Tree.{boolean, number}
 use Rattle.jsonb.specs.PathTree as p
-use Rattle.jsonb.specs.PathTree.{Step, Expression, steps_of}
-use Rattle.jsonb.specs.Compare.{Truth}
-use Rattle.jsonb.specs.Meaning.{meaning, predicate}
-use Rattle.jsonb.specs.declared.selector.document.Mode.{Mode}
-use Rattle.jsonb.specs.declared.selector.document.Mode.TheVariants.{Lax, Strict}
 use Rattle.jsonb.proofs.GrammarRows.{read}
 
 abbrev unsigned : ℕ → Number

@@ -1,20 +1,6 @@
 -- Steps that name one member at most.
-use Rattle.std.proofs.Common.{◌≡◌, ℕ, ◌+◌, ◌<◌, List, [], ◌∷◌, length, drop, get_or, suc, add-one, map, Bool, true, false, Option, Some, None, Ok, Err, refl, sym, ap, ◌∙◌}
-use Rattle.std.specs.Prelude.{◌&&◌}
-use Rattle.std.proofs.Math.Seq.{drop-cons}
-use Rattle.jsonb_doc.specs.Answer.{Outcome, and_then}
-use Rattle.jsonb_doc.specs.Tree.{Tree}
-use Rattle.jsonb_doc.specs.declared.spot.Spot.{Spot}
+use Rattle.jsonb.proofs.Common.{◌≡◌, ℕ, ◌+◌, ◌<◌, List, [], ◌∷◌, length, drop, get_or, suc, add-one, map, Bool, true, false, Option, Some, None, Ok, Err, refl, sym, ap, ◌∙◌, ◌&&◌, drop-cons, Outcome, and_then, Tree, Spot, Step, Steps, no_steps, steps_of, step_view, steps_view, step_meaning, steps_meaning, is_member, are_members, AllZip, option_spots, taken_step, Mode, Expressions, Path}
 use Rattle.jsonb.specs.PathTree as math
-use Rattle.jsonb.specs.PathTree.{Step, Steps, no_steps, steps_of}
-use Rattle.jsonb.specs.PathViews.{step_view, steps_view}
-use Rattle.jsonb.specs.Meaning.{step_meaning, steps_meaning}
-use Rattle.jsonb.specs.Private.Members.{is_member, are_members}
-use Rattle.std.specs.List.{AllZip}
-use Rattle.jsonb.specs.Private.Selection.{option_spots, taken_step}
-use Rattle.jsonb.specs.declared.selector.document.Mode.{Mode}
-use Rattle.jsonb.specs.declared.selector.document.Expressions.{Expressions}
-use Rattle.jsonb.specs.declared.path.Path.{Path}
 use Rattle.jsonb.proofs.StepLemmas.{joined_one, only_one, steps_at}
 
 member_taken : (expressions : Expressions) (s : Step) → is_member s ≡ true → taken_step expressions s ≡ s

@@ -1,20 +1,7 @@
 -- A comparison whose sides are exchanged.
-use Rattle.std.proofs.Common.{◌≡◌, List, [], ◌∷◌, map, flat_map, true, false, Bool, Option, Some, None, option_map, Ok, Err, IfSome, refl, sym, ap, ◌∙◌, subst, append-nil}
-use Rattle.std.specs.Prelude.{if◌then◌else◌, ◌||◌}
-use Rattle.std.specs.Ordering.{ordering_reverse}
-use Rattle.std.specs.declared.cmp.Ordering.{Ordering}
-use Rattle.std.specs.declared.cmp.Ordering.TheVariants.{Less, Equal, Greater}
-use Rattle.jsonb_doc.specs.Answer.{Outcome, and_then}
-use Rattle.jsonb_doc.specs.Tree.{Tree}
+use Rattle.jsonb.proofs.Common.{◌≡◌, List, [], ◌∷◌, map, flat_map, true, false, Bool, Option, Some, None, option_map, Ok, Err, IfSome, refl, sym, ap, ◌∙◌, subst, append-nil, if◌then◌else◌, ◌||◌, ordering_reverse, Ordering, Less, Equal, Greater, Outcome, and_then, Tree, BinaryOp, Expression, antisymmetric, Truth, value_order, truth_of_order, is_container, pair_truth, first_decisive, compare, Value, values_of_item, steps_meaning, truth, operand_values, mirrored, is_comparison, Mode}
 use Rattle.jsonb.specs.PathTree as math
-use Rattle.jsonb.specs.PathTree.{BinaryOp, Expression}
-use Rattle.jsonb.specs.Proofs.PathOrder.{antisymmetric}
-use Rattle.jsonb.specs.Compare.{Truth, value_order, truth_of_order, is_container, pair_truth, first_decisive, compare}
-use Rattle.jsonb.specs.Values.{Value, null, values_of_item}
-use Rattle.jsonb.specs.Meaning.{steps_meaning, truth, operand_values}
-use Rattle.jsonb.specs.Private.Compared.{mirrored}
-use Rattle.jsonb.specs.Private.FilterCache.{is_comparison}
-use Rattle.jsonb.specs.declared.selector.document.Mode.{Mode}
+use Rattle.jsonb.specs.Values.{null}
 use Rattle.jsonb.proofs.ComparedLemmas.{compares_member}
 use Rattle.jsonb.proofs.KeptLemmas.{comparison_is}
 

@@ -1,17 +1,5 @@
 -- What strict mode gives, lax mode gives too.
-use Rattle.std.proofs.Common.{◌≡◌, List, [], ◌∷◌, ◌++◌, map, Option, Some, None, option_map, Ok, Err, refl, sym, subst, ◌∙◌}
-use Rattle.jsonb_doc.specs.Answer.{Outcome, and_then, try_flat_map}
-use Rattle.jsonb_doc.specs.Arithmetic.{Operation}
-use Rattle.jsonb_doc.specs.Payload.{Form}
-use Rattle.jsonb_doc.specs.Tree.{Tree, field_of}
-use Rattle.jsonb_raw.specs.Arrays.{array_values}
-use Rattle.jsonb.specs.PathTree.{BinaryOp, and_op, or_op, add, subtract, multiply, divide, modulo, Step, root, current, dot_wildcard, recursive_dot_wildcard, bracket_wildcard, dot_field, colon_field, object_field, array_indices, filter, whole_expression, Steps, no_steps, step, Expression, paths, value, raw, binary, unary, exists, steps_of}
-use Rattle.jsonb.specs.Compare.{Truth}
-use Rattle.jsonb.specs.PathArithmetic.{operation, two_numbers, each_signed}
-use Rattle.jsonb.specs.ItemSteps.{list_or, picked, values_of}
-use Rattle.jsonb.specs.Meaning.{step_meaning, steps_meaning, operand_values, truth, start, as_filter, expression_meaning, meaning, Means}
-use Rattle.jsonb.specs.Private.Calculation.{binary_meaning, truth_list}
-use Rattle.jsonb.specs.declared.selector.document.Mode.TheVariants.{Lax, Strict}
+use Rattle.jsonb.proofs.Common.{◌≡◌, List, [], ◌∷◌, ◌++◌, map, Option, Some, None, option_map, Ok, Err, refl, sym, subst, ◌∙◌, Outcome, and_then, try_flat_map, Operation, Form, Tree, field_of, array_values, BinaryOp, and_op, or_op, add, subtract, multiply, divide, modulo, Step, root, current, dot_wildcard, recursive_dot_wildcard, bracket_wildcard, dot_field, colon_field, object_field, array_indices, filter, whole_expression, Steps, no_steps, step, Expression, paths, value, raw, binary, unary, exists, steps_of, Truth, operation, two_numbers, each_signed, list_or, picked, values_of, step_meaning, steps_meaning, operand_values, truth, start, as_filter, expression_meaning, meaning, Means, binary_meaning, truth_list, Lax, Strict}
 
 -- a value of the first is the second's
 abbrev Keeps : {A : Type 0} → Outcome A → Outcome A → Type 0

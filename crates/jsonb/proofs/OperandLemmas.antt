@@ -1,28 +1,6 @@
 -- Comparisons and `exists` that wait for a path.
-use Rattle.std.proofs.Common.{◌≡◌, ◌⊎◌, ℕ, List, length, flat_map, true, Option, Some, None, Ok, Err, IsOkAnd, sym, ap, ◌∙◌, subst, inl, inr}
-use Rattle.std.specs.Prelude.{not, ◌==◌}
-use Rattle.std.specs.List.{AllZip}
-use Rattle.jsonb_doc.specs.Answer.{Outcome, and_then, IsOutOfMemory}
-use Rattle.jsonb_doc.specs.Representation.Positions.{Locates}
-use Rattle.jsonb_doc.specs.Tree.{Tree}
-use Rattle.jsonb_doc.specs.declared.error.Error.{Error}
-use Rattle.jsonb_doc.specs.declared.spot.Spot.{Spot}
-use Rattle.jsonb.specs.PathTree.{Expression}
-use Rattle.jsonb.specs.PathViews.{expression_view}
-use Rattle.jsonb.specs.Compare.{Truth, compare}
-use Rattle.jsonb.specs.Values.{Value, values_of_item}
-use Rattle.jsonb.specs.Meaning.{truth, operand_values, is_some_item}
-use Rattle.jsonb.specs.Private.Alike.{AreAlike, HasSame}
-use Rattle.jsonb.specs.Private.FilterCache.{is_comparison}
-use Rattle.jsonb.specs.Private.Operands.{comparison_view, values_found, ComesNext, HasLeft, IsHeld, waits_expression}
-use Rattle.jsonb.specs.Private.Selection.{values_view}
-use Rattle.jsonb.specs.declared.selector.document.Mode.{Mode}
-use Rattle.jsonb.specs.declared.selector.document.Repeats.TheVariants.{AreDropped}
+use Rattle.jsonb.proofs.Common.{◌≡◌, ◌⊎◌, ℕ, List, length, flat_map, true, Option, Some, None, Ok, Err, IsOkAnd, sym, ap, ◌∙◌, subst, inl, inr, not, ◌==◌, AllZip, Outcome, and_then, IsOutOfMemory, Locates, Tree, Error, Spot, Expression, expression_view, Truth, compare, Value, values_of_item, truth, operand_values, is_some_item, AreAlike, HasSame, is_comparison, comparison_view, values_found, ComesNext, HasLeft, IsHeld, waits_expression, values_view, Mode, AreDropped, FilterCache, OperandValues, Comparison, Waits}
 use Rattle.jsonb.specs.declared.selector.filter_cache.CachedPart.TheVariants as part
-use Rattle.jsonb.specs.declared.selector.filter_cache.FilterCache.{FilterCache}
-use Rattle.jsonb.specs.declared.selector.operand_value.OperandValues.{OperandValues}
-use Rattle.jsonb.specs.declared.selector.operands.Comparison.{Comparison}
-use Rattle.jsonb.specs.declared.selector.operands.Waits.{Waits}
 use Rattle.jsonb.specs.declared.selector.operands.Waits.TheVariants as waits
 use Rattle.jsonb.proofs.AlikeLemmas.{alike_same, alike_then, alike_flat_map}
 use Rattle.jsonb.proofs.KeptLemmas.{comparison_is, kept_same}

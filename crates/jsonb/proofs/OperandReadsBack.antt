@@ -1,22 +1,7 @@
 -- Printed operands, signs and comparisons, read with anything after them that may be there.
-use Rattle.std.proofs.Common.{◌≡◌, ℕ, suc, ◌<◌, ◌≤◌, ◌^◌, ◌/◌, List, [], ◌∷◌, ◌++◌, length, Bool, true, false, Some, None, refl, sym, ◌∙◌, ap, arith, append_assoc, length-append, length-drop}
-use Rattle.std.specs.Prelude.{pos, negsuc, nat_lt, ◌==◌, ◌||◌}
-use Rattle.std.specs.List.{prefix_len}
-use Rattle.std.specs.Char.{is_ascii_digit}
-use Rattle.std.specs.Fmt.{decimal, signed_decimal}
+use Rattle.jsonb.proofs.Common.{◌≡◌, ℕ, suc, ◌<◌, ◌≤◌, ◌^◌, ◌/◌, List, [], ◌∷◌, ◌++◌, length, Bool, true, false, Some, None, refl, sym, ◌∙◌, ap, arith, append_assoc, length-append, length-drop, pos, negsuc, nat_lt, ◌==◌, ◌||◌, prefix_len, is_ascii_digit, decimal, signed_decimal, Decides-ltb, nat_tests, Rule, parsed_map, repeat, past, is_space, is_quote, natural_below, quoted_text, neither, front, stops, front-stops, front-implies, begins, begins-implies, begins-excludes, stops-from_begins, begins-decimal, is_number_start, is_sign, natural_below-decimal, natural_below-none, integer_within-signed_decimal, integer_within-none, quoted-quoted_text, quoted-none, repeat-goes, repeat-ends, Int64, UInt64, Literal, boolean, number, string, BinaryOp, and_op, or_op, UnaryOp, plus, minus, Step, root, current, filter, whole_expression, Steps, no_steps, step, Expression, paths, value, binary, unary, steps_of, spaced, inner, wildcard, named_field, bracket_field, entries, spaced_inner, path_root, literal_value, operand, spaced_operand, operator, arithmetic_operator, unary_operator, unary_atom, binary_atom, step_text, steps_text, expression_text, literal_text, operator_text, joins, settled_literal}
 use Rattle.std.proofs.lemmas.List.{append-nil}
-use Rattle.std.proofs.lemmas.Bool.Decides.{Decides-ltb, nat_tests}
-use Rattle.jsonb_keypath.specs.Rules.{Rule, parsed_map, repeat}
-use Rattle.jsonb_keypath.specs.Tokens.{past, is_space, is_quote, natural_below}
-use Rattle.jsonb_keypath.specs.KeyPathText.{quoted_text}
-use Rattle.jsonb_keypath.proofs.ReadBackLemmas.{neither, front, stops, front-stops, front-implies, begins, begins-implies, begins-excludes, stops-from_begins, begins-decimal, is_number_start, is_sign, natural_below-decimal, natural_below-none, integer_within-signed_decimal, integer_within-none}
-use Rattle.jsonb_keypath.proofs.NameLemmas.{quoted-quoted_text, quoted-none}
-use Rattle.jsonb_keypath.proofs.RepeatLemmas.{repeat-goes, repeat-ends}
-use Rattle.jsonb_doc.specs.declared.number.Number.TheVariants.{Int64, UInt64}
-use Rattle.jsonb.specs.PathTree.{Literal, null, boolean, number, string, BinaryOp, and_op, or_op, UnaryOp, plus, minus, Step, root, current, filter, whole_expression, Steps, no_steps, step, Expression, paths, value, binary, unary, steps_of}
-use Rattle.jsonb.specs.PathGrammar.{spaced, inner, wildcard, named_field, bracket_field, entries, spaced_inner, path_root, literal_value, operand, spaced_operand, operator, arithmetic_operator, unary_operator, unary_atom, binary_atom}
-use Rattle.jsonb.specs.PathText.{step_text, steps_text, expression_text, literal_text, operator_text, joins}
-use Rattle.jsonb.specs.PathLaws.{settled_literal}
+use Rattle.jsonb.specs.PathTree.{null}
 use Rattle.jsonb.proofs.SettledPaths.{settled_step, settled_steps, settled}
 use Rattle.jsonb.proofs.PathShape.{IsInner, AreInner, IsBeginning, IsLiteral, IsOperand, is_signed}
 use Rattle.jsonb.proofs.InnerReadsBack.{past-none, no_space, past-space, spaced-reads, spaced-none, past-stops, is_step_end, inner-text}

@@ -1,16 +1,6 @@
 -- The nodes of a path, as they are dropped one by one.
-use Rattle.std.proofs.Common.{◌≡◌, ℕ, zero, suc, ◌+◌, ◌<◌, ◌≤◌, List, [], ◌∷◌, ◌++◌, Option, None, Some, IfSome, length, get_or, take, drop, Vec, Box, Global, refl, ap, arith}
-use Rattle.std.proofs.Math.Seq.{drop-cons}
-use Rattle.std.proofs.lemmas.List.{take-append-drop}
-use Rattle.jsonb.specs.PathTree.{Step, filter, Expression, binary, steps_of}
-use Rattle.jsonb.specs.PathViews.{step_view, steps_view}
-use Rattle.jsonb.specs.Private.Chain.{left_of, below}
-use Rattle.jsonb.specs.Private.Parts.{step_parts, steps_parts, expression_parts, parts, remaining}
-use Rattle.jsonb.specs.declared.path.BinaryOperator.{BinaryOperator}
-use Rattle.jsonb.specs.declared.path.Expr.{Expr}
+use Rattle.jsonb.proofs.Common.{◌≡◌, ℕ, zero, suc, ◌+◌, ◌<◌, ◌≤◌, List, [], ◌∷◌, ◌++◌, Option, None, Some, IfSome, length, get_or, take, drop, Vec, Box, Global, refl, ap, arith, drop-cons, take-append-drop, Step, filter, Expression, binary, steps_of, step_view, steps_view, left_of, below, step_parts, steps_parts, expression_parts, parts, remaining, BinaryOperator, Expr, Path, Remaining}
 use Rattle.jsonb.specs.declared.path.Expr.TheVariants as expr
-use Rattle.jsonb.specs.declared.path.Path.{Path}
-use Rattle.jsonb.specs.declared.path.release.Remaining.{Remaining}
 use Rattle.jsonb.proofs.PathNodes.{paths_is, binary_is}
 
 -- ---- no part is nothing

@@ -1,10 +1,5 @@
 -- Each JSON path that the grammar accepts prints to text that parses as the same path except for variants.
-use Rattle.std.proofs.Common.{◌≡◌, ℕ, List, Option, Some, None, refl}
-use Rattle.std.specs.Prelude.{IfSome, IsSomeAnd}
-use Rattle.jsonb.specs.PathTree.{Step}
-use Rattle.jsonb.specs.PathGrammar.{json_path}
-use Rattle.jsonb.specs.PathText.{path_text}
-use Rattle.jsonb.specs.PathLaws.{SameButVariants}
+use Rattle.jsonb.proofs.Common.{◌≡◌, ℕ, List, Option, Some, None, refl, IfSome, IsSomeAnd, Step, json_path, path_text, SameButVariants}
 use Rattle.jsonb.proofs.SettledPaths.{path_itself}
 use Rattle.jsonb.proofs.PathReadsBack.{path-text}
 use Rattle.jsonb.proofs.GrammarShape.{json_path_is_path}

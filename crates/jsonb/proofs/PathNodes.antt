@@ -1,20 +1,8 @@
 -- The tree of a step and of an expression, one level opened.
-use Rattle.std.proofs.Common.{◌≡◌, ap, ◌∙◌, Option, Vec, Box, Global}
-use Rattle.std.specs.Cow.{cow_str_bytes}
-use Rattle.std.specs.declared.borrow.CowStr.{CowStr}
+use Rattle.jsonb.proofs.Common.{◌≡◌, ap, ◌∙◌, Option, Vec, Box, Global, cow_str_bytes, CowStr, Step, Expression, steps_of, step_layer, expression_layer, step_view, expression_view, steps_view, literal_view, ArrayIndex, RecursiveLevel, BinaryOperator, UnaryOperator, PathValue, Path, out-Path, map-Path, fold_out-Path, Expr, out-Expr, map-Expr, fold_out-Expr, Expr-F, Path-F}
 use Rattle.jsonb.specs.PathTree as math
-use Rattle.jsonb.specs.PathTree.{Step, Expression, steps_of}
-use Rattle.jsonb.specs.PathViews.{step_layer, expression_layer, step_view, expression_view, steps_view, literal_view}
-use Rattle.jsonb.specs.declared.path.ArrayIndex.{ArrayIndex}
-use Rattle.jsonb.specs.declared.path.RecursiveLevel.{RecursiveLevel}
-use Rattle.jsonb.specs.declared.path.BinaryOperator.{BinaryOperator}
-use Rattle.jsonb.specs.declared.path.UnaryOperator.{UnaryOperator}
-use Rattle.jsonb.specs.declared.path.PathValue.{PathValue}
-use Rattle.jsonb.specs.declared.path.Path.{Path, out-Path, map-Path, fold_out-Path}
 use Rattle.jsonb.specs.declared.path.Path.TheVariants as step
 use Rattle.jsonb.specs.declared.path.Expr.TheVariants as expr
-use Rattle.jsonb.specs.declared.path.Expr.{Expr, out-Expr, map-Expr, fold_out-Expr}
-use Rattle.jsonb.specs.declared.path.Expr.TheOpen.{Expr-F, Path-F}
 
 pub expression_is : (e : Expr) (x : Expr-F Expr Path) → out-Expr e ≡ x
     → expression_view e ≡ expression_layer (map-Expr Expr Path Expression Step expression_view step_view x)

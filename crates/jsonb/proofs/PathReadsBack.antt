@@ -1,16 +1,5 @@
 -- Printed paths, read.
-use Rattle.std.proofs.Common.{◌≡◌, ℕ, ◌+◌, ◌<◌, List, [], ◌∷◌, ◌++◌, length, Bool, true, false, Some, None, refl, sym, ◌∙◌, ap, subst, arith, length-append, add-one, ◌⊎◌, inl, inr}
-use Rattle.std.specs.Prelude.{◌==◌, flat_map, map}
-use Rattle.std.proofs.lemmas.Bool.Decides.{nat_tests, Decides-eqb}
-use Rattle.std.specs.List.{AllByRecursion}
-use Rattle.jsonb_keypath.specs.Rules.{Parsed, Rule, ◌</>◌, parsed_map, literal, repeat, all_consuming}
-use Rattle.jsonb_keypath.specs.Tokens.{ws, past, is_space, is_stop, name}
-use Rattle.jsonb_keypath.proofs.ReadBackLemmas.{front, front-stops, front-implies, begins, begins-excludes, stops-from_begins, is_sign}
-use Rattle.jsonb_keypath.proofs.NameLemmas.{name-none}
-use Rattle.jsonb_keypath.proofs.RepeatLemmas.{repeat-goes, repeat-ends}
-use Rattle.jsonb.specs.PathTree.{Step, root, filter, whole_expression, Expression}
-use Rattle.jsonb.specs.PathGrammar.{spaced_inner, path_root, operand, spaced_operand, operator, arithmetic_operator, binary_atom, group_with, exists_with, atom_with, and_with, or_with, nested_or, expression, root_expression, first_step, front_steps, path_step, plain_path, json_path}
-use Rattle.jsonb.specs.PathText.{step_text, expression_text, path_text}
+use Rattle.jsonb.proofs.Common.{◌≡◌, ℕ, ◌+◌, ◌<◌, List, [], ◌∷◌, ◌++◌, length, Bool, true, false, Some, None, refl, sym, ◌∙◌, ap, subst, arith, length-append, add-one, ◌⊎◌, inl, inr, ◌==◌, flat_map, map, nat_tests, Decides-eqb, AllByRecursion, Parsed, Rule, ◌</>◌, parsed_map, literal, repeat, all_consuming, ws, past, is_space, is_stop, name, front, front-stops, front-implies, begins, begins-excludes, stops-from_begins, is_sign, name-none, repeat-goes, repeat-ends, Step, root, filter, whole_expression, Expression, spaced_inner, path_root, operand, spaced_operand, operator, arithmetic_operator, binary_atom, group_with, exists_with, atom_with, and_with, or_with, nested_or, expression, root_expression, first_step, front_steps, path_step, plain_path, json_path, step_text, expression_text, path_text}
 use Rattle.jsonb.proofs.SettledPaths.{settled_step, settled}
 use Rattle.jsonb.proofs.PathShape.{IsInner, IsPathStep, IsCondition, IsPath}
 use Rattle.jsonb.proofs.InnerReadsBack.{begins-front, past-none, spaced-reads, spaced-none, is_step_end}

@@ -1,12 +1,5 @@
 -- The paths that the grammar makes.
-use Rattle.std.proofs.Common.{◌≡◌, ◌<◌, ◌^◌, List, [], ◌∷◌, length, Bool, true, false, Option, Some, None, ◌⊎◌}
-use Rattle.std.specs.Prelude.{⊤, ℤ, nat_lt, MatchBool}
-use Rattle.std.specs.List.{AllByRecursion}
-use Rattle.jsonb_keypath.specs.Tokens.{is_within}
-use Rattle.jsonb_keypath.proofs.YieldsLemmas.{IsName}
-use Rattle.jsonb_doc.specs.declared.number.Number.TheVariants.{Int64, UInt64, Decimal64, Decimal128}
-use Rattle.jsonb.specs.PathTree.{Place, from_front, from_last, Entry, single, slice, LevelEnd, level, last_level, Levels, Literal, number, string, raw, Step, root, current, dot_wildcard, recursive_dot_wildcard, bracket_wildcard, dot_field, colon_field, object_field, array_indices, filter, whole_expression, Steps, no_steps, step, Expression, paths, value, binary, unary, exists}
-use Rattle.jsonb.specs.PathText.{joins}
+use Rattle.jsonb.proofs.Common.{◌≡◌, ◌<◌, ◌^◌, List, [], ◌∷◌, length, Bool, true, false, Option, Some, None, ◌⊎◌, ⊤, ℤ, nat_lt, MatchBool, AllByRecursion, is_within, IsName, Int64, UInt64, Decimal64, Decimal128, Place, from_front, from_last, Entry, single, slice, LevelEnd, level, last_level, Levels, Literal, number, string, raw, Step, root, current, dot_wildcard, recursive_dot_wildcard, bracket_wildcard, dot_field, colon_field, object_field, array_indices, filter, whole_expression, Steps, no_steps, step, Expression, paths, value, binary, unary, exists, joins}
 
 -- an index of 32 bits
 abbrev pub IsIndex : ℤ → Type 0

@@ -1,14 +1,6 @@
 -- The elements that an index entry picks are those between its bounds.
-use Rattle.std.proofs.Common.{◌≡◌, ℕ, zero, suc, ◌+◌, ◌-◌, ◌<◌, ◌≤◌, ◌↔◌, ℤ, pos, ◌≤ℤ◌, Bool, true, false, cond, ◌&&◌, List, [], ◌∷◌, ◌++◌, length, take, drop, filter, filter_map, slice_get, Some, None, nat_lt, refl, sym, ap, ◌∙◌, arith, append-nil}
-use Rattle.std.specs.Prelude.{int_le, slice_range}
-use Rattle.std.specs.Bool.{Decides}
-use Rattle.std.specs.List.{cons_option, range_with_len, AllZip}
-use Rattle.std.proofs.lemmas.Bool.Decides.{Decides-int_eq, nat_tests}
-use Rattle.std.proofs.lemmas.Int.{ints}
-use Rattle.jsonb_doc.specs.Tree.{Tree}
-use Rattle.jsonb.specs.PathTree.{Entry, single, slice, from_front}
-use Rattle.jsonb.specs.Positions.{position, IsPosition}
-use Rattle.jsonb.specs.ItemSteps.{is_meant, picked_by, picked}
+use Rattle.jsonb.proofs.Common.{◌≡◌, ℕ, zero, suc, ◌+◌, ◌-◌, ◌<◌, ◌≤◌, ◌↔◌, ℤ, pos, ◌≤ℤ◌, Bool, true, false, cond, ◌&&◌, List, [], ◌∷◌, ◌++◌, length, take, drop, filter_map, slice_get, Some, None, nat_lt, refl, sym, ap, ◌∙◌, arith, append-nil, int_le, slice_range, Decides, cons_option, range_with_len, AllZip, Decides-int_eq, nat_tests, ints, Tree, Entry, single, slice, from_front, position, IsPosition, is_meant, picked_by, picked}
+use Rattle.std.proofs.Common.{filter}
 
 -- ---- the test and the relation agree
 

@@ -1,12 +1,5 @@
 -- A path of steps is no longer than its text.
-use Rattle.std.proofs.Common.{◌≡◌, ◌≤◌, ℕ, List, [], ◌∷◌, ◌++◌, length, Some, sym}
-use Rattle.jsonb_keypath.specs.Rules.{literal, repeat}
-use Rattle.jsonb_keypath.specs.Tokens.{name}
-use Rattle.jsonb_keypath.proofs.ReadsLemmas.{NeverGrows, some-no_more, grows-give, grows-then, grows-choice}
-use Rattle.jsonb_keypath.proofs.CutLemmas.{some-literal}
-use Rattle.jsonb_keypath.proofs.GrowsLemmas.{some-name}
-use Rattle.jsonb.specs.PathTree.{Step, root, dot_field}
-use Rattle.jsonb.specs.PathGrammar.{spaced, first_step, front_steps, path_step, plain_path}
+use Rattle.jsonb.proofs.Common.{◌≡◌, ◌≤◌, ℕ, List, [], ◌∷◌, ◌++◌, length, Some, sym, literal, repeat, name, NeverGrows, some-no_more, grows-give, grows-then, grows-choice, some-literal, some-name, Step, root, dot_field, spaced, first_step, front_steps, path_step, plain_path}
 use Rattle.jsonb.proofs.EntryReadsSome.{some-spaced}
 use Rattle.jsonb.proofs.InnerReadsSome.{grows-repeat}
 use Rattle.jsonb.proofs.ExpressionReadsSome.{some-path_step}

@@ -1,16 +1,6 @@
 -- What an expression says as a predicate, by its kind.
-use Rattle.std.proofs.Common.{◌≡◌, List, [], ◌∷◌, ◌++◌, Option, Some, None, Ok, Err, refl}
-use Rattle.jsonb_doc.specs.Answer.{Outcome, and_then, try_flat_map}
-use Rattle.jsonb_doc.specs.Arithmetic.{Operation, calculated, negated}
-use Rattle.jsonb_doc.specs.Number.{Number}
-use Rattle.jsonb_doc.specs.Tree.{Tree}
-use Rattle.jsonb.specs.PathTree.{BinaryOp, UnaryOp, plus, minus, Expression, paths, value, binary, unary, exists}
-use Rattle.jsonb.specs.PathArithmetic.{operation, two_numbers, all_numbers, signed_number, each_signed}
-use Rattle.jsonb.specs.Private.Calculation.{number_list, truth_list, binary_meaning, expression_predicate, calculation}
-use Rattle.jsonb.specs.Values.{Value, number}
-use Rattle.jsonb.specs.Compare.{Truth}
-use Rattle.jsonb.specs.Meaning.{operand_values, truth, expression_meaning, list_truth}
-use Rattle.jsonb.specs.declared.selector.document.Mode.{Mode}
+use Rattle.jsonb.proofs.Common.{◌≡◌, List, [], ◌∷◌, ◌++◌, Option, Some, None, Ok, Err, refl, Outcome, and_then, try_flat_map, Operation, calculated, negated, Number, Tree, BinaryOp, UnaryOp, plus, minus, Expression, paths, value, binary, unary, exists, operation, two_numbers, all_numbers, signed_number, each_signed, number_list, truth_list, binary_meaning, expression_predicate, calculation, Value, Truth, operand_values, truth, expression_meaning, list_truth, Mode}
+use Rattle.jsonb.specs.Values.{number}
 
 -- what a list says, and what is run for its error alone
 abbrev said : List Tree → Outcome Truth

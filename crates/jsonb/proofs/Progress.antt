@@ -1,17 +1,6 @@
 -- Loops whose turns add lists: what is done so far, before what the rest gives, is the whole.
-use Rattle.std.proofs.Common.{◌≡◌, List, [], ◌∷◌, ◌++◌, Some, None, Result, Ok, Err, IsOkAnd, refl, inl, inr, subst, sym, ap, ◌∙◌, append_assoc, append-nil, ◌⊎◌, ℕ, ◌+◌, ◌<◌, ◌≤◌, length, drop, get_or, add-one, flat_map}
-use Rattle.std.proofs.Math.Seq.{drop-cons}
-use Rattle.std.proofs.Math.ListN.{drop_of_length-le}
-use Rattle.jsonb_doc.specs.Answer.{Outcome, and_then, try_flat_map, Refines, IsOutOfMemory}
-use Rattle.jsonb_doc.specs.declared.error.Error.{Error}
+use Rattle.jsonb.proofs.Common.{◌≡◌, List, [], ◌∷◌, ◌++◌, Some, None, Result, Ok, Err, IsOkAnd, refl, inl, inr, subst, sym, ap, ◌∙◌, append_assoc, append-nil, ◌⊎◌, ℕ, ◌+◌, ◌<◌, ◌≤◌, length, drop, get_or, add-one, flat_map, drop-cons, drop_of_length-le, Outcome, and_then, try_flat_map, Refines, IsOutOfMemory, Error, Spot, SpotIter, Tree, GivesSpot, Locates, HasSpotsLeft, taken_spot, no_refusal, no_spots_left, AllZip}
 use Rattle.jsonb_doc.specs.declared.layout.EntryKind.TheVariants as kind
-use Rattle.jsonb_doc.specs.declared.spot.Spot.{Spot}
-use Rattle.jsonb_doc.specs.declared.spot_iter.SpotIter.{SpotIter}
-use Rattle.jsonb_doc.specs.Tree.{Tree}
-use Rattle.jsonb_doc.specs.Spots.{GivesSpot}
-use Rattle.jsonb_doc.specs.Representation.Positions.{Locates, HasSpotsLeft}
-use Rattle.jsonb_doc.proofs.SpotsTaken.{taken_spot, no_refusal, no_spots_left}
-use Rattle.std.specs.List.{AllZip}
 
 -- a list before a list, or its error
 abbrev pub behind : {C : Type 0} → List C → Outcome (List C) → Outcome (List C)

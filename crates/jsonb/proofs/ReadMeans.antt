@@ -1,11 +1,5 @@
 -- A path that was read has one meaning on each tree.
-use Rattle.std.proofs.Common.{ℕ, List, [], ◌∷◌, Some, ◌≡◌, refl, inl, inr}
-use Rattle.jsonb_doc.specs.Payload.{Form}
-use Rattle.jsonb_doc.specs.Tree.{Tree}
-use Rattle.jsonb.specs.Meaning.{Means, meaning}
-use Rattle.jsonb.specs.PathGrammar.{json_path}
-use Rattle.jsonb.specs.PathTree.{Step, whole_expression, value, raw}
-use Rattle.jsonb.specs.declared.selector.document.Mode.{Mode}
+use Rattle.jsonb.proofs.Common.{ℕ, List, [], ◌∷◌, Some, ◌≡◌, refl, inl, inr, Form, Tree, Means, meaning, json_path, Step, whole_expression, value, raw, Mode}
 use Rattle.jsonb.proofs.PathShape.{IsPath}
 use Rattle.jsonb.proofs.GrammarShape.{json_path_is_path}
 

@@ -1,15 +1,5 @@
 -- Results that refine meanings: what the result for a part says of the whole.
-use Rattle.std.proofs.Common.{◌≡◌, ◌⊎◌, List, [], ◌∷◌, ◌++◌, Option, Some, None, option_map, Result, Ok, Err, OnOk, IfErr, IsOkAnd, IsErrAnd, refl, inl, inr, subst, sym, ap, append-nil, length, map, rules}
-use Rattle.std.specs.Prelude.{not, ◌==◌}
-use Rattle.jsonb_doc.specs.Answer.{Outcome, and_then, Refines, SameOption, IsOutOfMemory}
-use Rattle.jsonb_doc.specs.declared.error.Error.{Error}
-use Rattle.jsonb_doc.specs.Tree.{Tree}
-use Rattle.std.specs.List.{AllZip}
-use Rattle.jsonb.specs.Meaning.{is_some_item}
-use Rattle.jsonb.specs.ItemSteps.{list_or}
-use Rattle.jsonb.specs.Private.Selection.{fail_if_strict}
-use Rattle.jsonb.specs.declared.selector.document.Mode.{Mode}
-use Rattle.jsonb.specs.declared.selector.document.Mode.TheVariants.{Lax, Strict}
+use Rattle.jsonb.proofs.Common.{◌≡◌, ◌⊎◌, List, [], ◌∷◌, ◌++◌, Option, Some, None, option_map, Result, Ok, Err, OnOk, IfErr, IsOkAnd, IsErrAnd, refl, inl, inr, subst, sym, ap, append-nil, length, map, rules, not, ◌==◌, Outcome, and_then, Refines, SameOption, IsOutOfMemory, Error, Tree, AllZip, is_some_item, list_or, fail_if_strict, Mode, Lax, Strict}
 
 -- ---- related lists
 

@@ -1,29 +1,8 @@
 -- What an expression makes of lists that differ in repeats alone.
-use Rattle.std.proofs.Common.{◌≡◌, ◌⊎◌, inl, inr, ℕ, ◌<◌, zero, suc, length, List, [], ◌∷◌, ◌++◌, map, flat_map, Bool, true, false, Some, None, Option, Ok, Err, IsOkAnd, refl, sym, ap, subst, ◌∙◌, append_assoc, append-nil, arith}
-use Rattle.std.specs.Prelude.{find, Contains, slice_index_or}
-use Rattle.std.specs.List.{AllZip}
-use Rattle.jsonb_doc.specs.Answer.{Outcome, and_then, try_flat_map, Refines, IsOutOfMemory}
-use Rattle.jsonb_doc.specs.Kinds.{kind_number}
-use Rattle.jsonb_doc.specs.Payload.{any, number_reader}
-use Rattle.jsonb_doc.specs.Representation.Positions.{Locates, spot_content}
-use Rattle.jsonb_doc.specs.Tree.{Tree}
-use Rattle.jsonb_doc.specs.declared.spot.Spot.{Spot}
-use Rattle.jsonb_doc.proofs.OneTree.{content_unique}
+use Rattle.jsonb.proofs.Common.{◌≡◌, ◌⊎◌, inl, inr, ℕ, ◌<◌, zero, suc, length, List, [], ◌∷◌, ◌++◌, map, flat_map, Bool, true, false, Some, None, Option, Ok, Err, IsOkAnd, refl, sym, ap, subst, ◌∙◌, append_assoc, append-nil, arith, find, Contains, slice_index_or, AllZip, Outcome, and_then, try_flat_map, Refines, IsOutOfMemory, kind_number, any, number_reader, Locates, spot_content, Tree, Spot, content_unique, steps_of, steps_view, Truth, compare, pair_truth, first_decisive, Value, values_of_item, step_meaning, steps_meaning, is_some_item, first_item, AreAlike, HasSame, AlikeOutcomes, SameOutcomes, items_truth, value_view, Mode, Lax, Repeats, AreDropped, MemberCompared}
 use Rattle.jsonb.specs.PathTree as math
-use Rattle.jsonb.specs.PathTree.{steps_of}
-use Rattle.jsonb.specs.PathViews.{steps_view}
-use Rattle.jsonb.specs.Compare.{Truth, compare, pair_truth, first_decisive}
-use Rattle.jsonb.specs.Values.{Value, values_of_item}
-use Rattle.jsonb.specs.Meaning.{step_meaning, steps_meaning, is_some_item}
-use Rattle.jsonb.specs.SelectorAnswers.{first_item}
-use Rattle.jsonb.specs.Private.Alike.{AreAlike, AreSame, HasSame, AlikeOutcomes, SameOutcomes}
-use Rattle.jsonb.specs.Private.Compared.{items_truth}
-use Rattle.jsonb.specs.Private.Selection.{value_view}
-use Rattle.jsonb.specs.declared.selector.document.Mode.{Mode}
-use Rattle.jsonb.specs.declared.selector.document.Mode.TheVariants.{Lax}
-use Rattle.jsonb.specs.declared.selector.document.Repeats.{Repeats}
-use Rattle.jsonb.specs.declared.selector.document.Repeats.TheVariants.{AreKept, AreDropped}
-use Rattle.jsonb.specs.declared.selector.plan.MemberCompared.{MemberCompared}
+use Rattle.jsonb.specs.Private.Alike.{AreSame}
+use Rattle.jsonb.specs.declared.selector.document.Repeats.TheVariants.{AreKept}
 use Rattle.jsonb.proofs.AlikeLemmas.{alike_itself, alike_same, alike_then, alike_flat_map, alike_each, alike_map, alike_results, alike_without}
 use Rattle.jsonb.proofs.Progress.{First}
 use Rattle.jsonb.proofs.RefinesLemmas.{answered, AllZip-append}

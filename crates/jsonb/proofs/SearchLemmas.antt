@@ -1,44 +1,13 @@
 -- A walk to the first item that steps lead to, in lax mode: what is left, the innermost first, gives the list of the
 -- whole.
-use Rattle.std.proofs.Common.{◌≡◌, ℕ, ◌+◌, ◌<◌, List, [], ◌∷◌, ◌++◌, length, take, get_or, map, inl, inr, Bool, true, false, Option, Some, None, is_some, Result, Ok, Err, IsOkAnd, refl, sym, ap, subst, ◌∙◌, append-nil}
-use Rattle.std.specs.Borrow.{Bor}
-use Rattle.std.specs.Prelude.{reverse, not}
-use Rattle.std.proofs.lemmas.List.{map-append, reverse-append, take_more}
-use Rattle.jsonb_doc.specs.Answer.{Outcome, and_then, Refines, SameOption, IsOutOfMemory}
-use Rattle.jsonb_doc.specs.Payload.{Form}
-use Rattle.jsonb_doc.specs.Representation.Positions.{Locates}
-use Rattle.jsonb_doc.specs.Tree.{Tree}
-use Rattle.jsonb_doc.specs.declared.error.Error.{Error}
-use Rattle.jsonb_doc.specs.declared.spot.Spot.{Spot}
-use Rattle.jsonb_raw.specs.Arrays.{array_values}
+use Rattle.jsonb.proofs.Common.{◌≡◌, ℕ, ◌+◌, ◌<◌, List, [], ◌∷◌, ◌++◌, length, take, get_or, map, inl, inr, Bool, true, false, Option, Some, None, is_some, Result, Ok, Err, IsOkAnd, refl, sym, ap, subst, ◌∙◌, append-nil, Bor, reverse, not, map-append, reverse-append, take_more, Outcome, and_then, Refines, SameOption, IsOutOfMemory, Form, Locates, Tree, Error, Spot, array_values, Step, Expression, steps_of, step_view, steps_view, values_of, AllZip, step_meaning, steps_meaning, truth, filtered, is_some_item, first_item, RefinesIfAny, has_condition, IsSearched, FirstAhead, AreAhead, IsAhead, TakesStep, HasItems, TakesItem, AreGiven, IsReached, BeginsAs, IsAt, IsPlain, is_filter, node_spots, option_spots, taken_step, tests_in, ArePlainTestsOf, HasSame, AreDropped, Document, Path, Expressions, Lax, Condition, Ahead, SearchStep, Items, StepItems, NodeList}
 use Rattle.jsonb.specs.PathTree as math
-use Rattle.jsonb.specs.PathTree.{Step, Expression, steps_of}
-use Rattle.jsonb.specs.PathViews.{step_view, steps_view}
-use Rattle.jsonb.specs.ItemSteps.{values_of}
-use Rattle.std.specs.List.{AllZip}
-use Rattle.jsonb.specs.Meaning.{step_meaning, steps_meaning, truth, filtered, is_some_item}
-use Rattle.jsonb.specs.SelectorAnswers.{first_item}
-use Rattle.jsonb.specs.Private.Compared.{RefinesIfAny}
-use Rattle.jsonb.specs.Private.Search.{has_condition, IsTested, IsSearched, FirstAhead, AreAhead, IsAhead, TakesStep, HasItems, TakesItem, AreGiven, IsReached, BeginsAs}
-use Rattle.jsonb.specs.Private.Selection.{IsAt, IsPlain, is_filter, node_spots, option_spots, taken_step}
-use Rattle.jsonb.specs.Private.Tests.{tests_in, ArePlainTestsOf}
-use Rattle.jsonb.specs.Private.Alike.{HasSame}
-use Rattle.jsonb.specs.declared.selector.document.Repeats.TheVariants.{AreDropped}
+use Rattle.jsonb.specs.Private.Search.{IsTested}
 use Rattle.jsonb.proofs.RepeatLemmas.{alike_first}
-use Rattle.jsonb.specs.declared.selector.document.Document.{Document}
-use Rattle.jsonb.specs.declared.path.Path.{Path}
-use Rattle.jsonb.specs.declared.selector.document.Expressions.{Expressions}
-use Rattle.jsonb.specs.declared.selector.document.Mode.TheVariants.{Lax}
-use Rattle.jsonb.specs.declared.selector.plan.Condition.{Condition}
-use Rattle.jsonb.specs.declared.selector.search.Ahead.{Ahead}
-use Rattle.jsonb.specs.declared.selector.search.SearchStep.{SearchStep}
 use Rattle.jsonb.specs.declared.selector.search.SearchStep.TheVariants as search
-use Rattle.jsonb.specs.declared.selector.search.Items.{Items}
-use Rattle.jsonb.specs.declared.selector.search.StepItems.{StepItems}
 use Rattle.jsonb.specs.declared.selector.search.StepItems.TheVariants as given
 use Rattle.jsonb.specs.declared.selector.search.Reached.TheVariants as reached
 use Rattle.jsonb.specs.declared.selector.search.Waiting.{Waiting}
-use Rattle.jsonb.specs.declared.selector.node_list.NodeList.{NodeList}
 use Rattle.jsonb.specs.declared.selector.selected.Selected.TheVariants as selected
 use Rattle.jsonb.proofs.ComparedLemmas.{Any, AreTotal, listed_total, steps_total}
 use Rattle.jsonb.proofs.RefinesLemmas.{with_ok, continued, given_by, refused_as}

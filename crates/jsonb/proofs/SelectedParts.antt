@@ -1,29 +1,7 @@
 -- The parts that are selected, position by position.
-use Rattle.std.proofs.Common.{◌≡◌, ℕ, zero, suc, ◌+◌, ◌<◌, ◌≤◌, List, [], ◌∷◌, ◌++◌, length, get_or, drop, Some, refl, ap, inl, inr, arith, add-one}
-use Rattle.std.proofs.Math.Seq.{drop-cons}
-use Rattle.std.proofs.Math.ListN.{drop_of_length-le}
-use Rattle.jsonb_doc.specs.Tree.{Tree}
-use Rattle.jsonb_doc.specs.Payload.{Form}
-use Rattle.jsonb_doc.specs.Limits.{IsTooLarge}
-use Rattle.jsonb_doc.specs.Representation.Positions.{Locates}
-use Rattle.jsonb_doc.specs.ArrayBuilder.{Parts, no_parts, HoldsElements}
-use Rattle.jsonb_doc.specs.Answer.{IsOutOfMemory, ◌or◌when◌}
-use Rattle.jsonb_doc.specs.Private.Errors.{IsOutOfMemoryOrTooLarge}
-use Rattle.jsonb_doc.specs.declared.error.Error.{Error}
+use Rattle.jsonb.proofs.Common.{◌≡◌, ℕ, zero, suc, ◌+◌, ◌<◌, ◌≤◌, List, [], ◌∷◌, ◌++◌, length, get_or, drop, Some, refl, ap, inl, inr, arith, add-one, drop-cons, drop_of_length-le, Tree, Form, IsTooLarge, Locates, Parts, no_parts, HoldsElements, IsOutOfMemory, ◌or◌when◌, IsOutOfMemoryOrTooLarge, Error, Spot, array_too_large-element, MadeItem, Vec, Any, AllZip, selected_len, array_of, IsAt, IsMadeItem, IsNumberItem, AreSelected, node_spots, first_item, single_or_array, TooLarge, Document, NodeList, Selected}
 use Rattle.jsonb_doc.specs.declared.number.Number.{Number}
-use Rattle.jsonb_doc.specs.declared.spot.Spot.{Spot}
-use Rattle.jsonb_doc.proofs.LimitLemmas.{array_too_large-element}
-use Rattle.jsonb.specs.declared.selector.selected.MadeItem.{MadeItem}
-use Rattle.std.specs.Prelude.{Vec}
 use Rattle.std.specs.declared.alloc.Global.{Global}
-use Rattle.std.specs.List.{Any, AllZip}
-use Rattle.jsonb.specs.Private.Selected.{selected_len, array_of}
-use Rattle.jsonb.specs.Private.Selection.{IsAt, IsMadeItem, IsNumberItem, AreSelected, node_spots}
-use Rattle.jsonb.specs.SelectorAnswers.{first_item, single_or_array}
-use Rattle.jsonb_doc.specs.declared.error.Error.TheVariants.{TooLarge}
-use Rattle.jsonb.specs.declared.selector.document.Document.{Document}
-use Rattle.jsonb.specs.declared.selector.node_list.NodeList.{NodeList}
-use Rattle.jsonb.specs.declared.selector.selected.Selected.{Selected}
 use Rattle.jsonb.specs.declared.selector.selected.Selected.TheVariants as selected
 pub use Rattle.jsonb_doc.proofs.Basics.{zip_more as related_more}
 

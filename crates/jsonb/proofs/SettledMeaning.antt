@@ -1,33 +1,10 @@
 -- Which variant holds a whole literal changes no truth, no step and no value.
-use Rattle.std.proofs.Common.{◌≡◌, ℕ, zero, List, [], ◌∷◌, Option, Some, None, refl, sym, ◌∙◌, ap, subst, map, flat_map, Ok, Err, inr}
-use Rattle.std.specs.Prelude.{ℤ, pos, IfSome, IsSomeAnd, IsTrue}
-use Rattle.std.specs.declared.cmp.Ordering.TheVariants.{Equal}
-use Rattle.std.proofs.lemmas.Cmp.{tied_itself}
-use Rattle.jsonb_doc.specs.Proofs.NumberOrder.{number_cmp_total}
-use Rattle.jsonb_doc.specs.declared.error.Error.{Error}
-use Rattle.jsonb_doc.specs.Answer.{Outcome, Refines, and_then, try_flat_map}
-use Rattle.jsonb_doc.specs.Arithmetic.{Operation, is_decimal, calculated, negated}
-use Rattle.jsonb_doc.specs.Number.{Variant, int64, uint64, Number, number_cmp}
-use Rattle.jsonb_doc.specs.Equal.{is_equal}
-use Rattle.jsonb_doc.specs.Proofs.Equality.{is_equal-true}
-use Rattle.jsonb_doc.specs.Proofs.EqualTrees.{IsEqual, AreEqual, PairsAreEqual}
+use Rattle.jsonb.proofs.Common.{◌≡◌, ℕ, zero, List, [], ◌∷◌, Option, Some, None, refl, sym, ◌∙◌, ap, subst, map, flat_map, Ok, Err, inr, ℤ, pos, IfSome, IsSomeAnd, IsTrue, Equal, tied_itself, number_cmp_total, Error, Outcome, Refines, and_then, try_flat_map, Operation, is_decimal, calculated, negated, Variant, int64, uint64, Number, number_cmp, is_equal, is_equal-true, IsEqual, AreEqual, PairsAreEqual, Tree, Trees, Pairs, Int64, Literal, BinaryOp, and_op, or_op, starts_with_op, add, subtract, multiply, divide, modulo, UnaryOp, plus, minus, Step, root, current, filter, whole_expression, Steps, no_steps, step, Expression, paths, value, binary, unary, exists, steps_of, settled_literal, SameButVariants, MeanTheSame, json_path, path_text, AllZip, Value, container, Truth, value_order, is_container, pair_truth, first_decisive, compare, operation, all_numbers, two_numbers, signed_number, each_signed, start, step_meaning, steps_meaning, operand_values, truth, expression_meaning, as_filter, meaning, list_truth, predicate, starts_with_truth, binary_meaning, truth_list, expression_predicate, calculation, Mode}
 use Rattle.jsonb_doc.specs.Tree as tree
-use Rattle.jsonb_doc.specs.Tree.{Tree, Trees, Pairs}
-use Rattle.jsonb_doc.specs.declared.number.Number.TheVariants.{Int64}
 use Rattle.jsonb.specs.PathTree as path
-use Rattle.jsonb.specs.PathTree.{Literal, BinaryOp, and_op, or_op, starts_with_op, add, subtract, multiply, divide, modulo, UnaryOp, plus, minus, Step, root, current, filter, whole_expression, Steps, no_steps, step, Expression, paths, value, binary, unary, exists, steps_of}
-use Rattle.jsonb.specs.PathLaws.{settled_literal, SameButVariants, MeanTheSame}
 use Rattle.jsonb.proofs.JumpLemmas.{same_after}
 use Rattle.jsonb.proofs.SettledPaths.{settled_step, settled_steps, settled, one_path}
-use Rattle.jsonb.specs.PathGrammar.{json_path}
-use Rattle.jsonb.specs.PathText.{path_text}
-use Rattle.std.specs.List.{AllZip}
-use Rattle.jsonb.specs.Values.{Value, null, boolean, number, text, container, literal_value}
-use Rattle.jsonb.specs.Compare.{Truth, value_order, is_container, pair_truth, first_decisive, compare}
-use Rattle.jsonb.specs.PathArithmetic.{operation, all_numbers, two_numbers, signed_number, each_signed}
-use Rattle.jsonb.specs.Meaning.{start, step_meaning, steps_meaning, operand_values, truth, expression_meaning, as_filter, meaning, list_truth, predicate}
-use Rattle.jsonb.specs.Private.Calculation.{starts_with_truth, binary_meaning, truth_list, expression_predicate, calculation}
-use Rattle.jsonb.specs.declared.selector.document.Mode.{Mode}
+use Rattle.jsonb.specs.Values.{null, boolean, number, text, literal_value}
 
 -- ---- numbers whose whole values are unsigned if they are not negative
 

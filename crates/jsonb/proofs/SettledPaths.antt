@@ -1,10 +1,5 @@
 -- A path with each non-negative integer unsigned, and paths that are the same in this form.
-use Rattle.std.proofs.Common.{◌≡◌, List, [], ◌∷◌, map, refl, ap, ap₂}
-use Rattle.std.specs.Prelude.{pos}
-use Rattle.jsonb_doc.specs.declared.number.Number.TheVariants.{Int64}
-use Rattle.jsonb.specs.PathEquality.{SameStepBut, SameStepsBut, SameExpressionBut}
-use Rattle.jsonb.specs.PathLaws.{settled_literal, SameButVariants}
-use Rattle.jsonb.specs.PathTree.{Literal, number, Step, filter, whole_expression, Steps, no_steps, step, Expression, paths, value, binary, unary, exists}
+use Rattle.jsonb.proofs.Common.{◌≡◌, List, [], ◌∷◌, map, refl, ap, ap₂, pos, Int64, SameStepBut, SameStepsBut, SameExpressionBut, settled_literal, SameButVariants, Literal, number, Step, filter, whole_expression, Steps, no_steps, step, Expression, paths, value, binary, unary, exists}
 
 abbrev mutual
   pub settled_step : Step → Step

@@ -1,26 +1,8 @@
 -- Numbers of the items that were found, each with a sign.
-use Rattle.std.proofs.Common.{◌≡◌, ℕ, ◌+◌, ◌<◌, ◌≤◌, List, [], ◌∷◌, ◌++◌, Ok, Err, OnOk, IfErr, IsOkAnd, refl, ap, ◌∙◌, inl, map, flat_map, append_assoc, length, get_or, set, take, drop, arith}
-use Rattle.std.proofs.lemmas.List.{map-append, take_all, take_more_set, drop-set-lt}
-use Rattle.jsonb_doc.specs.Answer.{Outcome, and_then, try_flat_map, Refines, IsOutOfMemory}
-use Rattle.jsonb_doc.specs.Private.StoredValue.{IsStoredAs}
-use Rattle.jsonb_doc.specs.Number.{Number}
-use Rattle.jsonb_doc.specs.Tree.{Tree}
-use Rattle.jsonb_doc.specs.View.{number_view}
-use Rattle.jsonb_doc.specs.declared.error.Error.{Error}
-use Rattle.jsonb_doc.specs.declared.error.Error.TheVariants.{InvalidJsonPath}
-use Rattle.jsonb_doc.specs.declared.spot.content.StoredValue.{StoredValue}
+use Rattle.jsonb.proofs.Common.{◌≡◌, ℕ, ◌+◌, ◌<◌, ◌≤◌, List, [], ◌∷◌, ◌++◌, Ok, Err, OnOk, IfErr, IsOkAnd, refl, ap, ◌∙◌, inl, map, flat_map, append_assoc, length, get_or, set, take, drop, arith, map-append, take_all, take_more_set, drop-set-lt, Outcome, and_then, try_flat_map, Refines, IsOutOfMemory, IsStoredAs, Number, Tree, number_view, Error, InvalidJsonPath, StoredValue, all_numbers, signed_number, UnaryOp, paths, steps_of, steps_view, operand_values, start, steps_meaning, AllZip, IsNumberTree, IsNumberItem, taken_step, Value, value_of_item, values_of_item, Path, AreRefused, Mode}
 use Rattle.jsonb_doc.specs.declared.spot.content.StoredValue.TheVariants as stored
 use Rattle.jsonb_doc.specs.declared.number.Number.{Number as CodeNumber}
-use Rattle.jsonb.specs.PathArithmetic.{all_numbers, signed_number}
-use Rattle.jsonb.specs.PathTree.{UnaryOp, paths, steps_of}
-use Rattle.jsonb.specs.PathViews.{steps_view}
-use Rattle.jsonb.specs.Meaning.{operand_values, start, steps_meaning}
-use Rattle.std.specs.List.{AllZip}
-use Rattle.jsonb.specs.Private.Selection.{IsNumberTree, IsNumberItem, taken_step}
-use Rattle.jsonb.specs.Values.{Value, number, value_of_item, values_of_item}
-use Rattle.jsonb.specs.declared.path.Path.{Path}
-use Rattle.jsonb.specs.declared.selector.document.Expressions.TheVariants.{AreRefused}
-use Rattle.jsonb.specs.declared.selector.document.Mode.{Mode}
+use Rattle.jsonb.specs.Values.{number}
 use Rattle.jsonb.proofs.CalculateLemmas.{as_memory, number_added}
 use Rattle.jsonb.proofs.RefinesLemmas.{Is, related_of_map}
 use Rattle.jsonb.proofs.Progress.{Progress, at_start, one_more, refused_in, at_end, list_first, list_end}

@@ -1,20 +1,6 @@
 -- Parts of the meaning of steps and filters.
-use Rattle.std.proofs.Common.{◌≡◌, ℕ, ◌+◌, ◌<◌, List, [], ◌∷◌, ◌++◌, length, drop, get_or, suc, add-one, map, Bool, true, false, Option, Ok, Err, refl, sym, ap, ◌∙◌, append-nil}
-use Rattle.std.specs.Bool.{then_some}
-use Rattle.std.proofs.Math.Seq.{drop-cons}
-use Rattle.jsonb_doc.specs.Answer.{Outcome, and_then, try_flat_map}
-use Rattle.jsonb_doc.specs.Tree.{Tree}
-use Rattle.jsonb_doc.specs.declared.spot.Spot.{Spot}
+use Rattle.jsonb.proofs.Common.{◌≡◌, ℕ, ◌+◌, ◌<◌, List, [], ◌∷◌, ◌++◌, length, drop, get_or, suc, add-one, map, Bool, true, false, Option, Ok, Err, refl, sym, ap, ◌∙◌, append-nil, then_some, drop-cons, Outcome, and_then, try_flat_map, Tree, Spot, steps_of, step_view, steps_view, AllZip, step_meaning, steps_meaning, start, as_filter, IsKept, option_spots, taken_step, Mode, Expressions, AreFilters, AreRefused, Path}
 use Rattle.jsonb.specs.PathTree as math
-use Rattle.jsonb.specs.PathTree.{steps_of}
-use Rattle.jsonb.specs.PathViews.{step_view, steps_view}
-use Rattle.std.specs.List.{AllZip}
-use Rattle.jsonb.specs.Meaning.{step_meaning, steps_meaning, start, as_filter}
-use Rattle.jsonb.specs.Private.Selection.{IsKept, option_spots, taken_step}
-use Rattle.jsonb.specs.declared.selector.document.Mode.{Mode}
-use Rattle.jsonb.specs.declared.selector.document.Expressions.{Expressions}
-use Rattle.jsonb.specs.declared.selector.document.Expressions.TheVariants.{AreFilters, AreRefused}
-use Rattle.jsonb.specs.declared.path.Path.{Path}
 
 -- one item alone
 pub joined_one : {B C : Type 0} (f : B → Outcome (List C)) (t : B) → try_flat_map f (t ∷ []) ≡ f t

@@ -1,36 +1,8 @@
 -- Conditions that are compiled to tests.
-use Rattle.std.proofs.Common.{◌≡◌, ℕ, ◌+◌, ◌≤◌, List, [], ◌∷◌, ◌++◌, length, take, get_or, map, flat_map, option_to_list, Bool, true, false, Option, Some, None, is_some, Ok, Err, IsOkAnd, refl, sym, ap, ◌∙◌, subst, arith, length-append}
-use Rattle.std.specs.Prelude.{reverse, not, ◌==◌, ◌&&◌, if◌then◌else◌, MatchOption, ⊤}
-use Rattle.std.specs.List.{AllZip}
-use Rattle.std.proofs.lemmas.Bool.{eqb-true, lt-leb}
-use Rattle.std.proofs.lemmas.List.{reverse-append, length-reverse, length-take-le, take_more}
-use Rattle.jsonb_doc.specs.Answer.{Outcome, and_then}
-use Rattle.jsonb_doc.specs.Tree.{Tree}
-use Rattle.jsonb_doc.specs.declared.spot.Spot.{Spot}
-use Rattle.jsonb.specs.Compare.{Truth, compare}
-use Rattle.jsonb.specs.Meaning.{steps_meaning, truth, filtered, is_some_item}
-use Rattle.jsonb.specs.PathTree.{BinaryOp, and_op, or_op, current, Steps, step, Expression, paths, binary, steps_of}
-use Rattle.jsonb.specs.PathViews.{steps_view, expression_view}
-use Rattle.jsonb.specs.Private.FilterCache.{is_comparison}
-use Rattle.jsonb.specs.Private.Jumps.{Branch, branches_of, branches_of_whole, taken, next_jump, jump_truth, evaluated}
-use Rattle.jsonb.specs.Private.Selection.{option_spots, taken_step}
-use Rattle.jsonb.specs.Private.Pairs.{is_joined, joining_op, IsPairOf}
-use Rattle.jsonb.specs.Private.Tests.{AreMembersCompared, IsPlainQuestionOf, IsQuestionOf, IsTestOf, AreBranches, AreTestsOf, ArePlainTestsOf, is_plain, are_plain, question_conditions, test_conditions, tests_conditions, is_settled, jump_to, left_true, left_false, left_of, right_of, pending, waiting_left}
-use Rattle.jsonb.specs.Values.{values_of_item}
-use Rattle.jsonb.specs.declared.selector.document.Expressions.TheVariants.{AreRefused}
-use Rattle.jsonb.specs.declared.selector.document.Mode.{Mode}
-use Rattle.jsonb.specs.declared.selector.document.Mode.TheVariants.{Lax, Strict}
-use Rattle.jsonb.specs.declared.selector.plan.Jump.{Jump}
-use Rattle.jsonb.specs.declared.selector.plan.MembersCompared.{MembersCompared}
-use Rattle.jsonb.specs.declared.selector.plan.Question.{Question}
+use Rattle.jsonb.proofs.Common.{◌≡◌, ℕ, ◌+◌, ◌≤◌, List, [], ◌∷◌, ◌++◌, length, take, get_or, map, flat_map, option_to_list, Bool, true, false, Option, Some, None, is_some, Ok, Err, IsOkAnd, refl, sym, ap, ◌∙◌, subst, arith, length-append, reverse, not, ◌==◌, ◌&&◌, if◌then◌else◌, MatchOption, ⊤, AllZip, eqb-true, lt-leb, reverse-append, length-reverse, length-take-le, take_more, Outcome, and_then, Tree, Spot, Truth, compare, steps_meaning, truth, filtered, is_some_item, BinaryOp, and_op, or_op, current, Steps, step, Expression, paths, binary, steps_of, steps_view, expression_view, is_comparison, Branch, branches_of, branches_of_whole, taken, next_jump, jump_truth, evaluated, option_spots, taken_step, is_joined, joining_op, IsPairOf, AreMembersCompared, IsPlainQuestionOf, IsQuestionOf, IsTestOf, AreBranches, AreTestsOf, ArePlainTestsOf, is_plain, are_plain, question_conditions, test_conditions, tests_conditions, is_settled, jump_to, left_true, left_false, right_of, pending, waiting_left, values_of_item, AreRefused, Mode, Lax, Strict, Jump, MembersCompared, Question, Test, Waiting, Join, And, Or, Pair, zip_along}
+use Rattle.jsonb.specs.Private.Tests.{left_of}
 use Rattle.jsonb.specs.declared.selector.plan.Question.TheVariants as question
-use Rattle.jsonb.specs.declared.selector.plan.Test.{Test}
-use Rattle.jsonb.specs.declared.selector.compile.Waiting.{Waiting}
-use Rattle.jsonb.specs.declared.selector.pair.Join.{Join}
-use Rattle.jsonb.specs.declared.selector.pair.Join.TheVariants.{And, Or}
-use Rattle.jsonb.specs.declared.selector.pair.Pair.{Pair}
 pub use Rattle.jsonb_doc.proofs.Basics.{empty_of as none_waiting, innermost as last_first}
-use Rattle.jsonb_doc.proofs.Basics.{zip_along}
 use Rattle.jsonb.proofs.ComparedLemmas.{Any, comparison_total, members_total}
 use Rattle.jsonb.proofs.RefinesLemmas.{with_ok}
 use Rattle.jsonb.proofs.JumpLemmas.{evaluated-whole}

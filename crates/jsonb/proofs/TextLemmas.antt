@@ -1,12 +1,6 @@
 -- Text that one part is appended to.
-use Rattle.std.proofs.Common.{◌≡◌, ℕ, ◌+◌, ◌/◌, ◌%◌, ◌<◌, List, [], ◌∷◌, ◌++◌, length, get_or, take, refl, sym, ap, ◌∙◌, append_assoc}
-use Rattle.std.specs.Prelude.{flat_map, slice_index}
-use Rattle.hex.specs.Hex.{encode_with, encode_lower, lower_digits}
-use Rattle.std.proofs.lemmas.List.{flat_map_more, take_more, append-nil}
-use Rattle.jsonb.specs.PathText.{step_text, steps_text, path_text}
-use Rattle.jsonb.specs.PathTree.{Step, steps_of}
-use Rattle.jsonb.specs.PathViews.{step_view, steps_view}
-use Rattle.jsonb.specs.declared.path.Path.{Path}
+use Rattle.jsonb.proofs.Common.{◌≡◌, ℕ, ◌+◌, ◌/◌, ◌%◌, ◌<◌, List, [], ◌∷◌, ◌++◌, length, get_or, take, refl, sym, ap, ◌∙◌, append_assoc, flat_map, slice_index, encode_with, encode_lower, lower_digits, flat_map_more, take_more, step_text, steps_text, path_text, Step, steps_of, step_view, steps_view, Path}
+use Rattle.std.proofs.lemmas.List.{append-nil}
 
 -- the text of one more element of a list
 pub text_of_one_more : {X : Type 0} (text : X → List ℕ) (xs : List X) (i : ℕ) (d : X) → i < length xs →

@@ -1,13 +1,7 @@
 -- The views of expressions that the code builds.
-use Rattle.std.proofs.Common.{◌≡◌, ◌∙◌, sym, ap, Box, Global}
-use Rattle.jsonb.specs.PathTree.{Expression, Step, binary, unary}
-use Rattle.jsonb.specs.PathViews.{expression_view, expression_layer, step_layer}
-use Rattle.jsonb.specs.declared.path.BinaryOperator.{BinaryOperator}
-use Rattle.jsonb.specs.declared.path.UnaryOperator.{UnaryOperator}
-use Rattle.jsonb.specs.declared.path.Expr.{Expr as CodeExpr, fold-roll-Expr}
+use Rattle.jsonb.proofs.Common.{◌≡◌, ◌∙◌, sym, ap, Box, Global, Expression, Step, binary, unary, expression_view, expression_layer, step_layer, BinaryOperator, UnaryOperator, fold-roll-Expr, rolls-BinaryOp, rolls-UnaryOp, Expr-F}
+use Rattle.jsonb.specs.declared.path.Expr.{Expr as CodeExpr}
 use Rattle.jsonb.specs.declared.path.Expr.TheViews.{BinaryOp, UnaryOp}
-use Rattle.jsonb.specs.declared.path.Expr.TheVariants.{rolls-BinaryOp, rolls-UnaryOp}
-use Rattle.jsonb.specs.declared.path.Expr.TheOpen.{Expr-F}
 
 pub view-binary : (op : BinaryOperator) (left right : Box CodeExpr Global) →
     expression_view (BinaryOp op left right) ≡ binary op (expression_view left.value) (expression_view right.value)

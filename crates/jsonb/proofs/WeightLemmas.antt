@@ -1,33 +1,8 @@
 -- How often the loop over filters turns.
-use Rattle.std.proofs.Common.{◌≡◌, Box, Global, ℕ, zero, suc, ◌+◌, ◌-◌, ◌*◌, ◌^◌, ◌<◌, ◌≤◌, List, [], ◌∷◌, ◌++◌, length, drop, get_or, add-one, Some, Ok, Err, OnOk, IfOk, refl, sym, ap, ◌∙◌, subst, arith}
-use Rattle.std.specs.Prelude.{reverse, take, slice_get}
-use Rattle.std.proofs.Math.Nat.{suc-mul}
-use Rattle.std.proofs.Math.Seq.{drop-cons}
-use Rattle.std.proofs.lemmas.List.{reverse-append, take_more}
-use Rattle.std.proofs.lemmas.List.Sums.{sum_by-append, sum_by-cons}
-use Rattle.std.proofs.lemmas.Nat.{row_fits}
-use Rattle.std.proofs.lemmas.Option.{get_or_from_slice_get, slice_get_within}
-use Rattle.jsonb_doc.specs.Answer.{Outcome}
-use Rattle.jsonb.specs.PathTree.{Step, Steps, no_steps, step, steps_of, filter, whole_expression, Expression, binary, and_op, or_op}
-use Rattle.jsonb.specs.PathViews.{step_view, steps_view, expression_view}
-use Rattle.jsonb.specs.Private.Jumps.{Branch, branches_of, branches_of_whole}
-use Rattle.jsonb.specs.Private.Selection.{node_spots, taken_step}
-use Rattle.jsonb.specs.Private.Tests.{IsQuestionOf, AreBranches, AreTestsOf}
-use Rattle.jsonb.specs.Private.Weights.{weight, step_weight, steps_weight, running_weight, question_weight, tests_weight, asked_weight, at_filter_weight, progress_weight, frame_weight, around_weight}
-use Rattle.jsonb.specs.declared.path.Path.{Path}
-use Rattle.jsonb.specs.declared.selector.document.Expressions.{Expressions}
-use Rattle.jsonb.specs.declared.selector.document.Expressions.TheVariants.{AreFilters, AreRefused}
-use Rattle.jsonb.specs.declared.selector.filters.Frame.{Frame}
-use Rattle.jsonb.specs.declared.selector.node_list.NodeList.{NodeList}
+use Rattle.jsonb.proofs.Common.{◌≡◌, Box, Global, ℕ, zero, suc, ◌+◌, ◌-◌, ◌*◌, ◌^◌, ◌<◌, ◌≤◌, List, [], ◌∷◌, ◌++◌, length, drop, get_or, add-one, Some, Ok, Err, OnOk, IfOk, refl, sym, ap, ◌∙◌, subst, arith, reverse, take, slice_get, suc-mul, drop-cons, reverse-append, take_more, sum_by-append, sum_by-cons, row_fits, get_or_from_slice_get, slice_get_within, Outcome, Step, Steps, no_steps, step, steps_of, filter, whole_expression, Expression, binary, and_op, or_op, step_view, steps_view, expression_view, Branch, branches_of, branches_of_whole, node_spots, taken_step, IsQuestionOf, AreBranches, AreTestsOf, weight, step_weight, steps_weight, running_weight, question_weight, tests_weight, asked_weight, at_filter_weight, progress_weight, frame_weight, around_weight, Path, Expressions, AreFilters, AreRefused, Frame, NodeList, Asked, Question, Test, AtFilter, Progress, Running}
 use Rattle.jsonb.specs.declared.selector.node_list.NodeList.TheVariants as node_list
-use Rattle.jsonb.specs.declared.selector.operands.Asked.{Asked}
-use Rattle.jsonb.specs.declared.selector.plan.Question.{Question}
 use Rattle.jsonb.specs.declared.selector.plan.Question.TheVariants as question
-use Rattle.jsonb.specs.declared.selector.plan.Test.{Test}
-use Rattle.jsonb.specs.declared.selector.running.AtFilter.{AtFilter}
-use Rattle.jsonb.specs.declared.selector.running.Progress.{Progress}
 use Rattle.jsonb.specs.declared.selector.running.Progress.TheVariants as progress
-use Rattle.jsonb.specs.declared.selector.running.Running.{Running}
 
 -- ---- a condition
 

@@ -1,24 +1,8 @@
 -- Paths that are one expression, and all others.
-use Rattle.std.proofs.Common.{◌≡◌, List, [], ◌∷◌, map, Some, None, is_some, Option, true, false, Ok, Err, refl, ap, sym, ◌∙◌, Box, Global}
-use Rattle.jsonb_doc.specs.Answer.{Outcome, and_then}
-use Rattle.jsonb_doc.specs.Payload.{Form}
-use Rattle.jsonb_doc.specs.View.{number_view}
+use Rattle.jsonb.proofs.Common.{◌≡◌, List, [], ◌∷◌, map, Some, None, is_some, Option, true, false, Ok, Err, refl, ap, sym, ◌∙◌, Box, Global, Outcome, and_then, Form, number_view, Tree, Step, Expression, steps_of, step_view, literal_view, Truth, step_meaning, steps_meaning, truth, filtered, as_filter, Means, step_expression, only_expression, is_relative, taken_step, AreFilters, Mode, PathValue, Expr, Path-F, roll-Path, roll-out-Path, Path, out-Path}
 use Rattle.jsonb_doc.specs.Tree as tree
-use Rattle.jsonb_doc.specs.Tree.{Tree}
 use Rattle.jsonb_doc.specs.declared.number.Number.{Number}
 use Rattle.jsonb.specs.PathTree as math
-use Rattle.jsonb.specs.PathTree.{Step, Expression, steps_of}
-use Rattle.jsonb.specs.PathViews.{step_view, literal_view}
-use Rattle.jsonb.specs.Compare.{Truth}
-use Rattle.jsonb.specs.Meaning.{step_meaning, steps_meaning, truth, filtered, as_filter, Means}
-use Rattle.jsonb.specs.Private.Selection.{step_expression, only_expression, is_relative, taken_step}
-use Rattle.jsonb.specs.declared.selector.document.Expressions.TheVariants.{AreFilters}
-use Rattle.jsonb.specs.declared.selector.document.Mode.{Mode}
-use Rattle.jsonb.specs.declared.path.PathValue.{PathValue}
-use Rattle.jsonb.specs.declared.path.Expr.{Expr}
-use Rattle.jsonb.specs.declared.path.Expr.TheOpen.{Path-F}
-use Rattle.jsonb.specs.declared.path.Expr.TheViews.{roll-Path, roll-out-Path}
-use Rattle.jsonb.specs.declared.path.Path.{Path, out-Path}
 use Rattle.jsonb.specs.declared.path.Path.TheVariants as step
 use Rattle.jsonb.proofs.PathNodes.{step_is}
 use Rattle.jsonb.proofs.StepLemmas.{filter_steps, joined_one}

@@ -1,15 +1,5 @@
 -- What an array's builder holds with one more element.
-use Rattle.std.proofs.Common.{◌≡◌, ℕ, ◌<◌, ◌^◌, List, [], ◌∷◌, ◌++◌, length, refl, sym, ap, ◌∙◌, arith, inl, inr, append_assoc}
-use Rattle.std.proofs.lemmas.List.{append-nil, length-append}
-use Rattle.jsonb_doc.specs.Tree.{Tree, array, trees_of, count}
-use Rattle.jsonb_doc.specs.Payload.{NumberReader, Form, number_reader}
-use Rattle.jsonb_doc.specs.Format.{IsContent, AreEntries, entry_word, header, array_header, Decodes}
-use Rattle.jsonb_doc.specs.Limits.{HasShortElements, content_size, IsTooLarge}
-use Rattle.jsonb_doc.specs.Item.{StandsFor}
-use Rattle.jsonb_doc.specs.Encoding.{EntryParts, item_content, entry_of}
-use Rattle.jsonb_doc.specs.Private.Writing.{item_kind, FitsItem}
-use Rattle.jsonb_doc.specs.ArrayBuilder.{Parts, entry_count, HoldsElements, IsTooLargeElement}
-use Rattle.jsonb_doc.specs.declared.item.Item.{Item}
+use Rattle.jsonb_doc.proofs.Common.{◌≡◌, ℕ, ◌<◌, ◌^◌, List, [], ◌∷◌, ◌++◌, length, refl, sym, ap, ◌∙◌, arith, inl, inr, append_assoc, append-nil, length-append, Tree, array, trees_of, count, NumberReader, Form, number_reader, IsContent, AreEntries, entry_word, header, array_header, Decodes, HasShortElements, content_size, IsTooLarge, StandsFor, EntryParts, item_content, entry_of, item_kind, FitsItem, Parts, entry_count, HoldsElements, IsTooLargeElement, Item}
 use Rattle.jsonb_doc.proofs.Entries.{kind_below}
 use Rattle.jsonb_doc.proofs.Containers.{length-words}
 use Rattle.jsonb_doc.proofs.TreeLists.{count-trees_of}

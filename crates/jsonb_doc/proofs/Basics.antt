@@ -1,21 +1,6 @@
 -- Lemmas on lists, tests and results that do not mention documents, and on the keys and values of pairs.
-use Rattle.std.proofs.Common.{◌≡◌, ℕ, suc, ◌*◌, ◌^◌, ◌<◌, ◌==◌, ◌||◌, Bool, true, false, List, [], ◌∷◌, ◌++◌, length, map, Ordering, Equal, Less, Result, Ok, Err, MatchResult, IsOkAnd, IfOk, mul-pos, refl, sym, ap, subst, ◌∙◌, arith}
-use Rattle.std.specs.Prelude.{reverse}
-use Rattle.std.specs.Ordering.{nat_cmp, ordering_then}
-use Rattle.std.specs.Cmp.Lexicographic.{slice_cmp}
-use Rattle.std.specs.List.{AllZip}
-use Rattle.std.specs.Map.{keys_of}
-use Rattle.std.proofs.lemmas.Map.Entries.{length-keys_of}
-use native.Mathlib.Nat.{one-le-pow}
-use Rattle.std.proofs.lemmas.Bool.Decides.{nat_tests}
-use Rattle.std.proofs.lemmas.List.{reverse-append}
-use Rattle.std.proofs.lemmas.Cmp.{nat_list_cmp_total}
-use Rattle.jsonb_doc.specs.Proofs.Orderings.{nat_cmp_refl}
-use Rattle.std.proofs.lemmas.Map.Lookups.{exact_bytes}
-use Rattle.jsonb_doc.specs.Tree.{Tree, text}
-use Rattle.jsonb_doc.specs.Format.{IsBelowFirst}
-use Rattle.jsonb_doc.specs.Answer.{IsOutOfMemory}
-use Rattle.jsonb_doc.specs.declared.error.Error.{Error}
+use Rattle.jsonb_doc.proofs.Common.{◌≡◌, ℕ, suc, ◌*◌, ◌^◌, ◌<◌, ◌==◌, ◌||◌, Bool, true, false, List, [], ◌∷◌, ◌++◌, length, map, Ordering, Equal, Less, Result, Ok, Err, MatchResult, IsOkAnd, IfOk, mul-pos, refl, sym, ap, subst, ◌∙◌, arith, reverse, ordering_then, slice_cmp, AllZip, keys_of, length-keys_of, one-le-pow, nat_tests, reverse-append, nat_list_cmp_total, nat_cmp_refl, exact_bytes, Tree, text, IsBelowFirst, IsOutOfMemory, Error}
+use Rattle.std.specs.Ordering.{nat_cmp}
 
 -- ---- tests
 

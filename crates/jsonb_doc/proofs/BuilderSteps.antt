@@ -1,18 +1,7 @@
 -- What a loop that pushes into a builder keeps true: what is held, followed by what is left, is the whole.
-use Rattle.std.proofs.Common.{◌≡◌, ℕ, Bool, true, false, List, [], ◌∷◌, ◌++◌, inl, inr, refl, sym, subst, ◌∙◌, append_assoc, append-nil, Result, Ok, Err, cond, filter, MatchResult}
-use Rattle.std.specs.Prelude.{⊤}
-use Rattle.std.specs.Map.{keys_of}
-use Rattle.std.proofs.lemmas.Cmp.{nat_list_cmp_total}
-use Rattle.jsonb_doc.specs.Tree.{Tree, array, trees_of}
-use Rattle.jsonb_doc.specs.Payload.{Form}
-use Rattle.jsonb_doc.specs.Format.{IsBelowFirst, AreKeys, Decodes}
-use Rattle.jsonb_doc.specs.Limits.{IsTooLarge}
-use Rattle.jsonb_doc.specs.Answer.{IsOutOfMemory}
-use Rattle.jsonb_doc.specs.Private.Errors.{IsOutOfMemoryOrTooLarge}
-use Rattle.jsonb_doc.specs.ArrayBuilder.{Parts, no_parts, HoldsElements}
-use Rattle.jsonb_doc.specs.declared.error.Error.{Error}
+use Rattle.jsonb_doc.proofs.Common.{◌≡◌, ℕ, Bool, true, false, List, [], ◌∷◌, ◌++◌, inl, inr, refl, sym, subst, ◌∙◌, append_assoc, Result, Ok, Err, cond, filter, MatchResult, ⊤, keys_of, nat_list_cmp_total, Tree, array, trees_of, Form, IsBelowFirst, AreKeys, Decodes, IsTooLarge, IsOutOfMemory, IsOutOfMemoryOrTooLarge, Parts, no_parts, HoldsElements, Error, HoldsFront}
+use Rattle.std.proofs.Common.{append-nil}
 use Rattle.jsonb_doc.proofs.LimitLemmas.{array_too_large-more}
-use Rattle.jsonb_doc.specs.Private.Builders.{HoldsFront}
 
 -- a right result, or a failed allocation, is one of a function that builds a document
 pub answered : {A : Type 0} (form : Form) (t : Tree) (P : A → Type 0) (r : Result A Error) → MatchResult r P IsOutOfMemory

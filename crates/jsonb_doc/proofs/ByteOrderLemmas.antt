@@ -1,10 +1,6 @@
 -- Bytes compare as the numbers of their first eight bytes do, if those differ.
-use Rattle.std.proofs.Common.{◌≡◌, ◌≢◌, ℕ, zero, suc, ◌+◌, ◌*◌, ◌<◌, ◌≤◌, List, [], ◌∷◌, length, take, refl, sym, ap, ◌∙◌, arith, Ordering, Less, Equal, Greater}
-use Rattle.std.specs.Int.{w64, from_be_bytes}
-use Rattle.std.specs.Ordering.{nat_cmp, ordering_then, MatchOrdering}
-use Rattle.std.specs.Cmp.{ranks, nat_cmp_is}
-use Rattle.std.specs.Cmp.Lexicographic.{slice_cmp}
-use Rattle.std.proofs.lemmas.List.{length-take-le}
+use Rattle.jsonb_doc.proofs.Common.{◌≡◌, ◌≢◌, ℕ, zero, suc, ◌+◌, ◌*◌, ◌<◌, ◌≤◌, List, [], ◌∷◌, length, take, refl, sym, ap, ◌∙◌, arith, Ordering, Less, Equal, Greater, w64, from_be_bytes, ordering_then, MatchOrdering, ranks, nat_cmp_is, slice_cmp, length-take-le}
+use Rattle.std.specs.Ordering.{nat_cmp}
 use Rattle.jsonb_doc.proofs.EqualBytesLemmas.{AreSmall}
 
 -- the number that the bytes spell after n, the greatest first

@@ -1,10 +1,5 @@
 -- What is left of a whole decides it.
-use Rattle.std.proofs.Common.{◌≡◌, ◌≢◌, ℕ, ◌+◌, ◌/◌, ◌<◌, ◌≤◌, List, length, Option, Some, None, Bool, true, false, ◌&&◌, ◌↔◌, refl, arith}
-use Rattle.jsonb_doc.specs.Payload.{NumberReader, number_of}
-use Rattle.jsonb_doc.specs.AnyBytes.Unsupported.{number_or_unsupported}
-use Rattle.jsonb_doc.specs.Private.Checking.{IsValidationError, ReducesTo, HasContent, HasEntries, HasParts, HasLarge, IsNoLonger}
-use Rattle.jsonb_doc.specs.declared.error.Error.{Error}
-use Rattle.jsonb_doc.specs.declared.error.Error.TheVariants.{InvalidJsonb, UnsupportedNumber}
+use Rattle.jsonb_doc.proofs.Common.{◌≡◌, ◌≢◌, ℕ, ◌+◌, ◌/◌, ◌<◌, ◌≤◌, List, length, Option, Some, None, Bool, true, false, ◌&&◌, ◌↔◌, refl, arith, NumberReader, number_of, number_or_unsupported, IsValidationError, ReducesTo, HasContent, HasEntries, HasParts, HasLarge, IsNoLonger, Error, InvalidJsonb, UnsupportedNumber}
 
 -- one child is checked, and the others are left
 module _ (supported : Bool) (Whole Left Part Others : NumberReader → Type 0) (l : ReducesTo supported Whole Left)

@@ -1,26 +1,5 @@
 -- Children by their positions: all of a root, and those after the first.
-use Rattle.std.proofs.Common.{◌≡◌, ℕ, suc, ◌+◌, ◌-◌, ◌*◌, ◌/◌, ◌<◌, ◌≤◌, List, [], ◌∷◌, ◌++◌, map, length, drop, slice_range, Some, None, Result, Ok, Err, refl, sym, ap, ◌∙◌, arith, append_assoc}
-use Rattle.std.proofs.lemmas.List.{length-append, append-nil, drop_at}
-use Rattle.std.proofs.lemmas.Slice.{between_to_end}
-use Rattle.jsonb_doc.specs.Tree.{Tree, text, array, object, no_trees, tree, trees_of, elements, count, no_pairs, pair, keys, values}
-use Rattle.jsonb_doc.specs.Payload.{Form, any, number_reader, number_of}
-use Rattle.jsonb_doc.specs.Format.{Decodes, header, entry_word, AreEntries, key_bytes}
-use Rattle.jsonb_doc.specs.Spots.{TakesSpot, GivesSpot}
-use Rattle.jsonb_doc.specs.Representation.Positions.{Locates, HasSpotsLeft, AreAt, HasChildrenLeft}
-use Rattle.jsonb_doc.specs.AnyBytes.Spots.{PassesSpot}
-use Rattle.jsonb_doc.specs.Kinds.{kind_number}
-use Rattle.jsonb_doc.specs.ChildPositions.{TakesChild}
-use Rattle.jsonb_doc.specs.Private.Containers.{IsCut, Holds, HasPairParts}
-use Rattle.jsonb_doc.specs.Private.Lengths.{StandBefore}
-use Rattle.jsonb_doc.specs.Private.Stored.{key_trees}
-use Rattle.jsonb_doc.specs.declared.child_positions.ChildPositions.{ChildPositions}
-use Rattle.jsonb_doc.specs.declared.child_positions.EntryPositions.{EntryPositions}
-use Rattle.jsonb_doc.specs.declared.container.ArrayParts.{ArrayParts}
-use Rattle.jsonb_doc.specs.declared.container.ObjectParts.{ObjectParts}
-use Rattle.jsonb_doc.specs.declared.container.Container.TheVariants.{Array, Object}
-use Rattle.jsonb_doc.specs.declared.error.Error.{Error}
-use Rattle.jsonb_doc.specs.declared.spot.Spot.{Spot}
-use Rattle.jsonb_doc.specs.declared.spot_iter.SpotIter.{SpotIter}
+use Rattle.jsonb_doc.proofs.Common.{◌≡◌, ℕ, suc, ◌+◌, ◌-◌, ◌*◌, ◌/◌, ◌<◌, ◌≤◌, List, [], ◌∷◌, ◌++◌, map, length, drop, slice_range, Some, None, Result, Ok, Err, refl, sym, ap, ◌∙◌, arith, append_assoc, length-append, append-nil, drop_at, between_to_end, Tree, text, array, object, no_trees, tree, trees_of, elements, count, no_pairs, pair, keys, values, Form, any, number_reader, number_of, Decodes, header, entry_word, AreEntries, key_bytes, TakesSpot, GivesSpot, Locates, HasSpotsLeft, AreAt, HasChildrenLeft, PassesSpot, kind_number, TakesChild, IsCut, Holds, HasPairParts, StandBefore, key_trees, ChildPositions, EntryPositions, ArrayParts, ObjectParts, Array, Object, Error, Spot, SpotIter}
 use Rattle.jsonb_doc.proofs.CanonicalLemmas.{in_any}
 use Rattle.jsonb_doc.proofs.Containers.{Decodes-array, Decodes-object, entries_of, length-words, length-key_words, count-values}
 use Rattle.jsonb_doc.proofs.KeyEntries.{key_entries}

@@ -1,40 +1,12 @@
 -- The pieces of containers that are closed.
-use Rattle.std.proofs.Common.{◌≡◌, true, ℕ, ◌+◌, ◌<◌, ◌≤◌, ◌^◌, List, [], ◌∷◌, ◌++◌, length, map, reverse, refl, sym, ap, ◌∙◌, arith, inl, inr, append_assoc, Global, string_bytes, String, Vec, BTreeMap, Option, Some, None, Result, Ok, Err}
-use Rattle.std.specs.Prelude.{flat_map, IsErrAnd, is_none}
-use Rattle.std.specs.List.{All, AllZip}
-use Rattle.std.specs.Map.{keys_of, values_of}
-use Rattle.std.proofs.lemmas.List.{length-append, length-map, reverse-append}
-use Rattle.std.proofs.lemmas.List.Elements.{All-nil, All-cons}
-use Rattle.std.proofs.lemmas.List.Sums.{sum_by-cons}
-use Rattle.jsonb_doc.specs.Tree.{Tree, array, object, trees_of, pairs_of, keys}
-use Rattle.jsonb_doc.specs.Payload.{Form, number_reader}
-use Rattle.jsonb_doc.specs.Format.{AreEntries, AreKeys, entry_word, header, array_header, object_header, key_words, key_bytes}
-use Rattle.jsonb_doc.specs.Kinds.{kind_number}
-use Rattle.jsonb_doc.specs.Limits.{AreShortKeys, HasShortParts}
-use Rattle.jsonb_doc.specs.Answer.{IsOutOfMemory, ◌or◌when◌}
-use Rattle.jsonb_doc.specs.Encoding.{EntryParts}
-use Rattle.jsonb_doc.specs.Events.{Level, array_of, object_of, container}
-use Rattle.jsonb_doc.specs.ArrayBuilder.{Parts, entry_count, HoldsElements}
-use Rattle.jsonb_doc.specs.ObjectBuilder.{HoldsPairs}
-use Rattle.jsonb_doc.specs.Private.ObjectBytes.{FitsEntry, words_of_entries, contents_of_entries, object_bytes}
-use Rattle.jsonb_doc.specs.Representation.Pieces.{stacked, all_heads, joined, bytes_at}
-use Rattle.jsonb_doc.specs.Representation.DocumentBuilder.{IsPieceOf, IsEntryOf, AreMembersOf, AreSortedTexts, HoldsLevel}
-use Rattle.jsonb_doc.specs.Private.Closing.{entry_words, total_len, member_keys, member_entries, array_head, object_head, IsClosed, HasShortHead, Closes}
-use Rattle.jsonb_doc.specs.declared.error.Error.{Error}
-use Rattle.jsonb_doc.specs.declared.error.Error.TheVariants.{TooLarge}
-use Rattle.jsonb_doc.specs.declared.event_error.EventError.{EventError}
-use Rattle.jsonb_doc.specs.declared.event_error.EventError.TheVariants.{Failed}
+use Rattle.jsonb_doc.proofs.Common.{◌≡◌, true, ℕ, ◌+◌, ◌<◌, ◌≤◌, ◌^◌, List, [], ◌∷◌, ◌++◌, length, map, reverse, refl, sym, ap, ◌∙◌, arith, inl, inr, append_assoc, Global, string_bytes, String, Vec, BTreeMap, Option, Some, None, Result, Ok, Err, flat_map, IsErrAnd, is_none, All, AllZip, keys_of, values_of, length-append, length-map, reverse-append, All-nil, All-cons, sum_by-cons, Tree, array, object, trees_of, pairs_of, keys, Form, number_reader, AreEntries, AreKeys, entry_word, header, array_header, object_header, key_words, key_bytes, kind_number, AreShortKeys, HasShortParts, IsOutOfMemory, ◌or◌when◌, EntryParts, Level, array_of, object_of, container, Parts, entry_count, HoldsElements, HoldsPairs, FitsEntry, words_of_entries, contents_of_entries, object_bytes, stacked, all_heads, joined, bytes_at, IsPieceOf, IsEntryOf, AreMembersOf, AreSortedTexts, HoldsLevel, entry_words, total_len, member_keys, member_entries, array_head, object_head, IsClosed, HasShortHead, Closes, Error, TooLarge, EventError, Failed, Piece, PieceEntry, Closed, AllZip-long}
 use Rattle.jsonb_doc.specs.declared.document_builder.frame.Frame.TheVariants.{Array, Object}
-use Rattle.jsonb_doc.specs.declared.pieces.Piece.{Piece}
-use Rattle.jsonb_doc.specs.declared.piece_entry.PieceEntry.{PieceEntry}
-use Rattle.jsonb_doc.specs.declared.document_builder.closing.Closed.{Closed}
 use Rattle.jsonb_doc.proofs.Containers.{array_document, object_document}
 use Rattle.jsonb_doc.proofs.ArrayLemmas.{array_built, held_count}
 use Rattle.jsonb_doc.proofs.ObjectLemmas.{object_decodes}
 use Rattle.jsonb_doc.proofs.Entries.{kind_below}
 use Rattle.jsonb_doc.proofs.TreeLists.{count-trees_of, keys-pairs_of}
 use Rattle.jsonb_doc.proofs.PieceLemmas.{bytes_new, stacked-append, joined-append}
-use Rattle.std.proofs.lemmas.Slice.Zip.{AllZip-long}
 
 -- the contents of entries
 abbrev pub contents_in : List Piece → List PieceEntry → List ℕ

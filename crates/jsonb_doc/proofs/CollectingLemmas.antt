@@ -1,38 +1,12 @@
 -- What the collector holds after each event.
-use Rattle.std.proofs.Common.{◌≡◌, ℕ, suc, ◌<◌, ◌≤◌, List, [], ◌∷◌, ◌++◌, length, map, refl, sym, ap, ◌∙◌, arith, Bool, true, false, Some, None, Option, Ordering, Less, Equal, Greater, nat_cmp, IsTrue, subst, inl, inr}
-use Rattle.std.specs.Prelude.{slice_range, slice_get, option_copied, is_some, unwrap_or, take, drop, ◌-◌, IfErr, MatchResult, IsSome, IsUtf8, Result, Ok, Err, OnOk}
-use Rattle.std.specs.Borrow.{Bor}
-use Rattle.std.specs.List.{AllZip}
-use Rattle.std.specs.List.Sorted.{IsSortedBy, IsStableBy}
-use Rattle.std.specs.Ordering.{match_ordering}
-use Rattle.std.specs.Cmp.Lexicographic.{slice_cmp}
-use borrow.Rule.Slice.PartMut.{mid_of}
-use Rattle.std.specs.Str.{IsCharBoundary}
-use Rattle.std.proofs.lemmas.Str.{IsCharBoundary-from_take}
-use Rattle.std.proofs.lemmas.Bool.{true≢false}
-use Rattle.std.proofs.lemmas.List.{length-map, length-append, append-nil, take_at, drop_at}
-use Rattle.jsonb_doc.specs.Tree.{Tree, array, object, trees_of, pairs_of}
-use Rattle.jsonb_doc.specs.ObjectBuilder.{insert_pair}
+use Rattle.jsonb_doc.proofs.Common.{◌≡◌, ℕ, suc, ◌<◌, ◌≤◌, List, [], ◌∷◌, ◌++◌, length, map, refl, sym, ap, ◌∙◌, arith, Bool, true, false, Some, None, Option, Ordering, Less, Equal, Greater, nat_cmp, IsTrue, subst, inl, inr, slice_range, slice_get, option_copied, is_some, unwrap_or, take, drop, ◌-◌, IfErr, MatchResult, IsSome, IsUtf8, Result, Ok, Err, OnOk, Bor, AllZip, IsSortedBy, IsStableBy, match_ordering, slice_cmp, mid_of, IsCharBoundary, IsCharBoundary-from_take, true≢false, length-map, length-append, append-nil, take_at, drop_at, Tree, array, object, trees_of, pairs_of, insert_pair, Level, State, root, array_of, object_of, takes_value, whole, IsPart, AreElements, HoldParts, has_lower_key, unique, as_pair, insert_all, appended, EndsAs, Ends, TakesTree, LeadsTo, IsMemberOf, HoldsFrame, HoldsState, WaitsFor, AreAround, Keeps, Pushes, IsDue, IsRepeated, IsPushRefused, HeaderKind, Scalar, Run, Part, Nested, Member, Frame, Collector, EventError, BeginWithText, AllZip-long}
 use Rattle.jsonb_doc.specs.Events as events
-use Rattle.jsonb_doc.specs.Events.{Level, State, root, array_of, object_of, takes_value, whole}
-use Rattle.jsonb_doc.specs.Private.EventParts.{IsPart, AreElements, AreMembers, HoldParts}
-use Rattle.jsonb_doc.specs.Private.Unique.{has_lower_key, unique, as_pair}
-use Rattle.jsonb_doc.specs.Private.Collecting.{insert_all, appended, EndsAs, Ends, TakesTree, LeadsTo, IsMemberOf, HoldsFrame, HoldsState, WaitsFor, AreAround, Keeps, Pushes, IsDue, IsRepeated, IsPushRefused}
-use Rattle.jsonb_doc.specs.declared.layout.HeaderKind.{HeaderKind}
-use Rattle.jsonb_doc.specs.declared.layout.HeaderKind.TheVariants.{Scalar, Object, Array}
-use Rattle.jsonb_doc.specs.declared.event_list.collecting.Run.{Run}
-use Rattle.jsonb_doc.specs.declared.event_list.collecting.Part.{Part}
-use Rattle.jsonb_doc.specs.declared.event_list.collecting.Part.TheVariants.{Nested}
-use Rattle.jsonb_doc.specs.declared.event_list.collecting.Member.{Member}
-use Rattle.jsonb_doc.specs.declared.event_list.collecting.Frame.{Frame}
-use Rattle.jsonb_doc.specs.declared.event_list.collecting.Collector.{Collector}
+use Rattle.jsonb_doc.specs.Private.EventParts.{AreMembers}
+use Rattle.jsonb_doc.specs.declared.layout.HeaderKind.TheVariants.{Object, Array}
 use Rattle.jsonb_doc.proofs.TreeLists.{keys-pairs_of}
 use Rattle.jsonb_doc.proofs.EventPartLemmas.{part_stays, last_run}
 use Rattle.jsonb_doc.proofs.UniqueLemmas.{all_rise, sorted_keys, unique_inserted}
-use Rattle.jsonb_doc.specs.declared.event_error.EventError.{EventError}
-use Rattle.jsonb_doc.specs.EventList.{BeginWithText}
 use Rattle.jsonb_doc.proofs.Basics.{zip_along, zip_more}
-use Rattle.std.proofs.lemmas.Slice.Zip.{AllZip-long}
 
 -- ---- more members after those of containers that have ended
 

@@ -1,21 +1,9 @@
 -- Containers, by their headers.
-use Rattle.std.proofs.Common.{◌≡◌, ◌≢◌, ℕ, suc, ◌+◌, ◌*◌, ◌^◌, ◌≤◌, List, [], ◌∷◌, ◌++◌, length, take, drop, refl, sym, ap, ◌∙◌, arith, true, false, ◌↔◌, ◌⊎◌, inl, inr}
-use Rattle.std.proofs.lemmas.List.{length-append, take_at, drop_at, append-nil}
-use Rattle.jsonb_doc.specs.Tree.{Tree, boolean, array, object, Trees, no_trees, tree, Pairs, no_pairs, pair, count, keys, values}
-use Rattle.jsonb_doc.specs.Payload.{NumberReader, Form, number_reader}
-use Rattle.jsonb_doc.specs.Private.Containers.{Holds, HasPairParts, IsLoneEntry, IsCut}
-use Rattle.jsonb_doc.specs.Private.Lengths.{HoldKeys}
-use Rattle.jsonb_doc.specs.Kinds.{kind_number}
-use Rattle.jsonb_doc.specs.Private.Headers.{header_number}
-use Rattle.jsonb_doc.specs.declared.layout.HeaderKind.{HeaderKind}
+use Rattle.jsonb_doc.proofs.Common.{◌≡◌, ◌≢◌, ℕ, suc, ◌+◌, ◌*◌, ◌^◌, ◌≤◌, List, [], ◌∷◌, ◌++◌, length, take, drop, refl, sym, ap, ◌∙◌, arith, true, false, ◌↔◌, ◌⊎◌, inl, inr, length-append, take_at, drop_at, append-nil, Tree, boolean, array, object, Trees, no_trees, tree, Pairs, no_pairs, pair, count, keys, values, NumberReader, Form, number_reader, Holds, HasPairParts, IsLoneEntry, IsCut, HoldKeys, kind_number, header_number, HeaderKind, StoredEntry, ArrayParts, ObjectParts, Array, Object, Decodes, HeadedBy, BeginWith, entry_word, AreMembers, AreKeys, key_words, key_bytes, IsContent, AreEntries, AreValues, IsDocument, HasContent, HasEntries, HasDocument, HasKeys}
 use Rattle.jsonb_doc.specs.declared.layout.HeaderKind.TheVariants as header
-use Rattle.jsonb_doc.specs.declared.entry_iter.StoredEntry.{StoredEntry}
-use Rattle.jsonb_doc.specs.declared.container.ArrayParts.{ArrayParts}
-use Rattle.jsonb_doc.specs.declared.container.ObjectParts.{ObjectParts}
 use Rattle.jsonb_doc.specs.declared.container.Container.{Container}
-use Rattle.jsonb_doc.specs.declared.container.Container.TheVariants.{Scalar, Array, Object}
-use Rattle.jsonb_doc.specs.Format.{Decodes, HeadedBy, BeginWith, entry_word, IsContainer as FormatContainer, AreMembers, AreKeys, key_words, key_bytes, IsContent, AreEntries, AreValues, IsDocument}
-use Rattle.jsonb_doc.specs.Private.Checking.{HasContent, HasEntries, HasDocument, HasKeys}
+use Rattle.jsonb_doc.specs.declared.container.Container.TheVariants.{Scalar}
+use Rattle.jsonb_doc.specs.Format.{IsContainer as FormatContainer}
 use Rattle.jsonb_doc.proofs.WordLemmas.{word_cancel, append_cancel}
 use Rattle.jsonb_doc.proofs.Entries.{BeginWith-unique}
 use Rattle.jsonb_doc.proofs.KeysRead.{begin_key}

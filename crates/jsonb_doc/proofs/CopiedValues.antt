@@ -1,21 +1,7 @@
 -- Values that are copied part by part.
-use Rattle.std.proofs.Common.{◌≡◌, ℕ, ◌+◌, ◌*◌, List, [], ◌∷◌, ◌++◌, Result, Ok, Err, String, Global, string_bytes, string_cmp, refl, sym, ap, subst, ◌∙◌, append_assoc, append-nil}
-use Rattle.std.specs.Prelude.{reverse, IfOk}
-use Rattle.std.specs.declared.alloc.AllocError.{AllocError}
-use Rattle.std.specs.BTreeMap.{insert_entry}
-use Rattle.std.specs.List.Sorted.{IsStrictlySortedBy}
-use Rattle.std.specs.Map.{keys_of}
-use Rattle.std.proofs.lemmas.List.{map-append, reverse-append}
+use Rattle.jsonb_doc.proofs.Common.{◌≡◌, ℕ, ◌+◌, ◌*◌, List, [], ◌∷◌, ◌++◌, Result, Ok, Err, String, Global, string_bytes, string_cmp, refl, sym, ap, subst, ◌∙◌, append_assoc, reverse, IfOk, AllocError, insert_entry, IsStrictlySortedBy, keys_of, map-append, reverse-append, Tree, insert_pair, tree_seen, trees_seen, members_seen, insert_pairs, with_part, filled_tree, left_parts, Number, Value, Open, Filled}
+use Rattle.std.proofs.Common.{append-nil}
 use Rattle.jsonb_doc.specs.Number as spec
-use Rattle.jsonb_doc.specs.Tree.{Tree}
-use Rattle.jsonb_doc.specs.ObjectBuilder.{insert_pair}
-use Rattle.jsonb_doc.specs.Value.{tree_seen}
-use Rattle.jsonb_doc.specs.Private.Values.{trees_seen, members_seen}
-use Rattle.jsonb_doc.specs.Private.Copying.{insert_pairs, with_part, filled_tree, left_parts}
-use Rattle.jsonb_doc.specs.declared.number.Number.{Number}
-use Rattle.jsonb_doc.specs.declared.value.Value.{Value}
-use Rattle.jsonb_doc.specs.declared.value.copy.Open.{Open}
-use Rattle.jsonb_doc.specs.declared.value.copy.Filled.{Filled}
 use Rattle.jsonb_doc.proofs.ValueTrees.{Entry, members_seen-insert_entry, insert_last}
 
 -- what these containers, the innermost first, have left to be copied

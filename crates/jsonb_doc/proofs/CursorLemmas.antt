@@ -1,14 +1,5 @@
 -- Entries as they are stored: the first one, and the first `n` of them.
-use Rattle.std.proofs.Common.{◌≡◌, ◌≢◌, ℕ, zero, suc, min, ◌*◌, ◌-◌, List, [], ◌∷◌, ◌++◌, length, take, drop, Some, refl, sym, ap, subst, ◌∙◌, arith, append_assoc, ◌≤◌}
-use Rattle.std.proofs.lemmas.List.{length-append, take_at, drop_at, take_all, drop_all}
-use Rattle.jsonb_doc.specs.Tree.{Tree, trees_of}
-use Rattle.jsonb_doc.specs.Payload.{NumberReader, Form, number_reader}
-use Rattle.jsonb_doc.specs.Format.{AreEntries, BeginWith, entry_word}
-use Rattle.jsonb_doc.specs.Kinds.{kind_number}
-use Rattle.jsonb_doc.specs.declared.cursor.Entries.{Entries}
-use Rattle.jsonb_doc.specs.declared.entry_iter.StoredEntry.{StoredEntry}
-use Rattle.jsonb_doc.specs.Private.Cursor.{HoldTrees, TakesFirst}
-use Rattle.jsonb_doc.specs.Private.Lengths.{StandBefore}
+use Rattle.jsonb_doc.proofs.Common.{◌≡◌, ◌≢◌, ℕ, zero, suc, min, ◌*◌, ◌-◌, List, [], ◌∷◌, ◌++◌, length, take, drop, Some, refl, sym, ap, subst, ◌∙◌, arith, append_assoc, ◌≤◌, length-append, take_at, drop_at, take_all, drop_all, Tree, trees_of, NumberReader, Form, number_reader, AreEntries, BeginWith, entry_word, kind_number, Entries, StoredEntry, HoldTrees, TakesFirst, StandBefore}
 use Rattle.jsonb_doc.proofs.Entries.{BeginWith-unique}
 use Rattle.jsonb_doc.proofs.Containers.{length-words}
 use Rattle.jsonb_doc.proofs.TreeLists.{count-trees_of}

@@ -1,10 +1,5 @@
 -- The tree that bytes decode to fits.
-use Rattle.std.proofs.Common.{◌≡◌, ℕ, ◌^◌, ◌<◌, ◌≤◌, List, [], ◌∷◌, ◌++◌, length, ap, arith, true, inl, inr}
-use Rattle.jsonb_doc.specs.Bytes.{AreBytes}
-use Rattle.jsonb_doc.specs.Tree.{Tree, null, boolean, number, text, extension, array, object, Trees, no_trees, tree, Pairs, no_pairs, pair, count, keys}
-use Rattle.jsonb_doc.specs.Payload.{Form, canonical, number_of}
-use Rattle.jsonb_doc.specs.Format.{header, HeadedBy, AreKeys, key_bytes, IsContent, AreEntries, AreValues, IsDocument, Decodes}
-use Rattle.jsonb_doc.specs.Limits.{content_size, elements_size, values_size, IsInRange, AreInRange, ValuesAreInRange, HasShortParts, HasShortElements, HasShortValues, AreShortKeys, IsWithinLimits, Fits}
+use Rattle.jsonb_doc.proofs.Common.{◌≡◌, ℕ, ◌^◌, ◌<◌, ◌≤◌, List, [], ◌∷◌, ◌++◌, length, ap, arith, true, inl, inr, AreBytes, Tree, null, boolean, number, text, extension, array, object, Trees, no_trees, tree, Pairs, no_pairs, pair, count, keys, Form, canonical, number_of, header, HeadedBy, AreKeys, key_bytes, IsContent, AreEntries, AreValues, IsDocument, Decodes, content_size, elements_size, values_size, IsInRange, AreInRange, ValuesAreInRange, HasShortParts, HasShortElements, HasShortValues, AreShortKeys, IsWithinLimits, Fits}
 use Rattle.jsonb_doc.proofs.CanonicalLemmas.{in_any}
 use Rattle.jsonb_doc.proofs.Sizes.{length-array, length-object, length-contents}
 use Rattle.jsonb_doc.proofs.PayloadsRead.{AreBytes-left, AreBytes-right, number_within}

@@ -1,32 +1,8 @@
 -- Iterators of a document, and the values decoded from what they yielded.
-use Rattle.std.proofs.Common.{◌≡◌, ℕ, List, [], ◌∷◌, ◌++◌, Some, None, Result, Ok, Err, String, Global, Less, Greater, string_bytes, string_cmp, nat_cmp, refl, sym, ap, subst, ◌∙◌, append_assoc}
-use Rattle.std.specs.Prelude.{IfOk}
-use Rattle.std.specs.Borrow.{Bor}
-use Rattle.std.specs.BTreeMap.{insert_entry}
-use Rattle.std.specs.Ordering.{ordering_reverse}
-use Rattle.std.specs.Cmp.Lexicographic.{slice_cmp}
-use Rattle.std.proofs.lemmas.Cmp.{nat_list_cmp_total}
-use Rattle.std.proofs.lemmas.List.{map-append}
+use Rattle.jsonb_doc.proofs.Common.{◌≡◌, ℕ, List, [], ◌∷◌, ◌++◌, Some, None, Result, Ok, Err, String, Global, Less, Greater, string_bytes, string_cmp, nat_cmp, refl, sym, ap, subst, ◌∙◌, append_assoc, IfOk, Bor, insert_entry, ordering_reverse, slice_cmp, nat_list_cmp_total, map-append, Tree, Trees, no_trees, tree, Pairs, no_pairs, pair, elements, members, keys, trees_of, pairs_of, Form, AreKeys, IsBelowFirst, StandsFor, IsNormal, TakesElement, HasElementsLeft, HasPairsLeft, TakesPair, insert_pair, number_view, tree_seen, trees_seen, members_seen, KeepsNormal, SeesItem, Item, ElementIter, PairIter, Error, Number, Value}
 use Rattle.std.proofs.Common.{append-nil}
 use Rattle.jsonb_doc.specs.Number as spec
-use Rattle.jsonb_doc.specs.Tree.{Tree, Trees, no_trees, tree, Pairs, no_pairs, pair, elements, members, keys, trees_of, pairs_of}
-use Rattle.jsonb_doc.specs.Payload.{Form}
-use Rattle.jsonb_doc.specs.Format.{AreKeys, IsBelowFirst}
-use Rattle.jsonb_doc.specs.Item.{StandsFor, IsNormal}
-use Rattle.jsonb_doc.specs.Elements.{TakesElement}
-use Rattle.jsonb_doc.specs.Representation.Iterators.{HasElementsLeft, HasPairsLeft}
-use Rattle.jsonb_doc.specs.ObjectPairs.{TakesPair}
-use Rattle.jsonb_doc.specs.ObjectBuilder.{insert_pair}
-use Rattle.jsonb_doc.specs.View.{number_view}
-use Rattle.jsonb_doc.specs.Value.{tree_seen}
-use Rattle.jsonb_doc.specs.Private.Values.{trees_seen, members_seen, KeepsNormal, SeesItem}
-use Rattle.jsonb_doc.specs.declared.item.Item.{Item}
 use Rattle.jsonb_doc.specs.declared.item.Item.TheVariants as item
-use Rattle.jsonb_doc.specs.declared.element_iter.ElementIter.{ElementIter}
-use Rattle.jsonb_doc.specs.declared.pair_iter.PairIter.{PairIter}
-use Rattle.jsonb_doc.specs.declared.error.Error.{Error}
-use Rattle.jsonb_doc.specs.declared.number.Number.{Number}
-use Rattle.jsonb_doc.specs.declared.value.Value.{Value}
 use Rattle.jsonb_doc.proofs.ValueTrees.{Entry, members_seen-insert_entry}
 use Rattle.jsonb_doc.proofs.TreeLists.{trees_of-elements, pairs_of-members}
 

@@ -1,15 +1,6 @@
 -- The depth of the items of a document, by its parts.
-use Rattle.std.proofs.Common.{◌≡◌, ◌≢◌, ℕ, ◌+◌, suc, max, List, Option, Some, None, refl, rules, arith, inl, ap}
-use Rattle.std.specs.Ordering.{ord_max, nat_cmp}
-use Rattle.jsonb_doc.specs.Tree.{Tree, array, object, Trees, no_trees, tree, Pairs, no_pairs, pair, values}
-use Rattle.jsonb_doc.specs.Payload.{NumberReader, Form, number_reader}
-use Rattle.jsonb_doc.specs.Format.{BeginWith, Decodes, IsContent, AreEntries}
-use Rattle.jsonb_doc.specs.Depth.{deepest, deepest_of_trees, deepest_of_pairs}
-use Rattle.jsonb_doc.specs.Private.Containers.{Holds}
-use Rattle.jsonb_doc.specs.Private.Depths.{parts_of, LiesBelow, AreDeep}
-use Rattle.jsonb_doc.specs.declared.container.ArrayParts.{ArrayParts}
-use Rattle.jsonb_doc.specs.declared.container.ObjectParts.{ObjectParts}
-use Rattle.jsonb_doc.specs.declared.container.Container.TheVariants.{Array, Object}
+use Rattle.jsonb_doc.proofs.Common.{◌≡◌, ◌≢◌, ℕ, ◌+◌, suc, max, List, Option, Some, None, refl, rules, arith, inl, ap, ord_max, Tree, array, object, Trees, no_trees, tree, Pairs, no_pairs, pair, values, NumberReader, Form, number_reader, BeginWith, Decodes, IsContent, AreEntries, deepest, deepest_of_trees, deepest_of_pairs, Holds, parts_of, LiesBelow, AreDeep, ArrayParts, ObjectParts, Array, Object}
+use Rattle.std.specs.Ordering.{nat_cmp}
 use Rattle.jsonb_doc.proofs.Containers.{entries_of}
 use Rattle.jsonb_doc.proofs.Entries.{AreEntries-first}
 use Rattle.jsonb_doc.proofs.PairsLemmas.{SkipsKeys, HoldsPairs-values}

@@ -1,14 +1,5 @@
 -- The iterator over elements and its first item.
-use Rattle.std.proofs.Common.{◌≡◌, ◌≢◌, ℕ, List, Option, Some}
-use Rattle.jsonb_doc.specs.Tree.{Tree, Trees, array, trees_in}
-use Rattle.jsonb_doc.specs.Payload.{Form, number_reader}
-use Rattle.jsonb_doc.specs.Format.{Decodes}
-use Rattle.jsonb_doc.specs.Representation.Iterators.{HasElementsLeft}
-use Rattle.jsonb_doc.specs.Answer.{SameOption}
-use Rattle.jsonb_doc.specs.Private.Containers.{IsCut, Holds}
-use Rattle.jsonb_doc.specs.declared.container.ArrayParts.{ArrayParts}
-use Rattle.jsonb_doc.specs.declared.container.Container.TheVariants.{Array}
-use Rattle.jsonb_doc.specs.declared.element_iter.ElementIter.{ElementIter}
+use Rattle.jsonb_doc.proofs.Common.{◌≡◌, ◌≢◌, ℕ, List, Option, Some, Tree, Trees, array, trees_in, Form, number_reader, Decodes, HasElementsLeft, SameOption, IsCut, Holds, ArrayParts, Array, ElementIter}
 use Rattle.jsonb_doc.proofs.Containers.{Decodes-array, Holds-elements}
 
 -- the iterator of a tree's elements

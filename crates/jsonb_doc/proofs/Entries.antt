@@ -1,15 +1,7 @@
 -- Entries are split into the first one and the others, and joined again.
-use Rattle.std.specs.Option.{option_and_then}
-use Rattle.std.proofs.Common.{◌≡◌, ℕ, ◌+◌, ◌*◌, ◌^◌, ◌<◌, ◌≤◌, List, [], length, refl, sym, ap, ◌∙◌, arith, Option, Some, None, Bool, true, false, if◌then◌else◌, ◌↔◌, inl, inr}
-use Rattle.std.proofs.lemmas.List.{length-append}
+use Rattle.jsonb_doc.proofs.Common.{option_and_then, ◌≡◌, ℕ, ◌+◌, ◌*◌, ◌^◌, ◌<◌, ◌≤◌, List, [], length, refl, sym, ap, ◌∙◌, arith, Option, Some, None, Bool, true, false, if◌then◌else◌, ◌↔◌, inl, inr, length-append, Tree, null, boolean, number, text, extension, array, object, Trees, no_trees, tree, Pairs, no_pairs, pair, count, keys, NumberReader, Form, any, canonical, number_reader, number_payload, number_of, number_or_unsupported, bytes_eq, BeginWith, HasFirstEntry, IsContainer, AreMembers, array_header, object_header, scalar_header, IsDocument, IsContent, AreEntries, AreValues, HasContent, HasEntries}
 use Rattle.jsonb_doc.specs.Number.{Number}
-use Rattle.jsonb_doc.specs.Tree.{Tree, null, boolean, number, text, extension, array, object, Trees, no_trees, tree, Pairs, no_pairs, pair, count, keys}
-use Rattle.jsonb_doc.specs.Payload.{NumberReader, Form, any, canonical, number_reader, number_payload, number_of}
-use Rattle.jsonb_doc.specs.AnyBytes.Unsupported.{number_or_unsupported}
-use Rattle.std.specs.Str.{bytes_eq}
 use Rattle.jsonb_doc.proofs.WordLemmas.{bytes_eq-true, bytes_eq-same}
-use Rattle.jsonb_doc.specs.Format.{BeginWith, HasFirstEntry, IsContainer, AreMembers, array_header, object_header, scalar_header, IsDocument, IsContent, AreEntries, AreValues}
-use Rattle.jsonb_doc.specs.Private.Checking.{HasContent, HasEntries}
 use Rattle.jsonb_doc.proofs.WordLemmas.{word_cancel, append_cancel}
 
 pub BeginWith-long : (words contents : List ℕ) (kind : ℕ) (content ws cs : List ℕ) → BeginWith words contents kind content ws cs → 4 ≤ length words

@@ -1,10 +1,6 @@
 -- Entries as new documents.
-use Rattle.std.proofs.Common.{◌≡◌, ◌≢◌, ℕ, zero, suc, ◌-◌, ◌<◌, ◌≤◌, ◌^◌, List, [], ◌∷◌, ◌++◌, length, take, drop, refl, sym, ap, ◌∙◌, arith, append-nil, inr}
-use Rattle.std.specs.Prelude.{slice_range}
-use Rattle.std.proofs.lemmas.List.{take-take, take_rest}
-use Rattle.jsonb_doc.specs.Tree.{Tree}
-use Rattle.jsonb_doc.specs.Payload.{NumberReader}
-use Rattle.jsonb_doc.specs.Format.{IsContent, IsDocument, header, scalar_header, entry_word}
+use Rattle.jsonb_doc.proofs.Common.{◌≡◌, ◌≢◌, ℕ, zero, suc, ◌-◌, ◌<◌, ◌≤◌, ◌^◌, List, [], ◌∷◌, ◌++◌, length, take, drop, refl, sym, ap, ◌∙◌, arith, inr, slice_range, take-take, take_rest, Tree, NumberReader, IsContent, IsDocument, header, scalar_header, entry_word}
+use Rattle.std.proofs.Common.{append-nil}
 
 -- an entry that is not a container, as a document
 pub entry_decodes : (number_at : NumberReader) (t : Tree) (kind : ℕ) (content : List ℕ) → kind < 8 → kind ≢ 5 → length content < 2 ^ 28

@@ -1,12 +1,5 @@
 -- Bytes are equal if the words at both their ends are, which overlap.
-use Rattle.std.proofs.Common.{◌≡◌, ℕ, zero, suc, ◌-◌, ◌*◌, ◌<◌, ◌≤◌, List, [], ◌∷◌, ◌++◌, length, length-drop, take, drop, get_or, refl, sym, ap, ◌∙◌, arith, Option, Some, None, Bool, true, false, nat_eq, IsTrue}
-use Rattle.std.specs.Prelude.{◌&&◌}
-use Rattle.std.specs.Int.{Width, w32, w64, from_be_bytes, to_be_bytes}
-use Rattle.std.specs.Option.{option_eq}
-use Rattle.std.proofs.lemmas.Bool.{eqb-true, eq-eqb}
-use Rattle.std.proofs.lemmas.List.{take-take, take-append-drop, length-take-le}
-use Rattle.std.proofs.lemmas.Nat.{be_bytes_4, be_bytes_8}
-use Rattle.jsonb_doc.specs.Private.EqualBytes.{IsWordOf, AreEnds}
+use Rattle.jsonb_doc.proofs.Common.{◌≡◌, ℕ, zero, suc, ◌-◌, ◌*◌, ◌<◌, ◌≤◌, List, [], ◌∷◌, ◌++◌, length, length-drop, take, drop, get_or, refl, sym, ap, ◌∙◌, arith, Option, Some, None, Bool, true, false, nat_eq, IsTrue, ◌&&◌, Width, w32, w64, from_be_bytes, to_be_bytes, option_eq, eqb-true, eq-eqb, take-take, take-append-drop, length-take-le, be_bytes_4, be_bytes_8, IsWordOf, AreEnds}
 
 -- ---- the words at the ends
 

@@ -1,15 +1,7 @@
 -- Equality of values part by part.
-use Rattle.std.proofs.Common.{◌≡◌, ℕ, zero, suc, ◌*◌, ◌^◌, ◌≤◌, ℤ, pos, negsuc, ◌*ℤ◌, refl, sym, ap, ◌∙◌, arith, Equal}
-use Rattle.std.specs.Ordering.{eq_by_cmp, is_eq, int_cmp, int_eq}
-use native.Mathlib.Nat.{one-le-pow}
-use Rattle.std.proofs.lemmas.Cmp.{tied_itself, alike_right}
-use Rattle.jsonb_doc.specs.Number.{Variant, int64, uint64, decimal64, number_cmp, number_from, Number as Number'}
-use Rattle.jsonb_doc.specs.Proofs.NumberOrder.{number_cmp_total, int_cmp_scaled}
-use Rattle.jsonb_doc.specs.Private.Short.{short_value, short_parts}
-use Rattle.jsonb_doc.specs.View.{number_parts, number_view}
-use Rattle.jsonb_doc.specs.declared.number.Number.{Number}
-use Rattle.jsonb_doc.specs.declared.short_number.ShortNumber.{ShortNumber}
-use Rattle.jsonb_doc.specs.declared.short_number.ShortNumber.TheVariants.{Unsigned, Signed, Decimal}
+use Rattle.jsonb_doc.proofs.Common.{◌≡◌, ℕ, zero, suc, ◌*◌, ◌^◌, ◌≤◌, ℤ, pos, negsuc, ◌*ℤ◌, refl, sym, ap, ◌∙◌, arith, Equal, eq_by_cmp, is_eq, int_eq, one-le-pow, tied_itself, alike_right, Variant, int64, uint64, decimal64, number_cmp, number_from, number_cmp_total, int_cmp_scaled, short_value, short_parts, number_parts, number_view, Number, ShortNumber, Unsigned, Signed, Decimal}
+use Rattle.std.specs.Ordering.{int_cmp}
+use Rattle.jsonb_doc.specs.Number.{Number as Number'}
 
 -- a number of these parts has their value, for each variant of zero
 same_value : (variant : Variant) (whole : ℤ) (scale : ℕ)

@@ -1,25 +1,7 @@
 -- What the builder of documents holds after each event.
-use Rattle.std.proofs.Common.{◌≡◌, ℕ, ◌<◌, ◌≤◌, ◌^◌, List, [], ◌∷◌, ◌++◌, length, refl, ap, ◌∙◌, arith, Bool, true, false, not, Vec, BTreeMap, Option, Some, None, Ordering, Less, Equal, Greater, Global, string_bytes, string_cmp, nat_cmp, IsTrue, String}
-use Rattle.std.specs.Prelude.{is_some, is_none, IsUtf8, Result, Ok, Err, IsErrAnd, OnErr, MatchResult}
-use Rattle.std.specs.List.{AllZip}
-use Rattle.std.specs.Map.{keys_of}
-use Rattle.std.specs.BTreeMap.{insert_entry}
-use Rattle.std.specs.Ordering.{match_ordering}
-use Rattle.std.specs.Cmp.Lexicographic.{slice_cmp}
-use Rattle.std.specs.Str.{bytes_eq}
-use Rattle.std.proofs.lemmas.List.{length-append}
-use Rattle.jsonb_doc.specs.Tree.{Tree}
-use Rattle.jsonb_doc.specs.Payload.{Form}
-use Rattle.jsonb_doc.specs.Format.{Decodes}
-use Rattle.jsonb_doc.specs.Limits.{content_size, IsTooLarge}
-use Rattle.jsonb_doc.specs.ObjectBuilder.{has_key, insert_pair}
-use Rattle.jsonb_doc.specs.Representation.Pieces.{bytes_at}
-use Rattle.jsonb_doc.specs.Events.{Level, root, array_of, object_of, takes_value, filled, so_far}
-use Rattle.jsonb_doc.specs.Representation.DocumentBuilder.{IsPieceOf, IsEntryOf, AreMembersOf, AreSortedTexts, HoldsLevel, HoldsOuter}
-use Rattle.jsonb_doc.specs.declared.pieces.Piece.{Piece}
-use Rattle.jsonb_doc.specs.declared.piece_entry.PieceEntry.{PieceEntry}
+use Rattle.jsonb_doc.proofs.Common.{◌≡◌, ℕ, ◌<◌, ◌≤◌, ◌^◌, List, [], ◌∷◌, ◌++◌, length, refl, ap, ◌∙◌, arith, Bool, true, false, not, Vec, BTreeMap, Option, Some, None, Ordering, Less, Equal, Greater, Global, string_bytes, string_cmp, nat_cmp, IsTrue, String, is_some, is_none, IsUtf8, Result, Ok, Err, IsErrAnd, OnErr, MatchResult, AllZip, keys_of, insert_entry, match_ordering, slice_cmp, bytes_eq, length-append, Tree, Form, Decodes, content_size, IsTooLarge, has_key, insert_pair, bytes_at, Level, root, array_of, object_of, takes_value, filled, so_far, IsPieceOf, IsEntryOf, AreMembersOf, AreSortedTexts, HoldsLevel, HoldsOuter, Piece, PieceEntry, Root}
 use Rattle.jsonb_doc.specs.declared.document_builder.frame.Frame.{Frame}
-use Rattle.jsonb_doc.specs.declared.document_builder.frame.Frame.TheVariants.{Root, Array, Object}
+use Rattle.jsonb_doc.specs.declared.document_builder.frame.Frame.TheVariants.{Array, Object}
 use Rattle.jsonb_doc.proofs.ArrayLemmas.{last_is_short}
 use Rattle.jsonb_doc.proofs.ObjectLemmas.{long_value, not_first, not_equal, above, below_inserted}
 use Rattle.jsonb_doc.proofs.Sizes.{size_within}

@@ -1,20 +1,6 @@
 -- The pairs of an open object in the order of the events, and sorted: both are the same states.
-use Rattle.std.proofs.Common.{◌≡◌, ℕ, ◌+◌, ◌≤◌, List, [], ◌∷◌, ◌++◌, length, map, refl, sym, ap, subst, ◌∙◌, arith, Bool, true, false, Some, None, Option, nat_cmp, IsTrue}
-use Rattle.std.specs.Prelude.{Result, Ok, Err, IsOkAnd, ⊤, if◌then◌else◌, unwrap_or}
-use Rattle.std.specs.Cmp.Lexicographic.{slice_cmp}
-use Rattle.std.specs.List.Sorted.{IsStrictlySortedBy}
-use Rattle.std.specs.Map.{keys_of}
-use Rattle.std.proofs.lemmas.Bool.{true≢false}
-use Rattle.jsonb_doc.specs.Tree.{Tree}
-use Rattle.jsonb_doc.specs.ObjectBuilder.{has_key, insert_pair}
-use Rattle.jsonb_doc.specs.Events.{Level, root, array_of, object_of, State, Event, array_begins, object_begins, key_is, value_is, ends, no_events, takes_value, filled, container, whole, within, with_inner, with_key, with_value, closed}
+use Rattle.jsonb_doc.proofs.Common.{◌≡◌, ℕ, ◌+◌, ◌≤◌, List, [], ◌∷◌, ◌++◌, length, map, refl, sym, ap, subst, ◌∙◌, arith, Bool, true, false, Some, None, Option, nat_cmp, IsTrue, Result, Ok, Err, IsOkAnd, ⊤, if◌then◌else◌, unwrap_or, slice_cmp, IsStrictlySortedBy, keys_of, true≢false, Tree, has_key, insert_pair, Level, root, array_of, object_of, State, Event, array_begins, object_begins, key_is, value_is, ends, no_events, takes_value, filled, container, whole, within, with_inner, with_key, with_value, closed, Reads, AreEvents, with_key_again, next_of, AreEventsOf, insert_all, appended, EndsAs, TakesTree, Opens, LeadsTo, Happen, EventError, OutOfOrder, Failed, ObjectDuplicateKey, TextEvent}
 use Rattle.jsonb_doc.specs.EventList as lists
-use Rattle.jsonb_doc.specs.EventList.{Reads, AreEvents, with_key_again, next_of, AreEventsOf}
-use Rattle.jsonb_doc.specs.Private.Collecting.{insert_all, appended, EndsAs, TakesTree, Opens, LeadsTo, Happen}
-use Rattle.jsonb_doc.specs.declared.event_error.EventError.{EventError}
-use Rattle.jsonb_doc.specs.declared.event_error.EventError.TheVariants.{OutOfOrder, Failed}
-use Rattle.jsonb_doc.specs.declared.error.Error.TheVariants.{ObjectDuplicateKey}
-use Rattle.jsonb_doc.specs.declared.text_event.TextEvent.{TextEvent}
 use Rattle.jsonb_doc.proofs.ObjectLemmas.{length-inserted}
 use Rattle.jsonb_doc.proofs.UniqueLemmas.{rise_inserted, none_rise, one_more}
 

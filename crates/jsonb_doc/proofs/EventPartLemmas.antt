@@ -1,29 +1,9 @@
 -- Members of containers in runs: what a run's container is, and what walks over runs are within.
-use Rattle.std.proofs.Common.{◌≡◌, ℕ, ◌+◌, ◌<◌, ◌≤◌, drop, List, [], ◌∷◌, ◌++◌, length, refl, sym, ap, subst, ◌∙◌, ◌^◌, inl, arith}
-use Rattle.std.specs.Prelude.{slice_range, reverse, Result, Ok, Err, MatchResult}
-use Rattle.std.specs.Map.{keys_of, values_of}
-use Rattle.std.proofs.lemmas.List.{length-append, take-append-le, drop_at}
-use Rattle.std.proofs.lemmas.Slice.{between_is, between_to_end}
-use Rattle.jsonb_doc.specs.Tree.{Tree, array, object, Trees, no_trees, tree, Pairs, no_pairs, pair, elements, members, keys}
-use Rattle.jsonb_doc.specs.Payload.{Form}
-use Rattle.jsonb_doc.specs.Answer.{IsOutOfMemory}
-use Rattle.jsonb_doc.specs.Private.Errors.{IsOutOfMemoryOrTooLarge}
-use Rattle.jsonb_doc.specs.declared.error.Error.{Error}
-use Rattle.jsonb_doc.specs.declared.rewriting.OpenContainer.{OpenContainer}
-use Rattle.jsonb_doc.specs.Private.Writer.{AreSortedKeys, Make}
-use Rattle.jsonb_doc.specs.Private.EventParts.{IsPart, AreElements, AreMembers, HoldParts, member_keys, keys_first}
-use Rattle.jsonb_doc.specs.declared.layout.HeaderKind.{HeaderKind}
+use Rattle.jsonb_doc.proofs.Common.{◌≡◌, ℕ, ◌+◌, ◌<◌, ◌≤◌, drop, List, [], ◌∷◌, ◌++◌, length, refl, sym, ap, subst, ◌∙◌, ◌^◌, inl, arith, slice_range, reverse, Result, Ok, Err, MatchResult, keys_of, values_of, length-append, take-append-le, drop_at, between_is, between_to_end, Tree, array, object, Trees, no_trees, tree, Pairs, no_pairs, pair, elements, members, keys, Form, IsOutOfMemory, IsOutOfMemoryOrTooLarge, Error, OpenContainer, AreSortedKeys, Make, IsPart, AreElements, HoldParts, keys_first, HeaderKind, Run, Part, Plain, Text, Nested, Member, Left, Outer, length-values_of, AllZip-long}
+use Rattle.jsonb_doc.specs.Private.EventParts.{AreMembers, member_keys}
 use Rattle.jsonb_doc.specs.declared.layout.HeaderKind.TheVariants.{Object, Array}
-use Rattle.jsonb_doc.specs.declared.event_list.collecting.Run.{Run}
-use Rattle.jsonb_doc.specs.declared.event_list.collecting.Part.{Part}
-use Rattle.jsonb_doc.specs.declared.event_list.collecting.Part.TheVariants.{Plain, Text, Nested}
-use Rattle.jsonb_doc.specs.declared.event_list.collecting.Member.{Member}
-use Rattle.jsonb_doc.specs.declared.event_list.writing.Left.{Left}
-use Rattle.jsonb_doc.specs.declared.event_list.writing.Outer.{Outer}
 use Rattle.jsonb_doc.proofs.Weights.{weight_of, weight-pos, weight_of_all, inner_weighs, falls_inward, falls_outward}
 use Rattle.jsonb_doc.proofs.TreeLists.{trees_of-elements, pairs_of-members, keys_of-members}
-use Rattle.std.proofs.lemmas.Map.Entries.{length-values_of}
-use Rattle.std.proofs.lemmas.Slice.Zip.{AllZip-long}
 
 -- ---- children as lists
 

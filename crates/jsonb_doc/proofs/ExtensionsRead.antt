@@ -1,11 +1,5 @@
 -- The payload of an extension value in range reads back.
-use Rattle.std.proofs.Common.{◌≡◌, ℕ, ◌<◌, ◌^◌, List, [], ◌++◌, refl, ap, ◌∙◌, arith, Some, ℤ, pos, negsuc, FitsSigned}
-use Rattle.std.proofs.lemmas.Int.{ints, to_z-of_z}
-use Rattle.std.specs.Int.{Width, w32, w64, w128, byte_len, cast_signed, cast_unsigned}
-use Rattle.byteorder.specs.Numbers.{big_number-reads_back}
-use Rattle.jsonb_doc.specs.Extension.{Extension, binary, date, timestamp, timestamp_tz, interval, FitsExtension}
-use Rattle.jsonb_doc.specs.Payload.{fixed, fixed_bytes, extension_payload}
-use Rattle.jsonb_doc.specs.Private.Payloads.{extension_of}
+use Rattle.jsonb_doc.proofs.Common.{◌≡◌, ℕ, ◌<◌, ◌^◌, List, [], ◌++◌, refl, ap, ◌∙◌, arith, Some, ℤ, pos, negsuc, FitsSigned, ints, to_z-of_z, Width, w32, w64, w128, byte_len, cast_signed, cast_unsigned, big_number-reads_back, Extension, binary, date, timestamp, timestamp_tz, interval, FitsExtension, fixed, fixed_bytes, extension_payload, extension_of}
 
 -- a field of a fixed width reads back
 small32 : (z : ℤ) → FitsSigned w32 z → cast_unsigned w32 z < 256 ^ 4

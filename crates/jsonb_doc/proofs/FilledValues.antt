@@ -1,22 +1,9 @@
 -- Values of containers that are filled part by part.
-use Rattle.std.proofs.Common.{◌≡◌, ℕ, suc, max, List, [], ◌∷◌, ◌++◌, Result, Ok, Err, String, Global, string_bytes, string_cmp, refl, sym, ap, subst, ◌∙◌, MatchResult}
-use Rattle.std.specs.Prelude.{IsOkAnd, reverse}
-use Rattle.std.specs.BTreeMap.{insert_entry}
-use Rattle.std.proofs.lemmas.List.{reverse-append}
+use Rattle.jsonb_doc.proofs.Common.{◌≡◌, ℕ, suc, max, List, [], ◌∷◌, ◌++◌, Result, Ok, Err, String, Global, string_bytes, string_cmp, refl, sym, ap, subst, ◌∙◌, MatchResult, IsOkAnd, reverse, insert_entry, reverse-append, Tree, array, object, Trees, tree, Pairs, pair, elements, members, keys, trees_of, pairs_of, Form, AreKeys, IsOutOfMemory, tree_seen, trees_seen, members_seen, open_room, IsWhole, FillsTo, MakesWhole, Error, Number, Value, Whole}
 use Rattle.jsonb_doc.specs.Number as spec
-use Rattle.jsonb_doc.specs.Tree.{Tree, array, object, Trees, tree, Pairs, pair, elements, members, keys, trees_of, pairs_of}
-use Rattle.jsonb_doc.specs.Payload.{Form}
-use Rattle.jsonb_doc.specs.Format.{AreKeys}
-use Rattle.jsonb_doc.specs.Answer.{IsOutOfMemory}
-use Rattle.jsonb_doc.specs.Value.{tree_seen}
-use Rattle.jsonb_doc.specs.Private.Values.{trees_seen, members_seen}
-use Rattle.jsonb_doc.specs.Private.Filling.{open_room, IsWhole, FillsTo, MakesWhole, LeadsTo}
-use Rattle.jsonb_doc.specs.declared.error.Error.{Error}
-use Rattle.jsonb_doc.specs.declared.number.Number.{Number}
-use Rattle.jsonb_doc.specs.declared.value.Value.{Value}
+use Rattle.jsonb_doc.specs.Private.Filling.{LeadsTo}
 use Rattle.jsonb_doc.specs.declared.value.decode.Open.{Open}
 use Rattle.jsonb_doc.specs.declared.value.decode.Filled.{Filled}
-use Rattle.jsonb_doc.specs.declared.value.decode.Filled.TheVariants.{Whole}
 use Rattle.jsonb_doc.proofs.ValueTrees.{Entry}
 use Rattle.jsonb_doc.proofs.DecodedValues.{elements_go_on, members_go_on}
 

@@ -1,14 +1,6 @@
 -- Rows that show the definitions of the format at work. The bytes are those of the format's description.
-use Rattle.std.proofs.Common.{◌≡◌, ℕ, ◌+◌, ◌*◌, ◌-◌, true, false, List, [], ◌∷◌, ◌++◌, map, refl, Some, None, ℤ, pos, negsuc, not, ◌==◌, codes}
-use Rattle.std.specs.Prelude.{if◌then◌else◌, nat_lt, filter}
-use Rattle.jsonb_doc.specs.Number.{Number, int64, uint64, decimal64, decimal128, zero_number}
-use Rattle.jsonb_doc.specs.Extension.{binary, date, timestamp, timestamp_tz, interval}
-use Rattle.jsonb_doc.specs.Tree.{Tree, null, boolean, number, text, extension, array, object, trees_of, pairs_of}
-use Rattle.jsonb_doc.specs.Payload.{canonical, number_reader, number_of}
-use Rattle.jsonb_doc.specs.Private.Payloads.{extension_of}
-use Rattle.jsonb_doc.specs.AnyBytes.Unsupported.{is_unsupported}
-use Rattle.jsonb_doc.specs.Private.Canonical.{document}
-use Rattle.jsonb_doc.specs.Depth.{deepest}
+use Rattle.jsonb_doc.proofs.Common.{◌≡◌, ℕ, ◌+◌, ◌*◌, ◌-◌, true, false, List, [], ◌∷◌, ◌++◌, map, refl, Some, None, ℤ, pos, negsuc, not, ◌==◌, codes, if◌then◌else◌, nat_lt, filter, int64, uint64, decimal64, decimal128, zero_number, binary, date, timestamp, timestamp_tz, interval, Tree, null, boolean, number, text, extension, array, object, trees_of, pairs_of, canonical, number_reader, number_of, extension_of, is_unsupported, document, deepest}
+use Rattle.jsonb_doc.specs.Number.{Number}
 use Rattle.jsonb_doc.proofs.Tables.{AreRows}
 
 -- ---- bytes in hexadecimal, which spaces may divide

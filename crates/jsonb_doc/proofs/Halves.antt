@@ -1,5 +1,5 @@
 -- How often a length can be halved.
-use Rattle.std.proofs.Common.{ℕ, zero, suc, ◌/◌, ◌<◌, ◌≤◌, ◌≡◌, refl, ap, arith}
+use Rattle.jsonb_doc.proofs.Common.{ℕ, zero, suc, ◌/◌, ◌<◌, ◌≤◌, ◌≡◌, refl, ap, arith}
 
 unfoldable pub halvings_within : ℕ → ℕ → ℕ
 halvings_within zero n = 0

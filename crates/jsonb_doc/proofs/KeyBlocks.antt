@@ -1,17 +1,7 @@
 -- Blocks of keys that are skipped, and the block that a name would be in.
-use Rattle.std.proofs.Common.{◌≡◌, ◌≢◌, ℕ, zero, suc, ◌+◌, ◌*◌, ◌<◌, ◌≤◌, List, [], ◌∷◌, ◌++◌, length, length-drop, take, drop, refl, sym, ap, ◌∙◌, arith, ◌⊎◌, inl, inr, Option, Some, None, Result, Ok, Err, append_assoc}
+use Rattle.jsonb_doc.proofs.Common.{◌≡◌, ◌≢◌, ℕ, zero, suc, ◌+◌, ◌*◌, ◌<◌, ◌≤◌, List, [], ◌∷◌, ◌++◌, length, length-drop, take, drop, refl, sym, ap, ◌∙◌, arith, ◌⊎◌, inl, inr, Option, Some, None, Result, Ok, Err, append_assoc, Bor, IsGetRangeResult, IsSomeAnd, IsOkAnd, ordering_reverse, slice_cmp, cases_lt, nat_list_cmp_total, drop_all, take-append-drop, length-append, AreKeys, IsBelowFirst, BeginWith, key_words, key_bytes, entry_word, StandBefore, HoldKeys, IsNoneOf, KeysLeft, FindsKey, Error}
 use Rattle.std.specs.declared.cmp.Ordering.TheVariants.{Less, Greater}
-use Rattle.std.specs.Borrow.{Bor}
-use Rattle.std.specs.Slice.{IsGetRangeResult}
-use Rattle.std.specs.Prelude.{IsSomeAnd, IsOkAnd}
-use Rattle.std.specs.Ordering.{nat_cmp, ordering_reverse}
-use Rattle.std.specs.Cmp.Lexicographic.{slice_cmp}
-use Rattle.std.proofs.lemmas.Bool.{cases_lt}
-use Rattle.std.proofs.lemmas.Cmp.{nat_list_cmp_total}
-use Rattle.std.proofs.lemmas.List.{drop_all, take-append-drop, length-append}
-use Rattle.jsonb_doc.specs.Format.{AreKeys, IsBelowFirst, BeginWith, key_words, key_bytes, entry_word}
-use Rattle.jsonb_doc.specs.Private.Lengths.{StandBefore, HoldKeys, IsNoneOf, KeysLeft, FindsKey}
-use Rattle.jsonb_doc.specs.declared.error.Error.{Error}
+use Rattle.std.specs.Ordering.{nat_cmp}
 use Rattle.jsonb_doc.proofs.KeysRead.{begin_key}
 use Rattle.jsonb_doc.proofs.Containers.{length-key_words}
 use Rattle.jsonb_doc.proofs.FieldLemmas.{first_key, KeysLeft-end}

@@ -1,9 +1,5 @@
 -- The keys of an object as entries of strings.
-use Rattle.std.proofs.Common.{◌≡◌, ℕ, ◌-◌, List, [], ◌∷◌, ◌++◌, length, take, refl, ap, ◌∙◌, arith}
-use Rattle.std.proofs.lemmas.List.{length-append, take_at}
-use Rattle.jsonb_doc.specs.Payload.{NumberReader}
-use Rattle.jsonb_doc.specs.Format.{AreKeys, AreEntries, key_words, key_bytes}
-use Rattle.jsonb_doc.specs.Private.Stored.{key_trees}
+use Rattle.jsonb_doc.proofs.Common.{◌≡◌, ℕ, ◌-◌, List, [], ◌∷◌, ◌++◌, length, take, refl, ap, ◌∙◌, arith, length-append, take_at, NumberReader, AreKeys, AreEntries, key_words, key_bytes, key_trees}
 
 pub key_entries : (number_at : NumberReader) (ks : List (List ℕ)) → AreKeys ks → AreEntries number_at (key_trees ks) (key_words ks) (key_bytes ks)
 key_entries number_at [] are = (refl, refl)

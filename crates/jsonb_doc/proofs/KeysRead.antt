@@ -1,9 +1,6 @@
 -- The keys of an object, read one after the other.
-use Rattle.std.proofs.Common.{◌≡◌, ℕ, ◌^◌, ◌<◌, List, [], ◌∷◌, ◌++◌, length, refl, sym, ap, ◌∙◌, arith, Option, Some, None, append_assoc}
-use Rattle.std.specs.Prelude.{⊤}
+use Rattle.jsonb_doc.proofs.Common.{◌≡◌, ℕ, ◌^◌, ◌<◌, List, [], ◌∷◌, ◌++◌, length, refl, sym, ap, ◌∙◌, arith, Option, Some, None, append_assoc, ⊤, BeginWith, AreKeys, IsBelowFirst, key_words, key_bytes, entry_word, HasKeys, IsAbove, IsNextKey}
 use Rattle.jsonb_doc.proofs.Entries.{BeginWith-long, BeginWith-unique}
-use Rattle.jsonb_doc.specs.Format.{BeginWith, AreKeys, IsBelowFirst, key_words, key_bytes, entry_word}
-use Rattle.jsonb_doc.specs.Private.Checking.{HasKeys, IsAbove, IsNextKey}
 
 -- the first of these keys may follow this key, if there are both
 abbrev pub Follow : Option (List ℕ) → List (List ℕ) → Type 0

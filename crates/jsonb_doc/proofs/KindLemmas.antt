@@ -1,15 +1,7 @@
 -- Types of entries and of headers, and what tests of them state about their numbers.
-use Rattle.std.proofs.Common.{◌≡◌, ◌≢◌, ℕ, ◌<◌, ◌≤◌, Bool, true, false, Option, Some, None, refl, sym, ◌∙◌, ap, ap₂, arith, nat_eq}
-use Rattle.std.specs.Prelude.{◌==◌, not, MatchOption, unwrap_or}
-use Rattle.std.proofs.lemmas.Bool.Decides.{nat_tests}
-use denote.Enum.Declared.{tag_of}
-use Rattle.jsonb_doc.specs.Kinds.{kind_number}
-use Rattle.jsonb_doc.specs.Private.Headers.{header_number}
-use Rattle.jsonb_doc.specs.declared.layout.EntryKind.{EntryKind}
-use Rattle.jsonb_doc.specs.declared.layout.EntryKind.TheVariants.{Null, Unknown}
-use Rattle.jsonb_doc.specs.declared.layout.HeaderKind.{HeaderKind}
-use Rattle.jsonb_doc.specs.declared.layout.HeaderKind.TheVariants.{Scalar, Array}
-use Rattle.jsonb_doc.specs.contracts.layout.EntryKind.{the_type}
+use Rattle.jsonb_doc.proofs.Common.{◌≡◌, ◌≢◌, ℕ, ◌<◌, ◌≤◌, Bool, true, false, Option, Some, None, refl, sym, ◌∙◌, ap, ap₂, arith, nat_eq, ◌==◌, not, MatchOption, unwrap_or, nat_tests, tag_of, kind_number, header_number, EntryKind, Unknown, HeaderKind, Scalar, the_type}
+use Rattle.jsonb_doc.specs.declared.layout.EntryKind.TheVariants.{Null}
+use Rattle.jsonb_doc.specs.declared.layout.HeaderKind.TheVariants.{Array}
 use Rattle.jsonb_doc.specs.contracts.layout.EntryKindPartialEq.TheImpl.{eq-value as kind_equal}
 use Rattle.jsonb_doc.specs.contracts.layout.HeaderKindPartialEq.TheImpl.{eq-value as header_equal}
 

@@ -1,16 +1,5 @@
 -- Contents passed over by the lengths in their words, and keys by their words.
-use Rattle.std.proofs.Common.{◌≡◌, ℕ, zero, suc, ◌+◌, ◌*◌, ◌/◌, ◌%◌, ◌^◌, ◌≤◌, List, [], ◌∷◌, ◌++◌, length, take, drop, map, sum, refl, sym, ap, ◌∙◌, arith, Option, Some, None, append_assoc}
-use Rattle.std.specs.Borrow.{Bor}
-use Rattle.std.specs.Slice.{IsGetRangeResult}
-use Rattle.std.proofs.lemmas.List.{length-append, drop_at, take-append-drop}
-use Rattle.std.proofs.lemmas.List.Sums.{sum_by-cons}
-use Rattle.std.proofs.lemmas.Slice.{between_to_end}
-use Rattle.std.specs.Prelude.{slice_range, IsSomeAnd, IfSome}
-use Rattle.std.specs.Int.{w32, from_be_bytes}
-use Rattle.std.proofs.lemmas.Nat.{from_be_bytes-to_be_bytes_4}
-use Rattle.std.specs.Simd.{first_chunks}
-use Rattle.jsonb_doc.specs.Format.{BeginWith, AreKeys, key_words, key_bytes}
-use Rattle.jsonb_doc.specs.Private.Lengths.{StandBefore, HoldKeys}
+use Rattle.jsonb_doc.proofs.Common.{◌≡◌, ℕ, zero, suc, ◌+◌, ◌*◌, ◌/◌, ◌%◌, ◌^◌, ◌≤◌, List, [], ◌∷◌, ◌++◌, length, take, drop, map, sum, refl, sym, ap, ◌∙◌, arith, Option, Some, None, append_assoc, Bor, IsGetRangeResult, length-append, drop_at, take-append-drop, sum_by-cons, between_to_end, slice_range, IsSomeAnd, IfSome, w32, from_be_bytes, from_be_bytes-to_be_bytes_4, first_chunks, BeginWith, AreKeys, key_words, key_bytes, StandBefore, HoldKeys}
 use Rattle.jsonb_doc.proofs.Entries.{BeginWith-long}
 use Rattle.jsonb_doc.proofs.KeysRead.{begin_key}
 

@@ -1,13 +1,7 @@
 -- The trees that exceed the limits if a child or a prefix of them does; keys of documents.
-use Rattle.std.specs.Prelude.{ℕ, ◌≤◌, List, [], ◌∷◌, ◌++◌}
-use Rattle.std.proofs.Common.{arith, true}
-use Rattle.jsonb_doc.specs.Tree.{Tree, boolean, array, object, Pairs, count, keys, members, trees_of}
-use Rattle.jsonb_doc.specs.Payload.{Form, number_reader}
-use Rattle.jsonb_doc.specs.Format.{AreKeys, Decodes}
-use Rattle.std.specs.Map.{keys_of}
+use Rattle.jsonb_doc.proofs.Common.{ℕ, ◌≤◌, List, [], ◌∷◌, ◌++◌, arith, true, Tree, boolean, array, object, Pairs, count, keys, members, trees_of, Form, number_reader, AreKeys, Decodes, keys_of, IsShort, HasShortParts, HasShortElements, IsWithinLimits, IsTooLarge}
 use Rattle.jsonb_doc.proofs.TreeLists.{keys_of-members}
 use Rattle.jsonb_doc.proofs.Containers.{object_document}
-use Rattle.jsonb_doc.specs.Limits.{IsShort, HasShortParts, HasShortElements, IsWithinLimits, IsTooLarge}
 
 fewer_trees : (ts us : List Tree) → count (trees_of ts) ≤ count (trees_of (ts ++ us))
 fewer_trees [] us = omega arith

@@ -1,22 +1,6 @@
 -- Which errors lists of events have.
-use Rattle.std.proofs.Common.{◌≡◌, ◌⊎◌, ℕ, suc, List, [], ◌∷◌, ◌++◌, length, refl, sym, ap, subst, ◌∙◌, Bool, true, false, Some, None, inl, inr}
-use Rattle.std.specs.Prelude.{Result, Ok, Err, take, if◌then◌else◌}
-use Rattle.std.proofs.lemmas.Bool.{true≢false}
-use Rattle.std.proofs.lemmas.List.{take_at}
-use Rattle.jsonb_doc.specs.Tree.{Tree}
-use Rattle.jsonb_doc.specs.Payload.{Form}
-use Rattle.jsonb_doc.specs.Limits.{IsTooLarge}
-use Rattle.jsonb_doc.specs.ObjectBuilder.{has_key}
-use Rattle.jsonb_doc.specs.Events.{Level, root, array_of, object_of, State, Event, array_begins, object_begins, key_is, value_is, ends, no_events, whole, with_inner, with_key}
+use Rattle.jsonb_doc.proofs.Common.{◌≡◌, ◌⊎◌, ℕ, suc, List, [], ◌∷◌, ◌++◌, length, refl, sym, ap, subst, ◌∙◌, Bool, true, false, Some, None, inl, inr, Result, Ok, Err, take, if◌then◌else◌, true≢false, take_at, Tree, Form, IsTooLarge, has_key, Level, root, array_of, object_of, State, Event, array_begins, object_begins, key_is, value_is, ends, no_events, whole, with_inner, with_key, Reads, AreEvents, with_key_again, next_of, AreEventsOf, HasDuplicateKey, FailsWith, LeadsTo, Happen, Refuses, IsDue, IsOutOfMemoryOrTooLarge, Error, OutOfMemory, ObjectDuplicateKey, TooLarge, EventError, OutOfOrder, Failed, TextEvent}
 use Rattle.jsonb_doc.specs.EventList as lists
-use Rattle.jsonb_doc.specs.EventList.{Reads, AreEvents, with_key_again, next_of, AreEventsOf, HasDuplicateKey, FailsWith}
-use Rattle.jsonb_doc.specs.Private.Collecting.{LeadsTo, Happen, Refuses, IsDue}
-use Rattle.jsonb_doc.specs.Private.Errors.{IsOutOfMemoryOrTooLarge}
-use Rattle.jsonb_doc.specs.declared.error.Error.{Error}
-use Rattle.jsonb_doc.specs.declared.error.Error.TheVariants.{OutOfMemory, ObjectDuplicateKey, TooLarge}
-use Rattle.jsonb_doc.specs.declared.event_error.EventError.{EventError}
-use Rattle.jsonb_doc.specs.declared.event_error.EventError.TheVariants.{OutOfOrder, Failed}
-use Rattle.jsonb_doc.specs.declared.text_event.TextEvent.{TextEvent}
 use Rattle.jsonb_doc.proofs.EventListLemmas.{sorted_state, IsNewState, AreAll, all_last, all_back, complete, stuck, not_ok, happen_anyway, leads_anew, happen_of}
 use Rattle.jsonb_doc.proofs.OneRun.{one_read, one_lead, one_run, only_event, same_tree}
 use Rattle.jsonb_doc.proofs.CollectingLemmas.{due_along, due_anyway}

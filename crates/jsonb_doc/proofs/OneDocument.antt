@@ -1,11 +1,5 @@
 -- A tree has one canonical document.
-use Rattle.std.proofs.Common.{◌≡◌, ℕ, ◌∙◌, List, ◌++◌, length, ap, ap₂, refl, arith, true, false, inl, inr}
-use Rattle.std.proofs.lemmas.List.{append-nil}
-use Rattle.jsonb_doc.specs.Bytes.{AreBytes}
-use Rattle.jsonb_doc.specs.Tree.{Tree, null, boolean, number, text, extension, array, object, Trees, no_trees, tree, Pairs, no_pairs, pair, count, keys}
-use Rattle.jsonb_doc.specs.Payload.{canonical, number_reader}
-use Rattle.jsonb_doc.specs.Format.{header, entry_word, scalar_header, array_header, object_header, key_words, key_bytes, IsContent, AreEntries, AreValues, Decodes, IsDocument}
-use Rattle.jsonb_doc.specs.Private.Canonical.{kind_of, content, words, contents, value_words, value_contents, scalar_document, document}
+use Rattle.jsonb_doc.proofs.Common.{◌≡◌, ℕ, ◌∙◌, List, ◌++◌, length, ap, ap₂, refl, arith, true, false, inl, inr, append-nil, AreBytes, Tree, null, boolean, number, text, extension, array, object, Trees, no_trees, tree, Pairs, no_pairs, pair, count, keys, canonical, number_reader, header, entry_word, scalar_header, array_header, object_header, key_words, key_bytes, IsContent, AreEntries, AreValues, Decodes, IsDocument, kind_of, content, words, contents, value_words, value_contents, scalar_document, document}
 use Rattle.jsonb_doc.proofs.Entries.{canonical_payload}
 use Rattle.jsonb_doc.proofs.DecodedFits.{headed_bytes, joined_bytes}
 

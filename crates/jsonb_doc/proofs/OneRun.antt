@@ -1,18 +1,8 @@
 -- Events lead to at most one state.
-use Rattle.std.proofs.Common.{◌≡◌, ℕ, zero, suc, ◌≤◌, List, [], ◌∷◌, refl, sym, ap, subst, ◌∙◌, arith, Bool, true, false, Some, None, inl, inr, Option, unwrap_or}
-use Rattle.std.specs.Prelude.{take, drop, ◌==◌, if◌then◌else◌, IsSome}
-use Rattle.std.proofs.lemmas.List.{take_at, drop_at}
-use Rattle.jsonb_doc.specs.Tree.{Tree, text}
-use Rattle.jsonb_doc.specs.Events.{Level, array_of, object_of, State, Event, array_begins, object_begins, key_is, value_is, ends, takes_value, no_events, whole}
-use Rattle.jsonb_doc.specs.EventList.{scalar_of, BeginWithText, Reads, AreEventsOf}
-use Rattle.jsonb_doc.specs.Private.Collecting.{EndsAs, LeadsTo, Happen, Refuses, TakesTree, Opens}
-use Rattle.jsonb_doc.specs.Payload.{Form}
-use Rattle.jsonb_doc.specs.Item.{StandsFor}
-use Rattle.jsonb_doc.specs.Private.EventParts.{IsPlain, IsPlainItem}
-use Rattle.jsonb_doc.specs.declared.item.Item.{Item}
-use Rattle.jsonb_doc.specs.declared.item.Item.TheVariants.{Null, Boolean, Number}
+use Rattle.jsonb_doc.proofs.Common.{◌≡◌, ℕ, zero, suc, ◌≤◌, List, [], ◌∷◌, refl, sym, ap, subst, ◌∙◌, arith, Bool, true, false, Some, None, inl, inr, Option, take, drop, ◌==◌, if◌then◌else◌, IsSome, take_at, drop_at, Tree, text, Level, array_of, object_of, State, Event, array_begins, object_begins, key_is, value_is, ends, takes_value, no_events, whole, scalar_of, BeginWithText, Reads, AreEventsOf, EndsAs, LeadsTo, Happen, Refuses, TakesTree, Opens, Form, StandsFor, IsPlain, IsPlainItem, Item, Null, Boolean, TextEvent}
+use Rattle.std.proofs.Common.{unwrap_or}
+use Rattle.jsonb_doc.specs.declared.item.Item.TheVariants.{Number}
 use Rattle.jsonb_doc.proofs.EventListLemmas.{happen_of}
-use Rattle.jsonb_doc.specs.declared.text_event.TextEvent.{TextEvent}
 
 -- ---- one event
 

@@ -1,9 +1,5 @@
 -- Bytes decode to one tree at most.
-use Rattle.std.proofs.Common.{◌≡◌, ℕ, List, [], ◌∷◌, ◌++◌, length, refl, sym, ap, ◌∙◌, arith, true, false, inl, inr, append_assoc}
-use Rattle.std.proofs.lemmas.List.{length-append}
-use Rattle.jsonb_doc.specs.Tree.{Tree, null, boolean, number, text, extension, array, object, Trees, no_trees, tree, Pairs, no_pairs, pair, count, keys, values}
-use Rattle.jsonb_doc.specs.Payload.{NumberReader}
-use Rattle.jsonb_doc.specs.Format.{BeginWith, AreKeys, key_words, key_bytes, IsContent, AreEntries, AreValues, IsDocument}
+use Rattle.jsonb_doc.proofs.Common.{◌≡◌, ℕ, List, [], ◌∷◌, ◌++◌, length, refl, sym, ap, ◌∙◌, arith, true, false, inl, inr, append_assoc, length-append, Tree, null, boolean, number, text, extension, array, object, Trees, no_trees, tree, Pairs, no_pairs, pair, count, keys, values, NumberReader, BeginWith, AreKeys, key_words, key_bytes, IsContent, AreEntries, AreValues, IsDocument}
 use Rattle.jsonb_doc.proofs.WordLemmas.{append_cancel}
 use Rattle.jsonb_doc.proofs.Entries.{BeginWith-unique, BeginWith-long}
 use Rattle.jsonb_doc.proofs.ExtensionsRead.{extension_back}

@@ -1,19 +1,5 @@
 -- The iterator over pairs and its first item.
-use Rattle.std.proofs.Common.{◌≡◌, ◌≢◌, ℕ, ◌<◌, List, [], ◌∷◌, ◌++◌, length, Option, Some, ap, ◌∙◌, arith, refl}
-use Rattle.std.specs.Prelude.{IsUtf8}
-use Rattle.jsonb_doc.specs.Tree.{Tree, object, Pairs, no_pairs, pair, keys, values, pairs_in}
-use Rattle.jsonb_doc.specs.Payload.{NumberReader, Form, number_reader}
-use Rattle.jsonb_doc.specs.Format.{Decodes, AreValues, AreKeys, key_words, key_bytes, BeginWith, HasFirstEntry, IsContent}
-use Rattle.jsonb_doc.specs.Representation.Iterators.{HasPairsLeft, HasKeysLeft, HasElementsLeft}
-use Rattle.jsonb_doc.specs.AnyBytes.Iterators.{HasAllValues}
-use Rattle.jsonb_doc.specs.Answer.{SameOption}
-use Rattle.jsonb_doc.specs.declared.key_iter.KeyIter.{KeyIter}
-use Rattle.jsonb_doc.specs.declared.value_iter.ValueIter.{ValueIter}
-use Rattle.jsonb_doc.specs.declared.pair_iter.PairIter.{PairIter}
-use Rattle.jsonb_doc.specs.Private.Lengths.{StandBefore}
-use Rattle.jsonb_doc.specs.Private.Containers.{IsCut, Holds, HasPairParts}
-use Rattle.jsonb_doc.specs.declared.container.ObjectParts.{ObjectParts}
-use Rattle.jsonb_doc.specs.declared.container.Container.TheVariants.{Object}
+use Rattle.jsonb_doc.proofs.Common.{◌≡◌, ◌≢◌, ℕ, ◌<◌, List, [], ◌∷◌, ◌++◌, length, Option, Some, ap, ◌∙◌, arith, refl, IsUtf8, Tree, object, Pairs, no_pairs, pair, keys, values, pairs_in, NumberReader, Form, number_reader, Decodes, AreValues, AreKeys, key_words, key_bytes, BeginWith, HasFirstEntry, IsContent, HasPairsLeft, HasKeysLeft, HasElementsLeft, HasAllValues, SameOption, KeyIter, ValueIter, PairIter, StandBefore, IsCut, Holds, HasPairParts, ObjectParts, Object}
 use Rattle.jsonb_doc.proofs.KeysRead.{begin_key}
 use Rattle.jsonb_doc.proofs.LengthsLemmas.{HoldKeys-before}
 use Rattle.jsonb_doc.proofs.Containers.{entries_of, HoldsPairs-keys, Decodes-object, Holds-pairs}

@@ -1,15 +1,6 @@
 -- The nodes of a value, as they are dropped one by one.
-use Rattle.std.proofs.Common.{◌≡◌, ℕ, ◌+◌, ◌*◌, ◌<◌, ◌≤◌, List, [], ◌∷◌, ◌++◌, Option, None, Some, IfSome, length, drop, String, Vec, BTreeMap, Global, Ordering, Less, Equal, Greater, string_cmp, sym, ap, ◌∙◌, arith}
-use Rattle.std.specs.Prelude.{cond}
-use Rattle.std.specs.BTreeMap.{insert_entry, is_at}
-use Rattle.std.specs.Map.{keys_of, lookup}
-use Rattle.std.specs.Ordering.{is_eq, match_ordering}
-use Rattle.std.proofs.lemmas.Nat.{mul-le}
-use Rattle.jsonb_doc.specs.Tree.{Tree, array, object}
-use Rattle.jsonb_doc.specs.View.{number_view}
-use Rattle.jsonb_doc.specs.Private.Parts.{tree_parts, parts, values_parts, entries_parts, waiting_parts, to_release, remaining}
-use Rattle.jsonb_doc.specs.declared.value.Value.{Value, Array, Object}
-use Rattle.jsonb_doc.specs.declared.value.release.Remaining.{Remaining}
+use Rattle.jsonb_doc.proofs.Common.{◌≡◌, ℕ, ◌+◌, ◌*◌, ◌<◌, ◌≤◌, List, [], ◌∷◌, ◌++◌, Option, None, Some, IfSome, length, drop, String, Vec, BTreeMap, Global, Ordering, Less, Equal, Greater, string_cmp, sym, ap, ◌∙◌, arith, cond, insert_entry, is_at, keys_of, lookup, is_eq, match_ordering, mul-le, Tree, array, object, number_view, tree_parts, parts, values_parts, entries_parts, waiting_parts, to_release, remaining, Value, Remaining}
+use Rattle.jsonb_doc.specs.declared.value.Value.{Array, Object}
 use Rattle.jsonb_doc.proofs.ValueTrees.{Entry, tree_seen-Array, tree_seen-Object}
 
 -- ---- the measure

@@ -1,21 +1,7 @@
 -- What a payload of bytes is read as fits, and is read from no shorter payload than the one that is written.
-use Rattle.std.proofs.Common.{◌≡◌, ◌⊎◌, ℕ, zero, suc, ◌+◌, ◌*◌, ◌/◌, ◌^◌, ◌<◌, ◌≤◌, List, [], ◌∷◌, ◌++◌, length, take, drop, refl, sym, ap, ◌∙◌, arith, true, Some, inl, inr, ℤ, pos, negsuc, ◌==◌, FitsSigned}
-use Rattle.std.specs.Prelude.{slice_index}
-use Rattle.std.specs.Int.{Width, w32, w64, w128, byte_len, cast_signed, cast_unsigned}
-use Rattle.std.proofs.Math.Facts.{sfits_to_z, Fits-bits}
-use Rattle.std.proofs.Math.ListN.{drop_of_length-le}
-use Rattle.std.proofs.lemmas.Nat.{div-mul-add}
-use Rattle.std.proofs.lemmas.List.{append-nil, length-drop, length-take-le, take-append-drop, drop-drop, get_or_append_left, get_or-append-add, get_or_past}
-use Rattle.std.proofs.lemmas.Bool.{cases_lt, lt-ltb, le-ltb}
-use Rattle.std.proofs.lemmas.Bool.Decides.{nat_tests}
-use Rattle.std.proofs.lemmas.Int.{ints, of_z-to_z}
-use Rattle.byteorder.specs.Endian.{big_number, big_bytes, twos_complement}
-use Rattle.byteorder.specs.Numbers.{big_number-reads_back, big_from-lt, big_from-cons, big_from-take, length-bytes_high_first}
-use Rattle.jsonb_doc.specs.Bytes.{AreBytes}
-use Rattle.jsonb_doc.specs.Number.{Number, Variant, int64, uint64, decimal64, decimal128, number_from, zero_number, FitsNumber}
-use Rattle.jsonb_doc.specs.Extension.{Extension, binary, date, timestamp, timestamp_tz, interval, FitsExtension}
-use Rattle.jsonb_doc.specs.Payload.{is_width, signed, fixed, fixed_bytes, signed_size, unsigned_width, number_of, number_payload, number_payload_of, extension_payload}
-use Rattle.jsonb_doc.specs.Private.Payloads.{extension_of}
+use Rattle.jsonb_doc.proofs.Common.{◌≡◌, ◌⊎◌, ℕ, zero, suc, ◌+◌, ◌*◌, ◌/◌, ◌^◌, ◌<◌, ◌≤◌, List, [], ◌∷◌, ◌++◌, length, take, drop, refl, sym, ap, ◌∙◌, arith, true, Some, inl, inr, ℤ, pos, negsuc, ◌==◌, FitsSigned, slice_index, Width, w32, w64, w128, byte_len, cast_signed, cast_unsigned, sfits_to_z, Fits-bits, drop_of_length-le, div-mul-add, append-nil, length-take-le, take-append-drop, drop-drop, get_or_append_left, get_or-append-add, get_or_past, cases_lt, lt-ltb, le-ltb, nat_tests, ints, of_z-to_z, big_number, big_bytes, twos_complement, big_number-reads_back, big_from-lt, big_from-cons, big_from-take, length-bytes_high_first, AreBytes, Variant, int64, uint64, decimal64, decimal128, number_from, zero_number, FitsNumber, Extension, binary, date, timestamp, timestamp_tz, interval, FitsExtension, is_width, signed, fixed, fixed_bytes, signed_size, unsigned_width, number_of, number_payload, number_payload_of, extension_payload, extension_of}
+use Rattle.std.proofs.lemmas.List.{length-drop}
+use Rattle.jsonb_doc.specs.Number.{Number}
 use Rattle.jsonb_doc.proofs.CanonicalLemmas.{fits_from, width_bound}
 use Rattle.jsonb_doc.proofs.Sizes.{same_length, number_cases, extension_cases}
 

@@ -1,14 +1,5 @@
 -- The bytes of pieces: those of earlier pieces stay when one is added, and those of each begin with its head.
-use Rattle.std.proofs.Common.{◌≡◌, ℕ, zero, suc, ◌+◌, ◌<◌, ◌≤◌, List, [], ◌∷◌, ◌++◌, length, refl, sym, ap, ◌∙◌, arith, Bool, true, false, cond, get_or, append_assoc}
-use Rattle.std.specs.Prelude.{nat_lt}
-use Rattle.std.specs.List.{All}
-use Rattle.std.proofs.lemmas.List.Elements.{All-nil, All-cons}
-use Rattle.std.proofs.Math.Nat.{add-zero, zero-add}
-use Rattle.std.proofs.lemmas.Bool.{ltb-true, ltb-false}
-use Rattle.std.proofs.lemmas.List.{append-nil, length-append, get_or_append_left, get_or_push, get_or_past}
-use Rattle.jsonb_doc.specs.Representation.Pieces.{Heads, heads_at, stacked, piece_heads, heads_after, all_heads, joined, bytes_at}
-use Rattle.jsonb_doc.specs.Private.Earlier.{earlier}
-use Rattle.jsonb_doc.specs.declared.pieces.Piece.{Piece}
+use Rattle.jsonb_doc.proofs.Common.{◌≡◌, ℕ, zero, suc, ◌+◌, ◌<◌, ◌≤◌, List, [], ◌∷◌, ◌++◌, length, refl, sym, ap, ◌∙◌, arith, Bool, true, false, cond, get_or, append_assoc, nat_lt, All, All-nil, All-cons, add-zero, zero-add, ltb-true, ltb-false, append-nil, length-append, get_or_append_left, get_or_push, get_or_past, Heads, heads_at, stacked, piece_heads, heads_after, all_heads, joined, bytes_at, earlier, Piece}
 
 heads_after-append : (known : Heads) (ps qs : List Piece) → heads_after known (ps ++ qs) ≡ heads_after (heads_after known ps) qs
 unfolding heads_after

@@ -1,30 +1,9 @@
 -- Items that are read of any bytes.
-use Rattle.std.proofs.Common.{◌≡◌, ◌≢◌, ℕ, List, [], ◌++◌, length, arith, Result, Ok, Err, inl, inr, refl, sym, subst}
-use Rattle.std.specs.Prelude.{MatchResult, IfOk}
-use Rattle.std.proofs.lemmas.List.{length-append, append-nil}
-use Rattle.jsonb_doc.specs.Payload.{any, number_reader}
-use Rattle.jsonb_doc.specs.Format.{HeadedBy, entry_word, IsContent, Decodes, IsContainer, HasFirstEntry}
-use Rattle.jsonb_doc.specs.AnyBytes.Parts.{AreNone, HasItsWords}
-use Rattle.jsonb_doc.specs.AnyBytes.Items.{IsItemOf, IsRootOf}
-use Rattle.jsonb_doc.specs.Bytes.{AreBytes}
-use Rattle.jsonb_doc.specs.Tree.{Tree, extension}
-use Rattle.jsonb_doc.specs.View.{extension_view}
-use Rattle.jsonb_doc.specs.Private.ShapeOf.{IsShapeOf}
-use Rattle.jsonb_doc.specs.AnyBytes.Roots.{IsRootShape, HasReadableRoot}
-use Rattle.jsonb_doc.specs.declared.shape.Shape.{Shape}
+use Rattle.jsonb_doc.proofs.Common.{◌≡◌, ◌≢◌, ℕ, List, [], ◌++◌, length, arith, Result, Ok, Err, inl, inr, refl, sym, subst, MatchResult, IfOk, length-append, append-nil, any, number_reader, HeadedBy, entry_word, IsContent, Decodes, IsContainer, HasFirstEntry, AreNone, HasItsWords, IsItemOf, IsRootOf, AreBytes, Tree, extension, extension_view, IsShapeOf, IsRootShape, HasReadableRoot, Shape, IsCut, kind_number, header_number, HeaderKind, ArrayParts, ObjectParts, StoredEntry, Error, Item}
 use Rattle.jsonb_doc.specs.declared.shape.Shape.TheVariants as shapes
-use Rattle.jsonb_doc.specs.Private.Containers.{IsCut}
-use Rattle.jsonb_doc.specs.Kinds.{kind_number}
-use Rattle.jsonb_doc.specs.Private.Headers.{header_number}
-use Rattle.jsonb_doc.specs.declared.layout.HeaderKind.{HeaderKind}
 use Rattle.jsonb_doc.specs.declared.layout.HeaderKind.TheVariants as header
-use Rattle.jsonb_doc.specs.declared.container.ArrayParts.{ArrayParts}
-use Rattle.jsonb_doc.specs.declared.container.ObjectParts.{ObjectParts}
 use Rattle.jsonb_doc.specs.declared.container.Container.{Container}
 use Rattle.jsonb_doc.specs.declared.container.Container.TheVariants.{Scalar, Array as ArrayOf, Object as ObjectOf}
-use Rattle.jsonb_doc.specs.declared.entry_iter.StoredEntry.{StoredEntry}
-use Rattle.jsonb_doc.specs.declared.error.Error.{Error}
-use Rattle.jsonb_doc.specs.declared.item.Item.{Item}
 use Rattle.jsonb_doc.specs.declared.item.Item.TheVariants.{Array, Object}
 use Rattle.jsonb_doc.proofs.Containers.{HasContent-headed, IsCut-same}
 use Rattle.jsonb_doc.proofs.DecodedFits.{headed_bytes}

@@ -1,12 +1,5 @@
 -- Integers at and near a number.
-use Rattle.std.proofs.Common.{◌≡◌, ◌≢◌, ℕ, zero, suc, ◌+◌, ◌-◌, ◌*◌, ◌/◌, ◌%◌, ◌^◌, ◌<◌, ◌≤◌, ℤ, pos, negsuc, ◌*ℤ◌, int_lt, false, inl, inr, refl, sym, ap, ◌∙◌, arith, Option, Some, None, FitsSigned, MatchOption, div-add-mod', mul-pos}
-use Rattle.std.specs.Prelude.{neg_ℤ, unsigned_abs}
-use Rattle.std.specs.Int.{w64}
-use Rattle.std.proofs.Math.Nat.{mul-mod_left, add-mul-div_right, div-eq_of_lt, eq_of_mul-eq-mul_right, pow-le-pow_right}
-use Rattle.std.proofs.lemmas.Nat.{div-mul-add, mod_below}
-use Rattle.std.proofs.lemmas.Bool.{cases_lt}
-use Rattle.std.proofs.lemmas.Bool.Decides.{nat_tests}
-use Rattle.jsonb_doc.specs.Rounding.{with_sign, nearest}
+use Rattle.jsonb_doc.proofs.Common.{◌≡◌, ◌≢◌, ℕ, zero, suc, ◌+◌, ◌-◌, ◌*◌, ◌/◌, ◌%◌, ◌^◌, ◌<◌, ◌≤◌, ℤ, pos, negsuc, ◌*ℤ◌, int_lt, false, inl, inr, refl, sym, ap, ◌∙◌, arith, Option, Some, None, FitsSigned, MatchOption, div-add-mod', mul-pos, neg_ℤ, unsigned_abs, w64, mul-mod_left, add-mul-div_right, div-eq_of_lt, eq_of_mul-eq-mul_right, pow-le-pow_right, div-mul-add, mod_below, cases_lt, nat_tests, with_sign, nearest}
 
 pub remainder_left : (n p q : ℕ) → n % p ≢ 0 → n ≡ q * p → ⊥
 remainder_left n p q some e = some (ap (λ x. x % p) e ∙ mul-mod_left q p)

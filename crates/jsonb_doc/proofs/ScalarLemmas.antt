@@ -1,17 +1,6 @@
 -- What is the content of an entry that is not a container, kind by kind.
-use Rattle.std.proofs.Common.{◌≡◌, ◌≢◌, ℕ, ◌≤◌, List, [], length, ◌⊎◌, inl, inr, arith, Some, None, true, false, sym, ◌∙◌, ap, ◌↔◌, Result, Ok, Err, refl, rules}
-use Rattle.std.specs.Prelude.{IsUtf8, MatchResult, IsOk, IsErrOf}
+use Rattle.jsonb_doc.proofs.Common.{◌≡◌, ◌≢◌, ℕ, ◌≤◌, List, [], length, ◌⊎◌, inl, inr, arith, Some, None, true, false, sym, ◌∙◌, ap, ◌↔◌, Result, Ok, Err, refl, rules, IsUtf8, MatchResult, IsOk, IsErrOf, Extension, Tree, null, boolean, number, text, extension, array, object, NumberReader, any, number_of, extension_of, number_or_unsupported, is_unsupported, WouldDecode, IsContent, Decodes, HasContent, HasDocument, IsValidationError, Validates, IsNoNumber, Error, InvalidJsonb, UnsupportedNumber}
 use Rattle.jsonb_doc.specs.Number as spec
-use Rattle.jsonb_doc.specs.Extension.{Extension}
-use Rattle.jsonb_doc.specs.Tree.{Tree, null, boolean, number, text, extension, array, object}
-use Rattle.jsonb_doc.specs.Payload.{NumberReader, any, number_of}
-use Rattle.jsonb_doc.specs.Private.Payloads.{extension_of}
-use Rattle.jsonb_doc.specs.AnyBytes.Unsupported.{number_or_unsupported, is_unsupported, WouldDecode}
-use Rattle.jsonb_doc.specs.Format.{IsContent, Decodes}
-use Rattle.jsonb_doc.specs.Private.Checking.{HasContent, HasDocument, IsValidationError, Validates}
-use Rattle.jsonb_doc.specs.Private.Payloads.{IsNoNumber}
-use Rattle.jsonb_doc.specs.declared.error.Error.{Error}
-use Rattle.jsonb_doc.specs.declared.error.Error.TheVariants.{InvalidJsonb, UnsupportedNumber}
 use Rattle.jsonb_doc.proofs.Entries.{kind_below, document_lenient}
 use Rattle.jsonb_doc.proofs.ExtensionsRead.{extension_back}
 

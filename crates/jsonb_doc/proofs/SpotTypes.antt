@@ -1,16 +1,5 @@
 -- The spots of an array's elements, and of an object's values, by the type of the item.
-use Rattle.std.proofs.Common.{◌≡◌, ℕ, List, length, ◌-◌, Some, None}
-use Rattle.jsonb_doc.specs.Tree.{Tree, array, object, elements, values, children_of, trees_in, pairs_in}
-use Rattle.jsonb_doc.specs.Payload.{any, number_reader}
-use Rattle.jsonb_doc.specs.Answer.{SameOption}
-use Rattle.jsonb_doc.specs.Private.Containers.{IsCut, Holds}
-use Rattle.jsonb_doc.specs.Representation.Positions.{Locates, spot_content, HasSpotsLeft}
-use Rattle.jsonb_doc.specs.Kinds.{kind_number}
-use Rattle.jsonb_doc.specs.declared.spot.Spot.{Spot}
-use Rattle.jsonb_doc.specs.declared.spot_iter.SpotIter.{SpotIter}
-use Rattle.jsonb_doc.specs.declared.container.ArrayParts.{ArrayParts}
-use Rattle.jsonb_doc.specs.declared.container.ObjectParts.{ObjectParts}
-use Rattle.jsonb_doc.specs.declared.container.Container.TheVariants.{Array, Object}
+use Rattle.jsonb_doc.proofs.Common.{◌≡◌, ℕ, List, length, ◌-◌, Some, None, Tree, array, object, elements, values, children_of, trees_in, pairs_in, any, number_reader, SameOption, IsCut, Holds, Locates, spot_content, HasSpotsLeft, kind_number, Spot, SpotIter, ArrayParts, ObjectParts, Array, Object}
 use Rattle.jsonb_doc.proofs.PairsLemmas.{SkipsKeys}
 use Rattle.jsonb_doc.proofs.SpotsLemmas.{array_children, object_children, array_held, object_held}
 

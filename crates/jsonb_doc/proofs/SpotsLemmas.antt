@@ -1,31 +1,13 @@
 -- Spots of children within the content of a spot.
-use Rattle.std.proofs.Common.{◌≡◌, ◌≢◌, ℕ, zero, suc, ◌+◌, ◌-◌, ◌*◌, ◌/◌, ◌^◌, ◌<◌, ◌≤◌, List, [], ◌∷◌, ◌++◌, length, take, drop, refl, sym, ap, ◌∙◌, arith, inl, Some, None, Ok, append_assoc}
-use Rattle.std.proofs.lemmas.List.{length-append, length-take-le, length-drop, drop_at, drop-take, drop-drop, take-append-drop, append-nil}
-use Rattle.std.proofs.Math.Seq.{take-add}
-use Rattle.std.proofs.lemmas.Slice.{between_to_end}
-use Rattle.std.specs.Prelude.{◌==◌, is_some, slice_range, true, false}
-use Rattle.jsonb_doc.specs.Tree.{Tree, null, boolean, number, text, extension, array, object, Trees, tree, trees_of, elements, values, keys, children_of, field_of}
-use Rattle.jsonb_doc.specs.Payload.{NumberReader, Form, any, number_reader, number_of}
-use Rattle.jsonb_doc.specs.Format.{Decodes, header, entry_word, BeginWith, IsContent, IsDocument, AreEntries, key_bytes}
-use Rattle.jsonb_doc.specs.Answer.{SameOption}
-use Rattle.jsonb_doc.specs.Private.Lengths.{StandBefore}
-use Rattle.jsonb_doc.specs.Private.Containers.{StartWith, IsCut, Holds}
-use Rattle.jsonb_doc.specs.Spots.{TakesSpot}
-use Rattle.jsonb_doc.specs.Representation.Positions.{Locates, spot_content, HasSpotsLeft}
-use Rattle.jsonb_doc.specs.AnyBytes.Spots.{PassesSpot}
-use Rattle.jsonb_doc.specs.Kinds.{kind_number}
-use Rattle.jsonb_doc.specs.declared.spot.Spot.{Spot}
-use Rattle.jsonb_doc.specs.declared.spot_iter.SpotIter.{SpotIter}
+use Rattle.jsonb_doc.proofs.Common.{◌≡◌, ◌≢◌, ℕ, zero, suc, ◌+◌, ◌-◌, ◌*◌, ◌/◌, ◌^◌, ◌<◌, ◌≤◌, List, [], ◌∷◌, ◌++◌, length, take, drop, refl, sym, ap, ◌∙◌, arith, inl, Some, None, Ok, append_assoc, length-append, length-take-le, drop_at, drop-take, drop-drop, take-append-drop, append-nil, take-add, between_to_end, ◌==◌, is_some, slice_range, true, false, Tree, null, boolean, number, text, extension, array, object, Trees, tree, trees_of, elements, values, keys, children_of, field_of, NumberReader, Form, any, number_reader, number_of, Decodes, header, entry_word, BeginWith, IsContent, IsDocument, AreEntries, key_bytes, SameOption, StandBefore, StartWith, IsCut, Holds, TakesSpot, Locates, spot_content, HasSpotsLeft, PassesSpot, kind_number, Spot, SpotIter, StoredEntry, ArrayParts, ObjectParts, Array, Object}
+use Rattle.std.proofs.lemmas.List.{length-drop}
 use Rattle.jsonb_doc.proofs.KindLemmas.{kind_known}
 use Rattle.jsonb_doc.proofs.WordLemmas.{append_cancel, word_cancel}
 use Rattle.jsonb_doc.proofs.Entries.{BeginWith-long, BeginWith-room, BeginWith-unique}
 use Rattle.jsonb_doc.proofs.LengthsLemmas.{StandBefore-joined}
 use Rattle.jsonb_doc.proofs.Containers.{IsCut-same, IsCut-scalar, entries_of}
 use Rattle.jsonb_doc.proofs.PairsLemmas.{SkipsKeys, HoldsPairs-values, Holds-skipped}
-use Rattle.jsonb_doc.specs.declared.entry_iter.StoredEntry.{StoredEntry}
-use Rattle.jsonb_doc.specs.declared.container.ArrayParts.{ArrayParts}
-use Rattle.jsonb_doc.specs.declared.container.ObjectParts.{ObjectParts}
-use Rattle.jsonb_doc.specs.declared.container.Container.TheVariants.{Scalar, Array, Object}
+use Rattle.jsonb_doc.specs.declared.container.Container.TheVariants.{Scalar}
 use Rattle.jsonb_doc.proofs.CanonicalLemmas.{in_any}
 use Rattle.jsonb_doc.proofs.OneTree.{document_unique}
 use Rattle.jsonb_doc.proofs.TreeLists.{trees_of-elements}

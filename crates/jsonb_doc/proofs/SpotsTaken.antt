@@ -1,14 +1,5 @@
 -- What a caller knows of the spots that it was given.
-use Rattle.std.proofs.Common.{◌≡◌, ℕ, List, [], ◌∷◌, Option, Some, None, Result, Ok, Err, refl}
-use Rattle.jsonb_doc.specs.Tree.{Tree}
-use Rattle.jsonb_doc.specs.Payload.{Form, any}
-use Rattle.jsonb_doc.specs.Format.{Decodes}
-use Rattle.jsonb_doc.specs.Answer.{SameOption}
-use Rattle.jsonb_doc.specs.Spots.{TakesSpot}
-use Rattle.jsonb_doc.specs.Representation.Positions.{Locates, HasSpotsLeft}
-use Rattle.jsonb_doc.specs.declared.spot.Spot.{Spot}
-use Rattle.jsonb_doc.specs.declared.spot_iter.SpotIter.{SpotIter}
-use Rattle.jsonb_doc.specs.declared.error.Error.{Error}
+use Rattle.jsonb_doc.proofs.Common.{◌≡◌, ℕ, List, [], ◌∷◌, Option, Some, None, Result, Ok, Err, refl, Tree, Form, any, Decodes, SameOption, TakesSpot, Locates, HasSpotsLeft, Spot, SpotIter, Error}
 use Rattle.jsonb_doc.proofs.CanonicalLemmas.{in_any}
 
 -- bytes of either form decode, as `root_spot` needs

@@ -1,5 +1,5 @@
 -- Tables of worked rows, which a definition computes.
-use Rattle.std.proofs.Common.{◌≡◌, List, map}
+use Rattle.jsonb_doc.proofs.Common.{◌≡◌, List, map}
 
 -- the function returns the second of each row for its first
 abbrev pub AreRows : {A B : Type 0} → (A → B) → List (A × B) → Type 0

@@ -1,7 +1,5 @@
 -- The parts of containers as lists, and back.
-use Rattle.std.proofs.Common.{◌≡◌, ℕ, suc, List, [], ◌∷◌, length, refl, ap}
-use Rattle.std.specs.Map.{keys_of}
-use Rattle.jsonb_doc.specs.Tree.{Tree, Trees, no_trees, tree, Pairs, no_pairs, pair, elements, count, keys, trees_of, members, pairs_of}
+use Rattle.jsonb_doc.proofs.Common.{◌≡◌, ℕ, suc, List, [], ◌∷◌, length, refl, ap, keys_of, Tree, Trees, no_trees, tree, Pairs, no_pairs, pair, elements, count, keys, trees_of, members, pairs_of}
 
 pub count-trees_of : (ts : List Tree) → count (trees_of ts) ≡ length ts
 count-trees_of [] = refl

@@ -1,25 +1,6 @@
 -- Sorted members without duplicate keys are those that are inserted one after the other.
-use Rattle.std.proofs.Common.{◌≡◌, ℕ, suc, ◌+◌, ◌≤◌, List, [], ◌∷◌, length, map, refl, sym, ap, subst, ◌∙◌, arith, Bool, true, false, cond, Some, None, Option, Ordering, Less, Equal, Greater, nat_cmp, ◌<◌}
-use Rattle.std.specs.Prelude.{filter, unwrap_or, Result, Ok, Err, OnOk, slice_index_or, if◌then◌else◌, not, ◌&&◌, ⊤}
-use Rattle.std.specs.List.{AllByRecursion}
-use Rattle.std.specs.List.Sorted.{IsSortedBy, IsStableBy, IsStrictlySortedBy, ties}
-use Rattle.std.specs.Map.{keys_of, lookup}
-use Rattle.std.specs.BTreeMap.{is_at}
-use Rattle.std.specs.Ordering.{is_lt, is_eq, match_ordering, ordering_reverse}
-use Rattle.std.specs.Cmp.Lexicographic.{slice_cmp}
-use Rattle.std.specs.Str.{bytes_eq}
-use Rattle.std.proofs.lemmas.Cmp.{nat_list_cmp_total}
-use Rattle.std.proofs.lemmas.List.{nil_from_length}
-use Rattle.std.proofs.lemmas.Map.Text.{is_eq-slice_cmp}
-use Rattle.std.proofs.lemmas.Slice.Eq.{bytes_eq-Decides}
-use Rattle.jsonb_doc.specs.ObjectBuilder.{has_key, insert_pair}
-use Rattle.jsonb_doc.specs.Private.Collecting.{insert_all}
-use Rattle.jsonb_doc.specs.Private.Writer.{AreSortedKeys}
-use Rattle.jsonb_doc.specs.Private.Unique.{has_lower_key, unique, as_pair, is_below_first}
-use Rattle.jsonb_doc.specs.declared.event_list.collecting.Part.{Part}
-use Rattle.jsonb_doc.specs.declared.event_list.collecting.Part.TheVariants.{Nested}
+use Rattle.jsonb_doc.proofs.Common.{◌≡◌, ℕ, suc, ◌+◌, ◌≤◌, List, [], ◌∷◌, length, map, refl, sym, ap, subst, ◌∙◌, arith, Bool, true, false, cond, Some, None, Option, Ordering, Less, Equal, Greater, nat_cmp, ◌<◌, filter, unwrap_or, Result, Ok, Err, OnOk, slice_index_or, if◌then◌else◌, not, ◌&&◌, ⊤, AllByRecursion, IsSortedBy, IsStableBy, IsStrictlySortedBy, ties, keys_of, lookup, is_at, is_lt, is_eq, match_ordering, ordering_reverse, slice_cmp, bytes_eq, nat_list_cmp_total, nil_from_length, is_eq-slice_cmp, bytes_eq-Decides, has_key, insert_pair, insert_all, AreSortedKeys, has_lower_key, unique, as_pair, is_below_first, Part, Nested, Member}
 use Rattle.jsonb_doc.specs.declared.layout.HeaderKind.TheVariants.{Array}
-use Rattle.jsonb_doc.specs.declared.event_list.collecting.Member.{Member}
 
 abbrev cmp : List ℕ → List ℕ → Ordering
 cmp = slice_cmp nat_cmp

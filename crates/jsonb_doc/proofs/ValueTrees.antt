@@ -1,19 +1,7 @@
 -- The trees of values, level by level, and a map's entries next to the pairs that they are for.
-use Rattle.std.proofs.Common.{◌≡◌, List, [], ◌∷◌, ◌++◌, String, Vec, BTreeMap, Global, Ordering, Less, Equal, Greater, string_bytes, string_cmp, nat_cmp, refl, ap, ◌∙◌, rules}
-use Rattle.std.proofs.lemmas.Cmp.{nat_list_cmp_total}
-use Rattle.std.specs.Cmp.Lexicographic.{slice_cmp}
-use Rattle.std.specs.List.{AllByRecursion}
-use Rattle.std.specs.List.Sorted.{IsStrictlySortedBy}
-use Rattle.std.specs.Map.{keys_of}
-use Rattle.std.specs.Ordering.{match_ordering, ordering_reverse}
-use Rattle.std.specs.BTreeMap.{insert_entry}
+use Rattle.jsonb_doc.proofs.Common.{◌≡◌, List, [], ◌∷◌, ◌++◌, String, Vec, BTreeMap, Global, Ordering, Less, Equal, Greater, string_bytes, string_cmp, nat_cmp, refl, ap, ◌∙◌, rules, nat_list_cmp_total, slice_cmp, AllByRecursion, IsStrictlySortedBy, keys_of, match_ordering, ordering_reverse, insert_entry, array, object, trees_of, pairs_of, insert_pair, tree_seen, trees_seen, members_seen, Number, Value, the_lemmas}
 use Rattle.jsonb_doc.specs.Number as spec
-use Rattle.jsonb_doc.specs.Tree.{array, object, trees_of, pairs_of}
-use Rattle.jsonb_doc.specs.ObjectBuilder.{insert_pair}
-use Rattle.jsonb_doc.specs.Value.{tree_seen}
-use Rattle.jsonb_doc.specs.Private.Values.{trees_seen, members_seen}
-use Rattle.jsonb_doc.specs.declared.number.Number.{Number}
-use Rattle.jsonb_doc.specs.declared.value.Value.{Value, Array, Object, the_lemmas}
+use Rattle.jsonb_doc.specs.declared.value.Value.{Array, Object}
 
 abbrev pub Entry : Type 0
 Entry = String Global × Value

@@ -1,23 +1,12 @@
 -- Containers that are being written: begun, gone on with, closed.
-use Rattle.std.proofs.Common.{◌≡◌, inl, ℕ, ◌+◌, ◌*◌, ◌-◌, ◌^◌, ◌<◌, ◌≤◌, List, [], ◌∷◌, ◌++◌, length, take, drop, map, refl, sym, ap, subst, ◌∙◌, arith, append_assoc, append-nil}
-use Rattle.std.specs.Prelude.{replicate}
-use Rattle.std.specs.Map.{keys_of, values_of}
-use Rattle.std.proofs.lemmas.List.{length-append, take_at, drop_at, take_all, length-take, length-drop, take-append-drop}
-use Rattle.jsonb_doc.specs.Tree.{Tree, text, count, keys, values, trees_of, pairs_of, tree, no_trees}
-use Rattle.jsonb_doc.specs.Payload.{NumberReader, Form, number_reader}
-use Rattle.jsonb_doc.specs.Format.{Decodes, IsContent, AreEntries, AreValues, AreKeys, entry_word, header, key_words, key_bytes}
-use Rattle.jsonb_doc.specs.Private.EntryKinds.{container_entry}
-use Rattle.jsonb_doc.specs.Private.Headers.{header_number}
-use Rattle.jsonb_doc.specs.declared.layout.HeaderKind.{HeaderKind}
-use Rattle.jsonb_doc.specs.declared.layout.HeaderKind.TheVariants.{Scalar, Object, Array}
-use Rattle.jsonb_doc.specs.declared.rewriting.OpenContainer.{OpenContainer}
-use Rattle.jsonb_doc.specs.declared.cursor.Entries.{Entries}
-use Rattle.jsonb_doc.specs.Private.Cursor.{RunsHold, words_of_runs, contents_of_runs}
-use Rattle.jsonb_doc.specs.Private.Writer.{Make, AreSortedKeys, IsOpen, AreAround, Rooms, EndsWithin}
+use Rattle.jsonb_doc.proofs.Common.{◌≡◌, inl, ℕ, ◌+◌, ◌*◌, ◌-◌, ◌^◌, ◌<◌, ◌≤◌, List, [], ◌∷◌, ◌++◌, length, take, drop, map, refl, sym, ap, subst, ◌∙◌, arith, append_assoc, replicate, keys_of, values_of, length-append, take_at, drop_at, take_all, length-take, take-append-drop, Tree, text, count, keys, values, trees_of, pairs_of, tree, no_trees, NumberReader, Form, number_reader, Decodes, IsContent, AreEntries, AreValues, AreKeys, entry_word, header, key_words, key_bytes, container_entry, header_number, HeaderKind, Scalar, OpenContainer, Entries, RunsHold, words_of_runs, contents_of_runs, Make, AreSortedKeys, IsOpen, Rooms, EndsWithin, length-values_of, length-keys_of}
+use Rattle.std.proofs.Common.{append-nil}
+use Rattle.std.proofs.lemmas.List.{length-drop}
+use Rattle.jsonb_doc.specs.declared.layout.HeaderKind.TheVariants.{Object, Array}
+use Rattle.jsonb_doc.specs.Private.Writer.{AreAround}
 use Rattle.jsonb_doc.proofs.Containers.{length-words}
 use Rattle.jsonb_doc.proofs.TreeLists.{count-trees_of, keys-pairs_of}
 use Rattle.jsonb_doc.proofs.Entries.{kind_below}
-use Rattle.std.proofs.lemmas.Map.Entries.{length-values_of, length-keys_of}
 use Rattle.jsonb_doc.proofs.Basics.{many_keys}
 
 -- ---- entries one after the other

@@ -1,21 +1,9 @@
 -- Containers that are being written: if a part exceeds the limits, the whole does.
-use Rattle.std.proofs.Common.{◌≡◌, inl, inr, ℕ, ◌^◌, ◌<◌, ◌≤◌, List, [], ◌∷◌, ◌++◌, length, map, sym, ap, subst, arith}
-use Rattle.std.specs.Map.{keys_of, values_of}
-use Rattle.jsonb_doc.specs.Tree.{Tree, text, trees_of, pairs_of}
-use Rattle.jsonb_doc.specs.Payload.{Form, any, canonical, number_reader}
-use Rattle.jsonb_doc.specs.Format.{IsContent}
-use Rattle.jsonb_doc.specs.Limits.{IsShort, HasShortParts, HasShortElements, HasShortValues, AreShortKeys, IsTooLarge, IsWithinLimits}
-use Rattle.jsonb_doc.specs.Answer.{IsOutOfMemory, ◌or◌when◌}
-use Rattle.jsonb_doc.specs.Private.Errors.{IsOutOfMemoryOrTooLarge}
-use Rattle.jsonb_doc.specs.declared.error.Error.{Error}
-use Rattle.jsonb_doc.specs.declared.error.Error.TheVariants.{TooLarge}
-use Rattle.jsonb_doc.specs.declared.layout.HeaderKind.{HeaderKind}
-use Rattle.jsonb_doc.specs.declared.rewriting.OpenContainer.{OpenContainer}
-use Rattle.jsonb_doc.specs.declared.layout.HeaderKind.TheVariants.{Scalar, Object, Array}
-use Rattle.jsonb_doc.specs.Private.Writer.{Make, ExceedsLimits, IsOpen, Around, AreAround}
+use Rattle.jsonb_doc.proofs.Common.{◌≡◌, inl, inr, ℕ, ◌^◌, ◌<◌, ◌≤◌, List, [], ◌∷◌, ◌++◌, length, map, sym, ap, subst, arith, keys_of, values_of, Tree, text, trees_of, pairs_of, Form, any, canonical, number_reader, IsContent, IsShort, HasShortParts, HasShortElements, HasShortValues, AreShortKeys, IsTooLarge, IsWithinLimits, IsOutOfMemory, ◌or◌when◌, IsOutOfMemoryOrTooLarge, Error, TooLarge, HeaderKind, OpenContainer, Scalar, Make, ExceedsLimits, IsOpen, Around, length-keys_of}
+use Rattle.jsonb_doc.specs.declared.layout.HeaderKind.TheVariants.{Object, Array}
+use Rattle.jsonb_doc.specs.Private.Writer.{AreAround}
 use Rattle.jsonb_doc.proofs.TreeLists.{count-trees_of, keys-pairs_of}
 use Rattle.jsonb_doc.proofs.Sizes.{size_within}
-use Rattle.std.proofs.lemmas.Map.Entries.{length-keys_of}
 
 Member : Type 0
 Member = List ℕ × Tree

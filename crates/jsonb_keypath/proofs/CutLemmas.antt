@@ -1,14 +1,5 @@
 -- Tokens as cuts of the input.
-use Rattle.std.proofs.Common.{◌≡◌, ℕ, ◌<◌, List, [], ◌∷◌, ◌++◌, length, drop, Bool, true, false, cond, Some, None, refl, ap, ◌∙◌, subst, arith}
-use Rattle.std.specs.Prelude.{nat_eq, ◌==◌, ◌+◌, ◌*◌, not, Option, encode_utf8}
-use Rattle.std.specs.List.{concat, starts_with}
-use Rattle.std.specs.Str.{is_utf8}
-use Rattle.std.specs.Char.Utf16.{is_high_surrogate, is_low_surrogate, surrogate_pair_char}
-use Rattle.std.proofs.lemmas.List.{length-drop}
-use Rattle.std.proofs.lemmas.Bool.Decides.{nat_tests}
-use Rattle.jsonb_keypath.specs.Rules.{Parsed, Rule, give, ◌>>◌, only_if, literal, bytes, repeat}
-use Rattle.jsonb_keypath.specs.Tokens.{unit, units, text, name, quoted, escape, escaped, unicode_escape, code_unit, four_hex_digits, hex_digit, byte_as, is_unescaped, is_stop, is_quote, ahead}
-use Rattle.jsonb_keypath.specs.TokenLaws.{ReadsSome, IsRun, IsText}
+use Rattle.jsonb_keypath.proofs.Common.{◌≡◌, ℕ, ◌<◌, List, [], ◌∷◌, ◌++◌, length, drop, Bool, true, false, cond, Some, None, refl, ap, ◌∙◌, subst, arith, nat_eq, ◌==◌, ◌+◌, ◌*◌, not, Option, encode_utf8, concat, starts_with, is_utf8, is_high_surrogate, is_low_surrogate, surrogate_pair_char, length-drop, nat_tests, Parsed, Rule, give, ◌>>◌, only_if, literal, bytes, repeat, unit, units, text, name, quoted, escape, escaped, unicode_escape, code_unit, four_hex_digits, hex_digit, byte_as, is_unescaped, is_stop, is_quote, ahead, ReadsSome, IsRun, IsText}
 use Rattle.jsonb_keypath.proofs.TextLemmas.{unit-byte, unit-end}
 use Rattle.jsonb_keypath.proofs.ReadsLemmas.{NeverGrows, parts, given, passed, some-no_more, grows-give, grows-then, some-then, some-choice, grows-choice, grows-only_if, repeat-repeated, repeated-repeat}
 

@@ -1,20 +1,6 @@
 -- Equality of key paths is equality of their steps and strings.
-use Rattle.std.proofs.Common.{◌≡◌, ℕ, List, [], ◌∷◌, map, Bool, true, false, Some, None, Option, refl, ap}
-use Rattle.std.specs.Prelude.{◌&&◌, nat_eq, ℤ, string_bytes}
-use Rattle.std.specs.Bool.{Decides}
-use Rattle.std.specs.Cow.{cow_str_bytes}
-use Rattle.std.specs.Cmp.Lexicographic.{pointwise}
-use Rattle.std.proofs.lemmas.Bool.Decides.{Decides-int_eq, Decides-eqb}
-use Rattle.std.proofs.lemmas.Slice.Eq.{slice_eq-Decides}
-use Rattle.std.proofs.lemmas.Option.{same_Some}
-use Rattle.jsonb_keypath.specs.declared.key_path.KeyPath.{KeyPath}
-use Rattle.jsonb_keypath.specs.declared.key_path.KeyPath.TheVariants.{Index, QuotedName, Name}
-use Rattle.jsonb_keypath.specs.declared.key_path.KeyPaths.{KeyPaths}
-use Rattle.jsonb_keypath.specs.declared.owned.OwnedKeyPath.{OwnedKeyPath}
+use Rattle.jsonb_keypath.proofs.Common.{◌≡◌, ℕ, List, [], ◌∷◌, map, Bool, true, false, Some, None, Option, refl, ap, ◌&&◌, nat_eq, ℤ, string_bytes, Decides, cow_str_bytes, pointwise, Decides-int_eq, Decides-eqb, slice_eq-Decides, same_Some, KeyPath, Index, QuotedName, Name, KeyPaths, OwnedKeyPath, OwnedKeyPaths, Key, index, quoted_name, unquoted_name, key_view, key_paths_view, owned_key_view, owned_key_paths_view}
 use Rattle.jsonb_keypath.specs.declared.owned.OwnedKeyPath.TheVariants as owned
-use Rattle.jsonb_keypath.specs.declared.owned.OwnedKeyPaths.{OwnedKeyPaths}
-use Rattle.jsonb_keypath.specs.KeyPathGrammar.{Key, index, quoted_name, unquoted_name}
-use Rattle.jsonb_keypath.specs.KeyPathViews.{key_view, key_paths_view, owned_key_view, owned_key_paths_view}
 use Rattle.jsonb_keypath.specs.contracts.key_path.KeyPathPartialEq.TheImpl.{eq-value as key_equal}
 use Rattle.jsonb_keypath.specs.contracts.key_path.KeyPathsPartialEq.TheImpl.{eq-value as key_paths_equal}
 use Rattle.jsonb_keypath.specs.contracts.owned.OwnedKeyPathPartialEq.TheImpl.{eq-value as owned_key_equal}

@@ -1,13 +1,5 @@
 -- The front of a key path does not lengthen the text.
-use Rattle.std.proofs.Common.{◌≡◌, ℕ, ◌≤◌, List, [], ◌∷◌, ◌++◌, length, Bool, Some, refl, arith}
-use Rattle.std.specs.List.{concat}
-use Rattle.std.specs.Str.{is_utf8}
-use Rattle.jsonb_keypath.specs.Rules.{Rule, give, ◌>>◌, only_if, literal, repeat}
-use Rattle.jsonb_keypath.specs.Tokens.{ws, unit, units, text, is_stop, is_quote}
-use Rattle.jsonb_keypath.specs.TokenLaws.{ReadsSome}
-use Rattle.jsonb_keypath.specs.KeyPathGrammar.{spaced_key, key_list}
-use Rattle.jsonb_keypath.specs.Private.LaterKeys.{another_key}
-use Rattle.jsonb_keypath.specs.ErrorPosition.{perhaps, key_front, closing_brace, after_keys, inside_front, key_path_front}
+use Rattle.jsonb_keypath.proofs.Common.{◌≡◌, ℕ, ◌≤◌, List, [], ◌∷◌, ◌++◌, length, Bool, Some, refl, arith, concat, is_utf8, Rule, give, ◌>>◌, only_if, literal, repeat, ws, unit, units, text, is_stop, is_quote, ReadsSome, spaced_key, key_list, another_key, perhaps, key_front, closing_brace, after_keys, inside_front, key_path_front}
 use Rattle.jsonb_keypath.proofs.ReadsLemmas.{NeverGrows, some-no_more, grows-give, grows-then, grows-choice, grows-only_if, repeated-repeat}
 use Rattle.jsonb_keypath.proofs.CutLemmas.{some-literal, some-unit}
 use Rattle.jsonb_keypath.proofs.GrowsLemmas.{grows-ws, run-no_more, some-spaced_key, some-another_key}

@@ -1,18 +1,5 @@
 -- No token and no key lengthens the input.
-use Rattle.std.proofs.Common.{◌≡◌, ℕ, ◌<◌, ◌≤◌, ◌^◌, List, [], ◌∷◌, length, drop, refl, arith}
-use Rattle.std.specs.List.{prefix_len}
-use Rattle.std.specs.Prelude.{◌+◌, nat_lt, Bool, true, false, cond}
-use Rattle.std.specs.Prelude.{take_while}
-use Rattle.std.specs.Char.{is_ascii_digit}
-use Rattle.std.specs.Str.Parse.{digits_value}
-use Rattle.std.proofs.lemmas.Bool.Decides.{nat_tests}
-use Rattle.std.proofs.lemmas.List.{length-drop}
-use Rattle.jsonb_doc.specs.Rounding.{with_sign}
-use Rattle.jsonb_keypath.specs.Rules.{Rule, only_if, literal}
-use Rattle.jsonb_keypath.specs.Tokens.{past, is_space, ws, sign, natural, natural_below, integer, integer_within, is_within, int32, name, quoted, is_stop, is_quote, unit}
-use Rattle.jsonb_keypath.specs.KeyPathGrammar.{key, index, quoted_name, unquoted_name, spaced_key}
-use Rattle.jsonb_keypath.specs.Private.LaterKeys.{another_key}
-use Rattle.jsonb_keypath.specs.TokenLaws.{ReadsSome, IsRun}
+use Rattle.jsonb_keypath.proofs.Common.{◌≡◌, ℕ, ◌<◌, ◌≤◌, ◌^◌, List, [], ◌∷◌, length, drop, refl, arith, prefix_len, ◌+◌, nat_lt, Bool, true, false, cond, take_while, is_ascii_digit, digits_value, nat_tests, length-drop, with_sign, Rule, only_if, literal, past, is_space, ws, sign, natural, natural_below, integer, integer_within, is_within, int32, name, quoted, is_stop, is_quote, unit, key, index, quoted_name, unquoted_name, spaced_key, another_key, ReadsSome, IsRun}
 use Rattle.jsonb_keypath.proofs.ReadsLemmas.{NeverGrows, given, some-no_more, grows-give, grows-then, some-then, then-some, grows-choice, some-choice, grows-only_if}
 use Rattle.jsonb_keypath.proofs.CutLemmas.{nothing, some-literal, some-unit, name-cut, quoted-cut}
 

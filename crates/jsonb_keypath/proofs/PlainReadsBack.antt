@@ -1,13 +1,5 @@
 -- Key paths of plain names, and of quoted names without quotes and backslashes, read back as they are.
-use Rattle.std.proofs.Common.{◌≡◌, ℕ, ◌<◌, List, [], ◌∷◌, length, true, Some, refl, ◌∙◌, ap, arith}
-use Rattle.std.specs.Prelude.{map, not, zero, suc}
-use Rattle.std.specs.Char.{is_ascii_digit}
-use Rattle.std.specs.List.{AllByRecursion, list_all}
-use Rattle.std.specs.Str.{is_utf8, IsAscii}
-use Rattle.std.proofs.lemmas.Bool.Decides.{nat_tests}
-use Rattle.std.proofs.lemmas.Str.{is_utf8-from_IsUtf8, IsUtf8-from_ascii}
-use Rattle.jsonb_keypath.specs.KeyPathGrammar.{Key, index, quoted_name, unquoted_name, key_path}
-use Rattle.jsonb_keypath.specs.KeyPathText.{is_word_byte, is_plain_name, key_path_text, IsPlainKey}
+use Rattle.jsonb_keypath.proofs.Common.{◌≡◌, ℕ, ◌<◌, List, [], ◌∷◌, length, true, Some, refl, ◌∙◌, ap, arith, map, not, zero, suc, is_ascii_digit, AllByRecursion, list_all, is_utf8, IsAscii, nat_tests, is_utf8-from_IsUtf8, IsUtf8-from_ascii, Key, index, quoted_name, unquoted_name, key_path, is_word_byte, is_plain_name, key_path_text, IsPlainKey}
 use Rattle.jsonb_keypath.proofs.ReadBackLemmas.{both}
 use Rattle.jsonb_keypath.proofs.KeyPathReadsBack.{IsReadable, reread, key_path-text}
 

@@ -1,11 +1,5 @@
 -- How much of its input a rule reads.
-use Rattle.std.proofs.Common.{◌≡◌, ℕ, zero, suc, ◌<◌, ◌≤◌, List, [], ◌∷◌, length, Bool, true, false, Some, None, refl, sym, ap, ◌∙◌, subst, arith}
-use Rattle.std.specs.Prelude.{nat_lt}
-use Rattle.std.specs.Option.{option_and_then, option_or}
-use Rattle.std.proofs.lemmas.Option.{same_Some}
-use Rattle.std.proofs.lemmas.Bool.Decides.{Decides-ltb}
-use Rattle.jsonb_keypath.specs.Rules.{Parsed, Rule, give, ◌>>=◌, ◌>>◌, ◌</>◌, parsed_map, only_if, turn, up_to, repeat}
-use Rattle.jsonb_keypath.specs.TokenLaws.{ReadsSome, IsRun}
+use Rattle.jsonb_keypath.proofs.Common.{◌≡◌, ℕ, zero, suc, ◌<◌, ◌≤◌, List, [], ◌∷◌, length, Bool, true, false, Some, None, refl, sym, ap, ◌∙◌, subst, arith, nat_lt, option_and_then, option_or, same_Some, Decides-ltb, Parsed, Rule, give, ◌>>=◌, ◌>>◌, ◌</>◌, parsed_map, only_if, turn, up_to, repeat, ReadsSome, IsRun}
 use Rattle.jsonb_keypath.proofs.RepeatLemmas.{enough, repeat-goes, repeat-ends}
 
 -- the rest is no longer than the input

@@ -1,14 +1,5 @@
 -- Rows of key paths, computed from the definitions alone.
-use Rattle.std.proofs.Common.{ℕ, List, [], ◌∷◌, Option, Some, None, refl}
-use Rattle.std.specs.Prelude.{codes, pos, negsuc, option_map}
-use Rattle.std.specs.Fmt.{digits}
-use Rattle.std.specs.Str.{is_utf8, chars}
-use lib.Utf8.{encode}
-use Rattle.jsonb_keypath.specs.Rules.{Parsed, up_to, repeat}
-use Rattle.jsonb_keypath.specs.Tokens.{ws, natural, natural_below, sign, integer, integer_within, four_hex_digits, code_unit, unicode_escape, escape, unit, units, text, name, quoted}
-use Rattle.jsonb_keypath.specs.KeyPathGrammar.{Key, index, quoted_name, unquoted_name, key, spaced_key, some_keys, no_keys, key_path}
-use Rattle.jsonb_keypath.specs.KeyPathText.{key_path_text}
-use Rattle.jsonb_doc.proofs.Tables.{AreRows}
+use Rattle.jsonb_keypath.proofs.Common.{ℕ, List, [], ◌∷◌, Option, Some, None, refl, codes, pos, negsuc, option_map, digits, is_utf8, chars, encode, Parsed, up_to, repeat, ws, natural, natural_below, sign, integer, integer_within, four_hex_digits, code_unit, unicode_escape, escape, unit, units, text, name, quoted, Key, index, quoted_name, unquoted_name, key, spaced_key, some_keys, no_keys, key_path, key_path_text, AreRows}
 
 -- ---- reading; `unfolding read` opens all that it takes
 

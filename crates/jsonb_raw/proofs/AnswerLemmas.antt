@@ -1,14 +1,5 @@
 -- From one word of results to another.
-use Rattle.std.proofs.Common.{◌≡◌, Option, Some, None, Result, Ok, Err, IsOkAnd, IsErrAnd, inl, MatchResult, refl, sym, subst, arith}
-use Rattle.jsonb_doc.specs.declared.error.Error.{Error}
-use Rattle.jsonb_doc.specs.declared.error.Error.TheVariants.{OutOfMemory}
-use Rattle.jsonb_doc.specs.Tree.{Tree}
-use Rattle.jsonb_doc.specs.Payload.{Form}
-use Rattle.jsonb_doc.specs.Answer.{IsOutOfMemory}
-use Rattle.jsonb_doc.specs.Private.Errors.{IsOutOfMemoryOrTooLarge}
-use Rattle.jsonb_raw.specs.Documents.{MakesOption}
-use Rattle.jsonb_raw.specs.Private.Found.{Finds}
-use Rattle.jsonb_raw.specs.declared.owned.OwnedJsonb.{OwnedJsonb}
+use Rattle.jsonb_raw.proofs.Common.{◌≡◌, Option, Some, None, Result, Ok, Err, IsOkAnd, IsErrAnd, inl, MatchResult, refl, sym, subst, arith, Error, OutOfMemory, Tree, Form, IsOutOfMemory, IsOutOfMemoryOrTooLarge, MakesOption, Finds, OwnedJsonb}
 
 pub answered : {A : Type 0} (P : A → Type 0) (r : Result A Error) → IsOkAnd r P → MatchResult r P IsOutOfMemory
 answered P (Ok x) h = h

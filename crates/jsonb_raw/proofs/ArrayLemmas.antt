@@ -1,16 +1,5 @@
 -- Which trees are arrays, and what is made of them.
-use Rattle.std.proofs.Common.{◌≡◌, ◌⊎◌, inl, inr, suc, List, ◌∷◌, length, Option, Some, refl, ap, Any}
-use Rattle.jsonb_doc.specs.Tree.{Tree, array, Trees, no_trees, tree, elements, count}
-use Rattle.jsonb_doc.specs.Payload.{Form}
-use Rattle.jsonb_doc.specs.Format.{Decodes}
-use Rattle.jsonb_doc.specs.Private.Errors.{IsOutOfMemoryOrTooLarge}
-use Rattle.jsonb_doc.specs.Limits.{IsTooLarge}
-use Rattle.jsonb_doc.specs.Representation.Iterators.{HasElementsLeft}
-use Rattle.jsonb_doc.proofs.ElementsLemmas.{IsElementsOf}
-use Rattle.jsonb_doc.specs.declared.error.Error.{Error}
-use Rattle.jsonb_doc.specs.declared.error.Error.TheVariants.{OutOfMemory, TooLarge}
-use Rattle.jsonb_doc.specs.declared.element_iter.ElementIter.{ElementIter}
-use Rattle.jsonb_raw.specs.declared.owned.OwnedJsonb.{OwnedJsonb}
+use Rattle.jsonb_raw.proofs.Common.{◌≡◌, ◌⊎◌, inl, inr, suc, List, ◌∷◌, length, Option, Some, refl, ap, Any, Tree, array, Trees, no_trees, tree, elements, count, Form, Decodes, IsOutOfMemoryOrTooLarge, IsTooLarge, HasElementsLeft, IsElementsOf, Error, OutOfMemory, TooLarge, ElementIter, OwnedJsonb}
 use Rattle.jsonb_raw.proofs.CollectLoops.{Made, one_of_whole}
 
 -- a tree with an iterator over elements is an array

@@ -1,21 +1,7 @@
 -- What the calls on children return, by the item or the spot that was found.
-use Rattle.std.proofs.Common.{◌≡◌, ◌≤◌, ◌↔◌, ℕ, suc, zero, ℤ, Bool, true, false, IsTrue, List, [], ◌∷◌, map, length, drop, slice_get, Option, Some, None, Bor, refl, ap, arith, remove, drop_of_length-le}
-use Rattle.std.specs.Char.{to_ascii_lowercase}
-use Rattle.std.proofs.lemmas.Slice.Eq.{bytes_eq-Decides}
-use Rattle.std.specs.Str.{str_eq_ignore_ascii_case}
-use Rattle.jsonb_doc.specs.Tree.{Tree, array, object, Trees, Pairs, elements, trees_of, field_of}
-use Rattle.jsonb_doc.specs.Payload.{Form}
-use Rattle.jsonb_doc.specs.Format.{Decodes}
-use Rattle.jsonb_doc.specs.declared.cursor.Entries.{Entries}
-use Rattle.jsonb_raw.specs.Private.Entries.{AreElementsOf}
+use Rattle.jsonb_raw.proofs.Common.{◌≡◌, ◌≤◌, ◌↔◌, ℕ, suc, zero, ℤ, Bool, true, false, IsTrue, List, [], ◌∷◌, map, length, drop, slice_get, Option, Some, None, Bor, refl, ap, arith, remove, drop_of_length-le, to_ascii_lowercase, bytes_eq-Decides, str_eq_ignore_ascii_case, Tree, array, object, Trees, Pairs, elements, trees_of, field_of, Form, Decodes, Entries, AreElementsOf, StandsFor, Item, trees_of-elements, index_position, is_object, element_at, named_child, without_index, without_name}
 use Rattle.jsonb_raw.proofs.ChildLemmas.{nowhere, first_behind}
-use Rattle.jsonb_doc.specs.Item.{StandsFor}
-use Rattle.jsonb_doc.specs.declared.item.Item.{Item}
 use Rattle.jsonb_doc.specs.declared.item.Item.TheVariants as item
-use Rattle.jsonb_doc.proofs.TreeLists.{trees_of-elements}
-use Rattle.jsonb_raw.specs.Places.{index_position}
-use Rattle.jsonb_raw.specs.Scalars.{is_object}
-use Rattle.jsonb_raw.specs.Children.{element_at, named_child, without_index, without_name}
 
 -- ---- arrays and objects by their items
 

@@ -1,7 +1,6 @@
 -- A loop that makes one value for each part: those that were made, followed by the parts that are left, are the whole.
-use Rattle.std.proofs.Common.{◌≡◌, List, [], ◌∷◌, ◌++◌, suc, arith, refl, sym, subst, ◌∙◌, append_assoc, append-nil}
-use Rattle.std.specs.List.{Any, AllZip}
-use Rattle.jsonb_doc.proofs.Basics.{zip_more}
+use Rattle.jsonb_raw.proofs.Common.{◌≡◌, List, [], ◌∷◌, ◌++◌, suc, arith, refl, sym, subst, ◌∙◌, append_assoc, append-nil, AllZip, zip_more}
+use Rattle.std.specs.List.{Any}
 
 -- R holds of what was made and the parts at the front
 pub record Made {A B : Type 0} (R : A → B → Type 0) (made : List A) (left whole : List B) : Type 0 where

@@ -1,19 +1,5 @@
 -- A loop that makes a composite key: what is written, followed by the keys of the values that are left, is the whole.
-use Rattle.std.proofs.Common.{◌≡◌, ℕ, zero, suc, ◌<◌, ◌≤◌, ◌+◌, List, [], ◌∷◌, ◌++◌, flat_map, drop, length, get_or, Option, None, Some, Result, Ok, Err, refl, inl, sym, subst, ◌∙◌, arith, append_assoc, append-nil, IsSomeAnd}
-use Rattle.std.specs.Int.{Width}
-use Rattle.std.specs.List.{AllZip, AllByRecursion}
-use Rattle.std.proofs.lemmas.List.{drop_more}
-use Rattle.jsonb_doc.specs.Tree.{Tree}
-use Rattle.jsonb_doc.specs.Payload.{Form}
-use Rattle.jsonb_doc.specs.Format.{Decodes}
-use Rattle.jsonb_doc.specs.Depth.{deepest}
-use Rattle.jsonb_doc.specs.Answer.{SameOption}
-use Rattle.jsonb_doc.specs.declared.error.Error.{Error}
-use Rattle.jsonb_raw.specs.Documents.{raw_bytes}
-use Rattle.jsonb_raw.specs.Private.KeyErrors.{IsOutOfMemoryOrTooDeep}
-use Rattle.jsonb_raw.specs.SortableKey.{depths}
-use Rattle.jsonb_raw.specs.CompositeKeys.{column_key, deepest_of_columns, AppendsColumn}
-use Rattle.jsonb_raw.specs.declared.raw.RawJsonb.{RawJsonb}
+use Rattle.jsonb_raw.proofs.Common.{◌≡◌, ℕ, zero, suc, ◌<◌, ◌≤◌, ◌+◌, List, [], ◌∷◌, ◌++◌, flat_map, drop, length, get_or, Option, None, Some, Result, Ok, Err, refl, inl, sym, subst, ◌∙◌, arith, append_assoc, append-nil, IsSomeAnd, Width, AllZip, AllByRecursion, drop_more, Tree, Form, Decodes, deepest, SameOption, Error, raw_bytes, IsOutOfMemoryOrTooDeep, depths, column_key, deepest_of_columns, AppendsColumn, RawJsonb}
 use Rattle.jsonb_raw.proofs.KeyLawProofs.{some_depth}
 use Rattle.jsonb_raw.proofs.LevelKeys.{IsToward, IsToward-refused}
 

@@ -1,26 +1,8 @@
 -- Pairs that are merged, and the laws of concatenation.
-use Rattle.std.proofs.Common.{◌≡◌, ◌⊎◌, ℕ, List, [], ◌∷◌, ◌++◌, Bool, true, false, not, Option, Some, None, refl, sym, ap, ◌∙◌, append_assoc, append-nil, Ordering, Less, Equal, Greater, subst, arith}
-use Rattle.std.specs.Map.{keys_of}
-use Rattle.std.specs.Ordering.{nat_cmp, ordering_reverse, match_ordering}
-use Rattle.std.specs.Cmp.Lexicographic.{slice_cmp, nat_list_cmp_total}
-use Rattle.jsonb_doc.specs.Tree.{Tree, Trees, Pairs, array, object, elements}
-use Rattle.jsonb_doc.specs.Payload.{Form}
-use Rattle.jsonb_doc.specs.Format.{IsBelowFirst}
-use Rattle.jsonb_doc.specs.ObjectBuilder.{insert_pair}
-use Rattle.jsonb_doc.proofs.BuilderSteps.{AreRising, keys_rise}
-use Rattle.jsonb_doc.proofs.ObjectLemmas.{below_inserted}
-use Rattle.jsonb_raw.specs.declared.functions.parts.PairEntries.{PairEntries}
-use Rattle.jsonb_raw.specs.declared.functions.parts.FirstPair.{FirstPair}
-use Rattle.jsonb_raw.specs.declared.functions.parts.PairRuns.{PairRuns}
-use Rattle.jsonb_raw.specs.Private.Merging.{merged}
-use Rattle.jsonb_raw.specs.Private.Entries.{HoldPairs, TakesFirstPair, IsFirstPair, PairsHeld, PairsOpen}
+use Rattle.jsonb_raw.proofs.Common.{◌≡◌, ◌⊎◌, ℕ, List, [], ◌∷◌, ◌++◌, Bool, true, false, not, Option, Some, None, refl, sym, ap, ◌∙◌, append_assoc, append-nil, Ordering, Less, Equal, Greater, subst, arith, keys_of, ordering_reverse, match_ordering, slice_cmp, nat_list_cmp_total, Tree, Trees, Pairs, array, object, elements, Form, IsBelowFirst, insert_pair, AreRising, keys_rise, below_inserted, PairEntries, FirstPair, PairRuns, merged, HoldPairs, TakesFirstPair, IsFirstPair, PairsHeld, PairsOpen, below_next, bytes_cmp_refl, bytes_eq-Decides, Fits, elements-trees_of, members-pairs_of, keys_of-members, concat}
+use Rattle.std.specs.Ordering.{nat_cmp}
 use Rattle.jsonb_raw.proofs.PairStepLemmas.{same_below, turned, equal_keys, test_of_order}
 use Rattle.jsonb_raw.proofs.RunLemmas.{pairs_begun, no_pairs_held, pair_kept, others_hold, left_holds, pair_taken, no_pair_left}
-use Rattle.jsonb_doc.proofs.Basics.{below_next, bytes_cmp_refl}
-use Rattle.std.proofs.lemmas.Slice.Eq.{bytes_eq-Decides}
-use Rattle.jsonb_doc.specs.Limits.{Fits}
-use Rattle.jsonb_doc.proofs.TreeLists.{elements-trees_of, members-pairs_of, keys_of-members}
-use Rattle.jsonb_raw.specs.Concat.{concat}
 
 abbrev Member : Type 0
 Member = List ℕ × Tree

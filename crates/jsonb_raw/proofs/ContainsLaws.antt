@@ -1,15 +1,6 @@
 -- A tree contains itself, and what the trees that it contains do.
-use Rattle.std.proofs.Common.{◌≡◌, ℕ, Bool, true, false, ◌&&◌, ◌||◌, not, IsTrue, List, [], ◌∷◌, ◌++◌, refl, sym, ◌∙◌, append_assoc, bytes_eq, arith}
-use Rattle.std.specs.List.{list_any}
-use Rattle.std.proofs.lemmas.Slice.Eq.{bytes_eq-Decides}
-use Rattle.jsonb_doc.specs.Tree.{Tree, null, boolean, number, text, extension, array, object, Trees, no_trees, tree, Pairs, no_pairs, pair, elements, members}
-use Rattle.jsonb_doc.specs.Equal.{is_equal}
-use Rattle.jsonb_doc.specs.Proofs.Equality.{is_equal_equiv, both, first_of_both, second_of_both}
-use Rattle.std.specs.Cmp.{partial_equiv_from_equiv}
-use Rattle.jsonb_raw.specs.Scalars.{is_extension_value, is_json_scalar}
-use Rattle.jsonb_raw.specs.Contains.{contains, is_part_of, each_is_matched, each_pair_is_matched}
+use Rattle.jsonb_raw.proofs.Common.{◌≡◌, ℕ, Bool, true, false, ◌&&◌, ◌||◌, not, IsTrue, List, [], ◌∷◌, ◌++◌, refl, sym, ◌∙◌, append_assoc, bytes_eq, arith, list_any, bytes_eq-Decides, Tree, null, boolean, number, text, extension, array, object, Trees, no_trees, tree, Pairs, no_pairs, pair, elements, members, is_equal, is_equal_equiv, both, first_of_both, second_of_both, partial_equiv_from_equiv, is_extension_value, is_json_scalar, contains, is_part_of, each_is_matched, each_pair_is_matched, bytes_eq-same}
 use Rattle.jsonb_raw.proofs.ContainLemmas.{contains-extension, contains-array, contains-object, array_contains_plain, object_equals_no_plain, extension_equals_no_plain}
-use Rattle.jsonb_doc.proofs.WordLemmas.{bytes_eq-same}
 
 bytes_trans : (a b c : List ℕ) → bytes_eq a b ≡ true → bytes_eq b c ≡ true → bytes_eq a c ≡ true
 bytes_trans a b c h k = (bytes_eq-Decides a c).1 ((bytes_eq-Decides a b).0 h ∙ (bytes_eq-Decides b c).0 k)

@@ -1,8 +1,5 @@
 -- An iterator of copies determines what is left in it if the iterator below does.
-use Rattle.std.proofs.Common.{List, map, Option, Some, None, ap, option_copied, Bor}
-use Rattle.std.specs.Iterator.{YieldsFirstRef}
-use Rattle.std.specs.Iterator.Adapters.{copied_steps, copied_source}
-use Rattle.jsonb_raw.specs.Iterators.{YieldsItemsLeft}
+use Rattle.jsonb_raw.proofs.Common.{List, map, Option, Some, None, ap, option_copied, Bor, YieldsFirstRef, copied_steps, copied_source, YieldsItemsLeft}
 
 -- `copied()` of an iterator over references
 pub copied_tells : {S A : Type 0} (steps : S → Option (Bor (Bor A)) → S → Type 0) (left : S → List (Bor A)) → YieldsItemsLeft steps left

@@ -1,35 +1,10 @@
 -- Containers without a value within them: their entries, the way to the value, and numbers of bytes.
-use Rattle.std.proofs.Common.{◌≡◌, ℕ, zero, suc, ◌+◌, ◌-◌, ◌^◌, ◌<◌, ◌≤◌, inl, List, [], ◌∷◌, ◌++◌, length, take, drop, map, Option, Some, None, refl, sym, ap, ap₂, subst, ◌∙◌, arith, append_assoc, append-nil, slice_get}
-use Rattle.std.specs.Prelude.{reverse, option_map}
-use Rattle.std.specs.Option.{option_to_list}
+use Rattle.jsonb_raw.proofs.Common.{◌≡◌, ℕ, zero, suc, ◌+◌, ◌-◌, ◌^◌, ◌<◌, ◌≤◌, inl, List, [], ◌∷◌, ◌++◌, length, take, drop, map, Option, Some, None, refl, sym, ap, ap₂, subst, ◌∙◌, arith, append_assoc, append-nil, slice_get, reverse, option_map, option_to_list, keys_of, values_of, length-take-le, length-values_of, Tree, text, array, object, Trees, Pairs, no_pairs, pair, elements, keys, values, members, trees_of, pairs_of, children_of, Form, number_reader, IsBelowFirst, AreKeys, IsContent, Decodes, kind_number, container_entry, Make, AreSortedKeys, Around, Rooms, IsWriting, EndsWithin, head_size, Entries, StoredEntry, Container, HeaderKind, Writer, innermost, keys_rise, keys_of-members, Key, ContainerEntries, ParentEntries, Outer, children, child_position, change_at, change_child, remove_at, HoldTrees, TakesFirst, AreEntriesOf, AreContainerEntries, count_kept, IsParent, LeadTo, HoldsValue, StepsInto, children_kept, size, sizes, AreShort, AreLeft, rooms_after}
 use Rattle.std.specs.List.{remove}
-use Rattle.std.specs.Map.{keys_of, values_of}
 use Rattle.std.proofs.lemmas.Cmp.{nat_list_cmp_total}
-use Rattle.std.proofs.lemmas.List.{length-append, length-take-le, length-drop, take_all}
-use Rattle.std.proofs.lemmas.Map.Entries.{length-values_of}
-use Rattle.jsonb_doc.specs.Tree.{Tree, text, array, object, Trees, Pairs, no_pairs, pair, elements, keys, values, members, trees_of, pairs_of, children_of}
-use Rattle.jsonb_doc.specs.Payload.{Form, number_reader}
-use Rattle.jsonb_doc.specs.Format.{IsBelowFirst, AreKeys, IsContent, Decodes}
-use Rattle.jsonb_doc.specs.Kinds.{kind_number}
-use Rattle.jsonb_doc.specs.Private.EntryKinds.{container_entry}
-use Rattle.jsonb_doc.specs.Private.Writer.{Make, AreSortedKeys, Around, Rooms, IsWriting, EndsWithin, head_size}
-use Rattle.jsonb_doc.specs.declared.cursor.Entries.{Entries}
-use Rattle.jsonb_doc.specs.declared.entry_iter.StoredEntry.{StoredEntry}
-use Rattle.jsonb_doc.specs.declared.layout.EntryKind.TheVariants.{Container}
-use Rattle.jsonb_doc.specs.declared.layout.HeaderKind.{HeaderKind}
+use Rattle.std.proofs.lemmas.List.{length-append, length-drop, take_all}
 use Rattle.jsonb_doc.specs.declared.layout.HeaderKind.TheVariants as header_kind
-use Rattle.jsonb_doc.specs.declared.rewriting.Writer.{Writer}
-use Rattle.jsonb_doc.proofs.Basics.{innermost}
-use Rattle.jsonb_doc.proofs.BuilderSteps.{keys_rise}
-use Rattle.jsonb_doc.proofs.TreeLists.{keys_of-members}
-use Rattle.jsonb_keypath.specs.KeyPathGrammar.{Key}
-use Rattle.jsonb_raw.specs.declared.functions.parts.ContainerEntries.{ContainerEntries}
-use Rattle.jsonb_raw.specs.declared.functions.path.parent_entries.ParentEntries.{ParentEntries}
-use Rattle.jsonb_raw.specs.declared.functions.path.cut.Outer.{Outer}
-use Rattle.jsonb_raw.specs.Places.{children, child_position}
-use Rattle.jsonb_raw.specs.Deletes.{change_at, change_child, remove_at}
-use Rattle.jsonb_raw.specs.Private.Entries.{HoldTrees, TakesFirst, AreEntriesOf, AreContainerEntries}
-use Rattle.jsonb_raw.specs.Private.Cuts.{entries_kept, count_kept, IsParent, LeadTo, HoldsValue, StepsInto, children_kept, size, sizes, AreShort, AreLeft, rooms_after}
+use Rattle.jsonb_raw.specs.Private.Cuts.{entries_kept}
 use Rattle.jsonb_raw.proofs.ChildAnswers.{drop_one_more}
 use Rattle.jsonb_raw.proofs.ChildLemmas.{split_at}
 use Rattle.jsonb_raw.proofs.NamedPairs.{names_around, values_around}

@@ -1,15 +1,5 @@
 -- A document without the place that steps select, or the same document.
-use Rattle.std.proofs.Common.{◌≡◌, inl, inr, ℕ, List, [], ◌∷◌, Option, Some, None, Result, Ok, Err, refl, sym, subst, ◌∙◌, Vec, Global, MatchResult}
-use Rattle.jsonb_doc.specs.declared.error.Error.{Error}
-use Rattle.jsonb_doc.specs.Tree.{Tree}
-use Rattle.jsonb_doc.specs.Payload.{Form}
-use Rattle.jsonb_doc.specs.Format.{Decodes}
-use Rattle.jsonb_doc.specs.Answer.{SameOption, IsOutOfMemory}
-use Rattle.jsonb_keypath.specs.KeyPathGrammar.{Key}
-use Rattle.jsonb_raw.specs.declared.functions.path.parent_entries.ParentEntries.{ParentEntries}
-use Rattle.jsonb_raw.specs.Places.{location}
-use Rattle.jsonb_raw.specs.Deletes.{change_child, remove_at, without, MeetNoPart}
-use Rattle.jsonb_raw.specs.Private.Cuts.{LeadTo, Leads}
+use Rattle.jsonb_raw.proofs.Common.{◌≡◌, inl, inr, ℕ, List, [], ◌∷◌, Option, Some, None, Result, Ok, Err, refl, sym, subst, ◌∙◌, Vec, Global, MatchResult, Error, Tree, Form, Decodes, SameOption, IsOutOfMemory, Key, ParentEntries, location, change_child, remove_at, without, MeetNoPart, LeadTo, Leads}
 use Rattle.jsonb_raw.proofs.CutLemmas.{no_more}
 
 -- the way to the place that was found, or none

@@ -1,14 +1,5 @@
 -- Steps from a number's digits to those of the number without its last digit.
-use Rattle.std.proofs.Common.{◌≡◌, ◌≢◌, ℕ, suc, ◌+◌, ◌/◌, ◌%◌, ◌^◌, ◌<◌, ◌≤◌, ◌==◌, ◌&&◌, Bool, true, false, cond, List, [], ◌∷◌, ◌++◌, map, length, drop, refl, sym, ap, ap₂, ◌∙◌, arith, append_assoc, ◌-◌, take, w16, ne_eqb}
-use Rattle.std.specs.List.{list_all}
-use Rattle.std.specs.Int.Digits.{digits_of}
-use Rattle.std.proofs.lemmas.List.{map-append, take-take}
-use Rattle.std.proofs.lemmas.Int.Digits.{digits_of_step, length-digits_of_step, length-digits_of-le}
-use Rattle.jsonb_raw.specs.SortableKey.{significant, magnitude_bytes}
-use Rattle.jsonb_raw.specs.Private.Complements.{complement_byte, complement_bytes}
-use Rattle.jsonb_raw.specs.Private.WrittenBefore.{WritesBefore}
-use Rattle.std.specs.Int.{to_be_bytes}
-use Rattle.std.proofs.Math.Seq.{take-append-add}
+use Rattle.jsonb_raw.proofs.Common.{◌≡◌, ◌≢◌, ℕ, suc, ◌+◌, ◌/◌, ◌%◌, ◌^◌, ◌<◌, ◌≤◌, ◌==◌, ◌&&◌, Bool, true, false, cond, List, [], ◌∷◌, ◌++◌, map, length, drop, refl, sym, ap, ap₂, ◌∙◌, arith, append_assoc, ◌-◌, take, w16, ne_eqb, list_all, digits_of, map-append, take-take, digits_of_step, length-digits_of_step, length-digits_of-le, significant, magnitude_bytes, complement_byte, complement_bytes, WritesBefore, to_be_bytes, take-append-add}
 
 pub count_step : (n : ℕ) → 0 < n → length (digits_of 10 (n / 10)) + 1 ≡ length (digits_of 10 n)
 count_step n h = sym (length-digits_of_step 10 n (omega arith) h)

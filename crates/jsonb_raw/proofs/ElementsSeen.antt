@@ -1,31 +1,8 @@
 -- How the counts of equality keys change, and what a count says of equal elements.
-use Rattle.std.proofs.Common.{◌≡◌, ◌+◌, ◌-◌, ◌<◌, ◌≤◌, ◌^◌, ℕ, Bool, true, false, not, List, [], ◌∷◌, refl, sym, ap, ap₂, ◌∙◌, cond, Vec, arith, length, Option, Some, unwrap_or, nat_lt, nat_eq, suc, min, take, Result, Ok, Err, IsOkAnd, MatchResult, bytes_eq, nat_cmp, is_eq}
-use Rattle.std.specs.List.{AllByRecursion}
-use Rattle.std.specs.Cmp.Lexicographic.{slice_cmp}
+use Rattle.jsonb_raw.proofs.Common.{◌≡◌, ◌+◌, ◌-◌, ◌<◌, ◌≤◌, ◌^◌, ℕ, Bool, true, false, not, List, [], ◌∷◌, refl, sym, ap, ap₂, ◌∙◌, cond, Vec, arith, length, Option, Some, unwrap_or, nat_lt, nat_eq, suc, min, take, Result, Ok, Err, IsOkAnd, MatchResult, bytes_eq, nat_cmp, is_eq, AllByRecursion, slice_cmp, is_eq-slice_cmp, bytes_eq-Decides, count_by-le-length, sum_by-cons, Tree, Fits, is_equal, equality_key, count_of, is_shared, key_cmp, counted, one_at, with_key, CountsKeys, keeps, CountsAfter, in_order, ArePassed, KeyCounts, SetOperation, First, Shared, Unshared, nat_tests, same_test, Form, IsOutOfMemory, Error, Entries, as_elements, HoldTrees, ElementsPassed}
 use Rattle.std.specs.declared.alloc.Global.{Global}
 use Rattle.std.specs.BTreeMap as map
-use Rattle.std.proofs.lemmas.Map.Text.{is_eq-slice_cmp}
-use Rattle.std.proofs.lemmas.Slice.Eq.{bytes_eq-Decides}
-use Rattle.std.proofs.lemmas.List.Sums.{count_by-le-length, sum_by-cons}
-use Rattle.jsonb_doc.specs.Tree.{Tree}
-use Rattle.jsonb_doc.specs.Limits.{Fits}
-use Rattle.jsonb_doc.specs.Equal.{is_equal}
-use Rattle.jsonb_raw.specs.EqualityKey.{equality_key}
-use Rattle.jsonb_raw.specs.Sets.{count_of, is_shared}
-use Rattle.jsonb_raw.specs.Private.SetCounts.{key_cmp, counted, one_at, with_key, CountsKeys, keeps, CountsAfter, in_order, ArePassed}
-use Rattle.jsonb_raw.specs.declared.functions.array.counts.KeyCounts.{KeyCounts}
-use Rattle.jsonb_raw.specs.declared.functions.array.sets.SetOperation.{SetOperation}
-use Rattle.jsonb_raw.specs.declared.functions.array.sets.SetOperation.TheVariants.{First, Shared, Unshared}
-use Rattle.std.proofs.lemmas.Bool.Decides.{nat_tests}
 use Rattle.jsonb_raw.proofs.KeyLawProofs.{equality_keys_tell_apart}
-use Rattle.jsonb_doc.proofs.Basics.{same_test}
-use Rattle.jsonb_doc.specs.Payload.{Form}
-use Rattle.jsonb_doc.specs.Answer.{IsOutOfMemory}
-use Rattle.jsonb_doc.specs.declared.error.Error.{Error}
-use Rattle.jsonb_doc.specs.declared.cursor.Entries.{Entries}
-use Rattle.jsonb_raw.specs.Arrays.{as_elements}
-use Rattle.jsonb_raw.specs.Private.Entries.{HoldTrees}
-use Rattle.jsonb_raw.specs.declared.functions.array.seen.ElementsPassed.{ElementsPassed}
 use Rattle.jsonb_raw.proofs.SetKept.{elements_few}
 use Rattle.jsonb_raw.proofs.SetLawProofs.{count-cons}
 use Rattle.jsonb_raw.proofs.EntriesLeft.{take_one, take_no, take_zero}

@@ -1,13 +1,6 @@
 -- A walk over levels that spells equality keys: what is written, and then the keys of what each level has left, the
 -- innermost first, is the whole.
-use Rattle.std.proofs.Common.{◌≡◌, ◌++◌, ℕ, List, [], ◌∷◌, Some, None, refl, sym, ap, ◌∙◌, append_assoc, append-nil, length, arith, reverse}
-use Rattle.jsonb_doc.specs.Tree.{Tree, Trees, Pairs}
-use Rattle.jsonb_doc.specs.Payload.{Form}
-use Rattle.jsonb_raw.specs.SortableKey.{text_bytes}
-use Rattle.jsonb_raw.specs.EqualityKey.{equality_key, equality_keys_of_trees, equality_keys_of_pairs}
-use Rattle.jsonb_raw.specs.Private.EqualityParts.{equality_start, equality_part_start}
-use Rattle.jsonb_raw.specs.Private.Levels.{EntryPrefix, parts, parts_of_trees, parts_of_pairs}
-use Rattle.jsonb_raw.specs.declared.level.ChildCursor.{ChildCursor}
+use Rattle.jsonb_raw.proofs.Common.{◌≡◌, ◌++◌, ℕ, List, [], ◌∷◌, Some, None, refl, sym, ap, ◌∙◌, append_assoc, append-nil, length, arith, reverse, Tree, Trees, Pairs, Form, text_bytes, equality_key, equality_keys_of_trees, equality_keys_of_pairs, equality_start, equality_part_start, EntryPrefix, parts, parts_of_trees, parts_of_pairs, ChildCursor}
 use Rattle.jsonb_raw.proofs.LevelLemmas.{HavePartsLeft, as_many_around}
 
 -- ---- the key of a tree by its parts

@@ -1,13 +1,5 @@
 -- A tree whose leaves are not extensions has none, at every depth.
-use Rattle.std.proofs.Common.{ℕ, suc, pos, false, List, [], ◌∷◌, ◌++◌, not, IsTrue}
-use Rattle.std.specs.List.{AllByRecursion}
-use Rattle.std.specs.Map.{values_of}
-use Rattle.jsonb_doc.specs.Tree.{Tree, extension, array, object, Trees, no_trees, tree, Pairs, no_pairs, pair}
-use Rattle.jsonb_keypath.specs.KeyPathGrammar.{Key, index, unquoted_name}
-use Rattle.jsonb_raw.specs.Leaves.{Leaf, leaves_at, leaves, leaves_of_trees, leaves_of_pairs}
-use Rattle.jsonb_raw.specs.Private.LeafSteps.{behind}
-use Rattle.jsonb_raw.specs.NoExtension.{HasNoExtension}
-use Rattle.jsonb_raw.specs.Scalars.{is_extension_value}
+use Rattle.jsonb_raw.proofs.Common.{ℕ, suc, pos, false, List, [], ◌∷◌, ◌++◌, not, IsTrue, AllByRecursion, values_of, Tree, extension, array, object, Trees, no_trees, tree, Pairs, no_pairs, pair, Key, index, unquoted_name, Leaf, leaves_at, leaves, leaves_of_trees, leaves_of_pairs, behind, HasNoExtension, is_extension_value}
 
 abbrev mutual
   pub LacksExtension : Tree → Type 0

@@ -1,15 +1,6 @@
 -- A pair that is taken out of an object is gone.
-use Rattle.std.proofs.Common.{◌≡◌, ℕ, zero, suc, Bool, true, false, List, [], ◌∷◌, ◌++◌, length, Option, Some, None, refl, sym, ap, subst, ◌∙◌, slice_get, is_eq, bytes_eq, position, option_and_then, option_map, unwrap_or}
+use Rattle.jsonb_raw.proofs.Common.{◌≡◌, ℕ, zero, suc, Bool, true, false, List, [], ◌∷◌, ◌++◌, length, Option, Some, None, refl, sym, ap, subst, ◌∙◌, slice_get, is_eq, bytes_eq, position, option_and_then, option_map, unwrap_or, is_eq-slice_cmp, Tree, null, boolean, number, text, extension, array, object, Trees, no_trees, tree, Pairs, no_pairs, pair, elements, keys, values, members, trees_of, pairs_of, IsBelowFirst, AreKeys, IsInRange, AreInRange, ValuesAreInRange, Fits, bytes_eq-true, Key, index, quoted_name, unquoted_name, children, asked_key, child_position, location, tree_at_steps, index_position, change_at, change_child, remove_at, without, trees_of-elements, pairs_of-members}
 use Rattle.std.proofs.lemmas.Cmp.{nat_list_cmp_total}
-use Rattle.std.proofs.lemmas.Map.Text.{is_eq-slice_cmp}
-use Rattle.jsonb_doc.specs.Tree.{Tree, null, boolean, number, text, extension, array, object, Trees, no_trees, tree, Pairs, no_pairs, pair, elements, keys, values, members, trees_of, pairs_of}
-use Rattle.jsonb_doc.specs.Format.{IsBelowFirst, AreKeys}
-use Rattle.jsonb_doc.specs.Limits.{IsInRange, AreInRange, ValuesAreInRange, Fits}
-use Rattle.jsonb_doc.proofs.WordLemmas.{bytes_eq-true}
-use Rattle.jsonb_keypath.specs.KeyPathGrammar.{Key, index, quoted_name, unquoted_name}
-use Rattle.jsonb_raw.specs.Places.{children, asked_key, child_position, location, tree_at_steps, index_position}
-use Rattle.jsonb_raw.specs.Deletes.{change_at, change_child, remove_at, without}
-use Rattle.jsonb_doc.proofs.TreeLists.{trees_of-elements, pairs_of-members}
 use Rattle.jsonb_raw.proofs.PositionLemmas.{position-cons, step_by_step, position_in_object}
 
 -- the trees with what is made of the one at a position

@@ -1,18 +1,7 @@
 -- Hashes of numbers, and of trees that are equal by value.
-use Rattle.std.proofs.Common.{◌≡◌, ℕ, zero, suc, ◌-◌, ◌*◌, ◌^◌, ◌<◌, ◌≤◌, ◌+◌, ◌%◌, ◌&&◌, Bool, true, false, List, length, slice_index_or, slice_set, ℤ, pos, negsuc, neg_ℤ, refl, sym, ap, ◌∙◌, arith, true≢false, unsigned_abs, int_lt, bytes_eq}
-use native.Mathlib.Nat.{one-le-pow}
-use Rattle.std.specs.Ordering.{eq_by_cmp, is_eq, int_cmp}
+use Rattle.jsonb_raw.proofs.Common.{◌≡◌, ℕ, zero, suc, ◌-◌, ◌*◌, ◌^◌, ◌<◌, ◌≤◌, ◌+◌, ◌%◌, ◌&&◌, Bool, true, false, List, length, slice_index_or, slice_set, ℤ, pos, negsuc, neg_ℤ, refl, sym, ap, ◌∙◌, arith, true≢false, unsigned_abs, int_lt, bytes_eq, one-le-pow, eq_by_cmp, int_cmp, and_parts, nat_tests, get_or-set_at, int_ranked, bytes_eq-Decides, Number, Variant, number_cmp, number_from, common, at_common, is_equal, are_equal, pairs_are_equal, Tree, null, boolean, number, text, extension, array, object, Trees, no_trees, tree, Pairs, no_pairs, pair, values, value_hash, IsPartHash, AreHashed, IsHashOf}
+use Rattle.std.specs.Ordering.{is_eq}
 use Rattle.std.specs.declared.cmp.Ordering.{Ordering}
-use Rattle.std.proofs.lemmas.Bool.{and_parts}
-use Rattle.std.proofs.lemmas.Bool.Decides.{nat_tests}
-use Rattle.std.proofs.lemmas.Grind.{get_or-set_at}
-use Rattle.std.proofs.lemmas.Cmp.{int_ranked}
-use Rattle.std.proofs.lemmas.Slice.Eq.{bytes_eq-Decides}
-use Rattle.jsonb_doc.specs.Number.{Number, Variant, number_cmp, number_from}
-use Rattle.jsonb_doc.specs.Proofs.NumberOrder.{common, at_common}
-use Rattle.jsonb_doc.specs.Equal.{is_equal, are_equal, pairs_are_equal}
-use Rattle.jsonb_doc.specs.Tree.{Tree, null, boolean, number, text, extension, array, object, Trees, no_trees, tree, Pairs, no_pairs, pair, values}
-use Rattle.jsonb_raw.specs.Private.Hashes.{value_hash, IsPartHash, AreHashed, IsHashOf}
 
 module _ (variant : Variant) (scale power m : ℕ) (few : scale ≤ 6) (is : power ≡ 10 ^ (6 - scale)) where
   -- a number of these parts has the hash of their product

@@ -1,32 +1,8 @@
 -- The position at which a value is inserted, and the entries that result.
-use Rattle.std.proofs.Common.{◌≡◌, ℕ, ◌+◌, ◌<◌, true, false, List, [], ◌∷◌, ◌++◌, length, refl, sym, ap, subst, ◌∙◌, arith, append_assoc, Some, None, Less, Equal, Greater, map, take, drop, append-nil, is_some, nat_cmp, length-append, take_at, drop_at}
-use Rattle.std.specs.Cmp.Lexicographic.{slice_cmp}
-use Rattle.std.specs.Map.{keys_of, values_of}
-use Rattle.std.specs.Cmp.{Equal-is}
-use Rattle.std.proofs.lemmas.Map.Text.{is_eq-slice_cmp}
-use Rattle.std.proofs.lemmas.Slice.Eq.{bytes_eq-Decides}
-use Rattle.jsonb_doc.specs.Tree.{Tree, object, Pairs, no_pairs, pair, keys, value_under, text, members, pairs_of}
-use Rattle.jsonb_doc.specs.Payload.{Form}
-use Rattle.jsonb_doc.specs.Format.{Decodes, IsBelowFirst, AreKeys}
-use Rattle.jsonb_doc.specs.ObjectBuilder.{insert_pair}
-use Rattle.jsonb_doc.specs.Representation.Iterators.{HasKeysLeft}
-use Rattle.jsonb_doc.specs.declared.key_iter.KeyIter.{KeyIter}
-use Rattle.jsonb_doc.proofs.BuilderSteps.{keys_rise, AreRising}
-use Rattle.jsonb_doc.proofs.LimitLemmas.{decoded_keys}
-use Rattle.jsonb_raw.specs.declared.functions.object.pair_parts.PairPlace.{PairPlace}
-use Rattle.jsonb_raw.specs.Private.Inserts.{AreBelow, IsInPlace, IsPlaceAmong, IsPairPlace}
-use Rattle.jsonb_raw.specs.Objects.{has_name}
+use Rattle.jsonb_raw.proofs.Common.{◌≡◌, ℕ, ◌+◌, ◌<◌, true, false, List, [], ◌∷◌, ◌++◌, length, refl, sym, ap, subst, ◌∙◌, arith, append_assoc, Some, None, Less, Equal, Greater, map, take, drop, append-nil, is_some, nat_cmp, length-append, take_at, drop_at, slice_cmp, keys_of, values_of, Equal-is, is_eq-slice_cmp, bytes_eq-Decides, Tree, object, Pairs, no_pairs, pair, keys, value_under, text, members, pairs_of, Form, Decodes, IsBelowFirst, AreKeys, insert_pair, HasKeysLeft, KeyIter, keys_rise, AreRising, decoded_keys, PairPlace, AreBelow, IsInPlace, IsPlaceAmong, IsPairPlace, has_name, length-keys_of, length-values_of, Entries, Make, Around, IsWriting, Writer, keys_of-members, PairEntries, HoldTrees, HoldPairs, many_texts}
 use Rattle.jsonb_raw.proofs.PairStepLemmas.{no_value, value_after_less, value_at_equal, turned, equal_keys}
-use Rattle.std.proofs.lemmas.Map.Entries.{length-keys_of, length-values_of}
-use Rattle.jsonb_doc.specs.declared.cursor.Entries.{Entries}
 use Rattle.jsonb_doc.specs.declared.layout.HeaderKind.TheVariants as header_kind
-use Rattle.jsonb_doc.specs.Private.Writer.{Make, Around, IsWriting}
-use Rattle.jsonb_doc.specs.declared.rewriting.Writer.{Writer}
-use Rattle.jsonb_doc.proofs.TreeLists.{keys_of-members}
-use Rattle.jsonb_raw.specs.declared.functions.parts.PairEntries.{PairEntries}
-use Rattle.jsonb_raw.specs.Private.Entries.{HoldTrees, HoldPairs}
 use Rattle.jsonb_raw.proofs.RunLemmas.{text_names, all_values}
-use Rattle.jsonb_doc.proofs.Basics.{many_texts}
 
 -- ---- orders
 

@@ -1,21 +1,5 @@
 -- What an iterator of a document has left, as a loop's invariant says it.
-use Rattle.std.proofs.Common.{◌≡◌, ℕ, List, Option, Some, None, Result, Ok, Err, sym, ap, subst, [], ◌∷◌, ◌++◌, Bor}
-use Rattle.jsonb_doc.specs.declared.error.Error.{Error}
-use Rattle.jsonb_doc.specs.declared.item.Item.{Item}
-use Rattle.jsonb_doc.specs.declared.pair_iter.PairIter.{PairIter}
-use Rattle.jsonb_doc.specs.declared.element_iter.ElementIter.{ElementIter}
-use Rattle.jsonb_doc.specs.Tree.{Tree, array, object, Trees, no_trees, tree, Pairs, no_pairs, pair, trees_of}
-use Rattle.jsonb_doc.specs.Payload.{Form}
-use Rattle.jsonb_doc.specs.Item.{StandsFor}
-use Rattle.jsonb_doc.specs.Elements.{TakesElement, GivesElement}
-use Rattle.jsonb_doc.specs.Representation.Iterators.{HasElementsLeft, HasPairsLeft}
-use Rattle.jsonb_doc.proofs.ElementsLemmas.{IsElementsOf}
-use Rattle.jsonb_doc.specs.ObjectPairs.{TakesPair, GivesPair}
-use Rattle.jsonb_doc.proofs.PairsLemmas.{IsPairsOf}
-use Rattle.jsonb_doc.specs.Private.Errors.{IsOutOfMemoryOrTooLarge}
-use Rattle.jsonb_doc.specs.ArrayBuilder.{Parts, no_parts, HoldsElements}
-use Rattle.jsonb_doc.proofs.BuilderSteps.{front_empty, front_pushed, front_refused}
-use Rattle.jsonb_doc.specs.Private.Builders.{HoldsFront}
+use Rattle.jsonb_raw.proofs.Common.{◌≡◌, ℕ, List, Option, Some, None, Result, Ok, Err, sym, ap, subst, [], ◌∷◌, ◌++◌, Bor, Error, Item, PairIter, ElementIter, Tree, array, object, Trees, no_trees, tree, Pairs, no_pairs, pair, trees_of, Form, StandsFor, TakesElement, GivesElement, HasElementsLeft, HasPairsLeft, IsElementsOf, TakesPair, GivesPair, IsPairsOf, IsOutOfMemoryOrTooLarge, Parts, no_parts, HoldsElements, front_empty, front_pushed, front_refused, HoldsFront}
 
 -- the elements that are left have the property Q
 pub record SomeElements (form : Form) (it : ElementIter) (Q : Trees → Type 0) : Type 0 where

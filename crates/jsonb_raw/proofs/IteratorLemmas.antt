@@ -1,8 +1,5 @@
 -- Iterators of std determine what is left in them.
-use Rattle.std.proofs.Common.{◌≡◌, [], Some, None, ap, ◌∙◌}
-use Rattle.std.specs.Slice.Iter.{iter_rest, iter_steps}
-use Rattle.jsonb_raw.specs.Iterators.{YieldsItemsLeft}
-use Rattle.jsonb_doc.proofs.Basics.{empty_of}
+use Rattle.jsonb_raw.proofs.Common.{◌≡◌, [], Some, None, ap, ◌∙◌, iter_rest, iter_steps, YieldsItemsLeft, empty_of}
 
 -- `iter()` of a slice or a `Vec`
 pub iter_tells : {A : Type 0} → YieldsItemsLeft (iter_steps {A = A}) iter_rest

@@ -1,37 +1,9 @@
 -- Laws of sortable, composite and equality keys.
-use Rattle.std.proofs.Common.{◌≡◌, ℕ, suc, ◌%◌, ◌^◌, ◌<◌, List, [], ◌∷◌, ◌++◌, length, refl, sym, ap, ap₂, ◌∙◌, arith, nat_cmp, Bool, Ordering, Equal, append_assoc, mod-eq_of_lt, ◌↔◌, inl, Less, append-nil, flat_map, Option, None, Some, IfSome, Greater, subst, IsTrue}
-use Rattle.std.specs.Int.{bytes_high_first, Width, byte_len}
-use Rattle.jsonb_doc.specs.Proofs.Orderings.{nat_cmp-equal, then_Equal}
+use Rattle.jsonb_raw.proofs.Common.{◌≡◌, ℕ, suc, ◌%◌, ◌^◌, ◌<◌, List, [], ◌∷◌, ◌++◌, length, refl, sym, ap, ap₂, ◌∙◌, arith, nat_cmp, Bool, Ordering, Equal, append_assoc, mod-eq_of_lt, ◌↔◌, inl, Less, append-nil, flat_map, Option, None, Some, IfSome, Greater, subst, IsTrue, bytes_high_first, Width, byte_len, nat_cmp-equal, then_Equal, extension_back, some_injective, FitsExtension, canonical, extension_payload, Form, extension_of, Fits, IsShort, HasShortParts, HasShortElements, HasShortValues, IsInRange, AreInRange, ValuesAreInRange, Tree, Trees, Pairs, count, keys, Number, FitsNumber, number_cmp, rank, tree_cmp, IsEqual, AreEqual, PairsAreEqual, number_bytes, text_bytes, sortable_key, depths, HasKey, IsRest, item_bytes, equality_key, equality_keys_of_trees, equality_keys_of_pairs, both_equal, bytes_cmp, same_from_bytes_cmp, bytes_cmp_refl, ordering_then, equal_from_tree_cmp, tree_cmp-equal, AreBytes, Decodes, decoded_fits, deepest, HasNoExtension, is_equal, equal_from_test, is_equal-true, slice_cmp, option_cmp, one-le-pow, column_key, HaveKeys}
 use Rattle.jsonb_raw.proofs.Ranking.{Ranks, Ranks-bytes_high_first, Ranks-text_bytes}
 use Rattle.jsonb_raw.proofs.NumberKeys.{Ranks-number_bytes, bounded_from_fits, ranks_alone}
 use Rattle.jsonb_raw.proofs.TreeKeys.{rank_boolean, keys_rank, items_rank, key_is_item, IsRest-item, nothing_below_depth, nothing_above_depth}
-use Rattle.jsonb_doc.proofs.ExtensionsRead.{extension_back}
-use Rattle.jsonb_doc.proofs.ScalarLemmas.{some_injective}
-use Rattle.jsonb_doc.specs.Extension.{FitsExtension}
-use Rattle.jsonb_doc.specs.Payload.{canonical, extension_payload, Form}
-use Rattle.jsonb_doc.specs.Private.Payloads.{extension_of}
-use Rattle.jsonb_doc.specs.Limits.{Fits, IsShort, HasShortParts, HasShortElements, HasShortValues, IsInRange, AreInRange, ValuesAreInRange}
-use Rattle.jsonb_doc.specs.Tree.{Tree, Trees, Pairs, count, keys}
-use Rattle.jsonb_doc.specs.Number.{Number, FitsNumber, number_cmp}
-use Rattle.jsonb_doc.specs.Order.{rank, tree_cmp}
-use Rattle.jsonb_doc.specs.Proofs.EqualTrees.{IsEqual, AreEqual, PairsAreEqual}
-use Rattle.jsonb_raw.specs.SortableKey.{number_bytes, text_bytes, sortable_key, depths, HasKey, IsRest, item_bytes}
-use Rattle.jsonb_raw.specs.EqualityKey.{equality_key, equality_keys_of_trees, equality_keys_of_pairs}
-use Rattle.jsonb_doc.proofs.Basics.{both_equal, bytes_cmp, same_from_bytes_cmp, bytes_cmp_refl}
-use Rattle.std.specs.Ordering.{ordering_then}
 use Rattle.jsonb_raw.proofs.ExtensionLeaves.{lacks_extension}
-use Rattle.jsonb_doc.proofs.TreeOrder.{equal_from_tree_cmp, tree_cmp-equal}
-use Rattle.jsonb_doc.specs.Bytes.{AreBytes}
-use Rattle.jsonb_doc.specs.Format.{Decodes}
-use Rattle.jsonb_doc.proofs.DecodedFits.{decoded_fits}
-use Rattle.jsonb_doc.specs.Depth.{deepest}
-use Rattle.jsonb_raw.specs.NoExtension.{HasNoExtension}
-use Rattle.jsonb_doc.specs.Equal.{is_equal}
-use Rattle.jsonb_doc.specs.Proofs.Equality.{equal_from_test, is_equal-true}
-use Rattle.std.specs.Cmp.Lexicographic.{slice_cmp}
-use Rattle.std.specs.Option.{option_cmp}
-use native.Mathlib.Nat.{one-le-pow}
-use Rattle.jsonb_raw.specs.CompositeKeys.{column_key, HaveKeys}
 
 -- Numbers and extensions lie in the ranges of their types, and counts and lengths within the limits.
 abbrev mutual

@@ -1,16 +1,6 @@
 -- No leaf is too large for a document.
-use Rattle.std.proofs.Common.{◌≡◌, ◌≤◌, ◌<◌, ℕ, zero, suc, pos, ℤ, Bool, true, false, List, [], ◌∷◌, length, arith, inl, inr, lit<, if◌then◌else◌, refl, slice_index_or}
-use Rattle.std.specs.List.{AllByRecursion, Any}
-use Rattle.jsonb_doc.specs.Number.{Variant}
-use Rattle.jsonb_doc.specs.Tree.{Tree, null, boolean, number, text, extension, array, object, Trees, no_trees, tree, Pairs, no_pairs, pair}
-use Rattle.jsonb_doc.specs.Payload.{Form, any, canonical}
-use Rattle.jsonb_doc.specs.Answer.{IsOutOfMemory, ◌or◌when◌}
-use Rattle.jsonb_doc.specs.Limits.{IsShort, HasShortParts, HasShortElements, HasShortValues, IsWithinLimits, IsTooLarge, Fits, widest_number}
-use Rattle.jsonb_doc.specs.declared.error.Error.{Error}
-use Rattle.jsonb_doc.specs.declared.error.Error.TheVariants.{TooLarge}
-use Rattle.jsonb_keypath.specs.KeyPathGrammar.{Key, index, unquoted_name}
-use Rattle.jsonb_raw.specs.Leaves.{Leaf, is_leaf, leaves_at, leaves, leaves_of_trees, leaves_of_pairs}
-use Rattle.jsonb_raw.specs.Private.LeafSteps.{behind}
+use Rattle.jsonb_raw.proofs.Common.{◌≡◌, ◌≤◌, ◌<◌, ℕ, zero, suc, pos, ℤ, Bool, true, false, List, [], ◌∷◌, length, arith, inl, inr, lit<, if◌then◌else◌, refl, slice_index_or, AllByRecursion, Variant, Tree, null, boolean, number, text, extension, array, object, Trees, no_trees, tree, Pairs, no_pairs, pair, Form, any, canonical, IsOutOfMemory, ◌or◌when◌, IsShort, HasShortParts, HasShortElements, HasShortValues, IsWithinLimits, IsTooLarge, Fits, widest_number, Error, TooLarge, Key, index, unquoted_name, Leaf, is_leaf, leaves_at, leaves, leaves_of_trees, leaves_of_pairs, behind}
+use Rattle.std.specs.List.{Any}
 use Rattle.jsonb_raw.proofs.LeafPlaces.{AllByRecursion-append}
 
 short_number : (variant : Variant) (whole : ℤ) → widest_number variant whole ≤ 18

@@ -1,16 +1,5 @@
 -- The places of leaves.
-use Rattle.std.proofs.Common.{◌≡◌, ◌⊎◌, ℕ, zero, suc, pos, Bool, true, false, List, [], ◌∷◌, ◌++◌, drop, Option, Some, Less, nat_cmp, refl, sym, ap, ◌∙◌, arith, inl, inr, Contains, if◌then◌else◌, option_and_then, bytes_eq}
-use Rattle.std.specs.Cmp.Lexicographic.{slice_cmp, nat_list_cmp_total}
-use Rattle.std.specs.List.{AllByRecursion}
-use Rattle.jsonb_doc.specs.Tree.{Tree, null, boolean, number, text, extension, array, object, Trees, no_trees, tree, Pairs, no_pairs, pair, elements, keys, value_under}
-use Rattle.jsonb_doc.specs.Format.{AreKeys, IsBelowFirst}
-use Rattle.jsonb_doc.specs.Limits.{IsInRange, AreInRange, ValuesAreInRange, Fits}
-use Rattle.jsonb_doc.proofs.WordLemmas.{bytes_eq-true, bytes_eq-same}
-use Rattle.jsonb_keypath.specs.KeyPathGrammar.{Key, index, unquoted_name}
-use Rattle.jsonb_raw.specs.Leaves.{Leaf, is_leaf, leaves_at, leaves, leaves_of_trees, leaves_of_pairs}
-use Rattle.jsonb_raw.specs.Private.LeafSteps.{behind}
-use Rattle.jsonb_raw.specs.Places.{tree_at_steps}
-use Rattle.jsonb_raw.specs.Private.Steps.{child_met}
+use Rattle.jsonb_raw.proofs.Common.{◌≡◌, ◌⊎◌, ℕ, zero, suc, pos, Bool, true, false, List, [], ◌∷◌, ◌++◌, drop, Option, Some, Less, nat_cmp, refl, sym, ap, ◌∙◌, arith, inl, inr, Contains, if◌then◌else◌, option_and_then, bytes_eq, slice_cmp, nat_list_cmp_total, AllByRecursion, Tree, null, boolean, number, text, extension, array, object, Trees, no_trees, tree, Pairs, no_pairs, pair, elements, keys, value_under, AreKeys, IsBelowFirst, IsInRange, AreInRange, ValuesAreInRange, Fits, bytes_eq-true, bytes_eq-same, Key, index, unquoted_name, Leaf, is_leaf, leaves_at, leaves, leaves_of_trees, leaves_of_pairs, behind, tree_at_steps, child_met}
 use Rattle.jsonb_raw.proofs.ChildLemmas.{split_at, from_front}
 use Rattle.jsonb_raw.proofs.PositionLemmas.{field_met, step_by_step}
 

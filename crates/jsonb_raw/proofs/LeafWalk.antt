@@ -1,44 +1,12 @@
 -- What a walk keeps of leaves, and the results of the functions.
-use Rattle.std.proofs.Common.{◌≡◌, ◌==◌, ◌+◌, ◌%◌, ◌<◌, ◌^◌, ◌++◌, ℕ, suc, pos, Bool, true, false, ◌&&◌, List, [], ◌∷◌, Option, Some, None, length, refl, sym, ap, ◌∙◌, arith, append_assoc, append-nil, true≢false, reverse, Bor, ◌⊎◌, Result, Ok, Err, Vec, map, MatchResult, inl, inr}
-use Rattle.std.specs.Int.{w32, cast_signed}
-use Rattle.std.specs.List.{Any, AllZip}
-use Rattle.std.proofs.lemmas.List.{length-append, map-append, reverse-reverse}
-use Rattle.std.proofs.lemmas.Int.{ints}
+use Rattle.jsonb_raw.proofs.Common.{◌≡◌, ◌==◌, ◌+◌, ◌%◌, ◌<◌, ◌^◌, ◌++◌, ℕ, suc, pos, Bool, true, false, ◌&&◌, List, [], ◌∷◌, Option, Some, None, length, refl, sym, ap, ◌∙◌, arith, append_assoc, append-nil, true≢false, reverse, Bor, ◌⊎◌, Result, Ok, Err, Vec, map, MatchResult, inl, inr, cast_signed, AllZip, map-append, reverse-reverse, ints, Tree, Trees, no_trees, tree, Pairs, no_pairs, pair, count, number, Form, number_reader, number_of, StandsFor, Stores, kind_number, StoredEntry, Item, array_document, object_document, Key, index, unquoted_name, Step, ChildCursor, is_array, EntryPrefix, parts, parts_of_trees, parts_of_pairs, IsKeyOf, HasAllLeft, Leaf, is_leaf, leaves_at, leaves, leaves_of_trees, leaves_of_pairs, behind, step_at, step_key, step_keys, IsKept, innermost, Error, Value, Number, Decodes, IsContent, IsOutOfMemory, ◌or◌when◌, IsTooLarge, TooLarge, IsOutOfMemoryOrTooLarge, value_tree, value_parts, KeyPaths, key_paths_view, OwnedJsonb, IsPairOf, reads_number, number_content, some_injective}
+use Rattle.std.specs.Int.{w32}
+use Rattle.std.specs.List.{Any}
+use Rattle.std.proofs.lemmas.List.{length-append}
 use Rattle.jsonb_doc.specs.Tree as spec
-use Rattle.jsonb_doc.specs.Tree.{Tree, Trees, no_trees, tree, Pairs, no_pairs, pair, count, number}
-use Rattle.jsonb_doc.specs.Payload.{Form, number_reader, number_of}
-use Rattle.jsonb_doc.specs.Item.{StandsFor}
-use Rattle.jsonb_doc.specs.Private.Stored.{Stores}
-use Rattle.jsonb_doc.specs.Kinds.{kind_number}
-use Rattle.jsonb_doc.specs.declared.entry_iter.StoredEntry.{StoredEntry}
-use Rattle.jsonb_doc.specs.declared.item.Item.{Item}
-use Rattle.jsonb_doc.proofs.Containers.{array_document, object_document}
-use Rattle.jsonb_keypath.specs.KeyPathGrammar.{Key, index, unquoted_name}
-use Rattle.jsonb_raw.specs.declared.functions.path.leaves.Step.{Step}
-use Rattle.jsonb_raw.specs.declared.level.ChildCursor.{ChildCursor}
-use Rattle.jsonb_raw.specs.Scalars.{is_array}
-use Rattle.jsonb_raw.specs.Private.Levels.{EntryPrefix, parts, parts_of_trees, parts_of_pairs, IsKeyOf, HasAllLeft}
-use Rattle.jsonb_raw.specs.Leaves.{Leaf, is_leaf, leaves_at, leaves, leaves_of_trees, leaves_of_pairs}
-use Rattle.jsonb_raw.specs.Private.LeafSteps.{behind, step_at, step_key, step_keys, IsKept}
 use Rattle.jsonb_raw.proofs.CollectLoops.{Made, none_made, one_made, all_made, one_of_whole}
 use Rattle.jsonb_raw.proofs.LevelLemmas.{count_of_trees, count_of_pairs}
-use Rattle.jsonb_doc.proofs.Basics.{innermost}
 use Rattle.std.specs.declared.alloc.Global.{Global}
-use Rattle.jsonb_doc.specs.declared.error.Error.{Error}
-use Rattle.jsonb_doc.specs.declared.value.Value.{Value}
-use Rattle.jsonb_doc.specs.Number.{Number}
-use Rattle.jsonb_doc.specs.Format.{Decodes, IsContent}
-use Rattle.jsonb_doc.specs.Answer.{IsOutOfMemory, ◌or◌when◌}
-use Rattle.jsonb_doc.specs.Limits.{IsTooLarge}
-use Rattle.jsonb_doc.specs.declared.error.Error.TheVariants.{TooLarge}
-use Rattle.jsonb_doc.specs.Private.Errors.{IsOutOfMemoryOrTooLarge}
-use Rattle.jsonb_doc.specs.Value.{value_tree, value_parts}
-use Rattle.jsonb_keypath.specs.declared.key_path.KeyPaths.{KeyPaths}
-use Rattle.jsonb_keypath.specs.KeyPathViews.{key_paths_view}
-use Rattle.jsonb_raw.specs.declared.owned.OwnedJsonb.{OwnedJsonb}
-use Rattle.jsonb_raw.specs.Making.{IsPairOf}
-use Rattle.jsonb_doc.proofs.Entries.{reads_number}
-use Rattle.jsonb_doc.proofs.ScalarLemmas.{number_content, some_injective}
 
 -- ---- which parts are entered
 

@@ -1,19 +1,6 @@
 -- A walk over levels that spells sortable keys: what is written, and then the keys of what each level has left, the
 -- innermost first, is the whole.
-use Rattle.std.proofs.Common.{◌≡◌, ◌+◌, ◌<◌, ◌≤◌, ◌++◌, ℕ, List, [], ◌∷◌, Option, Some, None, Ok, refl, sym, ap, ◌∙◌, arith, append_assoc, inl, inr, suc, max, append-nil, length, false, Bor}
-use Rattle.std.specs.Int.{Width, to_be_bytes}
-use Rattle.jsonb_doc.specs.declared.entry_iter.StoredEntry.{StoredEntry}
-use Rattle.jsonb_doc.specs.declared.error.Error.{Error}
-use Rattle.jsonb_doc.specs.Payload.{Form}
-use Rattle.jsonb_doc.specs.Private.Stored.{Stores}
-use Rattle.jsonb_doc.specs.Tree.{Tree, Trees, Pairs}
-use Rattle.jsonb_doc.specs.Depth.{deepest, deepest_of_trees, deepest_of_pairs}
-use Rattle.jsonb_raw.specs.SortableKey.{sortable_key, keys_of_trees, keys_of_pairs, item_bytes, text_bytes, depths}
-use Rattle.jsonb_raw.specs.Private.KeyErrors.{IsOutOfMemoryOrTooDeep}
-use Rattle.jsonb_raw.specs.declared.level.ChildCursor.{ChildCursor}
-use Rattle.jsonb_raw.specs.Private.Levels.{EntryPrefix, parts, parts_of_trees, parts_of_pairs, HasPartsLeft, TakesPart, IsKeyOf}
-use Rattle.jsonb_raw.specs.Private.KeyParts.{start, name_start, part_start}
-use Rattle.jsonb_raw.specs.Private.StartHints.{is_container}
+use Rattle.jsonb_raw.proofs.Common.{◌≡◌, ◌+◌, ◌<◌, ◌≤◌, ◌++◌, ℕ, List, [], ◌∷◌, Option, Some, None, Ok, refl, sym, ap, ◌∙◌, arith, append_assoc, inl, inr, suc, max, append-nil, length, false, Bor, Width, to_be_bytes, StoredEntry, Error, Form, Stores, Tree, Trees, Pairs, deepest, deepest_of_trees, deepest_of_pairs, sortable_key, keys_of_trees, keys_of_pairs, item_bytes, text_bytes, depths, IsOutOfMemoryOrTooDeep, ChildCursor, EntryPrefix, parts, parts_of_trees, parts_of_pairs, HasPartsLeft, TakesPart, IsKeyOf, start, name_start, part_start, is_container}
 use Rattle.jsonb_raw.proofs.LevelLemmas.{SomeParts, SomeParts-first, as_many_around}
 
 -- ---- bytes that are written in a row, and the depths of what they are for

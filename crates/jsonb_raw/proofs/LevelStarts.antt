@@ -1,28 +1,8 @@
 -- Levels of all parts of a container, and the starts of their keys.
-use Rattle.std.proofs.Common.{◌≡◌, ◌==◌, ℕ, true, false, List, ◌∷◌, length, refl, ◌⊎◌, inl, inr, Bor, arith}
-use Rattle.std.specs.Int.{w32, to_be_bytes}
-use Rattle.std.proofs.lemmas.Bool.Decides.{nat_tests}
+use Rattle.jsonb_raw.proofs.Common.{◌≡◌, ◌==◌, ℕ, true, false, List, ◌∷◌, length, refl, ◌⊎◌, inl, inr, Bor, arith, to_be_bytes, nat_tests, Tree, Trees, deepest, rank, Form, number_reader, Decodes, IsContent, HeadedBy, StandsFor, Stores, kind_number, header_number, HeaderKind, StoredEntry, Item, Array, Object, HasContent-headed, HasContent-kind, array_content, object_content, array_document, object_document, is_array, ChildCursor, Elements, parts, HasPartsLeft, HasAllLeft, is_container, equality_start}
+use Rattle.std.specs.Int.{w32}
 use Rattle.jsonb_doc.specs.Tree as spec
-use Rattle.jsonb_doc.specs.Tree.{Tree, Trees}
-use Rattle.jsonb_doc.specs.Depth.{deepest}
-use Rattle.jsonb_doc.specs.Order.{rank}
-use Rattle.jsonb_doc.specs.Payload.{Form, number_reader}
-use Rattle.jsonb_doc.specs.Format.{Decodes, IsContent, HeadedBy}
-use Rattle.jsonb_doc.specs.Item.{StandsFor}
-use Rattle.jsonb_doc.specs.Private.Stored.{Stores}
-use Rattle.jsonb_doc.specs.Kinds.{kind_number}
-use Rattle.jsonb_doc.specs.Private.Headers.{header_number}
-use Rattle.jsonb_doc.specs.declared.layout.HeaderKind.{HeaderKind}
-use Rattle.jsonb_doc.specs.declared.entry_iter.StoredEntry.{StoredEntry}
-use Rattle.jsonb_doc.specs.declared.item.Item.{Item}
-use Rattle.jsonb_doc.specs.declared.item.Item.TheVariants.{Array, Object}
-use Rattle.jsonb_doc.proofs.Containers.{HasContent-headed, HasContent-kind, array_content, object_content, array_document, object_document}
-use Rattle.jsonb_raw.specs.Scalars.{is_array}
-use Rattle.jsonb_raw.specs.declared.level.ChildCursor.{ChildCursor}
-use Rattle.jsonb_raw.specs.declared.level.ChildCursor.TheVariants.{Elements, Pairs}
-use Rattle.jsonb_raw.specs.Private.Levels.{parts, HasPartsLeft, HasAllLeft}
-use Rattle.jsonb_raw.specs.Private.StartHints.{is_container}
-use Rattle.jsonb_raw.specs.Private.EqualityParts.{equality_start}
+use Rattle.jsonb_raw.specs.declared.level.ChildCursor.TheVariants.{Pairs}
 use Rattle.jsonb_raw.proofs.LevelLemmas.{count_of_trees, count_of_pairs}
 
 pub all_left : (form : Form) (t : Tree) (level : ChildCursor) → HasAllLeft form t level → HasPartsLeft form level (parts t)

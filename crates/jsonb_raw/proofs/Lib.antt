@@ -1,3 +1,4 @@
+pub mod Common
 pub mod ChildLemmas
 mod Rows
 pub mod Ranking

@@ -1,13 +1,5 @@
 -- A walk along steps that keeps the containers around the children that they select.
-use Rattle.std.proofs.Common.{◌≡◌, ◌++◌, ℕ, List, [], ◌∷◌, Option, Some, None, refl, sym, ap, subst, ◌∙◌, append_assoc, append-nil, slice_get}
-use Rattle.std.specs.Prelude.{option_map, option_and_then}
-use Rattle.jsonb_doc.specs.Tree.{Tree}
-use Rattle.jsonb_doc.specs.Payload.{Form}
-use Rattle.jsonb_doc.specs.declared.entry_iter.StoredEntry.{StoredEntry}
-use Rattle.jsonb_keypath.specs.KeyPathGrammar.{Key}
-use Rattle.jsonb_raw.specs.declared.functions.path.parent_entries.ParentEntries.{ParentEntries}
-use Rattle.jsonb_raw.specs.Places.{children, child_position, location}
-use Rattle.jsonb_raw.specs.Private.Cuts.{LeadTo, Leads, HoldsValue, StepsInto}
+use Rattle.jsonb_raw.proofs.Common.{◌≡◌, ◌++◌, ℕ, List, [], ◌∷◌, Option, Some, None, refl, sym, ap, subst, ◌∙◌, append_assoc, append-nil, slice_get, option_map, option_and_then, Tree, Form, StoredEntry, Key, ParentEntries, children, child_position, location, LeadTo, Leads, HoldsValue, StepsInto}
 use Rattle.jsonb_raw.proofs.CutLemmas.{lead_more}
 
 -- The containers lead to a tree, whose entry this is. What the steps that are left select there is, after the positions so

@@ -1,23 +1,6 @@
 -- Names that are looked up among the strings of an array.
-use Rattle.std.proofs.Common.{◌≡◌, ◌==◌, ◌||◌, ◌&&◌, ◌++◌, ◌<◌, ◌≤◌, ◌+◌, ℕ, zero, suc, Bool, true, false, not, List, [], ◌∷◌, map, take, drop, length, get_or, Option, Some, None, Result, Ok, Err, refl, sym, ap, ap₂, ◌∙◌, subst, true≢false, arith, Bor, bytes_eq}
-use Rattle.std.specs.Bool.{beq}
-use Rattle.std.specs.List.{list_any, All}
-use Rattle.std.proofs.lemmas.List.Elements.{All-head, All-tail}
-use Rattle.std.proofs.lemmas.List.Folds.{list_all-append, list_any-append}
-use Rattle.jsonb_doc.proofs.WordLemmas.{bytes_eq-same, bytes_eq-true}
-use Rattle.jsonb_doc.specs.declared.error.Error.{Error}
-use Rattle.jsonb_doc.specs.declared.entry_iter.EntryIter.{EntryIter}
-use Rattle.jsonb_doc.specs.declared.entry_iter.StoredEntry.{StoredEntry}
-use Rattle.jsonb_doc.specs.Kinds.{kind_number}
-use Rattle.jsonb_doc.specs.Tree.{Tree, null, boolean, number, text, extension, array, object, Trees, no_trees, tree, elements}
-use Rattle.jsonb_doc.specs.Payload.{Form}
-use Rattle.jsonb_doc.specs.Private.Stored.{HasEntriesLeft, Stores, GivesEntry}
-use Rattle.jsonb_raw.specs.Exists.{is_text}
-use Rattle.jsonb_raw.specs.Private.Cursors.{has_by}
-use Rattle.jsonb_raw.specs.Private.NameBlocks.{texts_of, is_one_of, decided_by, HasTextsLeft, TakesText, IsPlaced}
-use Rattle.jsonb_raw.specs.declared.functions.path.name_block.NameTable.{NameTable}
+use Rattle.jsonb_raw.proofs.Common.{◌≡◌, ◌==◌, ◌||◌, ◌&&◌, ◌++◌, ◌<◌, ◌≤◌, ◌+◌, ℕ, zero, suc, Bool, true, false, not, List, [], ◌∷◌, map, take, drop, length, get_or, Option, Some, None, Result, Ok, Err, refl, sym, ap, ap₂, ◌∙◌, subst, true≢false, arith, Bor, bytes_eq, beq, list_any, All, All-head, All-tail, list_all-append, list_any-append, bytes_eq-same, bytes_eq-true, Error, EntryIter, StoredEntry, kind_number, Tree, null, boolean, number, text, extension, array, object, Trees, no_trees, tree, elements, Form, HasEntriesLeft, Stores, GivesEntry, is_text, has_by, texts_of, is_one_of, decided_by, HasTextsLeft, TakesText, IsPlaced, NameTable, shuffled}
 use Rattle.jsonb_raw.proofs.EntriesLeft.{SomeEntries, SomeEntries-first, SomeEntries-error, SomeEntries-none}
-use Rattle.jsonb_doc.proofs.Basics.{shuffled}
 
 -- ---- the strings among entries
 

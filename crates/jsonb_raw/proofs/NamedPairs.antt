@@ -1,23 +1,9 @@
 -- The pairs of a key, their positions and the children that they hold.
-use Rattle.std.proofs.Common.{◌≡◌, ℕ, zero, suc, Bool, true, false, not, List, [], ◌∷◌, map, filter, cond, Option, Some, None, refl, sym, ap, ◌∙◌, ◌+◌, drop, ap₂, arith, slice_get, position, option_map, remove, find}
-use Rattle.std.proofs.lemmas.Option.{none-some}
-use Rattle.std.specs.Map.{keys_of, values_of}
-use Rattle.std.specs.Str.{bytes_eq, str_eq_ignore_ascii_case}
-use Rattle.jsonb_doc.specs.Tree.{Tree, text, object, Pairs, no_pairs, pair, members, value_under, elements, trees_in, field_of}
-use Rattle.jsonb_doc.specs.Format.{AreKeys}
-use Rattle.jsonb_doc.proofs.BuilderSteps.{AreRising, keys_rise, AreRising-filter}
-use Rattle.jsonb_doc.proofs.WordLemmas.{bytes_eq-true, bytes_eq-same}
+use Rattle.jsonb_raw.proofs.Common.{◌≡◌, ℕ, zero, suc, Bool, true, false, not, List, [], ◌∷◌, map, filter, cond, Option, Some, None, refl, sym, ap, ◌∙◌, ◌+◌, drop, ap₂, arith, slice_get, position, option_map, remove, find, none-some, keys_of, values_of, str_eq_ignore_ascii_case, Tree, text, object, Pairs, no_pairs, pair, members, value_under, elements, trees_in, field_of, AreKeys, AreRising, keys_rise, AreRising-filter, bytes_eq-true, bytes_eq-same, to_ascii_lowercase, option_or, named_child, element_at, position_in_some_case, SameOption, HasSpotsLeft, SpotIter, children}
+use Rattle.std.specs.Str.{bytes_eq}
 use Rattle.jsonb_raw.proofs.PositionLemmas.{position-cons}
 use Rattle.jsonb_raw.proofs.GoneLemmas.{below_all}
-use Rattle.std.specs.Char.{to_ascii_lowercase}
-use Rattle.std.specs.Option.{option_or}
-use Rattle.jsonb_raw.specs.Children.{named_child, element_at}
-use Rattle.jsonb_raw.specs.Private.NamePositions.{position_in_some_case}
 use Rattle.jsonb_raw.proofs.ChildLemmas.{split_at}
-use Rattle.jsonb_doc.specs.Answer.{SameOption}
-use Rattle.jsonb_doc.specs.Representation.Positions.{HasSpotsLeft}
-use Rattle.jsonb_doc.specs.declared.spot_iter.SpotIter.{SpotIter}
-use Rattle.jsonb_raw.specs.Places.{children}
 use Rattle.jsonb_raw.proofs.StripLists.{values_of-members}
 
 abbrev Member : Type 0

@@ -1,19 +1,7 @@
 -- Digits with an exponent rank as the exact values do, and so do the bytes of numbers, for both signs.
-use Rattle.std.proofs.Common.{◌≡◌, ◌≢◌, ◌⊎◌, ℕ, zero, suc, ◌+◌, ◌-◌, ◌*◌, ◌^◌, ◌%◌, ◌<◌, ◌≤◌, ◌==◌, true, false, List, [], ◌∷◌, ◌++◌, map, length, inl, inr, refl, sym, ap, ap₂, subst, ◌∙◌, arith, nat_cmp, Equal, ⊎_elim, pow-suc, mul_comm, mul-lt-mul_of_pos_right, mul-pos, mul-le-mul_right, zero-add, true≢false, le_trans, le_of_eq, lt_of_lt_of_le, mul_assoc, mul_right_comm, add_comm, lit<, w16, ℤ, pos, negsuc, ◌*ℤ◌, FitsSigned, nat_abs, Bool, cond, int_cmp, Ordering, Less, Greater, append-nil, pow-add}
-use native.Mathlib.Nat.{one-le-pow, pow-le-pow_right}
-use Rattle.std.specs.Ordering.{ordering_then, ordering_reverse}
-use Rattle.std.specs.List.{list_all, AllByRecursion}
-use Rattle.std.specs.Int.{to_be_bytes, w64, w128}
-use Rattle.std.specs.Int.Digits.{digits_of, number_from_digits, number_from_digits_after, AllBelowBase}
-use Rattle.std.proofs.lemmas.Bool.{cases_order, cases_lt, cases_Bool, eqb-true, eqb-false, and_parts, and_cases}
-use Rattle.std.proofs.lemmas.Bool.Decides.{nat_tests}
-use Rattle.std.proofs.lemmas.Int.Digits.{number_lt, number_digits_of, all_below_base_digits_of, length-digits_of-le}
-use Rattle.jsonb_doc.specs.Proofs.Orderings.{nat_cmp-lt, nat_cmp-gt, nat_cmp_refl, nat_cmp_places, nat_cmp_scaled, then_Equal}
+use Rattle.jsonb_raw.proofs.Common.{◌≡◌, ◌≢◌, ◌⊎◌, ℕ, zero, suc, ◌+◌, ◌-◌, ◌*◌, ◌^◌, ◌%◌, ◌<◌, ◌≤◌, ◌==◌, true, false, List, [], ◌∷◌, ◌++◌, map, length, inl, inr, refl, sym, ap, ap₂, subst, ◌∙◌, arith, nat_cmp, Equal, ⊎_elim, pow-suc, mul_comm, mul-lt-mul_of_pos_right, mul-pos, mul-le-mul_right, zero-add, true≢false, le_trans, le_of_eq, lt_of_lt_of_le, mul_assoc, mul_right_comm, add_comm, lit<, w16, ℤ, pos, negsuc, ◌*ℤ◌, FitsSigned, nat_abs, Bool, cond, Ordering, Less, Greater, append-nil, pow-add, one-le-pow, pow-le-pow_right, ordering_then, ordering_reverse, list_all, AllByRecursion, to_be_bytes, w64, w128, digits_of, number_from_digits, number_from_digits_after, AllBelowBase, cases_order, cases_lt, cases_Bool, eqb-true, eqb-false, and_parts, and_cases, nat_tests, number_lt, number_digits_of, all_below_base_digits_of, length-digits_of-le, nat_cmp-lt, nat_cmp-gt, nat_cmp_refl, nat_cmp_places, nat_cmp_scaled, then_Equal, significant, magnitude_bytes, number_bytes, int_cmp-pos, int_cmp-negative, int_cmp-below, int_cmp-above, Number, Variant, FitsParts, FitsNumber, bytes_cmp, scaled_pos}
+use Rattle.std.proofs.Common.{int_cmp}
 use Rattle.jsonb_raw.proofs.Ranking.{Ranks, Ranks-nil, Ranks-head, Ranks-append, Ranks-lower, Ranks-higher, Ranks-same_head, Ranks-bytes_high_first}
-use Rattle.jsonb_raw.specs.SortableKey.{significant, magnitude_bytes, number_bytes}
-use Rattle.jsonb_doc.specs.Proofs.NumberOrder.{int_cmp-pos, int_cmp-negative, int_cmp-below, int_cmp-above}
-use Rattle.jsonb_doc.specs.Number.{Number, Variant, FitsParts, FitsNumber}
-use Rattle.jsonb_doc.proofs.Basics.{bytes_cmp, scaled_pos}
 
 -- the number that decimal digits write
 abbrev pub value : List ℕ → ℕ

@@ -1,19 +1,6 @@
 -- Which trees have pairs, and what is made of them.
-use Rattle.std.proofs.Common.{◌≡◌, ◌⊎◌, inl, inr, ℕ, List, [], ◌∷◌, ◌++◌, String, Global, subst, Option, Some, None, Result, Ok, Err, refl, sym, ap, ◌∙◌, string_bytes, Bor, Any, arith}
-use Rattle.std.specs.Map.{values_of}
-use Rattle.jsonb_doc.specs.Tree.{Tree, object, Pairs, keys}
-use Rattle.jsonb_doc.specs.Payload.{Form}
-use Rattle.jsonb_doc.specs.Private.Errors.{IsOutOfMemoryOrTooLarge}
-use Rattle.jsonb_doc.specs.Limits.{IsTooLarge}
-use Rattle.jsonb_doc.specs.declared.error.Error.TheVariants.{OutOfMemory, TooLarge}
-use Rattle.jsonb_doc.specs.ObjectKeys.{TakesKey}
-use Rattle.jsonb_doc.specs.Representation.Iterators.{HasKeysLeft}
-use Rattle.jsonb_doc.specs.declared.key_iter.KeyIter.{KeyIter}
-use Rattle.jsonb_doc.proofs.PairsLemmas.{IsPairsOf, IsKeysOf}
-use Rattle.jsonb_doc.specs.declared.error.Error.{Error}
-use Rattle.jsonb_doc.specs.declared.pair_iter.PairIter.{PairIter}
-use Rattle.jsonb_raw.specs.declared.owned.OwnedJsonb.{OwnedJsonb}
-use Rattle.jsonb_raw.specs.Making.{IsPairOf}
+use Rattle.jsonb_raw.proofs.Common.{◌≡◌, ◌⊎◌, inl, inr, ℕ, List, [], ◌∷◌, ◌++◌, Global, subst, Option, Some, None, Result, Ok, Err, refl, sym, ap, ◌∙◌, string_bytes, Bor, Any, arith, values_of, Tree, object, Pairs, keys, Form, IsOutOfMemoryOrTooLarge, IsTooLarge, OutOfMemory, TooLarge, TakesKey, HasKeysLeft, KeyIter, IsPairsOf, IsKeysOf, Error, PairIter, OwnedJsonb, IsPairOf}
+use Rattle.std.proofs.Common.{String}
 use Rattle.jsonb_raw.proofs.CollectLoops.{Made, any_here}
 
 -- a tree with an iterator over pairs is an object

@@ -1,29 +1,9 @@
 -- Walks along two containers up to the first difference.
-use Rattle.std.proofs.Common.{◌≡◌, ℕ, ◌+◌, ◌<◌, ◌≤◌, List, [], ◌∷◌, length, Bool, true, false, Option, Some, None, Result, Ok, Err, inl, inr, ◌⊎◌, refl, sym, ap, subst, ◌∙◌, Ordering, Less, Equal, arith, Bor, IsOkAnd, IfSome, is_some}
-use Rattle.std.specs.Cmp.Lexicographic.{slice_cmp}
-use Rattle.std.specs.Ordering.{ordering_then, is_ne, nat_cmp}
-use Rattle.jsonb_doc.specs.declared.error.Error.{Error}
-use Rattle.jsonb_doc.specs.declared.entry_iter.StoredEntry.{StoredEntry}
-use Rattle.jsonb_doc.specs.declared.short_number.ShortNumber.{ShortNumber}
+use Rattle.jsonb_raw.proofs.Common.{◌≡◌, ℕ, ◌+◌, ◌<◌, ◌≤◌, List, [], ◌∷◌, length, Bool, true, false, Option, Some, None, Result, Ok, Err, inl, inr, ◌⊎◌, refl, sym, ap, subst, ◌∙◌, Ordering, Less, Equal, arith, Bor, IsOkAnd, IfSome, is_some, slice_cmp, ordering_then, is_ne, Error, StoredEntry, ShortNumber, Tree, Trees, no_trees, tree, number_cmp, rank, tree_cmp, trees_cmp, pairs_cmp, Form, number_reader, number_of, IsContent, kind_number, StandsFor, Item, Array, Object, short_value, Stores, then_assoc, ChildCursor, EntryPrefix, HasPartsLeft, HasAllLeft, IsKeyOf, TakesPart, parts, parts_of_trees, parts_of_pairs, part_cmp, reads_number, number_content, some_injective}
+use Rattle.std.specs.Ordering.{nat_cmp}
 use Rattle.jsonb_doc.specs.Tree as spec
-use Rattle.jsonb_doc.specs.Tree.{Tree, Trees, no_trees, tree}
-use Rattle.jsonb_doc.specs.Number.{number_cmp}
-use Rattle.jsonb_doc.specs.Order.{rank, tree_cmp, trees_cmp, pairs_cmp}
-use Rattle.jsonb_doc.specs.Payload.{Form, number_reader, number_of}
-use Rattle.jsonb_doc.specs.Format.{IsContent}
-use Rattle.jsonb_doc.specs.Kinds.{kind_number}
-use Rattle.jsonb_doc.specs.Item.{StandsFor}
-use Rattle.jsonb_doc.specs.declared.item.Item.{Item}
-use Rattle.jsonb_doc.specs.declared.item.Item.TheVariants.{Array, Object}
-use Rattle.jsonb_doc.specs.Private.Short.{short_value}
-use Rattle.jsonb_doc.specs.Private.Stored.{Stores}
-use Rattle.jsonb_doc.specs.Proofs.Orderings.{then_assoc}
-use Rattle.jsonb_raw.specs.declared.level.ChildCursor.{ChildCursor}
-use Rattle.jsonb_raw.specs.Private.Levels.{EntryPrefix, HasPartsLeft, HasAllLeft, IsKeyOf, TakesPart, parts, parts_of_trees, parts_of_pairs}
-use Rattle.jsonb_raw.specs.Private.Order.{Decides, part_cmp}
+use Rattle.jsonb_raw.specs.Private.Order.{Decides}
 use Rattle.jsonb_raw.proofs.LevelLemmas.{SomeParts, SomeParts-first}
-use Rattle.jsonb_doc.proofs.Entries.{reads_number}
-use Rattle.jsonb_doc.proofs.ScalarLemmas.{number_content, some_injective}
 
 -- how long the first of the pair is, if there is one, and one more
 abbrev pub first_left : Option (StoredEntry × StoredEntry) → ℕ

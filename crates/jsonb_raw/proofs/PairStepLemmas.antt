@@ -1,25 +1,6 @@
 -- Steps along pairs whose keys are sorted.
-use Rattle.std.proofs.Common.{◌≡◌, ℕ, List, [], ◌∷◌, Some, None, refl, sym, ap, ◌∙◌, Ordering, Less, Equal, Greater, Bool, true, false, Option, Result, Ok, Err, subst, not, bytes_eq, Bor, IfOk, arith}
-use Rattle.std.specs.Ordering.{nat_cmp, is_eq, ordering_reverse}
-use Rattle.std.specs.Cmp.Lexicographic.{slice_cmp, nat_list_cmp_total}
-use Rattle.std.proofs.lemmas.Map.Text.{is_eq-slice_cmp}
-use Rattle.jsonb_doc.specs.Tree.{Tree, Pairs, no_pairs, pair, keys, value_under, object}
-use Rattle.jsonb_doc.specs.Format.{IsBelowFirst}
-use Rattle.jsonb_doc.proofs.BuilderSteps.{AreRising, keys_rise}
-use Rattle.jsonb_raw.specs.Private.PairSteps.{pairs_above}
-use Rattle.jsonb_doc.proofs.Basics.{below_next}
-use Rattle.std.proofs.lemmas.Slice.Eq.{bytes_eq-Decides}
-use Rattle.std.specs.List.{list_any, list_all}
-use Rattle.jsonb_doc.specs.declared.error.Error.{Error}
-use Rattle.jsonb_doc.specs.declared.entry_iter.EntryIter.{EntryIter}
-use Rattle.jsonb_doc.specs.declared.entry_iter.StoredEntry.{StoredEntry}
-use Rattle.jsonb_doc.specs.Payload.{Form}
-use Rattle.jsonb_doc.specs.Private.Stored.{HasEntriesLeft, GivesEntry, TakesEntry, key_trees}
-use Rattle.jsonb_raw.specs.Private.Cursors.{IsCursorOf, IsPassed, IsBefore, HoldsTexts, has_by}
-use Rattle.jsonb_raw.specs.declared.functions.path.exists.KeyCursor.{KeyCursor}
-use Rattle.jsonb_raw.specs.declared.functions.path.exists.Texts.TheVariants.{Keys}
-use Rattle.std.specs.Bool.{beq}
-use Rattle.jsonb_raw.specs.Exists.{has_text}
+use Rattle.jsonb_raw.proofs.Common.{◌≡◌, ℕ, List, [], ◌∷◌, Some, None, refl, sym, ap, ◌∙◌, Ordering, Less, Equal, Greater, Bool, true, false, Option, Result, Ok, Err, subst, not, bytes_eq, Bor, IfOk, arith, ordering_reverse, slice_cmp, nat_list_cmp_total, is_eq-slice_cmp, Tree, Pairs, no_pairs, pair, keys, value_under, object, IsBelowFirst, AreRising, keys_rise, pairs_above, below_next, bytes_eq-Decides, list_any, list_all, Error, EntryIter, StoredEntry, Form, HasEntriesLeft, GivesEntry, TakesEntry, key_trees, IsCursorOf, IsPassed, IsBefore, HoldsTexts, has_by, KeyCursor, Keys, beq, has_text}
+use Rattle.std.specs.Ordering.{nat_cmp, is_eq}
 
 pub test_of_order : (k key : List ℕ) (o : Ordering) → slice_cmp nat_cmp k key ≡ o → bytes_eq k key ≡ is_eq o
 test_of_order k key o e = sym (is_eq-slice_cmp k key) ∙ ap is_eq e

@@ -1,25 +1,8 @@
 -- Names among the keys of an object, and the runs of its members that have one or have none.
-use Rattle.std.proofs.Common.{◌≡◌, ℕ, true, false, List, [], ◌∷◌, Option, Some, None, Ordering, refl, sym, ◌∙◌, nat_cmp, option_copied, Bor, is_eq, ◌+◌, Bool, not, ◌++◌, length, take, drop, map, ap, arith, append_assoc, append-nil, length-append, IsUtf8}
-use Rattle.std.specs.Cmp.Lexicographic.{slice_cmp, nat_list_cmp_total}
-use Rattle.std.specs.List.{AllByRecursion}
-use Rattle.std.specs.List.Sorted.{IsStrictlySortedBy}
-use Rattle.std.specs.Map.Iter.{TakesFirst as TakesName, deref}
+use Rattle.jsonb_raw.proofs.Common.{◌≡◌, ℕ, true, false, List, [], ◌∷◌, Option, Some, None, Ordering, refl, sym, ◌∙◌, nat_cmp, option_copied, Bor, is_eq, ◌+◌, Bool, not, ◌++◌, length, take, drop, map, ap, arith, append_assoc, append-nil, length-append, IsUtf8, slice_cmp, nat_list_cmp_total, AllByRecursion, IsStrictlySortedBy, deref, IsBelowFirst, AreKeys, TextSet, is_in, with_pairs, first_and_others, is_among, AreSorted, IsNotBelow, DecideFrom, DecideForKeys, PartsFirst, all_or_none, keys_of, values_of, beq, Tree, text, object, Pairs, members, Form, AreRising, AreRising-filter, Entries, StoredEntry, PairEntries, PairRuns, parted, HoldTrees, HoldPairs, ArePairsOf, TakesFirst, PairsHeld}
+use Rattle.std.specs.Map.Iter.{TakesFirst as TakesName}
 use Rattle.std.specs.declared.cmp.Ordering.TheVariants.{Less, Equal, Greater}
-use Rattle.jsonb_doc.specs.Format.{IsBelowFirst, AreKeys}
-use Rattle.jsonb_raw.specs.Objects.{TextSet, is_in, with_pairs}
-use Rattle.jsonb_raw.specs.Private.Names.{first_and_others, is_among, AreSorted, IsNotBelow, DecideFrom, DecideForKeys, PartsFirst, all_or_none}
 use Rattle.jsonb_raw.proofs.PairStepLemmas.{turned}
-use Rattle.std.specs.Map.{keys_of, values_of}
-use Rattle.std.specs.Bool.{beq}
-use Rattle.jsonb_doc.specs.Tree.{Tree, text, object, Pairs, members}
-use Rattle.jsonb_doc.specs.Payload.{Form}
-use Rattle.jsonb_doc.proofs.BuilderSteps.{AreRising, AreRising-filter}
-use Rattle.jsonb_doc.specs.declared.cursor.Entries.{Entries}
-use Rattle.jsonb_doc.specs.declared.entry_iter.StoredEntry.{StoredEntry}
-use Rattle.jsonb_raw.specs.declared.functions.parts.PairEntries.{PairEntries}
-use Rattle.jsonb_raw.specs.declared.functions.parts.PairRuns.{PairRuns}
-use Rattle.jsonb_raw.specs.Private.PairSteps.{parted}
-use Rattle.jsonb_raw.specs.Private.Entries.{HoldTrees, HoldPairs, ArePairsOf, TakesFirst, PairsHeld}
 use Rattle.jsonb_raw.proofs.RunLemmas.{no_pairs_held}
 
 -- the first of the names that an iterator had left, and the others

@@ -1,31 +1,8 @@
 -- The positions of the children that steps and indices select.
-use Rattle.std.proofs.Common.{◌≡◌, ℕ, suc, ◌+◌, ◌<◌, Bool, true, false, cond, nat_lt, List, ◌∷◌, length, Option, Some, None, refl, ◌∙◌, arith, slice_get, sym, ℤ, [], Result, IsOkAnd, Global, MatchResult, is_some, bytes_eq, position, option_and_then, option_map, map, ap}
-use Rattle.std.specs.List.{position_or_len}
-use Rattle.std.proofs.lemmas.Bool.Decides.{nat_tests}
-use Rattle.jsonb_doc.specs.Tree.{Tree, object, Pairs, no_pairs, pair, elements, keys, values, value_under, field_of, array, Trees, children_of, trees_in, text}
-use Rattle.jsonb_keypath.specs.KeyPathGrammar.{Key, index, quoted_name, unquoted_name}
-use Rattle.jsonb_raw.specs.Places.{children, asked_key, child_position, location, tree_at, tree_at_steps, index_position}
-use Rattle.jsonb_raw.specs.Private.Steps.{child_met}
-use Rattle.jsonb_doc.specs.Answer.{SameOption, IsOutOfMemory}
-use Rattle.jsonb_keypath.specs.declared.key_path.KeyPath.{KeyPath}
-use Rattle.jsonb_keypath.specs.KeyPathViews.{key_view}
-use Rattle.jsonb_keypath.specs.Private.KeysView.{keys_view}
-use Rattle.std.specs.Fmt.{signed_decimal}
-use Rattle.std.specs.Cow.{cow_str_bytes}
-use Rattle.std.specs.declared.borrow.CowStr.{CowStr}
-use Rattle.jsonb_doc.specs.Payload.{Form}
-use Rattle.jsonb_keypath.specs.declared.key_path.KeyPath.TheVariants.{Index, QuotedName, Name}
-use Rattle.jsonb_doc.specs.declared.error.Error.{Error}
+use Rattle.jsonb_raw.proofs.Common.{◌≡◌, ℕ, suc, ◌+◌, ◌<◌, Bool, true, false, cond, nat_lt, List, ◌∷◌, length, Option, Some, None, refl, ◌∙◌, arith, slice_get, sym, ℤ, [], Result, IsOkAnd, Global, MatchResult, is_some, bytes_eq, position, option_and_then, option_map, map, ap, position_or_len, nat_tests, Tree, object, Pairs, no_pairs, pair, elements, keys, values, value_under, field_of, array, Trees, children_of, trees_in, text, Key, index, quoted_name, unquoted_name, children, asked_key, child_position, location, tree_at, tree_at_steps, index_position, child_met, SameOption, IsOutOfMemory, KeyPath, key_view, keys_view, signed_decimal, cow_str_bytes, CowStr, Form, Index, QuotedName, Name, Error, Locates, HasSpotsLeft, Spot, SpotIter, keys_of-members, ContainerEntries, HoldTrees, AreEntriesOf}
 use Rattle.jsonb_raw.proofs.AnswerLemmas.{answered}
-use Rattle.jsonb_doc.specs.Representation.Positions.{Locates, HasSpotsLeft}
-use Rattle.jsonb_doc.specs.declared.spot.Spot.{Spot}
-use Rattle.jsonb_doc.specs.declared.spot_iter.SpotIter.{SpotIter}
-use Rattle.std.specs.Prelude.{position, option_map}
 use Rattle.std.specs.Str.{bytes_eq}
 use Rattle.jsonb_doc.specs.declared.layout.HeaderKind.TheVariants as header_kind
-use Rattle.jsonb_doc.proofs.TreeLists.{keys_of-members}
-use Rattle.jsonb_raw.specs.declared.functions.parts.ContainerEntries.{ContainerEntries}
-use Rattle.jsonb_raw.specs.Private.Entries.{HoldTrees, AreEntriesOf}
 
 -- ---- the child that a step selects
 

@@ -1,10 +1,5 @@
 -- What a push of a number's bytes leaves.
-use Rattle.std.proofs.Common.{◌≡◌, ◌≢◌, ◌⊎◌, inl, inr, subst, ℕ, suc, ◌+◌, ◌-◌, ◌<◌, Bool, true, false, List, [], ◌∷◌, ◌++◌, map, length, ℤ, pos, negsuc, nat_abs, int_lt, refl, sym, ap, ◌∙◌, arith, append_assoc, w16, ltb-true}
-use Rattle.std.specs.Int.{to_be_bytes}
-use Rattle.std.specs.Int.Digits.{digits_of}
-use Rattle.std.proofs.lemmas.List.{map-append}
-use Rattle.jsonb_raw.specs.SortableKey.{significant, magnitude_bytes, number_bytes}
-use Rattle.jsonb_raw.specs.Private.Complements.{complement_byte, complement_bytes}
+use Rattle.jsonb_raw.proofs.Common.{◌≡◌, ◌≢◌, ◌⊎◌, inl, inr, subst, ℕ, suc, ◌+◌, ◌-◌, ◌<◌, Bool, true, false, List, [], ◌∷◌, ◌++◌, map, length, ℤ, pos, negsuc, nat_abs, int_lt, refl, sym, ap, ◌∙◌, arith, append_assoc, w16, ltb-true, to_be_bytes, digits_of, map-append, significant, magnitude_bytes, number_bytes, complement_byte, complement_bytes}
 
 signed_bytes-append : (negative : Bool) (xs ys : List ℕ) → complement_bytes negative (xs ++ ys) ≡ complement_bytes negative xs ++ complement_bytes negative ys
 signed_bytes-append negative xs ys = map-append (complement_byte negative) xs ys

@@ -1,12 +1,5 @@
 -- Byte lists that rank in some way whatever follows them, and the parts that keys are made of.
-use Rattle.std.proofs.Common.{◌≡◌, ℕ, zero, suc, ◌+◌, ◌*◌, ◌%◌, ◌^◌, ◌<◌, List, [], ◌∷◌, ◌++◌, refl, sym, ap, ap₂, subst, ◌∙◌, arith, nat_cmp, Ordering, Less, Equal, Greater, append_assoc, pow-suc, mul_comm}
-use Rattle.std.specs.Ordering.{ordering_then}
-use Rattle.std.specs.Int.{bytes_high_first, byte_at}
-use native.Mathlib.Nat.{one-le-pow}
-use Rattle.jsonb_doc.specs.Proofs.Orderings.{nat_cmp-lt, nat_cmp-gt, nat_cmp_refl, then_assoc, nat_cmp_places, mod_places}
-use Rattle.std.proofs.lemmas.Nat.{mod_below}
-use Rattle.jsonb_raw.specs.SortableKey.{escaped_byte, text_bytes}
-use Rattle.jsonb_doc.proofs.Basics.{bytes_cmp}
+use Rattle.jsonb_raw.proofs.Common.{◌≡◌, ℕ, zero, suc, ◌+◌, ◌*◌, ◌%◌, ◌^◌, ◌<◌, List, [], ◌∷◌, ◌++◌, refl, sym, ap, ap₂, subst, ◌∙◌, arith, nat_cmp, Ordering, Less, Equal, Greater, append_assoc, pow-suc, mul_comm, ordering_then, bytes_high_first, byte_at, one-le-pow, nat_cmp-lt, nat_cmp-gt, nat_cmp_refl, then_assoc, nat_cmp_places, mod_places, mod_below, escaped_byte, text_bytes, bytes_cmp}
 
 -- the two lists rank so, whatever follows each of them
 pub record Ranks (xs ys : List ℕ) (o : Ordering) : Type 0 where

@@ -1,25 +1,5 @@
 -- Rows of the definitions that contracts use, computed.
-use Rattle.std.proofs.Common.{◌≡◌, ℕ, true, false, pos, negsuc, List, [], ◌∷◌, Some, None, codes, flat_map, refl, lit<, w8, w16}
-use Rattle.std.proofs.lemmas.Fmt.{decimal_digit}
-use Rattle.jsonb_doc.specs.Number.{number_from, uint64, decimal64}
-use Rattle.jsonb_doc.specs.Extension.{date}
-use Rattle.jsonb_doc.specs.Tree.{Tree, null, boolean, number, text, extension, array, object, trees_of, pairs_of}
-use Rattle.jsonb_keypath.specs.KeyPathGrammar.{index, quoted_name, unquoted_name}
-use Rattle.jsonb_raw.specs.Arrays.{array_length, array_values, array_insert, as_elements}
-use Rattle.jsonb_raw.specs.Objects.{object_keys, object_each, object_insert, has_name}
-use Rattle.jsonb_raw.specs.Children.{element_at, named_child, without_index, without_name}
-use Rattle.jsonb_raw.specs.Places.{location, tree_at_steps}
-use Rattle.jsonb_raw.specs.Deletes.{without}
-use Rattle.jsonb_raw.specs.Exists.{has_all, has_any}
-use Rattle.jsonb_raw.specs.Leaves.{leaves}
-use Rattle.jsonb_raw.specs.Texts.{texts}
-use Rattle.jsonb_raw.specs.Strip.{strip}
-use Rattle.jsonb_raw.specs.Contains.{contains}
-use Rattle.jsonb_raw.specs.Concat.{concat}
-use Rattle.jsonb_raw.specs.SortableKey.{sortable_key, magnitude_bytes}
-use Rattle.jsonb_raw.specs.EqualityKey.{equality_key}
-use Rattle.jsonb_raw.specs.CompositeKeys.{column_key}
-use Rattle.jsonb_raw.specs.Sets.{distinct, intersection_of, difference_of, overlap}
+use Rattle.jsonb_raw.proofs.Common.{◌≡◌, ℕ, true, false, pos, negsuc, List, [], ◌∷◌, Some, None, codes, flat_map, refl, lit<, w8, w16, decimal_digit, number_from, uint64, decimal64, date, Tree, null, boolean, number, text, extension, array, object, trees_of, pairs_of, index, quoted_name, unquoted_name, array_length, array_values, array_insert, as_elements, object_keys, object_each, object_insert, has_name, element_at, named_child, without_index, without_name, location, tree_at_steps, without, has_all, has_any, leaves, texts, strip, contains, concat, sortable_key, magnitude_bytes, equality_key, column_key, distinct, intersection_of, difference_of, overlap}
 
 abbrev n : ℕ → Tree
 n value = number (number_from uint64 (pos value) 0)

@@ -1,41 +1,9 @@
 -- Runs of entries, the containers that they make, and walks that keep some of them.
-use Rattle.std.proofs.Common.{◌≡◌, inl, inr, ℕ, zero, suc, ◌+◌, ◌^◌, ◌<◌, ◌≤◌, List, [], ◌∷◌, ◌++◌, length, map, take, drop, get_or, Option, Some, Result, refl, sym, ap, subst, ◌∙◌, arith, append-nil, ◌-◌, None, append_assoc, insert}
-use Rattle.std.specs.Map.{keys_of, values_of}
-use Rattle.jsonb_doc.specs.Tree.{Tree, Trees, text, array, object, trees_of, pairs_of, elements, Pairs, no_pairs, pair, keys, values, members}
-use Rattle.jsonb_doc.specs.Payload.{Form, number_reader, NumberReader}
-use Rattle.jsonb_doc.specs.Format.{Decodes, header, array_header, AreEntries, AreValues, AreKeys, entry_word, key_words, key_bytes}
-use Rattle.jsonb_doc.specs.Limits.{IsShort, HasShortElements, IsTooLarge}
-use Rattle.jsonb_doc.specs.Private.Errors.{IsOutOfMemoryOrTooLarge}
-use Rattle.jsonb_doc.specs.declared.error.Error.{Error}
-use Rattle.jsonb_doc.proofs.TreeLists.{trees_of-elements, keys_of-members}
-use Rattle.jsonb_doc.specs.Private.Containers.{Holds}
-use Rattle.jsonb_doc.specs.declared.container.ArrayParts.{ArrayParts}
+use Rattle.jsonb_raw.proofs.Common.{◌≡◌, inl, inr, ℕ, zero, suc, ◌+◌, ◌^◌, ◌<◌, ◌≤◌, List, [], ◌∷◌, ◌++◌, length, map, take, drop, get_or, Option, Some, Result, refl, sym, ap, subst, ◌∙◌, arith, append-nil, ◌-◌, None, append_assoc, insert, keys_of, values_of, Tree, Trees, text, array, object, trees_of, pairs_of, elements, Pairs, no_pairs, pair, keys, values, members, Form, number_reader, NumberReader, Decodes, header, array_header, AreEntries, AreValues, AreKeys, entry_word, key_words, key_bytes, IsShort, HasShortElements, IsTooLarge, IsOutOfMemoryOrTooLarge, Error, trees_of-elements, keys_of-members, Holds, ArrayParts, Entries, HeaderKind, Make, AreSortedKeys, too_many, within_parts, OwnedJsonb, Makes, as_elements, HoldTrees, RunsHold, AreElementsOf, IsTooLongRoot, IsTooLongElement, IsFirst, TakesFirst, HoldPairs, ArePairsOf, AreContainerEntries, Holding, PairsHeld, PairsOpen, IsFirstPair, TakesFirstPair, AreWithin, many_keys, text_entry, kind_number, front_of, HoldsPairs-skipped, HoldsPairs-values, StandBefore, ObjectParts, ContainerEntries, StoredEntry, PairEntries, FirstPair, PairRuns, entries_append, one_entry, AreArrayParts, AreObjectParts}
 use Rattle.jsonb_doc.specs.declared.container.Container.TheVariants.{Array, Object}
-use Rattle.jsonb_doc.specs.declared.cursor.Entries.{Entries}
-use Rattle.jsonb_doc.specs.declared.layout.HeaderKind.{HeaderKind}
 use Rattle.jsonb_doc.specs.declared.layout.HeaderKind.TheVariants as header_kind
-use Rattle.jsonb_doc.specs.Private.Writer.{Make, AreSortedKeys}
-use Rattle.jsonb_doc.proofs.WriterLimits.{too_many, within_parts}
-use Rattle.jsonb_raw.specs.declared.owned.OwnedJsonb.{OwnedJsonb}
-use Rattle.jsonb_raw.specs.Documents.{Makes}
-use Rattle.jsonb_raw.specs.Arrays.{as_elements}
 use Rattle.jsonb_raw.proofs.Lists.{drop_first, none_behind}
-use Rattle.jsonb_raw.specs.Private.Entries.{HoldTrees, RunsHold, AreElementsOf, IsTooLongRoot, IsTooLongElement, IsFirst, TakesFirst, HoldPairs, ArePairsOf, AreContainerEntries, Holding, PairsHeld, PairsOpen, IsFirstPair, TakesFirstPair, AreWithin}
-use Rattle.jsonb_doc.proofs.Basics.{many_keys}
-use Rattle.jsonb_doc.specs.Private.EntryKinds.{text_entry}
-use Rattle.jsonb_doc.specs.Kinds.{kind_number}
-use Rattle.jsonb_doc.proofs.KeyEntries.{front_of}
-use Rattle.jsonb_doc.proofs.PairsLemmas.{HoldsPairs-skipped, HoldsPairs-values}
-use Rattle.jsonb_doc.specs.Private.Lengths.{StandBefore}
-use Rattle.jsonb_doc.specs.declared.container.ObjectParts.{ObjectParts}
-use Rattle.jsonb_raw.specs.declared.functions.parts.ContainerEntries.{ContainerEntries}
-use Rattle.jsonb_doc.specs.declared.entry_iter.StoredEntry.{StoredEntry}
-use Rattle.jsonb_raw.specs.declared.functions.parts.PairEntries.{PairEntries}
-use Rattle.jsonb_raw.specs.declared.functions.parts.FirstPair.{FirstPair}
-use Rattle.jsonb_raw.specs.declared.functions.parts.PairRuns.{PairRuns}
-use Rattle.jsonb_doc.proofs.WriterLemmas.{entries_append, one_entry}
 use Rattle.std.proofs.lemmas.List.{length-append}
-use Rattle.jsonb_doc.specs.AnyBytes.Parts.{AreArrayParts, AreObjectParts}
 
 -- ---- runs one after the other
 

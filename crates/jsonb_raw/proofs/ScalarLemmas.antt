@@ -1,16 +1,8 @@
 -- What an item says of the tree that it stands for.
-use Rattle.std.proofs.Common.{◌≡◌, ℕ, ℤ, Bool, List, None, Bor, arith}
-use Rattle.jsonb_doc.specs.Tree.{Tree}
-use Rattle.jsonb_doc.specs.Payload.{Form}
-use Rattle.jsonb_doc.specs.Item.{StandsFor}
+use Rattle.jsonb_raw.proofs.Common.{◌≡◌, ℕ, ℤ, Bool, List, None, Bor, arith, Tree, Form, StandsFor, Item, Boolean, String, HasShape, Shape, text_of, IsWholeNumber}
 use Rattle.jsonb_doc.specs.declared.number.Number as code
-use Rattle.jsonb_doc.specs.declared.item.Item.{Item}
-use Rattle.jsonb_doc.specs.declared.item.Item.TheVariants.{Boolean, Number, String}
-use Rattle.jsonb_doc.specs.AnyBytes.Roots.{HasShape}
-use Rattle.jsonb_doc.specs.declared.shape.Shape.{Shape}
+use Rattle.jsonb_doc.specs.declared.item.Item.TheVariants.{Number}
 use Rattle.jsonb_doc.specs.declared.shape.Shape.TheVariants as shapes
-use Rattle.jsonb_raw.specs.Casts.{text_of}
-use Rattle.jsonb_raw.specs.Scalars.{IsWholeNumber}
 
 -- a shape that is not a number is that of no whole one
 pub no_whole : (shape : Shape) (t : Tree) → HasShape shape t → ((n : code.Number) → shape ≡ shapes.Number n → ⊥) → (z : ℤ) → IsWholeNumber t z → ⊥

@@ -1,32 +1,6 @@
 -- What the loops of the set functions keep true.
-use Rattle.std.proofs.Common.{ap₂, not, ◌≡◌, ◌+◌, ◌<◌, ◌^◌, Bool, true, false, ◌||◌, cond, List, [], ◌∷◌, ◌++◌, length, map, filter, Option, Some, None, inl, inr, refl, sym, ap, subst, ◌∙◌, append_assoc, append-nil, arith}
-use Rattle.std.proofs.lemmas.Bool.Decides.{nat_tests}
-use Rattle.std.specs.List.{AllByRecursion, list_any}
-use Rattle.jsonb_doc.specs.Tree.{Tree, array, object, Trees, no_trees, tree, elements, trees_of}
-use Rattle.jsonb_doc.specs.Payload.{Form, canonical}
-use Rattle.jsonb_doc.specs.Kinds.{kind_number}
-use Rattle.jsonb_doc.specs.declared.entry_iter.StoredEntry.{StoredEntry}
-use Rattle.jsonb_doc.specs.Limits.{Fits, AreInRange, IsShort, HasShortParts, HasShortElements, IsWithinLimits, IsTooLarge}
-use Rattle.jsonb_doc.specs.Private.Errors.{IsOutOfMemoryOrTooLarge}
-use Rattle.jsonb_doc.specs.ArrayBuilder.{Parts, no_parts, HoldsElements}
-use Rattle.jsonb_doc.specs.Representation.Iterators.{HasElementsLeft}
-use Rattle.jsonb_doc.proofs.ElementsLemmas.{IsElementsOf}
-use Rattle.jsonb_doc.specs.declared.element_iter.ElementIter.{ElementIter}
-use Rattle.jsonb_doc.specs.declared.error.Error.{Error}
-use Rattle.jsonb_doc.proofs.LimitLemmas.{array_too_large-more}
-use Rattle.jsonb_raw.specs.Arrays.{as_elements}
-use Rattle.jsonb_doc.specs.Equal.{is_equal}
-use Rattle.jsonb_doc.specs.Proofs.Equality.{is_equal_equiv}
-use Rattle.std.proofs.lemmas.List.Sums.{sum_by-cons}
-use Rattle.jsonb_raw.specs.Sets.{occurrences, overlap, count_of, intersection_of, difference_of}
-use Rattle.jsonb_raw.specs.Private.SetCounts.{Occurrence, keeps, kept_one, CountsAfter, HaveSeen}
-use Rattle.jsonb_raw.specs.Private.Entries.{HoldTrees, AreElementsOf, RunsHold, IsFirst, TakesFirst, Holding}
-use Rattle.jsonb_doc.specs.declared.cursor.Entries.{Entries}
-use Rattle.jsonb_raw.specs.declared.functions.array.counts.KeyCounts.{KeyCounts}
-use Rattle.jsonb_raw.specs.declared.functions.array.seen.Seen.{Seen}
-use Rattle.jsonb_raw.specs.declared.functions.array.sets.SetOperation.{SetOperation}
+use Rattle.jsonb_raw.proofs.Common.{ap₂, not, ◌≡◌, ◌+◌, ◌<◌, ◌^◌, Bool, true, false, ◌||◌, cond, List, [], ◌∷◌, ◌++◌, length, map, filter, Option, Some, None, inl, inr, refl, sym, ap, subst, ◌∙◌, append_assoc, append-nil, arith, nat_tests, AllByRecursion, list_any, Tree, array, object, Trees, no_trees, tree, elements, trees_of, Form, canonical, kind_number, StoredEntry, Fits, AreInRange, IsShort, HasShortParts, HasShortElements, IsWithinLimits, IsTooLarge, IsOutOfMemoryOrTooLarge, Parts, no_parts, HoldsElements, HasElementsLeft, IsElementsOf, ElementIter, Error, array_too_large-more, as_elements, is_equal, is_equal_equiv, sum_by-cons, occurrences, overlap, count_of, intersection_of, difference_of, Occurrence, keeps, kept_one, CountsAfter, HaveSeen, HoldTrees, AreElementsOf, RunsHold, IsFirst, TakesFirst, Holding, Entries, KeyCounts, Seen, SetOperation, or_false}
 use Rattle.jsonb_raw.proofs.RunLemmas.{holding_begun, holding_kept, holding_again, entry_taken, no_entry_left}
-use Rattle.jsonb_doc.proofs.Basics.{or_false}
 use Rattle.jsonb_raw.proofs.ArrayLemmas.{length-elements}
 
 -- ---- the elements of a document

@@ -1,16 +1,5 @@
 -- The laws of arrays as sets: what is kept, counted by value.
-use Rattle.std.proofs.Common.{◌≡◌, ◌≢◌, ◌↔◌, ◌+◌, ◌-◌, ◌<◌, ◌≤◌, ℕ, min, Bool, true, false, not, ◌||◌, cond, List, [], ◌∷◌, map, filter, nat_lt, IsTrue, inl, inr, refl, sym, ap, ap₂, ◌∙◌, arith}
-use Rattle.std.specs.Cmp.{IsPartialEquivalence, partial_equiv_from_equiv}
-use Rattle.std.specs.List.{list_any}
-use Rattle.std.proofs.lemmas.Bool.Decides.{nat_tests}
-use Rattle.std.proofs.lemmas.List.Sums.{sum_by-cons}
-use Rattle.jsonb_doc.specs.Tree.{Tree}
-use Rattle.jsonb_doc.specs.Equal.{is_equal}
-use Rattle.jsonb_doc.specs.Proofs.Equality.{is_equal_equiv}
-use Rattle.jsonb_raw.specs.Private.SetCounts.{Occurrence, is_first}
-use Rattle.jsonb_raw.specs.Sets.{count_of, occurrences, is_shared, distinct, intersection_of, difference_of, overlap}
-use Rattle.jsonb_raw.specs.Partition.{IsPartitionedInto}
-use Rattle.jsonb_doc.proofs.Basics.{same_test}
+use Rattle.jsonb_raw.proofs.Common.{◌≡◌, ◌≢◌, ◌↔◌, ◌+◌, ◌-◌, ◌<◌, ◌≤◌, ℕ, min, Bool, true, false, not, ◌||◌, cond, List, [], ◌∷◌, map, filter, nat_lt, IsTrue, inl, inr, refl, sym, ap, ap₂, ◌∙◌, arith, IsPartialEquivalence, partial_equiv_from_equiv, list_any, nat_tests, sum_by-cons, Tree, is_equal, is_equal_equiv, Occurrence, is_first, count_of, occurrences, is_shared, distinct, intersection_of, difference_of, overlap, IsPartitionedInto, same_test}
 
 -- ---- a test and its opposite deal
 

@@ -1,21 +1,6 @@
 -- What is stripped of sorted keys, and which trees and keys stay when nulls are left out.
-use Rattle.std.proofs.Common.{ℕ, Bool, true, false, List, cond, ◌≡◌, ◌≤◌, zero, suc, [], ◌∷◌, length, refl, sym, ap, subst, ◌∙◌, arith, ◌==◌, ◌||◌}
+use Rattle.jsonb_raw.proofs.Common.{ℕ, Bool, true, false, List, cond, ◌≡◌, ◌≤◌, zero, suc, [], ◌∷◌, length, refl, sym, ap, subst, ◌∙◌, arith, ◌==◌, ◌||◌, Pairs, no_pairs, pair, keys, Tree, array, object, Trees, no_trees, tree, elements, values, members, trees_of, IsBelowFirst, IsContent, AreKeys, AreRising, keys_rise, is_null, strip, strip_pairs, strip_trees, values_of, nat_tests, Form, number_reader, container_entry, null_entry, Make, keys_of-members, pairs_of-members, ContainerEntries, AreEntriesOf, leaves_out, stripped, beside, stops, values_kept, entries_kept, length-values_of}
 use Rattle.std.proofs.lemmas.Cmp.{nat_list_cmp_total}
-use Rattle.jsonb_doc.specs.Tree.{Pairs, no_pairs, pair, keys, Tree, array, object, Trees, no_trees, tree, elements, values, members, trees_of}
-use Rattle.jsonb_doc.specs.Format.{IsBelowFirst, IsContent, AreKeys}
-use Rattle.jsonb_doc.proofs.BuilderSteps.{AreRising, keys_rise}
-use Rattle.jsonb_raw.specs.Scalars.{is_null}
-use Rattle.jsonb_raw.specs.Strip.{strip, strip_pairs, strip_trees}
-use Rattle.std.specs.Map.{values_of}
-use Rattle.std.proofs.lemmas.Bool.Decides.{nat_tests}
-use Rattle.jsonb_doc.specs.Payload.{Form, number_reader}
-use Rattle.jsonb_doc.specs.Private.EntryKinds.{container_entry, null_entry}
-use Rattle.jsonb_doc.specs.Private.Writer.{Make}
-use Rattle.jsonb_doc.proofs.TreeLists.{keys_of-members, pairs_of-members}
-use Rattle.jsonb_raw.specs.declared.functions.parts.ContainerEntries.{ContainerEntries}
-use Rattle.jsonb_raw.specs.Private.Entries.{AreEntriesOf}
-use Rattle.jsonb_raw.specs.Private.Stripping.{leaves_out, stripped, beside, stops, values_kept, entries_kept}
-use Rattle.std.proofs.lemmas.Map.Entries.{length-values_of}
 
 -- a key below those of all pairs is below those of the pairs that stay
 pub below_stripped : (low : List ℕ) (ps : Pairs) → IsBelowFirst low (keys ps) → AreRising (keys ps) → IsBelowFirst low (keys (strip_pairs ps))

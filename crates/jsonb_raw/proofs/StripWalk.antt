@@ -1,29 +1,9 @@
 -- Containers that are written again without the nulls of their objects: what is read, written, and left.
-use Rattle.std.proofs.Common.{◌≡◌, ℕ, ◌+◌, ◌*◌, ◌^◌, ◌≤◌, ap₂, Bool, true, false, List, [], ◌∷◌, ◌++◌, Some, None, length, map, refl, sym, ap, subst, ◌∙◌, arith, append_assoc}
-use Rattle.jsonb_doc.specs.Kinds.{kind_number}
-use Rattle.jsonb_doc.specs.Tree.{Tree, text, array, object, no_pairs, pair, elements, values, keys}
-use Rattle.jsonb_doc.specs.Payload.{Form, number_reader}
-use Rattle.jsonb_doc.specs.Format.{IsContent}
-use Rattle.jsonb_doc.specs.Private.EntryKinds.{container_entry}
-use Rattle.jsonb_doc.specs.declared.entry_iter.StoredEntry.{StoredEntry}
-use Rattle.jsonb_doc.specs.declared.cursor.Entries.{Entries}
-use Rattle.jsonb_doc.specs.declared.rewriting.Writer.{Writer}
+use Rattle.jsonb_raw.proofs.Common.{◌≡◌, ℕ, ◌+◌, ◌*◌, ◌^◌, ◌≤◌, ap₂, Bool, true, false, List, [], ◌∷◌, ◌++◌, Some, None, length, map, refl, sym, ap, subst, ◌∙◌, arith, append_assoc, kind_number, Tree, text, array, object, no_pairs, pair, elements, values, keys, Form, number_reader, IsContent, container_entry, StoredEntry, Entries, Writer, StartWith, AreSortedKeys, Around, IsWriting, word_cancel, keys_rise, keys_of-members, ValuesLeft, ContainerEntries, HoldTrees, AreEntriesOf, AreContainerEntries, Holding, WordsHold, stops, stripped, beside, entries_kept, values_kept, HoldValues, Begins, AreWritten, is_null, strip, strip_pairs, many_texts}
 use Rattle.jsonb_doc.specs.declared.layout.HeaderKind.TheVariants as header_kind
-use Rattle.jsonb_doc.specs.Private.Containers.{StartWith}
-use Rattle.jsonb_doc.specs.Private.Writer.{AreSortedKeys, Around, IsWriting}
-use Rattle.jsonb_doc.proofs.WordLemmas.{word_cancel}
-use Rattle.jsonb_doc.proofs.BuilderSteps.{keys_rise}
-use Rattle.jsonb_doc.proofs.TreeLists.{keys_of-members}
-use Rattle.jsonb_raw.specs.declared.functions.operator.stripping.ValuesLeft.{ValuesLeft}
 use Rattle.jsonb_raw.specs.declared.functions.operator.stripping.Outer.{Outer}
-use Rattle.jsonb_raw.specs.declared.functions.parts.ContainerEntries.{ContainerEntries}
-use Rattle.jsonb_raw.specs.Private.Entries.{HoldTrees, AreEntriesOf, AreContainerEntries, Holding}
-use Rattle.jsonb_raw.specs.Private.Stripping.{WordsHold, stops, stripped, beside, entries_kept, values_kept, HoldValues, Begins, AreWritten}
-use Rattle.jsonb_raw.specs.Scalars.{is_null}
-use Rattle.jsonb_raw.specs.Strip.{strip, strip_pairs}
 use Rattle.jsonb_raw.proofs.RunLemmas.{holding_begun, holding_kept, EntryTaken, TextFirst}
 use Rattle.jsonb_raw.proofs.StripLists.{null_kind, is_none, is_some, stays, container_stays, left_out, all_keys, keys_count, as_many_keys, beside_keys, values_of-members, all_elements, beside_none}
-use Rattle.jsonb_doc.proofs.Basics.{many_texts}
 
 -- a scalar stays
 pub scalar_stays : (form : Form) (t : Tree) → AreContainerEntries form t None → strip t ≡ t

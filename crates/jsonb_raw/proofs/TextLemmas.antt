@@ -1,18 +1,7 @@
 -- What calls decided of strings that are joined.
-use Rattle.std.proofs.Common.{◌≡◌, ◌==◌, ℕ, Option, Some, None, ◌+◌, Bool, true, false, List, [], ◌∷◌, ◌++◌, length, refl, ◌∙◌, arith, length-append, eqb-true, Bor, Any}
-use Rattle.jsonb_doc.specs.Payload.{Form}
-use Rattle.jsonb_doc.specs.Private.Stored.{Stores}
-use Rattle.jsonb_doc.specs.Kinds.{kind_number}
-use Rattle.jsonb_doc.specs.declared.entry_iter.StoredEntry.{StoredEntry}
-use Rattle.jsonb_doc.proofs.ScalarLemmas.{text_content}
-use Rattle.std.specs.Fn.{Shared, FnReturnsAt}
-use Rattle.std.proofs.lemmas.List.{get_or_append_left, get_or-append-add}
-use Rattle.std.proofs.lemmas.List.Elements.{All-append, All-cons}
-use Rattle.jsonb_raw.specs.Texts.{Tells, texts}
-use Rattle.jsonb_raw.specs.Private.LargeTexts.{LargeTells, LeavesTexts}
-use Rattle.jsonb_doc.specs.Tree.{Tree}
-use Rattle.jsonb_doc.specs.Item.{StandsFor}
-use Rattle.jsonb_doc.specs.declared.item.Item.{Item}
+use Rattle.jsonb_raw.proofs.Common.{◌≡◌, ◌==◌, ℕ, Option, Some, None, ◌+◌, Bool, true, false, List, [], ◌∷◌, ◌++◌, length, refl, ◌∙◌, arith, length-append, Bor, Any, Form, Stores, kind_number, StoredEntry, text_content, FnReturnsAt, get_or_append_left, get_or-append-add, All-append, All-cons, Tells, texts, LargeTells, LeavesTexts, Tree, StandsFor, Item}
+use Rattle.std.proofs.Common.{eqb-true}
+use Rattle.std.specs.Fn.{Shared}
 
 module _ {X : Type 0} (P : X → Type 0) where
   any_in_first : (xs ys : List X) → Any P xs → Any P (xs ++ ys)

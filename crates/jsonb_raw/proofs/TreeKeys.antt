@@ -1,19 +1,8 @@
 -- The keys of trees, with any rests after them, rank as the trees do.
-use Rattle.std.proofs.Common.{◌≡◌, ◌≢◌, ◌⊎◌, ℕ, suc, ◌+◌, ◌<◌, ◌≤◌, List, [], ◌∷◌, ◌++◌, Bool, true, false, inl, inr, refl, sym, ap, ap₂, subst, ◌∙◌, arith, nat_cmp, Ordering, Less, Greater, append_assoc, mod-eq_of_lt}
-use Rattle.std.specs.Ordering.{ordering_then}
-use Rattle.std.specs.Int.{Width, to_be_bytes, byte_len}
-use Rattle.std.proofs.lemmas.Bool.{cases_order}
-use Rattle.jsonb_doc.specs.Proofs.Orderings.{nat_cmp_refl, then_assoc}
+use Rattle.jsonb_raw.proofs.Common.{◌≡◌, ◌≢◌, ◌⊎◌, ℕ, suc, ◌+◌, ◌<◌, ◌≤◌, List, [], ◌∷◌, ◌++◌, Bool, true, false, inl, inr, refl, sym, ap, ap₂, subst, ◌∙◌, arith, nat_cmp, Ordering, Less, Greater, append_assoc, mod-eq_of_lt, ordering_then, Width, to_be_bytes, byte_len, cases_order, nat_cmp_refl, then_assoc, Tree, Trees, Pairs, extension_payload, deepest, deepest_of_trees, deepest_of_pairs, IsInRange, AreInRange, ValuesAreInRange, rank, tree_cmp, trees_cmp, pairs_cmp, sortable_key, keys_of_trees, keys_of_pairs, depths, item_bytes, text_bytes, number_bytes, IsRest, bytes_cmp}
 use Rattle.jsonb_raw.proofs.Ranking.{Ranks-bytes_high_first, Ranks-text_bytes}
 use Rattle.jsonb_raw.proofs.NumberKeys.{Ranks-number_bytes, bounded_from_fits}
-use Rattle.jsonb_doc.specs.Tree.{Tree, Trees, Pairs}
-use Rattle.jsonb_doc.specs.Payload.{extension_payload}
-use Rattle.jsonb_doc.specs.Depth.{deepest, deepest_of_trees, deepest_of_pairs}
 use Rattle.jsonb_raw.proofs.ExtensionLeaves.{LacksExtension, LackExtension, ValuesLackExtension}
-use Rattle.jsonb_doc.specs.Limits.{IsInRange, AreInRange, ValuesAreInRange}
-use Rattle.jsonb_doc.specs.Order.{rank, tree_cmp, trees_cmp, pairs_cmp}
-use Rattle.jsonb_raw.specs.SortableKey.{sortable_key, keys_of_trees, keys_of_pairs, depths, item_bytes, text_bytes, number_bytes, IsRest}
-use Rattle.jsonb_doc.proofs.Basics.{bytes_cmp}
 
 -- The parts are in range, and no extension occurs: what sortable keys put in order.
 abbrev pub IsSortable : Tree → Type 0

@@ -1,9 +1,5 @@
 -- Short strings made in a word.
-use Rattle.std.proofs.Common.{◌≡◌, ◌≤◌, ◌<◌, ◌+◌, ◌*◌, ◌-◌, ◌/◌, ◌%◌, ◌^◌, ℕ, zero, suc, true, List, [], ◌∷◌, ◌++◌, length, take, drop, refl, sym, ap, ap₂, ◌∙◌, append-nil, arith, get_or, w16, w32}
-use Rattle.std.specs.Int.{byte_at, bytes_low_first, from_le_bytes, to_le_bytes, w64}
-use Rattle.std.proofs.Math.Nat.{div-div-eq-div-mul, pow-succ'}
-use Rattle.jsonb_raw.specs.SortableKey.{text_bytes}
-use Rattle.jsonb_raw.specs.Private.PlainWords.{IsPlainWord, is_plain_text}
+use Rattle.jsonb_raw.proofs.Common.{◌≡◌, ◌≤◌, ◌<◌, ◌+◌, ◌*◌, ◌-◌, ◌/◌, ◌%◌, ◌^◌, ℕ, zero, suc, true, List, [], ◌∷◌, ◌++◌, length, take, drop, refl, sym, ap, ap₂, ◌∙◌, append-nil, arith, get_or, w16, w32, byte_at, bytes_low_first, from_le_bytes, to_le_bytes, w64, div-div-eq-div-mul, pow-succ', text_bytes, IsPlainWord, is_plain_text}
 use Rattle.jsonb_raw.proofs.TextChunks.{escaped_plain, text_bytes-append}
 
 -- the number whose bytes these are, the lowest first

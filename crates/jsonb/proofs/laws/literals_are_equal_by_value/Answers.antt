@@ -1,5 +1,4 @@
-use Rattle.jsonb.specs.PathViews.{literal_view}
-use Rattle.jsonb.specs.Proofs.PathOrder.{literal-same}
+use Rattle.jsonb.proofs.Common.{literal_view, literal-same}
 use Rattle.jsonb.proofs.laws.literals_are_equal_by_value.Goals as goal
 
 pub returns : goal.returns

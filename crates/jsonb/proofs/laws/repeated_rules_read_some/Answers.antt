@@ -1,4 +1,4 @@
-use Rattle.jsonb.specs.PathGrammar.{nested_or}
+use Rattle.jsonb.proofs.Common.{nested_or}
 use Rattle.jsonb.proofs.EntryReadsSome.{some-another_entry}
 use Rattle.jsonb.proofs.InnerReadsSome.{some-spaced_inner}
 use Rattle.jsonb.proofs.ExpressionReadsSome.{some-path, grows-nested_or, some-path_step, some-another_atom, some-another_and}

@@ -1,15 +1,5 @@
-use Rattle.std.proofs.Common.{◌≡◌, ◌∙◌, sym, List, [], ◌∷◌, ℕ, ap, ap₂, refl, Option, Some, None, Result, Ok, Err, IfOk, IfSome, Vec}
-use Rattle.std.specs.List.{AllZip, AllByRecursion}
+use Rattle.jsonb.proofs.Common.{◌≡◌, ◌∙◌, sym, List, [], ◌∷◌, ℕ, ap, ap₂, refl, Option, Some, None, Result, Ok, Err, IfOk, IfSome, Vec, AllZip, AllByRecursion, Outcome, SameOption, AreBytes, Tree, canonical, Decodes, Error, one_canonical_document, OwnedJsonb, AreAll, IsArrayOf, IsPicked}
 use Rattle.std.specs.declared.alloc.Global.{Global}
-use Rattle.jsonb_doc.specs.Answer.{Outcome, SameOption}
-use Rattle.jsonb_doc.specs.Bytes.{AreBytes}
-use Rattle.jsonb_doc.specs.Tree.{Tree}
-use Rattle.jsonb_doc.specs.Payload.{canonical}
-use Rattle.jsonb_doc.specs.Format.{Decodes}
-use Rattle.jsonb_doc.specs.declared.error.Error.{Error}
-use Rattle.jsonb_doc.proofs.OneDocument.{one_canonical_document}
-use Rattle.jsonb_raw.specs.declared.owned.OwnedJsonb.{OwnedJsonb}
-use Rattle.jsonb.specs.SelectorAnswers.{AreAll, IsArrayOf, IsPicked}
 use Rattle.jsonb.proofs.laws.selections_are_determined.Goals as goal
 
 one_document : (t : Tree) (made other : List ℕ) → Decodes canonical made t → Decodes canonical other t

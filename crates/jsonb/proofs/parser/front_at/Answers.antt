@@ -1,7 +1,4 @@
-use Rattle.std.proofs.Common.{◌∙◌, false, sym, ap, refl, Some, None}
-use Rattle.jsonb.specs.PathTree.{Expression}
-use Rattle.jsonb.specs.PathViews.{expression_view, steps_view}
-use Rattle.jsonb.specs.Private.Frames.{as_path, partial_outcome, opening_outcome}
+use Rattle.jsonb.proofs.Common.{◌∙◌, false, sym, ap, refl, Some, None, Expression, expression_view, steps_view, as_path, partial_outcome, opening_outcome}
 use Rattle.jsonb.proofs.FrameLemmas.{front-is, front-operation, front-steps}
 use Rattle.jsonb.proofs.parser.front_at.Goals as goal
 

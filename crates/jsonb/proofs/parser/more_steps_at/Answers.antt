@@ -1,8 +1,4 @@
-use Rattle.std.proofs.Common.{◌≡◌, ◌<◌, ◌++◌, ◌∷◌, [], length, sym, Some}
-use Rattle.std.proofs.lemmas.List.{map_push}
-use Rattle.jsonb.specs.PathGrammar.{path_step}
-use Rattle.jsonb.specs.PathViews.{steps_view, step_view}
-use Rattle.jsonb_keypath.proofs.RepeatLemmas.{loop-goes, loop-ends}
+use Rattle.jsonb.proofs.Common.{◌≡◌, ◌<◌, ◌++◌, ◌∷◌, [], length, sym, Some, map_push, path_step, steps_view, step_view, loop-goes, loop-ends}
 use Rattle.jsonb.proofs.parser.more_steps_at.Goals as goal
 
 pub loop-steps-preserved : goal.loop-steps-preserved

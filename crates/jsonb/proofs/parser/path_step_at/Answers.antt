@@ -1,6 +1,4 @@
-use Rattle.std.proofs.Common.{◌≡◌, ◌∙◌, sym, None}
-use Rattle.jsonb.specs.PathGrammar.{spaced_inner}
-use Rattle.jsonb.specs.PathViews.{step_view}
+use Rattle.jsonb.proofs.Common.{◌≡◌, ◌∙◌, sym, None, spaced_inner, step_view}
 use Rattle.jsonb.proofs.Bounds.{path_step-rule}
 use Rattle.jsonb.proofs.ExpressionLemmas.{inner-is_step}
 use Rattle.jsonb.proofs.FrameLemmas.{step-is_filter, no_step}

@@ -1,4 +1,4 @@
-use Rattle.jsonb.specs.PathViews.{steps_view}
+use Rattle.jsonb.proofs.Common.{steps_view}
 use Rattle.jsonb.proofs.ExpressionLemmas.{path-begins}
 use Rattle.jsonb.proofs.parser.plain_path_at.Goals as goal
 

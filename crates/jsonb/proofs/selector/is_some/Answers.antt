@@ -1,6 +1,4 @@
-use Rattle.std.proofs.Common.{◌∙◌, ◌∷◌, [], ap, length}
-use Rattle.std.specs.Prelude.{not, ◌==◌}
-use Rattle.jsonb.specs.Private.Selection.{IsAt, IsMadeItem, IsNumberItem}
+use Rattle.jsonb.proofs.Common.{◌∙◌, ◌∷◌, [], ap, length, not, ◌==◌, IsAt, IsMadeItem, IsNumberItem}
 use Rattle.jsonb.proofs.RefinesLemmas.{some_related}
 use Rattle.jsonb.proofs.selector.is_some.Goals as goal
 

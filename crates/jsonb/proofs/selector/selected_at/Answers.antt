@@ -1,4 +1,4 @@
-use Rattle.std.proofs.Common.{sym, ◌∙◌}
+use Rattle.jsonb.proofs.Common.{sym, ◌∙◌}
 use Rattle.jsonb.proofs.RefinesLemmas.{failed_as, refused_as, given_by}
 use Rattle.jsonb.proofs.selector.selected_at.Goals as goal
 

@@ -1,5 +1,4 @@
-use Rattle.std.proofs.Common.{ap, ◌∙◌}
-use Rattle.std.specs.Int.{w64, from_be_bytes}
+use Rattle.jsonb_doc.proofs.Common.{ap, ◌∙◌, w64, from_be_bytes}
 use Rattle.jsonb_doc.proofs.byte_order.first_word.Goals as goal
 
 pub returns : goal.returns

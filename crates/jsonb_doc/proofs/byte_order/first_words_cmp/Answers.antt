@@ -1,4 +1,4 @@
-use Rattle.std.proofs.Common.{◌≢◌, ◌∙◌, arith}
+use Rattle.jsonb_doc.proofs.Common.{◌≢◌, ◌∙◌, arith}
 use Rattle.jsonb_doc.proofs.ByteOrderLemmas.{order_of_words}
 use Rattle.jsonb_doc.proofs.byte_order.first_words_cmp.Goals as goal
 

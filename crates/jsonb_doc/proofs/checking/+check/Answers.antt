@@ -1,17 +1,7 @@
-use Rattle.std.proofs.Common.{◌≡◌, ◌≢◌, ℕ, ◌+◌, ◌<◌, arith, nat_eq, if◌then◌else◌, sym, ap, ◌∙◌, length, Some, None, ◌↔◌}
-use Rattle.std.specs.Prelude.{option_copied}
-use Rattle.std.proofs.lemmas.Bool.{false≢true}
-use Rattle.std.proofs.lemmas.Bool.Decides.{nat_tests}
-use Rattle.std.proofs.lemmas.List.{nil_from_length, length-append}
-use Rattle.std.proofs.lemmas.Grind.{common_steps}
-use Rattle.jsonb_doc.specs.Payload.{NumberReader}
-use Rattle.jsonb_doc.specs.AnyBytes.Unsupported.{number_or_unsupported}
-use Rattle.jsonb_doc.specs.Private.Checking.{HasContent, HasEntries, HasLarge}
-use Rattle.jsonb_doc.specs.Kinds.{kind_number}
+use Rattle.jsonb_doc.proofs.Common.{◌≡◌, ◌≢◌, ℕ, ◌+◌, ◌<◌, arith, nat_eq, if◌then◌else◌, sym, ap, ◌∙◌, length, Some, None, ◌↔◌, option_copied, false≢true, nat_tests, nil_from_length, length-append, common_steps, NumberReader, number_or_unsupported, HasContent, HasEntries, HasLarge, kind_number, Container}
 use Rattle.jsonb_doc.proofs.Entries.{HasEntries-nil, HasEntries-empty, HasEntries-stop, HasEntries-step, has_content_lenient}
 use Rattle.jsonb_doc.proofs.Halves.{halvings-more, halvings-fewer}
 use Rattle.jsonb_doc.proofs.CheckingLemmas.{Leaves-along, Leaves-entries, Leaves-good, Leaves-unsupported, IsValidationError-other, IsApart-within, IsApart-less, IsApart-one, IsApart-large}
-use Rattle.jsonb_doc.specs.declared.layout.EntryKind.TheVariants.{Container}
 use Rattle.jsonb_doc.proofs.KindLemmas.{same_kind, other_kind}
 use Rattle.jsonb_doc.proofs.checking.+check.Goals as goal
 use Rattle.jsonb_doc.proofs.checking.+check.Goals.{check_entries-else-eq-via-then-eq+else-entry-half, check_entries-else-eq-via-else-eq, check_entries-then-eq+then-entry-half, check_entries-else-eq+in-Ok, check_entries-else-eq+in-Err+in-UnsupportedNumber}

@@ -1,7 +1,4 @@
-use Rattle.std.proofs.Common.{◌*◌, ◌+◌, ◌≤◌, length, nat_eq, if◌then◌else◌}
-use Rattle.std.specs.Prelude.{option_copied}
-use Rattle.jsonb_doc.specs.Private.Checking.{HasContent, HasEntries, HasLarge, ReducesTo}
-use Rattle.jsonb_doc.specs.Kinds.{kind_number}
+use Rattle.jsonb_doc.proofs.Common.{◌*◌, ◌+◌, ◌≤◌, length, nat_eq, if◌then◌else◌, option_copied, HasContent, HasEntries, HasLarge, ReducesTo, kind_number}
 use Rattle.jsonb_doc.proofs.Halves.{halvings}
 use Rattle.jsonb_doc.proofs.CheckingLemmas.{IsApart}
 use Rattle.jsonb_doc.proofs.checking.+check.Given as goal

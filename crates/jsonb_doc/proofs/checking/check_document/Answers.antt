@@ -1,5 +1,4 @@
-use Rattle.jsonb_doc.specs.Private.Checking.{HasContent, HasDocument}
-use Rattle.jsonb_doc.specs.Kinds.{kind_number}
+use Rattle.jsonb_doc.proofs.Common.{HasContent, HasDocument, kind_number}
 use Rattle.jsonb_doc.proofs.ScalarLemmas.{Validates-along}
 use Rattle.jsonb_doc.proofs.Containers.{HasDocument-scalar, HasDocument-container}
 use Rattle.jsonb_doc.proofs.checking.check_document.Goals as goal

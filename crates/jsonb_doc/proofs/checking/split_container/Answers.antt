@@ -1,5 +1,4 @@
-use Rattle.std.proofs.Common.{arith}
-use Rattle.jsonb_doc.specs.AnyBytes.Unsupported.{number_or_unsupported}
+use Rattle.jsonb_doc.proofs.Common.{arith, number_or_unsupported}
 use Rattle.jsonb_doc.proofs.Containers.{IsCut-scalar, HasContent-array, HasContent-keys, HasContent-object, HasKeys-room}
 use Rattle.jsonb_doc.proofs.checking.split_container.Goals as goal
 

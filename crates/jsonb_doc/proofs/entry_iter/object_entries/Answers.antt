@@ -1,5 +1,4 @@
-use Rattle.jsonb_doc.specs.Tree.{object}
-use Rattle.jsonb_doc.specs.Payload.{number_reader}
+use Rattle.jsonb_doc.proofs.Common.{object, number_reader}
 use Rattle.jsonb_doc.proofs.Containers.{Decodes-object}
 use Rattle.jsonb_doc.proofs.PairsLemmas.{only_object}
 use Rattle.jsonb_doc.proofs.entry_iter.object_entries.Goals as goal

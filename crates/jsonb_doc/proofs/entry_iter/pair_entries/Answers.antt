@@ -1,7 +1,4 @@
-use Rattle.std.proofs.Common.{◌≡◌, ◌-◌, length, take}
-use Rattle.jsonb_doc.specs.Tree.{keys}
-use Rattle.jsonb_doc.specs.Format.{key_bytes}
-use Rattle.jsonb_doc.specs.Payload.{number_reader}
+use Rattle.jsonb_doc.proofs.Common.{◌≡◌, ◌-◌, length, take, keys, key_bytes, number_reader}
 use Rattle.jsonb_doc.proofs.Containers.{entries_of}
 use Rattle.jsonb_doc.proofs.KeyEntries.{key_entries, front_of}
 use Rattle.jsonb_doc.proofs.PairsLemmas.{HoldsPairs-skipped, HoldsPairs-values}

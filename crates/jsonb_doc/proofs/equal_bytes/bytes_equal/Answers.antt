@@ -1,5 +1,4 @@
-use Rattle.std.proofs.Common.{arith}
-use Rattle.std.specs.Int.{w32, w64}
+use Rattle.jsonb_doc.proofs.Common.{arith, w32, w64}
 use Rattle.jsonb_doc.proofs.EqualBytesLemmas.{ends_tell}
 use Rattle.jsonb_doc.proofs.equal_bytes.bytes_equal.Goals as goal
 

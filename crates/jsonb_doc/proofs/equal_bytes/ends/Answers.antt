@@ -1,5 +1,4 @@
-use Rattle.std.proofs.Common.{arith}
-use Rattle.std.specs.Int.{w32}
+use Rattle.jsonb_doc.proofs.Common.{arith, w32}
 use Rattle.jsonb_doc.proofs.EqualBytesLemmas.{ends_are, short_words}
 use Rattle.jsonb_doc.proofs.equal_bytes.ends.Goals as goal
 

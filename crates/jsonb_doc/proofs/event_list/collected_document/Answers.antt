@@ -1,7 +1,4 @@
-use Rattle.std.proofs.Common.{List, suc, length, sym, subst}
-use Rattle.jsonb_doc.specs.Private.EventParts.{IsPart}
-use Rattle.jsonb_doc.specs.declared.event_list.collecting.Part.TheVariants.{Nested}
-use Rattle.jsonb_doc.specs.declared.event_list.collecting.Member.{Member}
+use Rattle.jsonb_doc.proofs.Common.{List, suc, length, sym, subst, IsPart, Nested, Member}
 use Rattle.jsonb_doc.proofs.OneRun.{plain_stands}
 use Rattle.jsonb_doc.proofs.event_list.collected_document.Goals as goal
 

@@ -1,7 +1,4 @@
-use Rattle.std.proofs.Common.{subst}
-use Rattle.std.proofs.lemmas.Result.{err_from_is_err_and}
-use Rattle.jsonb_doc.specs.Tree.{Tree}
-use Rattle.jsonb_doc.specs.Format.{Decodes}
+use Rattle.jsonb_doc.proofs.Common.{subst, err_from_is_err_and, Tree, Decodes}
 use Rattle.jsonb_doc.proofs.EventListLemmas.{events_of}
 use Rattle.jsonb_doc.proofs.OneRun.{same_tree}
 use Rattle.jsonb_doc.proofs.ListErrors.{tree_fails, write_fails}

@@ -1,6 +1,4 @@
-use Rattle.std.proofs.Common.{◌≡◌, ◌≢◌, ◌≤◌, ◌+◌, ◌*◌, ◌<◌, List, ℕ, [], length, length-drop, take, drop, slice_index_or, sym, ap, ◌∙◌, arith, inl, inr}
-use Rattle.std.proofs.lemmas.List.{take_rest}
-use Rattle.std.specs.Simd.{first_chunks}
+use Rattle.jsonb_doc.proofs.Common.{◌≡◌, ◌≢◌, ◌≤◌, ◌+◌, ◌*◌, ◌<◌, List, ℕ, [], length, length-drop, take, drop, slice_index_or, sym, ap, ◌∙◌, arith, inl, inr, take_rest, first_chunks}
 use Rattle.jsonb_doc.proofs.LengthsLemmas.{told}
 use Rattle.jsonb_doc.proofs.FieldLemmas.{KeysLeft-start, KeysLeft-end, chunk_at, key_cut, key_within, key_differs, key_passed, key_found, is_other}
 use Rattle.jsonb_doc.proofs.KeyBlocks.{block_searched}

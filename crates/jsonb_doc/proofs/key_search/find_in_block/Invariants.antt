@@ -1,5 +1,4 @@
-use Rattle.std.proofs.Common.{ℕ, ◌*◌, ◌^◌, ◌≤◌, List, length, drop}
-use Rattle.jsonb_doc.specs.Private.Lengths.{HoldKeys, KeysLeft}
+use Rattle.jsonb_doc.proofs.Common.{ℕ, ◌*◌, ◌^◌, ◌≤◌, List, length, drop, HoldKeys, KeysLeft}
 use Rattle.jsonb_doc.proofs.key_search.find_in_block.Given as goal
 
 -- the name is none of the keys so far

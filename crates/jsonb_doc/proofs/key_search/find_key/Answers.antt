@@ -1,4 +1,4 @@
-use Rattle.std.proofs.Common.{arith}
+use Rattle.jsonb_doc.proofs.Common.{arith}
 use Rattle.jsonb_doc.proofs.FieldLemmas.{KeysLeft-start, KeysLeft-end}
 use Rattle.jsonb_doc.proofs.KeyBlocks.{found_among}
 use Rattle.jsonb_doc.proofs.Basics.{zero_of}

@@ -1,6 +1,5 @@
-use Rattle.std.proofs.Common.{◌≡◌, ◌≢◌, ◌*◌, ◌≤◌, length, sym, ◌∙◌, arith, inl, inr, ◌⊎◌}
+use Rattle.jsonb_doc.proofs.Common.{◌≡◌, ◌≢◌, ◌*◌, ◌≤◌, length, sym, ◌∙◌, arith, inl, inr, ◌⊎◌, slice_cmp}
 use Rattle.std.specs.Ordering.{nat_cmp}
-use Rattle.std.specs.Cmp.Lexicographic.{slice_cmp}
 use Rattle.std.specs.declared.cmp.Ordering.{Ordering}
 use Rattle.std.specs.declared.cmp.Ordering.TheVariants.{Less, Equal, Greater}
 use Rattle.jsonb_doc.proofs.LengthsLemmas.{IsPart-size}

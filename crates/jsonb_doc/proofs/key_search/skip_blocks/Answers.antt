@@ -1,4 +1,4 @@
-use Rattle.std.proofs.Common.{arith}
+use Rattle.jsonb_doc.proofs.Common.{arith}
 use Rattle.jsonb_doc.proofs.KeyBlocks.{KeysLeft-further}
 use Rattle.jsonb_doc.proofs.key_search.skip_blocks.Goals as goal
 

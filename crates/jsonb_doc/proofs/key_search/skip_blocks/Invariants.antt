@@ -1,5 +1,4 @@
-use Rattle.std.proofs.Common.{ℕ, ◌≤◌, List, length}
-use Rattle.jsonb_doc.specs.Private.Lengths.{HoldKeys, KeysLeft}
+use Rattle.jsonb_doc.proofs.Common.{ℕ, ◌≤◌, List, length, HoldKeys, KeysLeft}
 use Rattle.jsonb_doc.proofs.key_search.skip_blocks.Given as goal
 
 -- the name is none of the keys that were skipped

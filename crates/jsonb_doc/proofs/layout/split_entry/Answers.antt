@@ -1,4 +1,4 @@
-use Rattle.std.proofs.Common.{length, arith}
+use Rattle.jsonb_doc.proofs.Common.{length, arith}
 use Rattle.jsonb_doc.proofs.SpotsLemmas.{StartWith-begin, StartWith-length}
 use Rattle.jsonb_doc.proofs.layout.split_entry.Goals as goal
 

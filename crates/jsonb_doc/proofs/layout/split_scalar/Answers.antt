@@ -1,6 +1,4 @@
-use Rattle.std.proofs.Common.{rules, arith}
-use Rattle.std.proofs.lemmas.Grind.{common_steps}
-use Rattle.jsonb_doc.specs.Format.{HeadedBy}
+use Rattle.jsonb_doc.proofs.Common.{rules, arith, common_steps, HeadedBy}
 use Rattle.jsonb_doc.proofs.Containers.{HeadedBy-unique}
 use Rattle.jsonb_doc.proofs.layout.split_scalar.Goals as goal
 

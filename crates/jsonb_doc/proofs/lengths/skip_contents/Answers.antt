@@ -1,5 +1,4 @@
-use Rattle.std.proofs.Common.{arith}
-use Rattle.std.proofs.lemmas.Grind.{common_steps}
+use Rattle.jsonb_doc.proofs.Common.{arith, common_steps}
 use Rattle.jsonb_doc.proofs.LengthsLemmas.{nothing_before, StandBefore-joined, IsPart-some, IsPart-end, IsPart-size}
 use Rattle.jsonb_doc.proofs.lengths.skip_contents.Goals as goal
 

@@ -1,4 +1,4 @@
-use Rattle.std.proofs.lemmas.List.{drop_all}
+use Rattle.jsonb_doc.proofs.Common.{drop_all}
 use Rattle.jsonb_doc.proofs.LengthsLemmas.{told_lengths, lengths_added}
 use Rattle.jsonb_doc.proofs.lengths.sum_lengths.Goals as goal
 

@@ -1,4 +1,4 @@
-use Rattle.std.proofs.Common.{◌≡◌, ◌+◌, ◌*◌, ◌^◌, ◌≤◌, map, sum, drop}
+use Rattle.jsonb_doc.proofs.Common.{◌≡◌, ◌+◌, ◌*◌, ◌^◌, ◌≤◌, map, sum, drop}
 use Rattle.jsonb_doc.proofs.LengthsLemmas.{told}
 use Rattle.jsonb_doc.proofs.lengths.sum_lengths.Given as goal
 

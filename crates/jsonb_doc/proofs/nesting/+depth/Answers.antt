@@ -1,13 +1,7 @@
-use Rattle.std.proofs.Common.{◌≡◌, ◌+◌, arith, ap, length, sym, ◌∙◌}
-use Rattle.std.specs.Prelude.{option_copied}
-use Rattle.std.proofs.lemmas.List.{length-append}
-use Rattle.jsonb_doc.specs.Payload.{number_reader}
-use Rattle.jsonb_doc.specs.Private.Depths.{parts_of}
-use Rattle.jsonb_doc.specs.Kinds.{kind_number}
+use Rattle.jsonb_doc.proofs.Common.{◌≡◌, ◌+◌, arith, ap, length, sym, ◌∙◌, option_copied, length-append, number_reader, parts_of, kind_number, Container}
 use Rattle.jsonb_doc.proofs.Halves.{halvings-more, halvings-fewer}
 use Rattle.jsonb_doc.proofs.CheckingLemmas.{IsApart-within, IsApart-less, IsApart-one}
 use Rattle.jsonb_doc.proofs.DepthLemmas.{max_of, no_parts, scalar_parts, container_decodes, AreDeep-large, AreDeep-whole, EntriesLeft-none, EntriesLeft-next, EntriesLeft-aside}
-use Rattle.jsonb_doc.specs.declared.layout.EntryKind.TheVariants.{Container}
 use Rattle.jsonb_doc.proofs.KindLemmas.{same_kind, other_kind}
 use Rattle.jsonb_doc.proofs.nesting.+depth.Goals as goal
 use Rattle.jsonb_doc.proofs.nesting.+depth.Goals.{entries_depth-then-eq+then-entry-half, entries_depth-then-eq+else-entry-half, entries_depth-else-eq, document_depth-in-Some+in_default-large, document_depth-in_default}

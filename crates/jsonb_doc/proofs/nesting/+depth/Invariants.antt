@@ -1,9 +1,4 @@
-use Rattle.std.proofs.Common.{◌≡◌, ◌*◌, ◌+◌, ◌≤◌, length, max}
-use Rattle.std.specs.Prelude.{option_copied}
-use Rattle.jsonb_doc.specs.Tree.{Tree, Trees}
-use Rattle.jsonb_doc.specs.Payload.{Form, number_reader}
-use Rattle.jsonb_doc.specs.Format.{AreEntries, Decodes}
-use Rattle.jsonb_doc.specs.Depth.{deepest}
+use Rattle.jsonb_doc.proofs.Common.{◌≡◌, ◌*◌, ◌+◌, ◌≤◌, length, max, option_copied, Tree, Trees, Form, number_reader, AreEntries, Decodes, deepest}
 use Rattle.jsonb_doc.proofs.Halves.{halvings}
 use Rattle.jsonb_doc.proofs.CheckingLemmas.{IsApart}
 use Rattle.jsonb_doc.proofs.DepthLemmas.{EntriesLeft}

@@ -1,9 +1,4 @@
-use Rattle.std.proofs.Common.{◌≡◌, ℕ, arith, refl, sym, Ok, Err}
-use Rattle.std.specs.Prelude.{Result}
-use Rattle.std.proofs.lemmas.Bool.{false≢true}
-use Rattle.jsonb_doc.specs.Depth.{deepest}
-use Rattle.jsonb_doc.specs.Payload.{any}
-use Rattle.jsonb_doc.specs.declared.error.Error.{Error}
+use Rattle.jsonb_doc.proofs.Common.{◌≡◌, ℕ, arith, refl, sym, Ok, Err, Result, false≢true, deepest, any, Error}
 use Rattle.jsonb_doc.proofs.nesting.check_depth.Goals as goal
 
 found_one : (depth other : ℕ) (answer : Result ℕ Error) → answer ≡ Ok depth → answer ≡ Ok other → depth ≡ other

@@ -1,4 +1,4 @@
-use Rattle.std.proofs.lemmas.Bool.{false≢true}
+use Rattle.jsonb_doc.proofs.Common.{false≢true}
 use Rattle.jsonb_doc.proofs.CanonicalLemmas.{in_any}
 use Rattle.jsonb_doc.proofs.nesting.depth.Goals as goal
 

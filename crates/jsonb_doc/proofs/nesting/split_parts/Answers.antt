@@ -1,4 +1,4 @@
-use Rattle.jsonb_doc.specs.Payload.{number_reader}
+use Rattle.jsonb_doc.proofs.Common.{number_reader}
 use Rattle.jsonb_doc.proofs.Containers.{Decodes-array, Decodes-object}
 use Rattle.jsonb_doc.proofs.PairsLemmas.{Holds-skipped}
 use Rattle.jsonb_doc.proofs.DepthLemmas.{array_parts, object_parts}

@@ -1,6 +1,4 @@
-use Rattle.std.proofs.Common.{◌≡◌, length, arith}
-use Rattle.std.proofs.lemmas.Int.{ints, to_z-of_z}
-use Rattle.std.proofs.lemmas.Bool.Decides.{nat_tests}
+use Rattle.jsonb_doc.proofs.Common.{◌≡◌, length, arith, ints, to_z-of_z, nat_tests}
 use Rattle.jsonb_doc.proofs.number.signed_integer.Goals as goal
 
 pub returns-in-1 : goal.returns-in-1

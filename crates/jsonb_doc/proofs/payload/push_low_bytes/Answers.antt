@@ -1,10 +1,4 @@
-use Rattle.std.proofs.Common.{◌≡◌, ◌-◌, ◌≤◌, ◌++◌, ℕ, zero, suc, List, drop, take, refl, arith, inl, inr, Result, Ok, Err, OnOk, is_ok}
-use Rattle.std.specs.Prelude.{if◌then◌else◌}
-use Rattle.std.proofs.lemmas.Bool.{cases_lt}
-use Rattle.std.proofs.lemmas.List.{take_all}
-use Rattle.std.specs.Int.{bytes_high_first}
-use Rattle.byteorder.specs.Numbers.{length-bytes_high_first}
-use Rattle.byteorder.specs.Endian.{big_bytes}
+use Rattle.jsonb_doc.proofs.Common.{◌≡◌, ◌-◌, ◌≤◌, ◌++◌, ℕ, zero, suc, List, drop, take, refl, arith, inl, inr, Result, Ok, Err, OnOk, is_ok, if◌then◌else◌, cases_lt, take_all, bytes_high_first, length-bytes_high_first, big_bytes}
 use Rattle.jsonb_doc.proofs.payload.push_low_bytes.Goals as goal
 
 -- the low bytes of a number are the last of all its bytes

@@ -1,8 +1,4 @@
-use Rattle.std.proofs.Common.{◌≡◌, ℕ, zero, suc, ◌++◌, [], ◌∷◌, refl, ℤ, pos, negsuc, rules}
-use Rattle.std.specs.Int.{w128, cast_unsigned}
-use Rattle.jsonb_doc.specs.Number.{decimal128, number_from}
-use Rattle.jsonb_doc.specs.Payload.{fixed_bytes, number_payload}
-use Rattle.jsonb_doc.specs.View.{number_view}
+use Rattle.jsonb_doc.proofs.Common.{◌≡◌, ℕ, zero, suc, ◌++◌, [], ◌∷◌, refl, ℤ, pos, negsuc, rules, w128, cast_unsigned, decimal128, number_from, fixed_bytes, number_payload, number_view}
 use Rattle.jsonb_doc.proofs.payload.push_number_payload.Goals as goal
 
 not_zero : (z : ℤ) (scale : ℕ) → (cast_unsigned w128 z ≡ 0 → ⊥)

@@ -1,7 +1,4 @@
-use Rattle.std.proofs.Common.{[], ◌∷◌}
-use Rattle.std.specs.Int.{w32, w64}
-use Rattle.std.proofs.lemmas.Int.{to_z-of_z}
-use Rattle.jsonb_doc.specs.Payload.{fixed_bytes}
+use Rattle.jsonb_doc.proofs.Common.{[], ◌∷◌, w32, w64, to_z-of_z, fixed_bytes}
 use Rattle.jsonb_doc.proofs.AppendLemmas.{grown, grown_ok}
 use Rattle.jsonb_doc.proofs.payload.push_timestamp_tz.Goals as goal
 

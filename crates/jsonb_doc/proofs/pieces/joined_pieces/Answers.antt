@@ -1,8 +1,4 @@
-use Rattle.std.proofs.Common.{◌≡◌, ◌<◌, ◌++◌, ◌∷◌, [], ℕ, List, length, arith, sym, ap, ◌∙◌, append_assoc}
-use Rattle.std.specs.List.{All}
-use Rattle.std.proofs.lemmas.List.Elements.{All-append}
-use Rattle.jsonb_doc.specs.Representation.Pieces.{all_heads, stacked, joined}
-use Rattle.jsonb_doc.specs.Private.Earlier.{earlier}
+use Rattle.jsonb_doc.proofs.Common.{◌≡◌, ◌<◌, ◌++◌, ◌∷◌, [], ℕ, List, length, arith, sym, ap, ◌∙◌, append_assoc, All, All-append, all_heads, stacked, joined, earlier}
 use Rattle.jsonb_doc.proofs.PieceLemmas.{stack_starts, stack_steps, earlier_below, within_popped}
 use Rattle.jsonb_doc.proofs.pieces.joined_pieces.Goals as goal
 

@@ -1,5 +1,4 @@
-use Rattle.std.proofs.Common.{◌≡◌, ◌++◌, take}
-use Rattle.jsonb_doc.specs.Private.Earlier.{earlier}
+use Rattle.jsonb_doc.proofs.Common.{◌≡◌, ◌++◌, take, earlier}
 use Rattle.jsonb_doc.proofs.pieces.push_earlier.Given as goal
 
 abbrev pub invariant-loop-index : goal.invariant-loop-index

@@ -1,5 +1,4 @@
-use Rattle.jsonb_doc.specs.Tree.{array}
-use Rattle.jsonb_doc.specs.Payload.{number_reader}
+use Rattle.jsonb_doc.proofs.Common.{array, number_reader}
 use Rattle.jsonb_doc.proofs.Containers.{Decodes-array}
 use Rattle.jsonb_doc.proofs.ElementsLemmas.{IsElementsOf-some, only_array}
 use Rattle.jsonb_doc.proofs.reading.array_elements.Goals as goal

@@ -1,6 +1,4 @@
-use Rattle.std.proofs.Common.{◌≡◌, ◌∙◌, ◌++◌, inr, arith, ap, refl}
-use Rattle.jsonb_doc.specs.Format.{header}
-use Rattle.jsonb_doc.specs.Private.Headers.{header_number}
+use Rattle.jsonb_doc.proofs.Common.{◌≡◌, ◌∙◌, ◌++◌, inr, arith, ap, refl, header, header_number}
 use Rattle.jsonb_doc.proofs.WriterLemmas.{runs_done}
 use Rattle.jsonb_doc.proofs.WriterLimits.{too_many, within_parts}
 use Rattle.jsonb_doc.proofs.rewriting.container_of_runs.Goals as goal

@@ -1,5 +1,4 @@
-use Rattle.std.proofs.Common.{◌≡◌, ◌++◌, drop}
-use Rattle.jsonb_doc.specs.Private.Cursor.{words_of_runs}
+use Rattle.jsonb_doc.proofs.Common.{◌≡◌, ◌++◌, drop, words_of_runs}
 use Rattle.jsonb_doc.proofs.rewriting.push_words.Given as goal
 
 -- what is written, followed by what is left, is the whole

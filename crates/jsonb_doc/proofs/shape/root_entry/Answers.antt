@@ -1,11 +1,6 @@
-use Rattle.std.proofs.Common.{ℕ, List, ◌≡◌, Ok, refl, arith}
-use Rattle.jsonb_doc.specs.Payload.{number_reader}
-use Rattle.jsonb_doc.specs.Private.Containers.{IsCut}
-use Rattle.jsonb_doc.specs.AnyBytes.Roots.{IsRootShape}
+use Rattle.jsonb_doc.proofs.Common.{ℕ, List, ◌≡◌, Ok, refl, arith, number_reader, IsCut, IsRootShape, StoredEntry, Shape}
 use Rattle.jsonb_doc.specs.declared.container.Container.{Container}
 use Rattle.jsonb_doc.specs.declared.container.Container.TheVariants as parts
-use Rattle.jsonb_doc.specs.declared.entry_iter.StoredEntry.{StoredEntry}
-use Rattle.jsonb_doc.specs.declared.shape.Shape.{Shape}
 use Rattle.jsonb_doc.specs.declared.shape.Shape.TheVariants.{Array, Object}
 use Rattle.jsonb_doc.proofs.Containers.{Decodes-scalar, IsCut-container}
 use Rattle.jsonb_doc.proofs.ReadItems.{shape_root, array_root, object_root}

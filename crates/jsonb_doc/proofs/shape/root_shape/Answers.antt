@@ -1,4 +1,4 @@
-use Rattle.std.proofs.Common.{arith}
+use Rattle.jsonb_doc.proofs.Common.{arith}
 use Rattle.jsonb_doc.proofs.Containers.{Decodes-scalar, Decodes-array, Decodes-object, Holds-elements, Holds-pairs}
 use Rattle.jsonb_doc.proofs.ReadItems.{shape_root, array_root, object_root}
 use Rattle.jsonb_doc.proofs.shape.root_shape.Goals as goal

@@ -1,9 +1,4 @@
-use Rattle.std.proofs.Common.{◌≡◌, Some, None, sym, ap, ◌∙◌, inl, inr, arith}
-use Rattle.std.proofs.lemmas.Grind.{common_steps}
-use Rattle.std.proofs.lemmas.Option.{none-some}
-use Rattle.jsonb_doc.specs.Tree.{number, extension}
-use Rattle.jsonb_doc.specs.Payload.{number_reader}
-use Rattle.jsonb_doc.specs.Kinds.{kind_number}
+use Rattle.jsonb_doc.proofs.Common.{◌≡◌, Some, None, sym, ap, ◌∙◌, inl, inr, arith, common_steps, none-some, number, extension, number_reader, kind_number}
 use Rattle.jsonb_doc.proofs.Entries.{reads_number}
 use Rattle.jsonb_doc.proofs.ScalarLemmas.{null_content, false_content, true_content, text_content, number_content, extension_content, some_injective, number_fails, constant_empty, known_only}
 use Rattle.jsonb_doc.proofs.shape.scalar_shape.Goals as goal

@@ -1,6 +1,5 @@
-use Rattle.std.proofs.Common.{rules, sym, ◌∙◌, to_z-of_z}
-use Rattle.std.specs.Prelude.{FitsSigned}
-use Rattle.std.specs.Int.{w128}
+use Rattle.jsonb_doc.proofs.Common.{rules, sym, ◌∙◌, FitsSigned, w128}
+use Rattle.std.proofs.Common.{to_z-of_z}
 use Rattle.jsonb_doc.proofs.EqualValues.{short_number_cmp}
 use Rattle.jsonb_doc.proofs.short_number.parts_cmp.Goals as goal
 

@@ -1,7 +1,5 @@
-use Rattle.std.proofs.Common.{rules, ap, ◌∙◌, to_z-of_z}
-use Rattle.std.specs.Prelude.{FitsSigned}
-use Rattle.std.specs.Int.{w128}
-use Rattle.std.specs.Ordering.{is_eq}
+use Rattle.jsonb_doc.proofs.Common.{rules, ap, ◌∙◌, FitsSigned, w128, is_eq}
+use Rattle.std.proofs.Common.{to_z-of_z}
 use Rattle.jsonb_doc.proofs.EqualValues.{short_tied}
 use Rattle.jsonb_doc.proofs.short_number.parts_equal.Goals as goal
 

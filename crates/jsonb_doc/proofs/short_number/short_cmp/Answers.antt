@@ -1,9 +1,5 @@
-use Rattle.std.proofs.Common.{rules, ℕ, ap, sym, ◌∙◌, to_z-of_z}
-use Rattle.std.specs.Prelude.{FitsSigned}
-use Rattle.std.specs.Int.{w64}
-use Rattle.jsonb_doc.specs.Number.{decimal64, number_cmp}
-use Rattle.jsonb_doc.specs.Private.Short.{short_parts}
-use Rattle.jsonb_doc.specs.View.{number_parts}
+use Rattle.jsonb_doc.proofs.Common.{rules, ℕ, ap, sym, ◌∙◌, FitsSigned, w64, decimal64, number_cmp, short_parts, number_parts}
+use Rattle.std.proofs.Common.{to_z-of_z}
 use Rattle.jsonb_doc.proofs.EqualValues.{short_number_cmp, digits_tell}
 use Rattle.jsonb_doc.proofs.short_number.short_cmp.Goals as goal
 

@@ -1,8 +1,5 @@
-use Rattle.std.proofs.Common.{arith}
-use Rattle.std.proofs.lemmas.Grind.{common_steps}
-use Rattle.jsonb_doc.specs.Payload.{any, number_reader}
+use Rattle.jsonb_doc.proofs.Common.{arith, common_steps, any, number_reader, Container}
 use Rattle.jsonb_doc.proofs.SpotsLemmas.{Locates-scalar, no_children, Locates-document, Locates-no-scalar, array_children, object_children, object_skipped}
-use Rattle.jsonb_doc.specs.declared.layout.EntryKind.TheVariants.{Container}
 use Rattle.jsonb_doc.proofs.KindLemmas.{differing_kind, equal_kind}
 use Rattle.jsonb_doc.proofs.spot.child_spots.Goals as goal
 

@@ -1,9 +1,6 @@
-use Rattle.std.proofs.Common.{refl, arith}
-use Rattle.std.proofs.lemmas.Grind.{common_steps}
-use Rattle.jsonb_doc.specs.Payload.{any, number_reader}
+use Rattle.jsonb_doc.proofs.Common.{refl, arith, common_steps, any, number_reader, Container}
 use Rattle.jsonb_doc.proofs.SpotsLemmas.{Locates-scalar, no_field, Locates-document, Locates-no-scalar, array_no_field}
 use Rattle.jsonb_doc.proofs.FieldLemmas.{field_absent, field_searched, field_marks}
-use Rattle.jsonb_doc.specs.declared.layout.EntryKind.TheVariants.{Container}
 use Rattle.jsonb_doc.proofs.KindLemmas.{differing_kind, equal_kind}
 use Rattle.jsonb_doc.proofs.spot.field_spot.Goals as goal
 

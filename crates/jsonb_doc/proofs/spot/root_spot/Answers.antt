@@ -1,7 +1,4 @@
-use Rattle.std.proofs.Common.{[], sym, arith, refl}
-use Rattle.std.proofs.lemmas.List.{append-nil}
-use Rattle.jsonb_doc.specs.Payload.{number_reader}
-use Rattle.jsonb_doc.specs.Kinds.{kind_number}
+use Rattle.jsonb_doc.proofs.Common.{[], sym, arith, refl, append-nil, number_reader, kind_number}
 use Rattle.jsonb_doc.proofs.Containers.{Decodes-scalar, IsCut-container}
 use Rattle.jsonb_doc.proofs.ReadItems.{readable_root}
 use Rattle.jsonb_doc.specs.declared.container.Container.TheVariants.{Scalar}

@@ -1,10 +1,4 @@
-use Rattle.std.proofs.Common.{◌≡◌, ℕ, List, Option, Some, None, sym, ap, ◌∙◌}
-use Rattle.std.specs.Prelude.{IfSome}
-use Rattle.jsonb_doc.specs.Tree.{Tree, number}
-use Rattle.jsonb_doc.specs.Payload.{any, number_of}
-use Rattle.jsonb_doc.specs.Format.{IsContent}
-use Rattle.jsonb_doc.specs.Private.Short.{short_value}
-use Rattle.jsonb_doc.specs.declared.short_number.ShortNumber.{ShortNumber}
+use Rattle.jsonb_doc.proofs.Common.{◌≡◌, ℕ, List, Option, Some, None, sym, ap, ◌∙◌, IfSome, Tree, number, any, number_of, IsContent, short_value, ShortNumber}
 use Rattle.jsonb_doc.proofs.ScalarLemmas.{number_content, some_injective}
 use Rattle.jsonb_doc.proofs.spot.spot_number.Goals as goal
 

@@ -1,8 +1,4 @@
-use Rattle.std.proofs.Common.{take, map}
-use Rattle.std.specs.Prelude.{flat_map}
-use Rattle.std.specs.Fmt.{HasWritten, IsPlainFormatter}
-use Rattle.jsonb_keypath.specs.Private.LaterKeys.{other_key_text}
-use Rattle.jsonb_keypath.specs.KeyPathViews.{owned_key_view}
+use Rattle.jsonb_keypath.proofs.Common.{take, map, flat_map, HasWritten, IsPlainFormatter, other_key_text, owned_key_view}
 use Rattle.jsonb_keypath.proofs.display.write_more_owned.Given as goal
 
 -- the steps before the index are written

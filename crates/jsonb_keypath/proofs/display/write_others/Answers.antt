@@ -1,7 +1,4 @@
-use Rattle.std.proofs.Common.{refl, true, arith}
-use Rattle.std.proofs.Output.{has_written_append, has_written_of_eq}
-use Rattle.jsonb_keypath.specs.Private.LaterKeys.{other_key_text}
-use Rattle.jsonb_keypath.specs.KeyPathViews.{key_view}
+use Rattle.jsonb_keypath.proofs.Common.{refl, true, arith, has_written_append, has_written_of_eq, other_key_text, key_view}
 use Rattle.jsonb_keypath.proofs.ShowLemmas.{text_of_one_more}
 use Rattle.jsonb_keypath.proofs.display.write_others.Goals as goal
 

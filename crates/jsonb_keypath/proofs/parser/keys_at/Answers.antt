@@ -1,8 +1,4 @@
-use Rattle.std.proofs.Common.{◌≡◌, ◌++◌, ◌∷◌, [], sym, Some}
-use Rattle.std.proofs.lemmas.List.{map_push}
-use Rattle.jsonb_keypath.specs.Private.LaterKeys.{another_key}
-use Rattle.jsonb_keypath.specs.KeyPathViews.{key_view}
-use Rattle.jsonb_keypath.specs.Private.KeysView.{keys_view}
+use Rattle.jsonb_keypath.proofs.Common.{◌≡◌, ◌++◌, ◌∷◌, [], sym, Some, map_push, another_key, key_view, keys_view}
 use Rattle.jsonb_keypath.proofs.RepeatLemmas.{loop-goes, loop-ends}
 use Rattle.jsonb_keypath.proofs.parser.keys_at.Goals as goal
 

@@ -1,8 +1,4 @@
-use Rattle.std.proofs.Common.{◌≡◌, length}
-use Rattle.jsonb_keypath.specs.Rules.{repeat}
-use Rattle.jsonb_keypath.specs.KeyPathGrammar.{key_list}
-use Rattle.jsonb_keypath.specs.Private.LaterKeys.{another_key}
-use Rattle.jsonb_keypath.specs.Private.KeysView.{keys_view}
+use Rattle.jsonb_keypath.proofs.Common.{◌≡◌, length, repeat, key_list, another_key, keys_view}
 use Rattle.jsonb_keypath.proofs.RepeatLemmas.{behind}
 use Rattle.jsonb_keypath.proofs.parser.keys_at.Given as goal
 

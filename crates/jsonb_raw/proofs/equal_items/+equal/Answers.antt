@@ -1,8 +1,4 @@
-use Rattle.std.proofs.Common.{◌≡◌, Bool, Some, None, true, false, arith, rules, refl, sym, subst, ◌∙◌, IsOkAnd}
-use Rattle.jsonb_doc.specs.Tree.{keys, values}
-use Rattle.jsonb_doc.specs.Equal.{is_equal, are_equal, pairs_are_equal}
-use Rattle.jsonb_doc.specs.Private.Stored.{key_trees}
-use Rattle.jsonb_raw.specs.Private.Compared.{Decides}
+use Rattle.jsonb_raw.proofs.Common.{◌≡◌, Bool, Some, None, true, false, arith, rules, refl, sym, subst, ◌∙◌, IsOkAnd, keys, values, is_equal, are_equal, pairs_are_equal, key_trees, Decides}
 use Rattle.jsonb_raw.proofs.EntriesLeft.{SomeEntries-first, SomeEntries-error, SomeEntries-none}
 use Rattle.jsonb_raw.proofs.EntryEquals.{Aside, IsAnswer, first_falls, decided_along, put_aside, part_holds, part_fails, rest_fails, entries_ended, shorter_than, equal_by_parts}
 use Rattle.jsonb_raw.proofs.equal_items.+equal.Goals as goal

@@ -1,11 +1,4 @@
-use Rattle.std.proofs.Common.{◌≤◌, ◌+◌, ◌*◌, length, IfSome}
-use Rattle.jsonb_doc.specs.Tree.{Tree, Trees}
-use Rattle.jsonb_doc.specs.Equal.{is_equal, are_equal}
-use Rattle.jsonb_doc.specs.Payload.{Form}
-use Rattle.jsonb_doc.specs.Item.{StandsFor}
-use Rattle.jsonb_doc.specs.AnyBytes.Items.{item_size}
-use Rattle.jsonb_doc.specs.Private.Stored.{HasEntriesLeft, entries_room}
-use Rattle.jsonb_raw.specs.Private.Compared.{Decides}
+use Rattle.jsonb_raw.proofs.Common.{◌≤◌, ◌+◌, ◌*◌, length, IfSome, Tree, Trees, is_equal, are_equal, Form, StandsFor, item_size, HasEntriesLeft, entries_room, Decides}
 use Rattle.jsonb_raw.proofs.EntriesLeft.{SomeEntries}
 use Rattle.jsonb_raw.proofs.EntryEquals.{Aside, IsAnswer, first_left}
 use Rattle.jsonb_raw.proofs.equal_items.+equal.Given as goal

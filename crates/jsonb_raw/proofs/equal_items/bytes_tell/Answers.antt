@@ -1,6 +1,4 @@
-use Rattle.std.proofs.Common.{Some, sym, ◌∙◌}
-use Rattle.std.proofs.lemmas.Slice.Eq.{bytes_eq-Decides}
-use Rattle.jsonb_doc.proofs.KindLemmas.{equal_kind}
+use Rattle.jsonb_raw.proofs.Common.{Some, sym, ◌∙◌, bytes_eq-Decides, equal_kind}
 use Rattle.jsonb_raw.proofs.EntryEquals.{same_tell, numbers_tell}
 use Rattle.jsonb_raw.proofs.equal_items.bytes_tell.Goals as goal
 

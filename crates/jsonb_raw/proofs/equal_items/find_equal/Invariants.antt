@@ -1,10 +1,4 @@
-use Rattle.std.proofs.Common.{◌≡◌}
-use Rattle.std.specs.List.{list_any}
-use Rattle.jsonb_doc.specs.Tree.{Tree, Trees, elements}
-use Rattle.jsonb_doc.specs.Equal.{is_equal}
-use Rattle.jsonb_doc.specs.Payload.{Form}
-use Rattle.jsonb_doc.specs.Private.Stored.{HasEntriesLeft, Stores, entries_bound}
-use Rattle.jsonb_raw.specs.Private.Compared.{PassesOver}
+use Rattle.jsonb_raw.proofs.Common.{◌≡◌, list_any, Tree, Trees, elements, is_equal, Form, HasEntriesLeft, Stores, entries_bound, PassesOver}
 use Rattle.jsonb_raw.proofs.equal_items.find_equal.Given as goal
 use Rattle.jsonb_raw.proofs.EntriesLeft.{SomeEntries}
 

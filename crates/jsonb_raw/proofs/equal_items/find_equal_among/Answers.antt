@@ -1,6 +1,4 @@
-use Rattle.std.proofs.Common.{◌≡◌, true, false, sym, ◌∙◌}
-use Rattle.jsonb_doc.specs.Tree.{elements}
-use Rattle.jsonb_doc.specs.Equal.{is_equal}
+use Rattle.jsonb_raw.proofs.Common.{◌≡◌, true, false, sym, ◌∙◌, elements, is_equal}
 use Rattle.jsonb_raw.proofs.EntriesLeft.{SomeEntries-first, SomeEntries-error, SomeEntries-none, take_one, take_no, take_zero}
 use Rattle.jsonb_raw.proofs.equal_items.find_equal_among.Goals as goal
 

@@ -1,9 +1,4 @@
-use Rattle.std.proofs.Common.{◌≡◌, take}
-use Rattle.std.specs.List.{list_any}
-use Rattle.jsonb_doc.specs.Tree.{Tree, Trees, elements}
-use Rattle.jsonb_doc.specs.Equal.{is_equal}
-use Rattle.jsonb_doc.specs.Payload.{Form}
-use Rattle.jsonb_doc.specs.Private.Stored.{HasEntriesLeft, Stores}
+use Rattle.jsonb_raw.proofs.Common.{◌≡◌, take, list_any, Tree, Trees, elements, is_equal, Form, HasEntriesLeft, Stores}
 use Rattle.jsonb_raw.proofs.equal_items.find_equal_among.Given as goal
 use Rattle.jsonb_raw.proofs.EntriesLeft.{SomeEntries}
 

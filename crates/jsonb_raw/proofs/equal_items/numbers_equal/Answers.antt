@@ -1,5 +1,4 @@
-use Rattle.std.proofs.Common.{◌∙◌, sym}
-use Rattle.jsonb_doc.proofs.EqualValues.{equal_in_trees}
+use Rattle.jsonb_raw.proofs.Common.{◌∙◌, sym, equal_in_trees}
 use Rattle.jsonb_raw.proofs.equal_items.numbers_equal.Goals as goal
 
 pub returns : goal.returns

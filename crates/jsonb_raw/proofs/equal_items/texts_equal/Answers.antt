@@ -1,6 +1,4 @@
-use Rattle.std.proofs.Common.{◌≡◌, Bool, true, false, refl, sym, ◌∙◌}
-use Rattle.jsonb_doc.specs.Equal.{is_equal, are_equal}
-use Rattle.jsonb_doc.specs.Private.Stored.{key_trees}
+use Rattle.jsonb_raw.proofs.Common.{◌≡◌, Bool, true, false, refl, sym, ◌∙◌, is_equal, are_equal, key_trees}
 use Rattle.jsonb_raw.proofs.EntriesLeft.{SomeEntries-first, SomeEntries-error, SomeEntries-none}
 use Rattle.jsonb_raw.proofs.EntryEquals.{told_none, told_some, key_trees_are_texts, first_text, texts_by_bytes, entries_ended}
 use Rattle.jsonb_raw.proofs.equal_items.texts_equal.Goals as goal

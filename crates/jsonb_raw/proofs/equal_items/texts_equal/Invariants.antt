@@ -1,7 +1,4 @@
-use Rattle.std.proofs.Common.{◌≡◌, ℕ, List}
-use Rattle.jsonb_doc.specs.Equal.{are_equal}
-use Rattle.jsonb_doc.specs.Payload.{Form}
-use Rattle.jsonb_doc.specs.Private.Stored.{HasEntriesLeft, key_trees}
+use Rattle.jsonb_raw.proofs.Common.{◌≡◌, ℕ, List, are_equal, Form, HasEntriesLeft, key_trees}
 use Rattle.jsonb_raw.proofs.EntriesLeft.{SomeEntries}
 use Rattle.jsonb_raw.proofs.EntryEquals.{AreTexts}
 use Rattle.jsonb_raw.proofs.equal_items.texts_equal.Given as goal

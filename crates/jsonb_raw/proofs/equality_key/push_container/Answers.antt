@@ -1,4 +1,4 @@
-use Rattle.std.proofs.Common.{◌++◌, ap, ◌∙◌}
+use Rattle.jsonb_raw.proofs.Common.{◌++◌, ap, ◌∙◌}
 use Rattle.jsonb_raw.proofs.LevelStarts.{all_left, container_equality_start}
 use Rattle.jsonb_raw.proofs.equality_key.push_container.Goals as goal
 

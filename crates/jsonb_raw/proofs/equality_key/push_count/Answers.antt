@@ -1,5 +1,5 @@
-use Rattle.std.proofs.Common.{arith, ap₂, ◌∙◌, ◌≡◌, ℕ, ◌%◌, ◌++◌, ◌∷◌, [], append_assoc}
-use Rattle.std.specs.Int.{w32, to_be_bytes}
+use Rattle.jsonb_raw.proofs.Common.{arith, ap₂, ◌∙◌, ◌≡◌, ℕ, ◌%◌, ◌++◌, ◌∷◌, [], append_assoc, to_be_bytes}
+use Rattle.std.specs.Int.{w32}
 use Rattle.jsonb_raw.proofs.equality_key.push_count.Goals as goal
 
 -- four bytes hold a count except for its multiples of 2 ^ 32

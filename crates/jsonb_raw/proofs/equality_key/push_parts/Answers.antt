@@ -1,6 +1,5 @@
-use Rattle.std.proofs.Common.{[], ◌∷◌, arith}
+use Rattle.jsonb_raw.proofs.Common.{[], ◌∷◌, arith, parts}
 use Rattle.jsonb_raw.proofs.AnswerLemmas.{failed}
-use Rattle.jsonb_raw.specs.Private.Levels.{parts}
 use Rattle.jsonb_raw.proofs.LevelLemmas.{parts_left, pushed_around, popped_around, SomeParts-first, SomeParts-none, SomeParts-error, falls_within, falls_beside, falls_done}
 use Rattle.jsonb_raw.proofs.EqualityWalk.{walk_begun, part_begun, part_done, all_written}
 use Rattle.jsonb_raw.proofs.equality_key.push_parts.Goals as goal

@@ -1,9 +1,4 @@
-use Rattle.std.proofs.Common.{◌≡◌, ◌+◌, ◌++◌, ◌∷◌, ℕ, List, Some, reverse}
-use Rattle.jsonb_doc.specs.Tree.{Tree}
-use Rattle.jsonb_doc.specs.Payload.{Form}
-use Rattle.jsonb_raw.specs.EqualityKey.{equality_key}
-use Rattle.jsonb_raw.specs.Private.EqualityParts.{equality_start}
-use Rattle.jsonb_raw.specs.Private.Levels.{IsLevelOf}
+use Rattle.jsonb_raw.proofs.Common.{◌≡◌, ◌+◌, ◌++◌, ◌∷◌, ℕ, List, Some, reverse, Tree, Form, equality_key, equality_start, IsLevelOf}
 use Rattle.jsonb_raw.proofs.LevelLemmas.{SomeParts, weight, weights}
 use Rattle.jsonb_raw.proofs.EqualityWalk.{keys_of_levels}
 use Rattle.jsonb_raw.proofs.equality_key.push_parts.Given as goal

@@ -1,4 +1,4 @@
-use Rattle.std.proofs.Common.{[]}
+use Rattle.jsonb_raw.proofs.Common.{[]}
 use Rattle.jsonb_raw.proofs.EqualityWalk.{only_start}
 use Rattle.jsonb_raw.proofs.equality_key.write_entry_key.Goals as goal
 

@@ -1,5 +1,4 @@
-use Rattle.std.proofs.Common.{◌≡◌, ◌++◌, ℕ, List, length, take, rules, arith, ap, ◌∙◌}
-use Rattle.std.proofs.lemmas.Slice.{take-put_mid}
+use Rattle.jsonb_raw.proofs.Common.{◌≡◌, ◌++◌, ℕ, List, length, take, rules, arith, ap, ◌∙◌, take-put_mid}
 use Rattle.jsonb_raw.proofs.TextChunks.{run_copied}
 use Rattle.jsonb_raw.proofs.key_bytes.copy_plain.Goals as goal
 

@@ -1,4 +1,4 @@
-use Rattle.std.proofs.Common.{length, length-drop, arith, ap}
+use Rattle.jsonb_raw.proofs.Common.{length, length-drop, arith, ap}
 use Rattle.jsonb_raw.proofs.TextChunks.{front_escaped}
 use Rattle.jsonb_raw.proofs.key_bytes.escape_block.Goals as goal
 

@@ -1,5 +1,4 @@
-use Rattle.std.proofs.Common.{◌≡◌, take, nat_lt}
-use Rattle.std.specs.List.{list_all}
+use Rattle.jsonb_raw.proofs.Common.{◌≡◌, take, nat_lt, list_all}
 use Rattle.jsonb_raw.proofs.key_bytes.is_plain.Given as goal
 
 -- so far

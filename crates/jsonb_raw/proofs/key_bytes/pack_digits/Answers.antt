@@ -1,5 +1,4 @@
-use Rattle.std.proofs.Common.{refl, ap, ◌∙◌, arith}
-use Rattle.jsonb_raw.specs.Private.Complements.{complement_byte}
+use Rattle.jsonb_raw.proofs.Common.{refl, ap, ◌∙◌, arith, complement_byte}
 use Rattle.jsonb_raw.proofs.DigitSteps.{none_packed, digit_packed}
 use Rattle.jsonb_raw.proofs.key_bytes.pack_digits.Goals as goal
 

@@ -1,4 +1,4 @@
-use Rattle.jsonb_raw.specs.Private.PackedBytes.{packed_bytes}
+use Rattle.jsonb_raw.proofs.Common.{packed_bytes}
 use Rattle.jsonb_raw.proofs.DigitSteps.{DigitsPacked}
 use Rattle.jsonb_raw.proofs.key_bytes.pack_digits.Given as goal
 

@@ -1,5 +1,4 @@
-use Rattle.std.proofs.Common.{◌+◌, ◌-◌, ◌∷◌, [], ap, ap₂, ◌∙◌, arith}
-use Rattle.jsonb_raw.specs.Private.PackedBytes.{packed_bytes}
+use Rattle.jsonb_raw.proofs.Common.{◌+◌, ◌-◌, ◌∷◌, [], ap, ap₂, ◌∙◌, arith, packed_bytes}
 use Rattle.jsonb_raw.proofs.DigitSteps.{magnitude_packed}
 use Rattle.jsonb_raw.proofs.key_bytes.pack_magnitude.Goals as goal
 

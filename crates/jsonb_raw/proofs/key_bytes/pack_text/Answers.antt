@@ -1,4 +1,4 @@
-use Rattle.std.proofs.Common.{refl}
+use Rattle.jsonb_raw.proofs.Common.{refl}
 use Rattle.jsonb_raw.proofs.WordTexts.{word_packed}
 use Rattle.jsonb_raw.proofs.key_bytes.pack_text.Goals as goal
 

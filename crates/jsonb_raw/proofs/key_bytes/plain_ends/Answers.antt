@@ -1,4 +1,4 @@
-use Rattle.std.proofs.Common.{refl, sym, ◌∙◌, arith}
+use Rattle.jsonb_raw.proofs.Common.{refl, sym, ◌∙◌, arith}
 use Rattle.jsonb_raw.proofs.TextChunks.{plain_ends}
 use Rattle.jsonb_raw.proofs.key_bytes.plain_ends.Goals as goal
 

@@ -1,5 +1,4 @@
-use Rattle.std.proofs.Common.{◌≡◌, take, true, nat_lt}
-use Rattle.std.specs.List.{list_all}
+use Rattle.jsonb_raw.proofs.Common.{◌≡◌, take, true, nat_lt, list_all}
 use Rattle.jsonb_raw.proofs.key_bytes.plain_len.Given as goal
 
 -- so far

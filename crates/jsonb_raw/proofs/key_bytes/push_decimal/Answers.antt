@@ -1,5 +1,5 @@
-use Rattle.std.proofs.Common.{◌≡◌, ◌⊎◌, ◌++◌, ◌∷◌, [], OnOk, pos, true, false, int_lt, to_z, of_z, to_z-of_z, ap, refl, inl, inr, subst}
-use Rattle.std.specs.Int.{w128}
+use Rattle.jsonb_raw.proofs.Common.{◌≡◌, ◌⊎◌, ◌++◌, ◌∷◌, [], OnOk, pos, true, false, int_lt, to_z, of_z, ap, refl, inl, inr, subst, w128}
+use Rattle.std.proofs.Common.{to_z-of_z}
 use Rattle.jsonb_raw.proofs.PushedNumbers.{number_steps}
 use Rattle.jsonb_raw.proofs.key_bytes.push_decimal.Goals as goal
 use Rattle.jsonb_raw.proofs.key_bytes.push_decimal.Goals.{then-negative, else-negative}

@@ -1,4 +1,4 @@
-use Rattle.std.proofs.Common.{arith}
+use Rattle.jsonb_raw.proofs.Common.{arith}
 use Rattle.jsonb_raw.proofs.TextChunks.{ends_written, plain_written}
 use Rattle.jsonb_raw.proofs.key_bytes.push_ends.Goals as goal
 

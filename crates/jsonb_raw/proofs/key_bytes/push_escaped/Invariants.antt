@@ -1,5 +1,4 @@
-use Rattle.std.proofs.Common.{◌≡◌, ◌++◌, length, flat_map}
-use Rattle.jsonb_raw.specs.SortableKey.{escaped_byte}
+use Rattle.jsonb_raw.proofs.Common.{◌≡◌, ◌++◌, length, flat_map, escaped_byte}
 use Rattle.jsonb_raw.proofs.key_bytes.push_escaped.Given as goal
 
 -- what is written, followed by what is left, is the whole

@@ -1,4 +1,4 @@
-use Rattle.std.proofs.Common.{sym, ◌∙◌}
+use Rattle.jsonb_raw.proofs.Common.{sym, ◌∙◌}
 use Rattle.jsonb_raw.proofs.TextChunks.{chunk_escaped, chunk_copied}
 use Rattle.jsonb_raw.proofs.key_bytes.push_long_text.Goals as goal
 

@@ -1,5 +1,4 @@
-use Rattle.std.proofs.Common.{◌≡◌, ◌++◌, length}
-use Rattle.jsonb_raw.specs.SortableKey.{text_bytes}
+use Rattle.jsonb_raw.proofs.Common.{◌≡◌, ◌++◌, length, text_bytes}
 use Rattle.jsonb_raw.proofs.key_bytes.push_long_text.Given as goal
 
 -- what is written, followed by the spelling of what is left, is the whole

@@ -1,4 +1,4 @@
-use Rattle.std.proofs.Common.{ℕ, ◌+◌, ◌-◌, ◌*◌, ◌/◌, ◌^◌, ◌<◌, ◌∙◌, length, get_or, ap, arith}
+use Rattle.jsonb_raw.proofs.Common.{ℕ, ◌+◌, ◌-◌, ◌*◌, ◌/◌, ◌^◌, ◌<◌, ◌∙◌, length, get_or, ap, arith}
 use Rattle.jsonb_raw.proofs.WordTexts.{plain_word, quad_joined}
 use Rattle.jsonb_raw.proofs.key_bytes.quad_word.Goals as goal
 

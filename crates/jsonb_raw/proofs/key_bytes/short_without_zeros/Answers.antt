@@ -1,4 +1,4 @@
-use Rattle.std.proofs.Common.{arith, refl, sym, ◌∙◌}
+use Rattle.jsonb_raw.proofs.Common.{arith, refl, sym, ◌∙◌}
 use Rattle.jsonb_raw.proofs.DigitSteps.{count_short, zero_passed, significant_whole, significant-nothing}
 use Rattle.jsonb_raw.proofs.key_bytes.short_without_zeros.Goals as goal
 

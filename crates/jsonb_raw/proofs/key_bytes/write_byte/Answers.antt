@@ -1,4 +1,4 @@
-use Rattle.std.proofs.Common.{ℕ, ◌+◌, refl, ap}
+use Rattle.jsonb_raw.proofs.Common.{ℕ, ◌+◌, refl, ap}
 use Rattle.jsonb_raw.proofs.TextChunks.{byte_written}
 use Rattle.jsonb_raw.proofs.key_bytes.write_byte.Goals as goal
 

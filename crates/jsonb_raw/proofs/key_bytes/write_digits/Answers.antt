@@ -1,5 +1,4 @@
-use Rattle.std.proofs.Common.{arith, refl, ap, ◌∙◌, length}
-use Rattle.jsonb_raw.specs.Private.Complements.{complement_byte}
+use Rattle.jsonb_raw.proofs.Common.{arith, refl, ap, ◌∙◌, length, complement_byte}
 use Rattle.jsonb_raw.proofs.DigitSteps.{room_left, digit_passed, all_digits, no_digits}
 use Rattle.jsonb_raw.proofs.key_bytes.write_digits.Goals as goal
 

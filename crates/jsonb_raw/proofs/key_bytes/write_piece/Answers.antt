@@ -1,4 +1,4 @@
-use Rattle.std.proofs.Common.{◌≡◌, ◌<◌, length, rules, arith}
+use Rattle.jsonb_raw.proofs.Common.{◌≡◌, ◌<◌, length, rules, arith}
 use Rattle.jsonb_raw.proofs.TextChunks.{run_ended}
 use Rattle.jsonb_raw.proofs.key_bytes.write_piece.Goals as goal
 

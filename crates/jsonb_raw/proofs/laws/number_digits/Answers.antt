@@ -1,10 +1,6 @@
-use Rattle.std.proofs.Common.{◌≡◌, ◌≢◌, ◌⊎◌, ℕ, suc, ◌+◌, ◌*◌, ◌^◌, ◌<◌, ◌==◌, ◌&&◌, Bool, true, false, cond, List, [], ◌∷◌, ◌++◌, length, get_or, inl, inr, refl, sym, ap, ◌∙◌, arith, pow-suc, ⊎_elim, true≢false}
-use Rattle.std.specs.List.{list_all}
-use Rattle.std.specs.Int.Digits.{digits_of}
-use Rattle.std.proofs.lemmas.Bool.{cases_Bool, ne_eqb, and_cases, eqb-false}
-use Rattle.std.proofs.lemmas.Int.Digits.{number_digits_of, first_digits_of}
+use Rattle.jsonb_raw.proofs.Common.{◌≡◌, ◌≢◌, ◌⊎◌, ℕ, suc, ◌+◌, ◌*◌, ◌^◌, ◌<◌, ◌==◌, ◌&&◌, Bool, true, false, cond, List, [], ◌∷◌, ◌++◌, length, get_or, inl, inr, refl, sym, ap, ◌∙◌, arith, pow-suc, ⊎_elim, true≢false, list_all, digits_of, cases_Bool, and_cases, eqb-false, number_digits_of, first_digits_of, significant}
+use Rattle.std.proofs.lemmas.Bool.{ne_eqb}
 use Rattle.jsonb_raw.proofs.NumberKeys.{value, value-cons, all_zero}
-use Rattle.jsonb_raw.specs.SortableKey.{significant}
 use Rattle.jsonb_raw.proofs.laws.number_digits.Goals as goal
 
 significant_value : (ds : List ℕ) → value ds * 10 ^ length (significant ds) ≡ value (significant ds) * 10 ^ length ds

@@ -1,9 +1,4 @@
-use Rattle.std.proofs.Common.{◌≡◌, ℕ, List, [], ◌∷◌, Option, Some, None, IfSome, refl, sym, ap, ◌∙◌, slice_get, option_and_then, option_map, map, arith}
-use Rattle.jsonb_doc.specs.Tree.{Tree}
-use Rattle.jsonb_keypath.specs.KeyPathGrammar.{Key, key_path}
-use Rattle.jsonb_keypath.specs.KeyPathText.{key_path_text, without_quotes}
-use Rattle.jsonb_keypath.proofs.KeyPathReadsBack.{ReadsBack, reads_back_if_read}
-use Rattle.jsonb_raw.specs.Places.{children, child_position, location}
+use Rattle.jsonb_raw.proofs.Common.{◌≡◌, ℕ, List, [], ◌∷◌, Option, Some, None, IfSome, refl, sym, ap, ◌∙◌, slice_get, option_and_then, option_map, map, arith, Tree, Key, key_path, key_path_text, without_quotes, ReadsBack, reads_back_if_read, children, child_position, location}
 use Rattle.jsonb_raw.proofs.laws.printed_key_paths_keep_their_place.Goals as goal
 
 same_child : (step : Key) (t : Tree) → child_position (without_quotes step) t ≡ child_position step t

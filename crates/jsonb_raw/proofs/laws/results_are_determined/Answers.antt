@@ -1,13 +1,4 @@
-use Rattle.std.proofs.Common.{◌≡◌, ◌∙◌, sym, List, ℕ, ap, refl, true≢false, ◌⊎◌, inl, inr, Option, Some, None, Result, Ok, Err, IfOk, IfErr, IfSome, MatchResult}
-use Rattle.jsonb_doc.specs.Bytes.{AreBytes}
-use Rattle.jsonb_doc.specs.Tree.{Tree}
-use Rattle.jsonb_doc.specs.Payload.{canonical}
-use Rattle.jsonb_doc.specs.Format.{Decodes}
-use Rattle.jsonb_doc.specs.declared.error.Error.{Error}
-use Rattle.jsonb_doc.specs.Answer.{Outcome, Refines, IsOutOfMemory}
-use Rattle.jsonb_doc.proofs.OneDocument.{one_canonical_document}
-use Rattle.jsonb_raw.specs.declared.owned.OwnedJsonb.{OwnedJsonb}
-use Rattle.jsonb_raw.specs.Documents.{Makes, MakesOption}
+use Rattle.jsonb_raw.proofs.Common.{◌≡◌, ◌∙◌, sym, List, ℕ, ap, refl, true≢false, ◌⊎◌, inl, inr, Option, Some, None, Result, Ok, Err, IfOk, IfErr, IfSome, MatchResult, AreBytes, Tree, canonical, Decodes, Error, Outcome, Refines, IsOutOfMemory, one_canonical_document, OwnedJsonb, Makes, MakesOption}
 use Rattle.jsonb_raw.proofs.laws.results_are_determined.Goals as goal
 
 same_error : {U : Type 0} (meaning : Outcome U) {e d : Error} → meaning ≡ Err e → meaning ≡ Err d → d ≡ e

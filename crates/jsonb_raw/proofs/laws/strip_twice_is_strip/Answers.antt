@@ -1,7 +1,4 @@
-use Rattle.std.proofs.Common.{◌≡◌, ℕ, Bool, List, cond, refl, ap, ◌∙◌, arith}
-use Rattle.jsonb_doc.specs.Tree.{Tree, array, object, Trees, no_trees, tree, Pairs, no_pairs, pair}
-use Rattle.jsonb_raw.specs.Scalars.{is_null}
-use Rattle.jsonb_raw.specs.Strip.{strip, strip_trees, strip_pairs}
+use Rattle.jsonb_raw.proofs.Common.{◌≡◌, ℕ, Bool, List, cond, refl, ap, ◌∙◌, arith, Tree, array, object, Trees, no_trees, tree, Pairs, no_pairs, pair, is_null, strip, strip_trees, strip_pairs}
 use Rattle.jsonb_raw.proofs.laws.strip_twice_is_strip.Goals as goal
 
 is_null-strip : (t : Tree) → is_null (strip t) ≡ is_null t

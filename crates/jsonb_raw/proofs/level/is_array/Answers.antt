@@ -1,4 +1,4 @@
-use Rattle.std.proofs.Common.{◌∙◌}
+use Rattle.jsonb_raw.proofs.Common.{◌∙◌}
 use Rattle.jsonb_doc.proofs.KindLemmas.{array_told as array_header_told}
 use Rattle.jsonb_raw.proofs.LevelStarts.{headed, array_told}
 use Rattle.jsonb_raw.proofs.level.is_array.Goals as goal

@@ -1,9 +1,5 @@
-use Rattle.std.proofs.Common.{◌≡◌, [], arith, sym, ap, ◌∙◌, Ordering, le_trans}
-use Rattle.std.specs.Ordering.{ordering_then}
-use Rattle.std.specs.Cmp.Lexicographic.{slice_cmp}
-use Rattle.jsonb_doc.specs.Order.{rank, tree_cmp}
-use Rattle.jsonb_raw.specs.Private.Levels.{level_room, parts}
-use Rattle.jsonb_raw.specs.Private.Order.{Decides, part_cmp}
+use Rattle.jsonb_raw.proofs.Common.{◌≡◌, [], arith, sym, ap, ◌∙◌, Ordering, le_trans, ordering_then, slice_cmp, rank, tree_cmp, level_room, parts, part_cmp}
+use Rattle.jsonb_raw.specs.Private.Order.{Decides}
 use Rattle.jsonb_raw.proofs.LevelLemmas.{parts_left, SomeParts-first, SomeParts-error, SomeParts-none}
 use Rattle.jsonb_raw.proofs.LevelStarts.{all_left}
 use Rattle.jsonb_raw.proofs.OrderLemmas.{child_told, first_falls, none_left, shorter_by_one, decided, decides_along, equal_passes, next_children, ended, children_ended, parts_in_order, container_rank, container_content}

@@ -1,12 +1,5 @@
-use Rattle.std.proofs.Common.{◌≤◌, ◌+◌, ◌*◌, List, length, IfSome}
-use Rattle.std.specs.Ordering.{ordering_then}
-use Rattle.std.specs.Cmp.Lexicographic.{slice_cmp}
-use Rattle.jsonb_doc.specs.Tree.{Tree}
-use Rattle.jsonb_doc.specs.Order.{tree_cmp}
-use Rattle.jsonb_doc.specs.Payload.{Form}
-use Rattle.jsonb_doc.specs.Private.Stored.{Stores}
-use Rattle.jsonb_raw.specs.Private.Levels.{EntryPrefix, HasPartsLeft, level_room, level_bound}
-use Rattle.jsonb_raw.specs.Private.Order.{Decides, part_cmp}
+use Rattle.jsonb_raw.proofs.Common.{◌≤◌, ◌+◌, ◌*◌, List, length, IfSome, ordering_then, slice_cmp, Tree, tree_cmp, Form, Stores, EntryPrefix, HasPartsLeft, level_room, level_bound, part_cmp}
+use Rattle.jsonb_raw.specs.Private.Order.{Decides}
 use Rattle.jsonb_raw.proofs.OrderLemmas.{SomeOfBoth, first_left}
 use Rattle.jsonb_raw.proofs.order.+order.Given as goal
 

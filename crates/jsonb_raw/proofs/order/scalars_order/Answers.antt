@@ -1,6 +1,4 @@
-use Rattle.std.proofs.Common.{◌∙◌, ap}
-use Rattle.jsonb_doc.specs.Number.{number_cmp}
-use Rattle.jsonb_doc.specs.Private.Short.{short_value}
+use Rattle.jsonb_raw.proofs.Common.{◌∙◌, ap, number_cmp, short_value}
 use Rattle.jsonb_raw.proofs.OrderLemmas.{numbers_told}
 use Rattle.jsonb_raw.proofs.order.scalars_order.Goals as goal
 

@@ -1,7 +1,5 @@
-use Rattle.std.proofs.Common.{arith, [], ◌∷◌, sym, ◌∙◌, ap, ◌++◌}
+use Rattle.jsonb_raw.proofs.Common.{arith, [], ◌∷◌, sym, ◌∙◌, ap, ◌++◌, width_of, parts}
 use Rattle.jsonb_raw.proofs.AnswerLemmas.{failed}
-use Rattle.jsonb_raw.specs.Private.KeyWidth.{width_of}
-use Rattle.jsonb_raw.specs.Private.Levels.{parts}
 use Rattle.jsonb_raw.proofs.LevelLemmas.{parts_left, as_many_around, pushed_around, popped_around, SomeParts-first, SomeParts-none, falls_within, falls_beside, falls_done}
 use Rattle.jsonb_raw.proofs.LevelStarts.{stored_container}
 use Rattle.jsonb_raw.proofs.ContainLemmas.{scalar_told}

@@ -1,10 +1,4 @@
-use Rattle.std.proofs.Common.{◌+◌, ◌∷◌, reverse}
-use Rattle.jsonb_doc.specs.Tree.{Tree}
-use Rattle.jsonb_doc.specs.Payload.{Form, number_reader}
-use Rattle.jsonb_doc.specs.Format.{IsContent}
-use Rattle.jsonb_doc.specs.Depth.{deepest}
-use Rattle.jsonb_raw.specs.SortableKey.{sortable_key}
-use Rattle.jsonb_raw.specs.Private.KeyWidth.{width_of}
+use Rattle.jsonb_raw.proofs.Common.{◌+◌, ◌∷◌, reverse, Tree, Form, number_reader, IsContent, deepest, sortable_key, width_of}
 use Rattle.jsonb_raw.proofs.LevelLemmas.{SomeParts, weight, weights}
 use Rattle.jsonb_raw.proofs.LevelKeys.{IsWithin}
 use Rattle.jsonb_raw.proofs.sortable_key.push_parts.Given as goal

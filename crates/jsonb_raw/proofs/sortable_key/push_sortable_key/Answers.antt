@@ -1,6 +1,4 @@
-use Rattle.std.proofs.Common.{ℕ, List, rules, subst}
-use Rattle.jsonb_raw.specs.Private.KeyParts.{AppendsKey}
-use Rattle.jsonb_raw.specs.Private.KeyWidth.{width_of}
+use Rattle.jsonb_raw.proofs.Common.{ℕ, List, rules, subst, AppendsKey, width_of}
 use Rattle.jsonb_raw.proofs.LevelStarts.{container_item, scalar_item}
 use Rattle.jsonb_raw.proofs.sortable_key.push_sortable_key.Goals as goal
 

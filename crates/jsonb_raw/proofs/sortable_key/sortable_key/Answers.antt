@@ -1,7 +1,5 @@
-use Rattle.std.proofs.Common.{◌++◌, ◌∙◌, ap, arith}
+use Rattle.jsonb_raw.proofs.Common.{◌++◌, ◌∙◌, ap, arith, sortable_key, width_of}
 use Rattle.jsonb_raw.proofs.AnswerLemmas.{failed}
-use Rattle.jsonb_raw.specs.SortableKey.{sortable_key}
-use Rattle.jsonb_raw.specs.Private.KeyWidth.{width_of}
 use Rattle.jsonb_raw.proofs.KeyLawProofs.{decoded_ranks}
 use Rattle.jsonb_raw.proofs.sortable_key.sortable_key.Goals as goal
 

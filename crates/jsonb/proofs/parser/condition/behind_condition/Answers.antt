@@ -1,7 +1,4 @@
-use Rattle.std.proofs.Common.{◌∙◌, sym, ap, Some}
-use Rattle.jsonb.specs.PathTree.{Expression, or_op}
-use Rattle.jsonb.specs.PathViews.{expression_view}
-use Rattle.jsonb.specs.Private.Frames.{joined_view, after_condition_outcome}
+use Rattle.jsonb.proofs.Common.{◌∙◌, sym, ap, Some, Expression, or_op, expression_view, joined_view, after_condition_outcome}
 use Rattle.jsonb.proofs.FrameLemmas.{and-goes, or-goes, partial-ends}
 use Rattle.jsonb.proofs.parser.condition.behind_condition.Goals as goal
 

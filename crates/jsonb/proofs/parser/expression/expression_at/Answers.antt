@@ -1,5 +1,4 @@
-use Rattle.std.proofs.Common.{◌∙◌, ap, None}
-use Rattle.jsonb.specs.Private.Frames.{partial_outcome}
+use Rattle.jsonb.proofs.Common.{◌∙◌, ap, None, partial_outcome}
 use Rattle.jsonb.proofs.FrameLemmas.{partial-begins, less_left}
 use Rattle.jsonb.proofs.parser.expression.expression_at.Goals as goal
 

@@ -1,10 +1,5 @@
-use Rattle.std.proofs.Common.{◌≡◌, ◌∙◌, ◌++◌, ◌∷◌, [], List, sym, ap, subst, arith, Some}
-use Rattle.jsonb_keypath.specs.Rules.{Parsed}
-use Rattle.jsonb.specs.PathTree.{Expression}
-use Rattle.jsonb.specs.PathViews.{expression_view}
-use Rattle.jsonb.specs.Private.Frames.{partial_outcome, opening_outcome, after_condition_outcome, resumed, IsPartial, IsAfterCondition, IsOpening, AreFrames}
+use Rattle.jsonb.proofs.Common.{◌≡◌, ◌∙◌, ◌++◌, ◌∷◌, [], List, sym, ap, subst, arith, Some, Parsed, Expression, expression_view, partial_outcome, opening_outcome, after_condition_outcome, resumed, IsPartial, IsAfterCondition, IsOpening, AreFrames, Opening}
 use Rattle.jsonb.specs.declared.parser.expression.Frame.{Frame}
-use Rattle.jsonb.specs.declared.parser.opening.Opening.{Opening}
 use Rattle.jsonb.proofs.FrameLemmas.{at_start, inside-goes, none_open, resumed-push, frames-push, frames-pop}
 use Rattle.jsonb.proofs.parser.expression.expression_from.Goals as goal
 

@@ -1,5 +1,4 @@
-use Rattle.std.proofs.Common.{◌∙◌, List, sym, ap, arith, None}
-use Rattle.jsonb.specs.Private.Frames.{partial_outcome, resumed}
+use Rattle.jsonb.proofs.Common.{◌∙◌, List, sym, ap, arith, None, partial_outcome, resumed}
 use Rattle.jsonb.specs.declared.parser.expression.Frame.{Frame}
 use Rattle.jsonb.proofs.FrameLemmas.{failure-passed, none_open}
 use Rattle.jsonb.proofs.parser.expression.failed.Goals as goal

@@ -1,6 +1,4 @@
-use Rattle.std.proofs.Common.{sym, arith}
-use Rattle.jsonb.specs.Private.Repeated.{another_entry}
-use Rattle.jsonb_keypath.proofs.RepeatLemmas.{loop-goes, loop-ends}
+use Rattle.jsonb.proofs.Common.{sym, arith, another_entry, loop-goes, loop-ends}
 use Rattle.jsonb.proofs.parser.index.entry_list_at.Goals as goal
 
 pub loop-next-preserved : goal.loop-next-preserved

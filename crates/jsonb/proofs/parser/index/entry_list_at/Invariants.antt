@@ -1,7 +1,4 @@
-use Rattle.std.proofs.Common.{◌≡◌, ◌<◌, length}
-use Rattle.jsonb_keypath.specs.Rules.{repeat}
-use Rattle.jsonb.specs.Private.Repeated.{another_entry, entry_list}
-use Rattle.jsonb_keypath.proofs.RepeatLemmas.{behind}
+use Rattle.jsonb.proofs.Common.{◌≡◌, ◌<◌, length, repeat, another_entry, entry_list, behind}
 use Rattle.jsonb.proofs.parser.index.entry_list_at.Given as goal
 
 -- the entries so far, and those that are still read

@@ -1,8 +1,4 @@
-use Rattle.std.proofs.Common.{◌≡◌, ◌<◌, ◌++◌, ◌∷◌, [], length, sym, arith, Some}
-use Rattle.std.proofs.lemmas.List.{map_push}
-use Rattle.jsonb.specs.PathGrammar.{spaced_inner, path_step}
-use Rattle.jsonb.specs.PathViews.{steps_view, step_view}
-use Rattle.jsonb_keypath.proofs.RepeatLemmas.{loop-goes, loop-ends}
+use Rattle.jsonb.proofs.Common.{◌≡◌, ◌<◌, ◌++◌, ◌∷◌, [], length, sym, arith, Some, map_push, spaced_inner, path_step, steps_view, step_view, loop-goes, loop-ends}
 use Rattle.jsonb.proofs.ExpressionLemmas.{inner-is_step}
 use Rattle.jsonb.proofs.parser.inner_path.inner_steps_at.Goals as goal
 

@@ -1,8 +1,4 @@
-use Rattle.std.proofs.Common.{◌≡◌, ◌≤◌, length}
-use Rattle.jsonb_keypath.specs.Rules.{repeat}
-use Rattle.jsonb.specs.PathGrammar.{spaced_inner, path_step}
-use Rattle.jsonb.specs.PathViews.{steps_view}
-use Rattle.jsonb_keypath.proofs.RepeatLemmas.{behind}
+use Rattle.jsonb.proofs.Common.{◌≡◌, ◌≤◌, length, repeat, spaced_inner, path_step, steps_view, behind}
 use Rattle.jsonb.proofs.parser.inner_path.inner_steps_at.Given as goal
 
 -- the steps so far, and those that are still read

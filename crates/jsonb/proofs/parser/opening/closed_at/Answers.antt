@@ -1,9 +1,4 @@
-use Rattle.std.proofs.Common.{◌≡◌, ◌∙◌, ◌++◌, ◌∷◌, [], Bool, refl, sym, ap, subst, Some, IfOk}
-use Rattle.std.proofs.lemmas.List.{map_push}
-use Rattle.jsonb_keypath.specs.Rules.{Parsed}
-use Rattle.jsonb.specs.PathTree.{Expression, filter}
-use Rattle.jsonb.specs.PathViews.{expression_view, step_view, steps_view}
-use Rattle.jsonb.specs.Private.Frames.{exists_closed, opened_outcome, opening_outcome}
+use Rattle.jsonb.proofs.Common.{◌≡◌, ◌∙◌, ◌++◌, ◌∷◌, [], Bool, refl, sym, ap, subst, Some, IfOk, map_push, Parsed, Expression, filter, expression_view, step_view, steps_view, exists_closed, opened_outcome, opening_outcome}
 use Rattle.jsonb.proofs.FrameLemmas.{opened-fails, closed-none, closed-some, filter-closes}
 use Rattle.jsonb.proofs.parser.opening.closed_at.Goals as goal
 

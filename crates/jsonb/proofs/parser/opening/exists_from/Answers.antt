@@ -1,6 +1,4 @@
-use Rattle.std.proofs.Common.{◌∙◌, sym, ap}
-use Rattle.jsonb.specs.PathViews.{steps_view}
-use Rattle.jsonb.specs.Private.Frames.{exists_closed, opened_outcome, opening_outcome}
+use Rattle.jsonb.proofs.Common.{◌∙◌, sym, ap, steps_view, exists_closed, opened_outcome, opening_outcome}
 use Rattle.jsonb.proofs.FrameLemmas.{without_bound, steps-open, steps-end, filter-unclosed}
 use Rattle.jsonb.proofs.parser.opening.exists_from.Goals as goal
 

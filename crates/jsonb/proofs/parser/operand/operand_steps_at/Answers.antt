@@ -1,5 +1,4 @@
-use Rattle.std.proofs.Common.{◌≡◌, ◌∙◌, ◌∷◌, [], refl}
-use Rattle.jsonb.specs.PathViews.{steps_view, step_view}
+use Rattle.jsonb.proofs.Common.{◌≡◌, ◌∙◌, ◌∷◌, [], refl, steps_view, step_view}
 use Rattle.jsonb.proofs.FrameLemmas.{root-begins}
 use Rattle.jsonb.proofs.parser.operand.operand_steps_at.Goals as goal
 

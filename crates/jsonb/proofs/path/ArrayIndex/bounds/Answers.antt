@@ -1,8 +1,4 @@
-use Rattle.std.proofs.Common.{◌≡◌, ℕ, ◌<◌, ◌↔◌, ℤ, pos, ◌≤ℤ◌, arith, rules, sym, ◌∙◌}
-use mir.Syntax.{w128}
-use mir.Val.{SFits}
-use Rattle.std.proofs.lemmas.Int.{ints, to_z-of_z}
-use Rattle.jsonb.specs.Private.Positions.{IsBetween}
+use Rattle.jsonb.proofs.Common.{◌≡◌, ℕ, ◌<◌, ◌↔◌, ℤ, pos, ◌≤ℤ◌, arith, rules, sym, ◌∙◌, w128, SFits, ints, to_z-of_z, IsBetween}
 use Rattle.jsonb.proofs.path.ArrayIndex.bounds.Goals as goal
 
 between_itself : (at : ℤ) (k : ℕ) → at ≤ℤ pos k → pos k ≤ℤ at → pos k ≡ at

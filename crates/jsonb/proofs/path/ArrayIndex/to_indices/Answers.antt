@@ -1,4 +1,4 @@
-use Rattle.std.proofs.Common.{◌≡◌, ◌<◌, ◌≤◌, arith}
+use Rattle.jsonb.proofs.Common.{◌≡◌, ◌<◌, ◌≤◌, arith}
 use Rattle.jsonb.proofs.PositionLemmas.{position_within}
 use Rattle.jsonb.proofs.path.ArrayIndex.to_indices.Goals as goal
 

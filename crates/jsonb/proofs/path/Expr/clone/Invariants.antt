@@ -1,6 +1,4 @@
-use Rattle.std.proofs.Common.{◌≡◌, ◌+◌}
-use Rattle.jsonb.specs.PathViews.{expression_view}
-use Rattle.jsonb.specs.Private.Copying.{leaf_view, leaf_parts, framed, waiting}
+use Rattle.jsonb.proofs.Common.{◌≡◌, ◌+◌, expression_view, leaf_view, leaf_parts, framed, waiting}
 use Rattle.jsonb.proofs.path.Expr.clone.Given as goal
 
 -- the leaf that is next, within its frames, is the whole

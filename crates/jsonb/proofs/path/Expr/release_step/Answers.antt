@@ -1,6 +1,4 @@
-use Rattle.std.proofs.Common.{ap, arith}
-use Rattle.jsonb.specs.Private.Parts.{expression_parts, parts, waiting_parts}
-use Rattle.jsonb_doc.proofs.PartLemmas.{fewer_parts}
+use Rattle.jsonb.proofs.Common.{ap, arith, expression_parts, parts, waiting_parts, fewer_parts}
 use Rattle.jsonb.proofs.PathNodes.{unary_is}
 use Rattle.jsonb.proofs.path.Expr.release_step.Goals as goal
 

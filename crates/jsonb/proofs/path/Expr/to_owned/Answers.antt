@@ -1,8 +1,4 @@
-use Rattle.std.proofs.Common.{sym, ap, ◌∙◌}
-use Rattle.jsonb.specs.PathTree.{whole_expression}
-use Rattle.jsonb.specs.PathViews.{expression_view}
-use Rattle.jsonb.specs.Private.Documents.{expression_has_document}
-use Rattle.jsonb.specs.Private.Copying.{leaf_view, framed, progress_view, progress_has_document}
+use Rattle.jsonb.proofs.Common.{sym, ap, ◌∙◌, whole_expression, expression_view, expression_has_document, leaf_view, framed, progress_view, progress_has_document}
 use Rattle.jsonb.proofs.CopyingLemmas.{not_first, not_second, owning_error-framed}
 use Rattle.jsonb.proofs.DocumentLemmas.{alone_without, refused_alone}
 use Rattle.jsonb.proofs.RefinesLemmas.{err_is}

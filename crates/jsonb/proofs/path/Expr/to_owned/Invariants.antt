@@ -1,6 +1,4 @@
-use Rattle.std.proofs.Common.{◌≡◌, ◌+◌, false}
-use Rattle.jsonb.specs.PathViews.{expression_view}
-use Rattle.jsonb.specs.Private.Copying.{leaf_view, leaf_parts, leaf_has_document, framed, waiting, have_document}
+use Rattle.jsonb.proofs.Common.{◌≡◌, ◌+◌, false, expression_view, leaf_view, leaf_parts, leaf_has_document, framed, waiting, have_document}
 use Rattle.jsonb.proofs.path.Expr.to_owned.Given as goal
 
 -- the leaf that is next, within its frames, is the whole, and no copy has a document

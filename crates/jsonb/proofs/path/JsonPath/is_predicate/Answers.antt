@@ -1,7 +1,4 @@
-use Rattle.std.proofs.Common.{◌≡◌, ◌≤◌, List, [], ◌∷◌, length, false, refl, ap, ◌∙◌, arith}
-use Rattle.jsonb.specs.PathTree.{Step, whole_expression, is_predicate}
-use Rattle.jsonb.specs.PathViews.{step_view, steps_view}
-use Rattle.jsonb.specs.declared.path.Path.{Path}
+use Rattle.jsonb.proofs.Common.{◌≡◌, ◌≤◌, List, [], ◌∷◌, length, false, refl, ap, ◌∙◌, arith, Step, whole_expression, is_predicate, step_view, steps_view, Path}
 use Rattle.jsonb.proofs.path.JsonPath.is_predicate.Goals as goal
 
 -- a path of two or more steps is not one expression

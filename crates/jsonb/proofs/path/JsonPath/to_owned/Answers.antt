@@ -1,5 +1,5 @@
 use Rattle.jsonb.proofs.RefinesLemmas.{err_is}
-use Rattle.jsonb.specs.PathViews.{path_view}
+use Rattle.jsonb.proofs.Common.{path_view}
 use Rattle.jsonb.proofs.DocumentLemmas.{path_without, refused_path}
 use Rattle.jsonb.proofs.path.JsonPath.to_owned.Goals as goal
 

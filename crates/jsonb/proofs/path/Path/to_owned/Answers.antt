@@ -1,7 +1,4 @@
-use Rattle.std.proofs.Common.{sym, ap, ◌∙◌}
-use Rattle.jsonb.specs.PathViews.{step_view}
-use Rattle.jsonb.specs.Private.Documents.{step_has_document}
-use Rattle.jsonb.specs.Private.Copying.{step_copy_view, step_copy_has_document}
+use Rattle.jsonb.proofs.Common.{sym, ap, ◌∙◌, step_view, step_has_document, step_copy_view, step_copy_has_document}
 use Rattle.jsonb.proofs.DocumentLemmas.{alone_without}
 use Rattle.jsonb.proofs.path.Path.to_owned.Goals as goal
 

@@ -1,6 +1,4 @@
-use Rattle.std.proofs.Common.{sym, ap, ◌∙◌, add-one}
-use Rattle.jsonb.specs.PathViews.{expression_view}
-use Rattle.jsonb.specs.Private.Chain.{left_of, below}
+use Rattle.jsonb.proofs.Common.{sym, ap, ◌∙◌, add-one, expression_view, left_of, below}
 use Rattle.jsonb.proofs.ChainText.{left_more}
 use Rattle.jsonb.proofs.path.chain.below.Goals as goal
 

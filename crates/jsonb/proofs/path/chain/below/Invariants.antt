@@ -1,6 +1,4 @@
-use Rattle.std.proofs.Common.{◌≡◌}
-use Rattle.jsonb.specs.PathViews.{expression_view}
-use Rattle.jsonb.specs.Private.Chain.{below}
+use Rattle.jsonb.proofs.Common.{◌≡◌, expression_view, below}
 use Rattle.jsonb.proofs.path.chain.below.Given as goal
 
 -- as many left sides below as there were turns

@@ -1,5 +1,4 @@
-use Rattle.std.proofs.Common.{◌≡◌, ◌<◌, ◌⊎◌}
-use Rattle.jsonb.specs.Private.Parts.{parts}
+use Rattle.jsonb.proofs.Common.{◌≡◌, ◌<◌, ◌⊎◌, parts}
 use Rattle.jsonb.proofs.path.chain.links_of.Given as goal
 
 -- it is the expression yet, or some are counted

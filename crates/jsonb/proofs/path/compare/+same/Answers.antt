@@ -1,11 +1,4 @@
-use Rattle.std.proofs.Common.{◌≡◌, ◌+◌, ◌*◌, ◌<◌, sym, ap, ap₂, ◌∙◌, arith}
-use Rattle.std.specs.Prelude.{◌&&◌}
-use Rattle.std.proofs.lemmas.List.{nil_from_length}
-use Rattle.jsonb.specs.PathTree.{steps_of}
-use Rattle.jsonb.specs.PathViews.{step_view, steps_view, expression_view, literal_view}
-use Rattle.jsonb.specs.Private.Parts.{step_parts}
-use Rattle.jsonb.specs.Private.SamePath.{is_same_step, is_same_literal}
-use Rattle.jsonb.specs.Private.Last.{is_same_opening, are_same_before, is_same_before}
+use Rattle.jsonb.proofs.Common.{◌≡◌, ◌+◌, ◌*◌, ◌<◌, sym, ap, ap₂, ◌∙◌, arith, ◌&&◌, nil_from_length, steps_of, step_view, steps_view, expression_view, literal_view, step_parts, is_same_step, is_same_literal, is_same_opening, are_same_before, is_same_before}
 use Rattle.jsonb.proofs.EqualParts.{entries-is}
 use Rattle.jsonb.proofs.EqualSteps.{other_than_levels, other_than_dot_field, other_than_colon_field, other_than_object_field, other_than_indices, other_than_filter, other_than_whole}
 use Rattle.jsonb.proofs.LastLemmas.{seen, parts_of, fewer_parts, same_next, next_parts, same_zip, zip_parts, same-differs, same-further, same_before-end, same_before-shorter, same_before-longer}

@@ -1,9 +1,4 @@
-use Rattle.std.proofs.Common.{◌≡◌, ◌+◌, ◌*◌, ◌≤◌, drop}
-use Rattle.std.specs.Slice.Iter.{iter_rest}
-use Rattle.jsonb.specs.PathTree.{steps_of}
-use Rattle.jsonb.specs.PathViews.{step_view, steps_view, expression_view}
-use Rattle.jsonb.specs.Private.Parts.{step_parts, parts}
-use Rattle.jsonb.specs.Private.SamePath.{are_same_steps, is_same_expression}
+use Rattle.jsonb.proofs.Common.{◌≡◌, ◌+◌, ◌*◌, ◌≤◌, drop, iter_rest, steps_of, step_view, steps_view, expression_view, step_parts, parts, are_same_steps, is_same_expression}
 use Rattle.jsonb.proofs.LastLemmas.{same_next, next_parts}
 use Rattle.jsonb.proofs.PartLemmas.{row_parts}
 use Rattle.jsonb.proofs.path.compare.+same.Given as goal

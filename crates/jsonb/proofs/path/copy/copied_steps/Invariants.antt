@@ -1,6 +1,4 @@
-use Rattle.std.proofs.Common.{◌≡◌, ◌≤◌, ◌++◌}
-use Rattle.std.specs.Slice.Iter.{iter_rest}
-use Rattle.jsonb.specs.PathViews.{steps_view}
+use Rattle.jsonb.proofs.Common.{◌≡◌, ◌≤◌, ◌++◌, iter_rest, steps_view}
 use Rattle.jsonb.proofs.PartLemmas.{row_parts}
 use Rattle.jsonb.proofs.path.copy.copied_steps.Given as goal
 

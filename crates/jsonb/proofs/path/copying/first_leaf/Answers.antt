@@ -1,8 +1,4 @@
-use Rattle.std.proofs.Common.{◌≡◌, [], ◌∷◌, ◌++◌, sym, ap, ap₂, ◌∙◌, arith}
-use Rattle.jsonb.specs.PathTree.{binary, unary}
-use Rattle.jsonb.specs.PathViews.{expression_view}
-use Rattle.jsonb.specs.Private.Copying.{waiting, have_document}
-use Rattle.jsonb.specs.Private.Parts.{expression_parts}
+use Rattle.jsonb.proofs.Common.{◌≡◌, [], ◌∷◌, ◌++◌, sym, ap, ap₂, ◌∙◌, arith, binary, unary, expression_view, waiting, have_document, expression_parts}
 use Rattle.jsonb.specs.declared.path.copying.Frame.{Frame}
 use Rattle.jsonb.specs.declared.path.copying.Frame.TheVariants as frame
 use Rattle.jsonb.proofs.CopyingLemmas.{framed-more, waiting-push, have_document-push, or_false}

@@ -1,7 +1,4 @@
-use Rattle.std.proofs.Common.{◌≡◌, ◌+◌, ◌≤◌}
-use Rattle.jsonb.specs.PathViews.{expression_view}
-use Rattle.jsonb.specs.Private.Copying.{framed, waiting, have_document}
-use Rattle.jsonb.specs.Private.Parts.{parts}
+use Rattle.jsonb.proofs.Common.{◌≡◌, ◌+◌, ◌≤◌, expression_view, framed, waiting, have_document, parts}
 use Rattle.jsonb.proofs.path.copying.first_leaf.Given as goal
 
 -- what is left on the left, within the frames, is the whole

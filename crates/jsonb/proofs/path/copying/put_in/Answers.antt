@@ -1,8 +1,4 @@
-use Rattle.std.proofs.Common.{◌≡◌, List, [], ◌∷◌, ◌++◌, false, refl, sym, ap, ◌∙◌, arith}
-use Rattle.jsonb.specs.Private.Documents.{expression_has_document}
-use Rattle.jsonb.specs.PathTree.{binary, unary}
-use Rattle.jsonb.specs.PathViews.{expression_view}
-use Rattle.jsonb.specs.Private.Copying.{framed, waiting, have_document, frame_has_document}
+use Rattle.jsonb.proofs.Common.{◌≡◌, List, [], ◌∷◌, ◌++◌, false, refl, sym, ap, ◌∙◌, arith, expression_has_document, binary, unary, expression_view, framed, waiting, have_document, frame_has_document}
 use Rattle.jsonb.specs.declared.path.copying.Frame.{Frame}
 use Rattle.jsonb.specs.declared.path.copying.Frame.TheVariants as frame
 use Rattle.jsonb.proofs.CopyingLemmas.{framed-more, waiting-push, have_document-push, none_of_both, not_first, not_second}

@@ -1,5 +1,4 @@
-use Rattle.std.proofs.Common.{sym, ap, ◌∙◌, arith, refl}
-use Rattle.jsonb.specs.Private.Copying.{framed, waiting, have_document, copied_view, copied_parts, copied_has_document}
+use Rattle.jsonb.proofs.Common.{sym, ap, ◌∙◌, arith, refl, framed, waiting, have_document, copied_view, copied_parts, copied_has_document}
 use Rattle.jsonb.proofs.CopyingLemmas.{framed-more, waiting-push, have_document-push, none_of_both}
 use Rattle.jsonb.proofs.path.copying.resume_copy.Goals as goal
 

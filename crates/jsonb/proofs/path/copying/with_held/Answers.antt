@@ -1,6 +1,4 @@
-use Rattle.std.proofs.Common.{ap, ◌∙◌}
-use Rattle.jsonb.specs.Private.Documents.{step_has_document, expression_has_document}
-use Rattle.jsonb.specs.PathViews.{expression_view}
+use Rattle.jsonb.proofs.Common.{ap, ◌∙◌, step_has_document, expression_has_document, expression_view}
 use Rattle.jsonb.proofs.CopyingLemmas.{held-document, clean_more}
 use Rattle.jsonb.proofs.path.copying.with_held.Goals as goal
 

@@ -1,12 +1,5 @@
-use Rattle.std.proofs.Common.{◌≡◌, ◌+◌, ◌-◌, ◌*◌, ◌/◌, ◌<◌, [], ◌++◌, refl, sym, ap, ◌∙◌, arith}
-use Rattle.std.proofs.Output.{has_written_append, has_written_of_eq, writes_in_calls_nil}
+use Rattle.jsonb.proofs.Common.{◌≡◌, ◌+◌, ◌-◌, ◌*◌, ◌/◌, ◌<◌, [], ◌++◌, refl, sym, ap, ◌∙◌, arith, has_written_append, has_written_of_eq, writes_in_calls_nil, expression_text, steps_of, step_view, steps_view, expression_view, fronts_text, links_text, steps_before, text_before, step_parts, expression_parts, parts}
 use Rattle.std.proofs.lemmas.List.{append-nil}
-use Rattle.jsonb.specs.PathText.{expression_text}
-use Rattle.jsonb.specs.PathTree.{steps_of}
-use Rattle.jsonb.specs.PathViews.{step_view, steps_view, expression_view}
-use Rattle.jsonb.specs.Private.ChainText.{fronts_text, links_text}
-use Rattle.jsonb.specs.Private.Last.{steps_before, text_before}
-use Rattle.jsonb.specs.Private.Parts.{step_parts, expression_parts, parts}
 use Rattle.jsonb.proofs.ChainText.{chain_text, links_halved}
 use Rattle.jsonb.proofs.LastLemmas.{steps_before-end, down_of, one_down, seen, parts_of, fewer_parts, whole_text}
 use Rattle.jsonb.proofs.PartLemmas.{row_parts, row_parts-last, step_parts-among, below_parts}

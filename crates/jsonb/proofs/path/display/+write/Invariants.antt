@@ -1,10 +1,4 @@
-use Rattle.std.proofs.Common.{◌≡◌, ℕ, take, List, ◌++◌, ◌+◌, ◌*◌, ◌≤◌}
-use Rattle.std.specs.Fmt.{HasWritten, IsPlainFormatter}
-use Rattle.jsonb.specs.PathText.{steps_text}
-use Rattle.jsonb.specs.PathTree.{steps_of}
-use Rattle.jsonb.specs.PathViews.{step_view, steps_view, expression_view}
-use Rattle.jsonb.specs.Private.Last.{down, text_before}
-use Rattle.jsonb.specs.Private.Parts.{step_parts, parts}
+use Rattle.jsonb.proofs.Common.{◌≡◌, ℕ, take, List, ◌++◌, ◌+◌, ◌*◌, ◌≤◌, HasWritten, IsPlainFormatter, steps_text, steps_of, step_view, steps_view, expression_view, down, text_before, step_parts, parts}
 use Rattle.jsonb.proofs.LastLemmas.{down_of, seen, parts_of}
 use Rattle.jsonb.proofs.PartLemmas.{row_parts}
 use Rattle.jsonb.proofs.path.display.+write.Given as goal

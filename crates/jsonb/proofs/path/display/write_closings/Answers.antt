@@ -1,8 +1,5 @@
-use Rattle.std.proofs.Common.{[], ◌++◌, refl, sym, ap, ◌∙◌, arith}
-use Rattle.std.proofs.Output.{has_written_append, has_written_of_eq, writes_in_calls_nil}
+use Rattle.jsonb.proofs.Common.{[], ◌++◌, refl, sym, ap, ◌∙◌, arith, has_written_append, has_written_of_eq, writes_in_calls_nil, expression_view, closing}
 use Rattle.std.proofs.lemmas.List.{append-nil}
-use Rattle.jsonb.specs.PathViews.{expression_view}
-use Rattle.jsonb.specs.Private.Last.{closing}
 use Rattle.jsonb.proofs.LastLemmas.{down_of, one_down, seen, parts_of, fewer_parts}
 use Rattle.jsonb.proofs.path.display.write_closings.Goals as goal
 

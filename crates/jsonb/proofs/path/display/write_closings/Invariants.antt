@@ -1,8 +1,4 @@
-use Rattle.std.proofs.Common.{◌≡◌, List, ◌++◌}
-use Rattle.std.specs.Fmt.{HasWritten, IsPlainFormatter}
-use Rattle.std.specs.Prelude.{ℕ}
-use Rattle.jsonb.specs.PathViews.{expression_view}
-use Rattle.jsonb.specs.Private.Last.{down, closing}
+use Rattle.jsonb.proofs.Common.{◌≡◌, List, ◌++◌, HasWritten, IsPlainFormatter, ℕ, expression_view, down, closing}
 use Rattle.jsonb.proofs.LastLemmas.{down_of, seen, parts_of}
 use Rattle.jsonb.proofs.path.display.write_closings.Given as goal
 

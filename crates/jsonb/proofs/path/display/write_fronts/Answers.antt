@@ -1,8 +1,4 @@
-use Rattle.std.proofs.Common.{◌++◌, refl, sym, ap, ◌∙◌, add-one}
-use Rattle.std.proofs.Output.{has_written_append, has_written_of_eq}
-use Rattle.jsonb.specs.PathViews.{expression_view}
-use Rattle.jsonb.specs.Private.Chain.{left_of, below}
-use Rattle.jsonb.specs.Private.ChainText.{front_text, fronts_text}
+use Rattle.jsonb.proofs.Common.{◌++◌, refl, sym, ap, ◌∙◌, add-one, has_written_append, has_written_of_eq, expression_view, left_of, below, front_text, fronts_text}
 use Rattle.jsonb.proofs.ChainText.{left_more, fronts_more}
 use Rattle.jsonb.proofs.path.display.write_fronts.Goals as goal
 

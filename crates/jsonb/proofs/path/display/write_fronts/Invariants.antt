@@ -1,8 +1,4 @@
-use Rattle.std.proofs.Common.{◌≡◌}
-use Rattle.std.specs.Fmt.{HasWritten, IsPlainFormatter}
-use Rattle.jsonb.specs.PathViews.{expression_view}
-use Rattle.jsonb.specs.Private.Chain.{below}
-use Rattle.jsonb.specs.Private.ChainText.{fronts_text}
+use Rattle.jsonb.proofs.Common.{◌≡◌, HasWritten, IsPlainFormatter, expression_view, below, fronts_text}
 use Rattle.jsonb.proofs.path.display.write_fronts.Given as goal
 
 -- as many are written as there were turns

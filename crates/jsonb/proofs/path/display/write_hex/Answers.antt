@@ -1,6 +1,4 @@
-use Rattle.std.proofs.Common.{refl, arith, rules}
-use Rattle.std.proofs.Output.{has_written_append, has_written_of_eq}
-use Rattle.hex.specs.Hex.{encode_with}
+use Rattle.jsonb.proofs.Common.{refl, arith, rules, has_written_append, has_written_of_eq, encode_with}
 use Rattle.jsonb.proofs.TextLemmas.{encode_lower-take_more}
 use Rattle.jsonb.proofs.path.display.write_hex.Goals as goal
 

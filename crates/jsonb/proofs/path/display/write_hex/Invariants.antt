@@ -1,6 +1,4 @@
-use Rattle.std.proofs.Common.{take}
-use Rattle.std.specs.Fmt.{HasWritten, IsPlainFormatter}
-use Rattle.hex.specs.Hex.{encode_lower}
+use Rattle.jsonb.proofs.Common.{take, HasWritten, IsPlainFormatter, encode_lower}
 use Rattle.jsonb.proofs.path.display.write_hex.Given as goal
 
 -- the bytes before the index are written

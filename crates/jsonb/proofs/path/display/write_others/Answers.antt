@@ -1,6 +1,4 @@
-use Rattle.std.proofs.Common.{pos, refl, arith}
-use Rattle.std.proofs.Output.{has_written_append, has_written_of_eq}
-use Rattle.jsonb.specs.Private.EntriesText.{other_entry_text}
+use Rattle.jsonb.proofs.Common.{pos, refl, arith, has_written_append, has_written_of_eq, other_entry_text}
 use Rattle.jsonb.specs.declared.path.ArrayIndex.TheVariants as ArrayIndex
 use Rattle.jsonb.specs.declared.path.Index.TheVariants as Index
 use Rattle.jsonb.proofs.TextLemmas.{text_of_one_more}

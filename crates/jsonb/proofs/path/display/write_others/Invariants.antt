@@ -1,6 +1,4 @@
-use Rattle.std.proofs.Common.{take, flat_map}
-use Rattle.std.specs.Fmt.{HasWritten, IsPlainFormatter}
-use Rattle.jsonb.specs.Private.EntriesText.{other_entry_text}
+use Rattle.jsonb.proofs.Common.{take, flat_map, HasWritten, IsPlainFormatter, other_entry_text}
 use Rattle.jsonb.proofs.path.display.write_others.Given as goal
 
 -- the entries before the index are written

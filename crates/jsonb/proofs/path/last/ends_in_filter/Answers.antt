@@ -1,7 +1,4 @@
-use Rattle.std.proofs.Common.{sym, ap, ◌∙◌}
-use Rattle.jsonb.specs.PathTree.{steps_of}
-use Rattle.jsonb.specs.PathViews.{steps_view}
-use Rattle.jsonb.specs.Private.Last.{last_step, ends_in_filter}
+use Rattle.jsonb.proofs.Common.{sym, ap, ◌∙◌, steps_of, steps_view, last_step, ends_in_filter}
 use Rattle.jsonb.proofs.LastLemmas.{last_step-end}
 use Rattle.jsonb.proofs.path.last.ends_in_filter.Goals as goal
 

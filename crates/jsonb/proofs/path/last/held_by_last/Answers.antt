@@ -1,7 +1,4 @@
-use Rattle.std.proofs.Common.{sym, ap, ◌∙◌}
-use Rattle.jsonb.specs.PathTree.{steps_of}
-use Rattle.jsonb.specs.PathViews.{steps_view}
-use Rattle.jsonb.specs.Private.Last.{last_step, held_by_last}
+use Rattle.jsonb.proofs.Common.{sym, ap, ◌∙◌, steps_of, steps_view, last_step, held_by_last}
 use Rattle.jsonb.proofs.LastLemmas.{last_step-end}
 use Rattle.jsonb.proofs.path.last.held_by_last.Goals as goal
 

@@ -1,9 +1,4 @@
-use Rattle.std.proofs.Common.{◌≡◌, sym, ap, ◌∙◌, arith}
-use Rattle.std.proofs.lemmas.List.{nil_from_length}
-use Rattle.std.specs.Slice.Iter.{iter_rest}
-use Rattle.jsonb.specs.PathTree.{steps_of}
-use Rattle.jsonb.specs.PathViews.{step_view, expression_view}
-use Rattle.jsonb.specs.Private.Copying.{listed, held, step_copy_view, step_copy_has_document}
+use Rattle.jsonb.proofs.Common.{◌≡◌, sym, ap, ◌∙◌, arith, nil_from_length, iter_rest, steps_of, step_view, expression_view, listed, held, step_copy_view, step_copy_has_document}
 use Rattle.jsonb.proofs.CopyingLemmas.{step_more, step_held, step_held-parts, step_fewer, none_left_view, clean_more}
 use Rattle.jsonb.proofs.path.own.owned_rest.Goals as goal
 

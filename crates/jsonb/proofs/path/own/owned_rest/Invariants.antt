@@ -1,8 +1,4 @@
-use Rattle.std.proofs.Common.{◌≡◌, ◌≤◌, ◌++◌, false}
-use Rattle.jsonb.specs.Private.Documents.{has_document}
-use Rattle.std.specs.Slice.Iter.{iter_rest}
-use Rattle.jsonb.specs.PathViews.{steps_view}
-use Rattle.jsonb.specs.Private.Copying.{so_far_has_document}
+use Rattle.jsonb.proofs.Common.{◌≡◌, ◌≤◌, ◌++◌, false, has_document, iter_rest, steps_view, so_far_has_document}
 use Rattle.jsonb.proofs.PartLemmas.{row_parts}
 use Rattle.jsonb.proofs.path.own.owned_rest.Given as goal
 

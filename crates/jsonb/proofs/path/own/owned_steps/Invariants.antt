@@ -1,6 +1,4 @@
-use Rattle.std.proofs.Common.{◌≡◌, take, map, false}
-use Rattle.jsonb.specs.Private.Documents.{has_document}
-use Rattle.jsonb.specs.PathViews.{step_view, steps_view}
+use Rattle.jsonb.proofs.Common.{◌≡◌, take, map, false, has_document, step_view, steps_view}
 use Rattle.jsonb.proofs.path.own.owned_steps.Given as goal
 
 -- the steps before the index are copied, and have no document

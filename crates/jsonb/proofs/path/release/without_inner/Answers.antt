@@ -1,7 +1,5 @@
-use Rattle.std.proofs.Common.{◌≡◌, ◌+◌, refl, ap, ◌∙◌, arith}
-use Rattle.jsonb.specs.Private.Parts.{step_parts, parts, waiting_parts}
+use Rattle.jsonb.proofs.Common.{◌≡◌, ◌+◌, refl, ap, ◌∙◌, arith, step_parts, parts, waiting_parts, fewer_parts, fewer_in_front}
 use Rattle.jsonb.specs.declared.path.Path.TheVariants as step
-use Rattle.jsonb_doc.proofs.PartLemmas.{fewer_parts, fewer_in_front}
 use Rattle.jsonb.proofs.PartLemmas.{row_parts, row_parts-last, parts-paths}
 use Rattle.jsonb.proofs.PathNodes.{whole_is}
 use Rattle.jsonb.proofs.path.release.without_inner.Goals as goal

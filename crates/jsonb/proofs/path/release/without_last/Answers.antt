@@ -1,7 +1,4 @@
-use Rattle.std.proofs.Common.{◌≡◌, ◌+◌, ap, ◌∙◌, arith}
-use Rattle.jsonb.specs.PathViews.{step_view}
-use Rattle.jsonb.specs.Private.Parts.{step_parts, parts, waiting_parts, remaining}
-use Rattle.jsonb_doc.proofs.PartLemmas.{fewer_parts, as_many_parts}
+use Rattle.jsonb.proofs.Common.{◌≡◌, ◌+◌, ap, ◌∙◌, arith, step_view, step_parts, parts, waiting_parts, remaining, fewer_parts, as_many_parts}
 use Rattle.jsonb.proofs.PartLemmas.{row_parts, row_parts-last, parts-paths, some_step_parts}
 use Rattle.jsonb.proofs.path.release.without_last.Goals as goal
 

@@ -1,6 +1,4 @@
-use Rattle.std.proofs.Common.{◌+◌, ap, ◌∙◌, arith}
-use Rattle.jsonb.specs.Private.Parts.{parts, waiting_parts}
-use Rattle.jsonb_doc.proofs.PartLemmas.{fewer_parts, fewer_in_front}
+use Rattle.jsonb.proofs.Common.{◌+◌, ap, ◌∙◌, arith, parts, waiting_parts, fewer_parts, fewer_in_front}
 use Rattle.jsonb.proofs.PartLemmas.{parts-binary}
 use Rattle.jsonb.proofs.path.release.without_pair.Goals as goal
 

@@ -1,4 +1,4 @@
-use Rattle.std.proofs.Common.{◌∙◌, sym}
+use Rattle.jsonb.proofs.Common.{◌∙◌, sym}
 use Rattle.jsonb.proofs.RefinesLemmas.{given_by}
 use Rattle.jsonb.proofs.SearchLemmas.{same_some}
 use Rattle.jsonb.proofs.selector.Selector.exists.Goals as goal

@@ -1,6 +1,4 @@
-use Rattle.std.proofs.Common.{◌≡◌, is_some, ◌∙◌, ap, sym}
-use Rattle.jsonb.specs.PathViews.{expression_view, path_view, steps_view}
-use Rattle.jsonb.specs.Private.Selection.{only_expression}
+use Rattle.jsonb.proofs.Common.{◌≡◌, is_some, ◌∙◌, ap, sym, expression_view, path_view, steps_view, only_expression}
 use Rattle.jsonb.proofs.FirstItems.{expression_told, is_expression, no_expression, first_is}
 use Rattle.jsonb.proofs.RefinesLemmas.{answered, given_by}
 use Rattle.jsonb.proofs.selector.Selector.find_first.Goals as goal

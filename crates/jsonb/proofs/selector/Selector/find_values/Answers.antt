@@ -1,9 +1,5 @@
-use Rattle.std.proofs.Common.{sym}
+use Rattle.jsonb.proofs.Common.{sym, AllZip, Any, IsTooLarge, raw_bytes, IsItemOf}
 use Rattle.jsonb.proofs.RefinesLemmas.{err_is}
-use Rattle.std.specs.List.{AllZip, Any}
-use Rattle.jsonb_doc.specs.Limits.{IsTooLarge}
-use Rattle.jsonb_raw.specs.Documents.{raw_bytes}
-use Rattle.jsonb.specs.FoundItems.{IsItemOf}
 use Rattle.jsonb.proofs.DocumentAnswers.{handed_by, handed_error}
 use Rattle.jsonb.proofs.selector.Selector.find_values.Goals as goal
 

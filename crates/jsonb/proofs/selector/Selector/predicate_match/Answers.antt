@@ -1,7 +1,4 @@
-use Rattle.std.proofs.Common.{ap, sym, ◌∙◌}
-use Rattle.jsonb.specs.PathViews.{steps_view, path_view, expression_view}
-use Rattle.jsonb.specs.Meaning.{predicate}
-use Rattle.jsonb.specs.Private.Selection.{only_expression}
+use Rattle.jsonb.proofs.Common.{ap, sym, ◌∙◌, steps_view, path_view, expression_view, predicate, only_expression}
 use Rattle.jsonb.proofs.RefinesLemmas.{same_outcome}
 use Rattle.jsonb.proofs.WholeLemmas.{lone_is}
 use Rattle.jsonb.proofs.selector.Selector.predicate_match.Goals as goal

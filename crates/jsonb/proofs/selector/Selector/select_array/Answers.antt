@@ -1,8 +1,5 @@
-use Rattle.std.proofs.Common.{sym}
+use Rattle.jsonb.proofs.Common.{sym, Decodes, IsTooLarge, array_of}
 use Rattle.jsonb.proofs.RefinesLemmas.{err_is}
-use Rattle.jsonb_doc.specs.Format.{Decodes}
-use Rattle.jsonb_doc.specs.Limits.{IsTooLarge}
-use Rattle.jsonb.specs.Private.Selected.{array_of}
 use Rattle.jsonb.proofs.DocumentAnswers.{handed_by, handed_error, array_handed}
 use Rattle.jsonb.proofs.selector.Selector.select_array.Goals as goal
 

@@ -1,10 +1,5 @@
-use Rattle.std.proofs.Common.{sym}
+use Rattle.jsonb.proofs.Common.{sym, IsSomeAnd, Decodes, IsTooLarge, SameOption, single_or_array}
 use Rattle.jsonb.proofs.RefinesLemmas.{err_is}
-use Rattle.std.specs.Prelude.{IsSomeAnd}
-use Rattle.jsonb_doc.specs.Format.{Decodes}
-use Rattle.jsonb_doc.specs.Limits.{IsTooLarge}
-use Rattle.jsonb_doc.specs.Answer.{SameOption}
-use Rattle.jsonb.specs.SelectorAnswers.{single_or_array}
 use Rattle.jsonb.proofs.DocumentAnswers.{handed_by, handed_error, option_handed}
 use Rattle.jsonb.proofs.selector.Selector.select_value.Goals as goal
 

@@ -1,8 +1,5 @@
-use Rattle.std.proofs.Common.{sym}
+use Rattle.jsonb.proofs.Common.{sym, AllZip, Any, Decodes, IsTooLarge}
 use Rattle.jsonb.proofs.RefinesLemmas.{err_is}
-use Rattle.std.specs.List.{AllZip, Any}
-use Rattle.jsonb_doc.specs.Format.{Decodes}
-use Rattle.jsonb_doc.specs.Limits.{IsTooLarge}
 use Rattle.jsonb.proofs.DocumentAnswers.{handed_by, handed_error}
 use Rattle.jsonb.proofs.selector.Selector.select_values.Goals as goal
 

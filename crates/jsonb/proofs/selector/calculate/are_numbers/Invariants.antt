@@ -1,5 +1,4 @@
-use Rattle.std.proofs.Common.{◌≡◌, drop, map}
-use Rattle.jsonb.specs.Private.Selection.{value_view, are_numbers}
+use Rattle.jsonb.proofs.Common.{◌≡◌, drop, map, value_view, are_numbers}
 use Rattle.jsonb.proofs.selector.calculate.are_numbers.Given as goal
 
 abbrev pub invariant-loop-value : goal.invariant-loop-value

@@ -1,5 +1,5 @@
+use Rattle.jsonb.proofs.Common.{number_view}
 use Rattle.jsonb_doc.specs.Arithmetic.{add, subtract, multiply, divide, modulo}
-use Rattle.jsonb_doc.specs.View.{number_view}
 use Rattle.jsonb.proofs.CalculateLemmas.{calculation_refused}
 use Rattle.jsonb.proofs.selector.calculate.calculate.Goals as goal
 

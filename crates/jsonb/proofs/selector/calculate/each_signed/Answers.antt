@@ -1,6 +1,4 @@
-use Rattle.std.proofs.Common.{[], map, refl}
-use Rattle.std.specs.List.{AllZip}
-use Rattle.jsonb.specs.Private.Selection.{value_view, signed_value, IsNumberItem}
+use Rattle.jsonb.proofs.Common.{[], map, refl, AllZip, value_view, signed_value, IsNumberItem}
 use Rattle.jsonb.proofs.RefinesLemmas.{answered, failed_with, Is, related_of_map}
 use Rattle.jsonb.proofs.Progress.{at_start, one_more, refused_in, at_end, list_first, list_end}
 use Rattle.jsonb.proofs.CalculateLemmas.{as_memory, number_added}

@@ -1,7 +1,4 @@
-use Rattle.std.proofs.Common.{map, drop}
-use Rattle.jsonb_doc.specs.Answer.{try_flat_map}
-use Rattle.std.specs.List.{AllZip}
-use Rattle.jsonb.specs.Private.Selection.{value_view, signed_value, IsNumberItem}
+use Rattle.jsonb.proofs.Common.{map, drop, try_flat_map, AllZip, value_view, signed_value, IsNumberItem}
 use Rattle.jsonb.proofs.RefinesLemmas.{Is}
 use Rattle.jsonb.proofs.Progress.{Progress}
 use Rattle.jsonb.proofs.selector.calculate.each_signed.Given as goal

@@ -1,7 +1,4 @@
-use Rattle.std.proofs.Common.{map}
-use Rattle.jsonb_doc.specs.Answer.{try_flat_map}
-use Rattle.jsonb_doc.specs.View.{number_view}
-use Rattle.jsonb.specs.PathArithmetic.{signed_number}
+use Rattle.jsonb.proofs.Common.{map, try_flat_map, number_view, signed_number}
 use Rattle.jsonb.proofs.SignLemmas.{SignedUntil}
 use Rattle.jsonb.proofs.selector.calculate.sign_each.Given as goal
 

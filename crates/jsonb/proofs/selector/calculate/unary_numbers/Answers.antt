@@ -1,7 +1,4 @@
-use Rattle.std.proofs.Common.{map, ap, sym, ◌∙◌, inr}
-use Rattle.jsonb_doc.specs.Answer.{and_then, try_flat_map}
-use Rattle.jsonb.specs.PathArithmetic.{signed_number}
-use Rattle.jsonb.specs.Private.Selection.{value_view}
+use Rattle.jsonb.proofs.Common.{map, ap, sym, ◌∙◌, inr, and_then, try_flat_map, signed_number, value_view}
 use Rattle.jsonb.proofs.CalculateLemmas.{other_refused, values_signed}
 use Rattle.jsonb.proofs.RefinesLemmas.{refused, same_outcome}
 use Rattle.jsonb.proofs.selector.calculate.unary_numbers.Goals as goal

@@ -1,6 +1,4 @@
-use Rattle.std.proofs.Common.{[], ◌∷◌}
-use Rattle.jsonb_doc.specs.Representation.Positions.{Locates, HasSpotsLeft}
-use Rattle.jsonb_raw.specs.Arrays.{array_values}
+use Rattle.jsonb.proofs.Common.{[], ◌∷◌, Locates, HasSpotsLeft, array_values}
 use Rattle.jsonb.proofs.RefinesLemmas.{listed_itself, unlisted, pushed}
 use Rattle.jsonb.proofs.selector.children.push_elements.Goals as goal
 

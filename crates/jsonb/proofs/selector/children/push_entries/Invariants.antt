@@ -1,8 +1,4 @@
-use Rattle.std.proofs.Common.{◌≡◌, ℕ, ◌++◌, List, drop}
-use Rattle.jsonb_doc.specs.Representation.Positions.{Locates}
-use Rattle.jsonb_doc.specs.Tree.{Tree}
-use Rattle.std.specs.List.{AllZip}
-use Rattle.jsonb.specs.ItemSteps.{picked}
+use Rattle.jsonb.proofs.Common.{◌≡◌, ℕ, ◌++◌, List, drop, Locates, Tree, AllZip, picked}
 use Rattle.jsonb.proofs.selector.children.push_entries.Given as goal
 
 -- what the entries so far picked, and what those that are left pick, is what all pick

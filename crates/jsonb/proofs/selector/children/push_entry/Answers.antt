@@ -1,6 +1,4 @@
-use Rattle.std.proofs.Common.{◌≡◌, Ok, length, ap}
-use Rattle.std.specs.Prelude.{slice_range}
-use Rattle.jsonb_doc.specs.Representation.Positions.{Locates}
+use Rattle.jsonb.proofs.Common.{◌≡◌, Ok, length, ap, slice_range, Locates}
 use Rattle.jsonb.proofs.RefinesLemmas.{pushed_all, same_outcome}
 use Rattle.jsonb.proofs.PickLemmas.{picked_between, AllZip-between}
 use Rattle.jsonb.proofs.SelectedParts.{related_length}

@@ -1,6 +1,4 @@
-use Rattle.std.proofs.Common.{[], ◌∷◌}
-use Rattle.jsonb_doc.specs.Representation.Positions.{Locates}
-use Rattle.jsonb_doc.specs.Tree.{field_of}
+use Rattle.jsonb.proofs.Common.{[], ◌∷◌, Locates, field_of}
 use Rattle.jsonb.proofs.RefinesLemmas.{found_one, none_found, mismatches, same_answer, pushed}
 use Rattle.jsonb.proofs.selector.children.push_field.Goals as goal
 

@@ -1,5 +1,4 @@
-use Rattle.std.proofs.Common.{[], ◌∷◌, Ok, ap, if◌then◌else◌}
-use Rattle.jsonb_doc.specs.Representation.Positions.{Locates}
+use Rattle.jsonb.proofs.Common.{[], ◌∷◌, Ok, ap, if◌then◌else◌, Locates}
 use Rattle.jsonb.proofs.RefinesLemmas.{pushed, same_outcome}
 use Rattle.jsonb.proofs.selector.children.push_if.Goals as goal
 

@@ -1,7 +1,4 @@
-use Rattle.std.proofs.Common.{[], Ok, ap, sym, ◌∙◌, refl}
-use Rattle.std.specs.List.{cons_option}
-use Rattle.jsonb_doc.specs.Representation.Positions.{Locates}
-use Rattle.jsonb_doc.proofs.SpotsTaken.{no_refusal}
+use Rattle.jsonb.proofs.Common.{[], Ok, ap, sym, ◌∙◌, refl, cons_option, Locates, no_refusal}
 use Rattle.jsonb.proofs.RefinesLemmas.{pushed, unchanged, same_outcome}
 use Rattle.jsonb.proofs.Progress.{spot_first, spot_end}
 use Rattle.jsonb.proofs.PickLemmas.{get_first, get_further, get_none}

@@ -1,6 +1,4 @@
-use Rattle.std.proofs.Common.{◌≡◌, ℕ, List, slice_get}
-use Rattle.jsonb_doc.specs.Representation.Positions.{HasSpotsLeft}
-use Rattle.jsonb_doc.specs.Tree.{Tree}
+use Rattle.jsonb.proofs.Common.{◌≡◌, ℕ, List, slice_get, HasSpotsLeft, Tree}
 use Rattle.jsonb.proofs.selector.children.push_nth.Given as goal
 
 -- of the elements that are left, that many precede the one at the position

@@ -1,7 +1,4 @@
-use Rattle.std.proofs.Common.{[], Ok, ap, sym, ◌∙◌, subst}
-use Rattle.jsonb_doc.specs.Representation.Positions.{Locates}
-use Rattle.std.specs.List.{AllZip}
-use Rattle.jsonb.specs.ItemSteps.{picked}
+use Rattle.jsonb.proofs.Common.{[], Ok, ap, sym, ◌∙◌, subst, Locates, AllZip, picked}
 use Rattle.jsonb.proofs.RefinesLemmas.{failed_as, only_memory, same_outcome}
 use Rattle.jsonb.proofs.PickLemmas.{picked_plain}
 use Rattle.jsonb.proofs.selector.children.push_picked.Goals as goal

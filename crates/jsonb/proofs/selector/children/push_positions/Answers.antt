@@ -1,7 +1,4 @@
-use Rattle.std.proofs.Common.{[]}
-use Rattle.jsonb_doc.specs.Representation.Positions.{Locates, HasSpotsLeft}
-use Rattle.jsonb_raw.specs.Arrays.{array_values}
-use Rattle.jsonb.specs.ItemSteps.{picked}
+use Rattle.jsonb.proofs.Common.{[], Locates, HasSpotsLeft, array_values, picked}
 use Rattle.jsonb.proofs.RefinesLemmas.{listed, none_found, mismatches, same_answer}
 use Rattle.jsonb.proofs.selector.children.push_positions.Goals as goal
 

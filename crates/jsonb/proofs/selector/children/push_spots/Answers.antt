@@ -1,6 +1,4 @@
-use Rattle.std.proofs.Common.{Ok}
-use Rattle.jsonb_doc.specs.Representation.Positions.{Locates, HasSpotsLeft}
-use Rattle.std.specs.List.{AllZip}
+use Rattle.jsonb.proofs.Common.{Ok, Locates, HasSpotsLeft, AllZip}
 use Rattle.jsonb.proofs.RefinesLemmas.{answered, pushed}
 use Rattle.jsonb.proofs.Progress.{singles_start, one_more, at_end, spot_first, spot_end, spot_refused}
 use Rattle.jsonb.proofs.selector.children.push_spots.Goals as goal

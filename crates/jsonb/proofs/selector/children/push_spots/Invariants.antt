@@ -1,7 +1,4 @@
-use Rattle.std.proofs.Common.{ℕ, ◌++◌, ◌∷◌, [], List, Ok}
-use Rattle.jsonb_doc.specs.Representation.Positions.{Locates, HasSpotsLeft}
-use Rattle.jsonb_doc.specs.Tree.{Tree}
-use Rattle.std.specs.List.{AllZip}
+use Rattle.jsonb.proofs.Common.{ℕ, ◌++◌, ◌∷◌, [], List, Ok, Locates, HasSpotsLeft, Tree, AllZip}
 use Rattle.jsonb.proofs.Progress.{Progress}
 use Rattle.jsonb.proofs.selector.children.push_spots.Given as goal
 

@@ -1,8 +1,4 @@
-use Rattle.std.proofs.Common.{ap, sym, ◌∙◌, refl, inl, inr}
-use Rattle.jsonb.specs.ItemSteps.{field_step}
-use Rattle.jsonb.specs.Private.ItemSteps.{indices_step}
-use Rattle.jsonb_doc.specs.Representation.Positions.{Locates}
-use Rattle.jsonb.specs.Meaning.{step_meaning}
+use Rattle.jsonb.proofs.Common.{ap, sym, ◌∙◌, refl, inl, inr, field_step, indices_step, Locates, step_meaning}
 use Rattle.jsonb.proofs.RefinesLemmas.{same_outcome, pushed}
 use Rattle.jsonb.proofs.PathNodes.{root_is, current_is, values_is, elements_is, levels_is, dot_field_is, colon_field_is, object_field_is, indices_is}
 use Rattle.jsonb.proofs.selector.children.push_step.Goals as goal

@@ -1,6 +1,4 @@
-use Rattle.std.proofs.Common.{[]}
-use Rattle.jsonb_doc.specs.Representation.Positions.{Locates, HasSpotsLeft}
-use Rattle.jsonb.specs.ItemSteps.{values_of}
+use Rattle.jsonb.proofs.Common.{[], Locates, HasSpotsLeft, values_of}
 use Rattle.jsonb.proofs.RefinesLemmas.{listed_itself, unlisted, mismatches, same_answer}
 use Rattle.jsonb.proofs.selector.children.push_values.Goals as goal
 

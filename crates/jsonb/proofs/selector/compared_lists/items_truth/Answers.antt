@@ -1,7 +1,4 @@
-use Rattle.std.proofs.Common.{Ok, refl, ap, sym, ◌∙◌}
-use Rattle.jsonb_doc.specs.Representation.Positions.{Locates}
-use Rattle.jsonb.specs.Private.Compared.{items_truth}
-use Rattle.jsonb.specs.declared.selector.document.Mode.TheVariants.{Lax}
+use Rattle.jsonb.proofs.Common.{Ok, refl, ap, sym, ◌∙◌, Locates, items_truth, Lax}
 use Rattle.jsonb.proofs.RefinesLemmas.{failed_as}
 use Rattle.jsonb.proofs.KeptLemmas.{known, value_is}
 use Rattle.jsonb.proofs.ListLemmas.{is_false, is_not_false, list_passes, list_stops, list_refused, list_none}

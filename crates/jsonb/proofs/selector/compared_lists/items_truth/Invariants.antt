@@ -1,9 +1,4 @@
-use Rattle.std.proofs.Common.{◌≡◌, List, drop}
-use Rattle.jsonb_doc.specs.Representation.Positions.{Locates}
-use Rattle.jsonb_doc.specs.Tree.{Tree}
-use Rattle.jsonb.specs.PathTree.{Expression}
-use Rattle.std.specs.List.{AllZip}
-use Rattle.jsonb.specs.Private.Compared.{IsMemberCompared, items_truth}
+use Rattle.jsonb.proofs.Common.{◌≡◌, List, drop, Locates, Tree, Expression, AllZip, IsMemberCompared, items_truth}
 use Rattle.jsonb.proofs.selector.compared_lists.items_truth.Given as goal
 
 -- the items that are left determine the result of all

@@ -1,12 +1,5 @@
-use Rattle.std.proofs.Common.{◌≡◌, ◌++◌, ap, sym, ◌∙◌, take}
-use Rattle.std.proofs.lemmas.List.{take-append-drop, map-append}
+use Rattle.jsonb.proofs.Common.{◌≡◌, ◌++◌, ap, sym, ◌∙◌, take, take-append-drop, map-append, steps_of, step_view, steps_view, expression_view, truth, operand_values, are_members, value_view, Lax}
 use Rattle.jsonb.specs.PathTree as math
-use Rattle.jsonb.specs.PathTree.{steps_of}
-use Rattle.jsonb.specs.PathViews.{step_view, steps_view, expression_view}
-use Rattle.jsonb.specs.Meaning.{truth, operand_values}
-use Rattle.jsonb.specs.Private.Members.{are_members}
-use Rattle.jsonb.specs.Private.Selection.{value_view}
-use Rattle.jsonb.specs.declared.selector.document.Mode.TheVariants.{Lax}
 use Rattle.jsonb.proofs.ComparedLemmas.{compares_member}
 use Rattle.jsonb.proofs.ListLemmas.{compares_list}
 use Rattle.jsonb.proofs.PathNodes.{binary_is}

@@ -1,7 +1,4 @@
-use Rattle.std.proofs.Common.{sym, ◌∙◌, arith}
-use Rattle.std.proofs.lemmas.Bool.Decides.{nat_tests}
-use Rattle.std.proofs.lemmas.List.{nil_from_length}
-use Rattle.jsonb.specs.Private.Compared.{items_truth}
+use Rattle.jsonb.proofs.Common.{sym, ◌∙◌, arith, nat_tests, nil_from_length, items_truth}
 use Rattle.jsonb.proofs.RefinesLemmas.{failed_as, same_outcome, first_refused, followed}
 use Rattle.jsonb.proofs.ListLemmas.{by_front, by_names}
 use Rattle.jsonb.proofs.RepeatLemmas.{alike_items_truth}

@@ -1,6 +1,4 @@
-use Rattle.std.proofs.Common.{◌≡◌, ◌≤◌, drop, length, true}
-use Rattle.jsonb.specs.PathViews.{steps_view}
-use Rattle.jsonb.specs.Private.Members.{are_members}
+use Rattle.jsonb.proofs.Common.{◌≡◌, ◌≤◌, drop, length, true, steps_view, are_members}
 use Rattle.jsonb.proofs.selector.compared_lists.members_behind.Given as goal
 
 abbrev pub invariant-loop-start : goal.invariant-loop-start

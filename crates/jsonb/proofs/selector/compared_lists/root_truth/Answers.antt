@@ -1,10 +1,4 @@
-use Rattle.std.proofs.Common.{◌≡◌, Bool, List, Option, Some, Ok, ap, ◌∙◌}
-use Rattle.jsonb_doc.specs.Answer.{Outcome, and_then}
-use Rattle.jsonb_doc.specs.Tree.{Tree}
-use Rattle.jsonb.specs.Compare.{Truth}
-use Rattle.jsonb.specs.PathViews.{expression_view}
-use Rattle.jsonb.specs.Meaning.{truth, is_some_item}
-use Rattle.jsonb.specs.Private.Selection.{IsAt}
+use Rattle.jsonb.proofs.Common.{◌≡◌, Bool, List, Option, Some, Ok, ap, ◌∙◌, Outcome, and_then, Tree, Truth, expression_view, truth, is_some_item, IsAt}
 use Rattle.jsonb.proofs.PathNodes.{exists_is}
 use Rattle.jsonb.proofs.RefinesLemmas.{failed_as, same_outcome, first_refused, one_ok}
 use Rattle.jsonb.proofs.SearchLemmas.{found_any}

@@ -1,11 +1,4 @@
-use Rattle.std.proofs.Common.{◌≡◌, ◌≤◌, [], length, drop, map, ap, ◌∙◌, arith}
-use Rattle.std.proofs.Math.ListN.{drop_of_length-le}
-use Rattle.jsonb_doc.specs.Answer.{and_then}
-use Rattle.jsonb.specs.PathTree.{steps_of}
-use Rattle.jsonb.specs.PathViews.{step_view, steps_view}
-use Rattle.jsonb.specs.Meaning.{step_meaning, steps_meaning}
-use Rattle.jsonb.specs.Private.Selection.{taken_step}
-use Rattle.jsonb.specs.declared.selector.document.Expressions.TheVariants.{AreRefused}
+use Rattle.jsonb.proofs.Common.{◌≡◌, ◌≤◌, [], length, drop, map, ap, ◌∙◌, arith, drop_of_length-le, and_then, steps_of, step_view, steps_view, step_meaning, steps_meaning, taken_step, AreRefused}
 use Rattle.jsonb.proofs.RefinesLemmas.{same_outcome}
 use Rattle.jsonb.proofs.MemberLemmas.{member_first, member_next, nothing_behind}
 use Rattle.jsonb.proofs.selector.compared_member.compared_member.Goals as goal

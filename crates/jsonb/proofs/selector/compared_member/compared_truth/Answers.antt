@@ -1,7 +1,4 @@
-use Rattle.std.proofs.Common.{map, ap, sym, ◌∙◌}
-use Rattle.jsonb.specs.Compare.{compare}
-use Rattle.jsonb.specs.Private.Selection.{value_view}
-use Rattle.jsonb.specs.Values.{values_of_item}
+use Rattle.jsonb.proofs.Common.{map, ap, sym, ◌∙◌, compare, value_view, values_of_item}
 use Rattle.jsonb.proofs.RefinesLemmas.{answered}
 use Rattle.jsonb.proofs.selector.compared_member.compared_truth.Goals as goal
 

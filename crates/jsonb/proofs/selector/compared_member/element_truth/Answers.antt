@@ -1,6 +1,4 @@
-use Rattle.std.proofs.Common.{map, ap, ◌∙◌}
-use Rattle.jsonb.specs.Compare.{compare}
-use Rattle.jsonb.specs.Private.Selection.{value_view}
+use Rattle.jsonb.proofs.Common.{map, ap, ◌∙◌, compare, value_view}
 use Rattle.jsonb.proofs.RefinesLemmas.{answered}
 use Rattle.jsonb.proofs.selector.compared_member.element_truth.Goals as goal
 

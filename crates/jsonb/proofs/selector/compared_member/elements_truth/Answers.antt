@@ -1,9 +1,4 @@
-use Rattle.std.proofs.Common.{Ok, List, map, flat_map, refl, ap, sym, ◌∙◌}
-use Rattle.jsonb_doc.proofs.SpotsTaken.{no_refusal}
-use Rattle.jsonb_doc.specs.Tree.{Tree}
-use Rattle.jsonb.specs.Compare.{compare}
-use Rattle.jsonb.specs.Private.Selection.{value_view}
-use Rattle.jsonb.specs.Values.{value_of_item}
+use Rattle.jsonb.proofs.Common.{Ok, List, map, flat_map, refl, ap, sym, ◌∙◌, no_refusal, Tree, compare, value_view, value_of_item}
 use Rattle.jsonb.proofs.RefinesLemmas.{failed_as, only_memory}
 use Rattle.jsonb.proofs.KeptLemmas.{known}
 use Rattle.jsonb.proofs.ListLemmas.{is_false, is_not_false, compare_passes, compare_stops}

@@ -1,9 +1,4 @@
-use Rattle.std.proofs.Common.{◌≡◌, List, map, flat_map}
-use Rattle.jsonb_doc.specs.Representation.Positions.{HasSpotsLeft}
-use Rattle.jsonb_doc.specs.Tree.{Tree}
-use Rattle.jsonb.specs.Compare.{compare}
-use Rattle.jsonb.specs.Private.Selection.{value_view}
-use Rattle.jsonb.specs.Values.{value_of_item}
+use Rattle.jsonb.proofs.Common.{◌≡◌, List, map, flat_map, HasSpotsLeft, Tree, compare, value_view, value_of_item}
 use Rattle.jsonb.proofs.selector.compared_member.elements_truth.Given as goal
 
 -- the elements that are left decide the result of all

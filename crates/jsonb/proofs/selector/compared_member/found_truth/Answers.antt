@@ -1,8 +1,4 @@
-use Rattle.std.proofs.Common.{Ok, map, flat_map, ap, sym, append-nil, ◌∙◌}
-use Rattle.jsonb_doc.specs.Representation.Positions.{Locates}
-use Rattle.jsonb.specs.Compare.{compare}
-use Rattle.jsonb.specs.Private.Selection.{value_view}
-use Rattle.jsonb.specs.Values.{values_of_item}
+use Rattle.jsonb.proofs.Common.{Ok, map, flat_map, ap, sym, append-nil, ◌∙◌, Locates, compare, value_view, values_of_item}
 use Rattle.jsonb.proofs.RefinesLemmas.{answered, same_outcome}
 use Rattle.jsonb.proofs.MemberLemmas.{one_member, no_member}
 use Rattle.jsonb.proofs.selector.compared_member.found_truth.Goals as goal

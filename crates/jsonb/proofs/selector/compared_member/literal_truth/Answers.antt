@@ -1,7 +1,4 @@
-use Rattle.std.proofs.Common.{Ok, map, flat_map, sym}
-use Rattle.jsonb.specs.Compare.{compare}
-use Rattle.jsonb.specs.Private.Selection.{value_view}
-use Rattle.jsonb.specs.Values.{values_of_item}
+use Rattle.jsonb.proofs.Common.{Ok, map, flat_map, sym, compare, value_view, values_of_item}
 use Rattle.jsonb.proofs.RefinesLemmas.{failed_as, same_outcome, first_refused, followed}
 use Rattle.jsonb.proofs.ComparedLemmas.{told_by, truth_is}
 use Rattle.jsonb.proofs.selector.compared_member.literal_truth.Goals as goal

@@ -1,10 +1,4 @@
-use Rattle.std.proofs.Common.{◌≡◌, List, Ok, Err, map, flat_map, refl, ap, ◌∙◌}
-use Rattle.jsonb_doc.specs.Answer.{Outcome, and_then}
-use Rattle.jsonb_doc.specs.Tree.{Tree}
-use Rattle.jsonb.specs.Compare.{compare}
-use Rattle.jsonb.specs.Private.Selection.{value_view}
-use Rattle.jsonb.specs.Values.{Value, values_of_item}
-use Rattle.jsonb.specs.declared.selector.document.Expressions.TheVariants.{AreRefused}
+use Rattle.jsonb.proofs.Common.{◌≡◌, List, Ok, Err, map, flat_map, refl, ap, ◌∙◌, Outcome, and_then, Tree, compare, value_view, Value, values_of_item, AreRefused}
 use Rattle.jsonb.proofs.RefinesLemmas.{failed_as, same_outcome, first_refused, followed}
 use Rattle.jsonb.proofs.StepLemmas.{from_start}
 use Rattle.jsonb.proofs.selector.compared_member.member_truth.Goals as goal

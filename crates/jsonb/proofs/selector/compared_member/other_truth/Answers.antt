@@ -1,9 +1,4 @@
-use Rattle.std.proofs.Common.{Ok, map, ap, List}
-use Rattle.jsonb_doc.proofs.SpotsTaken.{some_spots, no_spots}
-use Rattle.jsonb_raw.specs.Arrays.{array_values}
-use Rattle.jsonb.specs.Compare.{compare}
-use Rattle.jsonb.specs.Private.Selection.{value_view}
-use Rattle.jsonb.specs.Values.{Value}
+use Rattle.jsonb.proofs.Common.{Ok, map, ap, List, some_spots, no_spots, array_values, compare, value_view, Value}
 use Rattle.jsonb.proofs.ItemKinds.{values_of_array, other_values}
 use Rattle.jsonb.proofs.RefinesLemmas.{same_outcome}
 use Rattle.jsonb.proofs.selector.compared_member.other_truth.Goals as goal

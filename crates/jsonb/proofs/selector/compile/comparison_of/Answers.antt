@@ -1,9 +1,5 @@
-use Rattle.std.proofs.Common.{ap, sym, ◌∙◌}
+use Rattle.jsonb.proofs.Common.{ap, sym, ◌∙◌, steps_of, steps_view, expression_view, truth, value_view}
 use Rattle.jsonb.specs.PathTree as math
-use Rattle.jsonb.specs.PathTree.{steps_of}
-use Rattle.jsonb.specs.PathViews.{steps_view, expression_view}
-use Rattle.jsonb.specs.Meaning.{truth}
-use Rattle.jsonb.specs.Private.Selection.{value_view}
 use Rattle.jsonb.proofs.ComparedLemmas.{compares_member}
 use Rattle.jsonb.proofs.MirrorLemmas.{member_mirrored}
 use Rattle.jsonb.proofs.TestLemmas.{compares_members}

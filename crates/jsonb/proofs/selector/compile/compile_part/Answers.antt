@@ -1,6 +1,4 @@
-use Rattle.std.proofs.Common.{◌≡◌, length, arith, [], ◌∷◌, ◌++◌, ap, sym, ◌∙◌, reverse}
-use Rattle.jsonb.specs.PathViews.{expression_view}
-use Rattle.jsonb.specs.Private.Tests.{jump_to, pending}
+use Rattle.jsonb.proofs.Common.{◌≡◌, length, arith, [], ◌∷◌, ◌++◌, ap, sym, ◌∙◌, reverse, expression_view, jump_to, pending}
 use Rattle.jsonb.proofs.TestLemmas.{none_waiting, as_many, left_waits, right_pushed, test_pushed, popped}
 use Rattle.jsonb.proofs.selector.compile.compile_part.Goals as goal
 

@@ -1,8 +1,5 @@
-use Rattle.std.proofs.Common.{[], ◌∷◌, ap, sym, ◌∙◌, subst, reverse}
-use Rattle.jsonb.specs.PathViews.{expression_view}
-use Rattle.jsonb.specs.Private.Tests.{IsQuestionOf, AreBranches, are_plain, pending, waiting_left}
+use Rattle.jsonb.proofs.Common.{[], ◌∷◌, ap, sym, ◌∙◌, subst, reverse, expression_view, IsQuestionOf, AreBranches, are_plain, pending, waiting_left, Waiting}
 use Rattle.jsonb.specs.declared.selector.compile.Target.TheVariants.{At}
-use Rattle.jsonb.specs.declared.selector.compile.Waiting.{Waiting}
 use Rattle.jsonb.proofs.TestLemmas.{plain_tests}
 use Rattle.jsonb.proofs.selector.compile.joined_condition.Goals as goal
 

@@ -1,7 +1,4 @@
-use Rattle.std.proofs.Common.{◌≡◌, List, reverse}
-use Rattle.jsonb.specs.PathViews.{expression_view}
-use Rattle.jsonb.specs.Private.Jumps.{Branch, branches_of_whole}
-use Rattle.jsonb.specs.Private.Tests.{IsQuestionOf, AreBranches, pending, waiting_left, parts_to_compile}
+use Rattle.jsonb.proofs.Common.{◌≡◌, List, reverse, expression_view, Branch, branches_of_whole, IsQuestionOf, AreBranches, pending, waiting_left, parts_to_compile}
 use Rattle.jsonb.proofs.selector.compile.joined_condition.Given as goal
 
 -- the branches of the parts that are left, before the tests so far, are all

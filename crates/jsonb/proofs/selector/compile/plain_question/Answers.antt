@@ -1,9 +1,5 @@
-use Rattle.std.proofs.Common.{◌≡◌, true, ap, sym, ◌∙◌, subst}
-use Rattle.std.specs.Prelude.{MatchOption, ⊤}
+use Rattle.jsonb.proofs.Common.{◌≡◌, true, ap, sym, ◌∙◌, subst, MatchOption, ⊤, expression_view, is_condition, IsPlainQuestionOf}
 use Rattle.jsonb.specs.PathTree as math
-use Rattle.jsonb.specs.PathViews.{expression_view}
-use Rattle.jsonb.specs.Private.FilterCache.{is_condition}
-use Rattle.jsonb.specs.Private.Tests.{IsPlainQuestionOf}
 use Rattle.jsonb.proofs.PathNodes.{binary_is}
 use Rattle.jsonb.proofs.TestLemmas.{if_none}
 use Rattle.jsonb.proofs.selector.compile.plain_question.Goals as goal

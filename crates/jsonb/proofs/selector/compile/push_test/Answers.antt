@@ -1,6 +1,4 @@
-use Rattle.std.proofs.Common.{◌∷◌, sym, subst, reverse}
-use Rattle.jsonb.specs.PathViews.{expression_view}
-use Rattle.jsonb.specs.Private.Tests.{IsQuestionOf, AreBranches}
+use Rattle.jsonb.proofs.Common.{◌∷◌, sym, subst, reverse, expression_view, IsQuestionOf, AreBranches}
 use Rattle.jsonb.proofs.TestLemmas.{one_in_front}
 use Rattle.jsonb.proofs.selector.compile.push_test.Goals as goal
 

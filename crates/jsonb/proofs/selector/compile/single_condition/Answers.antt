@@ -1,7 +1,4 @@
-use Rattle.std.proofs.Common.{[], ◌∷◌, MatchOption, refl, sym, subst, true, ◌≡◌}
-use Rattle.jsonb.specs.PathViews.{expression_view}
-use Rattle.jsonb.specs.Private.FilterCache.{is_condition}
-use Rattle.jsonb.specs.Private.Tests.{IsPlainQuestionOf, IsQuestionOf, AreBranches}
+use Rattle.jsonb.proofs.Common.{[], ◌∷◌, MatchOption, refl, sym, subst, true, ◌≡◌, expression_view, is_condition, IsPlainQuestionOf, IsQuestionOf, AreBranches}
 use Rattle.jsonb.proofs.TestLemmas.{one_branch}
 use Rattle.jsonb.proofs.selector.compile.single_condition.Goals as goal
 

@@ -1,4 +1,4 @@
-use Rattle.jsonb_doc.specs.Representation.Positions.{Locates}
+use Rattle.jsonb.proofs.Common.{Locates}
 use Rattle.jsonb.proofs.Progress.{no_spot, list_first, list_end}
 use Rattle.jsonb.proofs.RepeatLemmas.{one_tree, thinned_start, thinned_more, thinned_end}
 use Rattle.jsonb.proofs.RefinesLemmas.{answered}

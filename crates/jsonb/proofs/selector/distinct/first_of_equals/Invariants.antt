@@ -1,7 +1,4 @@
-use Rattle.std.proofs.Common.{ℕ, List, drop}
-use Rattle.std.specs.List.{AllZip}
-use Rattle.jsonb_doc.specs.Representation.Positions.{Locates}
-use Rattle.jsonb_doc.specs.Tree.{Tree}
+use Rattle.jsonb.proofs.Common.{ℕ, List, drop, AllZip, Locates, Tree}
 use Rattle.jsonb.proofs.RepeatLemmas.{Thinned}
 use Rattle.jsonb.proofs.selector.distinct.first_of_equals.Given as goal
 

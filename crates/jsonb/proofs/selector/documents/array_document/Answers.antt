@@ -1,7 +1,5 @@
-use Rattle.std.proofs.Common.{◌<◌, ◌≤◌, Ok, Err, length, arith}
+use Rattle.jsonb.proofs.Common.{◌<◌, ◌≤◌, Ok, Err, length, arith, null, front_step, front_whole}
 use Rattle.jsonb.proofs.RefinesLemmas.{err_is}
-use Rattle.jsonb_doc.specs.Tree.{null}
-use Rattle.jsonb_doc.proofs.BuilderSteps.{front_step, front_whole}
 use Rattle.jsonb.proofs.SelectedParts.{Selects-length, left_first, left_none}
 use Rattle.jsonb.proofs.selector.documents.array_document.Goals as goal
 

@@ -1,9 +1,4 @@
-use Rattle.std.proofs.Common.{List, drop}
-use Rattle.jsonb_doc.specs.Format.{Decodes}
-use Rattle.jsonb_doc.specs.Payload.{Form}
-use Rattle.jsonb_doc.specs.Tree.{Tree}
-use Rattle.jsonb_doc.specs.Private.Builders.{HoldsFront}
-use Rattle.jsonb.specs.Private.Selection.{AreSelected}
+use Rattle.jsonb.proofs.Common.{List, drop, Decodes, Form, Tree, HoldsFront, AreSelected}
 use Rattle.jsonb.proofs.selector.documents.array_document.Given as goal
 
 abbrev pub invariant-loop-position : goal.invariant-loop-position

@@ -1,8 +1,5 @@
-use Rattle.std.proofs.Common.{[], ◌∷◌}
+use Rattle.jsonb.proofs.Common.{[], ◌∷◌, Decodes, answered, array_of}
 use Rattle.jsonb.proofs.RefinesLemmas.{err_is}
-use Rattle.jsonb_doc.specs.Format.{Decodes}
-use Rattle.jsonb_doc.proofs.BuilderSteps.{answered}
-use Rattle.jsonb.specs.Private.Selected.{array_of}
 use Rattle.jsonb.proofs.SelectedParts.{none_held}
 use Rattle.jsonb.proofs.selector.documents.array_of_one.Goals as goal
 

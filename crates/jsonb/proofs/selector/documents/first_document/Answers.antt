@@ -1,6 +1,5 @@
-use Rattle.std.proofs.Common.{◌<◌, length, arith}
+use Rattle.jsonb.proofs.Common.{◌<◌, length, arith, null}
 use Rattle.jsonb.proofs.RefinesLemmas.{err_is}
-use Rattle.jsonb_doc.specs.Tree.{null}
 use Rattle.jsonb.proofs.SelectedParts.{Selects-length, first_some}
 use Rattle.jsonb.proofs.selector.documents.first_document.Goals as goal
 

@@ -1,10 +1,6 @@
 -- node_documents
-use Rattle.std.proofs.Common.{◌<◌, ◌≤◌, ◌∙◌, length, arith, inl}
-use Rattle.std.proofs.lemmas.List.{take_more, take_all}
+use Rattle.jsonb.proofs.Common.{◌<◌, ◌≤◌, ◌∙◌, length, arith, inl, take_more, take_all, Decodes, Locates, null}
 use Rattle.jsonb.proofs.RefinesLemmas.{refused, err_is}
-use Rattle.jsonb_doc.specs.Format.{Decodes}
-use Rattle.jsonb_doc.specs.Representation.Positions.{Locates}
-use Rattle.jsonb_doc.specs.Tree.{null}
 use Rattle.jsonb.proofs.Progress.{no_spot}
 use Rattle.jsonb.proofs.SelectedParts.{related_length, related_at, related_more, list_refused}
 use Rattle.jsonb.proofs.selector.documents.node_documents.Goals as goal

@@ -1,10 +1,4 @@
-use Rattle.std.proofs.Common.{◌≡◌, ◌≤◌, List, take, length, vec_len}
-use Rattle.std.specs.List.{AllZip}
-use Rattle.std.specs.Vec.{vec_capacity}
-use Rattle.jsonb_doc.specs.Format.{Decodes}
-use Rattle.jsonb_doc.specs.Payload.{Form}
-use Rattle.jsonb_doc.specs.Representation.Positions.{Locates}
-use Rattle.jsonb_doc.specs.Tree.{Tree}
+use Rattle.jsonb.proofs.Common.{◌≡◌, ◌≤◌, List, take, length, vec_len, AllZip, vec_capacity, Decodes, Form, Locates, Tree}
 use Rattle.jsonb.proofs.selector.documents.node_documents.Given as goal
 
 -- the documents of the places so far, with room for the others

@@ -1,6 +1,5 @@
-use Rattle.std.proofs.Common.{[], ◌∷◌}
+use Rattle.jsonb.proofs.Common.{[], ◌∷◌, trees_of}
 use Rattle.jsonb.proofs.RefinesLemmas.{err_is}
-use Rattle.jsonb_doc.specs.Tree.{trees_of}
 use Rattle.jsonb.proofs.SelectedParts.{part_refused}
 use Rattle.jsonb.proofs.selector.documents.push_part.Goals as goal
 

@@ -1,4 +1,4 @@
-use Rattle.std.proofs.Common.{◌<◌, ◌≤◌, length, arith}
+use Rattle.jsonb.proofs.Common.{◌<◌, ◌≤◌, length, arith}
 use Rattle.jsonb.proofs.RefinesLemmas.{err_is}
 use Rattle.jsonb.proofs.SelectedParts.{Selects-length, value_few, value_many}
 use Rattle.jsonb.proofs.selector.documents.value_document.Goals as goal

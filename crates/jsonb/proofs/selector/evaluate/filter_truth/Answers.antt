@@ -1,6 +1,4 @@
-use Rattle.std.proofs.Common.{Ok, ap, sym, ◌∙◌, refl}
-use Rattle.jsonb_doc.specs.Answer.{and_then}
-use Rattle.jsonb.specs.Meaning.{filtered}
+use Rattle.jsonb.proofs.Common.{Ok, ap, sym, ◌∙◌, refl, and_then, filtered}
 use Rattle.jsonb.proofs.RefinesLemmas.{failed_as, same_outcome, first_of_three_refused}
 use Rattle.jsonb.proofs.KeptLemmas.{known, value_is}
 use Rattle.jsonb.proofs.TestLemmas.{first_test, test_done, settled}

@@ -1,8 +1,4 @@
-use Rattle.std.proofs.Common.{◌≡◌, Ok, ap, sym, ◌∙◌, flat_map}
-use Rattle.jsonb.specs.Compare.{compare}
-use Rattle.jsonb.specs.Private.Selection.{values_view}
-use Rattle.jsonb.specs.Values.{values_of_item}
-use Rattle.jsonb.specs.declared.selector.document.Expressions.TheVariants.{AreRefused}
+use Rattle.jsonb.proofs.Common.{◌≡◌, Ok, ap, sym, ◌∙◌, flat_map, compare, values_view, values_of_item, AreRefused}
 use Rattle.jsonb.proofs.RefinesLemmas.{failed_as, same_outcome, first_refused, second_refused, followed, only_memory}
 use Rattle.jsonb.proofs.TestLemmas.{both_members}
 use Rattle.jsonb.proofs.selector.evaluate.members_truth.Goals as goal

@@ -1,4 +1,4 @@
-use Rattle.std.proofs.Common.{Ok, ap, sym, ◌∙◌}
+use Rattle.jsonb.proofs.Common.{Ok, ap, sym, ◌∙◌}
 use Rattle.jsonb.proofs.RefinesLemmas.{failed_as, same_outcome, refused_as, given_by}
 use Rattle.jsonb.proofs.selector.evaluate.push_tested.Goals as goal
 

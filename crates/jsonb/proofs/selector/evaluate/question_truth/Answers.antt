@@ -1,10 +1,4 @@
-use Rattle.std.proofs.Common.{[], ◌∷◌, Ok, Some, ap, sym, ◌∙◌, refl}
-use Rattle.jsonb_doc.specs.Answer.{and_then}
-use Rattle.jsonb_doc.specs.Representation.Positions.{Locates}
-use Rattle.jsonb.specs.Meaning.{steps_meaning, is_some_item}
-use Rattle.jsonb.specs.PathTree.{steps_of}
-use Rattle.jsonb.specs.PathViews.{steps_view}
-use Rattle.jsonb.specs.declared.selector.document.Expressions.TheVariants.{AreRefused}
+use Rattle.jsonb.proofs.Common.{[], ◌∷◌, Ok, Some, ap, sym, ◌∙◌, refl, and_then, Locates, steps_meaning, is_some_item, steps_of, steps_view, AreRefused}
 use Rattle.jsonb.proofs.RefinesLemmas.{failed_as, same_outcome, first_refused, one_ok}
 use Rattle.jsonb.proofs.KeptLemmas.{known}
 use Rattle.jsonb.proofs.StepLemmas.{refused_steps}

@@ -1,5 +1,4 @@
-use Rattle.jsonb.specs.PathTree.{filter}
-use Rattle.jsonb.specs.Meaning.{step_meaning}
+use Rattle.jsonb.proofs.Common.{filter, step_meaning}
 use Rattle.jsonb.proofs.RefinesLemmas.{failed_as}
 use Rattle.jsonb.proofs.Progress.{none_passed, spot_passed, spot_not_passed, all_passed}
 use Rattle.jsonb.proofs.TestLemmas.{no_tests}

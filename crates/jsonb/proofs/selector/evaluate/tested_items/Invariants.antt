@@ -1,10 +1,4 @@
-use Rattle.std.proofs.Common.{List}
-use Rattle.jsonb_doc.specs.Representation.Positions.{Locates}
-use Rattle.jsonb_doc.specs.Tree.{Tree}
-use Rattle.jsonb.specs.PathTree.{Expression, filter}
-use Rattle.std.specs.List.{AllZip}
-use Rattle.jsonb.specs.Private.Tests.{ArePlainTestsOf}
-use Rattle.jsonb.specs.Meaning.{step_meaning}
+use Rattle.jsonb.proofs.Common.{List, Locates, Tree, Expression, filter, AllZip, ArePlainTestsOf, step_meaning}
 use Rattle.jsonb.proofs.Progress.{SpotsPassed}
 use Rattle.jsonb.proofs.selector.evaluate.tested_items.Given as goal
 

@@ -1,9 +1,4 @@
-use Rattle.std.proofs.Common.{◌-◌, Ok, ap, ◌∙◌, refl, sym, arith}
-use Rattle.std.proofs.Math.Seq.{take-length}
-use Rattle.jsonb_doc.specs.Answer.{and_then}
-use Rattle.jsonb.specs.Meaning.{filtered}
-use Rattle.jsonb.specs.Private.Jumps.{evaluated}
-use Rattle.jsonb.specs.Private.Tests.{IsPlainQuestionOf}
+use Rattle.jsonb.proofs.Common.{◌-◌, Ok, ap, ◌∙◌, refl, sym, arith, take-length, and_then, filtered, evaluated, IsPlainQuestionOf}
 use Rattle.jsonb.proofs.RefinesLemmas.{failed_as, same_outcome, first_of_three_refused}
 use Rattle.jsonb.proofs.KeptLemmas.{known, value_is}
 use Rattle.jsonb.proofs.TestLemmas.{next_test, test_done, no_test, settled}

@@ -1,8 +1,4 @@
-use Rattle.std.proofs.Common.{◌≡◌, ◌≤◌, List, length, take, reverse}
-use Rattle.jsonb_doc.specs.Representation.Positions.{Locates}
-use Rattle.jsonb_doc.specs.Tree.{Tree}
-use Rattle.jsonb.specs.Private.Jumps.{Branch, evaluated}
-use Rattle.jsonb.specs.Private.Tests.{IsPlainQuestionOf, AreBranches}
+use Rattle.jsonb.proofs.Common.{◌≡◌, ◌≤◌, List, length, take, reverse, Locates, Tree, Branch, evaluated, IsPlainQuestionOf, AreBranches}
 use Rattle.jsonb.proofs.selector.evaluate.tests_truth.Given as goal
 
 -- the tests that are left, from where the condition continues, have the truth of all

@@ -1,6 +1,4 @@
-use Rattle.std.proofs.Common.{◌≡◌, true, rules, ◌∙◌}
-use Rattle.jsonb.specs.PathViews.{expression_view}
-use Rattle.jsonb.specs.Private.FilterCache.{is_fixed}
+use Rattle.jsonb.proofs.Common.{◌≡◌, true, rules, ◌∙◌, expression_view, is_fixed}
 use Rattle.jsonb.proofs.KeptLemmas.{fixed_truth}
 use Rattle.jsonb.proofs.selector.filter_cache.comparison_part.Goals as goal
 

@@ -1,9 +1,8 @@
-use Rattle.std.proofs.Common.{sym, subst, ◌≤◌, IfOk}
+use Rattle.jsonb.proofs.Common.{sym, subst, ◌≤◌, IfOk, question_weight, asked_weight}
 use Rattle.jsonb.proofs.RefinesLemmas.{err_is}
 use Rattle.jsonb.proofs.KeptLemmas.{value_is}
 use Rattle.jsonb.proofs.TestLemmas.{plain_question, no_conditions}
 use Rattle.jsonb.proofs.selector.filters.ask.Goals as goal
-use Rattle.jsonb.specs.Private.Weights.{question_weight, asked_weight}
 
 pub returns-in-Some-clause-meant : goal.returns-in-Some-clause-meant
 returns-in-Some-clause-meant c = λ top t all more e r s is kept.

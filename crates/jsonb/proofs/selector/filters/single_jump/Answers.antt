@@ -1,6 +1,4 @@
-use Rattle.std.proofs.Common.{sym, ap, ◌∙◌}
-use Rattle.jsonb.specs.Private.Asking.{at_first}
-use Rattle.jsonb.specs.Private.Jumps.{next_jump}
+use Rattle.jsonb.proofs.Common.{sym, ap, ◌∙◌, at_first, next_jump}
 use Rattle.jsonb.proofs.AskingLemmas.{single_step}
 use Rattle.jsonb.proofs.selector.filters.single_jump.Goals as goal
 

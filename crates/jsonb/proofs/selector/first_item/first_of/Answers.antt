@@ -1,5 +1,4 @@
-use Rattle.std.proofs.Common.{arith, sym}
-use Rattle.jsonb_doc.specs.Representation.Positions.{Locates}
+use Rattle.jsonb.proofs.Common.{arith, sym, Locates}
 use Rattle.jsonb.proofs.FirstItems.{place_first}
 use Rattle.jsonb.proofs.selector.first_item.first_of.Goals as goal
 

@@ -1,4 +1,4 @@
-use Rattle.std.proofs.Common.{◌≡◌, take, map}
+use Rattle.jsonb.proofs.Common.{◌≡◌, take, map}
 use Rattle.jsonb.specs.declared.selector.found.FoundItem.TheVariants.{Number}
 use Rattle.jsonb.proofs.selector.found.found_numbers.Given as goal
 

@@ -1,5 +1,4 @@
-use Rattle.std.proofs.Common.{◌≡◌, take, map}
-use Rattle.jsonb.specs.declared.selector.found.FoundItem.TheVariants.{At}
+use Rattle.jsonb.proofs.Common.{◌≡◌, take, map, At}
 use Rattle.jsonb.proofs.selector.found.found_spots.Given as goal
 
 abbrev pub invariant-loop-spot : goal.invariant-loop-spot

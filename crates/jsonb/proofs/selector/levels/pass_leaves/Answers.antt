@@ -1,8 +1,4 @@
-use Rattle.std.proofs.Common.{◌≡◌, ◌∷◌, [], ◌<◌, ap, sym, ◌∙◌, arith, if◌then◌else◌}
-use Rattle.jsonb_doc.proofs.SpotsTaken.{no_refusal}
-use Rattle.jsonb_doc.specs.AnyBytes.Spots.{spots_bound}
-use Rattle.jsonb_doc.specs.Tree.{children_of}
-use Rattle.jsonb.specs.Preorder.{preorder}
+use Rattle.jsonb.proofs.Common.{◌≡◌, ◌∷◌, [], ◌<◌, ap, sym, ◌∙◌, arith, if◌then◌else◌, no_refusal, spots_bound, children_of, preorder}
 use Rattle.jsonb.proofs.BelowLemmas.{none_passed, leaf_passed, next_left, none_left}
 use Rattle.jsonb.proofs.LevelLemmas.{preorder-leaf}
 use Rattle.jsonb.proofs.Progress.{spot_first, spot_end}

@@ -1,10 +1,4 @@
-use Rattle.std.proofs.Common.{◌≡◌, ◌≤◌, ℕ, List, Option}
-use Rattle.jsonb_doc.specs.Representation.Positions.{Locates, HasSpotsLeft}
-use Rattle.jsonb_doc.specs.AnyBytes.Spots.{spots_room, spots_bound}
-use Rattle.jsonb_doc.specs.Tree.{Tree}
-use Rattle.jsonb.specs.PathTree.{Levels}
-use Rattle.jsonb.specs.Preorder.{answer_at}
-use Rattle.std.specs.List.{AllZip}
+use Rattle.jsonb.proofs.Common.{◌≡◌, ◌≤◌, ℕ, List, Option, Locates, HasSpotsLeft, spots_room, spots_bound, Tree, Levels, answer_at, AllZip}
 use Rattle.jsonb.proofs.BelowLemmas.{PassedSo}
 use Rattle.jsonb.proofs.selector.levels.pass_leaves.Given as goal
 

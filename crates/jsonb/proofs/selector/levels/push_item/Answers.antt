@@ -1,6 +1,4 @@
-use Rattle.std.proofs.Common.{arith}
-use Rattle.jsonb_doc.specs.Tree.{children_of}
-use Rattle.jsonb_doc.proofs.SpotsTaken.{some_spots, no_spots}
+use Rattle.jsonb.proofs.Common.{arith, children_of, some_spots, no_spots}
 use Rattle.jsonb.proofs.LevelLemmas.{preorder-entered, preorder-leaf}
 use Rattle.jsonb.proofs.LevelRanges.{range_taken, preorder-passed}
 use Rattle.jsonb.proofs.selector.levels.push_item.Goals as goal

@@ -1,4 +1,4 @@
-use Rattle.std.proofs.Common.{inl, sym, refl, arith}
+use Rattle.jsonb.proofs.Common.{inl, sym, refl, arith}
 use Rattle.jsonb.proofs.RefinesLemmas.{answered, failed_with}
 use Rattle.jsonb.proofs.BelowLemmas.{no_levels, walk_begun, leaves_passed, all_passed, item_passed, item_entered, level_done, walk_done, told_first, falls_within, falls_beside, falls_done}
 use Rattle.jsonb.proofs.LevelRanges.{range_taken}

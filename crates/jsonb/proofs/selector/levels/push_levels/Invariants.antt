@@ -1,9 +1,4 @@
-use Rattle.std.proofs.Common.{◌≡◌, ◌++◌, ◌+◌, ℕ, List, min}
-use Rattle.std.specs.Prelude.{reverse}
-use Rattle.jsonb_doc.specs.Representation.Positions.{Locates}
-use Rattle.jsonb_doc.specs.Tree.{Tree}
-use Rattle.jsonb.specs.Preorder.{preorder}
-use Rattle.std.specs.List.{AllZip}
+use Rattle.jsonb.proofs.Common.{◌≡◌, ◌++◌, ◌+◌, ℕ, List, min, reverse, Locates, Tree, preorder, AllZip}
 use Rattle.jsonb.proofs.BelowLemmas.{Walked, weight, weights}
 use Rattle.jsonb.proofs.selector.levels.push_levels.Given as goal
 

@@ -1,6 +1,4 @@
-use Rattle.std.proofs.Common.{◌≡◌, drop}
-use Rattle.jsonb.specs.PathViews.{steps_view}
-use Rattle.jsonb.specs.Private.Members.{are_members}
+use Rattle.jsonb.proofs.Common.{◌≡◌, drop, steps_view, are_members}
 use Rattle.jsonb.proofs.selector.members.are_members.Given as goal
 
 abbrev pub invariant-loop-step : goal.invariant-loop-step

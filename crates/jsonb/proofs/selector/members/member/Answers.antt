@@ -1,11 +1,4 @@
-use Rattle.std.proofs.Common.{◌+◌, ◌∷◌, [], IsOkAnd, map, drop, ap, sym, ◌∙◌, subst}
-use Rattle.std.proofs.Math.ListN.{drop_of_length-le}
-use Rattle.jsonb_doc.specs.Representation.Positions.{Locates}
-use Rattle.jsonb.specs.PathTree.{steps_of}
-use Rattle.jsonb.specs.PathViews.{step_view, steps_view}
-use Rattle.std.specs.List.{AllZip}
-use Rattle.jsonb.specs.Meaning.{step_meaning, steps_meaning}
-use Rattle.jsonb.specs.Private.Selection.{option_spots, taken_step}
+use Rattle.jsonb.proofs.Common.{◌+◌, ◌∷◌, [], IsOkAnd, map, drop, ap, sym, ◌∙◌, subst, drop_of_length-le, Locates, steps_of, step_view, steps_view, AllZip, step_meaning, steps_meaning, option_spots, taken_step}
 use Rattle.jsonb.proofs.RefinesLemmas.{failed_as, same_outcome, first_refused, one_ok, continued}
 use Rattle.jsonb.proofs.MemberLemmas.{none_left, no_member, one_member, member_first, member_next}
 use Rattle.jsonb.proofs.selector.members.member.Goals as goal

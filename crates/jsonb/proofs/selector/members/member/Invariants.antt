@@ -1,12 +1,4 @@
-use Rattle.std.proofs.Common.{◌≡◌, ◌∷◌, [], drop, map, true}
-use Rattle.jsonb_doc.specs.Representation.Positions.{Locates}
-use Rattle.jsonb_doc.specs.Tree.{Tree}
-use Rattle.jsonb.specs.PathTree.{steps_of}
-use Rattle.jsonb.specs.PathViews.{steps_view}
-use Rattle.jsonb.specs.Meaning.{steps_meaning}
-use Rattle.jsonb.specs.Private.Members.{are_members}
-use Rattle.jsonb.specs.Private.Selection.{taken_step}
-use Rattle.jsonb.specs.declared.selector.document.Expressions.{Expressions}
+use Rattle.jsonb.proofs.Common.{◌≡◌, ◌∷◌, [], drop, map, true, Locates, Tree, steps_of, steps_view, steps_meaning, are_members, taken_step, Expressions}
 use Rattle.jsonb.proofs.selector.members.member.Given as goal
 
 -- what the steps that are left give of the item is what all give of the first

@@ -1,6 +1,4 @@
-use Rattle.std.proofs.Common.{ap, sym, ◌∙◌}
-use Rattle.jsonb.specs.ItemSteps.{field_step}
-use Rattle.jsonb.specs.Meaning.{step_meaning}
+use Rattle.jsonb.proofs.Common.{ap, sym, ◌∙◌, field_step, step_meaning}
 use Rattle.jsonb.proofs.PathNodes.{dot_field_is, colon_field_is, object_field_is}
 use Rattle.jsonb.proofs.selector.members.member_name.Goals as goal
 

@@ -1,9 +1,4 @@
-use Rattle.std.proofs.Common.{◌≡◌, arith, true, false, List, [], ◌∷◌, refl, sym, subst, ◌∙◌}
-use Rattle.jsonb_doc.specs.Tree.{Tree}
-use Rattle.jsonb.specs.PathTree.{Step, current, steps_of}
-use Rattle.jsonb.specs.PathViews.{steps_view}
-use Rattle.jsonb.specs.Meaning.{start}
-use Rattle.jsonb.specs.Private.Selection.{IsAt, is_relative}
+use Rattle.jsonb.proofs.Common.{◌≡◌, arith, true, false, List, [], ◌∷◌, refl, sym, subst, ◌∙◌, Tree, Step, current, steps_of, steps_view, start, IsAt, is_relative}
 use Rattle.jsonb.proofs.selector.members.start_spot.Goals as goal
 
 at_item : (steps : List Step) (top t : Tree) → is_relative steps ≡ true → start (steps_of steps) top t ≡ t

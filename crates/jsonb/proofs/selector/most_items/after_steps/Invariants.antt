@@ -1,7 +1,4 @@
-use Rattle.std.proofs.Common.{◌≡◌, drop}
-use Rattle.jsonb.specs.MostItems.{after_steps}
-use Rattle.jsonb.specs.PathTree.{steps_of}
-use Rattle.jsonb.specs.PathViews.{steps_view}
+use Rattle.jsonb.proofs.Common.{◌≡◌, drop, after_steps, steps_of, steps_view}
 use Rattle.jsonb.proofs.selector.most_items.after_steps.Given as goal
 
 -- the steps that are left make of this list what all make of the first

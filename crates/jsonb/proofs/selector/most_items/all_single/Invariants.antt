@@ -1,6 +1,4 @@
-use Rattle.std.proofs.Common.{◌≡◌, drop}
-use Rattle.std.specs.List.{list_all}
-use Rattle.jsonb.specs.MostItems.{is_single}
+use Rattle.jsonb.proofs.Common.{◌≡◌, drop, list_all, is_single}
 use Rattle.jsonb.proofs.selector.most_items.all_single.Given as goal
 
 abbrev pub invariant-loop-entry : goal.invariant-loop-entry

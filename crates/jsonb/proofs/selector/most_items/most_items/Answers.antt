@@ -1,6 +1,4 @@
-use Rattle.std.proofs.Common.{ap, arith}
-use Rattle.std.specs.List.{sum_by}
-use Rattle.jsonb.specs.Private.Counted.{waiting_items}
+use Rattle.jsonb.proofs.Common.{ap, arith, sum_by, waiting_items}
 use Rattle.jsonb.proofs.TestLemmas.{none_waiting}
 use Rattle.jsonb.proofs.selector.most_items.most_items.Goals as goal
 

@@ -1,7 +1,5 @@
-use Rattle.std.proofs.Common.{◌≡◌}
-use Rattle.jsonb.specs.MostItems.{capped, most_items}
-use Rattle.jsonb.specs.PathViews.{steps_view}
-use Rattle.jsonb.specs.Private.Counted.{total, waiting_parts}
+use Rattle.jsonb.proofs.Common.{◌≡◌, capped, most_items, steps_view, total}
+use Rattle.jsonb.specs.Private.Counted.{waiting_parts}
 use Rattle.jsonb.proofs.selector.most_items.most_items.Given as goal
 
 -- what is counted, and what waits, is what the path has

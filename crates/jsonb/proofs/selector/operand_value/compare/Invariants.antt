@@ -1,6 +1,4 @@
-use Rattle.std.proofs.Common.{◌≡◌, ◌++◌, ◌+◌, map, flat_map, drop}
-use Rattle.jsonb.specs.Compare.{compare, first_decisive, pair_truth}
-use Rattle.jsonb.specs.Private.Selection.{value_view}
+use Rattle.jsonb.proofs.Common.{◌≡◌, ◌++◌, ◌+◌, map, flat_map, drop, compare, first_decisive, pair_truth, value_view}
 use Rattle.jsonb.proofs.selector.operand_value.compare.Given as goal
 
 -- the pairs that are left decide

@@ -1,8 +1,4 @@
-use Rattle.std.proofs.Common.{Some, ap, sym, ◌∙◌}
-use Rattle.std.proofs.lemmas.Map.Text.{is_eq-slice_cmp}
-use Rattle.std.specs.Prelude.{not}
-use Rattle.jsonb.specs.Compare.{pair_truth}
-use Rattle.jsonb.specs.Private.Selection.{value_view}
+use Rattle.jsonb.proofs.Common.{Some, ap, sym, ◌∙◌, is_eq-slice_cmp, not, pair_truth, value_view}
 use Rattle.jsonb.proofs.selector.operand_value.pair_truth.Goals as goal
 
 pub returns-in-Eq-String-String : goal.returns-in-Eq-String-String

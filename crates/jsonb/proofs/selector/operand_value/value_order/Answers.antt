@@ -1,7 +1,4 @@
-use Rattle.std.proofs.Common.{Some, ap, sym, ◌∙◌}
-use Rattle.jsonb_doc.proofs.EqualValues.{number_cmp-number_view}
-use Rattle.jsonb.specs.Compare.{value_order}
-use Rattle.jsonb.specs.Private.Selection.{value_view}
+use Rattle.jsonb.proofs.Common.{Some, ap, sym, ◌∙◌, number_cmp-number_view, value_order, value_view}
 use Rattle.jsonb.proofs.selector.operand_value.value_order.Goals as goal
 
 pub returns-in-Number-Number : goal.returns-in-Number-Number

@@ -1,9 +1,4 @@
-use Rattle.std.proofs.Common.{◌≡◌, ◌≤◌, IfOk, ap, sym, ◌∙◌, subst}
-use Rattle.jsonb.specs.PathTree.{paths, steps_of}
-use Rattle.jsonb.specs.PathViews.{steps_view, expression_view}
-use Rattle.jsonb.specs.Meaning.{operand_values}
-use Rattle.jsonb.specs.Private.Operands.{IsOperand}
-use Rattle.jsonb.specs.Private.Weights.{operand_weight, weight}
+use Rattle.jsonb.proofs.Common.{◌≡◌, ◌≤◌, IfOk, ap, sym, ◌∙◌, subst, paths, steps_of, steps_view, expression_view, operand_values, IsOperand, operand_weight, weight}
 use Rattle.jsonb.proofs.PathNodes.{paths_is}
 use Rattle.jsonb.proofs.selector.operands.operand_of.Goals as goal
 

@@ -1,12 +1,5 @@
-use Rattle.std.proofs.Common.{[], ◌∷◌, IsOkAnd, ap, sym, ◌∙◌, subst}
+use Rattle.jsonb.proofs.Common.{[], ◌∷◌, IsOkAnd, ap, sym, ◌∙◌, subst, steps_of, steps_view, steps_meaning, HasSame, node_spots, AreRefused, AreDropped}
 use Rattle.jsonb.proofs.RefinesLemmas.{err_is}
-use Rattle.jsonb.specs.PathTree.{steps_of}
-use Rattle.jsonb.specs.PathViews.{steps_view}
-use Rattle.jsonb.specs.Meaning.{steps_meaning}
-use Rattle.jsonb.specs.Private.Alike.{HasSame}
-use Rattle.jsonb.specs.Private.Selection.{node_spots}
-use Rattle.jsonb.specs.declared.selector.document.Expressions.TheVariants.{AreRefused}
-use Rattle.jsonb.specs.declared.selector.document.Repeats.TheVariants.{AreDropped}
 use Rattle.jsonb.proofs.OperandLemmas.{as_refused}
 use Rattle.jsonb.proofs.RepeatLemmas.{with_repeats}
 use Rattle.jsonb.proofs.StepLemmas.{refused_steps}

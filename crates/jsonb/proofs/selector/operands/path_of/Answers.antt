@@ -1,9 +1,4 @@
-use Rattle.std.proofs.Common.{[], ◌∷◌, sym, subst}
-use Rattle.jsonb.specs.PathTree.{steps_of}
-use Rattle.jsonb.specs.PathViews.{steps_view}
-use Rattle.jsonb.specs.Meaning.{steps_meaning}
-use Rattle.jsonb.specs.Private.Alike.{SameOutcomes}
-use Rattle.jsonb.specs.declared.selector.document.Repeats.TheVariants.{AreDropped}
+use Rattle.jsonb.proofs.Common.{[], ◌∷◌, sym, subst, steps_of, steps_view, steps_meaning, SameOutcomes, AreDropped}
 use Rattle.jsonb.proofs.RepeatLemmas.{same_outcome_itself}
 use Rattle.jsonb.proofs.StepLemmas.{refused_steps}
 use Rattle.jsonb.proofs.selector.operands.path_of.Goals as goal

@@ -1,11 +1,5 @@
-use Rattle.std.proofs.Common.{[], ◌∷◌, refl, ap, inl, arith}
+use Rattle.jsonb.proofs.Common.{[], ◌∷◌, refl, ap, inl, arith, steps_of, steps_view, steps_meaning, start, values_found, node_spots, values_view, progress_weight}
 use Rattle.jsonb.proofs.RefinesLemmas.{err_is}
-use Rattle.jsonb.specs.PathTree.{steps_of}
-use Rattle.jsonb.specs.PathViews.{steps_view}
-use Rattle.jsonb.specs.Meaning.{steps_meaning, start}
-use Rattle.jsonb.specs.Private.Operands.{values_found}
-use Rattle.jsonb.specs.Private.Selection.{node_spots, values_view}
-use Rattle.jsonb.specs.Private.Weights.{progress_weight}
 use Rattle.jsonb.proofs.OperandLemmas.{values_known, read_fails, as_refused}
 use Rattle.jsonb.proofs.selector.operands.path_operand.Goals as goal
 

@@ -1,5 +1,4 @@
-use Rattle.std.proofs.Common.{◌≡◌, drop}
-use Rattle.jsonb.specs.Private.Tests.{are_plain}
+use Rattle.jsonb.proofs.Common.{◌≡◌, drop, are_plain}
 use Rattle.jsonb.proofs.selector.plan.are_plain.Given as goal
 
 abbrev pub invariant-loop-test : goal.invariant-loop-test

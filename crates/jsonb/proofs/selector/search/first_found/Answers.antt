@@ -1,10 +1,4 @@
-use Rattle.std.proofs.Common.{◌∷◌, [], None, Err, ap, sym, ◌∙◌, refl, arith, subst}
-use Rattle.std.proofs.lemmas.List.{nil_from_length}
-use Rattle.std.proofs.lemmas.Result.{err_from_is_err_and}
-use Rattle.jsonb.specs.PathTree.{steps_of}
-use Rattle.jsonb.specs.Meaning.{steps_meaning}
-use Rattle.jsonb.specs.Private.Search.{HasItems, IsReached}
-use Rattle.jsonb.specs.declared.selector.document.Mode.TheVariants.{Lax}
+use Rattle.jsonb.proofs.Common.{◌∷◌, [], None, Err, ap, sym, ◌∙◌, refl, arith, subst, nil_from_length, err_from_is_err_and, steps_of, steps_meaning, HasItems, IsReached, Lax}
 use Rattle.jsonb.specs.declared.selector.search.Reached.TheVariants as reached
 use Rattle.jsonb.proofs.SearchLemmas.{Searching, taken_first, taken_none, found_at_most, search_begun, item_found, item_passed, items_entered, items_done, search_done, refused_if_any}
 use Rattle.jsonb.proofs.selector.search.first_found.Goals as goal

@@ -1,10 +1,4 @@
-use Rattle.std.proofs.Common.{◌∷◌, [], List}
-use Rattle.jsonb_doc.specs.Representation.Positions.{Locates}
-use Rattle.jsonb_doc.specs.Tree.{Tree}
-use Rattle.jsonb.specs.PathTree.{Step, steps_of}
-use Rattle.jsonb.specs.Meaning.{steps_meaning}
-use Rattle.jsonb.specs.Private.Search.{IsAhead, HasItems}
-use Rattle.jsonb.specs.declared.selector.document.Mode.TheVariants.{Lax}
+use Rattle.jsonb.proofs.Common.{◌∷◌, [], List, Locates, Tree, Step, steps_of, steps_meaning, IsAhead, HasItems, Lax}
 use Rattle.jsonb.proofs.SearchLemmas.{Searching}
 use Rattle.jsonb.proofs.selector.search.first_found.Given as goal
 

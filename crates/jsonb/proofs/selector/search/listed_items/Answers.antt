@@ -1,8 +1,4 @@
-use Rattle.std.proofs.Common.{[], Err, ap, sym, ◌∙◌, subst}
-use Rattle.std.proofs.lemmas.Result.{err_from_is_err_and}
-use Rattle.jsonb_doc.specs.Representation.Positions.{Locates}
-use Rattle.std.specs.List.{AllZip}
-use Rattle.jsonb.specs.PathViews.{step_view}
+use Rattle.jsonb.proofs.Common.{[], Err, ap, sym, ◌∙◌, subst, err_from_is_err_and, Locates, AllZip, step_view}
 use Rattle.jsonb.proofs.RefinesLemmas.{same_answer, refused_as, given_by}
 use Rattle.jsonb.proofs.SearchLemmas.{no_filter}
 use Rattle.jsonb.proofs.selector.search.listed_items.Goals as goal

@@ -1,8 +1,4 @@
-use Rattle.std.proofs.Common.{[], map, subst}
-use Rattle.std.proofs.lemmas.List.{take_all}
-use Rattle.jsonb.specs.PathViews.{steps_view}
-use Rattle.jsonb.specs.Private.Search.{AreAhead}
-use Rattle.jsonb.specs.Private.Selection.{taken_step}
+use Rattle.jsonb.proofs.Common.{[], map, subst, take_all, steps_view, AreAhead, taken_step}
 use Rattle.jsonb.proofs.SearchLemmas.{searched_more, plain_last}
 use Rattle.jsonb.proofs.selector.search.outline_of.Goals as goal
 

@@ -1,7 +1,4 @@
-use Rattle.std.proofs.Common.{◌≡◌, [], false, map, take}
-use Rattle.jsonb.specs.PathViews.{steps_view}
-use Rattle.jsonb.specs.Private.Search.{AreAhead}
-use Rattle.jsonb.specs.Private.Selection.{taken_step}
+use Rattle.jsonb.proofs.Common.{◌≡◌, [], false, map, take, steps_view, AreAhead, taken_step}
 use Rattle.jsonb.proofs.selector.search.outline_of.Given as goal
 
 abbrev pub invariant-loop-step : goal.invariant-loop-step

@@ -1,6 +1,4 @@
-use Rattle.std.proofs.Common.{ap}
-use Rattle.jsonb.specs.Meaning.{step_meaning}
-use Rattle.jsonb.specs.declared.selector.document.Mode.TheVariants.{Lax}
+use Rattle.jsonb.proofs.Common.{ap, step_meaning, Lax}
 use Rattle.jsonb.proofs.PathNodes.{values_is, elements_is}
 use Rattle.jsonb.proofs.RefinesLemmas.{same_outcome}
 use Rattle.jsonb.proofs.selector.search.plain_items.Goals as goal

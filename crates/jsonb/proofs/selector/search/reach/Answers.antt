@@ -1,11 +1,5 @@
-use Rattle.std.proofs.Common.{◌∷◌, [], Err, ap, sym, ◌∙◌, refl, subst}
-use Rattle.std.proofs.lemmas.Result.{err_from_is_err_and}
+use Rattle.jsonb.proofs.Common.{◌∷◌, [], Err, ap, sym, ◌∙◌, refl, subst, err_from_is_err_and, IsOutOfMemory, steps_of, step_meaning, steps_meaning, AreGiven, IsReached, Lax}
 use Rattle.std.specs.Result.{MatchResult}
-use Rattle.jsonb_doc.specs.Answer.{IsOutOfMemory}
-use Rattle.jsonb.specs.PathTree.{steps_of}
-use Rattle.jsonb.specs.Meaning.{step_meaning, steps_meaning}
-use Rattle.jsonb.specs.Private.Search.{AreGiven, IsReached}
-use Rattle.jsonb.specs.declared.selector.document.Mode.TheVariants.{Lax}
 use Rattle.jsonb.specs.declared.selector.search.StepItems.TheVariants as given
 use Rattle.jsonb.proofs.MemberLemmas.{none_left}
 use Rattle.jsonb.proofs.SearchLemmas.{searched_total, first_step, no_step, memory_alone, step_taken, given_none, given_one}

@@ -1,10 +1,4 @@
-use Rattle.std.proofs.Common.{◌≡◌, ◌∷◌, [], List, length}
-use Rattle.jsonb_doc.specs.Representation.Positions.{Locates}
-use Rattle.jsonb_doc.specs.Tree.{Tree}
-use Rattle.jsonb.specs.PathTree.{Step, steps_of}
-use Rattle.jsonb.specs.Meaning.{steps_meaning}
-use Rattle.jsonb.specs.Private.Search.{IsAhead}
-use Rattle.jsonb.specs.declared.selector.document.Mode.TheVariants.{Lax}
+use Rattle.jsonb.proofs.Common.{◌≡◌, ◌∷◌, [], List, length, Locates, Tree, Step, steps_of, steps_meaning, IsAhead, Lax}
 use Rattle.jsonb.proofs.selector.search.reach.Given as goal
 
 -- what the steps that are left make of the item is what all make of the first

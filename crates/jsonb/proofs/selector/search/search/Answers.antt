@@ -1,5 +1,4 @@
-use Rattle.std.proofs.Common.{Err, ap, sym, ◌∙◌}
-use Rattle.std.proofs.lemmas.Result.{err_from_is_err_and}
+use Rattle.jsonb.proofs.Common.{Err, ap, sym, ◌∙◌, err_from_is_err_and}
 use Rattle.jsonb.proofs.SearchLemmas.{first_refused_too, first_member}
 use Rattle.jsonb.proofs.selector.search.search.Goals as goal
 

@@ -1,7 +1,4 @@
-use Rattle.std.proofs.Common.{Err, ap, sym, ◌∙◌, subst}
-use Rattle.std.proofs.lemmas.Result.{err_from_is_err_and}
-use Rattle.jsonb.specs.Private.Search.{AreGiven}
-use Rattle.jsonb.specs.Private.Tests.{ArePlainTestsOf}
+use Rattle.jsonb.proofs.Common.{Err, ap, sym, ◌∙◌, subst, err_from_is_err_and, AreGiven, ArePlainTestsOf}
 use Rattle.jsonb.proofs.RefinesLemmas.{same_answer, refused_as, given_by}
 use Rattle.jsonb.proofs.TestLemmas.{no_tests}
 use Rattle.jsonb.proofs.selector.search.tested_item.Goals as goal

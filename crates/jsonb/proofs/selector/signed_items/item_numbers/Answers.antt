@@ -1,9 +1,4 @@
-use Rattle.std.proofs.Common.{[], map, ap}
-use Rattle.jsonb_doc.specs.Representation.Positions.{Locates}
-use Rattle.jsonb_doc.specs.View.{number_view}
-use Rattle.jsonb.specs.PathArithmetic.{all_numbers}
-use Rattle.std.specs.List.{AllZip}
-use Rattle.jsonb.specs.Values.{values_of_item}
+use Rattle.jsonb.proofs.Common.{[], map, ap, Locates, number_view, all_numbers, AllZip, values_of_item}
 use Rattle.jsonb.proofs.RefinesLemmas.{answered, failed_as, refused, same_outcome}
 use Rattle.jsonb.proofs.Progress.{no_spot, at_start, one_more, refused_in, at_end, list_first, list_end}
 use Rattle.jsonb.proofs.SignLemmas.{Behind, numbers_of_parts, more_behind}

@@ -1,10 +1,4 @@
-use Rattle.std.proofs.Common.{List, [], drop}
-use Rattle.jsonb_doc.specs.Answer.{try_flat_map}
-use Rattle.jsonb_doc.specs.Representation.Positions.{Locates}
-use Rattle.jsonb_doc.specs.Tree.{Tree}
-use Rattle.jsonb.specs.PathArithmetic.{all_numbers}
-use Rattle.std.specs.List.{AllZip}
-use Rattle.jsonb.specs.Values.{values_of_item}
+use Rattle.jsonb.proofs.Common.{List, [], drop, try_flat_map, Locates, Tree, all_numbers, AllZip, values_of_item}
 use Rattle.jsonb.proofs.Progress.{Progress}
 use Rattle.jsonb.proofs.SignLemmas.{Behind}
 use Rattle.jsonb.proofs.selector.signed_items.item_numbers.Given as goal

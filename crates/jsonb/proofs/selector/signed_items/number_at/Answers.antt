@@ -1,4 +1,4 @@
-use Rattle.std.proofs.Common.{ap, sym, ◌∙◌}
+use Rattle.jsonb.proofs.Common.{ap, sym, ◌∙◌}
 use Rattle.jsonb_doc.specs.Tree.{number}
 use Rattle.jsonb.proofs.selector.signed_items.number_at.Goals as goal
 

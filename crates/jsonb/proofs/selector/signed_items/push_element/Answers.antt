@@ -1,6 +1,4 @@
-use Rattle.std.proofs.Common.{ap}
-use Rattle.jsonb.specs.PathArithmetic.{all_numbers}
-use Rattle.jsonb.specs.Values.{value_of_item}
+use Rattle.jsonb.proofs.Common.{ap, all_numbers, value_of_item}
 use Rattle.jsonb.proofs.RefinesLemmas.{same_outcome}
 use Rattle.jsonb.proofs.SignLemmas.{number_pushed}
 use Rattle.jsonb.proofs.selector.signed_items.push_element.Goals as goal

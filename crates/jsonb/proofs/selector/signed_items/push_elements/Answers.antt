@@ -1,8 +1,4 @@
-use Rattle.std.proofs.Common.{map, sym, append-nil}
-use Rattle.jsonb_doc.specs.Representation.Positions.{HasSpotsLeft}
-use Rattle.jsonb_doc.specs.View.{number_view}
-use Rattle.jsonb.specs.PathArithmetic.{all_numbers}
-use Rattle.jsonb.specs.Values.{value_of_item}
+use Rattle.jsonb.proofs.Common.{map, sym, append-nil, HasSpotsLeft, number_view, all_numbers, value_of_item}
 use Rattle.jsonb.proofs.RefinesLemmas.{answered, failed_as, refused, same_outcome}
 use Rattle.jsonb.proofs.Progress.{at_start, one_more, refused_in, at_end, spot_first, spot_end, spot_refused}
 use Rattle.jsonb.proofs.SignLemmas.{Behind, numbers_of_parts, more_behind}

@@ -1,9 +1,4 @@
-use Rattle.std.proofs.Common.{List}
-use Rattle.jsonb_doc.specs.Answer.{try_flat_map}
-use Rattle.jsonb_doc.specs.Representation.Positions.{HasSpotsLeft}
-use Rattle.jsonb_doc.specs.Tree.{Tree}
-use Rattle.jsonb.specs.PathArithmetic.{all_numbers}
-use Rattle.jsonb.specs.Values.{value_of_item}
+use Rattle.jsonb.proofs.Common.{List, try_flat_map, HasSpotsLeft, Tree, all_numbers, value_of_item}
 use Rattle.jsonb.proofs.Progress.{Progress}
 use Rattle.jsonb.proofs.SignLemmas.{Behind}
 use Rattle.jsonb.proofs.selector.signed_items.push_elements.Given as goal

@@ -1,7 +1,4 @@
-use Rattle.std.proofs.Common.{ap, sym, append-nil, map, inr}
-use Rattle.jsonb_doc.specs.View.{number_view}
-use Rattle.jsonb.specs.PathArithmetic.{all_numbers}
-use Rattle.jsonb.specs.Values.{value_of_item}
+use Rattle.jsonb.proofs.Common.{ap, sym, append-nil, map, inr, number_view, all_numbers, value_of_item}
 use Rattle.jsonb.proofs.RefinesLemmas.{same_outcome}
 use Rattle.jsonb.proofs.SignLemmas.{no_number, number_pushed}
 use Rattle.jsonb.proofs.selector.signed_items.push_found.Goals as goal

@@ -1,7 +1,4 @@
-use Rattle.std.proofs.Common.{ap}
-use Rattle.jsonb_doc.proofs.SpotsTaken.{some_spots, no_spots}
-use Rattle.jsonb_raw.specs.Arrays.{array_values}
-use Rattle.jsonb.specs.PathArithmetic.{all_numbers}
+use Rattle.jsonb.proofs.Common.{ap, some_spots, no_spots, array_values, all_numbers}
 use Rattle.jsonb.proofs.ItemKinds.{values_of_array, other_values}
 use Rattle.jsonb.proofs.RefinesLemmas.{same_outcome}
 use Rattle.jsonb.proofs.selector.signed_items.push_other.Goals as goal

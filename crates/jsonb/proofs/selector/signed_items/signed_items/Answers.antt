@@ -1,9 +1,4 @@
-use Rattle.std.proofs.Common.{◌≡◌, ap, sym, ◌∙◌, map, arith}
-use Rattle.std.specs.Vec.{with_items}
-use Rattle.std.proofs.lemmas.List.{with_items_is}
-use Rattle.jsonb_doc.specs.Answer.{try_flat_map}
-use Rattle.jsonb_doc.specs.View.{number_view}
-use Rattle.jsonb.specs.PathArithmetic.{signed_number}
+use Rattle.jsonb.proofs.Common.{◌≡◌, ap, sym, ◌∙◌, map, arith, with_items, with_items_is, try_flat_map, number_view, signed_number}
 use Rattle.jsonb.proofs.RefinesLemmas.{failed_as, same_outcome, refused_as, first_refused, followed}
 use Rattle.jsonb.proofs.selector.signed_items.signed_items.Goals as goal
 

@@ -1,5 +1,4 @@
-use Rattle.std.proofs.Common.{ap}
-use Rattle.jsonb.specs.Private.Selection.{node_spots}
+use Rattle.jsonb.proofs.Common.{ap, node_spots}
 use Rattle.jsonb.proofs.selector.steps.begin.Goals as goal
 
 pub returns-in-One-clause-meant : goal.returns-in-One-clause-meant

@@ -1,11 +1,5 @@
-use Rattle.std.proofs.Common.{[], Err, ap, sym, ◌∙◌, ◌+◌, ◌<◌, arith}
+use Rattle.jsonb.proofs.Common.{[], Err, ap, sym, ◌∙◌, ◌+◌, ◌<◌, arith, steps_meaning, filtered_later, running_steps, item_tests, running_weight, progress_weight, at_filter_weight, tests_weight, filter_weight, turn_weight, frame_weight, around_weight, Frame}
 use Rattle.jsonb.proofs.RefinesLemmas.{err_is}
-use Rattle.jsonb.specs.Meaning.{steps_meaning}
-use Rattle.jsonb.specs.Private.Asking.{filtered_later}
-use Rattle.jsonb.specs.Private.Running.{running_steps}
-use Rattle.jsonb.specs.Private.Tests.{item_tests}
-use Rattle.jsonb.specs.Private.Weights.{running_weight, progress_weight, at_filter_weight, tests_weight, filter_weight, turn_weight, frame_weight, around_weight}
-use Rattle.jsonb.specs.declared.selector.filters.Frame.{Frame}
 use Rattle.jsonb.proofs.AroundLemmas.{onward_done, onward_waits}
 use Rattle.jsonb.proofs.WeightLemmas.{few_nodes, waits_weigh, beside, fewer_than}
 use Rattle.jsonb.proofs.selector.steps.begin_many.Goals as goal

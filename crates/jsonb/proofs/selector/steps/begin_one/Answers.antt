@@ -1,13 +1,5 @@
-use Rattle.std.proofs.Common.{Ok, Err, ap, sym, ◌∙◌, subst, ◌+◌, ◌<◌, arith}
+use Rattle.jsonb.proofs.Common.{Ok, Err, ap, sym, ◌∙◌, subst, ◌+◌, ◌<◌, arith, and_then, steps_meaning, truth, filtered, asking_tests, IsFilterWaiting, running_steps, IsAt, item_tests, next_weight, progress_weight, at_filter_weight, filter_weight, frame_weight, around_weight, Frame}
 use Rattle.jsonb.proofs.RefinesLemmas.{err_is}
-use Rattle.jsonb_doc.specs.Answer.{and_then}
-use Rattle.jsonb.specs.Meaning.{steps_meaning, truth, filtered}
-use Rattle.jsonb.specs.Private.Asking.{asking_tests, IsFilterWaiting}
-use Rattle.jsonb.specs.Private.Running.{running_steps}
-use Rattle.jsonb.specs.Private.Selection.{IsAt}
-use Rattle.jsonb.specs.Private.Tests.{item_tests}
-use Rattle.jsonb.specs.Private.Weights.{next_weight, progress_weight, at_filter_weight, filter_weight, frame_weight, around_weight}
-use Rattle.jsonb.specs.declared.selector.filters.Frame.{Frame}
 use Rattle.jsonb.proofs.AroundLemmas.{filter_one, one_waits, onward_done, onward_waits}
 use Rattle.jsonb.proofs.OperandLemmas.{as_refused}
 use Rattle.jsonb.proofs.StepLemmas.{only_one, kept_found}

@@ -1,8 +1,4 @@
-use Rattle.std.proofs.Common.{[], ◌∷◌, map}
-use Rattle.jsonb.specs.Meaning.{steps_meaning}
-use Rattle.jsonb.specs.PathTree.{steps_of}
-use Rattle.jsonb.specs.PathViews.{steps_view}
-use Rattle.jsonb.specs.Private.Selection.{taken_step}
+use Rattle.jsonb.proofs.Common.{[], ◌∷◌, map, steps_meaning, steps_of, steps_view, taken_step}
 use Rattle.jsonb.proofs.RefinesLemmas.{answered, failed_as}
 use Rattle.jsonb.proofs.RepeatLemmas.{same_outcome_itself}
 use Rattle.jsonb.proofs.selector.steps.listed_steps.Goals as goal

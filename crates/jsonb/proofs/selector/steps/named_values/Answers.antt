@@ -1,4 +1,4 @@
-use Rattle.jsonb_doc.specs.Representation.Positions.{Locates}
+use Rattle.jsonb.proofs.Common.{Locates}
 use Rattle.jsonb.proofs.RefinesLemmas.{answered, failed_with}
 use Rattle.jsonb.proofs.Progress.{no_spot, one_more, refused_in, at_end, list_first, list_end}
 use Rattle.jsonb.proofs.selector.steps.named_values.Goals as goal

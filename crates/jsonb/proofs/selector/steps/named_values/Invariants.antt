@@ -1,9 +1,4 @@
-use Rattle.std.proofs.Common.{List, drop}
-use Rattle.jsonb_doc.specs.Answer.{try_flat_map}
-use Rattle.jsonb_doc.specs.Representation.Positions.{Locates}
-use Rattle.jsonb_doc.specs.Tree.{Tree}
-use Rattle.std.specs.List.{AllZip}
-use Rattle.jsonb.specs.ItemSteps.{field_step}
+use Rattle.jsonb.proofs.Common.{List, drop, try_flat_map, Locates, Tree, AllZip, field_step}
 use Rattle.jsonb.proofs.Progress.{Progress}
 use Rattle.jsonb.proofs.selector.steps.named_values.Given as goal
 

@@ -1,8 +1,4 @@
-use Rattle.std.proofs.Common.{Ok, flat_map, ap, ◌∙◌}
-use Rattle.jsonb_doc.specs.Answer.{and_then}
-use Rattle.jsonb.specs.Values.{values_of_item}
-use Rattle.jsonb.specs.Meaning.{operand_values}
-use Rattle.jsonb.specs.Private.Selection.{values_view}
+use Rattle.jsonb.proofs.Common.{Ok, flat_map, ap, ◌∙◌, and_then, values_of_item, operand_values, values_view}
 use Rattle.jsonb.proofs.PathNodes.{paths_is}
 use Rattle.jsonb.proofs.RefinesLemmas.{failed_as, same_outcome, first_refused, followed}
 use Rattle.jsonb.proofs.RepeatLemmas.{same_values}

@@ -1,9 +1,4 @@
-use Rattle.std.proofs.Common.{Ok, ap, sym, ◌∙◌, inl, inr}
-use Rattle.std.specs.List.{AllZip}
-use Rattle.jsonb_doc.specs.Answer.{try_flat_map, Refines, IsOutOfMemory}
-use Rattle.jsonb.specs.PathViews.{step_view}
-use Rattle.jsonb.specs.Meaning.{step_meaning}
-use Rattle.jsonb.specs.Private.Selection.{IsAt, node_spots}
+use Rattle.jsonb.proofs.Common.{Ok, ap, sym, ◌∙◌, inl, inr, AllZip, try_flat_map, Refines, IsOutOfMemory, step_view, step_meaning, IsAt, node_spots}
 use Rattle.jsonb.proofs.PathNodes.{root_is, current_is}
 use Rattle.jsonb.proofs.Progress.{joined_singles}
 use Rattle.jsonb.proofs.RefinesLemmas.{same_outcome}

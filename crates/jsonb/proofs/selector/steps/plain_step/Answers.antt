@@ -1,6 +1,4 @@
-use Rattle.std.proofs.Common.{[], sym, subst}
-use Rattle.jsonb_doc.specs.Representation.Positions.{Locates}
-use Rattle.std.specs.List.{AllZip}
+use Rattle.jsonb.proofs.Common.{[], sym, subst, Locates, AllZip}
 use Rattle.jsonb.proofs.RefinesLemmas.{answered, failed_as, refused_as}
 use Rattle.jsonb.proofs.selector.steps.plain_step.Goals as goal
 

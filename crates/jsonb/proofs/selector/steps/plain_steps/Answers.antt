@@ -1,6 +1,4 @@
-use Rattle.std.proofs.Common.{ap}
-use Rattle.jsonb_doc.specs.Answer.{try_flat_map}
-use Rattle.jsonb_doc.specs.Representation.Positions.{Locates}
+use Rattle.jsonb.proofs.Common.{ap, try_flat_map, Locates}
 use Rattle.jsonb.proofs.RefinesLemmas.{answered, failed_with, same_outcome}
 use Rattle.jsonb.proofs.Progress.{no_spot, one_more, refused_in, at_end, list_first, list_end}
 use Rattle.jsonb.proofs.selector.steps.plain_steps.Goals as goal

@@ -1,11 +1,4 @@
-use Rattle.std.proofs.Common.{◌≡◌, List, drop, false}
-use Rattle.jsonb_doc.specs.Answer.{try_flat_map}
-use Rattle.jsonb_doc.specs.Representation.Positions.{Locates}
-use Rattle.jsonb_doc.specs.Tree.{Tree}
-use Rattle.jsonb.specs.PathViews.{step_view}
-use Rattle.std.specs.List.{AllZip}
-use Rattle.jsonb.specs.Private.Selection.{is_filter}
-use Rattle.jsonb.specs.Meaning.{step_meaning}
+use Rattle.jsonb.proofs.Common.{◌≡◌, List, drop, false, try_flat_map, Locates, Tree, step_view, AllZip, is_filter, step_meaning}
 use Rattle.jsonb.proofs.Progress.{Progress}
 use Rattle.jsonb.proofs.selector.steps.plain_steps.Given as goal
 

@@ -1,8 +1,5 @@
-use Rattle.std.proofs.Common.{Err, ap, sym, ◌∙◌, ◌≤◌, ◌+◌, arith}
+use Rattle.jsonb.proofs.Common.{Err, ap, sym, ◌∙◌, ◌≤◌, ◌+◌, arith, steps_meaning, running_steps, running_weight, progress_weight, at_filter_weight, filter_weight, waits_weight, frame_weight, turn_weight, around_weight}
 use Rattle.jsonb.proofs.RefinesLemmas.{err_is}
-use Rattle.jsonb.specs.Meaning.{steps_meaning}
-use Rattle.jsonb.specs.Private.Running.{running_steps}
-use Rattle.jsonb.specs.Private.Weights.{running_weight, progress_weight, at_filter_weight, filter_weight, waits_weight, frame_weight, turn_weight, around_weight}
 use Rattle.jsonb.proofs.AroundLemmas.{onward_done, onward_waits}
 use Rattle.jsonb.proofs.WeightLemmas.{waits_weigh, beside, no_more}
 use Rattle.jsonb.proofs.selector.steps.resume.Goals as goal

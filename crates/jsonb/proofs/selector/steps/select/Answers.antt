@@ -1,8 +1,4 @@
-use Rattle.std.proofs.Common.{◌≡◌, [], refl, ap, sym, ◌∙◌, subst, arith}
-use Rattle.std.specs.Prelude.{reverse}
-use Rattle.jsonb.specs.Private.Asking.{IsAround}
-use Rattle.jsonb.specs.Private.Selection.{node_spots}
-use Rattle.jsonb.specs.Private.Weights.{progress_weight, around_weight}
+use Rattle.jsonb.proofs.Common.{◌≡◌, [], refl, ap, sym, ◌∙◌, subst, arith, reverse, IsAround, node_spots, progress_weight, around_weight}
 use Rattle.jsonb.proofs.AroundLemmas.{around_popped, around_none, dropped}
 use Rattle.jsonb.proofs.RefinesLemmas.{answered, failed_with}
 use Rattle.jsonb.proofs.TestLemmas.{none_waiting}

@@ -1,10 +1,4 @@
-use Rattle.std.proofs.Common.{◌+◌, List, Ok}
-use Rattle.jsonb_doc.specs.Answer.{Outcome}
-use Rattle.jsonb_doc.specs.Tree.{Tree}
-use Rattle.jsonb.specs.Private.Asking.{IsOnward}
-use Rattle.jsonb.specs.Private.Running.{IsAtFilter}
-use Rattle.jsonb.specs.Private.Selection.{HasTree}
-use Rattle.jsonb.specs.Private.Weights.{progress_weight, around_weight}
+use Rattle.jsonb.proofs.Common.{◌+◌, List, Ok, Outcome, Tree, IsOnward, IsAtFilter, HasTree, progress_weight, around_weight}
 use Rattle.jsonb.proofs.selector.steps.select.Given as goal
 
 -- what runs, and what waits for it, have the outcome of the whole

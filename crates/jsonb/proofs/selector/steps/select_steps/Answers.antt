@@ -1,5 +1,4 @@
-use Rattle.std.proofs.Common.{sym, ◌∙◌}
-use Rattle.jsonb.specs.Private.Selection.{node_spots}
+use Rattle.jsonb.proofs.Common.{sym, ◌∙◌, node_spots}
 use Rattle.jsonb.proofs.RefinesLemmas.{answered, failed_as, refused_as}
 use Rattle.jsonb.proofs.RepeatLemmas.{with_repeats}
 use Rattle.jsonb.proofs.selector.steps.select_steps.Goals as goal

@@ -1,4 +1,4 @@
-use Rattle.std.proofs.Common.{sym}
+use Rattle.jsonb.proofs.Common.{sym}
 use Rattle.jsonb.proofs.selector.steps.tested_list.Goals as goal
 
 pub returns-clause-meant : goal.returns-clause-meant

@@ -1,9 +1,4 @@
-use Rattle.std.proofs.Common.{ap, sym, ◌∙◌, subst, inl, arith}
-use Rattle.jsonb.specs.Meaning.{truth}
-use Rattle.jsonb.specs.PathViews.{expression_view}
-use Rattle.jsonb.specs.Private.Selection.{node_spots}
-use Rattle.jsonb.specs.Private.Tests.{IsQuestionOf, AreTestsOf, item_tests}
-use Rattle.jsonb.specs.Private.Weights.{next_weight, waits_weight}
+use Rattle.jsonb.proofs.Common.{ap, sym, ◌∙◌, subst, inl, arith, truth, expression_view, node_spots, IsQuestionOf, AreTestsOf, item_tests, next_weight, waits_weight}
 use Rattle.jsonb.specs.declared.selector.plan.Compiled.TheVariants as made
 use Rattle.jsonb.proofs.AroundLemmas.{waiting_refused, dropped}
 use Rattle.jsonb.proofs.OperandLemmas.{as_refused}

@@ -1,10 +1,4 @@
-use Rattle.std.proofs.Common.{Ok, ◌+◌}
-use Rattle.jsonb_doc.specs.Tree.{Tree}
-use Rattle.jsonb.specs.Meaning.{truth}
-use Rattle.jsonb.specs.PathViews.{expression_view}
-use Rattle.jsonb.specs.Private.Asking.{IsTurn}
-use Rattle.jsonb.specs.Private.Selection.{IsAt, HasTree}
-use Rattle.jsonb.specs.Private.Weights.{asking_weight, next_weight}
+use Rattle.jsonb.proofs.Common.{Ok, ◌+◌, Tree, truth, expression_view, IsTurn, IsAt, HasTree, asking_weight, next_weight}
 use Rattle.jsonb.proofs.selector.steps.truth.Given as goal
 
 -- the test that waits, and those that are left, have the truth of all

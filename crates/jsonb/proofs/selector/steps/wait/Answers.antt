@@ -1,7 +1,4 @@
-use Rattle.std.proofs.Common.{[], ◌∷◌, ◌++◌, Ok, ap, ◌∙◌}
-use Rattle.jsonb.specs.declared.selector.filters.Frame.{Frame}
-use Rattle.jsonb.specs.declared.selector.operands.Pending.{Pending}
-use Rattle.jsonb.specs.declared.selector.operands.Waits.{Waits}
+use Rattle.jsonb.proofs.Common.{[], ◌∷◌, ◌++◌, Ok, ap, ◌∙◌, Frame, Pending, Waits}
 use Rattle.jsonb.specs.declared.selector.running.Progress.TheVariants as progress
 use Rattle.jsonb.proofs.selector.steps.wait.Goals as goal
 

@@ -1,8 +1,4 @@
-use Rattle.std.proofs.Common.{Ok, ap, sym, ◌∙◌, ◌++◌, map, flat_map}
-use Rattle.jsonb_doc.proofs.SpotsTaken.{some_spots, no_spots}
-use Rattle.jsonb_raw.specs.Arrays.{array_values}
-use Rattle.jsonb.specs.Values.{value_of_item}
-use Rattle.jsonb.specs.Private.Selection.{value_view}
+use Rattle.jsonb.proofs.Common.{Ok, ap, sym, ◌∙◌, ◌++◌, map, flat_map, some_spots, no_spots, array_values, value_of_item, value_view}
 use Rattle.jsonb.proofs.ItemKinds.{values_of_array, other_values}
 use Rattle.jsonb.proofs.RefinesLemmas.{answered, failed_as, same_outcome, only_memory}
 use Rattle.jsonb.proofs.selector.values.item_values.Goals as goal

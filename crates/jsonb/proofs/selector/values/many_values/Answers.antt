@@ -1,8 +1,4 @@
-use Rattle.std.proofs.Common.{◌≡◌, ◌++◌, [], map, ap, ◌∙◌}
-use Rattle.jsonb_doc.specs.Representation.Positions.{Locates}
-use Rattle.std.specs.List.{AllZip}
-use Rattle.jsonb.specs.Values.{values_of_item}
-use Rattle.jsonb.specs.Private.Selection.{value_view}
+use Rattle.jsonb.proofs.Common.{◌≡◌, ◌++◌, [], map, ap, ◌∙◌, Locates, AllZip, values_of_item, value_view}
 use Rattle.jsonb.proofs.RefinesLemmas.{answered, failed_with, memory_only}
 use Rattle.jsonb.proofs.Progress.{no_spot, total_start, one_more, refused_in, at_end, list_first, list_end}
 use Rattle.jsonb.proofs.selector.values.many_values.Goals as goal

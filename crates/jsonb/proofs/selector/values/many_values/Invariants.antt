@@ -1,9 +1,4 @@
-use Rattle.std.proofs.Common.{◌≡◌, Ok, List, map, flat_map, drop}
-use Rattle.jsonb_doc.specs.Representation.Positions.{Locates}
-use Rattle.jsonb_doc.specs.Tree.{Tree}
-use Rattle.std.specs.List.{AllZip}
-use Rattle.jsonb.specs.Values.{values_of_item}
-use Rattle.jsonb.specs.Private.Selection.{value_view}
+use Rattle.jsonb.proofs.Common.{◌≡◌, Ok, List, map, flat_map, drop, Locates, Tree, AllZip, values_of_item, value_view}
 use Rattle.jsonb.proofs.Progress.{Progress}
 use Rattle.jsonb.proofs.selector.values.many_values.Given as goal
 

@@ -1,7 +1,4 @@
-use Rattle.std.proofs.Common.{◌≡◌, ◌++◌, map, ap, ◌∙◌, refl}
-use Rattle.jsonb_doc.specs.Representation.Positions.{HasSpotsLeft}
-use Rattle.jsonb.specs.Values.{value_of_item}
-use Rattle.jsonb.specs.Private.Selection.{value_view}
+use Rattle.jsonb.proofs.Common.{◌≡◌, ◌++◌, map, ap, ◌∙◌, refl, HasSpotsLeft, value_of_item, value_view}
 use Rattle.jsonb.proofs.RefinesLemmas.{answered, failed_with, memory_only}
 use Rattle.jsonb.proofs.Progress.{total_start, one_more, refused_in, at_end, spot_first, spot_end, spot_refused}
 use Rattle.jsonb.proofs.selector.values.push_each.Goals as goal

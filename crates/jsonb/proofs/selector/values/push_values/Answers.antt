@@ -1,6 +1,4 @@
-use Rattle.std.proofs.Common.{Ok, ap}
-use Rattle.jsonb_doc.proofs.SpotsTaken.{some_spots, no_spots}
-use Rattle.jsonb_raw.specs.Arrays.{array_values}
+use Rattle.jsonb.proofs.Common.{Ok, ap, some_spots, no_spots, array_values}
 use Rattle.jsonb.proofs.ItemKinds.{values_of_array, other_values}
 use Rattle.jsonb.proofs.RefinesLemmas.{same_outcome}
 use Rattle.jsonb.proofs.selector.values.push_values.Goals as goal

@@ -1,13 +1,5 @@
-use Rattle.std.proofs.Common.{[], ◌∷◌, sym, ◌∙◌, ap, refl}
-use Rattle.jsonb_doc.specs.Answer.{and_then}
+use Rattle.jsonb.proofs.Common.{[], ◌∷◌, sym, ◌∙◌, ap, refl, and_then, number_view, value, expression_view, literal_view, operation, each_signed, operand_values, truth, truth_list, binary_meaning, calculation, AreSelected}
 use Rattle.jsonb_doc.specs.Tree.{number}
-use Rattle.jsonb_doc.specs.View.{number_view}
-use Rattle.jsonb.specs.PathTree.{value}
-use Rattle.jsonb.specs.PathViews.{expression_view, literal_view}
-use Rattle.jsonb.specs.PathArithmetic.{operation, each_signed}
-use Rattle.jsonb.specs.Meaning.{operand_values, truth}
-use Rattle.jsonb.specs.Private.Calculation.{truth_list, binary_meaning, calculation}
-use Rattle.jsonb.specs.Private.Selection.{AreSelected}
 use Rattle.jsonb.proofs.RefinesLemmas.{failed_as, same_outcome, refused_as, one_given}
 use Rattle.jsonb.proofs.PathNodes.{literal_is, unary_is, binary_is, exists_is}
 use Rattle.jsonb.proofs.KeptLemmas.{value_is}

@@ -1,11 +1,5 @@
-use Rattle.std.proofs.Common.{Ok, None, sym, ◌∙◌, ap, refl}
-use Rattle.jsonb_doc.specs.Answer.{and_then}
+use Rattle.jsonb.proofs.Common.{Ok, None, sym, ◌∙◌, ap, refl, and_then, steps_of, steps_view, expression_view, operation, each_signed, operand_values, truth, expression_predicate, calculation}
 use Rattle.jsonb.specs.PathTree as math
-use Rattle.jsonb.specs.PathTree.{steps_of}
-use Rattle.jsonb.specs.PathViews.{steps_view, expression_view}
-use Rattle.jsonb.specs.PathArithmetic.{operation, each_signed}
-use Rattle.jsonb.specs.Meaning.{operand_values, truth}
-use Rattle.jsonb.specs.Private.Calculation.{expression_predicate, calculation}
 use Rattle.jsonb.proofs.RefinesLemmas.{failed_as, same_outcome, first_refused, one_ok}
 use Rattle.jsonb.proofs.PredicateLemmas.{binary_predicate, predicate_by_cases}
 use Rattle.jsonb.proofs.PathNodes.{unary_is, binary_is, exists_is}

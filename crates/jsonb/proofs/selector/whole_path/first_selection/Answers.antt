@@ -1,5 +1,4 @@
-use Rattle.std.proofs.Common.{sym, ◌∙◌}
-use Rattle.jsonb.specs.PathViews.{steps_view}
+use Rattle.jsonb.proofs.Common.{sym, ◌∙◌, steps_view}
 use Rattle.jsonb.proofs.RefinesLemmas.{failed_as, same_outcome, refused_as}
 use Rattle.jsonb.proofs.SearchLemmas.{begins_found, begins_same}
 use Rattle.jsonb.proofs.WholeLemmas.{by_taken, none_of}

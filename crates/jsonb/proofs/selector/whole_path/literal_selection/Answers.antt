@@ -1,8 +1,5 @@
-use Rattle.std.proofs.Common.{[], ◌∷◌, ap, sym, refl}
-use Rattle.std.specs.Cow.{cow_str_bytes}
-use Rattle.jsonb_doc.specs.Tree.{null, boolean, number, text, array, trees_of}
-use Rattle.jsonb_doc.specs.View.{number_view}
-use Rattle.jsonb.specs.Private.Selection.{AreSelected}
+use Rattle.jsonb.proofs.Common.{[], ◌∷◌, ap, sym, refl, cow_str_bytes, null, text, array, trees_of, number_view, AreSelected}
+use Rattle.jsonb_doc.specs.Tree.{boolean, number}
 use Rattle.jsonb.proofs.RefinesLemmas.{same_outcome, one_given}
 use Rattle.jsonb.proofs.WholeLemmas.{literal_meant, number_meant}
 use Rattle.jsonb.proofs.selector.whole_path.literal_selection.Goals as goal

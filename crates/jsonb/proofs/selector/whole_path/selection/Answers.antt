@@ -1,7 +1,4 @@
-use Rattle.std.proofs.Common.{Ok, sym, ◌∙◌}
-use Rattle.jsonb.specs.Meaning.{filtered}
-use Rattle.jsonb.specs.PathViews.{steps_view, expression_view}
-use Rattle.jsonb.specs.Private.Selection.{IsAt}
+use Rattle.jsonb.proofs.Common.{Ok, sym, ◌∙◌, filtered, steps_view, expression_view, IsAt}
 use Rattle.jsonb.proofs.RefinesLemmas.{failed_as, same_outcome, refused_as, first_refused, one_ok}
 use Rattle.jsonb.proofs.RepeatLemmas.{all_exactly}
 use Rattle.jsonb.proofs.StepLemmas.{kept_found}

@@ -1,5 +1,4 @@
-use Rattle.std.proofs.Common.{sym, ◌∙◌}
-use Rattle.jsonb.specs.PathArithmetic.{two_numbers}
+use Rattle.jsonb.proofs.Common.{sym, ◌∙◌, two_numbers}
 use Rattle.jsonb.proofs.RefinesLemmas.{followed, same_outcome}
 use Rattle.jsonb.proofs.CalculateLemmas.{refused_as_path, as_memory}
 use Rattle.jsonb.proofs.selector.whole_path.whole_binary.Goals as goal

@@ -1,6 +1,4 @@
-use Rattle.std.proofs.Common.{[], ◌∷◌, Ok, sym, ap}
-use Rattle.jsonb.specs.Meaning.{truth_item}
-use Rattle.jsonb.specs.Private.Selection.{AreSelected}
+use Rattle.jsonb.proofs.Common.{[], ◌∷◌, Ok, sym, ap, truth_item, AreSelected}
 use Rattle.jsonb.proofs.RefinesLemmas.{followed, same_outcome, one_given}
 use Rattle.jsonb.proofs.selector.whole_path.whole_truth.Goals as goal
 

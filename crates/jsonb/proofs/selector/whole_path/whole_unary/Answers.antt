@@ -1,8 +1,4 @@
-use Rattle.std.proofs.Common.{flat_map, sym, ◌∙◌, ap}
-use Rattle.jsonb_doc.specs.Answer.{and_then}
-use Rattle.jsonb.specs.PathArithmetic.{each_signed}
-use Rattle.jsonb.specs.Values.{values_of_item}
-use Rattle.jsonb.specs.Meaning.{operand_values}
+use Rattle.jsonb.proofs.Common.{flat_map, sym, ◌∙◌, ap, and_then, each_signed, values_of_item, operand_values}
 use Rattle.jsonb.proofs.RefinesLemmas.{failed_as, first_refused, followed, same_outcome}
 use Rattle.jsonb.proofs.PathNodes.{paths_is}
 use Rattle.jsonb.proofs.RepeatLemmas.{exactly}

@@ -1,5 +1,4 @@
-use Rattle.std.proofs.Common.{arith, refl}
-use Rattle.jsonb_doc.specs.Kinds.{kind_number}
+use Rattle.jsonb_doc.proofs.Common.{arith, refl, kind_number}
 use Rattle.jsonb_doc.proofs.ArrayLemmas.{stored_held}
 use Rattle.jsonb_doc.proofs.array_builder.ArrayBuilder.push_spot.Goals as goal
 

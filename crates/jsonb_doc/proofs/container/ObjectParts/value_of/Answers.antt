@@ -1,4 +1,4 @@
-use Rattle.std.proofs.Common.{◌-◌, length, refl}
+use Rattle.jsonb_doc.proofs.Common.{◌-◌, length, refl}
 use Rattle.jsonb_doc.proofs.FieldLemmas.{value_absent, value_searched, keys_behind, value_there, value_entry}
 use Rattle.jsonb_doc.proofs.container.ObjectParts.value_of.Goals as goal
 

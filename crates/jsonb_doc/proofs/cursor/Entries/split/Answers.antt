@@ -1,4 +1,4 @@
-use Rattle.std.proofs.Common.{◌≡◌, min, length, refl, arith}
+use Rattle.jsonb_doc.proofs.Common.{◌≡◌, min, length, refl, arith}
 use Rattle.jsonb_doc.proofs.CursorLemmas.{all_held, contents_there, both_hold}
 use Rattle.jsonb_doc.proofs.cursor.Entries.split.Goals as goal
 

@@ -1,10 +1,4 @@
-use Rattle.std.proofs.Common.{◌≡◌, ◌∙◌, ◌++◌, ◌∷◌, [], ℕ, length, reverse, ap, refl, arith, true, false, inl}
-use Rattle.std.specs.Prelude.{◌==◌, vec_len}
-use Rattle.std.proofs.lemmas.List.{length-reverse}
-use Rattle.jsonb_doc.specs.Events.{filled}
-use Rattle.jsonb_doc.specs.Representation.DocumentBuilder.{IsPieceOf}
-use Rattle.jsonb_doc.specs.declared.event_error.EventError.TheVariants.{Failed}
-use Rattle.jsonb_doc.specs.declared.error.Error.TheVariants.{OutOfMemory}
+use Rattle.jsonb_doc.proofs.Common.{◌≡◌, ◌∙◌, ◌++◌, ◌∷◌, [], ℕ, length, reverse, ap, refl, arith, true, false, inl, ◌==◌, vec_len, length-reverse, filled, IsPieceOf, Failed, OutOfMemory}
 use Rattle.jsonb_doc.proofs.EventLemmas.{level_stays}
 use Rattle.jsonb_doc.proofs.Basics.{popped}
 use Rattle.jsonb_doc.proofs.BuilderLemmas.{err_result, end_fails, end_out_of_memory, end_takes, holds_back, holds_inner}

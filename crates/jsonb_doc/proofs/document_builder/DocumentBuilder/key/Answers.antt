@@ -1,7 +1,4 @@
-use Rattle.std.proofs.Common.{◌∙◌, ap, refl, sym, inl}
-use Rattle.jsonb_doc.specs.Events.{with_inner}
-use Rattle.jsonb_doc.specs.declared.event_error.EventError.TheVariants.{Failed}
-use Rattle.jsonb_doc.specs.declared.error.Error.TheVariants.{ObjectDuplicateKey}
+use Rattle.jsonb_doc.proofs.Common.{◌∙◌, ap, refl, sym, inl, with_inner, Failed, ObjectDuplicateKey}
 use Rattle.jsonb_doc.proofs.BuilderLemmas.{key_repeats, key_added, leads, refuses, err_result}
 use Rattle.jsonb_doc.proofs.document_builder.DocumentBuilder.key.Goals as goal
 

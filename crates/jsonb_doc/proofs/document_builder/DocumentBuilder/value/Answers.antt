@@ -1,14 +1,4 @@
-use Rattle.std.proofs.Common.{◌≡◌, ◌∙◌, ◌++◌, ◌∷◌, [], length, refl, sym, subst, arith, true, Some, inr}
-use Rattle.std.proofs.lemmas.List.{length-append}
-use Rattle.jsonb_doc.specs.Encoding.{EntryParts}
-use Rattle.jsonb_doc.specs.Payload.{number_reader}
-use Rattle.jsonb_doc.specs.Format.{IsContent, Decodes}
-use Rattle.jsonb_doc.specs.Kinds.{kind_number}
-use Rattle.jsonb_doc.specs.Representation.Pieces.{bytes_at}
-use Rattle.jsonb_doc.specs.Events.{State, takes_value, filled}
-use Rattle.jsonb_doc.specs.Representation.DocumentBuilder.{IsPieceOf, HoldsLevel}
-use Rattle.jsonb_doc.specs.declared.pieces.Piece.{Piece}
-use Rattle.jsonb_doc.specs.declared.document_builder.frame.Frame.TheVariants.{Root}
+use Rattle.jsonb_doc.proofs.Common.{◌≡◌, ◌∙◌, ◌++◌, ◌∷◌, [], length, refl, sym, subst, arith, true, Some, inr, length-append, EntryParts, number_reader, IsContent, Decodes, kind_number, bytes_at, State, takes_value, filled, IsPieceOf, HoldsLevel, Piece, Root}
 use Rattle.jsonb_doc.proofs.Encoded.{content_stands, long_content}
 use Rattle.jsonb_doc.proofs.EventLemmas.{root_filled, level_stays, too_long, result_along, err_along}
 use Rattle.jsonb_doc.proofs.BuilderLemmas.{leads, value_taken, holds_more, lone_piece, lone_part, frame_of_root}

@@ -1,5 +1,4 @@
-use Rattle.std.proofs.Common.{◌≡◌, ◌∙◌, sym, true}
-use Rattle.std.specs.Prelude.{is_none}
+use Rattle.jsonb_doc.proofs.Common.{◌≡◌, ◌∙◌, sym, true, is_none}
 use Rattle.jsonb_doc.proofs.EventLemmas.{is_none_from}
 use Rattle.jsonb_doc.proofs.ClosingLemmas.{array_closed, object_closed, array_fails, object_fails}
 use Rattle.jsonb_doc.proofs.document_builder.closing.close.Goals as goal

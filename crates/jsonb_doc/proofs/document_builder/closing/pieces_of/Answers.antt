@@ -1,5 +1,4 @@
-use Rattle.std.proofs.Common.{arith}
-use Rattle.std.proofs.lemmas.Grind.{common_steps}
+use Rattle.jsonb_doc.proofs.Common.{arith, common_steps}
 use Rattle.jsonb_doc.proofs.document_builder.closing.pieces_of.Goals as goal
 
 pub loop-entry-preserved : goal.loop-entry-preserved

@@ -1,5 +1,4 @@
-use Rattle.std.proofs.Common.{◌≡◌, map, take}
-use Rattle.jsonb_doc.specs.declared.piece_entry.PieceEntry.{PieceEntry}
+use Rattle.jsonb_doc.proofs.Common.{◌≡◌, map, take, PieceEntry}
 use Rattle.jsonb_doc.proofs.document_builder.closing.pieces_of.Given as goal
 
 abbrev pub invariant-loop-entry : goal.invariant-loop-entry

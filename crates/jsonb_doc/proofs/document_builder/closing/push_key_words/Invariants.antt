@@ -1,7 +1,4 @@
-use Rattle.std.proofs.Common.{◌≡◌, ◌++◌}
-use Rattle.jsonb_doc.specs.Format.{key_words}
-use Rattle.jsonb_doc.specs.Limits.{AreShortKeys}
-use Rattle.jsonb_doc.specs.Private.Closing.{member_keys}
+use Rattle.jsonb_doc.proofs.Common.{◌≡◌, ◌++◌, key_words, AreShortKeys, member_keys}
 use Rattle.jsonb_doc.proofs.document_builder.closing.push_key_words.Given as goal
 
 -- the bytes so far, and what is still to come, are the whole; the keys so far are short

@@ -1,10 +1,4 @@
-use Rattle.std.proofs.Common.{◌∷◌, [], ◌++◌, ◌∙◌, List, ap, refl, sym, subst, arith, rules, append_assoc}
-use Rattle.std.proofs.lemmas.List.{nil_from_length, append-nil}
-use Rattle.std.proofs.lemmas.Result.{err_from_is_err_and}
-use Rattle.std.proofs.lemmas.Slice.{first_rest}
-use Rattle.jsonb_doc.specs.Events.{no_events}
-use Rattle.jsonb_doc.specs.Private.Collecting.{Happen}
-use Rattle.jsonb_doc.specs.declared.text_event.TextEvent.{TextEvent}
+use Rattle.jsonb_doc.proofs.Common.{◌∷◌, [], ◌++◌, ◌∙◌, List, ap, refl, sym, subst, arith, rules, append_assoc, nil_from_length, append-nil, err_from_is_err_and, first_rest, no_events, Happen, TextEvent}
 use Rattle.jsonb_doc.proofs.EventLemmas.{result_along}
 use Rattle.jsonb_doc.proofs.ListErrors.{happen_more, refused, unfinished, unbegun}
 use Rattle.jsonb_doc.proofs.event_list.collecting.collect.Goals as goal

@@ -1,9 +1,4 @@
-use Rattle.std.proofs.Common.{◌≡◌, List, ◌++◌, length}
-use denote.Shadow.{shadow}
-use denote.Text.{Utf8}
-use Rattle.jsonb_doc.specs.Events.{State, no_events}
-use Rattle.jsonb_doc.specs.Private.Collecting.{Happen, HoldsState}
-use Rattle.jsonb_doc.specs.declared.text_event.TextEvent.{TextEvent}
+use Rattle.jsonb_doc.proofs.Common.{◌≡◌, List, ◌++◌, length, shadow, Utf8, State, no_events, Happen, HoldsState, TextEvent}
 use Rattle.jsonb_doc.proofs.event_list.collecting.collect.Given as goal
 
 -- the events before those that are left lead to what is held

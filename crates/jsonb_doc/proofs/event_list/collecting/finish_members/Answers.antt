@@ -1,5 +1,4 @@
-use Rattle.std.proofs.Common.{refl, arith}
-use Rattle.std.proofs.lemmas.Result.{err_from_is_err_and}
+use Rattle.jsonb_doc.proofs.Common.{refl, arith, err_from_is_err_and}
 use Rattle.jsonb_doc.proofs.CollectingLemmas.{pushed_ends, end_due}
 use Rattle.jsonb_doc.proofs.event_list.collecting.finish_members.Goals as goal
 

@@ -1,4 +1,4 @@
-use Rattle.std.proofs.Common.{inr, inl, refl}
+use Rattle.jsonb_doc.proofs.Common.{inr, inl, refl}
 use Rattle.jsonb_doc.proofs.CollectingLemmas.{can_split, no_some}
 use Rattle.jsonb_doc.proofs.event_list.collecting.split_text.Goals as goal
 

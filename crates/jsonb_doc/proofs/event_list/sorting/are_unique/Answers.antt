@@ -1,6 +1,4 @@
-use Rattle.std.proofs.Common.{◌∙◌, ap, sym, length, arith, List}
-use Rattle.std.proofs.lemmas.Slice.{first_rest}
-use Rattle.jsonb_doc.specs.declared.event_list.collecting.Member.{Member}
+use Rattle.jsonb_doc.proofs.Common.{◌∙◌, ap, sym, length, arith, List, first_rest, Member}
 use Rattle.jsonb_doc.proofs.UniqueLemmas.{fewer_left, same_left, stays_left}
 use Rattle.jsonb_doc.proofs.event_list.sorting.are_unique.Goals as goal
 

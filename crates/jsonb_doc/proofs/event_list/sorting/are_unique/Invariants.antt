@@ -1,5 +1,4 @@
-use Rattle.std.proofs.Common.{◌≡◌, ◌+◌, length}
-use Rattle.jsonb_doc.specs.Private.Unique.{unique}
+use Rattle.jsonb_doc.proofs.Common.{◌≡◌, ◌+◌, length, unique}
 use Rattle.jsonb_doc.proofs.event_list.sorting.are_unique.Given as goal
 
 -- all members stay if those that are left do, and otherwise fewer

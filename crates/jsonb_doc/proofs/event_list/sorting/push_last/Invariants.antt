@@ -1,5 +1,4 @@
-use Rattle.std.proofs.Common.{◌≡◌, ◌++◌, length}
-use Rattle.jsonb_doc.specs.Private.Unique.{unique}
+use Rattle.jsonb_doc.proofs.Common.{◌≡◌, ◌++◌, length, unique}
 use Rattle.jsonb_doc.proofs.event_list.sorting.push_last.Given as goal
 
 -- what is appended so far, and what the rest yields

@@ -1,10 +1,4 @@
-use Rattle.std.proofs.Common.{◌≡◌, ap, rules, nat_cmp}
-use Rattle.std.specs.Ordering.{is_lt}
-use Rattle.std.specs.Cmp.Lexicographic.{slice_cmp}
-use Rattle.std.proofs.lemmas.Cmp.{nat_list_cmp_total}
-use Rattle.std.proofs.lemmas.List.Sorted.{ranks_by, answers_always}
-use Rattle.jsonb_doc.specs.Private.Unique.{has_lower_key}
-use Rattle.jsonb_doc.specs.declared.event_list.collecting.Member.{Member}
+use Rattle.jsonb_doc.proofs.Common.{◌≡◌, ap, rules, nat_cmp, is_lt, slice_cmp, nat_list_cmp_total, ranks_by, answers_always, has_lower_key, Member}
 use Rattle.jsonb_doc.proofs.UniqueLemmas.{on_ok_along}
 use Rattle.jsonb_doc.proofs.event_list.sorting.sort_members.Goals as goal
 

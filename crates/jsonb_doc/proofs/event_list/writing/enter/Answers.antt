@@ -1,6 +1,4 @@
-use Rattle.std.proofs.Common.{◌∷◌, refl}
-use Rattle.std.proofs.lemmas.Result.{err_from_is_err_and}
-use Rattle.jsonb_doc.specs.Private.EventParts.{keys_first}
+use Rattle.jsonb_doc.proofs.Common.{◌∷◌, refl, err_from_is_err_and, keys_first}
 use Rattle.jsonb_doc.proofs.EventPartLemmas.{part_opened}
 use Rattle.jsonb_doc.proofs.event_list.writing.enter.Goals as goal
 

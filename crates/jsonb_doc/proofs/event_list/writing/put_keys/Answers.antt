@@ -1,10 +1,5 @@
-use Rattle.std.proofs.Common.{◌++◌, map, subst, List}
-use Rattle.std.proofs.lemmas.Result.{err_from_is_err_and}
-use Rattle.std.proofs.lemmas.Slice.{first_rest}
-use Rattle.jsonb_doc.specs.Tree.{text}
-use Rattle.jsonb_doc.specs.Private.Writer.{IsWriting}
+use Rattle.jsonb_doc.proofs.Common.{◌++◌, map, subst, List, err_from_is_err_and, first_rest, text, IsWriting, Member}
 use Rattle.jsonb_doc.specs.Private.EventParts.{member_keys}
-use Rattle.jsonb_doc.specs.declared.event_list.collecting.Member.{Member}
 use Rattle.jsonb_doc.proofs.event_list.writing.put_keys.Goals as goal
 
 pub returns-in_err-put_text : goal.returns-in_err-put_text

@@ -1,7 +1,4 @@
-use Rattle.std.proofs.Common.{◌++◌, List, map, length}
-use Rattle.jsonb_doc.specs.Tree.{Tree, text}
-use Rattle.jsonb_doc.specs.Payload.{Form}
-use Rattle.jsonb_doc.specs.Private.Writer.{Around, IsWriting}
+use Rattle.jsonb_doc.proofs.Common.{◌++◌, List, map, length, Tree, text, Form, Around, IsWriting}
 use Rattle.jsonb_doc.specs.Private.EventParts.{member_keys}
 use Rattle.jsonb_doc.proofs.event_list.writing.put_keys.Given as goal
 

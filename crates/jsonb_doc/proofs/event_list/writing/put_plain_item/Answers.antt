@@ -1,6 +1,4 @@
-use Rattle.std.proofs.Common.{◌∷◌, refl, subst}
-use Rattle.jsonb_doc.specs.Tree.{Tree}
-use Rattle.jsonb_doc.specs.Private.Writer.{IsWriting}
+use Rattle.jsonb_doc.proofs.Common.{◌∷◌, refl, subst, Tree, IsWriting}
 use Rattle.jsonb_doc.proofs.EventPartLemmas.{not_too_large}
 use Rattle.jsonb_doc.proofs.event_list.writing.put_plain_item.Goals as goal
 

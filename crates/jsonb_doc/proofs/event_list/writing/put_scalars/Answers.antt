@@ -1,11 +1,4 @@
-use Rattle.std.proofs.Common.{◌∷◌, ◌∙◌, List, length, ap, subst, arith}
-use Rattle.std.proofs.lemmas.Result.{err_from_is_err_and}
-use Rattle.std.proofs.lemmas.List.Edits.{length-between}
-use Rattle.std.proofs.lemmas.Slice.{first_rest}
-use Rattle.jsonb_doc.specs.Private.EventParts.{IsPart}
-use Rattle.jsonb_doc.specs.declared.event_list.collecting.Part.{Part}
-use Rattle.jsonb_doc.specs.Tree.{Tree}
-use Rattle.jsonb_doc.specs.Private.Writer.{IsWriting}
+use Rattle.jsonb_doc.proofs.Common.{◌∷◌, ◌∙◌, List, length, ap, subst, arith, err_from_is_err_and, length-between, first_rest, IsPart, Part, Tree, IsWriting}
 use Rattle.jsonb_doc.proofs.EventPartLemmas.{first_part}
 use Rattle.jsonb_doc.proofs.event_list.writing.put_scalars.Goals as goal
 

@@ -1,9 +1,4 @@
-use Rattle.std.proofs.Common.{ℕ, ◌≤◌, List, length}
-use Rattle.jsonb_doc.specs.Tree.{Tree}
-use Rattle.jsonb_doc.specs.Payload.{Form}
-use Rattle.jsonb_doc.specs.Private.Writer.{Around, IsWriting}
-use Rattle.jsonb_doc.specs.Private.EventParts.{HoldParts}
-use Rattle.jsonb_doc.specs.declared.event_list.collecting.Member.{Member}
+use Rattle.jsonb_doc.proofs.Common.{ℕ, ◌≤◌, List, length, Tree, Form, Around, IsWriting, HoldParts, Member}
 use Rattle.jsonb_doc.proofs.event_list.writing.put_scalars.Given as goal
 
 -- the values of the members that are left come next

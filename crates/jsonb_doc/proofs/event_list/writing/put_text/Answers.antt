@@ -1,5 +1,4 @@
-use Rattle.std.proofs.Common.{refl}
-use Rattle.jsonb_doc.specs.Tree.{text}
+use Rattle.jsonb_doc.proofs.Common.{refl, text}
 use Rattle.jsonb_doc.proofs.event_list.writing.put_text.Goals as goal
 
 pub returns : goal.returns

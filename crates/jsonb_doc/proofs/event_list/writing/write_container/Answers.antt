@@ -1,9 +1,4 @@
-use Rattle.std.proofs.Common.{ℕ, Vec, Global, [], ◌∷◌, arith, refl, ap, ◌∙◌, subst}
-use Rattle.std.proofs.lemmas.List.{nil_from_length}
-use Rattle.std.proofs.lemmas.Result.{err_from_is_err_and}
-use Rattle.jsonb_doc.specs.Format.{Decodes}
-use Rattle.jsonb_doc.specs.Private.Errors.{IsOutOfMemoryOrTooLarge}
-use Rattle.jsonb_doc.specs.Private.Writer.{Around, IsWriting}
+use Rattle.jsonb_doc.proofs.Common.{ℕ, Vec, Global, [], ◌∷◌, arith, refl, ap, ◌∙◌, subst, nil_from_length, err_from_is_err_and, Decodes, IsOutOfMemoryOrTooLarge, Around, IsWriting}
 use Rattle.jsonb_doc.proofs.EventPartLemmas.{walk_falls_inward, walk_falls_outward}
 use Rattle.jsonb_doc.proofs.Basics.{pushed, popped, none_around, only_ok}
 use Rattle.jsonb_doc.proofs.event_list.writing.write_container.Goals as goal

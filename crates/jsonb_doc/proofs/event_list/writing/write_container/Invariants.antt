@@ -1,9 +1,4 @@
-use Rattle.std.proofs.Common.{ℕ, ◌+◌}
-use Rattle.std.specs.Prelude.{reverse}
-use Rattle.jsonb_doc.specs.Tree.{Tree}
-use Rattle.jsonb_doc.specs.Payload.{Form}
-use Rattle.jsonb_doc.specs.Private.EventParts.{IsPart, IsWalking}
-use Rattle.jsonb_doc.specs.declared.event_list.collecting.Part.TheVariants.{Nested}
+use Rattle.jsonb_doc.proofs.Common.{ℕ, ◌+◌, reverse, Tree, Form, IsPart, IsWalking, Nested}
 use Rattle.jsonb_doc.proofs.Weights.{weight_of_all}
 use Rattle.jsonb_doc.proofs.EventPartLemmas.{left_weight, outer_weight}
 use Rattle.jsonb_doc.proofs.event_list.writing.write_container.Given as goal

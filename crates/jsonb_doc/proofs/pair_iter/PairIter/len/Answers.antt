@@ -1,5 +1,4 @@
-use Rattle.std.proofs.Common.{arith, ap, length}
-use Rattle.jsonb_doc.specs.Tree.{keys}
+use Rattle.jsonb_doc.proofs.Common.{arith, ap, length, keys}
 use Rattle.jsonb_doc.proofs.Containers.{length-key_words}
 use Rattle.jsonb_doc.proofs.pair_iter.PairIter.len.Goals as goal
 

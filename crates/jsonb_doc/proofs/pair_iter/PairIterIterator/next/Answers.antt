@@ -1,6 +1,4 @@
-use Rattle.std.proofs.Common.{◌∙◌, arith, rules, refl, inl, inr}
-use Rattle.std.proofs.lemmas.Grind.{common_steps}
-use Rattle.jsonb_doc.specs.Kinds.{kind_number}
+use Rattle.jsonb_doc.proofs.Common.{◌∙◌, arith, rules, refl, inl, inr, common_steps, kind_number}
 use Rattle.jsonb_doc.proofs.Entries.{BeginWith-unique, BeginWith-room}
 use Rattle.jsonb_doc.proofs.PairsLemmas.{HasPairsLeft-first}
 use Rattle.jsonb_doc.proofs.pair_iter.PairIterIterator.next.Goals as goal

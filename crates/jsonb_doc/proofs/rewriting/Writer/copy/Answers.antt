@@ -1,5 +1,4 @@
-use Rattle.std.proofs.Common.{arith, sym, ap, length, ◌∙◌}
-use Rattle.std.proofs.lemmas.List.{length-append}
+use Rattle.jsonb_doc.proofs.Common.{arith, sym, ap, length, ◌∙◌, length-append}
 use Rattle.jsonb_doc.proofs.WriterLemmas.{room_there, filled, room_moved}
 use Rattle.jsonb_doc.proofs.rewriting.Writer.copy.Goals as goal
 

@@ -1,6 +1,4 @@
-use Rattle.std.proofs.Common.{◌≡◌, length, arith, refl, sym, ap, ◌∙◌}
-use Rattle.jsonb_doc.specs.Format.{entry_word}
-use Rattle.jsonb_doc.specs.Private.EntryKinds.{container_entry}
+use Rattle.jsonb_doc.proofs.Common.{◌≡◌, length, arith, refl, sym, ap, ◌∙◌, entry_word, container_entry}
 use Rattle.jsonb_doc.proofs.WriterLemmas.{room_for_one, one_filled, closed, done_len, room_moved}
 use Rattle.jsonb_doc.proofs.WriterLimits.{coming_passes, not_short, refused}
 use Rattle.jsonb_doc.proofs.rewriting.Writer.leave.Goals as goal

@@ -1,4 +1,4 @@
-use Rattle.std.proofs.Common.{arith, refl, ◌∙◌}
+use Rattle.jsonb_doc.proofs.Common.{arith, refl, ◌∙◌}
 use Rattle.jsonb_doc.proofs.WriterLemmas.{room_for_one, one_filled}
 use Rattle.jsonb_doc.proofs.WriterLimits.{coming_passes, not_short, refused}
 use Rattle.jsonb_doc.proofs.rewriting.Writer.put.Goals as goal

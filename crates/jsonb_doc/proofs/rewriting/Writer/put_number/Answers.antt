@@ -1,7 +1,4 @@
-use Rattle.std.proofs.Common.{arith, refl, ap, ◌∙◌}
-use Rattle.jsonb_doc.specs.Format.{entry_word}
-use Rattle.jsonb_doc.specs.View.{number_view}
-use Rattle.jsonb_doc.specs.Tree.{number}
+use Rattle.jsonb_doc.proofs.Common.{arith, refl, ap, ◌∙◌, entry_word, number_view, number}
 use Rattle.jsonb_doc.specs.declared.item.Item.TheVariants.{Number}
 use Rattle.jsonb_doc.proofs.CanonicalLemmas.{length-number_payload}
 use Rattle.jsonb_doc.proofs.Encoded.{content_stands}

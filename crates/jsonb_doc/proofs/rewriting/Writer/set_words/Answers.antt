@@ -1,5 +1,4 @@
-use Rattle.std.proofs.Common.{arith}
-use Rattle.std.proofs.lemmas.Grind.{common_steps}
+use Rattle.jsonb_doc.proofs.Common.{arith, common_steps}
 use Rattle.jsonb_doc.proofs.rewriting.Writer.set_words.Goals as goal
 
 pub returns-clause-size : goal.returns-clause-size

@@ -1,5 +1,4 @@
-use Rattle.std.proofs.Common.{◌∙◌}
-use Rattle.jsonb_doc.specs.declared.layout.EntryKind.TheVariants.{Container}
+use Rattle.jsonb_doc.proofs.Common.{◌∙◌, Container}
 use Rattle.jsonb_doc.proofs.KindLemmas.{kinds_told}
 use Rattle.jsonb_doc.proofs.SpotsLemmas.{Locates-has_children}
 use Rattle.jsonb_doc.proofs.spot.Spot.is_container.Goals as goal

@@ -1,6 +1,4 @@
-use Rattle.std.proofs.Common.{arith, inl, inr, ap}
-use Rattle.jsonb_doc.specs.Payload.{any, number_reader}
-use Rattle.jsonb_doc.specs.Private.Headers.{header_number}
+use Rattle.jsonb_doc.proofs.Common.{arith, inl, inr, ap, any, number_reader, header_number}
 use Rattle.jsonb_doc.proofs.Containers.{HasContent-headed, HasContent-kind, array_content, object_content}
 use Rattle.jsonb_doc.proofs.spot.content.container_value.Goals as goal
 

@@ -1,7 +1,6 @@
-use Rattle.jsonb_doc.specs.Payload.{any, number_reader}
+use Rattle.jsonb_doc.proofs.Common.{any, number_reader, Container}
 use Rattle.jsonb_doc.proofs.SpotsLemmas.{Locates-scalar, Locates-document, Locates-no-scalar}
 use Rattle.jsonb_doc.proofs.SpotTypes.{array_elements, object_no_elements, no_elements}
-use Rattle.jsonb_doc.specs.declared.layout.EntryKind.TheVariants.{Container}
 use Rattle.jsonb_doc.proofs.KindLemmas.{differing_kind, equal_kind}
 use Rattle.jsonb_doc.proofs.spot.content.element_spots.Goals as goal
 

@@ -1,8 +1,4 @@
-use Rattle.std.proofs.Common.{◌≡◌, sym, ap, ◌∙◌, Some, None, arith}
-use Rattle.std.proofs.lemmas.Option.{none-some}
-use Rattle.jsonb_doc.specs.Tree.{number}
-use Rattle.jsonb_doc.specs.Payload.{any, number_reader}
-use Rattle.jsonb_doc.specs.Kinds.{kind_number}
+use Rattle.jsonb_doc.proofs.Common.{◌≡◌, sym, ap, ◌∙◌, Some, None, arith, none-some, number, any, number_reader, kind_number}
 use Rattle.jsonb_doc.proofs.Entries.{kind_below}
 use Rattle.jsonb_doc.proofs.ScalarLemmas.{null_content, false_content, true_content, text_content, number_content, extension_content, some_injective, number_fails}
 use Rattle.jsonb_doc.proofs.spot.content.spot_value.Goals as goal

@@ -1,7 +1,6 @@
-use Rattle.jsonb_doc.specs.Payload.{any, number_reader}
+use Rattle.jsonb_doc.proofs.Common.{any, number_reader, Container}
 use Rattle.jsonb_doc.proofs.SpotsLemmas.{Locates-scalar, Locates-document, Locates-no-scalar, object_skipped}
 use Rattle.jsonb_doc.proofs.SpotTypes.{object_values, array_no_values, no_values}
-use Rattle.jsonb_doc.specs.declared.layout.EntryKind.TheVariants.{Container}
 use Rattle.jsonb_doc.proofs.KindLemmas.{differing_kind, equal_kind}
 use Rattle.jsonb_doc.proofs.spot.content.value_spots.Goals as goal
 

@@ -1,9 +1,5 @@
-use Rattle.std.proofs.Common.{Err, ap, ◌∙◌, arith}
-use Rattle.std.proofs.lemmas.Result.{err_from_is_err_and}
-use Rattle.jsonb_doc.specs.Payload.{number_reader}
-use Rattle.jsonb_doc.specs.Kinds.{kind_number}
+use Rattle.jsonb_doc.proofs.Common.{Err, ap, ◌∙◌, arith, err_from_is_err_and, number_reader, kind_number, Container}
 use Rattle.jsonb_doc.proofs.EntryDocuments.{entry_decodes, front_is_content}
-use Rattle.jsonb_doc.specs.declared.layout.EntryKind.TheVariants.{Container}
 use Rattle.jsonb_doc.proofs.KindLemmas.{kind_known, other_kind}
 use Rattle.jsonb_doc.proofs.spot.document.spot_document.Goals as goal
 

@@ -1,4 +1,4 @@
-use Rattle.std.proofs.Common.{◌≡◌, ◌+◌, ◌%◌, ◌^◌, arith, refl}
+use Rattle.jsonb_doc.proofs.Common.{◌≡◌, ◌+◌, ◌%◌, ◌^◌, arith, refl}
 use Rattle.jsonb_doc.proofs.SpotsLemmas.{spots_counted, HasSpotsLeft-passed, HasSpotsLeft-behind}
 use Rattle.jsonb_doc.proofs.spot_iter.SpotIter.behind.Goals as goal
 

@@ -1,6 +1,4 @@
-use Rattle.std.proofs.Common.{arith}
-use Rattle.jsonb_doc.specs.Payload.{any, number_reader}
-use Rattle.jsonb_doc.specs.Tree.{trees_of}
+use Rattle.jsonb_doc.proofs.Common.{arith, any, number_reader, trees_of}
 use Rattle.jsonb_doc.proofs.Containers.{length-words}
 use Rattle.jsonb_doc.proofs.TreeLists.{count-trees_of}
 use Rattle.jsonb_doc.proofs.spot_iter.SpotIter.len.Goals as goal

@@ -1,7 +1,4 @@
-use Rattle.std.proofs.Common.{arith, rules, refl, ◌≡◌, ◌<◌, ◌+◌, ◌-◌, length}
-use Rattle.std.proofs.lemmas.Grind.{common_steps}
-use Rattle.std.proofs.lemmas.List.{nil_from_length}
-use Rattle.jsonb_doc.specs.Kinds.{kind_number}
+use Rattle.jsonb_doc.proofs.Common.{arith, rules, refl, ◌≡◌, ◌<◌, ◌+◌, ◌-◌, length, common_steps, nil_from_length, kind_number}
 use Rattle.jsonb_doc.proofs.KindLemmas.{kind_known}
 use Rattle.jsonb_doc.proofs.SpotsLemmas.{HasSpotsLeft-empty, HasSpotsLeft-word, HasSpotsLeft-fits, HasSpotsLeft-first, PassesSpot-fits}
 use Rattle.jsonb_doc.proofs.spot_iter.SpotIterIterator.next.Goals as goal

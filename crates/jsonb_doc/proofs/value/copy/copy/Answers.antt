@@ -1,10 +1,4 @@
-use Rattle.std.proofs.Common.{◌≡◌, List, sym, ap, subst, ◌∙◌, arith}
-use Rattle.std.proofs.lemmas.Grind.{common_steps}
-use Rattle.std.specs.Prelude.{reverse}
-use Rattle.std.proofs.lemmas.List.{nil_from_length}
-use Rattle.jsonb_doc.specs.Value.{tree_seen}
-use Rattle.jsonb_doc.specs.Private.Copying.{filled_tree, with_part}
-use Rattle.jsonb_doc.specs.declared.value.copy.Open.{Open}
+use Rattle.jsonb_doc.proofs.Common.{◌≡◌, List, sym, ap, subst, ◌∙◌, arith, common_steps, reverse, nil_from_length, tree_seen, filled_tree, with_part, Open}
 use Rattle.jsonb_doc.proofs.CopiedValues.{tree_within, tree_within-with}
 use Rattle.jsonb_doc.proofs.value.copy.copy.Goals as goal
 

@@ -1,9 +1,5 @@
-use Rattle.std.proofs.Common.{◌≡◌, ◌+◌, ◌*◌}
-use Rattle.std.specs.Prelude.{reverse}
+use Rattle.jsonb_doc.proofs.Common.{◌≡◌, ◌+◌, ◌*◌, reverse, tree_seen, filled_tree, filled_parts, Number}
 use Rattle.jsonb_doc.specs.Number as spec
-use Rattle.jsonb_doc.specs.Value.{tree_seen}
-use Rattle.jsonb_doc.specs.Private.Copying.{filled_tree, filled_parts}
-use Rattle.jsonb_doc.specs.declared.number.Number.{Number}
 use Rattle.jsonb_doc.proofs.CopiedValues.{tree_within, around_parts}
 use Rattle.jsonb_doc.proofs.value.copy.copy.Given as goal
 

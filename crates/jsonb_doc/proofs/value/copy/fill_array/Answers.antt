@@ -1,11 +1,5 @@
-use Rattle.std.proofs.Common.{◌≡◌, ◌∷◌, ◌++◌, sym, ap, ◌∙◌, append-nil, arith}
-use Rattle.std.proofs.lemmas.List.{nil_from_length}
-use Rattle.std.specs.Slice.Iter.{iter_rest}
-use Rattle.jsonb_doc.specs.Tree.{array, trees_of}
-use Rattle.jsonb_doc.specs.View.{number_view}
-use Rattle.jsonb_doc.specs.Value.{tree_seen}
-use Rattle.jsonb_doc.specs.Private.Values.{trees_seen}
-use Rattle.jsonb_doc.specs.Private.Parts.{tree_parts, values_parts}
+use Rattle.jsonb_doc.proofs.Common.{◌≡◌, ◌∷◌, ◌++◌, sym, ap, ◌∙◌, arith, nil_from_length, iter_rest, array, trees_of, number_view, tree_seen, trees_seen, tree_parts, values_parts}
+use Rattle.std.proofs.Common.{append-nil}
 use Rattle.jsonb_doc.proofs.ValueTrees.{tree_seen-Array}
 use Rattle.jsonb_doc.proofs.CopiedValues.{value_copied}
 use Rattle.jsonb_doc.proofs.value.copy.fill_array.Goals as goal

@@ -1,9 +1,5 @@
-use Rattle.std.proofs.Common.{◌≡◌, ◌≤◌, ◌++◌}
-use Rattle.std.specs.Slice.Iter.{iter_rest}
+use Rattle.jsonb_doc.proofs.Common.{◌≡◌, ◌≤◌, ◌++◌, iter_rest, trees_seen, values_parts, Number}
 use Rattle.jsonb_doc.specs.Number as spec
-use Rattle.jsonb_doc.specs.Private.Values.{trees_seen}
-use Rattle.jsonb_doc.specs.Private.Parts.{values_parts}
-use Rattle.jsonb_doc.specs.declared.number.Number.{Number}
 use Rattle.jsonb_doc.proofs.value.copy.fill_array.Given as goal
 
 -- the copies so far, followed by the values that are left, are the array's

@@ -1,8 +1,4 @@
-use Rattle.std.proofs.Common.{◌≡◌, string_bytes, sym, ap, ◌∙◌, arith}
-use Rattle.jsonb_doc.specs.Value.{tree_seen}
-use Rattle.jsonb_doc.specs.Private.Values.{members_seen}
-use Rattle.jsonb_doc.specs.Private.Parts.{entries_parts}
-use Rattle.jsonb_doc.specs.Private.Copying.{insert_pairs}
+use Rattle.jsonb_doc.proofs.Common.{◌≡◌, string_bytes, sym, ap, ◌∙◌, arith, tree_seen, members_seen, entries_parts, insert_pairs}
 use Rattle.jsonb_doc.proofs.CopiedValues.{member_copied}
 use Rattle.jsonb_doc.proofs.value.copy.fill_object.Goals as goal
 

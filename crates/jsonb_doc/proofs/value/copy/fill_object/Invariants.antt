@@ -1,9 +1,5 @@
-use Rattle.std.proofs.Common.{◌≡◌, ◌≤◌}
+use Rattle.jsonb_doc.proofs.Common.{◌≡◌, ◌≤◌, members_seen, entries_parts, insert_pairs, Number}
 use Rattle.jsonb_doc.specs.Number as spec
-use Rattle.jsonb_doc.specs.Private.Values.{members_seen}
-use Rattle.jsonb_doc.specs.Private.Parts.{entries_parts}
-use Rattle.jsonb_doc.specs.Private.Copying.{insert_pairs}
-use Rattle.jsonb_doc.specs.declared.number.Number.{Number}
 use Rattle.jsonb_doc.proofs.value.copy.fill_object.Given as goal
 
 -- the copies so far, with the members that are left, are the object's

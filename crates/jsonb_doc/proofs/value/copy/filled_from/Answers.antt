@@ -1,8 +1,4 @@
-use Rattle.std.proofs.Common.{◌++◌, sym, ap, ◌∙◌, []}
-use Rattle.std.specs.Slice.Iter.{iter_rest}
-use Rattle.jsonb_doc.specs.Tree.{array, object, trees_of, pairs_of}
-use Rattle.jsonb_doc.specs.Private.Values.{trees_seen, members_seen}
-use Rattle.jsonb_doc.specs.Private.Copying.{part_tree, insert_pairs}
+use Rattle.jsonb_doc.proofs.Common.{◌++◌, sym, ap, ◌∙◌, [], iter_rest, array, object, trees_of, pairs_of, trees_seen, members_seen, part_tree, insert_pairs}
 use Rattle.jsonb_doc.proofs.CopiedValues.{copied_in_order, copies_same}
 use Rattle.jsonb_doc.proofs.value.copy.filled_from.Goals as goal
 

@@ -1,9 +1,4 @@
-use Rattle.std.proofs.Common.{string_bytes, refl, sym, ap, ◌∙◌}
-use Rattle.std.specs.Slice.Iter.{iter_rest}
-use Rattle.jsonb_doc.specs.Tree.{array, object, trees_of, pairs_of}
-use Rattle.jsonb_doc.specs.Value.{tree_seen}
-use Rattle.jsonb_doc.specs.Private.Values.{trees_seen, members_seen}
-use Rattle.jsonb_doc.specs.Private.Copying.{insert_pairs, with_part}
+use Rattle.jsonb_doc.proofs.Common.{string_bytes, refl, sym, ap, ◌∙◌, iter_rest, array, object, trees_of, pairs_of, tree_seen, trees_seen, members_seen, insert_pairs, with_part}
 use Rattle.jsonb_doc.proofs.CopiedValues.{value_copied, member_copied, copies_same}
 use Rattle.jsonb_doc.proofs.value.copy.resume_fill.Goals as goal
 

@@ -1,13 +1,5 @@
-use Rattle.std.proofs.Common.{◌≡◌, ℕ, ◌∷◌, ◌++◌, List, string_bytes, arith, refl, sym, ap, subst, ◌∙◌, MatchResult}
-use Rattle.std.specs.Prelude.{reverse}
-use Rattle.std.proofs.lemmas.List.{nil_from_length}
-use Rattle.std.proofs.lemmas.Result.{err_from_is_err_and}
-use Rattle.jsonb_doc.specs.Tree.{Tree, Trees, Pairs, array, object, elements, members, keys, trees_of, pairs_of}
-use Rattle.jsonb_doc.specs.Format.{AreKeys}
-use Rattle.jsonb_doc.specs.Answer.{IsOutOfMemory}
-use Rattle.jsonb_doc.specs.Value.{tree_seen}
-use Rattle.jsonb_doc.specs.Private.Values.{trees_seen, members_seen}
-use Rattle.jsonb_doc.specs.Private.Filling.{FillsTo, LeadsTo}
+use Rattle.jsonb_doc.proofs.Common.{◌≡◌, ℕ, ◌∷◌, ◌++◌, List, string_bytes, arith, refl, sym, ap, subst, ◌∙◌, MatchResult, reverse, nil_from_length, err_from_is_err_and, Tree, Trees, Pairs, array, object, elements, members, keys, trees_of, pairs_of, AreKeys, IsOutOfMemory, tree_seen, trees_seen, members_seen, FillsTo}
+use Rattle.jsonb_doc.specs.Private.Filling.{LeadsTo}
 use Rattle.jsonb_doc.specs.declared.value.decode.Open.{Open}
 use Rattle.jsonb_doc.proofs.LimitLemmas.{decoded_keys}
 use Rattle.jsonb_doc.proofs.ValueTrees.{tree_seen-Array, tree_seen-Object}

@@ -1,16 +1,6 @@
-use Rattle.std.proofs.Common.{◌≡◌, ◌+◌, ◌*◌, ◌≤◌, ◌++◌, length}
-use Rattle.std.specs.Prelude.{reverse}
+use Rattle.jsonb_doc.proofs.Common.{◌≡◌, ◌+◌, ◌*◌, ◌≤◌, ◌++◌, length, reverse, Tree, Trees, Pairs, elements, members, keys, trees_of, pairs_of, Form, AreKeys, StandsFor, item_size, HasElementsLeft, HasPairsLeft, tree_seen, trees_seen, members_seen, KeepsNormal, SeesItem, open_room, Number}
 use Rattle.jsonb_doc.specs.Number as spec
-use Rattle.jsonb_doc.specs.Tree.{Tree, Trees, Pairs, elements, members, keys, trees_of, pairs_of}
-use Rattle.jsonb_doc.specs.Payload.{Form}
-use Rattle.jsonb_doc.specs.Format.{AreKeys}
-use Rattle.jsonb_doc.specs.Item.{StandsFor}
-use Rattle.jsonb_doc.specs.AnyBytes.Items.{item_size}
-use Rattle.jsonb_doc.specs.Representation.Iterators.{HasElementsLeft, HasPairsLeft}
-use Rattle.jsonb_doc.specs.Value.{tree_seen}
-use Rattle.jsonb_doc.specs.Private.Values.{trees_seen, members_seen, KeepsNormal, SeesItem}
-use Rattle.jsonb_doc.specs.Private.Filling.{LeadsTo, open_room}
-use Rattle.jsonb_doc.specs.declared.number.Number.{Number}
+use Rattle.jsonb_doc.specs.Private.Filling.{LeadsTo}
 use Rattle.jsonb_doc.proofs.FilledValues.{widest}
 use Rattle.jsonb_doc.proofs.value.decode.+decode.Given as goal
 

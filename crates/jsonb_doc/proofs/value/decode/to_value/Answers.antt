@@ -1,6 +1,4 @@
-use Rattle.std.proofs.Common.{◌≡◌, refl}
-use Rattle.jsonb_doc.specs.View.{number_parts, number_view}
-use Rattle.jsonb_doc.specs.Value.{value_parts}
+use Rattle.jsonb_doc.proofs.Common.{◌≡◌, refl, number_parts, number_view, value_parts}
 use Rattle.jsonb_doc.proofs.DecodedValues.{sees_normal, sees_view}
 use Rattle.jsonb_doc.proofs.Basics.{if_answered}
 use Rattle.jsonb_doc.proofs.value.decode.to_value.Goals as goal

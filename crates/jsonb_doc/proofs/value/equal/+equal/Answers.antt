@@ -1,5 +1,4 @@
-use Rattle.std.proofs.Common.{arith}
-use Rattle.std.proofs.lemmas.Grind.{common_steps}
+use Rattle.jsonb_doc.proofs.Common.{arith, common_steps}
 use Rattle.jsonb_doc.proofs.value.equal.+equal.Goals as goal
 
 pub values_compared-returns-in_default-next-clause-same : goal.values_compared-returns-in_default-next-clause-same

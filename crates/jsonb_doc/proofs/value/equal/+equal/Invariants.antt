@@ -1,9 +1,4 @@
-use Rattle.std.proofs.Common.{◌≡◌, ◌+◌, ◌-◌, ◌*◌, ◌≤◌, ◌&&◌}
-use Rattle.std.specs.Slice.Iter.{iter_rest}
-use Rattle.jsonb_doc.specs.Equal.{is_equal}
-use Rattle.jsonb_doc.specs.Value.{value_tree}
-use Rattle.jsonb_doc.specs.Private.Parts.{parts, values_parts, entries_parts}
-use Rattle.jsonb_doc.specs.Private.Comparing.{values_same, entries_same, told, told_parts}
+use Rattle.jsonb_doc.proofs.Common.{◌≡◌, ◌+◌, ◌-◌, ◌*◌, ◌≤◌, ◌&&◌, iter_rest, is_equal, value_tree, parts, values_parts, entries_parts, values_same, entries_same, told, told_parts}
 use Rattle.jsonb_doc.proofs.value.equal.+equal.Given as goal
 
 -- that many parts, and then the functions in turn

@@ -1,8 +1,4 @@
-use Rattle.std.proofs.Common.{◌+◌, Some, String, BTreeMap, Global, sym, ap, ◌∙◌, arith}
-use Rattle.std.specs.BTreeMap.Entry.{map_with_value}
-use Rattle.std.specs.Map.{keys_of}
-use Rattle.jsonb_doc.specs.Private.Parts.{parts, entries_parts}
-use Rattle.jsonb_doc.specs.declared.value.Value.{Value}
+use Rattle.jsonb_doc.proofs.Common.{◌+◌, Some, String, BTreeMap, Global, sym, ap, ◌∙◌, arith, map_with_value, keys_of, parts, entries_parts, Value}
 use Rattle.jsonb_doc.proofs.PartLemmas.{fewer_parts, fewer_exchanged}
 use Rattle.jsonb_doc.proofs.value.release.with_behind.Goals as goal
 

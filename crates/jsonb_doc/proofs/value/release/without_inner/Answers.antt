@@ -1,8 +1,6 @@
-use Rattle.std.proofs.Common.{ap, ◌∙◌, arith}
-use Rattle.jsonb_doc.specs.Private.Parts.{parts, values_parts, waiting_parts}
+use Rattle.jsonb_doc.proofs.Common.{ap, ◌∙◌, arith, parts, values_parts, waiting_parts, value_tree}
 use Rattle.jsonb_doc.specs.declared.value.Value.{Array}
 use Rattle.jsonb_doc.proofs.PartLemmas.{fewer_in_front, parts-Array, values_parts-last, some_tree_parts}
-use Rattle.jsonb_doc.specs.Value.{value_tree}
 use Rattle.jsonb_doc.proofs.value.release.without_inner.Goals as goal
 
 pub returns-in-None : goal.returns-in-None

@@ -1,6 +1,4 @@
-use Rattle.std.proofs.Common.{ap, ◌∙◌, arith}
-use Rattle.jsonb_doc.specs.Value.{value_tree}
-use Rattle.jsonb_doc.specs.Private.Parts.{parts, entries_parts, waiting_parts}
+use Rattle.jsonb_doc.proofs.Common.{ap, ◌∙◌, arith, value_tree, parts, entries_parts, waiting_parts}
 use Rattle.jsonb_doc.specs.declared.value.Value.{Object}
 use Rattle.jsonb_doc.proofs.PartLemmas.{fewer_in_front, some_tree_parts, parts-Object, entries_parts-last, waiting_parts-container}
 use Rattle.jsonb_doc.proofs.value.release.without_member.Goals as goal

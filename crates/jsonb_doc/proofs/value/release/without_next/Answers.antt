@@ -1,5 +1,4 @@
-use Rattle.std.proofs.Common.{ap, arith}
-use Rattle.jsonb_doc.specs.Private.Parts.{parts, waiting_parts}
+use Rattle.jsonb_doc.proofs.Common.{ap, arith, parts, waiting_parts}
 use Rattle.jsonb_doc.proofs.PartLemmas.{fewer_parts}
 use Rattle.jsonb_doc.proofs.value.release.without_next.Goals as goal
 

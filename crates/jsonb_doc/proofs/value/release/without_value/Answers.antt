@@ -1,5 +1,4 @@
-use Rattle.std.proofs.Common.{◌+◌, refl, ap, ◌∙◌, arith}
-use Rattle.jsonb_doc.specs.Private.Parts.{parts, values_parts, waiting_parts, remaining}
+use Rattle.jsonb_doc.proofs.Common.{◌+◌, refl, ap, ◌∙◌, arith, parts, values_parts, waiting_parts, remaining}
 use Rattle.jsonb_doc.proofs.PartLemmas.{as_many_parts, values_parts-last}
 use Rattle.jsonb_doc.proofs.value.release.without_value.Goals as goal
 

@@ -1,5 +1,4 @@
-use Rattle.std.proofs.Common.{◌≡◌, ◌≤◌, length}
-use Rattle.jsonb_doc.specs.Private.Parts.{values_parts}
+use Rattle.jsonb_doc.proofs.Common.{◌≡◌, ◌≤◌, length, values_parts}
 use Rattle.jsonb_doc.proofs.value.release.without_value.Given as goal
 
 -- nothing has come in

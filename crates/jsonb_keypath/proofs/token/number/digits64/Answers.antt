@@ -1,7 +1,4 @@
-use Rattle.std.proofs.Common.{sym}
-use Rattle.std.specs.Prelude.{take_while}
-use Rattle.std.specs.Char.{is_ascii_digit}
-use Rattle.std.specs.Str.Parse.{ParsesUnsigned}
+use Rattle.jsonb_keypath.proofs.Common.{sym, take_while, is_ascii_digit, ParsesUnsigned}
 use Rattle.jsonb_keypath.proofs.NumberLemmas.{nat64_read}
 use Rattle.jsonb_keypath.proofs.token.number.digits64.Goals as goal
 

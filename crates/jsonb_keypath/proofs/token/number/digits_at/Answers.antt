@@ -1,7 +1,4 @@
-use Rattle.std.proofs.Common.{◌≡◌, arith}
-use Rattle.std.specs.Prelude.{take_while}
-use Rattle.std.specs.Char.{is_ascii_digit}
-use Rattle.std.proofs.lemmas.List.Sums.{prefix_len-le-length}
+use Rattle.jsonb_keypath.proofs.Common.{◌≡◌, arith, take_while, is_ascii_digit, prefix_len-le-length}
 use Rattle.jsonb_keypath.proofs.NumberLemmas.{digits_are_utf8}
 use Rattle.jsonb_keypath.proofs.token.number.digits_at.Goals as goal
 

@@ -1,8 +1,4 @@
-use Rattle.std.proofs.Common.{◌≡◌, sym, ◌∙◌, refl}
-use Rattle.std.specs.Int.{w64, w32}
-use Rattle.std.specs.Prelude.{FitsSigned}
-use mir.Val.{to_z, of_z}
-use Rattle.std.proofs.lemmas.Int.{to_z-of_z}
+use Rattle.jsonb_keypath.proofs.Common.{◌≡◌, sym, ◌∙◌, refl, w64, w32, FitsSigned, to_z, of_z, to_z-of_z}
 use Rattle.jsonb_keypath.proofs.NumberLemmas.{int32_read, int64_kept, is_within-decides, when_passes, when_not, when_none, not_true}
 use Rattle.jsonb_keypath.proofs.token.number.int32.Goals as goal
 

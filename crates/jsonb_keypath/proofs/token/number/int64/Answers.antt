@@ -1,9 +1,4 @@
-use Rattle.std.proofs.Common.{◌≡◌, sym, ◌∙◌, ap, refl}
-use Rattle.std.specs.Int.{w64}
-use mir.Val.{to_z, of_z}
-use Rattle.std.proofs.lemmas.Int.{to_z-of_z}
-use Rattle.jsonb_keypath.specs.Rules.{parsed_map}
-use Rattle.jsonb_doc.specs.Rounding.{with_sign}
+use Rattle.jsonb_keypath.proofs.Common.{◌≡◌, sym, ◌∙◌, ap, refl, w64, to_z, of_z, to_z-of_z, parsed_map, with_sign}
 use Rattle.jsonb_keypath.proofs.NumberLemmas.{int64_read, is_within-decides, when_passes, when_not, when_none, not_true}
 use Rattle.jsonb_keypath.proofs.token.number.int64.Goals as goal
 

@@ -1,4 +1,4 @@
-use Rattle.std.proofs.Common.{sym, ◌∙◌}
+use Rattle.jsonb_keypath.proofs.Common.{sym, ◌∙◌}
 use Rattle.jsonb_keypath.proofs.NumberLemmas.{no_digit}
 use Rattle.jsonb_keypath.proofs.token.number.nat64.Goals as goal
 

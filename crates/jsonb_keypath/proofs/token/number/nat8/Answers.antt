@@ -1,5 +1,4 @@
-use Rattle.std.proofs.Common.{arith, sym, ◌∙◌}
-use Rattle.std.proofs.lemmas.Bool.Decides.{nat_tests}
+use Rattle.jsonb_keypath.proofs.Common.{arith, sym, ◌∙◌, nat_tests}
 use Rattle.jsonb_keypath.proofs.NumberLemmas.{nat8_read, when_passes, when_not, when_none}
 use Rattle.jsonb_keypath.proofs.token.number.nat8.Goals as goal
 

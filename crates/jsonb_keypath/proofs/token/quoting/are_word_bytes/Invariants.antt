@@ -1,6 +1,4 @@
-use Rattle.std.proofs.Common.{◌≡◌, take}
-use Rattle.std.specs.List.{list_all}
-use Rattle.jsonb_keypath.specs.KeyPathText.{is_word_byte}
+use Rattle.jsonb_keypath.proofs.Common.{◌≡◌, take, list_all, is_word_byte}
 use Rattle.jsonb_keypath.proofs.token.quoting.are_word_bytes.Given as goal
 
 -- the bytes so far

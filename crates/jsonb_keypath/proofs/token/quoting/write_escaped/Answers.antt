@@ -1,5 +1,4 @@
-use Rattle.std.proofs.Common.{refl, true}
-use Rattle.std.proofs.Output.{has_written_append, has_written_of_eq}
+use Rattle.jsonb_keypath.proofs.Common.{refl, true, has_written_append, has_written_of_eq}
 use Rattle.jsonb_keypath.proofs.ShowLemmas.{quoted_more}
 use Rattle.jsonb_keypath.proofs.token.quoting.write_escaped.Goals as goal
 

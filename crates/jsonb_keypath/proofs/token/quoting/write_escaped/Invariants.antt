@@ -1,6 +1,4 @@
-use Rattle.std.specs.Prelude.{flat_map, encode_utf8_all}
-use Rattle.std.specs.Fmt.{HasWritten, IsPlainFormatter}
-use Rattle.jsonb_keypath.specs.KeyPathText.{quoted_byte}
+use Rattle.jsonb_keypath.proofs.Common.{flat_map, encode_utf8_all, HasWritten, IsPlainFormatter, quoted_byte}
 use Rattle.jsonb_keypath.proofs.token.quoting.write_escaped.Given as goal
 
 -- the characters so far are written

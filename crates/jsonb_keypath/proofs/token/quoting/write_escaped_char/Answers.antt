@@ -1,6 +1,4 @@
-use Rattle.std.proofs.Common.{◌≡◌, false, arith}
-use Rattle.std.specs.Prelude.{◌==◌}
-use Rattle.std.proofs.lemmas.Bool.Decides.{nat_tests}
+use Rattle.jsonb_keypath.proofs.Common.{◌≡◌, false, arith, ◌==◌, nat_tests}
 use Rattle.jsonb_keypath.proofs.ShowLemmas.{quoted_char}
 use Rattle.jsonb_keypath.proofs.token.quoting.write_escaped_char.Goals as goal
 

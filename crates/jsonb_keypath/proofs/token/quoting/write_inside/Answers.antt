@@ -1,6 +1,4 @@
-use Rattle.std.proofs.Common.{◌≡◌, true, sym}
-use Rattle.std.specs.List.{list_all}
-use Rattle.jsonb_keypath.specs.Tokens.{is_unescaped, is_quote}
+use Rattle.jsonb_keypath.proofs.Common.{◌≡◌, true, sym, list_all, is_unescaped, is_quote}
 use Rattle.jsonb_keypath.proofs.ShowLemmas.{no_escapes}
 use Rattle.jsonb_keypath.proofs.token.quoting.write_inside.Goals as goal
 

@@ -1,7 +1,4 @@
-use Rattle.std.proofs.Common.{◌≡◌, ap, ℕ, Vec, Global}
-use Rattle.std.specs.Prelude.{string_bytes}
-use Rattle.std.proofs.lemmas.Str.{is_utf8-from_IsUtf8, IsUtf8-string_bytes}
-use Rattle.jsonb_keypath.specs.Private.Units.{excluded}
+use Rattle.jsonb_keypath.proofs.Common.{◌≡◌, ap, ℕ, Vec, Global, string_bytes, is_utf8-from_IsUtf8, IsUtf8-string_bytes, excluded}
 use Rattle.jsonb_keypath.proofs.TextLemmas.{text-none, text-some, text-damaged, is_utf8-false}
 use Rattle.jsonb_keypath.proofs.token.text.owned_text_at.Goals as goal
 

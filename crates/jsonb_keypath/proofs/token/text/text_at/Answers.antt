@@ -1,11 +1,4 @@
-use Rattle.std.proofs.Common.{◌≡◌, ◌<◌, sym, ◌∙◌, None, [], ◌∷◌, arith}
-use Rattle.std.specs.Prelude.{take_while}
-use Rattle.std.specs.List.{prefix_len}
-use Rattle.std.proofs.lemmas.List.Sums.{prefix_len-le-length}
-use Rattle.std.proofs.lemmas.Str.{is_utf8-from_IsUtf8}
-use Rattle.jsonb_keypath.specs.Rules.{bytes}
-use Rattle.jsonb_keypath.specs.Tokens.{is_unescaped, past}
-use Rattle.jsonb_keypath.specs.Private.Units.{excluded}
+use Rattle.jsonb_keypath.proofs.Common.{◌≡◌, ◌<◌, sym, ◌∙◌, None, [], ◌∷◌, arith, take_while, prefix_len, prefix_len-le-length, is_utf8-from_IsUtf8, bytes, is_unescaped, past, excluded}
 use Rattle.jsonb_keypath.proofs.TextLemmas.{units-plain, units-no_plain, text-none, text-some, text-damaged, is_utf8-false}
 use Rattle.jsonb_keypath.proofs.token.text.text_at.Goals as goal
 

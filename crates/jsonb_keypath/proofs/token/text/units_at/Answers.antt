@@ -1,6 +1,4 @@
-use Rattle.std.proofs.Common.{◌≡◌, ◌++◌, arith}
-use Rattle.jsonb_keypath.specs.Tokens.{unit}
-use Rattle.jsonb_keypath.specs.Private.Units.{excluded, unit_bytes}
+use Rattle.jsonb_keypath.proofs.Common.{◌≡◌, ◌++◌, arith, unit, excluded, unit_bytes}
 use Rattle.jsonb_keypath.proofs.TextLemmas.{gather-goes, gather-ends}
 use Rattle.jsonb_keypath.proofs.token.text.units_at.Goals as goal
 

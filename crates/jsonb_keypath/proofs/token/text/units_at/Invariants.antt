@@ -1,9 +1,5 @@
-use Rattle.std.proofs.Common.{◌≡◌, length}
-use Rattle.jsonb_keypath.specs.Rules.{repeat}
-use Rattle.jsonb_keypath.specs.Tokens.{unit, units}
-use Rattle.jsonb_keypath.specs.Private.Units.{excluded}
+use Rattle.jsonb_keypath.proofs.Common.{◌≡◌, length, repeat, unit, units, excluded, ◌<◌}
 use Rattle.jsonb_keypath.proofs.TextLemmas.{gathered}
-use Rattle.std.proofs.Common.{◌<◌}
 use Rattle.jsonb_keypath.proofs.token.text.units_at.Given as goal
 
 abbrev pub invariant-loop-next : goal.invariant-loop-next

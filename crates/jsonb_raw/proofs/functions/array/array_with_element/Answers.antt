@@ -1,7 +1,5 @@
-use Rattle.std.proofs.Common.{◌≡◌, length, take, drop, ap, ◌∙◌, w32}
-use Rattle.std.proofs.lemmas.Int.{to_z-of_z}
+use Rattle.jsonb_raw.proofs.Common.{◌≡◌, length, take, drop, ap, ◌∙◌, w32, to_z-of_z, as_elements, insert_place}
 use Rattle.jsonb_raw.proofs.AnswerLemmas.{failed}
-use Rattle.jsonb_raw.specs.Arrays.{as_elements, insert_place}
 use Rattle.jsonb_raw.proofs.RunLemmas.{refused_between, refused_beside}
 use Rattle.jsonb_raw.proofs.functions.array.array_with_element.Goals as goal
 

@@ -1,4 +1,4 @@
-use Rattle.std.proofs.Common.{[], ◌∷◌, take, drop}
+use Rattle.jsonb_raw.proofs.Common.{[], ◌∷◌, take, drop}
 use Rattle.jsonb_raw.proofs.RunLemmas.{three_runs}
 use Rattle.jsonb_raw.proofs.functions.array.array_with_entry.Goals as goal
 

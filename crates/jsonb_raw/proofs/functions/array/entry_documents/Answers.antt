@@ -1,6 +1,5 @@
-use Rattle.std.proofs.Common.{◌≡◌, ◌++◌, [], ◌∷◌}
+use Rattle.jsonb_raw.proofs.Common.{◌≡◌, ◌++◌, [], ◌∷◌, Decodes}
 use Rattle.jsonb_raw.proofs.AnswerLemmas.{failed}
-use Rattle.jsonb_doc.specs.Format.{Decodes}
 use Rattle.jsonb_raw.proofs.CollectLoops.{none_made, one_made, all_made}
 use Rattle.jsonb_raw.proofs.ArrayLemmas.{element_refused_in_list}
 use Rattle.jsonb_raw.proofs.RunLemmas.{entry_taken, no_entry_left}

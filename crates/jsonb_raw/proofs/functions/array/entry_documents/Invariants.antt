@@ -1,8 +1,4 @@
-use Rattle.std.proofs.Common.{List, length}
-use Rattle.jsonb_doc.specs.Tree.{Tree}
-use Rattle.jsonb_doc.specs.Payload.{Form}
-use Rattle.jsonb_doc.specs.Format.{Decodes}
-use Rattle.jsonb_raw.specs.Private.Entries.{HoldTrees}
+use Rattle.jsonb_raw.proofs.Common.{List, length, Tree, Form, Decodes, HoldTrees}
 use Rattle.jsonb_raw.proofs.CollectLoops.{Made}
 use Rattle.jsonb_raw.proofs.functions.array.entry_documents.Given as goal
 

@@ -1,5 +1,4 @@
-use Rattle.std.proofs.Common.{refl}
-use Rattle.jsonb_doc.proofs.Containers.{Decodes-array}
+use Rattle.jsonb_raw.proofs.Common.{refl, Decodes-array}
 use Rattle.jsonb_raw.proofs.RunLemmas.{entries_of_array}
 use Rattle.jsonb_raw.proofs.functions.entries.element_entries.Goals as goal
 

@@ -1,13 +1,4 @@
-use Rattle.std.proofs.Common.{◌≢◌, ℕ, ◌^◌, ◌<◌, ◌≤◌, List, ◌++◌, length, inr, refl, arith}
-use Rattle.jsonb_doc.specs.Tree.{Tree, null, boolean, number, text, extension, array, object}
-use Rattle.jsonb_doc.specs.Payload.{Form, number_reader}
-use Rattle.jsonb_doc.specs.Format.{Decodes, IsContent, header, scalar_header, entry_word}
-use Rattle.jsonb_doc.specs.Limits.{IsTooLarge}
-use Rattle.jsonb_doc.proofs.EntryDocuments.{entry_decodes}
-use Rattle.jsonb_doc.proofs.WriterLimits.{not_short}
-use Rattle.jsonb_doc.specs.Kinds.{kind_number}
-use Rattle.jsonb_doc.specs.declared.layout.EntryKind.TheVariants.{Container}
-use Rattle.jsonb_doc.proofs.KindLemmas.{kind_known, other_kind}
+use Rattle.jsonb_raw.proofs.Common.{◌≢◌, ℕ, ◌^◌, ◌<◌, ◌≤◌, List, ◌++◌, length, inr, refl, arith, Tree, null, boolean, number, text, extension, array, object, Form, number_reader, Decodes, IsContent, header, scalar_header, entry_word, IsTooLarge, entry_decodes, not_short, kind_number, Container, kind_known, other_kind}
 use Rattle.jsonb_raw.proofs.functions.entries.entry_document.Goals as goal
 
 -- another entry after a header is a document

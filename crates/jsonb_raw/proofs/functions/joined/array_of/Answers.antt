@@ -1,5 +1,4 @@
-use Rattle.std.proofs.Common.{inr, refl, sym, ◌∙◌, length, ◌++◌, []}
-use Rattle.jsonb_doc.specs.Tree.{array, trees_of}
+use Rattle.jsonb_raw.proofs.Common.{inr, refl, sym, ◌∙◌, length, ◌++◌, [], array, trees_of}
 use Rattle.jsonb_doc.specs.declared.layout.HeaderKind.TheVariants as header_kind
 use Rattle.jsonb_raw.proofs.RunLemmas.{no_runs, no_entries, array_made, too_many_made}
 use Rattle.jsonb_raw.proofs.functions.joined.array_of.Goals as goal

@@ -1,4 +1,4 @@
-use Rattle.std.proofs.Common.{length, ap, arith, length-append}
+use Rattle.jsonb_raw.proofs.Common.{length, ap, arith, length-append}
 use Rattle.jsonb_raw.proofs.RunLemmas.{first_run, no_runs_left}
 use Rattle.jsonb_raw.proofs.functions.joined.count_entries.Goals as goal
 

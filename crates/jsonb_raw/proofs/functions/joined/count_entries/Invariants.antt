@@ -1,7 +1,4 @@
-use Rattle.std.proofs.Common.{◌≡◌, ◌+◌, ◌^◌, ◌<◌, List, length, drop}
-use Rattle.jsonb_doc.specs.Tree.{Tree}
-use Rattle.jsonb_doc.specs.Payload.{Form}
-use Rattle.jsonb_raw.specs.Private.Entries.{RunsHold}
+use Rattle.jsonb_raw.proofs.Common.{◌≡◌, ◌+◌, ◌^◌, ◌<◌, List, length, drop, Tree, Form, RunsHold}
 use Rattle.jsonb_raw.proofs.functions.joined.count_entries.Given as goal
 
 -- the entries so far, and those that are left, are all

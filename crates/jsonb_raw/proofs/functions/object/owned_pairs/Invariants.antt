@@ -1,8 +1,4 @@
-use Rattle.std.proofs.Common.{List, ℕ, length, string_bytes}
-use Rattle.jsonb_doc.specs.Tree.{Tree}
-use Rattle.jsonb_doc.specs.Payload.{Form}
-use Rattle.jsonb_raw.specs.Making.{IsPairOf}
-use Rattle.jsonb_raw.specs.Private.Entries.{HoldPairs}
+use Rattle.jsonb_raw.proofs.Common.{List, ℕ, length, string_bytes, Tree, Form, IsPairOf, HoldPairs}
 use Rattle.jsonb_raw.proofs.CollectLoops.{Made}
 use Rattle.jsonb_raw.proofs.functions.object.owned_pairs.Given as goal
 

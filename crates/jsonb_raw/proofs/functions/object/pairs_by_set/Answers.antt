@@ -1,11 +1,6 @@
-use Rattle.std.proofs.Common.{◌∙◌, inl, subst, append-nil}
+use Rattle.jsonb_raw.proofs.Common.{◌∙◌, inl, subst, append-nil, keys_of, keys_rise, parted, names_left, PairsHeld}
 use Rattle.jsonb_raw.proofs.AnswerLemmas.{failed}
-use Rattle.std.specs.Map.{keys_of}
-use Rattle.jsonb_doc.proofs.BuilderSteps.{keys_rise}
-use Rattle.jsonb_raw.specs.Private.PairSteps.{parted}
-use Rattle.jsonb_raw.specs.Private.Names.{names_left}
 use Rattle.jsonb_raw.proofs.PartedRuns.{names_begun, parting_begun, run_hold, parting_on, parting_done, parted_rising}
-use Rattle.jsonb_raw.specs.Private.Entries.{PairsHeld}
 use Rattle.jsonb_raw.proofs.functions.object.pairs_by_set.Goals.{then-run-wanted+in_ok-keys+in_ok-push, else-run-wanted}
 use Rattle.jsonb_raw.proofs.functions.object.pairs_by_set.Goals as goal
 

@@ -1,11 +1,4 @@
-use Rattle.std.proofs.Common.{◌≡◌, List, ℕ, length}
-use Rattle.std.specs.Map.{keys_of}
-use Rattle.jsonb_doc.specs.Tree.{Tree}
-use Rattle.jsonb_doc.specs.Payload.{Form}
-use Rattle.jsonb_doc.specs.Format.{AreKeys}
-use Rattle.jsonb_raw.specs.Private.PairSteps.{parted}
-use Rattle.jsonb_raw.specs.Private.Entries.{HoldPairs}
-use Rattle.jsonb_raw.specs.Private.Names.{names_left}
+use Rattle.jsonb_raw.proofs.Common.{◌≡◌, List, ℕ, length, keys_of, Tree, Form, AreKeys, parted, HoldPairs, names_left}
 use Rattle.jsonb_raw.proofs.PartedRuns.{Parting}
 use Rattle.jsonb_raw.proofs.functions.object.pairs_by_set.Given as goal
 

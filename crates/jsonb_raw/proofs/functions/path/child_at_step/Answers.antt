@@ -1,9 +1,5 @@
-use Rattle.std.proofs.Common.{rules, w32, SFits}
-use Rattle.std.proofs.lemmas.Int.{to_z-of_z}
+use Rattle.jsonb_raw.proofs.Common.{rules, w32, SFits, to_z-of_z, field_of, SameOption, Locates}
 use Rattle.jsonb_raw.proofs.PositionLemmas.{passed, plain_met, quoted_met}
-use Rattle.jsonb_doc.specs.Tree.{field_of}
-use Rattle.jsonb_doc.specs.Answer.{SameOption}
-use Rattle.jsonb_doc.specs.Representation.Positions.{Locates}
 use Rattle.jsonb_raw.proofs.AnswerLemmas.{answered}
 use Rattle.jsonb_raw.proofs.functions.path.child_at_step.Goals as goal
 

@@ -1,5 +1,4 @@
-use Rattle.std.proofs.Common.{◌∙◌, sym, w32}
-use Rattle.std.proofs.lemmas.Int.{to_z-of_z}
+use Rattle.jsonb_raw.proofs.Common.{◌∙◌, sym, w32, to_z-of_z}
 use Rattle.jsonb_raw.proofs.PositionLemmas.{field_by_key, no_field}
 use Rattle.jsonb_raw.proofs.functions.path.keyed_child.Goals as goal
 

@@ -1,4 +1,4 @@
-use Rattle.jsonb_raw.specs.Places.{children}
+use Rattle.jsonb_raw.proofs.Common.{children}
 use Rattle.jsonb_raw.proofs.ChildLemmas.{all_left}
 use Rattle.jsonb_raw.proofs.functions.path.nth_child.Goals as goal
 

@@ -1,5 +1,4 @@
-use Rattle.std.proofs.Common.{refl, arith, drop}
-use Rattle.jsonb_doc.proofs.SpotsTaken.{no_spots_left}
+use Rattle.jsonb_raw.proofs.Common.{refl, arith, drop, no_spots_left}
 use Rattle.jsonb_raw.proofs.ChildLemmas.{first_left, first_marked, first_given, here, nowhere, beyond, first_behind}
 use Rattle.jsonb_raw.proofs.functions.path.nth_spot.Goals as goal
 

@@ -1,5 +1,4 @@
-use Rattle.std.proofs.Common.{refl}
-use Rattle.jsonb_doc.proofs.Containers.{Decodes-array, Decodes-object}
+use Rattle.jsonb_raw.proofs.Common.{refl, Decodes-array, Decodes-object}
 use Rattle.jsonb_raw.proofs.RunLemmas.{array_entries_are, object_entries_are, no_parts, array_within, object_within}
 use Rattle.jsonb_raw.proofs.functions.runs.container_entries.Goals as goal
 

@@ -1,8 +1,5 @@
-use Rattle.std.proofs.Common.{◌++◌, List, ap, sym, subst, length, ◌∙◌}
-use Rattle.jsonb_doc.specs.Tree.{Tree}
-use Rattle.jsonb_doc.specs.Private.Writer.{IsWriting}
+use Rattle.jsonb_raw.proofs.Common.{◌++◌, List, ap, sym, subst, length, ◌∙◌, Tree, IsWriting, zero_of}
 use Rattle.jsonb_raw.proofs.RunLemmas.{holding_none, holding_one}
-use Rattle.jsonb_doc.proofs.Basics.{zero_of}
 use Rattle.jsonb_raw.proofs.functions.runs.copy_run.Goals as goal
 
 pub returns-then-is_empty-clause-copied : goal.returns-then-is_empty-clause-copied

@@ -1,4 +1,4 @@
-use Rattle.std.proofs.Common.{◌∙◌, sym, rules}
+use Rattle.jsonb_raw.proofs.Common.{◌∙◌, sym, rules}
 use Rattle.jsonb_raw.proofs.PositionLemmas.{key_here, key_further, key_nowhere}
 use Rattle.jsonb_raw.proofs.RunLemmas.{text_first, no_text_left}
 use Rattle.jsonb_raw.proofs.functions.runs.name_position.Goals as goal

@@ -1,7 +1,4 @@
-use Rattle.std.proofs.Common.{◌≡◌, ◌+◌, ◌≤◌, List, ℕ, length, map, position, bytes_eq}
-use Rattle.jsonb_doc.specs.Tree.{text}
-use Rattle.jsonb_doc.specs.Payload.{Form}
-use Rattle.jsonb_raw.specs.Private.Entries.{HoldTrees}
+use Rattle.jsonb_raw.proofs.Common.{◌≡◌, ◌+◌, ◌≤◌, List, ℕ, length, map, position, bytes_eq, text, Form, HoldTrees}
 use Rattle.jsonb_raw.proofs.PositionLemmas.{position_behind}
 use Rattle.jsonb_raw.proofs.functions.runs.name_position.Given as goal
 

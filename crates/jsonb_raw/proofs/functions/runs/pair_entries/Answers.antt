@@ -1,4 +1,4 @@
-use Rattle.jsonb_doc.proofs.Containers.{Decodes-object}
+use Rattle.jsonb_raw.proofs.Common.{Decodes-object}
 use Rattle.jsonb_raw.proofs.RunLemmas.{pairs_by_parts, no_parts}
 use Rattle.jsonb_raw.proofs.functions.runs.pair_entries.Goals as goal
 

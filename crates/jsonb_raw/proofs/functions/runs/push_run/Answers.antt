@@ -1,6 +1,5 @@
-use Rattle.std.proofs.Common.{ap, sym, length, ◌∙◌}
+use Rattle.jsonb_raw.proofs.Common.{ap, sym, length, ◌∙◌, zero_of}
 use Rattle.jsonb_raw.proofs.RunLemmas.{holding_none, holding_pushed}
-use Rattle.jsonb_doc.proofs.Basics.{zero_of}
 use Rattle.jsonb_raw.proofs.functions.runs.push_run.Goals as goal
 
 pub returns-then-is_empty-clause-pushed : goal.returns-then-is_empty-clause-pushed

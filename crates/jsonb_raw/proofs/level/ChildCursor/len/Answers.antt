@@ -1,5 +1,4 @@
-use Rattle.std.proofs.Common.{sym, ap, ◌∙◌, length}
-use Rattle.jsonb_doc.specs.Tree.{keys}
+use Rattle.jsonb_raw.proofs.Common.{sym, ap, ◌∙◌, length, keys}
 use Rattle.jsonb_raw.proofs.LevelLemmas.{count_of_trees, count_of_pairs, count_of_keys}
 use Rattle.jsonb_raw.proofs.level.ChildCursor.len.Goals as goal
 

@@ -1,7 +1,4 @@
-use Rattle.std.proofs.Common.{arith, inl, inr, ap}
-use Rattle.jsonb_doc.specs.Payload.{number_reader}
-use Rattle.jsonb_doc.specs.Private.Headers.{header_number}
-use Rattle.jsonb_doc.proofs.Containers.{HasContent-kind}
+use Rattle.jsonb_raw.proofs.Common.{arith, inl, inr, ap, number_reader, header_number, HasContent-kind}
 use Rattle.jsonb_raw.proofs.LevelStarts.{headed, no_array, no_object}
 use Rattle.jsonb_raw.proofs.level.ChildCursor.of_container.Goals as goal
 

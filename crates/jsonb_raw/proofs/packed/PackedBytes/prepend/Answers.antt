@@ -1,5 +1,4 @@
-use Rattle.std.proofs.Common.{◌++◌, ap₂, arith}
-use Rattle.std.specs.Int.{to_le_bytes, w64}
+use Rattle.jsonb_raw.proofs.Common.{◌++◌, ap₂, arith, to_le_bytes, w64}
 use Rattle.jsonb_raw.proofs.DigitSteps.{packed_behind}
 use Rattle.jsonb_raw.proofs.packed.PackedBytes.prepend.Goals as goal
 

@@ -1,4 +1,4 @@
-use Rattle.std.proofs.Common.{◌++◌, ap, ◌∙◌, arith}
+use Rattle.jsonb_raw.proofs.Common.{◌++◌, ap, ◌∙◌, arith}
 use Rattle.jsonb_raw.proofs.DigitSteps.{packed_pushed}
 use Rattle.jsonb_raw.proofs.packed.PackedBytes.push.Goals as goal
 

@@ -1,7 +1,4 @@
-use Rattle.std.proofs.Common.{subst}
-use Rattle.jsonb_doc.specs.Tree.{array, trees_of}
-use Rattle.jsonb_doc.specs.Format.{Decodes}
-use Rattle.jsonb_raw.specs.Documents.{Makes}
+use Rattle.jsonb_raw.proofs.Common.{subst, array, trees_of, Decodes, Makes}
 use Rattle.jsonb_raw.proofs.SetKept.{shared_one}
 use Rattle.jsonb_raw.proofs.raw.RawJsonb.array_intersection.Goals as goal
 

@@ -1,4 +1,4 @@
-use Rattle.std.proofs.Common.{Some, ap, ◌∙◌}
+use Rattle.jsonb_raw.proofs.Common.{Some, ap, ◌∙◌}
 use Rattle.jsonb_raw.proofs.ArrayLemmas.{array_of, length-elements}
 use Rattle.jsonb_raw.proofs.raw.RawJsonb.array_length.Goals as goal
 

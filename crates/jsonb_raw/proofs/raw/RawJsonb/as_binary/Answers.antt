@@ -1,7 +1,4 @@
-use Rattle.std.proofs.Common.{◌≡◌, rules}
-use Rattle.std.proofs.lemmas.Result.{err_from_is_err_and}
-use Rattle.jsonb_doc.specs.Extension.{binary}
-use Rattle.jsonb_doc.specs.Tree.{extension}
+use Rattle.jsonb_raw.proofs.Common.{◌≡◌, rules, err_from_is_err_and, binary, extension}
 use Rattle.jsonb_raw.proofs.raw.RawJsonb.as_binary.Goals as goal
 
 pub returns-in_err-from_slice-in-Extension-Binary-clause-value : goal.returns-in_err-from_slice-in-Extension-Binary-clause-value

@@ -1,4 +1,4 @@
-use Rattle.std.proofs.Common.{rules, pos}
+use Rattle.jsonb_raw.proofs.Common.{rules, pos}
 use Rattle.jsonb_raw.proofs.ScalarLemmas.{no_whole}
 use Rattle.jsonb_raw.proofs.raw.RawJsonb.as_u64.Goals as goal
 

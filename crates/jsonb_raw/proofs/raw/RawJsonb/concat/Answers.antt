@@ -1,13 +1,4 @@
-use Rattle.std.proofs.Common.{◌≡◌, ◌++◌, Option, None, subst, arith}
-use Rattle.jsonb_doc.specs.Tree.{Tree, array, trees_of, members}
-use Rattle.jsonb_doc.specs.Payload.{Form}
-use Rattle.jsonb_raw.specs.declared.functions.parts.PairEntries.{PairEntries}
-use Rattle.jsonb_raw.specs.Arrays.{as_elements}
-use Rattle.jsonb_raw.specs.Concat.{concat}
-use Rattle.jsonb_raw.specs.Private.Entries.{ArePairsOf}
-use Rattle.jsonb_doc.specs.Format.{Decodes}
-use Rattle.jsonb_doc.proofs.LimitLemmas.{decoded_members}
-use Rattle.jsonb_raw.specs.Documents.{Makes}
+use Rattle.jsonb_raw.proofs.Common.{◌≡◌, ◌++◌, Option, None, subst, arith, Tree, array, trees_of, members, Form, PairEntries, as_elements, concat, ArePairsOf, Decodes, decoded_members, Makes}
 use Rattle.jsonb_raw.proofs.PartedRuns.{pairs_there}
 use Rattle.jsonb_raw.proofs.raw.RawJsonb.concat.Goals as goal
 

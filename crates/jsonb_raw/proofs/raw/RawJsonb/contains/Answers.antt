@@ -1,4 +1,4 @@
-use Rattle.std.proofs.Common.{◌≡◌, inl, inr, sym, subst, IsOkAnd}
+use Rattle.jsonb_raw.proofs.Common.{◌≡◌, inl, inr, sym, subst, IsOkAnd}
 use Rattle.jsonb_raw.proofs.ContainLemmas.{contains-extension, contains-array, contains-object, plain_item, array_contains_plain, other_contains_plain}
 use Rattle.jsonb_raw.proofs.raw.RawJsonb.contains.Goals as goal
 

@@ -1,10 +1,4 @@
-use Rattle.std.proofs.Common.{◌≡◌, None, Some, length, sym, ap, ◌∙◌, w32, remove}
-use Rattle.std.proofs.lemmas.Int.{to_z-of_z}
-use Rattle.jsonb_doc.specs.Tree.{array, elements, trees_of}
-use Rattle.jsonb_doc.specs.Format.{Decodes}
-use Rattle.jsonb_raw.specs.Private.Entries.{HoldTrees}
-use Rattle.jsonb_raw.specs.Places.{index_position}
-use Rattle.jsonb_raw.specs.Children.{without_index}
+use Rattle.jsonb_raw.proofs.Common.{◌≡◌, None, Some, length, sym, ap, ◌∙◌, w32, remove, to_z-of_z, array, elements, trees_of, Decodes, HoldTrees, index_position, without_index}
 use Rattle.jsonb_raw.proofs.RunLemmas.{array_of_entries}
 use Rattle.jsonb_raw.proofs.ChildAnswers.{without_some, without_none}
 use Rattle.jsonb_raw.proofs.raw.RawJsonb.delete_by_index.Goals as goal

@@ -1,10 +1,4 @@
-use Rattle.std.proofs.Common.{◌≡◌, Bool, true, false, arith, sym, subst, ◌∙◌}
-use Rattle.std.proofs.lemmas.Bool.{false≢true}
-use Rattle.std.proofs.lemmas.Result.{err_from_is_err_and}
-use Rattle.jsonb_doc.specs.Format.{Decodes}
-use Rattle.jsonb_doc.proofs.Basics.{empty_of}
-use Rattle.jsonb_keypath.specs.Private.KeysView.{keys_view}
-use Rattle.jsonb_raw.specs.Private.Cuts.{AreShort}
+use Rattle.jsonb_raw.proofs.Common.{◌≡◌, Bool, true, false, arith, sym, subst, ◌∙◌, false≢true, err_from_is_err_and, Decodes, empty_of, keys_view, AreShort}
 use Rattle.jsonb_raw.proofs.DeleteLemmas.{no_place, some_place, no_way, same_decodes, without_none, without_whole, without_part, part_met, part_out, made_decodes}
 use Rattle.jsonb_raw.proofs.raw.RawJsonb.delete_by_keypath.Goals as goal
 

@@ -1,5 +1,4 @@
-use Rattle.std.proofs.Common.{◌≡◌, None, refl}
-use Rattle.jsonb_raw.specs.Children.{without_name}
+use Rattle.jsonb_raw.proofs.Common.{◌≡◌, None, refl, without_name}
 use Rattle.jsonb_raw.proofs.ChildAnswers.{array_item, object_item, no_names}
 use Rattle.jsonb_raw.proofs.raw.RawJsonb.delete_by_name.Goals as goal
 

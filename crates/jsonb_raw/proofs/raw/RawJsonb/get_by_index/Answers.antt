@@ -1,6 +1,4 @@
-use Rattle.std.proofs.Common.{◌≡◌, refl, ap, ◌∙◌, sym, arith, slice_get}
-use Rattle.jsonb_doc.specs.Tree.{elements}
-use Rattle.jsonb_raw.specs.Children.{element_at}
+use Rattle.jsonb_raw.proofs.Common.{◌≡◌, refl, ap, ◌∙◌, sym, arith, slice_get, elements, element_at}
 use Rattle.jsonb_raw.proofs.AnswerLemmas.{found_made, found_none}
 use Rattle.jsonb_raw.proofs.ChildAnswers.{no_element, beyond_all}
 use Rattle.jsonb_raw.proofs.RunLemmas.{array_of_entries}

@@ -1,8 +1,5 @@
-use Rattle.std.proofs.Common.{sym, refl}
-use Rattle.std.proofs.lemmas.Result.{err_from_is_err_and}
+use Rattle.jsonb_raw.proofs.Common.{sym, refl, err_from_is_err_and, Locates, raw_bytes}
 use Rattle.jsonb_raw.proofs.AnswerLemmas.{no_memory, no_room}
-use Rattle.jsonb_doc.specs.Representation.Positions.{Locates}
-use Rattle.jsonb_raw.specs.Documents.{raw_bytes}
 use Rattle.jsonb_raw.proofs.PositionLemmas.{none_same, some_same}
 use Rattle.jsonb_raw.proofs.raw.RawJsonb.get_by_keypath.Goals as goal
 

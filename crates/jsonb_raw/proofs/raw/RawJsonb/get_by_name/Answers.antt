@@ -1,14 +1,6 @@
-use Rattle.std.proofs.Common.{◌≡◌, List, ℕ, Option, None, true, false, refl, sym, ap, ◌∙◌, arith}
-use Rattle.std.specs.Option.{option_or}
-use Rattle.jsonb_doc.specs.Tree.{Tree, Pairs, object, field_of, value_under}
-use Rattle.jsonb_doc.specs.Payload.{Form, NumberReader, number_reader}
-use Rattle.jsonb_doc.specs.Format.{Decodes}
-use Rattle.jsonb_doc.specs.Private.Containers.{Holds, HasPairParts}
+use Rattle.jsonb_raw.proofs.Common.{◌≡◌, List, ℕ, Option, None, true, false, refl, sym, ap, ◌∙◌, arith, option_or, Tree, Pairs, object, field_of, value_under, Form, NumberReader, number_reader, Decodes, Holds, HasPairParts, ObjectParts, IsCut-same, Decodes-object, named_child}
 use Rattle.jsonb_doc.specs.declared.container.Container.{Container}
 use Rattle.jsonb_doc.specs.declared.container.Container.TheVariants.{Object}
-use Rattle.jsonb_doc.specs.declared.container.ObjectParts.{ObjectParts}
-use Rattle.jsonb_doc.proofs.Containers.{IsCut-same, Decodes-object}
-use Rattle.jsonb_raw.specs.Children.{named_child}
 use Rattle.jsonb_raw.proofs.AnswerLemmas.{found_made, found_none}
 use Rattle.jsonb_raw.proofs.ChildAnswers.{named_nowhere}
 use Rattle.jsonb_raw.proofs.raw.RawJsonb.get_by_name.Goals as goal

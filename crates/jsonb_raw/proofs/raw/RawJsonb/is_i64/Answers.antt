@@ -1,6 +1,5 @@
-use Rattle.std.proofs.Common.{◌≡◌, ℤ, Bool, true, false, IsTrue, Option, Some, None, is_some, MatchOption, FitsSigned, refl, sym, ◌∙◌, rules, arith, w64}
-use Rattle.jsonb_doc.specs.Tree.{Tree}
-use Rattle.jsonb_raw.specs.Scalars.{IsWholeNumber}
+use Rattle.jsonb_raw.proofs.Common.{◌≡◌, ℤ, Bool, true, false, IsTrue, Option, Some, None, is_some, MatchOption, FitsSigned, refl, sym, ◌∙◌, rules, arith, Tree, IsWholeNumber}
+use Rattle.std.proofs.Common.{w64}
 use Rattle.jsonb_raw.proofs.raw.RawJsonb.is_i64.Goals as goal
 
 is_whole : (tree : Tree) (found : Option ℤ) (b : Bool) → b ≡ is_some found → ((z : ℤ) → found ≡ Some z → FitsSigned w64 z)

@@ -1,6 +1,4 @@
-use Rattle.std.proofs.Common.{◌≡◌, ◌<◌, ◌^◌, ℕ, pos, Bool, true, false, IsTrue, Option, Some, None, is_some, MatchOption, refl, sym, ◌∙◌, rules, arith}
-use Rattle.jsonb_doc.specs.Tree.{Tree}
-use Rattle.jsonb_raw.specs.Scalars.{IsWholeNumber}
+use Rattle.jsonb_raw.proofs.Common.{◌≡◌, ◌<◌, ◌^◌, ℕ, pos, Bool, true, false, IsTrue, Option, Some, None, is_some, MatchOption, refl, sym, ◌∙◌, rules, arith, Tree, IsWholeNumber}
 use Rattle.jsonb_raw.proofs.raw.RawJsonb.is_u64.Goals as goal
 
 is_whole : (tree : Tree) (found : Option ℕ) (b : Bool) → b ≡ is_some found → ((n : ℕ) → found ≡ Some n → n < 2 ^ 64)

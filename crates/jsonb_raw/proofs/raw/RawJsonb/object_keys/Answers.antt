@@ -1,8 +1,4 @@
-use Rattle.std.proofs.Common.{map}
-use Rattle.std.proofs.lemmas.Result.{err_from_is_err_and}
-use Rattle.std.specs.Map.{keys_of}
-use Rattle.jsonb_doc.specs.Tree.{members, text}
-use Rattle.jsonb_doc.proofs.TreeLists.{keys_of-members}
+use Rattle.jsonb_raw.proofs.Common.{map, err_from_is_err_and, keys_of, members, text, keys_of-members}
 use Rattle.jsonb_raw.proofs.RunLemmas.{one_run}
 use Rattle.jsonb_raw.proofs.PartedRuns.{pairs_there}
 use Rattle.jsonb_raw.proofs.raw.RawJsonb.object_keys.Goals as goal

@@ -1,11 +1,6 @@
-use Rattle.std.proofs.Common.{◌≡◌, true, None, refl}
-use Rattle.jsonb_doc.specs.Tree.{members}
-use Rattle.jsonb_doc.specs.Format.{Decodes}
-use Rattle.jsonb_doc.proofs.LimitLemmas.{decoded_members}
-use Rattle.jsonb_raw.specs.Objects.{object_pick}
+use Rattle.jsonb_raw.proofs.Common.{◌≡◌, true, None, refl, members, Decodes, decoded_members, object_pick, parted}
 use Rattle.jsonb_raw.proofs.PartedRuns.{pairs_there, no_pairs_there}
 use Rattle.jsonb_raw.proofs.raw.RawJsonb.object_pick.Goals as goal
-use Rattle.jsonb_raw.specs.Private.PairSteps.{parted}
 
 pub returns-in_default-clause-pairs : goal.returns-in_default-clause-pairs
 returns-in_default-clause-pairs c = λ form t d.

@@ -1,6 +1,4 @@
-use Rattle.std.proofs.Common.{◌≡◌, None, sym}
-use Rattle.jsonb_doc.proofs.CanonicalLemmas.{in_any}
-use Rattle.jsonb_raw.specs.Children.{element_at}
+use Rattle.jsonb_raw.proofs.Common.{◌≡◌, None, sym, in_any, element_at}
 use Rattle.jsonb_raw.proofs.NamedPairs.{no_element_spots}
 use Rattle.jsonb_raw.proofs.PositionLemmas.{array_spots}
 use Rattle.jsonb_raw.proofs.raw.RawJsonb.spot_by_index.Goals as goal

@@ -1,9 +1,5 @@
-use Rattle.std.proofs.Common.{rules, sym, refl}
+use Rattle.jsonb_raw.proofs.Common.{rules, sym, refl, Locates, in_any, keys_view, tree_at_steps}
 use Rattle.jsonb_raw.proofs.AnswerLemmas.{failed}
-use Rattle.jsonb_doc.specs.Representation.Positions.{Locates}
-use Rattle.jsonb_doc.proofs.CanonicalLemmas.{in_any}
-use Rattle.jsonb_keypath.specs.Private.KeysView.{keys_view}
-use Rattle.jsonb_raw.specs.Places.{tree_at_steps}
 use Rattle.jsonb_raw.proofs.PositionLemmas.{next_child, none_met, some_met}
 use Rattle.jsonb_raw.proofs.raw.RawJsonb.spot_by_keypath.Goals as goal
 

@@ -1,12 +1,4 @@
-use Rattle.std.proofs.Common.{◌≡◌, List}
-use Rattle.jsonb_doc.specs.Tree.{Tree}
-use Rattle.jsonb_doc.specs.Payload.{any}
-use Rattle.jsonb_doc.specs.Format.{Decodes}
-use Rattle.jsonb_doc.specs.Representation.Positions.{Locates}
-use Rattle.jsonb_keypath.specs.declared.key_path.KeyPath.{KeyPath}
-use Rattle.jsonb_keypath.specs.Private.KeysView.{keys_view}
-use Rattle.jsonb_raw.specs.Iterators.{YieldsItemsLeft}
-use Rattle.jsonb_raw.specs.Places.{tree_at_steps}
+use Rattle.jsonb_raw.proofs.Common.{◌≡◌, List, Tree, any, Decodes, Locates, KeyPath, keys_view, YieldsItemsLeft, tree_at_steps}
 use Rattle.jsonb_raw.proofs.raw.RawJsonb.spot_by_keypath.Given as goal
 
 -- the spot is the place of a tree in which the steps that are left select what all steps select in the whole

@@ -1,8 +1,4 @@
-use Rattle.std.proofs.Common.{◌≡◌, true, sym, ap, ◌∙◌}
-use Rattle.jsonb_doc.specs.Tree.{field_of}
-use Rattle.jsonb_doc.specs.Format.{Decodes}
-use Rattle.jsonb_doc.proofs.CanonicalLemmas.{in_any}
-use Rattle.jsonb_raw.specs.Children.{named_child}
+use Rattle.jsonb_raw.proofs.Common.{◌≡◌, true, sym, ap, ◌∙◌, field_of, Decodes, in_any, named_child}
 use Rattle.jsonb_raw.proofs.NamedPairs.{exact_child}
 use Rattle.jsonb_raw.proofs.raw.RawJsonb.spot_by_name.Goals as goal
 

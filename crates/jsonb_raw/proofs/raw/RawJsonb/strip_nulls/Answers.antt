@@ -1,5 +1,5 @@
 use Rattle.jsonb_raw.proofs.AnswerLemmas.{failed}
-use Rattle.jsonb_doc.specs.Format.{Decodes}
+use Rattle.jsonb_raw.proofs.Common.{Decodes}
 use Rattle.jsonb_raw.proofs.StripWalk.{scalar_stays}
 use Rattle.jsonb_raw.proofs.raw.RawJsonb.strip_nulls.Goals as goal
 

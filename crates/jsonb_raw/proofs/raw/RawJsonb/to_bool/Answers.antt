@@ -1,19 +1,6 @@
-use Rattle.std.proofs.Common.{◌≡◌, ◌&&◌, ℕ, suc, ◌<◌, List, [], ◌∷◌, map, Bool, true, false, Result, Ok, Err, inl, inr, refl, arith, Bor, IsAscii, IsUtf8, codes, OnOk, nat_lt}
-use Rattle.std.specs.List.{list_all}
-use Rattle.std.specs.Char.{to_ascii_lowercase}
-use Rattle.std.proofs.lemmas.Bool.Decides.{nat_tests}
-use Rattle.std.proofs.lemmas.Str.{IsUtf8-from_ascii}
-use Rattle.std.proofs.lemmas.Str.Ascii.{IsAscii-nil, IsAscii-cons}
+use Rattle.jsonb_raw.proofs.Common.{◌≡◌, ◌&&◌, ℕ, suc, ◌<◌, List, [], ◌∷◌, map, Bool, true, false, Result, Ok, Err, inl, inr, refl, arith, Bor, IsAscii, IsUtf8, codes, OnOk, nat_lt, list_all, to_ascii_lowercase, nat_tests, IsUtf8-from_ascii, IsAscii-nil, IsAscii-cons, any, number_reader, IsContent, IsRootOf, IsRootShape, Error, Text, Boolean, String, IsBoolOf, Casts, HasRoot}
 use Rattle.jsonb_doc.specs.Tree as spec
-use Rattle.jsonb_doc.specs.Payload.{any, number_reader}
-use Rattle.jsonb_doc.specs.Format.{IsContent}
-use Rattle.jsonb_doc.specs.AnyBytes.Items.{IsRootOf}
-use Rattle.jsonb_doc.specs.AnyBytes.Roots.{IsRootShape}
-use Rattle.jsonb_doc.specs.declared.error.Error.{Error}
-use Rattle.jsonb_doc.specs.declared.shape.Shape.TheVariants.{Boolean as BooleanShape, Text}
-use Rattle.jsonb_doc.specs.declared.item.Item.TheVariants.{Boolean, String}
-use Rattle.jsonb_raw.specs.Casts.{IsBoolOf, Casts}
-use Rattle.jsonb_raw.specs.AnyBytes.Roots.{HasRoot}
+use Rattle.jsonb_doc.specs.declared.shape.Shape.TheVariants.{Boolean as BooleanShape}
 use Rattle.jsonb_raw.proofs.raw.RawJsonb.to_bool.Goals as goal
 
 ascii_byte : (b : ℕ) → to_ascii_lowercase b < 128 → b < 128

@@ -1,11 +1,6 @@
-use Rattle.std.proofs.Common.{◌≡◌, ℤ, Option, Some, None, Result, MatchOption, FitsSigned, refl, sym, subst, rules, arith, w64, ok_or}
+use Rattle.jsonb_raw.proofs.Common.{◌≡◌, ℤ, Option, Some, None, Result, MatchOption, FitsSigned, refl, sym, subst, rules, arith, ok_or, Number, number_parts, number_view, rounded, Error, InvalidCast, Casts, IsSignedOf}
+use Rattle.std.proofs.Common.{w64}
 use Rattle.jsonb_doc.specs.Tree as spec
-use Rattle.jsonb_doc.specs.Number.{Number}
-use Rattle.jsonb_doc.specs.View.{number_parts, number_view}
-use Rattle.jsonb_doc.specs.Rounding.{rounded}
-use Rattle.jsonb_doc.specs.declared.error.Error.{Error}
-use Rattle.jsonb_doc.specs.declared.error.Error.TheVariants.{InvalidCast}
-use Rattle.jsonb_raw.specs.Casts.{Casts, IsSignedOf}
 use Rattle.jsonb_raw.proofs.raw.RawJsonb.to_i64.Goals as goal
 
 cast_number : (n : Number) (found : Option ℤ) (r : Result ℤ Error) → r ≡ ok_or found InvalidCast → ((z : ℤ) → found ≡ Some z → FitsSigned w64 z)

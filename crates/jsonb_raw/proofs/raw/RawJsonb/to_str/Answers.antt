@@ -1,7 +1,5 @@
-use Rattle.std.proofs.Common.{◌≡◌, rules, refl, None}
+use Rattle.jsonb_raw.proofs.Common.{◌≡◌, rules, refl, None, number_parts, number_view, text_of}
 use Rattle.jsonb_doc.specs.Tree as spec
-use Rattle.jsonb_doc.specs.View.{number_parts, number_view}
-use Rattle.jsonb_raw.specs.Casts.{text_of}
 use Rattle.jsonb_raw.proofs.ScalarLemmas.{no_text}
 use Rattle.jsonb_raw.proofs.raw.RawJsonb.to_str.Goals as goal
 

@@ -1,7 +1,4 @@
-use Rattle.std.proofs.Common.{◌≡◌, ◌∙◌, sym, ap, Some, None}
-use Rattle.jsonb.specs.PathTree.{Expression, or_op}
-use Rattle.jsonb.specs.PathViews.{expression_view}
-use Rattle.jsonb.specs.Private.Frames.{joined_view, partial_outcome}
+use Rattle.jsonb.proofs.Common.{◌≡◌, ◌∙◌, sym, ap, Some, None, Expression, or_op, expression_view, joined_view, partial_outcome}
 use Rattle.jsonb.specs.declared.path.BinaryOperator.TheVariants.{Or}
 use Rattle.jsonb.proofs.ViewLemmas.{view-binary}
 use Rattle.jsonb.proofs.FrameLemmas.{partial-ended-all}

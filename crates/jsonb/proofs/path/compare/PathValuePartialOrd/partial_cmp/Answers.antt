@@ -1,4 +1,4 @@
-use Rattle.std.proofs.Common.{◌∙◌}
+use Rattle.jsonb.proofs.Common.{◌∙◌}
 use Rattle.jsonb.proofs.EqualLiterals.{order_is}
 use Rattle.jsonb.proofs.path.compare.PathValuePartialOrd.partial_cmp.Goals as goal
 

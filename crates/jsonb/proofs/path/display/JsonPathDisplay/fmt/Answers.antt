@@ -1,8 +1,4 @@
-use Rattle.std.proofs.Common.{ap, ◌∙◌}
-use Rattle.std.proofs.Output.{has_written_of_eq}
-use Rattle.jsonb.specs.PathText.{steps_text}
-use Rattle.jsonb.specs.PathTree.{steps_of}
-use Rattle.jsonb.specs.PathViews.{steps_view, path_view}
+use Rattle.jsonb.proofs.Common.{ap, ◌∙◌, has_written_of_eq, steps_text, steps_of, steps_view, path_view}
 use Rattle.jsonb.proofs.TextLemmas.{steps_text-path}
 use Rattle.jsonb.proofs.path.display.JsonPathDisplay.fmt.Goals as goal
 

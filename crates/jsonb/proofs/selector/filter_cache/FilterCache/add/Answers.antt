@@ -1,5 +1,4 @@
-use Rattle.std.proofs.Common.{◌≡◌, ◌+◌, ◌∷◌, [], length, drop, None, subst, sym, ap, ◌∙◌, arith, length-append}
-use Rattle.jsonb.specs.Private.FilterCache.{AreKept, AreSame, kept_part}
+use Rattle.jsonb.proofs.Common.{◌≡◌, ◌+◌, ◌∷◌, [], length, drop, None, subst, sym, ap, ◌∙◌, arith, length-append, AreKept, AreSame, kept_part}
 use Rattle.jsonb.proofs.KeptLemmas.{passed, one_part, at_last}
 use Rattle.jsonb.proofs.selector.filter_cache.FilterCache.add.Goals as goal
 

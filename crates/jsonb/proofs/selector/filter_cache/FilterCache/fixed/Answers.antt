@@ -1,6 +1,4 @@
-use Rattle.std.proofs.Common.{[], ◌∷◌, Some, refl, ap, sym, ◌∙◌, subst}
-use Rattle.std.specs.Prelude.{slice_get}
-use Rattle.jsonb.specs.Private.FilterCache.{AreKept}
+use Rattle.jsonb.proofs.Common.{[], ◌∷◌, Some, refl, ap, sym, ◌∙◌, subst, slice_get, AreKept}
 use Rattle.jsonb.specs.declared.selector.filter_cache.CachedPart.TheVariants as part
 use Rattle.jsonb.proofs.KeptLemmas.{same_part}
 use Rattle.jsonb.proofs.selector.filter_cache.FilterCache.fixed.Goals as goal

@@ -1,6 +1,4 @@
-use Rattle.std.proofs.Common.{◌≡◌, ◌∷◌, Some, subst, arith}
-use Rattle.std.proofs.lemmas.Option.{slice_get_within}
-use Rattle.jsonb.specs.Private.FilterCache.{AreKept, kept_part}
+use Rattle.jsonb.proofs.Common.{◌≡◌, ◌∷◌, Some, subst, arith, slice_get_within, AreKept, kept_part}
 use Rattle.jsonb.proofs.KeptLemmas.{passed}
 use Rattle.jsonb.proofs.selector.filter_cache.FilterCache.pass.Goals as goal
 

@@ -1,6 +1,4 @@
-use Rattle.std.proofs.Common.{refl, ap}
-use Rattle.jsonb.specs.PathViews.{expression_view}
-use Rattle.jsonb.specs.Private.Tests.{item_tests}
+use Rattle.jsonb.proofs.Common.{refl, ap, expression_view, item_tests}
 use Rattle.jsonb.specs.declared.selector.plan.Question.TheVariants as question
 use Rattle.jsonb.proofs.AskingLemmas.{fixed_whole}
 use Rattle.jsonb.proofs.selector.filters.Asking.fixed.Goals as goal

@@ -1,12 +1,5 @@
-use Rattle.std.proofs.Common.{◌≡◌, ◌+◌, ◌-◌, Ok, Err, Some, None, refl, length, ap, sym, ◌∙◌, subst, arith}
-use Rattle.std.specs.Prelude.{slice_get, take}
-use Rattle.std.proofs.lemmas.Result.{err_from_is_err_and}
+use Rattle.jsonb.proofs.Common.{◌≡◌, ◌+◌, ◌-◌, Ok, Err, Some, None, refl, length, ap, sym, ◌∙◌, subst, arith, slice_get, take, err_from_is_err_and, expression_view, asking_tests, at_first, IsTurn, next_jump, item_tests, tests_conditions, tests_weight, asked_weight}
 use Rattle.jsonb.proofs.RefinesLemmas.{err_is}
-use Rattle.jsonb.specs.PathViews.{expression_view}
-use Rattle.jsonb.specs.Private.Asking.{asking_tests, at_first, IsTurn}
-use Rattle.jsonb.specs.Private.Jumps.{next_jump}
-use Rattle.jsonb.specs.Private.Tests.{item_tests, tests_conditions}
-use Rattle.jsonb.specs.Private.Weights.{tests_weight, asked_weight}
 use Rattle.jsonb.proofs.AskingLemmas.{after_test, turn_refused, turn_waits, turn_known, asked_all, some_test, test_read, test_missing, turn_of, part_answers}
 use Rattle.jsonb.proofs.WeightLemmas.{only_weighs, test_weight}
 use Rattle.jsonb.proofs.selector.filters.Asking.next.Goals as goal

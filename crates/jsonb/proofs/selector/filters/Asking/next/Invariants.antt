@@ -1,10 +1,4 @@
-use Rattle.std.proofs.Common.{◌≡◌, ◌≤◌}
-use Rattle.jsonb_doc.specs.Answer.{Outcome}
-use Rattle.jsonb_doc.specs.Tree.{Tree}
-use Rattle.jsonb.specs.Compare.{Truth}
-use Rattle.jsonb.specs.Private.Asking.{IsAsking}
-use Rattle.jsonb.specs.Private.Selection.{HasTree}
-use Rattle.jsonb.specs.Private.Weights.{asking_weight}
+use Rattle.jsonb.proofs.Common.{◌≡◌, ◌≤◌, Outcome, Tree, Truth, IsAsking, HasTree, asking_weight}
 use Rattle.jsonb.proofs.AskingLemmas.{after_test}
 use Rattle.jsonb.proofs.selector.filters.Asking.next.Given as goal
 

@@ -1,8 +1,4 @@
-use Rattle.std.proofs.Common.{ap, take, ◌∙◌}
-use Rattle.std.proofs.Math.Seq.{take-length}
-use Rattle.jsonb.specs.Private.Asking.{at_first, asking_tests}
-use Rattle.jsonb.specs.Private.Tests.{tests_conditions}
-use Rattle.jsonb.specs.Private.Weights.{tests_weight}
+use Rattle.jsonb.proofs.Common.{ap, take, ◌∙◌, take-length, at_first, asking_tests, tests_conditions, tests_weight}
 use Rattle.jsonb.proofs.AskingLemmas.{asked_from_first}
 use Rattle.jsonb.proofs.selector.filters.Asking.restart.Goals as goal
 

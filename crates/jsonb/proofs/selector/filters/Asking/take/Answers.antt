@@ -1,12 +1,7 @@
-use Rattle.std.proofs.Common.{ap, refl, ◌≡◌, ◌+◌, arith}
-use Rattle.std.specs.Prelude.{take}
+use Rattle.jsonb.proofs.Common.{ap, refl, ◌≡◌, ◌+◌, arith, take, asking_tests, item_tests, tests_conditions, Asking, tests_weight, asking_weight, next_weight, asked_weight}
 use Rattle.jsonb.proofs.RefinesLemmas.{err_is}
-use Rattle.jsonb.specs.Private.Asking.{asking_tests}
-use Rattle.jsonb.specs.Private.Tests.{item_tests, tests_conditions}
-use Rattle.jsonb.specs.declared.selector.filters.Asking.{Asking}
 use Rattle.jsonb.proofs.AskingLemmas.{path_waits, truth_known, test_refused}
 use Rattle.jsonb.proofs.selector.filters.Asking.take.Goals as goal
-use Rattle.jsonb.specs.Private.Weights.{tests_weight, asking_weight, next_weight, asked_weight}
 use Rattle.jsonb.proofs.WeightLemmas.{no_more}
 
 pub returns-in_err-truth-clause-meant : goal.returns-in_err-truth-clause-meant

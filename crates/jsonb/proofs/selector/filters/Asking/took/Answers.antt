@@ -1,7 +1,5 @@
-use Rattle.std.proofs.Common.{◌≡◌, Some, None, refl, ap, sym, ◌∙◌}
-use Rattle.jsonb.specs.Private.Tests.{item_tests}
+use Rattle.jsonb.proofs.Common.{◌≡◌, Some, None, refl, ap, sym, ◌∙◌, item_tests, Test}
 use Rattle.jsonb.specs.declared.selector.plan.Question.TheVariants as question
-use Rattle.jsonb.specs.declared.selector.plan.Test.{Test}
 use Rattle.jsonb.proofs.AskingLemmas.{asked_after, single_after, test_read, test_missing}
 use Rattle.jsonb.proofs.selector.filters.Asking.took.Goals as goal
 

@@ -1,9 +1,4 @@
-use Rattle.std.proofs.Common.{◌≡◌, ◌-◌, arith, [], ap, refl, sym, ◌∙◌, subst, length, ◌*◌, ◌+◌}
-use Rattle.std.specs.List.{AllZip}
-use Rattle.jsonb.specs.Private.Asking.{asking_tests}
-use Rattle.jsonb.specs.Private.Selection.{IsAt, node_spots}
-use Rattle.jsonb.specs.Private.Tests.{tests_conditions}
-use Rattle.jsonb.specs.Private.Weights.{running_weight, tests_weight}
+use Rattle.jsonb.proofs.Common.{◌≡◌, ◌-◌, arith, [], ap, refl, sym, ◌∙◌, subst, length, ◌*◌, ◌+◌, AllZip, asking_tests, IsAt, node_spots, tests_conditions, running_weight, tests_weight}
 use Rattle.jsonb.proofs.selector.filters.Filter.new.Goals as goal
 
 pub returns-clause-meant : goal.returns-clause-meant

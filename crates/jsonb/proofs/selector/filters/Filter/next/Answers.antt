@@ -1,15 +1,8 @@
-use Rattle.std.proofs.Common.{◌≡◌, ◌<◌, ◌+◌, [], length, get_or, drop, Ok, refl, ap, sym, ◌∙◌, subst, arith, ◌-◌, ◌*◌}
-use Rattle.std.specs.List.{AllZip}
+use Rattle.jsonb.proofs.Common.{◌≡◌, ◌<◌, ◌+◌, [], length, get_or, drop, Ok, refl, ap, sym, ◌∙◌, subst, arith, ◌-◌, ◌*◌, AllZip, truth, asking_tests, filtered_later, IsAt, node_spots, item_tests, Filter, running_weight, tests_weight, items_weight, next_weight}
 use Rattle.jsonb.proofs.RefinesLemmas.{err_is}
-use Rattle.jsonb.specs.Meaning.{truth}
-use Rattle.jsonb.specs.Private.Asking.{asking_tests, filtered_later}
-use Rattle.jsonb.specs.Private.Selection.{IsAt, node_spots}
-use Rattle.jsonb.specs.Private.Tests.{item_tests}
-use Rattle.jsonb.specs.declared.selector.filters.Filter.{Filter}
 use Rattle.jsonb.proofs.AroundLemmas.{filter_first, item_waits, item_done, item_refused, items_done}
 use Rattle.jsonb.proofs.Progress.{list_first, no_spot}
 use Rattle.jsonb.proofs.selector.filters.Filter.next.Goals as goal
-use Rattle.jsonb.specs.Private.Weights.{running_weight, tests_weight, items_weight, next_weight}
 use Rattle.jsonb.proofs.WeightLemmas.{item_weighs}
 
 pub returns-clause-meant : goal.returns-clause-meant

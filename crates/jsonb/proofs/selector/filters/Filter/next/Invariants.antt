@@ -1,9 +1,4 @@
-use Rattle.std.proofs.Common.{◌≡◌, ◌-◌, ◌≤◌, List, length}
-use Rattle.jsonb_doc.specs.Answer.{Outcome}
-use Rattle.jsonb_doc.specs.Tree.{Tree}
-use Rattle.jsonb.specs.Private.Asking.{IsFilter}
-use Rattle.jsonb.specs.Private.Selection.{HasTree, node_spots}
-use Rattle.jsonb.specs.Private.Weights.{items_weight}
+use Rattle.jsonb.proofs.Common.{◌≡◌, ◌-◌, ◌≤◌, List, length, Outcome, Tree, IsFilter, HasTree, node_spots, items_weight}
 use Rattle.jsonb.proofs.selector.filters.Filter.next.Given as goal
 
 -- what is left of the filter has the outcome of the whole

@@ -1,6 +1,4 @@
-use Rattle.std.proofs.Common.{[], ◌∷◌, ◌++◌, append-nil, sym, subst}
-use Rattle.std.specs.List.{AllZip}
-use Rattle.jsonb.specs.Private.Selection.{IsAt, node_spots}
+use Rattle.jsonb.proofs.Common.{[], ◌∷◌, ◌++◌, append-nil, sym, subst, AllZip, IsAt, node_spots}
 use Rattle.jsonb.proofs.RefinesLemmas.{on_ok, pushed}
 use Rattle.jsonb.proofs.selector.filters.Filter.push.Goals as goal
 

@@ -1,11 +1,7 @@
-use Rattle.std.proofs.Common.{[], Ok, refl, ap, sym, ◌∙◌, ◌≡◌, ◌-◌, ◌+◌, ◌*◌, length, arith}
+use Rattle.jsonb.proofs.Common.{[], Ok, refl, ap, sym, ◌∙◌, ◌≡◌, ◌-◌, ◌+◌, ◌*◌, length, arith, node_spots, item_tests, Filter, waits_weight, running_weight, tests_weight, items_weight, filter_weight, turn_weight, next_weight}
 use Rattle.jsonb.proofs.RefinesLemmas.{err_is}
-use Rattle.jsonb.specs.Private.Selection.{node_spots}
-use Rattle.jsonb.specs.Private.Tests.{item_tests}
-use Rattle.jsonb.specs.declared.selector.filters.Filter.{Filter}
 use Rattle.jsonb.proofs.AroundLemmas.{item_waits, item_done, item_refused}
 use Rattle.jsonb.proofs.selector.filters.Filter.take.Goals as goal
-use Rattle.jsonb.specs.Private.Weights.{waits_weight, running_weight, tests_weight, items_weight, filter_weight, turn_weight, next_weight}
 use Rattle.jsonb.proofs.WeightLemmas.{no_more}
 
 pub returns-in_err-path-clause-meant : goal.returns-in_err-path-clause-meant

@@ -1,6 +1,4 @@
-use Rattle.std.proofs.Common.{◌+◌, ◌-◌, ◌*◌, length, ap, ◌∙◌, arith}
-use Rattle.jsonb.specs.Private.Asking.{asking_tests}
-use Rattle.jsonb.specs.Private.Weights.{asking_weight, running_weight, tests_weight}
+use Rattle.jsonb.proofs.Common.{◌+◌, ◌-◌, ◌*◌, length, ap, ◌∙◌, arith, asking_tests, asking_weight, running_weight, tests_weight}
 use Rattle.jsonb.proofs.selector.filters.Filter.waiting.Goals as goal
 
 pub returns-clause-fewer : goal.returns-clause-fewer

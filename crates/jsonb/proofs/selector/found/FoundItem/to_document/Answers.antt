@@ -1,7 +1,5 @@
-use Rattle.std.proofs.Common.{sym}
+use Rattle.jsonb.proofs.Common.{sym, Locates, raw_bytes}
 use Rattle.jsonb.proofs.RefinesLemmas.{err_is}
-use Rattle.jsonb_doc.specs.Representation.Positions.{Locates}
-use Rattle.jsonb_raw.specs.Documents.{raw_bytes}
 use Rattle.jsonb.proofs.selector.found.FoundItem.to_document.Goals as goal
 
 pub returns-in_err-item-in-At-clause-document : goal.returns-in_err-item-in-At-clause-document

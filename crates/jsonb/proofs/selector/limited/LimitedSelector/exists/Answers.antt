@@ -1,8 +1,4 @@
-use Rattle.std.proofs.Common.{sym, subst}
-use Rattle.jsonb_raw.specs.Documents.{raw_bytes}
-use Rattle.jsonb.specs.LimitedAnswers.{UnlessExceeded}
-use Rattle.jsonb.specs.PathViews.{path_view}
-use Rattle.jsonb.specs.SelectorAnswers.{ByMeanings, IsFound}
+use Rattle.jsonb.proofs.Common.{sym, subst, raw_bytes, UnlessExceeded, path_view, ByMeanings, IsFound}
 use Rattle.jsonb.proofs.LimitLemmas.{lifted_keeps}
 use Rattle.jsonb.proofs.selector.limited.LimitedSelector.exists.Goals as goal
 

@@ -1,8 +1,4 @@
-use Rattle.std.proofs.Common.{sym, subst}
-use Rattle.jsonb_raw.specs.Documents.{raw_bytes}
-use Rattle.jsonb.specs.LimitedAnswers.{UnlessExceeded}
-use Rattle.jsonb.specs.PathViews.{path_view}
-use Rattle.jsonb.specs.SelectorAnswers.{single_or_array, ByMeanings, IsPicked}
+use Rattle.jsonb.proofs.Common.{sym, subst, raw_bytes, UnlessExceeded, path_view, single_or_array, ByMeanings, IsPicked}
 use Rattle.jsonb.proofs.LimitLemmas.{lifted_keeps}
 use Rattle.jsonb.proofs.selector.limited.LimitedSelector.select_value.Goals as goal
 

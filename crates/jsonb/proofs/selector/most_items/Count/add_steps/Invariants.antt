@@ -1,9 +1,5 @@
-use Rattle.std.proofs.Common.{◌≡◌, ◌≤◌, ◌+◌, drop}
-use Rattle.jsonb.specs.MostItems.{capped, steps_items}
-use Rattle.jsonb.specs.PathTree.{steps_of}
-use Rattle.jsonb.specs.PathViews.{steps_view}
-use Rattle.jsonb.specs.Private.Counted.{total, waiting_parts}
-use Rattle.jsonb.specs.Private.Parts.{steps_parts}
+use Rattle.jsonb.proofs.Common.{◌≡◌, ◌≤◌, ◌+◌, drop, capped, steps_items, steps_of, steps_view, total, steps_parts}
+use Rattle.jsonb.specs.Private.Counted.{waiting_parts}
 use Rattle.jsonb.proofs.selector.most_items.Count.add_steps.Given as goal
 
 -- what is counted and what the steps that are left add is what all steps add to the first count

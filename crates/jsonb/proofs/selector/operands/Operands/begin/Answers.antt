@@ -1,11 +1,5 @@
-use Rattle.std.proofs.Common.{Some, Ok, refl, ap, sym, ◌∙◌}
+use Rattle.jsonb.proofs.Common.{Some, Ok, refl, ap, sym, ◌∙◌, and_then, compare, paths, steps_of, steps_view, expression_view, operand_values, values_view}
 use Rattle.jsonb.proofs.RefinesLemmas.{err_is}
-use Rattle.jsonb_doc.specs.Answer.{and_then}
-use Rattle.jsonb.specs.Compare.{compare}
-use Rattle.jsonb.specs.PathTree.{paths, steps_of}
-use Rattle.jsonb.specs.PathViews.{steps_view, expression_view}
-use Rattle.jsonb.specs.Meaning.{operand_values}
-use Rattle.jsonb.specs.Private.Selection.{values_view}
 use Rattle.jsonb.specs.declared.selector.filter_cache.CachedPart.TheVariants as part
 use Rattle.jsonb.proofs.KeptLemmas.{kept_same, kept_right, value_is}
 use Rattle.jsonb.proofs.OperandLemmas.{as_refused}

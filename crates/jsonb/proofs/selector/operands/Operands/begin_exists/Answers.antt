@@ -1,18 +1,10 @@
-use Rattle.std.proofs.Common.{◌≡◌, [], ◌∷◌, Bool, Option, Some, Ok, refl, ap, sym, ◌∙◌, subst, arith}
-use Rattle.jsonb_doc.specs.Answer.{and_then}
-use Rattle.jsonb.specs.PathTree.{exists, steps_of}
-use Rattle.jsonb.specs.PathViews.{steps_view}
-use Rattle.jsonb.specs.Meaning.{truth, steps_meaning, start, is_some_item}
-use Rattle.std.specs.Prelude.{not, ◌==◌, length}
-use Rattle.jsonb.specs.Private.Operands.{IsPending}
-use Rattle.jsonb.specs.Private.Selection.{IsAt, node_spots}
+use Rattle.jsonb.proofs.Common.{◌≡◌, [], ◌∷◌, Bool, Option, Some, Ok, refl, ap, sym, ◌∙◌, subst, arith, and_then, exists, steps_of, steps_view, truth, steps_meaning, start, is_some_item, not, ◌==◌, length, IsPending, IsAt, node_spots, progress_weight, pending_weight}
 use Rattle.jsonb.proofs.KeptLemmas.{value_is}
 use Rattle.jsonb.proofs.OperandLemmas.{as_refused, exists_found}
 use Rattle.jsonb.proofs.RefinesLemmas.{err_is, one_ok}
 use Rattle.jsonb.proofs.SearchLemmas.{found_any}
 use Rattle.jsonb.proofs.StepLemmas.{from_start}
 use Rattle.jsonb.proofs.selector.operands.Operands.begin_exists.Goals as goal
-use Rattle.jsonb.specs.Private.Weights.{progress_weight, pending_weight}
 use Rattle.jsonb.proofs.WeightLemmas.{nothing_waits}
 
 pub returns-in_err-found-clause-meant : goal.returns-in_err-found-clause-meant

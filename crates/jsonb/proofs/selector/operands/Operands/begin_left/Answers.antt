@@ -1,11 +1,7 @@
-use Rattle.std.proofs.Common.{refl, ap, sym, subst, arith}
+use Rattle.jsonb.proofs.Common.{refl, ap, sym, subst, arith, expression_view, truth, operand_values, IsPending, comparison_view, weight, pending_weight, asked_weight, operand_weight}
 use Rattle.jsonb.proofs.RefinesLemmas.{err_is}
-use Rattle.jsonb.specs.PathViews.{expression_view}
-use Rattle.jsonb.specs.Meaning.{truth, operand_values}
-use Rattle.jsonb.specs.Private.Operands.{IsPending, comparison_view}
 use Rattle.jsonb.proofs.OperandLemmas.{left_refused, as_refused}
 use Rattle.jsonb.proofs.selector.operands.Operands.begin_left.Goals as goal
-use Rattle.jsonb.specs.Private.Weights.{weight, pending_weight, asked_weight, operand_weight}
 use Rattle.jsonb.proofs.WeightLemmas.{no_more}
 
 pub returns-in_err-lefts-clause-meant : goal.returns-in_err-lefts-clause-meant

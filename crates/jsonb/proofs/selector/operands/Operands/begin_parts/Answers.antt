@@ -1,11 +1,6 @@
-use Rattle.std.proofs.Common.{ap, sym, ◌∙◌, subst, ◌≤◌, IfOk}
-use Rattle.jsonb.specs.PathTree.{exists, steps_of}
-use Rattle.jsonb.specs.PathViews.{steps_view}
-use Rattle.jsonb.specs.Meaning.{truth}
-use Rattle.jsonb.specs.Private.Operands.{IsAnswer}
+use Rattle.jsonb.proofs.Common.{ap, sym, ◌∙◌, subst, ◌≤◌, IfOk, exists, steps_of, steps_view, truth, IsAnswer, weight, asked_weight}
 use Rattle.jsonb.proofs.PathNodes.{exists_is}
 use Rattle.jsonb.proofs.selector.operands.Operands.begin_parts.Goals as goal
-use Rattle.jsonb.specs.Private.Weights.{weight, asked_weight}
 
 pub returns-in-ExistsFunc-clause-meant : goal.returns-in-ExistsFunc-clause-meant
 returns-in-ExistsFunc-clause-meant c = λ top t all more r s is kept.

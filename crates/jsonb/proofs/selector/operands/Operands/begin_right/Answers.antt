@@ -1,12 +1,7 @@
-use Rattle.std.proofs.Common.{refl, ap, sym, subst, arith}
+use Rattle.jsonb.proofs.Common.{refl, ap, sym, subst, arith, expression_view, truth, operand_values, AreAlike, IsPending, comparison_view, pending_weight, operand_weight}
 use Rattle.jsonb.proofs.RefinesLemmas.{err_is}
-use Rattle.jsonb.specs.PathViews.{expression_view}
-use Rattle.jsonb.specs.Meaning.{truth, operand_values}
-use Rattle.jsonb.specs.Private.Alike.{AreAlike}
-use Rattle.jsonb.specs.Private.Operands.{IsPending, comparison_view}
 use Rattle.jsonb.proofs.OperandLemmas.{left_known, right_refused, as_refused}
 use Rattle.jsonb.proofs.selector.operands.Operands.begin_right.Goals as goal
-use Rattle.jsonb.specs.Private.Weights.{pending_weight, operand_weight}
 use Rattle.jsonb.proofs.WeightLemmas.{nothing_waits}
 
 pub returns-in_err-rights-clause-meant : goal.returns-in_err-rights-clause-meant

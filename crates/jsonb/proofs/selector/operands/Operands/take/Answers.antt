@@ -1,11 +1,6 @@
-use Rattle.std.proofs.Common.{Ok, Some, ap, sym, ◌∙◌, subst, ◌≤◌, IfOk}
-use Rattle.std.specs.Prelude.{not, ◌==◌, length}
-use Rattle.jsonb.specs.Meaning.{truth}
-use Rattle.jsonb.specs.Private.Operands.{IsAnswer, waits_expression}
-use Rattle.jsonb.specs.Private.Selection.{node_spots, values_view}
+use Rattle.jsonb.proofs.Common.{Ok, Some, ap, sym, ◌∙◌, subst, ◌≤◌, IfOk, not, ◌==◌, length, truth, IsAnswer, waits_expression, node_spots, values_view, asked_weight, waits_weight}
 use Rattle.jsonb.proofs.OperandLemmas.{exists_found, values_known}
 use Rattle.jsonb.proofs.selector.operands.Operands.take.Goals as goal
-use Rattle.jsonb.specs.Private.Weights.{asked_weight, waits_weight}
 use Rattle.jsonb.proofs.WeightLemmas.{nothing_waits}
 
 pub returns-in-Exists-clause-meant : goal.returns-in-Exists-clause-meant

@@ -1,8 +1,4 @@
-use Rattle.std.proofs.Common.{Ok, Some, ap, sym, ◌∙◌}
-use Rattle.jsonb.specs.PathViews.{expression_view}
-use Rattle.jsonb.specs.Compare.{compare}
-use Rattle.jsonb.specs.Private.Operands.{comparison_view}
-use Rattle.jsonb.specs.Private.Selection.{values_view}
+use Rattle.jsonb.proofs.Common.{Ok, Some, ap, sym, ◌∙◌, expression_view, compare, comparison_view, values_view}
 use Rattle.jsonb.specs.declared.selector.filter_cache.CachedPart.TheVariants as part
 use Rattle.jsonb.proofs.KeptLemmas.{compared, kept_same}
 use Rattle.jsonb.proofs.selector.operands.Operands.take_left.Goals as goal

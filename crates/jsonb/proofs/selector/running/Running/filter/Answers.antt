@@ -1,10 +1,5 @@
-use Rattle.std.proofs.Common.{ap, sym, subst, arith}
+use Rattle.jsonb.proofs.Common.{ap, sym, subst, arith, filter, expression_view, IsAtFilter, running_steps, item_tests, at_filter_weight}
 use Rattle.jsonb.proofs.RefinesLemmas.{err_is}
-use Rattle.jsonb.specs.PathTree.{filter}
-use Rattle.jsonb.specs.PathViews.{expression_view}
-use Rattle.jsonb.specs.Private.Running.{IsAtFilter, running_steps}
-use Rattle.jsonb.specs.Private.Tests.{item_tests}
-use Rattle.jsonb.specs.Private.Weights.{at_filter_weight}
 use Rattle.jsonb.proofs.AroundLemmas.{step_failed}
 use Rattle.jsonb.proofs.WeightLemmas.{filter_weighs}
 use Rattle.jsonb.proofs.selector.running.Running.filter.Goals as goal

@@ -1,11 +1,4 @@
-use Rattle.std.proofs.Common.{length, map, ap, subst, ◌≤◌, arith}
-use Rattle.std.proofs.Math.ListN.{drop_of_length-le}
-use Rattle.jsonb.specs.PathTree.{steps_of}
-use Rattle.jsonb.specs.PathViews.{steps_view}
-use Rattle.jsonb.specs.Meaning.{steps_meaning}
-use Rattle.jsonb.specs.Private.Alike.{SameOutcomes}
-use Rattle.jsonb.specs.Private.Running.{running_steps}
-use Rattle.jsonb.specs.Private.Selection.{node_spots, taken_step}
+use Rattle.jsonb.proofs.Common.{length, map, ap, subst, ◌≤◌, arith, drop_of_length-le, steps_of, steps_view, steps_meaning, SameOutcomes, running_steps, node_spots, taken_step}
 use Rattle.jsonb.proofs.RepeatLemmas.{same_found, same_outcome_itself}
 use Rattle.jsonb.proofs.WeightLemmas.{running_some}
 use Rattle.jsonb.proofs.selector.running.Running.resume.Goals as goal

@@ -1,11 +1,5 @@
-use Rattle.std.proofs.Common.{◌+◌, ◌≤◌, length, drop, map, ap, arith}
-use Rattle.std.proofs.Math.ListN.{drop_of_length-le}
+use Rattle.jsonb.proofs.Common.{◌+◌, ◌≤◌, length, drop, map, ap, arith, drop_of_length-le, steps_of, step_view, steps_view, expression_view, steps_meaning, node_spots, taken_step, progress_weight}
 use Rattle.jsonb.proofs.RefinesLemmas.{err_is}
-use Rattle.jsonb.specs.PathTree.{steps_of}
-use Rattle.jsonb.specs.PathViews.{step_view, steps_view, expression_view}
-use Rattle.jsonb.specs.Meaning.{steps_meaning}
-use Rattle.jsonb.specs.Private.Selection.{node_spots, taken_step}
-use Rattle.jsonb.specs.Private.Weights.{progress_weight}
 use Rattle.jsonb.proofs.AroundLemmas.{reached, running_step, filter_next, step_taken, step_failed}
 use Rattle.jsonb.proofs.RepeatLemmas.{same_found}
 use Rattle.jsonb.proofs.WeightLemmas.{next_weighs, filter_next_weighs, running_some}

@@ -1,9 +1,4 @@
-use Rattle.std.proofs.Common.{◌-◌, ◌≤◌, List, length}
-use Rattle.jsonb_doc.specs.Answer.{Outcome}
-use Rattle.jsonb_doc.specs.Tree.{Tree}
-use Rattle.jsonb.specs.Private.Running.{IsRunning}
-use Rattle.jsonb.specs.Private.Selection.{HasTree}
-use Rattle.jsonb.specs.Private.Weights.{running_weight}
+use Rattle.jsonb.proofs.Common.{◌-◌, ◌≤◌, List, length, Outcome, Tree, IsRunning, HasTree, running_weight}
 use Rattle.jsonb.proofs.AroundLemmas.{reached}
 use Rattle.jsonb.proofs.selector.running.Running.run.Given as goal
 

@@ -1,5 +1,4 @@
-use Rattle.std.proofs.Common.{refl, sym, ◌∙◌}
-use Rattle.std.proofs.lemmas.List.{nil_from_length}
+use Rattle.jsonb.proofs.Common.{refl, sym, ◌∙◌, nil_from_length}
 use Rattle.jsonb.proofs.SearchLemmas.{no_steps_ahead, plain_ahead, tested_ahead, no_condition}
 use Rattle.jsonb.proofs.selector.search.Ahead.first.Goals as goal
 

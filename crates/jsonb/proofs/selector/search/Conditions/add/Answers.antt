@@ -1,5 +1,4 @@
-use Rattle.std.proofs.Common.{sym, ◌∙◌}
-use Rattle.jsonb.specs.Private.Search.{conditions_in}
+use Rattle.jsonb.proofs.Common.{sym, ◌∙◌, conditions_in}
 use Rattle.jsonb.proofs.SearchLemmas.{plain_last, not_false}
 use Rattle.jsonb.proofs.selector.search.Conditions.add.Goals as goal
 

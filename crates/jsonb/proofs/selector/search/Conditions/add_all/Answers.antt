@@ -1,8 +1,4 @@
-use Rattle.std.proofs.Common.{[], map, sym, subst}
-use Rattle.std.proofs.lemmas.List.{take_all}
-use Rattle.jsonb.specs.PathViews.{steps_view}
-use Rattle.jsonb.specs.Private.Search.{AreAhead, conditions_in}
-use Rattle.jsonb.specs.Private.Selection.{taken_step}
+use Rattle.jsonb.proofs.Common.{[], map, sym, subst, take_all, steps_view, AreAhead, conditions_in, taken_step}
 use Rattle.jsonb.proofs.SearchLemmas.{searched_more}
 use Rattle.jsonb.proofs.selector.search.Conditions.add_all.Goals as goal
 

@@ -1,7 +1,4 @@
-use Rattle.std.proofs.Common.{◌≡◌, [], map, take}
-use Rattle.jsonb.specs.PathViews.{steps_view}
-use Rattle.jsonb.specs.Private.Search.{AreAhead, conditions_in}
-use Rattle.jsonb.specs.Private.Selection.{taken_step}
+use Rattle.jsonb.proofs.Common.{◌≡◌, [], map, take, steps_view, AreAhead, conditions_in, taken_step}
 use Rattle.jsonb.proofs.selector.search.Conditions.add_all.Given as goal
 
 abbrev pub invariant-loop-step : goal.invariant-loop-step

@@ -1,8 +1,4 @@
-use Rattle.std.proofs.Common.{◌++◌, ◌∷◌, [], sym, subst}
-use Rattle.jsonb.specs.PathViews.{step_view, expression_view}
-use Rattle.jsonb.specs.Private.Search.{AreAhead, conditions_in}
-use Rattle.jsonb.specs.Private.Selection.{taken_step}
-use Rattle.jsonb.specs.Private.Tests.{IsCompiled}
+use Rattle.jsonb.proofs.Common.{◌++◌, ◌∷◌, [], sym, subst, step_view, expression_view, AreAhead, conditions_in, taken_step, IsCompiled}
 use Rattle.jsonb.proofs.SearchLemmas.{tested_last}
 use Rattle.jsonb.proofs.selector.search.Conditions.add_filter.Goals as goal
 

@@ -1,7 +1,4 @@
-use Rattle.std.proofs.Common.{sym, ap, inl, inr, subst, Some, Option, String, Global}
-use Rattle.jsonb_doc.specs.Representation.DocumentBuilder.{HoldsLevel, IsEntryOf}
-use Rattle.jsonb_doc.specs.Events.{filled}
-use Rattle.jsonb_doc.specs.declared.event_error.EventError.TheVariants.{Failed}
+use Rattle.jsonb_doc.proofs.Common.{sym, ap, inl, inr, subst, Some, Option, String, Global, HoldsLevel, IsEntryOf, filled, Failed}
 use Rattle.jsonb_doc.specs.declared.document_builder.frame.Frame.TheVariants.{Object}
 use Rattle.jsonb_doc.proofs.EventLemmas.{array_filled, array_too_long, object_filled, object_too_long, object_named, object_same, err_is, err_along, both, result_along}
 use Rattle.jsonb_doc.proofs.document_builder.frame.Frame.fill.Goals as goal

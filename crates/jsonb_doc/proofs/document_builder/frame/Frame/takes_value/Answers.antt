@@ -1,4 +1,4 @@
-use Rattle.std.proofs.Common.{◌∙◌}
+use Rattle.jsonb_doc.proofs.Common.{◌∙◌}
 use Rattle.jsonb_doc.proofs.EventLemmas.{is_none_from, root_takes, array_takes, object_takes}
 use Rattle.jsonb_doc.proofs.document_builder.frame.Frame.takes_value.Goals as goal
 

@@ -1,7 +1,4 @@
-use Rattle.std.proofs.Common.{◌++◌, ◌∷◌, [], ◌∙◌, List, ap, refl, sym, subst, append_assoc, inl, inr}
-use Rattle.jsonb_doc.specs.Private.Collecting.{appended, AreAround}
-use Rattle.jsonb_doc.specs.declared.layout.HeaderKind.{HeaderKind}
-use Rattle.jsonb_doc.specs.declared.event_list.collecting.Member.{Member}
+use Rattle.jsonb_doc.proofs.Common.{◌++◌, ◌∷◌, [], ◌∙◌, List, ap, refl, sym, subst, append_assoc, inl, inr, appended, AreAround, HeaderKind, Member}
 use Rattle.jsonb_doc.proofs.CollectingLemmas.{filled_frame}
 use Rattle.jsonb_doc.proofs.OneRun.{value_refused}
 use Rattle.jsonb_doc.proofs.event_list.collecting.Collector.add.Goals as goal

@@ -1,11 +1,4 @@
-use Rattle.std.proofs.Common.{◌++◌, ◌∷◌, [], ◌∙◌, List, ap, refl, sym, subst, length, arith, None, inl, inr}
-use Rattle.std.proofs.lemmas.List.{append-nil}
-use Rattle.jsonb_doc.specs.Private.Collecting.{WaitsFor, AreAround}
-use Rattle.jsonb_doc.specs.declared.layout.HeaderKind.{HeaderKind}
-use Rattle.jsonb_doc.specs.declared.event_list.collecting.Run.{Run}
-use Rattle.jsonb_doc.specs.declared.event_list.collecting.Part.TheVariants.{Nested}
-use Rattle.jsonb_doc.specs.declared.event_list.collecting.Member.{Member}
-use Rattle.jsonb_doc.specs.declared.event_list.collecting.Frame.{Frame}
+use Rattle.jsonb_doc.proofs.Common.{◌++◌, ◌∷◌, [], ◌∙◌, List, ap, refl, sym, subst, length, arith, None, inl, inr, append-nil, WaitsFor, AreAround, HeaderKind, Run, Nested, Member, Frame}
 use Rattle.jsonb_doc.proofs.CollectingLemmas.{waits_takes, around_more}
 use Rattle.jsonb_doc.proofs.OneRun.{opens_refused}
 use Rattle.jsonb_doc.proofs.event_list.collecting.Collector.begin.Goals as goal

@@ -1,10 +1,4 @@
-use Rattle.std.proofs.Common.{true, length, inr, ◌≡◌, ◌∙◌, ◌∷◌, List, ap, sym, subst, arith, take, rules, inl, refl}
-use Rattle.std.proofs.lemmas.Slice.{overwrites}
-use Rattle.std.proofs.lemmas.List.{take_at, length-append}
-use Rattle.std.proofs.lemmas.Result.{err_from_is_err_and}
-use Rattle.jsonb_doc.specs.Events.{Level, State, ends}
-use Rattle.jsonb_doc.specs.Private.Collecting.{HoldsFrame, LeadsTo, AreAround}
-use Rattle.jsonb_doc.specs.declared.event_list.collecting.Member.{Member}
+use Rattle.jsonb_doc.proofs.Common.{true, length, inr, ◌≡◌, ◌∙◌, ◌∷◌, List, ap, sym, subst, arith, take, rules, inl, refl, overwrites, take_at, length-append, err_from_is_err_and, Level, State, ends, HoldsFrame, LeadsTo, AreAround, Member}
 use Rattle.jsonb_doc.proofs.CollectingLemmas.{innermost_is, none_of, named_stays, ends_around, around_stay, end_event_due, outer_due}
 use Rattle.jsonb_doc.proofs.EventLemmas.{result_along}
 use Rattle.jsonb_doc.proofs.event_list.collecting.Collector.end.Goals as goal

@@ -1,8 +1,4 @@
-use Rattle.std.proofs.Common.{◌≡◌, ◌++◌, ◌∙◌, ap, subst, List, Some}
-use Rattle.std.specs.Prelude.{slice_get}
-use Rattle.jsonb_doc.specs.Private.Collecting.{AreAround}
-use Rattle.jsonb_doc.specs.declared.layout.HeaderKind.{HeaderKind}
-use Rattle.jsonb_doc.specs.declared.event_list.collecting.Member.{Member}
+use Rattle.jsonb_doc.proofs.Common.{◌≡◌, ◌++◌, ◌∙◌, ap, subst, List, Some, slice_get, AreAround, HeaderKind, Member}
 use Rattle.jsonb_doc.proofs.CollectingLemmas.{root_finished}
 use Rattle.jsonb_doc.proofs.event_list.collecting.Collector.finish.Goals as goal
 

@@ -1,7 +1,4 @@
-use Rattle.std.proofs.Common.{ap, refl, Some}
-use Rattle.std.specs.Prelude.{option_copied}
-use Rattle.jsonb_doc.specs.Events.{object_of}
-use Rattle.jsonb_doc.specs.declared.event_list.collecting.Frame.{Frame}
+use Rattle.jsonb_doc.proofs.Common.{ap, refl, Some, option_copied, object_of, Frame}
 use Rattle.jsonb_doc.proofs.CollectingLemmas.{named_frame}
 use Rattle.jsonb_doc.proofs.event_list.collecting.Collector.key.Goals as goal
 

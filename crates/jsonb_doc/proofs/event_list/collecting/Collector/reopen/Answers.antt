@@ -1,10 +1,4 @@
-use Rattle.std.proofs.Common.{◌≡◌, ℕ, ◌++◌, ◌∷◌, [], ◌∙◌, ap, refl, sym, subst, List, append_assoc, None}
-use Rattle.std.proofs.lemmas.List.{same_from_push}
-use Rattle.jsonb_doc.specs.Private.Collecting.{appended, WaitsFor, AreAround}
-use Rattle.jsonb_doc.specs.declared.event_list.collecting.Run.{Run}
-use Rattle.jsonb_doc.specs.declared.event_list.collecting.Part.TheVariants.{Nested}
-use Rattle.jsonb_doc.specs.declared.event_list.collecting.Member.{Member}
-use Rattle.jsonb_doc.specs.declared.event_list.collecting.Frame.{Frame}
+use Rattle.jsonb_doc.proofs.Common.{◌≡◌, ℕ, ◌++◌, ◌∷◌, [], ◌∙◌, ap, refl, sym, subst, List, append_assoc, None, same_from_push, appended, WaitsFor, AreAround, Run, Nested, Member, Frame}
 use Rattle.jsonb_doc.proofs.CollectingLemmas.{filled_frame, opened_around, same_run}
 use Rattle.jsonb_doc.proofs.event_list.collecting.Collector.reopen.Goals as goal
 

@@ -1,7 +1,4 @@
-use Rattle.std.proofs.Common.{[], refl, inl, inr, arith, None}
-use Rattle.std.proofs.lemmas.Result.{err_from_is_err_and}
-use Rattle.jsonb_doc.specs.Tree.{text}
-use Rattle.jsonb_doc.specs.Events.{array_of, object_of, array_begins, object_begins, key_is, value_is, ends}
+use Rattle.jsonb_doc.proofs.Common.{[], refl, inl, inr, arith, None, err_from_is_err_and, text, array_of, object_of, array_begins, object_begins, key_is, value_is, ends}
 use Rattle.jsonb_doc.proofs.OneRun.{plain_exists}
 use Rattle.jsonb_doc.proofs.ListErrors.{event_due, event_due_anyway}
 use Rattle.jsonb_doc.proofs.event_list.collecting.Collector.take.Goals as goal

@@ -1,4 +1,4 @@
-use Rattle.std.proofs.Common.{arith}
+use Rattle.jsonb_raw.proofs.Common.{arith}
 use Rattle.jsonb_raw.proofs.EntriesLeft.{SomeEntries-first}
 use Rattle.jsonb_raw.proofs.functions.array.hashes.entries_hash.Goals as goal
 

@@ -1,8 +1,4 @@
-use Rattle.std.proofs.Common.{◌<◌, ℕ}
-use Rattle.jsonb_doc.specs.Tree.{Trees}
-use Rattle.jsonb_doc.specs.Payload.{Form}
-use Rattle.jsonb_doc.specs.Private.Stored.{HasEntriesLeft}
-use Rattle.jsonb_raw.specs.Private.Hashes.{AreHashed}
+use Rattle.jsonb_raw.proofs.Common.{◌<◌, ℕ, Trees, Form, HasEntriesLeft, AreHashed}
 use Rattle.jsonb_raw.proofs.EntriesLeft.{SomeEntries}
 use Rattle.jsonb_raw.proofs.functions.array.hashes.entries_hash.Given as goal
 

@@ -1,5 +1,5 @@
-use Rattle.std.proofs.Common.{rules, to_z-of_z, FitsSigned, w64}
-use Rattle.jsonb_doc.specs.Number.{decimal64}
+use Rattle.jsonb_raw.proofs.Common.{rules, FitsSigned, decimal64}
+use Rattle.std.proofs.Common.{to_z-of_z, w64}
 use Rattle.jsonb_raw.proofs.HashLemmas.{magnitude_hashed}
 use Rattle.jsonb_raw.proofs.functions.array.hashes.number_hash.Goals as goal
 

@@ -1,8 +1,4 @@
-use Rattle.std.proofs.Common.{◌≡◌, true, false, take, sym, ◌∙◌, true≢false}
-use Rattle.std.specs.List.{list_any}
-use Rattle.std.proofs.lemmas.Bool.{false_from_ne_true}
-use Rattle.jsonb_doc.specs.Tree.{elements}
-use Rattle.jsonb_doc.specs.Equal.{is_equal}
+use Rattle.jsonb_raw.proofs.Common.{◌≡◌, true, false, take, sym, ◌∙◌, true≢false, list_any, false_from_ne_true, elements, is_equal}
 use Rattle.jsonb_raw.proofs.EntriesLeft.{SomeEntries-first, SomeEntries-error, SomeEntries-none}
 use Rattle.jsonb_raw.proofs.EntryEquals.{equals_one}
 use Rattle.jsonb_raw.proofs.functions.array.overlap.block_overlaps.Goals as goal

@@ -1,11 +1,4 @@
-use Rattle.std.proofs.Common.{◌≡◌, true, take}
-use Rattle.std.specs.List.{list_any}
-use Rattle.jsonb_doc.specs.Tree.{Tree, Trees, elements}
-use Rattle.jsonb_doc.specs.Equal.{is_equal}
-use Rattle.jsonb_doc.specs.Payload.{Form}
-use Rattle.jsonb_doc.specs.Private.Stored.{HasEntriesLeft}
-use Rattle.jsonb_raw.specs.Sets.{overlap}
-use Rattle.jsonb_raw.specs.Private.Hashes.{Covers}
+use Rattle.jsonb_raw.proofs.Common.{◌≡◌, true, take, list_any, Tree, Trees, elements, is_equal, Form, HasEntriesLeft, overlap, Covers}
 use Rattle.jsonb_raw.proofs.EntriesLeft.{SomeEntries}
 use Rattle.jsonb_raw.proofs.functions.array.overlap.block_overlaps.Given as goal
 

@@ -1,6 +1,4 @@
-use Rattle.std.proofs.Common.{sym, ap, ◌∙◌}
-use Rattle.jsonb_doc.specs.Tree.{elements}
-use Rattle.jsonb_raw.specs.Sets.{overlap}
+use Rattle.jsonb_raw.proofs.Common.{sym, ap, ◌∙◌, elements, overlap}
 use Rattle.jsonb_raw.proofs.EntriesLeft.{overlap_none, first_overlap, others_decide}
 use Rattle.jsonb_raw.proofs.functions.array.overlap.blocks_overlap.Goals as goal
 

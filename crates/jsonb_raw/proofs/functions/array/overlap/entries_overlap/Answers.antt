@@ -1,5 +1,4 @@
-use Rattle.std.proofs.Common.{inl, inr}
-use Rattle.jsonb_doc.specs.Tree.{elements}
+use Rattle.jsonb_raw.proofs.Common.{inl, inr, elements}
 use Rattle.jsonb_raw.proofs.EntryEquals.{overlap_swapped}
 use Rattle.jsonb_raw.proofs.functions.array.overlap.entries_overlap.Goals as goal
 

@@ -1,7 +1,4 @@
-use Rattle.std.proofs.Common.{◌≡◌, true, false, sym, ◌∙◌}
-use Rattle.std.specs.List.{list_any}
-use Rattle.jsonb_doc.specs.Tree.{elements}
-use Rattle.jsonb_doc.specs.Equal.{is_equal}
+use Rattle.jsonb_raw.proofs.Common.{◌≡◌, true, false, sym, ◌∙◌, list_any, elements, is_equal}
 use Rattle.jsonb_raw.proofs.EntriesLeft.{SomeEntries-first, SomeEntries-error, SomeEntries-none}
 use Rattle.jsonb_raw.proofs.EntryEquals.{equals_one}
 use Rattle.jsonb_raw.proofs.functions.array.overlap.pairs_overlap.Goals as goal

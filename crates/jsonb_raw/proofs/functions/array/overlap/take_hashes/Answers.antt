@@ -1,7 +1,4 @@
-use Rattle.std.proofs.Common.{arith, ◌-◌, take, refl}
-use Rattle.std.specs.List.{list_any}
-use Rattle.jsonb_doc.specs.Tree.{elements}
-use Rattle.jsonb_doc.specs.Equal.{is_equal}
+use Rattle.jsonb_raw.proofs.Common.{arith, ◌-◌, take, refl, list_any, elements, is_equal}
 use Rattle.jsonb_raw.proofs.EntriesLeft.{SomeEntries-first, SomeEntries-none, take_one, drop_one, take_no, take_zero, not_of_none, one_more}
 use Rattle.jsonb_raw.proofs.functions.array.overlap.take_hashes.Goals as goal
 

@@ -1,10 +1,4 @@
-use Rattle.std.proofs.Common.{◌≡◌, ◌⊎◌, ◌+◌, ◌≤◌, true, take, drop}
-use Rattle.std.specs.List.{list_any}
-use Rattle.jsonb_doc.specs.Tree.{Tree, Trees, elements}
-use Rattle.jsonb_doc.specs.Equal.{is_equal}
-use Rattle.jsonb_doc.specs.Payload.{Form}
-use Rattle.jsonb_doc.specs.Private.Stored.{HasEntriesLeft, entries_bound}
-use Rattle.jsonb_raw.specs.Private.Hashes.{Covers}
+use Rattle.jsonb_raw.proofs.Common.{◌≡◌, ◌⊎◌, ◌+◌, ◌≤◌, true, take, drop, list_any, Tree, Trees, elements, is_equal, Form, HasEntriesLeft, entries_bound, Covers}
 use Rattle.jsonb_raw.proofs.functions.array.overlap.take_hashes.Given as goal
 use Rattle.jsonb_raw.proofs.EntriesLeft.{SomeEntries}
 

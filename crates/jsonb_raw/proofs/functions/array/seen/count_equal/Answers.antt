@@ -1,5 +1,4 @@
-use Rattle.std.proofs.Common.{◌≡◌, ◌+◌, cond, true, false, refl, sym, ◌∙◌, arith}
-use Rattle.jsonb_doc.specs.Equal.{is_equal}
+use Rattle.jsonb_raw.proofs.Common.{◌≡◌, ◌+◌, cond, true, false, refl, sym, ◌∙◌, arith, is_equal}
 use Rattle.jsonb_raw.proofs.RunLemmas.{entry_taken, no_entry_left}
 use Rattle.jsonb_raw.proofs.ElementsSeen.{EqualLeft-none, EqualLeft-done, EqualLeft-next}
 use Rattle.jsonb_raw.proofs.functions.array.seen.count_equal.Goals.{then-branch, else-branch}

@@ -1,9 +1,4 @@
-use Rattle.std.proofs.Common.{◌+◌, ◌≤◌, List, take}
-use Rattle.jsonb_doc.specs.Tree.{Tree}
-use Rattle.jsonb_doc.specs.Payload.{Form}
-use Rattle.jsonb_doc.specs.Private.Stored.{Stores}
-use Rattle.jsonb_raw.specs.Sets.{count_of}
-use Rattle.jsonb_raw.specs.Private.Entries.{HoldTrees}
+use Rattle.jsonb_raw.proofs.Common.{◌+◌, ◌≤◌, List, take, Tree, Form, Stores, count_of, HoldTrees}
 use Rattle.jsonb_raw.proofs.ElementsSeen.{EqualLeft}
 use Rattle.jsonb_raw.proofs.functions.array.seen.count_equal.Given as goal
 

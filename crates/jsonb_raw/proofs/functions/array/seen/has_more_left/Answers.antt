@@ -1,4 +1,4 @@
-use Rattle.std.proofs.Common.{sym, ◌∙◌}
+use Rattle.jsonb_raw.proofs.Common.{sym, ◌∙◌}
 use Rattle.jsonb_raw.proofs.ElementsSeen.{none_left, some_left, left_counted}
 use Rattle.jsonb_raw.proofs.functions.array.seen.has_more_left.Goals as goal
 

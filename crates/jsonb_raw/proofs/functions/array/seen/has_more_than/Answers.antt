@@ -1,5 +1,4 @@
-use Rattle.std.proofs.Common.{◌≡◌, cond, true, false, refl, sym, ◌∙◌, arith}
-use Rattle.jsonb_doc.specs.Equal.{is_equal}
+use Rattle.jsonb_raw.proofs.Common.{◌≡◌, cond, true, false, refl, sym, ◌∙◌, arith, is_equal}
 use Rattle.jsonb_raw.proofs.RunLemmas.{entry_taken, no_entry_left}
 use Rattle.jsonb_raw.proofs.ElementsSeen.{MoreLeft-none, MoreLeft-found, MoreLeft-next}
 use Rattle.jsonb_raw.proofs.functions.array.seen.has_more_than.Goals.{then-branch, else-branch}

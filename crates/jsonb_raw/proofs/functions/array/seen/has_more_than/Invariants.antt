@@ -1,9 +1,4 @@
-use Rattle.std.proofs.Common.{List, length}
-use Rattle.jsonb_doc.specs.Tree.{Tree}
-use Rattle.jsonb_doc.specs.Payload.{Form}
-use Rattle.jsonb_doc.specs.Private.Stored.{Stores}
-use Rattle.jsonb_raw.specs.Sets.{count_of}
-use Rattle.jsonb_raw.specs.Private.Entries.{HoldTrees}
+use Rattle.jsonb_raw.proofs.Common.{List, length, Tree, Form, Stores, count_of, HoldTrees}
 use Rattle.jsonb_raw.proofs.ElementsSeen.{MoreLeft}
 use Rattle.jsonb_raw.proofs.functions.array.seen.has_more_than.Given as goal
 

@@ -1,4 +1,4 @@
-use Rattle.std.proofs.Common.{◌∙◌}
+use Rattle.jsonb_raw.proofs.Common.{◌∙◌}
 use Rattle.jsonb_raw.proofs.ElementsSeen.{kept_first, kept_shared, kept_unshared}
 use Rattle.jsonb_raw.proofs.functions.array.seen.keeps_among.Goals as goal
 

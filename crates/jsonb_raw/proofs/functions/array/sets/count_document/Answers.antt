@@ -1,6 +1,4 @@
-use Rattle.std.proofs.Common.{arith}
-use Rattle.jsonb_doc.specs.Tree.{elements}
-use Rattle.jsonb_doc.proofs.DecodedFits.{decoded_fits}
+use Rattle.jsonb_raw.proofs.Common.{arith, elements, decoded_fits}
 use Rattle.jsonb_raw.proofs.RunLemmas.{array_of_entries}
 use Rattle.jsonb_raw.proofs.SetKept.{no_array_entries, members_fit, elements_few}
 use Rattle.jsonb_raw.proofs.functions.array.sets.count_document.Goals as goal

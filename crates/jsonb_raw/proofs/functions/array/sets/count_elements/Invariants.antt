@@ -1,7 +1,4 @@
-use Rattle.std.proofs.Common.{List, length, ◌<◌, ◌^◌}
-use Rattle.jsonb_doc.specs.Tree.{Tree}
-use Rattle.jsonb_doc.specs.Payload.{Form}
-use Rattle.jsonb_raw.specs.Private.Entries.{HoldTrees}
+use Rattle.jsonb_raw.proofs.Common.{List, length, ◌<◌, ◌^◌, Tree, Form, HoldTrees}
 use Rattle.jsonb_raw.proofs.ElementsSeen.{CountsLeft}
 use Rattle.jsonb_raw.proofs.functions.array.sets.count_elements.Given as goal
 

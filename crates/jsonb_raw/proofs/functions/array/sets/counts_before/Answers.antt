@@ -1,8 +1,6 @@
-use Rattle.std.proofs.Common.{arith}
-use Rattle.jsonb_doc.proofs.DecodedFits.{decoded_fits}
+use Rattle.jsonb_raw.proofs.Common.{arith, decoded_fits, as_elements}
 use Rattle.jsonb_raw.proofs.SetKept.{members_fit}
 use Rattle.jsonb_raw.proofs.ElementsSeen.{counted_begun}
-use Rattle.jsonb_raw.specs.Arrays.{as_elements}
 use Rattle.jsonb_raw.proofs.functions.array.sets.counts_before.Goals as goal
 
 pub returns-in-First-clause-counts : goal.returns-in-First-clause-counts

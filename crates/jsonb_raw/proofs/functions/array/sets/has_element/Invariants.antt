@@ -1,10 +1,4 @@
-use Rattle.std.proofs.Common.{◌≡◌}
-use Rattle.std.specs.List.{list_any}
-use Rattle.jsonb_doc.specs.Tree.{Tree, Trees, elements}
-use Rattle.jsonb_doc.specs.Equal.{is_equal}
-use Rattle.jsonb_doc.specs.Payload.{Form}
-use Rattle.jsonb_doc.specs.Item.{StandsFor}
-use Rattle.jsonb_doc.specs.Representation.Iterators.{HasElementsLeft}
+use Rattle.jsonb_raw.proofs.Common.{◌≡◌, list_any, Tree, Trees, elements, is_equal, Form, StandsFor, HasElementsLeft}
 use Rattle.jsonb_raw.proofs.IteratorItems.{SomeElements}
 use Rattle.jsonb_raw.proofs.functions.array.sets.has_element.Given as goal
 

@@ -1,7 +1,5 @@
-use Rattle.std.proofs.Common.{inl, refl, arith}
+use Rattle.jsonb_raw.proofs.Common.{inl, refl, arith, decoded_fits, as_elements}
 use Rattle.jsonb_raw.proofs.AnswerLemmas.{failed}
-use Rattle.jsonb_doc.proofs.DecodedFits.{decoded_fits}
-use Rattle.jsonb_raw.specs.Arrays.{as_elements}
 use Rattle.jsonb_raw.proofs.ElementsSeen.{members_few}
 use Rattle.jsonb_raw.proofs.functions.array.sets.kept_beside.Goals as goal
 

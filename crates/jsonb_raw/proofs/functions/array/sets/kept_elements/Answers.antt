@@ -1,8 +1,5 @@
-use Rattle.std.proofs.Common.{◌∙◌, inl, sym, subst}
+use Rattle.jsonb_raw.proofs.Common.{◌∙◌, inl, sym, subst, select_occurrences, RunsHold, keeps}
 use Rattle.jsonb_raw.proofs.AnswerLemmas.{failed}
-use Rattle.jsonb_raw.specs.Sets.{select_occurrences}
-use Rattle.jsonb_raw.specs.Private.Entries.{RunsHold}
-use Rattle.jsonb_raw.specs.Private.SetCounts.{keeps}
 use Rattle.jsonb_raw.proofs.SetKept.{KeptRuns-all, KeptRuns-left, KeptRuns-done, KeptRuns-kept, KeptRuns-dropped, next_of}
 use Rattle.jsonb_raw.proofs.functions.array.sets.kept_elements.Goals as goal
 

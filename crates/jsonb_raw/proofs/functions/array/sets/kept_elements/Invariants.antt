@@ -1,9 +1,4 @@
-use Rattle.std.proofs.Common.{List, [], length}
-use Rattle.jsonb_doc.specs.Tree.{Tree}
-use Rattle.jsonb_doc.specs.Payload.{Form}
-use Rattle.jsonb_raw.specs.Sets.{select_occurrences}
-use Rattle.jsonb_raw.specs.Private.Entries.{HoldTrees}
-use Rattle.jsonb_raw.specs.Private.SetCounts.{keeps, HaveSeen}
+use Rattle.jsonb_raw.proofs.Common.{List, [], length, Tree, Form, select_occurrences, HoldTrees, keeps, HaveSeen}
 use Rattle.jsonb_raw.proofs.SetKept.{KeptRuns}
 use Rattle.jsonb_raw.proofs.functions.array.sets.kept_elements.Given as goal
 

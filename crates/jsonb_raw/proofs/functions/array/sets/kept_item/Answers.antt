@@ -1,4 +1,4 @@
-use Rattle.std.proofs.Common.{[], ◌∷◌, arith}
+use Rattle.jsonb_raw.proofs.Common.{[], ◌∷◌, arith}
 use Rattle.jsonb_raw.proofs.AnswerLemmas.{failed}
 use Rattle.jsonb_raw.proofs.SetKept.{KeptLeft-all, KeptLeft-next, KeptLeft-refused, KeptLeft-done, few_before}
 use Rattle.jsonb_raw.proofs.functions.array.sets.kept_item.Goals as goal

@@ -1,5 +1,4 @@
-use Rattle.std.proofs.Common.{◌≡◌, ◌∙◌, sym, true}
-use Rattle.jsonb_raw.specs.Private.SetCounts.{keeps}
+use Rattle.jsonb_raw.proofs.Common.{◌≡◌, ◌∙◌, sym, true, keeps}
 use Rattle.jsonb_raw.proofs.functions.array.sets.push_kept.Goals as goal
 
 pub returns-clause-pushed : goal.returns-clause-pushed

@@ -1,4 +1,4 @@
-use Rattle.std.proofs.Common.{◌∷◌, ◌++◌}
+use Rattle.jsonb_raw.proofs.Common.{◌∷◌, ◌++◌}
 use Rattle.jsonb_raw.proofs.AnswerLemmas.{failed}
 use Rattle.jsonb_raw.proofs.functions.object.insert.copy_with.Goals as goal
 

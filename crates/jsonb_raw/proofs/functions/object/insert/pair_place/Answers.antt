@@ -1,6 +1,4 @@
-use Rattle.std.proofs.Common.{◌≡◌, rules, arith, sym, ◌∙◌, Less, Equal, Greater, nat_cmp}
-use Rattle.std.specs.Cmp.Lexicographic.{slice_cmp}
-use Rattle.jsonb_doc.specs.Tree.{keys}
+use Rattle.jsonb_raw.proofs.Common.{◌≡◌, rules, arith, sym, ◌∙◌, Less, Equal, Greater, nat_cmp, slice_cmp, keys}
 use Rattle.jsonb_raw.proofs.ObjectLemmas.{object_of_keys, first_key, no_key_refused, no_more_keys}
 use Rattle.jsonb_raw.proofs.InsertLemmas.{none_passed, key_passed, place_there, place_before, place_last, in_object}
 use Rattle.jsonb_raw.proofs.functions.object.insert.pair_place.Goals as goal

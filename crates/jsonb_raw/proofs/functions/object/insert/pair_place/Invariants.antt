@@ -1,7 +1,4 @@
-use Rattle.std.proofs.Common.{◌≡◌, ◌+◌, ◌≤◌}
-use Rattle.jsonb_doc.specs.Tree.{Tree, Pairs, object, keys}
-use Rattle.jsonb_doc.specs.Payload.{Form}
-use Rattle.jsonb_doc.specs.Format.{Decodes}
+use Rattle.jsonb_raw.proofs.Common.{◌≡◌, ◌+◌, ◌≤◌, Tree, Pairs, object, keys, Form, Decodes}
 use Rattle.jsonb_raw.proofs.InsertLemmas.{KeysPassed}
 use Rattle.jsonb_raw.proofs.functions.object.insert.pair_place.Given as goal
 

@@ -1,11 +1,4 @@
-use Rattle.std.proofs.Common.{List, Option, drop, IfSome}
-use Rattle.std.specs.List.{AllByRecursion}
-use Rattle.jsonb_doc.specs.Tree.{Tree}
-use Rattle.jsonb_doc.specs.Payload.{Form}
-use Rattle.jsonb_raw.specs.CompositeKeys.{AreColumns}
-use Rattle.jsonb_raw.specs.Documents.{raw_bytes}
-use Rattle.jsonb_raw.specs.AnyBytes.Roots.{HasRoot}
-use Rattle.jsonb_raw.specs.Private.KeyWidth.{width_of}
+use Rattle.jsonb_raw.proofs.Common.{List, Option, drop, IfSome, AllByRecursion, Tree, Form, AreColumns, raw_bytes, HasRoot, width_of}
 use Rattle.jsonb_raw.proofs.ColumnLemmas.{KeyLeft}
 use Rattle.jsonb_raw.proofs.functions.operator.column_key.key_of_columns.Given as goal
 

@@ -1,10 +1,5 @@
-use Rattle.std.proofs.Common.{◌≡◌, ◌++◌, ◌∙◌, Some, inl, sym, subst}
+use Rattle.jsonb_raw.proofs.Common.{◌≡◌, ◌++◌, ◌∙◌, Some, inl, sym, subst, keys_of, keys_rise, merged, PairsHeld, FirstPair}
 use Rattle.jsonb_raw.proofs.AnswerLemmas.{failed}
-use Rattle.std.specs.Map.{keys_of}
-use Rattle.jsonb_doc.proofs.BuilderSteps.{keys_rise}
-use Rattle.jsonb_raw.specs.Private.Merging.{merged}
-use Rattle.jsonb_raw.specs.Private.Entries.{PairsHeld}
-use Rattle.jsonb_raw.specs.declared.functions.parts.FirstPair.{FirstPair}
 use Rattle.jsonb_raw.proofs.ConcatLemmas.{merged_rising, merging_begun, left_of, merging_less, merging_equal_second, merging_equal, merging_greater, merging_ended}
 use Rattle.jsonb_raw.proofs.functions.operator.concat.merged_pairs.Goals as goal
 use Rattle.jsonb_raw.proofs.functions.operator.concat.merged_pairs.Goals.{in_default, in_default-2}

@@ -1,10 +1,4 @@
-use Rattle.std.proofs.Common.{◌+◌, ℕ, List, length}
-use Rattle.std.specs.Map.{keys_of}
-use Rattle.jsonb_doc.specs.Tree.{Tree}
-use Rattle.jsonb_doc.specs.Payload.{Form}
-use Rattle.jsonb_doc.specs.Format.{AreKeys}
-use Rattle.jsonb_raw.specs.Private.Merging.{merged}
-use Rattle.jsonb_raw.specs.Private.Entries.{HoldPairs}
+use Rattle.jsonb_raw.proofs.Common.{◌+◌, ℕ, List, length, keys_of, Tree, Form, AreKeys, merged, HoldPairs}
 use Rattle.jsonb_raw.proofs.ConcatLemmas.{Merging}
 use Rattle.jsonb_raw.proofs.functions.operator.concat.merged_pairs.Given as goal
 

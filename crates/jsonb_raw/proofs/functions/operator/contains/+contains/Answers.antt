@@ -1,18 +1,9 @@
-use Rattle.std.proofs.Common.{rules, arith, ℕ, ◌-◌, ◌||◌, List, take, Bool, Some, None, true, false, ◌≡◌, refl, sym, ◌∙◌, subst, IsOkAnd, Bor}
-use Rattle.std.proofs.lemmas.Slice.Eq.{bytes_eq-Decides}
-use Rattle.std.specs.List.{list_any}
+use Rattle.jsonb_raw.proofs.Common.{rules, arith, ℕ, ◌-◌, ◌||◌, List, take, Bool, Some, None, true, false, ◌≡◌, refl, sym, ◌∙◌, subst, IsOkAnd, Bor, bytes_eq-Decides, list_any, keys, elements, members, keys_rise, equal_kind, pairs_above, is_part_of, each_is_matched, each_pair_is_matched, IsOneAnswer, IsTailOf, matches, or_second}
 use Rattle.jsonb_doc.specs.declared.item.Item.TheVariants as item
-use Rattle.jsonb_doc.specs.Tree.{keys, elements, members}
-use Rattle.jsonb_doc.proofs.BuilderSteps.{keys_rise}
-use Rattle.jsonb_doc.proofs.KindLemmas.{equal_kind}
-use Rattle.jsonb_raw.specs.Private.PairSteps.{pairs_above}
-use Rattle.jsonb_raw.specs.Contains.{is_part_of, each_is_matched, each_pair_is_matched}
-use Rattle.jsonb_raw.specs.Private.Compared.{IsOneAnswer, IsTailOf, matches}
 use Rattle.jsonb_raw.proofs.ContainsLaws.{matched_refl}
 use Rattle.jsonb_raw.proofs.EntriesLeft.{take_one, take_no, take_zero, tail_none, tail_next, tail_along, SomeEntries-first, SomeEntries-error, SomeEntries-none, SomePairEntries-first, SomePairEntries-error, SomePairEntries-none}
 use Rattle.jsonb_raw.proofs.EntryEquals.{same_tree, IsAnswer, IsItemAnswer, none_aside, put_aside, part_holds, part_fails, whole_fails, aside_along, put_one_aside, one_holds, one_fails}
 use Rattle.jsonb_raw.proofs.ContainLemmas.{unmatched_key, matched_pair, no_entry_found, entry_found, scalar_match, matches_if_equal, no_object, scalar_told, scalar_found, scalars_left, scalars_decide, matched_left}
-use Rattle.jsonb_doc.proofs.Basics.{or_second}
 use Rattle.jsonb_raw.proofs.functions.operator.contains.+contains.Goals as goal
 use Rattle.jsonb_raw.proofs.functions.operator.contains.+contains.Goals.{parts_match-in_default-via-in-Array+in_default, parts_match-in_default-via-in-Object+in_default, parts_match-in_default-via-in_default}
 

@@ -1,6 +1,4 @@
-use Rattle.std.proofs.Common.{rules, arith, true, false, ◌≡◌, refl, sym, ◌∙◌}
-use Rattle.jsonb_doc.specs.Tree.{array}
-use Rattle.jsonb_raw.specs.Contains.{is_part_of}
+use Rattle.jsonb_raw.proofs.Common.{rules, arith, true, false, ◌≡◌, refl, sym, ◌∙◌, array, is_part_of}
 use Rattle.jsonb_raw.proofs.IteratorItems.{SomeElements-all, SomeElements-first, SomeElements-error, SomeElements-none}
 use Rattle.jsonb_raw.proofs.functions.operator.contains.element_matches.Goals as goal
 

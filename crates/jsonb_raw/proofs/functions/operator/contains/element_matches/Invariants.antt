@@ -1,10 +1,4 @@
-use Rattle.std.proofs.Common.{◌≡◌, ◌<◌, length}
-use Rattle.std.specs.List.{list_any}
-use Rattle.jsonb_doc.specs.Tree.{Tree, Trees, array, elements}
-use Rattle.jsonb_doc.specs.Payload.{Form}
-use Rattle.jsonb_doc.specs.Format.{Decodes}
-use Rattle.jsonb_doc.specs.Item.{StandsFor}
-use Rattle.jsonb_raw.specs.Contains.{is_part_of}
+use Rattle.jsonb_raw.proofs.Common.{◌≡◌, ◌<◌, length, list_any, Tree, Trees, array, elements, Form, Decodes, StandsFor, is_part_of}
 use Rattle.jsonb_raw.proofs.IteratorItems.{SomeElements}
 use Rattle.jsonb_raw.proofs.functions.operator.contains.element_matches.Given as goal
 

@@ -1,10 +1,4 @@
-use Rattle.std.proofs.Common.{◌≡◌, true, false, refl, sym, ◌∙◌}
-use Rattle.std.specs.List.{list_any}
-use Rattle.jsonb_doc.specs.Equal.{is_equal}
-use Rattle.jsonb_doc.specs.Tree.{elements}
-use Rattle.jsonb_doc.specs.declared.entry_iter.EntryIter.{EntryIter}
-use Rattle.jsonb_raw.specs.Contains.{is_part_of}
-use Rattle.jsonb_raw.specs.Private.Compared.{PassesOver}
+use Rattle.jsonb_raw.proofs.Common.{◌≡◌, true, false, refl, sym, ◌∙◌, list_any, is_equal, elements, EntryIter, is_part_of, PassesOver}
 use Rattle.jsonb_raw.proofs.EntriesLeft.{SomeEntries-first, SomeEntries-error, SomeEntries-none, passes_none}
 use Rattle.jsonb_raw.proofs.ContainLemmas.{scalar_matches, container_told, scalar_told, container_passed, found_passed, missing_tells}
 use Rattle.jsonb_raw.proofs.functions.operator.starts.scalars_matched.Goals as goal

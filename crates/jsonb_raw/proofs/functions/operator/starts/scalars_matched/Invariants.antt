@@ -1,9 +1,4 @@
-use Rattle.std.proofs.Common.{◌≡◌}
-use Rattle.jsonb_doc.specs.Tree.{Trees, elements}
-use Rattle.jsonb_doc.specs.Payload.{Form}
-use Rattle.jsonb_doc.specs.Private.Stored.{HasEntriesLeft, entries_bound}
-use Rattle.jsonb_raw.specs.Private.Compared.{PassesOver}
-use Rattle.jsonb_raw.specs.Private.StartHints.{scalars_matched}
+use Rattle.jsonb_raw.proofs.Common.{◌≡◌, Trees, elements, Form, HasEntriesLeft, entries_bound, PassesOver, scalars_matched}
 use Rattle.jsonb_raw.proofs.EntriesLeft.{SomeEntries}
 use Rattle.jsonb_raw.proofs.functions.operator.starts.scalars_matched.Given as goal
 

@@ -1,7 +1,4 @@
-use Rattle.std.proofs.Common.{◌≡◌, true, false, sym, ◌∙◌}
-use Rattle.std.specs.List.{list_any}
-use Rattle.jsonb_doc.specs.Tree.{elements}
-use Rattle.jsonb_raw.specs.Contains.{is_part_of}
+use Rattle.jsonb_raw.proofs.Common.{◌≡◌, true, false, sym, ◌∙◌, list_any, elements, is_part_of}
 use Rattle.jsonb_raw.proofs.EntriesLeft.{SomeEntries-first, SomeEntries-error, SomeEntries-none}
 use Rattle.jsonb_raw.proofs.ContainLemmas.{scalar_matches, container_told, scalar_told, container_passed, found_passed, missing_tells}
 use Rattle.jsonb_raw.proofs.functions.operator.starts.scattered_matched.Goals as goal

@@ -1,8 +1,4 @@
-use Rattle.std.proofs.Common.{◌≡◌}
-use Rattle.jsonb_doc.specs.Tree.{Trees, elements}
-use Rattle.jsonb_doc.specs.Payload.{Form}
-use Rattle.jsonb_doc.specs.Private.Stored.{HasEntriesLeft, entries_bound}
-use Rattle.jsonb_raw.specs.Private.StartHints.{AreStarts, scalars_matched}
+use Rattle.jsonb_raw.proofs.Common.{◌≡◌, Trees, elements, Form, HasEntriesLeft, entries_bound, AreStarts, scalars_matched}
 use Rattle.jsonb_raw.proofs.EntriesLeft.{SomeEntries}
 use Rattle.jsonb_raw.proofs.functions.operator.starts.scattered_matched.Given as goal
 

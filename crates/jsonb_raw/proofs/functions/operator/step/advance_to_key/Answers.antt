@@ -1,6 +1,4 @@
-use Rattle.std.proofs.Common.{arith, refl, sym, ◌∙◌}
-use Rattle.jsonb_doc.specs.Tree.{keys}
-use Rattle.jsonb_doc.proofs.BuilderSteps.{keys_rise}
+use Rattle.jsonb_raw.proofs.Common.{arith, refl, sym, ◌∙◌, keys, keys_rise}
 use Rattle.jsonb_raw.proofs.EntriesLeft.{SomePairEntries-first, SomePairEntries-error, SomePairEntries-none}
 use Rattle.jsonb_raw.proofs.PairStepLemmas.{value_after_less, above_after_less, value_at_equal, above_at_equal, no_value_at_greater}
 use Rattle.jsonb_raw.proofs.functions.operator.step.advance_to_key.Goals as goal

@@ -1,9 +1,4 @@
-use Rattle.std.proofs.Common.{◌≡◌, ◌≤◌}
-use Rattle.jsonb_doc.specs.Tree.{Pairs, keys, value_under}
-use Rattle.jsonb_doc.specs.Payload.{Form}
-use Rattle.jsonb_doc.specs.Private.Stored.{HasPairEntriesLeft, entries_bound, entries_room}
-use Rattle.jsonb_doc.proofs.BuilderSteps.{AreRising}
-use Rattle.jsonb_raw.specs.Private.PairSteps.{pairs_above}
+use Rattle.jsonb_raw.proofs.Common.{◌≡◌, ◌≤◌, Pairs, keys, value_under, Form, HasPairEntriesLeft, entries_bound, entries_room, AreRising, pairs_above}
 use Rattle.jsonb_raw.proofs.EntriesLeft.{SomePairEntries}
 use Rattle.jsonb_raw.proofs.functions.operator.step.advance_to_key.Given as goal
 

@@ -1,4 +1,4 @@
-use Rattle.std.proofs.Common.{refl, ap, ◌∙◌}
+use Rattle.jsonb_raw.proofs.Common.{refl, ap, ◌∙◌}
 use Rattle.jsonb_doc.specs.declared.layout.HeaderKind.TheVariants.{Object}
 use Rattle.jsonb_doc.specs.contracts.layout.HeaderKindPartialEq.TheImpl.{eq-value as header_equal}
 use Rattle.jsonb_raw.proofs.StripWalk.{all_elements_left}

@@ -1,7 +1,5 @@
-use Rattle.std.proofs.Common.{[], inl}
+use Rattle.jsonb_raw.proofs.Common.{[], inl, entries_kept, strip}
 use Rattle.jsonb_raw.proofs.AnswerLemmas.{failed}
-use Rattle.jsonb_raw.specs.Private.Stripping.{entries_kept}
-use Rattle.jsonb_raw.specs.Strip.{strip}
 use Rattle.jsonb_raw.proofs.StripLists.{kept_makes}
 use Rattle.jsonb_raw.proofs.StripWalk.{begun_with}
 use Rattle.jsonb_raw.proofs.functions.operator.stripping.begin.Goals as goal

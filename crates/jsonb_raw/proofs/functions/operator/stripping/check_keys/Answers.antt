@@ -1,6 +1,4 @@
-use Rattle.std.proofs.Common.{List, ℕ, subst}
-use Rattle.jsonb_doc.specs.Private.Writer.{AreSortedKeys}
-use Rattle.jsonb_raw.specs.Private.Stripping.{IsAboveLast}
+use Rattle.jsonb_raw.proofs.Common.{List, ℕ, subst, AreSortedKeys, IsAboveLast}
 use Rattle.jsonb_raw.proofs.RunLemmas.{text_first}
 use Rattle.jsonb_raw.proofs.functions.operator.stripping.check_keys.Goals as goal
 

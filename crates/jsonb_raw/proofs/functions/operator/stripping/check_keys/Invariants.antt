@@ -1,9 +1,4 @@
-use Rattle.std.proofs.Common.{ℕ, List, length, map}
-use Rattle.jsonb_doc.specs.Tree.{text}
-use Rattle.jsonb_doc.specs.Payload.{Form}
-use Rattle.jsonb_doc.specs.Private.Writer.{AreSortedKeys}
-use Rattle.jsonb_raw.specs.Private.Entries.{HoldTrees}
-use Rattle.jsonb_raw.specs.Private.Stripping.{IsAboveLast}
+use Rattle.jsonb_raw.proofs.Common.{ℕ, List, length, map, text, Form, AreSortedKeys, HoldTrees, IsAboveLast}
 use Rattle.jsonb_raw.proofs.functions.operator.stripping.check_keys.Given as goal
 
 -- the keys that are left are sorted, and above the last one

@@ -1,7 +1,4 @@
-use Rattle.std.proofs.Common.{true, arith, ap, length}
-use Rattle.jsonb_doc.specs.declared.layout.EntryKind.TheVariants.{Null}
-use Rattle.jsonb_doc.proofs.KindLemmas.{differing_kind, equal_kind}
-use Rattle.jsonb_raw.specs.Private.Stripping.{stripped}
+use Rattle.jsonb_raw.proofs.Common.{true, arith, ap, length, Null, differing_kind, equal_kind, stripped}
 use Rattle.jsonb_raw.proofs.StripWalk.{words_of_run, word_taken, no_word_left, value_null, value_kept}
 use Rattle.jsonb_raw.proofs.functions.operator.stripping.count_values.Goals as goal
 

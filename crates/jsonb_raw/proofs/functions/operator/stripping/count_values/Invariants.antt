@@ -1,8 +1,4 @@
-use Rattle.std.proofs.Common.{true, ◌+◌, ◌≤◌, List, length}
-use Rattle.jsonb_doc.specs.Tree.{Tree}
-use Rattle.jsonb_doc.specs.Payload.{Form}
-use Rattle.jsonb_raw.specs.Private.Entries.{HoldTrees}
-use Rattle.jsonb_raw.specs.Private.Stripping.{stripped}
+use Rattle.jsonb_raw.proofs.Common.{true, ◌+◌, ◌≤◌, List, length, Tree, Form, HoldTrees, stripped}
 use Rattle.jsonb_raw.proofs.StripWalk.{ValuesCounted}
 use Rattle.jsonb_raw.proofs.functions.operator.stripping.count_values.Given as goal
 

@@ -1,6 +1,5 @@
-use Rattle.jsonb_raw.specs.Private.Stripping.{values_kept}
+use Rattle.jsonb_raw.proofs.Common.{values_kept, zero_of}
 use Rattle.jsonb_raw.proofs.StripWalk.{no_keys_stay, sorted_names, all_keys_stay, some_keys_stay}
-use Rattle.jsonb_doc.proofs.Basics.{zero_of}
 use Rattle.jsonb_raw.proofs.functions.operator.stripping.put_keys.Goals as goal
 
 pub returns-then-is_empty-clause-put : goal.returns-then-is_empty-clause-put

@@ -1,9 +1,4 @@
-use Rattle.std.proofs.Common.{◌≤◌, ◌++◌, ℕ, List, length, map}
-use Rattle.jsonb_doc.specs.Tree.{Tree, text}
-use Rattle.jsonb_doc.specs.Payload.{Form}
-use Rattle.jsonb_doc.specs.Private.Writer.{Around, IsWriting}
-use Rattle.jsonb_raw.specs.Private.Entries.{HoldTrees}
-use Rattle.jsonb_raw.specs.Private.Stripping.{beside}
+use Rattle.jsonb_raw.proofs.Common.{◌≤◌, ◌++◌, ℕ, List, length, map, Tree, text, Form, Around, IsWriting, HoldTrees, beside}
 use Rattle.jsonb_raw.proofs.StripWalk.{KeysOpen}
 use Rattle.jsonb_raw.proofs.functions.operator.stripping.put_keys_kept.Given as goal
 

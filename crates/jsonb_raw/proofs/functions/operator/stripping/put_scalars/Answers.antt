@@ -1,7 +1,5 @@
-use Rattle.std.proofs.Common.{arith, sym, ◌∙◌}
+use Rattle.jsonb_raw.proofs.Common.{arith, sym, ◌∙◌, Container, same_kind, other_kind}
 use Rattle.jsonb_raw.proofs.AnswerLemmas.{failed}
-use Rattle.jsonb_doc.specs.declared.layout.EntryKind.TheVariants.{Container}
-use Rattle.jsonb_doc.proofs.KindLemmas.{same_kind, other_kind}
 use Rattle.jsonb_raw.proofs.RunLemmas.{no_entry_left, entry_taken}
 use Rattle.jsonb_raw.proofs.StripWalk.{scalars_begun, scalar_kept, container_next, null_next, no_value_left}
 use Rattle.jsonb_raw.proofs.functions.operator.stripping.put_scalars.Goals as goal

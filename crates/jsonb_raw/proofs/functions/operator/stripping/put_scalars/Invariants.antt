@@ -1,9 +1,4 @@
-use Rattle.std.proofs.Common.{◌+◌, ◌≤◌, List, length}
-use Rattle.jsonb_doc.specs.Tree.{Tree}
-use Rattle.jsonb_doc.specs.Payload.{Form}
-use Rattle.jsonb_doc.specs.Private.Writer.{Around, IsWriting}
-use Rattle.jsonb_raw.specs.Private.Entries.{HoldTrees}
-use Rattle.jsonb_raw.specs.Private.Stripping.{stripped}
+use Rattle.jsonb_raw.proofs.Common.{◌+◌, ◌≤◌, List, length, Tree, Form, Around, IsWriting, HoldTrees, stripped}
 use Rattle.jsonb_raw.proofs.StripWalk.{ScalarsOpen}
 use Rattle.jsonb_raw.proofs.functions.operator.stripping.put_scalars.Given as goal
 

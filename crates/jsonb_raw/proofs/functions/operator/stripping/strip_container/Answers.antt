@@ -1,12 +1,6 @@
-use Rattle.std.proofs.Common.{ℕ, Vec, Global, [], ◌∷◌, arith, inl, refl, ap, ◌∙◌, subst}
-use Rattle.jsonb_doc.specs.Format.{Decodes}
-use Rattle.jsonb_doc.specs.Private.Errors.{IsOutOfMemoryOrTooLarge}
+use Rattle.jsonb_raw.proofs.Common.{ℕ, Vec, Global, [], ◌∷◌, arith, inl, refl, ap, ◌∙◌, subst, Decodes, IsOutOfMemoryOrTooLarge, Around, IsWriting, strip, stripped, pushed, popped, none_around, empty_of, only_ok}
 use Rattle.jsonb_raw.proofs.AnswerLemmas.{failed}
-use Rattle.jsonb_doc.specs.Private.Writer.{Around, IsWriting}
-use Rattle.jsonb_raw.specs.Strip.{strip}
-use Rattle.jsonb_raw.specs.Private.Stripping.{stripped}
 use Rattle.jsonb_raw.proofs.StripWalk.{rooms-pushed}
-use Rattle.jsonb_doc.proofs.Basics.{pushed, popped, none_around, empty_of, only_ok}
 use Rattle.jsonb_raw.proofs.functions.operator.stripping.strip_container.Goals as goal
 
 pub returns-in_err-container-clause-stripped : goal.returns-in_err-container-clause-stripped

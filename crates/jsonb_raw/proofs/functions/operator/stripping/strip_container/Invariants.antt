@@ -1,9 +1,4 @@
-use Rattle.std.proofs.Common.{◌+◌}
-use Rattle.jsonb_doc.specs.Tree.{Tree}
-use Rattle.jsonb_doc.specs.Payload.{Form}
-use Rattle.jsonb_raw.specs.Private.Entries.{AreEntriesOf}
-use Rattle.jsonb_raw.specs.Private.Stripping.{IsStripping}
-use Rattle.jsonb_raw.specs.Strip.{strip}
+use Rattle.jsonb_raw.proofs.Common.{◌+◌, Tree, Form, AreEntriesOf, IsStripping, strip}
 use Rattle.jsonb_raw.proofs.StripWalk.{room, rooms}
 use Rattle.jsonb_raw.proofs.functions.operator.stripping.strip_container.Given as goal
 

@@ -1,11 +1,4 @@
-use Rattle.std.proofs.Common.{◌<◌, ◌≤◌, ◌+◌, ◌*◌, length, Bool, IfSome}
-use Rattle.jsonb_doc.specs.Tree.{Tree, Trees, Pairs, array, object}
-use Rattle.jsonb_doc.specs.Payload.{Form}
-use Rattle.jsonb_doc.specs.Format.{Decodes}
-use Rattle.jsonb_doc.specs.Item.{StandsFor}
-use Rattle.jsonb_doc.specs.AnyBytes.Items.{item_size}
-use Rattle.jsonb_doc.specs.Private.Stored.{entries_room}
-use Rattle.jsonb_raw.specs.Texts.{texts, texts_of_trees, texts_of_pairs, Tells}
+use Rattle.jsonb_raw.proofs.Common.{◌<◌, ◌≤◌, ◌+◌, ◌*◌, length, Bool, IfSome, Tree, Trees, Pairs, array, object, Form, Decodes, StandsFor, item_size, entries_room, texts, texts_of_trees, texts_of_pairs, Tells}
 use Rattle.jsonb_raw.proofs.TextLemmas.{Leaves}
 use Rattle.jsonb_raw.proofs.EntriesLeft.{SomeEntries, SomePairEntries}
 use Rattle.jsonb_raw.proofs.functions.operator.traverse.+texts.Given as goal

@@ -1,6 +1,4 @@
-use Rattle.std.proofs.Common.{refl, arith, ap, length, ℕ, List, Bor}
-use Rattle.jsonb_doc.specs.Kinds.{kind_number}
-use Rattle.jsonb_doc.proofs.WriterLimits.{not_short}
+use Rattle.jsonb_raw.proofs.Common.{refl, arith, ap, length, ℕ, List, Bor, kind_number, not_short}
 use Rattle.jsonb_raw.proofs.functions.parts.EntryWithWord.of_root.Goals as goal
 
 pub returns-then-content-gt-MAX_CONTENT-clause-root : goal.returns-then-content-gt-MAX_CONTENT-clause-root

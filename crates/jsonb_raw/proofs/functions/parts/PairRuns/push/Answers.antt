@@ -1,5 +1,5 @@
 use Rattle.jsonb_raw.proofs.RunLemmas.{pairs_added, pairs_none_added}
-use Rattle.jsonb_doc.proofs.Basics.{zero_of}
+use Rattle.jsonb_raw.proofs.Common.{zero_of}
 use Rattle.jsonb_raw.proofs.functions.parts.PairRuns.push.Goals as goal
 
 pub returns-then-is_empty-clause-pushed : goal.returns-then-is_empty-clause-pushed

@@ -1,4 +1,4 @@
-use Rattle.std.proofs.Common.{take}
+use Rattle.jsonb_raw.proofs.Common.{take}
 use Rattle.jsonb_raw.proofs.ChildAnswers.{drop_one_more}
 use Rattle.jsonb_raw.proofs.functions.path.child.array_without_element.Goals as goal
 

@@ -1,8 +1,5 @@
-use Rattle.std.proofs.Common.{◌≡◌, true, false, not, filter, refl, sym, ◌∙◌}
+use Rattle.jsonb_raw.proofs.Common.{◌≡◌, true, false, not, filter, refl, sym, ◌∙◌, elements, is_text, front_whole}
 use Rattle.jsonb_raw.proofs.AnswerLemmas.{failed}
-use Rattle.jsonb_doc.specs.Tree.{elements}
-use Rattle.jsonb_raw.specs.Exists.{is_text}
-use Rattle.jsonb_doc.proofs.BuilderSteps.{front_whole}
 use Rattle.jsonb_raw.proofs.IteratorItems.{SomeElements-error, SomeElements-none, elements_begun, elements_pushed, elements_refused, elements_skipped}
 use Rattle.jsonb_raw.proofs.functions.path.child.array_without_text.Goals as goal
 

@@ -1,8 +1,4 @@
-use Rattle.std.proofs.Common.{filter, not}
-use Rattle.jsonb_doc.specs.Tree.{Trees, array, elements}
-use Rattle.jsonb_doc.specs.Payload.{Form}
-use Rattle.jsonb_doc.specs.Format.{Decodes}
-use Rattle.jsonb_raw.specs.Exists.{is_text}
+use Rattle.jsonb_raw.proofs.Common.{filter, not, Trees, array, elements, Form, Decodes, is_text}
 use Rattle.jsonb_raw.proofs.IteratorItems.{HeldElements}
 use Rattle.jsonb_raw.proofs.functions.path.child.array_without_text.Given as goal
 

@@ -1,5 +1,4 @@
-use Rattle.std.proofs.Common.{drop, refl}
-use Rattle.std.proofs.lemmas.Result.{err_from_is_err_and}
+use Rattle.jsonb_raw.proofs.Common.{drop, refl, err_from_is_err_and}
 use Rattle.jsonb_raw.proofs.ChildAnswers.{no_such_element}
 use Rattle.jsonb_raw.proofs.ChildLemmas.{split_at}
 use Rattle.jsonb_raw.proofs.RunLemmas.{entry_taken, no_entry_left}

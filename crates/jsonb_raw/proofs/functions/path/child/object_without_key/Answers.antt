@@ -1,8 +1,4 @@
-use Rattle.std.proofs.Common.{◌≡◌, Some, None, not, sym, ◌∙◌, position, bytes_eq}
-use Rattle.std.specs.Map.{keys_of}
-use Rattle.jsonb_doc.specs.Tree.{object, members}
-use Rattle.jsonb_doc.proofs.TreeLists.{pairs_of-members}
-use Rattle.jsonb_doc.proofs.LimitLemmas.{decoded_members}
+use Rattle.jsonb_raw.proofs.Common.{◌≡◌, Some, None, not, sym, ◌∙◌, position, bytes_eq, keys_of, object, members, pairs_of-members, decoded_members}
 use Rattle.jsonb_raw.proofs.NamedPairs.{AreKeys-filter, all_stay, one_goes}
 use Rattle.jsonb_raw.proofs.functions.path.child.object_without_key.Goals as goal
 

@@ -1,4 +1,4 @@
-use Rattle.std.proofs.Common.{◌≡◌, ◌+◌, ◌∙◌, refl, sym, ap, rules}
+use Rattle.jsonb_raw.proofs.Common.{◌≡◌, ◌+◌, ◌∙◌, refl, sym, ap, rules}
 use Rattle.jsonb_raw.proofs.ChildAnswers.{decided}
 use Rattle.jsonb_raw.proofs.NamedPairs.{found_behind_both, both_here, both_other, both_further, both_nowhere}
 use Rattle.jsonb_raw.proofs.RunLemmas.{text_first, no_text_left}

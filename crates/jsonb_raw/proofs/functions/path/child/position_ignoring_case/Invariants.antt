@@ -1,8 +1,4 @@
-use Rattle.std.proofs.Common.{◌≡◌, ◌+◌, ◌≤◌, List, ℕ, length, map}
-use Rattle.jsonb_doc.specs.Tree.{text}
-use Rattle.jsonb_doc.specs.Payload.{Form}
-use Rattle.jsonb_raw.specs.Private.NamePositions.{position_in_some_case}
-use Rattle.jsonb_raw.specs.Private.Entries.{HoldTrees}
+use Rattle.jsonb_raw.proofs.Common.{◌≡◌, ◌+◌, ◌≤◌, List, ℕ, length, map, text, Form, position_in_some_case, HoldTrees}
 use Rattle.jsonb_raw.proofs.NamedPairs.{found_behind_both}
 use Rattle.jsonb_raw.proofs.functions.path.child.position_ignoring_case.Given as goal
 

@@ -1,4 +1,4 @@
-use Rattle.jsonb_doc.proofs.Basics.{zero_of, not_zero_of, empty_of}
+use Rattle.jsonb_raw.proofs.Common.{zero_of, not_zero_of, empty_of}
 use Rattle.jsonb_raw.proofs.CutLemmas.{kept_none, kept_all}
 use Rattle.jsonb_raw.proofs.functions.path.cut.children_kept.Goals as goal
 

@@ -1,9 +1,4 @@
-use Rattle.std.proofs.Common.{[], ◌∷◌, List, length, arith, sym, ap, subst, ◌∙◌, append-nil}
-use Rattle.std.specs.Prelude.{reverse}
-use Rattle.jsonb_doc.specs.Tree.{Tree}
-use Rattle.jsonb_doc.specs.Private.Writer.{Around, Rooms, IsWriting, HasRoom}
-use Rattle.jsonb_doc.proofs.Basics.{popped, none_around, empty_of}
-use Rattle.jsonb_raw.specs.Private.Cuts.{rooms_after}
+use Rattle.jsonb_raw.proofs.Common.{[], ◌∷◌, List, length, arith, sym, ap, subst, ◌∙◌, append-nil, reverse, Tree, Around, Rooms, IsWriting, HasRoom, popped, none_around, empty_of, rooms_after}
 use Rattle.jsonb_raw.proofs.CutLemmas.{room_none, rooms_pushed}
 use Rattle.jsonb_raw.proofs.functions.path.cut.close_all.Goals as goal
 

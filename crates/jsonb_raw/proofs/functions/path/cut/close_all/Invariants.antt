@@ -1,9 +1,4 @@
-use Rattle.std.proofs.Common.{length}
-use Rattle.std.specs.Prelude.{reverse}
-use Rattle.jsonb_doc.specs.Tree.{Tree}
-use Rattle.jsonb_doc.specs.Payload.{Form}
-use Rattle.jsonb_doc.specs.Private.Writer.{HasRoom}
-use Rattle.jsonb_raw.specs.Private.Cuts.{rooms_after, IsClosing}
+use Rattle.jsonb_raw.proofs.Common.{length, reverse, Tree, Form, HasRoom, rooms_after, IsClosing}
 use Rattle.jsonb_raw.proofs.functions.path.cut.close_all.Given as goal
 
 -- what is written becomes the whole with what is left, and is short enough

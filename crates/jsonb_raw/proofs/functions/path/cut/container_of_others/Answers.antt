@@ -1,8 +1,5 @@
-use Rattle.std.proofs.Common.{◌++◌, [], List, refl, sym, ap, subst, ◌∙◌}
+use Rattle.jsonb_raw.proofs.Common.{◌++◌, [], List, refl, sym, ap, subst, ◌∙◌, Tree, Make, zero_of}
 use Rattle.std.specs.List.{remove}
-use Rattle.jsonb_doc.specs.Tree.{Tree}
-use Rattle.jsonb_doc.specs.Private.Writer.{Make}
-use Rattle.jsonb_doc.proofs.Basics.{zero_of}
 use Rattle.jsonb_raw.proofs.CutLemmas.{held_around, no_trees_held, none_left}
 use Rattle.jsonb_raw.proofs.functions.path.cut.container_of_others.Goals as goal
 use Rattle.jsonb_raw.proofs.RunLemmas.{two_runs}

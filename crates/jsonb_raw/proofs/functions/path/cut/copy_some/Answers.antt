@@ -1,7 +1,4 @@
-use Rattle.std.proofs.Common.{◌++◌, List, subst}
-use Rattle.jsonb_doc.specs.Tree.{Tree}
-use Rattle.jsonb_doc.specs.Private.Writer.{IsWriting}
-use Rattle.jsonb_doc.proofs.Basics.{zero_of}
+use Rattle.jsonb_raw.proofs.Common.{◌++◌, List, subst, Tree, IsWriting, zero_of}
 use Rattle.jsonb_raw.proofs.CutLemmas.{no_trees_held, room_passed}
 use Rattle.jsonb_raw.proofs.functions.path.cut.copy_some.Goals as goal
 

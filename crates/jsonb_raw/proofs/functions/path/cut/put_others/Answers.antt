@@ -1,6 +1,4 @@
-use Rattle.std.proofs.Common.{◌+◌, ◌++◌, [], List, length, drop, arith, sym, subst, ◌∙◌}
-use Rattle.jsonb_doc.specs.Tree.{Tree}
-use Rattle.jsonb_doc.specs.Private.Writer.{IsWriting}
+use Rattle.jsonb_raw.proofs.Common.{◌+◌, ◌++◌, [], List, length, drop, arith, sym, subst, ◌∙◌, Tree, IsWriting}
 use Rattle.jsonb_raw.proofs.CutLemmas.{in_runs, room_less}
 use Rattle.jsonb_raw.proofs.functions.path.cut.put_others.Goals as goal
 

@@ -1,9 +1,4 @@
-use Rattle.std.proofs.Common.{ℕ, [], Vec, Global}
-use Rattle.std.proofs.lemmas.Result.{err_from_is_err_and}
-use Rattle.jsonb_doc.specs.Format.{Decodes}
-use Rattle.jsonb_doc.specs.Answer.{IsOutOfMemory}
-use Rattle.jsonb_doc.proofs.Basics.{only_ok, zero_of, empty_of}
-use Rattle.jsonb_raw.specs.Deletes.{change_child, remove_at}
+use Rattle.jsonb_raw.proofs.Common.{ℕ, [], Vec, Global, err_from_is_err_and, Decodes, IsOutOfMemory, only_ok, zero_of, empty_of, change_child, remove_at}
 use Rattle.jsonb_raw.proofs.CutLemmas.{no_more}
 use Rattle.jsonb_raw.proofs.functions.path.cut.without_child.Goals as goal
 

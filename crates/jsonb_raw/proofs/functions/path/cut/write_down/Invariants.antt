@@ -1,10 +1,4 @@
-use Rattle.std.proofs.Common.{◌+◌, ◌^◌, ◌<◌, ◌∷◌, ℕ, List, drop}
-use Rattle.std.specs.Prelude.{reverse}
-use Rattle.jsonb_doc.specs.Tree.{Tree}
-use Rattle.jsonb_doc.specs.Payload.{Form}
-use Rattle.jsonb_doc.specs.Private.Writer.{HasRoom}
-use Rattle.jsonb_raw.specs.Deletes.{change_child, remove_at}
-use Rattle.jsonb_raw.specs.Private.Cuts.{LeadTo, contents_size, sizes, rooms_after}
+use Rattle.jsonb_raw.proofs.Common.{◌+◌, ◌^◌, ◌<◌, ◌∷◌, ℕ, List, drop, reverse, Tree, Form, HasRoom, change_child, remove_at, LeadTo, contents_size, sizes, rooms_after}
 use Rattle.jsonb_raw.proofs.CutLemmas.{IsOpening}
 use Rattle.jsonb_raw.proofs.functions.path.cut.write_down.Given as goal
 

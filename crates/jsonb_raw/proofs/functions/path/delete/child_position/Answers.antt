@@ -1,6 +1,4 @@
-use Rattle.std.proofs.Common.{rules, w32, ◌∙◌}
-use mir.Val.{SFits}
-use Rattle.std.proofs.lemmas.Int.{to_z-of_z}
+use Rattle.jsonb_raw.proofs.Common.{rules, w32, ◌∙◌, SFits, to_z-of_z}
 use Rattle.jsonb_raw.proofs.PositionLemmas.{of_array, of_object, of_neither, met_in_array, name_at_array, met_in_object, met_by_index, asked_quoted, asked_plain}
 use Rattle.jsonb_raw.proofs.functions.path.delete.child_position.Goals as goal
 

@@ -1,5 +1,4 @@
-use Rattle.std.proofs.Common.{◌∙◌, w32}
-use Rattle.std.proofs.lemmas.Int.{to_z-of_z}
+use Rattle.jsonb_raw.proofs.Common.{◌∙◌, w32, to_z-of_z}
 use Rattle.jsonb_raw.proofs.PositionLemmas.{found_decimal}
 use Rattle.jsonb_raw.proofs.functions.path.delete.decimal_position.Goals as goal
 

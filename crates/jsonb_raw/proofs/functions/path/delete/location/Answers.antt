@@ -1,7 +1,4 @@
-use Rattle.std.proofs.Common.{rules, refl, ap}
-use Rattle.std.proofs.lemmas.Result.{err_from_is_err_and}
-use Rattle.jsonb_keypath.specs.KeyPathViews.{key_view}
-use Rattle.jsonb_keypath.specs.Private.KeysView.{keys_view}
+use Rattle.jsonb_raw.proofs.Common.{rules, refl, ap, err_from_is_err_and, key_view, keys_view}
 use Rattle.jsonb_raw.proofs.CutLemmas.{root_value, short_more, short_all}
 use Rattle.jsonb_raw.proofs.DeleteLemmas.{place_is}
 use Rattle.jsonb_raw.proofs.MetLemmas.{walk_begun, met_next, met_none, met_all}

@@ -1,12 +1,4 @@
-use Rattle.std.proofs.Common.{List, length}
-use Rattle.jsonb_doc.specs.Tree.{Tree}
-use Rattle.jsonb_doc.specs.Payload.{Form}
-use Rattle.jsonb_doc.specs.Format.{Decodes}
-use Rattle.jsonb_keypath.specs.declared.key_path.KeyPath.{KeyPath}
-use Rattle.jsonb_keypath.specs.Private.KeysView.{keys_view}
-use Rattle.jsonb_raw.specs.Iterators.{YieldsItemsLeft}
-use Rattle.jsonb_raw.specs.Places.{location}
-use Rattle.jsonb_raw.specs.Private.Cuts.{AreShort}
+use Rattle.jsonb_raw.proofs.Common.{List, length, Tree, Form, Decodes, KeyPath, keys_view, YieldsItemsLeft, location, AreShort}
 use Rattle.jsonb_raw.proofs.MetLemmas.{Walked}
 use Rattle.jsonb_raw.proofs.functions.path.delete.location.Given as goal
 

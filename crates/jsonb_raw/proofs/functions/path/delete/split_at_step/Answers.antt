@@ -1,6 +1,4 @@
-use Rattle.jsonb_doc.specs.declared.layout.EntryKind.TheVariants.{Container}
-use Rattle.jsonb_doc.proofs.KindLemmas.{same_kind, other_kind}
-use Rattle.jsonb_keypath.specs.KeyPathViews.{key_view}
+use Rattle.jsonb_raw.proofs.Common.{Container, same_kind, other_kind, key_view}
 use Rattle.jsonb_raw.proofs.CutLemmas.{no_children}
 use Rattle.jsonb_raw.proofs.functions.path.delete.split_at_step.Goals as goal
 

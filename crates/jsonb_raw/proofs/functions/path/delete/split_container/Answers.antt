@@ -1,7 +1,4 @@
-use Rattle.std.proofs.Common.{◌+◌, arith, refl, ap₂}
-use Rattle.std.proofs.lemmas.Result.{err_from_is_err_and}
-use Rattle.jsonb_keypath.specs.KeyPathViews.{key_view}
-use Rattle.jsonb_raw.specs.Places.{children}
+use Rattle.jsonb_raw.proofs.Common.{◌+◌, arith, refl, ap₂, err_from_is_err_and, key_view, children}
 use Rattle.jsonb_raw.proofs.CutLemmas.{values_hold, child_taken, no_entries, no_children, no_position, no_child, step_into}
 use Rattle.jsonb_raw.proofs.functions.path.delete.split_container.Goals as goal
 

@@ -1,5 +1,4 @@
-use Rattle.std.proofs.Common.{◌∷◌, sym, ◌∙◌}
-use Rattle.jsonb_raw.specs.Private.NameBlocks.{names_of}
+use Rattle.jsonb_raw.proofs.Common.{◌∷◌, sym, ◌∙◌, names_of}
 use Rattle.jsonb_raw.proofs.NameBlockLemmas.{names_leave, beq_true}
 use Rattle.jsonb_raw.proofs.functions.path.exists.add_name.Goals as goal
 

@@ -1,5 +1,4 @@
-use Rattle.std.proofs.Common.{rules, sym, ◌∙◌, append-nil}
-use Rattle.jsonb_raw.specs.Private.NameBlocks.{names_of}
+use Rattle.jsonb_raw.proofs.Common.{rules, sym, ◌∙◌, append-nil, names_of}
 use Rattle.jsonb_raw.proofs.NameBlockLemmas.{names_decide}
 use Rattle.jsonb_raw.proofs.functions.path.exists.elements_decide.Goals as goal
 

@@ -1,7 +1,4 @@
-use Rattle.std.proofs.Common.{◌≡◌, ◌++◌, ℕ, List}
-use Rattle.jsonb_doc.specs.Payload.{Form}
-use Rattle.jsonb_raw.specs.Private.NameBlocks.{HasTextsLeft, decided_by, names_of, IsBlock}
-use Rattle.jsonb_raw.specs.Iterators.{YieldsItemsLeft}
+use Rattle.jsonb_raw.proofs.Common.{◌≡◌, ◌++◌, ℕ, List, Form, HasTextsLeft, decided_by, names_of, IsBlock, YieldsItemsLeft}
 use Rattle.jsonb_raw.proofs.functions.path.exists.elements_decide.Given as goal
 
 -- the names in the block and those that are left decide

@@ -1,5 +1,4 @@
-use Rattle.std.proofs.Common.{rules, sym, ◌∙◌}
-use Rattle.jsonb_doc.specs.Tree.{object, keys}
+use Rattle.jsonb_raw.proofs.Common.{rules, sym, ◌∙◌, object, keys}
 use Rattle.jsonb_raw.proofs.PairStepLemmas.{decided, left_open, none_decided}
 use Rattle.jsonb_raw.proofs.functions.path.exists.keys_decide.Goals as goal
 

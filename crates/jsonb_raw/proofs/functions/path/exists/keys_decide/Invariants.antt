@@ -1,10 +1,4 @@
-use Rattle.std.proofs.Common.{◌≡◌, ℕ, List}
-use Rattle.jsonb_doc.specs.Tree.{Pairs, object, keys}
-use Rattle.jsonb_doc.specs.Payload.{Form}
-use Rattle.jsonb_doc.specs.Format.{AreKeys}
-use Rattle.jsonb_doc.specs.Private.Stored.{HasEntriesLeft, key_trees}
-use Rattle.jsonb_raw.specs.Private.Cursors.{IsTableOf, has_by}
-use Rattle.jsonb_raw.specs.Iterators.{YieldsItemsLeft}
+use Rattle.jsonb_raw.proofs.Common.{◌≡◌, ℕ, List, Pairs, object, keys, Form, AreKeys, HasEntriesLeft, key_trees, IsTableOf, has_by, YieldsItemsLeft}
 use Rattle.jsonb_raw.proofs.functions.path.exists.keys_decide.Given as goal
 
 -- the strings that are left decide

@@ -1,5 +1,4 @@
-use Rattle.std.proofs.Common.{rules, refl, sym, ◌∙◌}
-use Rattle.jsonb_raw.specs.Private.NameBlocks.{texts_of}
+use Rattle.jsonb_raw.proofs.Common.{rules, refl, sym, ◌∙◌, texts_of}
 use Rattle.jsonb_raw.proofs.NameBlockLemmas.{array_decided}
 use Rattle.jsonb_raw.proofs.PairStepLemmas.{decided, left_open, none_decided}
 use Rattle.jsonb_raw.proofs.functions.path.exists.short_circuit.Goals as goal

@@ -1,9 +1,4 @@
-use Rattle.std.proofs.Common.{◌≡◌, ℕ, List}
-use Rattle.jsonb_doc.specs.Tree.{Tree}
-use Rattle.jsonb_doc.specs.Payload.{Form}
-use Rattle.jsonb_doc.specs.Format.{Decodes}
-use Rattle.jsonb_raw.specs.Private.Cursors.{HoldsTexts, has_by}
-use Rattle.jsonb_raw.specs.Iterators.{YieldsItemsLeft}
+use Rattle.jsonb_raw.proofs.Common.{◌≡◌, ℕ, List, Tree, Form, Decodes, HoldsTexts, has_by, YieldsItemsLeft}
 use Rattle.jsonb_raw.proofs.functions.path.exists.short_circuit.Given as goal
 
 -- the strings that are left decide

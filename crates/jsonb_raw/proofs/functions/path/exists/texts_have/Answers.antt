@@ -1,6 +1,4 @@
-use Rattle.std.proofs.Common.{refl}
-use Rattle.jsonb_doc.specs.Tree.{keys}
-use Rattle.jsonb_raw.specs.Private.NameBlocks.{texts_of}
+use Rattle.jsonb_raw.proofs.Common.{refl, keys, texts_of}
 use Rattle.jsonb_raw.proofs.NameBlockLemmas.{text_among}
 use Rattle.jsonb_raw.proofs.PairStepLemmas.{still_texts}
 use Rattle.jsonb_raw.proofs.functions.path.exists.texts_have.Goals as goal

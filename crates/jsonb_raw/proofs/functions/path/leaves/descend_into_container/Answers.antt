@@ -1,4 +1,4 @@
-use Rattle.std.proofs.Common.{sym, ◌∙◌}
+use Rattle.jsonb_raw.proofs.Common.{sym, ◌∙◌}
 use Rattle.jsonb_raw.proofs.LevelStarts.{all_left}
 use Rattle.jsonb_raw.proofs.LeafWalk.{empty_leaf, full_container, whole_array}
 use Rattle.jsonb_raw.proofs.functions.path.leaves.descend_into_container.Goals as goal

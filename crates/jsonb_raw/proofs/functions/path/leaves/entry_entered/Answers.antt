@@ -1,4 +1,4 @@
-use Rattle.std.proofs.Common.{sym, ◌∙◌}
+use Rattle.jsonb_raw.proofs.Common.{sym, ◌∙◌}
 use Rattle.jsonb_raw.proofs.LevelStarts.{stored_container}
 use Rattle.jsonb_raw.proofs.LeafWalk.{lone_leaf}
 use Rattle.jsonb_raw.proofs.functions.path.leaves.entry_entered.Goals as goal

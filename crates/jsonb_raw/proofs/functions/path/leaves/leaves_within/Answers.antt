@@ -1,10 +1,7 @@
-use Rattle.std.proofs.Common.{arith, inr, [], ◌∷◌, ap, length}
+use Rattle.jsonb_raw.proofs.Common.{arith, inr, [], ◌∷◌, ap, length, parts, IsKept, empty_of}
 use Rattle.jsonb_raw.proofs.AnswerLemmas.{failed}
-use Rattle.jsonb_raw.specs.Private.Levels.{parts}
-use Rattle.jsonb_raw.specs.Private.LeafSteps.{IsKept}
 use Rattle.jsonb_raw.proofs.LevelLemmas.{parts_left, pushed_around, popped_around, SomeParts-first, SomeParts-none, SomeParts-error, falls_within, falls_beside, falls_done}
 use Rattle.jsonb_raw.proofs.LeafWalk.{last_of, fronts_as_many, one_more, item_leaves, walk_begun, entry_leaves, leaf_found, leaf_of_whole, part_entered, level_done, walk_done}
-use Rattle.jsonb_doc.proofs.Basics.{empty_of}
 use Rattle.jsonb_raw.proofs.functions.path.leaves.leaves_within.Goals as goal
 
 pub walk-init : goal.walk-init

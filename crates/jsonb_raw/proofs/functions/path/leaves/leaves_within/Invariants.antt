@@ -1,9 +1,4 @@
-use Rattle.std.proofs.Common.{◌≡◌, ◌+◌, length, reverse}
-use Rattle.jsonb_doc.specs.Tree.{Tree}
-use Rattle.jsonb_doc.specs.Payload.{Form}
-use Rattle.jsonb_doc.specs.Item.{StandsFor}
-use Rattle.jsonb_raw.specs.Leaves.{leaves}
-use Rattle.jsonb_raw.specs.Private.LeafSteps.{IsKept}
+use Rattle.jsonb_raw.proofs.Common.{◌≡◌, ◌+◌, length, reverse, Tree, Form, StandsFor, leaves, IsKept}
 use Rattle.jsonb_raw.proofs.LevelLemmas.{SomeParts, weight, weights}
 use Rattle.jsonb_raw.proofs.LeafWalk.{LeavesToward}
 use Rattle.jsonb_raw.proofs.functions.path.leaves.leaves_within.Given as goal

@@ -1,6 +1,4 @@
-use Rattle.std.proofs.Common.{◌≡◌, ◌+◌, take, length, vec_len, vec_capacity}
-use Rattle.jsonb_keypath.specs.Private.KeysView.{keys_view}
-use Rattle.jsonb_raw.specs.Private.LeafSteps.{step_keys}
+use Rattle.jsonb_raw.proofs.Common.{◌≡◌, ◌+◌, take, length, vec_len, vec_capacity, keys_view, step_keys}
 use Rattle.jsonb_raw.proofs.functions.path.leaves.path_to.Given as goal
 
 -- the steps so far, with room for the others

@@ -1,8 +1,4 @@
-use Rattle.std.proofs.Common.{◌≡◌, sym, ◌∙◌, refl}
-use Rattle.std.proofs.lemmas.Result.{MatchResult-weaker}
-use Rattle.jsonb_doc.specs.Tree.{text}
-use Rattle.jsonb_doc.specs.Payload.{number_reader}
-use Rattle.jsonb_doc.proofs.ScalarLemmas.{text_content}
+use Rattle.jsonb_raw.proofs.Common.{◌≡◌, sym, ◌∙◌, refl, MatchResult-weaker, text, number_reader, text_content}
 use Rattle.jsonb_raw.proofs.functions.path.leaves.push_text.Goals as goal
 
 pub returns-in-Ok-clause-leaf : goal.returns-in-Ok-clause-leaf

@@ -1,5 +1,4 @@
-use Rattle.std.proofs.Common.{◌∙◌}
-use Rattle.std.proofs.lemmas.Result.{MatchResult-weaker}
+use Rattle.jsonb_raw.proofs.Common.{◌∙◌, MatchResult-weaker}
 use Rattle.jsonb_raw.proofs.LeafWalk.{number_stored}
 use Rattle.jsonb_raw.proofs.functions.path.leaves.push_value.Goals as goal
 

@@ -1,5 +1,4 @@
-use Rattle.std.proofs.Common.{◌≡◌, sym, ◌∙◌}
-use Rattle.jsonb_raw.specs.Private.NameBlocks.{is_one_of}
+use Rattle.jsonb_raw.proofs.Common.{◌≡◌, sym, ◌∙◌, is_one_of}
 use Rattle.jsonb_raw.proofs.NameBlockLemmas.{SomeTexts-first, SomeTexts-none}
 use Rattle.jsonb_raw.proofs.functions.path.name_block.entries_have.Goals as goal
 

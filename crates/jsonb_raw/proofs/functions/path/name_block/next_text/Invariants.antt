@@ -1,7 +1,4 @@
-use Rattle.std.proofs.Common.{◌≤◌, ℕ, List}
-use Rattle.jsonb_doc.specs.Payload.{Form}
-use Rattle.jsonb_doc.specs.Private.Stored.{entries_bound}
-use Rattle.jsonb_raw.specs.Private.NameBlocks.{HasTextsLeft}
+use Rattle.jsonb_raw.proofs.Common.{◌≤◌, ℕ, List, Form, entries_bound, HasTextsLeft}
 use Rattle.jsonb_raw.proofs.functions.path.name_block.next_text.Given as goal
 
 -- the strings are still left

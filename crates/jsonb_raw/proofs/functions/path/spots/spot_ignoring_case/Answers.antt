@@ -1,8 +1,4 @@
-use Rattle.std.proofs.Common.{◌≡◌, true, Some, None, sym, ap, ◌∙◌}
-use Rattle.std.specs.Map.{keys_of}
-use Rattle.jsonb_doc.specs.Tree.{members}
-use Rattle.jsonb_raw.specs.Children.{named_child}
-use Rattle.jsonb_raw.specs.Private.NamePositions.{position_in_some_case}
+use Rattle.jsonb_raw.proofs.Common.{◌≡◌, true, Some, None, sym, ap, ◌∙◌, keys_of, members, named_child, position_in_some_case}
 use Rattle.jsonb_raw.proofs.NamedPairs.{named_place, named_at_none}
 use Rattle.jsonb_raw.proofs.PartedRuns.{pairs_there}
 use Rattle.jsonb_raw.proofs.functions.path.spots.spot_ignoring_case.Goals as goal

@@ -1,4 +1,4 @@
-use Rattle.std.proofs.Common.{◌∙◌, ap, sym, unwrap_or, arith}
+use Rattle.jsonb_raw.proofs.Common.{◌∙◌, ap, sym, unwrap_or, arith}
 use Rattle.jsonb_raw.proofs.ElementsSeen.{same_count, counted_new, counted_again}
 use Rattle.jsonb_raw.proofs.functions.array.counts.KeyCounts.add.Goals as goal
 

@@ -1,4 +1,4 @@
-use Rattle.std.proofs.Common.{◌∙◌, ◌-◌, ap, sym, unwrap_or, rules}
+use Rattle.jsonb_raw.proofs.Common.{◌∙◌, ◌-◌, ap, sym, unwrap_or, rules}
 use Rattle.jsonb_raw.proofs.ElementsSeen.{counted_less, counted_none}
 use Rattle.jsonb_raw.proofs.functions.array.counts.KeyCounts.decrement.Goals as goal
 

@@ -1,4 +1,4 @@
-use Rattle.std.proofs.Common.{rules}
+use Rattle.jsonb_raw.proofs.Common.{rules}
 use Rattle.jsonb_raw.proofs.ElementsSeen.{inserted}
 use Rattle.jsonb_raw.proofs.functions.array.counts.KeyCounts.set.Goals as goal
 

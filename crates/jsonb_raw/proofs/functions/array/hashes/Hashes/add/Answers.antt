@@ -1,4 +1,4 @@
-use Rattle.std.proofs.Common.{rules}
+use Rattle.jsonb_raw.proofs.Common.{rules}
 use Rattle.jsonb_raw.proofs.HashLemmas.{hash_taken}
 use Rattle.jsonb_raw.proofs.functions.array.hashes.Hashes.add.Goals as goal
 

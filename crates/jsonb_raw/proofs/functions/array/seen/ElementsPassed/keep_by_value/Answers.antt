@@ -1,5 +1,4 @@
-use Rattle.std.proofs.Common.{◌∷◌}
-use Rattle.jsonb_raw.specs.Private.SetCounts.{in_order}
+use Rattle.jsonb_raw.proofs.Common.{◌∷◌, in_order}
 use Rattle.jsonb_raw.proofs.ElementsSeen.{passed_count, passed_next}
 use Rattle.jsonb_raw.proofs.functions.array.seen.ElementsPassed.keep_by_value.Goals as goal
 

@@ -1,6 +1,5 @@
-use Rattle.std.proofs.Common.{◌≡◌, ◌^◌, ◌+◌, ◌<◌, ◌∷◌, length, arith}
+use Rattle.jsonb_raw.proofs.Common.{◌≡◌, ◌^◌, ◌+◌, ◌<◌, ◌∷◌, length, arith, keeps}
 use Rattle.jsonb_raw.proofs.AnswerLemmas.{failed}
-use Rattle.jsonb_raw.specs.Private.SetCounts.{keeps}
 use Rattle.jsonb_raw.proofs.ElementsSeen.{follows}
 use Rattle.jsonb_raw.proofs.functions.array.seen.KeysCounted.keep_by_key.Goals as goal
 

@@ -1,5 +1,4 @@
-use Rattle.std.proofs.Common.{◌∷◌, subst}
-use Rattle.jsonb_raw.specs.Private.SetCounts.{HaveSeen}
+use Rattle.jsonb_raw.proofs.Common.{◌∷◌, subst, HaveSeen}
 use Rattle.jsonb_raw.proofs.AnswerLemmas.{answered}
 use Rattle.jsonb_raw.proofs.functions.array.seen.Seen.keep_next.Goals as goal
 

@@ -1,5 +1,4 @@
-use Rattle.std.proofs.Common.{◌∷◌}
-use Rattle.jsonb_raw.specs.Private.Names.{DecideFrom}
+use Rattle.jsonb_raw.proofs.Common.{◌∷◌, DecideFrom}
 use Rattle.jsonb_raw.proofs.PartedRuns.{first_found, first_above, first_passed, none_decides, name_taken}
 use Rattle.jsonb_raw.proofs.functions.object.names.SortedNames.has.Goals as goal
 

@@ -1,5 +1,4 @@
-use Rattle.std.proofs.Common.{◌≡◌}
-use Rattle.jsonb_raw.specs.Private.Names.{names_left, DecideFrom}
+use Rattle.jsonb_raw.proofs.Common.{◌≡◌, names_left, DecideFrom}
 use Rattle.jsonb_raw.proofs.functions.object.names.SortedNames.has.Given as goal
 
 abbrev pub invariant-loop-step : goal.invariant-loop-step

@@ -1,4 +1,4 @@
-use Rattle.std.proofs.Common.{◌∙◌}
+use Rattle.jsonb_raw.proofs.Common.{◌∙◌}
 use Rattle.jsonb_raw.proofs.PartedRuns.{all_decide, name_taken}
 use Rattle.jsonb_raw.proofs.functions.object.names.SortedNames.new.Goals as goal
 

@@ -1,5 +1,4 @@
-use Rattle.std.proofs.Common.{◌∙◌, sym, rules}
-use Rattle.jsonb_raw.specs.Private.Names.{names_left, DecideFrom}
+use Rattle.jsonb_raw.proofs.Common.{◌∙◌, sym, rules, names_left, DecideFrom}
 use Rattle.jsonb_raw.proofs.PartedRuns.{run_first, run_more, names_again, next_member, no_member_left, key_decided, key_is_utf8, same_truth}
 use Rattle.jsonb_raw.proofs.functions.object.names.SortedNames.next_run.Goals as goal
 

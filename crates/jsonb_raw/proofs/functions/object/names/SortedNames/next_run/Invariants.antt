@@ -1,10 +1,4 @@
-use Rattle.std.proofs.Common.{◌≡◌, ◌+◌, ◌<◌, ◌≤◌, List, ℕ, length, map}
-use Rattle.std.specs.Map.{keys_of}
-use Rattle.jsonb_doc.specs.Tree.{Tree, text}
-use Rattle.jsonb_doc.specs.Payload.{Form}
-use Rattle.jsonb_doc.specs.Format.{AreKeys}
-use Rattle.jsonb_raw.specs.Private.Entries.{HoldTrees}
-use Rattle.jsonb_raw.specs.Private.Names.{names_left, DecideForKeys, PartsFirst}
+use Rattle.jsonb_raw.proofs.Common.{◌≡◌, ◌+◌, ◌<◌, ◌≤◌, List, ℕ, length, map, keys_of, Tree, text, Form, AreKeys, HoldTrees, names_left, DecideForKeys, PartsFirst}
 use Rattle.jsonb_raw.proofs.functions.object.names.SortedNames.next_run.Given as goal
 
 abbrev pub invariant-loop-key : goal.invariant-loop-key

@@ -1,5 +1,4 @@
-use Rattle.std.proofs.Common.{◌≡◌, ◌-◌, arith}
-use Rattle.jsonb_doc.specs.Tree.{count}
+use Rattle.jsonb_raw.proofs.Common.{◌≡◌, ◌-◌, arith, count}
 use Rattle.jsonb_raw.proofs.EntriesLeft.{tail_none, tail_whole, tail_turned}
 use Rattle.jsonb_raw.proofs.functions.operator.contains.LastMatch.parts.Goals as goal
 

@@ -1,5 +1,4 @@
-use Rattle.std.proofs.Common.{◌∙◌, length-set}
-use Rattle.jsonb_raw.specs.Private.Compared.{PassesOver}
+use Rattle.jsonb_raw.proofs.Common.{◌∙◌, length-set, PassesOver}
 use Rattle.jsonb_raw.proofs.EntriesLeft.{passes_next}
 use Rattle.jsonb_raw.proofs.ContainLemmas.{set_each}
 use Rattle.jsonb_raw.proofs.functions.operator.starts.StartHints.fill.Goals as goal

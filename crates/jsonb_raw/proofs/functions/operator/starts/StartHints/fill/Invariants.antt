@@ -1,6 +1,4 @@
-use Rattle.jsonb_doc.specs.Private.Stored.{entries_bound}
-use Rattle.jsonb_raw.specs.Private.Compared.{PassesOver}
-use Rattle.jsonb_raw.specs.Private.StartHints.{AreStarts}
+use Rattle.jsonb_raw.proofs.Common.{entries_bound, PassesOver, AreStarts}
 use Rattle.jsonb_raw.proofs.functions.operator.starts.StartHints.fill.Given as goal
 
 abbrev pub invariant-walk : goal.invariant-walk

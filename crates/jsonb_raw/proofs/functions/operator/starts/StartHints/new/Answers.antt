@@ -1,5 +1,4 @@
-use Rattle.std.proofs.Common.{refl}
-use Rattle.jsonb_raw.specs.Private.Compared.{PassesOver}
+use Rattle.jsonb_raw.proofs.Common.{refl, PassesOver}
 use Rattle.jsonb_raw.proofs.EntriesLeft.{passes_none}
 use Rattle.jsonb_raw.proofs.ContainLemmas.{repeated_each}
 use Rattle.jsonb_raw.proofs.functions.operator.starts.StartHints.new.Goals as goal

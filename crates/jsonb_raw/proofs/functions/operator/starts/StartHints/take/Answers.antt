@@ -1,6 +1,4 @@
-use Rattle.std.proofs.Common.{arith, ◌<◌, length, subst}
-use Rattle.jsonb_raw.specs.Private.Compared.{PassesOver}
-use Rattle.std.proofs.lemmas.List.{get_or_default}
+use Rattle.jsonb_raw.proofs.Common.{arith, ◌<◌, length, subst, PassesOver, get_or_default}
 use Rattle.jsonb_raw.proofs.functions.operator.starts.StartHints.take.Goals as goal
 
 pub returns-clause-start : goal.returns-clause-start

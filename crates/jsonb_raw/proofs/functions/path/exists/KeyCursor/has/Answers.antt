@@ -1,4 +1,4 @@
-use Rattle.std.proofs.Common.{refl, sym, ◌∙◌}
+use Rattle.jsonb_raw.proofs.Common.{refl, sym, ◌∙◌}
 use Rattle.jsonb_raw.proofs.PairStepLemmas.{cursor_next, cursor_meets, cursor_misses, cursor_ends, cursor_error}
 use Rattle.jsonb_raw.proofs.functions.path.exists.KeyCursor.has.Goals as goal
 

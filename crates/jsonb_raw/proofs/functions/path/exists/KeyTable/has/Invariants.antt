@@ -1,7 +1,4 @@
-use Rattle.std.proofs.Common.{◌≡◌, ℕ, List}
-use Rattle.jsonb_doc.specs.Payload.{Form}
-use Rattle.jsonb_doc.specs.Private.Stored.{entries_bound}
-use Rattle.jsonb_raw.specs.Private.Cursors.{IsTableOf, IsPassed}
+use Rattle.jsonb_raw.proofs.Common.{◌≡◌, ℕ, List, Form, entries_bound, IsTableOf, IsPassed}
 use Rattle.jsonb_raw.proofs.functions.path.exists.KeyTable.has.Given as goal
 
 -- the cursor precedes what is looked at next, and the keys it has passed are below the name

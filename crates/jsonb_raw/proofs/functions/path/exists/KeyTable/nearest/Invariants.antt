@@ -1,6 +1,4 @@
-use Rattle.std.proofs.Common.{◌≤◌, ◌-◌, ℕ, List}
-use Rattle.jsonb_doc.specs.Payload.{Form}
-use Rattle.jsonb_raw.specs.Private.Cursors.{IsTableOf, IsCursorOf, IsPassed}
+use Rattle.jsonb_raw.proofs.Common.{◌≤◌, ◌-◌, ℕ, List, Form, IsTableOf, IsCursorOf, IsPassed}
 use Rattle.jsonb_raw.proofs.functions.path.exists.KeyTable.nearest.Given as goal
 
 -- the place that is taken is below the name

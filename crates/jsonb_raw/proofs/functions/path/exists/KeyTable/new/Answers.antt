@@ -1,6 +1,4 @@
-use Rattle.std.proofs.Common.{refl}
-use Rattle.std.proofs.lemmas.List.Elements.{All-replicate}
-use Rattle.jsonb_raw.specs.Private.Cursors.{IsCursorOf}
+use Rattle.jsonb_raw.proofs.Common.{refl, All-replicate, IsCursorOf}
 use Rattle.jsonb_raw.proofs.functions.path.exists.KeyTable.new.Goals as goal
 
 pub returns : goal.returns

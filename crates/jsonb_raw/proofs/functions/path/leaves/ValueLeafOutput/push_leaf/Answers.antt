@@ -1,11 +1,5 @@
-use Rattle.std.proofs.Common.{◌≡◌, sym, ap, ◌∙◌, rules}
-use Rattle.std.proofs.lemmas.Result.{MatchResult-weaker}
-use Rattle.jsonb_doc.specs.Tree.{null}
-use Rattle.jsonb_doc.specs.Payload.{number_reader}
-use Rattle.jsonb_doc.specs.Kinds.{kind_number}
-use Rattle.jsonb_doc.specs.Value.{value_tree, value_parts}
-use Rattle.jsonb_doc.specs.declared.value.Value.{Null, the_lemmas}
-use Rattle.jsonb_doc.proofs.ScalarLemmas.{null_content}
+use Rattle.jsonb_raw.proofs.Common.{◌≡◌, sym, ap, ◌∙◌, rules, MatchResult-weaker, null, number_reader, kind_number, value_tree, value_parts, the_lemmas, null_content}
+use Rattle.jsonb_doc.specs.declared.value.Value.{Null}
 use Rattle.jsonb_raw.proofs.functions.path.leaves.ValueLeafOutput.push_leaf.Goals as goal
 
 pub returns-in-Null-clause-leaf : goal.returns-in-Null-clause-leaf

@@ -1,8 +1,5 @@
-use Rattle.std.proofs.Common.{◌≡◌, false, sym, ◌∙◌, true≢false}
-use Rattle.std.specs.List.{list_any}
-use Rattle.jsonb_raw.specs.Private.NameBlocks.{is_one_of, names_of}
+use Rattle.jsonb_raw.proofs.Common.{◌≡◌, false, sym, ◌∙◌, true≢false, list_any, is_one_of, names_of, false_from_ne_true}
 use Rattle.jsonb_raw.proofs.NameBlockLemmas.{SomeTexts-first, SomeTexts-none, names_have, string_found, string_missing, placed_one, none_of_none}
-use Rattle.std.proofs.lemmas.Bool.{false_from_ne_true}
 use Rattle.jsonb_raw.proofs.functions.path.name_block.NameBlock.any_among.Goals.{else-is_some-via-then-is_some+else-has, else-is_some-via-else-is_some}
 use Rattle.jsonb_raw.proofs.functions.path.name_block.NameBlock.any_among.Goals as goal
 

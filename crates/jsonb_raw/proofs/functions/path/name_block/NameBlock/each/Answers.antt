@@ -1,5 +1,4 @@
-use Rattle.std.proofs.Common.{◌≤◌, arith, length, map, List, ℕ, ap, sym, ◌∙◌, Bor}
-use Rattle.jsonb_raw.specs.Private.NameBlocks.{decided_by}
+use Rattle.jsonb_raw.proofs.Common.{◌≤◌, arith, length, map, List, ℕ, ap, sym, ◌∙◌, Bor, decided_by}
 use Rattle.jsonb_raw.proofs.NameBlockLemmas.{name_decides, name_leaves, next_taken, none_taken, no_name_left}
 use Rattle.jsonb_raw.proofs.functions.path.name_block.NameBlock.each.Goals as goal
 

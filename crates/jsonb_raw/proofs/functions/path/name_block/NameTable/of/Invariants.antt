@@ -1,5 +1,5 @@
-use Rattle.std.proofs.Common.{ℕ, List, map, take, Bor, All}
-use Rattle.jsonb_raw.specs.Private.NameBlocks.{IsPlaced}
+use Rattle.jsonb_raw.proofs.Common.{ℕ, List, map, take, Bor, IsPlaced}
+use Rattle.std.proofs.Common.{All}
 use Rattle.jsonb_raw.proofs.functions.path.name_block.NameTable.of.Given as goal
 
 -- the names so far are placed

@@ -1,6 +1,4 @@
-use Rattle.std.proofs.Common.{◌≡◌, ℕ, List, Option, None, true, refl, Bor, IfSome}
-use Rattle.std.proofs.lemmas.List.Elements.{All-replicate}
-use Rattle.jsonb_raw.specs.Private.NameBlocks.{is_one_of}
+use Rattle.jsonb_raw.proofs.Common.{◌≡◌, ℕ, List, Option, None, true, refl, Bor, IfSome, All-replicate, is_one_of}
 use Rattle.jsonb_raw.proofs.functions.path.name_block.SeenTexts.new.Goals as goal
 
 pub returns : goal.returns

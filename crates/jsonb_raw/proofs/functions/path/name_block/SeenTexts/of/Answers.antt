@@ -1,6 +1,4 @@
-use Rattle.std.proofs.Common.{◌≡◌, ℕ, List, Option, Some, true, ◌∙◌, Bor, IfSome, length-set}
-use Rattle.std.proofs.lemmas.List.Elements.{All-set}
-use Rattle.jsonb_raw.specs.Private.NameBlocks.{is_one_of}
+use Rattle.jsonb_raw.proofs.Common.{◌≡◌, ℕ, List, Option, Some, true, ◌∙◌, Bor, IfSome, length-set, All-set, is_one_of}
 use Rattle.jsonb_raw.proofs.NameBlockLemmas.{SomeTexts-first, first_is_one, later_is_one}
 use Rattle.jsonb_raw.proofs.functions.path.name_block.SeenTexts.of.Goals as goal
 

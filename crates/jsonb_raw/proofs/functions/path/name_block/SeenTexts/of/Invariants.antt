@@ -1,7 +1,4 @@
-use Rattle.std.proofs.Common.{◌≡◌, true, ℕ, List}
-use Rattle.jsonb_doc.specs.Payload.{Form}
-use Rattle.jsonb_doc.specs.Private.Stored.{entries_bound}
-use Rattle.jsonb_raw.specs.Private.NameBlocks.{HasTextsLeft, is_one_of, AreSeen}
+use Rattle.jsonb_raw.proofs.Common.{◌≡◌, true, ℕ, List, Form, entries_bound, HasTextsLeft, is_one_of, AreSeen}
 use Rattle.jsonb_raw.proofs.NameBlockLemmas.{SomeTexts}
 use Rattle.jsonb_raw.proofs.functions.path.name_block.SeenTexts.of.Given as goal
 
