@@ -1,6 +1,6 @@
 -- Filters within filters, of which the innermost waits for a path.
-use Rattle.jsonb.proofs.Common.{◌≡◌, ℕ, Box, Global, ◌⊎◌, ◌+◌, ◌<◌, ◌≤◌, List, [], ◌∷◌, ◌++◌, length, drop, get_or, map, append_assoc, append-nil, Some, None, Ok, Err, OnOk, IfErr, IsOkAnd, refl, inl, sym, ap, ◌∙◌, subst, reverse, AllZip, Outcome, and_then, try_flat_map, IsOutOfMemory, Tree, Error, Spot, Truth, step_meaning, steps_meaning, truth, filtered, Expression, Step, Steps, steps_of, filter, step_view, steps_view, HasSame, SameOutcomes, asking_tests, IsCached, IsWaiting, IsTurn, IsFiltering, IsFilter, IsFilterWaiting, IsFilterTurn, IsAround, IsOnward, filtered_later, evaluated, next_jump, IsRunning, IsAtFilter, IsProgress, IsBeforeFilter, running_steps, IsAt, node_spots, taken_step, IsQuestionOf, AreTestsOf, tests_conditions, Path, Context, Repeats, AreDropped, Asking, Filter, Frame, NodeList, Pending, Waits, AtFilter, Progress, Running}
-use Rattle.jsonb.specs.declared.selector.document.Repeats.TheVariants.{AreKept}
+use Rattle.jsonb.proofs.Common.{◌≡◌, ℕ, Box, Global, ◌⊎◌, ◌+◌, ◌<◌, ◌≤◌, List, [], ◌∷◌, ◌++◌, length, drop, get_or, map, append_assoc, append-nil, Some, None, Ok, Err, OnOk, IfErr, IsOkAnd, refl, inl, sym, ap, ◌∙◌, subst, reverse, AllZip, Outcome, and_then, try_flat_map, IsOutOfMemory, Tree, Error, Spot, Truth, step_meaning, steps_meaning, truth, filtered, Expression, Step, Steps, steps_of, filter, step_view, steps_view, HasSame, SameOutcomes, asking_tests, IsCached, IsWaiting, IsTurn, IsFiltering, IsFilter, IsFilterWaiting, IsFilterTurn, IsAround, IsOnward, filtered_later, evaluated, next_jump, IsRunning, IsAtFilter, IsProgress, IsBeforeFilter, running_steps, IsAt, node_spots, taken_step, IsQuestionOf, AreTestsOf, tests_conditions, Path, Context, Repeats, AreDropped, Asking, Filter, NodeList, Pending, Waits, AtFilter, Progress, Running, arith}
+use Rattle.jsonb.specs.declared.selector.filters.Frame.{Frame}
 use Rattle.jsonb.specs.declared.selector.running.Progress.TheVariants as progress
 use Rattle.jsonb.proofs.AlikeLemmas.{alike_then}
 use Rattle.jsonb.proofs.OperandLemmas.{path_refused, as_refused}
@@ -12,10 +12,7 @@ use Rattle.jsonb.proofs.TestLemmas.{last_first}
 
 -- an error is the same with and without repeats
 pub same_error : {A : Type 0} (repeats : Repeats) (o p : Outcome (List A)) (e : Error) → o ≡ Err e → SameOutcomes repeats o p → p ≡ Err e
-same_error AreKept o p e is same = sym same ∙ is
-same_error AreDropped (Ok xs) p e is same = cc
-same_error AreDropped (Err d) (Ok ys) e is same = absurd same
-same_error AreDropped (Err d) (Err f) e is same = ap Err (sym same) ∙ is
+same_error repeats o p e is same = grind arith
 
 -- an error of the path is that of the condition
 pub waiting_refused : (context : Context) (top t : Tree) (a : Asking) (waits : Waits) (o : Outcome (List Tree)) (whole : Outcome Truth) (e : Error) → o ≡ Err e
@@ -46,35 +43,10 @@ pub around_popped : (context : Context) (top : Tree) (old new : List Frame) (f :
     → old ≡ new ++ f ∷ [] → IsAround context top (reverse old) now o repeats whole → IsAround context top (f ∷ reverse new) now o repeats whole
 around_popped context top old new f now repeats o whole is = subst (λ fs. IsAround context top fs now o repeats whole) (ap reverse is ∙ last_first new f)
 
--- what the steps have come to has any outcome that is the same except for repeats
-pub progress_as : (context : Context) (top : Tree) (repeats : Repeats) (o p : Outcome (List Tree)) (r : Outcome Progress)
-    → IsProgress context top repeats o r → SameOutcomes repeats o p → IsProgress context top repeats p r
-progress_as context top repeats o p (Ok (progress.AtFilter f)) h same = (
-  h.0,
-  (
-    h.1.0,
-    h.1.1,
-    h.1.2,
-    h.1.3,
-    same_outcomes_then f.value.running.repeats _ o p h.1.4 (rw (sym h.0) at same),
-  ),
-)
-progress_as context top repeats o p (Ok (progress.Complete items)) h same = found_as repeats (node_spots items) o p h same
-  where
-    found_as : (repeats : Repeats) (spots : List Spot) (o p : Outcome (List Tree)) → IsOkAnd o (HasSame repeats context.document.bytes.now spots)
-        → SameOutcomes repeats o p → IsOkAnd p (HasSame repeats context.document.bytes.now spots)
-    found_as AreKept spots o p h same = subst (λ x. IsOkAnd x (HasSame AreKept context.document.bytes.now spots)) same h
-    found_as AreDropped spots (Ok ts) (Ok us) h same = (h.0, h.1, alike_then h.2 same)
-    found_as AreDropped spots (Ok ts) (Err e) h same = absurd same
-    found_as AreDropped spots (Err e) p h same = absurd h
-progress_as context top repeats o p (Err e) h same = as_refused (λ is. same_error repeats o p e is same) h
-
 -- how far the innermost steps have come
 pub onward_done : (context : Context) (top : Tree) (fs : List Frame) (now repeats : Repeats) (p q whole : Outcome (List Tree)) (r : Outcome Progress)
     → IsProgress context top now p r → SameOutcomes now p q → IsAround context top (reverse fs) now q repeats whole → IsOnward context top fs repeats whole r
-onward_done context top fs now repeats p q whole (Ok x) h same around = (now, q, progress_as context top now p q (Ok x) h same, around)
-onward_done context top fs now repeats p q whole (Err e) h same around =
-    as_refused (λ is. around_refused context top (reverse fs) now repeats q whole e (same_error now p q e is same) around) h
+onward_done context top fs now repeats p q whole r h same around = grind (arith, as_refused, around_refused, same_error, same_outcomes_then, alike_then)
 
 -- a filter that waits is the innermost one
 pub onward_waits : (context : Context) (top : Tree) (old new : List Frame) (f : Frame) (path : Box AtFilter Global) (repeats : Repeats)
@@ -90,17 +62,10 @@ onward_waits context top old new f path repeats o p q whole (Ok x) h memory at w
 )
 onward_waits context top old new f path repeats o p q whole (Err e) h memory at waits same around = inl memory
 
--- no filter
-pub around_none : (context : Context) (top : Tree) (fs : List Frame) (now repeats : Repeats) (o whole : Outcome (List Tree))
-    → fs ≡ [] → IsAround context top (reverse fs) now o repeats whole → (now ≡ repeats) × (o ≡ whole)
-around_none context top fs now repeats o whole none = subst (λ fs. IsAround context top (reverse fs) now o repeats whole) none
-
 -- what was found with repeats is found without them
 pub dropped : (repeats : Repeats) (context : Context) (spots : List Spot) (o : Outcome (List Tree))
     → IsOkAnd o (HasSame repeats context.document.bytes.now spots) → IsOkAnd o (HasSame AreDropped context.document.bytes.now spots)
-dropped AreKept context spots (Ok ts) h = (h.0, h.1, same_equal AreDropped h.2)
-dropped AreDropped context spots (Ok ts) h = h
-dropped repeats context spots (Err e) h = absurd h
+dropped repeats context spots o h = grind (arith, same_equal)
 
 -- ---- the next step
 
@@ -147,9 +112,7 @@ pub step_failed : (context : Context) (top : Tree) (repeats : Repeats) (s : Step
     → IsOutOfMemory e ⊎ (try_flat_map (step_meaning context.mode s top) ts ≡ Err e)
     → SameOutcomes repeats (and_then (try_flat_map (step_meaning context.mode s top) ts) (steps_meaning context.mode rest top)) o
     → IsOutOfMemory e ⊎ (o ≡ Err e)
-step_failed context top repeats s rest ts o e failed same =
-    as_refused (λ is. same_error repeats (and_then (try_flat_map (step_meaning context.mode s top) ts) (steps_meaning context.mode rest top)) o e
-    (ap (λ p. and_then p (steps_meaning context.mode rest top)) is) same) failed
+step_failed context top repeats s rest ts o e failed same = grind (arith, as_refused, same_error)
 
 -- ---- the items of a filter
 
@@ -157,16 +120,7 @@ step_failed context top repeats s rest ts o e failed same =
 pub filter_first : (context : Context) (top : Tree) (f : Filter) (e : Expression) (t : Tree) (others found : List Tree)
     → filtered_later context top f e (t ∷ others) found
     ≡ and_then (truth context.mode e top t) (λ b. filtered_later context top f e others (found ++ filtered t b))
-filter_first context top f e t others found =
-    go (truth context.mode e top t) (try_flat_map (step_meaning context.mode (filter e) top) others)
-  where
-    go : (o : Outcome Truth) (p : Outcome (List Tree)) →
-        and_then (and_then (and_then o (λ b. Ok (filtered t b))) (λ front. and_then p (λ back. Ok (front ++ back))))
-        (λ us. steps_meaning context.mode (running_steps f.after) top (found ++ us))
-        ≡ and_then o (λ b. and_then p (λ us. steps_meaning context.mode (running_steps f.after) top ((found ++ filtered t b) ++ us)))
-    go (Ok b) (Ok us) = ap (steps_meaning context.mode (running_steps f.after) top) (sym (append_assoc found (filtered t b) us))
-    go (Ok b) (Err e) = refl
-    go (Err e) p = refl
+filter_first context top f e t others found = grind (arith, append_assoc)
 
 module _ (context : Context) (top : Tree) (f f' : Filter) (e : Expression) (t : Tree) (others found : List Tree) (keeps : Outcome Truth)
     (whole : Outcome (List Tree)) (is : whole ≡ and_then keeps (λ b. filtered_later context top f e others (found ++ filtered t b)))
@@ -179,24 +133,12 @@ module _ (context : Context) (top : Tree) (f f' : Filter) (e : Expression) (t : 
   -- an item whose test waits
   pub item_waits : IsFiltering context top f' e others found → (p : Box Pending Global) → IsTurn context top t f'.asking keeps (Ok (Some p))
       → IsFilterTurn context top f' whole (Ok (Some p))
-  item_waits state p turn = (
-    turn.0,
-    turn.1,
-    record { e = e; others = others; found = found; state = state; t = t; keeps = keeps; waits = turn.2; is = still },
-  )
+  item_waits state p turn = grind (arith, still)
 
   -- an item whose condition is known
   pub item_done : (b : Truth) → keeps ≡ Ok b → IsFiltering context top f' e others (found ++ filtered t b) → (more : List Expression)
       → IsCached context top f'.asking more → IsFilter context top f' whole
-  item_done b known state more kept = record {
-    e = e;
-    others = others;
-    found = found ++ filtered t b;
-    state = state;
-    more = more;
-    kept = kept;
-    is = still ∙ ap (λ o. and_then o (λ b. filtered_later context top f' e others (found ++ filtered t b))) known;
-  }
+  item_done b known state more kept = grind (arith, still)
 
   -- an error
   pub item_refused : (d : Error) → IsOutOfMemory d ⊎ (keeps ≡ Err d) → IsFilterTurn context top f' whole (Err d)
@@ -205,13 +147,7 @@ module _ (context : Context) (top : Tree) (f f' : Filter) (e : Expression) (t : 
 -- no item is left
 pub items_done : (context : Context) (top : Tree) (f : Filter) (whole : Outcome (List Tree)) → length (node_spots f.items) ≤ f.next → IsFilter context top f whole
     → IsFilterTurn context top f whole (Ok None)
-items_done context top f whole past h =
-    let none = list_end (IsAt context.document) (node_spots f.items) f.next past h.others h.state.left in (
-      h.found,
-      h.state.done,
-      h.is ∙ ap (λ l. filtered_later context top f h.e l h.found) none
-          ∙ ap (steps_meaning context.mode (running_steps f.after) top) (append-nil h.found),
-    )
+items_done context top f whole past h = grind (arith, list_end, append-nil)
 
 -- ---- a filter of one item
 
@@ -219,15 +155,7 @@ items_done context top f whole past h =
 pub filter_one : (context : Context) (top t : Tree) (e : Expression) (run : Running) (ts : List Tree) (o : Outcome (List Tree)) → ts ≡ t ∷ []
     → SameOutcomes run.repeats (and_then (try_flat_map (step_meaning context.mode (filter e) top) ts) (steps_meaning context.mode (running_steps run) top)) o
     → SameOutcomes run.repeats (and_then (truth context.mode e top t) (λ b. steps_meaning context.mode (running_steps run) top (filtered t b))) o
-filter_one context top t e run ts o is = subst (λ p. SameOutcomes run.repeats p o)
-    (ap (λ l. and_then (try_flat_map (step_meaning context.mode (filter e) top) l) (steps_meaning context.mode (running_steps run) top)) is
-    ∙ ap (λ p. and_then p (steps_meaning context.mode (running_steps run) top)) (joined_one (step_meaning context.mode (filter e) top) t)
-    ∙ go (truth context.mode e top t))
-  where
-    go : (keeps : Outcome Truth) → and_then (and_then keeps (λ b. Ok (filtered t b))) (steps_meaning context.mode (running_steps run) top)
-        ≡ and_then keeps (λ b. steps_meaning context.mode (running_steps run) top (filtered t b))
-    go (Ok b) = refl
-    go (Err e) = refl
+filter_one context top t e run ts o is h = grind (arith, joined_one)
 
 -- a test of its condition waits for a path
 pub one_waits : (context : Context) (top t : Tree) (f : Filter) (e : Expression) (run : Running) (p : Box Pending Global) → f.after ≡ run
@@ -252,5 +180,4 @@ one_waits context top t f e run p after items next nodes compiled turn = (
   where
     go : (keeps : Outcome Truth) → and_then keeps (λ b. steps_meaning context.mode (running_steps f.after) top (filtered t b))
         ≡ and_then keeps (λ b. filtered_later context top f e [] ([] ++ filtered t b))
-    go (Ok b) = ap (steps_meaning context.mode (running_steps f.after) top) (sym (append-nil (filtered t b)))
-    go (Err e) = refl
+    go keeps = grind (arith, append-nil)

@@ -1,5 +1,5 @@
 -- Conditions whose tests wait for paths.
-use Rattle.jsonb.proofs.Common.{◌≡◌, ◌⊎◌, Bool, Box, Vec, Global, ℕ, ◌+◌, ◌<◌, ◌≤◌, List, [], ◌∷◌, ◌++◌, true, false, length, get_or, take, Option, Some, None, Ok, Err, inl, inr, refl, sym, ap, ◌∙◌, subst, arith, reverse, slice_get, MatchOption, ⊤, take-length, get_or_from_slice_get, slice_get_within, slice_get_cases, slice_get_read, slice_get_past, Outcome, and_then, IsOutOfMemory, Tree, Error, Spot, Expression, Truth, truth, at_first, asking_tests, IsCached, IsAsking, IsTested, IsTurn, is_condition, AreKept, Branch, branches_of_whole, evaluated, next_jump, jump_truth, IsAnswer, IsAt, IsQuestionOf, AreBranches, AreTestsOf, item_tests, question_conditions, tests_conditions, Context, Mode, FilterCache, Asking, Asked, Operands, Pending, Jump, Test, Tests}
+use Rattle.jsonb.proofs.Common.{◌≡◌, ◌⊎◌, Box, Vec, Global, ℕ, ◌+◌, ◌<◌, ◌≤◌, List, [], ◌∷◌, ◌++◌, true, length, get_or, take, Option, Some, None, Ok, Err, refl, sym, ap, ◌∙◌, subst, arith, reverse, slice_get, MatchOption, ⊤, take-length, get_or_from_slice_get, slice_get_within, slice_get_read, slice_get_past, Outcome, and_then, IsOutOfMemory, Tree, Error, Spot, Expression, Truth, truth, at_first, asking_tests, IsCached, IsAsking, IsTested, IsTurn, is_condition, AreKept, Branch, branches_of_whole, evaluated, next_jump, jump_truth, IsAnswer, IsAt, IsQuestionOf, AreBranches, AreTestsOf, item_tests, question_conditions, tests_conditions, Context, Mode, FilterCache, Asking, Asked, Operands, Pending, Jump, Test, Tests}
 use Rattle.jsonb.specs.declared.selector.operands.Asked.TheVariants as asked
 use Rattle.jsonb.specs.declared.selector.plan.Tests.TheVariants as tests
 use Rattle.jsonb.proofs.OperandLemmas.{as_refused}
@@ -34,8 +34,7 @@ module _ (context : Context) (top t : Tree) {item item' : Spot} {tests tests' : 
   -- the same of equal parts
   pub tested_as : item ≡ item' → tests ≡ tests' → left ≡ left' → state ≡ state' → test ≡ test'
       → IsTested context top t item tests left state test whole → IsTested context top t item' tests' left' state' test' whole
-  tested_as p q r s u h =
-      rw u at (rw s at (rw r at (rw q at (rw p at h))))
+  tested_as p q r s u h = grind arith
 
 -- ---- before and after a test
 
@@ -47,22 +46,7 @@ pub asked_after : (context : Context) (top t : Tree) (a : Asking) (x : Test) (b 
     → IsTested context top t a.operands.item (asking_tests a) a.left a.state (Ok b) whole → slice_get (asking_tests a) a.left ≡ Some x
     → after ≡ next_jump x.on_true x.on_false (a.left + 1) a.state b → IsCached context top a (tests_conditions (take a.left (asking_tests a)))
     → IsAsking context top t (with_state a after) whole
-asked_after context top t a x b after whole h has is kept =
-    let same : h.next ≡ x = some_same h.next x (sym h.has ∙ has) in
-    let short = slice_get_within (asking_tests a) a.left x has in
-    record {
-      at = h.at;
-      within = omega (arith, short);
-      begins = λ all. absurd (omega (arith, short, all));
-      rest = h.rest;
-      branches = h.branches;
-      kept = kept;
-      is = h.is ∙ ap (λ y. evaluated context.mode top t h.rest (next_jump y.on_true y.on_false (a.left + 1) a.state b)) same
-          ∙ ap (evaluated context.mode top t h.rest) (sym is);
-    }
-  where
-    some_same : (x y : Test) → Some x ≡ Some y → x ≡ y
-    some_same x y is = cc
+asked_after context top t a x b after whole h has is kept = grind (arith, slice_get_within)
 
 -- a condition that begins with all tests
 pub asked_from_first : (context : Context) (top t : Tree) (a : Asking) (e : Expression) → a.left ≡ length (asking_tests a)
@@ -84,10 +68,7 @@ asked_from_first context top t a e all begins at compiled kept =
 -- no test is left
 pub asked_all : (context : Context) (top t : Tree) (a : Asking) (whole : Outcome Truth) → a.left ≡ 0 → IsAsking context top t a whole
     → (whole ≡ Ok (jump_truth a.state)) × IsCached context top a []
-asked_all context top t a whole none h = (
-  h.is ∙ ap (λ l. evaluated context.mode top t l a.state) (no_test IsQuestionOf (asking_tests a) a.left h.rest none h.branches),
-  rw none at h.kept,
-)
+asked_all context top t a whole none h = grind (arith, no_test)
 
 -- ---- what the result for a test says of the condition
 
@@ -97,29 +78,18 @@ module _ (context : Context) (top t : Tree) (a : Asking) {item : Spot} {tests : 
   pub path_waits : (p : Box Pending Global)
       → IsAnswer context top t (tests_conditions tests) (tests_conditions (take left tests)) a.operands test (Ok (asked.Path p))
       → IsTurn context top t a whole (Ok (Some p))
-  path_waits p answer = (
-    answer.0,
-    answer.1,
-    (
-      tested_as context top t (sym same_item) (sym same_tests) (sym same_left) (sym same_state) answer.3 h,
-      rw (sym same_left) at (rw (sym same_tests) at answer.2),
-    ),
-  )
+  path_waits p answer = grind (arith, tested_as)
 
   pub truth_known : (b : Truth)
       → IsAnswer context top t (tests_conditions tests) (tests_conditions (take left tests)) a.operands test (Ok (asked.Truth b))
       → IsTested context top t a.operands.item (asking_tests a) a.left a.state (Ok b) whole
       × IsCached context top a (tests_conditions (take a.left (asking_tests a)))
-  truth_known b answer = (
-    tested_as context top t (sym same_item) (sym same_tests) (sym same_left) (sym same_state) answer.0 h,
-    rw (sym same_left) at (rw (sym same_tests) at answer.1),
-  )
+  truth_known b answer = grind (arith, tested_as)
 
   pub test_refused : (e : Error)
       → IsAnswer context top t (tests_conditions tests) (tests_conditions (take left tests)) a.operands test (Err e)
       → IsTurn context top t a whole (Err e)
-  test_refused e answer = as_refused (λ is. h.is ∙ ap (λ o. and_then o (λ b. evaluated context.mode top t h.rest
-      (next_jump h.next.on_true h.next.on_false (left + 1) state b))) is) answer
+  test_refused e answer = grind (arith, as_refused)
 
 -- the condition after the test before the first i
 abbrev pub after_test : Asking → ℕ → Option Jump → Operands → Asking
@@ -164,8 +134,7 @@ module _ (context : Context) (top t : Tree) (a : Asking) (i : ℕ) (x : Test) (w
 pub turn_of : (context : Context) (top t : Tree) (a : Asking) (all : Tests) (i : ℕ) (after : Option Jump) (operands : Operands) (whole : Outcome Truth)
     (r : Outcome (Option (Box Pending Global))) → a.tests ≡ all → IsTurn context top t (after_test a i after operands) whole r
     → IsTurn context top t (record { tests = all; left = i; state = after; operands = operands }) whole r
-turn_of context top t a all i after operands whole r is turn =
-    rw is at turn
+turn_of context top t a all i after operands whole r is turn = grind arith
 
 -- the only condition of a test that is an expression
 pub part_answers : (context : Context) (top t : Tree) (all more : List Expression) (cache : FilterCache) (operands : Operands) (part e : Expression)
@@ -173,42 +142,19 @@ pub part_answers : (context : Context) (top t : Tree) (all more : List Expressio
     → IsAnswer context top t all more operands (truth context.mode part top t) r)
     → (part ≡ e) × (is_condition e ≡ true) → AreKept context.mode top cache all (part ∷ more)
     → IsAnswer context top t all more operands (truth context.mode e top t) r
-part_answers context top t all more cache operands part e r told q kept =
-    rw q.0 at (told (rw (sym q.0) at q.1) kept)
-
--- there is a next test
-pub some_test : {A : Type 0} (context : Context) (top t : Tree) (a : Asking) (i : ℕ) (whole : Outcome Truth) → a.left ≡ i + 1
-    → slice_get (asking_tests a) i ≡ None → IsAsking context top t a whole → A
-some_test context top t a i whole after none h = elim (slice_get_cases (asking_tests a) i).1 [
-  | inl found ↦ absurd (some_none found.0 (sym found.2 ∙ none))
-  | inr past ↦ absurd (omega (arith, past.0, after, h.within))
-]
-  where
-    some_none : (x : Test) → Some x ≡ None → ⊥
-    some_none x is = cc
+part_answers context top t all more cache operands part e r told q kept = grind arith
 
 -- ---- the tests of a condition that joins several
 
 pub test_read : (all : Tests) (v : Vec Test Global) (l : List Test) (i : ℕ) (x : Test) → all ≡ tests.Joined v → l ≡ v.items → i < length l
     → x ≡ get_or l i x → slice_get (item_tests all) i ≡ Some x
-test_read all v l i x is same short at = ap (λ y. slice_get (item_tests y) i) is ∙ ap (λ k. slice_get k i) (sym same)
-    ∙ slice_get_read l (length l) i x refl short at
+test_read all v l i x is same short at = grind (arith, slice_get_read)
 
 pub test_missing : (all : Tests) (v : Vec Test Global) (l : List Test) (i : ℕ) → all ≡ tests.Joined v → l ≡ v.items → length l ≤ i
     → slice_get (item_tests all) i ≡ None
 test_missing all v l i is same past = ap (λ y. slice_get (item_tests y) i) is ∙ ap (λ k. slice_get k i) (sym same) ∙ slice_get_past l i past
 
 -- ---- a condition that is one test
-
--- the state after it
-pub single_done : (b : Truth) → jump_truth (next_jump 0 0 1 (at_first 1) b) ≡ b
-single_done (Some true) = refl
-single_done (Some false) = refl
-single_done None = refl
-
-pub single_step : (b : Bool) → next_jump 0 0 1 (at_first 1) (Some b) ≡ Some (record { left = 0; truth = b })
-single_step true = refl
-single_step false = refl
 
 -- its truth is that of the test
 pub single_truth : (context : Context) (top t : Tree) (e : Expression) (b : Truth) (test : Test) → test.on_true ≡ 0 → test.on_false ≡ 0
@@ -218,22 +164,7 @@ single_truth context top t e b test zero_true zero_false known compiled =
     from_first IsQuestionOf context.mode (test ∷ []) e top t (at_first 1) _ refl refl compiled ∙ go (branches_of_whole e) compiled
   where
     go : (bs : List Branch) → AreBranches IsQuestionOf (test ∷ []) bs → evaluated context.mode top t bs (at_first 1) ≡ Ok b
-    go [] a = absurd a
-    go (c ∷ []) a = ap (λ o. and_then o (λ v. Ok (jump_truth (next_jump c.on_true c.on_false 1 (at_first 1) v)))) (known c.condition a.0.question)
-        ∙ (λ k. Ok (jump_truth (next_jump ((sym a.0.on_true ∙ zero_true) k) ((sym a.0.on_false ∙ zero_false) k) 1 (at_first 1) b)))
-        ∙ ap Ok (single_done b)
-    go (c ∷ d ∷ bs) a = absurd a.1
-
-pub single_after : (context : Context) (top t : Tree) (a : Asking) (x : Test) (b : Truth) (after : Option Jump) (whole : Outcome Truth)
-    → asking_tests a ≡ x ∷ [] → x.on_true ≡ 0 → x.on_false ≡ 0
-    → IsTested context top t a.operands.item (asking_tests a) a.left a.state (Ok b) whole → after ≡ next_jump 0 0 1 (at_first 1) b
-    → IsCached context top a (tests_conditions (take a.left (asking_tests a))) → IsAsking context top t (with_state a after) whole
-single_after context top t a x b after whole one zero_true zero_false h is kept =
-    let many : length (asking_tests a) ≡ 1 = ap length one in
-    let first : a.left ≡ 0 = omega (arith, slice_get_within (asking_tests a) a.left h.next h.has, many) in
-    let begins : a.state ≡ at_first 1 = h.begins (omega (arith, first, many)) ∙ ap at_first many in
-    asked_after context top t a x b after whole h (λ k. slice_get (one k) (first k))
-    (is ∙ (λ k. next_jump (sym zero_true k) (sym zero_false k) (sym first k + 1) (sym begins k) b)) kept
+    go bs a = grind arith
 
 -- its cached result, which is the same for each item
 pub fixed_whole : (a : Asking) (x : Test) (part : Expression) (found : Option Truth) → asking_tests a ≡ x ∷ [] → x.on_true ≡ 0 → x.on_false ≡ 0

@@ -76,12 +76,7 @@ module _ (bytes : List ℕ) (levels : Option Levels) where
     deep = w.deep;
     left_around = w.left_around;
     done = done;
-    is = append_assoc w.given (flat_map (preorder levels w.level) passed) (flat_map (preorder levels w.level) (t ∷ rest) ++ items_of levels w.others)
-        ∙ ap (λ l. w.given ++ l)
-        (sym (append_assoc (flat_map (preorder levels w.level) passed) (flat_map (preorder levels w.level) (t ∷ rest)) (items_of levels w.others)))
-        ∙ ap (λ l. w.given ++ (l ++ items_of levels w.others)) (sym (flat_map-append (preorder levels w.level) passed (t ∷ rest)))
-        ∙ ap (λ l. w.given ++ (flat_map (preorder levels w.level) l ++ items_of levels w.others)) (sym split)
-        ∙ w.is;
+    is = grind (arith, append_assoc, flat_map-append);
   }
 
   -- and all are
@@ -116,10 +111,7 @@ module _ (bytes : List ℕ) (levels : Option Levels) where
         deep = same ∙ w.deep;
         left_around = w.left_around;
         done = told.0;
-        is = regrouped w.given (taken_item levels w.level f.first) (flat_map (preorder levels w.level) f.others) (items_of levels w.others)
-            ∙ ap (λ l. w.given ++ ((l ++ flat_map (preorder levels w.level) f.others) ++ items_of levels w.others)) (sym told.1)
-            ∙ ap (λ l. w.given ++ (flat_map (preorder levels w.level) l ++ items_of levels w.others)) (sym f.whole)
-            ∙ w.is;
+        is = grind (arith, regrouped);
       }
 
   -- an item whose children come next
@@ -185,12 +177,7 @@ module _ (bytes : List ℕ) (levels : Option Levels) where
   -- all are done
   pub walk_done : {depth : ℕ} (around : List OpenLevel) (nodes : List Spot) (whole : List Tree)
       (w : Walking bytes levels (λ ts. ts ≡ []) depth around nodes whole) → around ≡ [] → AllZip (Locates bytes) nodes whole
-  walk_done around nodes whole w e = go w.others (rw e at w.left_around)
-      (ap (λ l. w.given ++ (flat_map (preorder levels w.level) l ++ items_of levels w.others)) (sym w.left) ∙ w.is)
-    where
-      go : (rs : List Rest) → HaveLeft bytes [] rs → w.given ++ items_of levels rs ≡ whole → AllZip (Locates bytes) nodes whole
-      go [] h is = subst (AllZip (Locates bytes) nodes) (sym (append-nil w.given) ∙ is) w.done
-      go (r ∷ rs) h is = absurd h
+  walk_done around nodes whole w e = grind (arith, append-nil)
 
 -- ---- items without children, one after the other
 
@@ -223,18 +210,13 @@ module _ (bytes : List ℕ) (levels : Option Levels) (n : ℕ) (ts before : List
     rest = f.others;
     split = w.split ∙ ap (λ l. w.passed ++ l) f.whole ∙ sym (append_assoc w.passed (f.first ∷ []) f.others);
     left = f.left;
-    done = subst (AllZip (Locates bytes) nodes')
-        (append_assoc before (flat_map (preorder levels n) w.passed) (preorder levels n f.first)
-        ∙ ap (λ l. before ++ (flat_map (preorder levels n) w.passed ++ l)) (sym (append-nil (preorder levels n f.first)))
-        ∙ ap (λ l. before ++ l) (sym (flat_map-append (preorder levels n) w.passed (f.first ∷ []))))
-        (push (before ++ flat_map (preorder levels n) w.passed) w.done);
+    done = grind (arith, append_assoc, append-nil, flat_map-append);
   }
 
   -- the next may have children
   pub next_left : (Left : List Tree → Type 0) (spot : Spot) (others : SpotIter) (nodes : List Spot) (w : PassedSo bytes levels n Left ts before nodes)
       → First (HasSpotsLeft bytes others) (Locates bytes spot) w.rest → PassesLeaves bytes levels n ts before nodes (Some (spot, others))
-  next_left Left spot others nodes w f =
-      (w.passed, f.first, f.others, w.split ∙ ap (λ l. w.passed ++ l) f.whole, f.holds, f.left, w.done)
+  next_left Left spot others nodes w f = grind arith
 
   -- none is left
   pub none_left : (Left : List Tree → Type 0) (nodes : List Spot) (w : PassedSo bytes levels n Left ts before nodes) → w.rest ≡ []

@@ -1,5 +1,5 @@
 -- The bound on parentheses changes nothing, once it passes the length of the input.
-use Rattle.jsonb.proofs.Common.{◌≡◌, ℕ, zero, suc, ◌+◌, ◌<◌, ◌≤◌, List, [], ◌∷◌, length, drop, Bool, true, false, cond, Some, None, refl, ◌∙◌, ap, arith, length-drop, add-one, nat_eq, nat_lt, codes, if◌then◌else◌, starts_with, option_and_then, Decides-ltb, Parsed, Rule, ◌>>=◌, ◌>>◌, ◌</>◌, parsed_map, bytes, literal, turn, up_to, repeat, list_of, NeverGrows, some-no_more, some-literal, grows-ws, Expression, spaced, path_root, path_with, group_with, exists_with, atom_with, and_with, or_with, nested_or, expression, path_step, filter_with}
+use Rattle.jsonb.proofs.Common.{◌≡◌, ℕ, zero, suc, ◌+◌, ◌<◌, ◌≤◌, List, [], ◌∷◌, length, drop, Bool, true, false, cond, Some, None, refl, ◌∙◌, ap, arith, length-drop, add-one, nat_lt, codes, option_and_then, Decides-ltb, Parsed, Rule, ◌>>=◌, ◌>>◌, ◌</>◌, parsed_map, bytes, literal, turn, up_to, repeat, list_of, NeverGrows, some-no_more, some-literal, grows-ws, Expression, spaced, path_root, path_with, group_with, exists_with, atom_with, and_with, or_with, nested_or, expression, path_step}
 use Rattle.jsonb.proofs.ExpressionReadsSome.{some-path_root, some-and_separator, some-or_separator, some-atom, some-and, grows-nested_or}
 
 -- the rules do the same on inputs that are shorter than this
@@ -8,9 +8,8 @@ Agree k r s = (input : List ℕ) → length input < k → r input ≡ s input
 
 agree-next : {A B : Type 0} {rule : Rule A} {next other : A → Rule B} (k : ℕ) → NeverGrows rule → ((a : A) → Agree k (next a) (other a)) →
     Agree k (rule >>= next) (rule >>= other)
-agree-next {A = A} {rule = rule} {next = next} {other = other} k h same input short = go (rule input) refl where
-  go : (o : Parsed A) → rule input ≡ o → option_and_then (λ (p : A × List ℕ). next p.0 p.1) o ≡ option_and_then
-      (λ (p : A × List ℕ). other p.0 p.1) o
+agree-next {A} {rule = rule} {next = next} {other = other} k h same input short = go (rule input) refl where
+  go : (o : Parsed A) → rule input ≡ o → option_and_then (λ (p : A × List ℕ). next p.0 p.1) o ≡ option_and_then (λ (p : A × List ℕ). other p.0 p.1) o
   go None at = refl
   go (Some p) at = same p.0 p.1 (omega (arith, h input p.0 p.1 at))
 
@@ -22,18 +21,8 @@ agree-first k next same input short = rw (same input short) refl
 agree-behind : {B : Type 0} {next other : Rule B} (k c : ℕ) (cs : List ℕ) → Agree k next other →
     Agree (suc k) (bytes (c ∷ cs) >> next) (bytes (c ∷ cs) >> other)
 agree-behind k c cs same [] short = refl
-agree-behind {next = next} {other = other} k c cs same (b ∷ input) short = go (starts_with nat_eq (b ∷ input) (c ∷ cs)) where
-  go : (t : Bool) → option_and_then (λ (p : Unit {0} × List ℕ). next p.1) (if t then Some (
-    tt,
-    drop
-        (length cs) input,
-  ) else None) ≡ option_and_then (λ (p : Unit {0} × List ℕ). other p.1) (if t then Some (
-    tt,
-    drop
-        (length cs) input,
-  ) else None)
-  go true = same (drop (length cs) input) (omega (arith, length-drop (length cs) input))
-  go false = refl
+agree-behind k c cs same (b ∷ input) short =
+    let shorter : length (drop (length cs) input) < k = omega (arith, length-drop (length cs) input) in grind (arith, same (drop (length cs) input) shorter)
 
 agree-choice : {A : Type 0} {first first' second second' : Rule A} (k : ℕ) → Agree k first first' → Agree k second second' →
     Agree k (first </> second) (first' </> second')
@@ -47,8 +36,8 @@ agree-up_to {A} k rule rule' h (suc n) input short = rw (h input short) (go (agr
   go more None = refl
   go more (Some p) = pick (nat_lt (length p.1) (length input)) refl where
     pick : (t : Bool) → nat_lt (length p.1) (length input) ≡ t →
-        cond t (parsed_map (λ (os : List A). p.0 ∷ os) (up_to n rule p.1)) (Some ([], input)) ≡ cond t (parsed_map
-        (λ (os : List A). p.0 ∷ os) (up_to n rule' p.1)) (Some ([], input))
+        cond t (parsed_map (λ (os : List A). p.0 ∷ os) (up_to n rule p.1)) (Some ([], input))
+        ≡ cond t (parsed_map (λ (os : List A). p.0 ∷ os) (up_to n rule' p.1)) (Some ([], input))
     pick true at = ap (parsed_map (λ (os : List A). p.0 ∷ os)) (more p.1 (omega (arith, (Decides-ltb (length p.1) (length input)).0 at)))
     pick false at = refl
 
@@ -65,49 +54,37 @@ agree-list_of {rule = rule} {rule' = rule'} {separator = separator} k h s same i
 agree-same : {A : Type 0} (k : ℕ) (rule : Rule A) → Agree k rule rule
 agree-same k rule input short = refl
 
-agree-below : {A : Type 0} {rule rule' : Rule A} (k : ℕ) → Agree (suc k) rule rule' → Agree k rule rule'
-agree-below k h input short = h input (omega arith)
-
-module _ (k : ℕ) (nested nested' : Bool → Rule Expression) (grows-nested : (f : Bool) → NeverGrows (nested f)) (same : (f : Bool) →
-    Agree k (nested f) (nested' f)) where
-  agree-filter : Agree (suc k) (filter_with nested) (filter_with nested')
+module _ (k : ℕ) (nested nested' : Bool → Rule Expression) (grows-nested : (f : Bool) → NeverGrows (nested f))
+    (same : (f : Bool) → Agree k (nested f) (nested' f)) where
+  agree-group : (f : Bool) → Agree (suc k) (group_with nested f) (group_with nested' f)
   unfolding group_with
-  agree-filter =
-      agree-behind k 63 [] (agree-next k grows-ws (λ _. agree-next k (some-no_more (literal "(") (some-literal 40 []))
-      (λ _. agree-next k grows-ws (λ _. agree-first k _ (same true)))))
+  agree-group f = agree-behind k 40 [] (agree-next k grows-ws (λ _. agree-first k _ (same f)))
 
   agree-path : Agree (suc k) (path_with nested) (path_with nested')
   unfolding path_with
   agree-path =
-      agree-choice (suc k) (agree-same (suc k) _) (agree-next (suc k) grows-ws (λ _. agree-first (suc k) _ (agree-first (suc k) _ agree-filter)))
-
-  agree-group : (f : Bool) → Agree (suc k) (group_with nested f) (group_with nested' f)
-  unfolding group_with
-  agree-group f = agree-behind k 40 [] (agree-next k grows-ws (λ _. agree-first k _ (same f)))
+      agree-choice (suc k) (agree-same (suc k) _) (agree-next (suc k) grows-ws (λ _. agree-first (suc k) _ (agree-first (suc k) _
+      (agree-behind k 63 [] (agree-next k grows-ws (λ _ input short. agree-group true input (omega arith)))))))
 
   agree-exists : Agree (suc k) (exists_with nested) (exists_with nested')
   unfolding exists_with
   agree-exists =
       agree-behind k 101 (codes "xists") (agree-next k grows-ws (λ _. agree-next k (some-no_more (literal "(") (some-literal 40 []))
       (λ _. agree-next k grows-ws (λ _. agree-first k _ (agree-next k (some-no_more (path_root true) (some-path_root true))
-      (λ first. agree-first k _ (agree-repeat k (agree-below k agree-path))))))))
+      (λ first. agree-first k _ (agree-repeat k (λ input short. agree-path input (omega arith)))))))))
 
   agree-atom : (f : Bool) → Agree (suc k) (atom_with nested f) (atom_with nested' f)
   unfolding atom_with
   agree-atom f =
       agree-choice (suc k) (agree-same (suc k) _) (agree-choice (suc k) (agree-same (suc k) _) (agree-choice (suc k) (agree-group f) agree-exists))
 
-  agree-and : (f : Bool) → Agree (suc k) (and_with nested f) (and_with nested' f)
-  unfolding and_with
-  agree-and f =
-      agree-first (suc k) _ (agree-list_of (suc k) (some-no_more (atom_with nested f) (some-atom nested grows-nested f))
-      (some-no_more (spaced (literal "&&")) some-and_separator) (agree-atom f))
-
   agree-or : (f : Bool) → Agree (suc k) (or_with nested f) (or_with nested' f)
-  unfolding or_with
+  unfolding or_with and_with
   agree-or f =
       agree-first (suc k) _ (agree-list_of (suc k) (some-no_more (and_with nested f) (some-and nested grows-nested f))
-      (some-no_more (spaced (literal "||")) some-or_separator) (agree-and f))
+      (some-no_more (spaced (literal "||")) some-or_separator)
+      (agree-first (suc k) _ (agree-list_of (suc k) (some-no_more (atom_with nested f) (some-atom nested grows-nested f))
+      (some-no_more (spaced (literal "&&")) some-and_separator) (agree-atom f))))
 
 agree-nested_or : (k n m : ℕ) → k ≤ n → k ≤ m → (f : Bool) → Agree k (nested_or n f) (nested_or m f)
 unfolding nested_or
@@ -116,15 +93,9 @@ agree-nested_or (suc k) (suc n) (suc m) p q f input short =
 agree-nested_or _ _ _ p q f input short = absurd (omega arith)
 
 -- any bound past the length of the input does the same
-pub nested_or-enough : (n m : ℕ) (f : Bool) (input : List ℕ) → length input < n → length input < m →
-    nested_or n f input ≡ nested_or m f input
-nested_or-enough n m f input p q = agree-nested_or (suc (length input)) n m (omega arith) (omega arith) f input (omega arith)
-
--- ---- the rules without bounds
-
 nested_is_expression : (n : ℕ) (f : Bool) → Agree n (nested_or n f) (expression f)
 unfolding expression
-nested_is_expression n f input short = nested_or-enough n (length input + 1) f input short (omega arith)
+nested_is_expression n f input short = agree-nested_or (suc (length input)) n (length input + 1) (omega arith) (omega arith) f input (omega arith)
 
 expression-once : (f : Bool) (input : List ℕ) → expression f input ≡ or_with (nested_or (length input)) f input
 unfolding expression nested_or

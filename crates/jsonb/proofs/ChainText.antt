@@ -1,5 +1,5 @@
 -- The text of a chain of expressions, part by part.
-use Rattle.jsonb.proofs.Common.{◌≡◌, ℕ, zero, suc, ◌+◌, List, [], ◌++◌, Bool, true, false, refl, sym, ap, ◌∙◌, append_assoc, add-zero, arith, codes, if◌then◌else◌, operator_text, needs_parentheses, side_text, expression_text, Expression, binary, left_of, below, front_text, fronts_text, link_text, links_text}
+use Rattle.jsonb.proofs.Common.{◌≡◌, ℕ, zero, suc, ◌+◌, List, [], ◌++◌, Bool, refl, sym, ap, ◌∙◌, append_assoc, add-zero, arith, codes, if◌then◌else◌, operator_text, needs_parentheses, side_text, expression_text, Expression, binary, left_of, below, front_text, fronts_text, link_text, links_text}
 use Rattle.std.proofs.lemmas.List.{append-nil}
 
 -- ---- one more
@@ -15,12 +15,11 @@ fronts_more (suc n) e = ap (λ text. front_text e ++ text) (fronts_more n (left_
 
 -- ---- the links, in two parts
 
-suc_more : (m n : ℕ) → m + suc n ≡ suc (m + n)
-suc_more m n = omega arith
-
 pub links_halved : (m n : ℕ) (e : Expression) → links_text (m + n) e ≡ links_text m (below n e) ++ links_text n e
 links_halved m zero e = ap (λ k. links_text k e) (add-zero m) ∙ sym (append-nil (links_text m e))
-links_halved m (suc n) e = ap (λ k. links_text k e) (suc_more m n)
+links_halved m (suc n) e =
+    let more : m + suc n ≡ suc (m + n) = omega arith in
+    ap (λ k. links_text k e) more
     ∙ ap (λ text. text ++ link_text e) (links_halved m n (left_of e))
     ∙ append_assoc (links_text m (below n (left_of e))) (links_text n (left_of e)) (link_text e)
 
@@ -29,8 +28,7 @@ links_halved m (suc n) e = ap (λ k. links_text k e) (suc_more m n)
 around_side : (is_around : Bool) (left operator right : List ℕ) →
     (if is_around then codes "(" ++ left ++ codes ")" else left) ++ codes " " ++ operator ++ codes " " ++ right
     ≡ (if is_around then codes "(" else []) ++ left ++ ((if is_around then codes ")" else []) ++ codes " " ++ operator ++ codes " " ++ right)
-around_side true left operator right = simp append_assoc refl
-around_side false left operator right = simp append_assoc refl
+around_side is_around left operator right = grind (arith, append_assoc)
 
 one_link : (e : Expression) → expression_text e ≡ front_text e ++ expression_text (left_of e) ++ link_text e
 one_link (binary op left right) = around_side (needs_parentheses left) (expression_text left) (operator_text op) (side_text right (expression_text right))

@@ -1,9 +1,9 @@
 -- The names that most proofs cite, passed on from one place. Declares nothing.
-pub use Rattle.std.proofs.Common.{◌≡◌, ℕ, ◌<◌, suc, zero, length, List, [], ◌∷◌, ◌++◌, map, flat_map, Bool, true, false, Option, Some, None, is_some, option_map, Ok, Err, refl, sym, ap, subst, ◌∙◌, cond, arith, find, slice_index_or, Contains, Box, Global, ◌⊎◌, ◌+◌, ◌≤◌, drop, get_or, append_assoc, append-nil, OnOk, IfErr, IsOkAnd, inl, reverse, Vec, take, inr, slice_get, MatchOption, ◌^◌, min, length-drop, add-one, nat_eq, nat_lt, codes, if◌then◌else◌, ◌+ℤ◌, ◌-ℤ◌, ◌*ℤ◌, int_div, int_rem, ◌||◌, ℤ, pos, negsuc, MatchResult, add-zero, length-append, ◌==◌, MatchBool, Result, IsSomeAnd, IfSome, ap₂, ◌&&◌, IfOk, fold, neg_ℤ, not, nat_le, ◌/◌, ◌-◌, ◌↔◌, ◌≤ℤ◌, filter_map, int_le, slice_range, ◌<ℤ◌, leb→le, ltb→lt, IsErrAnd, rules, IsTrue, set, option_to_list, ◌%◌, slice_index, ◌*◌, SFits, vec_len, max}
-pub use Rattle.jsonb_doc.proofs.Common.{AllZip, IsOutOfMemory, Tree, ⊤, Locates, HasSpotsLeft, option_and_then, int_eq, number_from, int64, uint64, number_view, reverse-append, nat_tests, iter_rest, map-append, ◌or◌when◌, SameOption, Decodes, IsTooLarge, Form, take-append-drop, is_eq, Decides, option_eq, tied_itself, AllByRecursion, number_cmp, number_cmp_total, null, Bor, text, with_sign, common_steps, decimal, Trees, Pairs, array, object, no_trees, no_pairs, pair, elements, values, children_of, decimal64, trees_of, pairs_of, ordering_reverse, field_of, ints, drop_of_length-le, GivesSpot, kind_number, any, number_reader, spot_content, Parts, no_parts, HoldsElements, IsOutOfMemoryOrTooLarge, Variant, is_equal, is_equal-true, IsEqual, AreEqual, PairsAreEqual, take_all, then_some, eqb-true, length-reverse, length-take-le, sum_by-cons, AreBytes, canonical, to_z-of_z, nil_from_length, has_written_append, HasWritten, IsPlainFormatter, HoldsFront, err_from_is_err_and, is_eq-slice_cmp}
-pub use Rattle.jsonb_keypath.proofs.Common.{option_or, flat_map-append, starts_with, Decides-ltb, Parsed, Rule, ◌>>=◌, ◌>>◌, ◌</>◌, parsed_map, bytes, literal, turn, list_of, give, past, is_space, int32, ReadsSome, pointwise, only_if, same_Some, AreRows, is_ascii_digit, Decides-eqb, is_within, prefix_len, signed_decimal, is_quote, is_stop, is_plain_name, is_word_byte, quoted_text, name_text, cow_str_bytes, all_consuming, Decides-int_eq, flat_map_more, map_push, has_written_of_eq, list_all}
-unfoldable pub use Rattle.jsonb_keypath.proofs.Common.{up_to, repeat, integer, ws, quoted, natural_below, integer_within, digits, is_utf8, chars, encode, natural, sign, four_hex_digits, code_unit, unicode_escape, escape, unit, units, name}
-pub use Rattle.jsonb_raw.proofs.Common.{Outcome, weight-pos, inner_weighs, taken_weighs, weight_of_all, falls_inward, falls_outward, Refines, Number, Makes, MakesOption, take_more, str_eq_ignore_ascii_case, nat_list_cmp_total, CowStr, array_values, no_spots_left, content_unique, take_more_set, one_canonical_document, raw_bytes, front_whole}
+pub use Rattle.std.proofs.Common.{◌≡◌, ℕ, ◌<◌, suc, zero, length, List, [], ◌∷◌, ◌++◌, map, flat_map, Bool, true, false, Option, Some, None, is_some, option_map, Ok, Err, refl, ap, ◌∙◌, arith, find, slice_index_or, Contains, Box, Global, ◌⊎◌, ◌+◌, ◌≤◌, drop, get_or, append_assoc, append-nil, OnOk, IfErr, IsOkAnd, inl, sym, subst, reverse, Vec, take, slice_get, MatchOption, ◌^◌, min, inr, cond, length-drop, add-one, nat_lt, codes, ℤ, if◌then◌else◌, MatchResult, add-zero, length-append, ◌==◌, ◌||◌, MatchBool, Result, IsSomeAnd, IfSome, ap₂, ◌&&◌, nat_eq, pos, negsuc, IfOk, Bor, neg_ℤ, fold, nat_le, not, ◌/◌, ◌-◌, ◌↔◌, ◌≤ℤ◌, filter_map, int_le, slice_range, ◌<ℤ◌, leb→le, ltb→lt, IsErrAnd, rules, IsTrue, set, option_to_list, ◌%◌, slice_index, ◌*◌, SFits, vec_len, max}
+pub use Rattle.jsonb_doc.proofs.Common.{AllZip, IsOutOfMemory, Tree, ⊤, Locates, HasSpotsLeft, spots_room, option_and_then, number_from, number_view, nat_tests, iter_rest, map-append, ◌or◌when◌, SameOption, Decodes, IsTooLarge, Form, take-append-drop, is_eq, Decides, option_eq, tied_itself, int64, uint64, number_cmp, number_cmp_total, null, AllByRecursion, with_sign, common_steps, decimal, Trees, Pairs, array, object, no_trees, no_pairs, pair, elements, values, children_of, decimal64, trees_of, pairs_of, ordering_reverse, field_of, drop_of_length-le, GivesSpot, kind_number, any, number_reader, spot_content, reverse-append, Parts, no_parts, HoldsElements, IsOutOfMemoryOrTooLarge, Variant, is_equal, is_equal-true, IsEqual, AreEqual, PairsAreEqual, take_all, then_some, eqb-true, length-reverse, length-take-le, sum_by-cons, AreBytes, canonical, to_z-of_z, nil_from_length, has_written_append, HasWritten, IsPlainFormatter, HoldsFront, err_from_is_err_and, is_eq-slice_cmp}
+pub use Rattle.jsonb_keypath.proofs.Common.{option_or, flat_map-append, Decides-ltb, Parsed, Rule, ◌>>=◌, ◌>>◌, ◌</>◌, parsed_map, bytes, literal, turn, list_of, give, past, is_space, pointwise, only_if, ReadsSome, AreRows, is_ascii_digit, same_Some, is_within, signed_decimal, int32, is_plain_name, quoted_text, name_text, prefix_len, cow_str_bytes, all_consuming, flat_map_more, map_push, has_written_of_eq, list_all}
+unfoldable pub use Rattle.jsonb_keypath.proofs.Common.{up_to, repeat, integer, ws, digits, is_utf8, chars, encode, natural, natural_below, sign, integer_within, four_hex_digits, code_unit, unicode_escape, escape, unit, units, name, quoted, text}
+pub use Rattle.jsonb_raw.proofs.Common.{weight-pos, inner_weighs, taken_weighs, weight_of_all, falls_inward, falls_outward, Number, Makes, MakesOption, take_more, nat_list_cmp_total, array_values, ints, no_spots_left, content_unique, take_more_set, one_canonical_document, front_whole, raw_bytes}
 unfoldable pub use Rattle.jsonb_raw.proofs.Common.{weight_of}
 pub use Prim.Native.String.{String}
 pub use Rattle.hex.specs.Hex.{encode_lower, lower_digits}
@@ -19,13 +19,13 @@ pub use Rattle.jsonb.specs.MostItems.{capped, steps_items, after_steps, is_singl
 pub use Rattle.jsonb.specs.PathArithmetic.{two_numbers, all_numbers, signed_number, each_signed, operation}
 pub use Rattle.jsonb.specs.PathDocuments.{is_document, HasNoDocument}
 pub use Rattle.jsonb.specs.PathEquality.{SameLiteral, SameStepBut, SameStepsBut, SameExpressionBut, SamePath, literal_order}
-pub use Rattle.jsonb.specs.PathGrammar.{spaced, joined_by, keyword, last_and, level_end}
-unfoldable pub use Rattle.jsonb.specs.PathGrammar.{path_root, path_with, group_with, exists_with, atom_with, and_with, or_with, nested_or, expression, path_step, binary_atom, json_path, literal_value, place, entry, front_steps, plain_path, spaced_inner, operand, spaced_operand, arithmetic_operator, operator, unary_operator, unary_atom, first_step, root_expression, levels, field, entries, wildcard, named_field, bracket_field, inner}
+pub use Rattle.jsonb.specs.PathGrammar.{spaced, joined_by, last_and, level_end, keyword}
+unfoldable pub use Rattle.jsonb.specs.PathGrammar.{path_root, path_with, group_with, exists_with, atom_with, and_with, or_with, nested_or, expression, path_step, binary_atom, json_path, literal_value, spaced_inner, operand, spaced_operand, arithmetic_operator, operator, unary_operator, unary_atom, front_steps, first_step, plain_path, root_expression, place, entry, levels, field, entries, wildcard, named_field, bracket_field, inner}
 pub use Rattle.jsonb.specs.PathLaws.{settled_literal, SameButVariants, MeanTheSame}
 pub use Rattle.jsonb.specs.PathText.{operator_text, needs_parentheses, side_text, expression_text, step_text, steps_text, sign_text, joins, path_text, place_text, entry_text, levels_text, literal_text}
-pub use Rattle.jsonb.specs.PathTree.{Expression, Step, Steps, steps_of, filter, Levels, UnaryOp, number, binary, BinaryOp, and_op, or_op, plus, minus, root, current, whole_expression, no_steps, step, paths, value, unary, exists, Literal, raw, from_front, single, slice, boolean, string, Entry, eq, not_eq, lt, lte, gt, gte, starts_with_op, add, subtract, multiply, divide, modulo, is_predicate, dot_field, LevelEnd, Place, from_last, level, last_level, dot_wildcard, recursive_dot_wildcard, bracket_wildcard, colon_field, object_field, array_indices}
+pub use Rattle.jsonb.specs.PathTree.{Expression, Step, Steps, steps_of, filter, Levels, UnaryOp, number, binary, BinaryOp, and_op, or_op, plus, minus, root, current, whole_expression, no_steps, step, paths, value, unary, exists, Literal, raw, boolean, string, Entry, eq, not_eq, lt, lte, gt, gte, starts_with_op, add, subtract, multiply, divide, modulo, is_predicate, dot_field, LevelEnd, Place, from_front, from_last, single, slice, level, last_level, dot_wildcard, recursive_dot_wildcard, bracket_wildcard, colon_field, object_field, array_indices}
 pub use Rattle.jsonb.specs.PathViews.{step_view, steps_view, expression_view, literal_view, path_view, step_layer, expression_layer}
-pub use Rattle.jsonb.specs.Positions.{position, IsPosition}
+pub use Rattle.jsonb.specs.Positions.{IsPosition}
 pub use Rattle.jsonb.specs.Preorder.{taken_item, preorder, answer_at, preorder_elements, preorder_values}
 pub use Rattle.jsonb.specs.Private.Alike.{AreAlike, AlikeOutcomes, HasSame, SameOutcomes}
 pub use Rattle.jsonb.specs.Private.Asking.{asking_tests, IsCached, IsWaiting, IsTurn, IsFiltering, IsFilter, IsFilterWaiting, IsFilterTurn, IsAround, IsOnward, filtered_later, at_first, IsAsking, IsTested}
@@ -34,43 +34,43 @@ pub use Rattle.jsonb.specs.Private.Calculation.{number_list, binary_meaning, tru
 pub use Rattle.jsonb.specs.Private.Chain.{left_of, below}
 pub use Rattle.jsonb.specs.Private.ChainText.{front_text, fronts_text, link_text, links_text}
 pub use Rattle.jsonb.specs.Private.Compared.{IsMemberCompared, IsListCompared, items_truth, mirrored, RefinesIfAny}
-pub use Rattle.jsonb.specs.Private.Copying.{IsOwningError, listed, held, around, framed, frame_waiting, waiting, frame_has_document, have_document, leaf_view, leaf_parts, progress_view, progress_has_document, leaf_has_document, step_copy_view, step_copy_has_document, copied_view, copied_parts, copied_has_document, so_far_has_document}
-pub use Rattle.jsonb.specs.Private.Counted.{total, waiting_items}
+pub use Rattle.jsonb.specs.Private.Copying.{IsOwningError, listed, held, around, framed, frame_waiting, waiting, frame_has_document, have_document, leaf_view, leaf_parts, progress_view, progress_has_document, leaf_has_document, so_far_has_document}
+pub use Rattle.jsonb.specs.Private.Counted.{waiting_parts, total}
 pub use Rattle.jsonb.specs.Private.Documents.{step_has_document, expression_has_document, has_document, steps_have_document}
 pub use Rattle.jsonb.specs.Private.EntriesText.{entries_text, other_entry_text}
-pub use Rattle.jsonb.specs.Private.FilterCache.{AreKept, is_condition, is_comparison, is_fixed, IsSame, AreSame, kept_part}
-pub use Rattle.jsonb.specs.Private.Frames.{joined_from, joined_view, joined_behind, IsUnclosed, IsPartial, closed, filter_step, steps_behind, IsOpened, AreFrames, goes_in_filter, as_path, IsAfterCondition, IsOpening, opening_size, exists_closed}
+pub use Rattle.jsonb.specs.Private.FilterCache.{is_condition, AreKept, is_comparison, is_fixed, IsSame, AreSame, kept_part}
+pub use Rattle.jsonb.specs.Private.Frames.{joined_from, joined_view, joined_behind, IsUnclosed, IsPartial, closed, filter_step, steps_behind, IsOpened, AreFrames, goes_in_filter, as_path, IsOpening, opening_size, exists_closed}
 unfoldable pub use Rattle.jsonb.specs.Private.Frames.{partial_outcome, filter_front, opened_outcome, resumed, opening_outcome, after_condition_outcome}
-pub use Rattle.jsonb.specs.Private.Fronts.{filter_with, in_any_case, operand_steps, exists_steps}
-pub use Rattle.jsonb.specs.Private.ItemSteps.{indices_step}
+pub use Rattle.jsonb.specs.Private.Fronts.{filter_with, operand_steps, in_any_case}
 pub use Rattle.jsonb.specs.Private.Jumps.{evaluated, next_jump, Branch, branches_of_whole, jump_truth, branches_of, taken, passed}
-pub use Rattle.jsonb.specs.Private.Last.{but_last, last_step, held_by, held_by_last, last_of, down, steps_down, step_down, step_before, last_before, steps_before, text_before, ends_in_filter, closing, is_same_opening, is_same_last, are_same_before, is_same_before}
+pub use Rattle.jsonb.specs.Private.Last.{but_last, last_step, held_by, held_by_last, last_of, down, steps_down, step_down, step_before, last_before, steps_before, text_before, ends_in_filter, closing, is_same_opening, are_same_before, is_same_before}
 pub use Rattle.jsonb.specs.Private.Limited.{lifted}
 pub use Rattle.jsonb.specs.Private.Members.{is_member, are_members}
 pub use Rattle.jsonb.specs.Private.Operands.{IsAnswer, HasLeft, comparison_view, values_found, ComesNext, IsHeld, waits_expression, IsPending, IsOperand}
-pub use Rattle.jsonb.specs.Private.Pairs.{is_joined, joining_op, IsPairOf}
-pub use Rattle.jsonb.specs.Private.Parts.{step_parts, expression_parts, steps_parts, parts, remaining, waiting_parts}
+pub use Rattle.jsonb.specs.Private.Pairs.{is_joined, IsPairOf}
+pub use Rattle.jsonb.specs.Private.Parts.{step_parts, expression_parts, parts, steps_parts, remaining}
 pub use Rattle.jsonb.specs.Private.Positions.{IsBetween}
-pub use Rattle.jsonb.specs.Private.Repeated.{another_entry, another_atom, another_and, entry_list}
+pub use Rattle.jsonb.specs.Private.Repeated.{another_atom, another_and, another_entry, entry_list}
 pub use Rattle.jsonb.specs.Private.Running.{IsRunning, IsAtFilter, IsProgress, IsBeforeFilter, running_steps}
 pub use Rattle.jsonb.specs.Private.SamePath.{SameStep, SameExpression, path_value_order, is_same_literal, is_same_place, is_same_entry, is_same_end, is_same_level, is_same_sign, is_same_step, is_same_operator, are_same_steps, is_same_expression}
 pub use Rattle.jsonb.specs.Private.Search.{has_condition, IsSearched, FirstAhead, AreAhead, IsAhead, TakesStep, HasItems, TakesItem, AreGiven, IsReached, BeginsAs, conditions_in}
 pub use Rattle.jsonb.specs.Private.Selected.{array_of, selected_len}
 pub use Rattle.jsonb.specs.Private.Selection.{IsAt, node_spots, taken_step, only_number, are_numbers, signed_value, IsNumberTree, IsNumberItem, value_view, only_expression, IsMadeItem, values_view, is_filter, option_spots, fail_if_strict, IsPlain, AreSelected, IsKept, step_expression, is_relative, HasTree}
-pub use Rattle.jsonb.specs.Private.Tests.{IsQuestionOf, AreTestsOf, tests_conditions, AreBranches, item_tests, question_conditions, tests_in, ArePlainTestsOf, AreMembersCompared, IsPlainQuestionOf, IsTestOf, is_plain, are_plain, test_conditions, is_settled, jump_to, left_true, left_false, right_of, pending, waiting_left, parts_to_compile, IsCompiled}
-pub use Rattle.jsonb.specs.Private.Weights.{weight, step_weight, steps_weight, running_weight, question_weight, tests_weight, asked_weight, at_filter_weight, progress_weight, frame_weight, around_weight, asking_weight, next_weight, items_weight, waits_weight, filter_weight, turn_weight, pending_weight, operand_weight}
+pub use Rattle.jsonb.specs.Private.Tests.{IsQuestionOf, AreTestsOf, tests_conditions, AreBranches, item_tests, question_conditions, tests_in, ArePlainTestsOf, AreMembersCompared, IsPlainQuestionOf, IsTestOf, is_plain, are_plain, test_conditions, is_settled, jump_to, right_of, pending, waiting_left, parts_to_compile}
+pub use Rattle.jsonb.specs.Private.Weights.{weight, step_weight, steps_weight, running_weight, question_weight, tests_weight, asked_weight, at_filter_weight, progress_weight, frame_weight, around_weight, asking_weight, items_weight, operand_weight, next_weight}
 pub use Rattle.jsonb.specs.Proofs.PathOrder.{container_with_none, antisymmetric, literal-same}
 pub use Rattle.jsonb.specs.Proofs.SameParts.{path-symmetric, path-transitive}
 pub use Rattle.jsonb.specs.Proofs.SamePath.{place-same, entry-same, end-same, level-same, sign-same, step-same, expression-same}
 pub use Rattle.jsonb.specs.SelectionErrors.{IsPathError, IsSelectionError}
-pub use Rattle.jsonb.specs.SelectorAnswers.{first_item, single_or_array, AreAll, IsArrayOf, IsPicked, ByMeanings, IsFound, IsTruthOf}
-pub use Rattle.jsonb.specs.Values.{Value, values_of_item, value_of_item, container}
+pub use Rattle.jsonb.specs.SelectorAnswers.{first_item, single_or_array}
+pub use Rattle.jsonb.specs.Values.{Value, values_of_item, value_of_item}
 pub use Rattle.jsonb.specs.declared.parser.condition.Joined.{Joined}
 pub use Rattle.jsonb.specs.declared.parser.condition.PartialExpr.{PartialExpr}
 pub use Rattle.jsonb.specs.declared.parser.opening.Opened.{Opened}
 pub use Rattle.jsonb.specs.declared.parser.opening.Opening.{Opening}
 pub use Rattle.jsonb.specs.declared.path.ArrayIndex.{ArrayIndex}
 pub use Rattle.jsonb.specs.declared.path.BinaryOperator.{BinaryOperator}
+pub use Rattle.jsonb.specs.declared.path.BinaryOperator.TheVariants.{Or}
 pub use Rattle.jsonb.specs.declared.path.Expr.{Expr, map-Expr, fold_out-Expr, fold-roll-Expr}
 unfoldable pub use Rattle.jsonb.specs.declared.path.Expr.{out-Expr}
 pub use Rattle.jsonb.specs.declared.path.Expr.TheOpen.{Expr-F, Path-F}
@@ -85,11 +85,11 @@ pub use Rattle.jsonb.specs.declared.path.PathValue.TheVariants.{Null, Raw}
 pub use Rattle.jsonb.specs.declared.path.RecursiveLevel.{RecursiveLevel}
 pub use Rattle.jsonb.specs.declared.path.RecursiveLevelEnd.{RecursiveLevelEnd}
 pub use Rattle.jsonb.specs.declared.path.UnaryOperator.{UnaryOperator}
+pub use Rattle.jsonb.specs.declared.path.copying.Frame.{Frame}
 pub use Rattle.jsonb.specs.declared.path.copying.Holder.{Holder}
 pub use Rattle.jsonb.specs.declared.path.copying.StepsKind.{StepsKind}
 pub use Rattle.jsonb.specs.declared.path.release.Remaining.{Remaining}
 pub use Rattle.jsonb.specs.declared.selector.compared_lists.ListCompared.{ListCompared}
-pub use Rattle.jsonb.specs.declared.selector.compile.Waiting.{Waiting}
 pub use Rattle.jsonb.specs.declared.selector.document.Context.{Context}
 pub use Rattle.jsonb.specs.declared.selector.document.Document.{Document}
 pub use Rattle.jsonb.specs.declared.selector.document.Expressions.{Expressions}
@@ -102,7 +102,6 @@ pub use Rattle.jsonb.specs.declared.selector.filter_cache.CachedPart.{CachedPart
 pub use Rattle.jsonb.specs.declared.selector.filter_cache.FilterCache.{FilterCache}
 pub use Rattle.jsonb.specs.declared.selector.filters.Asking.{Asking}
 pub use Rattle.jsonb.specs.declared.selector.filters.Filter.{Filter}
-pub use Rattle.jsonb.specs.declared.selector.filters.Frame.{Frame}
 pub use Rattle.jsonb.specs.declared.selector.first_item.FirstItem.{FirstItem}
 pub use Rattle.jsonb.specs.declared.selector.found.FoundItem.{FoundItem}
 pub use Rattle.jsonb.specs.declared.selector.found.FoundItem.TheVariants.{At}
@@ -115,8 +114,6 @@ pub use Rattle.jsonb.specs.declared.selector.operands.Comparison.{Comparison}
 pub use Rattle.jsonb.specs.declared.selector.operands.Operands.{Operands}
 pub use Rattle.jsonb.specs.declared.selector.operands.Pending.{Pending}
 pub use Rattle.jsonb.specs.declared.selector.operands.Waits.{Waits}
-pub use Rattle.jsonb.specs.declared.selector.pair.Join.{Join}
-pub use Rattle.jsonb.specs.declared.selector.pair.Join.TheVariants.{And, Or}
 pub use Rattle.jsonb.specs.declared.selector.pair.Pair.{Pair}
 pub use Rattle.jsonb.specs.declared.selector.plan.Condition.{Condition}
 pub use Rattle.jsonb.specs.declared.selector.plan.Jump.{Jump}
@@ -132,6 +129,7 @@ pub use Rattle.jsonb.specs.declared.selector.search.Ahead.{Ahead}
 pub use Rattle.jsonb.specs.declared.selector.search.Items.{Items}
 pub use Rattle.jsonb.specs.declared.selector.search.SearchStep.{SearchStep}
 pub use Rattle.jsonb.specs.declared.selector.search.StepItems.{StepItems}
+pub use Rattle.jsonb.specs.declared.selector.search.Waiting.{Waiting}
 pub use Rattle.jsonb.specs.declared.selector.selected.MadeItem.{MadeItem}
 pub use Rattle.jsonb.specs.declared.selector.selected.Selected.{Selected}
 pub use Rattle.jsonb_doc.proofs.Basics.{zip_along}
@@ -140,23 +138,23 @@ pub use Rattle.jsonb_doc.proofs.EqualValues.{number_cmp-number_view}
 pub use Rattle.jsonb_doc.proofs.LimitLemmas.{array_too_large-element}
 pub use Rattle.jsonb_doc.proofs.PartLemmas.{fewer_parts, fewer_in_front, as_many_parts}
 pub use Rattle.jsonb_doc.proofs.SpotsTaken.{taken_spot, no_refusal, decodes_any, some_spots, no_spots}
-pub use Rattle.jsonb_doc.specs.Answer.{and_then, try_flat_map}
-pub use Rattle.jsonb_doc.specs.AnyBytes.Spots.{spots_room, spots_bound}
-pub use Rattle.jsonb_doc.specs.Arithmetic.{Operation, calculated, on_integers, IsResultOf, negated, is_decimal}
+pub use Rattle.jsonb_doc.specs.Answer.{Outcome, try_flat_map, and_then, Refines}
+pub use Rattle.jsonb_doc.specs.AnyBytes.Spots.{spots_bound}
+pub use Rattle.jsonb_doc.specs.Arithmetic.{Operation, calculated, IsResultOf, negated, is_decimal}
 pub use Rattle.jsonb_doc.specs.Private.StoredValue.{IsStoredAs}
-pub use Rattle.jsonb_doc.specs.declared.error.ArithmeticFault.TheVariants.{Overflow, ZeroDivisor, Inexact, DecimalOperand}
+pub use Rattle.jsonb_doc.specs.declared.error.ArithmeticFault.TheVariants.{Overflow, Inexact, ZeroDivisor, DecimalOperand}
 pub use Rattle.jsonb_doc.specs.declared.error.Error.{Error}
-pub use Rattle.jsonb_doc.specs.declared.error.Error.TheVariants.{Arithmetic, InvalidJsonPath, OutOfMemory, TooLarge, StrictPath}
+pub use Rattle.jsonb_doc.specs.declared.error.Error.TheVariants.{InvalidJsonPath, OutOfMemory, TooLarge, Arithmetic, StrictPath}
 pub use Rattle.jsonb_doc.specs.declared.number.Number.TheVariants.{Int64, UInt64, Decimal64, Decimal128}
 pub use Rattle.jsonb_doc.specs.declared.spot.Spot.{Spot}
 pub use Rattle.jsonb_doc.specs.declared.spot.content.StoredValue.{StoredValue}
 pub use Rattle.jsonb_doc.specs.declared.spot_iter.SpotIter.{SpotIter}
 pub use Rattle.jsonb_keypath.proofs.CutLemmas.{some-literal, nothing}
-pub use Rattle.jsonb_keypath.proofs.GrowsLemmas.{grows-ws, some-integer_within, some-quoted, some-natural_below, some-name}
+pub use Rattle.jsonb_keypath.proofs.GrowsLemmas.{grows-ws, some-quoted, some-integer_within, some-natural_below, some-name}
 pub use Rattle.jsonb_keypath.proofs.KeyPathReadsBack.{whole-some, begins-signed_decimal}
 pub use Rattle.jsonb_keypath.proofs.NameLemmas.{quoted-quoted_text, quoted-none, name-plain, begins-plain, name-none}
-pub use Rattle.jsonb_keypath.proofs.ReadBackLemmas.{front, stops, front-stops, front-implies, begins, begins-implies, begins-excludes, stops-from_begins, in_sequence, is_sign, sign-none, natural-none, begins-decimal, is_number_start, past-run, natural_below-decimal, natural_below-none, integer_within-signed_decimal, integer_within-none, neither}
-pub use Rattle.jsonb_keypath.proofs.ReadsLemmas.{NeverGrows, some-no_more, given, grows-give, grows-then, some-then, then-some, some-choice, grows-only_if, grows-choice}
+pub use Rattle.jsonb_keypath.proofs.ReadBackLemmas.{front, begins, natural_below-none, stops, begins-decimal, is_number_start, is_sign, past-run, natural_below-decimal, integer_within-signed_decimal, integer_within-none}
+pub use Rattle.jsonb_keypath.proofs.ReadsLemmas.{NeverGrows, some-no_more, grows-give, grows-then, then-some, grows-only_if, some-then, grows-choice, some-choice}
 pub use Rattle.jsonb_keypath.proofs.RepeatLemmas.{repeat-goes, repeat-ends, behind, loop-goes, loop-ends}
 pub use Rattle.jsonb_keypath.proofs.YieldsLemmas.{Yields, IsName, yields-give, yields-then, yields-behind, yields-choice, yields-repeat, yields-list_of, yields-integer_within, yields-natural_below, yields-name, yields-quoted}
 pub use Rattle.jsonb_keypath.specs.Rules.{optional}
@@ -174,13 +172,14 @@ pub use Rattle.std.proofs.lemmas.List.{drop-set-lt, with_items_is}
 pub use Rattle.std.proofs.lemmas.List.Folds.{find-append}
 pub use Rattle.std.proofs.lemmas.List.Sums.{sum_by-append}
 pub use Rattle.std.proofs.lemmas.Nat.{row_fits}
-pub use Rattle.std.proofs.lemmas.Option.{get_or_from_slice_get, slice_get_within, slice_get_cases, slice_get_read, slice_get_past}
+pub use Rattle.std.proofs.lemmas.Option.{get_or_from_slice_get, slice_get_within, slice_get_read, slice_get_past, slice_get_cases}
 pub use Rattle.std.specs.Cmp.{bool_cmp_total}
 pub use Rattle.std.specs.HashSet.{contains}
-pub use Rattle.std.specs.List.{Any, cons_option, range_with_len, sum_by}
+pub use Rattle.std.specs.List.{Any, cons_option, range_with_len}
 pub use Rattle.std.specs.Option.{option_zip}
 pub use Rattle.std.specs.Ordering.{is_some_and}
 pub use Rattle.std.specs.Vec.{vec_capacity, with_items}
+pub use Rattle.std.specs.declared.borrow.CowStr.{CowStr}
 pub use Rattle.std.specs.declared.cmp.Ordering.{Ordering}
 pub use Rattle.std.specs.declared.cmp.Ordering.TheVariants.{Equal, Less, Greater}
 pub use denote.Enum.Bare.{same_true, true_same}

@@ -1,7 +1,6 @@
 -- Frames that grow and shrink at their inner end.
-use Rattle.jsonb.proofs.Common.{◌≡◌, ◌+◌, ◌<◌, List, [], ◌∷◌, ◌++◌, Bool, true, false, refl, sym, ap, ◌∙◌, append_assoc, arith, inl, inr, ◌||◌, iter_rest, map-append, Error, step_has_document, expression_has_document, has_document, Step, Expression, steps_of, step_view, steps_view, expression_view, IsOwningError, listed, held, around, framed, frame_waiting, waiting, frame_has_document, have_document, step_parts, expression_parts, Path, Holder, StepsKind}
+use Rattle.jsonb.proofs.Common.{◌≡◌, ◌+◌, ◌<◌, List, [], ◌∷◌, ◌++◌, Bool, true, false, refl, sym, ap, ◌∙◌, append_assoc, arith, inl, inr, ◌||◌, iter_rest, map-append, Error, step_has_document, expression_has_document, has_document, Step, Expression, steps_of, step_view, steps_view, expression_view, IsOwningError, listed, held, around, framed, frame_waiting, waiting, frame_has_document, have_document, step_parts, expression_parts, Path, Holder, StepsKind, Frame}
 use Rattle.std.proofs.lemmas.List.{append-nil}
-use Rattle.jsonb.specs.declared.path.copying.Frame.{Frame}
 use Rattle.jsonb.specs.declared.path.copying.Frame.TheVariants as frame
 use Rattle.jsonb.specs.declared.path.copying.Holder.TheVariants as holder
 use Rattle.jsonb.specs.declared.path.copying.StepsKind.TheVariants as kind
@@ -39,16 +38,14 @@ held-document holder.Whole e = refl
 -- one more copy
 pub clean_more : (copies more : List Path) (copy : Path) → more ≡ copies ++ copy ∷ [] → step_has_document (step_view copy) ≡ false
     → has_document (steps_view copies) ≡ false → has_document (steps_view more) ≡ false
-clean_more copies more copy is clean before = ap (λ l. has_document (steps_view l)) is
-    ∙ ap has_document (map-append step_view copies (copy ∷ [])) ∙ has_document-append (steps_view copies) (step_view copy ∷ [])
-    ∙ none_of_both _ _ before (or_false (step_has_document (step_view copy)) ∙ clean)
+clean_more copies more copy is clean before =
+    rw (is, map-append step_view copies (copy ∷ []), has_document-append (steps_view copies) (step_view copy ∷ []), before, clean) refl
 
 -- a copy goes from the rest to the copies
 pub copies_more : (copies more : List Path) (copy : Path) (rest : List Step) → more ≡ copies ++ copy ∷ []
     → steps_view more ++ rest ≡ steps_view copies ++ step_view copy ∷ rest
-copies_more copies more copy rest is = ap (λ l. steps_view l ++ rest) is
-    ∙ ap (λ l. l ++ rest) (map-append step_view copies (copy ∷ []))
-    ∙ append_assoc (steps_view copies) (step_view copy ∷ []) rest
+copies_more copies more copy rest is =
+    rw (is, map-append step_view copies (copy ∷ []), append_assoc (steps_view copies) (step_view copy ∷ []) rest) refl
 
 -- ---- a document inside is one of the whole
 
@@ -58,22 +55,16 @@ held-parts holder.Whole e = refl
 
 pub step_more : (copies more : List Path) (copy : Path) (left behind : List Path) (s : Path) → more ≡ copies ++ copy ∷ [] → step_view copy ≡ step_view s
     → left ≡ s ∷ behind → steps_view more ++ steps_view behind ≡ steps_view copies ++ steps_view left
-step_more copies more copy left behind s is same front = copies_more copies more copy (steps_view behind) is
-    ∙ ap (λ x. steps_view copies ++ x ∷ steps_view behind) same ∙ sym (ap (λ l. steps_view copies ++ steps_view l) front)
+step_more copies more copy left behind s is same front = rw (front, copies_more copies more copy (steps_view behind) is, same) refl
 
 -- the next step holds an expression
 pub step_held : (copies left behind : List Path) (s : Path) (h : Holder) (e : Expression) → held h e ≡ step_view s → left ≡ s ∷ behind
     → steps_view copies ++ held h e ∷ steps_view behind ≡ steps_view copies ++ steps_view left
-step_held copies left behind s h e same front =
-    ap (λ x. steps_view copies ++ x ∷ steps_view behind) same ∙ sym (ap (λ l. steps_view copies ++ steps_view l) front)
+step_held copies left behind s h e same front = rw (front, same) refl
 
 pub step_held-parts : (left behind : List Path) (s : Path) (h : Holder) (e : Expression) → held h e ≡ step_view s → left ≡ s ∷ behind
     → row_parts left ≡ 1 + expression_parts e + row_parts behind
-step_held-parts left behind s h e same front =
-    let all = ap row_parts front in
-    let this = ap step_parts same in
-    let inner = held-parts h e in
-    omega arith
+step_held-parts left behind s h e same front = grind (arith, held-parts, row_parts)
 
 pub step_fewer : (left behind : List Path) (s : Path) → left ≡ s ∷ behind → row_parts behind < row_parts left
 step_fewer left behind s front = let all = ap row_parts front in let some = some_step_parts (step_view s) in omega arith

@@ -1,5 +1,5 @@
 -- Which paths have documents among their literals.
-use Rattle.jsonb.proofs.Common.{◌≡◌, ℕ, ◌+◌, ◌<◌, Bool, true, false, List, [], ◌∷◌, ◌++◌, length, take, drop, get_or, suc, Option, Some, None, refl, sym, ap, ◌∙◌, inl, inr, ◌||◌, IfSome, map, drop-cons, take_more, take-append-drop, map-append, IsOutOfMemory, ◌or◌when◌, Error, InvalidJsonPath, is_document, HasNoDocument, step_has_document, steps_have_document, expression_has_document, has_document, IsOwningError, SameLiteral, SameStepBut, SameStepsBut, SameExpressionBut, SamePath, SameStep, SameExpression, json_path, container_with_none, Literal, raw, Step, filter, whole_expression, Steps, no_steps, step, Expression, paths, value, binary, unary, exists, steps_of, step_view, steps_view, Path}
+use Rattle.jsonb.proofs.Common.{◌≡◌, ℕ, ◌+◌, ◌<◌, Bool, true, false, List, [], ◌∷◌, ◌++◌, length, take, drop, get_or, suc, Option, refl, sym, ap, ◌∙◌, ◌||◌, IfSome, map, drop-cons, take_more, take-append-drop, map-append, IsOutOfMemory, ◌or◌when◌, Error, InvalidJsonPath, is_document, HasNoDocument, step_has_document, steps_have_document, expression_has_document, has_document, IsOwningError, SameLiteral, SameStepBut, SameStepsBut, SameExpressionBut, SamePath, SameStep, SameExpression, json_path, container_with_none, Literal, raw, Step, filter, whole_expression, Steps, no_steps, step, Expression, paths, value, binary, unary, exists, steps_of, step_view, steps_view, Path, arith}
 use Rattle.jsonb.specs.Values.{literal_value}
 use Rattle.jsonb.proofs.EqualPrinted.{read_equals_itself}
 
@@ -9,8 +9,7 @@ document_equals_nothing document l h = let e = container_with_none (literal_valu
 -- ---- what equals itself has none
 
 literal_none : (l : Literal) → SameLiteral l l → is_document l ≡ false
-literal_none (raw document) h = cc
-literal_none _ h = refl
+literal_none l h = grind arith
 
 abbrev NoDocument : Literal → Literal → Type 0
 NoDocument l m = is_document l ≡ false
@@ -33,8 +32,7 @@ mutual
   expression_none (exists ss) h = steps_none ss h
 
 none_of : (o : Option (List Step)) → IfSome o (λ p. SamePath p p) → IfSome o HasNoDocument
-none_of (Some p) h = steps_none (steps_of p) h
-none_of None h = tt
+none_of o h = grind (arith, steps_none)
 
 pub read_has_none : (text : List ℕ) → IfSome (json_path text) HasNoDocument
 read_has_none text = none_of (json_path text) (read_equals_itself text)
@@ -42,12 +40,10 @@ read_has_none text = none_of (json_path text) (read_equals_itself text)
 -- ---- the test of a path is right
 
 pub not_first : (a b : Bool) → a || b ≡ false → a ≡ false
-not_first true b h = h
-not_first false b h = refl
+not_first a b h = grind arith
 
 pub not_second : (a b : Bool) → a || b ≡ false → b ≡ false
-not_second true b h = cc
-not_second false b h = h
+not_second a b h = grind arith
 
 mutual
   step_tested : (s : Step) → SameStepBut NoDocument s s → step_has_document s ≡ false
@@ -96,36 +92,27 @@ alone_tested s h = step_tested s h.0
 -- the errors of a path by its test, and by its literals
 pub refused_path : (p : List Step) (e : Error) → IsOwningError (has_document p) e
     → (IsOutOfMemory or InvalidJsonPath when (¬ HasNoDocument p)) e
-refused_path p e (inl memory) = inl memory
-refused_path p e (inr other) = inr (other.0, λ h. let none = steps_tested (steps_of p) h in cc)
+refused_path p e h = grind (arith, steps_tested)
 
 pub refused_alone : (s : Step) (e : Error) → IsOwningError (step_has_document s) e
     → (IsOutOfMemory or InvalidJsonPath when (¬ HasNoDocument (s ∷ []))) e
-refused_alone s e (inl memory) = inl memory
-refused_alone s e (inr other) = inr (other.0, λ h. let none = step_tested s h.0 in cc)
+refused_alone s e h = grind (arith, step_tested)
 
 pub tested_alone : (s : Step) (e : Error) → (IsOutOfMemory or InvalidJsonPath when (¬ HasNoDocument (s ∷ []))) e
     → IsOwningError (step_has_document s) e
-tested_alone s e (inl memory) = inl memory
-tested_alone s e (inr other) = inr (other.0, go (step_has_document s) refl) where
-  go : (b : Bool) → step_has_document s ≡ b → b ≡ true
-  go true h = refl
-  go false h = absurd (other.1 (alone_without s h))
+tested_alone s e h = grind (arith, alone_without)
 
 -- ---- lists of steps
 
 pub or_assoc : (a b c : Bool) → a || (b || c) ≡ (a || b) || c
-or_assoc true b c = refl
-or_assoc false b c = refl
+or_assoc a b c = grind arith
 
 pub or_true : (a : Bool) → a || true ≡ true
-or_true true = refl
-or_true false = refl
+or_true a = grind arith
 
 pub has_document-append : (ss ts : List Step) → has_document (ss ++ ts) ≡ has_document ss || has_document ts
 has_document-append [] ts = refl
-has_document-append (s ∷ ss) ts = ap (λ b. step_has_document s || b) (has_document-append ss ts)
-    ∙ or_assoc (step_has_document s) (has_document ss) (has_document ts)
+has_document-append (s ∷ ss) ts = grind (arith, (has_document-append ss ts), or_assoc)
 
 -- one more step without
 pub none_more : (xs : List Path) (i : ℕ) (s : Path) → i < length xs → s ≡ get_or xs i s → step_has_document (step_view s) ≡ false →
@@ -156,5 +143,4 @@ some_at xs i s short is some =
 
 pub refused_at : (xs : List Path) (i : ℕ) (s : Path) (e : Error) → i < length xs → s ≡ get_or xs i s → IsOwningError (step_has_document (step_view s)) e
     → IsOwningError (has_document (steps_view xs)) e
-refused_at xs i s e short is (inl memory) = inl memory
-refused_at xs i s e short is (inr p) = inr (p.0, some_at xs i s short is p.1)
+refused_at xs i s e short is h = grind (arith, some_at)

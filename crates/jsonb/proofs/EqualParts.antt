@@ -1,5 +1,5 @@
 -- Equality of the small parts of paths is equality of what they stand for.
-use Rattle.jsonb.proofs.Common.{◌≡◌, List, [], ◌∷◌, Bool, Some, None, Option, refl, ap, ap₂, ◌&&◌, nat_eq, Decides, option_eq, pointwise, same_true, true_same, place-same, entry-same, end-same, level-same, sign-same, is_same_place, is_same_entry, is_same_end, is_same_level, is_same_sign, Index, ArrayIndex, RecursiveLevelEnd, RecursiveLevel, BinaryOperator, UnaryOperator}
+use Rattle.jsonb.proofs.Common.{◌≡◌, List, [], ◌∷◌, Bool, Option, refl, ap, ap₂, ◌&&◌, nat_eq, Decides, arith, option_eq, pointwise, same_true, true_same, place-same, entry-same, end-same, level-same, sign-same, is_same_place, is_same_entry, is_same_end, is_same_level, is_same_sign, Index, ArrayIndex, RecursiveLevelEnd, RecursiveLevel, BinaryOperator, UnaryOperator}
 use Rattle.jsonb.specs.declared.path.Index.TheVariants as index
 use Rattle.jsonb.specs.declared.path.ArrayIndex.TheVariants as array_index
 use Rattle.jsonb.specs.declared.path.RecursiveLevelEnd.TheVariants as level_end
@@ -14,9 +14,7 @@ use Rattle.jsonb.specs.contracts.path.UnaryOperatorPartialEq.TheImpl.{eq-value a
 
 module _ {A : Type 0} (E F : A → A → Bool) (same : (a b : A) → E a b ≡ F a b) where
   maybe-is : (o p : Option A) → option_eq E o p ≡ option_eq F o p
-  maybe-is None None = refl
-  maybe-is (Some a) (Some b) = same a b
-  maybe-is _ _ = refl
+  maybe-is o p = grind (arith, same)
 
   list-is : (xs ys : List A) → pointwise E xs ys ≡ pointwise F xs ys
   list-is [] [] = refl
@@ -26,17 +24,13 @@ module _ {A : Type 0} (E F : A → A → Bool) (same : (a b : A) → E a b ≡ F
 -- ---- places, entries and levels
 
 index-is : (a b : Index) → index_equal.it a b ≡ is_same_place a b
-index-is (index.Index i) (index.Index j) = refl
-index-is (index.LastIndex i) (index.LastIndex j) = refl
-index-is _ _ = refl
+index-is a b = grind arith
 
 pub index-equal : (a b : Index) → Decides (index_equal.it a b) (a ≡ b)
 index-equal a b = rw (index-is a b) (place-same a b)
 
 array_index-is : (a b : ArrayIndex) → array_index_equal.it a b ≡ is_same_entry a b
-array_index-is (array_index.Index i) (array_index.Index j) = index-is i j
-array_index-is (array_index.Slice (i, k)) (array_index.Slice (j, l)) = ap₂ (λ a b. a && b) (index-is i j) (index-is k l)
-array_index-is _ _ = refl
+array_index-is a b = grind (arith, index-is)
 
 pub array_index-equal : (a b : ArrayIndex) → Decides (array_index_equal.it a b) (a ≡ b)
 array_index-equal a b = rw (array_index-is a b) (entry-same a b)
@@ -45,9 +39,7 @@ pub entries-is : (es fs : List ArrayIndex) → pointwise array_index_equal.it es
 entries-is es fs = list-is array_index_equal.it is_same_entry array_index-is es fs
 
 level_end-is : (a b : RecursiveLevelEnd) → level_end_equal.it a b ≡ is_same_end a b
-level_end-is (level_end.Index m) (level_end.Index n) = refl
-level_end-is level_end.Last level_end.Last = refl
-level_end-is _ _ = refl
+level_end-is a b = grind arith
 
 pub level_end-equal : (a b : RecursiveLevelEnd) → Decides (level_end_equal.it a b) (a ≡ b)
 level_end-equal a b = rw (level_end-is a b) (end-same a b)
@@ -64,9 +56,7 @@ pub operator-equal : (a b : BinaryOperator) → Decides (operator_equal.it a b) 
 operator-equal a b = (λ h. same_true the_operator tt a b h, λ e. true_same the_operator a b e)
 
 pub sign-is : (a b : UnaryOperator) → sign_equal.it a b ≡ is_same_sign a b
-sign-is sign.Add sign.Add = refl
-sign-is sign.Subtract sign.Subtract = refl
-sign-is _ _ = refl
+sign-is a b = grind arith
 
 pub sign-equal : (a b : UnaryOperator) → Decides (sign_equal.it a b) (a ≡ b)
 sign-equal a b = rw (sign-is a b) (sign-same a b)

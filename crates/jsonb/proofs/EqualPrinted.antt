@@ -1,9 +1,9 @@
 -- A JSON path that was read equals itself, and what its printed text reads as.
-use Rattle.jsonb.proofs.Common.{◌≡◌, ℕ, List, [], ◌∷◌, Bool, true, false, Option, Some, None, pos, negsuc, zero, suc, refl, ap, inl, inr, map, IfSome, IsSomeAnd, MatchBool, tied_itself, AllByRecursion, bool_cmp_total, nat_list_cmp_total, Number, int64, uint64, number_from, number_cmp, number_cmp_total, Int64, UInt64, SameLiteral, SameStepsBut, SamePath, SameStep, SameExpression, json_path, settled_literal, joins, path_text, Literal, boolean, number, string, Step, filter, whole_expression, Steps, no_steps, step, Expression, paths, value, binary, unary, exists, path-symmetric, path-transitive}
+use Rattle.jsonb.proofs.Common.{◌≡◌, ℕ, List, [], ◌∷◌, Bool, true, false, Some, pos, negsuc, zero, suc, refl, ap, inl, inr, map, IfSome, IsSomeAnd, MatchBool, tied_itself, bool_cmp_total, nat_list_cmp_total, Number, int64, uint64, number_from, number_cmp, number_cmp_total, Int64, UInt64, SameLiteral, SameStepsBut, SamePath, SameStep, SameExpression, json_path, settled_literal, SameButVariants, steps_of, joins, path_text, Literal, boolean, number, string, Step, filter, whole_expression, Steps, no_steps, step, Expression, paths, value, binary, unary, exists, path-symmetric, path-transitive}
 use Rattle.std.proofs.Common.{Equal}
-use Rattle.jsonb.proofs.SettledPaths.{settled_step, settled_steps, settled}
+use Rattle.jsonb.proofs.SettledPaths.{settled_step, settled_steps, settled, path_itself}
 use Rattle.jsonb.specs.PathTree.{null}
-use Rattle.jsonb.proofs.GrammarShape.{json_path_is_path}
+use Rattle.jsonb.proofs.GrammarShape.{if_read}
 use Rattle.jsonb.proofs.PathReadsBack.{path-text}
 use Rattle.jsonb.proofs.PathShape.{IsLiteral, IsInner, AreInner, IsBeginning, IsOperand, is_signed, IsPathStep, ArePathSteps, IsExistsPath, IsCondition, IsPath}
 
@@ -66,7 +66,7 @@ mutual
   condition-settled f (exists ss) h = exists-settled ss h
   condition-settled f e h = absurd h
 
-each-settled : (p : List Step) → AllByRecursion IsPathStep p → SamePath p (map settled_step p)
+each-settled : (p : List Step) → ArePathSteps (steps_of p) → SamePath p (map settled_step p)
 each-settled [] h = tt
 each-settled (s ∷ p) h = (step-settled s h.0, each-settled p h.1)
 
@@ -76,20 +76,19 @@ path-settled p (inr (inl (ss, is, each))) = rw is (refl, each-settled ss each)
 path-settled p (inr (inr each)) = each-settled p each
 
 pub read_equals_itself : (text : List ℕ) → IfSome (json_path text) (λ p. SamePath p p)
-read_equals_itself text = go (json_path text) refl where
-  go : (o : Option (List Step)) → json_path text ≡ o → IfSome o (λ p. SamePath p p)
-  go None e = tt
-  go (Some p) e =
-      let same = path-settled p (json_path_is_path text p e) in
-      path-transitive p (map settled_step p) p same (path-symmetric p (map settled_step p) same)
+read_equals_itself text = if_read (λ p. SamePath p p) (λ p shape.
+    let same = path-settled p shape in path-transitive p (map settled_step p) p same (path-symmetric p (map settled_step p) same)) text
 
 -- the printed text reads, as a path of the same parts
 abbrev pub PrintsAsEqual : List Step → Type 0
 PrintsAsEqual p = IsSomeAnd (json_path (path_text p)) (SamePath p)
 
 pub read_prints_as_equal : (text : List ℕ) → IfSome (json_path text) PrintsAsEqual
-read_prints_as_equal text = go (json_path text) refl where
-  go : (o : Option (List Step)) → json_path text ≡ o → IfSome o PrintsAsEqual
-  go None e = tt
-  go (Some p) e =
-      let shape = json_path_is_path text p e in rw (path-text p shape) (path-settled p shape)
+read_prints_as_equal text = if_read PrintsAsEqual (λ p shape. rw (path-text p shape) (path-settled p shape)) text
+
+-- the printed text reads, as a path that is the same except for variants
+abbrev ReadsBack : List Step → Type 0
+ReadsBack p = IsSomeAnd (json_path (path_text p)) (SameButVariants p)
+
+pub reads_back_if_read : (text : List ℕ) → IfSome (json_path text) ReadsBack
+reads_back_if_read text = if_read ReadsBack (λ p shape. rw (path-text p shape) (path_itself p)) text

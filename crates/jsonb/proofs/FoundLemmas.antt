@@ -1,5 +1,5 @@
 -- Items that are found in place.
-use Rattle.jsonb.proofs.Common.{◌≡◌, ℕ, List, [], ◌∷◌, map, Result, Ok, Err, inl, Vec, MatchResult, AllZip, Any, Refines, IsOutOfMemory, ◌or◌when◌, IsTooLarge, Form, Locates, Tree, Error, TooLarge, Spot, IsItemOf, IsMadeItem, IsNumberItem, FoundItem, At, MadeItem}
+use Rattle.jsonb.proofs.Common.{◌≡◌, ℕ, List, [], ◌∷◌, map, Result, Ok, Vec, MatchResult, AllZip, Any, Refines, IsOutOfMemory, ◌or◌when◌, IsTooLarge, Form, Locates, Tree, Error, TooLarge, Spot, IsItemOf, IsMadeItem, IsNumberItem, FoundItem, At, MadeItem, arith}
 use Rattle.std.specs.declared.alloc.Global.{Global}
 use Rattle.jsonb_doc.specs.declared.number.Number.{Number as CodeNumber}
 use Rattle.jsonb.specs.declared.selector.found.FoundItem.TheVariants.{Number}
@@ -20,8 +20,7 @@ numbers_are form document _ _ h = absurd h
 pub all_found : (form : Form) (document : List ℕ) (items : List FoundItem) (ts : List Tree) (r : Result (Vec FoundItem Global) Error)
     → MatchResult r (λ found. found.items ≡ items) IsOutOfMemory → AllZip (IsItemOf document form) items ts
     → Refines (λ v us. AllZip (IsItemOf document form) v.items us) (IsOutOfMemory or TooLarge when Any (IsTooLarge form) ts) r (Ok ts)
-all_found form document items ts (Ok found) is are = record { ok = rw is are; err = tt }
-all_found form document items ts (Err e) memory are = record { ok = tt; err = inl (inl memory) }
+all_found form document items ts r is are = grind arith
 
 -- the only item
 pub one_found : (form : Form) (document : List ℕ) (part : MadeItem) (ts : List Tree) (r : Result (Vec FoundItem Global) Error)
@@ -29,6 +28,4 @@ pub one_found : (form : Form) (document : List ℕ) (part : MadeItem) (ts : List
     → Refines (λ v us. AllZip (IsItemOf document form) v.items us) (IsOutOfMemory or TooLarge when Any (IsTooLarge form) (t ∷ [])) r (Ok (t ∷ [])))
     → AllZip (IsMadeItem form) (part ∷ []) ts
     → Refines (λ v us. AllZip (IsItemOf document form) v.items us) (IsOutOfMemory or TooLarge when Any (IsTooLarge form) ts) r (Ok ts)
-one_found form document part [] r by h = absurd h
-one_found form document part (t ∷ []) r by h = by t h.0
-one_found form document part (t ∷ u ∷ ts) r by h = absurd h.1
+one_found form document part ts r by h = grind arith

@@ -1,11 +1,10 @@
 -- What is open while an expression is read: each step of the reading keeps what the rules make of it.
-use Rattle.jsonb.proofs.Common.{◌≡◌, ℕ, ◌+◌, List, [], ◌∷◌, ◌++◌, length, Bool, true, false, Option, Some, None, Result, Ok, Err, IfOk, refl, sym, ap, ◌∙◌, arith, nat_eq, ◌==◌, fold, nat_tests, same_Some, Parsed, Rule, give, ◌>>=◌, ◌>>◌, parsed_map, bytes, literal, repeat, ws, past, is_space, ReadsSome, read_as, ConsumesInput, NeverGrows, some-then, some-no_more, repeat-goes, repeat-ends, behind, loop-goes, loop-ends, nothing, BinaryOp, binary, and_op, or_op, Expression, Step, root, exists, filter, paths, steps_of, whole_expression, spaced, atom_with, and_with, or_with, expression, joined_by, spaced_inner, spaced_operand, operator, path_with, path_step, path_root, operand, unary_operator, unary_atom, binary_atom, group_with, exists_with, front_steps, first_step, plain_path, root_expression, operand_steps, another_atom, another_and, expression_view, steps_view, joined_from, joined_view, joined_behind, partial_outcome, IsUnclosed, IsPartial, closed, filter_front, filter_step, steps_behind, opened_outcome, IsOpened, resumed, AreFrames, goes_in_filter, opening_outcome, as_path, Joined, PartialExpr, Opened, Opening}
-use Rattle.std.proofs.Common.{Bor}
-use Rattle.std.specs.Prelude.{option_and_then}
+use Rattle.jsonb.proofs.Common.{◌≡◌, ℕ, ◌+◌, List, [], ◌∷◌, ◌++◌, length, Bool, true, false, Option, Some, None, Result, Ok, Err, IfOk, refl, sym, ap, ◌∙◌, arith, nat_tests, Parsed, Rule, give, ◌>>=◌, ◌>>◌, literal, repeat, ws, ReadsSome, read_as, ConsumesInput, NeverGrows, some-no_more, repeat-goes, repeat-ends, behind, loop-goes, loop-ends, BinaryOp, binary, and_op, or_op, Expression, Step, exists, filter, paths, steps_of, spaced, atom_with, and_with, or_with, expression, spaced_inner, spaced_operand, path_with, path_step, path_root, operand, unary_operator, unary_atom, binary_atom, group_with, exists_with, front_steps, first_step, plain_path, root_expression, operand_steps, another_atom, another_and, expression_view, steps_view, joined_from, joined_view, joined_behind, partial_outcome, IsUnclosed, IsPartial, closed, filter_front, filter_step, steps_behind, opened_outcome, IsOpened, resumed, AreFrames, goes_in_filter, opening_outcome, as_path, Joined, PartialExpr, Opened, Opening, Bor}
 use Rattle.jsonb.specs.declared.path.Expr.{Expr as CodeExpr}
 use Rattle.jsonb.specs.Private.Frames.{operation}
 use Rattle.jsonb.specs.declared.parser.opening.Opened.TheVariants as opened
 use Rattle.jsonb.specs.declared.parser.expression.Frame.{Frame}
+use Rattle.jsonb.proofs.InnerReadsSome.{begun}
 use Rattle.jsonb.proofs.ExpressionReadsSome.{some-atom, some-and, some-path, some-and_separator, some-or_separator, grows-nested_or, some-nested_or}
 use Rattle.jsonb.proofs.Bounds.{expression-rule, path_step-rule}
 pub use Rattle.jsonb_doc.proofs.Basics.{empty_of as none_open}
@@ -15,12 +14,10 @@ unfolding expression
 grows-expression f input e rest reads = grows-nested_or (length input + 1) f input e rest reads
 
 some-another_atom : (f : Bool) → ReadsSome (another_atom expression f)
-some-another_atom f = some-then (spaced (literal "&&")) _ some-and_separator (λ _. some-no_more (atom_with expression f)
-    (some-atom expression grows-expression f))
+some-another_atom f = begun some-and_separator (λ _. some-no_more (atom_with expression f) (some-atom expression grows-expression f))
 
 some-another_and : (f : Bool) → ReadsSome (another_and expression f)
-some-another_and f = some-then (spaced (literal "||")) _ some-or_separator (λ _. some-no_more (and_with expression f)
-    (some-and expression grows-expression f))
+some-another_and f = begun some-or_separator (λ _. some-no_more (and_with expression f) (some-and expression grows-expression f))
 
 -- ---- conditions
 
@@ -38,50 +35,29 @@ join-next op separator member some j after reads = go (member after) refl where
   another : (separator >> member) j.before.now ≡ member after
   another = rw reads refl
 
-  folds : (e a : Expression) (o : Parsed (List Expression)) →
-      parsed_map (λ others. fold (λ left right. binary op left right) (binary op e a) others) o
-      ≡ parsed_map (λ others. fold (λ left right. binary op left right) e others) (parsed_map (λ others. a ∷ others) o)
-  folds e a None = refl
-  folds e a (Some p) = refl
-
   go : (o : Parsed Expression) → member after ≡ o → joined_behind op (separator >> member) (Some j) o
       ≡ joined_from op (separator >> member) (Some (expression_view j.left.value, j.before.now))
   go None at = rw (repeat-ends (separator >> member) j.before.now (another ∙ at)) refl
-  go (Some p) at = rw (repeat-goes (separator >> member) j.before.now p.0 p.1 (another ∙ at) (some j.before.now p.0 p.1 (another ∙ at)))
-      (folds (expression_view j.left.value) p.0 (repeat (separator >> member) p.1))
+  go (Some p) at = rw (repeat-goes (separator >> member) j.before.now p.0 p.1 (another ∙ at) (some j.before.now p.0 p.1 (another ∙ at))) (grind arith)
 
 behind-none : (op : BinaryOp) (another : Rule Expression) (o : Parsed Expression) → joined_behind op another None o ≡ joined_from op another o
 behind-none op another None = refl
 behind-none op another (Some p) = refl
 
 -- a rule's list of conditions, joined as it is read
-joined-is : (op : BinaryOp) (another : Rule Expression) (o : Parsed Expression) → joined_from op another o ≡
-    option_and_then (λ (p : List Expression × List ℕ). Some (joined_by op p.0, p.1))
-    (option_and_then (λ (q : Expression × List ℕ). option_and_then (λ (p : List Expression × List ℕ). Some (q.0 ∷ p.0, p.1)) (repeat another q.1)) o)
-joined-is op another None = refl
-joined-is op another (Some q) = more (repeat another q.1) where
-  more : (o : Parsed (List Expression)) → parsed_map (λ others. fold (λ left right. binary op left right) q.0 others) o ≡
-      option_and_then (λ (p : List Expression × List ℕ). Some (joined_by op p.0, p.1))
-      (option_and_then (λ (p : List Expression × List ℕ). Some (q.0 ∷ p.0, p.1)) o)
-  more None = refl
-  more (Some p) = refl
-
 and-is : (f : Bool) (input : List ℕ) → joined_from and_op (another_atom expression f) (atom_with expression f input) ≡ and_with expression f input
 unfolding and_with
-and-is f input = joined-is and_op (another_atom expression f) (atom_with expression f input)
+and-is f input = grind arith
 
 or-is : (f : Bool) (input : List ℕ) → joined_from or_op (another_and expression f) (and_with expression f input) ≡ or_with expression f input
 unfolding or_with
-or-is f input = joined-is or_op (another_and expression f) (and_with expression f input)
+or-is f input = grind arith
 
 -- an expression before its first condition
 pub partial-begins : (f : Bool) (input : List ℕ) →
     partial_outcome (record { is_in_filter = f; all = None; any = None }) (atom_with expression f input) ≡ expression f input
 unfolding partial_outcome
-partial-begins f input =
-    behind-none or_op (another_and expression f) (joined_behind and_op (another_atom expression f) None (atom_with expression f input))
-    ∙ ap (joined_from or_op (another_and expression f)) (behind-none and_op (another_atom expression f) (atom_with expression f input) ∙ and-is f input)
-    ∙ or-is f input ∙ sym (expression-rule f input)
+partial-begins f input = grind (arith, behind-none, and-is, or-is, expression-rule)
 
 -- an expression whose conditions joined by `&&` are these
 abbrev pub with_all : PartialExpr → Joined → PartialExpr
@@ -94,55 +70,30 @@ pub and-goes : (l : PartialExpr) (e : Expression) (j : Joined) (after : List ℕ
     spaced (literal "&&") j.before.now ≡ Some (tt, after) →
     partial_outcome (with_all l j) (atom_with expression l.is_in_filter after) ≡ partial_outcome l (Some (e, j.before.now))
 unfolding partial_outcome
-and-goes l e j after left reads =
-    ap (joined_behind or_op (another_and expression l.is_in_filter) l.any)
-    (join-next and_op (spaced (literal "&&")) (atom_with expression l.is_in_filter) (some-another_atom l.is_in_filter) j after reads
-    ∙ ap (λ (x : Expression). joined_from and_op (another_atom expression l.is_in_filter) (Some (x, j.before.now))) left)
+and-goes l e j after left reads = grind (arith, some-another_atom, join-next)
 
 or-here : (l : PartialExpr) (e : Expression) (input : List ℕ) → spaced (literal "&&") input ≡ None →
     partial_outcome l (Some (e, input)) ≡ joined_from or_op (another_and expression l.is_in_filter)
     (Some (joined_view or_op l.any (joined_view and_op l.all e), input))
 unfolding partial_outcome
-or-here l e input none =
-    ap (joined_behind or_op (another_and expression l.is_in_filter) l.any)
-    (join-ends and_op (spaced (literal "&&")) (atom_with expression l.is_in_filter) (joined_view and_op l.all e) input none)
+or-here l e input none = grind (arith, join-ends)
 
 pub or-goes : (l : PartialExpr) (e : Expression) (j : Joined) (after : List ℕ) →
     expression_view j.left.value ≡ joined_view or_op l.any (joined_view and_op l.all e) →
     spaced (literal "&&") j.before.now ≡ None → spaced (literal "||") j.before.now ≡ Some (tt, after) →
     partial_outcome (with_any l j) (atom_with expression l.is_in_filter after) ≡ partial_outcome l (Some (e, j.before.now))
 unfolding partial_outcome
-or-goes l e j after left none reads =
-    ap (joined_behind or_op (another_and expression l.is_in_filter) (Some j))
-    (behind-none and_op (another_atom expression l.is_in_filter) (atom_with expression l.is_in_filter after) ∙ and-is l.is_in_filter after)
-    ∙ join-next or_op (spaced (literal "||")) (and_with expression l.is_in_filter) (some-another_and l.is_in_filter) j after reads
-    ∙ ap (λ (x : Expression). joined_from or_op (another_and expression l.is_in_filter) (Some (x, j.before.now))) left
-    ∙ sym (or-here l e j.before.now none)
+or-goes l e j after left none reads = grind (arith, some-another_and, join-next, behind-none, and-is, or-here)
 
 pub partial-ends : (l : PartialExpr) (e : Expression) (input : List ℕ) → spaced (literal "&&") input ≡ None → spaced (literal "||") input ≡ None →
     Some (joined_view or_op l.any (joined_view and_op l.all e), input) ≡ partial_outcome l (Some (e, input))
-partial-ends l e input none none' =
-    sym (or-here l e input none
-    ∙ join-ends or_op (spaced (literal "||")) (and_with expression l.is_in_filter) (joined_view or_op l.any (joined_view and_op l.all e)) input none')
+partial-ends l e input none none' = grind (arith, join-ends, or-here)
 
 -- ---- ends of lists
 
--- what begins with one byte begins with no other
-one_front : (b c : ℕ) (front other input : List ℕ) (u : Unit {0}) (rest : List ℕ) → nat_eq b c ≡ false →
-    bytes (b ∷ front) input ≡ Some (u, rest) → bytes (c ∷ other) input ≡ None
-one_front b c front other [] u rest differs e = cc
-one_front b c front other (x ∷ input) u rest differs e = go (nat_eq b x) (nat_eq c x) refl refl e where
-  go : (s t : Bool) → nat_eq b x ≡ s → nat_eq c x ≡ t → bytes (b ∷ front) (x ∷ input) ≡ Some (u, rest) → bytes (c ∷ other) (x ∷ input) ≡ None
-  go false t at at' e' = absurd (nothing u rest (rw at at e'))
-  go true true at at' e' = grind (arith, nat_tests)
-  go true false at at' e' = rw at' refl
-
 pub filter-unclosed : (input after : List ℕ) → filter_front input ≡ Some (tt, after) → IsUnclosed input
 unfolding filter_front ws
-filter-unclosed input after e = go (bytes (63 ∷ []) (past is_space input)) refl e where
-  go : (o : Parsed (Unit {0})) → bytes (63 ∷ []) (past is_space input) ≡ o → filter_front input ≡ Some (tt, after) → IsUnclosed input
-  go None at e' = absurd (nothing tt after (rw at at e'))
-  go (Some p) at e' = rw (one_front 63 41 [] [] (past is_space input) p.0 p.1 refl at) refl
+filter-unclosed input after e = grind (arith, nat_tests)
 
 -- ---- what fails
 
@@ -150,19 +101,13 @@ filter-unclosed input after e = go (bytes (63 ∷ []) (past is_space input)) ref
 pub partial-ended-all : (l : PartialExpr) (j : Joined) → l.all ≡ Some j → spaced (literal "||") j.before.now ≡ None →
     partial_outcome l None ≡ Some (joined_view or_op l.any (expression_view j.left.value), j.before.now)
 unfolding partial_outcome
-partial-ended-all l j at none =
-    rw at (join-ends or_op (spaced (literal "||")) (and_with expression l.is_in_filter) (joined_view or_op l.any (expression_view j.left.value))
-    j.before.now none)
+partial-ended-all l j at none = grind (arith, join-ends)
 
 -- nothing is closed there
 pub unclosed-here : {A B : Type 0} (e : A) (input : List ℕ) (next : A → Rule B) → IsUnclosed input →
     (ws >>= λ _. literal ")" >>= λ _. next e) input ≡ None
 unfolding ws
-unclosed-here {A} {B} e input next none = go (bytes (41 ∷ []) (past is_space input)) refl none where
-  go : (o : Parsed (Unit {0})) → bytes (41 ∷ []) (past is_space input) ≡ o → IsUnclosed input →
-      (ws >>= λ _. literal ")" >>= λ _. next e) input ≡ None
-  go None at none' = rw at refl
-  go (Some p) at none' = absurd (nothing tt (past is_space p.1) (sym (rw at at none')))
+unclosed-here e input next none = grind (arith, nat_tests)
 
 partial-unclosed : (l : PartialExpr) → IsPartial l → closed (partial_outcome l None) ≡ None
 unfolding partial_outcome
@@ -198,17 +143,12 @@ frames-pop (first ∷ frames) frame are = let others = frames-pop frames frame a
 -- a failure goes through what is open
 pub failure-goes : (frames : List Frame) (frame : Frame) (l : PartialExpr) → IsPartial l → IsOpened frame.opened →
     resumed (frames ++ frame ∷ []) (partial_outcome l None) ≡ resumed frames (partial_outcome frame.partial None)
-failure-goes frames frame l is is' =
-    resumed-push frames frame (partial_outcome l None)
-    ∙ ap (λ (o : Parsed Expression). resumed frames (partial_outcome frame.partial o))
-    (opened-fails frame.opened (partial_outcome l None) is' (partial-unclosed l is))
+failure-goes frames frame l is is' = grind (arith, partial-unclosed, opened-fails, resumed-push)
 
 -- a frame is taken off, and the failure goes on through the others
 pub failure-passed : (frames others : List Frame) (frame : Frame) (l : PartialExpr) → frames ≡ others ++ frame ∷ [] → IsPartial l → AreFrames frames
     → (resumed others (partial_outcome frame.partial None) ≡ resumed frames (partial_outcome l None)) × AreFrames others × IsPartial frame.partial
-failure-passed frames others frame l whole is are =
-    let popped = frames-pop others frame (rw whole at are) in
-    (sym (failure-goes others frame l is popped.2) ∙ ap (λ (fs : List Frame). resumed fs (partial_outcome l None)) (sym whole), popped.0, popped.1)
+failure-passed frames others frame l whole is are = grind (arith, frames-pop, failure-goes, whole)
 
 -- ---- the end of parentheses
 
@@ -239,36 +179,11 @@ without_bound front front' input input' same = rw path_step-is at same
 pub step-is_filter : (input inside : List ℕ) → spaced_inner input ≡ None → filter_front input ≡ Some (tt, inside) →
     path_with expression input ≡ filter_step (expression true inside)
 unfolding path_with group_with filter_front ws
-step-is_filter input inside none front = first (bytes (63 ∷ []) (past is_space input)) refl front where
-  same : (o : Parsed Expression) → option_and_then {U = Step × List ℕ} (λ (p : Step × List ℕ). Some (p.0, past is_space p.1))
-      (option_and_then {U = Step × List ℕ} (λ (p : Expression × List ℕ). Some (filter p.0, p.1)) o)
-      ≡ option_and_then {U = Step × List ℕ} (λ (p : Expression × List ℕ). Some (filter p.0, past is_space p.1)) o
-  same None = refl
-  same (Some p) = refl
-
-  second : (p : Unit {0} × List ℕ) → bytes (63 ∷ []) (past is_space input) ≡ Some p → (o : Parsed (Unit {0})) → bytes (40 ∷ []) (past is_space p.1) ≡ o
-      → filter_front input ≡ Some (tt, inside) → path_with expression input ≡ filter_step (expression true inside)
-  second p at None at' e = absurd (nothing tt inside (rw (at, at') at e))
-  second p at (Some q) at' e =
-      let here : past is_space q.1 ≡ inside = ap (λ (r : Unit {0} × List ℕ). r.1) (same_Some (tt, past is_space q.1) (tt, inside) (rw (at, at') at e)) in
-      rw (none, at, at', here) (same (closed (expression true inside)))
-
-  first : (o : Parsed (Unit {0})) → bytes (63 ∷ []) (past is_space input) ≡ o → filter_front input ≡ Some (tt, inside) →
-      path_with expression input ≡ filter_step (expression true inside)
-  first None at e = absurd (nothing tt inside (rw at at e))
-  first (Some p) at e = second p at (bytes (40 ∷ []) (past is_space p.1)) refl e
+step-is_filter input inside none front = grind arith
 
 pub no_step : (input : List ℕ) → spaced_inner input ≡ None → filter_front input ≡ None → path_with expression input ≡ None
 unfolding path_with group_with filter_front ws
-no_step input none front = first (bytes (63 ∷ []) (past is_space input)) refl front where
-  second : (p : Unit {0} × List ℕ) → bytes (63 ∷ []) (past is_space input) ≡ Some p → (o : Parsed (Unit {0})) → bytes (40 ∷ []) (past is_space p.1) ≡ o
-      → filter_front input ≡ None → path_with expression input ≡ None
-  second p at None at' e = rw (none, at, at') refl
-  second p at (Some q) at' e = absurd (nothing tt (past is_space q.1) (sym (rw (at, at') at e)))
-
-  first : (o : Parsed (Unit {0})) → bytes (63 ∷ []) (past is_space input) ≡ o → filter_front input ≡ None → path_with expression input ≡ None
-  first None at e = rw (none, at) refl
-  first (Some p) at e = second p at (bytes (40 ∷ []) (past is_space p.1)) refl e
+no_step input none front = grind arith
 
 -- the steps up to a filter, and what that makes of its inside
 pub steps-open : (steps : List Step) (input inside : List ℕ) → spaced_inner input ≡ None → filter_front input ≡ Some (tt, inside) →
@@ -282,24 +197,23 @@ pub steps-end : (steps : List Step) (input : List ℕ) → spaced_inner input �
     behind steps (repeat (path_with expression) input) ≡ Some (steps, input)
 steps-end steps input none front = loop-ends (path_with expression) steps input _ (no_step input none front) refl
 
+-- a plain step is a step
+pub inner-is_step : (input : List ℕ) (p : Step × List ℕ) → spaced_inner input ≡ Some p → path_step input ≡ Some p
+unfolding path_step path_with
+inner-is_step input p e = rw e refl
+
 -- ---- the front of a path
+
+pub path-begins : (input : List ℕ) (front : List Step) (rest : List ℕ) → Some (front, rest) ≡ front_steps input →
+    behind front (repeat path_step rest) ≡ plain_path input
+unfolding plain_path
+path-begins input front rest e = grind arith
 
 -- the root alone, and the steps after it
 pub root-begins : (input : List ℕ) (s : Step) (rest : List ℕ) → Some (s, rest) ≡ path_root false input →
     behind (s ∷ []) (repeat path_step rest) ≡ plain_path input
 unfolding path_root plain_path front_steps first_step
-root-begins input s rest e = go (literal "$" input) refl e where
-  more : (o : Parsed (List Step)) → behind (root ∷ []) o ≡ option_and_then (λ (p : List Step × List ℕ). Some ((root ∷ []) ++ p.0, p.1)) o
-  more None = refl
-  more (Some p) = refl
-
-  go : (o : Parsed (Unit {0})) → literal "$" input ≡ o → Some (s, rest) ≡ path_root false input → behind (s ∷ []) (repeat path_step rest) ≡ plain_path input
-  go None at e' = absurd (nothing s rest (sym (rw at at e')))
-  go (Some p) at e' =
-      let same = same_Some (s, rest) (root, p.1) (rw at at e') in
-      let step : s ≡ root = ap (λ (r : Step × List ℕ). r.0) same in
-      let place : rest ≡ p.1 = ap (λ (r : Step × List ℕ). r.1) same in
-      rw (at, step, place) (more (repeat path_step p.1))
+root-begins input s rest e = grind arith
 
 ws-dollar : (tail : List ℕ) → ws (36 ∷ tail) ≡ Some (tt, 36 ∷ tail)
 unfolding ws
@@ -307,98 +221,44 @@ ws-dollar tail = refl
 
 dollar : (input : List ℕ) (p : List Step × List ℕ) → operand_steps false input ≡ Some p → (tail : List ℕ) × (input ≡ 36 ∷ tail)
 unfolding path_root
-dollar [] p e = cc
-dollar (b ∷ input) p e = go (36 == b) refl where
-  go : (t : Bool) → (36 == b) ≡ t → (tail : List ℕ) × (b ∷ input ≡ 36 ∷ tail)
-  go true at = let same : b ≡ 36 = grind (arith, nat_tests) in (input, rw same refl)
-  go false at = absurd (nothing p.0 p.1 (rw at at e))
-
-binary-of : (f : Bool) (input : List ℕ) → binary_atom f input ≡ option_and_then {U = Expression × List ℕ} (λ (p : Expression × List ℕ).
-    option_and_then {U = Expression × List ℕ} (λ (q : (BinaryOp × Expression) × List ℕ). Some (binary q.0.0 p.0 q.0.1, q.1)) (operation f p.1))
-    (spaced_operand f input)
-unfolding binary_atom operation
-binary-of f input = go (spaced_operand f input) where
-  third : (p : Expression × List ℕ) (op : BinaryOp) (o : Parsed Expression) →
-      option_and_then {U = Expression × List ℕ} (λ (r : Expression × List ℕ). Some (binary op p.0 r.0, r.1)) o
-      ≡ option_and_then {U = Expression × List ℕ} (λ (q : (BinaryOp × Expression) × List ℕ). Some (binary q.0.0 p.0 q.0.1, q.1))
-      (option_and_then {U = (BinaryOp × Expression) × List ℕ} (λ (r : Expression × List ℕ). Some ((op, r.0), r.1)) o)
-  third p op None = refl
-  third p op (Some r) = refl
-
-  second : (p : Expression × List ℕ) (o : Parsed BinaryOp) →
-      option_and_then {U = Expression × List ℕ}
-      (λ (q : BinaryOp × List ℕ). option_and_then {U = Expression × List ℕ} (λ (r : Expression × List ℕ). Some (binary q.0 p.0 r.0, r.1))
-      (spaced_operand f q.1)) o
-      ≡ option_and_then {U = Expression × List ℕ} (λ (q : (BinaryOp × Expression) × List ℕ). Some (binary q.0.0 p.0 q.0.1, q.1))
-      (option_and_then {U = (BinaryOp × Expression) × List ℕ} (λ (q : BinaryOp × List ℕ).
-      option_and_then {U = (BinaryOp × Expression) × List ℕ} (λ (r : Expression × List ℕ). Some ((q.0, r.0), r.1)) (spaced_operand f q.1)) o)
-  second p None = refl
-  second p (Some q) = third p q.0 (spaced_operand f q.1)
-
-  go : (o : Parsed Expression) → option_and_then {U = Expression × List ℕ}
-      (λ (p : Expression × List ℕ). (operator >>= λ op. spaced_operand f >>= λ right. give (binary op p.0 right)) p.1) o
-      ≡ option_and_then {U = Expression × List ℕ} (λ (p : Expression × List ℕ).
-      option_and_then {U = Expression × List ℕ} (λ (q : (BinaryOp × Expression) × List ℕ). Some (binary q.0.0 p.0 q.0.1, q.1))
-      ((operator >>= λ op. spaced_operand f >>= λ right.
-      give (op, right)) p.1)) o
-  go None = refl
-  go (Some p) = second p (operator p.1)
+dollar input p e = grind (arith, nat_tests)
 
 module _ (tail : List ℕ) (ss : List Step) (rest here : List ℕ) (reads : operand_steps false (36 ∷ tail) ≡ Some (ss, rest))
     (space : ws rest ≡ Some (tt, here)) where
-  first_operand : spaced_operand false (36 ∷ tail) ≡ Some (paths (steps_of ss), here)
-  unfolding spaced_operand operand
-  first_operand = rw (ws-dollar tail, reads, space) refl
-
   atom-some : (op : BinaryOp) (e : Expression) (after : List ℕ) → operation false here ≡ Some ((op, e), after) →
       atom_with expression false (36 ∷ tail) ≡ Some (binary op (paths (steps_of ss)) e, after)
-  unfolding atom_with unary_atom unary_operator
-  atom-some op e after is =
-      let second : binary_atom false (36 ∷ tail) ≡ Some (binary op (paths (steps_of ss)) e, after) = binary-of false (36 ∷ tail) ∙
-      (rw (first_operand, is) refl) in
-      rw second refl
+  unfolding atom_with unary_atom unary_operator binary_atom operation spaced_operand operand ws
+  atom-some op e after is = grind arith
 
   atom-none : operation false here ≡ None → atom_with expression false (36 ∷ tail) ≡ None
-  unfolding atom_with unary_atom unary_operator group_with exists_with
-  atom-none none =
-      let second : binary_atom false (36 ∷ tail) ≡ None = binary-of false (36 ∷ tail) ∙ (rw (first_operand, none) refl) in
-      rw second refl
+  unfolding atom_with unary_atom unary_operator group_with exists_with binary_atom operation spaced_operand operand ws
+  atom-none none = grind arith
+
+whole : (input here : List ℕ) → ws input ≡ Some (tt, here) → as_path (expression false here) ≡ root_expression input
+unfolding root_expression
+whole input here space = grind arith
 
 -- an expression whose first atom this is
 pub front-is : (input here : List ℕ) (o : Parsed Expression) → ws input ≡ Some (tt, here) → o ≡ atom_with expression false here →
     as_path (partial_outcome (record { is_in_filter = false; all = None; any = None }) o) ≡ root_expression input
-unfolding root_expression
-front-is input here o space is =
-    ap (λ (x : Parsed Expression). as_path (partial_outcome (record { is_in_filter = false; all = None; any = None }) x)) is
-    ∙ ap as_path (partial-begins false here) ∙ whole (expression false here) refl where
-      whole : (x : Parsed Expression) → expression false here ≡ x → as_path x ≡ root_expression input
-      whole None at = rw (space, at) refl
-      whole (Some p) at = rw (space, at) (inner (ws p.1)) where
-        inner : (y : Parsed (Unit {0})) → option_and_then {U = List Step × List ℕ} (λ (q : Unit {0} × List ℕ). Some (whole_expression p.0 ∷ [], q.1)) y
-            ≡ option_and_then {U = List Step × List ℕ} (λ (r : Expression × List ℕ). Some (whole_expression r.0 ∷ [], r.1))
-            (option_and_then {U = Expression × List ℕ} (λ (q : Unit {0} × List ℕ). Some (p.0, q.1)) y)
-        inner None = refl
-        inner (Some q) = refl
+front-is input here o space is = grind (arith, partial-begins, whole)
 
 -- steps, and an operation on them
 pub front-operation : (input rest here : List ℕ) (ss : List Step) (op : BinaryOp) (e : Expression) (after : List ℕ) →
     operand_steps false input ≡ Some (ss, rest) → ws rest ≡ Some (tt, here) → operation false here ≡ Some ((op, e), after) →
     as_path (partial_outcome (record { is_in_filter = false; all = None; any = None }) (Some (binary op (paths (steps_of ss)) e, after)))
     ≡ root_expression input
-front-operation input rest here ss op e after reads space is = go (dollar input (ss, rest) reads) where
-  go : (tail : List ℕ) × (input ≡ 36 ∷ tail) → as_path (partial_outcome (record { is_in_filter = false; all = None; any = None })
-      (Some (binary op (paths (steps_of ss)) e, after))) ≡ root_expression input
-  go d = rw (sym d.1) at (front-is (36 ∷ d.0) (36 ∷ d.0) _ (ws-dollar d.0) (sym (atom-some d.0 ss rest here (rw d.1 at reads)
-      space op e after is)))
+front-operation input rest here ss op e after reads space is =
+    let d = dollar input (ss, rest) reads in
+    rw (sym d.1) at (front-is (36 ∷ d.0) (36 ∷ d.0) _ (ws-dollar d.0) (sym (atom-some d.0 ss rest here (rw d.1 at reads) space op e after is)))
 
 -- steps alone
 pub front-steps : (input rest here : List ℕ) (ss : List Step) → operand_steps false input ≡ Some (ss, rest) → ws rest ≡ Some (tt, here) →
     operation false here ≡ None → root_expression input ≡ None
 unfolding partial_outcome
-front-steps input rest here ss reads space none = go (dollar input (ss, rest) reads) where
-  go : (tail : List ℕ) × (input ≡ 36 ∷ tail) → root_expression input ≡ None
-  go d = rw (sym d.1) at (sym (front-is (36 ∷ d.0) (36 ∷ d.0) None (ws-dollar d.0) (sym (atom-none d.0 ss rest here (rw d.1 at reads)
-      space none))))
+front-steps input rest here ss reads space none =
+    let d = dollar input (ss, rest) reads in
+    rw (sym d.1) at (sym (front-is (36 ∷ d.0) (36 ∷ d.0) None (ws-dollar d.0) (sym (atom-none d.0 ss rest here (rw d.1 at reads) space none))))
 
 -- ---- the loop over what is open
 
@@ -412,12 +272,7 @@ pub inside-goes : (frames new : List Frame) (frame : Frame) (l : PartialExpr) (f
     opening_outcome f opening ≡ atom_with expression f inside →
     resumed new (partial_outcome l (opening_outcome l.is_in_filter opening)) ≡ resumed frames (partial_outcome frame.partial
     (opened_outcome frame.opened (expression (goes_in_filter frame.opened frame.partial.is_in_filter) inside)))
-inside-goes frames new frame l f inside opening pushed flag same is =
-    ap (λ (fs : List Frame). resumed fs (partial_outcome l (opening_outcome l.is_in_filter opening))) pushed
-    ∙ ap (λ (m : PartialExpr). resumed (frames ++ frame ∷ []) (partial_outcome m (opening_outcome m.is_in_filter opening))) same
-    ∙ resumed-push frames frame _
-    ∙ ap (λ (o : Parsed Expression). resumed frames (partial_outcome frame.partial (opened_outcome frame.opened o)))
-    (ap (partial_outcome (record { is_in_filter = f; all = None; any = None })) is ∙ partial-begins f inside ∙ ap (λ (g : Bool). expression g inside) flag)
+inside-goes frames new frame l f inside opening pushed flag same is = grind (arith, partial-begins, resumed-push)
 
 pub shorter-expression : (f : Bool) → ReadsSome (expression f)
 unfolding expression

@@ -1,6 +1,5 @@
 -- Rows of the JSON path grammar and of printed paths, computed from the definitions alone.
-use Rattle.jsonb.proofs.Common.{ℕ, List, [], ◌∷◌, Option, Some, None, refl, codes, negsuc, option_map, digits, is_utf8, chars, encode, up_to, repeat, ws, natural, natural_below, sign, integer, integer_within, four_hex_digits, code_unit, unicode_escape, escape, unit, units, name, quoted, Int64, UInt64, Step, root, value, binary, eq, number, whole_expression, dot_field, place, entry, levels, field, entries, wildcard, named_field, bracket_field, inner, spaced_inner, path_root, literal_value, operand, spaced_operand, operator, arithmetic_operator, unary_operator, unary_atom, binary_atom, path_with, group_with, exists_with, atom_with, and_with, or_with, nested_or, expression, root_expression, first_step, front_steps, path_step, plain_path, json_path, path_text, AreRows}
-use Rattle.jsonb_keypath.specs.Tokens.{text}
+use Rattle.jsonb.proofs.Common.{ℕ, List, [], ◌∷◌, Option, Some, None, refl, codes, negsuc, option_map, digits, is_utf8, chars, encode, up_to, repeat, ws, natural, natural_below, sign, integer, integer_within, four_hex_digits, code_unit, unicode_escape, escape, unit, units, name, quoted, Int64, UInt64, Step, root, value, binary, eq, number, whole_expression, dot_field, place, entry, levels, field, entries, wildcard, named_field, bracket_field, inner, spaced_inner, path_root, literal_value, operand, spaced_operand, operator, arithmetic_operator, unary_operator, unary_atom, binary_atom, path_with, group_with, exists_with, atom_with, and_with, or_with, nested_or, expression, root_expression, first_step, front_steps, path_step, plain_path, json_path, path_text, AreRows, text}
 
 -- the steps of the text, if it is a path; `unfolding read` opens all that it takes
 unfoldable pub read : List ℕ → Option (List Step)

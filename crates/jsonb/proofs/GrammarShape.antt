@@ -1,9 +1,10 @@
 -- What the grammar makes is a path as `IsPath` says.
-use Rattle.jsonb.proofs.Common.{◌≡◌, ℕ, zero, suc, ◌+◌, ◌<◌, ◌^◌, List, [], ◌∷◌, ◌++◌, length, Bool, true, false, Some, None, refl, sym, ◌∙◌, ap, subst, arith, ◌⊎◌, inl, inr, ℤ, pos, neg_ℤ, nat_lt, ◌==◌, ◌||◌, fold, if◌then◌else◌, option_and_then, option_or, is_ascii_digit, same_Some, nat_tests, Decides-ltb, Decides-eqb, AllByRecursion, with_sign, Parsed, Rule, give, ◌>>=◌, ◌>>◌, ◌</>◌, optional, only_if, literal, list_of, ws, quoted, past, is_space, is_within, sign, natural, natural_below, integer, integer_within, begins, begins-excludes, is_sign, sign-none, natural-none, Yields, IsName, yields-give, yields-then, yields-behind, yields-choice, yields-repeat, yields-list_of, yields-integer_within, yields-natural_below, yields-name, yields-quoted, Int64, UInt64, LevelEnd, Entry, Levels, Literal, number, BinaryOp, and_op, or_op, eq, not_eq, lt, lte, gt, gte, starts_with_op, add, subtract, multiply, divide, modulo, Step, root, filter, Expression, paths, value, binary, steps_of, spaced, last_and, place, entry, level_end, levels, field, entries, wildcard, named_field, bracket_field, inner, spaced_inner, path_root, literal_value, operand, spaced_operand, operator, arithmetic_operator, unary_operator, unary_atom, binary_atom, joined_by, path_with, group_with, exists_with, atom_with, and_with, or_with, nested_or, expression, root_expression, first_step, front_steps, path_step, plain_path, json_path, joins, whole-some, String}
+use Rattle.jsonb.proofs.Common.{◌≡◌, ℕ, zero, suc, ◌+◌, ◌<◌, ◌^◌, List, [], ◌∷◌, ◌++◌, length, Bool, true, false, Option, Some, None, refl, sym, ◌∙◌, ap, subst, arith, inl, inr, ℤ, pos, neg_ℤ, ◌==◌, ◌||◌, fold, if◌then◌else◌, option_and_then, option_or, is_ascii_digit, same_Some, nat_tests, AllByRecursion, with_sign, Parsed, Rule, give, ◌>>=◌, ◌>>◌, ◌</>◌, optional, only_if, literal, list_of, ws, quoted, past, is_space, is_within, sign, natural, natural_below, natural_below-none, integer, integer_within, begins, nothing, Yields, IsName, yields-give, yields-then, yields-behind, yields-choice, yields-repeat, yields-list_of, yields-integer_within, yields-natural_below, yields-name, yields-quoted, Int64, UInt64, LevelEnd, Entry, Levels, Literal, number, BinaryOp, and_op, or_op, eq, not_eq, lt, lte, gt, gte, starts_with_op, add, subtract, multiply, divide, modulo, plus, minus, Step, filter, Expression, paths, value, binary, unary, steps_of, spaced, last_and, place, entry, level_end, levels, field, entries, wildcard, named_field, bracket_field, inner, spaced_inner, path_root, literal_value, operand, spaced_operand, operator, arithmetic_operator, unary_operator, unary_atom, binary_atom, joined_by, path_with, group_with, exists_with, atom_with, and_with, or_with, nested_or, expression, root_expression, first_step, front_steps, path_step, plain_path, json_path, joins, whole-some, IfSome, String}
+use Rattle.jsonb_keypath.proofs.ReadsLemmas.{parts}
 use Rattle.jsonb.specs.PathGrammar.{negated}
 use Rattle.jsonb.proofs.PathShape.{IsLevelEnd, IsIndex, IsPlace, IsEntry, AreLevels, IsLiteral, IsInner, AreInner, IsBeginning, IsOperand, is_signed, is_signed_literal, IsPathStep, ArePathSteps, IsExistsPath, IsCondition, IsPath}
-use Rattle.jsonb.proofs.InnerReadsBack.{past-stops, past-none, no_space, digit_is_no_space, spaced-reads}
-use Rattle.jsonb.proofs.OperandReadsBack.{is_path_root, path_root-none, literal-digits}
+use Rattle.jsonb.proofs.InnerReadsBack.{past-stops, past-none, spaced-reads}
+use Rattle.jsonb.proofs.OperandReadsBack.{path_root-none, literal-digits}
 
 -- ---- what a rule yields, by its parts
 
@@ -22,6 +23,9 @@ behind {Q = Q} rule k = yields-behind Q rule _ k
 
 spaced-yields : {A : Type 0} {P : A → Type 0} {rule : Rule A} → Yields P rule → Yields P (spaced rule)
 spaced-yields h = behind ws (λ _. followed h (λ a is. behind ws (λ _. given _ is)))
+
+optional-yields : {A : Type 0} {rule : Rule A} (P : Option A → Type 0) → P None → Yields (λ a. P (Some a)) rule → Yields P (optional rule)
+optional-yields P none h = either (followed h (λ a is. given _ is)) (given _ none)
 
 -- ---- steps without expressions
 
@@ -48,32 +52,33 @@ entry_is_entry =
     (λ _. followed place_is_place (λ last is'. given _ (is, is')))))))
     (followed place_is_place (λ p is. given _ is))
 
-abbrev IsEnd : LevelEnd → Type 0
-IsEnd end = IsLevelEnd (Some end)
-
-level_end_is_end : Yields IsEnd level_end
+level_end_is_end : Yields (λ (end : LevelEnd). IsLevelEnd (Some end)) level_end
 level_end_is_end =
     behind ws (λ _. behind _ (λ _. behind ws
     (λ _. either (followed (yields-natural_below (2 ^ 8)) (λ n is. given _ is)) (behind _ (λ _. given _ tt)))))
 
-optional_end_is_end : Yields IsLevelEnd (optional level_end)
-optional_end_is_end = either (followed level_end_is_end (λ end is. given _ is)) (given _ tt)
-
-abbrev IsLevels : Levels → Type 0
-IsLevels l = AreLevels (Some l)
-
-levels_are_levels : Yields IsLevels levels
+levels_are_levels : Yields (λ (l : Levels). AreLevels (Some l)) levels
 unfolding levels
 levels_are_levels =
-    behind _ (λ _. behind ws (λ _. followed (yields-natural_below (2 ^ 8)) (λ n is. followed optional_end_is_end
+    behind _ (λ _. behind ws (λ _. followed (yields-natural_below (2 ^ 8)) (λ n is. followed (optional-yields IsLevelEnd tt level_end_is_end)
     (λ end is_end. behind ws (λ _. behind _ (λ _. given _ (is, is_end)))))))
-
-optional_levels_are_levels : Yields AreLevels (optional levels)
-optional_levels_are_levels = either (followed levels_are_levels (λ l is. given _ is)) (given _ tt)
 
 field_is_name : Yields IsName field
 unfolding field
 field_is_name = either yields-quoted yields-name
+
+wildcard_is_inner : Yields IsInner wildcard
+unfolding wildcard
+wildcard_is_inner =
+    either (behind (literal ".**") (λ _. followed (optional-yields AreLevels tt levels_are_levels) (λ found are. given _ are)))
+    (either (behind (literal ".*") (λ _. given _ tt))
+    (behind (literal "[") (λ _. behind ws (λ _. behind (literal "*") (λ _. behind ws (λ _. behind (literal "]") (λ _. given _ tt)))))))
+
+named_field_is_inner : Yields IsInner named_field
+unfolding named_field
+named_field_is_inner =
+    either (followed (behind {Q = IsName} (literal ":") (λ _. field_is_name)) (λ text is. given _ is))
+    (followed (behind {Q = IsName} (literal ".") (λ _. field_is_name)) (λ text is. given _ is))
 
 abbrev AreEntries : List Entry → Type 0
 AreEntries es = (0 < length es) × AllByRecursion IsEntry es
@@ -84,33 +89,16 @@ entries_are_entries =
     behind _ (λ _. followed (yields-list_of IsEntry (spaced entry) (literal ",") (spaced-yields entry_is_entry))
     (λ es are. behind _ (λ _. given _ are)))
 
-wildcard_is_inner : Yields IsInner wildcard
-unfolding wildcard
-wildcard_is_inner =
-    either (behind (literal ".**") (λ _. followed optional_levels_are_levels (λ found are. given _ are)))
-    (either (behind (literal ".*") (λ _. given _ tt))
-    (behind (literal "[") (λ _. behind ws (λ _. behind (literal "*") (λ _. behind ws (λ _. behind (literal "]") (λ _. given _ tt)))))))
-
-named_field_is_inner : Yields IsInner named_field
-unfolding named_field
-named_field_is_inner =
-    either (followed (behind {Q = IsName} (literal ":") (λ _. field_is_name)) (λ text is. given _ is))
-    (followed (behind {Q = IsName} (literal ".") (λ _. field_is_name)) (λ text is. given _ is))
-
 bracket_field_is_inner : Yields IsInner bracket_field
 unfolding bracket_field
 bracket_field_is_inner =
     behind _ (λ _. behind ws (λ _. followed yields-quoted (λ text is. behind ws (λ _. behind _ (λ _. given _ is)))))
 
-inner_is_inner : Yields IsInner inner
-unfolding inner
-inner_is_inner =
-    either wildcard_is_inner (either named_field_is_inner
-    (either (followed entries_are_entries (λ es are. given _ are)) bracket_field_is_inner))
-
-spaced_inner_is_inner : Yields IsInner spaced_inner
-unfolding spaced_inner
-spaced_inner_is_inner = spaced-yields inner_is_inner
+inner_is_inner : Yields IsInner spaced_inner
+unfolding spaced_inner inner
+inner_is_inner = spaced-yields
+    (either wildcard_is_inner (either named_field_is_inner
+    (either (followed entries_are_entries (λ es are. given _ are)) bracket_field_is_inner)))
 
 -- ---- operands
 
@@ -136,7 +124,7 @@ unfolding operand
 operand_is_operand f =
     either
     (followed {P = λ (ss : List Step). IsOperand f (paths (steps_of ss))} (followed (path_root_is_beginning f) (λ first is.
-    followed (yields-repeat IsInner spaced_inner spaced_inner_is_inner) (λ others are. given _ (is, are_inner others are))))
+    followed (yields-repeat IsInner spaced_inner inner_is_inner) (λ others are. given _ (is, are_inner others are))))
     (λ ss is. given _ is))
     (followed literal_is_literal (λ l is. given _ is))
 
@@ -161,144 +149,41 @@ operator_compares =
 
 -- ---- the left side of a comparison has no sign
 
--- what a sequence that reads is made of
-inside_sequence : {A B : Type 0} (Q : Type 0) (rule : Rule A) (next : A → Rule B) (input : List ℕ) (b : B) (rest : List ℕ) →
-    (rule >>= next) input ≡ Some (b, rest) →
-    ((a : A) (middle : List ℕ) → rule input ≡ Some (a, middle) → next a middle ≡ Some (b, rest) → Q) → Q
-inside_sequence {A} {B} Q rule next input b rest e k = go (rule input) refl e where
-  go : (o : Parsed A) → rule input ≡ o → option_and_then (λ (p : A × List ℕ). next p.0 p.1) o ≡ Some (b, rest) → Q
-  go None at e' = cc
-  go (Some p) at e' = k p.0 p.1 at e'
-
-inside_choice : {A : Type 0} (Q : Type 0) (first second : Rule A) (input : List ℕ) (a : A) (rest : List ℕ) →
-    (first </> second) input ≡ Some (a, rest) →
-    (first input ≡ Some (a, rest) → Q) → (first input ≡ None → second input ≡ Some (a, rest) → Q) → Q
-inside_choice {A} Q first second input a rest e k l = go (first input) refl e where
-  go : (o : Parsed A) → first input ≡ o → option_or o (second input) ≡ Some (a, rest) → Q
-  go None at e' = l at e'
-  go (Some p) at e' = k (at ∙ e')
-
-natural_below-passes : (bound n : ℕ) (input rest : List ℕ) → natural input ≡ Some (n, rest) → nat_lt n bound ≡ true →
-    natural_below bound input ≡ Some (n, rest)
-unfolding natural_below
-natural_below-passes bound n input rest e h = rw (e, h) refl
-
-natural-begins : (input : List ℕ) (n : ℕ) (rest : List ℕ) → natural input ≡ Some (n, rest) → begins is_ascii_digit input ≡ true
-natural-begins input n rest e = go (begins is_ascii_digit input) refl where
-  go : (t : Bool) → begins is_ascii_digit input ≡ t → begins is_ascii_digit input ≡ true
-  go true h = h
-  go false h = cc (rw (natural-none input h) at e)
-
--- what a number of 64 bits with a sign is made of
-record SignedNumber (input : List ℕ) : Type 0 where
-  negative : Bool
-  digits : List ℕ
-  n : ℕ
-  rest : List ℕ
-  signs : sign input ≡ Some (negative, digits)
-  reads : natural digits ≡ Some (n, rest)
-  fits : is_within (2 ^ 63) (with_sign negative n) ≡ true
-
-only_if-tells : {A : Type 0} (test : Bool) (next : Rule A) (input : List ℕ) (a : A) (rest : List ℕ) →
-    (only_if test >> next) input ≡ Some (a, rest) → test ≡ true
-only_if-tells true next input a rest e = refl
-only_if-tells false next input a rest e = cc
-
-signed_number : (input : List ℕ) (z : ℤ) (rest : List ℕ) → integer_within (2 ^ 63) input ≡ Some (z, rest) → SignedNumber input
-unfolding integer_within integer
-signed_number input z rest e =
-    inside_sequence (SignedNumber input) integer _ input z rest e (λ y after read_y tested.
-    inside_sequence (SignedNumber input) sign _ input y after read_y (λ negative digits signs read_rest.
-    inside_sequence (SignedNumber input) natural _ digits y after read_rest (λ n rest' reads given.
-    let same : with_sign negative n ≡ y = ap (λ (p : ℤ × List ℕ). p.0) (same_Some (with_sign negative n, rest') (y, after) given) in
-    record {
-      negative = negative;
-      digits = digits;
-      n = n;
-      rest = rest';
-      signs = signs;
-      reads = reads;
-      fits = rw same (only_if-tells
-          (is_within (2 ^ 63) y) (give y) after z rest tested);
-    })))
-
-is_within-magnitude : (negative : Bool) (n : ℕ) → is_within (2 ^ 63) (with_sign negative n) ≡ true → nat_lt n (2 ^ 64) ≡ true
-is_within-magnitude false n h = (Decides-ltb n 18446744073709551616).1 (omega (arith, (Decides-ltb n 9223372036854775808).0 h))
-is_within-magnitude true zero h = refl
-is_within-magnitude true (suc n) h = (Decides-ltb (suc n) 18446744073709551616).1 (omega (arith, (Decides-ltb n 9223372036854775808).0 h))
-
--- digits are an operand
-spaced_operand-digits : (f : Bool) (input : List ℕ) (n : ℕ) (rest : List ℕ) → natural input ≡ Some (n, rest) → nat_lt n (2 ^ 64) ≡ true →
-    spaced_operand f input ≡ Some (value (number (UInt64 n)), past is_space rest)
-unfolding spaced_operand operand
-spaced_operand-digits f input n rest e fits =
-    let starts = natural-begins input n rest e in
-    spaced-reads (operand f) input (value (number (UInt64 n))) rest
-    (rw (
-      no_space is_ascii_digit digit_is_no_space input starts,
-      path_root-none f input (begins-excludes is_ascii_digit is_path_root (λ b e. grind (arith, nat_tests)) input starts),
-      literal-digits input rest n starts (natural_below-passes (2 ^ 64) n input rest e fits),
-    ) refl)
-
-unary-plus : (f : Bool) (digits : List ℕ) (n : ℕ) (rest : List ℕ) → natural digits ≡ Some (n, rest) → nat_lt n (2 ^ 64) ≡ true →
-    unary_atom f (43 ∷ digits) ≡ None → ⊥
-unfolding unary_atom unary_operator
-unary-plus f digits n rest e fits none = cc (rw (spaced_operand-digits f digits n rest e fits) at none)
-
-unary-minus : (f : Bool) (digits : List ℕ) (n : ℕ) (rest : List ℕ) → natural digits ≡ Some (n, rest) → nat_lt n (2 ^ 64) ≡ true →
-    unary_atom f (45 ∷ digits) ≡ None → ⊥
-unfolding unary_atom unary_operator
-unary-minus f digits n rest e fits none = cc (rw (spaced_operand-digits f digits n rest e fits) at none)
-
-sign-plus : (rest : List ℕ) → sign (43 ∷ rest) ≡ Some (false, rest)
-unfolding sign
-sign-plus rest = refl
-
-sign-minus : (rest : List ℕ) → sign (45 ∷ rest) ≡ Some (true, rest)
-unfolding sign
-sign-minus rest = refl
-
--- the digits of a number are what is left after its sign
-behind_sign : (input : List ℕ) (s : SignedNumber input) (negative : Bool) (after : List ℕ) → sign input ≡ Some (negative, after) →
-    natural after ≡ Some (s.n, s.rest)
-behind_sign input s negative after e =
-    let same : s.digits ≡ after = ap (λ (p : Bool × List ℕ). p.1) (same_Some (s.negative, s.digits) (negative, after) (sym s.signs ∙ e)) in
-    rw (← same) s.reads
-
-no_signed_number : (f : Bool) (input : List ℕ) → unary_atom f input ≡ None → natural_below (2 ^ 64) input ≡ None → SignedNumber input → ⊥
-no_signed_number f input none no_natural s = go (begins is_sign input) refl where
-  fits : nat_lt s.n (2 ^ 64) ≡ true
-  fits = is_within-magnitude s.negative s.n s.fits
-
-  with_first : (xs : List ℕ) → input ≡ xs → begins is_sign xs ≡ true → ⊥
-  with_first [] at h = cc
-  with_first (b ∷ rest) at h = pick (b == 43) (b == 45) refl refl h where
-    plus_case : b ≡ 43 → ⊥
-    plus_case e =
-        let at' : input ≡ 43 ∷ rest = at ∙ ap (λ (x : ℕ). x ∷ rest) e in
-        unary-plus f rest s.n s.rest (behind_sign input s false rest (rw at' (sign-plus rest))) fits (rw at' at none)
-
-    minus_case : b ≡ 45 → ⊥
-    minus_case e =
-        let at' : input ≡ 45 ∷ rest = at ∙ ap (λ (x : ℕ). x ∷ rest) e in
-        unary-minus f rest s.n s.rest (behind_sign input s true rest (rw at' (sign-minus rest))) fits (rw at' at none)
-
-    pick : (p q : Bool) → (b == 43) ≡ p → (b == 45) ≡ q → (b == 43 || b == 45) ≡ true → ⊥
-    pick true q e e' h' = plus_case ((Decides-eqb b 43).0 e)
-    pick false true e e' h' = minus_case ((Decides-eqb b 45).0 e')
-    pick false false e e' h' = cc (rw (e, e') at h')
-
-  go : (t : Bool) → begins is_sign input ≡ t → ⊥
-  go true h = with_first input refl h
-  go false h = cc (sym no_natural ∙ natural_below-passes (2 ^ 64) s.n input s.rest (behind_sign input s false input
-      (sign-none input h)) fits)
-
-abbrev IsUnsigned : Literal → Type 0
-IsUnsigned l = is_signed_literal l ≡ false
-
 mapped-none : {A B : Type 0} (g : A → B) (o : Parsed A) → option_and_then (λ (p : A × List ℕ). give (g p.0) p.1) o ≡ None → o ≡ None
 mapped-none g None e = refl
 mapped-none g (Some p) e = cc
+
+-- digits are an operand
+no_natural : (f : Bool) (input : List ℕ) → spaced_operand f input ≡ None → natural_below (2 ^ 64) input ≡ None
+unfolding spaced_operand operand
+no_natural f input none = go (begins is_ascii_digit input) refl (natural_below (2 ^ 64) input) refl where
+  go : (t : Bool) → begins is_ascii_digit input ≡ t → (o : Parsed ℕ) → natural_below (2 ^ 64) input ≡ o → natural_below (2 ^ 64) input ≡ None
+  go false starts o e = natural_below-none (2 ^ 64) input starts
+  go true starts None e = e
+  go true starts (Some p) e =
+      absurd (nothing _ _ (sym none ∙ spaced-reads (operand f) input (value (number (UInt64 p.0))) p.1
+      (rw (past-none is_space input (grind (arith, nat_tests)), path_root-none f input (grind (arith, nat_tests)), literal-digits input p.1 p.0 starts e) refl)))
+
+-- a number of 64 bits, after its sign
+abbrev signed : Bool → Rule ℤ
+signed negative = (natural >>= λ n. give (with_sign negative n)) >>= λ z. only_if (is_within (2 ^ 63) z) >> give z
+
+no_signed : (negative : Bool) (input : List ℕ) → natural_below (2 ^ 64) input ≡ None → signed negative input ≡ None
+unfolding natural_below
+no_signed negative input none = grind (arith, nat_tests)
+
+no_integer : (f : Bool) (input : List ℕ) → unary_atom f input ≡ None → natural_below (2 ^ 64) input ≡ None → integer_within (2 ^ 63) input ≡ None
+unfolding integer_within integer sign unary_atom unary_operator
+no_integer f [] none small = no_signed false [] small
+no_integer f (b ∷ rest) none small = go (43 == b) (45 == b) refl refl where
+  go : (p q : Bool) → (43 == b) ≡ p → (45 == b) ≡ q → integer_within (2 ^ 63) (b ∷ rest) ≡ None
+  go true q e e' =
+      let same : b ≡ 43 = grind (arith, nat_tests) in
+      rw same (no_signed false rest (no_natural f rest (mapped-none (λ (x : Expression). unary plus x) (spaced_operand f rest) (rw same at none))))
+  go false true e e' =
+      let same : b ≡ 45 = grind (arith, nat_tests) in
+      rw same (no_signed true rest (no_natural f rest (mapped-none (λ (x : Expression). unary minus x) (spaced_operand f rest) (rw same at none))))
+  go false false e e' = rw (e, e') (no_signed false (b ∷ rest) small)
 
 -- each value of the rule at an input of this kind has the property
 abbrev YieldsWhere : {A : Type 0} → (List ℕ → Type 0) → (A → Type 0) → Rule A → Type 0
@@ -310,13 +195,18 @@ anywhere G h input g = h input
 -- the second rule counts only if the first fails
 either-where : {A : Type 0} {G : List ℕ → Type 0} {P : A → Type 0} {first second : Rule A} → YieldsWhere G P first →
     YieldsWhere (λ input. G input × (first input ≡ None)) P second → YieldsWhere G P (first </> second)
-either-where {P = P} {first = first} {second = second} h k input g a rest e =
-    inside_choice (P a) first second input a rest e (λ r. h input g a rest r) (λ n r. k input (g, n) a rest r)
+either-where {A} {P = P} {first = first} {second = second} h k input g a rest e = go (first input) refl e where
+  go : (o : Parsed A) → first input ≡ o → option_or o (second input) ≡ Some (a, rest) → P a
+  go None at e' = k input (g, at) a rest e'
+  go (Some p) at e' = h input g a rest (at ∙ e')
 
 followed-where : {A B : Type 0} {G : List ℕ → Type 0} {P : A → Type 0} {Q : B → Type 0} {rule : Rule A} {next : A → Rule B} →
     YieldsWhere G P rule → ((a : A) → P a → Yields Q (next a)) → YieldsWhere G Q (rule >>= next)
-followed-where {Q = Q} {rule = rule} {next = next} h k input g b rest e =
-    inside_sequence (Q b) rule next input b rest e (λ a middle reads more. k a (h input g a middle reads) middle b rest more)
+followed-where {rule = rule} {next = next} h k input g b rest e =
+    let p = parts rule next input b rest e in k p.0 (h input g p.0 p.1 p.2) p.1 b rest p.3
+
+abbrev IsUnsigned : Literal → Type 0
+IsUnsigned l = is_signed_literal l ≡ false
 
 literal_is_unsigned : (f : Bool) → YieldsWhere (λ input. unary_atom f input ≡ None) IsUnsigned literal_value
 unfolding literal_value
@@ -324,9 +214,8 @@ literal_is_unsigned f =
     either-where (anywhere _ (behind (literal "null") (λ _. given _ refl))) (either-where (anywhere _ (behind (literal "true") (λ _. given _ refl)))
     (either-where (anywhere _ (behind (literal "false") (λ _. given _ refl)))
     (either-where (anywhere _ (behind (natural_below (2 ^ 64)) (λ n. given _ refl)))
-    (either-where
-    (λ input g l rest e. inside_sequence (IsUnsigned l) (integer_within (2 ^ 63)) (λ z. give (number (Int64 z))) input l rest e (λ z after reads given.
-    absurd (no_signed_number f input g.0.0.0.0 (mapped-none (λ n. number (UInt64 n)) ((natural_below (2 ^ 64)) input) g.1) (signed_number input z after reads))))
+    (either-where {first = integer_within (2 ^ 63) >>= λ z. give (number (Int64 z))} (λ input g l rest e.
+    cc (rw (no_integer f input g.0.0.0.0 (mapped-none (λ n. number (UInt64 n)) (natural_below (2 ^ 64) input) g.1)) at e))
     (anywhere _ (behind quoted (λ text. given _ refl)))))))
 
 abbrev HasNoSign : Expression → Type 0
@@ -342,18 +231,17 @@ operand_has_no_sign f =
 abbrev IsUnspaced : List ℕ → Type 0
 IsUnspaced input = past is_space input ≡ input
 
+past_is_unspaced : (input : List ℕ) → IsUnspaced (past is_space input)
+past_is_unspaced input = past-none is_space (past is_space input) (past-stops is_space input)
+
 ws-then : {A : Type 0} {P : A → Type 0} {rule : Rule A} → YieldsWhere IsUnspaced P rule → Yields P (ws >> rule)
 unfolding ws
-ws-then h input a rest e = h (past is_space input) (past-none is_space (past is_space input) (past-stops is_space input)) a rest e
-
-unspaced_ws-then : {A : Type 0} {G : List ℕ → Type 0} {P : A → Type 0} {rule : Rule A} → YieldsWhere G P rule → YieldsWhere
-    (λ input. IsUnspaced input × G input) P (ws >> rule)
-unfolding ws
-unspaced_ws-then h input g a rest e = h input g.1 a rest (rw g.0 at e)
+ws-then h input a rest e = h (past is_space input) (past_is_unspaced input) a rest e
 
 left_has_no_sign : (f : Bool) → YieldsWhere (λ input. IsUnspaced input × (unary_atom f input ≡ None)) HasNoSign (spaced_operand f)
-unfolding spaced_operand
-left_has_no_sign f = unspaced_ws-then (followed-where (operand_has_no_sign f) (λ e is. behind ws (λ _. given _ is)))
+unfolding spaced_operand ws
+left_has_no_sign f input g a rest e =
+    followed-where {Q = HasNoSign} (operand_has_no_sign f) (λ e is. behind ws (λ _. given HasNoSign is)) input g.1 a rest (rw g.0 at e)
 
 -- ---- expressions
 
@@ -373,9 +261,12 @@ binary_is_condition f =
     (λ left l. followed operator_compares (λ op c. followed (spaced_operand_is_operand f)
     (λ right r. given _ (comparison f op left right c l r))))
 
-are_path_steps : (ss : List Step) → AllByRecursion IsPathStep ss → ArePathSteps (steps_of ss)
-are_path_steps [] are = tt
-are_path_steps (s ∷ ss) are = (are.0, are_path_steps ss are.1)
+abbrev AreSteps : List Step → Type 0
+AreSteps ss = ArePathSteps (steps_of ss)
+
+are_steps : (ss : List Step) → AllByRecursion IsPathStep ss → AreSteps ss
+are_steps [] are = tt
+are_steps (s ∷ ss) are = (are.0, are_steps ss are.1)
 
 inner_is_path_step : (s : Step) → IsInner s → IsPathStep s
 inner_is_path_step (filter e) is = absurd is
@@ -387,37 +278,25 @@ spaced-leaves {A} rule input a rest e = go (rule (past is_space input)) e where
   go : (o : Parsed A) → option_and_then {U = A × List ℕ} (λ (p : A × List ℕ). Some (p.0, past is_space p.1)) o ≡ Some (a, rest) →
       IsUnspaced rest
   go None e' = cc
-  go (Some p) e' = subst IsUnspaced (ap (λ (q : A × List ℕ). q.1) (same_Some (p.0, past is_space p.1) (a, rest) e')) (past-none is_space
-      (past is_space p.1) (past-stops is_space p.1))
+  go (Some p) e' = subst IsUnspaced (ap (λ (q : A × List ℕ). q.1) (same_Some (p.0, past is_space p.1) (a, rest) e')) (past_is_unspaced p.1)
 
 spaced-then : {A B : Type 0} (P : A → Type 0) (separator : Rule B) (rule : Rule A) → YieldsWhere IsUnspaced P rule →
     Yields P (spaced separator >> rule)
 spaced-then P separator rule h input a rest e =
-    inside_sequence (P a) (spaced separator) (λ _. rule) input a rest e
-    (λ b middle reads more. h middle (spaced-leaves separator input b middle reads) a rest more)
-
-abbrev AreSome : {A : Type 0} → (A → Type 0) → List A → Type 0
-AreSome P found = (0 < length found) × AllByRecursion P found
-
-list-where : {A B : Type 0} (P : A → Type 0) (rule : Rule A) (separator : Rule B) → YieldsWhere IsUnspaced P rule →
-    YieldsWhere IsUnspaced (AreSome P) (list_of rule (spaced separator))
-list-where P rule separator h =
-    followed-where h (λ first is. followed (yields-repeat P (spaced separator >> rule) (spaced-then P separator rule h))
-    (λ others are. given _ (omega arith, (is, are))))
-
-joined : (f : Bool) (op : BinaryOp) (left right : Expression) → joins op ≡ true → IsCondition f left → IsCondition f right →
-    IsCondition f (binary op left right)
-joined f op left right j l r = rw j (l, r)
+    let p = parts (spaced separator) (λ _. rule) input a rest e in h p.1 (spaced-leaves separator input p.0 p.1 p.2) a rest p.3
 
 folded : (f : Bool) (op : BinaryOp) → joins op ≡ true → (first : Expression) (others : List Expression) → IsCondition f first →
     AllByRecursion (IsCondition f) others → IsCondition f (fold (λ left right. binary op left right) first others)
 folded f op j first [] is are = is
-folded f op j first (e ∷ others) is are = folded f op j (binary op first e) others (joined f op first e j is are.0) are.1
+folded f op j first (e ∷ others) is are = folded f op j (binary op first e) others (rw j (is, are.0)) are.1
 
-all_joined : (f : Bool) (op : BinaryOp) → joins op ≡ true → (members : List Expression) → AreSome (IsCondition f) members →
-    IsCondition f (joined_by op members)
-all_joined f op j [] are = absurd (omega (arith, are.0))
-all_joined f op j (first ∷ others) are = folded f op j first others are.1.0 are.1.1
+-- a list of conditions, joined
+joined-where : (f : Bool) (op : BinaryOp) (rule : Rule Expression) (text : String) → joins op ≡ true → YieldsWhere IsUnspaced (IsCondition f) rule →
+    YieldsWhere IsUnspaced (IsCondition f) (list_of rule (spaced (literal text)) >>= λ members. give (joined_by op members))
+joined-where f op rule text j h =
+    followed-where {P = λ members. IsCondition f (joined_by op members)} (followed-where h
+    (λ first is. followed (yields-repeat (IsCondition f) (spaced (literal text) >> rule) (spaced-then (IsCondition f) (literal text) rule h))
+    (λ others are. given _ (folded f op j first others is are)))) (λ members is. given _ is)
 
 -- with what is supposed of the rule for expressions inside parentheses
 module _ (nested : Bool → Rule Expression) (h : (f : Bool) → YieldsWhere IsUnspaced (IsCondition f) (nested f)) where
@@ -428,7 +307,7 @@ module _ (nested : Bool → Rule Expression) (h : (f : Bool) → YieldsWhere IsU
   step_is_path_step : Yields IsPathStep (path_with nested)
   unfolding path_with
   step_is_path_step =
-      either (λ input s rest e. inner_is_path_step s (spaced_inner_is_inner input s rest e))
+      either (λ input s rest e. inner_is_path_step s (inner_is_inner input s rest e))
       (spaced-yields (followed (behind {Q = IsCondition true} _ (λ _. behind ws (λ _. group_is_condition true))) (λ e is. given _ is)))
 
   exists_is_condition : (f : Bool) → Yields (IsCondition f) (exists_with nested)
@@ -436,26 +315,14 @@ module _ (nested : Bool → Rule Expression) (h : (f : Bool) → YieldsWhere IsU
   exists_is_condition f =
       behind _ (λ _. behind ws (λ _. behind _ (λ _. behind ws (λ _.
       followed {P = λ (ss : List Step). IsExistsPath (steps_of ss)} (followed (path_root_is_beginning true) (λ first is.
-      followed (yields-repeat IsPathStep (path_with nested) step_is_path_step) (λ others are. given _ (is, are_path_steps others are))))
+      followed (yields-repeat IsPathStep (path_with nested) step_is_path_step) (λ others are. given _ (is, are_steps others are))))
       (λ ss is. behind ws (λ _. behind _ (λ _. given _ is)))))))
 
-  atom_is_condition : (f : Bool) → YieldsWhere IsUnspaced (IsCondition f) (atom_with nested f)
-  unfolding atom_with
-  atom_is_condition f =
-      either-where (anywhere _ (unary_is_condition f)) (either-where (binary_is_condition f)
-      (anywhere _ (either (group_is_condition f) (exists_is_condition f))))
-
-  and_is_condition : (f : Bool) → YieldsWhere IsUnspaced (IsCondition f) (and_with nested f)
-  unfolding and_with
-  and_is_condition f =
-      followed-where (list-where (IsCondition f) (atom_with nested f) (literal "&&") (atom_is_condition f))
-      (λ members are. given _ (all_joined f and_op refl members are))
-
   or_is_condition : (f : Bool) → YieldsWhere IsUnspaced (IsCondition f) (or_with nested f)
-  unfolding or_with
-  or_is_condition f =
-      followed-where (list-where (IsCondition f) (and_with nested f) (literal "||") (and_is_condition f))
-      (λ members are. given _ (all_joined f or_op refl members are))
+  unfolding or_with and_with atom_with
+  or_is_condition f = joined-where f or_op _ "||" refl (joined-where f and_op _ "&&" refl
+      (either-where (anywhere _ (unary_is_condition f)) (either-where (binary_is_condition f)
+      (anywhere _ (either (group_is_condition f) (exists_is_condition f))))))
 
 nested_is_condition : (n : ℕ) (f : Bool) → YieldsWhere IsUnspaced (IsCondition f) (nested_or n f)
 unfolding nested_or
@@ -464,45 +331,42 @@ nested_is_condition (suc n) f = or_is_condition (nested_or n) (nested_is_conditi
 
 -- ---- whole paths
 
-expression_is_condition : (f : Bool) → YieldsWhere IsUnspaced (IsCondition f) (expression f)
-unfolding expression
-expression_is_condition f input g e rest r = nested_is_condition (length input + 1) f input g e rest r
-
 root_expression_is_path : Yields IsPath root_expression
-unfolding root_expression
+unfolding root_expression expression
 root_expression_is_path =
-    followed {P = IsCondition false} (ws-then (followed-where (expression_is_condition false) (λ e is. behind ws (λ _. given _ is))))
-    (λ e is. given _ (inl (e, refl, is)))
+    followed {P = IsCondition false} (ws-then (followed-where (λ input. nested_is_condition (length input + 1) false input)
+    (λ e is. behind ws (λ _. given _ is)))) (λ e is. given _ (inl (e, refl, is)))
 
 path_step_is_path_step : Yields IsPathStep path_step
 unfolding path_step
-path_step_is_path_step input s rest e = step_is_path_step (nested_or (length input + 1)) (nested_is_condition
-    (length input + 1)) input s rest e
+path_step_is_path_step input = step_is_path_step (nested_or (length input + 1)) (nested_is_condition (length input + 1)) input
 
-abbrev IsFront : List Step → Type 0
-IsFront ss = (ss ≡ root ∷ []) ⊎ AllByRecursion IsPathStep ss
+-- a front that makes a path with any steps after it
+record IsFront (ss : List Step) : Type 0 where
+  joined : (others : List Step) → AreSteps others → IsPath (ss ++ others)
 
 front_is_front : Yields IsFront front_steps
 unfolding front_steps first_step
 front_is_front =
-    either (followed {P = λ (s : Step). IsFront (s ∷ [])} (either (behind _ (λ _. given _ (inl refl)))
-    (followed (spaced-yields yields-name) (λ text is. given _ (inr (is, tt))))) (λ s is. given _ is)) (given _ (inr tt))
-
-each-append : (ss others : List Step) → AllByRecursion IsPathStep ss → AllByRecursion IsPathStep others → AllByRecursion IsPathStep (ss ++ others)
-each-append [] others are are' = are'
-each-append (s ∷ ss) others are are' = (are.0, each-append ss others are.1 are')
-
-path_from_front : (ss others : List Step) → IsFront ss → AllByRecursion IsPathStep others → IsPath (ss ++ others)
-path_from_front ss others (inl e) are = inr (inl (others, ap (λ (front : List Step). front ++ others) e, are))
-path_from_front ss others (inr is) are = inr (inr (each-append ss others is are))
+    either (followed {P = λ (s : Step). IsFront (s ∷ [])}
+    (either (behind (literal "$") (λ _. given _ (record { joined = λ others are. inr (inl (others, refl, are)) })))
+    (followed (spaced-yields yields-name) (λ text is. given _ (record { joined = λ others are. inr (inr (is, are)) })))) (λ s is. given _ is))
+    (given _ (record { joined = λ others are. inr (inr are) }))
 
 plain_path_is_path : Yields IsPath plain_path
 unfolding plain_path
 plain_path_is_path =
     followed front_is_front (λ front is. followed (yields-repeat IsPathStep path_step path_step_is_path_step)
-    (λ others are. given _ (path_from_front front others is are)))
+    (λ others are. given _ (is.joined others (are_steps others are))))
 
 pub json_path_is_path : (text : List ℕ) (p : List Step) → json_path text ≡ Some p → IsPath p
 unfolding json_path
 json_path_is_path text p e =
     spaced-yields (either root_expression_is_path plain_path_is_path) text p [] (whole-some (spaced (root_expression </> plain_path) text) p e)
+
+-- what holds of each path of this shape holds of what is read
+pub if_read : (P : List Step → Type 0) → ((p : List Step) → IsPath p → P p) → (text : List ℕ) → IfSome (json_path text) P
+if_read P h text = go (json_path text) refl where
+  go : (o : Option (List Step)) → json_path text ≡ o → IfSome o P
+  go None e = tt
+  go (Some p) e = h p (json_path_is_path text p e)

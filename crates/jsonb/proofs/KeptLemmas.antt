@@ -1,9 +1,8 @@
 -- What is kept of a filter from one item to the next.
-use Rattle.jsonb.proofs.Common.{◌≡◌, Box, Global, ℕ, ◌≤◌, ◌+◌, zero, suc, List, [], ◌∷◌, ◌++◌, length, drop, true, Some, None, Ok, Err, IsOkAnd, arith, refl, sym, ap, ◌∙◌, subst, inl, inr, add-one, slice_get_cases, Outcome, and_then, Refines, IsOutOfMemory, Tree, Expression, truth, operand_values, values_view, is_fixed, is_comparison, is_condition, IsSame, AreSame, AreKept, kept_part, Mode, OperandValues, CachedPart, FilterCache, expression_view, compare, Value, Expr, BinaryOperator, AreAlike}
+use Rattle.jsonb.proofs.Common.{◌≡◌, Box, Global, ℕ, ◌≤◌, ◌+◌, zero, suc, List, [], ◌∷◌, ◌++◌, length, drop, true, Some, None, Ok, IsOkAnd, arith, sym, ap, ◌∙◌, subst, add-one, slice_get_cases, Outcome, and_then, Refines, IsOutOfMemory, Tree, Expression, truth, operand_values, values_view, is_fixed, is_comparison, is_condition, IsSame, AreSame, AreKept, kept_part, Mode, OperandValues, CachedPart, FilterCache, expression_view, compare, Value, Expr, BinaryOperator, AreAlike}
 use Rattle.std.specs.List.{slice_get}
 use Rattle.jsonb.specs.PathTree as math
 use Rattle.jsonb.specs.declared.selector.filter_cache.CachedPart.TheVariants as part
-use Rattle.jsonb.specs.declared.selector.filter_cache.FilterCache.TheVariants as kept
 use Rattle.jsonb.specs.declared.path.Expr.TheVariants as expr
 use Rattle.jsonb.proofs.PathNodes.{binary_is}
 use Rattle.jsonb.proofs.RepeatLemmas.{compared_right, compared_both}
@@ -11,10 +10,7 @@ use Rattle.jsonb.proofs.RepeatLemmas.{compared_right, compared_both}
 -- ---- what does not look at the item
 
 pub fixed_values : (mode : Mode) (e : Expression) (top t u : Tree) → is_fixed e ≡ true → operand_values mode e top t ≡ operand_values mode e top u
-fixed_values mode (math.paths math.no_steps) top t u h = refl
-fixed_values mode (math.paths (math.step math.current rest)) top t u h = cc
-fixed_values mode (math.paths (math.step _ rest)) top t u h = refl
-fixed_values mode _ top t u h = refl
+fixed_values mode e top t u h = grind arith
 
 -- ---- parts of the conditions
 
@@ -24,10 +20,7 @@ module _ (mode : Mode) (top : Tree) where
       → slice_get ps n ≡ Some p → IsSame mode top p e
   same_part [] all more e p n a d g = cc
   same_part (q ∷ ps) [] more e p n a d g = absurd a
-  same_part (q ∷ ps) (f ∷ fs) more e p zero a d g =
-      let e_is : f ≡ e = cc in
-      let p_is : q ≡ p = cc in
-      subst (λ x. IsSame mode top x e) p_is (rw e_is at a.0)
+  same_part (q ∷ ps) (f ∷ fs) more e p zero a d g = grind (arith)
   same_part (q ∷ ps) (f ∷ fs) more e p (suc n) a d g = same_part ps fs more e p n a.1 d g
 
   -- one more part, after all existing
@@ -49,37 +42,23 @@ passed {A} all more e n d = go all n d ∙ ap (λ m. drop m all) (sym (add-one n
 
 -- no part is there: the place is after the last
 pub at_last : (ps : List CachedPart) (n : ℕ) → slice_get ps n ≡ None → n ≤ length ps → n ≡ length ps
-at_last ps n none short = elim (slice_get_cases ps n).1 [
-  | inl found ↦ cc
-  | inr past ↦ omega (arith, past.0, short)
-]
+at_last ps n none short = grind (arith, slice_get_cases)
 
 -- ---- comparisons
 
 pub comparison_is : (mode : Mode) (op : math.BinaryOp) (l r : Expression) (top u : Tree) → is_comparison op ≡ true → truth mode (math.binary op l r) top u
     ≡ and_then (operand_values mode l top u) (λ ls. and_then (operand_values mode r top u) (λ rs. Ok (compare op ls rs)))
-comparison_is mode math.and_op l r top u h = cc
-comparison_is mode math.or_op l r top u h = cc
-comparison_is mode math.add l r top u h = cc
-comparison_is mode math.subtract l r top u h = cc
-comparison_is mode math.multiply l r top u h = cc
-comparison_is mode math.divide l r top u h = cc
-comparison_is mode math.modulo l r top u h = cc
-comparison_is mode _ l r top u h = refl
+comparison_is mode op l r top u h = grind arith
 
 -- of two operands that don't look at the item
 pub fixed_truth : (mode : Mode) (op : math.BinaryOp) (l r : Expression) (top t u : Tree) → is_comparison op ≡ true → is_fixed l ≡ true → is_fixed r ≡ true
     → truth mode (math.binary op l r) top t ≡ truth mode (math.binary op l r) top u
-fixed_truth mode op l r top t u h hl hr =
-    comparison_is mode op l r top t h
-    ∙ (λ i. and_then (fixed_values mode l top t u hl i) (λ ls. and_then (fixed_values mode r top t u hr i) (λ rs. Ok (compare op ls rs))))
-    ∙ sym (comparison_is mode op l r top u h)
+fixed_truth mode op l r top t u h hl hr = grind (arith, comparison_is, fixed_values)
 
 -- ---- values that are known
 
 pub value_is : {A : Type 0} {x : A} {o : Outcome A} → IsOkAnd o (λ y. x ≡ y) → o ≡ Ok x
-value_is {o = Ok y} h = ap Ok (sym h)
-value_is {o = Err e} h = absurd h
+value_is h = grind arith
 
 pub known : {A B : Type 0} {R : A → B → Type 0} {x : A} {y : B} {o : Outcome B} → o ≡ Ok y → R x y → Refines R IsOutOfMemory (Ok x) o
 known {R = R} {x = x} is h = record { ok = subst (λ z. IsOkAnd z (R x)) (sym is) h; err = tt }
@@ -111,5 +90,4 @@ module _ (mode : Mode) (top u : Tree) (e : Expr) (op : BinaryOperator) (l r : Bo
 -- what is kept of the condition that comes next
 pub kept_same : (mode : Mode) (top : Tree) (k : FilterCache) (all more : List Expression) (e : Expression) (p : CachedPart) → AreKept mode top k all (e ∷ more)
     → kept_part k ≡ Some p → IsSame mode top p e
-kept_same mode top kept.Nothing all more e p a g = cc
-kept_same mode top (kept.Parts k) all more e p a g = same_part mode top k.parts.items all more e p k.next a.0 a.1 g
+kept_same mode top k all more e p a g = grind (arith, same_part)

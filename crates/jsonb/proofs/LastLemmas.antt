@@ -1,5 +1,6 @@
 -- An expression up to what is last in it: its text, its parts, and whether two are the same.
-use Rattle.jsonb.proofs.Common.{◌≡◌, ℕ, ◌<◌, ◌≤◌, List, [], ◌∷◌, ◌++◌, Bool, true, false, Option, None, Some, refl, sym, ap, ap₂, ◌∙◌, append_assoc, arith, Bor, codes, ◌&&◌, if◌then◌else◌, option_map, option_zip, operator_text, sign_text, literal_text, needs_parentheses, side_text, step_text, steps_text, expression_text, Step, filter, whole_expression, Steps, no_steps, step, Expression, paths, value, binary, unary, exists, steps_of, step_view, steps_view, expression_view, but_last, last_step, held_by, held_by_last, last_of, down, steps_down, step_down, step_before, last_before, steps_before, text_before, ends_in_filter, closing, is_same_opening, is_same_last, are_same_before, is_same_before, step_parts, steps_parts, expression_parts, parts, is_same_operator, is_same_literal, is_same_step, are_same_steps, is_same_expression, Expr, Path}
+use Rattle.jsonb.proofs.Common.{◌≡◌, ℕ, ◌<◌, ◌≤◌, List, [], ◌∷◌, ◌++◌, Bool, true, false, Option, None, Some, refl, sym, ap, ap₂, ◌∙◌, append_assoc, arith, codes, ◌&&◌, if◌then◌else◌, option_map, option_zip, operator_text, sign_text, literal_text, needs_parentheses, side_text, step_text, steps_text, expression_text, Step, filter, whole_expression, Steps, no_steps, step, Expression, paths, value, binary, unary, exists, steps_of, step_view, steps_view, expression_view, but_last, last_step, held_by, held_by_last, last_of, down, steps_down, step_down, step_before, last_before, steps_before, text_before, ends_in_filter, closing, is_same_opening, are_same_before, is_same_before, step_parts, steps_parts, expression_parts, parts, is_same_operator, is_same_literal, is_same_step, are_same_steps, is_same_expression, Expr, Path}
+use Rattle.jsonb_doc.proofs.Common.{Bor}
 use Rattle.std.proofs.lemmas.List.{append-nil}
 use Rattle.jsonb.specs.Private.Last.{is_filter}
 
@@ -17,7 +18,7 @@ but_last-end (t ∷ u ∷ ss) s = ap (step (step_view t)) (but_last-end (u ∷ s
 
 pub steps_before-end : (ss : List Path) (s : Path) →
     steps_before (steps_of (steps_view (ss ++ s ∷ []))) ≡ steps_text (steps_of (steps_view ss)) ++ step_before (step_view s)
-steps_before-end ss s = ap₂ (λ front last. steps_text front ++ last_before last) (but_last-end ss s) (last_step-end ss s)
+steps_before-end ss s = rw (but_last-end ss s, last_step-end ss s) refl
 
 -- ---- one level
 
@@ -77,8 +78,7 @@ abbrev Closes : List ℕ → Type 0
 Closes text = text ++ codes ")" ≡ codes ")" ++ text
 
 closes_both : (a b : List ℕ) → Closes a → Closes b → Closes (a ++ b)
-closes_both a b h k = append_assoc a b (codes ")") ∙ ap (λ x. a ++ x) k ∙ sym (append_assoc a (codes ")") b)
-    ∙ ap (λ x. x ++ b) h ∙ append_assoc (codes ")") a b
+closes_both a b h k = cc (append_assoc a b (codes ")"), append_assoc a (codes ")") b)
 
 closes_once : (b : Bool) → Closes (if b then codes ")" else [])
 closes_once true = refl
@@ -109,9 +109,7 @@ mutual
 -- ---- the text of an expression: what precedes each that is last, and then the closing parentheses
 
 enclosed : (front text b c : List ℕ) → text ≡ b ++ c → Closes c → front ++ text ++ codes ")" ≡ front ++ b ++ (codes ")" ++ c)
-enclosed front text b c h k = ap (λ x. front ++ x ++ codes ")") h
-    ∙ append_assoc front (b ++ c) (codes ")") ∙ ap (λ x. front ++ x) (append_assoc b c (codes ")") ∙ ap (λ x. b ++ x) k)
-    ∙ sym (append_assoc front b (codes ")" ++ c))
+enclosed front text b c h k = simp (h, append_assoc, k)
 
 right_side : (is_around : Bool) (text b c : List ℕ) → text ≡ b ++ c → Closes c →
     (if is_around then codes "(" ++ text ++ codes ")" else text)
@@ -129,32 +127,16 @@ between_only : (left space operator last_space a b c : List ℕ) →
     left ++ space ++ operator ++ last_space ++ (a ++ b ++ c) ≡ left ++ (space ++ operator ++ last_space) ++ a ++ b ++ c
 between_only left space operator last_space a b c = simp append_assoc refl
 
-left_side : (is_around : Bool) (left operator a b c : List ℕ) →
-    (if is_around then codes "(" ++ left ++ codes ")" else left) ++ codes " " ++ operator ++ codes " " ++ (a ++ b ++ c)
-    ≡ (if is_around then codes "(" else []) ++ left
-    ++ ((if is_around then codes ")" else []) ++ codes " " ++ operator ++ codes " ") ++ a ++ b ++ c
-left_side true left operator a b c = between (codes "(" ++ left) (codes ")") (codes " ") operator (codes " ") a b c
-left_side false left operator a b c = between_only left (codes " ") operator (codes " ") a b c
+sides : (is_around : Bool) (left right operator a b c : List ℕ) → right ≡ a ++ b ++ c →
+    (if is_around then codes "(" ++ left ++ codes ")" else left) ++ codes " " ++ operator ++ codes " " ++ right
+    ≡ (if is_around then codes "(" else []) ++ left ++ ((if is_around then codes ")" else []) ++ codes " " ++ operator ++ codes " ") ++ a ++ b ++ c
+sides true left right operator a b c h = rw h (between (codes "(" ++ left) (codes ")") (codes " ") operator (codes " ") a b c)
+sides false left right operator a b c h = rw h (between_only left (codes " ") operator (codes " ") a b c)
 
-sides : (left right : Expression) (operator b c : List ℕ) → expression_text right ≡ b ++ c → Closes c →
-    side_text left (expression_text left) ++ codes " " ++ operator ++ codes " " ++ side_text right (expression_text right)
-    ≡ (if needs_parentheses left then codes "(" else []) ++ expression_text left
-    ++ ((if needs_parentheses left then codes ")" else []) ++ codes " " ++ operator ++ codes " ")
-    ++ (if needs_parentheses right then codes "(" else []) ++ b ++ ((if needs_parentheses right then codes ")" else []) ++ c)
-sides left right operator b c h k =
-    ap (λ x. side_text left (expression_text left) ++ codes " " ++ operator ++ codes " " ++ x)
-    (right_side (needs_parentheses right) (expression_text right) b c h k)
-    ∙ left_side (needs_parentheses left) (expression_text left) operator (if needs_parentheses right then codes "(" else []) b
-    ((if needs_parentheses right then codes ")" else []) ++ c)
-
-fronts : (front a b c : List ℕ) → front ++ (a ++ b) ++ c ≡ front ++ a ++ b ++ c
-fronts front a b c = ap (λ x. x ++ c) (sym (append_assoc front a b))
-
-closed_twice : (is_filter : Bool) (front a b c : List ℕ) →
-    front ++ (a ++ b) ++ (codes ")" ++ ((if is_filter then codes ")" else []) ++ c))
-    ≡ front ++ a ++ b ++ ((if is_filter then codes "))" else codes ")") ++ c)
-closed_twice true front a b c = fronts front a b (codes "))" ++ c)
-closed_twice false front a b c = fronts front a b (codes ")" ++ c)
+exists_whole : (is_filter : Bool) (text a b c : List ℕ) → text ≡ a ++ b ++ ((if is_filter then codes ")" else []) ++ c) → Closes c →
+    codes "exists(" ++ text ++ codes ")" ≡ (codes "exists(" ++ a) ++ b ++ ((if is_filter then codes "))" else codes ")") ++ c)
+exists_whole true text a b c h k = simp (h, append_assoc, k)
+exists_whole false text a b c h k = simp (h, append_assoc, k)
 
 one_more : (text a b c d : List ℕ) → text ++ (a ++ b ++ c ++ d) ≡ text ++ a ++ b ++ c ++ d
 one_more text a b c d = simp append_assoc refl
@@ -164,14 +146,13 @@ mutual
   whole_text (paths ss) = steps_whole ss
   whole_text (value l) = sym (append-nil (literal_text l))
   whole_text (binary op left right) =
-      sides left right (operator_text op) (down text_before right) (down closing right) (whole_text right) (down_closes right)
+      sides (needs_parentheses left) (expression_text left) (side_text right (expression_text right)) (operator_text op)
+      (if needs_parentheses right then codes "(" else []) (down text_before right) ((if needs_parentheses right then codes ")" else []) ++ down closing right)
+      (right_side (needs_parentheses right) (expression_text right) (down text_before right) (down closing right) (whole_text right) (down_closes right))
   whole_text (unary op e) = ap (λ text. sign_text op ++ text) (whole_text e)
       ∙ sym (append_assoc (sign_text op) (down text_before e) (down closing e))
-  whole_text (exists ss) =
-      enclosed (codes "exists(") (steps_text ss) (steps_before ss ++ steps_down text_before ss)
-      ((if ends_in_filter (last_step ss) then codes ")" else []) ++ steps_down closing ss) (steps_whole ss)
-      (closes_both _ _ (closes_once (ends_in_filter (last_step ss))) (steps_close ss))
-      ∙ closed_twice (ends_in_filter (last_step ss)) (codes "exists(") (steps_before ss) (steps_down text_before ss) (steps_down closing ss)
+  whole_text (exists ss) = exists_whole (ends_in_filter (last_step ss)) (steps_text ss) (steps_before ss) (steps_down text_before ss)
+      (steps_down closing ss) (steps_whole ss) (steps_close ss)
 
   steps_whole : (ss : Steps) → steps_text ss ≡ steps_before ss ++ steps_down text_before ss
       ++ ((if ends_in_filter (last_step ss) then codes ")" else []) ++ steps_down closing ss)
@@ -202,13 +183,10 @@ and_false true = refl
 and_false false = refl
 
 regroup : (a b c d : Bool) → a && (b && c && d) ≡ a && b && c && d
-regroup true b c d = refl
-regroup false b c d = refl
+regroup a b c d = grind arith
 
 turned : (a b c : Bool) → a && b && c ≡ a && c && b
-turned true true c = and_true c
-turned true false c = sym (and_false c)
-turned false b c = refl
+turned a b c = grind arith
 
 step_split : (s t : Step) → is_same_step s t ≡ is_same_opening s t && same_lasts (held_by s) (held_by t)
 step_split (filter e) (filter f) = refl
@@ -265,21 +243,13 @@ zip_parts _ _ = omega arith
 
 -- ---- lists of steps that the code has are the same before what the last ones hold
 
-same_before_all : (ss : List Path) (s : Path) (o : Steps) (other : Option Step) →
-    are_same_steps (but_last (steps_of (steps_view (ss ++ s ∷ [])))) o && is_same_last (last_step (steps_of (steps_view (ss ++ s ∷ [])))) other
-    ≡ are_same_steps (steps_of (steps_view ss)) o && is_same_last (Some (step_view s)) other
-same_before_all ss s o other = ap₂ (λ front last. are_same_steps front o && is_same_last last other) (but_last-end ss s) (last_step-end ss s)
-
 pub same_before-end : (ss ts : List Path) (s t : Path) →
     are_same_before (steps_of (steps_view (ss ++ s ∷ []))) (steps_of (steps_view (ts ++ t ∷ [])))
     ≡ are_same_steps (steps_of (steps_view ss)) (steps_of (steps_view ts)) && is_same_opening (step_view s) (step_view t)
-same_before-end ss ts s t = same_before_all ss s _ _
-    ∙ ap₂ (λ front last. are_same_steps (steps_of (steps_view ss)) front && is_same_last (Some (step_view s)) last)
-    (but_last-end ts t) (last_step-end ts t)
+same_before-end ss ts s t = rw (but_last-end ss s, last_step-end ss s, but_last-end ts t, last_step-end ts t) refl
 
 pub same_before-shorter : (ss : List Path) (s : Path) → are_same_before (steps_of (steps_view (ss ++ s ∷ []))) no_steps ≡ false
-same_before-shorter ss s = same_before_all ss s _ _ ∙ and_false (are_same_steps (steps_of (steps_view ss)) no_steps)
+same_before-shorter ss s = rw (last_step-end ss s) (and_false _)
 
 pub same_before-longer : (ts : List Path) (t : Path) → are_same_before no_steps (steps_of (steps_view (ts ++ t ∷ []))) ≡ false
-same_before-longer ts t = ap (λ last. are_same_steps no_steps (but_last (steps_of (steps_view (ts ++ t ∷ [])))) && is_same_last None last)
-    (last_step-end ts t) ∙ and_false (are_same_steps no_steps (but_last (steps_of (steps_view (ts ++ t ∷ [])))))
+same_before-longer ts t = rw (last_step-end ts t) (and_false _)

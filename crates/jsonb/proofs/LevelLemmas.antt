@@ -1,5 +1,5 @@
 -- The items below an item, by its children.
-use Rattle.jsonb.proofs.Common.{◌≡◌, ℕ, ◌+◌, Bool, not, ◌&&◌, true, false, List, [], ◌∷◌, ◌++◌, flat_map, Option, Some, None, refl, ap, ◌∙◌, append-nil, arith, if◌then◌else◌, nat_tests, Tree, Trees, Pairs, array, object, no_trees, no_pairs, pair, elements, values, children_of, at_level, Levels, LevelEnd, level, last_level, is_shut, answer_at, taken_item, preorder, preorder_elements, preorder_values}
+use Rattle.jsonb.proofs.Common.{◌≡◌, ℕ, ◌+◌, true, false, List, [], ◌∷◌, ◌++◌, flat_map, Option, Some, None, refl, ap, ◌∙◌, append-nil, arith, if◌then◌else◌, nat_tests, Tree, Trees, Pairs, array, object, no_trees, no_pairs, pair, elements, values, children_of, at_level, Levels, LevelEnd, level, last_level, is_shut, answer_at, taken_item, preorder, preorder_elements, preorder_values}
 use Rattle.jsonb_doc.specs.Tree as tree
 
 -- ---- below a level whose children are not visited, none is selected
@@ -12,8 +12,7 @@ shut_level (Some last_level) start n h = cc
 
 pub shut_below : (levels : Option Levels) (n : ℕ) → (answer_at levels n).1 ≡ false
     → ((answer_at levels (n + 1)).0 ≡ false) × ((answer_at levels (n + 1)).1 ≡ false)
-shut_below (Some levels) n h = shut_level levels.end levels.start n h
-shut_below None n h = cc
+shut_below levels n h = grind (arith, shut_level)
 
 module _ (levels : Option Levels) where
   elements-is : (n : ℕ) (ts : Trees) → preorder_elements levels n ts ≡ flat_map (preorder levels n) (elements ts)
@@ -27,18 +26,11 @@ module _ (levels : Option Levels) where
   -- where there are children
   pub preorder-entered : (n : ℕ) (t : Tree) (ts : List Tree) → children_of t ≡ Some ts
       → preorder levels n t ≡ taken_item levels n t ++ flat_map (preorder levels (n + 1)) ts
-  preorder-entered n (array us) ts is =
-      ap (λ l. taken_item levels n (array us) ++ l) (elements-is (n + 1) us ∙ ap (flat_map (preorder levels (n + 1))) (let e : elements us ≡ ts = cc in e))
-  preorder-entered n (object ps) ts is =
-      ap (λ l. taken_item levels n (object ps) ++ l) (values-is (n + 1) ps ∙ ap (flat_map (preorder levels (n + 1)))
-      (let e : elements (values ps) ≡ ts = cc in e))
-  preorder-entered n _ ts is = cc
+  preorder-entered n t ts is = grind (arith, elements-is, values-is)
 
   -- where there are none
   pub preorder-leaf : (n : ℕ) (t : Tree) → children_of t ≡ None → preorder levels n t ≡ taken_item levels n t
-  preorder-leaf n (array us) is = cc
-  preorder-leaf n (object ps) is = cc
-  preorder-leaf n _ is = refl
+  preorder-leaf n t is = grind (arith)
 
   -- an item of a level that is not selected
   untaken : (n : ℕ) (t : Tree) → (answer_at levels n).0 ≡ false → taken_item levels n t ≡ []
@@ -51,31 +43,21 @@ module _ (levels : Option Levels) where
     nothing n (object ps) h k = ap (λ l. l ++ preorder_values levels (n + 1) ps) (untaken n (object ps) h) ∙ no_value_below n ps k
     nothing n t h k = untaken n t h
 
-    nothing_below : (n : ℕ) (ts : Trees) → (answer_at levels n).1 ≡ false → preorder_elements levels (n + 1) ts ≡ []
+    pub nothing_below : (n : ℕ) (ts : Trees) → (answer_at levels n).1 ≡ false → preorder_elements levels (n + 1) ts ≡ []
     nothing_below n no_trees k = refl
     nothing_below n (tree.tree t ts) k =
         let s = shut_below levels n k in
         ap (λ l. l ++ preorder_elements levels (n + 1) ts) (nothing (n + 1) t s.0 s.1) ∙ nothing_below n ts k
 
-    no_value_below : (n : ℕ) (ps : Pairs) → (answer_at levels n).1 ≡ false → preorder_values levels (n + 1) ps ≡ []
+    pub no_value_below : (n : ℕ) (ps : Pairs) → (answer_at levels n).1 ≡ false → preorder_values levels (n + 1) ps ≡ []
     no_value_below n no_pairs k = refl
     no_value_below n (pair key t ps) k =
         let s = shut_below levels n k in
         ap (λ l. l ++ preorder_values levels (n + 1) ps) (nothing (n + 1) t s.0 s.1) ∙ no_value_below n ps k
 
-  -- where the children are not looked at
-  pub preorder-left : (n : ℕ) (t : Tree) → (answer_at levels n).1 ≡ false → preorder levels n t ≡ taken_item levels n t
-  preorder-left n (array us) k = ap (λ l. taken_item levels n (array us) ++ l) (nothing_below n us k) ∙ append-nil _
-  preorder-left n (object ps) k = ap (λ l. taken_item levels n (object ps) ++ l) (no_value_below n ps k) ∙ append-nil _
-  preorder-left n _ k = refl
-
   -- where the level below is shut
   shut-item : (n : ℕ) (t : Tree) → is_shut levels n ≡ true → preorder levels n t ≡ []
-  shut-item n t h = go (answer_at levels n) refl h
-    where
-      go : (a : Bool × Bool) → answer_at levels n ≡ a → not a.0 && not a.1 ≡ true → preorder levels n t ≡ []
-      go (false, false) is h = nothing n t (ap (λ r. r.0) is) (ap (λ r. r.1) is)
-      go _ is h = cc
+  shut-item n t h = grind (arith, nothing)
 
   shut-elements : (n : ℕ) (ts : Trees) → is_shut levels n ≡ true → preorder_elements levels n ts ≡ []
   shut-elements n no_trees h = refl
@@ -86,6 +68,4 @@ module _ (levels : Option Levels) where
   shut-values n (pair key t ps) h = ap (λ l. l ++ preorder_values levels n ps) (shut-item n t h) ∙ shut-values n ps h
 
   pub preorder-shut : (n : ℕ) (t : Tree) → is_shut levels (n + 1) ≡ true → preorder levels n t ≡ taken_item levels n t
-  preorder-shut n (array us) h = ap (λ l. taken_item levels n (array us) ++ l) (shut-elements (n + 1) us h) ∙ append-nil _
-  preorder-shut n (object ps) h = ap (λ l. taken_item levels n (object ps) ++ l) (shut-values (n + 1) ps h) ∙ append-nil _
-  preorder-shut n _ h = refl
+  preorder-shut n t h = grind (arith, shut-elements, append-nil, shut-values)

@@ -1,6 +1,6 @@
 -- The levels at which items are taken, as a range.
-use Rattle.jsonb.proofs.Common.{◌≡◌, ◌⊎◌, ℕ, ◌+◌, min, Bool, true, false, ◌&&◌, Option, inl, inr, ap, ◌∙◌, nat_le, Tree, Levels, answer_at, taken_item, preorder, AreLevelsOf, is_shut, LevelRange}
-use Rattle.jsonb.proofs.LevelLemmas.{preorder-left, preorder-shut}
+use Rattle.jsonb.proofs.Common.{◌≡◌, ◌⊎◌, ℕ, ◌+◌, min, Bool, true, false, ◌&&◌, Option, ap, ◌∙◌, nat_le, Tree, Levels, answer_at, taken_item, preorder, AreLevelsOf, is_shut, LevelRange, arith, append-nil}
+use Rattle.jsonb.proofs.LevelLemmas.{preorder-shut, nothing_below, no_value_below}
 
 -- the range has a level if an item of it is taken
 pub range_taken : (levels : Option Levels) (range : LevelRange) (at n : ℕ) (is_taken : Bool) → AreLevelsOf levels range → at ≡ min n 256
@@ -10,7 +10,4 @@ range_taken levels range at n is_taken ranged place is = is ∙ ap (λ k. nat_le
 -- nothing below is taken
 pub preorder-passed : (levels : Option Levels) (n : ℕ) (t : Tree) → ((answer_at levels n).1 ≡ false) ⊎ (is_shut levels (n + 1) ≡ true)
     → preorder levels n t ≡ taken_item levels n t
-preorder-passed levels n t passed = elim passed [
-  | inl left ↦ preorder-left levels n t left
-  | inr shut ↦ preorder-shut levels n t shut
-]
+preorder-passed levels n t passed = grind (arith, preorder-shut, nothing_below, append-nil, no_value_below)

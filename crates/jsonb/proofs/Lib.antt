@@ -1,12 +1,10 @@
 pub mod Common
-pub mod ExpressionLemmas
 pub mod ViewLemmas
 pub mod PartLemmas
 pub mod CopyingLemmas
 pub mod ChainText
 pub mod LastLemmas
 pub mod PositionLemmas
-pub mod EntryReadsSome
 pub mod InnerReadsSome
 pub mod PathShape
 pub mod InnerReadsBack
@@ -15,7 +13,6 @@ pub mod ConditionReadsBack
 pub mod PathReadsBack
 pub mod GrammarShape
 pub mod SettledPaths
-pub mod PathLaw
 pub mod Bounds
 pub mod ExpressionReadsSome
 pub mod PlainPathLemmas

@@ -1,5 +1,5 @@
 -- Comparisons of members of the items of a list, in lax mode, in which none fails.
-use Rattle.jsonb.proofs.Common.{◌≡◌, List, [], ◌∷◌, ◌++◌, flat_map, map, true, false, Some, None, Ok, Err, IsOkAnd, refl, sym, ap, ◌∙◌, inl, inr, append_assoc, beq, flat_map-append, option_eq, not, Outcome, and_then, try_flat_map, Refines, IsOutOfMemory, Tree, Error, Expression, steps_of, steps_view, Truth, compare, pair_truth, first_decisive, Value, values_of_item, step_meaning, steps_meaning, truth, operand_values, start, IsMemberCompared, IsListCompared, items_truth, is_comparison, are_members, value_view, taken_step, MemberCompared, ListCompared, AreRefused, Mode, Lax}
+use Rattle.jsonb.proofs.Common.{◌≡◌, List, [], ◌∷◌, ◌++◌, flat_map, map, true, false, Some, None, Ok, Err, IsOkAnd, refl, sym, ap, ◌∙◌, append_assoc, beq, flat_map-append, option_eq, not, Outcome, and_then, try_flat_map, Refines, IsOutOfMemory, Tree, Error, Expression, steps_of, steps_view, Truth, compare, pair_truth, first_decisive, Value, values_of_item, step_meaning, steps_meaning, truth, operand_values, start, IsMemberCompared, IsListCompared, items_truth, is_comparison, are_members, value_view, taken_step, MemberCompared, ListCompared, AreRefused, Mode, Lax, arith}
 use Rattle.jsonb.specs.PathTree as math
 use Rattle.jsonb.proofs.ComparedLemmas.{Any, AreTotal, all_total, members_are_total, members_total, comparison_total, told_by}
 use Rattle.jsonb.proofs.KeptLemmas.{comparison_is}
@@ -13,37 +13,21 @@ abbrev pub both_lists : {A : Type 0} → Outcome (List A) → Outcome (List A) �
 both_lists o p = and_then o (λ fs. and_then p (λ bs. Ok (fs ++ bs)))
 
 pub none_in_front : {A : Type 0} (o : Outcome (List A)) → o ≡ both_lists (Ok []) o
-none_in_front (Ok xs) = refl
-none_in_front (Err e) = refl
+none_in_front o = grind arith
 
 pub both_lists-assoc : {A : Type 0} (o p q : Outcome (List A)) → both_lists o (both_lists p q) ≡ both_lists (both_lists o p) q
-both_lists-assoc (Ok xs) (Ok ys) (Ok zs) = ap Ok (sym (append_assoc xs ys zs))
-both_lists-assoc (Ok xs) (Ok ys) (Err e) = refl
-both_lists-assoc (Ok xs) (Err e) q = refl
-both_lists-assoc (Err e) p q = refl
+both_lists-assoc o p q = grind (arith, append_assoc)
 
 joined-append : {A B : Type 0} (f : A → Outcome (List B)) (xs ys : List A) → try_flat_map f (xs ++ ys) ≡ both_lists (try_flat_map f xs) (try_flat_map f ys)
 joined-append f [] ys = none_in_front (try_flat_map f ys)
-joined-append f (x ∷ xs) ys =
-    ap (both_lists (f x)) (joined-append f xs ys) ∙ both_lists-assoc (f x) (try_flat_map f xs) (try_flat_map f ys)
+joined-append f (x ∷ xs) ys = grind (arith, (joined-append f xs ys), both_lists-assoc)
 
 -- steps of two lists, if none fails
 pub steps_in_parts : (ss : List math.Step) (top : Tree) (xs ys : List Tree) → AreTotal ss
     → steps_meaning Lax (steps_of ss) top (xs ++ ys) ≡ both_lists (steps_meaning Lax (steps_of ss) top xs) (steps_meaning Lax (steps_of ss) top ys)
 steps_in_parts [] top xs ys h = refl
-steps_in_parts (s ∷ ss) top xs ys h =
-    let f = step_meaning Lax s top in
-    ap (λ o. and_then o (steps_meaning Lax (steps_of ss) top)) (joined-append f xs ys)
-    ∙ go (λ fs bs. steps_in_parts ss top fs bs h.1) (try_flat_map f xs) (try_flat_map f ys) (all_total f (h.0 top) xs) (all_total f (h.0 top) ys)
-  where
-    go : ((fs bs : List Tree) → steps_meaning Lax (steps_of ss) top (fs ++ bs)
-        ≡ both_lists (steps_meaning Lax (steps_of ss) top fs) (steps_meaning Lax (steps_of ss) top bs))
-        → (o p : Outcome (List Tree)) → IsOkAnd o Any → IsOkAnd p Any
-        → and_then (both_lists o p) (steps_meaning Lax (steps_of ss) top)
-        ≡ both_lists (and_then o (steps_meaning Lax (steps_of ss) top)) (and_then p (steps_meaning Lax (steps_of ss) top))
-    go rest (Ok fs) (Ok bs) a b = rest fs bs
-    go rest (Ok fs) (Err e) a b = absurd b
-    go rest (Err e) p a b = absurd a
+steps_in_parts (s ∷ ss) top xs ys h = grind (arith, steps_in_parts ss top, joined-append (step_meaning Lax s top) xs ys, all_total (step_meaning Lax s top) (h.0 top) xs,
+    all_total (step_meaning Lax s top) (h.0 top) ys)
 
 -- names of members of two lists
 members-append : (ss : List math.Step) (top : Tree) (xs ys : List Tree) → are_members ss ≡ true
@@ -65,24 +49,17 @@ first_stops (None ∷ xs) ys h = refl
 
 -- if the first values decide nothing, the others decide
 pub compare_passes : (op : math.BinaryOp) (rs xs ys : List Value) → compare op xs rs ≡ Some false → compare op (xs ++ ys) rs ≡ compare op ys rs
-compare_passes op rs xs ys h =
-    let pairs = λ (vs : List Value). flat_map (λ l. map (λ r. pair_truth op l r) rs) vs in
-    ap first_decisive (flat_map-append (λ l. map (λ r. pair_truth op l r) rs) xs ys) ∙ first_passes (pairs xs) (pairs ys) h
+compare_passes op rs xs ys h = grind (arith, flat_map-append, first_passes)
 
 pub compare_stops : (op : math.BinaryOp) (rs xs ys : List Value) (b : Truth) → compare op xs rs ≡ b → (b ≡ Some false → ⊥) → compare op (xs ++ ys) rs ≡ b
-compare_stops op rs xs ys b is decides =
-    let pairs = λ (vs : List Value). flat_map (λ l. map (λ r. pair_truth op l r) rs) vs in
-    ap first_decisive (flat_map-append (λ l. map (λ r. pair_truth op l r) rs) xs ys)
-    ∙ first_stops (pairs xs) (pairs ys) (λ none. decides (sym is ∙ none)) ∙ is
+compare_stops op rs xs ys b is decides = grind (arith, flat_map-append, first_stops)
 
 -- a test whether a result is known to be false
 pub is_false : (b : Truth) → not (option_eq beq b (Some false)) ≡ false → b ≡ Some false
-is_false (Some false) h = refl
-is_false _ h = cc
+is_false b h = grind arith
 
 pub is_not_false : (b : Truth) → not (option_eq beq b (Some false)) ≡ true → b ≡ Some false → ⊥
-is_not_false (Some false) h is = cc
-is_not_false _ h is = cc
+is_not_false b h is = grind arith
 
 module _ (c : MemberCompared) where
   -- The results of the values of items.
@@ -90,27 +67,18 @@ module _ (c : MemberCompared) where
   truths ts = flat_map (λ l. map (λ r. pair_truth c.op l r) (value_view c.literal ∷ [])) (flat_map values_of_item ts)
 
   truths-append : (fs bs : List Tree) → truths (fs ++ bs) ≡ truths fs ++ truths bs
-  truths-append fs bs =
-      ap (flat_map (λ l. map (λ r. pair_truth c.op l r) (value_view c.literal ∷ []))) (flat_map-append values_of_item fs bs)
-      ∙ flat_map-append (λ l. map (λ r. pair_truth c.op l r) (value_view c.literal ∷ [])) (flat_map values_of_item fs)
-      (flat_map values_of_item bs)
+  truths-append fs bs = grind (arith, flat_map-append)
 
   ok_is : (x y : Truth) (o : Outcome Truth) → o ≡ Ok x → o ≡ Ok y → x ≡ y
   ok_is x y o p q = cc
 
   passes_one : (o p : Outcome (List Tree)) → IsOkAnd p Any → and_then o (told_by c) ≡ Ok (Some false)
       → and_then (both_lists o p) (told_by c) ≡ and_then p (told_by c)
-  passes_one (Ok fs) (Ok bs) t h = ap Ok (ap first_decisive (truths-append fs bs) ∙ first_passes (truths fs) (truths bs) (ok_is _ _ (told_by c fs) refl h))
-  passes_one (Ok fs) (Err e) t h = absurd t
-  passes_one (Err e) p t h = cc
+  passes_one o p t h = grind (arith, truths-append, first_passes, ok_is, told_by)
 
   stops_at : (o p : Outcome (List Tree)) (b : Truth) → IsOkAnd p Any → and_then o (told_by c) ≡ Ok b → (b ≡ Some false → ⊥)
       → and_then (both_lists o p) (told_by c) ≡ Ok b
-  stops_at (Ok fs) (Ok bs) b t h decides =
-      let is = ok_is _ _ (told_by c fs) refl h in
-      ap Ok (ap first_decisive (truths-append fs bs) ∙ first_stops (truths fs) (truths bs) (λ none. decides (sym is ∙ none)) ∙ is)
-  stops_at (Ok fs) (Err e) b t h decides = absurd t
-  stops_at (Err e) p b t h decides = cc
+  stops_at o p b t h decides = grind (arith, ok_is, told_by, truths-append, first_stops)
 
   module _ (e : Expression) (top : Tree) (k : IsMemberCompared c e) where
     -- an item of which the comparison is false is passed
@@ -132,8 +100,7 @@ module _ (c : MemberCompared) where
       where
         go : (p : Outcome Truth) → IsOkAnd p Any → Refines {A = Truth} (λ b d. b ≡ d) IsOutOfMemory (Err r) p
             → Refines {A = Truth} (λ b d. b ≡ d) IsOutOfMemory (Err r) o
-        go (Ok b) t h = record { ok = tt; err = elim h.err [ inl memory ↦ inl memory | inr is ↦ cc ] }
-        go (Err e) t h = absurd t
+        go p t h = grind arith
 
   -- no items
   pub list_none : (top : Tree) (ts : List Tree) → ts ≡ [] → items_truth c top ts ≡ Ok (Some false)
@@ -144,19 +111,10 @@ module _ (c : MemberCompared) where
 steps-append : (mode : Mode) (front names : List math.Step) (top : Tree) (us : List Tree) → steps_meaning mode (steps_of (front ++ names)) top us
     ≡ and_then (steps_meaning mode (steps_of front) top us) (steps_meaning mode (steps_of names) top)
 steps-append mode [] names top us = refl
-steps-append mode (s ∷ front) names top us = go (steps-append mode front names top) (try_flat_map (step_meaning mode s top) us)
-  where
-    go : ((vs : List Tree) → steps_meaning mode (steps_of (front ++ names)) top vs
-        ≡ and_then (steps_meaning mode (steps_of front) top vs) (steps_meaning mode (steps_of names) top))
-        → (o : Outcome (List Tree)) → and_then o (steps_meaning mode (steps_of (front ++ names)) top)
-        ≡ and_then (and_then o (steps_meaning mode (steps_of front) top)) (steps_meaning mode (steps_of names) top)
-    go rest (Ok vs) = rest vs
-    go rest (Err e) = refl
+steps-append mode (s ∷ front) names top us = grind (arith, (steps-append mode front names top))
 
 start_at_root : (ss : math.Steps) (top : Tree) → start ss top top ≡ top
-start_at_root math.no_steps top = refl
-start_at_root (math.step math.current rest) top = refl
-start_at_root (math.step _ rest) top = refl
+start_at_root ss top = grind arith
 
 -- a comparison of such an operand with a literal
 pub compares_list : (op : math.BinaryOp) (steps front names : List math.Step) (r : Expression) (literal : Value) (top : Tree) → steps ≡ front ++ names
@@ -165,38 +123,15 @@ pub compares_list : (op : math.BinaryOp) (steps front names : List math.Step) (r
     ≡ and_then (steps_meaning Lax (steps_of front) top (top ∷ []))
     (λ us. and_then (steps_meaning Lax (steps_of names) top us) (λ ts. Ok (compare op (flat_map values_of_item ts) (literal ∷ []))))
 compares_list op steps front names r literal top split compares is =
-    comparison_is Lax op (math.paths (steps_of steps)) r top top compares
-    ∙ (λ i. and_then (operand_values Lax (math.paths (steps_of steps)) top top) (λ ls. and_then (is i) (λ rs. Ok (compare op ls rs))))
-    ∙ ap (λ t. and_then (and_then (steps_meaning Lax (steps_of steps) top (t ∷ [])) (λ ts. Ok (flat_map values_of_item ts)))
-    (λ ls. Ok (compare op ls (literal ∷ [])))) (start_at_root (steps_of steps) top)
-    ∙ ap (λ o. and_then (and_then o (λ ts. Ok (flat_map values_of_item ts))) (λ ls. Ok (compare op ls (literal ∷ []))))
-    (ap (λ l. steps_meaning Lax (steps_of l) top (top ∷ [])) split ∙ steps-append Lax front names top (top ∷ []))
-    ∙ joined (steps_meaning Lax (steps_of front) top (top ∷ []))
-  where
-    last : (o : Outcome (List Tree)) →
-        and_then (and_then o (λ ts. Ok (flat_map values_of_item ts))) (λ ls. Ok (compare op ls (literal ∷ [])))
-        ≡ and_then o (λ ts. Ok (compare op (flat_map values_of_item ts) (literal ∷ [])))
-    last (Ok ts) = refl
-    last (Err e) = refl
-
-    joined : (o : Outcome (List Tree)) →
-        and_then (and_then (and_then o (steps_meaning Lax (steps_of names) top)) (λ ts. Ok (flat_map values_of_item ts)))
-        (λ ls. Ok (compare op ls (literal ∷ [])))
-        ≡ and_then o (λ us. and_then (steps_meaning Lax (steps_of names) top us) (λ ts. Ok (compare op (flat_map values_of_item ts) (literal ∷ []))))
-    joined (Ok us) = last (steps_meaning Lax (steps_of names) top us)
-    joined (Err e) = refl
+    rw (comparison_is Lax op (math.paths (steps_of steps)) r top top compares, is, split)
+    (grind (arith, start_at_root (steps_of steps) top, steps-append Lax front names top (top ∷ [])))
 
 -- the front as its steps are taken within an operand
 pub by_front : (list : ListCompared) (e : Expression) (top : Tree) → IsListCompared list e → truth Lax e top top
     ≡ and_then (steps_meaning Lax (steps_of (map (taken_step AreRefused) (steps_view list.front.now))) top (top ∷ [])) (items_truth list.comparison top)
-by_front list e top k =
-    k.compares top
-    ∙ ap (λ l. and_then (steps_meaning Lax (steps_of l) top (top ∷ [])) (items_truth list.comparison top)) (sym (refused_steps (steps_view list.front.now)))
+by_front list e top k = grind (arith, refused_steps)
 
 -- without steps before the names, the member is that of the root
 pub by_names : (list : ListCompared) (e : Expression) (top : Tree) (k : IsListCompared list e) → list.front.now ≡ []
     → truth Lax e top top ≡ truth Lax k.each top top
-by_names list e top k none =
-    k.compares top
-    ∙ ap (λ l. and_then (steps_meaning Lax (steps_of (steps_view l)) top (top ∷ [])) (items_truth list.comparison top)) none
-    ∙ sym (k.member.compares Lax top top)
+by_names list e top k none = grind arith

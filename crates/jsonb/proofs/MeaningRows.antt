@@ -1,5 +1,6 @@
 -- Worked paths on documents: what they select, as the definitions compute it.
-use Rattle.jsonb.proofs.Common.{ℕ, pos, negsuc, true, false, List, [], ◌∷◌, Option, Some, None, Ok, Err, refl, codes, option_map, String, Outcome, InvalidJsonPath, Arithmetic, StrictPath, Overflow, Inexact, ZeroDivisor, DecimalOperand, Number, int64, uint64, decimal64, Tree, null, text, array, object, trees_of, pairs_of, UInt64, AreRows, Step, Expression, steps_of, Truth, meaning, predicate, Mode, Lax, Strict}
+use Rattle.jsonb.proofs.Common.{ℕ, pos, negsuc, true, false, List, [], ◌∷◌, Option, Some, None, Ok, Err, refl, codes, option_map, String, Outcome, InvalidJsonPath, Arithmetic, StrictPath, Overflow, Inexact, ZeroDivisor, DecimalOperand, Number, int64, uint64, decimal64, Tree, null, array, object, trees_of, pairs_of, UInt64, AreRows, Step, Expression, steps_of, Truth, meaning, predicate, Mode, Lax, Strict}
+use Rattle.jsonb_doc.proofs.Common.{text}
 use Rattle.jsonb_doc.specs.Tree.{boolean, number}
 use Rattle.jsonb.specs.PathTree as p
 use Rattle.jsonb.proofs.GrammarRows.{read}

@@ -1,11 +1,10 @@
 -- Steps that name one member at most.
-use Rattle.jsonb.proofs.Common.{◌≡◌, ℕ, ◌+◌, ◌<◌, List, [], ◌∷◌, length, drop, get_or, suc, add-one, map, Bool, true, false, Option, Some, None, Ok, Err, refl, sym, ap, ◌∙◌, ◌&&◌, drop-cons, Outcome, and_then, Tree, Spot, Step, Steps, no_steps, steps_of, step_view, steps_view, step_meaning, steps_meaning, is_member, are_members, AllZip, option_spots, taken_step, Mode, Expressions, Path}
+use Rattle.jsonb.proofs.Common.{◌≡◌, ℕ, ◌+◌, ◌<◌, List, [], ◌∷◌, length, drop, get_or, suc, add-one, map, Bool, true, Option, Some, None, Ok, refl, sym, ap, ◌∙◌, ◌&&◌, drop-cons, Outcome, and_then, Tree, Spot, Step, Steps, no_steps, steps_of, step_view, steps_view, step_meaning, steps_meaning, is_member, are_members, AllZip, option_spots, taken_step, Mode, Expressions, Path, arith}
 use Rattle.jsonb.specs.PathTree as math
 use Rattle.jsonb.proofs.StepLemmas.{joined_one, only_one, steps_at}
 
 member_taken : (expressions : Expressions) (s : Step) → is_member s ≡ true → taken_step expressions s ≡ s
-member_taken expressions (math.whole_expression e) h = cc
-member_taken expressions _ h = refl
+member_taken expressions s h = grind arith
 
 -- steps of no items select no items
 pub none_left : (mode : Mode) (ss : Steps) (top : Tree) → steps_meaning mode ss top [] ≡ Ok []
@@ -14,22 +13,18 @@ none_left mode (math.step s rest) top = none_left mode rest top
 
 -- what a step selects is what it selects without a step after it
 pub nothing_behind : (mode : Mode) (top : Tree) (given : Outcome (List Tree)) → and_then given (steps_meaning mode no_steps top) ≡ given
-nothing_behind mode top (Ok ts) = refl
-nothing_behind mode top (Err e) = refl
+nothing_behind mode top given = grind arith
 
 -- what was found stands for one tree, or for none
 pub no_member : (R : Spot → Tree → Type 0) (found : Option Spot) (ts : List Tree) → found ≡ None → AllZip R (option_spots found) ts → ts ≡ []
-no_member R found [] none h = refl
-no_member R None (t ∷ ts) none h = absurd h
-no_member R (Some x) (t ∷ ts) none h = cc
+no_member R found ts none h = grind arith
 
 pub one_member : (R : Spot → Tree → Type 0) (found : Option Spot) (x : Spot) (ts : List Tree) → found ≡ Some x → AllZip R (option_spots found) ts
     → (t : Tree) × (ts ≡ t ∷ []) × R x t
 one_member R found x ts is h = only_one R x ts (rw is at h)
 
 pub both_true : (a b : Bool) → a && b ≡ true → (a ≡ true) × (b ≡ true)
-both_true true b h = (refl, h)
-both_true false b h = cc
+both_true a b h = grind arith
 
 module _ (steps : List Path) (i : ℕ) (s : Path) (h : i < length steps) (is : s ≡ get_or steps i s) where
   left_is : drop i steps ≡ s ∷ drop (i + 1) steps
@@ -37,8 +32,7 @@ module _ (steps : List Path) (i : ℕ) (s : Path) (h : i < length steps) (is : s
 
   -- the first of the steps that are left, and those after it
   pub member_first : are_members (steps_view (drop i steps)) ≡ true → (is_member (step_view s) ≡ true) × (are_members (steps_view (drop (i + 1) steps)) ≡ true)
-  member_first all = both_true (is_member (step_view s)) (are_members (steps_view (drop (i + 1) steps)))
-      (sym (ap (λ l. are_members (steps_view l)) left_is) ∙ all)
+  member_first all = grind (arith, both_true, left_is)
 
   pub member_next : (mode : Mode) (expressions : Expressions) (top u : Tree) → is_member (step_view s) ≡ true →
       steps_meaning mode (steps_of (map (taken_step expressions) (steps_view (drop i steps)))) top (u ∷ [])

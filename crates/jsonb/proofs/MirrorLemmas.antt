@@ -1,5 +1,5 @@
 -- A comparison whose sides are exchanged.
-use Rattle.jsonb.proofs.Common.{◌≡◌, List, [], ◌∷◌, map, flat_map, true, false, Bool, Option, Some, None, option_map, Ok, Err, IfSome, refl, sym, ap, ◌∙◌, subst, append-nil, if◌then◌else◌, ◌||◌, ordering_reverse, Ordering, Less, Equal, Greater, Outcome, and_then, Tree, BinaryOp, Expression, antisymmetric, Truth, value_order, truth_of_order, is_container, pair_truth, first_decisive, compare, Value, values_of_item, steps_meaning, truth, operand_values, mirrored, is_comparison, Mode}
+use Rattle.jsonb.proofs.Common.{◌≡◌, List, [], ◌∷◌, map, flat_map, true, Bool, Option, Some, None, option_map, Ok, Err, IfSome, refl, sym, ap, ◌∙◌, subst, append-nil, if◌then◌else◌, ◌||◌, arith, ordering_reverse, Ordering, Less, Equal, Greater, Outcome, and_then, Tree, BinaryOp, Expression, antisymmetric, Truth, value_order, truth_of_order, is_container, pair_truth, first_decisive, compare, Value, values_of_item, steps_meaning, truth, operand_values, mirrored, is_comparison, Mode}
 use Rattle.jsonb.specs.PathTree as math
 use Rattle.jsonb.specs.Values.{null}
 use Rattle.jsonb.proofs.ComparedLemmas.{compares_member}
@@ -7,10 +7,7 @@ use Rattle.jsonb.proofs.KeptLemmas.{comparison_is}
 
 -- the sides do not matter for whether one is a container
 either : (a b : Bool) → (a || b) ≡ (b || a)
-either true true = refl
-either true false = refl
-either false true = refl
-either false false = refl
+either a b = grind arith
 
 abbrev by_order : BinaryOp → Value → Value → Truth
 by_order op a b = if is_container a || is_container b then None else truth_of_order op (value_order a b)
@@ -41,12 +38,7 @@ are_mirrors : (a b : Value) (o : Option Ordering) (op turned : BinaryOp) → mir
 are_mirrors a b o op turned h = subst (λ found. IfSome found (AreMirrors a b o op)) h (mirrors a b o op)
 
 pair-mirrored : (op turned : BinaryOp) (a b : Value) → mirrored op ≡ Some turned → pair_truth op a b ≡ pair_truth turned b a
-pair-mirrored op turned a b h =
-    let k = are_mirrors a b (value_order b a) op turned h in
-    k.pair
-    ∙ (λ i. if either (is_container a) (is_container b) i then None else truth_of_order op (antisymmetric a b i))
-    ∙ ap (λ t. if is_container b || is_container a then None else t) k.met
-    ∙ sym k.turned_pair
+pair-mirrored op turned a b h = grind (arith, either, are_mirrors, antisymmetric)
 
 -- the results of the pairs, for one value on the left or on the right
 pairs-mirrored : (op turned : BinaryOp) (l : Value) (rs : List Value) → mirrored op ≡ Some turned

@@ -1,5 +1,5 @@
 -- Comparisons and `exists` that wait for a path.
-use Rattle.jsonb.proofs.Common.{◌≡◌, ◌⊎◌, ℕ, List, length, flat_map, true, Option, Some, None, Ok, Err, IsOkAnd, sym, ap, ◌∙◌, subst, inl, inr, not, ◌==◌, AllZip, Outcome, and_then, IsOutOfMemory, Locates, Tree, Error, Spot, Expression, expression_view, Truth, compare, Value, values_of_item, truth, operand_values, is_some_item, AreAlike, HasSame, is_comparison, comparison_view, values_found, ComesNext, HasLeft, IsHeld, waits_expression, values_view, Mode, AreDropped, FilterCache, OperandValues, Comparison, Waits}
+use Rattle.jsonb.proofs.Common.{◌≡◌, ◌⊎◌, ℕ, List, length, flat_map, true, Option, Some, None, Ok, Err, IsOkAnd, ap, ◌∙◌, inl, inr, not, ◌==◌, AllZip, Outcome, and_then, IsOutOfMemory, Locates, Tree, Error, Spot, Expression, expression_view, Truth, compare, Value, values_of_item, truth, operand_values, is_some_item, AreAlike, HasSame, is_comparison, comparison_view, values_found, ComesNext, HasLeft, IsHeld, waits_expression, values_view, Mode, AreDropped, FilterCache, OperandValues, Comparison, Waits, arith}
 use Rattle.jsonb.specs.declared.selector.filter_cache.CachedPart.TheVariants as part
 use Rattle.jsonb.specs.declared.selector.operands.Waits.TheVariants as waits
 use Rattle.jsonb.proofs.AlikeLemmas.{alike_same, alike_then, alike_flat_map}
@@ -12,28 +12,12 @@ use Rattle.jsonb.proofs.RepeatLemmas.{alike_some}
 pub exists_found : (bytes : List ℕ) (spots : List Spot) (o : Outcome (List Tree)) (whole : Outcome Truth)
     → whole ≡ and_then o (λ us. Ok (Some (is_some_item us))) → IsOkAnd o (HasSame AreDropped bytes spots)
     → whole ≡ Ok (Some (not (length spots == 0)))
-exists_found bytes spots (Ok us) whole is h =
-    is ∙ ap (λ b. Ok (Some b)) (sym (some_related (Locates bytes) spots h.0 h.1 ∙ alike_some h.0 us h.2))
-exists_found bytes spots (Err e) whole is h = absurd h
-
-pub values_read : (P : List Tree → Type 0) (o : Outcome (List Tree)) (values : Outcome (List Value)) (ls : List Value) → values ≡ values_found o
-    → IsOkAnd o P → ((us : List Tree) → P us → AreAlike ls (flat_map values_of_item us)) → IsOkAnd values (AreAlike ls)
-values_read P (Ok us) values ls is h g = subst (λ w. IsOkAnd w (AreAlike ls)) (sym is) (g us h)
-values_read P (Err e) values ls is h g = absurd h
+exists_found bytes spots o whole is h = grind (arith, some_related, alike_some)
 
 pub values_known : (bytes : List ℕ) (spots : List Spot) (o : Outcome (List Tree)) (values : Outcome (List Value)) (ls : List Value)
     → values ≡ values_found o → IsOkAnd o (HasSame AreDropped bytes spots)
     → ((us : List Tree) → AllZip (Locates bytes) spots us → ls ≡ flat_map values_of_item us) → IsOkAnd values (AreAlike ls)
-values_known bytes spots o values ls is h g =
-    values_read (HasSame AreDropped bytes spots) o values ls is h
-    (λ us has. alike_then (alike_same (g has.0 has.1)) (alike_flat_map values_of_item has.2))
-
--- reading the values of what was found fails only by the memory
-pub read_fails : {A : Type 0} (bytes : List ℕ) (spots : List Spot) (o : Outcome (List Tree)) (f : List Tree → A) (e : Error)
-    → IsOkAnd o (HasSame AreDropped bytes spots)
-    → ((us : List Tree) → AllZip (Locates bytes) spots us → IsOutOfMemory e ⊎ (Ok (f us) ≡ Err e)) → IsOutOfMemory e
-read_fails bytes spots (Ok us) f e h g = elim (g h.0 h.1) [ inl memory ↦ memory | inr is ↦ cc ]
-read_fails bytes spots (Err d) f e h g = absurd h
+values_known bytes spots o values ls is h g = grind (arith, alike_then, alike_same, alike_flat_map)
 
 -- an error of a part is that of the whole
 pub as_refused : {A B : Type 0} {e : Error} {o : Outcome A} {p : Outcome B} → (o ≡ Err e → p ≡ Err e) → IsOutOfMemory e ⊎ (o ≡ Err e)
@@ -48,17 +32,11 @@ module _ (mode : Mode) (top t : Tree) (c : Comparison) (compares : is_comparison
   both_sides = comparison_is mode c.op (expression_view c.left.now) (expression_view c.right.now) top t compares
 
   pub left_refused : (e : Error) → operand_values mode (expression_view c.left.now) top t ≡ Err e → truth mode (comparison_view c) top t ≡ Err e
-  left_refused e is = both_sides ∙ ap (λ o. and_then o (λ ls. and_then (operand_values mode (expression_view c.right.now) top t)
-      (λ rs. Ok (compare c.op ls rs)))) is
+  left_refused e is = grind (arith, both_sides)
 
   pub right_refused : (e : Error) (P : List Value → Type 0) → IsOkAnd (operand_values mode (expression_view c.left.now) top t) P
       → operand_values mode (expression_view c.right.now) top t ≡ Err e → truth mode (comparison_view c) top t ≡ Err e
-  right_refused e P known is = both_sides ∙ go (operand_values mode (expression_view c.left.now) top t) known
-    where
-      go : (o : Outcome (List Value)) → IsOkAnd o P → and_then o (λ ls. and_then (operand_values mode (expression_view c.right.now) top t)
-          (λ rs. Ok (compare c.op ls rs))) ≡ Err e
-      go (Ok ls) h = ap (λ o. and_then o (λ rs. Ok (compare c.op ls rs))) is
-      go (Err d) h = absurd h
+  right_refused e P known is = grind (arith, both_sides)
 
 -- the values of the left operand
 pub left_known : (mode : Mode) (top t : Tree) (all more : List Expression) (cache : FilterCache) (c : Comparison) (lefts : Option OperandValues)

@@ -1,5 +1,5 @@
 -- The paths that the grammar makes.
-use Rattle.jsonb.proofs.Common.{◌≡◌, ◌<◌, ◌^◌, List, [], ◌∷◌, length, Bool, true, false, Option, Some, None, ◌⊎◌, ⊤, ℤ, nat_lt, MatchBool, AllByRecursion, is_within, IsName, Int64, UInt64, Decimal64, Decimal128, Place, from_front, from_last, Entry, single, slice, LevelEnd, level, last_level, Levels, Literal, number, string, raw, Step, root, current, dot_wildcard, recursive_dot_wildcard, bracket_wildcard, dot_field, colon_field, object_field, array_indices, filter, whole_expression, Steps, no_steps, step, Expression, paths, value, binary, unary, exists, joins}
+use Rattle.jsonb.proofs.Common.{◌≡◌, ◌<◌, ◌^◌, List, [], ◌∷◌, length, Bool, true, false, Option, Some, None, ◌⊎◌, ⊤, ℤ, nat_lt, MatchBool, AllByRecursion, is_within, IsName, Int64, UInt64, Decimal64, Decimal128, Place, from_front, from_last, Entry, single, slice, LevelEnd, level, last_level, Levels, Literal, number, string, raw, Step, root, current, dot_wildcard, recursive_dot_wildcard, bracket_wildcard, dot_field, colon_field, object_field, array_indices, filter, whole_expression, Steps, no_steps, step, Expression, paths, value, binary, unary, exists, steps_of, joins}
 
 -- an index of 32 bits
 abbrev pub IsIndex : ℤ → Type 0
@@ -93,5 +93,5 @@ abbrev mutual
 
 -- a whole path
 abbrev pub IsPath : List Step → Type 0
-IsPath p = ((e : Expression) × (p ≡ whole_expression e ∷ []) × IsCondition false e) ⊎ (((ss : List Step) ×
-    (p ≡ root ∷ ss) × AllByRecursion IsPathStep ss) ⊎ AllByRecursion IsPathStep p)
+IsPath p = ((e : Expression) × (p ≡ whole_expression e ∷ []) × IsCondition false e) ⊎
+    (((ss : List Step) × (p ≡ root ∷ ss) × ArePathSteps (steps_of ss)) ⊎ ArePathSteps (steps_of p))

@@ -1,5 +1,5 @@
 -- The elements that an index entry picks are those between its bounds.
-use Rattle.jsonb.proofs.Common.{◌≡◌, ℕ, zero, suc, ◌+◌, ◌-◌, ◌<◌, ◌≤◌, ◌↔◌, ℤ, pos, ◌≤ℤ◌, Bool, true, false, cond, ◌&&◌, List, [], ◌∷◌, ◌++◌, length, take, drop, filter_map, slice_get, Some, None, nat_lt, refl, sym, ap, ◌∙◌, arith, append-nil, int_le, slice_range, Decides, cons_option, range_with_len, AllZip, Decides-int_eq, nat_tests, ints, Tree, Entry, single, slice, from_front, position, IsPosition, is_meant, picked_by, picked}
+use Rattle.jsonb.proofs.Common.{◌≡◌, ℕ, zero, suc, ◌+◌, ◌-◌, ◌<◌, ◌≤◌, ◌↔◌, ℤ, pos, ◌≤ℤ◌, Bool, true, false, List, [], ◌∷◌, ◌++◌, length, take, drop, filter_map, slice_get, Some, None, nat_lt, refl, sym, ap, ◌∙◌, arith, append-nil, int_le, slice_range, Decides, cons_option, range_with_len, AllZip, nat_tests, ints, Tree, Entry, single, from_front, IsPosition, is_meant, picked_by, picked}
 use Rattle.std.proofs.Common.{filter}
 
 -- ---- the test and the relation agree
@@ -7,21 +7,11 @@ use Rattle.std.proofs.Common.{filter}
 le_decides : (x y : ℤ) → Decides (int_le x y) (x ≤ℤ y)
 le_decides x y = (λ h. grind (arith, ints), λ h. grind (arith, ints))
 
-both_decide : {P Q : Type 0} (a b : Bool) → Decides a P → Decides b Q → Decides (a && b) (P × Q)
-both_decide true b f g = (λ h. (f.0 refl, g.0 h), λ h. g.1 h.1)
-both_decide false b f g = (λ h. cc, λ h. f.1 h.0)
-
 pub meant_decides : (entry : Entry) (n k : ℕ) → k < n → Decides (is_meant n entry k) (IsPosition entry n k)
-meant_decides (single place) n k h =
-    let d = Decides-int_eq (pos k) (position n place) in (λ is. (h, d.0 is), λ is. d.1 is.1)
-meant_decides (slice (first, last)) n k h =
-    let d = both_decide (int_le (position n first) (pos k)) (int_le (pos k) (position n last)) (le_decides (position n first) (pos k))
-    (le_decides (pos k) (position n last)) in
-    (λ is. let b = d.0 is in (h, b.0, b.1), λ b. d.1 (b.1, b.2))
+meant_decides entry n k h = grind (arith, le_decides)
 
 not_meant : (entry : Entry) (n k : ℕ) (b : Bool) → is_meant n entry k ≡ b → (b ≡ true → ⊥) → is_meant n entry k ≡ false
-not_meant entry n k true e wrong = absurd (wrong refl)
-not_meant entry n k false e wrong = e
+not_meant entry n k b e wrong = grind arith
 
 -- ---- from a position on
 
@@ -41,15 +31,10 @@ module _ {B : Type 0} (ts : List B) (p : ℕ → Bool) (n : ℕ) where
   rest_from k = filter_map (slice_get ts) (filter p (range_with_len k (n - k)))
 
   rest_taken : (k : ℕ) (u : B) → k < n → p k ≡ true → slice_get ts k ≡ Some u → rest_from k ≡ u ∷ rest_from (k + 1)
-  rest_taken k u h is here =
-      ap (λ l. filter_map (slice_get ts) (filter p l)) (range_with_len-next n k h)
-      ∙ ap (λ b. filter_map (slice_get ts) (cond b (k ∷ filter p (range_with_len (k + 1) (n - (k + 1)))) (filter p (range_with_len (k + 1) (n - (k + 1)))))) is
-      ∙ ap (λ o. cons_option o (rest_from (k + 1))) here
+  rest_taken k u h is here = grind (arith, range_with_len-next)
 
   rest_passed : (k : ℕ) → k < n → p k ≡ false → rest_from k ≡ rest_from (k + 1)
-  rest_passed k h is =
-      ap (λ l. filter_map (slice_get ts) (filter p l)) (range_with_len-next n k h)
-      ∙ ap (λ b. filter_map (slice_get ts) (cond b (k ∷ filter p (range_with_len (k + 1) (n - (k + 1)))) (filter p (range_with_len (k + 1) (n - (k + 1)))))) is
+  rest_passed k h is = grind (arith, range_with_len-next)
 
   rest_none : (k : ℕ) → n ≤ k → rest_from k ≡ []
   rest_none k h = ap (λ l. filter_map (slice_get ts) (filter p l)) (range_with_len-end n k h)
@@ -57,8 +42,7 @@ module _ {B : Type 0} (ts : List B) (p : ℕ → Bool) (n : ℕ) where
   -- so many that are passed over, and so many that are taken
   passed_until : (d k j : ℕ) → k + d ≡ j → j ≤ n → ((i : ℕ) → k ≤ i → i < j → p i ≡ false) → rest_from k ≡ rest_from j
   passed_until zero k j e h none = let same : k ≡ j = omega arith in ap rest_from same
-  passed_until (suc d) k j e h none =
-      rest_passed k (omega arith) (none k (omega arith) (omega arith)) ∙ passed_until d (k + 1) j (omega arith) h (λ i low high. none i (omega arith) high)
+  passed_until (suc d) k j e h none = grind (arith, (passed_until d (k + 1) j (omega arith) h), rest_passed)
 
   taken_until : (d k j : ℕ) → k + d ≡ j → j ≤ n → n ≡ length ts → ((i : ℕ) → k ≤ i → i < j → p i ≡ true) → rest_from k ≡ take d (drop k ts) ++ rest_from j
   taken_until zero k j e h len all = let same : k ≡ j = omega arith in ap rest_from same
@@ -116,11 +100,7 @@ get_first ts first others k whole none = rw (whole, none) refl
 
 pub get_further : {B : Type 0} (ts : List B) (first : B) (others : List B) (k : ℕ) → ts ≡ first ∷ others → (k ≡ 0 → ⊥)
     → slice_get others (k - 1) ≡ slice_get ts k
-get_further ts first others k whole later = rw whole (go k later)
-  where
-    go : (j : ℕ) → (j ≡ 0 → ⊥) → slice_get others (j - 1) ≡ slice_get (first ∷ others) j
-    go zero none = absurd (none refl)
-    go (suc j) none = let e : suc j - 1 ≡ j = omega arith in ap (slice_get others) e
+get_further ts first others k whole later = grind arith
 
 pub get_none : {B : Type 0} (ts : List B) (k : ℕ) → ts ≡ [] → slice_get ts k ≡ None
 get_none ts k is = rw is refl

@@ -1,14 +1,12 @@
 -- A path of steps is no longer than its text.
-use Rattle.jsonb.proofs.Common.{◌≡◌, ◌≤◌, ℕ, List, [], ◌∷◌, ◌++◌, length, Some, sym, literal, repeat, name, NeverGrows, some-no_more, grows-give, grows-then, grows-choice, some-literal, some-name, Step, root, dot_field, spaced, first_step, front_steps, path_step, plain_path}
-use Rattle.jsonb.proofs.EntryReadsSome.{some-spaced}
-use Rattle.jsonb.proofs.InnerReadsSome.{grows-repeat}
+use Rattle.jsonb.proofs.Common.{◌≡◌, ◌≤◌, ℕ, List, [], ◌∷◌, ◌++◌, length, Some, sym, repeat, name, NeverGrows, grows-give, grows-then, grows-choice, some-literal, some-name, Step, root, dot_field, first_step, front_steps, path_step, plain_path}
+use Rattle.jsonb.proofs.InnerReadsSome.{further, some-spaced, grows-repeat}
 use Rattle.jsonb.proofs.ExpressionReadsSome.{some-path_step}
 
 grows-first_step : NeverGrows first_step
 unfolding first_step
 grows-first_step =
-    grows-choice _ _ (grows-then (literal "$") _ (some-no_more _ (some-literal 36 [])) (λ _. grows-give root))
-    (grows-then (spaced name) _ (some-no_more _ (some-spaced name some-name)) (λ text. grows-give (dot_field text)))
+    grows-choice _ _ (further (some-literal 36 []) (λ _. grows-give root)) (further (some-spaced name some-name) (λ text. grows-give (dot_field text)))
 
 grows-front_steps : NeverGrows front_steps
 unfolding front_steps

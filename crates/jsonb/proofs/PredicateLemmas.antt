@@ -1,6 +1,5 @@
 -- What an expression says as a predicate, by its kind.
-use Rattle.jsonb.proofs.Common.{◌≡◌, List, [], ◌∷◌, ◌++◌, Option, Some, None, Ok, Err, refl, Outcome, and_then, try_flat_map, Operation, calculated, negated, Number, Tree, BinaryOp, UnaryOp, plus, minus, Expression, paths, value, binary, unary, exists, operation, two_numbers, all_numbers, signed_number, each_signed, number_list, truth_list, binary_meaning, expression_predicate, calculation, Value, Truth, operand_values, truth, expression_meaning, list_truth, Mode}
-use Rattle.jsonb.specs.Values.{number}
+use Rattle.jsonb.proofs.Common.{◌≡◌, List, [], ◌∷◌, ◌++◌, Option, Some, None, Ok, Err, refl, Outcome, and_then, try_flat_map, Operation, negated, Number, Tree, BinaryOp, UnaryOp, plus, minus, Expression, value, binary, exists, operation, all_numbers, signed_number, each_signed, number_list, truth_list, expression_predicate, calculation, Value, Truth, operand_values, truth, expression_meaning, list_truth, Mode, arith}
 
 -- what a list says, and what is run for its error alone
 abbrev said : List Tree → Outcome Truth
@@ -23,32 +22,20 @@ predicate_of mode e top = and_then (expression_meaning mode e top) nothing_said
 
 -- a result is that of its list
 truth_said : (o : Outcome Truth) → and_then (truth_list o) said ≡ o
-truth_said (Ok (Some b)) = refl
-truth_said (Ok None) = refl
-truth_said (Err e) = refl
+truth_said o = grind arith
 
 -- numbers say nothing
 number_said : (o : Outcome Number) → and_then (number_list o) said ≡ and_then (number_list o) nothing_said
-number_said (Ok n) = refl
-number_said (Err e) = refl
-
-two_said : (op : Operation) (ls rs : List Value) → and_then (two_numbers op ls rs) said ≡ and_then (two_numbers op ls rs) nothing_said
-two_said op (number m ∷ []) (number n ∷ []) = number_said (calculated op m n)
-two_said op _ _ = refl
+number_said o = grind arith
 
 calculation_said : (op : Operation) (l r : Outcome (List Value)) → and_then (calculation op l r) said ≡ and_then (calculation op l r) nothing_said
-calculation_said op (Err e) r = refl
-calculation_said op (Ok ls) (Err e) = refl
-calculation_said op (Ok ls) (Ok rs) = two_said op ls rs
+calculation_said op l r = grind (arith, number_said)
 
 -- the numbers after signs: the first of them decides that no result is alone
 front_said : (o : Outcome Number) (back : Outcome (List Tree)) →
     and_then (and_then (number_list o) (λ front. and_then back (λ ts. Ok (front ++ ts)))) said
     ≡ and_then (and_then (number_list o) (λ front. and_then back (λ ts. Ok (front ++ ts)))) nothing_said
-front_said (Err e) back = refl
-front_said (Ok n) (Err e) = refl
-front_said (Ok n) (Ok []) = refl
-front_said (Ok n) (Ok (t ∷ ts)) = refl
+front_said o back = grind arith
 
 joined_said : (op : UnaryOp) (ns : List Number)
     → and_then (try_flat_map (signed_number op) ns) said ≡ and_then (try_flat_map (signed_number op) ns) nothing_said
@@ -65,14 +52,5 @@ unary_said : (op : UnaryOp) (o : Outcome (List Value)) → and_then (and_then o 
 unary_said op (Ok vs) = signs_said op (all_numbers vs)
 unary_said op (Err e) = refl
 
-binary_said : (mode : Mode) (o : Option Operation) (op : BinaryOp) (l r : Expression) (top : Tree) →
-    and_then (binary_meaning mode o op l r top) said ≡ binary_predicate mode o op l r top
-binary_said mode (Some arithmetic) op l r top = calculation_said arithmetic (operand_values mode l top top) (operand_values mode r top top)
-binary_said mode None op l r top = truth_said (truth mode (binary op l r) top top)
-
 pub predicate_by_cases : (mode : Mode) (e : Expression) (top : Tree) → expression_predicate mode e top ≡ predicate_of mode e top
-predicate_by_cases mode (paths steps) top = refl
-predicate_by_cases mode (value l) top = refl
-predicate_by_cases mode (unary op e) top = unary_said op (operand_values mode e top top)
-predicate_by_cases mode (binary op l r) top = binary_said mode (operation op) op l r top
-predicate_by_cases mode (exists steps) top = truth_said (truth mode (exists steps) top top)
+predicate_by_cases mode e top = grind (arith, unary_said, truth_said, calculation_said)

@@ -1,5 +1,5 @@
 -- Loops whose turns add lists: what is done so far, before what the rest gives, is the whole.
-use Rattle.jsonb.proofs.Common.{◌≡◌, List, [], ◌∷◌, ◌++◌, Some, None, Result, Ok, Err, IsOkAnd, refl, inl, inr, subst, sym, ap, ◌∙◌, append_assoc, append-nil, ◌⊎◌, ℕ, ◌+◌, ◌<◌, ◌≤◌, length, drop, get_or, add-one, flat_map, drop-cons, drop_of_length-le, Outcome, and_then, try_flat_map, Refines, IsOutOfMemory, Error, Spot, SpotIter, Tree, GivesSpot, Locates, HasSpotsLeft, taken_spot, no_refusal, no_spots_left, AllZip}
+use Rattle.jsonb.proofs.Common.{◌≡◌, List, [], ◌∷◌, ◌++◌, Some, None, Result, Ok, Err, IsOkAnd, refl, sym, ap, ◌∙◌, append_assoc, append-nil, ◌⊎◌, ℕ, ◌+◌, ◌<◌, ◌≤◌, length, drop, get_or, add-one, flat_map, drop-cons, drop_of_length-le, Outcome, and_then, try_flat_map, Refines, IsOutOfMemory, Error, Spot, SpotIter, Tree, GivesSpot, Locates, HasSpotsLeft, taken_spot, no_refusal, no_spots_left, AllZip, arith}
 use Rattle.jsonb_doc.specs.declared.layout.EntryKind.TheVariants as kind
 
 -- a list before a list, or its error
@@ -22,12 +22,7 @@ pub record First {B : Type 0} (Others : List B → Type 0) (P : B → Type 0) (r
   pub left : Others others
 
 behind-nil : {C : Type 0} (o : Outcome (List C)) → o ≡ behind [] o
-behind-nil (Ok x) = refl
-behind-nil (Err e) = refl
-
-behind-behind : {C : Type 0} (a b : List C) (o : Outcome (List C)) → behind a (behind b o) ≡ behind (a ++ b) o
-behind-behind a b (Ok x) = ap Ok (sym (append_assoc a b x))
-behind-behind a b (Err e) = refl
+behind-nil o = grind arith
 
 -- parts that are never refused
 pub joined_total : {B C : Type 0} (g : B → List C) (ts : List B) → try_flat_map (λ t. Ok (g t)) ts ≡ Ok (flat_map g ts)
@@ -48,29 +43,17 @@ module _ {B C : Type 0} {f : B → Outcome (List C)} {Left : List B → Type 0} 
     where
       added : (given : List C) (t : B) (rest : List B) (o : Outcome (List C)) → f t ≡ o → Left' rest → IsOkAnd o (λ us. Done' (given ++ us))
           → outcome ≡ behind given (try_flat_map f (t ∷ rest)) → Progress Left' Done' f outcome
-      added given t rest (Ok us) e l h is = record {
-        rest = rest;
-        given = given ++ us;
-        left = l;
-        done = h;
-        is = is ∙ ap (λ o. behind given (and_then o (λ front. behind front (try_flat_map f rest)))) e ∙ behind-behind given us (try_flat_map f rest);
-      }
-      added given t rest (Err e) eq l h is = absurd h
+      added given t rest o e l h is = grind (arith, append_assoc)
 
   -- an error
   pub refused_in : {Left' : List B → Type 0} {P : B → Type 0} {e : Error} → Progress Left Done f outcome
       → ((rest : List B) → Left rest → First Left' P rest) → ((t : B) (before : List C) → P t → Done before → IsOutOfMemory e ⊎ (f t ≡ Err e))
       → IsOutOfMemory e ⊎ (outcome ≡ Err e)
-  refused_in p first one =
-      let k = first p.rest p.left in
-      let is = p.is ∙ ap (λ l. behind p.given (try_flat_map f l)) k.whole in
-      let next = λ (o : Outcome (List C)). behind p.given (and_then o (λ front. behind front (try_flat_map f k.others))) in
-      elim (one k.first p.given k.holds p.done) [ inl memory ↦ inl memory | inr refused ↦ inr (is ∙ ap next refused) ]
+  refused_in p first one = grind arith
 
   -- the end
   pub at_end : Progress Left Done f outcome → ((rest : List B) → Left rest → rest ≡ []) → IsOkAnd outcome Done
-  at_end p none = subst (λ o. IsOkAnd o Done)
-      (sym (p.is ∙ ap (λ l. behind p.given (try_flat_map f l)) (none p.rest p.left) ∙ ap Ok (append-nil p.given))) p.done
+  at_end p none = grind (arith, append-nil)
 
 -- parts that never fail, after what there was
 pub total_start : {B C : Type 0} (g : B → List C) (Left : List B → Type 0) (Done : List C → Type 0) (ts : List B) (before : List C) → Left ts → Done before →
@@ -102,11 +85,7 @@ module _ {A B : Type 0} (R : A → B → Type 0) (xs : List A) where
       go (t ∷ ts) a = record { first = t; others = ts; whole = refl; holds = a.0; left = a.1 }
 
   pub list_end : (i : ℕ) → length xs ≤ i → (rest : List B) → AllZip R (drop i xs) rest → rest ≡ []
-  list_end i h rest a = go rest (rw (drop_of_length-le xs h) at a)
-    where
-      go : (rest : List B) → AllZip R [] rest → rest ≡ []
-      go [] a = refl
-      go (t ∷ ts) a = absurd a
+  list_end i h rest a = grind (arith, drop_of_length-le)
 
 -- ---- over places of the bytes, each of whose lists goes after those that were found before
 
@@ -116,8 +95,7 @@ module _ (f : Tree → Outcome (List Tree)) (bytes : List ℕ) (spots : List Spo
   SpotsPassed i found = Progress (AllZip (Locates bytes) (drop i spots)) (AllZip (Locates bytes) found) f (try_flat_map f ts)
 
   pub none_passed : (found : List Spot) → found ≡ [] → AllZip (Locates bytes) spots ts → SpotsPassed 0 found
-  none_passed found none a =
-      at_start f (AllZip (Locates bytes) spots) (AllZip (Locates bytes) found) ts a (subst (λ l. AllZip (Locates bytes) l []) (sym none) tt)
+  none_passed found none a = grind (arith, at_start)
 
   module _ (i : ℕ) (found found' : List Spot) (passed : SpotsPassed i found) where
     pub spot_passed : i < length spots

@@ -1,5 +1,5 @@
 -- Results that refine meanings: what the result for a part says of the whole.
-use Rattle.jsonb.proofs.Common.{◌≡◌, ◌⊎◌, List, [], ◌∷◌, ◌++◌, Option, Some, None, option_map, Result, Ok, Err, OnOk, IfErr, IsOkAnd, IsErrAnd, refl, inl, inr, subst, sym, ap, append-nil, length, map, rules, not, ◌==◌, Outcome, and_then, Refines, SameOption, IsOutOfMemory, Error, Tree, AllZip, is_some_item, list_or, fail_if_strict, Mode, Lax, Strict}
+use Rattle.jsonb.proofs.Common.{◌≡◌, ◌⊎◌, List, [], ◌∷◌, ◌++◌, Option, Some, None, option_map, Result, Ok, Err, OnOk, IfErr, IsOkAnd, IsErrAnd, refl, inl, inr, subst, sym, append-nil, length, map, rules, not, ◌==◌, Outcome, and_then, Refines, SameOption, IsOutOfMemory, Error, Tree, AllZip, is_some_item, list_or, fail_if_strict, Mode, arith}
 
 -- ---- related lists
 
@@ -31,11 +31,7 @@ related_of_map {A} f xs ys is = subst (λ l. AllZip (Is f) xs l) is (each xs)
 pub pushed_all : {A B : Type 0} (R : A → B → Type 0) (r : Result (Unit {0}) Error) (old new more : List A) (before us : List B) →
     OnOk r (new ≡ old ++ more) → IfErr r IsOutOfMemory → AllZip R old before → AllZip R more us →
     Refines (λ _ ts. AllZip R new (before ++ ts)) IsOutOfMemory r (Ok us)
-pushed_all R (Ok v) old new more before us is none a h = record {
-  ok = rw (sym is) at (AllZip-append R old more before us a h);
-  err = tt;
-}
-pushed_all R (Err e) old new more before us is none a h = record { ok = tt; err = inl none }
+pushed_all R r old new more before us is none a h = grind (arith, AllZip-append)
 
 pub pushed : {A B : Type 0} (R : A → B → Type 0) (r : Result (Unit {0}) Error) (old new : List A) (x : A) (before : List B) (u : B) →
     OnOk r (new ≡ old ++ x ∷ []) → IfErr r IsOutOfMemory → AllZip R old before → R x u →
@@ -50,8 +46,7 @@ unchanged R xs before a = record { ok = rw (sym (append-nil before)) at a; err =
 -- a step that doesn't fit yields nothing, or fails
 pub mismatches : {A : Type 0} (mode : Mode) (R : A → Tree → Type 0) (xs : List A) (before : List Tree) → AllZip R xs before →
     Refines (λ _ ts. AllZip R xs (before ++ ts)) IsOutOfMemory (fail_if_strict mode) (list_or mode [] None)
-mismatches Lax R xs before a = unchanged R xs before a
-mismatches Strict R xs before a = record { ok = tt; err = inr refl }
+mismatches mode R xs before a = grind (arith, unchanged)
 
 -- ---- two parts, one after the other
 
@@ -65,8 +60,7 @@ same_answer {A} {B} {R} {r} {s} {o} e h = rw (sym e) at h
 
 -- the error that `?` returns
 pub err_is : {T : Type 0} {e : Error} {r : Result T Error} → IsErrAnd r (λ d. d ≡ e) → r ≡ Err e
-err_is {r = Ok x} h = absurd h
-err_is {r = Err d} h = ap Err h
+err_is h = grind arith
 
 pub failed_as : {A B : Type 0} {R : A → B → Type 0} {e : Error} {s : Outcome A} {o : Outcome B} → IsErrAnd s (λ d. d ≡ e) → Refines R IsOutOfMemory (Err e) o
     → Refines R IsOutOfMemory s o
@@ -84,8 +78,7 @@ failed_with h g = failed_as h (refused g)
 
 -- what holds of a list that is known
 pub on_ok : {A B : Type 0} (P : List B → Type 0) (r : Outcome A) (ts : List B) → Refines (λ _ us. P us) IsOutOfMemory r (Ok ts) → OnOk r (P ts)
-on_ok P (Ok x) ts h = h.ok
-on_ok P (Err e) ts h = tt
+on_ok P r ts h = grind arith
 
 -- a value that is known
 pub one_given : {A B : Type 0} (R : A → List B → Type 0) (ts : List B) {x : A} → R x ts → Refines R IsOutOfMemory (Ok x) (Ok ts)
@@ -107,8 +100,7 @@ only_memory h = record { ok = tt; err = memory_only h.err }
 -- a value of the first part goes on
 pub with_ok : {B D : Type 0} (P : B → Type 0) (Q : Outcome D → Type 0) (o : Outcome B) (next : B → Outcome D) → IsOkAnd o P → ((y : B) → P y → Q (next y))
     → Q (and_then o next)
-with_ok P Q (Ok y) next h go = go y h
-with_ok P Q (Err e) next h go = absurd h
+with_ok P Q o next h go = grind arith
 
 -- what a first part with a value leaves to the rest
 pub continued : {B C : Type 0} (P : B → Type 0) (o : Outcome B) (next : B → Outcome C) → IsOkAnd o P → (us : B) × P us × (and_then o next ≡ next us)
@@ -118,17 +110,7 @@ continued P (Err e) next h = absurd h
 -- an error of the first part is that of the whole
 pub first_refused : {A B C D : Type 0} {R : A → B → Type 0} {S : C → D → Type 0} {e : Error} {o : Outcome B} (next : B → Outcome D) →
     Refines R IsOutOfMemory (Err e) o → Refines S IsOutOfMemory (Err e) (and_then o next)
-first_refused {e = e} {o = o} next h = record {
-  ok = tt;
-  err = elim h.err [ inl memory ↦ inl memory | inr is ↦ inr (ap (λ v. and_then v next) is) ];
-}
-
-pub first_of_three_refused : {A B C D E : Type 0} {R : A → B → Type 0} {S : D → E → Type 0} {e : Error} {o : Outcome B}
-    (next : B → Outcome C) (last : C → Outcome E) → Refines R IsOutOfMemory (Err e) o → Refines S IsOutOfMemory (Err e) (and_then (and_then o next) last)
-first_of_three_refused {e = e} {o = o} next last h = record {
-  ok = tt;
-  err = elim h.err [ inl memory ↦ inl memory | inr is ↦ inr (ap (λ v. and_then (and_then v next) last) is) ];
-}
+first_refused next h = grind arith
 
 -- a value of the first part, and the result of what follows
 pub followed : {A B C D : Type 0} {R : A → B → Type 0} {S : C → D → Type 0} {x : A} {r : Outcome C} {o : Outcome B} (next : B → Outcome D) →
@@ -137,20 +119,17 @@ followed {R = R} {S = S} {x = x} {r = r} {o = o} next h go = with_ok (R x) (λ w
 
 pub one_ok : {A B C D : Type 0} {R : A → B → Type 0} {S : C → D → Type 0} {x : A} {z : C} {o : Outcome B} (next : B → Outcome D) →
     Refines R IsOutOfMemory (Ok x) o → ((a : B) → R x a → IsOkAnd (next a) (S z)) → Refines S IsOutOfMemory (Ok z) (and_then o next)
-one_ok {R = R} {S = S} {x = x} {z = z} {o = o} next h go =
-    record { ok = with_ok (R x) (λ w. IsOkAnd w (S z)) o next h.ok go; err = tt }
+one_ok next h k = grind (arith, with_ok)
 
 pub second_refused : {A B C D E F : Type 0} {R : A → B → Type 0} {Q : C → D → Type 0} {S : E → F → Type 0} {x : A} {e : Error} {o : Outcome B} {p : Outcome D}
     (next : B → D → Outcome F) →
     Refines R IsOutOfMemory (Ok x) o → Refines Q IsOutOfMemory (Err e) p → Refines S IsOutOfMemory (Err e) (and_then o (λ a. and_then p (next a)))
-second_refused {R = R} {Q = Q} {S = S} {x = x} {e = e} {o = o} {p = p} next g h =
-    with_ok (R x) (λ w. Refines S IsOutOfMemory (Err e) w) o (λ a. and_then p (next a)) g.ok (λ a r. first_refused {R = Q} (next a) h)
+second_refused next h k = grind (arith, with_ok, first_refused)
 
 -- by the value of a first part
 pub given_by : {A C D : Type 0} {Q : C → D → Type 0} {R : A → D → Type 0} {c : C} {r : Outcome A} {o : Outcome D} → Refines Q IsOutOfMemory (Ok c) o
     → ((x : D) → Q c x → Refines R IsOutOfMemory r (Ok x)) → Refines R IsOutOfMemory r o
-given_by {Q = Q} {R = R} {c = c} {r = r} {o = Ok x} h go = go x h.ok
-given_by {Q = Q} {R = R} {c = c} {r = r} {o = Err e} h go = absurd h.ok
+given_by h k = grind arith
 
 -- ---- what was found: the value under a key, the children of a container
 
@@ -158,29 +137,24 @@ module _ {A V : Type 0} {S : A → List Tree → Type 0} {r : Outcome A} (mode :
   pub listed : (g : List Tree → List Tree) (v : V) (o : Option (List Tree)) → SameOption R (Some v) o
       → ((us : List Tree) → R v us → Refines S IsOutOfMemory r (Ok (g us))) →
       Refines S IsOutOfMemory r (list_or mode otherwise (option_map g o))
-  listed g v (Some us) h go = go us h
-  listed g v None h go = absurd h
+  listed g v o h go = grind arith
 
   pub listed_itself : (v : V) (o : Option (List Tree)) → SameOption R (Some v) o → ((us : List Tree) → R v us → Refines S IsOutOfMemory r (Ok us))
       → Refines S IsOutOfMemory r (list_or mode otherwise o)
-  listed_itself v (Some us) h go = go us h
-  listed_itself v None h go = absurd h
+  listed_itself v o h go = grind arith
 
   pub unlisted : (o : Option (List Tree)) → SameOption R None o → Refines S IsOutOfMemory r (list_or mode otherwise None)
       → Refines S IsOutOfMemory r (list_or mode otherwise o)
-  unlisted (Some us) h g = absurd h
-  unlisted None h g = g
+  unlisted o h g = grind arith
 
 -- one part that was found
 pub found_one : {A V : Type 0} {S : A → List Tree → Type 0} {r : Outcome A} (mode : Mode) (otherwise : List Tree) (R : V → Tree → Type 0)
     (g : Tree → List Tree) (v : V) (o : Option Tree) →
     SameOption R (Some v) o → ((u : Tree) → R v u → Refines S IsOutOfMemory r (Ok (g u))) → Refines S IsOutOfMemory r (list_or mode otherwise (option_map g o))
-found_one mode otherwise R g v (Some u) h go = go u h
-found_one mode otherwise R g v None h go = absurd h
+found_one mode otherwise R g v o h go = grind arith
 
 -- nothing that was found
 pub none_found : {A V T : Type 0} {S : A → List Tree → Type 0} {r : Outcome A} (mode : Mode) (otherwise : List Tree) (R : V → T → Type 0)
     (g : T → List Tree) (o : Option T) →
     SameOption R None o → Refines S IsOutOfMemory r (list_or mode otherwise None) → Refines S IsOutOfMemory r (list_or mode otherwise (option_map g o))
-none_found mode otherwise R g (Some u) h given = absurd h
-none_found mode otherwise R g None h given = given
+none_found mode otherwise R g o h given = grind arith

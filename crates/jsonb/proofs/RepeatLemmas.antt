@@ -1,5 +1,5 @@
 -- What an expression makes of lists that differ in repeats alone.
-use Rattle.jsonb.proofs.Common.{◌≡◌, ◌⊎◌, inl, inr, ℕ, ◌<◌, zero, suc, length, List, [], ◌∷◌, ◌++◌, map, flat_map, Bool, true, false, Some, None, Option, Ok, Err, IsOkAnd, refl, sym, ap, subst, ◌∙◌, append_assoc, append-nil, arith, find, Contains, slice_index_or, AllZip, Outcome, and_then, try_flat_map, Refines, IsOutOfMemory, kind_number, any, number_reader, Locates, spot_content, Tree, Spot, content_unique, steps_of, steps_view, Truth, compare, pair_truth, first_decisive, Value, values_of_item, step_meaning, steps_meaning, is_some_item, first_item, AreAlike, HasSame, AlikeOutcomes, SameOutcomes, items_truth, value_view, Mode, Lax, Repeats, AreDropped, MemberCompared}
+use Rattle.jsonb.proofs.Common.{◌≡◌, ◌⊎◌, inl, inr, ℕ, ◌<◌, zero, suc, length, List, [], ◌∷◌, ◌++◌, map, flat_map, Bool, true, false, Some, None, Option, Ok, IsOkAnd, refl, sym, ap, subst, ◌∙◌, append_assoc, append-nil, arith, find, Contains, slice_index_or, AllZip, Outcome, and_then, Refines, IsOutOfMemory, kind_number, any, number_reader, Locates, spot_content, Tree, Spot, content_unique, steps_of, steps_view, Truth, compare, pair_truth, first_decisive, Value, step_meaning, steps_meaning, is_some_item, first_item, AreAlike, HasSame, AlikeOutcomes, SameOutcomes, items_truth, Mode, Lax, Repeats, MemberCompared}
 use Rattle.jsonb.specs.PathTree as math
 use Rattle.jsonb.specs.Private.Alike.{AreSame}
 use Rattle.jsonb.specs.declared.selector.document.Repeats.TheVariants.{AreKept}
@@ -10,82 +10,48 @@ use Rattle.jsonb.proofs.RefinesLemmas.{answered, AllZip-append}
 -- ---- the same lists
 
 pub same_equal : {A : Type 0} (repeats : Repeats) {xs ys : List A} → xs ≡ ys → AreSame repeats xs ys
-same_equal AreKept is = is
-same_equal AreDropped is = alike_same is
-
-pub same_flat_map : {A B : Type 0} (repeats : Repeats) (f : A → List B) (xs ys : List A) → AreSame repeats xs ys
-    → AreSame repeats (flat_map f xs) (flat_map f ys)
-same_flat_map AreKept f xs ys is = ap (flat_map f) is
-same_flat_map AreDropped f xs ys alike = alike_flat_map f alike
-
-alike_outcome : {A : Type 0} (o : Outcome (List A)) → AlikeOutcomes o o
-alike_outcome (Ok xs) = alike_itself xs
-alike_outcome (Err e) = refl
+same_equal repeats is = grind (arith, alike_same)
 
 pub same_outcome_itself : {A : Type 0} (repeats : Repeats) (o : Outcome (List A)) → SameOutcomes repeats o o
-same_outcome_itself AreKept o = refl
-same_outcome_itself AreDropped o = alike_outcome o
-
-alike_outcomes_then : {A : Type 0} (a b c : Outcome (List A)) → AlikeOutcomes a b → AlikeOutcomes b c → AlikeOutcomes a c
-alike_outcomes_then (Ok xs) (Ok ys) (Ok zs) h g = alike_then h g
-alike_outcomes_then (Err e) (Err d) (Err f) h g = h ∙ g
-alike_outcomes_then (Ok xs) (Ok ys) (Err e) h g = absurd g
-alike_outcomes_then (Err e) (Err d) (Ok zs) h g = absurd g
-alike_outcomes_then _ _ c h g = absurd h
+same_outcome_itself repeats o = grind (arith, alike_itself)
 
 pub same_outcomes_then : {A : Type 0} (repeats : Repeats) (a b c : Outcome (List A)) → SameOutcomes repeats a b → SameOutcomes repeats b c
     → SameOutcomes repeats a c
-same_outcomes_then AreKept a b c h g = h ∙ g
-same_outcomes_then AreDropped a b c h g = alike_outcomes_then a b c h g
+same_outcomes_then repeats a b c h g = grind (arith, alike_then)
 
 -- ---- steps
 
 alike_steps : (mode : Mode) (ss : math.Steps) (top : Tree) (us ts : List Tree) → AreAlike us ts
     → AlikeOutcomes (steps_meaning mode ss top us) (steps_meaning mode ss top ts)
 alike_steps mode math.no_steps top us ts h = h
-alike_steps mode (math.step s rest) top us ts h =
-    go (alike_steps mode rest top) (try_flat_map (step_meaning mode s top) us) (try_flat_map (step_meaning mode s top) ts)
-    (alike_results (step_meaning mode s top) h)
-  where
-    go : ((us ts : List Tree) → AreAlike us ts → AlikeOutcomes (steps_meaning mode rest top us) (steps_meaning mode rest top ts))
-        → (a b : Outcome (List Tree)) → AlikeOutcomes a b
-        → AlikeOutcomes (and_then a (steps_meaning mode rest top)) (and_then b (steps_meaning mode rest top))
-    go others (Ok us) (Ok ts) h = others us ts h
-    go others (Err e) (Err d) h = h
-    go others _ _ h = absurd h
+alike_steps mode (math.step s rest) top us ts h = grind (arith, alike_results (step_meaning mode s top) h, alike_steps mode rest top)
 
 pub same_steps : (repeats : Repeats) (mode : Mode) (ss : math.Steps) (top : Tree) (us ts : List Tree) → AreSame repeats us ts
     → SameOutcomes repeats (steps_meaning mode ss top us) (steps_meaning mode ss top ts)
-same_steps AreKept mode ss top us ts is = ap (steps_meaning mode ss top) is
-same_steps AreDropped mode ss top us ts alike = alike_steps mode ss top us ts alike
+same_steps repeats mode ss top us ts is = grind (arith, alike_steps)
 
 -- ---- what the results say of the whole
 
 -- the list itself
 pub same_found : (repeats : Repeats) (bytes : List ℕ) (spots : List Spot) (us : List Tree) (whole : Outcome (List Tree)) → AllZip (Locates bytes) spots us
     → SameOutcomes repeats (Ok us) whole → IsOkAnd whole (HasSame repeats bytes spots)
-same_found AreKept bytes spots us whole a same = subst (λ o. IsOkAnd o (HasSame AreKept bytes spots)) same (us, a, refl)
-same_found AreDropped bytes spots us (Ok ts) a same = (us, a, same)
-same_found AreDropped bytes spots us (Err e) a same = absurd same
+same_found repeats bytes spots us whole a same = grind arith
 
 pub with_repeats : (repeats : Repeats) (bytes : List ℕ) (spots : List Spot) (whole : Outcome (List Tree)) → IsOkAnd whole (AllZip (Locates bytes) spots)
     → IsOkAnd whole (HasSame repeats bytes spots)
-with_repeats repeats bytes spots (Ok ts) a = (ts, a, same_equal repeats refl)
-with_repeats repeats bytes spots (Err e) a = absurd a
+with_repeats repeats bytes spots whole a = grind (arith, same_equal)
 
 pub exactly : (bytes : List ℕ) (spots : List Spot) (ts : List Tree) → HasSame AreKept bytes spots ts → AllZip (Locates bytes) spots ts
 exactly bytes spots ts h = subst (AllZip (Locates bytes) spots) h.2 h.1
 
 pub all_exactly : (bytes : List ℕ) (spots : List Spot) (whole : Outcome (List Tree)) → IsOkAnd whole (HasSame AreKept bytes spots)
     → IsOkAnd whole (AllZip (Locates bytes) spots)
-all_exactly bytes spots (Ok ts) h = exactly bytes spots ts h
-all_exactly bytes spots (Err e) h = absurd h
+all_exactly bytes spots whole h = grind (arith, exactly)
 
 -- values of the list
 pub same_values : {A B C : Type 0} {e : Outcome A} (repeats : Repeats) (view : A → List C) (f : B → List C) (us ts : List B) → AreSame repeats us ts
     → Refines (λ v vs. view v ≡ vs) IsOutOfMemory e (Ok (flat_map f us)) → Refines (λ v vs. AreSame repeats (view v) vs) IsOutOfMemory e (Ok (flat_map f ts))
-same_values {e = Ok v} repeats view f us ts same h = answered (rw (sym h.ok) at (same_flat_map repeats f us ts same))
-same_values {e = Err e} repeats view f us ts same h = record { ok = tt; err = elim h.err [ inl memory ↦ inl memory | inr is ↦ cc ] }
+same_values repeats view f us ts h k = grind (arith, answered, alike_flat_map)
 
 -- ---- the first item
 
@@ -134,29 +100,16 @@ alike_compare op {ls} {ms} {rs} {ss} left right =
 -- with the values of one side known
 pub compared_right : (op : math.BinaryOp) (rs ls : List Value) (o : Outcome (List Value)) → IsOkAnd o (AreAlike rs)
     → and_then o (λ ss. Ok (compare op ls ss)) ≡ Ok (compare op ls rs)
-compared_right op rs ls (Ok ss) h = ap Ok (sym (alike_compare op (alike_itself ls) h))
-compared_right op rs ls (Err e) h = absurd h
+compared_right op rs ls o h = grind (arith, alike_compare, alike_itself)
 
 pub compared_both : (op : math.BinaryOp) (ls rs : List Value) (o p : Outcome (List Value)) → IsOkAnd o (AreAlike ls) → IsOkAnd p (AreAlike rs)
     → and_then o (λ ms. and_then p (λ ss. Ok (compare op ms ss))) ≡ Ok (compare op ls rs)
-compared_both op ls rs (Ok ms) (Ok ss) h g = ap Ok (sym (alike_compare op h g))
-compared_both op ls rs (Ok ms) (Err e) h g = absurd g
-compared_both op ls rs (Err e) p h g = absurd h
+compared_both op ls rs o p h g = grind (arith, alike_compare)
 
 -- of members of the items
 pub alike_items_truth : (c : MemberCompared) (top : Tree) (us ts : List Tree) → AreAlike us ts → items_truth c top us ≡ items_truth c top ts
-alike_items_truth c top us ts h = go (steps_meaning Lax (steps_of (steps_view c.names.now)) top us) (steps_meaning Lax (steps_of (steps_view c.names.now)) top ts)
-    (alike_steps Lax (steps_of (steps_view c.names.now)) top us ts h)
-  where
-    told : List Tree → Outcome Truth
-    told ts = Ok (compare c.op (flat_map values_of_item ts) (value_view c.literal ∷ []))
-
-    go : (a b : Outcome (List Tree)) → AlikeOutcomes a b
-        → and_then a (λ ts. Ok (compare c.op (flat_map values_of_item ts) (value_view c.literal ∷ [])))
-        ≡ and_then b (λ ts. Ok (compare c.op (flat_map values_of_item ts) (value_view c.literal ∷ [])))
-    go (Ok us) (Ok ts) h = ap Ok (alike_compare c.op (alike_flat_map values_of_item h) (alike_itself (value_view c.literal ∷ [])))
-    go (Err e) (Err d) h = ap Err h
-    go _ _ h = absurd h
+alike_items_truth c top us ts h =
+    grind (arith, alike_steps Lax (steps_of (steps_view c.names.now)) top us ts h, alike_compare, alike_flat_map, alike_itself)
 
 -- ---- a list whose repeats are left out
 

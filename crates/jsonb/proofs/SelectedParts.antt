@@ -1,5 +1,5 @@
 -- The parts that are selected, position by position.
-use Rattle.jsonb.proofs.Common.{◌≡◌, ℕ, zero, suc, ◌+◌, ◌<◌, ◌≤◌, List, [], ◌∷◌, ◌++◌, length, get_or, drop, Some, refl, ap, inl, inr, arith, add-one, drop-cons, drop_of_length-le, Tree, Form, IsTooLarge, Locates, Parts, no_parts, HoldsElements, IsOutOfMemory, ◌or◌when◌, IsOutOfMemoryOrTooLarge, Error, Spot, array_too_large-element, MadeItem, Vec, Any, AllZip, selected_len, array_of, IsAt, IsMadeItem, IsNumberItem, AreSelected, node_spots, first_item, single_or_array, TooLarge, Document, NodeList, Selected}
+use Rattle.jsonb.proofs.Common.{◌≡◌, ℕ, zero, suc, ◌+◌, ◌<◌, ◌≤◌, List, [], ◌∷◌, ◌++◌, length, get_or, drop, Some, refl, ap, inl, inr, arith, add-one, drop-cons, drop_of_length-le, Tree, Form, IsTooLarge, Locates, Parts, no_parts, HoldsElements, IsOutOfMemory, ◌or◌when◌, IsOutOfMemoryOrTooLarge, Error, Spot, array_too_large-element, MadeItem, Vec, Any, AllZip, selected_len, array_of, IsMadeItem, IsNumberItem, AreSelected, node_spots, first_item, single_or_array, TooLarge, Document, NodeList, Selected}
 use Rattle.jsonb_doc.specs.declared.number.Number.{Number}
 use Rattle.std.specs.declared.alloc.Global.{Global}
 use Rattle.jsonb.specs.declared.selector.selected.Selected.TheVariants as selected
@@ -22,30 +22,21 @@ related_at R (x ∷ xs) (y ∷ ys) (suc k) d e short h = related_at R xs ys k d 
 -- ---- what is selected
 
 pub Selects-length : (form : Form) (document : Document) (s : Selected) (ts : List Tree) → AreSelected form document s ts → selected_len s ≡ length ts
-Selects-length form document (selected.Nodes spots) ts h = related_length (IsAt document) (node_spots spots) ts h
-Selects-length form document (selected.Numbers numbers) ts h = related_length IsNumberItem numbers.items ts h
-Selects-length form document (selected.Made part) ts h = related_length (IsMadeItem form) (part ∷ []) ts h
+Selects-length form document s ts h = grind (arith, related_length)
 
 -- the spot at a position, and the part
 pub Selects-spot : (form : Form) (document : Document) (s : Selected) (found : NodeList) (spots : List Spot) (ts : List Tree) (k : ℕ) (d : Spot) (e : Tree)
     → s ≡ selected.Nodes found → spots ≡ node_spots found → k < selected_len s → AreSelected form document s ts
     → Locates document.bytes.now (get_or spots k d) (get_or ts k e)
-Selects-spot form document s found spots ts k d e is same short h =
-    rw same (related_at (IsAt document) (node_spots found) ts k d e (rw is at short) (rw is at h))
+Selects-spot form document s found spots ts k d e is same short h = grind (arith, related_at)
 
 pub Selects-number : (form : Form) (document : Document) (s : Selected) (numbers : Vec Number Global) (ts : List Tree) (k : ℕ) (d : Number) (e : Tree)
     → s ≡ selected.Numbers numbers → k < selected_len s → AreSelected form document s ts → IsNumberItem (get_or numbers.items k d) (get_or ts k e)
-Selects-number form document s numbers ts k d e is short h =
-    related_at IsNumberItem numbers.items ts k d e (rw is at short) (rw is at h)
+Selects-number form document s numbers ts k d e is short h = grind (arith, related_at)
 
 pub Selects-made : (form : Form) (document : Document) (s : Selected) (part : MadeItem) (ts : List Tree) (k : ℕ) (e : Tree)
     → s ≡ selected.Made part → k < selected_len s → AreSelected form document s ts → IsMadeItem form part (get_or ts k e)
-Selects-made form document s part ts k e is short h = go ts k (rw is at short) (rw is at h)
-  where
-    go : (ts : List Tree) (k : ℕ) → k < 1 → AllZip (IsMadeItem form) (part ∷ []) ts → IsMadeItem form part (get_or ts k e)
-    go [] k short h = absurd h
-    go (t ∷ ts) zero short h = h.0
-    go (t ∷ ts) (suc k) short h = absurd (omega (arith, short))
+Selects-made form document s part ts k e is short h = grind arith
 
 -- the trees from a position on
 pub left_first : (ts : List Tree) (k : ℕ) (e : Tree) → k < length ts → drop k ts ≡ get_or ts k e ∷ drop (k + 1) ts
@@ -70,13 +61,10 @@ too_large_at form (t ∷ ts) (suc k) e short h =
 
 -- at most one tree is its own first
 pub value_few : (ts : List Tree) → length ts ≤ 1 → single_or_array ts ≡ first_item ts
-value_few [] h = refl
-value_few (t ∷ []) h = refl
-value_few (t ∷ u ∷ ts) h = absurd (omega (arith, h))
+value_few ts h = grind arith
 
 pub value_many : (ts : List Tree) → 1 < length ts → single_or_array ts ≡ Some (array_of ts)
-value_many (t ∷ u ∷ ts) h = refl
-value_many _ h = absurd (omega (arith, h))
+value_many ts h = grind arith
 
 pub first_some : (ts : List Tree) (e : Tree) → 0 < length ts → first_item ts ≡ Some (get_or ts 0 e)
 first_some [] e h = absurd (omega (arith, h))
@@ -85,8 +73,7 @@ first_some (t ∷ ts) e h = refl
 -- the error of a part is one of the array that it goes into
 pub part_refused : (form : Form) (ts : List Tree) (t u : Tree) (e : Error) → t ≡ u → IsOutOfMemoryOrTooLarge form u e
     → IsOutOfMemoryOrTooLarge form (array_of (ts ++ t ∷ [])) e
-part_refused form ts t u e is (inl memory) = inl memory
-part_refused form ts t u e is (inr (large, past)) = inr (large, array_too_large-element form ts [] t (rw is past))
+part_refused form ts t u e is h = grind (arith, array_too_large-element)
 
 -- the error of a part is one of the list
 pub list_refused : (form : Form) (ts : List Tree) (k : ℕ) (d : Tree) (e : Error) → k < length ts → IsOutOfMemoryOrTooLarge form (get_or ts k d) e

@@ -1,5 +1,5 @@
 -- Which variant holds a whole literal changes no truth, no step and no value.
-use Rattle.jsonb.proofs.Common.{◌≡◌, ℕ, zero, List, [], ◌∷◌, Option, Some, None, refl, sym, ◌∙◌, ap, subst, map, flat_map, Ok, Err, inr, ℤ, pos, IfSome, IsSomeAnd, IsTrue, Equal, tied_itself, number_cmp_total, Error, Outcome, Refines, and_then, try_flat_map, Operation, is_decimal, calculated, negated, Variant, int64, uint64, Number, number_cmp, is_equal, is_equal-true, IsEqual, AreEqual, PairsAreEqual, Tree, Trees, Pairs, Int64, Literal, BinaryOp, and_op, or_op, starts_with_op, add, subtract, multiply, divide, modulo, UnaryOp, plus, minus, Step, root, current, filter, whole_expression, Steps, no_steps, step, Expression, paths, value, binary, unary, exists, steps_of, settled_literal, SameButVariants, MeanTheSame, json_path, path_text, AllZip, Value, container, Truth, value_order, is_container, pair_truth, first_decisive, compare, operation, all_numbers, two_numbers, signed_number, each_signed, start, step_meaning, steps_meaning, operand_values, truth, expression_meaning, as_filter, meaning, list_truth, predicate, starts_with_truth, binary_meaning, truth_list, expression_predicate, calculation, Mode}
+use Rattle.jsonb.proofs.Common.{◌≡◌, ℕ, zero, List, [], ◌∷◌, Option, Some, None, refl, sym, ◌∙◌, ap, subst, map, flat_map, Ok, Err, inr, ℤ, pos, IfSome, IsSomeAnd, IsTrue, Equal, tied_itself, number_cmp_total, Error, Outcome, Refines, arith, and_then, try_flat_map, Operation, is_decimal, calculated, negated, Variant, int64, uint64, Number, number_cmp, is_equal, is_equal-true, IsEqual, AreEqual, PairsAreEqual, Tree, Trees, Pairs, Int64, Literal, BinaryOp, and_op, or_op, starts_with_op, add, subtract, multiply, divide, modulo, UnaryOp, plus, minus, Step, root, current, filter, whole_expression, Steps, no_steps, step, Expression, paths, value, binary, unary, exists, steps_of, settled_literal, SameButVariants, MeanTheSame, json_path, path_text, AllZip, Value, Truth, value_order, is_container, pair_truth, first_decisive, compare, operation, all_numbers, two_numbers, signed_number, each_signed, start, step_meaning, steps_meaning, operand_values, truth, expression_meaning, as_filter, meaning, list_truth, predicate, starts_with_truth, binary_meaning, truth_list, expression_predicate, calculation, Mode}
 use Rattle.jsonb_doc.specs.Tree as tree
 use Rattle.jsonb.specs.PathTree as path
 use Rattle.jsonb.proofs.JumpLemmas.{same_after}
@@ -41,24 +41,13 @@ settled_outcome o = and_then o (λ ts. Ok (map settled_tree ts))
 -- ---- comparisons see no variant
 
 order-settled : (v w : Value) → value_order (settled_value v) (settled_value w) ≡ value_order v w
-order-settled null null = refl
-order-settled (boolean a) (boolean b) = refl
-order-settled (number m) (number n) = refl
-order-settled (text a) (text b) = refl
-order-settled container container = refl
-order-settled _ _ = refl
+order-settled v w = grind arith
 
 starts_with_truth-settled : (v w : Value) → starts_with_truth (settled_value v) (settled_value w) ≡ starts_with_truth v w
-starts_with_truth-settled null null = refl
-starts_with_truth-settled (boolean a) (boolean b) = refl
-starts_with_truth-settled (number m) (number n) = refl
-starts_with_truth-settled (text a) (text b) = refl
-starts_with_truth-settled container container = refl
-starts_with_truth-settled _ _ = refl
+starts_with_truth-settled v w = grind arith
 
 container-settled : (v : Value) → is_container (settled_value v) ≡ is_container v
-container-settled null = refl
-container-settled _ = refl
+container-settled v = grind arith
 
 pair-settled : (op : BinaryOp) (v w : Value) → pair_truth op (settled_value v) (settled_value w) ≡ pair_truth op v w
 pair-settled starts_with_op v w = starts_with_truth-settled v w
@@ -86,14 +75,11 @@ abbrev compared : BinaryOp → Outcome (List Value) → Outcome (List Value) →
 compared op left right = and_then left (λ ls. and_then right (λ rs. Ok (compare op ls rs)))
 
 compared-settled : (op : BinaryOp) (l r : Outcome (List Value)) → compared op (settled_values l) (settled_values r) ≡ compared op l r
-compared-settled op (Err e) r = refl
-compared-settled op (Ok ls) (Err e) = refl
-compared-settled op (Ok ls) (Ok rs) = ap (λ (t : Truth). Ok t) (compare-settled op ls rs)
+compared-settled op l r = grind (arith, compare-settled)
 
 same_compared : (op : BinaryOp) (l l' r r' : Outcome (List Value)) → settled_values l' ≡ settled_values l → settled_values r' ≡ settled_values r
     → compared op l' r' ≡ compared op l r
-same_compared op l l' r r' e f = sym (compared-settled op l' r') ∙ ap (λ (o : Outcome (List Value)). compared op o (settled_values r')) e
-    ∙ ap (λ (o : Outcome (List Value)). compared op (settled_values l) o) f ∙ compared-settled op l r
+same_compared op l l' r r' e f = cc (compared-settled op l r, compared-settled op l' r', e, f)
 
 literal-settled : (l : Literal)
     → settled_value (literal_value (settled_literal l)) ≡ settled_value (literal_value l)
@@ -191,12 +177,7 @@ same_answer f h o o' e = sym (through o') ∙ ap (λ (x : Outcome (List Value)).
 
 numbers-settled : (vs : List Value) → all_numbers (map settled_value vs) ≡ and_then (all_numbers vs) (λ ns. Ok (map settled_number ns))
 numbers-settled [] = refl
-numbers-settled (number n ∷ vs) = rw (numbers-settled vs) (go (all_numbers vs)) where
-  go : (o : Outcome (List Number))
-      → and_then (and_then o (λ ns. Ok (map settled_number ns))) (λ ns. Ok (settled_number n ∷ ns))
-      ≡ and_then (and_then o (λ ns. Ok (n ∷ ns))) (λ ns. Ok (map settled_number ns))
-  go (Ok ns) = refl
-  go (Err e) = refl
+numbers-settled (number n ∷ vs) = rw (numbers-settled vs) (grind arith)
 numbers-settled (_ ∷ vs) = refl
 
 joined-minus : (ns : List Number) → try_flat_map (signed_number minus) (map settled_number ns) ≡ try_flat_map (signed_number minus) ns
@@ -230,14 +211,9 @@ two-settled op _ _ = refl
 
 same_calculation : (op : Operation) (l l' r r' : Outcome (List Value)) → settled_values l' ≡ settled_values l → settled_values r' ≡ settled_values r
     → calculation op l' r' ≡ calculation op l r
-same_calculation op l l' r r' e f =
-    sym (through l' r') ∙ ap (λ (o : Outcome (List Value)). calculation op o (settled_values r')) e
-    ∙ ap (λ (o : Outcome (List Value)). calculation op (settled_values l) o) f ∙ through l r
-  where
-    through : (x y : Outcome (List Value)) → calculation op (settled_values x) (settled_values y) ≡ calculation op x y
-    through (Err er) y = refl
-    through (Ok ls) (Err er) = refl
-    through (Ok ls) (Ok rs) = two-settled op ls rs
+same_calculation op l l' r r' e f = cc (through l r, through l' r', e, f) where
+  through : (x y : Outcome (List Value)) → calculation op (settled_values x) (settled_values y) ≡ calculation op x y
+  through x y = grind (arith, two-settled)
 
 scalar-settled : (l : Literal) (mode : Mode) (top : Tree)
     → settled_outcome (expression_meaning mode (value (settled_literal l)) top) ≡ settled_outcome (expression_meaning mode (value l) top)
@@ -290,35 +266,30 @@ mutual
       let k : settled_number m ≡ settled_number n = cc in subst (λ x. number_cmp (settled_number m) x ≡ Equal) k (number_itself (settled_number m))
   same_tree (tree.text a) (tree.text b) e = cc
   same_tree (tree.extension a) (tree.extension b) e = cc
-  same_tree (tree.array ts) (tree.array us) e = same_trees ts us (let k : settled_trees ts ≡ settled_trees us = cc in k)
-  same_tree (tree.object ps) (tree.object qs) e = same_pairs ps qs (let k : settled_pairs ps ≡ settled_pairs qs = cc in k)
+  same_tree (tree.array ts) (tree.array us) e = same_trees ts us (cc)
+  same_tree (tree.object ps) (tree.object qs) e = same_pairs ps qs (cc)
   same_tree _ _ e = cc
 
   same_trees : (ts us : Trees) → settled_trees ts ≡ settled_trees us → AreEqual ts us
   same_trees tree.no_trees tree.no_trees e = tt
   same_trees (tree.tree t ts) (tree.tree u us) e =
-      (same_tree t u (let k : settled_tree t ≡ settled_tree u = cc in k), same_trees ts us (let k : settled_trees ts ≡ settled_trees us = cc in k))
+      (same_tree t u (cc), same_trees ts us (cc))
   same_trees _ _ e = cc
 
   same_pairs : (ps qs : Pairs) → settled_pairs ps ≡ settled_pairs qs → PairsAreEqual ps qs
   same_pairs tree.no_pairs tree.no_pairs e = tt
-  same_pairs (tree.pair a t ps) (tree.pair b u qs) e = (
-    let k : a ≡ b = cc in k,
-    same_tree t u (let k : settled_tree t ≡ settled_tree u = cc in k),
-    same_pairs ps qs
-        (let k : settled_pairs ps ≡ settled_pairs qs = cc in k),
-  )
+  same_pairs (tree.pair a t ps) (tree.pair b u qs) e = (cc, same_tree t u (cc), same_pairs ps qs (cc))
   same_pairs _ _ e = cc
 
 same_lists : (ts us : List Tree) → map settled_tree ts ≡ map settled_tree us → AllZip (λ t u. IsTrue (is_equal t u)) ts us
 same_lists [] [] e = tt
 same_lists (t ∷ ts) (u ∷ us) e =
-    (is_equal-true t u (same_tree t u (let k : settled_tree t ≡ settled_tree u = cc in k)), same_lists ts us (let k : map settled_tree ts ≡ map settled_tree us = cc in k))
+    (is_equal-true t u (same_tree t u (cc)), same_lists ts us (cc))
 same_lists _ _ e = cc
 
 same_by_value : (o o' : Outcome (List Tree)) → settled_outcome o ≡ settled_outcome o'
     → Refines (AllZip (λ t u. IsTrue (is_equal t u))) (λ (_ : Error). ⊥) o o'
-same_by_value (Ok ts) (Ok us) e = record { ok = same_lists ts us (let k : map settled_tree ts ≡ map settled_tree us = cc in k); err = tt }
+same_by_value (Ok ts) (Ok us) e = record { ok = same_lists ts us (cc); err = tt }
 same_by_value (Err a) (Err b) e = record { ok = tt; err = inr (sym e) }
 same_by_value _ _ e = cc
 
@@ -335,7 +306,7 @@ same_truth : (o o' : Outcome (List Tree)) → settled_outcome o ≡ settled_outc
     → and_then o (λ ts. Ok (list_truth ts)) ≡ and_then o' (λ ts. Ok (list_truth ts))
 same_truth (Ok ts) (Ok us) e =
     let k : map settled_tree ts ≡ map settled_tree us = cc in ap (λ (b : Truth). Ok b) (sym (list_truth-settled ts) ∙ ap list_truth k ∙ list_truth-settled us)
-same_truth (Err a) (Err b) e = ap Err (let k : a ≡ b = cc in k)
+same_truth (Err a) (Err b) e = ap Err (cc)
 same_truth _ _ e = cc
 
 -- what an expression that is not a literal says

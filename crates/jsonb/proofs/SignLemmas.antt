@@ -13,13 +13,10 @@ use Rattle.jsonb.proofs.StepLemmas.{from_start}
 in_front : (n : Number) (o p : Outcome (List Number)) →
     and_then (and_then o (λ front. and_then p (λ back. Ok (front ++ back)))) (λ ns. Ok (n ∷ ns))
     ≡ and_then (and_then o (λ ns. Ok (n ∷ ns))) (λ front. and_then p (λ back. Ok (front ++ back)))
-in_front n (Ok ms) (Ok ns) = refl
-in_front n (Ok ms) (Err e) = refl
-in_front n (Err e) p = refl
+in_front n o p = grind arith
 
 same_number : (o : Outcome (List Number)) → o ≡ and_then o (λ back. Ok ([] ++ back))
-same_number (Ok ns) = refl
-same_number (Err e) = refl
+same_number o = grind arith
 
 numbers-append : (xs ys : List Value) → all_numbers (xs ++ ys) ≡ and_then (all_numbers xs) (λ front. and_then (all_numbers ys) (λ back. Ok (front ++ back)))
 numbers-append [] ys = same_number (all_numbers ys)
@@ -28,18 +25,12 @@ numbers-append (v ∷ xs) ys = refl
 
 pub numbers_of_parts : (g : Tree → List Value) (ts : List Tree) → all_numbers (flat_map g ts) ≡ try_flat_map (λ t. all_numbers (g t)) ts
 numbers_of_parts g [] = refl
-numbers_of_parts g (t ∷ ts) =
-    numbers-append (g t) (flat_map g ts)
-    ∙ ap (λ o. and_then (all_numbers (g t)) (λ front. and_then o (λ back. Ok (front ++ back)))) (numbers_of_parts g ts)
+numbers_of_parts g (t ∷ ts) = grind (arith, (numbers_of_parts g ts), numbers-append)
 
 -- an item that is neither a number nor an extension value
 pub no_number : (value : StoredValue) (t : Tree) → ((n : CodeNumber) → value ≡ stored.Number n → ⊥) → (value ≡ stored.Extension → ⊥)
     → IsStoredAs value t → all_numbers (value_of_item t) ≡ Err InvalidJsonPath
-no_number (stored.Number n) t a b h = absurd (a n refl)
-no_number stored.Extension t a b h = absurd (b refl)
-no_number stored.Array t a b h = rw h.1 refl
-no_number stored.Object t a b h = rw h.1 refl
-no_number _ t a b h = rw h refl
+no_number value t a b h = grind arith
 
 -- ---- numbers after the existing ones
 
@@ -53,8 +44,7 @@ number_pushed (Err e) old new n is none = record { ok = tt; err = inl none }
 
 pub more_behind : (old mid new : List CodeNumber) (o : Outcome (List Number)) (before : List Number) → Behind old mid before → IsOkAnd o (Behind mid new)
     → IsOkAnd o (λ us. Behind old new (before ++ us))
-more_behind old mid new (Ok us) before first then = then ∙ ap (λ l. l ++ us) first ∙ append_assoc (map number_view old) before us
-more_behind old mid new (Err e) before first then = absurd then
+more_behind old mid new o before first then = grind (arith, append_assoc)
 
 -- ---- numbers that are signed in their places
 
@@ -63,9 +53,7 @@ abbrev pub SignedUntil : UnaryOp → List CodeNumber → ℕ → Outcome (List T
 SignedUntil op xs i outcome = Progress (AllZip (Is number_view) (drop i xs)) (AllZip IsNumberItem (take i xs)) (signed_number op) outcome
 
 pub none_signed : (op : UnaryOp) (xs : List CodeNumber) → SignedUntil op xs 0 (try_flat_map (signed_number op) (map number_view xs))
-none_signed op xs =
-    at_start (signed_number op) (AllZip (Is number_view) xs) (AllZip IsNumberItem []) (map number_view xs)
-    (related_of_map number_view xs (map number_view xs) refl) tt
+none_signed op xs = grind (arith, at_start, signed_number, Is, related_of_map)
 
 module _ (op : UnaryOp) (xs : List CodeNumber) (i : ℕ) (d : CodeNumber) (outcome : Outcome (List Tree)) (done : SignedUntil op xs i outcome) where
   pub one_signed : (v : CodeNumber) → i < length xs → IsOkAnd (signed_number op (number_view (get_or xs i d))) (IsNumberTree v)
@@ -80,8 +68,7 @@ module _ (op : UnaryOp) (xs : List CodeNumber) (i : ℕ) (d : CodeNumber) (outco
   pub one_refused : {Q : Unit {0} → List Tree → Type 0} {e : Error} → i < length xs
       → Refines {A = CodeNumber} IsNumberTree (λ _. ⊥) (Err e) (signed_number op (number_view (get_or xs i d))) → Refines {A = Unit {0}} Q IsOutOfMemory
       (Err e) outcome
-  one_refused {Q} {e} short is =
-      record { ok = tt; err = refused_in done (list_first (Is number_view) xs i d short) (λ n before same held. rw (← same) ((as_memory is).err)) }
+  one_refused short is = grind (arith, refused_in, list_first, Is, as_memory)
 
 pub all_signed : (op : UnaryOp) (xs : List CodeNumber) (i : ℕ) (outcome : Outcome (List Tree)) → SignedUntil op xs i outcome → length xs ≤ i
     → IsOkAnd outcome (AllZip IsNumberItem xs)
@@ -90,16 +77,9 @@ all_signed op xs i outcome done end =
 
 -- ---- what follows the values of an operand
 
-by_items : {C : Type 0} (next : List Value → Outcome C) (o : Outcome (List Tree))
-    → and_then (and_then o (λ ts. Ok (flat_map values_of_item ts))) next ≡ and_then o (λ ts. next (flat_map values_of_item ts))
-by_items next (Ok ts) = refl
-by_items next (Err e) = refl
-
 -- the path of an operand, by the slices that are passed on
 pub by_path : {C : Type 0} (next : List Value → Outcome C) (mode : Mode) (vs d1 d2 : List Path) (top u : Tree) → d1 ≡ vs → d2 ≡ vs →
     and_then (operand_values mode (paths (steps_of (steps_view vs))) top u) next
     ≡ and_then (steps_meaning mode (steps_of (map (taken_step AreRefused) (steps_view d1))) top (start (steps_of (steps_view d2)) top u ∷ []))
     (λ ts. next (flat_map values_of_item ts))
-by_path next mode vs d1 d2 top u p q =
-    by_items next (steps_meaning mode (steps_of (steps_view vs)) top (start (steps_of (steps_view vs)) top u ∷ []))
-    ∙ ap (λ o. and_then o (λ ts. next (flat_map values_of_item ts))) (from_start mode vs d1 d2 top u p q)
+by_path next mode vs d1 d2 top u p q = grind (arith, from_start)

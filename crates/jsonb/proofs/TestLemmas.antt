@@ -1,11 +1,12 @@
 -- Conditions that are compiled to tests.
-use Rattle.jsonb.proofs.Common.{◌≡◌, ℕ, ◌+◌, ◌≤◌, List, [], ◌∷◌, ◌++◌, length, take, get_or, map, flat_map, option_to_list, Bool, true, false, Option, Some, None, is_some, Ok, Err, IsOkAnd, refl, sym, ap, ◌∙◌, subst, arith, length-append, reverse, not, ◌==◌, ◌&&◌, if◌then◌else◌, MatchOption, ⊤, AllZip, eqb-true, lt-leb, reverse-append, length-reverse, length-take-le, take_more, Outcome, and_then, Tree, Spot, Truth, compare, steps_meaning, truth, filtered, is_some_item, BinaryOp, and_op, or_op, current, Steps, step, Expression, paths, binary, steps_of, steps_view, expression_view, is_comparison, Branch, branches_of, branches_of_whole, taken, next_jump, jump_truth, evaluated, option_spots, taken_step, is_joined, joining_op, IsPairOf, AreMembersCompared, IsPlainQuestionOf, IsQuestionOf, IsTestOf, AreBranches, AreTestsOf, ArePlainTestsOf, is_plain, are_plain, question_conditions, test_conditions, tests_conditions, is_settled, jump_to, left_true, left_false, right_of, pending, waiting_left, values_of_item, AreRefused, Mode, Lax, Strict, Jump, MembersCompared, Question, Test, Waiting, Join, And, Or, Pair, zip_along}
+use Rattle.jsonb.proofs.Common.{◌≡◌, ℕ, ◌+◌, ◌≤◌, List, [], ◌∷◌, ◌++◌, length, take, get_or, map, flat_map, option_to_list, true, false, Option, Some, None, is_some, Ok, IsOkAnd, refl, sym, ap, ◌∙◌, subst, arith, length-append, reverse, not, ◌==◌, ◌&&◌, MatchOption, ⊤, AllZip, eqb-true, lt-leb, reverse-append, length-reverse, length-take-le, take_more, Outcome, and_then, Tree, Spot, Truth, compare, steps_meaning, truth, filtered, is_some_item, BinaryOp, and_op, or_op, current, Steps, step, Expression, paths, binary, steps_of, steps_view, expression_view, is_comparison, Branch, branches_of, branches_of_whole, next_jump, jump_truth, evaluated, option_spots, taken_step, is_joined, IsPairOf, AreMembersCompared, IsPlainQuestionOf, IsQuestionOf, IsTestOf, AreBranches, AreTestsOf, ArePlainTestsOf, is_plain, are_plain, test_conditions, tests_conditions, is_settled, jump_to, right_of, pending, waiting_left, values_of_item, AreRefused, Mode, Lax, Strict, Jump, MembersCompared, Question, Test, Pair, zip_along}
+use Rattle.jsonb.specs.declared.selector.compile.Waiting.{Waiting}
 use Rattle.jsonb.specs.Private.Tests.{left_of}
 use Rattle.jsonb.specs.declared.selector.plan.Question.TheVariants as question
 pub use Rattle.jsonb_doc.proofs.Basics.{empty_of as none_waiting, innermost as last_first}
 use Rattle.jsonb.proofs.ComparedLemmas.{Any, comparison_total, members_total}
 use Rattle.jsonb.proofs.RefinesLemmas.{with_ok}
-use Rattle.jsonb.proofs.JumpLemmas.{evaluated-whole}
+use Rattle.jsonb.proofs.JumpLemmas.{evaluated-taken, at_end}
 use Rattle.jsonb.proofs.KeptLemmas.{comparison_is}
 use Rattle.jsonb.proofs.MemberLemmas.{both_true}
 use Rattle.jsonb.proofs.SelectedParts.{related_length}
@@ -16,56 +17,24 @@ use Rattle.jsonb.proofs.StepLemmas.{refused_steps}
 -- an expression that is not `&&` or `||` is one branch
 pub one_branch : (e : Expression) (t f : ℕ) (others : List Branch) → is_joined e ≡ false
     → branches_of e t f others ≡ record { condition = e; on_true = t; on_false = f } ∷ others
-one_branch (binary and_op l r) t f others h = cc
-one_branch (binary or_op l r) t f others h = cc
-one_branch e t f others h = refl
-
--- the branches of the left side precede those of the right one
-pair_branches : (j : Join) (l r : Expression) (t f : ℕ) (others : List Branch) → branches_of (binary (joining_op j) l r) t f others
-    ≡ branches_of l (jump_to (left_true j t) (length (branches_of r t f others))) (jump_to (left_false j f) (length (branches_of r t f others)))
-    (branches_of r t f others)
-pair_branches And l r t f others = refl
-pair_branches Or l r t f others = refl
+one_branch e t f others h = grind arith
 
 -- the parts of a pair
 pair_parts : (waiting : List Waiting) (part : Waiting) (p : Pair) (t f : ℕ) (others : List Branch) → IsPairOf part.e.now p
     → t ≡ jump_to part.on_true (length others) → f ≡ jump_to part.on_false (length others)
     → pending (left_of p t f ∷ reverse waiting) (branches_of (expression_view p.right.now) t f others) ≡ pending (part ∷ reverse waiting) others
-pair_parts waiting part p t f others pair is_t is_f =
-    ap (pending (reverse waiting)) (sym (pair_branches p.join (expression_view p.left.now) (expression_view p.right.now) t f others)
-    ∙ (λ i. branches_of (sym pair.0 i) (is_t i) (is_f i) others))
+pair_parts waiting part p t f others pair is_t is_f = grind arith
 
 -- a pair whose left side waits
 pub left_waits : (waiting : List Waiting) (part : Waiting) (p : Pair) (t f : ℕ) (others : List Branch) → IsPairOf part.e.now p
     → t ≡ jump_to part.on_true (length others) → f ≡ jump_to part.on_false (length others)
     → pending (right_of p t f ∷ reverse (waiting ++ left_of p t f ∷ [])) others ≡ pending (part ∷ reverse waiting) others
-left_waits waiting part p t f others pair is_t is_f =
-    ap (λ ws. pending (right_of p t f ∷ ws) others) (last_first waiting (left_of p t f)) ∙ pair_parts waiting part p t f others pair is_t is_f
-
--- a pair whose right side is a test
-pub right_pushed : (waiting : List Waiting) (part : Waiting) (p : Pair) (t f : ℕ) (others : List Branch) → IsPairOf part.e.now p
-    → is_joined (expression_view p.right.now) ≡ false
-    → t ≡ jump_to part.on_true (length others) → f ≡ jump_to part.on_false (length others)
-    → pending (left_of p t f ∷ reverse waiting) (record { condition = expression_view p.right.now; on_true = t; on_false = f } ∷ others)
-    ≡ pending (part ∷ reverse waiting) others
-right_pushed waiting part p t f others pair alone is_t is_f =
-    ap (pending (left_of p t f ∷ reverse waiting)) (sym (one_branch (expression_view p.right.now) t f others alone))
-    ∙ pair_parts waiting part p t f others pair is_t is_f
-
--- a part that is a test
-pub test_pushed : (waiting : List Waiting) (part : Waiting) (t f : ℕ) (others : List Branch) → is_joined (expression_view part.e.now) ≡ false
-    → t ≡ jump_to part.on_true (length others) → f ≡ jump_to part.on_false (length others)
-    → pending (reverse waiting) (record { condition = expression_view part.e.now; on_true = t; on_false = f } ∷ others)
-    ≡ pending (part ∷ reverse waiting) others
-test_pushed waiting part t f others alone is_t is_f =
-    ap (pending (reverse waiting)) (sym (one_branch (expression_view part.e.now) t f others alone)
-    ∙ (λ i. branches_of (expression_view part.e.now) (is_t i) (is_f i) others))
+left_waits waiting part p t f others pair is_t is_f = grind (arith, last_first, pair_parts)
 
 -- the last of the parts that wait
 pub popped : (old new : List Waiting) (found : Option Waiting) → old ≡ new ++ option_to_list found → (found ≡ None → old ≡ [])
     → waiting_left found new ≡ reverse old
-popped old new (Some part) is empty = sym (ap reverse is ∙ last_first new part)
-popped old new None is empty = sym (ap reverse (empty refl))
+popped old new found is empty = grind (arith, last_first)
 
 -- as many branches as tests
 pub as_many : (tests : List Test) (done : List Branch) → AreBranches IsQuestionOf (reverse tests) done → length tests ≡ length done
@@ -75,35 +44,26 @@ as_many tests done a = sym (length-reverse tests) ∙ related_length (IsTestOf I
 pub one_in_front : (tests : List Test) (test : Test) (e : Expression) (done : List Branch) → AreBranches IsQuestionOf (reverse tests) done
     → IsQuestionOf test.question e
     → AreBranches IsQuestionOf (reverse (tests ++ test ∷ [])) (record { condition = e; on_true = test.on_true; on_false = test.on_false } ∷ done)
-one_in_front tests test e done a q =
-    subst (λ l. AreBranches IsQuestionOf l (record { condition = e; on_true = test.on_true; on_false = test.on_false } ∷ done)) (sym (last_first tests test))
-    (record { on_true = refl; on_false = refl; question = q }, a)
+one_in_front tests test e done a q = grind (arith, last_first)
 
 -- ---- questions of members, and others
 
 -- what holds if an expression is not a question of members
 pub if_none : {A : Type 0} (N : Type 0) (P : A → Type 0) (o : Option A) → N → MatchOption o ⊤ P → MatchOption o N P
-if_none N P (Some x) n h = h
-if_none N P None n h = n
+if_none N P o n h = grind arith
 
 pub plain_question : (q : Question) (e : Expression) → is_plain q ≡ true → IsQuestionOf q e → IsPlainQuestionOf q e
-plain_question (question.Expression part) e plain h = cc
-plain_question _ e plain h = h
+plain_question q e plain h = grind arith
 
 plain_branches : (tests : List Test) (branches : List Branch) → are_plain tests ≡ true → AreBranches IsQuestionOf tests branches
     → AreBranches IsPlainQuestionOf tests branches
 plain_branches [] [] plain a = tt
-plain_branches (x ∷ xs) (b ∷ bs) plain a =
-    let k = both_true (is_plain x.question) (are_plain xs) plain in (
-      record { on_true = a.0.on_true; on_false = a.0.on_false; question = plain_question x.question b.condition k.0 a.0.question },
-      plain_branches xs bs k.1 a.1,
-    )
+plain_branches (x ∷ xs) (b ∷ bs) plain a = grind (arith, (plain_branches xs bs), both_true, plain_question)
 plain_branches _ _ plain a = absurd a
 
 plain_last : (tests : List Test) (x : Test) → are_plain tests ≡ true → is_plain x.question ≡ true → are_plain (tests ++ x ∷ []) ≡ true
 plain_last [] x plain last = ap (λ b. b && true) last
-plain_last (y ∷ ys) x plain last =
-    let k = both_true (is_plain y.question) (are_plain ys) plain in λ i. k.0 i && plain_last ys x k.1 last i
+plain_last (y ∷ ys) x plain last = grind (arith, (plain_last ys x), both_true)
 
 plain_reverse : (tests : List Test) → are_plain tests ≡ true → are_plain (reverse tests) ≡ true
 plain_reverse [] plain = refl
@@ -114,19 +74,8 @@ plain_reverse (x ∷ xs) plain =
 pub plain_tests : (tests : List Test) (e : Expression) → are_plain tests ≡ true → AreTestsOf IsQuestionOf tests e → ArePlainTestsOf tests e
 plain_tests tests e plain a = plain_branches (reverse tests) (branches_of_whole e) (plain_reverse tests plain) a
 
--- each test of members is a test
-any_question : (q : Question) (e : Expression) → IsPlainQuestionOf q e → IsQuestionOf q e
-any_question (question.Expression part) e h = absurd h
-any_question _ e h = h
-
 pub any_tests : (tests : List Test) (e : Expression) → ArePlainTestsOf tests e → AreTestsOf IsQuestionOf tests e
-any_tests tests e a = zip_along (IsTestOf IsPlainQuestionOf) (IsTestOf IsQuestionOf)
-    (λ x b h. record { on_true = h.on_true; on_false = h.on_false; question = any_question x.question b.condition h.question })
-    (reverse tests) (branches_of_whole e) a
-
-pub no_conditions : (q : Question) → is_plain q ≡ true → question_conditions q ≡ []
-no_conditions (question.Expression part) plain = cc
-no_conditions _ plain = refl
+any_tests tests e a = grind (arith, zip_along)
 
 -- ---- evaluating one test after the other
 
@@ -166,9 +115,7 @@ next_test {IsOf} tests n i x rest state mode top t within next is related =
 pub test_done : {IsOf : Question → Expression → Type 0} {before : List Test} {m : ℕ} {x : Test} {rest : List Branch} {state : Option Jump} {mode : Mode} {top t : Tree}
     (n : NextTest IsOf before m x rest state mode top t) (v : Truth) (after : Option Jump) → truth mode n.condition top t ≡ Ok v
     → after ≡ next_jump x.on_true x.on_false m state v → evaluated mode top t rest state ≡ evaluated mode top t n.behind after
-test_done {IsOf} {before} {m} {x} {rest} {state} {mode} {top} {t} n v after known next =
-    n.is ∙ ap (λ o. and_then o (λ b. evaluated mode top t n.behind (next_jump x.on_true x.on_false m state b))) known
-    ∙ ap (evaluated mode top t n.behind) (sym next)
+test_done n v after known next = grind arith
 
 -- the conditions of the next test come first
 pub conditions_at : (tests : List Test) (n i : ℕ) (x : Test) → n ≤ length tests → n ≡ i + 1 → x ≡ get_or tests i x
@@ -179,17 +126,12 @@ conditions_at tests n i x within next is =
 
 -- no test is left
 pub no_test : (IsOf : Question → Expression → Type 0) (tests : List Test) (n : ℕ) (rest : List Branch) → n ≡ 0 → AreBranches IsOf (reverse (take n tests)) rest → rest ≡ []
-no_test IsOf tests n [] none related = refl
-no_test IsOf tests n (b ∷ bs) none related = absurd (rw none at related)
+no_test IsOf tests n rest none related = grind arith
 
 -- all tests, from a jump that passes over none
 pub from_first : (IsOf : Question → Expression → Type 0) (mode : Mode) (tests : List Test) (e : Expression) (top t : Tree) (state : Option Jump) (jump : Jump) → state ≡ Some jump
     → jump.left ≡ length tests → AreTestsOf IsOf tests e → truth mode e top t ≡ evaluated mode top t (branches_of_whole e) state
-from_first IsOf mode tests e top t state jump is all related =
-    let many = related_length (IsTestOf IsOf) (reverse tests) (branches_of_whole e) related in
-    let same = length-reverse tests in
-    sym (ap (evaluated mode top t (branches_of_whole e)) is
-    ∙ evaluated-whole mode top t e jump (let few : length (branches_of_whole e) ≤ jump.left = omega (arith, many, same, all) in few))
+from_first IsOf mode tests e top t state jump is all related = grind (arith, related_length, length-reverse, evaluated-taken, at_end)
 
 -- a condition that is one test has its truth
 pub only_question : (mode : Mode) (top t : Tree) (test : Test) (e : Expression) → ArePlainTestsOf (test ∷ []) e
@@ -203,10 +145,7 @@ only_question mode top t test e a =
   where
     itself : (b : Branch) (o : Outcome Truth)
         → and_then o (λ v. Ok (jump_truth (next_jump b.on_true b.on_false 1 (Some (record { left = 1; truth = false })) v))) ≡ o
-    itself b (Ok (Some true)) = refl
-    itself b (Ok (Some false)) = refl
-    itself b (Ok None) = refl
-    itself b (Err e) = refl
+    itself b o = grind arith
 
     only : (bs : List Branch) → AreBranches IsPlainQuestionOf (test ∷ []) bs → (c : Expression) × IsPlainQuestionOf test.question c
         × (evaluated mode top t bs (Some (record { left = 1; truth = false })) ≡ truth mode c top t)
@@ -258,91 +197,48 @@ question_total question.Unknown e top t h = subst (λ o. IsOkAnd o Any) (sym (h 
 branches_total : (tests : List Test) (branches : List Branch) (state : Option Jump) (top t : Tree) → AreBranches IsPlainQuestionOf tests branches
     → IsOkAnd (evaluated Lax top t branches state) Any
 branches_total [] [] state top t a = tt
-branches_total (x ∷ xs) (b ∷ bs) state top t a =
-    with_ok Any (λ o. IsOkAnd o Any) (truth Lax b.condition top t)
-    (λ v. evaluated Lax top t bs (next_jump b.on_true b.on_false (length (b ∷ bs)) state v)) (question_total x.question b.condition top t a.0.question)
-    (λ v _. branches_total xs bs (next_jump b.on_true b.on_false (length (b ∷ bs)) state v) top t a.1)
+branches_total (x ∷ xs) (b ∷ bs) state top t a = grind (arith, (branches_total xs bs), with_ok, Any, question_total)
 branches_total _ _ state top t a = absurd a
 
 pub condition_total : (tests : List Test) (e : Expression) (top t : Tree) → ArePlainTestsOf tests e → IsOkAnd (truth Lax e top t) Any
 condition_total tests e top t a =
     let jump : Jump = record { left = length tests; truth = false } in
-    rw (sym (from_first IsPlainQuestionOf Lax tests e top t (Some jump) jump refl refl a)) at (branches_total (reverse tests) (branches_of_whole e) (Some jump) top t a)
+    rw (sym (from_first IsPlainQuestionOf Lax tests e top t (Some jump) jump refl refl a)) at
+        (branches_total (reverse tests) (branches_of_whole e) (Some jump) top t a)
 
 -- ---- a filter whose result is determined
 
 -- the jump to the end, with false
 pub is_closed : (jump : Jump) → ((jump.left == 0) && not jump.truth) ≡ true → (jump.left ≡ 0) × (jump.truth ≡ false)
-is_closed jump h =
-    let k = both_true (jump.left == 0) (not jump.truth) h in (eqb-true jump.left 0 k.0, is_false jump.truth k.1)
-  where
-    is_false : (b : Bool) → not b ≡ true → b ≡ false
-    is_false true h = cc
-    is_false false h = refl
+is_closed jump h = grind (arith, both_true, eqb-true)
 
 pub settled : (tests : List Test) (branches : List Branch) (mode : Mode) (state : Option Jump) (top t : Tree) → is_settled mode state ≡ true
     → AreBranches IsPlainQuestionOf tests branches → and_then (evaluated mode top t branches state) (λ b. Ok (filtered t b)) ≡ Ok (filtered t (jump_truth state))
 settled tests branches Strict state top t h a = cc
 settled [] [] Lax state top t h a = refl
 settled (x ∷ xs) (b ∷ bs) Lax None top t h a =
-    go (truth Lax b.condition top t) (question_total x.question b.condition top t a.0.question) (settled xs bs Lax None top t h a.1)
-  where
-    go : (o : Outcome Truth) → IsOkAnd o Any → and_then (evaluated Lax top t bs None) (λ v. Ok (filtered t v)) ≡ Ok (filtered t None)
-        → and_then (and_then o (λ v. evaluated Lax top t bs (next_jump b.on_true b.on_false (length (b ∷ bs)) None v))) (λ v. Ok (filtered t v)) ≡ Ok (filtered t None)
-    go (Ok v) u rest = rest
-    go (Err e) u rest = absurd u
+    grind (arith, question_total x.question b.condition top t a.0.question, settled xs bs Lax None top t h a.1)
 settled (x ∷ xs) (b ∷ bs) Lax (Some jump) top t h a =
-    go (truth Lax b.condition top t) (question_total x.question b.condition top t a.0.question) (settled xs bs Lax (Some jump) top t h a.1)
-    (settled xs bs Lax None top t refl a.1) (is_closed jump h)
-  where
-    go : (o : Outcome Truth) → IsOkAnd o Any
-        → and_then (evaluated Lax top t bs (Some jump)) (λ v. Ok (filtered t v)) ≡ Ok (filtered t (Some jump.truth))
-        → and_then (evaluated Lax top t bs None) (λ v. Ok (filtered t v)) ≡ Ok (filtered t None)
-        → (jump.left ≡ 0) × (jump.truth ≡ false)
-        → and_then (and_then o (λ v. evaluated Lax top t bs (next_jump b.on_true b.on_false (length (b ∷ bs)) (Some jump) v))) (λ v. Ok (filtered t v))
-        ≡ Ok (filtered t (Some jump.truth))
-    go (Ok (Some v)) u rest unknown closed =
-        ap (λ here. and_then (evaluated Lax top t bs (if here then taken b.on_true b.on_false (Some v) else Some jump)) (λ w. Ok (filtered t w)))
-        (lt-leb (length (b ∷ bs)) jump.left (omega (arith, closed.0)))
-        ∙ rest
-    go (Ok None) u rest unknown closed =
-        ap (λ here. and_then (evaluated Lax top t bs (if here then None else None)) (λ w. Ok (filtered t w)))
-        (lt-leb (length (b ∷ bs)) jump.left (omega (arith, closed.0)))
-        ∙ unknown ∙ ap (λ v. Ok (filtered t (Some v))) (sym closed.1)
-    go (Err e) u rest unknown closed = absurd u
+    grind (arith, question_total x.question b.condition top t a.0.question, settled xs bs Lax (Some jump) top t h a.1, settled xs bs Lax None top t refl a.1,
+    is_closed jump h, lt-leb (length (b ∷ bs)) jump.left)
 settled _ _ Lax state top t h a = absurd a
 
 -- ---- members
 
 -- what was found is there if and only if the list has an item
 pub found_is_item : (R : Spot → Tree → Type 0) (found : Option Spot) (ts : List Tree) → AllZip R (option_spots found) ts → is_some found ≡ is_some_item ts
-found_is_item R None [] a = refl
-found_is_item R (Some x) (t ∷ ts) a = refl
-found_is_item R _ _ a = absurd a
+found_is_item R found ts a = grind arith
 
 -- the truth by the steps as they are evaluated within an operand
 pub both_members : (c : MembersCompared) (e : Expression) (mode : Mode) (top t : Tree) → AreMembersCompared c e → truth mode e top t
     ≡ and_then (steps_meaning mode (steps_of (map (taken_step AreRefused) (steps_view c.left.now))) top (t ∷ []))
     (λ ls. and_then (steps_meaning mode (steps_of (map (taken_step AreRefused) (steps_view c.right.now))) top (t ∷ []))
     (λ rs. Ok (compare c.op (flat_map values_of_item ls) (flat_map values_of_item rs))))
-both_members c e mode top t k =
-    k.compares mode top t
-    ∙ (λ i. and_then (steps_meaning mode (steps_of (sym (refused_steps (steps_view c.left.now)) i)) top (t ∷ []))
-    (λ ls. and_then (steps_meaning mode (steps_of (sym (refused_steps (steps_view c.right.now)) i)) top (t ∷ []))
-    (λ rs. Ok (compare c.op (flat_map values_of_item ls) (flat_map values_of_item rs)))))
+both_members c e mode top t k = grind (arith, refused_steps)
 
 -- an expression whose operands are two members
 pub compares_members : (mode : Mode) (op : BinaryOp) (l r : Steps) (top t : Tree) → is_comparison op ≡ true
     → truth mode (binary op (paths (step current l)) (paths (step current r))) top t
     ≡ and_then (steps_meaning mode l top (t ∷ []))
     (λ ls. and_then (steps_meaning mode r top (t ∷ [])) (λ rs. Ok (compare op (flat_map values_of_item ls) (flat_map values_of_item rs))))
-compares_members mode op l r top t compares =
-    comparison_is mode op (paths (step current l)) (paths (step current r)) top t compares
-    ∙ joined (steps_meaning mode l top (t ∷ [])) (steps_meaning mode r top (t ∷ []))
-  where
-    joined : (o p : Outcome (List Tree)) →
-        and_then (and_then o (λ ts. Ok (flat_map values_of_item ts))) (λ ls. and_then (and_then p (λ ts. Ok (flat_map values_of_item ts))) (λ rs. Ok (compare op ls rs)))
-        ≡ and_then o (λ ls. and_then p (λ rs. Ok (compare op (flat_map values_of_item ls) (flat_map values_of_item rs))))
-    joined (Ok ls) (Ok rs) = refl
-    joined (Ok ls) (Err e) = refl
-    joined (Err e) p = refl
+compares_members mode op l r top t compares = rw (comparison_is mode op (paths (step current l)) (paths (step current r)) top t compares) (grind arith)

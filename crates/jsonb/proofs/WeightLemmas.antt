@@ -1,7 +1,6 @@
 -- How often the loop over filters turns.
-use Rattle.jsonb.proofs.Common.{◌≡◌, Box, Global, ℕ, zero, suc, ◌+◌, ◌-◌, ◌*◌, ◌^◌, ◌<◌, ◌≤◌, List, [], ◌∷◌, ◌++◌, length, drop, get_or, add-one, Some, Ok, Err, OnOk, IfOk, refl, sym, ap, ◌∙◌, subst, arith, reverse, take, slice_get, suc-mul, drop-cons, reverse-append, take_more, sum_by-append, sum_by-cons, row_fits, get_or_from_slice_get, slice_get_within, Outcome, Step, Steps, no_steps, step, steps_of, filter, whole_expression, Expression, binary, and_op, or_op, step_view, steps_view, expression_view, Branch, branches_of, branches_of_whole, node_spots, taken_step, IsQuestionOf, AreBranches, AreTestsOf, weight, step_weight, steps_weight, running_weight, question_weight, tests_weight, asked_weight, at_filter_weight, progress_weight, frame_weight, around_weight, Path, Expressions, AreFilters, AreRefused, Frame, NodeList, Asked, Question, Test, AtFilter, Progress, Running}
-use Rattle.jsonb.specs.declared.selector.node_list.NodeList.TheVariants as node_list
-use Rattle.jsonb.specs.declared.selector.plan.Question.TheVariants as question
+use Rattle.jsonb.proofs.Common.{◌≡◌, Box, Global, ℕ, zero, suc, ◌+◌, ◌-◌, ◌*◌, ◌^◌, ◌<◌, ◌≤◌, List, [], ◌∷◌, ◌++◌, length, drop, get_or, add-one, Some, Ok, OnOk, IfOk, refl, sym, ap, ◌∙◌, arith, reverse, take, slice_get, suc-mul, drop-cons, reverse-append, take_more, sum_by-append, sum_by-cons, row_fits, get_or_from_slice_get, slice_get_within, Outcome, Step, Steps, no_steps, step, steps_of, filter, Expression, binary, and_op, or_op, step_view, steps_view, Branch, branches_of, node_spots, taken_step, IsQuestionOf, AreBranches, AreTestsOf, weight, step_weight, steps_weight, running_weight, question_weight, tests_weight, asked_weight, at_filter_weight, progress_weight, frame_weight, around_weight, Path, Expressions, NodeList, Asked, Question, Test, AtFilter, Progress, Running}
+use Rattle.jsonb.specs.declared.selector.filters.Frame.{Frame}
 use Rattle.jsonb.specs.declared.selector.running.Progress.TheVariants as progress
 
 -- ---- a condition
@@ -18,8 +17,7 @@ branches_within (binary or_op l r) t f others =
 branches_within e t f others = omega arith
 
 question_within : (q : Question) (e : Expression) → IsQuestionOf q e → question_weight q ≤ weight e
-question_within (question.Expression part) e is = subst (λ x. weight (expression_view part.now) ≤ weight x) is.0 (omega arith)
-question_within q e is = omega arith
+question_within q e is = grind arith
 
 first_test : (x : Test) (xs : List Test) → tests_weight (x ∷ xs) ≡ question_weight x.question + tests_weight xs
 first_test x xs = sum_by-cons (λ (test : Test). question_weight test.question) x xs
@@ -27,8 +25,7 @@ first_test x xs = sum_by-cons (λ (test : Test). question_weight test.question) 
 tests_within : (tests : List Test) (bs : List Branch) → AreBranches IsQuestionOf tests bs → tests_weight tests ≤ branches_weight bs
 tests_within [] bs a = omega arith
 tests_within (x ∷ xs) [] a = absurd a
-tests_within (x ∷ xs) (b ∷ bs) a =
-    omega (arith, question_within x.question b.condition a.0.question, tests_within xs bs a.1, first_test x xs)
+tests_within (x ∷ xs) (b ∷ bs) a = grind (arith, (tests_within xs bs a.1), question_within, first_test)
 
 weight_append : (xs ys : List Test) → tests_weight (xs ++ ys) ≡ tests_weight xs + tests_weight ys
 weight_append xs ys = sum_by-append (λ (test : Test). question_weight test.question) xs ys
@@ -41,8 +38,7 @@ weight_reverse (x ∷ xs) =
 
 -- the tests of an expression are no more than it
 pub compiled_within : (tests : List Test) (e : Expression) → AreTestsOf IsQuestionOf tests e → tests_weight tests ≤ weight e
-compiled_within tests e a =
-    omega (arith, tests_within (reverse tests) (branches_of_whole e) a, branches_within e 0 0 [], weight_reverse tests)
+compiled_within tests e a = grind (arith, tests_within, branches_within, weight_reverse)
 
 -- the next test, and those that are left
 pub test_weight : (tests : List Test) (n i : ℕ) (x : Test) → n ≡ i + 1 → slice_get tests i ≡ Some x
@@ -79,10 +75,7 @@ next_weighs r x short is =
     ∙ ap (λ y. y ∷ drop (suc r.next) r.steps.now) (sym is) ∙ ap (λ n. x ∷ drop n r.steps.now) (sym (add-one r.next)))
 
 taken_weighs : (expressions : Expressions) (s : Step) → step_weight (taken_step expressions s) ≡ step_weight s
-taken_weighs AreFilters (whole_expression e) = refl
-taken_weighs AreFilters _ = refl
-taken_weighs AreRefused (whole_expression e) = refl
-taken_weighs AreRefused _ = refl
+taken_weighs expressions s = grind arith
 
 -- the same if it is a filter
 pub filter_next_weighs : (r : Running) (x : Path) (e : Expression) → r.next < length r.steps.now → x ≡ get_or r.steps.now r.next x
@@ -109,8 +102,7 @@ few_items : (n w : ℕ) → n < 2 ^ 64 → n * (1 + w) < 2 ^ 64 * (1 + w)
 few_items n w few = omega (arith, row_fits n (1 + w) (2 ^ 64) (1 + w) few (omega arith))
 
 pub few_nodes : (nodes : NodeList) (w : ℕ) → length (node_spots nodes) * (1 + w) < 2 ^ 64 * (1 + w)
-few_nodes (node_list.One spot) w = few_items 1 w (omega arith)
-few_nodes (node_list.Many v) w = few_items (length v.items) w (omega (arith, v.ok.0, v.small))
+few_nodes nodes w = grind (arith, few_items)
 
 -- the innermost filter
 pub around_pushed : (fs : List Frame) (f : Frame) → around_weight (fs ++ f ∷ []) ≡ around_weight fs + frame_weight f
@@ -122,26 +114,16 @@ around_pushed fs f = omega (arith, sum_by-append frame_weight fs (f ∷ []), sum
 pub waits_weigh : (old new : List Frame) (f : Frame) (path : Box AtFilter Global) (r : Outcome Progress)
     → OnOk r ((r ≡ Ok (progress.AtFilter path)) × (new ≡ old ++ f ∷ []))
     → IfOk r (λ x. progress_weight x + around_weight new ≤ at_filter_weight path.value + (around_weight old + frame_weight f))
-waits_weigh old new f path (Ok x) h =
-    omega (arith, ap outcome_weight h.0, ap around_weight h.1 ∙ around_pushed old f)
-  where
-    outcome_weight : Outcome Progress → ℕ
-    outcome_weight (Ok y) = progress_weight y
-    outcome_weight (Err e) = 0
-waits_weigh old new f path (Err e) h = tt
+waits_weigh old new f path r h = grind (arith, around_pushed)
 
 pub beside : {A : Type 0} (r : Outcome A) (f : A → ℕ) (m n k : ℕ) → m ≤ n → IfOk r (λ x. f x ≤ m) → IfOk r (λ x. f x + k ≤ n + k)
-beside (Ok x) f m n k within h = omega (arith, within, h)
-beside (Err e) f m n k within h = tt
+beside r f m n k within h = grind arith
 
 pub no_more : {A : Type 0} (r : Outcome A) (f : A → ℕ) (m n : ℕ) → m ≤ n → IfOk r (λ x. f x ≤ m) → IfOk r (λ x. f x ≤ n)
-no_more (Ok x) f m n within h = omega (arith, within, h)
-no_more (Err e) f m n within h = tt
+no_more r f m n within h = grind arith
 
 pub fewer_than : {A : Type 0} (r : Outcome A) (f : A → ℕ) (m n : ℕ) → m < n → IfOk r (λ x. f x ≤ m) → IfOk r (λ x. f x < n)
-fewer_than (Ok x) f m n within h = omega (arith, within, h)
-fewer_than (Err e) f m n within h = tt
+fewer_than r f m n within h = grind arith
 
 pub nothing_waits : (r : Outcome Asked) (n : ℕ) → IfOk r (λ asked. asked_weight asked ≡ 0) → IfOk r (λ asked. asked_weight asked ≤ n)
-nothing_waits (Ok asked) n h = omega (arith, h)
-nothing_waits (Err e) n h = tt
+nothing_waits r n h = grind arith

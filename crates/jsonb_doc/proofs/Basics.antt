@@ -1,27 +1,20 @@
 -- Lemmas on lists, tests and results that do not mention documents, and on the keys and values of pairs.
-use Rattle.jsonb_doc.proofs.Common.{◌≡◌, ℕ, suc, ◌*◌, ◌^◌, ◌<◌, ◌==◌, ◌||◌, Bool, true, false, List, [], ◌∷◌, ◌++◌, length, map, Ordering, Equal, Less, Result, Ok, Err, MatchResult, IsOkAnd, IfOk, mul-pos, refl, sym, ap, subst, ◌∙◌, arith, reverse, ordering_then, slice_cmp, AllZip, keys_of, length-keys_of, one-le-pow, nat_tests, reverse-append, nat_list_cmp_total, nat_cmp_refl, exact_bytes, Tree, text, IsBelowFirst, IsOutOfMemory, Error}
+use Rattle.jsonb_doc.proofs.Common.{◌≡◌, ℕ, suc, ◌*◌, ◌^◌, ◌<◌, ◌==◌, ◌||◌, Bool, true, false, List, [], ◌∷◌, ◌++◌, length, map, Ordering, Equal, Less, Result, MatchResult, IsOkAnd, IfOk, mul-pos, refl, ap, ◌∙◌, arith, reverse, ordering_then, slice_cmp, AllZip, keys_of, length-keys_of, one-le-pow, nat_tests, reverse-append, nat_list_cmp_total, nat_cmp_refl, exact_bytes, Tree, text, IsBelowFirst, IsOutOfMemory, Error}
 use Rattle.std.specs.Ordering.{nat_cmp}
 
 -- ---- tests
 
 pub or_false : (b : Bool) → (b || false) ≡ b
-or_false true = refl
-or_false false = refl
+or_false b = grind arith
 
 pub or_second : (a b : Bool) → b ≡ true → (a || b) ≡ true
-or_second true b e = refl
-or_second false b e = e
+or_second a b h = grind arith
 
 pub shuffled : (a b c d : Bool) → ((a || b) || (c || d)) ≡ ((a || c) || (b || d))
-shuffled true b c d = refl
-shuffled false true true d = refl
-shuffled false true false d = refl
-shuffled false false c d = refl
+shuffled a b c d = grind arith
 
 pub same_test : (a b : Bool) → (a ≡ true → b ≡ true) → (b ≡ true → a ≡ true) → a ≡ b
-same_test true b f g = sym (f refl)
-same_test false true f g = g refl
-same_test false false f g = refl
+same_test a b h e = grind arith
 
 -- ---- numbers
 
@@ -47,8 +40,7 @@ bytes_cmp_refl [] = refl
 bytes_cmp_refl (x ∷ xs) = rw (nat_cmp_refl x) (bytes_cmp_refl xs)
 
 pub both_equal : (a b : Ordering) → ordering_then a b ≡ Equal → (a ≡ Equal) × (b ≡ Equal)
-both_equal Equal b e = (refl, e)
-both_equal _ b e = absurd (cc)
+both_equal a b h = grind arith
 
 pub below_next : (low key : List ℕ) (ks : List (List ℕ)) → slice_cmp nat_cmp low key ≡ Less → IsBelowFirst key ks → IsBelowFirst low ks
 below_next low key [] less below = tt
@@ -78,20 +70,14 @@ zip_more R _ _ x y h last = absurd h
 
 pub pushed : {A B : Type 0} (R : A → B → Type 0) (around around' : List A) (outer : A) (l : B) (ls : List B) → around' ≡ around ++ outer ∷ [] → R outer l
     → AllZip R (reverse around) ls → AllZip R (reverse around') (l ∷ ls)
-pushed {A = A} R around around' outer l ls e r h =
-    subst (λ (os : List A). AllZip R os (l ∷ ls)) (sym (ap reverse e ∙ innermost around outer)) (r, h)
+pushed R around around' outer l ls h e k = grind (arith, innermost)
 
 pub popped : {A B : Type 0} (R : A → B → Type 0) (all others : List A) (outer : A) (ls : List B) → AllZip R (reverse all) ls → all ≡ others ++ outer ∷ []
     → (l : B) × (rest : List B) × (ls ≡ l ∷ rest) × R outer l × AllZip R (reverse others) rest
-popped {A = A} {B = B} R all others outer ls h is = go ls (subst (λ (os : List A). AllZip R os ls) (ap reverse is ∙ innermost others outer) h)
-  where
-    go : (ls : List B) → AllZip R (outer ∷ reverse others) ls → (l : B) × (rest : List B) × (ls ≡ l ∷ rest) × R outer l × AllZip R (reverse others) rest
-    go (l ∷ rest) h = (l, rest, refl, h.0, h.1)
-    go [] h = absurd h
+popped R all others outer ls h e = grind (arith, innermost)
 
 pub none_around : {A B : Type 0} (R : A → B → Type 0) (around : List A) (ls : List B) → around ≡ [] → AllZip R (reverse around) ls → ls ≡ []
-none_around R around [] none h = refl
-none_around R around (l ∷ ls) none h = absurd (rw none at h)
+none_around R around ls h e = grind arith
 
 -- ---- keys and values
 
@@ -105,9 +91,7 @@ many_keys qs = many_texts (keys_of qs) ∙ length-keys_of qs
 -- ---- results
 
 pub only_ok : {A : Type 0} (P : A → Type 0) (Q : Error → Type 0) (r : Result A Error) → IsOkAnd r P → MatchResult r P Q
-only_ok P Q (Ok x) h = h
-only_ok P Q (Err e) h = absurd h
+only_ok P Q r h = grind arith
 
 pub if_answered : {A : Type 0} (P : A → Type 0) (r : Result A Error) → MatchResult r P IsOutOfMemory → IfOk r P
-if_answered P (Ok x) h = h
-if_answered P (Err e) h = tt
+if_answered P r h = grind arith

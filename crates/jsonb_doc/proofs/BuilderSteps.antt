@@ -1,25 +1,22 @@
 -- What a loop that pushes into a builder keeps true: what is held, followed by what is left, is the whole.
-use Rattle.jsonb_doc.proofs.Common.{◌≡◌, ℕ, Bool, true, false, List, [], ◌∷◌, ◌++◌, inl, inr, refl, sym, subst, ◌∙◌, append_assoc, Result, Ok, Err, cond, filter, MatchResult, ⊤, keys_of, nat_list_cmp_total, Tree, array, trees_of, Form, IsBelowFirst, AreKeys, Decodes, IsTooLarge, IsOutOfMemory, IsOutOfMemoryOrTooLarge, Parts, no_parts, HoldsElements, Error, HoldsFront}
+use Rattle.jsonb_doc.proofs.Common.{◌≡◌, ℕ, Bool, List, [], ◌∷◌, ◌++◌, inl, inr, subst, ◌∙◌, append_assoc, Result, Ok, Err, cond, filter, MatchResult, ⊤, keys_of, nat_list_cmp_total, Tree, array, trees_of, Form, IsBelowFirst, AreKeys, Decodes, IsTooLarge, IsOutOfMemory, IsOutOfMemoryOrTooLarge, Parts, no_parts, HoldsElements, Error, HoldsFront, arith}
 use Rattle.std.proofs.Common.{append-nil}
 use Rattle.jsonb_doc.proofs.LimitLemmas.{array_too_large-more}
 
 -- a right result, or a failed allocation, is one of a function that builds a document
 pub answered : {A : Type 0} (form : Form) (t : Tree) (P : A → Type 0) (r : Result A Error) → MatchResult r P IsOutOfMemory
     → MatchResult r P (IsOutOfMemoryOrTooLarge form t)
-answered form t P (Ok x) h = h
-answered form t P (Err e) h = inl h
+answered form t P r h = grind arith
 
 -- ---- arrays
 
 -- at first all is left
 pub front_empty : (form : Form) (parts : Parts) (whole : List Tree) → parts ≡ no_parts → HoldsFront form parts whole whole
-front_empty form parts whole is =
-    record { held = []; holds = rw is (refl, refl); joined = refl }
+front_empty form parts whole h = grind arith
 
 -- at last all is held
 pub front_whole : (form : Form) (parts : Parts) (whole : List Tree) → HoldsFront form parts [] whole → HoldsElements form parts whole
-front_whole form parts whole h =
-    subst (HoldsElements form parts) (sym (append-nil h.held) ∙ h.joined) h.holds
+front_whole form parts whole h = grind (arith, append-nil)
 
 module _ (form : Form) (before : Parts) (t : Tree) (left whole : List Tree) (h : HoldsFront form before (t ∷ left) whole) where
   joined_next : (h.held ++ t ∷ []) ++ left ≡ whole
@@ -27,8 +24,7 @@ module _ (form : Form) (before : Parts) (t : Tree) (left whole : List Tree) (h :
 
   -- with the next tree after the others the rest is left
   pub front_pushed : (after : Parts) → HoldsElements form after (h.held ++ t ∷ []) → HoldsFront form after left whole
-  front_pushed after holds =
-      record { held = h.held ++ t ∷ []; holds = holds; joined = joined_next }
+  front_pushed after h = grind (arith, joined_next)
 
   -- an error of a prefix is one of the whole
   pub front_refused : (e : Error) → IsOutOfMemoryOrTooLarge form (array (trees_of (h.held ++ t ∷ []))) e
@@ -49,8 +45,7 @@ module _ (form : Form) (before : Parts) (t : Tree) (left whole : List Tree) (h :
 pub front_built : {A : Type 0} (form : Form) (parts : Parts) (whole : List Tree) (items : A → List ℕ) (r : Result A Error) → HoldsFront form parts [] whole
     → ((ts : List Tree) → HoldsElements form parts ts → MatchResult r (λ v. Decodes form (items v) (array (trees_of ts))) IsOutOfMemory)
     → MatchResult r (λ v. Decodes form (items v) (array (trees_of whole))) (IsOutOfMemoryOrTooLarge form (array (trees_of whole)))
-front_built form parts whole items r h decodes =
-    answered form (array (trees_of whole)) (λ v. Decodes form (items v) (array (trees_of whole))) r (decodes whole (front_whole form parts whole h))
+front_built form parts whole items r h e = grind (arith, answered, front_whole)
 
 -- ---- sorted keys
 
@@ -74,8 +69,7 @@ below_kept {A = A} low test (p ∷ ps) below rising = go (test p) (below_kept lo
     lower (q ∷ qs) above = nat_list_cmp_total.trans low p.0 q.0 below above
 
     go : (b : Bool) → IsBelowFirst low (keys_of (filter test ps)) → IsBelowFirst low (keys_of (cond b (p ∷ filter test ps) (filter test ps)))
-    go true rest = below
-    go false rest = rest
+    go b h = grind arith
 
 pub AreRising-filter : {A : Type 0} (test : List ℕ × A → Bool) (ps : List (List ℕ × A)) → AreRising (keys_of ps) → AreRising (keys_of (filter test ps))
 AreRising-filter test [] rising = tt
@@ -84,5 +78,4 @@ AreRising-filter test (p ∷ ps) rising =
   where
     go : (b : Bool) → IsBelowFirst p.0 (keys_of (filter test ps)) → AreRising (keys_of (filter test ps))
         → AreRising (keys_of (cond b (p ∷ filter test ps) (filter test ps)))
-    go true below rest = (below, rest)
-    go false below rest = rest
+    go b h e = grind arith

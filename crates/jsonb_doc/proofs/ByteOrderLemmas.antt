@@ -17,8 +17,7 @@ below_spelled zero a b us vs p q small less = less
 below_spelled (suc n) a b [] vs p q small less = absurd (omega (arith, p))
 below_spelled (suc n) a b (u ∷ us) [] p q small less = absurd (omega (arith, q))
 below_spelled (suc n) a b (u ∷ us) (v ∷ vs) p q small less =
-    let byte : u < 256 = small 0 in
-    below_spelled n (a * 256 + u) (b * 256 + v) us vs (omega (arith, p)) (omega (arith, q)) (λ k. small (suc k)) (omega (arith, byte, less))
+    below_spelled n (a * 256 + u) (b * 256 + v) us vs (omega (arith, p)) (omega (arith, q)) (λ k. small (suc k)) (omega (arith, small 0, less))
 
 order_spelled : (n a : ℕ) (us vs : List ℕ) → n ≤ length us → n ≤ length vs → AreSmall us → AreSmall vs → spelled a (take n us) ≢ spelled a (take n vs)
     → nat_cmp (spelled a (take n us)) (spelled a (take n vs)) ≡ slice_cmp nat_cmp us vs
@@ -33,23 +32,16 @@ order_spelled (suc n) a (u ∷ us) (v ∷ vs) p q small other_small apart =
         → (r : Ordering) → nat_cmp u v ≡ r → MatchOrdering r (u < v) (u ≡ v) (v < u)
         → nat_cmp (spelled (a * 256 + u) (take n us)) (spelled (a * 256 + v) (take n vs)) ≡ ordering_then (nat_cmp u v) (slice_cmp nat_cmp us vs)
     by more Less e l =
-        let under : u < v = l in
         let less : spelled (a * 256 + u) (take n us) < spelled (a * 256 + v) (take n vs) =
-        below_spelled n (a * 256 + u) (a * 256 + v) us vs (omega (arith, p)) (omega (arith, q)) (λ k. small (suc k)) (omega (arith, under)) in
+        below_spelled n (a * 256 + u) (a * 256 + v) us vs (omega (arith, p)) (omega (arith, q)) (λ k. small (suc k)) (omega (arith, l)) in
         sym (nat_cmp_is (spelled (a * 256 + u) (take n us)) (spelled (a * 256 + v) (take n vs)) Less less)
         ∙ ap (λ (r : Ordering). ordering_then r (slice_cmp nat_cmp us vs)) (sym e)
     by more Greater e l =
-        let over : v < u = l in
         let greater : spelled (a * 256 + v) (take n vs) < spelled (a * 256 + u) (take n us) =
-        below_spelled n (a * 256 + v) (a * 256 + u) vs us (omega (arith, q)) (omega (arith, p)) (λ k. other_small (suc k)) (omega (arith, over)) in
+        below_spelled n (a * 256 + v) (a * 256 + u) vs us (omega (arith, q)) (omega (arith, p)) (λ k. other_small (suc k)) (omega (arith, l)) in
         sym (nat_cmp_is (spelled (a * 256 + u) (take n us)) (spelled (a * 256 + v) (take n vs)) Greater greater)
         ∙ ap (λ (r : Ordering). ordering_then r (slice_cmp nat_cmp us vs)) (sym e)
-    by more Equal e l =
-        let level : u ≡ v = l in
-        let same : spelled (a * 256 + v) (take n vs) ≡ spelled (a * 256 + u) (take n vs) = ap (λ (w : ℕ). spelled (a * 256 + w) (take n vs)) (sym level) in
-        ap (λ (w : ℕ). nat_cmp (spelled (a * 256 + u) (take n us)) w) same
-        ∙ more (λ equal. apart (equal ∙ sym same))
-        ∙ ap (λ (r : Ordering). ordering_then r (slice_cmp nat_cmp us vs)) (sym e)
+    by more Equal e l = grind arith
 
 pub order_of_words : (xs ys : List ℕ) → AreSmall xs → AreSmall ys → (x y : ℕ)
     → (8 ≤ length xs) × (x ≡ from_be_bytes w64 (take 8 xs)) → (8 ≤ length ys) × (y ≡ from_be_bytes w64 (take 8 ys)) → x ≢ y

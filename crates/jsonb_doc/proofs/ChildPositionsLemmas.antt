@@ -1,5 +1,5 @@
 -- Children by their positions: all of a root, and those after the first.
-use Rattle.jsonb_doc.proofs.Common.{◌≡◌, ℕ, suc, ◌+◌, ◌-◌, ◌*◌, ◌/◌, ◌<◌, ◌≤◌, List, [], ◌∷◌, ◌++◌, map, length, drop, slice_range, Some, None, Result, Ok, Err, refl, sym, ap, ◌∙◌, arith, append_assoc, length-append, append-nil, drop_at, between_to_end, Tree, text, array, object, no_trees, tree, trees_of, elements, count, no_pairs, pair, keys, values, Form, any, number_reader, number_of, Decodes, header, entry_word, AreEntries, key_bytes, TakesSpot, GivesSpot, Locates, HasSpotsLeft, AreAt, HasChildrenLeft, PassesSpot, kind_number, TakesChild, IsCut, Holds, HasPairParts, StandBefore, key_trees, ChildPositions, EntryPositions, ArrayParts, ObjectParts, Array, Object, Error, Spot, SpotIter}
+use Rattle.jsonb_doc.proofs.Common.{◌≡◌, ℕ, suc, ◌+◌, ◌-◌, ◌*◌, ◌/◌, ◌<◌, ◌≤◌, List, [], ◌∷◌, ◌++◌, map, length, slice_range, Some, None, Result, Ok, Err, refl, sym, ap, ◌∙◌, arith, append_assoc, length-append, append-nil, drop_at, between_to_end, Tree, text, array, object, no_trees, tree, trees_of, elements, count, no_pairs, pair, keys, values, Form, any, number_reader, number_of, Decodes, header, key_bytes, TakesSpot, GivesSpot, Locates, HasSpotsLeft, AreAt, HasChildrenLeft, PassesSpot, TakesChild, IsCut, Holds, HasPairParts, StandBefore, key_trees, ChildPositions, EntryPositions, ArrayParts, ObjectParts, Array, Object, Error, Spot, SpotIter, common_steps}
 use Rattle.jsonb_doc.proofs.CanonicalLemmas.{in_any}
 use Rattle.jsonb_doc.proofs.Containers.{Decodes-array, Decodes-object, entries_of, length-words, length-key_words, count-values}
 use Rattle.jsonb_doc.proofs.KeyEntries.{key_entries}
@@ -13,39 +13,13 @@ use Rattle.jsonb_doc.proofs.TreeLists.{count-trees_of, trees_of-elements}
 -- the iterator of the spots of entries at these positions
 pub at_spots : (bytes : List ℕ) (left : ℕ) (at : EntryPositions) (ts : List Tree) (it : SpotIter) → AreAt bytes left at ts
     → it.words.now ≡ slice_range bytes at.word (at.word + 4 * left) → it.start ≡ at.content → it.end ≡ at.end → HasSpotsLeft bytes it ts
-at_spots bytes left at ts it h words start end = record {
-  whole = h.whole;
-  decodes = h.decodes;
-  few = omega (arith, h.few, h.counted);
-  ordered = rw (start, end) h.ordered;
-  within = rw end h.within;
-  entries = λ form top d. rw (words, start, end) (h.entries form top d);
-}
+at_spots bytes left at ts it h e k f = grind arith
 
 -- a first entry and the others, after the word of the first
 pub others_at : (bytes : List ℕ) (left : ℕ) (at others : EntryPositions) (t : Tree) (ts : List Tree) (it after : SpotIter) (spot : Spot) → 0 < left
     → AreAt bytes left at (t ∷ ts) → it.words.now ≡ slice_range bytes at.word (at.word + 4 * left) → PassesSpot it spot after → HasSpotsLeft bytes after ts
     → it.end ≡ at.end → others.word ≡ at.word + 4 → others.content ≡ spot.end → others.end ≡ at.end → AreAt bytes (left - 1) others ts
-others_at bytes left at others t ts it after spot some h words p rest end word content last =
-    let counted = h.counted in
-    let whole : at.word + 4 * left ≡ others.word + 4 * (left - 1) = omega (arith, word, some) in
-    let tail : slice_range bytes others.word (others.word + 4 * (left - 1)) ≡ after.words.now =
-    ap (λ e. slice_range bytes others.word e) (sym whole) ∙ ap (λ s. slice_range bytes s (at.word + 4 * left)) word
-    ∙ range_rest bytes at.word (at.word + 4 * left) 4 (omega (arith, some)) h.words_within
-    ∙ ap (drop 4) (sym words ∙ p.word)
-    ∙ drop_at (entry_word (kind_number spot.kind) (spot.end - spot.start)) after.words.now 4 refl in
-    let front : after.start ≡ others.content = p.next ∙ sym content in
-    let back : after.end ≡ others.end = p.last ∙ end ∙ sym last in
-    record {
-      whole = h.whole;
-      decodes = h.decodes;
-      counted = omega (arith, counted, some);
-      few = omega (arith, h.few);
-      words_within = omega (arith, whole, h.words_within);
-      ordered = rw (front, back) at rest.ordered;
-      within = rw back at rest.within;
-      entries = λ form top d. rw (front, back, sym tail) at (rest.entries form top d);
-    }
+others_at bytes left at others t ts it after spot h e k f g i q m o = search (arith, range_rest, drop_at)
 
 -- an entry that is read, with what follows it
 pub record IsFirst (bytes : List ℕ) (t : Tree) (ts : List Tree) (it : SpotIter) (spot : Spot) (after : SpotIter) : Type 0 where
@@ -76,8 +50,7 @@ module _ (bytes : List ℕ) (at : ChildPositions) (some : 0 < at.left) where
   first_value (array no_trees) h = let none = h.1.counted in absurd (omega (arith, none))
   first_value (array (tree t ts)) h = record { t = t; ts = elements ts; value = h.1 }
   first_value (object no_pairs) h = let none = h.2.counted in absurd (omega (arith, none))
-  first_value (object (pair key t ps)) h = record { t = t; ts = elements (values ps); value = h.2 }
-  first_value _ h = absurd h
+  first_value t h = grind arith
 
   -- the key of a first member
   pub record FirstKey : Type 0 where
@@ -88,8 +61,7 @@ module _ (bytes : List ℕ) (at : ChildPositions) (some : 0 < at.left) where
   pub first_key : (t : Tree) → 0 < at.keys.word → HasChildrenLeft bytes at t → FirstKey
   first_key (array ts) word h = let none = h.0 in absurd (omega (arith, none))
   first_key (object no_pairs) word h = let none = h.1.counted in absurd (omega (arith, none))
-  first_key (object (pair key t ps)) word h = record { t = text key; ts = map text (keys ps); key = h.1 }
-  first_key _ word h = absurd h
+  first_key t word h = grind arith
 
   module _ (value : Spot) (values_after : EntryPositions)
       (first : (t : Tree) (ts : List Tree) → AreAt bytes at.left at.values (t ∷ ts)
@@ -98,8 +70,7 @@ module _ (bytes : List ℕ) (at : ChildPositions) (some : 0 < at.left) where
         → TakesChild (Locates bytes) bytes t (Some (record { key = None; value = value })) (record { left = at.left - 1; keys = at.keys; values = values_after })
     element_taken (array no_trees) word h = let none = h.1.counted in absurd (omega (arith, none))
     element_taken (array (tree t ts)) word h = let f = first t (elements ts) h.1 in (refl, f.0, (word, f.1))
-    element_taken (object ps) word h = let no = h.0 in absurd (omega (arith, no))
-    element_taken _ word h = absurd h
+    element_taken t word h = grind arith
 
     module _ (key : Spot) (keys_after : EntryPositions)
         (first_name : (t : Tree) (ts : List Tree) → AreAt bytes at.left at.keys (t ∷ ts)
@@ -119,13 +90,7 @@ module _ (bytes : List ℕ) (at : ChildPositions) (some : 0 < at.left) where
 -- a part of bytes, by what is before it
 part_at : (bytes front part back : List ℕ) (a b : ℕ) → bytes ≡ front ++ (part ++ back) → a ≡ length front → b ≡ length front + length part
     → (b ≤ length bytes) × (slice_range bytes a b ≡ part)
-part_at bytes front part back a b joined begins ends =
-    let all : slice_range bytes 0 (length bytes) ≡ bytes = between_to_end bytes 0 (length bytes) (omega arith) in
-    let size = ap length joined ∙ length-append front (part ++ back) in
-    let both = length-append part back in
-    let found = range_part bytes 0 (length bytes) a b front part back (omega arith) (omega arith) (all ∙ joined)
-    (omega (arith, size, both, ends)) (omega (arith, begins, ends)) in
-    (found.1, found.2)
+part_at bytes front part back a b h e k = grind (arith, common_steps, between_to_end, length-append, range_part)
 
 -- keys as strings
 texts_of : (ks : List (List ℕ)) → trees_of (map text ks) ≡ key_trees ks
@@ -168,9 +133,7 @@ module _ (bytes : List ℕ) (t : Tree) (d : Decodes any bytes t) where
                 ordered = omega (arith, content, end);
                 within = omega (arith, end);
                 entries = λ form top e.
-                    let same : top ≡ array ts = same_tree form top e ∙ is in
-                    let entries : AreEntries (number_reader form) ts p.words.now p.contents.now = rw same at (Decodes-array form bytes p cut top e) in
-                    rw (words.1, inner.1, trees_of-elements ts) entries;
+                    rw (words.1, inner.1, trees_of-elements ts) (rw (same_tree form top e ∙ is) at (Decodes-array form bytes p cut top e));
               },
             )
         go _ is held = absurd held
@@ -226,8 +189,7 @@ module _ (bytes : List ℕ) (t : Tree) (d : Decodes any bytes t) where
                   words_within = key_words_at.0;
                   ordered = omega (arith, key, key_end, sum);
                   within = keys_at.0;
-                  entries = λ form top e.
-                      rw (key_words_at.1, keys_at.1, held.words, texts_of (keys ps)) (key_entries (number_reader form) (keys ps) held.are_keys);
+                  entries = grind (arith, texts_of, key_entries);
                 },
                 record {
                   whole = t;

@@ -1,5 +1,5 @@
 -- The pieces of containers that are closed.
-use Rattle.jsonb_doc.proofs.Common.{◌≡◌, true, ℕ, ◌+◌, ◌<◌, ◌≤◌, ◌^◌, List, [], ◌∷◌, ◌++◌, length, map, reverse, refl, sym, ap, ◌∙◌, arith, inl, inr, append_assoc, Global, string_bytes, String, Vec, BTreeMap, Option, Some, None, Result, Ok, Err, flat_map, IsErrAnd, is_none, All, AllZip, keys_of, values_of, length-append, length-map, reverse-append, All-nil, All-cons, sum_by-cons, Tree, array, object, trees_of, pairs_of, keys, Form, number_reader, AreEntries, AreKeys, entry_word, header, array_header, object_header, key_words, key_bytes, kind_number, AreShortKeys, HasShortParts, IsOutOfMemory, ◌or◌when◌, EntryParts, Level, array_of, object_of, container, Parts, entry_count, HoldsElements, HoldsPairs, FitsEntry, words_of_entries, contents_of_entries, object_bytes, stacked, all_heads, joined, bytes_at, IsPieceOf, IsEntryOf, AreMembersOf, AreSortedTexts, HoldsLevel, entry_words, total_len, member_keys, member_entries, array_head, object_head, IsClosed, HasShortHead, Closes, Error, TooLarge, EventError, Failed, Piece, PieceEntry, Closed, AllZip-long}
+use Rattle.jsonb_doc.proofs.Common.{◌≡◌, true, ℕ, ◌+◌, ◌<◌, ◌≤◌, ◌^◌, List, [], ◌∷◌, ◌++◌, length, map, reverse, refl, sym, ap, ◌∙◌, arith, append_assoc, Global, string_bytes, String, Vec, BTreeMap, Option, Result, Ok, flat_map, IsErrAnd, is_none, All, AllZip, keys_of, values_of, length-append, length-map, reverse-append, All-nil, All-cons, sum_by-cons, Tree, array, object, trees_of, pairs_of, Form, number_reader, AreEntries, AreKeys, header, array_header, object_header, key_words, key_bytes, kind_number, AreShortKeys, IsOutOfMemory, ◌or◌when◌, EntryParts, Level, container, Parts, entry_count, HoldsElements, HoldsPairs, FitsEntry, words_of_entries, contents_of_entries, object_bytes, stacked, all_heads, joined, bytes_at, IsPieceOf, IsEntryOf, AreMembersOf, AreSortedTexts, HoldsLevel, entry_words, total_len, member_keys, member_entries, array_head, object_head, IsClosed, HasShortHead, Closes, Error, TooLarge, EventError, Failed, Piece, PieceEntry, Closed, AllZip-long, common_steps}
 use Rattle.jsonb_doc.specs.declared.document_builder.frame.Frame.TheVariants.{Array, Object}
 use Rattle.jsonb_doc.proofs.Containers.{array_document, object_document}
 use Rattle.jsonb_doc.proofs.ArrayLemmas.{array_built, held_count}
@@ -15,39 +15,19 @@ contents_in ps es = flat_map (λ e. bytes_at ps e.piece) es
 -- the pieces of the entries, the last one first, are their contents
 rest_is : (ps : List Piece) (es : List PieceEntry) → joined (stacked (all_heads ps) (reverse (map (λ (e : PieceEntry). e.piece) es))) ≡ contents_in ps es
 rest_is ps [] = refl
-rest_is ps (e ∷ es) =
-    let known = all_heads ps in
-    let others = reverse (map (λ (e : PieceEntry). e.piece) es) in
-    ap (λ (is : List ℕ). joined (stacked known is)) (reverse-append (e.piece ∷ []) (map (λ (e : PieceEntry). e.piece) es))
-    ∙ ap joined (stacked-append known others (e.piece ∷ []))
-    ∙ joined-append (stacked known (e.piece ∷ [])) (stacked known others)
-    ∙ ap (λ (b : List ℕ). bytes_at ps e.piece ++ b) (rest_is ps es)
+rest_is ps (e ∷ es) = grind (arith, common_steps, rest_is ps es, reverse-append, stacked-append, joined-append)
 
 -- the bytes of the closed piece
 closed_bytes : (ps : List Piece) (head : List ℕ) (es : List PieceEntry) (c : Closed) → IsClosed head es c
     → bytes_at (ps ++ c.piece ∷ []) (length ps) ≡ head ++ contents_in ps es
-closed_bytes ps head es c is =
-    bytes_new ps c.piece ∙ rw (is.0, is.1, rest_is ps es) refl
+closed_bytes ps head es c is = cc (bytes_new ps c.piece, is.0, is.1, rest_is ps es)
 
 -- ---- arrays
 
 entries_held : (form : Form) (ps : List Piece) (es : List PieceEntry) (ts : List Tree) → AllZip (IsEntryOf form ps) es ts
     → AreEntries (number_reader form) (trees_of ts) (entry_words es) (contents_in ps es)
 entries_held form ps [] [] h = (refl, refl)
-entries_held form ps (e ∷ es) (t ∷ ts) h = record {
-  kind = kind_number e.kind;
-  content = bytes_at ps e.piece;
-  other_words = entry_words es;
-  other_contents = contents_in ps es;
-  begin = record {
-    known = let below = kind_below (number_reader form) t (kind_number e.kind) (bytes_at ps e.piece) h.0.content in omega (arith, below);
-    fits = omega (arith, h.0.size, e.short);
-    words_joined = rw h.0.size refl;
-    contents_joined = refl;
-  };
-  part = h.0.content;
-  others = entries_held form ps es ts h.1;
-}
+entries_held form ps (e ∷ es) (t ∷ ts) h = search (arith, entries_held form ps es ts h.1, kind_below)
 entries_held form ps _ _ h = absurd h
 
 contents_size : (form : Form) (ps : List Piece) (es : List PieceEntry) (ts : List Tree) → AllZip (IsEntryOf form ps) es ts
@@ -123,20 +103,14 @@ parts_words : (form : Form) (ps : List Piece) (es : List (String Global × Piece
     → words_of_entries (values_of (parts_in ps es)) ≡ entry_words (member_entries es)
 unfolding parts_in
 parts_words form ps [] [] h = refl
-parts_words form ps (e ∷ es) (p ∷ prs) h =
-    let rest = parts_words form ps es prs h.1 in
-    ap (λ (n : ℕ). entry_word (kind_number e.1.kind) n ++ words_of_entries (values_of (parts_in ps es))) h.0.1.size
-    ∙ ap (λ (b : List ℕ). entry_word (kind_number e.1.kind) e.1.len ++ b) rest
+parts_words form ps (e ∷ es) (p ∷ prs) h = grind (arith, parts_words form ps es prs h.1, values_of, parts_in)
 parts_words form ps _ _ h = absurd h
 
 parts_fit : (form : Form) (ps : List Piece) (es : List (String Global × PieceEntry)) (prs : List (List ℕ × Tree)) → AreMembersOf form ps es prs
     → All FitsEntry (values_of (parts_in ps es))
 unfolding parts_in
 parts_fit form ps [] [] h = All-nil FitsEntry
-parts_fit form ps (e ∷ es) (p ∷ prs) h =
-    let below = kind_below (number_reader form) p.1 (kind_number e.1.kind) (bytes_at ps e.1.piece) h.0.1.content in
-    All-cons FitsEntry (kind_number e.1.kind, bytes_at ps e.1.piece) (values_of (parts_in ps es))
-    (omega (arith, below), omega (arith, h.0.1.size, e.1.short)) (parts_fit form ps es prs h.1)
+parts_fit form ps (e ∷ es) (p ∷ prs) h = grind (arith, parts_fit form ps es prs h.1, kind_below, All-cons, values_of, parts_in)
 parts_fit form ps _ _ h = absurd h
 
 are_keys : (ks : List (List ℕ)) → AreSortedTexts ks → AreShortKeys ks → AreKeys ks
@@ -170,48 +144,23 @@ object_closes form ps es prs c h sorted short is =
 
 -- ---- limits
 
-pub array_too_many : (form : Form) (ps : List Piece) (es : List PieceEntry) (ts : List Tree) → AllZip (IsEntryOf form ps) es ts → 2 ^ 29 ≤ length es
-    → HasShortParts form (array (trees_of ts)) → ⊥
-array_too_many form ps es ts h many = λ short. omega (arith, short.0, count-trees_of ts, AllZip-long (IsEntryOf form ps) es ts h)
-
-pub object_too_large : (form : Form) (ps : List Piece) (es : List (String Global × PieceEntry)) (prs : List (List ℕ × Tree)) → AreMembersOf form ps es prs
-    → (HasShortHead es → ⊥) → HasShortParts form (object (pairs_of prs)) → ⊥
-object_too_large form ps es prs h large = λ short.
-    let same : keys (pairs_of prs) ≡ member_keys es = keys-pairs_of prs ∙ sym (member_keys_is form ps es prs h) in
-    let many : length (keys (pairs_of prs)) ≡ length es = ap length same ∙ length-map es (λ (e : String Global × PieceEntry). string_bytes e.0) in
-    large (omega (arith, short.0, many), rw same at short.1)
-
 -- ---- results
 
 pub array_closed : (form : Form) (ps : List Piece) (es : Vec PieceEntry Global) (level : Level) (c : Closed) → HoldsLevel form ps (Array es) level
     → length es.items < 2 ^ 29 → IsClosed (array_head es.items) es.items c → Closes form ps (container level) (Ok c)
-array_closed form ps es (array_of ts) c h few is = array_closes form ps es.items ts c h few is
-array_closed form ps es _ c h few is = absurd h
+array_closed form ps es level c h e k = grind (arith, array_closes)
 
 pub object_closed : (form : Form) (ps : List Piece) (members : BTreeMap (String Global) PieceEntry) (key : Option (String Global)) (level : Level) (c : Closed)
     → HoldsLevel form ps (Object members key) level → true ≡ is_none key → HasShortHead members.entries
     → IsClosed (object_head members.entries) (member_entries members.entries) c → Closes form ps (container level) (Ok c)
-object_closed form ps members None (object_of prs None) c h none short is = object_closes form ps members.entries prs c h.0 h.1 short is
-object_closed form ps members None (object_of prs (Some next)) c h none short is = absurd h.2
-object_closed form ps members (Some name) level c h none short is = absurd (cc)
-object_closed form ps members None _ c h none short is = absurd h
+object_closed form ps members key level c h e k f = grind (arith, object_closes)
 
 pub array_fails : (form : Form) (ps : List Piece) (es : Vec PieceEntry Global) (level : Level) (r : Result Closed EventError) (e : Error)
     → HoldsLevel form ps (Array es) level → IsErrAnd r (λ d. d ≡ Failed e) → (IsOutOfMemory or TooLarge when 2 ^ 29 ≤ length es.items) e
     → Closes form ps (container level) r
-array_fails form ps es (array_of ts) (Err d) e h is (inl memory) = inl (is ∙ ap Failed memory)
-array_fails form ps es (array_of ts) (Err d) e h is (inr large) =
-    inr (is ∙ ap Failed large.0, array_too_many form ps es.items ts h large.1)
-array_fails form ps es (array_of ts) (Ok c) e h is why = absurd is
-array_fails form ps es _ r e h is why = absurd h
+array_fails form ps es level r e h k f = grind (arith, count-trees_of, AllZip-long)
 
 pub object_fails : (form : Form) (ps : List Piece) (members : BTreeMap (String Global) PieceEntry) (key : Option (String Global)) (level : Level)
     (r : Result Closed EventError) (e : Error) → HoldsLevel form ps (Object members key) level → true ≡ is_none key → IsErrAnd r (λ d. d ≡ Failed e)
     → (IsOutOfMemory or TooLarge when (HasShortHead members.entries → ⊥)) e → Closes form ps (container level) r
-object_fails form ps members None (object_of prs None) (Err d) e h none is (inl memory) = inl (is ∙ ap Failed memory)
-object_fails form ps members None (object_of prs None) (Err d) e h none is (inr large) =
-    inr (is ∙ ap Failed large.0, object_too_large form ps members.entries prs h.0 large.1)
-object_fails form ps members None (object_of prs None) (Ok c) e h none is why = absurd is
-object_fails form ps members None (object_of prs (Some next)) r e h none is why = absurd h.2
-object_fails form ps members (Some name) level r e h none is why = absurd (cc)
-object_fails form ps members None _ r e h none is why = absurd h
+object_fails form ps members key level r e h k f g = grind (arith, keys-pairs_of, member_keys_is, length-map, string_bytes)

@@ -1,13 +1,13 @@
 -- The names that most proofs cite, passed on from one place. Declares nothing.
-pub use Rattle.std.proofs.Common.{◌≡◌, ℕ, List, ◌++◌, ap, ◌∙◌, append_assoc, Result, Ok, Err, OnOk, OnErr, arith, ◌<◌, ◌^◌, [], ◌∷◌, length, refl, sym, inl, inr, suc, ◌*◌, ◌==◌, ◌||◌, Bool, true, false, map, Ordering, Equal, Less, MatchResult, IsOkAnd, IfOk, mul-pos, subst, reverse, nat_cmp, BTreeMap, Option, Some, None, Greater, Global, String, string_bytes, cond, is_some, IsUtf8, IsErrAnd, filter, ◌≢◌, zero, ◌+◌, ◌≤◌, take, ℤ, pos, negsuc, FitsSigned, ◌⊎◌, ◌%◌, ◌/◌, ◌&&◌, ◌↔◌, ◌-◌, drop, slice_range, Vec, flat_map, is_none, IsTrue, slice_get, option_copied, IfErr, IsSome, string_cmp, min, max, rules, if◌then◌else◌, length-drop, get_or, nat_eq, ◌*ℤ◌, int_cmp, not, mul_assoc, int_lt, mul_comm, pow-suc, mul-le-mul_left, slice_index_or, codes, nat_lt, IsSomeAnd, ap₂, MatchOption, sum, IfSome, slice_index, div-add-mod', neg_ℤ, unsigned_abs, IsOk, IsErrOf, replicate, vec_len, sub-one, is_ok}
+pub use Rattle.std.proofs.Common.{◌≡◌, ℕ, List, ◌++◌, ap, ◌∙◌, append_assoc, Result, OnOk, OnErr, arith, ◌<◌, ◌^◌, [], ◌∷◌, length, suc, ◌*◌, ◌==◌, ◌||◌, Bool, true, false, map, Ordering, Equal, Less, MatchResult, IsOkAnd, IfOk, mul-pos, refl, reverse, nat_cmp, sym, inl, inr, BTreeMap, Option, Some, None, Ok, Err, Global, String, string_bytes, is_some, IsUtf8, IsErrAnd, subst, cond, filter, ◌≢◌, zero, ◌+◌, ◌≤◌, take, Greater, ℤ, pos, negsuc, FitsSigned, ◌⊎◌, ◌%◌, ◌/◌, ◌&&◌, ◌↔◌, ◌-◌, slice_range, Vec, flat_map, is_none, IsTrue, slice_get, option_copied, IfErr, IsSome, drop, string_cmp, min, max, rules, if◌then◌else◌, length-drop, get_or, nat_eq, ◌*ℤ◌, int_cmp, not, mul_assoc, int_lt, mul_comm, pow-suc, mul-le-mul_left, slice_index_or, codes, nat_lt, IsSomeAnd, ap₂, MatchOption, sum, IfSome, slice_index, div-add-mod', neg_ℤ, unsigned_abs, IsOk, IsErrOf, replicate, vec_len, sub-one, is_ok}
 pub use Rattle.byteorder.specs.Endian.{big_bytes, big_number, twos_complement}
-pub use Rattle.byteorder.specs.Numbers.{big_number-reads_back, big_from-bytes, length-bytes_high_first, big_from-lt, big_from-cons, big_from-take}
-pub use Rattle.jsonb_doc.specs.Answer.{IsOutOfMemory, ◌or◌when◌, SameOption}
+pub use Rattle.byteorder.specs.Numbers.{big_from-bytes, length-bytes_high_first, big_number-reads_back, big_from-lt, big_from-cons}
+pub use Rattle.jsonb_doc.specs.Answer.{IsOutOfMemory, ◌or◌when◌, SameOption, IsDecodingError}
 pub use Rattle.jsonb_doc.specs.AnyBytes.Items.{IsItemOf, IsRootOf, item_size}
-pub use Rattle.jsonb_doc.specs.AnyBytes.Iterators.{HasAllValues}
+pub use Rattle.jsonb_doc.specs.AnyBytes.Iterators.{HasAllValues, ReadsPair}
 pub use Rattle.jsonb_doc.specs.AnyBytes.Parts.{AreNone, HasItsWords}
 pub use Rattle.jsonb_doc.specs.AnyBytes.Roots.{IsRootShape, HasReadableRoot}
-pub use Rattle.jsonb_doc.specs.AnyBytes.Spots.{PassesSpot}
+pub use Rattle.jsonb_doc.specs.AnyBytes.Spots.{PassesSpot, ReadsSpot, spots_room}
 pub use Rattle.jsonb_doc.specs.AnyBytes.Unsupported.{number_or_unsupported, WouldDecode}
 unfoldable pub use Rattle.jsonb_doc.specs.AnyBytes.Unsupported.{is_unsupported}
 pub use Rattle.jsonb_doc.specs.ArrayBuilder.{Parts, entry_count, HoldsElements, IsTooLargeElement, no_parts}
@@ -18,9 +18,9 @@ pub use Rattle.jsonb_doc.specs.DocumentBuilder.{IsFailureAt, Takes}
 pub use Rattle.jsonb_doc.specs.Elements.{TakesElement}
 pub use Rattle.jsonb_doc.specs.Encoding.{EntryParts, item_content, entry_of, IsTooLong, IsTooLargeItem}
 pub use Rattle.jsonb_doc.specs.Equal.{is_equal}
-pub use Rattle.jsonb_doc.specs.EventList.{BeginWithText, Reads, AreEvents, with_key_again, next_of, AreEventsOf, HasDuplicateKey, FailsWith, scalar_of}
-pub use Rattle.jsonb_doc.specs.Events.{Level, root, array_of, object_of, State, takes_value, filled, with_inner, with_value, with_key, container, closed, so_far, whole, Event, array_begins, object_begins, key_is, value_is, ends, no_events, within}
-pub use Rattle.jsonb_doc.specs.Extension.{Extension, binary, date, timestamp, timestamp_tz, interval, FitsExtension}
+pub use Rattle.jsonb_doc.specs.EventList.{BeginWithText, AreEvents, with_key_again, next_of, AreEventsOf, Reads, HasDuplicateKey, FailsWith, scalar_of}
+pub use Rattle.jsonb_doc.specs.Events.{Level, root, object_of, State, takes_value, filled, with_inner, with_value, with_key, container, closed, array_of, whole, so_far, Event, array_begins, object_begins, key_is, value_is, ends, no_events, within}
+pub use Rattle.jsonb_doc.specs.Extension.{Extension, FitsExtension, binary, date, timestamp, timestamp_tz, interval}
 pub use Rattle.jsonb_doc.specs.Format.{IsContent, AreEntries, entry_word, header, array_header, Decodes, IsBelowFirst, AreKeys, scalar_header, AreValues, IsDocument, key_bytes, object_header, key_words, AreMembers, HeadedBy, BeginWith, HasFirstEntry, IsContainer}
 pub use Rattle.jsonb_doc.specs.Item.{StandsFor, IsNormal}
 pub use Rattle.jsonb_doc.specs.Kinds.{kind_number}
@@ -28,9 +28,9 @@ pub use Rattle.jsonb_doc.specs.Limits.{HasShortElements, content_size, IsTooLarg
 pub use Rattle.jsonb_doc.specs.Number.{Variant, int64, uint64, decimal64, decimal128, number_from, zero_number, FitsParts, FitsNumber, number_cmp}
 pub use Rattle.jsonb_doc.specs.NumberText.{low_digits}
 pub use Rattle.jsonb_doc.specs.ObjectBuilder.{has_key, insert_pair, HoldsPairs, IsTooLargePair}
-pub use Rattle.jsonb_doc.specs.ObjectPairs.{TakesPair}
+pub use Rattle.jsonb_doc.specs.ObjectPairs.{TakesPair, GivesPair}
 pub use Rattle.jsonb_doc.specs.Order.{rank, tree_cmp, trees_cmp, pairs_cmp}
-pub use Rattle.jsonb_doc.specs.Payload.{NumberReader, Form, number_reader, any, canonical, is_width, signed, fixed, fixed_bytes, unsigned_width, signed_size, signed_bytes, number_payload_of, number_payload, extension_payload}
+pub use Rattle.jsonb_doc.specs.Payload.{NumberReader, Form, number_reader, any, canonical, is_width, signed, fixed_bytes, unsigned_width, signed_size, signed_bytes, number_payload_of, number_payload, extension_payload, fixed}
 unfoldable pub use Rattle.jsonb_doc.specs.Payload.{number_of}
 pub use Rattle.jsonb_doc.specs.Private.Builders.{HoldsFront}
 pub use Rattle.jsonb_doc.specs.Private.Canonical.{kind_of, content, contents, words, value_words, value_contents, document, scalar_document}
@@ -62,10 +62,10 @@ pub use Rattle.jsonb_doc.specs.Private.Stored.{key_trees}
 pub use Rattle.jsonb_doc.specs.Private.Unique.{has_lower_key, unique, as_pair, is_below_first}
 pub use Rattle.jsonb_doc.specs.Private.Values.{trees_seen, members_seen, KeepsNormal, SeesItem}
 pub use Rattle.jsonb_doc.specs.Private.Writer.{AreSortedKeys, Make, IsOpen, Rooms, EndsWithin, ExceedsLimits, Around, IsWriting}
-pub use Rattle.jsonb_doc.specs.Private.Writing.{StaysInFront, item_kind, FitsItem, scalar_bytes}
+pub use Rattle.jsonb_doc.specs.Private.Writing.{StaysInFront, FitsItem, item_kind, scalar_bytes}
 pub use Rattle.jsonb_doc.specs.Proofs.EqualTrees.{IsEqual, AreEqual, PairsAreEqual}
 pub use Rattle.jsonb_doc.specs.Proofs.Equality.{equal_from_test, is_equal-true, is_equal_equiv}
-pub use Rattle.jsonb_doc.specs.Proofs.NumberOrder.{number_cmp_total, int_cmp_scaled, int_cmp-below, int_cmp-above}
+pub use Rattle.jsonb_doc.specs.Proofs.NumberOrder.{number_cmp_total, int_cmp_scaled}
 pub use Rattle.jsonb_doc.specs.Proofs.Orderings.{nat_cmp_refl, nat_cmp_scaled, nat_cmp-lt, nat_cmp-equal}
 pub use Rattle.jsonb_doc.specs.Representation.DocumentBuilder.{IsPieceOf, AreMembersOf, HoldsLevel, HoldsOuter, IsEntryOf, AreSortedTexts}
 pub use Rattle.jsonb_doc.specs.Representation.Iterators.{HasElementsLeft, HasPairsLeft, HasKeysLeft}
@@ -74,7 +74,7 @@ unfoldable pub use Rattle.jsonb_doc.specs.Representation.Pieces.{heads_after}
 pub use Rattle.jsonb_doc.specs.Representation.Positions.{Locates, HasSpotsLeft, AreAt, HasChildrenLeft, spot_content}
 pub use Rattle.jsonb_doc.specs.Rounding.{with_sign, nearest}
 pub use Rattle.jsonb_doc.specs.Spots.{TakesSpot, GivesSpot}
-pub use Rattle.jsonb_doc.specs.Tree.{Tree, array, trees_of, count, text, object, pairs_of, null, boolean, number, extension, Trees, no_trees, tree, Pairs, no_pairs, pair, elements, keys, values, members, trees_in, value_under, field_of, pairs_in, children_of}
+pub use Rattle.jsonb_doc.specs.Tree.{Tree, array, trees_of, text, pairs_of, null, boolean, number, extension, object, Trees, no_trees, tree, Pairs, no_pairs, pair, elements, count, keys, values, members, trees_in, value_under, field_of, pairs_in, children_of}
 pub use Rattle.jsonb_doc.specs.Value.{tree_seen, value_parts, value_tree}
 pub use Rattle.jsonb_doc.specs.View.{number_view, extension_view, number_parts}
 pub use Rattle.jsonb_doc.specs.contracts.layout.EntryKind.{the_type}
@@ -82,7 +82,7 @@ pub use Rattle.jsonb_doc.specs.declared.builder_entry.BuilderEntry.{BuilderEntry
 pub use Rattle.jsonb_doc.specs.declared.child_positions.ChildPositions.{ChildPositions}
 pub use Rattle.jsonb_doc.specs.declared.child_positions.EntryPositions.{EntryPositions}
 pub use Rattle.jsonb_doc.specs.declared.container.ArrayParts.{ArrayParts}
-pub use Rattle.jsonb_doc.specs.declared.container.Container.TheVariants.{Array, Object}
+pub use Rattle.jsonb_doc.specs.declared.container.Container.TheVariants.{Object, Array, Scalar}
 pub use Rattle.jsonb_doc.specs.declared.container.ObjectParts.{ObjectParts}
 pub use Rattle.jsonb_doc.specs.declared.cursor.Entries.{Entries}
 pub use Rattle.jsonb_doc.specs.declared.document_builder.DocumentBuilder.{DocumentBuilder}
@@ -91,7 +91,7 @@ pub use Rattle.jsonb_doc.specs.declared.document_builder.frame.Frame.TheVariants
 pub use Rattle.jsonb_doc.specs.declared.element_iter.ElementIter.{ElementIter}
 pub use Rattle.jsonb_doc.specs.declared.entry_iter.StoredEntry.{StoredEntry}
 pub use Rattle.jsonb_doc.specs.declared.error.Error.{Error}
-pub use Rattle.jsonb_doc.specs.declared.error.Error.TheVariants.{OutOfMemory, ObjectDuplicateKey, InvalidJsonb, UnsupportedNumber, TooLarge}
+pub use Rattle.jsonb_doc.specs.declared.error.Error.TheVariants.{OutOfMemory, ObjectDuplicateKey, UnsupportedNumber, TooLarge, InvalidJsonb}
 pub use Rattle.jsonb_doc.specs.declared.event_error.EventError.{EventError}
 pub use Rattle.jsonb_doc.specs.declared.event_error.EventError.TheVariants.{OutOfOrder, Failed}
 pub use Rattle.jsonb_doc.specs.declared.event_list.collecting.Collector.{Collector}
@@ -109,7 +109,6 @@ pub use Rattle.jsonb_doc.specs.declared.layout.Entry.{Entry}
 pub use Rattle.jsonb_doc.specs.declared.layout.EntryKind.{EntryKind}
 pub use Rattle.jsonb_doc.specs.declared.layout.EntryKind.TheVariants.{Container, Unknown}
 pub use Rattle.jsonb_doc.specs.declared.layout.HeaderKind.{HeaderKind}
-pub use Rattle.jsonb_doc.specs.declared.layout.HeaderKind.TheVariants.{Scalar}
 pub use Rattle.jsonb_doc.specs.declared.number.Number.{Number}
 pub use Rattle.jsonb_doc.specs.declared.pair_iter.PairIter.{PairIter}
 pub use Rattle.jsonb_doc.specs.declared.piece_entry.PieceEntry.{PieceEntry}
@@ -117,7 +116,6 @@ pub use Rattle.jsonb_doc.specs.declared.pieces.Piece.{Piece}
 pub use Rattle.jsonb_doc.specs.declared.rewriting.OpenContainer.{OpenContainer}
 pub use Rattle.jsonb_doc.specs.declared.shape.Shape.{Shape}
 pub use Rattle.jsonb_doc.specs.declared.short_number.ShortNumber.{ShortNumber}
-pub use Rattle.jsonb_doc.specs.declared.short_number.ShortNumber.TheVariants.{Unsigned, Signed, Decimal}
 pub use Rattle.jsonb_doc.specs.declared.spot.Spot.{Spot}
 pub use Rattle.jsonb_doc.specs.declared.spot_iter.SpotIter.{SpotIter}
 pub use Rattle.jsonb_doc.specs.declared.text_event.TextEvent.{TextEvent}
@@ -136,8 +134,8 @@ pub use Rattle.std.proofs.lemmas.Bool.{cases_lt, lt-ltb, le-ltb, true≢false, e
 pub use Rattle.std.proofs.lemmas.Bool.Decides.{nat_tests}
 pub use Rattle.std.proofs.lemmas.Cmp.{nat_list_cmp_total, tied_itself, alike_right, nat_cmp_total}
 pub use Rattle.std.proofs.lemmas.Grind.{common_steps, pow_more}
-pub use Rattle.std.proofs.lemmas.Int.{ints, to_z-of_z, of_z-to_z}
-pub use Rattle.std.proofs.lemmas.List.{append-nil, length-append, reverse-append, length-take-le, drop_at, length-map, take_at, map-append, take_all, drop_all, take-take, take_rest, take-append-drop, take-append-le, drop-drop, get_or_append_left, get_or-append-add, get_or_past, get_or_push, drop-take, nil_from_length, length-take, length-reverse, same_from_push, length-replicate}
+pub use Rattle.std.proofs.lemmas.Int.{to_z-of_z, of_z-to_z}
+pub use Rattle.std.proofs.lemmas.List.{append-nil, length-append, reverse-append, length-take-le, drop_at, length-map, take_at, map-append, take_all, drop_all, take-take, take_rest, take-append-drop, take-append-le, drop-drop, get_or_append_left, get_or-append-add, get_or_past, get_or_push, drop-take, nil_from_length, length-take, length-reverse, same_from_push}
 pub use Rattle.std.proofs.lemmas.List.Edits.{length-between}
 pub use Rattle.std.proofs.lemmas.List.Elements.{All-nil, All-cons, All-head, All-tail, All-rest, All-same, All-append}
 pub use Rattle.std.proofs.lemmas.List.Sorted.{ranks_by, answers_always}
@@ -153,24 +151,23 @@ pub use Rattle.std.proofs.lemmas.Slice.Eq.{bytes_eq-Decides}
 pub use Rattle.std.proofs.lemmas.Slice.Zip.{AllZip-long}
 pub use Rattle.std.proofs.lemmas.Str.{IsCharBoundary-from_take}
 pub use Rattle.std.specs.BTreeMap.{is_at, insert_entry}
-pub use Rattle.std.specs.BTreeMap.Entry.{map_with_value}
 pub use Rattle.std.specs.Bool.{Decides, then_some}
 pub use Rattle.std.specs.Borrow.{Bor}
 pub use Rattle.std.specs.Cmp.{ranks, nat_cmp_is}
 pub use Rattle.std.specs.Cmp.Lexicographic.{slice_cmp}
 pub use Rattle.std.specs.Fmt.{decimal, HasWritten, IsPlainFormatter}
-pub use Rattle.std.specs.Int.{w64, from_be_bytes, Width, w32, w128, byte_len, cast_signed, cast_unsigned, to_be_bytes, bytes_high_first}
+pub use Rattle.std.specs.Int.{w64, from_be_bytes, w128, cast_unsigned, Width, w32, to_be_bytes, byte_len, cast_signed, bytes_high_first}
 pub use Rattle.std.specs.List.{AllZip, All, AllByRecursion}
 pub use Rattle.std.specs.List.Sorted.{IsSortedBy, IsStableBy, ties}
 unfoldable pub use Rattle.std.specs.List.Sorted.{IsStrictlySortedBy}
 pub use Rattle.std.specs.Map.{keys_of, lookup, values_of}
 pub use Rattle.std.specs.Option.{option_and_then, option_eq}
-pub use Rattle.std.specs.Ordering.{ordering_then, match_ordering, is_eq, MatchOrdering, ordering_reverse, ord_max, eq_by_cmp, int_eq, is_lt}
+pub use Rattle.std.specs.Ordering.{ordering_then, MatchOrdering, ordering_reverse, ord_max, eq_by_cmp, is_eq, int_eq, match_ordering, is_lt}
 pub use Rattle.std.specs.Prelude.{⊤, unwrap_or}
 pub use Rattle.std.specs.Simd.{first_chunks}
 pub use Rattle.std.specs.Slice.{IsGetRangeResult}
 pub use Rattle.std.specs.Slice.Iter.{iter_rest}
-pub use Rattle.std.specs.Str.{bytes_eq, IsCharBoundary}
+pub use Rattle.std.specs.Str.{IsCharBoundary, bytes_eq}
 pub use Rattle.std.specs.declared.alloc.AllocError.{AllocError}
 pub use borrow.Rule.Slice.PartMut.{mid_of}
 pub use denote.Enum.Declared.{tag_of}

@@ -1,5 +1,5 @@
 -- Values that are copied part by part.
-use Rattle.jsonb_doc.proofs.Common.{◌≡◌, ℕ, ◌+◌, ◌*◌, List, [], ◌∷◌, ◌++◌, Result, Ok, Err, String, Global, string_bytes, string_cmp, refl, sym, ap, subst, ◌∙◌, append_assoc, reverse, IfOk, AllocError, insert_entry, IsStrictlySortedBy, keys_of, map-append, reverse-append, Tree, insert_pair, tree_seen, trees_seen, members_seen, insert_pairs, with_part, filled_tree, left_parts, Number, Value, Open, Filled}
+use Rattle.jsonb_doc.proofs.Common.{◌≡◌, ℕ, ◌+◌, ◌*◌, List, [], ◌∷◌, ◌++◌, Result, String, Global, string_bytes, string_cmp, refl, sym, ap, ◌∙◌, append_assoc, reverse, IfOk, AllocError, insert_entry, IsStrictlySortedBy, keys_of, map-append, reverse-append, Tree, insert_pair, tree_seen, trees_seen, members_seen, insert_pairs, with_part, filled_tree, left_parts, Number, Value, Open, Filled, arith}
 use Rattle.std.proofs.Common.{append-nil}
 use Rattle.jsonb_doc.specs.Number as spec
 use Rattle.jsonb_doc.proofs.ValueTrees.{Entry, members_seen-insert_entry, insert_last}
@@ -25,10 +25,7 @@ module _ (seen : Number → spec.Number) where
   -- one value more is copied
   pub value_copied : (vs vs' : List Value) (v : Value) (t : Tree) (more : List Tree) → vs' ≡ vs ++ v ∷ [] → tree_seen seen v ≡ t
       → trees_seen seen vs' ++ more ≡ trees_seen seen vs ++ t ∷ more
-  value_copied vs vs' v t more is same =
-      ap (λ ws. trees_seen seen ws ++ more) is ∙ ap (λ us. us ++ more) (map-append (tree_seen seen) vs (v ∷ []))
-      ∙ append_assoc (trees_seen seen vs) (tree_seen seen v ∷ []) more
-      ∙ ap (λ u. trees_seen seen vs ++ u ∷ more) same
+  value_copied vs vs' v t more h e = grind (arith, map-append, append_assoc)
 
   -- one member more is copied
   pub member_copied : (es es' : List Entry) (name : String Global) (v : Value) (key : List ℕ) (t : Tree) → es' ≡ insert_entry string_cmp es name v
@@ -39,14 +36,9 @@ module _ (seen : Number → spec.Number) where
   pub copied_in_order : (done left : List Entry) → IsStrictlySortedBy string_cmp (keys_of (done ++ left))
       → insert_pairs (members_seen seen left) (members_seen seen done) ≡ members_seen seen (done ++ left)
   copied_in_order done [] rising = ap (members_seen seen) (sym (append-nil done))
-  copied_in_order done (e ∷ left) rising =
-      let joined = append_assoc done (e ∷ []) left in
-      ap (insert_pairs (members_seen seen left)) (insert_last seen done e left rising)
-      ∙ copied_in_order (done ++ e ∷ []) left (subst (λ (es : List Entry). IsStrictlySortedBy string_cmp (keys_of es)) (sym joined) rising)
-      ∙ ap (members_seen seen) joined
+  copied_in_order done (e ∷ left) rising = grind (arith, copied_in_order (done ++ e ∷ []) left, append_assoc, insert_last, string_cmp)
 
   -- what is filled to a tree is filled to the same one
   pub copies_same : (r : Result Filled AllocError) {t u : Tree} → IfOk r (λ filled. filled_tree seen filled ≡ t) → t ≡ u
       → IfOk r (λ filled. filled_tree seen filled ≡ u)
-  copies_same (Ok filled) h same = h ∙ same
-  copies_same (Err e) h same = tt
+  copies_same r h e = grind arith

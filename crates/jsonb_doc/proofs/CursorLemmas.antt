@@ -1,5 +1,5 @@
 -- Entries as they are stored: the first one, and the first `n` of them.
-use Rattle.jsonb_doc.proofs.Common.{◌≡◌, ◌≢◌, ℕ, zero, suc, min, ◌*◌, ◌-◌, List, [], ◌∷◌, ◌++◌, length, take, drop, Some, refl, sym, ap, subst, ◌∙◌, arith, append_assoc, ◌≤◌, length-append, take_at, drop_at, take_all, drop_all, Tree, trees_of, NumberReader, Form, number_reader, AreEntries, BeginWith, entry_word, kind_number, Entries, StoredEntry, HoldTrees, TakesFirst, StandBefore}
+use Rattle.jsonb_doc.proofs.Common.{◌≡◌, ◌≢◌, ℕ, zero, suc, min, ◌*◌, ◌-◌, List, [], ◌∷◌, ◌++◌, length, take, drop, Some, ap, ◌∙◌, arith, append_assoc, ◌≤◌, length-append, take_at, drop_at, take_all, drop_all, Tree, trees_of, NumberReader, Form, number_reader, AreEntries, BeginWith, entry_word, kind_number, Entries, StoredEntry, HoldTrees, TakesFirst, StandBefore}
 use Rattle.jsonb_doc.proofs.Entries.{BeginWith-unique}
 use Rattle.jsonb_doc.proofs.Containers.{length-words}
 use Rattle.jsonb_doc.proofs.TreeLists.{count-trees_of}
@@ -41,32 +41,8 @@ pub record SplitAt (number_at : NumberReader) (n : ℕ) (ts : List Tree) (words 
 
 pub split_at : (number_at : NumberReader) (n : ℕ) (ts : List Tree) (words contents : List ℕ) → AreEntries number_at (trees_of ts) words contents
     → SplitAt number_at n ts words contents
-split_at number_at zero ts words contents h = record {
-  front_words = [];
-  front_contents = [];
-  back_words = words;
-  back_contents = contents;
-  words_joined = refl;
-  contents_joined = refl;
-  count = omega arith;
-  front = (refl, refl);
-  back = h;
-  parts = [];
-  stand = (refl, refl);
-}
-split_at number_at (suc n) [] words contents h = record {
-  front_words = [];
-  front_contents = [];
-  back_words = words;
-  back_contents = contents;
-  words_joined = refl;
-  contents_joined = refl;
-  count = omega arith;
-  front = (refl, refl);
-  back = h;
-  parts = [];
-  stand = (refl, refl);
-}
+split_at number_at zero ts words contents h = grind arith
+split_at number_at (suc n) [] words contents h = grind arith
 split_at number_at (suc n) (t ∷ ts) words contents e =
     let s = split_at number_at n ts e.other_words e.other_contents e.others in
     record {
@@ -74,40 +50,19 @@ split_at number_at (suc n) (t ∷ ts) words contents e =
       front_contents = e.content ++ s.front_contents;
       back_words = s.back_words;
       back_contents = s.back_contents;
-      words_joined = e.begin.words_joined ∙ ap (λ (l : List ℕ). entry_word e.kind (length e.content) ++ l) s.words_joined
-          ∙ sym (append_assoc (entry_word e.kind (length e.content)) s.front_words s.back_words);
-      contents_joined = e.begin.contents_joined ∙ ap (λ (l : List ℕ). e.content ++ l) s.contents_joined
-          ∙ sym (append_assoc e.content s.front_contents s.back_contents);
+      words_joined = grind (arith, append_assoc);
+      contents_joined = grind (arith, append_assoc);
       count = let count = s.count in omega (arith, count);
-      front = record {
-        kind = e.kind;
-        content = e.content;
-        other_words = s.front_words;
-        other_contents = s.front_contents;
-        begin = record { known = e.begin.known; fits = e.begin.fits; words_joined = refl; contents_joined = refl };
-        part = e.part;
-        others = s.front;
-      };
+      front = grind arith;
       back = s.back;
       parts = e.content ∷ s.parts;
-      stand = record {
-        kind = e.kind;
-        content = e.content;
-        other_words = s.front_words;
-        other_contents = e.other_contents;
-        begin = record { known = e.begin.known; fits = e.begin.fits; words_joined = refl; contents_joined = e.begin.contents_joined };
-        part = refl;
-        others = s.stand;
-      };
+      stand = grind arith;
     }
 
 -- nothing comes after all entries
 pub all_held : (form : Form) (run none : Entries) (ts : List Tree) (n : ℕ) → HoldTrees form run ts → length ts ≤ n → none.words.now ≡ [] → none.contents.now ≡ []
     → HoldTrees form run (take n ts) × HoldTrees form none (drop n ts)
-all_held form run none ts n h all no_words no_contents = (
-  subst (HoldTrees form run) (sym (take_all n ts all)) h,
-  subst (HoldTrees form none) (sym (drop_all n ts all)) (record { entries = (no_words, no_contents) }),
-)
+all_held form run none ts n h e k f = grind (arith, take_all, drop_all)
 
 module _ (form : Form) (run : Entries) (ts : List Tree) (n m : ℕ) (h : HoldTrees form run ts) (few : m ≡ min n (length ts)) where
   cut : SplitAt (number_reader form) n ts run.words.now run.contents.now
@@ -131,14 +86,4 @@ module _ (form : Form) (run : Entries) (ts : List Tree) (n m : ℕ) (h : HoldTre
       → ((parts : List (List ℕ)) (rest : List ℕ) → StandBefore parts front.words.now run.contents.now rest → back.contents.now ≡ rest)
       → front.contents.now ≡ take (length run.contents.now - length back.contents.now) run.contents.now
       → HoldTrees form front (take n ts) × HoldTrees form back (drop n ts)
-  both_hold front back front_is back_is found contents_is =
-      let fw = taken front.words.now front_is in
-      let bc : back.contents.now ≡ cut.back_contents = found cut.parts cut.back_contents (rw fw cut.stand) in
-      let at : length cut.front_contents ≡ length run.contents.now - length back.contents.now = omega
-      (arith, ap length cut.contents_joined, length-append cut.front_contents cut.back_contents, ap length bc) in
-      let fc : front.contents.now ≡ cut.front_contents = contents_is
-      ∙ ap (take (length run.contents.now - length back.contents.now)) cut.contents_joined
-      ∙ take_at cut.front_contents cut.back_contents (length run.contents.now - length back.contents.now) at in (
-        record { entries = rw (fw, fc) cut.front },
-        record { entries = rw (dropped back.words.now back_is, bc) cut.back },
-      )
+  both_hold front back h e k f = grind (arith, taken, length-append, take_at, dropped)

@@ -1,5 +1,5 @@
 -- The tree that bytes decode to fits.
-use Rattle.jsonb_doc.proofs.Common.{◌≡◌, ℕ, ◌^◌, ◌<◌, ◌≤◌, List, [], ◌∷◌, ◌++◌, length, ap, arith, true, inl, inr, AreBytes, Tree, null, boolean, number, text, extension, array, object, Trees, no_trees, tree, Pairs, no_pairs, pair, count, keys, Form, canonical, number_of, header, HeadedBy, AreKeys, key_bytes, IsContent, AreEntries, AreValues, IsDocument, Decodes, content_size, elements_size, values_size, IsInRange, AreInRange, ValuesAreInRange, HasShortParts, HasShortElements, HasShortValues, AreShortKeys, IsWithinLimits, Fits}
+use Rattle.jsonb_doc.proofs.Common.{◌≡◌, ℕ, ◌^◌, ◌<◌, ◌≤◌, List, [], ◌∷◌, ◌++◌, length, ap, arith, inl, inr, AreBytes, Tree, null, boolean, number, text, extension, array, object, Trees, no_trees, tree, Pairs, no_pairs, pair, count, keys, Form, canonical, number_of, header, HeadedBy, AreKeys, key_bytes, IsContent, AreEntries, AreValues, IsDocument, Decodes, content_size, elements_size, values_size, IsInRange, AreInRange, ValuesAreInRange, HasShortParts, HasShortElements, HasShortValues, AreShortKeys, IsWithinLimits, Fits}
 use Rattle.jsonb_doc.proofs.CanonicalLemmas.{in_any}
 use Rattle.jsonb_doc.proofs.Sizes.{length-array, length-object, length-contents}
 use Rattle.jsonb_doc.proofs.PayloadsRead.{AreBytes-left, AreBytes-right, number_within}
@@ -112,29 +112,13 @@ mutual
 
 -- a content that is short enough for an entry is that of a tree within the limits
 within_limits : (t : Tree) (kind : ℕ) (bytes : List ℕ) → AreBytes bytes → length bytes < 2 ^ 28 → IsContent number_of t kind bytes → IsWithinLimits canonical t
-within_limits null kind bytes all short h = omega arith
-within_limits (boolean b) kind bytes all short h = omega arith
-within_limits (number n) kind bytes all short h =
-    omega (arith, short, canonical_is_shortest (number n) kind bytes all h)
-within_limits (text s) kind bytes all short h =
-    omega (arith, short, canonical_is_shortest (text s) kind bytes all h)
-within_limits (extension x) kind bytes all short h =
-    omega (arith, short, canonical_is_shortest (extension x) kind bytes all h)
-within_limits (array ts) kind bytes all short h = content_is_short (array ts) kind bytes all h
-within_limits (object ps) kind bytes all short h = content_is_short (object ps) kind bytes all h
-
-root_within_limits : (t : Tree) (bytes : List ℕ) → AreBytes bytes → IsContent number_of t 5 bytes → IsWithinLimits canonical t
-root_within_limits (array ts) bytes all h = content_is_short (array ts) 5 bytes all h
-root_within_limits (object ps) bytes all h = content_is_short (object ps) 5 bytes all h
-root_within_limits (boolean true) bytes all h = absurd (omega (arith, h.0))
-root_within_limits _ bytes all h = absurd (omega (arith, h.0))
+within_limits t kind bytes h e k = grind (arith, canonical_is_shortest, content_is_short)
 
 document_fits : (t : Tree) (bytes : List ℕ) → AreBytes bytes → IsDocument number_of t bytes → Fits t
-document_fits t bytes all (inl h) = (content_in_range t 5 bytes all h, root_within_limits t bytes all h)
+document_fits t bytes all (inl h) = (content_in_range t 5 bytes all h, grind (arith, content_is_short))
 document_fits t bytes all (inr c) =
     let e = c.parts in
-    let inner = headed_bytes bytes 1 0 c.words c.contents c.headed all in
-    let rest = joined_bytes c.contents e.content e.other_contents e.begin.contents_joined inner in
+    let rest = joined_bytes c.contents e.content e.other_contents e.begin.contents_joined (headed_bytes bytes 1 0 c.words c.contents c.headed all) in
     (content_in_range t e.kind e.content rest.0 e.part.1, within_limits t e.kind e.content rest.0 e.begin.fits e.part.1)
 
 pub decoded_fits : (form : Form) (bytes : List ℕ) (t : Tree) → AreBytes bytes → Decodes form bytes t → Fits t

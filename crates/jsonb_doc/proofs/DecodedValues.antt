@@ -1,8 +1,7 @@
 -- Iterators of a document, and the values decoded from what they yielded.
-use Rattle.jsonb_doc.proofs.Common.{◌≡◌, ℕ, List, [], ◌∷◌, ◌++◌, Some, None, Result, Ok, Err, String, Global, Less, Greater, string_bytes, string_cmp, nat_cmp, refl, sym, ap, subst, ◌∙◌, append_assoc, IfOk, Bor, insert_entry, ordering_reverse, slice_cmp, nat_list_cmp_total, map-append, Tree, Trees, no_trees, tree, Pairs, no_pairs, pair, elements, members, keys, trees_of, pairs_of, Form, AreKeys, IsBelowFirst, StandsFor, IsNormal, TakesElement, HasElementsLeft, HasPairsLeft, TakesPair, insert_pair, number_view, tree_seen, trees_seen, members_seen, KeepsNormal, SeesItem, Item, ElementIter, PairIter, Error, Number, Value}
+use Rattle.jsonb_doc.proofs.Common.{◌≡◌, ℕ, List, [], ◌∷◌, ◌++◌, Some, None, Result, Ok, Err, String, Global, Less, Greater, string_bytes, string_cmp, nat_cmp, refl, ap, ◌∙◌, append_assoc, IfOk, Bor, insert_entry, ordering_reverse, slice_cmp, nat_list_cmp_total, map-append, Tree, Trees, no_trees, tree, Pairs, no_pairs, pair, elements, members, keys, trees_of, pairs_of, Form, AreKeys, IsBelowFirst, StandsFor, IsNormal, TakesElement, HasElementsLeft, HasPairsLeft, TakesPair, insert_pair, number_view, tree_seen, trees_seen, members_seen, KeepsNormal, SeesItem, Item, ElementIter, PairIter, Error, Number, Value, arith}
 use Rattle.std.proofs.Common.{append-nil}
 use Rattle.jsonb_doc.specs.Number as spec
-use Rattle.jsonb_doc.specs.declared.item.Item.TheVariants as item
 use Rattle.jsonb_doc.proofs.ValueTrees.{Entry, members_seen-insert_entry}
 use Rattle.jsonb_doc.proofs.TreeLists.{trees_of-elements, pairs_of-members}
 
@@ -18,23 +17,14 @@ pub record FirstElement (form : Form) (before : Trees) (x : Item) (after : Eleme
 
 pub first_element : (form : Form) (before : Trees) (r : Result Item Error) (x : Item) (after : ElementIter) → r ≡ Ok x
     → TakesElement form before (Some r) after → FirstElement form before x after
-first_element form before r x after is h = go before (rw is at h)
-  where
-    go : (before : Trees) → TakesElement form before (Some (Ok x)) after → FirstElement form before x after
-    go no_trees h = absurd h
-    go (tree t ts) h = record { first = t; others = ts; whole = refl; stands = h.0; left = h.1 }
+first_element form before r x after h e = grind arith
 
 pub element_read : (form : Form) (before : Trees) (r : Result Item Error) (e : Error) (after : ElementIter) → r ≡ Err e
     → TakesElement form before (Some r) after → ⊥
-element_read form before r e after is h = go before (rw is at h)
-  where
-    go : (before : Trees) → TakesElement form before (Some (Err e)) after → ⊥
-    go no_trees h = h
-    go (tree t ts) h = h
+element_read form before r e after h k = grind arith
 
 pub no_element : (form : Form) (before : Trees) (after : ElementIter) → TakesElement form before None after → before ≡ no_trees
-no_element form no_trees after h = refl
-no_element form (tree t ts) after h = absurd h
+no_element form before after h = grind arith
 
 -- the key and the item stand for the first of the remaining members
 pub record FirstMember (form : Form) (before : Pairs) (x : Bor (List ℕ) × Item) (after : PairIter) : Type 0 where
@@ -46,40 +36,26 @@ pub record FirstMember (form : Form) (before : Pairs) (x : Bor (List ℕ) × Ite
 
 pub first_member : (form : Form) (before : Pairs) (r : Result (Bor (List ℕ) × Item) Error) (x : Bor (List ℕ) × Item) (after : PairIter) → r ≡ Ok x
     → TakesPair form before (Some r) after → FirstMember form before x after
-first_member form before r x after is h = go before (rw is at h)
-  where
-    go : (before : Pairs) → TakesPair form before (Some (Ok x)) after → FirstMember form before x after
-    go no_pairs h = absurd h
-    go (pair key t ps) h = record { value = t; others = ps; whole = ap (λ k. pair k t ps) (sym h.0); stands = h.1; left = h.2 }
+first_member form before r x after h e = grind arith
 
 pub member_read : (form : Form) (before : Pairs) (r : Result (Bor (List ℕ) × Item) Error) (e : Error) (after : PairIter) → r ≡ Err e
     → TakesPair form before (Some r) after → ⊥
-member_read form before r e after is h = go before (rw is at h)
-  where
-    go : (before : Pairs) → TakesPair form before (Some (Err e)) after → ⊥
-    go no_pairs h = h
-    go (pair key t ps) h = h
+member_read form before r e after h k = grind arith
 
 pub no_member : (form : Form) (before : Pairs) (after : PairIter) → TakesPair form before None after → before ≡ no_pairs
-no_member form no_pairs after h = refl
-no_member form (pair key t ps) after h = absurd h
+no_member form before after h = grind arith
 
 -- ---- the views of the numbers of items
 
 pub sees_normal : (seen : Number → spec.Number) → KeepsNormal seen → (r : Result Item Error) (x : Item) → r ≡ Ok x → IfOk r IsNormal → SeesItem seen x
-sees_normal seen keeps r x is h = go x (rw is at h)
-  where
-    go : (x : Item) → IsNormal x → SeesItem seen x
-    go (item.Number n) h = keeps n h
-    go _ h = tt
+sees_normal seen h r x e k = grind arith
 
 pub sees_normal_member : (seen : Number → spec.Number) → KeepsNormal seen → (r : Result (Bor (List ℕ) × Item) Error) (x : Bor (List ℕ) × Item) → r ≡ Ok x
     → IfOk r (λ given. IsNormal given.1) → SeesItem seen x.1
 sees_normal_member seen keeps r x is h = sees_normal seen keeps (Ok x.1) x.1 refl (rw is at h)
 
 pub sees_view : (x : Item) → SeesItem number_view x
-sees_view (item.Number n) = refl
-sees_view _ = tt
+sees_view x = grind arith
 
 -- ---- decoded values
 
@@ -92,27 +68,19 @@ module _ (seen : Number → spec.Number) where
   pub elements_go_on : (vs vs' : List Value) (v : Value) (left others ts : Trees) (t : Tree) → trees_of (trees_seen seen vs ++ elements left) ≡ ts
       → left ≡ tree t others → vs' ≡ vs ++ v ∷ [] → tree_seen seen v ≡ t
       → trees_of (trees_seen seen vs' ++ elements others) ≡ ts
-  elements_go_on vs vs' v left others ts t joined whole is same =
-      ap trees_of
-      (ap (λ ws. trees_seen seen ws ++ elements others) is ∙ ap (λ us. us ++ elements others) (map-append (tree_seen seen) vs (v ∷ []))
-      ∙ append_assoc (trees_seen seen vs) (tree_seen seen v ∷ []) (elements others)
-      ∙ ap (λ u. trees_seen seen vs ++ u ∷ elements others) same
-      ∙ ap (λ us. trees_seen seen vs ++ elements us) (sym whole))
-      ∙ joined
+  elements_go_on vs vs' v left others ts t h e k f = grind (arith, map-append, append_assoc)
 
   -- at last all elements are decoded
   pub elements_end : (vs : List Value) (left ts : Trees) → trees_of (trees_seen seen vs ++ elements left) ≡ ts → left ≡ no_trees
       → trees_of (trees_seen seen vs) ≡ ts
-  elements_end vs left ts joined none =
-      ap trees_of (sym (append-nil (trees_seen seen vs)) ∙ ap (λ us. trees_seen seen vs ++ elements us) (sym none)) ∙ joined
+  elements_end vs left ts h e = grind (arith, append-nil)
 
   pub members_begin : (es : List Entry) (ps : Pairs) → es ≡ [] → pairs_of (members_seen seen es ++ members ps) ≡ ps
   members_begin es ps none = rw none (pairs_of-members ps)
 
   pub members_end : (es : List Entry) (left ps : Pairs) → pairs_of (members_seen seen es ++ members left) ≡ ps → left ≡ no_pairs
       → pairs_of (members_seen seen es) ≡ ps
-  members_end es left ps joined none =
-      ap pairs_of (sym (append-nil (members_seen seen es)) ∙ ap (λ qs. members_seen seen es ++ members qs) (sym none)) ∙ joined
+  members_end es left ps h e = grind (arith, append-nil)
 
   below_key : (low : List ℕ) (done : List (List ℕ × Tree)) (key : List ℕ) (t : Tree) (more : List (List ℕ × Tree))
       → IsBelowFirst low (keys (pairs_of (done ++ (key, t) ∷ more))) → AreKeys (keys (pairs_of (done ++ (key, t) ∷ more)))
@@ -132,10 +100,4 @@ module _ (seen : Number → spec.Number) where
   pub members_go_on : (es es' : List Entry) (name : String Global) (v : Value) (key : List ℕ) (left others ps : Pairs) (t : Tree)
       → pairs_of (members_seen seen es ++ members left) ≡ ps → left ≡ pair key t others → AreKeys (keys ps)
       → es' ≡ insert_entry string_cmp es name v → string_bytes name ≡ key → tree_seen seen v ≡ t → pairs_of (members_seen seen es' ++ members others) ≡ ps
-  members_go_on es es' name v key left others ps t joined whole rising is named same =
-      let before = members_seen seen es in
-      let split : pairs_of (before ++ (key, t) ∷ members others) ≡ ps = ap (λ qs. pairs_of (before ++ members qs)) (sym whole) ∙ joined in
-      let last = insert_behind before key t (members others) (subst (λ qs. AreKeys (keys qs)) (sym split) rising) in
-      let made : members_seen seen es' ≡ before ++ (key, t) ∷ [] = ap (members_seen seen) is ∙ members_seen-insert_entry seen es name v
-      ∙ rw (named, same) last in
-      ap (λ qs. pairs_of (qs ++ members others)) made ∙ ap pairs_of (append_assoc before ((key, t) ∷ []) (members others)) ∙ split
+  members_go_on es es' name v key left others ps t h e k f g i = grind (arith, insert_behind, members_seen-insert_entry, append_assoc)

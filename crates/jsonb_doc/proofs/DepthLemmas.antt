@@ -1,5 +1,5 @@
 -- The depth of the items of a document, by its parts.
-use Rattle.jsonb_doc.proofs.Common.{◌≡◌, ◌≢◌, ℕ, ◌+◌, suc, max, List, Option, Some, None, refl, rules, arith, inl, ap, ord_max, Tree, array, object, Trees, no_trees, tree, Pairs, no_pairs, pair, values, NumberReader, Form, number_reader, BeginWith, Decodes, IsContent, AreEntries, deepest, deepest_of_trees, deepest_of_pairs, Holds, parts_of, LiesBelow, AreDeep, ArrayParts, ObjectParts, Array, Object}
+use Rattle.jsonb_doc.proofs.Common.{◌≡◌, ◌≢◌, ℕ, ◌+◌, suc, max, List, Option, Some, None, refl, rules, arith, inl, ap, ord_max, Tree, object, Trees, no_trees, tree, Pairs, no_pairs, pair, values, NumberReader, Form, number_reader, BeginWith, Decodes, IsContent, AreEntries, deepest, deepest_of_trees, deepest_of_pairs, Holds, parts_of, LiesBelow, AreDeep, ArrayParts, ObjectParts, Array, Object}
 use Rattle.std.specs.Ordering.{nat_cmp}
 use Rattle.jsonb_doc.proofs.Containers.{entries_of}
 use Rattle.jsonb_doc.proofs.Entries.{AreEntries-first}
@@ -14,13 +14,10 @@ max_of greatest a b is = search rules
 module _ (number_at : NumberReader) where
   -- what is not a container has no parts
   pub scalar_parts : (t : Tree) (kind : ℕ) (bytes : List ℕ) → kind ≢ 5 → IsContent number_at t kind bytes → parts_of t ≡ no_trees
-  scalar_parts (array ts) kind bytes other h = absurd (other h.0)
-  scalar_parts (object ps) kind bytes other h = absurd (other h.0)
-  scalar_parts _ kind bytes other h = refl
+  scalar_parts t kind bytes h e = grind arith
 
   pub array_parts : (t : Tree) (p : ArrayParts) → Holds number_at t (Array p) → AreEntries number_at (parts_of t) p.words.now p.contents.now
-  array_parts (array ts) p h = h
-  array_parts _ p h = absurd h
+  array_parts t p h = grind arith
 
   pub object_parts : (t : Tree) (p : ObjectParts) (found : List ℕ) → SkipsKeys p found → Holds number_at t (Object p)
       → AreEntries number_at (parts_of t) p.value_words.now found
@@ -35,29 +32,15 @@ deepest_values no_pairs = refl
 deepest_values (pair key t ps) = ap (max (suc (deepest t))) (deepest_values ps)
 
 pub deepest_parts : (t : Tree) → deepest t ≡ deepest_of_trees (parts_of t)
-deepest_parts (array ts) = refl
-deepest_parts (object ps) = deepest_values ps
-deepest_parts _ = refl
+deepest_parts t = grind (arith, deepest_values)
 
 -- the deepest item of a tree is in the container that is left, or has the known depth
 pub AreDeep-large : (form : Form) (t : Tree) (known : ℕ) (left : Option (List ℕ)) (large : List ℕ) → left ≡ Some large → AreDeep form (parts_of t) known left
     → (inner : Tree) × Decodes form large inner × (deepest t ≡ max known (suc (deepest inner)))
-AreDeep-large form t known left large is h =
-    let (inner, decodes, below) = lies_large left is h.below h.lies in
-    let whole = deepest_parts t in
-    let all = h.all in
-    (inner, decodes, omega arith)
-  where
-    lies_large : (left : Option (List ℕ)) → left ≡ Some large → (below : ℕ) → LiesBelow form left below
-        → (inner : Tree) × Decodes form large inner × (below ≡ suc (deepest inner))
-    lies_large left is below lies = rw is at lies
+AreDeep-large form t known left large h e = grind (arith, deepest_parts)
 
 pub AreDeep-whole : (form : Form) (t : Tree) (known : ℕ) (left : Option (List ℕ)) → left ≡ None → AreDeep form (parts_of t) known left → deepest t ≡ known
-AreDeep-whole form t known left is h =
-    let below : h.below ≡ 0 = rw is at h.lies in
-    let whole = deepest_parts t in
-    let all = h.all in
-    omega arith
+AreDeep-whole form t known left h e = grind (arith, deepest_parts)
 
 -- a scalar and an empty container have depth 0
 pub no_parts : (t : Tree) → parts_of t ≡ no_trees → deepest t ≡ 0
@@ -94,9 +77,8 @@ module _ (form : Form) (ts : Trees) (known : ℕ) (large : Option (List ℕ)) (w
       → EntriesLeft form ts (max known (1 + within)) large ws cs
   EntriesLeft-next within same =
       let (t, others, is, part, entries) = AreEntries-first (number_reader form) l.others words contents kind content ws cs b l.entries in
-      let deep = same t part in
       let all : deepest_of_trees ts ≡ max (max known l.below) (max (suc (deepest t)) (deepest_of_trees others)) = rw is at l.all in
-      record { others = others; below = l.below; lies = l.lies; entries = entries; all = omega arith }
+      record { others = others; below = l.below; lies = l.lies; entries = entries; all = omega (arith, same t part) }
 
   -- the first entry is put aside
   pub EntriesLeft-aside : large ≡ None → kind ≡ 5 → EntriesLeft form ts (max known 1) (Some content) ws cs

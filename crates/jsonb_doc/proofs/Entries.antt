@@ -1,5 +1,5 @@
 -- Entries are split into the first one and the others, and joined again.
-use Rattle.jsonb_doc.proofs.Common.{option_and_then, ◌≡◌, ℕ, ◌+◌, ◌*◌, ◌^◌, ◌<◌, ◌≤◌, List, [], length, refl, sym, ap, ◌∙◌, arith, Option, Some, None, Bool, true, false, if◌then◌else◌, ◌↔◌, inl, inr, length-append, Tree, null, boolean, number, text, extension, array, object, Trees, no_trees, tree, Pairs, no_pairs, pair, count, keys, NumberReader, Form, any, canonical, number_reader, number_payload, number_of, number_or_unsupported, bytes_eq, BeginWith, HasFirstEntry, IsContainer, AreMembers, array_header, object_header, scalar_header, IsDocument, IsContent, AreEntries, AreValues, HasContent, HasEntries}
+use Rattle.jsonb_doc.proofs.Common.{option_and_then, ◌≡◌, ℕ, ◌<◌, ◌≤◌, List, [], length, refl, ap, arith, Option, Some, None, true, false, if◌then◌else◌, ◌↔◌, inl, inr, length-append, Tree, null, boolean, number, text, extension, array, object, Trees, no_trees, tree, Pairs, no_pairs, pair, count, keys, NumberReader, Form, canonical, number_reader, number_payload, number_of, number_or_unsupported, bytes_eq, BeginWith, HasFirstEntry, IsContainer, AreMembers, array_header, object_header, scalar_header, IsDocument, IsContent, AreEntries, AreValues, HasContent, HasEntries}
 use Rattle.jsonb_doc.specs.Number.{Number}
 use Rattle.jsonb_doc.proofs.WordLemmas.{bytes_eq-true, bytes_eq-same}
 use Rattle.jsonb_doc.proofs.WordLemmas.{word_cancel, append_cancel}
@@ -10,23 +10,13 @@ BeginWith-long words contents kind content ws cs b = omega (arith, ap length b.w
 -- the first entry and the others are within the contents
 pub BeginWith-room : (words contents : List ℕ) (kind : ℕ) (content ws cs : List ℕ) → BeginWith words contents kind content ws cs
     → (length content ≤ length contents) × (length cs ≤ length contents)
-BeginWith-room words contents kind content ws cs b =
-    let len = ap length b.contents_joined ∙ length-append content cs in
-    (omega (arith, len), omega (arith, len))
+BeginWith-room words contents kind content ws cs h = grind (arith, length-append)
 
 -- there is one first entry at most
 pub BeginWith-unique : (words contents : List ℕ) (k k' : ℕ) (x x' ws ws' cs cs' : List ℕ) → BeginWith words contents k x ws cs
     → BeginWith words contents k' x' ws' cs'
     → (k ≡ k') × (x ≡ x') × (ws ≡ ws') × (cs ≡ cs')
-BeginWith-unique words contents k k' x x' ws ws' cs cs' b b' =
-    let known = b.known in
-    let known' = b'.known in
-    let fits = b.fits in
-    let fits' = b'.fits in
-    let both = word_cancel (k * 2 ^ 28 + length x) (k' * 2 ^ 28 + length x') ws ws' (omega arith) (omega arith) (sym b.words_joined ∙ b'.words_joined) in
-    let same : length x ≡ length x' = omega (arith, both.0) in
-    let rests = append_cancel x cs x' cs' same (sym b.contents_joined ∙ b'.contents_joined) in
-    (omega (arith, both.0), rests.0, both.1, rests.1)
+BeginWith-unique words contents k k' x x' ws ws' cs cs' h e = grind (arith, word_cancel, append_cancel)
 
 module _ {P : ℕ → List ℕ → Type 0} {Q : List ℕ → List ℕ → Type 0} (words contents : List ℕ) (kind : ℕ) (content ws cs : List ℕ)
     (b : BeginWith words contents kind content ws cs) where
@@ -36,9 +26,8 @@ module _ {P : ℕ → List ℕ → Type 0} {Q : List ℕ → List ℕ → Type 0
       e.other_contents b e.begin in
       rw (same_kind, same_content, same_words, same_contents) (e.part, e.others)
 
-  Entry-join : P kind content → Q ws cs → HasFirstEntry P Q words contents
-  Entry-join part others =
-      record { kind = kind; content = content; other_words = ws; other_contents = cs; begin = b; part = part; others = others }
+  pub Entry-join : P kind content → Q ws cs → HasFirstEntry P Q words contents
+  Entry-join h e = grind arith
 
 module _ (number_at : NumberReader) where
   pub kind_below : (t : Tree) (kind : ℕ) (bytes : List ℕ) → IsContent number_at t kind bytes → kind < 7
@@ -50,23 +39,20 @@ module _ (number_at : NumberReader) where
 
   pub HasEntries-empty : (words contents : List ℕ) → words ≡ [] → HasEntries words contents number_at → contents ≡ []
   HasEntries-empty words contents e (no_trees, h) = h.1
-  HasEntries-empty words contents e (tree t ts, n) =
-      absurd (omega (arith, BeginWith-long words contents n.kind n.content n.other_words n.other_contents n.begin, ap length e))
+  HasEntries-empty words contents e (tree t ts, n) = grind (arith, BeginWith-long)
 
   -- entries that are not empty begin with an entry
   pub HasEntries-stop : (words contents : List ℕ) → 0 < length words → ((kind : ℕ) (content ws cs : List ℕ) → BeginWith words contents kind content ws cs → ⊥)
       → HasEntries words contents number_at → ⊥
   HasEntries-stop words contents some none (no_trees, h) = omega (arith, ap length h.0)
-  HasEntries-stop words contents some none (tree t ts, n) =
-      none n.kind n.content n.other_words n.other_contents n.begin
+  HasEntries-stop words contents some none (tree t ts, n) = search (arith, none n.kind n.content n.other_words n.other_contents n.begin)
 
   pub HasEntries-step : (words contents : List ℕ) (kind : ℕ) (content ws cs : List ℕ) → BeginWith words contents kind content ws cs
       → HasEntries words contents number_at ↔ (HasContent kind content number_at × HasEntries ws cs number_at)
   HasEntries-step words contents kind content ws cs b = (split, join)
     where
       split : HasEntries words contents number_at → HasContent kind content number_at × HasEntries ws cs number_at
-      split (no_trees, h) =
-          absurd (omega (arith, BeginWith-long words contents kind content ws cs b, ap length h.0))
+      split (no_trees, h) = grind (arith, BeginWith-long)
       split (tree t ts, e) =
           let parts = Entry-split {P = IsContent number_at t} {Q = AreEntries number_at ts} words contents kind content ws cs b e in
           ((t, parts.0), (ts, parts.1))
@@ -78,8 +64,7 @@ module _ (number_at : NumberReader) where
   pub AreEntries-first : (ts : Trees) (words contents : List ℕ) (kind : ℕ) (content ws cs : List ℕ) → BeginWith words contents kind content ws cs
       → AreEntries number_at ts words contents
       → (t : Tree) × (others : Trees) × (ts ≡ tree t others) × IsContent number_at t kind content × AreEntries number_at others ws cs
-  AreEntries-first no_trees words contents kind content ws cs b h =
-      absurd (omega (arith, BeginWith-long words contents kind content ws cs b, ap length h.0))
+  AreEntries-first no_trees words contents kind content ws cs b h = grind (arith, BeginWith-long)
   AreEntries-first (tree t ts) words contents kind content ws cs b e =
       let parts = Entry-split {P = IsContent number_at t} {Q = AreEntries number_at ts} words contents kind content ws cs b e in
       (t, ts, refl, parts.0, parts.1)
@@ -88,31 +73,15 @@ module _ (number_at : NumberReader) where
 Entry-map : {P P' : ℕ → List ℕ → Type 0} {Q Q' : List ℕ → List ℕ → Type 0} → ((kind : ℕ) (content : List ℕ) → P kind content → P' kind content)
     → ((words contents : List ℕ) → Q words contents → Q' words contents) → (words contents : List ℕ) → HasFirstEntry P Q words contents
     → HasFirstEntry P' Q' words contents
-Entry-map f g words contents e = record {
-  kind = e.kind;
-  content = e.content;
-  other_words = e.other_words;
-  other_contents = e.other_contents;
-  begin = e.begin;
-  part = f e.kind e.content e.part;
-  others = g e.other_words e.other_contents e.others;
-}
+Entry-map h e words contents k = grind arith
 
 Container-map : {Q Q' : List ℕ → List ℕ → Type 0} (kind n : ℕ) → ((words contents : List ℕ) → Q words contents → Q' words contents) → (bytes : List ℕ)
     → IsContainer kind n Q bytes → IsContainer kind n Q' bytes
-Container-map kind n g bytes a =
-    record { words = a.words; contents = a.contents; headed = a.headed; parts = g a.words a.contents a.parts }
+Container-map kind n h bytes e = grind arith
 
 Members-map : {Q Q' : List ℕ → List ℕ → Type 0} (ks : List (List ℕ)) → ((words contents : List ℕ) → Q words contents → Q' words contents)
     → (words contents : List ℕ) → AreMembers ks Q words contents → AreMembers ks Q' words contents
-Members-map ks g words contents o = record {
-  value_words = o.value_words;
-  value_contents = o.value_contents;
-  words_joined = o.words_joined;
-  contents_joined = o.contents_joined;
-  are_keys = o.are_keys;
-  values = g o.value_words o.value_contents o.values;
-}
+Members-map ks h words contents e = grind arith
 
 -- what decodes if numbers are read in one way decodes so if they are read in another, which reads as many
 module _ (strict lenient : NumberReader) (more : (bytes : List ℕ) (n : Number) → strict bytes ≡ Some n → lenient bytes ≡ Some n) where
@@ -148,8 +117,7 @@ pub document_lenient : (t : Tree) (bytes : List ℕ) → IsDocument number_of t 
 document_lenient = document_map number_of number_or_unsupported number_lenient
 
 pub has_content_lenient : (kind : ℕ) (bytes : List ℕ) → HasContent kind bytes number_of → HasContent kind bytes number_or_unsupported
-has_content_lenient kind bytes h =
-    (h.0, content_map number_of number_or_unsupported number_lenient h.0 kind bytes h.1)
+has_content_lenient kind bytes h = grind (arith, content_map, number_lenient)
 
 -- ---- forms
 
@@ -158,25 +126,18 @@ abbrev if_written : List ℕ → Option Number → Option Number
 if_written payload found = option_and_then (λ n. if bytes_eq payload (number_payload n) then Some n else None) found
 
 if_written-some : (payload : List ℕ) (found : Option Number) (n : Number) → if_written payload found ≡ Some n → (found ≡ Some n) × (payload ≡ number_payload n)
-if_written-some payload None n e = absurd (cc)
-if_written-some payload (Some m) n e = go (bytes_eq payload (number_payload m)) refl e
-  where
-    go : (b : Bool) → b ≡ bytes_eq payload (number_payload m) → (if b then Some m else None) ≡ Some n → (Some m ≡ Some n) × (payload ≡ number_payload n)
-    go true is k = let same : m ≡ n = cc k in (k, bytes_eq-true payload (number_payload m) (sym is) ∙ ap number_payload same)
-    go false is k = absurd (cc)
+if_written-some payload found n h = search (arith, bytes_eq-true)
 
 -- what a form reads is a number in each document
 pub reads_number : (form : Form) (bytes : List ℕ) (n : Number) → number_reader form bytes ≡ Some n → number_of bytes ≡ Some n
-reads_number any bytes n e = e
-reads_number canonical bytes n e = (if_written-some bytes (number_of bytes) n e).0
+reads_number form bytes n h = grind (arith, if_written-some)
 
 pub canonical_payload : (bytes : List ℕ) (n : Number) → number_reader canonical bytes ≡ Some n → bytes ≡ number_payload n
 canonical_payload bytes n e = (if_written-some bytes (number_of bytes) n e).1
 
 -- a canonical payload is read in each form
 pub reads_canonical : (form : Form) (bytes : List ℕ) (n : Number) → number_reader canonical bytes ≡ Some n → number_reader form bytes ≡ Some n
-reads_canonical any bytes n e = reads_number canonical bytes n e
-reads_canonical canonical bytes n e = e
+reads_canonical form bytes n h = grind (arith, reads_number)
 
 pub reads_written : (n : Number) → number_of (number_payload n) ≡ Some n → number_reader canonical (number_payload n) ≡ Some n
 reads_written n e = rw (e, bytes_eq-same (number_payload n)) refl

@@ -1,5 +1,5 @@
 -- Entries as new documents.
-use Rattle.jsonb_doc.proofs.Common.{◌≡◌, ◌≢◌, ℕ, zero, suc, ◌-◌, ◌<◌, ◌≤◌, ◌^◌, List, [], ◌∷◌, ◌++◌, length, take, drop, refl, sym, ap, ◌∙◌, arith, inr, slice_range, take-take, take_rest, Tree, NumberReader, IsContent, IsDocument, header, scalar_header, entry_word}
+use Rattle.jsonb_doc.proofs.Common.{◌≡◌, ◌≢◌, ℕ, zero, suc, ◌-◌, ◌<◌, ◌≤◌, ◌^◌, List, [], ◌∷◌, ◌++◌, length, take, refl, ap, arith, inr, slice_range, take-take, take_rest, Tree, NumberReader, IsContent, IsDocument, header, scalar_header, entry_word}
 use Rattle.std.proofs.Common.{append-nil}
 
 -- an entry that is not a container, as a document
@@ -9,15 +9,7 @@ entry_decodes number_at t kind content known scalar short part = inr (record {
   words = entry_word kind (length content);
   contents = content;
   headed = record { known = omega arith; fits = omega arith; joined = refl };
-  parts = record {
-    kind = kind;
-    content = content;
-    other_words = [];
-    other_contents = [];
-    begin = record { known = known; fits = short; words_joined = refl; contents_joined = sym (append-nil content) };
-    part = (scalar, part);
-    others = (refl, refl);
-  };
+  parts = grind (arith, append-nil);
 })
 
 take_own : (m : ℕ) (xs : List ℕ) → take (length (take m xs)) xs ≡ take m xs
@@ -28,6 +20,4 @@ take_own (suc m) (x ∷ xs) = ap (λ (l : List ℕ). x ∷ l) (take_own m xs)
 -- the prefix of bytes that begin with a content is that content
 pub front_is_content : (bytes content front : List ℕ) (start end n : ℕ) → content ≡ slice_range bytes start end
     → front ≡ take n (slice_range bytes start (length bytes)) → length content ≤ n → take (length content) front ≡ content
-front_is_content bytes content front start end n is first few =
-    ap (take (length content)) (first ∙ ap (take n) (take_rest bytes start)) ∙ take-take (length content) n (drop start bytes) few
-    ∙ ap (λ (k : List ℕ). take (length k) (drop start bytes)) is ∙ take_own (end - start) (drop start bytes) ∙ sym is
+front_is_content bytes content front start end n h e k = grind (arith, take_rest, take-take, take_own)

@@ -1,5 +1,5 @@
 -- Bytes are equal if the words at both their ends are, which overlap.
-use Rattle.jsonb_doc.proofs.Common.{◌≡◌, ℕ, zero, suc, ◌-◌, ◌*◌, ◌<◌, ◌≤◌, List, [], ◌∷◌, ◌++◌, length, length-drop, take, drop, get_or, refl, sym, ap, ◌∙◌, arith, Option, Some, None, Bool, true, false, nat_eq, IsTrue, ◌&&◌, Width, w32, w64, from_be_bytes, to_be_bytes, option_eq, eqb-true, eq-eqb, take-take, take-append-drop, length-take-le, be_bytes_4, be_bytes_8, IsWordOf, AreEnds}
+use Rattle.jsonb_doc.proofs.Common.{◌≡◌, ℕ, zero, suc, ◌-◌, ◌*◌, ◌<◌, ◌≤◌, List, [], ◌∷◌, ◌++◌, length, length-drop, take, drop, get_or, refl, sym, ap, ◌∙◌, arith, Option, Some, Bool, true, nat_eq, IsTrue, ◌&&◌, Width, w32, w64, from_be_bytes, to_be_bytes, option_eq, eqb-true, eq-eqb, take-take, take-append-drop, length-take-le, be_bytes_4, be_bytes_8, IsWordOf, AreEnds}
 
 -- ---- the words at the ends
 
@@ -8,8 +8,7 @@ abbrev pub AreSmall : List ℕ → Type 0
 AreSmall xs = (i : ℕ) → get_or xs i 0 < 256
 
 none_small : AreSmall []
-none_small zero = omega arith
-none_small (suc i) = omega arith
+none_small = grind arith
 
 take_small : (n : ℕ) (xs : List ℕ) → AreSmall xs → AreSmall (take n xs)
 take_small zero xs h i = none_small i
@@ -33,9 +32,7 @@ pub long_words : HasWords w64 8
 long_words xs long small = be_bytes_8 xs (from_be_bytes w64 xs) long small refl
 
 word_of : (w : Width) (n : ℕ) → HasWords w n → (xs part : List ℕ) (x : ℕ) → length xs ≡ n → AreSmall xs → part ≡ xs → x ≡ from_be_bytes w part → IsWordOf w xs x
-word_of w n words xs part x long small is told =
-    let number : x ≡ from_be_bytes w xs = told ∙ ap (from_be_bytes w) is in
-    (number, sym (words xs long small) ∙ ap (to_be_bytes w) (sym number))
+word_of w n h xs part x e k f g = grind arith
 
 -- the numbers of the first bytes and of the last
 pub ends_are : (w : Width) (n : ℕ) → HasWords w n → (bytes first last : List ℕ) (x y : ℕ) → n ≤ length bytes → AreSmall bytes
@@ -56,37 +53,18 @@ ends_joined : (n : ℕ) (xs ys : List ℕ) → length xs ≡ length ys → lengt
 ends_joined n xs ys same few front back =
     let k = length xs - n in
     let short : k ≤ n = omega (arith, few) in
-    let other : length ys - n ≡ k = omega (arith, same) in
     let first : take k xs ≡ take k ys = sym (take-take k n xs short) ∙ ap (take k) front ∙ take-take k n ys short in
-    let last : drop k xs ≡ drop k ys = back ∙ ap (λ (m : ℕ). drop m ys) other in
+    let last : drop k xs ≡ drop k ys = back ∙ ap (λ (m : ℕ). drop m ys) (omega (arith, same)) in
     sym (take-append-drop k xs) ∙ ap (λ (l : List ℕ). l ++ drop k xs) first ∙ ap (λ (l : List ℕ). take k ys ++ l) last ∙ take-append-drop k ys
 
 abbrev pub pairs_equal : ℕ × ℕ → ℕ × ℕ → Bool
 pairs_equal a b = nat_eq a.0 b.0 && nat_eq a.1 b.1
 
 both : (a b : Bool) → true ≡ a && b → (a ≡ true) × (b ≡ true)
-both true b h = (refl, sym h)
-both false b h = cc
+both a b h = grind arith
 
 module _ (w : Width) where
-  -- one number, one word
-  one_word : (xs ys : List ℕ) (x y : ℕ) → IsWordOf w xs x → IsWordOf w ys y → nat_eq x y ≡ true → xs ≡ ys
-  one_word xs ys x y a b e = a.1 ∙ ap (to_be_bytes w) (eqb-true x y e) ∙ sym b.1
-
-  -- equal words have one number
-  one_number : (xs ys : List ℕ) (x y : ℕ) → IsWordOf w xs x → IsWordOf w ys y → xs ≡ ys → nat_eq x y ≡ true
-  one_number xs ys x y a b e = eq-eqb x y (a.0 ∙ ap (from_be_bytes w) e ∙ sym b.0)
-
   -- slices of one length are equal if their ends are
   pub ends_tell : (n : ℕ) (xs ys : List ℕ) (f g : Option (ℕ × ℕ)) (said : Bool) → length xs ≡ length ys → n ≤ length xs → length xs ≤ 2 * n
       → AreEnds w n xs f → AreEnds w n ys g → said ≡ option_eq pairs_equal f g → (IsTrue said → xs ≡ ys) × (xs ≡ ys → IsTrue said)
-  ends_tell n xs ys None g said same enough few a b is = absurd (omega (arith, a, enough))
-  ends_tell n xs ys (Some x) None said same enough few a b is = absurd (omega (arith, b, enough, same))
-  ends_tell n xs ys (Some x) (Some y) said same enough few a b is = (
-    (λ yes.
-        let ends = both (nat_eq x.0 y.0) (nat_eq x.1 y.1) (sym yes ∙ is) in
-        ends_joined n xs ys same few (one_word _ _ x.0 y.0 a.1 b.1 ends.0) (one_word _ _ x.1 y.1 a.2 b.2 ends.1)),
-    (λ e.
-        is ∙ ap (λ (t : Bool). t && nat_eq x.1 y.1) (one_number _ _ x.0 y.0 a.1 b.1 (ap (take n) e))
-        ∙ one_number _ _ x.1 y.1 a.2 b.2 (ap (λ (l : List ℕ). drop (length l - n) l) e)),
-  )
+  ends_tell n xs ys f g said h e k i q m = search (arith, both, nat_eq, ends_joined, eqb-true, eq-eqb)

@@ -1,17 +1,12 @@
 -- Equality of values part by part.
-use Rattle.jsonb_doc.proofs.Common.{◌≡◌, ℕ, zero, suc, ◌*◌, ◌^◌, ◌≤◌, ℤ, pos, negsuc, ◌*ℤ◌, refl, sym, ap, ◌∙◌, arith, Equal, eq_by_cmp, is_eq, int_eq, one-le-pow, tied_itself, alike_right, Variant, int64, uint64, decimal64, number_cmp, number_from, number_cmp_total, int_cmp_scaled, short_value, short_parts, number_parts, number_view, Number, ShortNumber, Unsigned, Signed, Decimal}
+use Rattle.jsonb_doc.proofs.Common.{◌≡◌, ℕ, ◌*◌, ◌^◌, ◌≤◌, ℤ, pos, ◌*ℤ◌, sym, ap, ◌∙◌, arith, Equal, eq_by_cmp, is_eq, int_eq, one-le-pow, tied_itself, alike_right, Variant, decimal64, number_cmp, number_from, number_cmp_total, int_cmp_scaled, short_value, short_parts, number_parts, number_view, Number, ShortNumber}
 use Rattle.std.specs.Ordering.{int_cmp}
 use Rattle.jsonb_doc.specs.Number.{Number as Number'}
 
 -- a number of these parts has their value, for each variant of zero
 same_value : (variant : Variant) (whole : ℤ) (scale : ℕ)
     → number_cmp (number_from variant whole scale) (record { variant = variant; whole = whole; scale = scale }) ≡ Equal
-same_value variant (pos zero) scale = by (0 * 10 ^ scale) (0 * 10 ^ 0) (omega arith) (omega arith)
-  where
-    by : (m n : ℕ) → m ≡ 0 → n ≡ 0 → int_cmp (pos m) (pos n) ≡ Equal
-    by m n e f = rw (e, f) refl
-same_value variant (pos (suc n)) scale = tied_itself number_cmp_total (record { variant = variant; whole = pos (suc n); scale = scale })
-same_value variant (negsuc n) scale = tied_itself number_cmp_total (record { variant = variant; whole = negsuc n; scale = scale })
+same_value variant whole scale = grind (arith, int_cmp, tied_itself)
 
 -- decimals of one scale compare as their digits do
 pub decimals_tied : (a b : ℤ) (scale : ℕ) → int_eq a b ≡ eq_by_cmp number_cmp (number_from decimal64 a scale) (number_from decimal64 b scale)
@@ -25,15 +20,13 @@ decimals_tied a b scale =
     )
 
 same_short : (n : ShortNumber) → number_cmp (short_value n) (short_parts n) ≡ Equal
-same_short (Unsigned n) = same_value uint64 (pos n) 0
-same_short (Signed z) = same_value int64 z 0
-same_short (Decimal z scale) = same_value decimal64 z scale
+same_short n = grind (arith, same_value)
 
 -- numbers whose digits are stored in at most 64 bits compare as their parts do
 short_cmp : (m n : ShortNumber) → number_cmp (short_value m) (short_value n) ≡ number_cmp (short_parts m) (short_parts n)
 short_cmp m n =
-    number_cmp_total.congr (short_value m) (short_parts m) (short_value n) (same_short m)
-    ∙ alike_right number_cmp_total (short_value n) (short_parts n) (short_parts m) (same_short n)
+    let more = alike_right number_cmp_total (short_value n) (short_parts n) (short_parts m) (same_short n) in
+    cc (number_cmp_total.congr (short_value m) (short_parts m) (short_value n) (same_short m), more)
 
 pub short_tied : (m n : ShortNumber)
     → is_eq (int_cmp ((short_parts m).whole *ℤ pos (10 ^ (short_parts n).scale)) ((short_parts n).whole *ℤ pos (10 ^ (short_parts m).scale)))

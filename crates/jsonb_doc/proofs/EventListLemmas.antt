@@ -1,5 +1,5 @@
 -- The pairs of an open object in the order of the events, and sorted: both are the same states.
-use Rattle.jsonb_doc.proofs.Common.{◌≡◌, ℕ, ◌+◌, ◌≤◌, List, [], ◌∷◌, ◌++◌, length, map, refl, sym, ap, subst, ◌∙◌, arith, Bool, true, false, Some, None, Option, nat_cmp, IsTrue, Result, Ok, Err, IsOkAnd, ⊤, if◌then◌else◌, unwrap_or, slice_cmp, IsStrictlySortedBy, keys_of, true≢false, Tree, has_key, insert_pair, Level, root, array_of, object_of, State, Event, array_begins, object_begins, key_is, value_is, ends, no_events, takes_value, filled, container, whole, within, with_inner, with_key, with_value, closed, Reads, AreEvents, with_key_again, next_of, AreEventsOf, insert_all, appended, EndsAs, TakesTree, Opens, LeadsTo, Happen, EventError, OutOfOrder, Failed, ObjectDuplicateKey, TextEvent}
+use Rattle.jsonb_doc.proofs.Common.{◌≡◌, ℕ, ◌+◌, ◌≤◌, List, [], ◌∷◌, ◌++◌, length, map, refl, sym, ap, subst, ◌∙◌, arith, Bool, true, false, Some, None, Option, nat_cmp, IsTrue, Result, Ok, Err, IsOkAnd, ⊤, if◌then◌else◌, slice_cmp, IsStrictlySortedBy, keys_of, true≢false, Tree, has_key, insert_pair, Level, root, array_of, object_of, State, Event, array_begins, object_begins, key_is, value_is, ends, no_events, takes_value, filled, container, whole, within, with_inner, with_key, with_value, closed, AreEvents, with_key_again, next_of, AreEventsOf, insert_all, appended, TakesTree, Opens, LeadsTo, Happen, EventError, OutOfOrder, Failed, ObjectDuplicateKey, TextEvent}
 use Rattle.jsonb_doc.specs.EventList as lists
 use Rattle.jsonb_doc.proofs.ObjectLemmas.{length-inserted}
 use Rattle.jsonb_doc.proofs.UniqueLemmas.{rise_inserted, none_rise, one_more}
@@ -17,19 +17,12 @@ insert_more ps (p ∷ qs) q = insert_more (insert_pair p.0 p.1 ps) qs q
 
 more_new : (ps qs : List (List ℕ × Tree)) (q : List ℕ × Tree) → AreNew ps (qs ++ q ∷ []) → AreNew ps qs × (has_key q.0 (insert_all ps qs) ≡ false)
 more_new ps [] q new = (tt, new.0)
-more_new ps (p ∷ qs) q new =
-    let rest = more_new (insert_pair p.0 p.1 ps) qs q new.1 in
-    ((new.0, rest.0), rest.1)
+more_new ps (p ∷ qs) q new = grind (arith, more_new (insert_pair p.0 p.1 ps) qs q new.1)
 
 all_more : (ps qs : List (List ℕ × Tree)) → IsStrictlySortedBy (slice_cmp nat_cmp) (keys_of ps) → (length (insert_all ps qs) ≤ length ps + length qs)
     × (length ps + length qs ≤ length (insert_all ps qs) → AreNew ps qs)
 all_more ps [] rise = (omega arith, λ le. tt)
-all_more ps (q ∷ qs) rise =
-    let one = one_more q.0 q.1 ps rise in
-    let rest = all_more (insert_pair q.0 q.1 ps) qs (rise_inserted q.0 q.1 ps rise) in (
-      omega (arith, one.0, rest.0),
-      λ le. (one.1 (omega (arith, le, rest.0)), rest.1 (omega (arith, le, one.0))),
-    )
+all_more ps (q ∷ qs) rise = grind (arith, all_more (insert_pair q.0 q.1 ps) qs (rise_inserted q.0 q.1 ps rise), one_more, rise_inserted)
 
 -- ---- levels with sorted pairs
 
@@ -45,26 +38,11 @@ abbrev pub sorted_state : State → State
 sorted_state s = record { inner = sorted s.inner; around = sorted_levels s.around }
 
 takes_sorted : (level : Level) → takes_value (sorted level) ≡ takes_value level
-takes_sorted (root t) = refl
-takes_sorted (array_of ts) = refl
-takes_sorted (object_of ps key) = refl
-
-filled_sorted : (t : Tree) (level : Level) → filled t (sorted level) ≡ sorted (appended t level)
-filled_sorted t (root u) = refl
-filled_sorted t (array_of ts) = refl
-filled_sorted t (object_of ps None) = refl
-filled_sorted t (object_of ps (Some key)) =
-    ap (λ (qs : List (List ℕ × Tree)). object_of qs None) (sym (insert_more [] ps (key, t)))
-
-ends_sorted : (keep_last : Bool) (level : Level) (t : Tree) → EndsAs keep_last level t → container (sorted level) ≡ Some t
-ends_sorted keep_last (array_of ts) t e = ap Some (sym e)
-ends_sorted keep_last (object_of ps None) t e = ap Some (sym e.0)
-ends_sorted keep_last _ t e = absurd e
+takes_sorted level = grind arith
 
 value_sorted : (t : Tree) (level : Level) (around : List Level) (s : State) → TakesTree t level around s
     → with_value t (sorted level) ≡ Ok (sorted s.inner)
-value_sorted t level around s h =
-    rw (takes_sorted level, h.0, filled_sorted t level, h.1) refl
+value_sorted t level around s h = grind (arith, takes_sorted, insert_more)
 
 -- ---- keys that are new
 
@@ -87,11 +65,6 @@ new_before t (array_of ts) takes new = tt
 new_before t (object_of ps (Some key)) takes new = more_new [] ps (key, t) new
 new_before t (object_of ps None) takes new = let bad : false ≡ true = takes in absurd (cc)
 
-new_container : (level : Level) (t : Tree) → EndsAs false level t → IsNew level
-new_container (array_of ts) t e = tt
-new_container (object_of ps None) t e = (all_more [] ps none_rise).1 (omega (arith, e.1 refl))
-new_container _ t e = absurd e
-
 -- ---- events
 
 -- Holds if the event leads to the state, with sorted pairs.
@@ -102,10 +75,7 @@ opened : (level : Level) (s s' : State) → sorted level ≡ level → Opens lev
 opened level s s' same h = rw (takes_sorted s.inner, h.0, h.1, same) refl
 
 ended : (keep_last : Bool) (s s' : State) → LeadsTo keep_last ends s s' → closed (container (sorted s.inner)) (sorted_levels s.around) ≡ Ok (sorted_state s')
-ended keep_last s s' h =
-    let takes = h.5 in
-    rw (ends_sorted keep_last s.inner h.0 h.3, h.4, value_sorted h.0 h.1 h.2 s' takes)
-    (ap (λ (ls : List Level). Ok (record { inner = sorted s'.inner; around = sorted_levels ls })) (sym (ap (λ (x : State). x.around) takes.1)))
+ended keep_last s s' h = grind (arith, h.5, h.4, value_sorted h.0 h.1 h.2 s' h.5)
 
 -- if the last value of a key is kept
 pub leads_last : (e : Event) (s s' : State) → LeadsTo true e s s' → Leads true e s s'
@@ -117,22 +87,16 @@ leads_last ends s s' h = ended true s s' h
 
 -- if all keys are new
 pub leads_new : (e : Event) (s s' : State) → LeadsTo false e s s' → IsNewState s' → IsNewState s × Leads false e s s'
-leads_new array_begins s s' h new =
-    let old = subst IsNewState h.1 new in
-    (old.1, opened (array_of []) s s' refl h)
-leads_new object_begins s s' h new =
-    let old = subst IsNewState h.1 new in
-    (old.1, opened (object_of [] None) s s' refl h)
-leads_new (key_is key) s s' h new =
-    let old = subst IsNewState h.2 new in
-    ((subst IsNew (sym h.1) old.0.0, old.1), rw (h.1, h.2, old.0.1) refl)
+leads_new array_begins s s' h new = grind (arith, opened)
+leads_new object_begins s s' h new = grind (arith, opened)
+leads_new (key_is key) s s' h new = grind arith
 leads_new (value_is t) s s' h new =
     let old = subst IsNewState h.1 new in
     ((new_before t s.inner h.0 old.0, old.1), rw (value_sorted t s.inner s.around s' h, h.1) refl)
 leads_new ends s s' h new =
     let takes = h.5 in
     let old = subst IsNewState takes.1 new in (
-      (new_container s.inner h.0 h.3, subst AreAllNew (sym h.4) (new_before h.0 h.1 takes.0 old.0, old.1)),
+      (grind (arith, all_more, none_rise), subst AreAllNew (sym h.4) (new_before h.0 h.1 takes.0 old.0, old.1)),
       ended false s s' h,
     )
 
@@ -167,29 +131,15 @@ all_new (e ∷ es) bytes s rest s' h new =
       },
     )
 
-whole_new : (s : State) (t : Tree) → whole s.inner ≡ Some t → s.around ≡ [] → IsNewState s
-whole_new s t is none = (go s.inner is, rw none tt)
-  where
-    go : (level : Level) → whole level ≡ Some t → IsNew level
-    go (root u) is = tt
-    go (array_of ts) is = tt
-    go (object_of ps key) is = let bad : None ≡ Some t = is in absurd (cc)
-
-whole_sorted : (level : Level) (t : Tree) → whole level ≡ Some t → whole (sorted level) ≡ Some t
-whole_sorted (root u) t is = is
-whole_sorted (array_of ts) t is = is
-whole_sorted (object_of ps key) t is = is
-
 pub complete : (keep_last : Bool) (es : List TextEvent) (bytes : List ℕ) (s : State) (t : Tree) → whole s.inner ≡ Some t → AreAll keep_last es bytes no_events s
     → AreEventsOf keep_last es bytes t
-complete keep_last es bytes s t is all = (all.events, all.are, rw all.leads (whole_sorted s.inner t is))
+complete keep_last es bytes s t is all = (all.events, all.are, rw all.leads (grind arith))
 
 -- events that lead to a complete root are those of its tree
 pub events_of : (keep_last : Bool) (es : List TextEvent) (bytes : List ℕ) (rest : List ℕ) (s : State) (t : Tree) → Happen keep_last es bytes no_events rest s
     → whole s.inner ≡ Some t → s.around ≡ [] → AreEventsOf keep_last es bytes t
 events_of true es bytes rest s t h is none = complete true es bytes s t is (all_last es bytes no_events rest s h)
-events_of false es bytes rest s t h is none =
-    complete false es bytes s t is (all_new es bytes no_events rest s h (whole_new s t is none)).1
+events_of false es bytes rest s t h is none = grind (arith, complete, all_new)
 
 -- ---- events that lead on
 
@@ -213,32 +163,16 @@ not_ok e s is = true≢false (sym (ap is_value is))
 -- a container that begins
 within_back : (level : Level) (s after : State) → within level s ≡ Ok after
     → IsTrue (takes_value s.inner) × (after ≡ record { inner = level; around = s.inner ∷ s.around })
-within_back level s after = go (takes_value s.inner)
-  where
-    go : (b : Bool) → (if b then Ok (record { inner = level; around = s.inner ∷ s.around }) else Err OutOfOrder) ≡ Ok after
-        → IsTrue b × (after ≡ record { inner = level; around = s.inner ∷ s.around })
-    go true is = (refl, sym (ap (ok_or after) is))
-    go false is = absurd (not_ok OutOfOrder after is)
-
--- a value
-value_back : (t : Tree) (level : Level) (around : List Level) (after : State) → with_inner around (with_value t level) ≡ Ok after
-    → IsTrue (takes_value level) × (after ≡ record { inner = filled t level; around = around })
-value_back t level around after = go (takes_value level)
-  where
-    go : (b : Bool) → with_inner around (if b then Ok (filled t level) else Err OutOfOrder) ≡ Ok after
-        → IsTrue b × (after ≡ record { inner = filled t level; around = around })
-    go true is = (refl, sym (ap (ok_or after) is))
-    go false is = absurd (not_ok OutOfOrder after is)
+within_back level s after h = grind (arith, not_ok)
 
 opens_back : (keep_last : Bool) (e : Event) (level : Level) (s after : State) → sorted level ≡ level → IsNew level
     → ((state : State) → Opens level s state → LeadsTo keep_last e s state) → within level (sorted_state s) ≡ Ok after
     → (keep_last ≡ false → IsNewState s) → LeadsBack keep_last e s after
 opens_back keep_last e level s after same fresh leads is new =
     let back = within_back level (sorted_state s) after is in
-    let takes : IsTrue (takes_value s.inner) = rw (takes_sorted s.inner) at back.0 in
     record {
       state = record { inner = level; around = s.inner ∷ s.around };
-      leads = leads _ (takes, refl);
+      leads = leads _ (rw (takes_sorted s.inner) at back.0, refl);
       is = back.1 ∙ rw same refl;
       new = λ ne. (fresh, new ne);
     }
@@ -252,16 +186,11 @@ new_len ps [] new = omega arith
 new_len ps (q ∷ qs) new = omega (arith, new_len (insert_pair q.0 q.1 ps) qs new.1, length-inserted q.0 q.1 ps new.0)
 
 new_after : (t : Tree) (level : Level) → IsTrue (takes_value level) → IsNew level → IsNew (appended t level)
-new_after t (root u) takes new = tt
-new_after t (array_of ts) takes new = tt
-new_after t (object_of ps (Some key)) takes new = new_more [] ps (key, t) new.0 new.1
-new_after t (object_of ps None) takes new = let bad : false ≡ true = takes in absurd (cc)
+new_after t level h e = grind (arith, new_more)
 
 takes_back : (t : Tree) (level : Level) (around : List Level) (after : State) → with_inner (sorted_levels around) (with_value t (sorted level)) ≡ Ok after
     → IsTrue (takes_value level) × (after ≡ sorted_state (record { inner = appended t level; around = around }))
-takes_back t level around after is =
-    let back = value_back t (sorted level) (sorted_levels around) after is in
-    (rw (takes_sorted level) at back.0, back.1 ∙ rw (filled_sorted t level) refl)
+takes_back t level around after h = grind (arith, filled, not_ok, takes_sorted, insert_more)
 
 -- a key
 key_last : (key : List ℕ) (s after : State) → next_of true (key_is key) (sorted_state s) ≡ Ok after → LeadsBack true (key_is key) s after
@@ -275,9 +204,7 @@ key_last key s after = go s.inner refl
       is = sym (ap (ok_or after) is);
       new = λ ne. absurd (true≢false ne);
     }
-    go (object_of ps (Some name)) here is = absurd (not_ok OutOfOrder after is)
-    go (array_of ts) here is = absurd (not_ok OutOfOrder after is)
-    go (root u) here is = absurd (not_ok OutOfOrder after is)
+    go _ here is = absurd (not_ok OutOfOrder after is)
 
 key_new : (key : List ℕ) (s after : State) → next_of false (key_is key) (sorted_state s) ≡ Ok after → IsNewState s → LeadsBack false (key_is key) s after
 key_new key s after is new = go s.inner refl is
@@ -296,17 +223,7 @@ key_new key s after is new = go s.inner refl is
           is = sym (ap (ok_or after) is);
           new = λ ne. ((rw here at new.0, there), new.1);
         }
-    go (object_of ps (Some name)) here is = absurd (not_ok OutOfOrder after is)
-    go (array_of ts) here is = absurd (not_ok OutOfOrder after is)
-    go (root u) here is = absurd (not_ok OutOfOrder after is)
-
--- a container that ends
-container_back : (keep_last : Bool) (level : Level) (t : Tree) → container (sorted level) ≡ Some t → (keep_last ≡ false → IsNew level) → EndsAs keep_last level t
-container_back keep_last (array_of ts) t is new = sym (ap (λ (o : Option Tree). unwrap_or o t) is)
-container_back keep_last (object_of ps None) t is new =
-    (sym (ap (λ (o : Option Tree). unwrap_or o t) is), λ ne. omega (arith, new_len [] ps (new ne)))
-container_back keep_last (object_of ps (Some key)) t is new = let bad : None ≡ Some t = is in absurd (cc)
-container_back keep_last (root u) t is new = let bad : None ≡ Some t = is in absurd (cc)
+    go _ here is = absurd (not_ok OutOfOrder after is)
 
 ends_back : (keep_last : Bool) (s after : State) → closed (container (sorted s.inner)) (sorted_levels s.around) ≡ Ok after
     → (keep_last ≡ false → IsNewState s) → LeadsBack keep_last ends s after
@@ -321,68 +238,30 @@ ends_back keep_last s after is new = go (container (sorted s.inner)) s.around re
         let outer = λ (ne : keep_last ≡ false). subst AreAllNew around (new ne).1 in
         record {
           state = record { inner = appended t l; around = ls };
-          leads = (t, l, ls, container_back keep_last s.inner t here (λ ne. (new ne).0), around, (back.0, refl));
+          leads = (t, l, ls, grind (arith, new_len), around, (back.0, refl));
           is = back.1;
           new = λ ne. (new_after t l back.0 (outer ne).0, (outer ne).1);
         }
 
 value_leads : (keep_last : Bool) (t : Tree) (s after : State) → with_inner (sorted_levels s.around) (with_value t (sorted s.inner)) ≡ Ok after
     → (keep_last ≡ false → IsNewState s) → LeadsBack keep_last (value_is t) s after
-value_leads keep_last t s after is new =
-    let back = takes_back t s.inner s.around after is in
-    record {
-      state = record { inner = appended t s.inner; around = s.around };
-      leads = (back.0, refl);
-      is = back.1;
-      new = λ ne. (new_after t s.inner back.0 (new ne).0, (new ne).1);
-    }
+value_leads keep_last t s after h e = grind (arith, takes_back, new_after)
 
 pub leads_back : (keep_last : Bool) (e : Event) (s after : State) → next_of keep_last e (sorted_state s) ≡ Ok after → (keep_last ≡ false → IsNewState s)
     → LeadsBack keep_last e s after
-leads_back true array_begins s after is new = opens_back true array_begins (array_of []) s after refl tt (λ state h. h) is new
-leads_back true object_begins s after is new = opens_back true object_begins (object_of [] None) s after refl tt (λ state h. h) is new
-leads_back true (key_is key) s after is new = key_last key s after is
-leads_back true (value_is t) s after is new = value_leads true t s after is new
-leads_back true ends s after is new = ends_back true s after is new
-leads_back false array_begins s after is new = opens_back false array_begins (array_of []) s after refl tt (λ state h. h) is new
-leads_back false object_begins s after is new = opens_back false object_begins (object_of [] None) s after refl tt (λ state h. h) is new
-leads_back false (key_is key) s after is new = key_new key s after is (new refl)
-leads_back false (value_is t) s after is new = value_leads false t s after is new
-leads_back false ends s after is new = ends_back false s after is new
+leads_back keep_last e s after h k = grind (arith, opens_back, key_last, value_leads, ends_back, key_new)
 
 -- ---- with the other value of `keep_last`
-
-ends_anyway : (keep_last : Bool) (level : Level) (t : Tree) → EndsAs keep_last level t → EndsAs true level t
-ends_anyway keep_last (array_of ts) t e = e
-ends_anyway keep_last (object_of ps None) t e = (e.0, λ ne. absurd (true≢false ne))
-ends_anyway keep_last _ t e = absurd e
-
-leads_anyway : (keep_last : Bool) (e : Event) (s s' : State) → LeadsTo keep_last e s s' → LeadsTo true e s s'
-leads_anyway keep_last array_begins s s' h = h
-leads_anyway keep_last object_begins s s' h = h
-leads_anyway keep_last (key_is key) s s' h = h
-leads_anyway keep_last (value_is t) s s' h = h
-leads_anyway keep_last ends s s' h = (h.0, h.1, h.2, ends_anyway keep_last s.inner h.0 h.3, h.4, h.5)
 
 -- events that happen do so if the last value of a key is kept
 pub happen_anyway : (keep_last : Bool) (es : List TextEvent) (bytes : List ℕ) (s : State) (rest : List ℕ) (s' : State)
     → Happen keep_last es bytes s rest s' → Happen true es bytes s rest s'
 happen_anyway keep_last [] bytes s rest s' h = h
-happen_anyway keep_last (e ∷ es) bytes s rest s' h =
-    (h.0, h.1, h.2, h.3, leads_anyway keep_last h.0 s h.2 h.4, happen_anyway keep_last es h.1 h.2 rest s' h.5)
-
-ends_new : (level : Level) (t : Tree) → IsNew level → EndsAs true level t → EndsAs false level t
-ends_new (array_of ts) t new e = e
-ends_new (object_of ps None) t new e = (e.0, λ ne. omega (arith, new_len [] ps new))
-ends_new _ t new e = absurd e
+happen_anyway keep_last (e ∷ es) bytes s rest s' h = grind (arith, happen_anyway keep_last es h.1 h.2 rest s' h.5)
 
 -- an event that may then come next also may if all keys are new
 pub leads_anew : (e : Event) (s s' : State) → IsNewState s → LeadsTo true e s s' → LeadsTo false e s s'
-leads_anew array_begins s s' new h = h
-leads_anew object_begins s s' new h = h
-leads_anew (key_is key) s s' new h = h
-leads_anew (value_is t) s s' new h = h
-leads_anew ends s s' new h = (h.0, h.1, h.2, ends_new s.inner h.0 new.0 h.3, h.4, h.5)
+leads_anew e s s' h k = grind (arith, new_len)
 
 -- ---- all events of a tree
 
@@ -419,11 +298,6 @@ all_back keep_last (e ∷ es) bytes (event ∷ events) s after are is new =
         }
 all_back keep_last _ bytes _ s after are is new = absurd are
 
-whole_back : (level : Level) (t : Tree) → whole (sorted level) ≡ Some t → whole level ≡ Some t
-whole_back (root u) t is = is
-whole_back (array_of ts) t is = is
-whole_back (object_of ps key) t is = is
-
 -- the events of a tree lead to it
 pub happen_of : (keep_last : Bool) (es : List TextEvent) (bytes : List ℕ) (t : Tree) → AreEventsOf keep_last es bytes t
     → (rest : List ℕ) × (s : State) × Happen keep_last es bytes no_events rest s × (whole s.inner ≡ Some t)
@@ -434,4 +308,4 @@ happen_of keep_last es bytes t of = go (lists.after keep_last of.0 (Ok no_events
     go (Err e) is h = absurd h
     go (Ok after) is h =
         let back = all_back keep_last es bytes of.0 no_events after of.1 is (λ ne. (tt, tt)) in
-        (back.rest, back.state, back.happen, whole_back back.state.inner t (subst (λ (x : State). whole x.inner ≡ Some t) back.is h))
+        (back.rest, back.state, back.happen, grind arith)

@@ -1,5 +1,5 @@
 -- Members of containers in runs: what a run's container is, and what walks over runs are within.
-use Rattle.jsonb_doc.proofs.Common.{◌≡◌, ℕ, ◌+◌, ◌<◌, ◌≤◌, drop, List, [], ◌∷◌, ◌++◌, length, refl, sym, ap, subst, ◌∙◌, ◌^◌, inl, arith, slice_range, reverse, Result, Ok, Err, MatchResult, keys_of, values_of, length-append, take-append-le, drop_at, between_is, between_to_end, Tree, array, object, Trees, no_trees, tree, Pairs, no_pairs, pair, elements, members, keys, Form, IsOutOfMemory, IsOutOfMemoryOrTooLarge, Error, OpenContainer, AreSortedKeys, Make, IsPart, AreElements, HoldParts, keys_first, HeaderKind, Run, Part, Plain, Text, Nested, Member, Left, Outer, length-values_of, AllZip-long}
+use Rattle.jsonb_doc.proofs.Common.{◌≡◌, ℕ, ◌+◌, ◌<◌, ◌≤◌, List, [], ◌∷◌, ◌++◌, length, refl, ◌^◌, arith, slice_range, reverse, Result, MatchResult, keys_of, values_of, length-append, take-append-le, drop_at, between_is, between_to_end, Tree, array, object, Trees, no_trees, tree, Pairs, no_pairs, pair, elements, members, keys, Form, IsOutOfMemory, IsOutOfMemoryOrTooLarge, Error, OpenContainer, AreSortedKeys, Make, IsPart, AreElements, HoldParts, keys_first, Run, Part, Plain, Text, Nested, Member, Left, Outer, length-values_of, AllZip-long}
 use Rattle.jsonb_doc.specs.Private.EventParts.{AreMembers, member_keys}
 use Rattle.jsonb_doc.specs.declared.layout.HeaderKind.TheVariants.{Object, Array}
 use Rattle.jsonb_doc.proofs.Weights.{weight_of, weight-pos, weight_of_all, inner_weighs, falls_inward, falls_outward}
@@ -25,27 +25,15 @@ keys_hold ds room _ _ h = absurd h
 -- ---- more members after those of containers that have ended
 
 same_run : (ds more : List Member) (first end : ℕ) → end ≤ length ds → slice_range (ds ++ more) first end ≡ slice_range ds first end
-same_run ds more first end short =
-    between_is (ds ++ more) first end ∙ ap (drop first) (take-append-le end ds more short) ∙ sym (between_is ds first end)
+same_run ds more first end h = grind (arith, between_is, take-append-le)
 
 -- a part keeps its tree
 mutual
   pub part_stays : (ds more : List Member) (room room' : ℕ) (p : Part) (t : Tree) → room ≤ room' → IsPart ds room p t → IsPart (ds ++ more) room' p t
-  part_stays ds more room room' (Nested run) (array ts) le h = (
-    h.0,
-    omega (arith, le, h.1),
-    h.2,
-    omega (arith, length-append ds more, h.3),
-    rw (same_run ds more run.first run.end h.3) (elements_stay ds more run.end (slice_range ds run.first run.end) ts h.4),
-  )
-  part_stays ds more room room' (Nested run) (object ps) le h = (
-    h.0,
-    omega (arith, le, h.1),
-    h.2,
-    omega (arith, length-append ds more, h.3),
-    h.4,
-    rw (same_run ds more run.first run.end h.3) (members_stay ds more run.end (slice_range ds run.first run.end) ps h.5),
-  )
+  part_stays ds more room room' (Nested run) (array ts) le h =
+      grind (arith, elements_stay ds more run.end (slice_range ds run.first run.end) ts h.4, length-append, same_run)
+  part_stays ds more room room' (Nested run) (object ps) le h =
+      grind (arith, members_stay ds more run.end (slice_range ds run.first run.end) ps h.5, length-append, same_run)
   part_stays ds more room room' (Text s) t le h = h
   part_stays ds more room room' (Plain e) t le h = h
   part_stays ds more room room' (Nested run) _ le h = absurd h
@@ -62,8 +50,7 @@ mutual
 
 -- the members of a container that has just ended are the last ones
 pub last_run : (ds ms : List Member) → slice_range (ds ++ ms) (length ds) (length ds + length ms) ≡ ms
-last_run ds ms =
-    between_to_end (ds ++ ms) (length ds) (length ds + length ms) (omega (arith, length-append ds ms)) ∙ drop_at ds ms (length ds) refl
+last_run ds ms = grind (arith, between_to_end, length-append, drop_at)
 
 -- ---- a container that is opened
 
@@ -74,36 +61,16 @@ pub record PartOpened (ds : List Member) (run : Run) (ms : List Member) (t : Tre
 
 array_opened : (ds : List Member) (room : ℕ) (run : Run) (ms : List Member) (ts : Trees) → run.kind ≡ Array → AreElements ds run.end ms ts
     → PartOpened ds run ms (array ts)
-array_opened ds room run ms ts kind h =
-    let holds = elements_hold ds run.end ms ts h in
-    record {
-      trees = elements ts;
-      holds = holds;
-      makes = λ n is. subst (λ (k : HeaderKind). Make k n (keys_first k ms (elements ts)) (array ts)) (sym kind)
-          (is ∙ sym (AllZip-long _ ms (elements ts) holds), ap array (sym (trees_of-elements ts)));
-    }
+array_opened ds room run ms ts kind h = search (arith, elements_hold ds run.end ms ts h, AllZip-long, trees_of-elements)
 
 object_opened : (ds : List Member) (room : ℕ) (run : Run) (ms : List Member) (ps : Pairs) → run.kind ≡ Object → AreSortedKeys (keys ps)
     → AreMembers ds run.end ms ps → PartOpened ds run ms (object ps)
 object_opened ds room run ms ps kind sorted h =
-    let holds = values_hold ds run.end ms ps h in
-    record {
-      trees = values_of (members ps);
-      holds = holds;
-      makes = λ n is. subst (λ (k : HeaderKind). Make k n (keys_first k ms (values_of (members ps))) (object ps)) (sym kind) (
-        members ps,
-        is ∙ sym (AllZip-long _ ms (values_of (members ps)) holds) ∙ length-values_of (members ps),
-        rw (keys_of-members ps) sorted,
-        rw (keys_hold ds run.end ms ps h) refl,
-        ap object (sym (pairs_of-members ps)),
-      );
-    }
+    search (arith, values_hold ds run.end ms ps h, values_of, AllZip-long, length-values_of, keys_of-members, keys_hold, pairs_of-members)
 
 pub part_opened : (ds : List Member) (room : ℕ) (run : Run) (ms : List Member) (t : Tree) → IsPart ds room (Nested run) t
     → ms ≡ slice_range ds run.first run.end → PartOpened ds run ms t
-part_opened ds room run ms (array ts) h is = array_opened ds room run ms ts h.0 (rw is h.4)
-part_opened ds room run ms (object ps) h is = object_opened ds room run ms ps h.0 h.4 (rw is h.5)
-part_opened ds room run ms _ h is = absurd h
+part_opened ds room run ms t h e = grind (arith, array_opened, object_opened)
 
 -- ---- the first of some members
 
@@ -116,23 +83,17 @@ pub record FirstPart (ds : List Member) (room : ℕ) (m : Member) (others : List
 
 pub first_part : (ds : List Member) (room : ℕ) (ms : List Member) (us : List Tree) (m : Member) (others : List Member) → ms ≡ m ∷ others
     → HoldParts ds room ms us → FirstPart ds room m others us
-first_part ds room ms us m others e h = go us (subst (λ (xs : List Member). HoldParts ds room xs us) e h)
-  where
-    go : (vs : List Tree) → HoldParts ds room (m ∷ others) vs → FirstPart ds room m others vs
-    go [] h = absurd h
-    go (t ∷ vs) h = record { t = t; rest = vs; us_is = refl; part = h.0; others_hold = h.1 }
+first_part ds room ms us m others h e = search (arith, Member)
 
 pub no_parts : (ds : List Member) (room : ℕ) (ms : List Member) (us : List Tree) → length ms ≡ 0 → HoldParts ds room ms us → us ≡ []
-no_parts ds room [] [] none h = refl
-no_parts ds room [] (u ∷ us) none h = absurd h
+no_parts ds room [] us none h = grind arith
 no_parts ds room (m ∷ ms) us none h = absurd (omega (arith, none))
 
 -- ---- errors
 
 pub not_too_large : {A : Type 0} (P : A → Type 0) (form : Form) (whole : Tree) (r : Result A Error) → MatchResult r P IsOutOfMemory
     → MatchResult r P (IsOutOfMemoryOrTooLarge form whole)
-not_too_large P form whole (Ok x) h = h
-not_too_large P form whole (Err e) h = inl h
+not_too_large P form whole r h = grind arith
 
 -- ---- how a walk ends
 

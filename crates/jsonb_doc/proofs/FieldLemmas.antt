@@ -1,5 +1,5 @@
 -- The search for a key, and the value under it.
-use Rattle.jsonb_doc.proofs.Common.{◌≡◌, ◌≢◌, ℕ, zero, suc, ◌+◌, ◌-◌, ◌*◌, ◌<◌, ◌≤◌, List, [], ◌∷◌, ◌++◌, length, length-drop, take, drop, slice_index_or, refl, sym, ap, ◌∙◌, arith, Some, None, Bool, true, false, append_assoc, length-append, append-nil, drop-drop, drop_at, take_at, length-take-le, first_chunks, bytes_eq, Decides, slice_range, Tree, object, Pairs, no_pairs, pair, keys, value_under, field_of, NumberReader, Form, any, number_reader, Decodes, header, entry_word, BeginWith, AreValues, IsContent, key_words, key_bytes, StandBefore, HoldKeys, IsNoneOf, FoundKey, KeysLeft, SameOption, Locates, spot_content, kind_number, Spot, Holds, IsCut, HasPairParts, IsValueEntry, ObjectParts, Entry, Object}
+use Rattle.jsonb_doc.proofs.Common.{◌≡◌, ◌≢◌, ℕ, zero, suc, ◌+◌, ◌-◌, ◌*◌, ◌<◌, ◌≤◌, List, [], ◌∷◌, ◌++◌, length, length-drop, take, drop, slice_index_or, refl, sym, ap, ◌∙◌, arith, Some, None, Bool, false, append_assoc, length-append, append-nil, drop-drop, drop_at, take_at, length-take-le, first_chunks, bytes_eq, Decides, slice_range, Tree, object, Pairs, no_pairs, pair, keys, value_under, field_of, NumberReader, Form, any, number_reader, Decodes, header, entry_word, BeginWith, AreValues, IsContent, key_words, key_bytes, StandBefore, HoldKeys, IsNoneOf, FoundKey, KeysLeft, SameOption, Locates, spot_content, kind_number, Spot, Holds, IsCut, HasPairParts, IsValueEntry, ObjectParts, Entry, Object}
 use Rattle.jsonb_doc.proofs.WordLemmas.{bytes_eq-true, bytes_eq-same}
 use Rattle.jsonb_doc.proofs.Entries.{BeginWith-long, BeginWith-unique}
 use Rattle.jsonb_doc.proofs.KeysRead.{begin_key}
@@ -45,15 +45,7 @@ module _ (words bytes : List ℕ) (kind : ℕ) (key ws bs : List ℕ) (b : Begin
       }
 
   pub KeysLeft-found : (name : List ℕ) (ks : List (List ℕ)) (rest : List ℕ) → key ≡ name → KeysLeft name ks rest words bytes → FoundKey name ks rest ws bs
-  KeysLeft-found name ks rest same l =
-      let (others, is, holds) = first_key l.back rest l.behind in
-      record {
-        front = l.front;
-        back = others;
-        joined = l.joined ∙ ap (λ (k : List (List ℕ)). l.front ++ k) is ∙ ap (λ (k : List ℕ). l.front ++ k ∷ others) same;
-        first = l.first;
-        behind = holds;
-      }
+  KeysLeft-found name ks rest h e = grind (arith, first_key)
 
 pub is_other : {r : Bool} {P : Type 0} → Decides r P → r ≡ false → P → ⊥
 is_other decides differ p = let same = decides.1 p in cc (same, differ)
@@ -84,12 +76,11 @@ first_of name ks rest words bytes l some = go l.back l.behind
     go [] h = absurd (omega (arith, some, ap length h.words_joined))
     go (key ∷ others) h =
         let b = begin_key words bytes rest key others h.are_keys.0.1 h.words_joined h.bytes_joined in
-        let behind : drop 4 words ≡ key_words others = ap (drop 4) b.words_joined in
         let left : drop (length key) bytes ≡ key_bytes others ++ rest =
         ap (drop (length key)) b.contents_joined ∙ drop_at key (key_bytes others ++ rest) (length key) refl in
         record {
           key = key;
-          begin = rw (behind, left) b;
+          begin = rw (ap (drop 4) b.words_joined, left) b;
           is = ap (take (length key)) b.contents_joined ∙ take_at key (key_bytes others ++ rest) (length key) refl;
           long = told_length words bytes 1 key _ _ b;
           within = omega (arith, ap length b.contents_joined, length-append key (key_bytes others ++ rest));
@@ -117,8 +108,7 @@ module _ (name : List ℕ) (ks : List (List ℕ)) (rest words bytes : List ℕ) 
   key_within = omega (arith, first.within, same_len, length-drop end bytes, before)
 
   pub key_differs : len ≢ length name → take len (drop end bytes) ≢ name
-  key_differs other e =
-      other (sym (length-take-le len (drop end bytes) (omega (arith, key_within, length-drop end bytes))) ∙ ap length e)
+  key_differs h = grind (arith, length-take-le, key_within, length-drop)
 
   pub key_passed : take len (drop end bytes) ≢ name → KeysLeft name ks rest (drop (4 * (at + 1)) words) (drop (end + len) bytes)
   key_passed other =
@@ -126,8 +116,7 @@ module _ (name : List ℕ) (ks : List (List ℕ)) (rest words bytes : List ℕ) 
       (KeysLeft-step _ _ _ _ _ _ first.begin name ks rest (λ (e : first.key ≡ name). other (same_key ∙ e)) l)
 
   pub key_found : take len (drop end bytes) ≡ name → FoundKey name ks rest (drop (4 * (at + 1)) words) (drop (end + len) bytes)
-  key_found e =
-      rw (← words_behind, ← bytes_behind) (KeysLeft-found _ _ _ _ _ _ first.begin name ks rest (sym same_key ∙ e) l)
+  key_found e = search (arith, words_behind, bytes_behind, KeysLeft-found _ _ _ _ _ _ first.begin name ks rest (sym same_key ∙ e) l)
 
 -- ---- the value
 
@@ -149,33 +138,20 @@ ValueAt-more number_at value n words contents kind content ws cs b v =
     let four : 4 * suc n ≡ suc (suc (suc (suc (4 * n)))) = omega arith in
     let taken : take (4 * suc n) words ≡ entry_word kind (length content) ++ take (4 * n) ws = ap (λ (m : ℕ). take m words) four
     ∙ ap (take (suc (suc (suc (suc (4 * n)))))) b.words_joined in
-    let dropped : drop (4 * suc n) words ≡ drop (4 * n) ws = ap (λ (m : ℕ). drop m words) four ∙ ap (drop (suc (suc (suc (suc (4 * n)))))) b.words_joined in
     record {
       parts = content ∷ v.parts;
       left = v.left;
-      before = record {
-        kind = kind;
-        content = content;
-        other_words = take (4 * n) ws;
-        other_contents = cs;
-        begin = record { known = b.known; fits = b.fits; words_joined = taken; contents_joined = b.contents_joined };
-        part = refl;
-        others = v.before;
-      };
+      before = grind arith;
       kind = v.kind;
       content = v.content;
       ws = v.ws;
       cs = v.cs;
-      begin = rw dropped v.begin;
+      begin = rw (ap (λ (m : ℕ). drop m words) four ∙ ap (drop (suc (suc (suc (suc (4 * n)))))) b.words_joined) v.begin;
       part = v.part;
     }
 
 bytes_eq-other : (xs ys : List ℕ) → xs ≢ ys → bytes_eq xs ys ≡ false
-bytes_eq-other xs ys other = go (bytes_eq xs ys) refl
-  where
-    go : (b : Bool) → b ≡ bytes_eq xs ys → b ≡ false
-    go true is = absurd (other (bytes_eq-true xs ys (sym is)))
-    go false is = refl
+bytes_eq-other xs ys h = grind (arith, bytes_eq-true)
 
 pub no_value : (name : List ℕ) (ps : Pairs) → IsNoneOf name (keys ps) → value_under name ps ≡ None
 no_value name no_pairs none = refl
@@ -204,14 +180,7 @@ value_at number_at name (pair key t ps) [] back joined none words contents e =
       },
     )
 value_at number_at name (pair key t ps) (k ∷ front) back joined none words contents e =
-    let same : key ≡ k = cc joined in
-    let others : keys ps ≡ front ++ name ∷ back = cc joined in
-    let (value, is, at) = value_at number_at name ps front back others none.1 e.other_words e.other_contents e.others in (
-      value,
-      rw (same, bytes_eq-other k name none.0) is,
-      ValueAt-more number_at value
-          (length front) words contents e.kind e.content e.other_words e.other_contents e.begin at,
-    )
+    search (arith, value_at number_at name ps front back (cc joined) none.1 e.other_words e.other_contents e.others, bytes_eq-other, ValueAt-more)
 
 -- ---- the entry of the value
 
@@ -225,9 +194,6 @@ module _ (number_at : NumberReader) (name : List ℕ) (ps : Pairs) (p : ObjectPa
   value_absent none = no_value name ps (none (keys ps) held.rest keys_held)
 
   -- its keys are searched
-  pub value_searched : ((ks : List (List ℕ)) (found : List ℕ) → HoldKeys ks p.key_words.now p.contents.now found → ⊥) → ⊥
-  value_searched none = none (keys ps) held.rest keys_held
-
   module _ (behind bytes_behind : List ℕ)
       (finds : (ks : List (List ℕ)) (found : List ℕ) → HoldKeys ks p.key_words.now p.contents.now found → FoundKey name ks found behind bytes_behind) where
     key_found_at : FoundKey name (keys ps) held.rest behind bytes_behind
@@ -244,14 +210,7 @@ module _ (number_at : NumberReader) (name : List ℕ) (ps : Pairs) (p : ObjectPa
 
       -- the value, after the contents of the keys
       pub value_there : (value : Tree) × (value_under name ps ≡ Some value) × ValueAt number_at value passed p.value_words.now contents
-      value_there =
-          let f = key_found_at in
-          let (value, under, at) = value_at number_at name ps f.front f.back f.joined f.first _ held.rest held.values in
-          let all = ap length held.words ∙ length-key_words (keys ps) in
-          let split = ap length f.joined ∙ length-append f.front (name ∷ f.back) in
-          let others = ap length f.behind.words_joined ∙ length-key_words f.back in
-          let from : passed ≡ 4 * length f.front = omega (arith, all, split, others, place) in
-          (value, under, rw (skipped, from) at)
+      value_there = grind (arith, key_found_at, value_at, length-key_words, length-append, skipped)
 
       module _ (e : Entry)
           (entry : (parts : List (List ℕ)) (left : List ℕ) → StandBefore parts (take passed p.value_words.now) contents left
@@ -259,16 +218,13 @@ module _ (number_at : NumberReader) (name : List ℕ) (ps : Pairs) (p : ObjectPa
         pub value_entry : IsValueEntry number_at name ps p e
         value_entry =
             let (value, under, at) = value_there in
-            let before = StandBefore-joined at.parts _ contents at.left at.before in
-            let begin = entry at.parts at.left at.before in
-            let (same_kind, same_content, same_words, same_contents) = BeginWith-unique _ _ _ _ _ _ _ _ _ _ begin at.begin in
+            let (same_kind, same_content, same_words, same_contents) = BeginWith-unique _ _ _ _ _ _ _ _ _ _ (entry at.parts at.left at.before) at.begin in
             record {
               value = value;
               under = under;
               part = rw (same_kind, same_content) at.part;
-              front = key_bytes (keys ps) ++ before.0;
-              ends = held.bytes ∙ ap (λ (w : List ℕ). key_bytes (keys ps) ++ w) (sym skipped ∙ before.1 ∙ ap (λ (w : List ℕ). before.0 ++ w) begin.contents_joined)
-                  ∙ sym (append_assoc (key_bytes (keys ps)) before.0 (e.content.now ++ e.other_contents.now));
+              front = key_bytes (keys ps) ++ (StandBefore-joined at.parts _ contents at.left at.before).0;
+              ends = grind (arith, skipped, append_assoc);
             }
 
 -- ---- the spot of the value
@@ -283,16 +239,14 @@ module _ (bytes : List ℕ) (parent : Spot) (t : Tree) (m : Locates bytes parent
   field_searched none = go t (held_in any m.whole m.decodes)
     where
       go : (u : Tree) → Holds (number_reader any) u (Object p) → ⊥
-      go (object ps) held = none (number_reader any) ps held
-      go _ held = held
+      go u h = grind arith
 
   pub field_absent : ((number_at : NumberReader) (ps : Pairs) → HasPairParts number_at ps p → value_under name ps ≡ None)
       → SameOption (Locates bytes) None (field_of name t)
   field_absent none = go t (held_in any m.whole m.decodes)
     where
       go : (u : Tree) → Holds (number_reader any) u (Object p) → SameOption (Locates bytes) None (field_of name u)
-      go (object ps) held = rw (none (number_reader any) ps held) tt
-      go _ held = absurd held
+      go u h = grind arith
 
   pub field_marks : (e : Entry) (spot : Spot) → spot.kind ≡ e.kind → spot.end ≡ parent.end - length e.other_contents.now
       → spot.start ≡ spot.end - length e.content.now

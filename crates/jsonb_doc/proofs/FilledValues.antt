@@ -1,5 +1,5 @@
 -- Values of containers that are filled part by part.
-use Rattle.jsonb_doc.proofs.Common.{◌≡◌, ℕ, suc, max, List, [], ◌∷◌, ◌++◌, Result, Ok, Err, String, Global, string_bytes, string_cmp, refl, sym, ap, subst, ◌∙◌, MatchResult, IsOkAnd, reverse, insert_entry, reverse-append, Tree, array, object, Trees, tree, Pairs, pair, elements, members, keys, trees_of, pairs_of, Form, AreKeys, IsOutOfMemory, tree_seen, trees_seen, members_seen, open_room, IsWhole, FillsTo, MakesWhole, Error, Number, Value, Whole}
+use Rattle.jsonb_doc.proofs.Common.{◌≡◌, ℕ, suc, max, List, [], ◌∷◌, ◌++◌, Result, String, Global, string_bytes, string_cmp, refl, sym, ap, subst, ◌∙◌, MatchResult, IsOkAnd, reverse, insert_entry, reverse-append, Tree, array, object, Trees, tree, Pairs, pair, elements, members, keys, trees_of, pairs_of, Form, AreKeys, IsOutOfMemory, tree_seen, trees_seen, members_seen, open_room, IsWhole, FillsTo, MakesWhole, Error, Number, Value, Whole, arith}
 use Rattle.jsonb_doc.specs.Number as spec
 use Rattle.jsonb_doc.specs.Private.Filling.{LeadsTo}
 use Rattle.jsonb_doc.specs.declared.value.decode.Open.{Open}
@@ -43,17 +43,14 @@ module _ (seen : Number → spec.Number) where
     -- what is filled whole is the value
     pub whole_of : (filled : Filled) (r : Result Value Error) (t : Tree) → IsWhole filled → (IsWhole filled → IsOkAnd r (λ v. filled ≡ Whole v))
         → FillsTo seen form t filled → MatchResult r (λ v. tree_seen seen v ≡ t) IsOutOfMemory
-    whole_of filled (Err e) t all ok h = absurd (ok all)
-    whole_of filled (Ok v) t all ok h = subst (λ (f : Filled). FillsTo seen form t f) (ok all) h
+    whole_of filled r t h e k = grind arith
 
     -- the innermost container is taken
     pub LeadsTo-popped : (around around' : List Open) (o : Open) (part whole : Tree) → around ≡ around' ++ o ∷ []
         → LeadsTo seen form (reverse around) part whole → (t : Tree) × MakesWhole seen form o part t × LeadsTo seen form (reverse around') t whole
-    LeadsTo-popped around around' o part whole e leads =
-        subst (λ (os : List Open). LeadsTo seen form os part whole) (ap reverse e ∙ innermost around' o) leads
+    LeadsTo-popped around around' o part whole h e = grind (arith, innermost)
 
     -- one more container is within the others
     pub LeadsTo-pushed : (around around' : List Open) (o : Open) (part t whole : Tree) → around' ≡ around ++ o ∷ [] → MakesWhole seen form o part t
         → LeadsTo seen form (reverse around) t whole → LeadsTo seen form (reverse around') part whole
-    LeadsTo-pushed around around' o part t whole e makes leads =
-        subst (λ (os : List Open). LeadsTo seen form os part whole) (sym (ap reverse e ∙ innermost around o)) (t, makes, leads)
+    LeadsTo-pushed around around' o part t whole h e k = grind (arith, innermost)

@@ -1,5 +1,5 @@
 -- How often a length can be halved.
-use Rattle.jsonb_doc.proofs.Common.{ℕ, zero, suc, ◌/◌, ◌<◌, ◌≤◌, ◌≡◌, refl, ap, arith}
+use Rattle.jsonb_doc.proofs.Common.{ℕ, zero, suc, ◌/◌, ◌<◌, ◌≤◌, ◌≡◌, refl, arith}
 
 unfoldable pub halvings_within : ℕ → ℕ → ℕ
 halvings_within zero n = 0
@@ -15,9 +15,7 @@ unfolding halvings_within
 within_more zero a b le = omega arith
 within_more (suc f) zero b le = omega arith
 within_more (suc f) (suc a) zero le = absurd (omega arith)
-within_more (suc f) (suc a) (suc b) le =
-    let part = within_more f (suc a / 2) (suc b / 2) (omega arith) in
-    omega (arith, part)
+within_more (suc f) (suc a) (suc b) le = grind (arith, within_more f (suc a / 2) (suc b / 2) (omega arith))
 
 within_same : (f g n : ℕ) → n ≤ f → n ≤ g → halvings_within f n ≡ halvings_within g n
 unfolding halvings_within
@@ -27,21 +25,16 @@ within_same zero (suc g) (suc n) p q = absurd (omega arith)
 within_same (suc f) zero zero p q = refl
 within_same (suc f) zero (suc n) p q = absurd (omega arith)
 within_same (suc f) (suc g) zero p q = refl
-within_same (suc f) (suc g) (suc n) p q =
-    ap suc (within_same f g (suc n / 2) (omega arith) (omega arith))
+within_same (suc f) (suc g) (suc n) p q = grind (arith, within_same f g (suc n / 2) (omega arith) (omega arith))
 
 pub halvings-more : (a b : ℕ) → a ≤ b → halvings a ≤ halvings b
 unfolding halvings
-halvings-more a b le =
-    let same = within_same a b a (omega arith) le in
-    let more = within_more b a b le in
-    omega (arith, same, more)
+halvings-more a b le = grind (arith, within_same a b a (omega arith) le, within_more b a b le, (within_same a b a (omega arith) le), (within_more b a b le))
 
 -- what is no longer than half can be halved less often
 pub halvings-fewer : (a b : ℕ) → 0 < b → a ≤ b / 2 → halvings a < halvings b
 unfolding halvings halvings_within
 halvings-fewer a zero some le = absurd (omega arith)
 halvings-fewer a (suc b) some le =
-    let same = within_same a b a (omega arith) (omega arith) in
-    let more = within_more b a (suc b / 2) le in
-    omega (arith, same, more)
+    let more = (within_same a b a (omega arith) (omega arith)) in
+    grind (arith, within_same a b a (omega arith) (omega arith), within_more b a (suc b / 2) le, more, (within_more b a (suc b / 2) le))

@@ -1,6 +1,6 @@
 -- Blocks of keys that are skipped, and the block that a name would be in.
-use Rattle.jsonb_doc.proofs.Common.{◌≡◌, ◌≢◌, ℕ, zero, suc, ◌+◌, ◌*◌, ◌<◌, ◌≤◌, List, [], ◌∷◌, ◌++◌, length, length-drop, take, drop, refl, sym, ap, ◌∙◌, arith, ◌⊎◌, inl, inr, Option, Some, None, Result, Ok, Err, append_assoc, Bor, IsGetRangeResult, IsSomeAnd, IsOkAnd, ordering_reverse, slice_cmp, cases_lt, nat_list_cmp_total, drop_all, take-append-drop, length-append, AreKeys, IsBelowFirst, BeginWith, key_words, key_bytes, entry_word, StandBefore, HoldKeys, IsNoneOf, KeysLeft, FindsKey, Error}
-use Rattle.std.specs.declared.cmp.Ordering.TheVariants.{Less, Greater}
+use Rattle.jsonb_doc.proofs.Common.{◌≡◌, ◌≢◌, ℕ, zero, suc, ◌+◌, ◌*◌, ◌<◌, ◌≤◌, List, [], ◌∷◌, ◌++◌, length, length-drop, take, drop, refl, sym, ap, ◌∙◌, arith, ◌⊎◌, inl, inr, Option, Some, None, Result, Ok, Err, append_assoc, Bor, IsGetRangeResult, IsSomeAnd, IsOkAnd, ordering_reverse, slice_cmp, cases_lt, nat_list_cmp_total, drop_all, take-append-drop, length-append, AreKeys, IsBelowFirst, BeginWith, key_words, key_bytes, StandBefore, HoldKeys, IsNoneOf, KeysLeft, FindsKey, Error}
+use Rattle.std.specs.declared.cmp.Ordering.TheVariants.{Less}
 use Rattle.std.specs.Ordering.{nat_cmp}
 use Rattle.jsonb_doc.proofs.KeysRead.{begin_key}
 use Rattle.jsonb_doc.proofs.Containers.{length-key_words}
@@ -28,8 +28,7 @@ AreKeys-drop (suc n) (key ∷ ks) are = AreKeys-drop n ks are.2
 differs : (low key : List ℕ) → slice_cmp nat_cmp low key ≡ Less → key ≢ low
 differs low key less same =
     let own : slice_cmp nat_cmp low low ≡ Less = ap (λ (k : List ℕ). slice_cmp nat_cmp low k) (sym same) ∙ less in
-    let turned : slice_cmp nat_cmp low low ≡ Greater = nat_list_cmp_total.antisymm low low ∙ ap ordering_reverse own in
-    cc (own, turned)
+    cc (own, nat_list_cmp_total.antisymm low low ∙ ap ordering_reverse own)
 
 -- a name below the first key is none of them
 below_all : (name : List ℕ) (ks : List (List ℕ)) → AreKeys ks → IsBelowFirst name ks → IsNoneOf name ks
@@ -38,10 +37,7 @@ below_all name (key ∷ ks) are below = (differs name key below, below_all name 
 
 below_later : (low : List ℕ) (n : ℕ) (ks : List (List ℕ)) (key : List ℕ) (back : List (List ℕ)) → AreKeys ks → IsBelowFirst low ks
     → drop n ks ≡ key ∷ back → slice_cmp nat_cmp low key ≡ Less
-below_later low zero [] key back are below is = absurd (cc is)
-below_later low zero (k ∷ ks) key back are below is =
-    let same : k ≡ key = cc is in
-    ap (λ (w : List ℕ). slice_cmp nat_cmp low w) (sym same) ∙ below
+below_later low zero ks key back are below is = grind arith
 below_later low (suc n) [] key back are below is = absurd (cc is)
 below_later low (suc n) (k ∷ ks) key back are below is = below_later low n ks key back are.2 (below_next low k ks below are.1) is
 
@@ -50,10 +46,7 @@ not_before : (name : List ℕ) (n : ℕ) (ks : List (List ℕ)) (key : List ℕ)
     → slice_cmp nat_cmp name key ≢ Less → IsNoneOf name (take n ks)
 not_before name zero ks key back are is other = tt
 not_before name (suc n) [] key back are is other = tt
-not_before name (suc n) (k ∷ ks) key back are is other = (
-  λ (same : k ≡ name). other (ap (λ (w : List ℕ). slice_cmp nat_cmp w key) (sym same) ∙ below_later k n ks key back are.2 are.1 is),
-  not_before name n ks key back are.2 is other,
-)
+not_before name (suc n) (k ∷ ks) key back are is other = grind (arith, not_before name n ks key back are.2 is other, below_later)
 
 -- ---- words and bytes of a block
 
@@ -63,17 +56,13 @@ words_split zero ks enough = (refl, refl)
 words_split (suc n) [] enough = absurd (omega (arith, enough))
 words_split (suc n) (key ∷ ks) enough =
     let four : 4 * suc n ≡ suc (suc (suc (suc (4 * n)))) = omega arith in
-    let others = words_split n ks (omega (arith, enough)) in (
-      ap (λ (m : ℕ). take m (key_words (key ∷ ks))) four ∙ ap (λ (l : List ℕ). entry_word 1 (length key) ++ l) others.0,
-      ap (λ (m : ℕ). drop m (key_words (key ∷ ks))) four ∙ others.1,
-    )
+    let others = words_split n ks (omega (arith, enough)) in
+    search arith
 
 bytes_split : (n : ℕ) (ks : List (List ℕ)) (rest : List ℕ) → key_bytes ks ++ rest ≡ key_bytes (take n ks) ++ (key_bytes (drop n ks) ++ rest)
 bytes_split zero ks rest = refl
 bytes_split (suc n) [] rest = refl
-bytes_split (suc n) (key ∷ ks) rest =
-    append_assoc key (key_bytes ks) rest ∙ ap (λ (l : List ℕ). key ++ l) (bytes_split n ks rest)
-    ∙ sym (append_assoc key (key_bytes (take n ks)) (key_bytes (drop n ks) ++ rest))
+bytes_split (suc n) (key ∷ ks) rest = grind (arith, bytes_split n ks rest, append_assoc)
 
 module _ (n : ℕ) (ks : List (List ℕ)) (words bytes rest : List ℕ) (h : HoldKeys ks words bytes rest) where
   counted : length words ≡ 4 * length ks
@@ -81,9 +70,7 @@ module _ (n : ℕ) (ks : List (List ℕ)) (words bytes rest : List ℕ) (h : Hol
 
   -- fewer keys than a block
   pub none_behind : (name : List ℕ) → length words < 4 * n → IsNoneOf name (drop n ks)
-  none_behind name few =
-      let none : drop n ks ≡ [] = drop_all n ks (omega (arith, few, counted)) in
-      rw none tt
+  none_behind name h = grind (arith, drop_all, counted)
 
   module _ (enough : 4 * n ≤ length words) where
     split : (take (4 * n) (key_words ks) ≡ key_words (take n ks)) × (drop (4 * n) (key_words ks) ≡ key_words (drop n ks))
@@ -107,11 +94,7 @@ module _ (n : ℕ) (ks : List (List ℕ)) (words bytes rest : List ℕ) (h : Hol
     module _ (other_words other_bytes : List ℕ) (words_are : other_words ≡ drop (4 * n) words)
         (bytes_are : other_bytes ≡ key_bytes (drop n ks) ++ rest) where
       others : HoldKeys (drop n ks) other_words other_bytes rest
-      others = record {
-        are_keys = AreKeys-drop n ks h.are_keys;
-        words_joined = words_are ∙ ap (drop (4 * n)) h.words_joined ∙ split.1;
-        bytes_joined = bytes_are;
-      }
+      others = search (arith, AreKeys-drop n ks h.are_keys, words_are, split.1, bytes_are)
 
       -- no key is after the block
       pub no_other : (name : List ℕ) → ((kind : ℕ) (key ws cs : List ℕ) → BeginWith other_words other_bytes kind key ws cs → ⊥) → IsNoneOf name (drop n ks)
@@ -131,15 +114,7 @@ module _ (n : ℕ) (ks : List (List ℕ)) (words bytes rest : List ℕ) (h : Hol
 
         -- the name is above the keys of the block
         pub block_skipped : slice_cmp nat_cmp name key ≢ Less → KeysLeft name ks rest other_words other_bytes
-        block_skipped other =
-            let (tail, is, holds) = first_key other_words other_bytes kind key ws cs b (drop n ks) rest others in
-            record {
-              front = take n ks;
-              back = drop n ks;
-              joined = sym (take-append-drop n ks);
-              first = not_before name n ks key tail h.are_keys is other;
-              behind = others;
-            }
+        block_skipped other = search (arith, first_key other_words other_bytes kind key ws cs b (drop n ks) rest others, take-append-drop, not_before, others)
 
 -- ---- the block that a name would be in
 
@@ -157,13 +132,7 @@ IsNoneOf-all name (suc n) (key ∷ front) back enough first others = (first.0, I
 -- keys that are left after keys that are left
 pub KeysLeft-further : (name : List ℕ) (ks : List (List ℕ)) (rest words bytes other_words other_bytes : List ℕ) (l : KeysLeft name ks rest words bytes)
     → KeysLeft name l.back rest other_words other_bytes → KeysLeft name ks rest other_words other_bytes
-KeysLeft-further name ks rest words bytes other_words other_bytes l m = record {
-  front = l.front ++ m.front;
-  back = m.back;
-  joined = l.joined ∙ ap (λ (k : List (List ℕ)). l.front ++ k) m.joined ∙ sym (append_assoc l.front m.front m.back);
-  first = IsNoneOf-both name l.front m.front l.first m.first;
-  behind = m.behind;
-}
+KeysLeft-further name ks rest words bytes other_words other_bytes l h = grind (arith, append_assoc, IsNoneOf-both)
 
 -- what is found among the keys that are left is found among all
 found_left : (name : List ℕ) (ks : List (List ℕ)) (rest words bytes : List ℕ) (l : KeysLeft name ks rest words bytes)

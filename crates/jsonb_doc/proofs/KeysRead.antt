@@ -1,5 +1,5 @@
 -- The keys of an object, read one after the other.
-use Rattle.jsonb_doc.proofs.Common.{◌≡◌, ℕ, ◌^◌, ◌<◌, List, [], ◌∷◌, ◌++◌, length, refl, sym, ap, ◌∙◌, arith, Option, Some, None, append_assoc, ⊤, BeginWith, AreKeys, IsBelowFirst, key_words, key_bytes, entry_word, HasKeys, IsAbove, IsNextKey}
+use Rattle.jsonb_doc.proofs.Common.{◌≡◌, ℕ, ◌^◌, ◌<◌, List, [], ◌∷◌, ◌++◌, length, refl, ap, arith, Option, Some, None, append_assoc, ⊤, BeginWith, AreKeys, IsBelowFirst, key_words, key_bytes, HasKeys, IsAbove, IsNextKey}
 use Rattle.jsonb_doc.proofs.Entries.{BeginWith-long, BeginWith-unique}
 
 -- the first of these keys may follow this key, if there are both
@@ -7,17 +7,8 @@ abbrev pub Follow : Option (List ℕ) → List (List ℕ) → Type 0
 Follow None ks = ⊤
 Follow (Some key) ks = IsBelowFirst key ks
 
-Follow-first : (last : Option (List ℕ)) (key : List ℕ) (ks : List (List ℕ)) → Follow last (key ∷ ks) → IsAbove last key
-Follow-first None key ks h = h
-Follow-first (Some k) key ks h = h
-
 Follow-from : (last : Option (List ℕ)) (key : List ℕ) (ks : List (List ℕ)) → IsAbove last key → Follow last (key ∷ ks)
-Follow-from None key ks h = h
-Follow-from (Some k) key ks h = h
-
-Follow-nil : (last : Option (List ℕ)) → Follow last []
-Follow-nil None = tt
-Follow-nil (Some k) = tt
+Follow-from last key ks h = grind arith
 
 -- the words and the bytes begin with those of some keys after this one, and the rest follows them
 pub record KeysAfter (last : Option (List ℕ)) (words bytes rest : List ℕ) : Type 0 where
@@ -28,21 +19,18 @@ pub record KeysAfter (last : Option (List ℕ)) (words bytes rest : List ℕ) : 
   pub bytes_joined : bytes ≡ key_bytes ks ++ rest
 
 pub KeysAfter-none : (words bytes rest : List ℕ) → HasKeys words bytes rest → KeysAfter None words bytes rest
-KeysAfter-none words bytes rest h =
-    record { ks = h.0; are_keys = h.1; follow = tt; words_joined = h.2; bytes_joined = h.3 }
+KeysAfter-none words bytes rest h = grind arith
 
 pub HasKeys-from : (words bytes rest : List ℕ) → KeysAfter None words bytes rest → HasKeys words bytes rest
 HasKeys-from words bytes rest k = (k.ks, k.are_keys, k.words_joined, k.bytes_joined)
 
 pub KeysAfter-nil : (last : Option (List ℕ)) (words bytes : List ℕ) → words ≡ [] → KeysAfter last words bytes bytes
-KeysAfter-nil last words bytes e =
-    record { ks = []; are_keys = tt; follow = Follow-nil last; words_joined = e; bytes_joined = refl }
+KeysAfter-nil last words bytes h = grind arith
 
 -- the first of some keys is the first entry
 pub begin_key : (words bytes rest key : List ℕ) (ks : List (List ℕ)) → length key < 2 ^ 28 → words ≡ key_words (key ∷ ks) → bytes ≡ key_bytes (key ∷ ks) ++ rest
     → BeginWith words bytes 1 key (key_words ks) (key_bytes ks ++ rest)
-begin_key words bytes rest key ks fits e f =
-    record { known = omega arith; fits = fits; words_joined = e; contents_joined = f ∙ append_assoc key (key_bytes ks) rest }
+begin_key words bytes rest key ks h e k = grind (arith, append_assoc)
 
 -- keys that are not empty begin with an entry
 pub KeysAfter-stop : (last : Option (List ℕ)) (words bytes rest : List ℕ) → 0 < length words
@@ -65,13 +53,9 @@ module _ (last : Option (List ℕ)) (words bytes : List ℕ) (kind : ℕ) (key w
           (begin_key words bytes rest first ks are.0.1 e f) in
           let after : KeysAfter (Some first) (key_words ks)
           (key_bytes ks ++ rest) rest = record { ks = ks; are_keys = are.2; follow = are.1; words_joined = refl; bytes_joined = refl } in
-          rw (same_key, same_words, same_bytes) (same_kind, (are.0.0, Follow-first last first ks follow), after)
+          rw (same_key, same_words, same_bytes) (same_kind, (are.0.0, grind arith), after)
 
   pub KeysAfter-join : (rest : List ℕ) → kind ≡ 1 → IsNextKey last key → KeysAfter (Some key) ws bs rest → KeysAfter last words bytes rest
-  KeysAfter-join rest is next after = record {
-    ks = key ∷ after.ks;
-    are_keys = ((next.0, b.fits), after.follow, after.are_keys);
-    follow = Follow-from last key after.ks next.1;
-    words_joined = b.words_joined ∙ ap (λ (k : ℕ). entry_word k (length key) ++ ws) is ∙ ap (λ (w : List ℕ). entry_word 1 (length key) ++ w) after.words_joined;
-    bytes_joined = b.contents_joined ∙ ap (λ (w : List ℕ). key ++ w) after.bytes_joined ∙ sym (append_assoc key (key_bytes after.ks) rest);
-  }
+  KeysAfter-join rest is next after =
+      let more = append_assoc key (key_bytes after.ks) rest in
+      search (arith, next.0, b.fits, after.follow, after.are_keys, Follow-from last key after.ks next.1, b.words_joined, b.contents_joined, more)

@@ -1,5 +1,5 @@
 -- The trees that exceed the limits if a child or a prefix of them does; keys of documents.
-use Rattle.jsonb_doc.proofs.Common.{ℕ, ◌≤◌, List, [], ◌∷◌, ◌++◌, arith, true, Tree, boolean, array, object, Pairs, count, keys, members, trees_of, Form, number_reader, AreKeys, Decodes, keys_of, IsShort, HasShortParts, HasShortElements, IsWithinLimits, IsTooLarge}
+use Rattle.jsonb_doc.proofs.Common.{ℕ, ◌≤◌, List, [], ◌∷◌, ◌++◌, arith, Tree, array, object, Pairs, count, keys, members, trees_of, Form, number_reader, AreKeys, Decodes, keys_of, IsShort, HasShortParts, HasShortElements, IsWithinLimits, IsTooLarge}
 use Rattle.jsonb_doc.proofs.TreeLists.{keys_of-members}
 use Rattle.jsonb_doc.proofs.Containers.{object_document}
 
@@ -13,15 +13,11 @@ short_front form (t ∷ ts) us h = (h.0, h.1, short_front form ts us h.2)
 
 -- an array that exceeds the limits still does with more elements
 pub array_too_large-more : (form : Form) (ts us : List Tree) → IsTooLarge form (array (trees_of ts)) → IsTooLarge form (array (trees_of (ts ++ us)))
-array_too_large-more form ts us large =
-    λ short. large (omega (arith, short.0, fewer_trees ts us), short_front form ts us short.1)
+array_too_large-more form ts us h = grind (arith, fewer_trees, short_front)
 
 -- a tree that fits in a container is within the limits
 short_part : (form : Form) (t : Tree) → IsShort form t → HasShortParts form t → IsWithinLimits form t
-short_part form (boolean true) short parts = short
-short_part form (array ts) short parts = parts
-short_part form (object ps) short parts = parts
-short_part form _ short parts = short
+short_part form t h e = grind arith
 
 short_middle : (form : Form) (ts us : List Tree) (t : Tree) → HasShortElements form (trees_of (ts ++ t ∷ us)) → IsWithinLimits form t
 short_middle form [] us t h = short_part form t h.0 h.1

@@ -1,5 +1,5 @@
 -- Which errors lists of events have.
-use Rattle.jsonb_doc.proofs.Common.{◌≡◌, ◌⊎◌, ℕ, suc, List, [], ◌∷◌, ◌++◌, length, refl, sym, ap, subst, ◌∙◌, Bool, true, false, Some, None, inl, inr, Result, Ok, Err, take, if◌then◌else◌, true≢false, take_at, Tree, Form, IsTooLarge, has_key, Level, root, array_of, object_of, State, Event, array_begins, object_begins, key_is, value_is, ends, no_events, whole, with_inner, with_key, Reads, AreEvents, with_key_again, next_of, AreEventsOf, HasDuplicateKey, FailsWith, LeadsTo, Happen, Refuses, IsDue, IsOutOfMemoryOrTooLarge, Error, OutOfMemory, ObjectDuplicateKey, TooLarge, EventError, OutOfOrder, Failed, TextEvent}
+use Rattle.jsonb_doc.proofs.Common.{◌≡◌, ◌⊎◌, ℕ, suc, List, [], ◌∷◌, ◌++◌, length, refl, sym, ap, subst, ◌∙◌, Bool, true, false, Some, None, inl, inr, Result, Ok, Err, take, true≢false, take_at, Tree, Form, IsTooLarge, State, Event, no_events, whole, Reads, AreEvents, next_of, AreEventsOf, HasDuplicateKey, FailsWith, LeadsTo, Happen, Refuses, IsDue, IsOutOfMemoryOrTooLarge, Error, OutOfMemory, ObjectDuplicateKey, TooLarge, EventError, Failed, TextEvent, arith}
 use Rattle.jsonb_doc.specs.EventList as lists
 use Rattle.jsonb_doc.proofs.EventListLemmas.{sorted_state, IsNewState, AreAll, all_last, all_back, complete, stuck, not_ok, happen_anyway, leads_anew, happen_of}
 use Rattle.jsonb_doc.proofs.OneRun.{one_read, one_lead, one_run, only_event, same_tree}
@@ -11,30 +11,19 @@ use Rattle.jsonb_doc.proofs.CollectingLemmas.{due_along, due_anyway}
 pub happen_more : (keep_last : Bool) (es : List TextEvent) (bytes : List ℕ) (s : State) (mid : List ℕ) (s' : State) (e : TextEvent) (event : Event)
     (rest : List ℕ) (after : State) → Happen keep_last es bytes s mid s' → Reads e mid event rest → LeadsTo keep_last event s' after
     → Happen keep_last (es ++ e ∷ []) bytes s rest after
-happen_more keep_last [] bytes s mid s' e event rest after h reads leads = (
-  event,
-  rest,
-  after,
-  subst (λ (b : List ℕ). Reads e b event rest) (sym h.0) reads,
-  subst (λ (x : State). LeadsTo keep_last event x after) (sym h.1) leads,
-  (refl, refl),
-)
+happen_more keep_last [] bytes s mid s' e event rest after h reads leads = grind arith
 happen_more keep_last (x ∷ es) bytes s mid s' e event rest after h reads leads =
     (h.0, h.1, h.2, h.3, h.4, happen_more keep_last es h.1 h.2 mid s' e event rest after h.5 reads leads)
 
 one_step : (keep_last : Bool) (e : TextEvent) (es : List TextEvent) (bytes : List ℕ) (s : State) (event : Event) (left : List ℕ) (next : State)
     (rest : List ℕ) (after : State) → Reads e bytes event left → LeadsTo keep_last event s next → Happen keep_last (e ∷ es) bytes s rest after
     → Happen keep_last es left next rest after
-one_step keep_last e es bytes s event left next rest after reads leads h =
-    let read = one_read e bytes h.0 event h.1 left h.3 reads in
-    let same = one_lead keep_last event s h.2 next (subst (λ (x : Event). LeadsTo keep_last x s h.2) read.0 h.4) leads in
-    subst (λ (b : List ℕ). Happen keep_last es b next rest after) read.1 (subst (λ (x : State). Happen keep_last es h.1 x rest after) same h.5)
+one_step keep_last e es bytes s event left next rest after h k f = grind (arith, one_read, one_lead)
 
 -- after the first events there are those that are left
 happen_rest : (keep_last : Bool) (es later : List TextEvent) (bytes : List ℕ) (s : State) (mid : List ℕ) (s' : State) (rest : List ℕ) (after : State)
     → Happen keep_last es bytes s mid s' → Happen keep_last (es ++ later) bytes s rest after → Happen keep_last later mid s' rest after
-happen_rest keep_last [] later bytes s mid s' rest after h g =
-    subst (λ (b : List ℕ). Happen keep_last later b s' rest after) h.0 (subst (λ (x : State). Happen keep_last later bytes x rest after) h.1 g)
+happen_rest keep_last [] later bytes s mid s' rest after h g = grind arith
 happen_rest keep_last (e ∷ es) later bytes s mid s' rest after h g =
     happen_rest keep_last es later h.1 h.2 mid s' rest after h.5 (one_step keep_last e (es ++ later) bytes s h.0 h.1 h.2 rest after h.3 h.4 g)
 
@@ -43,26 +32,6 @@ happen_rest keep_last (e ∷ es) later bytes s mid s' rest after h g =
 failed_stays : (keep_last : Bool) (xs : List Event) (e : EventError) → lists.after keep_last xs (Err e) ≡ Err e
 failed_stays keep_last [] e = refl
 failed_stays keep_last (x ∷ xs) e = refl
-
--- only a duplicate key cannot come next unless it is kept
-next_either : (e : Event) (s s' : State) → next_of true e s ≡ Ok s' → (next_of false e s ≡ Ok s') ⊎ (next_of false e s ≡ Err (Failed ObjectDuplicateKey))
-next_either array_begins s s' is = inl is
-next_either object_begins s s' is = inl is
-next_either (value_is t) s s' is = inl is
-next_either ends s s' is = inl is
-next_either (key_is key) s s' is = go s.inner is
-  where
-    go : (level : Level) → with_inner s.around (with_key_again key level) ≡ Ok s'
-        → (with_inner s.around (with_key key level) ≡ Ok s') ⊎ (with_inner s.around (with_key key level) ≡ Err (Failed ObjectDuplicateKey))
-    go (object_of ps None) is = fresh (has_key key ps)
-      where
-        fresh : (b : Bool) → (with_inner s.around (if b then Err (Failed ObjectDuplicateKey) else Ok (object_of ps (Some key))) ≡ Ok s')
-            ⊎ (with_inner s.around (if b then Err (Failed ObjectDuplicateKey) else Ok (object_of ps (Some key))) ≡ Err (Failed ObjectDuplicateKey))
-        fresh true = inr refl
-        fresh false = inl is
-    go (object_of ps (Some name)) is = absurd (not_ok OutOfOrder s' is)
-    go (array_of ts) is = absurd (not_ok OutOfOrder s' is)
-    go (root u) is = absurd (not_ok OutOfOrder s' is)
 
 after_either : (xs : List Event) (s s' : State) → lists.after true xs (Ok s) ≡ Ok s'
     → (lists.after false xs (Ok s) ≡ Ok s') ⊎ (lists.after false xs (Ok s) ≡ Err (Failed ObjectDuplicateKey))
@@ -73,13 +42,7 @@ after_either (x ∷ xs) s s' is = first (next_of true x s) refl is (λ next. aft
         → ((next : State) → lists.after true xs (Ok next) ≡ Ok s'
         → (lists.after false xs (Ok next) ≡ Ok s') ⊎ (lists.after false xs (Ok next) ≡ Err (Failed ObjectDuplicateKey)))
         → (lists.after false xs (next_of false x s) ≡ Ok s') ⊎ (lists.after false xs (next_of false x s) ≡ Err (Failed ObjectDuplicateKey))
-    first (Err e) here is more = absurd (not_ok e s' (stuck true xs e s' is))
-    first (Ok next) here is more = either (next_either x s next here)
-      where
-        either : (next_of false x s ≡ Ok next) ⊎ (next_of false x s ≡ Err (Failed ObjectDuplicateKey))
-            → (lists.after false xs (next_of false x s) ≡ Ok s') ⊎ (lists.after false xs (next_of false x s) ≡ Err (Failed ObjectDuplicateKey))
-        either (inl same) = rw same (more next is)
-        either (inr twice) = inr (rw twice (failed_stays false xs (Failed ObjectDuplicateKey)))
+    first r h e k = grind (arith, not_ok, stuck, failed_stays)
 
 -- an event that may come next only if the last value of a key is kept comes after a duplicate key
 duplicate : (es later : List TextEvent) (bytes mid : List ℕ) (s : State) (e : TextEvent) → Happen false es bytes no_events mid s
@@ -92,8 +55,7 @@ duplicate es later bytes mid s e h refuses may =
         ⊎ (lists.after false all.events (Ok no_events) ≡ Err (Failed ObjectDuplicateKey)) → HasDuplicateKey (es ++ later) bytes
     go all (inl same) =
         let back = all_back false es bytes all.events no_events (sorted_state s) all.are same (λ ne. (tt, tt)) in
-        let state = one_run false es bytes no_events mid back.rest s back.state h back.happen in
-        let new = subst IsNewState (sym state) (back.new refl) in
+        let new = subst IsNewState (sym (one_run false es bytes no_events mid back.rest s back.state h back.happen)) (back.new refl) in
         absurd (may (λ event rest after reads leads. refuses event rest after reads (leads_anew event s after new leads)))
     go all (inr twice) =
         (length es, all.events, subst (λ (xs : List TextEvent). AreEvents xs bytes all.events) (sym (take_at es later (length es) refl)) all.are, twice)
@@ -104,33 +66,23 @@ error_stays : (n : ℕ) (es : List TextEvent) (bytes : List ℕ) (xs ys : List E
 error_stays n es bytes [] ys r e are all is = rw is (failed_stays false ys e)
 error_stays (suc n) (x ∷ es) bytes (event ∷ xs) (other ∷ ys) (Err d) e are all is = is
 error_stays (suc n) (x ∷ es) bytes (event ∷ xs) (other ∷ ys) (Ok s) e are all is =
-    let read = one_read x bytes event other are.0 all.0 are.1 all.1 in
-    let more = error_stays n es are.0 xs ys (next_of false event s) e are.2
-    (subst (λ (b : List ℕ). AreEvents es b ys) (sym read.1) all.2) is in
-    subst (λ (y : Event). lists.after false ys (next_of false y s) ≡ Err e) read.0 more
-error_stays (suc n) (x ∷ es) bytes (event ∷ xs) [] r e are all is = absurd all
-error_stays _ _ bytes (event ∷ xs) ys r e are all is = absurd are
+    grind (arith, error_stays n es are.0 xs ys (next_of false event s) e are.2, one_read)
+error_stays n es bytes (event ∷ xs) ys r e are all is = grind arith
 
 -- a list with a duplicate key has no tree unless the last value is kept
 duplicate_fails : (es : List TextEvent) (bytes : List ℕ) (t : Tree) → HasDuplicateKey es bytes → AreEventsOf false es bytes t → ⊥
-duplicate_fails es bytes t twice of =
-    let is = error_stays twice.0 es bytes twice.1 of.0 (Ok no_events) (Failed ObjectDuplicateKey) twice.2 of.1 twice.3 in
-    absurd (rw is at of.2)
+duplicate_fails es bytes t h e = grind (arith, error_stays)
 
 -- ---- errors of a list
 
 -- the event that is read may not come next
 pub event_due : (keep_last : Bool) (e : TextEvent) (bytes : List ℕ) (event : Event) (rest : List ℕ) (s : State) (d : EventError) → Reads e bytes event rest
     → IsDue keep_last (λ last. (after : State) → LeadsTo last event s after → ⊥) d → IsDue keep_last (λ last. Refuses last e bytes s) d
-event_due keep_last e bytes event rest s d reads =
-    due_along keep_last (λ last. (after : State) → LeadsTo last event s after → ⊥) (λ last. Refuses last e bytes s) d
-    (λ last. only_event last e bytes event rest s reads) (λ refuses after leads. refuses event rest after reads leads)
+event_due keep_last e bytes event rest s d h k = grind (arith, due_along, only_event)
 
 pub event_due_anyway : (keep_last : Bool) (e : TextEvent) (bytes : List ℕ) (event : Event) (rest : List ℕ) (s : State) (d : EventError)
     → Reads e bytes event rest → IsDue true (λ _. (after : State) → LeadsTo true event s after → ⊥) d → IsDue keep_last (λ last. Refuses last e bytes s) d
-event_due_anyway keep_last e bytes event rest s d reads =
-    due_anyway keep_last (λ _. (after : State) → LeadsTo true event s after → ⊥) (λ last. Refuses last e bytes s) d
-    (only_event true e bytes event rest s reads)
+event_due_anyway keep_last e bytes event rest s d h k = grind (arith, due_anyway, only_event)
 
 -- no tree has events of which one may not come next
 stopped : (es later : List TextEvent) (bytes mid : List ℕ) (s : State) (e : TextEvent) → Happen true es bytes no_events mid s → Refuses true e mid s
@@ -166,28 +118,20 @@ unfinished form keep_last es bytes mid s d h (inr (inr twice)) = absurd (true≢
 -- before the first event only an allocation fails
 pub unbegun : (form : Form) (keep_last : Bool) (es : List TextEvent) (bytes : List ℕ) (d : EventError) → IsDue true (λ _. ⊥) d
     → FailsWith form keep_last es bytes d
-unbegun form keep_last es bytes d (inl memory) = inl memory
-unbegun form keep_last es bytes d (inr (inl order)) = absurd order.1
-unbegun form keep_last es bytes d (inr (inr twice)) = absurd (true≢false twice.1)
+unbegun form keep_last es bytes d h = grind arith
 
 -- ---- errors of a document
 
 pub write_fails : (form : Form) (keep_last : Bool) (es : List TextEvent) (bytes : List ℕ) (t : Tree) (d : Error) → AreEventsOf keep_last es bytes t
     → IsOutOfMemoryOrTooLarge form t d → FailsWith form keep_last es bytes (Failed d)
-write_fails form keep_last es bytes t d of (inl memory) = inl (ap Failed memory)
-write_fails form keep_last es bytes t d of (inr large) = inr (inr (inr (ap Failed large.0, t, of, large.1)))
-
--- a tree is one if the last value of a key is kept
-tree_anyway : (keep_last : Bool) (es : List TextEvent) (bytes : List ℕ) (t : Tree) → AreEventsOf keep_last es bytes t → AreEventsOf true es bytes t
-tree_anyway keep_last es bytes t of =
-    let run = happen_of keep_last es bytes t of in
-    complete true es bytes run.1 t run.3 (all_last es bytes no_events run.0 run.1 (happen_anyway keep_last es bytes no_events run.0 run.1 run.2))
+write_fails form keep_last es bytes t d h e = grind arith
 
 -- errors of a list that has a tree
 pub tree_fails : (form : Form) (keep_last : Bool) (es : List TextEvent) (bytes : List ℕ) (t : Tree) (e : EventError) → AreEventsOf keep_last es bytes t
     → FailsWith form keep_last es bytes e → (e ≡ Failed OutOfMemory) ⊎ ((e ≡ Failed TooLarge) × IsTooLarge form t)
 tree_fails form keep_last es bytes t e of (inl memory) = inl memory
-tree_fails form keep_last es bytes t e of (inr (inl order)) = absurd (order.1 t (tree_anyway keep_last es bytes t of))
+tree_fails form keep_last es bytes t e of (inr (inl order)) = absurd (order.1 t (let run = happen_of keep_last es bytes t of in
+    complete true es bytes run.1 t run.3 (all_last es bytes no_events run.0 run.1 (happen_anyway keep_last es bytes no_events run.0 run.1 run.2))))
 tree_fails form keep_last es bytes t e of (inr (inr (inl twice))) =
     absurd (duplicate_fails es bytes t twice.2 (subst (λ (last : Bool). AreEventsOf last es bytes t) twice.1 of))
 tree_fails form keep_last es bytes t e of (inr (inr (inr large))) =

@@ -1,5 +1,5 @@
 -- A tree has one canonical document.
-use Rattle.jsonb_doc.proofs.Common.{◌≡◌, ℕ, ◌∙◌, List, ◌++◌, length, ap, ap₂, refl, arith, true, false, inl, inr, append-nil, AreBytes, Tree, null, boolean, number, text, extension, array, object, Trees, no_trees, tree, Pairs, no_pairs, pair, count, keys, canonical, number_reader, header, entry_word, scalar_header, array_header, object_header, key_words, key_bytes, IsContent, AreEntries, AreValues, Decodes, IsDocument, kind_of, content, words, contents, value_words, value_contents, scalar_document, document}
+use Rattle.jsonb_doc.proofs.Common.{◌≡◌, ℕ, ◌∙◌, List, ◌++◌, length, ap, ap₂, arith, true, false, inl, inr, append-nil, AreBytes, Tree, null, boolean, number, text, extension, array, object, Trees, no_trees, tree, Pairs, no_pairs, pair, count, keys, canonical, number_reader, header, entry_word, scalar_header, array_header, object_header, key_words, key_bytes, IsContent, AreEntries, AreValues, Decodes, IsDocument, kind_of, content, words, contents, value_words, value_contents, scalar_document, document}
 use Rattle.jsonb_doc.proofs.Entries.{canonical_payload}
 use Rattle.jsonb_doc.proofs.DecodedFits.{headed_bytes, joined_bytes}
 
@@ -53,25 +53,14 @@ mutual
 
 -- the document of a tree that is not a container
 document_of_scalar : (t : Tree) (kind : ℕ) (bytes : List ℕ) → (kind ≡ 5 → ⊥) → IsContent (number_reader canonical) t kind bytes → scalar_document t ≡ document t
-document_of_scalar (array ts) kind bytes other h = absurd (other h.0)
-document_of_scalar (object ps) kind bytes other h = absurd (other h.0)
-document_of_scalar _ kind bytes other h = refl
-
--- the document of a container
-document_of_container : (t : Tree) (bytes : List ℕ) → IsContent (number_reader canonical) t 5 bytes → content t ≡ document t
-document_of_container (array ts) bytes h = refl
-document_of_container (object ps) bytes h = refl
-document_of_container (boolean true) bytes h = absurd (omega (arith, h.0))
-document_of_container _ bytes h = absurd (omega (arith, h.0))
+document_of_scalar t kind bytes h e = grind arith
 
 canonical_bytes : (bytes : List ℕ) (t : Tree) → AreBytes bytes → IsDocument (number_reader canonical) t bytes → bytes ≡ document t
-canonical_bytes bytes t all (inl h) =
-    (canonical_content t 5 bytes all h).1 ∙ document_of_container t bytes h
+canonical_bytes bytes t all (inl h) = grind (arith, canonical_content)
 canonical_bytes bytes t all (inr c) =
     let e = c.parts in
     let b = e.begin in
-    let inner = headed_bytes bytes 1 0 c.words c.contents c.headed all in
-    let rest = joined_bytes c.contents e.content e.other_contents b.contents_joined inner in
+    let rest = joined_bytes c.contents e.content e.other_contents b.contents_joined (headed_bytes bytes 1 0 c.words c.contents c.headed all) in
     let same = canonical_content t e.kind e.content rest.0 e.part.1 in
     let word : c.words ≡ entry_word (kind_of t) (length (content t)) = b.words_joined
     ∙ ap₂ (λ front ws. front ++ ws) (ap₂ (λ kind bytes. entry_word kind (length bytes)) same.0 same.1) e.others.0

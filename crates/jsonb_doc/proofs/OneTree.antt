@@ -1,5 +1,5 @@
 -- Bytes decode to one tree at most.
-use Rattle.jsonb_doc.proofs.Common.{◌≡◌, ℕ, List, [], ◌∷◌, ◌++◌, length, refl, sym, ap, ◌∙◌, arith, true, false, inl, inr, append_assoc, length-append, Tree, null, boolean, number, text, extension, array, object, Trees, no_trees, tree, Pairs, no_pairs, pair, count, keys, values, NumberReader, BeginWith, AreKeys, key_words, key_bytes, IsContent, AreEntries, AreValues, IsDocument}
+use Rattle.jsonb_doc.proofs.Common.{◌≡◌, ℕ, List, [], ◌∷◌, ◌++◌, length, refl, sym, ap, ◌∙◌, arith, true, false, inl, inr, append_assoc, length-append, Tree, null, boolean, number, text, extension, array, object, Trees, no_trees, tree, Pairs, no_pairs, pair, keys, values, NumberReader, BeginWith, AreKeys, key_words, key_bytes, IsContent, AreEntries, AreValues, IsDocument}
 use Rattle.jsonb_doc.proofs.WordLemmas.{append_cancel}
 use Rattle.jsonb_doc.proofs.Entries.{BeginWith-unique, BeginWith-long}
 use Rattle.jsonb_doc.proofs.ExtensionsRead.{extension_back}
@@ -14,13 +14,10 @@ keys_unique [] [] v v' x x' words bytes p q n e f g h = (refl, sym e ∙ f, sym 
 keys_unique [] (l ∷ ls) v v' x x' words bytes p q n e f g h = absurd (omega arith)
 keys_unique (k ∷ ks) [] v v' x x' words bytes p q n e f g h = absurd (omega arith)
 keys_unique (k ∷ ks) (l ∷ ls) v v' x x' words bytes p q n e f g h =
-    let first : BeginWith words bytes 1 k (key_words ks ++ v)
-    (key_bytes ks ++ x) = record { known = omega arith; fits = p.0.1; words_joined = e; contents_joined = g ∙ append_assoc k (key_bytes ks) x } in
-    let other : BeginWith words bytes 1 l (key_words ls ++ v')
-    (key_bytes ls ++ x') = record { known = omega arith; fits = q.0.1; words_joined = f; contents_joined = h ∙ append_assoc l (key_bytes ls) x' } in
-    let same = BeginWith-unique words bytes 1 1 k l (key_words ks ++ v) (key_words ls ++ v') (key_bytes ks ++ x) (key_bytes ls ++ x') first other in
-    let rest = keys_unique ks ls v v' x x' (key_words ks ++ v) (key_bytes ks ++ x) p.2 q.2 (omega arith) refl same.2 refl same.3 in
-    (cc (same.1, rest.0), rest.1, rest.2)
+    let first : BeginWith words bytes 1 k (key_words ks ++ v) (key_bytes ks ++ x) = grind (arith, append_assoc) in
+    let other : BeginWith words bytes 1 l (key_words ls ++ v') (key_bytes ls ++ x') = grind (arith, append_assoc) in
+    let same = BeginWith-unique _ _ _ _ _ _ _ _ _ _ first other in
+    grind (arith, same, keys_unique ks ls v v' x x' (key_words ks ++ v) (key_bytes ks ++ x) p.2 q.2)
 
 module _ (number_at : NumberReader) where
   mutual
@@ -28,30 +25,12 @@ module _ (number_at : NumberReader) where
     content_unique null t' kind bytes h g = sym (null_content number_at kind bytes t' h.0 g)
     content_unique (boolean false) t' kind bytes h g = sym (false_content number_at kind bytes t' h.0 g)
     content_unique (boolean true) t' kind bytes h g = sym (true_content number_at kind bytes t' h.0 g)
-    content_unique (number n) t' kind bytes h g =
-        let found = number_content number_at kind bytes t' h.0 g in
-        ap number (some_injective (sym h.1 ∙ found.2)) ∙ sym found.1
-    content_unique (text s) t' kind bytes h g =
-        let found = text_content number_at kind bytes t' h.0 g in
-        ap text (sym h.1) ∙ sym found.0
-    content_unique (extension x) t' kind bytes h g =
-        let found = extension_content number_at kind bytes t' h.0 g in
-        ap extension (some_injective (sym (rw h.2 (extension_back x h.1)) ∙ found.2)) ∙ sym found.1
+    content_unique (number n) t' kind bytes h g = grind (arith, number_content, some_injective)
+    content_unique (text s) t' kind bytes h g = grind (arith, text_content)
+    content_unique (extension x) t' kind bytes h g = grind (arith, extension_content, some_injective, extension_back)
     content_unique (array ts) (array ts') kind bytes h g =
-        let a = h.1 in
-        let b = g.1 in
-        let (same_kind, same_count, same_rest) = HeadedBy-unique bytes 4 4 (count ts) (count ts') (a.words ++ a.contents)
-        (b.words ++ b.contents) a.headed b.headed in
-        let len = length-words number_at ts a.words a.contents a.parts in
-        let len' = length-words number_at ts' b.words b.contents b.parts in
-        let (same_words, same_contents) = append_cancel a.words a.contents b.words b.contents (omega (arith, len, len', same_count)) same_rest in
-        ap array (entries_unique ts ts' a.words a.contents a.parts (rw (same_words, same_contents) b.parts))
-    content_unique (array ts) (object ps) kind bytes h g =
-        absurd (omega (
-          arith,
-          (HeadedBy-unique bytes 4 2 (count ts) (length (keys ps)) (h.1.words ++ h.1.contents)
-              (g.1.words ++ g.1.contents) h.1.headed g.1.headed).0,
-        ))
+        grind (arith, entries_unique ts ts' h.1.words h.1.contents h.1.parts, HeadedBy-unique, length-words, append_cancel)
+    content_unique (array ts) (object ps) kind bytes h g = grind (arith, HeadedBy-unique)
     content_unique (array ts) (boolean false) kind bytes h g = absurd (omega (arith, h.0, g.0))
     content_unique (array ts) (boolean true) kind bytes h g = absurd (omega (arith, h.0, g.0))
     content_unique (array ts) _ kind bytes h g = absurd (omega (arith, h.0, g.0))
@@ -66,31 +45,16 @@ module _ (number_at : NumberReader) where
         let entries' = entries_of number_at ps' m'.value_words m'.value_contents m'.values in
         let len = ap length m.words_joined ∙ length-append (key_words (keys ps)) m.value_words in
         let len' = ap length m'.words_joined ∙ length-append (key_words (keys ps')) m'.value_words in
-        let all : length a.words ≡ length b.words = omega (
-          arith,
-          len,
-          len',
-          same_count,
-          length-key_words (keys ps),
-          length-key_words (keys ps'),
-          length-words number_at
-              (values ps) m.value_words m.value_contents entries,
-          length-words number_at
-              (values ps') m'.value_words m'.value_contents entries',
-          count-values ps,
-          count-values ps',
-        ) in
+        let all : length a.words ≡ length b.words =
+        let more = length-words number_at (values ps') m'.value_words m'.value_contents entries' in
+        let step = length-words number_at (values ps) m.value_words m.value_contents entries in
+        omega (arith, len, len', same_count, length-key_words (keys ps), length-key_words (keys ps'), step, more, count-values ps, count-values ps') in
         let (same_words, same_contents) = append_cancel a.words a.contents b.words b.contents all same_rest in
         let (same_keys, same_value_words, same_value_contents) = keys_unique (keys ps)
         (keys ps') m.value_words m'.value_words m.value_contents m'.value_contents a.words a.contents m.are_keys m'.are_keys same_count m.words_joined
         (same_words ∙ m'.words_joined) m.contents_joined (same_contents ∙ m'.contents_joined) in
         ap object (values_unique ps ps' same_keys m.value_words m.value_contents m.values (rw (same_value_words, same_value_contents) m'.values))
-    content_unique (object ps) (array ts) kind bytes h g =
-        absurd (omega (
-          arith,
-          (HeadedBy-unique bytes 2 4 (length (keys ps)) (count ts) (h.1.words ++ h.1.contents)
-              (g.1.words ++ g.1.contents) h.1.headed g.1.headed).0,
-        ))
+    content_unique (object ps) (array ts) kind bytes h g = grind (arith, HeadedBy-unique)
     content_unique (object ps) (boolean false) kind bytes h g = absurd (omega (arith, h.0, g.0))
     content_unique (object ps) (boolean true) kind bytes h g = absurd (omega (arith, h.0, g.0))
     content_unique (object ps) _ kind bytes h g = absurd (omega (arith, h.0, g.0))
@@ -98,16 +62,11 @@ module _ (number_at : NumberReader) where
     pub entries_unique : (ts ts' : Trees) (words contents : List ℕ) → AreEntries number_at ts words contents → AreEntries number_at ts' words contents
         → ts ≡ ts'
     entries_unique no_trees no_trees words contents h g = refl
-    entries_unique no_trees (tree t' ts') words contents h g =
-        absurd (omega (arith, ap length h.0, BeginWith-long words contents g.kind g.content g.other_words g.other_contents g.begin))
-    entries_unique (tree t ts) no_trees words contents h g =
-        absurd (omega (arith, ap length g.0, BeginWith-long words contents h.kind h.content h.other_words h.other_contents h.begin))
+    entries_unique no_trees (tree t' ts') words contents h g = grind (arith, BeginWith-long)
+    entries_unique (tree t ts) no_trees words contents h g = grind (arith, BeginWith-long)
     entries_unique (tree t ts) (tree t' ts') words contents h g =
-        let (same_kind, same_content, same_words, same_contents) = BeginWith-unique words contents h.kind g.kind h.content g.content h.other_words
-        g.other_words h.other_contents g.other_contents h.begin g.begin in
-        let first : t ≡ t' = content_unique t t' h.kind h.content h.part (rw (same_kind, same_content) g.part) in
-        let others : ts ≡ ts' = entries_unique ts ts' h.other_words h.other_contents h.others (rw (same_words, same_contents) g.others) in
-        cc
+        let same = BeginWith-unique _ _ _ _ _ _ _ _ _ _ h.begin g.begin in
+        grind (arith, same, content_unique t t' h.kind h.content h.part, entries_unique ts ts' h.other_words h.other_contents h.others)
 
     pub values_unique : (ps ps' : Pairs) → keys ps ≡ keys ps' → (words contents : List ℕ) → AreValues number_at ps words contents
         → AreValues number_at ps' words contents → ps ≡ ps'
@@ -115,13 +74,10 @@ module _ (number_at : NumberReader) where
     values_unique no_pairs (pair k t ps) same words contents h g = absurd (omega (arith, ap length same))
     values_unique (pair k t ps) no_pairs same words contents h g = absurd (omega (arith, ap length same))
     values_unique (pair k t ps) (pair k' t' ps') same words contents h g =
-        let (same_kind, same_content, same_words, same_contents) = BeginWith-unique words contents h.kind g.kind h.content g.content h.other_words
-        g.other_words h.other_contents g.other_contents h.begin g.begin in
-        let first : t ≡ t' = content_unique t t' h.kind h.content h.part (rw (same_kind, same_content) g.part) in
-        let key : k ≡ k' = cc same in
-        let other_keys : keys ps ≡ keys ps' = cc same in
-        let others : ps ≡ ps' = values_unique ps ps' other_keys h.other_words h.other_contents h.others (rw (same_words, same_contents) g.others) in
-        cc
+        let is = BeginWith-unique _ _ _ _ _ _ _ _ _ _ h.begin g.begin in
+        let first = content_unique t t' h.kind h.content h.part (rw (is.0, is.1) g.part) in
+        let others = values_unique ps ps' (cc same) h.other_words h.other_contents h.others (rw (is.2, is.3) g.others) in
+        cc (same, first, others)
 
   pub document_unique : (t t' : Tree) (bytes : List ℕ) → IsDocument number_at t bytes → IsDocument number_at t' bytes → t ≡ t'
   document_unique t t' bytes (inl h) (inl g) = content_unique t t' 5 bytes h g

@@ -1,5 +1,5 @@
 -- The iterator over pairs and its first item.
-use Rattle.jsonb_doc.proofs.Common.{◌≡◌, ◌≢◌, ℕ, ◌<◌, List, [], ◌∷◌, ◌++◌, length, Option, Some, ap, ◌∙◌, arith, refl, IsUtf8, Tree, object, Pairs, no_pairs, pair, keys, values, pairs_in, NumberReader, Form, number_reader, Decodes, AreValues, AreKeys, key_words, key_bytes, BeginWith, HasFirstEntry, IsContent, HasPairsLeft, HasKeysLeft, HasElementsLeft, HasAllValues, SameOption, KeyIter, ValueIter, PairIter, StandBefore, IsCut, Holds, HasPairParts, ObjectParts, Object}
+use Rattle.jsonb_doc.proofs.Common.{◌≡◌, ◌≢◌, ℕ, ◌<◌, List, [], ◌∷◌, ◌++◌, length, Option, Some, ap, arith, IsUtf8, Tree, object, Pairs, no_pairs, pair, keys, values, pairs_in, NumberReader, Form, number_reader, Decodes, AreValues, AreKeys, key_words, key_bytes, BeginWith, HasFirstEntry, IsContent, HasPairsLeft, HasKeysLeft, HasElementsLeft, HasAllValues, SameOption, KeyIter, ValueIter, PairIter, StandBefore, IsCut, Holds, HasPairParts, ObjectParts, Object}
 use Rattle.jsonb_doc.proofs.KeysRead.{begin_key}
 use Rattle.jsonb_doc.proofs.LengthsLemmas.{HoldKeys-before}
 use Rattle.jsonb_doc.proofs.Containers.{entries_of, HoldsPairs-keys, Decodes-object, Holds-pairs}
@@ -23,8 +23,7 @@ module _ (form : Form) (p : ObjectParts) (none : (parts : List (List ℕ)) (rest
   HoldsPairs-skipped ps h = none (keys ps) h.rest (HoldKeys-before (keys ps) _ _ h.rest (HoldsPairs-keys (number_reader form) ps p h))
 
   pub Holds-skipped : (t : Tree) → Holds (number_reader form) t (Object p) → ⊥
-  Holds-skipped (object ps) held = HoldsPairs-skipped ps held
-  Holds-skipped _ held = held
+  Holds-skipped t h = grind (arith, HoldsPairs-skipped)
 
 pub HoldsPairs-values : (number_at : NumberReader) (ps : Pairs) (p : ObjectParts) (found : List ℕ) → (h : HasPairParts number_at ps p) → SkipsKeys p found
     → found ≡ h.rest
@@ -44,57 +43,34 @@ pub record FirstPair (form : Form) (it : PairIter) (ps : Pairs) : Type 0 where
 
 pub HasPairsLeft-first : (form : Form) (it : PairIter) (ps : Pairs) → 0 < length it.key_words.now → HasPairsLeft form it ps → FirstPair form it ps
 HasPairsLeft-first form it no_pairs some h = absurd (omega (arith, ap length h.words))
-HasPairsLeft-first form it (pair key t ps) some h = record {
-  key = key;
-  value = t;
-  others = ps;
-  rest = h.rest;
-  whole = refl;
-  utf8 = h.are_keys.0.0;
-  are_keys = h.are_keys.2;
-  begin = begin_key it.key_words.now it.key_bytes.now h.rest key (keys ps) h.are_keys.0.1 h.words h.bytes;
-  entry = h.values;
-}
+HasPairsLeft-first form it (pair key t ps) some h =
+    let more = begin_key it.key_words.now it.key_bytes.now h.rest key (keys ps) h.are_keys.0.1 h.words h.bytes in
+    search (arith, key, t, ps, h.rest, h.are_keys.0.0, h.are_keys.2, more, h.values)
 
 -- the iterators of an object's parts
 pub HoldsPairs-left : (form : Form) (ps : Pairs) (it : PairIter) (p : ObjectParts) → it.key_words.now ≡ p.key_words.now → it.key_bytes.now ≡ p.contents.now
     → it.value_words.now ≡ p.value_words.now
     → SkipsKeys p it.value_contents.now → HasPairParts (number_reader form) ps p → HasPairsLeft form it ps
-HoldsPairs-left form ps it p key_words key_bytes value_words skips held = record {
-  rest = held.rest;
-  are_keys = held.are_keys;
-  words = key_words ∙ held.words;
-  bytes = key_bytes ∙ held.bytes;
-  values = rw (value_words, HoldsPairs-values (number_reader form) ps p _ held skips) held.values;
-}
+HoldsPairs-left form ps it p key_words key_bytes value_words skips held =
+    let more = HoldsPairs-values (number_reader form) ps p _ held skips in
+    search (arith, held.rest, held.are_keys, key_words, held.words, key_bytes, held.bytes, value_words, more, held.values)
 
 pub IsPairsOf-some : (form : Form) (t : Tree) (it : PairIter) (p : ObjectParts) → Holds (number_reader form) t (Object p)
     → ((f : Form) (ps : Pairs) → HasPairParts (number_reader f) ps p → HasPairsLeft f it ps) → IsPairsOf form t (Some it)
-IsPairsOf-some form (object ps) it p held left = left form ps held
-IsPairsOf-some form _ it p held left = absurd held
+IsPairsOf-some form t it p h e = grind arith
 
 pub IsPairsOf-refused : (form : Form) (t : Tree) (p : ObjectParts) → Holds (number_reader form) t (Object p)
     → ((f : Form) (ps : Pairs) → HasPairParts (number_reader f) ps p → ⊥) → ⊥
-IsPairsOf-refused form (object ps) p held none = none form ps held
-IsPairsOf-refused form _ p held none = held
+IsPairsOf-refused form t p h e = grind arith
 
 pub IsKeysOf-some : (form : Form) (t : Tree) (it : KeyIter) (p : ObjectParts) → it.key_words.now ≡ p.key_words.now → it.key_bytes.now ≡ p.contents.now
     → Holds (number_reader form) t (Object p) → IsKeysOf t (Some it)
-IsKeysOf-some form (object ps) it p key_words key_bytes held = record {
-  rest = held.rest;
-  are_keys = held.are_keys;
-  words = key_words
-      ∙ held.words;
-  bytes = key_bytes ∙ held.bytes;
-}
-IsKeysOf-some form _ it p key_words key_bytes held = absurd held
+IsKeysOf-some form t it p h e k = grind arith
 
 pub IsValuesOf-some : (form : Form) (t : Tree) (it : ValueIter) (p : ObjectParts) → it.elements.entries.words.now ≡ p.value_words.now
     → SkipsKeys p it.elements.entries.contents.now → Holds (number_reader form) t (Object p) → IsValuesOf form t (Some it)
-IsValuesOf-some form (object ps) it p words skips held = record {
-  entries = rw (words, HoldsPairs-values (number_reader form) ps p _ held skips)
-      (entries_of (number_reader form) ps _ _ held.values);
-}
+IsValuesOf-some form (object ps) it p words skips held =
+    search (arith, words, HoldsPairs-values (number_reader form) ps p _ held skips, entries_of (number_reader form) ps _ _ held.values)
 IsValuesOf-some form _ it p words skips held = absurd held
 
 -- a document that is cut into the parts of an object has no other tree
@@ -107,8 +83,7 @@ only_object form bytes p cut t h other =
 -- an object's parts are its keys and all that the iterator over its values has
 pub IsCut-values : (bytes : List ℕ) (it : ValueIter) (p : ObjectParts) → it.elements.entries.words.now ≡ p.value_words.now
     → (front : List ℕ) × (p.contents.now ≡ front ++ it.elements.entries.contents.now) → IsCut bytes (Object p) → HasAllValues bytes it
-IsCut-values bytes it p words end cut =
-    (p.key_words.now, end.0, (cut.0, rw (words, ← end.1) cut.1, cut.2, rw words cut.3))
+IsCut-values bytes it p h e k = grind arith
 
 -- the first of the keys, as the bytes hold it
 pub record FirstKey (it : KeyIter) (ks : List (List ℕ)) : Type 0 where
@@ -122,12 +97,5 @@ pub record FirstKey (it : KeyIter) (ks : List (List ℕ)) : Type 0 where
 
 pub HasKeysLeft-first : (it : KeyIter) (ks : List (List ℕ)) → 0 < length it.key_words.now → HasKeysLeft it ks → FirstKey it ks
 HasKeysLeft-first it [] some h = absurd (omega (arith, ap length h.words))
-HasKeysLeft-first it (key ∷ ks) some h = record {
-  key = key;
-  others = ks;
-  rest = h.rest;
-  whole = refl;
-  utf8 = h.are_keys.0.0;
-  are_keys = h.are_keys.2;
-  begin = begin_key it.key_words.now it.key_bytes.now h.rest key ks h.are_keys.0.1 h.words h.bytes;
-}
+HasKeysLeft-first it (key ∷ ks) some h =
+    search (arith, key, ks, h.rest, h.are_keys.0.0, h.are_keys.2, begin_key it.key_words.now it.key_bytes.now h.rest key ks h.are_keys.0.1 h.words h.bytes)

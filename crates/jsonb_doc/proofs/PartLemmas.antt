@@ -1,5 +1,5 @@
 -- The nodes of a value, as they are dropped one by one.
-use Rattle.jsonb_doc.proofs.Common.{◌≡◌, ℕ, ◌+◌, ◌*◌, ◌<◌, ◌≤◌, List, [], ◌∷◌, ◌++◌, Option, None, Some, IfSome, length, drop, String, Vec, BTreeMap, Global, Ordering, Less, Equal, Greater, string_cmp, sym, ap, ◌∙◌, arith, cond, insert_entry, is_at, keys_of, lookup, is_eq, match_ordering, mul-le, Tree, array, object, number_view, tree_parts, parts, values_parts, entries_parts, waiting_parts, to_release, remaining, Value, Remaining}
+use Rattle.jsonb_doc.proofs.Common.{◌≡◌, ℕ, ◌+◌, ◌*◌, ◌<◌, ◌≤◌, List, [], ◌∷◌, ◌++◌, Option, None, Some, IfSome, length, drop, String, Vec, BTreeMap, Global, Ordering, Less, Equal, Greater, string_cmp, ap, arith, cond, insert_entry, is_at, keys_of, lookup, is_eq, match_ordering, mul-le, Tree, number_view, tree_parts, parts, values_parts, entries_parts, waiting_parts, to_release, remaining, Value, Remaining}
 use Rattle.jsonb_doc.specs.declared.value.Value.{Array, Object}
 use Rattle.jsonb_doc.proofs.ValueTrees.{Entry, tree_seen-Array, tree_seen-Object}
 
@@ -30,15 +30,12 @@ still (Some r) = 1 + remaining r
 
 pub less_still : (before after : Option Remaining) (r : Remaining) → before ≡ Some r → IfSome after (λ left. remaining left < remaining r)
     → still after < still before
-less_still before None r is less = rw is (omega arith)
-less_still before (Some left) r is less = rw is (omega arith)
+less_still before after r h e = grind arith
 
 -- ---- the parts
 
 pub some_tree_parts : (t : Tree) → 0 < tree_parts t
-some_tree_parts (array ts) = omega arith
-some_tree_parts (object ps) = omega arith
-some_tree_parts _ = omega arith
+some_tree_parts t = grind arith
 
 pub parts-Array : (v : Vec Value Global) → parts (Array v) ≡ 1 + values_parts v.items
 parts-Array v = ap tree_parts (tree_seen-Array number_view v)
@@ -56,8 +53,7 @@ entries_parts-last (f ∷ es) e = let rest = entries_parts-last es e in omega ar
 
 -- what waits is the container, or nothing
 pub waiting_parts-container : (waiting : Option Value) (v : Value) → IfSome waiting (λ inner. inner ≡ v) → waiting_parts waiting ≤ parts v
-waiting_parts-container None v is = omega arith
-waiting_parts-container (Some inner) v is = let same = ap parts is in omega arith
+waiting_parts-container waiting v h = grind arith
 
 -- the value w in place of v
 abbrev Exchanges : List Entry → List Entry → Value → Value → Type 0
@@ -79,8 +75,4 @@ pub fewer_exchanged : (members after : BTreeMap (String Global) Value) (k : Stri
     members.entries k w
     → keys_of after.entries ≡ keys_of members.entries → lookup (is_at (string_cmp k)) members.entries ≡ Some v
     → remaining (record { next = v; waiting = Some (Object after) }) < to_release (1 + entries_parts members.entries) (parts w)
-fewer_exchanged members after k v w is kept found =
-    let row = exchanged members.entries k v w (ap keys_of (sym is) ∙ kept) found in
-    let same = ap entries_parts is in
-    let all = parts-Object after in
-    fewer_in_front (1 + entries_parts members.entries) (parts w) (parts v) (parts (Object after)) (omega (arith, row.0, same, all)) (omega (arith, row.1))
+fewer_exchanged members after k v w h e f = grind (arith, exchanged, parts-Object, fewer_in_front)

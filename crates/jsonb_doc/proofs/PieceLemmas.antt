@@ -1,5 +1,5 @@
 -- The bytes of pieces: those of earlier pieces stay when one is added, and those of each begin with its head.
-use Rattle.jsonb_doc.proofs.Common.{◌≡◌, ℕ, zero, suc, ◌+◌, ◌<◌, ◌≤◌, List, [], ◌∷◌, ◌++◌, length, refl, sym, ap, ◌∙◌, arith, Bool, true, false, cond, get_or, append_assoc, nat_lt, All, All-nil, All-cons, add-zero, zero-add, ltb-true, ltb-false, append-nil, length-append, get_or_append_left, get_or_push, get_or_past, Heads, heads_at, stacked, piece_heads, heads_after, all_heads, joined, bytes_at, earlier, Piece}
+use Rattle.jsonb_doc.proofs.Common.{◌≡◌, ℕ, zero, suc, ◌+◌, ◌<◌, ◌≤◌, List, [], ◌∷◌, ◌++◌, length, refl, sym, arith, get_or, append_assoc, nat_lt, All, All-nil, All-cons, add-zero, zero-add, ltb-true, ltb-false, append-nil, length-append, get_or_append_left, get_or_push, get_or_past, Heads, heads_at, stacked, piece_heads, heads_after, all_heads, joined, bytes_at, earlier, Piece, common_steps}
 
 heads_after-append : (known : Heads) (ps qs : List Piece) → heads_after known (ps ++ qs) ≡ heads_after (heads_after known ps) qs
 unfolding heads_after
@@ -17,20 +17,13 @@ length-heads_after known (p ∷ ps) =
 heads_stay : (known : Heads) (ps : List Piece) (i : ℕ) → i < length known → heads_at (heads_after known ps) i ≡ heads_at known i
 unfolding heads_after
 heads_stay known [] i below = refl
-heads_stay known (p ∷ ps) i below =
-    heads_stay (known ++ piece_heads known p ∷ []) ps i (omega (arith, length-append known (piece_heads known p ∷ [])))
-    ∙ get_or_append_left known (piece_heads known p ∷ []) [] i below
+heads_stay known (p ∷ ps) i below = grind (arith, heads_stay (known ++ piece_heads known p ∷ []) ps i, length-append, get_or_append_left)
 
 -- the heads of pieces in a stack are those of the pieces before the index, which all pieces have
 stacked_earlier : (known all : Heads) → ((i : ℕ) → i < length known → heads_at all i ≡ heads_at known i) → (is : List ℕ)
     → stacked all (earlier (length known) is) ≡ stacked known is
 stacked_earlier known all same [] = refl
-stacked_earlier known all same (i ∷ is) = go (nat_lt i (length known)) refl (stacked_earlier known all same is)
-  where
-    go : (b : Bool) → nat_lt i (length known) ≡ b → stacked all (earlier (length known) is) ≡ stacked known is
-        → stacked all (cond b (i ∷ earlier (length known) is) (earlier (length known) is)) ≡ stacked known is ++ heads_at known i
-    go true e rest = rw (rest, same i (ltb-true i (length known) e)) refl
-    go false e rest = rw (rest, get_or_past known i [] (ltb-false i (length known) e), append-nil) refl
+stacked_earlier known all same (i ∷ is) = grind (arith, stacked_earlier known all same is, nat_lt, ltb-true, get_or_past, ltb-false, append-nil)
 
 -- the heads of each piece: its own, and those of the pieces that it refers to
 heads_within : (known : Heads) (ps : List Piece) (k : ℕ) (d : Piece) → k < length ps
@@ -38,15 +31,7 @@ heads_within : (known : Heads) (ps : List Piece) (k : ℕ) (d : Piece) → k < l
     ≡ (get_or ps k d).head.items ∷ stacked (heads_after known ps) (earlier (length known + k) (get_or ps k d).rest.items)
 unfolding heads_after
 heads_within known [] k d below = absurd (omega arith)
-heads_within known (p ∷ ps) zero d below =
-    let added = known ++ piece_heads known p ∷ [] in
-    let longer : length added ≡ length known + 1 = length-append known (piece_heads known p ∷ []) in
-    let found : heads_at (heads_after added ps) (length known) ≡ piece_heads known p =
-    heads_stay added ps (length known) (omega (arith, longer)) ∙ get_or_push known (piece_heads known p) [] (length known) refl in
-    let same : stacked (heads_after added ps) (earlier (length known) p.rest.items) ≡ stacked known p.rest.items =
-    stacked_earlier known (heads_after added ps)
-    (λ i b. heads_stay added ps i (omega (arith, longer)) ∙ get_or_append_left known (piece_heads known p ∷ []) [] i b) p.rest.items in
-    rw add-zero (found ∙ ap (λ (hs : List (List ℕ)). p.head.items ∷ hs) (sym same))
+heads_within known (p ∷ ps) zero d below = grind (arith, length-append, heads_stay, get_or_push, stacked_earlier, get_or_append_left, add-zero)
 heads_within known (p ∷ ps) (suc k) d below =
     let added = known ++ piece_heads known p ∷ [] in
     let same : length added + k ≡ length known + suc k = omega (arith, length-append known (piece_heads known p ∷ [])) in
@@ -60,18 +45,12 @@ heads_is ps k d below = rw zero-add at (heads_within [] ps k d below)
 
 pub bytes_stay : (ps : List Piece) (p : Piece) (i : ℕ) → i < length ps → bytes_at (ps ++ p ∷ []) i ≡ bytes_at ps i
 unfolding heads_after
-bytes_stay ps p i below =
-    let same : heads_at (all_heads (ps ++ p ∷ [])) i ≡ heads_at (all_heads ps) i =
-    rw (heads_after-append [] ps (p ∷ [])) (heads_stay (all_heads ps) (p ∷ []) i (omega (arith, length-heads_after [] ps))) in
-    ap joined same
+bytes_stay ps p i below = grind (arith, common_steps, heads_after-append, heads_stay, length-heads_after)
 
 -- the bytes of the new piece
 pub bytes_new : (ps : List Piece) (p : Piece) → bytes_at (ps ++ p ∷ []) (length ps) ≡ p.head.items ++ joined (stacked (all_heads ps) p.rest.items)
 unfolding heads_after
-bytes_new ps p =
-    let is : heads_at (all_heads (ps ++ p ∷ [])) (length ps) ≡ piece_heads (all_heads ps) p =
-    rw (heads_after-append [] ps (p ∷ [])) (get_or_push (all_heads ps) (piece_heads (all_heads ps) p) [] (length ps) (omega (arith, length-heads_after [] ps))) in
-    ap joined is
+bytes_new ps p = grind (arith, heads_after-append, get_or_push, length-heads_after)
 
 -- ---- stacks
 
@@ -87,34 +66,17 @@ joined-append (x ∷ xs) ys = rw (joined-append xs ys) (sym (append_assoc x (joi
 
 -- the stack begins with the root, if there is such a piece
 pub stack_starts : (ps : List Piece) (root : ℕ) → joined (stacked (all_heads ps) (earlier (length ps) (root ∷ []))) ≡ bytes_at ps root
-stack_starts ps root = go (nat_lt root (length ps)) refl
-  where
-    go : (b : Bool) → nat_lt root (length ps) ≡ b → joined (stacked (all_heads ps) (cond b (root ∷ []) [])) ≡ bytes_at ps root
-    go true e = refl
-    go false e =
-        let far : heads_at (all_heads ps) root ≡ [] = get_or_past (all_heads ps) root [] (omega (arith, length-heads_after [] ps, ltb-false root (length ps) e)) in
-        ap joined (sym far)
+stack_starts ps root = grind (arith, nat_lt, get_or_past, length-heads_after, ltb-false)
 
 -- the piece at the top of the stack is its head, and the earlier pieces that it refers to
 pub stack_steps : (ps : List Piece) (stack is : List ℕ) (i : ℕ) (d : Piece) → i < length ps → stack ≡ is ++ i ∷ []
     → stacked (all_heads ps) stack ≡ (get_or ps i d).head.items ∷ stacked (all_heads ps) (is ++ earlier i (get_or ps i d).rest.items)
-stack_steps ps stack is i d below e =
-    let others = earlier i (get_or ps i d).rest.items in
-    rw (e, stacked-append (all_heads ps) is (i ∷ []), stacked-append (all_heads ps) is others, heads_is ps i d below) refl
+stack_steps ps stack is i d h e = grind (arith, stacked-append, heads_is)
 
 pub earlier_below : (m n : ℕ) → m ≤ n → (is : List ℕ) → All (λ i. i < n) (earlier m is)
 earlier_below m n le [] = All-nil (λ i. i < n)
-earlier_below m n le (i ∷ is) = go (nat_lt i m) refl (earlier_below m n le is)
-  where
-    go : (b : Bool) → nat_lt i m ≡ b → All (λ j. j < n) (earlier m is) → All (λ j. j < n) (cond b (i ∷ earlier m is) (earlier m is))
-    go true e rest = All-cons (λ j. j < n) i (earlier m is) (omega (arith, ltb-true i m e)) rest
-    go false e rest = rest
+earlier_below m n le (i ∷ is) = grind (arith, earlier_below m n le is, nat_lt, All-cons, ltb-true)
 
 -- the index at the top of the stack, and those below it
 pub within_popped : (n : ℕ) (stack is : List ℕ) (i : ℕ) → stack ≡ is ++ i ∷ [] → All (λ j. j < n) stack → (i < n) × All (λ j. j < n) is
-within_popped n stack is i e within =
-    let all = rw e at within in
-    let longer = length-append is (i ∷ []) in (
-      rw (get_or_push is i 0 (length is) refl) at (all (length is) 0 (omega (arith, longer))),
-      λ k d below. rw (get_or_append_left is (i ∷ []) d k below) at (all k d (omega (arith, longer))),
-    )
+within_popped n stack is i h e = grind (arith, length-append, get_or_push, get_or_append_left)

@@ -1,5 +1,5 @@
 -- What is the content of an entry that is not a container, kind by kind.
-use Rattle.jsonb_doc.proofs.Common.{◌≡◌, ◌≢◌, ℕ, ◌≤◌, List, [], length, ◌⊎◌, inl, inr, arith, Some, None, true, false, sym, ◌∙◌, ap, ◌↔◌, Result, Ok, Err, refl, rules, IsUtf8, MatchResult, IsOk, IsErrOf, Extension, Tree, null, boolean, number, text, extension, array, object, NumberReader, any, number_of, extension_of, number_or_unsupported, is_unsupported, WouldDecode, IsContent, Decodes, HasContent, HasDocument, IsValidationError, Validates, IsNoNumber, Error, InvalidJsonb, UnsupportedNumber}
+use Rattle.jsonb_doc.proofs.Common.{◌≡◌, ◌≢◌, ℕ, ◌≤◌, List, [], length, ◌⊎◌, arith, Some, None, true, false, sym, ◌∙◌, ◌↔◌, Result, Ok, Err, refl, rules, IsUtf8, MatchResult, IsOk, IsErrOf, Extension, Tree, null, boolean, number, text, extension, NumberReader, any, number_of, extension_of, number_or_unsupported, is_unsupported, WouldDecode, IsContent, Decodes, HasContent, HasDocument, IsValidationError, Validates, IsNoNumber, Error, InvalidJsonb, UnsupportedNumber}
 use Rattle.jsonb_doc.specs.Number as spec
 use Rattle.jsonb_doc.proofs.Entries.{kind_below, document_lenient}
 use Rattle.jsonb_doc.proofs.ExtensionsRead.{extension_back}
@@ -7,56 +7,35 @@ use Rattle.jsonb_doc.proofs.ExtensionsRead.{extension_back}
 module _ (number_at : NumberReader) (kind : ℕ) (bytes : List ℕ) where
   pub empty_only : kind ≢ 1 → kind ≢ 2 → kind ≢ 5 → kind ≢ 6 → HasContent kind bytes number_at → bytes ≡ []
   empty_only p q r s (null, h) = h.1
-  empty_only p q r s (boolean true, h) = h.1
-  empty_only p q r s (boolean false, h) = h.1
-  empty_only p q r s (number n, h) = absurd (q h.0)
-  empty_only p q r s (text t, h) = absurd (p h.0)
-  empty_only p q r s (extension x, h) = absurd (s h.0)
-  empty_only p q r s (array ts, h) = absurd (r h.0)
-  empty_only p q r s (object ps, h) = absurd (r h.0)
+  empty_only p q r s g = grind arith
 
   -- null and Booleans have no content
   pub constant_empty : (t : Tree) → IsContent number_at t kind bytes → (kind ≡ 0) ⊎ ((kind ≡ 3) ⊎ (kind ≡ 4)) → length bytes ≡ 0
-  constant_empty t h constant =
-      ap length (elim constant [
-        | inl zero ↦ empty_only (λ e. omega arith) (λ e. omega arith) (λ e. omega arith) (λ e. omega arith) (t, h)
-        | inr (inl three) ↦ empty_only (λ e. omega arith) (λ e. omega arith) (λ e. omega arith) (λ e. omega arith) (t, h)
-        | inr (inr four) ↦ empty_only (λ e. omega arith) (λ e. omega arith) (λ e. omega arith) (λ e. omega arith) (t, h)
-      ])
+  constant_empty t h e = grind (arith, empty_only)
 
   pub null_content : (t : Tree) → kind ≡ 0 → IsContent number_at t kind bytes → t ≡ null
   null_content (boolean true) is h = absurd (omega arith)
-  null_content (boolean false) is h = absurd (omega arith)
-  null_content null is h = refl
-  null_content _ is h = absurd (omega (arith, h.0))
+  null_content t is h = grind arith
 
   pub false_content : (t : Tree) → kind ≡ 3 → IsContent number_at t kind bytes → t ≡ boolean false
   false_content (boolean true) is h = absurd (omega arith)
-  false_content (boolean false) is h = refl
-  false_content _ is h = absurd (omega (arith, h.0))
+  false_content t is h = grind arith
 
   pub true_content : (t : Tree) → kind ≡ 4 → IsContent number_at t kind bytes → t ≡ boolean true
   true_content (boolean false) is h = absurd (omega arith)
-  true_content (boolean true) is h = refl
-  true_content _ is h = absurd (omega (arith, h.0))
+  true_content t is h = grind arith
 
   pub text_content : (t : Tree) → kind ≡ 1 → IsContent number_at t kind bytes → (t ≡ text bytes) × IsUtf8 bytes
   text_content (boolean true) is h = absurd (omega arith)
-  text_content (boolean false) is h = absurd (omega arith)
-  text_content (text s) is h = (ap text (sym h.1), rw h.1 h.2)
-  text_content _ is h = absurd (omega (arith, h.0))
+  text_content t is h = grind arith
 
   pub number_content : (t : Tree) → kind ≡ 2 → IsContent number_at t kind bytes → (n : spec.Number) × (t ≡ number n) × (number_at bytes ≡ Some n)
   number_content (boolean true) is h = absurd (omega arith)
-  number_content (boolean false) is h = absurd (omega arith)
-  number_content (number n) is h = (n, refl, h.1)
-  number_content _ is h = absurd (omega (arith, h.0))
+  number_content t is h = grind arith
 
   pub extension_content : (t : Tree) → kind ≡ 6 → IsContent number_at t kind bytes → (x : Extension) × (t ≡ extension x) × (extension_of bytes ≡ Some x)
   extension_content (boolean true) is h = absurd (omega arith)
-  extension_content (boolean false) is h = absurd (omega arith)
-  extension_content (extension x) is h = (x, refl, rw h.2 (extension_back x h.1))
-  extension_content _ is h = absurd (omega (arith, h.0))
+  extension_content t is h = grind (arith, extension_back)
 
   pub text_only : kind ≡ 1 → HasContent kind bytes number_at → IsUtf8 bytes
   text_only is (t, h) = (text_content t is h).1
@@ -81,33 +60,24 @@ empty_judged kind bytes t (Err e) p q r s is fails =
 unsupported_is : (bytes : List ℕ) → is_unsupported bytes ≡ true → number_of bytes ≡ None → (n : spec.Number) × (number_or_unsupported bytes ≡ Some n)
 unsupported_is bytes holds fails = (spec.zero_number, rw (fails, holds) refl)
 
-none_is : (bytes : List ℕ) (n : spec.Number) → number_of bytes ≡ None → is_unsupported bytes ≡ false → number_or_unsupported bytes ≡ Some n → ⊥
-none_is bytes n fails unsupported some = let all : None ≡ Some n = rw (fails, unsupported) at some in cc
-
 pub number_refused : (kind : ℕ) (bytes : List ℕ) (e : Error) → kind ≡ 2 → IsNoNumber bytes e → IsValidationError (HasContent kind bytes) e
 number_refused kind bytes UnsupportedNumber is fails =
     let n = unsupported_is bytes fails.1 fails.0 in
     (λ h. let some = number_only number_of kind bytes is h in let all : None ≡ Some some.0 = sym fails.0 ∙ some.1 in cc, (number n.0, (is, n.1)))
 number_refused kind bytes InvalidJsonb is fails =
-    λ h. let some = number_only number_or_unsupported kind bytes is h in none_is bytes some.0 fails.0 fails.1 some.1
+    λ h. let some = number_only number_or_unsupported kind bytes is h in let all : None ≡ Some some.0 = rw (fails.0, fails.1) at some.1 in cc
 number_refused kind bytes _ is fails = absurd fails
 
 -- what is judged of a fact is judged of another that is as good
 pub Validates-along : {A : Type 0} (P Q : NumberReader → Type 0) → ((number_at : NumberReader) → P number_at ↔ Q number_at) → (r : Result A Error)
     → Validates P r → Validates Q r
-Validates-along P Q same (Ok x) h = (same number_of).0 h
-Validates-along P Q same (Err UnsupportedNumber) h =
-    (λ q. h.0 ((same number_of).1 q), (same number_or_unsupported).0 h.1)
-Validates-along P Q same (Err InvalidJsonb) h = λ q. h ((same number_or_unsupported).1 q)
-Validates-along P Q same (Err _) h = absurd h
+Validates-along P Q h r e = grind arith
 
 pub some_injective : {A : Type 0} {x y : A} → Some x ≡ Some y → x ≡ y
 some_injective e = cc
 
 pub number_fails : (bytes : List ℕ) (e : Error) → IsNoNumber bytes e → number_of bytes ≡ None
-number_fails bytes UnsupportedNumber fails = fails.0
-number_fails bytes InvalidJsonb fails = fails.0
-number_fails bytes _ fails = absurd fails
+number_fails bytes e h = grind arith
 
 -- what the check of a document states for each result
 pub Validates-exact : {A : Type 0} (bytes : List ℕ) (r : Result A Error) → Validates (HasDocument bytes) r

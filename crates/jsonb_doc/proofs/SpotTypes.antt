@@ -1,18 +1,16 @@
 -- The spots of an array's elements, and of an object's values, by the type of the item.
-use Rattle.jsonb_doc.proofs.Common.{◌≡◌, ℕ, List, length, ◌-◌, Some, None, Tree, array, object, elements, values, children_of, trees_in, pairs_in, any, number_reader, SameOption, IsCut, Holds, Locates, spot_content, HasSpotsLeft, kind_number, Spot, SpotIter, ArrayParts, ObjectParts, Array, Object}
+use Rattle.jsonb_doc.proofs.Common.{◌≡◌, ℕ, List, length, ◌-◌, Some, None, Tree, elements, values, children_of, trees_in, pairs_in, any, number_reader, SameOption, IsCut, Holds, Locates, spot_content, HasSpotsLeft, kind_number, Spot, SpotIter, ArrayParts, ObjectParts, Array, Object, arith}
 use Rattle.jsonb_doc.proofs.PairsLemmas.{SkipsKeys}
 use Rattle.jsonb_doc.proofs.SpotsLemmas.{array_children, object_children, array_held, object_held}
 
 -- an item without children has neither elements nor values
 pub no_elements : (bytes : List ℕ) (t : Tree) → children_of t ≡ None
     → SameOption (λ it ts. HasSpotsLeft bytes it (elements ts)) None (trees_in t)
-no_elements bytes (array ts) none = cc
-no_elements bytes _ none = tt
+no_elements bytes t h = grind arith
 
 pub no_values : (bytes : List ℕ) (t : Tree) → children_of t ≡ None
     → SameOption (λ it ps. HasSpotsLeft bytes it (elements (values ps))) None (pairs_in t)
-no_values bytes (object ps) none = cc
-no_values bytes _ none = tt
+no_values bytes t h = grind arith
 
 module _ (bytes : List ℕ) (parent : Spot) (t : Tree) (m : Locates bytes parent t) (content : List ℕ) (is : content ≡ spot_content bytes parent)
     (container : kind_number parent.kind ≡ 5) where
@@ -21,8 +19,7 @@ module _ (bytes : List ℕ) (parent : Spot) (t : Tree) (m : Locates bytes parent
     array_no_values = go t (array_held bytes parent t m content is container p cut any m.whole m.decodes)
       where
         go : (u : Tree) → Holds (number_reader any) u (Array p) → SameOption (λ it ps. HasSpotsLeft bytes it (elements (values ps))) None (pairs_in u)
-        go (array ts) held = tt
-        go _ held = absurd held
+        go u h = grind arith
 
     -- the children of an array are its elements
     pub array_elements : (it : SpotIter) → it.words.now ≡ p.words.now → it.start ≡ parent.end - length p.contents.now → it.end ≡ parent.end
@@ -33,16 +30,14 @@ module _ (bytes : List ℕ) (parent : Spot) (t : Tree) (m : Locates bytes parent
       where
         go : (u : Tree) → Holds (number_reader any) u (Array p) → SameOption (HasSpotsLeft bytes) (Some it) (children_of u)
             → SameOption (λ found ts. HasSpotsLeft bytes found (elements ts)) (Some it) (trees_in u)
-        go (array ts) held left = left
-        go _ held left = absurd held
+        go u h e = grind arith
 
   module _ (p : ObjectParts) (cut : IsCut content (Object p)) where
     pub object_no_elements : SameOption (λ it ts. HasSpotsLeft bytes it (elements ts)) None (trees_in t)
     object_no_elements = go t (object_held bytes parent t m content is container p cut any m.whole m.decodes)
       where
         go : (u : Tree) → Holds (number_reader any) u (Object p) → SameOption (λ it ts. HasSpotsLeft bytes it (elements ts)) None (trees_in u)
-        go (object ps) held = tt
-        go _ held = absurd held
+        go u h = grind arith
 
     -- the children of an object are its values
     pub object_values : (it : SpotIter) (found : List ℕ) → SkipsKeys p found → it.words.now ≡ p.value_words.now → it.start ≡ parent.end - length found
@@ -53,5 +48,4 @@ module _ (bytes : List ℕ) (parent : Spot) (t : Tree) (m : Locates bytes parent
       where
         go : (u : Tree) → Holds (number_reader any) u (Object p) → SameOption (HasSpotsLeft bytes) (Some it) (children_of u)
             → SameOption (λ it ps. HasSpotsLeft bytes it (elements (values ps))) (Some it) (pairs_in u)
-        go (object ps) held left = left
-        go _ held left = absurd held
+        go u h e = grind arith

@@ -1,5 +1,5 @@
 -- Spots of children within the content of a spot.
-use Rattle.jsonb_doc.proofs.Common.{◌≡◌, ◌≢◌, ℕ, zero, suc, ◌+◌, ◌-◌, ◌*◌, ◌/◌, ◌^◌, ◌<◌, ◌≤◌, List, [], ◌∷◌, ◌++◌, length, take, drop, refl, sym, ap, ◌∙◌, arith, inl, Some, None, Ok, append_assoc, length-append, length-take-le, drop_at, drop-take, drop-drop, take-append-drop, append-nil, take-add, between_to_end, ◌==◌, is_some, slice_range, true, false, Tree, null, boolean, number, text, extension, array, object, Trees, tree, trees_of, elements, values, keys, children_of, field_of, NumberReader, Form, any, number_reader, number_of, Decodes, header, entry_word, BeginWith, IsContent, IsDocument, AreEntries, key_bytes, SameOption, StandBefore, StartWith, IsCut, Holds, TakesSpot, Locates, spot_content, HasSpotsLeft, PassesSpot, kind_number, Spot, SpotIter, StoredEntry, ArrayParts, ObjectParts, Array, Object}
+use Rattle.jsonb_doc.proofs.Common.{◌≡◌, ◌≢◌, ℕ, zero, suc, ◌+◌, ◌-◌, ◌*◌, ◌/◌, ◌^◌, ◌<◌, ◌≤◌, List, [], ◌∷◌, ◌++◌, length, take, drop, refl, sym, ap, ◌∙◌, arith, inl, Some, None, Ok, append_assoc, length-append, length-take-le, drop_at, drop-take, drop-drop, take-append-drop, append-nil, take-add, between_to_end, ◌==◌, is_some, slice_range, Tree, array, object, Trees, tree, trees_of, elements, values, keys, children_of, field_of, NumberReader, Form, any, number_reader, number_of, Decodes, header, entry_word, BeginWith, IsContent, IsDocument, AreEntries, key_bytes, SameOption, StandBefore, StartWith, IsCut, Holds, TakesSpot, Locates, spot_content, HasSpotsLeft, PassesSpot, kind_number, Spot, SpotIter, StoredEntry, ArrayParts, ObjectParts, Array, Object, common_steps, Scalar}
 use Rattle.std.proofs.lemmas.List.{length-drop}
 use Rattle.jsonb_doc.proofs.KindLemmas.{kind_known}
 use Rattle.jsonb_doc.proofs.WordLemmas.{append_cancel, word_cancel}
@@ -7,7 +7,6 @@ use Rattle.jsonb_doc.proofs.Entries.{BeginWith-long, BeginWith-room, BeginWith-u
 use Rattle.jsonb_doc.proofs.LengthsLemmas.{StandBefore-joined}
 use Rattle.jsonb_doc.proofs.Containers.{IsCut-same, IsCut-scalar, entries_of}
 use Rattle.jsonb_doc.proofs.PairsLemmas.{SkipsKeys, HoldsPairs-values, Holds-skipped}
-use Rattle.jsonb_doc.specs.declared.container.Container.TheVariants.{Scalar}
 use Rattle.jsonb_doc.proofs.CanonicalLemmas.{in_any}
 use Rattle.jsonb_doc.proofs.OneTree.{document_unique}
 use Rattle.jsonb_doc.proofs.TreeLists.{trees_of-elements}
@@ -36,27 +35,19 @@ range_part bytes s e a b front part back ordered within joined ends begins =
     let long : length (take (length part) (drop a bytes))
     ≡ length part = length-take-le (length part) (drop a bytes) (omega (arith, length-drop a bytes, whole, sum, both)) in
     let cut = append_cancel part back (take (length part) (drop a bytes)) (take (length back) (drop (length part) (drop a bytes))) (sym long) split in
-    let wide : b - a ≡ length part = omega (arith, whole, sum, both) in
-    (omega arith, omega arith, ap (λ (n : ℕ). take n (drop a bytes)) wide ∙ sym cut.0)
+    (omega arith, omega arith, ap (λ (n : ℕ). take n (drop a bytes)) (omega (arith, whole, sum, both)) ∙ sym cut.0)
 
 -- the prefix and the rest of a range
 pub range_front : (bytes : List ℕ) (s e n : ℕ) → s + n ≤ e → e ≤ length bytes → slice_range bytes s (s + n) ≡ take n (slice_range bytes s e)
-range_front bytes s e n fits within =
-    let whole = length_range bytes s e (omega arith) within in
-    let len = length-take-le n (slice_range bytes s e) (omega (arith, whole)) in
-    let rest = length-drop n (slice_range bytes s e) in
-    (range_part bytes s e s (s + n) [] (take n (slice_range bytes s e)) (drop n (slice_range bytes s e)) (omega arith) within
-    (sym (take-append-drop n (slice_range bytes s e))) (omega (arith, whole, rest)) (omega (arith, len))).2
+range_front bytes s e n h k = grind (arith, common_steps, length_range, length-take-le, length-drop, range_part, take-append-drop)
 
 pub range_rest : (bytes : List ℕ) (s e n : ℕ) → s + n ≤ e → e ≤ length bytes → slice_range bytes (s + n) e ≡ drop n (slice_range bytes s e)
 range_rest bytes s e n fits within =
-    let whole = length_range bytes s e (omega arith) within in
-    let rest = length-drop n (slice_range bytes s e) in
     let joined : slice_range bytes s e
     ≡ take n (slice_range bytes s e) ++ (drop n (slice_range bytes s e) ++ []) = sym (take-append-drop n (slice_range bytes s e))
     ∙ ap (λ (w : List ℕ). take n (slice_range bytes s e) ++ w) (sym (append-nil (drop n (slice_range bytes s e)))) in
     (range_part bytes s e (s + n) e (take n (slice_range bytes s e)) (drop n (slice_range bytes s e)) [] (omega arith) within joined (omega arith)
-    (omega (arith, whole, rest))).2
+    (omega (arith, length_range bytes s e (omega arith) within, length-drop n (slice_range bytes s e)))).2
 
 -- the end of a range
 pub range_end : (bytes : List ℕ) (s e : ℕ) (front back : List ℕ) → s ≤ e → e ≤ length bytes → slice_range bytes s e ≡ front ++ back
@@ -71,25 +62,13 @@ range_end bytes s e front back ordered within joined =
 -- the first entry, by its word, if the contents are long enough
 pub StartWith-begin : (words contents others : List ℕ) (kind len : ℕ) → StartWith words kind len others → len ≤ length contents
     → BeginWith words contents kind (take len contents) others (drop len contents)
-StartWith-begin words contents others kind len w fits =
-    let same = length-take-le len contents fits in
-    record {
-      known = w.known;
-      fits = rw same w.fits;
-      words_joined = w.joined ∙ ap (λ (n : ℕ). entry_word kind n ++ others) (sym same);
-      contents_joined = sym (take-append-drop len contents);
-    }
+StartWith-begin words contents others kind len h e = grind (arith, length-take-le, take-append-drop)
 
 -- the word of the first entry determines how long it is
 pub StartWith-length : (words contents others : List ℕ) (kind len : ℕ) (k : ℕ) (content ws cs : List ℕ) → StartWith words kind len others
     → BeginWith words contents k content ws cs → len ≤ length contents
 StartWith-length words contents others kind len k content ws cs w b =
-    let known = w.known in
-    let fits = w.fits in
-    let known' = b.known in
-    let fits' = b.fits in
-    let both = word_cancel (kind * 2 ^ 28 + len) (k * 2 ^ 28 + length content) others ws (omega arith) (omega arith) (sym w.joined ∙ b.words_joined) in
-    omega (arith, both.0, BeginWith-room words contents k content ws cs b)
+    search (arith, w.known, w.fits, b.known, b.fits, BeginWith-room words contents k content ws cs b)
 
 first_part : (number_at : NumberReader) (t : Tree) (ts : Trees) (words contents : List ℕ) (kind : ℕ) (content ws cs : List ℕ)
     → BeginWith words contents kind content ws cs → AreEntries number_at (tree t ts) words contents
@@ -121,8 +100,7 @@ module _ (bytes : List ℕ) (it : SpotIter) where
     HasSpotsLeft-fits (t ∷ ts) h =
         let e = h.entries any h.whole h.decodes in
         let fits = StartWith-length _ _ others kind len e.kind e.content e.other_words e.other_contents w e.begin in
-        let ordered = h.ordered in
-        omega (arith, fits, length_range bytes it.start it.end h.ordered h.within)
+        omega (arith, h.ordered, fits, length_range bytes it.start it.end h.ordered h.within)
 
     -- the first spot is that of the first tree, and the others are left
     pub HasSpotsLeft-first : (ts : List Tree) (spot : Spot) (after : SpotIter) → kind_number spot.kind ≡ kind → spot.start ≡ it.start → spot.end ≡ it.start
@@ -132,9 +110,8 @@ module _ (bytes : List ℕ) (it : SpotIter) where
     HasSpotsLeft-first (t ∷ ts) spot after k s e words start end h =
         let within = h.within in
         let fits = HasSpotsLeft-fits (t ∷ ts) h in
-        let long : len ≤ length (slice_range bytes it.start it.end) = omega (arith, fits, length_range bytes it.start it.end h.ordered h.within) in
         let first = λ (form : Form) (top : Tree) (d : Decodes form bytes top). first_part (number_reader form) t (trees_of ts) _ _ kind _ _ _
-        (StartWith-begin _ _ others kind len w long) (h.entries form top d) in (
+        (StartWith-begin _ _ others kind len w (omega (arith, fits, length_range bytes it.start it.end h.ordered h.within))) (h.entries form top d) in (
           record {
             whole = h.whole;
             decodes = h.decodes;
@@ -176,30 +153,19 @@ entries_behind number_at (suc n) (t ∷ ts) words contents few e =
     record {
       parts = e.content ∷ more.parts;
       rest = more.rest;
-      before = record {
-        kind = e.kind;
-        content = e.content;
-        other_words = take (4 * n) e.other_words;
-        other_contents = e.other_contents;
-        begin = record { known = b.known; fits = b.fits; words_joined = taken; contents_joined = b.contents_joined };
-        part = refl;
-        others = more.before;
-      };
+      before = grind arith;
       behind = rw dropped more.behind;
     }
 
 words_counted : (number_at : NumberReader) (ts : List Tree) (words contents : List ℕ) → AreEntries number_at (trees_of ts) words contents
     → length words ≡ 4 * length ts
 words_counted number_at [] words contents e = omega (arith, ap length e.0)
-words_counted number_at (t ∷ ts) words contents e =
-    omega (arith, ap length e.begin.words_joined, words_counted number_at ts e.other_words e.other_contents e.others)
+words_counted number_at (t ∷ ts) words contents e = search (arith, words_counted number_at ts e.other_words e.other_contents e.others)
 
 -- what follows contents that are passed over
 rest_behind : (parts : List (List ℕ)) (words contents rest : List ℕ) (len : ℕ) → StandBefore parts words contents rest → len + length rest ≡ length contents
     → drop len contents ≡ rest
-rest_behind parts words contents rest len before sum =
-    let (front, joined) = StandBefore-joined parts words contents rest before in
-    ap (drop len) joined ∙ drop_at front rest len (omega (arith, ap length joined, length-append front rest, sum))
+rest_behind parts words contents rest len h e = grind (arith, StandBefore-joined, drop_at, length-append)
 
 module _ (bytes : List ℕ) (it : SpotIter) (ts : List Tree) (h : HasSpotsLeft bytes it ts) where
   pub spots_counted : length it.words.now ≡ 4 * length ts
@@ -218,37 +184,18 @@ module _ (bytes : List ℕ) (it : SpotIter) (ts : List Tree) (h : HasSpotsLeft b
     -- the contents that are passed over are within the container
     pub HasSpotsLeft-passed : it.start + len ≤ it.end
     HasSpotsLeft-passed =
-        let e = found any h.whole h.decodes in
-        let total = sum e.parts _ e.rest e.before in
-        let ordered = h.ordered in
-        omega (arith, total, length_range bytes it.start it.end h.ordered h.within)
+        let more = (sum (found any h.whole h.decodes).parts _ (found any h.whole h.decodes).rest (found any h.whole h.decodes).before) in
+        let step = sum (found any h.whole h.decodes).parts _ (found any h.whole h.decodes).rest (found any h.whole h.decodes).before in
+        search (arith, found any h.whole h.decodes, step, h.ordered, more, length_range bytes it.start it.end h.ordered h.within)
 
     pub HasSpotsLeft-behind : (after : SpotIter) → after.words.now ≡ drop (4 * count) it.words.now → after.start ≡ it.start + len → after.end ≡ it.end
         → HasSpotsLeft bytes after (drop count ts)
-    HasSpotsLeft-behind after words start end =
-        let within = h.within in
-        let fits = HasSpotsLeft-passed in
-        record {
-          whole = h.whole;
-          decodes = h.decodes;
-          few = omega (arith, h.few, length-drop count ts);
-          ordered = omega (arith, fits, start, end);
-          within = omega (arith, within, end);
-          entries = λ form top d.
-              let e = found form top d in
-              let rest = rest_behind e.parts _ _ e.rest len e.before (sum e.parts _ e.rest e.before) in
-              rw (words, start, end, range_rest bytes it.start it.end len fits h.within, rest) e.behind;
-        }
+    HasSpotsLeft-behind after words start end = grind (arith, HasSpotsLeft-passed, length-drop, found, rest_behind, range_rest)
 
 -- the content of the first word is that of the first spot, if there is one
 pub PassesSpot-fits : (it : SpotIter) (kind len : ℕ) (others : List ℕ) → StartWith it.words.now kind len others → (spot : Spot) (rest : SpotIter)
     → PassesSpot it spot rest → it.start + len ≤ it.end
-PassesSpot-fits it kind len others w spot rest p =
-    let known = kind_known spot.kind in
-    let same = word_cancel (kind * 2 ^ 28 + len) (kind_number spot.kind * 2 ^ 28 + (spot.end - spot.start)) others rest.words.now
-    (omega (arith, w.known, w.fits))
-    (omega (arith, known, p.fits)) (sym w.joined ∙ p.word) in
-    omega (arith, same.0, w.known, w.fits, known, p.fits, p.front, p.ordered, p.within)
+PassesSpot-fits it kind len others h spot rest e = grind (arith, kind_known, word_cancel)
 
 -- ---- spots
 
@@ -265,8 +212,7 @@ Locates-root bytes spot t kind front content back joined k e s h part =
       ordered = found.0;
       within = found.1;
       content = λ form top d.
-          let same : top ≡ t = document_unique number_of top t bytes (in_any form top bytes d).document h.document in
-          rw (k, found.2, ← same) (part form top d);
+          rw (k, found.2, ← (document_unique number_of top t bytes (in_any form top bytes d).document h.document)) (part form top d);
     }
 
 module _ (bytes : List ℕ) (parent : Spot) (t : Tree) (m : Locates bytes parent t) where
@@ -275,13 +221,12 @@ module _ (bytes : List ℕ) (parent : Spot) (t : Tree) (m : Locates bytes parent
       → kind_number spot.kind ≡ kind → spot.end ≡ parent.end - length back → spot.start ≡ spot.end - length content
       → ((form : Form) (top : Tree) → Decodes form bytes top → IsContent (number_reader form) u kind content) → Locates bytes spot u
   Locates-part spot u kind front content back joined k e s part =
-      let within = m.within in
       let found = range_part bytes parent.start parent.end spot.start spot.end front content back m.ordered m.within joined e s in
       record {
         whole = m.whole;
         decodes = m.decodes;
         ordered = found.0;
-        within = omega (arith, found.1);
+        within = omega (arith, m.within, found.1);
         content = λ form top d. rw (k, found.2) (part form top d);
       }
 
@@ -291,17 +236,8 @@ module _ (bytes : List ℕ) (parent : Spot) (t : Tree) (m : Locates bytes parent
       → length it.words.now < 2 ^ 31
       → ((form : Form) (top : Tree) → Decodes form bytes top → AreEntries (number_reader form) ts it.words.now contents) → HasSpotsLeft bytes it (elements ts)
   HasSpotsLeft-part it ts front contents joined s e short entries =
-      let found = range_end bytes parent.start parent.end front contents m.ordered m.within joined in
-      let within = m.within in
-      let counted = words_counted (number_reader any) (elements ts) it.words.now contents (rw (trees_of-elements ts) (entries any m.whole m.decodes)) in
-      record {
-        whole = m.whole;
-        decodes = m.decodes;
-        few = omega (arith, counted, short);
-        ordered = rw (s, e) found.0;
-        within = omega arith;
-        entries = λ form top d. rw (trees_of-elements ts, s, e, found.1) (entries form top d);
-      }
+      let more = words_counted (number_reader any) (elements ts) it.words.now contents (rw (trees_of-elements ts) (entries any m.whole m.decodes)) in
+      search (arith, range_end bytes parent.start parent.end front contents m.ordered m.within joined, m.within, more, trees_of-elements)
 
   -- a scalar has no children and no fields
   pub Locates-scalar : kind_number parent.kind ≢ 5 → (children_of t ≡ None) × ((name : List ℕ) → field_of name t ≡ None)
@@ -309,23 +245,14 @@ module _ (bytes : List ℕ) (parent : Spot) (t : Tree) (m : Locates bytes parent
     where
       go : (u : Tree) → IsContent number_of u (kind_number parent.kind) (spot_content bytes parent)
           → (children_of u ≡ None) × ((name : List ℕ) → field_of name u ≡ None)
-      go (array ts) h = absurd (scalar h.0)
-      go (object ps) h = absurd (scalar h.0)
-      go _ h = (refl, λ name. refl)
+      go u h = grind arith
 
 -- an item is a container if it has children
 pub Locates-has_children : (bytes : List ℕ) (spot : Spot) (t : Tree) → Locates bytes spot t → (kind_number spot.kind == 5) ≡ is_some (children_of t)
 Locates-has_children bytes spot t m = go t (m.content any m.whole m.decodes)
   where
     go : (u : Tree) → IsContent number_of u (kind_number spot.kind) (spot_content bytes spot) → (kind_number spot.kind == 5) ≡ is_some (children_of u)
-    go null h = ap (λ k. k == 5) h.0
-    go (boolean false) h = ap (λ k. k == 5) h.0
-    go (boolean true) h = ap (λ k. k == 5) h.0
-    go (number n) h = ap (λ k. k == 5) h.0
-    go (text s) h = ap (λ k. k == 5) h.0
-    go (extension x) h = ap (λ k. k == 5) h.0
-    go (array ts) h = ap (λ k. k == 5) h.0
-    go (object ps) h = ap (λ k. k == 5) h.0
+    go u h = grind arith
 
 pub no_children : (bytes : List ℕ) (t : Tree) → children_of t ≡ None → SameOption (HasSpotsLeft bytes) None (children_of t)
 no_children bytes t none = rw none tt
@@ -378,8 +305,7 @@ module _ (bytes : List ℕ) (parent : Spot) (t : Tree) (m : Locates bytes parent
     array_no_field name = go t (array_held any m.whole m.decodes)
       where
         go : (u : Tree) → Holds (number_reader any) u (Array p) → SameOption (Locates bytes) None (field_of name u)
-        go (array ts) held = tt
-        go _ held = absurd held
+        go u h = grind arith
 
   module _ (p : ObjectParts) (cut : IsCut content (Object p)) where
     pub object_held : (form : Form) (top : Tree) → Decodes form bytes top → Holds (number_reader form) t (Object p)

@@ -1,5 +1,5 @@
 -- What a caller knows of the spots that it was given.
-use Rattle.jsonb_doc.proofs.Common.{◌≡◌, ℕ, List, [], ◌∷◌, Option, Some, None, Result, Ok, Err, refl, Tree, Form, any, Decodes, SameOption, TakesSpot, Locates, HasSpotsLeft, Spot, SpotIter, Error}
+use Rattle.jsonb_doc.proofs.Common.{◌≡◌, ℕ, List, [], ◌∷◌, Option, Some, None, Result, Ok, Err, Tree, Form, any, Decodes, SameOption, TakesSpot, Locates, HasSpotsLeft, Spot, SpotIter, Error, arith}
 use Rattle.jsonb_doc.proofs.CanonicalLemmas.{in_any}
 
 -- bytes of either form decode, as `root_spot` needs
@@ -16,36 +16,24 @@ pub record TakenSpot (bytes : List ℕ) (ts : List Tree) (spot : Spot) (after : 
 
 pub taken_spot : (bytes : List ℕ) (ts : List Tree) (r : Result Spot Error) (spot : Spot) (after : SpotIter) → r ≡ Ok spot → TakesSpot bytes ts (Some r) after
     → TakenSpot bytes ts spot after
-taken_spot bytes ts r spot after is h = go ts (rw is at h)
-  where
-    go : (us : List Tree) → TakesSpot bytes us (Some (Ok spot)) after → TakenSpot bytes us spot after
-    go [] k = absurd k
-    go (t ∷ us) k = record { first = t; others = us; whole = refl; marks = k.0; left = k.1 }
+taken_spot bytes ts r spot after h e = grind arith
 
 -- an iterator of bytes that decode never fails
 pub no_refusal : (bytes : List ℕ) (ts : List Tree) (r : Result Spot Error) (e : Error) (after : SpotIter) → r ≡ Err e → TakesSpot bytes ts (Some r) after → ⊥
-no_refusal bytes ts r e after is h = go ts (rw is at h)
-  where
-    go : (us : List Tree) → TakesSpot bytes us (Some (Err e)) after → ⊥
-    go [] k = k
-    go (t ∷ us) k = k
+no_refusal bytes ts r e after h k = grind arith
 
 -- no tree is left at the end
 pub no_spots_left : (bytes : List ℕ) (ts : List Tree) (after : SpotIter) → TakesSpot bytes ts None after → ts ≡ []
-no_spots_left bytes [] after h = refl
-no_spots_left bytes (t ∷ ts) after h = absurd h
+no_spots_left bytes ts after h = grind arith
 
 -- a container has an iterator over its children
 pub some_spots : (bytes : List ℕ) (it : SpotIter) (found : Option (List Tree)) → SameOption (HasSpotsLeft bytes) (Some it) found
     → (ts : List Tree) × (found ≡ Some ts) × HasSpotsLeft bytes it ts
-some_spots bytes it (Some ts) h = (ts, refl, h)
-some_spots bytes it None h = absurd h
+some_spots bytes it found h = grind arith
 
 -- an item without an iterator has no children
 pub no_spots : (bytes : List ℕ) (found : Option (List Tree)) → SameOption (HasSpotsLeft bytes) None found → found ≡ None
-no_spots bytes (Some ts) h = absurd h
-no_spots bytes None h = refl
+no_spots bytes found h = grind arith
 
 pub no_spot : (bytes : List ℕ) (found : Option Tree) → SameOption (Locates bytes) None found → found ≡ None
-no_spot bytes (Some t) h = absurd h
-no_spot bytes None h = refl
+no_spot bytes found h = grind arith

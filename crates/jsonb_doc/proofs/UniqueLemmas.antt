@@ -1,5 +1,5 @@
 -- Sorted members without duplicate keys are those that are inserted one after the other.
-use Rattle.jsonb_doc.proofs.Common.{◌≡◌, ℕ, suc, ◌+◌, ◌≤◌, List, [], ◌∷◌, length, map, refl, sym, ap, subst, ◌∙◌, arith, Bool, true, false, cond, Some, None, Option, Ordering, Less, Equal, Greater, nat_cmp, ◌<◌, filter, unwrap_or, Result, Ok, Err, OnOk, slice_index_or, if◌then◌else◌, not, ◌&&◌, ⊤, AllByRecursion, IsSortedBy, IsStableBy, IsStrictlySortedBy, ties, keys_of, lookup, is_at, is_lt, is_eq, match_ordering, ordering_reverse, slice_cmp, bytes_eq, nat_list_cmp_total, nil_from_length, is_eq-slice_cmp, bytes_eq-Decides, has_key, insert_pair, insert_all, AreSortedKeys, has_lower_key, unique, as_pair, is_below_first, Part, Nested, Member}
+use Rattle.jsonb_doc.proofs.Common.{◌≡◌, ℕ, suc, ◌≤◌, List, [], ◌∷◌, length, map, refl, sym, ap, subst, ◌∙◌, arith, Bool, true, false, cond, Some, None, Option, Ordering, Less, Equal, Greater, nat_cmp, ◌<◌, filter, unwrap_or, Result, OnOk, if◌then◌else◌, not, ◌&&◌, ⊤, AllByRecursion, IsSortedBy, IsStableBy, IsStrictlySortedBy, ties, keys_of, lookup, is_at, is_lt, is_eq, ordering_reverse, slice_cmp, nat_list_cmp_total, nil_from_length, is_eq-slice_cmp, bytes_eq-Decides, has_key, insert_pair, insert_all, AreSortedKeys, has_lower_key, unique, as_pair, is_below_first, Part, Nested, Member, common_steps}
 use Rattle.jsonb_doc.specs.declared.layout.HeaderKind.TheVariants.{Array}
 
 abbrev cmp : List ℕ → List ℕ → Ordering
@@ -14,21 +14,11 @@ turned : (a b : List ℕ) (o : Ordering) → cmp a b ≡ o → cmp b a ≡ order
 turned a b o e = nat_list_cmp_total.antisymm b a ∙ ap ordering_reverse e
 
 self_equal : (a : List ℕ) → cmp a a ≡ Equal
-self_equal a = go (cmp a a) refl
-  where
-    go : (o : Ordering) → cmp a a ≡ o → cmp a a ≡ Equal
-    go Less e = let bad : Less ≡ Greater = sym e ∙ turned a a Less e in absurd (cc)
-    go Equal e = e
-    go Greater e = let bad : Greater ≡ Less = sym e ∙ turned a a Greater e in absurd (cc)
+self_equal a = grind (arith, common_steps, turned)
 
 -- both sides of a test by the order of two keys
 same_test : (a b : List ℕ) → is_eq (cmp a b) ≡ is_eq (cmp b a)
-same_test a b = go (cmp a b) refl
-  where
-    go : (o : Ordering) → cmp a b ≡ o → is_eq (cmp a b) ≡ is_eq (cmp b a)
-    go Less e = rw (e, turned a b Less e) refl
-    go Equal e = rw (e, turned a b Equal e) refl
-    go Greater e = rw (e, turned a b Greater e) refl
+same_test a b = grind (arith, common_steps, turned)
 
 pub none_rise : IsStrictlySortedBy cmp []
 unfolding IsStrictlySortedBy
@@ -41,30 +31,18 @@ module _ {A : Type 0} where
   found ps q = lookup (is_at (cmp q)) ps
 
   twice : (b : Bool) (x y z : Option A) → cond b x z ≡ cond b x (cond b y z)
-  twice true x y z = refl
-  twice false x y z = refl
+  twice b x y z = grind arith
 
   apart : (key : List ℕ) (x : A) (p : List ℕ × A) (ps : List (List ℕ × A)) (q : List ℕ) → cmp key p.0 ≡ Greater → (a b : Ordering) → cmp q p.0 ≡ a → cmp q key ≡ b
       → cond (is_eq a) (Some p.1) (cond (is_eq b) (Some x) (found ps q)) ≡ cond (is_eq b) (Some x) (cond (is_eq a) (Some p.1) (found ps q))
-  apart key x p ps q e Equal Equal f g =
-      let bad : Greater ≡ Equal = sym e ∙ ap (cmp key) (sym (equal_key q p.0 f) ∙ equal_key q key g) ∙ self_equal key in absurd (cc)
-  apart key x p ps q e Equal Less f g = refl
-  apart key x p ps q e Equal Greater f g = refl
-  apart key x p ps q e Less b f g = refl
-  apart key x p ps q e Greater b f g = refl
+  apart key x p ps q e Equal Equal f g = cc (e, ap (cmp key) (sym (equal_key q p.0 f) ∙ equal_key q key g), self_equal key)
+  apart key x p ps q e a b f g = grind arith
 
   -- of a pair that is inserted
   found_inserted : (key : List ℕ) (x : A) (ps : List (List ℕ × A)) (q : List ℕ)
       → found (insert_pair key x ps) q ≡ cond (is_eq (cmp q key)) (Some x) (found ps q)
   found_inserted key x [] q = refl
-  found_inserted key x (p ∷ ps) q = go (cmp key p.0) refl (found_inserted key x ps q)
-    where
-      go : (o : Ordering) → cmp key p.0 ≡ o → found (insert_pair key x ps) q ≡ cond (is_eq (cmp q key)) (Some x) (found ps q)
-          → found (match_ordering o ((key, x) ∷ p ∷ ps) ((p.0, x) ∷ ps) (p ∷ insert_pair key x ps)) q
-          ≡ cond (is_eq (cmp q key)) (Some x) (cond (is_eq (cmp q p.0)) (Some p.1) (found ps q))
-      go Less e rest = refl
-      go Equal e rest = rw (equal_key key p.0 e) (twice (is_eq (cmp q p.0)) (Some x) (Some p.1) (found ps q))
-      go Greater e rest = rw rest (apart key x p ps q e (cmp q p.0) (cmp q key) refl refl)
+  found_inserted key x (p ∷ ps) q = grind (arith, found_inserted key x ps q, equal_key, twice, apart)
 
   -- The value that is inserted last at a key, or `o`.
   abbrev last_at : List ℕ → Option A → List (List ℕ × A) → Option A
@@ -73,8 +51,7 @@ module _ {A : Type 0} where
 
   found_all : (ps qs : List (List ℕ × A)) (q : List ℕ) → found (insert_all ps qs) q ≡ last_at q (found ps q) qs
   found_all ps [] q = refl
-  found_all ps (p ∷ qs) q =
-      found_all (insert_pair p.0 p.1 ps) qs q ∙ ap (λ (o : Option A). last_at q o qs) (found_inserted p.0 p.1 ps q)
+  found_all ps (p ∷ qs) q = grind (arith, found_all (insert_pair p.0 p.1 ps) qs q, found_inserted)
 
   -- ---- pairs in order
 
@@ -86,13 +63,7 @@ module _ {A : Type 0} where
 
   above_inserted : (low key : List ℕ) (x : A) (ps : List (List ℕ × A)) → cmp low key ≡ Less → AllAbove low ps → AllAbove low (insert_pair key x ps)
   above_inserted low key x [] less all = (less, tt)
-  above_inserted low key x (p ∷ ps) less all = go (cmp key p.0) (above_inserted low key x ps less all.1)
-    where
-      go : (o : Ordering) → AllAbove low (insert_pair key x ps)
-          → AllAbove low (match_ordering o ((key, x) ∷ p ∷ ps) ((p.0, x) ∷ ps) (p ∷ insert_pair key x ps))
-      go Less rest = (less, all)
-      go Equal rest = all
-      go Greater rest = (all.0, rest)
+  above_inserted low key x (p ∷ ps) less all = grind (arith, above_inserted low key x ps less all.1)
 
   above_less : (low key : List ℕ) (ps : List (List ℕ × A)) → cmp low key ≡ Less → AllAbove key ps → AllAbove low ps
   above_less low key [] less all = tt
@@ -101,13 +72,7 @@ module _ {A : Type 0} where
   pub rise_inserted : (key : List ℕ) (x : A) (ps : List (List ℕ × A)) → Rise ps → Rise (insert_pair key x ps)
   unfolding IsStrictlySortedBy
   rise_inserted key x [] rise = (tt, tt)
-  rise_inserted key x (p ∷ ps) rise = go (cmp key p.0) refl (rise_inserted key x ps rise.1)
-    where
-      go : (o : Ordering) → cmp key p.0 ≡ o → Rise (insert_pair key x ps)
-          → Rise (match_ordering o ((key, x) ∷ p ∷ ps) ((p.0, x) ∷ ps) (p ∷ insert_pair key x ps))
-      go Less e rest = ((e, above_less key p.0 ps e rise.0), rise)
-      go Equal e rest = rise
-      go Greater e rest = (above_inserted p.0 key x ps (turned key p.0 Greater e) rise.0, rest)
+  rise_inserted key x (p ∷ ps) rise = grind (arith, rise_inserted key x ps rise.1, above_less, above_inserted, turned)
 
   rise_all : (ps qs : List (List ℕ × A)) → Rise ps → Rise (insert_all ps qs)
   rise_all ps [] rise = rise
@@ -121,10 +86,7 @@ module _ {A : Type 0} where
   lone : (p : List ℕ × A) (ps : List (List ℕ × A)) (q : List ℕ × A) (qs : List (List ℕ × A)) → Rise (q ∷ qs)
       → ((k : List ℕ) → found (p ∷ ps) k ≡ found (q ∷ qs) k) → cmp p.0 q.0 ≡ Less → ⊥
   unfolding IsStrictlySortedBy
-  lone p ps q qs s same e =
-      let here : found (p ∷ ps) p.0 ≡ Some p.1 = rw (self_equal p.0) refl in
-      let none = none_above p.0 (q ∷ qs) (e, above_less p.0 q.0 qs e s.0) in
-      let bad : Some p.1 ≡ None = sym here ∙ same p.0 ∙ none in absurd (cc)
+  lone p ps q qs h e k = grind (arith, self_equal, none_above, above_less)
 
   tails : (p : List ℕ × A) (ps : List (List ℕ × A)) (q : List ℕ × A) (qs : List (List ℕ × A)) → Rise (p ∷ ps) → Rise (q ∷ qs)
       → ((k : List ℕ) → found (p ∷ ps) k ≡ found (q ∷ qs) k) → p.0 ≡ q.0 → (k : List ℕ) → found ps k ≡ found qs k
@@ -136,22 +98,13 @@ module _ {A : Type 0} where
           let is = equal_key k p.0 f in
           subst (λ (key : List ℕ). found ps key ≡ None) (sym is) (none_above p.0 ps r.0)
           ∙ sym (subst (λ (key : List ℕ). found qs key ≡ None) (sym (is ∙ e)) (none_above q.0 qs s.0))
-      go Less f =
-          let g : cmp k q.0 ≡ Less = ap (cmp k) (sym e) ∙ f in
-          rw (f, g) at (same k)
-      go Greater f =
-          let g : cmp k q.0 ≡ Greater = ap (cmp k) (sym e) ∙ f in
-          rw (f, g) at (same k)
+      go _ f = grind arith
 
   same_pairs : (ps qs : List (List ℕ × A)) → Rise ps → Rise qs → ((k : List ℕ) → found ps k ≡ found qs k) → ps ≡ qs
   unfolding IsStrictlySortedBy
   same_pairs [] [] r s same = refl
-  same_pairs [] (q ∷ qs) r s same =
-      let here : found (q ∷ qs) q.0 ≡ Some q.1 = rw (self_equal q.0) refl in
-      let bad : None ≡ Some q.1 = same q.0 ∙ here in absurd (cc)
-  same_pairs (p ∷ ps) [] r s same =
-      let here : found (p ∷ ps) p.0 ≡ Some p.1 = rw (self_equal p.0) refl in
-      let bad : Some p.1 ≡ None = sym here ∙ same p.0 in absurd (cc)
+  same_pairs [] (q ∷ qs) r s same = grind (arith, same q.0, self_equal)
+  same_pairs (p ∷ ps) [] r s same = grind (arith, same p.0, self_equal)
   same_pairs (p ∷ ps) (q ∷ qs) r s same = go (cmp p.0 q.0) refl (same_pairs ps qs r.1 s.1)
     where
       go : (o : Ordering) → cmp p.0 q.0 ≡ o → (((k : List ℕ) → found ps k ≡ found qs k) → ps ≡ qs) → p ∷ ps ≡ q ∷ qs
@@ -170,29 +123,14 @@ module _ {A : Type 0} where
 
   has_none : (key : List ℕ) (ps : List (List ℕ × A)) → AllAbove key ps → has_key key ps ≡ false
   has_none key [] all = refl
-  has_none key (p ∷ ps) all =
-      let other : bytes_eq key p.0 ≡ false = sym (is_eq-slice_cmp key p.0) ∙ ap is_eq all.0 in
-      rw other (has_none key ps all.1)
+  has_none key (p ∷ ps) all = search (arith, is_eq-slice_cmp key p.0, ap is_eq all.0, sym (is_eq-slice_cmp key p.0) ∙ ap is_eq all.0, has_none key ps all.1)
 
   -- a pair that is inserted is one more only if its key is new
   pub one_more : (key : List ℕ) (x : A) (ps : List (List ℕ × A)) → Rise ps → (length (insert_pair key x ps) ≤ suc (length ps))
       × (suc (length ps) ≤ length (insert_pair key x ps) → has_key key ps ≡ false)
   unfolding IsStrictlySortedBy
   one_more key x [] rise = (omega arith, λ le. refl)
-  one_more key x (p ∷ ps) rise = go (cmp key p.0) refl (one_more key x ps rise.1)
-    where
-      go : (o : Ordering) → cmp key p.0 ≡ o
-          → (length (insert_pair key x ps) ≤ suc (length ps)) × (suc (length ps) ≤ length (insert_pair key x ps) → has_key key ps ≡ false)
-          → (length (match_ordering o ((key, x) ∷ p ∷ ps) ((p.0, x) ∷ ps) (p ∷ insert_pair key x ps)) ≤ suc (suc (length ps)))
-          × (suc (suc (length ps)) ≤ length (match_ordering o ((key, x) ∷ p ∷ ps) ((p.0, x) ∷ ps) (p ∷ insert_pair key x ps)) → has_key key (p ∷ ps) ≡ false)
-      go Less e rest = (omega arith, λ le. has_none key (p ∷ ps) (e, above_less key p.0 ps e rise.0))
-      go Equal e rest = (omega arith, λ le. absurd (omega (arith, le)))
-      go Greater e rest = (
-        omega (arith, rest.0),
-        λ le.
-            let other : bytes_eq key p.0 ≡ false = sym (is_eq-slice_cmp key p.0) ∙ ap is_eq e in
-            rw other (rest.1 (omega (arith, le))),
-      )
+  one_more key x (p ∷ ps) rise = grind (arith, one_more key x ps rise.1, has_none key (p ∷ ps), above_less key p.0 ps, is_eq-slice_cmp key p.0)
 
   -- keys of sorted pairs are in order
   pub sorted_keys : (ps : List (List ℕ × A)) → Rise ps → AreSortedKeys (keys_of ps)
@@ -210,13 +148,7 @@ Ascend m (n ∷ ms) = (has_lower_key n m ≡ false) × Ascend n ms
 
 ascend : (m : Member) (ms : List Member) → IsSortedBy has_lower_key (m ∷ ms) → Ascend m ms
 ascend m [] s = tt
-ascend m (n ∷ ms) s = (
-  s 0 m (omega arith) (omega arith),
-  ascend n ms (λ k d low high.
-      let next : suc k + 1 ≡ suc (k + 1) = omega arith in
-      subst (λ (i : ℕ). has_lower_key (slice_index_or (m ∷ n ∷ ms) i d) (slice_index_or (n ∷ ms) k d) ≡ false) next
-      (s (suc k) d (omega arith) (omega (arith, high)))),
-)
+ascend m (n ∷ ms) s = (s 0 m (omega arith) (omega arith), ascend n ms (λ k d low high. grind (arith, s (suc k) d)))
 
 below_next : (key : List ℕ) (m n : Member) → cmp key m.key.now ≡ Less → has_lower_key n m ≡ false → cmp key n.key.now ≡ Less
 below_next key m n less not_lower = go (cmp n.key.now m.key.now) refl not_lower
@@ -226,47 +158,24 @@ below_next key m n less not_lower = go (cmp n.key.now m.key.now) refl not_lower
     go Equal e ne = rw (equal_key n.key.now m.key.now e) less
     go Greater e ne = nat_list_cmp_total.trans key m.key.now n.key.now less (turned n.key.now m.key.now Greater e)
 
-equal_next : (m n : Member) → has_lower_key n m ≡ false → is_lt (cmp m.key.now n.key.now) ≡ false → m.key.now ≡ n.key.now
-equal_next m n above not_lower = go (cmp m.key.now n.key.now) refl not_lower
-  where
-    go : (o : Ordering) → cmp m.key.now n.key.now ≡ o → is_lt o ≡ false → m.key.now ≡ n.key.now
-    go Less e ne = absurd (cc)
-    go Equal e ne = equal_key m.key.now n.key.now e
-    go Greater e ne =
-        let lower : has_lower_key n m ≡ true = ap is_lt (turned m.key.now n.key.now Greater e) in
-        let bad : true ≡ false = sym lower ∙ above in absurd (cc)
-
 -- a key below all of these is none of them
 last_below : (k : List ℕ) (o : Option Part) (m : Member) (ms : List Member) → Ascend m ms → cmp k m.key.now ≡ Less
     → last_at k o (map as_pair (m ∷ ms)) ≡ o
 last_below k o m [] up less = ap (λ (r : Ordering). cond (is_eq r) (Some m.part) o) less
-last_below k o m (n ∷ ms) up less =
-    ap (λ (r : Ordering). last_at k (cond (is_eq r) (Some m.part) o) (map as_pair (n ∷ ms))) less
-    ∙ last_below k o n ms up.1 (below_next k m n less up.0)
+last_below k o m (n ∷ ms) up less = grind (arith, last_below k o n ms up.1 (below_next k m n less up.0), below_next)
 
 above_unique : (key : List ℕ) (m : Member) (ms : List Member) → Ascend m ms → cmp key m.key.now ≡ Less
     → AllByRecursion (λ k. cmp key k ≡ Less) (keys_of (map as_pair (unique (m ∷ ms))))
 above_unique key m [] up less = (less, tt)
-above_unique key m (n ∷ ms) up less = go (is_lt (cmp m.key.now n.key.now)) (above_unique key n ms up.1 (below_next key m n less up.0))
-  where
-    go : (b : Bool) → AllByRecursion (λ k. cmp key k ≡ Less) (keys_of (map as_pair (unique (n ∷ ms))))
-        → AllByRecursion (λ k. cmp key k ≡ Less) (keys_of (map as_pair (if b then m ∷ unique (n ∷ ms) else unique (n ∷ ms))))
-    go true rest = (less, rest)
-    go false rest = rest
+above_unique key m (n ∷ ms) up less = grind (arith, above_unique key n ms up.1 (below_next key m n less up.0), below_next)
 
 less_from : (o : Ordering) → is_lt o ≡ true → o ≡ Less
-less_from Less e = refl
-less_from _ e = absurd (cc)
+less_from o h = grind arith
 
 unique_rise : (m : Member) (ms : List Member) → Ascend m ms → IsStrictlySortedBy cmp (keys_of (map as_pair (unique (m ∷ ms))))
 unfolding IsStrictlySortedBy
 unique_rise m [] up = (tt, tt)
-unique_rise m (n ∷ ms) up = go (is_lt (cmp m.key.now n.key.now)) refl (unique_rise n ms up.1)
-  where
-    go : (b : Bool) → is_lt (cmp m.key.now n.key.now) ≡ b → IsStrictlySortedBy cmp (keys_of (map as_pair (unique (n ∷ ms))))
-        → IsStrictlySortedBy cmp (keys_of (map as_pair (if b then m ∷ unique (n ∷ ms) else unique (n ∷ ms))))
-    go true e rest = (above_unique m.key.now n ms up.1 (less_from _ e), rest)
-    go false e rest = rest
+unique_rise m (n ∷ ms) up = grind (arith, unique_rise n ms up.1, above_unique, less_from)
 
 unique_found : (k : List ℕ) (m : Member) (ms : List Member) → Ascend m ms
     → found (map as_pair (unique (m ∷ ms))) k ≡ last_at k None (map as_pair (m ∷ ms))
@@ -279,22 +188,16 @@ unique_found k m (n ∷ ms) up = go (is_lt (cmp m.key.now n.key.now)) refl (uniq
     stays Equal e lower rest =
         let less = ap (λ (key : List ℕ). cmp key n.key.now) (equal_key k m.key.now e) ∙ less_from _ lower in
         sym (last_below k (Some m.part) n ms up.1 less)
-    stays Less e lower rest = rest
-    stays Greater e lower rest = rest
+    stays _ e lower rest = rest
 
     goes : (o : Ordering) → cmp k m.key.now ≡ o → m.key.now ≡ n.key.now
         → last_at k None (map as_pair (n ∷ ms)) ≡ last_at k (cond (is_eq o) (Some m.part) None) (map as_pair (n ∷ ms))
-    goes Equal e same =
-        let there : cmp k n.key.now ≡ Equal = ap (cmp k) (sym same) ∙ e in
-        ap (λ (r : Ordering). last_at k (cond (is_eq r) (Some n.part) None) (map as_pair ms)) there
-        ∙ sym (ap (λ (r : Ordering). last_at k (cond (is_eq r) (Some n.part) (Some m.part)) (map as_pair ms)) there)
-    goes Less e same = refl
-    goes Greater e same = refl
+    goes o h e = grind arith
 
     go : (b : Bool) → is_lt (cmp m.key.now n.key.now) ≡ b → found (map as_pair (unique (n ∷ ms))) k ≡ last_at k None (map as_pair (n ∷ ms))
         → found (map as_pair (if b then m ∷ unique (n ∷ ms) else unique (n ∷ ms))) k ≡ last_at k None (map as_pair (m ∷ n ∷ ms))
     go true e rest = stays (cmp k m.key.now) refl e rest
-    go false e rest = rest ∙ goes (cmp k m.key.now) refl (equal_next m n up.0 e)
+    go false e rest = rest ∙ goes (cmp k m.key.now) refl (grind (arith, equal_key, turned))
 
 -- those with other keys do not count
 abbrev probe : List ℕ → Member
@@ -309,10 +212,7 @@ last_tied k o (m ∷ ms) = go (cmp k m.key.now) (cmp m.key.now k) refl (turned k
         → ((p : Option Part) → last_at k p (map as_pair ms) ≡ last_at k p (map as_pair (filter (ties has_lower_key (probe k)) ms)))
         → last_at k (cond (is_eq a) (Some m.part) o) (map as_pair ms)
         ≡ last_at k o (map as_pair (cond (not (is_lt a) && not (is_lt b)) (m ∷ filter (ties has_lower_key (probe k)) ms) (filter (ties has_lower_key (probe k)) ms)))
-    go Less b is e rest = rest o
-    go Greater b is e rest = rw e (rest o)
-    go Equal b is e rest = rw e (rest (Some m.part)
-        ∙ sym (ap (λ (r : Ordering). last_at k (cond (is_eq r) (Some m.part) o) (map as_pair (filter (ties has_lower_key (probe k)) ms))) is))
+    go a b h e k = grind arith
 
 -- of sorted members with the same key the last one is the one that is inserted last
 pub unique_inserted : (ms ns : List Member) → length ns ≡ length ms → IsSortedBy has_lower_key ns → IsStableBy has_lower_key ms ns
@@ -329,17 +229,11 @@ unique_inserted ms (n ∷ ns) len sorted stable =
 
 few : (ms : List Member) → length (unique ms) ≤ length ms
 few [] = omega arith
-few (m ∷ ms) = go (is_below_first m.key.now ms) (few ms)
-  where
-    go : (b : Bool) → length (unique ms) ≤ length ms → length (if b then m ∷ unique ms else unique ms) ≤ suc (length ms)
-    go true le = omega (arith, le)
-    go false le = omega (arith, le)
+few (m ∷ ms) = grind (arith, few ms)
 
 pub fewer_left : (left : List Member) (m : Member) (others : List Member) → left ≡ m ∷ others → is_below_first m.key.now others ≡ false
     → length (unique left) < length left
-fewer_left left m others is above =
-    let same : unique left ≡ unique others = ap unique is ∙ ap (λ (b : Bool). if b then m ∷ unique others else unique others) above in
-    omega (arith, ap (λ (ms : List Member). length ms) same, ap (λ (ms : List Member). length ms) is, few others)
+fewer_left left m others h e = grind (arith, Member, few)
 
 pub same_left : (left : List Member) (m : Member) (others : List Member) → left ≡ m ∷ others → is_below_first m.key.now others ≡ true
     → unique left ≡ m ∷ unique others
@@ -352,5 +246,4 @@ stays_left left m others is below stay = same_left left m others is below ∙ ap
 -- ---- results
 
 pub on_ok_along : {A E : Type 0} (r : Result A E) (P Q : Type 0) → (P → Q) → OnOk r P → OnOk r Q
-on_ok_along (Ok x) P Q along h = along h
-on_ok_along (Err e) P Q along h = tt
+on_ok_along r P Q h e = grind arith

@@ -1,5 +1,5 @@
 -- The trees of values, level by level, and a map's entries next to the pairs that they are for.
-use Rattle.jsonb_doc.proofs.Common.{◌≡◌, List, [], ◌∷◌, ◌++◌, String, Vec, BTreeMap, Global, Ordering, Less, Equal, Greater, string_bytes, string_cmp, nat_cmp, refl, ap, ◌∙◌, rules, nat_list_cmp_total, slice_cmp, AllByRecursion, IsStrictlySortedBy, keys_of, match_ordering, ordering_reverse, insert_entry, array, object, trees_of, pairs_of, insert_pair, tree_seen, trees_seen, members_seen, Number, Value, the_lemmas}
+use Rattle.jsonb_doc.proofs.Common.{◌≡◌, List, [], ◌∷◌, ◌++◌, String, Vec, BTreeMap, Global, Ordering, Less, Greater, string_bytes, string_cmp, nat_cmp, refl, ap, ◌∙◌, rules, nat_list_cmp_total, slice_cmp, AllByRecursion, IsStrictlySortedBy, keys_of, match_ordering, ordering_reverse, insert_entry, array, object, trees_of, pairs_of, insert_pair, tree_seen, trees_seen, members_seen, Number, Value, the_lemmas, arith}
 use Rattle.jsonb_doc.specs.Number as spec
 use Rattle.jsonb_doc.specs.declared.value.Value.{Array, Object}
 
@@ -15,9 +15,7 @@ module _ (seen : Number → spec.Number) where
 
   through : (o : Ordering) (a b c : List Entry)
       → members_seen seen (match_ordering o a b c) ≡ match_ordering o (members_seen seen a) (members_seen seen b) (members_seen seen c)
-  through Less a b c = refl
-  through Equal a b c = refl
-  through Greater a b c = refl
+  through o a b c = grind arith
 
   pub members_seen-insert_entry : (es : List Entry) (k : String Global) (v : Value)
       → members_seen seen (insert_entry string_cmp es k v) ≡ insert_pair (string_bytes k) (tree_seen seen v) (members_seen seen es)

@@ -20,12 +20,10 @@ power_pos m n h = one-le-pow n m h
 -- with an item taken a level weighs less, by more than all in the item can weigh
 shrunk : (m b c i r s j : ℕ) → 0 < m → c < b → s ≤ r → j < r → i + 2 ≤ m → (i + 1) * m ^ j + (c + 1) * m ^ s < (b + 1) * m ^ r
 shrunk m b c i r s j pos fewer less inner few =
-    let left : (c + 1) * m ^ s ≤ b * m ^ r = mul-le (c + 1) (m ^ s) b (m ^ r) (omega arith) (pow-le-pow_right pos less) in
     let more : (i + 2) * m ^ j ≤ m * m ^ j = mul-le-mul_right (m ^ j) few in
     let up : m ^ (j + 1) ≤ m ^ r = pow-le-pow_right pos (omega arith) in
     let one : 1 ≤ m ^ j = power_pos m j pos in
-    let is : m ^ (j + 1) ≡ m ^ j * m = pow_more m j in
-    summed (m ^ j) (m ^ s) (m ^ r) m i b c left more (rw is at up) one
+    summed (m ^ j) (m ^ s) (m ^ r) m i b c (mul-le (c + 1) (m ^ s) b (m ^ r) (omega arith) (pow-le-pow_right pos less)) more (rw (pow_more m j) at up) one
   where
     summed : (x y z m i b c : ℕ) → (c + 1) * y ≤ b * z → (i + 2) * x ≤ m * x → x * m ≤ z → 1 ≤ x → (i + 1) * x + (c + 1) * y < (b + 1) * z
     summed x y z m i b c left more up one = grind (arith, left, more, up, one)
@@ -36,9 +34,7 @@ weight_of bound room = (bound + 1) * base ^ room
 
 pub weight-pos : (bound room : ℕ) → 0 < weight_of bound room
 unfolding weight_of
-weight-pos bound room =
-    let up : 1 * 1 ≤ (bound + 1) * base ^ room = mul-le 1 1 (bound + 1) (base ^ room) (omega arith) (power_pos base room base_pos) in
-    omega (arith, up)
+weight-pos bound room = grind (arith, mul-le, power_pos, base_pos)
 
 -- what is left of a level and what is within one of its items weigh less than the level
 pub inner_weighs : (bound bound' inner_bound room room' inner_room : ℕ) → bound' < bound → room' ≤ room → inner_room < room → inner_bound < 2 ^ 64
@@ -49,12 +45,7 @@ inner_weighs bound bound' inner_bound room room' inner_room fewer less inner few
 
 pub taken_weighs : (bound bound' room room' : ℕ) → bound' < bound → room' ≤ room → weight_of bound' room' < weight_of bound room
 unfolding weight_of
-taken_weighs bound bound' room room' fewer less =
-    one_more bound (base ^ room) ((bound' + 1) * base ^ room')
-    (mul-le (bound' + 1) (base ^ room') bound (base ^ room) (omega arith) (pow-le-pow_right base_pos less)) (power_pos base room base_pos)
-  where
-    one_more : (b z x : ℕ) → x ≤ b * z → 1 ≤ z → x < (b + 1) * z
-    one_more b z x h one = grind (arith, h, one)
+taken_weighs bound bound' room room' h e = grind (arith, mul-le, pow-le-pow_right, base_pos, power_pos)
 
 -- ---- the levels that a walk is within, which a `Vec` holds with the innermost last
 

@@ -1,22 +1,16 @@
 -- Words before bytes, and bytes cut in two.
-use Rattle.jsonb_doc.proofs.Common.{◌≡◌, ℕ, ◌^◌, ◌<◌, List, ◌++◌, length, take, drop, refl, sym, ap, ◌∙◌, true, bytes_eq, bytes_eq-Decides, take_at, drop_at, big_number, big_bytes, big_number-reads_back}
-
--- a word reads back
-pub word_read : (n : ℕ) (rest : List ℕ) → n < 2 ^ 32 → big_number 4 (big_bytes 4 n ++ rest) ≡ n
-word_read n rest h = big_number-reads_back 4 n rest h
+use Rattle.jsonb_doc.proofs.Common.{◌≡◌, ℕ, ◌^◌, ◌<◌, List, ◌++◌, length, take, drop, refl, sym, ap, true, bytes_eq, bytes_eq-Decides, take_at, drop_at, big_bytes, arith}
 
 -- two cuts of a list at the same position are the same cut
 pub append_cancel : (a b c d : List ℕ) → length a ≡ length c → a ++ b ≡ c ++ d → (a ≡ c) × (b ≡ d)
-append_cancel a b c d same e = (
-  sym (take_at a b (length a) refl) ∙ ap (take (length a)) e ∙ take_at c d (length a) (sym same),
-  sym (drop_at a b (length a) refl) ∙ ap (drop (length a)) e
-      ∙ drop_at c d (length a) (sym same),
-)
+append_cancel a b c d same e =
+    let more = take_at c d (length a) (sym same) in
+    let step = drop_at c d (length a) (sym same) in
+    search (arith, take_at a b (length a) refl, ap (take (length a)) e, more, drop_at a b (length a) refl, ap (drop (length a)) e, step)
 
 -- two words before bytes are one word
 pub word_cancel : (m n : ℕ) (xs ys : List ℕ) → m < 2 ^ 32 → n < 2 ^ 32 → big_bytes 4 m ++ xs ≡ big_bytes 4 n ++ ys → (m ≡ n) × (xs ≡ ys)
-word_cancel m n xs ys hm hn e =
-    (sym (word_read m xs hm) ∙ ap (big_number 4) e ∙ word_read n ys hn, ap (drop 4) e)
+word_cancel m n xs ys h e k = grind (arith)
 
 pub bytes_eq-true : (xs ys : List ℕ) → bytes_eq xs ys ≡ true → xs ≡ ys
 bytes_eq-true xs ys e = (bytes_eq-Decides xs ys).0 e

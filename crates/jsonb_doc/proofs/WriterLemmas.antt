@@ -1,8 +1,8 @@
 -- Containers that are being written: begun, gone on with, closed.
-use Rattle.jsonb_doc.proofs.Common.{◌≡◌, inl, ℕ, ◌+◌, ◌*◌, ◌-◌, ◌^◌, ◌<◌, ◌≤◌, List, [], ◌∷◌, ◌++◌, length, take, drop, map, refl, sym, ap, subst, ◌∙◌, arith, append_assoc, replicate, keys_of, values_of, length-append, take_at, drop_at, take_all, length-take, take-append-drop, Tree, text, count, keys, values, trees_of, pairs_of, tree, no_trees, NumberReader, Form, number_reader, Decodes, IsContent, AreEntries, AreValues, AreKeys, entry_word, header, key_words, key_bytes, container_entry, header_number, HeaderKind, Scalar, OpenContainer, Entries, RunsHold, words_of_runs, contents_of_runs, Make, AreSortedKeys, IsOpen, Rooms, EndsWithin, length-values_of, length-keys_of}
+use Rattle.jsonb_doc.proofs.Common.{◌≡◌, inl, ℕ, ◌+◌, ◌*◌, ◌-◌, ◌^◌, ◌<◌, ◌≤◌, List, [], ◌∷◌, ◌++◌, length, take, drop, map, refl, sym, ap, subst, ◌∙◌, arith, append_assoc, replicate, values_of, length-append, take_at, drop_at, take_all, length-take, take-append-drop, Tree, text, trees_of, pairs_of, tree, no_trees, NumberReader, Form, number_reader, Decodes, IsContent, AreEntries, AreValues, AreKeys, entry_word, header, key_words, key_bytes, container_entry, header_number, HeaderKind, OpenContainer, Entries, RunsHold, words_of_runs, contents_of_runs, Make, AreSortedKeys, IsOpen, Rooms, EndsWithin, length-values_of, length-keys_of, common_steps}
 use Rattle.std.proofs.Common.{append-nil}
 use Rattle.std.proofs.lemmas.List.{length-drop}
-use Rattle.jsonb_doc.specs.declared.layout.HeaderKind.TheVariants.{Object, Array}
+use Rattle.jsonb_doc.specs.declared.layout.HeaderKind.TheVariants.{Object}
 use Rattle.jsonb_doc.specs.Private.Writer.{AreAround}
 use Rattle.jsonb_doc.proofs.Containers.{length-words}
 use Rattle.jsonb_doc.proofs.TreeLists.{count-trees_of, keys-pairs_of}
@@ -14,55 +14,24 @@ use Rattle.jsonb_doc.proofs.Basics.{many_keys}
 pub entries_append : (number_at : NumberReader) (xs ys : List Tree) (w c v d : List ℕ) → AreEntries number_at (trees_of xs) w c
     → AreEntries number_at (trees_of ys) v d → AreEntries number_at (trees_of (xs ++ ys)) (w ++ v) (c ++ d)
 entries_append number_at [] ys w c v d h g = rw (h.0, h.1) g
-entries_append number_at (x ∷ xs) ys w c v d e g = record {
-  kind = e.kind;
-  content = e.content;
-  other_words = e.other_words ++ v;
-  other_contents = e.other_contents ++ d;
-  begin = record {
-    known = e.begin.known;
-    fits = e.begin.fits;
-    words_joined = ap (λ (l : List ℕ). l ++ v) e.begin.words_joined ∙ append_assoc (entry_word e.kind (length e.content)) e.other_words v;
-    contents_joined = ap (λ (l : List ℕ). l ++ d) e.begin.contents_joined ∙ append_assoc e.content e.other_contents d;
-  };
-  part = e.part;
-  others = entries_append number_at xs ys e.other_words e.other_contents v d e.others g;
-}
+entries_append number_at (x ∷ xs) ys w c v d e g = search (arith, entries_append number_at xs ys e.other_words e.other_contents v d e.others g, append_assoc)
 
 pub one_entry : (number_at : NumberReader) (t : Tree) (kind : ℕ) (content : List ℕ) → IsContent number_at t kind content → length content < 2 ^ 28
     → AreEntries number_at (tree t no_trees) (entry_word kind (length content)) content
-one_entry number_at t kind content part short = record {
-  kind = kind;
-  content = content;
-  other_words = [];
-  other_contents = [];
-  begin = record {
-    known = let below = kind_below number_at t kind content part in omega (arith, below);
-    fits = short;
-    words_joined = sym (append-nil (entry_word kind (length content)));
-    contents_joined = sym (append-nil content);
-  };
-  part = part;
-  others = (refl, refl);
-}
+one_entry number_at t kind content h e = grind (arith, kind_below, append-nil)
 
 -- ---- a container is begun
 
 pub entries_object : (kind : HeaderKind) (n : ℕ) (ts : List Tree) (t : Tree) → kind ≡ Object → Make kind n ts t → 2 * n ≡ length ts
-entries_object kind n ts t is m =
-    let (ps, counted, rising, ts_is, t_is) = subst (λ (k : HeaderKind). Make k n ts t) is m in
-    omega (arith, counted, ap length ts_is, length-append (map text (keys_of ps)) (values_of ps), many_keys ps, length-values_of ps)
+entries_object kind n ts t h e = grind (arith, length-append, values_of, many_keys, length-values_of)
 
 pub entries_array : (kind : HeaderKind) (n : ℕ) (ts : List Tree) (t : Tree) → (kind ≡ Object → ⊥) → Make kind n ts t → n ≡ length ts
-entries_array Scalar n ts t other m = absurd m
-entries_array Object n ts t other m = absurd (other refl)
-entries_array Array n ts t other m = m.0
+entries_array kind n ts t h e = grind arith
 
 -- bytes that are filled up
 pub filled_up : (one : List ℕ) (word len n : ℕ) → word ≡ length one → len ≡ word
     → take (word + n) one ++ replicate (word + n - len) 0 ≡ one ++ replicate n 0
-filled_up one word len n is same = ap (λ (l : List ℕ). l ++ replicate (word + n - len) 0) (take_all (word + n) one (omega (arith, is)))
-    ∙ ap (λ (m : ℕ). one ++ replicate m 0) (omega (arith, same))
+filled_up one word len n h e = grind (arith, take_all)
 
 pub opened : (form : Form) (kind : HeaderKind) (n : ℕ) (ts : List Tree) (t : Tree) (before one out : List ℕ) (at : OpenContainer) (zeros : List ℕ)
     → Make kind n ts t → n < 2 ^ 29 → at.start ≡ length before → at.word ≡ length one → one ≡ before ++ header (header_number kind) n → out ≡ one ++ zeros
@@ -78,8 +47,7 @@ opened form kind n ts t before one out at zeros makes few start word first secon
   room = zeros;
   start_is = start;
   word_is = omega (arith, word, ap length first, length-append before (header (header_number kind) n));
-  joined = second ∙ ap (λ (l : List ℕ). l ++ zeros) first ∙ append_assoc before (header (header_number kind) n) zeros
-      ∙ ap (λ (l : List ℕ). before ++ (header (header_number kind) n ++ l)) (sym (append-nil zeros));
+  joined = grind (arith, append_assoc, append-nil);
   room_is = room;
   held = (refl, refl);
   makes = makes;
@@ -96,16 +64,14 @@ splice before head words room contents added new old after word four at fits is 
     let front = before ++ (head ++ words) in
     let r1 = take (length new) room in
     let r2 = drop (length new) room in
-    let cut : r1 ++ r2 ≡ room = take-append-drop (length new) room in
     let len_front : length front ≡ word = omega (arith, length-append before (head ++ words), length-append head words, four, at) in
     let len_r1 : length r1 ≡ length new = omega (arith, length-take (length new) room, fits) in
     let whole : old ≡ front ++ (r1 ++ (r2 ++ (contents ++ added))) = is
-    ∙ ap (λ (l : List ℕ). (before ++ (head ++ ((words ++ l) ++ contents))) ++ added) (sym cut) ∙ simp append_assoc in
+    ∙ ap (λ (l : List ℕ). (before ++ (head ++ ((words ++ l) ++ contents))) ++ added) (sym (take-append-drop (length new) room)) ∙ simp append_assoc in
     let whole' : old ≡ (front ++ r1) ++ (r2 ++ (contents ++ added)) = whole ∙ sym (append_assoc front r1 (r2 ++ (contents ++ added))) in
-    let taken : take word old ≡ front = ap (take word) whole ∙ take_at front (r1 ++ (r2 ++ (contents ++ added))) word len_front in
     let dropped : drop (word + length new) old ≡ r2 ++ (contents ++ added) = ap (drop (word + length new)) whole'
     ∙ drop_at (front ++ r1) (r2 ++ (contents ++ added)) (word + length new) (omega (arith, length-append front r1, len_front, len_r1)) in
-    set ∙ joined taken dropped ∙ simp append_assoc
+    set ∙ joined (ap (take word) whole ∙ take_at front (r1 ++ (r2 ++ (contents ++ added))) word len_front) dropped ∙ simp append_assoc
   where
     joined : {a b x y : List ℕ} → a ≡ x → b ≡ y → a ++ (new ++ b) ≡ x ++ (new ++ y)
     joined e f = rw (e, f) refl
@@ -120,16 +86,12 @@ module _ (form : Form) (before out : List ℕ) (at : OpenContainer) (ts coming :
 
   -- there is room for the words
   pub room_there : (old : List ℕ) → old ≡ out ++ added → at.word + length new ≤ length old
-  room_there old is =
-      let word = o.word_is in
-      omega (arith, new_fits, word, simp length-append at (ap length (is ∙ ap (λ (l : List ℕ). l ++ added) o.joined)))
+  room_there old h = grind (arith, new_fits, length-append)
 
   pub filled : (old after : List ℕ) (next : OpenContainer) → old ≡ out ++ added → next.start ≡ at.start → next.word ≡ at.word + length new
       → after ≡ take at.word old ++ (new ++ drop (at.word + length new) old)
       → IsOpen form before after next coming t
   filled old after next is start word set =
-      let at_word = o.word_is in
-      let room = o.room_is in
       record {
         kind = o.kind;
         total = o.total;
@@ -139,10 +101,10 @@ module _ (form : Form) (before out : List ℕ) (at : OpenContainer) (ts coming :
         contents = o.contents ++ added;
         room = drop (length new) o.room;
         start_is = start ∙ o.start_is;
-        word_is = omega (arith, word, at_word, length-append o.words new);
+        word_is = omega (arith, word, o.word_is, length-append o.words new);
         joined = splice before (header (header_number o.kind) o.total) o.words o.room o.contents added new old after at.word refl o.word_is new_fits
             (is ∙ ap (λ (l : List ℕ). l ++ added) o.joined) set;
-        room_is = omega (arith, length-drop (length new) o.room, new_count, room, length-append ts coming);
+        room_is = omega (arith, length-drop (length new) o.room, new_count, o.room_is, length-append ts coming);
         held = entries_append (number_reader form) o.made ts o.words o.contents new added o.held are;
         makes = subst (λ (us : List Tree). Make o.kind o.total us t) (sym (append_assoc o.made ts coming)) o.makes;
       }
@@ -154,63 +116,17 @@ entries_as_keys : (number_at : NumberReader) (ks : List (List ℕ)) (vs : List T
     → AreKeys ks × (v : List ℕ) × (d : List ℕ) × (words ≡ key_words ks ++ v) × (contents ≡ key_bytes ks ++ d) × AreEntries number_at (trees_of vs) v d
 entries_as_keys number_at [] vs words contents rising h = (tt, words, contents, refl, refl, h)
 entries_as_keys number_at (k ∷ ks) vs words contents rising h =
-    let (are, v, d, v_is, d_is, rest) = entries_as_keys number_at ks vs h.other_words h.other_contents rising.1 h.others in
-    let is : h.content ≡ k = h.part.1 in
-    let word : entry_word h.kind (length h.content) ≡ entry_word 1 (length k) = rw (h.part.0, is) refl in
-    let fits = h.begin.fits in (
-      ((h.part.2, omega (arith, fits, ap length is)), rising.0, are),
-      v,
-      d,
-      h.begin.words_joined ∙ ap (λ (l : List ℕ). l ++ h.other_words) word ∙ ap (λ (l : List ℕ). entry_word 1 (length k) ++ l) v_is
-          ∙ sym (append_assoc (entry_word 1 (length k)) (key_words ks) v),
-      h.begin.contents_joined ∙ ap (λ (l : List ℕ). l ++ h.other_contents) is ∙ ap (λ (l : List ℕ). k ++ l) d_is ∙ sym (append_assoc k (key_bytes ks) d),
-      rest,
-    )
+    grind (arith, entries_as_keys number_at ks vs h.other_words h.other_contents rising.1 h.others, append_assoc)
 
 entries_as_values : (number_at : NumberReader) (ps : List (List ℕ × Tree)) (words contents : List ℕ) → AreEntries number_at (trees_of (values_of ps)) words contents
     → AreValues number_at (pairs_of ps) words contents
 entries_as_values number_at [] words contents h = h
-entries_as_values number_at (p ∷ ps) words contents h = record {
-  kind = h.kind;
-  content = h.content;
-  other_words = h.other_words;
-  other_contents = h.other_contents;
-  begin = h.begin;
-  part = h.part;
-  others = entries_as_values number_at ps h.other_words h.other_contents h.others;
-}
+entries_as_values number_at (p ∷ ps) words contents h = search (arith, entries_as_values number_at ps h.other_words h.other_contents h.others)
 
 built : (form : Form) (kind : HeaderKind) (n : ℕ) (ts : List Tree) (t : Tree) (words contents : List ℕ) → Make kind n ts t → n < 2 ^ 29
     → AreEntries (number_reader form) (trees_of ts) words contents
     → IsContent (number_reader form) t container_entry (header (header_number kind) n ++ (words ++ contents))
-built form Scalar n ts t words contents m few are = absurd m
-built form Array n ts t words contents (counted, is) few are =
-    let same : n ≡ count (trees_of ts) = counted ∙ sym (count-trees_of ts) in
-    subst (λ (u : Tree). IsContent (number_reader form) u container_entry (header (header_number Array) n ++ (words ++ contents))) (sym is) (
-      refl,
-      record { words = words; contents = contents; headed = record { known = omega arith; fits = rw same at few; joined = rw same refl }; parts = are },
-    )
-built form Object n ts t words contents (ps, counted, rising, ts_is, is) few are =
-    let (are_keys, v, d, v_is, d_is, values) = entries_as_keys (number_reader form) (keys_of ps) (values_of ps) words contents rising
-    (subst (λ (us : List Tree). AreEntries (number_reader form) (trees_of us) words contents) ts_is are) in
-    let same : keys (pairs_of ps) ≡ keys_of ps = keys-pairs_of ps in
-    let many : n ≡ length (keys (pairs_of ps)) = counted ∙ sym (length-keys_of ps) ∙ ap length (sym same) in
-    subst (λ (u : Tree). IsContent (number_reader form) u container_entry (header (header_number Object) n ++ (words ++ contents))) (sym is) (
-      refl,
-      record {
-        words = words;
-        contents = contents;
-        headed = record { known = omega arith; fits = rw many at few; joined = rw many refl };
-        parts = record {
-          value_words = v;
-          value_contents = d;
-          words_joined = rw same v_is;
-          contents_joined = rw same d_is;
-          are_keys = rw same are_keys;
-          values = entries_as_values (number_reader form) ps v d values;
-        };
-      },
-    )
+built form kind n ts t words contents h e k = grind (arith, count-trees_of, entries_as_keys, values_of, keys-pairs_of, length-keys_of, entries_as_values)
 
 -- once nothing is coming, the container follows what was there before
 pub record IsDone (form : Form) (before out : List ℕ) (at : OpenContainer) (t : Tree) : Type 0 where
@@ -220,17 +136,7 @@ pub record IsDone (form : Form) (before out : List ℕ) (at : OpenContainer) (t 
   pub content : IsContent (number_reader form) t container_entry bytes
 
 pub closed : (form : Form) (before out : List ℕ) (at : OpenContainer) (t : Tree) → IsOpen form before out at [] t → IsDone form before out at t
-closed form before out at t o = record {
-  bytes = header (header_number o.kind) o.total ++ (o.words ++ o.contents);
-  joined = o.joined ∙ ap (λ (l : List ℕ). before ++ (header (header_number o.kind) o.total ++ ((o.words ++ l) ++ o.contents))) (none o.room o.room_is)
-      ∙ ap (λ (l : List ℕ). before ++ (header (header_number o.kind) o.total ++ (l ++ o.contents))) (append-nil o.words);
-  start_is = o.start_is;
-  content = built form o.kind o.total o.made t o.words o.contents (subst (λ (us : List Tree). Make o.kind o.total us t) (append-nil o.made) o.makes) o.few o.held;
-}
-  where
-    none : (l : List ℕ) → length l ≡ 0 → l ≡ []
-    none [] h = refl
-    none (x ∷ xs) h = absurd (omega arith)
+closed form before out at t h = grind (arith, common_steps, append-nil, built)
 
 pub done_len : (form : Form) (before out : List ℕ) (at : OpenContainer) (t : Tree) (d : IsDone form before out at t) → length out ≡ at.start + length d.bytes
 done_len form before out at t d = let start = d.start_is in omega (arith, start, ap length d.joined, length-append before d.bytes)
@@ -240,29 +146,21 @@ pub whole_done : (form : Form) (out : List ℕ) (at : OpenContainer) (before : L
     → AreAround form before [] t whole → Decodes form out whole
 whole_done form out at before t whole o a =
     let d = closed form before out at t o in
-    let is : out ≡ d.bytes = d.joined ∙ ap (λ (l : List ℕ). l ++ d.bytes) a.0 in
-    record { document = inl (rw (is, sym a.1) d.content) }
+    record { document = inl (rw (d.joined ∙ ap (λ (l : List ℕ). l ++ d.bytes) a.0, sym a.1) d.content) }
 
 -- ---- a container of runs
 
 pub runs_hold : (form : Form) (runs : List Entries) (ts : List Tree) → RunsHold form runs ts
     → AreEntries (number_reader form) (trees_of ts) (words_of_runs runs) (contents_of_runs runs)
 runs_hold form [] ts h = rw h (refl, refl)
-runs_hold form (run ∷ runs) ts (xs, ys, first, others, joined) =
-    rw joined (entries_append (number_reader form) xs ys run.words.now run.contents.now (words_of_runs runs) (contents_of_runs runs)
-    first.entries (runs_hold form runs ys others))
+runs_hold form (run ∷ runs) ts (xs, ys, first, others, joined) = grind (arith, runs_hold form runs ys others, entries_append)
 
 pub runs_done : (form : Form) (kind : HeaderKind) (n : ℕ) (front back : List Entries) (xs ys : List Tree) (t : Tree) → RunsHold form front xs → RunsHold form back ys
     → Make kind n (xs ++ ys) t → n < 2 ^ 29
     → (one two three four whole : List ℕ) → one ≡ header (header_number kind) n → two ≡ one ++ words_of_runs front → three ≡ two ++ words_of_runs back
     → four ≡ three ++ contents_of_runs front → whole ≡ four ++ contents_of_runs back
     → Decodes form whole t
-runs_done form kind n front back xs ys t h g makes few one two three four whole e f d i j = record {
-  document = inl (subst (IsContent (number_reader form) t container_entry) (sym (rw (j, i, d, f, e) (simp append_assoc)))
-      (built form kind n (xs ++ ys) t (words_of_runs front ++ words_of_runs back) (contents_of_runs front ++ contents_of_runs back) makes few
-      (entries_append (number_reader form) xs ys (words_of_runs front) (contents_of_runs front) (words_of_runs back) (contents_of_runs back)
-      (runs_hold form front xs h) (runs_hold form back ys g))));
-}
+runs_done form kind n front back xs ys t h e k f one two three four whole g i q m o = grind (arith, append_assoc, built, entries_append, runs_hold)
 
 -- one entry more, whose content is there already or is added
 module _ (form : Form) (before out : List ℕ) (at : OpenContainer) (u : Tree) (coming : List Tree) (t : Tree) (o : IsOpen form before out at (u ∷ coming) t)

@@ -1,5 +1,6 @@
 -- Containers that are being written: if a part exceeds the limits, the whole does.
-use Rattle.jsonb_doc.proofs.Common.{◌≡◌, inl, inr, ℕ, ◌^◌, ◌<◌, ◌≤◌, List, [], ◌∷◌, ◌++◌, length, map, sym, ap, subst, arith, keys_of, values_of, Tree, text, trees_of, pairs_of, Form, any, canonical, number_reader, IsContent, IsShort, HasShortParts, HasShortElements, HasShortValues, AreShortKeys, IsTooLarge, IsWithinLimits, IsOutOfMemory, ◌or◌when◌, IsOutOfMemoryOrTooLarge, Error, TooLarge, HeaderKind, OpenContainer, Scalar, Make, ExceedsLimits, IsOpen, Around, length-keys_of}
+use Rattle.jsonb_doc.proofs.Common.{◌≡◌, inr, ℕ, ◌^◌, ◌≤◌, List, [], ◌∷◌, ◌++◌, length, map, sym, subst, arith, keys_of, values_of, Tree, text, trees_of, pairs_of, Form, number_reader, IsContent, IsShort, HasShortParts, HasShortElements, HasShortValues, AreShortKeys, IsTooLarge, IsWithinLimits, IsOutOfMemory, ◌or◌when◌, IsOutOfMemoryOrTooLarge, Error, TooLarge, HeaderKind, OpenContainer, Make, ExceedsLimits, IsOpen, Around, length-keys_of}
+use Rattle.jsonb_doc.specs.declared.layout.HeaderKind.TheVariants.{Scalar}
 use Rattle.jsonb_doc.specs.declared.layout.HeaderKind.TheVariants.{Object, Array}
 use Rattle.jsonb_doc.specs.Private.Writer.{AreAround}
 use Rattle.jsonb_doc.proofs.TreeLists.{count-trees_of, keys-pairs_of}
@@ -7,11 +8,6 @@ use Rattle.jsonb_doc.proofs.Sizes.{size_within}
 
 Member : Type 0
 Member = List ℕ × Tree
-
--- a string is as long as its bytes
-short_text : (form : Form) (s : List ℕ) → length s < 2 ^ 28 → IsShort form (text s)
-short_text any s h = h
-short_text canonical s h = h
 
 -- ---- parts
 
@@ -33,7 +29,7 @@ well_value form (p ∷ ps) (x ∷ xs) ys t is h = well_value form ps xs ys t (cc
 well_pair : (form : Form) (ks : List (List ℕ)) (vs xs ys : List Tree) (t : Tree) → map text ks ++ vs ≡ xs ++ t ∷ ys → AreShortKeys ks
     → ((us : List Tree) → vs ≡ us ++ t ∷ ys → IsWell form t) → IsWell form t
 well_pair form [] vs xs ys t is short go = go xs is
-well_pair form (k ∷ ks) vs [] ys t is short go = let same : text k ≡ t = cc is in subst (IsWell form) same (short_text form k short.0, tt)
+well_pair form (k ∷ ks) vs [] ys t is short go = let same : text k ≡ t = cc is in subst (IsWell form) same (grind arith, tt)
 well_pair form (k ∷ ks) vs (x ∷ xs) ys t is short go = well_pair form ks vs xs ys t (cc is) short.1 go
 
 pub part_well : (form : Form) (kind : HeaderKind) (n : ℕ) (xs ys : List Tree) (t whole : Tree) → Make kind n (xs ++ t ∷ ys) whole → HasShortParts form whole
@@ -42,25 +38,17 @@ part_well form Scalar n xs ys t whole m h = absurd m
 part_well form Array n xs ys t whole m h = well_among form xs ys t (subst (HasShortParts form) m.1 h).1
 part_well form Object n xs ys t whole (ps, counted, rising, is, whole_is) h =
     let g = subst (HasShortParts form) whole_is h in
-    let short : AreShortKeys (keys_of ps) = subst AreShortKeys (keys-pairs_of ps) g.1 in
-    well_pair form (keys_of ps) (values_of ps) xs ys t (sym is) short (λ us same. well_value form ps us ys t same g.2)
+    well_pair form (keys_of ps) (values_of ps) xs ys t (sym is) (subst AreShortKeys (keys-pairs_of ps) g.1) (λ us same. well_value form ps us ys t same g.2)
 
 -- a container has no more entries than a header counts
 pub too_many : (form : Form) (kind : HeaderKind) (n : ℕ) (ts : List Tree) (t : Tree) → Make kind n ts t → 2 ^ 29 ≤ n → ExceedsLimits form t
-too_many form Scalar n ts t m many = absurd m
-too_many form Array n ts t m many = λ h. let g = subst (HasShortParts form) m.1 h in omega (arith, g.0, many, m.0, count-trees_of ts)
-too_many form Object n ts t (ps, counted, rising, is, whole_is) many = λ h.
-    let g = subst (HasShortParts form) whole_is h in
-    omega (arith, g.0, many, counted, ap length (keys-pairs_of ps), length-keys_of ps)
+too_many form kind n ts t h e = grind (arith, count-trees_of, keys-pairs_of, length-keys_of)
 
 -- ---- through the containers around
 
 -- a container is not a scalar
 pub within_parts : (form : Form) (kind : HeaderKind) (n : ℕ) (ts : List Tree) (t : Tree) → Make kind n ts t → IsWithinLimits form t → HasShortParts form t
-within_parts form Scalar n ts t m h = absurd m
-within_parts form Array n ts t m h = subst (HasShortParts form) (sym m.1) (subst (IsWithinLimits form) m.1 h)
-within_parts form Object n ts t (ps, counted, rising, is, whole_is) h =
-    subst (HasShortParts form) (sym whole_is) (subst (IsWithinLimits form) whole_is h)
+within_parts form kind n ts t h e = grind arith
 
 module _ (form : Form) where
   -- the whole exceeds the limits if the tree does that is open in it
@@ -91,5 +79,4 @@ refused form t e is large = inr (is, large)
 pub refused_open : (form : Form) (whole t : Tree) (e : Error) → (IsOutOfMemory or TooLarge when ExceedsLimits form t) e
     → (ExceedsLimits form t → IsTooLarge form whole)
     → IsOutOfMemoryOrTooLarge form whole e
-refused_open form whole t e (inl memory) large = inl memory
-refused_open form whole t e (inr (is, passes)) large = inr (is, large passes)
+refused_open form whole t e h k = search arith

@@ -1,5 +1,5 @@
 -- The front of a key path does not lengthen the text.
-use Rattle.jsonb_keypath.proofs.Common.{◌≡◌, ℕ, ◌≤◌, List, [], ◌∷◌, ◌++◌, length, Bool, Some, refl, arith, concat, is_utf8, Rule, give, ◌>>◌, only_if, literal, repeat, ws, unit, units, text, is_stop, is_quote, ReadsSome, spaced_key, key_list, another_key, perhaps, key_front, closing_brace, after_keys, inside_front, key_path_front}
+use Rattle.jsonb_keypath.proofs.Common.{ℕ, [], ◌∷◌, ◌++◌, Bool, concat, is_utf8, Rule, ◌>>◌, only_if, literal, repeat, ws, unit, units, text, is_stop, is_quote, ReadsSome, spaced_key, key_list, another_key, perhaps, key_front, closing_brace, after_keys, inside_front, key_path_front}
 use Rattle.jsonb_keypath.proofs.ReadsLemmas.{NeverGrows, some-no_more, grows-give, grows-then, grows-choice, grows-only_if, repeated-repeat}
 use Rattle.jsonb_keypath.proofs.CutLemmas.{some-literal, some-unit}
 use Rattle.jsonb_keypath.proofs.GrowsLemmas.{grows-ws, run-no_more, some-spaced_key, some-another_key}

@@ -1,5 +1,5 @@
 -- Text that a part is appended to, and characters between quotes.
-use Rattle.jsonb_keypath.proofs.Common.{◌≡◌, ℕ, ◌+◌, ◌/◌, ◌<◌, ◌≤◌, List, [], ◌∷◌, ◌++◌, length, get_or, take, map, Bool, true, false, cond, refl, sym, ap, ◌∙◌, arith, ◌==◌, ◌||◌, nat_lt, flat_map, encode_utf8, encode_utf8_all, list_all, flat_map_more, map_more, append-nil, flat_map-append, encodes-append, nat_tests, encode, next, is_unescaped, is_quote, quoted_byte}
+use Rattle.jsonb_keypath.proofs.Common.{◌≡◌, ℕ, ◌+◌, ◌/◌, ◌<◌, ◌≤◌, List, [], ◌∷◌, ◌++◌, length, get_or, take, map, Bool, true, false, cond, refl, sym, ap, ◌∙◌, arith, ◌==◌, nat_lt, flat_map, encode_utf8, encode_utf8_all, list_all, flat_map_more, map_more, append-nil, flat_map-append, encodes-append, nat_tests, encode, next, is_unescaped, is_quote, quoted_byte}
 use Rattle.jsonb_keypath.proofs.ReadBackLemmas.{both}
 
 -- the text of one more element of a list that is seen by `view`

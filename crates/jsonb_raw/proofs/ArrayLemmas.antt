@@ -1,12 +1,11 @@
 -- Which trees are arrays, and what is made of them.
-use Rattle.jsonb_raw.proofs.Common.{◌≡◌, ◌⊎◌, inl, inr, suc, List, ◌∷◌, length, Option, Some, refl, ap, Any, Tree, array, Trees, no_trees, tree, elements, count, Form, Decodes, IsOutOfMemoryOrTooLarge, IsTooLarge, HasElementsLeft, IsElementsOf, Error, OutOfMemory, TooLarge, ElementIter, OwnedJsonb}
+use Rattle.jsonb_raw.proofs.Common.{arith, ◌≡◌, ◌⊎◌, inl, inr, suc, List, ◌∷◌, length, Option, Some, refl, ap, Any, Tree, array, Trees, no_trees, tree, elements, count, Form, Decodes, IsOutOfMemoryOrTooLarge, IsTooLarge, HasElementsLeft, IsElementsOf, Error, OutOfMemory, TooLarge, ElementIter, OwnedJsonb}
 use Rattle.jsonb_raw.proofs.CollectLoops.{Made, one_of_whole}
 
 -- a tree with an iterator over elements is an array
 pub array_of : (form : Form) (t : Tree) (found : Option ElementIter) (it : ElementIter) → found ≡ Some it → IsElementsOf form t found
     → (ts : Trees) × (t ≡ array ts) × HasElementsLeft form it ts
-array_of form (array ts) found it is h = (ts, refl, rw is at h)
-array_of form _ found it is h = absurd (rw is at h)
+array_of form t found it h e = grind arith
 
 pub length-elements : (ts : Trees) → count ts ≡ length (elements ts)
 length-elements no_trees = refl

@@ -4,8 +4,7 @@ use Rattle.jsonb_raw.proofs.Common.{◌≡◌, ℕ, zero, suc, ◌<◌, ◌≤�
 -- at first all children are left
 pub all_left : (bytes : List ℕ) (it : SpotIter) (o : Option (List Tree)) → SameOption (HasSpotsLeft bytes) (Some it) o
     → HasSpotsLeft bytes it (unwrap_or o [])
-all_left bytes it (Some ts) h = h
-all_left bytes it None h = absurd h
+all_left bytes it o h = grind arith
 
 -- the trees are a first one, whose spot was given, and the rest, which is left
 pub record FirstLeft (bytes : List ℕ) (ts : List Tree) (r : Result Spot Error) (after : SpotIter) : Type 0 where
@@ -17,8 +16,7 @@ pub record FirstLeft (bytes : List ℕ) (ts : List Tree) (r : Result Spot Error)
 
 pub first_left : (bytes : List ℕ) (ts : List Tree) (r : Result Spot Error) (after : SpotIter) → TakesSpot bytes ts (Some r) after
     → FirstLeft bytes ts r after
-first_left bytes (t ∷ ts) (Ok spot) after h = record { first = t; rest = ts; split = refl; marks = h.0; left = h.1 }
-first_left bytes _ _ after h = absurd h
+first_left bytes ts r after h = grind arith
 
 -- the child at a position, of those that are left
 pub here : (ts : List Tree) (n : ℕ) (first : Tree) (rest : List Tree) (wanted : Option Tree) → ts ≡ first ∷ rest → n ≡ 0
@@ -46,22 +44,14 @@ split_at [] (suc k) first rest e = cc
 split_at (t ∷ ts) zero first rest e = record { inside = omega arith; at = cc; behind = cc }
 split_at (t ∷ ts) (suc k) first rest e = let s = split_at ts k first rest e in record { inside = omega arith; at = s.at; behind = s.behind }
 
-marks_of : (bytes : List ℕ) (t : Tree) (r : Result Spot Error) (spot : Spot) → r ≡ Ok spot
-    → IsOkAnd r (λ spot. Locates bytes spot t) → Locates bytes spot t
-marks_of bytes t r spot e h = rw e at h
-
-no_marks : (bytes : List ℕ) (t : Tree) (r : Result Spot Error) (error : Error) → r ≡ Err error
-    → IsOkAnd r (λ spot. Locates bytes spot t) → ⊥
-no_marks bytes t r error e h = rw e at h
-
 pub first_marked : {bytes : List ℕ} {ts : List Tree} {r : Result Spot Error} {after : SpotIter} (f : FirstLeft bytes ts r after) (spot : Spot)
     → r ≡ Ok spot → Locates bytes spot f.first
-first_marked {bytes} {ts} {r} {after} f spot e = marks_of bytes f.first r spot e f.marks
+first_marked {bytes} {ts} {r} {after} f spot e = rw e at f.marks
 
 -- if a tree is left, its spot is given
 pub first_given : {bytes : List ℕ} {ts : List Tree} {r : Result Spot Error} {after : SpotIter} (f : FirstLeft bytes ts r after) (error : Error)
     → r ≡ Err error → ⊥
-first_given {bytes} {ts} {r} {after} f error e = no_marks bytes f.first r error e f.marks
+first_given {bytes} {ts} {r} {after} f error e = rw e at f.marks
 
 -- ---- an index, from the front or from the end
 

@@ -15,11 +15,7 @@ none_made R made whole is = record { front = []; each = rw is tt; joined = refl 
 -- with a value for the next part, the rest is left
 pub one_made : {A B : Type 0} (R : A → B → Type 0) (made made' : List A) (x : A) (y : B) (left whole : List B) → made' ≡ made ++ x ∷ [] → R x y
     → Made R made (y ∷ left) whole → Made R made' left whole
-one_made R made made' x y left whole is r m = record {
-  front = m.front ++ y ∷ [];
-  each = rw is (zip_more R made m.front x y m.each r);
-  joined = append_assoc m.front (y ∷ []) left ∙ m.joined;
-}
+one_made R made made' x y left whole is r m = grind (arith, zip_more, append_assoc)
 
 -- at last each is made
 pub all_made : {A B : Type 0} (R : A → B → Type 0) (made : List A) (whole : List B) → Made R made [] whole → AllZip R made whole

@@ -1,10 +1,10 @@
 -- The names that most proofs cite, passed on from one place. Declares nothing.
-pub use Rattle.std.proofs.Common.{◌≡◌, Option, Some, None, Result, Ok, Err, IsOkAnd, IsErrAnd, inl, MatchResult, refl, sym, subst, arith, ◌⊎◌, inr, suc, List, ◌∷◌, length, ap, Any, ◌≤◌, ◌↔◌, ℕ, zero, ℤ, Bool, true, false, IsTrue, [], map, drop, slice_get, Bor, remove, drop_of_length-le, ◌<◌, pos, unwrap_or, option_and_then, ◌++◌, ◌∙◌, append_assoc, append-nil, ◌+◌, flat_map, get_or, IsSomeAnd, not, Ordering, Less, Equal, Greater, nat_cmp, ◌&&◌, ◌||◌, ap₂, ◌≢◌, bytes_eq, length-append, ◌==◌, IfSome, is_eq, replicate, slice_index_or, slice_set, true≢false, option_copied, ◌-◌, ◌^◌, take, reverse, option_map, length-drop, take_all, Vec, Global, ◌/◌, ◌%◌, cond, w16, ne_eqb, nat_lt, nat_eq, min, is_some, drop_at, IfOk, position, ◌*◌, negsuc, neg_ℤ, unsigned_abs, int_lt, take_at, mod-eq_of_lt, lit<, if◌then◌else◌, Contains, w32, max, add-one, drop-cons, filter, find, ⊎_elim, pow-suc, mul_comm, mul-lt-mul_of_pos_right, mul-pos, mul-le-mul_right, zero-add, le_trans, le_of_eq, lt_of_lt_of_le, mul_assoc, mul_right_comm, add_comm, ◌*ℤ◌, FitsSigned, nat_abs, pow-add, string_bytes, IsUtf8, ltb-true, codes, w8, insert, length-set, rules, SFits, vec_len, vec_capacity, OnOk, to_z, of_z, IfErr, MatchOption, IsAscii, ok_or}
-pub use Rattle.jsonb_doc.proofs.Common.{Tree, Form, IsOutOfMemory, IsOutOfMemoryOrTooLarge, array, Trees, no_trees, tree, elements, count, Decodes, IsTooLarge, HasElementsLeft, bytes_eq-Decides, object, Pairs, trees_of, field_of, StandsFor, nat_tests, SameOption, TakesSpot, Locates, HasSpotsLeft, AllZip, Width, AllByRecursion, deepest, keys_of, ordering_reverse, match_ordering, slice_cmp, IsBelowFirst, insert_pair, Fits, kind_number, number_reader, no_pairs, pair, keys, members, value_under, extension, is_equal, key_words, Extension, null, boolean, number, text, is_equal_equiv, values_of, length-take-le, length-values_of, values, pairs_of, children_of, AreKeys, IsContent, container_entry, Make, AreSortedKeys, Around, Rooms, IsWriting, EndsWithin, map-append, take-take, to_be_bytes, is_eq-slice_cmp, sum_by-cons, false≢true, ⊤, eq_by_cmp, number_cmp, short_value, key_trees, item_size, IsInRange, AreInRange, ValuesAreInRange, one-le-pow, Variant, number_from, HasKeysLeft, length-keys_of, TakesElement, HasPairsLeft, TakesPair, Parts, no_parts, HoldsElements, HoldsFront, iter_rest, bytes_high_first, byte_len, nat_cmp-equal, FitsExtension, canonical, extension_payload, IsShort, HasShortParts, HasShortElements, HasShortValues, FitsNumber, rank, tree_cmp, IsEqual, AreEqual, PairsAreEqual, ordering_then, AreBytes, equal_from_test, is_equal-true, any, ◌or◌when◌, IsWithinLimits, widest_number, cast_signed, ints, value_tree, value_parts, deepest_of_trees, deepest_of_pairs, length-reverse, HeadedBy, header_number, All, All-head, All-tail, none-some, trees_in, w64, w128, cases_lt, eqb-true, nat_cmp-lt, nat_cmp_refl, nat_cmp_scaled, int_cmp-below, int_cmp-above, FitsParts, trees_cmp, pairs_cmp, mod_below, uint64, decimal64, date, NumberReader, header, array_header, AreEntries, AreValues, entry_word, key_bytes, Holds, StandBefore, StartWith, take-append-drop, get_or_append_left, get_or-append-add, All-append, All-cons, to_z-of_z, err_from_is_err_and, scalar_header, binary, HasPairParts, IsRootOf, IsRootShape, number_parts, number_view}
+pub use Rattle.std.proofs.Common.{◌≡◌, Option, None, Result, Ok, IsOkAnd, IsErrAnd, MatchResult, arith, ◌⊎◌, inl, inr, suc, List, ◌∷◌, length, Some, refl, ap, Any, ◌↔◌, ℕ, zero, ℤ, Bool, true, false, IsTrue, [], map, drop, slice_get, ◌<◌, ◌≤◌, pos, Err, unwrap_or, sym, option_and_then, ◌++◌, subst, ◌∙◌, append_assoc, append-nil, ◌+◌, flat_map, get_or, IsSomeAnd, not, Ordering, Less, Equal, Greater, nat_cmp, ◌&&◌, ◌||◌, ap₂, ◌≢◌, bytes_eq, Bor, length-append, ◌==◌, IfSome, is_eq, replicate, slice_index_or, slice_set, true≢false, ◌-◌, ◌^◌, take, reverse, option_map, length-drop, take_all, Vec, Global, ◌/◌, ◌%◌, cond, w16, ne_eqb, nat_lt, nat_eq, min, is_some, drop_at, position, ◌*◌, take_at, mod-eq_of_lt, if◌then◌else◌, Contains, w32, max, add-one, drop-cons, filter, find, ⊎_elim, pow-suc, mul_comm, mul-lt-mul_of_pos_right, mul-pos, mul-le-mul_right, zero-add, le_trans, le_of_eq, lt_of_lt_of_le, mul_assoc, mul_right_comm, add_comm, lit<, negsuc, ◌*ℤ◌, nat_abs, pow-add, string_bytes, option_copied, IsUtf8, int_lt, codes, w8, insert, length-set, rules, SFits, vec_len, vec_capacity, OnOk, to_z, of_z, ltb-true, IfOk, drop_of_length-le, MatchOption, FitsSigned, IsAscii}
+pub use Rattle.jsonb_doc.proofs.Common.{Tree, Form, IsOutOfMemory, array, Trees, no_trees, tree, elements, count, Decodes, IsOutOfMemoryOrTooLarge, IsTooLarge, HasElementsLeft, bytes_eq-Decides, nat_tests, SameOption, TakesSpot, Locates, HasSpotsLeft, AllZip, Width, keys_of, ordering_reverse, match_ordering, slice_cmp, IsBelowFirst, insert_pair, kind_number, number_reader, StandsFor, object, Pairs, no_pairs, pair, keys, members, value_under, extension, is_equal, key_words, Extension, null, boolean, number, text, is_equal_equiv, values_of, length-take-le, length-values_of, values, trees_of, pairs_of, children_of, AreKeys, IsContent, container_entry, Make, AreSortedKeys, Around, Rooms, IsWriting, EndsWithin, map-append, take-take, to_be_bytes, AllByRecursion, is_eq-slice_cmp, sum_by-cons, Fits, false≢true, ⊤, eq_by_cmp, number_cmp, short_value, key_trees, item_size, IsInRange, AreInRange, ValuesAreInRange, HasKeysLeft, length-keys_of, HasPairsLeft, TakesPair, GivesPair, Parts, no_parts, HoldsElements, HoldsFront, iter_rest, bytes_high_first, byte_len, nat_cmp-equal, FitsExtension, canonical, extension_payload, IsShort, HasShortParts, HasShortElements, HasShortValues, FitsNumber, rank, tree_cmp, IsEqual, AreEqual, PairsAreEqual, ordering_then, AreBytes, deepest, equal_from_test, is_equal-true, one-le-pow, ◌or◌when◌, IsWithinLimits, cast_signed, value_tree, value_parts, deepest_of_trees, deepest_of_pairs, length-reverse, HeadedBy, header_number, All, All-head, All-tail, none-some, field_of, cases_lt, eqb-true, nat_cmp-lt, nat_cmp_refl, nat_cmp_scaled, trees_cmp, pairs_cmp, trees_in, mod_below, number_from, uint64, decimal64, date, NumberReader, AreEntries, AreValues, entry_word, key_bytes, Holds, StandBefore, StartWith, take-append-drop, get_or_append_left, get_or-append-add, All-append, All-cons, w64, to_z-of_z, err_from_is_err_and, w128, binary, HasPairParts, any, IsRootOf, IsRootShape, number_parts, number_view}
 unfoldable pub use Rattle.jsonb_doc.proofs.Common.{number_of, extension_of, IsStrictlySortedBy}
-pub use Rattle.jsonb_keypath.proofs.Common.{Key, list_all, index, unquoted_name, quoted_name, key_paths_view, option_or, key_view, keys_view, signed_decimal, cow_str_bytes, key_path_text, without_quotes, IsUtf8-from_ascii}
+pub use Rattle.jsonb_keypath.proofs.Common.{Key, list_all, index, unquoted_name, key_paths_view, option_or, quoted_name, key_view, keys_view, signed_decimal, key_path_text, without_quotes, IsUtf8-from_ascii}
 unfoldable pub use Rattle.jsonb_keypath.proofs.Common.{key_path}
-pub use Rattle.jsonb_doc.proofs.Basics.{zip_more, below_next, bytes_cmp_refl, or_false, innermost, same_test, shuffled, or_second, many_texts, empty_of, both_equal, bytes_cmp, same_from_bytes_cmp, scaled_pos, many_keys, zero_of, pushed, popped, none_around, only_ok, not_zero_of, if_answered}
+pub use Rattle.jsonb_doc.proofs.Basics.{zip_more, below_next, bytes_cmp_refl, or_false, innermost, same_test, or_second, shuffled, many_texts, empty_of, both_equal, bytes_cmp, same_from_bytes_cmp, scaled_pos, many_keys, zero_of, pushed, popped, none_around, only_ok, not_zero_of, if_answered}
 pub use Rattle.jsonb_doc.proofs.BuilderSteps.{AreRising, keys_rise, front_empty, front_pushed, front_refused, AreRising-filter, front_whole}
 pub use Rattle.jsonb_doc.proofs.CanonicalLemmas.{in_any}
 pub use Rattle.jsonb_doc.proofs.Containers.{array_document, object_document, length-words, length-key_words, HasContent-headed, HasContent-kind, array_content, object_content, Decodes-array, Decodes-object, IsCut-same}
@@ -23,29 +23,25 @@ pub use Rattle.jsonb_doc.proofs.OneTree.{content_unique}
 pub use Rattle.jsonb_doc.proofs.PairsLemmas.{IsPairsOf, IsKeysOf, HoldsPairs-skipped, HoldsPairs-values}
 pub use Rattle.jsonb_doc.proofs.ScalarLemmas.{number_content, some_injective, text_content, null_content}
 pub use Rattle.jsonb_doc.proofs.SpotsTaken.{no_spots_left}
-pub use Rattle.jsonb_doc.proofs.TreeLists.{trees_of-elements, elements-trees_of, members-pairs_of, keys_of-members, pairs_of-members}
+pub use Rattle.jsonb_doc.proofs.TreeLists.{trees_of-elements, keys_of-members, pairs_of-members, members-pairs_of, elements-trees_of}
 pub use Rattle.jsonb_doc.proofs.TreeOrder.{equal_from_tree_cmp, tree_cmp-equal}
 pub use Rattle.jsonb_doc.proofs.Weights.{weight-pos, inner_weighs, taken_weighs, weight_of_all, falls_inward, falls_outward}
 unfoldable pub use Rattle.jsonb_doc.proofs.Weights.{weight_of}
 pub use Rattle.jsonb_doc.proofs.WordLemmas.{bytes_eq-same, bytes_eq-true, word_cancel}
 pub use Rattle.jsonb_doc.proofs.WriterLemmas.{entries_append, one_entry}
 pub use Rattle.jsonb_doc.proofs.WriterLimits.{too_many, within_parts, not_short}
-pub use Rattle.jsonb_doc.specs.Answer.{Outcome, Refines}
-pub use Rattle.jsonb_doc.specs.AnyBytes.Parts.{AreArrayParts, AreObjectParts}
 pub use Rattle.jsonb_doc.specs.AnyBytes.Roots.{HasShape}
 pub use Rattle.jsonb_doc.specs.Elements.{GivesElement}
 pub use Rattle.jsonb_doc.specs.Equal.{are_equal, pairs_are_equal}
 pub use Rattle.jsonb_doc.specs.Number.{Number}
 pub use Rattle.jsonb_doc.specs.ObjectKeys.{TakesKey}
-pub use Rattle.jsonb_doc.specs.ObjectPairs.{GivesPair}
-pub use Rattle.jsonb_doc.specs.Private.EntryKinds.{text_entry, null_entry}
-pub use Rattle.jsonb_doc.specs.Private.Stored.{Stores, HasEntriesLeft, TakesEntry, GivesEntry, HasPairEntriesLeft, TakesPairEntry, GivesPairEntry, entries_room, entries_bound}
+pub use Rattle.jsonb_doc.specs.Private.EntryKinds.{null_entry}
+pub use Rattle.jsonb_doc.specs.Private.Stored.{Stores, HasEntriesLeft, GivesEntry, HasPairEntriesLeft, GivesPairEntry, TakesPairEntry, TakesEntry, entries_room, entries_bound}
 pub use Rattle.jsonb_doc.specs.Private.Writer.{head_size, HasRoom}
 pub use Rattle.jsonb_doc.specs.Proofs.Equality.{both, first_of_both, second_of_both}
-pub use Rattle.jsonb_doc.specs.Proofs.NumberOrder.{at_common, int_cmp-pos, int_cmp-negative}
+pub use Rattle.jsonb_doc.specs.Proofs.NumberOrder.{at_common, int_cmp-pos, int_cmp-negative, int_cmp-below, int_cmp-above}
 unfoldable pub use Rattle.jsonb_doc.specs.Proofs.NumberOrder.{common}
 pub use Rattle.jsonb_doc.specs.Proofs.Orderings.{then_Equal, nat_cmp-gt, nat_cmp_places, then_assoc, mod_places}
-pub use Rattle.jsonb_doc.specs.Rounding.{rounded}
 pub use Rattle.jsonb_doc.specs.declared.container.ArrayParts.{ArrayParts}
 pub use Rattle.jsonb_doc.specs.declared.container.ObjectParts.{ObjectParts}
 pub use Rattle.jsonb_doc.specs.declared.cursor.Entries.{Entries}
@@ -54,7 +50,7 @@ pub use Rattle.jsonb_doc.specs.declared.entry_iter.EntryIter.{EntryIter}
 pub use Rattle.jsonb_doc.specs.declared.entry_iter.PairEntryIter.{PairEntryIter}
 pub use Rattle.jsonb_doc.specs.declared.entry_iter.StoredEntry.{StoredEntry}
 pub use Rattle.jsonb_doc.specs.declared.error.Error.{Error}
-pub use Rattle.jsonb_doc.specs.declared.error.Error.TheVariants.{OutOfMemory, TooLarge, InvalidCast}
+pub use Rattle.jsonb_doc.specs.declared.error.Error.TheVariants.{OutOfMemory, TooLarge}
 pub use Rattle.jsonb_doc.specs.declared.extension.ExtensionValue.{ExtensionValue}
 pub use Rattle.jsonb_doc.specs.declared.item.Item.{Item}
 pub use Rattle.jsonb_doc.specs.declared.item.Item.TheVariants.{Array, Object, String, Boolean}
@@ -69,14 +65,14 @@ pub use Rattle.jsonb_doc.specs.declared.short_number.ShortNumber.{ShortNumber}
 pub use Rattle.jsonb_doc.specs.declared.spot.Spot.{Spot}
 pub use Rattle.jsonb_doc.specs.declared.spot_iter.SpotIter.{SpotIter}
 pub use Rattle.jsonb_doc.specs.declared.value.Value.{Value, the_lemmas}
-pub use Rattle.jsonb_keypath.proofs.KeyPathReadsBack.{ReadsBack, reads_back_if_read}
+pub use Rattle.jsonb_keypath.proofs.KeyPathReadsBack.{reads_back_if_read}
 pub use Rattle.jsonb_keypath.specs.declared.key_path.KeyPath.{KeyPath}
-pub use Rattle.jsonb_keypath.specs.declared.key_path.KeyPath.TheVariants.{Index, QuotedName, Name}
+pub use Rattle.jsonb_keypath.specs.declared.key_path.KeyPath.TheVariants.{Index}
 pub use Rattle.jsonb_keypath.specs.declared.key_path.KeyPaths.{KeyPaths}
 pub use Rattle.jsonb_raw.specs.AnyBytes.Roots.{HasRoot}
 pub use Rattle.jsonb_raw.specs.Arrays.{as_elements, array_length, array_values, array_insert, insert_place}
-pub use Rattle.jsonb_raw.specs.Casts.{text_of, IsBoolOf, Casts, IsSignedOf}
-pub use Rattle.jsonb_raw.specs.Children.{element_at, named_child, without_index, without_name}
+pub use Rattle.jsonb_raw.specs.Casts.{text_of, IsBoolOf, Casts}
+pub use Rattle.jsonb_raw.specs.Children.{named_child, without_index, element_at, without_name}
 pub use Rattle.jsonb_raw.specs.CompositeKeys.{column_key, deepest_of_columns, AppendsColumn, HaveKeys, AreColumns}
 pub use Rattle.jsonb_raw.specs.Concat.{concat}
 pub use Rattle.jsonb_raw.specs.Contains.{is_part_of, each_pair_is_matched, contains, each_is_matched}
@@ -90,12 +86,12 @@ pub use Rattle.jsonb_raw.specs.Making.{IsPairOf}
 pub use Rattle.jsonb_raw.specs.NoExtension.{HasNoExtension}
 pub use Rattle.jsonb_raw.specs.Objects.{has_name, TextSet, is_in, with_pairs, object_keys, object_each, object_insert, object_pick, object_delete}
 pub use Rattle.jsonb_raw.specs.Partition.{IsPartitionedInto}
-pub use Rattle.jsonb_raw.specs.Places.{index_position, children, child_position, location, asked_key, tree_at_steps, tree_at}
+pub use Rattle.jsonb_raw.specs.Places.{index_position, children, child_position, location, asked_key, tree_at_steps}
 pub use Rattle.jsonb_raw.specs.Private.Compared.{PassesOver, IsTailOf, Decides, IsShorter, IsOneAnswer, matches}
 pub use Rattle.jsonb_raw.specs.Private.Complements.{complement_byte, complement_bytes}
-pub use Rattle.jsonb_raw.specs.Private.Cursors.{has_by, IsCursorOf, IsPassed, IsBefore, HoldsTexts, IsTableOf}
+pub use Rattle.jsonb_raw.specs.Private.Cursors.{has_by, IsCursorOf, IsPassed, IsTableOf, HoldsTexts}
 pub use Rattle.jsonb_raw.specs.Private.Cuts.{count_kept, IsParent, LeadTo, HoldsValue, StepsInto, children_kept, size, sizes, AreShort, AreLeft, rooms_after, Leads, IsClosing, contents_size}
-pub use Rattle.jsonb_raw.specs.Private.Entries.{AreElementsOf, HoldPairs, TakesFirstPair, IsFirstPair, PairsHeld, PairsOpen, HoldTrees, TakesFirst, AreEntriesOf, AreContainerEntries, ArePairsOf, RunsHold, IsTooLongRoot, IsTooLongElement, IsFirst, Holding, AreWithin}
+pub use Rattle.jsonb_raw.specs.Private.Entries.{HoldPairs, TakesFirstPair, IsFirstPair, PairsHeld, PairsOpen, HoldTrees, TakesFirst, AreEntriesOf, AreContainerEntries, ArePairsOf, RunsHold, AreElementsOf, IsTooLongRoot, IsTooLongElement, IsFirst, Holding}
 pub use Rattle.jsonb_raw.specs.Private.EqualityParts.{equality_start, equality_part_start}
 pub use Rattle.jsonb_raw.specs.Private.Found.{Finds}
 pub use Rattle.jsonb_raw.specs.Private.Hashes.{value_hash, IsPartHash, AreHashed, IsHashOf, Covers}
@@ -105,19 +101,19 @@ pub use Rattle.jsonb_raw.specs.Private.KeyParts.{start, name_start, part_start, 
 pub use Rattle.jsonb_raw.specs.Private.KeyWidth.{width_of}
 pub use Rattle.jsonb_raw.specs.Private.LargeTexts.{LargeTells, LeavesTexts}
 pub use Rattle.jsonb_raw.specs.Private.LeafSteps.{behind, step_at, step_key, step_keys, IsKept}
-pub use Rattle.jsonb_raw.specs.Private.Levels.{EntryPrefix, parts, parts_of_trees, parts_of_pairs, IsKeyOf, HasAllLeft, HasPartsLeft, TakesPart, IsSmaller, IsLevelWithin, level_room, level_bound, IsLevelOf}
+pub use Rattle.jsonb_raw.specs.Private.Levels.{EntryPrefix, parts, parts_of_trees, parts_of_pairs, IsKeyOf, HasPartsLeft, TakesPart, IsSmaller, IsLevelWithin, level_room, level_bound, HasAllLeft, IsLevelOf}
 pub use Rattle.jsonb_raw.specs.Private.Merging.{merged}
 pub use Rattle.jsonb_raw.specs.Private.NameBlocks.{texts_of, is_one_of, decided_by, HasTextsLeft, TakesText, IsPlaced, names_of, IsBlock, AreSeen}
 pub use Rattle.jsonb_raw.specs.Private.NamePositions.{position_in_some_case}
-pub use Rattle.jsonb_raw.specs.Private.Names.{first_and_others, is_among, AreSorted, IsNotBelow, DecideFrom, DecideForKeys, PartsFirst, all_or_none, names_left}
+pub use Rattle.jsonb_raw.specs.Private.Names.{first_and_others, is_among, IsNotBelow, DecideFrom, DecideForKeys, PartsFirst, all_or_none, names_left}
 pub use Rattle.jsonb_raw.specs.Private.Order.{part_cmp}
 pub use Rattle.jsonb_raw.specs.Private.PackedBytes.{packed_bytes}
 pub use Rattle.jsonb_raw.specs.Private.PairSteps.{pairs_above, parted}
 pub use Rattle.jsonb_raw.specs.Private.PlainWords.{IsPlainWord, is_plain_text}
-pub use Rattle.jsonb_raw.specs.Private.SetCounts.{key_cmp, counted, one_at, with_key, CountsKeys, keeps, CountsAfter, in_order, ArePassed, Occurrence, kept_one, HaveSeen, is_first}
+pub use Rattle.jsonb_raw.specs.Private.SetCounts.{key_cmp, counted, one_at, with_key, CountsKeys, keeps, CountsAfter, in_order, ArePassed, kept_one, HaveSeen, Occurrence, is_first}
 pub use Rattle.jsonb_raw.specs.Private.StartHints.{is_container, scalars_matched, AreStarts}
 pub use Rattle.jsonb_raw.specs.Private.Steps.{child_met}
-pub use Rattle.jsonb_raw.specs.Private.Stripping.{entries_kept, leaves_out, stripped, beside, stops, values_kept, WordsHold, HoldValues, Begins, AreWritten, IsAboveLast, IsStripping}
+pub use Rattle.jsonb_raw.specs.Private.Stripping.{entries_kept, leaves_out, stripped, beside, values_kept, WordsHold, stops, HoldValues, Begins, AreWritten, IsAboveLast, IsStripping}
 pub use Rattle.jsonb_raw.specs.Private.WrittenBefore.{WritesBefore}
 pub use Rattle.jsonb_raw.specs.Scalars.{is_object, is_json_scalar, is_extension_value, is_array, IsWholeNumber, is_null}
 pub use Rattle.jsonb_raw.specs.Sets.{count_of, is_shared, overlap, distinct, intersection_of, difference_of, occurrences, select_occurrences}
@@ -140,12 +136,10 @@ pub use Rattle.jsonb_raw.specs.declared.functions.parts.PairEntries.{PairEntries
 pub use Rattle.jsonb_raw.specs.declared.functions.parts.PairRuns.{PairRuns}
 pub use Rattle.jsonb_raw.specs.declared.functions.path.cut.Outer.{Outer}
 pub use Rattle.jsonb_raw.specs.declared.functions.path.exists.KeyCursor.{KeyCursor}
-pub use Rattle.jsonb_raw.specs.declared.functions.path.exists.Texts.TheVariants.{Keys}
 pub use Rattle.jsonb_raw.specs.declared.functions.path.leaves.Step.{Step}
 pub use Rattle.jsonb_raw.specs.declared.functions.path.name_block.NameTable.{NameTable}
 pub use Rattle.jsonb_raw.specs.declared.functions.path.parent_entries.ParentEntries.{ParentEntries}
 pub use Rattle.jsonb_raw.specs.declared.level.ChildCursor.{ChildCursor}
-pub use Rattle.jsonb_raw.specs.declared.level.ChildCursor.TheVariants.{Elements}
 pub use Rattle.jsonb_raw.specs.declared.owned.OwnedJsonb.{OwnedJsonb}
 pub use Rattle.jsonb_raw.specs.declared.raw.RawJsonb.{RawJsonb}
 pub use Rattle.std.proofs.Math.Nat.{div-div-eq-div-mul, pow-succ'}
@@ -155,6 +149,7 @@ pub use Rattle.std.proofs.lemmas.Bool.Decides.{same_from_decides}
 pub use Rattle.std.proofs.lemmas.Cmp.{int_ranked}
 pub use Rattle.std.proofs.lemmas.Fmt.{decimal_digit}
 pub use Rattle.std.proofs.lemmas.Grind.{get_or-set_at}
+pub use Rattle.std.proofs.lemmas.Int.{ints}
 pub use Rattle.std.proofs.lemmas.Int.Digits.{digits_of_step, length-digits_of_step, length-digits_of-le, number_lt, number_digits_of, all_below_base_digits_of, first_digits_of}
 pub use Rattle.std.proofs.lemmas.List.{drop_more, reverse-reverse, take-set-le, take_more, take_more_set, get_or_default}
 pub use Rattle.std.proofs.lemmas.List.Concat.{flat_map-append}
@@ -171,13 +166,11 @@ pub use Rattle.std.specs.Cmp.Lexicographic.{nat_list_cmp_total}
 pub use Rattle.std.specs.Fn.{FnReturnsAt}
 pub use Rattle.std.specs.Int.{byte_at, bytes_low_first, from_le_bytes, to_le_bytes}
 pub use Rattle.std.specs.Int.Digits.{digits_of, number_from_digits, number_from_digits_after, AllBelowBase}
-pub use Rattle.std.specs.Iterator.{YieldsFirstRef}
 pub use Rattle.std.specs.Iterator.Adapters.{copied_steps, copied_source}
-pub use Rattle.std.specs.List.{list_any, position_or_len}
+pub use Rattle.std.specs.List.{list_any, remove}
 pub use Rattle.std.specs.Map.Iter.{deref}
 pub use Rattle.std.specs.Option.{option_map_or, option_to_list, option_cmp}
 pub use Rattle.std.specs.Ordering.{int_cmp, is_ne}
 pub use Rattle.std.specs.Slice.Iter.{iter_steps}
 pub use Rattle.std.specs.Str.{str_eq_ignore_ascii_case}
-pub use Rattle.std.specs.declared.borrow.CowStr.{CowStr}
 pub use native.Mathlib.Nat.{pow-le-pow_right}

@@ -1,5 +1,5 @@
 -- Pairs that are merged, and the laws of concatenation.
-use Rattle.jsonb_raw.proofs.Common.{◌≡◌, ◌⊎◌, ℕ, List, [], ◌∷◌, ◌++◌, Bool, true, false, not, Option, Some, None, refl, sym, ap, ◌∙◌, append_assoc, append-nil, Ordering, Less, Equal, Greater, subst, arith, keys_of, ordering_reverse, match_ordering, slice_cmp, nat_list_cmp_total, Tree, Trees, Pairs, array, object, elements, Form, IsBelowFirst, insert_pair, AreRising, keys_rise, below_inserted, PairEntries, FirstPair, PairRuns, merged, HoldPairs, TakesFirstPair, IsFirstPair, PairsHeld, PairsOpen, below_next, bytes_cmp_refl, bytes_eq-Decides, Fits, elements-trees_of, members-pairs_of, keys_of-members, concat}
+use Rattle.jsonb_raw.proofs.Common.{◌≡◌, ℕ, List, [], ◌∷◌, ◌++◌, Bool, true, false, not, Option, Some, refl, sym, ap, ◌∙◌, append_assoc, append-nil, Ordering, Less, Equal, Greater, subst, arith, keys_of, ordering_reverse, match_ordering, slice_cmp, nat_list_cmp_total, Tree, Form, IsBelowFirst, insert_pair, AreRising, below_inserted, PairEntries, FirstPair, PairRuns, merged, HoldPairs, TakesFirstPair, IsFirstPair, PairsHeld, PairsOpen, below_next, bytes_cmp_refl, bytes_eq-Decides}
 use Rattle.std.specs.Ordering.{nat_cmp}
 use Rattle.jsonb_raw.proofs.PairStepLemmas.{same_below, turned, equal_keys, test_of_order}
 use Rattle.jsonb_raw.proofs.RunLemmas.{pairs_begun, no_pairs_held, pair_kept, others_hold, left_holds, pair_taken, no_pair_left}
@@ -29,8 +29,7 @@ module _ (k : List ℕ) (t : Tree) (l : List ℕ) (u : Tree) (xs qs : List Membe
       rw same (merged_first (k, u) xs qs (same_below l k (keys_of qs) same rising.0) rising.1)
 
   pub merged_greater : slice_cmp nat_cmp k l ≡ Greater → merged ((k, t) ∷ xs) ((l, u) ∷ qs) ≡ (l, u) ∷ merged ((k, t) ∷ xs) qs
-  merged_greater e =
-      rw (turned k l Greater e) (merged_first (l, u) ((k, t) ∷ xs) qs rising.0 rising.1)
+  merged_greater e = grind (arith, turned, merged_first)
 
 -- ---- keys
 
@@ -58,21 +57,13 @@ both true cs os = merged os cs
 
 module _ (p o : Member) (cs os : List Member) (r : AreRising (p.0 ∷ keys_of cs)) (s : AreRising (o.0 ∷ keys_of os)) where
   both_less : (b : Bool) → slice_cmp nat_cmp p.0 o.0 ≡ Less → both b (p ∷ cs) (o ∷ os) ≡ p ∷ both b cs (o ∷ os)
-  both_less false e = merged_less p.0 p.1 o.0 o.1 cs os s e
-  both_less true e = merged_greater o.0 o.1 p.0 p.1 os cs r (turned p.0 o.0 Less e)
+  both_less b h = grind (arith, merged_less, merged_greater, turned)
 
   both_greater : (b : Bool) → slice_cmp nat_cmp p.0 o.0 ≡ Greater → both b (p ∷ cs) (o ∷ os) ≡ o ∷ both (not b) os (p ∷ cs)
-  both_greater false e = merged_greater p.0 p.1 o.0 o.1 cs os s e
-  both_greater true e = merged_less o.0 o.1 p.0 p.1 os cs r (turned p.0 o.0 Greater e)
+  both_greater b h = grind (arith, merged_greater, merged_less, turned)
 
   both_equal : slice_cmp nat_cmp p.0 o.0 ≡ Equal → both false (p ∷ cs) (o ∷ os) ≡ o ∷ both true os cs
   both_equal e = merged_equal p.0 p.1 o.0 o.1 cs os s e ∙ ap (λ (k : List ℕ). (k, o.1) ∷ merged cs os) (equal_keys p.0 o.0 e)
-
-  both_equal_second : slice_cmp nat_cmp p.0 o.0 ≡ Equal → both true (p ∷ cs) (o ∷ os) ≡ p ∷ both true cs os
-  both_equal_second e = cc (merged_equal o.0 o.1 p.0 p.1 os cs r (turned p.0 o.0 Equal e), equal_keys p.0 o.0 e)
-
-both_end : (b : Bool) (cs os : List Member) → AreRising (keys_of cs) → AreRising (keys_of os) → (cs ≡ []) ⊎ (os ≡ []) → both b cs os ≡ cs ++ os
-both_end b cs os h e k = grind (arith, merged_none, append-nil)
 
 -- the pairs that are kept, followed by what is left of both, are the whole
 pub record Merging (form : Form) (runs : PairRuns) (run left other : PairEntries) (is_second : Bool) (whole : List Member) : Type 0 where
@@ -167,7 +158,9 @@ module _ (form : Form) (runs : PairRuns) (run left other : PairEntries) (b : Boo
           others = others_hold form other next f.os f.o f.second;
           rising = f.r.1;
           other_rising = f.s.1;
-          joined = cc (moved f.p (both true f.cs f.os) _ (both_equal_second f.p f.o f.cs f.os f.r f.s (same_order Equal e)) j);
+          joined = cc (moved f.p (both true f.cs f.os) _
+              (cc (merged_equal f.o.0 f.o.1 f.p.0 f.p.1 f.os f.cs f.r (turned f.p.0 f.o.0 Equal (same_order Equal e)), equal_keys f.p.0 f.o.0
+                  (same_order Equal e), same_order Equal e)) j);
         }
 
     module _ (runs' : PairRuns) (pushed : PairsHeld form runs' m.held) where
@@ -205,20 +198,10 @@ module _ (form : Form) (runs : PairRuns) (run left other : PairEntries) (b : Boo
             joined = moved f.o (both (not b) f.os (f.p ∷ f.cs)) _ (both_greater f.p f.o f.cs f.os f.r f.s b (same_order Greater e)) f.whole_is;
           }
 
-  -- at last what is left of the one, and then of the other, are what is left of both
-  pub merging_done : TakesFirstPair form left m.mine None ⊎ TakesFirstPair form other m.theirs None → (m.held ++ m.mine) ++ m.theirs ≡ whole
-  merging_done h = grind (arith, append_assoc, both_end, no_pair_left)
-
   -- if not both have a first pair, one has none
   pub merging_ended : (r s : Option FirstPair) → TakesFirstPair form left m.mine r → TakesFirstPair form other m.theirs s
       → ((x y : FirstPair) → r ≡ Some x → s ≡ Some y → ⊥) → (m.held ++ m.mine) ++ m.theirs ≡ whole
-  merging_ended r s h e k = grind (arith, merging_done)
-
--- ---- three arrays
-
-pub concat_arrays_assoc : (ts us vs : Trees) → concat (concat (array ts) (array us)) (array vs) ≡ concat (array ts) (concat (array us) (array vs))
-concat_arrays_assoc ts us vs =
-    cc (elements-trees_of (elements ts ++ elements us), append_assoc (elements ts) (elements us) (elements vs), elements-trees_of (elements us ++ elements vs))
+  merging_ended r s h e k = grind (arith, append_assoc, no_pair_left, merged_none, append-nil)
 
 -- ---- three objects
 
@@ -297,10 +280,6 @@ insert_merged key x ps (q ∷ qs) rising =
         ∙ sym (ap (merged ps) (insert_equal key x q qs e))
     go Greater e rest = rest ∙ sym (ap (merged ps) (insert_greater key x q qs e))
 
-merged_assoc : (ps qs rs : List Member) → AreRising (keys_of qs) → merged (merged ps qs) rs ≡ merged ps (merged qs rs)
+pub merged_assoc : (ps qs rs : List Member) → AreRising (keys_of qs) → merged (merged ps qs) rs ≡ merged ps (merged qs rs)
 merged_assoc ps qs [] rising = refl
 merged_assoc ps qs (r ∷ rs) rising = cc (insert_merged r.0 r.1 ps qs rising, merged_assoc ps (insert_pair r.0 r.1 qs) rs (rising_inserted r.0 r.1 qs rising))
-
-pub concat_objects_assoc : (ps qs rs : Pairs) → Fits (object ps) → Fits (object qs) → Fits (object rs)
-    → concat (concat (object ps) (object qs)) (object rs) ≡ concat (object ps) (concat (object qs) (object rs))
-concat_objects_assoc ps qs rs h e k = grind (arith, members-pairs_of, merged_assoc, keys_of-members, keys_rise)

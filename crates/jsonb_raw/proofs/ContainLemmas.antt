@@ -61,20 +61,16 @@ module _ (key : List ℕ) (y : Tree) (qs ps : Pairs) (rising : AreRising (keys p
 
 -- ---- entries
 
-no_container : (kind : ℕ) → (kind == 5) ≡ false → kind ≡ 5 → ⊥
-no_container kind other is = grind (arith, nat_tests)
-
 -- what the search for a key returns
 pub no_entry_found : (form : Form) (o : Option Tree) → SameOption (Stores form) None o → o ≡ None
 no_entry_found form o h = grind arith
 
 pub entry_found : (form : Form) (e : StoredEntry) (o : Option Tree) → SameOption (Stores form) (Some e) o → (t : Tree) × (o ≡ Some t) × Stores form e t
-entry_found form e None h = absurd h
-entry_found form e (Some t) h = (t, refl, h)
+entry_found form e o h = grind arith
 
 -- what is not a container matches if it is equal
 pub scalar_match : (form : Form) (e : StoredEntry) (y : Tree) → Stores form e y → (kind_number e.kind == 5) ≡ false → (x : Tree) → is_equal x y ≡ is_part_of y x
-scalar_match form e y h k x = grind (arith, no_container)
+scalar_match form e y h k x = grind (arith, nat_tests)
 
 pub scalar_matches : (form : Form) (e : StoredEntry) (y : Tree) → Stores form e y → (kind_number e.kind == 5) ≡ false → (xs : List Tree)
     → list_any (λ x. is_equal x y) xs ≡ list_any (is_part_of y) xs
@@ -120,11 +116,6 @@ object_equals_no_plain ps u h = grind arith
 pub extension_equals_no_plain : (x : Extension) (u : Tree) → is_json_scalar u ≡ true → is_equal (extension x) u ≡ false
 extension_equals_no_plain x u h = grind arith
 
--- another tree contains what it equals
-pub other_contains_plain : (form : Form) (x : Item) (t u : Tree) → StandsFor form x t → ((b : Bor (List ℕ)) → x ≡ item.Array b → ⊥) → is_json_scalar u ≡ true
-    → is_equal t u ≡ contains t u
-other_contains_plain form x t u h k e = grind (arith, extension_equals_no_plain, object_equals_no_plain)
-
 -- the header alone is that of an empty container
 pub array_of_header : (form : Form) (bytes : List ℕ) (ts : Trees) → Decodes form bytes (array ts) → length bytes ≡ 4 → ts ≡ no_trees
 array_of_header form bytes no_trees d short = refl
@@ -132,12 +123,6 @@ array_of_header form bytes (tree t ts) d short =
     let c = (array_document (number_reader form) (tree t ts) bytes d.document).1 in
     let len = length-words (number_reader form) (tree t ts) c.words c.contents c.parts in
     absurd (omega (arith, short, ap length c.headed.joined, length-append c.words c.contents, len))
-
-array_header_alone : (form : Form) (bytes : List ℕ) → Decodes form bytes (array no_trees) → length bytes ≡ 4
-array_header_alone form bytes h = grind (arith, array_document, length-append)
-
-object_header_alone : (form : Form) (bytes : List ℕ) → Decodes form bytes (object no_pairs) → length bytes ≡ 4
-object_header_alone form bytes h = grind (arith, object_document, length-append)
 
 pub object_of_header : (form : Form) (bytes : List ℕ) (ps : Pairs) → Decodes form bytes (object ps) → length bytes ≡ 4 → ps ≡ no_pairs
 object_of_header form bytes no_pairs d short = refl
@@ -164,14 +149,14 @@ pub arrays_decided : (form other_form : Form) (bytes others : List ℕ) (xs ys :
     → Decodes other_form others (array ys) → IfSome found (IsDecidedByLen bytes others) → IfSome found (λ b. b ≡ is_part_of (array ys) (array xs))
 arrays_decided form other_form bytes others xs ys None d e h = h
 arrays_decided form other_form bytes others xs ys (Some b) d e (inl h) = rw (h.0, array_of_header other_form others ys e h.1) refl
-arrays_decided form other_form bytes others xs no_trees (Some b) d e (inr h) = absurd (h.2 (array_header_alone other_form others e))
+arrays_decided form other_form bytes others xs no_trees (Some b) d e (inr h) = absurd (h.2 (grind (arith, array_document, length-append, e)))
 arrays_decided form other_form bytes others xs (tree y ys) (Some b) d e (inr h) = rw (h.0, array_of_header form bytes xs d h.1) refl
 
 pub objects_decided : (form other_form : Form) (bytes others : List ℕ) (ps qs : Pairs) (found : Option Bool) → Decodes form bytes (object ps)
     → Decodes other_form others (object qs) → IfSome found (IsDecidedByLen bytes others) → IfSome found (λ b. b ≡ is_part_of (object qs) (object ps))
 objects_decided form other_form bytes others ps qs None d e h = h
 objects_decided form other_form bytes others ps qs (Some b) d e (inl h) = rw (h.0, object_of_header other_form others qs e h.1) refl
-objects_decided form other_form bytes others ps no_pairs (Some b) d e (inr h) = absurd (h.2 (object_header_alone other_form others e))
+objects_decided form other_form bytes others ps no_pairs (Some b) d e (inr h) = absurd (h.2 (grind (arith, object_document, length-append, e)))
 objects_decided form other_form bytes others ps (pair key y qs) (Some b) d e (inr h) = rw (h.0, object_of_header form bytes ps d h.1) refl
 
 -- ---- starts of searches, and which of the trees to be found are containers
@@ -220,10 +205,6 @@ pub scalars_decide : (ys : Trees) (xs : List Tree) → scalars_matched ys xs ≡
 scalars_decide no_trees xs h = absurd (true≢false h)
 scalars_decide (tree y ys) xs h = grind (arith, scalars_decide ys xs, h)
 
--- each that is not a container is found
-pub scalar_found : (y : Tree) (ys : Trees) (xs : List Tree) → scalars_matched (tree y ys) xs ≡ true → is_container y ≡ false → list_any (is_part_of y) xs ≡ true
-scalar_found y ys xs h k = grind (arith, h, k)
-
 pub scalars_left : (y : Tree) (ys : Trees) (xs : List Tree) → scalars_matched (tree y ys) xs ≡ true → scalars_matched ys xs ≡ true
 scalars_left y ys xs h = grind (arith, h)
 
@@ -231,8 +212,4 @@ scalars_left y ys xs h = grind (arith, h)
 pub matched_left : (form : Form) (it : EntryIter) (Large : Bool → Type 0) (y : Tree) (ys : Trees) (xs : List Tree) (whole : Bool) → HasEntriesLeft form it ys
     → list_any (is_part_of y) xs ≡ true → (scalars_matched (tree y ys) xs ≡ true) × Aside Large (each_is_matched (tree y ys) xs) whole
     → SomeEntries form it (λ left. (scalars_matched left xs ≡ true) × Aside Large (each_is_matched left xs) whole)
-matched_left form it Large y ys xs whole left holds fact = record {
-  trees = ys;
-  left = left;
-  fact = (scalars_left y ys xs fact.0, part_holds Large (list_any (is_part_of y) xs) (each_is_matched ys xs) whole holds fact.1);
-}
+matched_left form it Large y ys xs whole left holds fact = search (scalars_left, part_holds, fact.0, fact.1)

@@ -82,26 +82,15 @@ not_container (array ts) = false
 not_container (object ps) = false
 not_container _ = true
 
--- what equals a tree that is not a container is none
-like : (u y : Tree) → is_equal u y ≡ true → not_container y ≡ true → not_container u ≡ true
-like u y h k = grind arith
-
-matched_equal : (u x : Tree) → not_container u ≡ true → is_part_of u x ≡ is_equal x u
-matched_equal u x h = grind arith
-
 equal_passed : (y u x : Tree) → not_container y ≡ true → is_equal u y ≡ true → is_part_of u x ≡ true → is_equal x y ≡ true
-equal_passed y u x e h k = (partial_equiv_from_equiv is_equal_equiv).trans x u y (sym (matched_equal u x (like u y h e)) ∙ k) h
+equal_passed y u x e h k = grind (arith, partial_equiv_from_equiv, is_equal_equiv)
 
 -- an array is matched by arrays alone, and an object by objects
 from_array : (us : Trees) (x : Tree) → is_part_of (array us) x ≡ true → (xs : Trees) × (x ≡ array xs)
-from_array us (boolean true) h = absurd (cc)
-from_array us (array xs) h = (xs, refl)
-from_array us _ h = absurd (cc)
+from_array us x h = grind arith
 
 from_object : (us : Pairs) (x : Tree) → is_part_of (object us) x ≡ true → (xs : Pairs) × (x ≡ object xs)
-from_object us (boolean true) h = absurd (cc)
-from_object us (object xs) h = (xs, refl)
-from_object us _ h = absurd (cc)
+from_object us x h = grind arith
 
 mutual
   matched_trans : (y u x : Tree) → is_part_of y u ≡ true → is_part_of u x ≡ true → is_part_of y x ≡ true
@@ -138,16 +127,13 @@ mutual
 
 -- ---- what is contained is passed on
 
-plain_matched : (v t : Tree) → is_json_scalar v ≡ true → is_part_of v t ≡ is_equal t v
-plain_matched v t h = grind arith
-
 -- a plain value is matched by an element of an array, or by the tree
 abbrev plain_in : Tree → Tree → Bool
 plain_in v (array ts) = list_any (is_part_of v) (elements ts)
 plain_in v t = is_part_of v t
 
 contains_plain : (t v : Tree) → is_json_scalar v ≡ true → contains t v ≡ plain_in v t
-contains_plain t v h = grind (arith, plain_matched, extension_equals_no_plain, array_contains_plain, object_equals_no_plain)
+contains_plain t v h = grind (arith, extension_equals_no_plain, array_contains_plain, object_equals_no_plain)
 
 plain_in_trans : (v u t : Tree) → is_part_of v u ≡ true → plain_in u t ≡ true → plain_in v t ≡ true
 plain_in_trans v u null h k = matched_trans v u null h k

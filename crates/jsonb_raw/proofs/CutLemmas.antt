@@ -1,6 +1,5 @@
 -- Containers without a value within them: their entries, the way to the value, and numbers of bytes.
-use Rattle.jsonb_raw.proofs.Common.{◌≡◌, ℕ, zero, suc, ◌+◌, ◌-◌, ◌^◌, ◌<◌, ◌≤◌, inl, List, [], ◌∷◌, ◌++◌, length, take, drop, map, Option, Some, None, refl, sym, ap, ap₂, subst, ◌∙◌, arith, append_assoc, append-nil, slice_get, reverse, option_map, option_to_list, keys_of, values_of, length-take-le, length-values_of, Tree, text, array, object, Trees, Pairs, no_pairs, pair, elements, keys, values, members, trees_of, pairs_of, children_of, Form, number_reader, IsBelowFirst, AreKeys, IsContent, Decodes, kind_number, container_entry, Make, AreSortedKeys, Around, Rooms, IsWriting, EndsWithin, head_size, Entries, StoredEntry, Container, HeaderKind, Writer, innermost, keys_rise, keys_of-members, Key, ContainerEntries, ParentEntries, Outer, children, child_position, change_at, change_child, remove_at, HoldTrees, TakesFirst, AreEntriesOf, AreContainerEntries, count_kept, IsParent, LeadTo, HoldsValue, StepsInto, children_kept, size, sizes, AreShort, AreLeft, rooms_after}
-use Rattle.std.specs.List.{remove}
+use Rattle.jsonb_raw.proofs.Common.{◌≡◌, ℕ, zero, suc, ◌+◌, ◌-◌, ◌^◌, ◌<◌, ◌≤◌, inl, List, [], ◌∷◌, ◌++◌, length, take, drop, map, Option, Some, None, refl, sym, ap, ap₂, subst, ◌∙◌, arith, append_assoc, append-nil, slice_get, reverse, option_map, option_to_list, keys_of, values_of, length-take-le, length-values_of, Tree, text, array, object, Trees, Pairs, no_pairs, pair, elements, keys, values, members, trees_of, pairs_of, children_of, Form, number_reader, IsBelowFirst, AreKeys, IsContent, Decodes, kind_number, container_entry, Make, AreSortedKeys, Around, Rooms, IsWriting, EndsWithin, head_size, Entries, StoredEntry, Container, HeaderKind, Writer, innermost, keys_rise, keys_of-members, Key, ContainerEntries, ParentEntries, Outer, children, child_position, change_at, change_child, remove_at, HoldTrees, TakesFirst, AreEntriesOf, AreContainerEntries, count_kept, IsParent, LeadTo, HoldsValue, StepsInto, children_kept, size, sizes, AreShort, AreLeft, rooms_after, remove}
 use Rattle.std.proofs.lemmas.Cmp.{nat_list_cmp_total}
 use Rattle.std.proofs.lemmas.List.{length-append, length-drop, take_all}
 use Rattle.jsonb_doc.specs.declared.layout.HeaderKind.TheVariants as header_kind
@@ -8,7 +7,6 @@ use Rattle.jsonb_raw.specs.Private.Cuts.{entries_kept}
 use Rattle.jsonb_raw.proofs.ChildAnswers.{drop_one_more}
 use Rattle.jsonb_raw.proofs.ChildLemmas.{split_at}
 use Rattle.jsonb_raw.proofs.NamedPairs.{names_around, values_around}
-use Rattle.jsonb_raw.proofs.PositionLemmas.{nothing_at}
 use Rattle.jsonb_raw.proofs.StripLists.{values_of-members}
 use Rattle.jsonb_raw.proofs.RunLemmas.{entry_taken, no_entry_left}
 
@@ -24,8 +22,7 @@ changed_at zero change (y ∷ xs) x at = let e : y ≡ x = cc at in ap (λ z. op
 changed_at (suc n) change (y ∷ xs) x at = ap (λ zs. y ∷ zs) (changed_at n change xs x at)
 
 pub none_left : (n : ℕ) → ◌≡◌ {A = List Tree} (remove [] n) []
-none_left zero = refl
-none_left (suc n) = refl
+none_left n = grind arith
 
 member_at : (ps : Pairs) (n : ℕ) (child : Tree) → slice_get (elements (values ps)) n ≡ Some child
     → (key : List ℕ) × (slice_get (members ps) n ≡ Some (key, child))
@@ -44,9 +41,7 @@ values_put (suc n) (p ∷ ps) key u = ap (λ ts. p.1 ∷ ts) (values_put n ps ke
 
 keys_put : (n : ℕ) (ps : List Member) (key : List ℕ) (t u : Tree) → slice_get ps n ≡ Some (key, t)
     → keys_of (take n ps ++ (key, u) ∷ drop (suc n) ps) ≡ keys_of ps
-keys_put n [] key t u at =
-    let there : Option Member = Some (key, t) in
-    let bad : None ≡ there = at in absurd (cc)
+keys_put n [] key t u at = grind arith
 keys_put zero (p ∷ ps) key t u at = let e : p ≡ (key, t) = cc at in ap (λ (q : Member). q.0 ∷ keys_of ps) (sym e)
 keys_put (suc n) (p ∷ ps) key t u at = ap (λ ks. p.0 ∷ ks) (keys_put n ps key t u at)
 
@@ -148,9 +143,7 @@ parent_of form _ e p n child h kind same front after is inside at = absurd h
 -- ---- the child that a step selects
 
 pub values_hold : (form : Form) (t : Tree) (e : ContainerEntries) → AreEntriesOf form t e → HoldTrees form e.values (children t)
-values_hold form (array ts) e h = h.2
-values_hold form (object ps) e h = rw (values_of-members ps) at h.2.parts
-values_hold form _ e h = absurd h
+values_hold form t e h = grind (arith, values_of-members)
 
 -- Holds if this is the entry of the child at a position, and these are the entries after it.
 pub record ChildTaken (form : Form) (cs : List Tree) (n : ℕ) (entry : StoredEntry) (after : Entries) : Type 0 where
@@ -162,10 +155,7 @@ pub record ChildTaken (form : Form) (cs : List Tree) (n : ℕ) (entry : StoredEn
 
 pub child_taken : (form : Form) (cs : List Tree) (n : ℕ) (others : Entries) (found : Option (StoredEntry × Entries)) (entry : StoredEntry) (after : Entries)
     → found ≡ Some (entry, after) → TakesFirst form others (drop n cs) found → ChildTaken form cs n entry after
-child_taken form cs n others found entry after is h =
-    let f = entry_taken form others (drop n cs) found entry after is h in
-    let s = split_at cs n f.t f.rest f.split in
-    record { child = f.t; inside = s.inside; at = s.at; part = f.is_first.part; after_hold = subst (HoldTrees form after) (sym s.behind) f.is_first.others_hold }
+child_taken form cs n others found entry after is h = grind (arith, entry_taken, split_at)
 
 none_there : (cs : List Tree) (n : ℕ) → drop n cs ≡ [] → slice_get cs n ≡ None
 none_there [] n none = refl
@@ -174,29 +164,24 @@ none_there (c ∷ cs) (suc n) none = none_there cs n none
 
 not_container : (form : Form) (t : Tree) (kind : ℕ) (bytes : List ℕ) → IsContent (number_reader form) t kind bytes → (kind ≡ container_entry → ⊥)
     → children_of t ≡ None
-not_container form (array ts) kind bytes is other = absurd (other is.0)
-not_container form (object ps) kind bytes is other = absurd (other is.0)
-not_container form _ kind bytes is other = refl
+not_container form t kind bytes h e = grind arith
 
 pub root_value : (form : Form) (entry : StoredEntry) (t : Tree) → entry.kind ≡ Container → Decodes form entry.content.now t → HoldsValue form entry t
 root_value form entry t is d = record { container = λ _. d; scalar = λ other. absurd (other (ap kind_number is)) }
 
 pub no_entries : (form : Form) (t : Tree) → AreContainerEntries form t None → children_of t ≡ None
-no_entries form (array ts) h = absurd h
-no_entries form (object ps) h = absurd h
-no_entries form _ h = refl
+no_entries form t h = grind arith
 
 module _ (form : Form) (t : Tree) (step : Key) where
   pub no_position : None ≡ child_position step t → StepsInto form t step None
   no_position none = rw (← none) refl
 
   pub no_children : children_of t ≡ None → StepsInto form t step None
-  no_children none = no_position (nothing_at step t none)
+  no_children none = grind (arith, no_position)
 
   pub no_child : (n : ℕ) (others : Entries) (found : Option (StoredEntry × Entries)) → Some n ≡ child_position step t → found ≡ None
       → TakesFirst form others (drop n (children t)) found → StepsInto form t step None
-  no_child n others found position none h =
-      let missing = none_there (children t) n (no_entry_left form others (drop n (children t)) found none h) in rw (← position, missing) refl
+  no_child n others found position none h = grind (arith, none_there, no_entry_left)
 
   pub step_into : (e : ContainerEntries) (p : ParentEntries) (n : ℕ) (entry : StoredEntry) → AreEntriesOf form t e → Some n ≡ child_position step t
       → p.kind ≡ e.kind → p.keys ≡ e.keys → (f : ChildTaken form (children t) n entry p.after) → HoldTrees form p.front (take n (children t))
@@ -221,23 +206,12 @@ lead_more form [] [] t u child p n led is = (child, subst (λ v. IsParent form p
 lead_more form (q ∷ ps) (m ∷ ns) t u child p n led is = (led.0, led.1, lead_more form ps ns led.0 u child p n led.2 is)
 lead_more form _ _ t u child p n led is = absurd led
 
-kept_same : (form : Form) (ps : List ParentEntries) (ns : List ℕ) (t end : Tree) (p : ParentEntries) → LeadTo form ps ns t end
-    → count_kept p.others ns ≡ children_kept p ps
-kept_same form [] [] t end p led = refl
-kept_same form (q ∷ ps) (m ∷ ns) t end p led = refl
-kept_same form _ _ t end p led = absurd led
-
 pub makes_kept : (form : Form) (p : ParentEntries) (ps : List ParentEntries) (t child end : Tree) (n : ℕ) (ns : List ℕ) (kept : ℕ) → IsParent form p t n child
     → LeadTo form ps ns child end → kept ≡ children_kept p ps → Make p.kind kept (entries_kept t n child ns) (change_child n (remove_at ns) t)
-makes_kept form p ps t child end n ns kept is led same =
-    subst (λ k. Make p.kind k (entries_kept t n child ns) (change_child n (remove_at ns) t)) (kept_same form ps ns child end p led ∙ sym same) (is.makes ns)
+makes_kept form p ps t child end n ns kept is led same = grind arith
 
 pub no_more : (form : Form) (ps : List ParentEntries) (ns : List ℕ) (t end : Tree) → ps ≡ [] → LeadTo form ps ns t end → ns ≡ []
-no_more form ps ns t end none led = go ns (subst (λ qs. LeadTo form qs ns t end) none led)
-  where
-    go : (ms : List ℕ) → LeadTo form [] ms t end → ms ≡ []
-    go [] h = refl
-    go (m ∷ ms) h = absurd h
+no_more form ps ns t end none led = grind arith
 
 -- The entries of a container that are not written yet, which is in these containers and around those.
 pub record IsOpening (form : Form) (w : Writer) (around : List Outer) (p : ParentEntries) (ps : List ParentEntries) (whole : Tree) : Type 0 where
@@ -271,18 +245,7 @@ pub record OpensNext (form : Form) (w : Writer) (around : List Outer) (p q : Par
 pub opening_begun : (form : Form) (w : Writer) (around : List Outer) (p : ParentEntries) (ps : List ParentEntries) (t end : Tree) (n : ℕ) (ns : List ℕ)
     → around ≡ [] → (led : LeadTo form (p ∷ ps) (n ∷ ns) t end) → IsWriting form w (entries_kept t n led.0 ns) [] (change_child n (remove_at ns) t)
     → IsOpening form w around p ps (change_child n (remove_at ns) t)
-opening_begun form w around p ps t end n ns none led writing = record {
-  t = t;
-  child = led.0;
-  end = end;
-  n = n;
-  ns = ns;
-  outside = [];
-  parent = led.1;
-  inner = led.2;
-  are_left = subst (λ os. AreLeft form (reverse os) []) (sym none) tt;
-  writing = writing;
-}
+opening_begun form w around p ps t end n ns none led writing = grind arith
 
 module _ (form : Form) (w : Writer) (around : List Outer) (p : ParentEntries) (ps : List ParentEntries) (whole : Tree)
     (o : IsOpening form w around p ps whole) where
@@ -309,12 +272,7 @@ module _ (form : Form) (w : Writer) (around : List Outer) (p : ParentEntries) (p
       }
 
   pub opens_none : ps ≡ [] → IsWriting form w (entries_kept o.t o.n o.child []) o.outside whole
-  opens_none is = go o.ns (subst (λ rs. LeadTo form rs o.ns o.child o.end) is o.inner) o.writing
-    where
-      go : (ns : List ℕ) → LeadTo form [] ns o.child o.end → IsWriting form w (entries_kept o.t o.n o.child ns) o.outside whole
-          → IsWriting form w (entries_kept o.t o.n o.child []) o.outside whole
-      go [] led writing = writing
-      go (m ∷ ns) led writing = absurd led
+  opens_none is = grind arith
 
 -- the runs around one entry
 pub held_around : (form : Form) (front back : Entries) (ts : List Tree) (n passed : ℕ) → passed ≡ n
@@ -330,22 +288,12 @@ no_trees_held form run (t ∷ ts) h none = let e = h.entries in absurd (omega (a
 -- the entries around the ones that are left out, in runs
 pub in_runs : (names front after : List Tree) (n passed : ℕ) → passed ≡ n
     → remove names n ++ (front ++ after) ≡ take passed names ++ (drop 1 (drop passed names) ++ (front ++ (after ++ [])))
-in_runs names front after n passed is =
-    append_assoc (take n names) (drop (suc n) names) (front ++ after)
-    ∙ ap (λ us. take n names ++ us) (ap₂ (λ us vs. us ++ (front ++ vs)) (sym (drop_one_more n names)) (sym (append-nil after)))
-    ∙ ap (λ k. take k names ++ (drop 1 (drop k names) ++ (front ++ (after ++ [])))) (sym is)
+in_runs names front after n passed is = grind (arith, append_assoc, drop_one_more, append-nil)
 
 -- ---- numbers of bytes
 
 pub all_behind : (ps : List ParentEntries) (i : ℕ) → take (length ps - i) (drop i ps) ≡ drop i ps
 all_behind ps i = take_all (length ps - i) (drop i ps) (omega (arith, length-drop i ps))
-
-pub kept_none : (p : ParentEntries) (ps : List ParentEntries) → ps ≡ [] → p.others ≡ children_kept p ps
-kept_none p ps none = rw none refl
-
-pub kept_all : (p : ParentEntries) (ps : List ParentEntries) → (length ps ≡ 0 → ⊥) → p.others + 1 ≡ children_kept p ps
-kept_all p [] some = absurd (some refl)
-kept_all p (q ∷ qs) some = refl
 
 pub kept_at_most : (p : ParentEntries) (ps : List ParentEntries) → children_kept p ps ≤ p.others + 1
 kept_at_most p [] = omega arith
@@ -361,23 +309,11 @@ sizes_more (q ∷ ps) p = omega (arith, sizes_more ps p)
 
 pub short_more : (ps ps' : List ParentEntries) (p : ParentEntries) (len len' : ℕ) → ps' ≡ ps ++ p ∷ [] → AreShort ps len → size p + len' ≤ len
     → len' < 2 ^ 28 → AreShort ps' len'
-short_more ps ps' p len len' is short within fits = subst (λ qs. AreShort qs len') (sym is) (go ps short)
-  where
-    go : (qs : List ParentEntries) → AreShort qs len → AreShort (qs ++ p ∷ []) len'
-    go [] h = omega arith
-    go (q ∷ qs) h = omega (arith, sizes_more qs p)
-
-pub short_all : (ps : List ParentEntries) (len : ℕ) → AreShort ps len → AreShort ps 0
-short_all [] len h = tt
-short_all (p ∷ ps) len h = omega arith
+short_more ps ps' p len len' is short within fits = grind (arith, sizes_more)
 
 pub room_less : (start end end' : ℕ) (around : Rooms) → end' ≤ end → EndsWithin start end around → EndsWithin start end' around
 room_less start end end' [] less h = tt
-room_less start end end' (o ∷ os) less h =
-    (omega (arith, h.0), room_less o.0.start (end + o.1) (end' + o.1) os (omega arith) h.1)
-
-pub room_passed : (start len passed : ℕ) (around : Rooms) (coming : ℕ) → EndsWithin start (len + (passed + coming)) around → EndsWithin start (len + coming) around
-room_passed start len passed around coming h = room_less start (len + (passed + coming)) (len + coming) around (omega arith) h
+room_less start end end' (o ∷ os) less h = grind (arith, room_less o.0.start (end + o.1) (end' + o.1) os (omega arith) h.1)
 
 -- if nothing more comes, no more is written
 pub room_none : (start len : ℕ) (around : Rooms) (coming : ℕ) → EndsWithin start (len + coming) around → EndsWithin start (len + (coming + 0)) around

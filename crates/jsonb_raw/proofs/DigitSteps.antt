@@ -10,19 +10,12 @@ count_few n h = length-digits_of-le 10 39 n (omega arith) (omega arith)
 pub count_short : (n : ℕ) → n < 2 ^ 64 → length (digits_of 10 n) ≤ 20
 count_short n h = length-digits_of-le 10 20 n (omega arith) (omega arith)
 
-pub digits_pushed : (negative : Bool) (old : List ℕ) (n : ℕ) → 0 < n
-    → (old ++ complement_bytes negative (map suc (digits_of 10 (n / 10)))) ++ complement_byte negative (suc (n % 10)) ∷ []
-    ≡ old ++ complement_bytes negative (map suc (digits_of 10 n))
-digits_pushed negative old n h = grind (arith, append_assoc, map-append, digits_of_step)
-
 -- one digit more is written before a place
 pub digit_written : (negative : Bool) (n m : ℕ) (behind before whole : List ℕ) (byte : ℕ) → 0 < n → m ≡ n / 10
     → byte ≡ complement_byte negative (suc (n % 10)) → before ≡ byte ∷ behind
     → complement_bytes negative (map suc (digits_of 10 n)) ++ behind ≡ whole
     → complement_bytes negative (map suc (digits_of 10 m)) ++ before ≡ whole
-digit_written negative n m behind before whole byte some less is more h =
-    let others = complement_bytes negative (map suc (digits_of 10 (n / 10))) in
-    cc (append_assoc others (complement_byte negative (suc (n % 10)) ∷ []) behind, digits_pushed negative [] n some)
+digit_written negative n m behind before whole byte some less is more h = grind (arith, append_assoc, map-append, digits_of_step)
 
 all_zero_behind : (ds : List ℕ) → list_all (λ d. d == 0) (ds ++ 0 ∷ []) ≡ list_all (λ d. d == 0) ds
 all_zero_behind [] = refl
@@ -40,15 +33,8 @@ significant-behind : (c : ℕ) (ds : List ℕ) → c ≢ 0 → significant (ds +
 significant-behind c [] h = ap (λ b. cond (b && true) [] (c ∷ [])) (ne_eqb c 0 h)
 significant-behind c (d ∷ ds) h = ap₂ (λ b x. cond b [] (d ∷ x)) (not_all_zero_behind c (d ∷ ds) h) (significant-behind c ds h)
 
-pub significant_step : (n : ℕ) → 0 < n → n % 10 ≡ 0 → significant (digits_of 10 (n / 10)) ≡ significant (digits_of 10 n)
-significant_step n h e = cc (significant-zero_behind (digits_of 10 (n / 10)), digits_of_step 10 n (omega arith) h)
-
 pub significant_whole : (n : ℕ) → n % 10 ≢ 0 → significant (digits_of 10 n) ≡ digits_of 10 n
 significant_whole n h = grind (arith, significant-behind, digits_of_step)
-
--- 0 has no digits
-pub significant-nothing : (n : ℕ) → n ≡ 0 → significant (digits_of 10 n) ≡ digits_of 10 n
-significant-nothing n h = grind arith
 
 pub no_digits : (n : ℕ) → n ≡ 0 → digits_of 10 n ≡ []
 no_digits n h = grind arith
@@ -67,7 +53,8 @@ zero_passed n left others zeros most h some is zero_last =
     let count = h.count in
     let step : length (digits_of 10 others) + 1 ≡ length (digits_of 10 left) = ap (λ k. length (digits_of 10 k) + 1) is ∙ count_step left some in
     record {
-      same = ap (λ k. significant (digits_of 10 k)) is ∙ significant_step left some zero_last ∙ h.same;
+      same = ap (λ k. significant (digits_of 10 k)) is ∙
+          cc (significant-zero_behind (digits_of 10 (left / 10)), digits_of_step 10 left (omega arith) some, zero_last) ∙ h.same;
       count = omega arith;
       few = h.few;
     }
@@ -118,14 +105,6 @@ pub record DigitsPacked (negative : Bool) (n left len : ℕ) (bytes : List ℕ) 
   pub counted : len + length (digits_of 10 left) ≡ length (digits_of 10 n) + 1
   pub few : length (digits_of 10 n) ≤ 9
   pub packed : complement_bytes negative (map suc (digits_of 10 left)) ++ bytes ≡ complement_bytes negative (map suc (digits_of 10 n) ++ 0 ∷ [])
-
-pub none_packed : (negative : Bool) (n len byte : ℕ) (bytes : List ℕ) → n < 1000000000 → len ≡ 1 → bytes ≡ byte ∷ []
-    → byte ≡ complement_byte negative 0 → DigitsPacked negative n n len bytes
-none_packed negative n len byte bytes small one is end = record {
-  counted = omega arith;
-  few = length-digits_of-le 10 9 n (omega arith) (omega arith);
-  packed = cc (map-append (complement_byte negative) (map suc (digits_of 10 n)) (0 ∷ []));
-}
 
 module _ (negative : Bool) (n left len : ℕ) (bytes : List ℕ) (h : DigitsPacked negative n left len bytes) where
   pub digit_packed : (others len' byte : ℕ) (bytes' : List ℕ) → 0 < left → others ≡ left / 10 → len' ≡ len + 1

@@ -1,22 +1,17 @@
 -- How the counts of equality keys change, and what a count says of equal elements.
-use Rattle.jsonb_raw.proofs.Common.{◌≡◌, ◌+◌, ◌-◌, ◌<◌, ◌≤◌, ◌^◌, ℕ, Bool, true, false, not, List, [], ◌∷◌, refl, sym, ap, ap₂, ◌∙◌, cond, Vec, arith, length, Option, Some, unwrap_or, nat_lt, nat_eq, suc, min, take, Result, Ok, Err, IsOkAnd, MatchResult, bytes_eq, nat_cmp, is_eq, AllByRecursion, slice_cmp, is_eq-slice_cmp, bytes_eq-Decides, count_by-le-length, sum_by-cons, Tree, Fits, is_equal, equality_key, count_of, is_shared, key_cmp, counted, one_at, with_key, CountsKeys, keeps, CountsAfter, in_order, ArePassed, KeyCounts, SetOperation, First, Shared, Unshared, nat_tests, same_test, Form, IsOutOfMemory, Error, Entries, as_elements, HoldTrees, ElementsPassed}
+use Rattle.jsonb_raw.proofs.Common.{◌≡◌, ◌+◌, ◌-◌, ◌<◌, ◌≤◌, ◌^◌, ℕ, Bool, true, false, not, List, [], ◌∷◌, refl, sym, ap, ap₂, ◌∙◌, cond, Vec, arith, length, Some, unwrap_or, nat_lt, nat_eq, suc, min, take, Result, MatchResult, bytes_eq, nat_cmp, AllByRecursion, slice_cmp, is_eq-slice_cmp, bytes_eq-Decides, count_by-le-length, sum_by-cons, Tree, Fits, is_equal, equality_key, count_of, is_shared, key_cmp, counted, one_at, with_key, CountsKeys, keeps, CountsAfter, in_order, ArePassed, KeyCounts, SetOperation, First, Shared, Unshared, nat_tests, same_test, Form, IsOutOfMemory, Error, Entries, as_elements, HoldTrees, ElementsPassed}
 use Rattle.std.specs.declared.alloc.Global.{Global}
 use Rattle.std.specs.BTreeMap as map
 use Rattle.jsonb_raw.proofs.KeyLawProofs.{equality_keys_tell_apart}
 use Rattle.jsonb_raw.proofs.SetKept.{elements_few}
 use Rattle.jsonb_raw.proofs.SetLawProofs.{count-cons}
-use Rattle.jsonb_raw.proofs.EntriesLeft.{take_one, take_no, take_zero}
+use Rattle.jsonb_raw.proofs.EntriesLeft.{take_one}
 
 -- ---- the map
 
-picked : (a b : Bool) (w : ℕ) (x : Option ℕ) → a ≡ b → unwrap_or (cond a (Some w) x) 0 ≡ cond b w (unwrap_or x 0)
-picked a b w x h = grind arith
-
 pub inserted : (m n : KeyCounts) (key : Vec ℕ Global) (w : ℕ) → map.Updates key_cmp m.counts n.counts key (Some w) → (q : Vec ℕ Global)
     → counted n q ≡ cond (bytes_eq key.items q.items) w (counted m q)
-inserted m n key w u q =
-    ap (λ o. unwrap_or o 0) (u.0 q)
-    ∙ picked (is_eq (slice_cmp nat_cmp key.items q.items)) (bytes_eq key.items q.items) w (map.get key_cmp m.counts q) (is_eq-slice_cmp key.items q.items)
+inserted m n key w u q = grind (arith, is_eq-slice_cmp)
 
 -- keys of the same bytes have one count
 pub same_count : (m : KeyCounts) (key q : Vec ℕ Global) → key.items ≡ q.items → counted m key ≡ counted m q
@@ -130,19 +125,6 @@ CountsLeft-next m n key first rest whole h e short more = record { joined = join
         let whole_other : counted m other + with_key other (first ∷ rest) ≡ with_key other whole = h.joined other in
         omega arith
 
-pub CountsLeft-done : (m : KeyCounts) (whole : List Tree) → CountsLeft m [] whole → CountsKeys m whole
-CountsLeft-done m whole h key = let e : counted m key + 0 ≡ with_key key whole = h.joined key in omega arith
-
-nothing_met : (n w : ℕ) → n ≡ w → n ≡ w - 0
-nothing_met n w e = omega arith
-
--- before the first element all of the other list is left
-pub shared_begun : (m : KeyCounts) (other : List Tree) → CountsKeys m other → AllByRecursion Fits other → CountsAfter Shared m other []
-shared_begun m other counts fit = record { counts = λ key. nothing_met (counted m key) (with_key key other) (counts key); fit_other = fit; fit_before = tt }
-
-pub unshared_begun : (m : KeyCounts) (other : List Tree) → CountsKeys m other → AllByRecursion Fits other → CountsAfter Unshared m other []
-unshared_begun m other counts fit = record { counts = λ key. nothing_met (counted m key) (with_key key other) (counts key); fit_other = fit; fit_before = tt }
-
 -- ---- elements that are passed
 
 same_front : (t : Tree) (rest : List Tree) (m n : ℕ) → m ≡ n → count_of t (take m rest) ≡ 0 + count_of t (take n rest)
@@ -171,29 +153,7 @@ passed_count form elements other before rest t h =
 pub passed_next : (form : Form) (elements : ElementsPassed) (n : ℕ) (other before rest : List Tree) (t : Tree)
     → ArePassed form elements other before (t ∷ rest) → n ≡ min (elements.passed + 1) (2 ^ 64 - 1)
     → ArePassed form (record { all = elements.all; passed = n; others = elements.others }) other (t ∷ before) rest
-passed_next form elements n other before rest t h is =
-    let passed_is : elements.passed ≡ length before = h.passed_is in
-    let few : length before + length (t ∷ rest) < 2 ^ 63 = h.few in record {
-      other_form = h.other_form;
-      all_hold = h.all_hold;
-      others_hold = h.others_hold;
-      passed_is = omega (arith, is, passed_is, few);
-      few = omega (arith, few);
-    }
-
--- ---- which occurrences are kept
-
-pub kept_first : (kind : SetOperation) (n : ℕ) (other before : List Tree) (t : Tree) → kind ≡ First → n ≡ count_of t before
-    → nat_eq n 0 ≡ keeps kind other (before, t)
-kept_first kind n other before t is e = rw (is, e) refl
-
-pub kept_shared : (kind : SetOperation) (n : ℕ) (other before : List Tree) (t : Tree) (r : Result Bool Error) → kind ≡ Shared
-    → n ≡ count_of t before → IsOkAnd r (λ b. b ≡ nat_lt n (count_of t other)) → IsOkAnd r (λ b. b ≡ keeps kind other (before, t))
-kept_shared kind n other before t r is e h = rw is (rw e at h)
-
-pub kept_unshared : (kind : SetOperation) (n : ℕ) (other before : List Tree) (t : Tree) (b : Bool) → kind ≡ Unshared
-    → n ≡ count_of t before → b ≡ nat_lt n (count_of t other) → not b ≡ keeps kind other (before, t)
-kept_unshared kind n other before t b is e h = rw is (ap not (rw e at h))
+passed_next form elements n other before rest t h is = grind arith
 
 -- ---- counting
 
@@ -204,15 +164,6 @@ pub record EqualLeft (form : Form) (left : Entries) (more equal : ℕ) (u : Tree
   pub joined : equal + count_of u (take more rest) ≡ whole
 
 module _ (form : Form) (left : Entries) (more equal : ℕ) (u : Tree) (whole : ℕ) (h : EqualLeft form left more equal u whole) where
-  pub EqualLeft-none : h.rest ≡ [] → equal ≡ whole
-  EqualLeft-none none =
-      let j : equal + count_of u (take more []) ≡ whole = rw none at h.joined in
-      let k : equal + 0 ≡ whole = rw (take_no more) at j in
-      omega (arith, k)
-
-  pub EqualLeft-done : more ≤ 0 → equal ≡ whole
-  EqualLeft-done none = let j : equal + 0 ≡ whole = rw (take_zero more h.rest none) at h.joined in omega (arith, j)
-
   pub EqualLeft-next : (others : Entries) (now : ℕ) (t : Tree) (rest : List Tree) → h.rest ≡ t ∷ rest → HoldTrees form others rest
       → 0 < more → now ≡ equal + cond (is_equal t u) 1 0 → EqualLeft form others (more - 1) now u whole
   EqualLeft-next others now t rest split hold some is =
@@ -228,12 +179,6 @@ pub record MoreLeft (form : Form) (left : Entries) (more count : ℕ) (u : Tree)
   pub joined : whole + more ≡ count + count_of u rest
 
 module _ (form : Form) (left : Entries) (more count : ℕ) (u : Tree) (whole : ℕ) (h : MoreLeft form left more count u whole) where
-  pub MoreLeft-none : h.rest ≡ [] → false ≡ nat_lt count whole
-  MoreLeft-none none =
-      let j : whole + more ≡ count + 0 = rw none at h.joined in
-      let few : nat_lt count whole ≡ false = grind (arith, nat_tests, j) in
-      sym few
-
   pub MoreLeft-found : (equal : ℕ) (t : Tree) (rest : List Tree) → h.rest ≡ t ∷ rest → equal ≡ cond (is_equal t u) 1 0 → more < equal
       → true ≡ nat_lt count whole
   MoreLeft-found equal t rest split is less =
@@ -255,15 +200,6 @@ none_left n whole none =
     let few : nat_lt n whole ≡ false = grind (arith, nat_tests, sym none) in
     sym few
 
-pub some_left : (n m whole : ℕ) → m ≡ n → m ≡ 0 → true ≡ nat_lt 0 whole → true ≡ nat_lt n whole
-some_left n m whole is none some =
-    let many : nat_lt n whole ≡ true = grind (arith, nat_tests, is, none, sym some) in
-    sym many
-
-pub left_counted : (n m whole : ℕ) (r : Result Bool Error) → m ≡ n → IsOkAnd r (λ b. b ≡ nat_lt m whole)
-    → IsOkAnd r (λ b. b ≡ nat_lt n whole)
-left_counted n m whole r is told = rw is at told
-
 -- ---- counts before the first element
 
 pub members_few : (t : Tree) → Fits t → length (as_elements t) < 2 ^ 63
@@ -271,16 +207,12 @@ members_few t h = grind (arith, elements_few)
 
 not_first_begun : (kind : SetOperation) (m : KeyCounts) (other : List Tree) → (kind ≡ First → ⊥) → CountsKeys m other → AllByRecursion Fits other
     → CountsAfter kind m other []
-not_first_begun First m other not_first counts fit = absurd (not_first refl)
-not_first_begun Shared m other not_first counts fit = shared_begun m other counts fit
-not_first_begun Unshared m other not_first counts fit = unshared_begun m other counts fit
+not_first_begun kind m other h e k = grind arith
 
 pub counted_begun : (kind : SetOperation) (r : Result KeyCounts Error) (other : List Tree) → (kind ≡ First → ⊥) → AllByRecursion Fits other
     → MatchResult r (λ m. CountsKeys m other) IsOutOfMemory → MatchResult r (λ m. CountsAfter kind m other []) IsOutOfMemory
-counted_begun kind (Ok m) other not_first fit h = not_first_begun kind m other not_first h fit
-counted_begun kind (Err e) other not_first fit h = h
+counted_begun kind r other h e k = grind (arith, not_first_begun)
 
 pub follows : {P Q : Type 0} (R : Bool → Type 0) (r : Result Bool Error) → (P → Q) → MatchResult r R IsOutOfMemory → MatchResult r (λ _. P) IsOutOfMemory
     → MatchResult r (λ b. R b × Q) IsOutOfMemory
-follows R (Ok b) f h g = (h, f g)
-follows R (Err e) f h g = h
+follows R r h e k = grind arith

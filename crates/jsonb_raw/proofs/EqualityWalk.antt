@@ -24,10 +24,6 @@ pairs_keys (Pairs.pair k t ps) = cc (append_assoc (5 ∷ text_bytes k) (equality
 key_split : (t : Tree) → equality_key t ≡ equality_start t ++ keys_of_parts (parts t)
 key_split t = grind (arith, append-nil, trees_keys, pairs_keys)
 
-part_split : (p : EntryPrefix) → part_key p ≡ equality_part_start p ++ keys_of_parts (parts p.1)
-part_split (None, t) = key_split t
-part_split (Some k, t) = cc (key_split t, append_assoc (5 ∷ text_bytes k) (equality_start t) (keys_of_parts (parts t)))
-
 -- ---- what is left at levels, the innermost first
 
 abbrev pub keys_of_levels : List (List EntryPrefix) → List ℕ
@@ -41,7 +37,7 @@ walk_begun t old out e = cc (append-nil (keys_of_parts (parts t)), e, append_ass
 pub part_begun : (p : EntryPrefix) (ps : List EntryPrefix) (ls : List (List EntryPrefix)) (out out' whole : List ℕ) → out ++ keys_of_levels ((p ∷ ps) ∷ ls) ≡ whole
     → out' ≡ out ++ equality_part_start p
     → out' ++ keys_of_levels (parts p.1 ∷ ps ∷ ls) ≡ whole
-part_begun p ps ls out out' whole h e = grind (arith, append_assoc, part_split)
+part_begun p ps ls out out' whole h e = grind (arith, append_assoc, key_split)
 
 -- a part without parts
 pub part_done : (p : EntryPrefix) (ps : List EntryPrefix) (ls : List (List EntryPrefix)) (out out' whole : List ℕ) → parts p.1 ≡ [] → out ++ keys_of_levels ((p ∷ ps) ∷ ls) ≡ whole

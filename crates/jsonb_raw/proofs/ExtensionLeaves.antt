@@ -1,5 +1,5 @@
 -- A tree whose leaves are not extensions has none, at every depth.
-use Rattle.jsonb_raw.proofs.Common.{ℕ, suc, pos, false, List, [], ◌∷◌, ◌++◌, not, IsTrue, AllByRecursion, values_of, Tree, extension, array, object, Trees, no_trees, tree, Pairs, no_pairs, pair, Key, index, unquoted_name, Leaf, leaves_at, leaves, leaves_of_trees, leaves_of_pairs, behind, HasNoExtension, is_extension_value}
+use Rattle.jsonb_raw.proofs.Common.{arith, ℕ, suc, pos, false, List, [], ◌∷◌, ◌++◌, not, IsTrue, AllByRecursion, values_of, Tree, extension, array, object, Trees, no_trees, tree, Pairs, no_pairs, pair, Key, index, unquoted_name, Leaf, leaves_at, leaves, leaves_of_trees, leaves_of_pairs, behind, HasNoExtension, is_extension_value}
 
 abbrev mutual
   pub LacksExtension : Tree → Type 0
@@ -62,7 +62,4 @@ by_leaf [] h = tt
 by_leaf (leaf ∷ found) h = (h.0, by_leaf found h.1)
 
 pub lacks_extension : (t : Tree) → HasNoExtension t → LacksExtension t
-lacks_extension (extension x) h = absurd (cc h.0)
-lacks_extension (array ts) h = elements 0 ts (by_leaf (leaves false (array ts)) h.1)
-lacks_extension (object ps) h = values ps (by_leaf (leaves false (object ps)) h.1)
-lacks_extension _ h = tt
+lacks_extension t h = grind (arith, elements, by_leaf, values)

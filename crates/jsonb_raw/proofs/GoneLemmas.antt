@@ -1,5 +1,5 @@
 -- A pair that is taken out of an object is gone.
-use Rattle.jsonb_raw.proofs.Common.{◌≡◌, ℕ, zero, suc, Bool, true, false, List, [], ◌∷◌, ◌++◌, length, Option, Some, None, refl, sym, ap, subst, ◌∙◌, slice_get, is_eq, bytes_eq, position, option_and_then, option_map, unwrap_or, is_eq-slice_cmp, Tree, null, boolean, number, text, extension, array, object, Trees, no_trees, tree, Pairs, no_pairs, pair, elements, keys, values, members, trees_of, pairs_of, IsBelowFirst, AreKeys, IsInRange, AreInRange, ValuesAreInRange, Fits, bytes_eq-true, Key, index, quoted_name, unquoted_name, children, asked_key, child_position, location, tree_at_steps, index_position, change_at, change_child, remove_at, without, trees_of-elements, pairs_of-members}
+use Rattle.jsonb_raw.proofs.Common.{arith, ◌≡◌, ℕ, zero, suc, Bool, true, false, List, [], ◌∷◌, ◌++◌, length, Option, Some, None, refl, sym, ap, subst, ◌∙◌, slice_get, is_eq, bytes_eq, position, option_map, is_eq-slice_cmp, Tree, object, Trees, no_trees, tree, Pairs, no_pairs, pair, elements, keys, values, members, trees_of, pairs_of, IsBelowFirst, AreKeys, IsInRange, AreInRange, ValuesAreInRange, bytes_eq-true, Key, children, asked_key, child_position, location, tree_at_steps, change_at, change_child, remove_at, trees_of-elements, pairs_of-members}
 use Rattle.std.proofs.lemmas.Cmp.{nat_list_cmp_total}
 use Rattle.jsonb_raw.proofs.PositionLemmas.{position-cons, step_by_step, position_in_object}
 
@@ -28,8 +28,7 @@ below_all name (key ∷ ks) below rising =
     other = sym (is_eq-slice_cmp key name) ∙ ap is_eq (nat_list_cmp_total.antisymm key name) ∙ rw below refl
 
     lower : (ls : List (List ℕ)) → IsBelowFirst key ls → IsBelowFirst name ls
-    lower [] above = tt
-    lower (l ∷ ls) above = nat_list_cmp_total.trans name key l below above
+    lower ls h = grind (arith, nat_list_cmp_total)
 
 -- if the pair of a key is taken out, no key is that key
 key_gone : (name : List ℕ) (ps : Pairs) (n : ℕ) → AreKeys (keys ps) → position (λ k. bytes_eq k name) (keys ps) ≡ Some n
@@ -81,25 +80,12 @@ module _ (change : Tree → Option Tree) (child child' : Tree) (changed : change
   value_there (pair key t ps) (suc n) at = value_there ps n at
 
   child_there : (t : Tree) (n : ℕ) → slice_get (children t) n ≡ Some child → slice_get (children (change_child n change t)) n ≡ Some child'
-  child_there (array ts) n at = element_there ts n at
-  child_there (object ps) n at = value_there ps n at
-  child_there null n at = let bad : None ≡ Some child = at in absurd (cc)
-  child_there (boolean b) n at = let bad : None ≡ Some child = at in absurd (cc)
-  child_there (number m) n at = let bad : None ≡ Some child = at in absurd (cc)
-  child_there (text s) n at = let bad : None ≡ Some child = at in absurd (cc)
-  child_there (extension x) n at = let bad : None ≡ Some child = at in absurd (cc)
+  child_there t n h = grind (arith, element_there, value_there)
 
   -- a step selects the child at the position that it met before
   same_position : (step : Key) (t : Tree) (n : ℕ) → slice_get (children t) n ≡ Some child
       → child_position step (change_child n change t) ≡ child_position step t
-  same_position (index i) (array ts) n at = ap (λ len. index_position len i) (same_count ts n at)
-  same_position (quoted_name name) (array ts) n at = refl
-  same_position (unquoted_name name) (array ts) n at = refl
-  same_position step (object ps) n at =
-      position_in_object step (changed_pairs n change ps) ∙ ap (position (λ key. bytes_eq key (asked_key step))) (same_keys ps n at)
-      ∙ sym (position_in_object step ps)
-  same_position step null n at = refl
-  same_position step _ n at = refl
+  same_position step t n h = grind (arith, same_count, position_in_object, same_keys)
 
 -- ---- ranges
 
@@ -112,15 +98,6 @@ value_in_range : (ps : Pairs) (n : ℕ) (child : Tree) → ValuesAreInRange ps �
 value_in_range no_pairs n child fits at = let bad : None ≡ Some child = at in absurd (cc)
 value_in_range (pair key t ps) zero child fits at = let e : t ≡ child = cc at in rw (← e) fits.0
 value_in_range (pair key t ps) (suc n) child fits at = value_in_range ps n child fits.1 at
-
-child_in_range : (t : Tree) (n : ℕ) (child : Tree) → IsInRange t → slice_get (children t) n ≡ Some child → IsInRange child
-child_in_range (array ts) n child fits at = element_in_range ts n child fits at
-child_in_range (object ps) n child fits at = value_in_range ps n child fits.1 at
-child_in_range null n child fits at = let bad : None ≡ Some child = at in absurd (cc)
-child_in_range (boolean b) n child fits at = let bad : None ≡ Some child = at in absurd (cc)
-child_in_range (number m) n child fits at = let bad : None ≡ Some child = at in absurd (cc)
-child_in_range (text s) n child fits at = let bad : None ≡ Some child = at in absurd (cc)
-child_in_range (extension x) n child fits at = let bad : None ≡ Some child = at in absurd (cc)
 
 -- ---- the first step of a place
 
@@ -135,28 +112,9 @@ pub record FirstMet (step : Key) (steps : List Key) (t : Tree) (ns : List ℕ) :
   pub placed : location steps child ≡ Some others
 
 pub first_met : (step : Key) (steps : List Key) (t : Tree) (ns : List ℕ) → location (step ∷ steps) t ≡ Some ns → FirstMet step steps t ns
-first_met step steps t ns e = at_position (child_position step t) refl e
-  where
-    placed : (n : ℕ) (child : Tree) (o : Option (List ℕ)) → child_position step t ≡ Some n → slice_get (children t) n ≡ Some child → location steps child ≡ o
-        → option_map (λ ms. n ∷ ms) o ≡ Some ns → FirstMet step steps t ns
-    placed n child None meets is at h = let bad : None ≡ Some ns = h in absurd (cc)
-    placed n child (Some ms) meets is at h =
-        record { at = n; child = child; others = ms; split = cc h; meets = meets; is = is; placed = at }
-
-    at_child : (n : ℕ) (o : Option Tree) → child_position step t ≡ Some n → slice_get (children t) n ≡ o
-        → option_map (λ ms. n ∷ ms) (option_and_then (location steps) o) ≡ Some ns → FirstMet step steps t ns
-    at_child n None meets is h = let bad : None ≡ Some ns = h in absurd (cc)
-    at_child n (Some child) meets is h = placed n child (location steps child) meets is refl h
-
-    at_position : (o : Option ℕ) → child_position step t ≡ o
-        → option_and_then (λ n. option_map (λ ms. n ∷ ms) (option_and_then (location steps) (slice_get (children t) n))) o ≡ Some ns → FirstMet step steps t ns
-    at_position None meets h = let bad : None ≡ Some ns = h in absurd (cc)
-    at_position (Some n) meets h = at_child n (slice_get (children t) n) meets refl h
+first_met step steps t ns e = grind arith
 
 -- ---- the law
-
-taken_last : (n : ℕ) (ns others : List ℕ) (t t' : Tree) → ns ≡ n ∷ others → [] ≡ others → remove_at ns t ≡ Some t' → change_child n (remove_at []) t ≡ t'
-taken_last n ns others t t' split end out = cc (rw (split, ← end) at out)
 
 taken_first : (n : ℕ) (ns others : List ℕ) (t t' : Tree) → ns ≡ n ∷ others → remove_at ns t ≡ Some t' → change_child n (remove_at others) t ≡ t'
 taken_first n ns others t t' split out = cc (rw split at out)
@@ -171,11 +129,6 @@ in_object last t ps n is at = sym (position_in_object last ps) ∙ rw is at at
 object_left : (t t' : Tree) (ps : Pairs) (n : ℕ) → t ≡ object ps → change_child n (remove_at []) t ≡ t' → object (changed_pairs n (remove_at []) ps) ≡ t'
 object_left t t' ps n is left = rw is at left
 
-inner_parent : (step : Key) (steps : List Key) (t child : Tree) (n : ℕ) (wanted : Option Tree) → child_position step t ≡ Some n
-    → slice_get (children t) n ≡ Some child
-    → tree_at_steps (step ∷ steps) t ≡ wanted → tree_at_steps steps child ≡ wanted
-inner_parent step steps t child n wanted meets is e = rw (meets, is) at (sym (step_by_step step steps t) ∙ e)
-
 goes_on : (step : Key) (steps : List Key) (t child : Tree) (n : ℕ) → child_position step t ≡ Some n → slice_get (children t) n ≡ Some child
     → location steps child ≡ None
     → location (step ∷ steps) t ≡ None
@@ -187,7 +140,7 @@ last_gone : (last : Key) (t : Tree) (ps : Pairs) (ns : List ℕ) → AreKeys (ke
 last_gone last t ps ns rising is met t' out =
     let f = first_met last [] t ns met in
     let end : [] ≡ f.others = cc f.placed in
-    let left = object_left t t' ps f.at is (taken_last f.at ns f.others t t' f.split end out) in
+    let left = object_left t t' ps f.at is (cc (rw (f.split, ← end) at out)) in
     let gone = key_gone (asked_key last) ps f.at rising (in_object last t ps f.at is f.meets) in
     let none = position_in_object last (changed_pairs f.at (remove_at []) ps) ∙ gone in
     subst (λ (u : Tree). location (last ∷ []) u ≡ None) left (no_child (object (changed_pairs f.at (remove_at []) ps)) none)
@@ -196,39 +149,20 @@ last_gone last t ps ns rising is met t' out =
     no_child u none = rw none refl
 
 -- places of some steps have a position
-some_positions : (front : List Key) (last : Key) (t : Tree) (ns : List ℕ) → location (front ++ last ∷ []) t ≡ Some ns → (n : ℕ) × (ms : List ℕ) × (ns ≡ n ∷ ms)
+pub some_positions : (front : List Key) (last : Key) (t : Tree) (ns : List ℕ) → location (front ++ last ∷ []) t ≡ Some ns → (n : ℕ) × (ms : List ℕ) × (ns ≡ n ∷ ms)
 some_positions [] last t ns met = let f = first_met last [] t ns met in (f.at, f.others, f.split)
 some_positions (step ∷ front) last t ns met = let f = first_met step (front ++ last ∷ []) t ns met in (f.at, f.others, f.split)
 
-gone : (front : List Key) (last : Key) (t : Tree) (ps : Pairs) (ns : List ℕ) → IsInRange t → tree_at_steps front t ≡ Some (object ps)
+pub gone : (front : List Key) (last : Key) (t : Tree) (ps : Pairs) (ns : List ℕ) → IsInRange t → tree_at_steps front t ≡ Some (object ps)
     → location (front ++ last ∷ []) t ≡ Some ns → (t' : Tree) → remove_at ns t ≡ Some t' → location (front ++ last ∷ []) t' ≡ None
-gone [] last t ps ns fits parent met t' out =
-    let is : t ≡ object ps = cc parent in
-    let fits' : IsInRange (object ps) = rw is at fits in
-    last_gone last t ps ns fits'.0 is met t' out
+gone [] last t ps ns fits parent met t' out = grind (arith, last_gone)
 gone (step ∷ front) last t ps ns fits parent met t' out =
     let f = first_met step (front ++ last ∷ []) t ns met in
     let some = some_positions front last f.child f.others f.placed in
     let taken = taken_some some.0 f.others some.1 f.child some.2 in
-    let below = inner_parent step front t f.child f.at _ f.meets f.is parent in
-    let rest = gone front last f.child ps f.others (child_in_range t f.at f.child fits f.is) below f.placed _ taken in
+    let below = rw (f.meets, f.is) at (sym (step_by_step step front t) ∙ parent) in
+    let rest = gone front last f.child ps f.others (grind (arith, element_in_range, value_in_range, fits, f.is)) below f.placed _ taken in
     let meets = same_position (remove_at f.others) f.child _ taken step t f.at f.is ∙ f.meets in
     let there = child_there (remove_at f.others) f.child _ taken t f.at f.is in
     let here = goes_on step (front ++ last ∷ []) _ _ f.at meets there rest in
     subst (λ (u : Tree). location (step ∷ (front ++ last ∷ [])) u ≡ None) (taken_first f.at ns f.others t t' f.split out) here
-
-pub pairs_are_gone : (t : Tree) → Fits t → (front : List Key) (last : Key) (ps : Pairs) → tree_at_steps front t ≡ Some (object ps)
-    → location (front ++ last ∷ []) (without (front ++ last ∷ []) t) ≡ None
-pairs_are_gone t fits front last ps parent = by (location (front ++ last ∷ []) t) refl
-  where
-    left : (o : Option Tree) (ns : List ℕ) → remove_at ns t ≡ o → location (front ++ last ∷ []) t ≡ Some ns
-        → location (front ++ last ∷ []) (unwrap_or o t) ≡ None
-    left None ns out met =
-        let some = some_positions front last t ns met in
-        let bad : Some (change_child some.0 (remove_at some.1) t) ≡ None = rw some.2 at out in absurd (cc)
-    left (Some t') ns out met = gone front last t ps ns fits.0 parent met t' out
-
-    by : (o : Option (List ℕ)) → location (front ++ last ∷ []) t ≡ o
-        → location (front ++ last ∷ []) (unwrap_or (option_and_then (λ ns. remove_at ns t) o) t) ≡ None
-    by None none = none
-    by (Some ns) met = left (remove_at ns t) ns refl met

@@ -1,39 +1,12 @@
 -- Hashes of numbers, and of trees that are equal by value.
-use Rattle.jsonb_raw.proofs.Common.{◌≡◌, ℕ, zero, suc, ◌-◌, ◌*◌, ◌^◌, ◌<◌, ◌≤◌, ◌+◌, ◌%◌, ◌&&◌, Bool, true, false, List, length, slice_index_or, slice_set, ℤ, pos, negsuc, neg_ℤ, refl, sym, ap, ◌∙◌, arith, true≢false, unsigned_abs, int_lt, bytes_eq, one-le-pow, eq_by_cmp, int_cmp, and_parts, nat_tests, get_or-set_at, int_ranked, bytes_eq-Decides, Number, Variant, number_cmp, number_from, common, at_common, is_equal, are_equal, pairs_are_equal, Tree, null, boolean, number, text, extension, array, object, Trees, no_trees, tree, Pairs, no_pairs, pair, values, value_hash, IsPartHash, AreHashed, IsHashOf}
-use Rattle.std.specs.Ordering.{is_eq}
-use Rattle.std.specs.declared.cmp.Ordering.{Ordering}
-
-module _ (variant : Variant) (scale power m : ℕ) (few : scale ≤ 6) (is : power ≡ 10 ^ (6 - scale)) where
-  -- a number of these parts has the hash of their product
-  parts_marked : (z : ℤ) → (int_lt z (pos 0) ≡ false → m ≡ value_hash (pos (unsigned_abs z * power)))
-      → (int_lt z (pos 0) ≡ true → 0 < unsigned_abs z → 0 < power → m ≡ value_hash (neg_ℤ (pos (unsigned_abs z * power))))
-      → IsPartHash (number (number_from variant z scale)) m
-  parts_marked (pos zero) above below =
-      let whole : int_lt (pos 0) (pos 0) ≡ false = grind (arith, nat_tests) in
-      let none : 0 * power ≡ 0 = omega arith in
-      (omega arith, rw none at (above whole))
-  parts_marked (pos (suc n)) above below =
-      let whole : int_lt (pos (suc n)) (pos 0) ≡ false = grind (arith, nat_tests) in
-      (few, rw is at (above whole))
-  parts_marked (negsuc n) above below =
-      let some : 1 ≤ power = rw is (one-le-pow (6 - scale) 10 (omega arith)) in
-      (few, rw is at (below refl (omega arith) (omega arith)))
-
-  pub magnitude_hashed : (z : ℤ) (magnitude : ℕ) → magnitude ≡ unsigned_abs z
-      → (int_lt z (pos 0) ≡ false → m ≡ value_hash (pos (magnitude * power)))
-      → (int_lt z (pos 0) ≡ true → 0 < magnitude → 0 < power → m ≡ value_hash (neg_ℤ (pos (magnitude * power))))
-      → IsPartHash (number (number_from variant z scale)) m
-  magnitude_hashed z magnitude e above below = parts_marked z (rw e at above) (rw e at below)
-
-same_whole : (x y : ℤ) (r : Ordering) → is_eq r ≡ true → r ≡ int_cmp x y → x ≡ y
-same_whole x y r h k = grind (arith, int_ranked)
+use Rattle.jsonb_raw.proofs.Common.{◌≡◌, ℕ, ◌-◌, ◌*◌, ◌<◌, ◌+◌, ◌%◌, ◌&&◌, Bool, true, false, List, length, slice_index_or, slice_set, refl, sym, ap, ◌∙◌, arith, true≢false, bytes_eq, eq_by_cmp, int_cmp, and_parts, get_or-set_at, int_ranked, bytes_eq-Decides, Number, number_cmp, common, at_common, is_equal, are_equal, pairs_are_equal, Tree, null, boolean, number, text, extension, array, object, Trees, no_trees, tree, Pairs, no_pairs, pair, values, value_hash, IsPartHash, AreHashed, IsHashOf}
 
 -- numbers of one value have one hash
 numbers_marked : (n k : Number) (a b : ℕ) → eq_by_cmp number_cmp n k ≡ true → IsPartHash (number n) a → IsPartHash (number k) b → a ≡ b
 unfolding common
 numbers_marked n k a b same p q =
     let scaled : number_cmp n k ≡ int_cmp (common n 6) (common k 6) = at_common n k 6 p.0 q.0 in
-    let one : common n 6 ≡ common k 6 = same_whole (common n 6) (common k 6) _ (rw scaled at same) refl in
+    let one : common n 6 ≡ common k 6 = grind (arith, int_ranked, rw scaled at same, refl) in
     p.1 ∙ ap value_hash one ∙ sym q.1
 
 -- trees that are equal by value have one hash in a container

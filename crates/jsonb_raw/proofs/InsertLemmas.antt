@@ -15,12 +15,10 @@ same_key key name e = (Equal-is (slice_cmp nat_cmp name key)).0 (is_eq-slice_cmp
 pub inserted_at : {A : Type 0} (name : List ℕ) (x : A) (front there back : List (List ℕ × A)) → AreBelow name (keys_of front)
     → IsInPlace name (keys_of there) (keys_of back)
     → insert_pair name x (front ++ (there ++ back)) ≡ front ++ (name, x) ∷ back
-inserted_at name x (p ∷ front) there back below at =
-    rw (turned p.0 name Less below.0) (ap (λ qs. p ∷ qs) (inserted_at name x front there back below.1 at))
+inserted_at name x (p ∷ front) there back below at = grind (arith, turned, inserted_at name x front there back below.1 at)
 inserted_at name x [] [] [] below at = refl
 inserted_at name x [] [] (p ∷ back) below at = rw at refl
-inserted_at name x [] (p ∷ []) back below at =
-    rw (same_key p.0 name at) (ap (λ (k : List ℕ). (k, x) ∷ back) at)
+inserted_at name x [] (p ∷ []) back below at = grind (arith, same_key)
 inserted_at name x [] (p ∷ q ∷ there) back below at = absurd at
 
 -- ---- whether the name is there
@@ -53,18 +51,11 @@ module _ (place : PairPlace) (name : List ℕ) (ps : Pairs) (are : AreKeys (keys
 
   -- the place replaces nothing if there is no such key
   pub not_there : place.taken ≡ 0 → is_some (value_under name ps) ≡ false
-  not_there none = go at.there (at.taken) found.0
-    where
-      go : (there : List (List ℕ)) → place.taken ≡ length there → (there ≡ [] → value_under name ps ≡ None) → is_some (value_under name ps) ≡ false
-      go there h k = grind (arith, found)
+  not_there none = grind (arith, found)
 
   -- and a member if there is one
   pub is_there : 0 < place.taken → is_some (value_under name ps) ≡ true
-  is_there some = go at.there (at.taken) at.is_place found.1
-    where
-      go : (there : List (List ℕ)) → place.taken ≡ length there → IsInPlace name there at.back → (length there ≡ 1 → is_some (value_under name ps) ≡ true)
-          → is_some (value_under name ps) ≡ true
-      go there h k e = grind (arith, found)
+  is_there some = grind (arith, found)
 
 -- ---- the walk over the keys
 
@@ -127,16 +118,7 @@ module _ (name : List ℕ) (ks : List (List ℕ)) (passed : ℕ) (it : KeyIter) 
 
   -- all keys are below the name
   pub place_last : h.left ≡ [] → IsPlaceAmong (record { passed = passed; taken = 0 }) name ks
-  place_last none = record {
-    front = h.front;
-    there = [];
-    back = [];
-    joined = h.joined ∙ rw none refl;
-    passed = h.count;
-    taken = refl;
-    below = h.below;
-    is_place = tt;
-  }
+  place_last none = grind arith
 
 pub in_object : (name : List ℕ) (t : Tree) (ps : Pairs) (place : PairPlace) → t ≡ object ps → IsPlaceAmong place name (keys ps)
     → IsPairPlace name t (Some place)
@@ -146,8 +128,7 @@ in_object name t ps place is at = rw is at
 
 object_at : (name : List ℕ) (t : Tree) (place : PairPlace) → IsPairPlace name t (Some place)
     → (ps : Pairs) × (t ≡ object ps) × IsPlaceAmong place name (keys ps)
-object_at name (object ps) place at = (ps, refl, at)
-object_at name _ place at = absurd at
+object_at name t place h = grind arith
 
 module _ (form : Form) (bytes : List ℕ) (name : List ℕ) (t : Tree) (place : PairPlace) (d : Decodes form bytes t) (at : IsPairPlace name t (Some place)) where
   pub name_there : 0 < place.taken → has_name name t ≡ true
@@ -217,8 +198,7 @@ rising_at name [] [] back rising below at = (at, rising)
 rising_at name [] (key ∷ []) back rising below at = subst (λ (k : List ℕ). AreRising (k ∷ back)) at rising
 rising_at name [] (key ∷ next ∷ there) back rising below at = absurd at
 rising_at name (low ∷ []) there back rising below at = (below.0, rising_at name [] there back rising.1 below.1 at)
-rising_at name (low ∷ next ∷ front) there back rising below at =
-    (rising.0, rising_at name (next ∷ front) there back rising.1 below.1 at)
+rising_at name (low ∷ next ∷ front) there back rising below at = grind (arith, rising_at name (next ∷ front) there back rising.1 below.1 at)
 
 keys_of-append : {A : Type 0} (ps qs : List (List ℕ × A)) → keys_of (ps ++ qs) ≡ keys_of ps ++ keys_of qs
 keys_of-append [] qs = refl
@@ -245,8 +225,7 @@ is_around form bytes place name t ps pairs d h at =
     let s = split_around (members ps) at.front at.there at.back (keys_of-members ps ∙ at.joined) in
     let below : AreBelow name (keys_of s.front) = subst (AreBelow name) (sym s.front_are) at.below in
     let in_place : IsInPlace name (keys_of s.there) (keys_of s.back) = rw (s.there_are, s.back_are) at.is_place in
-    let rising : AreRising (keys_of s.front ++ (keys_of s.there ++ keys_of s.back)) = rw (s.front_are, s.there_are, s.back_are, ← at.joined)
-    (keys_rise (keys ps) (decoded_keys form bytes ps d)) in
+    let rising : AreRising (keys_of s.front ++ (keys_of s.there ++ keys_of s.back)) = grind (arith, keys_rise, decoded_keys) in
     record {
       front = s.front;
       there = s.there;
@@ -258,8 +237,7 @@ is_around form bytes place name t ps pairs d h at =
       parts = subst (HoldTrees form pairs.values)
           (ap values_of s.joined ∙ all_values s.front (s.there ++ s.back) ∙ ap (λ ts. values_of s.front ++ ts) (all_values s.there s.back)) h.parts;
       inserted = ap (insert_pair name t) s.joined ∙ inserted_at name t s.front s.there s.back below in_place;
-      rising = subst AreRising (sym (keys_of-append s.front ((name, t) ∷ s.back)))
-          (rising_at name (keys_of s.front) (keys_of s.there) (keys_of s.back) rising below in_place);
+      rising = search (keys_of-append, rising_at);
     }
 
 -- ---- lists split around a place
@@ -267,10 +245,7 @@ is_around form bytes place name t ps pairs d h at =
 around_held : (form : Form) (front back : Entries) (xs there ys : List Tree) (n m : ℕ) → n ≡ length xs → m ≡ length there
     → HoldTrees form front (take n (xs ++ (there ++ ys))) × HoldTrees form back (drop m (drop n (xs ++ (there ++ ys))))
     → HoldTrees form front xs × HoldTrees form back ys
-around_held form front back xs there ys n m is as_many h = (
-  subst (HoldTrees form front) (take_at xs (there ++ ys) n (sym is)) h.0,
-  subst (HoldTrees form back) (ap (drop m) (drop_at xs (there ++ ys) n (sym is)) ∙ drop_at there ys m (sym as_many)) h.1,
-)
+around_held form front back xs there ys n m is as_many h = grind (arith, take_at, drop_at)
 
 as_many_texts : (n : ℕ) (ps : List Member) → n ≡ length ps → n ≡ length (texts ps)
 as_many_texts n ps is = is ∙ sym (length-keys_of ps) ∙ sym (many_texts (keys_of ps))
@@ -301,21 +276,7 @@ module _ (form : Form) (place : PairPlace) (name : List ℕ) (t : Tree) (ps : Pa
 
   pub all_coming : (n : ℕ) → n ≡ length (texts a.front) + 1 + length (texts a.back)
       → Make header_kind.Object n coming (object (pairs_of (insert_pair name t (members ps))))
-  all_coming n is = (
-    a.front ++ (name, t) ∷ a.back,
-    omega (
-      arith,
-      is,
-      length-append a.front ((name, t) ∷ a.back),
-      many_texts (keys_of a.front),
-      length-keys_of a.front,
-      many_texts (keys_of a.back),
-      length-keys_of a.back,
-    ),
-    a.rising,
-    rw (text_names a.front ((name, t) ∷ a.back), all_values a.front ((name, t) ∷ a.back)) (sym (append_assoc (texts a.front) (text name ∷ texts a.back) (values_of a.front ++ (t ∷ values_of a.back)))),
-    ap (λ qs. object (pairs_of qs)) a.inserted,
-  )
+  all_coming n is = grind (arith, length-append, many_texts, length-keys_of, text_names, all_values, append_assoc)
 
 -- nothing comes after the last of them
 pub none_after : (form : Form) (w : Writer) (xs ys : List Tree) (t : Tree) (around : Around) (whole : Tree) → IsWriting form w (xs ++ (t ∷ ys)) around whole

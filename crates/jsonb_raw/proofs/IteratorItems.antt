@@ -1,5 +1,5 @@
 -- What an iterator of a document has left, as a loop's invariant says it.
-use Rattle.jsonb_raw.proofs.Common.{◌≡◌, ℕ, List, Option, Some, None, Result, Ok, Err, sym, ap, subst, [], ◌∷◌, ◌++◌, Bor, Error, Item, PairIter, ElementIter, Tree, array, object, Trees, no_trees, tree, Pairs, no_pairs, pair, trees_of, Form, StandsFor, TakesElement, GivesElement, HasElementsLeft, HasPairsLeft, IsElementsOf, TakesPair, GivesPair, IsPairsOf, IsOutOfMemoryOrTooLarge, Parts, no_parts, HoldsElements, front_empty, front_pushed, front_refused, HoldsFront}
+use Rattle.jsonb_raw.proofs.Common.{arith, ◌≡◌, ℕ, List, Option, Some, None, Result, Ok, Err, subst, [], ◌∷◌, ◌++◌, Bor, Error, Item, PairIter, ElementIter, Tree, array, object, Trees, no_trees, tree, Pairs, no_pairs, pair, trees_of, Form, StandsFor, GivesElement, HasElementsLeft, HasPairsLeft, IsElementsOf, TakesPair, GivesPair, IsPairsOf, IsOutOfMemoryOrTooLarge, Parts, no_parts, HoldsElements, front_empty, front_pushed, front_refused, HoldsFront}
 
 -- the elements that are left have the property Q
 pub record SomeElements (form : Form) (it : ElementIter) (Q : Trees → Type 0) : Type 0 where
@@ -23,44 +23,26 @@ pub SomePairs-all : (form : Form) (ps : Pairs) (found : Option PairIter) (it it'
 SomePairs-all form ps found it it' Q e f h q = record { pairs = ps; left = rw f (rw e at h); fact = q }
 
 module _ {G : Type 0} where
-  first_tree : (form : Form) (it' : ElementIter) (x : Item) (Q : Trees → Type 0) (ts : Trees) → TakesElement form ts (Some (Ok x)) it' → Q ts
-      → ((first : Tree) (rest : Trees) → HasElementsLeft form it' rest → StandsFor form x first → Q (tree first rest) → G) → G
-  first_tree form it' x Q no_trees h q go = absurd h
-  first_tree form it' x Q (tree t ts) h q go = go t ts h.1 h.0 q
-
   -- the item that `next` gave stands for the first of what was left
   pub SomeElements-first : (form : Form) (it it' : ElementIter) (r : Result Item Error) (x : Item) (Q : Trees → Type 0) → r ≡ Ok x
       → GivesElement it (Some r) it' → SomeElements form it Q
       → ((first : Tree) (rest : Trees) → HasElementsLeft form it' rest → StandsFor form x first → Q (tree first rest) → G) → G
-  SomeElements-first form it it' r x Q e n s go =
-      first_tree form it' x Q s.trees (subst (λ (y : Result Item Error). TakesElement form s.trees (Some y) it') e (n.takes form s.trees s.left)) s.fact go
-
-  no_first_error : (form : Form) (it' : ElementIter) (e : Error) (ts : Trees) → TakesElement form ts (Some (Err e)) it' → G
-  no_first_error form it' e no_trees h = absurd h
-  no_first_error form it' e (tree t ts) h = absurd h
+  SomeElements-first form it it' r x Q e n s go = grind arith
 
   -- `next` gives no error while elements are left
   pub SomeElements-error : (form : Form) (it it' : ElementIter) (r : Result Item Error) (e : Error) (Q : Trees → Type 0) → r ≡ Err e
       → GivesElement it (Some r) it' → SomeElements form it Q → G
-  SomeElements-error form it it' r e Q same n s =
-      no_first_error form it' e s.trees (subst (λ (y : Result Item Error). TakesElement form s.trees (Some y) it') same (n.takes form s.trees s.left))
-
-  first_pair : (form : Form) (it' : PairIter) (x : Bor (List ℕ) × Item) (Q : Pairs → Type 0) (ps : Pairs) → TakesPair form ps (Some (Ok x)) it' → Q ps
-      → ((value : Tree) (rest : Pairs) → HasPairsLeft form it' rest → StandsFor form x.1 value → Q (pair x.0.now value rest) → G) → G
-  first_pair form it' x Q no_pairs h q go = absurd h
-  first_pair form it' x Q (pair key t ps) h q go = go t ps h.2 h.1 (subst Q (ap (λ k. pair k t ps) (sym h.0)) q)
+  SomeElements-error form it it' r e Q same n s = grind arith
 
   -- the key and the item that `next` gave are the first pair of what was left
   pub SomePairs-first : (form : Form) (it it' : PairIter) (r : Result (Bor (List ℕ) × Item) Error) (x : Bor (List ℕ) × Item) (Q : Pairs → Type 0) → r ≡ Ok x
       → GivesPair it (Some r) it' → SomePairs form it Q
       → ((value : Tree) (rest : Pairs) → HasPairsLeft form it' rest → StandsFor form x.1 value → Q (pair x.0.now value rest) → G) → G
   SomePairs-first form it it' r x Q e n s go =
-      first_pair form it' x Q s.pairs
-      (subst (λ (y : Result (Bor (List ℕ) × Item) Error). TakesPair form s.pairs (Some y) it') e (n.takes form s.pairs s.left)) s.fact go
+      (grind (arith, subst (λ (y : Result (Bor (List ℕ) × Item) Error). TakesPair form s.pairs (Some y) it') e (n.takes form s.pairs s.left), s.fact, go))
 
   no_pair_error : (form : Form) (it' : PairIter) (e : Error) (ps : Pairs) → TakesPair form ps (Some (Err e)) it' → G
-  no_pair_error form it' e no_pairs h = absurd h
-  no_pair_error form it' e (pair key t ps) h = absurd h
+  no_pair_error form it' e ps h = grind arith
 
   -- `next` gives no error while pairs are left
   pub SomePairs-error : (form : Form) (it it' : PairIter) (r : Result (Bor (List ℕ) × Item) Error) (e : Error) (Q : Pairs → Type 0) → r ≡ Err e
@@ -69,20 +51,12 @@ module _ {G : Type 0} where
       no_pair_error form it' e s.pairs
       (subst (λ (y : Result (Bor (List ℕ) × Item) Error). TakesPair form s.pairs (Some y) it') same (n.takes form s.pairs s.left))
 
-no_more_trees : (form : Form) (it' : ElementIter) (Q : Trees → Type 0) (ts : Trees) → TakesElement form ts None it' → Q ts → Q no_trees
-no_more_trees form it' Q no_trees h q = q
-no_more_trees form it' Q (tree t ts) h q = absurd h
-
 -- if `next` gave none, none was left
 pub SomeElements-none : (form : Form) (it it' : ElementIter) (Q : Trees → Type 0) → GivesElement it None it' → SomeElements form it Q → Q no_trees
-SomeElements-none form it it' Q n s = no_more_trees form it' Q s.trees (n.takes form s.trees s.left) s.fact
-
-no_more_pairs : (form : Form) (it' : PairIter) (Q : Pairs → Type 0) (ps : Pairs) → TakesPair form ps None it' → Q ps → Q no_pairs
-no_more_pairs form it' Q no_pairs h q = q
-no_more_pairs form it' Q (pair key t ps) h q = absurd h
+SomeElements-none form it it' Q n s = grind arith
 
 pub SomePairs-none : (form : Form) (it it' : PairIter) (Q : Pairs → Type 0) → GivesPair it None it' → SomePairs form it Q → Q no_pairs
-SomePairs-none form it it' Q n s = no_more_pairs form it' Q s.pairs (n.takes form s.pairs s.left) s.fact
+SomePairs-none form it it' Q n s = grind (arith, n.takes form s.pairs s.left, s.fact)
 
 -- ---- a loop that pushes elements into a builder
 
@@ -93,8 +67,7 @@ HeldElements form parts it gives whole = SomeElements form it (λ ts. HoldsFront
 -- at first nothing is held
 pub elements_begun : (form : Form) (gives : Trees → List Tree) (parts : Parts) (ts : Trees) (found : Option ElementIter) (it it' : ElementIter)
     → found ≡ Some it → it' ≡ it → IsElementsOf form (array ts) found → parts ≡ no_parts → HeldElements form parts it' gives (gives ts)
-elements_begun form gives parts ts found it it' is same left none =
-    SomeElements-all form ts found it it' (λ us. HoldsFront form parts (gives us) (gives ts)) is same left (front_empty form parts (gives ts) none)
+elements_begun form gives parts ts found it it' is same left none = grind (arith, SomeElements-all, front_empty)
 
 module _ (form : Form) (gives : Trees → List Tree) (whole : List Tree) (before : Parts) (it it' : ElementIter) (r : Result Item Error) (x : Item)
     (is : r ≡ Ok x) (step : GivesElement it (Some r) it') (h : HeldElements form before it gives whole) where

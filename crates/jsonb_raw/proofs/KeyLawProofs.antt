@@ -42,13 +42,7 @@ mutual
   keyable_values (Pairs.pair k v ps) r p = (keyable_part v r.0 p.1 p.0, keyable_values ps r.1 p.2)
 
 pub keyable : (t : Tree) → Fits t → IsKeyable t
-keyable Tree.null f = tt
-keyable (Tree.boolean b) f = tt
-keyable (Tree.number n) f = f.0
-keyable (Tree.text bytes) f = tt
-keyable (Tree.extension x) f = f
-keyable (Tree.array ts) f = (f.1.0, keyable_elements ts f.0 f.1.1)
-keyable (Tree.object ps) f = (f.1.0, keyable_values ps f.0.1 f.1.2)
+keyable t h = grind (arith, keyable_elements, keyable_values)
 
 same_rank_boolean : (a b : Bool) → rank (Tree.boolean a) ≡ rank (Tree.boolean b) → a ≡ b
 same_rank_boolean a b h = grind arith
@@ -70,8 +64,7 @@ same_count k m n r s hm hn e =
 
 counted : (k m n : ℕ) (xs ys r s : List ℕ) → m < 256 ^ k → n < 256 ^ k → (bytes_high_first k m ++ xs) ++ r ≡ (bytes_high_first k n ++ ys) ++ s
     → (m ≡ n) × (xs ++ r ≡ ys ++ s)
-counted k m n xs ys r s hm hn e = same_count k m n (xs ++ r) (ys ++ s) hm hn
-    (sym (append_assoc (bytes_high_first k m) xs r) ∙ e ∙ append_assoc (bytes_high_first k n) ys s)
+counted k m n xs ys r s hm hn e = grind (arith, same_count, append_assoc)
 
 -- fronts of one length
 same_front : (xs ys r s : List ℕ) → length xs ≡ length ys → xs ++ r ≡ ys ++ s → (xs ≡ ys) × (r ≡ s)
@@ -134,8 +127,7 @@ mutual
     where
       apart : (k : List ℕ) (t : Tree) (ps : Pairs) (r : List ℕ)
           → equality_keys_of_pairs (Pairs.pair k t ps) ++ r ≡ (5 ∷ text_bytes k) ++ (equality_key t ++ (equality_keys_of_pairs ps ++ r))
-      apart k t ps r = append_assoc (5 ∷ text_bytes k) (equality_key t ++ equality_keys_of_pairs ps) r
-          ∙ ap (λ x. (5 ∷ text_bytes k) ++ x) (append_assoc (equality_key t) (equality_keys_of_pairs ps) r)
+      apart k t ps r = grind (arith, append_assoc)
 
 -- numbers of one exact value have one spelling
 same_number : (m n : Number) → FitsNumber m → FitsNumber n → number_cmp m n ≡ Equal → number_bytes m.whole m.scale ≡ number_bytes n.whole n.scale
@@ -214,9 +206,6 @@ equality_keys_tell_apart t u h k = (
 abbrev RanksWith : Width → Tree → Tree → List ℕ → Type 0
 RanksWith w t u bytes = (bytes_cmp bytes (sortable_key w u 0) ≡ tree_cmp t u) × ((bytes ≡ sortable_key w u 0) ↔ IsTrue (is_equal t u))
 
-ranks_with : (w : Width) (t u : Tree) (made : List ℕ) → HasKey w t 0 → HasKey w u 0 → made ≡ sortable_key w t 0 → RanksWith w t u made
-ranks_with w t u made h k e = rw e (keys_order w t u h k, keys_tell_apart w t u h k)
-
 -- the tree of a document has a key, since it was decoded and is thus in range
 pub decoded_key : (w : Width) (form : Form) (bytes : List ℕ) (t : Tree) → AreBytes bytes → Decodes form bytes t → HasNoExtension t → deepest t < depths w
     → HasKey w t 0
@@ -227,7 +216,7 @@ decoded_key w form bytes t all d none deep =
 pub decoded_ranks : (w : Width) (form : Form) (bytes made : List ℕ) (t : Tree) → AreBytes bytes → Decodes form bytes t → made ≡ sortable_key w t 0
     → deepest t < depths w → HasNoExtension t → (u : Tree) → HasKey w u 0 → RanksWith w t u made
 decoded_ranks w form bytes made t all d e deep none u k =
-    ranks_with w t u made (decoded_key w form bytes t all d none deep) k e
+    (rw e (keys_order w t u (decoded_key w form bytes t all d none deep) k, keys_tell_apart w t u (decoded_key w form bytes t all d none deep) k))
 
 -- ---- keys of several values, one after the other, from the keys of each with what follows it
 
@@ -258,18 +247,11 @@ below_column w column s = grind (arith, column_is_item, bytes_cmp, append_assoc,
 above_nothing : (w : Width) (column : Option Tree) (r : List ℕ) → bytes_cmp (column_key w column ++ r) [] ≡ Greater
 above_nothing w column r = grind (arith, column_is_item, bytes_cmp, append_assoc, nothing_above_depth)
 
--- a missing value next to one that is there
-missing_below : (w : Width) (u : Tree) (r s : List ℕ) → bytes_cmp (column_key w None ++ r) (sortable_key w u 0 ++ s) ≡ Less
-missing_below w u r s = grind (arith, key_is_item, items_rank, some_depth, rank_positive)
-
-above_missing : (w : Width) (t : Tree) (r s : List ℕ) → bytes_cmp (sortable_key w t 0 ++ r) (column_key w None ++ s) ≡ Greater
-above_missing w t r s = grind (arith, key_is_item, items_rank, some_depth, rank_positive)
-
 columns_rank : (w : Width) (t u : Option Tree) (r s : List ℕ) → IfSome t (λ x. HasKey w x 0) → IfSome u (λ x. HasKey w x 0) → IsRest w 0 r → IsRest w 0 s
     → bytes_cmp (column_key w t ++ r) (column_key w u ++ s) ≡ ordering_then (option_cmp tree_cmp t u) (bytes_cmp r s)
 columns_rank w None None r s ht hu hr hs = items_rank w 0 0 0 [] [] r s (some_depth w)
-columns_rank w None (Some u) r s ht hu hr hs = missing_below w u r s
-columns_rank w (Some t) None r s ht hu hr hs = above_missing w t r s
+columns_rank w None (Some u) r s ht hu hr hs = grind (arith, key_is_item, items_rank, some_depth, rank_positive)
+columns_rank w (Some t) None r s ht hu hr hs = grind (arith, key_is_item, items_rank, some_depth, rank_positive)
 columns_rank w (Some t) (Some u) r s ht hu hr hs = ranked w t u 0 r s ht hu hr hs
 
 pub composite_keys_order : (w : Width) (ts us : List (Option Tree)) → HaveKeys w ts → HaveKeys w us

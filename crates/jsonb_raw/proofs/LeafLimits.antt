@@ -1,27 +1,7 @@
 -- No leaf is too large for a document.
-use Rattle.jsonb_raw.proofs.Common.{◌≡◌, ◌≤◌, ◌<◌, ℕ, zero, suc, pos, ℤ, Bool, true, false, List, [], ◌∷◌, length, arith, inl, inr, lit<, if◌then◌else◌, refl, slice_index_or, AllByRecursion, Variant, Tree, null, boolean, number, text, extension, array, object, Trees, no_trees, tree, Pairs, no_pairs, pair, Form, any, canonical, IsOutOfMemory, ◌or◌when◌, IsShort, HasShortParts, HasShortElements, HasShortValues, IsWithinLimits, IsTooLarge, Fits, widest_number, Error, TooLarge, Key, index, unquoted_name, Leaf, is_leaf, leaves_at, leaves, leaves_of_trees, leaves_of_pairs, behind}
+use Rattle.jsonb_raw.proofs.Common.{◌≡◌, ◌<◌, ℕ, zero, suc, pos, Bool, true, false, List, [], ◌∷◌, length, arith, inl, inr, if◌then◌else◌, refl, slice_index_or, AllByRecursion, Tree, array, object, Trees, no_trees, tree, Pairs, no_pairs, pair, Form, canonical, IsOutOfMemory, ◌or◌when◌, IsShort, HasShortParts, HasShortElements, HasShortValues, IsWithinLimits, IsTooLarge, Fits, Error, TooLarge, Key, index, unquoted_name, Leaf, is_leaf, leaves_at, leaves, leaves_of_trees, leaves_of_pairs, behind}
 use Rattle.std.specs.List.{Any}
 use Rattle.jsonb_raw.proofs.LeafPlaces.{AllByRecursion-append}
-
-short_number : (variant : Variant) (whole : ℤ) → widest_number variant whole ≤ 18
-short_number variant whole = grind arith
-
--- a leaf whose canonical content is short is within the limits, in either form
-leaf_within_limits : (form : Form) (t : Tree) → is_leaf false t ≡ true → IsShort canonical t → IsWithinLimits form t
-leaf_within_limits any null is short = lit< tt
-leaf_within_limits canonical null is short = short
-leaf_within_limits any (boolean b) is short = lit< tt
-leaf_within_limits canonical (boolean b) is short = short
-leaf_within_limits any (number n) is short = omega (arith, short_number n.variant n.whole)
-leaf_within_limits canonical (number n) is short = short
-leaf_within_limits any (text s) is short = short
-leaf_within_limits canonical (text s) is short = short
-leaf_within_limits any (extension x) is short = short
-leaf_within_limits canonical (extension x) is short = short
-leaf_within_limits form (array no_trees) is short = (lit< tt, tt)
-leaf_within_limits form (array (tree t ts)) is short = cc
-leaf_within_limits form (object no_pairs) is short = (lit< tt, tt, tt)
-leaf_within_limits form (object (pair key t ps)) is short = cc
 
 module _ (form : Form) where
   abbrev IsSmall : Leaf → Type 0
@@ -36,7 +16,7 @@ module _ (form : Form) where
   small_at step t within short h = small_behind step _ (go (is_leaf false t) refl)
     where
       go : (b : Bool) → is_leaf false t ≡ b → AllByRecursion IsSmall (if b then ([], t) ∷ [] else within)
-      go true is = (leaf_within_limits form t is short, tt)
+      go true is = (grind (arith, is, short), tt)
       go false is = h
 
   mutual

@@ -1,5 +1,5 @@
 -- The places of leaves.
-use Rattle.jsonb_raw.proofs.Common.{◌≡◌, ◌⊎◌, ℕ, zero, suc, pos, Bool, true, false, List, [], ◌∷◌, ◌++◌, drop, Option, Some, Less, nat_cmp, refl, sym, ap, ◌∙◌, arith, inl, inr, Contains, if◌then◌else◌, option_and_then, bytes_eq, slice_cmp, nat_list_cmp_total, AllByRecursion, Tree, null, boolean, number, text, extension, array, object, Trees, no_trees, tree, Pairs, no_pairs, pair, elements, keys, value_under, AreKeys, IsBelowFirst, IsInRange, AreInRange, ValuesAreInRange, Fits, bytes_eq-true, bytes_eq-same, Key, index, unquoted_name, Leaf, is_leaf, leaves_at, leaves, leaves_of_trees, leaves_of_pairs, behind, tree_at_steps, child_met}
+use Rattle.jsonb_raw.proofs.Common.{◌≡◌, ◌⊎◌, ℕ, zero, suc, pos, Bool, true, false, List, [], ◌∷◌, ◌++◌, drop, Some, Less, nat_cmp, refl, sym, ◌∙◌, arith, inl, inr, Contains, if◌then◌else◌, bytes_eq, slice_cmp, nat_list_cmp_total, AllByRecursion, Tree, array, object, Trees, no_trees, tree, Pairs, no_pairs, pair, elements, keys, value_under, AreKeys, IsBelowFirst, IsInRange, AreInRange, ValuesAreInRange, Fits, bytes_eq-true, bytes_eq-same, Key, index, unquoted_name, Leaf, is_leaf, leaves_at, leaves, leaves_of_trees, leaves_of_pairs, behind, tree_at_steps, child_met}
 use Rattle.jsonb_raw.proofs.ChildLemmas.{split_at, from_front}
 use Rattle.jsonb_raw.proofs.PositionLemmas.{field_met, step_by_step}
 
@@ -17,11 +17,7 @@ AllByRecursion-append P (x ∷ xs) ys h k = (h.0, AllByRecursion-append P xs ys 
 further_in : (whole t : Tree) (step : Key) (within : List Leaf) → child_met step whole ≡ Some t → AllByRecursion (IsInPlace t) within
     → AllByRecursion (IsInPlace whole) (behind (step ∷ []) within)
 further_in whole t step [] met h = tt
-further_in whole t step (leaf ∷ within) met h = (
-  step_by_step step leaf.0 whole ∙ ap (λ (child : Option Tree). option_and_then (tree_at_steps leaf.0) child) met
-      ∙ h.0,
-  further_in whole t step within met h.1,
-)
+further_in whole t step (leaf ∷ within) met h = grind (arith, step_by_step, further_in whole t step within met h.1)
 
 at_child : (ignore_array : Bool) (whole t : Tree) (step : Key) (within : List Leaf) → child_met step whole ≡ Some t → AllByRecursion (IsInPlace t) within
     → AllByRecursion (IsInPlace whole) (leaves_at ignore_array step t within)
@@ -68,14 +64,10 @@ behind_first ps rest key t below rising back =
 
 mutual
   pub each_in_place : (ignore_array : Bool) (t : Tree) → IsInRange t → AllByRecursion (IsInPlace t) (leaves ignore_array t)
-  each_in_place ignore_array null r = tt
-  each_in_place ignore_array (boolean b) r = tt
-  each_in_place ignore_array (number n) r = tt
-  each_in_place ignore_array (text s) r = tt
-  each_in_place ignore_array (extension x) r = tt
   each_in_place true (array ts) r = tt
   each_in_place false (array ts) r = trees_in_place false ts 0 ts refl r
   each_in_place ignore_array (object ps) r = pairs_in_place ignore_array ps ps (λ name among. refl) r.0 r.1
+  each_in_place ignore_array _ r = tt
 
   trees_in_place : (ignore_array : Bool) (all : Trees) (n : ℕ) (ts : Trees) → drop n (elements all) ≡ elements ts → AreInRange ts
       → AllByRecursion (IsInPlace (array all)) (leaves_of_trees ignore_array n ts)

@@ -1,25 +1,11 @@
 -- What a walk keeps of leaves, and the results of the functions.
-use Rattle.jsonb_raw.proofs.Common.{◌≡◌, ◌==◌, ◌+◌, ◌%◌, ◌<◌, ◌^◌, ◌++◌, ℕ, suc, pos, Bool, true, false, ◌&&◌, List, [], ◌∷◌, Option, Some, None, length, refl, sym, ap, ◌∙◌, arith, append_assoc, append-nil, true≢false, reverse, Bor, ◌⊎◌, Result, Ok, Err, Vec, map, MatchResult, inl, inr, cast_signed, AllZip, map-append, reverse-reverse, ints, Tree, Trees, no_trees, tree, Pairs, no_pairs, pair, count, number, Form, number_reader, number_of, StandsFor, Stores, kind_number, StoredEntry, Item, array_document, object_document, Key, index, unquoted_name, Step, ChildCursor, is_array, EntryPrefix, parts, parts_of_trees, parts_of_pairs, IsKeyOf, HasAllLeft, Leaf, is_leaf, leaves_at, leaves, leaves_of_trees, leaves_of_pairs, behind, step_at, step_key, step_keys, IsKept, innermost, Error, Value, Number, Decodes, IsContent, IsOutOfMemory, ◌or◌when◌, IsTooLarge, TooLarge, IsOutOfMemoryOrTooLarge, value_tree, value_parts, KeyPaths, key_paths_view, OwnedJsonb, IsPairOf, reads_number, number_content, some_injective}
+use Rattle.jsonb_raw.proofs.Common.{◌≡◌, ◌+◌, ◌%◌, ◌<◌, ◌^◌, ◌++◌, ℕ, suc, pos, Bool, true, false, List, [], ◌∷◌, Option, Some, None, length, refl, sym, ap, ◌∙◌, arith, append_assoc, append-nil, reverse, Bor, ◌⊎◌, Result, Vec, map, MatchResult, cast_signed, AllZip, map-append, reverse-reverse, ints, Tree, Trees, no_trees, tree, Pairs, no_pairs, pair, count, Form, StandsFor, Item, array_document, object_document, Key, index, unquoted_name, Step, EntryPrefix, parts, parts_of_trees, parts_of_pairs, IsKeyOf, Leaf, is_leaf, leaves_at, leaves, leaves_of_trees, leaves_of_pairs, behind, step_at, step_key, step_keys, IsKept, innermost, Error, Value, IsOutOfMemory, value_tree, value_parts, KeyPaths, key_paths_view}
 use Rattle.std.specs.Int.{w32}
 use Rattle.std.specs.List.{Any}
 use Rattle.std.proofs.lemmas.List.{length-append}
-use Rattle.jsonb_doc.specs.Tree as spec
 use Rattle.jsonb_raw.proofs.CollectLoops.{Made, none_made, one_made, all_made, one_of_whole}
 use Rattle.jsonb_raw.proofs.LevelLemmas.{count_of_trees, count_of_pairs}
 use Rattle.std.specs.declared.alloc.Global.{Global}
-
--- ---- which parts are entered
-
--- a container without parts is a leaf
-pub empty_leaf : (ignore_array : Bool) (t : Tree) (n : ℕ) → n ≡ length (parts t) → n ≡ 0 → is_leaf ignore_array t ≡ true
-empty_leaf ignore_array t n h k = grind arith
-
-pub full_container : (form : Form) (ignore_array : Bool) (t : Tree) (level : ChildCursor) (n : ℕ) → HasAllLeft form t level → n ≡ length (parts t) → (n ≡ 0 → ⊥)
-    → (ignore_array && is_array t) ≡ false → is_leaf ignore_array t ≡ false
-full_container form ignore_array t level n h k e f = grind arith
-
-pub whole_array : (ignore_array : Bool) (t : Tree) → (ignore_array && is_array t) ≡ true → is_leaf ignore_array t ≡ true
-whole_array ignore_array t h = grind arith
 
 -- ---- the leaves within a tree by its parts
 
@@ -44,40 +30,20 @@ next_is n small = omega arith
 trees_leaves : (ignore_array : Bool) (n : ℕ) (ts : Trees) → n + count ts < 2 ^ 31
     → leaves_of_parts ignore_array n (parts_of_trees ts) ≡ leaves_of_trees ignore_array n ts
 trees_leaves ignore_array n no_trees few = refl
-trees_leaves ignore_array n (tree t ts) few =
-    let small : n < 2 ^ 31 = omega arith in
-    cc (signed n small, next_is n small, trees_leaves ignore_array (suc n) ts (omega arith))
+trees_leaves ignore_array n (tree t ts) few = grind (arith, signed, next_is, trees_leaves ignore_array (suc n) ts (omega arith))
 
 pairs_leaves : (ignore_array : Bool) (n : ℕ) (ps : Pairs) → leaves_of_parts ignore_array n (parts_of_pairs ps) ≡ leaves_of_pairs ignore_array ps
 pairs_leaves ignore_array n no_pairs = refl
 pairs_leaves ignore_array n (pair k t ps) = cc (pairs_leaves ignore_array (next n) ps)
 
--- bytes decode to less parts than an index can count
-few_parts : (form : Form) (x : Item) (t : Tree) → StandsFor form x t → length (parts t) < 2 ^ 31
-few_parts form x t h = grind (arith, array_document, count_of_trees, object_document, count_of_pairs)
-
-parts_leaves : (ignore_array : Bool) (t : Tree) → length (parts t) < 2 ^ 31 → is_leaf ignore_array t ≡ false
+pub parts_leaves : (ignore_array : Bool) (t : Tree) → length (parts t) < 2 ^ 31 → is_leaf ignore_array t ≡ false
     → leaves ignore_array t ≡ leaves_of_parts ignore_array 0 (parts t)
 parts_leaves ignore_array t h k = grind (arith, trees_leaves, count_of_trees, pairs_leaves)
 
 pub item_leaves : (form : Form) (x : Item) (ignore_array : Bool) (t : Tree) → StandsFor form x t → is_leaf ignore_array t ≡ false
     → leaves ignore_array t ≡ leaves_of_parts ignore_array 0 (parts t)
-item_leaves form x ignore_array t stands entered = parts_leaves ignore_array t (few_parts form x t stands) entered
-
--- the same of an entry
-few_stored : (form : Form) (e : StoredEntry) (t : Tree) → Stores form e t → length (parts t) < 2 ^ 31
-few_stored form e t h = grind (arith, count_of_trees, count_of_pairs)
-
-pub entry_leaves : (form : Form) (e : StoredEntry) (ignore_array : Bool) (t : Tree) → Stores form e t → is_leaf ignore_array t ≡ false
-    → leaves ignore_array t ≡ leaves_of_parts ignore_array 0 (parts t)
-entry_leaves form e ignore_array t stored entered = parts_leaves ignore_array t (few_stored form e t stored) entered
-
--- an entry that is not a container is a leaf
-pub lone_leaf : (form : Form) (e : StoredEntry) (ignore_array : Bool) (t : Tree) → Stores form e t → (kind_number e.kind == 5) ≡ false → is_leaf
-    ignore_array t ≡ true
-lone_leaf form e ignore_array (spec.array ts) h k = absurd (true≢false (rw h.content.0 at k))
-lone_leaf form e ignore_array (spec.object ps) h k = absurd (true≢false (rw h.content.0 at k))
-lone_leaf form e ignore_array _ h k = refl
+item_leaves form x ignore_array t stands entered = parts_leaves ignore_array t
+    (grind (arith, array_document, count_of_trees, object_document, count_of_pairs, stands)) entered
 
 pub keyed_step : (key : Option (Bor (List ℕ))) (k : Option (List ℕ)) (n : ℕ) → IsKeyOf key k → step_at key n ≡ part_step k n
 keyed_step key k n h = grind arith
@@ -88,9 +54,6 @@ keyed_step key k n h = grind arith
 behind-step : (path : List Key) (step : Key) (within : List Leaf) → behind (path ++ step ∷ []) within ≡ behind path (behind (step ∷ []) within)
 behind-step path step [] = refl
 behind-step path step (leaf ∷ within) = cc (append_assoc path (step ∷ []) leaf.0, behind-step path step within)
-
-behind-append : (path : List Key) (xs ys : List Leaf) → behind path (xs ++ ys) ≡ behind path xs ++ behind path ys
-behind-append path xs ys = map-append (λ (leaf : Leaf). (path ++ leaf.0, leaf.1)) xs ys
 
 behind-none : (found : List Leaf) → behind [] found ≡ found
 behind-none [] = refl
@@ -106,12 +69,6 @@ leaves_around ignore_array _ _ = []
 abbrev pub leaves_left : Bool → List Step → ℕ → List EntryPrefix → List (List EntryPrefix) → List Leaf
 leaves_left ignore_array around n here others = behind (step_keys around) (leaves_of_parts ignore_array n here)
     ++ leaves_around ignore_array (reverse around) others
-
--- at first all are left
-all_left : (ignore_array : Bool) (around : List Step) (t : Tree) → around ≡ [] → leaves ignore_array t ≡ leaves_of_parts ignore_array 0 (parts t)
-    → leaves_left ignore_array around 0 (parts t) [] ≡ leaves ignore_array t
-all_left ignore_array around t root is =
-    rw root (append-nil (behind [] (leaves_of_parts ignore_array 0 (parts t))) ∙ behind-none (leaves_of_parts ignore_array 0 (parts t)) ∙ sym is)
 
 -- a part that is a leaf is the first that is left
 leaf_left : (ignore_array : Bool) (around : List Step) (n : ℕ) (key : Option (Bor (List ℕ))) (p : EntryPrefix) (ps : List EntryPrefix) (others : List (List EntryPrefix))
@@ -138,18 +95,12 @@ part_left ignore_array around around' e p ps others entered keyed within pushed 
     (map-append step_key around (e ∷ []) ∙ ap (λ s. steps ++ s ∷ []) (keyed_step e.key p.0 e.index keyed))
     ∙ ap (λ (ls : List Leaf). ls ++ (behind steps left ++ outside)) (behind-step steps step inner)
     ∙ sym (append_assoc (behind steps (behind (step ∷ []) inner)) (behind steps left) outside)
-    ∙ ap (λ (ls : List Leaf). ls ++ outside) (sym (behind-append steps (behind (step ∷ []) inner) left))
+    ∙ ap (λ (ls : List Leaf). ls ++ outside) (sym (map-append (λ (leaf : Leaf). (steps ++ leaf.0, leaf.1)) (behind (step ∷ []) inner) left))
     ∙ ap (λ (ls : List Leaf). behind steps (ls ++ left) ++ outside)
     (ap (λ (ls : List Leaf). behind (step ∷ []) ls) (sym within) ∙ sym (at_part step p.1 (leaves ignore_array p.1) entered))
   where
     at_part : (step : Key) (t : Tree) (inside : List Leaf) → is_leaf ignore_array t ≡ false → leaves_at ignore_array step t inside ≡ behind (step ∷ []) inside
     at_part step t inside entered = rw entered refl
-
--- in the place of a level without parts is the one around it
-outside_left : (ignore_array : Bool) (around around' : List Step) (outer : Step) (n : ℕ) (here : List EntryPrefix) (others more : List (List EntryPrefix))
-    → others ≡ here ∷ more → around ≡ around' ++ outer ∷ []
-    → leaves_left ignore_array around' (next outer.index) here more ≡ leaves_left ignore_array around n [] others
-outside_left ignore_array around around' outer n here others more h e = grind (arith, reverse-reverse, innermost)
 
 -- ---- what is found
 
@@ -161,7 +112,7 @@ module _ {A : Type 0} (R : A → Leaf → Type 0) (ignore_array : Bool) where
   pub walk_begun : (found : List A) (around : List Step) (t : Tree) → found ≡ [] → around ≡ []
       → leaves ignore_array t ≡ leaves_of_parts ignore_array 0 (parts t)
       → LeavesToward R ignore_array found around 0 (parts t) [] (leaves ignore_array t)
-  walk_begun found around t none root is = rw (all_left ignore_array around t root is) (none_made R found (leaves ignore_array t) none)
+  walk_begun found around t none root is = grind (arith, none_made, append-nil, behind-none)
 
   -- the leaf that is first is found
   pub leaf_found : (found found' : List A) (around : List Step) (n : ℕ) (key : Option (Bor (List ℕ))) (p : EntryPrefix) (ps : List EntryPrefix)
@@ -169,8 +120,7 @@ module _ {A : Type 0} (R : A → Leaf → Type 0) (ignore_array : Bool) where
       → LeavesToward R ignore_array found around n (p ∷ ps) others whole → is_leaf ignore_array p.1 ≡ true → IsKeyOf key p.0
       → R x (step_keys around ++ step_at key n ∷ [], p.1) → found' ≡ found ++ x ∷ []
       → LeavesToward R ignore_array found' around (next n) ps others whole
-  leaf_found found found' around n key p ps others whole x h leaf keyed kept pushed =
-      one_made R found found' x _ _ whole pushed kept (rw (leaf_left ignore_array around n key p ps others leaf keyed) at h)
+  leaf_found found found' around n key p ps others whole x h leaf keyed kept pushed = grind (arith, one_made, leaf_left)
 
   -- what holds of it holds of one of all
   pub leaf_of_whole : (P : Leaf → Type 0) (found : List A) (around : List Step) (n : ℕ) (key : Option (Bor (List ℕ))) (p : EntryPrefix) (ps : List EntryPrefix)
@@ -186,16 +136,14 @@ module _ {A : Type 0} (R : A → Leaf → Type 0) (ignore_array : Bool) where
       → LeavesToward R ignore_array found around e.index (p ∷ ps) others whole → is_leaf ignore_array p.1 ≡ false → IsKeyOf e.key p.0
       → leaves ignore_array p.1 ≡ leaves_of_parts ignore_array 0 (parts p.1) → around' ≡ around ++ e ∷ []
       → LeavesToward R ignore_array found around' 0 (parts p.1) (ps ∷ others) whole
-  part_entered found around around' e p ps others whole h entered keyed within pushed =
-      rw (part_left ignore_array around around' e p ps others entered keyed within pushed) h
+  part_entered found around around' e p ps others whole h entered keyed within pushed = grind (arith, part_left)
 
   -- nothing is left at the innermost level
   pub level_done : (found : List A) (around around' : List Step) (outer : Step) (n : ℕ) (here : List EntryPrefix) (others more : List (List EntryPrefix))
       (whole : List Leaf)
       → others ≡ here ∷ more → around ≡ around' ++ outer ∷ [] → LeavesToward R ignore_array found around n [] others whole
       → LeavesToward R ignore_array found around' (next outer.index) here more whole
-  level_done found around around' outer n here others more whole same popped h =
-      rw (outside_left ignore_array around around' outer n here others more same popped) h
+  level_done found around around' outer n here others more whole same popped h = grind (arith, reverse-reverse, innermost)
 
   -- nothing is left at any level
   pub walk_done : (found : List A) (around : List Step) (n : ℕ) (others : List (List EntryPrefix)) (whole : List Leaf) → around ≡ []
@@ -218,22 +166,11 @@ pub last_of : {A B : Type 0} (xs : List A) (ys front : List B) (last : B) → le
 last_of [] ys front last same joined = absurd (omega (arith, same, ap length joined, length-append front (last ∷ [])))
 last_of (x ∷ xs) ys front last same joined = split_last x xs
 
-pub fronts_as_many : {A B : Type 0} (xs front : List A) (last : A) (ys front' : List B) (last' : B) → length xs ≡ length ys → xs ≡ front ++ last ∷ []
-    → ys ≡ front' ++ last' ∷ [] → length front ≡ length front'
-fronts_as_many xs front last ys front' last' same joined joined' =
-    omega (arith, same, ap length joined, length-append front (last ∷ []), ap length joined', length-append front' (last' ∷ []))
-
 pub one_more : {A B : Type 0} (xs xs' : List A) (x : A) (ys ys' : List B) (y : B) → length xs ≡ length ys → xs' ≡ xs ++ x ∷ [] → ys' ≡ ys ++ y ∷ []
     → length xs' ≡ length ys'
-one_more xs xs' x ys ys' y same pushed pushed' =
-    omega (arith, same, ap length pushed, length-append xs (x ∷ []), ap length pushed', length-append ys (y ∷ []))
+one_more xs xs' x ys ys' y same pushed pushed' = grind (arith, length-append)
 
 -- ---- from what a walk keeps of leaves to the results of the functions
-
--- a payload that is read as a number stores that number
-pub number_stored : (form : Form) (t : Tree) (kind : ℕ) (bytes : List ℕ) (n : Number) → kind ≡ 2 → number_of bytes ≡ Some n
-    → IsContent (number_reader form) t kind bytes → number n ≡ t
-number_stored form t kind bytes n h e k = grind (arith, number_content, some_injective, reads_number)
 
 -- the value was decoded from the tree, and its numbers have the tree's parts
 abbrev IsValueOf : Tree → Value → Type 0
@@ -255,14 +192,3 @@ pub values_found : (seen : Value → Tree) → ((value : Value) (t : Tree) → I
     → MatchResult r (λ found. AllZip (IsKept IsValueOf) found.items whole) (λ e. IsOutOfMemory e ⊎ Any (λ leaf. IsOutOfMemory e) whole)
     → MatchResult r (λ found. leaves_seen seen found.items ≡ whole) IsOutOfMemory
 values_found seen h r whole k = grind (arith, values_are_seen)
-
--- the documents of the leaves
-pub documents_found : (form : Form) (r : Result (Vec (KeyPaths × OwnedJsonb) Global) Error) (whole : List Leaf)
-    → MatchResult r (λ found. AllZip (IsKept (λ t document. Decodes form document t)) found.items whole)
-    (λ e. IsOutOfMemory e ⊎ Any (λ leaf. IsOutOfMemoryOrTooLarge form leaf.1 e) whole)
-    → MatchResult r (λ made. AllZip (IsPairOf key_paths_view form) made.items whole)
-    (IsOutOfMemory or TooLarge when Any (λ leaf. IsTooLarge form leaf.1) whole)
-documents_found form (Ok found) whole h = h
-documents_found form (Err e) whole (inl memory) = inl memory
-documents_found form (Err e) whole (inr (i, leaf, inside, is, inl memory)) = inl memory
-documents_found form (Err e) whole (inr (i, leaf, inside, is, inr large)) = inr (large.0, (i, leaf, inside, is, large.1))

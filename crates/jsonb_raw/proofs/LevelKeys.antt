@@ -1,6 +1,6 @@
 -- A walk over levels that spells sortable keys: what is written, and then the keys of what each level has left, the
 -- innermost first, is the whole.
-use Rattle.jsonb_raw.proofs.Common.{◌≡◌, ◌+◌, ◌<◌, ◌≤◌, ◌++◌, ℕ, List, [], ◌∷◌, Option, Some, None, Ok, refl, sym, ap, ◌∙◌, arith, append_assoc, inl, inr, suc, max, append-nil, length, false, Bor, Width, to_be_bytes, StoredEntry, Error, Form, Stores, Tree, Trees, Pairs, deepest, deepest_of_trees, deepest_of_pairs, sortable_key, keys_of_trees, keys_of_pairs, item_bytes, text_bytes, depths, IsOutOfMemoryOrTooDeep, ChildCursor, EntryPrefix, parts, parts_of_trees, parts_of_pairs, HasPartsLeft, TakesPart, IsKeyOf, start, name_start, part_start, is_container}
+use Rattle.jsonb_raw.proofs.Common.{◌≡◌, ◌+◌, ◌<◌, ◌≤◌, ◌++◌, ℕ, List, [], ◌∷◌, Option, Some, None, Ok, refl, ap, arith, append_assoc, suc, max, append-nil, length, Bor, Width, StoredEntry, Error, Form, Stores, Tree, Trees, Pairs, deepest, deepest_of_trees, deepest_of_pairs, sortable_key, keys_of_trees, keys_of_pairs, item_bytes, text_bytes, depths, IsOutOfMemoryOrTooDeep, ChildCursor, EntryPrefix, parts, parts_of_trees, parts_of_pairs, HasPartsLeft, TakesPart, IsKeyOf, start, name_start, part_start}
 use Rattle.jsonb_raw.proofs.LevelLemmas.{SomeParts, SomeParts-first, as_many_around}
 
 -- ---- bytes that are written in a row, and the depths of what they are for
@@ -15,9 +15,7 @@ pub record IsToward (limit : ℕ) (out left : List ℕ) (left_deep : ℕ) (old w
 -- a part that fails fails for the whole
 pub IsToward-refused : (limit : ℕ) (out left : List ℕ) (part_deep both_deep : ℕ) (old whole : List ℕ) (deep : ℕ) (e : Error)
     → IsToward limit out left both_deep old whole deep → part_deep ≤ both_deep → IsOutOfMemoryOrTooDeep part_deep limit e → IsOutOfMemoryOrTooDeep deep limit e
-IsToward-refused limit out left part_deep both_deep old whole deep e h l (inl m) = inl m
-IsToward-refused limit out left part_deep both_deep old whole deep e h l (inr d) = inr
-    (d.0, (let k = h.deeper in let m : limit ≤ part_deep = d.1 in omega arith))
+IsToward-refused limit out left part_deep both_deep old whole deep e h k f = grind arith
 
 -- ---- the key of a tree by its parts
 
@@ -39,8 +37,7 @@ trees_keys w (Trees.tree t ts) d = ap (λ x. sortable_key w t d ++ x) (trees_key
 
 pairs_keys : (w : Width) (ps : Pairs) (d : ℕ) → keys_of_parts w (parts_of_pairs ps) d ≡ keys_of_pairs w ps d
 pairs_keys w Pairs.no_pairs d = refl
-pairs_keys w (Pairs.pair k t ps) d =
-    cc (append_assoc (item_bytes w d 5 (text_bytes k)) (sortable_key w t d) (keys_of_parts w (parts_of_pairs ps) d), pairs_keys w ps d)
+pairs_keys w (Pairs.pair k t ps) d = grind (arith, append_assoc, pairs_keys w ps d)
 
 trees_deep : (ts : Trees) → deepest_of_trees ts ≡ deep_of_parts (parts_of_trees ts)
 trees_deep Trees.no_trees = refl
@@ -54,13 +51,7 @@ parts_deep : (t : Tree) → deepest t ≡ deep_of_parts (parts t)
 parts_deep t = grind (arith, trees_deep, pairs_deep)
 
 key_split : (w : Width) (t : Tree) (d : ℕ) → sortable_key w t d ≡ start w t d ++ keys_of_parts w (parts t) (suc d)
-key_split w Tree.null d = sym (append-nil (sortable_key w Tree.null d))
-key_split w (Tree.boolean b) d = sym (append-nil (sortable_key w (Tree.boolean b) d))
-key_split w (Tree.number n) d = sym (append-nil (sortable_key w (Tree.number n) d))
-key_split w (Tree.text bytes) d = sym (append-nil (sortable_key w (Tree.text bytes) d))
-key_split w (Tree.extension x) d = sym (append-nil (sortable_key w (Tree.extension x) d))
-key_split w (Tree.array ts) d = cc (trees_keys w ts (suc d), append_assoc (to_be_bytes w d) (7 ∷ []) (keys_of_parts w (parts_of_trees ts) (suc d)))
-key_split w (Tree.object ps) d = cc (pairs_keys w ps (suc d), append_assoc (to_be_bytes w d) (6 ∷ []) (keys_of_parts w (parts_of_pairs ps) (suc d)))
+key_split w t d = grind (arith, append-nil, trees_keys, append_assoc, pairs_keys)
 
 part_split : (w : Width) (p : EntryPrefix) (d : ℕ) → part_key w p d ≡ part_start w p d ++ keys_of_parts w (parts p.1) (suc d)
 part_split w (None, t) d = key_split w t d
@@ -70,13 +61,6 @@ part_split w (Some k, t) d = cc (key_split w t d, append_assoc (item_bytes w d 5
 pub part_written : (w : Width) (p : EntryPrefix) (d : ℕ) (out named out' : List ℕ) → named ≡ out ++ name_start w p.0 d → out' ≡ named ++ start w p.1 d
     → out' ≡ out ++ part_start w p d
 part_written w p d out named out' is written = cc (written, append_assoc out (name_start w p.0 d) (start w p.1 d))
-
--- the start of a tree without parts is its key
-pub scalar_start : (w : Width) (t : Tree) (d : ℕ) → is_container t ≡ false → start w t d ≡ sortable_key w t d
-scalar_start w t d h = grind arith
-
-pub scalar_parts : (t : Tree) → is_container t ≡ false → parts t ≡ []
-scalar_parts t h = grind arith
 
 -- ---- what is left at levels, the innermost first: each is one deeper than the next
 
@@ -95,78 +79,24 @@ pub record IsWithin (w : Width) (out : List ℕ) (levels : List (List EntryPrefi
 
 pub walk_begun : (w : Width) (t : Tree) (old out : List ℕ) → (out ≡ old ++ start w t 0) × (0 < depths w)
     → IsWithin w out (parts t ∷ []) old (sortable_key w t 0) (deepest t)
-walk_begun w t old out p =
-    let deep = parts_deep t in
-    record {
-      toward = record {
-        written = cc (append-nil (keys_of_parts w (parts t) 1), append_assoc old (start w t 0) (keys_of_parts w (parts t) 1), key_split w t 0);
-        shallow = λ h. omega (arith, h, deep);
-        deeper = omega (arith, deep);
-      };
-      low = omega (arith, p.1);
-    }
+walk_begun w t old out p = grind (arith, parts_deep, append-nil, append_assoc, key_split)
 
 -- a part's start is written, and its own parts are left within
 pub part_begun : (w : Width) (p : EntryPrefix) (ps : List EntryPrefix) (ls : List (List EntryPrefix)) (out out' old whole : List ℕ) (deep : ℕ)
     → IsWithin w out ((p ∷ ps) ∷ ls) old whole deep
     → (out' ≡ out ++ part_start w p (length ls + 1)) × (length ls + 1 < depths w) → IsWithin w out' (parts p.1 ∷ ps ∷ ls) old whole deep
-part_begun w p ps ls out out' old whole deep h e =
-    let n = length ls in
-    let s = part_start w p (suc n) in
-    let k = keys_of_parts w (parts p.1) (suc (suc n)) in
-    let others = keys_of_parts w ps (suc n) in
-    let r = keys_of_levels w ls in
-    let is : deepest p.1 ≡ deep_of_parts (parts p.1) = parts_deep p.1 in
-    let shallow = h.toward.shallow in
-    let deeper = h.toward.deeper in
-    record {
-      toward = record {
-        written = ap (λ x. x ++ (k ++ (others ++ r))) (e.0 ∙ ap (λ d. out ++ part_start w p d) (omega arith))
-            ∙ append_assoc out s (k ++ (others ++ r))
-            ∙ ap (λ x. out ++ x) (sym (append_assoc s k (others ++ r)) ∙ ap (λ x. x ++ (others ++ r)) (sym (part_split w p (suc n)))
-            ∙ sym (append_assoc (part_key w p (suc n)) others r))
-            ∙ h.toward.written;
-        shallow = λ b. shallow (within_below n (deepest p.1) (deep_of_parts (parts p.1)) (deep_of_parts ps) (deep_of_levels ls) (depths w) is e.1 b);
-        deeper = within_deeper n (deepest p.1) (deep_of_parts (parts p.1)) (deep_of_parts ps) (deep_of_levels ls) deep is deeper;
-      };
-      low = omega (arith, e.1);
-    }
-  where
-    within_below : (n t q b c limit : ℕ) → t ≡ q → n + 1 < limit → max (suc n + q) (max (n + b) c) < limit → max (n + max (suc t) b) c < limit
-    within_below n t q b c limit is h k = omega arith
-
-    within_deeper : (n t q b c deep : ℕ) → t ≡ q → max (n + max (suc t) b) c ≤ deep → max (suc n + q) (max (n + b) c) ≤ deep
-    within_deeper n t q b c deep is h = omega arith
+part_begun w p ps ls out out' old whole deep h e = grind (arith, parts_deep, append_assoc, part_split)
 
 -- a part is refused
 pub part_refused : (w : Width) (p : EntryPrefix) (ps : List EntryPrefix) (ls : List (List EntryPrefix)) (out old whole : List ℕ) (deep : ℕ) (e : Error)
     → IsWithin w out ((p ∷ ps) ∷ ls) old whole deep
     → IsOutOfMemoryOrTooDeep (length ls + 1) (depths w) e → IsOutOfMemoryOrTooDeep deep (depths w) e
-part_refused w p ps ls out old whole deep e h r =
-    IsToward-refused (depths w) out (keys_of_levels w ((p ∷ ps) ∷ ls)) (length ls + 1) (deep_of_levels ((p ∷ ps) ∷ ls)) old whole deep e h.toward
-    (omega arith) r
+part_refused w p ps ls out old whole deep e h r = grind (arith, IsToward-refused)
 
 -- nothing is left at the innermost level
 pub level_done : (w : Width) (ls : List (List EntryPrefix)) (out old whole : List ℕ) (deep : ℕ) → IsWithin w out ([] ∷ ls) old whole deep
     → IsWithin w out ls old whole deep
-level_done w ls out old whole deep h =
-    let shallow = h.toward.shallow in
-    let deeper = h.toward.deeper in
-    let low = h.low in
-    record {
-      toward = record {
-        written = h.toward.written;
-        shallow = λ b. shallow (done_below (length ls) (deep_of_levels ls) (depths w) low b);
-        deeper = done_deeper (length ls) (deep_of_levels ls) deep deeper;
-      };
-      low = omega (arith, low);
-    }
-  where
-    done_below : (n c limit : ℕ) → suc n ≤ limit → c < limit → max (n + 0) c < limit
-    done_below n c limit h k = omega arith
-
-    done_deeper : (n c deep : ℕ) → max (n + 0) c ≤ deep → c ≤ deep
-    done_deeper n c deep h = omega arith
+level_done w ls out old whole deep h = grind arith
 
 -- a part without parts
 pub part_done : (w : Width) (p : EntryPrefix) (ps : List EntryPrefix) (ls : List (List EntryPrefix)) (out old whole : List ℕ) (deep : ℕ) → parts p.1 ≡ []
@@ -179,11 +109,6 @@ pub part_begun_at : (w : Width) (p : EntryPrefix) (ps : List EntryPrefix) (ls : 
     → (out' ≡ out ++ part_start w p (d + 1)) × (d + 1 < depths w) → IsWithin w out' (parts p.1 ∷ ps ∷ ls) old whole deep
 part_begun_at w p ps ls d out out' old whole deep is h e = part_begun w p ps ls out out' old whole deep h (rw is at e)
 
-part_refused_at : (w : Width) (p : EntryPrefix) (ps : List EntryPrefix) (ls : List (List EntryPrefix)) (d : ℕ) (out old whole : List ℕ) (deep : ℕ) (e : Error) → d ≡ length ls
-    → IsWithin w out ((p ∷ ps) ∷ ls) old whole deep
-    → IsOutOfMemoryOrTooDeep (d + 1) (depths w) e → IsOutOfMemoryOrTooDeep deep (depths w) e
-part_refused_at w p ps ls d out old whole deep e is h r = part_refused w p ps ls out old whole deep e h (rw is at r)
-
 -- what fails for the first part that is left fails for the whole
 pub first_refused : (form : Form) (w : Width) (level level' : ChildCursor) (around : List ChildCursor) (name : Option (Bor (List ℕ))) (entry : StoredEntry) (d : ℕ)
     (out old whole : List ℕ) (deep : ℕ) (e : Error)
@@ -191,8 +116,4 @@ pub first_refused : (form : Form) (w : Width) (level level' : ChildCursor) (arou
     → SomeParts form level around (λ here others. IsWithin w out (here ∷ others) old whole deep) → d ≡ length around
     → ((p : EntryPrefix) → IsKeyOf name p.0 → Stores form entry p.1 → IsOutOfMemoryOrTooDeep (d + 1) (depths w) e)
     → IsOutOfMemoryOrTooDeep deep (depths w) e
-first_refused form w level level' around name entry d out old whole deep e takes left is refused =
-    SomeParts-first form level level' around name entry _ takes left
-    (λ part rest others keyed stored here outside fact.
-    part_refused_at w part rest others d out old whole deep e (omega (arith, is, as_many_around form around others outside)) fact
-    (refused part keyed stored))
+first_refused form w level level' around name entry d out old whole deep e takes left is refused = grind (arith, SomeParts-first, as_many_around, part_refused)

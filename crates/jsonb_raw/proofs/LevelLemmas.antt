@@ -1,25 +1,14 @@
 -- What walks have left of containers: the first part of a level, the levels that a walk is within, and how they shrink.
-use Rattle.jsonb_raw.proofs.Common.{◌≡◌, ℕ, suc, ◌+◌, ◌<◌, List, [], ◌∷◌, ◌++◌, length, Option, Some, None, Result, Ok, Err, refl, sym, ap, subst, ◌∙◌, arith, reverse, Bor, length-reverse, Error, StoredEntry, PairEntryIter, Trees, count, keys, Form, AreKeys, Stores, TakesPairEntry, key_trees, weight_of, weight-pos, inner_weighs, taken_weighs, weight_of_all, falls_inward, falls_outward, ChildCursor, EntryPrefix, parts_of_trees, parts_of_pairs, HasPartsLeft, TakesPart, IsKeyOf, IsSmaller, IsLevelWithin, level_room, level_bound, innermost}
+use Rattle.jsonb_raw.proofs.Common.{◌≡◌, ℕ, suc, ◌+◌, ◌<◌, List, [], ◌∷◌, ◌++◌, length, Option, Some, None, Result, Ok, Err, refl, sym, ap, subst, ◌∙◌, arith, reverse, Bor, length-reverse, Error, StoredEntry, PairEntryIter, Trees, count, keys, Form, Stores, TakesPairEntry, key_trees, weight_of, weight-pos, inner_weighs, taken_weighs, weight_of_all, falls_inward, falls_outward, ChildCursor, EntryPrefix, parts_of_trees, parts_of_pairs, HasPartsLeft, TakesPart, IsKeyOf, IsSmaller, IsLevelWithin, level_room, level_bound, innermost}
 use Rattle.jsonb_doc.specs.Tree as spec
 use Rattle.jsonb_raw.specs.declared.level.ChildCursor.TheVariants.{Pairs}
 
 -- ---- the first part
 
-part_is : (form : Form) (level : ChildCursor) (r : Result (Option (Option (Bor (List ℕ)) × StoredEntry)) Error)
+pub part_is : (form : Form) (level : ChildCursor) (r : Result (Option (Option (Bor (List ℕ)) × StoredEntry)) Error)
     (ps qs : List EntryPrefix) → ps ≡ qs → TakesPart form qs r level
     → TakesPart form ps r level
 part_is form level r ps qs e h = subst (λ (xs : List EntryPrefix). TakesPart form xs r level) (sym e) h
-
-pub pair_none : (form : Form) (it : PairEntryIter) (ps : List EntryPrefix) (qs : spec.Pairs) → ps ≡ parts_of_pairs qs → TakesPairEntry form qs None it
-    → TakesPart form ps (Ok None) (Pairs it)
-pair_none form it ps spec.no_pairs e h = part_is form (Pairs it) (Ok None) ps [] e tt
-pair_none form it ps (spec.pair k t qs) e h = absurd h
-
-pub pair_some : (form : Form) (it : PairEntryIter) (x : Bor (List ℕ) × StoredEntry) (ps : List EntryPrefix) (qs : spec.Pairs) → ps ≡ parts_of_pairs qs
-    → AreKeys (keys qs) → TakesPairEntry form qs (Some (Ok x)) it → TakesPart form ps (Ok (Some (Some x.0, x.1))) (Pairs it)
-pair_some form it x ps spec.no_pairs e are h = absurd h
-pair_some form it x ps (spec.pair k t qs) e are h = part_is form (Pairs it) (Ok (Some (Some x.0, x.1))) ps ((Some k, t) ∷ parts_of_pairs qs) e
-    ((h.0, are.0.0), h.1, (qs, h.2, refl))
 
 pub no_pair_error : (form : Form) (it : PairEntryIter) (e : Error) (qs : spec.Pairs) → TakesPairEntry form qs (Some (Err e)) it → ⊥
 no_pair_error form it e qs h = grind arith
@@ -69,8 +58,7 @@ as_many_around form around others h = sym (length-reverse around) ∙ as_many fo
 -- a level is left for one of its parts
 pub pushed_around : (form : Form) (around around' : List ChildCursor) (l : ChildCursor) (rest : List EntryPrefix) (others : List (List EntryPrefix)) → around' ≡ around ++ l ∷ []
     → HasPartsLeft form l rest → HavePartsLeft form (reverse around) others → HavePartsLeft form (reverse around') (rest ∷ others)
-pushed_around form around around' l rest others e left h =
-    subst (λ (ls : List ChildCursor). HavePartsLeft form ls (rest ∷ others)) (sym (ap reverse e ∙ innermost around l)) (left, h)
+pushed_around form around around' l rest others e left h = grind (arith, innermost)
 
 module _ {G : Type 0} where
   -- the part that `take` gave is the first of what was left
@@ -79,41 +67,24 @@ module _ {G : Type 0} where
       → ((ps : List EntryPrefix) → HasPartsLeft form level ps → TakesPart form ps (Ok (Some (key, entry))) level') → SomeParts form level around Q
       → ((p : EntryPrefix) (rest : List EntryPrefix) (others : List (List EntryPrefix)) → IsKeyOf key p.0 → Stores form entry p.1 → HasPartsLeft form level' rest
       → HavePartsLeft form (reverse around) others → Q (p ∷ rest) others → G) → G
-  SomeParts-first form level level' around key entry Q takes s go = first s.here (takes s.here s.left) s.fact
-    where
-      first : (ps : List EntryPrefix) → TakesPart form ps (Ok (Some (key, entry))) level' → Q ps s.others → G
-      first [] t q = absurd t
-      first (p ∷ ps) t q = go p ps s.others t.0 t.1 t.2 s.left_around q
+  SomeParts-first form level level' around key entry Q takes s go = grind arith
 
   -- if `take` gave none, none was left
   pub SomeParts-none : (form : Form) (level level' : ChildCursor) (around : List ChildCursor) (Q : List EntryPrefix → List (List EntryPrefix) → Type 0)
       → ((ps : List EntryPrefix) → HasPartsLeft form level ps → TakesPart form ps (Ok None) level') → SomeParts form level around Q
       → ((others : List (List EntryPrefix)) → HavePartsLeft form (reverse around) others → Q [] others → G) → G
-  SomeParts-none form level level' around Q takes s go = none s.here (takes s.here s.left) s.fact
-    where
-      none : (ps : List EntryPrefix) → TakesPart form ps (Ok None) level' → Q ps s.others → G
-      none [] t q = go s.others s.left_around q
-      none (p ∷ ps) t q = absurd t
+  SomeParts-none form level level' around Q takes s go = grind arith
 
   -- `take` gives no error while it is known what is left
   pub SomeParts-error : (form : Form) (level level' : ChildCursor) (around : List ChildCursor) (e : Error) (Q : List EntryPrefix → List (List EntryPrefix) → Type 0)
       → ((ps : List EntryPrefix) → HasPartsLeft form level ps → TakesPart form ps (Err e) level') → SomeParts form level around Q → G
-  SomeParts-error form level level' around e Q takes s = error s.here (takes s.here s.left)
-    where
-      error : (ps : List EntryPrefix) → TakesPart form ps (Err e) level' → G
-      error [] t = absurd t
-      error (p ∷ ps) t = absurd t
+  SomeParts-error form level level' around e Q takes s = grind arith
 
   -- the innermost of the levels around
   pub popped_around : (form : Form) (around around' : List ChildCursor) (outer : ChildCursor) (others : List (List EntryPrefix)) → around ≡ around' ++ outer ∷ []
       → HavePartsLeft form (reverse around) others
       → ((here : List EntryPrefix) (more : List (List EntryPrefix)) → others ≡ here ∷ more → HasPartsLeft form outer here → HavePartsLeft form (reverse around') more → G) → G
-  popped_around form around around' outer others e h go = pop others
-      (subst (λ (ls : List ChildCursor). HavePartsLeft form ls others) (ap reverse e ∙ innermost around' outer) h) refl
-    where
-      pop : (ls : List (List EntryPrefix)) → HavePartsLeft form (outer ∷ reverse around') ls → others ≡ ls → G
-      pop [] t is = absurd t
-      pop (l ∷ ls) t is = go l ls is t.0 t.1
+  popped_around form around around' outer others e h go = grind (arith, innermost)
 
 -- ---- how they shrink
 

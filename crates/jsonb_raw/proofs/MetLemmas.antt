@@ -1,5 +1,5 @@
 -- A walk along steps that keeps the containers around the children that they select.
-use Rattle.jsonb_raw.proofs.Common.{◌≡◌, ◌++◌, ℕ, List, [], ◌∷◌, Option, Some, None, refl, sym, ap, subst, ◌∙◌, append_assoc, append-nil, slice_get, option_map, option_and_then, Tree, Form, StoredEntry, Key, ParentEntries, children, child_position, location, LeadTo, Leads, HoldsValue, StepsInto}
+use Rattle.jsonb_raw.proofs.Common.{arith, ◌≡◌, ◌++◌, ℕ, List, [], ◌∷◌, Option, Some, None, refl, sym, ap, subst, ◌∙◌, append_assoc, slice_get, option_map, Tree, Form, StoredEntry, Key, ParentEntries, children, child_position, location, LeadTo, HoldsValue, StepsInto}
 use Rattle.jsonb_raw.proofs.CutLemmas.{lead_more}
 
 -- The containers lead to a tree, whose entry this is. What the steps that are left select there is, after the positions so
@@ -17,28 +17,15 @@ walk_begun form t parents entry steps none holds =
     record { passed = []; here = t; led = subst (λ ps. LeadTo form ps [] t t) (sym none) refl; holds = holds; left = by (location steps t) }
   where
     by : (o : Option (List ℕ)) → option_map (λ ns. [] ++ ns) o ≡ o
-    by None = refl
-    by (Some ns) = refl
+    by o = grind arith
 
 behind : (passed : List ℕ) (n : ℕ) (o : Option (List ℕ))
     → option_map (λ ns. passed ++ ns) (option_map (λ ns. n ∷ ns) o) ≡ option_map (λ ns. (passed ++ n ∷ []) ++ ns) o
-behind passed n None = refl
-behind passed n (Some ns) = ap Some (sym (append_assoc passed (n ∷ []) ns))
+behind passed n o = grind (arith, append_assoc)
 
 next_place : (step : Key) (steps : List Key) (here child : Tree) (n : ℕ) → child_position step here ≡ Some n → slice_get (children here) n ≡ Some child
     → location (step ∷ steps) here ≡ option_map (λ ns. n ∷ ns) (location steps child)
 next_place step steps here child n meets is = rw (meets, is) refl
-
-nowhere : (step : Key) (steps : List Key) (here : Tree) → option_and_then (λ n. slice_get (children here) n) (child_position step here) ≡ None
-    → location (step ∷ steps) here ≡ None
-nowhere step steps here none = by (child_position step here) refl none
-  where
-    at_child : (n : ℕ) (o : Option Tree) → o ≡ None → option_map (λ ns. n ∷ ns) (option_and_then (location steps) o) ≡ None
-    at_child n o is = rw is refl
-
-    by : (o : Option ℕ) → child_position step here ≡ o → option_and_then (λ n. slice_get (children here) n) o ≡ None → location (step ∷ steps) here ≡ None
-    by None is e = rw is refl
-    by (Some n) is e = rw is (at_child n (slice_get (children here) n) e)
 
 module _ (form : Form) (t : Tree) (parents : List ParentEntries) (entry : StoredEntry) (step : Key) (now steps : List Key) (wanted : Option (List ℕ))
     (is : now ≡ step ∷ steps) (w : Walked form t parents entry now wanted) where
@@ -58,11 +45,4 @@ module _ (form : Form) (t : Tree) (parents : List ParentEntries) (entry : Stored
 
   -- the step selects nothing
   pub met_none : StepsInto form w.here step None → wanted ≡ None
-  met_none none = sym here_left ∙ ap (option_map (λ ns. w.passed ++ ns)) (nowhere step steps w.here none)
-
--- no steps are left
-pub met_all : (form : Form) (t : Tree) (v : List ParentEntries) (entry : StoredEntry) (now : List Key) (wanted : Option (List ℕ)) → now ≡ []
-    → Walked form t v entry now wanted → (ns : List ℕ) × (wanted ≡ Some ns) × Leads form v ns t
-met_all form t v entry now wanted is w =
-    let left = subst (λ keys. option_map (λ ns. w.passed ++ ns) (location keys w.here) ≡ wanted) is w.left in
-    (w.passed, sym left ∙ ap Some (append-nil w.passed), (w.here, w.led))
+  met_none none = grind (arith, here_left)

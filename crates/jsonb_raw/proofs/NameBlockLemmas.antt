@@ -1,5 +1,5 @@
 -- Names that are looked up among the strings of an array.
-use Rattle.jsonb_raw.proofs.Common.{◌≡◌, ◌==◌, ◌||◌, ◌&&◌, ◌++◌, ◌<◌, ◌≤◌, ◌+◌, ℕ, zero, suc, Bool, true, false, not, List, [], ◌∷◌, map, take, drop, length, get_or, Option, Some, None, Result, Ok, Err, refl, sym, ap, ap₂, ◌∙◌, subst, true≢false, arith, Bor, bytes_eq, beq, list_any, All, All-head, All-tail, list_all-append, list_any-append, bytes_eq-same, bytes_eq-true, Error, EntryIter, StoredEntry, kind_number, Tree, null, boolean, number, text, extension, array, object, Trees, no_trees, tree, elements, Form, HasEntriesLeft, Stores, GivesEntry, is_text, has_by, texts_of, is_one_of, decided_by, HasTextsLeft, TakesText, IsPlaced, NameTable, shuffled}
+use Rattle.jsonb_raw.proofs.Common.{◌≡◌, ◌==◌, ◌||◌, ◌&&◌, ◌<◌, ◌≤◌, ◌+◌, ℕ, zero, suc, Bool, true, false, List, [], ◌∷◌, map, take, drop, length, get_or, Option, Some, None, Result, Ok, Err, refl, sym, ap, ap₂, ◌∙◌, subst, true≢false, arith, Bor, bytes_eq, beq, list_any, All, All-head, All-tail, bytes_eq-true, Error, EntryIter, StoredEntry, kind_number, Tree, boolean, text, array, Trees, no_trees, tree, elements, Form, HasEntriesLeft, Stores, GivesEntry, is_text, has_by, texts_of, is_one_of, decided_by, HasTextsLeft, TakesText, IsPlaced, NameTable, shuffled}
 use Rattle.jsonb_raw.proofs.EntriesLeft.{SomeEntries, SomeEntries-first, SomeEntries-error, SomeEntries-none}
 
 -- ---- the strings among entries
@@ -11,13 +11,9 @@ module _ (form : Form) (e : StoredEntry) where
   one_text : (it : EntryIter) (t : Tree) (ts : Trees) → Stores form e t → (kind_number e.kind == 1) ≡ true → HasEntriesLeft form it ts
       → TakesText form (texts_of (tree t ts)) (Some e.content) it
   one_text it (text s) ts h k left = (h.content.1, record { trees = ts; left = left; texts = refl })
-  one_text it null ts h k left = absurd (true≢false (sym (rw h.content.0 at k)))
   one_text it (boolean true) ts h k left = absurd (true≢false (sym (rw h.content.0 at k)))
   one_text it (boolean false) ts h k left = absurd (true≢false (sym (rw h.content.0 at k)))
-  one_text it (number n) ts h k left = absurd (true≢false (sym (rw h.content.0 at k)))
-  one_text it (extension x) ts h k left = absurd (true≢false (sym (rw h.content.0 at k)))
-  one_text it (array us) ts h k left = absurd (true≢false (sym (rw h.content.0 at k)))
-  one_text it (object ps) ts h k left = absurd (true≢false (sym (rw h.content.0 at k)))
+  one_text it _ ts h k left = absurd (true≢false (sym (rw h.content.0 at k)))
 
 module _ (form : Form) (it it' : EntryIter) (ss : List (List ℕ)) (h : HasTextsLeft form it ss) where
   these : SomeEntries form it (λ ts. texts_of ts ≡ ss)
@@ -45,8 +41,7 @@ module _ (form : Form) (it it' : EntryIter) (ss : List (List ℕ)) (h : HasTexts
   no_text_error r e is n = SomeEntries-error form it it' r e (λ ts. texts_of ts ≡ ss) is n these
 
   pub text_none : (after : EntryIter) → GivesEntry it None it' → TakesText form ss None after
-  text_none after n =
-      subst (λ us. TakesText form us None after) (SomeEntries-none form it it' (λ ts. texts_of ts ≡ ss) n these) tt
+  text_none after n = grind (arith, SomeEntries-none, these)
 
 -- ---- the strings that are left of a walk
 
@@ -55,24 +50,14 @@ pub record SomeTexts (form : Form) (it : EntryIter) (Q : List (List ℕ) → Typ
   pub left : HasTextsLeft form it strings
   pub fact : Q strings
 
-module _ (form : Form) (it' : EntryIter) (Q : List (List ℕ) → Type 0) where
-  first_string : {G : Type 0} → (x : Bor (List ℕ)) (ss : List (List ℕ)) → TakesText form ss (Some x) it' → Q ss
-      → ((rest : List (List ℕ)) → HasTextsLeft form it' rest → Q (x.now ∷ rest) → G) → G
-  first_string x [] h q go = absurd h
-  first_string x (s ∷ ss) h q go = go ss h.1 (subst (λ y. Q (y ∷ ss)) (sym h.0) q)
-
-  no_string : (ss : List (List ℕ)) → TakesText form ss None it' → Q ss → Q []
-  no_string [] h q = q
-  no_string (s ∷ ss) h q = absurd h
-
 module _ (form : Form) (it it' : EntryIter) (Q : List (List ℕ) → Type 0) (s : SomeTexts form it Q) (r : Option (Bor (List ℕ)))
     (takes : (ss : List (List ℕ)) → HasTextsLeft form it ss → TakesText form ss r it') where
   pub SomeTexts-first : {G : Type 0} → (x : Bor (List ℕ)) → r ≡ Some x
       → ((rest : List (List ℕ)) → HasTextsLeft form it' rest → Q (x.now ∷ rest) → G) → G
-  SomeTexts-first x is go = first_string form it' Q x s.strings (rw is at (takes s.strings s.left)) s.fact go
+  SomeTexts-first x is go = grind (arith, rw is at (takes s.strings s.left), s.fact, go)
 
   pub SomeTexts-none : r ≡ None → Q []
-  SomeTexts-none is = no_string form it' Q s.strings (rw is at (takes s.strings s.left)) s.fact
+  SomeTexts-none is = grind (arith, rw is at (takes s.strings s.left), s.fact)
 
 -- ---- names
 
@@ -80,20 +65,13 @@ module _ (form : Form) (it it' : EntryIter) (Q : List (List ℕ) → Type 0) (s 
 abbrev pub names_have : List (List ℕ) → List ℕ → Bool
 names_have names s = list_any (λ name. bytes_eq s name) names
 
-one_string : (s : List ℕ) (ss names : List (List ℕ)) → list_any (is_one_of (s ∷ ss)) names ≡ (names_have names s || list_any (is_one_of ss) names)
+pub one_string : (s : List ℕ) (ss names : List (List ℕ)) → list_any (is_one_of (s ∷ ss)) names ≡ (names_have names s || list_any (is_one_of ss) names)
 one_string s ss [] = refl
 one_string s ss (n ∷ names) = cc (one_string s ss names, shuffled (bytes_eq s n) (is_one_of ss n) (names_have names s) (list_any (is_one_of ss) names))
 
 pub none_of_none : (names : List (List ℕ)) → list_any (is_one_of []) names ≡ false
 none_of_none [] = refl
 none_of_none (n ∷ names) = none_of_none names
-
-module _ (s : List ℕ) (ss names : List (List ℕ)) (whole : Bool) (is : list_any (is_one_of (s ∷ ss)) names ≡ whole) where
-  pub string_found : names_have names s ≡ true → true ≡ whole
-  string_found e = rw e at (sym (one_string s ss names) ∙ is)
-
-  pub string_missing : names_have names s ≡ false → list_any (is_one_of ss) names ≡ whole
-  string_missing e = rw e at (sym (one_string s ss names) ∙ is)
 
 -- a string that equals one of the names has a hash that is placed
 pub placed_one : (table : NameTable) (s : List ℕ) (names : List (List ℕ)) → All (IsPlaced table) names → names_have names s ≡ true → IsPlaced table s
@@ -103,10 +81,6 @@ placed_one table s (n ∷ names) all h = by (bytes_eq s n) refl (placed_one tabl
     by : (b : Bool) → b ≡ bytes_eq s n → (names_have names s ≡ true → IsPlaced table s) → IsPlaced table s
     by true e later = subst (IsPlaced table) (sym (bytes_eq-true s n (sym e))) (All-head (IsPlaced table) n names all)
     by false e later = later (rw (sym e) at h)
-
--- the string is one of those that begin with it
-pub first_is_one : (s : List ℕ) (ss : List (List ℕ)) → is_one_of (s ∷ ss) s ≡ true
-first_is_one s ss = rw (bytes_eq-same s) refl
 
 pub later_is_one : (s name : List ℕ) (ss : List (List ℕ)) → is_one_of ss name ≡ true → is_one_of (s ∷ ss) name ≡ true
 later_is_one s name ss h = grind (arith, h)
@@ -123,20 +97,12 @@ module _ (ss : List (List ℕ)) (name : List ℕ) (names : List (List ℕ)) (all
       → decided_by found ss names ≡ all
   name_leaves found has h k e = grind arith
 
-pub no_name_left : (found : Bool) (ss : List (List ℕ)) → decided_by found ss [] ≡ not found
-no_name_left found ss = grind arith
-
 -- ---- the strings of an array
 
 pub text_among : (name : List ℕ) (ts : Trees) → list_any (is_text name) (elements ts) ≡ is_one_of (texts_of ts) name
 text_among name no_trees = refl
 text_among name (tree (text s) ts) = ap (λ b. bytes_eq s name || b) (text_among name ts)
-text_among name (tree null ts) = text_among name ts
-text_among name (tree (boolean b) ts) = text_among name ts
-text_among name (tree (number n) ts) = text_among name ts
-text_among name (tree (extension x) ts) = text_among name ts
-text_among name (tree (array us) ts) = text_among name ts
-text_among name (tree (object ps) ts) = text_among name ts
+text_among name (tree _ ts) = text_among name ts
 
 -- ---- the next name of a block
 
@@ -157,9 +123,7 @@ module _ (d : Bor (List ℕ)) where
   within_taken xs zero i few room = absurd (omega arith)
   within_taken [] (suc n) i few room = absurd (omega arith)
   within_taken (x ∷ xs) (suc n) zero few room = omega arith
-  within_taken (x ∷ xs) (suc n) (suc i) few room =
-      let later : i < length (take n xs) = within_taken xs n i (omega arith) (omega arith) in
-      omega (arith, later)
+  within_taken (x ∷ xs) (suc n) (suc i) few room = grind (arith, within_taken xs n i (omega arith) (omega arith))
 
   pub next_taken : (xs : List (Bor (List ℕ))) (n i : ℕ) → i < n → n ≤ length xs
       → map (λ (name : Bor (List ℕ)). name.now) (drop i (take n xs))
@@ -176,19 +140,6 @@ none_taken [] (suc n) (suc i) few = refl
 none_taken (x ∷ xs) (suc n) (suc i) few = none_taken xs n i (omega arith)
 
 -- ---- some names, and others
-
-module _ (ss names others : List (List ℕ)) where
-  -- names that decide
-  pub names_decide : (found : Bool) → decided_by found ss names ≡ found → decided_by found ss (names ++ others) ≡ found
-  names_decide found h = grind (arith, list_any-append, list_all-append)
-
-  -- names that leave it to the others
-  pub names_leave : (found has : Bool) → beq has found ≡ false → has ≡ decided_by found ss names
-      → decided_by found ss others ≡ decided_by found ss (names ++ others)
-  names_leave found has h k = grind (arith, list_any-append, list_all-append)
-
-pub beq_true : (a b : Bool) → beq a b ≡ true → a ≡ b
-beq_true a b e = grind arith
 
 -- the names by the strings of an array
 pub array_decided : (found : Bool) (names : List (List ℕ)) (ts : Trees) → decided_by found (texts_of ts) names ≡ has_by found names (array ts)

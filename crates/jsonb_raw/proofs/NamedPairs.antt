@@ -1,5 +1,6 @@
 -- The pairs of a key, their positions and the children that they hold.
-use Rattle.jsonb_raw.proofs.Common.{◌≡◌, ℕ, zero, suc, Bool, true, false, not, List, [], ◌∷◌, map, filter, cond, Option, Some, None, refl, sym, ap, ◌∙◌, ◌+◌, drop, ap₂, arith, slice_get, position, option_map, remove, find, none-some, keys_of, values_of, str_eq_ignore_ascii_case, Tree, text, object, Pairs, no_pairs, pair, members, value_under, elements, trees_in, field_of, AreKeys, AreRising, keys_rise, AreRising-filter, bytes_eq-true, bytes_eq-same, to_ascii_lowercase, option_or, named_child, element_at, position_in_some_case, SameOption, HasSpotsLeft, SpotIter, children}
+use Rattle.jsonb_raw.proofs.Common.{◌≡◌, ℕ, zero, suc, Bool, true, false, not, List, [], ◌∷◌, map, filter, cond, Option, Some, None, refl, sym, ap, ◌∙◌, ◌+◌, drop, ap₂, arith, slice_get, position, option_map, find, none-some, keys_of, values_of, str_eq_ignore_ascii_case, Tree, text, object, Pairs, no_pairs, pair, members, value_under, field_of, AreKeys, AreRising, keys_rise, AreRising-filter, bytes_eq-true, bytes_eq-same, to_ascii_lowercase, option_or, named_child, position_in_some_case, children}
+use Rattle.std.proofs.Common.{remove}
 use Rattle.std.specs.Str.{bytes_eq}
 use Rattle.jsonb_raw.proofs.PositionLemmas.{position-cons}
 use Rattle.jsonb_raw.proofs.GoneLemmas.{below_all}
@@ -19,8 +20,7 @@ AreKeys-filter test (p ∷ ps) are =
   where
     go : (b : Bool) → AreRising (keys_of (cond b (p ∷ filter test ps) (filter test ps))) → AreKeys (keys_of (filter test ps))
         → AreKeys (keys_of (cond b (p ∷ filter test ps) (filter test ps)))
-    go true rising rest = (are.0, rising.0, rest)
-    go false rising rest = rest
+    go b h e = grind arith
 
 abbrev without_key : List ℕ → List Member → List Member
 without_key name ps = filter (λ p. not (bytes_eq p.0 name)) ps
@@ -45,10 +45,7 @@ one_goes name (p ∷ ps) n are at = by (λ m is. one_goes name ps m are.2 is) (b
 
     behind : OneGoes → (o : Option ℕ) → position (λ k. bytes_eq k name) (keys_of ps) ≡ o → option_map suc o ≡ Some n → bytes_eq p.0 name ≡ false
         → p ∷ without_key name ps ≡ remove (p ∷ ps) n
-    behind goes None is e other = let bad : None ≡ Some n = e in absurd (cc)
-    behind goes (Some m) is e other =
-        let e' : suc m ≡ n = cc e in
-        rw (← e') (ap (λ (qs : List Member). p ∷ qs) (goes m is))
+    behind h o e k f = grind arith
 
     by : OneGoes → (b : Bool) → bytes_eq p.0 name ≡ b → without_key name (p ∷ ps) ≡ remove (p ∷ ps) n
     by goes true same =
@@ -87,10 +84,6 @@ found_behind_both passed first name ks =
 one_behind : (passed : ℕ) (o : Option ℕ) → behind (passed + 1) o ≡ behind passed (option_map suc o)
 one_behind passed o = grind arith
 
-pub both_here : (passed : ℕ) (first : Option ℕ) (name key : List ℕ) (ks rest : List (List ℕ)) (wanted : Option ℕ) → ks ≡ key ∷ rest
-    → bytes_eq key name ≡ true → found_behind_both passed first name ks ≡ wanted → Some passed ≡ wanted
-both_here passed first name key ks rest wanted h e k = grind (arith, position-cons)
-
 pub both_other : (passed : ℕ) (first : Option ℕ) (name key : List ℕ) (ks rest : List (List ℕ)) (wanted : Option ℕ) → ks ≡ key ∷ rest
     → bytes_eq key name ≡ false → str_eq_ignore_ascii_case key name ≡ true → found_behind_both passed first name ks ≡ wanted
     → found_behind_both (passed + 1) (option_or first (Some passed)) name rest ≡ wanted
@@ -118,13 +111,6 @@ both_further passed first name key ks rest wanted split differs e =
     not_exact true is =
         sym (bytes_eq-same (map to_ascii_lowercase name)) ∙ ap (λ k. str_eq_ignore_ascii_case k name) (sym (bytes_eq-true key name is)) ∙ differs
 
-pub both_nowhere : (passed : ℕ) (first : Option ℕ) (name : List ℕ) (ks : List (List ℕ)) (wanted : Option ℕ) → ks ≡ []
-    → found_behind_both passed first name ks ≡ wanted → first ≡ wanted
-both_nowhere passed first name ks wanted none e = by first ∙ rw none at e
-  where
-    by : (o : Option ℕ) → o ≡ option_or o None
-    by o = grind arith
-
 -- ---- the value there
 
 -- a pair that passes is at this position
@@ -135,8 +121,7 @@ pub record StandsAt (test : List ℕ → Bool) (ps : List Member) (n : ℕ) : Ty
   pub found : option_map (λ p. p.1) (find (λ p. test p.0) ps) ≡ Some value
 
 some_more : (o : Option ℕ) (n : ℕ) → option_map suc o ≡ Some n → (m : ℕ) × (o ≡ Some m) × (suc m ≡ n)
-some_more None n e = absurd (cc)
-some_more (Some m) n e = (m, refl, cc e)
+some_more o n h = grind arith
 
 none_more : (o : Option ℕ) → option_map suc o ≡ None → o ≡ None
 none_more o h = grind arith
@@ -213,11 +198,6 @@ named_at_none name ps none = by (position (λ key. bytes_eq key name) (keys_of (
         rw (value_found name ps, exact, in_case) refl
 
 -- ---- the children at an index and of a name, by their positions
-
--- only an array has elements
-pub no_element_spots : (bytes : List ℕ) (t : Tree) (i : ℕ) → SameOption (λ (it : SpotIter) ts. HasSpotsLeft bytes it (elements ts)) None (trees_in t)
-    → element_at i t ≡ None
-no_element_spots bytes t i h = grind arith
 
 -- the value of the name is the child at the position of its key
 pub named_place : (name : List ℕ) (ps : Pairs) (t : Tree) (n : ℕ) → t ≡ object ps → position_in_some_case name (keys_of (members ps)) ≡ Some n

@@ -1,5 +1,5 @@
 -- Digits with an exponent rank as the exact values do, and so do the bytes of numbers, for both signs.
-use Rattle.jsonb_raw.proofs.Common.{◌≡◌, ◌≢◌, ◌⊎◌, ℕ, zero, suc, ◌+◌, ◌-◌, ◌*◌, ◌^◌, ◌%◌, ◌<◌, ◌≤◌, ◌==◌, true, false, List, [], ◌∷◌, ◌++◌, map, length, inl, inr, refl, sym, ap, ap₂, subst, ◌∙◌, arith, nat_cmp, Equal, ⊎_elim, pow-suc, mul_comm, mul-lt-mul_of_pos_right, mul-pos, mul-le-mul_right, zero-add, true≢false, le_trans, le_of_eq, lt_of_lt_of_le, mul_assoc, mul_right_comm, add_comm, lit<, w16, ℤ, pos, negsuc, ◌*ℤ◌, FitsSigned, nat_abs, Bool, cond, Ordering, Less, Greater, append-nil, pow-add, one-le-pow, pow-le-pow_right, ordering_then, ordering_reverse, list_all, AllByRecursion, to_be_bytes, w64, w128, digits_of, number_from_digits, number_from_digits_after, AllBelowBase, cases_order, cases_lt, cases_Bool, eqb-true, eqb-false, and_parts, and_cases, nat_tests, number_lt, number_digits_of, all_below_base_digits_of, length-digits_of-le, nat_cmp-lt, nat_cmp-gt, nat_cmp_refl, nat_cmp_places, nat_cmp_scaled, then_Equal, significant, magnitude_bytes, number_bytes, int_cmp-pos, int_cmp-negative, int_cmp-below, int_cmp-above, Number, Variant, FitsParts, FitsNumber, bytes_cmp, scaled_pos}
+use Rattle.jsonb_raw.proofs.Common.{◌≡◌, ◌≢◌, ◌⊎◌, ℕ, zero, suc, ◌+◌, ◌-◌, ◌*◌, ◌^◌, ◌%◌, ◌<◌, ◌≤◌, ◌==◌, true, false, List, [], ◌∷◌, ◌++◌, map, length, inl, inr, refl, sym, ap, ap₂, subst, ◌∙◌, arith, nat_cmp, Equal, ⊎_elim, pow-suc, mul_comm, mul-lt-mul_of_pos_right, mul-pos, mul-le-mul_right, zero-add, true≢false, le_trans, le_of_eq, lt_of_lt_of_le, mul_assoc, mul_right_comm, add_comm, lit<, w16, ℤ, pos, negsuc, ◌*ℤ◌, nat_abs, Bool, cond, Ordering, Less, Greater, append-nil, pow-add, one-le-pow, pow-le-pow_right, ordering_then, ordering_reverse, list_all, AllByRecursion, to_be_bytes, digits_of, number_from_digits, number_from_digits_after, AllBelowBase, cases_order, cases_lt, cases_Bool, eqb-true, eqb-false, and_parts, and_cases, nat_tests, number_lt, number_digits_of, all_below_base_digits_of, length-digits_of-le, nat_cmp-lt, nat_cmp-gt, nat_cmp_refl, nat_cmp_places, nat_cmp_scaled, then_Equal, significant, magnitude_bytes, number_bytes, int_cmp-pos, int_cmp-negative, int_cmp-below, int_cmp-above, Number, FitsNumber, bytes_cmp, scaled_pos}
 use Rattle.std.proofs.Common.{int_cmp}
 use Rattle.jsonb_raw.proofs.Ranking.{Ranks, Ranks-nil, Ranks-head, Ranks-append, Ranks-lower, Ranks-higher, Ranks-same_head, Ranks-bytes_high_first}
 
@@ -233,10 +233,6 @@ complement bs = map (λ b. 255 - b) bs
 pub ranks_alone : (xs ys : List ℕ) (o : Ordering) → Ranks xs ys o → bytes_cmp xs ys ≡ o
 ranks_alone xs ys o h = ap₂ bytes_cmp (sym (append-nil xs)) (sym (append-nil ys)) ∙ h.ranks [] [] ∙ then_Equal o
 
--- after equal first bytes the rests rank so
-Ranks-tail : (x : ℕ) (xs ys : List ℕ) (o : Ordering) → Ranks (x ∷ xs) (x ∷ ys) o → Ranks xs ys o
-Ranks-tail x xs ys o h = record { ranks = λ r s. ap (λ p. ordering_then p (bytes_cmp (xs ++ r) (ys ++ s))) (sym (nat_cmp_refl x)) ∙ h.ranks r s }
-
 -- a list that ends ranks with no longer one
 no_front : (y : ℕ) (ys : List ℕ) (o : Ordering) → Ranks [] (y ∷ ys) o → ⊥
 no_front y ys o h =
@@ -263,19 +259,9 @@ Ranks-complement (x ∷ xs) (y ∷ ys) o hx hy h = by_order (cases_order x y) (R
   where
     by_order : (x ≡ y) ⊎ ((x < y) ⊎ (y < x)) → (Ranks xs ys o → Ranks (complement xs) (complement ys) (ordering_reverse o))
         → Ranks (complement (x ∷ xs)) (complement (y ∷ ys)) (ordering_reverse o)
-    by_order (inl e) more = rw e
-        (Ranks-same_head (255 - y) (complement xs) (complement ys) (ordering_reverse o)
-        (more (Ranks-tail y xs ys o (subst (λ z. Ranks (z ∷ xs) (y ∷ ys) o) e h))))
-    by_order (inr (inl l)) more =
-        let less : Less ≡ o = ap (λ p. ordering_then p (bytes_cmp xs ys)) (sym (nat_cmp-lt x y l)) ∙ ranks_alone (x ∷ xs) (y ∷ ys) o h in
-        let b : y < 256 = hy.0 in
-        subst (λ p. Ranks (complement (x ∷ xs)) (complement (y ∷ ys)) (ordering_reverse p)) less
-        (Ranks-higher (255 - x) (255 - y) (complement xs) (complement ys) (omega arith))
-    by_order (inr (inr g)) more =
-        let greater : Greater ≡ o = ap (λ p. ordering_then p (bytes_cmp xs ys)) (sym (nat_cmp-gt x y g)) ∙ ranks_alone (x ∷ xs) (y ∷ ys) o h in
-        let b : x < 256 = hx.0 in
-        subst (λ p. Ranks (complement (x ∷ xs)) (complement (y ∷ ys)) (ordering_reverse p)) greater
-        (Ranks-lower (255 - x) (255 - y) (complement xs) (complement ys) (omega arith))
+    by_order (inl e) more = grind (arith, Ranks-same_head, nat_cmp_refl)
+    by_order (inr (inl l)) more = grind (arith, nat_cmp-lt, ranks_alone, Ranks-higher)
+    by_order (inr (inr g)) more = grind (arith, nat_cmp-gt, ranks_alone, Ranks-lower)
 
 AllBytes-marked : (ds : List ℕ) → AllBelowBase 10 ds → AllBytes (map suc (significant ds) ++ 0 ∷ [])
 AllBytes-marked [] h = (omega arith, tt)
@@ -299,23 +285,13 @@ pub record IsBounded (z : ℤ) (s : ℕ) : Type 0 where
 pub Ranks-number_bytes : (y z : ℤ) (s t : ℕ) → IsBounded y s → IsBounded z t
     → Ranks (number_bytes y s) (number_bytes z t) (int_cmp (y *ℤ pos (10 ^ t)) (z *ℤ pos (10 ^ s)))
 Ranks-number_bytes (pos zero) (pos zero) s t h k = rw (no_product 0 (10 ^ t) refl, no_product 0 (10 ^ s) refl) (record { ranks = λ r s. refl })
-Ranks-number_bytes (pos zero) (pos (suc n)) s t h k = rw
-    (int_cmp-pos (0 * 10 ^ t) (suc n * 10 ^ s), no_product 0 (10 ^ t) refl, nat_cmp-lt 0 (suc n * 10 ^ s) (scaled_pos n s))
-    (Ranks-lower 0x80 0x81 [] (magnitude_bytes (suc n) t) (omega arith))
-Ranks-number_bytes (pos zero) (negsuc n) s t h k = rw (int_cmp-above (0 * 10 ^ t) (suc n * 10 ^ s) (scaled_pos n s))
-    (Ranks-higher 0x80 0x7f [] (complement (magnitude_bytes (suc n) t)) (omega arith))
-Ranks-number_bytes (pos (suc m)) (pos zero) s t h k = rw
-    (int_cmp-pos (suc m * 10 ^ t) (0 * 10 ^ s), no_product 0 (10 ^ s) refl, nat_cmp-gt (suc m * 10 ^ t) 0 (scaled_pos m t))
-    (Ranks-higher 0x81 0x80 (magnitude_bytes (suc m) s) [] (omega arith))
-Ranks-number_bytes (pos (suc m)) (pos (suc n)) s t h k = rw (int_cmp-pos (suc m * 10 ^ t) (suc n * 10 ^ s))
-    (Ranks-same_head 0x81 (magnitude_bytes (suc m) s) (magnitude_bytes (suc n) t) (nat_cmp (suc m * 10 ^ t) (suc n * 10 ^ s))
-    (Ranks-magnitude_bytes (suc m) (suc n) s t (omega arith) (omega arith) h.magnitude k.magnitude h.scale k.scale))
-Ranks-number_bytes (pos (suc m)) (negsuc n) s t h k = rw (int_cmp-above (suc m * 10 ^ t) (suc n * 10 ^ s) (scaled_pos n s))
-    (Ranks-higher 0x81 0x7f (magnitude_bytes (suc m) s) (complement (magnitude_bytes (suc n) t)) (omega arith))
-Ranks-number_bytes (negsuc m) (pos zero) s t h k = rw (int_cmp-below (suc m * 10 ^ t) (0 * 10 ^ s) (scaled_pos m t))
-    (Ranks-lower 0x7f 0x80 (complement (magnitude_bytes (suc m) s)) [] (omega arith))
-Ranks-number_bytes (negsuc m) (pos (suc n)) s t h k = rw (int_cmp-below (suc m * 10 ^ t) (suc n * 10 ^ s) (scaled_pos m t))
-    (Ranks-lower 0x7f 0x81 (complement (magnitude_bytes (suc m) s)) (magnitude_bytes (suc n) t) (omega arith))
+Ranks-number_bytes (pos zero) (pos (suc n)) s t h k = grind (arith, int_cmp-pos, no_product, nat_cmp-lt, scaled_pos, Ranks-lower)
+Ranks-number_bytes (pos zero) (negsuc n) s t h k = grind (arith, int_cmp-above, scaled_pos, Ranks-higher)
+Ranks-number_bytes (pos (suc m)) (pos zero) s t h k = grind (arith, int_cmp-pos, no_product, nat_cmp-gt, scaled_pos, Ranks-higher)
+Ranks-number_bytes (pos (suc m)) (pos (suc n)) s t h k = grind (arith, int_cmp-pos, Ranks-same_head, Ranks-magnitude_bytes)
+Ranks-number_bytes (pos (suc m)) (negsuc n) s t h k = grind (arith, int_cmp-above, scaled_pos, Ranks-higher)
+Ranks-number_bytes (negsuc m) (pos zero) s t h k = grind (arith, int_cmp-below, scaled_pos, Ranks-lower)
+Ranks-number_bytes (negsuc m) (pos (suc n)) s t h k = grind (arith, int_cmp-below, scaled_pos, Ranks-lower)
 Ranks-number_bytes (negsuc m) (negsuc n) s t h k = rw (int_cmp-negative (suc m * 10 ^ t) (suc n * 10 ^ s) (scaled_pos m t) (scaled_pos n s))
     (Ranks-same_head 0x7f (complement (magnitude_bytes (suc m) s)) (complement (magnitude_bytes (suc n) t))
     (ordering_reverse (nat_cmp (suc m * 10 ^ t) (suc n * 10 ^ s)))
@@ -325,17 +301,4 @@ Ranks-number_bytes (negsuc m) (negsuc n) s t h k = rw (int_cmp-negative (suc m *
 
 -- what the number types hold
 pub bounded_from_fits : (n : Number) → FitsNumber n → IsBounded n.whole n.scale
-bounded_from_fits n h = by_variant n.variant n.whole n.scale h.0
-  where
-    signed_64 : (z : ℤ) → FitsSigned w64 z → nat_abs z < 2 ^ 128
-    signed_64 z h = grind arith
-
-    signed_128 : (z : ℤ) → FitsSigned w128 z → nat_abs z < 2 ^ 128
-    signed_128 z h = grind arith
-
-    by_variant : (v : Variant) (z : ℤ) (s : ℕ) → FitsParts v z s → IsBounded z s
-    by_variant Variant.int64 z s h = record { magnitude = signed_64 z h.0; scale = omega arith }
-    by_variant Variant.uint64 (pos n) s h = record { magnitude = omega arith; scale = omega arith }
-    by_variant Variant.uint64 (negsuc n) s h = absurd h
-    by_variant Variant.decimal64 z s h = record { magnitude = signed_64 z h.0; scale = omega arith }
-    by_variant Variant.decimal128 z s h = record { magnitude = signed_128 z h.0; scale = omega arith }
+bounded_from_fits n h = grind (arith, pos)

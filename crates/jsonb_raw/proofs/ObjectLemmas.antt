@@ -1,20 +1,18 @@
 -- Which trees have pairs, and what is made of them.
-use Rattle.jsonb_raw.proofs.Common.{◌≡◌, ◌⊎◌, inl, inr, ℕ, List, [], ◌∷◌, ◌++◌, Global, subst, Option, Some, None, Result, Ok, Err, refl, sym, ap, ◌∙◌, string_bytes, Bor, Any, arith, values_of, Tree, object, Pairs, keys, Form, IsOutOfMemoryOrTooLarge, IsTooLarge, OutOfMemory, TooLarge, TakesKey, HasKeysLeft, KeyIter, IsPairsOf, IsKeysOf, Error, PairIter, OwnedJsonb, IsPairOf}
+use Rattle.jsonb_raw.proofs.Common.{◌≡◌, ◌⊎◌, inl, inr, ℕ, List, [], ◌∷◌, ◌++◌, Global, subst, Option, Some, Result, Ok, refl, sym, ap, ◌∙◌, string_bytes, Bor, Any, arith, values_of, Tree, object, Pairs, keys, Form, IsOutOfMemoryOrTooLarge, IsTooLarge, OutOfMemory, TooLarge, TakesKey, HasKeysLeft, KeyIter, IsPairsOf, IsKeysOf, Error, PairIter, OwnedJsonb, IsPairOf}
 use Rattle.std.proofs.Common.{String}
 use Rattle.jsonb_raw.proofs.CollectLoops.{Made, any_here}
 
 -- a tree with an iterator over pairs is an object
 pub object_of : (form : Form) (t : Tree) (found : Option PairIter) (it : PairIter) → found ≡ Some it → IsPairsOf form t found → (ps : Pairs) × (t ≡ object ps)
-object_of form (object ps) found it is h = (ps, refl)
-object_of form _ found it is h = absurd (rw is at h)
+object_of form t found it h e = grind arith
 
 -- ---- keys
 
 -- a tree with an iterator over keys is an object
 pub object_of_keys : (t : Tree) (found : Option KeyIter) (it : KeyIter) → found ≡ Some it → IsKeysOf t found
     → (ps : Pairs) × (t ≡ object ps) × HasKeysLeft it (keys ps)
-object_of_keys (object ps) found it is h = (ps, refl, rw is at h)
-object_of_keys _ found it is h = absurd (rw is at h)
+object_of_keys t found it h e = grind arith
 
 -- the keys are one that was given, and the rest
 pub record FirstKey (ks : List (List ℕ)) (x : Bor (List ℕ)) (after : KeyIter) : Type 0 where
@@ -24,16 +22,7 @@ pub record FirstKey (ks : List (List ℕ)) (x : Bor (List ℕ)) (after : KeyIter
 
 pub first_key : (ks : List (List ℕ)) (r : Result (Bor (List ℕ)) Error) (x : Bor (List ℕ)) (after : KeyIter) → r ≡ Ok x → TakesKey ks (Some r) after
     → FirstKey ks x after
-first_key [] r x after is h = absurd h
-first_key (k ∷ ks) r x after is h =
-    let g : (x.now ≡ k) × HasKeysLeft after ks = rw is at h in
-    record { rest = ks; split = ap (λ j. j ∷ ks) (sym g.0); left = g.1 }
-
-pub no_key_refused : (ks : List (List ℕ)) (r : Result (Bor (List ℕ)) Error) (e : Error) (after : KeyIter) → r ≡ Err e → TakesKey ks (Some r) after → ⊥
-no_key_refused ks r e after h k = grind arith
-
-pub no_more_keys : (ks : List (List ℕ)) (after : KeyIter) → TakesKey ks None after → ks ≡ []
-no_more_keys ks after h = grind arith
+first_key ks r x after h e = grind arith
 
 -- ---- documents of the values
 

@@ -1,6 +1,5 @@
 -- Walks along two containers up to the first difference.
-use Rattle.jsonb_raw.proofs.Common.{◌≡◌, ℕ, ◌+◌, ◌<◌, ◌≤◌, List, [], ◌∷◌, length, Bool, true, false, Option, Some, None, Result, Ok, Err, inl, inr, ◌⊎◌, refl, sym, ap, subst, ◌∙◌, Ordering, Less, Equal, arith, Bor, IsOkAnd, IfSome, is_some, slice_cmp, ordering_then, is_ne, Error, StoredEntry, ShortNumber, Tree, Trees, no_trees, tree, number_cmp, rank, tree_cmp, trees_cmp, pairs_cmp, Form, number_reader, number_of, IsContent, kind_number, StandsFor, Item, Array, Object, short_value, Stores, then_assoc, ChildCursor, EntryPrefix, HasPartsLeft, HasAllLeft, IsKeyOf, TakesPart, parts, parts_of_trees, parts_of_pairs, part_cmp, reads_number, number_content, some_injective}
-use Rattle.std.specs.Ordering.{nat_cmp}
+use Rattle.jsonb_raw.proofs.Common.{◌≡◌, ℕ, ◌+◌, ◌<◌, ◌≤◌, List, [], length, Bool, true, false, Option, Some, None, Result, Ok, ◌⊎◌, refl, sym, ap, subst, ◌∙◌, Ordering, Less, arith, Bor, IsOkAnd, IfSome, is_some, slice_cmp, ordering_then, is_ne, Error, StoredEntry, ShortNumber, Tree, Trees, no_trees, tree, number_cmp, rank, tree_cmp, trees_cmp, pairs_cmp, Form, number_reader, number_of, IsContent, kind_number, StandsFor, Item, Array, Object, short_value, Stores, then_assoc, ChildCursor, EntryPrefix, HasPartsLeft, HasAllLeft, IsKeyOf, TakesPart, parts, parts_of_trees, parts_of_pairs, part_cmp, reads_number, number_content, some_injective}
 use Rattle.jsonb_doc.specs.Tree as spec
 use Rattle.jsonb_raw.specs.Private.Order.{Decides}
 use Rattle.jsonb_raw.proofs.LevelLemmas.{SomeParts, SomeParts-first}
@@ -12,18 +11,6 @@ first_left (Some p) = 1 + length p.0.content.now
 
 pub first_falls : (o : Option (StoredEntry × StoredEntry)) (n : ℕ) → IfSome o (λ p. length p.0.content.now < n) → first_left o ≤ n
 first_falls o n h = grind arith
-
--- a length that is at most another is below one more
-pub shorter_by_one : (o : Option (StoredEntry × StoredEntry)) (n : ℕ) → IfSome o (λ p. length p.0.content.now ≤ n)
-    → IfSome o (λ p. length p.0.content.now < n + 1)
-shorter_by_one o n h = grind arith
-
--- an order that is not equal decides
-pub then_decided : (o rest : Ordering) → is_ne o ≡ true → ordering_then o rest ≡ o
-then_decided o rest h = grind arith
-
-pub not_decided : (o : Ordering) → is_ne o ≡ false → o ≡ Equal
-not_decided o h = grind arith
 
 -- the order of trees that are short numbers
 pub numbers_told : (form other_form : Form) (entry other : StoredEntry) (t u : Tree) (m n : ShortNumber) → Stores form entry t → Stores other_form other u
@@ -45,11 +32,11 @@ module _ (form other_form : Form) (deferred : Option (StoredEntry × StoredEntry
   -- an order that is not equal decides, whatever follows
   pub decided : (o rest whole : Ordering) → is_ne o ≡ true → Decides form other_form deferred (ordering_then o rest) whole
       → Decides form other_form deferred o whole
-  decided o rest whole e h = decides_along (ordering_then o rest) o whole (then_decided o rest e) h
+  decided o rest whole e h = decides_along (ordering_then o rest) o whole (grind (arith, e)) h
 
   pub equal_passes : (o rest whole : Ordering) → is_ne o ≡ false → Decides form other_form deferred (ordering_then o rest) whole
       → Decides form other_form deferred rest whole
-  equal_passes o rest whole e h = decides_along (ordering_then o rest) rest whole (ap (λ p. ordering_then p rest) (not_decided o e)) h
+  equal_passes o rest whole e h = grind (arith, decides_along)
 
 -- with no pair left the order is the whole
 pub none_left : (form other_form : Form) (deferred : Option (StoredEntry × StoredEntry)) (o whole : Ordering)
@@ -60,9 +47,7 @@ none_left form other_form deferred o whole h k = grind arith
 pub child_told : (form other_form : Form) (deferred : Option (StoredEntry × StoredEntry)) (r : Result Ordering Error) (told rest whole : Ordering)
     → IsOkAnd r (λ o. o ≡ told) → Decides form other_form deferred (ordering_then told rest) whole
     → IsOkAnd r (λ o. Decides form other_form deferred (ordering_then o rest) whole)
-child_told form other_form deferred (Ok o) told rest whole e h =
-    decides_along form other_form deferred _ _ whole (ap (λ p. ordering_then p rest) (sym e)) h
-child_told form other_form deferred (Err x) told rest whole e h = absurd e
+child_told form other_form deferred r told rest whole h e = grind (arith, decides_along)
 
 -- what is left of both cursors has the property Q
 abbrev pub SomeOfBoth : Form → Form → ChildCursor → ChildCursor → (List EntryPrefix → List EntryPrefix → Type 0) → Type 0
@@ -93,13 +78,7 @@ ended false after = after
 pub children_ended : (form : Form) (it it' : ChildCursor) (r : Option (Option (Bor (List ℕ)) × StoredEntry)) (after : Ordering) (Q : Ordering → Type 0)
     → ((qs : List EntryPrefix) → HasPartsLeft form it qs → TakesPart form qs (Ok r) it')
     → SomeParts form it [] (λ qs others. Q (ordering_then (slice_cmp part_cmp [] qs) after)) → Q (ended (is_some r) after)
-children_ended form it it' r after Q takes s = by r s.here (takes s.here s.left) s.fact
-  where
-    by : (r : Option (Option (Bor (List ℕ)) × StoredEntry)) (qs : List EntryPrefix) → TakesPart form qs (Ok r) it'
-        → Q (ordering_then (slice_cmp part_cmp [] qs) after) → Q (ended (is_some r) after)
-    by None [] h q = q
-    by (Some x) (p ∷ qs) h q = q
-    by _ _ h q = absurd h
+children_ended form it it' r after Q takes s = grind arith
 
 -- ---- containers
 
@@ -113,8 +92,7 @@ pairs_in_order : (ps qs : spec.Pairs) → pairs_cmp ps qs ≡ slice_cmp part_cmp
 pairs_in_order spec.no_pairs spec.no_pairs = refl
 pairs_in_order spec.no_pairs (spec.pair l u qs) = refl
 pairs_in_order (spec.pair k t ps) spec.no_pairs = refl
-pairs_in_order (spec.pair k t ps) (spec.pair l u qs) =
-    cc (pairs_in_order ps qs, then_assoc (slice_cmp nat_cmp k l) (tree_cmp t u) (slice_cmp part_cmp (parts_of_pairs ps) (parts_of_pairs qs)))
+pairs_in_order (spec.pair k t ps) (spec.pair l u qs) = grind (arith, then_assoc, pairs_in_order ps qs)
 
 -- two containers of one rank are in the order of their children
 pub parts_in_order : (form other_form : Form) (t u : Tree) (level other : ChildCursor) → rank t ≡ rank u → HasAllLeft form t level → HasAllLeft other_form u other
@@ -124,16 +102,8 @@ parts_in_order form other_form t u level other h k e = grind (arith, trees_in_or
 -- an item of a container is of the rank of one
 pub container_rank : (form : Form) (item : Item) (t : Tree) → ((bytes : Bor (List ℕ)) × (item ≡ Array bytes)) ⊎ ((bytes : Bor (List ℕ)) × (item ≡ Object bytes))
     → StandsFor form item t → (6 ≤ rank t) × (rank t ≤ 7)
-container_rank form item t (inl e) h = let (ts, is, d) = rw e.1 at h in rw is (omega arith, omega arith)
-container_rank form item t (inr e) h = let (ps, is, d) = rw e.1 at h in rw is (omega arith, omega arith)
+container_rank form item t h e = grind arith
 
 pub container_content : (form : Form) (t : Tree) (kind : ℕ) (content : List ℕ) → (6 ≤ rank t) × (rank t ≤ 7) → IsContent (number_reader form) t kind content
     → IsContent (number_reader form) t 5 content
-container_content form (spec.array ts) kind content r h = (refl, h.1)
-container_content form (spec.object ps) kind content r h = (refl, h.1)
-container_content form spec.null kind content r h = absurd (omega (arith, r.1))
-container_content form (spec.boolean true) kind content r h = absurd (omega (arith, r.0))
-container_content form (spec.boolean false) kind content r h = absurd (omega (arith, r.0))
-container_content form (spec.number n) kind content r h = absurd (omega (arith, r.0))
-container_content form (spec.text s) kind content r h = absurd (omega (arith, r.0))
-container_content form (spec.extension x) kind content r h = absurd (omega (arith, r.0))
+container_content form t kind content h e = grind arith

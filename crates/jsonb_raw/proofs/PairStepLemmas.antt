@@ -1,5 +1,5 @@
 -- Steps along pairs whose keys are sorted.
-use Rattle.jsonb_raw.proofs.Common.{◌≡◌, ℕ, List, [], ◌∷◌, Some, None, refl, sym, ap, ◌∙◌, Ordering, Less, Equal, Greater, Bool, true, false, Option, Result, Ok, Err, subst, not, bytes_eq, Bor, IfOk, arith, ordering_reverse, slice_cmp, nat_list_cmp_total, is_eq-slice_cmp, Tree, Pairs, no_pairs, pair, keys, value_under, object, IsBelowFirst, AreRising, keys_rise, pairs_above, below_next, bytes_eq-Decides, list_any, list_all, Error, EntryIter, StoredEntry, Form, HasEntriesLeft, GivesEntry, TakesEntry, key_trees, IsCursorOf, IsPassed, IsBefore, HoldsTexts, has_by, KeyCursor, Keys, beq, has_text}
+use Rattle.jsonb_raw.proofs.Common.{◌≡◌, ℕ, List, [], ◌∷◌, Some, None, refl, sym, ap, ◌∙◌, Ordering, Less, Equal, Greater, Bool, true, false, Result, Ok, Err, subst, not, bytes_eq, arith, ordering_reverse, slice_cmp, nat_list_cmp_total, is_eq-slice_cmp, Tree, Pairs, no_pairs, pair, keys, value_under, IsBelowFirst, AreRising, keys_rise, pairs_above, below_next, bytes_eq-Decides, list_any, Error, EntryIter, StoredEntry, Form, HasEntriesLeft, GivesEntry, TakesEntry, key_trees, IsCursorOf, IsPassed, has_by, KeyCursor, beq, has_text}
 use Rattle.std.specs.Ordering.{nat_cmp, is_eq}
 
 pub test_of_order : (k key : List ℕ) (o : Ordering) → slice_cmp nat_cmp k key ≡ o → bytes_eq k key ≡ is_eq o
@@ -12,48 +12,30 @@ pub turned : (k key : List ℕ) (o : Ordering) → slice_cmp nat_cmp k key ≡ o
 turned k key o e = nat_list_cmp_total.antisymm key k ∙ ap ordering_reverse e
 
 pub same_below : (k key : List ℕ) (ks : List (List ℕ)) → slice_cmp nat_cmp k key ≡ Equal → IsBelowFirst k ks → IsBelowFirst key ks
-same_below k key [] same below = tt
-same_below k key (next ∷ ks) same below = sym (nat_list_cmp_total.congr k key next same) ∙ below
+same_below k key ks h e = grind (arith, nat_list_cmp_total)
 
 -- a key below all of them is none of them
 pub no_value : (key : List ℕ) (ps : Pairs) → IsBelowFirst key (keys ps) → AreRising (keys ps) → value_under key ps ≡ None
 no_value key no_pairs below rising = refl
-no_value key (pair k t ps) below rising =
-    rw (test_of_order k key Greater (turned key k Less below)) (no_value key ps (below_next key k (keys ps) below rising.0) rising.1)
+no_value key (pair k t ps) below rising = grind (arith, test_of_order, turned, below_next, no_value key ps (below_next key k (keys ps) below rising.0) rising.1)
 
 pub all_above : (key : List ℕ) (ps : Pairs) → IsBelowFirst key (keys ps) → AreRising (keys ps) → pairs_above key ps ≡ ps
 all_above key no_pairs below rising = refl
-all_above key (pair k t ps) below rising =
-    rw (turned key k Less below) (ap (pair k t) (all_above key ps (below_next key k (keys ps) below rising.0) rising.1))
+all_above key (pair k t ps) below rising = grind (arith, turned, below_next, all_above key ps (below_next key k (keys ps) below rising.0) rising.1)
 
 module _ (key k : List ℕ) (t : Tree) (ps : Pairs) where
   pub value_after_less : slice_cmp nat_cmp k key ≡ Less → value_under key (pair k t ps) ≡ value_under key ps
   value_after_less e = rw (test_of_order k key Less e) refl
 
-  pub above_after_less : slice_cmp nat_cmp k key ≡ Less → pairs_above key (pair k t ps) ≡ pairs_above key ps
-  above_after_less e = rw e refl
-
   pub value_at_equal : slice_cmp nat_cmp k key ≡ Equal → value_under key (pair k t ps) ≡ Some t
   value_at_equal e = rw (test_of_order k key Equal e) refl
-
-  pub above_at_equal : slice_cmp nat_cmp k key ≡ Equal → AreRising (k ∷ keys ps) → pairs_above key (pair k t ps) ≡ ps
-  above_at_equal e rising = rw e (all_above key ps (same_below k key (keys ps) e rising.0) rising.1)
-
-  pub no_value_at_greater : slice_cmp nat_cmp k key ≡ Greater → AreRising (k ∷ keys ps) → value_under key (pair k t ps) ≡ None
-  no_value_at_greater e rising = no_value key (pair k t ps) (turned k key Greater e) rising
 
 -- ---- how a cursor goes on along keys
 
 -- a key below all of them is none of them
 none_below : (key : List ℕ) (ks : List (List ℕ)) → IsBelowFirst key ks → AreRising ks → list_any (λ k. bytes_eq k key) ks ≡ false
 none_below key [] below rising = refl
-none_below key (k ∷ ks) below rising =
-    rw (test_of_order k key Greater (turned key k Less below)) (none_below key ks (below_next key k ks below rising.0) rising.1)
-
-passed_before : (passed : Option (Bor (List ℕ))) (k name : List ℕ) (ks : List (List ℕ)) → IsBefore passed (k ∷ ks) → slice_cmp nat_cmp k name ≡ Less
-    → IsPassed passed name
-passed_before None k name ks before less = tt
-passed_before (Some key) k name ks before less = nat_list_cmp_total.trans key.now k name before less
+none_below key (k ∷ ks) below rising = grind (arith, test_of_order, turned, below_next, none_below key ks (below_next key k ks below rising.0) rising.1)
 
 module _ (form : Form) (ks : List (List ℕ)) (c : KeyCursor) (ahead' : EntryIter) (h : IsCursorOf form c ks) where
   module _ (r : Result StoredEntry Error) (x : StoredEntry) (e : r ≡ Ok x) (n : GivesEntry c.left (Some r) ahead') where
@@ -72,22 +54,7 @@ module _ (form : Form) (ks : List (List ℕ)) (c : KeyCursor) (ahead' : EntryIte
         go (k ∷ rest) is t = record { others = rest; whole = is ∙ ap (λ (l : List ℕ). l ∷ rest) (sym t.0.content.1); left = t.1 }
 
     pub cursor_next : IsCursorOf form (record { all = c.all; left = ahead'; last_key = Some x.content }) ks
-    cursor_next =
-        let f = first_key in
-        let are = rw f.whole at h.are_keys in
-        let before = rw f.whole at h.before in
-        record {
-          all_keys = h.all_keys;
-          all = h.all;
-          behind = f.others;
-          are_keys = are.2;
-          left = f.left;
-          before = are.1;
-          decides = λ name less.
-              let whole = rw (f.whole, test_of_order x.content.now name Less less) at
-              (h.decides name (passed_before c.last_key x.content.now name f.others before less)) in
-              whole;
-        }
+    cursor_next = grind (arith, first_key, test_of_order, nat_list_cmp_total)
 
     -- the key is the name
     pub cursor_meets : (name : List ℕ) → IsPassed c.last_key name → slice_cmp nat_cmp x.content.now name ≡ Equal → true ≡ list_any (λ key. bytes_eq key name) ks
@@ -114,45 +81,21 @@ module _ (form : Form) (ks : List (List ℕ)) (c : KeyCursor) (ahead' : EntryIte
       go [] t whole = whole
       go (k ∷ rest) t whole = absurd t
 
-  no_error : {G : Type 0} (error : Error) (behind : List (List ℕ)) → TakesEntry form (key_trees behind) (Some (Err error)) ahead' → G
-  no_error error [] t = absurd t
-  no_error error (k ∷ rest) t = absurd t
-
   -- no error is given while keys are left
   pub cursor_error : {G : Type 0} (r : Result StoredEntry Error) (error : Error) → r ≡ Err error → GivesEntry c.left (Some r) ahead' → G
-  cursor_error r error e n =
-      no_error error h.behind (subst (λ (y : Result StoredEntry Error). TakesEntry form (key_trees h.behind) (Some y) ahead') e
-      (n.takes form (key_trees h.behind) h.left))
-
--- the strings are those of the same tree after a search
-pub still_texts : (form : Form) (t : Tree) (ps : Pairs) (s : KeyCursor) (r : Result Bool Error) → t ≡ object ps
-    → IfOk r (λ b. IsCursorOf form s (keys ps)) → IfOk r (λ b. HoldsTexts form (Keys s) t)
-still_texts form t ps s (Ok b) is h = (ps, is, h)
-still_texts form t ps s (Err e) is h = tt
+  cursor_error r error e n = grind arith
 
 -- ---- one more that is tested
-
-pub any_first : {A : Type 0} (p : A → Bool) (x : A) (xs : List A) (all : Bool) → p x ≡ true → list_any p (x ∷ xs) ≡ all → true ≡ all
-any_first p x xs all test e = rw test at e
-
-pub any_next : {A : Type 0} (p : A → Bool) (x : A) (xs : List A) (all : Bool) → p x ≡ false → list_any p (x ∷ xs) ≡ all → list_any p xs ≡ all
-any_next p x xs all test e = rw test at e
-
-all_first : {A : Type 0} (p : A → Bool) (x : A) (xs : List A) (all : Bool) → p x ≡ false → list_all p (x ∷ xs) ≡ all → false ≡ all
-all_first p x xs all test e = rw test at e
-
-all_next : {A : Type 0} (p : A → Bool) (x : A) (xs : List A) (all : Bool) → p x ≡ true → list_all p (x ∷ xs) ≡ all → list_all p xs ≡ all
-all_next p x xs all test e = rw test at e
 
 -- a name that decides
 pub decided : (found has : Bool) (t : Tree) (name : List ℕ) (names : List (List ℕ)) (all : Bool) → beq has found ≡ true → has ≡ has_text name t
     → has_by found (name ∷ names) t ≡ all → found ≡ all
-decided found has t name names all h k e = grind (arith, any_first, all_first)
+decided found has t name names all h k e = grind arith
 
 -- a name that leaves it to the others
 pub left_open : (found has : Bool) (t : Tree) (name : List ℕ) (names : List (List ℕ)) (all : Bool) → beq has found ≡ false → has ≡ has_text name t
     → has_by found (name ∷ names) t ≡ all → has_by found names t ≡ all
-left_open found has t name names all h k e = grind (arith, any_next, all_next)
+left_open found has t name names all h k e = grind arith
 
 -- no name is left
 pub none_decided : (found : Bool) (t : Tree) → has_by found [] t ≡ not found

@@ -1,5 +1,5 @@
 -- Names among the keys of an object, and the runs of its members that have one or have none.
-use Rattle.jsonb_raw.proofs.Common.{◌≡◌, ℕ, true, false, List, [], ◌∷◌, Option, Some, None, Ordering, refl, sym, ◌∙◌, nat_cmp, option_copied, Bor, is_eq, ◌+◌, Bool, not, ◌++◌, length, take, drop, map, ap, arith, append_assoc, append-nil, length-append, IsUtf8, slice_cmp, nat_list_cmp_total, AllByRecursion, IsStrictlySortedBy, deref, IsBelowFirst, AreKeys, TextSet, is_in, with_pairs, first_and_others, is_among, AreSorted, IsNotBelow, DecideFrom, DecideForKeys, PartsFirst, all_or_none, keys_of, values_of, beq, Tree, text, object, Pairs, members, Form, AreRising, AreRising-filter, Entries, StoredEntry, PairEntries, PairRuns, parted, HoldTrees, HoldPairs, ArePairsOf, TakesFirst, PairsHeld}
+use Rattle.jsonb_raw.proofs.Common.{◌≡◌, ℕ, true, false, List, [], ◌∷◌, Option, Some, None, Ordering, refl, sym, ◌∙◌, nat_cmp, option_copied, Bor, is_eq, ◌+◌, Bool, ◌++◌, length, take, drop, map, ap, arith, append_assoc, length-append, IsUtf8, slice_cmp, nat_list_cmp_total, AllByRecursion, IsStrictlySortedBy, deref, IsBelowFirst, AreKeys, TextSet, is_in, with_pairs, first_and_others, is_among, IsNotBelow, DecideFrom, DecideForKeys, PartsFirst, all_or_none, keys_of, values_of, beq, Tree, text, object, Pairs, members, Form, Entries, StoredEntry, PairEntries, PairRuns, parted, HoldTrees, HoldPairs, ArePairsOf, TakesFirst, PairsHeld}
 use Rattle.std.specs.Map.Iter.{TakesFirst as TakesName}
 use Rattle.std.specs.declared.cmp.Ordering.TheVariants.{Less, Equal, Greater}
 use Rattle.jsonb_raw.proofs.PairStepLemmas.{turned}
@@ -11,7 +11,7 @@ pub name_taken : (names others : List (Bor (List ℕ))) (r : Option (Bor (Bor (L
 name_taken h k e = grind arith
 
 -- no key is below itself
-not_below_itself : (key : List ℕ) → IsNotBelow key key
+pub not_below_itself : (key : List ℕ) → IsNotBelow key key
 not_below_itself key less = let flip = turned key key Less less in cc
 
 -- a name below the key is none of the keys from it on
@@ -28,16 +28,12 @@ other_name key later name less above = go (slice_cmp nat_cmp later name.now) ref
 pub first_passed : (set : TextSet) (key : List ℕ) (names left : List (Bor (List ℕ))) (name : Bor (List ℕ)) → Less ≡ slice_cmp nat_cmp name.now key
     → DecideFrom set key (name ∷ left) → names ≡ left → DecideFrom set key names
 unfolding IsStrictlySortedBy
-first_passed set key names left name below d is = rw is (record {
-  sorted = d.sorted.1;
-  agree = λ later above. rw (other_name key later name (sym below) above) at (d.agree later above);
-})
+first_passed set key names left name below d is = grind (arith, other_name)
 
 none_above : (key name : List ℕ) (others : List (Bor (List ℕ))) → slice_cmp nat_cmp key name ≡ Less
     → AllByRecursion (λ (other : Bor (List ℕ)). slice_cmp nat_cmp name other.now ≡ Less) others → is_among key others ≡ false
 none_above key name [] below all = refl
-none_above key name (other ∷ others) below all =
-    rw (nat_list_cmp_total.trans key name other.now below all.0) (none_above key name others below all.1)
+none_above key name (other ∷ others) below all = grind (arith, nat_list_cmp_total, none_above key name others below all.1)
 
 module _ (set : TextSet) (key : List ℕ) (name : Bor (List ℕ)) (names : List (Bor (List ℕ))) (d : DecideFrom set key (name ∷ names)) where
   agreed : is_in set key ≡ is_among key (name ∷ names)
@@ -54,12 +50,6 @@ module _ (set : TextSet) (key : List ℕ) (name : Bor (List ℕ)) (names : List 
       let below : slice_cmp nat_cmp key name.now ≡ Less = turned name.now key Greater (sym e) in
       rw agreed (rw below (sym (none_above key name.now names below d.sorted.0)))
 
-pub none_decides : (set : TextSet) (key : List ℕ) → DecideFrom set key [] → false ≡ is_in set key
-none_decides set key d = sym (d.agree key (not_below_itself key))
-
-pub all_decide : (set : TextSet) (names : List (Bor (List ℕ))) → AreSorted set.keys → names ≡ set.keys → (key : List ℕ) → DecideFrom set key names
-all_decide set names sorted is key = rw is (record { sorted = sorted; agree = λ later above. refl })
-
 -- ---- names and keys
 
 pub names_begun : (set : TextSet) (names : List (Bor (List ℕ))) (ks : List (List ℕ)) → ((key : List ℕ) → DecideFrom set key names)
@@ -70,11 +60,7 @@ names_begun set names (key ∷ ks) d = d key
 -- after a key the names decide for the keys above it
 pub names_passed : (set : TextSet) (names : List (Bor (List ℕ))) (key : List ℕ) (ks : List (List ℕ)) → IsBelowFirst key ks → DecideFrom set key names
     → DecideForKeys set names ks
-names_passed set names key [] below d = tt
-names_passed set names key (next ∷ ks) below d = record {
-  sorted = d.sorted;
-  agree = λ later above. d.agree later (λ (less : slice_cmp nat_cmp later key ≡ Less). above (nat_list_cmp_total.trans later key next less below));
-}
+names_passed set names key ks h e = grind (arith, nat_list_cmp_total)
 
 -- ---- the pairs of an object that a set parts, as runs
 
@@ -157,19 +143,6 @@ module _ (form : Form) (set : TextSet) (names : List (Bor (List ℕ))) (is : Boo
     decide = names_passed set names' n.p.0 (keys_of n.rest) are_keys_next.1 (rw n.is_key decide);
   }
 
-  -- the names that are left decide for the next key too
-  pub names_again : (names' : List (Bor (List ℕ))) → DecideFrom set key names' → PartsFirst form set names' is count left ps
-  names_again names' decide = record {
-    run = m.run;
-    others = m.others;
-    joined = m.joined;
-    size = m.size;
-    parts = m.parts;
-    hold = m.hold;
-    are_keys = m.are_keys;
-    decide = rw n.split (rw n.is_key decide);
-  }
-
 -- the run begins with the first member
 pub run_first : (form : Form) (set : TextSet) (names : List (Bor (List ℕ))) (is : Bool) (left : Entries) (ps : List Member)
     → HoldTrees form left (map text (keys_of ps)) → AreKeys (keys_of ps) → DecideForKeys set names (keys_of ps) → (key : List ℕ) (others : Entries)
@@ -228,44 +201,18 @@ module _ (form : Form) (runs : PairRuns) (left : PairEntries) (wanted : Bool) (s
     -- the members of the run
     pub run_hold : (run : PairEntries) → HoldTrees form run.keys (take count (map text (keys_of m.rest)))
         → HoldTrees form run.values (take count (values_of m.rest)) → HoldPairs form run f.run
-    run_hold run names parts = record {
-      names = rw (f.joined, f.size, take_keys f.run f.others) at names;
-      parts = rw (f.joined, f.size, take_values f.run f.others) at parts;
-    }
+    run_hold run names parts = grind (arith, take_keys, take_values)
 
     -- the runs after this one
     pub parting_on : (runs' : PairRuns) → PairsHeld form runs' (m.held ++ all_or_none (beq is wanted) f.run)
         → Parting form runs' others wanted set names' whole
-    parting_on runs' held = record {
-      held = m.held ++ all_or_none (beq is wanted) f.run;
-      rest = f.others;
-      runs_hold = held;
-      pairs = record { names = f.hold; parts = rw (f.joined, f.size, drop_values f.run f.others) at behind };
-      joined = cc (append_assoc m.held (all_or_none (beq is wanted) f.run) (parted wanted set f.others), f.parts wanted);
-      decide = f.decide;
-      are_keys = f.are_keys;
-    }
-
-  pub parting_done : m.rest ≡ [] → m.held ≡ whole
-  parting_done none = sym (append-nil m.held) ∙ ap (λ (l : List Member). m.held ++ l) (sym (rw none (nothing wanted))) ∙ m.joined
-    where
-      nothing : (b : Bool) → parted b set [] ≡ []
-      nothing b = grind arith
-
-pub parted_rising : (wanted : Bool) (set : TextSet) (ps : List Member) → AreRising (keys_of ps) → AreRising (keys_of (parted wanted set ps))
-parted_rising true set ps rising = AreRising-filter (λ p. is_in set p.0) ps rising
-parted_rising false set ps rising = AreRising-filter (λ p. not (is_in set p.0)) ps rising
-
--- what a test of two Booleans determines
-pub same_truth : (a b : Bool) → not (beq a b) ≡ false → a ≡ b
-same_truth a b same = grind arith
+    parting_on runs' held = grind (arith, drop_values, append_assoc)
 
 -- ---- objects by their entries
 
 pub pairs_there : (form : Form) (t : Tree) (found : Option PairEntries) (pairs : PairEntries) → found ≡ Some pairs → ArePairsOf form t found
     → (ps : Pairs) × (t ≡ object ps) × HoldPairs form pairs (members ps)
-pairs_there form (object ps) found pairs is h = (ps, refl, rw is at h)
-pairs_there form _ found pairs is h = absurd (rw is at h)
+pairs_there form t found pairs h e = grind arith
 
 pub no_pairs_there : (form : Form) (t : Tree) (found : Option PairEntries) (change : List Member → List Member) → found ≡ None → ArePairsOf form t found
     → with_pairs change t ≡ None

@@ -1,28 +1,15 @@
 -- The positions of the children that steps and indices select.
-use Rattle.jsonb_raw.proofs.Common.{◌≡◌, ℕ, suc, ◌+◌, ◌<◌, Bool, true, false, cond, nat_lt, List, ◌∷◌, length, Option, Some, None, refl, ◌∙◌, arith, slice_get, sym, ℤ, [], Result, IsOkAnd, Global, MatchResult, is_some, bytes_eq, position, option_and_then, option_map, map, ap, position_or_len, nat_tests, Tree, object, Pairs, no_pairs, pair, elements, keys, values, value_under, field_of, array, Trees, children_of, trees_in, text, Key, index, quoted_name, unquoted_name, children, asked_key, child_position, location, tree_at, tree_at_steps, index_position, child_met, SameOption, IsOutOfMemory, KeyPath, key_view, keys_view, signed_decimal, cow_str_bytes, CowStr, Form, Index, QuotedName, Name, Error, Locates, HasSpotsLeft, Spot, SpotIter, keys_of-members, ContainerEntries, HoldTrees, AreEntriesOf}
+use Rattle.jsonb_raw.proofs.Common.{◌≡◌, ℕ, suc, ◌+◌, Bool, false, cond, List, ◌∷◌, Option, Some, None, refl, ◌∙◌, arith, slice_get, sym, ℤ, Result, IsOkAnd, MatchResult, is_some, bytes_eq, position, option_and_then, option_map, map, nat_tests, Tree, object, Pairs, no_pairs, pair, elements, keys, values, value_under, field_of, array, Trees, children_of, trees_in, text, Key, index, quoted_name, unquoted_name, asked_key, child_position, tree_at_steps, child_met, SameOption, IsOutOfMemory, KeyPath, key_view, keys_view, signed_decimal, Form, Index, Error, Locates, HasSpotsLeft, Spot, SpotIter, keys_of-members, ContainerEntries, HoldTrees, AreEntriesOf}
 use Rattle.jsonb_raw.proofs.AnswerLemmas.{answered}
 use Rattle.std.specs.Str.{bytes_eq}
 use Rattle.jsonb_doc.specs.declared.layout.HeaderKind.TheVariants as header_kind
 
 -- ---- the child that a step selects
 
-below : (m n : ℕ) → m < n → nat_lt m n ≡ true
-below m n h = grind (arith, nat_tests)
-
-shifted : (n len : ℕ) (b : Bool) → nat_lt n len ≡ b
-    → cond (nat_lt (1 + n) (suc len)) (Some (1 + n)) None ≡ option_map suc (cond (nat_lt n len) (Some n) None)
-shifted n len true e =
-    let e' : nat_lt (1 + n) (suc len) ≡ true = grind (arith, nat_tests) in
-    let one : 1 + n ≡ suc n = omega arith in
-    rw (e, e', one) refl
-shifted n len false e =
-    let e' : nat_lt (1 + n) (suc len) ≡ false = grind (arith, nat_tests) in rw (e, e') refl
-
 -- the first position at which a test holds, in a list with one more at the front
 pub position-cons : {A : Type 0} (p : A → Bool) (x : A) (xs : List A) (b : Bool) → p x ≡ b
     → position p (x ∷ xs) ≡ cond b (Some 0) (option_map suc (position p xs))
-position-cons p x xs true e = let e' = below 0 (suc (length xs)) (omega arith) in rw (e, e') refl
-position-cons p x xs false e = rw e (shifted (position_or_len p xs) (length xs) _ refl)
+position-cons p x xs b h = grind (arith, nat_tests)
 
 -- the value at the position of a key is the value under it
 pub value_at_key : (name : List ℕ) (ps : Pairs)
@@ -59,22 +46,7 @@ quoted_met name _ = refl
 -- the steps select what the others select in the child that the first selects
 pub step_by_step : (step : Key) (steps : List Key) (t : Tree)
     → tree_at_steps (step ∷ steps) t ≡ option_and_then (tree_at_steps steps) (child_met step t)
-step_by_step step steps t = at_position (child_position step t)
-  where
-    join : (n : ℕ) (child : Tree) → slice_get (children t) n ≡ Some child → (o : Option (List ℕ))
-        → option_and_then (λ ns. tree_at ns t) (option_map (λ ns. n ∷ ns) o) ≡ option_and_then (λ ns. tree_at ns child) o
-    join n child h o = grind arith
-
-    at_child : (n : ℕ) (o : Option Tree) → slice_get (children t) n ≡ o
-        → option_and_then (λ ns. tree_at ns t) (option_map (λ ns. n ∷ ns) (option_and_then (location steps) o)) ≡ option_and_then (tree_at_steps steps) o
-    at_child n o h = grind (arith, join)
-
-    at_position : (o : Option ℕ)
-        → option_and_then (λ ns. tree_at ns t)
-        (option_and_then (λ n. option_map (λ ns. n ∷ ns) (option_and_then (location steps) (slice_get (children t) n))) o)
-        ≡ option_and_then (tree_at_steps steps) (option_and_then (λ n. slice_get (children t) n) o)
-    at_position None = refl
-    at_position (Some n) = at_child n (slice_get (children t) n) refl
+step_by_step step steps t = grind arith
 
 -- ---- one step of a walk along a key path
 
@@ -84,25 +56,19 @@ pub next_child : (step : KeyPath) (steps now : List KeyPath) (here : Tree) (want
 next_child step steps now here wanted s e = sym (step_by_step (key_view step) (keys_view steps) here) ∙ rw s at e
 
 pub none_same : {A : Type 0} (R : A → Tree → Type 0) (found : Option A) (wanted : Option Tree) → found ≡ None → SameOption R found wanted → wanted ≡ None
-none_same R (Some a) wanted n h = cc
-none_same R None None n h = refl
-none_same R None (Some t) n h = absurd h
+none_same R found wanted h e = grind arith
 
 pub some_same : {A : Type 0} (R : A → Tree → Type 0) (a : A) (found : Option A) (wanted : Option Tree) → found ≡ Some a → SameOption R found wanted
     → (t : Tree) × R a t × (Some t ≡ wanted)
-some_same R a found None n h = absurd (rw n at h)
-some_same R a found (Some t) n h = (t, rw n at h, refl)
+some_same R a found wanted h e = grind arith
 
 pub none_met : {A : Type 0} (R : A → Tree → Type 0) (next : Tree → Option Tree) (found : Option A) (child wanted : Option Tree)
     → found ≡ None → SameOption R found child → option_and_then next child ≡ wanted → wanted ≡ None
-none_met R next (Some a) child wanted n h e = cc
-none_met R next None None wanted n h e = sym e
-none_met R next None (Some t) wanted n h e = absurd h
+none_met R next found child wanted h e k = grind arith
 
 pub some_met : {A : Type 0} (R : A → Tree → Type 0) (next : Tree → Option Tree) (a : A) (found : Option A) (child wanted : Option Tree)
     → found ≡ Some a → SameOption R found child → option_and_then next child ≡ wanted → (t : Tree) × R a t × (next t ≡ wanted)
-some_met R next a found None wanted n h e = absurd (rw n at h)
-some_met R next a found (Some t) wanted n h e = (t, rw n at h, e)
+some_met R next a found child wanted h e k = grind arith
 
 -- ---- containers of a kind
 
@@ -128,39 +94,11 @@ of_object form (array ts) e is h = let bad : header_kind.Object ≡ header_kind.
 of_object form (object ps) e is h = record { pairs = ps; is = refl; hold = rw (keys_of-members ps) at h.2.names }
 of_object form _ e is h = absurd h
 
-pub of_neither : (form : Form) (t : Tree) (e : ContainerEntries) → e.kind ≡ header_kind.Scalar → AreEntriesOf form t e → ⊥
-of_neither form (array ts) e is h = let bad : header_kind.Scalar ≡ header_kind.Array = sym is ∙ h.0 in absurd (cc)
-of_neither form (object ps) e is h = let bad : header_kind.Scalar ≡ header_kind.Object = sym is ∙ h.0 in absurd (cc)
-of_neither form _ e is h = h
-
--- ---- indices
-
-pub met_in_array : (form : Form) (j i : ℤ) (t : Tree) (e : ContainerEntries) (step : KeyPath) (found : Option ℕ) → j ≡ i → step ≡ Index i
-    → OfArray form t e → ((ts : List Tree) → HoldTrees form e.values ts → found ≡ index_position (length ts) j)
-    → found ≡ child_position (key_view step) t
-met_in_array form j i t e step found same step_is a h = rw (step_is, a.is) (rw same at (h (elements a.trees) a.hold))
-
--- an array has no child for a name
-pub name_at_array : (form : Form) (t : Tree) (e : ContainerEntries) (step : KeyPath) → ((i : ℤ) → step ≡ Index i → ⊥) → OfArray form t e
-    → None ≡ child_position (key_view step) t
-name_at_array form t e (Index i) no_index a = absurd (no_index i refl)
-name_at_array form t e (QuotedName name) no_index a = rw a.is refl
-name_at_array form t e (Name name) no_index a = rw a.is refl
-
-pub nothing_at : (step : Key) (t : Tree) → children_of t ≡ None → None ≡ child_position step t
-nothing_at step (array ts) e = absurd (cc)
-nothing_at step (object ps) e = absurd (cc)
-nothing_at (index i) _ e = refl
-nothing_at (quoted_name name) _ e = refl
-nothing_at (unquoted_name name) _ e = refl
-
 -- ---- keys
 
 -- a step asks each object for a key
 pub position_in_object : (step : Key) (ps : Pairs) → child_position step (object ps) ≡ position (λ key. bytes_eq key (asked_key step)) (keys ps)
-position_in_object (index i) ps = refl
-position_in_object (quoted_name name) ps = refl
-position_in_object (unquoted_name name) ps = refl
+position_in_object step ps = grind arith
 
 pub met_in_object : (form : Form) (t : Tree) (e : ContainerEntries) (step : KeyPath) (name : List ℕ) (r : Result (Option ℕ) Error)
     → name ≡ asked_key (key_view step) → OfObject form t e
@@ -177,65 +115,17 @@ pub met_by_index : (form : Form) (t : Tree) (e : ContainerEntries) (step : KeyPa
     → MatchResult r (λ found. found ≡ child_position (key_view step) t) IsOutOfMemory
 met_by_index form t e step j i r same step_is o h = rw (step_is, o.is) (rw same at (h (keys o.pairs) o.hold))
 
-pub found_decimal : (name : List ℕ) (i j : ℤ) (ks : List (List ℕ)) (r : Result (Option ℕ) Error) → name ≡ signed_decimal j → j ≡ i
-    → IsOkAnd r (λ found. found ≡ position (λ key. bytes_eq key name) ks)
-    → MatchResult r (λ found. found ≡ position (λ key. bytes_eq key (signed_decimal i)) ks) IsOutOfMemory
-found_decimal name i j ks r decimal same h = rw (← same, ← decimal) (answered (λ found. found ≡ position (λ key. bytes_eq key name) ks) r h)
-
-pub asked_quoted : (asked : List ℕ) (name : CowStr Global) (step : KeyPath) → asked ≡ cow_str_bytes name → step ≡ QuotedName name
-    → asked ≡ asked_key (key_view step)
-asked_quoted asked name step same is = rw is same
-
-pub asked_plain : (asked : List ℕ) (name : CowStr Global) (step : KeyPath) → asked ≡ cow_str_bytes name → step ≡ Name name → asked ≡ asked_key (key_view step)
-asked_plain asked name step same is = rw is same
-
 -- ---- the position among the keys that are left, after those that were passed
 
 abbrev pub position_behind : ℕ → List ℕ → List (List ℕ) → Option ℕ
 position_behind passed name ks = option_map (λ n. passed + n) (position (λ key. bytes_eq key name) ks)
-
-pub key_here : (passed : ℕ) (name key : List ℕ) (ks rest : List (List ℕ)) (wanted : Option ℕ) → ks ≡ key ∷ rest → bytes_eq key name ≡ true
-    → position_behind passed name ks ≡ wanted
-    → Some passed ≡ wanted
-key_here passed name key ks rest wanted split same e =
-    let first = position-cons (λ k. bytes_eq k name) key rest true same in
-    let zero_more : passed + 0 ≡ passed = omega arith in
-    rw (split, first, zero_more) at e
-
-pub key_further : (passed : ℕ) (name key : List ℕ) (ks rest : List (List ℕ)) (wanted : Option ℕ) → ks ≡ key ∷ rest → bytes_eq key name ≡ false
-    → position_behind passed name ks ≡ wanted
-    → position_behind (passed + 1) name rest ≡ wanted
-key_further passed name key ks rest wanted split other e =
-    let first = position-cons (λ k. bytes_eq k name) key rest false other in
-    by (position (λ k. bytes_eq k name) rest) ∙ rw (split, first) at e
-  where
-    by : (o : Option ℕ) → option_map (λ n. (passed + 1) + n) o ≡ option_map (λ n. passed + n) (option_map suc o)
-    by None = refl
-    by (Some n) = let e : (passed + 1) + n ≡ passed + suc n = omega arith in ap Some e
-
-pub key_nowhere : (passed : ℕ) (name : List ℕ) (ks : List (List ℕ)) (wanted : Option ℕ) → ks ≡ [] → position_behind passed name ks ≡ wanted → None ≡ wanted
-key_nowhere passed name ks wanted none e = rw none at e
 
 -- ---- what an index selects in a tree, by the spots that it has
 
 -- an iterator over elements is that of an array
 pub array_spots : (bytes : List ℕ) (it : SpotIter) (t : Tree) → SameOption (λ it ts. HasSpotsLeft bytes it (elements ts)) (Some it) (trees_in t)
     → (ts : Trees) × (t ≡ array ts) × HasSpotsLeft bytes it (elements ts)
-array_spots bytes it (array ts) h = (ts, refl, h)
-array_spots bytes it _ h = absurd h
-
-pub spot_in_array : (bytes : List ℕ) (i j : ℤ) (ts : Trees) (t : Tree) (r : Result (Option Spot) Error) → j ≡ i → t ≡ array ts
-    → IsOkAnd r (λ found. SameOption (Locates bytes) found
-    (option_and_then (λ n. slice_get (elements ts) n) (index_position (length (elements ts)) j)))
-    → MatchResult r (λ found. SameOption (Locates bytes) found (child_met (index i) t)) IsOutOfMemory
-spot_in_array bytes i j ts t r same is h =
-    answered (λ found. SameOption (Locates bytes) found (child_met (index i) t)) r (rw is (rw same at h))
-
-pub field_by_key : (bytes : List ℕ) (i j : ℤ) (t : Tree) (key : List ℕ) (r : Result (Option Spot) Error) → j ≡ i → key ≡ signed_decimal j
-    → IsOkAnd r (λ found. SameOption (Locates bytes) found (field_of key t))
-    → MatchResult r (λ found. SameOption (Locates bytes) found (field_of (signed_decimal i) t)) IsOutOfMemory
-field_by_key bytes i j t key r same decimal h =
-    answered (λ found. SameOption (Locates bytes) found (field_of (signed_decimal i) t)) r (rw (decimal, same) at h)
+array_spots bytes it t h = grind arith
 
 pub no_field : (name : List ℕ) (t : Tree) → is_some (children_of t) ≡ false → field_of name t ≡ None
 no_field name t h = grind arith

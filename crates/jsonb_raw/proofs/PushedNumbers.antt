@@ -1,5 +1,5 @@
 -- What a push of a number's bytes leaves.
-use Rattle.jsonb_raw.proofs.Common.{◌≡◌, ◌≢◌, ◌⊎◌, inl, inr, subst, ℕ, suc, ◌+◌, ◌-◌, ◌<◌, Bool, true, false, List, [], ◌∷◌, ◌++◌, map, length, ℤ, pos, negsuc, nat_abs, int_lt, refl, sym, ap, ◌∙◌, arith, append_assoc, w16, ltb-true, to_be_bytes, digits_of, map-append, significant, magnitude_bytes, number_bytes, complement_byte, complement_bytes}
+use Rattle.jsonb_raw.proofs.Common.{◌≡◌, ◌≢◌, ℕ, suc, ◌+◌, ◌-◌, Bool, false, List, [], ◌∷◌, ◌++◌, map, length, ℤ, pos, nat_abs, int_lt, refl, sym, ap, ◌∙◌, arith, append_assoc, w16, to_be_bytes, digits_of, map-append, significant, magnitude_bytes, number_bytes, complement_byte, complement_bytes}
 
 signed_bytes-append : (negative : Bool) (xs ys : List ℕ) → complement_bytes negative (xs ++ ys) ≡ complement_bytes negative xs ++ complement_bytes negative ys
 signed_bytes-append negative xs ys = map-append (complement_byte negative) xs ys
@@ -28,21 +28,9 @@ same_bytes : (bs : List ℕ) → complement_bytes false bs ≡ bs
 same_bytes [] = refl
 same_bytes (b ∷ bs) = ap (λ x. b ∷ x) (same_bytes bs)
 
-pub negative_pushed : (old : List ℕ) (z : ℤ) (scale : ℕ) → int_lt z (pos 0) ≡ true
-    → (old ++ 0x7f ∷ []) ++ complement_bytes true (magnitude_bytes (nat_abs z) scale) ≡ old ++ number_bytes z scale
-negative_pushed old (pos n) scale h = absurd (let h : n < 0 = ltb-true n 0 h in omega arith)
-negative_pushed old (negsuc n) scale h = append_assoc old (0x7f ∷ []) (complement_bytes true (magnitude_bytes (suc n) scale))
-
 pub positive_pushed : (old : List ℕ) (z : ℤ) (scale : ℕ) → int_lt z (pos 0) ≡ false → z ≢ pos 0
     → (old ++ 0x81 ∷ []) ++ complement_bytes false (magnitude_bytes (nat_abs z) scale) ≡ old ++ number_bytes z scale
 positive_pushed old z scale h e = grind (arith, append_assoc, same_bytes)
-
--- a sign byte and a magnitude make a number, if v is the whole value unchanged read
-pub number_steps : (old first : List ℕ) (sign m : ℕ) (z v : ℤ) (scale : ℕ) → v ≡ z → z ≢ pos 0 → m ≡ nat_abs v → first ≡ old ++ sign ∷ []
-    → ((int_lt v (pos 0) ≡ true) × (sign ≡ 0x7f)) ⊎ ((int_lt v (pos 0) ≡ false) × (sign ≡ 0x81))
-    → first ++ complement_bytes (int_lt v (pos 0)) (magnitude_bytes m scale) ≡ old ++ number_bytes z scale
-number_steps old first sign m z v scale e ne a f (inl h) = cc (f, h.1, a, e, h.0, negative_pushed old z scale (subst (λ x. int_lt x (pos 0) ≡ true) e h.0))
-number_steps old first sign m z v scale e ne a f (inr h) = cc (f, h.1, a, e, h.0, positive_pushed old z scale (subst (λ x. int_lt x (pos 0) ≡ false) e h.0) ne)
 
 -- a buffer that holds the sign byte, the exponent, the digits and the end marker is appended
 pub buffer_steps : (negative : Bool) (old last whole front tail : List ℕ) (sign n scale e byte : ℕ) → e ≡ length (digits_of 10 n) + 1000 - scale

@@ -12,10 +12,7 @@ pub Ranks-head : (x y : ℕ) (xs ys : List ℕ) (o : Ordering) → Ranks xs ys o
 Ranks-head x y xs ys o h = record { ranks = λ r s. ap (ordering_then (nat_cmp x y)) (h.ranks r s) ∙ sym (then_assoc (nat_cmp x y) o (bytes_cmp r s)) }
 
 pub Ranks-append : (xs ys zs ws : List ℕ) (o p : Ordering) → Ranks xs ys o → Ranks zs ws p → Ranks (xs ++ zs) (ys ++ ws) (ordering_then o p)
-Ranks-append xs ys zs ws o p h k = record {
-  ranks = λ r s. ap₂ bytes_cmp (append_assoc xs zs r) (append_assoc ys ws s) ∙ h.ranks (zs ++ r) (ws ++ s)
-      ∙ ap (ordering_then o) (k.ranks r s) ∙ sym (then_assoc o p (bytes_cmp r s));
-}
+Ranks-append xs ys zs ws o p h k = search (append_assoc, then_assoc, h.ranks, k.ranks)
 
 -- a list that begins lower or higher, whatever follows
 pub Ranks-lower : (x y : ℕ) (xs ys : List ℕ) → x < y → Ranks (x ∷ xs) (y ∷ ys) Less
@@ -27,19 +24,10 @@ Ranks-higher x y xs ys h = record { ranks = λ r s. rw (nat_cmp-gt x y h) refl }
 pub Ranks-same_head : (x : ℕ) (xs ys : List ℕ) (o : Ordering) → Ranks xs ys o → Ranks (x ∷ xs) (x ∷ ys) o
 Ranks-same_head x xs ys o h = subst (λ p. Ranks (x ∷ xs) (x ∷ ys) (ordering_then p o)) (nat_cmp_refl x) (Ranks-head x x xs ys o h)
 
--- lists that begin apart, in the order of two other numbers
-lower : (a b x y : ℕ) (xs ys : List ℕ) → a < b → x < y → Ranks (x ∷ xs) (y ∷ ys) (nat_cmp a b)
-lower a b x y xs ys h k = subst (Ranks (x ∷ xs) (y ∷ ys)) (sym (nat_cmp-lt a b h)) (Ranks-lower x y xs ys k)
-
-higher : (a b x y : ℕ) (xs ys : List ℕ) → b < a → y < x → Ranks (x ∷ xs) (y ∷ ys) (nat_cmp a b)
-higher a b x y xs ys h k = subst (Ranks (x ∷ xs) (y ∷ ys)) (sym (nat_cmp-gt a b h)) (Ranks-higher x y xs ys k)
-
 -- ---- numbers in bytes, the highest first
 
 byte_place : (k m : ℕ) → byte_at k m * 256 ^ k + m % 256 ^ k ≡ m % 256 ^ suc k
-byte_place zero m = omega arith
-byte_place (suc k) m = rw (pow-suc 256 (suc k))
-    (mod_places m (256 ^ suc k) 256 (one-le-pow (suc k) 256 (omega arith)) (omega arith) ∙ ap (λ p. m % p) (mul_comm 256 (256 ^ suc k)))
+byte_place k m = grind (arith, pow-suc, mod_places, one-le-pow, mul_comm)
 
 pub Ranks-bytes_high_first : (k m n : ℕ) → Ranks (bytes_high_first k m) (bytes_high_first k n) (nat_cmp (m % 256 ^ k) (n % 256 ^ k))
 Ranks-bytes_high_first zero m n = subst (Ranks [] []) (sym (ap₂ nat_cmp (mod-one m) (mod-one n))) Ranks-nil
@@ -55,29 +43,17 @@ Ranks-bytes_high_first (suc k) m n =
 -- ---- strings
 
 Ranks-escaped : (a b : ℕ) → Ranks (escaped_byte a) (escaped_byte b) (nat_cmp a b)
-Ranks-escaped zero zero = record { ranks = λ r s. refl }
-Ranks-escaped zero (suc zero) = record { ranks = λ r s. refl }
-Ranks-escaped zero (suc (suc b)) = lower 0 (suc (suc b)) 1 (suc (suc b)) (1 ∷ []) [] (omega arith) (omega arith)
-Ranks-escaped (suc zero) zero = record { ranks = λ r s. refl }
-Ranks-escaped (suc zero) (suc zero) = record { ranks = λ r s. refl }
-Ranks-escaped (suc zero) (suc (suc b)) = lower 1 (suc (suc b)) 1 (suc (suc b)) (2 ∷ []) [] (omega arith) (omega arith)
-Ranks-escaped (suc (suc a)) zero = higher (suc (suc a)) 0 (suc (suc a)) 1 [] (1 ∷ []) (omega arith) (omega arith)
-Ranks-escaped (suc (suc a)) (suc zero) = higher (suc (suc a)) 1 (suc (suc a)) 1 [] (2 ∷ []) (omega arith) (omega arith)
-Ranks-escaped (suc (suc a)) (suc (suc b)) = record { ranks = λ r s. refl }
+Ranks-escaped a b = grind (arith, nat_cmp-lt, Ranks-lower, nat_cmp-gt, Ranks-higher)
 
 pub Ranks-text_bytes : (xs ys : List ℕ) → Ranks (text_bytes xs) (text_bytes ys) (bytes_cmp xs ys)
 Ranks-text_bytes [] [] = Ranks-same_head 0 [] [] Equal Ranks-nil
 Ranks-text_bytes [] (y ∷ ys) = first_below y (text_bytes ys)
   where
     first_below : (b : ℕ) (rest : List ℕ) → Ranks (0 ∷ []) (escaped_byte b ++ rest) Less
-    first_below zero rest = record { ranks = λ r s. refl }
-    first_below (suc zero) rest = record { ranks = λ r s. refl }
-    first_below (suc (suc b)) rest = Ranks-lower 0 (suc (suc b)) [] rest (omega arith)
+    first_below b rest = grind (arith, Ranks-lower)
 Ranks-text_bytes (x ∷ xs) [] = first_above x (text_bytes xs)
   where
     first_above : (b : ℕ) (rest : List ℕ) → Ranks (escaped_byte b ++ rest) (0 ∷ []) Greater
-    first_above zero rest = record { ranks = λ r s. refl }
-    first_above (suc zero) rest = record { ranks = λ r s. refl }
-    first_above (suc (suc b)) rest = Ranks-higher (suc (suc b)) 0 rest [] (omega arith)
+    first_above b rest = grind (arith, Ranks-higher)
 Ranks-text_bytes (x ∷ xs) (y ∷ ys) = Ranks-append (escaped_byte x) (escaped_byte y) (text_bytes xs) (text_bytes ys) (nat_cmp x y) (bytes_cmp xs ys)
     (Ranks-escaped x y) (Ranks-text_bytes xs ys)

@@ -1,9 +1,8 @@
 -- Runs of entries, the containers that they make, and walks that keep some of them.
-use Rattle.jsonb_raw.proofs.Common.{◌≡◌, inl, inr, ℕ, zero, suc, ◌+◌, ◌^◌, ◌<◌, ◌≤◌, List, [], ◌∷◌, ◌++◌, length, map, take, drop, get_or, Option, Some, Result, refl, sym, ap, subst, ◌∙◌, arith, append-nil, ◌-◌, None, append_assoc, insert, keys_of, values_of, Tree, Trees, text, array, object, trees_of, pairs_of, elements, Pairs, no_pairs, pair, keys, values, members, Form, number_reader, NumberReader, Decodes, header, array_header, AreEntries, AreValues, AreKeys, entry_word, key_words, key_bytes, IsShort, HasShortElements, IsTooLarge, IsOutOfMemoryOrTooLarge, Error, trees_of-elements, keys_of-members, Holds, ArrayParts, Entries, HeaderKind, Make, AreSortedKeys, too_many, within_parts, OwnedJsonb, Makes, as_elements, HoldTrees, RunsHold, AreElementsOf, IsTooLongRoot, IsTooLongElement, IsFirst, TakesFirst, HoldPairs, ArePairsOf, AreContainerEntries, Holding, PairsHeld, PairsOpen, IsFirstPair, TakesFirstPair, AreWithin, many_keys, text_entry, kind_number, front_of, HoldsPairs-skipped, HoldsPairs-values, StandBefore, ObjectParts, ContainerEntries, StoredEntry, PairEntries, FirstPair, PairRuns, entries_append, one_entry, AreArrayParts, AreObjectParts}
+use Rattle.jsonb_raw.proofs.Common.{◌≡◌, inr, ℕ, zero, suc, ◌+◌, ◌^◌, ◌<◌, ◌≤◌, List, [], ◌∷◌, ◌++◌, length, map, take, drop, get_or, Option, Some, Result, refl, sym, ap, subst, ◌∙◌, arith, append-nil, ◌-◌, None, append_assoc, insert, keys_of, values_of, Tree, Trees, text, array, object, trees_of, pairs_of, elements, Pairs, no_pairs, pair, keys, values, members, Form, number_reader, NumberReader, AreEntries, AreValues, AreKeys, entry_word, key_words, key_bytes, IsShort, HasShortElements, IsTooLarge, IsOutOfMemoryOrTooLarge, Error, trees_of-elements, keys_of-members, Holds, ArrayParts, Entries, HeaderKind, Make, AreSortedKeys, too_many, within_parts, OwnedJsonb, Makes, as_elements, HoldTrees, RunsHold, AreElementsOf, IsTooLongRoot, IsTooLongElement, IsFirst, TakesFirst, HoldPairs, ArePairsOf, AreContainerEntries, Holding, PairsHeld, PairsOpen, IsFirstPair, TakesFirstPair, many_keys, kind_number, front_of, HoldsPairs-skipped, HoldsPairs-values, StandBefore, ObjectParts, ContainerEntries, StoredEntry, PairEntries, FirstPair, PairRuns, entries_append, one_entry}
 use Rattle.jsonb_doc.specs.declared.container.Container.TheVariants.{Array, Object}
 use Rattle.jsonb_doc.specs.declared.layout.HeaderKind.TheVariants as header_kind
-use Rattle.jsonb_raw.proofs.Lists.{drop_first, none_behind}
-use Rattle.std.proofs.lemmas.List.{length-append}
+use Rattle.jsonb_raw.proofs.Lists.{drop_first}
 
 -- ---- runs one after the other
 
@@ -39,9 +38,6 @@ first_run form runs i run ts inside is h = by (subst (λ (rs : List Entries). Ru
     by : RunsHold form (run ∷ drop (i + 1) runs) ts → FirstRun form run (drop (i + 1) runs) ts
     by (xs, ys, holds, rest, joined) = record { xs = xs; ys = ys; holds = holds; others_hold = rest; joined = joined }
 
-pub no_runs_left : (form : Form) (runs : List Entries) (i : ℕ) (ts : List Tree) → length runs ≤ i → RunsHold form (drop i runs) ts → ts ≡ []
-no_runs_left form runs i ts all h = subst (λ (rs : List Entries). RunsHold form rs ts) (none_behind runs i all) h
-
 -- ---- what runs make
 
 pub array_made : (n : ℕ) (ts : List Tree) → n ≡ length ts → Make header_kind.Array n (ts ++ []) (array (trees_of ts))
@@ -61,14 +57,10 @@ short_among : (form : Form) (xs ys : List Tree) (t : Tree) → HasShortElements 
 short_among form [] ys t h = h.0
 short_among form (x ∷ xs) ys t h = short_among form xs ys t h.2
 
--- an array with an element that is too long has no document
-pub long_element : (form : Form) (xs ys : List Tree) (t : Tree) → (IsShort form t → ⊥) → IsTooLarge form (array (trees_of (xs ++ t ∷ ys)))
-long_element form xs ys t long = λ within. long (short_among form xs ys t within.1)
-
 -- a document of the elements of several fails if that of one does
 pub refused_between : (form : Form) (xs ys : List Tree) (t : Tree) (e : Error) → IsTooLongRoot form t e
     → IsOutOfMemoryOrTooLarge form (array (trees_of (xs ++ t ∷ ys))) e
-refused_between form xs ys t e h = inr (h.0, long_element form xs ys t h.1)
+refused_between form xs ys t e h = inr (h.0, λ within. h.1 (short_among form xs ys t within.1))
 
 pub refused_front : (form : Form) (t : Tree) (ys : List Tree) (e : Error) → IsTooLongElement form t e
     → IsOutOfMemoryOrTooLarge form (array (trees_of (as_elements t ++ ys))) e
@@ -89,8 +81,7 @@ refused_beside form t u place e h = rw h.1 (at place)
 -- the entries of an array, by its parts
 pub entries_of_array : (form : Form) (t : Tree) (p : ArrayParts) (entries : Entries) → entries.words.now ≡ p.words.now → entries.contents.now ≡ p.contents.now
     → Holds (number_reader form) t (Array p) → AreElementsOf form t (Some entries)
-entries_of_array form (array ts) p entries words contents h = record { entries = rw (words, contents, trees_of-elements ts) h }
-entries_of_array form _ p entries words contents h = absurd h
+entries_of_array form t p entries h e k = grind (arith, trees_of-elements)
 
 -- a tree with such entries is an array
 pub array_of_entries : (form : Form) (t : Tree) (found : Option Entries) (entries : Entries) → found ≡ Some entries → AreElementsOf form t found
@@ -99,19 +90,6 @@ array_of_entries form (array ts) found entries is h = (ts, refl, rw is at h)
 array_of_entries form _ found entries is h = absurd (rw is at h)
 
 -- ---- no entries
-
-pub empty_decodes : (form : Form) → Decodes form (header array_header 0) (array (trees_of []))
-empty_decodes form = record {
-  document = inl (
-    refl,
-    record {
-      words = [];
-      contents = [];
-      headed = record { known = omega arith; fits = omega arith; joined = sym (append-nil (header array_header 0)) };
-      parts = (refl, refl);
-    },
-  );
-}
 
 pub no_entries : (form : Form) (ts : List Tree) (r : Result OwnedJsonb Error) → 0 ≡ length ts → Makes form (array (trees_of [])) r
     → Makes form (array (trees_of ts)) r
@@ -136,23 +114,11 @@ value_there form pairs (p ∷ ps) key k v = v
 pub run_after : (form : Form) (runs : List Entries) (run : Entries) (xs ys : List Tree) → RunsHold form runs xs → HoldTrees form run ys
     → RunsHold form (runs ++ run ∷ []) (xs ++ ys)
 run_after form [] run xs ys h g = (ys, [], g, refl, ap (λ (l : List Tree). l ++ ys) h ∙ sym (append-nil ys))
-run_after form (r ∷ runs) run xs ys (zs, us, first, rest, is) g =
-    (zs, us ++ ys, first, run_after form runs run us ys rest g, ap (λ (l : List Tree). l ++ ys) is ∙ append_assoc zs us ys)
+run_after form (r ∷ runs) run xs ys (zs, us, first, rest, is) g = grind (arith, append_assoc, run_after form runs run us ys rest g)
 
 pub holding_again : (form : Form) (runs : List Entries) (entries : Entries) (xs ys : List Tree) → RunsHold form runs xs → HoldTrees form entries ys
     → Holding form runs entries entries xs ys
-holding_again form runs entries xs ys h left = record {
-  before = xs;
-  here = [];
-  run_words = [];
-  run_contents = [];
-  trees_joined = sym (append-nil xs);
-  held = h;
-  run_held = (refl, refl);
-  words_joined = refl;
-  contents_joined = refl;
-  left_hold = left;
-}
+holding_again form runs entries xs ys h left = grind (arith, append-nil)
 
 pub holding_begun : (form : Form) (entries : Entries) (ys : List Tree) → HoldTrees form entries ys → Holding form [] entries entries [] ys
 holding_begun form entries ys h = holding_again form [] entries [] ys refl h
@@ -184,44 +150,16 @@ module _ (form : Form) (runs : List Entries) (run left : Entries) (xs ys : List 
       no_trees_here [] are = refl
       no_trees_here (t ∷ ts) are = absurd (omega (arith, none, ap length are.begin.words_joined))
 
-  -- the run up to what is left is one run more
-  pub holding_pushed : (piece : Entries) (runs' : List Entries) → piece.words.now ≡ h.run_words → piece.contents.now ≡ h.run_contents
-      → runs' ≡ runs ++ piece ∷ [] → RunsHold form runs' xs
-  holding_pushed piece runs' words contents is =
-      rw (is, h.trees_joined) (run_after form runs piece h.before h.here h.held (record { entries = rw (words, contents) h.run_held }))
-
--- the run up to what is left, if there are no runs before it
-pub holding_one : (form : Form) (run left : Entries) (xs ys : List Tree) (h : Holding form [] run left xs ys) (piece : Entries) → piece.words.now ≡ h.run_words
-    → piece.contents.now ≡ h.run_contents → HoldTrees form piece xs
-holding_one form run left xs ys h piece words contents =
-    subst (HoldTrees form piece) (sym (h.trees_joined ∙ ap (λ (l : List Tree). l ++ h.here) h.held)) (record { entries = rw (words, contents) h.run_held })
-
 -- ---- the pairs of an object as it is stored
 
 pub keys_as_entries : (number_at : NumberReader) (ks : List (List ℕ)) → AreKeys ks → AreEntries number_at (trees_of (map text ks)) (key_words ks) (key_bytes ks)
 keys_as_entries number_at [] are = (refl, refl)
-keys_as_entries number_at (key ∷ ks) are = record {
-  kind = text_entry;
-  content = key;
-  other_words = key_words ks;
-  other_contents = key_bytes ks;
-  begin = record { known = omega arith; fits = are.0.1; words_joined = refl; contents_joined = refl };
-  part = (refl, refl, are.0.0);
-  others = keys_as_entries number_at ks are.2;
-}
+keys_as_entries number_at (key ∷ ks) are = grind (arith, keys_as_entries number_at ks are.2)
 
 pub values_as_entries : (number_at : NumberReader) (ps : Pairs) (words contents : List ℕ) → AreValues number_at ps words contents
     → AreEntries number_at (trees_of (values_of (members ps))) words contents
 values_as_entries number_at no_pairs words contents h = h
-values_as_entries number_at (pair key t ps) words contents h = record {
-  kind = h.kind;
-  content = h.content;
-  other_words = h.other_words;
-  other_contents = h.other_contents;
-  begin = h.begin;
-  part = h.part;
-  others = values_as_entries number_at ps h.other_words h.other_contents h.others;
-}
+values_as_entries number_at (pair key t ps) words contents h = grind (arith, values_as_entries number_at ps h.other_words h.other_contents h.others)
 
 module _ (form : Form) where
   pub values_skipped : (t : Tree) (p : ObjectParts)
@@ -245,8 +183,7 @@ module _ (form : Form) where
   -- the pairs of an object, by its parts
   pub pairs_by_parts : (t : Tree) (p : ObjectParts) (pairs : PairEntries) → Holds (number_reader form) t (Object p)
       → ((ps : Pairs) → Holds (number_reader form) (object ps) (Object p) → HoldPairs form pairs (members ps)) → ArePairsOf form t (Some pairs)
-  pairs_by_parts (object ps) p pairs h held = held ps h
-  pairs_by_parts _ p pairs h held = absurd h
+  pairs_by_parts t p pairs h e = grind arith
 
   pub no_parts : (t : Tree) (p : ObjectParts) → Holds (number_reader form) t (Object p)
       → ((ps : Pairs) → Holds (number_reader form) (object ps) (Object p) → ⊥) → ⊥
@@ -255,8 +192,7 @@ module _ (form : Form) where
   pub object_entries_are : (t : Tree) (p : ObjectParts) (e : ContainerEntries) → e.kind ≡ header_kind.Object → Holds (number_reader form) t (Object p)
       → ((ps : Pairs) → Holds (number_reader form) (object ps) (Object p) → HoldPairs form (record { keys = e.keys; values = e.values }) (members ps))
       → AreContainerEntries form t (Some e)
-  object_entries_are (object ps) p e kind h held = (kind, h.are_keys, held ps h)
-  object_entries_are _ p e kind h held = absurd h
+  object_entries_are t p e h k f = grind arith
 
   pub array_entries_are : (t : Tree) (p : ArrayParts) (e : ContainerEntries) → e.kind ≡ header_kind.Array → e.keys.words.now ≡ [] → e.keys.contents.now ≡ []
       → e.values.words.now ≡ p.words.now → e.values.contents.now ≡ p.contents.now → Holds (number_reader form) t (Array p)
@@ -275,14 +211,6 @@ pub all_values : (xs ys : List Member) → values_of (xs ++ ys) ≡ values_of xs
 all_values [] ys = refl
 all_values (x ∷ xs) ys = ap (λ ts. x.1 ∷ ts) (all_values xs ys)
 
--- more pairs in one run
-pub pairs_added : (form : Form) (runs runs' : PairRuns) (pairs : PairEntries) (xs ys : List Member) → runs'.keys.items ≡ runs.keys.items ++ pairs.keys ∷ []
-    → runs'.values.items ≡ runs.values.items ++ pairs.values ∷ [] → PairsHeld form runs xs → HoldPairs form pairs ys → PairsHeld form runs' (xs ++ ys)
-pairs_added form runs runs' pairs xs ys keys_is values_is h g = record {
-  names = rw (text_names xs ys) (rw keys_is (run_after form runs.keys.items pairs.keys (map text (keys_of xs)) (map text (keys_of ys)) h.names g.names));
-  parts = rw (all_values xs ys) (rw values_is (run_after form runs.values.items pairs.values (values_of xs) (values_of ys) h.parts g.parts));
-}
-
 -- members whose keys have no words are none
 pub pairs_none_added : (form : Form) (runs : PairRuns) (pairs : PairEntries) (xs ys : List Member) → length pairs.keys.words.now ≡ 0 → PairsHeld form runs xs
     → HoldPairs form pairs ys → PairsHeld form runs (xs ++ ys)
@@ -297,23 +225,17 @@ pairs_none_added form runs pairs xs ys none h g =
 -- a run of members begins after the runs
 pub pairs_begun : (form : Form) (runs : PairRuns) (pairs : PairEntries) (xs ys : List Member) → PairsHeld form runs xs → HoldPairs form pairs ys
     → PairsOpen form runs pairs pairs xs ys
-pairs_begun form runs pairs xs ys h g = record {
-  names = holding_again form runs.keys.items pairs.keys (map text (keys_of xs)) (map text (keys_of ys)) h.names g.names;
-  parts = holding_again form runs.values.items pairs.values (values_of xs) (values_of ys) h.parts g.parts;
-}
+pairs_begun form runs pairs xs ys h g = search (holding_again, pairs.keys, h.names, g.names, pairs.values, h.parts, g.parts)
 
 pub no_pairs_held : (form : Form) (runs : PairRuns) → runs.keys.items ≡ [] → runs.values.items ≡ [] → PairsHeld form runs []
-no_pairs_held form runs keys_none values_none =
-    record { names = rw keys_none refl; parts = rw values_none refl }
+no_pairs_held form runs keys_none values_none = grind arith
 
 -- the next pair is kept
 pub pair_kept : (form : Form) (runs : PairRuns) (run left : PairEntries) (first : FirstPair) (xs ys : List Member) (p : Member)
     → PairsOpen form runs run left xs (p ∷ ys) → IsFirstPair form left p ys first → PairsOpen form runs run first.others (xs ++ p ∷ []) ys
 pair_kept form runs run left first xs ys p h f = record {
-  names = rw (text_names xs (p ∷ [])) (holding_kept form runs.keys.items run.keys left.keys first.others.keys (map text (keys_of xs)) (map text (keys_of ys))
-      (text p.0) text_entry p.0 h.names f.name);
-  parts = rw (all_values xs (p ∷ [])) (holding_kept form runs.values.items run.values left.values first.others.values (values_of xs) (values_of ys)
-      p.1 (kind_number first.kind) first.content.now h.parts f.value);
+  names = search (text_names, holding_kept, run.keys, left.keys, first.others.keys, p.0, h.names, f.name);
+  parts = search (all_values, holding_kept, run.values, left.values, first.others.values, p.1, first.kind, h.parts);
 }
 
 pub others_hold : (form : Form) (left : PairEntries) (first : FirstPair) (ys : List Member) (p : Member) → IsFirstPair form left p ys first
@@ -380,34 +302,3 @@ pub no_pair_left : (form : Form) (pairs : PairEntries) (ps : List Member) (found
     → TakesFirstPair form pairs ps found → ps ≡ []
 no_pair_left form pairs [] found is h = refl
 no_pair_left form pairs (p ∷ ps) found is h = absurd (rw is at h)
-
--- ---- numbers of bytes
-
-pub array_within : (bytes : List ℕ) (p : ArrayParts) (e : ContainerEntries) → AreArrayParts bytes p.words.now p.contents.now → e.kind ≡ header_kind.Array
-    → e.keys.contents.now ≡ [] → e.values.words.now ≡ p.words.now → e.values.contents.now ≡ p.contents.now → AreWithin (length bytes) e
-array_within bytes p e (n, headed, many) kind none words contents = record {
-  few = omega (arith, headed.fits, many, ap length words);
-  fit = λ k fits.
-      rw kind
-      (omega (arith, many, fits, ap length headed.joined, length-append p.words.now p.contents.now, ap length none, ap length words, ap length contents));
-}
-
-pub object_within : (bytes : List ℕ) (p : ObjectParts) (e : ContainerEntries) → AreObjectParts bytes p.key_words.now p.value_words.now p.contents.now
-    → e.kind ≡ header_kind.Object → e.values.words.now ≡ p.value_words.now
-    → length e.keys.contents.now + length e.values.contents.now ≤ length p.contents.now → AreWithin (length bytes) e
-object_within bytes p e (n, headed, many_keys, many) kind words contents = record {
-  few = omega (arith, headed.fits, many, ap length words);
-  fit = λ k fits.
-      rw kind
-      (omega (
-        arith,
-        many_keys,
-        many,
-        fits,
-        ap length headed.joined,
-        length-append (p.key_words.now ++ p.value_words.now) p.contents.now,
-        length-append p.key_words.now p.value_words.now,
-        ap length words,
-        contents,
-      ));
-}

@@ -1,19 +1,13 @@
 -- What the loops of the set functions keep true.
-use Rattle.jsonb_raw.proofs.Common.{ap₂, not, ◌≡◌, ◌+◌, ◌<◌, ◌^◌, Bool, true, false, ◌||◌, cond, List, [], ◌∷◌, ◌++◌, length, map, filter, Option, Some, None, inl, inr, refl, sym, ap, subst, ◌∙◌, append_assoc, append-nil, arith, nat_tests, AllByRecursion, list_any, Tree, array, object, Trees, no_trees, tree, elements, trees_of, Form, canonical, kind_number, StoredEntry, Fits, AreInRange, IsShort, HasShortParts, HasShortElements, IsWithinLimits, IsTooLarge, IsOutOfMemoryOrTooLarge, Parts, no_parts, HoldsElements, HasElementsLeft, IsElementsOf, ElementIter, Error, array_too_large-more, as_elements, is_equal, is_equal_equiv, sum_by-cons, occurrences, overlap, count_of, intersection_of, difference_of, Occurrence, keeps, kept_one, CountsAfter, HaveSeen, HoldTrees, AreElementsOf, RunsHold, IsFirst, TakesFirst, Holding, Entries, KeyCounts, Seen, SetOperation, or_false}
-use Rattle.jsonb_raw.proofs.RunLemmas.{holding_begun, holding_kept, holding_again, entry_taken, no_entry_left}
+use Rattle.jsonb_raw.proofs.Common.{ap₂, not, ◌≡◌, ◌+◌, ◌<◌, ◌^◌, Bool, true, false, ◌||◌, cond, List, [], ◌∷◌, ◌++◌, length, map, filter, Option, Some, None, inl, inr, refl, sym, ap, subst, ◌∙◌, append_assoc, append-nil, arith, nat_tests, AllByRecursion, list_any, Tree, array, Trees, no_trees, tree, elements, trees_of, Form, canonical, kind_number, StoredEntry, Fits, AreInRange, HasShortElements, IsTooLarge, IsOutOfMemoryOrTooLarge, Parts, no_parts, HoldsElements, HasElementsLeft, IsElementsOf, ElementIter, Error, array_too_large-more, as_elements, is_equal, is_equal_equiv, sum_by-cons, occurrences, overlap, count_of, intersection_of, difference_of, keeps, kept_one, CountsAfter, HaveSeen, HoldTrees, AreElementsOf, RunsHold, IsFirst, TakesFirst, Holding, Entries, KeyCounts, Seen, SetOperation, or_false}
+use Rattle.jsonb_raw.proofs.RunLemmas.{holding_begun, holding_kept, holding_again, entry_taken}
 use Rattle.jsonb_raw.proofs.ArrayLemmas.{length-elements}
 
 -- ---- the elements of a document
 
--- a tree that has its place in an array is within the limits
-short_part : (t : Tree) → IsShort canonical t → HasShortParts canonical t → IsWithinLimits canonical t
-short_part (array ts) short parts = parts
-short_part (object ps) short parts = parts
-short_part _ short parts = short
-
 fit_elements : (ts : Trees) → AreInRange ts → HasShortElements canonical ts → AllByRecursion Fits (elements ts)
 fit_elements no_trees range short = tt
-fit_elements (tree t ts) range short = ((range.0, short_part t short.0 short.1), fit_elements ts range.1 short.2)
+fit_elements (tree t ts) range short = ((range.0, grind (arith, short.0, short.1)), fit_elements ts range.1 short.2)
 
 -- the elements of an array that fits do, and there are not too many
 pub elements_fit : (ts : Trees) → Fits (array ts) → AllByRecursion Fits (elements ts)
@@ -23,8 +17,7 @@ pub elements_few : (ts : Trees) → Fits (array ts) → length (elements ts) < 2
 elements_few ts f = omega (arith, f.1.0, length-elements ts)
 
 pub members_fit : (t : Tree) → Fits t → AllByRecursion Fits (as_elements t)
-members_fit (array ts) f = elements_fit ts f
-members_fit t f = (f, tt)
+members_fit t h = grind (arith, elements_fit)
 
 -- Holds if the tree is an array whose elements the iterator has. Without an iterator the tree counts as one element.
 pub record IsArrayOf (form : Form) (it : ElementIter) (t : Tree) : Type 0 where
@@ -33,16 +26,14 @@ pub record IsArrayOf (form : Form) (it : ElementIter) (t : Tree) : Type 0 where
   pub left : HasElementsLeft form it trees
 
 pub array_found : (form : Form) (t : Tree) (it : ElementIter) → IsElementsOf form t (Some it) → IsArrayOf form it t
-array_found form (array ts) it h = record { trees = ts; is = refl; left = h }
-array_found form t it h = absurd h
+array_found form t it h = grind arith
 
 pub no_array : (form : Form) (t : Tree) → IsElementsOf form t None → as_elements t ≡ t ∷ []
 no_array form t h = grind arith
 
 -- the same of the entries of an array
 pub no_array_entries : (form : Form) (t : Tree) (found : Option Entries) → found ≡ None → AreElementsOf form t found → as_elements t ≡ t ∷ []
-no_array_entries form (array ts) found is h = absurd (rw is at h)
-no_array_entries form _ found is h = refl
+no_array_entries form t found h e = grind arith
 
 -- one tree overlaps those that it is among
 pub overlap_one : (ts : List Tree) (u : Tree) → overlap ts (u ∷ []) ≡ list_any (is_equal u) ts
@@ -68,16 +59,6 @@ unshared_one t u b e = grind (arith, nat_tests, count_of_one t u b e)
 abbrev pub kept_behind : SetOperation → List Tree → List Tree → List Tree → List Tree
 kept_behind kind other before left = map (λ o. o.1) (filter (keeps kind other) (occurrences before left))
 
-kept_next : (kind : SetOperation) (other before : List Tree) (t : Tree) (left : List Tree)
-    → kept_one kind other (before, t) ++ kept_behind kind other (t ∷ before) left ≡ kept_behind kind other before (t ∷ left)
-kept_next kind other before t left = by (keeps kind other (before, t))
-  where
-    others : List Occurrence
-    others = filter (keeps kind other) (occurrences (t ∷ before) left)
-
-    by : (b : Bool) → cond b (t ∷ []) [] ++ map (λ o. o.1) others ≡ map (λ o. o.1) (cond b ((before, t) ∷ others) others)
-    by b = grind arith
-
 -- What is held, followed by what is kept of the elements that are left, is the whole.
 pub record KeptLeft (form : Form) (kind : SetOperation) (m : KeyCounts) (other : List Tree) (parts : Parts) (left whole : List Tree) : Type 0 where
   pub before : List Tree
@@ -101,24 +82,14 @@ KeptLeft-done form kind m other parts whole h = subst (HoldsElements form parts)
 module _ (form : Form) (kind : SetOperation) (m : KeyCounts) (other : List Tree) (parts : Parts) (first : Tree) (rest whole : List Tree)
     (h : KeptLeft form kind m other parts (first ∷ rest) whole) where
   joined_next : (h.held ++ kept_one kind other (h.before, first)) ++ kept_behind kind other (first ∷ h.before) rest ≡ whole
-  joined_next =
-      append_assoc h.held (kept_one kind other (h.before, first)) (kept_behind kind other (first ∷ h.before) rest)
-      ∙ ap (λ ts. h.held ++ ts) (kept_next kind other h.before first rest) ∙ h.joined
+  joined_next = grind (arith, append_assoc)
 
   pub few_before : length h.before < 2 ^ 63
   few_before = let few : length h.before + length (first ∷ rest) < 2 ^ 63 = h.few in omega arith
 
   pub KeptLeft-next : (n : KeyCounts) (after : Parts) → CountsAfter kind n other (first ∷ h.before)
       → HoldsElements form after (h.held ++ kept_one kind other (h.before, first)) → KeptLeft form kind n other after rest whole
-  KeptLeft-next n after behind holds = record {
-    before = first ∷ h.before;
-    held = h.held ++ kept_one kind other (h.before, first);
-    few = let few : length h.before + length (first ∷ rest) < 2 ^ 63 = h.few in omega arith;
-    fit = h.fit.1;
-    behind = behind;
-    holds = holds;
-    joined = joined_next;
-  }
+  KeptLeft-next n after behind holds = grind (arith, joined_next)
 
   pub KeptLeft-refused : (e : Error) → IsOutOfMemoryOrTooLarge form (array (trees_of (h.held ++ kept_one kind other (h.before, first)))) e
       → IsOutOfMemoryOrTooLarge form (array (trees_of whole)) e
@@ -135,10 +106,6 @@ module _ (form : Form) (kind : SetOperation) (m : KeyCounts) (other : List Tree)
 kept_in : (kind : SetOperation) (other before : List Tree) (t : Tree) (left : List Tree) → keeps kind other (before, t) ≡ true
     → kept_behind kind other before (t ∷ left) ≡ t ∷ kept_behind kind other (t ∷ before) left
 kept_in kind other before t left is = rw is refl
-
-kept_out : (kind : SetOperation) (other before : List Tree) (t : Tree) (left : List Tree) → keeps kind other (before, t) ≡ false
-    → kept_behind kind other before (t ∷ left) ≡ kept_behind kind other (t ∷ before) left
-kept_out kind other before t left is = rw is refl
 
 -- The runs, and the run that is open, hold what is kept so far; followed by what is kept of the elements that are left,
 -- it is the whole.
@@ -168,9 +135,6 @@ module _ (form : Form) (kind : SetOperation) (seen : Seen) (other : List Tree) (
   pub KeptRuns-left : HoldTrees form left h.rest
   KeptRuns-left = h.holds.left_hold
 
-  pub KeptRuns-done : TakesFirst form left h.rest None → h.held ≡ whole
-  KeptRuns-done none = sym (append-nil h.held) ∙ (rw (no_entry_left form left h.rest None refl none) at h.joined)
-
 module _ (form : Form) (kind : SetOperation) (seen : Seen) (other : List Tree) (runs : List Entries) (run left : Entries) (whole : List Tree)
     (h : KeptRuns form kind seen other runs run left whole) (entry : StoredEntry) (after_it : Entries)
     (mine : TakesFirst form left h.rest (Some (entry, after_it))) where
@@ -184,9 +148,7 @@ module _ (form : Form) (kind : SetOperation) (seen : Seen) (other : List Tree) (
     pub whole_is : h.held ++ kept_behind kind other h.before (t ∷ ts) ≡ whole
 
   pub next_of : Next
-  next_of =
-      let f = entry_taken form left h.rest (Some (entry, after_it)) entry after_it refl mine in
-      record { t = f.t; ts = f.rest; first_is = f.is_first; opened = rw f.split at h.holds; behind = rw f.split at h.behind; whole_is = rw f.split at h.joined }
+  next_of = grind (arith, entry_taken)
 
   pub KeptRuns-kept : (n : Next) (after : Seen) → keeps kind other (h.before, n.t) ≡ true → HaveSeen form kind after other (n.t ∷ h.before) n.ts
       → KeptRuns form kind after other runs run after_it whole
@@ -207,5 +169,5 @@ module _ (form : Form) (kind : SetOperation) (seen : Seen) (other : List Tree) (
     rest = n.ts;
     behind = behind;
     holds = holding_again form runs' after_it h.held n.ts pushed n.first_is.others_hold;
-    joined = ap (λ (l : List Tree). h.held ++ l) (sym (kept_out kind other h.before n.t n.ts is)) ∙ n.whole_is;
+    joined = ap (λ (l : List Tree). h.held ++ l) (sym (rw is refl)) ∙ n.whole_is;
   }

@@ -1,5 +1,5 @@
 -- What is stripped of sorted keys, and which trees and keys stay when nulls are left out.
-use Rattle.jsonb_raw.proofs.Common.{ℕ, Bool, true, false, List, cond, ◌≡◌, ◌≤◌, zero, suc, [], ◌∷◌, length, refl, sym, ap, subst, ◌∙◌, arith, ◌==◌, ◌||◌, Pairs, no_pairs, pair, keys, Tree, array, object, Trees, no_trees, tree, elements, values, members, trees_of, IsBelowFirst, IsContent, AreKeys, AreRising, keys_rise, is_null, strip, strip_pairs, strip_trees, values_of, nat_tests, Form, number_reader, container_entry, null_entry, Make, keys_of-members, pairs_of-members, ContainerEntries, AreEntriesOf, leaves_out, stripped, beside, stops, values_kept, entries_kept, length-values_of}
+use Rattle.jsonb_raw.proofs.Common.{ℕ, Bool, true, false, List, cond, ◌≡◌, ◌≤◌, zero, suc, [], ◌∷◌, length, refl, sym, ap, subst, ◌∙◌, arith, ◌==◌, ◌||◌, Pairs, no_pairs, pair, keys, Tree, array, object, Trees, no_trees, tree, elements, values, members, trees_of, IsBelowFirst, IsContent, AreKeys, AreRising, keys_rise, is_null, strip, strip_pairs, strip_trees, values_of, nat_tests, Form, number_reader, container_entry, null_entry, Make, keys_of-members, pairs_of-members, ContainerEntries, AreEntriesOf, leaves_out, stripped, beside, values_kept, entries_kept, length-values_of}
 use Rattle.std.proofs.lemmas.Cmp.{nat_list_cmp_total}
 
 -- a key below those of all pairs is below those of the pairs that stay
@@ -8,12 +8,10 @@ below_stripped low no_pairs below rising = tt
 below_stripped low (pair key t ps) below rising = by (is_null t) (below_stripped low ps (further ps rising.0) rising.1)
   where
     further : (qs : Pairs) → IsBelowFirst key (keys qs) → IsBelowFirst low (keys qs)
-    further no_pairs above = tt
-    further (pair k u qs) above = nat_list_cmp_total.trans low key k below above
+    further qs h = grind (arith, nat_list_cmp_total)
 
     by : (b : Bool) → IsBelowFirst low (keys (strip_pairs ps)) → IsBelowFirst low (keys (cond b (strip_pairs ps) (pair key (strip t) (strip_pairs ps))))
-    by true rest = rest
-    by false rest = below
+    by b h = grind arith
 
 -- ---- values that stay
 
@@ -21,14 +19,11 @@ pub trees-stripped : (ts : Trees) → trees_of (stripped false (elements ts)) �
 trees-stripped no_trees = refl
 trees-stripped (tree t ts) = ap (λ us. tree (strip t) us) (trees-stripped ts)
 
-length-stripped : (ts : List Tree) → length (stripped false ts) ≡ length ts
+pub length-stripped : (ts : List Tree) → length (stripped false ts) ≡ length ts
 length-stripped [] = refl
 length-stripped (t ∷ ts) = ap suc (length-stripped ts)
 
-pub all_elements : (ts : Trees) → length (stripped false (elements ts)) ≡ length (elements ts)
-all_elements ts = length-stripped (elements ts)
-
-values_of-stripped : (ps : Pairs) → values_of (members (strip_pairs ps)) ≡ stripped true (elements (values ps))
+pub values_of-stripped : (ps : Pairs) → values_of (members (strip_pairs ps)) ≡ stripped true (elements (values ps))
 values_of-stripped no_pairs = refl
 values_of-stripped (pair key t ps) = grind (arith, values_of-stripped ps)
 
@@ -54,22 +49,8 @@ is_some (suc n) other = grind (arith, nat_tests)
 abbrev pub stops_kind : Bool → ℕ → Bool
 stops_kind is_object kind = (kind == container_entry) || leaves_out is_object (kind == null_entry)
 
--- a tree that doesn't change stays
-pub stays : (is_object : Bool) (t : Tree) (ts : List Tree) → stops is_object t ≡ false → stripped is_object (t ∷ ts) ≡ t ∷ stripped is_object ts
-stays is_object t ts h = grind arith
-
-leaves_none : (is_object : Bool) → leaves_out is_object false ≡ false
+pub leaves_none : (is_object : Bool) → leaves_out is_object false ≡ false
 leaves_none is_object = grind arith
-
--- a container stays, without its nulls
-pub container_stays : (form : Form) (is_object : Bool) (t : Tree) (ts : List Tree) (bytes : List ℕ) → IsContent (number_reader form) t container_entry bytes
-    → stripped is_object (t ∷ ts) ≡ strip t ∷ stripped is_object ts
-container_stays form is_object t ts bytes h = grind (arith, null_kind, leaves_none)
-
--- a tree that changes and is not a container is left out
-pub left_out : (form : Form) (is_object : Bool) (t : Tree) (ts : List Tree) (kind : ℕ) (bytes : List ℕ) → IsContent (number_reader form) t kind bytes
-    → (kind ≡ container_entry → ⊥) → stops is_object t ≡ true → stripped is_object (t ∷ ts) ≡ stripped is_object ts
-left_out form is_object t ts kind bytes h k e = grind arith
 
 -- ---- keys
 
@@ -78,8 +59,7 @@ keys_stripped no_pairs are = tt
 keys_stripped (pair key t ps) are = by (is_null t) (keys_stripped ps are.2)
   where
     by : (b : Bool) → AreKeys (keys (strip_pairs ps)) → AreKeys (keys (cond b (strip_pairs ps) (pair key (strip t) (strip_pairs ps))))
-    by true h = h
-    by false h = (are.0, below_stripped key ps are.1 (keys_rise (keys ps) are.2), h)
+    by b h = grind (arith, below_stripped, keys_rise)
 
 pub fewer_keys : (ps : Pairs) → length (keys (strip_pairs ps)) ≤ length (keys ps)
 fewer_keys no_pairs = omega arith
@@ -98,13 +78,9 @@ pub all_keys : (ps : Pairs) → length (keys ps) ≤ length (keys (strip_pairs p
 all_keys no_pairs same = refl
 all_keys (pair key t ps) same = grind (arith, fewer_keys ps, all_keys ps, same)
 
-many_keys : (ps : Pairs) → length (keys ps) ≡ length (members ps)
+pub many_keys : (ps : Pairs) → length (keys ps) ≡ length (members ps)
 many_keys no_pairs = refl
 many_keys (pair key t ps) = ap suc (many_keys ps)
-
--- as many keys stay as values
-pub keys_count : (ps : Pairs) → length (stripped true (elements (values ps))) ≡ length (keys (strip_pairs ps))
-keys_count ps = ap length (sym (values_of-stripped ps)) ∙ length-values_of (members (strip_pairs ps)) ∙ sym (many_keys (strip_pairs ps))
 
 pub as_many_keys : (ps : Pairs) → length (keys ps) ≡ length (elements (values ps))
 as_many_keys no_pairs = refl

@@ -31,8 +31,7 @@ module _ {F : Type 0} (calls : Shared F (Bor (List ℕ) × Unit {0}) Bool) (func
   told_none k d below = absurd (omega (arith, below))
 
   pub told_alone : (x : List ℕ) (answer : Bool) → FnReturnsAt calls func x answer → Tells calls func (x ∷ []) answer
-  told_alone x true h = any_head (Answered true) x [] h
-  told_alone x false h = All-cons (Answered false) x [] h told_none
+  told_alone x answer h = grind (arith, any_head, All-cons, told_none)
 
   pub told_first : (xs ys : List (List ℕ)) → Tells calls func xs true → Tells calls func (xs ++ ys) true
   told_first xs ys h = any_in_first (Answered true) xs ys h
@@ -78,14 +77,9 @@ module _ {F : Type 0} (calls : Shared F (Bor (List ℕ) × Unit {0}) Bool) (func
         decides h false k = l.rest (told_then (texts t) ys k false h)
 
     pub leaves_told : (ss : List (List ℕ)) (answer : Bool) → Tells calls func ss answer → LeavesTexts calls func form ss answer None
-    leaves_told ss true h = h
-    leaves_told ss false h = h
+    leaves_told ss answer h = grind arith
 
 module _ (form : Form) (e : StoredEntry) where
   -- an entry of that kind is the text of its bytes
   pub text_stored : (t : Tree) → Stores form e t → (kind_number e.kind == 1) ≡ true → texts t ≡ e.content.now ∷ []
   text_stored t h e = grind (arith, eqb-true, text_content)
-
-  -- what is neither a string nor a container has none
-  pub no_texts : (t : Tree) → Stores form e t → (kind_number e.kind == 1) ≡ false → (kind_number e.kind == 5) ≡ false → texts t ≡ []
-  no_texts t h k e = grind arith

@@ -1,5 +1,5 @@
 -- The keys of trees, with any rests after them, rank as the trees do.
-use Rattle.jsonb_raw.proofs.Common.{◌≡◌, ◌≢◌, ◌⊎◌, ℕ, suc, ◌+◌, ◌<◌, ◌≤◌, List, [], ◌∷◌, ◌++◌, Bool, true, false, inl, inr, refl, sym, ap, ap₂, subst, ◌∙◌, arith, nat_cmp, Ordering, Less, Greater, append_assoc, mod-eq_of_lt, ordering_then, Width, to_be_bytes, byte_len, cases_order, nat_cmp_refl, then_assoc, Tree, Trees, Pairs, extension_payload, deepest, deepest_of_trees, deepest_of_pairs, IsInRange, AreInRange, ValuesAreInRange, rank, tree_cmp, trees_cmp, pairs_cmp, sortable_key, keys_of_trees, keys_of_pairs, depths, item_bytes, text_bytes, number_bytes, IsRest, bytes_cmp}
+use Rattle.jsonb_raw.proofs.Common.{◌≡◌, ◌≢◌, ◌⊎◌, ℕ, suc, ◌+◌, ◌<◌, ◌≤◌, List, [], ◌∷◌, ◌++◌, Bool, true, false, inr, refl, sym, ap, ap₂, subst, ◌∙◌, arith, nat_cmp, Ordering, Less, Greater, append_assoc, mod-eq_of_lt, ordering_then, Width, to_be_bytes, byte_len, cases_order, nat_cmp_refl, then_assoc, Tree, Trees, Pairs, extension_payload, deepest, deepest_of_trees, deepest_of_pairs, IsInRange, AreInRange, ValuesAreInRange, rank, tree_cmp, trees_cmp, pairs_cmp, sortable_key, keys_of_trees, keys_of_pairs, depths, item_bytes, text_bytes, number_bytes, IsRest, bytes_cmp}
 use Rattle.jsonb_raw.proofs.Ranking.{Ranks-bytes_high_first, Ranks-text_bytes}
 use Rattle.jsonb_raw.proofs.NumberKeys.{Ranks-number_bytes, bounded_from_fits}
 use Rattle.jsonb_raw.proofs.ExtensionLeaves.{LacksExtension, LackExtension, ValuesLackExtension}
@@ -23,8 +23,7 @@ depth_ranks w d e r s hd he = (Ranks-bytes_high_first (byte_len w) d e).ranks r 
 -- two items at one depth: their kinds decide, and otherwise their contents with what follows them
 pub items_rank : (w : Width) (d k l : ℕ) (xs ys r s : List ℕ) → d < depths w
     → bytes_cmp (item_bytes w d k xs ++ r) (item_bytes w d l ys ++ s) ≡ ordering_then (nat_cmp k l) (bytes_cmp (xs ++ r) (ys ++ s))
-items_rank w d k l xs ys r s h =
-    cc (append_assoc (to_be_bytes w d) (k ∷ xs) r, append_assoc (to_be_bytes w d) (l ∷ ys) s, depth_ranks w d d (k ∷ xs ++ r) (l ∷ ys ++ s) h h, nat_cmp_refl d)
+items_rank w d k l xs ys r s h = grind (arith, append_assoc, depth_ranks, nat_cmp_refl)
 
 -- items of one kind
 same_kind : (w : Width) (d k : ℕ) (xs ys r s : List ℕ) (o : Ordering) → d < depths w → bytes_cmp (xs ++ r) (ys ++ s) ≡ ordering_then o (bytes_cmp r s)
@@ -41,8 +40,7 @@ other_kind w d k l xs ys r s h ne = items_rank w d k l xs ys r s h ∙ by_order 
 
 -- what may follow an item at one depth may follow one further down
 IsRest-deeper : (w : Width) (d : ℕ) (r : List ℕ) → IsRest w d r → IsRest w (suc d) r
-IsRest-deeper w d r (inl e) = inl e
-IsRest-deeper w d r (inr h) = inr (h.0, h.1, omega arith, h.3)
+IsRest-deeper w d r h = grind arith
 
 -- an item, with anything after it, may follow an item at its depth
 pub IsRest-item : (w : Width) (d k : ℕ) (xs r : List ℕ) → IsRest w d (item_bytes w d k xs ++ r)
@@ -82,10 +80,7 @@ IsRest-trees w (Trees.tree t ts) d r h =
     (IsRest-item w (suc d) (rank t) i.0 (keys_of_trees w ts (suc d) ++ r))
 
 IsRest-pairs : (w : Width) (ps : Pairs) (d : ℕ) (r : List ℕ) → IsRest w d r → IsRest w (suc d) (keys_of_pairs w ps (suc d) ++ r)
-IsRest-pairs w Pairs.no_pairs d r h = IsRest-deeper w d r h
-IsRest-pairs w (Pairs.pair k v ps) d r h =
-    subst (IsRest w (suc d)) (sym (append_assoc (item_bytes w (suc d) 5 (text_bytes k)) (sortable_key w v (suc d) ++ keys_of_pairs w ps (suc d)) r))
-    (IsRest-item w (suc d) 5 (text_bytes k) ((sortable_key w v (suc d) ++ keys_of_pairs w ps (suc d)) ++ r))
+IsRest-pairs w ps d r h = grind (arith, IsRest-deeper, append_assoc, IsRest-item)
 
 pub rank_boolean : (b : Bool) → (2 ≤ rank (Tree.boolean b)) × (rank (Tree.boolean b) ≤ 3)
 rank_boolean true = omega arith
@@ -156,5 +151,4 @@ mutual
       apart : (k : List ℕ) (t : Tree) (ps : Pairs) (r : List ℕ)
           → keys_of_pairs w (Pairs.pair k t ps) (suc d) ++ r
           ≡ item_bytes w (suc d) 5 (text_bytes k) ++ (sortable_key w t (suc d) ++ (keys_of_pairs w ps (suc d) ++ r))
-      apart k t ps r = append_assoc (item_bytes w (suc d) 5 (text_bytes k)) (sortable_key w t (suc d) ++ keys_of_pairs w ps (suc d)) r
-          ∙ ap (λ x. item_bytes w (suc d) 5 (text_bytes k) ++ x) (append_assoc (sortable_key w t (suc d)) (keys_of_pairs w ps (suc d)) r)
+      apart k t ps r = grind (arith, append_assoc)

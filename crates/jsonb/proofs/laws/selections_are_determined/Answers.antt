@@ -1,4 +1,4 @@
-use Rattle.jsonb.proofs.Common.{◌≡◌, ◌∙◌, sym, List, [], ◌∷◌, ℕ, ap, ap₂, refl, Option, Some, None, Result, Ok, Err, IfOk, IfSome, Vec, AllZip, AllByRecursion, Outcome, SameOption, AreBytes, Tree, canonical, Decodes, Error, one_canonical_document, OwnedJsonb, AreAll, IsArrayOf, IsPicked}
+use Rattle.jsonb.proofs.Common.{arith, ◌≡◌, ◌∙◌, sym, List, [], ◌∷◌, ℕ, ap, ap₂, refl, Option, Some, None, Result, Ok, Err, IfOk, IfSome, Vec, AllZip, AllByRecursion, Outcome, Refines, SameOption, AreBytes, Tree, canonical, Decodes, Error, one_canonical_document, OwnedJsonb}
 use Rattle.std.specs.declared.alloc.Global.{Global}
 use Rattle.jsonb.proofs.laws.selections_are_determined.Goals as goal
 
@@ -11,44 +11,30 @@ one_document t made other h k all all' =
 each_document : (ts : List Tree) (made other : List OwnedJsonb) → AllZip (Decodes canonical) made ts
     → AllZip (Decodes canonical) other ts → AllByRecursion AreBytes made → AllByRecursion AreBytes other → other ≡ made
 each_document [] [] [] h k all all' = refl
-each_document [] [] (y ∷ ys) h k all all' = elim k [ ]
-each_document (t ∷ ts) (x ∷ xs) [] h k all all' = elim k [ ]
 each_document (t ∷ ts) (x ∷ xs) (y ∷ ys) h k all all' =
     ap₂ (λ first rest. first ∷ rest) (one_document t x y h.0 k.0 all.0 all'.0) (each_document ts xs ys h.1 k.1 all.1 all'.1)
-each_document _ _ other h k all all' = elim h [ ]
+each_document _ _ _ h k all all' = grind arith
 
 maybe_document : (found : Option Tree) (made other : Option OwnedJsonb) → SameOption (Decodes canonical) made found
     → SameOption (Decodes canonical) other found → IfSome made AreBytes → IfSome other AreBytes → other ≡ made
 maybe_document None None None h k all all' = refl
-maybe_document None None (Some y) h k all all' = elim k [ ]
-maybe_document (Some t) (Some x) None h k all all' = elim k [ ]
 maybe_document (Some t) (Some x) (Some y) h k all all' = ap Some (one_document t x y h k all all')
-maybe_document _ _ other h k all all' = elim h [ ]
+maybe_document _ _ _ h k all all' = grind arith
 
-all : (meaning : Outcome (List Tree)) (r s : Result (Vec OwnedJsonb Global) Error)
-    → AreAll Decodes canonical meaning r → AreAll Decodes canonical meaning s
-    → IfOk r (λ made. IfOk s (λ other. AllByRecursion AreBytes made.items → AllByRecursion AreBytes other.items
-    → other.items ≡ made.items))
-all (Ok ts) (Ok made) (Ok other) h k = each_document ts made.items other.items h.ok k.ok
-all (Err e) (Ok made) s h k = elim h.ok [ ]
-all (Ok ts) (Ok made) (Err e) h k = tt
-all meaning (Err e) s h k = tt
-
-whole : (meaning : Outcome (List Tree)) (r s : Result OwnedJsonb Error)
-    → IsArrayOf canonical meaning r → IsArrayOf canonical meaning s
-    → IfOk r (λ made. IfOk s (λ other. AreBytes made → AreBytes other → other ≡ made))
-whole (Ok ts) (Ok made) (Ok other) h k = one_document _ made other h.ok k.ok
-whole (Err e) (Ok made) s h k = elim h.ok [ ]
-whole (Ok ts) (Ok made) (Err e) h k = tt
-whole meaning (Err e) s h k = tt
-
-picked : (pick : List Tree → Option Tree) (meaning : Outcome (List Tree)) (r s : Result (Option OwnedJsonb) Error)
-    → IsPicked pick canonical meaning r → IsPicked pick canonical meaning s
-    → IfOk r (λ made. IfOk s (λ other. IfSome made AreBytes → IfSome other AreBytes → other ≡ made))
-picked pick (Ok ts) (Ok made) (Ok other) h k = maybe_document (pick ts) made other h.ok k.ok
-picked pick (Err e) (Ok made) s h k = elim h.ok [ ]
-picked pick (Ok ts) (Ok made) (Err e) h k = tt
-picked pick meaning (Err e) s h k = tt
+-- two results of one meaning
+both : {A T : Type 0} {R : A → T → Type 0} {E : Error → Type 0} (Q : A → A → Type 0) → ((t : T) (a b : A) → R a t → R b t → Q a b)
+    → (meaning : Outcome T) (r s : Result A Error) → Refines R E r meaning → Refines R E s meaning → IfOk r (λ a. IfOk s (λ b. Q a b))
+both Q q (Ok t) (Ok a) (Ok b) h k = q t a b h.ok k.ok
+both Q q (Err e) (Ok a) s h k = elim h.ok [ ]
+both Q q (Ok t) (Ok a) (Err e) h k = tt
+both Q q meaning (Err e) s h k = tt
 
 pub returns : goal.returns
-returns c = record { all = all; array = whole; picked = picked }
+returns c = record {
+  all = λ meaning r s. both (λ (made other : Vec OwnedJsonb Global). AllByRecursion AreBytes made.items → AllByRecursion AreBytes other.items
+      → other.items ≡ made.items) (λ ts made other h k. each_document ts made.items other.items h k) meaning r s;
+  array = λ meaning r s. both (λ (made other : OwnedJsonb). AreBytes made → AreBytes other → other ≡ made)
+      (λ ts made other h k. one_document _ made other h k) meaning r s;
+  picked = λ pick meaning r s. both (λ (made other : Option OwnedJsonb). IfSome made AreBytes → IfSome other AreBytes → other ≡ made)
+      (λ ts made other h k. maybe_document (pick ts) made other h k) meaning r s;
+}

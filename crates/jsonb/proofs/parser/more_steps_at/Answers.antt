@@ -1,4 +1,4 @@
-use Rattle.jsonb.proofs.Common.{◌≡◌, ◌<◌, ◌++◌, ◌∷◌, [], length, sym, Some, map_push, path_step, steps_view, step_view, loop-goes, loop-ends}
+use Rattle.jsonb.proofs.Common.{rules, ◌≡◌, ◌<◌, ◌++◌, ◌∷◌, [], length, sym, Some, map_push, path_step, steps_view, step_view, loop-goes, loop-ends}
 use Rattle.jsonb.proofs.parser.more_steps_at.Goals as goal
 
 pub loop-steps-preserved : goal.loop-steps-preserved
@@ -12,6 +12,4 @@ loop-steps-preserved c =
     (step_view c.in-Some.next) c.in-Some.after.now _ (sym reads) shorter c.loop-steps.invariant)
 
 pub returns : goal.returns
-returns c =
-    sym (loop-ends path_step (steps_view c.loop-steps.steps.items) c.loop-steps.rest.now _ (sym
-    (rw c.in_default.is at c.in_ok-next.ensures.value)) c.loop-steps.invariant)
+returns c = search (rules, loop-ends)

@@ -1,16 +1,13 @@
-use Rattle.jsonb_doc.proofs.Common.{◌≡◌, ◌≢◌, ℕ, ◌+◌, ◌<◌, arith, nat_eq, if◌then◌else◌, sym, ap, ◌∙◌, length, Some, None, ◌↔◌, option_copied, false≢true, nat_tests, nil_from_length, length-append, common_steps, NumberReader, number_or_unsupported, HasContent, HasEntries, HasLarge, kind_number, Container}
+use Rattle.jsonb_doc.proofs.Common.{rules, ◌≡◌, ◌≢◌, ℕ, ◌+◌, ◌<◌, arith, nat_eq, if◌then◌else◌, sym, ap, ◌∙◌, length, Some, None, ◌↔◌, option_copied, false≢true, nat_tests, nil_from_length, length-append, common_steps, NumberReader, number_or_unsupported, HasContent, HasEntries, HasLarge, kind_number, Container}
 use Rattle.jsonb_doc.proofs.Entries.{HasEntries-nil, HasEntries-empty, HasEntries-stop, HasEntries-step, has_content_lenient}
 use Rattle.jsonb_doc.proofs.Halves.{halvings-more, halvings-fewer}
 use Rattle.jsonb_doc.proofs.CheckingLemmas.{Leaves-along, Leaves-entries, Leaves-good, Leaves-unsupported, IsValidationError-other, IsApart-within, IsApart-less, IsApart-one, IsApart-large}
 use Rattle.jsonb_doc.proofs.KindLemmas.{same_kind, other_kind}
+use Rattle.jsonb_doc.proofs.checking.+check.Goals.{check_entries-then-eq+then-entry-half, check_entries-else-eq+in-Ok, check_entries-else-eq+in-Err+in-UnsupportedNumber}
 use Rattle.jsonb_doc.proofs.checking.+check.Goals as goal
-use Rattle.jsonb_doc.proofs.checking.+check.Goals.{check_entries-else-eq-via-then-eq+else-entry-half, check_entries-else-eq-via-else-eq, check_entries-then-eq+then-entry-half, check_entries-else-eq+in-Ok, check_entries-else-eq+in-Err+in-UnsupportedNumber}
 
 pub check_container-check_entries-requires : goal.check_container-check_entries-requires
-check_container-check_entries-requires t c =
-    let more = halvings-more (length c.in-Some.contents.now + 4) (length c.args.bytes.now)
-    (omega (arith, c.in-Some.ensures.shorter, c.loop-words.invariant.shorter)) in
-    (omega (arith, more, c.decreases), tt)
+check_container-check_entries-requires c = search (rules, halvings-more)
 
 pub check_container-returns-in_default-check_entries : goal.check_container-returns-in_default-check_entries
 check_container-returns-in_default-check_entries t c = λ h.
@@ -23,88 +20,67 @@ check_container-loop-words-preserved t c =
     let found = rw c.in-Some-large.is at c.in-Some-check_entries.ensures in
     record {
       shorter = omega (arith, found.0, parts.shorter, inv.shorter);
-      left = Leaves-entries c.loop-words.is_supported c.in-Some-check_entries.entries.is_supported c.args.bytes.now c.loop-words.container.now
-          c.in-Some.words.now c.in-Some.contents.now (Some c.in-Some-large.large.now) inv.left parts found.1;
+      left = Leaves-entries _ _ _ _ _ _ (Some c.in-Some-large.large.now) inv.left parts found.1;
     }
 
 pub check_container-returns-then-is_supported : goal.check_container-returns-then-is_supported
 check_container-returns-then-is_supported t c =
-    let found = rw c.in_default-large.is at c.in-Some-check_entries.ensures in
-    let all = Leaves-entries c.loop-words.is_supported c.in-Some-check_entries.entries.is_supported c.args.bytes.now c.loop-words.container.now
-    c.in-Some.words.now c.in-Some.contents.now None c.loop-words.invariant.left c.in-Some.ensures found.1 in
+    let all = Leaves-entries _ _ _ _ _ _ None c.loop-words.invariant.left c.in-Some.ensures (rw c.in_default-large.is at c.in-Some-check_entries.ensures).1 in
     all.strict.1 (c.if-is_supported.true, tt)
 
 pub check_container-returns-else-is_supported : goal.check_container-returns-else-is_supported
 check_container-returns-else-is_supported t c =
-    let found = rw c.in_default-large.is at c.in-Some-check_entries.ensures in
-    let all = Leaves-entries c.loop-words.is_supported c.in-Some-check_entries.entries.is_supported c.args.bytes.now c.loop-words.container.now
-    c.in-Some.words.now c.in-Some.contents.now None c.loop-words.invariant.left c.in-Some.ensures found.1 in
+    let all = Leaves-entries _ _ _ _ _ _ None c.loop-words.invariant.left c.in-Some.ensures (rw c.in_default-large.is at c.in-Some-check_entries.ensures).1 in
     (λ h. let both = (all.strict.0 h).0 in absurd (false≢true (sym c.if-is_supported.false ∙ both)), all.lenient.1 tt)
 
 pub check_entries-returns-in_default : goal.check_entries-returns-in_default
 check_entries-returns-in_default t c = λ h.
-    HasEntries-stop number_or_unsupported c.loop-words_left.words_left.now c.loop-words_left.contents_left.now
-    (grind (arith, common_steps)) c.in_default.ensures (c.loop-words_left.invariant.left.lenient.0 h).1
+    HasEntries-stop number_or_unsupported _ _ (grind (arith, common_steps)) c.in_default.ensures (c.loop-words_left.invariant.left.lenient.0 h).1
 
 -- what is not a container makes no more calls
 other_below : (kind calls t : ℕ) → kind ≢ 5 → 0 < t → (if nat_eq kind 5 then calls else 0) < t
 other_below kind calls t other some = grind (arith, nat_tests)
 
 pub check_entries-check_content-requires : goal.check_entries-check_content-requires
-check_entries-check_content-requires t c = elim c.else-eq.branch [
-  | check_entries-else-eq-via-then-eq+else-entry-half w ↦
-      let fewer = halvings-fewer (length c.in-Some.entry.content.now) (length c.args.contents.now + 4) (omega arith) (omega (arith, w.if-entry-half.false)) in
-      rw (same_kind _ c.in-Some.entry.kind Container c.eq.ensures w.if-eq.true) (omega (arith, fewer, c.decreases), tt)
-  | check_entries-else-eq-via-else-eq w ↦ (
-    other_below (kind_number c.in-Some.entry.kind) _ t (other_kind _ c.in-Some.entry.kind Container c.eq.ensures w.if-eq.false)
-        (omega (arith, c.decreases)),
-    tt,
-  )
-]
+check_entries-check_content-requires c = grind (arith, halvings-fewer, same_kind, other_below, other_kind)
 
 pub check_entries-returns-in_default-error : goal.check_entries-returns-in_default-error
 check_entries-returns-in_default-error t c = λ h.
-    let step = HasEntries-step number_or_unsupported _ _ _ _ _ _ c.in-Some.ensures in
     IsValidationError-other
     (HasContent (kind_number c.in-Some.entry.kind) c.in-Some.entry.content.now) c.in-Err.error c.in_default-error.not-UnsupportedNumber c.in-Err.ensures
-    (step.0 (c.loop-words_left.invariant.left.lenient.0 h).1).0
+    ((HasEntries-step number_or_unsupported _ _ _ _ _ _ c.in-Some.ensures).0 (c.loop-words_left.invariant.left.lenient.0 h).1).0
 
 pub check_entries-loop-words_left-preserved : goal.check_entries-loop-words_left-preserved
 check_entries-loop-words_left-preserved t c =
     let inv = c.loop-words_left.invariant in
     let b = c.in-Some.ensures in
-    let kind = kind_number c.in-Some.entry.kind in
     let content = c.in-Some.entry.content.now in
-    let ws = c.in-Some.entry.other_words.now in
-    let cs = c.in-Some.entry.other_contents.now in
+    let others = c.in-Some.entry.other_contents.now in
     let large = option_copied c.loop-words_left.large in
-    let Whole = HasEntries c.args.words.now c.args.contents.now in
-    let Left : NumberReader → Type 0 = λ r. HasLarge large r × HasEntries c.loop-words_left.words_left.now c.loop-words_left.contents_left.now r in
-    let Others : NumberReader → Type 0 = λ r. HasLarge large r × HasEntries ws cs r in
-    let len : length c.loop-words_left.contents_left.now ≡ length content + length cs = ap length b.contents_joined ∙ length-append content cs in
-    let split : (r : NumberReader) → Left r ↔ (HasContent kind content r × Others r) = λ r.
+    let len : length c.loop-words_left.contents_left.now ≡ length content + length others = ap length b.contents_joined ∙ length-append content others in
+    let split : (r : NumberReader) → (HasLarge large r × HasEntries c.loop-words_left.words_left.now c.loop-words_left.contents_left.now r)
+    ↔ (HasContent (kind_number c.in-Some.entry.kind) content r × (HasLarge large r × HasEntries c.in-Some.entry.other_words.now others r)) = λ r.
     let step = HasEntries-step r _ _ _ _ _ _ b in
     (λ h. let k = step.0 h.1 in (k.0, (h.0, k.1)), λ h. (h.1.0, step.1 (h.0, h.1.1))) in
     elim c.if-eq.branch [
       | check_entries-then-eq+then-entry-half w ↦
-          let none = IsApart-one large c.loop-words_left.contents_left.now c.args.contents.now content inv.apart (omega (arith, len)) w.if-entry-half.true in
-          let within = IsApart-within large c.loop-words_left.contents_left.now c.args.contents.now inv.apart in
+          let none = IsApart-one large _ _ content inv.apart (omega (arith, len)) w.if-entry-half.true in
+          let within = IsApart-within large _ _ inv.apart in
           rw (w.is_supported-is, w.large-is) (record {
             apart = (w.if-entry-half.true, omega (arith, len, within));
-            left = Leaves-along c.loop-words_left.is_supported Whole Left _ (λ r.
-                let step = rw (same_kind _ c.in-Some.entry.kind Container c.eq.ensures w.if-eq.true) at (HasEntries-step r _ _ _ _ _ _ b) in
+            left = Leaves-along _ _ _ _ (λ r.
+                let step = rw (same_kind _ _ Container c.eq.ensures w.if-eq.true) at (HasEntries-step r _ _ _ _ _ _ b) in
                 (λ h. step.0 h.1, λ h. (rw none tt, step.1 h))) inv.left;
           })
       | check_entries-else-eq+in-Ok w ↦ rw (w.is_supported-is, w.large-is) (record {
-        apart = IsApart-less large c.loop-words_left.contents_left.now cs c.args.contents.now (omega (arith, len)) inv.apart;
-        left = Leaves-good c.loop-words_left.is_supported Whole Left (HasContent kind content) Others inv.left split w.in-Ok.ensures
-            (has_content_lenient _ _ w.in-Ok.ensures);
+        apart = IsApart-less large _ others _ (omega (arith, len)) inv.apart;
+        left = Leaves-good _ _ _ _ _ inv.left split w.in-Ok.ensures (has_content_lenient _ _ w.in-Ok.ensures);
       })
       | check_entries-else-eq+in-Err+in-UnsupportedNumber w ↦
           let refused = rw w.in-UnsupportedNumber.is at w.in-Err.ensures in
           rw (w.is_supported-is, w.large-is) (record {
-            apart = IsApart-less large c.loop-words_left.contents_left.now cs c.args.contents.now (omega (arith, len)) inv.apart;
-            left = Leaves-unsupported c.loop-words_left.is_supported Whole Left (HasContent kind content) Others inv.left split refused.0 refused.1;
+            apart = IsApart-less large _ others _ (omega (arith, len)) inv.apart;
+            left = Leaves-unsupported _ _ _ _ _ inv.left split refused.0 refused.1;
           })
     ]
 
@@ -116,16 +92,4 @@ check_entries-returns-then-not-is_empty t c = λ h.
     grind (arith, common_steps)
 
 pub check_entries-returns : goal.check_entries-returns
-check_entries-returns t c =
-    let inv = c.loop-words_left.invariant in
-    let large = option_copied c.loop-words_left.large in (
-      IsApart-large large c.loop-words_left.contents_left.now c.args.contents.now inv.apart,
-      Leaves-along c.loop-words_left.is_supported (HasEntries c.args.words.now c.args.contents.now) _ (HasLarge large) (λ r. (
-        λ h. h.0,
-        λ h. (
-          h,
-          HasEntries-nil r _ _ (nil_from_length c.loop-words_left.words_left.now (grind (arith, common_steps)))
-              (nil_from_length c.loop-words_left.contents_left.now (grind (arith, common_steps))),
-        ),
-      )) inv.left,
-    )
+check_entries-returns t c = grind (arith, common_steps, IsApart-large, Leaves-along, HasEntries-nil)

@@ -1,4 +1,4 @@
-use Rattle.jsonb_doc.proofs.Common.{arith, number_or_unsupported}
+use Rattle.jsonb_doc.proofs.Common.{rules, arith, number_or_unsupported}
 use Rattle.jsonb_doc.proofs.Containers.{IsCut-scalar, HasContent-array, HasContent-keys, HasContent-object, HasKeys-room}
 use Rattle.jsonb_doc.proofs.checking.split_container.Goals as goal
 
@@ -7,10 +7,7 @@ returns-in-Scalar c = λ h.
     IsCut-scalar number_or_unsupported c.args.bytes.now c.in-Scalar.field-0 (rw c.in-Scalar.is at c.in-Ok.ensures.cut) h.0 h.1
 
 pub returns-in-Array : goal.returns-in-Array
-returns-in-Array c = record {
-  shorter = rw c.in-Array.is at c.in-Ok.ensures.room;
-  same = HasContent-array c.args.bytes.now c.in-Array.parts (rw c.in-Array.is at c.in-Ok.ensures.cut);
-}
+returns-in-Array c = search (rules, HasContent-array, (rw c.in-Array.is at c.in-Ok.ensures.room), (rw c.in-Array.is at c.in-Ok.ensures.cut))
 
 pub returns-in_err-contents-in-Object : goal.returns-in_err-contents-in-Object
 returns-in_err-contents-in-Object c = rw c.from_residual.ensures
@@ -19,8 +16,7 @@ returns-in_err-contents-in-Object c = rw c.from_residual.ensures
 pub returns-in_ok-contents-in-Object : goal.returns-in_ok-contents-in-Object
 returns-in_ok-contents-in-Object c =
     let found = c.in_ok-contents-in-Object.ensures in
-    let room = rw c.in-Object.is at c.in-Ok.ensures.room in
     record {
-      shorter = omega (arith, room, HasKeys-room _ _ _ found);
+      shorter = omega (arith, (rw c.in-Object.is at c.in-Ok.ensures.room), HasKeys-room _ _ _ found);
       same = HasContent-object c.args.bytes.now c.in-Object.parts (rw c.in-Object.is at c.in-Ok.ensures.cut) _ found;
     }

@@ -5,18 +5,14 @@ use Rattle.jsonb_doc.proofs.child_positions.first_entry.Goals as goal
 pub returns-in_err-spot-clause-first : goal.returns-in_err-spot-clause-first
 returns-in_err-spot-clause-first c = λ t ts h.
     let words = c.new-entries.ensures.words in
-    let spots = at_spots c.args.bytes.now c.args.left c.args.at (t ∷ ts) c.new-entries.result h (words ∙ c.in-Some.ensures.1)
-    c.new-entries.ensures.start c.new-entries.ensures.end in
-    absurd (first_not_read c.args.bytes.now t ts c.new-entries.result c.in-Some-next.first _ c.next.new.self c.in-Some-next.ensures.steps c.in_err-spot.was spots)
+    let spots = at_spots _ _ _ (t ∷ ts) _ h (words ∙ c.in-Some.ensures.1) c.new-entries.ensures.start c.new-entries.ensures.end in
+    absurd (first_not_read _ t ts _ _ _ _ c.in-Some-next.ensures.steps c.in_err-spot.was spots)
 
 pub returns-clause-first : goal.returns-clause-first
 returns-clause-first c = λ t ts h.
     let words = c.new-entries.ensures.words ∙ c.in-Some.ensures.1 in
-    let spots = at_spots c.args.bytes.now c.args.left c.args.at (t ∷ ts) c.new-entries.result h words
-    c.new-entries.ensures.start c.new-entries.ensures.end in
-    let f = first_read c.args.bytes.now t ts c.new-entries.result c.in-Some-next.first c.in_ok-spot.spot c.next.new.self
-    c.in-Some-next.ensures.steps c.in_ok-spot.was spots in (
+    let spots = at_spots _ _ _ (t ∷ ts) _ h words c.new-entries.ensures.start c.new-entries.ensures.end in
+    let f = first_read _ t ts _ _ _ _ c.in-Some-next.ensures.steps c.in_ok-spot.was spots in (
       f.marks,
-      others_at c.args.bytes.now c.args.left c.args.at _ t ts c.new-entries.result c.next.new.self c.in_ok-spot.spot c.requires
-          h words f.passes f.rest c.new-entries.ensures.end refl refl refl,
+      others_at _ _ _ _ t ts _ _ _ c.requires h words f.passes f.rest c.new-entries.ensures.end refl refl refl,
     )

@@ -1,4 +1,4 @@
-use Rattle.jsonb_doc.proofs.Common.{refl}
+use Rattle.jsonb_doc.proofs.Common.{rules}
 use Rattle.jsonb_doc.proofs.ChildPositionsLemmas.{keys_end, object_opened}
 use Rattle.jsonb_doc.proofs.child_positions.member_positions.Goals as goal
 
@@ -7,5 +7,4 @@ returns-in_err-values-clause-members c = λ t d.
     absurd (keys_end c.args.bytes.now t d c.args.parts c.requires c.in_err-values.ensures.contents)
 
 pub returns-clause-members : goal.returns-clause-members
-returns-clause-members c = λ t d.
-    object_opened c.args.bytes.now t d c.args.parts c.requires _ c.in_ok-values.field-0.now c.in_ok-values.ensures.contents refl refl refl refl refl refl refl
+returns-clause-members c = λ t d. search (rules, object_opened)

@@ -1,7 +1,7 @@
-use Rattle.jsonb_doc.proofs.Common.{arith, refl}
+use Rattle.jsonb_doc.proofs.Common.{rules, arith, refl}
 use Rattle.jsonb_doc.proofs.Containers.{HeadedBy-unique, HasDocument-headed, document_scalar, array_long, object_long}
-use Rattle.jsonb_doc.proofs.container.read_container.Goals as goal
 use Rattle.jsonb_doc.proofs.container.read_container.Goals.{in_default-kind-via-in_default-kind, in_default-kind-via-in-Array+else-len-rest, in_default-kind-via-in-Object+else-len-rest-2}
+use Rattle.jsonb_doc.proofs.container.read_container.Goals as goal
 
 pub returns-in_default-split_header-clause-cut : goal.returns-in_default-split_header-clause-cut
 returns-in_default-split_header-clause-cut c = (
@@ -12,9 +12,7 @@ returns-in_default-split_header-clause-cut c = (
 )
 
 pub returns-in-Some-clause-bound : goal.returns-in-Some-clause-bound
-returns-in-Some-clause-bound c = λ kind n rest h.
-    let (words, headed, lone) = c.in-Some.ensures in
-    omega (arith, (HeadedBy-unique c.args.bytes.now kind 1 n 0 rest words h headed).1)
+returns-in-Some-clause-bound c = search (rules, HeadedBy-unique)
 
 pub returns-in_default-kind-clause-cut : goal.returns-in_default-kind-clause-cut
 returns-in_default-kind-clause-cut c = (

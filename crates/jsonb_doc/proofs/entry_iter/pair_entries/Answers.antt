@@ -1,4 +1,4 @@
-use Rattle.jsonb_doc.proofs.Common.{◌≡◌, ◌-◌, length, take, keys, key_bytes, number_reader}
+use Rattle.jsonb_doc.proofs.Common.{◌≡◌, ◌-◌, length, take, keys, key_bytes}
 use Rattle.jsonb_doc.proofs.Containers.{entries_of}
 use Rattle.jsonb_doc.proofs.KeyEntries.{key_entries, front_of}
 use Rattle.jsonb_doc.proofs.PairsLemmas.{HoldsPairs-skipped, HoldsPairs-values}
@@ -11,17 +11,16 @@ returns-in_err-values-clause-entries c = λ form ps held.
 pub returns-clause-entries : goal.returns-clause-entries
 returns-clause-entries c = λ form ps held.
     let parts = c.args.parts in
-    let same = HoldsPairs-values (number_reader form) ps parts c.in_ok-values.values.now held c.in_ok-values.ensures.contents in
+    let same = HoldsPairs-values _ ps _ _ held c.in_ok-values.ensures.contents in
     let front : take (length parts.contents.now - length c.in_ok-values.values.now) parts.contents.now ≡ key_bytes (keys ps) =
-    rw same (front_of parts.contents.now (key_bytes (keys ps)) held.rest held.bytes) in
+    rw same (front_of _ (key_bytes (keys ps)) held.rest held.bytes) in
     record {
       are_keys = held.are_keys;
       names = record {
         entries = rw (c.new.ensures.keys, c.new-keys.ensures.words, c.new-keys.ensures.contents, held.words, c.split_at.ensures.front, front)
-            (key_entries (number_reader form) (keys ps) held.are_keys);
+            (key_entries _ (keys ps) held.are_keys);
       };
       parts = record {
-        entries = rw (c.new.ensures.values, c.new-values.ensures.words, c.new-values.ensures.contents, same)
-            (entries_of (number_reader form) ps _ _ held.values);
+        entries = rw (c.new.ensures.values, c.new-values.ensures.words, c.new-values.ensures.contents, same) (entries_of _ ps _ _ held.values);
       };
     }

@@ -1,32 +1,27 @@
-use Rattle.jsonb_doc.proofs.Common.{subst, err_from_is_err_and, Tree, Decodes}
+use Rattle.jsonb_doc.proofs.Common.{subst, Tree, Decodes}
 use Rattle.jsonb_doc.proofs.EventListLemmas.{events_of}
 use Rattle.jsonb_doc.proofs.OneRun.{same_tree}
 use Rattle.jsonb_doc.proofs.ListErrors.{tree_fails, write_fails}
+use Rattle.jsonb_doc.proofs.EventLemmas.{err_is}
 use Rattle.jsonb_doc.proofs.event_list.document_from_events.Goals as goal
 
 pub returns-in_err-collected-clause-complete : goal.returns-in_err-collected-clause-complete
 returns-in_err-collected-clause-complete c = λ form t of.
-    let e = err_from_is_err_and c.from_residual.result c.from_residual.ensures.1 in
-    rw (e.1, e.2) (tree_fails form c.args.keep_last c.args.events.now c.args.text.now t _ of (c.in_err-collected.ensures form))
+    err_is _ _ _ _ c.from_residual.ensures.1 (tree_fails form c.args.keep_last c.args.events.now c.args.text.now t _ of (c.in_err-collected.ensures form))
 
 pub returns-in_err-collected-clause-errors : goal.returns-in_err-collected-clause-errors
-returns-in_err-collected-clause-errors c = λ form.
-    let e = err_from_is_err_and c.from_residual.result c.from_residual.ensures.1 in
-    rw (e.1, e.2) (c.in_err-collected.ensures form)
+returns-in_err-collected-clause-errors c = λ form. err_is _ _ _ _ c.from_residual.ensures.1 (c.in_err-collected.ensures form)
 
 pub returns-in_err-collected_document-clause-complete : goal.returns-in_err-collected_document-clause-complete
 returns-in_err-collected_document-clause-complete c = λ form t of.
     let x = c.in_ok-collected.ensures in
-    let e = err_from_is_err_and c.from_residual-in_err-collected_document.result c.from_residual-in_err-collected_document.ensures.1 in
-    rw (e.1, e.2) (tree_fails form c.args.keep_last c.args.events.now c.args.text.now t _ of
-    (write_fails form c.args.keep_last c.args.events.now c.args.text.now x.2 _ (events_of c.args.keep_last c.args.events.now c.args.text.now x.1 x.0 x.2 x.3 x.4 x.5)
-    (c.in_err-collected_document.ensures.document form x.2 x.6)))
+    err_is _ _ _ _ c.from_residual-in_err-collected_document.ensures.1 (tree_fails form _ _ _ t _ of
+    (write_fails form _ _ _ x.2 _ (events_of _ _ _ x.1 x.0 x.2 x.3 x.4 x.5) (c.in_err-collected_document.ensures.document form x.2 x.6)))
 
 pub returns-in_err-collected_document-clause-errors : goal.returns-in_err-collected_document-clause-errors
 returns-in_err-collected_document-clause-errors c = λ form.
     let x = c.in_ok-collected.ensures in
-    let e = err_from_is_err_and c.from_residual-in_err-collected_document.result c.from_residual-in_err-collected_document.ensures.1 in
-    rw (e.1, e.2) (write_fails form c.args.keep_last c.args.events.now c.args.text.now x.2 _
+    err_is _ _ _ _ c.from_residual-in_err-collected_document.ensures.1 (write_fails form c.args.keep_last c.args.events.now c.args.text.now x.2 _
     (events_of c.args.keep_last c.args.events.now c.args.text.now x.1 x.0 x.2 x.3 x.4 x.5) (c.in_err-collected_document.ensures.document form x.2 x.6))
 
 pub returns-clause-document : goal.returns-clause-document

@@ -1,9 +1,9 @@
-use Rattle.jsonb_doc.proofs.Common.{◌≡◌, ◌≢◌, ◌≤◌, ◌+◌, ◌*◌, ◌<◌, List, ℕ, [], length, length-drop, take, drop, slice_index_or, sym, ap, ◌∙◌, arith, inl, inr, take_rest, first_chunks}
+use Rattle.jsonb_doc.proofs.Common.{rules, ◌≡◌, ◌≢◌, ◌≤◌, ◌+◌, ◌*◌, ◌<◌, List, ℕ, [], length, take, drop, slice_index_or, sym, ap, ◌∙◌, arith, inl, inr, take_rest, first_chunks}
 use Rattle.jsonb_doc.proofs.LengthsLemmas.{told}
 use Rattle.jsonb_doc.proofs.FieldLemmas.{KeysLeft-start, KeysLeft-end, chunk_at, key_cut, key_within, key_differs, key_passed, key_found, is_other}
 use Rattle.jsonb_doc.proofs.KeyBlocks.{block_searched}
-use Rattle.jsonb_doc.proofs.key_search.find_in_block.Goals as goal
 use Rattle.jsonb_doc.proofs.key_search.find_in_block.Goals.{then-len-name+in-Some+else-bytes_equal, else-len-name}
+use Rattle.jsonb_doc.proofs.key_search.find_in_block.Goals as goal
 
 -- the length that was read is that of the word at this position
 read : (cs : List (List ℕ)) (k at len : ℕ) (words : List ℕ) → cs ≡ first_chunks 4 k words → at < k → len ≡ told (slice_index_or cs at [])
@@ -11,34 +11,27 @@ read : (cs : List (List ℕ)) (k at len : ℕ) (words : List ℕ) → cs ≡ fir
 read cs k at len words are h e = e ∙ ap told (ap (λ (l : List (List ℕ)). slice_index_or l at []) are ∙ chunk_at k at words h)
 
 pub loop-at-init : goal.loop-at-init
-loop-at-init c = record { bound = omega arith; left = λ ks rest h. (KeysLeft-start _ ks rest _ _ h, omega arith) }
-
-pub overflow_add-end : goal.overflow_add-end
-overflow_add-end c =
-    omega (arith, c.loop-at.invariant.bound, c.entry_len-len.ensures, c.as_chunks.ensures.front_len, c.requires, c.loop-at-test.true)
+loop-at-init c = search (rules, KeysLeft-start)
 
 pub returns-in_default-clause-found : goal.returns-in_default-clause-found
 returns-in_default-clause-found c = λ ks rest h others.
     let inv = c.loop-at.invariant.left ks rest h in
     let some : 4 * c.loop-at.at + 4 ≤ length c.args.words.now = omega (arith, c.as_chunks.ensures.front_len, c.loop-at-test.true) in
-    let len = read _ _ _ _ c.args.words.now c.as_chunks.ensures.front (omega (arith, some)) c.entry_len-len.ensures in
-    let within = key_within c.args.name.now ks rest c.args.words.now c.args.bytes.now c.loop-at.at c.loop-at.end c.entry_len-len.result inv.0 some inv.1 len in
+    let within = key_within _ ks rest _ _ _ _ _ inv.0 some inv.1 (read _ _ _ _ _ c.as_chunks.ensures.front (omega (arith, some)) c.entry_len-len.ensures) in
     elim c.in_default.ensures.lookup.0 [ inl less ↦ omega (arith, less) | inr beyond ↦ omega (arith, beyond, within) ]
 
 pub returns-then-bytes_equal-clause-found : goal.returns-then-bytes_equal-clause-found
 returns-then-bytes_equal-clause-found c = λ ks rest h others.
     let inv = c.loop-at.invariant.left ks rest h in
     let some : 4 * c.loop-at.at + 4 ≤ length c.args.words.now = omega (arith, c.as_chunks.ensures.front_len, c.loop-at-test.true) in
-    let len = read _ _ _ _ c.args.words.now c.as_chunks.ensures.front (omega (arith, some)) c.entry_len-len.ensures in
+    let len = read _ _ _ _ _ c.as_chunks.ensures.front (omega (arith, some)) c.entry_len-len.ensures in
     let key = key_cut c.args.bytes.now _ c.loop-at.end c.entry_len-len.result c.in-Some.ensures.lookup.0.2 in
     rw (take_rest c.args.words.now (4 * (c.loop-at.at + 1)), take_rest c.args.bytes.now (c.loop-at.end + c.entry_len-len.result))
-    (key_found c.args.name.now ks rest c.args.words.now c.args.bytes.now c.loop-at.at c.loop-at.end c.entry_len-len.result inv.0 some inv.1 len
-    (sym key ∙ c.bytes_equal.ensures.0 c.if-bytes_equal.true))
+    (key_found _ ks rest _ _ _ _ _ inv.0 some inv.1 len (sym key ∙ c.bytes_equal.ensures.0 c.if-bytes_equal.true))
 
 pub returns-then-at-eq-BLOCK-clause-found : goal.returns-then-at-eq-BLOCK-clause-found
 returns-then-at-eq-BLOCK-clause-found c = λ ks rest h others.
-    block_searched c.args.name.now 32 c.loop-at.at ks c.args.words.now c.args.bytes.now rest _ h (c.loop-at.invariant.left ks rest h).0 others
-    (λ more. omega (arith, c.if-at-eq-BLOCK.true))
+    block_searched _ 32 _ ks _ _ rest _ h (c.loop-at.invariant.left ks rest h).0 others (λ more. omega (arith, c.if-at-eq-BLOCK.true))
 
 pub loop-at-preserved : goal.loop-at-preserved
 loop-at-preserved c = record {
@@ -46,22 +39,17 @@ loop-at-preserved c = record {
   left = λ ks rest h.
       let inv = c.loop-at.invariant.left ks rest h in
       let some : 4 * c.loop-at.at + 4 ≤ length c.args.words.now = omega (arith, c.as_chunks.ensures.front_len, c.loop-at-test.true) in
-      let len = read _ _ _ _ c.args.words.now c.as_chunks.ensures.front (omega (arith, some)) c.entry_len-len.ensures in
+      let len = read _ _ _ _ _ c.as_chunks.ensures.front (omega (arith, some)) c.entry_len-len.ensures in
       let other : take c.entry_len-len.result (drop c.loop-at.end c.args.bytes.now) ≢ c.args.name.now = elim c.if-len-name.branch [
         | then-len-name+in-Some+else-bytes_equal w ↦ λ e.
             is_other w.bytes_equal.ensures w.if-bytes_equal.false
             (key_cut c.args.bytes.now _ c.loop-at.end c.entry_len-len.result w.in-Some.ensures.lookup.0.2 ∙ e)
-        | else-len-name w ↦
-            key_differs c.args.name.now ks rest c.args.words.now c.args.bytes.now c.loop-at.at c.loop-at.end c.entry_len-len.result inv.0 some inv.1 len
-            w.if-len-name.false
+        | else-len-name w ↦ key_differs _ ks rest _ _ _ _ _ inv.0 some inv.1 len w.if-len-name.false
       ] in (
-        key_passed c.args.name.now ks rest c.args.words.now c.args.bytes.now c.loop-at.at c.loop-at.end c.entry_len-len.result inv.0 some inv.1 len other,
-        key_within c.args.name.now ks rest c.args.words.now c.args.bytes.now c.loop-at.at c.loop-at.end c.entry_len-len.result inv.0 some inv.1 len,
+        key_passed _ ks rest _ _ _ _ _ inv.0 some inv.1 len other,
+        key_within _ ks rest _ _ _ _ _ inv.0 some inv.1 len,
       );
 }
 
 pub returns-clause-found : goal.returns-clause-found
-returns-clause-found c = λ ks rest h others.
-    KeysLeft-end c.args.name.now ks rest _ _
-    (omega (arith, length-drop (4 * c.loop-at.at) c.args.words.now, c.loop-at-test.false, c.as_chunks.ensures.front_len))
-    (c.loop-at.invariant.left ks rest h).0
+returns-clause-found c = search (rules, KeysLeft-end)

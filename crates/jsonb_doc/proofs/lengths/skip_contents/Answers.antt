@@ -1,12 +1,9 @@
-use Rattle.jsonb_doc.proofs.Common.{arith, common_steps}
+use Rattle.jsonb_doc.proofs.Common.{rules, arith, common_steps}
 use Rattle.jsonb_doc.proofs.LengthsLemmas.{nothing_before, StandBefore-joined, IsPart-some, IsPart-end, IsPart-size}
 use Rattle.jsonb_doc.proofs.lengths.skip_contents.Goals as goal
 
 pub returns-clause-rest : goal.returns-clause-rest
-returns-clause-rest c = λ parts rest h.
-    let joined = StandBefore-joined parts _ _ rest h in
-    let sum = c.contents_len.ensures.contents parts _ rest h in
-    IsPart-some _ joined.0 rest _ c.get.result joined.1 sum c.get.ensures.lookup
+returns-clause-rest c = λ parts rest h. grind (arith, common_steps, StandBefore-joined, IsPart-some)
 
 pub returns-clause-size : goal.returns-clause-size
 returns-clause-size c = IsPart-size _ _ c.get.result c.get.ensures.lookup
@@ -15,4 +12,4 @@ pub returns-clause-end : goal.returns-clause-end
 returns-clause-end c = IsPart-end _ _ c.get.result c.get.ensures.lookup
 
 pub returns-then-is_empty-clause-rest : goal.returns-then-is_empty-clause-rest
-returns-then-is_empty-clause-rest c = λ parts rest h. nothing_before parts c.args.words.now c.args.contents.now rest (grind (arith, common_steps)) h
+returns-then-is_empty-clause-rest c = search (rules, nothing_before)

@@ -1,23 +1,19 @@
-use Rattle.jsonb_doc.proofs.Common.{◌≡◌, ◌+◌, arith, ap, length, sym, ◌∙◌, option_copied, length-append, number_reader, parts_of, kind_number, Container}
+use Rattle.jsonb_doc.proofs.Common.{rules, ◌≡◌, ◌+◌, arith, ap, length, sym, ◌∙◌, option_copied, length-append, number_reader, parts_of, Container}
 use Rattle.jsonb_doc.proofs.Halves.{halvings-more, halvings-fewer}
 use Rattle.jsonb_doc.proofs.CheckingLemmas.{IsApart-within, IsApart-less, IsApart-one}
 use Rattle.jsonb_doc.proofs.DepthLemmas.{max_of, no_parts, scalar_parts, container_decodes, AreDeep-large, AreDeep-whole, EntriesLeft-none, EntriesLeft-next, EntriesLeft-aside}
 use Rattle.jsonb_doc.proofs.KindLemmas.{same_kind, other_kind}
-use Rattle.jsonb_doc.proofs.nesting.+depth.Goals as goal
 use Rattle.jsonb_doc.proofs.nesting.+depth.Goals.{entries_depth-then-eq+then-entry-half, entries_depth-then-eq+else-entry-half, entries_depth-else-eq, document_depth-in-Some+in_default-large, document_depth-in_default}
+use Rattle.jsonb_doc.proofs.nesting.+depth.Goals as goal
 
 pub document_depth-entries_depth-depths-requires : goal.document_depth-entries_depth-depths-requires
-document_depth-entries_depth-depths-requires t c =
-    let more = halvings-more (length c.in-Some.contents.now + 4) (length c.args.bytes.now)
-    (omega (arith, c.in-Some.ensures.room, c.loop-words.invariant.room)) in
-    (omega (arith, more, c.decreases), tt)
+document_depth-entries_depth-depths-requires c = search (rules, halvings-more)
 
 pub document_depth-loop-words-preserved : goal.document_depth-loop-words-preserved
 document_depth-loop-words-preserved t c =
     let inv = c.loop-words.invariant in
     let found = c.entries_depth-depths.ensures in
     let parts = c.in-Some.ensures in
-    let large = rw c.in-Some-large.is at found.large in
     let greatest = max_of c.max-deepest.result c.loop-words.deepest (c.loop-words.level + c.entries_depth-depths.result.known) c.max-deepest.ensures in
     record {
       left = λ form tree h.
@@ -25,19 +21,18 @@ document_depth-loop-words-preserved t c =
           let (inner, inner_decodes, below) = AreDeep-large form u _ _ c.in-Some-large.large.now (ap option_copied c.in-Some-large.is)
           (found.depth form (parts_of u) (parts.parts form u decodes)) in
           (inner, inner_decodes, omega (arith, greatest));
-      room = omega (arith, parts.room, inv.room, large);
+      room = omega (arith, parts.room, inv.room, (rw c.in-Some-large.is at found.large));
       bound = omega (arith, parts.room, inv.room, inv.bound, found.room, greatest);
     }
 
 pub document_depth-returns-clause-depth : goal.document_depth-returns-clause-depth
 document_depth-returns-clause-depth t c = λ form tree h.
     let (u, decodes, deep) = c.loop-words.invariant.left form tree h in
-    let parts = c.split_parts.ensures.parts in
     elim c.match-split_parts.branch [
       | document_depth-in-Some+in_default-large w ↦
           let known = AreDeep-whole form u _ _ (ap option_copied w.in_default-large.is)
           (w.entries_depth-depths.ensures.depth form (parts_of u) (w.in-Some.ensures.parts form u decodes)) in
-          let greatest = max_of w.max-deepest.result c.loop-words.deepest (c.loop-words.level + w.entries_depth-depths.result.known) w.max-deepest.ensures in
+          let greatest = max_of w.max-deepest.result _ (c.loop-words.level + w.entries_depth-depths.result.known) w.max-deepest.ensures in
           omega (arith, w.deepest-is, c.max.ensures)
       | document_depth-in_default w ↦
           let none = no_parts u (w.in_default.ensures.parts form u decodes) in
@@ -45,53 +40,42 @@ document_depth-returns-clause-depth t c = λ form tree h.
     ]
 
 pub entries_depth-document_depth-within-requires : goal.entries_depth-document_depth-within-requires
-entries_depth-document_depth-within-requires t c =
-    let fewer = halvings-fewer (length c.in-Some.entry.content.now) (length c.args.contents.now + 4) (omega arith) (omega (arith, c.if-entry-half.false)) in
-    (omega (arith, fewer, c.decreases), tt)
+entries_depth-document_depth-within-requires c = search (rules, halvings-fewer)
 
 pub entries_depth-loop-entry-preserved : goal.entries_depth-loop-entry-preserved
 entries_depth-loop-entry-preserved t c =
     let inv = c.loop-entry.invariant in
     let b = c.in-Some.ensures in
-    let kind = kind_number c.in-Some.entry.kind in
     let content = c.in-Some.entry.content.now in
-    let ws = c.in-Some.entry.other_words.now in
-    let cs = c.in-Some.entry.other_contents.now in
+    let others = c.in-Some.entry.other_contents.now in
     let large = option_copied c.loop-entry.large in
-    let len : length c.loop-entry.contents_left.now ≡ length content + length cs = ap length b.contents_joined ∙ length-append content cs in
+    let len : length c.loop-entry.contents_left.now ≡ length content + length others = ap length b.contents_joined ∙ length-append content others in
     let within = IsApart-within large c.loop-entry.contents_left.now c.args.contents.now inv.apart in
     let greatest = max_of c.max-known.result c.loop-entry.known (1 + c.if-eq.within) c.max-known.ensures in
+    let known = inv.bound in
     elim c.if-eq.branch [
       | entries_depth-then-eq+then-entry-half w ↦
-          let none = IsApart-one large c.loop-entry.contents_left.now c.args.contents.now content inv.apart (omega (arith, len)) w.if-entry-half.true in
-          let known = inv.bound in
+          let none = IsApart-one large _ _ content inv.apart (omega (arith, len)) w.if-entry-half.true in
           rw (greatest, w.within-is, w.large-is) (record {
-            left = λ form ts h. EntriesLeft-aside form ts _ _ _ _ kind content ws cs b (inv.left form ts h) none
-                (same_kind _ c.in-Some.entry.kind Container c.eq.ensures w.if-eq.true);
+            left = λ form ts h. EntriesLeft-aside form ts _ _ _ _ _ _ _ _ b (inv.left form ts h) none (same_kind _ _ Container c.eq.ensures w.if-eq.true);
             apart = (w.if-entry-half.true, omega (arith, len, within));
             bound = omega arith;
           })
       | entries_depth-then-eq+else-entry-half w ↦
-          let known = inv.bound in
           let room = w.document_depth-within.ensures.room in
-          let part = w.document_depth-within.ensures.depth in
           rw (greatest, w.within-is, w.large-is) (record {
-            left = λ form ts h. EntriesLeft-next form ts _ _ _ _ kind content ws cs b (inv.left form ts h) w.document_depth-within.result
-                (λ tree k. part form tree (container_decodes form tree kind content (same_kind _ c.in-Some.entry.kind Container c.eq.ensures w.if-eq.true) k));
-            apart = IsApart-less large c.loop-entry.contents_left.now cs c.args.contents.now (omega (arith, len)) inv.apart;
+            left = λ form ts h. EntriesLeft-next form ts _ _ _ _ _ _ _ _ b (inv.left form ts h) _ (λ tree k.
+                w.document_depth-within.ensures.depth form tree (container_decodes form tree _ _ (same_kind _ _ Container c.eq.ensures w.if-eq.true) k));
+            apart = IsApart-less large _ others _ (omega (arith, len)) inv.apart;
             bound = omega (arith, len, within);
           })
-      | entries_depth-else-eq w ↦
-          let known = inv.bound in
-          rw (greatest, w.within-is, w.large-is) (record {
-            left = λ form ts h. EntriesLeft-next form ts _ _ _ _ kind content ws cs b (inv.left form ts h) 0
-                (λ tree k. sym (no_parts tree (scalar_parts (number_reader form) tree kind content
-                (other_kind _ c.in-Some.entry.kind Container c.eq.ensures w.if-eq.false) k)));
-            apart = IsApart-less large c.loop-entry.contents_left.now cs c.args.contents.now (omega (arith, len)) inv.apart;
-            bound = omega arith;
-          })
+      | entries_depth-else-eq w ↦ rw (greatest, w.within-is, w.large-is) (record {
+        left = λ form ts h. EntriesLeft-next form ts _ _ _ _ _ _ _ _ b (inv.left form ts h) 0
+            (λ tree k. sym (no_parts tree (scalar_parts (number_reader form) tree _ _ (other_kind _ _ Container c.eq.ensures w.if-eq.false) k)));
+        apart = IsApart-less large _ others _ (omega (arith, len)) inv.apart;
+        bound = omega arith;
+      })
     ]
 
 pub entries_depth-returns-clause-depth : goal.entries_depth-returns-clause-depth
-entries_depth-returns-clause-depth t c = λ form ts h.
-    EntriesLeft-none form ts _ _ _ _ c.in_default.ensures (c.loop-entry.invariant.left form ts h)
+entries_depth-returns-clause-depth c = search (rules, EntriesLeft-none)

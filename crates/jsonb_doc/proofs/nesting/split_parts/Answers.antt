@@ -1,19 +1,14 @@
-use Rattle.jsonb_doc.proofs.Common.{number_reader}
+use Rattle.jsonb_doc.proofs.Common.{rules}
 use Rattle.jsonb_doc.proofs.Containers.{Decodes-array, Decodes-object}
 use Rattle.jsonb_doc.proofs.PairsLemmas.{Holds-skipped}
 use Rattle.jsonb_doc.proofs.DepthLemmas.{array_parts, object_parts}
 use Rattle.jsonb_doc.proofs.nesting.split_parts.Goals as goal
 
 pub returns-in-Array-clause-parts : goal.returns-in-Array-clause-parts
-returns-in-Array-clause-parts c = λ form t h.
-    let p = c.in-Array.parts in
-    array_parts (number_reader form) t p (Decodes-array form c.args.bytes.now p (rw c.in-Array.is at c.in-Ok.ensures.cut) t h)
+returns-in-Array-clause-parts c = λ form t h. search (rules, array_parts, Decodes-array)
 
 pub returns-in-Ok-value_contents-clause-parts : goal.returns-in-Ok-value_contents-clause-parts
-returns-in-Ok-value_contents-clause-parts c = λ form t h.
-    let p = c.in-Object.parts in
-    object_parts (number_reader form) t p c.in-Ok-value_contents.contents.now c.in-Ok-value_contents.ensures.contents
-    (Decodes-object form c.args.bytes.now p (rw c.in-Object.is at c.in-Ok.ensures.cut) t h)
+returns-in-Ok-value_contents-clause-parts c = λ form t h. search (rules, object_parts, Decodes-object)
 
 pub returns-in-Err-clause-parts : goal.returns-in-Err-clause-parts
 returns-in-Err-clause-parts c = λ form t h.

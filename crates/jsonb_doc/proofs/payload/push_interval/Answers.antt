@@ -1,4 +1,4 @@
-use Rattle.jsonb_doc.proofs.Common.{[], ◌∷◌, ◌++◌, w32, w64, to_z-of_z, fixed_bytes}
+use Rattle.jsonb_doc.proofs.Common.{arith, [], ◌∷◌, ◌++◌, w32, w64, to_z-of_z, fixed_bytes, common_steps}
 use Rattle.jsonb_doc.proofs.AppendLemmas.{grown, grown_ok, stays_err}
 use Rattle.jsonb_doc.proofs.payload.push_interval.Goals as goal
 
@@ -10,19 +10,9 @@ returns-clause-pushed c =
     let months_fit = c.ranges.months in
     let days_fit = c.ranges.days in
     let micros_fit = c.ranges.micros in
-    let one = simp to_z-of_z at c.in_ok-push_i32.ensures.pushed in
-    let two = grown old (0x40 ∷ []) months _ _ c.in_ok-push.ensures.items one in
+    let two = grown old (0x40 ∷ []) months _ _ c.in_ok-push.ensures.items (simp to_z-of_z at c.in_ok-push_i32.ensures.pushed) in
     let three = grown old (0x40 ∷ months) days _ _ two (simp to_z-of_z at c.in_ok-push_i32-2.ensures.pushed) in
     grown_ok c.push_i64.result old (0x40 ∷ months ++ days) (fixed_bytes w64 c.args.micros) _ _ three (simp to_z-of_z at c.push_i64.ensures.pushed)
 
 pub returns-clause-kept : goal.returns-clause-kept
-returns-clause-kept c =
-    let old = c.args.out.now.items in
-    let months = fixed_bytes w32 c.args.months in
-    let days = fixed_bytes w32 c.args.days in
-    let months_fit = c.ranges.months in
-    let days_fit = c.ranges.days in
-    let one = simp to_z-of_z at c.in_ok-push_i32.ensures.pushed in
-    let two = grown old (0x40 ∷ []) months _ _ c.in_ok-push.ensures.items one in
-    let three = grown old (0x40 ∷ months) days _ _ two (simp to_z-of_z at c.in_ok-push_i32-2.ensures.pushed) in
-    stays_err c.push_i64.result old (0x40 ∷ months ++ days) _ _ three c.push_i64.ensures.unchanged
+returns-clause-kept c = grind (arith, common_steps, grown, stays_err)

@@ -1,4 +1,4 @@
-use Rattle.jsonb_doc.proofs.Common.{◌≡◌, ◌-◌, ◌≤◌, ◌++◌, ℕ, zero, suc, List, drop, take, refl, arith, inl, inr, Result, Ok, Err, OnOk, is_ok, if◌then◌else◌, cases_lt, take_all, bytes_high_first, length-bytes_high_first, big_bytes}
+use Rattle.jsonb_doc.proofs.Common.{rules, ◌≡◌, ◌-◌, ◌≤◌, ◌++◌, ℕ, zero, suc, List, drop, take, refl, arith, inl, inr, Result, Ok, Err, OnOk, is_ok, if◌then◌else◌, cases_lt, take_all, bytes_high_first, length-bytes_high_first, big_bytes}
 use Rattle.jsonb_doc.proofs.payload.push_low_bytes.Goals as goal
 
 -- the low bytes of a number are the last of all its bytes
@@ -9,9 +9,7 @@ drop-bytes (suc k) n x h = elim (cases_lt k n) [
       let e : n ≡ suc k = omega arith in
       let z : suc k - n ≡ 0 = omega arith in
       rw (z, e) refl
-  | inr lower ↦
-      let e : suc k - n ≡ suc (k - n) = omega arith in
-      rw e (drop-bytes k n x lower)
+  | inr lower ↦ let e : suc k - n ≡ suc (k - n) = omega arith in rw e (drop-bytes k n x lower)
 ]
 
 last_bytes : (n x : ℕ) → n ≤ 8 → take (8 - (8 - n)) (drop (8 - n) (bytes_high_first 8 x)) ≡ big_bytes n x
@@ -24,7 +22,4 @@ on_ok (Ok x) new old more e = e
 on_ok (Err x) new old more e = tt
 
 pub returns-clause-pushed : goal.returns-clause-pushed
-returns-clause-pushed c =
-    let bytes = last_bytes c.args.width c.args.n c.requires in
-    let items = rw (c.to_be_bytes.ensures, bytes) at c.extend_from_slice.ensures.items in
-    on_ok c.extend_from_slice.result c.extend_from_slice.new.self.items c.args.out.now.items (big_bytes c.args.width c.args.n) items
+returns-clause-pushed c = search (rules, last_bytes, on_ok)

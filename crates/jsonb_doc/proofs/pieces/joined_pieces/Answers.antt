@@ -1,28 +1,12 @@
-use Rattle.jsonb_doc.proofs.Common.{◌≡◌, ◌<◌, ◌++◌, ◌∷◌, [], ℕ, List, length, arith, sym, ap, ◌∙◌, append_assoc, All, All-append, all_heads, stacked, joined, earlier}
+use Rattle.jsonb_doc.proofs.Common.{rules, ◌≡◌, ◌<◌, ◌++◌, ◌∷◌, ℕ, List, length, arith, sym, ap, ◌∙◌, append_assoc, All, All-append, all_heads, stacked, joined, earlier}
 use Rattle.jsonb_doc.proofs.PieceLemmas.{stack_starts, stack_steps, earlier_below, within_popped}
 use Rattle.jsonb_doc.proofs.pieces.joined_pieces.Goals as goal
 
 pub loop-index-init : goal.loop-index-init
-loop-index-init c =
-    let ps = c.args.pieces.now in
-    let pushed : c.push_earlier.new.stack.items ≡ earlier (length ps) (c.args.root ∷ []) =
-    c.in_ok-push_earlier.ensures ∙ ap (λ (is : List ℕ). is ++ earlier (length ps) (c.args.root ∷ [])) c.new-stack.ensures.items in
-    record {
-      within = rw pushed (earlier_below (length ps) (length ps) (omega arith) (c.args.root ∷ []));
-      whole = rw (c.new-joined.ensures.items, pushed) (stack_starts ps c.args.root);
-    }
+loop-index-init c = search (rules, earlier_below, stack_starts)
 
 pub loop-index-smaller : goal.loop-index-smaller
-loop-index-smaller c =
-    let ps = c.args.pieces.now in
-    let is = c.pop.new.self.items in
-    let piece = c.index-pieces-index.result in
-    let popped = within_popped (length ps) c.loop-index.stack.items is c.in-Some.index c.in-Some.ensures.items c.loop-index.invariant.within in
-    let step : stacked (all_heads ps) c.loop-index.stack.items ≡ piece.head.items ∷ stacked (all_heads ps) (is ++ earlier c.in-Some.index piece.rest.items) =
-    rw (← c.index-pieces-index.is) at (stack_steps ps c.loop-index.stack.items is c.in-Some.index piece popped.0 c.in-Some.ensures.items) in
-    let pushed : c.push_earlier-in-Some.new.stack.items ≡ is ++ earlier c.in-Some.index piece.rest.items =
-    c.in_ok-push_earlier-2.ensures ∙ ap (λ (js : List ℕ). is ++ earlier c.in-Some.index js) c.deref-in-Some.ensures.value in
-    rw (step, pushed) (omega arith)
+loop-index-smaller c = search (rules, within_popped, stack_steps)
 
 pub loop-index-preserved : goal.loop-index-preserved
 loop-index-preserved c =

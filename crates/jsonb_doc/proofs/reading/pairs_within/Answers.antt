@@ -8,5 +8,4 @@ returns-in_err-value_contents-clause-pairs c = λ form ps held.
 pub returns-clause-pairs : goal.returns-clause-pairs
 returns-clause-pairs c = λ form ps held.
     let new = c.new.ensures in
-    HoldsPairs-left form ps c.new.result c.args.parts new.key_words new.key_bytes new.value_words
-    (rw new.value_contents c.in_ok-value_contents.ensures.contents) held
+    HoldsPairs-left form ps _ _ new.key_words new.key_bytes new.value_words (rw new.value_contents c.in_ok-value_contents.ensures.contents) held

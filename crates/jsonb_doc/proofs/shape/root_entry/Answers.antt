@@ -1,9 +1,9 @@
-use Rattle.jsonb_doc.proofs.Common.{ℕ, List, ◌≡◌, Ok, refl, arith, number_reader, IsCut, IsRootShape, StoredEntry, Shape}
+use Rattle.jsonb_doc.proofs.Common.{rules, ℕ, List, ◌≡◌, Ok, refl, arith, IsCut, IsRootShape, StoredEntry, Shape}
 use Rattle.jsonb_doc.specs.declared.container.Container.{Container}
-use Rattle.jsonb_doc.specs.declared.container.Container.TheVariants as parts
 use Rattle.jsonb_doc.specs.declared.shape.Shape.TheVariants.{Array, Object}
-use Rattle.jsonb_doc.proofs.Containers.{Decodes-scalar, IsCut-container}
+use Rattle.jsonb_doc.proofs.Containers.{Decodes-scalar}
 use Rattle.jsonb_doc.proofs.ReadItems.{shape_root, array_root, object_root}
+use Rattle.jsonb_doc.specs.declared.container.Container.TheVariants as parts
 use Rattle.jsonb_doc.proofs.shape.root_entry.Goals as goal
 
 container_root : (bytes : List ℕ) (root : Container) → IsCut bytes root → ((e : StoredEntry) → root ≡ parts.Scalar e → ⊥)
@@ -13,14 +13,10 @@ container_root bytes (parts.Array p) cut other = (Array, array_root bytes p cut)
 container_root bytes (parts.Object p) cut other = (Object, object_root bytes p cut)
 
 pub returns-in_err-scalar_shape-in-Scalar-clause-entry : goal.returns-in_err-scalar_shape-in-Scalar-clause-entry
-returns-in_err-scalar_shape-in-Scalar-clause-entry c = λ form t h.
-    let cut = rw c.in-Scalar.is at c.in_ok-entry.ensures.cut in
-    absurd (c.in_err-scalar_shape-in-Scalar.ensures.shape form t
-    (Decodes-scalar form c.args.bytes.now c.in-Scalar.entry cut t h) cut.2.scalar)
+returns-in_err-scalar_shape-in-Scalar-clause-entry c = λ form t h. search (rules, Decodes-scalar)
 
 pub returns-in_ok-scalar_shape-in-Scalar-clause-entry : goal.returns-in_ok-scalar_shape-in-Scalar-clause-entry
-returns-in_ok-scalar_shape-in-Scalar-clause-entry c = λ form t h.
-    Decodes-scalar form c.args.bytes.now c.in-Scalar.entry (rw c.in-Scalar.is at c.in_ok-entry.ensures.cut) t h
+returns-in_ok-scalar_shape-in-Scalar-clause-entry c = λ form t h. search (rules, Decodes-scalar)
 
 pub returns-in_ok-scalar_shape-in-Scalar-clause-readable : goal.returns-in_ok-scalar_shape-in-Scalar-clause-readable
 returns-in_ok-scalar_shape-in-Scalar-clause-readable c =
@@ -28,9 +24,4 @@ returns-in_ok-scalar_shape-in-Scalar-clause-readable c =
     (c.in_ok-scalar_shape-in-Scalar.field-0, shape_root c.args.bytes.now (λ i. omega (arith, c.type_inv.bytes i)) c.in-Scalar.entry cut (Ok c.in_ok-scalar_shape-in-Scalar.field-0) c.in_ok-scalar_shape-in-Scalar.ensures.reads)
 
 pub returns-in_default : goal.returns-in_default
-returns-in_default c = record {
-  entry = λ form t h. IsCut-container
-      (number_reader form) c.args.bytes.now c.in_ok-entry.field-0 c.in_ok-entry.ensures.cut c.in_default.not-Scalar t h.document;
-  readable = container_root c.args.bytes.now c.in_ok-entry.field-0 c.in_ok-entry.ensures.cut c.in_default.not-Scalar;
-  errors = tt;
-}
+returns-in_default c = search (rules, container_root)

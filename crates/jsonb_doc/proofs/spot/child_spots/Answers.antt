@@ -1,4 +1,4 @@
-use Rattle.jsonb_doc.proofs.Common.{arith, common_steps, any, number_reader, Container}
+use Rattle.jsonb_doc.proofs.Common.{any, number_reader, Container}
 use Rattle.jsonb_doc.proofs.SpotsLemmas.{Locates-scalar, no_children, Locates-document, Locates-no-scalar, array_children, object_children, object_skipped}
 use Rattle.jsonb_doc.proofs.KindLemmas.{differing_kind, equal_kind}
 use Rattle.jsonb_doc.proofs.spot.child_spots.Goals as goal
@@ -14,34 +14,21 @@ returns-in_err-read_container-clause-spots c = λ t m.
 
 pub returns-in-Scalar-clause-spots : goal.returns-in-Scalar-clause-spots
 returns-in-Scalar-clause-spots c = λ t m.
-    Locates-no-scalar c.args.bytes.now c.args.spot t m _ c.in_ok-content.ensures.2 (equal_kind _ c.args.spot.kind Container c.ne.ensures c.if-ne.false)
-    c.in-Scalar.field-0
+    Locates-no-scalar _ _ t m _ c.in_ok-content.ensures.2 (equal_kind _ _ Container c.ne.ensures c.if-ne.false) c.in-Scalar.field-0
     (rw c.in-Scalar.is at c.in_ok-read_container.ensures.cut)
 
 pub returns-in-Array-clause-spots : goal.returns-in-Array-clause-spots
 returns-in-Array-clause-spots c = λ t m.
-    array_children c.args.bytes.now c.args.spot t m _ c.in_ok-content.ensures.2 (equal_kind _ c.args.spot.kind Container c.ne.ensures c.if-ne.false)
-    c.in-Array.parts
-    (rw c.in-Array.is at c.in_ok-read_container.ensures.cut) c.new.result c.new.ensures.words c.new.ensures.start c.new.ensures.end
+    array_children _ _ t m _ c.in_ok-content.ensures.2 (equal_kind _ _ Container c.ne.ensures c.if-ne.false) c.in-Array.parts
+    (rw c.in-Array.is at c.in_ok-read_container.ensures.cut) _ c.new.ensures.words c.new.ensures.start c.new.ensures.end
 
 pub returns-in_err-start-in-Object-clause-spots : goal.returns-in_err-start-in-Object-clause-spots
 returns-in_err-start-in-Object-clause-spots c = λ t m.
-    absurd (object_skipped c.args.bytes.now c.args.spot t m _ c.in_ok-content.ensures.2
-    (equal_kind _ c.args.spot.kind Container c.ne.ensures c.if-ne.false) c.in-Object.parts
+    absurd (object_skipped _ _ t m _ c.in_ok-content.ensures.2 (equal_kind _ _ Container c.ne.ensures c.if-ne.false) c.in-Object.parts
     (rw c.in-Object.is at c.in_ok-read_container.ensures.cut) c.in_err-start-in-Object.ensures.contents)
 
 pub returns-in_ok-start-in-Object-clause-spots : goal.returns-in_ok-start-in-Object-clause-spots
 returns-in_ok-start-in-Object-clause-spots c = λ t m.
-    object_children c.args.bytes.now c.args.spot t m _ c.in_ok-content.ensures.2 (equal_kind _ c.args.spot.kind Container c.ne.ensures c.if-ne.false)
-    c.in-Object.parts
-    (rw c.in-Object.is at c.in_ok-read_container.ensures.cut) c.new-in-Object.result _ c.in_ok-start-in-Object.ensures.contents
+    object_children _ _ t m _ c.in_ok-content.ensures.2 (equal_kind _ _ Container c.ne.ensures c.if-ne.false) c.in-Object.parts
+    (rw c.in-Object.is at c.in_ok-read_container.ensures.cut) _ _ c.in_ok-start-in-Object.ensures.contents
     c.new-in-Object.ensures.words c.new-in-Object.ensures.start c.new-in-Object.ensures.end
-
-pub returns-in_ok-start-in-Object-clause-room : goal.returns-in_ok-start-in-Object-clause-room
-returns-in_ok-start-in-Object-clause-room c = grind (arith, common_steps)
-
-pub overflow_sub-start-in-Object : goal.overflow_sub-start-in-Object
-overflow_sub-start-in-Object c = grind (arith, common_steps)
-
-pub returns-in-Array-clause-room : goal.returns-in-Array-clause-room
-returns-in-Array-clause-room c = grind (arith, common_steps)

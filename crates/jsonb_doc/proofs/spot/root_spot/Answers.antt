@@ -1,7 +1,6 @@
-use Rattle.jsonb_doc.proofs.Common.{[], sym, arith, refl, append-nil, number_reader, kind_number}
+use Rattle.jsonb_doc.proofs.Common.{[], sym, arith, refl, append-nil, number_reader, Scalar}
 use Rattle.jsonb_doc.proofs.Containers.{Decodes-scalar, IsCut-container}
 use Rattle.jsonb_doc.proofs.ReadItems.{readable_root}
-use Rattle.jsonb_doc.specs.declared.container.Container.TheVariants.{Scalar}
 use Rattle.jsonb_doc.proofs.SpotsLemmas.{Locates-root, scalar_end}
 use Rattle.jsonb_doc.proofs.spot.root_spot.Goals as goal
 
@@ -9,9 +8,8 @@ pub returns-in-Scalar-clause-marks : goal.returns-in-Scalar-clause-marks
 returns-in-Scalar-clause-marks c = λ t h.
     let e = c.in-Scalar.entry in
     let cut = rw c.in-Scalar.is at c.in_ok-entry.ensures.cut in
-    let (front, joined) = scalar_end c.args.bytes.now e cut in
-    Locates-root c.args.bytes.now _ t (kind_number e.kind) front e.content.now [] joined refl (omega arith) (omega arith) h
-    (λ form top d. Decodes-scalar form c.args.bytes.now e cut top d)
+    let (front, joined) = scalar_end _ e cut in
+    Locates-root _ _ t _ front _ [] joined refl (omega arith) (omega arith) h (λ form top d. Decodes-scalar form _ e cut top d)
 
 pub returns-in-Scalar-clause-readable : goal.returns-in-Scalar-clause-readable
 returns-in-Scalar-clause-readable c = readable_root c.args.bytes.now (Scalar c.in-Scalar.entry) (rw c.in-Scalar.is at c.in_ok-entry.ensures.cut)
@@ -19,10 +17,9 @@ returns-in-Scalar-clause-readable c = readable_root c.args.bytes.now (Scalar c.i
 pub returns-in_default : goal.returns-in_default
 returns-in_default c = record {
   marks = λ t h.
-      Locates-root c.args.bytes.now _ t 5 [] c.args.bytes.now [] (sym (append-nil c.args.bytes.now)) refl (omega arith) (omega arith) h
-      (λ form top d. IsCut-container
-      (number_reader form) c.args.bytes.now c.in_ok-entry.field-0 c.in_ok-entry.ensures.cut c.in_default.not-Scalar top d.document);
+      Locates-root _ _ t 5 [] _ [] (sym (append-nil c.args.bytes.now)) refl (omega arith) (omega arith) h (λ form top d. IsCut-container
+      (number_reader form) _ _ c.in_ok-entry.ensures.cut c.in_default.not-Scalar top d.document);
   size = omega arith;
-  readable = readable_root c.args.bytes.now c.in_ok-entry.field-0 c.in_ok-entry.ensures.cut;
+  readable = readable_root _ _ c.in_ok-entry.ensures.cut;
   errors = tt;
 }

@@ -15,5 +15,4 @@ returns-in_err-spot_entry-clause-number c = λ t l. absurd (c.in_err-spot_entry.
 
 pub returns-clause-number : goal.returns-clause-number
 returns-clause-number c = λ t l.
-    short_tree c.short_number.result _ _ t c.short_number.ensures.kind c.short_number.ensures.number
-    (c.in_ok-spot_entry.ensures.entry any l.whole t l.decodes l)
+    short_tree _ _ _ t c.short_number.ensures.kind c.short_number.ensures.number (c.in_ok-spot_entry.ensures.entry any l.whole t l.decodes l)

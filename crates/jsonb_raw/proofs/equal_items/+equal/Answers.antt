@@ -1,6 +1,6 @@
-use Rattle.jsonb_raw.proofs.Common.{◌≡◌, Bool, Some, None, true, false, arith, rules, refl, sym, subst, ◌∙◌, IsOkAnd, keys, values, is_equal, are_equal, pairs_are_equal, key_trees, Decides}
+use Rattle.jsonb_raw.proofs.Common.{◌≡◌, Bool, None, true, false, arith, rules, sym, subst, ◌∙◌, IsOkAnd, keys, values, is_equal, are_equal, pairs_are_equal, key_trees, Decides}
 use Rattle.jsonb_raw.proofs.EntriesLeft.{SomeEntries-first, SomeEntries-error, SomeEntries-none}
-use Rattle.jsonb_raw.proofs.EntryEquals.{Aside, IsAnswer, first_falls, decided_along, put_aside, part_holds, part_fails, rest_fails, entries_ended, shorter_than, equal_by_parts}
+use Rattle.jsonb_raw.proofs.EntryEquals.{Aside, IsAnswer, first_falls, decided_along, put_aside, part_holds, part_fails, rest_fails, entries_ended, equal_by_parts}
 use Rattle.jsonb_raw.proofs.equal_items.+equal.Goals as goal
 
 -- ---- entries
@@ -36,8 +36,7 @@ entries_equal-loop-entry-preserved-then-is_container_longer_than t c =
             fact = record {
               trees = others;
               left = right;
-              fact = put_aside (IsAnswer is_equal form other_form None) (IsAnswer is_equal form other_form (Some (c.in_ok-entry.entry, c.in_ok-other.other)))
-                  (is_equal first second) (are_equal rest others) (are_equal ts us) (λ b h. h) (first, second, stored, means, refl) both;
+              fact = search put_aside;
             };
           }));
     }
@@ -125,8 +124,7 @@ items_equal-returns-in_err-left-in-Deferred-clause-equal t c = λ form other_for
 
 pub items_equal-loop-left-preserved : goal.items_equal-loop-left-preserved
 items_equal-loop-left-preserved t c = record {
-  shorter = let size = rw c.in-Deferred.is at c.loop-left.invariant.shorter in
-      omega (arith, size, first_falls _ _ c.in_ok-left-in-Deferred.ensures.shorter);
+  shorter = grind (arith, first_falls);
   left = λ form other_form s u h i.
       decided_along is_equal form other_form _ _ _ _ (rw c.in-Deferred.is at (c.loop-left.invariant.left form other_form s u h i))
       (c.in_ok-left-in-Deferred.ensures.equal form other_form);
@@ -156,17 +154,14 @@ pub objects_equal-returns-clause-equal : goal.objects_equal-returns-clause-equal
 objects_equal-returns-clause-equal t c = λ form other_form ps qs d e.
     let left = c.in_ok-found.ensures.decodes form ps d in
     let right = c.in_ok-wanted.ensures.decodes other_form qs e in
-    let holds : are_equal (key_trees (keys ps)) (key_trees (keys qs)) ≡ true =
-    sym (c.in_ok-texts_equal.ensures.equal form other_form (keys ps) (keys qs) (c.keys.ensures.entries form ps left)
-    (c.keys-2.ensures.entries other_form qs right)) ∙ c.if-not-branch.false in
+    let holds : are_equal (key_trees (keys ps)) (key_trees (keys qs)) ≡ true = grind arith in
     let same : are_equal (values ps) (values qs) ≡ pairs_are_equal ps qs = rw holds at (equal_by_parts ps qs) in
     subst (λ (b : Bool). IsOkAnd c.entries_equal.result (λ told. Decides is_equal form other_form told b)) same
     (c.entries_equal.ensures.equal form other_form (values ps) (values qs) (c.values.ensures.entries form ps left)
     (c.values-2.ensures.entries other_form qs right))
 
 pub objects_equal-returns-clause-shorter : goal.objects_equal-returns-clause-shorter
-objects_equal-returns-clause-shorter t c =
-    shorter_than _ _ _ (omega (arith, c.in_ok-found.ensures.room, c.values.ensures.room)) c.entries_equal.ensures.shorter
+objects_equal-returns-clause-shorter t c = grind arith
 
 pub parts_equal-returns-in_err-array_entries-in-Array-Array-clause-equal : goal.parts_equal-returns-in_err-array_entries-in-Array-Array-clause-equal
 parts_equal-returns-in_err-array_entries-in-Array-Array-clause-equal t c = λ form other_form s u h i.

@@ -1,14 +1,10 @@
-use Rattle.jsonb_raw.proofs.Common.{◌≡◌, Bool, true, false, refl, sym, ◌∙◌, is_equal, are_equal, key_trees}
+use Rattle.jsonb_raw.proofs.Common.{rules, ◌≡◌, Bool, true, false, sym, ◌∙◌, is_equal, are_equal, key_trees, arith}
 use Rattle.jsonb_raw.proofs.EntriesLeft.{SomeEntries-first, SomeEntries-error, SomeEntries-none}
-use Rattle.jsonb_raw.proofs.EntryEquals.{told_none, told_some, key_trees_are_texts, first_text, texts_by_bytes, entries_ended}
+use Rattle.jsonb_raw.proofs.EntryEquals.{told_none, key_trees_are_texts, first_text, texts_by_bytes, entries_ended}
 use Rattle.jsonb_raw.proofs.equal_items.texts_equal.Goals as goal
 
 pub loop-entry-init : goal.loop-entry-init
-loop-entry-init c = λ form other_form ks ls d e. record {
-  trees = key_trees ks;
-  left = rw c.into_iter-entry-iterator.ensures.into_iter_gives d;
-  fact = (key_trees_are_texts ks, record { trees = key_trees ls; left = e; fact = (key_trees_are_texts ls, refl) });
-}
+loop-entry-init c = search (rules, key_trees_are_texts)
 
 pub returns-in_err-entry-clause-equal : goal.returns-in_err-entry-clause-equal
 returns-in_err-entry-clause-equal c = λ form other_form ks ls d e.
@@ -32,7 +28,7 @@ returns-then-ne-clause-equal c = λ form other_form ks ls d e.
     (λ second others right means both.
     let differs : is_equal first second
     ≡ false = texts_by_bytes form other_form c.in_ok-entry.entry c.in_ok-other.other first second rest others fact.0 both.0 stored means
-    ∙ told_some _ (sym c.if-ne.true ∙ c.ne.ensures) in
+    ∙ grind (arith, sym c.if-ne.true ∙ c.ne.ensures) in
     rw differs at both.1))
 
 pub loop-entry-preserved : goal.loop-entry-preserved
@@ -47,10 +43,7 @@ loop-entry-preserved c = λ form other_form ks ls d e.
     record {
       trees = rest;
       left = left;
-      fact = (
-        (first_text form c.in_ok-entry.entry first rest fact.0 stored).1,
-        record { trees = others; left = right; fact = ((first_text other_form c.in_ok-other.other second others both.0 means).1, rw same at both.1) },
-      );
+      fact = grind (arith, first_text);
     }))
 
 pub returns-clause-equal : goal.returns-clause-equal

@@ -1,12 +1,8 @@
-use Rattle.jsonb_raw.proofs.Common.{arith, ap₂, ◌∙◌, ◌≡◌, ℕ, ◌%◌, ◌++◌, ◌∷◌, [], append_assoc, to_be_bytes}
+use Rattle.jsonb_raw.proofs.Common.{arith, ap₂, ◌∙◌, ◌++◌, ◌∷◌, [], append_assoc, to_be_bytes}
 use Rattle.std.specs.Int.{w32}
 use Rattle.jsonb_raw.proofs.equality_key.push_count.Goals as goal
 
--- four bytes hold a count except for its multiples of 2 ^ 32
-low_bytes : (n : ℕ) → to_be_bytes w32 (n % 4294967296) ≡ to_be_bytes w32 n
-low_bytes n = grind arith
-
 pub returns : goal.returns
 returns c =
-    c.in_ok-extend_from_slice.ensures.items ∙ ap₂ (λ xs ys. xs ++ ys) c.in_ok-push.ensures.items (c.to_be_bytes.ensures ∙ low_bytes c.args.count)
+    c.in_ok-extend_from_slice.ensures.items ∙ ap₂ (λ xs ys. xs ++ ys) c.in_ok-push.ensures.items (c.to_be_bytes.ensures ∙ grind arith)
     ∙ append_assoc c.args.out.now.items (c.args.kind ∷ []) (to_be_bytes w32 c.args.count)

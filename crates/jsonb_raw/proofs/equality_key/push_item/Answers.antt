@@ -1,3 +1,4 @@
+use Rattle.jsonb_raw.proofs.Common.{rules}
 use Rattle.jsonb_raw.proofs.EqualityWalk.{only_start}
 use Rattle.jsonb_raw.proofs.equality_key.push_item.Goals as goal
 
@@ -7,6 +8,4 @@ returns-in-Some-clause-key c = λ form tree stands.
     c.push_parts.ensures.key form tree _ begun.1 begun.0
 
 pub returns-in-None-clause-key : goal.returns-in-None-clause-key
-returns-in-None-clause-key c = λ form tree stands.
-    let begun = rw c.in-None.is at (c.in_ok-found.ensures.key form tree stands) in
-    only_start tree _ _ begun.1 begun.0
+returns-in-None-clause-key c = search (rules, only_start)

@@ -1,13 +1,11 @@
-use Rattle.jsonb_raw.proofs.Common.{[], ◌∷◌, arith, parts}
+use Rattle.jsonb_raw.proofs.Common.{rules, ◌∷◌, arith, parts}
 use Rattle.jsonb_raw.proofs.AnswerLemmas.{failed}
 use Rattle.jsonb_raw.proofs.LevelLemmas.{parts_left, pushed_around, popped_around, SomeParts-first, SomeParts-none, SomeParts-error, falls_within, falls_beside, falls_done}
 use Rattle.jsonb_raw.proofs.EqualityWalk.{walk_begun, part_begun, part_done, all_written}
 use Rattle.jsonb_raw.proofs.equality_key.push_parts.Goals as goal
 
 pub walk-init : goal.walk-init
-walk-init c = λ form tree front found started.
-    parts_left form _ _ _ (parts tree) [] found (rw c.new-around.ensures.items tt)
-    (walk_begun tree front _ started)
+walk-init c = search (rules, parts_left, parts, walk_begun)
 
 pub walk-smaller-in-Some-2 : goal.walk-smaller-in-Some-2
 walk-smaller-in-Some-2 c =

@@ -1,4 +1,4 @@
-use Rattle.jsonb_raw.proofs.Common.{[]}
+use Rattle.jsonb_raw.proofs.Common.{rules, []}
 use Rattle.jsonb_raw.proofs.EqualityWalk.{only_start}
 use Rattle.jsonb_raw.proofs.equality_key.write_entry_key.Goals as goal
 
@@ -8,6 +8,4 @@ returns-in-Some-clause-key c = λ form tree stored.
     c.push_parts.ensures.key form tree [] begun.1 (rw (c.in_ok-reserve.ensures.items, c.clear.ensures.items) at begun.0)
 
 pub returns-in-None-clause-key : goal.returns-in-None-clause-key
-returns-in-None-clause-key c = λ form tree stored.
-    let begun = rw c.in-None.is at (c.in_ok-found.ensures.key form tree stored) in
-    only_start tree [] _ begun.1 (rw (c.in_ok-reserve.ensures.items, c.clear.ensures.items) at begun.0)
+returns-in-None-clause-key c = search (rules, only_start)

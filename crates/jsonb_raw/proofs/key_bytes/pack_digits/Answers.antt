@@ -1,9 +1,9 @@
-use Rattle.jsonb_raw.proofs.Common.{refl, ap, ◌∙◌, arith, complement_byte}
-use Rattle.jsonb_raw.proofs.DigitSteps.{none_packed, digit_packed}
+use Rattle.jsonb_raw.proofs.Common.{refl, ap, ◌∙◌, arith, complement_byte, length-digits_of-le, map-append}
+use Rattle.jsonb_raw.proofs.DigitSteps.{digit_packed}
 use Rattle.jsonb_raw.proofs.key_bytes.pack_digits.Goals as goal
 
 pub loop-left-init : goal.loop-left-init
-loop-left-init c = none_packed _ _ _ _ _ c.requires c.one-packed.ensures.len c.one-packed.ensures.bytes c.complement_byte.ensures
+loop-left-init c = grind (arith, length-digits_of-le, map-append)
 
 pub loop-left-preserved : goal.loop-left-preserved
 loop-left-preserved c =

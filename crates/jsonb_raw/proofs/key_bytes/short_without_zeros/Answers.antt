@@ -1,5 +1,5 @@
 use Rattle.jsonb_raw.proofs.Common.{arith, refl, sym, ◌∙◌}
-use Rattle.jsonb_raw.proofs.DigitSteps.{count_short, zero_passed, significant_whole, significant-nothing}
+use Rattle.jsonb_raw.proofs.DigitSteps.{count_short, zero_passed, significant_whole}
 use Rattle.jsonb_raw.proofs.key_bytes.short_without_zeros.Goals as goal
 
 pub loop-left-init : goal.loop-left-init
@@ -12,4 +12,4 @@ pub returns-then-left-ne0-clause-digits : goal.returns-then-left-ne0-clause-digi
 returns-then-left-ne0-clause-digits c = sym (significant_whole c.loop-left.left c.if-left-ne0.true) ∙ c.loop-left.invariant.same
 
 pub returns-clause-digits : goal.returns-clause-digits
-returns-clause-digits c = sym (significant-nothing c.loop-left.left (omega arith)) ∙ c.loop-left.invariant.same
+returns-clause-digits c = grind arith

@@ -1,12 +1,12 @@
-use Rattle.jsonb_raw.proofs.Common.{arith, refl, sym, ◌∙◌}
+use Rattle.jsonb_raw.proofs.Common.{rules, arith, refl}
 use Rattle.jsonb_raw.proofs.DigitSteps.{count_few, zero_passed, significant_whole}
 use Rattle.jsonb_raw.proofs.key_bytes.without_zeros.Goals as goal
 
 pub loop-left-init : goal.loop-left-init
-loop-left-init c = record { same = refl; count = omega arith; few = count_few c.args.n (omega arith) }
+loop-left-init c = search (rules, count_few)
 
 pub loop-left-preserved : goal.loop-left-preserved
 loop-left-preserved c = zero_passed _ c.loop-left.left _ c.loop-left.zeros _ c.loop-left.invariant (omega arith) refl (omega arith)
 
 pub returns-then-left-ne0-clause-digits : goal.returns-then-left-ne0-clause-digits
-returns-then-left-ne0-clause-digits c = sym (significant_whole c.loop-left.left c.if-left-ne0.true) ∙ c.loop-left.invariant.same
+returns-then-left-ne0-clause-digits c = search (rules, significant_whole)

@@ -1,4 +1,4 @@
-use Rattle.jsonb_raw.proofs.Common.{arith, refl, ap, ◌∙◌, length, complement_byte}
+use Rattle.jsonb_raw.proofs.Common.{rules, arith, refl, ap, ◌∙◌, complement_byte}
 use Rattle.jsonb_raw.proofs.DigitSteps.{room_left, digit_passed, all_digits, no_digits}
 use Rattle.jsonb_raw.proofs.key_bytes.write_digits.Goals as goal
 
@@ -20,7 +20,7 @@ loop-left-preserved c =
     c.write_before-first-in-loop-left.ensures.place c.write_before-first-in-loop-left.ensures.buffer
 
 pub returns-clause-first : goal.returns-clause-first
-returns-clause-first c = let none = no_digits c.loop-left.left (omega arith) in omega (arith, ap length none, c.loop-left.invariant.count)
+returns-clause-first c = search (rules, no_digits)
 
 pub returns-clause-buffer : goal.returns-clause-buffer
-returns-clause-buffer c = (all_digits _ _ _ _ _ _ _ c.loop-left.invariant (omega arith), c.loop-left.invariant.len)
+returns-clause-buffer c = search (rules, all_digits)

@@ -41,9 +41,6 @@ significant_last (d ∷ ds) = by_rest (cases_Bool (list_all (λ d. d == 0) (d �
         (λ (e : list_all (λ d. d == 0) ds ≡ false). absurd (true≢false (sym k ∙ e))) (and_cases (d == 0) (list_all (λ d. d == 0) ds) h)
     by_rest (inr h) (inr k) = inr (d ∷ k.0, k.1, rw h (ap (λ x. d ∷ x) k.2), k.3)
 
-first_digit : (n : ℕ) → 0 < n → (c : ℕ) × (es : List ℕ) × (significant (digits_of 10 n) ≡ c ∷ es) × (c ≢ 0)
-first_digit n h = significant_first (digits_of 10 n) (first_digits_of 10 n (omega arith) h)
-
 last_digit : (n : ℕ) → 0 < n → (es : List ℕ) × (c : ℕ) × (significant (digits_of 10 n) ≡ es ++ c ∷ []) × (c ≢ 0)
 last_digit n h = ⊎_elim
     (λ (e : list_all (λ d. d == 0) (digits_of 10 n) ≡ true). absurd
@@ -56,4 +53,5 @@ written_value n =
     ap (λ v. v * 10 ^ length (significant (digits_of 10 n))) (sym (number_digits_of 10 n (omega arith))) ∙ significant_value (digits_of 10 n)
 
 pub returns : goal.returns
-returns c = record { first = first_digit; last = last_digit; value = λ n h. written_value n }
+returns c = record { first =
+    λ n h. significant_first (digits_of 10 n) (first_digits_of 10 n (omega arith) h); last = last_digit; value = λ n h. written_value n }

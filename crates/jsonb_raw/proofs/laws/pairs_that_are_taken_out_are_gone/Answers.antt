@@ -1,5 +1,6 @@
-use Rattle.jsonb_raw.proofs.GoneLemmas.{pairs_are_gone}
+use Rattle.jsonb_raw.proofs.GoneLemmas.{some_positions, gone}
+use Rattle.jsonb_raw.proofs.Common.{arith}
 use Rattle.jsonb_raw.proofs.laws.pairs_that_are_taken_out_are_gone.Goals as goal
 
 pub returns : goal.returns
-returns c = pairs_are_gone
+returns c = grind (arith, some_positions, gone)

@@ -1,4 +1,4 @@
-use Rattle.jsonb_raw.proofs.Common.{◌≡◌, ℕ, List, [], ◌∷◌, Option, Some, None, IfSome, refl, sym, ap, ◌∙◌, slice_get, option_and_then, option_map, map, arith, Tree, Key, key_path, key_path_text, without_quotes, ReadsBack, reads_back_if_read, children, child_position, location}
+use Rattle.jsonb_raw.proofs.Common.{◌≡◌, ℕ, List, [], ◌∷◌, Option, Some, refl, slice_get, option_and_then, option_map, map, arith, Tree, Key, key_path, key_path_text, without_quotes, reads_back_if_read, children, child_position, location}
 use Rattle.jsonb_raw.proofs.laws.printed_key_paths_keep_their_place.Goals as goal
 
 same_child : (step : Key) (t : Tree) → child_position (without_quotes step) t ≡ child_position step t
@@ -21,11 +21,5 @@ same_place (step ∷ steps) t = rw (same_child step t) (by (same_place steps) (c
 abbrev PrintsToItsPlace : List Key → Type 0
 PrintsToItsPlace steps = (found : List Key) × (key_path (key_path_text steps) ≡ Some found) × ((t : Tree) → location found t ≡ location steps t)
 
--- a string that reads back with the same steps, except for quotes, has the same place on every tree
-prints_to_its_place : (o : Option (List Key)) → IfSome o ReadsBack → IfSome o PrintsToItsPlace
-prints_to_its_place None h = tt
-prints_to_its_place (Some steps) h =
-    (h.0, h.1, λ t. sym (same_place h.0 t) ∙ ap (λ (others : List Key). location others t) (sym h.2) ∙ same_place steps t)
-
 pub returns : goal.returns
-returns c = prints_to_its_place (key_path c.args.text.now) (reads_back_if_read c.args.text.now)
+returns c = grind (arith, same_place, reads_back_if_read c.args.text.now)

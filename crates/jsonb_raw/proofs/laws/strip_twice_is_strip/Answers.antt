@@ -1,12 +1,9 @@
 use Rattle.jsonb_raw.proofs.Common.{◌≡◌, ℕ, Bool, List, cond, refl, ap, ◌∙◌, arith, Tree, array, object, Trees, no_trees, tree, Pairs, no_pairs, pair, is_null, strip, strip_trees, strip_pairs}
 use Rattle.jsonb_raw.proofs.laws.strip_twice_is_strip.Goals as goal
 
-is_null-strip : (t : Tree) → is_null (strip t) ≡ is_null t
-is_null-strip t = grind arith
-
 strip_pair : (b : Bool) (k : List ℕ) (t : Tree) (ps : Pairs) → is_null t ≡ b → strip (strip t) ≡ strip t → strip_pairs (strip_pairs ps) ≡ strip_pairs ps
     → strip_pairs (cond b (strip_pairs ps) (pair k (strip t) (strip_pairs ps))) ≡ cond b (strip_pairs ps) (pair k (strip t) (strip_pairs ps))
-strip_pair b k t ps h e k' = grind (arith, is_null-strip)
+strip_pair b k t ps h e k' = grind arith
 
 mutual
   pub strip_twice : (t : Tree) → strip (strip t) ≡ strip t

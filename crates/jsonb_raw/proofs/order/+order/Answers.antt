@@ -2,7 +2,7 @@ use Rattle.jsonb_raw.proofs.Common.{◌≡◌, [], arith, sym, ap, ◌∙◌, Or
 use Rattle.jsonb_raw.specs.Private.Order.{Decides}
 use Rattle.jsonb_raw.proofs.LevelLemmas.{parts_left, SomeParts-first, SomeParts-error, SomeParts-none}
 use Rattle.jsonb_raw.proofs.LevelStarts.{all_left}
-use Rattle.jsonb_raw.proofs.OrderLemmas.{child_told, first_falls, none_left, shorter_by_one, decided, decides_along, equal_passes, next_children, ended, children_ended, parts_in_order, container_rank, container_content}
+use Rattle.jsonb_raw.proofs.OrderLemmas.{child_told, first_falls, none_left, decided, decides_along, equal_passes, next_children, ended, children_ended, parts_in_order, container_rank, container_content}
 use Rattle.jsonb_raw.proofs.order.+order.Goals.{children_order-then-is_some, children_order-else-is_some}
 use Rattle.jsonb_raw.proofs.order.+order.Goals as goal
 
@@ -65,7 +65,7 @@ children_order-returns-then-is_ne-clause-order t c = λ form other_form ps qs h 
 pub children_order-returns-then-is_ne-clause-shorter : goal.children_order-returns-then-is_ne-clause-shorter
 children_order-returns-then-is_ne-clause-shorter t c =
     let smaller = rw c.in-Some.is at c.in_ok-child.ensures.smaller in
-    shorter_by_one _ _ (c.in_ok-order.ensures.size (level_room c.args.found) (le_trans smaller.size c.loop-child.invariant.room) c.loop-child.invariant.size)
+    (grind (arith, c.in_ok-order.ensures.size (level_room c.args.found) (le_trans smaller.size c.loop-child.invariant.room) c.loop-child.invariant.size))
 
 pub children_order-loop-child-preserved : goal.children_order-loop-child-preserved
 children_order-loop-child-preserved t c =

@@ -3,7 +3,7 @@ use Rattle.jsonb_raw.proofs.AnswerLemmas.{failed}
 use Rattle.jsonb_raw.proofs.LevelLemmas.{parts_left, as_many_around, pushed_around, popped_around, SomeParts-first, SomeParts-none, falls_within, falls_beside, falls_done}
 use Rattle.jsonb_raw.proofs.LevelStarts.{stored_container}
 use Rattle.jsonb_raw.proofs.ContainLemmas.{scalar_told}
-use Rattle.jsonb_raw.proofs.LevelKeys.{walk_begun, part_begun_at, first_refused, part_done, part_written, scalar_start, scalar_parts, level_done}
+use Rattle.jsonb_raw.proofs.LevelKeys.{walk_begun, part_begun_at, first_refused, part_done, part_written, level_done}
 use Rattle.jsonb_raw.proofs.sortable_key.push_parts.Goals as goal
 
 pub walk-init : goal.walk-init
@@ -50,11 +50,11 @@ walk-preserved-in-Continue-branch-7 c = λ form tree content.
     let scalar = scalar_told form _ part.1 is (sym c.is_container.ensures ∙ c.if-is_container.false) in
     let begun = c.in_ok-push_scalar-in-Some.ensures.key form part.1 is scalar in
     parts_left form _ _ _ rest others left around
-    (part_done (width_of c.args.width) part rest others _ _ _ _ (scalar_parts part.1 scalar)
+    (part_done (width_of c.args.width) part rest others _ _ _ _ (grind (arith, scalar))
     (part_begun_at (width_of c.args.width) part rest others _ _ _ _ _ _
     (omega (arith, c.len-value.ensures, as_many_around form c.walk.around.items others around)) fact (
       part_written (width_of c.args.width) part _ _ _ _ (c.in_ok-push_name-in-Some.ensures.key part.0 keyed)
-          (begun.0 ∙ ap (λ x. c.push_name.new.out.items ++ x) (sym (scalar_start (width_of c.args.width) part.1 _ scalar))),
+          (begun.0 ∙ ap (λ x. c.push_name.new.out.items ++ x) (sym (grind (arith, scalar)))),
       begun.1,
     ))))
 

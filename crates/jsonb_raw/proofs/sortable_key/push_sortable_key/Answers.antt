@@ -1,11 +1,9 @@
-use Rattle.jsonb_raw.proofs.Common.{ℕ, List, rules, subst, AppendsKey, width_of}
-use Rattle.jsonb_raw.proofs.LevelStarts.{container_item, scalar_item}
+use Rattle.jsonb_raw.proofs.Common.{arith, ℕ, List, rules, subst, AppendsKey, width_of, array_document, object_document}
+use Rattle.jsonb_raw.proofs.LevelStarts.{scalar_item}
 use Rattle.jsonb_raw.proofs.sortable_key.push_sortable_key.Goals as goal
 
 pub returns-in-Array-clause-key : goal.returns-in-Array-clause-key
-returns-in-Array-clause-key c = λ form tree decodes.
-    subst (λ (old : List ℕ). AppendsKey (width_of c.args.width) tree old c.push_parts.result c.push_parts.new.out.items) c.reserve.ensures.items
-    (c.push_parts.ensures.key form tree (container_item form _ _ tree c.in-Array.is (c.in_ok-root.ensures.decodes form tree decodes)))
+returns-in-Array-clause-key c = grind (arith, array_document, object_document)
 
 pub returns-in_default : goal.returns-in_default
 returns-in_default c = record {

@@ -4,8 +4,7 @@ use Rattle.jsonb_raw.proofs.KeyLawProofs.{decoded_ranks}
 use Rattle.jsonb_raw.proofs.sortable_key.sortable_key.Goals as goal
 
 pub returns-in_err-push_sortable_key-clause-key : goal.returns-in_err-push_sortable_key-clause-key
-returns-in_err-push_sortable_key-clause-key c = λ form tree d.
-    failed _ _ _ c.from_residual-in_err-push_sortable_key.ensures.1 (c.in_err-push_sortable_key.ensures.key form tree d)
+returns-in_err-push_sortable_key-clause-key c = grind (arith, failed)
 
 pub returns-clause-order : goal.returns-clause-order
 returns-clause-order c = λ form tree d none u k.

@@ -129,7 +129,7 @@ fn split_at_step<'a>(
 }
 
 /// Returns the containers around the value that the steps select, the outermost first.
-fn location<'a, 'k, I: Iterator<Item = &'k KeyPath<'k>> + Drop>(
+fn parents_of<'a, 'k, I: Iterator<Item = &'k KeyPath<'k>> + Drop>(
     alloc: Global,
     bytes: &'a [u8],
     steps: I,
@@ -223,7 +223,7 @@ impl RawJsonb<'_> {
         if is_json_scalar(&root_item(bytes)?) {
             return Err(Error::InvalidJsonType);
         }
-        let Some(parents) = location(alloc, bytes, steps)? else {
+        let Some(parents) = parents_of(alloc, bytes, steps)? else {
             return copy_of(alloc, bytes);
         };
         let Some((outermost, inner)) = parents.as_slice().split_first() else {

@@ -1,11 +1,9 @@
-use Rattle.jsonb.proofs.Common.{◌∙◌, ap, None, partial_outcome}
+use Rattle.jsonb.proofs.Common.{rules, ◌∙◌, ap, None, partial_outcome}
 use Rattle.jsonb.proofs.FrameLemmas.{partial-begins, less_left}
 use Rattle.jsonb.proofs.parser.expression.expression_at.Goals as goal
 
 pub returns-clause-value : goal.returns-clause-value
-returns-clause-value c =
-    rw (ap (partial_outcome (record { is_in_filter = c.args.is_in_filter; all = None; any = None })) c.in_ok-first.ensures.value
-    ∙ partial-begins c.args.is_in_filter c.args.input.now) at c.expression_from.ensures
+returns-clause-value c = search (rules, partial-begins)
 
 pub returns-clause-shrinks : goal.returns-clause-shrinks
 returns-clause-shrinks c = less_left c.args.is_in_filter c.args.input.now c.expression_from.result

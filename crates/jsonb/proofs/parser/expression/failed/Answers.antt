@@ -1,5 +1,4 @@
-use Rattle.jsonb.proofs.Common.{◌∙◌, List, sym, ap, arith, None, partial_outcome, resumed}
-use Rattle.jsonb.specs.declared.parser.expression.Frame.{Frame}
+use Rattle.jsonb.proofs.Common.{◌∙◌, arith, resumed}
 use Rattle.jsonb.proofs.FrameLemmas.{failure-passed, none_open}
 use Rattle.jsonb.proofs.parser.expression.failed.Goals as goal
 
@@ -17,8 +16,4 @@ loop-frame-preserved c =
 
 pub returns : goal.returns
 unfolding resumed
-returns c =
-    c.ended.ensures
-    ∙ ap (λ (fs : List Frame). resumed fs (partial_outcome c.loop-frame.outer None))
-    (sym (none_open c.loop-frame.frames.items (omega (arith, c.in_default.ensures.cases.0, c.loop-frame.frames.ok.0))))
-    ∙ c.loop-frame.invariant.read
+returns c = grind (arith, none_open)

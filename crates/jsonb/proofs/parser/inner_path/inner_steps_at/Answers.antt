@@ -1,5 +1,5 @@
 use Rattle.jsonb.proofs.Common.{◌≡◌, ◌<◌, ◌++◌, ◌∷◌, [], length, sym, arith, Some, map_push, spaced_inner, path_step, steps_view, step_view, loop-goes, loop-ends}
-use Rattle.jsonb.proofs.ExpressionLemmas.{inner-is_step}
+use Rattle.jsonb.proofs.FrameLemmas.{inner-is_step}
 use Rattle.jsonb.proofs.parser.inner_path.inner_steps_at.Goals as goal
 
 pub loop-steps-preserved : goal.loop-steps-preserved
@@ -18,6 +18,4 @@ loop-steps-preserved c =
     }
 
 pub returns-clause-value : goal.returns-clause-value
-returns-clause-value c =
-    sym (loop-ends spaced_inner (steps_view c.loop-steps.steps.items) c.loop-steps.rest.now _ (sym
-    (rw c.in_default.is at c.in_ok-next.ensures.value)) c.loop-steps.invariant.read)
+returns-clause-value c = grind (arith, loop-ends)

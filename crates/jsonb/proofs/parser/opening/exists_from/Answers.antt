@@ -1,4 +1,4 @@
-use Rattle.jsonb.proofs.Common.{◌∙◌, sym, ap, steps_view, exists_closed, opened_outcome, opening_outcome}
+use Rattle.jsonb.proofs.Common.{rules, ◌∙◌, sym, ap, steps_view, exists_closed, opened_outcome, opening_outcome}
 use Rattle.jsonb.proofs.FrameLemmas.{without_bound, steps-open, steps-end, filter-unclosed}
 use Rattle.jsonb.proofs.parser.opening.exists_from.Goals as goal
 
@@ -10,7 +10,7 @@ returns-in-Some-clause-value c = λ f.
     ∙ without_bound _ (steps_view c.args.steps.items) c.in_ok-steps.rest.now c.args.input.now c.in_ok-steps.ensures.behind)
 
 pub returns-in-Some-clause-is_opening : goal.returns-in-Some-clause-is_opening
-returns-in-Some-clause-is_opening c = filter-unclosed c.in_ok-steps.rest.now c.in-Some.inside.now (sym c.in-Some.ensures.value)
+returns-in-Some-clause-is_opening c = search (rules, filter-unclosed)
 
 pub returns-clause-value : goal.returns-clause-value
 returns-clause-value c = λ f.

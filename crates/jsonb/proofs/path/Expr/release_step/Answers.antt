@@ -1,4 +1,5 @@
-use Rattle.jsonb.proofs.Common.{ap, arith, expression_parts, parts, waiting_parts, fewer_parts}
+use Rattle.jsonb.proofs.Common.{ap, arith, expression_parts, parts, fewer_parts}
+use Rattle.jsonb.specs.Private.Parts.{waiting_parts}
 use Rattle.jsonb.proofs.PathNodes.{unary_is}
 use Rattle.jsonb.proofs.path.Expr.release_step.Goals as goal
 

@@ -1,4 +1,4 @@
-use Rattle.jsonb.proofs.Common.{sym, ap, ◌∙◌, whole_expression, expression_view, expression_has_document, leaf_view, framed, progress_view, progress_has_document}
+use Rattle.jsonb.proofs.Common.{rules, sym, ap, ◌∙◌, whole_expression, expression_view, expression_has_document, leaf_view, framed, progress_view, progress_has_document}
 use Rattle.jsonb.proofs.CopyingLemmas.{not_first, not_second, owning_error-framed}
 use Rattle.jsonb.proofs.DocumentLemmas.{alone_without, refused_alone}
 use Rattle.jsonb.proofs.RefinesLemmas.{err_is}
@@ -12,15 +12,7 @@ returns-in_err-copied-clause-errors c =
     c.in_err-copied.ensures.errors))
 
 pub loop-copied-preserved : goal.loop-copied-preserved
-loop-copied-preserved c =
-    let so_far = c.loop-copied.invariant in
-    let none = sym (ap progress_has_document c.in-Leaf.is) ∙ c.in_ok-whole.ensures.documents so_far.documents (c.in_ok-copied.ensures.whole so_far.clean) in
-    record {
-      whole = sym (ap progress_view c.in-Leaf.is) ∙ c.in_ok-whole.ensures.whole
-          ∙ ap (framed c.loop-copied.reached.frames.items) c.in_ok-copied.ensures.copy ∙ so_far.whole;
-      documents = not_first _ _ none;
-      clean = not_second _ _ none;
-    }
+loop-copied-preserved c = search (rules, not_first, not_second)
 
 pub returns-in-Whole-clause-whole : goal.returns-in-Whole-clause-whole
 returns-in-Whole-clause-whole c =

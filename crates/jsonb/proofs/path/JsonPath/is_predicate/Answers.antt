@@ -1,4 +1,4 @@
-use Rattle.jsonb.proofs.Common.{◌≡◌, ◌≤◌, List, [], ◌∷◌, length, false, refl, ap, ◌∙◌, arith, Step, whole_expression, is_predicate, step_view, steps_view, Path}
+use Rattle.jsonb.proofs.Common.{rules, ◌≡◌, ◌≤◌, List, [], ◌∷◌, length, false, refl, arith, Step, whole_expression, is_predicate, step_view, steps_view, Path}
 use Rattle.jsonb.proofs.path.JsonPath.is_predicate.Goals as goal
 
 -- a path of two or more steps is not one expression
@@ -12,4 +12,4 @@ longer (s ∷ t ∷ rest) h = go (step_view s)
     go _ = refl
 
 pub returns-in_default-2 : goal.returns-in_default-2
-returns-in_default-2 c = longer _ c.in_default.len_at_least ∙ ap (λ steps. is_predicate (steps_view steps)) c.as_slice.ensures.value
+returns-in_default-2 c = search (rules, longer)

@@ -1,5 +1,5 @@
+use Rattle.jsonb.proofs.Common.{rules, path_view}
 use Rattle.jsonb.proofs.RefinesLemmas.{err_is}
-use Rattle.jsonb.proofs.Common.{path_view}
 use Rattle.jsonb.proofs.DocumentLemmas.{path_without, refused_path}
 use Rattle.jsonb.proofs.path.JsonPath.to_owned.Goals as goal
 
@@ -8,4 +8,4 @@ returns-in_err-paths-clause-errors c =
     rw (err_is c.from_residual.ensures.1) (refused_path (path_view c.args.self.now) _ c.in_err-paths.ensures.errors)
 
 pub returns-clause-whole : goal.returns-clause-whole
-returns-clause-whole c = path_without (path_view c.args.self.now) c.in_ok-paths.ensures.whole
+returns-clause-whole c = search (rules, path_without)

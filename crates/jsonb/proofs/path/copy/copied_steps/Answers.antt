@@ -1,40 +1,18 @@
-use Rattle.jsonb.proofs.Common.{◌≡◌, sym, ap, ◌∙◌, arith, nil_from_length, iter_rest, steps_of, step_view, expression_view, listed, held, step_copy_view}
+use Rattle.jsonb.proofs.Common.{rules, arith, nil_from_length}
 use Rattle.jsonb.proofs.CopyingLemmas.{step_more, step_held, step_held-parts, step_fewer, none_left_view}
 use Rattle.jsonb.proofs.path.copy.copied_steps.Goals as goal
 
 pub loop-step-preserved : goal.loop-step-preserved
-loop-step-preserved c =
-    let same : step_view c.in-Whole.copy ≡ step_view c.in-Some.step.now = sym (ap step_copy_view c.in-Whole.is) ∙ c.in_ok-copy.ensures in
-    let less = step_fewer (iter_rest c.loop-step.steps.rest) (iter_rest c.next.new.self) c.in-Some.step.now c.in-Some.ensures.steps in
-    record {
-      kind = c.loop-step.invariant.kind;
-      whole = step_more c.loop-step.steps.copies.items _ c.in-Whole.copy (iter_rest c.loop-step.steps.rest) (iter_rest c.next.new.self) c.in-Some.step.now
-          c.in_ok-push-in-Whole.ensures.items same c.in-Some.ensures.steps ∙ c.loop-step.invariant.whole;
-      fewer = omega (arith, less, c.loop-step.invariant.fewer);
-    }
+loop-step-preserved c = search (rules, step_fewer, step_more)
 
 pub loop-step-smaller : goal.loop-step-smaller
-loop-step-smaller c =
-    omega (arith, step_fewer (iter_rest c.loop-step.steps.rest) (iter_rest c.next.new.self) c.in-Some.step.now c.in-Some.ensures.steps)
+loop-step-smaller c = search (rules, step_fewer)
 
 pub returns-in-Holding-clause-whole : goal.returns-in-Holding-clause-whole
-returns-in-Holding-clause-whole c =
-    let same : held c.in-Holding.holder (expression_view c.in-Holding.inner.now) ≡ step_view c.in-Some.step.now
-    = sym (ap step_copy_view c.in-Holding.is) ∙ c.in_ok-copy.ensures in
-    let all = step_held c.loop-step.steps.copies.items (iter_rest c.loop-step.steps.rest) (iter_rest c.next.new.self) c.in-Some.step.now
-    c.in-Holding.holder _ same c.in-Some.ensures.steps ∙ c.loop-step.invariant.whole in
-    (λ i. listed (c.loop-step.invariant.kind i) (steps_of (all i)))
+returns-in-Holding-clause-whole c = search (rules, step_held)
 
 pub returns-in-Holding-clause-fewer : goal.returns-in-Holding-clause-fewer
-returns-in-Holding-clause-fewer c =
-    let same : held c.in-Holding.holder (expression_view c.in-Holding.inner.now) ≡ step_view c.in-Some.step.now
-    = sym (ap step_copy_view c.in-Holding.is) ∙ c.in_ok-copy.ensures in
-    let all = step_held-parts (iter_rest c.loop-step.steps.rest) (iter_rest c.next.new.self) c.in-Some.step.now c.in-Holding.holder _ same
-    c.in-Some.ensures.steps in
-    omega (arith, all, c.loop-step.invariant.fewer)
+returns-in-Holding-clause-fewer c = search (rules, step_held-parts)
 
 pub returns-clause-whole : goal.returns-clause-whole
-returns-clause-whole c =
-    let none = nil_from_length (iter_rest c.loop-step.steps.rest) c.in_default.ensures.steps.0 in
-    let all = none_left_view c.loop-step.steps.copies.items (iter_rest c.loop-step.steps.rest) none ∙ c.loop-step.invariant.whole in
-    c.listed.ensures ∙ (λ i. listed (c.loop-step.invariant.kind i) (steps_of (all i)))
+returns-clause-whole c = grind (arith, none_left_view, nil_from_length)

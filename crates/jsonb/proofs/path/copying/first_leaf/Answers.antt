@@ -1,5 +1,4 @@
-use Rattle.jsonb.proofs.Common.{◌≡◌, [], ◌∷◌, ◌++◌, sym, ap, ap₂, ◌∙◌, arith, binary, unary, expression_view, waiting, have_document, expression_parts}
-use Rattle.jsonb.specs.declared.path.copying.Frame.{Frame}
+use Rattle.jsonb.proofs.Common.{◌≡◌, [], ◌∷◌, ◌++◌, sym, ap, ap₂, ◌∙◌, arith, binary, unary, expression_view, waiting, have_document, expression_parts, Frame}
 use Rattle.jsonb.specs.declared.path.copying.Frame.TheVariants as frame
 use Rattle.jsonb.proofs.CopyingLemmas.{framed-more, waiting-push, have_document-push, or_false}
 use Rattle.jsonb.proofs.PathNodes.{binary_is, unary_is}

@@ -1,5 +1,4 @@
-use Rattle.jsonb.proofs.Common.{◌≡◌, List, [], ◌∷◌, ◌++◌, false, refl, sym, ap, ◌∙◌, arith, expression_has_document, binary, unary, expression_view, framed, waiting, have_document, frame_has_document}
-use Rattle.jsonb.specs.declared.path.copying.Frame.{Frame}
+use Rattle.jsonb.proofs.Common.{rules, ◌≡◌, List, [], ◌∷◌, ◌++◌, false, refl, sym, ap, ◌∙◌, arith, expression_has_document, binary, expression_view, framed, waiting, have_document, frame_has_document, Frame}
 use Rattle.jsonb.specs.declared.path.copying.Frame.TheVariants as frame
 use Rattle.jsonb.proofs.CopyingLemmas.{framed-more, waiting-push, have_document-push, none_of_both, not_first, not_second}
 use Rattle.jsonb.proofs.ViewLemmas.{view-binary, view-unary}
@@ -78,19 +77,4 @@ loop-frame-preserved-in-Left c =
     }
 
 pub loop-frame-preserved : goal.loop-frame-preserved
-loop-frame-preserved c =
-    let rest = c.pop.new.self.items in
-    let op = c.in-Sign.op in
-    let operand = c.in_ok-operand-in-Sign.operand in
-    let taken : Frame = frame.Sign op in
-    let had : c.loop-frame.frames.items ≡ rest ++ taken ∷ [] = c.in-Some.ensures.items ∙ ap (λ f. rest ++ f ∷ []) c.in-Sign.is in
-    let before = ap waiting had ∙ waiting-push rest taken in
-    let made = view-unary op operand ∙ ap (λ e. unary op (expression_view e)) c.in_ok-operand-in-Sign.ensures.ok in
-    record {
-      whole = ap (framed rest) made ∙ sym (framed-more rest c.loop-frame.frames.items taken (expression_view c.loop-frame.copy) _ had refl)
-          ∙ c.loop-frame.invariant.whole;
-      fewer = omega (arith, c.loop-frame.invariant.fewer);
-      documents = λ none clean.
-          let so_far = c.loop-frame.invariant.documents none clean in
-          (none_left rest c.loop-frame.frames.items taken had so_far.0, ap expression_has_document made ∙ so_far.1);
-    }
+loop-frame-preserved c = search (rules, waiting-push, view-unary, framed-more, none_left)

@@ -1,4 +1,4 @@
-use Rattle.jsonb.proofs.Common.{◌≡◌, ◌+◌, ◌-◌, ◌*◌, ◌/◌, ◌<◌, [], ◌++◌, refl, sym, ap, ◌∙◌, arith, has_written_append, has_written_of_eq, writes_in_calls_nil, expression_text, steps_of, step_view, steps_view, expression_view, fronts_text, links_text, steps_before, text_before, step_parts, expression_parts, parts}
+use Rattle.jsonb.proofs.Common.{rules, ◌≡◌, ◌+◌, ◌-◌, ◌/◌, ◌++◌, refl, sym, ap, ◌∙◌, arith, has_written_append, has_written_of_eq, expression_text, steps_of, steps_view, expression_view, fronts_text, links_text, steps_before, text_before, parts}
 use Rattle.std.proofs.lemmas.List.{append-nil}
 use Rattle.jsonb.proofs.ChainText.{chain_text, links_halved}
 use Rattle.jsonb.proofs.LastLemmas.{steps_before-end, down_of, one_down, seen, parts_of, fewer_parts, whole_text}
@@ -19,10 +19,7 @@ write_expression-returns g t c plain ok =
     (has_written_append _ _ _ _ _ _ before (c.write_closings.ensures before.plain ok))
 
 pub write_down-loop-next-init : goal.write_down-loop-next-init
-write_down-loop-next-init g t c = record {
-  written = λ plain. ([], record { wrote = writes_in_calls_nil _ _; plain = plain }, refl);
-  fewer = omega arith;
-}
+write_down-loop-next-init g t c = grind arith
 
 pub write_down-loop-next-preserved : goal.write_down-loop-next-preserved
 write_down-loop-next-preserved g t c =
@@ -42,30 +39,16 @@ write_down-loop-next-preserved g t c =
     }
 
 pub write_down-loop-next-smaller : goal.write_down-loop-next-smaller
-write_down-loop-next-smaller g t c =
-    let was = ap (λ o. parts_of (seen o)) c.in-Some.is in
-    let is = ap parts_of c.last_of-next.ensures in
-    let less = fewer_parts (expression_view c.in-Some.inner.now) in
-    omega arith
+write_down-loop-next-smaller c = search (rules, parts_of, seen, fewer_parts)
 
 pub write_down-returns : goal.write_down-returns
-write_down-returns g t c plain ok =
-    let had = c.loop-next.invariant.written plain in
-    has_written_of_eq _ _ _ _ _ (sym (append-nil had.0) ∙ ap (λ o. had.0 ++ down_of text_before (seen o)) (sym c.in_default.is) ∙ had.2) had.1
+write_down-returns c = search (rules, append-nil, down_of, seen)
 
 pub write_before_last-write_steps-requires : goal.write_before_last-write_steps-requires
-write_before_last-write_steps-requires g t c =
-    let row = ap row_parts (sym c.deref.ensures.value ∙ c.in-Some.ensures.cases.0) ∙ row_parts-last c.in-Some.others.now c.in-Some.last.now in
-    let whole : 0x40000000000000000 * row_parts c.args.steps.now.items + 2 ≡ t = c.decreases in
-    let less : 0x40000000000000000 * row_parts c.in-Some.others.now + 1 < t = omega arith in
-    λ κs within. (less, within)
+write_before_last-write_steps-requires c = search (rules, row_parts, row_parts-last)
 
 pub write_before_last-write_step_before-requires : goal.write_before_last-write_step_before-requires
-write_before_last-write_step_before-requires g t c =
-    let row = ap row_parts (sym c.deref.ensures.value ∙ c.in-Some.ensures.cases.0) ∙ row_parts-last c.in-Some.others.now c.in-Some.last.now in
-    let whole : 0x40000000000000000 * row_parts c.args.steps.now.items + 2 ≡ t = c.decreases in
-    let less : 0x40000000000000000 * step_parts (step_view c.in-Some.last.now) + 1 < t = omega arith in
-    λ κs within. (less, within)
+write_before_last-write_step_before-requires c = search (rules, row_parts, row_parts-last)
 
 pub write_before_last-returns : goal.write_before_last-returns
 write_before_last-returns g t c plain ok =
@@ -75,12 +58,7 @@ write_before_last-returns g t c plain ok =
     (has_written_append _ _ _ _ _ _ front (c.write_step_before.ensures front.plain ok))
 
 pub write_chain-write_expression-requires : goal.write_chain-write_expression-requires
-write_chain-write_expression-requires g t c =
-    let fewer = below_parts c.links_of-links.result (expression_view c.args.expression.now) in
-    let reached = ap expression_parts c.below.ensures in
-    let whole : 0x40000000000000000 * parts c.args.expression.now + 0x20000000000000003 ≡ t = c.decreases in
-    let less : 0x40000000000000000 * parts c.below.result.now + 0x20000000000000002 < t = omega arith in
-    λ κs within. (less, within)
+write_chain-write_expression-requires c = search (rules, below_parts, parts)
 
 pub write_chain-returns : goal.write_chain-returns
 write_chain-returns g t c plain ok =
@@ -92,13 +70,7 @@ write_chain-returns g t c plain ok =
     (has_written_append _ _ _ _ _ _ (has_written_append _ _ _ _ _ _ front inner) (c.write_links.ensures inner.plain ok))
 
 pub write_links-write_links-requires : goal.write_links-write_links-requires
-write_links-write_links-requires g t c =
-    let fewer = below_parts (c.args.links / 2) (expression_view c.args.chain.now) in
-    let reached = ap expression_parts c.below.ensures in
-    let some = c.in_default in
-    let whole : 0x40000000000000000 * parts c.args.chain.now + c.args.links ≡ t = c.decreases in
-    let less : 0x40000000000000000 * parts c.below.result.now + (c.args.links - c.args.links / 2) < t = omega arith in
-    λ κs within. (less, within)
+write_links-write_links-requires c = search (rules, below_parts, parts)
 
 pub write_links-returns-in_ok-write_links-in_default : goal.write_links-returns-in_ok-write_links-in_default
 write_links-returns-in_ok-write_links-in_default g t c plain ok =
@@ -111,8 +83,4 @@ write_links-returns-in_ok-write_links-in_default g t c plain ok =
     (has_written_append _ _ _ _ _ _ inner (c.write_links-in_default.ensures inner.plain ok))
 
 pub write_steps-write_step-requires : goal.write_steps-write_step-requires
-write_steps-write_step-requires g t c =
-    let among = step_parts-among c.args.steps.now c.loop-step.step-index c.step-item.result c.loop-step-test.true c.step-item.is in
-    let whole : 0x40000000000000000 * row_parts c.args.steps.now + 1 ≡ t = c.decreases in
-    let less : 0x40000000000000000 * step_parts (step_view c.step-item.result) < t = omega arith in
-    λ κs within. (less, within)
+write_steps-write_step-requires c = search (rules, step_parts-among, row_parts)

@@ -1,4 +1,4 @@
-use Rattle.jsonb.proofs.Common.{[], ◌++◌, refl, sym, ap, ◌∙◌, arith, has_written_append, has_written_of_eq, writes_in_calls_nil, expression_view, closing}
+use Rattle.jsonb.proofs.Common.{rules, [], ◌++◌, refl, sym, ap, ◌∙◌, has_written_append, has_written_of_eq, writes_in_calls_nil, expression_view, closing}
 use Rattle.std.proofs.lemmas.List.{append-nil}
 use Rattle.jsonb.proofs.LastLemmas.{down_of, one_down, seen, parts_of, fewer_parts}
 use Rattle.jsonb.proofs.path.display.write_closings.Goals as goal
@@ -17,13 +17,7 @@ loop-next-preserved g c plain =
     )
 
 pub loop-next-smaller : goal.loop-next-smaller
-loop-next-smaller g c =
-    let was = ap (λ o. parts_of (seen o)) c.in-Some.is in
-    let is = ap parts_of c.last_of-next.ensures in
-    let less = fewer_parts (expression_view c.in-Some.inner.now) in
-    omega arith
+loop-next-smaller c = search (rules, parts_of, seen, fewer_parts)
 
 pub returns : goal.returns
-returns g c plain ok =
-    let had = c.loop-next.invariant plain in
-    has_written_of_eq _ _ _ _ _ (sym (append-nil had.0) ∙ ap (λ o. had.0 ++ down_of closing (seen o)) (sym c.in_default.is) ∙ had.2) had.1
+returns c = search (rules, append-nil, down_of, seen)

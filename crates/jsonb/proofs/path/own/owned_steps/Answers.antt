@@ -1,14 +1,10 @@
+use Rattle.jsonb.proofs.Common.{rules}
 use Rattle.jsonb.proofs.RefinesLemmas.{err_is}
 use Rattle.jsonb.proofs.DocumentLemmas.{none_more, copied_more, refused_at, alone_tested, tested_alone}
 use Rattle.jsonb.proofs.path.own.owned_steps.Goals as goal
 
 pub loop-step-preserved : goal.loop-step-preserved
-loop-step-preserved c = record {
-  copied = copied_more _ _ _ c.deref-step-items.result.now c.loop-step.step-index c.step-item.result c.loop-step-test.true c.step-item.is
-      c.in_ok-push.ensures.items c.in_ok-to_owned.ensures.copy c.loop-step.invariant.copied;
-  whole = none_more c.deref-step-items.result.now c.loop-step.step-index c.step-item.result c.loop-step-test.true
-      c.step-item.is (alone_tested _ c.in_ok-to_owned.ensures.whole) c.loop-step.invariant.whole;
-}
+loop-step-preserved c = search (rules, copied_more, none_more, alone_tested)
 
 pub returns-in_err-to_owned-clause-errors : goal.returns-in_err-to_owned-clause-errors
 returns-in_err-to_owned-clause-errors c =

@@ -1,6 +1,5 @@
-use Rattle.jsonb.proofs.Common.{◌≡◌, is_some, ◌∙◌, ap, sym, expression_view, path_view, steps_view, only_expression}
+use Rattle.jsonb.proofs.Common.{◌≡◌, is_some, ap, sym, expression_view, path_view, steps_view, only_expression, arith}
 use Rattle.jsonb.proofs.FirstItems.{expression_told, is_expression, no_expression, first_is}
-use Rattle.jsonb.proofs.RefinesLemmas.{answered, given_by}
 use Rattle.jsonb.proofs.selector.Selector.find_first.Goals as goal
 
 pub returns-clause-first : goal.returns-clause-first
@@ -12,9 +11,5 @@ returns-clause-first c = λ form top outcome d m.
     let here : c.is_some-computed.result ≡ is_some (only_expression (path_view c.args.path.now)) =
     rw same at told in
     let first : steps_view c.deref.result.now ≡ path_view c.args.path.now = ap steps_view c.deref.ensures.value in
-    given_by ((rw (c.context_of-context.ensures.mode, c.context_of-context.ensures.document) at c.in_ok-selected.ensures.meant) form top outcome k.1
-    (rw (sym c.deref.ensures.value) at m)) (λ ts h. answered
-    (first_is c.in_ok-document.document.bytes.now _ c.is_some-computed.result _ c.first_of.result h.0 ts (k.0 ∙ c.as_bytes-bytes.ensures)
-    (is_expression (path_view c.args.path.now) c.is_some-computed.result here) h.2
-    (c.first_of.ensures form c.in_ok-document.document h.0
-    (λ f. c.in_ok-selected.ensures.nodes (ap only_expression first ∙ no_expression _ c.is_some-computed.result here f)) h.1)))
+    grind (arith, first_is, is_expression, no_expression, c.context_of-context.ensures.mode, c.context_of-context.ensures.document,
+    c.in_ok-selected.ensures.meant, c.deref.ensures.value, c.as_bytes-bytes.ensures, c.first_of.ensures, c.in_ok-selected.ensures.nodes)

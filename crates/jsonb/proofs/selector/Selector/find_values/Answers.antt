@@ -1,12 +1,10 @@
-use Rattle.jsonb.proofs.Common.{sym, AllZip, Any, IsTooLarge, raw_bytes, IsItemOf}
+use Rattle.jsonb.proofs.Common.{rules, sym, Any, IsTooLarge}
 use Rattle.jsonb.proofs.RefinesLemmas.{err_is}
 use Rattle.jsonb.proofs.DocumentAnswers.{handed_by, handed_error}
 use Rattle.jsonb.proofs.selector.Selector.find_values.Goals as goal
 
 pub returns-in_err-document-clause-items : goal.returns-in_err-document-clause-items
-returns-in_err-document-clause-items c = λ form top outcome d m.
-    handed_error (λ v ts. AllZip (IsItemOf (raw_bytes c.args.self.now.root) form) v.items ts) (Any (IsTooLarge form)) (err_is c.from_residual.ensures.1)
-    (c.in_err-document.ensures.meant form top outcome d m)
+returns-in_err-document-clause-items c = search (rules, handed_error, Any, err_is)
 
 pub returns-clause-items : goal.returns-clause-items
 returns-clause-items c = λ form top outcome d m.

@@ -1,12 +1,10 @@
-use Rattle.jsonb.proofs.Common.{sym, Decodes, IsTooLarge, array_of}
+use Rattle.jsonb.proofs.Common.{rules, sym, IsTooLarge, array_of}
 use Rattle.jsonb.proofs.RefinesLemmas.{err_is}
 use Rattle.jsonb.proofs.DocumentAnswers.{handed_by, handed_error, array_handed}
 use Rattle.jsonb.proofs.selector.Selector.select_array.Goals as goal
 
 pub returns-in_err-document-clause-array : goal.returns-in_err-document-clause-array
-returns-in_err-document-clause-array c = λ form top outcome d m.
-    handed_error (λ made ts. Decodes form made (array_of ts)) (λ ts. IsTooLarge form (array_of ts)) (err_is c.from_residual.ensures.1)
-    (c.in_err-document.ensures.meant form top outcome d m)
+returns-in_err-document-clause-array c = search (rules, handed_error, array_of, err_is)
 
 pub returns-clause-array : goal.returns-clause-array
 returns-clause-array c = λ form top outcome d m.

@@ -1,12 +1,10 @@
-use Rattle.jsonb.proofs.Common.{sym, IsSomeAnd, Decodes, IsTooLarge, SameOption, single_or_array}
+use Rattle.jsonb.proofs.Common.{rules, sym, IsSomeAnd, IsTooLarge, single_or_array}
 use Rattle.jsonb.proofs.RefinesLemmas.{err_is}
 use Rattle.jsonb.proofs.DocumentAnswers.{handed_by, handed_error, option_handed}
 use Rattle.jsonb.proofs.selector.Selector.select_value.Goals as goal
 
 pub returns-in_err-document-clause-value : goal.returns-in_err-document-clause-value
-returns-in_err-document-clause-value c = λ form top outcome d m.
-    handed_error (λ found ts. SameOption (Decodes form) found (single_or_array ts)) (λ ts. IsSomeAnd (single_or_array ts) (IsTooLarge form))
-    (err_is c.from_residual.ensures.1) (c.in_err-document.ensures.meant form top outcome d m)
+returns-in_err-document-clause-value c = search (rules, handed_error, err_is)
 
 pub returns-clause-value : goal.returns-clause-value
 returns-clause-value c = λ form top outcome d m.

@@ -12,9 +12,7 @@ returns-in_err-number-clause-meant c =
     (one_refused c.args.op c.loop-number.numbers c.loop-number.number-index _ _ c.loop-number.invariant (omega arith) c.in_err-number.ensures.meant)
 
 pub loop-number-preserved : goal.loop-number-preserved
-loop-number-preserved c =
-    one_signed c.args.op c.loop-number.numbers c.loop-number.number-index _ _ c.loop-number.invariant c.in_ok-number.field-0 (omega arith)
-    (c.in_ok-number.ensures.meant.ok)
+loop-number-preserved c = grind (arith, one_signed, c.loop-number.invariant, c.in_ok-number.ensures.meant.ok)
 
 pub returns-clause-meant : goal.returns-clause-meant
 returns-clause-meant c = answered (all_signed c.args.op c.loop-number.numbers c.loop-number.number-index _ c.loop-number.invariant (omega arith))

@@ -1,4 +1,4 @@
-use Rattle.jsonb.proofs.Common.{map, ap, sym, ◌∙◌, inr, and_then, try_flat_map, signed_number, value_view}
+use Rattle.jsonb.proofs.Common.{rules, map, sym, ◌∙◌, value_view}
 use Rattle.jsonb.proofs.CalculateLemmas.{other_refused, values_signed}
 use Rattle.jsonb.proofs.RefinesLemmas.{refused, same_outcome}
 use Rattle.jsonb.proofs.selector.calculate.unary_numbers.Goals as goal
@@ -9,6 +9,4 @@ returns-then-are_numbers-clause-meant c =
     c.each_signed.ensures.meant
 
 pub returns-else-are_numbers-clause-meant : goal.returns-else-are_numbers-clause-meant
-returns-else-are_numbers-clause-meant c = refused
-    (inr (ap (λ o. and_then o (try_flat_map (signed_number c.args.op)))
-    (other_refused (map value_view c.args.values.now) (sym c.are_numbers.ensures ∙ c.if-are_numbers.false))))
+returns-else-are_numbers-clause-meant c = search (rules, refused, other_refused)

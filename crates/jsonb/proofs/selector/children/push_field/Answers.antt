@@ -1,4 +1,4 @@
-use Rattle.jsonb.proofs.Common.{[], ◌∷◌, Locates, field_of}
+use Rattle.jsonb.proofs.Common.{rules, [], ◌∷◌, Locates, field_of}
 use Rattle.jsonb.proofs.RefinesLemmas.{found_one, none_found, mismatches, same_answer, pushed}
 use Rattle.jsonb.proofs.selector.children.push_field.Goals as goal
 
@@ -14,6 +14,4 @@ returns-in-Some-clause-meant c = λ t before m a.
     before u c.push_spot.ensures.ok c.push_spot.ensures.err a h)
 
 pub returns-in-None-clause-meant : goal.returns-in-None-clause-meant
-returns-in-None-clause-meant c = λ t before m a.
-    none_found c.args.mode [] (Locates c.args.bytes.now) (λ u. u ∷ []) (field_of c.args.name.now t) (rw c.in-None.is at (c.in_ok-value.ensures.field t m))
-    (same_answer c.fail_if_strict.ensures.answer (mismatches c.args.mode (Locates c.args.bytes.now) c.args.nodes.now.items before a))
+returns-in-None-clause-meant c = search (rules, none_found, same_answer, mismatches)

@@ -1,4 +1,4 @@
-use Rattle.jsonb.proofs.Common.{[], Ok, ap, sym, ◌∙◌, refl, cons_option, Locates, no_refusal}
+use Rattle.jsonb.proofs.Common.{[], Ok, ap, sym, ◌∙◌, refl, cons_option, Locates, no_refusal, arith}
 use Rattle.jsonb.proofs.RefinesLemmas.{pushed, unchanged, same_outcome}
 use Rattle.jsonb.proofs.Progress.{spot_first, spot_end}
 use Rattle.jsonb.proofs.PickLemmas.{get_first, get_further, get_none}
@@ -36,5 +36,4 @@ pub returns-clause-meant : goal.returns-clause-meant
 returns-clause-meant c = λ bytes ts before h a.
     let inv = c.loop-element.invariant.left bytes ts h in
     let none = spot_end bytes c.in-None.ensures.steps inv.0 inv.1 in
-    same_outcome (ap (λ o. Ok (cons_option o [])) (sym inv.2 ∙ get_none inv.0 c.loop-element.before none))
-    (unchanged (Locates bytes) c.loop-element.nodes.items before (rw (sym c.loop-element.invariant.same) at a))
+    grind (arith, get_none, unchanged, c.loop-element.invariant.same)

@@ -15,4 +15,5 @@ returns-in_err-push_spots-clause-meant c = λ bytes ts before h a.
 pub returns-clause-meant : goal.returns-clause-meant
 returns-clause-meant c = λ bytes ts before h a.
     c.push_entries.ensures.meant bytes ts before
-    (rw (sym c.deref.ensures.value) at (c.in_ok-push_spots.ensures.meant bytes ts [] h (subst (λ l. AllZip (Locates bytes) l []) (sym c.new-spots.ensures.items) tt)).ok) a
+    (rw (sym c.deref.ensures.value) at
+    (c.in_ok-push_spots.ensures.meant bytes ts [] h (subst (λ l. AllZip (Locates bytes) l []) (sym c.new-spots.ensures.items) tt)).ok) a

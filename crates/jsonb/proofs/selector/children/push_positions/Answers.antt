@@ -1,4 +1,4 @@
-use Rattle.jsonb.proofs.Common.{[], Locates, HasSpotsLeft, array_values, picked}
+use Rattle.jsonb.proofs.Common.{rules, [], HasSpotsLeft, array_values, picked}
 use Rattle.jsonb.proofs.RefinesLemmas.{listed, none_found, mismatches, same_answer}
 use Rattle.jsonb.proofs.selector.children.push_positions.Goals as goal
 
@@ -12,7 +12,4 @@ returns-in-Some-clause-meant c = λ t before m a.
     (λ us h. c.push_picked.ensures.meant c.args.bytes.now us before h a)
 
 pub returns-in-None-clause-meant : goal.returns-in-None-clause-meant
-returns-in-None-clause-meant c = λ t before m a.
-    none_found c.args.mode [] (HasSpotsLeft c.args.bytes.now) (picked c.args.entries.now) (array_values t)
-    (rw c.in-None.is at (c.in_ok-elements.ensures.meant t m))
-    (same_answer c.fail_if_strict.ensures.answer (mismatches c.args.mode (Locates c.args.bytes.now) c.args.nodes.now.items before a))
+returns-in-None-clause-meant c = search (rules, none_found, same_answer, mismatches)

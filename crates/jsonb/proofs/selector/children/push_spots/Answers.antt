@@ -1,12 +1,10 @@
-use Rattle.jsonb.proofs.Common.{Ok, Locates, HasSpotsLeft, AllZip}
+use Rattle.jsonb.proofs.Common.{rules, Ok, Locates}
 use Rattle.jsonb.proofs.RefinesLemmas.{answered, pushed}
 use Rattle.jsonb.proofs.Progress.{singles_start, one_more, at_end, spot_first, spot_end, spot_refused}
 use Rattle.jsonb.proofs.selector.children.push_spots.Goals as goal
 
 pub loop-spot-init : goal.loop-spot-init
-loop-spot-init c = λ bytes ts before l a.
-    rw (c.into_iter-spot-iterator.ensures.into_iter_gives, c.reserve.ensures.items)
-    (singles_start (HasSpotsLeft bytes c.args.spots) (AllZip (Locates bytes) c.args.nodes.now.items) ts before l a)
+loop-spot-init c = search (rules, singles_start)
 
 pub returns-in_err-spot-clause-meant : goal.returns-in_err-spot-clause-meant
 returns-in_err-spot-clause-meant c = λ bytes ts before l a.

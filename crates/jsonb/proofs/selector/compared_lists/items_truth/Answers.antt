@@ -1,4 +1,4 @@
-use Rattle.jsonb.proofs.Common.{Ok, refl, ap, sym, ◌∙◌, Locates, items_truth, Lax}
+use Rattle.jsonb.proofs.Common.{Ok, refl, ap, sym, ◌∙◌, Locates, items_truth, Lax, arith}
 use Rattle.jsonb.proofs.RefinesLemmas.{failed_as}
 use Rattle.jsonb.proofs.KeptLemmas.{known, value_is}
 use Rattle.jsonb.proofs.ListLemmas.{is_false, is_not_false, list_passes, list_stops, list_refused, list_none}
@@ -34,7 +34,4 @@ loop-item-preserved c = λ e top ts k a.
     )
 
 pub returns-clause-meant : goal.returns-clause-meant
-returns-clause-meant c = λ e top ts k a.
-    let inv = c.loop-item.invariant e top ts k a in
-    known (inv.2 ∙ list_none c.args.comparison.now top inv.0
-    (list_end (Locates c.args.bytes.now) c.args.items.now c.loop-item.item-index c.loop-item-test.false inv.0 inv.1)) refl
+returns-clause-meant c = λ e top ts k a. grind (arith, known, list_none, list_end, c.loop-item.invariant e top ts k a, c.loop-item-test.false)

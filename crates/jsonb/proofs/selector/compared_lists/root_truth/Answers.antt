@@ -1,4 +1,4 @@
-use Rattle.jsonb.proofs.Common.{◌≡◌, Bool, List, Option, Some, Ok, ap, ◌∙◌, Outcome, and_then, Tree, Truth, expression_view, truth, is_some_item, IsAt}
+use Rattle.jsonb.proofs.Common.{rules, ◌≡◌, Bool, List, Option, Some, Ok, ap, ◌∙◌, Outcome, and_then, Tree, Truth, truth, is_some_item, IsAt}
 use Rattle.jsonb.proofs.PathNodes.{exists_is}
 use Rattle.jsonb.proofs.RefinesLemmas.{failed_as, same_outcome, first_refused, one_ok}
 use Rattle.jsonb.proofs.SearchLemmas.{found_any}
@@ -6,9 +6,7 @@ use Rattle.jsonb.proofs.StepLemmas.{from_root}
 use Rattle.jsonb.proofs.selector.compared_lists.root_truth.Goals as goal
 
 pub returns-in-Lax-Some-clause-meant : goal.returns-in-Lax-Some-clause-meant
-returns-in-Lax-Some-clause-meant c = λ top r.
-    same_outcome (ap (λ mode. truth mode (expression_view c.args.e.now) top top) c.in-Lax-Some.is-0)
-    (c.list_compared_truth.ensures.meant (expression_view c.args.e.now) top c.in-Lax-Some.ensures r)
+returns-in-Lax-Some-clause-meant c = search (rules, same_outcome)
 
 pub returns-in_default-3-clause-meant : goal.returns-in_default-3-clause-meant
 returns-in_default-3-clause-meant c = λ top r. c.truth.ensures.meant top top r r

@@ -1,6 +1,5 @@
-use Rattle.jsonb.proofs.Common.{◌≡◌, ◌≤◌, [], length, drop, map, ap, ◌∙◌, arith, drop_of_length-le, and_then, steps_of, step_view, steps_view, step_meaning, steps_meaning, taken_step, AreRefused}
-use Rattle.jsonb.proofs.RefinesLemmas.{same_outcome}
-use Rattle.jsonb.proofs.MemberLemmas.{member_first, member_next, nothing_behind}
+use Rattle.jsonb.proofs.Common.{◌≡◌, ◌≤◌, [], length, drop, arith, drop_of_length-le, step_view, step_meaning, AreRefused}
+use Rattle.jsonb.proofs.MemberLemmas.{member_first, nothing_behind}
 use Rattle.jsonb.proofs.selector.compared_member.compared_member.Goals as goal
 
 pub returns-in-len1-clause-meant : goal.returns-in-len1-clause-meant
@@ -9,12 +8,7 @@ returns-in-len1-clause-meant c = λ top t all m.
     let first = member_first c.args.comparison.now.names.now 0 c.name-item.result (omega (arith, c.in-len1.len_at_least)) c.name-item.is all in
     let few : length c.args.comparison.now.names.now ≤ 1 = omega (arith, c.in-len1.len_below) in
     let none : drop 1 c.args.comparison.now.names.now ≡ [] = drop_of_length-le c.args.comparison.now.names.now few in
-    same_outcome
-    (member_next c.args.comparison.now.names.now 0 c.name-item.result (omega (arith, c.in-len1.len_at_least))
-    c.name-item.is c.args.mode AreRefused top t first.0
-    ∙ ap (λ l. and_then given (steps_meaning c.args.mode (steps_of (map (taken_step AreRefused) (steps_view l))) top)) none
-    ∙ nothing_behind c.args.mode top given)
-    (c.member_of.ensures.meant top t first.0 m)
+    grind (arith, none, nothing_behind c.args.mode top given, c.member_of.ensures.meant top t first.0 m)
 
 pub returns-in_default-clause-meant : goal.returns-in_default-clause-meant
 returns-in_default-clause-meant c = λ top t all m. c.member.ensures.meant AreRefused top t all (rw c.spot_by_parts.ensures m)

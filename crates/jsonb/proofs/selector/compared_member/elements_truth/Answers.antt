@@ -1,4 +1,4 @@
-use Rattle.jsonb.proofs.Common.{Ok, List, map, flat_map, refl, ap, sym, ◌∙◌, no_refusal, Tree, compare, value_view, value_of_item}
+use Rattle.jsonb.proofs.Common.{Ok, List, map, flat_map, refl, ap, sym, ◌∙◌, no_refusal, Tree, compare, value_view, value_of_item, arith}
 use Rattle.jsonb.proofs.RefinesLemmas.{failed_as, only_memory}
 use Rattle.jsonb.proofs.KeptLemmas.{known}
 use Rattle.jsonb.proofs.ListLemmas.{is_false, is_not_false, compare_passes, compare_stops}
@@ -6,8 +6,7 @@ use Rattle.jsonb.proofs.Progress.{spot_first, spot_end}
 use Rattle.jsonb.proofs.selector.compared_member.elements_truth.Goals as goal
 
 pub loop-element-init : goal.loop-element-init
-loop-element-init c = λ ts h.
-    (ts, rw (sym c.into_iter-element-iterator.ensures.into_iter_gives) at h, refl)
+loop-element-init c = λ ts h. grind (arith, c.into_iter-element-iterator.ensures.into_iter_gives)
 
 pub returns-in_err-element-clause-meant : goal.returns-in_err-element-clause-meant
 returns-in_err-element-clause-meant c = λ ts h.
@@ -26,9 +25,7 @@ returns-then-ne-clause-meant c = λ ts h.
     let rights = map value_view c.args.rights.now in
     let inv = c.loop-element.invariant ts h in
     let k = spot_first c.args.bytes.now c.in_ok-element.was c.in-Some.ensures.steps inv.0 inv.1 in
-    known (ap Ok (inv.2 ∙ ap (λ (l : List Tree). compare c.args.op (flat_map value_of_item l) rights) k.whole
-    ∙ compare_stops c.args.op rights (value_of_item k.first) (flat_map value_of_item k.others) c.in_ok-truth.truth
-    (sym (c.in_ok-truth.ensures.meant k.first k.holds).ok) (is_not_false c.in_ok-truth.truth (sym c.ne.ensures ∙ c.if-ne.true)))) refl
+    grind (arith, known, compare_stops, is_not_false, c.in_ok-truth.ensures.meant, c.ne.ensures, c.if-ne.true)
 
 pub loop-element-preserved : goal.loop-element-preserved
 loop-element-preserved c = λ ts h.

@@ -1,12 +1,10 @@
-use Rattle.jsonb.proofs.Common.{Ok, map, flat_map, sym, compare, value_view, values_of_item}
-use Rattle.jsonb.proofs.RefinesLemmas.{failed_as, same_outcome, first_refused, followed}
+use Rattle.jsonb.proofs.Common.{Ok, map, flat_map, sym, compare, value_view, values_of_item, arith}
+use Rattle.jsonb.proofs.RefinesLemmas.{same_outcome, followed}
 use Rattle.jsonb.proofs.ComparedLemmas.{told_by, truth_is}
 use Rattle.jsonb.proofs.selector.compared_member.literal_truth.Goals as goal
 
 pub returns-in_err-member-clause-meant : goal.returns-in_err-member-clause-meant
-returns-in_err-member-clause-meant c = λ e mode top t k g.
-    failed_as c.from_residual.ensures.1 (same_outcome (truth_is c.args.comparison.now e mode top t k)
-    (first_refused (told_by c.args.comparison.now) (rw c.in_err-member.was at g)))
+returns-in_err-member-clause-meant c = λ e mode top t k g. grind (arith, truth_is c.args.comparison.now e mode top t k, told_by c.args.comparison.now)
 
 pub returns-clause-meant : goal.returns-clause-meant
 returns-clause-meant c = λ e mode top t k g.

@@ -1,8 +1,8 @@
-use Rattle.jsonb.proofs.Common.{ap, sym, ◌∙◌, steps_of, steps_view, expression_view, truth, value_view}
-use Rattle.jsonb.specs.PathTree as math
+use Rattle.jsonb.proofs.Common.{ap, sym, ◌∙◌, steps_of, steps_view, expression_view, truth, value_view, arith}
 use Rattle.jsonb.proofs.ComparedLemmas.{compares_member}
 use Rattle.jsonb.proofs.MirrorLemmas.{member_mirrored}
 use Rattle.jsonb.proofs.TestLemmas.{compares_members}
+use Rattle.jsonb.specs.PathTree as math
 use Rattle.jsonb.proofs.selector.compile.comparison_of.Goals as goal
 
 pub returns-in_ok-literal-in-Some-None : goal.returns-in_ok-literal-in-Some-None
@@ -11,10 +11,7 @@ returns-in_ok-literal-in-Some-None c = λ compares.
     let literal = c.in_ok-literal-in-Some-None in
     record {
       members = k.ensures.0;
-      compares = λ mode top t.
-          ap (λ x. truth mode (math.binary c.args.op x (expression_view c.args.right.now)) top t) k.ensures.1
-          ∙ compares_member mode c.args.op (steps_of (steps_view k.names.now)) (expression_view c.args.right.now)
-          (value_view literal.literal) top t compares (literal.ensures mode top t);
+      compares = λ mode top t. grind (arith, compares_member);
     }
 
 pub returns-in-Some-Some : goal.returns-in-Some-Some

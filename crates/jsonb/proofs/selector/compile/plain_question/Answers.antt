@@ -1,7 +1,7 @@
-use Rattle.jsonb.proofs.Common.{◌≡◌, true, ap, sym, ◌∙◌, subst, MatchOption, ⊤, expression_view, is_condition, IsPlainQuestionOf}
-use Rattle.jsonb.specs.PathTree as math
+use Rattle.jsonb.proofs.Common.{true, sym, ◌∙◌, expression_view, arith}
 use Rattle.jsonb.proofs.PathNodes.{binary_is}
 use Rattle.jsonb.proofs.TestLemmas.{if_none}
+use Rattle.jsonb.specs.PathTree as math
 use Rattle.jsonb.proofs.selector.compile.plain_question.Goals as goal
 
 pub returns-then-is_comparison : goal.returns-then-is_comparison
@@ -9,6 +9,4 @@ returns-then-is_comparison c = λ alone.
     let view = binary_is c.args.e.now c.in-BinaryOp.op c.in-BinaryOp.left c.in-BinaryOp.right c.in-BinaryOp.is
     ∙ (λ i. math.binary c.in-BinaryOp.op (expression_view (sym c.deref.ensures i)) (expression_view (sym c.deref-then-is_comparison.ensures i))) in
     let compares = sym c.is_comparison.ensures ∙ c.if-is_comparison.true in
-    if_none (is_condition (expression_view c.args.e.now) ≡ true) (λ q. IsPlainQuestionOf q (expression_view c.args.e.now)) c.comparison_of.result
-    (ap is_condition view ∙ compares)
-    (subst (λ x. MatchOption c.comparison_of.result ⊤ (λ q. IsPlainQuestionOf q x)) (sym view) (c.comparison_of.ensures compares))
+    grind (arith, if_none, c.comparison_of.ensures)

@@ -1,11 +1,10 @@
-use Rattle.jsonb.proofs.Common.{Locates}
+use Rattle.jsonb.proofs.Common.{rules, Locates, arith}
 use Rattle.jsonb.proofs.Progress.{no_spot, list_first, list_end}
 use Rattle.jsonb.proofs.RepeatLemmas.{one_tree, thinned_start, thinned_more, thinned_end}
-use Rattle.jsonb.proofs.RefinesLemmas.{answered}
 use Rattle.jsonb.proofs.selector.distinct.first_of_equals.Goals as goal
 
 pub loop-item-init : goal.loop-item-init
-loop-item-init c = λ bytes ts a. thinned_start (Locates bytes) c.new-nodes.result.items c.args.items.now ts c.new-nodes.ensures.items a
+loop-item-init c = search (rules, thinned_start)
 
 pub loop-item-preserved : goal.loop-item-preserved
 loop-item-preserved c = λ bytes ts a.
@@ -13,6 +12,4 @@ loop-item-preserved c = λ bytes ts a.
     (list_first (Locates bytes) c.args.items.now c.loop-item.item-index no_spot c.loop-item-test.true) c.in_ok-push_first.ensures.pushed
 
 pub returns-clause-meant : goal.returns-clause-meant
-returns-clause-meant c = λ bytes ts a. answered
-    (thinned_end (Locates bytes) c.loop-item.nodes.items _ ts (c.loop-item.invariant bytes ts a)
-    (list_end (Locates bytes) c.args.items.now c.loop-item.item-index c.loop-item-test.false))
+returns-clause-meant c = λ bytes ts a. grind (arith, thinned_end, list_end, c.loop-item.invariant bytes ts a, c.loop-item-test.false)

@@ -1,3 +1,4 @@
+use Rattle.jsonb.proofs.Common.{rules}
 use Rattle.jsonb.proofs.RefinesLemmas.{err_is}
 use Rattle.jsonb.proofs.SelectedParts.{Selects-spot, Selects-number, Selects-made}
 use Rattle.jsonb.proofs.selector.documents.document_at.Goals as goal
@@ -13,10 +14,7 @@ returns-in_ok-spot_document-in-Nodes-clause-document c = λ form top ts decodes 
     (Selects-spot form c.args.document _ _ _ ts c.args.position _ d c.in-Nodes.is c.as_slice.ensures c.requires h))
 
 pub returns-in-Numbers-clause-document : goal.returns-in-Numbers-clause-document
-returns-in-Numbers-clause-document c = λ form top ts decodes h d.
-    let number = Selects-number form c.args.document _ _ ts c.args.position c.index.result.now d c.in-Numbers.is c.requires h in
-    c.number_document.ensures.document form _ (rw (← c.index.ensures) at number)
+returns-in-Numbers-clause-document c = search (rules, Selects-number)
 
 pub returns-in-Made-clause-document : goal.returns-in-Made-clause-document
-returns-in-Made-clause-document c = λ form top ts decodes h d.
-    c.made_document.ensures.document form _ (Selects-made form c.args.document _ _ ts c.args.position d c.in-Made.is c.requires h)
+returns-in-Made-clause-document c = search (rules, Selects-made)

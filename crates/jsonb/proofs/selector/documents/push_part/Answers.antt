@@ -1,4 +1,4 @@
-use Rattle.jsonb.proofs.Common.{[], ◌∷◌, trees_of}
+use Rattle.jsonb.proofs.Common.{[], ◌∷◌, trees_of, arith}
 use Rattle.jsonb.proofs.RefinesLemmas.{err_is}
 use Rattle.jsonb.proofs.SelectedParts.{part_refused}
 use Rattle.jsonb.proofs.selector.documents.push_part.Goals as goal
@@ -15,5 +15,4 @@ pub returns-in_ok-array-in-ArrayOf-clause-pushed : goal.returns-in_ok-array-in-A
 returns-in_ok-array-in-ArrayOf-clause-pushed c = λ form ts t held is.
     let part = rw c.in-ArrayOf.is at is in
     let made = c.in_ok-array-in-ArrayOf.ensures.document form part.0 part.2 in
-    c.push_item-in-ArrayOf.ensures.pushed form ts t held
-    (trees_of (part.0 ∷ []), part.1, rw c.as_slice.ensures.value made)
+    grind (arith, c.push_item-in-ArrayOf.ensures.pushed form ts t held (trees_of (part.0 ∷ []), part.1, rw c.as_slice.ensures.value made))

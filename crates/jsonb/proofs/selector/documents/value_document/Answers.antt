@@ -1,4 +1,4 @@
-use Rattle.jsonb.proofs.Common.{◌<◌, ◌≤◌, length, arith}
+use Rattle.jsonb.proofs.Common.{rules, ◌<◌, length, arith}
 use Rattle.jsonb.proofs.RefinesLemmas.{err_is}
 use Rattle.jsonb.proofs.SelectedParts.{Selects-length, value_few, value_many}
 use Rattle.jsonb.proofs.selector.documents.value_document.Goals as goal
@@ -14,6 +14,4 @@ returns-then-selected_len-gt1-clause-document c = λ form top ts decodes h.
     rw (value_many ts several) (c.in_ok-array_document.ensures.document form top ts decodes h)
 
 pub returns-clause-document : goal.returns-clause-document
-returns-clause-document c = λ form top ts decodes h.
-    let few : length ts ≤ 1 = omega (arith, c.selected_len.ensures, Selects-length form c.args.document c.args.selected.now ts h) in
-    rw (value_few ts few) (c.first_document.ensures.document form top ts decodes h)
+returns-clause-document c = search (rules, Selects-length, value_few)

@@ -1,5 +1,5 @@
-use Rattle.jsonb.proofs.Common.{Ok, ap, sym, ◌∙◌, refl, and_then, filtered}
-use Rattle.jsonb.proofs.RefinesLemmas.{failed_as, same_outcome, first_of_three_refused}
+use Rattle.jsonb.proofs.Common.{Ok, ap, sym, ◌∙◌, refl, and_then, filtered, arith}
+use Rattle.jsonb.proofs.RefinesLemmas.{same_outcome}
 use Rattle.jsonb.proofs.KeptLemmas.{known, value_is}
 use Rattle.jsonb.proofs.TestLemmas.{first_test, test_done, settled}
 use Rattle.jsonb.proofs.selector.evaluate.filter_truth.Goals as goal
@@ -7,8 +7,7 @@ use Rattle.jsonb.proofs.selector.evaluate.filter_truth.Goals as goal
 pub returns-in_err-truth-clause-meant : goal.returns-in_err-truth-clause-meant
 returns-in_err-truth-clause-meant c = λ e top t a m q.
     let k = first_test c.args.others.now c.args.first.now e c.args.mode top t a in
-    failed_as c.from_residual.ensures.1 (same_outcome (ap (λ o. and_then o (λ v. Ok (filtered t v))) (k.1 ∙ k.0.is))
-    (first_of_three_refused _ (λ v. Ok (filtered t v)) (rw c.in_err-truth.was at (q k.0.condition k.0.question))))
+    grind (arith, c.from_residual.ensures.1, k.1, k.0.is, c.in_err-truth.was, q k.0.condition k.0.question)
 
 pub returns-then-is_settled-clause-meant : goal.returns-then-is_settled-clause-meant
 returns-then-is_settled-clause-meant c = λ e top t a m q.

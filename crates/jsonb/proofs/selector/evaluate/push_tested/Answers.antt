@@ -1,10 +1,9 @@
-use Rattle.jsonb.proofs.Common.{Ok, ap, sym, ◌∙◌}
+use Rattle.jsonb.proofs.Common.{rules, Ok, ap, sym, ◌∙◌}
 use Rattle.jsonb.proofs.RefinesLemmas.{failed_as, same_outcome, refused_as, given_by}
 use Rattle.jsonb.proofs.selector.evaluate.push_tested.Goals as goal
 
 pub returns-in_err-filter_truth-clause-meant : goal.returns-in_err-filter_truth-clause-meant
-returns-in_err-filter_truth-clause-meant c = λ e top t before a m q b.
-    failed_as c.from_residual.ensures.1 (refused_as (c.in_err-filter_truth.ensures.meant e top t a m q))
+returns-in_err-filter_truth-clause-meant c = search (rules, failed_as, refused_as)
 
 pub returns-clause-meant : goal.returns-clause-meant
 returns-clause-meant c = λ e top t before a m q b.

@@ -1,5 +1,5 @@
-use Rattle.jsonb.proofs.Common.{[], ◌∷◌, Ok, Some, ap, sym, ◌∙◌, refl, and_then, Locates, steps_meaning, is_some_item, steps_of, steps_view, AreRefused}
-use Rattle.jsonb.proofs.RefinesLemmas.{failed_as, same_outcome, first_refused, one_ok}
+use Rattle.jsonb.proofs.Common.{rules, [], ◌∷◌, Ok, Some, ap, sym, ◌∙◌, and_then, Locates, steps_meaning, is_some_item, steps_of, steps_view, AreRefused, arith}
+use Rattle.jsonb.proofs.RefinesLemmas.{same_outcome, one_ok}
 use Rattle.jsonb.proofs.KeptLemmas.{known}
 use Rattle.jsonb.proofs.StepLemmas.{refused_steps}
 use Rattle.jsonb.proofs.TestLemmas.{found_is_item}
@@ -9,15 +9,13 @@ pub returns-in-Compared-clause-meant : goal.returns-in-Compared-clause-meant
 returns-in-Compared-clause-meant c = λ e top t q m. c.item_truth.ensures.meant e top t (rw c.in-Compared.is at q) m
 
 pub returns-in-MembersCompared-clause-meant : goal.returns-in-MembersCompared-clause-meant
-returns-in-MembersCompared-clause-meant c = λ e top t q m.
-    c.members_truth.ensures.meant e top t (rw c.in-MembersCompared.is at q) (rw c.spot_by_parts.ensures m)
+returns-in-MembersCompared-clause-meant c = λ e top t q m. grind (arith, c.members_truth.ensures.meant, c.in-MembersCompared.is, c.spot_by_parts.ensures)
 
 pub returns-in_err-found-in-MemberFound-clause-meant : goal.returns-in_err-found-in-MemberFound-clause-meant
 returns-in_err-found-in-MemberFound-clause-meant c = λ e top t q m.
     let k = rw c.in-MemberFound.is at q in
-    failed_as c.from_residual.ensures.1 (same_outcome (k.finds c.args.mode top t
-    ∙ ap (λ l. and_then (steps_meaning c.args.mode (steps_of l) top (t ∷ [])) (λ ts. Ok (Some (is_some_item ts)))) (sym (refused_steps (steps_view c.in-MemberFound.asked.names.now))))
-    (first_refused (λ ts. Ok (Some (is_some_item ts))) (c.in_err-found-in-MemberFound.ensures.meant AreRefused top t k.members (rw c.spot_by_parts-in-MemberFound.ensures m))))
+    grind (arith, c.from_residual.ensures.1, k.finds c.args.mode top t, refused_steps (steps_view c.in-MemberFound.asked.names.now),
+    c.in_err-found-in-MemberFound.ensures.meant AreRefused top t k.members (rw c.spot_by_parts-in-MemberFound.ensures m))
 
 pub returns-in_ok-found-in-MemberFound-clause-meant : goal.returns-in_ok-found-in-MemberFound-clause-meant
 returns-in_ok-found-in-MemberFound-clause-meant c = λ e top t q m.
@@ -28,4 +26,4 @@ returns-in_ok-found-in-MemberFound-clause-meant c = λ e top t q m.
     (λ us related. ap Some (c.is_some.ensures ∙ found_is_item (Locates c.args.bytes.now) _ us related)))
 
 pub returns-in-Unknown-clause-meant : goal.returns-in-Unknown-clause-meant
-returns-in-Unknown-clause-meant c = λ e top t q m. known ((rw c.in-Unknown.is at q) c.args.mode top t) refl
+returns-in-Unknown-clause-meant c = search (rules, known)

@@ -1,16 +1,15 @@
-use Rattle.jsonb.proofs.Common.{filter, step_meaning}
+use Rattle.jsonb.proofs.Common.{rules, filter, step_meaning}
 use Rattle.jsonb.proofs.RefinesLemmas.{failed_as}
 use Rattle.jsonb.proofs.Progress.{none_passed, spot_passed, spot_not_passed, all_passed}
 use Rattle.jsonb.proofs.TestLemmas.{no_tests}
-use Rattle.jsonb.proofs.selector.evaluate.tested_items.Goals as goal
 use Rattle.jsonb.proofs.selector.evaluate.tested_items.Goals.{in-Compared+in_ok-push_tested-in-Compared, in_default-question+in_ok-push_tested-in_default-question}
+use Rattle.jsonb.proofs.selector.evaluate.tested_items.Goals as goal
 
 pub returns-in_default-clause-meant : goal.returns-in_default-clause-meant
 returns-in_default-clause-meant c = λ e top ts k a. no_tests c.args.tests.now e c.in_default.ensures.cases k
 
 pub loop-item-init : goal.loop-item-init
-loop-item-init c = λ e top ts k a.
-    none_passed (step_meaning c.args.mode (filter e) top) c.args.bytes.now c.args.items.now ts c.new-nodes.result.items c.new-nodes.ensures.items a
+loop-item-init c = search (rules, none_passed)
 
 pub returns-in_err-push_tested-in-Compared-clause-meant : goal.returns-in_err-push_tested-in-Compared-clause-meant
 returns-in_err-push_tested-in-Compared-clause-meant c = λ e top ts k a.
@@ -46,6 +45,4 @@ loop-item-preserved c = λ e top ts k a.
     ]
 
 pub returns-clause-meant : goal.returns-clause-meant
-returns-clause-meant c = λ e top ts k a.
-    let passed = c.loop-item.invariant e top ts k a in
-    record { ok = all_passed (step_meaning c.args.mode (filter e) top) c.args.bytes.now _ ts _ _ passed c.loop-item-test.false; err = tt }
+returns-clause-meant c = λ e top ts k a. search (all_passed, c.loop-item.invariant e top ts k a, c.loop-item-test.false)

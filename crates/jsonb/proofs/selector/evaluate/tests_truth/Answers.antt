@@ -1,7 +1,6 @@
-use Rattle.jsonb.proofs.Common.{◌-◌, Ok, ap, ◌∙◌, refl, sym, arith, take-length, and_then, filtered, evaluated, IsPlainQuestionOf}
-use Rattle.jsonb.proofs.RefinesLemmas.{failed_as, same_outcome, first_of_three_refused}
+use Rattle.jsonb.proofs.Common.{◌-◌, Ok, ap, ◌∙◌, refl, sym, arith, take-length, and_then, filtered}
 use Rattle.jsonb.proofs.KeptLemmas.{known, value_is}
-use Rattle.jsonb.proofs.TestLemmas.{next_test, test_done, no_test, settled}
+use Rattle.jsonb.proofs.TestLemmas.{next_test, test_done, settled}
 use Rattle.jsonb.proofs.selector.evaluate.tests_truth.Goals as goal
 
 pub loop-left-init : goal.loop-left-init
@@ -29,8 +28,7 @@ returns-in_err-truth-clause-meant c = λ branches top t a m.
     let i = c.loop-left.left - 1 in
     let next = next_test c.args.tests.now c.loop-left.left i c.index-tests-left.result inv.0 c.loop-left.state c.args.mode top t
     c.loop-left.invariant.within (omega (arith, c.loop-left-test.true)) c.index-tests-left.is inv.1 in
-    failed_as c.from_residual.ensures.1 (same_outcome (ap (λ o. and_then o (λ b. Ok (filtered t b))) (inv.2 ∙ next.is))
-    (first_of_three_refused _ (λ b. Ok (filtered t b)) (c.in_err-truth.ensures.meant next.condition top t next.question m)))
+    grind (arith, c.from_residual.ensures.1, inv.2, next.is, c.in_err-truth.ensures.meant next.condition top t next.question m)
 
 pub loop-left-preserved : goal.loop-left-preserved
 loop-left-preserved c = record {
@@ -49,9 +47,4 @@ loop-left-preserved c = record {
 }
 
 pub returns-clause-meant : goal.returns-clause-meant
-returns-clause-meant c = λ branches top t a m.
-    let inv = c.loop-left.invariant.meant branches top t a m in
-    known (ap (λ o. and_then o (λ b. Ok (filtered t b))) (inv.2
-    ∙ ap (λ l. evaluated c.args.mode top t l c.loop-left.state)
-    (no_test IsPlainQuestionOf c.args.tests.now c.loop-left.left inv.0 (omega (arith, c.loop-left-test.false)) inv.1))
-    ∙ ap (λ b. Ok (filtered t b)) (sym c.jump_truth-2.ensures)) refl
+returns-clause-meant c = λ branches top t a m. grind (arith, c.loop-left.invariant.meant branches top t a m, c.jump_truth-2.ensures)

@@ -1,4 +1,4 @@
-use Rattle.jsonb.proofs.Common.{◌≡◌, ◌∷◌, [], ◌<◌, ap, sym, ◌∙◌, arith, if◌then◌else◌, no_refusal, spots_bound, children_of, preorder}
+use Rattle.jsonb.proofs.Common.{rules, ◌≡◌, ◌∷◌, [], ◌<◌, ap, sym, ◌∙◌, arith, if◌then◌else◌, no_refusal, spots_bound, children_of, preorder}
 use Rattle.jsonb.proofs.BelowLemmas.{none_passed, leaf_passed, next_left, none_left}
 use Rattle.jsonb.proofs.LevelLemmas.{preorder-leaf}
 use Rattle.jsonb.proofs.Progress.{spot_first, spot_end}
@@ -6,11 +6,7 @@ use Rattle.jsonb.proofs.WholeLemmas.{none_of}
 use Rattle.jsonb.proofs.selector.levels.pass_leaves.Goals as goal
 
 pub loop-child-init : goal.loop-child-init
-loop-child-init c = record {
-  room = omega arith;
-  bound = omega arith;
-  passed = λ bytes levels n ts before l m a. none_passed bytes levels n ts before _ _ m a;
-}
+loop-child-init c = search (rules, none_passed)
 
 pub returns-in_err-child-clause-meant : goal.returns-in_err-child-clause-meant
 returns-in_err-child-clause-meant c = λ bytes levels n ts before l m a.
@@ -19,9 +15,7 @@ returns-in_err-child-clause-meant c = λ bytes levels n ts before l m a.
 
 pub returns-then-is_container-clause-meant : goal.returns-then-is_container-clause-meant
 returns-then-is_container-clause-meant c = λ bytes levels n ts before l m a.
-    let w = c.loop-child.invariant.passed bytes levels n ts before l m a in
-    next_left bytes levels n ts before _ _ _ _ w
-    (spot_first bytes c.in_ok-child.was c.in-Some.ensures.steps w.rest w.left)
+    search (next_left, spot_first, c.loop-child.invariant.passed bytes levels n ts before l m a, c.in_ok-child.was, c.in-Some.ensures.steps)
 
 pub returns-then-is_container-clause-size : goal.returns-then-is_container-clause-size
 returns-then-is_container-clause-size c = omega (arith, c.loop-child.invariant.room, rw c.in_ok-child.was at c.in-Some.ensures.steps.any_bytes.size)
@@ -30,9 +24,7 @@ pub returns-then-is_container-clause-room : goal.returns-then-is_container-claus
 returns-then-is_container-clause-room c = omega (arith, c.loop-child.invariant.room, c.in-Some.ensures.steps.any_bytes.room)
 
 pub returns-then-is_container-clause-bound : goal.returns-then-is_container-clause-bound
-returns-then-is_container-clause-bound c =
-    let fewer : spots_bound c.next.new.self < spots_bound c.loop-child.left = (c.in-Some.ensures.goes.on tt).2 in
-    omega (arith, c.loop-child.invariant.bound, fewer)
+returns-then-is_container-clause-bound c = grind (arith, c.in-Some.ensures.goes.on, c.loop-child.invariant.bound)
 
 pub loop-child-preserved : goal.loop-child-preserved
 loop-child-preserved c =
@@ -52,5 +44,4 @@ loop-child-preserved c =
 
 pub returns-clause-meant : goal.returns-clause-meant
 returns-clause-meant c = λ bytes levels n ts before l m a.
-    let w = c.loop-child.invariant.passed bytes levels n ts before l m a in
-    none_left bytes levels n ts before _ _ w (spot_end bytes c.in_default.ensures.steps w.rest w.left)
+    search (none_left, spot_end, c.loop-child.invariant.passed bytes levels n ts before l m a, c.in_default.ensures.steps)

@@ -1,4 +1,4 @@
-use Rattle.jsonb.proofs.Common.{arith, children_of, some_spots, no_spots}
+use Rattle.jsonb.proofs.Common.{rules, arith, children_of, some_spots}
 use Rattle.jsonb.proofs.LevelLemmas.{preorder-entered, preorder-leaf}
 use Rattle.jsonb.proofs.LevelRanges.{range_taken, preorder-passed}
 use Rattle.jsonb.proofs.selector.levels.push_item.Goals as goal
@@ -14,13 +14,7 @@ returns-in-Some-clause-meant c = λ levels u n before ranged l m a.
     )
 
 pub returns-in-None-clause-meant : goal.returns-in-None-clause-meant
-returns-in-None-clause-meant c = λ levels u n before ranged l m a. (
-  rw (range_taken levels _ _ n _ ranged l c.contains.ensures) at (c.in_ok-push_if.ensures.meant c.args.bytes.now u before m a).ok,
-  preorder-leaf levels n u (no_spots c.args.bytes.now (children_of u) (rw c.in-None.is at (c.in_ok-children.ensures.spots u m))),
-)
+returns-in-None-clause-meant c = λ levels u n before ranged l m a. grind (arith, range_taken, preorder-leaf)
 
 pub returns-then-range-level-clause-meant : goal.returns-then-range-level-clause-meant
-returns-then-range-level-clause-meant c = λ levels u n before ranged l m a. (
-  rw (range_taken levels _ _ n _ ranged l c.contains.ensures) at (c.in_ok-push_if.ensures.meant c.args.bytes.now u before m a).ok,
-  preorder-passed levels n u (ranged.left n (omega (arith, l, c.if-range-level.true))),
-)
+returns-then-range-level-clause-meant c = search (rules, range_taken, preorder-passed)

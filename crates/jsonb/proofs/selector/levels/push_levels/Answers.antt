@@ -1,14 +1,11 @@
-use Rattle.jsonb.proofs.Common.{inl, sym, refl, arith}
+use Rattle.jsonb.proofs.Common.{rules, inl, sym, refl, arith}
 use Rattle.jsonb.proofs.RefinesLemmas.{answered, failed_with}
 use Rattle.jsonb.proofs.BelowLemmas.{no_levels, walk_begun, leaves_passed, all_passed, item_passed, item_entered, level_done, walk_done, told_first, falls_within, falls_beside, falls_done}
 use Rattle.jsonb.proofs.LevelRanges.{range_taken}
 use Rattle.jsonb.proofs.selector.levels.push_levels.Goals as goal
 
 pub returns-in_err-below-clause-meant : goal.returns-in_err-below-clause-meant
-returns-in_err-below-clause-meant c = λ u n before l m a.
-    failed_with c.from_residual.ensures.1
-    (inl (c.in_err-below.ensures.meant c.args.levels u n before
-    c.of_step-range.ensures l m a))
+returns-in_err-below-clause-meant c = λ u n before l m a. grind (arith, c.in_err-below.ensures.meant c.args.levels u n before c.of_step-range.ensures l m a)
 
 pub returns-in_default-clause-meant : goal.returns-in_default-clause-meant
 returns-in_default-clause-meant c = λ u n before l m a.
@@ -35,9 +32,8 @@ returns-in_err-below-in-Some-2-clause-meant c = λ u n before l m a.
     let v = leaves_passed c.args.bytes.now c.args.levels _ _ _ _ _ _ _ w
     (rw c.in-Some-2.is at (c.in_ok-container.ensures.meant c.args.bytes.now c.args.levels w.level w.here w.given
     (range_taken c.args.levels _ _ w.level _ c.of_step-range.ensures w.deep c.contains-is_taken.ensures) w.left w.done)) in
-    failed_with c.from_residual-in_err-below-in-Some-2.ensures.1
-    (inl (c.in_err-below-in-Some-2.ensures.meant c.args.levels v.left.first v.level v.given
-    c.of_step-range.ensures v.deep v.left.holds v.done))
+    grind (arith, c.from_residual-in_err-below-in-Some-2.ensures.1,
+    c.in_err-below-in-Some-2.ensures.meant c.args.levels v.left.first v.level v.given c.of_step-range.ensures v.deep v.left.holds v.done)
 
 pub walk-smaller-in-Some-below : goal.walk-smaller-in-Some-below
 walk-smaller-in-Some-below c =
@@ -61,8 +57,7 @@ walk-preserved-in-Some-below c = record {
 }
 
 pub walk-smaller-in_default-below : goal.walk-smaller-in_default-below
-walk-smaller-in_default-below c =
-    falls_beside _ _ c.walk.around.items (rw c.in-Some-2.is at c.in_ok-container.ensures.room) (rw c.in-Some-2.is at c.in_ok-container.ensures.bound)
+walk-smaller-in_default-below c = search (rules, falls_beside)
 
 pub walk-preserved-in_default-below : goal.walk-preserved-in_default-below
 walk-preserved-in_default-below c = record {

@@ -1,5 +1,5 @@
-use Rattle.jsonb.proofs.Common.{◌+◌, ◌∷◌, [], IsOkAnd, map, drop, ap, sym, ◌∙◌, subst, drop_of_length-le, Locates, steps_of, step_view, steps_view, AllZip, step_meaning, steps_meaning, option_spots, taken_step}
-use Rattle.jsonb.proofs.RefinesLemmas.{failed_as, same_outcome, first_refused, one_ok, continued}
+use Rattle.jsonb.proofs.Common.{◌+◌, ◌∷◌, [], IsOkAnd, map, drop, ap, sym, ◌∙◌, subst, drop_of_length-le, Locates, steps_of, step_view, steps_view, AllZip, step_meaning, steps_meaning, option_spots, taken_step, arith}
+use Rattle.jsonb.proofs.RefinesLemmas.{same_outcome, one_ok, continued}
 use Rattle.jsonb.proofs.MemberLemmas.{none_left, no_member, one_member, member_first, member_next}
 use Rattle.jsonb.proofs.selector.members.member.Goals as goal
 
@@ -7,11 +7,10 @@ pub returns-in_err-next-clause-meant : goal.returns-in_err-next-clause-meant
 returns-in_err-next-clause-meant c = λ expressions top t all m.
     let inv = c.loop-step.invariant expressions top t all m in
     let first = member_first c.args.steps.now c.loop-step.step-index c.step-item.result c.loop-step-test.true c.step-item.is inv.2 in
-    failed_as c.from_residual.ensures.1 (same_outcome
-    (inv.3 ∙ member_next c.args.steps.now c.loop-step.step-index c.step-item.result c.loop-step-test.true
-    c.step-item.is c.args.mode expressions top inv.0 first.0)
-    (first_refused (steps_meaning c.args.mode (steps_of (map (taken_step expressions) (steps_view (drop (c.loop-step.step-index + 1) c.args.steps.now)))) top)
-    (c.in_err-next.ensures.meant top inv.0 first.0 inv.1)))
+    grind (arith, c.from_residual.ensures.1, inv.3,
+    member_next c.args.steps.now c.loop-step.step-index c.step-item.result c.loop-step-test.true c.step-item.is c.args.mode expressions top inv.0 first.0,
+    steps_meaning c.args.mode (steps_of (map (taken_step expressions) (steps_view (drop (c.loop-step.step-index + 1) c.args.steps.now)))) top,
+    c.in_err-next.ensures.meant top inv.0 first.0 inv.1)
 
 pub returns-in-None-clause-meant : goal.returns-in-None-clause-meant
 returns-in-None-clause-meant c = λ expressions top t all m.

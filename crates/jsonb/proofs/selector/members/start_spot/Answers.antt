@@ -1,4 +1,4 @@
-use Rattle.jsonb.proofs.Common.{◌≡◌, arith, true, false, List, [], ◌∷◌, refl, sym, subst, ◌∙◌, Tree, Step, current, steps_of, steps_view, start, IsAt, is_relative}
+use Rattle.jsonb.proofs.Common.{rules, ◌≡◌, arith, true, false, List, [], ◌∷◌, refl, Tree, Step, current, steps_of, start, is_relative}
 use Rattle.jsonb.proofs.selector.members.start_spot.Goals as goal
 
 at_item : (steps : List Step) (top t : Tree) → is_relative steps ≡ true → start (steps_of steps) top t ≡ t
@@ -12,11 +12,7 @@ at_root [] top t h = refl
 at_root (_ ∷ rest) top t h = refl
 
 pub returns-then-is_relative : goal.returns-then-is_relative
-returns-then-is_relative c = λ top t root item.
-    subst (IsAt c.args.document c.args.item)
-    (sym (at_item (steps_view c.args.steps.now) top t (sym c.is_relative.ensures ∙ c.if-is_relative.true))) item
+returns-then-is_relative c = search (rules, at_item)
 
 pub returns-else-is_relative : goal.returns-else-is_relative
-returns-else-is_relative c = λ top t root item.
-    subst (IsAt c.args.document c.args.document.root)
-    (sym (at_root (steps_view c.args.steps.now) top t (sym c.is_relative.ensures ∙ c.if-is_relative.false))) root
+returns-else-is_relative c = search (rules, at_root)

@@ -1,8 +1,8 @@
-use Rattle.jsonb.proofs.Common.{◌∷◌, [], None, Err, ap, sym, ◌∙◌, refl, arith, subst, nil_from_length, err_from_is_err_and, steps_of, steps_meaning, HasItems, IsReached, Lax}
-use Rattle.jsonb.specs.declared.selector.search.Reached.TheVariants as reached
+use Rattle.jsonb.proofs.Common.{◌∷◌, [], None, Err, ap, sym, ◌∙◌, refl, arith, subst, nil_from_length, err_from_is_err_and, steps_of, steps_meaning, HasItems, Lax}
 use Rattle.jsonb.proofs.SearchLemmas.{Searching, taken_first, taken_none, found_at_most, search_begun, item_found, item_passed, items_entered, items_done, search_done, refused_if_any}
-use Rattle.jsonb.proofs.selector.search.first_found.Goals as goal
 use Rattle.jsonb.proofs.selector.search.first_found.Goals.{in-Some+in_ok-item-in-Some+in_ok-found-in-Some+in-AtMostOne-None, in-Some+in_ok-item-in-Some+in_ok-found-in-Some+in-Many-2+in_ok-push-in-Many-2, in-None+in-Some-pop}
+use Rattle.jsonb.specs.declared.selector.search.Reached.TheVariants as reached
+use Rattle.jsonb.proofs.selector.search.first_found.Goals as goal
 
 pub returns-in_err-found-clause-meant : goal.returns-in_err-found-clause-meant
 returns-in_err-found-clause-meant c = λ top t ss a m.
@@ -32,8 +32,7 @@ returns-in-AtMostOne-Some-clause-meant c = λ top t ss a m.
     let w = c.walk.invariant top t ss a m in
     let f = taken_first c.args.bytes.now c.in-Some.item c.in_ok-item-in-Some.field-0 c.next.new.self w.here c.in_ok-item-in-Some.was
     (c.in-Some.ensures.takes c.args.bytes.now w.here w.left) in
-    let k = subst (λ r. IsReached c.args.bytes.now top f.first w.rest r)
-    (c.in-AtMostOne-Some.is ∙ ap reached.AtMostOne c.in-AtMostOne-Some.field-0-is)
+    let k = rw (c.in-AtMostOne-Some.is ∙ ap reached.AtMostOne c.in-AtMostOne-Some.field-0-is) at
     (c.in_ok-found-in-Some.ensures.meant top f.first w.rest w.searched f.holds) in
     record { ok = item_found c.args.bytes.now top w c.in-AtMostOne-Some.found f k; err = tt }
 
@@ -46,23 +45,20 @@ walk-preserved c = λ top t ss a m.
       | in-Some+in_ok-item-in-Some+in_ok-found-in-Some+in-AtMostOne-None b ↦
           let f = taken_first bytes b.in-Some.item b.in_ok-item-in-Some.field-0 c.next.new.self w.here b.in_ok-item-in-Some.was
           (b.in-Some.ensures.takes bytes w.here w.left) in
-          let k = subst (λ r. IsReached bytes top f.first w.rest r) (b.in-AtMostOne-None.is ∙ ap reached.AtMostOne b.in-AtMostOne-None.field-0-is)
+          let k = rw (b.in-AtMostOne-None.is ∙ ap reached.AtMostOne b.in-AtMostOne-None.field-0-is) at
           (b.in_ok-found-in-Some.ensures.meant top f.first w.rest w.searched f.holds) in
           subst (λ z. Searching bytes top (HasItems bytes z.items) z.ahead c.match-next.around.items whole) (sym b.within-is)
-          (subst (λ z. Searching bytes top (HasItems bytes c.next.new.self) c.walk.within.ahead z.items whole) (sym b.around-is)
-          (item_passed bytes top w f k))
+          (rw (sym b.around-is) at (item_passed bytes top w f k))
       | in-Some+in_ok-item-in-Some+in_ok-found-in-Some+in-Many-2+in_ok-push-in-Many-2 b ↦
           let f = taken_first bytes b.in-Some.item b.in_ok-item-in-Some.field-0 c.next.new.self w.here b.in_ok-item-in-Some.was
           (b.in-Some.ensures.takes bytes w.here w.left) in
           let k = rw b.in-Many-2.is at (b.in_ok-found-in-Some.ensures.meant top f.first w.rest w.searched f.holds) in
           subst (λ z. Searching bytes top (HasItems bytes z.items) z.ahead c.match-next.around.items whole) (sym b.within-is)
-          (subst (λ z. Searching bytes top (HasItems bytes b.in-Many-2.inner.items) b.in-Many-2.inner.ahead z.items whole) (sym b.around-is)
+          (rw (sym b.around-is) at
           (items_entered bytes top w (record { items = c.next.new.self; ahead = c.walk.within.ahead }) b.in-Many-2.inner b.push.new.self.items f refl
           b.in_ok-push-in-Many-2.ensures.items k))
       | in-None+in-Some-pop b ↦
-          subst (λ z. Searching bytes top (HasItems bytes z.items) z.ahead c.match-next.around.items whole) (sym b.within-is)
-          (subst (λ z. Searching bytes top (HasItems bytes b.in-Some-pop.outer.items) b.in-Some-pop.outer.ahead z.items whole) (sym b.around-is)
-          (items_done bytes top w b.in-Some-pop.outer b.pop.new.self.items
+          rw (sym b.within-is) at (rw (sym b.around-is) at (items_done bytes top w b.in-Some-pop.outer b.pop.new.self.items
           (taken_none bytes c.next.new.self w.here (b.in-None.ensures.takes bytes w.here w.left)) b.in-Some-pop.ensures.items))
     ]
 

@@ -1,4 +1,4 @@
-use Rattle.jsonb.proofs.Common.{[], map, subst, take_all, steps_view, AreAhead, taken_step}
+use Rattle.jsonb.proofs.Common.{rules, [], take_all}
 use Rattle.jsonb.proofs.SearchLemmas.{searched_more, plain_last}
 use Rattle.jsonb.proofs.selector.search.outline_of.Goals as goal
 
@@ -9,6 +9,4 @@ loop-step-preserved c = λ none.
     (plain_last c.args.expressions _ _ [] c.step-item.result k.1 k.2 (c.loop-step.invariant k.0))
 
 pub returns : goal.returns
-returns c = λ none.
-    subst (λ l. AreAhead l (map (taken_step c.args.expressions) (steps_view l)) [])
-    (take_all c.loop-step.step-index c.args.steps.now c.loop-step-test.false) (c.loop-step.invariant none)
+returns c = search (rules, take_all)

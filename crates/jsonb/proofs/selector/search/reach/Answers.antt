@@ -1,8 +1,8 @@
-use Rattle.jsonb.proofs.Common.{◌∷◌, [], Err, ap, sym, ◌∙◌, refl, subst, err_from_is_err_and, IsOutOfMemory, steps_of, step_meaning, steps_meaning, AreGiven, IsReached, Lax}
+use Rattle.jsonb.proofs.Common.{Err, ap, sym, ◌∙◌, refl, subst, err_from_is_err_and, IsOutOfMemory, steps_of, step_meaning, steps_meaning, AreGiven, IsReached, Lax, arith}
 use Rattle.std.specs.Result.{MatchResult}
-use Rattle.jsonb.specs.declared.selector.search.StepItems.TheVariants as given
 use Rattle.jsonb.proofs.MemberLemmas.{none_left}
 use Rattle.jsonb.proofs.SearchLemmas.{searched_total, first_step, no_step, memory_alone, step_taken, given_none, given_one}
+use Rattle.jsonb.specs.declared.selector.search.StepItems.TheVariants as given
 use Rattle.jsonb.proofs.selector.search.reach.Goals as goal
 
 pub loop-step-init : goal.loop-step-init
@@ -19,13 +19,7 @@ returns-in_err-next-clause-meant c = λ top t ss a m.
 
 pub returns-in-AtMostOne-None-clause-meant : goal.returns-in-AtMostOne-None-clause-meant
 returns-in-AtMostOne-None-clause-meant c = λ top t ss a m.
-    let inv = c.loop-step.invariant top t ss a m in
-    let f = first_step inv.1 c.in-Some.step c.in-Some.others (c.in-Some.ensures.takes inv.1 inv.3) in
-    let k = step_taken (AreGiven c.args.bytes.now c.in_ok-next.field-0) f.first f.others inv.1 top inv.0 f.whole
-    (c.in_ok-next.ensures.meant top inv.0 f.first f.holds inv.2).ok in
-    let none = given_none c.args.bytes.now c.in_ok-next.field-0 k.0
-    (c.in-AtMostOne-None.is ∙ ap given.AtMostOne c.in-AtMostOne-None.field-0-is) k.1 in
-    ([], tt, inv.4 ∙ k.2 ∙ ap (steps_meaning Lax (steps_of f.others) top) none ∙ none_left Lax (steps_of f.others) top)
+    grind (arith, c.loop-step.invariant top t ss a m, c.in_ok-next.ensures.meant, first_step, step_taken, given_none, none_left)
 
 pub returns-in-Many-clause-meant : goal.returns-in-Many-clause-meant
 returns-in-Many-clause-meant c = λ top t ss a m.
@@ -46,9 +40,4 @@ loop-step-preserved c = λ top t ss a m.
     (one.0, f.others, rw c.spot_by_parts-item.ensures one.2, f.left, inv.4 ∙ k.2 ∙ ap (steps_meaning Lax (steps_of f.others) top) one.1)
 
 pub returns-clause-meant : goal.returns-clause-meant
-returns-clause-meant c = λ top t ss a m.
-    let inv = c.loop-step.invariant top t ss a m in (
-      inv.0 ∷ [],
-      (inv.2, tt),
-      inv.4 ∙ ap (λ l. steps_meaning Lax (steps_of l) top (inv.0 ∷ [])) (no_step inv.1 (c.in_default.ensures.takes inv.1 inv.3)),
-    )
+returns-clause-meant c = λ top t ss a m. grind (arith, no_step, c.loop-step.invariant top t ss a m, c.in_default.ensures.takes)

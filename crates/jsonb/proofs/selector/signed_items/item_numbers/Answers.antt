@@ -1,13 +1,11 @@
-use Rattle.jsonb.proofs.Common.{[], map, ap, Locates, number_view, all_numbers, AllZip, values_of_item}
+use Rattle.jsonb.proofs.Common.{rules, [], Locates, all_numbers, values_of_item}
 use Rattle.jsonb.proofs.RefinesLemmas.{answered, failed_as, refused, same_outcome}
 use Rattle.jsonb.proofs.Progress.{no_spot, at_start, one_more, refused_in, at_end, list_first, list_end}
 use Rattle.jsonb.proofs.SignLemmas.{Behind, numbers_of_parts, more_behind}
 use Rattle.jsonb.proofs.selector.signed_items.item_numbers.Goals as goal
 
 pub loop-item-init : goal.loop-item-init
-loop-item-init c = λ ts h.
-    at_start (λ t. all_numbers (values_of_item t)) (AllZip (Locates c.args.bytes.now) c.args.items.now) (Behind [] c.in_ok-numbers.numbers.items) ts h
-    (ap (map number_view) c.in_ok-numbers.ensures.items)
+loop-item-init c = search (rules, at_start, Behind)
 
 pub returns-in_err-push_item-clause-meant : goal.returns-in_err-push_item-clause-meant
 returns-in_err-push_item-clause-meant c = λ ts h.

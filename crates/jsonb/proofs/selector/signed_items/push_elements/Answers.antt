@@ -1,14 +1,11 @@
-use Rattle.jsonb.proofs.Common.{map, sym, append-nil, HasSpotsLeft, number_view, all_numbers, value_of_item}
+use Rattle.jsonb.proofs.Common.{rules, all_numbers, value_of_item}
 use Rattle.jsonb.proofs.RefinesLemmas.{answered, failed_as, refused, same_outcome}
 use Rattle.jsonb.proofs.Progress.{at_start, one_more, refused_in, at_end, spot_first, spot_end, spot_refused}
 use Rattle.jsonb.proofs.SignLemmas.{Behind, numbers_of_parts, more_behind}
 use Rattle.jsonb.proofs.selector.signed_items.push_elements.Goals as goal
 
 pub loop-element-init : goal.loop-element-init
-loop-element-init c = λ ts h.
-    rw (c.into_iter-element-iterator.ensures.into_iter_gives, c.reserve.ensures.items)
-    (at_start (λ t. all_numbers (value_of_item t)) (HasSpotsLeft c.args.bytes.now c.args.elements)
-    (Behind c.args.numbers.now.items c.args.numbers.now.items) ts h (sym (append-nil (map number_view c.args.numbers.now.items))))
+loop-element-init c = search (rules, at_start, Behind)
 
 pub returns-in_err-element-clause-meant : goal.returns-in_err-element-clause-meant
 returns-in_err-element-clause-meant c = λ ts h.

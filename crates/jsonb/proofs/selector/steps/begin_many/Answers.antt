@@ -1,4 +1,4 @@
-use Rattle.jsonb.proofs.Common.{[], Err, ap, sym, ◌∙◌, ◌+◌, ◌<◌, arith, steps_meaning, filtered_later, running_steps, item_tests, running_weight, progress_weight, at_filter_weight, tests_weight, filter_weight, turn_weight, frame_weight, around_weight, Frame}
+use Rattle.jsonb.proofs.Common.{rules, [], Err, ap, sym, ◌∙◌, arith, steps_meaning, filtered_later, running_steps}
 use Rattle.jsonb.proofs.RefinesLemmas.{err_is}
 use Rattle.jsonb.proofs.AroundLemmas.{onward_done, onward_waits}
 use Rattle.jsonb.proofs.WeightLemmas.{few_nodes, waits_weigh, beside, fewer_than}
@@ -37,30 +37,12 @@ returns-in-None-clause-meant c = λ top o whole repeats r at around.
     let turn = rw c.in-None.is at (c.in_ok-pending.ensures.meant top p r (c.new-filter.ensures.meant top at.0 at.1 at.2 at.3)) in
     let kept = ap (λ a. a.repeats) c.in_ok-pending.ensures.same ∙ c.new-filter.ensures.same.0 in
     let done = steps_meaning context.mode (running_steps c.next.new.self.after) top turn.0 in
-    onward_done context top c.args.around.now.items now repeats done o whole c.finish.result
-    (rw kept at (c.finish.ensures.meant top turn.0 r turn.1)) (rw turn.2 at same) around
+    grind (arith, onward_done, c.finish.ensures.meant)
 
 pub returns-in_ok-filter-in-Some-clause-fewer : goal.returns-in_ok-filter-in-Some-clause-fewer
 returns-in_ok-filter-in-Some-clause-fewer c =
-    let around = around_weight c.args.around.now.items in
-    let tests = tests_weight (item_tests c.args.path.tests) in
-    let many = few_nodes c.args.path.running.items tests in
-    let boxed = c.in_ok-filter-in-Some.ensures.ok in
-    let frame : Frame = record { filter = c.in_ok-filter-in-Some.filter; waits = c.in-Some.pending.value.waits } in
-    let turn = ap (turn_weight c.next.new.self) c.in-Some.is in
-    let path = at_filter_weight c.in-Some.pending.value.path.value in
-    let low : path + (around + frame_weight frame) < at_filter_weight c.args.path + around =
-    omega (arith, many, turn, ap filter_weight boxed, c.new-filter.ensures.fewer, c.in_ok-pending.ensures.fewer) in
-    fewer_than c.wait.result (λ next. progress_weight next + around_weight c.wait.new.around.items) _ _ low
-    (waits_weigh c.args.around.now.items c.wait.new.around.items frame c.in-Some.pending.value.path c.wait.result c.wait.ensures.waits)
+    grind (arith, few_nodes, fewer_than, waits_weigh, c.in_ok-filter-in-Some.ensures.ok, c.in-Some.is, c.new-filter.ensures.fewer,
+    c.in_ok-pending.ensures.fewer, c.wait.ensures.waits)
 
 pub returns-in-None-clause-fewer : goal.returns-in-None-clause-fewer
-returns-in-None-clause-fewer c =
-    let around = around_weight c.args.around.now.items in
-    let tests = tests_weight (item_tests c.args.path.tests) in
-    let turn = ap (turn_weight c.next.new.self) c.in-None.is in
-    let after = running_weight c.next.new.self.after in
-    let low : after + around < at_filter_weight c.args.path + around =
-    omega (arith, few_nodes c.args.path.running.items tests, turn, c.new-filter.ensures.fewer, c.in_ok-pending.ensures.fewer) in
-    fewer_than c.finish.result (λ next. progress_weight next + around) (after + around) _ low
-    (beside c.finish.result progress_weight after after around (omega arith) c.finish.ensures.fewer)
+returns-in-None-clause-fewer c = search (rules, few_nodes, fewer_than, beside)

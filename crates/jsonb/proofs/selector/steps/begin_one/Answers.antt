@@ -1,4 +1,4 @@
-use Rattle.jsonb.proofs.Common.{Ok, Err, ap, sym, ◌∙◌, subst, ◌+◌, ◌<◌, arith, and_then, steps_meaning, truth, filtered, asking_tests, IsFilterWaiting, running_steps, IsAt, item_tests, next_weight, progress_weight, at_filter_weight, filter_weight, frame_weight, around_weight, Frame}
+use Rattle.jsonb.proofs.Common.{Ok, Err, ap, sym, ◌∙◌, subst, arith, and_then, steps_meaning, truth, filtered, asking_tests, IsFilterWaiting, running_steps, IsAt, item_tests}
 use Rattle.jsonb.proofs.RefinesLemmas.{err_is}
 use Rattle.jsonb.proofs.AroundLemmas.{filter_one, one_waits, onward_done, onward_waits}
 use Rattle.jsonb.proofs.OperandLemmas.{as_refused}
@@ -57,18 +57,10 @@ returns-clause-meant c = λ one top o whole repeats r at around.
     let turn = rw c.in-None.is at (c.in_ok-pending.ensures.meant top n.0 keeps r begins) in
     let b = c.truth.result in
     let known = turn.0 ∙ ap Ok (sym c.truth.ensures) in
-    let found = rw (sym c.at_most_one-found.ensures) at (kept_found (IsAt context.document) c.is_true-keeps.result c.then_some.result c.args.item n.0 (filtered n.0 b)
+    let found = rw (sym c.at_most_one-found.ensures) at
+    (kept_found (IsAt context.document) c.is_true-keeps.result c.then_some.result c.args.item n.0 (filtered n.0 b)
     c.then_some.ensures (c.is_true-keeps.ensures n.0) n.2) in
-    onward_done context top c.args.around.now.items run.repeats repeats (rest (filtered n.0 b)) o whole c.resume.result
-    (c.resume.ensures.meant top (filtered n.0 b) r found) (rw known at same) around
+    grind (arith, onward_done, c.resume.ensures.meant)
 
 pub returns-in-Some-clause-fewer : goal.returns-in-Some-clause-fewer
-returns-in-Some-clause-fewer c =
-    let around = around_weight c.args.around.now.items in
-    let boxed = c.in_ok-filter-in-Some.ensures.ok in
-    let frame : Frame = record { filter = c.in_ok-filter-in-Some.filter; waits = c.in-Some.pending.value.waits } in
-    let path = at_filter_weight c.in-Some.pending.value.path.value in
-    let low : path + (around + frame_weight frame) < at_filter_weight c.args.path + around =
-    omega (arith, ap filter_weight boxed, ap next_weight c.in-Some.is, c.waiting-filter.ensures.fewer, c.new-asking.ensures.fewer, c.in_ok-pending.ensures.fewer) in
-    fewer_than c.wait.result (λ next. progress_weight next + around_weight c.wait.new.around.items) _ _ low
-    (waits_weigh c.args.around.now.items c.wait.new.around.items frame c.in-Some.pending.value.path c.wait.result c.wait.ensures.waits)
+returns-in-Some-clause-fewer c = grind (arith, fewer_than, waits_weigh)

@@ -1,5 +1,5 @@
-use Rattle.jsonb.proofs.Common.{Locates}
-use Rattle.jsonb.proofs.RefinesLemmas.{answered, failed_with}
+use Rattle.jsonb.proofs.Common.{Locates, arith}
+use Rattle.jsonb.proofs.RefinesLemmas.{failed_with}
 use Rattle.jsonb.proofs.Progress.{no_spot, one_more, refused_in, at_end, list_first, list_end}
 use Rattle.jsonb.proofs.selector.steps.named_values.Goals as goal
 
@@ -17,6 +17,5 @@ loop-item-preserved c = λ ts a.
     (λ u before s b. (c.in_ok-push_field.ensures.meant u before s b).ok)
 
 pub returns-clause-meant : goal.returns-clause-meant
-returns-clause-meant c = λ ts a. answered
-    (at_end (c.loop-item.invariant ts a)
-    (list_end (Locates c.args.bytes.now) c.args.items.now c.loop-item.item-index c.loop-item-test.false))
+returns-clause-meant c = λ ts a.
+    grind (arith, at_end (c.loop-item.invariant ts a) (list_end (Locates c.args.bytes.now) c.args.items.now c.loop-item.item-index c.loop-item-test.false))

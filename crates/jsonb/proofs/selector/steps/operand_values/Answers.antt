@@ -1,6 +1,6 @@
-use Rattle.jsonb.proofs.Common.{Ok, flat_map, ap, ◌∙◌, and_then, values_of_item, operand_values, values_view}
+use Rattle.jsonb.proofs.Common.{Ok, flat_map, ap, ◌∙◌, and_then, values_of_item, operand_values, values_view, arith}
 use Rattle.jsonb.proofs.PathNodes.{paths_is}
-use Rattle.jsonb.proofs.RefinesLemmas.{failed_as, same_outcome, first_refused, followed}
+use Rattle.jsonb.proofs.RefinesLemmas.{same_outcome, followed}
 use Rattle.jsonb.proofs.RepeatLemmas.{same_values}
 use Rattle.jsonb.proofs.StepLemmas.{from_start}
 use Rattle.jsonb.proofs.selector.steps.operand_values.Goals as goal
@@ -8,10 +8,9 @@ use Rattle.jsonb.proofs.selector.steps.operand_values.Goals as goal
 pub returns-in_err-found-in-Paths-clause-meant : goal.returns-in_err-found-in-Paths-clause-meant
 returns-in_err-found-in-Paths-clause-meant c = λ top u r s.
     let mode = c.args.current.context.now.mode in
-    failed_as c.from_residual.ensures.1 (same_outcome (ap (λ x. operand_values mode x top u) (paths_is c.args.e.now c.in-Paths.steps c.in-Paths.is)
-    ∙ ap (λ o. and_then o (λ ts. Ok (flat_map values_of_item ts)))
-    (from_start mode _ _ _ top u c.deref-in-Paths.ensures.value c.deref.ensures.value))
-    (first_refused (λ ts. Ok (flat_map values_of_item ts)) (c.in_err-found-in-Paths.ensures.meant top _ r (c.start_spot-first.ensures top u r s))))
+    grind (arith, c.from_residual.ensures.1, paths_is c.args.e.now c.in-Paths.steps c.in-Paths.is,
+    from_start mode _ _ _ top u c.deref-in-Paths.ensures.value c.deref.ensures.value,
+    c.in_err-found-in-Paths.ensures.meant top _ r (c.start_spot-first.ensures top u r s))
 
 pub returns-in_ok-found-in-Paths-clause-meant : goal.returns-in_ok-found-in-Paths-clause-meant
 returns-in_ok-found-in-Paths-clause-meant c = λ top u r s.

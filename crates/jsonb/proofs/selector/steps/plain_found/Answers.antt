@@ -1,4 +1,4 @@
-use Rattle.jsonb.proofs.Common.{Ok, ap, sym, ◌∙◌, inl, inr, AllZip, try_flat_map, Refines, IsOutOfMemory, step_view, step_meaning, IsAt, node_spots}
+use Rattle.jsonb.proofs.Common.{rules, Ok, ap, sym, ◌∙◌, inl, inr, AllZip, try_flat_map, Refines, IsOutOfMemory, step_meaning, IsAt, node_spots}
 use Rattle.jsonb.proofs.PathNodes.{root_is, current_is}
 use Rattle.jsonb.proofs.Progress.{joined_singles}
 use Rattle.jsonb.proofs.RefinesLemmas.{same_outcome}
@@ -16,10 +16,7 @@ returns-in-Root-clause-meant c = λ top ts plain a.
     ]
 
 pub returns-in-One-clause-meant : goal.returns-in-One-clause-meant
-returns-in-One-clause-meant c = λ top ts plain a.
-    let f = step_meaning c.args.context.now.mode (step_view c.args.step.now) top in
-    let one = only_one (IsAt c.args.context.now.document) c.in-One.item ts (rw c.in-One.is at a) in
-    same_outcome (ap (try_flat_map f) one.1 ∙ joined_one f one.0) (c.plain_step.ensures.meant top one.0 plain one.2)
+returns-in-One-clause-meant c = search (rules, only_one, same_outcome, joined_one)
 
 pub returns-in-Many-clause-meant : goal.returns-in-Many-clause-meant
 returns-in-Many-clause-meant c = λ top ts plain a.

@@ -1,9 +1,9 @@
+use Rattle.jsonb.proofs.Common.{rules}
 use Rattle.jsonb.proofs.RefinesLemmas.{failed_as, refused_as, given_by}
 use Rattle.jsonb.proofs.selector.steps.plain_list.Goals as goal
 
 pub returns-in_err-found-clause-meant : goal.returns-in_err-found-clause-meant
-returns-in_err-found-clause-meant c = λ top ts plain a.
-    failed_as c.from_residual.ensures.1 (refused_as (c.in_err-found.ensures.meant top ts plain a))
+returns-in_err-found-clause-meant c = search (rules, failed_as, refused_as)
 
 pub returns-clause-meant : goal.returns-clause-meant
 returns-clause-meant c = λ top ts plain a.

@@ -1,12 +1,10 @@
-use Rattle.jsonb.proofs.Common.{[], sym, subst, Locates, AllZip}
-use Rattle.jsonb.proofs.RefinesLemmas.{answered, failed_as, refused_as}
+use Rattle.jsonb.proofs.Common.{[], sym, subst, Locates, AllZip, arith}
+use Rattle.jsonb.proofs.RefinesLemmas.{answered}
 use Rattle.jsonb.proofs.selector.steps.plain_step.Goals as goal
 
 pub returns-in_err-push_step-clause-meant : goal.returns-in_err-push_step-clause-meant
 returns-in_err-push_step-clause-meant c = λ top u n s.
-    failed_as c.from_residual-in_err-push_step.ensures.1
-    (refused_as (c.in_err-push_step.ensures.meant top u [] n s
-    (subst (λ l. AllZip (Locates c.args.bytes.now) l []) (sym c.new-nodes.ensures.items) tt)))
+    grind (arith, c.in_err-push_step.ensures.meant top u [] n s (subst (λ l. AllZip (Locates c.args.bytes.now) l []) (sym c.new-nodes.ensures.items) tt))
 
 pub returns-clause-meant : goal.returns-clause-meant
 returns-clause-meant c = λ top u n s. answered

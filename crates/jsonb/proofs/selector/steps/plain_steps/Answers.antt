@@ -21,6 +21,4 @@ loop-item-preserved c = λ top ts n a.
     (λ u before s b. (c.in_ok-push_step.ensures.meant top u before n s b).ok)
 
 pub returns-clause-meant : goal.returns-clause-meant
-returns-clause-meant c = λ top ts n a. answered
-    (at_end (c.loop-item.invariant top ts n a)
-    (list_end (Locates c.args.bytes.now) c.args.items.now c.loop-item.item-index c.loop-item-test.false))
+returns-clause-meant c = λ top ts n a. search (answered, at_end, list_end, c.loop-item.invariant top ts n a, c.loop-item-test.false)

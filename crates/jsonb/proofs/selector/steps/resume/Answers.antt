@@ -1,4 +1,4 @@
-use Rattle.jsonb.proofs.Common.{Err, ap, sym, ◌∙◌, ◌≤◌, ◌+◌, arith, steps_meaning, running_steps, running_weight, progress_weight, at_filter_weight, filter_weight, waits_weight, frame_weight, turn_weight, around_weight}
+use Rattle.jsonb.proofs.Common.{rules, Err, ap, sym, ◌∙◌, arith, steps_meaning, running_steps}
 use Rattle.jsonb.proofs.RefinesLemmas.{err_is}
 use Rattle.jsonb.proofs.AroundLemmas.{onward_done, onward_waits}
 use Rattle.jsonb.proofs.WeightLemmas.{waits_weigh, beside, no_more}
@@ -33,19 +33,7 @@ returns-in-None-clause-meant c = λ top o p q whole repeats r waiting same found
     (rw kept at (c.finish.ensures.meant top turn.0 r turn.1)) (rw turn.2 at same) around
 
 pub returns-in-Some-clause-fewer : goal.returns-in-Some-clause-fewer
-returns-in-Some-clause-fewer c =
-    let around = around_weight c.args.around.now.items in
-    let turn = ap (turn_weight c.take.new.self) c.in-Some.is in
-    let low : at_filter_weight c.in-Some.pending.value.path.value + (around + (filter_weight c.take.new.self + waits_weight c.in-Some.pending.value.waits))
-    ≤ frame_weight c.args.frame + around = omega (arith, turn, ap filter_weight c.deref_mut.ensures.value, c.in_ok-pending.ensures.fewer) in
-    no_more c.wait.result (λ next. progress_weight next + around_weight c.wait.new.around.items) _ _ low
-    (waits_weigh c.args.around.now.items c.wait.new.around.items _ c.in-Some.pending.value.path c.wait.result c.wait.ensures.waits)
+returns-in-Some-clause-fewer c = grind (arith, no_more, waits_weigh)
 
 pub returns-in-None-clause-fewer : goal.returns-in-None-clause-fewer
-returns-in-None-clause-fewer c =
-    let lent = ap filter_weight c.deref_mut.ensures.value in
-    let turn = ap (turn_weight c.take.new.self) c.in-None.is in
-    let same = ap (λ g. running_weight g.after) c.into_inner.ensures in
-    let low : running_weight c.into_inner.result.after ≤ frame_weight c.args.frame = omega (arith, turn, lent, same, c.in_ok-pending.ensures.fewer) in
-    beside c.finish.result progress_weight (running_weight c.into_inner.result.after) (frame_weight c.args.frame) (around_weight c.args.around.now.items) low
-    c.finish.ensures.fewer
+returns-in-None-clause-fewer c = search (rules, beside)

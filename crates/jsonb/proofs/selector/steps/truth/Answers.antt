@@ -1,16 +1,14 @@
-use Rattle.jsonb.proofs.Common.{ap, sym, ◌∙◌, subst, inl, arith, truth, expression_view, node_spots, IsQuestionOf, AreTestsOf, item_tests, next_weight, waits_weight}
-use Rattle.jsonb.specs.declared.selector.plan.Compiled.TheVariants as made
+use Rattle.jsonb.proofs.Common.{rules, ap, sym, ◌∙◌, truth, expression_view, node_spots}
 use Rattle.jsonb.proofs.AroundLemmas.{waiting_refused, dropped}
 use Rattle.jsonb.proofs.OperandLemmas.{as_refused}
 use Rattle.jsonb.proofs.RefinesLemmas.{failed_with, same_outcome}
 use Rattle.jsonb.proofs.TestLemmas.{any_tests, only_question}
 use Rattle.jsonb.proofs.WeightLemmas.{running_some}
+use Rattle.jsonb.specs.declared.selector.plan.Compiled.TheVariants as made
 use Rattle.jsonb.proofs.selector.steps.truth.Goals as goal
-use Rattle.jsonb.proofs.selector.steps.truth.Goals.{in-Items, in-Plain-Many}
 
 pub returns-in_err-tests-clause-meant : goal.returns-in_err-tests-clause-meant
-returns-in_err-tests-clause-meant c = λ top t r s.
-    failed_with c.from_residual.ensures.1 (inl c.in_err-tests.ensures.errors)
+returns-in_err-tests-clause-meant c = search (rules, failed_with)
 
 pub returns-in-Plain-One-clause-meant : goal.returns-in-Plain-One-clause-meant
 returns-in-Plain-One-clause-meant c = λ top t r s.
@@ -20,28 +18,10 @@ returns-in-Plain-One-clause-meant c = λ top t r s.
     same_outcome one.2 (c.question_truth.ensures.meant one.0 top t one.1 s)
 
 pub returns-in_err-next-clause-meant : goal.returns-in_err-next-clause-meant
-returns-in_err-next-clause-meant c = λ top t r s.
-    let context = c.args.current.context.now in
-    let e = expression_view c.args.e.now in
-    let compiled : AreTestsOf IsQuestionOf (item_tests c.match-branch-2.tests) e = elim c.match-branch-2.branch [
-      | in-Items w ↦ subst (λ x. AreTestsOf IsQuestionOf (item_tests x) e) (sym w.tests-is)
-          (rw w.in-Items.is at c.in_ok-tests.ensures.tests)
-      | in-Plain-Many w ↦ subst (λ x. AreTestsOf IsQuestionOf (item_tests x) e) (sym w.tests-is) (any_tests w.in-Plain-Many.tests.items e
-          (rw (w.in-Plain-Many.is ∙ ap made.Plain w.in-Plain-Many.field-0-is) at c.in_ok-tests.ensures.tests))
-    ] in
-    failed_with c.from_residual-in_err-next.ensures.1 (c.in_err-next.ensures.meant top t (truth context.mode e top t) r (c.new-asking.ensures.begins context top t e s compiled tt))
+returns-in_err-next-clause-meant c = search (rules, any_tests, failed_with)
 
 pub loop-next-init : goal.loop-next-init
-loop-next-init c = λ top t r s.
-    let context = c.args.current.context.now in
-    let e = expression_view c.args.e.now in
-    let compiled : AreTestsOf IsQuestionOf (item_tests c.match-branch-2.tests) e = elim c.match-branch-2.branch [
-      | in-Items w ↦ subst (λ x. AreTestsOf IsQuestionOf (item_tests x) e) (sym w.tests-is)
-          (rw w.in-Items.is at c.in_ok-tests.ensures.tests)
-      | in-Plain-Many w ↦ subst (λ x. AreTestsOf IsQuestionOf (item_tests x) e) (sym w.tests-is) (any_tests w.in-Plain-Many.tests.items e
-          (rw (w.in-Plain-Many.is ∙ ap made.Plain w.in-Plain-Many.field-0-is) at c.in_ok-tests.ensures.tests))
-    ] in
-    c.in_ok-next.ensures.meant top t (truth context.mode e top t) r (c.new-asking.ensures.begins context top t e s compiled tt)
+loop-next-init c = search (rules, any_tests)
 
 pub returns-in_err-found-clause-meant : goal.returns-in_err-found-clause-meant
 returns-in_err-found-clause-meant c = λ top t r s.
@@ -77,14 +57,7 @@ loop-next-preserved c = λ top t r s.
     c.in_ok-next-2.ensures.meant top t w.0 whole r waits found
 
 pub loop-next-smaller : goal.loop-next-smaller
-loop-next-smaller c =
-    let same = ap (λ x. waits_weight x.waits) c.into_inner-path.ensures in
-    let some = running_some c.in-Some.pending.value.path.value.running in
-    omega (arith, ap next_weight c.in-Some.is, same, some, c.in_ok-next-2.ensures.fewer)
+loop-next-smaller c = search (rules, running_some)
 
 pub returns-clause-meant : goal.returns-clause-meant
-returns-clause-meant c = λ top t r s.
-    let context = c.args.current.context.now in
-    let whole = truth context.mode (expression_view c.args.e.now) top t in
-    let known = rw c.in_default.is at (c.loop-next.invariant top t r s) in
-    same_outcome known.0 (record { ok = c.truth.ensures; err = tt })
+returns-clause-meant c = search (rules, same_outcome)

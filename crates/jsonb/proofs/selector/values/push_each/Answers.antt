@@ -1,13 +1,10 @@
-use Rattle.jsonb.proofs.Common.{◌≡◌, ◌++◌, map, ap, ◌∙◌, refl, HasSpotsLeft, value_of_item, value_view}
+use Rattle.jsonb.proofs.Common.{◌++◌, ap, ◌∙◌, value_of_item}
 use Rattle.jsonb.proofs.RefinesLemmas.{answered, failed_with, memory_only}
 use Rattle.jsonb.proofs.Progress.{total_start, one_more, refused_in, at_end, spot_first, spot_end, spot_refused}
 use Rattle.jsonb.proofs.selector.values.push_each.Goals as goal
 
 pub loop-element-init : goal.loop-element-init
-loop-element-init c = λ ts h.
-    rw c.into_iter-element-iterator.ensures.into_iter_gives
-    (total_start value_of_item (HasSpotsLeft c.args.bytes.now c.args.elements) (λ vs. map value_view c.args.values.now.items ≡ vs) ts
-    (map value_view c.args.values.now.items) h refl)
+loop-element-init c = λ ts h. search (total_start, c.into_iter-element-iterator.ensures.into_iter_gives)
 
 pub returns-in_err-element-clause-meant : goal.returns-in_err-element-clause-meant
 returns-in_err-element-clause-meant c = λ ts h.

@@ -1,4 +1,4 @@
-use Rattle.jsonb.proofs.Common.{Ok, ap, some_spots, no_spots, array_values}
+use Rattle.jsonb.proofs.Common.{rules, Ok, ap, some_spots, no_spots, array_values}
 use Rattle.jsonb.proofs.ItemKinds.{values_of_array, other_values}
 use Rattle.jsonb.proofs.RefinesLemmas.{same_outcome}
 use Rattle.jsonb.proofs.selector.values.push_values.Goals as goal
@@ -15,6 +15,4 @@ pub returns-in_err-spot_value-in-None-clause-meant : goal.returns-in_err-spot_va
 returns-in_err-spot_value-in-None-clause-meant c = λ t m. absurd (c.in_err-spot_value-in-None.ensures.value t m)
 
 pub returns-in_ok-spot_value-in-None-clause-meant : goal.returns-in_ok-spot_value-in-None-clause-meant
-returns-in_ok-spot_value-in-None-clause-meant c = λ t m.
-    let none = no_spots c.args.bytes.now (array_values t) (rw c.in-None.is at (c.in_ok-elements.ensures.meant t m)) in
-    same_outcome (ap Ok (other_values t none)) (c.push_item.ensures.meant t (c.in_ok-spot_value-in-None.ensures.value t m))
+returns-in_ok-spot_value-in-None-clause-meant c = search (rules, no_spots, same_outcome, other_values)

@@ -1,4 +1,4 @@
-use Rattle.jsonb.proofs.Common.{[], ◌∷◌, sym, ◌∙◌, ap, refl, and_then, number_view, value, expression_view, literal_view, operation, each_signed, operand_values, truth, truth_list, binary_meaning, calculation, AreSelected}
+use Rattle.jsonb.proofs.Common.{[], ◌∷◌, sym, ◌∙◌, ap, refl, number_view, value, expression_view, literal_view, operation, operand_values, binary_meaning, calculation, AreSelected, arith}
 use Rattle.jsonb_doc.specs.Tree.{number}
 use Rattle.jsonb.proofs.RefinesLemmas.{failed_as, same_outcome, refused_as, one_given}
 use Rattle.jsonb.proofs.PathNodes.{literal_is, unary_is, binary_is, exists_is}
@@ -14,18 +14,14 @@ returns-in-Value-clause-meant c = λ form top outcome r h.
 
 pub returns-in_err-numbers-in-UnaryOp-clause-meant : goal.returns-in_err-numbers-in-UnaryOp-clause-meant
 returns-in_err-numbers-in-UnaryOp-clause-meant c = λ form top outcome r h.
-    failed_as c.from_residual.ensures.1
-    (same_outcome (meant form c.args.context.now.mode top outcome _ _ (unary_is c.args.e.now c.in-UnaryOp.op c.in-UnaryOp.operand c.in-UnaryOp.is) h
-    ∙ ap (λ x. and_then (operand_values c.args.context.now.mode (expression_view x) top top) (each_signed c.in-UnaryOp.op))
-    (sym c.deref-in-UnaryOp.ensures))
-    (refused_as (c.in_err-numbers-in-UnaryOp.ensures.meant top r)))
+    grind (arith, c.from_residual.ensures.1,
+    meant form c.args.context.now.mode top outcome _ _ (unary_is c.args.e.now c.in-UnaryOp.op c.in-UnaryOp.operand c.in-UnaryOp.is) h,
+    c.deref-in-UnaryOp.ensures, c.in_err-numbers-in-UnaryOp.ensures.meant top r)
 
 pub returns-in_ok-numbers-in-UnaryOp-clause-meant : goal.returns-in_ok-numbers-in-UnaryOp-clause-meant
 returns-in_ok-numbers-in-UnaryOp-clause-meant c = λ form top outcome r h.
-    same_outcome (meant form c.args.context.now.mode top outcome _ _ (unary_is c.args.e.now c.in-UnaryOp.op c.in-UnaryOp.operand c.in-UnaryOp.is) h
-    ∙ ap (λ x. and_then (operand_values c.args.context.now.mode (expression_view x) top top) (each_signed c.in-UnaryOp.op))
-    (sym c.deref-in-UnaryOp.ensures))
-    (record { ok = (c.in_ok-numbers-in-UnaryOp.ensures.meant top r).ok; err = tt })
+    grind (arith, meant form c.args.context.now.mode top outcome _ _ (unary_is c.args.e.now c.in-UnaryOp.op c.in-UnaryOp.operand c.in-UnaryOp.is) h,
+    c.deref-in-UnaryOp.ensures)
 
 pub returns-in_err-number-in-BinaryOp-clause-meant : goal.returns-in_err-number-in-BinaryOp-clause-meant
 returns-in_err-number-in-BinaryOp-clause-meant c = λ form top outcome r h.
@@ -55,14 +51,10 @@ returns-in_ok-number-in-BinaryOp-clause-meant c = λ form top outcome r h.
 pub returns-else-is_arithmetic-clause-meant : goal.returns-else-is_arithmetic-clause-meant
 returns-else-is_arithmetic-clause-meant c = λ form top outcome r h.
     let view = binary_is c.args.e.now c.in-BinaryOp.op c.in-BinaryOp.left c.in-BinaryOp.right c.in-BinaryOp.is in
-    same_outcome (meant form c.args.context.now.mode top outcome _ _ view h
-    ∙ ap (λ x. binary_meaning c.args.context.now.mode x c.in-BinaryOp.op (expression_view c.in-BinaryOp.left.value)
-    (expression_view c.in-BinaryOp.right.value) top)
-    (none_of (operation c.in-BinaryOp.op) (sym c.is_arithmetic.ensures ∙ c.if-is_arithmetic.false))
-    ∙ ap (λ x. truth_list (truth c.args.context.now.mode x top top)) (sym view)) (c.whole_truth.ensures.meant form top r)
+    grind (arith, meant form c.args.context.now.mode top outcome _ _ view h,
+    none_of (operation c.in-BinaryOp.op) (sym c.is_arithmetic.ensures ∙ c.if-is_arithmetic.false), view, c.whole_truth.ensures.meant form top r)
 
 pub returns-in-ExistsFunc-clause-meant : goal.returns-in-ExistsFunc-clause-meant
 returns-in-ExistsFunc-clause-meant c = λ form top outcome r h.
     let view = exists_is c.args.e.now c.in-ExistsFunc.field-0 c.in-ExistsFunc.is in
-    same_outcome (meant form c.args.context.now.mode top outcome _ _ view h ∙ ap (λ x. truth_list (truth c.args.context.now.mode x top top)) (sym view))
-    (c.whole_truth-in-ExistsFunc.ensures.meant form top r)
+    grind (arith, meant form c.args.context.now.mode top outcome _ _ view h, view, c.whole_truth-in-ExistsFunc.ensures.meant form top r)

@@ -1,4 +1,4 @@
-use Rattle.jsonb_doc.proofs.Common.{arith, refl, kind_number}
+use Rattle.jsonb_doc.proofs.Common.{arith, refl, kind_number, common_steps}
 use Rattle.jsonb_doc.proofs.ArrayLemmas.{stored_held}
 use Rattle.jsonb_doc.proofs.array_builder.ArrayBuilder.push_spot.Goals as goal
 
@@ -7,17 +7,14 @@ returns-in_err-entry-clause-pushed c = λ form top t ts holds d l. absurd (c.in_
 
 pub returns-clause-pushed : goal.returns-clause-pushed
 returns-clause-pushed c = λ form top t ts holds d l.
-    let held = rw (← c.self.view_is) at holds in
     let words = c.in_ok-push_stored.ensures.words in
     let contents = c.in_ok-push_stored.ensures.contents in
-    stored_held form
-    (record { words = c.self.inside.words.items; contents = c.self.inside.contents.items }) _ ts (kind_number c.in_ok-entry.entry.kind)
-    c.in_ok-entry.entry.content.now t held (c.in_ok-entry.ensures.entry form top t d l) (omega arith) (rw (words, contents) refl)
+    stored_held form (record { words = c.self.inside.words.items; contents = c.self.inside.contents.items }) _ ts (kind_number c.in_ok-entry.entry.kind)
+    c.in_ok-entry.entry.content.now t (rw (← c.self.view_is) at holds) (c.in_ok-entry.ensures.entry form top t d l) (omega arith) (rw (words, contents) refl)
 
 pub returns-in_err-item-clause-pushed : goal.returns-in_err-item-clause-pushed
 returns-in_err-item-clause-pushed c = λ form top t ts holds d l.
     absurd (c.in_err-item.ensures.decodes form t (c.in_ok-entry.ensures.entry form top t d l))
 
 pub returns-then-entry-gt-MAX_CONTENT-clause-pushed : goal.returns-then-entry-gt-MAX_CONTENT-clause-pushed
-returns-then-entry-gt-MAX_CONTENT-clause-pushed c = λ form top t ts holds d l.
-    c.push_item.ensures.pushed form ts t holds (c.in_ok-item.ensures.decodes form t (c.in_ok-entry.ensures.entry form top t d l))
+returns-then-entry-gt-MAX_CONTENT-clause-pushed c = λ form top t ts holds d l. grind (arith, common_steps)

@@ -1,13 +1,9 @@
-use Rattle.jsonb_doc.proofs.Common.{◌∙◌, ap, refl, sym, inl, with_inner, Failed, ObjectDuplicateKey}
+use Rattle.jsonb_doc.proofs.Common.{rules, ◌∙◌, ap, refl, sym, inl, with_inner}
 use Rattle.jsonb_doc.proofs.BuilderLemmas.{key_repeats, key_added, leads, refuses, err_result}
 use Rattle.jsonb_doc.proofs.document_builder.DocumentBuilder.key.Goals as goal
 
 pub returns-then-contains_key : goal.returns-then-contains_key
-returns-then-contains_key c = λ form s h.
-    let inner = rw c.in-Object.is at h.inner in
-    let repeats = key_repeats form c.args.self.now.pieces.items c.in-Object.members c.in-Object.key c.args.name.now s.inner inner
-    (sym c.is_some.ensures ∙ c.if-is_some.false) (sym c.if-contains_key.ensures) in
-    refuses form s _ (Failed ObjectDuplicateKey) _ _ (ap (with_inner s.around) repeats) refl (record { inner = inner; around = h.around })
+returns-then-contains_key c = search (rules, key_repeats, refuses)
 
 pub returns-in_err-from_str : goal.returns-in_err-from_str
 returns-in_err-from_str c = λ form s h.

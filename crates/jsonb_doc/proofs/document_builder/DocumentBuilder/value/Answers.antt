@@ -1,4 +1,4 @@
-use Rattle.jsonb_doc.proofs.Common.{◌≡◌, ◌∙◌, ◌++◌, ◌∷◌, [], length, refl, sym, subst, arith, true, Some, inr, length-append, EntryParts, number_reader, IsContent, Decodes, kind_number, bytes_at, State, takes_value, filled, IsPieceOf, HoldsLevel, Piece, Root}
+use Rattle.jsonb_doc.proofs.Common.{◌≡◌, ◌∙◌, ◌++◌, ◌∷◌, [], length, refl, sym, subst, arith, true, Some, length-append, EntryParts, number_reader, IsContent, Decodes, kind_number, bytes_at, State, takes_value, filled, IsPieceOf, HoldsLevel, Piece, Root}
 use Rattle.jsonb_doc.proofs.Encoded.{content_stands, long_content}
 use Rattle.jsonb_doc.proofs.EventLemmas.{root_filled, level_stays, too_long, result_along, err_along}
 use Rattle.jsonb_doc.proofs.BuilderLemmas.{leads, value_taken, holds_more, lone_piece, lone_part, frame_of_root}
@@ -6,8 +6,7 @@ use Rattle.jsonb_doc.proofs.document_builder.DocumentBuilder.value.Goals as goal
 
 pub returns-in-Root-clause-takes : goal.returns-in-Root-clause-takes
 returns-in-Root-clause-takes c = λ form s t h stands.
-    let b = c.args.self.now in
-    let ps = b.pieces.items in
+    let ps = c.args.self.now.pieces.items in
     let p : Piece = record { head = c.in_ok-head.head; rest = c.new-rest.result } in
     let takes : takes_value s.inner ≡ true = sym (c.takes_value.ensures form ps s.inner h.inner) ∙ c.if-not-takes_value.false in
     let index : c.len-index.result ≡ length ps = omega arith in
@@ -15,19 +14,13 @@ returns-in-Root-clause-takes c = λ form s t h stands.
     let decodes : Decodes form (bytes_at (ps ++ p ∷ []) c.len-index.result) t =
     rw (index, lone_piece ps p c.new-rest.ensures.items) (c.in_ok-head.ensures.decodes form t stands) in
     let held : HoldsLevel form (ps ++ p ∷ []) (Root (Some c.len-index.result)) (filled t s.inner) =
-    root_filled form (ps ++ p ∷ []) c.in-Root.field-0 c.len-index.result t s.inner (level_stays form ps p (Root c.in-Root.field-0) s.inner inner) takes
+    root_filled form (ps ++ p ∷ []) _ _ t s.inner (level_stays form ps p (Root c.in-Root.field-0) s.inner inner) takes
     (omega (arith, index, length-append ps (p ∷ []))) (λ e. decodes) in
     let after : State = record { inner = filled t s.inner; around = s.around } in
-    leads form s after _ _ _ (value_taken s t takes) (holds_more form s b _ p (filled t s.inner) h c.in_ok-push.ensures.items refl held)
+    leads form s after _ _ _ (value_taken s t takes) (holds_more form s _ _ p (filled t s.inner) h c.in_ok-push.ensures.items refl held)
 
 pub returns-then-content_len-gt-MAX_CONTENT-clause-takes : goal.returns-then-content_len-gt-MAX_CONTENT-clause-takes
-returns-then-content_len-gt-MAX_CONTENT-clause-takes c = λ form s t h stands.
-    let b = c.args.self.now in
-    let ps = b.pieces.items in
-    let takes : takes_value s.inner ≡ true = sym (c.takes_value.ensures form ps s.inner h.inner) ∙ c.if-not-takes_value.false in
-    let after : State = record { inner = filled t s.inner; around = s.around } in
-    leads form s after _ _ _ (value_taken s t takes)
-    (h, inr (refl, too_long form ps b.inner t s.inner h.inner c.in_default.not-Root takes (long_content form c.args.item.now t stands (omega arith))))
+returns-then-content_len-gt-MAX_CONTENT-clause-takes c = grind (arith, leads, value_taken, too_long, long_content)
 
 pub returns-clause-takes : goal.returns-clause-takes
 returns-clause-takes c = λ form s t h stands.

@@ -1,13 +1,7 @@
-use Rattle.jsonb_doc.proofs.Common.{◌∷◌, [], ◌++◌, ◌∙◌, List, ap, refl, sym, subst, arith, rules, append_assoc, nil_from_length, append-nil, err_from_is_err_and, first_rest, no_events, Happen, TextEvent}
-use Rattle.jsonb_doc.proofs.EventLemmas.{result_along}
+use Rattle.jsonb_doc.proofs.Common.{◌∷◌, [], ◌++◌, ◌∙◌, List, ap, sym, subst, arith, rules, append_assoc, nil_from_length, append-nil, first_rest, no_events, Happen, TextEvent}
+use Rattle.jsonb_doc.proofs.EventLemmas.{result_along, err_is}
 use Rattle.jsonb_doc.proofs.ListErrors.{happen_more, refused, unfinished, unbegun}
 use Rattle.jsonb_doc.proofs.event_list.collecting.collect.Goals as goal
-
-pub loop-left-init : goal.loop-left-init
-loop-left-init c = record {
-  utf8 = search rules;
-  leads = (no_events, c.in_ok-collector.ensures, [], refl, (refl, refl));
-}
 
 pub loop-left-preserved : goal.loop-left-preserved
 loop-left-preserved c = record {
@@ -25,24 +19,18 @@ loop-left-preserved c = record {
 }
 
 pub returns-in_err-collector : goal.returns-in_err-collector
-returns-in_err-collector c =
-    let e = err_from_is_err_and c.from_residual.result c.from_residual.ensures.1 in
-    rw (e.1, e.2) (λ form. unbegun form c.args.keep_last c.args.events.now c.args.text.now _ c.in_err-collector.ensures)
+returns-in_err-collector c = search (rules, unbegun)
 
 pub returns-in_err-rest : goal.returns-in_err-rest
 returns-in_err-rest c =
     let i = c.loop-left.invariant.leads in
-    let first = first_rest c.loop-left.left.now _ c.in-len1-up.len_at_least in
-    let all = i.3 ∙ ap (λ (es : List TextEvent). i.2 ++ es) first in
-    let e = err_from_is_err_and c.from_residual-in_err-rest.result c.from_residual-in_err-rest.ensures.1 in
-    rw (e.1, e.2) (λ form. refused form c.args.keep_last c.args.events.now i.2 _ c.args.text.now c.loop-left.rest.now i.0 _ _ all i.4
-    (c.in_err-rest.ensures i.0 i.1))
+    let all = i.3 ∙ ap (λ (es : List TextEvent). i.2 ++ es) (first_rest c.loop-left.left.now _ c.in-len1-up.len_at_least) in
+    err_is _ _ _ _ c.from_residual-in_err-rest.ensures.1 (λ form. refused form _ _ i.2 _ _ _ i.0 _ _ all i.4 (c.in_err-rest.ensures i.0 i.1))
 
 pub returns : goal.returns
 returns c =
     let i = c.loop-left.invariant.leads in
-    let none = nil_from_length c.loop-left.left.now (omega arith) in
-    let all = i.3 ∙ ap (λ (es : List TextEvent). i.2 ++ es) none ∙ append-nil i.2 in
+    let all = i.3 ∙ ap (λ (es : List TextEvent). i.2 ++ es) (nil_from_length c.loop-left.left.now (omega arith)) ∙ append-nil i.2 in
     let happen = subst (λ (es : List TextEvent). Happen c.args.keep_last es c.args.text.now no_events c.loop-left.rest.now i.0) (sym all) i.4 in
     result_along c.finish.result _ _ _ _ (c.finish.ensures i.0 i.1)
     (λ collected x. (i.0, c.loop-left.rest.now, x.0, happen, x.1, x.2, x.3))

@@ -1,5 +1,6 @@
-use Rattle.jsonb_doc.proofs.Common.{[], refl, err_from_is_err_and, keys_first}
+use Rattle.jsonb_doc.proofs.Common.{[], refl, keys_first}
 use Rattle.jsonb_doc.proofs.EventPartLemmas.{part_opened}
+use Rattle.jsonb_doc.proofs.EventLemmas.{err_is}
 use Rattle.jsonb_doc.proofs.event_list.writing.begin.Goals as goal
 
 pub returns-in_err-writer : goal.returns-in_err-writer
@@ -7,27 +8,23 @@ returns-in_err-writer c = record {
   begun = λ form room t h.
       let ms = c.in_ok-left.left.members.now in
       let o = part_opened c.args.all.now room c.args.run ms t h (c.in_ok-left.ensures.found room t h).0 in
-      let e = err_from_is_err_and c.from_residual-in_err-writer.result c.from_residual-in_err-writer.ensures.1 in
-      rw (e.1, e.2) (c.in_err-writer.ensures.opened form (keys_first c.args.run.kind ms o.trees) t (o.makes _ refl));
+      err_is _ _ _ _ c.from_residual-in_err-writer.ensures.1 (c.in_err-writer.ensures.opened form (keys_first c.args.run.kind ms o.trees) t (o.makes _ refl));
 }
 
 pub returns-in_err-put_keys_of : goal.returns-in_err-put_keys_of
 returns-in_err-put_keys_of c = record {
   begun = λ form room t h.
-      let ms = c.in_ok-left.left.members.now in
-      let o = part_opened c.args.all.now room c.args.run ms t h (c.in_ok-left.ensures.found room t h).0 in
-      let opened = c.in_ok-writer.ensures.opened form (keys_first c.args.run.kind ms o.trees) t (o.makes _ refl) in
-      let e = err_from_is_err_and c.from_residual-in_err-put_keys_of.result c.from_residual-in_err-put_keys_of.ensures.1 in
-      rw (e.1, e.2) (c.in_err-put_keys_of.ensures.put form o.trees [] t opened);
+      let o = part_opened _ room _ _ t h (c.in_ok-left.ensures.found room t h).0 in
+      let opened = c.in_ok-writer.ensures.opened form (keys_first c.args.run.kind c.in_ok-left.left.members.now o.trees) t (o.makes _ refl) in
+      err_is _ _ _ _ c.from_residual-in_err-put_keys_of.ensures.1 (c.in_err-put_keys_of.ensures.put form o.trees [] t opened);
 }
 
 pub returns : goal.returns
 returns c = record {
   begun = λ form room t h.
-      let ms = c.in_ok-left.left.members.now in
       let found = c.in_ok-left.ensures.found room t h in
-      let o = part_opened c.args.all.now room c.args.run ms t h found.0 in
-      let opened = c.in_ok-writer.ensures.opened form (keys_first c.args.run.kind ms o.trees) t (o.makes _ refl) in
+      let o = part_opened _ room _ _ t h found.0 in
+      let opened = c.in_ok-writer.ensures.opened form (keys_first c.args.run.kind c.in_ok-left.left.members.now o.trees) t (o.makes _ refl) in
       record {
         trees = o.trees;
         holds = rw found.1 o.holds;

@@ -1,21 +1,22 @@
-use Rattle.jsonb_doc.proofs.Common.{◌∷◌, refl, err_from_is_err_and, keys_first}
+use Rattle.jsonb_doc.proofs.Common.{◌∷◌, refl, keys_first}
 use Rattle.jsonb_doc.proofs.EventPartLemmas.{part_opened}
+use Rattle.jsonb_doc.proofs.EventLemmas.{err_is}
 use Rattle.jsonb_doc.proofs.event_list.writing.enter.Goals as goal
 
 pub returns-in_err-outer-clause-entered : goal.returns-in_err-outer-clause-entered
 returns-in_err-outer-clause-entered c = λ form t coming around whole h w.
     let ms = c.in_ok-left.left.members.now in
     let o = part_opened c.args.all.now c.args.room c.args.run ms t h (c.in_ok-left.ensures.found c.args.room t h).0 in
-    let e = err_from_is_err_and c.from_residual-in_err-outer.result c.from_residual-in_err-outer.ensures.1 in
-    rw (e.1, e.2) (c.in_err-outer.ensures.entered form (keys_first c.args.run.kind ms o.trees) t coming around whole (o.makes _ refl) w)
+    err_is _ _ _ _ c.from_residual-in_err-outer.ensures.1
+    (c.in_err-outer.ensures.entered form (keys_first c.args.run.kind ms o.trees) t coming around whole (o.makes _ refl) w)
 
 pub returns-in_err-put_keys_of-clause-entered : goal.returns-in_err-put_keys_of-clause-entered
 returns-in_err-put_keys_of-clause-entered c = λ form t coming around whole h w.
     let ms = c.in_ok-left.left.members.now in
     let o = part_opened c.args.all.now c.args.room c.args.run ms t h (c.in_ok-left.ensures.found c.args.room t h).0 in
     let entered = c.in_ok-outer.ensures.entered form (keys_first c.args.run.kind ms o.trees) t coming around whole (o.makes _ refl) w in
-    let e = err_from_is_err_and c.from_residual-in_err-put_keys_of.result c.from_residual-in_err-put_keys_of.ensures.1 in
-    rw (e.1, e.2) (c.in_err-put_keys_of.ensures.put form o.trees ((c.in_ok-outer.outer, coming) ∷ around) whole entered)
+    err_is _ _ _ _ c.from_residual-in_err-put_keys_of.ensures.1
+    (c.in_err-put_keys_of.ensures.put form o.trees ((c.in_ok-outer.outer, coming) ∷ around) whole entered)
 
 pub returns-clause-entered : goal.returns-clause-entered
 returns-clause-entered c = λ form t coming around whole h w.

@@ -5,8 +5,3 @@ returns-in-Some c = record {
   put = λ form t coming around whole plain w.
       c.put_plain_item.ensures.put form t coming around whole (rw c.in-Some.is at (c.plain_item.ensures t plain)) w;
 }
-
-pub returns-in-None : goal.returns-in-None
-returns-in-None c = record {
-  put = λ form t coming around whole plain w. absurd (rw c.in-None.is at (c.plain_item.ensures t plain));
-}

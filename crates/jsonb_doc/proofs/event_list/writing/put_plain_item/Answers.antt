@@ -9,13 +9,6 @@ returns-in-Null c = record {
       c.put_empty.ensures.put form t coming around whole (rw same (refl, refl)) w;
 }
 
-pub returns-in-Boolean : goal.returns-in-Boolean
-returns-in-Boolean c = record {
-  put = λ form t coming around whole is w.
-      let same = rw c.in-Boolean.is at is in
-      c.put_boolean.ensures.put form coming around whole (subst (λ (u : Tree). IsWriting form c.args.writer.now (u ∷ coming) around whole) same w);
-}
-
 pub returns-in-Number : goal.returns-in-Number
 returns-in-Number c = record {
   put = λ form t coming around whole is w.

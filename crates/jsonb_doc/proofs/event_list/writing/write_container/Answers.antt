@@ -1,6 +1,7 @@
-use Rattle.jsonb_doc.proofs.Common.{ℕ, Vec, Global, [], ◌∷◌, arith, refl, ap, ◌∙◌, subst, nil_from_length, err_from_is_err_and, Decodes, IsOutOfMemoryOrTooLarge, Around, IsWriting}
+use Rattle.jsonb_doc.proofs.Common.{rules, ℕ, Vec, Global, [], ◌∷◌, arith, refl, ap, ◌∙◌, subst, nil_from_length, Decodes, IsOutOfMemoryOrTooLarge, Around, IsWriting}
 use Rattle.jsonb_doc.proofs.EventPartLemmas.{walk_falls_inward, walk_falls_outward}
 use Rattle.jsonb_doc.proofs.Basics.{pushed, popped, none_around, only_ok}
+use Rattle.jsonb_doc.proofs.EventLemmas.{err_is}
 use Rattle.jsonb_doc.proofs.event_list.writing.write_container.Goals as goal
 
 pub walk-init : goal.walk-init
@@ -13,26 +14,22 @@ walk-init c = λ form room t h. record {
 pub returns-in_err-inner : goal.returns-in_err-inner
 returns-in_err-inner c = record {
   written = λ form room t h.
-      let e = err_from_is_err_and c.from_residual-in_err-inner.result c.from_residual-in_err-inner.ensures.1 in
       let s = c.walk.invariant form room t h in
-      rw (e.1, e.2) (c.in_err-inner.ensures.put form c.args.all.now c.walk.left.room s.begun.trees s.outside t s.begun.holds s.begun.writing);
+      err_is _ _ _ _ c.from_residual-in_err-inner.ensures.1
+      (c.in_err-inner.ensures.put form c.args.all.now c.walk.left.room s.begun.trees s.outside t s.begun.holds s.begun.writing);
 }
 
 pub returns-in_err-container-in-Some : goal.returns-in_err-container-in-Some
 returns-in_err-container-in-Some c = record {
   written = λ form room t h.
-      let e = err_from_is_err_and c.from_residual-in_err-container-in-Some.result c.from_residual-in_err-container-in-Some.ensures.1 in
       let s = c.walk.invariant form room t h in
       let found = rw c.in-Some.is at (c.in_ok-inner.ensures.put form c.args.all.now c.walk.left.room s.begun.trees s.outside t s.begun.holds s.begun.writing) in
-      rw (e.1, e.2) (c.in_err-container-in-Some.ensures.entered form found.0 found.1 s.outside t found.2 found.4);
+      err_is _ _ _ _ c.from_residual-in_err-container-in-Some.ensures.1
+      (c.in_err-container-in-Some.ensures.entered form found.0 found.1 s.outside t found.2 found.4);
 }
 
 pub walk-smaller-in-Some : goal.walk-smaller-in-Some
-walk-smaller-in-Some c =
-    let fewer = rw c.in-Some.is at c.in_ok-inner.ensures.fewer in
-    let within = c.in_ok-container-in-Some.ensures.inner in
-    walk_falls_inward c.walk.left (record { members = c.in-Some.others; room = c.walk.left.room }) c.in_ok-container-in-Some.entered
-    c.in_ok-container-in-Some.container _ _ fewer (omega arith) within.0 within.1 c.in_ok-push-in-Some.ensures.items
+walk-smaller-in-Some c = search (rules, walk_falls_inward)
 
 pub walk-preserved-in-Some : goal.walk-preserved-in-Some
 walk-preserved-in-Some c = λ form room t h.
@@ -58,16 +55,15 @@ returns-in_default c = record {
 pub returns-in_err-leave-in-None : goal.returns-in_err-leave-in-None
 returns-in_err-leave-in-None c = record {
   written = λ form room t h.
-      let e = err_from_is_err_and c.from_residual-in_err-leave-in-None.result c.from_residual-in_err-leave-in-None.ensures.1 in
       let s = c.walk.invariant form room t h in
       let done = rw c.in-None.is at (c.in_ok-inner.ensures.put form c.args.all.now c.walk.left.room s.begun.trees s.outside t s.begun.holds s.begun.writing) in
       let p = popped _ _ _ c.in-Some-pop.outer s.outside s.are_left c.in-Some-pop.ensures.items in
       let closed = subst (λ (os : Around). IsWriting form c.put_scalars.new.writer [] os t) (p.2 ∙ ap (λ o. o ∷ p.1) p.3.2) done in
-      rw (e.1, e.2) (c.in_err-leave-in-None.ensures.left form p.3.0 p.1 t closed);
+      err_is _ _ _ _ c.from_residual-in_err-leave-in-None.ensures.1 (c.in_err-leave-in-None.ensures.left form p.3.0 p.1 t closed);
 }
 
 pub walk-smaller : goal.walk-smaller
-walk-smaller c = walk_falls_outward c.walk.left c.in-Some-pop.outer _ _ c.in-Some-pop.ensures.items
+walk-smaller c = search (rules, walk_falls_outward)
 
 pub walk-preserved : goal.walk-preserved
 walk-preserved c = λ form room t h.

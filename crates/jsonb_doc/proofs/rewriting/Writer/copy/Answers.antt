@@ -1,4 +1,4 @@
-use Rattle.jsonb_doc.proofs.Common.{arith, sym, ap, length, ◌∙◌, length-append}
+use Rattle.jsonb_doc.proofs.Common.{rules, ◌∙◌}
 use Rattle.jsonb_doc.proofs.WriterLemmas.{room_there, filled, room_moved}
 use Rattle.jsonb_doc.proofs.rewriting.Writer.copy.Goals as goal
 
@@ -15,11 +15,4 @@ returns-clause-copied c = λ form ts coming around whole h w.
     }
 
 pub returns-clause-room : goal.returns-clause-room
-returns-clause-room c = λ coming around h.
-    room_moved _ _ _ _ around (sym c.set_words.ensures.start)
-    (omega (
-      arith,
-      c.set_words.ensures.size,
-      length-append c.args.self.now.out.items c.args.run.contents.now,
-      ap length c.in_ok-extend_from_slice.ensures.items,
-    )) h
+returns-clause-room c = search (rules, room_moved)

@@ -1,4 +1,4 @@
-use Rattle.jsonb_doc.proofs.Common.{◌≡◌, length, arith, refl, sym, ap, ◌∙◌, entry_word, container_entry}
+use Rattle.jsonb_doc.proofs.Common.{rules, ◌≡◌, length, arith, refl, ap, ◌∙◌, entry_word, container_entry}
 use Rattle.jsonb_doc.proofs.WriterLemmas.{room_for_one, one_filled, closed, done_len, room_moved}
 use Rattle.jsonb_doc.proofs.WriterLimits.{coming_passes, not_short, refused}
 use Rattle.jsonb_doc.proofs.rewriting.Writer.leave.Goals as goal
@@ -6,18 +6,15 @@ use Rattle.jsonb_doc.proofs.rewriting.Writer.leave.Goals as goal
 pub returns-then-len-gt-MAX_CONTENT-clause-left : goal.returns-then-len-gt-MAX_CONTENT-clause-left
 returns-then-len-gt-MAX_CONTENT-clause-left c = λ form coming around whole w.
     let d = closed form w.before _ _ w.t w.is_open in
-    let len = done_len form w.before _ _ w.t d in
     let (front, u, outer, rest) = w.are_around in
-    refused form whole _ refl
-    (coming_passes form front _ _ around w.t coming u whole outer rest
-    (λ short parts. not_short form w.t _ _ d.content (omega (arith, len, c.saturating_sub-len.ensures, c.len.ensures)) short))
+    refused form whole _ refl (coming_passes form front _ _ around w.t coming u whole outer rest
+    (λ short parts. not_short form w.t _ _ d.content (omega (arith, done_len form w.before _ _ w.t d, c.saturating_sub-len.ensures, c.len.ensures)) short))
 
 pub returns-clause-left : goal.returns-clause-left
 returns-clause-left c = λ form coming around whole w.
     let d = closed form w.before _ _ w.t w.is_open in
-    let len = done_len form w.before _ _ w.t d in
     let (front, u, outer, rest) = w.are_around in
-    let size : c.saturating_sub-len.result ≡ length d.bytes = omega (arith, len, c.saturating_sub-len.ensures, c.len.ensures) in
+    let size : c.saturating_sub-len.result ≡ length d.bytes = omega (arith, done_len form w.before _ _ w.t d, c.saturating_sub-len.ensures, c.len.ensures) in
     let word = c.encode_entry_word-word.ensures ∙ ap (entry_word container_entry) size in
     let set = c.set_words.ensures.set
     (room_for_one form front _ _ w.t coming u outer container_entry d.bytes _ d.content (omega (arith, size)) word _ d.joined) in
@@ -31,4 +28,4 @@ returns-clause-left c = λ form coming around whole w.
     }
 
 pub returns-clause-room : goal.returns-clause-room
-returns-clause-room c = λ coming around h. room_moved _ _ _ _ around (sym c.set_words.ensures.start) (omega (arith, c.set_words.ensures.size)) h.1
+returns-clause-room c = search (rules, room_moved)

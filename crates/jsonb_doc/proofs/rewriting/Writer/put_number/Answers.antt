@@ -1,4 +1,4 @@
-use Rattle.jsonb_doc.proofs.Common.{arith, refl, ap, ◌∙◌, entry_word, number_view, number}
+use Rattle.jsonb_doc.proofs.Common.{rules, refl, ap, ◌∙◌, entry_word, number_view, number}
 use Rattle.jsonb_doc.specs.declared.item.Item.TheVariants.{Number}
 use Rattle.jsonb_doc.proofs.CanonicalLemmas.{length-number_payload}
 use Rattle.jsonb_doc.proofs.Encoded.{content_stands}
@@ -6,7 +6,7 @@ use Rattle.jsonb_doc.proofs.WriterLemmas.{room_for_one, one_filled}
 use Rattle.jsonb_doc.proofs.rewriting.Writer.put_number.Goals as goal
 
 pub encode_entry_word-word-requires : goal.encode_entry_word-word-requires
-encode_entry_word-word-requires c = omega (arith, length-number_payload (number_view c.args.number), c.number_len.ensures)
+encode_entry_word-word-requires c = search (rules, length-number_payload)
 
 pub returns-clause-put : goal.returns-clause-put
 returns-clause-put c = λ form coming around whole w.

@@ -30,8 +30,7 @@ returns-in-Ok-clause-value c = λ t l.
 pub returns-in-Err-clause-value : goal.returns-in-Err-clause-value
 returns-in-Err-clause-value c = λ t l.
     let found = number_content (number_reader any) _ _ t (ap kind_number c.in-Number.is) (c.in_ok-entry.ensures.entry any l.whole t l.decodes l) in
-    let none = number_fails _ c.in-Err.error c.in-Err.ensures.value in
-    let all : None ≡ Some found.0 = sym none ∙ found.2 in absurd (none-some _ all)
+    let all : None ≡ Some found.0 = sym (number_fails _ c.in-Err.error c.in-Err.ensures.value) ∙ found.2 in absurd (none-some _ all)
 
 pub returns-in-Extension-clause-value : goal.returns-in-Extension-clause-value
 returns-in-Extension-clause-value c = λ t l.
@@ -44,5 +43,4 @@ returns-in-Container-clause-value c = λ t l.
 
 pub returns-in-Unknown-clause-value : goal.returns-in-Unknown-clause-value
 returns-in-Unknown-clause-value c = λ t l.
-    let is = ap kind_number c.in-Unknown.is in
-    absurd (omega (arith, is, kind_below (number_reader any) t _ _ (c.in_ok-entry.ensures.entry any l.whole t l.decodes l)))
+    absurd (omega (arith, ap kind_number c.in-Unknown.is, kind_below (number_reader any) t _ _ (c.in_ok-entry.ensures.entry any l.whole t l.decodes l)))

@@ -5,9 +5,7 @@ use Rattle.jsonb_doc.proofs.KindLemmas.{differing_kind, equal_kind}
 use Rattle.jsonb_doc.proofs.spot.content.value_spots.Goals as goal
 
 pub returns-then-ne-clause-spots : goal.returns-then-ne-clause-spots
-returns-then-ne-clause-spots c = λ t m.
-    no_values c.args.bytes.now t
-    (Locates-scalar c.args.bytes.now c.args.spot t m (differing_kind _ c.args.spot.kind Container c.ne.ensures c.if-ne.true)).0
+returns-then-ne-clause-spots c = λ t m. no_values c.args.bytes.now t (Locates-scalar _ _ t m (differing_kind _ _ Container c.ne.ensures c.if-ne.true)).0
 
 pub returns-in_err-read_container-clause-spots : goal.returns-in_err-read_container-clause-spots
 returns-in_err-read_container-clause-spots c = λ t m.
@@ -16,25 +14,21 @@ returns-in_err-read_container-clause-spots c = λ t m.
 
 pub returns-in-Scalar-clause-spots : goal.returns-in-Scalar-clause-spots
 returns-in-Scalar-clause-spots c = λ t m.
-    Locates-no-scalar c.args.bytes.now c.args.spot t m _ c.in_ok-content.ensures.2 (equal_kind _ c.args.spot.kind Container c.ne.ensures c.if-ne.false)
-    c.in-Scalar.field-0
+    Locates-no-scalar _ _ t m _ c.in_ok-content.ensures.2 (equal_kind _ _ Container c.ne.ensures c.if-ne.false) c.in-Scalar.field-0
     (rw c.in-Scalar.is at c.in_ok-read_container.ensures.cut)
 
 pub returns-in-Array-clause-spots : goal.returns-in-Array-clause-spots
 returns-in-Array-clause-spots c = λ t m.
-    array_no_values c.args.bytes.now c.args.spot t m _ c.in_ok-content.ensures.2 (equal_kind _ c.args.spot.kind Container c.ne.ensures c.if-ne.false)
-    c.in-Array.field-0
+    array_no_values _ _ t m _ c.in_ok-content.ensures.2 (equal_kind _ _ Container c.ne.ensures c.if-ne.false) c.in-Array.field-0
     (rw c.in-Array.is at c.in_ok-read_container.ensures.cut)
 
 pub returns-in_err-start-in-Object-clause-spots : goal.returns-in_err-start-in-Object-clause-spots
 returns-in_err-start-in-Object-clause-spots c = λ t m.
-    absurd (object_skipped c.args.bytes.now c.args.spot t m _ c.in_ok-content.ensures.2
-    (equal_kind _ c.args.spot.kind Container c.ne.ensures c.if-ne.false) c.in-Object.parts
+    absurd (object_skipped _ _ t m _ c.in_ok-content.ensures.2 (equal_kind _ _ Container c.ne.ensures c.if-ne.false) c.in-Object.parts
     (rw c.in-Object.is at c.in_ok-read_container.ensures.cut) c.in_err-start-in-Object.ensures.contents)
 
 pub returns-in_ok-start-in-Object-clause-spots : goal.returns-in_ok-start-in-Object-clause-spots
 returns-in_ok-start-in-Object-clause-spots c = λ t m.
-    object_values c.args.bytes.now c.args.spot t m _ c.in_ok-content.ensures.2 (equal_kind _ c.args.spot.kind Container c.ne.ensures c.if-ne.false)
-    c.in-Object.parts
-    (rw c.in-Object.is at c.in_ok-read_container.ensures.cut) c.new.result _ c.in_ok-start-in-Object.ensures.contents
+    object_values _ _ t m _ c.in_ok-content.ensures.2 (equal_kind _ _ Container c.ne.ensures c.if-ne.false) c.in-Object.parts
+    (rw c.in-Object.is at c.in_ok-read_container.ensures.cut) _ _ c.in_ok-start-in-Object.ensures.contents
     c.new.ensures.words c.new.ensures.start c.new.ensures.end

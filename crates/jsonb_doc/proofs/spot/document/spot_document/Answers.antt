@@ -6,19 +6,16 @@ use Rattle.jsonb_doc.proofs.spot.document.spot_document.Goals as goal
 pub returns-then-content-le-MAX_CONTENT-clause-decodes : goal.returns-then-content-le-MAX_CONTENT-clause-decodes
 returns-then-content-le-MAX_CONTENT-clause-decodes c = λ form top t decodes located.
     rw c.in_ok-scalar_document.ensures (record {
-      document = entry_decodes (number_reader form) t (kind_number c.args.spot.kind) c.in_ok-content.content.now (kind_known c.args.spot.kind)
-          (other_kind _ c.args.spot.kind Container c.eq.ensures c.if-eq.false)
+      document = entry_decodes (number_reader form) t (kind_number c.args.spot.kind) _ (kind_known _) (other_kind _ _ Container c.eq.ensures c.if-eq.false)
           (omega arith) (rw c.in_ok-content.ensures.2 (located.content form top decodes));
     })
 
 pub returns-in-Some-clause-decodes : goal.returns-in-Some-clause-decodes
 returns-in-Some-clause-decodes c = λ form top t decodes located.
-    let content = c.in_ok-content.content.now in
-    let front = front_is_content c.args.bytes.now content c.in-Some.front.now c.args.spot.start c.args.spot.end 16 c.in_ok-content.ensures.2
+    let front = front_is_content c.args.bytes.now _ _ c.args.spot.start c.args.spot.end 16 c.in_ok-content.ensures.2
     c.in-Some.ensures.cases.same (omega (arith, c.if-content-le-SHORT.true)) in
     rw (c.in_ok-short_document.ensures, front) (record {
-      document = entry_decodes (number_reader form) t (kind_number c.args.spot.kind) content (kind_known c.args.spot.kind)
-          (other_kind _ c.args.spot.kind Container c.eq.ensures c.if-eq.false)
+      document = entry_decodes _ t _ _ (kind_known _) (other_kind _ _ Container c.eq.ensures c.if-eq.false)
           (omega (arith, c.if-content-le-SHORT.true)) (rw c.in_ok-content.ensures.2 (located.content form top decodes));
     })
 

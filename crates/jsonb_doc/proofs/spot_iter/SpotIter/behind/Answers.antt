@@ -1,9 +1,6 @@
-use Rattle.jsonb_doc.proofs.Common.{◌≡◌, ◌+◌, ◌%◌, ◌^◌, arith, refl}
+use Rattle.jsonb_doc.proofs.Common.{arith, refl}
 use Rattle.jsonb_doc.proofs.SpotsLemmas.{spots_counted, HasSpotsLeft-passed, HasSpotsLeft-behind}
 use Rattle.jsonb_doc.proofs.spot_iter.SpotIter.behind.Goals as goal
-
-pub returns-then-count-gt-MAX_ENTRIES : goal.returns-then-count-gt-MAX_ENTRIES
-returns-then-count-gt-MAX_ENTRIES c = record { left = λ bytes ts h. omega (arith, h.few, c.if-count-gt-MAX_ENTRIES.true) }
 
 pub returns-then-count-self : goal.returns-then-count-self
 returns-then-count-self c = record { left = λ bytes ts h. omega (arith, spots_counted bytes c.args.self.now ts h, c.if-count-self.true) }
@@ -14,6 +11,5 @@ returns c = record {
       let sum = rw c.split_at.ensures.front at c.contents_len.ensures.contents in
       let few = c.if-count-self.false in
       let passed = HasSpotsLeft-passed bytes c.args.self.now ts h c.args.count c.contents_len.result few sum in
-      let start : (c.args.self.now.start + c.contents_len.result) % 2 ^ 64 ≡ c.args.self.now.start + c.contents_len.result = omega (arith, passed) in
-      HasSpotsLeft-behind bytes c.args.self.now ts h c.args.count c.contents_len.result few sum _ c.split_at.ensures.back start refl;
+      HasSpotsLeft-behind bytes c.args.self.now ts h c.args.count c.contents_len.result few sum _ c.split_at.ensures.back (omega (arith, passed)) refl;
 }

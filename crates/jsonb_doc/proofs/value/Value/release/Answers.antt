@@ -1,6 +1,6 @@
+use Rattle.jsonb_doc.proofs.Common.{rules}
 use Rattle.jsonb_doc.proofs.PartLemmas.{less_still}
 use Rattle.jsonb_doc.proofs.value.Value.release.Goals as goal
 
 pub loop-remaining-smaller : goal.loop-remaining-smaller
-loop-remaining-smaller c =
-    less_still c.loop-remaining.remaining c.release_step-remaining.result c.in-Some.field-0 c.in-Some.is c.release_step-remaining.ensures
+loop-remaining-smaller c = search (rules, less_still)

@@ -1,4 +1,4 @@
-use Rattle.jsonb_doc.proofs.Common.{◌≡◌, List, sym, ap, subst, ◌∙◌, arith, common_steps, reverse, nil_from_length, tree_seen, filled_tree, with_part, Open}
+use Rattle.jsonb_doc.proofs.Common.{◌≡◌, List, sym, ap, subst, ◌∙◌, arith, reverse, nil_from_length, tree_seen, filled_tree, with_part, Open}
 use Rattle.jsonb_doc.proofs.CopiedValues.{tree_within, tree_within-with}
 use Rattle.jsonb_doc.proofs.value.copy.copy.Goals as goal
 
@@ -10,20 +10,11 @@ returns-in-None c = λ seen.
 
 pub loop-filled-preserved-in_ok-filled-in-Within : goal.loop-filled-preserved-in_ok-filled-in-Within
 loop-filled-preserved-in_ok-filled-in-Within c = λ seen.
-    let around = c.loop-filled.around.items in
-    tree_within-with seen around _ c.in-Within.outer (filled_tree seen c.in_ok-filled-in-Within.filled) c.in_ok-push-in-Within.ensures.items
-    ∙ ap (λ t. tree_within seen (reverse around) (with_part seen c.in-Within.outer t)) (c.in_ok-filled-in-Within.ensures.copies seen)
+    tree_within-with seen _ _ _ (filled_tree seen c.in_ok-filled-in-Within.filled) c.in_ok-push-in-Within.ensures.items
+    ∙ ap (λ t. tree_within seen (reverse c.loop-filled.around.items) (with_part seen c.in-Within.outer t)) (c.in_ok-filled-in-Within.ensures.copies seen)
     ∙ (rw c.in-Within.is at (c.loop-filled.invariant seen))
 
 pub loop-filled-preserved : goal.loop-filled-preserved
 loop-filled-preserved c = λ seen.
-    let left = c.pop.new.self.items in
-    ap (tree_within seen (reverse left)) (c.in_ok-filled-in-Some.ensures.copies seen)
-    ∙ sym (tree_within-with seen left c.loop-filled.around.items c.in-Some.outer (tree_seen seen c.in-Whole.copy) c.in-Some.ensures.items)
-    ∙ (rw c.in-Whole.is at (c.loop-filled.invariant seen))
-
-pub loop-filled-smaller : goal.loop-filled-smaller
-loop-filled-smaller c = grind (arith, common_steps)
-
-pub loop-filled-smaller-in_ok-filled-in-Within : goal.loop-filled-smaller-in_ok-filled-in-Within
-loop-filled-smaller-in_ok-filled-in-Within c = grind (arith, common_steps)
+    ap (tree_within seen (reverse c.pop.new.self.items)) (c.in_ok-filled-in-Some.ensures.copies seen)
+    ∙ sym (tree_within-with seen _ _ _ (tree_seen seen c.in-Whole.copy) c.in-Some.ensures.items) ∙ (rw c.in-Whole.is at (c.loop-filled.invariant seen))

@@ -20,10 +20,7 @@ returns-in_default-2 c = record {
       ap (λ t. array (trees_of (before ++ t ∷ trees_seen seen (iter_rest c.next.new.self)))) (c.in_ok-part.ensures seen)
       ∙ ap (λ vs. array (trees_of (before ++ trees_seen seen vs))) (sym c.in-Some.ensures.steps)
       ∙ ap (λ ts. array (trees_of ts)) (c.loop-value.invariant.same seen);
-  fewer =
-      let all = ap values_parts c.in-Some.ensures.steps in
-      let one = ap tree_parts (c.in_ok-part.ensures number_view) in
-      omega (arith, all, one, c.loop-value.invariant.fewer);
+  fewer = omega (arith, ap values_parts c.in-Some.ensures.steps, ap tree_parts (c.in_ok-part.ensures number_view), c.loop-value.invariant.fewer);
 }
 
 pub returns-clause-copies : goal.returns-clause-copies

@@ -4,15 +4,13 @@ use Rattle.jsonb_doc.proofs.value.copy.filled_from.Goals as goal
 
 pub returns-in_ok-with_capacity-in-Array-clause-copies : goal.returns-in_ok-with_capacity-in-Array-clause-copies
 returns-in_ok-with_capacity-in-Array-clause-copies c = λ seen.
-    copies_same seen c.fill_array.result (c.fill_array.ensures.copies seen)
+    copies_same seen _ (c.fill_array.ensures.copies seen)
     (ap (λ vs. array (trees_of (trees_seen seen vs ++ trees_seen seen (iter_rest c.iter.result)))) c.in_ok-with_capacity-in-Array.ensures.items
-    ∙ ap (λ vs. array (trees_of (trees_seen seen vs))) (c.iter.ensures.rest ∙ c.deref.ensures.value)
-    ∙ ap (part_tree seen) (sym c.in-Array.is))
+    ∙ ap (λ vs. array (trees_of (trees_seen seen vs))) (c.iter.ensures.rest ∙ c.deref.ensures.value) ∙ ap (part_tree seen) (sym c.in-Array.is))
 
 pub returns-in-Object-clause-copies : goal.returns-in-Object-clause-copies
 returns-in-Object-clause-copies c = λ seen.
-    copies_same seen c.fill_object.result (c.fill_object.ensures.copies seen)
+    copies_same seen _ (c.fill_object.ensures.copies seen)
     (ap (λ es. object (pairs_of (insert_pairs (members_seen seen c.iter-in-Object.result) (members_seen seen es)))) c.new.ensures.empty
     ∙ ap (λ es. object (pairs_of (insert_pairs (members_seen seen es) []))) c.iter-in-Object.ensures.rest
-    ∙ ap (λ ps. object (pairs_of ps)) (copied_in_order seen [] c.in-Object.members.now.entries c.iter-in-Object.ensures.ordered)
-    ∙ ap (part_tree seen) (sym c.in-Object.is))
+    ∙ ap (λ ps. object (pairs_of ps)) (copied_in_order seen [] _ c.iter-in-Object.ensures.ordered) ∙ ap (part_tree seen) (sym c.in-Object.is))

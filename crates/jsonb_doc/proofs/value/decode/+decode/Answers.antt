@@ -1,10 +1,10 @@
-use Rattle.jsonb_doc.proofs.Common.{◌≡◌, ℕ, ◌∷◌, ◌++◌, List, string_bytes, arith, refl, sym, ap, subst, ◌∙◌, MatchResult, reverse, nil_from_length, err_from_is_err_and, Tree, Trees, Pairs, array, object, elements, members, keys, trees_of, pairs_of, AreKeys, IsOutOfMemory, tree_seen, trees_seen, members_seen, FillsTo}
+use Rattle.jsonb_doc.proofs.Common.{◌≡◌, ℕ, ◌∷◌, ◌++◌, List, string_bytes, arith, refl, sym, ap, subst, ◌∙◌, reverse, nil_from_length, Tree, Trees, Pairs, array, object, elements, members, keys, trees_of, pairs_of, AreKeys, tree_seen, trees_seen, members_seen}
 use Rattle.jsonb_doc.specs.Private.Filling.{LeadsTo}
-use Rattle.jsonb_doc.specs.declared.value.decode.Open.{Open}
 use Rattle.jsonb_doc.proofs.LimitLemmas.{decoded_keys}
 use Rattle.jsonb_doc.proofs.ValueTrees.{tree_seen-Array, tree_seen-Object}
 use Rattle.jsonb_doc.proofs.DecodedValues.{first_element, element_read, no_element, first_member, member_read, no_member, sees_normal, sees_normal_member, elements_begin, elements_go_on, elements_end, members_begin, members_go_on, members_end}
 use Rattle.jsonb_doc.proofs.FilledValues.{widest_with, array_goes_on, object_goes_on, whole_of, LeadsTo-popped, LeadsTo-pushed}
+use Rattle.jsonb_doc.proofs.EventLemmas.{err_is}
 use Rattle.jsonb_doc.proofs.value.decode.+decode.Goals as goal
 
 -- ---- one container
@@ -12,31 +12,27 @@ use Rattle.jsonb_doc.proofs.value.decode.+decode.Goals as goal
 pub closed-returns-in_err-fill_array-in-Array-clause-decodes : goal.closed-returns-in_err-fill_array-in-Array-clause-decodes
 closed-returns-in_err-fill_array-in-Array-clause-decodes t c = λ seen keeps form whole makes.
     let (ts, left, made) = rw c.in-Array.is at makes in
-    let p = err_from_is_err_and c.from_residual-in_err-fill_array-in-Array.result c.from_residual-in_err-fill_array-in-Array.ensures.1 in
-    rw (p.1, p.2) (c.in_err-fill_array-in-Array.ensures.decodes seen keeps form ts left)
+    err_is _ _ _ _ c.from_residual-in_err-fill_array-in-Array.ensures.1 (c.in_err-fill_array-in-Array.ensures.decodes seen keeps form ts left)
 
 pub closed-returns-in_err-fill_object-in-Object-clause-decodes : goal.closed-returns-in_err-fill_object-in-Object-clause-decodes
 closed-returns-in_err-fill_object-in-Object-clause-decodes t c = λ seen keeps form whole makes.
     let (ps, left, rising, made) = rw c.in-Object.is at makes in
     let next = object_goes_on seen _ _ c.in-Object.name c.args.value ps whole c.in_ok-insert-in-Object.ensures.entries rising made in
-    let p = err_from_is_err_and c.from_residual-in_err-fill_object-in-Object.result c.from_residual-in_err-fill_object-in-Object.ensures.1 in
-    rw (p.1, p.2) (c.in_err-fill_object-in-Object.ensures.decodes seen keeps form ps left next.0)
+    err_is _ _ _ _ c.from_residual-in_err-fill_object-in-Object.ensures.1 (c.in_err-fill_object-in-Object.ensures.decodes seen keeps form ps left next.0)
 
 pub closed-returns-in_ok-fill_array-in-Array-clause-decodes : goal.closed-returns-in_ok-fill_array-in-Array-clause-decodes
 closed-returns-in_ok-fill_array-in-Array-clause-decodes t c = λ seen keeps form whole makes.
     let (ts, left, made) = rw c.in-Array.is at makes in
-    let next = array_goes_on seen _ _ c.args.value ts whole c.in_ok-push-in-Array.ensures.items made in
-    let filled = c.in_ok-fill_array-in-Array.field-0 in
-    whole_of seen form filled c.whole.result whole (c.in_ok-fill_array-in-Array.ensures.whole refl) c.whole.ensures.whole
-    (subst (λ (x : Tree). FillsTo seen form x filled) next (c.in_ok-fill_array-in-Array.ensures.decodes seen keeps form ts left))
+    let next = array_goes_on seen _ _ _ ts whole c.in_ok-push-in-Array.ensures.items made in
+    whole_of seen form _ _ whole (c.in_ok-fill_array-in-Array.ensures.whole refl) c.whole.ensures.whole
+    (rw next at (c.in_ok-fill_array-in-Array.ensures.decodes seen keeps form ts left))
 
 pub closed-returns-in_ok-fill_object-in-Object-clause-decodes : goal.closed-returns-in_ok-fill_object-in-Object-clause-decodes
 closed-returns-in_ok-fill_object-in-Object-clause-decodes t c = λ seen keeps form whole makes.
     let (ps, left, rising, made) = rw c.in-Object.is at makes in
     let next = object_goes_on seen _ _ c.in-Object.name c.args.value ps whole c.in_ok-insert-in-Object.ensures.entries rising made in
-    let filled = c.in_ok-fill_object-in-Object.field-0 in
-    whole_of seen form filled c.whole-in-Object.result whole (c.in_ok-fill_object-in-Object.ensures.whole refl) c.whole-in-Object.ensures.whole
-    (subst (λ (x : Tree). FillsTo seen form x filled) next.1 (c.in_ok-fill_object-in-Object.ensures.decodes seen keeps form ps left next.0))
+    whole_of seen form _ _ whole (c.in_ok-fill_object-in-Object.ensures.whole refl) c.whole-in-Object.ensures.whole
+    (rw next.1 at (c.in_ok-fill_object-in-Object.ensures.decodes seen keeps form ps left next.0))
 
 -- ---- the containers around
 
@@ -44,39 +40,32 @@ pub closed_all-returns-in_err-value-clause-decodes : goal.closed_all-returns-in_
 closed_all-returns-in_err-value-clause-decodes t c = λ seen keeps form whole leads.
     let (inner, makes, rest) = LeadsTo-popped seen form c.loop-outer.around.items c.pop.new.self.items c.in-Some.outer (tree_seen seen c.loop-outer.value) whole
     c.in-Some.ensures.items (c.loop-outer.invariant.left seen keeps form whole leads) in
-    let p = err_from_is_err_and c.from_residual.result c.from_residual.ensures.1 in
-    rw (p.1, p.2) (c.in_err-value.ensures.decodes seen keeps form inner makes)
+    err_is _ _ _ _ c.from_residual.ensures.1 (c.in_err-value.ensures.decodes seen keeps form inner makes)
 
 pub closed_all-loop-outer-preserved : goal.closed_all-loop-outer-preserved
 closed_all-loop-outer-preserved t c = record {
   left = λ seen keeps form whole leads.
-      let (inner, makes, rest) = LeadsTo-popped seen form c.loop-outer.around.items c.pop.new.self.items c.in-Some.outer
-      (tree_seen seen c.loop-outer.value) whole
+      let (inner, makes, rest) = LeadsTo-popped seen form _ _ _ (tree_seen seen c.loop-outer.value) whole
       c.in-Some.ensures.items (c.loop-outer.invariant.left seen keeps form whole leads) in
       subst (λ (x : Tree). LeadsTo seen form (reverse c.pop.new.self.items) x whole) (sym (c.in_ok-value.ensures.decodes seen keeps form inner makes)) rest;
-  room =
-      let wide = widest_with c.pop.new.self.items c.loop-outer.around.items c.in-Some.outer c.in-Some.ensures.items in
-      omega (arith, wide, c.loop-outer.invariant.room);
+  room = omega (arith, widest_with _ _ _ c.in-Some.ensures.items, c.loop-outer.invariant.room);
 }
 
 pub closed_all-returns-clause-decodes : goal.closed_all-returns-clause-decodes
 closed_all-returns-clause-decodes t c = λ seen keeps form whole leads.
-    subst (λ (os : List Open). LeadsTo seen form (reverse os) (tree_seen seen c.loop-outer.value) whole)
-    (nil_from_length c.loop-outer.around.items (omega (arith, c.in_default.ensures.cases.0, c.loop-outer.around.ok.0)))
-    (c.loop-outer.invariant.left seen keeps form whole leads)
+    rw (nil_from_length c.loop-outer.around.items (omega (arith, c.in_default.ensures.cases.0, c.loop-outer.around.ok.0)))
+    at (c.loop-outer.invariant.left seen keeps form whole leads)
 
 pub container_value-returns-in_err-value-clause-decodes : goal.container_value-returns-in_err-value-clause-decodes
 container_value-returns-in_err-value-clause-decodes t c = λ seen keeps sees form whole stands.
     let (part, part_stands, part_sees, leads) = c.loop-around.invariant.left seen keeps sees form whole stands in
-    let p = err_from_is_err_and c.from_residual.result c.from_residual.ensures.1 in
-    rw (p.1, p.2) (c.in_err-value.ensures.decodes seen keeps part_sees form part part_stands)
+    err_is _ _ _ _ c.from_residual.ensures.1 (c.in_err-value.ensures.decodes seen keeps part_sees form part part_stands)
 
 pub container_value-returns-in-Whole-clause-decodes : goal.container_value-returns-in-Whole-clause-decodes
 container_value-returns-in-Whole-clause-decodes t c = λ seen keeps sees form whole stands.
     let (part, part_stands, part_sees, leads) = c.loop-around.invariant.left seen keeps sees form whole stands in
     let same : tree_seen seen c.in-Whole.value ≡ part = rw c.in-Whole.is at (c.in_ok-value.ensures.decodes seen keeps part_sees form part part_stands) in
-    c.closed_all.ensures.decodes seen keeps form whole
-    (subst (λ (x : Tree). LeadsTo seen form (reverse c.loop-around.around.items) x whole) (sym same) leads)
+    c.closed_all.ensures.decodes seen keeps form whole (rw (← same) at leads)
 
 pub container_value-loop-around-preserved : goal.container_value-loop-around-preserved
 container_value-loop-around-preserved t c =
@@ -89,9 +78,7 @@ container_value-loop-around-preserved t c =
           let (inner, inner_stands, inner_sees, makes) = rw c.in-Within.is at (c.in_ok-value.ensures.decodes seen keeps part_sees form part part_stands) in
           (inner, inner_stands, inner_sees, LeadsTo-pushed seen form c.loop-around.around.items _ c.in-Within.outer inner part whole pushed makes leads);
       shorter = omega (arith, inv.shorter, size.0);
-      room =
-          let wide = widest_with c.loop-around.around.items _ c.in-Within.outer pushed in
-          omega (arith, wide, inv.shorter, inv.room, size.1);
+      room = omega (arith, widest_with c.loop-around.around.items _ c.in-Within.outer pushed, inv.shorter, inv.room, size.1);
     }
 
 -- ---- the beginning of a container
@@ -110,16 +97,14 @@ pub opened-returns-in_ok-left-in-Array-clause-decodes : goal.opened-returns-in_o
 opened-returns-in_ok-left-in-Array-clause-decodes t c = λ seen keeps sees form u stands.
     let (ts, is, d) = rw c.in-Array.is at stands in
     let made = ap array (elements_begin seen _ ts c.new.ensures.items) ∙ sym is in
-    subst (λ (x : Tree). MatchResult c.fill_array.result (FillsTo seen form x) IsOutOfMemory) made
-    (c.fill_array.ensures.decodes seen keeps form ts (c.in_ok-left-in-Array.ensures.decodes form ts d))
+    rw made at (c.fill_array.ensures.decodes seen keeps form ts (c.in_ok-left-in-Array.ensures.decodes form ts d))
 
 pub opened-returns-in_ok-left-in-Object-clause-decodes : goal.opened-returns-in_ok-left-in-Object-clause-decodes
 opened-returns-in_ok-left-in-Object-clause-decodes t c = λ seen keeps sees form u stands.
     let (ps, is, d) = rw c.in-Object.is at stands in
     let same = members_begin seen _ ps c.new-in-Object.ensures.empty in
     let rising = subst (λ (qs : Pairs). AreKeys (keys qs)) (sym same) (decoded_keys form _ ps d) in
-    subst (λ (x : Tree). MatchResult c.fill_object.result (FillsTo seen form x) IsOutOfMemory) (ap object same ∙ sym is)
-    (c.fill_object.ensures.decodes seen keeps form ps (c.in_ok-left-in-Object.ensures.decodes form ps d) rising)
+    rw (ap object same ∙ sym is) at (c.fill_object.ensures.decodes seen keeps form ps (c.in_ok-left-in-Object.ensures.decodes form ps d) rising)
 
 -- ---- arrays
 
@@ -132,32 +117,25 @@ pub fill_array-returns-then-is_longer-clause-decodes : goal.fill_array-returns-t
 fill_array-returns-then-is_longer-clause-decodes t c = λ seen keeps form ts h.
     let (left, has, joined) = c.loop-item.invariant.left seen keeps form ts h in
     let now = first_element form left c.in-Some.item _ _ c.in_ok-item.was (c.in-Some.ensures.steps.takes form left has) in
-    let sees = sees_normal seen keeps c.in-Some.item _ c.in_ok-item.was c.in-Some.ensures.steps.normal in
     let made = ap (λ (us : Trees). array (trees_of (trees_seen seen c.loop-item.values.items ++ elements us))) (sym now.whole) ∙ ap array joined in
-    (now.first, now.stands, sees, (now.others, now.left, made))
+    (now.first, now.stands, sees_normal seen keeps c.in-Some.item _ c.in_ok-item.was c.in-Some.ensures.steps.normal, (now.others, now.left, made))
 
 pub fill_array-returns-in_err-item_value-clause-decodes : goal.fill_array-returns-in_err-item_value-clause-decodes
 fill_array-returns-in_err-item_value-clause-decodes t c = λ seen keeps form ts h.
     let (left, has, joined) = c.loop-item.invariant.left seen keeps form ts h in
     let now = first_element form left c.in-Some.item _ _ c.in_ok-item.was (c.in-Some.ensures.steps.takes form left has) in
     let sees = sees_normal seen keeps c.in-Some.item _ c.in_ok-item.was c.in-Some.ensures.steps.normal in
-    let p = err_from_is_err_and c.from_residual-in_err-item_value.result c.from_residual-in_err-item_value.ensures.1 in
-    rw (p.1, p.2) (c.in_err-item_value.ensures.decodes seen keeps sees form now.first now.stands)
+    err_is _ _ _ _ c.from_residual-in_err-item_value.ensures.1 (c.in_err-item_value.ensures.decodes seen keeps sees form now.first now.stands)
 
 pub fill_array-loop-item-preserved : goal.fill_array-loop-item-preserved
 fill_array-loop-item-preserved t c = record {
-  can = tt;
-  finite = tt;
   room = omega (arith, c.in-Some.ensures.steps.any_bytes.room, c.loop-item.invariant.room);
   left = λ seen keeps form ts h.
       let (left, has, joined) = c.loop-item.invariant.left seen keeps form ts h in
       let now = first_element form left c.in-Some.item _ _ c.in_ok-item.was (c.in-Some.ensures.steps.takes form left has) in
-      let sees = sees_normal seen keeps c.in-Some.item _ c.in_ok-item.was c.in-Some.ensures.steps.normal in (
-        now.others,
-        now.left,
-        elements_go_on seen _ _ _ left now.others _ now.first joined now.whole c.in_ok-push.ensures.items
-            (c.in_ok-item_value.ensures.decodes seen keeps sees form now.first now.stands),
-      );
+      let sees = sees_normal seen keeps c.in-Some.item _ c.in_ok-item.was c.in-Some.ensures.steps.normal in
+      let same = c.in_ok-item_value.ensures.decodes seen keeps sees form now.first now.stands in
+      (now.others, now.left, elements_go_on seen _ _ _ left now.others _ now.first joined now.whole c.in_ok-push.ensures.items same);
 }
 
 pub fill_array-returns-clause-decodes : goal.fill_array-returns-clause-decodes
@@ -178,8 +156,8 @@ fill_object-returns-then-is_longer-clause-decodes t c = λ seen keeps form ps h 
     let now = first_member form left c.in-Some.pair _ _ c.in_ok-key.was (c.in-Some.ensures.steps.takes form left has) in
     let sees = sees_normal_member seen keeps c.in-Some.pair _ c.in_ok-key.was c.in-Some.ensures.steps.normal in
     let before = members_seen seen c.loop-pair.members.entries in
-    let next : pairs_of (before ++ (string_bytes c.in_ok-name.name, now.value) ∷ members now.others) ≡ pairs_of
-    (members_seen seen c.args.members.entries ++ members ps) =
+    let next : pairs_of (before ++ (string_bytes c.in_ok-name.name, now.value) ∷ members now.others)
+    ≡ pairs_of (members_seen seen c.args.members.entries ++ members ps) =
     ap (λ (key : List ℕ). pairs_of (before ++ (key, now.value) ∷ members now.others)) c.in_ok-name.ensures.ok
     ∙ ap (λ (qs : Pairs). pairs_of (before ++ members qs)) (sym now.whole) ∙ joined in
     (now.value, now.stands, sees, (now.others, now.left, subst (λ (qs : Pairs). AreKeys (keys qs)) (sym next) rising, ap object next))
@@ -189,24 +167,18 @@ fill_object-returns-in_err-value-clause-decodes t c = λ seen keeps form ps h ri
     let (left, has, joined) = c.loop-pair.invariant.left seen keeps form ps h rising in
     let now = first_member form left c.in-Some.pair _ _ c.in_ok-key.was (c.in-Some.ensures.steps.takes form left has) in
     let sees = sees_normal_member seen keeps c.in-Some.pair _ c.in_ok-key.was c.in-Some.ensures.steps.normal in
-    let p = err_from_is_err_and c.from_residual-in_err-value.result c.from_residual-in_err-value.ensures.1 in
-    rw (p.1, p.2) (c.in_err-value.ensures.decodes seen keeps sees form now.value now.stands)
+    err_is _ _ _ _ c.from_residual-in_err-value.ensures.1 (c.in_err-value.ensures.decodes seen keeps sees form now.value now.stands)
 
 pub fill_object-loop-pair-preserved : goal.fill_object-loop-pair-preserved
 fill_object-loop-pair-preserved t c = record {
-  can = tt;
-  finite = tt;
   room = omega (arith, c.in-Some.ensures.steps.any_bytes.room, c.loop-pair.invariant.room);
   left = λ seen keeps form ps h rising.
       let (left, has, joined) = c.loop-pair.invariant.left seen keeps form ps h rising in
       let now = first_member form left c.in-Some.pair _ _ c.in_ok-key.was (c.in-Some.ensures.steps.takes form left has) in
-      let sees = sees_normal_member seen keeps c.in-Some.pair _ c.in_ok-key.was c.in-Some.ensures.steps.normal in (
-        now.others,
-        now.left,
-        members_go_on seen _ _ _ _ _ left now.others _ now.value joined now.whole
-            rising c.in_ok-insert.ensures.entries c.in_ok-name.ensures.ok
-            (c.in_ok-value.ensures.decodes seen keeps sees form now.value now.stands),
-      );
+      let sees = sees_normal_member seen keeps c.in-Some.pair _ c.in_ok-key.was c.in-Some.ensures.steps.normal in
+      let same = c.in_ok-value.ensures.decodes seen keeps sees form now.value now.stands in
+      let more = members_go_on seen _ _ _ _ _ left now.others _ now.value joined now.whole rising c.in_ok-insert.ensures.entries c.in_ok-name.ensures.ok same in
+      (now.others, now.left, more);
 }
 
 pub fill_object-returns-clause-decodes : goal.fill_object-returns-clause-decodes

@@ -52,8 +52,6 @@ decreases-closed_all-loop-outer l = length l.around.items
 -- the values so far, followed by the elements that are left, are the array's
 abbrev pub invariant-fill_array-loop-item : goal.invariant-fill_array-loop-item
 invariant-fill_array-loop-item l = record {
-  can : (goal.iterator-fill_array-loop-item).can_next l.left;
-  finite : (goal.iterator-fill_array-loop-item).is_finite l.left;
   room : length l.left.entries.contents.now ≤ length l.fn.left.entries.contents.now;
   left : (seen : Number → spec.Number) → KeepsNormal seen → (form : Form) (ts : Trees) → HasElementsLeft form l.fn.left ts
       → (rest : Trees) × HasElementsLeft form l.left rest
@@ -63,8 +61,6 @@ invariant-fill_array-loop-item l = record {
 -- the members so far, followed by the pairs that are left, are the object's
 abbrev pub invariant-fill_object-loop-pair : goal.invariant-fill_object-loop-pair
 invariant-fill_object-loop-pair l = record {
-  can : (goal.iterator-fill_object-loop-pair).can_next l.left;
-  finite : (goal.iterator-fill_object-loop-pair).is_finite l.left;
   room : length l.left.value_contents.now ≤ length l.fn.left.value_contents.now;
   left : (seen : Number → spec.Number) → KeepsNormal seen → (form : Form) (ps : Pairs) → HasPairsLeft form l.fn.left ps
       → AreKeys (keys (pairs_of (members_seen seen l.fn.members.entries ++ members ps)))

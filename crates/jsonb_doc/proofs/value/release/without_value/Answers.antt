@@ -1,18 +1,12 @@
-use Rattle.jsonb_doc.proofs.Common.{◌+◌, refl, ap, ◌∙◌, arith, parts, values_parts, waiting_parts, remaining}
+use Rattle.jsonb_doc.proofs.Common.{rules, ◌+◌, ap, ◌∙◌, arith, parts, values_parts, waiting_parts, remaining}
 use Rattle.jsonb_doc.proofs.PartLemmas.{as_many_parts, values_parts-last}
 use Rattle.jsonb_doc.proofs.value.release.without_value.Goals as goal
 
 pub returns-in-Some-container : goal.returns-in-Some-container
 returns-in-Some-container c =
     let row = ap values_parts c.in-Some.ensures.items ∙ values_parts-last c.pop.new.self.items c.in-Some.last in
-    let same = ap parts c.in-Some-container.ensures in
     as_many_parts (1 + values_parts c.pop.new.self.items + parts c.in-Some-container.inner) _ (waiting_parts c.args.waiting) (remaining c.without_inner.result)
-    (omega (arith, row, same, c.loop-last.invariant.fewer)) c.without_inner.ensures
+    (omega (arith, row, ap parts c.in-Some-container.ensures, c.loop-last.invariant.fewer)) c.without_inner.ensures
 
 pub loop-last-preserved : goal.loop-last-preserved
-loop-last-preserved c = record {
-  fewer =
-      let row = ap values_parts c.in-Some.ensures.items ∙ values_parts-last c.pop.new.self.items c.in-Some.last in
-      omega (arith, row, c.loop-last.invariant.fewer);
-  same = refl;
-}
+loop-last-preserved c = search (rules, values_parts-last)

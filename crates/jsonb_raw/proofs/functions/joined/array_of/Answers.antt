@@ -1,6 +1,6 @@
-use Rattle.jsonb_raw.proofs.Common.{inr, refl, sym, ◌∙◌, length, ◌++◌, [], array, trees_of}
-use Rattle.jsonb_doc.specs.declared.layout.HeaderKind.TheVariants as header_kind
+use Rattle.jsonb_raw.proofs.Common.{rules, inr, refl, length, ◌++◌, [], array, trees_of}
 use Rattle.jsonb_raw.proofs.RunLemmas.{no_runs, no_entries, array_made, too_many_made}
+use Rattle.jsonb_doc.specs.declared.layout.HeaderKind.TheVariants as header_kind
 use Rattle.jsonb_raw.proofs.functions.joined.array_of.Goals as goal
 
 pub returns-in_default-clause-array : goal.returns-in_default-clause-array
@@ -8,8 +8,7 @@ returns-in_default-clause-array c = λ form ts h.
     inr (refl, too_many_made form header_kind.Array (length ts) (ts ++ []) (array (trees_of ts)) (array_made (length ts) ts refl) (rw c.in_default.is at (c.count_entries.ensures form ts h)))
 
 pub returns-then-count-eq0-clause-array : goal.returns-then-count-eq0-clause-array
-returns-then-count-eq0-clause-array c = λ form ts h.
-    no_entries form ts _ (sym c.if-count-eq0.true ∙ c.in-Some.ensures form ts h) (c.empty_array.ensures.array form)
+returns-then-count-eq0-clause-array c = search (rules, no_entries)
 
 pub returns-clause-array : goal.returns-clause-array
 returns-clause-array c = λ form ts h.

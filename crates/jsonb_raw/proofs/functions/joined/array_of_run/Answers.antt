@@ -1,5 +1,6 @@
+use Rattle.jsonb_raw.proofs.Common.{rules}
 use Rattle.jsonb_raw.proofs.RunLemmas.{one_run}
 use Rattle.jsonb_raw.proofs.functions.joined.array_of_run.Goals as goal
 
 pub returns-clause-array : goal.returns-clause-array
-returns-clause-array c = λ form ts h. c.array_of.ensures.array form _ (one_run form _ ts h)
+returns-clause-array c = search (rules, one_run)

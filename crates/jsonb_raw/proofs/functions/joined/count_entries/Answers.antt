@@ -1,5 +1,6 @@
 use Rattle.jsonb_raw.proofs.Common.{length, ap, arith, length-append}
-use Rattle.jsonb_raw.proofs.RunLemmas.{first_run, no_runs_left}
+use Rattle.jsonb_raw.proofs.RunLemmas.{first_run}
+use Rattle.jsonb_raw.proofs.Lists.{none_behind}
 use Rattle.jsonb_raw.proofs.functions.joined.count_entries.Goals as goal
 
 pub returns-then-count-gt-MAX_ENTRIES : goal.returns-then-count-gt-MAX_ENTRIES
@@ -20,7 +21,4 @@ loop-run-preserved c = record {
 }
 
 pub returns : goal.returns
-returns c = λ form ts h.
-    let i = c.loop-run.invariant.whole form ts h in
-    let sum = i.2 in
-    omega (arith, sum, ap length (no_runs_left form c.args.runs.now c.loop-run.run-index i.0 (omega arith) i.1))
+returns c = grind (arith, none_behind)

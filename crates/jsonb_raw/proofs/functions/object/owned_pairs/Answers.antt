@@ -1,4 +1,4 @@
-use Rattle.jsonb_raw.proofs.Common.{◌≡◌, ◌++◌, [], ◌∷◌, string_bytes, IsPairOf}
+use Rattle.jsonb_raw.proofs.Common.{rules, ◌≡◌, ◌++◌, [], ◌∷◌, string_bytes, IsPairOf}
 use Rattle.jsonb_raw.proofs.AnswerLemmas.{failed}
 use Rattle.jsonb_raw.proofs.CollectLoops.{none_made, one_made, all_made}
 use Rattle.jsonb_raw.proofs.ObjectLemmas.{pair_refused_in_list}
@@ -6,7 +6,7 @@ use Rattle.jsonb_raw.proofs.RunLemmas.{others_hold, pair_taken, no_pair_left}
 use Rattle.jsonb_raw.proofs.functions.object.owned_pairs.Goals as goal
 
 pub loop-each-init : goal.loop-each-init
-loop-each-init c = λ form ps h. (ps, h, none_made (IsPairOf string_bytes form) _ ps c.in_ok-each.ensures.items)
+loop-each-init c = search (rules, none_made)
 
 pub loop-each-preserved : goal.loop-each-preserved
 loop-each-preserved c = λ form ps h.
@@ -27,6 +27,4 @@ returns-in_err-owned_pair-clause-pairs c = λ form ps h.
     (c.in_err-owned_pair.ensures.pair form f.value f.is_first.name.part.2 f.is_first.value.part))
 
 pub returns-clause-pairs : goal.returns-clause-pairs
-returns-clause-pairs c = λ form ps h.
-    let i = c.loop-each.invariant form ps h in
-    all_made (IsPairOf string_bytes form) _ ps (rw (no_pair_left form _ i.0 _ c.in_default.is (c.in_ok-pair.ensures.first form _ i.1)) at i.2)
+returns-clause-pairs c = search (rules, all_made, no_pair_left)

@@ -1,14 +1,12 @@
-use Rattle.jsonb_raw.proofs.Common.{◌∙◌, inl, subst, append-nil, keys_of, keys_rise, parted, names_left, PairsHeld}
+use Rattle.jsonb_raw.proofs.Common.{arith, ◌∙◌, inl, append-nil, keys_rise, AreRising-filter}
 use Rattle.jsonb_raw.proofs.AnswerLemmas.{failed}
-use Rattle.jsonb_raw.proofs.PartedRuns.{names_begun, parting_begun, run_hold, parting_on, parting_done, parted_rising}
+use Rattle.jsonb_raw.proofs.PartedRuns.{names_begun, parting_begun, run_hold, parting_on}
 use Rattle.jsonb_raw.proofs.functions.object.pairs_by_set.Goals.{then-run-wanted+in_ok-keys+in_ok-push, else-run-wanted}
 use Rattle.jsonb_raw.proofs.functions.object.pairs_by_set.Goals as goal
 
 pub loop-runs-init : goal.loop-runs-init
 loop-runs-init c = record {
-  left = λ form ps h a.
-      parting_begun form c.new-runs.result c.args.pairs c.args.wanted c.args.names.now (names_left c.new-sorted.result) ps c.new-runs.ensures.keys
-      c.new-runs.ensures.values h (names_begun c.args.names.now _ (keys_of ps) c.new-sorted.ensures.decides) a;
+  left = λ form ps h a. search (parting_begun, names_begun, c.new-runs.ensures.keys, c.new-runs.ensures.values, c.new-sorted.ensures.decides);
   names = c.new-sorted.ensures.names;
 }
 
@@ -44,11 +42,4 @@ loop-runs-preserved c = record {
 }
 
 pub returns-clause-pairs : goal.returns-clause-pairs
-returns-clause-pairs c = λ form ps h a.
-    let m = c.loop-runs.invariant.left form ps h a in
-    let none = rw c.in_default.is at
-    (c.in_ok-run.ensures.run form m.rest m.pairs.names m.are_keys (rw c.loop-runs.invariant.names m.decide)) in
-    let whole = parting_done form _ _ _ _ _ _ m none in
-    let all = subst (PairsHeld form c.loop-runs.runs) whole m.runs_hold in
-    c.object.ensures.object form (parted c.args.wanted c.args.names.now ps) all
-    (parted_rising c.args.wanted c.args.names.now ps (keys_rise (keys_of ps) a))
+returns-clause-pairs c = grind (arith, AreRising-filter, keys_rise, append-nil)

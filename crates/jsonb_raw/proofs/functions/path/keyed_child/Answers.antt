@@ -1,5 +1,6 @@
-use Rattle.jsonb_raw.proofs.Common.{◌∙◌, sym, w32, to_z-of_z}
-use Rattle.jsonb_raw.proofs.PositionLemmas.{field_by_key, no_field}
+use Rattle.jsonb_raw.proofs.Common.{◌∙◌, sym, w32, to_z-of_z, arith}
+use Rattle.jsonb_raw.proofs.PositionLemmas.{no_field}
+use Rattle.jsonb_raw.proofs.AnswerLemmas.{answered}
 use Rattle.jsonb_raw.proofs.functions.path.keyed_child.Goals as goal
 
 pub returns-then-not-is_container-clause-child : goal.returns-then-not-is_container-clause-child
@@ -9,4 +10,4 @@ returns-then-not-is_container-clause-child c = λ t m.
 pub returns-clause-child : goal.returns-clause-child
 returns-clause-child c = λ t m.
     let key = c.as_str.ensures.value ∙ c.in_ok-key.ensures.ok in
-    field_by_key _ c.args.index _ t _ _ (to_z-of_z w32 c.args.index c.ranges.index) key (c.field_spot.ensures.field t m)
+    (grind (arith, answered, to_z-of_z w32 c.args.index c.ranges.index, key, c.field_spot.ensures.field t m))

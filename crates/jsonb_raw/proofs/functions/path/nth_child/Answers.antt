@@ -1,4 +1,4 @@
-use Rattle.jsonb_raw.proofs.Common.{children}
+use Rattle.jsonb_raw.proofs.Common.{rules}
 use Rattle.jsonb_raw.proofs.ChildLemmas.{all_left}
 use Rattle.jsonb_raw.proofs.functions.path.nth_child.Goals as goal
 
@@ -6,5 +6,4 @@ pub returns-in_err-found-clause-child : goal.returns-in_err-found-clause-child
 returns-in_err-found-clause-child c = λ t m. absurd (c.in_err-found.ensures.spots t m)
 
 pub returns-clause-child : goal.returns-clause-child
-returns-clause-child c = λ t m.
-    c.nth_spot.ensures.spot _ (children t) (all_left _ _ _ (rw c.in-Some.is at (c.in_ok-found.ensures.spots t m)))
+returns-clause-child c = search (rules, all_left)

@@ -1,5 +1,6 @@
-use Rattle.jsonb_raw.proofs.Common.{refl, Decodes-array, Decodes-object}
-use Rattle.jsonb_raw.proofs.RunLemmas.{array_entries_are, object_entries_are, no_parts, array_within, object_within}
+use Rattle.jsonb_raw.proofs.Common.{refl, Decodes-array, Decodes-object, arith, many_keys}
+use Rattle.jsonb_raw.proofs.RunLemmas.{array_entries_are, object_entries_are, no_parts}
+use Rattle.std.proofs.lemmas.List.{length-append}
 use Rattle.jsonb_raw.proofs.functions.runs.container_entries.Goals as goal
 
 pub returns-in-Array-clause-entries : goal.returns-in-Array-clause-entries
@@ -20,10 +21,7 @@ returns-in_ok-keys-in-Object-clause-entries c = λ form t d.
     (c.in_ok-keys-in-Object.ensures.entries form)
 
 pub returns-in-Array-clause-size : goal.returns-in-Array-clause-size
-returns-in-Array-clause-size c =
-    array_within c.args.bytes.now c.in-Array.parts _ (rw c.in-Array.is at c.in_ok-read_container.ensures.cut) refl refl refl refl
+returns-in-Array-clause-size c = grind (arith, length-append)
 
 pub returns-in_ok-keys-in-Object-clause-size : goal.returns-in_ok-keys-in-Object-clause-size
-returns-in_ok-keys-in-Object-clause-size c =
-    object_within c.args.bytes.now c.in-Object.parts _ (rw c.in-Object.is at c.in_ok-read_container.ensures.cut) refl c.in_ok-keys-in-Object.ensures.room.0
-    c.in_ok-keys-in-Object.ensures.size
+returns-in_ok-keys-in-Object-clause-size c = grind (arith, many_keys, length-append)

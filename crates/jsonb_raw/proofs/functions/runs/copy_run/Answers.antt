@@ -1,5 +1,5 @@
-use Rattle.jsonb_raw.proofs.Common.{◌++◌, List, ap, sym, subst, length, ◌∙◌, Tree, IsWriting, zero_of}
-use Rattle.jsonb_raw.proofs.RunLemmas.{holding_none, holding_one}
+use Rattle.jsonb_raw.proofs.Common.{◌++◌, List, ap, sym, subst, length, ◌∙◌, Tree, IsWriting, zero_of, HoldTrees}
+use Rattle.jsonb_raw.proofs.RunLemmas.{holding_none}
 use Rattle.jsonb_raw.proofs.functions.runs.copy_run.Goals as goal
 
 pub returns-then-is_empty-clause-copied : goal.returns-then-is_empty-clause-copied
@@ -11,4 +11,6 @@ returns-then-is_empty-clause-copied c = λ form xs ys coming around whole h w.
 pub returns-clause-copied : goal.returns-clause-copied
 returns-clause-copied c = λ form xs ys coming around whole h w.
     let piece = rw c.in-Some.is at (c.entries_before.ensures h.run_words h.run_contents h.words_joined h.contents_joined) in
-    c.in_ok-copy.ensures.copied form xs coming around whole (holding_one form _ _ xs ys h c.in-Some.piece piece.0 piece.1) w
+    c.in_ok-copy.ensures.copied form xs coming around whole
+        (subst (HoldTrees form c.in-Some.piece) (sym (h.trees_joined
+            ∙ ap (λ (l : List Tree). l ++ h.here) h.held)) (record { entries = rw (piece.0, piece.1) h.run_held })) w

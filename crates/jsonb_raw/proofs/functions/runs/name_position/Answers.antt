@@ -1,5 +1,5 @@
-use Rattle.jsonb_raw.proofs.Common.{◌∙◌, sym, rules}
-use Rattle.jsonb_raw.proofs.PositionLemmas.{key_here, key_further, key_nowhere}
+use Rattle.jsonb_raw.proofs.Common.{◌∙◌, sym, rules, arith}
+use Rattle.jsonb_raw.proofs.PositionLemmas.{position-cons}
 use Rattle.jsonb_raw.proofs.RunLemmas.{text_first, no_text_left}
 use Rattle.jsonb_raw.proofs.functions.runs.name_position.Goals as goal
 
@@ -7,7 +7,7 @@ pub returns-then-eq-clause-position : goal.returns-then-eq-clause-position
 returns-then-eq-clause-position c = λ form ks h.
     let i = c.loop-key.invariant.left form ks h in
     let f = text_first form _ i.0 _ _ _ c.in-Some.is (c.in_ok-key.ensures.first form _ i.1) in
-    key_here c.loop-key.passed c.args.name.now _ i.0 f.rest _ f.split (sym c.eq.ensures ∙ c.if-eq.true) i.2
+    (grind (arith, position-cons, f.split, sym c.eq.ensures ∙ c.if-eq.true, i.2))
 
 pub loop-key-preserved : goal.loop-key-preserved
 loop-key-preserved c = record {
@@ -15,10 +15,10 @@ loop-key-preserved c = record {
   left = λ form ks h.
       let i = c.loop-key.invariant.left form ks h in
       let f = text_first form _ i.0 _ _ _ c.in-Some.is (c.in_ok-key.ensures.first form _ i.1) in
-      (f.rest, f.is_first.others_hold, key_further c.loop-key.passed c.args.name.now _ i.0 f.rest _ f.split (sym c.eq.ensures ∙ c.if-eq.false) i.2);
+      (f.rest, f.is_first.others_hold, grind (arith, position-cons, f.split, sym c.eq.ensures ∙ c.if-eq.false, i.2));
 }
 
 pub returns-clause-position : goal.returns-clause-position
 returns-clause-position c = λ form ks h.
     let i = c.loop-key.invariant.left form ks h in
-    key_nowhere c.loop-key.passed c.args.name.now i.0 _ (no_text_left form _ i.0 _ c.in_default.is (c.in_ok-key.ensures.first form _ i.1)) i.2
+    (rw (no_text_left form _ i.0 _ c.in_default.is (c.in_ok-key.ensures.first form _ i.1)) at i.2)

@@ -1,5 +1,5 @@
-use Rattle.jsonb_raw.proofs.Common.{ap, sym, length, ◌∙◌, zero_of}
-use Rattle.jsonb_raw.proofs.RunLemmas.{holding_none, holding_pushed}
+use Rattle.jsonb_raw.proofs.Common.{ap, sym, length, ◌∙◌, zero_of, arith}
+use Rattle.jsonb_raw.proofs.RunLemmas.{holding_none, run_after}
 use Rattle.jsonb_raw.proofs.functions.runs.push_run.Goals as goal
 
 pub returns-then-is_empty-clause-pushed : goal.returns-then-is_empty-clause-pushed
@@ -8,6 +8,4 @@ returns-then-is_empty-clause-pushed c = λ form xs ys h.
     holding_none form _ _ _ xs ys h (ap length (sym piece.0) ∙ zero_of _ c.if-is_empty.ensures)
 
 pub returns-clause-pushed : goal.returns-clause-pushed
-returns-clause-pushed c = λ form xs ys h.
-    let piece = rw c.in-Some.is at (c.entries_before.ensures h.run_words h.run_contents h.words_joined h.contents_joined) in
-    holding_pushed form _ _ _ xs ys h c.in-Some.piece _ piece.0 piece.1 c.in_ok-push.ensures.items
+returns-clause-pushed c = grind (arith, run_after)

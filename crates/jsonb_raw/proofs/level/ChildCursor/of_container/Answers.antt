@@ -1,4 +1,4 @@
-use Rattle.jsonb_raw.proofs.Common.{arith, inl, inr, ap, number_reader, header_number, HasContent-kind}
+use Rattle.jsonb_raw.proofs.Common.{rules, arith, inl, inr, ap, number_reader, header_number, HasContent-kind}
 use Rattle.jsonb_raw.proofs.LevelStarts.{headed, no_array, no_object}
 use Rattle.jsonb_raw.proofs.level.ChildCursor.of_container.Goals as goal
 
@@ -6,14 +6,10 @@ pub returns-in_default-clause-level : goal.returns-in_default-clause-level
 returns-in_default-clause-level c = λ form t content. headed form t c.args.bytes.now content c.in_default.ensures
 
 pub returns-in_err-array_entries-in-Array-clause-level : goal.returns-in_err-array_entries-in-Array-clause-level
-returns-in_err-array_entries-in-Array-clause-level c = λ form t content.
-    absurd (no_array form t c.args.bytes.now content _ _ _ c.in-Some.ensures (ap header_number c.in-Array.is)
-    (c.in_err-array_entries-in-Array.ensures.decodes form))
+returns-in_err-array_entries-in-Array-clause-level c = search (rules, no_array)
 
 pub returns-in_err-object_entries-in-Object-clause-level : goal.returns-in_err-object_entries-in-Object-clause-level
-returns-in_err-object_entries-in-Object-clause-level c = λ form t content.
-    absurd (no_object form t c.args.bytes.now content _ _ _ c.in-Some.ensures (ap header_number c.in-Object.is)
-    (c.in_err-object_entries-in-Object.ensures.decodes form))
+returns-in_err-object_entries-in-Object-clause-level c = search (rules, no_object)
 
 pub returns-in-Scalar-clause-level : goal.returns-in-Scalar-clause-level
 returns-in-Scalar-clause-level c = λ form t content.

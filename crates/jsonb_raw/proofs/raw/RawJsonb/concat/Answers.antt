@@ -2,10 +2,6 @@ use Rattle.jsonb_raw.proofs.Common.{◌≡◌, ◌++◌, Option, None, subst, ar
 use Rattle.jsonb_raw.proofs.PartedRuns.{pairs_there}
 use Rattle.jsonb_raw.proofs.raw.RawJsonb.concat.Goals as goal
 
-first_not_object : (form : Form) (found : Option PairEntries) (t u : Tree) → found ≡ None → ArePairsOf form t found
-    → array (trees_of (as_elements t ++ as_elements u)) ≡ concat t u
-first_not_object form found t u h k = grind arith
-
 second_not_object : (form : Form) (found : Option PairEntries) (t u : Tree) → found ≡ None → ArePairsOf form u found
     → array (trees_of (as_elements t ++ as_elements u)) ≡ concat t u
 second_not_object form found t u h k = grind arith
@@ -14,7 +10,7 @@ pub returns-in_default-clause-document : goal.returns-in_default-clause-document
 returns-in_default-clause-document c = λ form t u d e.
     let d' : Decodes form c.as_bytes-bytes.result.now t = rw c.as_bytes-bytes.ensures d in
     subst (λ whole. Makes form whole c.joined_arrays.result)
-    (first_not_object form _ t u c.in_default.is (c.in_ok-first.ensures.entries form t d')) (c.joined_arrays.ensures.document form t u d' (rw c.as_bytes-others.ensures e))
+    (grind (arith, c.in_default.is, c.in_ok-first.ensures.entries form t d')) (c.joined_arrays.ensures.document form t u d' (rw c.as_bytes-others.ensures e))
 
 pub returns-in_default-2-clause-document : goal.returns-in_default-2-clause-document
 returns-in_default-2-clause-document c = λ form t u d e.

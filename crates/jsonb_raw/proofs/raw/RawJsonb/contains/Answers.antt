@@ -1,11 +1,9 @@
-use Rattle.jsonb_raw.proofs.Common.{◌≡◌, inl, inr, sym, subst, IsOkAnd}
-use Rattle.jsonb_raw.proofs.ContainLemmas.{contains-extension, contains-array, contains-object, plain_item, array_contains_plain, other_contains_plain}
+use Rattle.jsonb_raw.proofs.Common.{rules, ◌≡◌, inl, inr, sym, subst, IsOkAnd, arith}
+use Rattle.jsonb_raw.proofs.ContainLemmas.{contains-extension, contains-array, contains-object, plain_item, array_contains_plain, extension_equals_no_plain, object_equals_no_plain}
 use Rattle.jsonb_raw.proofs.raw.RawJsonb.contains.Goals as goal
 
 pub returns-in-Extension-clause-answer : goal.returns-in-Extension-clause-answer
-returns-in-Extension-clause-answer c = λ form other_form tree wanted d e.
-    let is = rw c.in-Extension.is at (c.in_ok-wanted.ensures.decodes other_form wanted (rw c.as_bytes-2.ensures e)) in
-    rw is (sym (contains-extension tree _))
+returns-in-Extension-clause-answer c = search (rules, contains-extension)
 
 pub returns-in-Array-clause-answer : goal.returns-in-Array-clause-answer
 returns-in-Array-clause-answer c = λ form other_form tree wanted d e.
@@ -34,5 +32,6 @@ returns-in_default-item-clause-answer c = λ form other_form tree wanted d e.
     let stands = c.in_ok-item.ensures.decodes form tree (rw c.as_bytes.ensures d) in
     let means = c.in_ok-wanted.ensures.decodes other_form wanted (rw c.as_bytes-2.ensures e) in
     let plain = plain_item other_form c.in_ok-wanted.wanted wanted means c.in_default.not-Extension c.in_default.not-Array c.in_default.not-Object in
-    subst (λ a. IsOkAnd c.items_equal.result (λ b. b ≡ a)) (other_contains_plain form c.in_ok-item.item tree wanted stands c.in_default-item.not-Array plain)
+    subst (λ a. IsOkAnd c.items_equal.result (λ b. b ≡ a))
+        (grind (arith, extension_equals_no_plain, object_equals_no_plain, stands, c.in_default-item.not-Array, plain))
     (c.items_equal.ensures.equal form other_form tree wanted stands means)

@@ -1,28 +1,19 @@
-use Rattle.jsonb_raw.proofs.Common.{◌≡◌, None, Some, length, sym, ap, ◌∙◌, w32, remove, to_z-of_z, array, elements, trees_of, Decodes, HoldTrees, index_position, without_index}
+use Rattle.jsonb_raw.proofs.Common.{arith, ◌≡◌, Some, length, sym, ap, ◌∙◌, w32, remove, to_z-of_z, array, elements, trees_of, HoldTrees, index_position, without_index, refl}
 use Rattle.jsonb_raw.proofs.RunLemmas.{array_of_entries}
-use Rattle.jsonb_raw.proofs.ChildAnswers.{without_some, without_none}
+use Rattle.jsonb_raw.proofs.ChildAnswers.{without_none}
 use Rattle.jsonb_raw.proofs.raw.RawJsonb.delete_by_index.Goals as goal
 
 pub returns-in-Some-index_position-clause-deleted : goal.returns-in-Some-index_position-clause-deleted
 returns-in-Some-index_position-clause-deleted c = λ form t d.
     let o = array_of_entries form t _ _ c.in-Some.is (c.in_ok-entries.ensures.entries form t (rw c.as_bytes-bytes.ensures d)) in
-    let found : index_position (length (elements o.0)) c.args.index ≡ Some c.in-Some-index_position.position =
-    ap (λ n. index_position n c.args.index) (sym (c.entry_count.ensures form (elements o.0) o.2))
-    ∙ ap (index_position c.entry_count.result) (sym (to_z-of_z w32 c.args.index c.ranges.index)) ∙ sym c.index_position.ensures ∙ c.in-Some-index_position.is in
+    let found : index_position (length (elements o.0)) c.args.index ≡ Some c.in-Some-index_position.position = grind (arith, to_z-of_z) in
     let is : without_index c.args.index t
     ≡ Some (array (trees_of (remove (elements o.0) c.in-Some-index_position.position))) = ap (without_index c.args.index) o.1
-    ∙ without_some c.args.index o.0 _ found in
+    ∙ rw found refl in
     rw is (c.array_without_element.ensures.deleted form (elements o.0) o.2)
 
 pub returns-in_ok-from_slice-in-None-clause-deleted : goal.returns-in_ok-from_slice-in-None-clause-deleted
-returns-in_ok-from_slice-in-None-clause-deleted c = λ form t d.
-    let d' : Decodes form c.as_bytes-bytes.result.now t = rw c.as_bytes-bytes.ensures d in
-    let o = array_of_entries form t _ _ c.in-Some.is (c.in_ok-entries.ensures.entries form t d') in
-    let found : index_position (length (elements o.0)) c.args.index ≡ None =
-    ap (λ n. index_position n c.args.index) (sym (c.entry_count.ensures form (elements o.0) o.2))
-    ∙ ap (index_position c.entry_count.result) (sym (to_z-of_z w32 c.args.index c.ranges.index)) ∙ sym c.index_position.ensures ∙ c.in-None.is in
-    let is : without_index c.args.index t ≡ Some (array o.0) = ap (without_index c.args.index) o.1 ∙ without_none c.args.index o.0 found in
-    rw (is, c.new.ensures, c.in_ok-from_slice-in-None.ensures.items) (rw o.1 at d')
+returns-in_ok-from_slice-in-None-clause-deleted c = grind (arith, array_of_entries, to_z-of_z, without_none)
 
 pub returns-in_err-entries-clause-unchanged : goal.returns-in_err-entries-clause-unchanged
 returns-in_err-entries-clause-unchanged c = λ form ts d none.

@@ -1,15 +1,12 @@
-use Rattle.jsonb_raw.proofs.Common.{◌≡◌, Bool, true, false, arith, sym, subst, ◌∙◌, false≢true, err_from_is_err_and, Decodes, empty_of, keys_view, AreShort}
-use Rattle.jsonb_raw.proofs.DeleteLemmas.{no_place, some_place, no_way, same_decodes, without_none, without_whole, without_part, part_met, part_out, made_decodes}
+use Rattle.jsonb_raw.proofs.Common.{rules, ◌≡◌, Bool, true, false, arith, sym, ◌∙◌, false≢true, err_from_is_err_and, Decodes, empty_of, keys_view, AreShort, refl}
+use Rattle.jsonb_raw.proofs.DeleteLemmas.{no_place, some_place, no_way, same_decodes, without_none, without_part, part_met, part_out}
 use Rattle.jsonb_raw.proofs.raw.RawJsonb.delete_by_keypath.Goals as goal
 
 not_scalar : {A : Type 0} (told is : Bool) → told ≡ is → told ≡ false → is ≡ true → A
 not_scalar told is same other scalar = absurd (false≢true (sym other ∙ same ∙ scalar))
 
 pub without_child-requires : goal.without_child-requires
-without_child-requires g c =
-    let split = sym c.as_slice.ensures.value ∙ c.in-Some-split_first.ensures.cases.0 in
-    let short = subst (λ ps. AreShort ps 0) split (rw c.in-Some.is at c.in_ok-parents.ensures.short) in
-    omega (arith, short)
+without_child-requires c = search (rules, AreShort)
 
 pub returns-in_err-parents-clause-without : goal.returns-in_err-parents-clause-without
 returns-in_err-parents-clause-without g c = λ left tells form t d other.
@@ -32,7 +29,7 @@ returns-in_default-split_first-clause-without g c = λ left tells form t d other
     let d' : Decodes form c.as_bytes-bytes.result.now t = rw c.as_bytes-bytes.ensures d in
     let place = some_place form t c.in-Some.parents _ (rw c.in-Some.is at (c.in_ok-parents.ensures.place left tells form t d')) in
     let empty = no_way form _ _ t (sym c.as_slice.ensures.value ∙ empty_of _ c.in_default-split_first.ensures.cases) place.2 in
-    same_decodes form _ t _ _ (without_whole (keys_view (left c.args.steps)) t _ empty place.1) d' c.copy_of-in_default-split_first.ensures.same
+    same_decodes form _ t _ _ (rw (place.1, empty) refl) d' c.copy_of-in_default-split_first.ensures.same
 
 pub returns-in_err-document-clause-without : goal.returns-in_err-document-clause-without
 returns-in_err-document-clause-without g c = λ left tells form t d other.
@@ -54,8 +51,7 @@ returns-clause-without g c = λ left tells form t d other.
     let d' : Decodes form c.as_bytes-bytes.result.now t = rw c.as_bytes-bytes.ensures d in
     let split = sym c.as_slice.ensures.value ∙ c.in-Some-split_first.ensures.cases.0 in
     let o = part_out form t c.in-Some.parents _ _ _ split (rw c.in-Some.is at (c.in_ok-parents.ensures.place left tells form t d')) in
-    made_decodes form _ _ _ _ (c.in_ok-document.ensures.without form t o.end o.n o.ns o.led) c.new.ensures
-    (without_part (keys_view (left c.args.steps)) t o.n o.ns o.is)
+    (rw ((without_part (keys_view (left c.args.steps)) t o.n o.ns o.is), c.new.ensures) (c.in_ok-document.ensures.without form t o.end o.n o.ns o.led))
 
 pub returns-clause-same : goal.returns-clause-same
 returns-clause-same g c = λ left tells form t d other none.
@@ -65,29 +61,22 @@ returns-clause-same g c = λ left tells form t d other none.
     absurd (part_met (keys_view (left c.args.steps)) t o.n o.ns o.is none)
 
 pub returns-in_err-parents-clause-scalar : goal.returns-in_err-parents-clause-scalar
-returns-in_err-parents-clause-scalar g c = λ form t d scalar.
-    not_scalar _ _ (c.is_json_scalar.ensures form t (c.in_ok-root_item.ensures.decodes form t (rw c.as_bytes-bytes.ensures d))) c.if-is_json_scalar.false scalar
+returns-in_err-parents-clause-scalar g c = grind (arith, not_scalar)
 
 pub returns-in_default-clause-scalar : goal.returns-in_default-clause-scalar
-returns-in_default-clause-scalar g c = λ form t d scalar.
-    not_scalar _ _ (c.is_json_scalar.ensures form t (c.in_ok-root_item.ensures.decodes form t (rw c.as_bytes-bytes.ensures d))) c.if-is_json_scalar.false scalar
+returns-in_default-clause-scalar g c = grind (arith, not_scalar)
 
 pub returns-in_default-split_first-clause-scalar : goal.returns-in_default-split_first-clause-scalar
-returns-in_default-split_first-clause-scalar g c = λ form t d scalar.
-    not_scalar _ _ (c.is_json_scalar.ensures form t (c.in_ok-root_item.ensures.decodes form t (rw c.as_bytes-bytes.ensures d))) c.if-is_json_scalar.false scalar
+returns-in_default-split_first-clause-scalar g c = grind (arith, not_scalar)
 
 pub returns-in_err-document-clause-scalar : goal.returns-in_err-document-clause-scalar
-returns-in_err-document-clause-scalar g c = λ form t d scalar.
-    not_scalar _ _ (c.is_json_scalar.ensures form t (c.in_ok-root_item.ensures.decodes form t (rw c.as_bytes-bytes.ensures d))) c.if-is_json_scalar.false scalar
+returns-in_err-document-clause-scalar g c = grind (arith, not_scalar)
 
 pub returns-clause-scalar : goal.returns-clause-scalar
-returns-clause-scalar g c = λ form t d scalar.
-    not_scalar _ _ (c.is_json_scalar.ensures form t (c.in_ok-root_item.ensures.decodes form t (rw c.as_bytes-bytes.ensures d))) c.if-is_json_scalar.false scalar
+returns-clause-scalar g c = grind (arith, not_scalar)
 
 pub returns-in_default-clause-same : goal.returns-in_default-clause-same
-returns-in_default-clause-same g c = λ left tells form t d other none.
-    rw c.as_bytes-bytes.ensures at c.copy_of.ensures.same
+returns-in_default-clause-same g c = grind arith
 
 pub returns-in_default-split_first-clause-same : goal.returns-in_default-split_first-clause-same
-returns-in_default-split_first-clause-same g c = λ left tells form t d other none.
-    rw c.as_bytes-bytes.ensures at c.copy_of-in_default-split_first.ensures.same
+returns-in_default-split_first-clause-same g c = grind arith

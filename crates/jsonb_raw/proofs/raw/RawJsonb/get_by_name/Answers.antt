@@ -1,8 +1,6 @@
-use Rattle.jsonb_raw.proofs.Common.{◌≡◌, List, ℕ, Option, None, true, false, refl, sym, ap, ◌∙◌, arith, option_or, Tree, Pairs, object, field_of, value_under, Form, NumberReader, number_reader, Decodes, Holds, HasPairParts, ObjectParts, IsCut-same, Decodes-object, named_child}
-use Rattle.jsonb_doc.specs.declared.container.Container.{Container}
+use Rattle.jsonb_raw.proofs.Common.{◌≡◌, Option, None, false, sym, ap, ◌∙◌, arith, option_or, Tree, Pairs, object, value_under, Form, number_reader, Holds, HasPairParts, ObjectParts, IsCut-same, Decodes-object, named_child}
 use Rattle.jsonb_doc.specs.declared.container.Container.TheVariants.{Object}
 use Rattle.jsonb_raw.proofs.AnswerLemmas.{found_made, found_none}
-use Rattle.jsonb_raw.proofs.ChildAnswers.{named_nowhere}
 use Rattle.jsonb_raw.proofs.raw.RawJsonb.get_by_name.Goals as goal
 
 or_none : (found : Option Tree) → option_or found None ≡ found
@@ -11,24 +9,13 @@ or_none found = grind arith
 -- a tree with the parts of an object is one
 object_with : (form : Form) (t : Tree) (p : ObjectParts) → Holds (number_reader form) t (Object p)
     → (ps : Pairs) × (t ≡ object ps) × HasPairParts (number_reader form) ps p
-object_with form (object ps) p held = (ps, refl, held)
-object_with form _ p held = absurd held
-
-no_object : (number_at : NumberReader) (t : Tree) (found : Container) (name : List ℕ) → Holds number_at t found
-    → ((p : ObjectParts) → found ≡ Object p → ⊥) → field_of name t ≡ None
-no_object number_at t found name h k = grind arith
+object_with form t p h = grind arith
 
 pub returns-then-ignore_case-clause-value : goal.returns-then-ignore_case-clause-value
-returns-then-ignore_case-clause-value c = λ form t d.
-    let is : named_child c.args.name.now c.args.ignore_case t ≡ named_child c.args.name.now true t =
-    ap (λ b. named_child c.args.name.now b t) c.if-ignore_case.true in
-    rw is (found_made form _ _ (c.value_ignoring_case.ensures.found form t (rw c.as_bytes-bytes.ensures d)))
+returns-then-ignore_case-clause-value c = grind (arith, found_made)
 
 pub returns-then-ignore_case-clause-none : goal.returns-then-ignore_case-clause-none
-returns-then-ignore_case-clause-none c = λ form t d none.
-    let is : named_child c.args.name.now c.args.ignore_case t ≡ named_child c.args.name.now true t =
-    ap (λ b. named_child c.args.name.now b t) c.if-ignore_case.true in
-    found_none form _ _ (c.value_ignoring_case.ensures.found form t (rw c.as_bytes-bytes.ensures d)) (sym is ∙ none)
+returns-then-ignore_case-clause-none c = grind (arith, found_none)
 
 pub returns-in-Object-clause-value : goal.returns-in-Object-clause-value
 returns-in-Object-clause-value c = λ form t d.
@@ -49,11 +36,4 @@ returns-in-Object-clause-none c = λ form t d none.
     found_none form _ _ (c.value_of_key.ensures.found form o.0 o.2) (sym is ∙ none)
 
 pub returns-in_default-clause-value : goal.returns-in_default-clause-value
-returns-in_default-clause-value c = λ form t d.
-    let d' : Decodes form c.as_bytes-bytes.result.now t = rw c.as_bytes-bytes.ensures d in
-    let name = c.args.name.now in
-    let held = (IsCut-same c.as_bytes-bytes.result.now c.in_ok-parts.field-0 c.in_ok-parts.ensures.cut (number_reader form) t).0 d'.document in
-    let none : field_of name t ≡ None = no_object (number_reader form) t c.in_ok-parts.field-0 name held c.in_default.not-Object in
-    let is : named_child name c.args.ignore_case t ≡ None =
-    ap (λ b. named_child name b t) c.if-ignore_case.false ∙ named_nowhere name t none in
-    rw is refl
+returns-in_default-clause-value c = grind (arith, IsCut-same)

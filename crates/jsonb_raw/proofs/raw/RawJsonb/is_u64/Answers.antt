@@ -1,14 +1,10 @@
-use Rattle.jsonb_raw.proofs.Common.{◌≡◌, ◌<◌, ◌^◌, ℕ, pos, Bool, true, false, IsTrue, Option, Some, None, is_some, MatchOption, refl, sym, ◌∙◌, rules, arith, Tree, IsWholeNumber}
+use Rattle.jsonb_raw.proofs.Common.{◌≡◌, ◌<◌, ◌^◌, ℕ, pos, Bool, IsTrue, Option, Some, is_some, MatchOption, rules, arith, Tree, IsWholeNumber}
 use Rattle.jsonb_raw.proofs.raw.RawJsonb.is_u64.Goals as goal
 
 is_whole : (tree : Tree) (found : Option ℕ) (b : Bool) → b ≡ is_some found → ((n : ℕ) → found ≡ Some n → n < 2 ^ 64)
     → MatchOption found ((n : ℕ) → IsWholeNumber tree (pos n) → n < 2 ^ 64 → ⊥) (λ n. IsWholeNumber tree (pos n))
     → (IsTrue b → (n : ℕ) × IsWholeNumber tree (pos n) × (n < 2 ^ 64)) × (((n : ℕ) × IsWholeNumber tree (pos n) × (n < 2 ^ 64)) → IsTrue b)
-is_whole tree None b is fits value = (
-  λ yes. let no : true ≡ false = sym yes ∙ is in absurd (cc no),
-  λ w. absurd (value w.0 w.1 w.2),
-)
-is_whole tree (Some n) b is fits value = (λ yes. (n, value, fits n refl), λ w. is)
+is_whole tree found b h e k = grind arith
 
 pub returns-clause-kind : goal.returns-clause-kind
 returns-clause-kind c = λ form tree d.

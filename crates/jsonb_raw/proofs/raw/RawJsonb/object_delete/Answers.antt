@@ -1,12 +1,9 @@
-use Rattle.jsonb_raw.proofs.Common.{◌≡◌, false, None, refl, members, Decodes, decoded_members, object_delete, parted}
+use Rattle.jsonb_raw.proofs.Common.{rules, members, Decodes, decoded_members}
 use Rattle.jsonb_raw.proofs.PartedRuns.{pairs_there, no_pairs_there}
 use Rattle.jsonb_raw.proofs.raw.RawJsonb.object_delete.Goals as goal
 
 pub returns-in_default-clause-pairs : goal.returns-in_default-clause-pairs
-returns-in_default-clause-pairs c = λ form t d.
-    let none : object_delete c.args.keys.now t ≡ None = no_pairs_there form t _ (parted false c.args.keys.now)
-    c.in_default.is (c.in_ok-pairs.ensures.entries form t (rw c.as_bytes.ensures d)) in
-    rw none refl
+returns-in_default-clause-pairs c = search (rules, no_pairs_there)
 
 pub returns-clause-pairs : goal.returns-clause-pairs
 returns-clause-pairs c = λ form t d.

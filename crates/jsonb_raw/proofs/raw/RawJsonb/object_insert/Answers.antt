@@ -4,12 +4,7 @@ use Rattle.jsonb_raw.proofs.raw.RawJsonb.object_insert.Goals as goal
 use Rattle.jsonb_raw.proofs.raw.RawJsonb.object_insert.Goals.{else-not-update_flag-via-then-not-update_flag+else-place-gt0, else-not-update_flag-via-else-not-update_flag}
 
 pub returns-then-place-gt0-clause-inserted : goal.returns-then-place-gt0-clause-inserted
-returns-then-place-gt0-clause-inserted c = λ form t value d dv may.
-    let d' : Decodes form c.as_bytes-bytes.result.now t = rw c.as_bytes-bytes.ensures d in
-    let at : IsPairPlace c.args.new_key.now t (Some c.in-Some.place) = rw c.in-Some.is at (c.in_ok-place.ensures.place form t d') in
-    let there : has_name c.args.new_key.now t ≡ true = name_there form _ c.args.new_key.now t c.in-Some.place d' at c.if-place-gt0.true in
-    let flag : c.args.update_flag ≡ false = c.if-not-update_flag.true in
-    let bad : false ≡ true = rw (flag, there) at may in absurd (cc bad)
+returns-then-place-gt0-clause-inserted c = grind (arith, name_there)
 
 pub returns-clause-duplicate : goal.returns-clause-duplicate
 returns-clause-duplicate c = λ form t d there flag.

@@ -1,5 +1,4 @@
-use Rattle.jsonb_raw.proofs.Common.{◌≡◌, None, sym, in_any, element_at}
-use Rattle.jsonb_raw.proofs.NamedPairs.{no_element_spots}
+use Rattle.jsonb_raw.proofs.Common.{◌≡◌, None, sym, in_any, element_at, arith}
 use Rattle.jsonb_raw.proofs.PositionLemmas.{array_spots}
 use Rattle.jsonb_raw.proofs.raw.RawJsonb.spot_by_index.Goals as goal
 
@@ -16,8 +15,7 @@ pub returns-in_default-clause-element : goal.returns-in_default-clause-element
 returns-in_default-clause-element c = λ form t d.
     let d' = in_any form t _ (rw c.as_bytes-bytes.ensures d) in
     let none : element_at c.args.index t ≡ None =
-    no_element_spots c.as_bytes-bytes.result.now t c.args.index
-    (rw c.in_default.is at (c.in_ok-elements.ensures.spots t (c.in_ok-root.ensures.marks t d'))) in
+    (grind (arith, rw c.in_default.is at (c.in_ok-elements.ensures.spots t (c.in_ok-root.ensures.marks t d')))) in
     rw none tt
 
 pub returns-clause-element : goal.returns-clause-element

@@ -1,27 +1,20 @@
-use Rattle.jsonb_raw.proofs.Common.{◌≡◌, ◌&&◌, ℕ, suc, ◌<◌, List, [], ◌∷◌, map, Bool, true, false, Result, Ok, Err, inl, inr, refl, arith, Bor, IsAscii, IsUtf8, codes, OnOk, nat_lt, list_all, to_ascii_lowercase, nat_tests, IsUtf8-from_ascii, IsAscii-nil, IsAscii-cons, any, number_reader, IsContent, IsRootOf, IsRootShape, Error, Text, Boolean, String, IsBoolOf, Casts, HasRoot}
-use Rattle.jsonb_doc.specs.Tree as spec
+use Rattle.jsonb_raw.proofs.Common.{rules, ◌≡◌, ◌&&◌, ℕ, suc, List, [], ◌∷◌, map, Bool, true, false, Result, Ok, Err, inl, inr, refl, arith, Bor, IsAscii, IsUtf8, codes, OnOk, nat_lt, list_all, to_ascii_lowercase, nat_tests, IsUtf8-from_ascii, IsAscii-nil, IsAscii-cons, any, number_reader, IsContent, IsRootOf, IsRootShape, Error, Text, Boolean, String, IsBoolOf, Casts, HasRoot}
 use Rattle.jsonb_doc.specs.declared.shape.Shape.TheVariants.{Boolean as BooleanShape}
+use Rattle.jsonb_doc.specs.Tree as spec
 use Rattle.jsonb_raw.proofs.raw.RawJsonb.to_bool.Goals as goal
-
-ascii_byte : (b : ℕ) → to_ascii_lowercase b < 128 → b < 128
-ascii_byte b h = grind (arith, nat_tests)
 
 ascii_bytes : (s : List ℕ) → IsAscii (map to_ascii_lowercase s) → IsAscii s
 ascii_bytes [] h = IsAscii-nil
-ascii_bytes (b ∷ s) h = IsAscii-cons b s (ascii_byte b (h 0)) (ascii_bytes s (λ i. h (suc i)))
-
-ascii_test : (b : ℕ) → nat_lt b 128 ≡ true → b < 128
-ascii_test b h = grind (arith, nat_tests)
+ascii_bytes (b ∷ s) h = IsAscii-cons b s (grind (arith, nat_tests, h 0)) (ascii_bytes s (λ i. h (suc i)))
 
 both_true : (a b : Bool) → (a && b) ≡ true → (a ≡ true) × (b ≡ true)
-both_true true b h = (refl, h)
-both_true false b h = absurd cc
+both_true a b h = grind arith
 
 ascii_word : (s : List ℕ) → list_all (λ b. nat_lt b 128) s ≡ true → IsAscii s
 ascii_word [] h = IsAscii-nil
 ascii_word (b ∷ s) h =
     let parts = both_true (nat_lt b 128) (list_all (λ b. nat_lt b 128) s) h in
-    IsAscii-cons b s (ascii_test b parts.0) (ascii_word s parts.1)
+    IsAscii-cons b s (grind (arith, nat_tests, parts.0)) (ascii_word s parts.1)
 
 -- a string that spells a word of ASCII is ASCII
 spelled : (word s : List ℕ) → list_all (λ b. nat_lt b 128) word ≡ true → map to_ascii_lowercase s ≡ word → IsUtf8 s
@@ -70,5 +63,4 @@ returns-in-Boolean-clause-reads c =
     rw c.as_bytes.ensures at (boolean_root c.as_bytes.result.now c.in-Boolean.value (rw c.in-Boolean.is at c.in_ok-value.ensures.readable))
 
 pub returns-in-Text-clause-reads : goal.returns-in-Text-clause-reads
-returns-in-Text-clause-reads c =
-    rw c.as_bytes.ensures at (text_root c.as_bytes.result.now c.in-Text.text _ (rw c.in-Text.is at c.in_ok-value.ensures.readable) c.bool_from_text.ensures)
+returns-in-Text-clause-reads c = search (rules, text_root)

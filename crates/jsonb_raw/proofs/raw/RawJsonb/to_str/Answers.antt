@@ -1,6 +1,6 @@
-use Rattle.jsonb_raw.proofs.Common.{◌≡◌, rules, refl, None, number_parts, number_view, text_of}
-use Rattle.jsonb_doc.specs.Tree as spec
+use Rattle.jsonb_raw.proofs.Common.{◌≡◌, rules, number_parts, number_view}
 use Rattle.jsonb_raw.proofs.ScalarLemmas.{no_text}
+use Rattle.jsonb_doc.specs.Tree as spec
 use Rattle.jsonb_raw.proofs.raw.RawJsonb.to_str.Goals as goal
 
 pub returns-in-Number-clause-value : goal.returns-in-Number-clause-value
@@ -10,11 +10,4 @@ returns-in-Number-clause-value c = λ form tree d.
     rw (is, ← normal) c.text_from_number.ensures
 
 pub returns-in_default : goal.returns-in_default
-returns-in_default c = record {
-  value = λ form tree d.
-      let is : text_of tree ≡ None = no_text form c.in_ok-value.field-0 tree
-      (search rules) c.in_default.not-Boolean c.in_default.not-Number c.in_default.not-String in
-      rw is refl;
-  errors = search rules;
-  reads = search rules;
-}
+returns-in_default c = search (rules, no_text)

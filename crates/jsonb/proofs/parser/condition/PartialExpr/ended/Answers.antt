@@ -1,5 +1,4 @@
-use Rattle.jsonb.proofs.Common.{◌≡◌, ◌∙◌, sym, ap, Some, None, Expression, or_op, expression_view, joined_view, partial_outcome}
-use Rattle.jsonb.specs.declared.path.BinaryOperator.TheVariants.{Or}
+use Rattle.jsonb.proofs.Common.{◌≡◌, ◌∙◌, sym, ap, Some, None, Expression, or_op, expression_view, joined_view, partial_outcome, Or}
 use Rattle.jsonb.proofs.ViewLemmas.{view-binary}
 use Rattle.jsonb.proofs.FrameLemmas.{partial-ended-all}
 use Rattle.jsonb.proofs.parser.condition.PartialExpr.ended.Goals as goal

@@ -1,16 +1,13 @@
-use Rattle.jsonb.proofs.Common.{◌≡◌, ◌+◌, ◌-◌, Ok, Err, Some, None, refl, length, ap, sym, ◌∙◌, subst, arith, slice_get, take, err_from_is_err_and, expression_view, asking_tests, at_first, IsTurn, next_jump, item_tests, tests_conditions, tests_weight, asked_weight}
+use Rattle.jsonb.proofs.Common.{rules, ◌≡◌, ◌+◌, ◌-◌, Ok, Err, Some, None, refl, length, ap, sym, ◌∙◌, subst, arith, slice_get, take, err_from_is_err_and, expression_view, asking_tests, at_first, IsTurn, next_jump, item_tests, tests_conditions, asked_weight}
 use Rattle.jsonb.proofs.RefinesLemmas.{err_is}
-use Rattle.jsonb.proofs.AskingLemmas.{after_test, turn_refused, turn_waits, turn_known, asked_all, some_test, test_read, test_missing, turn_of, part_answers}
+use Rattle.jsonb.proofs.AskingLemmas.{after_test, turn_refused, turn_waits, turn_known, asked_all, test_read, test_missing, turn_of, part_answers}
 use Rattle.jsonb.proofs.WeightLemmas.{only_weighs, test_weight}
 use Rattle.jsonb.proofs.selector.filters.Asking.next.Goals as goal
 
 -- ---- one comparison or `exists`
 
 pub returns-then-left-eq0-clause-meant : goal.returns-then-left-eq0-clause-meant
-returns-then-left-eq0-clause-meant c = λ top t whole r h.
-    let a = c.args.self.now in
-    turn_of c.args.context.now top t a _ a.left a.state a.operands whole (Ok None) c.in-Single.is
-    (asked_all c.args.context.now top t a whole c.if-left-eq0.true h)
+returns-then-left-eq0-clause-meant c = search (rules, turn_of, asked_all)
 
 pub returns-in_err-truth-in-Single-clause-meant : goal.returns-in_err-truth-in-Single-clause-meant
 returns-in_err-truth-in-Single-clause-meant c = λ top t whole r h.
@@ -59,12 +56,7 @@ returns-in-Path-clause-meant c = λ top t whole r h.
 -- ---- several
 
 pub returns-in_default-clause-meant : goal.returns-in_default-clause-meant
-returns-in_default-clause-meant c = λ top t whole r h.
-    let s = after_test c.args.self.now c.loop-left.left c.loop-left.state c.loop-left.operands in
-    let i = s.left - 1 in
-    some_test c.args.context.now top t s i whole (omega (arith, c.loop-left-test.true))
-    (test_missing c.args.self.now.tests c.in-Joined.tests c.deref.result.now i c.in-Joined.is c.deref.ensures.value c.in_default.ensures.lookup.3)
-    (c.loop-left.invariant.meant top t whole r h)
+returns-in_default-clause-meant c = λ top t whole r h. grind (arith, c.loop-left.invariant.meant top t whole r h, after_test, test_missing)
 
 pub loop-left-preserved : goal.loop-left-preserved
 loop-left-preserved c =
@@ -120,9 +112,4 @@ returns-in-Path-clause-fewer c =
     omega (arith, here, path, c.in_ok-truth-in-Single.ensures.fewer)
 
 pub returns-in-Path-2-clause-fewer : goal.returns-in-Path-2-clause-fewer
-returns-in-Path-2-clause-fewer c =
-    let s = after_test c.args.self.now c.loop-left.left c.loop-left.state c.loop-left.operands in
-    let has = test_read _ _ _ (s.left - 1) c.in-Some.test.now c.in-Joined.is c.deref.ensures.value c.in-Some.ensures.lookup.3.0 c.in-Some.ensures.lookup.1 in
-    let here = test_weight (asking_tests s) s.left _ _ (omega (arith, c.loop-left-test.true)) has in
-    let same = ap (λ y. tests_weight (take (s.left - 1) (item_tests y))) c.in-Joined.is in
-    omega (arith, here, ap asked_weight c.in-Path-2.is, same, c.in_ok-truth-in-Joined.ensures.fewer, c.loop-left.invariant.fewer)
+returns-in-Path-2-clause-fewer c = search (rules, after_test, test_read, test_weight)

@@ -1,4 +1,4 @@
-use Rattle.jsonb.proofs.Common.{◌≡◌, ◌-◌, arith, [], ap, refl, sym, ◌∙◌, subst, length, ◌*◌, ◌+◌, AllZip, asking_tests, IsAt, node_spots, tests_conditions, running_weight, tests_weight}
+use Rattle.jsonb.proofs.Common.{arith, [], refl, sym, subst, AllZip, asking_tests, IsAt, tests_conditions}
 use Rattle.jsonb.proofs.selector.filters.Filter.new.Goals as goal
 
 pub returns-clause-meant : goal.returns-clause-meant
@@ -19,8 +19,4 @@ returns-clause-meant c = λ top e ts zip compiled.
     }
 
 pub returns-clause-fewer : goal.returns-clause-fewer
-returns-clause-fewer c =
-    let items = c.args.path.running.items in
-    let all : length (node_spots c.replace-items.result) - 0 ≡ length (node_spots items) =
-    ap (λ v. length (node_spots v) - 0) c.replace-items.ensures.value ∙ omega arith in
-    (λ k. all k * (1 + tests_weight (c.new-2.ensures.tests k)) + running_weight c.args.path.running)
+returns-clause-fewer c = grind (arith, c.replace-items.ensures.value, c.new-2.ensures.tests)

@@ -1,9 +1,9 @@
-use Rattle.jsonb.proofs.Common.{◌≡◌, ◌<◌, ◌+◌, [], length, get_or, drop, Ok, refl, ap, sym, ◌∙◌, subst, arith, ◌-◌, ◌*◌, AllZip, truth, asking_tests, filtered_later, IsAt, node_spots, item_tests, Filter, running_weight, tests_weight, items_weight, next_weight}
+use Rattle.jsonb.proofs.Common.{rules, ◌<◌, ◌+◌, [], length, get_or, drop, Ok, refl, ap, sym, ◌∙◌, subst, arith, ◌-◌, AllZip, truth, filtered_later, IsAt, node_spots, Filter}
 use Rattle.jsonb.proofs.RefinesLemmas.{err_is}
 use Rattle.jsonb.proofs.AroundLemmas.{filter_first, item_waits, item_done, item_refused, items_done}
 use Rattle.jsonb.proofs.Progress.{list_first, no_spot}
-use Rattle.jsonb.proofs.selector.filters.Filter.next.Goals as goal
 use Rattle.jsonb.proofs.WeightLemmas.{item_weighs}
+use Rattle.jsonb.proofs.selector.filters.Filter.next.Goals as goal
 
 pub returns-clause-meant : goal.returns-clause-meant
 returns-clause-meant c = λ top whole r h.
@@ -49,16 +49,8 @@ returns-in-Some-2-clause-meant c = λ top whole r h.
 pub loop-self-preserved : goal.loop-self-preserved
 loop-self-preserved c = record {
   after = c.in_ok-push-2.ensures.same.3 ∙ c.loop-self.invariant.after;
-  fewer =
-      let s = c.loop-self.self in
-      let n = length (node_spots s.items) in
-      let w = tests_weight (asking_tests s.asking) in
-      let item = item_weighs n s.next (1 + w) (omega (arith, c.loop-self-test.true, ap length c.as_slice.ensures)) in
-      let same = c.in_ok-push-2.ensures.same in
-      let tests = ap (λ a. a.tests) same.0 ∙ c.in_ok-path.ensures.same.0 ∙ c.restart.ensures.same in
-      let rest : items_weight c.push-in-loop-self.new.self ≡ (n - (s.next + 1)) * (1 + w) + running_weight s.after =
-      (λ k. (length (node_spots (same.1 k)) - same.2 k) * (1 + tests_weight (item_tests (tests k))) + running_weight (same.3 k)) in
-      omega (arith, item, rest, c.loop-self.invariant.fewer);
+  fewer = grind (arith, item_weighs, c.loop-self-test.true, c.as_slice.ensures, c.in_ok-push-2.ensures.same, c.in_ok-path.ensures.same.0,
+      c.restart.ensures.same, c.loop-self.invariant.fewer);
   meant = λ top whole r h.
       let context = c.args.context.now in
       let s = c.loop-self.self in
@@ -84,15 +76,7 @@ loop-self-preserved c = record {
 pub loop-self-preserved-in-Some : goal.loop-self-preserved-in-Some
 loop-self-preserved-in-Some c = record {
   after = c.in_ok-push.ensures.same.3 ∙ c.loop-self.invariant.after;
-  fewer =
-      let s = c.loop-self.self in
-      let n = length (node_spots s.items) in
-      let w = tests_weight (asking_tests s.asking) in
-      let item = item_weighs n s.next (1 + w) (omega (arith, c.loop-self-test.true, ap length c.as_slice.ensures)) in
-      let same = c.in_ok-push.ensures.same in
-      let rest : items_weight c.push.new.self ≡ (n - (s.next + 1)) * (1 + w) + running_weight s.after =
-      (λ k. (length (node_spots (same.1 k)) - same.2 k) * (1 + tests_weight (asking_tests (same.0 k))) + running_weight (same.3 k)) in
-      omega (arith, item, rest, c.loop-self.invariant.fewer);
+  fewer = grind (arith, item_weighs, c.loop-self-test.true, c.as_slice.ensures, c.in_ok-push.ensures.same, c.loop-self.invariant.fewer);
   meant = λ top whole r h.
       let context = c.args.context.now in
       let s = c.loop-self.self in
@@ -115,13 +99,7 @@ loop-self-preserved-in-Some c = record {
 }
 
 pub returns-in-Some-2-clause-fewer : goal.returns-in-Some-2-clause-fewer
-returns-in-Some-2-clause-fewer c =
-    let s = c.loop-self.self in
-    let n = length (node_spots s.items) in
-    let w = tests_weight (asking_tests s.asking) in
-    let item = item_weighs n s.next (1 + w) (omega (arith, c.loop-self-test.true, ap length c.as_slice.ensures)) in
-    let rest = ap (λ t. (n - (s.next + 1)) * (1 + tests_weight (item_tests t))) (c.in_ok-path.ensures.same.0 ∙ c.restart.ensures.same) in
-    omega (arith, item, rest, ap next_weight c.in-Some-2.is, c.in_ok-path.ensures.fewer, c.restart.ensures.fewer, c.loop-self.invariant.fewer)
+returns-in-Some-2-clause-fewer c = search (rules, item_weighs)
 
 pub returns-clause-fewer : goal.returns-clause-fewer
 returns-clause-fewer c = omega (arith, c.loop-self.invariant.fewer)

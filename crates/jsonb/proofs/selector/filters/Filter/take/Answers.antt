@@ -1,8 +1,8 @@
-use Rattle.jsonb.proofs.Common.{[], Ok, refl, ap, sym, ◌∙◌, ◌≡◌, ◌-◌, ◌+◌, ◌*◌, length, arith, node_spots, item_tests, Filter, waits_weight, running_weight, tests_weight, items_weight, filter_weight, turn_weight, next_weight}
+use Rattle.jsonb.proofs.Common.{rules, [], Ok, refl, ap, sym, ◌∙◌, ◌-◌, arith, Filter}
 use Rattle.jsonb.proofs.RefinesLemmas.{err_is}
 use Rattle.jsonb.proofs.AroundLemmas.{item_waits, item_done, item_refused}
-use Rattle.jsonb.proofs.selector.filters.Filter.take.Goals as goal
 use Rattle.jsonb.proofs.WeightLemmas.{no_more}
+use Rattle.jsonb.proofs.selector.filters.Filter.take.Goals as goal
 
 pub returns-in_err-path-clause-meant : goal.returns-in_err-path-clause-meant
 returns-in_err-path-clause-meant c = λ top o whole r w found.
@@ -16,12 +16,7 @@ returns-in-Some-clause-meant c = λ top o whole r w found.
     let s = c.args.self.now in
     let f : Filter = record { asking = c.take.new.self; items = s.items; next = s.next; nodes = s.nodes; after = s.after } in
     let turn = rw c.in-Some.is at (c.in_ok-path.ensures.meant top w.t o w.keeps r w.waits found) in
-    item_waits c.args.context.now top s f w.e w.t w.others w.found w.keeps whole w.is refl
-    (record {
-      compiled = rw (sym c.in_ok-path.ensures.same.0) at w.state.compiled;
-      left = w.state.left;
-      done = w.state.done;
-    }) c.in-Some.path turn
+    grind (arith, item_waits, c.in_ok-path.ensures.same.0)
 
 pub returns-clause-meant : goal.returns-clause-meant
 returns-clause-meant c = λ top o whole r w found.
@@ -41,17 +36,7 @@ returns-clause-meant c = λ top o whole r w found.
     }) [] (rw (sym same.0) at known.1))
 
 pub returns-in-Some-clause-fewer : goal.returns-in-Some-clause-fewer
-returns-in-Some-clause-fewer c =
-    let s = c.args.self.now in
-    let rest = ap (λ t. (length (node_spots s.items) - s.next) * (1 + tests_weight (item_tests t))) c.in_ok-path.ensures.same.0 in
-    omega (arith, rest, ap next_weight c.in-Some.is, c.in_ok-path.ensures.fewer)
+returns-in-Some-clause-fewer c = grind (arith, c.in_ok-path.ensures.same.0, c.in-Some.is, c.in_ok-path.ensures.fewer)
 
 pub returns-clause-fewer : goal.returns-clause-fewer
-returns-clause-fewer c =
-    let s = c.args.self.now in
-    let same = c.in_ok-push.ensures.same in
-    let tests = ap (λ a. a.tests) same.0 ∙ c.in_ok-path.ensures.same.0 in
-    let rest : items_weight c.push.new.self ≡ items_weight s =
-    (λ k. (length (node_spots (same.1 k)) - same.2 k) * (1 + tests_weight (item_tests (tests k))) + running_weight (same.3 k)) in
-    no_more c.next.result (turn_weight c.next.new.self) (items_weight c.push.new.self) (filter_weight s + waits_weight c.args.waits) (omega (arith, rest))
-    c.next.ensures.fewer
+returns-clause-fewer c = search (rules, no_more)

@@ -1,13 +1,11 @@
-use Rattle.jsonb.proofs.Common.{refl, ap, sym, subst, arith, expression_view, truth, operand_values, IsPending, comparison_view, weight, pending_weight, asked_weight, operand_weight}
+use Rattle.jsonb.proofs.Common.{rules, refl, sym, subst, arith, expression_view, truth, operand_values, IsPending, comparison_view, weight}
 use Rattle.jsonb.proofs.RefinesLemmas.{err_is}
-use Rattle.jsonb.proofs.OperandLemmas.{left_refused, as_refused}
-use Rattle.jsonb.proofs.selector.operands.Operands.begin_left.Goals as goal
+use Rattle.jsonb.proofs.OperandLemmas.{as_refused}
 use Rattle.jsonb.proofs.WeightLemmas.{no_more}
+use Rattle.jsonb.proofs.selector.operands.Operands.begin_left.Goals as goal
 
 pub returns-in_err-lefts-clause-meant : goal.returns-in_err-lefts-clause-meant
-returns-in_err-lefts-clause-meant c = λ top t all more r s next.
-    let mode = c.args.context.now.mode in
-    rw (err_is c.from_residual.ensures.1) (as_refused (left_refused mode top t c.args.comparison next.0 _) (c.in_err-lefts.ensures.meant top t r s))
+returns-in_err-lefts-clause-meant c = search (rules, err_is, as_refused)
 
 pub returns-in-Values-clause-meant : goal.returns-in-Values-clause-meant
 returns-in-Values-clause-meant c = λ top t all more r s next.
@@ -24,9 +22,7 @@ returns-in_ok-new-in-Path-clause-meant c = λ top t all more r s next.
     (found.0, found.1, (next, found.2), refl)
 
 pub returns-in-Values-clause-fewer : goal.returns-in-Values-clause-fewer
-returns-in-Values-clause-fewer c =
-    no_more c.take_left.result asked_weight (weight (expression_view c.args.comparison.right.now)) _ (omega arith) c.take_left.ensures.fewer
+returns-in-Values-clause-fewer c = search (rules, no_more, weight)
 
 pub returns-in_ok-new-in-Path-clause-fewer : goal.returns-in_ok-new-in-Path-clause-fewer
-returns-in_ok-new-in-Path-clause-fewer c =
-    omega (arith, ap operand_weight c.in-Path.is, ap pending_weight c.in_ok-new-in-Path.ensures.ok, c.in_ok-lefts.ensures.fewer)
+returns-in_ok-new-in-Path-clause-fewer c = grind (arith, c.in-Path.is, c.in_ok-new-in-Path.ensures.ok, c.in_ok-lefts.ensures.fewer)

@@ -1,8 +1,8 @@
-use Rattle.jsonb.proofs.Common.{refl, ap, sym, subst, arith, expression_view, truth, operand_values, AreAlike, IsPending, comparison_view, pending_weight, operand_weight}
+use Rattle.jsonb.proofs.Common.{rules, refl, sym, subst, arith, expression_view, truth, operand_values, AreAlike, IsPending, comparison_view}
 use Rattle.jsonb.proofs.RefinesLemmas.{err_is}
 use Rattle.jsonb.proofs.OperandLemmas.{left_known, right_refused, as_refused}
-use Rattle.jsonb.proofs.selector.operands.Operands.begin_right.Goals as goal
 use Rattle.jsonb.proofs.WeightLemmas.{nothing_waits}
+use Rattle.jsonb.proofs.selector.operands.Operands.begin_right.Goals as goal
 
 pub returns-in_err-rights-clause-meant : goal.returns-in_err-rights-clause-meant
 returns-in_err-rights-clause-meant c = λ top t all more r s next left.
@@ -26,8 +26,7 @@ returns-in_ok-new-in-Path-clause-meant c = λ top t all more r s next left.
     (found.0, found.1, (next, left, found.2), refl)
 
 pub returns-in-Values-clause-fewer : goal.returns-in-Values-clause-fewer
-returns-in-Values-clause-fewer c = nothing_waits c.take_right.result _ c.take_right.ensures.fewer
+returns-in-Values-clause-fewer c = search (rules, nothing_waits)
 
 pub returns-in_ok-new-in-Path-clause-fewer : goal.returns-in_ok-new-in-Path-clause-fewer
-returns-in_ok-new-in-Path-clause-fewer c =
-    omega (arith, ap operand_weight c.in-Path.is, ap pending_weight c.in_ok-new-in-Path.ensures.ok, c.in_ok-rights.ensures.fewer)
+returns-in_ok-new-in-Path-clause-fewer c = grind (arith, c.in-Path.is, c.in_ok-new-in-Path.ensures.ok, c.in_ok-rights.ensures.fewer)

@@ -1,16 +1,10 @@
-use Rattle.jsonb.proofs.Common.{Ok, Some, ap, sym, ◌∙◌, subst, expression_view, compare, HasLeft, comparison_view, values_view}
-use Rattle.jsonb.specs.declared.selector.filter_cache.CachedPart.TheVariants as part
+use Rattle.jsonb.proofs.Common.{rules, Ok, Some, ap, sym, ◌∙◌, subst, expression_view, compare, HasLeft, comparison_view, values_view}
 use Rattle.jsonb.proofs.KeptLemmas.{compared, kept_same}
+use Rattle.jsonb.specs.declared.selector.filter_cache.CachedPart.TheVariants as part
 use Rattle.jsonb.proofs.selector.operands.Operands.take_right.Goals as goal
 
 pub returns-then-not-is_used-clause-meant : goal.returns-then-not-is_used-clause-meant
-returns-then-not-is_used-clause-meant c = λ context top t all more next left rights.
-    let k = c.args.comparison in
-    let known = subst (HasLeft context.mode top t c.args.self.now.cache k) c.in-Some.is left in
-    let told = compared context.mode k.op (expression_view k.left.now) (expression_view k.right.now) top t
-    (values_view c.in-Some.lefts) (values_view c.args.rights) next.0 known rights
-    ∙ ap Ok (sym (c.compare-truth.ensures ∙ (λ i. compare k.op (c.as_slice.ensures i) (c.as_slice-in-Some.ensures i)))) in
-    (told, c.is_used.ensures c.if-not-is_used.true context.mode top all more)
+returns-then-not-is_used-clause-meant c = search (rules, compared)
 
 pub returns-in-Some-clause-meant : goal.returns-in-Some-clause-meant
 returns-in-Some-clause-meant c = λ context top t all more next left rights.

@@ -1,4 +1,4 @@
-use Rattle.jsonb.proofs.Common.{ap, sym, subst, arith, filter, expression_view, IsAtFilter, running_steps, item_tests, at_filter_weight}
+use Rattle.jsonb.proofs.Common.{rules, ap, sym, subst, filter, expression_view, IsAtFilter, running_steps}
 use Rattle.jsonb.proofs.RefinesLemmas.{err_is}
 use Rattle.jsonb.proofs.AroundLemmas.{step_failed}
 use Rattle.jsonb.proofs.WeightLemmas.{filter_weighs}
@@ -24,7 +24,4 @@ returns-clause-meant c = λ top o h.
     (ap (λ f. f.running.repeats) made, subst (λ f. IsAtFilter context top f o) (sym made) at)
 
 pub returns-clause-fewer : goal.returns-clause-fewer
-returns-clause-fewer c =
-    let e = expression_view c.args.e.now in
-    let whole = filter_weighs e (item_tests c.in-Items.tests) (rw c.in-Items.is at c.in_ok-condition.ensures.tests) in
-    omega (arith, whole, ap at_filter_weight c.in_ok-path-in-Items.ensures.ok)
+returns-clause-fewer c = search (rules, filter_weighs)

@@ -14,11 +14,7 @@ returns-then-self-clause-meant c = λ top found r zip.
     (subst (λ x. SameOutcomes s.repeats x meant) none (same_outcome_itself s.repeats meant))
 
 pub returns-clause-meant : goal.returns-clause-meant
-returns-clause-meant c = λ top found r zip.
-    let context = c.args.context.now in
-    let s = c.args.self in
-    let meant = steps_meaning context.mode (running_steps s) top found in
-    c.run.ensures.meant top meant r (found, zip, same_outcome_itself s.repeats meant)
+returns-clause-meant c = λ top found r zip. search (same_outcome_itself, c.run.ensures.meant)
 
 pub returns-then-self-clause-fewer : goal.returns-then-self-clause-fewer
 returns-then-self-clause-fewer c = running_some c.args.self

@@ -1,4 +1,4 @@
-use Rattle.jsonb.proofs.Common.{◌+◌, ◌≤◌, length, drop, map, ap, arith, drop_of_length-le, steps_of, step_view, steps_view, expression_view, steps_meaning, node_spots, taken_step, progress_weight}
+use Rattle.jsonb.proofs.Common.{rules, ◌+◌, ◌≤◌, length, drop, map, ap, arith, drop_of_length-le, steps_of, step_view, steps_view, expression_view, steps_meaning, node_spots, taken_step, progress_weight}
 use Rattle.jsonb.proofs.RefinesLemmas.{err_is}
 use Rattle.jsonb.proofs.AroundLemmas.{reached, running_step, filter_next, step_taken, step_failed}
 use Rattle.jsonb.proofs.RepeatLemmas.{same_found}
@@ -76,4 +76,4 @@ returns-clause-meant c = λ top o r h.
     same_found s.repeats c.args.context.now.document.bytes.now (node_spots s.items) inv.0 o inv.1 (rw none at inv.2)
 
 pub returns-clause-fewer : goal.returns-clause-fewer
-returns-clause-fewer c = omega (arith, running_some (reached c.args.self c.loop-next.next c.loop-next.items), c.loop-next.invariant.fewer)
+returns-clause-fewer c = search (rules, running_some, reached)

@@ -1,29 +1,19 @@
-use Rattle.jsonb_doc.proofs.Common.{sym, ap, inl, inr, subst, Some, Option, String, Global, HoldsLevel, IsEntryOf, filled, Failed}
+use Rattle.jsonb_doc.proofs.Common.{rules, sym, inl, subst, Some, Option, String, Global, HoldsLevel, IsEntryOf, filled}
 use Rattle.jsonb_doc.specs.declared.document_builder.frame.Frame.TheVariants.{Object}
 use Rattle.jsonb_doc.proofs.EventLemmas.{array_filled, array_too_long, object_filled, object_too_long, object_named, object_same, err_is, err_along, both, result_along}
 use Rattle.jsonb_doc.proofs.document_builder.frame.Frame.fill.Goals as goal
 
 pub returns-in_err-new-in-Array-clause-filled : goal.returns-in_err-new-in-Array-clause-filled
-returns-in_err-new-in-Array-clause-filled c = λ form ps level t h takes part decodes.
-    let held = rw c.in-Array.is at h in
-    let long = array_too_long form ps c.in-Array.entries _ c.args.piece c.args.len t level held takes part c.in_err-new-in-Array.ensures.1 in
-    err_is c.from_residual.result (Failed c.in_err-new-in-Array.field-0.0) _ _ c.from_residual.ensures.1
-    (held, inr (ap Failed c.in_err-new-in-Array.ensures.0, long))
+returns-in_err-new-in-Array-clause-filled c = search (rules, array_too_long, err_is)
 
 pub returns-in_err-new-in-Object-clause-filled : goal.returns-in_err-new-in-Object-clause-filled
-returns-in_err-new-in-Object-clause-filled c = λ form ps level t h takes part decodes.
-    let held = rw c.in-Object.is at h in
-    let long = object_too_long form ps c.in-Object.members c.in-Object.key _ c.args.piece c.args.len t level held takes part c.in_err-new-in-Object.ensures.1 in
-    err_is c.from_residual-in_err-new-in-Object.result (Failed c.in_err-new-in-Object.field-0.0) _ _ c.from_residual-in_err-new-in-Object.ensures.1
-    (held, inr (ap Failed c.in_err-new-in-Object.ensures.0, long))
+returns-in_err-new-in-Object-clause-filled c = search (rules, object_too_long, err_is)
 
 pub returns-in_ok-push-in-Array-clause-filled : goal.returns-in_ok-push-in-Array-clause-filled
 returns-in_ok-push-in-Array-clause-filled c = λ form ps level t h takes part decodes.
-    let held = rw c.in-Array.is at h in
     let made = c.in_ok-new-in-Array.ensures in
-    let e = c.in_ok-new-in-Array.field-0 in
-    let entry : IsEntryOf form ps e t = rw (made.0, made.1, made.2) part in
-    array_filled form ps c.in-Array.entries c.push.new.self e t level held c.in_ok-push-in-Array.ensures.items entry
+    let entry : IsEntryOf form ps c.in_ok-new-in-Array.field-0 t = rw (made.0, made.1, made.2) part in
+    array_filled form ps c.in-Array.entries c.push.new.self _ t level (rw c.in-Array.is at h) c.in_ok-push-in-Array.ensures.items entry
 
 pub returns-in_ok-new-in-Object-clause-filled : goal.returns-in_ok-new-in-Object-clause-filled
 returns-in_ok-new-in-Object-clause-filled c = λ form ps level t h takes part decodes.
@@ -43,10 +33,4 @@ returns-in_ok-new-in-Object-clause-filled c = λ form ps level t h takes part de
     (λ e h. (subst (λ (k : Option (String Global)). HoldsLevel form ps (Object new k) level) (sym h.1.1) (object_same form ps members new key level held h.1.0), inl h.0))
 
 pub returns-in_ok-new-in-Object-clause-kept : goal.returns-in_ok-new-in-Object-clause-kept
-returns-in_ok-new-in-Object-clause-kept c = λ form ps level h.
-    let members = c.in-Object.members in
-    let key = c.in-Object.key in
-    let new = c.push_member.new.members in
-    let held : HoldsLevel form ps (Object members key) level = rw c.in-Object.is at h in
-    err_along c.push_member.result _ _ c.push_member.ensures.kept
-    (λ h. subst (λ (k : Option (String Global)). HoldsLevel form ps (Object new k) level) (sym h.1) (object_same form ps members new key level held h.0))
+returns-in_ok-new-in-Object-clause-kept c = search (rules, err_along, object_same)

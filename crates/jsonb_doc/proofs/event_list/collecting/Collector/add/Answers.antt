@@ -1,12 +1,10 @@
-use Rattle.jsonb_doc.proofs.Common.{◌++◌, ◌∷◌, [], ◌∙◌, List, ap, refl, sym, subst, append_assoc, inl, inr, appended, AreAround, HeaderKind, Member}
+use Rattle.jsonb_doc.proofs.Common.{rules, ◌++◌, ◌∷◌, [], ◌∙◌, List, ap, refl, sym, subst, append_assoc, appended, AreAround, HeaderKind, Member}
 use Rattle.jsonb_doc.proofs.CollectingLemmas.{filled_frame}
 use Rattle.jsonb_doc.proofs.OneRun.{value_refused}
 use Rattle.jsonb_doc.proofs.event_list.collecting.Collector.add.Goals as goal
 
 pub returns-in_default : goal.returns-in_default
-returns-in_default c = λ s t h part.
-    let full = c.in_default.ensures.missing c.args.self.now.ended.items h.ms s.inner h.inner in
-    inr (inl (refl, λ after takes. value_refused t s.inner s.around after full takes))
+returns-in_default c = search (rules, value_refused)
 
 pub returns : goal.returns
 returns c = λ s t h part.

@@ -1,12 +1,10 @@
-use Rattle.jsonb_doc.proofs.Common.{◌++◌, ◌∷◌, [], ◌∙◌, List, ap, refl, sym, subst, length, arith, None, inl, inr, append-nil, WaitsFor, AreAround, HeaderKind, Run, Nested, Member, Frame}
+use Rattle.jsonb_doc.proofs.Common.{rules, ◌++◌, ◌∷◌, [], ◌∙◌, List, ap, refl, sym, length, arith, None, append-nil, Run, Nested, Member, Frame}
 use Rattle.jsonb_doc.proofs.CollectingLemmas.{waits_takes, around_more}
 use Rattle.jsonb_doc.proofs.OneRun.{opens_refused}
 use Rattle.jsonb_doc.proofs.event_list.collecting.Collector.begin.Goals as goal
 
 pub returns-in_default : goal.returns-in_default
-returns-in_default c = λ s level h some empty.
-    let full = c.in_default.ensures.missing c.args.self.now.ended.items h.ms s.inner h.inner in
-    inr (inl (refl, λ after opens. opens_refused level s after full opens))
+returns-in_default c = search (rules, opens_refused)
 
 pub returns : goal.returns
 returns c = λ s level h some empty.
@@ -28,8 +26,7 @@ returns c = λ s level h some empty.
         joined = pushed ∙ sym (append-nil before);
         start = omega (arith, c.len.ensures, ap (λ (ms : List Member). length ms) pushed);
         inner = empty ds inner refl refl;
-        around = around_more ds c.args.kind some h.before h.ms m outer s.inner s.around refl (key.kept.1 ∙ h.start)
-            (subst (λ (kind : HeaderKind). WaitsFor ds kind c.in-Some.key.now h.ms s.inner) (sym key.kept.0) waits)
-            (subst (λ (kind : HeaderKind). AreAround ds kind h.before s.around) (sym key.kept.0) h.around);
+        around = around_more ds c.args.kind some h.before h.ms m outer s.inner s.around refl (key.kept.1 ∙ h.start) (rw (← key.kept.0) at waits)
+            (rw (← key.kept.0) at h.around);
       },
     )

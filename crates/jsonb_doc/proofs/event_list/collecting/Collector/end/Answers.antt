@@ -1,26 +1,18 @@
-use Rattle.jsonb_doc.proofs.Common.{true, length, inr, ◌≡◌, ◌∙◌, ◌∷◌, List, ap, sym, subst, arith, take, rules, inl, refl, overwrites, take_at, length-append, err_from_is_err_and, Level, State, ends, HoldsFrame, LeadsTo, AreAround, Member}
+use Rattle.jsonb_doc.proofs.Common.{◌≡◌, ◌∙◌, ◌∷◌, List, ap, sym, subst, arith, take, rules, overwrites, take_at, Level, State, ends, HoldsFrame, LeadsTo, AreAround, Member}
 use Rattle.jsonb_doc.proofs.CollectingLemmas.{innermost_is, none_of, named_stays, ends_around, around_stay, end_event_due, outer_due}
-use Rattle.jsonb_doc.proofs.EventLemmas.{result_along}
+use Rattle.jsonb_doc.proofs.EventLemmas.{result_along, err_is}
 use Rattle.jsonb_doc.proofs.event_list.collecting.Collector.end.Goals as goal
 
 pub returns-then-is_some : goal.returns-then-is_some
-returns-then-is_some c = λ s h.
-    let b = c.args.self.now in
-    inr (inl (refl, λ after leads. named_stays true b.ended.items b.inner h.ms s.inner leads.0 h.inner (sym c.is_some.ensures ∙ c.if-is_some.true) leads.3))
-
-pub returns-then-start-len : goal.returns-then-start-len
-returns-then-start-len c = λ s h.
-    absurd (omega (arith, h.start, ap (λ (ms : List Member). length ms) h.joined, length-append h.before h.ms))
+returns-then-is_some c = search (rules, named_stays)
 
 pub returns-in_err-run : goal.returns-in_err-run
 returns-in_err-run c = λ s h.
     let b = c.args.self.now in
     let none = none_of b.inner.key (sym c.is_some.ensures ∙ c.if-is_some.false) in
-    let joined = c.deref_mut.ensures.value ∙ h.joined in
-    let members = innermost_is _ h.before h.ms _ _ joined h.start (omega arith) in
-    let e = err_from_is_err_and c.from_residual.result c.from_residual.ensures.1 in
+    let members = innermost_is _ h.before h.ms _ _ (c.deref_mut.ensures.value ∙ h.joined) h.start (omega arith) in
     let due = c.in_err-run.ensures s.inner (subst (λ (ms : List Member). HoldsFrame b.ended.items b.inner ms s.inner) members h.inner) none in
-    rw (e.1, e.2) (end_event_due c.args.keep_last b s _ h due)
+    err_is _ _ _ _ c.from_residual.ensures.1 (end_event_due c.args.keep_last b s _ h due)
 
 pub returns : goal.returns
 returns c = λ s h.

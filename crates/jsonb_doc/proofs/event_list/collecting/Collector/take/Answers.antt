@@ -1,6 +1,7 @@
-use Rattle.jsonb_doc.proofs.Common.{[], refl, inl, inr, arith, None, err_from_is_err_and, text, array_of, object_of, array_begins, object_begins, key_is, value_is, ends}
+use Rattle.jsonb_doc.proofs.Common.{[], refl, inl, inr, arith, None, text, array_of, object_of, array_begins, object_begins, key_is, value_is, ends}
 use Rattle.jsonb_doc.proofs.OneRun.{plain_exists}
 use Rattle.jsonb_doc.proofs.ListErrors.{event_due, event_due_anyway}
+use Rattle.jsonb_doc.proofs.EventLemmas.{err_is}
 use Rattle.jsonb_doc.proofs.event_list.collecting.Collector.take.Goals as goal
 
 pub returns-in_ok-add-in-0-to-6 : goal.returns-in_ok-add-in-0-to-6
@@ -39,39 +40,32 @@ returns-in_ok-end-in-11 c = λ s h.
 pub returns-in_err-add-in-0-to-6 : goal.returns-in_err-add-in-0-to-6
 returns-in_err-add-in-0-to-6 c = λ s h.
     let plain = plain_exists c.args.event.now (omega arith) in
-    let e = err_from_is_err_and c.from_residual-in_err-add-in-0-to-6.result c.from_residual-in_err-add-in-0-to-6.ensures.1 in
-    rw (e.1, e.2) (event_due_anyway c.args.keep_last c.args.event.now c.args.text.now (value_is plain.0) c.args.text.now s _ (inl (plain.1, refl))
-    (c.in_err-add-in-0-to-6.ensures s plain.0 h plain.1))
+    err_is _ _ _ _ c.from_residual-in_err-add-in-0-to-6.ensures.1
+    (event_due_anyway _ _ _ (value_is plain.0) _ s _ (inl (plain.1, refl)) (c.in_err-add-in-0-to-6.ensures s plain.0 h plain.1))
 
 pub returns-in_err-key-in-8-2 : goal.returns-in_err-key-in-8-2
 returns-in_err-key-in-8-2 c = λ s h.
     let found = c.in_ok-key-in-8 in
-    let e = err_from_is_err_and c.from_residual-in_err-key-in-8-2.result c.from_residual-in_err-key-in-8-2.ensures.1 in
-    rw (e.1, e.2) (event_due_anyway c.args.keep_last c.args.event.now c.args.text.now (key_is found.key.now) found.rest.now s _ (c.in-8.is, found.ensures)
-    (c.in_err-key-in-8-2.ensures c.args.keep_last s h))
+    err_is _ _ _ _ c.from_residual-in_err-key-in-8-2.ensures.1
+    (event_due_anyway _ _ _ (key_is found.key.now) _ s _ (c.in-8.is, found.ensures) (c.in_err-key-in-8-2.ensures c.args.keep_last s h))
 
 pub returns-in_err-begin-in-9 : goal.returns-in_err-begin-in-9
 returns-in_err-begin-in-9 c = λ s h.
-    let e = err_from_is_err_and c.from_residual-in_err-begin-in-9.result c.from_residual-in_err-begin-in-9.ensures.1 in
-    rw (e.1, e.2) (event_due_anyway c.args.keep_last c.args.event.now c.args.text.now array_begins c.args.text.now s _ (c.in-9.is, refl)
-    (c.in_err-begin-in-9.ensures s (array_of []) h (λ e. cc) (λ ds f kind none. (kind, none, tt))))
+    let due = c.in_err-begin-in-9.ensures s (array_of []) h (λ e. cc) (λ ds f kind none. (kind, none, tt)) in
+    err_is _ _ _ _ c.from_residual-in_err-begin-in-9.ensures.1 (event_due_anyway _ _ _ array_begins _ s _ (c.in-9.is, refl) due)
 
 pub returns-in_err-begin-in-10 : goal.returns-in_err-begin-in-10
 returns-in_err-begin-in-10 c = λ s h.
-    let e = err_from_is_err_and c.from_residual-in_err-begin-in-10.result c.from_residual-in_err-begin-in-10.ensures.1 in
-    rw (e.1, e.2) (event_due_anyway c.args.keep_last c.args.event.now c.args.text.now object_begins c.args.text.now s _ (c.in-10.is, refl)
-    (c.in_err-begin-in-10.ensures s (object_of [] None) h (λ e. cc) (λ ds f kind none. (kind, none, tt))))
+    let due = c.in_err-begin-in-10.ensures s (object_of [] None) h (λ e. cc) (λ ds f kind none. (kind, none, tt)) in
+    err_is _ _ _ _ c.from_residual-in_err-begin-in-10.ensures.1 (event_due_anyway _ _ _ object_begins _ s _ (c.in-10.is, refl) due)
 
 pub returns-in_err-end-in-11 : goal.returns-in_err-end-in-11
 returns-in_err-end-in-11 c = λ s h.
-    let e = err_from_is_err_and c.from_residual-in_err-end-in-11.result c.from_residual-in_err-end-in-11.ensures.1 in
-    rw (e.1, e.2) (event_due c.args.keep_last c.args.event.now c.args.text.now ends c.args.text.now s _ (c.in-11.is, refl)
-    (c.in_err-end-in-11.ensures s h))
+    err_is _ _ _ _ c.from_residual-in_err-end-in-11.ensures.1 (event_due _ _ _ ends _ s _ (c.in-11.is, refl) (c.in_err-end-in-11.ensures s h))
 
 pub returns-in_err-add-in-7 : goal.returns-in_err-add-in-7
 returns-in_err-add-in-7 c = λ s h.
     let found = c.in_ok-string-in-7 in
-    let e = err_from_is_err_and c.from_residual-in_err-add-in-7.result c.from_residual-in_err-add-in-7.ensures.1 in
-    rw (e.1, e.2) (event_due_anyway c.args.keep_last c.args.event.now c.args.text.now (value_is (text found.string.now)) found.rest.now s _
-    (inr (found.string.now, c.in-7.is, found.ensures, refl))
-    (c.in_err-add-in-7.ensures s (text found.string.now) h refl))
+    err_is _ _ _ _ c.from_residual-in_err-add-in-7.ensures.1
+    (event_due_anyway _ _ _ (value_is (text found.string.now)) _ s _
+    (inr (found.string.now, c.in-7.is, found.ensures, refl)) (c.in_err-add-in-7.ensures s (text found.string.now) h refl))

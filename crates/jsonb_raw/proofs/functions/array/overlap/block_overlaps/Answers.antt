@@ -1,4 +1,4 @@
-use Rattle.jsonb_raw.proofs.Common.{◌≡◌, true, false, take, sym, ◌∙◌, true≢false, list_any, false_from_ne_true, elements, is_equal}
+use Rattle.jsonb_raw.proofs.Common.{◌≡◌, true, false, take, true≢false, list_any, false_from_ne_true, elements, is_equal, arith}
 use Rattle.jsonb_raw.proofs.EntriesLeft.{SomeEntries-first, SomeEntries-error, SomeEntries-none}
 use Rattle.jsonb_raw.proofs.EntryEquals.{equals_one}
 use Rattle.jsonb_raw.proofs.functions.array.overlap.block_overlaps.Goals as goal
@@ -16,8 +16,7 @@ pub returns-then-branch-clause-overlap : goal.returns-then-branch-clause-overlap
 returns-then-branch-clause-overlap c = λ form other_form ts us l d marked.
     SomeEntries-first form _ _ _ _ _ c.in_ok-entry.was c.in-Some.ensures.steps (c.loop-entry.invariant form other_form ts us l d marked)
     (λ first rest left stored fact.
-    let found : list_any (is_equal first) (take c.args.count (elements us)) ≡ true = equals_one first (take c.args.count (elements us))
-    ∙ sym (c.in_ok-find_equal_among.ensures.found other_form form us first d stored) ∙ c.if-branch.true in
+    let found : list_any (is_equal first) (take c.args.count (elements us)) ≡ true = grind (arith, equals_one) in
     rw found at fact)
 
 -- its hash is free
@@ -25,17 +24,14 @@ pub loop-entry-preserved-then-not-may_have : goal.loop-entry-preserved-then-not-
 loop-entry-preserved-then-not-may_have c = λ form other_form ts us l d marked.
     SomeEntries-first form _ _ _ _ _ c.in_ok-entry.was c.in-Some.ensures.steps (c.loop-entry.invariant form other_form ts us l d marked)
     (λ first rest left stored fact.
-    let missing : list_any (is_equal first) (take c.args.count (elements us)) ≡ false =
-    false_from_ne_true (list_any (is_equal first) (take c.args.count (elements us)))
-    (λ some. true≢false (sym (c.may_have.ensures form first stored (marked first some)) ∙ c.if-not-may_have.true)) in
+    let missing : list_any (is_equal first) (take c.args.count (elements us)) ≡ false = grind (arith, false_from_ne_true, true≢false) in
     record { trees = rest; left = left; fact = rw missing at fact })
 
 pub loop-entry-preserved : goal.loop-entry-preserved
 loop-entry-preserved c = λ form other_form ts us l d marked.
     SomeEntries-first form _ _ _ _ _ c.in_ok-entry.was c.in-Some.ensures.steps (c.loop-entry.invariant form other_form ts us l d marked)
     (λ first rest left stored fact.
-    let missing : list_any (is_equal first) (take c.args.count (elements us)) ≡ false = equals_one first (take c.args.count (elements us))
-    ∙ sym (c.in_ok-find_equal_among.ensures.found other_form form us first d stored) ∙ c.if-branch.false in
+    let missing : list_any (is_equal first) (take c.args.count (elements us)) ≡ false = grind (arith, equals_one) in
     record { trees = rest; left = left; fact = rw missing at fact })
 
 pub returns-clause-overlap : goal.returns-clause-overlap

@@ -1,5 +1,5 @@
 use Rattle.jsonb_raw.proofs.Common.{sym, ap, ◌∙◌, elements, overlap}
-use Rattle.jsonb_raw.proofs.EntriesLeft.{overlap_none, first_overlap, others_decide}
+use Rattle.jsonb_raw.proofs.EntriesLeft.{overlap_none, others_decide, overlap_split}
 use Rattle.jsonb_raw.proofs.functions.array.overlap.blocks_overlap.Goals as goal
 
 pub returns-in_err-ended-clause-overlap : goal.returns-in_err-ended-clause-overlap
@@ -18,7 +18,7 @@ returns-then-branch-clause-overlap c = λ form other_form ts us l d.
     let some = c.loop-ended.invariant form other_form ts us l d in
     let told = c.in_ok-block_overlaps.ensures.overlap form other_form ts some.trees l some.left
     (λ t any. c.in_ok-ended.ensures.marked other_form some.trees t some.left any) in
-    first_overlap c.args.count (elements ts) (elements some.trees) _ some.fact (sym told ∙ c.if-branch.true)
+    (rw (sym told ∙ c.if-branch.true) at (sym (overlap_split c.args.count (elements ts) (elements some.trees)) ∙ some.fact))
 
 pub returns-then-ended-clause-overlap : goal.returns-then-ended-clause-overlap
 returns-then-ended-clause-overlap c = λ form other_form ts us l d.

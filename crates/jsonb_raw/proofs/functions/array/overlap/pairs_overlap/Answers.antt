@@ -1,4 +1,4 @@
-use Rattle.jsonb_raw.proofs.Common.{◌≡◌, true, false, sym, ◌∙◌, list_any, elements, is_equal}
+use Rattle.jsonb_raw.proofs.Common.{◌≡◌, true, false, list_any, elements, is_equal, arith}
 use Rattle.jsonb_raw.proofs.EntriesLeft.{SomeEntries-first, SomeEntries-error, SomeEntries-none}
 use Rattle.jsonb_raw.proofs.EntryEquals.{equals_one}
 use Rattle.jsonb_raw.proofs.functions.array.overlap.pairs_overlap.Goals as goal
@@ -16,16 +16,14 @@ pub returns-then-branch-clause-overlap : goal.returns-then-branch-clause-overlap
 returns-then-branch-clause-overlap c = λ form other_form ts us l d.
     SomeEntries-first form _ _ _ _ _ c.in_ok-entry.was c.in-Some.ensures.steps (c.loop-entry.invariant form other_form ts us l d)
     (λ first rest left stored fact.
-    let found : list_any (is_equal first) (elements us) ≡ true = equals_one first (elements us)
-    ∙ sym (c.in_ok-find_equal.ensures.found other_form form us first d stored) ∙ c.if-branch.true in
+    let found : list_any (is_equal first) (elements us) ≡ true = grind (arith, equals_one) in
     rw found at fact)
 
 pub loop-entry-preserved : goal.loop-entry-preserved
 loop-entry-preserved c = λ form other_form ts us l d.
     SomeEntries-first form _ _ _ _ _ c.in_ok-entry.was c.in-Some.ensures.steps (c.loop-entry.invariant form other_form ts us l d)
     (λ first rest left stored fact.
-    let missing : list_any (is_equal first) (elements us) ≡ false = equals_one first (elements us)
-    ∙ sym (c.in_ok-find_equal.ensures.found other_form form us first d stored) ∙ c.if-branch.false in
+    let missing : list_any (is_equal first) (elements us) ≡ false = grind (arith, equals_one) in
     record { trees = rest; left = left; fact = rw missing at fact })
 
 pub returns-clause-overlap : goal.returns-clause-overlap

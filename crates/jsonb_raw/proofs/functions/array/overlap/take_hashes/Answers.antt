@@ -1,4 +1,4 @@
-use Rattle.jsonb_raw.proofs.Common.{arith, ◌-◌, take, refl, list_any, elements, is_equal}
+use Rattle.jsonb_raw.proofs.Common.{arith, ◌-◌, elements}
 use Rattle.jsonb_raw.proofs.EntriesLeft.{SomeEntries-first, SomeEntries-none, take_one, drop_one, take_no, take_zero, not_of_none, one_more}
 use Rattle.jsonb_raw.proofs.functions.array.overlap.take_hashes.Goals as goal
 
@@ -18,9 +18,7 @@ loop-more-preserved c = record {
       (λ first rest left stored fact. record {
         trees = rest;
         left = left;
-        fact = one_more (is_equal t first) (list_any (is_equal t) (take (c.loop-more.more - 1) (elements rest))) _
-            (rw (take_one c.loop-more.more first (elements rest) c.loop-more-test.true) refl)
-            (c.add.ensures.kept t) (c.add.ensures.added form t first stored) fact;
+        fact = grind (arith, one_more, take_one);
       });
 }
 

@@ -1,7 +1,8 @@
 use Rattle.jsonb_raw.proofs.Common.{◌≡◌, ◌+◌, cond, true, false, refl, sym, ◌∙◌, arith, is_equal}
 use Rattle.jsonb_raw.proofs.RunLemmas.{entry_taken, no_entry_left}
-use Rattle.jsonb_raw.proofs.ElementsSeen.{EqualLeft-none, EqualLeft-done, EqualLeft-next}
+use Rattle.jsonb_raw.proofs.ElementsSeen.{EqualLeft-next}
 use Rattle.jsonb_raw.proofs.functions.array.seen.count_equal.Goals.{then-branch, else-branch}
+use Rattle.jsonb_raw.proofs.EntriesLeft.{take_zero, take_no}
 use Rattle.jsonb_raw.proofs.functions.array.seen.count_equal.Goals as goal
 
 pub returns-in_err-entry-clause-count : goal.returns-in_err-entry-clause-count
@@ -10,9 +11,7 @@ returns-in_err-entry-clause-count c = λ form other_form ts u h k.
     absurd (c.in_err-entry.ensures.first form i.rest i.holds)
 
 pub returns-in_default-clause-count : goal.returns-in_default-clause-count
-returns-in_default-clause-count c = λ form other_form ts u h k.
-    let i = c.loop-more.invariant.left form other_form ts u h k in
-    EqualLeft-none form _ _ _ u _ i (no_entry_left form _ i.rest _ c.in_default.is (c.in_ok-entry.ensures.first form i.rest i.holds))
+returns-in_default-clause-count c = grind (arith, no_entry_left, take_no)
 
 pub returns-in_err-stored_equal-clause-count : goal.returns-in_err-stored_equal-clause-count
 returns-in_err-stored_equal-clause-count c = λ form other_form ts u h k.
@@ -41,4 +40,4 @@ loop-more-preserved c = record {
 pub returns-clause-count : goal.returns-clause-count
 returns-clause-count c = λ form other_form ts u h k.
     let i = c.loop-more.invariant.left form other_form ts u h k in
-    EqualLeft-done form _ _ _ u _ i c.loop-more-test.false
+    (let j : _ + 0 ≡ _ = rw (take_zero _ i.rest c.loop-more-test.false) at i.joined in omega (arith, j))

@@ -15,5 +15,4 @@ returns-in_err-counts-clause-made c = λ form other_form t u d e.
     failed _ _ _ c.from_residual-in_err-counts.ensures.1 (inl (c.in_err-counts.ensures.counts other_form u e))
 
 pub returns-clause-made : goal.returns-clause-made
-returns-clause-made c = λ form other_form t u d e.
-    c.kept_of_document.ensures.made form (as_elements u) t d (c.in_ok-counts.ensures.counts other_form u e)
+returns-clause-made c = grind arith

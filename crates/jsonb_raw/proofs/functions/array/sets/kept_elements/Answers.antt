@@ -1,23 +1,17 @@
-use Rattle.jsonb_raw.proofs.Common.{◌∙◌, inl, sym, subst, select_occurrences, RunsHold, keeps}
+use Rattle.jsonb_raw.proofs.Common.{rules, ◌∙◌, inl, sym, subst, select_occurrences, RunsHold, keeps, arith, append-nil, None, refl}
 use Rattle.jsonb_raw.proofs.AnswerLemmas.{failed}
-use Rattle.jsonb_raw.proofs.SetKept.{KeptRuns-all, KeptRuns-left, KeptRuns-done, KeptRuns-kept, KeptRuns-dropped, next_of}
+use Rattle.jsonb_raw.proofs.SetKept.{KeptRuns-all, KeptRuns-left, KeptRuns-kept, KeptRuns-dropped, next_of}
+use Rattle.jsonb_raw.proofs.RunLemmas.{no_entry_left}
 use Rattle.jsonb_raw.proofs.functions.array.sets.kept_elements.Goals as goal
 
 pub loop-runs-init : goal.loop-runs-init
-loop-runs-init c = λ form other ts h b.
-    KeptRuns-all form c.args.kind c.args.seen other c.new-runs.result.items c.args.entries ts c.new-runs.ensures.items h b
+loop-runs-init c = search (rules, KeptRuns-all)
 
 pub returns-in_err-entry-clause-made : goal.returns-in_err-entry-clause-made
-returns-in_err-entry-clause-made c = λ form other ts h b.
-    let m = c.loop-runs.invariant form other ts h b in
-    absurd (c.in_err-entry.ensures.first form m.rest (KeptRuns-left form _ _ other _ _ _ _ m))
+returns-in_err-entry-clause-made c = grind (arith, KeptRuns-left)
 
 pub returns-in_err-keep_next-clause-made : goal.returns-in_err-keep_next-clause-made
-returns-in_err-keep_next-clause-made c = λ form other ts h b.
-    let m = c.loop-runs.invariant form other ts h b in
-    let mine = rw c.in-Some.is at (c.in_ok-entry.ensures.first form m.rest (KeptRuns-left form _ _ other _ _ _ _ m)) in
-    let n = next_of form _ _ other _ _ _ _ m _ _ mine in
-    failed _ _ _ c.from_residual-in_err-keep_next.ensures.1 (inl (c.in_err-keep_next.ensures.passed form other m.before n.ts n.t n.behind (record { content = n.first_is.part })))
+returns-in_err-keep_next-clause-made c = search (rules, failed)
 
 pub returns-in_err-push_run-clause-made : goal.returns-in_err-push_run-clause-made
 returns-in_err-push_run-clause-made c = λ form other ts h b.
@@ -50,7 +44,7 @@ pub returns-clause-made : goal.returns-clause-made
 returns-clause-made c = λ form other ts h b.
     let m = c.loop-runs.invariant form other ts h b in
     let none = rw c.in_default.is at (c.in_ok-entry.ensures.first form m.rest (KeptRuns-left form _ _ other _ _ _ _ m)) in
-    let whole = KeptRuns-done form _ _ other _ _ _ _ m none in
+    let whole = sym (append-nil m.held) ∙ (rw (no_entry_left form _ m.rest None refl none) at m.joined) in
     let held = c.in_ok-push_run-2.ensures.pushed form m.held m.rest m.holds in
     c.array_of.ensures.array form (select_occurrences (keeps c.args.kind other) ts)
     (rw c.as_slice.ensures.value (subst (RunsHold form c.push_run-2.new.runs.items) whole held))

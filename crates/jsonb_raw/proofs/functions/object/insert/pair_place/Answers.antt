@@ -1,20 +1,15 @@
 use Rattle.jsonb_raw.proofs.Common.{◌≡◌, rules, arith, sym, ◌∙◌, Less, Equal, Greater, nat_cmp, slice_cmp, keys}
-use Rattle.jsonb_raw.proofs.ObjectLemmas.{object_of_keys, first_key, no_key_refused, no_more_keys}
+use Rattle.jsonb_raw.proofs.ObjectLemmas.{object_of_keys, first_key}
 use Rattle.jsonb_raw.proofs.InsertLemmas.{none_passed, key_passed, place_there, place_before, place_last, in_object}
 use Rattle.jsonb_raw.proofs.functions.object.insert.pair_place.Goals as goal
 
 pub loop-key-init : goal.loop-key-init
-loop-key-init c = record {
-  bound = omega arith;
-  walked = λ form t d.
-      let o = object_of_keys t _ _ c.in-Some.is (c.in_ok-keys.ensures.decodes form t d) in
-      (o.0, o.1, none_passed c.args.name.now (keys o.0) _ (rw c.into_iter-key-iterator.ensures.into_iter_gives o.2));
-}
+loop-key-init c = search (rules, object_of_keys, none_passed)
 
 pub returns-in_err-key-clause-place : goal.returns-in_err-key-clause-place
 returns-in_err-key-clause-place c = λ form t d.
     let w = c.loop-key.invariant.walked form t d in
-    absurd (no_key_refused w.2.left _ _ _ c.in_err-key.was (c.in-Some-key.ensures.steps.takes w.2.left w.2.holds))
+    absurd (grind (arith, c.in_err-key.was, c.in-Some-key.ensures.steps.takes w.2.left w.2.holds))
 
 pub loop-key-preserved : goal.loop-key-preserved
 loop-key-preserved c = record {
@@ -44,4 +39,4 @@ pub returns-clause-place : goal.returns-clause-place
 returns-clause-place c = λ form t d.
     let w = c.loop-key.invariant.walked form t d in
     in_object c.args.name.now t w.0 _ w.1
-    (place_last c.args.name.now (keys w.0) c.loop-key.passed _ w.2 (no_more_keys w.2.left _ (c.in-None.ensures.steps.takes w.2.left w.2.holds)))
+    (place_last c.args.name.now (keys w.0) c.loop-key.passed _ w.2 (grind (arith, c.in-None.ensures.steps.takes w.2.left w.2.holds)))

@@ -1,6 +1,6 @@
-use Rattle.jsonb_raw.proofs.Common.{None, arith}
+use Rattle.jsonb_raw.proofs.Common.{None, arith, subst, AllByRecursion, sym, drop_more}
 use Rattle.jsonb_raw.proofs.AnswerLemmas.{failed}
-use Rattle.jsonb_raw.proofs.ColumnLemmas.{key_begun, key_appended, key_refused, key_written, column_appended, first_left_of, none_left_of, read_more}
+use Rattle.jsonb_raw.proofs.ColumnLemmas.{key_begun, key_appended, key_refused, key_written, column_appended, first_left_of, none_left_of}
 use Rattle.jsonb_raw.proofs.functions.operator.column_key.key_of_columns.Goals as goal
 
 pub loop-column-init : goal.loop-column-init
@@ -26,8 +26,9 @@ loop-column-preserved c = record {
         key_appended _ _ _ f.first f.others values (rw f.whole at inv.2)
             (column_appended _ form _ f.first _ _ _ (λ tree d. c.in_ok-push_column.ensures.key form tree d) c.in_ok-push_column.ensures.missing f.holds),
       );
-  read = read_more _ c.args.columns.now c.loop-column.column-index None c.loop-column-test.true c.in_ok-push_column.ensures.reads
-      c.loop-column.invariant.read;
+  read =
+      λ others. c.loop-column.invariant.read (subst (AllByRecursion _) (sym
+          (drop_more c.args.columns.now c.loop-column.column-index None c.loop-column-test.true)) (c.in_ok-push_column.ensures.reads, others));
 }
 
 pub returns-clause-key : goal.returns-clause-key

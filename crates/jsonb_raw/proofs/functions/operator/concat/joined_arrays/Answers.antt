@@ -1,5 +1,5 @@
-use Rattle.jsonb_raw.proofs.AnswerLemmas.{failed}
 use Rattle.jsonb_raw.proofs.Common.{as_elements}
+use Rattle.jsonb_raw.proofs.AnswerLemmas.{failed}
 use Rattle.jsonb_raw.proofs.RunLemmas.{refused_front, refused_back}
 use Rattle.jsonb_raw.proofs.functions.operator.concat.joined_arrays.Goals as goal
 

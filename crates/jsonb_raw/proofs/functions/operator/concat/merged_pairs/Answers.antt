@@ -1,13 +1,10 @@
-use Rattle.jsonb_raw.proofs.Common.{◌≡◌, ◌++◌, ◌∙◌, Some, inl, sym, subst, keys_of, keys_rise, merged, PairsHeld, FirstPair}
+use Rattle.jsonb_raw.proofs.Common.{rules, ◌≡◌, ◌++◌, ◌∙◌, Some, inl, sym, subst, keys_of, keys_rise, merged, PairsHeld, FirstPair, arith}
 use Rattle.jsonb_raw.proofs.AnswerLemmas.{failed}
 use Rattle.jsonb_raw.proofs.ConcatLemmas.{merged_rising, merging_begun, left_of, merging_less, merging_equal_second, merging_equal, merging_greater, merging_ended}
 use Rattle.jsonb_raw.proofs.functions.operator.concat.merged_pairs.Goals as goal
-use Rattle.jsonb_raw.proofs.functions.operator.concat.merged_pairs.Goals.{in_default, in_default-2}
 
 pub loop-runs-init : goal.loop-runs-init
-loop-runs-init c = λ form ps qs h g a b.
-    merging_begun form c.new-runs.result c.args.first c.args.second ps qs c.new-runs.ensures.keys c.new-runs.ensures.values h g
-    (keys_rise (keys_of ps) a) (keys_rise (keys_of qs) b)
+loop-runs-init c = search (rules, merging_begun, keys_rise)
 
 pub returns-in_err-first_pair-clause-merged : goal.returns-in_err-first_pair-clause-merged
 returns-in_err-first_pair-clause-merged c = λ form ps qs h g a b.
@@ -88,10 +85,7 @@ returns-clause-merged c = λ form ps qs h g a b.
     let ended = λ (none : (x y : FirstPair) → c.in_ok-first_pair.field-0 ≡ Some x → c.in_ok-next.field-0 ≡ Some y → ⊥).
     merging_ended form _ _ _ _ _ _ m c.in_ok-first_pair.field-0 c.in_ok-next.field-0
     (c.in_ok-first_pair.ensures.first form m.mine (left_of form _ _ _ _ _ _ m)) (c.in_ok-next.ensures.first form m.theirs m.others) none in
-    let whole : (m.held ++ m.mine) ++ m.theirs ≡ merged ps qs = elim c.match-this.branch [
-      | in_default w ↦ ended (λ x y p q. cc (q, w.in_default.is-1))
-      | in_default-2 w ↦ ended (λ x y p q. cc (p, w.in_default.is-0))
-    ] in
+    let whole : (m.held ++ m.mine) ++ m.theirs ≡ merged ps qs = grind arith in
     let all = subst (PairsHeld form c.push-2.new.self) whole three in
     c.object.ensures.object form (merged ps qs) all
     (merged_rising ps qs (keys_rise (keys_of ps) a))

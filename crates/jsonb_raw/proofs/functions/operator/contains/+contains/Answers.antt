@@ -1,11 +1,10 @@
-use Rattle.jsonb_raw.proofs.Common.{rules, arith, ℕ, ◌-◌, ◌||◌, List, take, Bool, Some, None, true, false, ◌≡◌, refl, sym, ◌∙◌, subst, IsOkAnd, Bor, bytes_eq-Decides, list_any, keys, elements, members, keys_rise, equal_kind, pairs_above, is_part_of, each_is_matched, each_pair_is_matched, IsOneAnswer, IsTailOf, matches, or_second}
-use Rattle.jsonb_doc.specs.declared.item.Item.TheVariants as item
+use Rattle.jsonb_raw.proofs.Common.{rules, arith, ◌-◌, ◌||◌, take, Bool, Some, None, true, false, ◌≡◌, refl, sym, ◌∙◌, subst, IsOkAnd, bytes_eq-Decides, list_any, keys, elements, members, keys_rise, equal_kind, pairs_above, is_part_of, each_is_matched, each_pair_is_matched, IsOneAnswer, matches, or_second}
 use Rattle.jsonb_raw.proofs.ContainsLaws.{matched_refl}
 use Rattle.jsonb_raw.proofs.EntriesLeft.{take_one, take_no, take_zero, tail_none, tail_next, tail_along, SomeEntries-first, SomeEntries-error, SomeEntries-none, SomePairEntries-first, SomePairEntries-error, SomePairEntries-none}
-use Rattle.jsonb_raw.proofs.EntryEquals.{same_tree, IsAnswer, IsItemAnswer, none_aside, put_aside, part_holds, part_fails, whole_fails, aside_along, put_one_aside, one_holds, one_fails}
-use Rattle.jsonb_raw.proofs.ContainLemmas.{unmatched_key, matched_pair, no_entry_found, entry_found, scalar_match, matches_if_equal, no_object, scalar_told, scalar_found, scalars_left, scalars_decide, matched_left}
+use Rattle.jsonb_raw.proofs.EntryEquals.{same_tree, IsAnswer, IsItemAnswer, none_aside, put_aside, part_holds, part_fails, aside_along, put_one_aside, one_fails}
+use Rattle.jsonb_raw.proofs.ContainLemmas.{unmatched_key, matched_pair, no_entry_found, entry_found, scalar_match, matches_if_equal, no_object, scalar_told, scalars_left, scalars_decide, matched_left}
+use Rattle.jsonb_doc.specs.declared.item.Item.TheVariants as item
 use Rattle.jsonb_raw.proofs.functions.operator.contains.+contains.Goals as goal
-use Rattle.jsonb_raw.proofs.functions.operator.contains.+contains.Goals.{parts_match-in_default-via-in-Array+in_default, parts_match-in_default-via-in-Object+in_default, parts_match-in_default-via-in_default}
 
 -- ---- items
 
@@ -37,18 +36,7 @@ parts_match-returns-in-Object-Object-clause-answer t c = λ form other_form x y 
     rw (is, same) (c.object_contains.ensures.answer form other_form ps qs d e)
 
 pub parts_match-returns-in-Ok-clause-answer : goal.parts_match-returns-in-Ok-clause-answer
-parts_match-returns-in-Ok-clause-answer t c = λ form other_form x y stands wanted.
-    let same = λ (arrays : (b d : Bor (List ℕ)) → c.args.item.now ≡ item.Array b → c.args.wanted.now ≡ item.Array d → ⊥)
-    (objects : (b d : Bor (List ℕ)) → c.args.item.now ≡ item.Object b → c.args.wanted.now ≡ item.Object d → ⊥).
-    c.in-Ok.ensures.equal form other_form x y stands wanted
-    ∙ matches_if_equal form other_form c.args.item.now c.args.wanted.now x y stands wanted arrays objects in
-    elim c.in_default.branch [
-      | parts_match-in_default-via-in-Array+in_default w ↦ same (λ b d p q. w.in_default.not-Array-1 d q)
-          (λ b d p q. no_object c.args.item.now _ b w.in_default.is-0 p)
-      | parts_match-in_default-via-in-Object+in_default w ↦ same (λ b d p q. no_object c.args.item.now b _ p w.in_default.is-0)
-          (λ b d p q. w.in_default.not-Object-1 d q)
-      | parts_match-in_default-via-in_default w ↦ same (λ b d p q. w.in_default.not-Array-0 b p) (λ b d p q. w.in_default.not-Object-0 b p)
-    ]
+parts_match-returns-in-Ok-clause-answer c = search (rules, matches_if_equal, no_object)
 
 -- ---- arrays
 
@@ -117,12 +105,7 @@ array_contains-loop-wanted-preserved-then-wanted-others t c =
           record {
             trees = rest;
             left = left;
-            fact = (
-              scalars_left first rest (elements xs) fact.0,
-              put_aside (IsItemAnswer matches form other_form None) (IsItemAnswer matches form other_form (Some (c.in-Deferred.item, c.in-Deferred.other)))
-                  (list_any (is_part_of first) (elements xs)) (each_is_matched rest (elements xs)) (each_is_matched ys (elements xs)) (λ b h. h)
-                  (m.0, m.1, m.2, m.3, m.4) fact.1,
-            );
+            fact = search (scalars_left, put_aside);
           });
     }
 
@@ -181,7 +164,7 @@ array_contains-loop-wanted-preserved-then-not-is_container t c = record {
       SomeEntries-first other_form _ _ _ _ _ c.in_ok-wanted.was c.in-Some.ensures.steps (c.loop-wanted.invariant.left form other_form xs ys d e)
       (λ first rest left stored fact.
       let scalar = scalar_told other_form _ first stored (sym c.is_container.ensures ∙ c.if-not-is_container.true) in
-      matched_left other_form _ _ first rest (elements xs) (each_is_matched ys (elements xs)) left (scalar_found first rest (elements xs) fact.0 scalar) fact);
+      matched_left other_form _ _ first rest (elements xs) (each_is_matched ys (elements xs)) left (grind (arith, fact.0, scalar)) fact);
 }
 
 pub array_contains-returns-in_err-scalars_matched-clause-answer : goal.array_contains-returns-in_err-scalars_matched-clause-answer
@@ -199,8 +182,7 @@ container_match-returns-in-Some-clause-answer t c = λ form other_form xs y h k.
     sym (or_second _ _ found) ∙ whole
 
 pub container_match-returns-in-Some-clause-tail : goal.container_match-returns-in-Some-clause-tail
-container_match-returns-in-Some-clause-tail t c =
-    subst (IsTailOf c.args.all) (sym c.pass.ensures) (tail_along _ _ _ c.parts.ensures.first (rw c.in-Some.is at c.in_ok-left.ensures.tail))
+container_match-returns-in-Some-clause-tail c = search (rules, tail_along)
 
 pub container_match-returns-in_err-left-2-clause-answer : goal.container_match-returns-in_err-left-2-clause-answer
 container_match-returns-in_err-left-2-clause-answer t c = λ form other_form xs y h k.
@@ -216,8 +198,7 @@ container_match-returns-in-Some-2-clause-answer t c = λ form other_form xs y h 
     sym second ∙ q.4 (is_part_of y)
 
 pub container_match-returns-in-Some-2-clause-tail : goal.container_match-returns-in-Some-2-clause-tail
-container_match-returns-in-Some-2-clause-tail t c =
-    subst (IsTailOf c.args.all) (sym c.pass-in-Some-2.ensures) (tail_along _ _ _ c.parts.ensures.second (rw c.in-Some-2.is at c.in_ok-left-2.ensures.tail))
+container_match-returns-in-Some-2-clause-tail c = search (rules, tail_along)
 
 pub container_match-returns-in_err-item-in-Some-large-clause-answer : goal.container_match-returns-in_err-item-in-Some-large-clause-answer
 container_match-returns-in_err-item-in-Some-large-clause-answer t c = λ form other_form xs y h k.
@@ -246,15 +227,10 @@ container_match-returns-in-None-clause-answer t c = λ form other_form xs y h k.
     sym second ∙ q.4 (is_part_of y)
 
 pub find_match-loop-more-init : goal.find_match-loop-more-init
-find_match-loop-more-init t c = record {
-  tail = tail_none c.args.part.entries;
-  room = λ most few large. large;
-  left = λ form other_form xs y b h k is. record { trees = xs; left = h; fact = record { answer = b; is = is; fact = refl } };
-}
+find_match-loop-more-init c = search (rules, tail_none)
 
 pub find_match-returns-in_err-entry-clause-answer : goal.find_match-returns-in_err-entry-clause-answer
-find_match-returns-in_err-entry-clause-answer t c = λ form other_form xs y b h k is.
-    SomeEntries-error form _ _ _ _ _ c.in_err-entry.was c.in-Some.ensures.steps (c.loop-more.invariant.left form other_form xs y b h k is)
+find_match-returns-in_err-entry-clause-answer t c = grind (arith, SomeEntries-error)
 
 pub find_match-returns-in_err-entry_matches-clause-answer : goal.find_match-returns-in_err-entry_matches-clause-answer
 find_match-returns-in_err-entry_matches-clause-answer t c = λ form other_form xs y b h k is.
@@ -290,10 +266,9 @@ pub find_match-returns-then-branch-clause-answer : goal.find_match-returns-then-
 find_match-returns-then-branch-clause-answer t c = λ form other_form xs y b h k is.
     SomeEntries-first form _ _ _ _ _ c.in_ok-entry.was c.in-Some.ensures.steps (c.loop-more.invariant.left form other_form xs y b h k is)
     (λ first rest left stored fact.
-    sym (one_holds _ (is_part_of y first) (list_any (is_part_of y) (take (c.loop-more.more - 1) (elements rest)))
-    (list_any (is_part_of y) (take c.args.part.count (elements xs)) || b)
-    (sym (c.in_ok-entry_matches.ensures.answer form other_form first y stored k) ∙ c.if-branch.true)
-    (rw (take_one c.loop-more.more first (elements rest) c.loop-more-test.true) at fact)))
+    sym
+        (rw (sym (c.in_ok-entry_matches.ensures.answer form other_form first y stored k)
+            ∙ c.if-branch.true) at (rw (take_one c.loop-more.more first (elements rest) c.loop-more-test.true) at fact).fact))
 
 pub find_match-returns-then-branch-clause-tail : goal.find_match-returns-then-branch-clause-tail
 find_match-returns-then-branch-clause-tail t c = tail_next _ _ _ _ _ c.in_ok-entry.was c.in-Some.ensures.steps c.loop-more.invariant.tail
@@ -340,26 +315,7 @@ pub object_contains-returns-in_err-pair-items-clause-answer : goal.object_contai
 object_contains-returns-in_err-pair-items-clause-answer t c = λ form other_form ps qs d e. absurd (c.in_err-pair-items.ensures.decodes other_form qs e)
 
 pub object_contains-loop-pair-init : goal.object_contains-loop-pair-init
-object_contains-loop-pair-init t c = record {
-  room = rw c.into_iter-pair-iterator.ensures.into_iter_gives c.in_ok-pair-items.ensures.room.1;
-  room_left = c.in_ok-left.ensures.room.1;
-  size = tt;
-  left = λ form other_form ps qs d e.
-      let wanted = c.in_ok-pair-items.ensures.decodes other_form qs e in
-      record {
-        pairs = qs;
-        left = rw c.into_iter-pair-iterator.ensures.into_iter_gives wanted;
-        fact = (
-          keys_rise (keys qs) wanted.are_keys,
-          record {
-            pairs = ps;
-            left = c.in_ok-left.ensures.decodes form ps d;
-            fact = none_aside (IsAnswer matches form other_form None)
-                (each_pair_is_matched qs (members ps)) refl;
-          },
-        );
-      };
-}
+object_contains-loop-pair-init c = search (rules, keys_rise, none_aside, IsAnswer)
 
 pub object_contains-returns-in_err-key-clause-answer : goal.object_contains-returns-in_err-key-clause-answer
 object_contains-returns-in_err-key-clause-answer t c = λ form other_form ps qs d e.
@@ -376,7 +332,7 @@ object_contains-returns-in_default-clause-answer t c = λ form other_form ps qs 
     (λ value rest left stored fact.
     let some = fact.1 in
     let none = no_entry_found form _ (rw c.in_default.is at (c.in_ok-entry.ensures.value form some.pairs some.left)) in
-    whole_fails _ _ _ (unmatched_key c.in_ok-key.key.now value rest some.pairs (keys_rise (keys some.pairs) some.left.are_keys) none) some.fact)
+    (rw (unmatched_key c.in_ok-key.key.now value rest some.pairs (keys_rise (keys some.pairs) some.left.are_keys) none) at some.fact.fact))
 
 pub object_contains-loop-pair-preserved-then-is_container_longer_than-2 : goal.object_contains-loop-pair-preserved-then-is_container_longer_than-2
 object_contains-loop-pair-preserved-then-is_container_longer_than-2 t c =
@@ -424,8 +380,7 @@ object_contains-returns-then-not-branch-clause-answer t c = λ form other_form p
     let some = fact.1 in
     let found = entry_found form _ _ (rw c.in-Some-2.is at (c.in_ok-entry.ensures.value form some.pairs some.left)) in
     let step = matched_pair c.in_ok-key.key.now value rest some.pairs (keys_rise (keys some.pairs) some.left.are_keys) found.0 found.1 fact.0 in
-    let fails : is_part_of value found.0 ≡ false = sym (c.in_ok-entry_matches.ensures.answer form other_form found.0 value found.2 stored)
-    ∙ c.if-not-branch.true in
+    let fails : is_part_of value found.0 ≡ false = grind arith in
     part_fails _ (is_part_of value found.0) (each_pair_is_matched rest (members (pairs_above c.in_ok-key.key.now some.pairs)))
     (each_pair_is_matched qs (members ps)) fails (aside_along _ _ _ _ step some.fact))
 
@@ -440,8 +395,7 @@ object_contains-loop-pair-preserved t c = record {
       let some = fact.1 in
       let found = entry_found form _ _ (rw c.in-Some-2.is at (c.in_ok-entry.ensures.value form some.pairs some.left)) in
       let step = matched_pair c.in_ok-key.key.now value rest some.pairs (keys_rise (keys some.pairs) some.left.are_keys) found.0 found.1 fact.0 in
-      let holds : is_part_of value found.0 ≡ true = sym (c.in_ok-entry_matches.ensures.answer form other_form found.0 value found.2 stored)
-      ∙ c.if-not-branch.false in
+      let holds : is_part_of value found.0 ≡ true = grind arith in
       record {
         pairs = rest;
         left = left;

@@ -1,4 +1,4 @@
-use Rattle.jsonb_raw.proofs.Common.{rules, arith, true, false, ◌≡◌, refl, sym, ◌∙◌, array, is_part_of}
+use Rattle.jsonb_raw.proofs.Common.{rules, arith, true, false, ◌≡◌, sym, ◌∙◌, array, is_part_of}
 use Rattle.jsonb_raw.proofs.IteratorItems.{SomeElements-all, SomeElements-first, SomeElements-error, SomeElements-none}
 use Rattle.jsonb_raw.proofs.functions.operator.contains.element_matches.Goals as goal
 
@@ -11,8 +11,7 @@ returns-in_default-clause-answer c = λ form other_form xs y d s. absurd (rw c.i
 pub loop-item-init : goal.loop-item-init
 loop-item-init c = record {
   room = search rules;
-  left = λ form other_form xs y d s. SomeElements-all form xs _ _ _ _ c.in-Some.is c.into_iter-item-iterator.ensures.into_iter_gives
-      (c.in_ok-found.ensures.decodes form (array xs) d) refl;
+  left = λ form other_form xs y d s. search (SomeElements-all, c.in-Some.is, c.into_iter-item-iterator.ensures.into_iter_gives, c.in_ok-found.ensures.decodes);
 }
 
 pub returns-in_err-item-clause-answer : goal.returns-in_err-item-clause-answer

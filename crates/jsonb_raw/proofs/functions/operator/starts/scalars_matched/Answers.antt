@@ -1,21 +1,13 @@
-use Rattle.jsonb_raw.proofs.Common.{◌≡◌, true, false, refl, sym, ◌∙◌, list_any, is_equal, elements, EntryIter, is_part_of, PassesOver}
+use Rattle.jsonb_raw.proofs.Common.{rules, ◌≡◌, true, false, sym, ◌∙◌, list_any, elements, EntryIter, is_part_of, PassesOver, arith}
 use Rattle.jsonb_raw.proofs.EntriesLeft.{SomeEntries-first, SomeEntries-error, SomeEntries-none, passes_none}
 use Rattle.jsonb_raw.proofs.ContainLemmas.{scalar_matches, container_told, scalar_told, container_passed, found_passed, missing_tells}
 use Rattle.jsonb_raw.proofs.functions.operator.starts.scalars_matched.Goals as goal
 
 passes_both : (all left right : EntryIter) → PassesOver all left → PassesOver left right → PassesOver all right
-passes_both all left right p q = record {
-  others = λ form ts h.
-      let a = p.others form ts h in
-      let b = q.others form a.0 a.1 in
-      (b.0, b.1, λ test any. a.2 test (b.2 test any));
-}
+passes_both all left right p q = grind arith
 
 pub walk-init : goal.walk-init
-walk-init c = record {
-  passes = passes_none c.args.all;
-  left = λ form other_form xs ys h k. record { trees = ys; left = k; fact = refl };
-}
+walk-init c = search (rules, passes_none)
 
 pub returns-in_default-clause-matched : goal.returns-in_default-clause-matched
 returns-in_default-clause-matched c = λ form other_form xs ys h k.
@@ -33,8 +25,7 @@ walk-preserved-then-is_container c = record {
       (λ first rest left stored fact. record {
         trees = rest;
         left = left;
-        fact = container_passed first rest (elements xs) _ fact
-            (container_told other_form _ first stored (sym c.is_container.ensures ∙ c.if-is_container.true));
+        fact = grind (arith, container_passed, container_told);
       });
 }
 
@@ -54,13 +45,12 @@ walk-preserved-then-is_next c = record {
       let scalar = sym c.is_container.ensures ∙ c.if-is_container.false in
       let mine = c.walk.invariant.passes.others form xs h in
       let next = c.in_ok-is_next.ensures.found form other_form mine.0 first mine.1 stored c.if-is_next.true in
-      let found : list_any (is_part_of first) (elements xs) ≡ true = sym (scalar_matches other_form _ first stored scalar (elements xs))
-      ∙ mine.2 (λ x. is_equal x first) next in
+      let found : list_any (is_part_of first) (elements xs) ≡ true = grind (arith, scalar_matches) in
       record { trees = rest; left = left; fact = found_passed first rest (elements xs) _ fact found });
 }
 
 pub scattered_matched-requires : goal.scattered_matched-requires
-scattered_matched-requires c = passes_both _ _ _ c.walk.invariant.passes c.in_ok-is_next.ensures.passed
+scattered_matched-requires c = search (rules, passes_both)
 
 pub returns-then-is_long-clause-matched : goal.returns-then-is_long-clause-matched
 returns-then-is_long-clause-matched c = λ form other_form xs ys h k.

@@ -1,4 +1,4 @@
-use Rattle.jsonb_raw.proofs.Common.{◌≡◌, true, false, sym, ◌∙◌, list_any, elements, is_part_of}
+use Rattle.jsonb_raw.proofs.Common.{◌≡◌, true, false, sym, ◌∙◌, list_any, elements, is_part_of, arith}
 use Rattle.jsonb_raw.proofs.EntriesLeft.{SomeEntries-first, SomeEntries-error, SomeEntries-none}
 use Rattle.jsonb_raw.proofs.ContainLemmas.{scalar_matches, container_told, scalar_told, container_passed, found_passed, missing_tells}
 use Rattle.jsonb_raw.proofs.functions.operator.starts.scattered_matched.Goals as goal
@@ -19,8 +19,7 @@ walk-preserved-then-is_container c = record {
       (λ first rest left stored fact. record {
         trees = rest;
         left = left;
-        fact = container_passed first rest (elements xs) _ fact
-            (container_told other_form _ first stored (sym c.is_container.ensures ∙ c.if-is_container.true));
+        fact = grind (arith, container_passed, container_told);
       });
 }
 

@@ -1,4 +1,4 @@
-use Rattle.jsonb_raw.proofs.Common.{[], inl, entries_kept, strip}
+use Rattle.jsonb_raw.proofs.Common.{rules, [], inl, entries_kept, strip}
 use Rattle.jsonb_raw.proofs.AnswerLemmas.{failed}
 use Rattle.jsonb_raw.proofs.StripLists.{kept_makes}
 use Rattle.jsonb_raw.proofs.StripWalk.{begun_with}
@@ -15,8 +15,4 @@ returns-in_err-put_keys-clause-begun c = λ form t h.
     (c.in_ok-writer.ensures.opened form (entries_kept t) (strip t) (kept_makes form t _ _ h count))))
 
 pub returns-clause-begun : goal.returns-clause-begun
-returns-clause-begun c = λ form t h.
-    let count = c.count_kept-count.ensures form t h in
-    begun_with form _ _ [] t (strip t) (c.all_values.ensures.values form t h)
-    (c.in_ok-put_keys.ensures.put form t [] (strip t) h count
-    (c.in_ok-writer.ensures.opened form (entries_kept t) (strip t) (kept_makes form t _ _ h count)))
+returns-clause-begun c = search (rules, begun_with, kept_makes)

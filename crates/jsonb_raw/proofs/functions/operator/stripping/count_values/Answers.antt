@@ -1,12 +1,10 @@
-use Rattle.jsonb_raw.proofs.Common.{true, arith, ap, length, Null, differing_kind, equal_kind, stripped}
-use Rattle.jsonb_raw.proofs.StripWalk.{words_of_run, word_taken, no_word_left, value_null, value_kept}
+use Rattle.jsonb_raw.proofs.Common.{rules, true, arith, ap, length, Null, differing_kind, equal_kind, stripped}
+use Rattle.jsonb_raw.proofs.StripWalk.{words_of_run, word_taken, no_word_left}
+use Rattle.jsonb_raw.proofs.StripLists.{null_kind, is_none, is_some}
 use Rattle.jsonb_raw.proofs.functions.operator.stripping.count_values.Goals as goal
 
 pub loop-kind-init : goal.loop-kind-init
-loop-kind-init c = record {
-  bound = omega arith;
-  left = λ form ts h. record { trees = ts; holds = words_of_run form _ ts h; sum = omega arith };
-}
+loop-kind-init c = search (rules, words_of_run)
 
 pub loop-kind-preserved-then-ne : goal.loop-kind-preserved-then-ne
 loop-kind-preserved-then-ne c = record {
@@ -14,7 +12,7 @@ loop-kind-preserved-then-ne c = record {
   left = λ form ts h.
       let i = c.loop-kind.invariant.left form ts h in
       let f = word_taken form _ i.trees _ _ _ i.holds c.in-Some.ensures.word in
-      value_kept form _ _ _ i _ _ f (differing_kind _ c.in-Some.kind Null c.ne.ensures c.if-ne.true);
+      (grind (arith, null_kind, is_some, differing_kind _ c.in-Some.kind Null c.ne.ensures c.if-ne.true));
 }
 
 pub loop-kind-preserved : goal.loop-kind-preserved
@@ -23,7 +21,7 @@ loop-kind-preserved c = record {
   left = λ form ts h.
       let i = c.loop-kind.invariant.left form ts h in
       let f = word_taken form _ i.trees _ _ _ i.holds c.in-Some.ensures.word in
-      value_null form _ _ _ i _ _ f (equal_kind _ c.in-Some.kind Null c.ne.ensures c.if-ne.false);
+      (grind (arith, null_kind, is_none, equal_kind _ c.in-Some.kind Null c.ne.ensures c.if-ne.false));
 }
 
 pub returns : goal.returns

@@ -1,12 +1,11 @@
-use Rattle.jsonb_raw.proofs.Common.{inl, entries_kept, strip}
+use Rattle.jsonb_raw.proofs.Common.{arith, inl, entries_kept, strip}
 use Rattle.jsonb_raw.proofs.AnswerLemmas.{failed}
 use Rattle.jsonb_raw.proofs.StripLists.{kept_makes}
-use Rattle.jsonb_raw.proofs.StripWalk.{begun_with, no_container}
+use Rattle.jsonb_raw.proofs.StripWalk.{begun_with}
 use Rattle.jsonb_raw.proofs.functions.operator.stripping.enter.Goals as goal
 
 pub returns-in_default-clause-entered : goal.returns-in_default-clause-entered
-returns-in_default-clause-entered c = λ form t coming around whole is w.
-    absurd (no_container form t _ is (rw c.in_default.is at (c.in_ok-entries.ensures.entries form t (record { document = inl is }))))
+returns-in_default-clause-entered c = grind arith
 
 pub returns-in_err-outer-clause-entered : goal.returns-in_err-outer-clause-entered
 returns-in_err-outer-clause-entered c = λ form t coming around whole is w.

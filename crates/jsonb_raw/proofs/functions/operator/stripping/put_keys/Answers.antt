@@ -1,19 +1,16 @@
-use Rattle.jsonb_raw.proofs.Common.{values_kept, zero_of}
-use Rattle.jsonb_raw.proofs.StripWalk.{no_keys_stay, sorted_names, all_keys_stay, some_keys_stay}
+use Rattle.jsonb_raw.proofs.Common.{arith, values_kept, zero_of, keys_of-members, keys_rise, many_texts, length-values_of}
+use Rattle.jsonb_raw.proofs.StripWalk.{some_keys_stay}
+use Rattle.jsonb_raw.proofs.StripLists.{all_keys, values_of-stripped, many_keys}
 use Rattle.jsonb_raw.proofs.functions.operator.stripping.put_keys.Goals as goal
 
 pub returns-then-is_empty-clause-put : goal.returns-then-is_empty-clause-put
-returns-then-is_empty-clause-put c = λ form t around whole h is w. rw (no_keys_stay form t _ h (zero_of _ c.if-is_empty.ensures)) at w
+returns-then-is_empty-clause-put c = λ form t around whole h is w. grind (arith, zero_of)
 
 pub returns-in_err-check_keys-clause-put : goal.returns-in_err-check_keys-clause-put
-returns-in_err-check_keys-clause-put c = λ form t around whole h is w.
-    let names = sorted_names form t _ h in
-    absurd (c.in_err-check_keys.ensures.sorted form names.0 names.1 names.2)
+returns-in_err-check_keys-clause-put c = grind (arith, keys_of-members, keys_rise)
 
 pub returns-then-count-len-clause-put : goal.returns-then-count-len-clause-put
-returns-then-count-len-clause-put c = λ form t around whole h is w.
-    let k = all_keys_stay form t _ h _ around whole w c.args.count c.len.result is (c.len.ensures.count form) c.if-count-len.true in
-    c.in_ok-copy.ensures.copied form k.names (values_kept t) around whole k.hold k.coming
+returns-then-count-len-clause-put c = grind (arith, keys_of-members, all_keys, many_texts, values_of-stripped, length-values_of, many_keys)
 
 pub returns-clause-put : goal.returns-clause-put
 returns-clause-put c = λ form t around whole h is w.

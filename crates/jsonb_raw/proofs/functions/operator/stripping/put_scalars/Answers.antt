@@ -1,11 +1,11 @@
-use Rattle.jsonb_raw.proofs.Common.{arith, sym, ◌∙◌, Container, same_kind, other_kind}
+use Rattle.jsonb_raw.proofs.Common.{rules, arith, sym, ◌∙◌, Container, same_kind, other_kind}
 use Rattle.jsonb_raw.proofs.AnswerLemmas.{failed}
 use Rattle.jsonb_raw.proofs.RunLemmas.{no_entry_left, entry_taken}
 use Rattle.jsonb_raw.proofs.StripWalk.{scalars_begun, scalar_kept, container_next, null_next, no_value_left}
 use Rattle.jsonb_raw.proofs.functions.operator.stripping.put_scalars.Goals as goal
 
 pub loop-entry-init : goal.loop-entry-init
-loop-entry-init c = record { room = omega arith; values = λ form ts around whole h w. scalars_begun form c.args.left.is_object _ _ around whole ts h w }
+loop-entry-init c = search (rules, scalars_begun)
 
 pub returns-in_err-entry-clause-put : goal.returns-in_err-entry-clause-put
 returns-in_err-entry-clause-put c = λ form ts around whole h w.
@@ -27,11 +27,7 @@ returns-then-eq-clause-put c = λ form ts around whole h w.
 
 pub loop-entry-preserved-else-eq : goal.loop-entry-preserved-else-eq
 loop-entry-preserved-else-eq c = record {
-  room =
-      let fewer = rw c.in-Some.is at c.in_ok-entry.ensures.fewer in
-      let room = rw c.in-Some.is at c.in_ok-entry.ensures.room in
-      let before = c.loop-entry.invariant.room in
-      omega (arith, fewer, room, before);
+  room = grind arith;
   values = λ form ts around whole h w.
       let o = c.loop-entry.invariant.values form ts around whole h w in
       let f = entry_taken form _ o.trees _ _ _ c.in-Some.is (c.in_ok-entry.ensures.first form _ o.holding.left_hold) in
@@ -42,11 +38,7 @@ loop-entry-preserved-else-eq c = record {
 
 pub loop-entry-preserved : goal.loop-entry-preserved
 loop-entry-preserved c = record {
-  room =
-      let fewer = rw c.in-Some.is at c.in_ok-entry.ensures.fewer in
-      let room = rw c.in-Some.is at c.in_ok-entry.ensures.room in
-      let before = c.loop-entry.invariant.room in
-      omega (arith, fewer, room, before);
+  room = grind arith;
   values = λ form ts around whole h w.
       let o = c.loop-entry.invariant.values form ts around whole h w in
       let f = entry_taken form _ o.trees _ _ _ c.in-Some.is (c.in_ok-entry.ensures.first form _ o.holding.left_hold) in

@@ -1,4 +1,4 @@
-use Rattle.jsonb_raw.proofs.Common.{ℕ, Vec, Global, [], ◌∷◌, arith, inl, refl, ap, ◌∙◌, subst, Decodes, IsOutOfMemoryOrTooLarge, Around, IsWriting, strip, stripped, pushed, popped, none_around, empty_of, only_ok}
+use Rattle.jsonb_raw.proofs.Common.{rules, ℕ, Vec, Global, [], ◌∷◌, arith, inl, refl, ap, ◌∙◌, subst, Decodes, IsOutOfMemoryOrTooLarge, Around, IsWriting, strip, stripped, pushed, popped, none_around, empty_of, only_ok}
 use Rattle.jsonb_raw.proofs.AnswerLemmas.{failed}
 use Rattle.jsonb_raw.proofs.StripWalk.{rooms-pushed}
 use Rattle.jsonb_raw.proofs.functions.operator.stripping.strip_container.Goals as goal
@@ -51,17 +51,4 @@ pub walk-smaller : goal.walk-smaller
 walk-smaller c = omega (arith, rooms-pushed _ _ _ c.in-Some-pop.ensures.items)
 
 pub walk-preserved : goal.walk-preserved
-walk-preserved c = λ form t h.
-    let s = c.walk.invariant form t h in
-    let done = rw c.in-None.is at (c.in_ok-container.ensures.put form s.begun.trees s.outside (strip t) s.begun.holds s.begun.writing) in
-    let p = popped _ _ _ c.in-Some-pop.outer s.outside s.are_left c.in-Some-pop.ensures.items in
-    let closed = subst (λ (os : Around). IsWriting form c.put_scalars.new.writer [] os (strip t)) (p.2 ∙ ap (λ o. o ∷ p.1) p.3.2) done in
-    record {
-      outside = p.1;
-      are_left = p.4;
-      begun = record {
-        trees = p.3.0;
-        holds = p.3.1;
-        writing = c.in_ok-leave-in-None.ensures.left form (stripped c.in-Some-pop.outer.left.is_object p.3.0) p.1 (strip t) closed;
-      };
-    }
+walk-preserved c = search (rules, popped)

@@ -1,5 +1,5 @@
-use Rattle.jsonb_raw.proofs.Common.{rules, arith, true, false, ◌++◌, ◌∷◌, [], None, ◌≡◌, refl, sym, ◌∙◌, FnReturnsAt, texts, texts_of_trees, texts_of_pairs}
-use Rattle.jsonb_raw.proofs.TextLemmas.{told_none, told_alone, told_first, told_head, told_after, leaves_all, leaves_after, leaves_aside, leaves_told, text_stored, no_texts}
+use Rattle.jsonb_raw.proofs.Common.{rules, arith, true, false, ◌++◌, ◌∷◌, [], None, ◌≡◌, refl, FnReturnsAt, texts, texts_of_trees, texts_of_pairs}
+use Rattle.jsonb_raw.proofs.TextLemmas.{told_none, told_alone, told_first, told_head, told_after, leaves_all, leaves_after, leaves_aside, leaves_told, text_stored}
 use Rattle.jsonb_raw.proofs.EntriesLeft.{none_yet, SomeEntries-first, SomeEntries-error, SomeEntries-none, SomePairEntries-first, SomePairEntries-error, SomePairEntries-none}
 use Rattle.jsonb_raw.proofs.functions.operator.traverse.+texts.Goals as goal
 
@@ -13,10 +13,7 @@ any_text_in_item-returns-then-told-clause-told g t c = λ form tree stands.
 pub any_text_in_item-loop-told-preserved : goal.any_text_in_item-loop-told-preserved
 any_text_in_item-loop-told-preserved g t c = record {
   shorter = let size = rw c.in-Some.is at c.in_ok-told.ensures.less in omega (arith, size, c.loop-told.invariant.shorter);
-  left = λ form tree stands.
-      let l = c.loop-told.invariant.left form tree stands in
-      let m = rw (c.if-told.false, c.in-Some.is) at (c.in_ok-told.ensures.told form l.0 l.1) in
-      (m.0, m.1, λ b k. l.2 b (m.2 b k));
+  left = λ form tree stands. grind arith;
 }
 
 pub search_item_but_largest-returns-in-String-clause-told : goal.search_item_but_largest-returns-in-String-clause-told
@@ -40,17 +37,10 @@ search_item_but_largest-returns-in-Object-clause-told g t c = λ form tree stand
 -- ---- entries
 
 pub any_text_in_entry-returns-then-is_text-clause-told : goal.any_text_in_entry-returns-then-is_text-clause-told
-any_text_in_entry-returns-then-is_text-clause-told g t c = λ form tree stored.
-    let is = text_stored form c.args.entry.now tree stored (sym c.is_text.ensures ∙ c.if-is_text.true) in
-    let told : FnReturnsAt g.F.Fn c.args.func.now c.args.entry.now.content.now c.func.result = record
-    { shown = c.args.entry.now.content; shows = refl; says = record { met = c.func.ensures } } in
-    rw is (told_alone g.F.Fn c.args.func.now _ c.func.result told)
+any_text_in_entry-returns-then-is_text-clause-told g t c = grind (arith, text_stored, told_alone)
 
 pub any_text_in_entry-returns-then-not-is_container-clause-told : goal.any_text_in_entry-returns-then-not-is_container-clause-told
-any_text_in_entry-returns-then-not-is_container-clause-told g t c = λ form tree stored.
-    let none = no_texts form c.args.entry.now tree stored (sym c.is_text.ensures ∙ c.if-is_text.false)
-    (sym c.is_container.ensures ∙ c.if-not-is_container.true) in
-    rw none (told_none g.F.Fn c.args.func.now)
+any_text_in_entry-returns-then-not-is_container-clause-told c = search (rules, told_none)
 
 -- ---- arrays
 
@@ -61,11 +51,7 @@ pub array_tells-loop-entry-init : goal.array_tells-loop-entry-init
 array_tells-loop-entry-init g t c = record {
   size = tt;
   room = search rules;
-  left = λ form ts d. record {
-    trees = ts;
-    left = rw c.into_iter-entry-iterator.ensures.into_iter_gives (c.in_ok-entry-items.ensures.decodes form ts d);
-    fact = leaves_all g.F.Fn c.args.func.now form (texts_of_trees ts);
-  };
+  left = λ form ts d. search (leaves_all, c.into_iter-entry-iterator.ensures.into_iter_gives, c.in_ok-entry-items.ensures.decodes, g.F.Fn);
 }
 
 pub array_tells-loop-entry-preserved : goal.array_tells-loop-entry-preserved
@@ -113,8 +99,7 @@ array_tells-loop-entry-preserved-then-is_container_longer_than g t c =
           (λ first rest left stored fact. record {
             trees = rest;
             left = left;
-            fact = leaves_aside g.F.Fn c.args.func.now form
-                (texts_of_trees ts) c.in_ok-item.field-0 first (texts_of_trees rest) (c.in_ok-item.ensures.decodes form first stored.content) fact;
+            fact = search (leaves_aside, g.F.Fn, c.in_ok-item.field-0, c.in_ok-item.ensures.decodes);
           });
     }
 
@@ -127,11 +112,7 @@ pub object_tells-loop-pair-init : goal.object_tells-loop-pair-init
 object_tells-loop-pair-init g t c = record {
   size = tt;
   room = search rules;
-  left = λ form ps d. record {
-    pairs = ps;
-    left = rw c.into_iter-pair-iterator.ensures.into_iter_gives (c.in_ok-pair-items.ensures.decodes form ps d);
-    fact = leaves_all g.F.Fn c.args.func.now form (texts_of_pairs ps);
-  };
+  left = λ form ps d. search (leaves_all, c.into_iter-pair-iterator.ensures.into_iter_gives, c.in_ok-pair-items.ensures.decodes, g.F.Fn);
 }
 
 pub object_tells-returns-in_err-key-clause-told : goal.object_tells-returns-in_err-key-clause-told

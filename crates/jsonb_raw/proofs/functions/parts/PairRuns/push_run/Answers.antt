@@ -10,7 +10,4 @@ returns-in_err-push_run-2-clause-pushed c = λ form xs ys h.
     failed _ _ _ c.from_residual-in_err-push_run-2.ensures.1 (c.in_err-push_run-2.ensures.pushed form _ _ h.parts)
 
 pub returns-clause-pushed : goal.returns-clause-pushed
-returns-clause-pushed c = λ form xs ys h. record {
-  names = c.in_ok-push_run.ensures.pushed form _ _ h.names;
-  parts = c.in_ok-push_run-2.ensures.pushed form _ _ h.parts;
-}
+returns-clause-pushed c = λ form xs ys h. search (c.in_ok-push_run.ensures.pushed, c.in_ok-push_run-2.ensures.pushed)

@@ -1,4 +1,4 @@
-use Rattle.jsonb_raw.proofs.Common.{◌≡◌, true, false, not, filter, refl, sym, ◌∙◌, elements, is_text, front_whole}
+use Rattle.jsonb_raw.proofs.Common.{rules, ◌≡◌, true, false, not, filter, refl, sym, ◌∙◌, elements, is_text, front_whole}
 use Rattle.jsonb_raw.proofs.AnswerLemmas.{failed}
 use Rattle.jsonb_raw.proofs.IteratorItems.{SomeElements-error, SomeElements-none, elements_begun, elements_pushed, elements_refused, elements_skipped}
 use Rattle.jsonb_raw.proofs.functions.path.child.array_without_text.Goals as goal
@@ -7,9 +7,7 @@ pub returns-in_err-elements-clause-deleted : goal.returns-in_err-elements-clause
 returns-in_err-elements-clause-deleted c = λ form ts d. absurd (c.in_err-elements.ensures.decodes form ts d)
 
 pub loop-element-init : goal.loop-element-init
-loop-element-init c = λ form ts d.
-    elements_begun form (λ left. filter (λ t. not (is_text c.args.name.now t))
-    (elements left)) _ ts _ _ _ refl c.into_iter-element-iterator.ensures.into_iter_gives (c.in_ok-elements.ensures.decodes form ts d) c.new-builder.ensures
+loop-element-init c = search (rules, elements_begun)
 
 pub returns-in_err-element-clause-deleted : goal.returns-in_err-element-clause-deleted
 returns-in_err-element-clause-deleted c = λ form ts d.
@@ -37,6 +35,4 @@ loop-element-preserved c = λ form ts d.
     (λ t rest stands. let same : is_text c.args.name.now t ≡ true = sym (c.is_text.ensures form t stands) ∙ c.if-not-is_text.false in rw same refl)
 
 pub returns-clause-deleted : goal.returns-clause-deleted
-returns-clause-deleted c = λ form ts d.
-    rw c.new.ensures (c.in_ok-build.ensures.decodes form _
-    (front_whole form _ _ (SomeElements-none form _ _ _ c.in-None.ensures.steps (c.loop-element.invariant form ts d))))
+returns-clause-deleted c = search (rules, front_whole, SomeElements-none)

@@ -1,14 +1,11 @@
-use Rattle.jsonb_raw.proofs.Common.{drop, refl, err_from_is_err_and}
+use Rattle.jsonb_raw.proofs.Common.{rules, drop, err_from_is_err_and}
 use Rattle.jsonb_raw.proofs.ChildAnswers.{no_such_element}
 use Rattle.jsonb_raw.proofs.ChildLemmas.{split_at}
 use Rattle.jsonb_raw.proofs.RunLemmas.{entry_taken, no_entry_left}
 use Rattle.jsonb_raw.proofs.functions.path.child.element_document.Goals as goal
 
 pub returns-in_default-clause-found : goal.returns-in_default-clause-found
-returns-in_default-clause-found c = λ form ts h.
-    let parts = c.in_ok-back.ensures.split form ts h in
-    let none = no_entry_left form _ (drop c.args.index ts) _ c.in_default.is (c.in_ok-entry.ensures.first form _ parts.1) in
-    rw (no_such_element ts c.args.index none) refl
+returns-in_default-clause-found c = search (rules, no_entry_left, no_such_element)
 
 pub returns-in_err-found_document-clause-found : goal.returns-in_err-found_document-clause-found
 returns-in_err-found_document-clause-found c = λ form ts h.
@@ -18,7 +15,4 @@ returns-in_err-found_document-clause-found c = λ form ts h.
     rw (p.1, p.2, (split_at ts c.args.index f.t f.rest f.split).at) (c.in_err-found_document.ensures.document form f.t f.is_first.part)
 
 pub returns-clause-found : goal.returns-clause-found
-returns-clause-found c = λ form ts h.
-    let parts = c.in_ok-back.ensures.split form ts h in
-    let f = entry_taken form _ (drop c.args.index ts) _ _ _ c.in-Some.is (c.in_ok-entry.ensures.first form _ parts.1) in
-    rw (split_at ts c.args.index f.t f.rest f.split).at (c.in_ok-found_document.ensures.document form f.t f.is_first.part)
+returns-clause-found c = search (rules, entry_taken, split_at)

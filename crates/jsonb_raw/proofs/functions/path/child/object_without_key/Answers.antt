@@ -1,4 +1,4 @@
-use Rattle.jsonb_raw.proofs.Common.{◌≡◌, Some, None, not, sym, ◌∙◌, position, bytes_eq, keys_of, object, members, pairs_of-members, decoded_members}
+use Rattle.jsonb_raw.proofs.Common.{◌≡◌, Some, None, not, sym, ◌∙◌, position, bytes_eq, keys_of, object, members, pairs_of-members, decoded_members, arith}
 use Rattle.jsonb_raw.proofs.NamedPairs.{AreKeys-filter, all_stay, one_goes}
 use Rattle.jsonb_raw.proofs.functions.path.child.object_without_key.Goals as goal
 
@@ -26,6 +26,5 @@ returns-clause-deleted c = λ form ps d.
 pub returns-in_default-2-clause-deleted : goal.returns-in_default-2-clause-deleted
 returns-in_default-2-clause-deleted c = λ form ps d.
     let h = rw c.in-Some.is at (c.in_ok-pairs.ensures.entries form (object ps) d) in
-    let found : position (λ key. bytes_eq key c.args.name.now) (keys_of (members ps)) ≡ None =
-    rw (← c.as_bytes.ensures.value) (sym (c.in_ok-position.ensures.position form (keys_of (members ps)) h.names) ∙ c.in_default-2.is) in
+    let found : position (λ key. bytes_eq key c.args.name.now) (keys_of (members ps)) ≡ None = grind arith in
     rw (c.new.ensures, c.in_ok-from_slice.ensures.items, all_stay c.args.name.now (members ps) found, pairs_of-members ps) d

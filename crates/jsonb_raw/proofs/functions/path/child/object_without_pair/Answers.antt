@@ -1,5 +1,4 @@
-use Rattle.jsonb_raw.proofs.Common.{keys_rise}
-use Rattle.std.specs.List.{remove}
+use Rattle.jsonb_raw.proofs.Common.{keys_rise, remove}
 use Rattle.jsonb_raw.proofs.ChildAnswers.{drop_one_more}
 use Rattle.jsonb_raw.proofs.RunLemmas.{two_runs}
 use Rattle.jsonb_raw.proofs.NamedPairs.{names_around, values_around}

@@ -1,7 +1,8 @@
-use Rattle.jsonb_raw.proofs.Common.{◌≡◌, ◌+◌, ◌∙◌, refl, sym, ap, rules}
+use Rattle.jsonb_raw.proofs.Common.{◌≡◌, ◌+◌, ◌∙◌, refl, sym, ap, rules, arith}
 use Rattle.jsonb_raw.proofs.ChildAnswers.{decided}
-use Rattle.jsonb_raw.proofs.NamedPairs.{found_behind_both, both_here, both_other, both_further, both_nowhere}
+use Rattle.jsonb_raw.proofs.NamedPairs.{found_behind_both, both_other, both_further}
 use Rattle.jsonb_raw.proofs.RunLemmas.{text_first, no_text_left}
+use Rattle.jsonb_raw.proofs.PositionLemmas.{position-cons}
 use Rattle.jsonb_raw.proofs.functions.path.child.position_ignoring_case.Goals as goal
 use Rattle.jsonb_raw.proofs.functions.path.child.position_ignoring_case.Goals.{then-eq_ignore_ascii_case+else-eq, else-eq_ignore_ascii_case}
 
@@ -9,7 +10,7 @@ pub returns-then-eq-clause-position : goal.returns-then-eq-clause-position
 returns-then-eq-clause-position c = λ form ks h.
     let i = c.loop-key.invariant.left form ks h in
     let f = text_first form _ i.0 _ _ _ c.in-Some.is (c.in_ok-key.ensures.first form _ i.1) in
-    both_here c.loop-key.passed c.loop-key.in_other_case c.args.name.now _ i.0 f.rest _ f.split (sym c.eq.ensures ∙ c.if-eq.true) i.2
+    (grind (arith, position-cons, f.split, sym c.eq.ensures ∙ c.if-eq.true, i.2))
 
 pub loop-key-preserved : goal.loop-key-preserved
 loop-key-preserved c = record {
@@ -32,7 +33,4 @@ loop-key-preserved c = record {
 }
 
 pub returns-clause-position : goal.returns-clause-position
-returns-clause-position c = λ form ks h.
-    let i = c.loop-key.invariant.left form ks h in
-    both_nowhere c.loop-key.passed c.loop-key.in_other_case c.args.name.now i.0 _
-    (no_text_left form _ i.0 _ c.in_default.is (c.in_ok-key.ensures.first form _ i.1)) i.2
+returns-clause-position c = grind (arith, no_text_left)

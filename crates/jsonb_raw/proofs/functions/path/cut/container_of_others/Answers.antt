@@ -1,18 +1,13 @@
-use Rattle.jsonb_raw.proofs.Common.{◌++◌, [], List, refl, sym, ap, subst, ◌∙◌, Tree, Make, zero_of}
-use Rattle.std.specs.List.{remove}
+use Rattle.jsonb_raw.proofs.Common.{rules, ◌++◌, sym, ◌∙◌, zero_of, arith, remove}
 use Rattle.jsonb_raw.proofs.CutLemmas.{held_around, no_trees_held, none_left}
-use Rattle.jsonb_raw.proofs.functions.path.cut.container_of_others.Goals as goal
 use Rattle.jsonb_raw.proofs.RunLemmas.{two_runs}
+use Rattle.jsonb_raw.proofs.functions.path.cut.container_of_others.Goals as goal
 
 pub returns-in_err-keys-clause-container : goal.returns-in_err-keys-clause-container
-returns-in_err-keys-clause-container c = λ form names front after n t names_hold front_hold after_hold passed makes.
-    absurd (c.in_err-keys.ensures.around form names names_hold)
+returns-in_err-keys-clause-container c = grind arith
 
 pub returns-then-is_empty-clause-container : goal.returns-then-is_empty-clause-container
-returns-then-is_empty-clause-container c = λ form names front after n t names_hold front_hold after_hold passed makes.
-    c.in_ok-made.ensures.container form [] (front ++ after) t refl (two_runs form _ _ _ _ front_hold after_hold)
-    (subst (λ (us : List Tree). Make c.args.parent.now.kind c.args.parent.now.others (us ++ (front ++ after)) t)
-    (ap (λ (us : List Tree). remove us n) (no_trees_held form _ names names_hold (zero_of _ c.if-is_empty.ensures)) ∙ none_left n) makes)
+returns-then-is_empty-clause-container c = search (rules, two_runs, no_trees_held, zero_of, none_left)
 
 pub returns-clause-container : goal.returns-clause-container
 returns-clause-container c = λ form names front after n t names_hold front_hold after_hold passed makes.

@@ -1,4 +1,4 @@
-use Rattle.jsonb_raw.proofs.Common.{◌≡◌, ◌≤◌, ◌+◌, ◌++◌, ◌∷◌, length, take, drop, suc, arith, refl, sym, ap, subst, ◌∙◌, reverse, err_from_is_err_and, Rooms, HasRoom, head_size, pushed, change_child, remove_at, children, children_kept, contents_size, size, sizes, rooms_after}
+use Rattle.jsonb_raw.proofs.Common.{rules, ◌≡◌, ◌≤◌, ◌+◌, ◌++◌, ◌∷◌, length, take, drop, suc, arith, refl, sym, ap, subst, ◌∙◌, reverse, err_from_is_err_and, Rooms, HasRoom, head_size, pushed, change_child, remove_at, children, children_kept, contents_size, size, sizes, rooms_after}
 use Rattle.jsonb_raw.proofs.Lists.{drop_first, none_behind}
 use Rattle.jsonb_raw.specs.Private.Cuts.{entries_kept}
 use Rattle.jsonb_raw.proofs.CutLemmas.{makes_kept, opens_next, opens_none, kept_at_most, head_less, room_less, rooms_pushed, opening_begun, all_behind}
@@ -32,8 +32,7 @@ returns-clause-written c = λ form t end n ns led.
     }
 
 pub returns-clause-room : goal.returns-clause-room
-returns-clause-room c =
-    c.in_ok-put_others.ensures.room (rooms_after (reverse c.loop-index.around.items)) (room_less _ _ _ _ (omega arith) c.loop-index.invariant.room)
+returns-clause-room c = search (rules, room_less)
 
 pub loop-index-preserved : goal.loop-index-preserved
 loop-index-preserved c =

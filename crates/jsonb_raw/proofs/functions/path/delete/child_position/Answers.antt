@@ -1,12 +1,9 @@
-use Rattle.jsonb_raw.proofs.Common.{rules, w32, ◌∙◌, SFits, to_z-of_z}
-use Rattle.jsonb_raw.proofs.PositionLemmas.{of_array, of_object, of_neither, met_in_array, name_at_array, met_in_object, met_by_index, asked_quoted, asked_plain}
+use Rattle.jsonb_raw.proofs.Common.{arith, rules, w32, ◌∙◌, SFits, to_z-of_z}
+use Rattle.jsonb_raw.proofs.PositionLemmas.{of_array, of_object, met_in_object, met_by_index}
 use Rattle.jsonb_raw.proofs.functions.path.delete.child_position.Goals as goal
 
 pub returns-in-Array-Index-clause-position : goal.returns-in-Array-Index-clause-position
-returns-in-Array-Index-clause-position c = λ form t h.
-    let fits : SFits w32 c.in-Array-Index.index = search rules in
-    met_in_array form _ c.in-Array-Index.index t c.args.container.now c.args.step.now _ (to_z-of_z w32 c.in-Array-Index.index fits) c.in-Array-Index.is-1
-    (of_array form t c.args.container.now c.in-Array-Index.is-0 h) (c.element_position.ensures form)
+returns-in-Array-Index-clause-position c = grind (arith, rules, to_z-of_z, of_array)
 
 pub returns-in-Object-Index-clause-position : goal.returns-in-Object-Index-clause-position
 returns-in-Object-Index-clause-position c = λ form t h.
@@ -17,19 +14,17 @@ returns-in-Object-Index-clause-position c = λ form t h.
 pub returns-in-Object-QuotedName-clause-position : goal.returns-in-Object-QuotedName-clause-position
 returns-in-Object-QuotedName-clause-position c = λ form t h.
     met_in_object form t c.args.container.now c.args.step.now _ _
-    (asked_quoted _ _ c.args.step.now (c.as_bytes.ensures.value ∙ c.as_str.ensures.value) c.in-Object-QuotedName.is-1)
+    (rw c.in-Object-QuotedName.is-1 (c.as_bytes.ensures.value ∙ c.as_str.ensures.value))
     (of_object form t c.args.container.now c.in-Object-QuotedName.is-0 h) (c.name_position.ensures.position form)
 
 pub returns-in-Object-Name-clause-position : goal.returns-in-Object-Name-clause-position
 returns-in-Object-Name-clause-position c = λ form t h.
     met_in_object form t c.args.container.now c.args.step.now _ _
-    (asked_plain _ _ c.args.step.now (c.as_bytes-in-Object-Name.ensures.value ∙ c.as_str-in-Object-Name.ensures.value) c.in-Object-Name.is-1)
+    (rw c.in-Object-Name.is-1 (c.as_bytes-in-Object-Name.ensures.value ∙ c.as_str-in-Object-Name.ensures.value))
     (of_object form t c.args.container.now c.in-Object-Name.is-0 h) (c.name_position-in-Object-Name.ensures.position form)
 
 pub returns-in_default-clause-position : goal.returns-in_default-clause-position
-returns-in_default-clause-position c = λ form t h.
-    name_at_array form t c.args.container.now c.args.step.now c.in_default.not-Index-1 (of_array form t c.args.container.now c.in_default.is-0 h)
+returns-in_default-clause-position c = grind (arith, of_array)
 
 pub returns-in_default-2-clause-position : goal.returns-in_default-2-clause-position
-returns-in_default-2-clause-position c = λ form t h.
-    absurd (of_neither form t c.args.container.now c.in_default.is-0 h)
+returns-in_default-2-clause-position c = grind arith

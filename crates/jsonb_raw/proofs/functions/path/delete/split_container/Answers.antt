@@ -1,4 +1,4 @@
-use Rattle.jsonb_raw.proofs.Common.{◌+◌, arith, refl, ap₂, err_from_is_err_and, key_view, children}
+use Rattle.jsonb_raw.proofs.Common.{rules, ◌+◌, arith, refl, ap₂, err_from_is_err_and, key_view, children}
 use Rattle.jsonb_raw.proofs.CutLemmas.{values_hold, child_taken, no_entries, no_children, no_position, no_child, step_into}
 use Rattle.jsonb_raw.proofs.functions.path.delete.split_container.Goals as goal
 
@@ -6,29 +6,19 @@ pub returns-in_err-entries-clause-child : goal.returns-in_err-entries-clause-chi
 returns-in_err-entries-clause-child c = λ form t d. absurd (c.in_err-entries.ensures.entries form t d)
 
 pub returns-in_default-clause-child : goal.returns-in_default-clause-child
-returns-in_default-clause-child c = λ form t d.
-    no_children form t (key_view c.args.step.now) (no_entries form t (rw c.in_default.is at (c.in_ok-entries.ensures.entries form t d)))
+returns-in_default-clause-child c = search (rules, no_children, no_entries)
 
 pub returns-in_err-position-clause-child : goal.returns-in_err-position-clause-child
-returns-in_err-position-clause-child c = λ form t d.
-    let e = err_from_is_err_and c.from_residual-in_err-position.result c.from_residual-in_err-position.ensures.1 in
-    let h = rw c.in-Some.is at (c.in_ok-entries.ensures.entries form t d) in
-    rw (e.1, e.2) (c.in_err-position.ensures.position form t h)
+returns-in_err-position-clause-child c = grind (arith, err_from_is_err_and)
 
 pub returns-in_default-2-clause-child : goal.returns-in_default-2-clause-child
-returns-in_default-2-clause-child c = λ form t d.
-    let h = rw c.in-Some.is at (c.in_ok-entries.ensures.entries form t d) in
-    no_position form t (key_view c.args.step.now) (rw c.in_default-2.is at (c.in_ok-position.ensures.position form t h))
+returns-in_default-2-clause-child c = grind (arith, no_position)
 
 pub returns-in_err-front-clause-child : goal.returns-in_err-front-clause-child
-returns-in_err-front-clause-child c = λ form t d.
-    let h = rw c.in-Some.is at (c.in_ok-entries.ensures.entries form t d) in
-    absurd (c.in_err-front.ensures.split form (children t) (values_hold form t c.in-Some.entries h))
+returns-in_err-front-clause-child c = search (rules, values_hold)
 
 pub returns-in_err-child-clause-child : goal.returns-in_err-child-clause-child
-returns-in_err-child-clause-child c = λ form t d.
-    let h = rw c.in-Some.is at (c.in_ok-entries.ensures.entries form t d) in
-    let parts = c.in_ok-front.ensures.split form (children t) (values_hold form t c.in-Some.entries h) in absurd (c.in_err-child.ensures.first form _ parts.1)
+returns-in_err-child-clause-child c = search (rules, values_hold)
 
 pub returns-in_default-3-clause-child : goal.returns-in_default-3-clause-child
 returns-in_default-3-clause-child c = λ form t d.
@@ -48,12 +38,4 @@ returns-clause-child c = λ form t d.
     (ap₂ (λ a b. a + b) (c.len.ensures.count form _ parts.0) (c.len-2.ensures.count form _ f.after_hold))
 
 pub returns-clause-short : goal.returns-clause-short
-returns-clause-short c =
-    let within = rw c.in-Some.is at c.in_ok-entries.ensures.size in
-    let taken = rw c.in-Some-3.is at c.in_ok-child.ensures.room in
-    let fewer = rw c.in-Some-3.is at c.in_ok-child.ensures.fewer in
-    let short = rw c.in-Some-3.is at c.in_ok-child.ensures.short in
-    let room = c.in_ok-front.ensures.room in
-    let count = c.len.result + c.len-2.result + 1 in
-    let fit = within.fit count (omega (arith, c.len.ensures.bound, c.len-2.ensures.bound, fewer, room.0)) in
-    (omega (arith, fit, taken, room.1), short)
+returns-clause-short c = grind arith

@@ -1,5 +1,4 @@
-use Rattle.jsonb_raw.proofs.Common.{rules, sym, ◌∙◌, append-nil, names_of}
-use Rattle.jsonb_raw.proofs.NameBlockLemmas.{names_decide}
+use Rattle.jsonb_raw.proofs.Common.{rules, sym, ◌∙◌, append-nil, names_of, arith, list_any-append, list_all-append}
 use Rattle.jsonb_raw.proofs.functions.path.exists.elements_decide.Goals as goal
 
 pub returns-in_err-add_name-clause-has : goal.returns-in_err-add_name-clause-has
@@ -7,7 +6,7 @@ returns-in_err-add_name-clause-has g c = λ left tells form ss h. absurd (c.in_e
 
 pub returns-then-branch-clause-has : goal.returns-then-branch-clause-has
 returns-then-branch-clause-has g c = λ left tells form ss h.
-    sym (names_decide ss (names_of c.loop-name.block) _ c.args.found (c.in_ok-add_name.ensures.told form ss h c.if-branch.true))
+    sym (grind (arith, list_any-append, list_all-append, c.in_ok-add_name.ensures.told form ss h c.if-branch.true))
     ∙ c.loop-name.invariant.left left tells form ss h
 
 pub loop-name-preserved : goal.loop-name-preserved

@@ -1,6 +1,5 @@
-use Rattle.jsonb_raw.proofs.Common.{refl, keys, texts_of}
+use Rattle.jsonb_raw.proofs.Common.{arith, refl, keys, texts_of}
 use Rattle.jsonb_raw.proofs.NameBlockLemmas.{text_among}
-use Rattle.jsonb_raw.proofs.PairStepLemmas.{still_texts}
 use Rattle.jsonb_raw.proofs.functions.path.exists.texts_have.Goals as goal
 
 pub returns-in-Keys-clause-has : goal.returns-in-Keys-clause-has
@@ -15,6 +14,4 @@ returns-in-Elements-clause-has c = λ form t h.
     (rw c.as_bytes-in-Elements.ensures.value at (c.entries_have.ensures.has form (texts_of s.0) (record { trees = s.0; left = s.2; texts = refl }))))
 
 pub returns-in-Keys-clause-texts : goal.returns-in-Keys-clause-texts
-returns-in-Keys-clause-texts c = λ form t h.
-    let s = rw c.in-Keys.is at h in
-    still_texts form t s.0 _ _ s.1 (c.has.ensures.cursor form (keys s.0) s.2)
+returns-in-Keys-clause-texts c = grind arith

@@ -1,7 +1,8 @@
 use Rattle.jsonb_raw.proofs.Common.{arith, inr, [], ◌∷◌, ap, length, parts, IsKept, empty_of}
 use Rattle.jsonb_raw.proofs.AnswerLemmas.{failed}
-use Rattle.jsonb_raw.proofs.LevelLemmas.{parts_left, pushed_around, popped_around, SomeParts-first, SomeParts-none, SomeParts-error, falls_within, falls_beside, falls_done}
-use Rattle.jsonb_raw.proofs.LeafWalk.{last_of, fronts_as_many, one_more, item_leaves, walk_begun, entry_leaves, leaf_found, leaf_of_whole, part_entered, level_done, walk_done}
+use Rattle.jsonb_raw.proofs.LevelLemmas.{parts_left, pushed_around, popped_around, SomeParts-first, SomeParts-none, SomeParts-error, falls_within, falls_beside, falls_done, count_of_trees, count_of_pairs}
+use Rattle.jsonb_raw.proofs.LeafWalk.{last_of, one_more, item_leaves, walk_begun, leaf_found, leaf_of_whole, part_entered, level_done, walk_done, parts_leaves}
+use Rattle.std.proofs.lemmas.List.{length-append}
 use Rattle.jsonb_raw.proofs.functions.path.leaves.leaves_within.Goals as goal
 
 pub walk-init : goal.walk-init
@@ -43,7 +44,7 @@ walk-preserved-in-Some-3 g c = record {
       parts_left form _ _ _ (parts part.1) (rest ∷ others) entered.1 (pushed_around form _ _ _ rest others c.in_ok-push-in-Some-3.ensures.items left around)
       (part_entered (IsKept (g.P.LeafOutput.IsOf form)) c.args.ignore_array _ _ _ _ part rest others _ fact entered.0
       (c.in_ok-key-in-Some-2.ensures.name part.0 keyed)
-      (entry_leaves form _ c.args.ignore_array part.1 is entered.0) c.in_ok-push-in-Some-3-2.ensures.items));
+      (parts_leaves c.args.ignore_array part.1 (grind (arith, count_of_trees, count_of_pairs, is)) entered.0) c.in_ok-push-in-Some-3-2.ensures.items));
 }
 
 pub returns-in_err-push_leaf-in-None-2-clause-leaves : goal.returns-in_err-push_leaf-in-None-2-clause-leaves
@@ -82,7 +83,7 @@ walk-preserved g c =
     let h = last_of _ _ _ _ c.walk.invariant.as_many c.in-Some-pop.ensures.items in
     let popped = c.pop_step-index.ensures h.front h.last h.joined in
     record {
-      as_many = rw popped.0 (fronts_as_many _ _ _ _ _ _ c.walk.invariant.as_many h.joined c.in-Some-pop.ensures.items);
+      as_many = rw popped.0 (grind (arith, length-append, c.walk.invariant.as_many, h.joined, c.in-Some-pop.ensures.items));
       left = λ form t stands.
           SomeParts-none form _ _ _ _ (λ ps h. rw c.in-None.is at (c.in_ok-name.ensures.takes form ps h)) (c.walk.invariant.left form t stands)
           (λ others around fact.

@@ -1,4 +1,4 @@
-use Rattle.jsonb_raw.proofs.Common.{◌≡◌, sym, ◌∙◌, refl, MatchResult-weaker, text, number_reader, text_content}
+use Rattle.jsonb_raw.proofs.Common.{arith, ◌≡◌, sym, ◌∙◌, refl, MatchResult-weaker, text, number_reader, text_content}
 use Rattle.jsonb_raw.proofs.functions.path.leaves.push_text.Goals as goal
 
 pub returns-in-Ok-clause-leaf : goal.returns-in-Ok-clause-leaf
@@ -12,5 +12,4 @@ returns-in-Ok-clause-leaf c = λ form t content.
     }) (λ e refused. refused)
 
 pub returns-in-Err-clause-leaf : goal.returns-in-Err-clause-leaf
-returns-in-Err-clause-leaf c = λ form t content.
-    absurd (c.in-Err.ensures.cases.0 (text_content (number_reader form) 1 c.args.bytes.now t refl content).1)
+returns-in-Err-clause-leaf c = grind (arith, text_content)

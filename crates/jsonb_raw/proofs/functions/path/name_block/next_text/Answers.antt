@@ -23,7 +23,5 @@ returns-clause-takes c = λ form ss h.
 pub loop-entry-preserved : goal.loop-entry-preserved
 loop-entry-preserved c = record {
   fewer = let lower = c.in-Some.ensures.goes.on tt in omega (arith, lower.2, c.loop-entry.invariant.fewer);
-  texts = λ form ss h.
-      text_passed form _ _ ss (c.loop-entry.invariant.texts form ss h) _ _ c.in_ok-entry.was c.in-Some.ensures.steps
-      (sym c.is_text.ensures ∙ c.if-is_text.false);
+  texts = λ form ss h. grind (arith, text_passed);
 }

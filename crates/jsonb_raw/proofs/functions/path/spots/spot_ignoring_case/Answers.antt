@@ -1,15 +1,10 @@
-use Rattle.jsonb_raw.proofs.Common.{◌≡◌, true, Some, None, sym, ap, ◌∙◌, keys_of, members, named_child, position_in_some_case}
+use Rattle.jsonb_raw.proofs.Common.{rules, ◌≡◌, Some, sym, ◌∙◌, keys_of, members, position_in_some_case}
 use Rattle.jsonb_raw.proofs.NamedPairs.{named_place, named_at_none}
 use Rattle.jsonb_raw.proofs.PartedRuns.{pairs_there}
 use Rattle.jsonb_raw.proofs.functions.path.spots.spot_ignoring_case.Goals as goal
 
 pub returns-in_default-2-clause-value : goal.returns-in_default-2-clause-value
-returns-in_default-2-clause-value c = λ form t d l.
-    let o = pairs_there form t _ _ c.in-Some.is (c.in_ok-pairs.ensures.entries form t d) in
-    let at : position_in_some_case c.args.name.now (keys_of (members o.0)) ≡ None =
-    rw (← c.as_bytes.ensures.value) (sym (c.in_ok-position.ensures.position form (keys_of (members o.0)) o.2.names) ∙ c.in_default-2.is) in
-    let is : named_child c.args.name.now true t ≡ None = ap (named_child c.args.name.now true) o.1 ∙ named_at_none c.args.name.now o.0 at in
-    rw is tt
+returns-in_default-2-clause-value c = search (rules, pairs_there, named_at_none)
 
 pub returns-clause-value : goal.returns-clause-value
 returns-clause-value c = λ form t d l.

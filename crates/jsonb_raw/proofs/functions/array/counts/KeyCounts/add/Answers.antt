@@ -1,11 +1,9 @@
-use Rattle.jsonb_raw.proofs.Common.{◌∙◌, ap, sym, unwrap_or, arith}
+use Rattle.jsonb_raw.proofs.Common.{rules, ◌∙◌, ap, sym, unwrap_or, arith}
 use Rattle.jsonb_raw.proofs.ElementsSeen.{same_count, counted_new, counted_again}
 use Rattle.jsonb_raw.proofs.functions.array.counts.KeyCounts.add.Goals as goal
 
 pub returns-in_default-clause-before : goal.returns-in_default-clause-before
-returns-in_default-clause-before c =
-    let same = c.in_ok-copy.ensures.items ∙ c.as_slice.ensures.value in
-    ap (λ o. unwrap_or o 0) (sym c.in_default.is ∙ c.in_ok-before.ensures.old) ∙ same_count c.args.self.now c.in_ok-copy.copy c.args.key.now same
+returns-in_default-clause-before c = search (rules, same_count)
 
 pub returns-in_default-clause-more : goal.returns-in_default-clause-more
 returns-in_default-clause-more c = λ few other.
@@ -15,9 +13,7 @@ returns-in_default-clause-more c = λ few other.
     c.in_ok-before.ensures.updates (sym (none ∙ same_count c.args.self.now c.in_ok-copy.copy c.args.key.now same)) other
 
 pub returns-clause-before : goal.returns-clause-before
-returns-clause-before c =
-    let same = c.in_ok-copy.ensures.items ∙ c.as_slice.ensures.value in
-    ap (λ o. unwrap_or o 0) (sym c.in-Some.is ∙ c.in_ok-before.ensures.old) ∙ same_count c.args.self.now c.in_ok-copy.copy c.args.key.now same
+returns-clause-before c = search (rules, same_count)
 
 pub returns-clause-more : goal.returns-clause-more
 returns-clause-more c = λ few other.

@@ -1,4 +1,4 @@
-use Rattle.jsonb_raw.proofs.Common.{◌∙◌, ◌-◌, ap, sym, unwrap_or, rules}
+use Rattle.jsonb_raw.proofs.Common.{◌∙◌, ◌-◌, ap, unwrap_or, rules}
 use Rattle.jsonb_raw.proofs.ElementsSeen.{counted_less, counted_none}
 use Rattle.jsonb_raw.proofs.functions.array.counts.KeyCounts.decrement.Goals as goal
 
@@ -9,6 +9,4 @@ returns-in-Some-clause-less c = λ other.
     (c.saturating_sub.ensures ∙ ap (λ o. unwrap_or o 0 - 1) c.in-Some.ensures.value) other
 
 pub returns-in-None-clause-less : goal.returns-in-None-clause-less
-returns-in-None-clause-less c = λ other.
-    rw c.get_mut.follows.holds-at-none
-    (counted_none c.args.self.now c.args.key.now (ap (λ o. unwrap_or o 0) (sym c.in-None.ensures.value)) other)
+returns-in-None-clause-less c = search (rules, counted_none)

@@ -1,11 +1,10 @@
-use Rattle.jsonb_raw.proofs.Common.{◌≡◌, ◌^◌, ◌+◌, ◌<◌, ◌∷◌, length, arith, keeps}
+use Rattle.jsonb_raw.proofs.Common.{rules, ◌≡◌, ◌^◌, ◌+◌, ◌<◌, ◌∷◌, length, arith, keeps}
 use Rattle.jsonb_raw.proofs.AnswerLemmas.{failed}
 use Rattle.jsonb_raw.proofs.ElementsSeen.{follows}
 use Rattle.jsonb_raw.proofs.functions.array.seen.KeysCounted.keep_by_key.Goals as goal
 
 pub returns-in_err-write_entry_key-clause-passed : goal.returns-in_err-write_entry_key-clause-passed
-returns-in_err-write_entry_key-clause-passed c = λ form other before rest t h s.
-    failed _ _ _ c.from_residual.ensures.1 (c.in_err-write_entry_key.ensures.key form t s)
+returns-in_err-write_entry_key-clause-passed c = search (rules, failed)
 
 pub returns-clause-passed : goal.returns-clause-passed
 returns-clause-passed c = λ form other before rest t h s.

@@ -1,4 +1,4 @@
-use Rattle.jsonb_raw.proofs.Common.{◌∷◌, subst, HaveSeen}
+use Rattle.jsonb_raw.proofs.Common.{rules, ◌∷◌, subst, HaveSeen}
 use Rattle.jsonb_raw.proofs.AnswerLemmas.{answered}
 use Rattle.jsonb_raw.proofs.functions.array.seen.Seen.keep_next.Goals as goal
 
@@ -7,7 +7,4 @@ returns-in-Keys-clause-passed c = λ form other before rest t h s.
     c.keep_by_key.ensures.passed form other before rest t (subst (λ x. HaveSeen form c.args.kind x other before (t ∷ rest)) c.in-Keys.is h) s
 
 pub returns-in-Elements-clause-passed : goal.returns-in-Elements-clause-passed
-returns-in-Elements-clause-passed c = λ form other before rest t h s.
-    answered _ c.keep_by_value.result
-    (c.keep_by_value.ensures.passed form other before rest t
-    (subst (λ x. HaveSeen form c.args.kind x other before (t ∷ rest)) c.in-Elements.is h) s)
+returns-in-Elements-clause-passed c = search (rules, answered)

@@ -1,22 +1,16 @@
-use Rattle.jsonb_raw.proofs.Common.{◌∷◌, DecideFrom}
-use Rattle.jsonb_raw.proofs.PartedRuns.{first_found, first_above, first_passed, none_decides, name_taken}
+use Rattle.jsonb_raw.proofs.Common.{arith, ◌∷◌, DecideFrom, sym}
+use Rattle.jsonb_raw.proofs.PartedRuns.{first_found, first_above, first_passed, name_taken, not_below_itself}
 use Rattle.jsonb_raw.proofs.functions.object.names.SortedNames.has.Goals as goal
 
 pub returns-in_default-clause-found : goal.returns-in_default-clause-found
 returns-in_default-clause-found c = λ utf8 d.
-    none_decides c.args.self.now.names.now c.args.key.now (rw c.in_default.is at (c.loop-step.invariant.decides d))
+    (sym ((rw c.in_default.is at (c.loop-step.invariant.decides d)).agree c.args.key.now (not_below_itself c.args.key.now)))
 
 pub returns-in-Equal-clause-found : goal.returns-in-Equal-clause-found
-returns-in-Equal-clause-found c = λ utf8 d.
-    let here : DecideFrom c.args.self.now.names.now c.args.key.now (c.in-Some.name ∷ c.loop-step.self.left) =
-    rw c.in-Some.is at (c.loop-step.invariant.decides d) in
-    first_found c.args.self.now.names.now c.args.key.now c.in-Some.name _ here (rw c.as_bytes.ensures.value at c.in-Equal.ensures)
+returns-in-Equal-clause-found c = grind (arith, first_found)
 
 pub returns-in-Greater-clause-found : goal.returns-in-Greater-clause-found
-returns-in-Greater-clause-found c = λ utf8 d.
-    let here : DecideFrom c.args.self.now.names.now c.args.key.now (c.in-Some.name ∷ c.loop-step.self.left) =
-    rw c.in-Some.is at (c.loop-step.invariant.decides d) in
-    first_above c.args.self.now.names.now c.args.key.now c.in-Some.name _ here (rw c.as_bytes.ensures.value at c.in-Greater.ensures)
+returns-in-Greater-clause-found c = grind (arith, first_above)
 
 pub loop-step-preserved : goal.loop-step-preserved
 loop-step-preserved c = record {

@@ -1,9 +1,9 @@
-use Rattle.jsonb_raw.proofs.Common.{◌∙◌, sym, rules, names_left, DecideFrom}
-use Rattle.jsonb_raw.proofs.PartedRuns.{run_first, run_more, names_again, next_member, no_member_left, key_decided, key_is_utf8, same_truth}
+use Rattle.jsonb_raw.proofs.Common.{◌∙◌, sym, rules, names_left, DecideFrom, arith}
+use Rattle.jsonb_raw.proofs.PartedRuns.{run_first, run_more, next_member, no_member_left, key_decided, key_is_utf8}
 use Rattle.jsonb_raw.proofs.functions.object.names.SortedNames.next_run.Goals as goal
 
 pub returns-in_default-clause-run : goal.returns-in_default-clause-run
-returns-in_default-clause-run c = λ form ps h a d. no_member_left form _ ps _ c.in_default.is (c.in_ok-first.ensures.first form _ h)
+returns-in_default-clause-run c = search (rules, no_member_left)
 
 pub loop-key-init : goal.loop-key-init
 loop-key-init c = record {
@@ -16,12 +16,7 @@ loop-key-init c = record {
 }
 
 pub returns-then-has-is_in-clause-run : goal.returns-then-has-is_in-clause-run
-returns-then-has-is_in-clause-run c = λ form ps h a d.
-    let m = c.loop-key.invariant.run form ps h a d in
-    let n = next_member form _ m.others _ _ _ c.in-Some-2.is (c.in_ok-key.ensures.first form _ m.hold) in
-    let decided : DecideFrom c.loop-key.self.names.now c.in-Some-2.key.content.now (names_left c.loop-key.self) =
-    rw c.loop-key.invariant.names (key_decided form _ _ _ _ _ _ m _ _ n) in
-    names_again form _ _ _ _ _ _ m _ _ n _ (rw c.loop-key.invariant.names at (c.has.ensures.decides decided))
+returns-then-has-is_in-clause-run c = search (rules, next_member)
 
 pub loop-key-preserved : goal.loop-key-preserved
 loop-key-preserved c = record {
@@ -30,10 +25,9 @@ loop-key-preserved c = record {
   run = λ form ps h a d.
       let m = c.loop-key.invariant.run form ps h a d in
       let n = next_member form _ m.others _ _ _ c.in-Some-2.is (c.in_ok-key.ensures.first form _ m.hold) in
-      let decided : DecideFrom c.loop-key.self.names.now c.in-Some-2.key.content.now (names_left c.loop-key.self) =
-      rw c.loop-key.invariant.names (key_decided form _ _ _ _ _ _ m _ _ n) in
+      let decided : DecideFrom c.loop-key.self.names.now c.in-Some-2.key.content.now (names_left c.loop-key.self) = grind (arith, key_decided) in
       let found = rw c.loop-key.invariant.names at (sym (c.has.ensures.found (key_is_utf8 form _ _ _ _ _ _ m _ _ n) decided)) in
       run_more form _ _ _ _ _ _ m _ _ n _ (rw c.loop-key.invariant.names at (c.has.ensures.decides decided))
-      (found ∙ same_truth _ _ c.if-has-is_in.false);
+      (found ∙ grind (arith, c.if-has-is_in.false));
   names = c.has.ensures.names ∙ c.loop-key.invariant.names;
 }

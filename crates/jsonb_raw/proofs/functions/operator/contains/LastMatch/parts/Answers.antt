@@ -15,11 +15,7 @@ returns-then-self c = record {
 
 pub returns : goal.returns
 returns c = record {
-  parts = λ form xs h.
-      let q = c.requires.last form xs h in
-      let left = c.len.ensures form q.0 q.1 in
-      let before : c.saturating_sub.result ≡ count xs - count q.0 = omega (arith, c.saturating_sub.ensures, c.len-2.ensures form xs h, left) in
-      (q.0, xs, q.1, h, λ test. tail_whole test xs q.0 q.2.0 q.2.1 _ _ left before);
+  parts = λ form xs h. grind (arith, tail_whole);
   first = c.requires;
   second = tail_none c.args.all;
 }

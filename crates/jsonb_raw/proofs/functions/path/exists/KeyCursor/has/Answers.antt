@@ -1,4 +1,4 @@
-use Rattle.jsonb_raw.proofs.Common.{refl, sym, ◌∙◌}
+use Rattle.jsonb_raw.proofs.Common.{arith, refl, sym, ◌∙◌}
 use Rattle.jsonb_raw.proofs.PairStepLemmas.{cursor_next, cursor_meets, cursor_misses, cursor_ends, cursor_error}
 use Rattle.jsonb_raw.proofs.functions.path.exists.KeyCursor.has.Goals as goal
 
@@ -25,9 +25,7 @@ pub loop-entry-preserved : goal.loop-entry-preserved
 loop-entry-preserved c = record {
   ahead = refl;
   passed = sym c.bytes_cmp.ensures ∙ c.in-Less.is;
-  cursor = λ form ks h.
-      let n = rw c.loop-entry.invariant.ahead at c.in-Some.ensures.steps in
-      cursor_next form ks c.loop-entry.self c.next.new.self (c.loop-entry.invariant.cursor form ks h) c.in-Some.entry c.in_ok-key.field-0 c.in_ok-key.was n;
+  cursor = λ form ks h. grind (arith, cursor_next);
 }
 
 pub returns-clause-has : goal.returns-clause-has

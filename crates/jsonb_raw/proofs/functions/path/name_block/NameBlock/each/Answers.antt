@@ -1,5 +1,5 @@
 use Rattle.jsonb_raw.proofs.Common.{◌≤◌, arith, length, map, List, ℕ, ap, sym, ◌∙◌, Bor, decided_by}
-use Rattle.jsonb_raw.proofs.NameBlockLemmas.{name_decides, name_leaves, next_taken, none_taken, no_name_left}
+use Rattle.jsonb_raw.proofs.NameBlockLemmas.{name_decides, name_leaves, next_taken, none_taken}
 use Rattle.jsonb_raw.proofs.functions.path.name_block.NameBlock.each.Goals as goal
 
 pub returns-in_err-has-clause-has : goal.returns-in_err-has-clause-has
@@ -21,7 +21,7 @@ loop-at-preserved c = λ form ss h seen.
 
 pub returns-clause-has : goal.returns-clause-has
 returns-clause-has c = λ form ss h seen.
-    sym (no_name_left c.args.found ss)
+    sym (grind arith)
     ∙ ap (λ (xs : List (Bor (List ℕ))). decided_by c.args.found ss (map (λ (name : Bor (List ℕ)). name.now) xs))
     (sym (none_taken c.args.self.now.names c.args.self.now.count c.loop-at.at c.loop-at-test.false))
     ∙ c.loop-at.invariant form ss h seen

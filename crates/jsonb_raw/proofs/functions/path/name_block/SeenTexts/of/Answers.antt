@@ -1,5 +1,5 @@
-use Rattle.jsonb_raw.proofs.Common.{◌≡◌, ℕ, List, Option, Some, true, ◌∙◌, Bor, IfSome, length-set, All-set, is_one_of}
-use Rattle.jsonb_raw.proofs.NameBlockLemmas.{SomeTexts-first, first_is_one, later_is_one}
+use Rattle.jsonb_raw.proofs.Common.{◌≡◌, ℕ, List, Option, Some, true, ◌∙◌, Bor, IfSome, length-set, All-set, is_one_of, bytes_eq-same, refl}
+use Rattle.jsonb_raw.proofs.NameBlockLemmas.{SomeTexts-first, later_is_one}
 use Rattle.jsonb_raw.proofs.functions.path.name_block.SeenTexts.of.Goals as goal
 
 pub loop-text-init : goal.loop-text-init
@@ -23,7 +23,7 @@ loop-text-preserved-then-eq c = record {
       record {
         each = All-set (λ (found : Option (Bor (List ℕ))). IfSome found (λ s. is_one_of ss s.now ≡ true))
             c.loop-text.seen.texts c.in-Some-place_of.place (Some c.in-Some.text)
-            (fact c.in-Some.text.now (first_is_one c.in-Some.text.now rest)) before.each;
+            (fact c.in-Some.text.now (rw (bytes_eq-same c.in-Some.text.now) refl)) before.each;
         size = length-set c.loop-text.seen.texts c.in-Some-place_of.place (Some c.in-Some.text) ∙ before.size;
       });
   left = λ form ss h.

@@ -1,17 +1,15 @@
-use Rattle.jsonb_raw.proofs.Common.{rules, refl, ap, err_from_is_err_and, key_view, keys_view}
-use Rattle.jsonb_raw.proofs.CutLemmas.{root_value, short_more, short_all}
+use Rattle.jsonb_raw.proofs.Common.{arith, rules, ap, err_from_is_err_and, key_view, keys_view, append-nil}
+use Rattle.jsonb_raw.proofs.CutLemmas.{root_value, short_more}
 use Rattle.jsonb_raw.proofs.DeleteLemmas.{place_is}
-use Rattle.jsonb_raw.proofs.MetLemmas.{walk_begun, met_next, met_none, met_all}
-use Rattle.jsonb_raw.proofs.functions.path.delete.location.Goals as goal
+use Rattle.jsonb_raw.proofs.MetLemmas.{walk_begun, met_next, met_none}
+use Rattle.jsonb_raw.proofs.functions.path.delete.parents_of.Goals as goal
 
 pub loop-step-init : goal.loop-step-init
 loop-step-init g c = record {
   can = search rules;
   finite = search rules;
   short = rw c.new-parents.ensures.items tt;
-  left = λ left tells form t d.
-      rw c.into_iter-step-iterator.ensures.into_iter_gives
-      (walk_begun form t c.new-parents.result.items _ (keys_view (left c.args.steps)) c.new-parents.ensures.items (root_value form _ t refl d));
+  left = λ left tells form t d. search (walk_begun, root_value, c.into_iter-step-iterator.ensures.into_iter_gives);
 }
 
 pub returns-in_err-parent-clause-place : goal.returns-in_err-parent-clause-place
@@ -31,9 +29,7 @@ pub loop-step-preserved : goal.loop-step-preserved
 loop-step-preserved g c = record {
   can = search rules;
   finite = search rules;
-  short =
-      let s = rw c.in-Some-2.is at c.in_ok-parent.ensures.short in
-      short_more c.loop-step.parents.items _ c.in-Some-2.parent _ _ c.in_ok-push.ensures.items c.loop-step.invariant.short s.0 s.1;
+  short = grind (arith, short_more);
   left = λ left tells form t d.
       let w = c.loop-step.invariant.left left tells form t d in
       let steps = ap keys_view (tells _ _ _ c.in-Some.ensures.steps) in
@@ -46,7 +42,7 @@ pub returns-clause-place : goal.returns-clause-place
 returns-clause-place g c = λ left tells form t d.
     let w = c.loop-step.invariant.left left tells form t d in
     let none = ap keys_view (tells _ _ _ c.in-None.ensures.steps).0 in
-    place_is form t c.loop-step.parents _ (met_all form t _ _ _ _ none w)
+    place_is form t c.loop-step.parents _ (grind (arith, append-nil, none, w))
 
 pub returns-clause-short : goal.returns-clause-short
-returns-clause-short g c = short_all c.loop-step.parents.items _ c.loop-step.invariant.short
+returns-clause-short g c = grind arith
