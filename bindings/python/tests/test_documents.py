@@ -50,7 +50,7 @@ def random_path(source):
 
 
 class Apart(str):
-    """A text that equals only itself."""
+    """A `str` that equals only itself."""
     __eq__ = object.__eq__
     __hash__ = object.__hash__
 

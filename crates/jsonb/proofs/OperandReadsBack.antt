@@ -60,7 +60,7 @@ pub spaced_inner-text : (s : Step) (rest : List ℕ) → IsInner s → front is_
 unfolding spaced_inner
 spaced_inner-text s rest is h = spaced-reads inner (step_text s ++ rest) s rest (rw (no_space-inner s rest is) (inner-text s rest is h))
 
--- what may follow the steps of an operand, and is no further step
+-- what may follow the steps of an operand: not another step
 abbrev pub IsBehindInner : List ℕ → Type 0
 IsBehindInner rest = (front is_step_end rest ≡ true) × (begins is_inner_start (past is_space rest) ≡ false)
 
