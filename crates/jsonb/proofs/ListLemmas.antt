@@ -26,8 +26,13 @@ joined-append f (x ∷ xs) ys = grind (arith, (joined-append f xs ys), both_list
 pub steps_in_parts : (ss : List math.Step) (top : Tree) (xs ys : List Tree) → AreTotal ss
     → steps_meaning Lax (steps_of ss) top (xs ++ ys) ≡ both_lists (steps_meaning Lax (steps_of ss) top xs) (steps_meaning Lax (steps_of ss) top ys)
 steps_in_parts [] top xs ys h = refl
-steps_in_parts (s ∷ ss) top xs ys h = grind (arith, steps_in_parts ss top, joined-append (step_meaning Lax s top) xs ys, all_total (step_meaning Lax s top) (h.0 top) xs,
-    all_total (step_meaning Lax s top) (h.0 top) ys)
+steps_in_parts (s ∷ ss) top xs ys h = grind (
+  arith,
+  steps_in_parts ss top,
+  joined-append (step_meaning Lax s top) xs ys,
+  all_total (step_meaning Lax s top) (h.0 top) xs,
+  all_total (step_meaning Lax s top) (h.0 top) ys,
+)
 
 -- names of members of two lists
 members-append : (ss : List math.Step) (top : Tree) (xs ys : List Tree) → are_members ss ≡ true

@@ -104,7 +104,7 @@ pub searched_more : (expressions : Expressions) (steps : List Path) (i : ℕ) (s
     → AreAhead (take (i + 1) steps) (map (taken_step expressions) (steps_view (take (i + 1) steps))) conditions
 searched_more expressions steps i s conditions short is h =
     rw (sym (take_more steps i s short ∙ ap (λ y. take i steps ++ y ∷ []) (sym is))) at
-        (rw (sym (ap (map (taken_step expressions)) (map-append step_view (take i steps) (s ∷ []))
+    (rw (sym (ap (map (taken_step expressions)) (map-append step_view (take i steps) (s ∷ []))
     ∙ map-append (taken_step expressions) (steps_view (take i steps)) (step_view s ∷ []))) at h)
 
 pub plain_last : (expressions : Expressions) (paths : List Path) (ss : List Step) (conditions : List Condition) (path : Path)
@@ -230,7 +230,7 @@ module _ (bytes : List ℕ) (top : Tree) where
         → IsOkAnd whole (λ all. SameOption (Locates bytes) (Some x) (first_item all))
     item_found x f k = rw (sym (cut_first f
         ∙ ap (λ o. both_lists (both_lists o (steps_meaning Lax (steps_of w.rest) top f.others)) (left_over top w.others)) k.2)) at
-            (first_of_all bytes x k.0 _ _ k.1 (steps_total w.rest top f.others (all_searched ahead w.rest w.searched))
+        (first_of_all bytes x k.0 _ _ k.1 (steps_total w.rest top f.others (all_searched ahead w.rest w.searched))
         (over_total (reverse around) w.others w.left_around))
 
     pub item_passed : {P : Tree → Type 0} {Others : List Tree → Type 0} (f : First Others P w.here)

@@ -204,7 +204,7 @@ pub condition_total : (tests : List Test) (e : Expression) (top t : Tree) → Ar
 condition_total tests e top t a =
     let jump : Jump = record { left = length tests; truth = false } in
     rw (sym (from_first IsPlainQuestionOf Lax tests e top t (Some jump) jump refl refl a)) at
-        (branches_total (reverse tests) (branches_of_whole e) (Some jump) top t a)
+    (branches_total (reverse tests) (branches_of_whole e) (Some jump) top t a)
 
 -- ---- a filter whose result is determined
 
@@ -219,8 +219,14 @@ settled [] [] Lax state top t h a = refl
 settled (x ∷ xs) (b ∷ bs) Lax None top t h a =
     grind (arith, question_total x.question b.condition top t a.0.question, settled xs bs Lax None top t h a.1)
 settled (x ∷ xs) (b ∷ bs) Lax (Some jump) top t h a =
-    grind (arith, question_total x.question b.condition top t a.0.question, settled xs bs Lax (Some jump) top t h a.1, settled xs bs Lax None top t refl a.1,
-    is_closed jump h, lt-leb (length (b ∷ bs)) jump.left)
+    grind (
+      arith,
+      question_total x.question b.condition top t a.0.question,
+      settled xs bs Lax (Some jump) top t h a.1,
+      settled xs bs Lax None top t refl a.1,
+      is_closed jump h,
+      lt-leb (length (b ∷ bs)) jump.left,
+    )
 settled _ _ Lax state top t h a = absurd a
 
 -- ---- members

@@ -159,8 +159,12 @@ module _ (form : Form) (runs : PairRuns) (run left other : PairEntries) (b : Boo
           rising = f.r.1;
           other_rising = f.s.1;
           joined = cc (moved f.p (both true f.cs f.os) _
-              (cc (merged_equal f.o.0 f.o.1 f.p.0 f.p.1 f.os f.cs f.r (turned f.p.0 f.o.0 Equal (same_order Equal e)), equal_keys f.p.0 f.o.0
-                  (same_order Equal e), same_order Equal e)) j);
+              (cc (
+                merged_equal f.o.0 f.o.1 f.p.0 f.p.1 f.os f.cs f.r (turned f.p.0 f.o.0 Equal (same_order Equal e)),
+                equal_keys f.p.0 f.o.0
+                    (same_order Equal e),
+                same_order Equal e,
+              )) j);
         }
 
     module _ (runs' : PairRuns) (pushed : PairsHeld form runs' m.held) where

@@ -9,6 +9,6 @@ returns-clause-key c = λ form tree content.
     let left = all_left form tree _ all in (
       c.in_ok-push_count.ensures
           ∙ ap (λ x. c.args.out.now.items ++ x)
-              (grind (arith, count_of_trees, count_of_pairs, all, c.of_level.ensures form tree all, c.len.ensures form _ left)),
+          (grind (arith, count_of_trees, count_of_pairs, all, c.of_level.ensures form tree all, c.len.ensures form _ left)),
       left,
     )

@@ -53,5 +53,9 @@ written_value n =
     ap (λ v. v * 10 ^ length (significant (digits_of 10 n))) (sym (number_digits_of 10 n (omega arith))) ∙ significant_value (digits_of 10 n)
 
 pub returns : goal.returns
-returns c = record { first =
-    λ n h. significant_first (digits_of 10 n) (first_digits_of 10 n (omega arith) h); last = last_digit; value = λ n h. written_value n }
+returns c = record {
+  first =
+      λ n h. significant_first (digits_of 10 n) (first_digits_of 10 n (omega arith) h);
+  last = last_digit;
+  value = λ n h. written_value n;
+}

@@ -11,5 +11,16 @@ returns-clause-first c = λ form top outcome d m.
     let here : c.is_some-computed.result ≡ is_some (only_expression (path_view c.args.path.now)) =
     rw same at told in
     let first : steps_view c.deref.result.now ≡ path_view c.args.path.now = ap steps_view c.deref.ensures.value in
-    grind (arith, first_is, is_expression, no_expression, c.context_of-context.ensures.mode, c.context_of-context.ensures.document,
-    c.in_ok-selected.ensures.meant, c.deref.ensures.value, c.as_bytes-bytes.ensures, c.first_of.ensures, c.in_ok-selected.ensures.nodes)
+    grind (
+      arith,
+      first_is,
+      is_expression,
+      no_expression,
+      c.context_of-context.ensures.mode,
+      c.context_of-context.ensures.document,
+      c.in_ok-selected.ensures.meant,
+      c.deref.ensures.value,
+      c.as_bytes-bytes.ensures,
+      c.first_of.ensures,
+      c.in_ok-selected.ensures.nodes,
+    )

@@ -8,8 +8,16 @@ returns-in_err-document-clause-first c = λ form top outcome d m. grind (arith, 
 pub returns-in_err-selected-clause-first : goal.returns-in_err-selected-clause-first
 returns-in_err-selected-clause-first c = λ form top outcome d m.
     let k = c.in_ok-document.ensures.meant form top (rw (sym c.as_bytes-bytes.ensures) at d) in
-    grind (arith, handed_same, handed_refused, c.from_residual-in_err-selected.ensures.1, c.context_of-context.ensures.mode,
-    c.context_of-context.ensures.document, c.in_err-selected.ensures.meant, c.deref.ensures.value)
+    grind (
+      arith,
+      handed_same,
+      handed_refused,
+      c.from_residual-in_err-selected.ensures.1,
+      c.context_of-context.ensures.mode,
+      c.context_of-context.ensures.document,
+      c.in_err-selected.ensures.meant,
+      c.deref.ensures.value,
+    )
 
 pub returns-clause-first : goal.returns-clause-first
 returns-clause-first c = λ form top outcome d m.

@@ -14,8 +14,13 @@ returns-in-MembersCompared-clause-meant c = λ e top t q m. grind (arith, c.memb
 pub returns-in_err-found-in-MemberFound-clause-meant : goal.returns-in_err-found-in-MemberFound-clause-meant
 returns-in_err-found-in-MemberFound-clause-meant c = λ e top t q m.
     let k = rw c.in-MemberFound.is at q in
-    grind (arith, c.from_residual.ensures.1, k.finds c.args.mode top t, refused_steps (steps_view c.in-MemberFound.asked.names.now),
-    c.in_err-found-in-MemberFound.ensures.meant AreRefused top t k.members (rw c.spot_by_parts-in-MemberFound.ensures m))
+    grind (
+      arith,
+      c.from_residual.ensures.1,
+      k.finds c.args.mode top t,
+      refused_steps (steps_view c.in-MemberFound.asked.names.now),
+      c.in_err-found-in-MemberFound.ensures.meant AreRefused top t k.members (rw c.spot_by_parts-in-MemberFound.ensures m),
+    )
 
 pub returns-in_ok-found-in-MemberFound-clause-meant : goal.returns-in_ok-found-in-MemberFound-clause-meant
 returns-in_ok-found-in-MemberFound-clause-meant c = λ e top t q m.

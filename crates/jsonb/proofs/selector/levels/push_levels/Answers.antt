@@ -32,8 +32,11 @@ returns-in_err-below-in-Some-2-clause-meant c = λ u n before l m a.
     let v = leaves_passed c.args.bytes.now c.args.levels _ _ _ _ _ _ _ w
     (rw c.in-Some-2.is at (c.in_ok-container.ensures.meant c.args.bytes.now c.args.levels w.level w.here w.given
     (range_taken c.args.levels _ _ w.level _ c.of_step-range.ensures w.deep c.contains-is_taken.ensures) w.left w.done)) in
-    grind (arith, c.from_residual-in_err-below-in-Some-2.ensures.1,
-    c.in_err-below-in-Some-2.ensures.meant c.args.levels v.left.first v.level v.given c.of_step-range.ensures v.deep v.left.holds v.done)
+    grind (
+      arith,
+      c.from_residual-in_err-below-in-Some-2.ensures.1,
+      c.in_err-below-in-Some-2.ensures.meant c.args.levels v.left.first v.level v.given c.of_step-range.ensures v.deep v.left.holds v.done,
+    )
 
 pub walk-smaller-in-Some-below : goal.walk-smaller-in-Some-below
 walk-smaller-in-Some-below c =

@@ -7,10 +7,14 @@ pub returns-in_err-next-clause-meant : goal.returns-in_err-next-clause-meant
 returns-in_err-next-clause-meant c = λ expressions top t all m.
     let inv = c.loop-step.invariant expressions top t all m in
     let first = member_first c.args.steps.now c.loop-step.step-index c.step-item.result c.loop-step-test.true c.step-item.is inv.2 in
-    grind (arith, c.from_residual.ensures.1, inv.3,
-    member_next c.args.steps.now c.loop-step.step-index c.step-item.result c.loop-step-test.true c.step-item.is c.args.mode expressions top inv.0 first.0,
-    steps_meaning c.args.mode (steps_of (map (taken_step expressions) (steps_view (drop (c.loop-step.step-index + 1) c.args.steps.now)))) top,
-    c.in_err-next.ensures.meant top inv.0 first.0 inv.1)
+    grind (
+      arith,
+      c.from_residual.ensures.1,
+      inv.3,
+      member_next c.args.steps.now c.loop-step.step-index c.step-item.result c.loop-step-test.true c.step-item.is c.args.mode expressions top inv.0 first.0,
+      steps_meaning c.args.mode (steps_of (map (taken_step expressions) (steps_view (drop (c.loop-step.step-index + 1) c.args.steps.now)))) top,
+      c.in_err-next.ensures.meant top inv.0 first.0 inv.1,
+    )
 
 pub returns-in-None-clause-meant : goal.returns-in-None-clause-meant
 returns-in-None-clause-meant c = λ expressions top t all m.

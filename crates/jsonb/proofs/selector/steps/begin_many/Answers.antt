@@ -41,8 +41,17 @@ returns-in-None-clause-meant c = λ top o whole repeats r at around.
 
 pub returns-in_ok-filter-in-Some-clause-fewer : goal.returns-in_ok-filter-in-Some-clause-fewer
 returns-in_ok-filter-in-Some-clause-fewer c =
-    grind (arith, few_nodes, fewer_than, waits_weigh, c.in_ok-filter-in-Some.ensures.ok, c.in-Some.is, c.new-filter.ensures.fewer,
-    c.in_ok-pending.ensures.fewer, c.wait.ensures.waits)
+    grind (
+      arith,
+      few_nodes,
+      fewer_than,
+      waits_weigh,
+      c.in_ok-filter-in-Some.ensures.ok,
+      c.in-Some.is,
+      c.new-filter.ensures.fewer,
+      c.in_ok-pending.ensures.fewer,
+      c.wait.ensures.waits,
+    )
 
 pub returns-in-None-clause-fewer : goal.returns-in-None-clause-fewer
 returns-in-None-clause-fewer c = search (rules, few_nodes, fewer_than, beside)

@@ -8,9 +8,13 @@ use Rattle.jsonb.proofs.selector.steps.operand_values.Goals as goal
 pub returns-in_err-found-in-Paths-clause-meant : goal.returns-in_err-found-in-Paths-clause-meant
 returns-in_err-found-in-Paths-clause-meant c = λ top u r s.
     let mode = c.args.current.context.now.mode in
-    grind (arith, c.from_residual.ensures.1, paths_is c.args.e.now c.in-Paths.steps c.in-Paths.is,
-    from_start mode _ _ _ top u c.deref-in-Paths.ensures.value c.deref.ensures.value,
-    c.in_err-found-in-Paths.ensures.meant top _ r (c.start_spot-first.ensures top u r s))
+    grind (
+      arith,
+      c.from_residual.ensures.1,
+      paths_is c.args.e.now c.in-Paths.steps c.in-Paths.is,
+      from_start mode _ _ _ top u c.deref-in-Paths.ensures.value c.deref.ensures.value,
+      c.in_err-found-in-Paths.ensures.meant top _ r (c.start_spot-first.ensures top u r s),
+    )
 
 pub returns-in_ok-found-in-Paths-clause-meant : goal.returns-in_ok-found-in-Paths-clause-meant
 returns-in_ok-found-in-Paths-clause-meant c = λ top u r s.

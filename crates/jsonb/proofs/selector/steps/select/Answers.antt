@@ -34,8 +34,11 @@ returns-in_err-progress-in-Some-clause-meant c = λ top o r g.
     let done = rw c.in-Complete.is at inv.2 in
     let w = around_popped context top c.loop-progress.around.items c.pop.new.self.items c.in-Some.frame inv.0 repeats inv.1 o
     c.in-Some.ensures.items inv.3 in
-    grind (arith, c.from_residual-in_err-progress-in-Some.ensures.1,
-    c.in_err-progress-in-Some.ensures.meant top inv.1 w.0 w.1 o repeats r w.2 w.3 (dropped inv.0 context (node_spots c.in-Complete.found) inv.1 done) w.4)
+    grind (
+      arith,
+      c.from_residual-in_err-progress-in-Some.ensures.1,
+      c.in_err-progress-in-Some.ensures.meant top inv.1 w.0 w.1 o repeats r w.2 w.3 (dropped inv.0 context (node_spots c.in-Complete.found) inv.1 done) w.4,
+    )
 
 pub loop-progress-preserved : goal.loop-progress-preserved
 loop-progress-preserved c = λ top o r g.

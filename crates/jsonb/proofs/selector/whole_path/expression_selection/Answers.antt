@@ -14,14 +14,21 @@ returns-in-Value-clause-meant c = λ form top outcome r h.
 
 pub returns-in_err-numbers-in-UnaryOp-clause-meant : goal.returns-in_err-numbers-in-UnaryOp-clause-meant
 returns-in_err-numbers-in-UnaryOp-clause-meant c = λ form top outcome r h.
-    grind (arith, c.from_residual.ensures.1,
-    meant form c.args.context.now.mode top outcome _ _ (unary_is c.args.e.now c.in-UnaryOp.op c.in-UnaryOp.operand c.in-UnaryOp.is) h,
-    c.deref-in-UnaryOp.ensures, c.in_err-numbers-in-UnaryOp.ensures.meant top r)
+    grind (
+      arith,
+      c.from_residual.ensures.1,
+      meant form c.args.context.now.mode top outcome _ _ (unary_is c.args.e.now c.in-UnaryOp.op c.in-UnaryOp.operand c.in-UnaryOp.is) h,
+      c.deref-in-UnaryOp.ensures,
+      c.in_err-numbers-in-UnaryOp.ensures.meant top r,
+    )
 
 pub returns-in_ok-numbers-in-UnaryOp-clause-meant : goal.returns-in_ok-numbers-in-UnaryOp-clause-meant
 returns-in_ok-numbers-in-UnaryOp-clause-meant c = λ form top outcome r h.
-    grind (arith, meant form c.args.context.now.mode top outcome _ _ (unary_is c.args.e.now c.in-UnaryOp.op c.in-UnaryOp.operand c.in-UnaryOp.is) h,
-    c.deref-in-UnaryOp.ensures)
+    grind (
+      arith,
+      meant form c.args.context.now.mode top outcome _ _ (unary_is c.args.e.now c.in-UnaryOp.op c.in-UnaryOp.operand c.in-UnaryOp.is) h,
+      c.deref-in-UnaryOp.ensures,
+    )
 
 pub returns-in_err-number-in-BinaryOp-clause-meant : goal.returns-in_err-number-in-BinaryOp-clause-meant
 returns-in_err-number-in-BinaryOp-clause-meant c = λ form top outcome r h.
@@ -51,8 +58,13 @@ returns-in_ok-number-in-BinaryOp-clause-meant c = λ form top outcome r h.
 pub returns-else-is_arithmetic-clause-meant : goal.returns-else-is_arithmetic-clause-meant
 returns-else-is_arithmetic-clause-meant c = λ form top outcome r h.
     let view = binary_is c.args.e.now c.in-BinaryOp.op c.in-BinaryOp.left c.in-BinaryOp.right c.in-BinaryOp.is in
-    grind (arith, meant form c.args.context.now.mode top outcome _ _ view h,
-    none_of (operation c.in-BinaryOp.op) (sym c.is_arithmetic.ensures ∙ c.if-is_arithmetic.false), view, c.whole_truth.ensures.meant form top r)
+    grind (
+      arith,
+      meant form c.args.context.now.mode top outcome _ _ view h,
+      none_of (operation c.in-BinaryOp.op) (sym c.is_arithmetic.ensures ∙ c.if-is_arithmetic.false),
+      view,
+      c.whole_truth.ensures.meant form top r,
+    )
 
 pub returns-in-ExistsFunc-clause-meant : goal.returns-in-ExistsFunc-clause-meant
 returns-in-ExistsFunc-clause-meant c = λ form top outcome r h.

@@ -23,8 +23,13 @@ returns-in_default-split_entry-clause-steps c = failed _ _ _ (search rules) (inl
 pub returns-in_default-from_utf8-clause-steps : goal.returns-in_default-from_utf8-clause-steps
 returns-in_default-from_utf8-clause-steps c =
     failed _ _ _ (search rules)
-    (inr (_, _, _, record { key_kind = _; name = c.in-Some.ensures; value = c.in-Some-split_entry.ensures },
-    λ utf8 item. absurd (c.in_default-from_utf8.ensures.cases.0 utf8)))
+    (inr (
+      _,
+      _,
+      _,
+      record { key_kind = _; name = c.in-Some.ensures; value = c.in-Some-split_entry.ensures },
+      λ utf8 item. absurd (c.in_default-from_utf8.ensures.cases.0 utf8),
+    ))
     (BeginWith-room _ _ _ _ _ _ c.in-Some-split_entry.ensures).1 (λ form ps h.
     let first = HasPairsLeft-first form c.args.self.now ps (grind (arith, common_steps)) h in
     let same = BeginWith-unique _ _ _ _ _ _ _ _ _ _ c.in-Some.ensures first.begin in

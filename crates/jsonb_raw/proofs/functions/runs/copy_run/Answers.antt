@@ -12,5 +12,5 @@ pub returns-clause-copied : goal.returns-clause-copied
 returns-clause-copied c = λ form xs ys coming around whole h w.
     let piece = rw c.in-Some.is at (c.entries_before.ensures h.run_words h.run_contents h.words_joined h.contents_joined) in
     c.in_ok-copy.ensures.copied form xs coming around whole
-        (subst (HoldTrees form c.in-Some.piece) (sym (h.trees_joined
-            ∙ ap (λ (l : List Tree). l ++ h.here) h.held)) (record { entries = rw (piece.0, piece.1) h.run_held })) w
+    (subst (HoldTrees form c.in-Some.piece) (sym (h.trees_joined
+    ∙ ap (λ (l : List Tree). l ++ h.here) h.held)) (record { entries = rw (piece.0, piece.1) h.run_held })) w

@@ -33,5 +33,5 @@ returns-in_default-item-clause-answer c = λ form other_form tree wanted d e.
     let means = c.in_ok-wanted.ensures.decodes other_form wanted (rw c.as_bytes-2.ensures e) in
     let plain = plain_item other_form c.in_ok-wanted.wanted wanted means c.in_default.not-Extension c.in_default.not-Array c.in_default.not-Object in
     subst (λ a. IsOkAnd c.items_equal.result (λ b. b ≡ a))
-        (grind (arith, extension_equals_no_plain, object_equals_no_plain, stands, c.in_default-item.not-Array, plain))
+    (grind (arith, extension_equals_no_plain, object_equals_no_plain, stands, c.in_default-item.not-Array, plain))
     (c.items_equal.ensures.equal form other_form tree wanted stands means)

@@ -49,8 +49,16 @@ returns-in-Some-2-clause-meant c = λ top whole r h.
 pub loop-self-preserved : goal.loop-self-preserved
 loop-self-preserved c = record {
   after = c.in_ok-push-2.ensures.same.3 ∙ c.loop-self.invariant.after;
-  fewer = grind (arith, item_weighs, c.loop-self-test.true, c.as_slice.ensures, c.in_ok-push-2.ensures.same, c.in_ok-path.ensures.same.0,
-      c.restart.ensures.same, c.loop-self.invariant.fewer);
+  fewer = grind (
+    arith,
+    item_weighs,
+    c.loop-self-test.true,
+    c.as_slice.ensures,
+    c.in_ok-push-2.ensures.same,
+    c.in_ok-path.ensures.same.0,
+    c.restart.ensures.same,
+    c.loop-self.invariant.fewer,
+  );
   meant = λ top whole r h.
       let context = c.args.context.now in
       let s = c.loop-self.self in

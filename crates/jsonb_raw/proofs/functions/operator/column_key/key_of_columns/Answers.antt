@@ -28,7 +28,7 @@ loop-column-preserved c = record {
       );
   read =
       λ others. c.loop-column.invariant.read (subst (AllByRecursion _) (sym
-          (drop_more c.args.columns.now c.loop-column.column-index None c.loop-column-test.true)) (c.in_ok-push_column.ensures.reads, others));
+      (drop_more c.args.columns.now c.loop-column.column-index None c.loop-column-test.true)) (c.in_ok-push_column.ensures.reads, others));
 }
 
 pub returns-clause-key : goal.returns-clause-key

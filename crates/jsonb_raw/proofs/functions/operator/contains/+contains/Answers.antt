@@ -267,8 +267,8 @@ find_match-returns-then-branch-clause-answer t c = λ form other_form xs y b h k
     SomeEntries-first form _ _ _ _ _ c.in_ok-entry.was c.in-Some.ensures.steps (c.loop-more.invariant.left form other_form xs y b h k is)
     (λ first rest left stored fact.
     sym
-        (rw (sym (c.in_ok-entry_matches.ensures.answer form other_form first y stored k)
-            ∙ c.if-branch.true) at (rw (take_one c.loop-more.more first (elements rest) c.loop-more-test.true) at fact).fact))
+    (rw (sym (c.in_ok-entry_matches.ensures.answer form other_form first y stored k)
+    ∙ c.if-branch.true) at (rw (take_one c.loop-more.more first (elements rest) c.loop-more-test.true) at fact).fact))
 
 pub find_match-returns-then-branch-clause-tail : goal.find_match-returns-then-branch-clause-tail
 find_match-returns-then-branch-clause-tail t c = tail_next _ _ _ _ _ c.in_ok-entry.was c.in-Some.ensures.steps c.loop-more.invariant.tail

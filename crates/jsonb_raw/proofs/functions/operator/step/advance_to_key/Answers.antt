@@ -42,8 +42,8 @@ returns-in-Greater-clause-value c = λ form ps h.
     SomePairEntries-first form _ _ _ _ _ c.in_ok-name.was c.in-Some.ensures.steps (c.loop-pair.invariant.left form ps h)
     (λ value rest left stands fact.
     rw (sym fact.0 ∙
-        no_value c.args.key.now (pair c.in_ok-name.name.now value rest) (turned c.in_ok-name.name.now c.args.key.now Greater (sym c.cmp.ensures
-            ∙ c.in-Greater.is)) fact.2) tt)
+    no_value c.args.key.now (pair c.in_ok-name.name.now value rest) (turned c.in_ok-name.name.now c.args.key.now Greater (sym c.cmp.ensures
+    ∙ c.in-Greater.is)) fact.2) tt)
 
 pub returns-clause-value : goal.returns-clause-value
 returns-clause-value c = search (rules, SomePairEntries-none)
