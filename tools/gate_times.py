@@ -11,16 +11,15 @@ import sys
 
 import measured
 
-WHOLE = "all crates"
 PROOF = re.compile(r"\[([\d.]+) min, [\d.]+ min since the start\] (\w+(?: tests| edits \d+)?)(?: proof)?$", re.M)
-GATE = re.compile(r"^gate: ([\d.]+) min", re.M)
+GATE = re.compile(r"^gate: ([\d.]+) min, .* (on \d+ processors)$", re.M)
 BINDINGS = re.compile(r"^bindings: ([\d.]+) min$", re.M)
 
 
 def times(log):
     """Returns the minutes of each step that the log has."""
     found = {crate: minutes for minutes, crate in PROOF.findall(log)}
-    found.update((WHOLE, minutes) for minutes in GATE.findall(log))
+    found.update((f"{measured.WHOLE} {where}", minutes) for minutes, where in GATE.findall(log))
     found.update((measured.BINDINGS, minutes) for minutes in BINDINGS.findall(log))
     return found
 

@@ -283,15 +283,19 @@ def verdict():
 
 
 BINDINGS = "bindings/test.sh"
+# How the names of the steps begin that are a whole gate: `all crates on 4 processors`.
+WHOLE = "all crates"
 
 
 def gate():
-    """The steps that take longest, and the tests of bindings/."""
+    """The whole gate, the steps that take longest, and the tests of bindings/."""
     minutes = {row["step"]: float(row["minutes"]) for row in read("gate")}
     tests = f" {BINDINGS}: {minutes.pop(BINDINGS):.0f}." if BINDINGS in minutes else ""
     proofs = [it for it in minutes if " " not in it]
     longest = sorted(proofs, key=minutes.get, reverse=True)[:5]
-    return f"Minutes of proofs from scratch, on four busy cores: {', '.join(f'{it} {minutes[it]:.0f}' for it in longest)}.{tests}"
+    whole = ", ".join(f"{minutes[it]:.0f}{it.removeprefix(WHOLE)}" for it in sorted(minutes, reverse=True) if it.startswith(WHOLE))
+    return (f"Minutes from scratch: {whole}; of proofs, on four busy cores: "
+            f"{', '.join(f'{it} {minutes[it]:.0f}' for it in longest)}.{tests}")
 
 
 def counts():
