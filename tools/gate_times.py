@@ -1,7 +1,7 @@
 #!/usr/bin/env python3
 """How long a gate took from scratch, from what .ci/run printed (LOG): the minutes of each crate's proof, of that of its tests, of each of
-its must-fail files, of tools/gate.py, and of bindings/test.sh, which runs at the same time as other tests. tools/lanes.py begins with the
-longest chain of them.
+its must-fail files, of tools/gate.py by the number of processors, and of bindings/test.sh, which runs at the same time as other tests.
+tools/lanes.py begins with the longest chain of them.
 
     gate_times.py LOG             prints the figures
     gate_times.py LOG --write     writes them to docs/measured/gate.csv and the pages, except for those that the log lacks

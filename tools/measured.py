@@ -283,7 +283,7 @@ def verdict():
 
 
 BINDINGS = "bindings/test.sh"
-# How the names of the steps begin that are a whole gate: `all crates on 4 processors`.
+# The steps of a whole gate are named `all crates on 4 processors`.
 WHOLE = "all crates"
 
 
@@ -293,9 +293,10 @@ def gate():
     tests = f" {BINDINGS}: {minutes.pop(BINDINGS):.0f}." if BINDINGS in minutes else ""
     proofs = [it for it in minutes if " " not in it]
     longest = sorted(proofs, key=minutes.get, reverse=True)[:5]
-    whole = ", ".join(f"{minutes[it]:.0f}{it.removeprefix(WHOLE)}" for it in sorted(minutes, reverse=True) if it.startswith(WHOLE))
-    return (f"Minutes from scratch: {whole}; of proofs, on four busy cores: "
-            f"{', '.join(f'{it} {minutes[it]:.0f}' for it in longest)}.{tests}")
+    places = sorted((int(it.split()[3]), it) for it in minutes if it.startswith(WHOLE))
+    whole = " and ".join(f"{minutes[it]:.0f} on {processors} processors" for processors, it in places)
+    return (f"Minutes of the gate from scratch: {whole}. " if whole else "") + (
+        f"Minutes of proofs from scratch, on four busy cores: {', '.join(f'{it} {minutes[it]:.0f}' for it in longest)}.{tests}")
 
 
 def counts():

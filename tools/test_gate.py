@@ -1,7 +1,7 @@
 #!/usr/bin/env python3
 """Tests .ci/run, with commands that do nothing in the place of those that it counts: it must fail if one of them fails, counts nothing,
-skips a test or is killed, and repeat the last lines of that command at the end. Tests which errors tools/gate.py repeats, how
-many tasks it does at a time, and in which order.
+skips a test or is killed, and repeat the last lines of that command at the end; and the library of bindings/c is made by one
+command at a time. Tests which errors tools/gate.py repeats, how many tasks it does at a time, and in which order.
 
     tools/test_gate.py        the last line is 'N passed, M failed'
 """

@@ -116,8 +116,8 @@ def _names(names: Iterable[str]) -> "Tuple[bytes, array[int]]":
 
 
 def _plain(name: str) -> str:
-    """The text of a name, whose own type may compare by something else."""
-    return "".join(name)
+    """Returns the name as an exact `str`: a subclass may compare by something other than its text."""
+    return str.__str__(name)
 
 
 def kind(document: "Document") -> str:

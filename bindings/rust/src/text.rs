@@ -113,7 +113,7 @@ impl fmt::Display for OwnedJsonb {
 ///
 /// # Panics
 ///
-/// If memory is short.
+/// If an allocation fails.
 ///
 /// ```
 /// # use jsonb_paths::json_text_error_position;
@@ -124,7 +124,7 @@ pub fn json_text_error_position(buf: &[u8]) -> Option<usize> {
     let mut tape = Tape::new();
     match tape.document(buf) {
         Ok(_) => None,
-        Err(Error::OutOfMemory) => panic!("memory is short"),
+        Err(Error::OutOfMemory) => panic!("an allocation failed"),
         Err(_) => Some(tape.0.at),
     }
 }

@@ -59,5 +59,3 @@ pub comparison_total : (c : MemberCompared) (e : Expression) (top t : Tree) → 
 comparison_total c e top t k =
     rw (sym (k.compares Lax top t)) at (with_ok Any (λ o. IsOkAnd o Any) (steps_meaning Lax (steps_of (steps_view c.names.now)) top (t ∷ [])) (told_by c)
     (members_total (steps_view c.names.now) top (t ∷ []) k.members) (λ ts _. tt))
-
--- ---- related lists in reverse

@@ -89,7 +89,7 @@ pub partial-ends : (l : PartialExpr) (e : Expression) (input : List ℕ) → spa
     Some (joined_view or_op l.any (joined_view and_op l.all e), input) ≡ partial_outcome l (Some (e, input))
 partial-ends l e input none none' = grind (arith, join-ends, or-here)
 
--- ---- ends of lists
+-- ---- filters that are not closed
 
 pub filter-unclosed : (input after : List ℕ) → filter_front input ≡ Some (tt, after) → IsUnclosed input
 unfolding filter_front ws

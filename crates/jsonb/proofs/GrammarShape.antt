@@ -153,7 +153,7 @@ mapped-none : {A B : Type 0} (g : A → B) (o : Parsed A) → option_and_then (�
 mapped-none g None e = refl
 mapped-none g (Some p) e = cc
 
--- digits are an operand
+-- input without an operand does not begin with a natural number
 no_natural : (f : Bool) (input : List ℕ) → spaced_operand f input ≡ None → natural_below (2 ^ 64) input ≡ None
 unfolding spaced_operand operand
 no_natural f input none = go (begins is_ascii_digit input) refl (natural_below (2 ^ 64) input) refl where

@@ -142,8 +142,6 @@ object_closes form ps es prs c h sorted short is =
       content = rw same (object_document (number_reader form) (pairs_of prs) (object_bytes parts) decodes.document);
     }
 
--- ---- limits
-
 -- ---- results
 
 pub array_closed : (form : Form) (ps : List Piece) (es : Vec PieceEntry Global) (level : Level) (c : Closed) → HoldsLevel form ps (Array es) level

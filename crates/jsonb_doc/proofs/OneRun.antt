@@ -1,5 +1,5 @@
 -- Events lead to at most one state.
-use Rattle.jsonb_doc.proofs.Common.{◌≡◌, ℕ, ◌≤◌, List, [], ◌∷◌, refl, sym, ap, ◌∙◌, arith, Bool, true, false, Some, None, Option, take, drop, ◌==◌, if◌then◌else◌, IsSome, take_at, drop_at, Tree, text, Level, object_of, State, Event, array_begins, object_begins, key_is, value_is, ends, takes_value, no_events, whole, scalar_of, Reads, AreEventsOf, LeadsTo, Happen, Refuses, TakesTree, Opens, Form, StandsFor, IsPlain, IsPlainItem, Item, TextEvent}
+use Rattle.jsonb_doc.proofs.Common.{◌≡◌, ℕ, ◌≤◌, List, [], ◌∷◌, refl, sym, ap, ◌∙◌, arith, Bool, true, false, Some, None, Option, take, drop, ◌==◌, if◌then◌else◌, IsSome, take_at, drop_at, Tree, text, Level, State, Event, array_begins, object_begins, key_is, value_is, ends, takes_value, no_events, whole, scalar_of, Reads, AreEventsOf, LeadsTo, Happen, Refuses, TakesTree, Opens, Form, StandsFor, IsPlain, IsPlainItem, Item, TextEvent}
 use Rattle.std.proofs.Common.{unwrap_or}
 use Rattle.jsonb_doc.proofs.EventListLemmas.{happen_of}
 
@@ -52,14 +52,6 @@ pub plain_stands : (form : Form) (item : Item) (t : Tree) → IsPlainItem item t
 plain_stands form item t h = grind arith
 
 -- ---- states
-
-abbrev pairs_at : Level → List (List ℕ × Tree)
-pairs_at (object_of ps key) = ps
-pairs_at _ = []
-
-abbrev first_of : Level → List Level → Level
-first_of none [] = none
-first_of none (l ∷ ls) = l
 
 pub one_lead : (keep_last : Bool) (e : Event) (s after other : State) → LeadsTo keep_last e s after → LeadsTo keep_last e s other → after ≡ other
 one_lead keep_last e s after other h k = grind arith

@@ -2,7 +2,7 @@
 use Rattle.jsonb_raw.proofs.Common.{◌≡◌, ◌↔◌, ℕ, suc, zero, ℤ, Bool, true, false, IsTrue, List, [], ◌∷◌, map, length, drop, slice_get, Some, None, refl, ap, arith, to_ascii_lowercase, bytes_eq-Decides, str_eq_ignore_ascii_case, Tree, array, Trees, elements, trees_of-elements, index_position, is_object, named_child, without_index}
 use Rattle.jsonb_raw.proofs.ChildLemmas.{nowhere, first_behind}
 
--- ---- arrays and objects by their items
+-- ---- elements
 
 pub no_such_element : (ts : List Tree) (i : ℕ) → drop i ts ≡ [] → slice_get ts i ≡ None
 no_such_element ts i none = nowhere (drop i ts) 0 _ none (first_behind ts i)

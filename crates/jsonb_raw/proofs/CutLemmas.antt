@@ -46,7 +46,6 @@ keys_put zero (p ∷ ps) key t u at = let e : p ≡ (key, t) = cc at in ap (λ (
 keys_put (suc n) (p ∷ ps) key t u at = ap (λ ks. p.0 ∷ ks) (keys_put n ps key t u at)
 
 -- sorted keys without one are sorted
-
 below_without : (low : List ℕ) (n : ℕ) (ps : List Member) → IsBelowFirst low (keys_of ps) → AreSortedKeys (keys_of ps)
     → IsBelowFirst low (keys_of (remove ps n))
 below_without low zero [] below sorted = tt

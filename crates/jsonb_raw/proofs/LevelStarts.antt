@@ -1,4 +1,4 @@
--- Levels of all parts of a container, and the starts of their keys.
+-- Levels of all parts of a container.
 use Rattle.jsonb_raw.proofs.Common.{◌≡◌, ◌==◌, ℕ, true, false, List, refl, inl, inr, Bor, arith, nat_tests, Tree, Trees, deepest, Form, number_reader, Decodes, IsContent, HeadedBy, StandsFor, Stores, kind_number, header_number, HeaderKind, StoredEntry, Item, Array, Object, HasContent-headed, HasContent-kind, array_content, object_content, is_array, ChildCursor, parts, HasPartsLeft, HasAllLeft, is_container}
 use Rattle.jsonb_doc.specs.Tree as spec
 use Rattle.jsonb_raw.specs.declared.level.ChildCursor.TheVariants.{Pairs}

@@ -1,4 +1,4 @@
-use Rattle.jsonb_raw.proofs.Common.{◌≡◌, ℕ, List, [], ◌∷◌, Option, Some, refl, slice_get, option_and_then, option_map, map, arith, Tree, Key, key_path, key_path_text, without_quotes, reads_back_if_read, children, child_position, location}
+use Rattle.jsonb_raw.proofs.Common.{◌≡◌, ℕ, List, [], ◌∷◌, Option, refl, slice_get, option_and_then, option_map, map, arith, Tree, Key, without_quotes, reads_back_if_read, children, child_position, location}
 use Rattle.jsonb_raw.proofs.laws.printed_key_paths_keep_their_place.Goals as goal
 
 same_child : (step : Key) (t : Tree) → child_position (without_quotes step) t ≡ child_position step t
@@ -16,10 +16,6 @@ same_place (step ∷ steps) t = rw (same_child step t) (by (same_place steps) (c
         → option_and_then (λ n. option_map (λ ns. n ∷ ns) (option_and_then (location (map without_quotes steps)) (slice_get (children t) n))) o
         ≡ option_and_then (λ n. option_map (λ ns. n ∷ ns) (option_and_then (location steps) (slice_get (children t) n))) o
     by h o = grind (arith, at_child)
-
--- the printed text reads as a key path that has the same place on every tree
-abbrev PrintsToItsPlace : List Key → Type 0
-PrintsToItsPlace steps = (found : List Key) × (key_path (key_path_text steps) ≡ Some found) × ((t : Tree) → location found t ≡ location steps t)
 
 pub returns : goal.returns
 returns c = grind (arith, same_place, reads_back_if_read c.args.text.now)

@@ -1,5 +1,4 @@
 use Rattle.jsonb.proofs.Common.{◌<◌, ◌≤◌, ◌∙◌, length, arith, inl, take_more, take_all, Decodes, Locates, null}
--- node_documents
 use Rattle.jsonb.proofs.RefinesLemmas.{refused, err_is}
 use Rattle.jsonb.proofs.Progress.{no_spot}
 use Rattle.jsonb.proofs.SelectedParts.{related_length, related_at, related_more, list_refused}
