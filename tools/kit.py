@@ -3,7 +3,8 @@
 
   kit.py     prints what rt of this kit lacks of that; the last line is 'N passed, M failed'
 
-rt has no other interface for what tools/gate.py and tools/check_edits.py do. If the kit lacks something, gate.py runs `rt ci` as it is.
+rt has no other interface for what tools/gate.py and tools/check_edits.py do. tools/older_rt.py adds what an older kit lacks. If a kit lacks
+something else, gate.py runs `rt ci` as it is.
 """
 import contextlib
 import hashlib
@@ -19,6 +20,7 @@ import tempfile
 import threading
 
 sys.dont_write_bytecode = True
+import older_rt
 import results
 
 TOP = os.path.dirname(os.path.dirname(os.path.abspath(__file__)))
@@ -63,6 +65,7 @@ def load():
 
 
 rt = load()
+IS_OLDER = older_rt.complete(rt)
 
 
 # ---- what a kit lacks
@@ -87,14 +90,15 @@ def fault_of_call(owner, name, parameters):
 
 def faults():
     """Yields what the kit lacks, and an empty text for each thing that it has."""
+    unneeded = older_rt.UNNEEDED if IS_OLDER else ()
     for owner, calls in CALLED.items():
-        yield from (fault_of_call(owner, *it) for it in calls.items())
+        yield from (fault_of_call(owner, *it) for it in calls.items() if it[0] not in unneeded)
     for owner, names in VALUES.items():
         yield from ("" if owned(owner, it) is not None else f"{owner} has no {it}" for it in names.split())
     verdict = getattr(owned("rt.rtlib", "VERDICT"), "pattern", "")
     yield "" if verdict.endswith(END) else f"rt.rtlib.VERDICT does not end with {END}"
     text = inspect.getsource(rt)
-    yield from ("" if f'crate.name, "{it}"' in text else f"rt ci has no task {it}" for it in KINDS)
+    yield from ("" if f'crate.name, "{it}"' in text else f"rt ci has no task {it}" for it in (older_rt.KINDS if IS_OLDER else KINDS))
     crate = next(iter(rt.rtlib.crates_below(TOP)), None) if callable(owned("rt.rtlib", "crates_below")) else None
     yield from ("" if hasattr(crate, it) else f"a crate has no {it}" for it in OF_A_CRATE.split())
 
@@ -266,7 +270,8 @@ def try_edits(verdict, in_lanes, how):
     for it.
     """
     this_thread = threading.local()
-    checked, must_fail, seeded, add_edits, of_edit = rt.checked, rt.must_fail, rt.seeded, rt.add_edits, rt.Kept.of_edit
+    checked, must_fail, seeded, of_edit = rt.checked, rt.must_fail, rt.seeded, rt.Kept.of_edit
+    add_edits = getattr(rt, "add_edits", None)
 
     def check(crate, texts, flags, kept):
         if not texts and kept in own_seeds and crate.has_tests():
