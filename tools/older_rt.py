@@ -1,14 +1,15 @@
 """What rt of an older kit lacks of what tools/kit.py uses.
 
-A later rt keeps what passed on the machine, and tries each edit file as a task of its own. An older one, such as that of rattle-kit-13b,
-keeps nothing, tries a crate's edits in turn, and judges one by a Boolean. With this module the gate runs over the older one too, and every
-run proves and tries all.
+A later rt keeps what passed on the machine, tries each edit file as a task of its own, and rejects one that changes nothing. An older one,
+such as that of rattle-kit-13b, keeps nothing, tries a crate's edits in turn, and judges one by a Boolean. With this module the gate runs
+over the older one too, and every run proves and tries all.
 """
 import contextlib
 import os
 import shutil
 import sys
 import tempfile
+from pathlib import Path
 
 # The kinds of tasks that rt ci of an older kit does.
 KINDS = ("proof", "tests", "edits")
@@ -50,7 +51,7 @@ class OlderRt:
     """An older rt, with what a later one has."""
 
     def __init__(self, rt):
-        self.rt, self.ci_by_rt, self.must_fail_by_rt = rt, rt.ci, rt.must_fail
+        self.rt, self.ci_by_rt, self.must_fail_by_rt, self.edited_by_rt = rt, rt.ci, rt.must_fail, rt.edited
         # The folder of the work that a crate's edits begin with, by its name, if it is not that of its proof in out/.
         self.seeds = {}
 
@@ -58,7 +59,15 @@ class OlderRt:
         rt = self.rt
         rt.REFUSED, rt.MISSED, rt.UNSURE = "refused", "missed", "unsure"
         rt.Kept, rt.SEEDS, rt.linked, rt.ending = Kept, [], linked, contextlib.nullcontext
-        rt.must_fail, rt.seeded, rt.ci, rt.edits_alone, rt.share_work = self.must_fail, self.seeded, self.ci, self.edits_alone, self.share_work
+        rt.must_fail, rt.edited, rt.seeded, rt.share_work = self.must_fail, self.edited, self.seeded, self.share_work
+        rt.ci, rt.edits_alone = self.ci, self.edits_alone
+
+    def edited(self, edit, folder):
+        """Returns what rt reads in an edit, and why it can't be applied, if it can't or changes nothing."""
+        texts, why = self.edited_by_rt(edit, folder)
+        if texts and all(Path(folder, path).read_text() == text for path, text in texts.items()):
+            return None, "it changes nothing"
+        return texts, why
 
     def share_work(self, is_alone):
         """Does nothing: an older rt shares no work between clones."""
