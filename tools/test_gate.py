@@ -1,7 +1,8 @@
 #!/usr/bin/env python3
 """Tests .ci/run, with commands that do nothing in the place of those that it counts: it must fail if one of them fails, counts nothing,
 skips a test or is killed, and repeat the last lines of that command at the end; and the library of bindings/c is made by one
-command at a time. Tests which errors tools/gate.py repeats, how many tasks it does at a time, and in which order.
+command at a time. Tests which errors tools/gate.py repeats, how many tasks it does at a time, and in which order, and how it does
+those of an older kit.
 
     tools/test_gate.py        the last line is 'N passed, M failed'
 """
@@ -14,11 +15,13 @@ import tempfile
 import threading
 import time
 from pathlib import Path
+from types import SimpleNamespace
 
 sys.dont_write_bytecode = True
 import check_counts
 import kit
 import lanes
+import older_rt
 import reasons
 import results
 
@@ -79,6 +82,13 @@ CHAINS = {
     ("apart", "proof"): (6, []),
     ("low", "tests"): (3, [("low", "proof")]),
 }
+# What the prover makes of the edits of a crate under rt of an older kit, one after the other if it tries one again; whether the crate is
+# proved; and which edits count as rejected.
+OLDER = [
+    ({"a.edit": [True], "b.edit": [False, False]}, True, {"a.edit": True, "b.edit": False}),
+    ({"a.edit": [False, True]}, True, {"a.edit": True}),
+    ({"a.edit": []}, False, {"a.edit": False}),
+]
 # The crates whose programs and library other commands wait for.
 BUILT = ("jsonb_c", "jsonb_lines", "jsonb_sweep", "jsonb_tool")
 # The rule that makes the library of bindings/c, and the commands that must begin after it.
@@ -183,6 +193,38 @@ def fault_of_chains():
     return "" if done == [*CHAINS] else f"expected the tasks in the order {[*CHAINS]}, got {done}"
 
 
+def older(tried, is_proved, noted):
+    """Returns an rt of an older kit with one crate, whose ci notes what it is given of the crate's edits."""
+    crate = SimpleNamespace(name="low", folder="crates/low")
+    tasks = {("low", kind): ([("low", "proof")] * (kind != "proof"), 1, 0, lambda *_: is_proved) for kind in older_rt.KINDS}
+    rt = SimpleNamespace(rtlib=SimpleNamespace(crates_below=lambda top: [crate]), edits_of=lambda it: ([f"must-fail/{name}" for name in tried], []))
+    rt.must_fail = lambda crate, edit, flags, kept: (tried[edit.rpartition("/")[2]].pop(0), "said of it")
+    rt.edited = lambda edit, folder: ({"tools/results.py": edit}, None)
+    rt.in_lanes, rt.ci = lanes.in_lanes, lambda: noted.append(rt.in_lanes(tasks)["low", "edits"])
+    return rt
+
+
+def fault_of_older(tried, is_proved, expected):
+    """Returns what is wrong with how the edits of a crate are tried by an older rt, or an empty text."""
+    kit.processors, kit.free, noted = lambda: 2, lambda: 30 * 10**9, []
+    rt = older({name: [*its] for name, its in tried.items()}, is_proved, noted)
+    if not older_rt.complete(rt) or older_rt.complete(rt):
+        return "an older rt is not completed once"
+    rt.ci()
+    [(bad, good, results)] = noted
+    found = {Path(file).name: is_refused for file, (is_refused, _) in zip(good, results)}
+    return "" if found == expected and not bad else f"{tried}: expected {expected}, got {found}"
+
+
+def fault_of_no_change():
+    """Returns what is wrong with how an older rt reads an edit that changes nothing, and one that does, or an empty text."""
+    rt = older({}, True, [])
+    older_rt.complete(rt)
+    same = (TOP / "tools/results.py").read_text()
+    found = [bool(rt.edited(it, str(TOP))[1]) for it in (same, f"{same}\n")]
+    return "" if found == [True, False] else f"expected an edit that changes nothing to be rejected alone, got {found}"
+
+
 def faults():
     """Yields what is wrong in each case, and an empty text for each in which nothing is."""
     commands = check_counts.commands()
@@ -199,6 +241,8 @@ def faults():
     yield from (fault_of_lanes(*it) for it in LANES.items())
     yield from (fault_of_jobs(*it) for it in JOBS.items())
     yield fault_of_chains()
+    yield from (fault_of_older(*it) for it in OLDER)
+    yield fault_of_no_change()
 
 
 def named(words, fault):
