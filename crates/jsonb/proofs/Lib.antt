@@ -22,7 +22,6 @@ pub mod FirstItems
 pub mod Progress
 pub mod ItemKinds
 pub mod PickLemmas
-pub mod FoundLemmas
 pub mod LevelLemmas
 pub mod LevelRanges
 pub mod BelowLemmas

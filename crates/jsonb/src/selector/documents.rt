@@ -11,7 +11,6 @@ ghost use Rattle.jsonb_doc.specs.Private.Errors.{IsOutOfMemoryOrTooLarge};
 ghost use Rattle.jsonb_doc.specs.declared.error.Error.TheVariants.{OutOfMemory, TooLarge};
 ghost use Rattle.jsonb_doc.specs.ArrayBuilder.{HoldsElements};
 ghost use Rattle.jsonb_doc.specs.Limits.{IsTooLarge};
-ghost use Rattle.jsonb_doc.specs.Representation.Positions.{Locates};
 ghost use Rattle.jsonb_raw.specs.Documents.{Makes, MakesOption};
 ghost use Rattle.jsonb.specs.Private.Selection.{IsMadeItem, IsNumberItem, OfSelected};
 ghost use Rattle.jsonb.specs.SelectorAnswers.{first_item, single_or_array};
@@ -139,52 +138,11 @@ pub(crate) fn documents(
         result (Ok ts)) }
     ensures errors { IfErr result (IsDecodingError or OutOfMemory or TooLarge) }
 {
-    match selected {
-        Selected::Nodes(spots) => node_documents(alloc, document.bytes, spots.as_slice()),
-        Selected::Numbers(numbers) => number_documents(alloc, numbers),
-        Selected::Made(part) => made_documents(alloc, part),
+    let len = selected_len(selected);
+    let mut documents = Vec::with_capacity(alloc, len)?;
+    for position in 0..len {
+        documents.push_reserved(document_at(alloc, document, selected, position)?);
     }
-}
-
-/// Returns the items at these positions, each as a document, copied as it is stored.
-fn node_documents(alloc: Global, bytes: &[u8], spots: &[Spot]) -> Result<Vec<OwnedJsonb>, Error>
-    ensures documents { (form : Form) (top : Tree) (ts : List Tree) → Decodes form bytes.now top
-        → AllZip (Locates bytes.now) spots.now ts
-        → Refines (λ v us. AllZip (Decodes form) v.items us) (IsOutOfMemory or TooLarge when Any (IsTooLarge form) ts)
-        result (Ok ts) }
-    ensures errors { IfErr result (IsDecodingError or OutOfMemory or TooLarge) }
-{
-    let mut documents = Vec::with_capacity(alloc, spots.len())?;
-    for spot in spots {
-        let document = spot_document(alloc, bytes, *spot)?;
-        documents.push_reserved(OwnedJsonb::new(document));
-    }
-    Ok(documents)
-}
-
-/// Returns these numbers, each as a document.
-fn number_documents(alloc: Global, numbers: &[Number]) -> Result<Vec<OwnedJsonb>, Error>
-    ensures documents { (form : Form) (ts : List Tree) → AllZip IsNumberItem numbers.now ts
-        → Refines (λ v us. AllZip (Decodes form) v.items us) (IsOutOfMemory or TooLarge when Any (IsTooLarge form) ts)
-        result (Ok ts) }
-    ensures errors { IfErr result (IsOutOfMemory or TooLarge) }
-{
-    let mut documents = Vec::with_capacity(alloc, numbers.len())?;
-    for number in numbers {
-        documents.push(number_document(alloc, *number)?)?;
-    }
-    Ok(documents)
-}
-
-/// Returns the result of an expression as the only document.
-fn made_documents(alloc: Global, part: &MadeItem<'_>) -> Result<Vec<OwnedJsonb>, Error>
-    ensures documents { (form : Form) (t : Tree) → IsMadeItem form part.now t
-        → Refines (λ v us. AllZip (Decodes form) v.items us)
-        (IsOutOfMemory or TooLarge when Any (IsTooLarge form) (t ∷ [])) result (Ok (t ∷ [])) }
-    ensures errors { IfErr result (IsOutOfMemory or TooLarge) }
-{
-    let document = made_document(alloc, part)?;
-    let documents = vec![in alloc; document]?;
     Ok(documents)
 }
 

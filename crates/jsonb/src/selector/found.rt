@@ -1,21 +1,23 @@
 //! What a path selects, found in place: positions of the document, and computed values.
 
-ghost use Rattle.std.specs.Prelude.{◌≡◌, ◌∷◌, [], ℕ, map, List, Ok, IfErr, MatchResult};
-ghost use Rattle.std.specs.List.{AllZip, Any};
+ghost use Rattle.std.specs.Prelude.{◌<◌, List, Ok, IfErr, MatchResult};
+ghost use Rattle.std.specs.List.{HoldsAt, AllZip, Any};
 ghost use Rattle.jsonb_doc.specs.Tree.{Tree};
 ghost use Rattle.jsonb_doc.specs.Payload.{Form};
 ghost use Rattle.jsonb_doc.specs.Format.{Decodes};
 ghost use Rattle.jsonb_doc.specs.Answer.{IsOutOfMemory, ◌or◌, ◌or◌when◌, Refines, IsDecodingError};
+ghost use Rattle.jsonb_doc.specs.Private.Errors.{IsOutOfMemoryOrTooLarge};
 ghost use Rattle.jsonb_doc.specs.declared.error.Error.TheVariants.{OutOfMemory, TooLarge};
 ghost use Rattle.jsonb_doc.specs.Limits.{IsTooLarge};
 ghost use Rattle.jsonb_raw.specs.Documents.{raw_bytes, Makes};
 ghost use Rattle.jsonb.specs.FoundItems.{IsItemOf};
-ghost use Rattle.jsonb.specs.Private.Selection.{IsMadeItem, OfSelected};
-ghost use Rattle.jsonb.specs.declared.selector.found.FoundItem.TheVariants as found_item;
+ghost use Rattle.jsonb.specs.Private.Selected.{selected_len};
+ghost use Rattle.jsonb.specs.Private.Selection.{AreSelected, OfSelected};
+ghost use Rattle.jsonb.specs.declared.selector.document.Document.{Document};
 
 use super::document::Document;
-use super::documents::{made_document, number_document};
-use super::selected::{MadeItem, Selected};
+use super::documents::{made_document, number_document, selected_len};
+use super::selected::Selected;
 use jsonb_doc::{Error, Number, Spot, spot_document};
 use jsonb_raw::{OwnedJsonb, RawJsonb};
 use std::alloc::Global;
@@ -67,6 +69,22 @@ impl FoundItem {
     }
 }
 
+/// Returns the item at a position of the selection.
+#[inline(always)]
+fn found_at(alloc: Global, selected: &Selected<'_>, position: usize) -> Result<FoundItem, Error>
+    requires { position < selected_len selected.now }
+    ensures item { (form : Form) (document : Document) (ts : List Tree) → AreSelected form document selected.now ts
+        → HoldsAt (λ t. MatchResult result (λ item. IsItemOf document.bytes.now form item t)
+        (IsOutOfMemoryOrTooLarge form t)) ts position }
+    ensures errors { IfErr result (IsOutOfMemory or TooLarge) }
+{
+    match selected {
+        Selected::Nodes(spots) => Ok(FoundItem::At(spots.as_slice()[position])),
+        Selected::Numbers(numbers) => Ok(FoundItem::Number(numbers[position])),
+        Selected::Made(part) => Ok(FoundItem::Document(made_document(alloc, part)?)),
+    }
+}
+
 /// Returns each selected item, in order. Fails with `TooLarge` if a computed item exceeds the limits of a document.
 pub(crate) fn found_items(
     alloc: Global,
@@ -78,43 +96,10 @@ pub(crate) fn found_items(
         (IsOutOfMemory or TooLarge when Any (IsTooLarge form) ts) result (Ok ts)) }
     ensures errors { IfErr result (IsDecodingError or OutOfMemory or TooLarge) }
 {
-    match selected {
-        Selected::Nodes(spots) => found_spots(alloc, spots.as_slice()),
-        Selected::Numbers(numbers) => found_numbers(alloc, numbers),
-        Selected::Made(part) => found_result(alloc, part),
+    let len = selected_len(selected);
+    let mut found = Vec::with_capacity(alloc, len)?;
+    for position in 0..len {
+        found.push_reserved(found_at(alloc, selected, position)?);
     }
-}
-
-/// Returns the items at these positions.
-fn found_spots(alloc: Global, spots: &[Spot]) -> Result<Vec<FoundItem>, Error>
-    ensures { MatchResult result (λ found. found.items ≡ map found_item.At spots.now) IsOutOfMemory }
-{
-    let mut found = Vec::with_capacity(alloc, spots.len())?;
-    for spot in spots {
-        found.push(FoundItem::At(*spot))?;
-    }
-    Ok(found)
-}
-
-/// Returns these numbers.
-fn found_numbers(alloc: Global, numbers: &[Number]) -> Result<Vec<FoundItem>, Error>
-    ensures { MatchResult result (λ found. found.items ≡ map found_item.Number numbers.now) IsOutOfMemory }
-{
-    let mut found = Vec::with_capacity(alloc, numbers.len())?;
-    for number in numbers {
-        found.push(FoundItem::Number(*number))?;
-    }
-    Ok(found)
-}
-
-/// Returns the result of an expression as the only item.
-fn found_result(alloc: Global, part: &MadeItem<'_>) -> Result<Vec<FoundItem>, Error>
-    ensures items { (form : Form) (bytes : List ℕ) (t : Tree) → IsMadeItem form part.now t
-        → Refines (λ v us. AllZip (IsItemOf bytes form) v.items us)
-        (IsOutOfMemory or TooLarge when Any (IsTooLarge form) (t ∷ [])) result (Ok (t ∷ [])) }
-    ensures errors { IfErr result (IsOutOfMemory or TooLarge) }
-{
-    let item = FoundItem::Document(made_document(alloc, part)?);
-    let found = vec![in alloc; item]?;
     Ok(found)
 }

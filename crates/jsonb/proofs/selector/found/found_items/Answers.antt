@@ -1,14 +1,26 @@
-use Rattle.jsonb.proofs.FoundLemmas.{all_found, numbers_are, one_found, spots_are}
+use Rattle.jsonb.proofs.Common.{◌<◌, ◌≤◌, ◌∙◌, length, arith, inl, take_more, take_all, IsItemOf, null}
+use Rattle.jsonb.proofs.RefinesLemmas.{refused, err_is}
+use Rattle.jsonb.proofs.SelectedParts.{Selects-length, related_more, list_refused}
 use Rattle.jsonb.proofs.selector.found.found_items.Goals as goal
 
-pub returns-in-Nodes-clause-items : goal.returns-in-Nodes-clause-items
-returns-in-Nodes-clause-items c = λ form top ts decodes h.
-    all_found form _ _ ts _ c.found_spots.ensures (spots_are form _ _ ts (rw c.as_slice.ensures (rw c.in-Nodes.is at h)))
+pub returns-in_err-found_at-clause-items : goal.returns-in_err-found_at-clause-items
+returns-in_err-found_at-clause-items c = λ form top ts decodes h.
+    let short : c.loop-position.position < length ts = omega (arith, c.selected_len-len.ensures, Selects-length form c.args.document c.args.selected.now ts h) in
+    rw (err_is c.from_residual-in_err-found_at.ensures.1) (refused
+    (inl (list_refused form ts c.loop-position.position null _ short (c.in_err-found_at.ensures.item form c.args.document ts h null))))
 
-pub returns-in-Numbers-clause-items : goal.returns-in-Numbers-clause-items
-returns-in-Numbers-clause-items c = λ form top ts decodes h.
-    all_found form _ _ ts _ c.found_numbers.ensures (numbers_are form _ _ ts (rw c.deref.ensures.value (rw c.in-Numbers.is at h)))
+pub loop-position-preserved : goal.loop-position-preserved
+loop-position-preserved c = record {
+  items = λ form ts h.
+      let short : c.loop-position.position < length ts = omega (arith, c.selected_len-len.ensures, Selects-length form c.args.document c.args.selected.now ts h) in
+      rw (take_more ts c.loop-position.position null short, c.push_reserved.ensures.items)
+      (related_more (IsItemOf c.args.document.bytes.now form) _ _ _ _ (c.loop-position.invariant.items form ts h)
+      (c.in_ok-found_at.ensures.item form c.args.document ts h null));
+  len = omega (arith, c.push_reserved.ensures.len, c.loop-position.invariant.len);
+  room = c.push_reserved.ensures.capacity ∙ c.loop-position.invariant.room;
+}
 
-pub returns-in-Made-clause-items : goal.returns-in-Made-clause-items
-returns-in-Made-clause-items c = λ form top ts decodes h.
-    one_found form c.args.document.bytes.now c.in-Made.part ts _ (c.found_result.ensures.items form c.args.document.bytes.now) (rw c.in-Made.is at h)
+pub returns-clause-items : goal.returns-clause-items
+returns-clause-items c = λ form top ts decodes h.
+    let long : length ts ≤ c.loop-position.position = omega (arith, c.selected_len-len.ensures, Selects-length form c.args.document c.args.selected.now ts h) in
+    record { ok = rw (take_all c.loop-position.position ts long) at (c.loop-position.invariant.items form ts h); err = tt }
