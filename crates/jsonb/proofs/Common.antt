@@ -55,7 +55,7 @@ pub use Rattle.jsonb.specs.Private.Running.{IsRunning, IsAtFilter, IsProgress, I
 pub use Rattle.jsonb.specs.Private.SamePath.{SameStep, SameExpression, path_value_order, is_same_literal, is_same_place, is_same_entry, is_same_end, is_same_level, is_same_sign, is_same_step, is_same_operator, are_same_steps, is_same_expression}
 pub use Rattle.jsonb.specs.Private.Search.{has_condition, IsSearched, FirstAhead, AreAhead, IsAhead, TakesStep, HasItems, TakesItem, AreGiven, IsReached, BeginsAs, conditions_in}
 pub use Rattle.jsonb.specs.Private.Selected.{array_of, selected_len}
-pub use Rattle.jsonb.specs.Private.Selection.{IsAt, node_spots, taken_step, only_number, are_numbers, signed_value, IsNumberTree, IsNumberItem, value_view, only_expression, IsMadeItem, values_view, is_filter, option_spots, fail_if_strict, IsPlain, AreSelected, IsKept, step_expression, is_relative, HasTree}
+pub use Rattle.jsonb.specs.Private.Selection.{IsAt, node_spots, taken_step, only_number, IsNumberTree, IsNumberItem, value_view, only_expression, IsMadeItem, values_view, is_filter, option_spots, fail_if_strict, IsPlain, AreSelected, IsKept, step_expression, is_relative, HasTree}
 pub use Rattle.jsonb.specs.Private.Tests.{IsQuestionOf, AreTestsOf, tests_conditions, AreBranches, item_tests, question_conditions, tests_in, ArePlainTestsOf, AreMembersCompared, IsPlainQuestionOf, IsTestOf, is_plain, are_plain, test_conditions, is_settled, jump_to, right_of, pending, waiting_left, parts_to_compile}
 pub use Rattle.jsonb.specs.Private.Weights.{weight, step_weight, steps_weight, running_weight, question_weight, tests_weight, asked_weight, at_filter_weight, progress_weight, frame_weight, around_weight, asking_weight, items_weight, operand_weight, next_weight}
 pub use Rattle.jsonb.specs.Proofs.PathOrder.{container_with_none, antisymmetric, literal-same}

@@ -27,6 +27,10 @@ pub numbers_of_parts : (g : Tree → List Value) (ts : List Tree) → all_number
 numbers_of_parts g [] = refl
 numbers_of_parts g (t ∷ ts) = grind (arith, (numbers_of_parts g ts), numbers-append)
 
+pub numbers_of_values : (vs : List Value) → all_numbers vs ≡ try_flat_map (λ v. all_numbers (v ∷ [])) vs
+numbers_of_values [] = refl
+numbers_of_values (v ∷ vs) = grind (arith, (numbers_of_values vs), (numbers-append (v ∷ []) vs))
+
 -- an item that is neither a number nor an extension value
 pub no_number : (value : StoredValue) (t : Tree) → ((n : CodeNumber) → value ≡ stored.Number n → ⊥) → (value ≡ stored.Extension → ⊥)
     → IsStoredAs value t → all_numbers (value_of_item t) ≡ Err InvalidJsonPath
@@ -45,6 +49,11 @@ number_pushed (Err e) old new n is none = record { ok = tt; err = inl none }
 pub more_behind : (old mid new : List CodeNumber) (o : Outcome (List Number)) (before : List Number) → Behind old mid before → IsOkAnd o (Behind mid new)
     → IsOkAnd o (λ us. Behind old new (before ++ us))
 more_behind old mid new o before first then = grind (arith, append_assoc)
+
+-- one more number, which a value is
+pub number_behind : (old mid new : List CodeNumber) (n : CodeNumber) (o : Outcome (List Number)) (before : List Number) → Behind old mid before
+    → new ≡ mid ++ n ∷ [] → IsOkAnd o (λ ns. number_view n ∷ [] ≡ ns) → IsOkAnd o (λ us. Behind old new (before ++ us))
+number_behind old mid new n o before first added is = grind (arith, map-append, append_assoc)
 
 -- ---- numbers that are signed in their places
 

@@ -1,5 +1,5 @@
 -- What a path selects: places of the document, or what an expression makes.
-use Rattle.std.specs.Prelude.{◌≡◌, ◌&&◌, ℕ, Bool, true, false, List, [], ◌∷◌, ◌++◌, map, Option, Some, None, Result, Ok, Err, if◌then◌else◌}
+use Rattle.std.specs.Prelude.{◌≡◌, ℕ, Bool, true, false, List, [], ◌∷◌, ◌++◌, map, Option, Some, None, Result, Ok, Err, if◌then◌else◌}
 use Rattle.jsonb_doc.specs.Answer.{Outcome, Refines, IsOutOfMemory}
 use Rattle.jsonb_doc.specs.declared.error.Error.{Error}
 use Rattle.jsonb_doc.specs.declared.error.Error.TheVariants.{InvalidJsonPath, StrictPath}
@@ -12,8 +12,7 @@ use Rattle.jsonb_doc.specs.Format.{Decodes}
 use Rattle.jsonb_doc.specs.Item.{StandsFor}
 use Rattle.jsonb_doc.specs.Representation.Positions.{Locates}
 use Rattle.jsonb_doc.specs.Tree.{Tree, number, array, trees_of}
-use Rattle.jsonb.specs.PathTree.{Expression, Step, UnaryOp, current, filter, whole_expression}
-use Rattle.jsonb.specs.PathArithmetic.{signed_number}
+use Rattle.jsonb.specs.PathTree.{Expression, Step, current, filter, whole_expression}
 use Rattle.jsonb.specs.Meaning.{Means}
 use Rattle.std.specs.List.{AllZip}
 use Rattle.jsonb.specs.Values as val
@@ -146,19 +145,6 @@ is_relative _ = false
 -- the list of a number of the code
 abbrev pub IsNumberTree : CodeNumber → List Tree → Type 0
 IsNumberTree m ts = number (number_view m) ∷ [] ≡ ts
-
-abbrev pub is_number : val.Value → Bool
-is_number (val.number n) = true
-is_number _ = false
-
-abbrev pub are_numbers : List val.Value → Bool
-are_numbers [] = true
-are_numbers (v ∷ vs) = is_number v && are_numbers vs
-
--- a sign before a value; an error if it is not a number
-abbrev pub signed_value : UnaryOp → val.Value → Outcome (List Tree)
-signed_value op (val.number n) = signed_number op n
-signed_value op _ = Err InvalidJsonPath
 
 -- the only value, if it is one number
 abbrev pub only_number : List val.Value → Option Number

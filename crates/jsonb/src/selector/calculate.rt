@@ -1,12 +1,12 @@
 //! Arithmetic of an expression that is the whole path.
 
-ghost use Rattle.std.specs.Prelude.{◌≡◌, Some, option_map, map, is_some, IfErr};
+ghost use Rattle.std.specs.Prelude.{◌≡◌, ◌∷◌, [], Some, option_map, map, is_some, IfErr};
 ghost use Rattle.jsonb_doc.specs.Answer.{Refines, try_flat_map, IsOutOfMemory};
 ghost use Rattle.jsonb_doc.specs.Arithmetic.{Operation, calculated, IsResultOf};
 ghost use Rattle.jsonb_doc.specs.View.{number_view};
-ghost use Rattle.jsonb.specs.PathArithmetic.{operation, two_numbers, signed_number, each_signed};
+ghost use Rattle.jsonb.specs.PathArithmetic.{operation, two_numbers, all_numbers, signed_number, each_signed};
 ghost use Rattle.std.specs.List.{AllZip};
-ghost use Rattle.jsonb.specs.Private.Selection.{value_view, only_number, is_number, are_numbers, signed_value, IsNumberTree, IsNumberItem};
+ghost use Rattle.jsonb.specs.Private.Selection.{value_view, only_number, IsNumberTree, IsNumberItem};
 ghost use Rattle.jsonb.specs.SelectionErrors.{IsPathError, IsSelectionError};
 ghost use Rattle.jsonb.specs.declared.selector.document.Mode.{Mode};
 
@@ -72,32 +72,6 @@ pub(crate) fn binary_number(
     }
 }
 
-/// Returns `true` if each value is a number.
-#[inline(always)]
-fn are_numbers(values: &[OperandValue<'_>]) -> bool
-    ensures { result ≡ are_numbers (map value_view values.now) }
-{
-    for value in values {
-        if !is_number(value) {
-            return false;
-        }
-    }
-    true
-}
-
-#[inline(always)]
-fn is_number(value: &OperandValue<'_>) -> bool
-    ensures { result ≡ is_number (value_view value.now) }
-{
-    match value {
-        OperandValue::Number(_) => true,
-        OperandValue::Null
-        | OperandValue::Boolean(_)
-        | OperandValue::String(_)
-        | OperandValue::Container => false,
-    }
-}
-
 /// Applies a sign to a number.
 #[inline(always)]
 fn signed(op: UnaryOperator, number: Number) -> Result<Number, Error>
@@ -122,32 +96,28 @@ pub(crate) fn sign_each(op: UnaryOperator, numbers: &mut [Number]) -> Result<(),
     Ok(())
 }
 
-/// Applies a sign to a value. Fails with `InvalidJsonPath` if it is not a number.
+/// Returns the number that a value is. Fails with `InvalidJsonPath` for another value.
 #[inline(always)]
-fn signed_value(op: UnaryOperator, value: &OperandValue<'_>) -> Result<Number, Error>
-    ensures meant { Refines IsNumberTree (λ _. ⊥) result (signed_value op (value_view value.now)) }
+fn number_of(value: &OperandValue<'_>) -> Result<Number, Error>
+    ensures meant { Refines (λ n ns. number_view n ∷ [] ≡ ns) (λ _. ⊥) result
+        (all_numbers (value_view value.now ∷ [])) }
     ensures errors { (mode : Mode) → IfErr result (IsPathError mode) }
 {
     match value {
-        OperandValue::Number(number) => signed(op, *number),
+        OperandValue::Number(number) => Ok(*number),
         _ => Err(Error::InvalidJsonPath),
     }
 }
 
-/// Applies a sign to each value, from left to right.
-#[inline(always)]
-fn each_signed(
-    alloc: Global,
-    op: UnaryOperator,
-    values: &[OperandValue<'_>],
-) -> Result<Vec<Number>, Error>
-    ensures meant { Refines (λ v ts. AllZip IsNumberItem v.items ts) IsOutOfMemory result
-        (try_flat_map (signed_value op) (map value_view values.now)) }
+/// Returns the numbers that values are. Fails with `InvalidJsonPath` for another value.
+fn value_numbers(alloc: Global, values: &[OperandValue<'_>]) -> Result<Vec<Number>, Error>
+    ensures meant { Refines (λ v ns. map number_view v.items ≡ ns) IsOutOfMemory result
+        (all_numbers (map value_view values.now)) }
     ensures errors { (mode : Mode) → IfErr result (IsSelectionError mode) }
 {
-    let mut numbers = Vec::with_capacity(alloc, values.len())?;
+    let mut numbers = Vec::new(alloc);
     for value in values {
-        numbers.push(signed_value(op, value)?)?;
+        numbers.push(number_of(value)?)?;
     }
     Ok(numbers)
 }
@@ -163,9 +133,7 @@ pub(crate) fn unary_numbers(
         (each_signed op (map value_view values.now)) }
     ensures errors { (mode : Mode) → IfErr result (IsSelectionError mode) }
 {
-    if are_numbers(values) {
-        each_signed(alloc, op, values)
-    } else {
-        Err(Error::InvalidJsonPath)
-    }
+    let mut numbers = value_numbers(alloc, values)?;
+    sign_each(op, &mut numbers)?;
+    Ok(numbers)
 }

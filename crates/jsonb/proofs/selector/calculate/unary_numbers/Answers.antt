@@ -1,12 +1,15 @@
-use Rattle.jsonb.proofs.Common.{rules, map, sym, ◌∙◌, value_view}
-use Rattle.jsonb.proofs.CalculateLemmas.{other_refused, values_signed}
-use Rattle.jsonb.proofs.RefinesLemmas.{refused, same_outcome}
+use Rattle.jsonb.proofs.Common.{rules, ◌≡◌, arith, with_items, with_items_is}
+use Rattle.jsonb.proofs.RefinesLemmas.{failed_as, same_outcome, refused_as, first_refused, followed}
 use Rattle.jsonb.proofs.selector.calculate.unary_numbers.Goals as goal
 
-pub returns-then-are_numbers-clause-meant : goal.returns-then-are_numbers-clause-meant
-returns-then-are_numbers-clause-meant c =
-    same_outcome (values_signed c.args.op (map value_view c.args.values.now) (sym c.are_numbers.ensures ∙ c.if-are_numbers.true))
-    c.each_signed.ensures.meant
+pub returns-in_err-numbers-clause-meant : goal.returns-in_err-numbers-clause-meant
+returns-in_err-numbers-clause-meant c = search (rules, failed_as, first_refused)
 
-pub returns-else-are_numbers-clause-meant : goal.returns-else-are_numbers-clause-meant
-returns-else-are_numbers-clause-meant c = search (rules, refused, other_refused)
+pub returns-in_err-sign_each-clause-meant : goal.returns-in_err-sign_each-clause-meant
+returns-in_err-sign_each-clause-meant c = search (rules, failed_as, followed, same_outcome, refused_as)
+
+pub returns-clause-meant : goal.returns-clause-meant
+returns-clause-meant c =
+    let numbers : (with_items c.in_ok-numbers.numbers c.sign_each.new.numbers).items ≡ c.sign_each.new.numbers =
+    with_items_is c.in_ok-numbers.numbers _ (omega arith) in
+    grind (arith, c.in_ok-numbers.ensures.meant, c.deref_mut.ensures.value, c.in_ok-sign_each.ensures.meant.ok)
