@@ -1,6 +1,6 @@
 //! The functions on the locations of a document.
 
-ghost use Rattle.std.specs.Prelude.{ℕ, List, map, length, slice_get, option_and_then, IsOkAnd, IfErr, MatchResult};
+ghost use Rattle.std.specs.Prelude.{ℕ, List, map, length, slice_get, option_and_then, IsOkAnd, IfErr, OnOk, MatchResult};
 ghost use Rattle.std.specs.Iterator.{IsFinite};
 ghost use Rattle.std.specs.Fmt.{signed_decimal};
 ghost use Rattle.jsonb_doc.specs.Tree.{Tree, field_of};
@@ -8,6 +8,7 @@ ghost use Rattle.jsonb_doc.specs.Payload.{Form};
 ghost use Rattle.jsonb_doc.specs.Format.{Decodes};
 ghost use Rattle.jsonb_doc.specs.Answer.{SameOption, IsOutOfMemory, ◌or◌, IsDecodingError};
 ghost use Rattle.jsonb_doc.specs.declared.error.Error.TheVariants.{OutOfMemory, TooLarge};
+ghost use Rattle.jsonb_doc.specs.AnyBytes.Roots.{HasReadableRoot};
 ghost use Rattle.jsonb_doc.specs.Representation.Positions.{Locates, HasSpotsLeft};
 ghost use Rattle.jsonb_keypath.specs.declared.key_path.KeyPath.{KeyPath};
 ghost use Rattle.jsonb_keypath.specs.KeyPathGrammar.{index as index_step};
@@ -163,6 +164,7 @@ impl RawJsonb<'_> {
             → (form : Form) (t : Tree) → Decodes form (raw_bytes self.now) t
             → MakesOption form (tree_at_steps (map key_view (left steps)) t) result }
         ensures errors { IfErr result (IsDecodingError or OutOfMemory or TooLarge) }
+        ensures readable { OnOk result (HasReadableRoot (raw_bytes self.now)) }
     {
         let Some(spot) = self.spot_by_keypath(alloc, steps)? else {
             return Ok(None);
@@ -198,6 +200,7 @@ impl RawJsonb<'_> {
             → MatchResult result (λ found. SameOption (Locates (raw_bytes self.now)) found
             (tree_at_steps (map key_view (left steps)) t)) IsOutOfMemory }
         ensures errors { IfErr result (IsDecodingError or OutOfMemory) }
+        ensures readable { OnOk result (HasReadableRoot (raw_bytes self.now)) }
     {
         let bytes = self.as_bytes();
         let mut spot = root_spot(bytes)?;

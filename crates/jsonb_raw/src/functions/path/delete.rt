@@ -1,6 +1,6 @@
 //! A document without the value at a key path.
 
-ghost use Rattle.std.specs.Prelude.{◌≡◌, ℕ, ◌+◌, ◌^◌, ◌<◌, ◌≤◌, List, map, length, position as first_position, not, IsTrue, IsErrOf, IfOk, IfSome, IfErr, MatchResult};
+ghost use Rattle.std.specs.Prelude.{◌≡◌, ℕ, ◌+◌, ◌^◌, ◌<◌, ◌≤◌, List, map, length, position as first_position, not, IsTrue, IsErrOf, IfOk, IfSome, IfErr, OnOk, MatchResult};
 ghost use Rattle.std.specs.Iterator.{IsFinite};
 ghost use Rattle.std.specs.Fmt.{signed_decimal};
 ghost use Rattle.std.specs.Str.{bytes_eq};
@@ -14,6 +14,7 @@ ghost use Rattle.jsonb_keypath.specs.declared.key_path.KeyPath.{KeyPath};
 ghost use Rattle.jsonb_keypath.specs.KeyPathViews.{key_view};
 ghost use Rattle.jsonb_keypath.specs.Private.KeysView.{keys_view};
 ghost use Rattle.jsonb_raw.specs.Documents.{raw_bytes};
+ghost use Rattle.jsonb_raw.specs.AnyBytes.Roots.{HasRoot};
 ghost use Rattle.jsonb_raw.specs.Deletes.{without, MeetNoPart};
 ghost use Rattle.jsonb_raw.specs.Scalars.{is_json_scalar};
 ghost use Rattle.jsonb_raw.specs.Iterators.{YieldsItemsLeft};
@@ -218,6 +219,7 @@ impl RawJsonb<'_> {
             → MeetNoPart (map key_view (left steps)) t
             → MatchResult result (λ made. made ≡ raw_bytes self.now) IsOutOfMemory }
         ensures errors { IfErr result (IsDecodingError or OutOfMemory or InvalidJsonType) }
+        ensures reads { OnOk result (HasRoot (raw_bytes self.now)) }
     {
         let bytes = self.as_bytes();
         if is_json_scalar(&root_item(bytes)?) {
