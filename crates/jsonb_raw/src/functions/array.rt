@@ -2,11 +2,12 @@
 //!
 //! On bytes that do not decode each function returns; its result is not specified.
 
-ghost use Rattle.std.specs.Prelude.{◌≡◌, List, [], ◌∷◌, Ok, None, IfErr, IsSomeAnd, MatchOption, MatchResult};
+ghost use Rattle.std.specs.Prelude.{◌≡◌, List, [], ◌∷◌, Ok, None, IfErr, IsSomeAnd, MatchOption, MatchResult, OnOk};
 ghost use Rattle.std.specs.List.{insert, Any, AllZip};
 ghost use Rattle.jsonb_doc.specs.Tree.{Tree, array, trees_of};
 ghost use Rattle.jsonb_doc.specs.Payload.{Form};
 ghost use Rattle.jsonb_doc.specs.Format.{Decodes};
+ghost use Rattle.jsonb_raw.specs.AnyBytes.Roots.{HasRootShape};
 ghost use Rattle.jsonb_raw.specs.Computes.{Computes};
 ghost use Rattle.jsonb_raw.specs.Documents.{raw_bytes, Makes};
 ghost use Rattle.jsonb_doc.specs.Limits.{IsTooLarge};
@@ -126,6 +127,7 @@ impl RawJsonb<'_> {
         ensures inserted { (form : Form) (t value : Tree) → Decodes form (raw_bytes self.now) t
             → Decodes form (raw_bytes new_val.now) value → Makes form (array_insert pos value t) result }
         ensures errors { IfErr result (IsDecodingError or OutOfMemory or TooLarge) }
+        ensures reads { OnOk result (HasRootShape (raw_bytes self.now) × HasRootShape (raw_bytes new_val.now)) }
     {
         array_with_element(alloc, self.as_bytes(), pos, new_val.as_bytes())
     }
@@ -170,6 +172,7 @@ fn array_with_element<'a>(
 ) -> Result<OwnedJsonb, Error>
     ensures inserted { (form : Form) (t u : Tree) → Decodes form bytes.now t → Decodes form value.now u
         → Makes form (array_insert pos u t) result }
+    ensures reads { OnOk result (HasRootShape bytes.now × HasRootShape value.now) }
     ensures errors { IfErr result (IsDecodingError or OutOfMemory or TooLarge) }
 {
     let elements = Elements::of_document(bytes)?;

@@ -1,12 +1,13 @@
 //! Entries of containers, as they are stored, and the documents of single entries.
 
-ghost use Rattle.std.specs.Prelude.{◌≡◌, ◌+◌, ◌≤◌, List, length, take, drop, IsOkAnd, IfOk, IfErr};
+ghost use Rattle.std.specs.Prelude.{◌≡◌, ◌+◌, ◌≤◌, List, length, take, drop, IsOkAnd, IfOk, IfErr, IfSome};
 ghost use Rattle.jsonb_doc.specs.Tree.{Tree};
 ghost use Rattle.jsonb_doc.specs.Payload.{Form, number_reader};
 ghost use Rattle.jsonb_doc.specs.Format.{Decodes, IsContent};
 ghost use Rattle.jsonb_doc.specs.Kinds.{kind_number};
 ghost use Rattle.jsonb_doc.specs.Answer.{IsDecodingError, ◌or◌};
 ghost use Rattle.jsonb_doc.specs.declared.error.Error.TheVariants.{OutOfMemory, TooLarge};
+ghost use Rattle.jsonb_raw.specs.AnyBytes.Roots.{HasRootShape};
 ghost use Rattle.jsonb_raw.specs.Documents.{Makes};
 ghost use Rattle.jsonb_raw.specs.Private.Entries.{HoldTrees, AreElementsOf};
 
@@ -20,6 +21,7 @@ use std::alloc::Global;
 #[inline(always)]
 pub fn element_entries(bytes: &[u8]) -> Result<Option<Entries<'_>>, Error>
     ensures entries { (form : Form) (t : Tree) → Decodes form bytes.now t → IsOkAnd result (AreElementsOf form t) }
+    ensures reads { IfOk result (λ found. IfSome found (λ _. HasRootShape bytes.now)) }
     ensures errors { IfErr result IsDecodingError }
 {
     match read_container(bytes)? {
@@ -78,18 +80,20 @@ pub fn entry_document(alloc: Global, kind: EntryKind, content: &[u8]) -> Result<
 }
 
 impl<'a> EntryWithWord<'a> {
-    ghost use Rattle.std.specs.Prelude.{[], ◌∷◌, MatchResult};
+    ghost use Rattle.std.specs.Prelude.{[], ◌∷◌, OnOk, MatchResult};
     ghost use Rattle.jsonb_doc.specs.Tree.{Tree};
     ghost use Rattle.jsonb_doc.specs.Payload.{Form};
     ghost use Rattle.jsonb_doc.specs.Format.{Decodes};
     ghost use Rattle.jsonb_doc.specs.Answer.{IsDecodingError, ◌or◌};
     ghost use Rattle.jsonb_doc.specs.declared.error.Error.TheVariants.{TooLarge};
+    ghost use Rattle.jsonb_raw.specs.AnyBytes.Roots.{HasRootShape};
     ghost use Rattle.jsonb_raw.specs.Private.Entries.{HoldTrees, HoldsTree, IsTooLongRoot};
 
     /// Returns the root of a document as an element. Fails with `TooLarge` if it is too long for one.
     pub fn of_root(document: &'a [u8]) -> Result<EntryWithWord<'a>, Error>
         ensures root { (form : Form) (t : Tree) → Decodes form document.now t
             → MatchResult result (λ entry. HoldsTree form entry t) (IsTooLongRoot form t) }
+        ensures reads { OnOk result (HasRootShape document.now) }
         ensures errors { IfErr result (IsDecodingError or TooLarge) }
     {
         let StoredEntry { kind, content } = root_entry(document)?;
@@ -114,12 +118,13 @@ impl<'a> EntryWithWord<'a> {
 }
 
 impl<'a> Elements<'a> {
-    ghost use Rattle.std.specs.Prelude.{List, MatchResult};
+    ghost use Rattle.std.specs.Prelude.{List, OnOk, MatchResult};
     ghost use Rattle.jsonb_doc.specs.Tree.{Tree};
     ghost use Rattle.jsonb_doc.specs.Payload.{Form};
     ghost use Rattle.jsonb_doc.specs.Format.{Decodes};
     ghost use Rattle.jsonb_doc.specs.Answer.{IsDecodingError, ◌or◌};
     ghost use Rattle.jsonb_doc.specs.declared.error.Error.TheVariants.{TooLarge};
+    ghost use Rattle.jsonb_raw.specs.AnyBytes.Roots.{HasRootShape};
     ghost use Rattle.jsonb_raw.specs.Arrays.{as_elements};
     ghost use Rattle.jsonb_raw.specs.Private.Entries.{HoldTrees, HoldElements, IsTooLongElement};
 
@@ -128,6 +133,7 @@ impl<'a> Elements<'a> {
     pub fn of_document(document: &'a [u8]) -> Result<Elements<'a>, Error>
         ensures elements { (form : Form) (t : Tree) → Decodes form document.now t
             → MatchResult result (λ found. HoldElements form found (as_elements t)) (IsTooLongElement form t) }
+        ensures reads { OnOk result (HasRootShape document.now) }
         ensures errors { IfErr result (IsDecodingError or TooLarge) }
     {
         match element_entries(document)? {

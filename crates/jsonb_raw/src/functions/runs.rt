@@ -10,6 +10,7 @@ ghost use Rattle.jsonb_doc.specs.Format.{Decodes};
 ghost use Rattle.jsonb_doc.specs.Answer.{IsDecodingError, IsOutOfMemory, ◌or◌};
 ghost use Rattle.jsonb_doc.specs.declared.error.Error.TheVariants.{OutOfMemory};
 ghost use Rattle.jsonb_doc.specs.Private.Writer.{Around, IsWriting};
+ghost use Rattle.jsonb_raw.specs.AnyBytes.Roots.{HasRootShape};
 ghost use Rattle.jsonb_raw.specs.Private.Entries.{HoldTrees, HoldPairs, ArePairsOf, AreContainerEntries, AreWithin, TakesFirstPair, RunsHold, Holding};
 
 use crate::functions::joined::object_of;
@@ -49,6 +50,7 @@ fn entries_of_pairs(parts: ObjectParts<'_>) -> Result<PairEntries<'_>, Error>
 /// Returns the entries of an object's pairs, or `None` if the root is not an object.
 pub fn pair_entries(bytes: &[u8]) -> Result<Option<PairEntries<'_>>, Error>
     ensures entries { (form : Form) (t : Tree) → Decodes form bytes.now t → IsOkAnd result (ArePairsOf form t) }
+    ensures reads { IfOk result (λ found. IfSome found (λ _. HasRootShape bytes.now)) }
     ensures errors { IfErr result IsDecodingError }
 {
     let Container::Object(parts) = read_container(bytes)? else {
@@ -64,6 +66,7 @@ pub fn container_entries(bytes: &[u8]) -> Result<Option<ContainerEntries<'_>>, E
     ensures room { IfOk result (λ found. IfSome found (λ e.
         length e.values.words.now + length e.values.contents.now + 4 ≤ length bytes.now)) }
     ensures size { IfOk result (λ found. IfSome found (AreWithin (length bytes.now))) }
+    ensures reads { IfOk result (λ found. IfSome found (λ _. HasRootShape bytes.now)) }
     ensures errors { IfErr result IsDecodingError }
 {
     match read_container(bytes)? {

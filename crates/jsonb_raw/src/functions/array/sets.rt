@@ -13,6 +13,7 @@ ghost use Rattle.jsonb_doc.specs.Representation.Iterators.{HasElementsLeft};
 ghost use Rattle.jsonb_doc.specs.ArrayBuilder.{HoldsElements};
 ghost use Rattle.jsonb_doc.specs.Answer.{IsOutOfMemory, ◌or◌, ◌or◌when◌, IsDecodingError};
 ghost use Rattle.jsonb_doc.specs.declared.error.Error.TheVariants.{OutOfMemory, TooLarge};
+ghost use Rattle.jsonb_raw.specs.AnyBytes.Roots.{HasRoot};
 ghost use Rattle.jsonb_raw.specs.Documents.{raw_bytes, Makes};
 ghost use Rattle.jsonb_raw.specs.EqualityKey.{equality_key};
 ghost use Rattle.jsonb_raw.specs.Arrays.{as_elements};
@@ -242,6 +243,7 @@ fn kept_beside(
 fn lone_root(bytes: &[u8]) -> Result<Option<Item<'_>>, Error>
     ensures item { (form : Form) (t : Tree) → Decodes form bytes.now t
         → IsOkAnd result (λ found. IfSome found (λ item. StandsFor form item t × (as_elements t ≡ t ∷ []))) }
+    ensures reads { OnOk result (HasRoot bytes.now) }
     ensures errors { IfErr result IsDecodingError }
 {
     match root_item(bytes)? {
@@ -259,6 +261,7 @@ fn lone_roots_equal(bytes: &[u8], other: &[u8]) -> Result<Option<bool>, Error>
         → Decodes other_form other.now u
         → IsOkAnd result (λ found. IfSome found (λ b. (as_elements t ≡ t ∷ []) × (as_elements u ≡ u ∷ [])
         × (b ≡ is_equal u t))) }
+    ensures reads { OnOk result (HasRoot other.now) }
     ensures errors { IfErr result IsDecodingError }
 {
     let Some(wanted) = lone_root(other)? else {
@@ -340,6 +343,7 @@ impl RawJsonb<'_> {
         ensures distinct { (form : Form) (t : Tree) → Decodes form (raw_bytes self.now) t
             → Makes form (array (trees_of (distinct (as_elements t)))) result }
         ensures errors { IfErr result (IsDecodingError or OutOfMemory or TooLarge) }
+        ensures reads { OnOk result (HasRoot (raw_bytes self.now)) }
     {
         let bytes = self.as_bytes();
         match lone_root(bytes)? {
@@ -383,6 +387,7 @@ impl RawJsonb<'_> {
             → Decodes other_form (raw_bytes other.now) u
             → Makes form (array (trees_of (intersection_of (as_elements t) (as_elements u)))) result }
         ensures errors { IfErr result (IsDecodingError or OutOfMemory or TooLarge) }
+        ensures reads { OnOk result (HasRoot (raw_bytes other.now)) }
     {
         let (bytes, others) = (self.as_bytes(), other.as_bytes());
         if let Some(is_shared) = lone_roots_equal(bytes, others)? {
@@ -417,6 +422,7 @@ impl RawJsonb<'_> {
             → Decodes other_form (raw_bytes other.now) u
             → Makes form (array (trees_of (difference_of (as_elements t) (as_elements u)))) result }
         ensures errors { IfErr result (IsDecodingError or OutOfMemory or TooLarge) }
+        ensures reads { OnOk result (HasRoot (raw_bytes other.now)) }
     {
         let (bytes, others) = (self.as_bytes(), other.as_bytes());
         if let Some(is_shared) = lone_roots_equal(bytes, others)? {

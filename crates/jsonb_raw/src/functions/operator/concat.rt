@@ -1,12 +1,13 @@
 //! Concatenation of two documents.
 
-ghost use Rattle.std.specs.Prelude.{ℕ, ◌++◌, List, IfErr};
+ghost use Rattle.std.specs.Prelude.{ℕ, ◌++◌, List, IfErr, OnOk};
 ghost use Rattle.std.specs.Map.{keys_of};
 ghost use Rattle.jsonb_doc.specs.Tree.{Tree, array, object, trees_of, pairs_of};
 ghost use Rattle.jsonb_doc.specs.Payload.{Form};
 ghost use Rattle.jsonb_doc.specs.Format.{Decodes, AreKeys};
 ghost use Rattle.jsonb_doc.specs.Answer.{IsDecodingError, ◌or◌};
 ghost use Rattle.jsonb_doc.specs.declared.error.Error.TheVariants.{OutOfMemory, TooLarge};
+ghost use Rattle.jsonb_raw.specs.AnyBytes.Roots.{HasRootShape};
 ghost use Rattle.jsonb_raw.specs.Documents.{raw_bytes, Makes};
 ghost use Rattle.jsonb_raw.specs.Arrays.{as_elements};
 ghost use Rattle.jsonb_raw.specs.Concat.{concat};
@@ -56,6 +57,7 @@ impl RawJsonb<'_> {
             → Decodes form (raw_bytes self.now) tree → Decodes form (raw_bytes other.now) other_tree
             → Makes form (concat tree other_tree) result }
         ensures errors { IfErr result (IsDecodingError or OutOfMemory or TooLarge) }
+        ensures reads { OnOk result (HasRootShape (raw_bytes self.now) × HasRootShape (raw_bytes other.now)) }
     {
         let bytes = self.as_bytes();
         let others = other.as_bytes();
@@ -119,6 +121,7 @@ fn merged_pairs<'a>(
 fn joined_arrays<'a>(alloc: Global, bytes: &'a [u8], others: &'a [u8]) -> Result<OwnedJsonb, Error>
     ensures document { (form : Form) (t u : Tree) → Decodes form bytes.now t → Decodes form others.now u
         → Makes form (array (trees_of (as_elements t ++ as_elements u))) result }
+    ensures reads { OnOk result (HasRootShape bytes.now × HasRootShape others.now) }
     ensures errors { IfErr result (IsDecodingError or OutOfMemory or TooLarge) }
 {
     let first = Elements::of_document(bytes)?;

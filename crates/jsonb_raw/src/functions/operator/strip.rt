@@ -1,11 +1,12 @@
 //! Documents without the null members of their objects.
 
-ghost use Rattle.std.specs.Prelude.{IfErr};
+ghost use Rattle.std.specs.Prelude.{IfErr, OnOk};
 ghost use Rattle.jsonb_doc.specs.Tree.{Tree};
 ghost use Rattle.jsonb_doc.specs.Payload.{Form};
 ghost use Rattle.jsonb_doc.specs.Format.{Decodes};
 ghost use Rattle.jsonb_doc.specs.Answer.{IsDecodingError, ◌or◌};
 ghost use Rattle.jsonb_doc.specs.declared.error.Error.TheVariants.{OutOfMemory, TooLarge};
+ghost use Rattle.jsonb_raw.specs.AnyBytes.Roots.{HasRootShape};
 ghost use Rattle.jsonb_raw.specs.Documents.{raw_bytes, Makes};
 ghost use Rattle.jsonb_raw.specs.Strip.{strip};
 
@@ -45,6 +46,7 @@ impl RawJsonb<'_> {
         ensures document { (form : Form) (tree : Tree) → Decodes form (raw_bytes self.now) tree
             → Makes form (strip tree) result }
         ensures errors { IfErr result (IsDecodingError or OutOfMemory or TooLarge) }
+        ensures reads { OnOk result (HasRootShape (raw_bytes self.now)) }
     {
         let bytes = self.as_bytes();
         let Some(container) = container_entries(bytes)? else {
@@ -59,6 +61,7 @@ impl RawJsonb<'_> {
 fn scalar_copy(alloc: Global, bytes: &[u8]) -> Result<OwnedJsonb, Error>
     ensures copy { (form : Form) (t : Tree) → Decodes form bytes.now t
         → Makes form t result }
+    ensures reads { OnOk result (HasRootShape bytes.now) }
     ensures errors { IfErr result (IsDecodingError or OutOfMemory) }
 {
     root_entry(bytes)?;

@@ -1,6 +1,8 @@
 use Rattle.jsonb_raw.proofs.Common.{refl, Decodes-array, Decodes-object, arith, many_keys}
 use Rattle.jsonb_raw.proofs.RunLemmas.{array_entries_are, object_entries_are, no_parts}
 use Rattle.std.proofs.lemmas.List.{length-append}
+use Rattle.jsonb_doc.proofs.ReadItems.{array_root, object_root}
+use Rattle.jsonb_doc.specs.declared.shape.Shape.TheVariants as shapes
 use Rattle.jsonb_raw.proofs.functions.runs.container_entries.Goals as goal
 
 pub returns-in-Array-clause-entries : goal.returns-in-Array-clause-entries
@@ -25,3 +27,11 @@ returns-in-Array-clause-size c = grind (arith, length-append)
 
 pub returns-in_ok-keys-in-Object-clause-size : goal.returns-in_ok-keys-in-Object-clause-size
 returns-in_ok-keys-in-Object-clause-size c = grind (arith, many_keys, length-append)
+
+pub returns-in-Array-clause-reads : goal.returns-in-Array-clause-reads
+returns-in-Array-clause-reads c =
+    (shapes.Array, array_root c.args.bytes.now c.in-Array.parts (rw c.in-Array.is at c.in_ok-read_container.ensures.cut))
+
+pub returns-in_ok-keys-in-Object-clause-reads : goal.returns-in_ok-keys-in-Object-clause-reads
+returns-in_ok-keys-in-Object-clause-reads c =
+    (shapes.Object, object_root c.args.bytes.now c.in-Object.parts (rw c.in-Object.is at c.in_ok-read_container.ensures.cut))

@@ -1,5 +1,7 @@
 use Rattle.jsonb_raw.proofs.Common.{Decodes-object}
 use Rattle.jsonb_raw.proofs.RunLemmas.{pairs_by_parts, no_parts}
+use Rattle.jsonb_doc.proofs.ReadItems.{object_root}
+use Rattle.jsonb_doc.specs.declared.shape.Shape.TheVariants as shapes
 use Rattle.jsonb_raw.proofs.functions.runs.pair_entries.Goals as goal
 
 pub returns-in_err-entries_of_pairs-clause-entries : goal.returns-in_err-entries_of_pairs-clause-entries
@@ -13,3 +15,7 @@ returns-clause-entries c = λ form t d.
     pairs_by_parts form t c.in-Object.parts _
     (Decodes-object form c.args.bytes.now c.in-Object.parts (rw c.in-Object.is at c.in_ok-parts.ensures.cut) t d)
     (c.in_ok-entries_of_pairs.ensures.entries form)
+
+pub returns-clause-reads : goal.returns-clause-reads
+returns-clause-reads c =
+    (shapes.Object, object_root c.args.bytes.now c.in-Object.parts (rw c.in-Object.is at c.in_ok-parts.ensures.cut))
