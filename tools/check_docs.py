@@ -35,12 +35,12 @@ CONVERSIONS = {
 }
 ONLY_TESTS = {"jsonb_examples", "jsonb_sweep", "jsonb_vectors"}
 
-ITEM = re.compile(r"pub (?:const )?(fn|struct|enum|trait|const) (\w+)")
-METHOD = re.compile(r"    (?:pub )?(?:const )?(fn|const) (\w+)")
+ITEM = re.compile(r"pub (?:const |unsafe )*(fn|struct|enum|trait|const) (\w+)")
+METHOD = re.compile(r"    (?:pub )?(?:const |unsafe )*(fn|const) (\w+)")
 MEMBER = re.compile(r"    (pub )?(\w+)(:|,|\(| \{)")
 HEAD = re.compile(r"\n(?:impl|pub trait)(?:<[^>]*>)? (\w+)|\n *(?:pub )?fn (\w+)([^{;]*?)(?=\n\s+(?:ensures|requires|\{)| \{)")
 LIFETIME = re.compile(r"<'(?!static)\w+(?:, Global)?>|'(?!static)\w+ ")
-OWNER = re.compile(r"(?:pub )?(impl|trait)(?:<[^>]*>)? (\w+)(.*)")
+OWNER = re.compile(r"(?:pub )?(impl|trait)(?:<[^>]*>)? (?:\w+::)*(\w+)(.*)")
 
 
 @dataclass
