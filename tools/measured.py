@@ -146,14 +146,14 @@ def classes():
     for name, cases in by_class(read("speed")).items():
         above = f"{len(above_one(cases))} of {len(cases):,}"
         rows.append([name, f"{mean_ratio(cases):.2f}", f"{max(map(ratio, cases)):.2f}", above])
-    return table(["Class", "Mean", "Greatest", "Above 1"], rows)
+    return table(["Class", "Geometric mean", "Greatest", "Above 1"], rows)
 
 
 def means():
     rows = read("speed")
     shown = [f"{name} {mean_ratio(cases):.2f}" for name, cases in by_class(rows).items()]
     worst = max(rows, key=ratio)
-    return f"Mean instruction ratios: {', '.join(shown)}. Greatest: {ratio(worst):.2f} ({worst['case']})."
+    return f"Geometric means of the instruction ratios: {', '.join(shown)}. Greatest: {ratio(worst):.2f} ({worst['case']})."
 
 
 def slower():
