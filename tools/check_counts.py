@@ -143,6 +143,7 @@ def faults_of_sweep():
 def numbers_of_sweep():
     yield "cases of the sweep", len(names_of_cases("stdout"))
     yield "large cases of the sweep", len(names_of_cases("large"))
+    yield "sizes of the large cases", sum(int(it) for it in re.findall(r"^(?:16 \* |depth )?(\d+)", text_of(CRATES / "jsonb_sweep/large"), re.M))
     allocations = [it.split()[0] for it in text_of(CRATES / "jsonb_sweep/growths").splitlines()]
     yield "allocations of the sweep", sum(int(it) for it in allocations if it.isdigit())
     yield "runs of jsonb_tool in the sweep", len(re.findall(r"^(?:sweep|large)_tool ", text_of(ROOT / "tools/sweep_memory.sh"), re.M))
@@ -207,6 +208,9 @@ def numbers_of_tools():
     runs = [it for shape in measure_stack.SHAPES for it in measure_stack.document_runs(shape)]
     yield "runs in a small stack", len([*runs, *measure_stack.path_runs()])
     yield "values and paths in a small stack", len([*measure_stack.decoded()])
+    yield "levels of documents in a small stack", measure_stack.MILLION
+    yield "levels of values and paths in a small stack", measure_stack.DECODED
+    yield "bytes of the small stack", measure_stack.SMALL_STACK
     yield "witnesses that test the judge", entries_of("tools/test_judge.py", "WITNESSES")
     yield "mutants that test what has a switch", entries_of("tools/test_judge.py", "SWITCHED")
     yield "folders that test the judge", entries_of("tools/test_judge.py", "FOLDERS")
