@@ -2,6 +2,7 @@
 """Compares the C library and the program with a model that shares no code with them, on random documents and paths.
 
     fuzz.py [--seconds N] [--seed N] [--library FILE] [--tool FILE]
+    fuzz.py --corpus FOLDER [--seed N]    writes inputs for bindings/c/tests/fuzz.c, which runs the library without a model
 
 The seed is the day's date if none is given, so that each day tries other cases. A difference prints the call, its arguments and both
 results; the seed gives it again. The last line is 'N passed, M failed'.
@@ -389,6 +390,29 @@ def program_case(tool, cases, report):
     report(f"jsonb_tool {command}, standard error", words[1:], problem, made.stderr.decode())
 
 
+# ---- inputs for bindings/c/tests/fuzz.c
+
+INPUTS = 4000
+
+
+def fuzz_input(number, cases):
+    """Returns an input of that program, which says what the bytes are."""
+    random = cases.random
+    documents = [cases.document(cases.tree())[0] for _ in range(2)]
+    first = cases.damaged(documents[0]) if random.random() < 0.2 else documents[0]
+    texts = [cases.json_path(), cases.key_path(), *(it.encode() for it in cases.names())]
+    second, third = random.choice([documents[1], *texts]), random.choice(texts)
+    whole = random.choice([-1, 0, 1, 2**40]).to_bytes(8, "little", signed=True)
+    head = bytes([number % 256, random.randrange(8), random.choice([0, 2, 255])]) + whole
+    return head + len(second).to_bytes(2, "little") + len(third).to_bytes(2, "little") + first + second + third
+
+
+def write_corpus(folder, cases):
+    folder.mkdir(parents=True, exist_ok=True)
+    for number in range(INPUTS):
+        (folder / f"{number:04}").write_bytes(fuzz_input(number, cases))
+
+
 # ---- running
 
 
@@ -418,6 +442,7 @@ def words():
     parser.add_argument("--library", type=Path, help="default: bindings/c/out/libjdoc.so, made first")
     parser.add_argument("--header", type=Path, default=TOP / "bindings/c/jdoc.h")
     parser.add_argument("--tool", type=Path, default=TOP / "crates/jsonb_tool/out/jsonb_tool")
+    parser.add_argument("--corpus", type=Path)
     return parser.parse_args()
 
 
@@ -428,8 +453,10 @@ def made_library():
 
 def main():
     given, report = words(), Report()
-    library = Library(given.library or made_library(), given.header)
     cases = Cases(random.Random(given.seed))
+    if given.corpus:
+        return write_corpus(given.corpus, cases)
+    library = Library(given.library or made_library(), given.header)
     print(f"fuzz: seed {given.seed}", flush=True)
     has_tool = given.tool.is_file()
     if not has_tool:
