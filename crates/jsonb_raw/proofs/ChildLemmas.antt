@@ -1,5 +1,5 @@
--- What the iterator over the spots of children gives, and the children of a list.
-use Rattle.jsonb_raw.proofs.Common.{◌≡◌, ℕ, zero, suc, ◌<◌, ◌≤◌, pos, List, [], ◌∷◌, length, drop, Option, Some, None, Result, Ok, Err, IsOkAnd, unwrap_or, refl, arith, slice_get, sym, option_and_then, nat_tests, Tree, SameOption, TakesSpot, Locates, HasSpotsLeft, Error, Spot, SpotIter, index_position}
+-- The children of a list, what the iterator over their positions gives, and what calls on children return.
+use Rattle.jsonb_raw.proofs.Common.{◌≡◌, ℕ, zero, suc, ◌<◌, ◌≤◌, pos, List, [], ◌∷◌, length, drop, Option, Some, None, Result, Ok, Err, IsOkAnd, unwrap_or, refl, arith, slice_get, sym, option_and_then, nat_tests, Tree, SameOption, TakesSpot, Locates, HasSpotsLeft, Error, Spot, SpotIter, index_position, ◌↔◌, ℤ, Bool, true, false, IsTrue, map, ap, to_ascii_lowercase, bytes_eq-Decides, str_eq_ignore_ascii_case, array, Trees, elements, trees_of-elements, is_object, named_child, without_index}
 
 -- at first all children are left
 pub all_left : (bytes : List ℕ) (it : SpotIter) (o : Option (List Tree)) → SameOption (HasSpotsLeft bytes) (Some it) o
@@ -63,3 +63,32 @@ beyond (t ∷ ts) (suc n) h = beyond ts n (omega arith)
 pub from_front : (ts : List Tree) (n : ℕ)
     → option_and_then (λ n. slice_get ts n) (index_position (length ts) (pos n)) ≡ slice_get ts n
 from_front ts n = grind (arith, nat_tests, beyond ts n)
+
+-- ---- elements
+
+pub no_such_element : (ts : List Tree) (i : ℕ) → drop i ts ≡ [] → slice_get ts i ≡ None
+no_such_element ts i none = nowhere (drop i ts) 0 _ none (first_behind ts i)
+
+-- ---- an element less
+
+pub drop_one_more : {A : Type 0} (n : ℕ) (xs : List A) → drop 1 (drop n xs) ≡ drop (suc n) xs
+drop_one_more zero [] = refl
+drop_one_more zero (x ∷ xs) = refl
+drop_one_more (suc n) [] = refl
+drop_one_more (suc n) (x ∷ xs) = drop_one_more n xs
+
+pub without_none : (i : ℤ) (ts : Trees) → index_position (length (elements ts)) i ≡ None → without_index i (array ts) ≡ Some (array ts)
+without_none i ts is = rw is (ap (λ us. Some (array us)) (trees_of-elements ts))
+
+-- ---- names
+
+pub no_member : (name : List ℕ) (t : Tree) → is_object t ≡ false → named_child name false t ≡ None
+no_member name t h = grind arith
+
+-- a test of the code decides whether strings are the same
+pub decided : (a b : List ℕ) (r : Bool) → (IsTrue r ↔ (map to_ascii_lowercase a ≡ map to_ascii_lowercase b)) → str_eq_ignore_ascii_case a b ≡ r
+decided a b true test = (bytes_eq-Decides (map to_ascii_lowercase a) (map to_ascii_lowercase b)).1 (test.0 refl)
+decided a b false test = go (str_eq_ignore_ascii_case a b) refl
+  where
+    go : (s : Bool) → str_eq_ignore_ascii_case a b ≡ s → s ≡ false
+    go s h = grind (arith, bytes_eq-Decides)

@@ -1,7 +1,7 @@
 -- Pairs that are merged, and the laws of concatenation.
 use Rattle.jsonb_raw.proofs.Common.{◌≡◌, ℕ, List, [], ◌∷◌, ◌++◌, Bool, true, false, not, Option, Some, refl, sym, ap, ◌∙◌, append_assoc, append-nil, Ordering, Less, Equal, Greater, subst, arith, keys_of, ordering_reverse, match_ordering, slice_cmp, nat_list_cmp_total, Tree, Form, IsBelowFirst, insert_pair, AreRising, below_inserted, PairEntries, FirstPair, PairRuns, merged, HoldPairs, TakesFirstPair, IsFirstPair, PairsHeld, PairsOpen, below_next, bytes_cmp_refl, bytes_eq-Decides}
 use Rattle.std.specs.Ordering.{nat_cmp}
-use Rattle.jsonb_raw.proofs.PairStepLemmas.{same_below, turned, equal_keys, test_of_order}
+use Rattle.jsonb_raw.proofs.PartedRuns.{same_below, turned, equal_keys, test_of_order}
 use Rattle.jsonb_raw.proofs.RunLemmas.{pairs_begun, no_pairs_held, pair_kept, others_hold, left_holds, pair_taken, no_pair_left}
 
 abbrev Member : Type 0

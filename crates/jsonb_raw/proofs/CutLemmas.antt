@@ -1,13 +1,12 @@
--- Containers without a value within them: their entries, the way to the value, and numbers of bytes.
-use Rattle.jsonb_raw.proofs.Common.{◌≡◌, ℕ, zero, suc, ◌+◌, ◌-◌, ◌^◌, ◌<◌, ◌≤◌, inl, List, [], ◌∷◌, ◌++◌, length, take, drop, map, Option, Some, None, refl, sym, ap, ap₂, subst, ◌∙◌, arith, append_assoc, append-nil, slice_get, reverse, option_map, option_to_list, keys_of, values_of, length-take-le, length-values_of, Tree, text, array, object, Trees, Pairs, no_pairs, pair, elements, keys, values, members, trees_of, pairs_of, children_of, Form, number_reader, IsBelowFirst, AreKeys, IsContent, Decodes, kind_number, container_entry, Make, AreSortedKeys, Around, Rooms, IsWriting, EndsWithin, head_size, Entries, StoredEntry, Container, HeaderKind, Writer, innermost, keys_rise, keys_of-members, Key, ContainerEntries, ParentEntries, Outer, children, child_position, change_at, change_child, remove_at, HoldTrees, TakesFirst, AreEntriesOf, AreContainerEntries, count_kept, IsParent, LeadTo, HoldsValue, StepsInto, children_kept, size, sizes, AreShort, AreLeft, rooms_after, remove}
+-- Containers without a value within them: their entries, the way to the value, and what is left of the document.
+use Rattle.jsonb_raw.proofs.Common.{◌≡◌, ℕ, zero, suc, ◌+◌, ◌-◌, ◌^◌, ◌<◌, ◌≤◌, inl, List, [], ◌∷◌, ◌++◌, length, take, drop, map, Option, Some, None, refl, sym, ap, ap₂, subst, ◌∙◌, arith, append_assoc, append-nil, slice_get, reverse, option_map, option_to_list, keys_of, values_of, length-take-le, length-values_of, Tree, text, array, object, Trees, Pairs, no_pairs, pair, elements, keys, values, members, trees_of, pairs_of, children_of, Form, number_reader, IsBelowFirst, AreKeys, IsContent, Decodes, kind_number, container_entry, Make, AreSortedKeys, Around, Rooms, IsWriting, EndsWithin, head_size, Entries, StoredEntry, Container, HeaderKind, Writer, innermost, keys_rise, keys_of-members, Key, ContainerEntries, ParentEntries, Outer, children, child_position, change_at, change_child, remove_at, HoldTrees, TakesFirst, AreEntriesOf, AreContainerEntries, count_kept, IsParent, LeadTo, HoldsValue, StepsInto, children_kept, size, sizes, AreShort, AreLeft, rooms_after, remove, location, Result, Vec, Global, MatchResult, Error, SameOption, IsOutOfMemory, without, MeetNoPart, Leads}
 use Rattle.std.proofs.lemmas.Cmp.{nat_list_cmp_total}
 use Rattle.std.proofs.lemmas.List.{length-append, length-drop, take_all}
 use Rattle.jsonb_doc.specs.declared.layout.HeaderKind.TheVariants as header_kind
 use Rattle.jsonb_raw.specs.Private.Cuts.{entries_kept}
-use Rattle.jsonb_raw.proofs.ChildAnswers.{drop_one_more}
-use Rattle.jsonb_raw.proofs.ChildLemmas.{split_at}
-use Rattle.jsonb_raw.proofs.NamedPairs.{names_around, values_around}
-use Rattle.jsonb_raw.proofs.StripLists.{values_of-members}
+use Rattle.jsonb_raw.proofs.ChildLemmas.{drop_one_more, split_at}
+use Rattle.jsonb_raw.proofs.PositionLemmas.{names_around, values_around}
+use Rattle.jsonb_raw.proofs.StripWalk.{values_of-members}
 use Rattle.jsonb_raw.proofs.RunLemmas.{entry_taken, no_entry_left}
 
 abbrev Member : Type 0
@@ -321,3 +320,96 @@ room_none start len around coming h = room_less start (len + coming) (len + (com
 pub rooms_pushed : (around around' : List Outer) (o : Outer) → around' ≡ around ++ o ∷ []
     → rooms_after (reverse around') ≡ (o.open, length o.after.contents.now) ∷ rooms_after (reverse around)
 rooms_pushed around around' o is = ap (λ os. rooms_after (reverse os)) is ∙ ap rooms_after (innermost around o)
+
+-- The containers lead to a tree, whose entry this is. What the steps that are left select there is, after the positions so
+-- far, what is expected.
+pub record Walked (form : Form) (t : Tree) (parents : List ParentEntries) (entry : StoredEntry) (steps : List Key) (wanted : Option (List ℕ)) : Type 0 where
+  pub passed : List ℕ
+  pub here : Tree
+  pub led : LeadTo form parents passed t here
+  pub holds : HoldsValue form entry here
+  pub left : option_map (λ ns. passed ++ ns) (location steps here) ≡ wanted
+
+pub walk_begun : (form : Form) (t : Tree) (parents : List ParentEntries) (entry : StoredEntry) (steps : List Key) → parents ≡ [] → HoldsValue form entry t
+    → Walked form t parents entry steps (location steps t)
+walk_begun form t parents entry steps none holds =
+    record { passed = []; here = t; led = subst (λ ps. LeadTo form ps [] t t) (sym none) refl; holds = holds; left = by (location steps t) }
+  where
+    by : (o : Option (List ℕ)) → option_map (λ ns. [] ++ ns) o ≡ o
+    by o = grind arith
+
+behind : (passed : List ℕ) (n : ℕ) (o : Option (List ℕ))
+    → option_map (λ ns. passed ++ ns) (option_map (λ ns. n ∷ ns) o) ≡ option_map (λ ns. (passed ++ n ∷ []) ++ ns) o
+behind passed n o = grind (arith, append_assoc)
+
+next_place : (step : Key) (steps : List Key) (here child : Tree) (n : ℕ) → child_position step here ≡ Some n → slice_get (children here) n ≡ Some child
+    → location (step ∷ steps) here ≡ option_map (λ ns. n ∷ ns) (location steps child)
+next_place step steps here child n meets is = rw (meets, is) refl
+
+module _ (form : Form) (t : Tree) (parents : List ParentEntries) (entry : StoredEntry) (step : Key) (now steps : List Key) (wanted : Option (List ℕ))
+    (is : now ≡ step ∷ steps) (w : Walked form t parents entry now wanted) where
+  here_left : option_map (λ ns. w.passed ++ ns) (location (step ∷ steps) w.here) ≡ wanted
+  here_left = subst (λ keys. option_map (λ ns. w.passed ++ ns) (location keys w.here) ≡ wanted) is w.left
+
+  -- one child more is selected
+  pub met_next : (p : ParentEntries) (child : StoredEntry) (parents' : List ParentEntries) → parents' ≡ parents ++ p ∷ []
+      → StepsInto form w.here step (Some (p, child)) → Walked form t parents' child steps wanted
+  met_next p child parents' more (n, u, meets, at, parent, holds) = record {
+    passed = w.passed ++ n ∷ [];
+    here = u;
+    led = subst (λ ps. LeadTo form ps (w.passed ++ n ∷ []) t u) (sym more) (lead_more form parents w.passed t w.here u p n w.led parent);
+    holds = holds;
+    left = sym (behind w.passed n (location steps u)) ∙ ap (option_map (λ ns. w.passed ++ ns)) (sym (next_place step steps w.here u n meets at)) ∙ here_left;
+  }
+
+  -- the step selects nothing
+  pub met_none : StepsInto form w.here step None → wanted ≡ None
+  met_none none = grind (arith, here_left)
+
+-- the way to the place that was found, or none
+pub no_place : (form : Form) (t : Tree) (found : Option (List ℕ)) → SameOption (λ (v : Vec ParentEntries Global) ns. Leads form v.items ns t) None found
+    → found ≡ None
+no_place form t found h = grind arith
+
+pub some_place : (form : Form) (t : Tree) (v : Vec ParentEntries Global) (found : Option (List ℕ))
+    → SameOption (λ (v : Vec ParentEntries Global) ns. Leads form v.items ns t) (Some v) found → (ns : List ℕ) × (found ≡ Some ns) × Leads form v.items ns t
+some_place form t v found h = grind arith
+
+pub place_is : (form : Form) (t : Tree) (v : Vec ParentEntries Global) (found : Option (List ℕ))
+    → (ns : List ℕ) × (found ≡ Some ns) × Leads form v.items ns t → SameOption (λ (v : Vec ParentEntries Global) ns. Leads form v.items ns t) (Some v) found
+place_is form t v found (ns, is, led) = rw is led
+
+-- the way to the whole
+pub no_way : (form : Form) (ps : List ParentEntries) (ns : List ℕ) (t : Tree) → ps ≡ [] → Leads form ps ns t → ns ≡ []
+no_way form ps ns t none (end, led) = no_more form ps ns t end none led
+
+-- ---- the same document
+
+pub same_decodes : (form : Form) (bytes : List ℕ) (t left : Tree) (r : Result (List ℕ) Error) → left ≡ t → Decodes form bytes t
+    → MatchResult r (λ made. made ≡ bytes) IsOutOfMemory
+    → MatchResult r (λ made. Decodes form made left) IsOutOfMemory
+same_decodes form bytes t left r h e k = grind arith
+
+pub without_none : (steps : List Key) (t : Tree) → location steps t ≡ None → without steps t ≡ t
+without_none steps t e = rw e refl
+
+-- steps that select a part don't select none
+pub part_met : (steps : List Key) (t : Tree) (n : ℕ) (ns : List ℕ) → location steps t ≡ Some (n ∷ ns) → MeetNoPart steps t → ⊥
+part_met steps t n ns h e = grind arith
+
+-- ---- a document
+
+-- the way to a part
+pub record PartOut (form : Form) (t : Tree) (p : ParentEntries) (ps : List ParentEntries) (found : Option (List ℕ)) : Type 0 where
+  pub n : ℕ
+  pub ns : List ℕ
+  pub end : Tree
+  pub is : found ≡ Some (n ∷ ns)
+  pub led : LeadTo form (p ∷ ps) (n ∷ ns) t end
+
+pub part_out : (form : Form) (t : Tree) (v : Vec ParentEntries Global) (found : Option (List ℕ)) (p : ParentEntries) (ps : List ParentEntries)
+    → v.items ≡ p ∷ ps → SameOption (λ (v : Vec ParentEntries Global) ns. Leads form v.items ns t) (Some v) found → PartOut form t p ps found
+part_out form t v found p ps split h = grind (arith, some_place)
+
+pub without_part : (steps : List Key) (t : Tree) (n : ℕ) (ns : List ℕ) → location steps t ≡ Some (n ∷ ns) → without steps t ≡ change_child n (remove_at ns) t
+without_part steps t n ns e = rw e refl

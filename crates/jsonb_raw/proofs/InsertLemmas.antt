@@ -1,6 +1,6 @@
 -- The position at which a value is inserted, and the entries that result.
 use Rattle.jsonb_raw.proofs.Common.{◌≡◌, ℕ, ◌+◌, ◌<◌, true, false, List, [], ◌∷◌, ◌++◌, length, refl, sym, ap, subst, ◌∙◌, arith, append_assoc, Some, None, Less, Equal, Greater, map, take, drop, append-nil, is_some, nat_cmp, length-append, take_at, drop_at, slice_cmp, keys_of, values_of, Equal-is, is_eq-slice_cmp, bytes_eq-Decides, Tree, object, Pairs, no_pairs, pair, keys, value_under, text, members, pairs_of, Form, Decodes, IsBelowFirst, AreKeys, insert_pair, HasKeysLeft, KeyIter, keys_rise, AreRising, decoded_keys, PairPlace, AreBelow, IsInPlace, IsPlaceAmong, IsPairPlace, has_name, length-keys_of, length-values_of, Entries, Make, Around, IsWriting, Writer, keys_of-members, PairEntries, HoldTrees, HoldPairs, many_texts}
-use Rattle.jsonb_raw.proofs.PairStepLemmas.{no_value, value_after_less, value_at_equal, turned, equal_keys}
+use Rattle.jsonb_raw.proofs.PartedRuns.{no_value, value_after_less, value_at_equal, turned, equal_keys}
 use Rattle.jsonb_doc.specs.declared.layout.HeaderKind.TheVariants as header_kind
 use Rattle.jsonb_raw.proofs.RunLemmas.{text_names, all_values}
 

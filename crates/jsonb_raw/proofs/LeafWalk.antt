@@ -3,7 +3,7 @@ use Rattle.jsonb_raw.proofs.Common.{◌≡◌, ◌+◌, ◌%◌, ◌<◌, ◌^�
 use Rattle.std.specs.Int.{w32}
 use Rattle.std.specs.List.{Any}
 use Rattle.std.proofs.lemmas.List.{length-append}
-use Rattle.jsonb_raw.proofs.CollectLoops.{Made, none_made, one_made, all_made, one_of_whole}
+use Rattle.jsonb_raw.proofs.AnswerLemmas.{Made, none_made, one_made, all_made, one_of_whole}
 use Rattle.jsonb_raw.proofs.LevelLemmas.{count_of_trees, count_of_pairs}
 use Rattle.std.specs.declared.alloc.Global.{Global}
 

@@ -2,7 +2,7 @@
 use Rattle.jsonb_raw.proofs.Common.{◌≡◌, inr, ℕ, zero, suc, ◌+◌, ◌^◌, ◌<◌, ◌≤◌, List, [], ◌∷◌, ◌++◌, length, map, take, drop, get_or, Option, Some, Result, refl, sym, ap, subst, ◌∙◌, arith, append-nil, ◌-◌, None, append_assoc, insert, keys_of, values_of, Tree, Trees, text, array, object, trees_of, pairs_of, elements, Pairs, no_pairs, pair, keys, values, members, Form, number_reader, NumberReader, AreEntries, AreValues, AreKeys, entry_word, key_words, key_bytes, IsShort, HasShortElements, IsTooLarge, IsOutOfMemoryOrTooLarge, Error, trees_of-elements, keys_of-members, Holds, ArrayParts, Entries, HeaderKind, Make, AreSortedKeys, too_many, within_parts, OwnedJsonb, Makes, as_elements, HoldTrees, RunsHold, AreElementsOf, IsTooLongRoot, IsTooLongElement, IsFirst, TakesFirst, HoldPairs, ArePairsOf, AreContainerEntries, Holding, PairsHeld, PairsOpen, IsFirstPair, TakesFirstPair, many_keys, kind_number, front_of, HoldsPairs-skipped, HoldsPairs-values, StandBefore, ObjectParts, ContainerEntries, StoredEntry, PairEntries, FirstPair, PairRuns, entries_append, one_entry}
 use Rattle.jsonb_doc.specs.declared.container.Container.TheVariants.{Array, Object}
 use Rattle.jsonb_doc.specs.declared.layout.HeaderKind.TheVariants as header_kind
-use Rattle.jsonb_raw.proofs.Lists.{drop_first}
+use Rattle.jsonb_raw.proofs.AnswerLemmas.{drop_first}
 
 -- ---- runs one after the other
 

@@ -1,5 +1,5 @@
 use Rattle.jsonb_raw.proofs.Common.{refl}
-use Rattle.jsonb_raw.proofs.WordTexts.{word_packed}
+use Rattle.jsonb_raw.proofs.TextChunks.{word_packed}
 use Rattle.jsonb_raw.proofs.key_bytes.pack_text.Goals as goal
 
 pub returns-clause-bytes : goal.returns-clause-bytes

@@ -1,7 +1,6 @@
 use Rattle.jsonb_raw.proofs.Common.{rules}
-use Rattle.jsonb_raw.proofs.AnswerLemmas.{failed}
-use Rattle.jsonb_raw.proofs.CollectLoops.{none_made, one_made, all_made}
-use Rattle.jsonb_raw.proofs.ArrayLemmas.{element_refused_in_list}
+use Rattle.jsonb_raw.proofs.AnswerLemmas.{failed, none_made, one_made, all_made}
+use Rattle.jsonb_raw.proofs.ObjectLemmas.{element_refused_in_list}
 use Rattle.jsonb_raw.proofs.RunLemmas.{entry_taken, no_entry_left}
 use Rattle.jsonb_raw.proofs.functions.array.entry_documents.Goals as goal
 

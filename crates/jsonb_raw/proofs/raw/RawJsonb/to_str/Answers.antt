@@ -1,5 +1,5 @@
 use Rattle.jsonb_raw.proofs.Common.{◌≡◌, rules, number_parts, number_view}
-use Rattle.jsonb_raw.proofs.ScalarLemmas.{no_text}
+use Rattle.jsonb_raw.proofs.AnswerLemmas.{no_text}
 use Rattle.jsonb_doc.specs.Tree as spec
 use Rattle.jsonb_raw.proofs.raw.RawJsonb.to_str.Goals as goal
 

@@ -1,5 +1,5 @@
 use Rattle.jsonb_raw.proofs.Common.{rules}
-use Rattle.jsonb_raw.proofs.ChildAnswers.{drop_one_more}
+use Rattle.jsonb_raw.proofs.ChildLemmas.{drop_one_more}
 use Rattle.jsonb_raw.proofs.functions.path.child.array_without_element.Goals as goal
 
 pub returns-clause-deleted : goal.returns-clause-deleted

@@ -1,5 +1,5 @@
 use Rattle.jsonb_raw.proofs.Common.{rules}
-use Rattle.jsonb_raw.proofs.NamedPairs.{named_value, named_at_none}
+use Rattle.jsonb_raw.proofs.PositionLemmas.{named_value, named_at_none}
 use Rattle.jsonb_raw.proofs.PartedRuns.{pairs_there}
 use Rattle.jsonb_raw.proofs.functions.path.child.value_ignoring_case.Goals as goal
 
