@@ -64,8 +64,6 @@ pub from_front : (ts : List Tree) (n : ℕ)
     → option_and_then (λ n. slice_get ts n) (index_position (length ts) (pos n)) ≡ slice_get ts n
 from_front ts n = grind (arith, nat_tests, beyond ts n)
 
--- ---- elements
-
 pub no_such_element : (ts : List Tree) (i : ℕ) → drop i ts ≡ [] → slice_get ts i ≡ None
 no_such_element ts i none = nowhere (drop i ts) 0 _ none (first_behind ts i)
 

@@ -7,10 +7,7 @@ use Rattle.jsonb_raw.specs.Private.Cuts.{entries_kept}
 use Rattle.jsonb_raw.proofs.ChildLemmas.{drop_one_more, split_at}
 use Rattle.jsonb_raw.proofs.PositionLemmas.{names_around, values_around}
 use Rattle.jsonb_raw.proofs.StripWalk.{values_of-members}
-use Rattle.jsonb_raw.proofs.RunLemmas.{entry_taken, no_entry_left}
-
-abbrev Member : Type 0
-Member = List ℕ × Tree
+use Rattle.jsonb_raw.proofs.RunLemmas.{Member, entry_taken, no_entry_left}
 
 -- ---- lists with an element changed or left out
 

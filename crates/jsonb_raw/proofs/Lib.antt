@@ -32,4 +32,3 @@ pub mod IteratorItems
 pub mod IteratorLemmas
 pub mod ColumnLemmas
 pub mod InsertLemmas
-pub mod ConcatLemmas

@@ -99,8 +99,6 @@ module _ (ss : List (List ℕ)) (name : List ℕ) (names : List (List ℕ)) (all
       → decided_by found ss names ≡ all
   name_leaves found has h k e = grind arith
 
--- ---- the strings of an array
-
 pub text_among : (name : List ℕ) (ts : Trees) → list_any (is_text name) (elements ts) ≡ is_one_of (texts_of ts) name
 text_among name no_trees = refl
 text_among name (tree (text s) ts) = ap (λ b. bytes_eq s name || b) (text_among name ts)

@@ -2,7 +2,7 @@
 use Rattle.jsonb_raw.proofs.Common.{◌≡◌, ℕ, true, false, List, [], ◌∷◌, Option, Some, None, Ordering, refl, sym, ◌∙◌, option_copied, Bor, ◌+◌, Bool, ◌++◌, length, take, drop, map, ap, arith, append_assoc, length-append, IsUtf8, slice_cmp, nat_list_cmp_total, AllByRecursion, IsStrictlySortedBy, deref, IsBelowFirst, AreKeys, TextSet, is_in, with_pairs, first_and_others, is_among, IsNotBelow, DecideFrom, DecideForKeys, PartsFirst, all_or_none, keys_of, values_of, beq, Tree, text, object, Pairs, members, Form, Entries, StoredEntry, PairEntries, PairRuns, parted, HoldTrees, HoldPairs, ArePairsOf, TakesFirst, PairsHeld, Result, Ok, Err, subst, not, bytes_eq, ordering_reverse, is_eq-slice_cmp, no_pairs, pair, keys, value_under, AreRising, keys_rise, pairs_above, below_next, bytes_eq-Decides, list_any, Error, EntryIter, HasEntriesLeft, GivesEntry, TakesEntry, key_trees, IsCursorOf, IsPassed, has_by, KeyCursor, has_text}
 use Rattle.std.specs.Map.Iter.{TakesFirst as TakesName}
 use Rattle.std.specs.declared.cmp.Ordering.TheVariants.{Less, Equal, Greater}
-use Rattle.jsonb_raw.proofs.RunLemmas.{no_pairs_held}
+use Rattle.jsonb_raw.proofs.RunLemmas.{Member, no_pairs_held}
 use Rattle.std.specs.Ordering.{nat_cmp, is_eq}
 
 pub test_of_order : (k key : List ℕ) (o : Ordering) → slice_cmp nat_cmp k key ≡ o → bytes_eq k key ≡ is_eq o
@@ -160,11 +160,6 @@ names_begun set names (key ∷ ks) d = d key
 pub names_passed : (set : TextSet) (names : List (Bor (List ℕ))) (key : List ℕ) (ks : List (List ℕ)) → IsBelowFirst key ks → DecideFrom set key names
     → DecideForKeys set names ks
 names_passed set names key ks h e = grind (arith, nat_list_cmp_total)
-
--- ---- the pairs of an object that a set parts, as runs
-
-abbrev Member : Type 0
-Member = List ℕ × Tree
 
 -- ---- members that are all in the set, or all not
 

@@ -45,8 +45,6 @@ pub quoted_met : (name : List ℕ) (t : Tree) → child_met (quoted_name name) t
 quoted_met name (object ps) = value_at_key name ps
 quoted_met name _ = refl
 
--- ---- several steps
-
 -- the steps select what the others select in the child that the first selects
 pub step_by_step : (step : Key) (steps : List Key) (t : Tree)
     → tree_at_steps (step ∷ steps) t ≡ option_and_then (tree_at_steps steps) (child_met step t)
@@ -118,8 +116,6 @@ pub met_by_index : (form : Form) (t : Tree) (e : ContainerEntries) (step : KeyPa
     → MatchResult r (λ found. found ≡ position (λ key. bytes_eq key (signed_decimal j)) ks) IsOutOfMemory)
     → MatchResult r (λ found. found ≡ child_position (key_view step) t) IsOutOfMemory
 met_by_index form t e step j i r same step_is o h = rw (step_is, o.is) (rw same at (h (keys o.pairs) o.hold))
-
--- ---- the position among the keys that are left, after those that were passed
 
 abbrev pub position_behind : ℕ → List ℕ → List (List ℕ) → Option ℕ
 position_behind passed name ks = option_map (λ n. passed + n) (position (λ key. bytes_eq key name) ks)

@@ -89,19 +89,13 @@ pub array_of_entries : (form : Form) (t : Tree) (found : Option Entries) (entrie
 array_of_entries form (array ts) found entries is h = (ts, refl, rw is at h)
 array_of_entries form _ found entries is h = absurd (rw is at h)
 
--- ---- no entries
-
 pub no_entries : (form : Form) (ts : List Tree) (r : Result OwnedJsonb Error) → 0 ≡ length ts → Makes form (array (trees_of [])) r
     → Makes form (array (trees_of ts)) r
 no_entries form [] r is h = h
 no_entries form (t ∷ ts) r is h = absurd (omega (arith, is))
 
--- ---- entries that are gone through one by one, and runs of them that are kept
-
-abbrev Member : Type 0
+abbrev pub Member : Type 0
 Member = List ℕ × Tree
-
--- ---- the first pair
 
 pub value_there : (form : Form) (pairs : PairEntries) (ps : List Member) (key : StoredEntry × Entries)
     → TakesFirst form pairs.keys (map text (keys_of ps)) (Some key) → TakesFirst form pairs.values (values_of ps) None → ⊥

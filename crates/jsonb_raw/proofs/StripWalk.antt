@@ -304,8 +304,6 @@ some_keys_stay form (object ps) e h w around whole writing = record {
 }
 some_keys_stay form _ e h w around whole writing = absurd h
 
--- ---- values that are left
-
 pub begun_with : (form : Form) (left : ValuesLeft) (w : Writer) (around : Around) (t whole : Tree) → HoldValues form left t
     → IsWriting form w (values_kept t) around whole → Begins form left w around whole
 begun_with form left w around t whole h writing = grind arith

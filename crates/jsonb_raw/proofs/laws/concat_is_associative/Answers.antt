@@ -1,4 +1,4 @@
-use Rattle.jsonb_raw.proofs.ConcatLemmas.{merged_assoc}
+use Rattle.jsonb_raw.proofs.InsertLemmas.{merged_assoc}
 use Rattle.jsonb_raw.proofs.Common.{arith, members-pairs_of, keys_of-members, keys_rise, elements-trees_of, append_assoc}
 use Rattle.jsonb_raw.proofs.laws.concat_is_associative.Goals as goal
 
