@@ -1,4 +1,5 @@
 pub mod Common
+pub mod Lemmas
 pub mod ChildLemmas
 mod Rows
 pub mod NumberKeys

@@ -1,5 +1,4 @@
-use Rattle.jsonb_raw.proofs.Common.{refl, Decodes-array}
-use Rattle.jsonb_raw.proofs.RunLemmas.{entries_of_array}
+use Rattle.jsonb_raw.proofs.Lemmas.{refl, Decodes-array, entries_of_array}
 use Rattle.jsonb_raw.proofs.functions.entries.element_entries.Goals as goal
 
 pub returns-in-Array-clause-entries : goal.returns-in-Array-clause-entries

@@ -1,6 +1,4 @@
-use Rattle.jsonb_raw.proofs.Common.{length, ap, arith, length-append}
-use Rattle.jsonb_raw.proofs.RunLemmas.{first_run}
-use Rattle.jsonb_raw.proofs.AnswerLemmas.{none_behind}
+use Rattle.jsonb_raw.proofs.Lemmas.{length, ap, arith, length-append, first_run, none_behind}
 use Rattle.jsonb_raw.proofs.functions.joined.count_entries.Goals as goal
 
 pub returns-then-count-gt-MAX_ENTRIES : goal.returns-then-count-gt-MAX_ENTRIES

@@ -1,5 +1,4 @@
-use Rattle.jsonb_raw.proofs.Common.{refl, arith, drop, no_spots_left}
-use Rattle.jsonb_raw.proofs.ChildLemmas.{first_left, first_marked, first_given, here, nowhere, beyond, first_behind}
+use Rattle.jsonb_raw.proofs.Lemmas.{refl, arith, drop, no_spots_left, first_left, first_marked, first_given, here, nowhere, beyond, first_behind}
 use Rattle.jsonb_raw.proofs.functions.path.nth_spot.Goals as goal
 
 pub returns-in_default-clause-spot : goal.returns-in_default-clause-spot

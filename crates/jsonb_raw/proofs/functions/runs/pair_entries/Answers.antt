@@ -1,5 +1,4 @@
-use Rattle.jsonb_raw.proofs.Common.{Decodes-object}
-use Rattle.jsonb_raw.proofs.RunLemmas.{pairs_by_parts, no_parts}
+use Rattle.jsonb_raw.proofs.Lemmas.{Decodes-object, pairs_by_parts, no_parts}
 use Rattle.jsonb_raw.proofs.functions.runs.pair_entries.Goals as goal
 
 pub returns-in_err-entries_of_pairs-clause-entries : goal.returns-in_err-entries_of_pairs-clause-entries

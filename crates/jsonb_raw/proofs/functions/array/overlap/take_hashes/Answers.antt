@@ -1,5 +1,4 @@
-use Rattle.jsonb_raw.proofs.Common.{arith, ◌-◌, elements}
-use Rattle.jsonb_raw.proofs.EntriesLeft.{SomeEntries-first, SomeEntries-none, take_one, drop_one, take_no, take_zero, not_of_none, one_more}
+use Rattle.jsonb_raw.proofs.Lemmas.{arith, ◌-◌, elements, SomeEntries-first, SomeEntries-none, take_one, drop_one, take_no, take_zero, not_of_none, one_more}
 use Rattle.jsonb_raw.proofs.functions.array.overlap.take_hashes.Goals as goal
 
 pub returns-in_default-clause-marked : goal.returns-in_default-clause-marked

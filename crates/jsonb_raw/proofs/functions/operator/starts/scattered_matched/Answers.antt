@@ -1,6 +1,4 @@
-use Rattle.jsonb_raw.proofs.Common.{◌≡◌, true, false, sym, ◌∙◌, list_any, elements, is_part_of, arith}
-use Rattle.jsonb_raw.proofs.EntriesLeft.{SomeEntries-first, SomeEntries-error, SomeEntries-none}
-use Rattle.jsonb_raw.proofs.ContainLemmas.{scalar_matches, container_told, scalar_told, container_passed, found_passed, missing_tells}
+use Rattle.jsonb_raw.proofs.Lemmas.{◌≡◌, true, false, sym, ◌∙◌, list_any, elements, is_part_of, arith, SomeEntries-first, SomeEntries-error, SomeEntries-none, scalar_matches, container_told, scalar_told, container_passed, found_passed, missing_tells}
 use Rattle.jsonb_raw.proofs.functions.operator.starts.scattered_matched.Goals as goal
 
 pub returns-in_default-clause-matched : goal.returns-in_default-clause-matched

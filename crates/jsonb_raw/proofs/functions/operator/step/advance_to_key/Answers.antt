@@ -1,6 +1,4 @@
-use Rattle.jsonb_raw.proofs.Common.{rules, arith, refl, sym, ◌∙◌, keys_rise, pair, Greater}
-use Rattle.jsonb_raw.proofs.EntriesLeft.{SomePairEntries-first, SomePairEntries-error, SomePairEntries-none}
-use Rattle.jsonb_raw.proofs.PartedRuns.{value_after_less, value_at_equal, no_value, turned, all_above, same_below}
+use Rattle.jsonb_raw.proofs.Lemmas.{rules, arith, refl, sym, ◌∙◌, keys_rise, pair, Greater, SomePairEntries-first, SomePairEntries-error, SomePairEntries-none, value_after_less, value_at_equal, no_value, turned, all_above, same_below}
 use Rattle.jsonb_raw.proofs.functions.operator.step.advance_to_key.Goals as goal
 
 pub loop-pair-init : goal.loop-pair-init

@@ -1,7 +1,5 @@
-use Rattle.jsonb_raw.proofs.Common.{rules, ◌≡◌, ◌≤◌, ◌+◌, ◌++◌, ◌∷◌, length, take, drop, suc, arith, refl, sym, ap, subst, ◌∙◌, reverse, err_from_is_err_and, Rooms, HasRoom, head_size, pushed, change_child, remove_at, children, children_kept, contents_size, size, sizes, rooms_after}
-use Rattle.jsonb_raw.proofs.AnswerLemmas.{drop_first, none_behind}
+use Rattle.jsonb_raw.proofs.Lemmas.{rules, ◌≡◌, ◌≤◌, ◌+◌, ◌++◌, ◌∷◌, length, take, drop, suc, arith, refl, sym, ap, subst, ◌∙◌, reverse, err_from_is_err_and, Rooms, HasRoom, head_size, pushed, change_child, remove_at, children, children_kept, contents_size, size, sizes, rooms_after, drop_first, none_behind, makes_kept, opens_next, opens_none, kept_at_most, head_less, room_less, rooms_pushed, opening_begun, all_behind}
 use Rattle.jsonb_raw.specs.Private.Cuts.{entries_kept}
-use Rattle.jsonb_raw.proofs.CutLemmas.{makes_kept, opens_next, opens_none, kept_at_most, head_less, room_less, rooms_pushed, opening_begun, all_behind}
 use Rattle.jsonb_raw.proofs.functions.path.cut.write_down.Goals as goal
 
 pub loop-index-init : goal.loop-index-init

@@ -1,6 +1,4 @@
-use Rattle.jsonb_raw.proofs.Common.{refl, PassesOver}
-use Rattle.jsonb_raw.proofs.EntriesLeft.{passes_none}
-use Rattle.jsonb_raw.proofs.ContainLemmas.{repeated_each}
+use Rattle.jsonb_raw.proofs.Lemmas.{refl, PassesOver, passes_none, repeated_each}
 use Rattle.jsonb_raw.proofs.functions.operator.starts.StartHints.new.Goals as goal
 
 pub returns : goal.returns

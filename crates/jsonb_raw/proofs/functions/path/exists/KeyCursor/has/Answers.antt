@@ -1,5 +1,4 @@
-use Rattle.jsonb_raw.proofs.Common.{arith, refl, sym, ◌∙◌}
-use Rattle.jsonb_raw.proofs.PartedRuns.{cursor_next, cursor_meets, cursor_misses, cursor_ends, cursor_error}
+use Rattle.jsonb_raw.proofs.Lemmas.{arith, refl, sym, ◌∙◌, cursor_next, cursor_meets, cursor_misses, cursor_ends, cursor_error}
 use Rattle.jsonb_raw.proofs.functions.path.exists.KeyCursor.has.Goals as goal
 
 pub returns-in_err-key-clause-has : goal.returns-in_err-key-clause-has

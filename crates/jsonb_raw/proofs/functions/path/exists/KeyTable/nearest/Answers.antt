@@ -1,4 +1,4 @@
-use Rattle.jsonb_raw.proofs.Common.{rules, arith, ◌+◌, ◌-◌, ◌/◌, ◌<◌, nat_tests}
+use Rattle.jsonb_raw.proofs.Lemmas.{rules, arith, ◌+◌, ◌-◌, ◌/◌, ◌<◌, nat_tests}
 use Rattle.jsonb_raw.proofs.functions.path.exists.KeyTable.nearest.Goals as goal
 
 pub loop-low-preserved-then-is_below : goal.loop-low-preserved-then-is_below

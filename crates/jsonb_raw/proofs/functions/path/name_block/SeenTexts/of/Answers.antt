@@ -1,5 +1,4 @@
-use Rattle.jsonb_raw.proofs.Common.{◌≡◌, ℕ, List, Option, Some, true, ◌∙◌, Bor, IfSome, length-set, All-set, is_one_of, bytes_eq-same, refl}
-use Rattle.jsonb_raw.proofs.NameBlockLemmas.{SomeTexts-first, later_is_one}
+use Rattle.jsonb_raw.proofs.Lemmas.{◌≡◌, ℕ, List, Option, Some, true, ◌∙◌, Bor, IfSome, length-set, All-set, is_one_of, bytes_eq-same, refl, SomeTexts-first, later_is_one}
 use Rattle.jsonb_raw.proofs.functions.path.name_block.SeenTexts.of.Goals as goal
 
 pub loop-text-init : goal.loop-text-init
