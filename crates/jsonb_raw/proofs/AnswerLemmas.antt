@@ -27,12 +27,6 @@ given fact f = f fact
 pub drop_first : {A : Type 0} (xs : List A) (i : ℕ) (x : A) → i < length xs → x ≡ get_or xs i x → drop i xs ≡ x ∷ drop (i + 1) xs
 drop_first xs i x inside is = rw add-one (drop-cons xs i x inside ∙ ap (λ y. y ∷ drop (suc i) xs) (sym is))
 
-pub none_behind : {A : Type 0} (xs : List A) (i : ℕ) → length xs ≤ i → drop i xs ≡ []
-none_behind [] zero h = refl
-none_behind [] (suc i) h = refl
-none_behind (x ∷ xs) zero h = absurd (omega arith)
-none_behind (x ∷ xs) (suc i) h = none_behind xs i (omega arith)
-
 -- R holds of what was made and the parts at the front
 pub record Made {A B : Type 0} (R : A → B → Type 0) (made : List A) (left whole : List B) : Type 0 where
   pub front : List B

@@ -1,5 +1,5 @@
 -- The children of a list, what the iterator over their positions gives, and what calls on children return.
-use Rattle.jsonb_raw.proofs.Common.{◌≡◌, ℕ, zero, suc, ◌<◌, ◌≤◌, pos, List, [], ◌∷◌, length, drop, Option, Some, None, Result, Ok, Err, IsOkAnd, unwrap_or, refl, arith, slice_get, sym, option_and_then, nat_tests, Tree, SameOption, TakesSpot, Locates, HasSpotsLeft, Error, Spot, SpotIter, index_position, ◌↔◌, ℤ, Bool, true, false, IsTrue, map, ap, to_ascii_lowercase, bytes_eq-Decides, str_eq_ignore_ascii_case, array, Trees, elements, trees_of-elements, is_object, named_child, without_index}
+use Rattle.jsonb_raw.proofs.Common.{slice_get_past, ◌≡◌, ℕ, zero, suc, ◌<◌, ◌≤◌, pos, List, [], ◌∷◌, length, drop, Option, Some, None, Result, Ok, Err, IsOkAnd, unwrap_or, refl, arith, slice_get, sym, option_and_then, nat_tests, Tree, SameOption, TakesSpot, Locates, HasSpotsLeft, Error, Spot, SpotIter, index_position, ◌↔◌, ℤ, Bool, true, false, IsTrue, map, ap, to_ascii_lowercase, bytes_eq-Decides, str_eq_ignore_ascii_case, array, Trees, elements, trees_of-elements, is_object, named_child, without_index}
 
 -- at first all children are left
 pub all_left : (bytes : List ℕ) (it : SpotIter) (o : Option (List Tree)) → SameOption (HasSpotsLeft bytes) (Some it) o
@@ -55,14 +55,9 @@ first_given {bytes} {ts} {r} {after} f error e = rw e at f.marks
 
 -- ---- an index, from the front or from the end
 
-pub beyond : (ts : List Tree) (n : ℕ) → length ts ≤ n → slice_get ts n ≡ None
-beyond [] n h = refl
-beyond (t ∷ ts) zero h = absurd (omega arith)
-beyond (t ∷ ts) (suc n) h = beyond ts n (omega arith)
-
 pub from_front : (ts : List Tree) (n : ℕ)
     → option_and_then (λ n. slice_get ts n) (index_position (length ts) (pos n)) ≡ slice_get ts n
-from_front ts n = grind (arith, nat_tests, beyond ts n)
+from_front ts n = grind (arith, nat_tests, slice_get_past ts n)
 
 pub no_such_element : (ts : List Tree) (i : ℕ) → drop i ts ≡ [] → slice_get ts i ≡ None
 no_such_element ts i none = nowhere (drop i ts) 0 _ none (first_behind ts i)

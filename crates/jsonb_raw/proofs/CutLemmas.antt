@@ -4,7 +4,7 @@ use Rattle.std.proofs.lemmas.Cmp.{nat_list_cmp_total}
 use Rattle.std.proofs.lemmas.List.{length-append, length-drop, take_all}
 use Rattle.jsonb_doc.specs.declared.layout.HeaderKind.TheVariants as header_kind
 use Rattle.jsonb_raw.specs.Private.Cuts.{entries_kept}
-use Rattle.jsonb_raw.proofs.ChildLemmas.{drop_one_more, split_at}
+use Rattle.jsonb_raw.proofs.ChildLemmas.{no_such_element, drop_one_more, split_at}
 use Rattle.jsonb_raw.proofs.PositionLemmas.{names_around, values_around}
 use Rattle.jsonb_raw.proofs.StripWalk.{values_of-members}
 use Rattle.jsonb_raw.proofs.RunLemmas.{Member, entry_taken, no_entry_left}
@@ -152,11 +152,6 @@ pub child_taken : (form : Form) (cs : List Tree) (n : ℕ) (others : Entries) (f
     → found ≡ Some (entry, after) → TakesFirst form others (drop n cs) found → ChildTaken form cs n entry after
 child_taken form cs n others found entry after is h = grind (arith, entry_taken, split_at)
 
-none_there : (cs : List Tree) (n : ℕ) → drop n cs ≡ [] → slice_get cs n ≡ None
-none_there [] n none = refl
-none_there (c ∷ cs) zero none = absurd (cc)
-none_there (c ∷ cs) (suc n) none = none_there cs n none
-
 not_container : (form : Form) (t : Tree) (kind : ℕ) (bytes : List ℕ) → IsContent (number_reader form) t kind bytes → (kind ≡ container_entry → ⊥)
     → children_of t ≡ None
 not_container form t kind bytes h e = grind arith
@@ -176,7 +171,7 @@ module _ (form : Form) (t : Tree) (step : Key) where
 
   pub no_child : (n : ℕ) (others : Entries) (found : Option (StoredEntry × Entries)) → Some n ≡ child_position step t → found ≡ None
       → TakesFirst form others (drop n (children t)) found → StepsInto form t step None
-  no_child n others found position none h = grind (arith, none_there, no_entry_left)
+  no_child n others found position none h = grind (arith, no_such_element, no_entry_left)
 
   pub step_into : (e : ContainerEntries) (p : ParentEntries) (n : ℕ) (entry : StoredEntry) → AreEntriesOf form t e → Some n ≡ child_position step t
       → p.kind ≡ e.kind → p.keys ≡ e.keys → (f : ChildTaken form (children t) n entry p.after) → HoldTrees form p.front (take n (children t))
@@ -187,10 +182,7 @@ module _ (form : Form) (t : Tree) (step : Key) where
     sym position,
     f.at,
     parent_of form t e p n f.child h kind same front f.after_hold is f.inside f.at,
-    record {
-      container = λ k. record { document = inl (rw k at f.part) };
-      scalar = λ other. not_container form f.child _ _ f.part other;
-    },
+    record { container = λ k. record { document = inl (rw k at f.part) }; scalar = λ other. not_container form f.child _ _ f.part other },
   )
 
 -- ---- the way to the value

@@ -112,11 +112,7 @@ module _ (negative : Bool) (n left len : ℕ) (bytes : List ℕ) (h : DigitsPack
   digit_packed others len' byte bytes' some is more byte_is bytes_are =
       let counted = h.counted in
       let step : length (digits_of 10 others) + 1 ≡ length (digits_of 10 left) = ap (λ k. length (digits_of 10 k) + 1) is ∙ count_step left some in
-      record {
-        counted = omega arith;
-        few = h.few;
-        packed = digit_written negative left others bytes bytes' _ byte some is byte_is bytes_are h.packed;
-      }
+      record { counted = omega arith; few = h.few; packed = digit_written negative left others bytes bytes' _ byte some is byte_is bytes_are h.packed }
 
 -- the exponent's bytes before the digits
 pub magnitude_packed : (negative : Bool) (exponent digits : List ℕ) (n shorter scale e : ℕ) → e ≡ length (digits_of 10 n) + 1000 - scale

@@ -150,13 +150,7 @@ split_at (p ∷ ps) (key ∷ front) back e =
     let first : p.0 ≡ key = cc e in
     let others : keys_of ps ≡ front ++ back = cc e in
     let rest = split_at ps front back others in
-    record {
-      front = p ∷ rest.front;
-      back = rest.back;
-      joined = cc (rest.joined);
-      front_are = cc (first, rest.front_are);
-      back_are = rest.back_are;
-    }
+    record { front = p ∷ rest.front; back = rest.back; joined = cc (rest.joined); front_are = cc (first, rest.front_are); back_are = rest.back_are }
 
 -- The members before a place, at it and after it, for three lists of keys.
 pub record SplitAround {A : Type 0} (ps : List (List ℕ × A)) (front_keys there_keys back_keys : List (List ℕ)) : Type 0 where

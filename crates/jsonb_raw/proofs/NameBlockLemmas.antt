@@ -204,18 +204,12 @@ module _ {F : Type 0} (calls : Shared F (Bor (List ℕ) × Unit {0}) Bool) (func
     -- each call on the first of them returned false
     pub leaves_after : (large : Option Item) (xs ys : List (List ℕ)) → Tells calls func xs false → Leaves calls func form all (xs ++ ys) large
         → Leaves calls func form all ys large
-    leaves_after large xs ys none l = record {
-      found = λ h. l.found (told_then xs ys none true h);
-      rest = λ h. l.rest (told_then xs ys none false h);
-    }
+    leaves_after large xs ys none l = record { found = λ h. l.found (told_then xs ys none true h); rest = λ h. l.rest (told_then xs ys none false h) }
 
     -- the first of them are put off
     pub leaves_aside : (item : Item) (t : Tree) (ys : List (List ℕ)) → StandsFor form item t → Leaves calls func form all (texts t ++ ys) None
         → Leaves calls func form all ys (Some item)
-    leaves_aside item t ys stands l = record {
-      found = λ h. l.found (told_second (texts t) ys h);
-      rest = λ h. (t, stands, decides h);
-    }
+    leaves_aside item t ys stands l = record { found = λ h. l.found (told_second (texts t) ys h); rest = λ h. (t, stands, decides h) }
       where
         decides : Tells calls func ys false → (b : Bool) → Tells calls func (texts t) b → Tells calls func all b
         decides h true k = l.found (told_first (texts t) ys k)

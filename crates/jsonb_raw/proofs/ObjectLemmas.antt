@@ -1,6 +1,7 @@
 -- Which trees are arrays or objects, and what is made of them.
 use Rattle.jsonb_raw.proofs.Common.{◌≡◌, ◌⊎◌, inl, inr, ℕ, List, [], ◌∷◌, ◌++◌, Global, subst, Option, Some, Result, Ok, refl, sym, ap, ◌∙◌, string_bytes, Bor, Any, arith, values_of, Tree, object, Pairs, keys, Form, IsOutOfMemoryOrTooLarge, IsTooLarge, OutOfMemory, TooLarge, TakesKey, HasKeysLeft, KeyIter, IsPairsOf, IsKeysOf, Error, PairIter, OwnedJsonb, IsPairOf, suc, length, array, Trees, no_trees, tree, elements, count, Decodes, HasElementsLeft, IsElementsOf, ElementIter}
 use Rattle.std.proofs.Common.{String}
+use Rattle.jsonb_raw.proofs.RunLemmas.{all_values}
 use Rattle.jsonb_raw.proofs.AnswerLemmas.{Made, any_here, one_of_whole}
 
 -- a tree with an iterator over pairs is an object
@@ -26,10 +27,6 @@ first_key ks r x after h e = grind arith
 
 -- ---- documents of the values
 
-values_joined : (front left : List (List ℕ × Tree)) → values_of (front ++ left) ≡ values_of front ++ values_of left
-values_joined [] left = refl
-values_joined (p ∷ ps) left = ap (λ ts. p.1 ∷ ts) (values_joined ps left)
-
 -- if a document of the next value fails, those of all values are
 pub pair_refused_in_list : (form : Form) (made : List (String Global × OwnedJsonb)) (key : List ℕ) (t : Tree) (left whole : List (List ℕ × Tree)) (e : Error)
     → Made (IsPairOf string_bytes form) made ((key, t) ∷ left) whole → IsOutOfMemoryOrTooLarge form t e
@@ -38,7 +35,7 @@ pair_refused_in_list form made key t left whole e m (inl memory) = inl memory
 pair_refused_in_list form made key t left whole e m (inr (is, large)) =
     inr (
       is,
-      subst (Any (IsTooLarge form)) (sym (values_joined m.front ((key, t) ∷ left)) ∙ ap values_of m.joined)
+      subst (Any (IsTooLarge form)) (sym (all_values m.front ((key, t) ∷ left)) ∙ ap values_of m.joined)
           (any_here (IsTooLarge form) (values_of m.front) (values_of left) t large),
     )
 

@@ -14,11 +14,7 @@ loop-more-preserved c = record {
       record { trees = rest; left = left; fact = rw (drop_one c.loop-more.more first (elements rest) c.loop-more-test.true) at fact });
   marked = λ form us t h some.
       SomeEntries-first form _ _ _ _ _ c.in_ok-entry.was c.in-Some.ensures.steps (c.loop-more.invariant.marked form us t h some)
-      (λ first rest left stored fact. record {
-        trees = rest;
-        left = left;
-        fact = grind (arith, one_more, take_one);
-      });
+      (λ first rest left stored fact. record { trees = rest; left = left; fact = grind (arith, one_more, take_one) });
 }
 
 pub returns-clause-marked : goal.returns-clause-marked

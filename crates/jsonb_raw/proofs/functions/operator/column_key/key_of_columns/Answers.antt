@@ -2,10 +2,7 @@ use Rattle.jsonb_raw.proofs.Lemmas.{None, arith, subst, AllByRecursion, sym, dro
 use Rattle.jsonb_raw.proofs.functions.operator.column_key.key_of_columns.Goals as goal
 
 pub loop-column-init : goal.loop-column-init
-loop-column-init c = record {
-  left = λ form values a. (values, a, rw c.new-key.ensures.items (key_begun _ values));
-  read = λ all. all;
-}
+loop-column-init c = record { left = λ form values a. (values, a, rw c.new-key.ensures.items (key_begun _ values)); read = λ all. all }
 
 pub returns-in_err-push_column-clause-key : goal.returns-in_err-push_column-clause-key
 returns-in_err-push_column-clause-key c = λ form values a.

@@ -14,11 +14,7 @@ walk-preserved-then-is_container c = record {
   starts = c.walk.invariant.starts;
   left = λ form other_form xs ys h k.
       SomeEntries-first other_form _ _ _ _ _ c.in_ok-entry.was c.in-Some.ensures.steps (c.walk.invariant.left form other_form xs ys h k)
-      (λ first rest left stored fact. record {
-        trees = rest;
-        left = left;
-        fact = grind (arith, container_passed, container_told);
-      });
+      (λ first rest left stored fact. record { trees = rest; left = left; fact = grind (arith, container_passed, container_told) });
 }
 
 pub returns-in_err-find-clause-matched : goal.returns-in_err-find-clause-matched

@@ -14,12 +14,7 @@ loop-pair-preserved c = record {
       record {
         pairs = rest;
         left = left;
-        fact = (
-          sym (value_after_less c.args.key.now c.in_ok-name.name.now value rest less)
-              ∙ fact.0,
-          sym (rw less refl) ∙ fact.1,
-          fact.2.1,
-        );
+        fact = (sym (value_after_less c.args.key.now c.in_ok-name.name.now value rest less) ∙ fact.0, sym (rw less refl) ∙ fact.1, fact.2.1);
       });
 }
 

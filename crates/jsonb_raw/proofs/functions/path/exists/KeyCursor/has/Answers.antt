@@ -21,11 +21,7 @@ returns-in-Greater-clause-has c = λ form ks h.
     (sym c.bytes_cmp.ensures ∙ c.in-Greater.is)
 
 pub loop-entry-preserved : goal.loop-entry-preserved
-loop-entry-preserved c = record {
-  ahead = refl;
-  passed = sym c.bytes_cmp.ensures ∙ c.in-Less.is;
-  cursor = λ form ks h. grind (arith, cursor_next);
-}
+loop-entry-preserved c = record { ahead = refl; passed = sym c.bytes_cmp.ensures ∙ c.in-Less.is; cursor = λ form ks h. grind (arith, cursor_next) }
 
 pub returns-clause-has : goal.returns-clause-has
 returns-clause-has c = λ form ks h.

@@ -2,10 +2,7 @@ use Rattle.jsonb_raw.proofs.Lemmas.{◌≡◌, ℕ, List, Option, Some, true, �
 use Rattle.jsonb_raw.proofs.functions.path.name_block.SeenTexts.of.Goals as goal
 
 pub loop-text-init : goal.loop-text-init
-loop-text-init c = record {
-  seen = λ form ss h. c.new-seen.ensures ss;
-  left = λ form ss h. record { strings = ss; left = h; fact = λ name one. one };
-}
+loop-text-init c = record { seen = λ form ss h. c.new-seen.ensures ss; left = λ form ss h. record { strings = ss; left = h; fact = λ name one. one } }
 
 pub returns-in_err-text-clause-seen : goal.returns-in_err-text-clause-seen
 returns-in_err-text-clause-seen c = λ form ss h.
