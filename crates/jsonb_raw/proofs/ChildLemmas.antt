@@ -1,5 +1,5 @@
 -- The children of a list, what the iterator over their positions gives, and what calls on children return.
-use Rattle.jsonb_raw.proofs.Common.{slice_get_past, ◌≡◌, ℕ, zero, suc, ◌<◌, ◌≤◌, pos, List, [], ◌∷◌, length, drop, Option, Some, None, Result, Ok, Err, IsOkAnd, unwrap_or, refl, arith, slice_get, sym, option_and_then, nat_tests, Tree, SameOption, TakesSpot, Locates, HasSpotsLeft, Error, Spot, SpotIter, index_position, ◌↔◌, ℤ, Bool, true, false, IsTrue, map, ap, to_ascii_lowercase, bytes_eq-Decides, str_eq_ignore_ascii_case, array, Trees, elements, trees_of-elements, is_object, named_child, without_index}
+use Rattle.jsonb_raw.proofs.Common.{slice_get_past, ◌≡◌, ℕ, zero, suc, ◌<◌, ◌≤◌, pos, List, [], ◌∷◌, length, drop, Option, Some, None, Result, Ok, Err, IsOkAnd, unwrap_or, refl, arith, slice_get, sym, option_and_then, nat_tests, Tree, SameOption, TakesSpot, Locates, HasSpotsLeft, Error, Spot, SpotIter, index_position, ◌↔◌, ℤ, Bool, true, false, IsTrue, map, ap, to_ascii_lowercase, bytes_eq-Decides, str_eq_ignore_ascii_case, array, Trees, elements, trees_of-elements, is_object, named_child, without_index, drop-drop, add-one}
 
 -- at first all children are left
 pub all_left : (bytes : List ℕ) (it : SpotIter) (o : Option (List Tree)) → SameOption (HasSpotsLeft bytes) (Some it) o
@@ -65,10 +65,7 @@ no_such_element ts i none = nowhere (drop i ts) 0 _ none (first_behind ts i)
 -- ---- an element less
 
 pub drop_one_more : {A : Type 0} (n : ℕ) (xs : List A) → drop 1 (drop n xs) ≡ drop (suc n) xs
-drop_one_more zero [] = refl
-drop_one_more zero (x ∷ xs) = refl
-drop_one_more (suc n) [] = refl
-drop_one_more (suc n) (x ∷ xs) = drop_one_more n xs
+drop_one_more n xs = rw (drop-drop 1 n xs, add-one)
 
 pub without_none : (i : ℤ) (ts : Trees) → index_position (length (elements ts)) i ≡ None → without_index i (array ts) ≡ Some (array ts)
 without_none i ts is = rw is (ap (λ us. Some (array us)) (trees_of-elements ts))

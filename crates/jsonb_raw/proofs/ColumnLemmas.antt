@@ -1,5 +1,5 @@
 -- A loop that makes a composite key: what is written, followed by the keys of the values that are left, is the whole.
-use Rattle.jsonb_raw.proofs.Common.{◌≡◌, ℕ, zero, suc, ◌<◌, ◌≤◌, ◌+◌, List, [], ◌∷◌, flat_map, drop, length, get_or, Option, None, Some, Result, Ok, Err, refl, arith, append_assoc, append-nil, IsSomeAnd, Width, AllZip, drop_more, Tree, Form, Decodes, SameOption, Error, raw_bytes, IsOutOfMemoryOrTooDeep, depths, column_key, deepest_of_columns, AppendsColumn, RawJsonb}
+use Rattle.jsonb_raw.proofs.Common.{◌≡◌, ℕ, zero, suc, ◌<◌, ◌≤◌, ◌+◌, List, [], ◌∷◌, flat_map, drop, length, get_or, Option, None, Some, Result, Ok, Err, refl, arith, append_assoc, append-nil, IsSomeAnd, Width, AllZip, drop_more, Tree, Form, Decodes, SameOption, Error, raw_bytes, IsOutOfMemoryOrTooDeep, depths, column_key, deepest_of_columns, AppendsColumn, RawJsonb, drop_of_length-le}
 use Rattle.jsonb_raw.proofs.KeyLawProofs.{some_depth}
 use Rattle.jsonb_raw.proofs.LevelKeys.{IsToward, IsToward-refused}
 
@@ -52,8 +52,5 @@ pub first_left_of : {X Y : Type 0} (R : X → Y → Type 0) (xs : List X) (i : �
 first_left_of R xs i d ys h e = grind (arith, first_left, drop_more)
 
 pub none_left_of : {X Y : Type 0} (R : X → Y → Type 0) (xs : List X) (i : ℕ) (ys : List Y) → length xs ≤ i → AllZip R (drop i xs) ys → ys ≡ []
-none_left_of R [] i [] le h = refl
-none_left_of R [] zero (y ∷ ys) le h = absurd h
-none_left_of R [] (suc i) (y ∷ ys) le h = absurd h
-none_left_of R (x ∷ xs) zero ys le h = absurd (omega arith)
-none_left_of R (x ∷ xs) (suc i) ys le h = none_left_of R xs i ys (omega arith) h
+none_left_of R xs i [] le h = refl
+none_left_of R xs i (y ∷ ys) le h = absurd (rw (drop_of_length-le xs le) at h)

@@ -1,7 +1,7 @@
 -- Names that are looked up among strings, and what calls decided of strings that are joined.
-use Rattle.jsonb_raw.proofs.Common.{◌≡◌, ◌==◌, ◌||◌, ◌&&◌, ◌<◌, ◌≤◌, ◌+◌, ℕ, zero, suc, Bool, true, false, List, [], ◌∷◌, map, take, drop, length, get_or, Option, Some, None, Result, Ok, Err, refl, sym, ap, ap₂, ◌∙◌, subst, true≢false, arith, Bor, bytes_eq, beq, list_any, All, All-head, All-tail, bytes_eq-true, Error, EntryIter, StoredEntry, kind_number, Tree, boolean, text, array, Trees, no_trees, tree, elements, Form, HasEntriesLeft, Stores, GivesEntry, is_text, has_by, texts_of, is_one_of, decided_by, HasTextsLeft, TakesText, IsPlaced, NameTable, shuffled, ◌++◌, length-append, Any, text_content, FnReturnsAt, get_or_append_left, get_or-append-add, All-append, All-cons, Tells, texts, LargeTells, LeavesTexts, StandsFor, Item}
+use Rattle.jsonb_raw.proofs.Common.{◌≡◌, ◌==◌, ◌||◌, ◌&&◌, ◌<◌, ◌≤◌, ◌+◌, ℕ, zero, suc, Bool, true, false, List, [], ◌∷◌, map, take, drop, length, get_or, Option, Some, None, Result, Ok, Err, refl, sym, ap, ap₂, ◌∙◌, subst, true≢false, arith, Bor, bytes_eq, beq, list_any, All, All-head, All-tail, bytes_eq-true, Error, EntryIter, StoredEntry, kind_number, Tree, boolean, text, array, Trees, no_trees, tree, elements, Form, HasEntriesLeft, Stores, GivesEntry, is_text, has_by, texts_of, is_one_of, decided_by, HasTextsLeft, TakesText, IsPlaced, NameTable, shuffled, ◌++◌, length-append, Any, text_content, FnReturnsAt, get_or_append_left, get_or-append-add, All-append, All-cons, Tells, texts, LargeTells, LeavesTexts, StandsFor, Item, add-one, drop-cons, drop_of_length-le, get_or-take}
 use Rattle.jsonb_raw.proofs.EntriesLeft.{SomeEntries, SomeEntries-first, SomeEntries-error, SomeEntries-none}
-use Rattle.std.proofs.Common.{eqb-true}
+use Rattle.std.proofs.Common.{eqb-true, length-take}
 use Rattle.std.specs.Fn.{Shared}
 
 -- ---- the strings among entries
@@ -106,38 +106,13 @@ text_among name (tree _ ts) = text_among name ts
 
 -- ---- the next name of a block
 
-module _ (d : Bor (List ℕ)) where
-  next_name : (xs : List (Bor (List ℕ))) (i : ℕ) → i < length xs
-      → map (λ (name : Bor (List ℕ)). name.now) (drop i xs) ≡ (get_or xs i d).now ∷ map (λ (name : Bor (List ℕ)). name.now) (drop (suc i) xs)
-  next_name [] i within = absurd (omega arith)
-  next_name (y ∷ xs) zero within = refl
-  next_name (y ∷ xs) (suc i) within = next_name xs i (omega arith)
-
-  first_taken : (xs : List (Bor (List ℕ))) (n i : ℕ) → i < n → get_or (take n xs) i d ≡ get_or xs i d
-  first_taken xs zero i few = absurd (omega arith)
-  first_taken [] (suc n) i few = refl
-  first_taken (x ∷ xs) (suc n) zero few = refl
-  first_taken (x ∷ xs) (suc n) (suc i) few = first_taken xs n i (omega arith)
-
-  within_taken : (xs : List (Bor (List ℕ))) (n i : ℕ) → i < n → n ≤ length xs → i < length (take n xs)
-  within_taken xs zero i few room = absurd (omega arith)
-  within_taken [] (suc n) i few room = absurd (omega arith)
-  within_taken (x ∷ xs) (suc n) zero few room = omega arith
-  within_taken (x ∷ xs) (suc n) (suc i) few room = grind (arith, within_taken xs n i (omega arith) (omega arith))
-
-  pub next_taken : (xs : List (Bor (List ℕ))) (n i : ℕ) → i < n → n ≤ length xs
-      → map (λ (name : Bor (List ℕ)). name.now) (drop i (take n xs))
-      ≡ (get_or xs i d).now ∷ map (λ (name : Bor (List ℕ)). name.now) (drop (i + 1) (take n xs))
-  next_taken xs n i few room =
-      let more : i + 1 ≡ suc i = omega arith in
-      rw more (rw (first_taken xs n i few) at (next_name (take n xs) i (within_taken xs n i few room)))
+pub next_taken : (d : Bor (List ℕ)) (xs : List (Bor (List ℕ))) (n i : ℕ) → i < n → n ≤ length xs
+    → map (λ (name : Bor (List ℕ)). name.now) (drop i (take n xs))
+    ≡ (get_or xs i d).now ∷ map (λ (name : Bor (List ℕ)). name.now) (drop (i + 1) (take n xs))
+next_taken d xs n i few room = rw (add-one, drop-cons (take n xs) i d (omega (arith, length-take n xs)), get_or-take n xs i d few)
 
 pub none_taken : (xs : List (Bor (List ℕ))) (n i : ℕ) → n ≤ i → drop i (take n xs) ≡ []
-none_taken xs zero zero few = refl
-none_taken xs zero (suc i) few = refl
-none_taken xs (suc n) zero few = absurd (omega arith)
-none_taken [] (suc n) (suc i) few = refl
-none_taken (x ∷ xs) (suc n) (suc i) few = none_taken xs n i (omega arith)
+none_taken xs n i few = drop_of_length-le (take n xs) (omega (arith, length-take n xs))
 
 -- ---- some names, and others
 
