@@ -77,8 +77,4 @@ no_member name t h = grind arith
 
 -- a test of the code decides whether strings are the same
 pub decided : (a b : List ℕ) (r : Bool) → (IsTrue r ↔ (map to_ascii_lowercase a ≡ map to_ascii_lowercase b)) → str_eq_ignore_ascii_case a b ≡ r
-decided a b true test = (bytes_eq-Decides (map to_ascii_lowercase a) (map to_ascii_lowercase b)).1 (test.0 refl)
-decided a b false test = go (str_eq_ignore_ascii_case a b) refl
-  where
-    go : (s : Bool) → str_eq_ignore_ascii_case a b ≡ s → s ≡ false
-    go s h = grind (arith, bytes_eq-Decides)
+decided a b r h = grind (arith, bytes_eq-Decides)

@@ -52,5 +52,4 @@ pub first_left_of : {X Y : Type 0} (R : X → Y → Type 0) (xs : List X) (i : �
 first_left_of R xs i d ys h e = grind (arith, first_left, drop_more)
 
 pub none_left_of : {X Y : Type 0} (R : X → Y → Type 0) (xs : List X) (i : ℕ) (ys : List Y) → length xs ≤ i → AllZip R (drop i xs) ys → ys ≡ []
-none_left_of R xs i [] le h = refl
-none_left_of R xs i (y ∷ ys) le h = absurd (rw (drop_of_length-le xs le) at h)
+none_left_of R xs i ys h e = grind (arith, drop_of_length-le)

@@ -49,15 +49,7 @@ pub record ZerosPassed (n left zeros most : ℕ) : Type 0 where
 
 pub zero_passed : (n left others zeros most : ℕ) → ZerosPassed n left zeros most → 0 < left → others ≡ left / 10 → left % 10 ≡ 0
     → ZerosPassed n others (zeros + 1) most
-zero_passed n left others zeros most h some is zero_last =
-    let count = h.count in
-    let step : length (digits_of 10 others) + 1 ≡ length (digits_of 10 left) = ap (λ k. length (digits_of 10 k) + 1) is ∙ count_step left some in
-    record {
-      same = ap (λ k. significant (digits_of 10 k)) is ∙
-          cc (significant-zero_behind (digits_of 10 (left / 10)), digits_of_step 10 left (omega arith) some, zero_last) ∙ h.same;
-      count = omega arith;
-      few = h.few;
-    }
+zero_passed n left others zeros most h e k f = grind (arith, count_step, significant-zero_behind, digits_of_step)
 
 -- digits are written up to a place of the buffer: after those that are left they are all digits
 pub record DigitsWritten (negative : Bool) (n end : ℕ) (buffer : List ℕ) (left at : ℕ) (now : List ℕ) : Type 0 where
@@ -78,12 +70,7 @@ module _ (negative : Bool) (n end : ℕ) (buffer : List ℕ) (left at : ℕ) (no
   digit_passed others byte before buffer' room some is byte_is place more =
       let count = h.count in
       let step : length (digits_of 10 others) + 1 ≡ length (digits_of 10 left) = ap (λ k. length (digits_of 10 k) + 1) is ∙ count_step left some in
-      record {
-        count = omega arith;
-        within = omega (arith, h.within, more.1);
-        written = digit_written negative left others _ _ _ byte some is byte_is more.0 h.written;
-        len = more.1 ∙ h.len;
-      }
+      search (arith, digit_written)
 
   pub all_digits : left ≡ 0 → drop at now ≡ complement_bytes negative (map suc (digits_of 10 n)) ++ drop end buffer
   all_digits none = ap (λ ds. complement_bytes negative (map suc ds) ++ drop at now) (sym (no_digits left none)) ∙ h.written

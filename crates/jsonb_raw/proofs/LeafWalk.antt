@@ -42,8 +42,7 @@ parts_leaves ignore_array t h k = grind (arith, trees_leaves, count_of_trees, pa
 
 pub item_leaves : (form : Form) (x : Item) (ignore_array : Bool) (t : Tree) → StandsFor form x t → is_leaf ignore_array t ≡ false
     → leaves ignore_array t ≡ leaves_of_parts ignore_array 0 (parts t)
-item_leaves form x ignore_array t stands entered = parts_leaves ignore_array t
-    (grind (arith, array_document, count_of_trees, object_document, count_of_pairs, stands)) entered
+item_leaves form x ignore_array t h e = grind (arith, parts_leaves, array_document, count_of_trees, object_document, count_of_pairs)
 
 pub keyed_step : (key : Option (Bor (List ℕ))) (k : Option (List ℕ)) (n : ℕ) → IsKeyOf key k → step_at key n ≡ part_step k n
 keyed_step key k n h = grind arith

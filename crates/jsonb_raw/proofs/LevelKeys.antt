@@ -54,8 +54,7 @@ key_split : (w : Width) (t : Tree) (d : ℕ) → sortable_key w t d ≡ start w 
 key_split w t d = grind (arith, append-nil, trees_keys, append_assoc, pairs_keys)
 
 part_split : (w : Width) (p : EntryPrefix) (d : ℕ) → part_key w p d ≡ part_start w p d ++ keys_of_parts w (parts p.1) (suc d)
-part_split w (None, t) d = key_split w t d
-part_split w (Some k, t) d = cc (key_split w t d, append_assoc (item_bytes w d 5 (text_bytes k)) (start w t d) (keys_of_parts w (parts t) (suc d)))
+part_split w p d = grind (arith, key_split, append_assoc)
 
 -- a part's key is written, if it has one, and then its start
 pub part_written : (w : Width) (p : EntryPrefix) (d : ℕ) (out named out' : List ℕ) → named ≡ out ++ name_start w p.0 d → out' ≡ named ++ start w p.1 d

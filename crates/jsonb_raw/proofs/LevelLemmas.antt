@@ -128,10 +128,7 @@ module _ (form : Form) (t : Tree) (bytes : List ℕ) (content : IsContent (numbe
     no_object k none = let (ps, is, d) = object_content form bytes kind n rest h t k content in none ps d
 
     pub array_told : (kind == 4) ≡ is_array t
-    array_told = elim (HasContent-kind (number_reader form) bytes kind n rest h (t, content)) [
-      | inl e ↦ let (ps, is, d) = object_content form bytes kind n rest h t e content in rw (e, is) refl
-      | inr e ↦ let (ts, is, d) = array_content form bytes kind n rest h t e content in rw (e, is) refl
-    ]
+    array_told = grind (arith, HasContent-kind, object_content, array_content)
 
   -- a container has a header
   pub headed : ((kind : HeaderKind) (n : ℕ) (rest : List ℕ) → HeadedBy bytes (header_number kind) n rest → ⊥) → ⊥

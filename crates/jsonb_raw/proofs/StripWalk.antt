@@ -42,8 +42,7 @@ pub is_none : (k : ℕ) → k ≡ 0 → (k == null_entry) ≡ true
 is_none k e = rw e refl
 
 pub is_some : (k : ℕ) → (k ≡ 0 → ⊥) → (k == null_entry) ≡ false
-is_some zero other = absurd (other refl)
-is_some (suc n) other = grind (arith, nat_tests)
+is_some k h = grind (arith, nat_tests)
 
 -- ---- which trees change
 
@@ -92,16 +91,10 @@ as_many_keys (pair key t ps) = ap suc (as_many_keys ps)
 
 pub kept_makes : (form : Form) (t : Tree) (e : ContainerEntries) (n : ℕ) → AreEntriesOf form t e → n ≡ length (values_kept t)
     → Make e.kind n (entries_kept t) (strip t)
-kept_makes form (array ts) e n h is =
-    subst (λ k. Make k n (entries_kept (array ts)) (strip (array ts))) (sym h.0) (is, ap array (sym (trees-stripped ts)))
-kept_makes form (object ps) e n h is =
-    subst (λ k. Make k n (entries_kept (object ps)) (strip (object ps))) (sym h.0) (
-      members (strip_pairs ps),
-      is ∙ ap length (sym (values_of-stripped ps)) ∙ length-values_of (members (strip_pairs ps)),
-      rw (keys_of-members (strip_pairs ps)) (keys_rise _ (keys_stripped ps h.1)),
-      rw (keys_of-members (strip_pairs ps), values_of-stripped ps) refl,
-      ap object (sym (pairs_of-members (strip_pairs ps))),
-    )
+kept_makes form (array ts) e n h is = grind (arith, trees-stripped)
+kept_makes form (object ps) e n h is = search (arith, h.0, members (strip_pairs ps), is, ap length (sym (values_of-stripped ps)),
+    length-values_of (members (strip_pairs ps)), keys_of-members (strip_pairs ps), keys_rise _ (keys_stripped ps h.1), values_of-stripped ps,
+    ap object (sym (pairs_of-members (strip_pairs ps))))
 kept_makes form _ e n h is = absurd h
 
 -- ---- words are read
@@ -118,23 +111,7 @@ pub record WordTaken (form : Form) (ts : List Tree) (kind : ℕ) (others : List 
 pub word_taken : (form : Form) (words : List ℕ) (ts : List Tree) (kind len : ℕ) (others : List ℕ) → WordsHold form words ts → StartWith words kind len others
     → WordTaken form ts kind others
 word_taken form words [] kind len others h w = absurd (omega (arith, ap length h.entries.0, ap length w.joined))
-word_taken form words (t ∷ ts) kind len others h w =
-    let e = h.entries in
-    let known = w.known in
-    let fits = w.fits in
-    let known' = e.begin.known in
-    let fits' = e.begin.fits in
-    let both = word_cancel (kind * 2 ^ 28 + len) (e.kind * 2 ^ 28 + length e.content) others e.other_words (omega arith) (omega arith)
-    (sym w.joined ∙ e.begin.words_joined) in
-    let same : kind ≡ e.kind = omega (arith, both.0) in
-    record {
-      t = t;
-      content = e.content;
-      rest = ts;
-      split = refl;
-      part = rw same e.part;
-      others_hold = record { contents = e.other_contents; entries = rw both.1 e.others };
-    }
+word_taken form words (t ∷ ts) kind len others h w = grind (arith, word_cancel)
 
 pub no_word_left : (form : Form) (words : List ℕ) (ts : List Tree) → WordsHold form words ts
     → ((kind len : ℕ) (others : List ℕ) → StartWith words kind len others → ⊥) → ts ≡ []
@@ -157,8 +134,7 @@ pub record ScalarsOpen (form : Form) (is_object : Bool) (w : Writer) (run left :
 
 pub scalars_begun : (form : Form) (is_object : Bool) (w : Writer) (run : Entries) (around : Around) (whole : Tree) (ts : List Tree) → HoldTrees form run ts
     → IsWriting form w (stripped is_object ts) around whole → ScalarsOpen form is_object w run run around whole
-scalars_begun form is_object w run around whole ts h writing =
-    record { here = []; trees = ts; holding = holding_begun form run ts h; writing = writing }
+scalars_begun form is_object w run around whole ts h e = search (arith, holding_begun)
 
 module _ (form : Form) (is_object : Bool) (w : Writer) (run left : Entries) (around : Around) (whole : Tree)
     (o : ScalarsOpen form is_object w run left around whole) where
@@ -181,14 +157,7 @@ module _ (form : Form) (is_object : Bool) (w : Writer) (run left : Entries) (aro
 
       -- the next entry is a container
       pub container_next : kind_number entry.kind ≡ container_entry → AreWritten form is_object w' around whole (Some (entry.content, others))
-      container_next is =
-          let content = rw is at f.is_first.part in (
-            f.t,
-            f.rest,
-            content,
-            f.is_first.others_hold,
-            subst (λ us. IsWriting form w' us around whole) (grind (arith, null_kind, leaves_none, content)) next_stripped,
-          )
+      container_next h = grind (arith, null_kind, leaves_none, next_stripped)
 
       -- or a null that is left out
       pub null_next : (kind_number entry.kind ≡ container_entry → ⊥) → stops is_object f.t ≡ true
@@ -294,14 +263,7 @@ some_keys_stay form (array ts) e h w around whole writing = record {
   enough = omega arith;
   coming = subst (λ (ks : List (List ℕ)). IsWriting form w (map text ks ++ values_kept (array ts)) around whole) (sym (beside_none (elements ts))) writing;
 }
-some_keys_stay form (object ps) e h w around whole writing = record {
-  names = keys ps;
-  trees = elements (values ps);
-  names_hold = rw (keys_of-members ps) at h.2.names;
-  trees_hold = rw (values_of-members ps) at h.2.parts;
-  enough = omega (arith, as_many_keys ps);
-  coming = rw (beside_keys ps) writing;
-}
+some_keys_stay form (object ps) e h w around whole writing = grind (arith, elements, values, keys_of-members, values_of-members, as_many_keys, beside_keys)
 some_keys_stay form _ e h w around whole writing = absurd h
 
 pub begun_with : (form : Form) (left : ValuesLeft) (w : Writer) (around : Around) (t whole : Tree) → HoldValues form left t
