@@ -30,7 +30,15 @@ entries_equal-loop-entry-preserved-then-is_container_longer_than t c =
           SomeEntries-first form _ _ _ _ _ c.in_ok-entry.was c.in-Some.ensures.steps (rw none at (c.loop-entry.invariant.left form other_form ts us d e))
           (λ first rest left stored fact.
           SomeEntries-first other_form _ _ _ _ _ c.in_ok-other.was c.in-Some-next.ensures.steps fact
-          (λ second others right means both. record { trees = rest; left = left; fact = record { trees = others; left = right; fact = search put_aside; } }));
+          (λ second others right means both. record {
+            trees = rest;
+            left = left;
+            fact = record {
+              trees = others;
+              left = right;
+              fact = search put_aside;
+            };
+          }));
     }
 
 pub entries_equal-returns-in_err-stored_equal-clause-equal : goal.entries_equal-returns-in_err-stored_equal-clause-equal

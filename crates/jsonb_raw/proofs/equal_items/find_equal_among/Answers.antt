@@ -27,7 +27,11 @@ loop-more-preserved c = λ form other_form ts u h k.
     SomeEntries-first form _ _ _ _ _ c.in_ok-entry.was c.in-Some.ensures.steps (c.loop-more.invariant form other_form ts u h k)
     (λ first rest left stored fact.
     let differs : is_equal first u ≡ false = sym (c.in_ok-stored_equal.ensures.equal form other_form first u stored k) ∙ c.if-branch.false in
-    record { trees = rest; left = left; fact = rw differs at (rw (take_one c.loop-more.more first (elements rest) c.loop-more-test.true) at fact) })
+    record {
+      trees = rest;
+      left = left;
+      fact = rw differs at (rw (take_one c.loop-more.more first (elements rest) c.loop-more-test.true) at fact);
+    })
 
 pub returns-clause-found : goal.returns-clause-found
 returns-clause-found c = λ form other_form ts u h k.

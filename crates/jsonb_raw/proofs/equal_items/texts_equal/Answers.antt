@@ -40,7 +40,11 @@ loop-entry-preserved c = λ form other_form ks ls d e.
     let same : is_equal first second
     ≡ true = texts_by_bytes form other_form c.in_ok-entry.entry c.in_ok-other.other first second rest others fact.0 both.0 stored means
     ∙ told_none _ (sym c.if-ne.false ∙ c.ne.ensures) in
-    record { trees = rest; left = left; fact = grind (arith, first_text) }))
+    record {
+      trees = rest;
+      left = left;
+      fact = grind (arith, first_text);
+    }))
 
 pub returns-clause-equal : goal.returns-clause-equal
 returns-clause-equal c = λ form other_form ks ls d e.

@@ -102,7 +102,11 @@ array_contains-loop-wanted-preserved-then-wanted-others t c =
           (rw none at (c.loop-wanted.invariant.left form other_form xs ys d e))
           (λ first rest left stored fact.
           let m = rw c.in-Deferred.is at (c.in_ok-container_match.ensures.answer form other_form xs first (c.in_ok-all.ensures.decodes form xs d) stored) in
-          record { trees = rest; left = left; fact = search (scalars_left, put_aside) });
+          record {
+            trees = rest;
+            left = left;
+            fact = search (scalars_left, put_aside);
+          });
     }
 
 pub array_contains-returns-in_err-item_matches-in-Deferred-clause-answer : goal.array_contains-returns-in_err-item_matches-in-Deferred-clause-answer

@@ -14,4 +14,8 @@ returns-then-self c = record {
 }
 
 pub returns : goal.returns
-returns c = record { parts = λ form xs h. grind (arith, tail_whole); first = c.requires; second = tail_none c.args.all }
+returns c = record {
+  parts = λ form xs h. grind (arith, tail_whole);
+  first = c.requires;
+  second = tail_none c.args.all;
+}
