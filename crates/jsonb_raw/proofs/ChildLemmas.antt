@@ -72,9 +72,6 @@ without_none i ts is = rw is (ap (λ us. Some (array us)) (trees_of-elements ts)
 
 -- ---- names
 
-pub no_member : (name : List ℕ) (t : Tree) → is_object t ≡ false → named_child name false t ≡ None
-no_member name t h = grind arith
-
 -- a test of the code decides whether strings are the same
 pub decided : (a b : List ℕ) (r : Bool) → (IsTrue r ↔ (map to_ascii_lowercase a ≡ map to_ascii_lowercase b)) → str_eq_ignore_ascii_case a b ≡ r
 decided a b r h = grind (arith, bytes_eq-Decides)

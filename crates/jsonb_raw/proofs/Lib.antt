@@ -23,7 +23,6 @@ pub mod RunLemmas
 pub mod PartedRuns
 pub mod CutLemmas
 pub mod LeafLimits
-mod Bound
 pub mod ContainsLaws
 pub mod Copies
 pub mod EntriesLeft
