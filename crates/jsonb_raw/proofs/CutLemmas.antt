@@ -24,8 +24,7 @@ member_at : (ps : Pairs) (n : ℕ) (child : Tree) → slice_get (elements (value
     → (key : List ℕ) × (slice_get (members ps) n ≡ Some (key, child))
 member_at no_pairs n child at = let bad : None ≡ Some child = at in absurd (cc)
 member_at (pair key t ps) zero child at =
-    let e : t ≡ child = cc at in
-    let of : Tree → Option Member = λ u. Some (key, u) in (key, ap of e)
+    let of : Tree → Option Member = λ u. Some (key, u) in (key, ap of (cc at))
 member_at (pair key t ps) (suc n) child at = member_at ps n child at
 
 values_put : (n : ℕ) (ps : List Member) (key : List ℕ) (u : Tree)
@@ -115,23 +114,13 @@ parent_of : (form : Form) (t : Tree) (e : ContainerEntries) (p : ParentEntries) 
     → p.keys ≡ e.keys → HoldTrees form p.front (take n (children t)) → HoldTrees form p.after (drop (suc n) (children t))
     → p.others ≡ length (take n (children t)) + length (drop (suc n) (children t)) → n < length (children t)
     → slice_get (children t) n ≡ Some child → IsParent form p t n child
-parent_of form (array ts) e p n child h kind same front after is inside at = record {
-  keys_hold = subst (λ run. HoldTrees form run []) (sym same) h.1;
-  front_hold = front;
-  after_hold = after;
-  passed = sym (length-take-le n (elements ts) (omega arith));
-  makes = λ ns.
-      subst (λ k. Make k (count_kept p.others ns) (entries_kept (array ts) n child ns) (change_child n (remove_at ns) (array ts)))
-      (sym (kind ∙ h.0)) (array_makes n p.others child ts at is ns);
-}
+parent_of form (array ts) e p n child h kind same front after is inside at = grind (arith, length-take-le, elements, array_makes)
 parent_of form (object ps) e p n child h kind same front after is inside at = record {
   keys_hold = subst (λ run. HoldTrees form run (map text (keys ps))) (sym same) (rw (keys_of-members ps) at h.2.names);
   front_hold = front;
   after_hold = after;
   passed = sym (length-take-le n (elements (values ps)) (omega arith));
-  makes = λ ns.
-      subst (λ k. Make k (count_kept p.others ns) (entries_kept (object ps) n child ns) (change_child n (remove_at ns) (object ps)))
-      (sym (kind ∙ h.0)) (object_makes n p.others child ps h.1 at is ns);
+  makes = grind (arith, object_makes);
 }
 parent_of form _ e p n child h kind same front after is inside at = absurd h
 
@@ -241,22 +230,7 @@ module _ (form : Form) (w : Writer) (around : List Outer) (p : ParentEntries) (p
     where
       go : (ns : List ℕ) → LeadTo form (q ∷ qs) ns o.child o.end → IsWriting form w (entries_kept o.t o.n o.child ns) o.outside whole
           → OpensNext form w around p q qs whole
-      go [] led writing = absurd led
-      go (m ∷ ns) led writing = record {
-        t = o.t;
-        child = o.child;
-        inner = led.0;
-        end = o.end;
-        n = o.n;
-        m = m;
-        ns = ns;
-        outside = o.outside;
-        parent = o.parent;
-        next = led.1;
-        others = led.2;
-        are_left = o.are_left;
-        writing = writing;
-      }
+      go ns h e = search arith
 
   pub opens_none : ps ≡ [] → IsWriting form w (entries_kept o.t o.n o.child []) o.outside whole
   opens_none is = grind arith
@@ -283,12 +257,10 @@ pub all_behind : (ps : List ParentEntries) (i : ℕ) → take (length ps - i) (d
 all_behind ps i = take_all (length ps - i) (drop i ps) (omega (arith, length-drop i ps))
 
 pub kept_at_most : (p : ParentEntries) (ps : List ParentEntries) → children_kept p ps ≤ p.others + 1
-kept_at_most p [] = omega arith
-kept_at_most p (q ∷ qs) = omega arith
+kept_at_most p ps = grind arith
 
 pub head_less : (kind : HeaderKind) (m n : ℕ) → m ≤ n → head_size kind m ≤ head_size kind n
-head_less header_kind.Object m n less = omega arith
-head_less _ m n less = omega arith
+head_less kind m n h = grind arith
 
 sizes_more : (ps : List ParentEntries) (p : ParentEntries) → sizes (ps ++ p ∷ []) ≡ sizes ps + size p
 sizes_more [] p = omega arith
@@ -343,13 +315,8 @@ module _ (form : Form) (t : Tree) (parents : List ParentEntries) (entry : Stored
   -- one child more is selected
   pub met_next : (p : ParentEntries) (child : StoredEntry) (parents' : List ParentEntries) → parents' ≡ parents ++ p ∷ []
       → StepsInto form w.here step (Some (p, child)) → Walked form t parents' child steps wanted
-  met_next p child parents' more (n, u, meets, at, parent, holds) = record {
-    passed = w.passed ++ n ∷ [];
-    here = u;
-    led = subst (λ ps. LeadTo form ps (w.passed ++ n ∷ []) t u) (sym more) (lead_more form parents w.passed t w.here u p n w.led parent);
-    holds = holds;
-    left = sym (behind w.passed n (location steps u)) ∙ ap (option_map (λ ns. w.passed ++ ns)) (sym (next_place step steps w.here u n meets at)) ∙ here_left;
-  }
+  met_next p child parents' more (n, u, meets, at, parent, holds) =
+      search (arith, u, more, lead_more form parents w.passed t w.here u p n w.led parent, holds, behind w.passed n (location steps u), here_left)
 
   -- the step selects nothing
   pub met_none : StepsInto form w.here step None → wanted ≡ None

@@ -94,10 +94,7 @@ same_kind w d k xs ys r s o h e = items_rank w d k k xs ys r s h ∙ ap (λ p. o
 -- items of two kinds
 other_kind : (w : Width) (d k l : ℕ) (xs ys r s : List ℕ) → d < depths w → k ≢ l
     → bytes_cmp (item_bytes w d k xs ++ r) (item_bytes w d l ys ++ s) ≡ ordering_then (nat_cmp k l) (bytes_cmp r s)
-other_kind w d k l xs ys r s h ne = items_rank w d k l xs ys r s h ∙ by_order (cases_order k l)
-  where
-    by_order : (k ≡ l) ⊎ ((k < l) ⊎ (l < k)) → ordering_then (nat_cmp k l) (bytes_cmp (xs ++ r) (ys ++ s)) ≡ ordering_then (nat_cmp k l) (bytes_cmp r s)
-    by_order h = grind arith
+other_kind w d k l xs ys r s h e = grind (arith, items_rank, cases_order)
 
 -- what may follow an item at one depth may follow one further down
 IsRest-deeper : (w : Width) (d : ℕ) (r : List ℕ) → IsRest w d r → IsRest w (suc d) r
@@ -136,16 +133,13 @@ IsRest-trees : (w : Width) (ts : Trees) (d : ℕ) (r : List ℕ) → IsRest w d 
 IsRest-trees w Trees.no_trees d r h = IsRest-deeper w d r h
 IsRest-trees w (Trees.tree t ts) d r h =
     let i = key_is_item w t (suc d) in
-    subst (IsRest w (suc d)) (ap (λ x. x ++ (keys_of_trees w ts (suc d) ++ r)) (sym i.1)
-    ∙ sym (append_assoc (sortable_key w t (suc d)) (keys_of_trees w ts (suc d)) r))
-    (IsRest-item w (suc d) (rank t) i.0 (keys_of_trees w ts (suc d) ++ r))
+    search (arith, append_assoc, IsRest-item)
 
 IsRest-pairs : (w : Width) (ps : Pairs) (d : ℕ) (r : List ℕ) → IsRest w d r → IsRest w (suc d) (keys_of_pairs w ps (suc d) ++ r)
 IsRest-pairs w ps d r h = grind (arith, IsRest-deeper, append_assoc, IsRest-item)
 
 pub rank_boolean : (b : Bool) → (2 ≤ rank (Tree.boolean b)) × (rank (Tree.boolean b) ≤ 3)
-rank_boolean true = omega arith
-rank_boolean false = omega arith
+rank_boolean b = grind arith
 
 mutual
   pub keys_rank : (w : Width) (t u : Tree) (d : ℕ) (r s : List ℕ) → IsSortable t → IsSortable u → d + deepest t < depths w → d + deepest u < depths w
@@ -280,10 +274,7 @@ same_front : (xs ys r s : List ℕ) → length xs ≡ length ys → xs ++ r ≡ 
 same_front [] [] r s l e = (refl, e)
 same_front [] (y ∷ ys) r s l e = absurd (omega arith)
 same_front (x ∷ xs) [] r s l e = absurd (omega arith)
-same_front (x ∷ xs) (y ∷ ys) r s l e =
-    let h = heads x y (xs ++ r) (ys ++ s) e in
-    let k = same_front xs ys r s (omega arith) h.1 in
-    (ap₂ (λ a b. a ∷ b) h.0 k.0, k.1)
+same_front (x ∷ xs) (y ∷ ys) r s l e = grind (arith, same_front xs ys r s, heads)
 
 mutual
   pub equal_from_keys : (t u : Tree) (r s : List ℕ) → IsKeyable t → IsKeyable u → equality_key t ++ r ≡ equality_key u ++ s → IsEqual t u × (r ≡ s)
@@ -418,8 +409,7 @@ RanksWith w t u bytes = (bytes_cmp bytes (sortable_key w u 0) ≡ tree_cmp t u) 
 -- the tree of a document has a key, since it was decoded and is thus in range
 pub decoded_key : (w : Width) (form : Form) (bytes : List ℕ) (t : Tree) → AreBytes bytes → Decodes form bytes t → HasNoExtension t → deepest t < depths w
     → HasKey w t 0
-decoded_key w form bytes t all d none deep =
-    ((decoded_fits form bytes t all d).0, none, omega (arith, deep))
+decoded_key w form bytes t all d none deep = ((decoded_fits form bytes t all d).0, none, omega (arith, deep))
 
 -- the key of a document ranks as its tree
 pub decoded_ranks : (w : Width) (form : Form) (bytes made : List ℕ) (t : Tree) → AreBytes bytes → Decodes form bytes t → made ≡ sortable_key w t 0
@@ -447,8 +437,7 @@ column_is_item w (Some t) = let i = key_is_item w t 0 in (rank t, i.0, i.1)
 follows : (w : Width) (columns : List (Option Tree)) → IsRest w 0 (composite_key w columns)
 follows w [] = inl refl
 follows w (column ∷ columns) =
-    let i = column_is_item w column in
-    subst (IsRest w 0) (ap (λ x. x ++ composite_key w columns) (sym i.2)) (IsRest-item w 0 i.0 i.1 (composite_key w columns))
+    search (arith, column_is_item w column, IsRest-item w 0 (column_is_item w column).0 (column_is_item w column).1 (composite_key w columns))
 
 below_column : (w : Width) (column : Option Tree) (s : List ℕ) → bytes_cmp [] (column_key w column ++ s) ≡ Less
 below_column w column s = grind (arith, column_is_item, bytes_cmp, append_assoc, nothing_below_depth)

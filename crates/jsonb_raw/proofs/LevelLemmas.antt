@@ -101,8 +101,7 @@ pub falls_within : (level level' inner : ChildCursor) (around around' : List Chi
     → weight inner + weights (reverse around') < weight level + weights (reverse around)
 unfolding weight
 falls_within level level' inner around around' entry s within e =
-    let size = s.size in
-    falls_inward weight level level' inner around around' (inner_weighs _ _ _ _ _ _ s.bound s.room (omega (arith, size, within.0)) within.1) e
+    falls_inward weight level level' inner around around' (inner_weighs _ _ _ _ _ _ s.bound s.room (omega (arith, s.size, within.0)) within.1) e
 
 pub falls_beside : (level level' : ChildCursor) (around : List ChildCursor) (entry : StoredEntry) → IsSmaller level entry level'
     → weight level' + weights (reverse around) < weight level + weights (reverse around)
@@ -160,9 +159,7 @@ pub numbers_told : (form other_form : Form) (entry other : StoredEntry) (t u : T
 numbers_told form other_form entry other t u m n h k is is' e f =
     let first = number_content (number_reader form) _ _ t is h.content in
     let second = number_content (number_reader other_form) _ _ u is' k.content in
-    let p : first.0 ≡ short_value m = some_injective (sym (reads_number form _ _ first.2) ∙ e) in
-    let q : second.0 ≡ short_value n = some_injective (sym (reads_number other_form _ _ second.2) ∙ f) in
-    rw (first.1, second.1, p, q) refl
+    rw (first.1, second.1, some_injective (sym (reads_number form _ _ first.2) ∙ e), some_injective (sym (reads_number other_form _ _ second.2) ∙ f)) refl
 
 module _ (form other_form : Form) (deferred : Option (StoredEntry × StoredEntry)) where
   -- the order may be said in another way

@@ -12,10 +12,7 @@ module _ (form : Form) (e : StoredEntry) where
 
   one_text : (it : EntryIter) (t : Tree) (ts : Trees) → Stores form e t → (kind_number e.kind == 1) ≡ true → HasEntriesLeft form it ts
       → TakesText form (texts_of (tree t ts)) (Some e.content) it
-  one_text it (text s) ts h k left = (h.content.1, record { trees = ts; left = left; texts = refl })
-  one_text it (boolean true) ts h k left = absurd (true≢false (sym (rw h.content.0 at k)))
-  one_text it (boolean false) ts h k left = absurd (true≢false (sym (rw h.content.0 at k)))
-  one_text it _ ts h k left = absurd (true≢false (sym (rw h.content.0 at k)))
+  one_text it t ts h e k = grind arith
 
 module _ (form : Form) (it it' : EntryIter) (ss : List (List ℕ)) (h : HasTextsLeft form it ss) where
   these : SomeEntries form it (λ ts. texts_of ts ≡ ss)
@@ -24,20 +21,15 @@ module _ (form : Form) (it it' : EntryIter) (ss : List (List ℕ)) (h : HasTexts
   module _ (r : Result StoredEntry Error) (x : StoredEntry) (e : r ≡ Ok x) (n : GivesEntry it (Some r) it') where
     -- an entry that is not a string is passed
     pub text_passed : (kind_number x.kind == 1) ≡ false → HasTextsLeft form it' ss
-    text_passed k =
-        SomeEntries-first form it it' r x (λ ts. texts_of ts ≡ ss) e n these
-        (λ first rest left stored fact. record { trees = rest; left = left; texts = sym (no_text form x first rest stored k) ∙ fact })
+    text_passed h = grind (arith, SomeEntries-first, these, no_text)
 
     -- a string is the first of those that are left
     pub text_taken : (kind_number x.kind == 1) ≡ true → TakesText form ss (Some x.content) it'
-    text_taken k =
-        SomeEntries-first form it it' r x (λ ts. texts_of ts ≡ ss) e n these
-        (λ first rest left stored fact. subst (λ us. TakesText form us (Some x.content) it') fact (one_text form x it' first rest stored k left))
+    text_taken h = grind (arith, SomeEntries-first, these, one_text)
 
     -- the entry stores a tree
     pub some_stored : {G : Type 0} → ((t : Tree) → Stores form x t → G) → G
-    some_stored go =
-        SomeEntries-first form it it' r x (λ ts. texts_of ts ≡ ss) e n these (λ first rest left stored fact. go first stored)
+    some_stored h = grind (arith, SomeEntries-first, these)
 
   pub no_text_error : {G : Type 0} → (r : Result StoredEntry Error) (e : Error) → r ≡ Err e → GivesEntry it (Some r) it' → G
   no_text_error r e is n = SomeEntries-error form it it' r e (λ ts. texts_of ts ≡ ss) is n these
@@ -81,8 +73,7 @@ placed_one table s [] all h = absurd (true≢false (sym h))
 placed_one table s (n ∷ names) all h = by (bytes_eq s n) refl (placed_one table s names (All-tail (IsPlaced table) n names all))
   where
     by : (b : Bool) → b ≡ bytes_eq s n → (names_have names s ≡ true → IsPlaced table s) → IsPlaced table s
-    by true e later = subst (IsPlaced table) (sym (bytes_eq-true s n (sym e))) (All-head (IsPlaced table) n names all)
-    by false e later = later (rw (sym e) at h)
+    by b h e = search (arith, bytes_eq-true, All-head)
 
 pub later_is_one : (s name : List ℕ) (ss : List (List ℕ)) → is_one_of ss name ≡ true → is_one_of (s ∷ ss) name ≡ true
 later_is_one s name ss h = grind (arith, h)
@@ -125,14 +116,10 @@ array_decided false (n ∷ names) ts = ap₂ (λ a b. a && b) (sym (text_among n
 
 module _ {X : Type 0} (P : X → Type 0) where
   any_in_first : (xs ys : List X) → Any P xs → Any P (xs ++ ys)
-  any_in_first xs ys h =
-      let (k, x, below, is, p) = h in
-      (k, x, omega (arith, length-append xs ys), get_or_append_left xs ys x k below ∙ is, p)
+  any_in_first xs ys h = grind (arith, length-append, get_or_append_left)
 
   any_in_second : (xs ys : List X) → Any P ys → Any P (xs ++ ys)
-  any_in_second xs ys h =
-      let (k, x, below, is, p) = h in
-      (length xs + k, x, omega (arith, length-append xs ys), get_or-append-add xs ys k x ∙ is, p)
+  any_in_second xs ys h = search (arith, h, (h).1, length-append xs ys, get_or-append-add xs ys (h).0 (h).1, (h).3, (h).4)
 
   any_head : (x : X) (xs : List X) → P x → Any P (x ∷ xs)
   any_head x xs p = (0, x, omega arith, refl, p)
@@ -187,8 +174,7 @@ module _ {F : Type 0} (calls : Shared F (Bor (List ℕ) × Unit {0}) Bool) (func
     leaves_aside item t ys stands l = record { found = λ h. l.found (told_second (texts t) ys h); rest = λ h. (t, stands, decides h) }
       where
         decides : Tells calls func ys false → (b : Bool) → Tells calls func (texts t) b → Tells calls func all b
-        decides h true k = l.found (told_first (texts t) ys k)
-        decides h false k = l.rest (told_then (texts t) ys k false h)
+        decides h b e = search (arith, told_first, told_then)
 
     pub leaves_told : (ss : List (List ℕ)) (answer : Bool) → Tells calls func ss answer → LeavesTexts calls func form ss answer None
     leaves_told ss answer h = grind arith

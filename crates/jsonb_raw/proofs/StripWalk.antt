@@ -225,7 +225,6 @@ module _ (form : Form) (run left : Entries) (words : List ℕ) (w : Writer) (com
           → KeysOpen form others others after w' coming around whole
       key_dropped w' copied none =
           let null : is_null f.t ≡ true = sym (null_kind form f.t _ _ f.part) ∙ is_none _ none in
-          let dropped : beside (f.t ∷ f.rest) (key.content.now ∷ k.rest) ≡ beside f.rest k.rest = rw null refl in
           record {
             here = [];
             names = k.rest;
@@ -233,7 +232,7 @@ module _ (form : Form) (run left : Entries) (words : List ℕ) (w : Writer) (com
             holding = holding_begun form others (map text k.rest) k.is_first.others_hold;
             words_hold = f.others_hold;
             enough = few;
-            writing = subst (λ us. IsWriting form w' (map text us ++ coming) around whole) (split_both ∙ dropped) copied;
+            writing = subst (λ us. IsWriting form w' (map text us ++ coming) around whole) (split_both ∙ (rw null refl)) copied;
           }
 
 module _ (form : Form) (t : Tree) (e : ContainerEntries) (h : AreEntriesOf form t e) (w : Writer) (around : Around) (whole : Tree)
