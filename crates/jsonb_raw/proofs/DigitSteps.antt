@@ -111,9 +111,6 @@ magnitude_packed negative exponent digits n shorter scale e moved same front bac
     (back ∙ ap (λ ds. complement_bytes negative (map suc ds ++ 0 ∷ [])) same)
     ∙ sym (map-append (complement_byte negative) (to_be_bytes w16 (length (digits_of 10 n) + 1000 - scale)) (map suc (significant (digits_of 10 n)) ++ 0 ∷ []))
 
-signed_bytes-append : (negative : Bool) (xs ys : List ℕ) → complement_bytes negative (xs ++ ys) ≡ complement_bytes negative xs ++ complement_bytes negative ys
-signed_bytes-append negative xs ys = map-append (complement_byte negative) xs ys
-
 pub magnitude_pushed : (negative : Bool) (old : List ℕ) (n scale e : ℕ) → e ≡ length (digits_of 10 n) + 1000 - scale
     → ((old ++ complement_bytes negative (to_be_bytes w16 e)) ++ complement_bytes negative (map suc (significant (digits_of 10 n))))
     ++ complement_byte negative 0 ∷ [] ≡ old ++ complement_bytes negative (magnitude_bytes n scale)
@@ -121,8 +118,8 @@ unfolding magnitude_bytes
 magnitude_pushed negative old n scale e h =
     append_assoc (old ++ exponent) digits end ∙ append_assoc old exponent (digits ++ end)
     ∙ ap (λ x. old ++ x)
-    (ap (λ x. exponent ++ x) (sym (signed_bytes-append negative (map suc (significant (digits_of 10 n))) (0 ∷ [])))
-    ∙ sym (signed_bytes-append negative (to_be_bytes w16 e) (map suc (significant (digits_of 10 n)) ++ 0 ∷ []))
+    (ap (λ x. exponent ++ x) (sym (map-append (complement_byte negative) (map suc (significant (digits_of 10 n))) (0 ∷ [])))
+    ∙ sym (map-append (complement_byte negative) (to_be_bytes w16 e) (map suc (significant (digits_of 10 n)) ++ 0 ∷ []))
     ∙ ap (λ k. complement_bytes negative (to_be_bytes w16 k ++ (map suc (significant (digits_of 10 n)) ++ 0 ∷ []))) h)
   where
     exponent : List ℕ

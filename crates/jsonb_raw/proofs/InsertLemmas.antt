@@ -1,6 +1,6 @@
 -- What is inserted and what is concatenated: positions, pairs that are merged, and the entries that result.
 use Rattle.jsonb_raw.proofs.Common.{◌≡◌, ℕ, ◌+◌, ◌<◌, true, false, List, [], ◌∷◌, ◌++◌, length, refl, sym, ap, subst, ◌∙◌, arith, append_assoc, Some, None, Less, Equal, Greater, map, take, drop, append-nil, is_some, length-append, take_at, drop_at, slice_cmp, keys_of, values_of, Equal-is, is_eq-slice_cmp, bytes_eq-Decides, Tree, object, Pairs, no_pairs, pair, keys, value_under, text, members, pairs_of, Form, Decodes, IsBelowFirst, AreKeys, insert_pair, HasKeysLeft, KeyIter, keys_rise, AreRising, decoded_keys, PairPlace, AreBelow, IsInPlace, IsPlaceAmong, IsPairPlace, has_name, length-keys_of, length-values_of, Entries, Make, Around, IsWriting, Writer, keys_of-members, PairEntries, HoldTrees, HoldPairs, many_texts, Bool, not, Option, Ordering, ordering_reverse, match_ordering, nat_list_cmp_total, below_inserted, FirstPair, PairRuns, merged, TakesFirstPair, IsFirstPair, PairsHeld, PairsOpen, below_next, bytes_cmp_refl}
-use Rattle.jsonb_raw.proofs.PartedRuns.{no_value, value_after_less, value_at_equal, turned, equal_keys, same_below, test_of_order}
+use Rattle.jsonb_raw.proofs.PartedRuns.{no_value, value_after_less, value_at_equal, turned, same_below, test_of_order}
 use Rattle.jsonb_doc.specs.declared.layout.HeaderKind.TheVariants as header_kind
 use Rattle.jsonb_raw.proofs.RunLemmas.{Member, text_names, all_values, pairs_begun, no_pairs_held, pair_kept, others_hold, left_holds, pair_taken, no_pair_left}
 use Rattle.std.specs.Ordering.{nat_cmp}
@@ -96,7 +96,7 @@ module _ (name : List ℕ) (ks : List (List ℕ)) (passed : ℕ) (it : KeyIter) 
     passed = h.count;
     taken = refl;
     below = h.below;
-    is_place = equal_keys key name equal;
+    is_place = (bytes_eq-Decides key name).0 (test_of_order key name Equal equal);
   }
 
   -- the next key is above the name
@@ -233,12 +233,6 @@ around_held : (form : Form) (front back : Entries) (xs there ys : List Tree) (n 
     → HoldTrees form front xs × HoldTrees form back ys
 around_held form front back xs there ys n m is as_many h = grind (arith, take_at, drop_at)
 
-as_many_texts : (n : ℕ) (ps : List Member) → n ≡ length ps → n ≡ length (texts ps)
-as_many_texts n ps is = is ∙ sym (length-keys_of ps) ∙ sym (many_texts (keys_of ps))
-
-as_many_values : (n : ℕ) (ps : List Member) → n ≡ length ps → n ≡ length (values_of ps)
-as_many_values n ps is = is ∙ sym (length-values_of ps)
-
 -- ---- the entries of the result
 
 module _ (form : Form) (place : PairPlace) (name : List ℕ) (t : Tree) (ps : Pairs) (pairs : PairEntries) (a : IsAround form place name t ps pairs) where
@@ -247,14 +241,15 @@ module _ (form : Form) (place : PairPlace) (name : List ℕ) (t : Tree) (ps : Pa
       × HoldTrees form back (drop place.taken (drop place.passed (texts a.front ++ (texts a.there ++ texts a.back))))
       → HoldTrees form front (texts a.front) × HoldTrees form back (texts a.back)
   keys_around front back h = around_held form front back (texts a.front) (texts a.there) (texts a.back) place.passed place.taken
-      (as_many_texts place.passed a.front a.passed) (as_many_texts place.taken a.there a.taken) h
+      (a.passed ∙ sym (length-keys_of a.front) ∙ sym (many_texts (keys_of a.front)))
+      (a.taken ∙ sym (length-keys_of a.there) ∙ sym (many_texts (keys_of a.there))) h
 
   pub values_around : (front back : Entries)
       → HoldTrees form front (take place.passed (values_of a.front ++ (values_of a.there ++ values_of a.back)))
       × HoldTrees form back (drop place.taken (drop place.passed (values_of a.front ++ (values_of a.there ++ values_of a.back))))
       → HoldTrees form front (values_of a.front) × HoldTrees form back (values_of a.back)
   values_around front back h = around_held form front back (values_of a.front) (values_of a.there) (values_of a.back) place.passed place.taken
-      (as_many_values place.passed a.front a.passed) (as_many_values place.taken a.there a.taken) h
+      (a.passed ∙ sym (length-values_of a.front)) (a.taken ∙ sym (length-values_of a.there)) h
 
   -- its entries in their order
   abbrev pub coming : List Tree
@@ -325,7 +320,8 @@ module _ (p o : Member) (cs os : List Member) (r : AreRising (p.0 ∷ keys_of cs
   both_greater b h = grind (arith, merged_greater, merged_less, turned)
 
   both_equal : slice_cmp nat_cmp p.0 o.0 ≡ Equal → both false (p ∷ cs) (o ∷ os) ≡ o ∷ both true os cs
-  both_equal e = merged_equal p.0 p.1 o.0 o.1 cs os s e ∙ ap (λ (k : List ℕ). (k, o.1) ∷ merged cs os) (equal_keys p.0 o.0 e)
+  both_equal e = merged_equal p.0 p.1 o.0 o.1 cs os s e ∙ ap (λ (k : List ℕ). (k, o.1) ∷ merged cs os)
+      ((bytes_eq-Decides p.0 o.0).0 (test_of_order p.0 o.0 Equal e))
 
 -- the pairs that are kept, followed by what is left of both, are the whole
 pub record Merging (form : Form) (runs : PairRuns) (run left other : PairEntries) (is_second : Bool) (whole : List Member) : Type 0 where
@@ -423,8 +419,7 @@ module _ (form : Form) (runs : PairRuns) (run left other : PairEntries) (b : Boo
           joined = cc (moved f.p (both true f.cs f.os) _
               (cc (
                 merged_equal f.o.0 f.o.1 f.p.0 f.p.1 f.os f.cs f.r (turned f.p.0 f.o.0 Equal (same_order Equal e)),
-                equal_keys f.p.0 f.o.0
-                    (same_order Equal e),
+                ((bytes_eq-Decides f.p.0 f.o.0).0 (test_of_order f.p.0 f.o.0 Equal (same_order Equal e))),
                 same_order Equal e,
               )) j);
         }

@@ -123,10 +123,6 @@ second_ends xs ys zs z a b ex ey ha eb = rw (ex, ey, eb, nat_cmp-gt a 0 ha) (Ran
 no_product : (v p : ℕ) → v ≡ 0 → v * p ≡ 0
 no_product v p e = rw e (omega arith)
 
--- a scaled number is above 0
-digits_pos : (v k : ℕ) → 0 < v → 0 < v * 10 ^ k
-digits_pos v k h = mul-pos h (one-le-pow k 10 (omega arith))
-
 -- the first digits decide, and otherwise the other digits, here with the fractions' common scale
 first_digits : (x y v w p q : ℕ) → v < p → w < q
     → nat_cmp ((x * p + v) * (q * 10)) ((y * q + w) * (p * 10)) ≡ ordering_then (nat_cmp (suc x) (suc y)) (nat_cmp (v * q) (w * p))
@@ -147,13 +143,13 @@ Ranks-marked [] (y ∷ ys) hx hy = elim (view y ys) [
   | inl h ↦ both_end (marked []) (marked (y ∷ ys)) (value [] * 10 ^ suc (length ys)) (value (y ∷ ys) * 1) refl h.1 (no_product 0 (10 ^ suc (length ys)) refl)
       (no_product (value (y ∷ ys)) 1 h.0)
   | inr h ↦ first_ends (marked []) (marked (y ∷ ys)) (marked ys) y (value [] * 10 ^ suc (length ys)) (value (y ∷ ys) * 1) refl h.1
-      (no_product 0 (10 ^ suc (length ys)) refl) (digits_pos (value (y ∷ ys)) 0 h.0)
+      (no_product 0 (10 ^ suc (length ys)) refl) (mul-pos h.0 (one-le-pow 0 10 (omega arith)))
 ]
 Ranks-marked (x ∷ xs) [] hx hy = elim (view x xs) [
   | inl h ↦ both_end (marked (x ∷ xs)) (marked []) (value (x ∷ xs) * 1) (value [] * 10 ^ suc (length xs)) h.1 refl (no_product (value (x ∷ xs)) 1 h.0)
       (no_product 0 (10 ^ suc (length xs)) refl)
   | inr h ↦ second_ends (marked (x ∷ xs)) (marked []) (marked xs) x (value (x ∷ xs) * 1) (value [] * 10 ^ suc (length xs)) h.1 refl
-      (digits_pos (value (x ∷ xs)) 0 h.0) (no_product 0 (10 ^ suc (length xs)) refl)
+      (mul-pos h.0 (one-le-pow 0 10 (omega arith))) (no_product 0 (10 ^ suc (length xs)) refl)
 ]
 Ranks-marked (x ∷ xs) (y ∷ ys) hx hy = by_views (view x xs) (view y ys) (Ranks-marked xs ys hx.1 hy.1)
   where
@@ -164,9 +160,9 @@ Ranks-marked (x ∷ xs) (y ∷ ys) hx hy = by_views (view x xs) (view y ys) (Ran
         (no_product (value (y ∷ ys)) (10 ^ suc (length xs)) k.0)
     by_views (inl h) (inr k) more = first_ends (marked (x ∷ xs)) (marked (y ∷ ys)) (marked ys) y (value (x ∷ xs) * 10 ^ suc (length ys))
         (value (y ∷ ys) * 10 ^ suc (length xs)) h.1 k.1 (no_product (value (x ∷ xs)) (10 ^ suc (length ys)) h.0)
-        (digits_pos (value (y ∷ ys)) (suc (length xs)) k.0)
+        (mul-pos k.0 (one-le-pow (suc (length xs)) 10 (omega arith)))
     by_views (inr h) (inl k) more = second_ends (marked (x ∷ xs)) (marked (y ∷ ys)) (marked xs) x (value (x ∷ xs) * 10 ^ suc (length ys))
-        (value (y ∷ ys) * 10 ^ suc (length xs)) h.1 k.1 (digits_pos (value (x ∷ xs)) (suc (length ys)) h.0)
+        (value (y ∷ ys) * 10 ^ suc (length xs)) h.1 k.1 (mul-pos h.0 (one-le-pow (suc (length ys)) 10 (omega arith)))
         (no_product (value (y ∷ ys)) (10 ^ suc (length xs)) k.0)
     by_views (inr h) (inr k) more =
         rw (

@@ -8,9 +8,6 @@ use Rattle.std.specs.Ordering.{nat_cmp, is_eq}
 pub test_of_order : (k key : List ℕ) (o : Ordering) → slice_cmp nat_cmp k key ≡ o → bytes_eq k key ≡ is_eq o
 test_of_order k key o e = sym (is_eq-slice_cmp k key) ∙ ap is_eq e
 
-pub equal_keys : (k key : List ℕ) → slice_cmp nat_cmp k key ≡ Equal → k ≡ key
-equal_keys k key e = (bytes_eq-Decides k key).0 (test_of_order k key Equal e)
-
 pub turned : (k key : List ℕ) (o : Ordering) → slice_cmp nat_cmp k key ≡ o → slice_cmp nat_cmp key k ≡ ordering_reverse o
 turned k key o e = nat_list_cmp_total.antisymm key k ∙ ap ordering_reverse e
 
@@ -135,19 +132,17 @@ none_above key name [] below all = refl
 none_above key name (other ∷ others) below all = grind (arith, nat_list_cmp_total, none_above key name others below all.1)
 
 module _ (set : TextSet) (key : List ℕ) (name : Bor (List ℕ)) (names : List (Bor (List ℕ))) (d : DecideFrom set key (name ∷ names)) where
-  agreed : is_in set key ≡ is_among key (name ∷ names)
-  agreed = d.agree key (not_below_itself key)
 
   -- the first name is the key
   pub first_found : Equal ≡ slice_cmp nat_cmp name.now key → true ≡ is_in set key
-  first_found e = rw agreed (rw (turned name.now key Equal (sym e)) refl)
+  first_found e = rw (d.agree key (not_below_itself key)) (rw (turned name.now key Equal (sym e)) refl)
 
   -- the first name is above the key, and so are the others
   pub first_above : Greater ≡ slice_cmp nat_cmp name.now key → false ≡ is_in set key
   unfolding IsStrictlySortedBy
   first_above e =
       let below : slice_cmp nat_cmp key name.now ≡ Less = turned name.now key Greater (sym e) in
-      rw agreed (rw below (sym (none_above key name.now names below d.sorted.0)))
+      rw (d.agree key (not_below_itself key)) (rw below (sym (none_above key name.now names below d.sorted.0)))
 
 -- ---- names and keys
 
@@ -209,14 +204,12 @@ no_member_left form entries (p ∷ ps) found is h = absurd (rw is at h)
 
 module _ (form : Form) (set : TextSet) (names : List (Bor (List ℕ))) (is : Bool) (count : ℕ) (left : Entries) (ps : List Member)
     (m : PartsFirst form set names is count left ps) (key : List ℕ) (others : Entries) (n : NextMember form m.others key others) where
-  are_keys_next : AreKeys (n.p.0 ∷ keys_of n.rest)
-  are_keys_next = rw n.split at m.are_keys
 
   pub key_decided : DecideFrom set key names
   key_decided = let d : DecideFrom set n.p.0 names = rw n.split at m.decide in rw n.is_key at d
 
   pub key_is_utf8 : IsUtf8 key
-  key_is_utf8 = let u : IsUtf8 n.p.0 = are_keys_next.0.0 in rw n.is_key at u
+  key_is_utf8 = let u : IsUtf8 n.p.0 = (rw n.split at m.are_keys).0.0 in rw n.is_key at u
 
   -- one member more is in the run
   pub run_more : (names' : List (Bor (List ℕ))) → DecideFrom set key names' → is_in set key ≡ is → PartsFirst form set names' is (count + 1) others ps
@@ -233,8 +226,8 @@ module _ (form : Form) (set : TextSet) (names : List (Bor (List ℕ))) (is : Boo
         ∙ sym (append_assoc (all_or_none b m.run) (all_or_none b (n.p ∷ [])) (parted wanted set n.rest))
         ∙ ap (λ (l : List Member). l ++ parted wanted set n.rest) (both_runs b m.run (n.p ∷ []));
     hold = n.hold;
-    are_keys = are_keys_next.2;
-    decide = names_passed set names' n.p.0 (keys_of n.rest) are_keys_next.1 (rw n.is_key decide);
+    are_keys = (rw n.split at m.are_keys).2;
+    decide = names_passed set names' n.p.0 (keys_of n.rest) (rw n.split at m.are_keys).1 (rw n.is_key decide);
   }
 
 -- the run begins with the first member

@@ -154,16 +154,11 @@ changed_pairs n change ps = pairs_of (change_at n (λ p. option_map (λ t. (p.0,
 
 -- ---- keys
 
--- a key at the front that is another one changes nothing
-none_in_front : (name key : List ℕ) (ks : List (List ℕ)) → bytes_eq key name ≡ false → position (λ k. bytes_eq k name) ks ≡ None
-    → position (λ k. bytes_eq k name) (key ∷ ks) ≡ None
-none_in_front name key ks other none = rw (position-cons (λ k. bytes_eq k name) key ks false other, none) refl
-
 -- a string below the first of sorted keys is none of them
 pub below_all : (name : List ℕ) (ks : List (List ℕ)) → IsBelowFirst name ks → AreKeys ks → position (λ k. bytes_eq k name) ks ≡ None
 below_all name [] below rising = refl
 below_all name (key ∷ ks) below rising =
-    none_in_front name key ks other (below_all name ks (lower ks rising.1) rising.2)
+    (rw (position-cons (λ k. bytes_eq k name) key ks false other, (below_all name ks (lower ks rising.1) rising.2)) refl)
   where
     other : bytes_eq key name ≡ false
     other = sym (is_eq-slice_cmp key name) ∙ ap is_eq (nat_list_cmp_total.antisymm key name) ∙ rw below refl
@@ -186,7 +181,7 @@ key_gone name (pair key t ps) n rising at = by (λ m e. key_gone name ps m risin
     behind rest None is other e = let bad : None ≡ Some n = e in absurd (cc)
     behind rest (Some m) is other e =
         let e' : suc m ≡ n = cc e in
-        rw (← e') (none_in_front name key (keys (changed_pairs m (remove_at []) ps)) other (rest m is))
+        rw (← e') (rw (position-cons (λ k. bytes_eq k name) key (keys (changed_pairs m (remove_at []) ps)) false other, (rest m is)) refl)
 
     by : others_gone → (b : Bool) → bytes_eq key name ≡ b → position (λ k. bytes_eq k name) (keys (changed_pairs n (remove_at []) (pair key t ps))) ≡ None
     by rest true same =

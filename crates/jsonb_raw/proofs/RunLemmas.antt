@@ -9,19 +9,15 @@ use Rattle.jsonb_raw.proofs.AnswerLemmas.{drop_first}
 pub no_runs : (form : Form) → RunsHold form [] []
 no_runs form = refl
 
-pub run_before : (form : Form) (entries : Entries) (runs : List Entries) (xs ys : List Tree) → HoldTrees form entries xs → RunsHold form runs ys
-    → RunsHold form (entries ∷ runs) (xs ++ ys)
-run_before form entries runs xs ys h g = (xs, ys, h, g, refl)
-
 pub one_run : (form : Form) (entries : Entries) (xs : List Tree) → HoldTrees form entries xs → RunsHold form (entries ∷ []) xs
-one_run form entries xs h = subst (RunsHold form (entries ∷ [])) (append-nil xs) (run_before form entries [] xs [] h (no_runs form))
+one_run form entries xs h = subst (RunsHold form (entries ∷ [])) (append-nil xs) ((xs, [], h, (no_runs form), refl))
 
 pub two_runs : (form : Form) (a b : Entries) (xs ys : List Tree) → HoldTrees form a xs → HoldTrees form b ys → RunsHold form (a ∷ b ∷ []) (xs ++ ys)
-two_runs form a b xs ys h g = run_before form a (b ∷ []) xs ys h (one_run form b ys g)
+two_runs form a b xs ys h g = (xs, ys, h, (one_run form b ys g), refl)
 
 pub three_runs : (form : Form) (a b c : Entries) (xs ys zs : List Tree) → HoldTrees form a xs → HoldTrees form b ys → HoldTrees form c zs
     → RunsHold form (a ∷ b ∷ c ∷ []) (xs ++ (ys ++ zs))
-three_runs form a b c xs ys zs h g k = run_before form a (b ∷ c ∷ []) xs (ys ++ zs) h (two_runs form b c ys zs g k)
+three_runs form a b c xs ys zs h g k = (xs, (ys ++ zs), h, (two_runs form b c ys zs g k), refl)
 
 -- the first of the runs that are left
 pub record FirstRun (form : Form) (run : Entries) (runs : List Entries) (ts : List Tree) : Type 0 where

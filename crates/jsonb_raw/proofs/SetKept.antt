@@ -42,16 +42,13 @@ overlap_one (t ∷ ts) u = ap₂ (λ a b. a || b) (or_false (is_equal t u) ∙ i
 
 -- ---- two lists of one element
 
-count_of_one : (t u : Tree) (b : Bool) → b ≡ is_equal u t → count_of t (u ∷ []) ≡ cond b 1 0 + 0
-count_of_one t u b e = sum_by-cons (λ x. cond (is_equal x t) 1 0) u [] ∙ ap (λ x. cond x 1 0 + 0) (sym e)
-
 -- a test for equality decides whether it is in the intersection
 pub shared_one : (t u : Tree) (b : Bool) → b ≡ is_equal u t → cond b (t ∷ []) [] ≡ intersection_of (t ∷ []) (u ∷ [])
-shared_one t u b e = grind (arith, nat_tests, count_of_one t u b e)
+shared_one t u b e = grind (arith, nat_tests, (sum_by-cons (λ x. cond (is_equal x t) 1 0) u [] ∙ ap (λ x. cond x 1 0 + 0) (sym e)))
 
 -- and in the difference
 pub unshared_one : (t u : Tree) (b : Bool) → b ≡ is_equal u t → cond (not b) (t ∷ []) [] ≡ difference_of (t ∷ []) (u ∷ [])
-unshared_one t u b e = grind (arith, nat_tests, count_of_one t u b e)
+unshared_one t u b e = grind (arith, nat_tests, (sum_by-cons (λ x. cond (is_equal x t) 1 0) u [] ∙ ap (λ x. cond x 1 0 + 0) (sym e)))
 
 -- ---- what is kept
 
