@@ -1,5 +1,5 @@
 -- Results of calls, lists, loops that make one value for each part, and what an item says of its tree.
-use Rattle.jsonb_raw.proofs.Common.{◌≡◌, Option, None, Result, Ok, IsOkAnd, IsErrAnd, MatchResult, arith, Error, Tree, Form, IsOutOfMemory, MakesOption, Finds, OwnedJsonb, ℕ, zero, suc, ◌+◌, ◌<◌, ◌≤◌, List, [], ◌∷◌, length, drop, get_or, refl, sym, ap, ◌∙◌, add-one, drop-cons, ◌++◌, subst, append_assoc, append-nil, AllZip, zip_more, ℤ, Bool, Bor, StandsFor, Item, Boolean, String, HasShape, Shape, text_of, IsWholeNumber}
+use Rattle.jsonb_raw.proofs.Common.{◌≡◌, Option, None, Result, Ok, IsOkAnd, IsErrAnd, MatchResult, arith, Error, Tree, Form, IsOutOfMemory, MakesOption, Finds, OwnedJsonb, ℕ, suc, ◌+◌, ◌<◌, List, [], ◌∷◌, length, drop, get_or, refl, sym, ap, ◌∙◌, add-one, drop-cons, ◌++◌, subst, append_assoc, append-nil, AllZip, zip_more, ℤ, Bool, Bor, StandsFor, Item, Boolean, String, HasShape, Shape, text_of, IsWholeNumber}
 use Rattle.std.specs.List.{Any}
 use Rattle.jsonb_doc.specs.declared.number.Number as code
 use Rattle.jsonb_doc.specs.declared.item.Item.TheVariants.{Number}

@@ -176,16 +176,12 @@ module _ {A : Type 0} (P : A → Type 0) (d : A) where
   repeated_each (suc n) p zero = p
   repeated_each (suc n) p (suc k) = repeated_each n p k
 
--- the kind of an entry determines a container
-container_kind : (form : Form) (e : StoredEntry) (t : Tree) → Stores form e t → is_container t ≡ (kind_number e.kind == 5)
-container_kind form e t h = grind arith
-
 module _ (form : Form) (e : StoredEntry) (t : Tree) (h : Stores form e t) where
   pub container_told : (kind_number e.kind == 5) ≡ true → is_container t ≡ true
-  container_told k = container_kind form e t h ∙ k
+  container_told k = grind arith
 
   pub scalar_told : (kind_number e.kind == 5) ≡ false → is_container t ≡ false
-  scalar_told k = container_kind form e t h ∙ k
+  scalar_told k = grind arith
 
 module _ (y : Tree) (ys : Trees) (xs : List Tree) (whole : Bool) (is : scalars_matched (tree y ys) xs ≡ whole) where
   -- a container is passed over

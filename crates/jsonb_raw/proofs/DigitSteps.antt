@@ -10,13 +10,6 @@ count_few n h = length-digits_of-le 10 39 n (omega arith) (omega arith)
 pub count_short : (n : ℕ) → n < 2 ^ 64 → length (digits_of 10 n) ≤ 20
 count_short n h = length-digits_of-le 10 20 n (omega arith) (omega arith)
 
--- one digit more is written before a place
-pub digit_written : (negative : Bool) (n m : ℕ) (behind before whole : List ℕ) (byte : ℕ) → 0 < n → m ≡ n / 10
-    → byte ≡ complement_byte negative (suc (n % 10)) → before ≡ byte ∷ behind
-    → complement_bytes negative (map suc (digits_of 10 n)) ++ behind ≡ whole
-    → complement_bytes negative (map suc (digits_of 10 m)) ++ before ≡ whole
-digit_written negative n m behind before whole byte some less is more h = grind (arith, append_assoc, map-append, digits_of_step)
-
 all_zero_behind : (ds : List ℕ) → list_all (λ d. d == 0) (ds ++ 0 ∷ []) ≡ list_all (λ d. d == 0) ds
 all_zero_behind [] = refl
 all_zero_behind (d ∷ ds) = ap (λ b. (d == 0) && b) (all_zero_behind ds)
@@ -67,10 +60,7 @@ module _ (negative : Bool) (n end : ℕ) (buffer : List ℕ) (left at : ℕ) (no
   pub digit_passed : (others byte before : ℕ) (buffer' : List ℕ) → length (digits_of 10 n) ≤ end → 0 < left → others ≡ left / 10
       → byte ≡ complement_byte negative (suc (left % 10)) → before + 1 ≡ at → WritesBefore now at (byte ∷ []) before buffer'
       → DigitsWritten negative n end buffer others before buffer'
-  digit_passed others byte before buffer' room some is byte_is place more =
-      let count = h.count in
-      let step : length (digits_of 10 others) + 1 ≡ length (digits_of 10 left) = ap (λ k. length (digits_of 10 k) + 1) is ∙ count_step left some in
-      search (arith, digit_written)
+  digit_passed others byte before buffer' room some is byte_is place more = grind (arith, count_step, append_assoc, map-append, digits_of_step)
 
   pub all_digits : left ≡ 0 → drop at now ≡ complement_bytes negative (map suc (digits_of 10 n)) ++ drop end buffer
   all_digits none = ap (λ ds. complement_bytes negative (map suc ds) ++ drop at now) (sym (no_digits left none)) ∙ h.written
@@ -96,10 +86,7 @@ pub record DigitsPacked (negative : Bool) (n left len : ℕ) (bytes : List ℕ) 
 module _ (negative : Bool) (n left len : ℕ) (bytes : List ℕ) (h : DigitsPacked negative n left len bytes) where
   pub digit_packed : (others len' byte : ℕ) (bytes' : List ℕ) → 0 < left → others ≡ left / 10 → len' ≡ len + 1
       → byte ≡ complement_byte negative (suc (left % 10)) → bytes' ≡ byte ∷ bytes → DigitsPacked negative n others len' bytes'
-  digit_packed others len' byte bytes' some is more byte_is bytes_are =
-      let counted = h.counted in
-      let step : length (digits_of 10 others) + 1 ≡ length (digits_of 10 left) = ap (λ k. length (digits_of 10 k) + 1) is ∙ count_step left some in
-      record { counted = omega arith; few = h.few; packed = digit_written negative left others bytes bytes' _ byte some is byte_is bytes_are h.packed }
+  digit_packed others len' byte bytes' some is more byte_is bytes_are = grind (arith, count_step, append_assoc, map-append, digits_of_step)
 
 -- the exponent's bytes before the digits
 pub magnitude_packed : (negative : Bool) (exponent digits : List ℕ) (n shorter scale e : ℕ) → e ≡ length (digits_of 10 n) + 1000 - scale

@@ -76,9 +76,6 @@ with_key-equality_key t (u ∷ us) key f all e =
 
 -- ---- which occurrences are kept
 
-more_left : (a b : ℕ) → nat_lt 0 (a - b) ≡ nat_lt b a
-more_left a b = grind (arith, nat_tests)
-
 module _ (m : KeyCounts) (other before : List Tree) (t : Tree) (key : Vec ℕ Global) (f : Fits t) (e : key.items ≡ equality_key t) where
   first_test : CountsAfter First m other before → nat_eq (counted m key) 0 ≡ keeps First other (before, t)
   first_test h = ap (λ n. nat_eq n 0) (h.counts key ∙ with_key-equality_key t before key f h.fit_before e)
@@ -86,7 +83,7 @@ module _ (m : KeyCounts) (other before : List Tree) (t : Tree) (key : Vec ℕ Gl
   left_test : counted m key ≡ with_key key other - with_key key before → AllByRecursion Fits other → AllByRecursion Fits before
       → nat_lt 0 (counted m key) ≡ is_shared other (before, t)
   left_test left all all_before =
-      cc (left, with_key-equality_key t other key f all e, with_key-equality_key t before key f all_before e, more_left (count_of t other) (count_of t before))
+      grind (arith, left, with_key-equality_key t other key f all e, with_key-equality_key t before key f all_before e)
 
   pub test_first : (kind : SetOperation) → kind ≡ First → CountsAfter kind m other before → nat_eq (counted m key) 0 ≡ keeps kind other (before, t)
   test_first kind is = rw is first_test
@@ -185,13 +182,9 @@ none_left n whole h = grind (arith, nat_lt, nat_tests)
 pub members_few : (t : Tree) → Fits t → length (as_elements t) < 2 ^ 63
 members_few t h = grind (arith, elements_few)
 
-not_first_begun : (kind : SetOperation) (m : KeyCounts) (other : List Tree) → (kind ≡ First → ⊥) → CountsKeys m other → AllByRecursion Fits other
-    → CountsAfter kind m other []
-not_first_begun kind m other h e k = grind arith
-
 pub counted_begun : (kind : SetOperation) (r : Result KeyCounts Error) (other : List Tree) → (kind ≡ First → ⊥) → AllByRecursion Fits other
     → MatchResult r (λ m. CountsKeys m other) IsOutOfMemory → MatchResult r (λ m. CountsAfter kind m other []) IsOutOfMemory
-counted_begun kind r other h e k = grind (arith, not_first_begun)
+counted_begun kind r other h e k = grind arith
 
 pub follows : {P Q : Type 0} (R : Bool → Type 0) (r : Result Bool Error) → (P → Q) → MatchResult r R IsOutOfMemory → MatchResult r (λ _. P) IsOutOfMemory
     → MatchResult r (λ b. R b × Q) IsOutOfMemory

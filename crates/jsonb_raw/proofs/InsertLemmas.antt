@@ -2,7 +2,7 @@
 use Rattle.jsonb_raw.proofs.Common.{◌≡◌, ℕ, ◌+◌, ◌<◌, true, false, List, [], ◌∷◌, ◌++◌, length, refl, sym, ap, subst, ◌∙◌, arith, append_assoc, Some, None, Less, Equal, Greater, map, take, drop, append-nil, is_some, length-append, take_at, drop_at, slice_cmp, keys_of, values_of, Equal-is, is_eq-slice_cmp, bytes_eq-Decides, Tree, object, Pairs, no_pairs, pair, keys, value_under, text, members, pairs_of, Form, Decodes, IsBelowFirst, AreKeys, insert_pair, HasKeysLeft, KeyIter, keys_rise, AreRising, decoded_keys, PairPlace, AreBelow, IsInPlace, IsPlaceAmong, IsPairPlace, has_name, length-keys_of, length-values_of, Entries, Make, Around, IsWriting, Writer, keys_of-members, PairEntries, HoldTrees, HoldPairs, many_texts, Bool, not, Option, Ordering, ordering_reverse, match_ordering, nat_list_cmp_total, below_inserted, FirstPair, PairRuns, merged, TakesFirstPair, IsFirstPair, PairsHeld, PairsOpen, below_next, bytes_cmp_refl}
 use Rattle.jsonb_raw.proofs.PartedRuns.{no_value, value_after_less, value_at_equal, turned, same_below, test_of_order}
 use Rattle.jsonb_doc.specs.declared.layout.HeaderKind.TheVariants as header_kind
-use Rattle.jsonb_raw.proofs.RunLemmas.{Member, text_names, all_values, pairs_begun, no_pairs_held, pair_kept, others_hold, left_holds, pair_taken, no_pair_left}
+use Rattle.jsonb_raw.proofs.RunLemmas.{Member, text_names, all_values, pairs_begun, pair_kept, others_hold, left_holds, pair_taken, no_pair_left}
 use Rattle.std.specs.Ordering.{nat_cmp}
 
 same_key : (key name : List ℕ) → key ≡ name → slice_cmp nat_cmp name key ≡ Equal
@@ -123,16 +123,12 @@ in_object name t ps place is at = rw is at
 
 -- ---- the result for a name
 
-object_at : (name : List ℕ) (t : Tree) (place : PairPlace) → IsPairPlace name t (Some place)
-    → (ps : Pairs) × (t ≡ object ps) × IsPlaceAmong place name (keys ps)
-object_at name t place h = grind arith
-
 module _ (form : Form) (bytes : List ℕ) (name : List ℕ) (t : Tree) (place : PairPlace) (d : Decodes form bytes t) (at : IsPairPlace name t (Some place)) where
   pub name_there : 0 < place.taken → has_name name t ≡ true
-  name_there h = grind (arith, object_at, is_there, decoded_keys)
+  name_there h = grind (arith, is_there, decoded_keys)
 
   pub name_missing : place.taken ≡ 0 → has_name name t ≡ false
-  name_missing h = grind (arith, object_at, not_there, decoded_keys)
+  name_missing h = grind (arith, not_there, decoded_keys)
 
 -- ---- pairs split by their keys
 
@@ -285,9 +281,6 @@ module _ (k : List ℕ) (t : Tree) (l : List ℕ) (u : Tree) (xs qs : List Membe
       let same : slice_cmp nat_cmp l k ≡ Equal = nat_list_cmp_total.antisymm l k ∙ ap ordering_reverse e in
       rw same (merged_first (k, u) xs qs (same_below l k (keys_of qs) same rising.0) rising.1)
 
-  pub merged_greater : slice_cmp nat_cmp k l ≡ Greater → merged ((k, t) ∷ xs) ((l, u) ∷ qs) ≡ (l, u) ∷ merged ((k, t) ∷ xs) qs
-  merged_greater e = grind (arith, turned, merged_first)
-
 -- ---- keys
 
 pub rising_inserted : (key : List ℕ) (x : Tree) (ps : List Member) → AreRising (keys_of ps) → AreRising (keys_of (insert_pair key x ps))
@@ -314,10 +307,10 @@ both true cs os = merged os cs
 
 module _ (p o : Member) (cs os : List Member) (r : AreRising (p.0 ∷ keys_of cs)) (s : AreRising (o.0 ∷ keys_of os)) where
   both_less : (b : Bool) → slice_cmp nat_cmp p.0 o.0 ≡ Less → both b (p ∷ cs) (o ∷ os) ≡ p ∷ both b cs (o ∷ os)
-  both_less b h = grind (arith, merged_less, merged_greater, turned)
+  both_less b h = grind (arith, merged_less, turned, merged_first)
 
   both_greater : (b : Bool) → slice_cmp nat_cmp p.0 o.0 ≡ Greater → both b (p ∷ cs) (o ∷ os) ≡ o ∷ both (not b) os (p ∷ cs)
-  both_greater b h = grind (arith, merged_greater, merged_less, turned)
+  both_greater b h = grind (arith, merged_less, turned, merged_first)
 
   both_equal : slice_cmp nat_cmp p.0 o.0 ≡ Equal → both false (p ∷ cs) (o ∷ os) ≡ o ∷ both true os cs
   both_equal e = merged_equal p.0 p.1 o.0 o.1 cs os s e ∙ ap (λ (k : List ℕ). (k, o.1) ∷ merged cs os)
@@ -341,7 +334,7 @@ merging_begun form runs first second ps qs keys_none values_none h g r s = recor
   held = [];
   mine = ps;
   theirs = qs;
-  pairs = pairs_begun form runs first [] ps (no_pairs_held form runs keys_none values_none) h;
+  pairs = pairs_begun form runs first [] ps (grind arith) h;
   others = g;
   rising = r;
   other_rising = s;

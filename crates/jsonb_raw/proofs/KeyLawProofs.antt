@@ -1,5 +1,5 @@
 -- The keys of trees rank as the trees do; laws of sortable, composite and equality keys.
-use Rattle.jsonb_raw.proofs.Common.{◌≡◌, ℕ, suc, ◌%◌, ◌^◌, ◌<◌, List, [], ◌∷◌, ◌++◌, length, refl, sym, ap, ap₂, ◌∙◌, arith, nat_cmp, Bool, Ordering, Equal, append_assoc, mod-eq_of_lt, ◌↔◌, inl, Less, append-nil, flat_map, Option, None, Some, IfSome, Greater, subst, IsTrue, bytes_high_first, Width, byte_len, nat_cmp-equal, then_Equal, extension_back, some_injective, FitsExtension, canonical, extension_payload, Form, extension_of, Fits, IsShort, HasShortParts, HasShortElements, HasShortValues, IsInRange, AreInRange, ValuesAreInRange, Tree, Trees, Pairs, count, keys, Number, FitsNumber, number_cmp, rank, tree_cmp, IsEqual, AreEqual, PairsAreEqual, number_bytes, text_bytes, sortable_key, depths, HasKey, IsRest, item_bytes, equality_key, equality_keys_of_trees, equality_keys_of_pairs, both_equal, bytes_cmp, same_from_bytes_cmp, bytes_cmp_refl, ordering_then, equal_from_tree_cmp, tree_cmp-equal, AreBytes, Decodes, decoded_fits, deepest, HasNoExtension, is_equal, equal_from_test, is_equal-true, slice_cmp, option_cmp, one-le-pow, column_key, HaveKeys, ◌≢◌, ◌⊎◌, ◌+◌, ◌≤◌, true, false, inr, to_be_bytes, cases_order, nat_cmp_refl, then_assoc, deepest_of_trees, deepest_of_pairs, trees_cmp, pairs_cmp, keys_of_trees, keys_of_pairs, pos, not, AllByRecursion, values_of, extension, array, object, no_trees, tree, no_pairs, pair, Key, index, unquoted_name, Leaf, leaves_at, leaves, leaves_of_trees, leaves_of_pairs, behind, is_extension_value}
+use Rattle.jsonb_raw.proofs.Common.{◌≡◌, ℕ, suc, ◌%◌, ◌^◌, ◌<◌, List, [], ◌∷◌, ◌++◌, length, refl, sym, ap, ap₂, ◌∙◌, arith, nat_cmp, Bool, Ordering, Equal, append_assoc, mod-eq_of_lt, ◌↔◌, inl, Less, append-nil, flat_map, Option, None, Some, IfSome, Greater, IsTrue, bytes_high_first, Width, byte_len, nat_cmp-equal, then_Equal, extension_back, some_injective, FitsExtension, canonical, extension_payload, Form, extension_of, Fits, IsShort, HasShortParts, HasShortElements, HasShortValues, IsInRange, AreInRange, ValuesAreInRange, Tree, Trees, Pairs, count, keys, Number, FitsNumber, number_cmp, rank, tree_cmp, IsEqual, AreEqual, PairsAreEqual, number_bytes, text_bytes, sortable_key, depths, HasKey, IsRest, item_bytes, equality_key, equality_keys_of_trees, equality_keys_of_pairs, both_equal, bytes_cmp, same_from_bytes_cmp, bytes_cmp_refl, ordering_then, equal_from_tree_cmp, tree_cmp-equal, AreBytes, Decodes, decoded_fits, deepest, HasNoExtension, is_equal, equal_from_test, is_equal-true, slice_cmp, option_cmp, one-le-pow, column_key, HaveKeys, ◌≢◌, ◌+◌, ◌≤◌, false, inr, to_be_bytes, cases_order, nat_cmp_refl, then_assoc, deepest_of_trees, deepest_of_pairs, trees_cmp, pairs_cmp, keys_of_trees, keys_of_pairs, pos, not, AllByRecursion, values_of, extension, array, object, no_trees, tree, no_pairs, pair, Key, index, unquoted_name, Leaf, leaves_at, leaves, leaves_of_trees, leaves_of_pairs, behind, is_extension_value}
 use Rattle.jsonb_raw.proofs.NumberKeys.{Ranks, Ranks-bytes_high_first, Ranks-text_bytes, Ranks-number_bytes, bounded_from_fits, ranks_alone}
 
 abbrev mutual
@@ -104,19 +104,12 @@ IsRest-deeper w d r h = grind arith
 pub IsRest-item : (w : Width) (d k : ℕ) (xs r : List ℕ) → IsRest w d (item_bytes w d k xs ++ r)
 IsRest-item w d k xs r = inr (d, k ∷ xs ++ r, omega arith, append_assoc (to_be_bytes w d) (k ∷ xs) r)
 
--- bytes that begin with a depth are not empty
-pub nothing_below_depth : (w : Width) (d : ℕ) (s : List ℕ) → bytes_cmp [] (to_be_bytes w d ++ s) ≡ Less
-nothing_below_depth w d s = grind arith
-
-pub nothing_above_depth : (w : Width) (d : ℕ) (r : List ℕ) → bytes_cmp (to_be_bytes w d ++ r) [] ≡ Greater
-nothing_above_depth w d r = grind arith
-
 -- a rest is below an item that is deeper
 rest_below : (w : Width) (d k : ℕ) (xs r s : List ℕ) → suc d < depths w → IsRest w d r → bytes_cmp r (item_bytes w (suc d) k xs ++ s) ≡ Less
-rest_below w d k xs r s h e = grind (arith, bytes_cmp, append_assoc, nothing_below_depth, depth_ranks)
+rest_below w d k xs r s h e = grind (arith, append_assoc, depth_ranks)
 
 rest_above : (w : Width) (d k : ℕ) (xs r s : List ℕ) → suc d < depths w → IsRest w d s → bytes_cmp (item_bytes w (suc d) k xs ++ r) s ≡ Greater
-rest_above w d k xs r s h e = grind (arith, bytes_cmp, append_assoc, nothing_above_depth, depth_ranks)
+rest_above w d k xs r s h e = grind (arith, append_assoc, depth_ranks)
 
 -- a key is an item
 pub key_is_item : (w : Width) (t : Tree) (d : ℕ) → (xs : List ℕ) × (sortable_key w t d ≡ item_bytes w d (rank t) xs)
@@ -425,9 +418,6 @@ composite_key w columns = flat_map (column_key w) columns
 pub some_depth : (w : Width) → 0 < depths w
 some_depth w = one-le-pow (byte_len w) 256 (omega arith)
 
-rank_positive : (t : Tree) → 0 < rank t
-rank_positive t = grind arith
-
 -- a column is an item at depth 0
 column_is_item : (w : Width) (column : Option Tree) → (k : ℕ) × (xs : List ℕ) × (column_key w column ≡ item_bytes w 0 k xs)
 column_is_item w None = (0, [], refl)
@@ -440,16 +430,16 @@ follows w (column ∷ columns) =
     search (arith, column_is_item w column, IsRest-item w 0 (column_is_item w column).0 (column_is_item w column).1 (composite_key w columns))
 
 below_column : (w : Width) (column : Option Tree) (s : List ℕ) → bytes_cmp [] (column_key w column ++ s) ≡ Less
-below_column w column s = grind (arith, column_is_item, bytes_cmp, append_assoc, nothing_below_depth)
+below_column w column s = grind (arith, column_is_item, append_assoc)
 
 above_nothing : (w : Width) (column : Option Tree) (r : List ℕ) → bytes_cmp (column_key w column ++ r) [] ≡ Greater
-above_nothing w column r = grind (arith, column_is_item, bytes_cmp, append_assoc, nothing_above_depth)
+above_nothing w column r = grind (arith, column_is_item, append_assoc)
 
 columns_rank : (w : Width) (t u : Option Tree) (r s : List ℕ) → IfSome t (λ x. HasKey w x 0) → IfSome u (λ x. HasKey w x 0) → IsRest w 0 r → IsRest w 0 s
     → bytes_cmp (column_key w t ++ r) (column_key w u ++ s) ≡ ordering_then (option_cmp tree_cmp t u) (bytes_cmp r s)
 columns_rank w None None r s ht hu hr hs = items_rank w 0 0 0 [] [] r s (some_depth w)
-columns_rank w None (Some u) r s ht hu hr hs = grind (arith, key_is_item, items_rank, some_depth, rank_positive)
-columns_rank w (Some t) None r s ht hu hr hs = grind (arith, key_is_item, items_rank, some_depth, rank_positive)
+columns_rank w None (Some u) r s ht hu hr hs = grind (arith, key_is_item, items_rank, some_depth)
+columns_rank w (Some t) None r s ht hu hr hs = grind (arith, key_is_item, items_rank, some_depth)
 columns_rank w (Some t) (Some u) r s ht hu hr hs = ranked w t u 0 r s ht hu hr hs
 
 pub composite_keys_order : (w : Width) (ts us : List (Option Tree)) → HaveKeys w ts → HaveKeys w us

@@ -12,11 +12,6 @@ pub record IsToward (limit : ℕ) (out left : List ℕ) (left_deep : ℕ) (old w
   pub shallow : left_deep < limit → deep < limit
   pub deeper : left_deep ≤ deep
 
--- a part that fails fails for the whole
-pub IsToward-refused : (limit : ℕ) (out left : List ℕ) (part_deep both_deep : ℕ) (old whole : List ℕ) (deep : ℕ) (e : Error)
-    → IsToward limit out left both_deep old whole deep → part_deep ≤ both_deep → IsOutOfMemoryOrTooDeep part_deep limit e → IsOutOfMemoryOrTooDeep deep limit e
-IsToward-refused limit out left part_deep both_deep old whole deep e h k f = grind arith
-
 -- ---- the key of a tree by its parts
 
 abbrev pub part_key : Width → EntryPrefix → ℕ → List ℕ
@@ -90,7 +85,7 @@ part_begun w p ps ls out out' old whole deep h e = grind (arith, parts_deep, app
 pub part_refused : (w : Width) (p : EntryPrefix) (ps : List EntryPrefix) (ls : List (List EntryPrefix)) (out old whole : List ℕ) (deep : ℕ) (e : Error)
     → IsWithin w out ((p ∷ ps) ∷ ls) old whole deep
     → IsOutOfMemoryOrTooDeep (length ls + 1) (depths w) e → IsOutOfMemoryOrTooDeep deep (depths w) e
-part_refused w p ps ls out old whole deep e h r = grind (arith, IsToward-refused)
+part_refused w p ps ls out old whole deep e h r = grind arith
 
 -- nothing is left at the innermost level
 pub level_done : (w : Width) (ls : List (List EntryPrefix)) (out old whole : List ℕ) (deep : ℕ) → IsWithin w out ([] ∷ ls) old whole deep

@@ -1,5 +1,5 @@
 -- Names that are looked up among strings, and what calls decided of strings that are joined.
-use Rattle.jsonb_raw.proofs.Common.{◌≡◌, ◌==◌, ◌||◌, ◌&&◌, ◌<◌, ◌≤◌, ◌+◌, ℕ, zero, suc, Bool, true, false, List, [], ◌∷◌, map, take, drop, length, get_or, Option, Some, None, Result, Ok, Err, refl, sym, ap, ap₂, ◌∙◌, subst, true≢false, arith, Bor, bytes_eq, beq, list_any, All, All-head, All-tail, bytes_eq-true, Error, EntryIter, StoredEntry, kind_number, Tree, boolean, text, array, Trees, no_trees, tree, elements, Form, HasEntriesLeft, Stores, GivesEntry, is_text, has_by, texts_of, is_one_of, decided_by, HasTextsLeft, TakesText, IsPlaced, NameTable, shuffled, ◌++◌, length-append, Any, text_content, FnReturnsAt, get_or_append_left, get_or-append-add, All-append, All-cons, Tells, texts, LargeTells, LeavesTexts, StandsFor, Item, add-one, drop-cons, drop_of_length-le, get_or-take}
+use Rattle.jsonb_raw.proofs.Common.{◌≡◌, ◌==◌, ◌||◌, ◌&&◌, ◌<◌, ◌≤◌, ◌+◌, ℕ, Bool, true, false, List, [], ◌∷◌, map, take, drop, length, get_or, Option, Some, None, Result, Ok, Err, refl, sym, ap, ap₂, true≢false, arith, Bor, bytes_eq, beq, list_any, All, All-head, All-tail, bytes_eq-true, Error, EntryIter, StoredEntry, kind_number, Tree, text, array, Trees, no_trees, tree, elements, Form, HasEntriesLeft, Stores, GivesEntry, is_text, has_by, texts_of, is_one_of, decided_by, HasTextsLeft, TakesText, IsPlaced, NameTable, shuffled, ◌++◌, length-append, Any, text_content, FnReturnsAt, get_or_append_left, get_or-append-add, All-append, All-cons, Tells, texts, LargeTells, LeavesTexts, StandsFor, Item, add-one, drop-cons, drop_of_length-le, get_or-take}
 use Rattle.jsonb_raw.proofs.EntriesLeft.{SomeEntries, SomeEntries-first, SomeEntries-error, SomeEntries-none}
 use Rattle.std.proofs.Common.{eqb-true, length-take}
 use Rattle.std.specs.Fn.{Shared}

@@ -43,9 +43,6 @@ Ranks-bytes_high_first (suc k) m n =
 
 -- ---- strings
 
-Ranks-escaped : (a b : ℕ) → Ranks (escaped_byte a) (escaped_byte b) (nat_cmp a b)
-Ranks-escaped a b = grind (arith, nat_cmp-lt, Ranks-lower, nat_cmp-gt, Ranks-higher)
-
 pub Ranks-text_bytes : (xs ys : List ℕ) → Ranks (text_bytes xs) (text_bytes ys) (bytes_cmp xs ys)
 Ranks-text_bytes [] [] = Ranks-same_head 0 [] [] Equal Ranks-nil
 Ranks-text_bytes [] (y ∷ ys) = first_below y (text_bytes ys)
@@ -57,7 +54,7 @@ Ranks-text_bytes (x ∷ xs) [] = first_above x (text_bytes xs)
     first_above : (b : ℕ) (rest : List ℕ) → Ranks (escaped_byte b ++ rest) (0 ∷ []) Greater
     first_above b rest = grind (arith, Ranks-higher)
 Ranks-text_bytes (x ∷ xs) (y ∷ ys) = Ranks-append (escaped_byte x) (escaped_byte y) (text_bytes xs) (text_bytes ys) (nat_cmp x y) (bytes_cmp xs ys)
-    (Ranks-escaped x y) (Ranks-text_bytes xs ys)
+    (grind (arith, nat_cmp-lt, Ranks-lower, nat_cmp-gt, Ranks-higher)) (Ranks-text_bytes xs ys)
 
 -- the number that decimal digits write
 abbrev pub value : List ℕ → ℕ

@@ -1,8 +1,8 @@
 -- Steps along pairs whose keys are sorted, and runs of those that have a name or have none.
-use Rattle.jsonb_raw.proofs.Common.{◌≡◌, ℕ, true, false, List, [], ◌∷◌, Option, Some, None, Ordering, refl, sym, ◌∙◌, option_copied, Bor, ◌+◌, Bool, ◌++◌, length, take, drop, map, ap, arith, append_assoc, length-append, IsUtf8, slice_cmp, nat_list_cmp_total, AllByRecursion, IsStrictlySortedBy, deref, IsBelowFirst, AreKeys, TextSet, is_in, with_pairs, first_and_others, is_among, IsNotBelow, DecideFrom, DecideForKeys, PartsFirst, all_or_none, keys_of, values_of, beq, Tree, text, object, Pairs, members, Form, Entries, StoredEntry, PairEntries, PairRuns, parted, HoldTrees, HoldPairs, ArePairsOf, TakesFirst, PairsHeld, Result, Ok, Err, subst, not, bytes_eq, ordering_reverse, is_eq-slice_cmp, no_pairs, pair, keys, value_under, AreRising, keys_rise, pairs_above, below_next, bytes_eq-Decides, list_any, Error, EntryIter, HasEntriesLeft, GivesEntry, TakesEntry, key_trees, IsCursorOf, IsPassed, has_by, KeyCursor, has_text}
+use Rattle.jsonb_raw.proofs.Common.{◌≡◌, ℕ, true, false, List, [], ◌∷◌, Option, Some, None, Ordering, refl, sym, ◌∙◌, option_copied, Bor, ◌+◌, Bool, ◌++◌, length, take, drop, map, ap, arith, append_assoc, length-append, IsUtf8, slice_cmp, nat_list_cmp_total, AllByRecursion, IsStrictlySortedBy, deref, IsBelowFirst, AreKeys, TextSet, is_in, with_pairs, first_and_others, is_among, IsNotBelow, DecideFrom, DecideForKeys, PartsFirst, all_or_none, keys_of, values_of, beq, Tree, text, object, Pairs, members, Form, Entries, StoredEntry, PairEntries, PairRuns, parted, HoldTrees, HoldPairs, ArePairsOf, TakesFirst, PairsHeld, Result, Ok, Err, subst, not, bytes_eq, ordering_reverse, is_eq-slice_cmp, no_pairs, pair, keys, value_under, AreRising, keys_rise, pairs_above, below_next, list_any, Error, EntryIter, HasEntriesLeft, GivesEntry, TakesEntry, key_trees, IsCursorOf, IsPassed, has_by, KeyCursor, has_text}
 use Rattle.std.specs.Map.Iter.{TakesFirst as TakesName}
 use Rattle.std.specs.declared.cmp.Ordering.TheVariants.{Less, Equal, Greater}
-use Rattle.jsonb_raw.proofs.RunLemmas.{Member, no_pairs_held}
+use Rattle.jsonb_raw.proofs.RunLemmas.{Member}
 use Rattle.std.specs.Ordering.{nat_cmp, is_eq}
 
 pub test_of_order : (k key : List ℕ) (o : Ordering) → slice_cmp nat_cmp k key ≡ o → bytes_eq k key ≡ is_eq o
@@ -274,7 +274,7 @@ pub parting_begun : (form : Form) (runs : PairRuns) (pairs : PairEntries) (wante
 parting_begun form runs pairs wanted set names ps keys_none values_none h decide are_keys = record {
   held = [];
   rest = ps;
-  runs_hold = no_pairs_held form runs keys_none values_none;
+  runs_hold = grind arith;
   pairs = h;
   joined = refl;
   decide = decide;

@@ -252,9 +252,6 @@ first_met step steps t ns e = grind arith
 
 -- ---- the law
 
-taken_first : (n : ℕ) (ns others : List ℕ) (t t' : Tree) → ns ≡ n ∷ others → remove_at ns t ≡ Some t' → change_child n (remove_at others) t ≡ t'
-taken_first n ns others t t' split out = cc (rw split at out)
-
 taken_some : (n : ℕ) (ns others : List ℕ) (t : Tree) → ns ≡ n ∷ others → remove_at ns t ≡ Some (change_child n (remove_at others) t)
 taken_some n ns others t split = rw split refl
 
@@ -301,7 +298,7 @@ gone (step ∷ front) last t ps ns fits parent met t' out =
     let meets = same_position (remove_at f.others) f.child _ taken step t f.at f.is ∙ f.meets in
     let there = child_there (remove_at f.others) f.child _ taken t f.at f.is in
     let here = goes_on step (front ++ last ∷ []) _ _ f.at meets there rest in
-    subst (λ (u : Tree). location (step ∷ (front ++ last ∷ [])) u ≡ None) (taken_first f.at ns f.others t t' f.split out) here
+    subst (λ (u : Tree). location (step ∷ (front ++ last ∷ [])) u ≡ None) (grind (arith, rw f.split at out, f.split)) here
 
 abbrev Member : Type 0
 Member = List ℕ × Tree
@@ -377,9 +374,6 @@ found_behind_both passed first name ks =
     option_or (behind passed (position (λ key. bytes_eq key name) ks))
     (option_or first (behind passed (position (λ key. str_eq_ignore_ascii_case key name) ks)))
 
-one_behind : (passed : ℕ) (o : Option ℕ) → behind (passed + 1) o ≡ behind passed (option_map suc o)
-one_behind passed o = grind arith
-
 pub both_other : (passed : ℕ) (first : Option ℕ) (name key : List ℕ) (ks rest : List (List ℕ)) (wanted : Option ℕ) → ks ≡ key ∷ rest
     → bytes_eq key name ≡ false → str_eq_ignore_ascii_case key name ≡ true → found_behind_both passed first name ks ≡ wanted
     → found_behind_both (passed + 1) (option_or first (Some passed)) name rest ≡ wanted
@@ -387,7 +381,7 @@ both_other passed first name key ks rest wanted split other same e =
     let exact = position-cons (λ k. bytes_eq k name) key rest false other in
     let in_case = position-cons (λ k. str_eq_ignore_ascii_case k name) key rest true same in
     let zero_more : passed + 0 ≡ passed = omega arith in
-    ap₂ option_or (one_behind passed (position (λ k. bytes_eq k name) rest)) (by first _) ∙ rw (split, exact, in_case, zero_more) at e
+    ap₂ option_or (grind arith) (by first _) ∙ rw (split, exact, in_case, zero_more) at e
   where
     by : (o r : Option ℕ) → option_or (option_or o (Some passed)) r ≡ option_or o (Some passed)
     by o r = grind arith
@@ -398,8 +392,8 @@ pub both_further : (passed : ℕ) (first : Option ℕ) (name key : List ℕ) (ks
 both_further passed first name key ks rest wanted split differs e =
     let exact = position-cons (λ k. bytes_eq k name) key rest false (not_exact (bytes_eq key name) refl) in
     let in_case = position-cons (λ k. str_eq_ignore_ascii_case k name) key rest false differs in
-    ap₂ (λ a b. option_or a (option_or first b)) (one_behind passed (position (λ k. bytes_eq k name) rest))
-    (one_behind passed (position (λ k. str_eq_ignore_ascii_case k name) rest))
+    ap₂ (λ a b. option_or a (option_or first b)) (grind arith)
+    (grind arith)
     ∙ rw (split, exact, in_case) at e
   where
     not_exact : (b : Bool) → bytes_eq key name ≡ b → b ≡ false
@@ -418,9 +412,6 @@ pub record StandsAt (test : List ℕ → Bool) (ps : List Member) (n : ℕ) : Ty
 
 some_more : (o : Option ℕ) (n : ℕ) → option_map suc o ≡ Some n → (m : ℕ) × (o ≡ Some m) × (suc m ≡ n)
 some_more o n h = grind arith
-
-none_more : (o : Option ℕ) → option_map suc o ≡ None → o ≡ None
-none_more o h = grind arith
 
 pub stands_at : (test : List ℕ → Bool) (ps : List Member) (n : ℕ) → position test (keys_of ps) ≡ Some n → StandsAt test ps n
 stands_at test [] n at = let bad : None ≡ Some n = at in absurd (cc)
@@ -450,7 +441,7 @@ stands_nowhere test [] none = refl
 stands_nowhere test (p ∷ ps) none = by (λ is. stands_nowhere test ps is) (test p.0) refl
   where
     by : (position test (keys_of ps) ≡ None → find (λ q. test q.0) ps ≡ None) → (b : Bool) → test p.0 ≡ b → find (λ q. test q.0) (p ∷ ps) ≡ None
-    by h b e = grind (arith, none-some, position-cons, none_more)
+    by h b e = grind (arith, none-some, position-cons)
 
 value_found : (name : List ℕ) (ps : Pairs) → value_under name ps ≡ option_map (λ p. p.1) (find (λ p. bytes_eq p.0 name) (members ps))
 value_found name no_pairs = refl

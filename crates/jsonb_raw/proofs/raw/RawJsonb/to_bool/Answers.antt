@@ -1,4 +1,4 @@
-use Rattle.jsonb_raw.proofs.Lemmas.{rules, ◌≡◌, ◌&&◌, ℕ, suc, List, [], ◌∷◌, map, Bool, true, false, Result, Ok, Err, inl, inr, refl, arith, Bor, IsAscii, IsUtf8, codes, OnOk, nat_lt, list_all, to_ascii_lowercase, nat_tests, IsUtf8-from_ascii, IsAscii-nil, IsAscii-cons, any, number_reader, IsContent, IsRootOf, IsRootShape, Error, Text, Boolean, String, IsBoolOf, Casts, HasRoot}
+use Rattle.jsonb_raw.proofs.Lemmas.{rules, ◌≡◌, ℕ, suc, List, [], ◌∷◌, map, Bool, true, false, Result, Ok, Err, inl, inr, refl, arith, Bor, IsAscii, IsUtf8, codes, OnOk, nat_lt, list_all, to_ascii_lowercase, nat_tests, IsUtf8-from_ascii, IsAscii-nil, IsAscii-cons, any, number_reader, IsContent, IsRootOf, IsRootShape, Error, Text, Boolean, String, IsBoolOf, Casts, HasRoot}
 use Rattle.jsonb_doc.specs.declared.shape.Shape.TheVariants.{Boolean as BooleanShape}
 use Rattle.jsonb_doc.specs.Tree as spec
 use Rattle.std.proofs.lemmas.Bool.{and_parts}
