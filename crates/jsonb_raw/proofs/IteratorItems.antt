@@ -71,7 +71,6 @@ elements_begun form gives parts ts found it it' is same left none = grind (arith
 
 module _ (form : Form) (gives : Trees → List Tree) (whole : List Tree) (before : Parts) (it it' : ElementIter) (r : Result Item Error) (x : Item)
     (is : r ≡ Ok x) (step : GivesElement it (Some r) it') (h : HeldElements form before it gives whole) where
-
   -- with what the next element gives after the others, what the rest gives is left
   pub elements_pushed : (part : Tree → Tree) (after : Parts)
       → ((t : Tree) (ts : Trees) → StandsFor form x t → gives (tree t ts) ≡ part t ∷ gives ts)

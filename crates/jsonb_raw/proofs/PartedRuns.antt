@@ -132,7 +132,6 @@ none_above key name [] below all = refl
 none_above key name (other ∷ others) below all = grind (arith, nat_list_cmp_total, none_above key name others below all.1)
 
 module _ (set : TextSet) (key : List ℕ) (name : Bor (List ℕ)) (names : List (Bor (List ℕ))) (d : DecideFrom set key (name ∷ names)) where
-
   -- the first name is the key
   pub first_found : Equal ≡ slice_cmp nat_cmp name.now key → true ≡ is_in set key
   first_found e = rw (d.agree key (not_below_itself key)) (rw (turned name.now key Equal (sym e)) refl)
@@ -204,7 +203,6 @@ no_member_left form entries (p ∷ ps) found is h = absurd (rw is at h)
 
 module _ (form : Form) (set : TextSet) (names : List (Bor (List ℕ))) (is : Bool) (count : ℕ) (left : Entries) (ps : List Member)
     (m : PartsFirst form set names is count left ps) (key : List ℕ) (others : Entries) (n : NextMember form m.others key others) where
-
   pub key_decided : DecideFrom set key names
   key_decided = let d : DecideFrom set n.p.0 names = rw n.split at m.decide in rw n.is_key at d
 

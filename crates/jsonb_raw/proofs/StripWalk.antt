@@ -92,9 +92,14 @@ as_many_keys (pair key t ps) = ap suc (as_many_keys ps)
 pub kept_makes : (form : Form) (t : Tree) (e : ContainerEntries) (n : ℕ) → AreEntriesOf form t e → n ≡ length (values_kept t)
     → Make e.kind n (entries_kept t) (strip t)
 kept_makes form (array ts) e n h is = grind (arith, trees-stripped)
-kept_makes form (object ps) e n h is = search (arith, h.0, members (strip_pairs ps), is, ap length (sym (values_of-stripped ps)),
-    length-values_of (members (strip_pairs ps)), keys_of-members (strip_pairs ps), keys_rise _ (keys_stripped ps h.1), values_of-stripped ps,
-    ap object (sym (pairs_of-members (strip_pairs ps))))
+kept_makes form (object ps) e n h is =
+    subst (λ k. Make k n (entries_kept (object ps)) (strip (object ps))) (sym h.0) (
+      members (strip_pairs ps),
+      is ∙ ap length (sym (values_of-stripped ps)) ∙ length-values_of (members (strip_pairs ps)),
+      rw (keys_of-members (strip_pairs ps)) (keys_rise _ (keys_stripped ps h.1)),
+      rw (keys_of-members (strip_pairs ps), values_of-stripped ps) refl,
+      ap object (sym (pairs_of-members (strip_pairs ps))),
+    )
 kept_makes form _ e n h is = absurd h
 
 -- ---- words are read
