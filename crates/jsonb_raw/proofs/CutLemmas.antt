@@ -230,7 +230,22 @@ module _ (form : Form) (w : Writer) (around : List Outer) (p : ParentEntries) (p
     where
       go : (ns : List ℕ) → LeadTo form (q ∷ qs) ns o.child o.end → IsWriting form w (entries_kept o.t o.n o.child ns) o.outside whole
           → OpensNext form w around p q qs whole
-      go ns h e = search arith
+      go [] led writing = absurd led
+      go (m ∷ ns) led writing = record {
+        t = o.t;
+        child = o.child;
+        inner = led.0;
+        end = o.end;
+        n = o.n;
+        m = m;
+        ns = ns;
+        outside = o.outside;
+        parent = o.parent;
+        next = led.1;
+        others = led.2;
+        are_left = o.are_left;
+        writing = writing;
+      }
 
   pub opens_none : ps ≡ [] → IsWriting form w (entries_kept o.t o.n o.child []) o.outside whole
   opens_none is = grind arith

@@ -1,5 +1,5 @@
 -- Names that are looked up among strings, and what calls decided of strings that are joined.
-use Rattle.jsonb_raw.proofs.Common.{◌≡◌, ◌==◌, ◌||◌, ◌&&◌, ◌<◌, ◌≤◌, ◌+◌, ℕ, Bool, true, false, List, [], ◌∷◌, map, take, drop, length, get_or, Option, Some, None, Result, Ok, Err, refl, sym, ap, ap₂, true≢false, arith, Bor, bytes_eq, beq, list_any, All, All-head, All-tail, bytes_eq-true, Error, EntryIter, StoredEntry, kind_number, Tree, text, array, Trees, no_trees, tree, elements, Form, HasEntriesLeft, Stores, GivesEntry, is_text, has_by, texts_of, is_one_of, decided_by, HasTextsLeft, TakesText, IsPlaced, NameTable, shuffled, ◌++◌, length-append, Any, text_content, FnReturnsAt, get_or_append_left, get_or-append-add, All-append, All-cons, Tells, texts, LargeTells, LeavesTexts, StandsFor, Item, add-one, drop-cons, drop_of_length-le, get_or-take}
+use Rattle.jsonb_raw.proofs.Common.{◌≡◌, ◌==◌, ◌||◌, ◌&&◌, ◌<◌, ◌≤◌, ◌+◌, ℕ, Bool, true, false, List, [], ◌∷◌, map, take, drop, length, get_or, Option, Some, None, Result, Ok, Err, refl, sym, ap, ap₂, true≢false, arith, Bor, bytes_eq, beq, list_any, All, All-head, All-tail, bytes_eq-true, Error, EntryIter, StoredEntry, kind_number, Tree, text, array, Trees, no_trees, tree, elements, Form, HasEntriesLeft, Stores, GivesEntry, is_text, has_by, texts_of, is_one_of, decided_by, HasTextsLeft, TakesText, IsPlaced, NameTable, shuffled, ◌++◌, length-append, Any, text_content, FnReturnsAt, get_or_append_left, get_or-append-add, All-append, All-cons, Tells, texts, LargeTells, LeavesTexts, StandsFor, Item, add-one, drop-cons, drop_of_length-le, get_or-take, subst}
 use Rattle.jsonb_raw.proofs.EntriesLeft.{SomeEntries, SomeEntries-first, SomeEntries-error, SomeEntries-none}
 use Rattle.std.proofs.Common.{eqb-true, length-take}
 use Rattle.std.specs.Fn.{Shared}
@@ -73,7 +73,8 @@ placed_one table s [] all h = absurd (true≢false (sym h))
 placed_one table s (n ∷ names) all h = by (bytes_eq s n) refl (placed_one table s names (All-tail (IsPlaced table) n names all))
   where
     by : (b : Bool) → b ≡ bytes_eq s n → (names_have names s ≡ true → IsPlaced table s) → IsPlaced table s
-    by b h e = search (arith, bytes_eq-true, All-head)
+    by true e later = subst (IsPlaced table) (sym (bytes_eq-true s n (sym e))) (All-head (IsPlaced table) n names all)
+    by false e later = later (rw (sym e) at h)
 
 pub later_is_one : (s name : List ℕ) (ss : List (List ℕ)) → is_one_of ss name ≡ true → is_one_of (s ∷ ss) name ≡ true
 later_is_one s name ss h = grind (arith, h)
@@ -174,7 +175,8 @@ module _ {F : Type 0} (calls : Shared F (Bor (List ℕ) × Unit {0}) Bool) (func
     leaves_aside item t ys stands l = record { found = λ h. l.found (told_second (texts t) ys h); rest = λ h. (t, stands, decides h) }
       where
         decides : Tells calls func ys false → (b : Bool) → Tells calls func (texts t) b → Tells calls func all b
-        decides h b e = search (arith, told_first, told_then)
+        decides h true k = l.found (told_first (texts t) ys k)
+        decides h false k = l.rest (told_then (texts t) ys k false h)
 
     pub leaves_told : (ss : List (List ℕ)) (answer : Bool) → Tells calls func ss answer → LeavesTexts calls func form ss answer None
     leaves_told ss answer h = grind arith

@@ -1,5 +1,5 @@
 -- Runs of entries, the containers that they make, and walks that keep some of them.
-use Rattle.jsonb_raw.proofs.Common.{◌≡◌, inr, ℕ, ◌+◌, ◌^◌, ◌<◌, ◌≤◌, List, [], ◌∷◌, ◌++◌, length, map, take, drop, get_or, Option, Some, Result, refl, sym, ap, subst, ◌∙◌, arith, append-nil, ◌-◌, None, append_assoc, insert, keys_of, values_of, Tree, Trees, text, array, object, trees_of, pairs_of, elements, Pairs, no_pairs, pair, keys, values, members, Form, number_reader, NumberReader, AreEntries, AreValues, AreKeys, entry_word, key_words, key_bytes, IsShort, HasShortElements, IsTooLarge, IsOutOfMemoryOrTooLarge, Error, trees_of-elements, keys_of-members, Holds, ArrayParts, Entries, HeaderKind, Make, AreSortedKeys, too_many, within_parts, OwnedJsonb, Makes, as_elements, HoldTrees, RunsHold, AreElementsOf, IsTooLongRoot, IsTooLongElement, IsFirst, TakesFirst, HoldPairs, ArePairsOf, AreContainerEntries, Holding, PairsHeld, PairsOpen, IsFirstPair, TakesFirstPair, many_keys, kind_number, front_of, HoldsPairs-skipped, HoldsPairs-values, StandBefore, ObjectParts, ContainerEntries, StoredEntry, PairEntries, FirstPair, PairRuns, entries_append, one_entry}
+use Rattle.jsonb_raw.proofs.Common.{◌≡◌, inr, ℕ, ◌+◌, ◌^◌, ◌<◌, ◌≤◌, List, [], ◌∷◌, ◌++◌, length, map, take, drop, get_or, Option, Some, Result, refl, sym, ap, subst, ◌∙◌, arith, append-nil, ◌-◌, None, append_assoc, insert, keys_of, values_of, Tree, Trees, text, array, object, trees_of, pairs_of, elements, Pairs, no_pairs, pair, keys, values, members, Form, number_reader, NumberReader, AreEntries, AreValues, AreKeys, entry_word, key_words, key_bytes, IsShort, HasShortElements, IsTooLarge, IsOutOfMemoryOrTooLarge, Error, trees_of-elements, keys_of-members, Holds, ArrayParts, Entries, HeaderKind, Make, AreSortedKeys, too_many, within_parts, OwnedJsonb, Makes, as_elements, HoldTrees, RunsHold, AreElementsOf, IsTooLongRoot, IsTooLongElement, IsFirst, TakesFirst, HoldPairs, ArePairsOf, AreContainerEntries, Holding, PairsHeld, PairsOpen, IsFirstPair, TakesFirstPair, many_keys, kind_number, front_of, HoldsPairs-skipped, HoldsPairs-values, StandBefore, ObjectParts, ContainerEntries, StoredEntry, PairEntries, FirstPair, PairRuns, entries_append, one_entry, zero, suc}
 use Rattle.jsonb_doc.specs.declared.container.Container.TheVariants.{Array, Object}
 use Rattle.jsonb_doc.specs.declared.layout.HeaderKind.TheVariants as header_kind
 use Rattle.jsonb_raw.proofs.AnswerLemmas.{drop_first}
@@ -71,7 +71,8 @@ pub refused_beside : (form : Form) (t u : Tree) (place : ℕ) (e : Error) → Is
 refused_beside form t u place e h = rw h.1 (at place)
   where
     at : (n : ℕ) → IsOutOfMemoryOrTooLarge form (array (trees_of (insert (t ∷ []) n u))) e
-    at n = search (arith, refused_between)
+    at zero = refused_between form (u ∷ []) [] t e h.0
+    at (suc n) = refused_between form [] (take n [] ++ u ∷ drop n []) t e h.0
 
 -- the entries of an array, by its parts
 pub entries_of_array : (form : Form) (t : Tree) (p : ArrayParts) (entries : Entries) → entries.words.now ≡ p.words.now → entries.contents.now ≡ p.contents.now
