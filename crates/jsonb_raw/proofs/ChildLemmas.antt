@@ -1,5 +1,5 @@
--- What the iterator over the spots of children gives, and the children of a list.
-use Rattle.jsonb_raw.proofs.Common.{◌≡◌, ℕ, zero, suc, ◌<◌, ◌≤◌, pos, List, [], ◌∷◌, length, drop, Option, Some, None, Result, Ok, Err, IsOkAnd, unwrap_or, refl, arith, slice_get, sym, option_and_then, nat_tests, Tree, SameOption, TakesSpot, Locates, HasSpotsLeft, Error, Spot, SpotIter, index_position}
+-- The children of a list, what the iterator over their positions gives, and what calls on children return.
+use Rattle.jsonb_raw.proofs.Common.{slice_get_past, ◌≡◌, ℕ, zero, suc, ◌<◌, pos, List, [], ◌∷◌, length, drop, Option, Some, None, Result, Ok, Err, IsOkAnd, unwrap_or, refl, arith, slice_get, sym, option_and_then, nat_tests, Tree, SameOption, TakesSpot, Locates, HasSpotsLeft, Error, Spot, SpotIter, index_position, ◌↔◌, ℤ, Bool, IsTrue, map, ap, to_ascii_lowercase, bytes_eq-Decides, str_eq_ignore_ascii_case, array, Trees, elements, trees_of-elements, without_index, drop-drop, add-one}
 
 -- at first all children are left
 pub all_left : (bytes : List ℕ) (it : SpotIter) (o : Option (List Tree)) → SameOption (HasSpotsLeft bytes) (Some it) o
@@ -55,11 +55,23 @@ first_given {bytes} {ts} {r} {after} f error e = rw e at f.marks
 
 -- ---- an index, from the front or from the end
 
-pub beyond : (ts : List Tree) (n : ℕ) → length ts ≤ n → slice_get ts n ≡ None
-beyond [] n h = refl
-beyond (t ∷ ts) zero h = absurd (omega arith)
-beyond (t ∷ ts) (suc n) h = beyond ts n (omega arith)
-
 pub from_front : (ts : List Tree) (n : ℕ)
     → option_and_then (λ n. slice_get ts n) (index_position (length ts) (pos n)) ≡ slice_get ts n
-from_front ts n = grind (arith, nat_tests, beyond ts n)
+from_front ts n = grind (arith, nat_tests, slice_get_past ts n)
+
+pub no_such_element : (ts : List Tree) (i : ℕ) → drop i ts ≡ [] → slice_get ts i ≡ None
+no_such_element ts i none = nowhere (drop i ts) 0 _ none (first_behind ts i)
+
+-- ---- an element less
+
+pub drop_one_more : {A : Type 0} (n : ℕ) (xs : List A) → drop 1 (drop n xs) ≡ drop (suc n) xs
+drop_one_more n xs = rw (drop-drop 1 n xs, add-one)
+
+pub without_none : (i : ℤ) (ts : Trees) → index_position (length (elements ts)) i ≡ None → without_index i (array ts) ≡ Some (array ts)
+without_none i ts is = rw is (ap (λ us. Some (array us)) (trees_of-elements ts))
+
+-- ---- names
+
+-- a test of the code decides whether strings are the same
+pub decided : (a b : List ℕ) (r : Bool) → (IsTrue r ↔ (map to_ascii_lowercase a ≡ map to_ascii_lowercase b)) → str_eq_ignore_ascii_case a b ≡ r
+decided a b r h = grind (arith, bytes_eq-Decides)

@@ -1,7 +1,7 @@
 -- A loop that makes a composite key: what is written, followed by the keys of the values that are left, is the whole.
-use Rattle.jsonb_raw.proofs.Common.{◌≡◌, ℕ, zero, suc, ◌<◌, ◌≤◌, ◌+◌, List, [], ◌∷◌, flat_map, drop, length, get_or, Option, None, Some, Result, Ok, Err, refl, arith, append_assoc, append-nil, IsSomeAnd, Width, AllZip, drop_more, Tree, Form, Decodes, SameOption, Error, raw_bytes, IsOutOfMemoryOrTooDeep, depths, column_key, deepest_of_columns, AppendsColumn, RawJsonb}
+use Rattle.jsonb_raw.proofs.Common.{◌≡◌, ℕ, ◌<◌, ◌≤◌, ◌+◌, List, [], ◌∷◌, flat_map, drop, length, get_or, Option, None, Some, Result, Ok, Err, refl, arith, append_assoc, append-nil, IsSomeAnd, Width, AllZip, drop_more, Tree, Form, Decodes, SameOption, Error, raw_bytes, IsOutOfMemoryOrTooDeep, depths, column_key, deepest_of_columns, AppendsColumn, RawJsonb, drop_of_length-le}
 use Rattle.jsonb_raw.proofs.KeyLawProofs.{some_depth}
-use Rattle.jsonb_raw.proofs.LevelKeys.{IsToward, IsToward-refused}
+use Rattle.jsonb_raw.proofs.LevelKeys.{IsToward}
 
 -- the key of all values is what is written, followed by the keys of those that are left
 abbrev pub KeyLeft : Width → List ℕ → List (Option Tree) → List (Option Tree) → Type 0
@@ -20,7 +20,7 @@ key_appended w old new value left all h e = grind (arith, append_assoc)
 -- if that fails, the whole does
 pub key_refused : (w : Width) (old new : List ℕ) (value : Option Tree) (left all : List (Option Tree)) (e : Error) → KeyLeft w old (value ∷ left) all
     → AppendsColumn w value old (Err e) new → IsOutOfMemoryOrTooDeep (deepest_of_columns all) (depths w) e
-key_refused w old new value left all e h k = grind (arith, IsToward-refused)
+key_refused w old new value left all e h k = grind arith
 
 -- at the end the key is written
 pub key_written : (w : Width) (written : List ℕ) (left all : List (Option Tree)) → left ≡ [] → KeyLeft w written left all
@@ -52,8 +52,4 @@ pub first_left_of : {X Y : Type 0} (R : X → Y → Type 0) (xs : List X) (i : �
 first_left_of R xs i d ys h e = grind (arith, first_left, drop_more)
 
 pub none_left_of : {X Y : Type 0} (R : X → Y → Type 0) (xs : List X) (i : ℕ) (ys : List Y) → length xs ≤ i → AllZip R (drop i xs) ys → ys ≡ []
-none_left_of R [] i [] le h = refl
-none_left_of R [] zero (y ∷ ys) le h = absurd h
-none_left_of R [] (suc i) (y ∷ ys) le h = absurd h
-none_left_of R (x ∷ xs) zero ys le h = absurd (omega arith)
-none_left_of R (x ∷ xs) (suc i) ys le h = none_left_of R xs i ys (omega arith) h
+none_left_of R xs i ys h e = grind (arith, drop_of_length-le)

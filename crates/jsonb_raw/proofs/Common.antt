@@ -142,7 +142,8 @@ pub use Rattle.jsonb_raw.specs.declared.level.ChildCursor.{ChildCursor}
 pub use Rattle.jsonb_raw.specs.declared.owned.OwnedJsonb.{OwnedJsonb}
 pub use Rattle.jsonb_raw.specs.declared.raw.RawJsonb.{RawJsonb}
 pub use Rattle.std.proofs.Math.Nat.{div-div-eq-div-mul, pow-succ'}
-pub use Rattle.std.proofs.Math.Seq.{take-append-add}
+pub use Rattle.std.proofs.Math.Seq.{take-append-add, get_or-take, drop-drop}
+pub use Rattle.std.proofs.lemmas.Option.{slice_get_past}
 pub use Rattle.std.proofs.lemmas.Bool.{and_parts, cases_order, cases_Bool, eqb-false, and_cases, false_from_ne_true}
 pub use Rattle.std.proofs.lemmas.Bool.Decides.{same_from_decides}
 pub use Rattle.std.proofs.lemmas.Cmp.{int_ranked}

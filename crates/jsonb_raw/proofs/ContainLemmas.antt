@@ -1,7 +1,7 @@
 -- Which items and which roots contain which, and the starts of the searches.
 use Rattle.jsonb_raw.proofs.Common.{◌≡◌, ℕ, Bool, true, false, ◌&&◌, ◌||◌, List, [], ◌∷◌, arith, Option, Some, None, refl, sym, ap, ap₂, ◌∙◌, Ordering, Less, Equal, Greater, ◌≢◌, ◌⊎◌, inl, inr, length, bytes_eq, Bor, length-append, ◌==◌, IfSome, nat_cmp, is_eq, zero, suc, replicate, slice_index_or, slice_set, true≢false, nat_tests, option_map_or, slice_cmp, nat_list_cmp_total, list_any, kind_number, Item, Form, number_reader, StandsFor, Stores, HasEntriesLeft, StoredEntry, SameOption, Tree, array, object, Pairs, no_pairs, pair, keys, members, value_under, extension, Trees, no_trees, tree, elements, is_equal, IsBelowFirst, Decodes, key_words, AreRising, pairs_above, is_part_of, each_pair_is_matched, contains, each_is_matched, or_false, below_next, ExtensionValue, Extension, array_document, object_document, length-words, length-key_words, is_json_scalar, EntryIter, is_container, scalars_matched}
 use Rattle.jsonb_doc.specs.declared.item.Item.TheVariants as item
-use Rattle.jsonb_raw.proofs.PairStepLemmas.{test_of_order, same_below, no_value}
+use Rattle.jsonb_raw.proofs.PartedRuns.{test_of_order, same_below, no_value}
 use Rattle.jsonb_raw.proofs.EntryEquals.{Aside, part_holds}
 use Rattle.jsonb_raw.proofs.EntriesLeft.{SomeEntries}
 
@@ -176,16 +176,12 @@ module _ {A : Type 0} (P : A → Type 0) (d : A) where
   repeated_each (suc n) p zero = p
   repeated_each (suc n) p (suc k) = repeated_each n p k
 
--- the kind of an entry determines a container
-container_kind : (form : Form) (e : StoredEntry) (t : Tree) → Stores form e t → is_container t ≡ (kind_number e.kind == 5)
-container_kind form e t h = grind arith
-
 module _ (form : Form) (e : StoredEntry) (t : Tree) (h : Stores form e t) where
   pub container_told : (kind_number e.kind == 5) ≡ true → is_container t ≡ true
-  container_told k = container_kind form e t h ∙ k
+  container_told k = grind arith
 
   pub scalar_told : (kind_number e.kind == 5) ≡ false → is_container t ≡ false
-  scalar_told k = container_kind form e t h ∙ k
+  scalar_told k = grind arith
 
 module _ (y : Tree) (ys : Trees) (xs : List Tree) (whole : Bool) (is : scalars_matched (tree y ys) xs ≡ whole) where
   -- a container is passed over

@@ -2,9 +2,6 @@
 use Rattle.jsonb_raw.proofs.Common.{◌≡◌, ℕ, Bool, true, false, ◌&&◌, ◌||◌, not, IsTrue, List, [], ◌∷◌, ◌++◌, refl, sym, ◌∙◌, append_assoc, bytes_eq, arith, list_any, bytes_eq-Decides, Tree, null, boolean, number, text, extension, array, object, Trees, no_trees, tree, Pairs, no_pairs, pair, elements, members, is_equal, is_equal_equiv, both, first_of_both, second_of_both, partial_equiv_from_equiv, is_extension_value, is_json_scalar, contains, is_part_of, each_is_matched, each_pair_is_matched, bytes_eq-same}
 use Rattle.jsonb_raw.proofs.ContainLemmas.{contains-extension, contains-array, contains-object, array_contains_plain, object_equals_no_plain, extension_equals_no_plain}
 
-bytes_trans : (a b c : List ℕ) → bytes_eq a b ≡ true → bytes_eq b c ≡ true → bytes_eq a c ≡ true
-bytes_trans a b c h k = (bytes_eq-Decides a c).1 ((bytes_eq-Decides a b).0 h ∙ (bytes_eq-Decides b c).0 k)
-
 -- ---- lists
 
 -- a test that an element in the middle passes
@@ -121,7 +118,7 @@ mutual
   each_pair_trans no_pairs us xs h k = refl
   each_pair_trans (pair l y ys) us xs h k = both _ _
       (each_pair_any us xs (λ p. bytes_eq p.0 l && is_part_of y p.1) (λ p. bytes_eq p.0 l && is_part_of y p.1) k (first_of_both _ _ h)
-      (λ u x a b. both _ _ (bytes_trans x.0 u.0 l (first_of_both _ _ b) (first_of_both _ _ a))
+      (λ u x a b. both _ _ ((bytes_eq-Decides x.0 l).1 ((bytes_eq-Decides x.0 u.0).0 (first_of_both _ _ b) ∙ (bytes_eq-Decides u.0 l).0 (first_of_both _ _ a)))
       (matched_trans y u.1 x.1 (second_of_both (bytes_eq u.0 l) _ a) (second_of_both (bytes_eq x.0 u.0) _ b))))
       (each_pair_trans ys us xs (second_of_both (list_any (λ p. bytes_eq p.0 l && is_part_of y p.1) (members us)) _ h) k)
 

@@ -1,17 +1,13 @@
--- Containers without a value within them: their entries, the way to the value, and numbers of bytes.
-use Rattle.jsonb_raw.proofs.Common.{◌≡◌, ℕ, zero, suc, ◌+◌, ◌-◌, ◌^◌, ◌<◌, ◌≤◌, inl, List, [], ◌∷◌, ◌++◌, length, take, drop, map, Option, Some, None, refl, sym, ap, ap₂, subst, ◌∙◌, arith, append_assoc, append-nil, slice_get, reverse, option_map, option_to_list, keys_of, values_of, length-take-le, length-values_of, Tree, text, array, object, Trees, Pairs, no_pairs, pair, elements, keys, values, members, trees_of, pairs_of, children_of, Form, number_reader, IsBelowFirst, AreKeys, IsContent, Decodes, kind_number, container_entry, Make, AreSortedKeys, Around, Rooms, IsWriting, EndsWithin, head_size, Entries, StoredEntry, Container, HeaderKind, Writer, innermost, keys_rise, keys_of-members, Key, ContainerEntries, ParentEntries, Outer, children, child_position, change_at, change_child, remove_at, HoldTrees, TakesFirst, AreEntriesOf, AreContainerEntries, count_kept, IsParent, LeadTo, HoldsValue, StepsInto, children_kept, size, sizes, AreShort, AreLeft, rooms_after, remove}
+-- Containers without a value within them: their entries, the way to the value, and what is left of the document.
+use Rattle.jsonb_raw.proofs.Common.{◌≡◌, ℕ, zero, suc, ◌+◌, ◌-◌, ◌^◌, ◌<◌, ◌≤◌, inl, List, [], ◌∷◌, ◌++◌, length, take, drop, map, Option, Some, None, refl, sym, ap, ap₂, subst, ◌∙◌, arith, append_assoc, append-nil, slice_get, reverse, option_map, option_to_list, keys_of, values_of, length-take-le, length-values_of, Tree, text, array, object, Trees, Pairs, no_pairs, pair, elements, keys, values, members, trees_of, pairs_of, children_of, Form, number_reader, IsBelowFirst, AreKeys, IsContent, Decodes, kind_number, container_entry, Make, AreSortedKeys, Around, Rooms, IsWriting, EndsWithin, head_size, Entries, StoredEntry, Container, HeaderKind, Writer, innermost, keys_rise, keys_of-members, Key, ContainerEntries, ParentEntries, Outer, children, child_position, change_at, change_child, remove_at, HoldTrees, TakesFirst, AreEntriesOf, AreContainerEntries, count_kept, IsParent, LeadTo, HoldsValue, StepsInto, children_kept, size, sizes, AreShort, AreLeft, rooms_after, remove, location, Result, Vec, Global, MatchResult, Error, SameOption, IsOutOfMemory, without, MeetNoPart, Leads}
 use Rattle.std.proofs.lemmas.Cmp.{nat_list_cmp_total}
 use Rattle.std.proofs.lemmas.List.{length-append, length-drop, take_all}
 use Rattle.jsonb_doc.specs.declared.layout.HeaderKind.TheVariants as header_kind
 use Rattle.jsonb_raw.specs.Private.Cuts.{entries_kept}
-use Rattle.jsonb_raw.proofs.ChildAnswers.{drop_one_more}
-use Rattle.jsonb_raw.proofs.ChildLemmas.{split_at}
-use Rattle.jsonb_raw.proofs.NamedPairs.{names_around, values_around}
-use Rattle.jsonb_raw.proofs.StripLists.{values_of-members}
-use Rattle.jsonb_raw.proofs.RunLemmas.{entry_taken, no_entry_left}
-
-abbrev Member : Type 0
-Member = List ℕ × Tree
+use Rattle.jsonb_raw.proofs.ChildLemmas.{no_such_element, drop_one_more, split_at}
+use Rattle.jsonb_raw.proofs.PositionLemmas.{names_around, values_around}
+use Rattle.jsonb_raw.proofs.StripWalk.{values_of-members}
+use Rattle.jsonb_raw.proofs.RunLemmas.{Member, entry_taken, no_entry_left}
 
 -- ---- lists with an element changed or left out
 
@@ -28,8 +24,7 @@ member_at : (ps : Pairs) (n : ℕ) (child : Tree) → slice_get (elements (value
     → (key : List ℕ) × (slice_get (members ps) n ≡ Some (key, child))
 member_at no_pairs n child at = let bad : None ≡ Some child = at in absurd (cc)
 member_at (pair key t ps) zero child at =
-    let e : t ≡ child = cc at in
-    let of : Tree → Option Member = λ u. Some (key, u) in (key, ap of e)
+    let of : Tree → Option Member = λ u. Some (key, u) in (key, ap of (cc at))
 member_at (pair key t ps) (suc n) child at = member_at ps n child at
 
 values_put : (n : ℕ) (ps : List Member) (key : List ℕ) (u : Tree)
@@ -119,23 +114,13 @@ parent_of : (form : Form) (t : Tree) (e : ContainerEntries) (p : ParentEntries) 
     → p.keys ≡ e.keys → HoldTrees form p.front (take n (children t)) → HoldTrees form p.after (drop (suc n) (children t))
     → p.others ≡ length (take n (children t)) + length (drop (suc n) (children t)) → n < length (children t)
     → slice_get (children t) n ≡ Some child → IsParent form p t n child
-parent_of form (array ts) e p n child h kind same front after is inside at = record {
-  keys_hold = subst (λ run. HoldTrees form run []) (sym same) h.1;
-  front_hold = front;
-  after_hold = after;
-  passed = sym (length-take-le n (elements ts) (omega arith));
-  makes = λ ns.
-      subst (λ k. Make k (count_kept p.others ns) (entries_kept (array ts) n child ns) (change_child n (remove_at ns) (array ts)))
-      (sym (kind ∙ h.0)) (array_makes n p.others child ts at is ns);
-}
+parent_of form (array ts) e p n child h kind same front after is inside at = grind (arith, length-take-le, elements, array_makes)
 parent_of form (object ps) e p n child h kind same front after is inside at = record {
   keys_hold = subst (λ run. HoldTrees form run (map text (keys ps))) (sym same) (rw (keys_of-members ps) at h.2.names);
   front_hold = front;
   after_hold = after;
   passed = sym (length-take-le n (elements (values ps)) (omega arith));
-  makes = λ ns.
-      subst (λ k. Make k (count_kept p.others ns) (entries_kept (object ps) n child ns) (change_child n (remove_at ns) (object ps)))
-      (sym (kind ∙ h.0)) (object_makes n p.others child ps h.1 at is ns);
+  makes = grind (arith, object_makes);
 }
 parent_of form _ e p n child h kind same front after is inside at = absurd h
 
@@ -156,11 +141,6 @@ pub child_taken : (form : Form) (cs : List Tree) (n : ℕ) (others : Entries) (f
     → found ≡ Some (entry, after) → TakesFirst form others (drop n cs) found → ChildTaken form cs n entry after
 child_taken form cs n others found entry after is h = grind (arith, entry_taken, split_at)
 
-none_there : (cs : List Tree) (n : ℕ) → drop n cs ≡ [] → slice_get cs n ≡ None
-none_there [] n none = refl
-none_there (c ∷ cs) zero none = absurd (cc)
-none_there (c ∷ cs) (suc n) none = none_there cs n none
-
 not_container : (form : Form) (t : Tree) (kind : ℕ) (bytes : List ℕ) → IsContent (number_reader form) t kind bytes → (kind ≡ container_entry → ⊥)
     → children_of t ≡ None
 not_container form t kind bytes h e = grind arith
@@ -180,7 +160,7 @@ module _ (form : Form) (t : Tree) (step : Key) where
 
   pub no_child : (n : ℕ) (others : Entries) (found : Option (StoredEntry × Entries)) → Some n ≡ child_position step t → found ≡ None
       → TakesFirst form others (drop n (children t)) found → StepsInto form t step None
-  no_child n others found position none h = grind (arith, none_there, no_entry_left)
+  no_child n others found position none h = grind (arith, no_such_element, no_entry_left)
 
   pub step_into : (e : ContainerEntries) (p : ParentEntries) (n : ℕ) (entry : StoredEntry) → AreEntriesOf form t e → Some n ≡ child_position step t
       → p.kind ≡ e.kind → p.keys ≡ e.keys → (f : ChildTaken form (children t) n entry p.after) → HoldTrees form p.front (take n (children t))
@@ -191,10 +171,7 @@ module _ (form : Form) (t : Tree) (step : Key) where
     sym position,
     f.at,
     parent_of form t e p n f.child h kind same front f.after_hold is f.inside f.at,
-    record {
-      container = λ k. record { document = inl (rw k at f.part) };
-      scalar = λ other. not_container form f.child _ _ f.part other;
-    },
+    record { container = λ k. record { document = inl (rw k at f.part) }; scalar = λ other. not_container form f.child _ _ f.part other },
   )
 
 -- ---- the way to the value
@@ -295,12 +272,10 @@ pub all_behind : (ps : List ParentEntries) (i : ℕ) → take (length ps - i) (d
 all_behind ps i = take_all (length ps - i) (drop i ps) (omega (arith, length-drop i ps))
 
 pub kept_at_most : (p : ParentEntries) (ps : List ParentEntries) → children_kept p ps ≤ p.others + 1
-kept_at_most p [] = omega arith
-kept_at_most p (q ∷ qs) = omega arith
+kept_at_most p ps = grind arith
 
 pub head_less : (kind : HeaderKind) (m n : ℕ) → m ≤ n → head_size kind m ≤ head_size kind n
-head_less header_kind.Object m n less = omega arith
-head_less _ m n less = omega arith
+head_less kind m n h = grind arith
 
 sizes_more : (ps : List ParentEntries) (p : ParentEntries) → sizes (ps ++ p ∷ []) ≡ sizes ps + size p
 sizes_more [] p = omega arith
@@ -321,3 +296,91 @@ room_none start len around coming h = room_less start (len + coming) (len + (com
 pub rooms_pushed : (around around' : List Outer) (o : Outer) → around' ≡ around ++ o ∷ []
     → rooms_after (reverse around') ≡ (o.open, length o.after.contents.now) ∷ rooms_after (reverse around)
 rooms_pushed around around' o is = ap (λ os. rooms_after (reverse os)) is ∙ ap rooms_after (innermost around o)
+
+-- The containers lead to a tree, whose entry this is. What the steps that are left select there is, after the positions so
+-- far, what is expected.
+pub record Walked (form : Form) (t : Tree) (parents : List ParentEntries) (entry : StoredEntry) (steps : List Key) (wanted : Option (List ℕ)) : Type 0 where
+  pub passed : List ℕ
+  pub here : Tree
+  pub led : LeadTo form parents passed t here
+  pub holds : HoldsValue form entry here
+  pub left : option_map (λ ns. passed ++ ns) (location steps here) ≡ wanted
+
+pub walk_begun : (form : Form) (t : Tree) (parents : List ParentEntries) (entry : StoredEntry) (steps : List Key) → parents ≡ [] → HoldsValue form entry t
+    → Walked form t parents entry steps (location steps t)
+walk_begun form t parents entry steps none holds =
+    record { passed = []; here = t; led = subst (λ ps. LeadTo form ps [] t t) (sym none) refl; holds = holds; left = by (location steps t) }
+  where
+    by : (o : Option (List ℕ)) → option_map (λ ns. [] ++ ns) o ≡ o
+    by o = grind arith
+
+behind : (passed : List ℕ) (n : ℕ) (o : Option (List ℕ))
+    → option_map (λ ns. passed ++ ns) (option_map (λ ns. n ∷ ns) o) ≡ option_map (λ ns. (passed ++ n ∷ []) ++ ns) o
+behind passed n o = grind (arith, append_assoc)
+
+next_place : (step : Key) (steps : List Key) (here child : Tree) (n : ℕ) → child_position step here ≡ Some n → slice_get (children here) n ≡ Some child
+    → location (step ∷ steps) here ≡ option_map (λ ns. n ∷ ns) (location steps child)
+next_place step steps here child n meets is = rw (meets, is) refl
+
+module _ (form : Form) (t : Tree) (parents : List ParentEntries) (entry : StoredEntry) (step : Key) (now steps : List Key) (wanted : Option (List ℕ))
+    (is : now ≡ step ∷ steps) (w : Walked form t parents entry now wanted) where
+  here_left : option_map (λ ns. w.passed ++ ns) (location (step ∷ steps) w.here) ≡ wanted
+  here_left = subst (λ keys. option_map (λ ns. w.passed ++ ns) (location keys w.here) ≡ wanted) is w.left
+
+  -- one child more is selected
+  pub met_next : (p : ParentEntries) (child : StoredEntry) (parents' : List ParentEntries) → parents' ≡ parents ++ p ∷ []
+      → StepsInto form w.here step (Some (p, child)) → Walked form t parents' child steps wanted
+  met_next p child parents' more (n, u, meets, at, parent, holds) =
+      search (arith, u, more, lead_more form parents w.passed t w.here u p n w.led parent, holds, behind w.passed n (location steps u), here_left)
+
+  -- the step selects nothing
+  pub met_none : StepsInto form w.here step None → wanted ≡ None
+  met_none none = grind (arith, here_left)
+
+-- the way to the place that was found, or none
+pub no_place : (form : Form) (t : Tree) (found : Option (List ℕ)) → SameOption (λ (v : Vec ParentEntries Global) ns. Leads form v.items ns t) None found
+    → found ≡ None
+no_place form t found h = grind arith
+
+pub some_place : (form : Form) (t : Tree) (v : Vec ParentEntries Global) (found : Option (List ℕ))
+    → SameOption (λ (v : Vec ParentEntries Global) ns. Leads form v.items ns t) (Some v) found → (ns : List ℕ) × (found ≡ Some ns) × Leads form v.items ns t
+some_place form t v found h = grind arith
+
+pub place_is : (form : Form) (t : Tree) (v : Vec ParentEntries Global) (found : Option (List ℕ))
+    → (ns : List ℕ) × (found ≡ Some ns) × Leads form v.items ns t → SameOption (λ (v : Vec ParentEntries Global) ns. Leads form v.items ns t) (Some v) found
+place_is form t v found (ns, is, led) = rw is led
+
+-- the way to the whole
+pub no_way : (form : Form) (ps : List ParentEntries) (ns : List ℕ) (t : Tree) → ps ≡ [] → Leads form ps ns t → ns ≡ []
+no_way form ps ns t none (end, led) = no_more form ps ns t end none led
+
+-- ---- the same document
+
+pub same_decodes : (form : Form) (bytes : List ℕ) (t left : Tree) (r : Result (List ℕ) Error) → left ≡ t → Decodes form bytes t
+    → MatchResult r (λ made. made ≡ bytes) IsOutOfMemory
+    → MatchResult r (λ made. Decodes form made left) IsOutOfMemory
+same_decodes form bytes t left r h e k = grind arith
+
+pub without_none : (steps : List Key) (t : Tree) → location steps t ≡ None → without steps t ≡ t
+without_none steps t e = rw e refl
+
+-- steps that select a part don't select none
+pub part_met : (steps : List Key) (t : Tree) (n : ℕ) (ns : List ℕ) → location steps t ≡ Some (n ∷ ns) → MeetNoPart steps t → ⊥
+part_met steps t n ns h e = grind arith
+
+-- ---- a document
+
+-- the way to a part
+pub record PartOut (form : Form) (t : Tree) (p : ParentEntries) (ps : List ParentEntries) (found : Option (List ℕ)) : Type 0 where
+  pub n : ℕ
+  pub ns : List ℕ
+  pub end : Tree
+  pub is : found ≡ Some (n ∷ ns)
+  pub led : LeadTo form (p ∷ ps) (n ∷ ns) t end
+
+pub part_out : (form : Form) (t : Tree) (v : Vec ParentEntries Global) (found : Option (List ℕ)) (p : ParentEntries) (ps : List ParentEntries)
+    → v.items ≡ p ∷ ps → SameOption (λ (v : Vec ParentEntries Global) ns. Leads form v.items ns t) (Some v) found → PartOut form t p ps found
+part_out form t v found p ps split h = grind (arith, some_place)
+
+pub without_part : (steps : List Key) (t : Tree) (n : ℕ) (ns : List ℕ) → location steps t ≡ Some (n ∷ ns) → without steps t ≡ change_child n (remove_at ns) t
+without_part steps t n ns e = rw e refl

@@ -1,5 +1,5 @@
--- Steps from a number's digits to those of the number without its last digit.
-use Rattle.jsonb_raw.proofs.Common.{◌≡◌, ◌≢◌, ℕ, suc, ◌+◌, ◌/◌, ◌%◌, ◌^◌, ◌<◌, ◌≤◌, ◌==◌, ◌&&◌, Bool, true, false, cond, List, [], ◌∷◌, ◌++◌, map, length, drop, refl, sym, ap, ap₂, ◌∙◌, arith, append_assoc, ◌-◌, take, w16, ne_eqb, list_all, digits_of, map-append, take-take, digits_of_step, length-digits_of_step, length-digits_of-le, significant, magnitude_bytes, complement_byte, complement_bytes, WritesBefore, to_be_bytes, take-append-add}
+-- Steps from digit to digit of a number, and what a push of its bytes leaves.
+use Rattle.jsonb_raw.proofs.Common.{◌≡◌, ◌≢◌, ℕ, suc, ◌+◌, ◌/◌, ◌%◌, ◌^◌, ◌<◌, ◌≤◌, ◌==◌, ◌&&◌, Bool, true, false, cond, List, [], ◌∷◌, ◌++◌, map, length, drop, refl, sym, ap, ap₂, ◌∙◌, arith, append_assoc, ◌-◌, take, w16, ne_eqb, list_all, digits_of, map-append, take-take, digits_of_step, length-digits_of_step, length-digits_of-le, significant, magnitude_bytes, complement_byte, complement_bytes, WritesBefore, to_be_bytes, take-append-add, ℤ, pos, nat_abs, int_lt, number_bytes}
 
 pub count_step : (n : ℕ) → 0 < n → length (digits_of 10 (n / 10)) + 1 ≡ length (digits_of 10 n)
 count_step n h = sym (length-digits_of_step 10 n (omega arith) h)
@@ -9,13 +9,6 @@ count_few n h = length-digits_of-le 10 39 n (omega arith) (omega arith)
 
 pub count_short : (n : ℕ) → n < 2 ^ 64 → length (digits_of 10 n) ≤ 20
 count_short n h = length-digits_of-le 10 20 n (omega arith) (omega arith)
-
--- one digit more is written before a place
-pub digit_written : (negative : Bool) (n m : ℕ) (behind before whole : List ℕ) (byte : ℕ) → 0 < n → m ≡ n / 10
-    → byte ≡ complement_byte negative (suc (n % 10)) → before ≡ byte ∷ behind
-    → complement_bytes negative (map suc (digits_of 10 n)) ++ behind ≡ whole
-    → complement_bytes negative (map suc (digits_of 10 m)) ++ before ≡ whole
-digit_written negative n m behind before whole byte some less is more h = grind (arith, append_assoc, map-append, digits_of_step)
 
 all_zero_behind : (ds : List ℕ) → list_all (λ d. d == 0) (ds ++ 0 ∷ []) ≡ list_all (λ d. d == 0) ds
 all_zero_behind [] = refl
@@ -49,15 +42,7 @@ pub record ZerosPassed (n left zeros most : ℕ) : Type 0 where
 
 pub zero_passed : (n left others zeros most : ℕ) → ZerosPassed n left zeros most → 0 < left → others ≡ left / 10 → left % 10 ≡ 0
     → ZerosPassed n others (zeros + 1) most
-zero_passed n left others zeros most h some is zero_last =
-    let count = h.count in
-    let step : length (digits_of 10 others) + 1 ≡ length (digits_of 10 left) = ap (λ k. length (digits_of 10 k) + 1) is ∙ count_step left some in
-    record {
-      same = ap (λ k. significant (digits_of 10 k)) is ∙
-          cc (significant-zero_behind (digits_of 10 (left / 10)), digits_of_step 10 left (omega arith) some, zero_last) ∙ h.same;
-      count = omega arith;
-      few = h.few;
-    }
+zero_passed n left others zeros most h e k f = grind (arith, count_step, significant-zero_behind, digits_of_step)
 
 -- digits are written up to a place of the buffer: after those that are left they are all digits
 pub record DigitsWritten (negative : Bool) (n end : ℕ) (buffer : List ℕ) (left at : ℕ) (now : List ℕ) : Type 0 where
@@ -75,15 +60,7 @@ module _ (negative : Bool) (n end : ℕ) (buffer : List ℕ) (left at : ℕ) (no
   pub digit_passed : (others byte before : ℕ) (buffer' : List ℕ) → length (digits_of 10 n) ≤ end → 0 < left → others ≡ left / 10
       → byte ≡ complement_byte negative (suc (left % 10)) → before + 1 ≡ at → WritesBefore now at (byte ∷ []) before buffer'
       → DigitsWritten negative n end buffer others before buffer'
-  digit_passed others byte before buffer' room some is byte_is place more =
-      let count = h.count in
-      let step : length (digits_of 10 others) + 1 ≡ length (digits_of 10 left) = ap (λ k. length (digits_of 10 k) + 1) is ∙ count_step left some in
-      record {
-        count = omega arith;
-        within = omega (arith, h.within, more.1);
-        written = digit_written negative left others _ _ _ byte some is byte_is more.0 h.written;
-        len = more.1 ∙ h.len;
-      }
+  digit_passed others byte before buffer' room some is byte_is place more = grind (arith, count_step, append_assoc, map-append, digits_of_step)
 
   pub all_digits : left ≡ 0 → drop at now ≡ complement_bytes negative (map suc (digits_of 10 n)) ++ drop end buffer
   all_digits none = ap (λ ds. complement_bytes negative (map suc ds) ++ drop at now) (sym (no_digits left none)) ∙ h.written
@@ -109,14 +86,7 @@ pub record DigitsPacked (negative : Bool) (n left len : ℕ) (bytes : List ℕ) 
 module _ (negative : Bool) (n left len : ℕ) (bytes : List ℕ) (h : DigitsPacked negative n left len bytes) where
   pub digit_packed : (others len' byte : ℕ) (bytes' : List ℕ) → 0 < left → others ≡ left / 10 → len' ≡ len + 1
       → byte ≡ complement_byte negative (suc (left % 10)) → bytes' ≡ byte ∷ bytes → DigitsPacked negative n others len' bytes'
-  digit_packed others len' byte bytes' some is more byte_is bytes_are =
-      let counted = h.counted in
-      let step : length (digits_of 10 others) + 1 ≡ length (digits_of 10 left) = ap (λ k. length (digits_of 10 k) + 1) is ∙ count_step left some in
-      record {
-        counted = omega arith;
-        few = h.few;
-        packed = digit_written negative left others bytes bytes' _ byte some is byte_is bytes_are h.packed;
-      }
+  digit_packed others len' byte bytes' some is more byte_is bytes_are = grind (arith, count_step, append_assoc, map-append, digits_of_step)
 
 -- the exponent's bytes before the digits
 pub magnitude_packed : (negative : Bool) (exponent digits : List ℕ) (n shorter scale e : ℕ) → e ≡ length (digits_of 10 n) + 1000 - scale
@@ -127,3 +97,52 @@ magnitude_packed negative exponent digits n shorter scale e moved same front bac
     ap₂ (λ xs ys. xs ++ ys) (front ∙ ap (λ k. complement_bytes negative (to_be_bytes w16 k)) moved)
     (back ∙ ap (λ ds. complement_bytes negative (map suc ds ++ 0 ∷ [])) same)
     ∙ sym (map-append (complement_byte negative) (to_be_bytes w16 (length (digits_of 10 n) + 1000 - scale)) (map suc (significant (digits_of 10 n)) ++ 0 ∷ []))
+
+pub magnitude_pushed : (negative : Bool) (old : List ℕ) (n scale e : ℕ) → e ≡ length (digits_of 10 n) + 1000 - scale
+    → ((old ++ complement_bytes negative (to_be_bytes w16 e)) ++ complement_bytes negative (map suc (significant (digits_of 10 n))))
+    ++ complement_byte negative 0 ∷ [] ≡ old ++ complement_bytes negative (magnitude_bytes n scale)
+unfolding magnitude_bytes
+magnitude_pushed negative old n scale e h =
+    append_assoc (old ++ exponent) digits end ∙ append_assoc old exponent (digits ++ end)
+    ∙ ap (λ x. old ++ x)
+    (ap (λ x. exponent ++ x) (sym (map-append (complement_byte negative) (map suc (significant (digits_of 10 n))) (0 ∷ [])))
+    ∙ sym (map-append (complement_byte negative) (to_be_bytes w16 e) (map suc (significant (digits_of 10 n)) ++ 0 ∷ []))
+    ∙ ap (λ k. complement_bytes negative (to_be_bytes w16 k ++ (map suc (significant (digits_of 10 n)) ++ 0 ∷ []))) h)
+  where
+    exponent : List ℕ
+    exponent = complement_bytes negative (to_be_bytes w16 e)
+
+    digits : List ℕ
+    digits = complement_bytes negative (map suc (significant (digits_of 10 n)))
+
+    end : List ℕ
+    end = complement_byte negative 0 ∷ []
+
+same_bytes : (bs : List ℕ) → complement_bytes false bs ≡ bs
+same_bytes [] = refl
+same_bytes (b ∷ bs) = ap (λ x. b ∷ x) (same_bytes bs)
+
+pub positive_pushed : (old : List ℕ) (z : ℤ) (scale : ℕ) → int_lt z (pos 0) ≡ false → z ≢ pos 0
+    → (old ++ 0x81 ∷ []) ++ complement_bytes false (magnitude_bytes (nat_abs z) scale) ≡ old ++ number_bytes z scale
+positive_pushed old z scale h e = grind (arith, append_assoc, same_bytes)
+
+-- a buffer that holds the sign byte, the exponent, the digits and the end marker is appended
+pub buffer_steps : (negative : Bool) (old last whole front tail : List ℕ) (sign n scale e byte : ℕ) → e ≡ length (digits_of 10 n) + 1000 - scale
+    → whole ≡ sign ∷ front → front ≡ complement_bytes negative (to_be_bytes w16 e) ++ tail
+    → tail ≡ complement_bytes negative (map suc (significant (digits_of 10 n))) ++ byte ∷ [] → byte ≡ complement_byte negative 0 → last ≡ old ++ whole
+    → last ≡ (old ++ sign ∷ []) ++ complement_bytes negative (magnitude_bytes n scale)
+buffer_steps negative old last whole front tail sign n scale e byte h w f t b l =
+    l ∙ ap (λ x. old ++ x) w ∙ sym (append_assoc old (sign ∷ []) front)
+    ∙ ap (λ x. (old ++ sign ∷ []) ++ x) (f ∙ ap (λ x. exponent ++ x) (t ∙ ap (λ c. digits ++ c ∷ []) b))
+    ∙ sym (append_assoc (old ++ sign ∷ []) exponent (digits ++ end))
+    ∙ sym (append_assoc ((old ++ sign ∷ []) ++ exponent) digits end)
+    ∙ magnitude_pushed negative (old ++ sign ∷ []) n scale e h
+  where
+    exponent : List ℕ
+    exponent = complement_bytes negative (to_be_bytes w16 e)
+
+    digits : List ℕ
+    digits = complement_bytes negative (map suc (significant (digits_of 10 n)))
+
+    end : List ℕ
+    end = complement_byte negative 0 ∷ []

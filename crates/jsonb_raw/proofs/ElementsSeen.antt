@@ -38,8 +38,7 @@ pub counted_again : (m n o : KeyCounts) (key copy : Vec ℕ Global) (before w : 
     → map.Updates key_cmp m.counts n.counts copy (Some 1) → Some before ≡ map.get key_cmp m.counts copy → w ≡ before + 1
     → (0 < counted n key → (q : Vec ℕ Global) → counted o q ≡ cond (bytes_eq key.items q.items) w (counted n q))
     → (q : Vec ℕ Global) → counted o q ≡ counted m q + one_at key.items q
-counted_again m n o key copy before w same u had is set q =
-    set some q ∙ by (bytes_eq key.items q.items) (bytes_eq-Decides key.items q.items).0 put
+counted_again m n o key copy before w same u had is set q = set some q ∙ by (bytes_eq key.items q.items) (bytes_eq-Decides key.items q.items).0 put
   where
     once : counted n copy ≡ 1
     once = inserted m n copy 1 u copy ∙ ap (λ b. cond b 1 (counted m copy)) ((bytes_eq-Decides copy.items copy.items).1 refl)
@@ -70,16 +69,12 @@ pub with_key-equality_key : (t : Tree) (us : List Tree) (key : Vec ℕ Global) �
     → with_key key us ≡ count_of t us
 with_key-equality_key t [] key f all e = refl
 with_key-equality_key t (u ∷ us) key f all e =
-    let same : bytes_eq (equality_key u) key.items ≡ is_equal u t = ap (bytes_eq (equality_key u)) e ∙ keys_decide u t all.0 f in
     let front : with_key key (u ∷ us)
     ≡ cond (bytes_eq (equality_key u) key.items) 1 0 + with_key key us = sum_by-cons (λ x. cond (bytes_eq (equality_key x) key.items) 1 0) u us in
     let back : count_of t (u ∷ us) ≡ cond (is_equal u t) 1 0 + count_of t us = sum_by-cons (λ x. cond (is_equal x t) 1 0) u us in
-    front ∙ ap₂ (λ b n. cond b 1 0 + n) same (with_key-equality_key t us key f all.1 e) ∙ sym back
+    front ∙ ap₂ (λ b n. cond b 1 0 + n) (ap (bytes_eq (equality_key u)) e ∙ keys_decide u t all.0 f) (with_key-equality_key t us key f all.1 e) ∙ sym back
 
 -- ---- which occurrences are kept
-
-more_left : (a b : ℕ) → nat_lt 0 (a - b) ≡ nat_lt b a
-more_left a b = grind (arith, nat_tests)
 
 module _ (m : KeyCounts) (other before : List Tree) (t : Tree) (key : Vec ℕ Global) (f : Fits t) (e : key.items ≡ equality_key t) where
   first_test : CountsAfter First m other before → nat_eq (counted m key) 0 ≡ keeps First other (before, t)
@@ -88,7 +83,7 @@ module _ (m : KeyCounts) (other before : List Tree) (t : Tree) (key : Vec ℕ Gl
   left_test : counted m key ≡ with_key key other - with_key key before → AllByRecursion Fits other → AllByRecursion Fits before
       → nat_lt 0 (counted m key) ≡ is_shared other (before, t)
   left_test left all all_before =
-      cc (left, with_key-equality_key t other key f all e, with_key-equality_key t before key f all_before e, more_left (count_of t other) (count_of t before))
+      grind (arith, left, with_key-equality_key t other key f all e, with_key-equality_key t before key f all_before e)
 
   pub test_first : (kind : SetOperation) → kind ≡ First → CountsAfter kind m other before → nat_eq (counted m key) 0 ≡ keeps kind other (before, t)
   test_first kind is = rw is first_test
@@ -117,9 +112,8 @@ CountsLeft-next m n key first rest whole h e short more = record { joined = join
     joined other =
         let few : with_key key whole ≤ length whole = count_by-le-length (λ t. bytes_eq (equality_key t) key.items) whole in
         let at_key : counted m key + with_key key (first ∷ rest) ≡ with_key key whole = h.joined key in
-        let below : counted m key < 2 ^ 63 = omega arith in
         let one : one_at key.items other ≡ one_at (equality_key first) other = ap (λ k. one_at k other) e in
-        let now : counted n other ≡ counted m other + one_at key.items other = more below other in
+        let now : counted n other ≡ counted m other + one_at key.items other = more (omega arith) other in
         let split : with_key other (first ∷ rest)
         ≡ one_at (equality_key first) other + with_key other rest = sum_by-cons (λ t. one_at (equality_key t) other) first rest in
         let whole_other : counted m other + with_key other (first ∷ rest) ≡ with_key other whole = h.joined other in
@@ -138,17 +132,12 @@ count_in_order t (b ∷ before) rest n =
     let one_more : length (b ∷ before) + n ≡ length before + suc n = omega arith in
     let all : count_of t (take (length before + suc n) (in_order before (b ∷ rest)))
     ≡ count_of t before + count_of t (b ∷ take n rest) = count_in_order t before (b ∷ rest) (suc n) in
-    let next = count-cons t b (take n rest) in
-    let first = count-cons t b before in
-    rw one_more (omega (arith, all, next, first))
+    rw one_more (omega (arith, all, count-cons t b (take n rest), count-cons t b before))
 
 pub passed_count : (form : Form) (elements : ElementsPassed) (other before rest : List Tree) (t : Tree)
     → ArePassed form elements other before rest
     → count_of t (take elements.passed (in_order before rest)) ≡ count_of t before
-passed_count form elements other before rest t h =
-    let same : elements.passed ≡ length before + 0 = h.passed_is ∙ omega arith in
-    let counted : count_of t (take (length before + 0) (in_order before rest)) ≡ count_of t before + 0 = count_in_order t before rest 0 in
-    rw same (omega (arith, counted))
+passed_count form elements other before rest t h = search (arith, h.passed_is, count_in_order t before rest 0)
 
 pub passed_next : (form : Form) (elements : ElementsPassed) (n : ℕ) (other before rest : List Tree) (t : Tree)
     → ArePassed form elements other before (t ∷ rest) → n ≡ min (elements.passed + 1) (2 ^ 64 - 1)
@@ -167,10 +156,8 @@ module _ (form : Form) (left : Entries) (more equal : ℕ) (u : Tree) (whole : �
   pub EqualLeft-next : (others : Entries) (now : ℕ) (t : Tree) (rest : List Tree) → h.rest ≡ t ∷ rest → HoldTrees form others rest
       → 0 < more → now ≡ equal + cond (is_equal t u) 1 0 → EqualLeft form others (more - 1) now u whole
   EqualLeft-next others now t rest split hold some is =
-      let j : equal + count_of u (take more (t ∷ rest)) ≡ whole = rw split at h.joined in
-      let k : equal + count_of u (t ∷ take (more - 1) rest) ≡ whole = rw (take_one more t rest some) at j in
       let next = count-cons u t (take (more - 1) rest) in
-      record { rest = rest; holds = hold; joined = omega (arith, is, k, next) }
+      record { rest = rest; holds = hold; joined = omega (arith, is, rw (take_one more t rest some) at (rw split at h.joined), next) }
 
 -- What is left has as many equal to the tree as all have, less those that may still be passed.
 pub record MoreLeft (form : Form) (left : Entries) (more count : ℕ) (u : Tree) (whole : ℕ) : Type 0 where
@@ -181,37 +168,23 @@ pub record MoreLeft (form : Form) (left : Entries) (more count : ℕ) (u : Tree)
 module _ (form : Form) (left : Entries) (more count : ℕ) (u : Tree) (whole : ℕ) (h : MoreLeft form left more count u whole) where
   pub MoreLeft-found : (equal : ℕ) (t : Tree) (rest : List Tree) → h.rest ≡ t ∷ rest → equal ≡ cond (is_equal t u) 1 0 → more < equal
       → true ≡ nat_lt count whole
-  MoreLeft-found equal t rest split is less =
-      let j : whole + more ≡ count + count_of u (t ∷ rest) = rw split at h.joined in
-      let next = count-cons u t rest in
-      let above : count < whole = omega (arith, is, less, j, next) in
-      let many : nat_lt count whole ≡ true = grind (arith, nat_tests, above) in
-      sym many
+  MoreLeft-found equal t rest split is less = search (arith, split, h.joined, count-cons u t rest, is, less, nat_tests)
 
   pub MoreLeft-next : (others : Entries) (now equal : ℕ) (t : Tree) (rest : List Tree) → h.rest ≡ t ∷ rest → HoldTrees form others rest
       → equal ≡ cond (is_equal t u) 1 0 → now + equal ≡ more → MoreLeft form others now count u whole
-  MoreLeft-next others now equal t rest split hold is less =
-      let j : whole + more ≡ count + count_of u (t ∷ rest) = rw split at h.joined in
-      let next = count-cons u t rest in
-      record { rest = rest; holds = hold; joined = omega (arith, is, less, j, next) }
+  MoreLeft-next others now equal t rest split hold is less = search (arith, split, h.joined, count-cons u t rest, rest, hold, is, less)
 
 pub none_left : (n whole : ℕ) → false ≡ nat_lt 0 whole → false ≡ nat_lt n whole
-none_left n whole none =
-    let few : nat_lt n whole ≡ false = grind (arith, nat_tests, sym none) in
-    sym few
+none_left n whole h = grind (arith, nat_lt, nat_tests)
 
 -- ---- counts before the first element
 
 pub members_few : (t : Tree) → Fits t → length (as_elements t) < 2 ^ 63
 members_few t h = grind (arith, elements_few)
 
-not_first_begun : (kind : SetOperation) (m : KeyCounts) (other : List Tree) → (kind ≡ First → ⊥) → CountsKeys m other → AllByRecursion Fits other
-    → CountsAfter kind m other []
-not_first_begun kind m other h e k = grind arith
-
 pub counted_begun : (kind : SetOperation) (r : Result KeyCounts Error) (other : List Tree) → (kind ≡ First → ⊥) → AllByRecursion Fits other
     → MatchResult r (λ m. CountsKeys m other) IsOutOfMemory → MatchResult r (λ m. CountsAfter kind m other []) IsOutOfMemory
-counted_begun kind r other h e k = grind (arith, not_first_begun)
+counted_begun kind r other h e k = grind arith
 
 pub follows : {P Q : Type 0} (R : Bool → Type 0) (r : Result Bool Error) → (P → Q) → MatchResult r R IsOutOfMemory → MatchResult r (λ _. P) IsOutOfMemory
     → MatchResult r (λ b. R b × Q) IsOutOfMemory

@@ -71,10 +71,6 @@ elements_begun form gives parts ts found it it' is same left none = grind (arith
 
 module _ (form : Form) (gives : Trees → List Tree) (whole : List Tree) (before : Parts) (it it' : ElementIter) (r : Result Item Error) (x : Item)
     (is : r ≡ Ok x) (step : GivesElement it (Some r) it') (h : HeldElements form before it gives whole) where
-  next_front : (t : Tree) (part : Tree) (ts : Trees) → gives (tree t ts) ≡ part ∷ gives ts → HoldsFront form before (gives (tree t ts)) whole
-      → HoldsFront form before (part ∷ gives ts) whole
-  next_front t part ts same front = subst (λ (us : List Tree). HoldsFront form before us whole) same front
-
   -- with what the next element gives after the others, what the rest gives is left
   pub elements_pushed : (part : Tree → Tree) (after : Parts)
       → ((t : Tree) (ts : Trees) → StandsFor form x t → gives (tree t ts) ≡ part t ∷ gives ts)
@@ -83,7 +79,7 @@ module _ (form : Form) (gives : Trees → List Tree) (whole : List Tree) (before
   elements_pushed part after next pushed =
       SomeElements-first form it it' r x (λ ts. HoldsFront form before (gives ts) whole) is step h
       (λ t ts left stands front.
-      let f = next_front t (part t) ts (next t ts stands) front in
+      let f = subst (λ (us : List Tree). HoldsFront form before us whole) (next t ts stands) front in
       record { trees = ts; left = left; fact = front_pushed form before (part t) (gives ts) whole f after (pushed t f.held stands f.holds) })
 
   -- if that push fails, the whole is
@@ -95,7 +91,7 @@ module _ (form : Form) (gives : Trees → List Tree) (whole : List Tree) (before
   elements_refused part e next refused =
       SomeElements-first form it it' r x (λ ts. HoldsFront form before (gives ts) whole) is step h
       (λ t ts left stands front.
-      let f = next_front t (part t) ts (next t ts stands) front in
+      let f = subst (λ (us : List Tree). HoldsFront form before us whole) (next t ts stands) front in
       front_refused form before (part t) (gives ts) whole f e (refused t f.held stands f.holds))
 
   -- an element that yields nothing is passed over

@@ -1,9 +1,205 @@
--- Laws of sortable, composite and equality keys.
-use Rattle.jsonb_raw.proofs.Common.{◌≡◌, ℕ, suc, ◌%◌, ◌^◌, ◌<◌, List, [], ◌∷◌, ◌++◌, length, refl, sym, ap, ap₂, ◌∙◌, arith, nat_cmp, Bool, Ordering, Equal, append_assoc, mod-eq_of_lt, ◌↔◌, inl, Less, append-nil, flat_map, Option, None, Some, IfSome, Greater, subst, IsTrue, bytes_high_first, Width, byte_len, nat_cmp-equal, then_Equal, extension_back, some_injective, FitsExtension, canonical, extension_payload, Form, extension_of, Fits, IsShort, HasShortParts, HasShortElements, HasShortValues, IsInRange, AreInRange, ValuesAreInRange, Tree, Trees, Pairs, count, keys, Number, FitsNumber, number_cmp, rank, tree_cmp, IsEqual, AreEqual, PairsAreEqual, number_bytes, text_bytes, sortable_key, depths, HasKey, IsRest, item_bytes, equality_key, equality_keys_of_trees, equality_keys_of_pairs, both_equal, bytes_cmp, same_from_bytes_cmp, bytes_cmp_refl, ordering_then, equal_from_tree_cmp, tree_cmp-equal, AreBytes, Decodes, decoded_fits, deepest, HasNoExtension, is_equal, equal_from_test, is_equal-true, slice_cmp, option_cmp, one-le-pow, column_key, HaveKeys}
-use Rattle.jsonb_raw.proofs.Ranking.{Ranks, Ranks-bytes_high_first, Ranks-text_bytes}
-use Rattle.jsonb_raw.proofs.NumberKeys.{Ranks-number_bytes, bounded_from_fits, ranks_alone}
-use Rattle.jsonb_raw.proofs.TreeKeys.{rank_boolean, keys_rank, items_rank, key_is_item, IsRest-item, nothing_below_depth, nothing_above_depth}
-use Rattle.jsonb_raw.proofs.ExtensionLeaves.{lacks_extension}
+-- The keys of trees rank as the trees do; laws of sortable, composite and equality keys.
+use Rattle.jsonb_raw.proofs.Common.{◌≡◌, ℕ, suc, ◌%◌, ◌^◌, ◌<◌, List, [], ◌∷◌, ◌++◌, length, refl, sym, ap, ap₂, ◌∙◌, arith, nat_cmp, Bool, Ordering, Equal, append_assoc, mod-eq_of_lt, ◌↔◌, inl, Less, append-nil, flat_map, Option, None, Some, IfSome, Greater, IsTrue, bytes_high_first, Width, byte_len, nat_cmp-equal, then_Equal, extension_back, some_injective, FitsExtension, canonical, extension_payload, Form, extension_of, Fits, IsShort, HasShortParts, HasShortElements, HasShortValues, IsInRange, AreInRange, ValuesAreInRange, Tree, Trees, Pairs, count, keys, Number, FitsNumber, number_cmp, rank, tree_cmp, IsEqual, AreEqual, PairsAreEqual, number_bytes, text_bytes, sortable_key, depths, HasKey, IsRest, item_bytes, equality_key, equality_keys_of_trees, equality_keys_of_pairs, both_equal, bytes_cmp, same_from_bytes_cmp, bytes_cmp_refl, ordering_then, equal_from_tree_cmp, tree_cmp-equal, AreBytes, Decodes, decoded_fits, deepest, HasNoExtension, is_equal, equal_from_test, is_equal-true, slice_cmp, option_cmp, one-le-pow, column_key, HaveKeys, ◌≢◌, ◌+◌, ◌≤◌, false, inr, to_be_bytes, cases_order, nat_cmp_refl, then_assoc, deepest_of_trees, deepest_of_pairs, trees_cmp, pairs_cmp, keys_of_trees, keys_of_pairs, pos, not, AllByRecursion, values_of, extension, array, object, no_trees, tree, no_pairs, pair, Key, index, unquoted_name, Leaf, leaves_at, leaves, leaves_of_trees, leaves_of_pairs, behind, is_extension_value}
+use Rattle.jsonb_raw.proofs.NumberKeys.{Ranks, Ranks-bytes_high_first, Ranks-text_bytes, Ranks-number_bytes, bounded_from_fits, ranks_alone}
+
+abbrev mutual
+  pub LacksExtension : Tree → Type 0
+  LacksExtension (extension x) = ⊥
+  LacksExtension (array ts) = LackExtension ts
+  LacksExtension (object ps) = ValuesLackExtension ps
+  LacksExtension _ = Unit {0}
+
+  pub LackExtension : Trees → Type 0
+  LackExtension no_trees = Unit {0}
+  LackExtension (tree t ts) = LacksExtension t × LackExtension ts
+
+  pub ValuesLackExtension : Pairs → Type 0
+  ValuesLackExtension no_pairs = Unit {0}
+  ValuesLackExtension (pair key t ps) = LacksExtension t × ValuesLackExtension ps
+
+abbrev IsOther : Tree → Type 0
+IsOther t = IsTrue (not (is_extension_value t))
+
+abbrev AreOthers : List Leaf → Type 0
+AreOthers found = AllByRecursion (λ leaf. IsOther leaf.1) found
+
+front : (xs ys : List Leaf) → AreOthers (xs ++ ys) → AreOthers xs
+front [] ys h = tt
+front (x ∷ xs) ys h = (h.0, front xs ys h.1)
+
+back : (xs ys : List Leaf) → AreOthers (xs ++ ys) → AreOthers ys
+back [] ys h = h
+back (x ∷ xs) ys h = back xs ys h.1
+
+within : (step : Key) (found : List Leaf) → AreOthers (behind (step ∷ []) found) → AreOthers found
+within step [] h = tt
+within step (leaf ∷ found) h = (h.0, within step found h.1)
+
+mutual
+  part : (step : Key) (t : Tree) → AreOthers (leaves_at false step t (leaves false t)) → LacksExtension t
+  part step (extension x) h = absurd (cc h.0)
+  part step (array no_trees) h = tt
+  part step (array (tree t ts)) h = elements 0 (tree t ts) (within step (leaves_of_trees false 0 (tree t ts)) h)
+  part step (object no_pairs) h = tt
+  part step (object (pair key t ps)) h = values (pair key t ps) (within step (leaves_of_pairs false (pair key t ps)) h)
+  part step _ h = tt
+
+  elements : (n : ℕ) (ts : Trees) → AreOthers (leaves_of_trees false n ts) → LackExtension ts
+  elements n no_trees h = tt
+  elements n (tree t ts) h =
+      let first = leaves_at false (index (pos n)) t (leaves false t) in
+      let others = leaves_of_trees false (suc n) ts in
+      (part (index (pos n)) t (front first others h), elements (suc n) ts (back first others h))
+
+  values : (ps : Pairs) → AreOthers (leaves_of_pairs false ps) → ValuesLackExtension ps
+  values no_pairs h = tt
+  values (pair key t ps) h =
+      let first = leaves_at false (unquoted_name key) t (leaves false t) in
+      let others = leaves_of_pairs false ps in
+      (part (unquoted_name key) t (front first others h), values ps (back first others h))
+
+by_leaf : (found : List Leaf) → AllByRecursion IsOther (values_of found) → AreOthers found
+by_leaf [] h = tt
+by_leaf (leaf ∷ found) h = (h.0, by_leaf found h.1)
+
+pub lacks_extension : (t : Tree) → HasNoExtension t → LacksExtension t
+lacks_extension t h = grind (arith, elements, by_leaf, values)
+
+-- The parts are in range, and no extension occurs: what sortable keys put in order.
+abbrev pub IsSortable : Tree → Type 0
+IsSortable t = IsInRange t × LacksExtension t
+
+abbrev pub AreSortable : Trees → Type 0
+AreSortable ts = AreInRange ts × LackExtension ts
+
+abbrev pub HasSortableValues : Pairs → Type 0
+HasSortableValues ps = ValuesAreInRange ps × ValuesLackExtension ps
+
+-- depths rank as numbers
+depth_ranks : (w : Width) (d e : ℕ) (r s : List ℕ) → d < depths w → e < depths w
+    → bytes_cmp (to_be_bytes w d ++ r) (to_be_bytes w e ++ s) ≡ ordering_then (nat_cmp d e) (bytes_cmp r s)
+depth_ranks w d e r s hd he = (Ranks-bytes_high_first (byte_len w) d e).ranks r s
+    ∙ ap (λ o. ordering_then o (bytes_cmp r s)) (ap₂ nat_cmp (mod-eq_of_lt hd) (mod-eq_of_lt he))
+
+-- two items at one depth: their kinds decide, and otherwise their contents with what follows them
+pub items_rank : (w : Width) (d k l : ℕ) (xs ys r s : List ℕ) → d < depths w
+    → bytes_cmp (item_bytes w d k xs ++ r) (item_bytes w d l ys ++ s) ≡ ordering_then (nat_cmp k l) (bytes_cmp (xs ++ r) (ys ++ s))
+items_rank w d k l xs ys r s h = grind (arith, append_assoc, depth_ranks, nat_cmp_refl)
+
+-- items of one kind
+same_kind : (w : Width) (d k : ℕ) (xs ys r s : List ℕ) (o : Ordering) → d < depths w → bytes_cmp (xs ++ r) (ys ++ s) ≡ ordering_then o (bytes_cmp r s)
+    → bytes_cmp (item_bytes w d k xs ++ r) (item_bytes w d k ys ++ s) ≡ ordering_then o (bytes_cmp r s)
+same_kind w d k xs ys r s o h e = items_rank w d k k xs ys r s h ∙ ap (λ p. ordering_then p (bytes_cmp (xs ++ r) (ys ++ s))) (nat_cmp_refl k) ∙ e
+
+-- items of two kinds
+other_kind : (w : Width) (d k l : ℕ) (xs ys r s : List ℕ) → d < depths w → k ≢ l
+    → bytes_cmp (item_bytes w d k xs ++ r) (item_bytes w d l ys ++ s) ≡ ordering_then (nat_cmp k l) (bytes_cmp r s)
+other_kind w d k l xs ys r s h e = grind (arith, items_rank, cases_order)
+
+-- what may follow an item at one depth may follow one further down
+IsRest-deeper : (w : Width) (d : ℕ) (r : List ℕ) → IsRest w d r → IsRest w (suc d) r
+IsRest-deeper w d r h = grind arith
+
+-- an item, with anything after it, may follow an item at its depth
+pub IsRest-item : (w : Width) (d k : ℕ) (xs r : List ℕ) → IsRest w d (item_bytes w d k xs ++ r)
+IsRest-item w d k xs r = inr (d, k ∷ xs ++ r, omega arith, append_assoc (to_be_bytes w d) (k ∷ xs) r)
+
+-- a rest is below an item that is deeper
+rest_below : (w : Width) (d k : ℕ) (xs r s : List ℕ) → suc d < depths w → IsRest w d r → bytes_cmp r (item_bytes w (suc d) k xs ++ s) ≡ Less
+rest_below w d k xs r s h e = grind (arith, append_assoc, depth_ranks)
+
+rest_above : (w : Width) (d k : ℕ) (xs r s : List ℕ) → suc d < depths w → IsRest w d s → bytes_cmp (item_bytes w (suc d) k xs ++ r) s ≡ Greater
+rest_above w d k xs r s h e = grind (arith, append_assoc, depth_ranks)
+
+-- a key is an item
+pub key_is_item : (w : Width) (t : Tree) (d : ℕ) → (xs : List ℕ) × (sortable_key w t d ≡ item_bytes w d (rank t) xs)
+key_is_item w Tree.null d = ([], refl)
+key_is_item w (Tree.boolean b) d = ([], refl)
+key_is_item w (Tree.number n) d = (number_bytes n.whole n.scale, refl)
+key_is_item w (Tree.text bytes) d = (text_bytes bytes, refl)
+key_is_item w (Tree.extension x) d = (extension_payload x ++ 0 ∷ [], refl)
+key_is_item w (Tree.array ts) d = (keys_of_trees w ts (suc d), refl)
+key_is_item w (Tree.object ps) d = (keys_of_pairs w ps (suc d), refl)
+
+-- what may follow an element of an array, or a value of an object
+IsRest-trees : (w : Width) (ts : Trees) (d : ℕ) (r : List ℕ) → IsRest w d r → IsRest w (suc d) (keys_of_trees w ts (suc d) ++ r)
+IsRest-trees w Trees.no_trees d r h = IsRest-deeper w d r h
+IsRest-trees w (Trees.tree t ts) d r h =
+    let i = key_is_item w t (suc d) in
+    search (arith, append_assoc, IsRest-item)
+
+IsRest-pairs : (w : Width) (ps : Pairs) (d : ℕ) (r : List ℕ) → IsRest w d r → IsRest w (suc d) (keys_of_pairs w ps (suc d) ++ r)
+IsRest-pairs w ps d r h = grind (arith, IsRest-deeper, append_assoc, IsRest-item)
+
+pub rank_boolean : (b : Bool) → (2 ≤ rank (Tree.boolean b)) × (rank (Tree.boolean b) ≤ 3)
+rank_boolean b = grind arith
+
+mutual
+  pub keys_rank : (w : Width) (t u : Tree) (d : ℕ) (r s : List ℕ) → IsSortable t → IsSortable u → d + deepest t < depths w → d + deepest u < depths w
+      → IsRest w d r → IsRest w d s
+      → bytes_cmp (sortable_key w t d ++ r) (sortable_key w u d ++ s) ≡ ordering_then (tree_cmp t u) (bytes_cmp r s)
+  keys_rank w Tree.null Tree.null d r s ht hu dt du hr hs = items_rank w d 8 8 [] [] r s (omega arith)
+  keys_rank w (Tree.boolean a) (Tree.boolean b) d r s ht hu dt du hr hs = items_rank w d (rank (Tree.boolean a)) (rank (Tree.boolean b)) [] [] r s (omega arith)
+  keys_rank w (Tree.number m) (Tree.number n) d r s ht hu dt du hr hs = same_kind w d 4 (number_bytes m.whole m.scale) (number_bytes n.whole n.scale) r s
+      (tree_cmp (Tree.number m) (Tree.number n)) (omega arith)
+      ((Ranks-number_bytes m.whole n.whole m.scale n.scale (bounded_from_fits m ht.0) (bounded_from_fits n hu.0)).ranks r s)
+  keys_rank w (Tree.text a) (Tree.text b) d r s ht hu dt du hr hs = same_kind w d 5 (text_bytes a) (text_bytes b) r s (bytes_cmp a b) (omega arith)
+      ((Ranks-text_bytes a b).ranks r s)
+  keys_rank w (Tree.extension a) u d r s ht hu dt du hr hs = absurd ht.1
+  keys_rank w t (Tree.extension b) d r s ht hu dt du hr hs = absurd hu.1
+  keys_rank w (Tree.array ts) (Tree.array us) d r s ht hu dt du hr hs = same_kind w d 7 (keys_of_trees w ts (suc d)) (keys_of_trees w us (suc d)) r s
+      (trees_cmp ts us) (omega arith) (trees_rank w ts us d r s ht hu dt du hr hs)
+  keys_rank w (Tree.object ps) (Tree.object qs) d r s ht hu dt du hr hs = same_kind w d 6 (keys_of_pairs w ps (suc d)) (keys_of_pairs w qs (suc d)) r s
+      (pairs_cmp ps qs) (omega arith) (pairs_rank w ps qs d r s (ht.0.1, ht.1) (hu.0.1, hu.1) dt du hr hs)
+  keys_rank w t u d r s ht hu dt du hr hs = other_kind w d (rank t) (rank u) _ _ r s (omega arith) (omega (arith, rank_boolean))
+
+  pub trees_rank : (w : Width) (ts us : Trees) (d : ℕ) (r s : List ℕ) → AreSortable ts → AreSortable us → d + deepest_of_trees ts < depths w
+      → d + deepest_of_trees us < depths w → IsRest w d r → IsRest w d s
+      → bytes_cmp (keys_of_trees w ts (suc d) ++ r) (keys_of_trees w us (suc d) ++ s) ≡ ordering_then (trees_cmp ts us) (bytes_cmp r s)
+  trees_rank w Trees.no_trees Trees.no_trees d r s ht hu dt du hr hs = refl
+  trees_rank w Trees.no_trees (Trees.tree u us) d r s ht hu dt du hr hs =
+      let i = key_is_item w u (suc d) in
+      ap (bytes_cmp r) (append_assoc (sortable_key w u (suc d)) (keys_of_trees w us (suc d)) s ∙ ap (λ x. x ++ (keys_of_trees w us (suc d) ++ s)) i.1)
+      ∙ rest_below w d (rank u) i.0 r (keys_of_trees w us (suc d) ++ s) (omega arith) hr
+  trees_rank w (Trees.tree t ts) Trees.no_trees d r s ht hu dt du hr hs =
+      let i = key_is_item w t (suc d) in
+      ap (λ x. bytes_cmp x s) (append_assoc (sortable_key w t (suc d)) (keys_of_trees w ts (suc d)) r ∙ ap (λ x. x ++ (keys_of_trees w ts (suc d) ++ r)) i.1)
+      ∙ rest_above w d (rank t) i.0 (keys_of_trees w ts (suc d) ++ r) s (omega arith) hs
+  trees_rank w (Trees.tree t ts) (Trees.tree u us) d r s ht hu dt du hr hs =
+      ap₂ bytes_cmp (append_assoc (sortable_key w t (suc d)) (keys_of_trees w ts (suc d)) r)
+      (append_assoc (sortable_key w u (suc d)) (keys_of_trees w us (suc d)) s)
+      ∙ keys_rank w t u (suc d) (keys_of_trees w ts (suc d) ++ r) (keys_of_trees w us (suc d) ++ s) (ht.0.0, ht.1.0) (hu.0.0, hu.1.0)
+      (omega arith) (omega arith) (IsRest-trees w ts d r hr) (IsRest-trees w us d s hs)
+      ∙ ap (ordering_then (tree_cmp t u)) (trees_rank w ts us d r s (ht.0.1, ht.1.1) (hu.0.1, hu.1.1) (omega arith) (omega arith) hr hs)
+      ∙ sym (then_assoc (tree_cmp t u) (trees_cmp ts us) (bytes_cmp r s))
+
+  pub pairs_rank : (w : Width) (ps qs : Pairs) (d : ℕ) (r s : List ℕ) → HasSortableValues ps → HasSortableValues qs → d + deepest_of_pairs ps < depths w
+      → d + deepest_of_pairs qs < depths w → IsRest w d r → IsRest w d s
+      → bytes_cmp (keys_of_pairs w ps (suc d) ++ r) (keys_of_pairs w qs (suc d) ++ s) ≡ ordering_then (pairs_cmp ps qs) (bytes_cmp r s)
+  pairs_rank w Pairs.no_pairs Pairs.no_pairs d r s ht hu dt du hr hs = refl
+  pairs_rank w Pairs.no_pairs (Pairs.pair l u qs) d r s ht hu dt du hr hs =
+      ap (bytes_cmp r) (append_assoc (item_bytes w (suc d) 5 (text_bytes l)) (sortable_key w u (suc d) ++ keys_of_pairs w qs (suc d)) s)
+      ∙ rest_below w d 5 (text_bytes l) r ((sortable_key w u (suc d) ++ keys_of_pairs w qs (suc d)) ++ s) (omega arith) hr
+  pairs_rank w (Pairs.pair k t ps) Pairs.no_pairs d r s ht hu dt du hr hs =
+      ap (λ x. bytes_cmp x s) (append_assoc (item_bytes w (suc d) 5 (text_bytes k)) (sortable_key w t (suc d) ++ keys_of_pairs w ps (suc d)) r)
+      ∙ rest_above w d 5 (text_bytes k) ((sortable_key w t (suc d) ++ keys_of_pairs w ps (suc d)) ++ r) s (omega arith) hs
+  pairs_rank w (Pairs.pair k t ps) (Pairs.pair l u qs) d r s ht hu dt du hr hs =
+      ap₂ bytes_cmp (apart k t ps r) (apart l u qs s)
+      ∙ same_kind w (suc d) 5 (text_bytes k) (text_bytes l) (sortable_key w t (suc d) ++ (keys_of_pairs w ps (suc d) ++ r))
+      (sortable_key w u (suc d) ++ (keys_of_pairs w qs (suc d) ++ s)) (bytes_cmp k l) (omega arith)
+      ((Ranks-text_bytes k l).ranks (sortable_key w t (suc d) ++ (keys_of_pairs w ps (suc d) ++ r))
+      (sortable_key w u (suc d) ++ (keys_of_pairs w qs (suc d) ++ s)))
+      ∙ ap (ordering_then (bytes_cmp k l))
+      (keys_rank w t u (suc d) (keys_of_pairs w ps (suc d) ++ r) (keys_of_pairs w qs (suc d) ++ s) (ht.0.0, ht.1.0) (hu.0.0, hu.1.0) (omega arith) (omega arith)
+      (IsRest-pairs w ps d r hr) (IsRest-pairs w qs d s hs)
+      ∙ ap (ordering_then (tree_cmp t u)) (pairs_rank w ps qs d r s (ht.0.1, ht.1.1) (hu.0.1, hu.1.1) (omega arith) (omega arith) hr hs)
+      ∙ sym (then_assoc (tree_cmp t u) (pairs_cmp ps qs) (bytes_cmp r s)))
+      ∙ sym (then_assoc (bytes_cmp k l) (ordering_then (tree_cmp t u) (pairs_cmp ps qs)) (bytes_cmp r s))
+    where
+      apart : (k : List ℕ) (t : Tree) (ps : Pairs) (r : List ℕ)
+          → keys_of_pairs w (Pairs.pair k t ps) (suc d) ++ r
+          ≡ item_bytes w (suc d) 5 (text_bytes k) ++ (sortable_key w t (suc d) ++ (keys_of_pairs w ps (suc d) ++ r))
+      apart k t ps r = grind (arith, append_assoc)
 
 -- Numbers and extensions lie in the ranges of their types, and counts and lengths within the limits.
 abbrev mutual
@@ -71,10 +267,7 @@ same_front : (xs ys r s : List ℕ) → length xs ≡ length ys → xs ++ r ≡ 
 same_front [] [] r s l e = (refl, e)
 same_front [] (y ∷ ys) r s l e = absurd (omega arith)
 same_front (x ∷ xs) [] r s l e = absurd (omega arith)
-same_front (x ∷ xs) (y ∷ ys) r s l e =
-    let h = heads x y (xs ++ r) (ys ++ s) e in
-    let k = same_front xs ys r s (omega arith) h.1 in
-    (ap₂ (λ a b. a ∷ b) h.0 k.0, k.1)
+same_front (x ∷ xs) (y ∷ ys) r s l e = grind (arith, same_front xs ys r s, heads)
 
 mutual
   pub equal_from_keys : (t u : Tree) (r s : List ℕ) → IsKeyable t → IsKeyable u → equality_key t ++ r ≡ equality_key u ++ s → IsEqual t u × (r ≡ s)
@@ -209,8 +402,7 @@ RanksWith w t u bytes = (bytes_cmp bytes (sortable_key w u 0) ≡ tree_cmp t u) 
 -- the tree of a document has a key, since it was decoded and is thus in range
 pub decoded_key : (w : Width) (form : Form) (bytes : List ℕ) (t : Tree) → AreBytes bytes → Decodes form bytes t → HasNoExtension t → deepest t < depths w
     → HasKey w t 0
-decoded_key w form bytes t all d none deep =
-    ((decoded_fits form bytes t all d).0, none, omega (arith, deep))
+decoded_key w form bytes t all d none deep = ((decoded_fits form bytes t all d).0, none, omega (arith, deep))
 
 -- the key of a document ranks as its tree
 pub decoded_ranks : (w : Width) (form : Form) (bytes made : List ℕ) (t : Tree) → AreBytes bytes → Decodes form bytes t → made ≡ sortable_key w t 0
@@ -226,9 +418,6 @@ composite_key w columns = flat_map (column_key w) columns
 pub some_depth : (w : Width) → 0 < depths w
 some_depth w = one-le-pow (byte_len w) 256 (omega arith)
 
-rank_positive : (t : Tree) → 0 < rank t
-rank_positive t = grind arith
-
 -- a column is an item at depth 0
 column_is_item : (w : Width) (column : Option Tree) → (k : ℕ) × (xs : List ℕ) × (column_key w column ≡ item_bytes w 0 k xs)
 column_is_item w None = (0, [], refl)
@@ -238,20 +427,19 @@ column_is_item w (Some t) = let i = key_is_item w t 0 in (rank t, i.0, i.1)
 follows : (w : Width) (columns : List (Option Tree)) → IsRest w 0 (composite_key w columns)
 follows w [] = inl refl
 follows w (column ∷ columns) =
-    let i = column_is_item w column in
-    subst (IsRest w 0) (ap (λ x. x ++ composite_key w columns) (sym i.2)) (IsRest-item w 0 i.0 i.1 (composite_key w columns))
+    search (arith, column_is_item w column, IsRest-item w 0 (column_is_item w column).0 (column_is_item w column).1 (composite_key w columns))
 
 below_column : (w : Width) (column : Option Tree) (s : List ℕ) → bytes_cmp [] (column_key w column ++ s) ≡ Less
-below_column w column s = grind (arith, column_is_item, bytes_cmp, append_assoc, nothing_below_depth)
+below_column w column s = grind (arith, column_is_item, append_assoc)
 
 above_nothing : (w : Width) (column : Option Tree) (r : List ℕ) → bytes_cmp (column_key w column ++ r) [] ≡ Greater
-above_nothing w column r = grind (arith, column_is_item, bytes_cmp, append_assoc, nothing_above_depth)
+above_nothing w column r = grind (arith, column_is_item, append_assoc)
 
 columns_rank : (w : Width) (t u : Option Tree) (r s : List ℕ) → IfSome t (λ x. HasKey w x 0) → IfSome u (λ x. HasKey w x 0) → IsRest w 0 r → IsRest w 0 s
     → bytes_cmp (column_key w t ++ r) (column_key w u ++ s) ≡ ordering_then (option_cmp tree_cmp t u) (bytes_cmp r s)
 columns_rank w None None r s ht hu hr hs = items_rank w 0 0 0 [] [] r s (some_depth w)
-columns_rank w None (Some u) r s ht hu hr hs = grind (arith, key_is_item, items_rank, some_depth, rank_positive)
-columns_rank w (Some t) None r s ht hu hr hs = grind (arith, key_is_item, items_rank, some_depth, rank_positive)
+columns_rank w None (Some u) r s ht hu hr hs = grind (arith, key_is_item, items_rank, some_depth)
+columns_rank w (Some t) None r s ht hu hr hs = grind (arith, key_is_item, items_rank, some_depth)
 columns_rank w (Some t) (Some u) r s ht hu hr hs = ranked w t u 0 r s ht hu hr hs
 
 pub composite_keys_order : (w : Width) (ts us : List (Option Tree)) → HaveKeys w ts → HaveKeys w us

@@ -53,9 +53,6 @@ other_key key name below = go (bytes_eq key name) refl
 abbrev IsBack : Pairs → Pairs → Type 0
 IsBack ps back = (name : List ℕ) → IsAmong name (keys back) → value_under name ps ≡ value_under name back
 
-first_of_back : (ps rest : Pairs) (key : List ℕ) (t : Tree) → IsBack ps (pair key t rest) → value_under key ps ≡ Some t
-first_of_back ps rest key t back = back key (inl refl) ∙ rw (bytes_eq-same key) refl
-
 behind_first : (ps rest : Pairs) (key : List ℕ) (t : Tree) → IsBelowFirst key (keys rest) → AreKeys (keys rest) → IsBack ps (pair key t rest) → IsBack ps rest
 behind_first ps rest key t below rising back =
     λ name among. back name (inr among) ∙ rw (other_key key name (below_each key name (keys rest) below rising among)) refl
@@ -83,7 +80,8 @@ mutual
   pairs_in_place ignore_array all no_pairs back rising r = tt
   pairs_in_place ignore_array all (pair key t ps) back rising r =
       AllByRecursion-append (IsInPlace (object all)) _ _
-      (at_child ignore_array (object all) t (unquoted_name key) (leaves ignore_array t) (field_met (unquoted_name key) all ∙ first_of_back all ps key t back)
+      (at_child ignore_array (object all) t (unquoted_name key) (leaves ignore_array t) (field_met (unquoted_name key) all ∙
+      (back key (inl refl) ∙ rw (bytes_eq-same key) refl))
       (each_in_place ignore_array t r.0))
       (pairs_in_place ignore_array all ps (behind_first all ps key t rising.1 rising.2 back) rising.2 r.1)
 

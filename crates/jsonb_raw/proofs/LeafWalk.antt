@@ -3,7 +3,7 @@ use Rattle.jsonb_raw.proofs.Common.{◌≡◌, ◌+◌, ◌%◌, ◌<◌, ◌^�
 use Rattle.std.specs.Int.{w32}
 use Rattle.std.specs.List.{Any}
 use Rattle.std.proofs.lemmas.List.{length-append}
-use Rattle.jsonb_raw.proofs.CollectLoops.{Made, none_made, one_made, all_made, one_of_whole}
+use Rattle.jsonb_raw.proofs.AnswerLemmas.{Made, none_made, one_made, all_made, one_of_whole}
 use Rattle.jsonb_raw.proofs.LevelLemmas.{count_of_trees, count_of_pairs}
 use Rattle.std.specs.declared.alloc.Global.{Global}
 
@@ -24,13 +24,10 @@ leaves_of_parts ignore_array n (p ∷ ps) = leaves_at ignore_array (part_step p.
 signed : (n : ℕ) → n < 2 ^ 31 → cast_signed w32 n ≡ pos n
 signed n small = omega (arith, ints)
 
-next_is : (n : ℕ) → n < 2 ^ 31 → next n ≡ suc n
-next_is n small = omega arith
-
 trees_leaves : (ignore_array : Bool) (n : ℕ) (ts : Trees) → n + count ts < 2 ^ 31
     → leaves_of_parts ignore_array n (parts_of_trees ts) ≡ leaves_of_trees ignore_array n ts
 trees_leaves ignore_array n no_trees few = refl
-trees_leaves ignore_array n (tree t ts) few = grind (arith, signed, next_is, trees_leaves ignore_array (suc n) ts (omega arith))
+trees_leaves ignore_array n (tree t ts) few = grind (arith, signed, trees_leaves ignore_array (suc n) ts (omega arith))
 
 pairs_leaves : (ignore_array : Bool) (n : ℕ) (ps : Pairs) → leaves_of_parts ignore_array n (parts_of_pairs ps) ≡ leaves_of_pairs ignore_array ps
 pairs_leaves ignore_array n no_pairs = refl
@@ -42,11 +39,7 @@ parts_leaves ignore_array t h k = grind (arith, trees_leaves, count_of_trees, pa
 
 pub item_leaves : (form : Form) (x : Item) (ignore_array : Bool) (t : Tree) → StandsFor form x t → is_leaf ignore_array t ≡ false
     → leaves ignore_array t ≡ leaves_of_parts ignore_array 0 (parts t)
-item_leaves form x ignore_array t stands entered = parts_leaves ignore_array t
-    (grind (arith, array_document, count_of_trees, object_document, count_of_pairs, stands)) entered
-
-pub keyed_step : (key : Option (Bor (List ℕ))) (k : Option (List ℕ)) (n : ℕ) → IsKeyOf key k → step_at key n ≡ part_step k n
-keyed_step key k n h = grind arith
+item_leaves form x ignore_array t h e = grind (arith, parts_leaves, array_document, count_of_trees, object_document, count_of_pairs)
 
 -- ---- what is left at levels
 
@@ -75,7 +68,7 @@ leaf_left : (ignore_array : Bool) (around : List Step) (n : ℕ) (key : Option (
     → is_leaf ignore_array p.1 ≡ true → IsKeyOf key p.0
     → leaves_left ignore_array around n (p ∷ ps) others
     ≡ (step_keys around ++ step_at key n ∷ [], p.1) ∷ leaves_left ignore_array around (next n) ps others
-leaf_left ignore_array around n key p ps others h e = grind (arith, keyed_step)
+leaf_left ignore_array around n key p ps others h e = grind arith
 
 -- in the place of a part that is not a leaf are those within it
 part_left : (ignore_array : Bool) (around around' : List Step) (e : Step) (p : EntryPrefix) (ps : List EntryPrefix) (others : List (List EntryPrefix))
@@ -92,7 +85,7 @@ part_left ignore_array around around' e p ps others entered keyed within pushed 
     ∙ ap (λ (es : List Step). behind (step_keys (around ++ e ∷ [])) inner ++ leaves_around ignore_array es (ps ∷ others)) (innermost around e)
     ∙ ap (λ (es : List Step). behind (step_keys (around ++ e ∷ [])) inner ++ (behind (step_keys es) left ++ outside)) (reverse-reverse around)
     ∙ ap (λ (ss : List Key). behind ss inner ++ (behind steps left ++ outside))
-    (map-append step_key around (e ∷ []) ∙ ap (λ s. steps ++ s ∷ []) (keyed_step e.key p.0 e.index keyed))
+    (map-append step_key around (e ∷ []) ∙ ap (λ s. steps ++ s ∷ []) (grind arith))
     ∙ ap (λ (ls : List Leaf). ls ++ (behind steps left ++ outside)) (behind-step steps step inner)
     ∙ sym (append_assoc (behind steps (behind (step ∷ []) inner)) (behind steps left) outside)
     ∙ ap (λ (ls : List Leaf). ls ++ outside) (sym (map-append (λ (leaf : Leaf). (steps ++ leaf.0, leaf.1)) (behind (step ∷ []) inner) left))

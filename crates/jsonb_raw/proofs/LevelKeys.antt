@@ -12,11 +12,6 @@ pub record IsToward (limit : ℕ) (out left : List ℕ) (left_deep : ℕ) (old w
   pub shallow : left_deep < limit → deep < limit
   pub deeper : left_deep ≤ deep
 
--- a part that fails fails for the whole
-pub IsToward-refused : (limit : ℕ) (out left : List ℕ) (part_deep both_deep : ℕ) (old whole : List ℕ) (deep : ℕ) (e : Error)
-    → IsToward limit out left both_deep old whole deep → part_deep ≤ both_deep → IsOutOfMemoryOrTooDeep part_deep limit e → IsOutOfMemoryOrTooDeep deep limit e
-IsToward-refused limit out left part_deep both_deep old whole deep e h k f = grind arith
-
 -- ---- the key of a tree by its parts
 
 abbrev pub part_key : Width → EntryPrefix → ℕ → List ℕ
@@ -54,8 +49,7 @@ key_split : (w : Width) (t : Tree) (d : ℕ) → sortable_key w t d ≡ start w 
 key_split w t d = grind (arith, append-nil, trees_keys, append_assoc, pairs_keys)
 
 part_split : (w : Width) (p : EntryPrefix) (d : ℕ) → part_key w p d ≡ part_start w p d ++ keys_of_parts w (parts p.1) (suc d)
-part_split w (None, t) d = key_split w t d
-part_split w (Some k, t) d = cc (key_split w t d, append_assoc (item_bytes w d 5 (text_bytes k)) (start w t d) (keys_of_parts w (parts t) (suc d)))
+part_split w p d = grind (arith, key_split, append_assoc)
 
 -- a part's key is written, if it has one, and then its start
 pub part_written : (w : Width) (p : EntryPrefix) (d : ℕ) (out named out' : List ℕ) → named ≡ out ++ name_start w p.0 d → out' ≡ named ++ start w p.1 d
@@ -91,7 +85,7 @@ part_begun w p ps ls out out' old whole deep h e = grind (arith, parts_deep, app
 pub part_refused : (w : Width) (p : EntryPrefix) (ps : List EntryPrefix) (ls : List (List EntryPrefix)) (out old whole : List ℕ) (deep : ℕ) (e : Error)
     → IsWithin w out ((p ∷ ps) ∷ ls) old whole deep
     → IsOutOfMemoryOrTooDeep (length ls + 1) (depths w) e → IsOutOfMemoryOrTooDeep deep (depths w) e
-part_refused w p ps ls out old whole deep e h r = grind (arith, IsToward-refused)
+part_refused w p ps ls out old whole deep e h r = grind arith
 
 -- nothing is left at the innermost level
 pub level_done : (w : Width) (ls : List (List EntryPrefix)) (out old whole : List ℕ) (deep : ℕ) → IsWithin w out ([] ∷ ls) old whole deep

@@ -1,6 +1,8 @@
--- Names that are looked up among the strings of an array.
-use Rattle.jsonb_raw.proofs.Common.{◌≡◌, ◌==◌, ◌||◌, ◌&&◌, ◌<◌, ◌≤◌, ◌+◌, ℕ, zero, suc, Bool, true, false, List, [], ◌∷◌, map, take, drop, length, get_or, Option, Some, None, Result, Ok, Err, refl, sym, ap, ap₂, ◌∙◌, subst, true≢false, arith, Bor, bytes_eq, beq, list_any, All, All-head, All-tail, bytes_eq-true, Error, EntryIter, StoredEntry, kind_number, Tree, boolean, text, array, Trees, no_trees, tree, elements, Form, HasEntriesLeft, Stores, GivesEntry, is_text, has_by, texts_of, is_one_of, decided_by, HasTextsLeft, TakesText, IsPlaced, NameTable, shuffled}
+-- Names that are looked up among strings, and what calls decided of strings that are joined.
+use Rattle.jsonb_raw.proofs.Common.{◌≡◌, ◌==◌, ◌||◌, ◌&&◌, ◌<◌, ◌≤◌, ◌+◌, ℕ, Bool, true, false, List, [], ◌∷◌, map, take, drop, length, get_or, Option, Some, None, Result, Ok, Err, refl, sym, ap, ap₂, true≢false, arith, Bor, bytes_eq, beq, list_any, All, All-head, All-tail, bytes_eq-true, Error, EntryIter, StoredEntry, kind_number, Tree, text, array, Trees, no_trees, tree, elements, Form, HasEntriesLeft, Stores, GivesEntry, is_text, has_by, texts_of, is_one_of, decided_by, HasTextsLeft, TakesText, IsPlaced, NameTable, shuffled, ◌++◌, length-append, Any, text_content, FnReturnsAt, get_or_append_left, get_or-append-add, All-append, All-cons, Tells, texts, LargeTells, LeavesTexts, StandsFor, Item, add-one, drop-cons, drop_of_length-le, get_or-take, subst}
 use Rattle.jsonb_raw.proofs.EntriesLeft.{SomeEntries, SomeEntries-first, SomeEntries-error, SomeEntries-none}
+use Rattle.std.proofs.Common.{eqb-true, length-take}
+use Rattle.std.specs.Fn.{Shared}
 
 -- ---- the strings among entries
 
@@ -10,10 +12,7 @@ module _ (form : Form) (e : StoredEntry) where
 
   one_text : (it : EntryIter) (t : Tree) (ts : Trees) → Stores form e t → (kind_number e.kind == 1) ≡ true → HasEntriesLeft form it ts
       → TakesText form (texts_of (tree t ts)) (Some e.content) it
-  one_text it (text s) ts h k left = (h.content.1, record { trees = ts; left = left; texts = refl })
-  one_text it (boolean true) ts h k left = absurd (true≢false (sym (rw h.content.0 at k)))
-  one_text it (boolean false) ts h k left = absurd (true≢false (sym (rw h.content.0 at k)))
-  one_text it _ ts h k left = absurd (true≢false (sym (rw h.content.0 at k)))
+  one_text it t ts h e k = grind arith
 
 module _ (form : Form) (it it' : EntryIter) (ss : List (List ℕ)) (h : HasTextsLeft form it ss) where
   these : SomeEntries form it (λ ts. texts_of ts ≡ ss)
@@ -22,20 +21,15 @@ module _ (form : Form) (it it' : EntryIter) (ss : List (List ℕ)) (h : HasTexts
   module _ (r : Result StoredEntry Error) (x : StoredEntry) (e : r ≡ Ok x) (n : GivesEntry it (Some r) it') where
     -- an entry that is not a string is passed
     pub text_passed : (kind_number x.kind == 1) ≡ false → HasTextsLeft form it' ss
-    text_passed k =
-        SomeEntries-first form it it' r x (λ ts. texts_of ts ≡ ss) e n these
-        (λ first rest left stored fact. record { trees = rest; left = left; texts = sym (no_text form x first rest stored k) ∙ fact })
+    text_passed h = grind (arith, SomeEntries-first, these, no_text)
 
     -- a string is the first of those that are left
     pub text_taken : (kind_number x.kind == 1) ≡ true → TakesText form ss (Some x.content) it'
-    text_taken k =
-        SomeEntries-first form it it' r x (λ ts. texts_of ts ≡ ss) e n these
-        (λ first rest left stored fact. subst (λ us. TakesText form us (Some x.content) it') fact (one_text form x it' first rest stored k left))
+    text_taken h = grind (arith, SomeEntries-first, these, one_text)
 
     -- the entry stores a tree
     pub some_stored : {G : Type 0} → ((t : Tree) → Stores form x t → G) → G
-    some_stored go =
-        SomeEntries-first form it it' r x (λ ts. texts_of ts ≡ ss) e n these (λ first rest left stored fact. go first stored)
+    some_stored h = grind (arith, SomeEntries-first, these)
 
   pub no_text_error : {G : Type 0} → (r : Result StoredEntry Error) (e : Error) → r ≡ Err e → GivesEntry it (Some r) it' → G
   no_text_error r e is n = SomeEntries-error form it it' r e (λ ts. texts_of ts ≡ ss) is n these
@@ -97,8 +91,6 @@ module _ (ss : List (List ℕ)) (name : List ℕ) (names : List (List ℕ)) (all
       → decided_by found ss names ≡ all
   name_leaves found has h k e = grind arith
 
--- ---- the strings of an array
-
 pub text_among : (name : List ℕ) (ts : Trees) → list_any (is_text name) (elements ts) ≡ is_one_of (texts_of ts) name
 text_among name no_trees = refl
 text_among name (tree (text s) ts) = ap (λ b. bytes_eq s name || b) (text_among name ts)
@@ -106,38 +98,13 @@ text_among name (tree _ ts) = text_among name ts
 
 -- ---- the next name of a block
 
-module _ (d : Bor (List ℕ)) where
-  next_name : (xs : List (Bor (List ℕ))) (i : ℕ) → i < length xs
-      → map (λ (name : Bor (List ℕ)). name.now) (drop i xs) ≡ (get_or xs i d).now ∷ map (λ (name : Bor (List ℕ)). name.now) (drop (suc i) xs)
-  next_name [] i within = absurd (omega arith)
-  next_name (y ∷ xs) zero within = refl
-  next_name (y ∷ xs) (suc i) within = next_name xs i (omega arith)
-
-  first_taken : (xs : List (Bor (List ℕ))) (n i : ℕ) → i < n → get_or (take n xs) i d ≡ get_or xs i d
-  first_taken xs zero i few = absurd (omega arith)
-  first_taken [] (suc n) i few = refl
-  first_taken (x ∷ xs) (suc n) zero few = refl
-  first_taken (x ∷ xs) (suc n) (suc i) few = first_taken xs n i (omega arith)
-
-  within_taken : (xs : List (Bor (List ℕ))) (n i : ℕ) → i < n → n ≤ length xs → i < length (take n xs)
-  within_taken xs zero i few room = absurd (omega arith)
-  within_taken [] (suc n) i few room = absurd (omega arith)
-  within_taken (x ∷ xs) (suc n) zero few room = omega arith
-  within_taken (x ∷ xs) (suc n) (suc i) few room = grind (arith, within_taken xs n i (omega arith) (omega arith))
-
-  pub next_taken : (xs : List (Bor (List ℕ))) (n i : ℕ) → i < n → n ≤ length xs
-      → map (λ (name : Bor (List ℕ)). name.now) (drop i (take n xs))
-      ≡ (get_or xs i d).now ∷ map (λ (name : Bor (List ℕ)). name.now) (drop (i + 1) (take n xs))
-  next_taken xs n i few room =
-      let more : i + 1 ≡ suc i = omega arith in
-      rw more (rw (first_taken xs n i few) at (next_name (take n xs) i (within_taken xs n i few room)))
+pub next_taken : (d : Bor (List ℕ)) (xs : List (Bor (List ℕ))) (n i : ℕ) → i < n → n ≤ length xs
+    → map (λ (name : Bor (List ℕ)). name.now) (drop i (take n xs))
+    ≡ (get_or xs i d).now ∷ map (λ (name : Bor (List ℕ)). name.now) (drop (i + 1) (take n xs))
+next_taken d xs n i few room = rw (add-one, drop-cons (take n xs) i d (omega (arith, length-take n xs)), get_or-take n xs i d few)
 
 pub none_taken : (xs : List (Bor (List ℕ))) (n i : ℕ) → n ≤ i → drop i (take n xs) ≡ []
-none_taken xs zero zero few = refl
-none_taken xs zero (suc i) few = refl
-none_taken xs (suc n) zero few = absurd (omega arith)
-none_taken [] (suc n) (suc i) few = refl
-none_taken (x ∷ xs) (suc n) (suc i) few = none_taken xs n i (omega arith)
+none_taken xs n i few = drop_of_length-le (take n xs) (omega (arith, length-take n xs))
 
 -- ---- some names, and others
 
@@ -147,3 +114,74 @@ array_decided true [] ts = refl
 array_decided true (n ∷ names) ts = ap₂ (λ a b. a || b) (sym (text_among n ts)) (array_decided true names ts)
 array_decided false [] ts = refl
 array_decided false (n ∷ names) ts = ap₂ (λ a b. a && b) (sym (text_among n ts)) (array_decided false names ts)
+
+module _ {X : Type 0} (P : X → Type 0) where
+  any_in_first : (xs ys : List X) → Any P xs → Any P (xs ++ ys)
+  any_in_first xs ys h = grind (arith, length-append, get_or_append_left)
+
+  any_in_second : (xs ys : List X) → Any P ys → Any P (xs ++ ys)
+  any_in_second xs ys h = search (arith, h, (h).1, length-append xs ys, get_or-append-add xs ys (h).0 (h).1, (h).3, (h).4)
+
+  any_head : (x : X) (xs : List X) → P x → Any P (x ∷ xs)
+  any_head x xs p = (0, x, omega arith, refl, p)
+
+-- The strings that are left, and those that were not asked about, decide what all determine.
+pub record Leaves {F : Type 0} (calls : Shared F (Bor (List ℕ) × Unit {0}) Bool) (func : F) (form : Form) (all left : List (List ℕ))
+    (large : Option Item) : Type 0 where
+  pub found : Tells calls func left true → Tells calls func all true
+  pub rest : Tells calls func left false → LargeTells calls func form all large
+
+module _ {F : Type 0} (calls : Shared F (Bor (List ℕ) × Unit {0}) Bool) (func : F) where
+  abbrev Answered : Bool → List ℕ → Type 0
+  Answered answer s = FnReturnsAt calls func s answer
+
+  pub told_none : Tells calls func [] false
+  told_none k d below = absurd (omega (arith, below))
+
+  pub told_alone : (x : List ℕ) (answer : Bool) → FnReturnsAt calls func x answer → Tells calls func (x ∷ []) answer
+  told_alone x answer h = grind (arith, any_head, All-cons, told_none)
+
+  pub told_first : (xs ys : List (List ℕ)) → Tells calls func xs true → Tells calls func (xs ++ ys) true
+  told_first xs ys h = any_in_first (Answered true) xs ys h
+
+  -- each call on the first of them returned false, so the others decide
+  pub told_then : (xs ys : List (List ℕ)) → Tells calls func xs false → (answer : Bool) → Tells calls func ys answer → Tells calls func (xs ++ ys) answer
+  told_then xs ys h true k = any_in_second (Answered true) xs ys k
+  told_then xs ys h false k = All-append (Answered false) xs ys h k
+
+  pub told_second : (xs ys : List (List ℕ)) → Tells calls func ys true → Tells calls func (xs ++ ys) true
+  told_second xs ys h = any_in_second (Answered true) xs ys h
+
+  pub told_head : (x : List ℕ) (xs : List (List ℕ)) → FnReturnsAt calls func x true → Tells calls func (x ∷ xs) true
+  told_head x xs h = any_head (Answered true) x xs h
+
+  pub told_after : (x : List ℕ) (xs : List (List ℕ)) → FnReturnsAt calls func x false → (answer : Bool) → Tells calls func xs answer
+      → Tells calls func (x ∷ xs) answer
+  told_after x xs h true k = any_in_second (Answered true) (x ∷ []) xs k
+  told_after x xs h false k = All-cons (Answered false) x xs h k
+
+  module _ (form : Form) (all : List (List ℕ)) where
+    pub leaves_all : Leaves calls func form all all None
+    leaves_all = record { found = λ h. h; rest = λ h. h }
+
+    -- each call on the first of them returned false
+    pub leaves_after : (large : Option Item) (xs ys : List (List ℕ)) → Tells calls func xs false → Leaves calls func form all (xs ++ ys) large
+        → Leaves calls func form all ys large
+    leaves_after large xs ys none l = record { found = λ h. l.found (told_then xs ys none true h); rest = λ h. l.rest (told_then xs ys none false h) }
+
+    -- the first of them are put off
+    pub leaves_aside : (item : Item) (t : Tree) (ys : List (List ℕ)) → StandsFor form item t → Leaves calls func form all (texts t ++ ys) None
+        → Leaves calls func form all ys (Some item)
+    leaves_aside item t ys stands l = record { found = λ h. l.found (told_second (texts t) ys h); rest = λ h. (t, stands, decides h) }
+      where
+        decides : Tells calls func ys false → (b : Bool) → Tells calls func (texts t) b → Tells calls func all b
+        decides h true k = l.found (told_first (texts t) ys k)
+        decides h false k = l.rest (told_then (texts t) ys k false h)
+
+    pub leaves_told : (ss : List (List ℕ)) (answer : Bool) → Tells calls func ss answer → LeavesTexts calls func form ss answer None
+    leaves_told ss answer h = grind arith
+
+module _ (form : Form) (e : StoredEntry) where
+  -- an entry of that kind is the text of its bytes
+  pub text_stored : (t : Tree) → Stores form e t → (kind_number e.kind == 1) ≡ true → texts t ≡ e.content.now ∷ []
+  text_stored t h e = grind (arith, eqb-true, text_content)

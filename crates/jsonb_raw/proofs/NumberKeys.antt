@@ -1,7 +1,60 @@
--- Digits with an exponent rank as the exact values do, and so do the bytes of numbers, for both signs.
-use Rattle.jsonb_raw.proofs.Common.{◌≡◌, ◌≢◌, ◌⊎◌, ℕ, zero, suc, ◌+◌, ◌-◌, ◌*◌, ◌^◌, ◌%◌, ◌<◌, ◌≤◌, ◌==◌, true, false, List, [], ◌∷◌, ◌++◌, map, length, inl, inr, refl, sym, ap, ap₂, subst, ◌∙◌, arith, nat_cmp, Equal, ⊎_elim, pow-suc, mul_comm, mul-lt-mul_of_pos_right, mul-pos, mul-le-mul_right, zero-add, true≢false, le_trans, le_of_eq, lt_of_lt_of_le, mul_assoc, mul_right_comm, add_comm, lit<, w16, ℤ, pos, negsuc, ◌*ℤ◌, nat_abs, Bool, cond, Ordering, Less, Greater, append-nil, pow-add, one-le-pow, pow-le-pow_right, ordering_then, ordering_reverse, list_all, AllByRecursion, to_be_bytes, digits_of, number_from_digits, number_from_digits_after, AllBelowBase, cases_order, cases_lt, cases_Bool, eqb-true, eqb-false, and_parts, and_cases, nat_tests, number_lt, number_digits_of, all_below_base_digits_of, length-digits_of-le, nat_cmp-lt, nat_cmp-gt, nat_cmp_refl, nat_cmp_places, nat_cmp_scaled, then_Equal, significant, magnitude_bytes, number_bytes, int_cmp-pos, int_cmp-negative, int_cmp-below, int_cmp-above, Number, FitsNumber, bytes_cmp, scaled_pos}
+-- Byte lists that rank in some way whatever follows them, and the bytes of numbers, which rank as these do.
+use Rattle.jsonb_raw.proofs.Common.{◌≡◌, ◌≢◌, ◌⊎◌, ℕ, zero, suc, ◌+◌, ◌-◌, ◌*◌, ◌^◌, ◌%◌, ◌<◌, ◌≤◌, ◌==◌, true, false, List, [], ◌∷◌, ◌++◌, map, length, inl, inr, refl, sym, ap, ap₂, subst, ◌∙◌, arith, nat_cmp, Equal, ⊎_elim, pow-suc, mul_comm, mul-lt-mul_of_pos_right, mul-pos, mul-le-mul_right, zero-add, true≢false, le_trans, le_of_eq, lt_of_lt_of_le, mul_assoc, mul_right_comm, add_comm, lit<, w16, ℤ, pos, negsuc, ◌*ℤ◌, nat_abs, Bool, cond, Ordering, Less, Greater, append-nil, pow-add, one-le-pow, pow-le-pow_right, ordering_then, ordering_reverse, list_all, AllByRecursion, to_be_bytes, digits_of, number_from_digits, number_from_digits_after, AllBelowBase, cases_order, cases_lt, cases_Bool, eqb-true, eqb-false, and_parts, and_cases, nat_tests, number_lt, number_digits_of, all_below_base_digits_of, length-digits_of-le, nat_cmp-lt, nat_cmp-gt, nat_cmp_refl, nat_cmp_places, nat_cmp_scaled, then_Equal, significant, magnitude_bytes, number_bytes, int_cmp-pos, int_cmp-negative, int_cmp-below, int_cmp-above, Number, FitsNumber, bytes_cmp, scaled_pos, append_assoc, bytes_high_first, byte_at, then_assoc, mod_places, mod_below, escaped_byte, text_bytes}
 use Rattle.std.proofs.Common.{int_cmp}
-use Rattle.jsonb_raw.proofs.Ranking.{Ranks, Ranks-nil, Ranks-head, Ranks-append, Ranks-lower, Ranks-higher, Ranks-same_head, Ranks-bytes_high_first}
+
+-- the two lists rank so, whatever follows each of them
+pub record Ranks (xs ys : List ℕ) (o : Ordering) : Type 0 where
+  pub ranks : (r s : List ℕ) → bytes_cmp (xs ++ r) (ys ++ s) ≡ ordering_then o (bytes_cmp r s)
+
+pub Ranks-nil : Ranks [] [] Equal
+Ranks-nil = record { ranks = λ r s. refl }
+
+pub Ranks-head : (x y : ℕ) (xs ys : List ℕ) (o : Ordering) → Ranks xs ys o → Ranks (x ∷ xs) (y ∷ ys) (ordering_then (nat_cmp x y) o)
+Ranks-head x y xs ys o h = record { ranks = λ r s. ap (ordering_then (nat_cmp x y)) (h.ranks r s) ∙ sym (then_assoc (nat_cmp x y) o (bytes_cmp r s)) }
+
+pub Ranks-append : (xs ys zs ws : List ℕ) (o p : Ordering) → Ranks xs ys o → Ranks zs ws p → Ranks (xs ++ zs) (ys ++ ws) (ordering_then o p)
+Ranks-append xs ys zs ws o p h k = search (append_assoc, then_assoc, h.ranks, k.ranks)
+
+-- a list that begins lower or higher, whatever follows
+pub Ranks-lower : (x y : ℕ) (xs ys : List ℕ) → x < y → Ranks (x ∷ xs) (y ∷ ys) Less
+Ranks-lower x y xs ys h = record { ranks = λ r s. rw (nat_cmp-lt x y h) refl }
+
+pub Ranks-higher : (x y : ℕ) (xs ys : List ℕ) → y < x → Ranks (x ∷ xs) (y ∷ ys) Greater
+Ranks-higher x y xs ys h = record { ranks = λ r s. rw (nat_cmp-gt x y h) refl }
+
+pub Ranks-same_head : (x : ℕ) (xs ys : List ℕ) (o : Ordering) → Ranks xs ys o → Ranks (x ∷ xs) (x ∷ ys) o
+Ranks-same_head x xs ys o h = subst (λ p. Ranks (x ∷ xs) (x ∷ ys) (ordering_then p o)) (nat_cmp_refl x) (Ranks-head x x xs ys o h)
+
+-- ---- numbers in bytes, the highest first
+
+byte_place : (k m : ℕ) → byte_at k m * 256 ^ k + m % 256 ^ k ≡ m % 256 ^ suc k
+byte_place k m = grind (arith, pow-suc, mod_places, one-le-pow, mul_comm)
+
+pub Ranks-bytes_high_first : (k m n : ℕ) → Ranks (bytes_high_first k m) (bytes_high_first k n) (nat_cmp (m % 256 ^ k) (n % 256 ^ k))
+Ranks-bytes_high_first zero m n = subst (Ranks [] []) (sym (ap₂ nat_cmp (mod-one m) (mod-one n))) Ranks-nil
+  where
+    mod-one : (m : ℕ) → m % 1 ≡ 0
+    mod-one m = omega arith
+Ranks-bytes_high_first (suc k) m n =
+    subst (Ranks (byte_at k m ∷ bytes_high_first k m) (byte_at k n ∷ bytes_high_first k n))
+    (sym (nat_cmp_places (256 ^ k) (byte_at k m) (byte_at k n) (m % 256 ^ k) (n % 256 ^ k) (mod_below m (256 ^ k) (one-le-pow k 256 (omega arith)))
+    (mod_below n (256 ^ k) (one-le-pow k 256 (omega arith)))) ∙ ap₂ nat_cmp (byte_place k m) (byte_place k n))
+    (Ranks-head (byte_at k m) (byte_at k n) (bytes_high_first k m) (bytes_high_first k n) (nat_cmp (m % 256 ^ k) (n % 256 ^ k)) (Ranks-bytes_high_first k m n))
+
+-- ---- strings
+
+pub Ranks-text_bytes : (xs ys : List ℕ) → Ranks (text_bytes xs) (text_bytes ys) (bytes_cmp xs ys)
+Ranks-text_bytes [] [] = Ranks-same_head 0 [] [] Equal Ranks-nil
+Ranks-text_bytes [] (y ∷ ys) = first_below y (text_bytes ys)
+  where
+    first_below : (b : ℕ) (rest : List ℕ) → Ranks (0 ∷ []) (escaped_byte b ++ rest) Less
+    first_below b rest = grind (arith, Ranks-lower)
+Ranks-text_bytes (x ∷ xs) [] = first_above x (text_bytes xs)
+  where
+    first_above : (b : ℕ) (rest : List ℕ) → Ranks (escaped_byte b ++ rest) (0 ∷ []) Greater
+    first_above b rest = grind (arith, Ranks-higher)
+Ranks-text_bytes (x ∷ xs) (y ∷ ys) = Ranks-append (escaped_byte x) (escaped_byte y) (text_bytes xs) (text_bytes ys) (nat_cmp x y) (bytes_cmp xs ys)
+    (grind (arith, nat_cmp-lt, Ranks-lower, nat_cmp-gt, Ranks-higher)) (Ranks-text_bytes xs ys)
 
 -- the number that decimal digits write
 abbrev pub value : List ℕ → ℕ
@@ -67,10 +120,6 @@ second_ends xs ys zs z a b ex ey ha eb = rw (ex, ey, eb, nat_cmp-gt a 0 ha) (Ran
 no_product : (v p : ℕ) → v ≡ 0 → v * p ≡ 0
 no_product v p e = rw e (omega arith)
 
--- a scaled number is above 0
-digits_pos : (v k : ℕ) → 0 < v → 0 < v * 10 ^ k
-digits_pos v k h = mul-pos h (one-le-pow k 10 (omega arith))
-
 -- the first digits decide, and otherwise the other digits, here with the fractions' common scale
 first_digits : (x y v w p q : ℕ) → v < p → w < q
     → nat_cmp ((x * p + v) * (q * 10)) ((y * q + w) * (p * 10)) ≡ ordering_then (nat_cmp (suc x) (suc y)) (nat_cmp (v * q) (w * p))
@@ -91,13 +140,13 @@ Ranks-marked [] (y ∷ ys) hx hy = elim (view y ys) [
   | inl h ↦ both_end (marked []) (marked (y ∷ ys)) (value [] * 10 ^ suc (length ys)) (value (y ∷ ys) * 1) refl h.1 (no_product 0 (10 ^ suc (length ys)) refl)
       (no_product (value (y ∷ ys)) 1 h.0)
   | inr h ↦ first_ends (marked []) (marked (y ∷ ys)) (marked ys) y (value [] * 10 ^ suc (length ys)) (value (y ∷ ys) * 1) refl h.1
-      (no_product 0 (10 ^ suc (length ys)) refl) (digits_pos (value (y ∷ ys)) 0 h.0)
+      (no_product 0 (10 ^ suc (length ys)) refl) (mul-pos h.0 (one-le-pow 0 10 (omega arith)))
 ]
 Ranks-marked (x ∷ xs) [] hx hy = elim (view x xs) [
   | inl h ↦ both_end (marked (x ∷ xs)) (marked []) (value (x ∷ xs) * 1) (value [] * 10 ^ suc (length xs)) h.1 refl (no_product (value (x ∷ xs)) 1 h.0)
       (no_product 0 (10 ^ suc (length xs)) refl)
   | inr h ↦ second_ends (marked (x ∷ xs)) (marked []) (marked xs) x (value (x ∷ xs) * 1) (value [] * 10 ^ suc (length xs)) h.1 refl
-      (digits_pos (value (x ∷ xs)) 0 h.0) (no_product 0 (10 ^ suc (length xs)) refl)
+      (mul-pos h.0 (one-le-pow 0 10 (omega arith))) (no_product 0 (10 ^ suc (length xs)) refl)
 ]
 Ranks-marked (x ∷ xs) (y ∷ ys) hx hy = by_views (view x xs) (view y ys) (Ranks-marked xs ys hx.1 hy.1)
   where
@@ -108,9 +157,9 @@ Ranks-marked (x ∷ xs) (y ∷ ys) hx hy = by_views (view x xs) (view y ys) (Ran
         (no_product (value (y ∷ ys)) (10 ^ suc (length xs)) k.0)
     by_views (inl h) (inr k) more = first_ends (marked (x ∷ xs)) (marked (y ∷ ys)) (marked ys) y (value (x ∷ xs) * 10 ^ suc (length ys))
         (value (y ∷ ys) * 10 ^ suc (length xs)) h.1 k.1 (no_product (value (x ∷ xs)) (10 ^ suc (length ys)) h.0)
-        (digits_pos (value (y ∷ ys)) (suc (length xs)) k.0)
+        (mul-pos k.0 (one-le-pow (suc (length xs)) 10 (omega arith)))
     by_views (inr h) (inl k) more = second_ends (marked (x ∷ xs)) (marked (y ∷ ys)) (marked xs) x (value (x ∷ xs) * 10 ^ suc (length ys))
-        (value (y ∷ ys) * 10 ^ suc (length xs)) h.1 k.1 (digits_pos (value (x ∷ xs)) (suc (length ys)) h.0)
+        (value (y ∷ ys) * 10 ^ suc (length xs)) h.1 k.1 (mul-pos h.0 (one-le-pow (suc (length ys)) 10 (omega arith)))
         (no_product (value (y ∷ ys)) (10 ^ suc (length xs)) k.0)
     by_views (inr h) (inr k) more =
         rw (

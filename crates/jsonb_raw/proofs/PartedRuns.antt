@@ -1,9 +1,105 @@
--- Names among the keys of an object, and the runs of its members that have one or have none.
-use Rattle.jsonb_raw.proofs.Common.{◌≡◌, ℕ, true, false, List, [], ◌∷◌, Option, Some, None, Ordering, refl, sym, ◌∙◌, nat_cmp, option_copied, Bor, is_eq, ◌+◌, Bool, ◌++◌, length, take, drop, map, ap, arith, append_assoc, length-append, IsUtf8, slice_cmp, nat_list_cmp_total, AllByRecursion, IsStrictlySortedBy, deref, IsBelowFirst, AreKeys, TextSet, is_in, with_pairs, first_and_others, is_among, IsNotBelow, DecideFrom, DecideForKeys, PartsFirst, all_or_none, keys_of, values_of, beq, Tree, text, object, Pairs, members, Form, Entries, StoredEntry, PairEntries, PairRuns, parted, HoldTrees, HoldPairs, ArePairsOf, TakesFirst, PairsHeld}
+-- Steps along pairs whose keys are sorted, and runs of those that have a name or have none.
+use Rattle.jsonb_raw.proofs.Common.{◌≡◌, ℕ, true, false, List, [], ◌∷◌, Option, Some, None, Ordering, refl, sym, ◌∙◌, option_copied, Bor, ◌+◌, Bool, ◌++◌, length, take, drop, map, ap, arith, append_assoc, length-append, IsUtf8, slice_cmp, nat_list_cmp_total, AllByRecursion, IsStrictlySortedBy, deref, IsBelowFirst, AreKeys, TextSet, is_in, with_pairs, first_and_others, is_among, IsNotBelow, DecideFrom, DecideForKeys, PartsFirst, all_or_none, keys_of, values_of, beq, Tree, text, object, Pairs, members, Form, Entries, StoredEntry, PairEntries, PairRuns, parted, HoldTrees, HoldPairs, ArePairsOf, TakesFirst, PairsHeld, Result, Ok, Err, subst, not, bytes_eq, ordering_reverse, is_eq-slice_cmp, no_pairs, pair, keys, value_under, AreRising, keys_rise, pairs_above, below_next, list_any, Error, EntryIter, HasEntriesLeft, GivesEntry, TakesEntry, key_trees, IsCursorOf, IsPassed, has_by, KeyCursor, has_text}
 use Rattle.std.specs.Map.Iter.{TakesFirst as TakesName}
 use Rattle.std.specs.declared.cmp.Ordering.TheVariants.{Less, Equal, Greater}
-use Rattle.jsonb_raw.proofs.PairStepLemmas.{turned}
-use Rattle.jsonb_raw.proofs.RunLemmas.{no_pairs_held}
+use Rattle.jsonb_raw.proofs.RunLemmas.{Member}
+use Rattle.std.specs.Ordering.{nat_cmp, is_eq}
+
+pub test_of_order : (k key : List ℕ) (o : Ordering) → slice_cmp nat_cmp k key ≡ o → bytes_eq k key ≡ is_eq o
+test_of_order k key o e = sym (is_eq-slice_cmp k key) ∙ ap is_eq e
+
+pub turned : (k key : List ℕ) (o : Ordering) → slice_cmp nat_cmp k key ≡ o → slice_cmp nat_cmp key k ≡ ordering_reverse o
+turned k key o e = nat_list_cmp_total.antisymm key k ∙ ap ordering_reverse e
+
+pub same_below : (k key : List ℕ) (ks : List (List ℕ)) → slice_cmp nat_cmp k key ≡ Equal → IsBelowFirst k ks → IsBelowFirst key ks
+same_below k key ks h e = grind (arith, nat_list_cmp_total)
+
+-- a key below all of them is none of them
+pub no_value : (key : List ℕ) (ps : Pairs) → IsBelowFirst key (keys ps) → AreRising (keys ps) → value_under key ps ≡ None
+no_value key no_pairs below rising = refl
+no_value key (pair k t ps) below rising = grind (arith, test_of_order, turned, below_next, no_value key ps (below_next key k (keys ps) below rising.0) rising.1)
+
+pub all_above : (key : List ℕ) (ps : Pairs) → IsBelowFirst key (keys ps) → AreRising (keys ps) → pairs_above key ps ≡ ps
+all_above key no_pairs below rising = refl
+all_above key (pair k t ps) below rising = grind (arith, turned, below_next, all_above key ps (below_next key k (keys ps) below rising.0) rising.1)
+
+module _ (key k : List ℕ) (t : Tree) (ps : Pairs) where
+  pub value_after_less : slice_cmp nat_cmp k key ≡ Less → value_under key (pair k t ps) ≡ value_under key ps
+  value_after_less e = rw (test_of_order k key Less e) refl
+
+  pub value_at_equal : slice_cmp nat_cmp k key ≡ Equal → value_under key (pair k t ps) ≡ Some t
+  value_at_equal e = rw (test_of_order k key Equal e) refl
+
+-- ---- how a cursor goes on along keys
+
+-- a key below all of them is none of them
+none_below : (key : List ℕ) (ks : List (List ℕ)) → IsBelowFirst key ks → AreRising ks → list_any (λ k. bytes_eq k key) ks ≡ false
+none_below key [] below rising = refl
+none_below key (k ∷ ks) below rising = grind (arith, test_of_order, turned, below_next, none_below key ks (below_next key k ks below rising.0) rising.1)
+
+module _ (form : Form) (ks : List (List ℕ)) (c : KeyCursor) (ahead' : EntryIter) (h : IsCursorOf form c ks) where
+  module _ (r : Result StoredEntry Error) (x : StoredEntry) (e : r ≡ Ok x) (n : GivesEntry c.left (Some r) ahead') where
+    -- the key that was given is the first of those after the cursor
+    pub record FirstKey : Type 0 where
+      pub others : List (List ℕ)
+      pub whole : h.behind ≡ x.content.now ∷ others
+      pub left : HasEntriesLeft form ahead' (key_trees others)
+
+    pub first_key : FirstKey
+    first_key = go h.behind refl
+        (subst (λ (y : Result StoredEntry Error). TakesEntry form (key_trees h.behind) (Some y) ahead') e (n.takes form (key_trees h.behind) h.left))
+      where
+        go : (behind : List (List ℕ)) → h.behind ≡ behind → TakesEntry form (key_trees behind) (Some (Ok x)) ahead' → FirstKey
+        go [] is t = absurd t
+        go (k ∷ rest) is t = record { others = rest; whole = is ∙ ap (λ (l : List ℕ). l ∷ rest) (sym t.0.content.1); left = t.1 }
+
+    pub cursor_next : IsCursorOf form (record { all = c.all; left = ahead'; last_key = Some x.content }) ks
+    cursor_next = grind (arith, first_key, test_of_order, nat_list_cmp_total)
+
+    -- the key is the name
+    pub cursor_meets : (name : List ℕ) → IsPassed c.last_key name → slice_cmp nat_cmp x.content.now name ≡ Equal → true ≡ list_any (λ key. bytes_eq key name) ks
+    cursor_meets name passed same =
+        let f = first_key in
+        rw (f.whole, test_of_order x.content.now name Equal same) at (h.decides name passed)
+
+    -- the key is above the name, and so are those after it
+    pub cursor_misses : (name : List ℕ) → IsPassed c.last_key name → slice_cmp nat_cmp x.content.now name ≡ Greater
+        → false ≡ list_any (λ key. bytes_eq key name) ks
+    cursor_misses name passed above =
+        let f = first_key in
+        let rising = keys_rise (x.content.now ∷ f.others) (rw f.whole at h.are_keys) in
+        let none : list_any (λ key. bytes_eq key name) (x.content.now ∷ f.others)
+        ≡ false = none_below name (x.content.now ∷ f.others) (turned x.content.now name Greater above) rising in
+        sym none ∙ (rw f.whole at (h.decides name passed))
+
+  -- no key is after the cursor
+  pub cursor_ends : GivesEntry c.left None ahead' → (name : List ℕ) → IsPassed c.last_key name → false ≡ list_any (λ key. bytes_eq key name) ks
+  cursor_ends n name passed = go h.behind (n.takes form (key_trees h.behind) h.left) (h.decides name passed)
+    where
+      go : (behind : List (List ℕ)) → TakesEntry form (key_trees behind) None ahead'
+          → list_any (λ key. bytes_eq key name) behind ≡ list_any (λ key. bytes_eq key name) ks → false ≡ list_any (λ key. bytes_eq key name) ks
+      go [] t whole = whole
+      go (k ∷ rest) t whole = absurd t
+
+  -- no error is given while keys are left
+  pub cursor_error : {G : Type 0} (r : Result StoredEntry Error) (error : Error) → r ≡ Err error → GivesEntry c.left (Some r) ahead' → G
+  cursor_error r error e n = grind arith
+
+-- ---- one more that is tested
+
+-- a name that decides
+pub decided : (found has : Bool) (t : Tree) (name : List ℕ) (names : List (List ℕ)) (all : Bool) → beq has found ≡ true → has ≡ has_text name t
+    → has_by found (name ∷ names) t ≡ all → found ≡ all
+decided found has t name names all h k e = grind arith
+
+-- a name that leaves it to the others
+pub left_open : (found has : Bool) (t : Tree) (name : List ℕ) (names : List (List ℕ)) (all : Bool) → beq has found ≡ false → has ≡ has_text name t
+    → has_by found (name ∷ names) t ≡ all → has_by found names t ≡ all
+left_open found has t name names all h k e = grind arith
+
+-- no name is left
+pub none_decided : (found : Bool) (t : Tree) → has_by found [] t ≡ not found
+none_decided found t = grind arith
 
 -- the first of the names that an iterator had left, and the others
 pub name_taken : (names others : List (Bor (List ℕ))) (r : Option (Bor (Bor (List ℕ)))) (first : Option (Bor (List ℕ))) → first ≡ option_copied r
@@ -36,19 +132,16 @@ none_above key name [] below all = refl
 none_above key name (other ∷ others) below all = grind (arith, nat_list_cmp_total, none_above key name others below all.1)
 
 module _ (set : TextSet) (key : List ℕ) (name : Bor (List ℕ)) (names : List (Bor (List ℕ))) (d : DecideFrom set key (name ∷ names)) where
-  agreed : is_in set key ≡ is_among key (name ∷ names)
-  agreed = d.agree key (not_below_itself key)
-
   -- the first name is the key
   pub first_found : Equal ≡ slice_cmp nat_cmp name.now key → true ≡ is_in set key
-  first_found e = rw agreed (rw (turned name.now key Equal (sym e)) refl)
+  first_found e = rw (d.agree key (not_below_itself key)) (rw (turned name.now key Equal (sym e)) refl)
 
   -- the first name is above the key, and so are the others
   pub first_above : Greater ≡ slice_cmp nat_cmp name.now key → false ≡ is_in set key
   unfolding IsStrictlySortedBy
   first_above e =
       let below : slice_cmp nat_cmp key name.now ≡ Less = turned name.now key Greater (sym e) in
-      rw agreed (rw below (sym (none_above key name.now names below d.sorted.0)))
+      rw (d.agree key (not_below_itself key)) (rw below (sym (none_above key name.now names below d.sorted.0)))
 
 -- ---- names and keys
 
@@ -61,11 +154,6 @@ names_begun set names (key ∷ ks) d = d key
 pub names_passed : (set : TextSet) (names : List (Bor (List ℕ))) (key : List ℕ) (ks : List (List ℕ)) → IsBelowFirst key ks → DecideFrom set key names
     → DecideForKeys set names ks
 names_passed set names key ks h e = grind (arith, nat_list_cmp_total)
-
--- ---- the pairs of an object that a set parts, as runs
-
-abbrev Member : Type 0
-Member = List ℕ × Tree
 
 -- ---- members that are all in the set, or all not
 
@@ -115,14 +203,11 @@ no_member_left form entries (p ∷ ps) found is h = absurd (rw is at h)
 
 module _ (form : Form) (set : TextSet) (names : List (Bor (List ℕ))) (is : Bool) (count : ℕ) (left : Entries) (ps : List Member)
     (m : PartsFirst form set names is count left ps) (key : List ℕ) (others : Entries) (n : NextMember form m.others key others) where
-  are_keys_next : AreKeys (n.p.0 ∷ keys_of n.rest)
-  are_keys_next = rw n.split at m.are_keys
-
   pub key_decided : DecideFrom set key names
   key_decided = let d : DecideFrom set n.p.0 names = rw n.split at m.decide in rw n.is_key at d
 
   pub key_is_utf8 : IsUtf8 key
-  key_is_utf8 = let u : IsUtf8 n.p.0 = are_keys_next.0.0 in rw n.is_key at u
+  key_is_utf8 = let u : IsUtf8 n.p.0 = (rw n.split at m.are_keys).0.0 in rw n.is_key at u
 
   -- one member more is in the run
   pub run_more : (names' : List (Bor (List ℕ))) → DecideFrom set key names' → is_in set key ≡ is → PartsFirst form set names' is (count + 1) others ps
@@ -139,8 +224,8 @@ module _ (form : Form) (set : TextSet) (names : List (Bor (List ℕ))) (is : Boo
         ∙ sym (append_assoc (all_or_none b m.run) (all_or_none b (n.p ∷ [])) (parted wanted set n.rest))
         ∙ ap (λ (l : List Member). l ++ parted wanted set n.rest) (both_runs b m.run (n.p ∷ []));
     hold = n.hold;
-    are_keys = are_keys_next.2;
-    decide = names_passed set names' n.p.0 (keys_of n.rest) are_keys_next.1 (rw n.is_key decide);
+    are_keys = (rw n.split at m.are_keys).2;
+    decide = names_passed set names' n.p.0 (keys_of n.rest) (rw n.split at m.are_keys).1 (rw n.is_key decide);
   }
 
 -- the run begins with the first member
@@ -187,7 +272,7 @@ pub parting_begun : (form : Form) (runs : PairRuns) (pairs : PairEntries) (wante
 parting_begun form runs pairs wanted set names ps keys_none values_none h decide are_keys = record {
   held = [];
   rest = ps;
-  runs_hold = no_pairs_held form runs keys_none values_none;
+  runs_hold = grind arith;
   pairs = h;
   joined = refl;
   decide = decide;

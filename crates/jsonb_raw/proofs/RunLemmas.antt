@@ -1,27 +1,23 @@
 -- Runs of entries, the containers that they make, and walks that keep some of them.
-use Rattle.jsonb_raw.proofs.Common.{◌≡◌, inr, ℕ, zero, suc, ◌+◌, ◌^◌, ◌<◌, ◌≤◌, List, [], ◌∷◌, ◌++◌, length, map, take, drop, get_or, Option, Some, Result, refl, sym, ap, subst, ◌∙◌, arith, append-nil, ◌-◌, None, append_assoc, insert, keys_of, values_of, Tree, Trees, text, array, object, trees_of, pairs_of, elements, Pairs, no_pairs, pair, keys, values, members, Form, number_reader, NumberReader, AreEntries, AreValues, AreKeys, entry_word, key_words, key_bytes, IsShort, HasShortElements, IsTooLarge, IsOutOfMemoryOrTooLarge, Error, trees_of-elements, keys_of-members, Holds, ArrayParts, Entries, HeaderKind, Make, AreSortedKeys, too_many, within_parts, OwnedJsonb, Makes, as_elements, HoldTrees, RunsHold, AreElementsOf, IsTooLongRoot, IsTooLongElement, IsFirst, TakesFirst, HoldPairs, ArePairsOf, AreContainerEntries, Holding, PairsHeld, PairsOpen, IsFirstPair, TakesFirstPair, many_keys, kind_number, front_of, HoldsPairs-skipped, HoldsPairs-values, StandBefore, ObjectParts, ContainerEntries, StoredEntry, PairEntries, FirstPair, PairRuns, entries_append, one_entry}
+use Rattle.jsonb_raw.proofs.Common.{◌≡◌, inr, ℕ, ◌+◌, ◌^◌, ◌<◌, ◌≤◌, List, [], ◌∷◌, ◌++◌, length, map, take, drop, get_or, Option, Some, Result, refl, sym, ap, subst, ◌∙◌, arith, append-nil, ◌-◌, None, append_assoc, insert, keys_of, values_of, Tree, Trees, text, array, object, trees_of, pairs_of, elements, Pairs, no_pairs, pair, keys, values, members, Form, number_reader, NumberReader, AreEntries, AreValues, AreKeys, entry_word, key_words, key_bytes, IsShort, HasShortElements, IsTooLarge, IsOutOfMemoryOrTooLarge, Error, trees_of-elements, keys_of-members, Holds, ArrayParts, Entries, HeaderKind, Make, AreSortedKeys, too_many, within_parts, OwnedJsonb, Makes, as_elements, HoldTrees, RunsHold, AreElementsOf, IsTooLongRoot, IsTooLongElement, IsFirst, TakesFirst, HoldPairs, ArePairsOf, AreContainerEntries, Holding, PairsHeld, PairsOpen, IsFirstPair, TakesFirstPair, many_keys, kind_number, front_of, HoldsPairs-skipped, HoldsPairs-values, StandBefore, ObjectParts, ContainerEntries, StoredEntry, PairEntries, FirstPair, PairRuns, entries_append, one_entry, zero, suc}
 use Rattle.jsonb_doc.specs.declared.container.Container.TheVariants.{Array, Object}
 use Rattle.jsonb_doc.specs.declared.layout.HeaderKind.TheVariants as header_kind
-use Rattle.jsonb_raw.proofs.Lists.{drop_first}
+use Rattle.jsonb_raw.proofs.AnswerLemmas.{drop_first}
 
 -- ---- runs one after the other
 
 pub no_runs : (form : Form) → RunsHold form [] []
 no_runs form = refl
 
-pub run_before : (form : Form) (entries : Entries) (runs : List Entries) (xs ys : List Tree) → HoldTrees form entries xs → RunsHold form runs ys
-    → RunsHold form (entries ∷ runs) (xs ++ ys)
-run_before form entries runs xs ys h g = (xs, ys, h, g, refl)
-
 pub one_run : (form : Form) (entries : Entries) (xs : List Tree) → HoldTrees form entries xs → RunsHold form (entries ∷ []) xs
-one_run form entries xs h = subst (RunsHold form (entries ∷ [])) (append-nil xs) (run_before form entries [] xs [] h (no_runs form))
+one_run form entries xs h = subst (RunsHold form (entries ∷ [])) (append-nil xs) ((xs, [], h, (no_runs form), refl))
 
 pub two_runs : (form : Form) (a b : Entries) (xs ys : List Tree) → HoldTrees form a xs → HoldTrees form b ys → RunsHold form (a ∷ b ∷ []) (xs ++ ys)
-two_runs form a b xs ys h g = run_before form a (b ∷ []) xs ys h (one_run form b ys g)
+two_runs form a b xs ys h g = (xs, ys, h, (one_run form b ys g), refl)
 
 pub three_runs : (form : Form) (a b c : Entries) (xs ys zs : List Tree) → HoldTrees form a xs → HoldTrees form b ys → HoldTrees form c zs
     → RunsHold form (a ∷ b ∷ c ∷ []) (xs ++ (ys ++ zs))
-three_runs form a b c xs ys zs h g k = run_before form a (b ∷ c ∷ []) xs (ys ++ zs) h (two_runs form b c ys zs g k)
+three_runs form a b c xs ys zs h g k = (xs, (ys ++ zs), h, (two_runs form b c ys zs g k), refl)
 
 -- the first of the runs that are left
 pub record FirstRun (form : Form) (run : Entries) (runs : List Entries) (ts : List Tree) : Type 0 where
@@ -86,22 +82,15 @@ entries_of_array form t p entries h e k = grind (arith, trees_of-elements)
 -- a tree with such entries is an array
 pub array_of_entries : (form : Form) (t : Tree) (found : Option Entries) (entries : Entries) → found ≡ Some entries → AreElementsOf form t found
     → (ts : Trees) × (t ≡ array ts) × HoldTrees form entries (elements ts)
-array_of_entries form (array ts) found entries is h = (ts, refl, rw is at h)
-array_of_entries form _ found entries is h = absurd (rw is at h)
-
--- ---- no entries
+array_of_entries form t found entries h e = grind arith
 
 pub no_entries : (form : Form) (ts : List Tree) (r : Result OwnedJsonb Error) → 0 ≡ length ts → Makes form (array (trees_of [])) r
     → Makes form (array (trees_of ts)) r
 no_entries form [] r is h = h
 no_entries form (t ∷ ts) r is h = absurd (omega (arith, is))
 
--- ---- entries that are gone through one by one, and runs of them that are kept
-
-abbrev Member : Type 0
+abbrev pub Member : Type 0
 Member = List ℕ × Tree
-
--- ---- the first pair
 
 pub value_there : (form : Form) (pairs : PairEntries) (ps : List Member) (key : StoredEntry × Entries)
     → TakesFirst form pairs.keys (map text (keys_of ps)) (Some key) → TakesFirst form pairs.values (values_of ps) None → ⊥
@@ -134,8 +123,7 @@ module _ (form : Form) (runs : List Entries) (run left others : Entries) (xs ys 
     run_contents = h.run_contents ++ content;
     trees_joined = ap (λ (l : List Tree). l ++ t ∷ []) h.trees_joined ∙ append_assoc h.before h.here (t ∷ []);
     held = h.held;
-    run_held = entries_append (number_reader form) h.here (t ∷ []) h.run_words h.run_contents (entry_word kind (length content)) content h.run_held
-        (one_entry (number_reader form) t kind content f.part f.begin.fits);
+    run_held = grind (arith, entries_append, one_entry);
     words_joined = cc (append_assoc h.run_words (entry_word kind (length content)) others.words.now);
     contents_joined = cc (append_assoc h.run_contents content others.contents.now);
     left_hold = f.others_hold;
@@ -175,10 +163,7 @@ module _ (form : Form) where
       let same = HoldsPairs-values (number_reader form) ps p rest h found in
       let names : take (length p.contents.now - length rest) p.contents.now ≡ key_bytes (keys ps) =
       rw same (front_of p.contents.now (key_bytes (keys ps)) h.rest h.bytes) in
-      record {
-        names = record { entries = rw (keys_of-members ps, words, front, h.words, names) (keys_as_entries (number_reader form) (keys ps) h.are_keys) };
-        parts = record { entries = rw (values, contents, same) (values_as_entries (number_reader form) ps p.value_words.now h.rest h.values) };
-      }
+      search (arith, keys_of-members, keys_as_entries, values, values_as_entries)
 
   -- the pairs of an object, by its parts
   pub pairs_by_parts : (t : Tree) (p : ObjectParts) (pairs : PairEntries) → Holds (number_reader form) t (Object p)
@@ -227,16 +212,10 @@ pub pairs_begun : (form : Form) (runs : PairRuns) (pairs : PairEntries) (xs ys :
     → PairsOpen form runs pairs pairs xs ys
 pairs_begun form runs pairs xs ys h g = search (holding_again, pairs.keys, h.names, g.names, pairs.values, h.parts, g.parts)
 
-pub no_pairs_held : (form : Form) (runs : PairRuns) → runs.keys.items ≡ [] → runs.values.items ≡ [] → PairsHeld form runs []
-no_pairs_held form runs keys_none values_none = grind arith
-
 -- the next pair is kept
 pub pair_kept : (form : Form) (runs : PairRuns) (run left : PairEntries) (first : FirstPair) (xs ys : List Member) (p : Member)
     → PairsOpen form runs run left xs (p ∷ ys) → IsFirstPair form left p ys first → PairsOpen form runs run first.others (xs ++ p ∷ []) ys
-pair_kept form runs run left first xs ys p h f = record {
-  names = search (text_names, holding_kept, run.keys, left.keys, first.others.keys, p.0, h.names, f.name);
-  parts = search (all_values, holding_kept, run.values, left.values, first.others.values, p.1, first.kind, h.parts);
-}
+pair_kept form runs run left first xs ys p h e = search (arith, text_names, holding_kept, all_values)
 
 pub others_hold : (form : Form) (left : PairEntries) (first : FirstPair) (ys : List Member) (p : Member) → IsFirstPair form left p ys first
     → HoldPairs form first.others ys
@@ -256,13 +235,11 @@ pub record EntryTaken (form : Form) (left : Entries) (ts : List Tree) (entry : S
 
 pub entry_taken : (form : Form) (left : Entries) (ts : List Tree) (found : Option (StoredEntry × Entries)) (entry : StoredEntry) (others : Entries)
     → found ≡ Some (entry, others) → TakesFirst form left ts found → EntryTaken form left ts entry others
-entry_taken form left [] found entry others is h = absurd (rw is at h)
-entry_taken form left (t ∷ ts) found entry others is h = record { t = t; rest = ts; split = refl; is_first = rw is at h }
+entry_taken form left ts found entry others h e = grind arith
 
 pub no_entry_left : (form : Form) (entries : Entries) (ts : List Tree) (found : Option (StoredEntry × Entries)) → found ≡ None
     → TakesFirst form entries ts found → ts ≡ []
-no_entry_left form entries [] found is h = refl
-no_entry_left form entries (t ∷ ts) found is h = absurd (rw is at h)
+no_entry_left form entries ts found h e = grind arith
 
 -- Holds if the first of the strings is this entry's content.
 pub record TextFirst (form : Form) (left : Entries) (ks : List (List ℕ)) (entry : StoredEntry) (others : Entries) : Type 0 where
@@ -273,10 +250,7 @@ pub record TextFirst (form : Form) (left : Entries) (ks : List (List ℕ)) (entr
 pub text_first : (form : Form) (left : Entries) (ks : List (List ℕ)) (found : Option (StoredEntry × Entries)) (entry : StoredEntry) (others : Entries)
     → found ≡ Some (entry, others) → TakesFirst form left (map text ks) found → TextFirst form left ks entry others
 text_first form left [] found entry others is h = absurd (rw is at h)
-text_first form left (k ∷ ks) found entry others is h =
-    let first : IsFirst form left (text k) (map text ks) (kind_number entry.kind) entry.content.now others = rw is at h in
-    let same : k ≡ entry.content.now = sym first.part.1 in
-    record { rest = ks; split = ap (λ (l : List ℕ). l ∷ ks) same; is_first = rw same at first }
+text_first form left (k ∷ ks) found entry others is h = grind arith
 
 pub no_text_left : (form : Form) (left : Entries) (ks : List (List ℕ)) (found : Option (StoredEntry × Entries)) → found ≡ None
     → TakesFirst form left (map text ks) found → ks ≡ []
@@ -292,13 +266,8 @@ pub record PairTaken (form : Form) (left : PairEntries) (ps : List Member) (firs
 
 pub pair_taken : (form : Form) (left : PairEntries) (ps : List Member) (found : Option FirstPair) (first : FirstPair) → found ≡ Some first
     → TakesFirstPair form left ps found → PairTaken form left ps first
-pair_taken form left [] found first is h = absurd (rw is at h)
-pair_taken form left (p ∷ ps) found first is h =
-    let taken : IsFirstPair form left p ps first = rw is at h in
-    let is_first = subst (λ (k : List ℕ). IsFirstPair form left (k, p.1) ps first) (sym taken.key) taken in
-    record { value = p.1; rest = ps; split = rw taken.key refl; is_first = is_first }
+pair_taken form left ps found first h e = grind arith
 
 pub no_pair_left : (form : Form) (pairs : PairEntries) (ps : List Member) (found : Option FirstPair) → found ≡ None
     → TakesFirstPair form pairs ps found → ps ≡ []
-no_pair_left form pairs [] found is h = refl
-no_pair_left form pairs (p ∷ ps) found is h = absurd (rw is at h)
+no_pair_left form pairs ps found h e = grind arith

@@ -1,7 +1,7 @@
 -- What the loops of the set functions keep true.
-use Rattle.jsonb_raw.proofs.Common.{ap₂, not, ◌≡◌, ◌+◌, ◌<◌, ◌^◌, Bool, true, false, ◌||◌, cond, List, [], ◌∷◌, ◌++◌, length, map, filter, Option, Some, None, inl, inr, refl, sym, ap, subst, ◌∙◌, append_assoc, append-nil, arith, nat_tests, AllByRecursion, list_any, Tree, array, Trees, no_trees, tree, elements, trees_of, Form, canonical, kind_number, StoredEntry, Fits, AreInRange, HasShortElements, IsTooLarge, IsOutOfMemoryOrTooLarge, Parts, no_parts, HoldsElements, HasElementsLeft, IsElementsOf, ElementIter, Error, array_too_large-more, as_elements, is_equal, is_equal_equiv, sum_by-cons, occurrences, overlap, count_of, intersection_of, difference_of, keeps, kept_one, CountsAfter, HaveSeen, HoldTrees, AreElementsOf, RunsHold, IsFirst, TakesFirst, Holding, Entries, KeyCounts, Seen, SetOperation, or_false}
+use Rattle.jsonb_raw.proofs.Common.{ap₂, not, ◌≡◌, ◌+◌, ◌<◌, ◌^◌, Bool, true, false, ◌||◌, cond, List, [], ◌∷◌, ◌++◌, length, map, filter, Option, Some, None, refl, sym, ap, subst, ◌∙◌, append_assoc, append-nil, arith, nat_tests, AllByRecursion, list_any, Tree, array, Trees, no_trees, tree, elements, trees_of, Form, canonical, kind_number, StoredEntry, Fits, AreInRange, HasShortElements, IsOutOfMemoryOrTooLarge, Parts, no_parts, HoldsElements, HasElementsLeft, IsElementsOf, ElementIter, Error, array_too_large-more, as_elements, is_equal, is_equal_equiv, sum_by-cons, occurrences, overlap, intersection_of, difference_of, keeps, kept_one, CountsAfter, HaveSeen, HoldTrees, AreElementsOf, RunsHold, IsFirst, TakesFirst, Holding, Entries, KeyCounts, Seen, SetOperation, or_false}
 use Rattle.jsonb_raw.proofs.RunLemmas.{holding_begun, holding_kept, holding_again, entry_taken}
-use Rattle.jsonb_raw.proofs.ArrayLemmas.{length-elements}
+use Rattle.jsonb_raw.proofs.ObjectLemmas.{length-elements}
 
 -- ---- the elements of a document
 
@@ -42,16 +42,13 @@ overlap_one (t ∷ ts) u = ap₂ (λ a b. a || b) (or_false (is_equal t u) ∙ i
 
 -- ---- two lists of one element
 
-count_of_one : (t u : Tree) (b : Bool) → b ≡ is_equal u t → count_of t (u ∷ []) ≡ cond b 1 0 + 0
-count_of_one t u b e = sum_by-cons (λ x. cond (is_equal x t) 1 0) u [] ∙ ap (λ x. cond x 1 0 + 0) (sym e)
-
 -- a test for equality decides whether it is in the intersection
 pub shared_one : (t u : Tree) (b : Bool) → b ≡ is_equal u t → cond b (t ∷ []) [] ≡ intersection_of (t ∷ []) (u ∷ [])
-shared_one t u b e = grind (arith, nat_tests, count_of_one t u b e)
+shared_one t u b e = grind (arith, nat_tests, (sum_by-cons (λ x. cond (is_equal x t) 1 0) u [] ∙ ap (λ x. cond x 1 0 + 0) (sym e)))
 
 -- and in the difference
 pub unshared_one : (t u : Tree) (b : Bool) → b ≡ is_equal u t → cond (not b) (t ∷ []) [] ≡ difference_of (t ∷ []) (u ∷ [])
-unshared_one t u b e = grind (arith, nat_tests, count_of_one t u b e)
+unshared_one t u b e = grind (arith, nat_tests, (sum_by-cons (λ x. cond (is_equal x t) 1 0) u [] ∙ ap (λ x. cond x 1 0 + 0) (sym e)))
 
 -- ---- what is kept
 
@@ -72,8 +69,7 @@ pub record KeptLeft (form : Form) (kind : SetOperation) (m : KeyCounts) (other :
 pub KeptLeft-all : (form : Form) (kind : SetOperation) (m : KeyCounts) (other : List Tree) (parts : Parts) (ts : List Tree) → parts ≡ no_parts → length ts < 2 ^ 63
     → AllByRecursion Fits ts → CountsAfter kind m other []
     → KeptLeft form kind m other parts ts (kept_behind kind other [] ts)
-KeptLeft-all form kind m other parts ts is few fit behind =
-    record { before = []; held = []; few = omega arith; fit = fit; behind = behind; holds = rw is (refl, refl); joined = refl }
+KeptLeft-all form kind m other parts ts h e k f = grind arith
 
 pub KeptLeft-done : (form : Form) (kind : SetOperation) (m : KeyCounts) (other : List Tree) (parts : Parts) (whole : List Tree)
     → KeptLeft form kind m other parts [] whole → HoldsElements form parts whole
@@ -93,13 +89,7 @@ module _ (form : Form) (kind : SetOperation) (m : KeyCounts) (other : List Tree)
 
   pub KeptLeft-refused : (e : Error) → IsOutOfMemoryOrTooLarge form (array (trees_of (h.held ++ kept_one kind other (h.before, first)))) e
       → IsOutOfMemoryOrTooLarge form (array (trees_of whole)) e
-  KeptLeft-refused e (inl memory) = inl memory
-  KeptLeft-refused e (inr (is, large)) =
-      inr (
-        is,
-        subst (λ (ts : List Tree). IsTooLarge form (array (trees_of ts))) joined_next
-            (array_too_large-more form (h.held ++ kept_one kind other (h.before, first)) (kept_behind kind other (first ∷ h.before) rest) large),
-      )
+  KeptLeft-refused e h = search (arith, joined_next, array_too_large-more)
 
 -- ---- what is kept, in runs
 
@@ -121,14 +111,7 @@ pub record KeptRuns (form : Form) (kind : SetOperation) (seen : Seen) (other : L
 pub KeptRuns-all : (form : Form) (kind : SetOperation) (seen : Seen) (other : List Tree) (runs : List Entries) (entries : Entries) (ts : List Tree) → runs ≡ []
     → HoldTrees form entries ts → HaveSeen form kind seen other [] ts
     → KeptRuns form kind seen other runs entries entries (kept_behind kind other [] ts)
-KeptRuns-all form kind seen other runs entries ts is h behind = record {
-  before = [];
-  held = [];
-  rest = ts;
-  behind = behind;
-  holds = rw is (holding_begun form entries ts h);
-  joined = refl;
-}
+KeptRuns-all form kind seen other runs entries ts is h behind = search (arith, ts, behind, is, holding_begun form entries ts h)
 
 module _ (form : Form) (kind : SetOperation) (seen : Seen) (other : List Tree) (runs : List Entries) (run left : Entries) (whole : List Tree)
     (h : KeptRuns form kind seen other runs run left whole) where
@@ -163,11 +146,4 @@ module _ (form : Form) (kind : SetOperation) (seen : Seen) (other : List Tree) (
 
   pub KeptRuns-dropped : (n : Next) (after : Seen) (runs' : List Entries) → RunsHold form runs' h.held → keeps kind other (h.before, n.t) ≡ false
       → HaveSeen form kind after other (n.t ∷ h.before) n.ts → KeptRuns form kind after other runs' after_it after_it whole
-  KeptRuns-dropped n after runs' pushed is behind = record {
-    before = n.t ∷ h.before;
-    held = h.held;
-    rest = n.ts;
-    behind = behind;
-    holds = holding_again form runs' after_it h.held n.ts pushed n.first_is.others_hold;
-    joined = ap (λ (l : List Tree). h.held ++ l) (sym (rw is refl)) ∙ n.whole_is;
-  }
+  KeptRuns-dropped n after runs' h e k = grind (arith, holding_again)

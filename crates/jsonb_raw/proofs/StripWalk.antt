@@ -1,8 +1,106 @@
--- Containers that are written again without the nulls of their objects: what is read, written, and left.
-use Rattle.jsonb_raw.proofs.Common.{◌≡◌, ℕ, ◌+◌, ◌*◌, ◌^◌, ◌≤◌, ap₂, Bool, true, false, List, [], ◌∷◌, ◌++◌, Some, length, map, refl, sym, ap, subst, ◌∙◌, arith, append_assoc, kind_number, Tree, text, array, object, elements, values, keys, Form, number_reader, IsContent, container_entry, StoredEntry, Entries, Writer, StartWith, Around, IsWriting, word_cancel, keys_of-members, ValuesLeft, ContainerEntries, HoldTrees, AreEntriesOf, Holding, WordsHold, stops, stripped, beside, entries_kept, values_kept, HoldValues, Begins, AreWritten, is_null}
+-- Containers without the nulls of their objects: what is stripped, and the walk that writes the rest.
+use Rattle.jsonb_raw.proofs.Common.{◌≡◌, ℕ, ◌+◌, ◌≤◌, ap₂, Bool, true, false, List, [], ◌∷◌, ◌++◌, Some, length, map, refl, sym, ap, subst, ◌∙◌, arith, append_assoc, kind_number, Tree, text, array, object, elements, values, keys, Form, number_reader, IsContent, container_entry, StoredEntry, Entries, Writer, StartWith, Around, IsWriting, word_cancel, keys_of-members, ValuesLeft, ContainerEntries, HoldTrees, AreEntriesOf, Holding, WordsHold, stops, stripped, beside, entries_kept, values_kept, HoldValues, Begins, AreWritten, is_null, cond, suc, ◌==◌, ◌||◌, Pairs, no_pairs, pair, Trees, no_trees, tree, members, trees_of, IsBelowFirst, AreKeys, AreRising, keys_rise, strip, strip_pairs, strip_trees, values_of, nat_tests, null_entry, Make, pairs_of-members, leaves_out, length-values_of}
 use Rattle.jsonb_raw.specs.declared.functions.operator.stripping.Outer.{Outer}
 use Rattle.jsonb_raw.proofs.RunLemmas.{holding_begun, holding_kept, EntryTaken, TextFirst}
-use Rattle.jsonb_raw.proofs.StripLists.{null_kind, is_none, is_some, as_many_keys, beside_keys, values_of-members, beside_none, leaves_none}
+use Rattle.std.proofs.lemmas.Cmp.{nat_list_cmp_total}
+
+-- a key below those of all pairs is below those of the pairs that stay
+pub below_stripped : (low : List ℕ) (ps : Pairs) → IsBelowFirst low (keys ps) → AreRising (keys ps) → IsBelowFirst low (keys (strip_pairs ps))
+below_stripped low no_pairs below rising = tt
+below_stripped low (pair key t ps) below rising = by (is_null t) (below_stripped low ps (further ps rising.0) rising.1)
+  where
+    further : (qs : Pairs) → IsBelowFirst key (keys qs) → IsBelowFirst low (keys qs)
+    further qs h = grind (arith, nat_list_cmp_total)
+
+    by : (b : Bool) → IsBelowFirst low (keys (strip_pairs ps)) → IsBelowFirst low (keys (cond b (strip_pairs ps) (pair key (strip t) (strip_pairs ps))))
+    by b h = grind arith
+
+-- ---- values that stay
+
+pub trees-stripped : (ts : Trees) → trees_of (stripped false (elements ts)) ≡ strip_trees ts
+trees-stripped no_trees = refl
+trees-stripped (tree t ts) = ap (λ us. tree (strip t) us) (trees-stripped ts)
+
+pub length-stripped : (ts : List Tree) → length (stripped false ts) ≡ length ts
+length-stripped [] = refl
+length-stripped (t ∷ ts) = ap suc (length-stripped ts)
+
+pub values_of-stripped : (ps : Pairs) → values_of (members (strip_pairs ps)) ≡ stripped true (elements (values ps))
+values_of-stripped no_pairs = refl
+values_of-stripped (pair key t ps) = grind (arith, values_of-stripped ps)
+
+pub values_of-members : (ps : Pairs) → values_of (members ps) ≡ elements (values ps)
+values_of-members no_pairs = refl
+values_of-members (pair key t ps) = ap (λ us. t ∷ us) (values_of-members ps)
+
+-- ---- kinds
+
+pub null_kind : (form : Form) (t : Tree) (kind : ℕ) (bytes : List ℕ) → IsContent (number_reader form) t kind bytes → (kind == null_entry) ≡ is_null t
+null_kind form t kind bytes h = grind arith
+
+pub is_none : (k : ℕ) → k ≡ 0 → (k == null_entry) ≡ true
+is_none k e = rw e refl
+
+pub is_some : (k : ℕ) → (k ≡ 0 → ⊥) → (k == null_entry) ≡ false
+is_some k h = grind (arith, nat_tests)
+
+-- ---- which trees change
+
+-- what the kind of an entry says
+abbrev pub stops_kind : Bool → ℕ → Bool
+stops_kind is_object kind = (kind == container_entry) || leaves_out is_object (kind == null_entry)
+
+pub leaves_none : (is_object : Bool) → leaves_out is_object false ≡ false
+leaves_none is_object = grind arith
+
+-- ---- keys
+
+pub keys_stripped : (ps : Pairs) → AreKeys (keys ps) → AreKeys (keys (strip_pairs ps))
+keys_stripped no_pairs are = tt
+keys_stripped (pair key t ps) are = by (is_null t) (keys_stripped ps are.2)
+  where
+    by : (b : Bool) → AreKeys (keys (strip_pairs ps)) → AreKeys (keys (cond b (strip_pairs ps) (pair key (strip t) (strip_pairs ps))))
+    by b h = grind (arith, below_stripped, keys_rise)
+
+pub fewer_keys : (ps : Pairs) → length (keys (strip_pairs ps)) ≤ length (keys ps)
+fewer_keys no_pairs = omega arith
+fewer_keys (pair key t ps) = grind (arith, fewer_keys ps)
+
+pub beside_none : (ts : List Tree) → beside ts [] ≡ []
+beside_none [] = refl
+beside_none (t ∷ ts) = refl
+
+pub beside_keys : (ps : Pairs) → beside (elements (values ps)) (keys ps) ≡ keys (strip_pairs ps)
+beside_keys no_pairs = refl
+beside_keys (pair key t ps) = grind (arith, beside_keys ps)
+
+-- if no fewer keys stay, all do
+pub all_keys : (ps : Pairs) → length (keys ps) ≤ length (keys (strip_pairs ps)) → keys (strip_pairs ps) ≡ keys ps
+all_keys no_pairs same = refl
+all_keys (pair key t ps) same = grind (arith, fewer_keys ps, all_keys ps, same)
+
+pub many_keys : (ps : Pairs) → length (keys ps) ≡ length (members ps)
+many_keys no_pairs = refl
+many_keys (pair key t ps) = ap suc (many_keys ps)
+
+pub as_many_keys : (ps : Pairs) → length (keys ps) ≡ length (elements (values ps))
+as_many_keys no_pairs = refl
+as_many_keys (pair key t ps) = ap suc (as_many_keys ps)
+
+-- ---- what a container becomes
+
+pub kept_makes : (form : Form) (t : Tree) (e : ContainerEntries) (n : ℕ) → AreEntriesOf form t e → n ≡ length (values_kept t)
+    → Make e.kind n (entries_kept t) (strip t)
+kept_makes form (array ts) e n h is = grind (arith, trees-stripped)
+kept_makes form (object ps) e n h is =
+    subst (λ k. Make k n (entries_kept (object ps)) (strip (object ps))) (sym h.0) (
+      members (strip_pairs ps),
+      is ∙ ap length (sym (values_of-stripped ps)) ∙ length-values_of (members (strip_pairs ps)),
+      rw (keys_of-members (strip_pairs ps)) (keys_rise _ (keys_stripped ps h.1)),
+      rw (keys_of-members (strip_pairs ps), values_of-stripped ps) refl,
+      ap object (sym (pairs_of-members (strip_pairs ps))),
+    )
+kept_makes form _ e n h is = absurd h
 
 -- ---- words are read
 
@@ -18,23 +116,7 @@ pub record WordTaken (form : Form) (ts : List Tree) (kind : ℕ) (others : List 
 pub word_taken : (form : Form) (words : List ℕ) (ts : List Tree) (kind len : ℕ) (others : List ℕ) → WordsHold form words ts → StartWith words kind len others
     → WordTaken form ts kind others
 word_taken form words [] kind len others h w = absurd (omega (arith, ap length h.entries.0, ap length w.joined))
-word_taken form words (t ∷ ts) kind len others h w =
-    let e = h.entries in
-    let known = w.known in
-    let fits = w.fits in
-    let known' = e.begin.known in
-    let fits' = e.begin.fits in
-    let both = word_cancel (kind * 2 ^ 28 + len) (e.kind * 2 ^ 28 + length e.content) others e.other_words (omega arith) (omega arith)
-    (sym w.joined ∙ e.begin.words_joined) in
-    let same : kind ≡ e.kind = omega (arith, both.0) in
-    record {
-      t = t;
-      content = e.content;
-      rest = ts;
-      split = refl;
-      part = rw same e.part;
-      others_hold = record { contents = e.other_contents; entries = rw both.1 e.others };
-    }
+word_taken form words (t ∷ ts) kind len others h w = grind (arith, word_cancel)
 
 pub no_word_left : (form : Form) (words : List ℕ) (ts : List Tree) → WordsHold form words ts
     → ((kind len : ℕ) (others : List ℕ) → StartWith words kind len others → ⊥) → ts ≡ []
@@ -57,8 +139,7 @@ pub record ScalarsOpen (form : Form) (is_object : Bool) (w : Writer) (run left :
 
 pub scalars_begun : (form : Form) (is_object : Bool) (w : Writer) (run : Entries) (around : Around) (whole : Tree) (ts : List Tree) → HoldTrees form run ts
     → IsWriting form w (stripped is_object ts) around whole → ScalarsOpen form is_object w run run around whole
-scalars_begun form is_object w run around whole ts h writing =
-    record { here = []; trees = ts; holding = holding_begun form run ts h; writing = writing }
+scalars_begun form is_object w run around whole ts h e = search (arith, holding_begun)
 
 module _ (form : Form) (is_object : Bool) (w : Writer) (run left : Entries) (around : Around) (whole : Tree)
     (o : ScalarsOpen form is_object w run left around whole) where
@@ -81,14 +162,7 @@ module _ (form : Form) (is_object : Bool) (w : Writer) (run left : Entries) (aro
 
       -- the next entry is a container
       pub container_next : kind_number entry.kind ≡ container_entry → AreWritten form is_object w' around whole (Some (entry.content, others))
-      container_next is =
-          let content = rw is at f.is_first.part in (
-            f.t,
-            f.rest,
-            content,
-            f.is_first.others_hold,
-            subst (λ us. IsWriting form w' us around whole) (grind (arith, null_kind, leaves_none, content)) next_stripped,
-          )
+      container_next h = grind (arith, null_kind, leaves_none, next_stripped)
 
       -- or a null that is left out
       pub null_next : (kind_number entry.kind ≡ container_entry → ⊥) → stops is_object f.t ≡ true
@@ -156,7 +230,6 @@ module _ (form : Form) (run left : Entries) (words : List ℕ) (w : Writer) (com
           → KeysOpen form others others after w' coming around whole
       key_dropped w' copied none =
           let null : is_null f.t ≡ true = sym (null_kind form f.t _ _ f.part) ∙ is_none _ none in
-          let dropped : beside (f.t ∷ f.rest) (key.content.now ∷ k.rest) ≡ beside f.rest k.rest = rw null refl in
           record {
             here = [];
             names = k.rest;
@@ -164,7 +237,7 @@ module _ (form : Form) (run left : Entries) (words : List ℕ) (w : Writer) (com
             holding = holding_begun form others (map text k.rest) k.is_first.others_hold;
             words_hold = f.others_hold;
             enough = few;
-            writing = subst (λ us. IsWriting form w' (map text us ++ coming) around whole) (split_both ∙ dropped) copied;
+            writing = subst (λ us. IsWriting form w' (map text us ++ coming) around whole) (split_both ∙ (rw null refl)) copied;
           }
 
 module _ (form : Form) (t : Tree) (e : ContainerEntries) (h : AreEntriesOf form t e) (w : Writer) (around : Around) (whole : Tree)
@@ -194,17 +267,8 @@ some_keys_stay form (array ts) e h w around whole writing = record {
   enough = omega arith;
   coming = subst (λ (ks : List (List ℕ)). IsWriting form w (map text ks ++ values_kept (array ts)) around whole) (sym (beside_none (elements ts))) writing;
 }
-some_keys_stay form (object ps) e h w around whole writing = record {
-  names = keys ps;
-  trees = elements (values ps);
-  names_hold = rw (keys_of-members ps) at h.2.names;
-  trees_hold = rw (values_of-members ps) at h.2.parts;
-  enough = omega (arith, as_many_keys ps);
-  coming = rw (beside_keys ps) writing;
-}
+some_keys_stay form (object ps) e h w around whole writing = grind (arith, elements, values, keys_of-members, values_of-members, as_many_keys, beside_keys)
 some_keys_stay form _ e h w around whole writing = absurd h
-
--- ---- values that are left
 
 pub begun_with : (form : Form) (left : ValuesLeft) (w : Writer) (around : Around) (t whole : Tree) → HoldValues form left t
     → IsWriting form w (values_kept t) around whole → Begins form left w around whole

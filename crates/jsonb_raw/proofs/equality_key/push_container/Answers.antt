@@ -1,6 +1,4 @@
-use Rattle.jsonb_raw.proofs.Common.{◌++◌, ap, ◌∙◌, arith}
-use Rattle.jsonb_raw.proofs.LevelStarts.{all_left}
-use Rattle.jsonb_raw.proofs.LevelLemmas.{count_of_trees, count_of_pairs}
+use Rattle.jsonb_raw.proofs.Lemmas.{◌++◌, ap, ◌∙◌, arith, all_left, count_of_trees, count_of_pairs}
 use Rattle.jsonb_raw.proofs.equality_key.push_container.Goals as goal
 
 pub returns-clause-key : goal.returns-clause-key

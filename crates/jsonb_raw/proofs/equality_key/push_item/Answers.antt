@@ -1,5 +1,4 @@
-use Rattle.jsonb_raw.proofs.Common.{rules}
-use Rattle.jsonb_raw.proofs.EqualityWalk.{only_start}
+use Rattle.jsonb_raw.proofs.Lemmas.{rules, only_start}
 use Rattle.jsonb_raw.proofs.equality_key.push_item.Goals as goal
 
 pub returns-in-Some-clause-key : goal.returns-in-Some-clause-key

@@ -1,7 +1,4 @@
-use Rattle.jsonb_raw.proofs.Common.{rules, ◌∷◌, arith, parts}
-use Rattle.jsonb_raw.proofs.AnswerLemmas.{failed}
-use Rattle.jsonb_raw.proofs.LevelLemmas.{parts_left, pushed_around, popped_around, SomeParts-first, SomeParts-none, SomeParts-error, falls_within, falls_beside, falls_done}
-use Rattle.jsonb_raw.proofs.EqualityWalk.{walk_begun, part_begun, part_done, all_written}
+use Rattle.jsonb_raw.proofs.Lemmas.{rules, ◌∷◌, arith, parts, failed, parts_left, pushed_around, popped_around, SomeParts-first, SomeParts-none, SomeParts-error, falls_within, falls_beside, falls_done, walk_begun, part_begun, part_done, all_written}
 use Rattle.jsonb_raw.proofs.equality_key.push_parts.Goals as goal
 
 pub walk-init : goal.walk-init

@@ -1,6 +1,4 @@
-use Rattle.jsonb_raw.proofs.Common.{◌≡◌, ◌+◌, ◌++◌, ◌∷◌, ℕ, List, Some, reverse, Tree, Form, equality_key, equality_start, IsLevelOf}
-use Rattle.jsonb_raw.proofs.LevelLemmas.{SomeParts, weight, weights}
-use Rattle.jsonb_raw.proofs.EqualityWalk.{keys_of_levels}
+use Rattle.jsonb_raw.proofs.Lemmas.{◌≡◌, ◌+◌, ◌++◌, ◌∷◌, ℕ, List, Some, reverse, Tree, Form, equality_key, equality_start, IsLevelOf, SomeParts, weight, weights, keys_of_levels}
 use Rattle.jsonb_raw.proofs.equality_key.push_parts.Given as goal
 
 -- what is written, and then the keys of what each level has left, the innermost first, is the key of the whole

@@ -1,5 +1,4 @@
-use Rattle.jsonb_raw.proofs.Common.{rules, take-put_mid}
-use Rattle.jsonb_raw.proofs.TextChunks.{run_copied}
+use Rattle.jsonb_raw.proofs.Lemmas.{rules, take-put_mid, run_copied}
 use Rattle.jsonb_raw.proofs.key_bytes.copy_plain.Goals as goal
 
 pub returns-clause-bytes : goal.returns-clause-bytes

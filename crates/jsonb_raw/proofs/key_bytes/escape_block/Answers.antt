@@ -1,5 +1,4 @@
-use Rattle.jsonb_raw.proofs.Common.{length, length-drop, arith, ap}
-use Rattle.jsonb_raw.proofs.TextChunks.{front_escaped}
+use Rattle.jsonb_raw.proofs.Lemmas.{length, length-drop, arith, ap, front_escaped}
 use Rattle.jsonb_raw.proofs.key_bytes.escape_block.Goals as goal
 
 pub loop-piece-preserved : goal.loop-piece-preserved

@@ -1,4 +1,4 @@
-use Rattle.jsonb_raw.proofs.Common.{◌≡◌, ◌≤◌, ◌+◌, ◌*◌, ◌++◌, length, take, flat_map, escaped_byte}
+use Rattle.jsonb_raw.proofs.Lemmas.{◌≡◌, ◌≤◌, ◌+◌, ◌*◌, ◌++◌, length, take, flat_map, escaped_byte}
 use Rattle.jsonb_raw.proofs.key_bytes.escape_block.Given as goal
 
 -- what is written, followed by what is left, is the whole

@@ -1,4 +1,4 @@
-use Rattle.jsonb_raw.proofs.Common.{◌≡◌, take, nat_lt, list_all}
+use Rattle.jsonb_raw.proofs.Lemmas.{◌≡◌, take, nat_lt, list_all}
 use Rattle.jsonb_raw.proofs.key_bytes.is_plain.Given as goal
 
 -- so far

@@ -1,5 +1,4 @@
-use Rattle.jsonb_raw.proofs.Common.{refl, ap, ◌∙◌, arith, complement_byte, length-digits_of-le, map-append}
-use Rattle.jsonb_raw.proofs.DigitSteps.{digit_packed}
+use Rattle.jsonb_raw.proofs.Lemmas.{refl, ap, ◌∙◌, arith, complement_byte, length-digits_of-le, map-append, digit_packed}
 use Rattle.jsonb_raw.proofs.key_bytes.pack_digits.Goals as goal
 
 pub loop-left-init : goal.loop-left-init

@@ -1,5 +1,4 @@
-use Rattle.jsonb_raw.proofs.Common.{packed_bytes}
-use Rattle.jsonb_raw.proofs.DigitSteps.{DigitsPacked}
+use Rattle.jsonb_raw.proofs.Lemmas.{packed_bytes, DigitsPacked}
 use Rattle.jsonb_raw.proofs.key_bytes.pack_digits.Given as goal
 
 abbrev pub invariant-loop-left : goal.invariant-loop-left

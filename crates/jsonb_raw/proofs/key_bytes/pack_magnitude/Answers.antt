@@ -1,5 +1,4 @@
-use Rattle.jsonb_raw.proofs.Common.{◌+◌, ◌-◌, ◌∷◌, [], ap, ap₂, ◌∙◌, arith, packed_bytes}
-use Rattle.jsonb_raw.proofs.DigitSteps.{magnitude_packed}
+use Rattle.jsonb_raw.proofs.Lemmas.{◌+◌, ◌-◌, ◌∷◌, [], ap, ap₂, ◌∙◌, arith, packed_bytes, magnitude_packed}
 use Rattle.jsonb_raw.proofs.key_bytes.pack_magnitude.Goals as goal
 
 pub returns-clause-bytes : goal.returns-clause-bytes

@@ -1,5 +1,4 @@
-use Rattle.jsonb_raw.proofs.Common.{refl}
-use Rattle.jsonb_raw.proofs.WordTexts.{word_packed}
+use Rattle.jsonb_raw.proofs.Lemmas.{refl, word_packed}
 use Rattle.jsonb_raw.proofs.key_bytes.pack_text.Goals as goal
 
 pub returns-clause-bytes : goal.returns-clause-bytes

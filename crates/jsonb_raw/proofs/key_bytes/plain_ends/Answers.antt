@@ -1,5 +1,4 @@
-use Rattle.jsonb_raw.proofs.Common.{arith}
-use Rattle.jsonb_raw.proofs.TextChunks.{plain_ends}
+use Rattle.jsonb_raw.proofs.Lemmas.{arith, plain_ends}
 use Rattle.jsonb_raw.proofs.key_bytes.plain_ends.Goals as goal
 
 pub returns : goal.returns

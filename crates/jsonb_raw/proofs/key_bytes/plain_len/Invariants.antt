@@ -1,4 +1,4 @@
-use Rattle.jsonb_raw.proofs.Common.{◌≡◌, take, true, nat_lt, list_all}
+use Rattle.jsonb_raw.proofs.Lemmas.{◌≡◌, take, true, nat_lt, list_all}
 use Rattle.jsonb_raw.proofs.key_bytes.plain_len.Given as goal
 
 -- so far

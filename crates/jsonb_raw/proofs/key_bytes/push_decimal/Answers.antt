@@ -1,6 +1,5 @@
-use Rattle.jsonb_raw.proofs.Common.{◌≡◌, ◌⊎◌, OnOk, pos, true, false, int_lt, to_z, of_z, refl, inl, inr, subst, w128, arith, ltb-true, append_assoc}
+use Rattle.jsonb_raw.proofs.Lemmas.{◌≡◌, ◌⊎◌, OnOk, pos, true, false, int_lt, to_z, of_z, refl, inl, inr, subst, w128, arith, ltb-true, append_assoc, positive_pushed}
 use Rattle.std.proofs.Common.{to_z-of_z}
-use Rattle.jsonb_raw.proofs.PushedNumbers.{positive_pushed}
 use Rattle.jsonb_raw.proofs.key_bytes.push_decimal.Goals as goal
 use Rattle.jsonb_raw.proofs.key_bytes.push_decimal.Goals.{then-negative, else-negative}
 

@@ -1,5 +1,4 @@
-use Rattle.jsonb_raw.proofs.Common.{arith}
-use Rattle.jsonb_raw.proofs.TextChunks.{ends_written, plain_written}
+use Rattle.jsonb_raw.proofs.Lemmas.{arith, ends_written, plain_written}
 use Rattle.jsonb_raw.proofs.key_bytes.push_ends.Goals as goal
 
 pub returns-clause-done : goal.returns-clause-done

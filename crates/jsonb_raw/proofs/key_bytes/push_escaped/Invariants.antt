@@ -1,4 +1,4 @@
-use Rattle.jsonb_raw.proofs.Common.{◌≡◌, ◌++◌, length, flat_map, escaped_byte}
+use Rattle.jsonb_raw.proofs.Lemmas.{◌≡◌, ◌++◌, length, flat_map, escaped_byte}
 use Rattle.jsonb_raw.proofs.key_bytes.push_escaped.Given as goal
 
 -- what is written, followed by what is left, is the whole

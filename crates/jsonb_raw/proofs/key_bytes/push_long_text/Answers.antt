@@ -1,5 +1,4 @@
-use Rattle.jsonb_raw.proofs.Common.{sym, ◌∙◌}
-use Rattle.jsonb_raw.proofs.TextChunks.{chunk_escaped, chunk_copied}
+use Rattle.jsonb_raw.proofs.Lemmas.{sym, ◌∙◌, chunk_escaped, chunk_copied}
 use Rattle.jsonb_raw.proofs.key_bytes.push_long_text.Goals as goal
 
 pub loop-left-preserved-in_ok-extend_from_slice : goal.loop-left-preserved-in_ok-extend_from_slice

@@ -1,4 +1,4 @@
-use Rattle.jsonb_raw.proofs.Common.{◌≡◌, ◌++◌, length, text_bytes}
+use Rattle.jsonb_raw.proofs.Lemmas.{◌≡◌, ◌++◌, length, text_bytes}
 use Rattle.jsonb_raw.proofs.key_bytes.push_long_text.Given as goal
 
 -- what is written, followed by the spelling of what is left, is the whole

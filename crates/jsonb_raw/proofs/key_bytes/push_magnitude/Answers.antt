@@ -1,5 +1,4 @@
-use Rattle.jsonb_raw.proofs.Common.{arith, ap, ◌∙◌, ◌≡◌, ◌+◌, ◌-◌, ◌++◌, length, take, drop, length-drop, take_all, digits_of}
-use Rattle.jsonb_raw.proofs.PushedNumbers.{buffer_steps}
+use Rattle.jsonb_raw.proofs.Lemmas.{arith, ap, ◌∙◌, ◌≡◌, ◌+◌, ◌-◌, ◌++◌, length, take, drop, length-drop, take_all, digits_of, buffer_steps}
 use Rattle.jsonb_raw.proofs.key_bytes.push_magnitude.Goals as goal
 
 pub returns : goal.returns

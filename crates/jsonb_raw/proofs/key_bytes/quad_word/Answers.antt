@@ -1,5 +1,4 @@
-use Rattle.jsonb_raw.proofs.Common.{rules}
-use Rattle.jsonb_raw.proofs.WordTexts.{plain_word, quad_joined}
+use Rattle.jsonb_raw.proofs.Lemmas.{rules, plain_word, quad_joined}
 use Rattle.jsonb_raw.proofs.key_bytes.quad_word.Goals as goal
 
 pub returns : goal.returns

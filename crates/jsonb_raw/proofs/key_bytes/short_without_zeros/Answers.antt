@@ -1,5 +1,4 @@
-use Rattle.jsonb_raw.proofs.Common.{arith, refl, sym, ◌∙◌}
-use Rattle.jsonb_raw.proofs.DigitSteps.{count_short, zero_passed, significant_whole}
+use Rattle.jsonb_raw.proofs.Lemmas.{arith, refl, sym, ◌∙◌, count_short, zero_passed, significant_whole}
 use Rattle.jsonb_raw.proofs.key_bytes.short_without_zeros.Goals as goal
 
 pub loop-left-init : goal.loop-left-init

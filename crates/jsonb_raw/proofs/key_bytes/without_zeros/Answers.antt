@@ -1,5 +1,4 @@
-use Rattle.jsonb_raw.proofs.Common.{rules, arith, refl}
-use Rattle.jsonb_raw.proofs.DigitSteps.{count_few, zero_passed, significant_whole}
+use Rattle.jsonb_raw.proofs.Lemmas.{rules, arith, refl, count_few, zero_passed, significant_whole}
 use Rattle.jsonb_raw.proofs.key_bytes.without_zeros.Goals as goal
 
 pub loop-left-init : goal.loop-left-init

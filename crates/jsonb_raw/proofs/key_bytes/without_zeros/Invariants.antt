@@ -1,4 +1,4 @@
-use Rattle.jsonb_raw.proofs.DigitSteps.{ZerosPassed}
+use Rattle.jsonb_raw.proofs.Lemmas.{ZerosPassed}
 use Rattle.jsonb_raw.proofs.key_bytes.without_zeros.Given as goal
 
 abbrev pub invariant-loop-left : goal.invariant-loop-left

@@ -1,5 +1,4 @@
-use Rattle.jsonb_raw.proofs.Common.{ℕ, ◌+◌, refl, ap}
-use Rattle.jsonb_raw.proofs.TextChunks.{byte_written}
+use Rattle.jsonb_raw.proofs.Lemmas.{ℕ, ◌+◌, refl, ap, byte_written}
 use Rattle.jsonb_raw.proofs.key_bytes.write_byte.Goals as goal
 
 pub returns-clause-bytes : goal.returns-clause-bytes

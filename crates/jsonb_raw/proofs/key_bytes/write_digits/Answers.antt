@@ -1,5 +1,4 @@
-use Rattle.jsonb_raw.proofs.Common.{rules, arith, refl, ap, ◌∙◌, complement_byte}
-use Rattle.jsonb_raw.proofs.DigitSteps.{room_left, digit_passed, all_digits, no_digits}
+use Rattle.jsonb_raw.proofs.Lemmas.{rules, arith, refl, ap, ◌∙◌, complement_byte, room_left, digit_passed, all_digits, no_digits}
 use Rattle.jsonb_raw.proofs.key_bytes.write_digits.Goals as goal
 
 pub write_before-first-requires-clause-some : goal.write_before-first-requires-clause-some

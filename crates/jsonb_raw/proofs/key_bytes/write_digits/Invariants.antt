@@ -1,4 +1,4 @@
-use Rattle.jsonb_raw.proofs.DigitSteps.{DigitsWritten}
+use Rattle.jsonb_raw.proofs.Lemmas.{DigitsWritten}
 use Rattle.jsonb_raw.proofs.key_bytes.write_digits.Given as goal
 
 abbrev pub invariant-loop-long : goal.invariant-loop-long

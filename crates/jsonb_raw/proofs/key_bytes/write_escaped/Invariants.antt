@@ -1,4 +1,4 @@
-use Rattle.jsonb_raw.proofs.Common.{◌≡◌, ◌≤◌, ◌+◌, ◌*◌, ◌++◌, length, take, drop, flat_map, escaped_byte}
+use Rattle.jsonb_raw.proofs.Lemmas.{◌≡◌, ◌≤◌, ◌+◌, ◌*◌, ◌++◌, length, take, drop, flat_map, escaped_byte}
 use Rattle.jsonb_raw.proofs.key_bytes.write_escaped.Given as goal
 
 -- what is written, followed by what is left, is the whole

@@ -1,5 +1,4 @@
-use Rattle.jsonb_raw.proofs.Common.{rules}
-use Rattle.jsonb_raw.proofs.TextChunks.{run_ended}
+use Rattle.jsonb_raw.proofs.Lemmas.{rules, run_ended}
 use Rattle.jsonb_raw.proofs.key_bytes.write_piece.Goals as goal
 
 pub returns-clause-bytes : goal.returns-clause-bytes

@@ -1,4 +1,4 @@
-use Rattle.jsonb_raw.proofs.KeyLawProofs.{composite_keys_order}
+use Rattle.jsonb_raw.proofs.Lemmas.{composite_keys_order}
 use Rattle.jsonb_raw.proofs.laws.composite_keys.Goals as goal
 
 pub returns : goal.returns

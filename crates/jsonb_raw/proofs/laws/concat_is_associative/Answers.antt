@@ -1,5 +1,4 @@
-use Rattle.jsonb_raw.proofs.ConcatLemmas.{merged_assoc}
-use Rattle.jsonb_raw.proofs.Common.{arith, members-pairs_of, keys_of-members, keys_rise, elements-trees_of, append_assoc}
+use Rattle.jsonb_raw.proofs.Lemmas.{merged_assoc, arith, members-pairs_of, keys_of-members, keys_rise, elements-trees_of, append_assoc}
 use Rattle.jsonb_raw.proofs.laws.concat_is_associative.Goals as goal
 
 pub returns-clause-arrays : goal.returns-clause-arrays

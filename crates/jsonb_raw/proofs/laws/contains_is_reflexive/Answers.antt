@@ -1,4 +1,4 @@
-use Rattle.jsonb_raw.proofs.ContainsLaws.{contains_refl}
+use Rattle.jsonb_raw.proofs.Lemmas.{contains_refl}
 use Rattle.jsonb_raw.proofs.laws.contains_is_reflexive.Goals as goal
 
 pub returns : goal.returns

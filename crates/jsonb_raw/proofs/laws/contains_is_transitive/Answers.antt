@@ -1,4 +1,4 @@
-use Rattle.jsonb_raw.proofs.ContainsLaws.{contains_trans}
+use Rattle.jsonb_raw.proofs.Lemmas.{contains_trans}
 use Rattle.jsonb_raw.proofs.laws.contains_is_transitive.Goals as goal
 
 pub returns : goal.returns

@@ -1,5 +1,4 @@
-use Rattle.jsonb_raw.proofs.Common.{arith}
-use Rattle.jsonb_raw.proofs.KeyLawProofs.{decoded_key, keys_order}
+use Rattle.jsonb_raw.proofs.Lemmas.{arith, decoded_key, keys_order}
 use Rattle.jsonb_raw.proofs.laws.documents_compare_as_keys.Goals as goal
 
 pub returns : goal.returns

@@ -1,4 +1,4 @@
-use Rattle.jsonb_raw.proofs.SetLawProofs.{overlap_is_shared}
+use Rattle.jsonb_raw.proofs.Lemmas.{overlap_is_shared}
 use Rattle.jsonb_raw.proofs.laws.overlap.Goals as goal
 
 pub returns : goal.returns

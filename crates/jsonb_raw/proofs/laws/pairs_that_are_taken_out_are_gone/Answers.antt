@@ -1,5 +1,4 @@
-use Rattle.jsonb_raw.proofs.GoneLemmas.{some_positions, gone}
-use Rattle.jsonb_raw.proofs.Common.{arith}
+use Rattle.jsonb_raw.proofs.Lemmas.{some_positions, gone, arith}
 use Rattle.jsonb_raw.proofs.laws.pairs_that_are_taken_out_are_gone.Goals as goal
 
 pub returns : goal.returns

@@ -1,4 +1,4 @@
-use Rattle.jsonb_raw.proofs.Common.{◌≡◌, Bool, true, false, not, List, [], ◌∷◌, filter, cond, Some, inl, inr, refl, Pairs, object, members, pairs_of, members-pairs_of, TextSet, is_in, object_pick, object_delete, IsPartitionedInto}
+use Rattle.jsonb_raw.proofs.Lemmas.{◌≡◌, Bool, true, false, not, List, [], ◌∷◌, filter, cond, Some, inl, inr, refl, Pairs, object, members, pairs_of, members-pairs_of, TextSet, is_in, object_pick, object_delete, IsPartitionedInto}
 use Rattle.jsonb_raw.proofs.laws.pick_and_delete_part_objects.Goals as goal
 
 filters_deal : {A : Type 0} (test : A → Bool) (zs : List A) → IsPartitionedInto zs (filter test zs) (filter (λ z. not (test z)) zs)

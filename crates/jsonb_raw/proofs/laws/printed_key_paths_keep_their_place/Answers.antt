@@ -1,4 +1,4 @@
-use Rattle.jsonb_raw.proofs.Common.{◌≡◌, ℕ, List, [], ◌∷◌, Option, refl, slice_get, option_and_then, option_map, map, arith, Tree, Key, without_quotes, reads_back_if_read, children, child_position, location}
+use Rattle.jsonb_raw.proofs.Lemmas.{◌≡◌, ℕ, List, [], ◌∷◌, Option, refl, slice_get, option_and_then, option_map, map, arith, Tree, Key, without_quotes, reads_back_if_read, children, child_position, location}
 use Rattle.jsonb_raw.proofs.laws.printed_key_paths_keep_their_place.Goals as goal
 
 same_child : (step : Key) (t : Tree) → child_position (without_quotes step) t ≡ child_position step t

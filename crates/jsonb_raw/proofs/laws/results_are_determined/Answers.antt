@@ -1,4 +1,4 @@
-use Rattle.jsonb_raw.proofs.Common.{arith, ◌≡◌, ◌∙◌, sym, List, ℕ, ap, refl, true≢false, Option, Some, None, Result, Ok, Err, IfOk, IfSome, AreBytes, Tree, canonical, Decodes, Error, one_canonical_document, OwnedJsonb, Makes, MakesOption}
+use Rattle.jsonb_raw.proofs.Lemmas.{arith, ◌≡◌, ◌∙◌, sym, List, ℕ, ap, refl, true≢false, Option, Some, None, Result, Ok, Err, IfOk, IfSome, AreBytes, Tree, canonical, Decodes, Error, one_canonical_document, OwnedJsonb, Makes, MakesOption}
 use Rattle.jsonb_raw.proofs.laws.results_are_determined.Goals as goal
 
 one_document : (t : Tree) (made other : List ℕ) → Decodes canonical made t → Decodes canonical other t

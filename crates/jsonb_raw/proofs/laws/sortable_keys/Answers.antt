@@ -1,5 +1,4 @@
-use Rattle.jsonb_raw.proofs.Common.{rules}
-use Rattle.jsonb_raw.proofs.KeyLawProofs.{keys_keep_below, keys_keep_equal, keys_order, keys_tell_apart}
+use Rattle.jsonb_raw.proofs.Lemmas.{rules, keys_keep_below, keys_keep_equal, keys_order, keys_tell_apart}
 use Rattle.jsonb_raw.proofs.laws.sortable_keys.Goals as goal
 
 pub returns : goal.returns

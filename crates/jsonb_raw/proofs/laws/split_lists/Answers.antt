@@ -1,4 +1,4 @@
-use Rattle.jsonb_raw.proofs.SetLawProofs.{split_deals, shared_counts, difference_counts}
+use Rattle.jsonb_raw.proofs.Lemmas.{split_deals, shared_counts, difference_counts}
 use Rattle.jsonb_raw.proofs.laws.split_lists.Goals as goal
 
 pub returns-clause-dealt : goal.returns-clause-dealt

@@ -1,4 +1,4 @@
-use Rattle.jsonb_raw.proofs.Common.{◌≡◌, ℕ, Bool, List, cond, refl, ap, ◌∙◌, arith, Tree, array, object, Trees, no_trees, tree, Pairs, no_pairs, pair, is_null, strip, strip_trees, strip_pairs}
+use Rattle.jsonb_raw.proofs.Lemmas.{◌≡◌, ℕ, Bool, List, cond, refl, ap, ◌∙◌, arith, Tree, array, object, Trees, no_trees, tree, Pairs, no_pairs, pair, is_null, strip, strip_trees, strip_pairs}
 use Rattle.jsonb_raw.proofs.laws.strip_twice_is_strip.Goals as goal
 
 strip_pair : (b : Bool) (k : List ℕ) (t : Tree) (ps : Pairs) → is_null t ≡ b → strip (strip t) ≡ strip t → strip_pairs (strip_pairs ps) ≡ strip_pairs ps

@@ -1,5 +1,4 @@
-use Rattle.jsonb_raw.proofs.Common.{rules}
-use Rattle.jsonb_raw.proofs.LevelStarts.{headed, array_told}
+use Rattle.jsonb_raw.proofs.Lemmas.{rules, headed, array_told}
 use Rattle.jsonb_raw.proofs.level.is_array.Goals as goal
 
 pub returns-in-Some : goal.returns-in-Some

@@ -1,8 +1,6 @@
-use Rattle.jsonb_raw.proofs.Common.{◌≡◌, [], arith, sym, ap, ◌∙◌, Ordering, le_trans, ordering_then, slice_cmp, rank, tree_cmp, level_room, parts, part_cmp}
+use Rattle.jsonb_raw.proofs.Lemmas.{◌≡◌, [], arith, sym, ap, ◌∙◌, Ordering, le_trans, ordering_then, slice_cmp, rank, tree_cmp, level_room, parts, part_cmp, parts_left, SomeParts-first, SomeParts-error, SomeParts-none, all_left, child_told, first_falls, decides_along, equal_passes, next_children, ended, children_ended, parts_in_order, container_rank, container_content}
 use Rattle.jsonb_raw.specs.Private.Order.{Decides}
-use Rattle.jsonb_raw.proofs.LevelLemmas.{parts_left, SomeParts-first, SomeParts-error, SomeParts-none}
-use Rattle.jsonb_raw.proofs.LevelStarts.{all_left}
-use Rattle.jsonb_raw.proofs.OrderLemmas.{child_told, first_falls, none_left, decided, decides_along, equal_passes, next_children, ended, children_ended, parts_in_order, container_rank, container_content}
+use Rattle.jsonb_raw.proofs.LevelLemmas.{none_left, decided}
 use Rattle.jsonb_raw.proofs.order.+order.Goals.{children_order-then-is_some, children_order-else-is_some}
 use Rattle.jsonb_raw.proofs.order.+order.Goals as goal
 

@@ -1,6 +1,6 @@
-use Rattle.jsonb_raw.proofs.Common.{◌≤◌, ◌+◌, ◌*◌, List, length, IfSome, ordering_then, slice_cmp, Tree, tree_cmp, Form, Stores, EntryPrefix, HasPartsLeft, level_room, level_bound, part_cmp}
+use Rattle.jsonb_raw.proofs.Lemmas.{◌≤◌, ◌+◌, ◌*◌, List, length, IfSome, ordering_then, slice_cmp, Tree, tree_cmp, Form, Stores, EntryPrefix, HasPartsLeft, level_room, level_bound, part_cmp, SomeOfBoth}
 use Rattle.jsonb_raw.specs.Private.Order.{Decides}
-use Rattle.jsonb_raw.proofs.OrderLemmas.{SomeOfBoth, first_left}
+use Rattle.jsonb_raw.proofs.LevelLemmas.{first_left}
 use Rattle.jsonb_raw.proofs.order.+order.Given as goal
 
 abbrev pub decreases-children_order : goal.decreases-children_order

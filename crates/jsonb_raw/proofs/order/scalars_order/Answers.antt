@@ -1,5 +1,4 @@
-use Rattle.jsonb_raw.proofs.Common.{rules}
-use Rattle.jsonb_raw.proofs.OrderLemmas.{numbers_told}
+use Rattle.jsonb_raw.proofs.Lemmas.{rules, numbers_told}
 use Rattle.jsonb_raw.proofs.order.scalars_order.Goals as goal
 
 pub returns : goal.returns

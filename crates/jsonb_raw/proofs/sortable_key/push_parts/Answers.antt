@@ -1,9 +1,5 @@
-use Rattle.jsonb_raw.proofs.Common.{arith, [], ◌∷◌, sym, ◌∙◌, ap, ◌++◌, width_of, parts}
-use Rattle.jsonb_raw.proofs.AnswerLemmas.{failed}
-use Rattle.jsonb_raw.proofs.LevelLemmas.{parts_left, as_many_around, pushed_around, popped_around, SomeParts-first, SomeParts-none, falls_within, falls_beside, falls_done}
-use Rattle.jsonb_raw.proofs.LevelStarts.{stored_container}
-use Rattle.jsonb_raw.proofs.ContainLemmas.{scalar_told}
-use Rattle.jsonb_raw.proofs.LevelKeys.{walk_begun, part_begun_at, first_refused, part_done, part_written, level_done}
+use Rattle.jsonb_raw.proofs.Lemmas.{arith, [], ◌∷◌, sym, ◌∙◌, ap, ◌++◌, width_of, parts, failed, parts_left, as_many_around, pushed_around, popped_around, SomeParts-first, SomeParts-none, falls_within, falls_beside, falls_done, stored_container, scalar_told, part_begun_at, first_refused, part_written}
+use Rattle.jsonb_raw.proofs.LevelKeys.{walk_begun, part_done, level_done}
 use Rattle.jsonb_raw.proofs.sortable_key.push_parts.Goals as goal
 
 pub walk-init : goal.walk-init

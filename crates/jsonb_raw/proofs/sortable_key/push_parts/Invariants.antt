@@ -1,6 +1,4 @@
-use Rattle.jsonb_raw.proofs.Common.{◌+◌, ◌∷◌, reverse, Tree, Form, number_reader, IsContent, deepest, sortable_key, width_of}
-use Rattle.jsonb_raw.proofs.LevelLemmas.{SomeParts, weight, weights}
-use Rattle.jsonb_raw.proofs.LevelKeys.{IsWithin}
+use Rattle.jsonb_raw.proofs.Lemmas.{◌+◌, ◌∷◌, reverse, Tree, Form, number_reader, IsContent, deepest, sortable_key, width_of, SomeParts, weight, weights, IsWithin}
 use Rattle.jsonb_raw.proofs.sortable_key.push_parts.Given as goal
 
 -- what is written, and then the keys of what each level has left, the innermost first, is the key of the whole

@@ -1,5 +1,4 @@
-use Rattle.jsonb_raw.proofs.Common.{arith, ℕ, List, rules, subst, AppendsKey, width_of, array_document, object_document}
-use Rattle.jsonb_raw.proofs.LevelStarts.{scalar_item}
+use Rattle.jsonb_raw.proofs.Lemmas.{arith, ℕ, List, rules, subst, AppendsKey, width_of, array_document, object_document, scalar_item}
 use Rattle.jsonb_raw.proofs.sortable_key.push_sortable_key.Goals as goal
 
 pub returns-in-Array-clause-key : goal.returns-in-Array-clause-key

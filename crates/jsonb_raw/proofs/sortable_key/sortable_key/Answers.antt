@@ -1,6 +1,4 @@
-use Rattle.jsonb_raw.proofs.Common.{◌++◌, ◌∙◌, ap, arith, sortable_key, width_of}
-use Rattle.jsonb_raw.proofs.AnswerLemmas.{failed}
-use Rattle.jsonb_raw.proofs.KeyLawProofs.{decoded_ranks}
+use Rattle.jsonb_raw.proofs.Lemmas.{◌++◌, ◌∙◌, ap, arith, sortable_key, width_of, failed, decoded_ranks}
 use Rattle.jsonb_raw.proofs.sortable_key.sortable_key.Goals as goal
 
 pub returns-in_err-push_sortable_key-clause-key : goal.returns-in_err-push_sortable_key-clause-key

@@ -1,4 +1,4 @@
-use Rattle.jsonb_raw.proofs.IteratorLemmas.{iter_tells}
+use Rattle.jsonb_raw.proofs.Lemmas.{iter_tells}
 use Rattle.jsonb_raw.proofs.tests.part_at.Goals as goal
 
 pub returns : goal.returns

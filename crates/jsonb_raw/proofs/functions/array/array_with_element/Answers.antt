@@ -1,6 +1,4 @@
-use Rattle.jsonb_raw.proofs.Common.{◌≡◌, length, take, drop, ap, ◌∙◌, w32, to_z-of_z, as_elements, insert_place}
-use Rattle.jsonb_raw.proofs.AnswerLemmas.{failed}
-use Rattle.jsonb_raw.proofs.RunLemmas.{refused_between, refused_beside}
+use Rattle.jsonb_raw.proofs.Lemmas.{◌≡◌, length, take, drop, ap, ◌∙◌, w32, to_z-of_z, as_elements, insert_place, failed, refused_between, refused_beside}
 use Rattle.jsonb_raw.proofs.functions.array.array_with_element.Goals as goal
 
 pub returns-in_err-elements-clause-inserted : goal.returns-in_err-elements-clause-inserted

@@ -1,5 +1,4 @@
-use Rattle.jsonb_raw.proofs.Common.{[], ◌∷◌, take, drop}
-use Rattle.jsonb_raw.proofs.RunLemmas.{three_runs}
+use Rattle.jsonb_raw.proofs.Lemmas.{[], ◌∷◌, take, drop, three_runs}
 use Rattle.jsonb_raw.proofs.functions.array.array_with_entry.Goals as goal
 
 pub returns-clause-inserted : goal.returns-clause-inserted

@@ -1,8 +1,4 @@
-use Rattle.jsonb_raw.proofs.Common.{rules}
-use Rattle.jsonb_raw.proofs.AnswerLemmas.{failed}
-use Rattle.jsonb_raw.proofs.CollectLoops.{none_made, one_made, all_made}
-use Rattle.jsonb_raw.proofs.ArrayLemmas.{element_refused_in_list}
-use Rattle.jsonb_raw.proofs.RunLemmas.{entry_taken, no_entry_left}
+use Rattle.jsonb_raw.proofs.Lemmas.{rules, failed, none_made, one_made, all_made, element_refused_in_list, entry_taken, no_entry_left}
 use Rattle.jsonb_raw.proofs.functions.array.entry_documents.Goals as goal
 
 pub loop-documents-init : goal.loop-documents-init

@@ -1,5 +1,4 @@
-use Rattle.jsonb_raw.proofs.Common.{List, length, Tree, Form, Decodes, HoldTrees}
-use Rattle.jsonb_raw.proofs.CollectLoops.{Made}
+use Rattle.jsonb_raw.proofs.Lemmas.{List, length, Tree, Form, Decodes, HoldTrees, Made}
 use Rattle.jsonb_raw.proofs.functions.array.entry_documents.Given as goal
 
 -- the documents that were made, followed by the entries that are left, are the whole

@@ -1,4 +1,4 @@
-use Rattle.jsonb_raw.proofs.Common.{arith, entry_decodes, not_short, kind_known, other_kind}
+use Rattle.jsonb_raw.proofs.Lemmas.{arith, entry_decodes, not_short, kind_known, other_kind}
 use Rattle.jsonb_raw.proofs.functions.entries.entry_document.Goals as goal
 
 pub returns-then-content-gt-MAX_CONTENT-clause-document : goal.returns-then-content-gt-MAX_CONTENT-clause-document

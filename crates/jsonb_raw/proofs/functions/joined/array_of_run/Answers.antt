@@ -1,5 +1,4 @@
-use Rattle.jsonb_raw.proofs.Common.{rules}
-use Rattle.jsonb_raw.proofs.RunLemmas.{one_run}
+use Rattle.jsonb_raw.proofs.Lemmas.{rules, one_run}
 use Rattle.jsonb_raw.proofs.functions.joined.array_of_run.Goals as goal
 
 pub returns-clause-array : goal.returns-clause-array

@@ -1,6 +1,4 @@
-use Rattle.jsonb_raw.proofs.Common.{length, ap, arith, length-append}
-use Rattle.jsonb_raw.proofs.RunLemmas.{first_run}
-use Rattle.jsonb_raw.proofs.Lists.{none_behind}
+use Rattle.jsonb_raw.proofs.Lemmas.{length, ap, arith, length-append, first_run, drop_of_length-le}
 use Rattle.jsonb_raw.proofs.functions.joined.count_entries.Goals as goal
 
 pub returns-then-count-gt-MAX_ENTRIES : goal.returns-then-count-gt-MAX_ENTRIES
@@ -21,4 +19,4 @@ loop-run-preserved c = record {
 }
 
 pub returns : goal.returns
-returns c = grind (arith, none_behind)
+returns c = grind (arith, drop_of_length-le)

@@ -1,4 +1,4 @@
-use Rattle.jsonb_raw.proofs.Common.{◌≡◌, ◌+◌, ◌^◌, ◌<◌, List, length, drop, Tree, Form, RunsHold}
+use Rattle.jsonb_raw.proofs.Lemmas.{◌≡◌, ◌+◌, ◌^◌, ◌<◌, List, length, drop, Tree, Form, RunsHold}
 use Rattle.jsonb_raw.proofs.functions.joined.count_entries.Given as goal
 
 -- the entries so far, and those that are left, are all

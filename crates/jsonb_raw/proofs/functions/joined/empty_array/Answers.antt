@@ -1,4 +1,4 @@
-use Rattle.jsonb_raw.proofs.Common.{arith, append-nil}
+use Rattle.jsonb_raw.proofs.Lemmas.{arith, append-nil}
 use Rattle.jsonb_raw.proofs.functions.joined.empty_array.Goals as goal
 
 pub returns-clause-array : goal.returns-clause-array

@@ -1,6 +1,5 @@
-use Rattle.jsonb_raw.proofs.Common.{inr, refl, length, map, ◌++◌, keys_of, values_of, text, object, pairs_of}
+use Rattle.jsonb_raw.proofs.Lemmas.{inr, refl, length, map, ◌++◌, keys_of, values_of, text, object, pairs_of, object_made, too_many_made}
 use Rattle.jsonb_doc.specs.declared.layout.HeaderKind.TheVariants as header_kind
-use Rattle.jsonb_raw.proofs.RunLemmas.{object_made, too_many_made}
 use Rattle.jsonb_raw.proofs.functions.joined.object_of.Goals as goal
 
 pub returns-in_default-clause-object : goal.returns-in_default-clause-object

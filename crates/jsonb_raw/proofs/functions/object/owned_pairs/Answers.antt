@@ -1,8 +1,4 @@
-use Rattle.jsonb_raw.proofs.Common.{rules, ◌≡◌, ◌++◌, [], ◌∷◌, string_bytes, IsPairOf}
-use Rattle.jsonb_raw.proofs.AnswerLemmas.{failed}
-use Rattle.jsonb_raw.proofs.CollectLoops.{none_made, one_made, all_made}
-use Rattle.jsonb_raw.proofs.ObjectLemmas.{pair_refused_in_list}
-use Rattle.jsonb_raw.proofs.RunLemmas.{others_hold, pair_taken, no_pair_left}
+use Rattle.jsonb_raw.proofs.Lemmas.{rules, ◌≡◌, ◌++◌, [], ◌∷◌, string_bytes, IsPairOf, failed, none_made, one_made, all_made, pair_refused_in_list, others_hold, pair_taken, no_pair_left}
 use Rattle.jsonb_raw.proofs.functions.object.owned_pairs.Goals as goal
 
 pub loop-each-init : goal.loop-each-init

@@ -1,5 +1,4 @@
-use Rattle.jsonb_raw.proofs.Common.{List, ℕ, length, string_bytes, Tree, Form, IsPairOf, HoldPairs}
-use Rattle.jsonb_raw.proofs.CollectLoops.{Made}
+use Rattle.jsonb_raw.proofs.Lemmas.{List, ℕ, length, string_bytes, Tree, Form, IsPairOf, HoldPairs, Made}
 use Rattle.jsonb_raw.proofs.functions.object.owned_pairs.Given as goal
 
 -- the pairs that were made, followed by those that are left, are the whole

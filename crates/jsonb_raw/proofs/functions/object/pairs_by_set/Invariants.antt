@@ -1,5 +1,4 @@
-use Rattle.jsonb_raw.proofs.Common.{◌≡◌, List, ℕ, length, keys_of, Tree, Form, AreKeys, parted, HoldPairs, names_left}
-use Rattle.jsonb_raw.proofs.PartedRuns.{Parting}
+use Rattle.jsonb_raw.proofs.Lemmas.{◌≡◌, List, ℕ, length, keys_of, Tree, Form, AreKeys, parted, HoldPairs, names_left, Parting}
 use Rattle.jsonb_raw.proofs.functions.object.pairs_by_set.Given as goal
 
 -- the pairs that are kept, followed by what the set leaves of the others, are the whole, and the names that are left

@@ -1,6 +1,4 @@
-use Rattle.jsonb_raw.proofs.Common.{rules, w32, SFits, to_z-of_z, field_of, SameOption, Locates}
-use Rattle.jsonb_raw.proofs.PositionLemmas.{passed, plain_met, quoted_met}
-use Rattle.jsonb_raw.proofs.AnswerLemmas.{answered}
+use Rattle.jsonb_raw.proofs.Lemmas.{rules, w32, SFits, to_z-of_z, field_of, SameOption, Locates, passed, plain_met, quoted_met, answered}
 use Rattle.jsonb_raw.proofs.functions.path.child_at_step.Goals as goal
 
 pub returns-in-Index-clause-child : goal.returns-in-Index-clause-child

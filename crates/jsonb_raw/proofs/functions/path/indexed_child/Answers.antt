@@ -1,6 +1,4 @@
-use Rattle.jsonb_raw.proofs.Common.{rules, w32, to_z-of_z, arith}
-use Rattle.jsonb_raw.proofs.PositionLemmas.{array_spots, met_by_key}
-use Rattle.jsonb_raw.proofs.AnswerLemmas.{answered}
+use Rattle.jsonb_raw.proofs.Lemmas.{rules, w32, to_z-of_z, arith, array_spots, met_by_key, answered}
 use Rattle.jsonb_raw.proofs.functions.path.indexed_child.Goals as goal
 
 pub returns-in_err-elements-clause-child : goal.returns-in_err-elements-clause-child

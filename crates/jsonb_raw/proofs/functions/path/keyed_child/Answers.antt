@@ -1,6 +1,4 @@
-use Rattle.jsonb_raw.proofs.Common.{◌∙◌, sym, w32, to_z-of_z, arith}
-use Rattle.jsonb_raw.proofs.PositionLemmas.{no_field}
-use Rattle.jsonb_raw.proofs.AnswerLemmas.{answered}
+use Rattle.jsonb_raw.proofs.Lemmas.{◌∙◌, sym, w32, to_z-of_z, arith, no_field, answered}
 use Rattle.jsonb_raw.proofs.functions.path.keyed_child.Goals as goal
 
 pub returns-then-not-is_container-clause-child : goal.returns-then-not-is_container-clause-child

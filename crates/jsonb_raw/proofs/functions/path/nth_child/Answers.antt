@@ -1,4 +1,4 @@
-use Rattle.jsonb_raw.proofs.Common.{rules}
+use Rattle.jsonb_raw.proofs.Lemmas.{rules}
 use Rattle.jsonb_raw.proofs.ChildLemmas.{all_left}
 use Rattle.jsonb_raw.proofs.functions.path.nth_child.Goals as goal
 

@@ -1,11 +1,10 @@
-use Rattle.jsonb_raw.proofs.Common.{refl, arith, drop, no_spots_left}
-use Rattle.jsonb_raw.proofs.ChildLemmas.{first_left, first_marked, first_given, here, nowhere, beyond, first_behind}
+use Rattle.jsonb_raw.proofs.Lemmas.{refl, arith, drop, no_spots_left, first_left, first_marked, first_given, here, nowhere, slice_get_past, first_behind}
 use Rattle.jsonb_raw.proofs.functions.path.nth_spot.Goals as goal
 
 pub returns-in_default-clause-spot : goal.returns-in_default-clause-spot
 returns-in_default-clause-spot c = λ bytes ts h.
     let few = c.in_default.ensures.left bytes ts h in
-    rw (beyond ts c.args.position (omega (arith, few))) tt
+    rw (slice_get_past ts c.args.position (omega (arith, few))) tt
 
 pub returns-in_default-next-clause-spot : goal.returns-in_default-next-clause-spot
 returns-in_default-next-clause-spot c = λ bytes ts h.

@@ -1,4 +1,4 @@
-use Rattle.jsonb_raw.proofs.Common.{◌≡◌, None, Some, length, sym, ap, ◌∙◌, w32, to_z-of_z, index_position}
+use Rattle.jsonb_raw.proofs.Lemmas.{◌≡◌, None, Some, length, sym, ap, ◌∙◌, w32, to_z-of_z, index_position}
 use Rattle.jsonb_raw.proofs.functions.path.spot_at.Goals as goal
 
 pub returns-in_default-clause-spot : goal.returns-in_default-clause-spot

@@ -1,5 +1,4 @@
-use Rattle.jsonb_raw.proofs.Common.{◌++◌, List, ap, sym, subst, length, ◌∙◌, Tree, IsWriting, zero_of, HoldTrees}
-use Rattle.jsonb_raw.proofs.RunLemmas.{holding_none}
+use Rattle.jsonb_raw.proofs.Lemmas.{◌++◌, List, ap, sym, subst, length, ◌∙◌, Tree, IsWriting, zero_of, HoldTrees, holding_none}
 use Rattle.jsonb_raw.proofs.functions.runs.copy_run.Goals as goal
 
 pub returns-then-is_empty-clause-copied : goal.returns-then-is_empty-clause-copied

@@ -1,5 +1,4 @@
-use Rattle.jsonb_raw.proofs.Common.{refl, object}
-use Rattle.jsonb_raw.proofs.RunLemmas.{pairs_of_object, values_skipped}
+use Rattle.jsonb_raw.proofs.Lemmas.{refl, object, pairs_of_object, values_skipped}
 use Rattle.jsonb_raw.proofs.functions.runs.entries_of_pairs.Goals as goal
 
 pub returns-in_err-values-clause-entries : goal.returns-in_err-values-clause-entries

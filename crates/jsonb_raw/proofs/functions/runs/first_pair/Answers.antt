@@ -1,4 +1,4 @@
-use Rattle.jsonb_raw.proofs.Common.{rules}
+use Rattle.jsonb_raw.proofs.Lemmas.{rules}
 use Rattle.jsonb_raw.proofs.RunLemmas.{value_there}
 use Rattle.jsonb_raw.proofs.functions.runs.first_pair.Goals as goal
 

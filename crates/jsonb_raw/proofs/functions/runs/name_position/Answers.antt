@@ -1,6 +1,4 @@
-use Rattle.jsonb_raw.proofs.Common.{◌∙◌, sym, rules, arith}
-use Rattle.jsonb_raw.proofs.PositionLemmas.{position-cons}
-use Rattle.jsonb_raw.proofs.RunLemmas.{text_first, no_text_left}
+use Rattle.jsonb_raw.proofs.Lemmas.{◌∙◌, sym, rules, arith, position-cons, text_first, no_text_left}
 use Rattle.jsonb_raw.proofs.functions.runs.name_position.Goals as goal
 
 pub returns-then-eq-clause-position : goal.returns-then-eq-clause-position

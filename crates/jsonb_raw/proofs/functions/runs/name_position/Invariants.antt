@@ -1,5 +1,4 @@
-use Rattle.jsonb_raw.proofs.Common.{◌≡◌, ◌+◌, ◌≤◌, List, ℕ, length, map, position, bytes_eq, text, Form, HoldTrees}
-use Rattle.jsonb_raw.proofs.PositionLemmas.{position_behind}
+use Rattle.jsonb_raw.proofs.Lemmas.{◌≡◌, ◌+◌, ◌≤◌, List, ℕ, length, map, position, bytes_eq, text, Form, HoldTrees, position_behind}
 use Rattle.jsonb_raw.proofs.functions.runs.name_position.Given as goal
 
 -- the position is that among the keys that are left, after those that were passed

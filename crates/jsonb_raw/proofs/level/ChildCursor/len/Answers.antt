@@ -1,5 +1,4 @@
-use Rattle.jsonb_raw.proofs.Common.{rules}
-use Rattle.jsonb_raw.proofs.LevelLemmas.{count_of_trees, count_of_pairs, count_of_keys}
+use Rattle.jsonb_raw.proofs.Lemmas.{rules, count_of_trees, count_of_pairs, count_of_keys}
 use Rattle.jsonb_raw.proofs.level.ChildCursor.len.Goals as goal
 
 pub returns-in-Elements : goal.returns-in-Elements

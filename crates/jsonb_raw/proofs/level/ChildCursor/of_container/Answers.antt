@@ -1,5 +1,5 @@
-use Rattle.jsonb_raw.proofs.Common.{rules, arith, inl, inr, ap, number_reader, header_number, HasContent-kind}
-use Rattle.jsonb_raw.proofs.LevelStarts.{headed, no_array, no_object}
+use Rattle.jsonb_raw.proofs.Lemmas.{rules, arith, inl, inr, ap, number_reader, header_number, HasContent-kind, headed, no_object}
+use Rattle.jsonb_raw.proofs.LevelLemmas.{no_array}
 use Rattle.jsonb_raw.proofs.level.ChildCursor.of_container.Goals as goal
 
 pub returns-in_default-clause-level : goal.returns-in_default-clause-level

@@ -1,5 +1,4 @@
-use Rattle.jsonb_raw.proofs.Common.{arith}
-use Rattle.jsonb_raw.proofs.LevelLemmas.{no_pair_error, part_is}
+use Rattle.jsonb_raw.proofs.Lemmas.{arith, no_pair_error, part_is}
 use Rattle.jsonb_raw.proofs.level.ChildCursor.take.Goals as goal
 
 pub returns-in_default-next-clause-takes : goal.returns-in_default-next-clause-takes

@@ -1,5 +1,4 @@
-use Rattle.jsonb_raw.proofs.Common.{◌++◌, ap₂, arith, to_le_bytes, w64}
-use Rattle.jsonb_raw.proofs.DigitSteps.{packed_behind}
+use Rattle.jsonb_raw.proofs.Lemmas.{◌++◌, ap₂, arith, to_le_bytes, w64, packed_behind}
 use Rattle.jsonb_raw.proofs.packed.PackedBytes.prepend.Goals as goal
 
 pub returns-clause-bytes : goal.returns-clause-bytes

@@ -1,5 +1,4 @@
-use Rattle.jsonb_raw.proofs.Common.{◌++◌, ap, ◌∙◌, arith}
-use Rattle.jsonb_raw.proofs.DigitSteps.{packed_pushed}
+use Rattle.jsonb_raw.proofs.Lemmas.{◌++◌, ap, ◌∙◌, arith, packed_pushed}
 use Rattle.jsonb_raw.proofs.packed.PackedBytes.push.Goals as goal
 
 pub returns : goal.returns

@@ -1,4 +1,4 @@
-use Rattle.jsonb_raw.proofs.Common.{◌≡◌, rules, err_from_is_err_and, binary, extension}
+use Rattle.jsonb_raw.proofs.Lemmas.{◌≡◌, rules, err_from_is_err_and, binary, extension}
 use Rattle.jsonb_raw.proofs.raw.RawJsonb.as_binary.Goals as goal
 
 pub returns-in_err-from_slice-in-Extension-Binary-clause-value : goal.returns-in_err-from_slice-in-Extension-Binary-clause-value

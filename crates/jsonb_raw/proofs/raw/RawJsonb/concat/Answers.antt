@@ -1,5 +1,4 @@
-use Rattle.jsonb_raw.proofs.Common.{◌≡◌, ◌++◌, Option, None, subst, arith, Tree, array, trees_of, members, Form, PairEntries, as_elements, concat, ArePairsOf, Decodes, decoded_members, Makes}
-use Rattle.jsonb_raw.proofs.PartedRuns.{pairs_there}
+use Rattle.jsonb_raw.proofs.Lemmas.{◌≡◌, ◌++◌, Option, None, subst, arith, Tree, array, trees_of, members, Form, PairEntries, as_elements, concat, ArePairsOf, Decodes, decoded_members, Makes, pairs_there}
 use Rattle.jsonb_raw.proofs.raw.RawJsonb.concat.Goals as goal
 
 second_not_object : (form : Form) (found : Option PairEntries) (t u : Tree) → found ≡ None → ArePairsOf form u found

@@ -1,6 +1,4 @@
-use Rattle.jsonb_raw.proofs.Common.{arith, ◌≡◌, Some, length, sym, ap, ◌∙◌, w32, remove, to_z-of_z, array, elements, trees_of, HoldTrees, index_position, without_index, refl}
-use Rattle.jsonb_raw.proofs.RunLemmas.{array_of_entries}
-use Rattle.jsonb_raw.proofs.ChildAnswers.{without_none}
+use Rattle.jsonb_raw.proofs.Lemmas.{arith, ◌≡◌, Some, length, sym, ap, ◌∙◌, w32, remove, to_z-of_z, array, elements, trees_of, HoldTrees, index_position, without_index, refl, array_of_entries, without_none}
 use Rattle.jsonb_raw.proofs.raw.RawJsonb.delete_by_index.Goals as goal
 
 pub returns-in-Some-index_position-clause-deleted : goal.returns-in-Some-index_position-clause-deleted

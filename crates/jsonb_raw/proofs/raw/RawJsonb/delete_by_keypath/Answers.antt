@@ -1,5 +1,5 @@
-use Rattle.jsonb_raw.proofs.Common.{rules, ◌≡◌, Bool, true, false, arith, sym, ◌∙◌, false≢true, err_from_is_err_and, Decodes, empty_of, keys_view, AreShort, refl}
-use Rattle.jsonb_raw.proofs.DeleteLemmas.{no_place, some_place, no_way, same_decodes, without_none, without_part, part_met, part_out}
+use Rattle.jsonb_raw.proofs.Lemmas.{rules, ◌≡◌, Bool, true, false, arith, sym, ◌∙◌, false≢true, err_from_is_err_and, Decodes, empty_of, keys_view, AreShort, refl, no_place, some_place, no_way, same_decodes, without_part, part_met, part_out}
+use Rattle.jsonb_raw.proofs.CutLemmas.{without_none}
 use Rattle.jsonb_raw.proofs.raw.RawJsonb.delete_by_keypath.Goals as goal
 
 not_scalar : {A : Type 0} (told is : Bool) → told ≡ is → told ≡ false → is ≡ true → A

@@ -1,4 +1,4 @@
-use Rattle.jsonb_raw.proofs.Common.{◌≡◌, None, refl, without_name, arith}
+use Rattle.jsonb_raw.proofs.Lemmas.{◌≡◌, None, refl, without_name, arith}
 use Rattle.jsonb_raw.proofs.raw.RawJsonb.delete_by_name.Goals as goal
 
 pub returns-in-Array-clause-deleted : goal.returns-in-Array-clause-deleted

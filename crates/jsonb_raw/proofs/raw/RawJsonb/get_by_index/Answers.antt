@@ -1,6 +1,6 @@
 use Rattle.jsonb_raw.proofs.Common.{arith, drop_of_length-le}
 use Rattle.jsonb_raw.proofs.AnswerLemmas.{found_made, found_none}
-use Rattle.jsonb_raw.proofs.ChildAnswers.{no_such_element}
+use Rattle.jsonb_raw.proofs.ChildLemmas.{no_such_element}
 use Rattle.jsonb_raw.proofs.RunLemmas.{array_of_entries}
 use Rattle.jsonb_raw.proofs.raw.RawJsonb.get_by_index.Goals as goal
 

@@ -1,5 +1,4 @@
-use Rattle.jsonb_raw.proofs.Common.{sym, refl, err_from_is_err_and, Locates, raw_bytes, arith}
-use Rattle.jsonb_raw.proofs.PositionLemmas.{none_same, some_same}
+use Rattle.jsonb_raw.proofs.Lemmas.{sym, refl, err_from_is_err_and, Locates, raw_bytes, arith, none_same, some_same}
 use Rattle.jsonb_raw.proofs.raw.RawJsonb.get_by_keypath.Goals as goal
 
 pub returns-in_err-spot-clause-place : goal.returns-in_err-spot-clause-place

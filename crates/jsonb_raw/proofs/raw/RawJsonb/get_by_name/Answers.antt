@@ -1,6 +1,5 @@
-use Rattle.jsonb_raw.proofs.Common.{◌≡◌, Option, None, false, sym, ap, ◌∙◌, arith, option_or, Tree, Pairs, object, value_under, Form, number_reader, Holds, HasPairParts, ObjectParts, IsCut-same, Decodes-object, named_child}
+use Rattle.jsonb_raw.proofs.Lemmas.{◌≡◌, Option, None, false, sym, ap, ◌∙◌, arith, option_or, Tree, Pairs, object, value_under, Form, number_reader, Holds, HasPairParts, ObjectParts, IsCut-same, Decodes-object, named_child, found_made, found_none}
 use Rattle.jsonb_doc.specs.declared.container.Container.TheVariants.{Object}
-use Rattle.jsonb_raw.proofs.AnswerLemmas.{found_made, found_none}
 use Rattle.jsonb_raw.proofs.raw.RawJsonb.get_by_name.Goals as goal
 
 or_none : (found : Option Tree) → option_or found None ≡ found

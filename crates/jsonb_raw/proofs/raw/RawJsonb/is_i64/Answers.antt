@@ -1,4 +1,4 @@
-use Rattle.jsonb_raw.proofs.Common.{◌≡◌, ℤ, Bool, IsTrue, Option, Some, is_some, MatchOption, FitsSigned, rules, arith, Tree, IsWholeNumber}
+use Rattle.jsonb_raw.proofs.Lemmas.{◌≡◌, ℤ, Bool, IsTrue, Option, Some, is_some, MatchOption, FitsSigned, rules, arith, Tree, IsWholeNumber}
 use Rattle.std.proofs.Common.{w64}
 use Rattle.jsonb_raw.proofs.raw.RawJsonb.is_i64.Goals as goal
 

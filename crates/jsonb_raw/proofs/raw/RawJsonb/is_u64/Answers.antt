@@ -1,4 +1,4 @@
-use Rattle.jsonb_raw.proofs.Common.{◌≡◌, ◌<◌, ◌^◌, ℕ, pos, Bool, IsTrue, Option, Some, is_some, MatchOption, rules, arith, Tree, IsWholeNumber}
+use Rattle.jsonb_raw.proofs.Lemmas.{◌≡◌, ◌<◌, ◌^◌, ℕ, pos, Bool, IsTrue, Option, Some, is_some, MatchOption, rules, arith, Tree, IsWholeNumber}
 use Rattle.jsonb_raw.proofs.raw.RawJsonb.is_u64.Goals as goal
 
 is_whole : (tree : Tree) (found : Option ℕ) (b : Bool) → b ≡ is_some found → ((n : ℕ) → found ≡ Some n → n < 2 ^ 64)

@@ -1,4 +1,4 @@
-use Rattle.jsonb_raw.proofs.Common.{arith}
+use Rattle.jsonb_raw.proofs.Lemmas.{arith}
 use Rattle.jsonb_raw.proofs.raw.RawJsonb.leaf_documents.Goals as goal
 
 pub returns-clause-leaves : goal.returns-clause-leaves

@@ -1,5 +1,4 @@
-use Rattle.jsonb_raw.proofs.Common.{rules, members, Decodes, decoded_members}
-use Rattle.jsonb_raw.proofs.PartedRuns.{pairs_there, no_pairs_there}
+use Rattle.jsonb_raw.proofs.Lemmas.{rules, members, Decodes, decoded_members, pairs_there, no_pairs_there}
 use Rattle.jsonb_raw.proofs.raw.RawJsonb.object_delete.Goals as goal
 
 pub returns-in_default-clause-pairs : goal.returns-in_default-clause-pairs

@@ -1,5 +1,4 @@
-use Rattle.jsonb_raw.proofs.Common.{◌≡◌, true, false, arith, Some, sym, ◌∙◌, false≢true, Decodes, IsPairPlace, has_name}
-use Rattle.jsonb_raw.proofs.InsertLemmas.{name_there, name_missing}
+use Rattle.jsonb_raw.proofs.Lemmas.{◌≡◌, true, false, arith, Some, sym, ◌∙◌, false≢true, Decodes, IsPairPlace, has_name, name_there, name_missing}
 use Rattle.jsonb_raw.proofs.raw.RawJsonb.object_insert.Goals as goal
 use Rattle.jsonb_raw.proofs.raw.RawJsonb.object_insert.Goals.{else-not-update_flag-via-then-not-update_flag+else-place-gt0, else-not-update_flag-via-else-not-update_flag}
 

@@ -1,6 +1,4 @@
-use Rattle.jsonb_raw.proofs.Common.{map, err_from_is_err_and, keys_of, members, text, keys_of-members}
-use Rattle.jsonb_raw.proofs.RunLemmas.{one_run}
-use Rattle.jsonb_raw.proofs.PartedRuns.{pairs_there}
+use Rattle.jsonb_raw.proofs.Lemmas.{map, err_from_is_err_and, keys_of, members, text, keys_of-members, one_run, pairs_there}
 use Rattle.jsonb_raw.proofs.raw.RawJsonb.object_keys.Goals as goal
 
 pub returns-in_err-array_of-clause-keys : goal.returns-in_err-array_of-clause-keys

@@ -1,5 +1,4 @@
-use Rattle.jsonb_raw.proofs.Common.{◌≡◌, None, sym, in_any, element_at, arith}
-use Rattle.jsonb_raw.proofs.PositionLemmas.{array_spots}
+use Rattle.jsonb_raw.proofs.Lemmas.{◌≡◌, None, sym, in_any, element_at, arith, array_spots}
 use Rattle.jsonb_raw.proofs.raw.RawJsonb.spot_by_index.Goals as goal
 
 pub returns-in_err-root-clause-element : goal.returns-in_err-root-clause-element

@@ -1,6 +1,4 @@
-use Rattle.jsonb_raw.proofs.Common.{rules, sym, refl, Locates, in_any, keys_view, tree_at_steps}
-use Rattle.jsonb_raw.proofs.AnswerLemmas.{failed}
-use Rattle.jsonb_raw.proofs.PositionLemmas.{next_child, none_met, some_met}
+use Rattle.jsonb_raw.proofs.Lemmas.{rules, sym, refl, Locates, in_any, keys_view, tree_at_steps, failed, next_child, none_met, some_met}
 use Rattle.jsonb_raw.proofs.raw.RawJsonb.spot_by_keypath.Goals as goal
 
 pub returns-in_err-spot-clause-place : goal.returns-in_err-spot-clause-place

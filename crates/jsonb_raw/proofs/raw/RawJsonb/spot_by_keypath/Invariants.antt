@@ -1,4 +1,4 @@
-use Rattle.jsonb_raw.proofs.Common.{◌≡◌, List, Tree, any, Decodes, Locates, KeyPath, keys_view, YieldsItemsLeft, tree_at_steps}
+use Rattle.jsonb_raw.proofs.Lemmas.{◌≡◌, List, Tree, any, Decodes, Locates, KeyPath, keys_view, YieldsItemsLeft, tree_at_steps}
 use Rattle.jsonb_raw.proofs.raw.RawJsonb.spot_by_keypath.Given as goal
 
 -- the spot is the place of a tree in which the steps that are left select what all steps select in the whole

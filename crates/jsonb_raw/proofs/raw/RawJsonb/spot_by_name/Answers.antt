@@ -1,5 +1,4 @@
-use Rattle.jsonb_raw.proofs.Common.{◌≡◌, true, sym, ap, ◌∙◌, field_of, Decodes, in_any, named_child}
-use Rattle.jsonb_raw.proofs.NamedPairs.{exact_child}
+use Rattle.jsonb_raw.proofs.Lemmas.{◌≡◌, true, sym, ap, ◌∙◌, field_of, Decodes, in_any, named_child, exact_child}
 use Rattle.jsonb_raw.proofs.raw.RawJsonb.spot_by_name.Goals as goal
 
 pub returns-in_err-root-clause-value : goal.returns-in_err-root-clause-value

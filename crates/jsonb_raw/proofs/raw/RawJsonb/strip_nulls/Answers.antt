@@ -1,5 +1,4 @@
-use Rattle.jsonb_raw.proofs.AnswerLemmas.{failed}
-use Rattle.jsonb_raw.proofs.Common.{arith}
+use Rattle.jsonb_raw.proofs.Lemmas.{failed, arith}
 use Rattle.jsonb_raw.proofs.raw.RawJsonb.strip_nulls.Goals as goal
 
 pub returns-in_default-clause-document : goal.returns-in_default-clause-document

@@ -1,19 +1,17 @@
-use Rattle.jsonb_raw.proofs.Common.{rules, ◌≡◌, ◌&&◌, ℕ, suc, List, [], ◌∷◌, map, Bool, true, false, Result, Ok, Err, inl, inr, refl, arith, Bor, IsAscii, IsUtf8, codes, OnOk, nat_lt, list_all, to_ascii_lowercase, nat_tests, IsUtf8-from_ascii, IsAscii-nil, IsAscii-cons, any, number_reader, IsContent, IsRootOf, IsRootShape, Error, Text, Boolean, String, IsBoolOf, Casts, HasRoot}
+use Rattle.jsonb_raw.proofs.Lemmas.{rules, ◌≡◌, ℕ, suc, List, [], ◌∷◌, map, Bool, true, false, Result, Ok, Err, inl, inr, refl, arith, Bor, IsAscii, IsUtf8, codes, OnOk, nat_lt, list_all, to_ascii_lowercase, nat_tests, IsUtf8-from_ascii, IsAscii-nil, IsAscii-cons, any, number_reader, IsContent, IsRootOf, IsRootShape, Error, Text, Boolean, String, IsBoolOf, Casts, HasRoot}
 use Rattle.jsonb_doc.specs.declared.shape.Shape.TheVariants.{Boolean as BooleanShape}
 use Rattle.jsonb_doc.specs.Tree as spec
+use Rattle.std.proofs.lemmas.Bool.{and_parts}
 use Rattle.jsonb_raw.proofs.raw.RawJsonb.to_bool.Goals as goal
 
 ascii_bytes : (s : List ℕ) → IsAscii (map to_ascii_lowercase s) → IsAscii s
 ascii_bytes [] h = IsAscii-nil
 ascii_bytes (b ∷ s) h = IsAscii-cons b s (grind (arith, nat_tests, h 0)) (ascii_bytes s (λ i. h (suc i)))
 
-both_true : (a b : Bool) → (a && b) ≡ true → (a ≡ true) × (b ≡ true)
-both_true a b h = grind arith
-
 ascii_word : (s : List ℕ) → list_all (λ b. nat_lt b 128) s ≡ true → IsAscii s
 ascii_word [] h = IsAscii-nil
 ascii_word (b ∷ s) h =
-    let parts = both_true (nat_lt b 128) (list_all (λ b. nat_lt b 128) s) h in
+    let parts = and_parts (nat_lt b 128) (list_all (λ b. nat_lt b 128) s) h in
     IsAscii-cons b s (grind (arith, nat_tests, parts.0)) (ascii_word s parts.1)
 
 -- a string that spells a word of ASCII is ASCII

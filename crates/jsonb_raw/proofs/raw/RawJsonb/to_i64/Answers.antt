@@ -1,4 +1,4 @@
-use Rattle.jsonb_raw.proofs.Common.{rules, arith}
+use Rattle.jsonb_raw.proofs.Lemmas.{rules, arith}
 use Rattle.jsonb_raw.proofs.raw.RawJsonb.to_i64.Goals as goal
 
 pub returns-in-Number-clause-value : goal.returns-in-Number-clause-value

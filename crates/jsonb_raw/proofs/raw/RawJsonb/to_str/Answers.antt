@@ -1,5 +1,4 @@
-use Rattle.jsonb_raw.proofs.Common.{◌≡◌, rules, number_parts, number_view}
-use Rattle.jsonb_raw.proofs.ScalarLemmas.{no_text}
+use Rattle.jsonb_raw.proofs.Lemmas.{◌≡◌, rules, number_parts, number_view, no_text}
 use Rattle.jsonb_doc.specs.Tree as spec
 use Rattle.jsonb_raw.proofs.raw.RawJsonb.to_str.Goals as goal
 

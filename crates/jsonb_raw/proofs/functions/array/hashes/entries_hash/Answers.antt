@@ -1,5 +1,4 @@
-use Rattle.jsonb_raw.proofs.Common.{arith}
-use Rattle.jsonb_raw.proofs.EntriesLeft.{SomeEntries-first}
+use Rattle.jsonb_raw.proofs.Lemmas.{arith, SomeEntries-first}
 use Rattle.jsonb_raw.proofs.functions.array.hashes.entries_hash.Goals as goal
 
 pub loop-entry-preserved : goal.loop-entry-preserved

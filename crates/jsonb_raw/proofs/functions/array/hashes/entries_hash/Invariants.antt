@@ -1,5 +1,4 @@
-use Rattle.jsonb_raw.proofs.Common.{◌<◌, ℕ, Trees, Form, HasEntriesLeft, AreHashed}
-use Rattle.jsonb_raw.proofs.EntriesLeft.{SomeEntries}
+use Rattle.jsonb_raw.proofs.Lemmas.{◌<◌, ℕ, Trees, Form, HasEntriesLeft, AreHashed, SomeEntries}
 use Rattle.jsonb_raw.proofs.functions.array.hashes.entries_hash.Given as goal
 
 -- a hash of the entries that are left, after those before them, is one of all

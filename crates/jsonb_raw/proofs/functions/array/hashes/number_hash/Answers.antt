@@ -1,4 +1,4 @@
-use Rattle.jsonb_raw.proofs.Common.{rules, arith, pos, nat_tests, one-le-pow}
+use Rattle.jsonb_raw.proofs.Lemmas.{rules, arith, pos, nat_tests, one-le-pow}
 use Rattle.std.proofs.Common.{to_z-of_z}
 use Rattle.jsonb_raw.proofs.functions.array.hashes.number_hash.Goals as goal
 

@@ -1,4 +1,4 @@
-use Rattle.jsonb_raw.proofs.Common.{values}
+use Rattle.jsonb_raw.proofs.Lemmas.{values}
 use Rattle.jsonb_raw.proofs.functions.array.hashes.object_hash.Goals as goal
 
 pub returns-in-Ok-clause-hash : goal.returns-in-Ok-clause-hash

@@ -1,6 +1,4 @@
-use Rattle.jsonb_raw.proofs.Common.{◌≡◌, true, false, take, true≢false, list_any, false_from_ne_true, elements, is_equal, arith}
-use Rattle.jsonb_raw.proofs.EntriesLeft.{SomeEntries-first, SomeEntries-error, SomeEntries-none}
-use Rattle.jsonb_raw.proofs.EntryEquals.{equals_one}
+use Rattle.jsonb_raw.proofs.Lemmas.{◌≡◌, true, false, take, true≢false, list_any, false_from_ne_true, elements, is_equal, arith, SomeEntries-first, SomeEntries-error, SomeEntries-none, equals_one}
 use Rattle.jsonb_raw.proofs.functions.array.overlap.block_overlaps.Goals as goal
 
 pub returns-in_err-entry-clause-overlap : goal.returns-in_err-entry-clause-overlap

@@ -1,5 +1,4 @@
-use Rattle.jsonb_raw.proofs.Common.{◌≡◌, true, take, list_any, Tree, Trees, elements, is_equal, Form, HasEntriesLeft, overlap, Covers}
-use Rattle.jsonb_raw.proofs.EntriesLeft.{SomeEntries}
+use Rattle.jsonb_raw.proofs.Lemmas.{◌≡◌, true, take, list_any, Tree, Trees, elements, is_equal, Form, HasEntriesLeft, overlap, Covers, SomeEntries}
 use Rattle.jsonb_raw.proofs.functions.array.overlap.block_overlaps.Given as goal
 
 -- what is left decides what all decides

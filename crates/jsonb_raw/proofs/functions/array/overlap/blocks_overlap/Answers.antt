@@ -1,5 +1,4 @@
-use Rattle.jsonb_raw.proofs.Common.{sym, ap, ◌∙◌, elements, overlap}
-use Rattle.jsonb_raw.proofs.EntriesLeft.{overlap_none, others_decide, overlap_split}
+use Rattle.jsonb_raw.proofs.Lemmas.{sym, ap, ◌∙◌, elements, overlap, overlap_none, others_decide, overlap_split}
 use Rattle.jsonb_raw.proofs.functions.array.overlap.blocks_overlap.Goals as goal
 
 pub returns-in_err-ended-clause-overlap : goal.returns-in_err-ended-clause-overlap

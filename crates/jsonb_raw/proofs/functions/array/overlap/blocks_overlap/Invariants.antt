@@ -1,5 +1,4 @@
-use Rattle.jsonb_raw.proofs.Common.{◌≡◌, Trees, elements, Form, HasEntriesLeft, entries_bound, overlap}
-use Rattle.jsonb_raw.proofs.EntriesLeft.{SomeEntries}
+use Rattle.jsonb_raw.proofs.Lemmas.{◌≡◌, Trees, elements, Form, HasEntriesLeft, entries_bound, overlap, SomeEntries}
 use Rattle.jsonb_raw.proofs.functions.array.overlap.blocks_overlap.Given as goal
 
 -- the others that are left decide what all decide

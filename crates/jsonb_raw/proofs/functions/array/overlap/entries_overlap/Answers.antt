@@ -1,5 +1,4 @@
-use Rattle.jsonb_raw.proofs.Common.{inl, inr, elements}
-use Rattle.jsonb_raw.proofs.EntryEquals.{overlap_swapped}
+use Rattle.jsonb_raw.proofs.Lemmas.{inl, inr, elements, overlap_swapped}
 use Rattle.jsonb_raw.proofs.functions.array.overlap.entries_overlap.Goals as goal
 
 pub returns-then-count-le1-clause-overlap : goal.returns-then-count-le1-clause-overlap

@@ -1,5 +1,4 @@
-use Rattle.jsonb_raw.proofs.Common.{◌≡◌, Trees, elements, Form, HasEntriesLeft, overlap}
-use Rattle.jsonb_raw.proofs.EntriesLeft.{SomeEntries}
+use Rattle.jsonb_raw.proofs.Lemmas.{◌≡◌, Trees, elements, Form, HasEntriesLeft, overlap, SomeEntries}
 use Rattle.jsonb_raw.proofs.functions.array.overlap.pairs_overlap.Given as goal
 
 -- what is left decides what all decides

@@ -1,5 +1,4 @@
-use Rattle.jsonb_raw.proofs.Common.{arith, ◌-◌, elements}
-use Rattle.jsonb_raw.proofs.EntriesLeft.{SomeEntries-first, SomeEntries-none, take_one, drop_one, take_no, take_zero, not_of_none, one_more}
+use Rattle.jsonb_raw.proofs.Lemmas.{arith, ◌-◌, elements, SomeEntries-first, SomeEntries-none, take_one, drop_one, take_no, take_zero, not_of_none, one_more}
 use Rattle.jsonb_raw.proofs.functions.array.overlap.take_hashes.Goals as goal
 
 pub returns-in_default-clause-marked : goal.returns-in_default-clause-marked
@@ -15,11 +14,7 @@ loop-more-preserved c = record {
       record { trees = rest; left = left; fact = rw (drop_one c.loop-more.more first (elements rest) c.loop-more-test.true) at fact });
   marked = λ form us t h some.
       SomeEntries-first form _ _ _ _ _ c.in_ok-entry.was c.in-Some.ensures.steps (c.loop-more.invariant.marked form us t h some)
-      (λ first rest left stored fact. record {
-        trees = rest;
-        left = left;
-        fact = grind (arith, one_more, take_one);
-      });
+      (λ first rest left stored fact. record { trees = rest; left = left; fact = grind (arith, one_more, take_one) });
 }
 
 pub returns-clause-marked : goal.returns-clause-marked

@@ -1,6 +1,5 @@
-use Rattle.jsonb_raw.proofs.Common.{◌≡◌, ◌⊎◌, ◌+◌, ◌≤◌, true, take, drop, list_any, Tree, Trees, elements, is_equal, Form, HasEntriesLeft, entries_bound, Covers}
+use Rattle.jsonb_raw.proofs.Lemmas.{◌≡◌, ◌⊎◌, ◌+◌, ◌≤◌, true, take, drop, list_any, Tree, Trees, elements, is_equal, Form, HasEntriesLeft, entries_bound, Covers, SomeEntries}
 use Rattle.jsonb_raw.proofs.functions.array.overlap.take_hashes.Given as goal
-use Rattle.jsonb_raw.proofs.EntriesLeft.{SomeEntries}
 
 -- what equals one of the entries in question has a hash that is taken, or equals one that is left
 abbrev pub invariant-loop-more : goal.invariant-loop-more

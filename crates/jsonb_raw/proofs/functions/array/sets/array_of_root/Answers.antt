@@ -1,5 +1,4 @@
-use Rattle.jsonb_raw.proofs.Common.{◌≡◌, [], true, err_from_is_err_and}
-use Rattle.jsonb_raw.proofs.RunLemmas.{refused_between}
+use Rattle.jsonb_raw.proofs.Lemmas.{◌≡◌, [], true, err_from_is_err_and, refused_between}
 use Rattle.jsonb_raw.proofs.functions.array.sets.array_of_root.Goals as goal
 
 pub returns-in_err-root-clause-made : goal.returns-in_err-root-clause-made

@@ -1,6 +1,4 @@
-use Rattle.jsonb_raw.proofs.Common.{rules, arith, decoded_fits}
-use Rattle.jsonb_raw.proofs.RunLemmas.{array_of_entries}
-use Rattle.jsonb_raw.proofs.SetKept.{no_array_entries, members_fit, elements_few}
+use Rattle.jsonb_raw.proofs.Lemmas.{rules, arith, decoded_fits, array_of_entries, no_array_entries, members_fit, elements_few}
 use Rattle.jsonb_raw.proofs.functions.array.sets.count_document.Goals as goal
 
 pub returns-in-Some-clause-counts : goal.returns-in-Some-clause-counts

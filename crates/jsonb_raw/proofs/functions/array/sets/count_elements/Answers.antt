@@ -1,7 +1,4 @@
-use Rattle.jsonb_raw.proofs.Common.{arith}
-use Rattle.jsonb_raw.proofs.AnswerLemmas.{failed}
-use Rattle.jsonb_raw.proofs.RunLemmas.{entry_taken, no_entry_left}
-use Rattle.jsonb_raw.proofs.ElementsSeen.{CountsLeft-all, CountsLeft-next}
+use Rattle.jsonb_raw.proofs.Lemmas.{arith, failed, entry_taken, no_entry_left, CountsLeft-all, CountsLeft-next}
 use Rattle.jsonb_raw.proofs.functions.array.sets.count_elements.Goals as goal
 
 pub loop-key-init : goal.loop-key-init

@@ -1,5 +1,4 @@
-use Rattle.jsonb_raw.proofs.Common.{List, length, ◌<◌, ◌^◌, Tree, Form, HoldTrees}
-use Rattle.jsonb_raw.proofs.ElementsSeen.{CountsLeft}
+use Rattle.jsonb_raw.proofs.Lemmas.{List, length, ◌<◌, ◌^◌, Tree, Form, HoldTrees, CountsLeft}
 use Rattle.jsonb_raw.proofs.functions.array.sets.count_elements.Given as goal
 
 abbrev pub invariant-loop-key : goal.invariant-loop-key

@@ -1,6 +1,4 @@
-use Rattle.jsonb_raw.proofs.Common.{rules, arith, decoded_fits}
-use Rattle.jsonb_raw.proofs.SetKept.{members_fit}
-use Rattle.jsonb_raw.proofs.ElementsSeen.{counted_begun}
+use Rattle.jsonb_raw.proofs.Lemmas.{rules, arith, decoded_fits, members_fit, counted_begun}
 use Rattle.jsonb_raw.proofs.functions.array.sets.counts_before.Goals as goal
 
 pub returns-in-First-clause-counts : goal.returns-in-First-clause-counts

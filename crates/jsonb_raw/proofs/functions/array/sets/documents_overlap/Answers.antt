@@ -1,5 +1,4 @@
-use Rattle.jsonb_raw.proofs.Common.{elements, or_false}
-use Rattle.jsonb_raw.proofs.SetKept.{array_found, no_array, overlap_one}
+use Rattle.jsonb_raw.proofs.Lemmas.{elements, or_false, array_found, no_array, overlap_one}
 use Rattle.jsonb_raw.proofs.functions.array.sets.documents_overlap.Goals as goal
 
 pub returns-in_ok-array_entries-in-Some-Some-2-clause-overlap : goal.returns-in_ok-array_entries-in-Some-Some-2-clause-overlap

@@ -1,5 +1,4 @@
-use Rattle.jsonb_raw.proofs.Common.{◌≡◌, true, false, sym, ◌∙◌, is_equal}
-use Rattle.jsonb_raw.proofs.IteratorItems.{SomeElements-first, SomeElements-error, SomeElements-none}
+use Rattle.jsonb_raw.proofs.Lemmas.{◌≡◌, true, false, sym, ◌∙◌, is_equal, SomeElements-first, SomeElements-error, SomeElements-none}
 use Rattle.jsonb_raw.proofs.functions.array.sets.has_element.Goals as goal
 
 pub returns-in_err-element-clause-has : goal.returns-in_err-element-clause-has

@@ -1,5 +1,4 @@
-use Rattle.jsonb_raw.proofs.Common.{◌≡◌, list_any, Tree, Trees, elements, is_equal, Form, StandsFor, HasElementsLeft}
-use Rattle.jsonb_raw.proofs.IteratorItems.{SomeElements}
+use Rattle.jsonb_raw.proofs.Lemmas.{◌≡◌, list_any, Tree, Trees, elements, is_equal, Form, StandsFor, HasElementsLeft, SomeElements}
 use Rattle.jsonb_raw.proofs.functions.array.sets.has_element.Given as goal
 
 -- what is left decides what all decides

@@ -1,5 +1,4 @@
-use Rattle.jsonb_raw.proofs.Common.{◌∙◌, ap, not, nat_eq}
-use Rattle.jsonb_raw.proofs.ElementsSeen.{test_first, test_shared, test_unshared}
+use Rattle.jsonb_raw.proofs.Lemmas.{◌∙◌, ap, not, nat_eq, test_first, test_shared, test_unshared}
 use Rattle.jsonb_raw.proofs.functions.array.sets.keep_element.Goals as goal
 
 pub returns-in_ok-add-in-First-clause-kept : goal.returns-in_ok-add-in-First-clause-kept

@@ -1,6 +1,4 @@
-use Rattle.jsonb_raw.proofs.Common.{inl, refl, arith, decoded_fits, as_elements}
-use Rattle.jsonb_raw.proofs.AnswerLemmas.{failed}
-use Rattle.jsonb_raw.proofs.ElementsSeen.{members_few}
+use Rattle.jsonb_raw.proofs.Lemmas.{inl, refl, arith, decoded_fits, as_elements, failed, members_few}
 use Rattle.jsonb_raw.proofs.functions.array.sets.kept_beside.Goals as goal
 
 pub returns-in-Some-clause-made : goal.returns-in-Some-clause-made

@@ -1,7 +1,4 @@
-use Rattle.jsonb_raw.proofs.Common.{rules, ◌∙◌, inl, sym, subst, select_occurrences, RunsHold, keeps, arith, append-nil, None, refl}
-use Rattle.jsonb_raw.proofs.AnswerLemmas.{failed}
-use Rattle.jsonb_raw.proofs.SetKept.{KeptRuns-all, KeptRuns-left, KeptRuns-kept, KeptRuns-dropped, next_of}
-use Rattle.jsonb_raw.proofs.RunLemmas.{no_entry_left}
+use Rattle.jsonb_raw.proofs.Lemmas.{rules, ◌∙◌, inl, sym, subst, select_occurrences, RunsHold, keeps, arith, append-nil, None, refl, failed, KeptRuns-all, KeptRuns-left, KeptRuns-kept, KeptRuns-dropped, next_of, no_entry_left}
 use Rattle.jsonb_raw.proofs.functions.array.sets.kept_elements.Goals as goal
 
 pub loop-runs-init : goal.loop-runs-init

@@ -1,5 +1,4 @@
-use Rattle.jsonb_raw.proofs.Common.{List, [], length, Tree, Form, select_occurrences, HoldTrees, keeps, HaveSeen}
-use Rattle.jsonb_raw.proofs.SetKept.{KeptRuns}
+use Rattle.jsonb_raw.proofs.Lemmas.{List, [], length, Tree, Form, select_occurrences, HoldTrees, keeps, HaveSeen, KeptRuns}
 use Rattle.jsonb_raw.proofs.functions.array.sets.kept_elements.Given as goal
 
 abbrev pub invariant-loop-runs : goal.invariant-loop-runs

@@ -1,6 +1,4 @@
-use Rattle.jsonb_raw.proofs.Common.{[], ◌∷◌, arith}
-use Rattle.jsonb_raw.proofs.AnswerLemmas.{failed}
-use Rattle.jsonb_raw.proofs.SetKept.{KeptLeft-all, KeptLeft-next, KeptLeft-refused, KeptLeft-done, few_before}
+use Rattle.jsonb_raw.proofs.Lemmas.{[], ◌∷◌, arith, failed, KeptLeft-all, KeptLeft-next, KeptLeft-refused, KeptLeft-done, few_before}
 use Rattle.jsonb_raw.proofs.functions.array.sets.kept_item.Goals as goal
 
 pub returns-in_err-push_kept-clause-made : goal.returns-in_err-push_kept-clause-made

@@ -1,4 +1,4 @@
-use Rattle.jsonb_raw.proofs.Common.{◌≡◌, ◌∙◌, sym, true, keeps}
+use Rattle.jsonb_raw.proofs.Lemmas.{◌≡◌, ◌∙◌, sym, true, keeps}
 use Rattle.jsonb_raw.proofs.functions.array.sets.push_kept.Goals as goal
 
 pub returns-clause-pushed : goal.returns-clause-pushed

@@ -1,5 +1,4 @@
-use Rattle.jsonb_raw.proofs.Common.{◌∷◌, ◌++◌}
-use Rattle.jsonb_raw.proofs.AnswerLemmas.{failed}
+use Rattle.jsonb_raw.proofs.Lemmas.{◌∷◌, ◌++◌, failed}
 use Rattle.jsonb_raw.proofs.functions.object.insert.copy_with.Goals as goal
 
 pub returns-in_err-put-clause-copied : goal.returns-in_err-put-clause-copied

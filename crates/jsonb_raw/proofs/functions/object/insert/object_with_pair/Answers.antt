@@ -1,7 +1,4 @@
-use Rattle.jsonb_raw.proofs.Common.{refl, arith, ◌+◌, [], ◌∷◌, ◌++◌, values_of, text, object}
-use Rattle.jsonb_raw.proofs.AnswerLemmas.{failed}
-use Rattle.jsonb_raw.proofs.Bound.{given}
-use Rattle.jsonb_raw.proofs.InsertLemmas.{is_around, keys_around, values_around, all_coming, none_after}
+use Rattle.jsonb_raw.proofs.Lemmas.{refl, arith, ◌+◌, [], ◌∷◌, ◌++◌, values_of, text, object, failed, given, is_around, keys_around, values_around, all_coming, none_after}
 use Rattle.jsonb_raw.proofs.functions.object.insert.object_with_pair.Goals as goal
 
 pub returns-in_err-pairs-clause-inserted : goal.returns-in_err-pairs-clause-inserted

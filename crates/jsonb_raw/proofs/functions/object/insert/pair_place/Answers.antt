@@ -1,6 +1,4 @@
-use Rattle.jsonb_raw.proofs.Common.{◌≡◌, rules, arith, sym, ◌∙◌, Less, Equal, Greater, nat_cmp, slice_cmp, keys}
-use Rattle.jsonb_raw.proofs.ObjectLemmas.{object_of_keys, first_key}
-use Rattle.jsonb_raw.proofs.InsertLemmas.{none_passed, key_passed, place_there, place_before, place_last, in_object}
+use Rattle.jsonb_raw.proofs.Lemmas.{◌≡◌, rules, arith, sym, ◌∙◌, Less, Equal, Greater, nat_cmp, slice_cmp, keys, object_of_keys, first_key, none_passed, key_passed, place_there, place_before, place_last, in_object}
 use Rattle.jsonb_raw.proofs.functions.object.insert.pair_place.Goals as goal
 
 pub loop-key-init : goal.loop-key-init

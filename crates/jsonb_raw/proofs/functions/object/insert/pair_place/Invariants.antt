@@ -1,5 +1,4 @@
-use Rattle.jsonb_raw.proofs.Common.{◌≡◌, ◌+◌, ◌≤◌, Tree, Pairs, object, keys, Form, Decodes}
-use Rattle.jsonb_raw.proofs.InsertLemmas.{KeysPassed}
+use Rattle.jsonb_raw.proofs.Lemmas.{◌≡◌, ◌+◌, ◌≤◌, Tree, Pairs, object, keys, Form, Decodes, KeysPassed}
 use Rattle.jsonb_raw.proofs.functions.object.insert.pair_place.Given as goal
 
 -- the keys that were passed are below the name

@@ -1,13 +1,8 @@
-use Rattle.jsonb_raw.proofs.Common.{None, arith, subst, AllByRecursion, sym, drop_more}
-use Rattle.jsonb_raw.proofs.AnswerLemmas.{failed}
-use Rattle.jsonb_raw.proofs.ColumnLemmas.{key_begun, key_appended, key_refused, key_written, column_appended, first_left_of, none_left_of}
+use Rattle.jsonb_raw.proofs.Lemmas.{None, arith, subst, AllByRecursion, sym, drop_more, failed, key_begun, key_appended, key_refused, key_written, column_appended, first_left_of, none_left_of}
 use Rattle.jsonb_raw.proofs.functions.operator.column_key.key_of_columns.Goals as goal
 
 pub loop-column-init : goal.loop-column-init
-loop-column-init c = record {
-  left = λ form values a. (values, a, rw c.new-key.ensures.items (key_begun _ values));
-  read = λ all. all;
-}
+loop-column-init c = record { left = λ form values a. (values, a, rw c.new-key.ensures.items (key_begun _ values)); read = λ all. all }
 
 pub returns-in_err-push_column-clause-key : goal.returns-in_err-push_column-clause-key
 returns-in_err-push_column-clause-key c = λ form values a.

@@ -1,5 +1,4 @@
-use Rattle.jsonb_raw.proofs.Common.{List, Option, drop, IfSome, AllByRecursion, Tree, Form, AreColumns, raw_bytes, HasRoot, width_of}
-use Rattle.jsonb_raw.proofs.ColumnLemmas.{KeyLeft}
+use Rattle.jsonb_raw.proofs.Lemmas.{List, Option, drop, IfSome, AllByRecursion, Tree, Form, AreColumns, raw_bytes, HasRoot, width_of, KeyLeft}
 use Rattle.jsonb_raw.proofs.functions.operator.column_key.key_of_columns.Given as goal
 
 -- what is written, followed by the keys of the columns that are left, is the whole

@@ -1,6 +1,4 @@
-use Rattle.jsonb_raw.proofs.Common.{as_elements}
-use Rattle.jsonb_raw.proofs.AnswerLemmas.{failed}
-use Rattle.jsonb_raw.proofs.RunLemmas.{refused_front, refused_back}
+use Rattle.jsonb_raw.proofs.Lemmas.{as_elements, failed, refused_front, refused_back}
 use Rattle.jsonb_raw.proofs.functions.operator.concat.joined_arrays.Goals as goal
 
 pub returns-in_err-first-clause-document : goal.returns-in_err-first-clause-document

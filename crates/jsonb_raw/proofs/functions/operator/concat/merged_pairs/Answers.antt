@@ -1,6 +1,4 @@
-use Rattle.jsonb_raw.proofs.Common.{rules, ◌≡◌, ◌++◌, ◌∙◌, Some, inl, sym, subst, keys_of, keys_rise, merged, PairsHeld, FirstPair, arith}
-use Rattle.jsonb_raw.proofs.AnswerLemmas.{failed}
-use Rattle.jsonb_raw.proofs.ConcatLemmas.{merged_rising, merging_begun, left_of, merging_less, merging_equal_second, merging_equal, merging_greater, merging_ended}
+use Rattle.jsonb_raw.proofs.Lemmas.{rules, ◌≡◌, ◌++◌, ◌∙◌, Some, inl, sym, subst, keys_of, keys_rise, merged, PairsHeld, FirstPair, arith, failed, merged_rising, merging_begun, left_of, merging_less, merging_equal_second, merging_equal, merging_greater, merging_ended}
 use Rattle.jsonb_raw.proofs.functions.operator.concat.merged_pairs.Goals as goal
 
 pub loop-runs-init : goal.loop-runs-init

@@ -1,5 +1,4 @@
-use Rattle.jsonb_raw.proofs.Common.{◌+◌, ℕ, List, length, keys_of, Tree, Form, AreKeys, merged, HoldPairs}
-use Rattle.jsonb_raw.proofs.ConcatLemmas.{Merging}
+use Rattle.jsonb_raw.proofs.Lemmas.{◌+◌, ℕ, List, length, keys_of, Tree, Form, AreKeys, merged, HoldPairs, Merging}
 use Rattle.jsonb_raw.proofs.functions.operator.concat.merged_pairs.Given as goal
 
 -- the pairs that are kept, followed by what is left of both, are the whole

@@ -1,6 +1,4 @@
-use Rattle.jsonb_raw.proofs.Common.{rules, ◌≡◌, true, false, sym, ◌∙◌, list_any, elements, EntryIter, is_part_of, PassesOver, arith}
-use Rattle.jsonb_raw.proofs.EntriesLeft.{SomeEntries-first, SomeEntries-error, SomeEntries-none, passes_none}
-use Rattle.jsonb_raw.proofs.ContainLemmas.{scalar_matches, container_told, scalar_told, container_passed, found_passed, missing_tells}
+use Rattle.jsonb_raw.proofs.Lemmas.{rules, ◌≡◌, true, false, sym, ◌∙◌, list_any, elements, EntryIter, is_part_of, PassesOver, arith, SomeEntries-first, SomeEntries-error, SomeEntries-none, passes_none, scalar_matches, container_told, scalar_told, container_passed, found_passed, missing_tells}
 use Rattle.jsonb_raw.proofs.functions.operator.starts.scalars_matched.Goals as goal
 
 passes_both : (all left right : EntryIter) → PassesOver all left → PassesOver left right → PassesOver all right
@@ -22,11 +20,7 @@ walk-preserved-then-is_container c = record {
   passes = c.walk.invariant.passes;
   left = λ form other_form xs ys h k.
       SomeEntries-first other_form _ _ _ _ _ c.in_ok-entry.was c.in-Some.ensures.steps (c.walk.invariant.left form other_form xs ys h k)
-      (λ first rest left stored fact. record {
-        trees = rest;
-        left = left;
-        fact = grind (arith, container_passed, container_told);
-      });
+      (λ first rest left stored fact. record { trees = rest; left = left; fact = grind (arith, container_passed, container_told) });
 }
 
 pub returns-in_err-is_next-clause-matched : goal.returns-in_err-is_next-clause-matched

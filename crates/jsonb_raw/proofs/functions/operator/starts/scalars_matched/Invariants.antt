@@ -1,5 +1,4 @@
-use Rattle.jsonb_raw.proofs.Common.{◌≡◌, Trees, elements, Form, HasEntriesLeft, entries_bound, PassesOver, scalars_matched}
-use Rattle.jsonb_raw.proofs.EntriesLeft.{SomeEntries}
+use Rattle.jsonb_raw.proofs.Lemmas.{◌≡◌, Trees, elements, Form, HasEntriesLeft, entries_bound, PassesOver, scalars_matched, SomeEntries}
 use Rattle.jsonb_raw.proofs.functions.operator.starts.scalars_matched.Given as goal
 
 -- the given entries that are left decide

@@ -1,6 +1,4 @@
-use Rattle.jsonb_raw.proofs.Common.{◌≡◌, true, false, sym, ◌∙◌, list_any, elements, is_part_of, arith}
-use Rattle.jsonb_raw.proofs.EntriesLeft.{SomeEntries-first, SomeEntries-error, SomeEntries-none}
-use Rattle.jsonb_raw.proofs.ContainLemmas.{scalar_matches, container_told, scalar_told, container_passed, found_passed, missing_tells}
+use Rattle.jsonb_raw.proofs.Lemmas.{◌≡◌, true, false, sym, ◌∙◌, list_any, elements, is_part_of, arith, SomeEntries-first, SomeEntries-error, SomeEntries-none, scalar_matches, container_told, scalar_told, container_passed, found_passed, missing_tells}
 use Rattle.jsonb_raw.proofs.functions.operator.starts.scattered_matched.Goals as goal
 
 pub returns-in_default-clause-matched : goal.returns-in_default-clause-matched
@@ -16,11 +14,7 @@ walk-preserved-then-is_container c = record {
   starts = c.walk.invariant.starts;
   left = λ form other_form xs ys h k.
       SomeEntries-first other_form _ _ _ _ _ c.in_ok-entry.was c.in-Some.ensures.steps (c.walk.invariant.left form other_form xs ys h k)
-      (λ first rest left stored fact. record {
-        trees = rest;
-        left = left;
-        fact = grind (arith, container_passed, container_told);
-      });
+      (λ first rest left stored fact. record { trees = rest; left = left; fact = grind (arith, container_passed, container_told) });
 }
 
 pub returns-in_err-find-clause-matched : goal.returns-in_err-find-clause-matched

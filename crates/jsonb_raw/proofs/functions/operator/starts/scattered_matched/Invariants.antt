@@ -1,5 +1,4 @@
-use Rattle.jsonb_raw.proofs.Common.{◌≡◌, Trees, elements, Form, HasEntriesLeft, entries_bound, AreStarts, scalars_matched}
-use Rattle.jsonb_raw.proofs.EntriesLeft.{SomeEntries}
+use Rattle.jsonb_raw.proofs.Lemmas.{◌≡◌, Trees, elements, Form, HasEntriesLeft, entries_bound, AreStarts, scalars_matched, SomeEntries}
 use Rattle.jsonb_raw.proofs.functions.operator.starts.scattered_matched.Given as goal
 
 -- the given entries that are left decide

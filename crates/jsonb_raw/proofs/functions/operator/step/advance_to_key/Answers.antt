@@ -1,6 +1,4 @@
-use Rattle.jsonb_raw.proofs.Common.{rules, arith, refl, sym, ◌∙◌, keys_rise, pair, Greater}
-use Rattle.jsonb_raw.proofs.EntriesLeft.{SomePairEntries-first, SomePairEntries-error, SomePairEntries-none}
-use Rattle.jsonb_raw.proofs.PairStepLemmas.{value_after_less, value_at_equal, no_value, turned, all_above, same_below}
+use Rattle.jsonb_raw.proofs.Lemmas.{rules, arith, refl, sym, ◌∙◌, keys_rise, pair, Greater, SomePairEntries-first, SomePairEntries-error, SomePairEntries-none, value_after_less, value_at_equal, no_value, turned, all_above, same_below}
 use Rattle.jsonb_raw.proofs.functions.operator.step.advance_to_key.Goals as goal
 
 pub loop-pair-init : goal.loop-pair-init
@@ -16,12 +14,7 @@ loop-pair-preserved c = record {
       record {
         pairs = rest;
         left = left;
-        fact = (
-          sym (value_after_less c.args.key.now c.in_ok-name.name.now value rest less)
-              ∙ fact.0,
-          sym (rw less refl) ∙ fact.1,
-          fact.2.1,
-        );
+        fact = (sym (value_after_less c.args.key.now c.in_ok-name.name.now value rest less) ∙ fact.0, sym (rw less refl) ∙ fact.1, fact.2.1);
       });
 }
 

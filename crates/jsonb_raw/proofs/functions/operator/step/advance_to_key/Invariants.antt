@@ -1,5 +1,4 @@
-use Rattle.jsonb_raw.proofs.Common.{◌≡◌, ◌≤◌, Pairs, keys, value_under, Form, HasPairEntriesLeft, entries_bound, entries_room, AreRising, pairs_above}
-use Rattle.jsonb_raw.proofs.EntriesLeft.{SomePairEntries}
+use Rattle.jsonb_raw.proofs.Lemmas.{◌≡◌, ◌≤◌, Pairs, keys, value_under, Form, HasPairEntriesLeft, entries_bound, entries_room, AreRising, pairs_above, SomePairEntries}
 use Rattle.jsonb_raw.proofs.functions.operator.step.advance_to_key.Given as goal
 
 -- the keys so far are below, so those that are left decide

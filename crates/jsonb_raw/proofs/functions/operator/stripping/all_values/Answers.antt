@@ -1,5 +1,4 @@
-use Rattle.jsonb_raw.proofs.Common.{arith}
-use Rattle.jsonb_raw.proofs.StripLists.{values_of-members}
+use Rattle.jsonb_raw.proofs.Lemmas.{arith, values_of-members}
 use Rattle.jsonb_raw.proofs.functions.operator.stripping.all_values.Goals as goal
 
 pub returns-clause-values : goal.returns-clause-values

@@ -1,7 +1,4 @@
-use Rattle.jsonb_raw.proofs.Common.{rules, [], inl, entries_kept, strip}
-use Rattle.jsonb_raw.proofs.AnswerLemmas.{failed}
-use Rattle.jsonb_raw.proofs.StripLists.{kept_makes}
-use Rattle.jsonb_raw.proofs.StripWalk.{begun_with}
+use Rattle.jsonb_raw.proofs.Lemmas.{rules, [], inl, entries_kept, strip, failed, kept_makes, begun_with}
 use Rattle.jsonb_raw.proofs.functions.operator.stripping.begin.Goals as goal
 
 pub returns-in_err-writer-clause-begun : goal.returns-in_err-writer-clause-begun

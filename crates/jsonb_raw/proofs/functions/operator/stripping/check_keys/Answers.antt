@@ -1,5 +1,4 @@
-use Rattle.jsonb_raw.proofs.Common.{List, ℕ, subst, AreSortedKeys, IsAboveLast}
-use Rattle.jsonb_raw.proofs.RunLemmas.{text_first}
+use Rattle.jsonb_raw.proofs.Lemmas.{List, ℕ, subst, AreSortedKeys, IsAboveLast, text_first}
 use Rattle.jsonb_raw.proofs.functions.operator.stripping.check_keys.Goals as goal
 
 pub returns-then-not-is_above-clause-sorted : goal.returns-then-not-is_above-clause-sorted

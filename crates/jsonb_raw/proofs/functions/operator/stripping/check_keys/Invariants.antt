@@ -1,4 +1,4 @@
-use Rattle.jsonb_raw.proofs.Common.{ℕ, List, length, map, text, Form, AreSortedKeys, HoldTrees, IsAboveLast}
+use Rattle.jsonb_raw.proofs.Lemmas.{ℕ, List, length, map, text, Form, AreSortedKeys, HoldTrees, IsAboveLast}
 use Rattle.jsonb_raw.proofs.functions.operator.stripping.check_keys.Given as goal
 
 -- the keys that are left are sorted, and above the last one

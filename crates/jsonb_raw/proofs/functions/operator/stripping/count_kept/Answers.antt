@@ -1,5 +1,4 @@
-use Rattle.jsonb_raw.proofs.Common.{arith}
-use Rattle.jsonb_raw.proofs.StripLists.{length-stripped, values_of-members}
+use Rattle.jsonb_raw.proofs.Lemmas.{arith, length-stripped, values_of-members}
 use Rattle.jsonb_raw.proofs.functions.operator.stripping.count_kept.Goals as goal
 
 pub returns-in-Object : goal.returns-in-Object

@@ -1,6 +1,5 @@
-use Rattle.jsonb_raw.proofs.Common.{rules, true, arith, ap, length, Null, differing_kind, equal_kind, stripped}
-use Rattle.jsonb_raw.proofs.StripWalk.{words_of_run, word_taken, no_word_left}
-use Rattle.jsonb_raw.proofs.StripLists.{null_kind, is_none, is_some}
+use Rattle.jsonb_raw.proofs.Lemmas.{rules, true, arith, ap, length, Null, differing_kind, equal_kind, stripped, words_of_run, word_taken, no_word_left, null_kind, is_none}
+use Rattle.jsonb_raw.proofs.StripWalk.{is_some}
 use Rattle.jsonb_raw.proofs.functions.operator.stripping.count_values.Goals as goal
 
 pub loop-kind-init : goal.loop-kind-init

@@ -1,5 +1,4 @@
-use Rattle.jsonb_raw.proofs.Common.{true, ◌+◌, ◌≤◌, List, length, Tree, Form, HoldTrees, stripped}
-use Rattle.jsonb_raw.proofs.StripWalk.{ValuesCounted}
+use Rattle.jsonb_raw.proofs.Lemmas.{true, ◌+◌, ◌≤◌, List, length, Tree, Form, HoldTrees, stripped, ValuesCounted}
 use Rattle.jsonb_raw.proofs.functions.operator.stripping.count_values.Given as goal
 
 -- the values so far, and those that are left, are all

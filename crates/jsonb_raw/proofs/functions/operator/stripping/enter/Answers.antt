@@ -1,7 +1,4 @@
-use Rattle.jsonb_raw.proofs.Common.{arith, inl, entries_kept, strip}
-use Rattle.jsonb_raw.proofs.AnswerLemmas.{failed}
-use Rattle.jsonb_raw.proofs.StripLists.{kept_makes}
-use Rattle.jsonb_raw.proofs.StripWalk.{begun_with}
+use Rattle.jsonb_raw.proofs.Lemmas.{arith, inl, entries_kept, strip, failed, kept_makes, begun_with}
 use Rattle.jsonb_raw.proofs.functions.operator.stripping.enter.Goals as goal
 
 pub returns-in_default-clause-entered : goal.returns-in_default-clause-entered

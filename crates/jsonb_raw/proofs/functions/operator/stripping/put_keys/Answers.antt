@@ -1,6 +1,4 @@
-use Rattle.jsonb_raw.proofs.Common.{arith, values_kept, zero_of, keys_of-members, keys_rise, many_texts, length-values_of}
-use Rattle.jsonb_raw.proofs.StripWalk.{some_keys_stay}
-use Rattle.jsonb_raw.proofs.StripLists.{all_keys, values_of-stripped, many_keys}
+use Rattle.jsonb_raw.proofs.Lemmas.{arith, values_kept, zero_of, keys_of-members, keys_rise, many_texts, length-values_of, some_keys_stay, all_keys, values_of-stripped, many_keys}
 use Rattle.jsonb_raw.proofs.functions.operator.stripping.put_keys.Goals as goal
 
 pub returns-then-is_empty-clause-put : goal.returns-then-is_empty-clause-put

@@ -1,7 +1,4 @@
-use Rattle.jsonb_raw.proofs.Common.{[], Null, same_kind, other_kind}
-use Rattle.jsonb_raw.proofs.AnswerLemmas.{failed}
-use Rattle.jsonb_raw.proofs.RunLemmas.{holding_begun, no_text_left, text_first}
-use Rattle.jsonb_raw.proofs.StripWalk.{words_of_run, word_taken, no_word_left, value_there, key_kept, key_dropped, keys_done}
+use Rattle.jsonb_raw.proofs.Lemmas.{[], Null, same_kind, other_kind, failed, holding_begun, no_text_left, text_first, words_of_run, word_taken, no_word_left, value_there, key_kept, key_dropped, keys_done}
 use Rattle.jsonb_raw.proofs.functions.operator.stripping.put_keys_kept.Goals as goal
 
 pub loop-others-init : goal.loop-others-init

@@ -1,5 +1,4 @@
-use Rattle.jsonb_raw.proofs.Common.{◌≤◌, ◌++◌, ℕ, List, length, map, Tree, text, Form, Around, IsWriting, HoldTrees, beside}
-use Rattle.jsonb_raw.proofs.StripWalk.{KeysOpen}
+use Rattle.jsonb_raw.proofs.Lemmas.{◌≤◌, ◌++◌, ℕ, List, length, map, Tree, text, Form, Around, IsWriting, HoldTrees, beside, KeysOpen}
 use Rattle.jsonb_raw.proofs.functions.operator.stripping.put_keys_kept.Given as goal
 
 -- the keys that are left come next

@@ -1,7 +1,4 @@
-use Rattle.jsonb_raw.proofs.Common.{rules, arith, sym, ◌∙◌, Container, same_kind, other_kind}
-use Rattle.jsonb_raw.proofs.AnswerLemmas.{failed}
-use Rattle.jsonb_raw.proofs.RunLemmas.{no_entry_left, entry_taken}
-use Rattle.jsonb_raw.proofs.StripWalk.{scalars_begun, scalar_kept, container_next, null_next, no_value_left}
+use Rattle.jsonb_raw.proofs.Lemmas.{rules, arith, sym, ◌∙◌, Container, same_kind, other_kind, failed, no_entry_left, entry_taken, scalars_begun, scalar_kept, container_next, null_next, no_value_left}
 use Rattle.jsonb_raw.proofs.functions.operator.stripping.put_scalars.Goals as goal
 
 pub loop-entry-init : goal.loop-entry-init

@@ -1,5 +1,4 @@
-use Rattle.jsonb_raw.proofs.Common.{◌+◌, ◌≤◌, List, length, Tree, Form, Around, IsWriting, HoldTrees, stripped}
-use Rattle.jsonb_raw.proofs.StripWalk.{ScalarsOpen}
+use Rattle.jsonb_raw.proofs.Lemmas.{◌+◌, ◌≤◌, List, length, Tree, Form, Around, IsWriting, HoldTrees, stripped, ScalarsOpen}
 use Rattle.jsonb_raw.proofs.functions.operator.stripping.put_scalars.Given as goal
 
 -- the values that are left come next, without nulls

@@ -1,6 +1,4 @@
-use Rattle.jsonb_raw.proofs.Common.{rules, ℕ, Vec, Global, [], ◌∷◌, arith, inl, refl, ap, ◌∙◌, subst, Decodes, IsOutOfMemoryOrTooLarge, Around, IsWriting, strip, stripped, pushed, popped, none_around, empty_of, only_ok}
-use Rattle.jsonb_raw.proofs.AnswerLemmas.{failed}
-use Rattle.jsonb_raw.proofs.StripWalk.{rooms-pushed}
+use Rattle.jsonb_raw.proofs.Lemmas.{rules, ℕ, Vec, Global, [], ◌∷◌, arith, inl, refl, ap, ◌∙◌, subst, Decodes, IsOutOfMemoryOrTooLarge, Around, IsWriting, strip, stripped, pushed, popped, none_around, empty_of, only_ok, failed, rooms-pushed}
 use Rattle.jsonb_raw.proofs.functions.operator.stripping.strip_container.Goals as goal
 
 pub returns-in_err-container-clause-stripped : goal.returns-in_err-container-clause-stripped

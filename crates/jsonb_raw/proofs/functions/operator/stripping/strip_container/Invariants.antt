@@ -1,5 +1,4 @@
-use Rattle.jsonb_raw.proofs.Common.{◌+◌, Tree, Form, AreEntriesOf, IsStripping, strip}
-use Rattle.jsonb_raw.proofs.StripWalk.{room, rooms}
+use Rattle.jsonb_raw.proofs.Lemmas.{◌+◌, Tree, Form, AreEntriesOf, IsStripping, strip, room, rooms}
 use Rattle.jsonb_raw.proofs.functions.operator.stripping.strip_container.Given as goal
 
 -- what is written becomes the whole with what is left

@@ -1,6 +1,4 @@
-use Rattle.jsonb_raw.proofs.Common.{rules, arith, true, false, ◌++◌, ◌∷◌, [], None, ◌≡◌, refl, FnReturnsAt, texts, texts_of_trees, texts_of_pairs}
-use Rattle.jsonb_raw.proofs.TextLemmas.{told_none, told_alone, told_first, told_head, told_after, leaves_all, leaves_after, leaves_aside, leaves_told, text_stored}
-use Rattle.jsonb_raw.proofs.EntriesLeft.{none_yet, SomeEntries-first, SomeEntries-error, SomeEntries-none, SomePairEntries-first, SomePairEntries-error, SomePairEntries-none}
+use Rattle.jsonb_raw.proofs.Lemmas.{rules, arith, true, false, ◌++◌, ◌∷◌, [], None, ◌≡◌, refl, FnReturnsAt, texts, texts_of_trees, texts_of_pairs, told_none, told_alone, told_first, told_head, told_after, leaves_all, leaves_after, leaves_aside, leaves_told, text_stored, none_yet, SomeEntries-first, SomeEntries-error, SomeEntries-none, SomePairEntries-first, SomePairEntries-error, SomePairEntries-none}
 use Rattle.jsonb_raw.proofs.functions.operator.traverse.+texts.Goals as goal
 
 -- ---- items

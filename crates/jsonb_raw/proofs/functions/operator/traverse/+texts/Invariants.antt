@@ -1,6 +1,4 @@
-use Rattle.jsonb_raw.proofs.Common.{◌<◌, ◌≤◌, ◌+◌, ◌*◌, length, Bool, IfSome, Tree, Trees, Pairs, array, object, Form, Decodes, StandsFor, item_size, entries_room, texts, texts_of_trees, texts_of_pairs, Tells}
-use Rattle.jsonb_raw.proofs.TextLemmas.{Leaves}
-use Rattle.jsonb_raw.proofs.EntriesLeft.{SomeEntries, SomePairEntries}
+use Rattle.jsonb_raw.proofs.Lemmas.{◌<◌, ◌≤◌, ◌+◌, ◌*◌, length, Bool, IfSome, Tree, Trees, Pairs, array, object, Form, Decodes, StandsFor, item_size, entries_room, texts, texts_of_trees, texts_of_pairs, Tells, Leaves, SomeEntries, SomePairEntries}
 use Rattle.jsonb_raw.proofs.functions.operator.traverse.+texts.Given as goal
 
 abbrev pub decreases-any_text_in_item : goal.decreases-any_text_in_item

@@ -1,5 +1,4 @@
-use Rattle.jsonb_raw.proofs.Common.{zero_of, arith}
-use Rattle.jsonb_raw.proofs.RunLemmas.{pairs_none_added, text_names, run_after, all_values}
+use Rattle.jsonb_raw.proofs.Lemmas.{zero_of, arith, pairs_none_added, text_names, run_after, all_values}
 use Rattle.jsonb_raw.proofs.functions.parts.PairRuns.push.Goals as goal
 
 pub returns-then-is_empty-clause-pushed : goal.returns-then-is_empty-clause-pushed

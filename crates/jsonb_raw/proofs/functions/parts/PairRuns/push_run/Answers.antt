@@ -1,4 +1,4 @@
-use Rattle.jsonb_raw.proofs.AnswerLemmas.{failed}
+use Rattle.jsonb_raw.proofs.Lemmas.{failed}
 use Rattle.jsonb_raw.proofs.functions.parts.PairRuns.push_run.Goals as goal
 
 pub returns-in_err-push_run-clause-pushed : goal.returns-in_err-push_run-clause-pushed

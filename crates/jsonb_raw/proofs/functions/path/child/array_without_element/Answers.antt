@@ -1,5 +1,4 @@
-use Rattle.jsonb_raw.proofs.Common.{rules}
-use Rattle.jsonb_raw.proofs.ChildAnswers.{drop_one_more}
+use Rattle.jsonb_raw.proofs.Lemmas.{rules, drop_one_more}
 use Rattle.jsonb_raw.proofs.functions.path.child.array_without_element.Goals as goal
 
 pub returns-clause-deleted : goal.returns-clause-deleted

@@ -1,5 +1,4 @@
-use Rattle.jsonb_raw.proofs.Common.{filter, not, Trees, array, elements, Form, Decodes, is_text}
-use Rattle.jsonb_raw.proofs.IteratorItems.{HeldElements}
+use Rattle.jsonb_raw.proofs.Lemmas.{filter, not, Trees, array, elements, Form, Decodes, is_text, HeldElements}
 use Rattle.jsonb_raw.proofs.functions.path.child.array_without_text.Given as goal
 
 abbrev pub invariant-loop-element : goal.invariant-loop-element

@@ -1,7 +1,4 @@
-use Rattle.jsonb_raw.proofs.Common.{rules, drop, err_from_is_err_and}
-use Rattle.jsonb_raw.proofs.ChildAnswers.{no_such_element}
-use Rattle.jsonb_raw.proofs.ChildLemmas.{split_at}
-use Rattle.jsonb_raw.proofs.RunLemmas.{entry_taken, no_entry_left}
+use Rattle.jsonb_raw.proofs.Lemmas.{rules, drop, err_from_is_err_and, no_such_element, split_at, entry_taken, no_entry_left}
 use Rattle.jsonb_raw.proofs.functions.path.child.element_document.Goals as goal
 
 pub returns-in_default-clause-found : goal.returns-in_default-clause-found

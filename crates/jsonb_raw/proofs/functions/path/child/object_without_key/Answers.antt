@@ -1,5 +1,4 @@
-use Rattle.jsonb_raw.proofs.Common.{◌≡◌, Some, None, not, sym, ◌∙◌, position, bytes_eq, keys_of, object, members, pairs_of-members, decoded_members, arith}
-use Rattle.jsonb_raw.proofs.NamedPairs.{AreKeys-filter, all_stay, one_goes}
+use Rattle.jsonb_raw.proofs.Lemmas.{◌≡◌, Some, None, not, sym, ◌∙◌, position, bytes_eq, keys_of, object, members, pairs_of-members, decoded_members, arith, AreKeys-filter, all_stay, one_goes}
 use Rattle.jsonb_raw.proofs.functions.path.child.object_without_key.Goals as goal
 
 pub returns-in_err-pairs-clause-deleted : goal.returns-in_err-pairs-clause-deleted

@@ -1,7 +1,5 @@
-use Rattle.jsonb_raw.proofs.Common.{keys_rise, remove}
-use Rattle.jsonb_raw.proofs.ChildAnswers.{drop_one_more}
-use Rattle.jsonb_raw.proofs.RunLemmas.{two_runs}
-use Rattle.jsonb_raw.proofs.NamedPairs.{names_around, values_around}
+use Rattle.jsonb_raw.proofs.Lemmas.{keys_rise, remove, drop_one_more, two_runs, names_around}
+use Rattle.jsonb_raw.proofs.PositionLemmas.{values_around}
 use Rattle.jsonb_raw.proofs.functions.path.child.object_without_pair.Goals as goal
 
 pub returns-clause-deleted : goal.returns-clause-deleted

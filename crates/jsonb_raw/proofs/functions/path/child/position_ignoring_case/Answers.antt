@@ -1,8 +1,5 @@
-use Rattle.jsonb_raw.proofs.Common.{◌≡◌, ◌+◌, ◌∙◌, refl, sym, ap, rules, arith}
-use Rattle.jsonb_raw.proofs.ChildAnswers.{decided}
-use Rattle.jsonb_raw.proofs.NamedPairs.{found_behind_both, both_other, both_further}
-use Rattle.jsonb_raw.proofs.RunLemmas.{text_first, no_text_left}
-use Rattle.jsonb_raw.proofs.PositionLemmas.{position-cons}
+use Rattle.jsonb_raw.proofs.Lemmas.{◌≡◌, ◌+◌, ◌∙◌, refl, sym, ap, rules, arith, found_behind_both, both_other, both_further, position-cons, text_first, no_text_left}
+use Rattle.jsonb_raw.proofs.ChildLemmas.{decided}
 use Rattle.jsonb_raw.proofs.functions.path.child.position_ignoring_case.Goals as goal
 use Rattle.jsonb_raw.proofs.functions.path.child.position_ignoring_case.Goals.{then-eq_ignore_ascii_case+else-eq, else-eq_ignore_ascii_case}
 

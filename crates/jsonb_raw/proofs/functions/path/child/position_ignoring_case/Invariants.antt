@@ -1,5 +1,4 @@
-use Rattle.jsonb_raw.proofs.Common.{◌≡◌, ◌+◌, ◌≤◌, List, ℕ, length, map, text, Form, position_in_some_case, HoldTrees}
-use Rattle.jsonb_raw.proofs.NamedPairs.{found_behind_both}
+use Rattle.jsonb_raw.proofs.Lemmas.{◌≡◌, ◌+◌, ◌≤◌, List, ℕ, length, map, text, Form, position_in_some_case, HoldTrees, found_behind_both}
 use Rattle.jsonb_raw.proofs.functions.path.child.position_ignoring_case.Given as goal
 
 -- the position is that among the keys that are left, after those that were passed

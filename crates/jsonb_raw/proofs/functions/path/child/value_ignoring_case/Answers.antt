@@ -1,6 +1,4 @@
-use Rattle.jsonb_raw.proofs.Common.{rules}
-use Rattle.jsonb_raw.proofs.NamedPairs.{named_value, named_at_none}
-use Rattle.jsonb_raw.proofs.PartedRuns.{pairs_there}
+use Rattle.jsonb_raw.proofs.Lemmas.{rules, named_value, named_at_none, pairs_there}
 use Rattle.jsonb_raw.proofs.functions.path.child.value_ignoring_case.Goals as goal
 
 pub returns-in_default-2-clause-found : goal.returns-in_default-2-clause-found

@@ -1,4 +1,4 @@
-use Rattle.jsonb_raw.proofs.Common.{refl, err_from_is_err_and, number_reader}
+use Rattle.jsonb_raw.proofs.Lemmas.{refl, err_from_is_err_and, number_reader}
 use Rattle.jsonb_raw.proofs.functions.path.child.value_of_key.Goals as goal
 
 pub returns-in_err-value-clause-found : goal.returns-in_err-value-clause-found

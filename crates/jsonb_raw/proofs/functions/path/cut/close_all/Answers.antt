@@ -1,5 +1,4 @@
-use Rattle.jsonb_raw.proofs.Common.{[], ◌∷◌, List, length, arith, sym, ap, subst, ◌∙◌, append-nil, reverse, Tree, Around, Rooms, IsWriting, HasRoom, popped, none_around, empty_of, rooms_after}
-use Rattle.jsonb_raw.proofs.CutLemmas.{room_none, rooms_pushed}
+use Rattle.jsonb_raw.proofs.Lemmas.{[], ◌∷◌, List, length, arith, sym, ap, subst, ◌∙◌, append-nil, reverse, Tree, Around, Rooms, IsWriting, HasRoom, popped, none_around, empty_of, rooms_after, room_none, rooms_pushed}
 use Rattle.jsonb_raw.proofs.functions.path.cut.close_all.Goals as goal
 
 pub loop-outer-init : goal.loop-outer-init

@@ -1,4 +1,4 @@
-use Rattle.jsonb_raw.proofs.Common.{length, reverse, Tree, Form, HasRoom, rooms_after, IsClosing}
+use Rattle.jsonb_raw.proofs.Lemmas.{length, reverse, Tree, Form, HasRoom, rooms_after, IsClosing}
 use Rattle.jsonb_raw.proofs.functions.path.cut.close_all.Given as goal
 
 -- what is written becomes the whole with what is left, and is short enough

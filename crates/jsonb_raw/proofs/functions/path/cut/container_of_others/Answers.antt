@@ -1,6 +1,4 @@
-use Rattle.jsonb_raw.proofs.Common.{rules, ◌++◌, sym, ◌∙◌, zero_of, arith, remove}
-use Rattle.jsonb_raw.proofs.CutLemmas.{held_around, no_trees_held, none_left}
-use Rattle.jsonb_raw.proofs.RunLemmas.{two_runs}
+use Rattle.jsonb_raw.proofs.Lemmas.{rules, ◌++◌, sym, ◌∙◌, zero_of, arith, remove, held_around, no_trees_held, none_left, two_runs}
 use Rattle.jsonb_raw.proofs.functions.path.cut.container_of_others.Goals as goal
 
 pub returns-in_err-keys-clause-container : goal.returns-in_err-keys-clause-container

@@ -1,5 +1,4 @@
-use Rattle.jsonb_raw.proofs.Common.{arith, zero_of}
-use Rattle.jsonb_raw.proofs.CutLemmas.{no_trees_held, room_less}
+use Rattle.jsonb_raw.proofs.Lemmas.{arith, zero_of, no_trees_held, room_less}
 use Rattle.jsonb_raw.proofs.functions.path.cut.copy_some.Goals as goal
 
 pub returns-then-is_empty-clause-copied : goal.returns-then-is_empty-clause-copied

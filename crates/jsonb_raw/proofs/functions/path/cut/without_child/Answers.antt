@@ -1,5 +1,4 @@
-use Rattle.jsonb_raw.proofs.Common.{ℕ, [], Vec, Global, err_from_is_err_and, Decodes, IsOutOfMemory, only_ok, zero_of, empty_of, change_child, remove_at}
-use Rattle.jsonb_raw.proofs.CutLemmas.{no_more}
+use Rattle.jsonb_raw.proofs.Lemmas.{ℕ, [], Vec, Global, err_from_is_err_and, Decodes, IsOutOfMemory, only_ok, zero_of, empty_of, change_child, remove_at, no_more}
 use Rattle.jsonb_raw.proofs.functions.path.cut.without_child.Goals as goal
 
 pub returns-then-is_empty-clause-without : goal.returns-then-is_empty-clause-without

@@ -1,7 +1,5 @@
-use Rattle.jsonb_raw.proofs.Common.{rules, ◌≡◌, ◌≤◌, ◌+◌, ◌++◌, ◌∷◌, length, take, drop, suc, arith, refl, sym, ap, subst, ◌∙◌, reverse, err_from_is_err_and, Rooms, HasRoom, head_size, pushed, change_child, remove_at, children, children_kept, contents_size, size, sizes, rooms_after}
-use Rattle.jsonb_raw.proofs.Lists.{drop_first, none_behind}
+use Rattle.jsonb_raw.proofs.Lemmas.{rules, ◌≡◌, ◌≤◌, ◌+◌, ◌++◌, ◌∷◌, length, take, drop, suc, arith, refl, sym, ap, subst, ◌∙◌, reverse, err_from_is_err_and, Rooms, HasRoom, head_size, pushed, change_child, remove_at, children, children_kept, contents_size, size, sizes, rooms_after, drop_first, drop_of_length-le, makes_kept, opens_next, opens_none, kept_at_most, head_less, room_less, rooms_pushed, opening_begun, all_behind}
 use Rattle.jsonb_raw.specs.Private.Cuts.{entries_kept}
-use Rattle.jsonb_raw.proofs.CutLemmas.{makes_kept, opens_next, opens_none, kept_at_most, head_less, room_less, rooms_pushed, opening_begun, all_behind}
 use Rattle.jsonb_raw.proofs.functions.path.cut.write_down.Goals as goal
 
 pub loop-index-init : goal.loop-index-init
@@ -18,13 +16,13 @@ pub returns-in_err-put_others-clause-written : goal.returns-in_err-put_others-cl
 returns-in_err-put_others-clause-written c = λ form t end n ns led.
     let e = err_from_is_err_and c.from_residual-in_err-put_others.result c.from_residual-in_err-put_others.ensures.1 in
     let o = c.loop-index.invariant.opening form t end n ns led in
-    let w = opens_none form _ _ c.loop-index.parent (drop c.loop-index.index c.args.inner.now) _ o (none_behind c.args.inner.now c.loop-index.index c.loop-index-test.false) in
+    let w = opens_none form _ _ c.loop-index.parent (drop c.loop-index.index c.args.inner.now) _ o (drop_of_length-le c.args.inner.now c.loop-index-test.false) in
     rw (e.1, e.2) (c.in_err-put_others.ensures.put form _ _ _ o.n o.outside _ o.parent.keys_hold o.parent.front_hold o.parent.after_hold o.parent.passed w)
 
 pub returns-clause-written : goal.returns-clause-written
 returns-clause-written c = λ form t end n ns led.
     let o = c.loop-index.invariant.opening form t end n ns led in
-    let w = opens_none form _ _ c.loop-index.parent (drop c.loop-index.index c.args.inner.now) _ o (none_behind c.args.inner.now c.loop-index.index c.loop-index-test.false) in
+    let w = opens_none form _ _ c.loop-index.parent (drop c.loop-index.index c.args.inner.now) _ o (drop_of_length-le c.args.inner.now c.loop-index-test.false) in
     record {
       outside = o.outside;
       are_left = o.are_left;

@@ -1,5 +1,4 @@
-use Rattle.jsonb_raw.proofs.Common.{◌+◌, ◌^◌, ◌<◌, ◌∷◌, ℕ, List, drop, reverse, Tree, Form, HasRoom, change_child, remove_at, LeadTo, contents_size, sizes, rooms_after}
-use Rattle.jsonb_raw.proofs.CutLemmas.{IsOpening}
+use Rattle.jsonb_raw.proofs.Lemmas.{◌+◌, ◌^◌, ◌<◌, ◌∷◌, ℕ, List, drop, reverse, Tree, Form, HasRoom, change_child, remove_at, LeadTo, contents_size, sizes, rooms_after, IsOpening}
 use Rattle.jsonb_raw.proofs.functions.path.cut.write_down.Given as goal
 
 -- the innermost container that is open still gets all its entries, and those within it come next

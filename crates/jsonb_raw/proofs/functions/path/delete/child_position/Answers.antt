@@ -1,5 +1,4 @@
-use Rattle.jsonb_raw.proofs.Common.{arith, rules, w32, ◌∙◌, SFits, to_z-of_z}
-use Rattle.jsonb_raw.proofs.PositionLemmas.{of_array, of_object, met_in_object, met_by_index}
+use Rattle.jsonb_raw.proofs.Lemmas.{arith, rules, w32, ◌∙◌, SFits, to_z-of_z, of_array, of_object, met_in_object, met_by_index}
 use Rattle.jsonb_raw.proofs.functions.path.delete.child_position.Goals as goal
 
 pub returns-in-Array-Index-clause-position : goal.returns-in-Array-Index-clause-position

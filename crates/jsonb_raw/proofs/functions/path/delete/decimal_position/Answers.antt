@@ -1,5 +1,4 @@
-use Rattle.jsonb_raw.proofs.Common.{to_z-of_z, arith}
-use Rattle.jsonb_raw.proofs.AnswerLemmas.{answered}
+use Rattle.jsonb_raw.proofs.Lemmas.{to_z-of_z, arith, answered}
 use Rattle.jsonb_raw.proofs.functions.path.delete.decimal_position.Goals as goal
 
 pub returns-clause-position : goal.returns-clause-position

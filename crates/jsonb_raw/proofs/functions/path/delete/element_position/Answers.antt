@@ -1,4 +1,4 @@
-use Rattle.jsonb_raw.proofs.Common.{w32, to_z-of_z}
+use Rattle.jsonb_raw.proofs.Lemmas.{w32, to_z-of_z}
 use Rattle.jsonb_raw.proofs.functions.path.delete.element_position.Goals as goal
 
 pub returns : goal.returns

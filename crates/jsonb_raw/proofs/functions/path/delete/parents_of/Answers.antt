@@ -1,7 +1,5 @@
-use Rattle.jsonb_raw.proofs.Common.{arith, rules, ap, err_from_is_err_and, key_view, keys_view, append-nil}
-use Rattle.jsonb_raw.proofs.CutLemmas.{root_value, short_more}
-use Rattle.jsonb_raw.proofs.DeleteLemmas.{place_is}
-use Rattle.jsonb_raw.proofs.MetLemmas.{walk_begun, met_next, met_none}
+use Rattle.jsonb_raw.proofs.Lemmas.{arith, rules, ap, err_from_is_err_and, key_view, keys_view, append-nil, root_value, short_more, met_next, met_none, place_is}
+use Rattle.jsonb_raw.proofs.CutLemmas.{walk_begun}
 use Rattle.jsonb_raw.proofs.functions.path.delete.parents_of.Goals as goal
 
 pub loop-step-init : goal.loop-step-init

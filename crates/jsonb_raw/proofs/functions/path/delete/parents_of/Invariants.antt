@@ -1,5 +1,4 @@
-use Rattle.jsonb_raw.proofs.Common.{List, length, Tree, Form, Decodes, KeyPath, keys_view, YieldsItemsLeft, location, AreShort}
-use Rattle.jsonb_raw.proofs.MetLemmas.{Walked}
+use Rattle.jsonb_raw.proofs.Lemmas.{List, length, Tree, Form, Decodes, KeyPath, keys_view, YieldsItemsLeft, location, AreShort, Walked}
 use Rattle.jsonb_raw.proofs.functions.path.delete.parents_of.Given as goal
 
 -- what the steps that are left select in the tree of the entry comes after the positions so far

@@ -1,5 +1,4 @@
-use Rattle.jsonb_raw.proofs.Common.{rules, same_kind, other_kind}
-use Rattle.jsonb_raw.proofs.CutLemmas.{no_children}
+use Rattle.jsonb_raw.proofs.Lemmas.{rules, same_kind, other_kind, no_children}
 use Rattle.jsonb_raw.proofs.functions.path.delete.split_at_step.Goals as goal
 
 pub returns-then-eq-clause-child : goal.returns-then-eq-clause-child

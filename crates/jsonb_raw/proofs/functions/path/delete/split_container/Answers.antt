@@ -1,5 +1,5 @@
-use Rattle.jsonb_raw.proofs.Common.{rules, ◌+◌, arith, refl, ap₂, err_from_is_err_and, key_view, children}
-use Rattle.jsonb_raw.proofs.CutLemmas.{values_hold, child_taken, no_entries, no_children, no_position, no_child, step_into}
+use Rattle.jsonb_raw.proofs.Lemmas.{rules, ◌+◌, arith, refl, ap₂, err_from_is_err_and, key_view, children, values_hold, child_taken, no_children, no_position, no_child, step_into}
+use Rattle.jsonb_raw.proofs.CutLemmas.{no_entries}
 use Rattle.jsonb_raw.proofs.functions.path.delete.split_container.Goals as goal
 
 pub returns-in_err-entries-clause-child : goal.returns-in_err-entries-clause-child

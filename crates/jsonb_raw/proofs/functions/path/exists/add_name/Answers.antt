@@ -1,4 +1,4 @@
-use Rattle.jsonb_raw.proofs.Common.{sym, ◌∙◌, arith, list_any-append, list_all-append}
+use Rattle.jsonb_raw.proofs.Lemmas.{sym, ◌∙◌, arith, list_any-append, list_all-append}
 use Rattle.jsonb_raw.proofs.functions.path.exists.add_name.Goals as goal
 
 pub returns-in_err-decides-clause-told : goal.returns-in_err-decides-clause-told

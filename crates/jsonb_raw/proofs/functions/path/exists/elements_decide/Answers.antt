@@ -1,4 +1,4 @@
-use Rattle.jsonb_raw.proofs.Common.{rules, sym, ◌∙◌, append-nil, names_of, arith, list_any-append, list_all-append}
+use Rattle.jsonb_raw.proofs.Lemmas.{rules, sym, ◌∙◌, append-nil, names_of, arith, list_any-append, list_all-append}
 use Rattle.jsonb_raw.proofs.functions.path.exists.elements_decide.Goals as goal
 
 pub returns-in_err-add_name-clause-has : goal.returns-in_err-add_name-clause-has

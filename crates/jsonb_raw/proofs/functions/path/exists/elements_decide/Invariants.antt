@@ -1,4 +1,4 @@
-use Rattle.jsonb_raw.proofs.Common.{◌≡◌, ◌++◌, ℕ, List, Form, HasTextsLeft, decided_by, names_of, IsBlock, YieldsItemsLeft}
+use Rattle.jsonb_raw.proofs.Lemmas.{◌≡◌, ◌++◌, ℕ, List, Form, HasTextsLeft, decided_by, names_of, IsBlock, YieldsItemsLeft}
 use Rattle.jsonb_raw.proofs.functions.path.exists.elements_decide.Given as goal
 
 -- the names in the block and those that are left decide

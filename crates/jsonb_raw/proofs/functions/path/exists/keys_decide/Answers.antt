@@ -1,5 +1,4 @@
-use Rattle.jsonb_raw.proofs.Common.{rules, sym, ◌∙◌, object, keys}
-use Rattle.jsonb_raw.proofs.PairStepLemmas.{decided, left_open, none_decided}
+use Rattle.jsonb_raw.proofs.Lemmas.{rules, sym, ◌∙◌, object, keys, decided, left_open, none_decided}
 use Rattle.jsonb_raw.proofs.functions.path.exists.keys_decide.Goals as goal
 
 pub returns-in_err-has-clause-has : goal.returns-in_err-has-clause-has

@@ -1,4 +1,4 @@
-use Rattle.jsonb_raw.proofs.Common.{◌≡◌, ℕ, List, Pairs, object, keys, Form, AreKeys, HasEntriesLeft, key_trees, IsTableOf, has_by, YieldsItemsLeft}
+use Rattle.jsonb_raw.proofs.Lemmas.{◌≡◌, ℕ, List, Pairs, object, keys, Form, AreKeys, HasEntriesLeft, key_trees, IsTableOf, has_by, YieldsItemsLeft}
 use Rattle.jsonb_raw.proofs.functions.path.exists.keys_decide.Given as goal
 
 -- the strings that are left decide

@@ -1,6 +1,4 @@
-use Rattle.jsonb_raw.proofs.Common.{rules, refl, sym, ◌∙◌, texts_of}
-use Rattle.jsonb_raw.proofs.NameBlockLemmas.{array_decided}
-use Rattle.jsonb_raw.proofs.PairStepLemmas.{decided, left_open, none_decided}
+use Rattle.jsonb_raw.proofs.Lemmas.{rules, refl, sym, ◌∙◌, texts_of, array_decided, decided, left_open, none_decided}
 use Rattle.jsonb_raw.proofs.functions.path.exists.short_circuit.Goals as goal
 
 pub returns-in_err-has-clause-has : goal.returns-in_err-has-clause-has

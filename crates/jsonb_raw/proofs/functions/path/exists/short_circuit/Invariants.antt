@@ -1,4 +1,4 @@
-use Rattle.jsonb_raw.proofs.Common.{◌≡◌, ℕ, List, Tree, Form, Decodes, HoldsTexts, has_by, YieldsItemsLeft}
+use Rattle.jsonb_raw.proofs.Lemmas.{◌≡◌, ℕ, List, Tree, Form, Decodes, HoldsTexts, has_by, YieldsItemsLeft}
 use Rattle.jsonb_raw.proofs.functions.path.exists.short_circuit.Given as goal
 
 -- the strings that are left decide

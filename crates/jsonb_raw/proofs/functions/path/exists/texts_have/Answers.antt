@@ -1,5 +1,4 @@
-use Rattle.jsonb_raw.proofs.Common.{arith, refl, keys, texts_of}
-use Rattle.jsonb_raw.proofs.NameBlockLemmas.{text_among}
+use Rattle.jsonb_raw.proofs.Lemmas.{arith, refl, keys, texts_of, text_among}
 use Rattle.jsonb_raw.proofs.functions.path.exists.texts_have.Goals as goal
 
 pub returns-in-Keys-clause-has : goal.returns-in-Keys-clause-has

@@ -1,5 +1,4 @@
-use Rattle.jsonb_raw.proofs.Common.{sym, ◌∙◌, arith}
-use Rattle.jsonb_raw.proofs.LevelStarts.{all_left}
+use Rattle.jsonb_raw.proofs.Lemmas.{sym, ◌∙◌, arith, all_left}
 use Rattle.jsonb_raw.proofs.functions.path.leaves.descend_into_container.Goals as goal
 
 pub returns-then-is_ignored_array-clause-leaf : goal.returns-then-is_ignored_array-clause-leaf

@@ -1,5 +1,4 @@
-use Rattle.jsonb_raw.proofs.Common.{arith, true≢false}
-use Rattle.jsonb_raw.proofs.LevelStarts.{stored_container}
+use Rattle.jsonb_raw.proofs.Lemmas.{arith, true≢false, stored_container}
 use Rattle.jsonb_raw.proofs.functions.path.leaves.entry_entered.Goals as goal
 
 pub returns-then-not-is_container-clause-leaf : goal.returns-then-not-is_container-clause-leaf

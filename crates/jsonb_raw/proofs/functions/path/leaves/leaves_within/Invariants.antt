@@ -1,6 +1,4 @@
-use Rattle.jsonb_raw.proofs.Common.{◌≡◌, ◌+◌, length, reverse, Tree, Form, StandsFor, leaves, IsKept}
-use Rattle.jsonb_raw.proofs.LevelLemmas.{SomeParts, weight, weights}
-use Rattle.jsonb_raw.proofs.LeafWalk.{LeavesToward}
+use Rattle.jsonb_raw.proofs.Lemmas.{◌≡◌, ◌+◌, length, reverse, Tree, Form, StandsFor, leaves, IsKept, SomeParts, weight, weights, LeavesToward}
 use Rattle.jsonb_raw.proofs.functions.path.leaves.leaves_within.Given as goal
 
 -- what is found, and then the leaves of what each level has left, the innermost first, are the leaves of the whole

@@ -1,4 +1,4 @@
-use Rattle.jsonb_raw.proofs.Common.{◌≡◌, ◌+◌, take, length, vec_len, vec_capacity, keys_view, step_keys}
+use Rattle.jsonb_raw.proofs.Lemmas.{◌≡◌, ◌+◌, take, length, vec_len, vec_capacity, keys_view, step_keys}
 use Rattle.jsonb_raw.proofs.functions.path.leaves.path_to.Given as goal
 
 -- the steps so far, with room for the others

@@ -1,4 +1,4 @@
-use Rattle.jsonb_raw.proofs.Common.{arith, ◌≡◌, sym, ◌∙◌, refl, MatchResult-weaker, text, number_reader, text_content}
+use Rattle.jsonb_raw.proofs.Lemmas.{arith, ◌≡◌, sym, ◌∙◌, refl, MatchResult-weaker, text, number_reader, text_content}
 use Rattle.jsonb_raw.proofs.functions.path.leaves.push_text.Goals as goal
 
 pub returns-in-Ok-clause-leaf : goal.returns-in-Ok-clause-leaf

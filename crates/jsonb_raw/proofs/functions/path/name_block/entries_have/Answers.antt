@@ -1,5 +1,4 @@
-use Rattle.jsonb_raw.proofs.Common.{◌≡◌, sym, ◌∙◌, is_one_of}
-use Rattle.jsonb_raw.proofs.NameBlockLemmas.{SomeTexts-first, SomeTexts-none}
+use Rattle.jsonb_raw.proofs.Lemmas.{◌≡◌, sym, ◌∙◌, is_one_of, SomeTexts-first, SomeTexts-none}
 use Rattle.jsonb_raw.proofs.functions.path.name_block.entries_have.Goals as goal
 
 pub returns-in_err-text-clause-has : goal.returns-in_err-text-clause-has

@@ -1,5 +1,4 @@
-use Rattle.jsonb_raw.proofs.Common.{◌≡◌, ℕ, List, Form, entries_bound, HasTextsLeft, is_one_of}
-use Rattle.jsonb_raw.proofs.NameBlockLemmas.{SomeTexts}
+use Rattle.jsonb_raw.proofs.Lemmas.{◌≡◌, ℕ, List, Form, entries_bound, HasTextsLeft, is_one_of, SomeTexts}
 use Rattle.jsonb_raw.proofs.functions.path.name_block.entries_have.Given as goal
 
 -- the strings that are left decide

@@ -1,5 +1,4 @@
-use Rattle.jsonb_raw.proofs.Common.{arith, sym, ◌∙◌, true≢false}
-use Rattle.jsonb_raw.proofs.NameBlockLemmas.{text_passed, text_taken, some_stored, no_text_error, text_none}
+use Rattle.jsonb_raw.proofs.Lemmas.{arith, sym, ◌∙◌, true≢false, text_passed, text_taken, some_stored, no_text_error, text_none}
 use Rattle.jsonb_raw.proofs.functions.path.name_block.next_text.Goals as goal
 
 pub returns-in_err-entry-clause-takes : goal.returns-in_err-entry-clause-takes

@@ -1,4 +1,4 @@
-use Rattle.jsonb_raw.proofs.Common.{◌≤◌, ℕ, List, Form, entries_bound, HasTextsLeft}
+use Rattle.jsonb_raw.proofs.Lemmas.{◌≤◌, ℕ, List, Form, entries_bound, HasTextsLeft}
 use Rattle.jsonb_raw.proofs.functions.path.name_block.next_text.Given as goal
 
 -- the strings are still left

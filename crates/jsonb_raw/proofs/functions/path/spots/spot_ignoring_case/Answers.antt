@@ -1,6 +1,4 @@
-use Rattle.jsonb_raw.proofs.Common.{rules, ◌≡◌, Some, sym, ◌∙◌, keys_of, members, position_in_some_case}
-use Rattle.jsonb_raw.proofs.NamedPairs.{named_place, named_at_none}
-use Rattle.jsonb_raw.proofs.PartedRuns.{pairs_there}
+use Rattle.jsonb_raw.proofs.Lemmas.{rules, ◌≡◌, Some, sym, ◌∙◌, keys_of, members, position_in_some_case, named_place, named_at_none, pairs_there}
 use Rattle.jsonb_raw.proofs.functions.path.spots.spot_ignoring_case.Goals as goal
 
 pub returns-in_default-2-clause-value : goal.returns-in_default-2-clause-value

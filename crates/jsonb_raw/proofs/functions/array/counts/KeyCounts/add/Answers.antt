@@ -1,5 +1,4 @@
-use Rattle.jsonb_raw.proofs.Common.{rules, ◌∙◌, ap, sym, unwrap_or, arith}
-use Rattle.jsonb_raw.proofs.ElementsSeen.{same_count, counted_new, counted_again}
+use Rattle.jsonb_raw.proofs.Lemmas.{rules, ◌∙◌, ap, sym, unwrap_or, arith, same_count, counted_new, counted_again}
 use Rattle.jsonb_raw.proofs.functions.array.counts.KeyCounts.add.Goals as goal
 
 pub returns-in_default-clause-before : goal.returns-in_default-clause-before

@@ -1,5 +1,4 @@
-use Rattle.jsonb_raw.proofs.Common.{◌∙◌, ◌-◌, ap, unwrap_or, rules}
-use Rattle.jsonb_raw.proofs.ElementsSeen.{counted_less, counted_none}
+use Rattle.jsonb_raw.proofs.Lemmas.{◌∙◌, ◌-◌, ap, unwrap_or, rules, counted_less, counted_none}
 use Rattle.jsonb_raw.proofs.functions.array.counts.KeyCounts.decrement.Goals as goal
 
 pub returns-in-Some-clause-less : goal.returns-in-Some-clause-less

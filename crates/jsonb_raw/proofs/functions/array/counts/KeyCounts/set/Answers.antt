@@ -1,5 +1,4 @@
-use Rattle.jsonb_raw.proofs.Common.{rules}
-use Rattle.jsonb_raw.proofs.ElementsSeen.{inserted}
+use Rattle.jsonb_raw.proofs.Lemmas.{rules, inserted}
 use Rattle.jsonb_raw.proofs.functions.array.counts.KeyCounts.set.Goals as goal
 
 pub returns-in-Some : goal.returns-in-Some

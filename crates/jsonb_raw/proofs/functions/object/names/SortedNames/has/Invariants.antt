@@ -1,4 +1,4 @@
-use Rattle.jsonb_raw.proofs.Common.{◌≡◌, names_left, DecideFrom}
+use Rattle.jsonb_raw.proofs.Lemmas.{◌≡◌, names_left, DecideFrom}
 use Rattle.jsonb_raw.proofs.functions.object.names.SortedNames.has.Given as goal
 
 abbrev pub invariant-loop-step : goal.invariant-loop-step

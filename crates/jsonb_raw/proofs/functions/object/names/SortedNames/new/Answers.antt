@@ -1,5 +1,4 @@
-use Rattle.jsonb_raw.proofs.Common.{arith}
-use Rattle.jsonb_raw.proofs.PartedRuns.{name_taken}
+use Rattle.jsonb_raw.proofs.Lemmas.{arith, name_taken}
 use Rattle.jsonb_raw.proofs.functions.object.names.SortedNames.new.Goals as goal
 
 pub returns-clause-decides : goal.returns-clause-decides

@@ -1,5 +1,4 @@
-use Rattle.jsonb_raw.proofs.Common.{◌∙◌, sym, rules, names_left, DecideFrom, arith}
-use Rattle.jsonb_raw.proofs.PartedRuns.{run_first, run_more, next_member, no_member_left, key_decided, key_is_utf8}
+use Rattle.jsonb_raw.proofs.Lemmas.{◌∙◌, sym, rules, names_left, DecideFrom, arith, run_first, run_more, next_member, no_member_left, key_decided, key_is_utf8}
 use Rattle.jsonb_raw.proofs.functions.object.names.SortedNames.next_run.Goals as goal
 
 pub returns-in_default-clause-run : goal.returns-in_default-clause-run

@@ -1,4 +1,4 @@
-use Rattle.jsonb_raw.proofs.Common.{◌≡◌, ◌+◌, ◌<◌, ◌≤◌, List, ℕ, length, map, keys_of, Tree, text, Form, AreKeys, HoldTrees, names_left, DecideForKeys, PartsFirst}
+use Rattle.jsonb_raw.proofs.Lemmas.{◌≡◌, ◌+◌, ◌<◌, ◌≤◌, List, ℕ, length, map, keys_of, Tree, text, Form, AreKeys, HoldTrees, names_left, DecideForKeys, PartsFirst}
 use Rattle.jsonb_raw.proofs.functions.object.names.SortedNames.next_run.Given as goal
 
 abbrev pub invariant-loop-key : goal.invariant-loop-key

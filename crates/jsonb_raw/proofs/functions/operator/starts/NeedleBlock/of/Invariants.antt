@@ -1,4 +1,4 @@
-use Rattle.jsonb_raw.proofs.Common.{◌≤◌}
+use Rattle.jsonb_raw.proofs.Lemmas.{◌≤◌}
 use Rattle.jsonb_raw.proofs.functions.operator.starts.NeedleBlock.of.Given as goal
 
 abbrev pub invariant-loop-entry : goal.invariant-loop-entry

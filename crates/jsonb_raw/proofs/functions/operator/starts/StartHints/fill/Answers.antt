@@ -1,5 +1,4 @@
-use Rattle.jsonb_raw.proofs.Common.{rules}
-use Rattle.jsonb_raw.proofs.EntriesLeft.{passes_next}
+use Rattle.jsonb_raw.proofs.Lemmas.{rules, passes_next}
 use Rattle.jsonb_raw.proofs.functions.operator.starts.StartHints.fill.Goals as goal
 
 pub walk-preserved-in-Some : goal.walk-preserved-in-Some

@@ -1,4 +1,4 @@
-use Rattle.jsonb_raw.proofs.Common.{entries_bound, PassesOver, AreStarts}
+use Rattle.jsonb_raw.proofs.Lemmas.{entries_bound, PassesOver, AreStarts}
 use Rattle.jsonb_raw.proofs.functions.operator.starts.StartHints.fill.Given as goal
 
 abbrev pub invariant-walk : goal.invariant-walk

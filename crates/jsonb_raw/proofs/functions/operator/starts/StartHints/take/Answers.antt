@@ -1,4 +1,4 @@
-use Rattle.jsonb_raw.proofs.Common.{arith, ◌<◌, length, subst, PassesOver, get_or_default}
+use Rattle.jsonb_raw.proofs.Lemmas.{arith, ◌<◌, length, subst, PassesOver, get_or_default}
 use Rattle.jsonb_raw.proofs.functions.operator.starts.StartHints.take.Goals as goal
 
 pub returns-clause-start : goal.returns-clause-start

@@ -1,5 +1,4 @@
-use Rattle.jsonb_raw.proofs.Common.{arith, refl, sym, ◌∙◌}
-use Rattle.jsonb_raw.proofs.PairStepLemmas.{cursor_next, cursor_meets, cursor_misses, cursor_ends, cursor_error}
+use Rattle.jsonb_raw.proofs.Lemmas.{arith, refl, sym, ◌∙◌, cursor_next, cursor_meets, cursor_misses, cursor_ends, cursor_error}
 use Rattle.jsonb_raw.proofs.functions.path.exists.KeyCursor.has.Goals as goal
 
 pub returns-in_err-key-clause-has : goal.returns-in_err-key-clause-has
@@ -22,11 +21,7 @@ returns-in-Greater-clause-has c = λ form ks h.
     (sym c.bytes_cmp.ensures ∙ c.in-Greater.is)
 
 pub loop-entry-preserved : goal.loop-entry-preserved
-loop-entry-preserved c = record {
-  ahead = refl;
-  passed = sym c.bytes_cmp.ensures ∙ c.in-Less.is;
-  cursor = λ form ks h. grind (arith, cursor_next);
-}
+loop-entry-preserved c = record { ahead = refl; passed = sym c.bytes_cmp.ensures ∙ c.in-Less.is; cursor = λ form ks h. grind (arith, cursor_next) }
 
 pub returns-clause-has : goal.returns-clause-has
 returns-clause-has c = λ form ks h.

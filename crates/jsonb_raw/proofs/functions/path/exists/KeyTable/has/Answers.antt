@@ -1,5 +1,4 @@
-use Rattle.jsonb_raw.proofs.Common.{refl, sym, ◌∙◌}
-use Rattle.jsonb_raw.proofs.PairStepLemmas.{cursor_next, cursor_meets, cursor_misses, cursor_ends, cursor_error}
+use Rattle.jsonb_raw.proofs.Lemmas.{refl, sym, ◌∙◌, cursor_next, cursor_meets, cursor_misses, cursor_ends, cursor_error}
 use Rattle.jsonb_raw.proofs.functions.path.exists.KeyTable.has.Goals as goal
 
 pub returns-in_err-next-clause-has : goal.returns-in_err-next-clause-has

@@ -1,4 +1,4 @@
-use Rattle.jsonb_raw.proofs.Common.{◌≡◌, ℕ, List, Form, entries_bound, IsTableOf, IsPassed}
+use Rattle.jsonb_raw.proofs.Lemmas.{◌≡◌, ℕ, List, Form, entries_bound, IsTableOf, IsPassed}
 use Rattle.jsonb_raw.proofs.functions.path.exists.KeyTable.has.Given as goal
 
 -- the cursor precedes what is looked at next, and the keys it has passed are below the name

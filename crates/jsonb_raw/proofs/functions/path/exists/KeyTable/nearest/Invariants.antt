@@ -1,4 +1,4 @@
-use Rattle.jsonb_raw.proofs.Common.{◌≤◌, ◌-◌, ℕ, List, Form, IsTableOf, IsCursorOf, IsPassed}
+use Rattle.jsonb_raw.proofs.Lemmas.{◌≤◌, ◌-◌, ℕ, List, Form, IsTableOf, IsCursorOf, IsPassed}
 use Rattle.jsonb_raw.proofs.functions.path.exists.KeyTable.nearest.Given as goal
 
 -- the place that is taken is below the name

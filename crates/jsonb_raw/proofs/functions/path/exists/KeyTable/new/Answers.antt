@@ -1,4 +1,4 @@
-use Rattle.jsonb_raw.proofs.Common.{refl, All-replicate, IsCursorOf}
+use Rattle.jsonb_raw.proofs.Lemmas.{refl, All-replicate, IsCursorOf}
 use Rattle.jsonb_raw.proofs.functions.path.exists.KeyTable.new.Goals as goal
 
 pub returns : goal.returns

@@ -1,4 +1,4 @@
-use Rattle.jsonb_raw.proofs.Common.{◌≡◌, sym, ap, ◌∙◌, rules, MatchResult-weaker, null, number_reader, kind_number, value_tree, value_parts, the_lemmas, null_content}
+use Rattle.jsonb_raw.proofs.Lemmas.{◌≡◌, sym, ap, ◌∙◌, rules, MatchResult-weaker, null, number_reader, kind_number, value_tree, value_parts, the_lemmas, null_content}
 use Rattle.jsonb_doc.specs.declared.value.Value.{Null}
 use Rattle.jsonb_raw.proofs.functions.path.leaves.ValueLeafOutput.push_leaf.Goals as goal
 

@@ -1,5 +1,4 @@
-use Rattle.jsonb_raw.proofs.Common.{◌≡◌, false, sym, ◌∙◌, true≢false, list_any, is_one_of, names_of, false_from_ne_true, arith}
-use Rattle.jsonb_raw.proofs.NameBlockLemmas.{SomeTexts-first, SomeTexts-none, names_have, placed_one, none_of_none, one_string}
+use Rattle.jsonb_raw.proofs.Lemmas.{◌≡◌, false, sym, ◌∙◌, true≢false, list_any, is_one_of, names_of, false_from_ne_true, arith, SomeTexts-first, SomeTexts-none, names_have, placed_one, none_of_none, one_string}
 use Rattle.jsonb_raw.proofs.functions.path.name_block.NameBlock.any_among.Goals as goal
 
 pub returns-in_err-text-clause-has : goal.returns-in_err-text-clause-has

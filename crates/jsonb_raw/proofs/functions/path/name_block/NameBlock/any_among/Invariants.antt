@@ -1,5 +1,4 @@
-use Rattle.jsonb_raw.proofs.Common.{◌≡◌, ℕ, List, list_any, Form, entries_bound, HasTextsLeft, is_one_of, names_of}
-use Rattle.jsonb_raw.proofs.NameBlockLemmas.{SomeTexts}
+use Rattle.jsonb_raw.proofs.Lemmas.{◌≡◌, ℕ, List, list_any, Form, entries_bound, HasTextsLeft, is_one_of, names_of, SomeTexts}
 use Rattle.jsonb_raw.proofs.functions.path.name_block.NameBlock.any_among.Given as goal
 
 -- the strings that are left decide

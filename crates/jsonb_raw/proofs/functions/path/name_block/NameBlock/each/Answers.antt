@@ -1,5 +1,4 @@
-use Rattle.jsonb_raw.proofs.Common.{◌≤◌, arith, length, map, List, ℕ, ap, sym, ◌∙◌, Bor, decided_by}
-use Rattle.jsonb_raw.proofs.NameBlockLemmas.{name_decides, name_leaves, next_taken, none_taken}
+use Rattle.jsonb_raw.proofs.Lemmas.{◌≤◌, arith, length, map, List, ℕ, ap, sym, ◌∙◌, Bor, decided_by, name_decides, name_leaves, next_taken, none_taken}
 use Rattle.jsonb_raw.proofs.functions.path.name_block.NameBlock.each.Goals as goal
 
 pub returns-in_err-has-clause-has : goal.returns-in_err-has-clause-has

@@ -1,4 +1,4 @@
-use Rattle.jsonb_raw.proofs.Common.{◌≡◌, ℕ, List, map, take, drop, Bor, Form, names_of, decided_by, HasTextsLeft, AreSeen}
+use Rattle.jsonb_raw.proofs.Lemmas.{◌≡◌, ℕ, List, map, take, drop, Bor, Form, names_of, decided_by, HasTextsLeft, AreSeen}
 use Rattle.jsonb_raw.proofs.functions.path.name_block.NameBlock.each.Given as goal
 
 -- the names that are left decide

@@ -1,5 +1,4 @@
-use Rattle.jsonb_raw.proofs.Common.{◌≡◌, ℕ, List, map, take, drop, Bor, names_of}
-use Rattle.jsonb_raw.proofs.NameBlockLemmas.{names_have}
+use Rattle.jsonb_raw.proofs.Lemmas.{◌≡◌, ℕ, List, map, take, drop, Bor, names_of, names_have}
 use Rattle.jsonb_raw.proofs.functions.path.name_block.NameBlock.has.Given as goal
 
 -- the names that are left decide

@@ -1,4 +1,4 @@
-use Rattle.jsonb_raw.proofs.Common.{ℕ, List, map, take, Bor, IsPlaced}
+use Rattle.jsonb_raw.proofs.Lemmas.{ℕ, List, map, take, Bor, IsPlaced}
 use Rattle.std.proofs.Common.{All}
 use Rattle.jsonb_raw.proofs.functions.path.name_block.NameTable.of.Given as goal
 

@@ -1,4 +1,4 @@
-use Rattle.jsonb_raw.proofs.Common.{◌≡◌, ℕ, List, Option, None, true, refl, Bor, IfSome, All-replicate, is_one_of}
+use Rattle.jsonb_raw.proofs.Lemmas.{◌≡◌, ℕ, List, Option, None, true, refl, Bor, IfSome, All-replicate, is_one_of}
 use Rattle.jsonb_raw.proofs.functions.path.name_block.SeenTexts.new.Goals as goal
 
 pub returns : goal.returns

@@ -1,12 +1,8 @@
-use Rattle.jsonb_raw.proofs.Common.{◌≡◌, ℕ, List, Option, Some, true, ◌∙◌, Bor, IfSome, length-set, All-set, is_one_of, bytes_eq-same, refl}
-use Rattle.jsonb_raw.proofs.NameBlockLemmas.{SomeTexts-first, later_is_one}
+use Rattle.jsonb_raw.proofs.Lemmas.{◌≡◌, ℕ, List, Option, Some, true, ◌∙◌, Bor, IfSome, length-set, All-set, is_one_of, bytes_eq-same, refl, SomeTexts-first, later_is_one}
 use Rattle.jsonb_raw.proofs.functions.path.name_block.SeenTexts.of.Goals as goal
 
 pub loop-text-init : goal.loop-text-init
-loop-text-init c = record {
-  seen = λ form ss h. c.new-seen.ensures ss;
-  left = λ form ss h. record { strings = ss; left = h; fact = λ name one. one };
-}
+loop-text-init c = record { seen = λ form ss h. c.new-seen.ensures ss; left = λ form ss h. record { strings = ss; left = h; fact = λ name one. one } }
 
 pub returns-in_err-text-clause-seen : goal.returns-in_err-text-clause-seen
 returns-in_err-text-clause-seen c = λ form ss h.

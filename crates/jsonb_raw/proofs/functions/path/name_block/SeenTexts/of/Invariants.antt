@@ -1,5 +1,4 @@
-use Rattle.jsonb_raw.proofs.Common.{◌≡◌, true, ℕ, List, Form, entries_bound, HasTextsLeft, is_one_of, AreSeen}
-use Rattle.jsonb_raw.proofs.NameBlockLemmas.{SomeTexts}
+use Rattle.jsonb_raw.proofs.Lemmas.{◌≡◌, true, ℕ, List, Form, entries_bound, HasTextsLeft, is_one_of, AreSeen, SomeTexts}
 use Rattle.jsonb_raw.proofs.functions.path.name_block.SeenTexts.of.Given as goal
 
 -- what was seen, and what is left, is among the strings
