@@ -1,8 +1,6 @@
 -- Types of entries and of headers, and what tests of them state about their numbers.
-use Rattle.jsonb_doc.proofs.Common.{◌≡◌, ◌≢◌, ℕ, ◌<◌, ◌≤◌, Bool, true, false, Option, refl, sym, ◌∙◌, ap, ap₂, arith, nat_eq, ◌==◌, not, MatchOption, unwrap_or, nat_tests, tag_of, kind_number, header_number, EntryKind, Unknown, HeaderKind, the_type}
-use Rattle.jsonb_doc.specs.declared.layout.HeaderKind.TheVariants.{Array}
+use Rattle.jsonb_doc.proofs.Common.{◌≡◌, ◌≢◌, ℕ, ◌<◌, ◌≤◌, Bool, true, false, Option, refl, sym, ◌∙◌, ap, ap₂, arith, nat_eq, ◌==◌, not, MatchOption, unwrap_or, nat_tests, tag_of, kind_number, EntryKind, Unknown, the_type}
 use Rattle.jsonb_doc.specs.contracts.layout.EntryKindPartialEq.TheImpl.{eq-value as kind_equal}
-use Rattle.jsonb_doc.specs.contracts.layout.HeaderKindPartialEq.TheImpl.{eq-value as header_equal}
 
 pub kind_known : (kind : EntryKind) → kind_number kind < 8
 kind_known kind = grind arith
@@ -40,7 +38,3 @@ pub equal_kind : (r : Bool) (a b : EntryKind) → r ≡ not (kind_equal.it a b) 
 equal_kind r a b is fails = same_kind _ a b refl (turned r (kind_equal.it a b) is ∙ ap not fails)
 
 -- ---- headers
-
--- a header is an array's if its number is
-pub array_told : (kind : HeaderKind) → header_equal.it kind Array ≡ (header_number kind == 4)
-array_told kind = grind arith

@@ -1,7 +1,6 @@
 -- The iterator over pairs and its first item.
 use Rattle.jsonb_doc.proofs.Common.{◌≡◌, ◌≢◌, ℕ, ◌<◌, List, [], ◌∷◌, ◌++◌, length, Option, Some, ap, arith, IsUtf8, Tree, object, Pairs, no_pairs, pair, keys, values, pairs_in, NumberReader, Form, number_reader, Decodes, AreValues, AreKeys, key_words, key_bytes, BeginWith, HasFirstEntry, IsContent, HasPairsLeft, HasKeysLeft, HasElementsLeft, HasAllValues, SameOption, KeyIter, ValueIter, PairIter, StandBefore, IsCut, Holds, HasPairParts, ObjectParts, Object}
-use Rattle.jsonb_doc.proofs.KeysRead.{begin_key}
-use Rattle.jsonb_doc.proofs.LengthsLemmas.{HoldKeys-before}
+use Rattle.jsonb_doc.proofs.Entries.{begin_key, HoldKeys-before}
 use Rattle.jsonb_doc.proofs.Containers.{entries_of, HoldsPairs-keys, Decodes-object, Holds-pairs}
 
 -- the iterators of a tree's pairs, of its keys and of its values

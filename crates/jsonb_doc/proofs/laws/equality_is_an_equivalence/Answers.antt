@@ -1,4 +1,4 @@
-use Rattle.jsonb_doc.proofs.Common.{◌∙◌, is_equal_equiv}
+use Rattle.jsonb_doc.proofs.Lemmas.{◌∙◌, is_equal_equiv}
 use Rattle.jsonb_doc.proofs.laws.equality_is_an_equivalence.Goals as goal
 
 pub returns : goal.returns

@@ -1,5 +1,4 @@
-use Rattle.jsonb_doc.proofs.Common.{arith, common_steps}
-use Rattle.jsonb_doc.proofs.LengthsLemmas.{told_lengths, lengths_added}
+use Rattle.jsonb_doc.proofs.Lemmas.{arith, common_steps, told_lengths, lengths_added}
 use Rattle.jsonb_doc.proofs.lengths.sum_lengths.Goals as goal
 
 pub returns-clause-contents : goal.returns-clause-contents

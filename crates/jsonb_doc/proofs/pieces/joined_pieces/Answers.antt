@@ -1,5 +1,4 @@
-use Rattle.jsonb_doc.proofs.Common.{rules, ◌≡◌, ◌<◌, ◌++◌, ◌∷◌, ℕ, List, length, arith, sym, ap, ◌∙◌, append_assoc, All, All-append, all_heads, stacked, joined, earlier}
-use Rattle.jsonb_doc.proofs.PieceLemmas.{stack_starts, stack_steps, earlier_below, within_popped}
+use Rattle.jsonb_doc.proofs.Lemmas.{rules, ◌≡◌, ◌<◌, ◌++◌, ◌∷◌, ℕ, List, length, arith, sym, ap, ◌∙◌, append_assoc, All, All-append, all_heads, stacked, joined, earlier, stack_starts, stack_steps, earlier_below, within_popped}
 use Rattle.jsonb_doc.proofs.pieces.joined_pieces.Goals as goal
 
 pub loop-index-init : goal.loop-index-init

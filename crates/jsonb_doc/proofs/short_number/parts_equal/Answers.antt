@@ -1,5 +1,4 @@
-use Rattle.jsonb_doc.proofs.Common.{rules}
-use Rattle.jsonb_doc.proofs.EqualValues.{short_tied}
+use Rattle.jsonb_doc.proofs.Lemmas.{rules, short_tied}
 use Rattle.jsonb_doc.proofs.short_number.parts_equal.Goals as goal
 
 pub returns : goal.returns

@@ -1,5 +1,4 @@
-use Rattle.jsonb_doc.proofs.Common.{◌≡◌, min, length, arith, common_steps}
-use Rattle.jsonb_doc.proofs.CursorLemmas.{all_held, contents_there, both_hold}
+use Rattle.jsonb_doc.proofs.Lemmas.{◌≡◌, min, length, arith, common_steps, all_held, contents_there, both_hold}
 use Rattle.jsonb_doc.proofs.cursor.Entries.split.Goals as goal
 
 pub returns-then-count-len-clause-split : goal.returns-then-count-len-clause-split

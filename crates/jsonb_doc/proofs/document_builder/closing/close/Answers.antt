@@ -1,6 +1,4 @@
-use Rattle.jsonb_doc.proofs.Common.{arith, rules, ◌≡◌, ◌∙◌, sym, true, is_none}
-use Rattle.jsonb_doc.proofs.EventLemmas.{is_none_from}
-use Rattle.jsonb_doc.proofs.ClosingLemmas.{array_closed, object_closed, array_fails, object_fails}
+use Rattle.jsonb_doc.proofs.Lemmas.{arith, rules, ◌≡◌, ◌∙◌, sym, true, is_none, is_none_from, array_closed, object_closed, array_fails, object_fails}
 use Rattle.jsonb_doc.proofs.document_builder.closing.close.Goals as goal
 
 pub returns-in_err-close_array-in-Array : goal.returns-in_err-close_array-in-Array

@@ -1,6 +1,4 @@
-use Rattle.jsonb_doc.proofs.Common.{rules}
-use Rattle.jsonb_doc.proofs.CollectingLemmas.{pushed_ends, end_due}
-use Rattle.jsonb_doc.proofs.EventLemmas.{err_is}
+use Rattle.jsonb_doc.proofs.Lemmas.{rules, pushed_ends, end_due, err_is}
 use Rattle.jsonb_doc.proofs.event_list.collecting.finish_members.Goals as goal
 
 pub returns-in_err-push_members : goal.returns-in_err-push_members

@@ -1,5 +1,4 @@
-use Rattle.jsonb_doc.proofs.Common.{rules}
-use Rattle.jsonb_doc.proofs.CollectingLemmas.{can_split, no_some}
+use Rattle.jsonb_doc.proofs.Lemmas.{rules, can_split, no_some}
 use Rattle.jsonb_doc.proofs.event_list.collecting.split_text.Goals as goal
 
 pub returns-in-None : goal.returns-in-None

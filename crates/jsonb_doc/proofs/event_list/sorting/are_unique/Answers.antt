@@ -1,5 +1,4 @@
-use Rattle.jsonb_doc.proofs.Common.{rules, arith, common_steps}
-use Rattle.jsonb_doc.proofs.UniqueLemmas.{fewer_left, same_left, stays_left}
+use Rattle.jsonb_doc.proofs.Lemmas.{rules, arith, common_steps, fewer_left, same_left, stays_left}
 use Rattle.jsonb_doc.proofs.event_list.sorting.are_unique.Goals as goal
 
 pub returns-then-not-is_below_first : goal.returns-then-not-is_below_first

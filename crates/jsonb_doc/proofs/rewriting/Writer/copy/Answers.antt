@@ -1,5 +1,5 @@
-use Rattle.jsonb_doc.proofs.Common.{rules, ◌∙◌}
-use Rattle.jsonb_doc.proofs.WriterLemmas.{room_there, filled, room_moved}
+use Rattle.jsonb_doc.proofs.Lemmas.{rules, ◌∙◌, room_there, room_moved}
+use Rattle.jsonb_doc.proofs.WriterLemmas.{filled}
 use Rattle.jsonb_doc.proofs.rewriting.Writer.copy.Goals as goal
 
 pub returns-clause-copied : goal.returns-clause-copied

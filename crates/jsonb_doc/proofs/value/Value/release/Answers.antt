@@ -1,5 +1,4 @@
-use Rattle.jsonb_doc.proofs.Common.{rules}
-use Rattle.jsonb_doc.proofs.PartLemmas.{less_still}
+use Rattle.jsonb_doc.proofs.Lemmas.{rules, less_still}
 use Rattle.jsonb_doc.proofs.value.Value.release.Goals as goal
 
 pub loop-remaining-smaller : goal.loop-remaining-smaller

@@ -1,5 +1,4 @@
-use Rattle.jsonb_doc.proofs.Common.{◌≡◌, List, sym, ap, subst, ◌∙◌, arith, reverse, nil_from_length, tree_seen, filled_tree, with_part, Open}
-use Rattle.jsonb_doc.proofs.CopiedValues.{tree_within, tree_within-with}
+use Rattle.jsonb_doc.proofs.Lemmas.{◌≡◌, List, sym, ap, subst, ◌∙◌, arith, reverse, nil_from_length, tree_seen, filled_tree, with_part, Open, tree_within, tree_within-with}
 use Rattle.jsonb_doc.proofs.value.copy.copy.Goals as goal
 
 pub returns-in-None : goal.returns-in-None

@@ -1,5 +1,4 @@
-use Rattle.jsonb_doc.proofs.Common.{◌++◌, sym, ap, ◌∙◌, [], iter_rest, array, object, trees_of, pairs_of, trees_seen, members_seen, part_tree, insert_pairs}
-use Rattle.jsonb_doc.proofs.CopiedValues.{copied_in_order, copies_same}
+use Rattle.jsonb_doc.proofs.Lemmas.{◌++◌, sym, ap, ◌∙◌, [], iter_rest, array, object, trees_of, pairs_of, trees_seen, members_seen, part_tree, insert_pairs, copied_in_order, copies_same}
 use Rattle.jsonb_doc.proofs.value.copy.filled_from.Goals as goal
 
 pub returns-in_ok-with_capacity-in-Array-clause-copies : goal.returns-in_ok-with_capacity-in-Array-clause-copies

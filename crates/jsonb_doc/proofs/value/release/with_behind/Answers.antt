@@ -1,5 +1,4 @@
-use Rattle.jsonb_doc.proofs.Common.{rules, parts}
-use Rattle.jsonb_doc.proofs.PartLemmas.{fewer_parts, fewer_exchanged}
+use Rattle.jsonb_doc.proofs.Lemmas.{rules, parts, fewer_parts, fewer_exchanged}
 use Rattle.jsonb_doc.proofs.value.release.with_behind.Goals as goal
 
 pub returns-in-None : goal.returns-in-None

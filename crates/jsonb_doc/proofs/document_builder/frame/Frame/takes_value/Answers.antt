@@ -1,5 +1,4 @@
-use Rattle.jsonb_doc.proofs.Common.{rules}
-use Rattle.jsonb_doc.proofs.EventLemmas.{is_none_from, root_takes, array_takes, object_takes}
+use Rattle.jsonb_doc.proofs.Lemmas.{rules, is_none_from, root_takes, array_takes, object_takes}
 use Rattle.jsonb_doc.proofs.document_builder.frame.Frame.takes_value.Goals as goal
 
 pub returns-in-Root : goal.returns-in-Root

@@ -1,6 +1,4 @@
-use Rattle.jsonb_doc.proofs.Common.{rules, ◌++◌, ◌∷◌, [], ◌∙◌, List, ap, refl, sym, length, arith, None, append-nil, Run, Nested, Member, Frame}
-use Rattle.jsonb_doc.proofs.CollectingLemmas.{waits_takes, around_more}
-use Rattle.jsonb_doc.proofs.OneRun.{opens_refused}
+use Rattle.jsonb_doc.proofs.Lemmas.{rules, ◌++◌, ◌∷◌, [], ◌∙◌, List, ap, refl, sym, length, arith, None, append-nil, Run, Nested, Member, Frame, waits_takes, around_more, opens_refused}
 use Rattle.jsonb_doc.proofs.event_list.collecting.Collector.begin.Goals as goal
 
 pub returns-in_default : goal.returns-in_default

@@ -1,5 +1,29 @@
--- Integers at and near a number.
-use Rattle.jsonb_doc.proofs.Common.{◌≡◌, ◌≢◌, ℕ, zero, suc, ◌+◌, ◌-◌, ◌*◌, ◌/◌, ◌%◌, ◌^◌, ◌<◌, ◌≤◌, ℤ, pos, ◌*ℤ◌, int_lt, inl, inr, ap, ◌∙◌, arith, Option, FitsSigned, MatchOption, div-add-mod', mul-pos, neg_ℤ, unsigned_abs, w64, mul-mod_left, add-mul-div_right, div-eq_of_lt, eq_of_mul-eq-mul_right, pow-le-pow_right, mod_below, cases_lt, nat_tests, with_sign, nearest}
+-- Numbers: exact order by one scaling and by signs, and the integers at and near a number.
+use Rattle.jsonb_doc.proofs.Common.{◌≡◌, ℕ, suc, ◌-◌, ◌*◌, ◌^◌, ◌<◌, ◌≤◌, true, false, ℤ, pos, ◌*ℤ◌, sym, ap, ◌∙◌, arith, nat_cmp, int_cmp, Less, Greater, mul_assoc, int_lt, zero, mul_comm, pow-suc, mul-le-mul_left, one-le-pow, ordering_reverse, pow-add, ltb-true, nat_cmp_total, nat_cmp_scaled, nat_cmp-lt, ◌≢◌, ◌+◌, ◌/◌, ◌%◌, inl, inr, Option, FitsSigned, MatchOption, div-add-mod', mul-pos, neg_ℤ, unsigned_abs, w64, mul-mod_left, add-mul-div_right, div-eq_of_lt, eq_of_mul-eq-mul_right, pow-le-pow_right, mod_below, cases_lt, nat_tests, with_sign, nearest}
+use Rattle.jsonb_doc.proofs.Basics.{scaled_pos}
+
+pub power_step : (b k : ℕ) → 0 < k → b * 10 * 10 ^ (k - 1) ≡ b * 10 ^ k
+power_step b zero h = absurd (omega arith)
+power_step b (suc k) h = grind (arith, mul_assoc, mul_comm, pow-suc)
+
+-- a number of 128 bits is below one whose tenfold passes them
+pub below_scaled : (a b k : ℕ) → 0 < k → a < 2 ^ 128 → 2 ^ 128 ≤ b * 10 → Less ≡ nat_cmp a (b * 10 ^ k)
+below_scaled a b k h ha hb =
+    sym (nat_cmp-lt a (b * 10 ^ k) (omega (arith, power_step b k h, mul-le-mul_left (b * 10) (one-le-pow (k - 1) 10 (omega arith)))))
+
+pub scaled_once : (a b s t : ℕ) → t ≤ s → nat_cmp a (b * 10 ^ (s - t)) ≡ nat_cmp (a * 10 ^ t) (b * 10 ^ s)
+scaled_once a b s t h =
+    sym (nat_cmp_scaled (10 ^ t) a (b * 10 ^ (s - t)) (one-le-pow t 10 (omega arith)))
+    ∙ ap (nat_cmp (a * 10 ^ t)) (mul_assoc b (10 ^ (s - t)) (10 ^ t) ∙ ap (λ x. b * x) (sym (pow-add 10 (s - t) t) ∙ ap (λ x. 10 ^ x) (omega arith)))
+
+pub scaled_back : (a b s t : ℕ) → s ≤ t → ordering_reverse (nat_cmp b (a * 10 ^ (t - s))) ≡ nat_cmp (a * 10 ^ t) (b * 10 ^ s)
+scaled_back a b s t h = ap ordering_reverse (scaled_once b a t s h) ∙ sym (nat_cmp_total.antisymm (a * 10 ^ t) (b * 10 ^ s))
+
+pub negative_below : (x y : ℤ) (s t : ℕ) → int_lt x (pos 0) ≡ true → int_lt y (pos 0) ≡ false → Less ≡ int_cmp (x *ℤ pos (10 ^ t)) (y *ℤ pos (10 ^ s))
+negative_below x y s t h e = grind (arith, ltb-true, scaled_pos)
+
+pub negative_above : (x y : ℤ) (s t : ℕ) → int_lt x (pos 0) ≡ false → int_lt y (pos 0) ≡ true → Greater ≡ int_cmp (x *ℤ pos (10 ^ t)) (y *ℤ pos (10 ^ s))
+negative_above x y s t h e = grind (arith, scaled_pos, ltb-true)
 
 pub remainder_left : (n p q : ℕ) → n % p ≢ 0 → n ≡ q * p → ⊥
 remainder_left n p q some e = some (ap (λ x. x % p) e ∙ mul-mod_left q p)
