@@ -1,9 +1,9 @@
 -- What an array's builder holds with one more element; in a loop that pushes, what is held, followed by what is left, is the whole.
-use Rattle.jsonb_doc.proofs.Common.{◌≡◌, ℕ, ◌<◌, ◌^◌, List, [], ◌∷◌, ◌++◌, length, arith, append_assoc, append-nil, length-append, Tree, array, trees_of, NumberReader, Form, number_reader, IsContent, AreEntries, entry_word, header, array_header, Decodes, HasShortElements, content_size, IsTooLarge, StandsFor, EntryParts, item_content, entry_of, FitsItem, Parts, entry_count, HoldsElements, IsTooLargeElement, Item, Bool, inl, inr, subst, ◌∙◌, Result, Ok, Err, cond, filter, MatchResult, ⊤, keys_of, nat_list_cmp_total, IsBelowFirst, AreKeys, IsOutOfMemory, IsOutOfMemoryOrTooLarge, no_parts, Error, HoldsFront}
+use Rattle.jsonb_doc.proofs.Common.{◌≡◌, ℕ, ◌<◌, ◌^◌, List, [], ◌∷◌, ◌++◌, length, arith, append_assoc, append-nil, Tree, array, trees_of, NumberReader, Form, number_reader, IsContent, AreEntries, entry_word, header, array_header, Decodes, HasShortElements, content_size, IsTooLarge, StandsFor, EntryParts, item_content, entry_of, FitsItem, Parts, entry_count, HoldsElements, Item, Bool, inl, inr, subst, ◌∙◌, Result, Ok, Err, cond, filter, MatchResult, ⊤, keys_of, nat_list_cmp_total, IsBelowFirst, AreKeys, IsOutOfMemory, IsOutOfMemoryOrTooLarge, no_parts, Error, HoldsFront}
 use Rattle.jsonb_doc.proofs.Entries.{kind_below}
 use Rattle.jsonb_doc.proofs.Containers.{length-words}
 use Rattle.jsonb_doc.proofs.TreeLists.{count-trees_of}
-use Rattle.jsonb_doc.proofs.ItemLemmas.{content_stands, long_content}
+use Rattle.jsonb_doc.proofs.ItemLemmas.{content_stands}
 use Rattle.jsonb_doc.proofs.LimitLemmas.{array_too_large-more}
 
 -- the builder's entries are as many as the trees that it holds
@@ -38,12 +38,6 @@ element_held form before after ts item t h e k f g = grind (arith, stored_held, 
 pub last_is_short : (form : Form) (ts : List Tree) (t : Tree) → HasShortElements form (trees_of (ts ++ t ∷ [])) → content_size form t < 2 ^ 28
 last_is_short form [] t h = h.0
 last_is_short form (u ∷ us) t h = last_is_short form us t h.2
-
--- if one more element exceeds the limits, an array with it does
-pub element_too_large : (form : Form) (parts : Parts) (ts : List Tree) (item : Item) (t : Tree) → HoldsElements form parts ts → StandsFor form item t
-    → IsTooLargeElement parts item
-    → IsTooLarge form (array (trees_of (ts ++ t ∷ [])))
-element_too_large form parts ts item t h e k = grind (arith, last_is_short, long_content, count-trees_of, length-append, held_count)
 
 -- the array of what is held
 pub array_built : (form : Form) (ts : List Tree) (parts : Parts) (bytes : List ℕ) → HoldsElements form parts ts → entry_count parts < 2 ^ 29

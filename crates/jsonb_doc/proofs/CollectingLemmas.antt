@@ -1,5 +1,5 @@
 -- Events that are collected: members of containers in runs, walks over runs, and what the collector holds after each event.
-use Rattle.jsonb_doc.proofs.Common.{◌≡◌, ℕ, ◌+◌, ◌<◌, ◌≤◌, List, [], ◌∷◌, ◌++◌, length, refl, ◌^◌, arith, slice_range, reverse, Result, MatchResult, keys_of, values_of, length-append, take-append-le, drop_at, between_is, between_to_end, Tree, array, object, Trees, no_trees, tree, Pairs, no_pairs, pair, elements, members, keys, Form, IsOutOfMemory, IsOutOfMemoryOrTooLarge, Error, OpenContainer, AreSortedKeys, Make, IsPart, AreElements, HoldParts, keys_first, Run, Part, Plain, Text, Nested, Member, Left, Outer, length-values_of, AllZip-long, suc, map, sym, ap, ◌∙◌, Bool, true, false, Some, None, Option, IsTrue, subst, slice_get, option_copied, is_some, unwrap_or, ◌-◌, IfErr, IsSome, IsUtf8, Ok, Err, OnOk, Bor, AllZip, IsSortedBy, IsStableBy, mid_of, IsCharBoundary, IsCharBoundary-from_take, true≢false, length-map, append-nil, take_at, trees_of, pairs_of, insert_pair, Level, State, root, array_of, object_of, takes_value, whole, has_lower_key, unique, as_pair, insert_all, appended, EndsAs, Ends, TakesTree, LeadsTo, IsMemberOf, HoldsFrame, HoldsState, WaitsFor, AreAround, Keeps, Pushes, IsDue, IsRepeated, IsPushRefused, HeaderKind, Frame, Collector, EventError, BeginWithText, common_steps}
+use Rattle.jsonb_doc.proofs.Common.{◌≡◌, ℕ, ◌+◌, ◌<◌, ◌≤◌, List, [], ◌∷◌, ◌++◌, length, refl, ◌^◌, arith, slice_range, reverse, Result, MatchResult, keys_of, values_of, length-append, take-append-le, drop_at, between_is, between_to_end, Tree, array, object, Trees, no_trees, tree, Pairs, no_pairs, pair, elements, members, keys, Form, IsOutOfMemory, IsOutOfMemoryOrTooLarge, Error, OpenContainer, AreSortedKeys, Make, IsPart, AreElements, HoldParts, keys_first, Run, Part, Plain, Text, Nested, Member, Left, Outer, length-values_of, AllZip-long, suc, map, sym, ap, ◌∙◌, Bool, true, false, Some, None, Option, IsTrue, subst, slice_get, option_copied, is_some, unwrap_or, ◌-◌, IfErr, IsSome, Ok, Err, OnOk, Bor, AllZip, IsSortedBy, IsStableBy, mid_of, true≢false, length-map, append-nil, take_at, trees_of, pairs_of, insert_pair, Level, State, root, array_of, object_of, takes_value, whole, has_lower_key, unique, as_pair, insert_all, appended, EndsAs, Ends, TakesTree, LeadsTo, IsMemberOf, HoldsFrame, HoldsState, WaitsFor, AreAround, Keeps, IsDue, IsRepeated, IsPushRefused, HeaderKind, Frame, Collector, EventError, common_steps}
 use Rattle.jsonb_doc.specs.Private.EventParts.{AreMembers, member_keys}
 use Rattle.jsonb_doc.specs.declared.layout.HeaderKind.TheVariants.{Object, Array, Scalar}
 use Rattle.jsonb_doc.proofs.Weights.{weight_of, weight-pos, weight_of_all, inner_weighs, falls_inward, falls_outward}
@@ -291,11 +291,6 @@ sorted_pushed (Err e) keep_last ms ns old new pushed all errors sorted stable le
     due_along keep_last (λ last. (last ≡ false) × (length (unique ns) < length ns)) (λ last. IsRepeated last ms) e
     (λ last fewer. (fewer.0, omega (arith, fewer.1, same, len, length-map (unique ns) as_pair))) (λ repeated. absurd (true≢false repeated.0)) errors
 
-pub pushed_ends : (keep_last : Bool) (ds new : List Member) (f : Frame) (ms : List Member) (level : Level) (run : Run) → option_copied f.key ≡ None
-    → HoldsFrame ds f ms level → Pushes keep_last f.kind ds new ms → run.kind ≡ f.kind → run.first ≡ length ds → run.end ≡ length new
-    → Ends keep_last ds new level run
-pushed_ends keep_last ds new f ms level run h e k g i q = grind (arith, array_ends, object_ends)
-
 pub innermost_is : (items before ms : List Member) (a k : ℕ) → items ≡ before ++ ms → a ≡ length before → k ≡ length items - a → ms ≡ mid_of a k items
 innermost_is items before ms a k joined start len = grind (arith, common_steps, drop_at, Member, length-append, append-nil, take_at)
 
@@ -308,11 +303,6 @@ pub ends_around : (keep_last : Bool) (ds : List Member) (f : Frame) (ms before :
 ends_around keep_last ds f ms before level t ls h e k = grind arith
 
 -- ---- events that may not come next
-
--- a container does not end after a key
-pub named_stays : (keep_last : Bool) (ds : List Member) (f : Frame) (ms : List Member) (level : Level) (t : Tree) → HoldsFrame ds f ms level
-    → is_some f.key ≡ true → EndsAs keep_last level t → ⊥
-named_stays keep_last ds f ms level t h e k = grind arith
 
 -- a container with such members may not end
 pub refused_stays : (keep_last : Bool) (ds : List Member) (f : Frame) (ms : List Member) (level : Level) (t : Tree) → HoldsFrame ds f ms level
@@ -368,7 +358,3 @@ outer_due keep_last Q ds kind before t l ls e h k = grind (arith, due_anyway, ou
 
 pub no_some : {A : Type 0} (o : Option A) → o ≡ None → IsSome o → ⊥
 no_some o h e = grind arith
-
--- bytes that begin with a string can be split after it
-pub can_split : (bytes : List ℕ) (len : ℕ) (s rest : List ℕ) → IsUtf8 bytes → BeginWithText len bytes s rest → IsCharBoundary bytes len
-can_split bytes len s rest h e = grind (arith, take_at, length-append, IsCharBoundary-from_take)

@@ -146,7 +146,7 @@ abbrev pub Follow : Option (List ℕ) → List (List ℕ) → Type 0
 Follow None ks = ⊤
 Follow (Some key) ks = IsBelowFirst key ks
 
-Follow-from : (last : Option (List ℕ)) (key : List ℕ) (ks : List (List ℕ)) → IsAbove last key → Follow last (key ∷ ks)
+pub Follow-from : (last : Option (List ℕ)) (key : List ℕ) (ks : List (List ℕ)) → IsAbove last key → Follow last (key ∷ ks)
 Follow-from last key ks h = grind arith
 
 -- the words and the bytes begin with those of some keys after this one, and the rest follows them
@@ -215,12 +215,6 @@ told_lengths [] words contents rest k count h = grind arith
 told_lengths (part ∷ parts) words contents rest zero count e = grind (arith, BeginWith-long)
 told_lengths (part ∷ parts) words contents rest (suc k) count e =
     grind (arith, common_steps, told_lengths parts e.other_words e.other_contents rest k, told_length, sum_by-cons, length-append)
-
--- the lengths of all words are added up
-pub lengths_added : (len : ℕ) (chunks left : List (List ℕ)) (words contents rest : List ℕ) → left ≡ [] → len + sum (map told left) ≡ sum (map told chunks)
-    → chunks ≡ first_chunks 4 (length words / 4) words → length chunks ≡ length words / 4
-    → sum (map told (first_chunks 4 (length chunks) words)) + length rest ≡ length contents → len + length rest ≡ length contents
-lengths_added len chunks left words contents rest h e k f g = grind arith
 
 -- without words nothing precedes the rest
 pub nothing_before : (parts : List (List ℕ)) (words contents rest : List ℕ) → length words ≡ 0 → StandBefore parts words contents rest → contents ≡ rest

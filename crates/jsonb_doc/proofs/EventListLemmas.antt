@@ -371,13 +371,6 @@ pub one_run : (keep_last : Bool) (es : List TextEvent) (bytes : List ℕ) (s : S
 one_run keep_last [] bytes s rest left after other h g = sym h.1 ∙ g.1
 one_run keep_last (e ∷ es) bytes s rest left after other h g = grind (arith, one_run keep_last es h.1 h.2 rest left after other h.5, one_read, one_lead)
 
--- a value may not come next
-pub value_refused : (t : Tree) (level : Level) (around : List Level) (after : State) → takes_value level ≡ false → TakesTree t level around after → ⊥
-value_refused t level around after ne takes = let bad : true ≡ false = sym takes.0 ∙ ne in absurd (cc)
-
-pub opens_refused : (level : Level) (s after : State) → takes_value s.inner ≡ false → Opens level s after → ⊥
-opens_refused level s after ne takes = let bad : true ≡ false = sym takes.0 ∙ ne in absurd (cc)
-
 -- the events of a tree lead to it
 pub same_tree : (keep_last : Bool) (es : List TextEvent) (bytes rest : List ℕ) (s : State) (t u : Tree) → Happen keep_last es bytes no_events rest s
     → whole s.inner ≡ Some t → AreEventsOf keep_last es bytes u → t ≡ u
@@ -495,11 +488,6 @@ unfinished form keep_last es bytes mid s d h (inr (inl order)) = inr (inl (
       let bad : None ≡ Some t = sym order.1 ∙ ap (λ (x : State). whole x.inner) same ∙ run.3 in absurd (cc),
 ))
 unfinished form keep_last es bytes mid s d h (inr (inr twice)) = absurd (true≢false twice.1)
-
--- before the first event only an allocation fails
-pub unbegun : (form : Form) (keep_last : Bool) (es : List TextEvent) (bytes : List ℕ) (d : EventError) → IsDue true (λ _. ⊥) d
-    → FailsWith form keep_last es bytes d
-unbegun form keep_last es bytes d h = grind arith
 
 -- ---- errors of a document
 

@@ -1,6 +1,5 @@
 -- Numbers: exact order by one scaling and by signs, and the integers at and near a number.
-use Rattle.jsonb_doc.proofs.Common.{◌≡◌, ℕ, suc, ◌-◌, ◌*◌, ◌^◌, ◌<◌, ◌≤◌, true, false, ℤ, pos, ◌*ℤ◌, sym, ap, ◌∙◌, arith, nat_cmp, int_cmp, Less, Greater, mul_assoc, int_lt, zero, mul_comm, pow-suc, mul-le-mul_left, one-le-pow, ordering_reverse, pow-add, ltb-true, nat_cmp_total, nat_cmp_scaled, nat_cmp-lt, ◌≢◌, ◌+◌, ◌/◌, ◌%◌, inl, inr, Option, FitsSigned, MatchOption, div-add-mod', mul-pos, neg_ℤ, unsigned_abs, w64, mul-mod_left, add-mul-div_right, div-eq_of_lt, eq_of_mul-eq-mul_right, pow-le-pow_right, mod_below, cases_lt, nat_tests, with_sign, nearest}
-use Rattle.jsonb_doc.proofs.Basics.{scaled_pos}
+use Rattle.jsonb_doc.proofs.Common.{◌≡◌, ℕ, suc, ◌-◌, ◌*◌, ◌^◌, ◌<◌, ◌≤◌, ℤ, pos, ◌*ℤ◌, sym, ap, ◌∙◌, arith, nat_cmp, Less, mul_assoc, int_lt, zero, mul_comm, pow-suc, mul-le-mul_left, one-le-pow, pow-add, nat_cmp_scaled, nat_cmp-lt, ◌≢◌, ◌+◌, ◌/◌, ◌%◌, inl, inr, Option, FitsSigned, MatchOption, div-add-mod', mul-pos, neg_ℤ, unsigned_abs, w64, add-mul-div_right, div-eq_of_lt, eq_of_mul-eq-mul_right, pow-le-pow_right, mod_below, cases_lt, nat_tests, with_sign, nearest}
 
 pub power_step : (b k : ℕ) → 0 < k → b * 10 * 10 ^ (k - 1) ≡ b * 10 ^ k
 power_step b zero h = absurd (omega arith)
@@ -16,33 +15,18 @@ scaled_once a b s t h =
     sym (nat_cmp_scaled (10 ^ t) a (b * 10 ^ (s - t)) (one-le-pow t 10 (omega arith)))
     ∙ ap (nat_cmp (a * 10 ^ t)) (mul_assoc b (10 ^ (s - t)) (10 ^ t) ∙ ap (λ x. b * x) (sym (pow-add 10 (s - t) t) ∙ ap (λ x. 10 ^ x) (omega arith)))
 
-pub scaled_back : (a b s t : ℕ) → s ≤ t → ordering_reverse (nat_cmp b (a * 10 ^ (t - s))) ≡ nat_cmp (a * 10 ^ t) (b * 10 ^ s)
-scaled_back a b s t h = ap ordering_reverse (scaled_once b a t s h) ∙ sym (nat_cmp_total.antisymm (a * 10 ^ t) (b * 10 ^ s))
-
-pub negative_below : (x y : ℤ) (s t : ℕ) → int_lt x (pos 0) ≡ true → int_lt y (pos 0) ≡ false → Less ≡ int_cmp (x *ℤ pos (10 ^ t)) (y *ℤ pos (10 ^ s))
-negative_below x y s t h e = grind (arith, ltb-true, scaled_pos)
-
-pub negative_above : (x y : ℤ) (s t : ℕ) → int_lt x (pos 0) ≡ false → int_lt y (pos 0) ≡ true → Greater ≡ int_cmp (x *ℤ pos (10 ^ t)) (y *ℤ pos (10 ^ s))
-negative_above x y s t h e = grind (arith, scaled_pos, ltb-true)
-
-pub remainder_left : (n p q : ℕ) → n % p ≢ 0 → n ≡ q * p → ⊥
-remainder_left n p q some e = some (ap (λ x. x % p) e ∙ mul-mod_left q p)
-
 pub quotient_small : (n p q : ℕ) → n ≢ 0 → n < p → n ≡ q * p → ⊥
 quotient_small n p zero some small e = some (let z : 0 * p ≡ 0 = omega arith in e ∙ z)
 quotient_small n p (suc q) some small e = omega arith
 
 -- ---- rounding
 
-by_rest : (n p : ℕ) → 0 < p → nearest n p ≡ (2 * (n % p) + p) / (2 * p) + n / p
+pub by_rest : (n p : ℕ) → 0 < p → nearest n p ≡ (2 * (n % p) + p) / (2 * p) + n / p
 by_rest n p some =
     ap (λ x. x / (2 * p)) (omega (arith, div-add-mod' n p)) ∙ add-mul-div_right (2 * (n % p) + p) (n / p) (omega arith)
 
 pub rounded_up : (n p : ℕ) → 0 < p → p ≤ 2 * (n % p) → n / p + 1 ≡ nearest n p
 rounded_up n p some most = search (arith, mod_below n p some, by_rest n p some)
-
-pub rounded_down : (n p : ℕ) → 0 < p → 2 * (n % p) < p → n / p ≡ nearest n p
-rounded_down n p h e = grind (arith, div-eq_of_lt, by_rest)
 
 pub rounded_to_zero : (n p : ℕ) → 2 * n < p → 0 ≡ nearest n p
 rounded_to_zero n p h = grind (arith, div-eq_of_lt)

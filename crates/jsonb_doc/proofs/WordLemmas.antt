@@ -25,7 +25,7 @@ grown old a b one two e f = f ∙ ap (λ (l : List ℕ). l ++ b) e ∙ append_as
 pub grown_ok : {A E : Type 0} (r : Result A E) (old a b one two : List ℕ) → one ≡ old ++ a → OnOk r (two ≡ one ++ b) → OnOk r (two ≡ old ++ (a ++ b))
 grown_ok r old a b one two h e = grind (arith, grown)
 
-stays : (old a new : List ℕ) → new ≡ old ++ a → StaysInFront old new
+pub stays : (old a new : List ℕ) → new ≡ old ++ a → StaysInFront old new
 stays old a new e = grind (arith, common_steps)
 
 pub stays_err : {A E : Type 0} (r : Result A E) (old a one new : List ℕ) → one ≡ old ++ a → OnErr r (new ≡ one) → OnErr r (StaysInFront old new)
@@ -78,7 +78,7 @@ ends_are w n words bytes first last x y enough small front back e f = (
 -- ---- what they determine
 
 -- lists are equal if both their ends are
-ends_joined : (n : ℕ) (xs ys : List ℕ) → length xs ≡ length ys → length xs ≤ 2 * n → take n xs ≡ take n ys
+pub ends_joined : (n : ℕ) (xs ys : List ℕ) → length xs ≡ length ys → length xs ≤ 2 * n → take n xs ≡ take n ys
     → drop (length xs - n) xs ≡ drop (length ys - n) ys → xs ≡ ys
 ends_joined n xs ys same few front back =
     let k = length xs - n in
@@ -90,7 +90,7 @@ ends_joined n xs ys same few front back =
 abbrev pub pairs_equal : ℕ × ℕ → ℕ × ℕ → Bool
 pairs_equal a b = nat_eq a.0 b.0 && nat_eq a.1 b.1
 
-both : (a b : Bool) → true ≡ a && b → (a ≡ true) × (b ≡ true)
+pub both : (a b : Bool) → true ≡ a && b → (a ≡ true) × (b ≡ true)
 both a b h = grind arith
 
 module _ (w : Width) where
@@ -104,7 +104,7 @@ abbrev spelled : ℕ → List ℕ → ℕ
 spelled n [] = n
 spelled n (b ∷ bs) = spelled (n * 256 + b) bs
 
-word_spelled : (xs : List ℕ) → length xs ≡ 8 → from_be_bytes w64 xs ≡ spelled 0 xs
+pub word_spelled : (xs : List ℕ) → length xs ≡ 8 → from_be_bytes w64 xs ≡ spelled 0 xs
 word_spelled (a ∷ b ∷ c ∷ d ∷ e ∷ f ∷ g ∷ h ∷ []) long = omega arith
 word_spelled _ long = absurd (omega (arith, long))
 
@@ -115,7 +115,7 @@ below_spelled (suc n) a b (u ∷ us) [] p q small less = absurd (omega (arith, q
 below_spelled (suc n) a b (u ∷ us) (v ∷ vs) p q small less =
     below_spelled n (a * 256 + u) (b * 256 + v) us vs (omega (arith, p)) (omega (arith, q)) (λ k. small (suc k)) (omega (arith, small 0, less))
 
-order_spelled : (n a : ℕ) (us vs : List ℕ) → n ≤ length us → n ≤ length vs → AreSmall us → AreSmall vs → spelled a (take n us) ≢ spelled a (take n vs)
+pub order_spelled : (n a : ℕ) (us vs : List ℕ) → n ≤ length us → n ≤ length vs → AreSmall us → AreSmall vs → spelled a (take n us) ≢ spelled a (take n vs)
     → nat_cmp (spelled a (take n us)) (spelled a (take n vs)) ≡ slice_cmp nat_cmp us vs
 order_spelled zero a us vs p q small other_small apart = absurd (apart refl)
 order_spelled (suc n) a [] vs p q small other_small apart = absurd (omega (arith, p))

@@ -1,5 +1,5 @@
 -- Entries as they are stored: the first one, and the first `n` of them; containers that are being written: begun, gone on with, closed.
-use Rattle.jsonb_doc.proofs.Common.{◌≡◌, ◌≢◌, ℕ, zero, suc, min, ◌*◌, ◌-◌, List, [], ◌∷◌, ◌++◌, length, take, drop, Some, ap, ◌∙◌, arith, append_assoc, ◌≤◌, length-append, take_at, drop_at, take_all, drop_all, Tree, trees_of, NumberReader, Form, number_reader, AreEntries, BeginWith, entry_word, kind_number, Entries, StoredEntry, HoldTrees, TakesFirst, StandBefore, inl, ◌+◌, ◌^◌, ◌<◌, map, refl, sym, subst, replicate, values_of, length-take, take-append-drop, text, pairs_of, tree, no_trees, Decodes, IsContent, AreValues, AreKeys, header, key_words, key_bytes, container_entry, header_number, HeaderKind, OpenContainer, RunsHold, words_of_runs, contents_of_runs, Make, AreSortedKeys, IsOpen, Rooms, EndsWithin, length-values_of, length-keys_of, common_steps, append-nil}
+use Rattle.jsonb_doc.proofs.Common.{◌≡◌, ◌≢◌, ℕ, zero, suc, min, ◌*◌, ◌-◌, List, [], ◌∷◌, ◌++◌, length, take, drop, Some, ap, ◌∙◌, arith, append_assoc, ◌≤◌, length-append, take_at, drop_at, take_all, Tree, trees_of, NumberReader, Form, number_reader, AreEntries, BeginWith, entry_word, kind_number, Entries, StoredEntry, HoldTrees, TakesFirst, StandBefore, inl, ◌+◌, ◌^◌, ◌<◌, map, refl, sym, subst, replicate, values_of, length-take, take-append-drop, text, pairs_of, tree, no_trees, Decodes, IsContent, AreValues, AreKeys, header, key_words, key_bytes, container_entry, header_number, HeaderKind, OpenContainer, RunsHold, words_of_runs, contents_of_runs, Make, AreSortedKeys, IsOpen, length-values_of, length-keys_of, common_steps, append-nil}
 use Rattle.jsonb_doc.proofs.Entries.{BeginWith-unique, kind_below}
 use Rattle.jsonb_doc.proofs.Containers.{length-words}
 use Rattle.jsonb_doc.proofs.TreeLists.{count-trees_of, keys-pairs_of}
@@ -62,11 +62,6 @@ split_at number_at (suc n) (t ∷ ts) words contents e =
       parts = e.content ∷ s.parts;
       stand = grind arith;
     }
-
--- nothing comes after all entries
-pub all_held : (form : Form) (run none : Entries) (ts : List Tree) (n : ℕ) → HoldTrees form run ts → length ts ≤ n → none.words.now ≡ [] → none.contents.now ≡ []
-    → HoldTrees form run (take n ts) × HoldTrees form none (drop n ts)
-all_held form run none ts n h e k f = grind (arith, take_all, drop_all)
 
 module _ (form : Form) (run : Entries) (ts : List Tree) (n m : ℕ) (h : HoldTrees form run ts) (few : m ≡ min n (length ts)) where
   cut : SplitAt (number_reader form) n ts run.words.now run.contents.now
@@ -249,7 +244,7 @@ runs_done form kind n front back xs ys t h e k f one two three four whole g i q 
 module _ (form : Form) (before out : List ℕ) (at : OpenContainer) (u : Tree) (coming : List Tree) (t : Tree) (o : IsOpen form before out at (u ∷ coming) t)
     (kind : ℕ) (content word : List ℕ) (part : IsContent (number_reader form) u kind content) (short : length content < 2 ^ 28)
     (word_is : word ≡ entry_word kind (length content)) where
-  one : AreEntries (number_reader form) (trees_of (u ∷ [])) word content
+  pub one : AreEntries (number_reader form) (trees_of (u ∷ [])) word content
   one = rw word_is (one_entry (number_reader form) u kind content part short)
 
   pub room_for_one : (old : List ℕ) → old ≡ out ++ content → at.word + length word ≤ length old
@@ -259,8 +254,3 @@ module _ (form : Form) (before out : List ℕ) (at : OpenContainer) (u : Tree) (
       → after ≡ take at.word old ++ (word ++ drop (at.word + length word) old)
       → IsOpen form before after next coming t
   one_filled old after next is start at_word set = filled form before out at (u ∷ []) coming t o word content one old after next is start at_word set
-
--- ---- sizes
-
-pub room_moved : (s s' e e' : ℕ) (around : Rooms) → s ≡ s' → e ≡ e' → EndsWithin s e around → EndsWithin s' e' around
-room_moved s s' e e' around same_start same_end h = rw (← same_start, ← same_end) h

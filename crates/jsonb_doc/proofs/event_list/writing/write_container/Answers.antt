@@ -2,11 +2,7 @@ use Rattle.jsonb_doc.proofs.Lemmas.{rules, ℕ, Vec, Global, [], ◌∷◌, arit
 use Rattle.jsonb_doc.proofs.event_list.writing.write_container.Goals as goal
 
 pub walk-init : goal.walk-init
-walk-init c = λ form room t h. record {
-  outside = [];
-  are_left = rw c.new-around.ensures.items tt;
-  begun = c.in_ok-writer.ensures.begun form room t h;
-}
+walk-init c = λ form room t h. grind (arith, c.in_ok-writer.ensures.begun form room t h)
 
 pub returns-in_err-inner : goal.returns-in_err-inner
 returns-in_err-inner c = record {

@@ -1,4 +1,4 @@
-use Rattle.jsonb_doc.proofs.Lemmas.{rules, ◌∙◌, room_there, room_moved}
+use Rattle.jsonb_doc.proofs.Lemmas.{rules, ◌∙◌, room_there}
 use Rattle.jsonb_doc.proofs.WriterLemmas.{filled}
 use Rattle.jsonb_doc.proofs.rewriting.Writer.copy.Goals as goal
 
@@ -15,4 +15,4 @@ returns-clause-copied c = λ form ts coming around whole h w.
     }
 
 pub returns-clause-room : goal.returns-clause-room
-returns-clause-room c = search (rules, room_moved)
+returns-clause-room c = search rules
