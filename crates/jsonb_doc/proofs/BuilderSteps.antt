@@ -1,7 +1,48 @@
--- What a loop that pushes into a builder keeps true: what is held, followed by what is left, is the whole.
-use Rattle.jsonb_doc.proofs.Common.{◌≡◌, ℕ, Bool, List, [], ◌∷◌, ◌++◌, inl, inr, subst, ◌∙◌, append_assoc, Result, Ok, Err, cond, filter, MatchResult, ⊤, keys_of, nat_list_cmp_total, Tree, array, trees_of, Form, IsBelowFirst, AreKeys, Decodes, IsTooLarge, IsOutOfMemory, IsOutOfMemoryOrTooLarge, Parts, no_parts, HoldsElements, Error, HoldsFront, arith}
-use Rattle.std.proofs.Common.{append-nil}
+-- What an array's builder holds with one more element; in a loop that pushes, what is held, followed by what is left, is the whole.
+use Rattle.jsonb_doc.proofs.Common.{◌≡◌, ℕ, ◌<◌, ◌^◌, List, [], ◌∷◌, ◌++◌, length, arith, append_assoc, append-nil, Tree, array, trees_of, NumberReader, Form, number_reader, IsContent, AreEntries, entry_word, header, array_header, Decodes, HasShortElements, content_size, IsTooLarge, StandsFor, EntryParts, item_content, entry_of, FitsItem, Parts, entry_count, HoldsElements, Item, Bool, inl, inr, subst, ◌∙◌, Result, Ok, Err, cond, filter, MatchResult, ⊤, keys_of, nat_list_cmp_total, IsBelowFirst, AreKeys, IsOutOfMemory, IsOutOfMemoryOrTooLarge, no_parts, Error, HoldsFront}
+use Rattle.jsonb_doc.proofs.Entries.{kind_below}
+use Rattle.jsonb_doc.proofs.Containers.{length-words}
+use Rattle.jsonb_doc.proofs.TreeLists.{count-trees_of}
+use Rattle.jsonb_doc.proofs.ItemLemmas.{content_stands}
 use Rattle.jsonb_doc.proofs.LimitLemmas.{array_too_large-more}
+
+-- the builder's entries are as many as the trees that it holds
+pub held_count : (form : Form) (parts : Parts) (ts : List Tree) → HoldsElements form parts ts → entry_count parts ≡ length ts
+held_count form parts ts h = grind (arith, length-words, count-trees_of)
+
+-- entries with one more after them
+AreEntries-added : (number_at : NumberReader) (ts : List Tree) (t : Tree) (ws cs : List ℕ) (kind : ℕ) (content : List ℕ) → length content < 2 ^ 28
+    → IsContent number_at t kind content
+    → AreEntries number_at (trees_of ts) ws cs → AreEntries number_at (trees_of (ts ++ t ∷ [])) (ws ++ entry_word kind (length content)) (cs ++ content)
+AreEntries-added number_at [] t ws cs kind content short part h = grind (arith, kind_below, append-nil)
+AreEntries-added number_at (u ∷ us) t ws cs kind content short part e =
+    search (arith, AreEntries-added number_at us t e.other_words e.other_contents kind content short part e.others, append_assoc)
+
+-- the parts with one more entry after the others
+abbrev pub with_entry : Parts → EntryParts → Parts
+with_entry parts entry =
+    record { words = parts.words ++ entry_word entry.0 (length entry.1); contents = parts.contents ++ entry.1 }
+
+-- with a stored entry after the others its tree is held
+pub stored_held : (form : Form) (before after : Parts) (ts : List Tree) (kind : ℕ) (content : List ℕ) (t : Tree) → HoldsElements form before ts
+    → IsContent (number_reader form) t kind content
+    → length content < 2 ^ 28 → after ≡ with_entry before (kind, content) → HoldsElements form after (ts ++ t ∷ [])
+stored_held form before after ts kind content t h e k f = grind (arith, AreEntries-added)
+
+-- with the entry of an item after the others its tree is held
+pub element_held : (form : Form) (before after : Parts) (ts : List Tree) (item : Item) (t : Tree) → HoldsElements form before ts → StandsFor form item t
+    → FitsItem item
+    → length (item_content item) < 2 ^ 28 → after ≡ with_entry before (entry_of item) → HoldsElements form after (ts ++ t ∷ [])
+element_held form before after ts item t h e k f g = grind (arith, stored_held, content_stands)
+
+pub last_is_short : (form : Form) (ts : List Tree) (t : Tree) → HasShortElements form (trees_of (ts ++ t ∷ [])) → content_size form t < 2 ^ 28
+last_is_short form [] t h = h.0
+last_is_short form (u ∷ us) t h = last_is_short form us t h.2
+
+-- the array of what is held
+pub array_built : (form : Form) (ts : List Tree) (parts : Parts) (bytes : List ℕ) → HoldsElements form parts ts → entry_count parts < 2 ^ 29
+    → bytes ≡ header array_header (entry_count parts) ++ (parts.words ++ parts.contents) → Decodes form bytes (array (trees_of ts))
+array_built form ts parts bytes h e k = grind (arith, entry_count, held_count, count-trees_of)
 
 -- a right result, or a failed allocation, is one of a function that builds a document
 pub answered : {A : Type 0} (form : Form) (t : Tree) (P : A → Type 0) (r : Result A Error) → MatchResult r P IsOutOfMemory

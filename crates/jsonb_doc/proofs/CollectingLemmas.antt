@@ -1,13 +1,124 @@
--- What the collector holds after each event.
-use Rattle.jsonb_doc.proofs.Common.{◌≡◌, ℕ, suc, ◌<◌, ◌≤◌, List, [], ◌∷◌, ◌++◌, length, map, refl, sym, ap, ◌∙◌, arith, Bool, true, false, Some, None, Option, IsTrue, subst, slice_get, option_copied, is_some, unwrap_or, ◌-◌, IfErr, MatchResult, IsSome, IsUtf8, Result, Ok, Err, OnOk, Bor, AllZip, IsSortedBy, IsStableBy, mid_of, IsCharBoundary, IsCharBoundary-from_take, true≢false, length-map, length-append, append-nil, take_at, drop_at, Tree, array, object, trees_of, pairs_of, insert_pair, Level, State, root, array_of, object_of, takes_value, whole, IsPart, AreElements, HoldParts, has_lower_key, unique, as_pair, insert_all, appended, EndsAs, Ends, TakesTree, LeadsTo, IsMemberOf, HoldsFrame, HoldsState, WaitsFor, AreAround, Keeps, Pushes, IsDue, IsRepeated, IsPushRefused, HeaderKind, Run, Part, Nested, Member, Frame, Collector, EventError, BeginWithText, AllZip-long, common_steps}
-use Rattle.jsonb_doc.specs.declared.layout.HeaderKind.TheVariants.{Scalar}
+-- Events that are collected: members of containers in runs, walks over runs, and what the collector holds after each event.
+use Rattle.jsonb_doc.proofs.Common.{◌≡◌, ℕ, ◌+◌, ◌<◌, ◌≤◌, List, [], ◌∷◌, ◌++◌, length, refl, ◌^◌, arith, slice_range, reverse, Result, MatchResult, keys_of, values_of, length-append, take-append-le, drop_at, between_is, between_to_end, Tree, array, object, Trees, no_trees, tree, Pairs, no_pairs, pair, elements, members, keys, Form, IsOutOfMemory, IsOutOfMemoryOrTooLarge, Error, OpenContainer, AreSortedKeys, Make, IsPart, AreElements, HoldParts, keys_first, Run, Part, Plain, Text, Nested, Member, Left, Outer, length-values_of, AllZip-long, suc, map, sym, ap, ◌∙◌, Bool, true, false, Some, None, Option, IsTrue, subst, slice_get, option_copied, is_some, unwrap_or, ◌-◌, IfErr, IsSome, Ok, Err, OnOk, Bor, AllZip, IsSortedBy, IsStableBy, mid_of, true≢false, length-map, append-nil, take_at, trees_of, pairs_of, insert_pair, Level, State, root, array_of, object_of, takes_value, whole, has_lower_key, unique, as_pair, insert_all, appended, EndsAs, Ends, TakesTree, LeadsTo, IsMemberOf, HoldsFrame, HoldsState, WaitsFor, AreAround, Keeps, IsDue, IsRepeated, IsPushRefused, HeaderKind, Frame, Collector, EventError, common_steps}
+use Rattle.jsonb_doc.specs.Private.EventParts.{AreMembers, member_keys}
+use Rattle.jsonb_doc.specs.declared.layout.HeaderKind.TheVariants.{Object, Array, Scalar}
+use Rattle.jsonb_doc.proofs.Weights.{weight_of, weight-pos, weight_of_all, inner_weighs, falls_inward, falls_outward}
+use Rattle.jsonb_doc.proofs.TreeLists.{trees_of-elements, pairs_of-members, keys_of-members, keys-pairs_of}
 use Rattle.jsonb_doc.specs.Events as events
-use Rattle.jsonb_doc.specs.Private.EventParts.{AreMembers}
-use Rattle.jsonb_doc.specs.declared.layout.HeaderKind.TheVariants.{Object, Array}
-use Rattle.jsonb_doc.proofs.TreeLists.{keys-pairs_of}
-use Rattle.jsonb_doc.proofs.EventPartLemmas.{part_stays, last_run}
 use Rattle.jsonb_doc.proofs.UniqueLemmas.{all_rise, sorted_keys, unique_inserted}
 use Rattle.jsonb_doc.proofs.Basics.{zip_along, zip_more}
+
+-- ---- children as lists
+
+elements_hold : (ds : List Member) (room : ℕ) (ms : List Member) (ts : Trees) → AreElements ds room ms ts → HoldParts ds room ms (elements ts)
+elements_hold ds room [] no_trees h = tt
+elements_hold ds room (m ∷ ms) (tree t ts) h = (h.0, elements_hold ds room ms ts h.1)
+elements_hold ds room _ _ h = absurd h
+
+values_hold : (ds : List Member) (room : ℕ) (ms : List Member) (ps : Pairs) → AreMembers ds room ms ps → HoldParts ds room ms (values_of (members ps))
+values_hold ds room [] no_pairs h = tt
+values_hold ds room (m ∷ ms) (pair key t ps) h = (h.1, values_hold ds room ms ps h.2)
+values_hold ds room _ _ h = absurd h
+
+keys_hold : (ds : List Member) (room : ℕ) (ms : List Member) (ps : Pairs) → AreMembers ds room ms ps → member_keys ms ≡ keys_of (members ps)
+keys_hold ds room [] no_pairs h = refl
+keys_hold ds room (m ∷ ms) (pair key t ps) h = rw (h.0, keys_hold ds room ms ps h.2) refl
+keys_hold ds room _ _ h = absurd h
+
+-- ---- more members after those of containers that have ended
+
+run_stays : (ds more : List Member) (first end : ℕ) → end ≤ length ds → slice_range (ds ++ more) first end ≡ slice_range ds first end
+run_stays ds more first end h = grind (arith, between_is, take-append-le)
+
+-- a part keeps its tree
+mutual
+  pub part_stays : (ds more : List Member) (room room' : ℕ) (p : Part) (t : Tree) → room ≤ room' → IsPart ds room p t → IsPart (ds ++ more) room' p t
+  part_stays ds more room room' (Nested run) (array ts) le h =
+      grind (arith, elements_stay ds more run.end (slice_range ds run.first run.end) ts h.4, length-append, run_stays)
+  part_stays ds more room room' (Nested run) (object ps) le h =
+      grind (arith, members_stay ds more run.end (slice_range ds run.first run.end) ps h.5, length-append, run_stays)
+  part_stays ds more room room' (Text s) t le h = h
+  part_stays ds more room room' (Plain e) t le h = h
+  part_stays ds more room room' (Nested run) _ le h = absurd h
+
+  elements_stay : (ds more : List Member) (room : ℕ) (ms : List Member) (ts : Trees) → AreElements ds room ms ts → AreElements (ds ++ more) room ms ts
+  elements_stay ds more room [] no_trees h = tt
+  elements_stay ds more room (m ∷ ms) (tree t ts) h = (part_stays ds more room room m.part t (omega arith) h.0, elements_stay ds more room ms ts h.1)
+  elements_stay ds more room _ _ h = absurd h
+
+  members_stay : (ds more : List Member) (room : ℕ) (ms : List Member) (ps : Pairs) → AreMembers ds room ms ps → AreMembers (ds ++ more) room ms ps
+  members_stay ds more room [] no_pairs h = tt
+  members_stay ds more room (m ∷ ms) (pair key t ps) h = (h.0, part_stays ds more room room m.part t (omega arith) h.1, members_stay ds more room ms ps h.2)
+  members_stay ds more room _ _ h = absurd h
+
+-- the members of a container that has just ended are the last ones
+pub last_run : (ds ms : List Member) → slice_range (ds ++ ms) (length ds) (length ds + length ms) ≡ ms
+last_run ds ms = grind (arith, between_to_end, length-append, drop_at)
+
+-- ---- a container that is opened
+
+pub record PartOpened (ds : List Member) (run : Run) (ms : List Member) (t : Tree) : Type 0 where
+  pub trees : List Tree
+  pub holds : HoldParts ds run.end ms trees
+  pub makes : (n : ℕ) → n ≡ length ms → Make run.kind n (keys_first run.kind ms trees) t
+
+array_opened : (ds : List Member) (room : ℕ) (run : Run) (ms : List Member) (ts : Trees) → run.kind ≡ Array → AreElements ds run.end ms ts
+    → PartOpened ds run ms (array ts)
+array_opened ds room run ms ts kind h = search (arith, elements_hold ds run.end ms ts h, AllZip-long, trees_of-elements)
+
+object_opened : (ds : List Member) (room : ℕ) (run : Run) (ms : List Member) (ps : Pairs) → run.kind ≡ Object → AreSortedKeys (keys ps)
+    → AreMembers ds run.end ms ps → PartOpened ds run ms (object ps)
+object_opened ds room run ms ps kind sorted h =
+    search (arith, values_hold ds run.end ms ps h, values_of, AllZip-long, length-values_of, keys_of-members, keys_hold, pairs_of-members)
+
+pub part_opened : (ds : List Member) (room : ℕ) (run : Run) (ms : List Member) (t : Tree) → IsPart ds room (Nested run) t
+    → ms ≡ slice_range ds run.first run.end → PartOpened ds run ms t
+part_opened ds room run ms t h e = grind (arith, array_opened, object_opened)
+
+-- ---- the first of some members
+
+pub record FirstPart (ds : List Member) (room : ℕ) (m : Member) (others : List Member) (us : List Tree) : Type 0 where
+  pub t : Tree
+  pub rest : List Tree
+  pub us_is : us ≡ t ∷ rest
+  pub part : IsPart ds room m.part t
+  pub others_hold : HoldParts ds room others rest
+
+pub first_part : (ds : List Member) (room : ℕ) (ms : List Member) (us : List Tree) (m : Member) (others : List Member) → ms ≡ m ∷ others
+    → HoldParts ds room ms us → FirstPart ds room m others us
+first_part ds room ms us m others h e = search (arith, Member)
+
+pub no_parts : (ds : List Member) (room : ℕ) (ms : List Member) (us : List Tree) → length ms ≡ 0 → HoldParts ds room ms us → us ≡ []
+no_parts ds room [] us none h = grind arith
+no_parts ds room (m ∷ ms) us none h = absurd (omega (arith, none))
+
+-- ---- errors
+
+pub not_too_large : {A : Type 0} (P : A → Type 0) (form : Form) (whole : Tree) (r : Result A Error) → MatchResult r P IsOutOfMemory
+    → MatchResult r P (IsOutOfMemoryOrTooLarge form whole)
+not_too_large P form whole r h = grind arith
+
+-- ---- how a walk ends
+
+abbrev pub left_weight : Left → ℕ
+left_weight left = weight_of (length left.members.now) left.room
+
+abbrev pub outer_weight : Outer → ℕ
+outer_weight outer = left_weight outer.left
+
+pub walk_falls_inward : (left left' inner : Left) (at : OpenContainer) (around around' : List Outer)
+    → length left'.members.now < length left.members.now → left'.room ≤ left.room → inner.room < left.room → length inner.members.now < 2 ^ 64
+    → around' ≡ around ++ record { container = at; left = left' } ∷ []
+    → left_weight inner + weight_of_all outer_weight (reverse around') < left_weight left + weight_of_all outer_weight (reverse around)
+walk_falls_inward left left' inner at around around' fewer less within few e =
+    falls_inward outer_weight (record { container = at; left = left }) (record { container = at; left = left' }) (record { container = at; left = inner })
+    around around' (inner_weighs _ _ _ _ _ _ fewer less within few) e
+
+pub walk_falls_outward : (left : Left) (outer : Outer) (around around' : List Outer) → around ≡ around' ++ outer ∷ []
+    → left_weight outer.left + weight_of_all outer_weight (reverse around') < left_weight left + weight_of_all outer_weight (reverse around)
+walk_falls_outward left outer around around' e =
+    falls_outward outer_weight (record { container = outer.container; left = left }) outer around around'
+    (weight-pos (length left.members.now) left.room) e
 
 -- ---- more members after those of containers that have ended
 
@@ -18,13 +129,13 @@ module _ (ds more : List Member) where
   parts_stay : (ms : List Member) (ts : List Tree) → HoldParts ds (suc (length ds)) ms ts → HoldParts (ds ++ more) (suc (length (ds ++ more))) ms ts
   parts_stay = zip_along _ _ (λ m t. stays m.part t)
 
-  members_stay : (ms : List Member) (ps : List (List ℕ × Tree)) → AllZip (IsMemberOf ds) ms ps → AllZip (IsMemberOf (ds ++ more)) ms ps
-  members_stay = zip_along _ _ (λ m p h. (h.0, stays m.part p.1 h.1))
+  pairs_stay : (ms : List Member) (ps : List (List ℕ × Tree)) → AllZip (IsMemberOf ds) ms ps → AllZip (IsMemberOf (ds ++ more)) ms ps
+  pairs_stay = zip_along _ _ (λ m p h. (h.0, stays m.part p.1 h.1))
 
   pub around_stay : (kind : HeaderKind) (before : List Member) (ls : List Level) → AreAround ds kind before ls → AreAround (ds ++ more) kind before ls
   around_stay Scalar before ls h = h
-  around_stay Array before (l ∷ ls) h = search (arith, around_stay h.3.kind h.0 ls h.8, parts_stay, members_stay)
-  around_stay Object before (l ∷ ls) h = search (arith, around_stay h.3.kind h.0 ls h.8, parts_stay, members_stay)
+  around_stay Array before (l ∷ ls) h = search (arith, around_stay h.3.kind h.0 ls h.8, parts_stay, pairs_stay)
+  around_stay Object before (l ∷ ls) h = search (arith, around_stay h.3.kind h.0 ls h.8, parts_stay, pairs_stay)
   around_stay _ before [] h = absurd h
 
 -- ---- a value
@@ -180,11 +291,6 @@ sorted_pushed (Err e) keep_last ms ns old new pushed all errors sorted stable le
     due_along keep_last (λ last. (last ≡ false) × (length (unique ns) < length ns)) (λ last. IsRepeated last ms) e
     (λ last fewer. (fewer.0, omega (arith, fewer.1, same, len, length-map (unique ns) as_pair))) (λ repeated. absurd (true≢false repeated.0)) errors
 
-pub pushed_ends : (keep_last : Bool) (ds new : List Member) (f : Frame) (ms : List Member) (level : Level) (run : Run) → option_copied f.key ≡ None
-    → HoldsFrame ds f ms level → Pushes keep_last f.kind ds new ms → run.kind ≡ f.kind → run.first ≡ length ds → run.end ≡ length new
-    → Ends keep_last ds new level run
-pushed_ends keep_last ds new f ms level run h e k g i q = grind (arith, array_ends, object_ends)
-
 pub innermost_is : (items before ms : List Member) (a k : ℕ) → items ≡ before ++ ms → a ≡ length before → k ≡ length items - a → ms ≡ mid_of a k items
 innermost_is items before ms a k joined start len = grind (arith, common_steps, drop_at, Member, length-append, append-nil, take_at)
 
@@ -197,11 +303,6 @@ pub ends_around : (keep_last : Bool) (ds : List Member) (f : Frame) (ms before :
 ends_around keep_last ds f ms before level t ls h e k = grind arith
 
 -- ---- events that may not come next
-
--- a container does not end after a key
-pub named_stays : (keep_last : Bool) (ds : List Member) (f : Frame) (ms : List Member) (level : Level) (t : Tree) → HoldsFrame ds f ms level
-    → is_some f.key ≡ true → EndsAs keep_last level t → ⊥
-named_stays keep_last ds f ms level t h e k = grind arith
 
 -- a container with such members may not end
 pub refused_stays : (keep_last : Bool) (ds : List Member) (f : Frame) (ms : List Member) (level : Level) (t : Tree) → HoldsFrame ds f ms level
@@ -257,7 +358,3 @@ outer_due keep_last Q ds kind before t l ls e h k = grind (arith, due_anyway, ou
 
 pub no_some : {A : Type 0} (o : Option A) → o ≡ None → IsSome o → ⊥
 no_some o h e = grind arith
-
--- bytes that begin with a string can be split after it
-pub can_split : (bytes : List ℕ) (len : ℕ) (s rest : List ℕ) → IsUtf8 bytes → BeginWithText len bytes s rest → IsCharBoundary bytes len
-can_split bytes len s rest h e = grind (arith, take_at, length-append, IsCharBoundary-from_take)

@@ -4,8 +4,7 @@ use Rattle.jsonb_doc.specs.declared.layout.HeaderKind.TheVariants as header
 use Rattle.jsonb_doc.specs.declared.container.Container.{Container}
 use Rattle.jsonb_doc.specs.Format.{IsContainer as FormatContainer}
 use Rattle.jsonb_doc.proofs.WordLemmas.{word_cancel, append_cancel}
-use Rattle.jsonb_doc.proofs.Entries.{BeginWith-unique, Entry-join}
-use Rattle.jsonb_doc.proofs.KeysRead.{begin_key}
+use Rattle.jsonb_doc.proofs.Entries.{BeginWith-unique, Entry-join, begin_key}
 
 -- a header is one
 pub HeadedBy-unique : (bytes : List ℕ) (k k' n n' : ℕ) (rest rest' : List ℕ) → HeadedBy bytes k n rest → HeadedBy bytes k' n' rest'
@@ -296,10 +295,6 @@ module _ (bytes : List ℕ) where
     λ h. (h.0, (IsCut-same bytes (Scalar e) cut number_at h.0).1 (cut.2.scalar, h.1)),
     λ d. (d.0, ((IsCut-same bytes (Scalar e) cut number_at d.0).0 d.1).1),
   )
-
-  pub HasDocument-container : (found : Container) → IsCut bytes found → ((e : StoredEntry) → found ≡ Scalar e → ⊥) → (number_at : NumberReader)
-      → HasContent 5 bytes number_at ↔ HasDocument bytes number_at
-  HasDocument-container found h e number_at = grind (arith, IsCut-container)
 
   -- an array's content decodes if its entries do
   pub HasContent-array : (p : ArrayParts) → IsCut bytes (Array p) → (number_at : NumberReader)

@@ -1,8 +1,7 @@
--- Entries are split into the first one and the others, and joined again.
-use Rattle.jsonb_doc.proofs.Common.{option_and_then, ◌≡◌, ℕ, ◌<◌, ◌≤◌, List, [], length, refl, ap, arith, Option, Some, None, true, false, if◌then◌else◌, ◌↔◌, inl, inr, length-append, Tree, null, boolean, number, text, extension, array, object, Trees, no_trees, tree, Pairs, no_pairs, pair, count, keys, NumberReader, Form, canonical, number_reader, number_payload, number_of, number_or_unsupported, bytes_eq, BeginWith, HasFirstEntry, IsContainer, AreMembers, array_header, object_header, scalar_header, IsDocument, IsContent, AreEntries, AreValues, HasContent, HasEntries}
+-- Entries are split into the first one and the others, and joined again; so are keys; contents are passed over by the lengths in their words.
+use Rattle.jsonb_doc.proofs.Common.{option_and_then, ◌≡◌, ℕ, ◌<◌, ◌≤◌, List, [], length, refl, ap, arith, Option, Some, None, true, false, if◌then◌else◌, ◌↔◌, inl, inr, length-append, Tree, null, boolean, number, text, extension, array, object, Trees, no_trees, tree, Pairs, no_pairs, pair, count, keys, NumberReader, Form, canonical, number_reader, number_payload, number_of, number_or_unsupported, bytes_eq, BeginWith, HasFirstEntry, IsContainer, AreMembers, array_header, object_header, scalar_header, IsDocument, IsContent, AreEntries, AreValues, HasContent, HasEntries, ◌^◌, ◌∷◌, ◌++◌, append_assoc, ⊤, AreKeys, IsBelowFirst, key_words, key_bytes, HasKeys, IsAbove, IsNextKey, zero, suc, ◌+◌, ◌/◌, ◌%◌, take, map, sum, Bor, IsGetRangeResult, drop_at, take-append-drop, sum_by-cons, between_to_end, IsSomeAnd, IfSome, w32, from_be_bytes, from_be_bytes-to_be_bytes_4, first_chunks, StandBefore, HoldKeys, common_steps}
 use Rattle.jsonb_doc.specs.Number.{Number}
-use Rattle.jsonb_doc.proofs.WordLemmas.{bytes_eq-true, bytes_eq-same}
-use Rattle.jsonb_doc.proofs.WordLemmas.{word_cancel, append_cancel}
+use Rattle.jsonb_doc.proofs.WordLemmas.{bytes_eq-true, bytes_eq-same, word_cancel, append_cancel}
 
 pub BeginWith-long : (words contents : List ℕ) (kind : ℕ) (content ws cs : List ℕ) → BeginWith words contents kind content ws cs → 4 ≤ length words
 BeginWith-long words contents kind content ws cs b = omega (arith, ap length b.words_joined)
@@ -141,3 +140,123 @@ reads_canonical form bytes n h = grind (arith, reads_number)
 
 pub reads_written : (n : Number) → number_of (number_payload n) ≡ Some n → number_reader canonical (number_payload n) ≡ Some n
 reads_written n e = rw (e, bytes_eq-same (number_payload n)) refl
+
+-- the first of these keys may follow this key, if there are both
+abbrev pub Follow : Option (List ℕ) → List (List ℕ) → Type 0
+Follow None ks = ⊤
+Follow (Some key) ks = IsBelowFirst key ks
+
+pub Follow-from : (last : Option (List ℕ)) (key : List ℕ) (ks : List (List ℕ)) → IsAbove last key → Follow last (key ∷ ks)
+Follow-from last key ks h = grind arith
+
+-- the words and the bytes begin with those of some keys after this one, and the rest follows them
+pub record KeysAfter (last : Option (List ℕ)) (words bytes rest : List ℕ) : Type 0 where
+  pub ks : List (List ℕ)
+  pub are_keys : AreKeys ks
+  pub follow : Follow last ks
+  pub words_joined : words ≡ key_words ks
+  pub bytes_joined : bytes ≡ key_bytes ks ++ rest
+
+pub KeysAfter-none : (words bytes rest : List ℕ) → HasKeys words bytes rest → KeysAfter None words bytes rest
+KeysAfter-none words bytes rest h = grind arith
+
+pub HasKeys-from : (words bytes rest : List ℕ) → KeysAfter None words bytes rest → HasKeys words bytes rest
+HasKeys-from words bytes rest k = (k.ks, k.are_keys, k.words_joined, k.bytes_joined)
+
+pub KeysAfter-nil : (last : Option (List ℕ)) (words bytes : List ℕ) → words ≡ [] → KeysAfter last words bytes bytes
+KeysAfter-nil last words bytes h = grind arith
+
+-- the first of some keys is the first entry
+pub begin_key : (words bytes rest key : List ℕ) (ks : List (List ℕ)) → length key < 2 ^ 28 → words ≡ key_words (key ∷ ks) → bytes ≡ key_bytes (key ∷ ks) ++ rest
+    → BeginWith words bytes 1 key (key_words ks) (key_bytes ks ++ rest)
+begin_key words bytes rest key ks h e k = grind (arith, append_assoc)
+
+-- keys that are not empty begin with an entry
+pub KeysAfter-stop : (last : Option (List ℕ)) (words bytes rest : List ℕ) → 0 < length words
+    → ((kind : ℕ) (content ws cs : List ℕ) → BeginWith words bytes kind content ws cs → ⊥) → KeysAfter last words bytes rest → ⊥
+KeysAfter-stop last words bytes rest some none k = go k.ks k.are_keys k.words_joined k.bytes_joined
+  where
+    go : (ks : List (List ℕ)) → AreKeys ks → words ≡ key_words ks → bytes ≡ key_bytes ks ++ rest → ⊥
+    go [] are e f = omega (arith, ap length e)
+    go (key ∷ ks) are e f = none 1 key (key_words ks) (key_bytes ks ++ rest) (begin_key words bytes rest key ks are.0.1 e f)
+
+module _ (last : Option (List ℕ)) (words bytes : List ℕ) (kind : ℕ) (key ws bs : List ℕ) (b : BeginWith words bytes kind key ws bs) where
+  pub KeysAfter-split : (rest : List ℕ) → KeysAfter last words bytes rest → (kind ≡ 1) × IsNextKey last key × KeysAfter (Some key) ws bs rest
+  KeysAfter-split rest k = go k.ks k.are_keys k.follow k.words_joined k.bytes_joined
+    where
+      go : (ks : List (List ℕ)) → AreKeys ks → Follow last ks → words ≡ key_words ks → bytes ≡ key_bytes ks ++ rest
+          → (kind ≡ 1) × IsNextKey last key × KeysAfter (Some key) ws bs rest
+      go [] are follow e f = absurd (omega (arith, BeginWith-long words bytes kind key ws bs b, ap length e))
+      go (first ∷ ks) are follow e f =
+          let (same_kind, same_key, same_words, same_bytes) = BeginWith-unique words bytes kind 1 key first ws (key_words ks) bs (key_bytes ks ++ rest) b
+          (begin_key words bytes rest first ks are.0.1 e f) in
+          let after : KeysAfter (Some first) (key_words ks)
+          (key_bytes ks ++ rest) rest = record { ks = ks; are_keys = are.2; follow = are.1; words_joined = refl; bytes_joined = refl } in
+          rw (same_key, same_words, same_bytes) (same_kind, (are.0.0, grind arith), after)
+
+  pub KeysAfter-join : (rest : List ℕ) → kind ≡ 1 → IsNextKey last key → KeysAfter (Some key) ws bs rest → KeysAfter last words bytes rest
+  KeysAfter-join rest is next after =
+      let more = append_assoc key (key_bytes after.ks) rest in
+      search (arith, next.0, b.fits, after.follow, after.are_keys, Follow-from last key after.ks next.1, b.words_joined, b.contents_joined, more)
+
+-- the length in a word
+abbrev pub told : List ℕ → ℕ
+told word = from_be_bytes w32 word % 2 ^ 28
+
+-- the word of an entry determines how long its content is
+pub told_length : (words contents : List ℕ) (kind : ℕ) (content ws cs : List ℕ) → BeginWith words contents kind content ws cs
+    → told (take 4 words) ≡ length content
+told_length words contents kind content ws cs h = grind (arith, from_be_bytes-to_be_bytes_4)
+
+-- words determine how long the contents are that precede the rest
+pub told_lengths : (parts : List (List ℕ)) (words contents rest : List ℕ) (k : ℕ) → k ≡ length words / 4 → StandBefore parts words contents rest
+    → sum (map told (first_chunks 4 k words)) + length rest ≡ length contents
+told_lengths [] words contents rest k count h = grind arith
+told_lengths (part ∷ parts) words contents rest zero count e = grind (arith, BeginWith-long)
+told_lengths (part ∷ parts) words contents rest (suc k) count e =
+    grind (arith, common_steps, told_lengths parts e.other_words e.other_contents rest k, told_length, sum_by-cons, length-append)
+
+-- without words nothing precedes the rest
+pub nothing_before : (parts : List (List ℕ)) (words contents rest : List ℕ) → length words ≡ 0 → StandBefore parts words contents rest → contents ≡ rest
+nothing_before [] words contents rest none h = h.1
+nothing_before (part ∷ parts) words contents rest none e = grind (arith, BeginWith-long)
+
+-- the rest is the end of the contents
+pub StandBefore-joined : (parts : List (List ℕ)) (words contents rest : List ℕ) → StandBefore parts words contents rest
+    → (front : List ℕ) × (contents ≡ front ++ rest)
+StandBefore-joined [] words contents rest h = ([], h.1)
+StandBefore-joined (part ∷ parts) words contents rest e =
+    let more = append_assoc e.content (StandBefore-joined parts e.other_words e.other_contents rest e.others).0 rest in
+    search (arith, StandBefore-joined parts e.other_words e.other_contents rest e.others, e.begin.contents_joined, more)
+
+-- a part of the contents up to their end
+pub IsPart-some : (contents front rest : List ℕ) (n : ℕ) (r : Option (Bor (List ℕ))) → contents ≡ front ++ rest → n + length rest ≡ length contents
+    → IsGetRangeResult contents n (length contents) r → IsSomeAnd r (λ x. x.now ≡ rest)
+IsPart-some contents front rest n r h e k = grind (arith, between_to_end, drop_at, length-append)
+
+pub IsPart-size : (contents : List ℕ) (n : ℕ) (r : Option (Bor (List ℕ))) → IsGetRangeResult contents n (length contents) r
+    → IfSome r (λ x. length x.now ≤ length contents)
+IsPart-size contents n r h = grind arith
+
+pub IsPart-end : (contents : List ℕ) (n : ℕ) (r : Option (Bor (List ℕ))) → IsGetRangeResult contents n (length contents) r
+    → IfSome r (λ x. (front : List ℕ) × (contents ≡ front ++ x.now))
+IsPart-end contents n None h = tt
+IsPart-end contents n (Some x) h =
+    search (arith, h.0.2, between_to_end contents n (length contents) (omega arith), take n contents, take-append-drop n contents)
+
+-- keys precede what follows them
+pub keys_before : (ks : List (List ℕ)) (words bytes rest : List ℕ) → AreKeys ks → words ≡ key_words ks → bytes ≡ key_bytes ks ++ rest
+    → StandBefore ks words bytes rest
+keys_before [] words bytes rest are e f = (e, f)
+keys_before (key ∷ ks) words bytes rest are e f = record {
+  kind = 1;
+  content = key;
+  other_words = key_words ks;
+  other_contents = key_bytes ks ++ rest;
+  begin = begin_key words bytes rest key ks are.0.1 e f;
+  part = refl;
+  others = keys_before ks (key_words ks) (key_bytes ks ++ rest) rest are.2 refl refl;
+}
+
+pub HoldKeys-before : (ks : List (List ℕ)) (words bytes rest : List ℕ) → HoldKeys ks words bytes rest → StandBefore ks words bytes rest
+HoldKeys-before ks words bytes rest h = keys_before ks words bytes rest h.are_keys h.words_joined h.bytes_joined

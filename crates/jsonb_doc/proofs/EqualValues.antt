@@ -1,5 +1,5 @@
 -- Equality of values part by part.
-use Rattle.jsonb_doc.proofs.Common.{◌≡◌, ℕ, ◌*◌, ◌^◌, ◌≤◌, ℤ, pos, ◌*ℤ◌, sym, ap, ◌∙◌, arith, Equal, eq_by_cmp, is_eq, int_eq, one-le-pow, tied_itself, alike_right, Variant, decimal64, number_cmp, number_from, number_cmp_total, int_cmp_scaled, short_value, short_parts, number_parts, number_view, Number, ShortNumber}
+use Rattle.jsonb_doc.proofs.Common.{◌≡◌, ℕ, ◌^◌, ◌≤◌, ℤ, sym, ap, ◌∙◌, arith, Equal, eq_by_cmp, is_eq, int_eq, one-le-pow, tied_itself, alike_right, Variant, decimal64, number_cmp, number_from, number_cmp_total, int_cmp_scaled, short_value, short_parts, number_parts, number_view, Number, ShortNumber}
 use Rattle.std.specs.Ordering.{int_cmp}
 use Rattle.jsonb_doc.specs.Number.{Number as Number'}
 
@@ -23,15 +23,10 @@ same_short : (n : ShortNumber) → number_cmp (short_value n) (short_parts n) �
 same_short n = grind (arith, same_value)
 
 -- numbers whose digits are stored in at most 64 bits compare as their parts do
-short_cmp : (m n : ShortNumber) → number_cmp (short_value m) (short_value n) ≡ number_cmp (short_parts m) (short_parts n)
+pub short_cmp : (m n : ShortNumber) → number_cmp (short_value m) (short_value n) ≡ number_cmp (short_parts m) (short_parts n)
 short_cmp m n =
     let more = alike_right number_cmp_total (short_value n) (short_parts n) (short_parts m) (same_short n) in
     cc (number_cmp_total.congr (short_value m) (short_parts m) (short_value n) (same_short m), more)
-
-pub short_tied : (m n : ShortNumber)
-    → is_eq (int_cmp ((short_parts m).whole *ℤ pos (10 ^ (short_parts n).scale)) ((short_parts n).whole *ℤ pos (10 ^ (short_parts m).scale)))
-    ≡ eq_by_cmp number_cmp (short_value m) (short_value n)
-short_tied m n = ap is_eq (sym (short_cmp m n))
 
 -- a number whose digits are stored in at most 64 bits compares with another as its parts do
 pub short_number_cmp : (m : ShortNumber) (n : Number) → number_cmp (short_value m) (number_view n) ≡ number_cmp (short_parts m) (number_parts n)

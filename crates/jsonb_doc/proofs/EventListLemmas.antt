@@ -1,8 +1,10 @@
--- The pairs of an open object in the order of the events, and sorted: both are the same states.
-use Rattle.jsonb_doc.proofs.Common.{◌≡◌, ℕ, ◌+◌, ◌≤◌, List, [], ◌∷◌, ◌++◌, length, map, refl, sym, ap, subst, ◌∙◌, arith, Bool, true, false, Some, None, Option, nat_cmp, IsTrue, Result, Ok, Err, IsOkAnd, ⊤, if◌then◌else◌, slice_cmp, IsStrictlySortedBy, keys_of, true≢false, Tree, has_key, insert_pair, Level, root, array_of, object_of, State, Event, array_begins, object_begins, key_is, value_is, ends, no_events, takes_value, filled, container, whole, within, with_inner, with_key, with_value, closed, AreEvents, with_key_again, next_of, AreEventsOf, insert_all, appended, TakesTree, Opens, LeadsTo, Happen, EventError, OutOfOrder, Failed, ObjectDuplicateKey, TextEvent}
+-- Lists of events: pairs in their order and sorted are the same states, events lead to at most one state, and which errors lists have.
+use Rattle.jsonb_doc.proofs.Common.{◌≡◌, ℕ, ◌+◌, ◌≤◌, List, [], ◌∷◌, ◌++◌, length, map, refl, sym, ap, subst, ◌∙◌, arith, Bool, true, false, Some, None, Option, nat_cmp, IsTrue, Result, Ok, Err, IsOkAnd, ⊤, if◌then◌else◌, slice_cmp, IsStrictlySortedBy, keys_of, true≢false, Tree, has_key, insert_pair, Level, root, array_of, object_of, State, Event, array_begins, object_begins, key_is, value_is, ends, no_events, takes_value, filled, container, whole, within, with_inner, with_key, with_value, closed, AreEvents, with_key_again, next_of, AreEventsOf, insert_all, appended, TakesTree, Opens, LeadsTo, Happen, EventError, OutOfOrder, Failed, ObjectDuplicateKey, TextEvent, take, drop, ◌==◌, IsSome, take_at, drop_at, text, scalar_of, Reads, Refuses, Form, StandsFor, IsPlain, IsPlainItem, Item, ◌⊎◌, suc, inl, inr, IsTooLarge, HasDuplicateKey, FailsWith, IsDue, IsOutOfMemoryOrTooLarge, Error, OutOfMemory, TooLarge}
+use Rattle.std.proofs.Common.{unwrap_or}
 use Rattle.jsonb_doc.specs.EventList as lists
 use Rattle.jsonb_doc.proofs.ObjectLemmas.{length-inserted}
 use Rattle.jsonb_doc.proofs.UniqueLemmas.{rise_inserted, none_rise, one_more}
+use Rattle.jsonb_doc.proofs.CollectingLemmas.{due_along, due_anyway}
 
 -- ---- pairs that are new
 
@@ -309,3 +311,198 @@ happen_of keep_last es bytes t of = go (lists.after keep_last of.0 (Ok no_events
     go (Ok after) is h =
         let back = all_back keep_last es bytes of.0 no_events after of.1 is (λ ne. (tt, tt)) in
         (back.rest, back.state, back.happen, grind arith)
+
+-- ---- one event
+
+abbrev with_kind : ℕ → TextEvent → TextEvent
+with_kind kind e = record { low = e.low; high = e.high; kind = kind; scale = e.scale }
+
+-- The event of this scalar, or of this kind, and the bytes that it leaves.
+abbrev read_of : Option Tree → ℕ → TextEvent → List ℕ → Event × List ℕ
+read_of (Some t) kind e bytes = (value_is t, bytes)
+read_of None kind e bytes =
+    if kind == 7 then (value_is (text (take e.low bytes)), drop e.low bytes)
+    else if kind == 8 then (key_is (take e.low bytes), drop e.low bytes)
+    else if kind == 9 then (array_begins, bytes)
+    else if kind == 10 then (object_begins, bytes)
+    else (ends, bytes)
+
+abbrev read_at : ℕ → TextEvent → List ℕ → Event × List ℕ
+read_at kind e bytes = read_of (scalar_of (with_kind kind e)) kind e bytes
+
+same_kind : (e : TextEvent) (bytes : List ℕ) (kind : ℕ) (x : Event × List ℕ) → e.kind ≡ kind → x ≡ read_at kind e bytes → x ≡ read_at e.kind e bytes
+same_kind e bytes kind x is same = same ∙ sym (ap (λ (k : ℕ). read_at k e bytes) is)
+
+-- an event of such a kind is a scalar
+pub plain_exists : (e : TextEvent) → e.kind ≤ 6 → (t : Tree) × IsPlain e t
+plain_exists e le = found (scalar_of e) refl (go e.kind le)
+  where
+    go : (kind : ℕ) → kind ≤ 6 → IsSome (scalar_of (with_kind kind e))
+    go kind h = grind arith
+
+    found : (o : Option Tree) → scalar_of e ≡ o → IsSome o → (t : Tree) × IsPlain e t
+    found (Some t) is some = (t, is)
+    found None is some = let bad : false ≡ true = some in absurd (cc)
+
+reads_is : (e : TextEvent) (bytes : List ℕ) (event : Event) (rest : List ℕ) → Reads e bytes event rest → (event, rest) ≡ read_at e.kind e bytes
+reads_is e bytes event rest h = grind (arith, take_at, drop_at, same_kind)
+
+pub one_read : (e : TextEvent) (bytes : List ℕ) (event other : Event) (rest left : List ℕ) → Reads e bytes event rest → Reads e bytes other left
+    → (event ≡ other) × (rest ≡ left)
+one_read e bytes event other rest left h k = grind (arith, reads_is)
+
+-- only the event that is read may come next
+pub only_event : (keep_last : Bool) (e : TextEvent) (bytes : List ℕ) (event : Event) (rest : List ℕ) (s : State) → Reads e bytes event rest
+    → ((after : State) → LeadsTo keep_last event s after → ⊥) → Refuses keep_last e bytes s
+only_event keep_last e bytes event rest s h k = grind (arith, one_read)
+
+-- a scalar stands for its tree
+pub plain_stands : (form : Form) (item : Item) (t : Tree) → IsPlainItem item t → StandsFor form item t
+plain_stands form item t h = grind arith
+
+-- ---- states
+
+pub one_lead : (keep_last : Bool) (e : Event) (s after other : State) → LeadsTo keep_last e s after → LeadsTo keep_last e s other → after ≡ other
+one_lead keep_last e s after other h k = grind arith
+
+-- the same events lead to the same state
+pub one_run : (keep_last : Bool) (es : List TextEvent) (bytes : List ℕ) (s : State) (rest left : List ℕ) (after other : State)
+    → Happen keep_last es bytes s rest after → Happen keep_last es bytes s left other → after ≡ other
+one_run keep_last [] bytes s rest left after other h g = sym h.1 ∙ g.1
+one_run keep_last (e ∷ es) bytes s rest left after other h g = grind (arith, one_run keep_last es h.1 h.2 rest left after other h.5, one_read, one_lead)
+
+-- the events of a tree lead to it
+pub same_tree : (keep_last : Bool) (es : List TextEvent) (bytes rest : List ℕ) (s : State) (t u : Tree) → Happen keep_last es bytes no_events rest s
+    → whole s.inner ≡ Some t → AreEventsOf keep_last es bytes u → t ≡ u
+same_tree keep_last es bytes rest s t u happen is of =
+    let other = happen_of keep_last es bytes u of in
+    let same = one_run keep_last es bytes no_events rest other.0 s other.1 happen other.2 in
+    ap (λ (o : Option Tree). unwrap_or o t) (sym is ∙ ap (λ (x : State). whole x.inner) same ∙ other.3)
+
+-- ---- the first events
+
+-- one more event
+pub happen_more : (keep_last : Bool) (es : List TextEvent) (bytes : List ℕ) (s : State) (mid : List ℕ) (s' : State) (e : TextEvent) (event : Event)
+    (rest : List ℕ) (after : State) → Happen keep_last es bytes s mid s' → Reads e mid event rest → LeadsTo keep_last event s' after
+    → Happen keep_last (es ++ e ∷ []) bytes s rest after
+happen_more keep_last [] bytes s mid s' e event rest after h reads leads = grind arith
+happen_more keep_last (x ∷ es) bytes s mid s' e event rest after h reads leads =
+    (h.0, h.1, h.2, h.3, h.4, happen_more keep_last es h.1 h.2 mid s' e event rest after h.5 reads leads)
+
+one_step : (keep_last : Bool) (e : TextEvent) (es : List TextEvent) (bytes : List ℕ) (s : State) (event : Event) (left : List ℕ) (next : State)
+    (rest : List ℕ) (after : State) → Reads e bytes event left → LeadsTo keep_last event s next → Happen keep_last (e ∷ es) bytes s rest after
+    → Happen keep_last es left next rest after
+one_step keep_last e es bytes s event left next rest after h k f = grind (arith, one_read, one_lead)
+
+-- after the first events there are those that are left
+happen_rest : (keep_last : Bool) (es later : List TextEvent) (bytes : List ℕ) (s : State) (mid : List ℕ) (s' : State) (rest : List ℕ) (after : State)
+    → Happen keep_last es bytes s mid s' → Happen keep_last (es ++ later) bytes s rest after → Happen keep_last later mid s' rest after
+happen_rest keep_last [] later bytes s mid s' rest after h g = grind arith
+happen_rest keep_last (e ∷ es) later bytes s mid s' rest after h g =
+    happen_rest keep_last es later h.1 h.2 mid s' rest after h.5 (one_step keep_last e (es ++ later) bytes s h.0 h.1 h.2 rest after h.3 h.4 g)
+
+-- ---- duplicate keys
+
+failed_stays : (keep_last : Bool) (xs : List Event) (e : EventError) → lists.after keep_last xs (Err e) ≡ Err e
+failed_stays keep_last [] e = refl
+failed_stays keep_last (x ∷ xs) e = refl
+
+after_either : (xs : List Event) (s s' : State) → lists.after true xs (Ok s) ≡ Ok s'
+    → (lists.after false xs (Ok s) ≡ Ok s') ⊎ (lists.after false xs (Ok s) ≡ Err (Failed ObjectDuplicateKey))
+after_either [] s s' is = inl is
+after_either (x ∷ xs) s s' is = first (next_of true x s) refl is (λ next. after_either xs next s')
+  where
+    first : (r : Result State EventError) → next_of true x s ≡ r → lists.after true xs r ≡ Ok s'
+        → ((next : State) → lists.after true xs (Ok next) ≡ Ok s'
+        → (lists.after false xs (Ok next) ≡ Ok s') ⊎ (lists.after false xs (Ok next) ≡ Err (Failed ObjectDuplicateKey)))
+        → (lists.after false xs (next_of false x s) ≡ Ok s') ⊎ (lists.after false xs (next_of false x s) ≡ Err (Failed ObjectDuplicateKey))
+    first r h e k = grind (arith, not_ok, stuck, failed_stays)
+
+-- an event that may come next only if the last value of a key is kept comes after a duplicate key
+duplicate : (es later : List TextEvent) (bytes mid : List ℕ) (s : State) (e : TextEvent) → Happen false es bytes no_events mid s
+    → Refuses false e mid s → (Refuses true e mid s → ⊥) → HasDuplicateKey (es ++ later) bytes
+duplicate es later bytes mid s e h refuses may =
+    let all = all_last es bytes no_events mid s (happen_anyway false es bytes no_events mid s h) in
+    go all (after_either all.events no_events (sorted_state s) all.leads)
+  where
+    go : (all : AreAll true es bytes no_events s) → (lists.after false all.events (Ok no_events) ≡ Ok (sorted_state s))
+        ⊎ (lists.after false all.events (Ok no_events) ≡ Err (Failed ObjectDuplicateKey)) → HasDuplicateKey (es ++ later) bytes
+    go all (inl same) =
+        let back = all_back false es bytes all.events no_events (sorted_state s) all.are same (λ ne. (tt, tt)) in
+        let new = subst IsNewState (sym (one_run false es bytes no_events mid back.rest s back.state h back.happen)) (back.new refl) in
+        absurd (may (λ event rest after reads leads. refuses event rest after reads (leads_anew event s after new leads)))
+    go all (inr twice) =
+        (length es, all.events, subst (λ (xs : List TextEvent). AreEvents xs bytes all.events) (sym (take_at es later (length es) refl)) all.are, twice)
+
+-- events whose first ones have an error have it
+error_stays : (n : ℕ) (es : List TextEvent) (bytes : List ℕ) (xs ys : List Event) (r : Result State EventError) (e : EventError)
+    → AreEvents (take n es) bytes xs → AreEvents es bytes ys → lists.after false xs r ≡ Err e → lists.after false ys r ≡ Err e
+error_stays n es bytes [] ys r e are all is = rw is (failed_stays false ys e)
+error_stays (suc n) (x ∷ es) bytes (event ∷ xs) (other ∷ ys) (Err d) e are all is = is
+error_stays (suc n) (x ∷ es) bytes (event ∷ xs) (other ∷ ys) (Ok s) e are all is =
+    grind (arith, error_stays n es are.0 xs ys (next_of false event s) e are.2, one_read)
+error_stays n es bytes (event ∷ xs) ys r e are all is = grind arith
+
+-- a list with a duplicate key has no tree unless the last value is kept
+duplicate_fails : (es : List TextEvent) (bytes : List ℕ) (t : Tree) → HasDuplicateKey es bytes → AreEventsOf false es bytes t → ⊥
+duplicate_fails es bytes t h e = grind (arith, error_stays)
+
+-- ---- errors of a list
+
+-- the event that is read may not come next
+pub event_due : (keep_last : Bool) (e : TextEvent) (bytes : List ℕ) (event : Event) (rest : List ℕ) (s : State) (d : EventError) → Reads e bytes event rest
+    → IsDue keep_last (λ last. (after : State) → LeadsTo last event s after → ⊥) d → IsDue keep_last (λ last. Refuses last e bytes s) d
+event_due keep_last e bytes event rest s d h k = grind (arith, due_along, only_event)
+
+pub event_due_anyway : (keep_last : Bool) (e : TextEvent) (bytes : List ℕ) (event : Event) (rest : List ℕ) (s : State) (d : EventError)
+    → Reads e bytes event rest → IsDue true (λ _. (after : State) → LeadsTo true event s after → ⊥) d → IsDue keep_last (λ last. Refuses last e bytes s) d
+event_due_anyway keep_last e bytes event rest s d h k = grind (arith, due_anyway, only_event)
+
+-- no tree has events of which one may not come next
+stopped : (es later : List TextEvent) (bytes mid : List ℕ) (s : State) (e : TextEvent) → Happen true es bytes no_events mid s → Refuses true e mid s
+    → (t : Tree) → AreEventsOf true (es ++ e ∷ later) bytes t → ⊥
+stopped es later bytes mid s e h refuses t of =
+    let run = happen_of true (es ++ e ∷ later) bytes t of in
+    let g = happen_rest true es (e ∷ later) bytes no_events mid s run.0 run.1 h run.2 in
+    refuses g.0 g.1 g.2 g.3 g.4
+
+pub refused : (form : Form) (keep_last : Bool) (all es later : List TextEvent) (bytes mid : List ℕ) (s : State) (e : TextEvent) (d : EventError)
+    → all ≡ es ++ e ∷ later → Happen keep_last es bytes no_events mid s → IsDue keep_last (λ last. Refuses last e mid s) d
+    → FailsWith form keep_last all bytes d
+refused form keep_last all es later bytes mid s e d is h (inl memory) = inl memory
+refused form keep_last all es later bytes mid s e d is h (inr (inl order)) =
+    inr (inl (order.0, rw is (stopped es later bytes mid s e (happen_anyway keep_last es bytes no_events mid s h) order.1)))
+refused form keep_last all es later bytes mid s e d is h (inr (inr twice)) =
+    let before = subst (λ (last : Bool). Happen last es bytes no_events mid s) twice.1 h in
+    inr (inr (inl (twice.0, twice.1, rw is (duplicate es (e ∷ later) bytes mid s e before twice.2 twice.3))))
+
+-- no tree has events after which the root is not complete
+pub unfinished : (form : Form) (keep_last : Bool) (es : List TextEvent) (bytes mid : List ℕ) (s : State) (d : EventError)
+    → Happen keep_last es bytes no_events mid s → IsDue true (λ _. whole s.inner ≡ None) d → FailsWith form keep_last es bytes d
+unfinished form keep_last es bytes mid s d h (inl memory) = inl memory
+unfinished form keep_last es bytes mid s d h (inr (inl order)) = inr (inl (
+  order.0,
+  λ t of.
+      let run = happen_of true es bytes t of in
+      let same = one_run true es bytes no_events mid run.0 s run.1 (happen_anyway keep_last es bytes no_events mid s h) run.2 in
+      let bad : None ≡ Some t = sym order.1 ∙ ap (λ (x : State). whole x.inner) same ∙ run.3 in absurd (cc),
+))
+unfinished form keep_last es bytes mid s d h (inr (inr twice)) = absurd (true≢false twice.1)
+
+-- ---- errors of a document
+
+pub write_fails : (form : Form) (keep_last : Bool) (es : List TextEvent) (bytes : List ℕ) (t : Tree) (d : Error) → AreEventsOf keep_last es bytes t
+    → IsOutOfMemoryOrTooLarge form t d → FailsWith form keep_last es bytes (Failed d)
+write_fails form keep_last es bytes t d h e = grind arith
+
+-- errors of a list that has a tree
+pub tree_fails : (form : Form) (keep_last : Bool) (es : List TextEvent) (bytes : List ℕ) (t : Tree) (e : EventError) → AreEventsOf keep_last es bytes t
+    → FailsWith form keep_last es bytes e → (e ≡ Failed OutOfMemory) ⊎ ((e ≡ Failed TooLarge) × IsTooLarge form t)
+tree_fails form keep_last es bytes t e of (inl memory) = inl memory
+tree_fails form keep_last es bytes t e of (inr (inl order)) = absurd (order.1 t (let run = happen_of keep_last es bytes t of in
+    complete true es bytes run.1 t run.3 (all_last es bytes no_events run.0 run.1 (happen_anyway keep_last es bytes no_events run.0 run.1 run.2))))
+tree_fails form keep_last es bytes t e of (inr (inr (inl twice))) =
+    absurd (duplicate_fails es bytes t twice.2 (subst (λ (last : Bool). AreEventsOf last es bytes t) twice.1 of))
+tree_fails form keep_last es bytes t e of (inr (inr (inr large))) =
+    let run = happen_of keep_last es bytes large.1 large.2 in
+    inr (large.0, subst (IsTooLarge form) (same_tree keep_last es bytes run.0 run.1 large.1 t run.2 run.3 of) large.3)

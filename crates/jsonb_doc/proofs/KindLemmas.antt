@@ -1,16 +1,9 @@
 -- Types of entries and of headers, and what tests of them state about their numbers.
-use Rattle.jsonb_doc.proofs.Common.{◌≡◌, ◌≢◌, ℕ, ◌<◌, ◌≤◌, Bool, true, false, Option, refl, sym, ◌∙◌, ap, ap₂, arith, nat_eq, ◌==◌, not, MatchOption, unwrap_or, nat_tests, tag_of, kind_number, header_number, EntryKind, Unknown, HeaderKind, the_type}
-use Rattle.jsonb_doc.specs.declared.layout.HeaderKind.TheVariants.{Array}
+use Rattle.jsonb_doc.proofs.Common.{◌≡◌, ◌≢◌, ◌<◌, Bool, true, false, refl, sym, ◌∙◌, ap, ap₂, arith, nat_eq, ◌==◌, not, nat_tests, tag_of, kind_number, EntryKind, the_type}
 use Rattle.jsonb_doc.specs.contracts.layout.EntryKindPartialEq.TheImpl.{eq-value as kind_equal}
-use Rattle.jsonb_doc.specs.contracts.layout.HeaderKindPartialEq.TheImpl.{eq-value as header_equal}
 
 pub kind_known : (kind : EntryKind) → kind_number kind < 8
 kind_known kind = grind arith
-
--- a number below 8 is read
-pub read_number : (found : Option EntryKind) (n : ℕ) → MatchOption found (8 ≤ n) (λ kind. kind_number kind ≡ n) → n < 8
-    → kind_number (unwrap_or found Unknown) ≡ n
-read_number found n h e = grind arith
 
 -- ---- tests
 
@@ -38,9 +31,3 @@ differing_kind r a b is holds = other_kind _ a b refl (turned r (kind_equal.it a
 
 pub equal_kind : (r : Bool) (a b : EntryKind) → r ≡ not (kind_equal.it a b) → r ≡ false → kind_number a ≡ kind_number b
 equal_kind r a b is fails = same_kind _ a b refl (turned r (kind_equal.it a b) is ∙ ap not fails)
-
--- ---- headers
-
--- a header is an array's if its number is
-pub array_told : (kind : HeaderKind) → header_equal.it kind Array ≡ (header_number kind == 4)
-array_told kind = grind arith

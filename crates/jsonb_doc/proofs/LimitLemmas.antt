@@ -1,7 +1,156 @@
--- The trees that exceed the limits if a child or a prefix of them does; keys of documents.
-use Rattle.jsonb_doc.proofs.Common.{ℕ, ◌≤◌, List, [], ◌∷◌, ◌++◌, arith, Tree, array, object, Pairs, count, keys, members, trees_of, Form, number_reader, AreKeys, Decodes, keys_of, IsShort, HasShortParts, HasShortElements, IsWithinLimits, IsTooLarge}
+-- How long the contents of trees are, and which trees exceed the limits if a child or a prefix of them does; keys of documents.
+use Rattle.jsonb_doc.proofs.Common.{◌≡◌, ℕ, ◌+◌, ◌*◌, ◌≤◌, List, [], ◌∷◌, length, refl, ap, ◌∙◌, arith, Some, None, inl, inr, true, false, ℤ, pos, Bool, ◌⊎◌, ◌==◌, if◌then◌else◌, slice_index, w64, w128, big_number, length-append, nat_tests, then_some, Variant, int64, uint64, decimal64, decimal128, number_from, zero_number, Extension, Tree, null, boolean, number, text, extension, array, object, Trees, no_trees, tree, Pairs, no_pairs, pair, count, keys, values, Form, any, canonical, NumberReader, number_reader, is_width, signed, fixed, number_of, array_header, object_header, BeginWith, IsContainer, AreMembers, IsContent, AreEntries, AreValues, key_bytes, content, words, contents, value_words, value_contents, widest_number, content_size, elements_size, values_size, ◌++◌, members, trees_of, AreKeys, Decodes, keys_of, IsShort, HasShortParts, HasShortElements, IsWithinLimits, IsTooLarge}
+use Rattle.jsonb_doc.proofs.ScalarLemmas.{some_injective}
+use Rattle.jsonb_doc.specs.Number.{Number}
+use Rattle.jsonb_doc.proofs.Entries.{canonical_payload}
+use Rattle.jsonb_doc.proofs.Containers.{length-words, entries_of, count-values, length-key_words, object_document}
 use Rattle.jsonb_doc.proofs.TreeLists.{keys_of-members}
-use Rattle.jsonb_doc.proofs.Containers.{object_document}
+
+only : {A : Type 0} (b : Bool) (x n : A) → then_some b x ≡ Some n → (b ≡ true) × (x ≡ n)
+only b x n h = grind (arith, some_injective)
+
+pub same_length : (n k : ℕ) → (n == k) ≡ true → n ≡ k
+same_length n k h = grind (arith, nat_tests)
+
+widest_of : (variant : Variant) (whole : ℤ) (scale k : ℕ) (n : Number) → number_from variant whole scale ≡ n → k ≤ widest_number variant (pos 1)
+    → k ≤ widest_number n.variant n.whole
+widest_of variant whole scale k n is h = rw (← is) (grind arith)
+
+-- which of the payloads a number is
+pub number_cases : (a b c d none short nine seventeen : Bool) (zero_one signed_one unsigned_one small large n : Number)
+    → (if a then then_some none zero_one
+    else if b then then_some short signed_one
+    else if c then then_some short unsigned_one
+    else if d then (if nine then Some small else then_some seventeen large)
+    else None) ≡ Some n
+    → ((none ≡ true) × (zero_one ≡ n))
+    ⊎ (((short ≡ true) × (signed_one ≡ n)) ⊎ (((short ≡ true) × (unsigned_one ≡ n)) ⊎ (((nine ≡ true) × (small ≡ n)) ⊎ ((seventeen ≡ true) × (large ≡ n)))))
+number_cases a b c d none short nine seventeen zero_one signed_one unsigned_one small large n h = grind (arith, only, some_injective)
+
+-- a payload is no longer than the widest of its number
+number_size : (bytes : List ℕ) (n : Number) → number_of bytes ≡ Some n → length bytes ≤ widest_number n.variant n.whole
+unfolding number_of
+number_size [] n e = absurd (cc)
+number_size (first ∷ rest) n e = elim
+    (number_cases (first == 0x00) (first == 0x40) (first == 0x50) (first == 0x70) (length rest == 0) (is_width (length rest)) (length rest == 9)
+    (length rest == 17) zero_number (number_from int64 (signed (length rest) rest) 0) (number_from uint64 (pos (big_number (length rest) rest)) 0)
+    (number_from decimal64 (fixed w64 rest) (slice_index rest 8)) (number_from decimal128 (fixed w128 rest) (slice_index rest 16)) n e) [
+      | inl f ↦ let len = same_length (length rest) 0 f.0 in rw (← f.1) (omega (arith, len))
+      | inr (inl f) ↦ grind (arith, nat_tests, widest_of)
+      | inr (inr (inl f)) ↦ grind (arith, nat_tests, widest_of)
+      | inr (inr (inr (inl f))) ↦ grind (arith, nat_tests, widest_of)
+      | inr (inr (inr (inr f))) ↦ grind (arith, nat_tests, widest_of)
+    ]
+
+-- which of the payloads an extension is
+pub extension_cases : (a b c d e four eight twelve sixteen : Bool) (p q r s t x : Extension)
+    → (if a then Some p
+    else if b then then_some four q
+    else if c then then_some eight r
+    else if d then then_some twelve s
+    else if e then then_some sixteen t
+    else None) ≡ Some x
+    → ((a ≡ true) × (p ≡ x)) ⊎
+    (((b ≡ true) × (four ≡ true) × (q ≡ x))
+    ⊎ (((c ≡ true) × (eight ≡ true) × (r ≡ x)) ⊎ (((d ≡ true) × (twelve ≡ true) × (s ≡ x)) ⊎ ((e ≡ true) × (sixteen ≡ true) × (t ≡ x)))))
+extension_cases a b c d e four eight twelve sixteen p q r s t x h = search (arith, some_injective, only)
+
+-- ---- how long the bytes of containers are
+
+module _ (number_at : NumberReader) (bytes : List ℕ) where
+  pub length-array : (ts : Trees) (c : IsContainer array_header (count ts) (AreEntries number_at ts) bytes)
+      → length bytes ≡ 4 + (4 * count ts + length c.contents)
+  length-array ts c = grind (arith, length-append, length-words)
+
+  pub length-object : (ps : Pairs) (c : IsContainer object_header (length (keys ps)) (AreMembers (keys ps) (AreValues number_at ps)) bytes)
+      → length bytes ≡ 4 + (8 * length (keys ps) + (length (key_bytes (keys ps)) + length c.parts.value_contents))
+  length-object ps c = grind (arith, entries_of, length-append, length-key_words, length-words, count-values)
+
+length-canonical_words : (ts : Trees) → length (words ts) ≡ 4 * count ts
+length-canonical_words no_trees = refl
+length-canonical_words (tree t ts) = omega (arith, length-canonical_words ts)
+
+length-value_words : (ps : Pairs) → length (value_words ps) ≡ 4 * length (keys ps)
+length-value_words no_pairs = refl
+length-value_words (pair key t ps) = omega (arith, length-value_words ps)
+
+pub length-canonical_array : (ts : Trees) → length (content (array ts)) ≡ 4 + (4 * count ts + length (contents ts))
+length-canonical_array ts = omega (arith, length-append (words ts) (contents ts), length-canonical_words ts)
+
+pub length-canonical_object : (ps : Pairs)
+    → length (content (object ps)) ≡ 4 + (8 * length (keys ps) + (length (key_bytes (keys ps)) + length (value_contents ps)))
+length-canonical_object ps = grind (arith, length-append, length-key_words, length-value_words)
+
+-- the contents of the first and of the others make the whole
+pub length-contents : (words contents : List ℕ) (kind : ℕ) (content other_words other_contents : List ℕ)
+    → BeginWith words contents kind content other_words other_contents → length contents ≡ length content + length other_contents
+length-contents words contents kind content other_words other_contents b = ap length b.contents_joined ∙ length-append content other_contents
+
+mutual
+  widest : (t : Tree) (kind : ℕ) (bytes : List ℕ) → IsContent number_of t kind bytes → length bytes ≤ content_size any t
+  widest null kind bytes h = omega (arith, ap length h.1)
+  widest (boolean true) kind bytes h = omega (arith, ap length h.1)
+  widest (boolean false) kind bytes h = omega (arith, ap length h.1)
+  widest (number n) kind bytes h = number_size bytes n h.1
+  widest (text s) kind bytes h = omega (arith, ap length h.1)
+  widest (extension x) kind bytes h = omega (arith, ap length h.2)
+  widest (array ts) kind bytes (is, c) = omega (arith, length-array number_of bytes ts c, widest_entries ts c.words c.contents c.parts)
+  widest (object ps) kind bytes (is, c) =
+      omega (arith, length-object number_of bytes ps c, widest_pairs ps c.parts.value_words c.parts.value_contents c.parts.values)
+
+  widest_entries : (ts : Trees) (ws cs : List ℕ) → AreEntries number_of ts ws cs → length cs ≤ elements_size any ts
+  widest_entries no_trees ws cs h = omega (arith, ap length h.1)
+  widest_entries (tree t ts) ws cs e =
+      omega (arith, length-contents _ _ _ _ _ _ e.begin, widest t e.kind e.content e.part, widest_entries ts e.other_words e.other_contents e.others)
+
+  widest_pairs : (ps : Pairs) (ws cs : List ℕ) → AreValues number_of ps ws cs → length cs ≤ values_size any ps
+  widest_pairs no_pairs ws cs h = omega (arith, ap length h.1)
+  widest_pairs (pair key t ps) ws cs e =
+      omega (arith, length-contents _ _ _ _ _ _ e.begin, widest t e.kind e.content e.part, widest_pairs ps e.other_words e.other_contents e.others)
+
+mutual
+  -- a canonical content is as long as stated
+  pub length-content : (t : Tree) → length (content t) ≡ content_size canonical t
+  length-content (array ts) = omega (arith, length-canonical_array ts, length-elements ts)
+  length-content (object ps) = omega (arith, length-canonical_object ps, length-values ps)
+  length-content null = refl
+  length-content _ = refl
+
+  length-elements : (ts : Trees) → length (contents ts) ≡ elements_size canonical ts
+  length-elements no_trees = refl
+  length-elements (tree t ts) = omega (arith, length-append (content t) (contents ts), length-content t, length-elements ts)
+
+  length-values : (ps : Pairs) → length (value_contents ps) ≡ values_size canonical ps
+  length-values no_pairs = refl
+  length-values (pair key t ps) = omega (arith, length-append (content t) (value_contents ps), length-content t, length-values ps)
+
+mutual
+  shortest : (t : Tree) (kind : ℕ) (bytes : List ℕ) → IsContent (number_reader canonical) t kind bytes → length bytes ≡ content_size canonical t
+  shortest null kind bytes h = ap length h.1
+  shortest (boolean true) kind bytes h = ap length h.1
+  shortest (boolean false) kind bytes h = ap length h.1
+  shortest (number n) kind bytes h = ap length (canonical_payload bytes n h.1)
+  shortest (text s) kind bytes h = ap length h.1
+  shortest (extension x) kind bytes h = ap length h.2
+  shortest (array ts) kind bytes (is, c) =
+      omega (arith, length-array (number_reader canonical) bytes ts c, shortest_entries ts c.words c.contents c.parts)
+  shortest (object ps) kind bytes (is, c) =
+      let m = c.parts in
+      omega (arith, length-object (number_reader canonical) bytes ps c, shortest_values ps m.value_words m.value_contents m.values)
+
+  shortest_entries : (ts : Trees) (ws cs : List ℕ) → AreEntries (number_reader canonical) ts ws cs → length cs ≡ elements_size canonical ts
+  shortest_entries no_trees ws cs h = ap length h.1
+  shortest_entries (tree t ts) ws cs e =
+      omega (arith, length-contents _ _ _ _ _ _ e.begin, shortest t e.kind e.content e.part, shortest_entries ts e.other_words e.other_contents e.others)
+
+  shortest_values : (ps : Pairs) (ws cs : List ℕ) → AreValues (number_reader canonical) ps ws cs → length cs ≡ values_size canonical ps
+  shortest_values no_pairs ws cs h = ap length h.1
+  shortest_values (pair key t ps) ws cs e =
+      omega (arith, length-contents _ _ _ _ _ _ e.begin, shortest t e.kind e.content e.part, shortest_values ps e.other_words e.other_contents e.others)
+
+-- a content is no longer than the tree may be in its form
+pub size_within : (form : Form) (t : Tree) (kind : ℕ) (bytes : List ℕ) → IsContent (number_reader form) t kind bytes → length bytes ≤ content_size form t
+size_within form t kind bytes h = grind (arith, widest, shortest)
 
 fewer_trees : (ts us : List Tree) → count (trees_of ts) ≤ count (trees_of (ts ++ us))
 fewer_trees [] us = omega arith

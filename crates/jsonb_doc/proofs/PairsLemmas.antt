@@ -1,7 +1,6 @@
 -- The iterator over pairs and its first item.
-use Rattle.jsonb_doc.proofs.Common.{◌≡◌, ◌≢◌, ℕ, ◌<◌, List, [], ◌∷◌, ◌++◌, length, Option, Some, ap, arith, IsUtf8, Tree, object, Pairs, no_pairs, pair, keys, values, pairs_in, NumberReader, Form, number_reader, Decodes, AreValues, AreKeys, key_words, key_bytes, BeginWith, HasFirstEntry, IsContent, HasPairsLeft, HasKeysLeft, HasElementsLeft, HasAllValues, SameOption, KeyIter, ValueIter, PairIter, StandBefore, IsCut, Holds, HasPairParts, ObjectParts, Object}
-use Rattle.jsonb_doc.proofs.KeysRead.{begin_key}
-use Rattle.jsonb_doc.proofs.LengthsLemmas.{HoldKeys-before}
+use Rattle.jsonb_doc.proofs.Common.{◌≡◌, ◌≢◌, ℕ, ◌<◌, List, [], ◌∷◌, ◌++◌, length, Option, Some, ap, arith, IsUtf8, Tree, object, Pairs, no_pairs, pair, keys, values, pairs_in, NumberReader, Form, number_reader, Decodes, AreValues, AreKeys, key_words, key_bytes, BeginWith, HasFirstEntry, IsContent, HasPairsLeft, HasKeysLeft, HasElementsLeft, SameOption, KeyIter, ValueIter, PairIter, StandBefore, IsCut, Holds, HasPairParts, ObjectParts, Object}
+use Rattle.jsonb_doc.proofs.Entries.{begin_key, HoldKeys-before}
 use Rattle.jsonb_doc.proofs.Containers.{entries_of, HoldsPairs-keys, Decodes-object, Holds-pairs}
 
 -- the iterators of a tree's pairs, of its keys and of its values
@@ -79,11 +78,6 @@ pub only_object : (form : Form) (bytes : List ℕ) (p : ObjectParts) → IsCut b
 only_object form bytes p cut t h other =
     let found = Holds-pairs form bytes t p (Decodes-object form bytes p cut t h) h in
     other found.0 found.1
-
--- an object's parts are its keys and all that the iterator over its values has
-pub IsCut-values : (bytes : List ℕ) (it : ValueIter) (p : ObjectParts) → it.elements.entries.words.now ≡ p.value_words.now
-    → (front : List ℕ) × (p.contents.now ≡ front ++ it.elements.entries.contents.now) → IsCut bytes (Object p) → HasAllValues bytes it
-IsCut-values bytes it p h e k = grind arith
 
 -- the first of the keys, as the bytes hold it
 pub record FirstKey (it : KeyIter) (ks : List (List ℕ)) : Type 0 where

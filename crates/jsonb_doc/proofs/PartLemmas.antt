@@ -28,10 +28,6 @@ abbrev pub still : Option Remaining → ℕ
 still None = 0
 still (Some r) = 1 + remaining r
 
-pub less_still : (before after : Option Remaining) (r : Remaining) → before ≡ Some r → IfSome after (λ left. remaining left < remaining r)
-    → still after < still before
-less_still before after r h e = grind arith
-
 -- ---- the parts
 
 pub some_tree_parts : (t : Tree) → 0 < tree_parts t
@@ -59,7 +55,7 @@ waiting_parts-container waiting v h = grind arith
 abbrev Exchanges : List Entry → List Entry → Value → Value → Type 0
 Exchanges es fs v w = (entries_parts fs + parts v ≡ entries_parts es + parts w) × (parts v ≤ entries_parts es)
 
-exchanged : (es : List Entry) (k : String Global) (v w : Value) → keys_of (insert_entry string_cmp es k w) ≡ keys_of es
+pub exchanged : (es : List Entry) (k : String Global) (v w : Value) → keys_of (insert_entry string_cmp es k w) ≡ keys_of es
     → lookup (is_at (string_cmp k)) es ≡ Some v → Exchanges es (insert_entry string_cmp es k w) v w
 exchanged [] k v w kept found = absurd (cc)
 exchanged (e ∷ es) k v w kept found = by (exchanged es k v w) (string_cmp k e.0) kept found
@@ -70,9 +66,3 @@ exchanged (e ∷ es) k v w kept found = by (exchanged es k v w) (string_cmp k e.
     by behind Less kept found = absurd (let longer = ap length kept in omega arith)
     by behind Equal kept found = let same : e.1 ≡ v = cc in rw (← same) (omega arith, omega arith)
     by behind Greater kept found = let rest = behind (ap (drop 1) kept) found in (omega (arith, rest.0), omega (arith, rest.1))
-
-pub fewer_exchanged : (members after : BTreeMap (String Global) Value) (k : String Global) (v w : Value) → after.entries ≡ insert_entry string_cmp
-    members.entries k w
-    → keys_of after.entries ≡ keys_of members.entries → lookup (is_at (string_cmp k)) members.entries ≡ Some v
-    → remaining (record { next = v; waiting = Some (Object after) }) < to_release (1 + entries_parts members.entries) (parts w)
-fewer_exchanged members after k v w h e f = grind (arith, exchanged, parts-Object, fewer_in_front)

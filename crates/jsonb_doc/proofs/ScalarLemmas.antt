@@ -57,7 +57,7 @@ empty_judged kind bytes t (Ok x) p q r s is e = (t, is e)
 empty_judged kind bytes t (Err e) p q r s is fails =
     rw fails.0 (λ h. fails.1 (empty_only number_or_unsupported kind bytes p q r s h))
 
-unsupported_is : (bytes : List ℕ) → is_unsupported bytes ≡ true → number_of bytes ≡ None → (n : spec.Number) × (number_or_unsupported bytes ≡ Some n)
+pub unsupported_is : (bytes : List ℕ) → is_unsupported bytes ≡ true → number_of bytes ≡ None → (n : spec.Number) × (number_or_unsupported bytes ≡ Some n)
 unsupported_is bytes holds fails = (spec.zero_number, rw (fails, holds) refl)
 
 pub number_refused : (kind : ℕ) (bytes : List ℕ) (e : Error) → kind ≡ 2 → IsNoNumber bytes e → IsValidationError (HasContent kind bytes) e

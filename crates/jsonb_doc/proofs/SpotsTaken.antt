@@ -34,6 +34,3 @@ some_spots bytes it found h = grind arith
 -- an item without an iterator has no children
 pub no_spots : (bytes : List ℕ) (found : Option (List Tree)) → SameOption (HasSpotsLeft bytes) None found → found ≡ None
 no_spots bytes found h = grind arith
-
-pub no_spot : (bytes : List ℕ) (found : Option Tree) → SameOption (Locates bytes) None found → found ≡ None
-no_spot bytes found h = grind arith

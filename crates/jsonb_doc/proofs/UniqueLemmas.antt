@@ -1,5 +1,5 @@
 -- Sorted members without duplicate keys are those that are inserted one after the other.
-use Rattle.jsonb_doc.proofs.Common.{◌≡◌, ℕ, suc, ◌≤◌, List, [], ◌∷◌, length, map, refl, sym, ap, subst, ◌∙◌, arith, Bool, true, false, cond, Some, None, Option, Ordering, Less, Equal, Greater, nat_cmp, ◌<◌, filter, unwrap_or, Result, OnOk, if◌then◌else◌, not, ◌&&◌, ⊤, AllByRecursion, IsSortedBy, IsStableBy, IsStrictlySortedBy, ties, keys_of, lookup, is_at, is_lt, is_eq, ordering_reverse, slice_cmp, nat_list_cmp_total, nil_from_length, is_eq-slice_cmp, bytes_eq-Decides, has_key, insert_pair, insert_all, AreSortedKeys, has_lower_key, unique, as_pair, is_below_first, Part, Nested, Member, common_steps}
+use Rattle.jsonb_doc.proofs.Common.{◌≡◌, ℕ, suc, ◌≤◌, List, [], ◌∷◌, length, map, refl, sym, ap, subst, ◌∙◌, arith, Bool, true, false, cond, Some, None, Option, Ordering, Less, Equal, Greater, nat_cmp, filter, unwrap_or, Result, OnOk, if◌then◌else◌, not, ◌&&◌, ⊤, AllByRecursion, IsSortedBy, IsStableBy, IsStrictlySortedBy, ties, keys_of, lookup, is_at, is_lt, is_eq, ordering_reverse, slice_cmp, nat_list_cmp_total, nil_from_length, is_eq-slice_cmp, bytes_eq-Decides, has_key, insert_pair, insert_all, AreSortedKeys, has_lower_key, unique, as_pair, is_below_first, Part, Nested, Member, common_steps}
 use Rattle.jsonb_doc.specs.declared.layout.HeaderKind.TheVariants.{Array}
 
 abbrev cmp : List ℕ → List ℕ → Ordering
@@ -227,21 +227,13 @@ unique_inserted ms (n ∷ ns) len sorted stable =
 
 -- ---- fewer members
 
-few : (ms : List Member) → length (unique ms) ≤ length ms
+pub few : (ms : List Member) → length (unique ms) ≤ length ms
 few [] = omega arith
 few (m ∷ ms) = grind (arith, few ms)
-
-pub fewer_left : (left : List Member) (m : Member) (others : List Member) → left ≡ m ∷ others → is_below_first m.key.now others ≡ false
-    → length (unique left) < length left
-fewer_left left m others h e = grind (arith, Member, few)
 
 pub same_left : (left : List Member) (m : Member) (others : List Member) → left ≡ m ∷ others → is_below_first m.key.now others ≡ true
     → unique left ≡ m ∷ unique others
 same_left left m others is below = ap unique is ∙ ap (λ (b : Bool). if b then m ∷ unique others else unique others) below
-
-pub stays_left : (left : List Member) (m : Member) (others : List Member) → left ≡ m ∷ others → is_below_first m.key.now others ≡ true
-    → unique others ≡ others → unique left ≡ left
-stays_left left m others is below stay = same_left left m others is below ∙ ap (λ (ms : List Member). m ∷ ms) stay ∙ sym is
 
 -- ---- results
 

@@ -4,7 +4,7 @@ use Rattle.jsonb_doc.specs.declared.layout.HeaderKind.TheVariants.{Scalar}
 use Rattle.jsonb_doc.specs.declared.layout.HeaderKind.TheVariants.{Object, Array}
 use Rattle.jsonb_doc.specs.Private.Writer.{AreAround}
 use Rattle.jsonb_doc.proofs.TreeLists.{count-trees_of, keys-pairs_of}
-use Rattle.jsonb_doc.proofs.Sizes.{size_within}
+use Rattle.jsonb_doc.proofs.LimitLemmas.{size_within}
 
 Member : Type 0
 Member = List ℕ × Tree

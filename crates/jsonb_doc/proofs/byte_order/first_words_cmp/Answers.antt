@@ -1,5 +1,4 @@
-use Rattle.jsonb_doc.proofs.Common.{rules}
-use Rattle.jsonb_doc.proofs.ByteOrderLemmas.{order_of_words}
+use Rattle.jsonb_doc.proofs.Lemmas.{rules, order_of_words}
 use Rattle.jsonb_doc.proofs.byte_order.first_words_cmp.Goals as goal
 
 pub returns : goal.returns

@@ -1,8 +1,4 @@
-use Rattle.jsonb_doc.proofs.Common.{rules, ◌≡◌, ◌≢◌, ℕ, ◌+◌, ◌<◌, arith, nat_eq, if◌then◌else◌, sym, ap, ◌∙◌, length, Some, None, ◌↔◌, option_copied, false≢true, nat_tests, nil_from_length, length-append, common_steps, NumberReader, number_or_unsupported, HasContent, HasEntries, HasLarge, kind_number, Container}
-use Rattle.jsonb_doc.proofs.Entries.{HasEntries-nil, HasEntries-empty, HasEntries-stop, HasEntries-step, has_content_lenient}
-use Rattle.jsonb_doc.proofs.Halves.{halvings-more, halvings-fewer}
-use Rattle.jsonb_doc.proofs.CheckingLemmas.{Leaves-along, Leaves-entries, Leaves-good, Leaves-unsupported, IsValidationError-other, IsApart-within, IsApart-less, IsApart-one, IsApart-large}
-use Rattle.jsonb_doc.proofs.KindLemmas.{same_kind, other_kind}
+use Rattle.jsonb_doc.proofs.Lemmas.{rules, ◌≡◌, ◌≢◌, ℕ, ◌+◌, ◌<◌, arith, nat_eq, if◌then◌else◌, sym, ap, ◌∙◌, length, Some, None, ◌↔◌, option_copied, false≢true, nat_tests, nil_from_length, length-append, common_steps, NumberReader, number_or_unsupported, HasContent, HasEntries, HasLarge, kind_number, Container, HasEntries-nil, HasEntries-empty, HasEntries-stop, HasEntries-step, has_content_lenient, halvings-more, halvings-fewer, Leaves-along, Leaves-entries, Leaves-good, Leaves-unsupported, IsValidationError-other, IsApart-within, IsApart-less, IsApart-one, IsApart-large, same_kind, other_kind}
 use Rattle.jsonb_doc.proofs.checking.+check.Goals.{check_entries-then-eq+then-entry-half, check_entries-else-eq+in-Ok, check_entries-else-eq+in-Err+in-UnsupportedNumber}
 use Rattle.jsonb_doc.proofs.checking.+check.Goals as goal
 

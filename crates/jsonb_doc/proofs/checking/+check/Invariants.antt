@@ -1,6 +1,4 @@
-use Rattle.jsonb_doc.proofs.Common.{◌*◌, ◌+◌, ◌≤◌, length, nat_eq, if◌then◌else◌, option_copied, HasContent, HasEntries, HasLarge, ReducesTo, kind_number}
-use Rattle.jsonb_doc.proofs.Halves.{halvings}
-use Rattle.jsonb_doc.proofs.CheckingLemmas.{IsApart}
+use Rattle.jsonb_doc.proofs.Lemmas.{◌*◌, ◌+◌, ◌≤◌, length, nat_eq, if◌then◌else◌, option_copied, HasContent, HasEntries, HasLarge, ReducesTo, kind_number, halvings, IsApart}
 use Rattle.jsonb_doc.proofs.checking.+check.Given as goal
 
 -- calls nest no deeper than the length can be halved

@@ -1,6 +1,4 @@
-use Rattle.jsonb_doc.proofs.Common.{rules}
-use Rattle.jsonb_doc.proofs.ScalarLemmas.{Validates-along}
-use Rattle.jsonb_doc.proofs.Containers.{HasDocument-scalar}
+use Rattle.jsonb_doc.proofs.Lemmas.{rules, Validates-along, HasDocument-scalar}
 use Rattle.jsonb_doc.proofs.checking.check_document.Goals as goal
 
 pub returns-in-Scalar : goal.returns-in-Scalar

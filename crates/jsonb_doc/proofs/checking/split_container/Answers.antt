@@ -1,5 +1,4 @@
-use Rattle.jsonb_doc.proofs.Common.{rules, arith, number_or_unsupported}
-use Rattle.jsonb_doc.proofs.Containers.{IsCut-scalar, HasContent-array, HasContent-keys, HasContent-object, HasKeys-room}
+use Rattle.jsonb_doc.proofs.Lemmas.{rules, arith, number_or_unsupported, IsCut-scalar, HasContent-array, HasContent-keys, HasContent-object, HasKeys-room}
 use Rattle.jsonb_doc.proofs.checking.split_container.Goals as goal
 
 pub returns-in-Scalar : goal.returns-in-Scalar

@@ -1,5 +1,4 @@
-use Rattle.jsonb_doc.proofs.Common.{refl}
-use Rattle.jsonb_doc.proofs.ChildPositionsLemmas.{array_opened}
+use Rattle.jsonb_doc.proofs.Lemmas.{refl, array_opened}
 use Rattle.jsonb_doc.proofs.child_positions.element_positions.Goals as goal
 
 pub returns : goal.returns

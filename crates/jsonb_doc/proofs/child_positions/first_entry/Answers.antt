@@ -1,5 +1,4 @@
-use Rattle.jsonb_doc.proofs.Common.{refl, ◌∷◌, ◌∙◌}
-use Rattle.jsonb_doc.proofs.ChildPositionsLemmas.{at_spots, first_read, first_not_read, others_at}
+use Rattle.jsonb_doc.proofs.Lemmas.{refl, ◌∷◌, ◌∙◌, at_spots, first_read, first_not_read, others_at}
 use Rattle.jsonb_doc.proofs.child_positions.first_entry.Goals as goal
 
 pub returns-in_err-spot-clause-first : goal.returns-in_err-spot-clause-first

@@ -1,5 +1,4 @@
-use Rattle.jsonb_doc.proofs.Common.{rules}
-use Rattle.jsonb_doc.proofs.ChildPositionsLemmas.{keys_end, object_opened}
+use Rattle.jsonb_doc.proofs.Lemmas.{rules, keys_end, object_opened}
 use Rattle.jsonb_doc.proofs.child_positions.member_positions.Goals as goal
 
 pub returns-in_err-values-clause-members : goal.returns-in_err-values-clause-members

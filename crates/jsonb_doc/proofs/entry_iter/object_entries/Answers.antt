@@ -1,6 +1,4 @@
-use Rattle.jsonb_doc.proofs.Common.{object, number_reader}
-use Rattle.jsonb_doc.proofs.Containers.{Decodes-object}
-use Rattle.jsonb_doc.proofs.PairsLemmas.{only_object}
+use Rattle.jsonb_doc.proofs.Lemmas.{object, number_reader, Decodes-object, only_object}
 use Rattle.jsonb_doc.proofs.entry_iter.object_entries.Goals as goal
 
 pub returns-in_err-parts-clause-decodes : goal.returns-in_err-parts-clause-decodes

@@ -1,7 +1,4 @@
-use Rattle.jsonb_doc.proofs.Common.{◌≡◌, ◌-◌, length, take, keys, key_bytes}
-use Rattle.jsonb_doc.proofs.Containers.{entries_of}
-use Rattle.jsonb_doc.proofs.KeyEntries.{key_entries, front_of}
-use Rattle.jsonb_doc.proofs.PairsLemmas.{HoldsPairs-skipped, HoldsPairs-values}
+use Rattle.jsonb_doc.proofs.Lemmas.{◌≡◌, ◌-◌, length, take, keys, key_bytes, entries_of, key_entries, front_of, HoldsPairs-skipped, HoldsPairs-values}
 use Rattle.jsonb_doc.proofs.entry_iter.pair_entries.Goals as goal
 
 pub returns-in_err-values-clause-entries : goal.returns-in_err-values-clause-entries

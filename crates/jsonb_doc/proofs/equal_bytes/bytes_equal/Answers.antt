@@ -1,5 +1,4 @@
-use Rattle.jsonb_doc.proofs.Common.{rules}
-use Rattle.jsonb_doc.proofs.EqualBytesLemmas.{ends_tell}
+use Rattle.jsonb_doc.proofs.Lemmas.{rules, ends_tell}
 use Rattle.jsonb_doc.proofs.equal_bytes.bytes_equal.Goals as goal
 
 pub returns-then-len-le8 : goal.returns-then-len-le8

@@ -1,5 +1,4 @@
-use Rattle.jsonb_doc.proofs.Common.{arith, w32}
-use Rattle.jsonb_doc.proofs.EqualBytesLemmas.{ends_are, short_words}
+use Rattle.jsonb_doc.proofs.Lemmas.{arith, w32, ends_are, short_words}
 use Rattle.jsonb_doc.proofs.equal_bytes.ends.Goals as goal
 
 pub returns : goal.returns

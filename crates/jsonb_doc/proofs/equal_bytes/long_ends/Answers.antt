@@ -1,5 +1,4 @@
-use Rattle.jsonb_doc.proofs.Common.{arith, w64}
-use Rattle.jsonb_doc.proofs.EqualBytesLemmas.{ends_are, long_words}
+use Rattle.jsonb_doc.proofs.Lemmas.{arith, w64, ends_are, long_words}
 use Rattle.jsonb_doc.proofs.equal_bytes.long_ends.Goals as goal
 
 pub returns : goal.returns

@@ -1,5 +1,4 @@
-use Rattle.jsonb_doc.proofs.Common.{rules}
-use Rattle.jsonb_doc.proofs.OneRun.{plain_stands}
+use Rattle.jsonb_doc.proofs.Lemmas.{rules, plain_stands}
 use Rattle.jsonb_doc.proofs.event_list.collected_document.Goals as goal
 
 pub returns-in-Text : goal.returns-in-Text

@@ -1,8 +1,4 @@
-use Rattle.jsonb_doc.proofs.Common.{subst, Tree, Decodes}
-use Rattle.jsonb_doc.proofs.EventListLemmas.{events_of}
-use Rattle.jsonb_doc.proofs.OneRun.{same_tree}
-use Rattle.jsonb_doc.proofs.ListErrors.{tree_fails, write_fails}
-use Rattle.jsonb_doc.proofs.EventLemmas.{err_is}
+use Rattle.jsonb_doc.proofs.Lemmas.{subst, Tree, Decodes, events_of, same_tree, tree_fails, write_fails, err_is}
 use Rattle.jsonb_doc.proofs.event_list.document_from_events.Goals as goal
 
 pub returns-in_err-collected-clause-complete : goal.returns-in_err-collected-clause-complete

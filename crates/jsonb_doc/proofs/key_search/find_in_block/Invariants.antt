@@ -1,4 +1,4 @@
-use Rattle.jsonb_doc.proofs.Common.{ℕ, ◌*◌, ◌^◌, ◌≤◌, List, length, drop, HoldKeys, KeysLeft}
+use Rattle.jsonb_doc.proofs.Lemmas.{ℕ, ◌*◌, ◌^◌, ◌≤◌, List, length, drop, HoldKeys, KeysLeft}
 use Rattle.jsonb_doc.proofs.key_search.find_in_block.Given as goal
 
 -- the name is none of the keys so far

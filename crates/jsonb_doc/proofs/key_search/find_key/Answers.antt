@@ -1,7 +1,4 @@
-use Rattle.jsonb_doc.proofs.Common.{arith}
-use Rattle.jsonb_doc.proofs.FieldLemmas.{KeysLeft-start, KeysLeft-end}
-use Rattle.jsonb_doc.proofs.KeyBlocks.{found_among}
-use Rattle.jsonb_doc.proofs.Basics.{zero_of}
+use Rattle.jsonb_doc.proofs.Lemmas.{arith, KeysLeft-start, KeysLeft-end, found_among, zero_of}
 use Rattle.jsonb_doc.proofs.key_search.find_key.Goals as goal
 
 pub returns-then-is_empty-clause-found : goal.returns-then-is_empty-clause-found

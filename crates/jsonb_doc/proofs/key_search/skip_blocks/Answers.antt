@@ -1,5 +1,4 @@
-use Rattle.jsonb_doc.proofs.Common.{arith}
-use Rattle.jsonb_doc.proofs.KeyBlocks.{KeysLeft-further}
+use Rattle.jsonb_doc.proofs.Lemmas.{arith, KeysLeft-further}
 use Rattle.jsonb_doc.proofs.key_search.skip_blocks.Goals as goal
 
 pub loop-other_words-preserved : goal.loop-other_words-preserved

@@ -1,4 +1,4 @@
-use Rattle.jsonb_doc.proofs.Common.{ℕ, ◌≤◌, List, length, HoldKeys, KeysLeft}
+use Rattle.jsonb_doc.proofs.Lemmas.{ℕ, ◌≤◌, List, length, HoldKeys, KeysLeft}
 use Rattle.jsonb_doc.proofs.key_search.skip_blocks.Given as goal
 
 -- the name is none of the keys that were skipped

@@ -1,4 +1,4 @@
-use Rattle.jsonb_doc.proofs.DecodedFits.{decoded_fits}
+use Rattle.jsonb_doc.proofs.Lemmas.{decoded_fits}
 use Rattle.jsonb_doc.proofs.laws.decoded_fits.Goals as goal
 
 pub returns : goal.returns

@@ -1,5 +1,4 @@
-use Rattle.jsonb_doc.proofs.Common.{◌∙◌, sym}
-use Rattle.jsonb_doc.proofs.OneDocument.{one_canonical_document}
+use Rattle.jsonb_doc.proofs.Lemmas.{◌∙◌, sym, one_canonical_document}
 use Rattle.jsonb_doc.proofs.laws.one_canonical_document.Goals as goal
 
 pub returns : goal.returns

@@ -1,5 +1,4 @@
-use Rattle.jsonb_doc.proofs.Common.{rules, arith, common_steps}
-use Rattle.jsonb_doc.proofs.SpotsLemmas.{StartWith-begin, StartWith-length}
+use Rattle.jsonb_doc.proofs.Lemmas.{rules, arith, common_steps, StartWith-begin, StartWith-length}
 use Rattle.jsonb_doc.proofs.layout.split_entry.Goals as goal
 
 pub returns-then-contents-len : goal.returns-then-contents-len

@@ -1,5 +1,4 @@
-use Rattle.jsonb_doc.proofs.Common.{rules, arith, common_steps}
-use Rattle.jsonb_doc.proofs.LengthsLemmas.{nothing_before, StandBefore-joined, IsPart-some, IsPart-end, IsPart-size}
+use Rattle.jsonb_doc.proofs.Lemmas.{rules, arith, common_steps, nothing_before, StandBefore-joined, IsPart-some, IsPart-end, IsPart-size}
 use Rattle.jsonb_doc.proofs.lengths.skip_contents.Goals as goal
 
 pub returns-clause-rest : goal.returns-clause-rest

@@ -1,6 +1,5 @@
-use Rattle.jsonb_doc.proofs.Common.{arith, common_steps}
-use Rattle.jsonb_doc.proofs.LengthsLemmas.{told_lengths, lengths_added}
+use Rattle.jsonb_doc.proofs.Lemmas.{arith, common_steps, told_lengths}
 use Rattle.jsonb_doc.proofs.lengths.sum_lengths.Goals as goal
 
 pub returns-clause-contents : goal.returns-clause-contents
-returns-clause-contents c = λ parts contents rest h. grind (arith, common_steps, lengths_added, told_lengths)
+returns-clause-contents c = λ parts contents rest h. grind (arith, common_steps, told_lengths)

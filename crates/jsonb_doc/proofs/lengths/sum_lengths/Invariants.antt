@@ -1,5 +1,4 @@
-use Rattle.jsonb_doc.proofs.Common.{◌≡◌, ◌+◌, ◌*◌, ◌^◌, ◌≤◌, map, sum, drop}
-use Rattle.jsonb_doc.proofs.LengthsLemmas.{told}
+use Rattle.jsonb_doc.proofs.Lemmas.{◌≡◌, ◌+◌, ◌*◌, ◌^◌, ◌≤◌, map, sum, drop, told}
 use Rattle.jsonb_doc.proofs.lengths.sum_lengths.Given as goal
 
 -- the length so far and those that are left make up all lengths

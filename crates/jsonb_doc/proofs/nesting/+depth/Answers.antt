@@ -1,8 +1,4 @@
-use Rattle.jsonb_doc.proofs.Common.{rules, ◌≡◌, ◌+◌, arith, ap, length, sym, ◌∙◌, option_copied, length-append, number_reader, parts_of, Container}
-use Rattle.jsonb_doc.proofs.Halves.{halvings-more, halvings-fewer}
-use Rattle.jsonb_doc.proofs.CheckingLemmas.{IsApart-within, IsApart-less, IsApart-one}
-use Rattle.jsonb_doc.proofs.DepthLemmas.{max_of, no_parts, scalar_parts, container_decodes, AreDeep-large, AreDeep-whole, EntriesLeft-none, EntriesLeft-next, EntriesLeft-aside}
-use Rattle.jsonb_doc.proofs.KindLemmas.{same_kind, other_kind}
+use Rattle.jsonb_doc.proofs.Lemmas.{rules, ◌≡◌, ◌+◌, arith, ap, length, sym, ◌∙◌, option_copied, length-append, number_reader, parts_of, Container, halvings-more, halvings-fewer, IsApart-within, IsApart-less, IsApart-one, max_of, no_parts, scalar_parts, container_decodes, AreDeep-large, AreDeep-whole, EntriesLeft-none, EntriesLeft-next, EntriesLeft-aside, same_kind, other_kind}
 use Rattle.jsonb_doc.proofs.nesting.+depth.Goals.{entries_depth-then-eq+then-entry-half, entries_depth-then-eq+else-entry-half, entries_depth-else-eq, document_depth-in-Some+in_default-large, document_depth-in_default}
 use Rattle.jsonb_doc.proofs.nesting.+depth.Goals as goal
 

@@ -1,7 +1,4 @@
-use Rattle.jsonb_doc.proofs.Common.{◌≡◌, ◌*◌, ◌+◌, ◌≤◌, length, max, option_copied, Tree, Trees, Form, number_reader, AreEntries, Decodes, deepest}
-use Rattle.jsonb_doc.proofs.Halves.{halvings}
-use Rattle.jsonb_doc.proofs.CheckingLemmas.{IsApart}
-use Rattle.jsonb_doc.proofs.DepthLemmas.{EntriesLeft}
+use Rattle.jsonb_doc.proofs.Lemmas.{◌≡◌, ◌*◌, ◌+◌, ◌≤◌, length, max, option_copied, Tree, Trees, Form, number_reader, AreEntries, Decodes, deepest, halvings, IsApart, EntriesLeft}
 use Rattle.jsonb_doc.proofs.nesting.+depth.Given as goal
 
 -- calls nest no deeper than the length can be halved

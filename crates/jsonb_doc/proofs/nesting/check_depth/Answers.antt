@@ -1,4 +1,4 @@
-use Rattle.jsonb_doc.proofs.Common.{◌≡◌, arith, refl, false≢true, deepest, any}
+use Rattle.jsonb_doc.proofs.Lemmas.{◌≡◌, arith, refl, false≢true, deepest, any}
 use Rattle.jsonb_doc.proofs.nesting.check_depth.Goals as goal
 
 pub returns-then-branch-limit-clause-ok : goal.returns-then-branch-limit-clause-ok

@@ -1,5 +1,4 @@
-use Rattle.jsonb_doc.proofs.Common.{false≢true}
-use Rattle.jsonb_doc.proofs.CanonicalLemmas.{in_any}
+use Rattle.jsonb_doc.proofs.Lemmas.{false≢true, in_any}
 use Rattle.jsonb_doc.proofs.nesting.depth.Goals as goal
 
 pub returns-in_err-check-clause-depth : goal.returns-in_err-check-clause-depth

@@ -1,7 +1,4 @@
-use Rattle.jsonb_doc.proofs.Common.{rules}
-use Rattle.jsonb_doc.proofs.Containers.{Decodes-array, Decodes-object}
-use Rattle.jsonb_doc.proofs.PairsLemmas.{Holds-skipped}
-use Rattle.jsonb_doc.proofs.DepthLemmas.{array_parts, object_parts}
+use Rattle.jsonb_doc.proofs.Lemmas.{rules, Decodes-array, Decodes-object, Holds-skipped, array_parts, object_parts}
 use Rattle.jsonb_doc.proofs.nesting.split_parts.Goals as goal
 
 pub returns-in-Array-clause-parts : goal.returns-in-Array-clause-parts

@@ -1,4 +1,4 @@
-use Rattle.jsonb_doc.proofs.Common.{rules}
+use Rattle.jsonb_doc.proofs.Lemmas.{rules}
 use Rattle.jsonb_doc.proofs.number.signed_integer.Goals as goal
 
 pub returns-in_default : goal.returns-in_default

@@ -1,4 +1,4 @@
-use Rattle.jsonb_doc.proofs.Common.{rules, ◌≡◌, ◌-◌, ◌≤◌, ◌++◌, ℕ, zero, suc, List, drop, take, refl, arith, inl, inr, Result, Ok, Err, OnOk, is_ok, if◌then◌else◌, cases_lt, take_all, bytes_high_first, length-bytes_high_first, big_bytes}
+use Rattle.jsonb_doc.proofs.Lemmas.{rules, ◌≡◌, ◌-◌, ◌≤◌, ◌++◌, ℕ, zero, suc, List, drop, take, refl, arith, inl, inr, Result, Ok, Err, OnOk, is_ok, if◌then◌else◌, cases_lt, take_all, bytes_high_first, length-bytes_high_first, big_bytes}
 use Rattle.jsonb_doc.proofs.payload.push_low_bytes.Goals as goal
 
 -- the low bytes of a number are the last of all its bytes

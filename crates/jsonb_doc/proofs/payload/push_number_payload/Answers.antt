@@ -1,4 +1,4 @@
-use Rattle.jsonb_doc.proofs.Common.{◌≡◌, ℕ, zero, suc, ◌++◌, [], ◌∷◌, refl, ℤ, pos, negsuc, rules, w128, cast_unsigned, decimal128, number_from, fixed_bytes, number_payload, number_view}
+use Rattle.jsonb_doc.proofs.Lemmas.{◌≡◌, ℕ, zero, suc, ◌++◌, [], ◌∷◌, refl, ℤ, pos, negsuc, rules, w128, cast_unsigned, decimal128, number_from, fixed_bytes, number_payload, number_view}
 use Rattle.jsonb_doc.proofs.payload.push_number_payload.Goals as goal
 
 not_zero : (z : ℤ) (scale : ℕ) → (cast_unsigned w128 z ≡ 0 → ⊥)

@@ -1,5 +1,4 @@
-use Rattle.jsonb_doc.proofs.Common.{[], ◌∷◌, w32, w64, to_z-of_z, fixed_bytes}
-use Rattle.jsonb_doc.proofs.AppendLemmas.{grown, grown_ok}
+use Rattle.jsonb_doc.proofs.Lemmas.{[], ◌∷◌, w32, w64, to_z-of_z, fixed_bytes, grown, grown_ok}
 use Rattle.jsonb_doc.proofs.payload.push_timestamp_tz.Goals as goal
 
 pub returns-clause-pushed : goal.returns-clause-pushed

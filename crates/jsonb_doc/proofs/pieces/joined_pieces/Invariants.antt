@@ -1,4 +1,4 @@
-use Rattle.jsonb_doc.proofs.Common.{◌≡◌, ◌++◌, ◌<◌, length, All, all_heads, stacked, joined, bytes_at}
+use Rattle.jsonb_doc.proofs.Lemmas.{◌≡◌, ◌++◌, ◌<◌, length, All, all_heads, stacked, joined, bytes_at}
 use Rattle.jsonb_doc.proofs.pieces.joined_pieces.Given as goal
 
 -- the bytes so far, and those of the pieces in the stack, are the whole

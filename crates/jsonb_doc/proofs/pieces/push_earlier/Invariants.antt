@@ -1,4 +1,4 @@
-use Rattle.jsonb_doc.proofs.Common.{◌≡◌, ◌++◌, take, earlier}
+use Rattle.jsonb_doc.proofs.Lemmas.{◌≡◌, ◌++◌, take, earlier}
 use Rattle.jsonb_doc.proofs.pieces.push_earlier.Given as goal
 
 abbrev pub invariant-loop-index : goal.invariant-loop-index

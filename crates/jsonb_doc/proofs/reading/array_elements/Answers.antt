@@ -1,6 +1,4 @@
-use Rattle.jsonb_doc.proofs.Common.{array, number_reader}
-use Rattle.jsonb_doc.proofs.Containers.{Decodes-array}
-use Rattle.jsonb_doc.proofs.ElementsLemmas.{IsElementsOf-some, only_array}
+use Rattle.jsonb_doc.proofs.Lemmas.{array, number_reader, Decodes-array, IsElementsOf-some, only_array}
 use Rattle.jsonb_doc.proofs.reading.array_elements.Goals as goal
 
 pub returns-in_err-parts-clause-decodes : goal.returns-in_err-parts-clause-decodes

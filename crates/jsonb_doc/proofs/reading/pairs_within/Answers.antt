@@ -1,4 +1,4 @@
-use Rattle.jsonb_doc.proofs.PairsLemmas.{HoldsPairs-skipped, HoldsPairs-left}
+use Rattle.jsonb_doc.proofs.Lemmas.{HoldsPairs-skipped, HoldsPairs-left}
 use Rattle.jsonb_doc.proofs.reading.pairs_within.Goals as goal
 
 pub returns-in_err-value_contents-clause-pairs : goal.returns-in_err-value_contents-clause-pairs

@@ -1,6 +1,4 @@
-use Rattle.jsonb_doc.proofs.Common.{◌≡◌, ◌∙◌, ◌++◌, inr, arith, ap, refl, header, header_number}
-use Rattle.jsonb_doc.proofs.WriterLemmas.{runs_done}
-use Rattle.jsonb_doc.proofs.WriterLimits.{too_many, within_parts}
+use Rattle.jsonb_doc.proofs.Lemmas.{◌≡◌, ◌∙◌, ◌++◌, inr, arith, ap, refl, header, header_number, runs_done, too_many, within_parts}
 use Rattle.jsonb_doc.proofs.rewriting.container_of_runs.Goals as goal
 
 pub returns-then-total-gt-MAX_ENTRIES-clause-container : goal.returns-then-total-gt-MAX_ENTRIES-clause-container

@@ -1,4 +1,4 @@
-use Rattle.jsonb_doc.proofs.Common.{◌≡◌, ◌++◌, drop, contents_of_runs}
+use Rattle.jsonb_doc.proofs.Lemmas.{◌≡◌, ◌++◌, drop, contents_of_runs}
 use Rattle.jsonb_doc.proofs.rewriting.push_contents.Given as goal
 
 -- what is written, followed by what is left, is the whole

@@ -1,4 +1,4 @@
-use Rattle.jsonb_doc.proofs.Common.{◌≡◌, ◌++◌, drop, words_of_runs}
+use Rattle.jsonb_doc.proofs.Lemmas.{◌≡◌, ◌++◌, drop, words_of_runs}
 use Rattle.jsonb_doc.proofs.rewriting.push_words.Given as goal
 
 -- what is written, followed by what is left, is the whole

@@ -1,8 +1,6 @@
-use Rattle.jsonb_doc.proofs.Common.{rules, ℕ, List, ◌≡◌, Ok, refl, arith, IsCut, IsRootShape, StoredEntry, Shape}
+use Rattle.jsonb_doc.proofs.Lemmas.{rules, ℕ, List, ◌≡◌, Ok, refl, arith, IsCut, IsRootShape, StoredEntry, Shape, Decodes-scalar, shape_root, array_root, object_root}
 use Rattle.jsonb_doc.specs.declared.container.Container.{Container}
 use Rattle.jsonb_doc.specs.declared.shape.Shape.TheVariants.{Array, Object}
-use Rattle.jsonb_doc.proofs.Containers.{Decodes-scalar}
-use Rattle.jsonb_doc.proofs.ReadItems.{shape_root, array_root, object_root}
 use Rattle.jsonb_doc.specs.declared.container.Container.TheVariants as parts
 use Rattle.jsonb_doc.proofs.shape.root_entry.Goals as goal
 

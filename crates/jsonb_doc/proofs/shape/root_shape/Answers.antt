@@ -1,6 +1,4 @@
-use Rattle.jsonb_doc.proofs.Common.{arith, rules}
-use Rattle.jsonb_doc.proofs.Containers.{Decodes-scalar, Decodes-array, Decodes-object, Holds-elements, Holds-pairs}
-use Rattle.jsonb_doc.proofs.ReadItems.{shape_root}
+use Rattle.jsonb_doc.proofs.Lemmas.{arith, rules, Decodes-scalar, Decodes-array, Decodes-object, Holds-elements, Holds-pairs, shape_root}
 use Rattle.jsonb_doc.proofs.shape.root_shape.Goals as goal
 
 pub returns-in-Scalar-clause-shape : goal.returns-in-Scalar-clause-shape

@@ -1,6 +1,4 @@
-use Rattle.jsonb_doc.proofs.Common.{rules, ap, inl, inr, arith, number_reader, kind_number}
-use Rattle.jsonb_doc.proofs.Entries.{reads_number}
-use Rattle.jsonb_doc.proofs.ScalarLemmas.{null_content, false_content, true_content, text_content, number_content, extension_content, some_injective, number_fails, constant_empty, known_only}
+use Rattle.jsonb_doc.proofs.Lemmas.{rules, ap, inl, inr, arith, number_reader, kind_number, reads_number, null_content, false_content, true_content, text_content, number_content, extension_content, some_injective, number_fails, constant_empty, known_only}
 use Rattle.jsonb_doc.proofs.shape.scalar_shape.Goals as goal
 
 pub returns-in-Null-clause-shape : goal.returns-in-Null-clause-shape

@@ -1,5 +1,4 @@
-use Rattle.jsonb_doc.proofs.Common.{rules}
-use Rattle.jsonb_doc.proofs.EqualValues.{short_number_cmp}
+use Rattle.jsonb_doc.proofs.Lemmas.{rules, short_number_cmp}
 use Rattle.jsonb_doc.proofs.short_number.parts_cmp.Goals as goal
 
 pub returns : goal.returns

@@ -1,6 +1,5 @@
-use Rattle.jsonb_doc.proofs.Common.{rules}
-use Rattle.jsonb_doc.proofs.EqualValues.{short_tied}
+use Rattle.jsonb_doc.proofs.Lemmas.{short_cmp, rules}
 use Rattle.jsonb_doc.proofs.short_number.parts_equal.Goals as goal
 
 pub returns : goal.returns
-returns c = search (rules, short_tied)
+returns c = search (rules, short_cmp)

@@ -1,6 +1,5 @@
-use Rattle.jsonb_doc.proofs.Common.{rules, ℕ, ap, sym, ◌∙◌, FitsSigned, w64, decimal64, number_cmp, short_parts, number_parts}
+use Rattle.jsonb_doc.proofs.Lemmas.{rules, ℕ, ap, sym, ◌∙◌, FitsSigned, w64, decimal64, number_cmp, short_parts, number_parts, short_number_cmp, digits_tell}
 use Rattle.std.proofs.Common.{to_z-of_z}
-use Rattle.jsonb_doc.proofs.EqualValues.{short_number_cmp, digits_tell}
 use Rattle.jsonb_doc.proofs.short_number.short_cmp.Goals as goal
 
 pub returns-then-scale-b : goal.returns-then-scale-b

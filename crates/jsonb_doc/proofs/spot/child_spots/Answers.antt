@@ -1,6 +1,4 @@
-use Rattle.jsonb_doc.proofs.Common.{any, number_reader, Container}
-use Rattle.jsonb_doc.proofs.SpotsLemmas.{Locates-scalar, no_children, Locates-document, Locates-no-scalar, array_children, object_children, object_skipped}
-use Rattle.jsonb_doc.proofs.KindLemmas.{differing_kind, equal_kind}
+use Rattle.jsonb_doc.proofs.Lemmas.{any, number_reader, Container, Locates-scalar, no_children, Locates-document, Locates-no-scalar, array_children, object_children, object_skipped, differing_kind, equal_kind}
 use Rattle.jsonb_doc.proofs.spot.child_spots.Goals as goal
 
 pub returns-then-ne-clause-spots : goal.returns-then-ne-clause-spots

@@ -1,7 +1,4 @@
-use Rattle.jsonb_doc.proofs.Common.{refl, any, number_reader, Container}
-use Rattle.jsonb_doc.proofs.SpotsLemmas.{Locates-scalar, no_field, Locates-document, Locates-no-scalar, array_no_field}
-use Rattle.jsonb_doc.proofs.FieldLemmas.{field_absent, field_searched, field_marks}
-use Rattle.jsonb_doc.proofs.KindLemmas.{differing_kind, equal_kind}
+use Rattle.jsonb_doc.proofs.Lemmas.{refl, any, number_reader, Container, Locates-scalar, no_field, Locates-document, Locates-no-scalar, array_no_field, field_absent, field_searched, field_marks, differing_kind, equal_kind}
 use Rattle.jsonb_doc.proofs.spot.field_spot.Goals as goal
 
 pub returns-then-ne-clause-field : goal.returns-then-ne-clause-field

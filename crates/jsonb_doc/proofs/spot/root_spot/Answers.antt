@@ -1,7 +1,4 @@
-use Rattle.jsonb_doc.proofs.Common.{[], sym, arith, refl, append-nil, number_reader, Scalar}
-use Rattle.jsonb_doc.proofs.Containers.{Decodes-scalar, IsCut-container}
-use Rattle.jsonb_doc.proofs.ReadItems.{readable_root}
-use Rattle.jsonb_doc.proofs.SpotsLemmas.{Locates-root, scalar_end}
+use Rattle.jsonb_doc.proofs.Lemmas.{[], sym, arith, refl, append-nil, number_reader, Scalar, Decodes-scalar, IsCut-container, readable_root, Locates-root, scalar_end}
 use Rattle.jsonb_doc.proofs.spot.root_spot.Goals as goal
 
 pub returns-in-Scalar-clause-marks : goal.returns-in-Scalar-clause-marks

@@ -1,4 +1,4 @@
-use Rattle.jsonb_doc.proofs.Common.{any}
+use Rattle.jsonb_doc.proofs.Lemmas.{any}
 use Rattle.jsonb_doc.proofs.spot.spot_item.Goals as goal
 
 pub returns-clause-item : goal.returns-clause-item

@@ -1,5 +1,4 @@
-use Rattle.jsonb_doc.proofs.Common.{◌≡◌, ℕ, List, Option, Some, None, sym, ap, ◌∙◌, IfSome, Tree, number, any, number_of, IsContent, short_value, ShortNumber}
-use Rattle.jsonb_doc.proofs.ScalarLemmas.{number_content, some_injective}
+use Rattle.jsonb_doc.proofs.Lemmas.{◌≡◌, ℕ, List, Option, Some, None, sym, ap, ◌∙◌, IfSome, Tree, number, any, number_of, IsContent, short_value, ShortNumber, number_content, some_injective}
 use Rattle.jsonb_doc.proofs.spot.spot_number.Goals as goal
 
 -- the number whose digits were read is the tree that is stored

@@ -1,5 +1,4 @@
-use Rattle.jsonb_doc.proofs.Common.{arith, refl, kind_number, common_steps}
-use Rattle.jsonb_doc.proofs.ArrayLemmas.{stored_held}
+use Rattle.jsonb_doc.proofs.Lemmas.{arith, refl, kind_number, common_steps, stored_held}
 use Rattle.jsonb_doc.proofs.array_builder.ArrayBuilder.push_spot.Goals as goal
 
 pub returns-in_err-entry-clause-pushed : goal.returns-in_err-entry-clause-pushed

@@ -1,5 +1,4 @@
-use Rattle.jsonb_doc.proofs.Common.{◌<◌, arith}
-use Rattle.jsonb_doc.proofs.ChildPositionsLemmas.{first_value, first_key, element_taken, member_taken}
+use Rattle.jsonb_doc.proofs.Lemmas.{◌<◌, arith, first_value, first_key, element_taken, member_taken}
 use Rattle.jsonb_doc.proofs.child_positions.ChildPositions.take.Goals as goal
 
 pub returns-in_err-value-clause-child : goal.returns-in_err-value-clause-child

@@ -1,5 +1,4 @@
-use Rattle.jsonb_doc.proofs.Common.{◌-◌, length, refl}
-use Rattle.jsonb_doc.proofs.FieldLemmas.{value_absent, keys_behind, value_there, value_entry}
+use Rattle.jsonb_doc.proofs.Lemmas.{◌-◌, length, refl, value_absent, keys_behind, value_there, value_entry}
 use Rattle.jsonb_doc.proofs.container.ObjectParts.value_of.Goals as goal
 
 pub returns-in_default-clause-value : goal.returns-in_default-clause-value

@@ -1,9 +1,8 @@
-use Rattle.jsonb_doc.proofs.Common.{◌≡◌, min, length, arith, common_steps}
-use Rattle.jsonb_doc.proofs.CursorLemmas.{all_held, contents_there, both_hold}
+use Rattle.jsonb_doc.proofs.Lemmas.{take_all, drop_all, ◌≡◌, min, length, arith, common_steps, contents_there, both_hold}
 use Rattle.jsonb_doc.proofs.cursor.Entries.split.Goals as goal
 
 pub returns-then-count-len-clause-split : goal.returns-then-count-len-clause-split
-returns-then-count-len-clause-split c = λ form ts h. grind (arith, common_steps, all_held)
+returns-then-count-len-clause-split c = λ form ts h. grind (arith, common_steps, take_all, drop_all)
 
 pub returns-in_default-clause-split : goal.returns-in_default-clause-split
 returns-in_default-clause-split c = λ form ts h.

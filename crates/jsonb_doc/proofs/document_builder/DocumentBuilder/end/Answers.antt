@@ -1,7 +1,4 @@
-use Rattle.jsonb_doc.proofs.Common.{◌≡◌, ◌∙◌, ◌++◌, ◌∷◌, [], ℕ, length, reverse, ap, refl, arith, true, false, inl, ◌==◌, vec_len, length-reverse, filled, IsPieceOf, Failed, OutOfMemory, common_steps}
-use Rattle.jsonb_doc.proofs.EventLemmas.{level_stays}
-use Rattle.jsonb_doc.proofs.Basics.{popped}
-use Rattle.jsonb_doc.proofs.BuilderLemmas.{err_result, end_fails, end_out_of_memory, end_takes, holds_back, holds_inner}
+use Rattle.jsonb_doc.proofs.Lemmas.{◌≡◌, ◌∙◌, ◌++◌, ◌∷◌, [], ℕ, length, reverse, ap, refl, arith, true, false, inl, ◌==◌, vec_len, length-reverse, filled, IsPieceOf, Failed, OutOfMemory, common_steps, level_stays, err_result, end_fails, end_out_of_memory, end_takes, holds_back, holds_inner, popped}
 use Rattle.jsonb_doc.proofs.document_builder.DocumentBuilder.end.Goals as goal
 
 pub returns-in_err-piece : goal.returns-in_err-piece

@@ -1,5 +1,4 @@
-use Rattle.jsonb_doc.proofs.Common.{rules, ◌∙◌, ap, refl, sym, inl, with_inner}
-use Rattle.jsonb_doc.proofs.BuilderLemmas.{key_repeats, key_added, leads, refuses, err_result}
+use Rattle.jsonb_doc.proofs.Lemmas.{rules, ◌∙◌, ap, refl, sym, inl, with_inner, key_repeats, key_added, leads, refuses, err_result}
 use Rattle.jsonb_doc.proofs.document_builder.DocumentBuilder.key.Goals as goal
 
 pub returns-then-contains_key : goal.returns-then-contains_key

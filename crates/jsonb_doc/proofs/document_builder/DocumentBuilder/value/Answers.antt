@@ -1,7 +1,4 @@
-use Rattle.jsonb_doc.proofs.Common.{◌≡◌, ◌∙◌, ◌++◌, ◌∷◌, [], length, refl, sym, subst, arith, true, Some, length-append, EntryParts, number_reader, IsContent, Decodes, kind_number, bytes_at, State, takes_value, filled, IsPieceOf, HoldsLevel, Piece, Root}
-use Rattle.jsonb_doc.proofs.Encoded.{content_stands, long_content}
-use Rattle.jsonb_doc.proofs.EventLemmas.{root_filled, level_stays, too_long, result_along, err_along}
-use Rattle.jsonb_doc.proofs.BuilderLemmas.{leads, value_taken, holds_more, lone_piece, lone_part, frame_of_root}
+use Rattle.jsonb_doc.proofs.Lemmas.{◌≡◌, ◌∙◌, ◌++◌, ◌∷◌, [], length, refl, sym, subst, arith, true, Some, length-append, EntryParts, number_reader, IsContent, Decodes, kind_number, bytes_at, State, takes_value, filled, IsPieceOf, HoldsLevel, Piece, Root, content_stands, long_content, root_filled, level_stays, too_long, result_along, err_along, leads, value_taken, holds_more, lone_piece, lone_part, frame_of_root}
 use Rattle.jsonb_doc.proofs.document_builder.DocumentBuilder.value.Goals as goal
 
 pub returns-in-Root-clause-takes : goal.returns-in-Root-clause-takes

@@ -1,6 +1,4 @@
-use Rattle.jsonb_doc.proofs.Common.{arith, rules, ◌≡◌, ◌∙◌, sym, true, is_none}
-use Rattle.jsonb_doc.proofs.EventLemmas.{is_none_from}
-use Rattle.jsonb_doc.proofs.ClosingLemmas.{array_closed, object_closed, array_fails, object_fails}
+use Rattle.jsonb_doc.proofs.Lemmas.{object_closes, array_closes, arith, ◌≡◌, ◌∙◌, sym, true, is_none, is_none_from, array_fails, object_fails}
 use Rattle.jsonb_doc.proofs.document_builder.closing.close.Goals as goal
 
 pub returns-in_err-close_array-in-Array : goal.returns-in_err-close_array-in-Array
@@ -9,7 +7,7 @@ returns-in_err-close_array-in-Array c = λ form ps level h.
     array_fails form ps c.in-Array.entries level _ _ (rw c.in-Array.is at h) c.from_residual.ensures.1 (rw c.deref.ensures.value at why)
 
 pub returns-in_ok-close_array-in-Array : goal.returns-in_ok-close_array-in-Array
-returns-in_ok-close_array-in-Array c = search (rules, array_closed)
+returns-in_ok-close_array-in-Array c = grind (arith, array_closes)
 
 pub returns-in_err-close_object-in-Object : goal.returns-in_err-close_object-in-Object
 returns-in_err-close_object-in-Object c = λ form ps level h.
@@ -18,4 +16,4 @@ returns-in_err-close_object-in-Object c = λ form ps level h.
     c.in_err-close_object-in-Object.ensures
 
 pub returns-in_ok-close_object-in-Object : goal.returns-in_ok-close_object-in-Object
-returns-in_ok-close_object-in-Object c = grind (arith, is_none, is_none_from, object_closed)
+returns-in_ok-close_object-in-Object c = grind (arith, is_none, is_none_from, object_closes)

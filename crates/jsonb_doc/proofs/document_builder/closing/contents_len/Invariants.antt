@@ -1,4 +1,4 @@
-use Rattle.jsonb_doc.proofs.Common.{◌≡◌, ◌≤◌, ◌*◌, ◌^◌, take, total_len}
+use Rattle.jsonb_doc.proofs.Lemmas.{◌≡◌, ◌≤◌, ◌*◌, ◌^◌, take, total_len}
 use Rattle.jsonb_doc.proofs.document_builder.closing.contents_len.Given as goal
 
 abbrev pub invariant-loop-entry : goal.invariant-loop-entry

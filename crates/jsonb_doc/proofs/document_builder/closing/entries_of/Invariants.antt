@@ -1,4 +1,4 @@
-use Rattle.jsonb_doc.proofs.Common.{◌≡◌, ◌++◌, member_entries}
+use Rattle.jsonb_doc.proofs.Lemmas.{◌≡◌, ◌++◌, member_entries}
 use Rattle.jsonb_doc.proofs.document_builder.closing.entries_of.Given as goal
 
 -- the values so far, and those still to come, are the whole

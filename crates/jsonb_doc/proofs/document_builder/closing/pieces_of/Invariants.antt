@@ -1,4 +1,4 @@
-use Rattle.jsonb_doc.proofs.Common.{◌≡◌, map, take, PieceEntry}
+use Rattle.jsonb_doc.proofs.Lemmas.{◌≡◌, map, take, PieceEntry}
 use Rattle.jsonb_doc.proofs.document_builder.closing.pieces_of.Given as goal
 
 abbrev pub invariant-loop-entry : goal.invariant-loop-entry

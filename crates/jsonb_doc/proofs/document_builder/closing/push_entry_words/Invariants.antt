@@ -1,4 +1,4 @@
-use Rattle.jsonb_doc.proofs.Common.{◌≡◌, ◌++◌, take, entry_words}
+use Rattle.jsonb_doc.proofs.Lemmas.{◌≡◌, ◌++◌, take, entry_words}
 use Rattle.jsonb_doc.proofs.document_builder.closing.push_entry_words.Given as goal
 
 abbrev pub invariant-loop-entry : goal.invariant-loop-entry

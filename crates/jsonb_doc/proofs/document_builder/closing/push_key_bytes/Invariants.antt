@@ -1,4 +1,4 @@
-use Rattle.jsonb_doc.proofs.Common.{◌≡◌, ◌++◌, key_bytes, member_keys}
+use Rattle.jsonb_doc.proofs.Lemmas.{◌≡◌, ◌++◌, key_bytes, member_keys}
 use Rattle.jsonb_doc.proofs.document_builder.closing.push_key_bytes.Given as goal
 
 -- the bytes so far, and what is still to come, are the whole

@@ -1,4 +1,4 @@
-use Rattle.jsonb_doc.proofs.Common.{◌≡◌, ◌++◌, key_words, AreShortKeys, member_keys}
+use Rattle.jsonb_doc.proofs.Lemmas.{◌≡◌, ◌++◌, key_words, AreShortKeys, member_keys}
 use Rattle.jsonb_doc.proofs.document_builder.closing.push_key_words.Given as goal
 
 -- the bytes so far, and what is still to come, are the whole; the keys so far are short

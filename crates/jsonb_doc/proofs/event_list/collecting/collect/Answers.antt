@@ -1,6 +1,5 @@
-use Rattle.jsonb_doc.proofs.Common.{◌∷◌, [], ◌++◌, ◌∙◌, List, ap, sym, subst, arith, rules, append_assoc, nil_from_length, append-nil, first_rest, no_events, Happen, TextEvent}
-use Rattle.jsonb_doc.proofs.EventLemmas.{result_along, err_is}
-use Rattle.jsonb_doc.proofs.ListErrors.{happen_more, refused, unfinished, unbegun}
+use Rattle.jsonb_doc.proofs.Lemmas.{◌∷◌, [], ◌++◌, ◌∙◌, List, ap, sym, subst, arith, rules, append_assoc, nil_from_length, append-nil, first_rest, no_events, Happen, TextEvent, result_along, err_is, happen_more, unfinished}
+use Rattle.jsonb_doc.proofs.EventListLemmas.{refused}
 use Rattle.jsonb_doc.proofs.event_list.collecting.collect.Goals as goal
 
 pub loop-left-preserved : goal.loop-left-preserved
@@ -19,7 +18,7 @@ loop-left-preserved c = record {
 }
 
 pub returns-in_err-collector : goal.returns-in_err-collector
-returns-in_err-collector c = search (rules, unbegun)
+returns-in_err-collector c = grind arith
 
 pub returns-in_err-rest : goal.returns-in_err-rest
 returns-in_err-rest c =

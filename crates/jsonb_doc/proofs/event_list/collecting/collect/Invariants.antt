@@ -1,4 +1,4 @@
-use Rattle.jsonb_doc.proofs.Common.{◌≡◌, List, ◌++◌, length, shadow, Utf8, State, no_events, Happen, HoldsState, TextEvent}
+use Rattle.jsonb_doc.proofs.Lemmas.{◌≡◌, List, ◌++◌, length, shadow, Utf8, State, no_events, Happen, HoldsState, TextEvent}
 use Rattle.jsonb_doc.proofs.event_list.collecting.collect.Given as goal
 
 -- the events before those that are left lead to what is held

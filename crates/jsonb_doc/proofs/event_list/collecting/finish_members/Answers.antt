@@ -1,6 +1,4 @@
-use Rattle.jsonb_doc.proofs.Common.{rules}
-use Rattle.jsonb_doc.proofs.CollectingLemmas.{pushed_ends, end_due}
-use Rattle.jsonb_doc.proofs.EventLemmas.{err_is}
+use Rattle.jsonb_doc.proofs.Lemmas.{array_ends, object_ends, end_due, err_is, arith}
 use Rattle.jsonb_doc.proofs.event_list.collecting.finish_members.Goals as goal
 
 pub returns-in_err-push_members : goal.returns-in_err-push_members
@@ -9,4 +7,4 @@ returns-in_err-push_members c = λ level h none.
     (end_due c.args.keep_last c.args.ended.now.items c.args.frame c.args.members.now level _ h none c.in_err-push_members.ensures)
 
 pub returns : goal.returns
-returns c = search (rules, pushed_ends)
+returns c = grind (arith, array_ends, object_ends)

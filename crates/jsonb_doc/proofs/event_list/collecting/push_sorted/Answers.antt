@@ -1,4 +1,4 @@
-use Rattle.jsonb_doc.proofs.CollectingLemmas.{sorted_pushed}
+use Rattle.jsonb_doc.proofs.Lemmas.{sorted_pushed}
 use Rattle.jsonb_doc.proofs.event_list.collecting.push_sorted.Goals as goal
 
 pub returns : goal.returns

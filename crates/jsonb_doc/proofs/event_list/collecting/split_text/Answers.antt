@@ -1,6 +1,5 @@
-use Rattle.jsonb_doc.proofs.Common.{rules}
-use Rattle.jsonb_doc.proofs.CollectingLemmas.{can_split, no_some}
+use Rattle.jsonb_doc.proofs.Lemmas.{take_at, length-append, IsCharBoundary-from_take, no_some, arith}
 use Rattle.jsonb_doc.proofs.event_list.collecting.split_text.Goals as goal
 
 pub returns-in-None : goal.returns-in-None
-returns-in-None c = search (rules, no_some, can_split)
+returns-in-None c = grind (arith, no_some, take_at, length-append, IsCharBoundary-from_take)

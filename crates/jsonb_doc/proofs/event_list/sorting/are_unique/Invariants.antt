@@ -1,4 +1,4 @@
-use Rattle.jsonb_doc.proofs.Common.{◌≡◌, ◌+◌, length, unique}
+use Rattle.jsonb_doc.proofs.Lemmas.{◌≡◌, ◌+◌, length, unique}
 use Rattle.jsonb_doc.proofs.event_list.sorting.are_unique.Given as goal
 
 -- all members stay if those that are left do, and otherwise fewer

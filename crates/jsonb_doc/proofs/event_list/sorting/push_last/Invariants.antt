@@ -1,4 +1,4 @@
-use Rattle.jsonb_doc.proofs.Common.{◌≡◌, ◌++◌, length, unique}
+use Rattle.jsonb_doc.proofs.Lemmas.{◌≡◌, ◌++◌, length, unique}
 use Rattle.jsonb_doc.proofs.event_list.sorting.push_last.Given as goal
 
 -- what is appended so far, and what the rest yields

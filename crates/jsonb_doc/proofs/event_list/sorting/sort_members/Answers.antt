@@ -1,5 +1,4 @@
-use Rattle.jsonb_doc.proofs.Common.{◌≡◌, ap, rules, nat_cmp, is_lt, slice_cmp, nat_list_cmp_total, ranks_by, answers_always, has_lower_key, Member}
-use Rattle.jsonb_doc.proofs.UniqueLemmas.{on_ok_along}
+use Rattle.jsonb_doc.proofs.Lemmas.{◌≡◌, ap, rules, nat_cmp, is_lt, slice_cmp, nat_list_cmp_total, ranks_by, answers_always, has_lower_key, Member, on_ok_along}
 use Rattle.jsonb_doc.proofs.event_list.sorting.sort_members.Goals as goal
 
 pub returns-clause-sorted : goal.returns-clause-sorted

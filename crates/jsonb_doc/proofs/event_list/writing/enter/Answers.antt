@@ -1,6 +1,4 @@
-use Rattle.jsonb_doc.proofs.Common.{◌∷◌, refl, keys_first}
-use Rattle.jsonb_doc.proofs.EventPartLemmas.{part_opened}
-use Rattle.jsonb_doc.proofs.EventLemmas.{err_is}
+use Rattle.jsonb_doc.proofs.Lemmas.{◌∷◌, refl, keys_first, part_opened, err_is}
 use Rattle.jsonb_doc.proofs.event_list.writing.enter.Goals as goal
 
 pub returns-in_err-outer-clause-entered : goal.returns-in_err-outer-clause-entered

@@ -1,4 +1,4 @@
-use Rattle.jsonb_doc.proofs.Common.{refl, boolean}
+use Rattle.jsonb_doc.proofs.Lemmas.{refl, boolean}
 use Rattle.jsonb_doc.proofs.event_list.writing.put_boolean.Goals as goal
 
 pub returns-then-value : goal.returns-then-value

@@ -1,6 +1,5 @@
-use Rattle.jsonb_doc.proofs.Common.{◌++◌, map, subst, List, first_rest, text, IsWriting, Member}
+use Rattle.jsonb_doc.proofs.Lemmas.{◌++◌, map, subst, List, first_rest, text, IsWriting, Member, err_is}
 use Rattle.jsonb_doc.specs.Private.EventParts.{member_keys}
-use Rattle.jsonb_doc.proofs.EventLemmas.{err_is}
 use Rattle.jsonb_doc.proofs.event_list.writing.put_keys.Goals as goal
 
 pub returns-in_err-put_text : goal.returns-in_err-put_text

@@ -1,4 +1,4 @@
-use Rattle.jsonb_doc.proofs.Common.{◌++◌, List, map, length, Tree, text, Form, Around, IsWriting}
+use Rattle.jsonb_doc.proofs.Lemmas.{◌++◌, List, map, length, Tree, text, Form, Around, IsWriting}
 use Rattle.jsonb_doc.specs.Private.EventParts.{member_keys}
 use Rattle.jsonb_doc.proofs.event_list.writing.put_keys.Given as goal
 

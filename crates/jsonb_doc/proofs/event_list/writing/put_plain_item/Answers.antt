@@ -1,5 +1,4 @@
-use Rattle.jsonb_doc.proofs.Common.{◌∷◌, refl, subst, Tree, IsWriting}
-use Rattle.jsonb_doc.proofs.EventPartLemmas.{not_too_large}
+use Rattle.jsonb_doc.proofs.Lemmas.{◌∷◌, refl, subst, Tree, IsWriting, not_too_large}
 use Rattle.jsonb_doc.proofs.event_list.writing.put_plain_item.Goals as goal
 
 pub returns-in-Null : goal.returns-in-Null

@@ -1,6 +1,4 @@
-use Rattle.jsonb_doc.proofs.Common.{length, subst, arith, length-between, first_rest, IsPart, Part}
-use Rattle.jsonb_doc.proofs.EventPartLemmas.{first_part}
-use Rattle.jsonb_doc.proofs.EventLemmas.{err_is}
+use Rattle.jsonb_doc.proofs.Lemmas.{length, subst, arith, length-between, first_rest, IsPart, Part, first_part, err_is}
 use Rattle.jsonb_doc.proofs.event_list.writing.put_scalars.Goals as goal
 
 pub returns-in_err-put_plain-in-Plain-clause-put : goal.returns-in_err-put_plain-in-Plain-clause-put

@@ -1,4 +1,4 @@
-use Rattle.jsonb_doc.proofs.Common.{ℕ, ◌≤◌, List, length, Tree, Form, Around, IsWriting, HoldParts, Member}
+use Rattle.jsonb_doc.proofs.Lemmas.{ℕ, ◌≤◌, List, length, Tree, Form, Around, IsWriting, HoldParts, Member}
 use Rattle.jsonb_doc.proofs.event_list.writing.put_scalars.Given as goal
 
 -- the values of the members that are left come next

@@ -1,4 +1,4 @@
-use Rattle.jsonb_doc.proofs.Common.{refl, text}
+use Rattle.jsonb_doc.proofs.Lemmas.{refl, text}
 use Rattle.jsonb_doc.proofs.event_list.writing.put_text.Goals as goal
 
 pub returns : goal.returns

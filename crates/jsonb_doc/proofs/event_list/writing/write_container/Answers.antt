@@ -1,15 +1,8 @@
-use Rattle.jsonb_doc.proofs.Common.{rules, ℕ, Vec, Global, [], ◌∷◌, arith, refl, ap, ◌∙◌, subst, nil_from_length, Decodes, IsOutOfMemoryOrTooLarge, Around, IsWriting}
-use Rattle.jsonb_doc.proofs.EventPartLemmas.{walk_falls_inward, walk_falls_outward}
-use Rattle.jsonb_doc.proofs.Basics.{pushed, popped, none_around, only_ok}
-use Rattle.jsonb_doc.proofs.EventLemmas.{err_is}
+use Rattle.jsonb_doc.proofs.Lemmas.{rules, ℕ, Vec, Global, [], ◌∷◌, arith, refl, ap, ◌∙◌, subst, nil_from_length, Decodes, IsOutOfMemoryOrTooLarge, Around, IsWriting, walk_falls_inward, walk_falls_outward, pushed, popped, none_around, only_ok, err_is}
 use Rattle.jsonb_doc.proofs.event_list.writing.write_container.Goals as goal
 
 pub walk-init : goal.walk-init
-walk-init c = λ form room t h. record {
-  outside = [];
-  are_left = rw c.new-around.ensures.items tt;
-  begun = c.in_ok-writer.ensures.begun form room t h;
-}
+walk-init c = λ form room t h. grind (arith, c.in_ok-writer.ensures.begun form room t h)
 
 pub returns-in_err-inner : goal.returns-in_err-inner
 returns-in_err-inner c = record {

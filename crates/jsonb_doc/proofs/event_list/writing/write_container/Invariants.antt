@@ -1,6 +1,4 @@
-use Rattle.jsonb_doc.proofs.Common.{ℕ, ◌+◌, reverse, Tree, Form, IsPart, IsWalking, Nested}
-use Rattle.jsonb_doc.proofs.Weights.{weight_of_all}
-use Rattle.jsonb_doc.proofs.EventPartLemmas.{left_weight, outer_weight}
+use Rattle.jsonb_doc.proofs.Lemmas.{ℕ, ◌+◌, reverse, Tree, Form, IsPart, IsWalking, Nested, weight_of_all, left_weight, outer_weight}
 use Rattle.jsonb_doc.proofs.event_list.writing.write_container.Given as goal
 
 -- what is written becomes the whole with what is left

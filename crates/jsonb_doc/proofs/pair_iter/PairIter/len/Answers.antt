@@ -1,5 +1,4 @@
-use Rattle.jsonb_doc.proofs.Common.{arith, ap, length, keys}
-use Rattle.jsonb_doc.proofs.Containers.{length-key_words}
+use Rattle.jsonb_doc.proofs.Lemmas.{arith, ap, length, keys, length-key_words}
 use Rattle.jsonb_doc.proofs.pair_iter.PairIter.len.Goals as goal
 
 pub returns : goal.returns

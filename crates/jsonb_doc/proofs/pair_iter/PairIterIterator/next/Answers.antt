@@ -1,6 +1,4 @@
-use Rattle.jsonb_doc.proofs.Common.{◌∙◌, ◌≤◌, length, arith, rules, refl, inl, inr, Some, Err, common_steps, Form, Pairs, kind_number, Error, IsDecodingError, PairIter, ReadsPair, GivesPair, HasPairsLeft}
-use Rattle.jsonb_doc.proofs.Entries.{BeginWith-unique, BeginWith-room}
-use Rattle.jsonb_doc.proofs.PairsLemmas.{HasPairsLeft-first}
+use Rattle.jsonb_doc.proofs.Lemmas.{◌∙◌, ◌≤◌, length, arith, rules, refl, inl, inr, Some, Err, common_steps, Form, Pairs, kind_number, Error, IsDecodingError, PairIter, ReadsPair, GivesPair, HasPairsLeft, BeginWith-unique, BeginWith-room, HasPairsLeft-first}
 use Rattle.jsonb_doc.proofs.pair_iter.PairIterIterator.next.Goals as goal
 
 failed : (before after : PairIter) (e : Error) → IsDecodingError e → ReadsPair before (Some (Err e)) after

@@ -1,5 +1,5 @@
-use Rattle.jsonb_doc.proofs.Common.{rules, ◌∙◌}
-use Rattle.jsonb_doc.proofs.WriterLemmas.{room_there, filled, room_moved}
+use Rattle.jsonb_doc.proofs.Lemmas.{rules, ◌∙◌, room_there}
+use Rattle.jsonb_doc.proofs.WriterLemmas.{filled}
 use Rattle.jsonb_doc.proofs.rewriting.Writer.copy.Goals as goal
 
 pub returns-clause-copied : goal.returns-clause-copied
@@ -15,4 +15,4 @@ returns-clause-copied c = λ form ts coming around whole h w.
     }
 
 pub returns-clause-room : goal.returns-clause-room
-returns-clause-room c = search (rules, room_moved)
+returns-clause-room c = search rules

@@ -1,4 +1,4 @@
-use Rattle.jsonb_doc.proofs.WriterLemmas.{whole_done}
+use Rattle.jsonb_doc.proofs.Lemmas.{whole_done}
 use Rattle.jsonb_doc.proofs.rewriting.Writer.finish.Goals as goal
 
 pub returns-clause-written : goal.returns-clause-written

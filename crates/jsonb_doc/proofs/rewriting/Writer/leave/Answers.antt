@@ -1,6 +1,4 @@
-use Rattle.jsonb_doc.proofs.Common.{rules, ◌≡◌, length, arith, refl, ap, ◌∙◌, entry_word, container_entry}
-use Rattle.jsonb_doc.proofs.WriterLemmas.{room_for_one, one_filled, closed, done_len, room_moved}
-use Rattle.jsonb_doc.proofs.WriterLimits.{coming_passes, not_short, refused}
+use Rattle.jsonb_doc.proofs.Lemmas.{rules, ◌≡◌, length, arith, refl, ap, ◌∙◌, entry_word, container_entry, room_for_one, one_filled, closed, done_len, coming_passes, not_short, refused}
 use Rattle.jsonb_doc.proofs.rewriting.Writer.leave.Goals as goal
 
 pub returns-then-len-gt-MAX_CONTENT-clause-left : goal.returns-then-len-gt-MAX_CONTENT-clause-left
@@ -28,4 +26,4 @@ returns-clause-left c = λ form coming around whole w.
     }
 
 pub returns-clause-room : goal.returns-clause-room
-returns-clause-room c = search (rules, room_moved)
+returns-clause-room c = search rules

@@ -1,6 +1,4 @@
-use Rattle.jsonb_doc.proofs.Common.{arith, refl, ◌∙◌}
-use Rattle.jsonb_doc.proofs.WriterLemmas.{room_for_one, one_filled}
-use Rattle.jsonb_doc.proofs.WriterLimits.{coming_passes, not_short, refused}
+use Rattle.jsonb_doc.proofs.Lemmas.{arith, refl, ◌∙◌, room_for_one, one_filled, coming_passes, not_short, refused}
 use Rattle.jsonb_doc.proofs.rewriting.Writer.put.Goals as goal
 
 pub returns-then-entry-gt-MAX_CONTENT-clause-put : goal.returns-then-entry-gt-MAX_CONTENT-clause-put

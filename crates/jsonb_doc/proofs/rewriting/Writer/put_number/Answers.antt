@@ -1,8 +1,5 @@
-use Rattle.jsonb_doc.proofs.Common.{rules, refl, ap, ◌∙◌, entry_word, number_view, number}
+use Rattle.jsonb_doc.proofs.Lemmas.{rules, refl, ap, ◌∙◌, entry_word, number_view, number, length-number_payload, content_stands, room_for_one, one_filled}
 use Rattle.jsonb_doc.specs.declared.item.Item.TheVariants.{Number}
-use Rattle.jsonb_doc.proofs.CanonicalLemmas.{length-number_payload}
-use Rattle.jsonb_doc.proofs.Encoded.{content_stands}
-use Rattle.jsonb_doc.proofs.WriterLemmas.{room_for_one, one_filled}
 use Rattle.jsonb_doc.proofs.rewriting.Writer.put_number.Goals as goal
 
 pub encode_entry_word-word-requires : goal.encode_entry_word-word-requires

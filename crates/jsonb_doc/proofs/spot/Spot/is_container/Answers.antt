@@ -1,6 +1,4 @@
-use Rattle.jsonb_doc.proofs.Common.{◌∙◌, Container}
-use Rattle.jsonb_doc.proofs.KindLemmas.{kinds_told}
-use Rattle.jsonb_doc.proofs.SpotsLemmas.{Locates-has_children}
+use Rattle.jsonb_doc.proofs.Lemmas.{◌∙◌, Container, kinds_told, Locates-has_children}
 use Rattle.jsonb_doc.proofs.spot.Spot.is_container.Goals as goal
 
 pub returns : goal.returns

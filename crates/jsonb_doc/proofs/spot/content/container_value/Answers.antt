@@ -1,5 +1,4 @@
-use Rattle.jsonb_doc.proofs.Common.{arith, inl, inr, ap, any, number_reader, header_number}
-use Rattle.jsonb_doc.proofs.Containers.{HasContent-headed, HasContent-kind, array_content, object_content}
+use Rattle.jsonb_doc.proofs.Lemmas.{arith, inl, inr, ap, any, number_reader, header_number, HasContent-headed, HasContent-kind, array_content, object_content}
 use Rattle.jsonb_doc.proofs.spot.content.container_value.Goals as goal
 
 pub returns-in_default-clause-value : goal.returns-in_default-clause-value

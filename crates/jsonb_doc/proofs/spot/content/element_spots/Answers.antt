@@ -1,7 +1,4 @@
-use Rattle.jsonb_doc.proofs.Common.{any, number_reader, Container}
-use Rattle.jsonb_doc.proofs.SpotsLemmas.{Locates-scalar, Locates-document, Locates-no-scalar}
-use Rattle.jsonb_doc.proofs.SpotTypes.{array_elements, object_no_elements, no_elements}
-use Rattle.jsonb_doc.proofs.KindLemmas.{differing_kind, equal_kind}
+use Rattle.jsonb_doc.proofs.Lemmas.{any, number_reader, Container, Locates-scalar, Locates-document, Locates-no-scalar, array_elements, object_no_elements, no_elements, differing_kind, equal_kind}
 use Rattle.jsonb_doc.proofs.spot.content.element_spots.Goals as goal
 
 pub returns-then-ne-clause-spots : goal.returns-then-ne-clause-spots

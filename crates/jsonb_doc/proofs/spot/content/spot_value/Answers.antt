@@ -1,6 +1,4 @@
-use Rattle.jsonb_doc.proofs.Common.{◌≡◌, sym, ap, ◌∙◌, Some, None, arith, none-some, number, any, number_reader, kind_number}
-use Rattle.jsonb_doc.proofs.Entries.{kind_below}
-use Rattle.jsonb_doc.proofs.ScalarLemmas.{null_content, false_content, true_content, text_content, number_content, extension_content, some_injective, number_fails}
+use Rattle.jsonb_doc.proofs.Lemmas.{◌≡◌, sym, ap, ◌∙◌, Some, None, arith, none-some, number, any, number_reader, kind_number, kind_below, null_content, false_content, true_content, text_content, number_content, extension_content, some_injective, number_fails}
 use Rattle.jsonb_doc.proofs.spot.content.spot_value.Goals as goal
 
 pub returns-in_err-entry-clause-value : goal.returns-in_err-entry-clause-value

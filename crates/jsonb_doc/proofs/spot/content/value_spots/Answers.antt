@@ -1,7 +1,4 @@
-use Rattle.jsonb_doc.proofs.Common.{any, number_reader, Container}
-use Rattle.jsonb_doc.proofs.SpotsLemmas.{Locates-scalar, Locates-document, Locates-no-scalar, object_skipped}
-use Rattle.jsonb_doc.proofs.SpotTypes.{object_values, array_no_values, no_values}
-use Rattle.jsonb_doc.proofs.KindLemmas.{differing_kind, equal_kind}
+use Rattle.jsonb_doc.proofs.Lemmas.{any, number_reader, Container, Locates-scalar, Locates-document, Locates-no-scalar, object_skipped, object_values, array_no_values, no_values, differing_kind, equal_kind}
 use Rattle.jsonb_doc.proofs.spot.content.value_spots.Goals as goal
 
 pub returns-then-ne-clause-spots : goal.returns-then-ne-clause-spots

@@ -1,6 +1,4 @@
-use Rattle.jsonb_doc.proofs.Common.{Err, ap, ◌∙◌, arith, err_from_is_err_and, number_reader, kind_number, Container}
-use Rattle.jsonb_doc.proofs.EntryDocuments.{entry_decodes, front_is_content}
-use Rattle.jsonb_doc.proofs.KindLemmas.{kind_known, other_kind}
+use Rattle.jsonb_doc.proofs.Lemmas.{Err, ap, ◌∙◌, arith, err_from_is_err_and, number_reader, kind_number, Container, entry_decodes, front_is_content, kind_known, other_kind}
 use Rattle.jsonb_doc.proofs.spot.document.spot_document.Goals as goal
 
 pub returns-then-content-le-MAX_CONTENT-clause-decodes : goal.returns-then-content-le-MAX_CONTENT-clause-decodes

@@ -1,5 +1,4 @@
-use Rattle.jsonb_doc.proofs.Common.{arith, refl}
-use Rattle.jsonb_doc.proofs.SpotsLemmas.{spots_counted, HasSpotsLeft-passed, HasSpotsLeft-behind}
+use Rattle.jsonb_doc.proofs.Lemmas.{arith, refl, spots_counted, HasSpotsLeft-passed, HasSpotsLeft-behind}
 use Rattle.jsonb_doc.proofs.spot_iter.SpotIter.behind.Goals as goal
 
 pub returns-then-count-self : goal.returns-then-count-self

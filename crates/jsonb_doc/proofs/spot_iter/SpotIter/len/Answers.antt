@@ -1,6 +1,4 @@
-use Rattle.jsonb_doc.proofs.Common.{arith, any, number_reader, trees_of}
-use Rattle.jsonb_doc.proofs.Containers.{length-words}
-use Rattle.jsonb_doc.proofs.TreeLists.{count-trees_of}
+use Rattle.jsonb_doc.proofs.Lemmas.{arith, any, number_reader, trees_of, length-words, count-trees_of}
 use Rattle.jsonb_doc.proofs.spot_iter.SpotIter.len.Goals as goal
 
 pub returns : goal.returns

@@ -1,4 +1,4 @@
-use Rattle.jsonb_doc.proofs.Common.{number_parts, number_view}
+use Rattle.jsonb_doc.proofs.Lemmas.{number_parts, number_view}
 use Rattle.jsonb_doc.proofs.value.Value.clone.Goals as goal
 
 pub returns-clause-tree : goal.returns-clause-tree

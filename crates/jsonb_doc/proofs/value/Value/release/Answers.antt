@@ -1,6 +1,5 @@
-use Rattle.jsonb_doc.proofs.Common.{rules}
-use Rattle.jsonb_doc.proofs.PartLemmas.{less_still}
+use Rattle.jsonb_doc.proofs.Lemmas.{arith}
 use Rattle.jsonb_doc.proofs.value.Value.release.Goals as goal
 
 pub loop-remaining-smaller : goal.loop-remaining-smaller
-loop-remaining-smaller c = search (rules, less_still)
+loop-remaining-smaller c = grind arith

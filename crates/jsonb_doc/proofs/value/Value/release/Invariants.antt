@@ -1,4 +1,4 @@
-use Rattle.jsonb_doc.proofs.PartLemmas.{still}
+use Rattle.jsonb_doc.proofs.Lemmas.{still}
 use Rattle.jsonb_doc.proofs.value.Value.release.Given as goal
 
 -- ends with the last part

@@ -1,12 +1,8 @@
-use Rattle.jsonb_doc.proofs.Common.{◌≡◌, List, sym, ap, subst, ◌∙◌, arith, reverse, nil_from_length, tree_seen, filled_tree, with_part, Open}
-use Rattle.jsonb_doc.proofs.CopiedValues.{tree_within, tree_within-with}
+use Rattle.jsonb_doc.proofs.Lemmas.{sym, ap, ◌∙◌, arith, reverse, nil_from_length, tree_seen, filled_tree, with_part, tree_within, tree_within-with}
 use Rattle.jsonb_doc.proofs.value.copy.copy.Goals as goal
 
 pub returns-in-None : goal.returns-in-None
-returns-in-None c = λ seen.
-    subst (λ (os : List Open). tree_within seen (reverse os) (tree_seen seen c.in-Whole.copy) ≡ tree_seen seen c.args.value.now)
-    (nil_from_length c.loop-filled.around.items (omega (arith, c.in-None.ensures.cases.0, c.loop-filled.around.ok.0)))
-    (rw c.in-Whole.is at (c.loop-filled.invariant seen))
+returns-in-None c = λ seen. grind (arith, nil_from_length, c.loop-filled.invariant seen)
 
 pub loop-filled-preserved-in_ok-filled-in-Within : goal.loop-filled-preserved-in_ok-filled-in-Within
 loop-filled-preserved-in_ok-filled-in-Within c = λ seen.

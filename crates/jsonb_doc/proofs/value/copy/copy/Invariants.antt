@@ -1,6 +1,5 @@
-use Rattle.jsonb_doc.proofs.Common.{◌≡◌, ◌+◌, ◌*◌, reverse, tree_seen, filled_tree, filled_parts, Number}
+use Rattle.jsonb_doc.proofs.Lemmas.{◌≡◌, ◌+◌, ◌*◌, reverse, tree_seen, filled_tree, filled_parts, Number, tree_within, around_parts}
 use Rattle.jsonb_doc.specs.Number as spec
-use Rattle.jsonb_doc.proofs.CopiedValues.{tree_within, around_parts}
 use Rattle.jsonb_doc.proofs.value.copy.copy.Given as goal
 
 -- what is filled is the value, with the containers around it

@@ -1,4 +1,4 @@
-use Rattle.jsonb_doc.proofs.Common.{◌≡◌, ◌≤◌, ◌++◌, iter_rest, trees_seen, values_parts, Number}
+use Rattle.jsonb_doc.proofs.Lemmas.{◌≡◌, ◌≤◌, ◌++◌, iter_rest, trees_seen, values_parts, Number}
 use Rattle.jsonb_doc.specs.Number as spec
 use Rattle.jsonb_doc.proofs.value.copy.fill_array.Given as goal
 

@@ -1,5 +1,4 @@
-use Rattle.jsonb_doc.proofs.Common.{string_bytes, sym, ap, ◌∙◌, arith, members_seen, entries_parts, insert_pairs}
-use Rattle.jsonb_doc.proofs.CopiedValues.{member_copied}
+use Rattle.jsonb_doc.proofs.Lemmas.{string_bytes, sym, ap, ◌∙◌, arith, members_seen, entries_parts, insert_pairs, member_copied}
 use Rattle.jsonb_doc.proofs.value.copy.fill_object.Goals as goal
 
 pub loop-key-preserved : goal.loop-key-preserved

@@ -1,4 +1,4 @@
-use Rattle.jsonb_doc.proofs.Common.{◌≡◌, ◌≤◌, members_seen, entries_parts, insert_pairs, Number}
+use Rattle.jsonb_doc.proofs.Lemmas.{◌≡◌, ◌≤◌, members_seen, entries_parts, insert_pairs, Number}
 use Rattle.jsonb_doc.specs.Number as spec
 use Rattle.jsonb_doc.proofs.value.copy.fill_object.Given as goal
 

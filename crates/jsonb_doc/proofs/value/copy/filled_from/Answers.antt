@@ -1,5 +1,4 @@
-use Rattle.jsonb_doc.proofs.Common.{◌++◌, sym, ap, ◌∙◌, [], iter_rest, array, object, trees_of, pairs_of, trees_seen, members_seen, part_tree, insert_pairs}
-use Rattle.jsonb_doc.proofs.CopiedValues.{copied_in_order, copies_same}
+use Rattle.jsonb_doc.proofs.Lemmas.{◌++◌, sym, ap, ◌∙◌, iter_rest, array, trees_of, trees_seen, part_tree, copied_in_order, copies_same, arith}
 use Rattle.jsonb_doc.proofs.value.copy.filled_from.Goals as goal
 
 pub returns-in_ok-with_capacity-in-Array-clause-copies : goal.returns-in_ok-with_capacity-in-Array-clause-copies
@@ -9,8 +8,4 @@ returns-in_ok-with_capacity-in-Array-clause-copies c = λ seen.
     ∙ ap (λ vs. array (trees_of (trees_seen seen vs))) (c.iter.ensures.rest ∙ c.deref.ensures.value) ∙ ap (part_tree seen) (sym c.in-Array.is))
 
 pub returns-in-Object-clause-copies : goal.returns-in-Object-clause-copies
-returns-in-Object-clause-copies c = λ seen.
-    copies_same seen _ (c.fill_object.ensures.copies seen)
-    (ap (λ es. object (pairs_of (insert_pairs (members_seen seen c.iter-in-Object.result) (members_seen seen es)))) c.new.ensures.empty
-    ∙ ap (λ es. object (pairs_of (insert_pairs (members_seen seen es) []))) c.iter-in-Object.ensures.rest
-    ∙ ap (λ ps. object (pairs_of ps)) (copied_in_order seen [] _ c.iter-in-Object.ensures.ordered) ∙ ap (part_tree seen) (sym c.in-Object.is))
+returns-in-Object-clause-copies c = λ seen. grind (arith, copies_same, copied_in_order, c.fill_object.ensures.copies seen)

@@ -1,5 +1,4 @@
-use Rattle.jsonb_doc.proofs.Common.{string_bytes, refl, sym, ap, ◌∙◌, iter_rest, array, object, trees_of, pairs_of, tree_seen, trees_seen, members_seen, insert_pairs, with_part}
-use Rattle.jsonb_doc.proofs.CopiedValues.{value_copied, member_copied, copies_same}
+use Rattle.jsonb_doc.proofs.Lemmas.{string_bytes, refl, sym, ap, ◌∙◌, iter_rest, array, object, trees_of, pairs_of, tree_seen, trees_seen, members_seen, insert_pairs, with_part, value_copied, member_copied, copies_same}
 use Rattle.jsonb_doc.proofs.value.copy.resume_fill.Goals as goal
 
 pub returns-in_ok-push-in-Array-clause-copies : goal.returns-in_ok-push-in-Array-clause-copies

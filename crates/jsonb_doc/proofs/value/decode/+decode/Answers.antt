@@ -1,10 +1,5 @@
-use Rattle.jsonb_doc.proofs.Common.{◌≡◌, ℕ, ◌∷◌, ◌++◌, List, string_bytes, arith, refl, sym, ap, subst, ◌∙◌, reverse, nil_from_length, Tree, Trees, Pairs, array, object, elements, members, keys, trees_of, pairs_of, AreKeys, tree_seen, trees_seen, members_seen}
+use Rattle.jsonb_doc.proofs.Lemmas.{◌≡◌, ℕ, ◌∷◌, ◌++◌, List, string_bytes, arith, refl, sym, ap, subst, ◌∙◌, reverse, nil_from_length, Tree, Trees, Pairs, array, object, elements, members, keys, trees_of, pairs_of, AreKeys, tree_seen, trees_seen, members_seen, decoded_keys, tree_seen-Array, tree_seen-Object, first_element, element_read, no_element, first_member, member_read, no_member, sees_normal, sees_normal_member, elements_begin, elements_go_on, elements_end, members_begin, members_go_on, members_end, widest_with, array_goes_on, object_goes_on, whole_of, LeadsTo-popped, LeadsTo-pushed, err_is}
 use Rattle.jsonb_doc.specs.Private.Filling.{LeadsTo}
-use Rattle.jsonb_doc.proofs.LimitLemmas.{decoded_keys}
-use Rattle.jsonb_doc.proofs.ValueTrees.{tree_seen-Array, tree_seen-Object}
-use Rattle.jsonb_doc.proofs.DecodedValues.{first_element, element_read, no_element, first_member, member_read, no_member, sees_normal, sees_normal_member, elements_begin, elements_go_on, elements_end, members_begin, members_go_on, members_end}
-use Rattle.jsonb_doc.proofs.FilledValues.{widest_with, array_goes_on, object_goes_on, whole_of, LeadsTo-popped, LeadsTo-pushed}
-use Rattle.jsonb_doc.proofs.EventLemmas.{err_is}
 use Rattle.jsonb_doc.proofs.value.decode.+decode.Goals as goal
 
 -- ---- one container

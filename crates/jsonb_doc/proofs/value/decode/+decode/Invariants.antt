@@ -1,7 +1,6 @@
-use Rattle.jsonb_doc.proofs.Common.{◌≡◌, ◌+◌, ◌*◌, ◌≤◌, ◌++◌, length, reverse, Tree, Trees, Pairs, elements, members, keys, trees_of, pairs_of, Form, AreKeys, StandsFor, item_size, HasElementsLeft, HasPairsLeft, tree_seen, trees_seen, members_seen, KeepsNormal, SeesItem, open_room, Number}
+use Rattle.jsonb_doc.proofs.Lemmas.{◌≡◌, ◌+◌, ◌*◌, ◌≤◌, ◌++◌, length, reverse, Tree, Trees, Pairs, elements, members, keys, trees_of, pairs_of, Form, AreKeys, StandsFor, item_size, HasElementsLeft, HasPairsLeft, tree_seen, trees_seen, members_seen, KeepsNormal, SeesItem, open_room, Number, widest}
 use Rattle.jsonb_doc.specs.Number as spec
 use Rattle.jsonb_doc.specs.Private.Filling.{LeadsTo}
-use Rattle.jsonb_doc.proofs.FilledValues.{widest}
 use Rattle.jsonb_doc.proofs.value.decode.+decode.Given as goal
 
 abbrev pub decreases-item_value : goal.decreases-item_value

@@ -1,4 +1,4 @@
-use Rattle.jsonb_doc.proofs.Common.{◌∙◌, sym}
+use Rattle.jsonb_doc.proofs.Lemmas.{◌∙◌, sym}
 use Rattle.jsonb_doc.proofs.value.decode.scalar_value.Goals as goal
 
 pub returns-in-Extension : goal.returns-in-Extension

@@ -1,6 +1,4 @@
-use Rattle.jsonb_doc.proofs.Common.{◌≡◌, refl, number_parts, number_view, value_parts}
-use Rattle.jsonb_doc.proofs.DecodedValues.{sees_normal, sees_view}
-use Rattle.jsonb_doc.proofs.Basics.{if_answered}
+use Rattle.jsonb_doc.proofs.Lemmas.{◌≡◌, refl, number_parts, number_view, value_parts, sees_normal, sees_view, if_answered}
 use Rattle.jsonb_doc.proofs.value.decode.to_value.Goals as goal
 
 pub returns-clause-decodes : goal.returns-clause-decodes

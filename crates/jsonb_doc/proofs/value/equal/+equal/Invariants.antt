@@ -1,4 +1,5 @@
-use Rattle.jsonb_doc.proofs.Common.{◌≡◌, ◌+◌, ◌-◌, ◌*◌, ◌≤◌, ◌&&◌, iter_rest, is_equal, value_tree, parts, values_parts, entries_parts, values_same, entries_same, told, told_parts}
+use Rattle.jsonb_doc.proofs.Lemmas.{◌≡◌, ◌+◌, ◌-◌, ◌*◌, ◌≤◌, ◌&&◌, iter_rest, is_equal, value_tree, parts, values_parts, entries_parts, values_same, entries_same, told_parts}
+use Rattle.jsonb_doc.proofs.Common.{told}
 use Rattle.jsonb_doc.proofs.value.equal.+equal.Given as goal
 
 -- that many parts, and then the functions in turn

@@ -1,9 +1,8 @@
-use Rattle.jsonb_doc.proofs.Common.{rules, parts}
-use Rattle.jsonb_doc.proofs.PartLemmas.{fewer_parts, fewer_exchanged}
+use Rattle.jsonb_doc.proofs.Lemmas.{exchanged, parts-Object, fewer_in_front, rules, parts, fewer_parts, arith}
 use Rattle.jsonb_doc.proofs.value.release.with_behind.Goals as goal
 
 pub returns-in-None : goal.returns-in-None
 returns-in-None c = search (rules, fewer_parts, parts)
 
 pub returns-in-Some : goal.returns-in-Some
-returns-in-Some c = search (rules, fewer_exchanged)
+returns-in-Some c = grind (arith, exchanged, parts-Object, fewer_in_front)

@@ -1,5 +1,4 @@
-use Rattle.jsonb_doc.proofs.Common.{rules, arith, parts}
-use Rattle.jsonb_doc.proofs.PartLemmas.{fewer_in_front, parts-Array, values_parts-last, some_tree_parts}
+use Rattle.jsonb_doc.proofs.Lemmas.{rules, arith, parts, fewer_in_front, parts-Array, values_parts-last, some_tree_parts}
 use Rattle.jsonb_doc.proofs.value.release.without_inner.Goals as goal
 
 pub returns-in-None : goal.returns-in-None

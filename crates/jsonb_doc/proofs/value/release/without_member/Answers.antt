@@ -1,5 +1,4 @@
-use Rattle.jsonb_doc.proofs.Common.{arith, parts, common_steps}
-use Rattle.jsonb_doc.proofs.PartLemmas.{fewer_in_front, some_tree_parts, parts-Object, entries_parts-last, waiting_parts-container}
+use Rattle.jsonb_doc.proofs.Lemmas.{arith, parts, common_steps, fewer_in_front, some_tree_parts, parts-Object, entries_parts-last, waiting_parts-container}
 use Rattle.jsonb_doc.proofs.value.release.without_member.Goals as goal
 
 pub returns-in-Some-pop_last : goal.returns-in-Some-pop_last

@@ -1,5 +1,4 @@
-use Rattle.jsonb_doc.proofs.Common.{rules, parts}
-use Rattle.jsonb_doc.proofs.PartLemmas.{fewer_parts}
+use Rattle.jsonb_doc.proofs.Lemmas.{rules, parts, fewer_parts}
 use Rattle.jsonb_doc.proofs.value.release.without_next.Goals as goal
 
 pub returns-in-Some : goal.returns-in-Some

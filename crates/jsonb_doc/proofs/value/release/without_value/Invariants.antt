@@ -1,4 +1,4 @@
-use Rattle.jsonb_doc.proofs.Common.{◌≡◌, ◌≤◌, length, values_parts}
+use Rattle.jsonb_doc.proofs.Lemmas.{◌≡◌, ◌≤◌, length, values_parts}
 use Rattle.jsonb_doc.proofs.value.release.without_value.Given as goal
 
 -- nothing has come in

@@ -1,6 +1,5 @@
-use Rattle.jsonb_doc.proofs.Common.{rules, sym, inl, subst, Some, Option, String, Global, HoldsLevel, IsEntryOf, filled}
+use Rattle.jsonb_doc.proofs.Lemmas.{rules, sym, inl, subst, Some, Option, String, Global, HoldsLevel, IsEntryOf, filled, array_filled, array_too_long, object_filled, object_too_long, object_named, object_same, err_is, err_along, both, result_along}
 use Rattle.jsonb_doc.specs.declared.document_builder.frame.Frame.TheVariants.{Object}
-use Rattle.jsonb_doc.proofs.EventLemmas.{array_filled, array_too_long, object_filled, object_too_long, object_named, object_same, err_is, err_along, both, result_along}
 use Rattle.jsonb_doc.proofs.document_builder.frame.Frame.fill.Goals as goal
 
 pub returns-in_err-new-in-Array-clause-filled : goal.returns-in_err-new-in-Array-clause-filled

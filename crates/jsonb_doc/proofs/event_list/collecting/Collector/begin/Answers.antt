@@ -1,10 +1,8 @@
-use Rattle.jsonb_doc.proofs.Common.{rules, ◌++◌, ◌∷◌, [], ◌∙◌, List, ap, refl, sym, length, arith, None, append-nil, Run, Nested, Member, Frame}
-use Rattle.jsonb_doc.proofs.CollectingLemmas.{waits_takes, around_more}
-use Rattle.jsonb_doc.proofs.OneRun.{opens_refused}
+use Rattle.jsonb_doc.proofs.Lemmas.{rules, ◌++◌, ◌∷◌, [], ◌∙◌, List, ap, refl, sym, length, arith, None, append-nil, Run, Nested, Member, Frame, waits_takes, around_more}
 use Rattle.jsonb_doc.proofs.event_list.collecting.Collector.begin.Goals as goal
 
 pub returns-in_default : goal.returns-in_default
-returns-in_default c = search (rules, opens_refused)
+returns-in_default c = search rules
 
 pub returns : goal.returns
 returns c = λ s level h some empty.

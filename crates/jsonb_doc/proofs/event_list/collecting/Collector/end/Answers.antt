@@ -1,10 +1,8 @@
-use Rattle.jsonb_doc.proofs.Common.{◌≡◌, ◌∙◌, ◌∷◌, List, ap, sym, subst, arith, take, rules, overwrites, take_at, Level, State, ends, HoldsFrame, LeadsTo, AreAround, Member}
-use Rattle.jsonb_doc.proofs.CollectingLemmas.{innermost_is, none_of, named_stays, ends_around, around_stay, end_event_due, outer_due}
-use Rattle.jsonb_doc.proofs.EventLemmas.{result_along, err_is}
+use Rattle.jsonb_doc.proofs.Lemmas.{◌≡◌, ◌∙◌, ◌∷◌, List, ap, sym, subst, arith, take, rules, overwrites, take_at, Level, State, ends, HoldsFrame, LeadsTo, AreAround, Member, innermost_is, none_of, ends_around, around_stay, end_event_due, outer_due, result_along, err_is}
 use Rattle.jsonb_doc.proofs.event_list.collecting.Collector.end.Goals as goal
 
 pub returns-then-is_some : goal.returns-then-is_some
-returns-then-is_some c = search (rules, named_stays)
+returns-then-is_some c = grind arith
 
 pub returns-in_err-run : goal.returns-in_err-run
 returns-in_err-run c = λ s h.

@@ -1,5 +1,4 @@
-use Rattle.jsonb_doc.proofs.Common.{rules, Member}
-use Rattle.jsonb_doc.proofs.CollectingLemmas.{root_finished}
+use Rattle.jsonb_doc.proofs.Lemmas.{rules, Member, root_finished}
 use Rattle.jsonb_doc.proofs.event_list.collecting.Collector.finish.Goals as goal
 
 pub returns-in-Scalar-Some : goal.returns-in-Scalar-Some

@@ -1,5 +1,4 @@
-use Rattle.jsonb_doc.proofs.Common.{ap, refl, Some, option_copied, object_of, Frame}
-use Rattle.jsonb_doc.proofs.CollectingLemmas.{named_frame}
+use Rattle.jsonb_doc.proofs.Lemmas.{ap, refl, Some, option_copied, object_of, Frame, named_frame}
 use Rattle.jsonb_doc.proofs.event_list.collecting.Collector.key.Goals as goal
 
 pub returns-in-Object-None : goal.returns-in-Object-None

@@ -1,5 +1,4 @@
-use Rattle.jsonb_doc.proofs.Common.{◌≡◌, ℕ, ◌++◌, ◌∷◌, [], ◌∙◌, ap, refl, sym, subst, List, append_assoc, None, same_from_push, appended, WaitsFor, AreAround, Run, Nested, Member, Frame}
-use Rattle.jsonb_doc.proofs.CollectingLemmas.{filled_frame, opened_around, same_run}
+use Rattle.jsonb_doc.proofs.Lemmas.{◌≡◌, ℕ, ◌++◌, ◌∷◌, [], ◌∙◌, ap, refl, sym, subst, List, append_assoc, None, same_from_push, appended, WaitsFor, AreAround, Run, Nested, Member, Frame, filled_frame, opened_around, same_run}
 use Rattle.jsonb_doc.proofs.event_list.collecting.Collector.reopen.Goals as goal
 
 pub returns-in_ok-push-in-Some-Nested : goal.returns-in_ok-push-in-Some-Nested

@@ -1,7 +1,4 @@
-use Rattle.jsonb_doc.proofs.Common.{[], refl, inl, inr, arith, None, text, array_of, object_of, array_begins, object_begins, key_is, value_is, ends}
-use Rattle.jsonb_doc.proofs.OneRun.{plain_exists}
-use Rattle.jsonb_doc.proofs.ListErrors.{event_due, event_due_anyway}
-use Rattle.jsonb_doc.proofs.EventLemmas.{err_is}
+use Rattle.jsonb_doc.proofs.Lemmas.{[], refl, inl, inr, arith, None, text, array_of, object_of, array_begins, object_begins, key_is, value_is, ends, plain_exists, event_due, event_due_anyway, err_is}
 use Rattle.jsonb_doc.proofs.event_list.collecting.Collector.take.Goals as goal
 
 pub returns-in_ok-add-in-0-to-6 : goal.returns-in_ok-add-in-0-to-6

@@ -1,8 +1,19 @@
--- Integers at and near a number.
-use Rattle.jsonb_doc.proofs.Common.{◌≡◌, ◌≢◌, ℕ, zero, suc, ◌+◌, ◌-◌, ◌*◌, ◌/◌, ◌%◌, ◌^◌, ◌<◌, ◌≤◌, ℤ, pos, ◌*ℤ◌, int_lt, inl, inr, ap, ◌∙◌, arith, Option, FitsSigned, MatchOption, div-add-mod', mul-pos, neg_ℤ, unsigned_abs, w64, mul-mod_left, add-mul-div_right, div-eq_of_lt, eq_of_mul-eq-mul_right, pow-le-pow_right, mod_below, cases_lt, nat_tests, with_sign, nearest}
+-- Numbers: exact order by one scaling and by signs, and the integers at and near a number.
+use Rattle.jsonb_doc.proofs.Common.{◌≡◌, ℕ, suc, ◌-◌, ◌*◌, ◌^◌, ◌<◌, ◌≤◌, ℤ, pos, ◌*ℤ◌, sym, ap, ◌∙◌, arith, nat_cmp, Less, mul_assoc, int_lt, zero, mul_comm, pow-suc, mul-le-mul_left, one-le-pow, pow-add, nat_cmp_scaled, nat_cmp-lt, ◌≢◌, ◌+◌, ◌/◌, ◌%◌, inl, inr, Option, FitsSigned, MatchOption, div-add-mod', mul-pos, neg_ℤ, unsigned_abs, w64, add-mul-div_right, div-eq_of_lt, eq_of_mul-eq-mul_right, pow-le-pow_right, mod_below, cases_lt, nat_tests, with_sign, nearest}
 
-pub remainder_left : (n p q : ℕ) → n % p ≢ 0 → n ≡ q * p → ⊥
-remainder_left n p q some e = some (ap (λ x. x % p) e ∙ mul-mod_left q p)
+pub power_step : (b k : ℕ) → 0 < k → b * 10 * 10 ^ (k - 1) ≡ b * 10 ^ k
+power_step b zero h = absurd (omega arith)
+power_step b (suc k) h = grind (arith, mul_assoc, mul_comm, pow-suc)
+
+-- a number of 128 bits is below one whose tenfold passes them
+pub below_scaled : (a b k : ℕ) → 0 < k → a < 2 ^ 128 → 2 ^ 128 ≤ b * 10 → Less ≡ nat_cmp a (b * 10 ^ k)
+below_scaled a b k h ha hb =
+    sym (nat_cmp-lt a (b * 10 ^ k) (omega (arith, power_step b k h, mul-le-mul_left (b * 10) (one-le-pow (k - 1) 10 (omega arith)))))
+
+pub scaled_once : (a b s t : ℕ) → t ≤ s → nat_cmp a (b * 10 ^ (s - t)) ≡ nat_cmp (a * 10 ^ t) (b * 10 ^ s)
+scaled_once a b s t h =
+    sym (nat_cmp_scaled (10 ^ t) a (b * 10 ^ (s - t)) (one-le-pow t 10 (omega arith)))
+    ∙ ap (nat_cmp (a * 10 ^ t)) (mul_assoc b (10 ^ (s - t)) (10 ^ t) ∙ ap (λ x. b * x) (sym (pow-add 10 (s - t) t) ∙ ap (λ x. 10 ^ x) (omega arith)))
 
 pub quotient_small : (n p q : ℕ) → n ≢ 0 → n < p → n ≡ q * p → ⊥
 quotient_small n p zero some small e = some (let z : 0 * p ≡ 0 = omega arith in e ∙ z)
@@ -10,15 +21,12 @@ quotient_small n p (suc q) some small e = omega arith
 
 -- ---- rounding
 
-by_rest : (n p : ℕ) → 0 < p → nearest n p ≡ (2 * (n % p) + p) / (2 * p) + n / p
+pub by_rest : (n p : ℕ) → 0 < p → nearest n p ≡ (2 * (n % p) + p) / (2 * p) + n / p
 by_rest n p some =
     ap (λ x. x / (2 * p)) (omega (arith, div-add-mod' n p)) ∙ add-mul-div_right (2 * (n % p) + p) (n / p) (omega arith)
 
 pub rounded_up : (n p : ℕ) → 0 < p → p ≤ 2 * (n % p) → n / p + 1 ≡ nearest n p
 rounded_up n p some most = search (arith, mod_below n p some, by_rest n p some)
-
-pub rounded_down : (n p : ℕ) → 0 < p → 2 * (n % p) < p → n / p ≡ nearest n p
-rounded_down n p h e = grind (arith, div-eq_of_lt, by_rest)
 
 pub rounded_to_zero : (n p : ℕ) → 2 * n < p → 0 ≡ nearest n p
 rounded_to_zero n p h = grind (arith, div-eq_of_lt)
