@@ -87,11 +87,8 @@ pub filter_next : (context : Context) (top : Tree) (r : Running) (x : Path) (e :
     → x ≡ get_or r.steps.now r.next x → taken_step r.expressions (step_view x) ≡ filter e → IsRunning context top r o
     → IsBeforeFilter context top e (reached r (r.next + 1) r.items) o
 filter_next context top r x e o short is taken h =
-    let left = running_step context top r x o short is h in (
-      left.0,
-      left.1,
-      rw taken at left.2,
-    )
+    let left = running_step context top r x o short is h in
+    grind arith
 
 -- what the next step selects
 pub step_taken : (context : Context) (top : Tree) (repeats : Repeats) (s : Step) (rest : Steps) (nodes : NodeList) (ts : List Tree)

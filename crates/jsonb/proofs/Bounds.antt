@@ -1,5 +1,5 @@
 -- The bound on parentheses changes nothing, once it passes the length of the input.
-use Rattle.jsonb.proofs.Common.{◌≡◌, ℕ, zero, suc, ◌+◌, ◌<◌, ◌≤◌, List, [], ◌∷◌, length, drop, Bool, true, false, cond, Some, None, refl, ◌∙◌, ap, arith, length-drop, add-one, nat_lt, codes, option_and_then, Decides-ltb, Parsed, Rule, ◌>>=◌, ◌>>◌, ◌</>◌, parsed_map, bytes, literal, turn, up_to, repeat, list_of, NeverGrows, some-no_more, some-literal, grows-ws, Expression, spaced, path_root, path_with, group_with, exists_with, atom_with, and_with, or_with, nested_or, expression, path_step}
+use Rattle.jsonb.proofs.Common.{◌≡◌, ℕ, zero, suc, ◌+◌, ◌<◌, ◌≤◌, List, [], ◌∷◌, length, drop, Bool, true, Some, None, refl, ◌∙◌, arith, length-drop, add-one, codes, option_and_then, Decides-ltb, Parsed, Rule, ◌>>=◌, ◌>>◌, ◌</>◌, bytes, literal, up_to, repeat, list_of, NeverGrows, some-no_more, some-literal, grows-ws, Expression, spaced, path_root, path_with, group_with, exists_with, atom_with, and_with, or_with, nested_or, expression, path_step}
 use Rattle.jsonb.proofs.ExpressionReadsSome.{some-path_root, some-and_separator, some-or_separator, some-atom, some-and, grows-nested_or}
 
 -- the rules do the same on inputs that are shorter than this
@@ -31,15 +31,7 @@ agree-choice k h h' input short = rw (h input short, h' input short) refl
 agree-up_to : {A : Type 0} (k : ℕ) (rule rule' : Rule A) → Agree k rule rule' → (n : ℕ) → Agree k (up_to n rule) (up_to n rule')
 unfolding up_to
 agree-up_to {A} k rule rule' h zero input short = refl
-agree-up_to {A} k rule rule' h (suc n) input short = rw (h input short) (go (agree-up_to k rule rule' h n) (rule' input)) where
-  go : Agree k (up_to n rule) (up_to n rule') → (o : Parsed A) → turn (up_to n rule) input o ≡ turn (up_to n rule') input o
-  go more None = refl
-  go more (Some p) = pick (nat_lt (length p.1) (length input)) refl where
-    pick : (t : Bool) → nat_lt (length p.1) (length input) ≡ t →
-        cond t (parsed_map (λ (os : List A). p.0 ∷ os) (up_to n rule p.1)) (Some ([], input))
-        ≡ cond t (parsed_map (λ (os : List A). p.0 ∷ os) (up_to n rule' p.1)) (Some ([], input))
-    pick true at = ap (parsed_map (λ (os : List A). p.0 ∷ os)) (more p.1 (omega (arith, (Decides-ltb (length p.1) (length input)).0 at)))
-    pick false at = refl
+agree-up_to {A} k rule rule' h (suc n) input short = grind (arith, agree-up_to k rule rule' h n, Decides-ltb)
 
 agree-repeat : {A : Type 0} {rule rule' : Rule A} (k : ℕ) → Agree k rule rule' → Agree k (repeat rule) (repeat rule')
 unfolding repeat

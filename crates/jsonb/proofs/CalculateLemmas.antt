@@ -1,5 +1,5 @@
 -- Values that are numbers, and the results of arithmetic.
-use Rattle.jsonb.proofs.Common.{◌≡◌, ℤ, Bool, true, false, if◌then◌else◌, MatchResult, IfErr, List, [], ◌∷◌, ◌++◌, Some, Ok, Err, IsOkAnd, refl, sym, ap, ◌∙◌, Outcome, Refines, and_then, try_flat_map, IsOutOfMemory, Operation, calculated, IsResultOf, Number, number_from, InvalidJsonPath, Tree, number_view, two_numbers, all_numbers, signed_number, each_signed, number_list, UnaryOp, AllZip, only_number, are_numbers, signed_value, IsNumberTree, IsNumberItem, IsPathError, IsSelectionError, Value, Mode, Lax, arith}
+use Rattle.jsonb.proofs.Common.{◌≡◌, ℤ, Bool, true, false, if◌then◌else◌, MatchResult, IfErr, List, [], ◌∷◌, ◌++◌, Some, Ok, Err, IsOkAnd, refl, Outcome, Refines, try_flat_map, IsOutOfMemory, Operation, calculated, IsResultOf, Number, number_from, InvalidJsonPath, Tree, number_view, two_numbers, all_numbers, signed_number, each_signed, number_list, UnaryOp, AllZip, only_number, are_numbers, signed_value, IsNumberTree, IsNumberItem, IsPathError, IsSelectionError, Value, Mode, Lax, arith}
 use Rattle.jsonb_doc.specs.Arithmetic.{integer}
 use Rattle.jsonb_doc.specs.declared.number.Number.{Number as CodeNumber}
 use Rattle.jsonb.specs.Values.{number}
@@ -45,23 +45,18 @@ outcome_given o r normal is = grind arith
 lone_is : (vs : List Value) (n : Number) → only_number vs ≡ Some n → vs ≡ number n ∷ []
 lone_is vs n h = grind arith
 
-two_are : (o : Operation) (ls rs : List Value) (m n : Number) → Some m ≡ only_number ls → Some n ≡ only_number rs
-    → two_numbers o ls rs ≡ number_list (calculated o m n)
-two_are o ls rs m n p q = λ i. two_numbers o (lone_is ls m (sym p) i) (lone_is rs n (sym q) i)
-
 -- two operands of one number each
 pub two_given : (o : Operation) (ls rs : List Value) (m n : CodeNumber) (r : Outcome CodeNumber) → Some (number_view m) ≡ only_number ls
     → Some (number_view n) ≡ only_number rs
     → IsResultOf (calculated o (number_view m) (number_view n)) r → Refines IsNumberTree (λ _. ⊥) r (two_numbers o ls rs)
-two_given o ls rs m n r p q is = rw (two_are o ls rs _ _ p q) (outcome_given _ r (calculated_sound Lax o (number_view m) (number_view n)) is)
+two_given o ls rs m n r p q is = grind (arith, lone_is, outcome_given, calculated_sound Lax o (number_view m) (number_view n))
 
 -- ---- values after a sign
 
 -- a value that is not a number fails
 pub other_refused : (vs : List Value) → are_numbers vs ≡ false → all_numbers vs ≡ Err InvalidJsonPath
 other_refused [] h = cc
-other_refused (number n ∷ rest) h = ap (λ o. and_then o (λ ns. Ok (n ∷ ns))) (other_refused rest h)
-other_refused (v ∷ rest) h = refl
+other_refused (v ∷ rest) h = grind (arith, other_refused rest)
 
 -- numbers are signed one by one
 module _ (op : UnaryOp) where
@@ -69,10 +64,10 @@ module _ (op : UnaryOp) where
       (ns : List Number) × (all_numbers vs ≡ Ok ns) × (try_flat_map (signed_number op) ns ≡ try_flat_map (signed_value op) vs)
   each_number [] h = ([], refl, refl)
   each_number (number n ∷ rest) h = let k = each_number rest h in (n ∷ k.0, grind arith, grind arith)
-  each_number (v ∷ rest) h = cc
+  each_number _ h = cc
 
   pub values_signed : (vs : List Value) → are_numbers vs ≡ true → each_signed op vs ≡ try_flat_map (signed_value op) vs
-  values_signed vs h = let k = each_number vs h in ap (λ o. and_then o (try_flat_map (signed_number op))) k.1 ∙ k.2
+  values_signed vs h = grind (arith, each_number)
 
 -- one more number
 pub number_added : (old new : List CodeNumber) (n : CodeNumber) (o : Outcome (List Tree)) (before : List Tree)

@@ -1,5 +1,5 @@
 -- Comparisons of members of the item with literals.
-use Rattle.jsonb.proofs.Common.{◌≡◌, List, [], ◌∷◌, map, flat_map, true, Option, Ok, IsOkAnd, sym, Outcome, and_then, try_flat_map, Tree, Expression, steps_of, steps_view, Truth, compare, Value, values_of_item, list_or, step_meaning, steps_meaning, truth, operand_values, IsMemberCompared, is_comparison, is_member, are_members, value_view, taken_step, AreRefused, Mode, Lax, MemberCompared, arith}
+use Rattle.jsonb.proofs.Common.{◌≡◌, List, [], ◌∷◌, map, flat_map, true, Option, Ok, IsOkAnd, sym, Outcome, and_then, try_flat_map, Tree, Expression, steps_of, steps_view, Truth, compare, Value, values_of_item, list_or, step_meaning, steps_meaning, truth, operand_values, IsMemberCompared, is_comparison, are_members, value_view, taken_step, AreRefused, Mode, Lax, MemberCompared, arith}
 use Rattle.jsonb.specs.PathTree as math
 use Rattle.jsonb.proofs.RefinesLemmas.{with_ok}
 use Rattle.jsonb.proofs.MemberLemmas.{both_true}
@@ -30,9 +30,6 @@ Any x = Unit {0}
 pub listed_total : (otherwise : List Tree) (o : Option (List Tree)) → IsOkAnd (list_or Lax otherwise o) Any
 listed_total otherwise o = grind arith
 
-pub member_total : (s : math.Step) (top t : Tree) → is_member s ≡ true → IsOkAnd (step_meaning Lax s top t) Any
-member_total s top t h = grind (arith, listed_total)
-
 pub all_total : (f : Tree → Outcome (List Tree)) → ((t : Tree) → IsOkAnd (f t) Any) → (ts : List Tree) → IsOkAnd (try_flat_map f ts) Any
 all_total f h [] = tt
 all_total f h (t ∷ ts) = grind (arith, (all_total f h ts))
@@ -50,10 +47,10 @@ steps_total (s ∷ ss) top ts h =
 
 pub members_are_total : (ss : List math.Step) → are_members ss ≡ true → AreTotal ss
 members_are_total [] h = tt
-members_are_total (s ∷ ss) h = grind (arith, (members_are_total ss), both_true, member_total)
+members_are_total (s ∷ ss) h = grind (arith, (members_are_total ss), both_true, listed_total)
 
 pub members_total : (ss : List math.Step) (top : Tree) (ts : List Tree) → are_members ss ≡ true → IsOkAnd (steps_meaning Lax (steps_of ss) top ts) Any
-members_total ss top ts h = steps_total ss top ts (members_are_total ss h)
+members_total ss top ts h = grind (arith, steps_total, members_are_total)
 
 pub comparison_total : (c : MemberCompared) (e : Expression) (top t : Tree) → IsMemberCompared c e → IsOkAnd (truth Lax e top t) Any
 comparison_total c e top t k =

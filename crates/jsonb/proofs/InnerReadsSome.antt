@@ -60,20 +60,16 @@ some-levels =
     begun (some-literal 123 []) (λ _. blank (further (some-natural_below (2 ^ 8)) (λ n. grows-then (optional level_end) _
     (grows-optional grows-level_end) (λ end. blank (further (some-literal 125 []) (λ _. grows-give _))))))
 
-grows-field : NeverGrows field
-unfolding field
-grows-field = some-no_more _ (choice some-quoted some-name)
-
 pub some-spaced_inner : ReadsSome spaced_inner
-unfolding spaced_inner inner wildcard named_field entries bracket_field
+unfolding spaced_inner inner wildcard named_field entries bracket_field field
 some-spaced_inner = some-spaced inner
     (choice
     (choice (begun (some-literal 46 (codes "**")) (λ _. grows-then (optional levels) _ (grows-optional (some-no_more levels some-levels)) (λ found. grows-give _)))
     (choice (begun (some-literal 46 (codes "*")) (λ _. grows-give _))
     (begun (some-literal 91 []) (λ _. blank (further (some-literal 42 []) (λ _. blank (further (some-literal 93 []) (λ _. grows-give _))))))))
     (choice
-    (choice (begun (begun (some-literal 58 []) (λ _. grows-field)) (λ text. grows-give _))
-    (begun (begun (some-literal 46 []) (λ _. grows-field)) (λ text. grows-give _)))
+    (choice (begun (begun (some-literal 58 []) (λ _. (some-no_more _ (choice some-quoted some-name)))) (λ text. grows-give _))
+    (begun (begun (some-literal 46 []) (λ _. (some-no_more _ (choice some-quoted some-name)))) (λ text. grows-give _)))
     (choice
     (begun (begun (some-literal 91 []) (λ _. further (begun some-entry (λ first. grows-then _ _ (grows-repeat another_entry some-another_entry)
     (λ others. grows-give _))) (λ found. further (some-literal 93 []) (λ _. grows-give _)))) (λ found. grows-give _))

@@ -1,5 +1,5 @@
 -- A comparison whose sides are exchanged.
-use Rattle.jsonb.proofs.Common.{◌≡◌, List, [], ◌∷◌, map, flat_map, true, Bool, Option, Some, None, option_map, Ok, Err, IfSome, refl, sym, ap, ◌∙◌, subst, append-nil, if◌then◌else◌, ◌||◌, arith, ordering_reverse, Ordering, Less, Equal, Greater, Outcome, and_then, Tree, BinaryOp, Expression, antisymmetric, Truth, value_order, truth_of_order, is_container, pair_truth, first_decisive, compare, Value, values_of_item, steps_meaning, truth, operand_values, mirrored, is_comparison, Mode}
+use Rattle.jsonb.proofs.Common.{◌≡◌, List, [], ◌∷◌, map, flat_map, true, Bool, Option, Some, None, option_map, Ok, Err, refl, sym, ap, ◌∙◌, append-nil, if◌then◌else◌, ◌||◌, arith, ordering_reverse, Ordering, Outcome, and_then, Tree, BinaryOp, Expression, antisymmetric, Truth, value_order, truth_of_order, is_container, pair_truth, first_decisive, compare, Value, values_of_item, steps_meaning, truth, operand_values, mirrored, is_comparison, Mode}
 use Rattle.jsonb.specs.PathTree as math
 use Rattle.jsonb.specs.Values.{null}
 use Rattle.jsonb.proofs.ComparedLemmas.{compares_member}
@@ -20,22 +20,8 @@ record AreMirrors (a b : Value) (o : Option Ordering) (op turned : BinaryOp) : T
   turned_pair : pair_truth turned b a ≡ by_order turned b a
   met : truth_of_order op (option_map ordering_reverse o) ≡ truth_of_order turned o
 
-mirrors : (a b : Value) (o : Option Ordering) (op : BinaryOp) → IfSome (mirrored op) (AreMirrors a b o op)
-mirrors a b o math.and_op = tt
-mirrors a b o math.or_op = tt
-mirrors a b o math.starts_with_op = tt
-mirrors a b o math.add = tt
-mirrors a b o math.subtract = tt
-mirrors a b o math.multiply = tt
-mirrors a b o math.divide = tt
-mirrors a b o math.modulo = tt
-mirrors a b (Some Less) _ = record { compares = refl; turned_compares = refl; pair = refl; turned_pair = refl; met = refl }
-mirrors a b (Some Equal) _ = record { compares = refl; turned_compares = refl; pair = refl; turned_pair = refl; met = refl }
-mirrors a b (Some Greater) _ = record { compares = refl; turned_compares = refl; pair = refl; turned_pair = refl; met = refl }
-mirrors a b None _ = record { compares = refl; turned_compares = refl; pair = refl; turned_pair = refl; met = refl }
-
 are_mirrors : (a b : Value) (o : Option Ordering) (op turned : BinaryOp) → mirrored op ≡ Some turned → AreMirrors a b o op turned
-are_mirrors a b o op turned h = subst (λ found. IfSome found (AreMirrors a b o op)) h (mirrors a b o op)
+are_mirrors a b o op turned h = grind arith
 
 pair-mirrored : (op turned : BinaryOp) (a b : Value) → mirrored op ≡ Some turned → pair_truth op a b ≡ pair_truth turned b a
 pair-mirrored op turned a b h = grind (arith, either, are_mirrors, antisymmetric)
@@ -45,9 +31,6 @@ pairs-mirrored : (op turned : BinaryOp) (l : Value) (rs : List Value) → mirror
     → map (λ r. pair_truth op l r) rs ≡ flat_map (λ r. map (λ z. pair_truth turned r z) (l ∷ [])) rs
 pairs-mirrored op turned l [] h = refl
 pairs-mirrored op turned l (r ∷ rs) h = λ i. pair-mirrored op turned l r h i ∷ pairs-mirrored op turned l rs h i
-
-compare-mirrored : (op turned : BinaryOp) (l : Value) (rs : List Value) → mirrored op ≡ Some turned → compare op (l ∷ []) rs ≡ compare turned rs (l ∷ [])
-compare-mirrored op turned l rs h = ap first_decisive (append-nil (map (λ r. pair_truth op l r) rs) ∙ pairs-mirrored op turned l rs h)
 
 -- a comparison whose left side is a literal, and whose right side is a member
 pub member_mirrored : (mode : Mode) (op turned : BinaryOp) (l : Expression) (v : Value) (steps : math.Steps) (top t : Tree)
@@ -65,5 +48,5 @@ member_mirrored mode op turned l v steps top t h is =
     ∙ compares_member mode turned steps l v top t k.turned_compares is
   where
     exchanged : (o : Outcome (List Value)) → and_then o (λ rs. Ok (compare op (v ∷ []) rs)) ≡ and_then o (λ ls. Ok (compare turned ls (v ∷ [])))
-    exchanged (Ok rs) = ap Ok (compare-mirrored op turned v rs h)
+    exchanged (Ok rs) = ap Ok ((ap first_decisive (append-nil (map (λ r. pair_truth op v r) rs) ∙ pairs-mirrored op turned v rs h)))
     exchanged (Err e) = refl

@@ -21,9 +21,6 @@ pub record First {B : Type 0} (Others : List B → Type 0) (P : B → Type 0) (r
   pub holds : P first
   pub left : Others others
 
-behind-nil : {C : Type 0} (o : Outcome (List C)) → o ≡ behind [] o
-behind-nil o = grind arith
-
 -- parts that are never refused
 pub joined_total : {B C : Type 0} (g : B → List C) (ts : List B) → try_flat_map (λ t. Ok (g t)) ts ≡ Ok (flat_map g ts)
 joined_total g [] = refl
@@ -31,7 +28,7 @@ joined_total g (t ∷ ts) = ap (λ o. and_then o (λ back. Ok (g t ++ back))) (j
 
 pub at_start : {B C : Type 0} (f : B → Outcome (List C)) (Left : List B → Type 0) (Done : List C → Type 0) (ts : List B) → Left ts → Done []
     → Progress Left Done f (try_flat_map f ts)
-at_start f Left Done ts l d = record { rest = ts; given = []; left = l; done = d; is = behind-nil (try_flat_map f ts) }
+at_start f Left Done ts l d = grind arith
 
 module _ {B C : Type 0} {f : B → Outcome (List C)} {Left : List B → Type 0} {Done : List C → Type 0} {outcome : Outcome (List C)} where
   -- one turn
@@ -78,11 +75,7 @@ no_spot = record { kind = kind.Null; start = 0; end = 0 }
 module _ {A B : Type 0} (R : A → B → Type 0) (xs : List A) where
   pub list_first : (i : ℕ) (d : A) → i < length xs → (rest : List B) → AllZip R (drop i xs) rest
       → First (AllZip R (drop (i + 1) xs)) (R (get_or xs i d)) rest
-  list_first i d h rest a = go rest (rw (drop-cons xs i d h ∙ ap (λ n. get_or xs i d ∷ drop n xs) (sym (add-one i))) at a)
-    where
-      go : (rest : List B) → AllZip R (get_or xs i d ∷ drop (i + 1) xs) rest → First (AllZip R (drop (i + 1) xs)) (R (get_or xs i d)) rest
-      go [] a = absurd a
-      go (t ∷ ts) a = record { first = t; others = ts; whole = refl; holds = a.0; left = a.1 }
+  list_first i d h rest a = grind (arith, drop-cons, add-one)
 
   pub list_end : (i : ℕ) → length xs ≤ i → (rest : List B) → AllZip R (drop i xs) rest → rest ≡ []
   list_end i h rest a = grind (arith, drop_of_length-le)
