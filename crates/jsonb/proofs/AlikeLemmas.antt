@@ -17,8 +17,7 @@ found_in f test None = None
 abbrev finds_in : {A B : Type 0} → (A → List B) → (B → Bool) → A → Bool
 finds_in f test x = is_some (find test (f x))
 
-find-flat_map : {A B : Type 0} (f : A → List B) (test : B → Bool) (xs : List A)
-    → find test (flat_map f xs) ≡ found_in f test (find (finds_in f test) xs)
+find-flat_map : {A B : Type 0} (f : A → List B) (test : B → Bool) (xs : List A) → find test (flat_map f xs) ≡ found_in f test (find (finds_in f test) xs)
 find-flat_map f test [] = refl
 find-flat_map f test (x ∷ xs) = grind (arith, find-flat_map f test xs, find-append)
 

@@ -46,9 +46,8 @@ lone_is : (vs : List Value) (n : Number) → only_number vs ≡ Some n → vs �
 lone_is vs n h = grind arith
 
 -- two operands of one number each
-pub two_given : (o : Operation) (ls rs : List Value) (m n : CodeNumber) (r : Outcome CodeNumber) → Some (number_view m) ≡ only_number ls
-    → Some (number_view n) ≡ only_number rs
-    → IsResultOf (calculated o (number_view m) (number_view n)) r → Refines IsNumberTree (λ _. ⊥) r (two_numbers o ls rs)
+pub two_given : (o : Operation) (ls rs : List Value) (m n : CodeNumber) (r : Outcome CodeNumber) → Some (number_view m) ≡ only_number ls → Some (number_view n)
+    ≡ only_number rs → IsResultOf (calculated o (number_view m) (number_view n)) r → Refines IsNumberTree (λ _. ⊥) r (two_numbers o ls rs)
 two_given o ls rs m n r p q is = grind (arith, lone_is, outcome_given, calculated_sound Lax o (number_view m) (number_view n))
 
 -- ---- values after a sign
@@ -70,7 +69,6 @@ module _ (op : UnaryOp) where
   values_signed vs h = grind (arith, each_number)
 
 -- one more number
-pub number_added : (old new : List CodeNumber) (n : CodeNumber) (o : Outcome (List Tree)) (before : List Tree)
-    → new ≡ old ++ n ∷ [] → IsOkAnd o (IsNumberTree n) → AllZip IsNumberItem old before
-    → IsOkAnd o (λ us. AllZip IsNumberItem new (before ++ us))
+pub number_added : (old new : List CodeNumber) (n : CodeNumber) (o : Outcome (List Tree)) (before : List Tree) → new ≡ old ++ n ∷ []
+    → IsOkAnd o (IsNumberTree n) → AllZip IsNumberItem old before → IsOkAnd o (λ us. AllZip IsNumberItem new (before ++ us))
 number_added old new n o before added is held = grind (arith, AllZip-append)

@@ -16,9 +16,8 @@ pub truth_is : (c : MemberCompared) (e : Expression) (mode : Mode) (top t : Tree
 truth_is c e mode top t k = grind (arith, refused_steps)
 
 -- an expression whose operands are the member and the literal
-pub compares_member : (mode : Mode) (op : math.BinaryOp) (steps : math.Steps) (r : Expression) (literal : Value) (top t : Tree) → is_comparison op ≡ true
-    → operand_values mode r top t ≡ Ok (literal ∷ []) →
-    truth mode (math.binary op (math.paths (math.step math.current steps)) r) top t
+pub compares_member : (mode : Mode) (op : math.BinaryOp) (steps : math.Steps) (r : Expression) (literal : Value) (top t : Tree) → is_comparison op ≡ true →
+    operand_values mode r top t ≡ Ok (literal ∷ []) → truth mode (math.binary op (math.paths (math.step math.current steps)) r) top t
     ≡ and_then (steps_meaning mode steps top (t ∷ [])) (λ ts. Ok (compare op (flat_map values_of_item ts) (literal ∷ [])))
 compares_member mode op steps r literal top t compares is = grind (arith, comparison_is)
 
@@ -41,8 +40,7 @@ AreTotal (s ∷ ss) = ((top t : Tree) → IsOkAnd (step_meaning Lax s top t) Any
 
 pub steps_total : (ss : List math.Step) (top : Tree) (ts : List Tree) → AreTotal ss → IsOkAnd (steps_meaning Lax (steps_of ss) top ts) Any
 steps_total [] top ts h = tt
-steps_total (s ∷ ss) top ts h =
-    with_ok Any (λ o. IsOkAnd o Any) (try_flat_map (step_meaning Lax s top) ts) (steps_meaning Lax (steps_of ss) top)
+steps_total (s ∷ ss) top ts h = with_ok Any (λ o. IsOkAnd o Any) (try_flat_map (step_meaning Lax s top) ts) (steps_meaning Lax (steps_of ss) top)
     (all_total (step_meaning Lax s top) (λ t. h.0 top t) ts) (λ us _. steps_total ss top us h.1)
 
 pub members_are_total : (ss : List math.Step) → are_members ss ≡ true → AreTotal ss

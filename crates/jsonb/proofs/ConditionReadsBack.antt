@@ -16,9 +16,8 @@ list-single rule separator input a rest r h =
     record { after = r.after; reads = rw (r.reads, repeat-ends (spaced separator >> rule) r.after ends) refl; same = r.same; no_longer = r.no_longer }
 
 list-pair : {A : Type 0} (rule : Rule A) (separator : Rule (Unit {0})) (input : List ℕ) (a b : A) (between middle rest : List ℕ) →
-    ReadsTo rule input a between → separator (past is_space between) ≡ Some (tt, middle) → ReadsTo rule (past is_space middle) b rest →
-    length rest < length (past is_space between) → separator (past is_space rest) ≡ None →
-    ReadsTo (list_of rule (spaced separator)) input (a ∷ b ∷ []) rest
+    ReadsTo rule input a between → separator (past is_space between) ≡ Some (tt, middle) → ReadsTo rule (past is_space middle) b rest → length rest
+    < length (past is_space between) → separator (past is_space rest) ≡ None → ReadsTo (list_of rule (spaced separator)) input (a ∷ b ∷ []) rest
 list-pair {A} rule separator input a b between middle rest r s t short h =
     let again : (spaced separator >> rule) r.after ≡ Some (b, t.after) = rw (spaced-reads separator r.after tt middle (rw r.same s), t.reads) refl in
     let ends : (spaced separator >> rule) t.after ≡ None = rw (spaced-none separator t.after (rw t.same h)) refl in
@@ -36,8 +35,7 @@ unfolding and_with
 and-joined f input members rest l = record { after = l.after; reads = rw l.reads refl; same = l.same; no_longer = l.no_longer }
 
 or-joined : (f : Bool) (input : List ℕ) (members : List Expression) (rest : List ℕ) →
-    ReadsTo (list_of (and_with expression f) (spaced (literal "||"))) input members rest →
-    ReadsTo (expression f) input (joined_by or_op members) rest
+    ReadsTo (list_of (and_with expression f) (spaced (literal "||"))) input members rest → ReadsTo (expression f) input (joined_by or_op members) rest
 unfolding or_with
 or-joined f input members rest l =
     record { after = l.after; reads = rw (expression-rule f input, l.reads) refl; same = l.same; no_longer = l.no_longer }
@@ -108,8 +106,7 @@ begins-condition f (unary op e) rest is = rw (append_assoc (sign_text op) (expre
 begins-condition f (exists ss) rest is = refl
 begins-condition f _ rest is = absurd is
 
-pub no_space-condition : (f : Bool) (e : Expression) (rest : List ℕ) → IsCondition f e →
-    past is_space (expression_text e ++ rest) ≡ expression_text e ++ rest
+pub no_space-condition : (f : Bool) (e : Expression) (rest : List ℕ) → IsCondition f e → past is_space (expression_text e ++ rest) ≡ expression_text e ++ rest
 no_space-condition f e rest is = let starts = begins-condition f e rest is in past-none is_space (expression_text e ++ rest) (grind (arith, nat_tests))
 
 -- ---- what is proved of each part
@@ -152,8 +149,7 @@ sides_read op left right l r f rest is_left is_right h =
     let first = l f (behind_left op right rest) is_left (behind_operator op (32 ∷ side right ++ rest)).0 in
     (first, rw (past-space (side right ++ rest) (grind (arith, nat_tests))) (r f rest is_right (behind_close rest h)))
 
-joined-condition : (op : BinaryOp) (left right : Expression) → joins op ≡ true → AtomReads left → AtomReads right →
-    ConditionReads (binary op left right)
+joined-condition : (op : BinaryOp) (left right : Expression) → joins op ≡ true → AtomReads left → AtomReads right → ConditionReads (binary op left right)
 joined-condition and_op left right j l r f rest is h =
     let sides = sides_read and_op left right l r f rest is.0 is.1 h in
     let input = side left ++ behind_left and_op right rest in
@@ -252,8 +248,7 @@ steps-more s ss one more rest are h =
     let behind : front (λ b. is_step_start b || is_close b) tail ≡ true =
     front-steps ss rest are.1 (λ b. is_step_start b || is_close b) (λ b e. grind (arith, nat_tests)) (grind (arith, nat_tests)) in
     let here : path_with expression (step_text s ++ tail) ≡ Some (settled_step s, tail) =
-    one tail are.0 (grind (arith, nat_tests))
-    ∙ ap (λ (left : List ℕ). Some (settled_step s, left)) (past-none is_space tail (grind (arith, nat_tests))) in
+    one tail are.0 (grind (arith, nat_tests)) ∙ ap (λ (left : List ℕ). Some (settled_step s, left)) (past-none is_space tail (grind (arith, nat_tests))) in
     rw (append_assoc (step_text s) (steps_text ss) rest)
     (repeat-goes (path_with expression) (step_text s ++ tail) (settled_step s) tail here (omega (arith, length-append (step_text s) tail))
     ∙ ap (parsed_map (λ (others : List Step). settled_step s ∷ others)) (more rest are.1 h))

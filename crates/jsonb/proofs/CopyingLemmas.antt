@@ -38,8 +38,7 @@ clean_more copies more copy is clean before = grind (arith, map-append, has_docu
 -- a copy goes from the rest to the copies
 pub copies_more : (copies more : List Path) (copy : Path) (rest : List Step) → more ≡ copies ++ copy ∷ []
     → steps_view more ++ rest ≡ steps_view copies ++ step_view copy ∷ rest
-copies_more copies more copy rest is =
-    rw (is, map-append step_view copies (copy ∷ []), append_assoc (steps_view copies) (step_view copy ∷ []) rest) refl
+copies_more copies more copy rest is = rw (is, map-append step_view copies (copy ∷ []), append_assoc (steps_view copies) (step_view copy ∷ []) rest) refl
 
 -- ---- a document inside is one of the whole
 

@@ -61,15 +61,13 @@ pub and-goes : (l : PartialExpr) (e : Expression) (j : Joined) (after : List ℕ
 unfolding partial_outcome
 and-goes l e j after left reads = grind (arith, some-another_atom, join-next)
 
-or-here : (l : PartialExpr) (e : Expression) (input : List ℕ) → spaced (literal "&&") input ≡ None →
-    partial_outcome l (Some (e, input)) ≡ joined_from or_op (another_and expression l.is_in_filter)
-    (Some (joined_view or_op l.any (joined_view and_op l.all e), input))
+or-here : (l : PartialExpr) (e : Expression) (input : List ℕ) → spaced (literal "&&") input ≡ None → partial_outcome l (Some (e, input))
+    ≡ joined_from or_op (another_and expression l.is_in_filter) (Some (joined_view or_op l.any (joined_view and_op l.all e), input))
 unfolding partial_outcome
 or-here l e input none = grind (arith, repeat-ends)
 
-pub or-goes : (l : PartialExpr) (e : Expression) (j : Joined) (after : List ℕ) →
-    expression_view j.left.value ≡ joined_view or_op l.any (joined_view and_op l.all e) →
-    spaced (literal "&&") j.before.now ≡ None → spaced (literal "||") j.before.now ≡ Some (tt, after) →
+pub or-goes : (l : PartialExpr) (e : Expression) (j : Joined) (after : List ℕ) → expression_view j.left.value
+    ≡ joined_view or_op l.any (joined_view and_op l.all e) → spaced (literal "&&") j.before.now ≡ None → spaced (literal "||") j.before.now ≡ Some (tt, after) →
     partial_outcome (with_any l j) (atom_with expression l.is_in_filter after) ≡ partial_outcome l (Some (e, j.before.now))
 unfolding partial_outcome
 or-goes l e j after left none reads = grind (arith, some-another_and, join-next, and-is, or-here)
@@ -139,8 +137,7 @@ filter-closes steps new before e input here end rest space reads space' same = r
 -- ---- steps
 
 -- the same of steps with no bound on parentheses
-pub without_bound : (front front' : List Step) (input input' : List ℕ) →
-    behind front (repeat path_step input) ≡ behind front' (repeat path_step input') →
+pub without_bound : (front front' : List Step) (input input' : List ℕ) → behind front (repeat path_step input) ≡ behind front' (repeat path_step input') →
     behind front (repeat (path_with expression) input) ≡ behind front' (repeat (path_with expression) input')
 without_bound front front' input input' same = grind (arith, path_step-rule)
 
@@ -226,11 +223,10 @@ pub at_start : (frames : List Frame) (l start : PartialExpr) (first : Opening) �
 unfolding resumed
 at_start frames l start first none same = rw (none, same) refl
 
-pub inside-goes : (frames new : List Frame) (frame : Frame) (l : PartialExpr) (f : Bool) (inside : List ℕ) (opening : Opening) → new ≡ frames ++ frame ∷ [] →
-    f ≡ goes_in_filter frame.opened frame.partial.is_in_filter → l ≡ record { is_in_filter = f; all = None; any = None } →
-    opening_outcome f opening ≡ atom_with expression f inside →
-    resumed new (partial_outcome l (opening_outcome l.is_in_filter opening)) ≡ resumed frames (partial_outcome frame.partial
-    (opened_outcome frame.opened (expression (goes_in_filter frame.opened frame.partial.is_in_filter) inside)))
+pub inside-goes : (frames new : List Frame) (frame : Frame) (l : PartialExpr) (f : Bool) (inside : List ℕ) (opening : Opening) → new ≡ frames ++ frame ∷ [] → f
+    ≡ goes_in_filter frame.opened frame.partial.is_in_filter → l ≡ record { is_in_filter = f; all = None; any = None } → opening_outcome f opening
+    ≡ atom_with expression f inside → resumed new (partial_outcome l (opening_outcome l.is_in_filter opening))
+    ≡ resumed frames (partial_outcome frame.partial (opened_outcome frame.opened (expression (goes_in_filter frame.opened frame.partial.is_in_filter) inside)))
 inside-goes frames new frame l f inside opening pushed flag same is = grind (arith, partial-begins, resumed-push)
 
 pub less_left : {E : Type 0} (f : Bool) (input : List ℕ) (r : Result (Option (CodeExpr × Bor (List ℕ))) E) →

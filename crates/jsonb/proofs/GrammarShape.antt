@@ -37,40 +37,33 @@ last_and_is_index _ = behind _ (λ _. behind ws (λ _. behind _ (λ _. behind ws
 
 place_is_place : Yields IsPlace place
 unfolding place
-place_is_place =
-    either (followed (yields-integer_within (2 ^ 31)) (λ i is. given _ is))
+place_is_place = either (followed (yields-integer_within (2 ^ 31)) (λ i is. given _ is))
     (either (followed (last_and_is_index "-") (λ i is. given _ (negated_is_index i)))
     (either (followed (last_and_is_index "+") (λ i is. given _ is)) (behind _ (λ _. given _ refl))))
 
 entry_is_entry : Yields IsEntry entry
 unfolding entry
-entry_is_entry =
-    either (followed place_is_place (λ first is. behind ws (λ _. behind _ (λ _. behind ws
-    (λ _. followed place_is_place (λ last is'. given _ (is, is')))))))
-    (followed place_is_place (λ p is. given _ is))
+entry_is_entry = either (followed place_is_place (λ first is. behind ws (λ _. behind _ (λ _. behind ws
+    (λ _. followed place_is_place (λ last is'. given _ (is, is'))))))) (followed place_is_place (λ p is. given _ is))
 
 level_end_is_end : Yields (λ (end : LevelEnd). IsLevelEnd (Some end)) level_end
-level_end_is_end =
-    behind ws (λ _. behind _ (λ _. behind ws
+level_end_is_end = behind ws (λ _. behind _ (λ _. behind ws
     (λ _. either (followed (yields-natural_below (2 ^ 8)) (λ n is. given _ is)) (behind _ (λ _. given _ tt)))))
 
 levels_are_levels : Yields (λ (l : Levels). AreLevels (Some l)) levels
 unfolding levels
-levels_are_levels =
-    behind _ (λ _. behind ws (λ _. followed (yields-natural_below (2 ^ 8)) (λ n is. followed (optional-yields IsLevelEnd tt level_end_is_end)
+levels_are_levels = behind _ (λ _. behind ws (λ _. followed (yields-natural_below (2 ^ 8)) (λ n is. followed (optional-yields IsLevelEnd tt level_end_is_end)
     (λ end is_end. behind ws (λ _. behind _ (λ _. given _ (is, is_end)))))))
 
 wildcard_is_inner : Yields IsInner wildcard
 unfolding wildcard
-wildcard_is_inner =
-    either (behind (literal ".**") (λ _. followed (optional-yields AreLevels tt levels_are_levels) (λ found are. given _ are)))
+wildcard_is_inner = either (behind (literal ".**") (λ _. followed (optional-yields AreLevels tt levels_are_levels) (λ found are. given _ are)))
     (either (behind (literal ".*") (λ _. given _ tt))
     (behind (literal "[") (λ _. behind ws (λ _. behind (literal "*") (λ _. behind ws (λ _. behind (literal "]") (λ _. given _ tt)))))))
 
 named_field_is_inner : Yields IsInner named_field
 unfolding named_field field
-named_field_is_inner =
-    either (followed (behind {Q = IsName} (literal ":") (λ _. (either yields-quoted yields-name))) (λ text is. given _ is))
+named_field_is_inner = either (followed (behind {Q = IsName} (literal ":") (λ _. (either yields-quoted yields-name))) (λ text is. given _ is))
     (followed (behind {Q = IsName} (literal ".") (λ _. (either yields-quoted yields-name))) (λ text is. given _ is))
 
 abbrev AreEntries : List Entry → Type 0
@@ -78,19 +71,16 @@ AreEntries es = (0 < length es) × AllByRecursion IsEntry es
 
 entries_are_entries : Yields AreEntries entries
 unfolding entries
-entries_are_entries =
-    behind _ (λ _. followed (yields-list_of IsEntry (spaced entry) (literal ",") (spaced-yields entry_is_entry))
+entries_are_entries = behind _ (λ _. followed (yields-list_of IsEntry (spaced entry) (literal ",") (spaced-yields entry_is_entry))
     (λ es are. behind _ (λ _. given _ are)))
 
 bracket_field_is_inner : Yields IsInner bracket_field
 unfolding bracket_field
-bracket_field_is_inner =
-    behind _ (λ _. behind ws (λ _. followed yields-quoted (λ text is. behind ws (λ _. behind _ (λ _. given _ is)))))
+bracket_field_is_inner = behind _ (λ _. behind ws (λ _. followed yields-quoted (λ text is. behind ws (λ _. behind _ (λ _. given _ is)))))
 
 inner_is_inner : Yields IsInner spaced_inner
 unfolding spaced_inner inner
-inner_is_inner = spaced-yields
-    (either wildcard_is_inner (either named_field_is_inner
+inner_is_inner = spaced-yields (either wildcard_is_inner (either named_field_is_inner
     (either (followed entries_are_entries (λ es are. given _ are)) bracket_field_is_inner)))
 
 -- ---- operands
@@ -102,10 +92,8 @@ path_root_is_beginning false = yields-choice (IsBeginning false) _ _ (behind (li
 
 literal_is_literal : Yields IsLiteral literal_value
 unfolding literal_value
-literal_is_literal =
-    either (behind (literal "null") (λ _. given _ tt)) (either (behind (literal "true") (λ _. given _ tt))
-    (either (behind (literal "false") (λ _. given _ tt))
-    (either (followed (yields-natural_below (2 ^ 64)) (λ n is. given _ is))
+literal_is_literal = either (behind (literal "null") (λ _. given _ tt)) (either (behind (literal "true") (λ _. given _ tt))
+    (either (behind (literal "false") (λ _. given _ tt)) (either (followed (yields-natural_below (2 ^ 64)) (λ n is. given _ is))
     (either (followed (yields-integer_within (2 ^ 63)) (λ z is. given _ is)) (followed yields-quoted (λ text is. given _ is))))))
 
 are_inner : (ss : List Step) → AllByRecursion IsInner ss → AreInner (steps_of ss)
@@ -114,11 +102,8 @@ are_inner (s ∷ ss) are = (are.0, are_inner ss are.1)
 
 operand_is_operand : (f : Bool) → Yields (IsOperand f) (operand f)
 unfolding operand
-operand_is_operand f =
-    either
-    (followed {P = λ (ss : List Step). IsOperand f (paths (steps_of ss))} (followed (path_root_is_beginning f) (λ first is.
-    followed (yields-repeat IsInner spaced_inner inner_is_inner) (λ others are. given _ (is, are_inner others are))))
-    (λ ss is. given _ is))
+operand_is_operand f = either (followed {P = λ (ss : List Step). IsOperand f (paths (steps_of ss))} (followed (path_root_is_beginning f) (λ first is.
+    followed (yields-repeat IsInner spaced_inner inner_is_inner) (λ others are. given _ (is, are_inner others are)))) (λ ss is. given _ is))
     (followed literal_is_literal (λ l is. given _ is))
 
 abbrev Compares : BinaryOp → Type 0
@@ -129,12 +114,10 @@ named text op is = behind _ (λ _. given _ is)
 
 operator_compares : Yields Compares operator
 unfolding operator arithmetic_operator
-operator_compares =
-    either (named "==" eq refl) (either (named "!=" not_eq refl) (either (named "<>" not_eq refl)
+operator_compares = either (named "==" eq refl) (either (named "!=" not_eq refl) (either (named "<>" not_eq refl)
     (either (named "<=" lte refl) (either (named "<" lt refl) (either (named ">=" gte refl)
     (either (named ">" gt refl) (either (named "starts with" starts_with_op refl) (either (named "+" add refl)
-    (either (named "-" subtract refl) (either (named "*" multiply refl)
-    (either (named "/" divide refl) (named "%" modulo refl))))))))))))
+    (either (named "-" subtract refl) (either (named "*" multiply refl) (either (named "/" divide refl) (named "%" modulo refl))))))))))))
 
 -- ---- the left side of a comparison has no sign
 
@@ -149,8 +132,7 @@ no_natural f input none = go (begins is_ascii_digit input) refl (natural_below (
   go : (t : Bool) → begins is_ascii_digit input ≡ t → (o : Parsed ℕ) → natural_below (2 ^ 64) input ≡ o → natural_below (2 ^ 64) input ≡ None
   go false starts o e = natural_below-none (2 ^ 64) input starts
   go true starts None e = e
-  go true starts (Some p) e =
-      absurd (nothing _ _ (sym none ∙ spaced-reads (operand f) input (value (number (UInt64 p.0))) p.1
+  go true starts (Some p) e = absurd (nothing _ _ (sym none ∙ spaced-reads (operand f) input (value (number (UInt64 p.0))) p.1
       (rw (past-none is_space input (grind (arith, nat_tests)), path_root-none f input (grind (arith, nat_tests)), literal-digits input p.1 p.0 starts e) refl)))
 
 -- a number of 64 bits, after its sign
@@ -185,8 +167,7 @@ literal_is_unsigned : (f : Bool) → YieldsWhere (λ input. unary_atom f input �
 unfolding literal_value
 literal_is_unsigned f =
     either-where (anywhere _ (behind (literal "null") (λ _. given _ refl))) (either-where (anywhere _ (behind (literal "true") (λ _. given _ refl)))
-    (either-where (anywhere _ (behind (literal "false") (λ _. given _ refl)))
-    (either-where (anywhere _ (behind (natural_below (2 ^ 64)) (λ n. given _ refl)))
+    (either-where (anywhere _ (behind (literal "false") (λ _. given _ refl))) (either-where (anywhere _ (behind (natural_below (2 ^ 64)) (λ n. given _ refl)))
     (either-where {first = integer_within (2 ^ 63) >>= λ z. give (number (Int64 z))} (λ input g l rest e.
     cc (rw (no_integer f input g.0.0.0.0 (mapped-none (λ n. number (UInt64 n)) (natural_below (2 ^ 64) input) g.1)) at e))
     (anywhere _ (behind quoted (λ text. given _ refl)))))))
@@ -221,11 +202,9 @@ comparison f op left right c l r = rw c (l.0, l.1, r)
 
 binary_is_condition : (f : Bool) → YieldsWhere (λ input. IsUnspaced input × (unary_atom f input ≡ None)) (IsCondition f) (binary_atom f)
 unfolding binary_atom spaced_operand
-binary_is_condition f =
-    followed-where {P = λ (e : Expression). HasNoSign e × IsOperand f e}
+binary_is_condition f = followed-where {P = λ (e : Expression). HasNoSign e × IsOperand f e}
     (λ input g e rest r. (left_has_no_sign f input g e rest r, (spaced-yields (operand_is_operand f)) input e rest r))
-    (λ left l. followed operator_compares (λ op c. followed ((spaced-yields (operand_is_operand f)))
-    (λ right r. given _ (comparison f op left right c l r))))
+    (λ left l. followed operator_compares (λ op c. followed ((spaced-yields (operand_is_operand f))) (λ right r. given _ (comparison f op left right c l r))))
 
 abbrev AreSteps : List Step → Type 0
 AreSteps ss = ArePathSteps (steps_of ss)
@@ -238,8 +217,7 @@ inner_is_path_step : (s : Step) → IsInner s → IsPathStep s
 inner_is_path_step (filter e) is = absurd is
 inner_is_path_step _ is = is
 
-spaced-then : {A B : Type 0} (P : A → Type 0) (separator : Rule B) (rule : Rule A) → YieldsWhere IsUnspaced P rule →
-    Yields P (spaced separator >> rule)
+spaced-then : {A B : Type 0} (P : A → Type 0) (separator : Rule B) (rule : Rule A) → YieldsWhere IsUnspaced P rule → Yields P (spaced separator >> rule)
 unfolding ws
 spaced-then P separator rule h = grind (arith, parts, same_Some, past_is_unspaced)
 
@@ -251,8 +229,7 @@ folded f op j first (e ∷ others) is are = folded f op j (binary op first e) ot
 -- a list of conditions, joined
 joined-where : (f : Bool) (op : BinaryOp) (rule : Rule Expression) (text : String) → joins op ≡ true → YieldsWhere IsUnspaced (IsCondition f) rule →
     YieldsWhere IsUnspaced (IsCondition f) (list_of rule (spaced (literal text)) >>= λ members. give (joined_by op members))
-joined-where f op rule text j h =
-    followed-where {P = λ members. IsCondition f (joined_by op members)} (followed-where h
+joined-where f op rule text j h = followed-where {P = λ members. IsCondition f (joined_by op members)} (followed-where h
     (λ first is. followed (yields-repeat (IsCondition f) (spaced (literal text) >> rule) (spaced-then (IsCondition f) (literal text) rule h))
     (λ others are. given _ (folded f op j first others is are)))) (λ members is. given _ is)
 
@@ -264,14 +241,12 @@ module _ (nested : Bool → Rule Expression) (h : (f : Bool) → YieldsWhere IsU
 
   step_is_path_step : Yields IsPathStep (path_with nested)
   unfolding path_with
-  step_is_path_step =
-      either (λ input s rest e. inner_is_path_step s (inner_is_inner input s rest e))
+  step_is_path_step = either (λ input s rest e. inner_is_path_step s (inner_is_inner input s rest e))
       (spaced-yields (followed (behind {Q = IsCondition true} _ (λ _. behind ws (λ _. group_is_condition true))) (λ e is. given _ is)))
 
   exists_is_condition : (f : Bool) → Yields (IsCondition f) (exists_with nested)
   unfolding exists_with
-  exists_is_condition f =
-      behind _ (λ _. behind ws (λ _. behind _ (λ _. behind ws (λ _.
+  exists_is_condition f = behind _ (λ _. behind ws (λ _. behind _ (λ _. behind ws (λ _.
       followed {P = λ (ss : List Step). IsExistsPath (steps_of ss)} (followed (path_root_is_beginning true) (λ first is.
       followed (yields-repeat IsPathStep (path_with nested) step_is_path_step) (λ others are. given _ (is, are_steps others are))))
       (λ ss is. behind ws (λ _. behind _ (λ _. given _ is)))))))
@@ -291,8 +266,7 @@ nested_is_condition (suc n) f = or_is_condition (nested_or n) (nested_is_conditi
 
 root_expression_is_path : Yields IsPath root_expression
 unfolding root_expression expression
-root_expression_is_path =
-    followed {P = IsCondition false} (ws-then (followed-where (λ input. nested_is_condition (length input + 1) false input)
+root_expression_is_path = followed {P = IsCondition false} (ws-then (followed-where (λ input. nested_is_condition (length input + 1) false input)
     (λ e is. behind ws (λ _. given _ is)))) (λ e is. given _ (inl (e, refl, is)))
 
 path_step_is_path_step : Yields IsPathStep path_step
@@ -305,16 +279,14 @@ record IsFront (ss : List Step) : Type 0 where
 
 front_is_front : Yields IsFront front_steps
 unfolding front_steps first_step
-front_is_front =
-    either (followed {P = λ (s : Step). IsFront (s ∷ [])}
+front_is_front = either (followed {P = λ (s : Step). IsFront (s ∷ [])}
     (either (behind (literal "$") (λ _. given _ (record { joined = λ others are. inr (inl (others, refl, are)) })))
     (followed (spaced-yields yields-name) (λ text is. given _ (record { joined = λ others are. inr (inr (is, are)) })))) (λ s is. given _ is))
     (given _ (record { joined = λ others are. inr (inr are) }))
 
 plain_path_is_path : Yields IsPath plain_path
 unfolding plain_path
-plain_path_is_path =
-    followed front_is_front (λ front is. followed (yields-repeat IsPathStep path_step path_step_is_path_step)
+plain_path_is_path = followed front_is_front (λ front is. followed (yields-repeat IsPathStep path_step path_step_is_path_step)
     (λ others are. given _ (is.joined others (are_steps others are))))
 
 pub json_path_is_path : (text : List ℕ) (p : List Step) → json_path text ≡ Some p → IsPath p

@@ -50,8 +50,7 @@ last-alone : (rest : List ℕ) → IsBehindPlace rest → place (codes "last" ++
 unfolding place ws
 last-alone rest h = grind (arith, integer_within-none, literal-none, nat_tests)
 
-last-plus : (i : ℤ) (rest : List ℕ) → IsIndex i → front is_place_end rest ≡ true →
-    place (codes "last+" ++ signed_decimal i ++ rest) ≡ Some (from_last i, rest)
+last-plus : (i : ℤ) (rest : List ℕ) → IsIndex i → front is_place_end rest ≡ true → place (codes "last+" ++ signed_decimal i ++ rest) ≡ Some (from_last i, rest)
 unfolding place ws
 last-plus i rest is h = grind (arith, integer_within-none, no_space-signed_decimal, integer_within-signed_decimal, nat_tests)
 
@@ -121,13 +120,11 @@ more_entries (e ∷ es) rest are =
     (repeat-goes (literal "," >> spaced entry) (44 ∷ 32 ∷ entry_text e ++ tail) e tail here (omega (arith, length-append (entry_text e) tail))
     ∙ ap (parsed_map (λ (others : List Entry). e ∷ others)) (more_entries es rest are.1))
 
-begins-entries : (es : List Entry) (rest : List ℕ) → 0 < length es → AllByRecursion IsEntry es →
-    begins is_place_start (entries_text es ++ rest) ≡ true
+begins-entries : (es : List Entry) (rest : List ℕ) → 0 < length es → AllByRecursion IsEntry es → begins is_place_start (entries_text es ++ rest) ≡ true
 begins-entries [] rest some are = absurd (omega arith)
 begins-entries (e ∷ es) rest some are = rw (append_assoc (entry_text e) (flat_map other_entry_text es) rest) (begins-entry e _ are.0)
 
-entries-text : (es : List Entry) (rest : List ℕ) → 0 < length es → AllByRecursion IsEntry es →
-    entries (91 ∷ entries_text es ++ 93 ∷ rest) ≡ Some (es, rest)
+entries-text : (es : List Entry) (rest : List ℕ) → 0 < length es → AllByRecursion IsEntry es → entries (91 ∷ entries_text es ++ 93 ∷ rest) ≡ Some (es, rest)
 unfolding entries
 entries-text [] rest some are = absurd (omega arith)
 entries-text (e ∷ es) rest some are =
@@ -203,8 +200,7 @@ brackets-text : (rest : List ℕ) → wildcard (codes "[*]" ++ rest) ≡ Some (b
 unfolding wildcard ws
 brackets-text rest = refl
 
-bracket_field-text : (text rest : List ℕ) → IsName text →
-    bracket_field (91 ∷ quoted_text text ++ 93 ∷ rest) ≡ Some (object_field text, rest)
+bracket_field-text : (text rest : List ℕ) → IsName text → bracket_field (91 ∷ quoted_text text ++ 93 ∷ rest) ≡ Some (object_field text, rest)
 unfolding bracket_field ws
 bracket_field-text text rest is = rw (quoted-quoted_text text (93 ∷ rest) is.0 is.1) refl
 

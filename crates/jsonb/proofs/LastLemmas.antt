@@ -103,14 +103,12 @@ mutual
 enclosed : (front text b c : List ℕ) → text ≡ b ++ c → Closes c → front ++ text ++ codes ")" ≡ front ++ b ++ (codes ")" ++ c)
 enclosed front text b c h k = simp (h, append_assoc, k)
 
-right_side : (is_around : Bool) (text b c : List ℕ) → text ≡ b ++ c → Closes c →
-    (if is_around then codes "(" ++ text ++ codes ")" else text)
+right_side : (is_around : Bool) (text b c : List ℕ) → text ≡ b ++ c → Closes c → (if is_around then codes "(" ++ text ++ codes ")" else text)
     ≡ (if is_around then codes "(" else []) ++ b ++ ((if is_around then codes ")" else []) ++ c)
 right_side is_around text b c h k = grind (arith, append_assoc)
 
 -- the text between the sides, and what is open after it, each by itself
-between : (left close space operator last_space a b c : List ℕ) →
-    left ++ close ++ space ++ operator ++ last_space ++ (a ++ b ++ c)
+between : (left close space operator last_space a b c : List ℕ) → left ++ close ++ space ++ operator ++ last_space ++ (a ++ b ++ c)
     ≡ left ++ (close ++ space ++ operator ++ last_space) ++ a ++ b ++ c
 between left close space operator last_space a b c = simp append_assoc refl
 
@@ -131,12 +129,10 @@ mutual
   pub whole_text : (e : Expression) → expression_text e ≡ down text_before e ++ down closing e
   whole_text (paths ss) = steps_whole ss
   whole_text (value l) = sym (append-nil (literal_text l))
-  whole_text (binary op left right) =
-      sides (needs_parentheses left) (expression_text left) (side_text right (expression_text right)) (operator_text op)
+  whole_text (binary op left right) = sides (needs_parentheses left) (expression_text left) (side_text right (expression_text right)) (operator_text op)
       (if needs_parentheses right then codes "(" else []) (down text_before right) ((if needs_parentheses right then codes ")" else []) ++ down closing right)
       (right_side (needs_parentheses right) (expression_text right) (down text_before right) (down closing right) (whole_text right) (down_closes right))
-  whole_text (unary op e) = ap (λ text. sign_text op ++ text) (whole_text e)
-      ∙ sym (append_assoc (sign_text op) (down text_before e) (down closing e))
+  whole_text (unary op e) = ap (λ text. sign_text op ++ text) (whole_text e) ∙ sym (append_assoc (sign_text op) (down text_before e) (down closing e))
   whole_text (exists ss) = exists_whole (ends_in_filter (last_step ss)) (steps_text ss) (steps_before ss) (steps_down text_before ss)
       (steps_down closing ss) (steps_whole ss) (steps_close ss)
 
@@ -147,8 +143,7 @@ mutual
   steps_whole (step s (step t ts)) = ap (λ text. step_text s ++ text) (steps_whole (step t ts))
       ∙ one_more (step_text s) (steps_text (but_last (step t ts))) (last_before (last_step (step t ts))) (steps_down text_before (step t ts)) _
 
-  step_whole : (s : Step) → step_text s ≡ step_before s ++ step_down text_before s
-      ++ ((if is_filter s then codes ")" else []) ++ step_down closing s)
+  step_whole : (s : Step) → step_text s ≡ step_before s ++ step_down text_before s ++ ((if is_filter s then codes ")" else []) ++ step_down closing s)
   step_whole (filter e) = enclosed (codes "?(") (expression_text e) (down text_before e) (down closing e) (whole_text e) (down_closes e)
   step_whole (whole_expression e) = whole_text e
   step_whole s = sym (append-nil (step_text s)) ∙ sym (append-nil (step_text s ++ []))
@@ -177,8 +172,7 @@ turned a b c = grind arith
 step_split : (s t : Step) → is_same_step s t ≡ is_same_opening s t && same_lasts (held_by s) (held_by t)
 step_split s t = grind arith
 
-steps_split : (ss ts : Steps) →
-    are_same_steps ss ts ≡ are_same_before ss ts && same_lasts (held_by_last (last_step ss)) (held_by_last (last_step ts))
+steps_split : (ss ts : Steps) → are_same_steps ss ts ≡ are_same_before ss ts && same_lasts (held_by_last (last_step ss)) (held_by_last (last_step ts))
 steps_split no_steps (step t no_steps) = refl
 steps_split (step s no_steps) (step t no_steps) = sym (and_true (is_same_step s t)) ∙ step_split s t
 steps_split (step s no_steps) (step t (step u ts)) = and_false (is_same_step s t)
@@ -215,8 +209,7 @@ zip_parts _ _ = omega arith
 
 -- ---- lists of steps that the code has are the same before what the last ones hold
 
-pub same_before-end : (ss ts : List Path) (s t : Path) →
-    are_same_before (steps_of (steps_view (ss ++ s ∷ []))) (steps_of (steps_view (ts ++ t ∷ [])))
+pub same_before-end : (ss ts : List Path) (s t : Path) → are_same_before (steps_of (steps_view (ss ++ s ∷ []))) (steps_of (steps_view (ts ++ t ∷ [])))
     ≡ are_same_steps (steps_of (steps_view ss)) (steps_of (steps_view ts)) && is_same_opening (step_view s) (step_view t)
 same_before-end ss ts s t = rw (but_last-end ss s, last_step-end ss s, but_last-end ts t, last_step-end ts t) refl
 

@@ -111,13 +111,11 @@ start_at_root : (ss : math.Steps) (top : Tree) → start ss top top ≡ top
 start_at_root ss top = grind arith
 
 -- a comparison of such an operand with a literal
-pub compares_list : (op : math.BinaryOp) (steps front names : List math.Step) (r : Expression) (literal : Value) (top : Tree) → steps ≡ front ++ names
-    → is_comparison op ≡ true → operand_values Lax r top top ≡ Ok (literal ∷ []) →
-    truth Lax (math.binary op (math.paths (steps_of steps)) r) top top
+pub compares_list : (op : math.BinaryOp) (steps front names : List math.Step) (r : Expression) (literal : Value) (top : Tree) → steps ≡ front ++ names →
+    is_comparison op ≡ true → operand_values Lax r top top ≡ Ok (literal ∷ []) → truth Lax (math.binary op (math.paths (steps_of steps)) r) top top
     ≡ and_then (steps_meaning Lax (steps_of front) top (top ∷ []))
     (λ us. and_then (steps_meaning Lax (steps_of names) top us) (λ ts. Ok (compare op (flat_map values_of_item ts) (literal ∷ []))))
-compares_list op steps front names r literal top split compares is =
-    rw (comparison_is Lax op (math.paths (steps_of steps)) r top top compares, is, split)
+compares_list op steps front names r literal top split compares is = rw (comparison_is Lax op (math.paths (steps_of steps)) r top top compares, is, split)
     (grind (arith, start_at_root (steps_of steps) top, steps-append Lax front names top (top ∷ [])))
 
 -- the front as its steps are taken within an operand

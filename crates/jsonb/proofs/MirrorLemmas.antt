@@ -33,19 +33,16 @@ pairs-mirrored op turned l [] h = refl
 pairs-mirrored op turned l (r ∷ rs) h = λ i. pair-mirrored op turned l r h i ∷ pairs-mirrored op turned l rs h i
 
 -- a comparison whose left side is a literal, and whose right side is a member
-pub member_mirrored : (mode : Mode) (op turned : BinaryOp) (l : Expression) (v : Value) (steps : math.Steps) (top t : Tree)
-    → mirrored op ≡ Some turned → operand_values mode l top t ≡ Ok (v ∷ [])
-    → truth mode (math.binary op l (math.paths (math.step math.current steps))) top t
+pub member_mirrored : (mode : Mode) (op turned : BinaryOp) (l : Expression) (v : Value) (steps : math.Steps) (top t : Tree) → mirrored op ≡ Some turned
+    → operand_values mode l top t ≡ Ok (v ∷ []) → truth mode (math.binary op l (math.paths (math.step math.current steps))) top t
     ≡ and_then (steps_meaning mode steps top (t ∷ [])) (λ ts. Ok (compare turned (flat_map values_of_item ts) (v ∷ [])))
 member_mirrored mode op turned l v steps top t h is =
     let member = math.paths (math.step math.current steps) in
     let k = are_mirrors null null None op turned h in
-    comparison_is mode op l member top t k.compares
-    ∙ ap (λ o. and_then o (λ ls. and_then (operand_values mode member top t) (λ rs. Ok (compare op ls rs)))) is
+    comparison_is mode op l member top t k.compares ∙ ap (λ o. and_then o (λ ls. and_then (operand_values mode member top t) (λ rs. Ok (compare op ls rs)))) is
     ∙ exchanged (operand_values mode member top t)
     ∙ ap (λ o. and_then (operand_values mode member top t) (λ ls. and_then o (λ rs. Ok (compare turned ls rs)))) (sym is)
-    ∙ sym (comparison_is mode turned member l top t k.turned_compares)
-    ∙ compares_member mode turned steps l v top t k.turned_compares is
+    ∙ sym (comparison_is mode turned member l top t k.turned_compares) ∙ compares_member mode turned steps l v top t k.turned_compares is
   where
     exchanged : (o : Outcome (List Value)) → and_then o (λ rs. Ok (compare op (v ∷ []) rs)) ≡ and_then o (λ ls. Ok (compare turned ls (v ∷ [])))
     exchanged (Ok rs) = ap Ok ((ap first_decisive (append-nil (map (λ r. pair_truth op v r) rs) ∙ pairs-mirrored op turned v rs h)))

@@ -9,9 +9,8 @@ use Rattle.jsonb.proofs.RepeatLemmas.{alike_some}
 
 -- ---- what a path has selected
 
-pub exists_found : (bytes : List ℕ) (spots : List Spot) (o : Outcome (List Tree)) (whole : Outcome Truth)
-    → whole ≡ and_then o (λ us. Ok (Some (is_some_item us))) → IsOkAnd o (HasSame AreDropped bytes spots)
-    → whole ≡ Ok (Some (not (length spots == 0)))
+pub exists_found : (bytes : List ℕ) (spots : List Spot) (o : Outcome (List Tree)) (whole : Outcome Truth) → whole
+    ≡ and_then o (λ us. Ok (Some (is_some_item us))) → IsOkAnd o (HasSame AreDropped bytes spots) → whole ≡ Ok (Some (not (length spots == 0)))
 exists_found bytes spots o whole is h = grind (arith, some_related, alike_some)
 
 pub values_known : (bytes : List ℕ) (spots : List Spot) (o : Outcome (List Tree)) (values : Outcome (List Value)) (ls : List Value)
@@ -48,9 +47,7 @@ left_known mode top t all more cache c None next has =
 pub path_refused : (mode : Mode) (top t : Tree) (all more : List Expression) (cache : FilterCache) (w : Waits) (o : Outcome (List Tree)) (e : Error)
     → IsHeld mode top t all more cache w o → o ≡ Err e → truth mode (waits_expression w) top t ≡ Err e
 path_refused mode top t all more cache (waits.Exists found) o e held is = held.1 ∙ ap (λ p. and_then p (λ us. Ok (Some (is_some_item us)))) is
-path_refused mode top t all more cache (waits.Left c) o e held is =
-    left_refused mode top t c held.0.0 e ((held.1 ∙ ap values_found is))
+path_refused mode top t all more cache (waits.Left c) o e held is = left_refused mode top t c held.0.0 e ((held.1 ∙ ap values_found is))
 path_refused mode top t all more cache (waits.Right c lefts) o e held is =
     let known = left_known mode top t all more cache c lefts held.0 held.1 in
-    right_refused mode top t c held.0.0 e (AreAlike known.0) known.1
-    ((held.2 ∙ ap values_found is))
+    right_refused mode top t c held.0.0 e (AreAlike known.0) known.1 ((held.2 ∙ ap values_found is))

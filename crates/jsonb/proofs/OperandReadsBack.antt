@@ -16,8 +16,7 @@ pub record ReadsTo {A : Type 0} (rule : Rule A) (input : List ℕ) (a : A) (rest
 pub length-past : (test : ℕ → Bool) (input : List ℕ) → length (past test input) ≤ length input
 length-past test input = omega (arith, length-drop (prefix_len test input) input)
 
-pub reads_to_rest : {A : Type 0} (rule : Rule A) (input : List ℕ) (a : A) (rest : List ℕ) → rule input ≡ Some (a, rest) →
-    ReadsTo rule input a rest
+pub reads_to_rest : {A : Type 0} (rule : Rule A) (input : List ℕ) (a : A) (rest : List ℕ) → rule input ≡ Some (a, rest) → ReadsTo rule input a rest
 reads_to_rest rule input a rest e = record { after = rest; reads = e; same = refl; no_longer = omega arith }
 
 pub reads_past_rest : {A : Type 0} (rule : Rule A) (input : List ℕ) (a : A) (rest : List ℕ) → rule input ≡ Some (a, past is_space rest) →
@@ -117,10 +116,8 @@ literal-digits input rest n h e = grind (arith, nat_tests)
 whole_text : (n : ℕ) → decimal (n / 1) ++ [] ≡ decimal n
 whole_text n = append-nil (decimal (n / 1)) ∙ ap decimal (omega arith)
 
-literal-unsigned : (n : ℕ) (rest : List ℕ) → n < 2 ^ 64 → front is_operand_end rest ≡ true →
-    literal_value (decimal n ++ rest) ≡ Some (number (UInt64 n), rest)
-literal-unsigned n rest fits h =
-    literal-digits (decimal n ++ rest) rest n (begins-decimal n rest fits)
+literal-unsigned : (n : ℕ) (rest : List ℕ) → n < 2 ^ 64 → front is_operand_end rest ≡ true → literal_value (decimal n ++ rest) ≡ Some (number (UInt64 n), rest)
+literal-unsigned n rest fits h = literal-digits (decimal n ++ rest) rest n (begins-decimal n rest fits)
     (natural_below-decimal (2 ^ 64) n rest (omega arith) (grind (arith, nat_tests)) (grind (arith, nat_tests)))
 
 literal-text : (l : Literal) (rest : List ℕ) → IsLiteral l → front is_operand_end rest ≡ true →
@@ -131,8 +128,7 @@ literal-text (boolean true) rest is h = refl
 literal-text (boolean false) rest is h = refl
 literal-text (number (UInt64 n)) rest is h = rw (whole_text n) (literal-unsigned n rest (grind (arith, nat_tests)) h)
 literal-text (number (Int64 (pos n))) rest is h = rw (whole_text n) (literal-unsigned n rest (grind (arith, nat_tests)) h)
-literal-text (number (Int64 (negsuc n))) rest is h =
-    rw (whole_text (suc n), natural_below-none (2 ^ 64) (signed_decimal (negsuc n) ++ rest) refl)
+literal-text (number (Int64 (negsuc n))) rest is h = rw (whole_text (suc n), natural_below-none (2 ^ 64) (signed_decimal (negsuc n) ++ rest) refl)
     (rw (integer_within-signed_decimal (2 ^ 63) (negsuc n) rest (omega arith) is (grind (arith, nat_tests))) refl)
 literal-text (string text) rest is h = grind (arith, natural_below-none, integer_within-none, quoted-quoted_text)
 literal-text _ rest is h = absurd is
@@ -165,8 +161,7 @@ literal_value-none input h =
 
 operand-none : (f : Bool) (input : List ℕ) → begins is_operand_start input ≡ false → operand f input ≡ None
 unfolding operand
-operand-none f input h =
-    rw (path_root-none f input (grind (arith, nat_tests)), literal_value-none input (grind (arith, nat_tests))) refl
+operand-none f input h = rw (path_root-none f input (grind (arith, nat_tests)), literal_value-none input (grind (arith, nat_tests))) refl
 
 pub path_root-text : (f : Bool) (s : Step) (rest : List ℕ) → IsBeginning f s → path_root f (step_text s ++ rest) ≡ Some (s, rest)
 unfolding path_root
@@ -225,8 +220,7 @@ pub begins-as_operand : (f : Bool) (e : Expression) (rest : List ℕ) → IsOper
 begins-as_operand f e rest is = let starts = begins-operand f e rest is in grind (arith, nat_tests)
 
 -- no sign before what may be a left side
-pub unsigned_operand : (f : Bool) (e : Expression) (rest : List ℕ) → IsOperand f e → is_signed e ≡ false →
-    begins is_sign (expression_text e ++ rest) ≡ false
+pub unsigned_operand : (f : Bool) (e : Expression) (rest : List ℕ) → IsOperand f e → is_signed e ≡ false → begins is_sign (expression_text e ++ rest) ≡ false
 unsigned_operand f e rest is h = let starts = begins-operand f e rest is in grind (arith, nat_tests)
 
 -- an operand at the front, or after a space
@@ -260,9 +254,8 @@ pub behind_operator : (op : BinaryOp) (rest : List ℕ) →
 behind_operator and_op rest = ((refl, refl), refl)
 behind_operator _ rest = ((refl, refl), refl)
 
-pub binary-text : (f : Bool) (op : BinaryOp) (left right : Expression) (rest : List ℕ) → joins op ≡ false →
-    IsOperand f left → IsOperand f right → IsBehindOperand rest →
-    binary_atom f (expression_text left ++ (32 ∷ operator_text op ++ (32 ∷ expression_text right ++ rest)))
+pub binary-text : (f : Bool) (op : BinaryOp) (left right : Expression) (rest : List ℕ) → joins op ≡ false → IsOperand f left → IsOperand f right →
+    IsBehindOperand rest → binary_atom f (expression_text left ++ (32 ∷ operator_text op ++ (32 ∷ expression_text right ++ rest)))
     ≡ Some (binary op (settled left) (settled right), past is_space rest)
 unfolding binary_atom
 binary-text f op left right rest j l r h =

@@ -8,22 +8,18 @@ use Rattle.jsonb.proofs.OperandReadsBack.{spaced-to, inners-text, is_inner_start
 use Rattle.jsonb.proofs.ConditionReadsBack.{is_condition_start, no_space-condition, expression-reads, steps-read, is_step_start, front-steps, binary-none}
 
 -- text that does not begin with a space, and one of the two rules
-whole_path : (input : List ℕ) (p : List Step) → past is_space input ≡ input → (root_expression </> plain_path) input ≡ Some (p, []) →
-    json_path input ≡ Some p
+whole_path : (input : List ℕ) (p : List Step) → past is_space input ≡ input → (root_expression </> plain_path) input ≡ Some (p, []) → json_path input ≡ Some p
 unfolding json_path
-whole_path input p no_space h =
-    ap (λ (o : Parsed (List Step)). all_consuming o) (spaced-reads (root_expression </> plain_path) input p [] (rw no_space h))
+whole_path input p no_space h = ap (λ (o : Parsed (List Step)). all_consuming o) (spaced-reads (root_expression </> plain_path) input p [] (rw no_space h))
 
 -- ---- a whole expression
 
-root_expression-text : (e : Expression) → IsCondition false e →
-    root_expression (expression_text e ++ []) ≡ Some (whole_expression (settled e) ∷ [], [])
+root_expression-text : (e : Expression) → IsCondition false e → root_expression (expression_text e ++ []) ≡ Some (whole_expression (settled e) ∷ [], [])
 unfolding root_expression
 root_expression-text e is =
     rw (spaced-to (expression false) (expression_text e ++ []) (settled e) [] (rw (no_space-condition false e [] is) ((expression-reads e).0 false [] is refl))) refl
 
-path-of_expression : (e : Expression) → IsCondition false e →
-    json_path (path_text (whole_expression e ∷ [])) ≡ Some (whole_expression (settled e) ∷ [])
+path-of_expression : (e : Expression) → IsCondition false e → json_path (path_text (whole_expression e ∷ [])) ≡ Some (whole_expression (settled e) ∷ [])
 path-of_expression e is =
     whole_path (expression_text e ++ []) (whole_expression (settled e) ∷ []) (no_space-condition false e [] is) (rw (root_expression-text e is) refl)
 
@@ -36,8 +32,7 @@ no_root_expression input no_space h = rw (spaced-none (expression false) input (
 -- nothing that an expression begins with
 no_atom : (f : Bool) (input : List ℕ) → past is_space input ≡ input → begins is_condition_start input ≡ false → atom_with expression f input ≡ None
 unfolding atom_with group_with exists_with
-no_atom f input no_space h =
-    rw (unary-none f input (grind (arith, nat_tests)), binary-none f input (rw no_space (grind (arith, nat_tests))))
+no_atom f input no_space h = rw (unary-none f input (grind (arith, nat_tests)), binary-none f input (rw no_space (grind (arith, nat_tests))))
     (rw (literal-none 40 [] input (grind (arith, nat_tests)), literal-none 101 _ input (grind (arith, nat_tests))) refl)
 
 -- ---- a path that begins with the root
@@ -90,14 +85,12 @@ path_steps-text ss are = ap (λ (rule : Rule Step). repeat rule (steps_text ss +
 
 no_first_step : (input : List ℕ) → front is_step_start input ≡ true → first_step input ≡ None
 unfolding first_step
-no_first_step input h =
-    rw (literal-none 36 [] input (grind (arith, nat_tests)))
+no_first_step input h = rw (literal-none 36 [] input (grind (arith, nat_tests)))
     (rw (spaced-none name input (rw (past-none is_space input (grind (arith, nat_tests))) (name-none input (grind (arith, nat_tests))))) refl)
 
 plain_path-steps : (ss : Steps) → ArePathSteps ss → plain_path (steps_text ss ++ []) ≡ Some (steps_list (settled_steps ss), [])
 unfolding plain_path front_steps
-plain_path-steps ss are =
-    rw (no_first_step (steps_text ss ++ []) (front-steps ss [] are is_step_start (λ b e. e) refl), path_steps-text ss are) refl
+plain_path-steps ss are = rw (no_first_step (steps_text ss ++ []) (front-steps ss [] are is_step_start (λ b e. e) refl), path_steps-text ss are) refl
 
 -- ---- whole text
 

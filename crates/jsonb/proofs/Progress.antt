@@ -43,9 +43,8 @@ module _ {B C : Type 0} {f : B → Outcome (List C)} {Left : List B → Type 0} 
       added given t rest o e l h is = grind (arith, append_assoc)
 
   -- an error
-  pub refused_in : {Left' : List B → Type 0} {P : B → Type 0} {e : Error} → Progress Left Done f outcome
-      → ((rest : List B) → Left rest → First Left' P rest) → ((t : B) (before : List C) → P t → Done before → IsOutOfMemory e ⊎ (f t ≡ Err e))
-      → IsOutOfMemory e ⊎ (outcome ≡ Err e)
+  pub refused_in : {Left' : List B → Type 0} {P : B → Type 0} {e : Error} → Progress Left Done f outcome → ((rest : List B) → Left rest → First Left' P rest)
+      → ((t : B) (before : List C) → P t → Done before → IsOutOfMemory e ⊎ (f t ≡ Err e)) → IsOutOfMemory e ⊎ (outcome ≡ Err e)
   refused_in p first one = grind arith
 
   -- the end
@@ -73,8 +72,7 @@ abbrev pub no_spot : Spot
 no_spot = record { kind = kind.Null; start = 0; end = 0 }
 
 module _ {A B : Type 0} (R : A → B → Type 0) (xs : List A) where
-  pub list_first : (i : ℕ) (d : A) → i < length xs → (rest : List B) → AllZip R (drop i xs) rest
-      → First (AllZip R (drop (i + 1) xs)) (R (get_or xs i d)) rest
+  pub list_first : (i : ℕ) (d : A) → i < length xs → (rest : List B) → AllZip R (drop i xs) rest → First (AllZip R (drop (i + 1) xs)) (R (get_or xs i d)) rest
   list_first i d h rest a = grind (arith, drop-cons, add-one)
 
   pub list_end : (i : ℕ) → length xs ≤ i → (rest : List B) → AllZip R (drop i xs) rest → rest ≡ []
@@ -95,8 +93,7 @@ module _ (f : Tree → Outcome (List Tree)) (bytes : List ℕ) (spots : List Spo
         → ((t : Tree) (before : List Tree) → Locates bytes (get_or spots i no_spot) t → AllZip (Locates bytes) found before
         → IsOkAnd (f t) (λ us. AllZip (Locates bytes) found' (before ++ us)))
         → SpotsPassed (i + 1) found'
-    spot_passed less one =
-        one_more passed (list_first (Locates bytes) spots i no_spot less) one
+    spot_passed less one = one_more passed (list_first (Locates bytes) spots i no_spot less) one
 
     pub spot_not_passed : {G : Type 0} (Q : G → List Tree → Type 0) (e : Error) → i < length spots
         → ((t : Tree) (before : List Tree) → Locates bytes (get_or spots i no_spot) t → AllZip (Locates bytes) found before
@@ -106,8 +103,7 @@ module _ (f : Tree → Outcome (List Tree)) (bytes : List ℕ) (spots : List Spo
         record { ok = tt; err = refused_in passed (list_first (Locates bytes) spots i no_spot less) (λ t before m a. (one t before m a).err) }
 
   pub all_passed : (i : ℕ) (found : List Spot) → SpotsPassed i found → length spots ≤ i → IsOkAnd (try_flat_map f ts) (AllZip (Locates bytes) found)
-  all_passed i found passed end =
-      at_end passed (list_end (Locates bytes) spots i end)
+  all_passed i found passed end = at_end passed (list_end (Locates bytes) spots i end)
 
 -- ---- over the children of an item
 

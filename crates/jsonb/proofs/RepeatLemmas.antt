@@ -106,8 +106,7 @@ compared_both op ls rs o p h g = grind (arith, alike_compare)
 
 -- of members of the items
 pub alike_items_truth : (c : MemberCompared) (top : Tree) (us ts : List Tree) → AreAlike us ts → items_truth c top us ≡ items_truth c top ts
-alike_items_truth c top us ts h =
-    grind (arith, alike_steps Lax (steps_of (steps_view c.names.now)) top us ts h, alike_compare, alike_flat_map, alike_itself)
+alike_items_truth c top us ts h = grind (arith, alike_steps Lax (steps_of (steps_view c.names.now)) top us ts h, alike_compare, alike_flat_map, alike_itself)
 
 -- ---- a list whose repeats are left out
 

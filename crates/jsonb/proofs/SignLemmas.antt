@@ -54,8 +54,7 @@ module _ (op : UnaryOp) (xs : List CodeNumber) (i : ℕ) (d : CodeNumber) (outco
   one_signed v short is =
       let next : i < i + 1 = omega arith in
       rw (drop-set-lt (i + 1) xs i v next, take_more_set xs i v short)
-      (one_more {Done' = AllZip IsNumberItem (take i xs ++ v ∷ [])} done (list_first (Is number_view) xs i d short)
-      (λ n before same held. rw (← same)
+      (one_more {Done' = AllZip IsNumberItem (take i xs ++ v ∷ [])} done (list_first (Is number_view) xs i d short) (λ n before same held. rw (← same)
       (number_added (take i xs) (take i xs ++ v ∷ []) v (signed_number op (number_view (get_or xs i d))) before refl is held)))
 
   pub one_refused : {Q : Unit {0} → List Tree → Type 0} {e : Error} → i < length xs
@@ -65,8 +64,7 @@ module _ (op : UnaryOp) (xs : List CodeNumber) (i : ℕ) (d : CodeNumber) (outco
 
 pub all_signed : (op : UnaryOp) (xs : List CodeNumber) (i : ℕ) (outcome : Outcome (List Tree)) → SignedUntil op xs i outcome → length xs ≤ i
     → IsOkAnd outcome (AllZip IsNumberItem xs)
-all_signed op xs i outcome done end =
-    rw (take_all i xs end) at (at_end done (list_end (Is number_view) xs i end))
+all_signed op xs i outcome done end = rw (take_all i xs end) at (at_end done (list_end (Is number_view) xs i end))
 
 -- ---- what follows the values of an operand
 

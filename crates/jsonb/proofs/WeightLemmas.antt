@@ -40,8 +40,7 @@ test_weight tests n i x after has =
 
 -- the only test
 pub only_weighs : (tests : List Test) (x : Test) (n : ℕ) → tests ≡ x ∷ [] → 1 ≤ n → tests_weight (take n tests) ≡ question_weight x.question
-only_weighs tests x n one some =
-    omega (arith, ap (λ l. tests_weight (take n l)) one ∙ ap tests_weight (all_taken n some), first_test x [])
+only_weighs tests x n one some = omega (arith, ap (λ l. tests_weight (take n l)) one ∙ ap tests_weight (all_taken n some), first_test x [])
   where
     all_taken : (n : ℕ) → 1 ≤ n → take n (x ∷ []) ≡ x ∷ []
     all_taken zero some = absurd (omega (arith, some))
@@ -60,8 +59,7 @@ running_some r = steps_some (steps_of (steps_view (drop r.next r.steps.now)))
 -- the next step, and those after it
 pub next_weighs : (r : Running) (x : Path) → r.next < length r.steps.now → x ≡ get_or r.steps.now r.next x
     → running_weight r ≡ step_weight (step_view x) + steps_weight (steps_of (steps_view (drop (r.next + 1) r.steps.now)))
-next_weighs r x short is =
-    ap (λ l. steps_weight (steps_of (steps_view l))) (drop-cons r.steps.now r.next x short
+next_weighs r x short is = ap (λ l. steps_weight (steps_of (steps_view l))) (drop-cons r.steps.now r.next x short
     ∙ ap (λ y. y ∷ drop (suc r.next) r.steps.now) (sym is) ∙ ap (λ n. x ∷ drop n r.steps.now) (sym (add-one r.next)))
 
 taken_weighs : (expressions : Expressions) (s : Step) → step_weight (taken_step expressions s) ≡ step_weight s
@@ -71,8 +69,7 @@ taken_weighs expressions s = grind arith
 pub filter_next_weighs : (r : Running) (x : Path) (e : Expression) → r.next < length r.steps.now → x ≡ get_or r.steps.now r.next x
     → taken_step r.expressions (step_view x) ≡ filter e
     → running_weight r ≡ step_weight (filter e) + steps_weight (steps_of (steps_view (drop (r.next + 1) r.steps.now)))
-filter_next_weighs r x e short is taken =
-    next_weighs r x short is ∙ ap (λ w. w + steps_weight (steps_of (steps_view (drop (r.next + 1) r.steps.now))))
+filter_next_weighs r x e short is taken = next_weighs r x short is ∙ ap (λ w. w + steps_weight (steps_of (steps_view (drop (r.next + 1) r.steps.now))))
     (sym (taken_weighs r.expressions (step_view x)) ∙ ap step_weight taken)
 
 -- a filter whose condition is compiled
