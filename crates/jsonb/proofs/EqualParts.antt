@@ -9,7 +9,6 @@ use Rattle.jsonb.specs.contracts.path.BinaryOperatorPartialEq.TheImpl.{eq-value 
 use Rattle.jsonb.specs.contracts.path.UnaryOperatorPartialEq.TheImpl.{eq-value as sign_equal}
 
 module _ {A : Type 0} (E F : A → A → Bool) (same : (a b : A) → E a b ≡ F a b) where
-
   list-is : (xs ys : List A) → pointwise E xs ys ≡ pointwise F xs ys
   list-is [] [] = refl
   list-is (x ∷ xs) (y ∷ ys) = ap₂ (λ a b. a && b) (same x y) (list-is xs ys)

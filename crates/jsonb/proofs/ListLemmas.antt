@@ -62,7 +62,6 @@ pub is_not_false : (b : Truth) → not (option_eq beq b (Some false)) ≡ true �
 is_not_false b h is = grind arith
 
 module _ (c : MemberCompared) where
-
   ok_is : (x y : Truth) (o : Outcome Truth) → o ≡ Ok x → o ≡ Ok y → x ≡ y
   ok_is x y o p q = cc
 

@@ -26,7 +26,6 @@ as_refused f h = elim h [ inl memory ↦ inl memory | inr is ↦ inr (f is) ]
 -- ---- comparisons
 
 module _ (mode : Mode) (top t : Tree) (c : Comparison) (compares : is_comparison c.op ≡ true) where
-
   pub left_refused : (e : Error) → operand_values mode (expression_view c.left.now) top t ≡ Err e → truth mode (comparison_view c) top t ≡ Err e
   left_refused e is = grind (arith, comparison_is)
 
