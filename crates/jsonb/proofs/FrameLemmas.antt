@@ -1,5 +1,5 @@
 -- What is open while an expression is read: each step of the reading keeps what the rules make of it.
-use Rattle.jsonb.proofs.Common.{◌≡◌, ℕ, ◌+◌, List, [], ◌∷◌, ◌++◌, length, Bool, true, false, Option, Some, None, Result, IfOk, refl, ap, ◌∙◌, arith, nat_tests, Parsed, Rule, ◌>>◌, literal, repeat, ws, ReadsSome, read_as, ConsumesInput, NeverGrows, some-no_more, repeat-goes, repeat-ends, behind, loop-goes, loop-ends, BinaryOp, binary, and_op, or_op, Expression, Step, filter, paths, steps_of, spaced, atom_with, and_with, or_with, expression, spaced_inner, spaced_operand, path_with, path_step, path_root, operand, unary_operator, unary_atom, binary_atom, group_with, exists_with, front_steps, first_step, plain_path, root_expression, operand_steps, another_atom, another_and, expression_view, joined_from, joined_view, joined_behind, partial_outcome, IsUnclosed, IsPartial, closed, filter_front, filter_step, steps_behind, opened_outcome, IsOpened, resumed, AreFrames, goes_in_filter, opening_outcome, as_path, Joined, PartialExpr, Opened, Opening, Bor}
+use Rattle.jsonb.proofs.Common.{◌≡◌, ℕ, ◌+◌, List, [], ◌∷◌, ◌++◌, length, Bool, true, false, Option, Some, None, Result, IfOk, refl, sym, ap, ◌∙◌, arith, nat_tests, Parsed, Rule, ◌>>◌, literal, repeat, ws, ReadsSome, read_as, ConsumesInput, NeverGrows, some-no_more, repeat-goes, repeat-ends, behind, loop-goes, loop-ends, BinaryOp, binary, and_op, or_op, Expression, Step, filter, paths, steps_of, spaced, atom_with, and_with, or_with, expression, spaced_inner, spaced_operand, path_with, path_step, path_root, operand, unary_operator, unary_atom, binary_atom, group_with, exists_with, front_steps, first_step, plain_path, root_expression, operand_steps, another_atom, another_and, expression_view, joined_from, joined_view, joined_behind, partial_outcome, IsUnclosed, IsPartial, closed, filter_front, filter_step, steps_behind, opened_outcome, IsOpened, resumed, AreFrames, goes_in_filter, opening_outcome, as_path, Joined, PartialExpr, Opened, Opening, Bor}
 use Rattle.jsonb.specs.declared.path.Expr.{Expr as CodeExpr}
 use Rattle.jsonb.specs.Private.Frames.{operation}
 use Rattle.jsonb.specs.declared.parser.expression.Frame.{Frame}
@@ -182,6 +182,10 @@ ws-dollar : (tail : List ℕ) → ws (36 ∷ tail) ≡ Some (tt, 36 ∷ tail)
 unfolding ws
 ws-dollar tail = refl
 
+dollar : (input : List ℕ) (p : List Step × List ℕ) → operand_steps false input ≡ Some p → (tail : List ℕ) × (input ≡ 36 ∷ tail)
+unfolding path_root
+dollar input p e = grind (arith, nat_tests)
+
 module _ (tail : List ℕ) (ss : List Step) (rest here : List ℕ) (reads : operand_steps false (36 ∷ tail) ≡ Some (ss, rest))
     (space : ws rest ≡ Some (tt, here)) where
   atom-some : (op : BinaryOp) (e : Expression) (after : List ℕ) → operation false here ≡ Some ((op, e), after) →
@@ -207,8 +211,9 @@ pub front-operation : (input rest here : List ℕ) (ss : List Step) (op : Binary
     operand_steps false input ≡ Some (ss, rest) → ws rest ≡ Some (tt, here) → operation false here ≡ Some ((op, e), after) →
     as_path (partial_outcome (record { is_in_filter = false; all = None; any = None }) (Some (binary op (paths (steps_of ss)) e, after)))
     ≡ root_expression input
-unfolding path_root
-front-operation input rest here ss op e after reads space is = grind (arith, front-is, ws-dollar, atom-some, nat_tests)
+front-operation input rest here ss op e after reads space is =
+    let d = dollar input (ss, rest) reads in
+    rw (sym d.1) at (front-is (36 ∷ d.0) (36 ∷ d.0) _ (ws-dollar d.0) (sym (atom-some d.0 ss rest here (rw d.1 at reads) space op e after is)))
 
 -- steps alone
 pub front-steps : (input rest here : List ℕ) (ss : List Step) → operand_steps false input ≡ Some (ss, rest) → ws rest ≡ Some (tt, here) →
