@@ -1,11 +1,8 @@
 -- Lists in which any test finds the same first item: what is computed from them is the same.
-use Rattle.jsonb.proofs.Common.{◌≡◌, ℕ, ◌<◌, suc, zero, length, List, [], ◌∷◌, ◌++◌, map, flat_map, Bool, true, false, Option, Some, None, is_some, option_map, Ok, Err, refl, ap, ◌∙◌, arith, find, slice_index_or, Contains, option_or, find-append, Outcome, try_flat_map, Error, AreAlike, AlikeOutcomes}
+use Rattle.jsonb.proofs.Common.{◌≡◌, ℕ, ◌<◌, suc, zero, length, List, [], ◌∷◌, ◌++◌, map, flat_map, Bool, true, false, Option, Some, None, is_some, option_map, Ok, Err, refl, ◌∙◌, arith, find, slice_index_or, Contains, option_or, find-append, Outcome, try_flat_map, Error, AreAlike, AlikeOutcomes}
 
 pub alike_itself : {A : Type 0} (xs : List A) → AreAlike xs xs
 alike_itself xs = record { finds = λ test. refl }
-
-pub alike_same : {A : Type 0} {xs ys : List A} → xs ≡ ys → AreAlike xs ys
-alike_same is = record { finds = λ test. ap (find test) is }
 
 pub alike_then : {A : Type 0} {xs ys zs : List A} → AreAlike xs ys → AreAlike ys zs → AreAlike xs zs
 alike_then h g = record { finds = λ test. h.finds test ∙ g.finds test }
@@ -20,8 +17,7 @@ found_in f test None = None
 abbrev finds_in : {A B : Type 0} → (A → List B) → (B → Bool) → A → Bool
 finds_in f test x = is_some (find test (f x))
 
-find-flat_map : {A B : Type 0} (f : A → List B) (test : B → Bool) (xs : List A)
-    → find test (flat_map f xs) ≡ found_in f test (find (finds_in f test) xs)
+find-flat_map : {A B : Type 0} (f : A → List B) (test : B → Bool) (xs : List A) → find test (flat_map f xs) ≡ found_in f test (find (finds_in f test) xs)
 find-flat_map f test [] = refl
 find-flat_map f test (x ∷ xs) = grind (arith, find-flat_map f test xs, find-append)
 

@@ -17,16 +17,14 @@ same_error repeats o p e is same = grind arith
 -- an error of the path is that of the condition
 pub waiting_refused : (context : Context) (top t : Tree) (a : Asking) (waits : Waits) (o : Outcome (List Tree)) (whole : Outcome Truth) (e : Error) → o ≡ Err e
     → IsWaiting context top t a waits o whole → whole ≡ Err e
-waiting_refused context top t a waits o whole e is w =
-    w.0.is ∙ ap (λ test. and_then test (λ b. evaluated context.mode top t w.0.rest
+waiting_refused context top t a waits o whole e is w = w.0.is ∙ ap (λ test. and_then test (λ b. evaluated context.mode top t w.0.rest
     (next_jump w.0.next.on_true w.0.next.on_false (a.left + 1) a.state b)))
     (path_refused context.mode top t (tests_conditions (asking_tests a)) _ a.operands.cache waits o e w.1 is)
 
 -- and that of the filter
 filter_refused : (context : Context) (top : Tree) (f : Filter) (waits : Waits) (o p : Outcome (List Tree)) (e : Error) → o ≡ Err e
     → IsFilterWaiting context top f waits o p → p ≡ Err e
-filter_refused context top f waits o p e is w =
-    w.is ∙ ap (λ keeps. and_then keeps (λ b. filtered_later context top f w.e w.others (w.found ++ filtered w.t b)))
+filter_refused context top f waits o p e is w = w.is ∙ ap (λ keeps. and_then keeps (λ b. filtered_later context top f w.e w.others (w.found ++ filtered w.t b)))
     (waiting_refused context top w.t f.asking waits o w.keeps e is w.waits)
 
 -- an error of the innermost steps is that of the whole
@@ -50,9 +48,8 @@ onward_done context top fs now repeats p q whole r h same around = grind (arith,
 
 -- a filter that waits is the innermost one
 pub onward_waits : (context : Context) (top : Tree) (old new : List Frame) (f : Frame) (path : Box AtFilter Global) (repeats : Repeats)
-    (o p q whole : Outcome (List Tree)) (r : Outcome Progress)
-    → OnOk r ((r ≡ Ok (progress.AtFilter path)) × (new ≡ old ++ f ∷ [])) → IfErr r IsOutOfMemory → IsAtFilter context top path.value o
-    → IsFilterWaiting context top f.filter.value f.waits o p → SameOutcomes f.filter.value.after.repeats p q
+    (o p q whole : Outcome (List Tree)) (r : Outcome Progress) → OnOk r ((r ≡ Ok (progress.AtFilter path)) × (new ≡ old ++ f ∷ [])) → IfErr r IsOutOfMemory
+    → IsAtFilter context top path.value o → IsFilterWaiting context top f.filter.value f.waits o p → SameOutcomes f.filter.value.after.repeats p q
     → IsAround context top (reverse old) f.filter.value.after.repeats q repeats whole → IsOnward context top new repeats whole r
 onward_waits context top old new f path repeats o p q whole (Ok x) h memory at waits same around = (
   path.value.running.repeats,
@@ -87,11 +84,8 @@ pub filter_next : (context : Context) (top : Tree) (r : Running) (x : Path) (e :
     → x ≡ get_or r.steps.now r.next x → taken_step r.expressions (step_view x) ≡ filter e → IsRunning context top r o
     → IsBeforeFilter context top e (reached r (r.next + 1) r.items) o
 filter_next context top r x e o short is taken h =
-    let left = running_step context top r x o short is h in (
-      left.0,
-      left.1,
-      rw taken at left.2,
-    )
+    let left = running_step context top r x o short is h in
+    grind arith
 
 -- what the next step selects
 pub step_taken : (context : Context) (top : Tree) (repeats : Repeats) (s : Step) (rest : Steps) (nodes : NodeList) (ts : List Tree)

@@ -29,13 +29,6 @@ next_tested context top t a i x whole after has h =
       subst (IsCached context top a) (conditions_at tests a.left i x h.within after at) h.kept,
     )
 
-module _ (context : Context) (top t : Tree) {item item' : Spot} {tests tests' : List Test} {left left' : ℕ} {state state' : Option Jump}
-    {test test' whole : Outcome Truth} where
-  -- the same of equal parts
-  pub tested_as : item ≡ item' → tests ≡ tests' → left ≡ left' → state ≡ state' → test ≡ test'
-      → IsTested context top t item tests left state test whole → IsTested context top t item' tests' left' state' test' whole
-  tested_as p q r s u h = grind arith
-
 -- ---- before and after a test
 
 abbrev pub with_state : Asking → Option Jump → Asking
@@ -78,16 +71,14 @@ module _ (context : Context) (top t : Tree) (a : Asking) {item : Spot} {tests : 
   pub path_waits : (p : Box Pending Global)
       → IsAnswer context top t (tests_conditions tests) (tests_conditions (take left tests)) a.operands test (Ok (asked.Path p))
       → IsTurn context top t a whole (Ok (Some p))
-  path_waits p answer = grind (arith, tested_as)
+  path_waits p answer = grind arith
 
-  pub truth_known : (b : Truth)
-      → IsAnswer context top t (tests_conditions tests) (tests_conditions (take left tests)) a.operands test (Ok (asked.Truth b))
+  pub truth_known : (b : Truth) → IsAnswer context top t (tests_conditions tests) (tests_conditions (take left tests)) a.operands test (Ok (asked.Truth b))
       → IsTested context top t a.operands.item (asking_tests a) a.left a.state (Ok b) whole
       × IsCached context top a (tests_conditions (take a.left (asking_tests a)))
-  truth_known b answer = grind (arith, tested_as)
+  truth_known b answer = grind arith
 
-  pub test_refused : (e : Error)
-      → IsAnswer context top t (tests_conditions tests) (tests_conditions (take left tests)) a.operands test (Err e)
+  pub test_refused : (e : Error) → IsAnswer context top t (tests_conditions tests) (tests_conditions (take left tests)) a.operands test (Err e)
       → IsTurn context top t a whole (Err e)
   test_refused e answer = grind (arith, as_refused)
 
@@ -103,17 +94,11 @@ module _ (context : Context) (top t : Tree) (a : Asking) (i : ℕ) (x : Test) (w
     (question_conditions x.question ++ tests_conditions (take i (asking_tests a)))
     → IsAnswer context top t (tests_conditions (asking_tests a)) (tests_conditions (take i (asking_tests a))) operands
     (truth context.mode e top t) r) where
-  answer : (b : Outcome Asked) → r ≡ b → (e : Expression)
-      × IsTested context top t a.operands.item (asking_tests a) i a.state (truth context.mode e top t) whole
-      × IsAnswer context top t (tests_conditions (asking_tests a)) (tests_conditions (take i (asking_tests a))) operands
-      (truth context.mode e top t) b
+  answer : (b : Outcome Asked) → r ≡ b → (e : Expression) × IsTested context top t a.operands.item (asking_tests a) i a.state (truth context.mode e top t) whole
+      × IsAnswer context top t (tests_conditions (asking_tests a)) (tests_conditions (take i (asking_tests a))) operands (truth context.mode e top t) b
   answer b is =
-      let n = next_tested context top t a i x whole after has h in (
-        n.0,
-        n.2,
-        subst (IsAnswer context top t (tests_conditions (asking_tests a)) (tests_conditions (take i (asking_tests a))) operands
-            (truth context.mode n.0 top t)) is (answers n.0 n.2.at n.1 n.3),
-      )
+      let n = next_tested context top t a i x whole after has h in
+      grind arith
 
   pub turn_refused : (e : Error) → r ≡ Err e → IsOutOfMemory e ⊎ (whole ≡ Err e)
   turn_refused e is =
@@ -176,5 +161,4 @@ pub fixed_whole : (a : Asking) (x : Test) (part : Expression) (found : Option Tr
 fixed_whole a x part None one zero_true zero_false only view known = known
 fixed_whole a x part (Some b) one zero_true zero_false only view known = λ context top t e more compiled cached.
     let kept = rw (ap tests_conditions one ∙ ap (λ l. l ++ []) only) at cached in
-    single_truth context top t e b x zero_true zero_false (λ c asks. rw (view c asks) at (known context.mode top t part more kept))
-    (rw one at compiled)
+    single_truth context top t e b x zero_true zero_false (λ c asks. rw (view c asks) at (known context.mode top t part more kept)) (rw one at compiled)

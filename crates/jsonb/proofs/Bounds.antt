@@ -1,5 +1,5 @@
 -- The bound on parentheses changes nothing, once it passes the length of the input.
-use Rattle.jsonb.proofs.Common.{◌≡◌, ℕ, zero, suc, ◌+◌, ◌<◌, ◌≤◌, List, [], ◌∷◌, length, drop, Bool, true, false, cond, Some, None, refl, ◌∙◌, ap, arith, length-drop, add-one, nat_lt, codes, option_and_then, Decides-ltb, Parsed, Rule, ◌>>=◌, ◌>>◌, ◌</>◌, parsed_map, bytes, literal, turn, up_to, repeat, list_of, NeverGrows, some-no_more, some-literal, grows-ws, Expression, spaced, path_root, path_with, group_with, exists_with, atom_with, and_with, or_with, nested_or, expression, path_step}
+use Rattle.jsonb.proofs.Common.{◌≡◌, ℕ, zero, suc, ◌+◌, ◌<◌, ◌≤◌, List, [], ◌∷◌, length, drop, Bool, true, Some, None, refl, ◌∙◌, arith, length-drop, add-one, codes, option_and_then, Decides-ltb, Parsed, Rule, ◌>>=◌, ◌>>◌, ◌</>◌, bytes, literal, up_to, repeat, list_of, NeverGrows, some-no_more, some-literal, grows-ws, Expression, spaced, path_root, path_with, group_with, exists_with, atom_with, and_with, or_with, nested_or, expression, path_step}
 use Rattle.jsonb.proofs.ExpressionReadsSome.{some-path_root, some-and_separator, some-or_separator, some-atom, some-and, grows-nested_or}
 
 -- the rules do the same on inputs that are shorter than this
@@ -13,8 +13,7 @@ agree-next {A} {rule = rule} {next = next} {other = other} k h same input short 
   go None at = refl
   go (Some p) at = same p.0 p.1 (omega (arith, h input p.0 p.1 at))
 
-agree-first : {A B : Type 0} {rule rule' : Rule A} (k : ℕ) (next : A → Rule B) → Agree k rule rule' →
-    Agree k (rule >>= next) (rule' >>= next)
+agree-first : {A B : Type 0} {rule rule' : Rule A} (k : ℕ) (next : A → Rule B) → Agree k rule rule' → Agree k (rule >>= next) (rule' >>= next)
 agree-first k next same input short = rw (same input short) refl
 
 -- what follows a byte is shorter
@@ -31,15 +30,7 @@ agree-choice k h h' input short = rw (h input short, h' input short) refl
 agree-up_to : {A : Type 0} (k : ℕ) (rule rule' : Rule A) → Agree k rule rule' → (n : ℕ) → Agree k (up_to n rule) (up_to n rule')
 unfolding up_to
 agree-up_to {A} k rule rule' h zero input short = refl
-agree-up_to {A} k rule rule' h (suc n) input short = rw (h input short) (go (agree-up_to k rule rule' h n) (rule' input)) where
-  go : Agree k (up_to n rule) (up_to n rule') → (o : Parsed A) → turn (up_to n rule) input o ≡ turn (up_to n rule') input o
-  go more None = refl
-  go more (Some p) = pick (nat_lt (length p.1) (length input)) refl where
-    pick : (t : Bool) → nat_lt (length p.1) (length input) ≡ t →
-        cond t (parsed_map (λ (os : List A). p.0 ∷ os) (up_to n rule p.1)) (Some ([], input))
-        ≡ cond t (parsed_map (λ (os : List A). p.0 ∷ os) (up_to n rule' p.1)) (Some ([], input))
-    pick true at = ap (parsed_map (λ (os : List A). p.0 ∷ os)) (more p.1 (omega (arith, (Decides-ltb (length p.1) (length input)).0 at)))
-    pick false at = refl
+agree-up_to {A} k rule rule' h (suc n) input short = grind (arith, agree-up_to k rule rule' h n, Decides-ltb)
 
 agree-repeat : {A : Type 0} {rule rule' : Rule A} (k : ℕ) → Agree k rule rule' → Agree k (repeat rule) (repeat rule')
 unfolding repeat
@@ -62,26 +53,22 @@ module _ (k : ℕ) (nested nested' : Bool → Rule Expression) (grows-nested : (
 
   agree-path : Agree (suc k) (path_with nested) (path_with nested')
   unfolding path_with
-  agree-path =
-      agree-choice (suc k) (agree-same (suc k) _) (agree-next (suc k) grows-ws (λ _. agree-first (suc k) _ (agree-first (suc k) _
+  agree-path = agree-choice (suc k) (agree-same (suc k) _) (agree-next (suc k) grows-ws (λ _. agree-first (suc k) _ (agree-first (suc k) _
       (agree-behind k 63 [] (agree-next k grows-ws (λ _ input short. agree-group true input (omega arith)))))))
 
   agree-exists : Agree (suc k) (exists_with nested) (exists_with nested')
   unfolding exists_with
-  agree-exists =
-      agree-behind k 101 (codes "xists") (agree-next k grows-ws (λ _. agree-next k (some-no_more (literal "(") (some-literal 40 []))
+  agree-exists = agree-behind k 101 (codes "xists") (agree-next k grows-ws (λ _. agree-next k (some-no_more (literal "(") (some-literal 40 []))
       (λ _. agree-next k grows-ws (λ _. agree-first k _ (agree-next k (some-no_more (path_root true) (some-path_root true))
       (λ first. agree-first k _ (agree-repeat k (λ input short. agree-path input (omega arith)))))))))
 
   agree-atom : (f : Bool) → Agree (suc k) (atom_with nested f) (atom_with nested' f)
   unfolding atom_with
-  agree-atom f =
-      agree-choice (suc k) (agree-same (suc k) _) (agree-choice (suc k) (agree-same (suc k) _) (agree-choice (suc k) (agree-group f) agree-exists))
+  agree-atom f = agree-choice (suc k) (agree-same (suc k) _) (agree-choice (suc k) (agree-same (suc k) _) (agree-choice (suc k) (agree-group f) agree-exists))
 
   agree-or : (f : Bool) → Agree (suc k) (or_with nested f) (or_with nested' f)
   unfolding or_with and_with
-  agree-or f =
-      agree-first (suc k) _ (agree-list_of (suc k) (some-no_more (and_with nested f) (some-and nested grows-nested f))
+  agree-or f = agree-first (suc k) _ (agree-list_of (suc k) (some-no_more (and_with nested f) (some-and nested grows-nested f))
       (some-no_more (spaced (literal "||")) some-or_separator)
       (agree-first (suc k) _ (agree-list_of (suc k) (some-no_more (atom_with nested f) (some-atom nested grows-nested f))
       (some-no_more (spaced (literal "&&")) some-and_separator) (agree-atom f))))
@@ -102,12 +89,10 @@ unfolding expression nested_or
 expression-once f input = rw add-one refl
 
 pub expression-rule : (f : Bool) (input : List ℕ) → expression f input ≡ or_with expression f input
-expression-rule f input =
-    expression-once f input ∙ agree-or (length input) (nested_or (length input)) expression (grows-nested_or (length input))
+expression-rule f input = expression-once f input ∙ agree-or (length input) (nested_or (length input)) expression (grows-nested_or (length input))
     (nested_is_expression (length input)) f input (omega arith)
 
 pub path_step-rule : (input : List ℕ) → path_step input ≡ path_with expression input
 unfolding path_step
-path_step-rule input =
-    agree-path (length input) (nested_or (length input + 1)) expression (grows-nested_or (length input + 1))
+path_step-rule input = agree-path (length input) (nested_or (length input + 1)) expression (grows-nested_or (length input + 1))
     (λ f i short. nested_is_expression (length input + 1) f i (omega arith)) input (omega arith)

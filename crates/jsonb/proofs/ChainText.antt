@@ -1,5 +1,5 @@
 -- The text of a chain of expressions, part by part.
-use Rattle.jsonb.proofs.Common.{◌≡◌, ℕ, zero, suc, ◌+◌, List, [], ◌++◌, Bool, refl, sym, ap, ◌∙◌, append_assoc, add-zero, arith, codes, if◌then◌else◌, operator_text, needs_parentheses, side_text, expression_text, Expression, binary, left_of, below, front_text, fronts_text, link_text, links_text}
+use Rattle.jsonb.proofs.Common.{◌≡◌, ℕ, zero, suc, ◌+◌, List, [], ◌++◌, Bool, refl, sym, ◌∙◌, append_assoc, add-zero, arith, codes, if◌then◌else◌, operator_text, needs_parentheses, side_text, expression_text, Expression, binary, left_of, below, front_text, fronts_text, link_text, links_text}
 use Rattle.std.proofs.lemmas.List.{append-nil}
 
 -- ---- one more
@@ -10,18 +10,13 @@ left_more (suc n) e = left_more n (left_of e)
 
 pub fronts_more : (n : ℕ) (e : Expression) → fronts_text (suc n) e ≡ fronts_text n e ++ front_text (below n e)
 fronts_more zero e = append-nil (front_text e)
-fronts_more (suc n) e = ap (λ text. front_text e ++ text) (fronts_more n (left_of e))
-    ∙ sym (append_assoc (front_text e) (fronts_text n (left_of e)) (front_text (below n (left_of e))))
+fronts_more (suc n) e = simp (fronts_more n (left_of e), append_assoc)
 
 -- ---- the links, in two parts
 
 pub links_halved : (m n : ℕ) (e : Expression) → links_text (m + n) e ≡ links_text m (below n e) ++ links_text n e
-links_halved m zero e = ap (λ k. links_text k e) (add-zero m) ∙ sym (append-nil (links_text m e))
-links_halved m (suc n) e =
-    let more : m + suc n ≡ suc (m + n) = omega arith in
-    ap (λ k. links_text k e) more
-    ∙ ap (λ text. text ++ link_text e) (links_halved m n (left_of e))
-    ∙ append_assoc (links_text m (below n (left_of e))) (links_text n (left_of e)) (link_text e)
+links_halved m zero e = grind (arith, append-nil, add-zero)
+links_halved m (suc n) e = let more : m + suc n ≡ suc (m + n) = omega arith in simp (more, links_halved m n (left_of e), append_assoc)
 
 -- ---- the whole
 
@@ -39,6 +34,4 @@ inside front fronts text links link = simp append_assoc refl
 
 pub chain_text : (n : ℕ) (e : Expression) → expression_text e ≡ fronts_text n e ++ expression_text (below n e) ++ links_text n e
 chain_text zero e = sym (append-nil (expression_text e))
-chain_text (suc n) e = one_link e
-    ∙ ap (λ text. front_text e ++ text ++ link_text e) (chain_text n (left_of e))
-    ∙ inside (front_text e) (fronts_text n (left_of e)) (expression_text (below n (left_of e))) (links_text n (left_of e)) (link_text e)
+chain_text (suc n) e = one_link e ∙ (rw (chain_text n (left_of e)) (simp append_assoc))

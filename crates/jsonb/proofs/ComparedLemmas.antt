@@ -1,5 +1,5 @@
 -- Comparisons of members of the item with literals.
-use Rattle.jsonb.proofs.Common.{◌≡◌, List, [], ◌∷◌, map, flat_map, true, Option, Ok, IsOkAnd, sym, Outcome, and_then, try_flat_map, Tree, Expression, steps_of, steps_view, Truth, compare, Value, values_of_item, list_or, step_meaning, steps_meaning, truth, operand_values, IsMemberCompared, is_comparison, is_member, are_members, value_view, taken_step, AreRefused, Mode, Lax, MemberCompared, arith}
+use Rattle.jsonb.proofs.Common.{◌≡◌, List, [], ◌∷◌, map, flat_map, true, Option, Ok, IsOkAnd, sym, Outcome, and_then, try_flat_map, Tree, Expression, steps_of, steps_view, Truth, compare, Value, values_of_item, list_or, step_meaning, steps_meaning, truth, operand_values, IsMemberCompared, is_comparison, are_members, value_view, taken_step, AreRefused, Mode, Lax, MemberCompared, arith}
 use Rattle.jsonb.specs.PathTree as math
 use Rattle.jsonb.proofs.RefinesLemmas.{with_ok}
 use Rattle.jsonb.proofs.MemberLemmas.{both_true}
@@ -16,9 +16,8 @@ pub truth_is : (c : MemberCompared) (e : Expression) (mode : Mode) (top t : Tree
 truth_is c e mode top t k = grind (arith, refused_steps)
 
 -- an expression whose operands are the member and the literal
-pub compares_member : (mode : Mode) (op : math.BinaryOp) (steps : math.Steps) (r : Expression) (literal : Value) (top t : Tree) → is_comparison op ≡ true
-    → operand_values mode r top t ≡ Ok (literal ∷ []) →
-    truth mode (math.binary op (math.paths (math.step math.current steps)) r) top t
+pub compares_member : (mode : Mode) (op : math.BinaryOp) (steps : math.Steps) (r : Expression) (literal : Value) (top t : Tree) → is_comparison op ≡ true →
+    operand_values mode r top t ≡ Ok (literal ∷ []) → truth mode (math.binary op (math.paths (math.step math.current steps)) r) top t
     ≡ and_then (steps_meaning mode steps top (t ∷ [])) (λ ts. Ok (compare op (flat_map values_of_item ts) (literal ∷ [])))
 compares_member mode op steps r literal top t compares is = grind (arith, comparison_is)
 
@@ -29,9 +28,6 @@ Any x = Unit {0}
 
 pub listed_total : (otherwise : List Tree) (o : Option (List Tree)) → IsOkAnd (list_or Lax otherwise o) Any
 listed_total otherwise o = grind arith
-
-pub member_total : (s : math.Step) (top t : Tree) → is_member s ≡ true → IsOkAnd (step_meaning Lax s top t) Any
-member_total s top t h = grind (arith, listed_total)
 
 pub all_total : (f : Tree → Outcome (List Tree)) → ((t : Tree) → IsOkAnd (f t) Any) → (ts : List Tree) → IsOkAnd (try_flat_map f ts) Any
 all_total f h [] = tt
@@ -44,16 +40,15 @@ AreTotal (s ∷ ss) = ((top t : Tree) → IsOkAnd (step_meaning Lax s top t) Any
 
 pub steps_total : (ss : List math.Step) (top : Tree) (ts : List Tree) → AreTotal ss → IsOkAnd (steps_meaning Lax (steps_of ss) top ts) Any
 steps_total [] top ts h = tt
-steps_total (s ∷ ss) top ts h =
-    with_ok Any (λ o. IsOkAnd o Any) (try_flat_map (step_meaning Lax s top) ts) (steps_meaning Lax (steps_of ss) top)
+steps_total (s ∷ ss) top ts h = with_ok Any (λ o. IsOkAnd o Any) (try_flat_map (step_meaning Lax s top) ts) (steps_meaning Lax (steps_of ss) top)
     (all_total (step_meaning Lax s top) (λ t. h.0 top t) ts) (λ us _. steps_total ss top us h.1)
 
 pub members_are_total : (ss : List math.Step) → are_members ss ≡ true → AreTotal ss
 members_are_total [] h = tt
-members_are_total (s ∷ ss) h = grind (arith, (members_are_total ss), both_true, member_total)
+members_are_total (s ∷ ss) h = grind (arith, (members_are_total ss), both_true, listed_total)
 
 pub members_total : (ss : List math.Step) (top : Tree) (ts : List Tree) → are_members ss ≡ true → IsOkAnd (steps_meaning Lax (steps_of ss) top ts) Any
-members_total ss top ts h = steps_total ss top ts (members_are_total ss h)
+members_total ss top ts h = grind (arith, steps_total, members_are_total)
 
 pub comparison_total : (c : MemberCompared) (e : Expression) (top t : Tree) → IsMemberCompared c e → IsOkAnd (truth Lax e top t) Any
 comparison_total c e top t k =

@@ -1,11 +1,11 @@
 -- Printed expressions and steps, read with anything after them that may be there.
-use Rattle.jsonb.proofs.Common.{◌≡◌, ℕ, ◌<◌, List, [], ◌∷◌, ◌++◌, length, Bool, true, false, Some, None, refl, ◌∙◌, ap, arith, append_assoc, length-append, ◌==◌, ◌||◌, if◌then◌else◌, codes, MatchBool, nat_tests, Rule, give, ◌>>=◌, ◌>>◌, parsed_map, literal, repeat, list_of, ws, past, is_space, front, begins, repeat-goes, repeat-ends, BinaryOp, and_op, or_op, UnaryOp, plus, minus, Step, root, current, filter, whole_expression, Steps, no_steps, step, Expression, paths, value, binary, unary, exists, spaced, binary_atom, joined_by, path_with, group_with, exists_with, atom_with, and_with, or_with, expression, filter_with, step_text, steps_text, expression_text, side_text, needs_parentheses, operator_text, sign_text, joins}
+use Rattle.jsonb.proofs.Common.{◌≡◌, ℕ, ◌<◌, List, [], ◌∷◌, ◌++◌, length, Bool, true, false, Some, None, refl, ◌∙◌, ap, arith, append_assoc, length-append, ◌==◌, ◌||◌, codes, MatchBool, nat_tests, Rule, give, ◌>>=◌, ◌>>◌, parsed_map, literal, repeat, list_of, ws, past, is_space, front, begins, repeat-goes, repeat-ends, BinaryOp, and_op, or_op, UnaryOp, plus, minus, Step, root, current, filter, whole_expression, Steps, no_steps, step, Expression, binary, unary, exists, spaced, binary_atom, joined_by, path_with, group_with, exists_with, atom_with, and_with, or_with, expression, filter_with, step_text, steps_text, expression_text, side_text, needs_parentheses, operator_text, sign_text, joins, unary_atom, unary_operator}
 use Rattle.std.proofs.lemmas.List.{append-nil}
 use Rattle.jsonb.proofs.Bounds.{expression-rule}
 use Rattle.jsonb.proofs.SettledPaths.{settled_step, settled_steps, settled}
 use Rattle.jsonb.proofs.PathShape.{IsInner, IsOperand, is_signed, IsPathStep, ArePathSteps, IsCondition}
 use Rattle.jsonb.proofs.InnerReadsBack.{past-none, past-space, spaced-reads, spaced-none, is_step_end}
-use Rattle.jsonb.proofs.OperandReadsBack.{ReadsTo, length-past, reads_to_rest, reads_past_rest, is_inner_start, spaced_inner-none, spaced_inner-text, IsBehindOperand, steps_list, steps_of-steps_list, is_operand_start, path_root-text, settled-beginning, begins-beginning, begins-as_operand, unsigned_operand, settled-inner, spaced_operand-none, unary-text, unary-none, behind_operator, binary-text}
+use Rattle.jsonb.proofs.OperandReadsBack.{ReadsTo, length-past, reads_to_rest, reads_past_rest, is_inner_start, spaced_inner-none, spaced_inner-text, IsBehindOperand, steps_list, steps_of-steps_list, is_operand_start, path_root-text, settled-beginning, begins-beginning, begins-as_operand, unsigned_operand, settled-inner, spaced_operand-none, unary-none, behind_operator, binary-text, spaced_operand-text}
 
 -- ---- lists of one and of two
 
@@ -16,9 +16,8 @@ list-single rule separator input a rest r h =
     record { after = r.after; reads = rw (r.reads, repeat-ends (spaced separator >> rule) r.after ends) refl; same = r.same; no_longer = r.no_longer }
 
 list-pair : {A : Type 0} (rule : Rule A) (separator : Rule (Unit {0})) (input : List ℕ) (a b : A) (between middle rest : List ℕ) →
-    ReadsTo rule input a between → separator (past is_space between) ≡ Some (tt, middle) → ReadsTo rule (past is_space middle) b rest →
-    length rest < length (past is_space between) → separator (past is_space rest) ≡ None →
-    ReadsTo (list_of rule (spaced separator)) input (a ∷ b ∷ []) rest
+    ReadsTo rule input a between → separator (past is_space between) ≡ Some (tt, middle) → ReadsTo rule (past is_space middle) b rest → length rest
+    < length (past is_space between) → separator (past is_space rest) ≡ None → ReadsTo (list_of rule (spaced separator)) input (a ∷ b ∷ []) rest
 list-pair {A} rule separator input a b between middle rest r s t short h =
     let again : (spaced separator >> rule) r.after ≡ Some (b, t.after) = rw (spaced-reads separator r.after tt middle (rw r.same s), t.reads) refl in
     let ends : (spaced separator >> rule) t.after ≡ None = rw (spaced-none separator t.after (rw t.same h)) refl in
@@ -36,8 +35,7 @@ unfolding and_with
 and-joined f input members rest l = record { after = l.after; reads = rw l.reads refl; same = l.same; no_longer = l.no_longer }
 
 or-joined : (f : Bool) (input : List ℕ) (members : List Expression) (rest : List ℕ) →
-    ReadsTo (list_of (and_with expression f) (spaced (literal "||"))) input members rest →
-    ReadsTo (expression f) input (joined_by or_op members) rest
+    ReadsTo (list_of (and_with expression f) (spaced (literal "||"))) input members rest → ReadsTo (expression f) input (joined_by or_op members) rest
 unfolding or_with
 or-joined f input members rest l =
     record { after = l.after; reads = rw (expression-rule f input, l.reads) refl; same = l.same; no_longer = l.no_longer }
@@ -80,9 +78,7 @@ side-joined : (e : Expression) (rest : List ℕ) → needs_parentheses e ≡ tru
 side-joined e rest h = rw h (append_assoc (40 ∷ expression_text e) (41 ∷ []) rest)
 
 side-operand : (f : Bool) (e : Expression) → IsOperand f e → side e ≡ expression_text e
-side-operand f (paths ss) is = refl
-side-operand f (value l) is = refl
-side-operand f _ is = absurd is
+side-operand f e is = grind arith
 
 -- ---- how expressions begin
 
@@ -95,10 +91,7 @@ begins-sign minus rest = refl
 
 begins-side : (e : Expression) (rest : List ℕ) → begins is_condition_start (expression_text e ++ rest) ≡ true →
     begins is_condition_start (side e ++ rest) ≡ true
-begins-side e rest h = go (needs_parentheses e) where
-  go : (t : Bool) → begins is_condition_start ((if t then codes "(" ++ expression_text e ++ codes ")" else expression_text e) ++ rest) ≡ true
-  go true = refl
-  go false = h
+begins-side e rest h = grind arith
 
 begins-condition : (f : Bool) (e : Expression) (rest : List ℕ) → IsCondition f e → begins is_condition_start (expression_text e ++ rest) ≡ true
 begins-condition f (binary op left right) rest is =
@@ -113,8 +106,7 @@ begins-condition f (unary op e) rest is = rw (append_assoc (sign_text op) (expre
 begins-condition f (exists ss) rest is = refl
 begins-condition f _ rest is = absurd is
 
-pub no_space-condition : (f : Bool) (e : Expression) (rest : List ℕ) → IsCondition f e →
-    past is_space (expression_text e ++ rest) ≡ expression_text e ++ rest
+pub no_space-condition : (f : Bool) (e : Expression) (rest : List ℕ) → IsCondition f e → past is_space (expression_text e ++ rest) ≡ expression_text e ++ rest
 no_space-condition f e rest is = let starts = begins-condition f e rest is in past-none is_space (expression_text e ++ rest) (grind (arith, nat_tests))
 
 -- ---- what is proved of each part
@@ -157,8 +149,7 @@ sides_read op left right l r f rest is_left is_right h =
     let first = l f (behind_left op right rest) is_left (behind_operator op (32 ∷ side right ++ rest)).0 in
     (first, rw (past-space (side right ++ rest) (grind (arith, nat_tests))) (r f rest is_right (behind_close rest h)))
 
-joined-condition : (op : BinaryOp) (left right : Expression) → joins op ≡ true → AtomReads left → AtomReads right →
-    ConditionReads (binary op left right)
+joined-condition : (op : BinaryOp) (left right : Expression) → joins op ≡ true → AtomReads left → AtomReads right → ConditionReads (binary op left right)
 joined-condition and_op left right j l r f rest is h =
     let sides = sides_read and_op left right l r f rest is.0 is.1 h in
     let input = side left ++ behind_left and_op right rest in
@@ -191,20 +182,12 @@ group-atom e j condition f rest is h =
     (rw (unary-none f input refl, binary-none f input refl, no_space-condition f e (41 ∷ rest) is, r.reads, r.same) refl))
 
 unary_atom-reads : (op : UnaryOp) (e : Expression) → AtomReads (unary op e)
-unfolding atom_with
-unary_atom-reads op e f rest is h =
-    reads_past_rest (atom_with expression f) (expression_text (unary op e) ++ rest) (settled (unary op e)) rest (rw (unary-text f op e rest is h) refl)
+unfolding atom_with unary_atom unary_operator
+unary_atom-reads op e = grind (arith, reads_past_rest, settled, spaced_operand-text)
 
 binary_atom-reads : (op : BinaryOp) (left right : Expression) → joins op ≡ false → AtomReads (binary op left right)
 unfolding atom_with
-binary_atom-reads op left right j f rest is h =
-    let parts : (is_signed left ≡ false) × IsOperand f left × IsOperand f right = rw j at is in
-    let between = 32 ∷ operator_text op ++ (32 ∷ expression_text right ++ rest) in
-    let shown : expression_text (binary op left right) ++ rest ≡ expression_text left ++ between =
-    rw (binary-shown op left right rest, side-operand f left parts.1, side-operand f right parts.2) refl in
-    rw (j, shown) (reads_past_rest (atom_with expression f) (expression_text left ++ between) (settled (binary op left right)) rest
-    (rw (unary-none f (expression_text left ++ between) (unsigned_operand f left between parts.1 parts.0))
-    (rw (binary-text f op left right rest j parts.1 parts.2 h) refl)))
+binary_atom-reads op left right j = grind (arith, binary-shown, side-operand, reads_past_rest, settled, unary-none, unsigned_operand, binary-text)
 
 exists_atom-reads : (s : Step) (ss : Steps) → StepsRead ss → AtomReads (exists (step s ss))
 unfolding atom_with group_with exists_with ws
@@ -255,9 +238,7 @@ front-steps (step s ss) rest are test implies h =
 
 no_step : (rest : List ℕ) → front is_close rest ≡ true → path_with expression rest ≡ None
 unfolding path_with group_with ws
-no_step rest h =
-    let none = no_space-close rest h in
-    rw (spaced_inner-none rest (rw none (grind (arith, nat_tests))), none) (grind (arith, nat_tests))
+no_step rest h = grind (arith, no_space-close, spaced_inner-none, nat_tests)
 
 steps-more : (s : Step) (ss : Steps) → StepReads s → StepsRead ss → StepsRead (step s ss)
 steps-more s ss one more rest are h =
@@ -267,8 +248,7 @@ steps-more s ss one more rest are h =
     let behind : front (λ b. is_step_start b || is_close b) tail ≡ true =
     front-steps ss rest are.1 (λ b. is_step_start b || is_close b) (λ b e. grind (arith, nat_tests)) (grind (arith, nat_tests)) in
     let here : path_with expression (step_text s ++ tail) ≡ Some (settled_step s, tail) =
-    one tail are.0 (grind (arith, nat_tests))
-    ∙ ap (λ (left : List ℕ). Some (settled_step s, left)) (past-none is_space tail (grind (arith, nat_tests))) in
+    one tail are.0 (grind (arith, nat_tests)) ∙ ap (λ (left : List ℕ). Some (settled_step s, left)) (past-none is_space tail (grind (arith, nat_tests))) in
     rw (append_assoc (step_text s) (steps_text ss) rest)
     (repeat-goes (path_with expression) (step_text s ++ tail) (settled_step s) tail here (omega (arith, length-append (step_text s) tail))
     ∙ ap (parsed_map (λ (others : List Step). settled_step s ∷ others)) (more rest are.1 h))

@@ -31,7 +31,6 @@ pub handed_same : {A B : Type 0} (R : A → B → Type 0) (IsPastLimits : B → 
     → Refines R (IsOutOfMemory or TooLarge when IsOkAnd o IsPastLimits) r o → Refines R (IsOutOfMemory or TooLarge when IsOkAnd o IsPastLimits) s o
 handed_same R IsPastLimits {o = o} is h = rw (sym is) at h
 
-pub handed_error : {A C D : Type 0} {Q : C → D → Type 0} (R : A → D → Type 0) (IsPastLimits : D → Type 0) {s : Outcome A} {e : Error} {o : Outcome D} → s ≡
-    Err e
-    → Refines Q IsOutOfMemory (Err e) o → Refines R (IsOutOfMemory or TooLarge when IsOkAnd o IsPastLimits) s o
+pub handed_error : {A C D : Type 0} {Q : C → D → Type 0} (R : A → D → Type 0) (IsPastLimits : D → Type 0) {s : Outcome A} {e : Error} {o : Outcome D} → s
+    ≡ Err e → Refines Q IsOutOfMemory (Err e) o → Refines R (IsOutOfMemory or TooLarge when IsOkAnd o IsPastLimits) s o
 handed_error R IsPastLimits is h = handed_same R IsPastLimits is (handed_refused R IsPastLimits h)

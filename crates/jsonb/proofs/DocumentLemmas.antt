@@ -90,16 +90,13 @@ pub alone_tested : (s : Step) → HasNoDocument (s ∷ []) → step_has_document
 alone_tested s h = step_tested s h.0
 
 -- the errors of a path by its test, and by its literals
-pub refused_path : (p : List Step) (e : Error) → IsOwningError (has_document p) e
-    → (IsOutOfMemory or InvalidJsonPath when (¬ HasNoDocument p)) e
+pub refused_path : (p : List Step) (e : Error) → IsOwningError (has_document p) e → (IsOutOfMemory or InvalidJsonPath when (¬ HasNoDocument p)) e
 refused_path p e h = grind (arith, steps_tested)
 
-pub refused_alone : (s : Step) (e : Error) → IsOwningError (step_has_document s) e
-    → (IsOutOfMemory or InvalidJsonPath when (¬ HasNoDocument (s ∷ []))) e
+pub refused_alone : (s : Step) (e : Error) → IsOwningError (step_has_document s) e → (IsOutOfMemory or InvalidJsonPath when (¬ HasNoDocument (s ∷ []))) e
 refused_alone s e h = grind (arith, step_tested)
 
-pub tested_alone : (s : Step) (e : Error) → (IsOutOfMemory or InvalidJsonPath when (¬ HasNoDocument (s ∷ []))) e
-    → IsOwningError (step_has_document s) e
+pub tested_alone : (s : Step) (e : Error) → (IsOutOfMemory or InvalidJsonPath when (¬ HasNoDocument (s ∷ []))) e → IsOwningError (step_has_document s) e
 tested_alone s e h = grind (arith, alone_without)
 
 -- ---- lists of steps
@@ -125,8 +122,7 @@ none_more xs i s short is none before =
 -- one more step that is copied
 pub copied_more : (old new : List Path) (copy : Path) (xs : List Path) (i : ℕ) (s : Path) → i < length xs → s ≡ get_or xs i s → new ≡ old ++ copy ∷ [] →
     step_view copy ≡ step_view s → map step_view old ≡ map step_view (take i xs) → map step_view new ≡ map step_view (take (i + 1) xs)
-copied_more old new copy xs i s short is added same before =
-    ap (map step_view) added ∙ map-append step_view old (copy ∷ []) ∙ (λ j. before j ++ (same j ∷ []))
+copied_more old new copy xs i s short is added same before = ap (map step_view) added ∙ map-append step_view old (copy ∷ []) ∙ (λ j. before j ++ (same j ∷ []))
     ∙ ap (λ z. map step_view (take i xs) ++ (step_view z ∷ [])) is
     ∙ sym (ap (map step_view) (take_more xs i s short) ∙ map-append step_view (take i xs) (get_or xs i s ∷ []))
 

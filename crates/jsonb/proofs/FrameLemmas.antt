@@ -1,8 +1,7 @@
 -- What is open while an expression is read: each step of the reading keeps what the rules make of it.
-use Rattle.jsonb.proofs.Common.{◌≡◌, ℕ, ◌+◌, List, [], ◌∷◌, ◌++◌, length, Bool, true, false, Option, Some, None, Result, Ok, Err, IfOk, refl, sym, ap, ◌∙◌, arith, nat_tests, Parsed, Rule, give, ◌>>=◌, ◌>>◌, literal, repeat, ws, ReadsSome, read_as, ConsumesInput, NeverGrows, some-no_more, repeat-goes, repeat-ends, behind, loop-goes, loop-ends, BinaryOp, binary, and_op, or_op, Expression, Step, exists, filter, paths, steps_of, spaced, atom_with, and_with, or_with, expression, spaced_inner, spaced_operand, path_with, path_step, path_root, operand, unary_operator, unary_atom, binary_atom, group_with, exists_with, front_steps, first_step, plain_path, root_expression, operand_steps, another_atom, another_and, expression_view, steps_view, joined_from, joined_view, joined_behind, partial_outcome, IsUnclosed, IsPartial, closed, filter_front, filter_step, steps_behind, opened_outcome, IsOpened, resumed, AreFrames, goes_in_filter, opening_outcome, as_path, Joined, PartialExpr, Opened, Opening, Bor}
+use Rattle.jsonb.proofs.Common.{◌≡◌, ℕ, ◌+◌, List, [], ◌∷◌, ◌++◌, length, Bool, true, false, Option, Some, None, Result, IfOk, refl, sym, ap, ◌∙◌, arith, nat_tests, Parsed, Rule, ◌>>◌, literal, repeat, ws, ReadsSome, read_as, ConsumesInput, NeverGrows, some-no_more, repeat-goes, repeat-ends, behind, loop-goes, loop-ends, BinaryOp, binary, and_op, or_op, Expression, Step, filter, paths, steps_of, spaced, atom_with, and_with, or_with, expression, spaced_inner, spaced_operand, path_with, path_step, path_root, operand, unary_operator, unary_atom, binary_atom, group_with, exists_with, front_steps, first_step, plain_path, root_expression, operand_steps, another_atom, another_and, expression_view, joined_from, joined_view, joined_behind, partial_outcome, IsUnclosed, IsPartial, closed, filter_front, filter_step, steps_behind, opened_outcome, IsOpened, resumed, AreFrames, goes_in_filter, opening_outcome, as_path, Joined, PartialExpr, Opened, Opening, Bor}
 use Rattle.jsonb.specs.declared.path.Expr.{Expr as CodeExpr}
 use Rattle.jsonb.specs.Private.Frames.{operation}
-use Rattle.jsonb.specs.declared.parser.opening.Opened.TheVariants as opened
 use Rattle.jsonb.specs.declared.parser.expression.Frame.{Frame}
 use Rattle.jsonb.proofs.InnerReadsSome.{begun}
 use Rattle.jsonb.proofs.ExpressionReadsSome.{some-atom, some-and, some-path, some-and_separator, some-or_separator, grows-nested_or, some-nested_or}
@@ -21,12 +20,6 @@ some-another_and f = begun some-or_separator (λ _. some-no_more (and_with expre
 
 -- ---- conditions
 
--- no separator
-join-ends : (op : BinaryOp) (separator : Rule (Unit {0})) (member : Rule Expression) (e : Expression) (input : List ℕ) →
-    separator input ≡ None → joined_from op (separator >> member) (Some (e, input)) ≡ Some (e, input)
-join-ends op separator member e input none =
-    rw (repeat-ends (separator >> member) input (rw none refl)) refl
-
 -- a separator, with what follows it
 join-next : (op : BinaryOp) (separator : Rule (Unit {0})) (member : Rule Expression) → ReadsSome (separator >> member) →
     (j : Joined) (after : List ℕ) → separator j.before.now ≡ Some (tt, after) →
@@ -39,10 +32,6 @@ join-next op separator member some j after reads = go (member after) refl where
       ≡ joined_from op (separator >> member) (Some (expression_view j.left.value, j.before.now))
   go None at = rw (repeat-ends (separator >> member) j.before.now (another ∙ at)) refl
   go (Some p) at = rw (repeat-goes (separator >> member) j.before.now p.0 p.1 (another ∙ at) (some j.before.now p.0 p.1 (another ∙ at))) (grind arith)
-
-behind-none : (op : BinaryOp) (another : Rule Expression) (o : Parsed Expression) → joined_behind op another None o ≡ joined_from op another o
-behind-none op another None = refl
-behind-none op another (Some p) = refl
 
 -- a rule's list of conditions, joined as it is read
 and-is : (f : Bool) (input : List ℕ) → joined_from and_op (another_atom expression f) (atom_with expression f input) ≡ and_with expression f input
@@ -57,7 +46,7 @@ or-is f input = grind arith
 pub partial-begins : (f : Bool) (input : List ℕ) →
     partial_outcome (record { is_in_filter = f; all = None; any = None }) (atom_with expression f input) ≡ expression f input
 unfolding partial_outcome
-partial-begins f input = grind (arith, behind-none, and-is, or-is, expression-rule)
+partial-begins f input = grind (arith, and-is, or-is, expression-rule)
 
 -- an expression whose conditions joined by `&&` are these
 abbrev pub with_all : PartialExpr → Joined → PartialExpr
@@ -72,22 +61,20 @@ pub and-goes : (l : PartialExpr) (e : Expression) (j : Joined) (after : List ℕ
 unfolding partial_outcome
 and-goes l e j after left reads = grind (arith, some-another_atom, join-next)
 
-or-here : (l : PartialExpr) (e : Expression) (input : List ℕ) → spaced (literal "&&") input ≡ None →
-    partial_outcome l (Some (e, input)) ≡ joined_from or_op (another_and expression l.is_in_filter)
-    (Some (joined_view or_op l.any (joined_view and_op l.all e), input))
+or-here : (l : PartialExpr) (e : Expression) (input : List ℕ) → spaced (literal "&&") input ≡ None → partial_outcome l (Some (e, input))
+    ≡ joined_from or_op (another_and expression l.is_in_filter) (Some (joined_view or_op l.any (joined_view and_op l.all e), input))
 unfolding partial_outcome
-or-here l e input none = grind (arith, join-ends)
+or-here l e input none = grind (arith, repeat-ends)
 
-pub or-goes : (l : PartialExpr) (e : Expression) (j : Joined) (after : List ℕ) →
-    expression_view j.left.value ≡ joined_view or_op l.any (joined_view and_op l.all e) →
-    spaced (literal "&&") j.before.now ≡ None → spaced (literal "||") j.before.now ≡ Some (tt, after) →
+pub or-goes : (l : PartialExpr) (e : Expression) (j : Joined) (after : List ℕ) → expression_view j.left.value
+    ≡ joined_view or_op l.any (joined_view and_op l.all e) → spaced (literal "&&") j.before.now ≡ None → spaced (literal "||") j.before.now ≡ Some (tt, after) →
     partial_outcome (with_any l j) (atom_with expression l.is_in_filter after) ≡ partial_outcome l (Some (e, j.before.now))
 unfolding partial_outcome
-or-goes l e j after left none reads = grind (arith, some-another_and, join-next, behind-none, and-is, or-here)
+or-goes l e j after left none reads = grind (arith, some-another_and, join-next, and-is, or-here)
 
 pub partial-ends : (l : PartialExpr) (e : Expression) (input : List ℕ) → spaced (literal "&&") input ≡ None → spaced (literal "||") input ≡ None →
     Some (joined_view or_op l.any (joined_view and_op l.all e), input) ≡ partial_outcome l (Some (e, input))
-partial-ends l e input none none' = grind (arith, join-ends, or-here)
+partial-ends l e input none none' = grind (arith, or-here, repeat-ends)
 
 -- ---- filters that are not closed
 
@@ -101,27 +88,15 @@ filter-unclosed input after e = grind (arith, nat_tests)
 pub partial-ended-all : (l : PartialExpr) (j : Joined) → l.all ≡ Some j → spaced (literal "||") j.before.now ≡ None →
     partial_outcome l None ≡ Some (joined_view or_op l.any (expression_view j.left.value), j.before.now)
 unfolding partial_outcome
-partial-ended-all l j at none = grind (arith, join-ends)
-
--- nothing is closed there
-pub unclosed-here : {A B : Type 0} (e : A) (input : List ℕ) (next : A → Rule B) → IsUnclosed input →
-    (ws >>= λ _. literal ")" >>= λ _. next e) input ≡ None
-unfolding ws
-unclosed-here e input next none = grind (arith, nat_tests)
+partial-ended-all l j at none = grind (arith, repeat-ends)
 
 partial-unclosed : (l : PartialExpr) → IsPartial l → closed (partial_outcome l None) ≡ None
-unfolding partial_outcome
-partial-unclosed l is = go l.all l.any refl refl where
-  go : (all any : Option Joined) → l.all ≡ all → l.any ≡ any → closed (partial_outcome l None) ≡ None
-  go (Some j) any at at' = rw (partial-ended-all l j at ((rw at at is.0).1)) (unclosed-here _ j.before.now give ((rw at at is.0).0))
-  go None (Some j) at at' = rw (at, at') (unclosed-here _ j.before.now give (rw at' at is.1))
-  go None None at at' = rw (at, at') refl
+unfolding partial_outcome ws
+partial-unclosed l is = grind (arith, partial-ended-all, nat_tests)
 
 pub opened-fails : (o : Opened) (inside : Parsed Expression) → IsOpened o → closed inside ≡ None → opened_outcome o inside ≡ None
-unfolding opened_outcome
-opened-fails opened.Group inside is none = none
-opened-fails (opened.Filter steps before) inside is none = rw none
-    (unclosed-here (steps_view steps.items) before.now (λ ss. give (exists (steps_of ss))) is)
+unfolding opened_outcome ws
+opened-fails o inside is none = grind (arith, nat_tests)
 
 -- ---- the last frame
 
@@ -140,15 +115,10 @@ pub frames-pop : (frames : List Frame) (frame : Frame) → AreFrames (frames ++ 
 frames-pop [] frame are = (tt, are.0, are.1)
 frames-pop (first ∷ frames) frame are = let others = frames-pop frames frame are.2 in ((are.0, are.1, others.0), others.1, others.2)
 
--- a failure goes through what is open
-pub failure-goes : (frames : List Frame) (frame : Frame) (l : PartialExpr) → IsPartial l → IsOpened frame.opened →
-    resumed (frames ++ frame ∷ []) (partial_outcome l None) ≡ resumed frames (partial_outcome frame.partial None)
-failure-goes frames frame l is is' = grind (arith, partial-unclosed, opened-fails, resumed-push)
-
 -- a frame is taken off, and the failure goes on through the others
 pub failure-passed : (frames others : List Frame) (frame : Frame) (l : PartialExpr) → frames ≡ others ++ frame ∷ [] → IsPartial l → AreFrames frames
     → (resumed others (partial_outcome frame.partial None) ≡ resumed frames (partial_outcome l None)) × AreFrames others × IsPartial frame.partial
-failure-passed frames others frame l whole is are = grind (arith, frames-pop, failure-goes, whole)
+failure-passed frames others frame l whole is are = grind (arith, frames-pop, partial-unclosed, opened-fails, resumed-push)
 
 -- ---- the end of parentheses
 
@@ -166,14 +136,10 @@ filter-closes steps new before e input here end rest space reads space' same = r
 
 -- ---- steps
 
-path_step-is : path_step ≡ path_with expression
-path_step-is = λ i input. path_step-rule input i
-
 -- the same of steps with no bound on parentheses
-pub without_bound : (front front' : List Step) (input input' : List ℕ) →
-    behind front (repeat path_step input) ≡ behind front' (repeat path_step input') →
+pub without_bound : (front front' : List Step) (input input' : List ℕ) → behind front (repeat path_step input) ≡ behind front' (repeat path_step input') →
     behind front (repeat (path_with expression) input) ≡ behind front' (repeat (path_with expression) input')
-without_bound front front' input input' same = rw path_step-is at same
+without_bound front front' input input' same = grind (arith, path_step-rule)
 
 -- a filter, if there is no plain step
 pub step-is_filter : (input inside : List ℕ) → spaced_inner input ≡ None → filter_front input ≡ Some (tt, inside) →
@@ -188,10 +154,7 @@ no_step input none front = grind arith
 -- the steps up to a filter, and what that makes of its inside
 pub steps-open : (steps : List Step) (input inside : List ℕ) → spaced_inner input ≡ None → filter_front input ≡ Some (tt, inside) →
     steps_behind steps input (filter_step (expression true inside)) ≡ behind steps (repeat (path_with expression) input)
-steps-open steps input inside none front = go (filter_step (expression true inside)) (step-is_filter input inside none front) where
-  go : (o : Parsed Step) → path_with expression input ≡ o → steps_behind steps input o ≡ behind steps (repeat (path_with expression) input)
-  go None at = sym (loop-ends (path_with expression) steps input _ at refl)
-  go (Some p) at = loop-goes (path_with expression) steps input p.0 p.1 _ at (some-path expression grows-expression input p.0 p.1 at) refl
+steps-open steps input inside none front = grind (arith, step-is_filter, loop-ends, loop-goes, some-path, grows-expression)
 
 pub steps-end : (steps : List Step) (input : List ℕ) → spaced_inner input ≡ None → filter_front input ≡ None →
     behind steps (repeat (path_with expression) input) ≡ Some (steps, input)
@@ -255,10 +218,8 @@ front-operation input rest here ss op e after reads space is =
 -- steps alone
 pub front-steps : (input rest here : List ℕ) (ss : List Step) → operand_steps false input ≡ Some (ss, rest) → ws rest ≡ Some (tt, here) →
     operation false here ≡ None → root_expression input ≡ None
-unfolding partial_outcome
-front-steps input rest here ss reads space none =
-    let d = dollar input (ss, rest) reads in
-    rw (sym d.1) at (sym (front-is (36 ∷ d.0) (36 ∷ d.0) None (ws-dollar d.0) (sym (atom-none d.0 ss rest here (rw d.1 at reads) space none))))
+unfolding partial_outcome path_root
+front-steps input rest here ss reads space none = grind (arith, front-is, ws-dollar, atom-none, nat_tests)
 
 -- ---- the loop over what is open
 
@@ -267,19 +228,13 @@ pub at_start : (frames : List Frame) (l start : PartialExpr) (first : Opening) �
 unfolding resumed
 at_start frames l start first none same = rw (none, same) refl
 
-pub inside-goes : (frames new : List Frame) (frame : Frame) (l : PartialExpr) (f : Bool) (inside : List ℕ) (opening : Opening) → new ≡ frames ++ frame ∷ [] →
-    f ≡ goes_in_filter frame.opened frame.partial.is_in_filter → l ≡ record { is_in_filter = f; all = None; any = None } →
-    opening_outcome f opening ≡ atom_with expression f inside →
-    resumed new (partial_outcome l (opening_outcome l.is_in_filter opening)) ≡ resumed frames (partial_outcome frame.partial
-    (opened_outcome frame.opened (expression (goes_in_filter frame.opened frame.partial.is_in_filter) inside)))
+pub inside-goes : (frames new : List Frame) (frame : Frame) (l : PartialExpr) (f : Bool) (inside : List ℕ) (opening : Opening) → new ≡ frames ++ frame ∷ [] → f
+    ≡ goes_in_filter frame.opened frame.partial.is_in_filter → l ≡ record { is_in_filter = f; all = None; any = None } → opening_outcome f opening
+    ≡ atom_with expression f inside → resumed new (partial_outcome l (opening_outcome l.is_in_filter opening))
+    ≡ resumed frames (partial_outcome frame.partial (opened_outcome frame.opened (expression (goes_in_filter frame.opened frame.partial.is_in_filter) inside)))
 inside-goes frames new frame l f inside opening pushed flag same is = grind (arith, partial-begins, resumed-push)
-
-pub shorter-expression : (f : Bool) → ReadsSome (expression f)
-unfolding expression
-shorter-expression f input e rest reads = some-nested_or (length input + 1) f input e rest reads
 
 pub less_left : {E : Type 0} (f : Bool) (input : List ℕ) (r : Result (Option (CodeExpr × Bor (List ℕ))) E) →
     IfOk r (λ found. read_as expression_view found ≡ expression f input) → IfOk r (ConsumesInput input)
-less_left f input (Ok None) h = tt
-less_left f input (Ok (Some p)) h = shorter-expression f input (expression_view p.0) p.1.now (sym h)
-less_left f input (Err e) h = tt
+unfolding expression
+less_left f input r h = grind (arith, some-nested_or)

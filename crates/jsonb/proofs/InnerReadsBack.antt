@@ -1,5 +1,5 @@
 -- Printed steps without expressions, read with anything after them that may be there.
-use Rattle.jsonb.proofs.Common.{◌≡◌, ℕ, zero, suc, ◌+◌, ◌<◌, ◌^◌, List, [], ◌∷◌, ◌++◌, length, Bool, true, false, Option, Some, None, refl, ◌∙◌, ap, arith, append_assoc, length-append, cond, ℤ, pos, negsuc, nat_lt, ◌==◌, ◌||◌, flat_map, codes, is_ascii_digit, AllByRecursion, common_steps, decimal, signed_decimal, Decides-ltb, nat_tests, Rule, ◌>>◌, parsed_map, optional, bytes, literal, repeat, ws, past, is_space, int32, nat8, is_plain_name, quoted_text, name_text, front, stops, begins, begins-decimal, is_number_start, is_sign, past-run, natural_below-decimal, natural_below-none, integer_within-signed_decimal, integer_within-none, quoted-quoted_text, quoted-none, name-plain, begins-plain, begins-signed_decimal, repeat-goes, repeat-ends, IsName, Place, from_front, from_last, Entry, single, slice, LevelEnd, level, last_level, Levels, Step, dot_wildcard, recursive_dot_wildcard, bracket_wildcard, dot_field, colon_field, object_field, array_indices, keyword, spaced, place, entry, levels, field, entries, wildcard, named_field, bracket_field, inner, entries_text, other_entry_text, place_text, entry_text, levels_text, step_text}
+use Rattle.jsonb.proofs.Common.{◌≡◌, ℕ, zero, suc, ◌+◌, ◌<◌, ◌^◌, List, [], ◌∷◌, ◌++◌, length, Bool, true, false, Option, Some, None, refl, ◌∙◌, ap, arith, append_assoc, length-append, cond, ℤ, pos, negsuc, nat_lt, ◌==◌, ◌||◌, flat_map, codes, is_ascii_digit, AllByRecursion, common_steps, decimal, signed_decimal, Decides-ltb, nat_tests, Rule, ◌>>◌, parsed_map, bytes, literal, repeat, ws, past, is_space, nat8, is_plain_name, quoted_text, name_text, front, stops, begins, begins-decimal, is_number_start, is_sign, past-run, natural_below-decimal, natural_below-none, integer_within-signed_decimal, integer_within-none, quoted-quoted_text, quoted-none, name-plain, begins-plain, begins-signed_decimal, repeat-goes, repeat-ends, IsName, Place, from_front, from_last, Entry, single, slice, LevelEnd, level, last_level, Levels, Step, dot_wildcard, recursive_dot_wildcard, bracket_wildcard, dot_field, colon_field, object_field, array_indices, keyword, spaced, place, entry, levels, field, entries, wildcard, named_field, bracket_field, inner, entries_text, other_entry_text, place_text, entry_text, levels_text, step_text}
 use Rattle.jsonb.proofs.PathShape.{IsIndex, IsPlace, IsEntry, IsLevelEnd, AreLevels, IsInner}
 
 -- ---- white space
@@ -41,9 +41,6 @@ is_place_end b = b == 44 || b == 93 || b == 32
 abbrev IsBehindPlace : List ℕ → Type 0
 IsBehindPlace rest = (front is_place_end rest ≡ true) × (begins is_sign (past is_space rest) ≡ false)
 
-int32-text : (i : ℤ) (rest : List ℕ) → IsIndex i → front is_place_end rest ≡ true → int32 (signed_decimal i ++ rest) ≡ Some (i, rest)
-int32-text i rest is h = integer_within-signed_decimal (2 ^ 31) i rest (omega arith) is (grind (arith, nat_tests))
-
 no_space-signed_decimal : (i : ℤ) (rest : List ℕ) → IsIndex i → past is_space (signed_decimal i ++ rest) ≡ signed_decimal i ++ rest
 no_space-signed_decimal i rest fits =
     let starts = begins-signed_decimal i rest fits in past-none is_space (signed_decimal i ++ rest) (grind (arith, nat_tests))
@@ -51,15 +48,11 @@ no_space-signed_decimal i rest fits =
 -- after `last`, if there is no sign
 last-alone : (rest : List ℕ) → IsBehindPlace rest → place (codes "last" ++ rest) ≡ Some (from_last (pos 0), rest)
 unfolding place ws
-last-alone rest h =
-    rw (integer_within-none (2 ^ 31) (codes "last" ++ rest) refl, literal-none 45 [] (past is_space rest) (grind (arith, nat_tests)))
-    (rw (literal-none 43 [] (past is_space rest) (grind (arith, nat_tests))) refl)
+last-alone rest h = grind (arith, integer_within-none, literal-none, nat_tests)
 
-last-plus : (i : ℤ) (rest : List ℕ) → IsIndex i → front is_place_end rest ≡ true →
-    place (codes "last+" ++ signed_decimal i ++ rest) ≡ Some (from_last i, rest)
+last-plus : (i : ℤ) (rest : List ℕ) → IsIndex i → front is_place_end rest ≡ true → place (codes "last+" ++ signed_decimal i ++ rest) ≡ Some (from_last i, rest)
 unfolding place ws
-last-plus i rest is h =
-    rw (integer_within-none (2 ^ 31) (codes "last+" ++ signed_decimal i ++ rest) refl, no_space-signed_decimal i rest is, int32-text i rest is h) refl
+last-plus i rest is h = grind (arith, integer_within-none, no_space-signed_decimal, integer_within-signed_decimal, nat_tests)
 
 last-minus : (n : ℕ) (rest : List ℕ) → IsIndex (pos (suc n)) → front is_place_end rest ≡ true →
     place (codes "last-" ++ decimal (suc n) ++ rest) ≡ Some (from_last (negsuc n), rest)
@@ -67,11 +60,11 @@ unfolding place ws
 last-minus n rest is h =
     let fits : nat_lt n 2147483648 ≡ true = grind (arith, nat_tests) in
     rw (integer_within-none (2 ^ 31) (codes "last-" ++ decimal (suc n) ++ rest) refl, no_space-signed_decimal (pos (suc n)) rest is)
-    (rw (int32-text (pos (suc n)) rest is h, fits) refl)
+    (rw ((integer_within-signed_decimal (2 ^ 31) (pos (suc n)) rest (omega arith) is (grind (arith, nat_tests))), fits) refl)
 
 place-text : (p : Place) (rest : List ℕ) → IsPlace p → IsBehindPlace rest → place (place_text p ++ rest) ≡ Some (p, rest)
 unfolding place
-place-text (from_front i) rest is h = rw (int32-text i rest is h.0) refl
+place-text (from_front i) rest is h = rw ((integer_within-signed_decimal (2 ^ 31) i rest (omega arith) is (grind (arith, nat_tests)))) refl
 place-text (from_last (pos zero)) rest is h = last-alone rest h
 place-text (from_last (pos (suc n))) rest is h = last-plus (pos (suc n)) rest is h.0
 place-text (from_last (negsuc n)) rest is h = go (n == 2147483647) refl where
@@ -127,13 +120,11 @@ more_entries (e ∷ es) rest are =
     (repeat-goes (literal "," >> spaced entry) (44 ∷ 32 ∷ entry_text e ++ tail) e tail here (omega (arith, length-append (entry_text e) tail))
     ∙ ap (parsed_map (λ (others : List Entry). e ∷ others)) (more_entries es rest are.1))
 
-begins-entries : (es : List Entry) (rest : List ℕ) → 0 < length es → AllByRecursion IsEntry es →
-    begins is_place_start (entries_text es ++ rest) ≡ true
+begins-entries : (es : List Entry) (rest : List ℕ) → 0 < length es → AllByRecursion IsEntry es → begins is_place_start (entries_text es ++ rest) ≡ true
 begins-entries [] rest some are = absurd (omega arith)
 begins-entries (e ∷ es) rest some are = rw (append_assoc (entry_text e) (flat_map other_entry_text es) rest) (begins-entry e _ are.0)
 
-entries-text : (es : List Entry) (rest : List ℕ) → 0 < length es → AllByRecursion IsEntry es →
-    entries (91 ∷ entries_text es ++ 93 ∷ rest) ≡ Some (es, rest)
+entries-text : (es : List Entry) (rest : List ℕ) → 0 < length es → AllByRecursion IsEntry es → entries (91 ∷ entries_text es ++ 93 ∷ rest) ≡ Some (es, rest)
 unfolding entries
 entries-text [] rest some are = absurd (omega arith)
 entries-text (e ∷ es) rest some are =
@@ -160,12 +151,6 @@ levels-text l rest are = go l.end are.1 where
   go (Some (level n)) is = simp (append_assoc, past-none, no_space-decimal, nat8-text, past-space, are.0, is)
   go (Some last_level) is = simp (append_assoc, past-none, no_space-decimal, nat8-text, natural_below-none, are.0)
 
-optional_levels-text : (l : Option Levels) (rest : List ℕ) → AreLevels l → begins (λ b. b == 123) rest ≡ false →
-    optional levels (levels_text l ++ rest) ≡ Some (l, rest)
-unfolding levels
-optional_levels-text None rest are h = rw (literal-none 123 [] rest h) refl
-optional_levels-text (Some l) rest are h = rw (levels-text l rest are) refl
-
 -- ---- steps
 
 -- what may follow a step: another step, a space, or a parenthesis
@@ -182,10 +167,7 @@ field-text text rest is h = go (is_plain_name text) refl where
   go false plain = rw (plain, quoted-quoted_text text rest is.0 is.1) refl
 
 no_star-name : (text rest : List ℕ) → begins (λ b. b == 42) (name_text text ++ rest) ≡ false
-no_star-name text rest = go (is_plain_name text) refl where
-  go : (t : Bool) → is_plain_name text ≡ t → begins (λ b. b == 42) (name_text text ++ rest) ≡ false
-  go true plain = let starts = begins-plain text rest plain in rw plain (grind (arith, nat_tests))
-  go false plain = rw plain refl
+no_star-name text rest = grind (arith, begins-plain, nat_tests)
 
 -- a point without a star after it
 no_star : (input : List ℕ) → begins (λ b. b == 42) input ≡ false → wildcard (46 ∷ input) ≡ None
@@ -207,8 +189,8 @@ no_entry-quote rest = rw (integer_within-none (2 ^ 31) (34 ∷ rest) refl) refl
 
 recursive-text : (l : Option Levels) (rest : List ℕ) → AreLevels l → front is_step_end rest ≡ true →
     wildcard (46 ∷ 42 ∷ 42 ∷ levels_text l ++ rest) ≡ Some (recursive_dot_wildcard l, rest)
-unfolding wildcard
-recursive-text l rest is h = rw (optional_levels-text l rest is (grind (arith, nat_tests))) refl
+unfolding wildcard levels
+recursive-text l rest is h = grind (arith, nat_tests, literal-none, levels-text)
 
 colon_is_no_wildcard : (rest : List ℕ) → wildcard (58 ∷ rest) ≡ None
 unfolding wildcard
@@ -218,8 +200,7 @@ brackets-text : (rest : List ℕ) → wildcard (codes "[*]" ++ rest) ≡ Some (b
 unfolding wildcard ws
 brackets-text rest = refl
 
-bracket_field-text : (text rest : List ℕ) → IsName text →
-    bracket_field (91 ∷ quoted_text text ++ 93 ∷ rest) ≡ Some (object_field text, rest)
+bracket_field-text : (text rest : List ℕ) → IsName text → bracket_field (91 ∷ quoted_text text ++ 93 ∷ rest) ≡ Some (object_field text, rest)
 unfolding bracket_field ws
 bracket_field-text text rest is = rw (quoted-quoted_text text (93 ∷ rest) is.0 is.1) refl
 

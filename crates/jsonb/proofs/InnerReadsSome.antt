@@ -28,14 +28,11 @@ some-keyword b text input u rest e = grind (arith, common_steps)
 -- ---- index entries
 
 some-last_and : (sign : String) → ReadsSome (literal sign) → ReadsSome (last_and sign)
-some-last_and sign reads =
-    begun (some-keyword 108 (codes "ast")) (λ _. blank (further reads (λ _. blank (some-no_more _ (some-integer_within (2 ^ 31))))))
+some-last_and sign reads = begun (some-keyword 108 (codes "ast")) (λ _. blank (further reads (λ _. blank (some-no_more _ (some-integer_within (2 ^ 31))))))
 
 some-place : ReadsSome place
 unfolding place
-some-place =
-    choice (begun (some-integer_within (2 ^ 31)) (λ i. grows-give _))
-    (choice (begun (some-last_and "-" (some-literal 45 [])) (λ i. grows-give _))
+some-place = choice (begun (some-integer_within (2 ^ 31)) (λ i. grows-give _)) (choice (begun (some-last_and "-" (some-literal 45 [])) (λ i. grows-give _))
     (choice (begun (some-last_and "+" (some-literal 43 [])) (λ i. grows-give _)) (begun (some-keyword 108 (codes "ast")) (λ _. grows-give _))))
 
 some-entry : ReadsSome (spaced entry)
@@ -50,31 +47,22 @@ some-another_entry = begun (some-literal 44 []) (λ _. some-no_more (spaced entr
 -- ---- steps
 
 grows-level_end : NeverGrows level_end
-grows-level_end =
-    blank (further (some-keyword 116 (codes "o")) (λ _. blank (grows-choice _ _ (further (some-natural_below (2 ^ 8)) (λ n. grows-give _))
+grows-level_end = blank (further (some-keyword 116 (codes "o")) (λ _. blank (grows-choice _ _ (further (some-natural_below (2 ^ 8)) (λ n. grows-give _))
     (further (some-keyword 108 (codes "ast")) (λ _. grows-give _)))))
 
 some-levels : ReadsSome levels
 unfolding levels
-some-levels =
-    begun (some-literal 123 []) (λ _. blank (further (some-natural_below (2 ^ 8)) (λ n. grows-then (optional level_end) _
+some-levels = begun (some-literal 123 []) (λ _. blank (further (some-natural_below (2 ^ 8)) (λ n. grows-then (optional level_end) _
     (grows-optional grows-level_end) (λ end. blank (further (some-literal 125 []) (λ _. grows-give _))))))
 
-grows-field : NeverGrows field
-unfolding field
-grows-field = some-no_more _ (choice some-quoted some-name)
-
 pub some-spaced_inner : ReadsSome spaced_inner
-unfolding spaced_inner inner wildcard named_field entries bracket_field
-some-spaced_inner = some-spaced inner
-    (choice
+unfolding spaced_inner inner wildcard named_field entries bracket_field field
+some-spaced_inner = some-spaced inner (choice
     (choice (begun (some-literal 46 (codes "**")) (λ _. grows-then (optional levels) _ (grows-optional (some-no_more levels some-levels)) (λ found. grows-give _)))
     (choice (begun (some-literal 46 (codes "*")) (λ _. grows-give _))
-    (begun (some-literal 91 []) (λ _. blank (further (some-literal 42 []) (λ _. blank (further (some-literal 93 []) (λ _. grows-give _))))))))
-    (choice
-    (choice (begun (begun (some-literal 58 []) (λ _. grows-field)) (λ text. grows-give _))
-    (begun (begun (some-literal 46 []) (λ _. grows-field)) (λ text. grows-give _)))
-    (choice
+    (begun (some-literal 91 []) (λ _. blank (further (some-literal 42 []) (λ _. blank (further (some-literal 93 []) (λ _. grows-give _)))))))) (choice
+    (choice (begun (begun (some-literal 58 []) (λ _. (some-no_more _ (choice some-quoted some-name)))) (λ text. grows-give _))
+    (begun (begun (some-literal 46 []) (λ _. (some-no_more _ (choice some-quoted some-name)))) (λ text. grows-give _))) (choice
     (begun (begun (some-literal 91 []) (λ _. further (begun some-entry (λ first. grows-then _ _ (grows-repeat another_entry some-another_entry)
     (λ others. grows-give _))) (λ found. further (some-literal 93 []) (λ _. grows-give _)))) (λ found. grows-give _))
     (begun (some-literal 91 []) (λ _. blank (further some-quoted (λ text. blank (further (some-literal 93 []) (λ _. grows-give _)))))))))

@@ -21,12 +21,10 @@ module _ (mode : Mode) (top item : Tree) where
   -- after an unknown branch the condition is unknown, and the other branches are evaluated
   evaluated-unknown : (e : Expression) (t f : ℕ) (others : List Branch)
       → evaluated mode top item (branches_of e t f others) None ≡ and_then (truth mode e top item) (λ b. evaluated mode top item others None)
-  evaluated-unknown (binary and_op l r) t f others =
-      evaluated-unknown l (length (branches_of r t f others)) f (branches_of r t f others)
+  evaluated-unknown (binary and_op l r) t f others = evaluated-unknown l (length (branches_of r t f others)) f (branches_of r t f others)
       ∙ same_after (truth mode l top item) _ _ (λ a. evaluated-unknown r t f others)
       ∙ two_parts (truth mode l top item) (truth mode r top item) (joined_truth ◌&&◌) (λ c. evaluated mode top item others None)
-  evaluated-unknown (binary or_op l r) t f others =
-      evaluated-unknown l t (length (branches_of r t f others)) (branches_of r t f others)
+  evaluated-unknown (binary or_op l r) t f others = evaluated-unknown l t (length (branches_of r t f others)) (branches_of r t f others)
       ∙ same_after (truth mode l top item) _ _ (λ a. evaluated-unknown r t f others)
       ∙ two_parts (truth mode l top item) (truth mode r top item) (joined_truth ◌||◌) (λ c. evaluated mode top item others None)
   evaluated-unknown e t f others = refl

@@ -76,8 +76,7 @@ module _ (mode : Mode) (top u : Tree) (e : Expr) (op : BinaryOperator) (l r : Bo
   both : truth mode (expression_view e) top u
       ≡ and_then (operand_values mode (expression_view l.value) top u)
       (λ ls. and_then (operand_values mode (expression_view r.value) top u) (λ rs. Ok (compare op ls rs)))
-  both = ap (λ x. truth mode x top u) (binary_is e op l r is)
-      ∙ comparison_is mode op (expression_view l.value) (expression_view r.value) top u
+  both = ap (λ x. truth mode x top u) (binary_is e op l r is) ∙ comparison_is mode op (expression_view l.value) (expression_view r.value) top u
       (sym (ap is_condition (binary_is e op l r is)) ∙ condition)
 
   pub kept_right : p ≡ part.Right values → truth mode (expression_view e) top u

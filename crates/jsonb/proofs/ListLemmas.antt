@@ -1,5 +1,5 @@
 -- Comparisons of members of the items of a list, in lax mode, in which none fails.
-use Rattle.jsonb.proofs.Common.{◌≡◌, List, [], ◌∷◌, ◌++◌, flat_map, map, true, false, Some, None, Ok, Err, IsOkAnd, refl, sym, ap, ◌∙◌, append_assoc, beq, flat_map-append, option_eq, not, Outcome, and_then, try_flat_map, Refines, IsOutOfMemory, Tree, Error, Expression, steps_of, steps_view, Truth, compare, pair_truth, first_decisive, Value, values_of_item, step_meaning, steps_meaning, truth, operand_values, start, IsMemberCompared, IsListCompared, items_truth, is_comparison, are_members, value_view, taken_step, MemberCompared, ListCompared, AreRefused, Mode, Lax, arith}
+use Rattle.jsonb.proofs.Common.{◌≡◌, List, [], ◌∷◌, ◌++◌, flat_map, map, true, false, Some, None, Ok, Err, IsOkAnd, refl, sym, ap, ◌∙◌, append_assoc, beq, flat_map-append, option_eq, not, Outcome, and_then, try_flat_map, Refines, IsOutOfMemory, Tree, Error, Expression, steps_of, steps_view, Truth, compare, first_decisive, Value, values_of_item, step_meaning, steps_meaning, truth, operand_values, start, IsMemberCompared, IsListCompared, items_truth, is_comparison, taken_step, MemberCompared, ListCompared, AreRefused, Mode, Lax, arith}
 use Rattle.jsonb.specs.PathTree as math
 use Rattle.jsonb.proofs.ComparedLemmas.{Any, AreTotal, all_total, members_are_total, members_total, comparison_total, told_by}
 use Rattle.jsonb.proofs.KeptLemmas.{comparison_is}
@@ -34,11 +34,6 @@ steps_in_parts (s ∷ ss) top xs ys h = grind (
   all_total (step_meaning Lax s top) (h.0 top) ys,
 )
 
--- names of members of two lists
-members-append : (ss : List math.Step) (top : Tree) (xs ys : List Tree) → are_members ss ≡ true
-    → steps_meaning Lax (steps_of ss) top (xs ++ ys) ≡ both_lists (steps_meaning Lax (steps_of ss) top xs) (steps_meaning Lax (steps_of ss) top ys)
-members-append ss top xs ys h = steps_in_parts ss top xs ys (members_are_total ss h)
-
 -- ---- the first truth that decides
 
 first_passes : (xs ys : List Truth) → first_decisive xs ≡ Some false → first_decisive (xs ++ ys) ≡ first_decisive ys
@@ -67,35 +62,28 @@ pub is_not_false : (b : Truth) → not (option_eq beq b (Some false)) ≡ true �
 is_not_false b h is = grind arith
 
 module _ (c : MemberCompared) where
-  -- The results of the values of items.
-  abbrev truths : List Tree → List Truth
-  truths ts = flat_map (λ l. map (λ r. pair_truth c.op l r) (value_view c.literal ∷ [])) (flat_map values_of_item ts)
-
-  truths-append : (fs bs : List Tree) → truths (fs ++ bs) ≡ truths fs ++ truths bs
-  truths-append fs bs = grind (arith, flat_map-append)
-
   ok_is : (x y : Truth) (o : Outcome Truth) → o ≡ Ok x → o ≡ Ok y → x ≡ y
   ok_is x y o p q = cc
 
   passes_one : (o p : Outcome (List Tree)) → IsOkAnd p Any → and_then o (told_by c) ≡ Ok (Some false)
       → and_then (both_lists o p) (told_by c) ≡ and_then p (told_by c)
-  passes_one o p t h = grind (arith, truths-append, first_passes, ok_is, told_by)
+  passes_one o p t h = grind (arith, first_passes, ok_is, flat_map-append)
 
   stops_at : (o p : Outcome (List Tree)) (b : Truth) → IsOkAnd p Any → and_then o (told_by c) ≡ Ok b → (b ≡ Some false → ⊥)
       → and_then (both_lists o p) (told_by c) ≡ Ok b
-  stops_at o p b t h decides = grind (arith, ok_is, told_by, truths-append, first_stops)
+  stops_at o p b t h decides = grind (arith, ok_is, first_stops, flat_map-append)
 
   module _ (e : Expression) (top : Tree) (k : IsMemberCompared c e) where
     -- an item of which the comparison is false is passed
     pub list_passes : (u : Tree) (rest : List Tree) → truth Lax e top u ≡ Ok (Some false) → items_truth c top (u ∷ rest) ≡ items_truth c top rest
     list_passes u rest is =
-        ap (λ o. and_then o (told_by c)) (members-append (steps_view c.names.now) top (u ∷ []) rest k.members)
+        ap (λ o. and_then o (told_by c)) ((steps_in_parts (steps_view c.names.now) top (u ∷ []) rest (members_are_total (steps_view c.names.now) k.members)))
         ∙ passes_one _ _ (members_total (steps_view c.names.now) top rest k.members) (sym (k.compares Lax top u) ∙ is)
 
     -- and another decides
     pub list_stops : (u : Tree) (rest : List Tree) (b : Truth) → truth Lax e top u ≡ Ok b → (b ≡ Some false → ⊥) → items_truth c top (u ∷ rest) ≡ Ok b
     list_stops u rest b is decides =
-        ap (λ o. and_then o (told_by c)) (members-append (steps_view c.names.now) top (u ∷ []) rest k.members)
+        ap (λ o. and_then o (told_by c)) ((steps_in_parts (steps_view c.names.now) top (u ∷ []) rest (members_are_total (steps_view c.names.now) k.members)))
         ∙ stops_at _ _ b (members_total (steps_view c.names.now) top rest k.members) (sym (k.compares Lax top u) ∙ is) decides
 
     -- for one item only an allocation fails
@@ -122,13 +110,11 @@ start_at_root : (ss : math.Steps) (top : Tree) → start ss top top ≡ top
 start_at_root ss top = grind arith
 
 -- a comparison of such an operand with a literal
-pub compares_list : (op : math.BinaryOp) (steps front names : List math.Step) (r : Expression) (literal : Value) (top : Tree) → steps ≡ front ++ names
-    → is_comparison op ≡ true → operand_values Lax r top top ≡ Ok (literal ∷ []) →
-    truth Lax (math.binary op (math.paths (steps_of steps)) r) top top
+pub compares_list : (op : math.BinaryOp) (steps front names : List math.Step) (r : Expression) (literal : Value) (top : Tree) → steps ≡ front ++ names →
+    is_comparison op ≡ true → operand_values Lax r top top ≡ Ok (literal ∷ []) → truth Lax (math.binary op (math.paths (steps_of steps)) r) top top
     ≡ and_then (steps_meaning Lax (steps_of front) top (top ∷ []))
     (λ us. and_then (steps_meaning Lax (steps_of names) top us) (λ ts. Ok (compare op (flat_map values_of_item ts) (literal ∷ []))))
-compares_list op steps front names r literal top split compares is =
-    rw (comparison_is Lax op (math.paths (steps_of steps)) r top top compares, is, split)
+compares_list op steps front names r literal top split compares is = rw (comparison_is Lax op (math.paths (steps_of steps)) r top top compares, is, split)
     (grind (arith, start_at_root (steps_of steps) top, steps-append Lax front names top (top ∷ [])))
 
 -- the front as its steps are taken within an operand

@@ -1,5 +1,5 @@
 -- A comparison whose sides are exchanged.
-use Rattle.jsonb.proofs.Common.{◌≡◌, List, [], ◌∷◌, map, flat_map, true, Bool, Option, Some, None, option_map, Ok, Err, IfSome, refl, sym, ap, ◌∙◌, subst, append-nil, if◌then◌else◌, ◌||◌, arith, ordering_reverse, Ordering, Less, Equal, Greater, Outcome, and_then, Tree, BinaryOp, Expression, antisymmetric, Truth, value_order, truth_of_order, is_container, pair_truth, first_decisive, compare, Value, values_of_item, steps_meaning, truth, operand_values, mirrored, is_comparison, Mode}
+use Rattle.jsonb.proofs.Common.{◌≡◌, List, [], ◌∷◌, map, flat_map, true, Bool, Option, Some, None, option_map, Ok, Err, refl, sym, ap, ◌∙◌, append-nil, if◌then◌else◌, ◌||◌, arith, ordering_reverse, Ordering, Outcome, and_then, Tree, BinaryOp, Expression, antisymmetric, Truth, value_order, truth_of_order, is_container, pair_truth, first_decisive, compare, Value, values_of_item, steps_meaning, truth, operand_values, mirrored, is_comparison, Mode}
 use Rattle.jsonb.specs.PathTree as math
 use Rattle.jsonb.specs.Values.{null}
 use Rattle.jsonb.proofs.ComparedLemmas.{compares_member}
@@ -20,22 +20,8 @@ record AreMirrors (a b : Value) (o : Option Ordering) (op turned : BinaryOp) : T
   turned_pair : pair_truth turned b a ≡ by_order turned b a
   met : truth_of_order op (option_map ordering_reverse o) ≡ truth_of_order turned o
 
-mirrors : (a b : Value) (o : Option Ordering) (op : BinaryOp) → IfSome (mirrored op) (AreMirrors a b o op)
-mirrors a b o math.and_op = tt
-mirrors a b o math.or_op = tt
-mirrors a b o math.starts_with_op = tt
-mirrors a b o math.add = tt
-mirrors a b o math.subtract = tt
-mirrors a b o math.multiply = tt
-mirrors a b o math.divide = tt
-mirrors a b o math.modulo = tt
-mirrors a b (Some Less) _ = record { compares = refl; turned_compares = refl; pair = refl; turned_pair = refl; met = refl }
-mirrors a b (Some Equal) _ = record { compares = refl; turned_compares = refl; pair = refl; turned_pair = refl; met = refl }
-mirrors a b (Some Greater) _ = record { compares = refl; turned_compares = refl; pair = refl; turned_pair = refl; met = refl }
-mirrors a b None _ = record { compares = refl; turned_compares = refl; pair = refl; turned_pair = refl; met = refl }
-
 are_mirrors : (a b : Value) (o : Option Ordering) (op turned : BinaryOp) → mirrored op ≡ Some turned → AreMirrors a b o op turned
-are_mirrors a b o op turned h = subst (λ found. IfSome found (AreMirrors a b o op)) h (mirrors a b o op)
+are_mirrors a b o op turned h = grind arith
 
 pair-mirrored : (op turned : BinaryOp) (a b : Value) → mirrored op ≡ Some turned → pair_truth op a b ≡ pair_truth turned b a
 pair-mirrored op turned a b h = grind (arith, either, are_mirrors, antisymmetric)
@@ -46,24 +32,18 @@ pairs-mirrored : (op turned : BinaryOp) (l : Value) (rs : List Value) → mirror
 pairs-mirrored op turned l [] h = refl
 pairs-mirrored op turned l (r ∷ rs) h = λ i. pair-mirrored op turned l r h i ∷ pairs-mirrored op turned l rs h i
 
-compare-mirrored : (op turned : BinaryOp) (l : Value) (rs : List Value) → mirrored op ≡ Some turned → compare op (l ∷ []) rs ≡ compare turned rs (l ∷ [])
-compare-mirrored op turned l rs h = ap first_decisive (append-nil (map (λ r. pair_truth op l r) rs) ∙ pairs-mirrored op turned l rs h)
-
 -- a comparison whose left side is a literal, and whose right side is a member
-pub member_mirrored : (mode : Mode) (op turned : BinaryOp) (l : Expression) (v : Value) (steps : math.Steps) (top t : Tree)
-    → mirrored op ≡ Some turned → operand_values mode l top t ≡ Ok (v ∷ [])
-    → truth mode (math.binary op l (math.paths (math.step math.current steps))) top t
+pub member_mirrored : (mode : Mode) (op turned : BinaryOp) (l : Expression) (v : Value) (steps : math.Steps) (top t : Tree) → mirrored op ≡ Some turned
+    → operand_values mode l top t ≡ Ok (v ∷ []) → truth mode (math.binary op l (math.paths (math.step math.current steps))) top t
     ≡ and_then (steps_meaning mode steps top (t ∷ [])) (λ ts. Ok (compare turned (flat_map values_of_item ts) (v ∷ [])))
 member_mirrored mode op turned l v steps top t h is =
     let member = math.paths (math.step math.current steps) in
     let k = are_mirrors null null None op turned h in
-    comparison_is mode op l member top t k.compares
-    ∙ ap (λ o. and_then o (λ ls. and_then (operand_values mode member top t) (λ rs. Ok (compare op ls rs)))) is
+    comparison_is mode op l member top t k.compares ∙ ap (λ o. and_then o (λ ls. and_then (operand_values mode member top t) (λ rs. Ok (compare op ls rs)))) is
     ∙ exchanged (operand_values mode member top t)
     ∙ ap (λ o. and_then (operand_values mode member top t) (λ ls. and_then o (λ rs. Ok (compare turned ls rs)))) (sym is)
-    ∙ sym (comparison_is mode turned member l top t k.turned_compares)
-    ∙ compares_member mode turned steps l v top t k.turned_compares is
+    ∙ sym (comparison_is mode turned member l top t k.turned_compares) ∙ compares_member mode turned steps l v top t k.turned_compares is
   where
     exchanged : (o : Outcome (List Value)) → and_then o (λ rs. Ok (compare op (v ∷ []) rs)) ≡ and_then o (λ ls. Ok (compare turned ls (v ∷ [])))
-    exchanged (Ok rs) = ap Ok (compare-mirrored op turned v rs h)
+    exchanged (Ok rs) = ap Ok ((ap first_decisive (append-nil (map (λ r. pair_truth op v r) rs) ∙ pairs-mirrored op turned v rs h)))
     exchanged (Err e) = refl

@@ -16,8 +16,7 @@ keeps_with (Err e) p f g h k = tt
 
 keeps_joined : {A B : Type 0} (f g : A → Outcome (List B)) → ((x : A) → Keeps (f x) (g x)) → (xs : List A) → Keeps (try_flat_map f xs) (try_flat_map g xs)
 keeps_joined f g h [] = refl
-keeps_joined f g h (x ∷ xs) =
-    keeps_with (f x) (g x) (λ front. and_then (try_flat_map f xs) (λ back. Ok (front ++ back)))
+keeps_joined f g h (x ∷ xs) = keeps_with (f x) (g x) (λ front. and_then (try_flat_map f xs) (λ back. Ok (front ++ back)))
     (λ front. and_then (try_flat_map g xs) (λ back. Ok (front ++ back))) (h x)
     (λ front. keeps_with (try_flat_map f xs) (try_flat_map g xs) (λ back. Ok (front ++ back)) (λ back. Ok (front ++ back)) (keeps_joined f g h xs)
     (λ back. refl))
@@ -48,29 +47,24 @@ mutual
       (keeps_joined (step_meaning Strict s top) (step_meaning Lax s top) (λ item. step_kept s top item) items) (λ ts. steps_kept rest top ts)
 
   operand_kept : (e : Expression) (top item : Tree) → Keeps (operand_values Strict e top item) (operand_values Lax e top item)
-  operand_kept (paths ss) top item =
-      keeps_with (steps_meaning Strict ss top (start ss top item ∷ [])) (steps_meaning Lax ss top (start ss top item ∷ [])) _ _
+  operand_kept (paths ss) top item = keeps_with (steps_meaning Strict ss top (start ss top item ∷ [])) (steps_meaning Lax ss top (start ss top item ∷ [])) _ _
       (steps_kept ss top (start ss top item ∷ [])) (λ ts. refl)
   operand_kept (value l) top item = refl
   operand_kept _ top item = tt
 
   truth_kept : (e : Expression) (top item : Tree) → Keeps (truth Strict e top item) (truth Lax e top item)
-  truth_kept (binary and_op l r) top item =
-      keeps_with (truth Strict l top item) (truth Lax l top item) _ _ (truth_kept l top item)
+  truth_kept (binary and_op l r) top item = keeps_with (truth Strict l top item) (truth Lax l top item) _ _ (truth_kept l top item)
       (λ a. keeps_with (truth Strict r top item) (truth Lax r top item) _ _ (truth_kept r top item) (λ b. refl))
-  truth_kept (binary or_op l r) top item =
-      keeps_with (truth Strict l top item) (truth Lax l top item) _ _ (truth_kept l top item)
+  truth_kept (binary or_op l r) top item = keeps_with (truth Strict l top item) (truth Lax l top item) _ _ (truth_kept l top item)
       (λ a. keeps_with (truth Strict r top item) (truth Lax r top item) _ _ (truth_kept r top item) (λ b. refl))
   truth_kept (binary add l r) top item = refl
   truth_kept (binary subtract l r) top item = refl
   truth_kept (binary multiply l r) top item = refl
   truth_kept (binary divide l r) top item = refl
   truth_kept (binary modulo l r) top item = refl
-  truth_kept (binary op l r) top item =
-      keeps_with (operand_values Strict l top item) (operand_values Lax l top item) _ _ (operand_kept l top item)
+  truth_kept (binary op l r) top item = keeps_with (operand_values Strict l top item) (operand_values Lax l top item) _ _ (operand_kept l top item)
       (λ ls. keeps_with (operand_values Strict r top item) (operand_values Lax r top item) _ _ (operand_kept r top item) (λ rs. refl))
-  truth_kept (exists ss) top item =
-      keeps_with (steps_meaning Strict ss top (start ss top item ∷ [])) (steps_meaning Lax ss top (start ss top item ∷ [])) _ _
+  truth_kept (exists ss) top item = keeps_with (steps_meaning Strict ss top (start ss top item ∷ [])) (steps_meaning Lax ss top (start ss top item ∷ [])) _ _
       (steps_kept ss top (start ss top item ∷ [])) (λ ts. refl)
   truth_kept _ top item = tt
 
@@ -79,8 +73,7 @@ truth_list_kept a b h = keeps_with a b _ _ h (λ t. refl)
 
 binary_kept : (o : Option Operation) (op : BinaryOp) (l r : Expression) (top : Tree)
     → Keeps (binary_meaning Strict o op l r top) (binary_meaning Lax o op l r top)
-binary_kept (Some arithmetic) op l r top =
-    keeps_with (operand_values Strict l top top) (operand_values Lax l top top) _ _ (operand_kept l top top)
+binary_kept (Some arithmetic) op l r top = keeps_with (operand_values Strict l top top) (operand_values Lax l top top) _ _ (operand_kept l top top)
     (λ ls. keeps_with (operand_values Strict r top top) (operand_values Lax r top top) _ _ (operand_kept r top top)
     (λ rs. keeps_same (two_numbers arithmetic ls rs)))
 binary_kept None op l r top = truth_list_kept (truth Strict (binary op l r) top top) (truth Lax (binary op l r) top top) (truth_kept (binary op l r) top top)

@@ -1,5 +1,5 @@
 -- Printed operands, signs and comparisons, read with anything after them that may be there.
-use Rattle.jsonb.proofs.Common.{◌≡◌, ℕ, suc, ◌<◌, ◌≤◌, ◌^◌, ◌/◌, List, [], ◌∷◌, ◌++◌, length, Bool, true, false, Some, None, refl, ◌∙◌, ap, arith, append_assoc, length-append, length-drop, pos, negsuc, ◌==◌, ◌&&◌, ◌||◌, prefix_len, is_ascii_digit, decimal, signed_decimal, nat_tests, Rule, parsed_map, repeat, past, is_space, natural_below, quoted_text, front, begins, begins-decimal, is_number_start, is_sign, natural_below-decimal, natural_below-none, integer_within-signed_decimal, integer_within-none, quoted-quoted_text, quoted-none, repeat-goes, repeat-ends, Int64, UInt64, Literal, boolean, number, string, BinaryOp, and_op, or_op, UnaryOp, plus, minus, Step, root, current, filter, whole_expression, Steps, no_steps, step, Expression, paths, value, binary, unary, steps_of, spaced, inner, wildcard, named_field, bracket_field, entries, spaced_inner, path_root, literal_value, operand, spaced_operand, operator, arithmetic_operator, unary_operator, unary_atom, binary_atom, step_text, steps_text, expression_text, literal_text, operator_text, joins, settled_literal}
+use Rattle.jsonb.proofs.Common.{◌≡◌, ℕ, suc, ◌<◌, ◌≤◌, ◌^◌, ◌/◌, List, [], ◌∷◌, ◌++◌, length, Bool, true, false, Some, None, refl, ◌∙◌, ap, arith, append_assoc, length-append, length-drop, pos, negsuc, ◌==◌, ◌&&◌, ◌||◌, prefix_len, is_ascii_digit, decimal, signed_decimal, nat_tests, Rule, parsed_map, repeat, past, is_space, natural_below, front, begins, begins-decimal, is_number_start, is_sign, natural_below-decimal, natural_below-none, integer_within-signed_decimal, integer_within-none, quoted-quoted_text, quoted-none, repeat-goes, repeat-ends, Int64, UInt64, Literal, boolean, number, string, BinaryOp, and_op, or_op, Step, root, current, filter, whole_expression, Steps, no_steps, step, Expression, paths, value, binary, steps_of, spaced, inner, wildcard, named_field, bracket_field, entries, spaced_inner, path_root, literal_value, operand, spaced_operand, operator, arithmetic_operator, unary_operator, unary_atom, binary_atom, step_text, steps_text, expression_text, literal_text, operator_text, joins, settled_literal}
 use Rattle.std.proofs.lemmas.List.{append-nil}
 use Rattle.jsonb.specs.PathTree.{null}
 use Rattle.jsonb.proofs.SettledPaths.{settled_step, settled_steps, settled}
@@ -16,17 +16,12 @@ pub record ReadsTo {A : Type 0} (rule : Rule A) (input : List ℕ) (a : A) (rest
 pub length-past : (test : ℕ → Bool) (input : List ℕ) → length (past test input) ≤ length input
 length-past test input = omega (arith, length-drop (prefix_len test input) input)
 
-pub past-past : (test : ℕ → Bool) (input : List ℕ) → past test (past test input) ≡ past test input
-past-past test input = past-none test (past test input) (past-stops test input)
-
-pub reads_to_rest : {A : Type 0} (rule : Rule A) (input : List ℕ) (a : A) (rest : List ℕ) → rule input ≡ Some (a, rest) →
-    ReadsTo rule input a rest
+pub reads_to_rest : {A : Type 0} (rule : Rule A) (input : List ℕ) (a : A) (rest : List ℕ) → rule input ≡ Some (a, rest) → ReadsTo rule input a rest
 reads_to_rest rule input a rest e = record { after = rest; reads = e; same = refl; no_longer = omega arith }
 
 pub reads_past_rest : {A : Type 0} (rule : Rule A) (input : List ℕ) (a : A) (rest : List ℕ) → rule input ≡ Some (a, past is_space rest) →
     ReadsTo rule input a rest
-reads_past_rest rule input a rest e =
-    record { after = past is_space rest; reads = e; same = past-past is_space rest; no_longer = length-past is_space rest }
+reads_past_rest rule input a rest e = grind (arith, length-past, past-none, past-stops)
 
 pub spaced-to : {A : Type 0} (rule : Rule A) (input : List ℕ) (a : A) (rest : List ℕ) → ReadsTo rule (past is_space input) a rest →
     spaced rule input ≡ Some (a, past is_space rest)
@@ -37,13 +32,9 @@ spaced-to rule input a rest r = spaced-reads rule input a r.after r.reads ∙ ap
 abbrev pub is_inner_start : ℕ → Bool
 is_inner_start b = b == 46 || b == 58 || b == 91
 
-inner-none : (input : List ℕ) → begins is_inner_start input ≡ false → inner input ≡ None
-unfolding inner wildcard named_field entries bracket_field
-inner-none input h = grind (arith, nat_tests)
-
 pub spaced_inner-none : (input : List ℕ) → begins is_inner_start (past is_space input) ≡ false → spaced_inner input ≡ None
-unfolding spaced_inner
-spaced_inner-none input h = spaced-none inner input (inner-none (past is_space input) h)
+unfolding spaced_inner inner wildcard named_field entries bracket_field
+spaced_inner-none input h = spaced-none inner input (grind (arith, nat_tests))
 
 begins-inner : (s : Step) (rest : List ℕ) → IsInner s → begins is_inner_start (step_text s ++ rest) ≡ true
 begins-inner root rest is = absurd is
@@ -92,7 +83,7 @@ inners-text no_steps rest input are h same short =
     record { after = input; reads = repeat-ends spaced_inner input (spaced_inner-none input (rw same h.1)); same = same; no_longer = short }
 inners-text (step s ss) rest input are h same short =
     let tail = steps_text ss ++ rest in
-    let more = inners-text ss rest (past is_space tail) are.1 h (past-past is_space tail) (length-past is_space tail) in
+    let more = inners-text ss rest (past is_space tail) are.1 h ((past-none is_space (past is_space tail) (past-stops is_space tail))) (length-past is_space tail) in
     let front : past is_space input ≡ step_text s ++ tail = rw (append_assoc (step_text s) (steps_text ss) rest) at same ∙ no_space-inner s tail are.0 in
     let here : spaced_inner input ≡ Some (s, past is_space tail) =
     spaced-reads inner input s tail (rw front (inner-text s tail are.0 (front-inners ss rest are.1 h.0))) in
@@ -108,9 +99,7 @@ inners-text (step s ss) rest input are h same short =
     }
 
 pub settled-inner : (s : Step) → IsInner s → settled_step s ≡ s
-settled-inner (filter e) is = absurd is
-settled-inner (whole_expression e) is = absurd is
-settled-inner _ is = refl
+settled-inner s is = grind arith
 
 settled-inners : (ss : Steps) → AreInner ss → settled_steps ss ≡ ss
 settled-inners no_steps are = refl
@@ -127,10 +116,8 @@ literal-digits input rest n h e = grind (arith, nat_tests)
 whole_text : (n : ℕ) → decimal (n / 1) ++ [] ≡ decimal n
 whole_text n = append-nil (decimal (n / 1)) ∙ ap decimal (omega arith)
 
-literal-unsigned : (n : ℕ) (rest : List ℕ) → n < 2 ^ 64 → front is_operand_end rest ≡ true →
-    literal_value (decimal n ++ rest) ≡ Some (number (UInt64 n), rest)
-literal-unsigned n rest fits h =
-    literal-digits (decimal n ++ rest) rest n (begins-decimal n rest fits)
+literal-unsigned : (n : ℕ) (rest : List ℕ) → n < 2 ^ 64 → front is_operand_end rest ≡ true → literal_value (decimal n ++ rest) ≡ Some (number (UInt64 n), rest)
+literal-unsigned n rest fits h = literal-digits (decimal n ++ rest) rest n (begins-decimal n rest fits)
     (natural_below-decimal (2 ^ 64) n rest (omega arith) (grind (arith, nat_tests)) (grind (arith, nat_tests)))
 
 literal-text : (l : Literal) (rest : List ℕ) → IsLiteral l → front is_operand_end rest ≡ true →
@@ -141,12 +128,9 @@ literal-text (boolean true) rest is h = refl
 literal-text (boolean false) rest is h = refl
 literal-text (number (UInt64 n)) rest is h = rw (whole_text n) (literal-unsigned n rest (grind (arith, nat_tests)) h)
 literal-text (number (Int64 (pos n))) rest is h = rw (whole_text n) (literal-unsigned n rest (grind (arith, nat_tests)) h)
-literal-text (number (Int64 (negsuc n))) rest is h =
-    rw (whole_text (suc n), natural_below-none (2 ^ 64) (signed_decimal (negsuc n) ++ rest) refl)
+literal-text (number (Int64 (negsuc n))) rest is h = rw (whole_text (suc n), natural_below-none (2 ^ 64) (signed_decimal (negsuc n) ++ rest) refl)
     (rw (integer_within-signed_decimal (2 ^ 63) (negsuc n) rest (omega arith) is (grind (arith, nat_tests))) refl)
-literal-text (string text) rest is h =
-    rw (natural_below-none (2 ^ 64) (quoted_text text ++ rest) refl, integer_within-none (2 ^ 63) (quoted_text text ++ rest) refl)
-    (rw (quoted-quoted_text text rest is.0 is.1) refl)
+literal-text (string text) rest is h = grind (arith, natural_below-none, integer_within-none, quoted-quoted_text)
 literal-text _ rest is h = absurd is
 
 -- ---- operands
@@ -177,8 +161,7 @@ literal_value-none input h =
 
 operand-none : (f : Bool) (input : List ℕ) → begins is_operand_start input ≡ false → operand f input ≡ None
 unfolding operand
-operand-none f input h =
-    rw (path_root-none f input (grind (arith, nat_tests)), literal_value-none input (grind (arith, nat_tests))) refl
+operand-none f input h = rw (path_root-none f input (grind (arith, nat_tests)), literal_value-none input (grind (arith, nat_tests))) refl
 
 pub path_root-text : (f : Bool) (s : Step) (rest : List ℕ) → IsBeginning f s → path_root f (step_text s ++ rest) ≡ Some (s, rest)
 unfolding path_root
@@ -237,12 +220,11 @@ pub begins-as_operand : (f : Bool) (e : Expression) (rest : List ℕ) → IsOper
 begins-as_operand f e rest is = let starts = begins-operand f e rest is in grind (arith, nat_tests)
 
 -- no sign before what may be a left side
-pub unsigned_operand : (f : Bool) (e : Expression) (rest : List ℕ) → IsOperand f e → is_signed e ≡ false →
-    begins is_sign (expression_text e ++ rest) ≡ false
+pub unsigned_operand : (f : Bool) (e : Expression) (rest : List ℕ) → IsOperand f e → is_signed e ≡ false → begins is_sign (expression_text e ++ rest) ≡ false
 unsigned_operand f e rest is h = let starts = begins-operand f e rest is in grind (arith, nat_tests)
 
 -- an operand at the front, or after a space
-spaced_operand-text : (f : Bool) (e : Expression) (rest input : List ℕ) → past is_space input ≡ past is_space (expression_text e ++ rest) →
+pub spaced_operand-text : (f : Bool) (e : Expression) (rest input : List ℕ) → past is_space input ≡ past is_space (expression_text e ++ rest) →
     IsOperand f e → IsBehindOperand rest → spaced_operand f input ≡ Some (settled e, past is_space rest)
 unfolding spaced_operand
 spaced_operand-text f e rest input same is h =
@@ -255,12 +237,6 @@ unfolding spaced_operand
 spaced_operand-none f input h = spaced-none (operand f) input (operand-none f (past is_space input) h)
 
 -- ---- signs and comparisons
-
-pub unary-text : (f : Bool) (op : UnaryOp) (e : Expression) (rest : List ℕ) → IsOperand f e → IsBehindOperand rest →
-    unary_atom f (expression_text (unary op e) ++ rest) ≡ Some (settled (unary op e), past is_space rest)
-unfolding unary_atom unary_operator
-unary-text f plus e rest is h = rw (spaced_operand-text f e rest (expression_text e ++ rest) refl is h) refl
-unary-text f minus e rest is h = rw (spaced_operand-text f e rest (expression_text e ++ rest) refl is h) refl
 
 pub unary-none : (f : Bool) (input : List ℕ) → begins is_sign input ≡ false → unary_atom f input ≡ None
 unfolding unary_atom unary_operator
@@ -278,9 +254,8 @@ pub behind_operator : (op : BinaryOp) (rest : List ℕ) →
 behind_operator and_op rest = ((refl, refl), refl)
 behind_operator _ rest = ((refl, refl), refl)
 
-pub binary-text : (f : Bool) (op : BinaryOp) (left right : Expression) (rest : List ℕ) → joins op ≡ false →
-    IsOperand f left → IsOperand f right → IsBehindOperand rest →
-    binary_atom f (expression_text left ++ (32 ∷ operator_text op ++ (32 ∷ expression_text right ++ rest)))
+pub binary-text : (f : Bool) (op : BinaryOp) (left right : Expression) (rest : List ℕ) → joins op ≡ false → IsOperand f left → IsOperand f right →
+    IsBehindOperand rest → binary_atom f (expression_text left ++ (32 ∷ operator_text op ++ (32 ∷ expression_text right ++ rest)))
     ≡ Some (binary op (settled left) (settled right), past is_space rest)
 unfolding binary_atom
 binary-text f op left right rest j l r h =

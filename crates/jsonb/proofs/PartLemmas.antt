@@ -37,18 +37,12 @@ still (Some r) = 1 + remaining r
 
 pub less_still : (before after : Option Remaining) (r : Remaining) → before ≡ Some r → IfSome after (λ left. remaining left < remaining r)
     → still after < still before
-less_still before None r is less = rw is (omega arith)
-less_still before (Some left) r is less = rw is (omega arith)
+less_still before after r is less = grind arith
 
 -- ---- a step among others
 
 pub step_parts-among : (ss : List Path) (i : ℕ) (s : Path) → i < length ss → s ≡ get_or ss i s → step_parts (step_view s) ≤ row_parts ss
-step_parts-among ss i s short is =
-    let held = ap (λ (x : Path). step_parts (step_view x)) is in
-    let rest = row_parts-append (take i ss) (drop i ss) in
-    let split = ap row_parts (take-append-drop i ss) in
-    let front = ap row_parts (drop-cons ss i s short) in
-    omega arith
+step_parts-among ss i s short is = grind (arith, row_parts-append (take i ss) (drop i ss), take-append-drop, drop-cons)
 
 -- ---- a chain, some left sides below
 
@@ -58,4 +52,4 @@ left_parts _ = omega arith
 
 pub below_parts : (n : ℕ) (e : Expression) → expression_parts (below n e) ≤ expression_parts e
 below_parts zero e = omega arith
-below_parts (suc n) e = let rest = below_parts n (left_of e) in let left = left_parts e in omega arith
+below_parts (suc n) e = omega (arith, below_parts n (left_of e), left_parts e)

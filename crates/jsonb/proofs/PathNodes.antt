@@ -27,8 +27,7 @@ values_is s h = ap step_view h ∙ step_is _ _ step.outs-DotWildcard
 pub elements_is : (s : Path) → s ≡ step.BracketWildcard → step_view s ≡ math.bracket_wildcard
 elements_is s h = ap step_view h ∙ step_is _ _ step.outs-BracketWildcard
 
-pub levels_is : (s : Path) (levels : Option RecursiveLevel) → s ≡ step.RecursiveDotWildcard levels
-    → step_view s ≡ math.recursive_dot_wildcard levels
+pub levels_is : (s : Path) (levels : Option RecursiveLevel) → s ≡ step.RecursiveDotWildcard levels → step_view s ≡ math.recursive_dot_wildcard levels
 levels_is s levels h = ap step_view h ∙ step_is _ _ (step.outs-RecursiveDotWildcard levels)
 
 pub dot_field_is : (s : Path) (name : CowStr Global) → s ≡ step.DotField name → step_view s ≡ math.dot_field (cow_str_bytes name)
@@ -61,8 +60,7 @@ pub binary_is : (e : Expr) (op : BinaryOperator) (l r : Box Expr Global) → e �
     → expression_view e ≡ math.binary op (expression_view l.value) (expression_view r.value)
 binary_is e op l r h = ap expression_view h ∙ expression_is _ _ (expr.outs-BinaryOp op l r)
 
-pub unary_is : (e : Expr) (op : UnaryOperator) (x : Box Expr Global) → e ≡ expr.UnaryOp op x
-    → expression_view e ≡ math.unary op (expression_view x.value)
+pub unary_is : (e : Expr) (op : UnaryOperator) (x : Box Expr Global) → e ≡ expr.UnaryOp op x → expression_view e ≡ math.unary op (expression_view x.value)
 unary_is e op x h = ap expression_view h ∙ expression_is _ _ (expr.outs-UnaryOp op x)
 
 pub exists_is : (e : Expr) (steps : Vec Path Global) → e ≡ expr.ExistsFunc steps → expression_view e ≡ math.exists (steps_of (steps_view steps.items))

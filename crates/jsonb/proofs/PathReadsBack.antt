@@ -1,5 +1,5 @@
 -- Printed paths, read.
-use Rattle.jsonb.proofs.Common.{◌≡◌, ℕ, ◌+◌, ◌<◌, List, [], ◌∷◌, ◌++◌, length, Bool, true, false, Some, None, refl, sym, ◌∙◌, ap, arith, append_assoc, inl, inr, ◌==◌, flat_map, map, nat_tests, Parsed, Rule, ◌</>◌, repeat, all_consuming, ws, past, is_space, name, front, begins, name-none, Step, root, filter, whole_expression, Steps, no_steps, step, steps_of, Expression, path_root, operand, spaced_operand, operator, arithmetic_operator, binary_atom, group_with, exists_with, atom_with, and_with, or_with, expression, root_expression, first_step, front_steps, path_step, plain_path, json_path, step_text, steps_text, expression_text, path_text}
+use Rattle.jsonb.proofs.Common.{◌≡◌, ℕ, ◌+◌, ◌<◌, List, [], ◌∷◌, ◌++◌, length, Bool, true, false, Some, None, refl, sym, ◌∙◌, ap, arith, append_assoc, ◌==◌, flat_map, map, nat_tests, Parsed, Rule, ◌</>◌, repeat, all_consuming, ws, past, is_space, name, front, begins, name-none, Step, root, filter, whole_expression, Steps, no_steps, step, steps_of, Expression, path_root, operand, spaced_operand, operator, arithmetic_operator, binary_atom, group_with, exists_with, atom_with, and_with, or_with, expression, root_expression, first_step, front_steps, path_step, plain_path, json_path, step_text, steps_text, expression_text, path_text}
 use Rattle.jsonb.proofs.Bounds.{expression-rule, path_step-rule}
 use Rattle.jsonb.proofs.SettledPaths.{settled_step, settled_steps, settled}
 use Rattle.jsonb.proofs.PathShape.{AreInner, ArePathSteps, IsCondition, IsPath}
@@ -8,22 +8,18 @@ use Rattle.jsonb.proofs.OperandReadsBack.{spaced-to, inners-text, is_inner_start
 use Rattle.jsonb.proofs.ConditionReadsBack.{is_condition_start, no_space-condition, expression-reads, steps-read, is_step_start, front-steps, binary-none}
 
 -- text that does not begin with a space, and one of the two rules
-whole_path : (input : List ℕ) (p : List Step) → past is_space input ≡ input → (root_expression </> plain_path) input ≡ Some (p, []) →
-    json_path input ≡ Some p
+whole_path : (input : List ℕ) (p : List Step) → past is_space input ≡ input → (root_expression </> plain_path) input ≡ Some (p, []) → json_path input ≡ Some p
 unfolding json_path
-whole_path input p no_space h =
-    ap (λ (o : Parsed (List Step)). all_consuming o) (spaced-reads (root_expression </> plain_path) input p [] (rw no_space h))
+whole_path input p no_space h = ap (λ (o : Parsed (List Step)). all_consuming o) (spaced-reads (root_expression </> plain_path) input p [] (rw no_space h))
 
 -- ---- a whole expression
 
-root_expression-text : (e : Expression) → IsCondition false e →
-    root_expression (expression_text e ++ []) ≡ Some (whole_expression (settled e) ∷ [], [])
+root_expression-text : (e : Expression) → IsCondition false e → root_expression (expression_text e ++ []) ≡ Some (whole_expression (settled e) ∷ [], [])
 unfolding root_expression
 root_expression-text e is =
     rw (spaced-to (expression false) (expression_text e ++ []) (settled e) [] (rw (no_space-condition false e [] is) ((expression-reads e).0 false [] is refl))) refl
 
-path-of_expression : (e : Expression) → IsCondition false e →
-    json_path (path_text (whole_expression e ∷ [])) ≡ Some (whole_expression (settled e) ∷ [])
+path-of_expression : (e : Expression) → IsCondition false e → json_path (path_text (whole_expression e ∷ [])) ≡ Some (whole_expression (settled e) ∷ [])
 path-of_expression e is =
     whole_path (expression_text e ++ []) (whole_expression (settled e) ∷ []) (no_space-condition false e [] is) (rw (root_expression-text e is) refl)
 
@@ -36,8 +32,7 @@ no_root_expression input no_space h = rw (spaced-none (expression false) input (
 -- nothing that an expression begins with
 no_atom : (f : Bool) (input : List ℕ) → past is_space input ≡ input → begins is_condition_start input ≡ false → atom_with expression f input ≡ None
 unfolding atom_with group_with exists_with
-no_atom f input no_space h =
-    rw (unary-none f input (grind (arith, nat_tests)), binary-none f input (rw no_space (grind (arith, nat_tests))))
+no_atom f input no_space h = rw (unary-none f input (grind (arith, nat_tests)), binary-none f input (rw no_space (grind (arith, nat_tests))))
     (rw (literal-none 40 [] input (grind (arith, nat_tests)), literal-none 101 _ input (grind (arith, nat_tests))) refl)
 
 -- ---- a path that begins with the root
@@ -88,20 +83,14 @@ no_atom-path ss are =
 path_steps-text : (ss : Steps) → ArePathSteps ss → repeat path_step (steps_text ss ++ []) ≡ Some (steps_list (settled_steps ss), [])
 path_steps-text ss are = ap (λ (rule : Rule Step). repeat rule (steps_text ss ++ [])) (λ i input. path_step-rule input i) ∙ steps-read ss [] are refl
 
-plain_path-root : (ss : Steps) → ArePathSteps ss → plain_path (36 ∷ steps_text ss ++ []) ≡ Some (root ∷ steps_list (settled_steps ss), [])
-unfolding plain_path front_steps first_step
-plain_path-root ss are = rw (path_steps-text ss are) refl
-
 no_first_step : (input : List ℕ) → front is_step_start input ≡ true → first_step input ≡ None
 unfolding first_step
-no_first_step input h =
-    rw (literal-none 36 [] input (grind (arith, nat_tests)))
+no_first_step input h = rw (literal-none 36 [] input (grind (arith, nat_tests)))
     (rw (spaced-none name input (rw (past-none is_space input (grind (arith, nat_tests))) (name-none input (grind (arith, nat_tests))))) refl)
 
 plain_path-steps : (ss : Steps) → ArePathSteps ss → plain_path (steps_text ss ++ []) ≡ Some (steps_list (settled_steps ss), [])
 unfolding plain_path front_steps
-plain_path-steps ss are =
-    rw (no_first_step (steps_text ss ++ []) (front-steps ss [] are is_step_start (λ b e. e) refl), path_steps-text ss are) refl
+plain_path-steps ss are = rw (no_first_step (steps_text ss ++ []) (front-steps ss [] are is_step_start (λ b e. e) refl), path_steps-text ss are) refl
 
 -- ---- whole text
 
@@ -114,9 +103,8 @@ settled_list [] = refl
 settled_list (s ∷ ss) = ap (λ (more : List Step). settled_step s ∷ more) (settled_list ss)
 
 path-of_root : (ss : List Step) → ArePathSteps (steps_of ss) → json_path (path_text (root ∷ ss)) ≡ Some (root ∷ map settled_step ss)
-path-of_root ss are =
-    rw (shown ss, ← settled_list ss) (whole_path (36 ∷ steps_text (steps_of ss) ++ []) (root ∷ steps_list (settled_steps (steps_of ss))) refl
-    (rw (no_root_expression (36 ∷ steps_text (steps_of ss) ++ []) refl (no_atom-path (steps_of ss) are), plain_path-root (steps_of ss) are) refl))
+unfolding plain_path front_steps first_step
+path-of_root ss are = grind (arith, shown, settled_list, whole_path, settled_steps, no_root_expression, no_atom-path, path_steps-text)
 
 path-of_steps : (ss : List Step) → ArePathSteps (steps_of ss) → json_path (path_text ss) ≡ Some (map settled_step ss)
 path-of_steps ss are =
@@ -127,6 +115,4 @@ path-of_steps ss are =
     (rw (no_root_expression input no_space (no_atom false input no_space (grind (arith, nat_tests))), plain_path-steps (steps_of ss) are) refl))
 
 pub path-text : (p : List Step) → IsPath p → json_path (path_text p) ≡ Some (map settled_step p)
-path-text p (inl is) = rw is.1 (path-of_expression is.0 is.2)
-path-text p (inr (inl is)) = rw is.1 (path-of_root is.0 is.2)
-path-text p (inr (inr are)) = path-of_steps p are
+path-text p h = grind (arith, path-of_expression, path-of_root, path-of_steps)

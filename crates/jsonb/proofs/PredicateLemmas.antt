@@ -32,8 +32,7 @@ calculation_said : (op : Operation) (l r : Outcome (List Value)) → and_then (c
 calculation_said op l r = grind (arith, number_said)
 
 -- the numbers after signs: the first of them decides that no result is alone
-front_said : (o : Outcome Number) (back : Outcome (List Tree)) →
-    and_then (and_then (number_list o) (λ front. and_then back (λ ts. Ok (front ++ ts)))) said
+front_said : (o : Outcome Number) (back : Outcome (List Tree)) → and_then (and_then (number_list o) (λ front. and_then back (λ ts. Ok (front ++ ts)))) said
     ≡ and_then (and_then (number_list o) (λ front. and_then back (λ ts. Ok (front ++ ts)))) nothing_said
 front_said o back = grind arith
 

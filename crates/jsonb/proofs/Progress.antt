@@ -21,9 +21,6 @@ pub record First {B : Type 0} (Others : List B → Type 0) (P : B → Type 0) (r
   pub holds : P first
   pub left : Others others
 
-behind-nil : {C : Type 0} (o : Outcome (List C)) → o ≡ behind [] o
-behind-nil o = grind arith
-
 -- parts that are never refused
 pub joined_total : {B C : Type 0} (g : B → List C) (ts : List B) → try_flat_map (λ t. Ok (g t)) ts ≡ Ok (flat_map g ts)
 joined_total g [] = refl
@@ -31,7 +28,7 @@ joined_total g (t ∷ ts) = ap (λ o. and_then o (λ back. Ok (g t ++ back))) (j
 
 pub at_start : {B C : Type 0} (f : B → Outcome (List C)) (Left : List B → Type 0) (Done : List C → Type 0) (ts : List B) → Left ts → Done []
     → Progress Left Done f (try_flat_map f ts)
-at_start f Left Done ts l d = record { rest = ts; given = []; left = l; done = d; is = behind-nil (try_flat_map f ts) }
+at_start f Left Done ts l d = grind arith
 
 module _ {B C : Type 0} {f : B → Outcome (List C)} {Left : List B → Type 0} {Done : List C → Type 0} {outcome : Outcome (List C)} where
   -- one turn
@@ -46,9 +43,8 @@ module _ {B C : Type 0} {f : B → Outcome (List C)} {Left : List B → Type 0} 
       added given t rest o e l h is = grind (arith, append_assoc)
 
   -- an error
-  pub refused_in : {Left' : List B → Type 0} {P : B → Type 0} {e : Error} → Progress Left Done f outcome
-      → ((rest : List B) → Left rest → First Left' P rest) → ((t : B) (before : List C) → P t → Done before → IsOutOfMemory e ⊎ (f t ≡ Err e))
-      → IsOutOfMemory e ⊎ (outcome ≡ Err e)
+  pub refused_in : {Left' : List B → Type 0} {P : B → Type 0} {e : Error} → Progress Left Done f outcome → ((rest : List B) → Left rest → First Left' P rest)
+      → ((t : B) (before : List C) → P t → Done before → IsOutOfMemory e ⊎ (f t ≡ Err e)) → IsOutOfMemory e ⊎ (outcome ≡ Err e)
   refused_in p first one = grind arith
 
   -- the end
@@ -76,13 +72,8 @@ abbrev pub no_spot : Spot
 no_spot = record { kind = kind.Null; start = 0; end = 0 }
 
 module _ {A B : Type 0} (R : A → B → Type 0) (xs : List A) where
-  pub list_first : (i : ℕ) (d : A) → i < length xs → (rest : List B) → AllZip R (drop i xs) rest
-      → First (AllZip R (drop (i + 1) xs)) (R (get_or xs i d)) rest
-  list_first i d h rest a = go rest (rw (drop-cons xs i d h ∙ ap (λ n. get_or xs i d ∷ drop n xs) (sym (add-one i))) at a)
-    where
-      go : (rest : List B) → AllZip R (get_or xs i d ∷ drop (i + 1) xs) rest → First (AllZip R (drop (i + 1) xs)) (R (get_or xs i d)) rest
-      go [] a = absurd a
-      go (t ∷ ts) a = record { first = t; others = ts; whole = refl; holds = a.0; left = a.1 }
+  pub list_first : (i : ℕ) (d : A) → i < length xs → (rest : List B) → AllZip R (drop i xs) rest → First (AllZip R (drop (i + 1) xs)) (R (get_or xs i d)) rest
+  list_first i d h rest a = grind (arith, drop-cons, add-one)
 
   pub list_end : (i : ℕ) → length xs ≤ i → (rest : List B) → AllZip R (drop i xs) rest → rest ≡ []
   list_end i h rest a = grind (arith, drop_of_length-le)
@@ -102,8 +93,7 @@ module _ (f : Tree → Outcome (List Tree)) (bytes : List ℕ) (spots : List Spo
         → ((t : Tree) (before : List Tree) → Locates bytes (get_or spots i no_spot) t → AllZip (Locates bytes) found before
         → IsOkAnd (f t) (λ us. AllZip (Locates bytes) found' (before ++ us)))
         → SpotsPassed (i + 1) found'
-    spot_passed less one =
-        one_more passed (list_first (Locates bytes) spots i no_spot less) one
+    spot_passed less one = one_more passed (list_first (Locates bytes) spots i no_spot less) one
 
     pub spot_not_passed : {G : Type 0} (Q : G → List Tree → Type 0) (e : Error) → i < length spots
         → ((t : Tree) (before : List Tree) → Locates bytes (get_or spots i no_spot) t → AllZip (Locates bytes) found before
@@ -113,8 +103,7 @@ module _ (f : Tree → Outcome (List Tree)) (bytes : List ℕ) (spots : List Spo
         record { ok = tt; err = refused_in passed (list_first (Locates bytes) spots i no_spot less) (λ t before m a. (one t before m a).err) }
 
   pub all_passed : (i : ℕ) (found : List Spot) → SpotsPassed i found → length spots ≤ i → IsOkAnd (try_flat_map f ts) (AllZip (Locates bytes) found)
-  all_passed i found passed end =
-      at_end passed (list_end (Locates bytes) spots i end)
+  all_passed i found passed end = at_end passed (list_end (Locates bytes) spots i end)
 
 -- ---- over the children of an item
 

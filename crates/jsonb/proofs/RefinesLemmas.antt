@@ -3,8 +3,7 @@ use Rattle.jsonb.proofs.Common.{◌≡◌, ◌⊎◌, List, [], ◌∷◌, ◌++
 
 -- ---- related lists
 
-pub AllZip-append : {A B : Type 0} (R : A → B → Type 0) (xs ys : List A) (us vs : List B) → AllZip R xs us → AllZip R ys vs
-    → AllZip R (xs ++ ys) (us ++ vs)
+pub AllZip-append : {A B : Type 0} (R : A → B → Type 0) (xs ys : List A) (us vs : List B) → AllZip R xs us → AllZip R ys vs → AllZip R (xs ++ ys) (us ++ vs)
 AllZip-append R [] ys [] vs p q = q
 AllZip-append R (x ∷ xs) ys (u ∷ us) vs p q = (p.0, AllZip-append R xs ys us vs p.1 q)
 AllZip-append R _ ys _ vs p q = absurd p
@@ -28,9 +27,8 @@ related_of_map {A} f xs ys is = subst (λ l. AllZip (Is f) xs l) is (each xs)
 
 -- ---- what is pushed after a list of nodes
 
-pub pushed_all : {A B : Type 0} (R : A → B → Type 0) (r : Result (Unit {0}) Error) (old new more : List A) (before us : List B) →
-    OnOk r (new ≡ old ++ more) → IfErr r IsOutOfMemory → AllZip R old before → AllZip R more us →
-    Refines (λ _ ts. AllZip R new (before ++ ts)) IsOutOfMemory r (Ok us)
+pub pushed_all : {A B : Type 0} (R : A → B → Type 0) (r : Result (Unit {0}) Error) (old new more : List A) (before us : List B) → OnOk r (new ≡ old ++ more) →
+    IfErr r IsOutOfMemory → AllZip R old before → AllZip R more us → Refines (λ _ ts. AllZip R new (before ++ ts)) IsOutOfMemory r (Ok us)
 pushed_all R r old new more before us is none a h = grind (arith, AllZip-append)
 
 pub pushed : {A B : Type 0} (R : A → B → Type 0) (r : Result (Unit {0}) Error) (old new : List A) (x : A) (before : List B) (u : B) →
@@ -134,9 +132,8 @@ given_by h k = grind arith
 -- ---- what was found: the value under a key, the children of a container
 
 module _ {A V : Type 0} {S : A → List Tree → Type 0} {r : Outcome A} (mode : Mode) (otherwise : List Tree) (R : V → List Tree → Type 0) where
-  pub listed : (g : List Tree → List Tree) (v : V) (o : Option (List Tree)) → SameOption R (Some v) o
-      → ((us : List Tree) → R v us → Refines S IsOutOfMemory r (Ok (g us))) →
-      Refines S IsOutOfMemory r (list_or mode otherwise (option_map g o))
+  pub listed : (g : List Tree → List Tree) (v : V) (o : Option (List Tree)) → SameOption R (Some v) o →
+      ((us : List Tree) → R v us → Refines S IsOutOfMemory r (Ok (g us))) → Refines S IsOutOfMemory r (list_or mode otherwise (option_map g o))
   listed g v o h go = grind arith
 
   pub listed_itself : (v : V) (o : Option (List Tree)) → SameOption R (Some v) o → ((us : List Tree) → R v us → Refines S IsOutOfMemory r (Ok us))

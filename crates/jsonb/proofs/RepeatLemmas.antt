@@ -3,14 +3,14 @@ use Rattle.jsonb.proofs.Common.{◌≡◌, ◌⊎◌, inl, inr, ℕ, ◌<◌, ze
 use Rattle.jsonb.specs.PathTree as math
 use Rattle.jsonb.specs.Private.Alike.{AreSame}
 use Rattle.jsonb.specs.declared.selector.document.Repeats.TheVariants.{AreKept}
-use Rattle.jsonb.proofs.AlikeLemmas.{alike_itself, alike_same, alike_then, alike_flat_map, alike_each, alike_map, alike_results, alike_without}
+use Rattle.jsonb.proofs.AlikeLemmas.{alike_itself, alike_then, alike_flat_map, alike_each, alike_map, alike_results, alike_without}
 use Rattle.jsonb.proofs.Progress.{First}
 use Rattle.jsonb.proofs.RefinesLemmas.{answered, AllZip-append}
 
 -- ---- the same lists
 
 pub same_equal : {A : Type 0} (repeats : Repeats) {xs ys : List A} → xs ≡ ys → AreSame repeats xs ys
-same_equal repeats is = grind (arith, alike_same)
+same_equal repeats is = grind arith
 
 pub same_outcome_itself : {A : Type 0} (repeats : Repeats) (o : Outcome (List A)) → SameOutcomes repeats o o
 same_outcome_itself repeats o = grind (arith, alike_itself)
@@ -85,9 +85,7 @@ decided (Some b) = b
 
 first_decisive_found : (bs : List Truth) → first_decisive bs ≡ decided (find decides bs)
 first_decisive_found [] = refl
-first_decisive_found (Some false ∷ bs) = first_decisive_found bs
-first_decisive_found (Some true ∷ bs) = refl
-first_decisive_found (None ∷ bs) = refl
+first_decisive_found (b ∷ bs) = grind (arith, first_decisive_found bs)
 
 pub alike_compare : (op : math.BinaryOp) {ls ms rs ss : List Value} → AreAlike ls ms → AreAlike rs ss → compare op ls rs ≡ compare op ms ss
 alike_compare op {ls} {ms} {rs} {ss} left right =
@@ -108,8 +106,7 @@ compared_both op ls rs o p h g = grind (arith, alike_compare)
 
 -- of members of the items
 pub alike_items_truth : (c : MemberCompared) (top : Tree) (us ts : List Tree) → AreAlike us ts → items_truth c top us ≡ items_truth c top ts
-alike_items_truth c top us ts h =
-    grind (arith, alike_steps Lax (steps_of (steps_view c.names.now)) top us ts h, alike_compare, alike_flat_map, alike_itself)
+alike_items_truth c top us ts h = grind (arith, alike_steps Lax (steps_of (steps_view c.names.now)) top us ts h, alike_compare, alike_flat_map, alike_itself)
 
 -- ---- a list whose repeats are left out
 

@@ -15,9 +15,9 @@ related_length R _ _ h = absurd h
 pub related_at : {A B : Type 0} (R : A → B → Type 0) (xs : List A) (ys : List B) (k : ℕ) (d : A) (e : B) → k < length xs → AllZip R xs ys
     → R (get_or xs k d) (get_or ys k e)
 related_at R [] ys k d e short h = absurd (omega (arith, short))
-related_at R (x ∷ xs) [] k d e short h = absurd h
 related_at R (x ∷ xs) (y ∷ ys) zero d e short h = h.0
 related_at R (x ∷ xs) (y ∷ ys) (suc k) d e short h = related_at R xs ys k d e (omega (arith, short)) h.1
+related_at R _ _ k d e short h = absurd h
 
 -- ---- what is selected
 
@@ -55,9 +55,7 @@ none_held form parts is = rw is (refl, refl)
 pub too_large_at : (form : Form) (ts : List Tree) (k : ℕ) (e : Tree) → k < length ts → IsTooLarge form (get_or ts k e) → Any (IsTooLarge form) ts
 too_large_at form [] k e short h = absurd (omega (arith, short))
 too_large_at form (t ∷ ts) zero e short h = (0, t, omega arith, refl, h)
-too_large_at form (t ∷ ts) (suc k) e short h =
-    let one = too_large_at form ts k e (omega (arith, short)) h in
-    (suc one.0, one.1, omega (arith, one.2), one.3, one.4)
+too_large_at form (t ∷ ts) (suc k) e short h = let one = too_large_at form ts k e (omega (arith, short)) h in (suc one.0, one.1, omega (arith, one.2), one.3, one.4)
 
 -- at most one tree is its own first
 pub value_few : (ts : List Tree) → length ts ≤ 1 → single_or_array ts ≡ first_item ts

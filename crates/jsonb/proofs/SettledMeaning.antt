@@ -81,8 +81,7 @@ same_compared : (op : BinaryOp) (l l' r r' : Outcome (List Value)) → settled_v
     → compared op l' r' ≡ compared op l r
 same_compared op l l' r r' e f = cc (compared-settled op l r, compared-settled op l' r', e, f)
 
-literal-settled : (l : Literal)
-    → settled_value (literal_value (settled_literal l)) ≡ settled_value (literal_value l)
+literal-settled : (l : Literal) → settled_value (literal_value (settled_literal l)) ≡ settled_value (literal_value l)
 literal-settled (path.number (Int64 (pos zero))) = refl
 literal-settled _ = refl
 
@@ -126,8 +125,7 @@ binary-truth modulo l r vl vr tl tr mode top item = refl
 binary-truth op l r vl vr tl tr mode top item = same_compared op _ _ _ _ (vl mode top item) (vr mode top item)
 
 steps-same : (s : Step) (ss : Steps) → StepSame s → StepsSame ss → StepsSame (step s ss)
-steps-same s ss one more mode top items =
-    rw (joined-same (step_meaning mode (settled_step s) top) (step_meaning mode s top) (one mode top) items)
+steps-same s ss one more mode top items = rw (joined-same (step_meaning mode (settled_step s) top) (step_meaning mode s top) (one mode top) items)
     (same_after (try_flat_map (step_meaning mode s top) items) (steps_meaning mode (settled_steps ss) top) (steps_meaning mode ss top) (more mode top))
 
 mutual
@@ -167,9 +165,8 @@ negated-settled : (n : Number) → negated (settled_number n) ≡ negated n
 negated-settled n = rw (decimal-settled n.variant n.whole) refl
 
 -- a function of the values that sees no variant, except for those in its result
-same_answer : (f : List Value → Outcome (List Tree)) → ((vs : List Value) → settled_outcome (f (map settled_value vs)) ≡ settled_outcome (f vs))
-    → (o o' : Outcome (List Value)) → settled_values o' ≡ settled_values o →
-    settled_outcome (and_then o' f) ≡ settled_outcome (and_then o f)
+same_answer : (f : List Value → Outcome (List Tree)) → ((vs : List Value) → settled_outcome (f (map settled_value vs)) ≡ settled_outcome (f vs)) →
+    (o o' : Outcome (List Value)) → settled_values o' ≡ settled_values o → settled_outcome (and_then o' f) ≡ settled_outcome (and_then o f)
 same_answer f h o o' e = sym (through o') ∙ ap (λ (x : Outcome (List Value)). settled_outcome (and_then x f)) e ∙ through o where
   through : (x : Outcome (List Value)) → settled_outcome (and_then (settled_values x) f) ≡ settled_outcome (and_then x f)
   through (Ok vs) = h vs
@@ -287,8 +284,7 @@ same_lists (t ∷ ts) (u ∷ us) e =
     (is_equal-true t u (same_tree t u (cc)), same_lists ts us (cc))
 same_lists _ _ e = cc
 
-same_by_value : (o o' : Outcome (List Tree)) → settled_outcome o ≡ settled_outcome o'
-    → Refines (AllZip (λ t u. IsTrue (is_equal t u))) (λ (_ : Error). ⊥) o o'
+same_by_value : (o o' : Outcome (List Tree)) → settled_outcome o ≡ settled_outcome o' → Refines (AllZip (λ t u. IsTrue (is_equal t u))) (λ (_ : Error). ⊥) o o'
 same_by_value (Ok ts) (Ok us) e = record { ok = same_lists ts us (cc); err = tt }
 same_by_value (Err a) (Err b) e = record { ok = tt; err = inr (sym e) }
 same_by_value _ _ e = cc
@@ -348,8 +344,7 @@ meant_back p None h = absurd h
 abbrev pub PrintsAs : (List Step → List Step → Type 0) → List Step → Type 0
 PrintsAs Same p = IsSomeAnd (json_path (path_text p)) (Same p)
 
-pub prints_with_meaning : (text : List ℕ) → IfSome (json_path text) (PrintsAs SameButVariants)
-    → IfSome (json_path text) (PrintsAs MeanTheSame)
+pub prints_with_meaning : (text : List ℕ) → IfSome (json_path text) (PrintsAs SameButVariants) → IfSome (json_path text) (PrintsAs MeanTheSame)
 prints_with_meaning input h = go (json_path input) h where
   go : (o : Option (List Step)) → IfSome o (PrintsAs SameButVariants) → IfSome o (PrintsAs MeanTheSame)
   go (Some p) h = meant_back p (json_path (path_text p)) h

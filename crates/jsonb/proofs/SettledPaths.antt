@@ -37,8 +37,7 @@ mutual
   one_expression : (e f : Expression) → SameExpressionBut SameVariant e f → settled e ≡ settled f
   one_expression (paths ss) (paths ts) h = ap paths (one_list ss ts h)
   one_expression (value l) (value m) h = ap value h
-  one_expression (binary op left right) (binary op' left' right') h =
-      rw (h.0, one_expression left left' h.1, one_expression right right' h.2) refl
+  one_expression (binary op left right) (binary op' left' right') h = rw (h.0, one_expression left left' h.1, one_expression right right' h.2) refl
   one_expression (unary op e) (unary op' f) h = rw (h.0, one_expression e f h.1) refl
   one_expression (exists ss) (exists ts) h = ap exists (one_list ss ts h)
   one_expression _ _ h = absurd h

@@ -2,7 +2,6 @@
 use Rattle.jsonb.proofs.Common.{◌≡◌, ℕ, ◌+◌, ◌<◌, ◌≤◌, List, [], ◌∷◌, ◌++◌, Ok, Err, OnOk, IfErr, IsOkAnd, refl, ap, ◌∙◌, inl, map, flat_map, append_assoc, length, get_or, set, take, drop, arith, map-append, take_all, take_more_set, drop-set-lt, Outcome, and_then, try_flat_map, Refines, IsOutOfMemory, IsStoredAs, Number, Tree, number_view, Error, InvalidJsonPath, StoredValue, all_numbers, signed_number, UnaryOp, paths, steps_of, steps_view, operand_values, start, steps_meaning, AllZip, IsNumberTree, IsNumberItem, taken_step, Value, value_of_item, values_of_item, Path, AreRefused, Mode}
 use Rattle.jsonb_doc.specs.declared.spot.content.StoredValue.TheVariants as stored
 use Rattle.jsonb_doc.specs.declared.number.Number.{Number as CodeNumber}
-use Rattle.jsonb.specs.Values.{number}
 use Rattle.jsonb.proofs.CalculateLemmas.{as_memory, number_added}
 use Rattle.jsonb.proofs.RefinesLemmas.{Is, related_of_map}
 use Rattle.jsonb.proofs.Progress.{Progress, at_start, one_more, refused_in, at_end, list_first, list_end}
@@ -10,18 +9,12 @@ use Rattle.jsonb.proofs.StepLemmas.{from_start}
 
 -- ---- the numbers of a list are those of its parts
 
-in_front : (n : Number) (o p : Outcome (List Number)) →
-    and_then (and_then o (λ front. and_then p (λ back. Ok (front ++ back)))) (λ ns. Ok (n ∷ ns))
-    ≡ and_then (and_then o (λ ns. Ok (n ∷ ns))) (λ front. and_then p (λ back. Ok (front ++ back)))
-in_front n o p = grind arith
-
 same_number : (o : Outcome (List Number)) → o ≡ and_then o (λ back. Ok ([] ++ back))
 same_number o = grind arith
 
 numbers-append : (xs ys : List Value) → all_numbers (xs ++ ys) ≡ and_then (all_numbers xs) (λ front. and_then (all_numbers ys) (λ back. Ok (front ++ back)))
 numbers-append [] ys = same_number (all_numbers ys)
-numbers-append (number n ∷ xs) ys = ap (λ o. and_then o (λ ns. Ok (n ∷ ns))) (numbers-append xs ys) ∙ in_front n (all_numbers xs) (all_numbers ys)
-numbers-append (v ∷ xs) ys = refl
+numbers-append (v ∷ xs) ys = grind (arith, numbers-append xs ys)
 
 pub numbers_of_parts : (g : Tree → List Value) (ts : List Tree) → all_numbers (flat_map g ts) ≡ try_flat_map (λ t. all_numbers (g t)) ts
 numbers_of_parts g [] = refl
@@ -70,8 +63,7 @@ module _ (op : UnaryOp) (xs : List CodeNumber) (i : ℕ) (d : CodeNumber) (outco
   one_signed v short is =
       let next : i < i + 1 = omega arith in
       rw (drop-set-lt (i + 1) xs i v next, take_more_set xs i v short)
-      (one_more {Done' = AllZip IsNumberItem (take i xs ++ v ∷ [])} done (list_first (Is number_view) xs i d short)
-      (λ n before same held. rw (← same)
+      (one_more {Done' = AllZip IsNumberItem (take i xs ++ v ∷ [])} done (list_first (Is number_view) xs i d short) (λ n before same held. rw (← same)
       (number_added (take i xs) (take i xs ++ v ∷ []) v (signed_number op (number_view (get_or xs i d))) before refl is held)))
 
   pub one_refused : {Q : Unit {0} → List Tree → Type 0} {e : Error} → i < length xs
@@ -81,8 +73,7 @@ module _ (op : UnaryOp) (xs : List CodeNumber) (i : ℕ) (d : CodeNumber) (outco
 
 pub all_signed : (op : UnaryOp) (xs : List CodeNumber) (i : ℕ) (outcome : Outcome (List Tree)) → SignedUntil op xs i outcome → length xs ≤ i
     → IsOkAnd outcome (AllZip IsNumberItem xs)
-all_signed op xs i outcome done end =
-    rw (take_all i xs end) at (at_end done (list_end (Is number_view) xs i end))
+all_signed op xs i outcome done end = rw (take_all i xs end) at (at_end done (list_end (Is number_view) xs i end))
 
 -- ---- what follows the values of an operand
 

@@ -8,7 +8,6 @@ pub view-binary : (op : BinaryOperator) (left right : Box CodeExpr Global) →
 view-binary op left right = ap expression_view (sym (rolls-BinaryOp op left right))
     ∙ fold-roll-Expr Expression Step expression_layer step_layer (Expr-F.BinaryOp op left right)
 
-pub view-unary : (op : UnaryOperator) (operand : Box CodeExpr Global) →
-    expression_view (UnaryOp op operand) ≡ unary op (expression_view operand.value)
+pub view-unary : (op : UnaryOperator) (operand : Box CodeExpr Global) → expression_view (UnaryOp op operand) ≡ unary op (expression_view operand.value)
 view-unary op operand = ap expression_view (sym (rolls-UnaryOp op operand))
     ∙ fold-roll-Expr Expression Step expression_layer step_layer (Expr-F.UnaryOp op operand)

@@ -1,5 +1,5 @@
 -- Paths that are one expression, and all others.
-use Rattle.jsonb.proofs.Common.{◌≡◌, List, [], ◌∷◌, map, Some, None, is_some, Option, true, false, Ok, refl, ap, sym, ◌∙◌, Box, Global, Outcome, and_then, Form, Tree, Step, Expression, steps_of, step_view, literal_view, steps_meaning, truth, filtered, as_filter, Means, step_expression, only_expression, is_relative, taken_step, AreFilters, Mode, PathValue, Expr, Path-F, roll-Path, roll-out-Path, Path, out-Path, arith}
+use Rattle.jsonb.proofs.Common.{◌≡◌, List, [], ◌∷◌, map, Some, None, is_some, Option, true, false, Ok, refl, ap, sym, ◌∙◌, Box, Global, Outcome, and_then, Form, Tree, Step, Expression, steps_of, step_view, steps_meaning, truth, filtered, as_filter, Means, step_expression, only_expression, is_relative, taken_step, AreFilters, Mode, Expr, Path-F, roll-Path, roll-out-Path, Path, out-Path, arith}
 use Rattle.jsonb.specs.PathTree as math
 use Rattle.jsonb.specs.declared.path.Path.TheVariants as step
 use Rattle.jsonb.proofs.PathNodes.{step_is}
@@ -31,10 +31,6 @@ module _ (form : Form) (mode : Mode) (top : Tree) (outcome : Outcome (List Tree)
   pub meant : (x y : Expression) → x ≡ y → Means form mode (math.whole_expression x ∷ []) top outcome
       → Means form mode (math.whole_expression y ∷ []) top outcome
   meant x y is h = rw is at h
-
-  pub literal_meant : (v w : PathValue) → v ≡ w → Means form mode (math.whole_expression (math.value (literal_view v)) ∷ []) top outcome
-      → Means form mode (math.whole_expression (math.value (literal_view w)) ∷ []) top outcome
-  literal_meant v w is h = rw is at h
 
 -- a filter of the root alone
 pub root_filtered : (mode : Mode) (path : List Step) (e : Expression) (top : Tree) → path ≡ math.root ∷ math.filter e ∷ []
