@@ -1,6 +1,4 @@
-use Rattle.jsonb_raw.proofs.Common.{refl, Decodes-array}
-use Rattle.jsonb_raw.proofs.RunLemmas.{entries_of_array}
-use Rattle.jsonb_doc.proofs.ReadItems.{array_root}
+use Rattle.jsonb_doc.proofs.ItemLemmas.{array_root}
 use Rattle.jsonb_raw.proofs.Lemmas.{refl, Decodes-array, entries_of_array}
 use Rattle.jsonb_doc.specs.declared.shape.Shape.TheVariants as shapes
 use Rattle.jsonb_raw.proofs.functions.entries.element_entries.Goals as goal
