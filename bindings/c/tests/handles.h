@@ -60,13 +60,14 @@ BY_TRUTH(match)
 BY_BYTES(keypath, get, PLACE, document, document_len)
 BY_BYTES(keypath, delete, PLACE, document, document_len)
 
-/* The value at a span, as a document: that of jdoc_get_by_keypath. */
+/* The value at a span, as a document: that of jdoc_get_by_keypath. If it is damaged, the buffer is left as by a call that fails. */
 static enum jdoc_status value_at(const jdoc_span *span, BYTES_IN_NAMED, BYTES_OUT_NAMED) {
     enum jdoc_status status = jdoc_span_document(document, document_len, span, out, size, out_len);
     if (status != JDOC_OK) return status;
     uint8_t kind = 99;
     status = jdoc_type(out, *out_len, &kind);
-    return status == JDOC_OK && kind != span->kind ? (enum jdoc_status)CHANGED_PATH : status;
+    if (status != JDOC_OK) return memset(out, FILL, *out_len), *out_len = 0, status;
+    return kind != span->kind ? (enum jdoc_status)CHANGED_PATH : status;
 }
 
 static enum jdoc_status jdoc_by_span PLACE {
