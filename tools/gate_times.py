@@ -1,6 +1,6 @@
 #!/usr/bin/env python3
-"""How long a gate took from scratch, from what .ci/run printed (LOG): the minutes of each crate's proof, of that of its tests, of each of
-its must-fail files, of tools/gate.py by the number of processors, and of bindings/test.sh, which runs at the same time as other tests.
+"""How long a gate took from scratch, from what .ci/run printed (LOG): the minutes of each crate's proof, of that of its tests, of each
+group of its mutants, of tools/gate.py by the number of processors, and of bindings/test.sh, which runs at the same time as other tests.
 tools/lanes.py begins with the longest chain of them.
 
     gate_times.py LOG             prints the figures

@@ -1,24 +1,28 @@
-#!/usr/bin/env python3
-"""Merges must-fail edits into files of many, so that one check tries them all.
+"""The files of mutants, and the groups of them that one check tries together.
 
-  group_edits.py [--most N] [NAME..]   in these crates, or in all
+A mutant that the prover tries has its own file in must-fail/, whose name says in words what the mutant does. A check takes most of its
+time before it comes to an edit, so tools/gate.py and tools/check_edits.py try groups: mutants of one source file first, then those of
+its folder. Mutants of one function, or of one cycle of calls, are in different groups. One outside of bodies, or in several, is tried
+alone.
 
-Each new edit is in its own file, whose name says in words what the mutant does. This program reads all edit files, splits
-groups, and writes new ones: edits of one source file first, then those of its folder. The words become a comment line
-before each edit of a group. Edits of one function, or of one cycle of calls, are in different files. An edit outside of
-bodies, or in several, has its own file.
+The mutants that a test rejects are in a file for each source file, with their words in a comment line before each.
 """
-import argparse
 import collections
 import os
 import re
 import sys
+import tempfile
+import threading
 from dataclasses import dataclass, field
+from pathlib import Path
 
 sys.dont_write_bytecode = True
 import edits
 
+# The most mutants of a group.
 MOST = 36
+# The words that can be the name of a file, which has an underscore for each space.
+WORDS = re.compile(r"[A-Za-z0-9][A-Za-z0-9 .-]*")
 
 
 @dataclass
@@ -29,11 +33,14 @@ class Edit:
     functions: list
 
     def keys(self):
-        """Returns what no other edit of its file may have: its function, and the cycle of that."""
+        """Returns what no other edit of its group may have: its function, and the cycle of that."""
         return {key for it in self.functions for key in ((it.module, it.name), it.cycle) if key}
 
     def can_be_grouped(self):
         return len(self.functions) == 1 and None not in self.functions
+
+    def file_name(self):
+        return re.sub(r"[^A-Za-z0-9.-]+", "_", self.words).strip("_") + ".edit"
 
 
 @dataclass
@@ -70,6 +77,9 @@ def read_edits(file, folder):
     return found
 
 
+# ---- groups
+
+
 def packed(groups, most, folder):
     """Returns these groups in as few as can be had by putting each into the first that takes it."""
     made = []
@@ -82,80 +92,68 @@ def packed(groups, most, folder):
     return made
 
 
-def grouped(found, most, folder):
-    """Returns the groups of a crate's edits: by source file, then by folder, then what is left."""
-    groups = [Group([it]) for it in sorted(found, key=lambda it: (it.path, it.words))]
+def grouped(found, folder, most=MOST):
+    """Returns the groups of a crate's edits: by source file, then by folder, then what is left, and alone those that can't be grouped."""
+    groups = [Group([it]) for it in sorted(found, key=lambda it: (it.path, it.words)) if it.can_be_grouped()]
     for place in (lambda path: path, os.path.dirname, lambda path: ""):
         by_place = collections.defaultdict(list)
         for it in groups:
             by_place[place(it.edits[0].path)].append(it)
         groups = [it for near in by_place.values() for it in packed(near, most, folder)]
-    return groups
+    return [*groups, *(Group([it]) for it in found if not it.can_be_grouped())]
 
 
-def name_of(group):
-    """Returns the source file or the folder that all edits of a group are in, as a name."""
-    paths = [it.path.removeprefix("src/").removesuffix(".rt") for it in group.edits]
-    place = os.path.commonpath(paths).replace("/", "_")
-    return place or "crate"
+class Groups:
+    """Writes the groups of crates to files, which are removed when the program ends. If names of files are given, others are left out."""
+
+    def __init__(self, names=()):
+        self.names, self.room, self.written, self.writing = {*names}, tempfile.TemporaryDirectory(prefix="mutants-"), {}, threading.Lock()
+
+    def files_of(self, crate, files):
+        """Returns the files of a crate's groups. `files` are those of must-fail/: one that can't be read is returned as it is."""
+        with self.writing:
+            if crate.folder not in self.written:
+                self.written[crate.folder] = self.write(crate, [it for it in files if not self.names or os.path.basename(it) in self.names])
+            return self.written[crate.folder]
+
+    def write(self, crate, files):
+        unread = [it for it in files if edits.read(it, crate.folder)[1]]
+        groups = grouped([edit for it in files if it not in unread for edit in read_edits(it, crate.folder)], crate.folder)
+        folder, written = tempfile.mkdtemp(dir=self.room.name), []
+        for number, group in enumerate(groups, 1):
+            written.append(f"{folder}/{group.edits[0].file_name() if len(group.edits) == 1 else f'group_{number}.edit'}")
+            Path(written[-1]).write_text(text_of(group.edits))
+        return [*written, *unread]
 
 
-def write_groups(folder, groups, alone):
-    numbers = collections.Counter()
-    files = {re.sub(r"\W+", "_", it.words) + ".edit": it.text for it in alone}
-    for group in groups:
-        if len(group.edits) == 1:
-            [edit] = group.edits
-            files[re.sub(r"\W+", "_", edit.words) + ".edit"] = edit.text
-        else:
-            name = name_of(group)
-            numbers[name] += 1
-            files[f"{name}_{numbers[name]}.edit"] = text_of(group.edits)
-    if len(files) != len(groups) + len(alone):
-        edits.stop(f"{folder}: two edits have the same words")
-    for name in os.listdir(folder):
-        if name.endswith(".edit"):
-            os.remove(f"{folder}/{name}")
-    for name, text in files.items():
-        with open(f"{folder}/{name}", "w", encoding="utf-8") as it:
-            it.write(text)
+# ---- files
 
 
-def write_edits(found, most, folder):
-    """Writes the must-fail edits of a crate, and returns the number of files."""
-    groups = grouped([it for it in found if it.can_be_grouped()], most, str(folder))
-    alone = [it for it in found if not it.can_be_grouped()]
-    write_groups(f"{folder}/{edits.TRIED}", groups, alone)
-    return len(groups) + len(alone)
+def replace_files(folder, texts):
+    """Writes the files of a folder's mutants, by their names, and removes its other ones. Files that don't change aren't written."""
+    for file in folder.glob("*.edit"):
+        if file.name not in texts:
+            file.unlink()
+    for name, text in texts.items():
+        folder.mkdir(exist_ok=True)
+        if not (folder / name).is_file() or (folder / name).read_text() != text:
+            (folder / name).write_text(text)
+
+
+def write_alone(found, folder):
+    """Writes mutants to a folder with a file for each."""
+    texts = {}
+    for it in found:
+        if not WORDS.fullmatch(it.words) or texts.setdefault(it.file_name(), it.text) != it.text:
+            edits.stop(f"{folder}: {it.words!r} must be letters, digits, spaces, dots and hyphens, and those of one mutant")
+    replace_files(folder, texts)
 
 
 def write_by_source(found, folder):
-    """Writes mutants that the prover does not try: a file for each source file."""
+    """Writes mutants to a folder with a file for each source file."""
     by_path = collections.defaultdict(list)
     for it in sorted(found, key=lambda it: it.words):
-        by_path[it.path].append(it)
-    for file in folder.glob("*.edit"):
-        file.unlink()
-    for path, its in by_path.items():
-        folder.mkdir(exist_ok=True)
-        (folder / f"{path.removeprefix('src/').removesuffix('.rt').replace('/', '_')}.edit").write_text(text_of(its))
-
-
-def main():
-    asked = argparse.ArgumentParser(description=__doc__, formatter_class=argparse.RawDescriptionHelpFormatter)
-    asked.add_argument("--most", type=int, default=MOST, help="how many edits a file may hold")
-    asked.add_argument("names", nargs="*", metavar="NAME")
-    asked = asked.parse_args()
-    crates, faults = edits.edits_below(os.getcwd(), asked.names)
-    for it in faults:
-        edits.say(it)
-    if faults:
-        edits.stop("nothing is written: mend what is named above")
-    for crate, files in crates:
-        found = [it for file in files for it in read_edits(file, crate.folder)]
-        if found:
-            print(f"{crate.name}: {len(found)} edits in {write_edits(found, asked.most, crate.folder)} files")
-
-
-if __name__ == "__main__":
-    main()
+        if it not in by_path[it.path]:
+            by_path[it.path].append(it)
+    name_of = lambda path: path.removeprefix("src/").removesuffix(".rt").replace("/", "_") + ".edit"
+    replace_files(folder, {name_of(path): text_of(its) for path, its in by_path.items()})

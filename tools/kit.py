@@ -262,15 +262,15 @@ def seed(crate):
     return room
 
 
-def try_edits(verdict, in_lanes, how):
+def try_edits(verdict, in_lanes, how, grouped):
     """Has rt try edits over the run's own proofs, and do its tasks by `in_lanes`.
 
     `verdict` gets a crate, an edit file, and a call that takes more words of the check, and returns what rt makes of it and what the prover
     said. It returns what the edit comes to. `how` is a sum of how edits are judged, so that what rt or an earlier judge passed is not taken
-    for it.
+    for it. `grouped` gets a crate and its edit files, and returns those that are tried in their place.
     """
     this_thread = threading.local()
-    checked, must_fail, seeded, of_edit = rt.checked, rt.must_fail, rt.seeded, rt.Kept.of_edit
+    checked, must_fail, seeded, of_edit, edits_of = rt.checked, rt.must_fail, rt.seeded, rt.Kept.of_edit, rt.edits_of
     add_edits = getattr(rt, "add_edits", None)
 
     def check(crate, texts, flags, kept):
@@ -295,7 +295,11 @@ def try_edits(verdict, in_lanes, how):
         start = None if start == OWN_PROOF else start
         return not start and seed(crate) or seeded(crate, flags, start)
 
-    rt.checked, rt.must_fail, rt.in_lanes, rt.add_edits, rt.seeded = check, judged, in_lanes, add, begun
+    def in_groups(crate):
+        good, bad = edits_of(crate)
+        return grouped(crate, good), bad
+
+    rt.checked, rt.must_fail, rt.in_lanes, rt.add_edits, rt.seeded, rt.edits_of = check, judged, in_lanes, add, begun, in_groups
     rt.Kept.of_edit = lambda kept, edit, sum: of_edit(kept, edit, f"{sum} {how}")
 
 

@@ -1,8 +1,8 @@
 #!/usr/bin/env python3
 """Tests .ci/run, with commands that do nothing in the place of those that it counts: it must fail if one of them fails, counts nothing,
 skips a test or is killed, and repeat the last lines of that command at the end; and the library of bindings/c is made by one
-command at a time. Tests which errors tools/gate.py repeats, how many tasks it does at a time, and in which order, and how it does
-those of an older kit.
+command at a time. Tests which errors tools/gate.py repeats, how many tasks it does at a time, and in which order, how it does
+those of an older kit, and that rt is given all mutants in few files.
 
     tools/test_gate.py        the last line is 'N passed, M failed'
 """
@@ -19,6 +19,8 @@ from types import SimpleNamespace
 
 sys.dont_write_bytecode = True
 import check_counts
+import check_edits
+import group_edits
 import kit
 import lanes
 import older_rt
@@ -225,6 +227,19 @@ def fault_of_no_change():
     return "" if found == [True, False] else f"expected an edit that changes nothing to be rejected alone, got {found}"
 
 
+def faults_of_groups():
+    """Yields what is wrong with the edit files that rt is given of each crate: they hold each mutant once, and the largest are full."""
+    crates = [it for it in kit.rt.rtlib.crates_below(str(TOP)) if kit.rt.edits_of(it)[0]]
+    alone = {it.name: kit.rt.edits_of(it)[0] for it in crates}
+    check_edits.judge_by_function()
+    for crate in crates:
+        files, bad = kit.rt.edits_of(crate)
+        found = [sorted(it.words for it in group_edits.read_edits(file, crate.folder)) for file in files]
+        expected = sorted(Path(it).stem.replace("_", " ") for it in alone[crate.name])
+        is_right = sorted(sum(found, [])) == expected and not bad and max(map(len, found)) >= min(len(expected), group_edits.MOST) / 2
+        yield "" if is_right else f"{crate.name}: {len(expected)} mutants are in groups of {[*map(len, found)]}"
+
+
 def faults():
     """Yields what is wrong in each case, and an empty text for each in which nothing is."""
     commands = check_counts.commands()
@@ -243,6 +258,7 @@ def faults():
     yield fault_of_chains()
     yield from (fault_of_older(*it) for it in OLDER)
     yield fault_of_no_change()
+    yield from faults_of_groups()
 
 
 def named(words, fault):

@@ -1,6 +1,7 @@
 #!/usr/bin/env python3
 """Tests tools/judge.py: a body that is right must not count as rejected, and a mutant must. Tests tools/witness.py: which witnesses take
-its place, and which mutants can have one. Tests tools/kit.py: what another kit lacks is noticed; tools/edits.py reads edits as rt does.
+its place, and which mutants can have one. Tests tools/group_edits.py: each mutant is in one group, apart from those of its function; and
+what tools/check_edits.py says of each. Tests tools/kit.py: what another kit lacks is noticed; tools/edits.py reads edits as rt does.
 
     tools/test_judge.py        the last line is 'N passed, M failed'
 
@@ -8,13 +9,16 @@ tools/judged.toml has edited functions, and what the prover said of each, cut to
 bodies that are right and count as rejected all the same: their proof names only what is still there, but no longer fits. Nothing
 in the output distinguishes these from mutants. Of a mutant of the repository the file has only what the prover said.
 """
+import re
 import sys
 import tempfile
 import tomllib
 from pathlib import Path
+from types import SimpleNamespace
 
 sys.dont_write_bytecode = True
 import check_counts
+import check_edits
 import edits
 import group_edits
 import judge
@@ -125,7 +129,7 @@ def can_have_test(pairs, folder=edits.TRIED, listed=""):
         file.parent.mkdir(parents=True)
         file.write_text(SOURCE)
         text = "file: src/short.rt\n" + "".join(f"old: {old}\nnew: {new}\n" for old, new in pairs)
-        mutant = witness.Mutant(crate, "broken", group_edits.Edit("broken", text, "src/short.rt", []), folder)
+        mutant = witness.Mutant(crate, "broken", group_edits.Edit("broken", text, "src/short.rt", []), folder, "broken.edit")
         determined, counted = ({f"{crate} tests::lengths": ""} if listed == part else {} for part in ("determined", "counted"))
         given = witness.Stated({crate: {mutant.words: f"{crate} tests::lengths: 9"}}, {}, determined, {}, counted)
         return not witness.fault_of(mutant, given, {crate: {"lengths"}}, top)
@@ -149,6 +153,76 @@ def is_noticed(name):
 SAME = "file: src/lib.rt\nold: #![tactic(auto)]\nnew: #![tactic(auto)]\n"
 
 
+# Files of mutants of SOURCE, and the words of the mutants in each group that they are tried in.
+IS_SHORT, IS_LONG = "old: len <= MOST\nnew: len < MOST\n", "old: !is_short(len)\nnew: is_short(len)\n"
+OTHERWISE = "old: len <= MOST\nnew: MOST <= len\n"
+OUTSIDE, REPEATED = "old: usize = 8\nnew: usize = 9\n", "old: !is_short(len)\nnew: !is_short(len) || len <= MOST\n"
+GROUPED = [
+    ({"less": IS_SHORT, "turned": IS_LONG}, [["less", "turned"]]),
+    ({"less": IS_SHORT, "more": OTHERWISE, "turned": IS_LONG}, [["less", "turned"], ["more"]]),
+    ({"one_more": OUTSIDE, "less": IS_SHORT}, [["less"], ["one more"]]),
+    ({"both": IS_SHORT + IS_LONG, "turned": IS_LONG}, [["turned"], ["both"]]),
+    # the second can't be applied to what the first makes
+    ({"both_are": REPEATED, "less": IS_SHORT}, [["both are"], ["less"]]),
+    ({"together": f"# less\nfile: src/short.rt\n{IS_SHORT}# turned\nfile: src/short.rt\n{IS_LONG}"}, [["less", "turned"]]),
+]
+# What the prover says of both functions of SOURCE, and the mutants that are not rejected then.
+OPEN, WELL = "`returns-clause`: did not prove", "proved"
+SAID = [((OPEN, OPEN), []), ((OPEN, WELL), ["turned.edit"]), ((WELL, OPEN), ["less.edit"]), ((OPEN, "not proved; it calls `low::short::is_short`"), ["turned.edit"])]
+
+
+def crate_with(room, files):
+    """Returns a crate low in a folder, with SOURCE and these files in must-fail/, and the paths of these."""
+    (room / "src").mkdir(parents=True)
+    (room / "src/short.rt").write_text(SOURCE)
+    (room / edits.TRIED).mkdir()
+    for name, pairs in files.items():
+        (room / edits.TRIED / f"{name}.edit").write_text(pairs if pairs.startswith("#") else f"file: src/short.rt\n{pairs}")
+    return SimpleNamespace(name="low", folder=str(room)), [str(it) for it in sorted((room / edits.TRIED).iterdir())]
+
+
+def words_in(files, crate):
+    return [[it.words for it in group_edits.read_edits(file, crate.folder)] for file in files]
+
+
+def fault_of_groups(files, expected):
+    """Returns what is wrong with the groups of these files, or an empty text."""
+    with tempfile.TemporaryDirectory() as room:
+        crate, paths = crate_with(Path(room), files)
+        groups = group_edits.Groups()
+        found = words_in(groups.files_of(crate, paths), crate)
+    return "" if found == expected else f"{[*files]}: expected the groups {expected}, got {found}"
+
+
+def fault_of_verdict(verdicts, expected):
+    """Returns what is wrong with which of two mutants are rejected if the prover says this of their functions, or an empty text."""
+    with tempfile.TemporaryDirectory() as room:
+        crate, paths = crate_with(Path(room), GROUPED[0][0])
+        groups = group_edits.Groups()
+        [group] = groups.files_of(crate, paths)
+        said = "".join(f"fn low::short::{name}: {it}\n" for name, it in zip(("is_short", "is_long"), verdicts))
+        kind, text = check_edits.verdict(crate, group, lambda words: ((kit.rt.REFUSED, ""), said))
+    named = [re.match(r"must-fail low/(\S+): (NOT )?", it) for it in text.splitlines()]
+    found, told = [it[1] for it in named if it and it[2]], [it[1] for it in named if it and not it[2]]
+    is_right = found == expected and (kind == kit.rt.REFUSED) == (not expected) and (expected or told == ["less.edit", "turned.edit"])
+    return "" if is_right else f"{verdicts}: expected {expected or 'both'}, got {kind}: {text}"
+
+
+def faults_of_groups():
+    """Yields what is wrong with the groups of the repository's mutants and of GROUPED, and with verdicts, and empty strings if nothing is."""
+    made = group_edits.Groups()
+    for crate in kit.rt.rtlib.crates_below(str(witness.TOP)):
+        files, _ = kit.rt.edits_of(crate)
+        one_each = [file for file, its in zip(files, words_in(files, crate)) if len(its) > 1]
+        groups = made.files_of(crate, files)
+        grouped = sorted(it for its in words_in(groups, crate) for it in its)
+        unread = [why for it in groups if (why := edits.read(it, crate.folder)[1])]
+        yield f"{crate.name}: {one_each} have several mutants" if one_each else ""
+        yield "" if grouped == sorted(it for its in words_in(files, crate) for it in its) and not unread else f"{crate.name}: groups lack a mutant, or repeat one: {unread}"
+    yield from (fault_of_groups(*it) for it in GROUPED)
+    yield from (fault_of_verdict(*it) for it in SAID)
+
+
 def read_otherwise():
     """Yields the edits that rt reads otherwise than tools/edits.py, of all in the repository and of some that can't be applied."""
     by_rt = kit.owned("rt", "edited") or edits.edited
@@ -166,6 +240,7 @@ def faults():
     for it in OF_OTHERS:
         yield "" if is_noticed(it) else f"{it} of another kit is not noticed"
     yield from read_otherwise()
+    yield from faults_of_groups()
     for text, wanted in WITNESSES:
         yield "" if witness.stated().is_determined(text) == wanted else f"{text}: {'not ' * wanted}determined"
     for pairs, wanted in SWITCHED:

@@ -5,7 +5,8 @@
   witness.py --run [NAME..]      the same, and runs the test that the file gives for each mutant, which must fail
   witness.py --write [NAME..]    runs all tests with the mutants that have none, and writes those that fail to the file; with --slow also
                                  tests that take long with each mutant
-  witness.py --sort              moves each mutant to the folder that it belongs to: mutants/, slower/ or must-fail/
+  witness.py --sort              moves each mutant to the folder that it belongs to, mutants/, slower/ or must-fail/, and there to its
+                                 file: in must-fail/ its own, elsewhere that of its source file
 
 NAME.. are the crates whose tests are run.
 
@@ -71,8 +72,9 @@ class Mutant:
     crate: str
     words: str
     edit: group_edits.Edit = field(compare=False)
-    # The folder that it is in.
+    # The folder and the file that it is in.
     kind: str = field(compare=False)
+    file: str = field(compare=False)
 
     def __str__(self):
         return f"{self.crate}: {self.words}"
@@ -83,7 +85,7 @@ def mutants(top):
     found = []
     for crate in check_counts.crate_names():
         for file in edits.files_of(top / "crates" / crate):
-            found += [Mutant(crate, it.words, it, file.parent.name) for it in group_edits.read_edits(file, top / "crates" / crate)]
+            found += [Mutant(crate, it.words, it, file.parent.name, file.name) for it in group_edits.read_edits(file, top / "crates" / crate)]
     return found
 
 
@@ -341,6 +343,8 @@ def fault_of(mutant, given, tests, top):
     folder = given.folder_of(mutant)
     if mutant.kind != folder and (mutant.kind != edits.TRIED or folder == edits.SLOWER):
         return f"{mutant}: belongs to {folder}/: tools/witness.py --sort"
+    if mutant.kind == edits.TRIED and mutant.file != mutant.edit.file_name():
+        return f"{mutant}: belongs to a file of its own, {mutant.edit.file_name()}, and not to {mutant.file}: tools/witness.py --sort"
     if witness:
         crate, name = crate_and_test(witness)
         return "" if name.rpartition("::")[2] in tests.get(crate, ()) else f"{mutant}: there is no test {name} of {crate}"
@@ -394,7 +398,7 @@ def sort(found):
         own = [it for it in found if it.crate == crate]
         in_folder = lambda kind: [it.edit for it in own if given.folder_of(it) == kind]
         tried, told, slower = map(in_folder, (edits.TRIED, edits.TOLD, edits.SLOWER))
-        group_edits.write_edits(tried, group_edits.MOST, folder)
+        group_edits.write_alone(tried, folder / edits.TRIED)
         group_edits.write_by_source(told, folder / edits.TOLD)
         group_edits.write_by_source(slower, folder / edits.SLOWER)
         print(f"{crate}: {len(tried)} in {edits.TRIED}/, {len(told)} in {edits.TOLD}/, {len(slower)} in {edits.SLOWER}/")
