@@ -55,6 +55,7 @@ in_c() {
     else
         echo "skipped: prepared paths under valgrind: there is no valgrind"
     fi
+    count "limits of the format" "$out/limits"
     count "header, as C" "$out/header_c"
     if [ -x "$out/header_cpp" ]; then
         count "header, as C++" "$out/header_cpp"

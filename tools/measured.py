@@ -28,7 +28,8 @@ COLUMNS = {
     "check": ["document", "check_ns", "copy_ns", "bytes"],
     "stack": ["call", "shape", "kib_10000", "kib_100000"],
     "stack_more": ["call", "shape", "kib_10000", "kib_100000"],
-    "c": ["call", "one_instructions", "prepared_instructions", "column_instructions", "one_ns", "prepared_ns", "column_ns"],
+    "c": ["call", "one_instructions", "prepared_instructions", "column_instructions", "loop_instructions", "one_ns", "prepared_ns",
+          "column_ns", "loop_ns"],
     "sqlite": ["query", "jdoc_298", "sqlite_298", "jdoc_4900", "sqlite_4900"],
     "postgres": ["query", "jdoc_us", "jsonb_us", "jdoc_instructions", "jsonb_instructions", "jdoc_4900", "jsonb_4900"],
     "python": ["call", "us"],
@@ -238,6 +239,17 @@ def c():
             + f"\n\nIn nanoseconds, `match` takes {match['one_ns']}, in a column {match['column_ns']}, and `check` {check['one_ns']}.")
 
 
+def loops():
+    """The calls compared with loops in C. Those on elements of an array have no column."""
+    cells = []
+    for row in read("c"):
+        if row["loop_instructions"]:
+            ours, loop = (int(row[it]) for it in ("column_instructions" if row["column_instructions"] else "prepared_instructions",
+                                                  "loop_instructions"))
+            cells.append([row["call"], f"{ours:,}", f"{loop:,}", quotient(ours, loop)])
+    return table(["Call", "This library", "Loop in C", "Ratio"], cells)
+
+
 def shown(rows, queries, *ratios):
     """The rows with these queries, and those with a slow one. A ratio is the columns of both sides."""
     is_slow = lambda row: any(float(row[ours]) >= SLOW * float(row[theirs]) for ours, theirs in ratios)
@@ -314,7 +326,8 @@ PAGES = {
     "docs/HACKING.md": {"gate": gate},
     "docs/C.md": {"c": c, "python": python},
     "docs/SQL.md": {"sqlite": sqlite, "postgres": postgres},
-    "docs/PERFORMANCE.md": {"classes": classes, "speed": lambda: speed(MORE_CASES), "growth": growth, "check": check},
+    "docs/PERFORMANCE.md": {"classes": classes, "speed": lambda: speed(MORE_CASES), "loops": loops, "growth": growth,
+                            "check": check},
     "docs/measured/slower.md": {"slower": slower},
     "docs/STACK.md": {"stack": lambda: stack("stack"), "stack, more": lambda: stack("stack_more")},
 }

@@ -1,13 +1,15 @@
 #!/usr/bin/env python3
-"""Measures the C library: calls with the path's text, with a prepared path, and as rows of a column.
+"""Measures the C library: calls with the path's text, with a prepared path, and as rows of a column; and loops in C without it.
 
   c.py [FOLDER]                    prints instructions per row, counted by callgrind, and nanoseconds of processor time per row
   c.py [FOLDER] --instructions     counts only instructions, which hardly depend on what else the machine does
-  c.py [FOLDER] --write ..         writes docs/measured/c.csv and the table of docs/C.md; times that were not measured are kept
+  c.py [FOLDER] --write ..         writes docs/measured/c.csv, and the tables of docs/C.md and docs/PERFORMANCE.md; times that were not
+                                   measured are kept
 
 `make bench` in bindings/c builds the programs in the folder, by default bindings/c/out: bench, and with Google Benchmark bench_times,
 whose times are the best of 15 repetitions. To count the instructions of a call, bench runs once on 500 rows and once on 1,500: the
-difference is that of 1,000 rows, without the cost of building them.
+difference is that of 1,000 rows, without the cost of building them. The rows of a filter are the elements of an array. loops.h in
+bindings/c has the loops.
 """
 
 import argparse
@@ -23,7 +25,6 @@ sys.path.append(os.path.join(HERE, "..", "..", "tools"))
 import measured
 
 FEW, MANY, TIMED = 500, 1500, 10_000
-FORMS = ("one", "prepared", "column")
 # The calls of bench.c whose names in docs/measured/c.csv differ.
 TITLES = {
     "no_condition": "`match`, `$.age`, not a predicate",
@@ -40,10 +41,8 @@ TITLES = {
     "key_wide": "`sort_key_wide`",
     "delete": "`delete_by_keypath`, `{note}`",
 }
-
-
-def title(call):
-    return TITLES.get(call, f"`{call}`")
+# The paths of those whose rows are the elements of an array.
+PATHS = r'^(FILTER|PREDICATE)\((\w+), "((?:[^"\\]|\\.)+)"'
 
 
 def counted(bench, *words):
@@ -57,19 +56,30 @@ def more_rows(bench, *words):
     return (counted(bench, MANY, *words) - counted(bench, FEW, *words)) / (MANY - FEW)
 
 
-def calls():
-    """Each call of bench.c, and whether it can have a prepared path."""
+def source():
     with open(os.path.join(C, "bench.c")) as file:
-        return {call: kind == "BY_PATH" for kind, call in re.findall(r"(NAMED|BY_PATH)\((\w+)\)[,}]", file.read())}
+        return file.read()
+
+
+def calls():
+    """Each call of bench.c, and its forms."""
+    forms = {"NAMED": ["one", "column"], "NAMED_LOOP": ["one", "column", "loop"], "BY_PATH": ["one", "prepared", "column"],
+             "BY_LOOP": ["one", "prepared", "column", "loop"], "IN_ARRAY": ["prepared", "loop"]}
+    return {call: forms[kind] for kind, call in re.findall(rf"^    ({'|'.join(forms)})\((\w+)\),$", source(), re.M)}
+
+
+def titles():
+    paths = {call: ("`match`, `" if kind == "PREDICATE" else "`") + path.replace('\\"', '"') + "`"
+             for kind, call, path in re.findall(PATHS, source(), re.M)}
+    return {call: TITLES.get(call) or paths.get(call, f"`{call}`") for call in calls()}
 
 
 def instructions(folder):
     """The instructions of each call and form, by the columns of the file."""
     bench = os.path.join(folder, "bench")
     nothing = more_rows(bench, "nothing")
-    for call, has_path in calls().items():
-        forms = [form for form in FORMS if has_path or form != "prepared"]
-        yield title(call), {f"{form}_instructions": f"{more_rows(bench, call, form) - nothing:.0f}" for form in forms}
+    for call, forms in calls().items():
+        yield call, {f"{form}_instructions": f"{more_rows(bench, call, form) - nothing:.0f}" for form in forms}
 
 
 def times(folder):
@@ -82,7 +92,7 @@ def times(folder):
             best[run["run_name"]] = min(run["cpu_time"], best.get(run["run_name"], run["cpu_time"]))
     for name, took in best.items():
         call, form = name.split("/")
-        yield title(call), {f"{form}_ns": f"{took * 1000 / TIMED:.0f}"}
+        yield call, {f"{form}_ns": f"{took * 1000 / TIMED:.0f}"}
 
 
 def main():
@@ -92,7 +102,7 @@ def main():
     parser.add_argument("--write", action="store_true")
     asked = parser.parse_args()
     rows = {row["call"]: row for row in measured.read("c")} if asked.write else {}
-    found = {title(call): {"call": title(call), **rows.get(title(call), {})} for call in calls()}
+    found = {call: {"call": title, **rows.get(title, {})} for call, title in titles().items()}
     for name, figures in [*instructions(asked.folder), *([] if asked.instructions else times(asked.folder))]:
         found[name].update(figures)
     measured.report("c", found.values(), asked.write)

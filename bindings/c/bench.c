@@ -1,7 +1,8 @@
 /* The calls that are measured: each on a column, and on one document after the other with the path's text or a prepared path. The
- * documents have about 200 bytes. */
+ * documents have about 200 bytes. Filters select of one array that has them as its elements. */
 #include "bench.h"
 #include "jdoc.h"
+#include "loops.h"
 
 #include <stdio.h>
 #include <stdlib.h>
@@ -10,9 +11,9 @@
 enum { FIELDS = 5 };
 #define TEXT(text) (text), sizeof(text) - 1
 
-static uint8_t *bytes;
+static uint8_t *bytes, *array;
 static uint64_t *offsets, *positions;
-static size_t rows, bytes_len, room;
+static size_t rows, bytes_len, array_len, room;
 static uint8_t *truths, *statuses, *out;
 static int64_t *numbers;
 static uint64_t sum;
@@ -62,6 +63,15 @@ static void make_column(size_t count) {
     offsets[0] = 0;
     for (size_t row = 0; row < rows; row++) at = put_document(at, row), offsets[row + 1] = (uint64_t)(at - bytes);
     bytes_len = offsets[rows];
+}
+
+static void make_array(void) {
+    array_len = 4 + 4 * rows + bytes_len;
+    array = malloc(array_len);
+    if (!array) exit(1);
+    uint8_t *at = put_word(array, 0x80000000 | (uint32_t)rows);
+    for (size_t row = 0; row < rows; row++) at = put_word(at, 0x50000000 | (uint32_t)(offsets[row + 1] - offsets[row]));
+    memcpy(at, bytes, bytes_len);
 }
 
 #define COLUMN bytes, bytes_len, offsets, rows + 1
@@ -135,33 +145,137 @@ static uint64_t *age_offsets;
 PAIR(to_i64, jdoc_column_to_i64(AGES, numbers, rows, FIXED), jdoc_to_i64(AGE, numbers + row))
 PAIR(to_str, jdoc_column_to_str(AGES, (char *)RUNS), jdoc_to_str(AGE, (char *)OUT))
 
+/* Loops in place of a call, one document after the other. */
+#define LOOP(name, of_row)                                                                                             \
+    static uint32_t name##_loop(void) {                                                                                \
+        size_t len = 0;                                                                                                \
+        for (size_t row = 0; row < rows; row++) {                                                                      \
+            struct value item = {CONTAINER_TYPE, bytes + offsets[row], offsets[row + 1] - offsets[row]}, member;       \
+            int64_t number;                                                                                            \
+            (void)member, (void)number;                                                                                \
+            of_row;                                                                                                    \
+            sum += len;                                                                                                \
+        }                                                                                                              \
+        return JDOC_OK;                                                                                                \
+    }
+LOOP(check, len = !is_container(item.content, item.len))
+LOOP(exists, truths[row] = has_member(&item, "age"))
+LOOP(exists_last, truths[row] = has_member(&item, "score"))
+LOOP(match, truths[row] = member_int(&item, "age", &number) && number < 50)
+LOOP(key, len = (size_t)(put_key(out, &item, 0) - out))
+LOOP(get, if (find_member(item.content, item.len, TEXT("age"), &member)) put_value(&member, OUT))
+
+/* Paths over the elements of the array, and loops in their place. The first ones select nothing, so that only filters are measured. */
+#define FILTER(name, text, condition)                                                                                  \
+    static uint32_t name##_prepared(void) {                                                                            \
+        jdoc_path path = {0};                                                                                          \
+        size_t len = 0;                                                                                                \
+        uint32_t status = jdoc_path_read(TEXT(text), &path);                                                           \
+        status |= jdoc_path_select_array(&path, array, array_len, false, OUT);                                         \
+        jdoc_path_free(&path);                                                                                         \
+        sum += word_at(out) & 0x1fffffff;                                                                              \
+        return status;                                                                                                 \
+    }                                                                                                                  \
+    static uint32_t name##_loop(void) {                                                                                \
+        struct elements left = elements_of(array, array_len);                                                          \
+        for (struct value item; next_element(&left, &item);) {                                                         \
+            int64_t age, score;                                                                                        \
+            (void)age, (void)score;                                                                                    \
+            if (condition) sum++;                                                                                      \
+        }                                                                                                              \
+        return JDOC_OK;                                                                                                \
+    }
+#define AGE_IS(condition)   (member_int(&item, "age", &age) && age condition)
+#define SCORE_IS(condition) (member_int(&item, "score", &score) && score condition)
+FILTER(filter_right, "$[*]?(@.age > 1000)", AGE_IS(> 1000))
+FILTER(filter_left, "$[*]?(1000 < @.age)", AGE_IS(> 1000))
+FILTER(filter_and, "$[*]?(@.age > 1000 && @.score > 7)", AGE_IS(> 1000) && SCORE_IS(> 7))
+FILTER(filter_or, "$[*]?(@.age > 1000 || @.score < 7)", AGE_IS(> 1000) || SCORE_IS(< 7))
+FILTER(filter_mixed, "$[*]?(@.age > 0 && @.score < 7 || @.age > 1000)",
+       (AGE_IS(> 0) && SCORE_IS(< 7)) || AGE_IS(> 1000))
+FILTER(filter_members, "$[*]?(@.age > @.score)",
+       member_int(&item, "age", &age) && member_int(&item, "score", &score) && age > score)
+FILTER(filter_exists, "$[*]?(exists(@.zz))", has_member(&item, "zz"))
+FILTER(filter_equal, "$[*]?(@.name == \"zz\")", member_begins(&item, "name", "zz", true))
+FILTER(filter_starts, "$[*]?(@.name starts with \"zz\")", member_begins(&item, "name", "zz", false))
+FILTER(filter_any, "$[*]?(@.* == 5000)", any_member_is(&item, 5000))
+
+/* Predicates over all elements, which are false, and loops in their place. */
+#define PREDICATE(name, text, condition)                                                                               \
+    static uint32_t name##_prepared(void) {                                                                            \
+        jdoc_path path = {0};                                                                                          \
+        uint32_t status = jdoc_path_read(TEXT(text), &path);                                                           \
+        status |= jdoc_path_match(&path, array, array_len, false, truths);                                             \
+        jdoc_path_free(&path);                                                                                         \
+        return status;                                                                                                 \
+    }                                                                                                                  \
+    static uint32_t name##_loop(void) {                                                                                \
+        struct elements left = elements_of(array, array_len);                                                          \
+        bool found = false;                                                                                            \
+        for (struct value item; !found && next_element(&left, &item);) {                                               \
+            int64_t age;                                                                                               \
+            found = condition;                                                                                         \
+        }                                                                                                              \
+        truths[0] = found;                                                                                             \
+        return JDOC_OK;                                                                                                \
+    }
+PREDICATE(match_any, "$[*].age > 1000", AGE_IS(> 1000))
+PREDICATE(match_either, "$[*].age > 1000 || $[*].age < 0", AGE_IS(> 1000) || AGE_IS(< 0))
+
 #define NAMED(name)                                                                                                    \
-    { #name, name##_column, name##_rows, NULL }
+    { #name, { name##_column, name##_rows } }
+#define NAMED_LOOP(name)                                                                                               \
+    { #name, { name##_column, name##_rows, NULL, name##_loop } }
 #define BY_PATH(name)                                                                                                  \
-    { #name, name##_column, name##_rows, name##_prepared }
+    { #name, { name##_column, name##_rows, name##_prepared } }
+#define BY_LOOP(name)                                                                                                  \
+    { #name, { name##_column, name##_rows, name##_prepared, name##_loop } }
+#define IN_ARRAY(name)                                                                                                 \
+    { #name, { NULL, NULL, name##_prepared, name##_loop } }
+const char *const bench_forms[BENCH_FORMS] = {"column", "one", "prepared", "loop"};
 const struct bench_call bench_calls[] = {
-    NAMED(check),
+    NAMED_LOOP(check),
     BY_PATH(no_condition),
-    BY_PATH(exists),
-    BY_PATH(exists_last),
-    BY_PATH(match),
+    BY_LOOP(exists),
+    BY_LOOP(exists_last),
+    BY_LOOP(match),
     NAMED(contains),
     NAMED(to_i64),
-    BY_PATH(get),
+    BY_LOOP(get),
     BY_PATH(select_first),
     BY_PATH(select_value),
     BY_PATH(select_array),
     NAMED(to_str),
-    NAMED(key),
+    NAMED_LOOP(key),
     NAMED(key_wide),
     NAMED(equality_key),
     BY_PATH(delete),
+    IN_ARRAY(filter_right),
+    IN_ARRAY(filter_left),
+    IN_ARRAY(filter_and),
+    IN_ARRAY(filter_or),
+    IN_ARRAY(filter_mixed),
+    IN_ARRAY(filter_members),
+    IN_ARRAY(filter_exists),
+    IN_ARRAY(filter_equal),
+    IN_ARRAY(filter_starts),
+    IN_ARRAY(filter_any),
+    IN_ARRAY(match_any),
+    IN_ARRAY(match_either),
 };
 const size_t bench_calls_len = sizeof bench_calls / sizeof *bench_calls;
+
+uint64_t bench_sum(void) {
+    uint64_t total = sum;
+    for (size_t row = 0; row < rows; row++) total += truths[row], truths[row] = 0;
+    sum = 0;
+    return total;
+}
 
 bool bench_start(size_t count) {
     jdoc_progress progress;
     make_column(count);
+    make_array();
     ages = malloc(rows * 32), age_offsets = malloc((rows + 1) * 8);
     return ages && age_offsets &&
            jdoc_column_get(COLUMN, TEXT("{age}"), ages, rows * 32, age_offsets, rows + 1, statuses, rows, &progress) == JDOC_OK;

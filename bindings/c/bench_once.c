@@ -1,28 +1,38 @@
 /* Makes calls of bench.c once on each row, for callgrind.
  *
- *   bench ROWS                            each call in each form
- *   bench ROWS CALL column|one|prepared   one of them; `nothing` is no call */
+ *   bench ROWS                                 each call in each form; fails if a loop returns something else than the call
+ *   bench ROWS CALL column|one|prepared|loop   one of them; `nothing` is no call */
 #include "bench.h"
 
+#include <stdio.h>
 #include <stdlib.h>
 #include <string.h>
 
-static bool runs(uint32_t (*call)(void)) { return call && call() <= 1; }
+static bool runs(const struct bench_call *it, int form) { return it->forms[form] && it->forms[form]() <= 1; }
 
-static bool run_form(const struct bench_call *it, const char *form) {
-    return runs(!strcmp(form, "one") ? it->one : !strcmp(form, "prepared") ? it->prepared : it->column);
+/* Runs each form of a call. A loop has to return the same as the form before it, or as the call on one document. */
+static bool run_forms(const struct bench_call *it) {
+    uint64_t sums[BENCH_FORMS] = {0};
+    for (int form = 0; form < BENCH_FORMS; form++) {
+        bench_sum();
+        if (it->forms[form] && !runs(it, form)) return false;
+        sums[form] = bench_sum();
+    }
+    if (!it->forms[3] || sums[it->forms[2] ? 2 : 1] == sums[3]) return true;
+    fprintf(stderr, "%s: the loop returns something else\n", it->name);
+    return false;
 }
 
 static bool run_all(void) {
     bool fine = true;
-    for (const struct bench_call *it = bench_calls; it < bench_calls + bench_calls_len; it++)
-        fine = runs(it->column) && runs(it->one) && (!it->prepared || runs(it->prepared)) && fine;
+    for (const struct bench_call *it = bench_calls; it < bench_calls + bench_calls_len; it++) fine = run_forms(it) && fine;
     return fine;
 }
 
 static bool run_named(const char *name, const char *form) {
     for (const struct bench_call *it = bench_calls; it < bench_calls + bench_calls_len; it++)
-        if (!strcmp(it->name, name)) return run_form(it, form);
+        for (int at = 0; at < BENCH_FORMS; at++)
+            if (!strcmp(it->name, name) && !strcmp(bench_forms[at], form)) return runs(it, at);
     return !strcmp(name, "nothing");
 }
 

@@ -1,4 +1,4 @@
-/* Times the calls of bench.c by Google Benchmark: a benchmark NAME/column, NAME/one or NAME/prepared for each. Times are those of 10,000
+/* Times the calls of bench.c by Google Benchmark: a benchmark NAME/FORM for each form of each. Times are those of 10,000
  * rows. The arguments are those of Google Benchmark, such as --benchmark_filter=match. */
 #include "bench.h"
 
@@ -26,9 +26,7 @@ int main(int argc, char **argv) {
     benchmark::Initialize(&argc, argv);
     if (benchmark::ReportUnrecognizedArguments(argc, argv) || !bench_start(ROWS)) return 1;
     for (const bench_call *it = bench_calls; it < bench_calls + bench_calls_len; it++) {
-        add(*it, "column", it->column);
-        add(*it, "one", it->one);
-        add(*it, "prepared", it->prepared);
+        for (int form = 0; form < BENCH_FORMS; form++) add(*it, bench_forms[form], it->forms[form]);
     }
     benchmark::RunSpecifiedBenchmarks();
     return 0;

@@ -32,8 +32,8 @@
  * calls malloc, realloc and free of the C library, whose blocks have to be aligned to 16 bytes. These do not allocate:
  * jdoc_version, jdoc_status_name, jdoc_check, jdoc_type, jdoc_len, jdoc_as_.., jdoc_find_str, jdoc_find_by_index,
  * jdoc_find_by_name, jdoc_span_document, jdoc_cursor_.., jdoc_items_find_next, jdoc_to_bool, jdoc_to_i64, jdoc_to_u64,
- * jdoc_contains, jdoc_compare, jdoc_array_overlap, jdoc_column_check, jdoc_column_contains, jdoc_column_to_i64. Most
- * functions use little stack at any depth; docs/STACK.md lists those that use more.
+ * jdoc_contains, jdoc_compare, jdoc_column_check, jdoc_column_contains, jdoc_column_to_i64. Most functions use little
+ * stack at any depth; docs/STACK.md lists those that use more.
  *
  * Errors of any function, which are not listed with each:
  *   JDOC_INVALID_JSONB       the bytes are not a document
@@ -366,7 +366,7 @@ JDOC_NODISCARD enum jdoc_status jdoc_array_intersection(const uint8_t *document,
 JDOC_NODISCARD enum jdoc_status jdoc_array_except(const uint8_t *document, size_t document_len, const uint8_t *other,
                                                   size_t other_len, uint8_t *out, size_t out_size, size_t *out_len);
 
-/* *truth: whether the intersection has an element. */
+/* *truth: whether the intersection has an element. Takes more time if an allocation fails, and returns the same. */
 JDOC_NODISCARD enum jdoc_status jdoc_array_overlap(const uint8_t *document, size_t document_len, const uint8_t *other,
                                                    size_t other_len, uint8_t *truth);
 
