@@ -50,7 +50,7 @@ pub use Rattle.jsonb_doc.specs.Private.EventParts.{IsPart, AreElements, HoldPart
 pub use Rattle.jsonb_doc.specs.Private.Fields.{IsValueEntry}
 pub use Rattle.jsonb_doc.specs.Private.Filling.{open_room, IsWhole, FillsTo, MakesWhole}
 pub use Rattle.jsonb_doc.specs.Private.Headers.{header_number}
-pub use Rattle.jsonb_doc.specs.Private.Lengths.{StandBefore, HoldKeys, IsNoneOf, FoundKey, KeysLeft, FindsKey}
+pub use Rattle.jsonb_doc.specs.Private.Lengths.{lengths_of, StandBefore, HoldKeys, IsNoneOf, FoundKey, KeysLeft, FindsKey, AreBelow, IsKeyPosition, IsFoundAt, IsBlockOf}
 pub use Rattle.jsonb_doc.specs.Private.ObjectBytes.{FitsEntry, words_of_entries, contents_of_entries, object_bytes, entry_parts, member, FitsMember}
 pub use Rattle.jsonb_doc.specs.Private.Parts.{tree_parts, parts, values_parts, entries_parts, waiting_parts, remaining}
 unfoldable pub use Rattle.jsonb_doc.specs.Private.Parts.{to_release}

@@ -1,6 +1,7 @@
 -- Entries are split into the first one and the others, and joined again; so are keys; contents are passed over by the lengths in their words.
-use Rattle.jsonb_doc.proofs.Common.{option_and_then, ◌≡◌, ℕ, ◌<◌, ◌≤◌, List, [], length, refl, ap, arith, Option, Some, None, true, false, if◌then◌else◌, ◌↔◌, inl, inr, length-append, Tree, null, boolean, number, text, extension, array, object, Trees, no_trees, tree, Pairs, no_pairs, pair, count, keys, NumberReader, Form, canonical, number_reader, number_payload, number_of, number_or_unsupported, bytes_eq, BeginWith, HasFirstEntry, IsContainer, AreMembers, array_header, object_header, scalar_header, IsDocument, IsContent, AreEntries, AreValues, HasContent, HasEntries, ◌^◌, ◌∷◌, ◌++◌, append_assoc, ⊤, AreKeys, IsBelowFirst, key_words, key_bytes, HasKeys, IsAbove, IsNextKey, zero, suc, ◌+◌, ◌/◌, ◌%◌, take, map, sum, Bor, IsGetRangeResult, drop_at, take-append-drop, sum_by-cons, between_to_end, IsSomeAnd, IfSome, w32, from_be_bytes, from_be_bytes-to_be_bytes_4, first_chunks, StandBefore, HoldKeys, common_steps}
+use Rattle.jsonb_doc.proofs.Common.{option_and_then, ◌≡◌, ℕ, ◌<◌, ◌≤◌, List, [], length, refl, ap, arith, Option, Some, None, true, false, if◌then◌else◌, ◌↔◌, inl, inr, length-append, Tree, null, boolean, number, text, extension, array, object, Trees, no_trees, tree, Pairs, no_pairs, pair, count, keys, NumberReader, Form, canonical, number_reader, number_payload, number_of, number_or_unsupported, bytes_eq, BeginWith, HasFirstEntry, IsContainer, AreMembers, array_header, object_header, scalar_header, IsDocument, IsContent, AreEntries, AreValues, HasContent, HasEntries, ◌^◌, ◌∷◌, ◌++◌, append_assoc, ⊤, AreKeys, IsBelowFirst, key_words, key_bytes, HasKeys, IsAbove, IsNextKey, zero, suc, ◌+◌, ◌/◌, ◌%◌, take, map, sum, Bor, IsGetRangeResult, drop_at, take-append-drop, sum_by-cons, between_to_end, IsSomeAnd, IfSome, w32, from_be_bytes, from_be_bytes-to_be_bytes_4, first_chunks, drop, sym, ◌∙◌, slice_index_or, ◌-◌, ◌*◌, drop-drop, drop-take, take-take, lengths_of, StandBefore, HoldKeys, common_steps}
 use Rattle.jsonb_doc.specs.Number.{Number}
+use Rattle.std.proofs.Math.Nat.{suc-mul}
 use Rattle.jsonb_doc.proofs.WordLemmas.{bytes_eq-true, bytes_eq-same, word_cancel, append_cancel}
 
 pub BeginWith-long : (words contents : List ℕ) (kind : ℕ) (content ws cs : List ℕ) → BeginWith words contents kind content ws cs → 4 ≤ length words
@@ -215,6 +216,80 @@ told_lengths [] words contents rest k count h = grind arith
 told_lengths (part ∷ parts) words contents rest zero count e = grind (arith, BeginWith-long)
 told_lengths (part ∷ parts) words contents rest (suc k) count e =
     grind (arith, common_steps, told_lengths parts e.other_words e.other_contents rest k, told_length, sum_by-cons, length-append)
+
+lengths_first : (n : ℕ) (words : List ℕ) → lengths_of (suc n) words ≡ told (take 4 words) + lengths_of n (drop 4 words)
+lengths_first n words = sum_by-cons (λ (x : ℕ). x) (told (take 4 words)) (map told (first_chunks 4 n (drop 4 words)))
+
+-- the lengths in the first words, and in those after them
+lengths_both : (n m : ℕ) (words : List ℕ) → lengths_of (n + m) words ≡ lengths_of n words + lengths_of m (drop (4 * n) words)
+lengths_both zero m words =
+    let none : 4 * 0 ≡ 0 = omega arith in
+    let left : 0 + m ≡ m = omega arith in
+    let zero : lengths_of 0 words ≡ 0 = refl in
+    omega (arith, zero, ap (λ (k : ℕ). lengths_of k words) left, ap (λ (k : ℕ). lengths_of m (drop k words)) none)
+lengths_both (suc n) m words =
+    let others : drop (4 * n) (drop 4 words) ≡ drop (4 * suc n) words = drop-drop (4 * n) 4 words ∙ ap (λ (k : ℕ). drop k words) (omega arith) in
+    let size : suc n + m ≡ suc (n + m) = omega arith in
+    omega (
+      arith,
+      ap (λ (k : ℕ). lengths_of k words) size,
+      lengths_first (n + m) words,
+      lengths_first n words,
+      lengths_both n m (drop 4 words),
+      ap (lengths_of m) others,
+    )
+
+lengths_within : (n k : ℕ) (words : List ℕ) → 4 * n ≤ k → lengths_of n (take k words) ≡ lengths_of n words
+lengths_within zero k words enough = refl
+lengths_within (suc n) k words enough =
+    let more : k ≡ 4 + (k - 4) = omega (arith, enough) in
+    let first : take 4 (take k words) ≡ take 4 words = take-take 4 k words (omega (arith, enough)) in
+    let others : drop 4 (take k words) ≡ take (k - 4) (drop 4 words) = ap (λ (m : ℕ). drop 4 (take m words)) more ∙ drop-take 4 (k - 4) words in
+    omega (
+      arith,
+      lengths_first n (take k words),
+      lengths_first n words,
+      ap told first,
+      ap (lengths_of n) others,
+      lengths_within n (k - 4) (drop 4 words) (omega (arith, enough)),
+    )
+
+-- the sums of groups of words make up that of all
+pub lengths_grouped : (n k : ℕ) (words : List ℕ) → sum (map (lengths_of n) (first_chunks (4 * n) k words)) ≡ lengths_of (k * n) words
+lengths_grouped n zero words = let none : 0 ≡ 0 * n = omega arith in ap (λ (m : ℕ). lengths_of m words) none
+lengths_grouped n (suc k) words =
+    let first = lengths_of n (take (4 * n) words) in
+    let size : suc k * n ≡ n + k * n = omega (arith, suc-mul k n) in
+    omega (
+      arith,
+      sum_by-cons (λ (x : ℕ). x) first (map (lengths_of n) (first_chunks (4 * n) k (drop (4 * n) words))),
+      lengths_within n (4 * n) words (omega arith),
+      lengths_grouped n k (drop (4 * n) words),
+      lengths_both n (k * n) words,
+      ap (λ (m : ℕ). lengths_of m words) size,
+    )
+
+-- what is left from a position on is the element there, and the others
+pub sum_left : {A : Type 0} (f : A → ℕ) (xs : List A) (i : ℕ) (or : A) → i < length xs
+    → sum (map f (drop i xs)) ≡ f (slice_index_or xs i or) + sum (map f (drop (i + 1) xs))
+sum_left f [] i or more = absurd (omega (arith, more))
+sum_left f (x ∷ xs) zero or more = sum_by-cons (λ (n : ℕ). n) (f x) (map f xs)
+sum_left f (x ∷ xs) (suc i) or more =
+    let size : suc (i + 1) ≡ suc i + 1 = omega arith in
+    sum_left f xs i or (omega (arith, more)) ∙ ap (λ (n : ℕ). f (slice_index_or xs i or) + sum (map f (drop n (x ∷ xs)))) size
+
+pub lengths_of_all : (groups : ℕ) (words others : List ℕ) → others ≡ drop (groups * 128) words → groups * 128 + length others ≡ length words
+    → sum (map (lengths_of 32) (first_chunks 128 groups words)) + lengths_of (length others / 4) others ≡ lengths_of (length words / 4) words
+lengths_of_all groups words others is all =
+    let count : length words / 4 ≡ groups * 32 + length others / 4 = omega (arith, all) in
+    let behind : drop (4 * (groups * 32)) words ≡ others = ap (λ (n : ℕ). drop n words) (omega arith) ∙ sym is in
+    omega (
+      arith,
+      lengths_grouped 32 groups words,
+      ap (λ (n : ℕ). lengths_of n words) count,
+      lengths_both (groups * 32) (length others / 4) words,
+      ap (lengths_of (length others / 4)) behind,
+    )
 
 -- without words nothing precedes the rest
 pub nothing_before : (parts : List (List ℕ)) (words contents rest : List ℕ) → length words ≡ 0 → StandBefore parts words contents rest → contents ≡ rest

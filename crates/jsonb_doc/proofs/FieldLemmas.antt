@@ -1,11 +1,12 @@
 -- The search for a key, one after the other and by blocks, and the value under it.
-use Rattle.jsonb_doc.proofs.Common.{◌≡◌, ◌≢◌, ℕ, zero, suc, ◌+◌, ◌-◌, ◌*◌, ◌<◌, ◌≤◌, List, [], ◌∷◌, ◌++◌, length, length-drop, take, drop, slice_index_or, refl, sym, ap, ◌∙◌, arith, Some, None, Bool, false, append_assoc, length-append, append-nil, drop-drop, drop_at, take_at, length-take-le, first_chunks, bytes_eq, Decides, slice_range, Tree, object, Pairs, no_pairs, pair, keys, value_under, field_of, NumberReader, Form, any, number_reader, Decodes, header, entry_word, BeginWith, AreValues, IsContent, key_words, key_bytes, StandBefore, HoldKeys, IsNoneOf, FoundKey, KeysLeft, SameOption, Locates, spot_content, kind_number, Spot, Holds, IsCut, HasPairParts, IsValueEntry, ObjectParts, Entry, Object, ◌⊎◌, inl, inr, Option, Result, Ok, Err, Bor, IsGetRangeResult, IsSomeAnd, IsOkAnd, ordering_reverse, slice_cmp, cases_lt, nat_list_cmp_total, drop_all, take-append-drop, AreKeys, IsBelowFirst, FindsKey, Error}
+use Rattle.jsonb_doc.proofs.Common.{◌≡◌, ◌≢◌, ℕ, zero, suc, ◌+◌, ◌-◌, ◌*◌, ◌<◌, ◌≤◌, List, [], ◌∷◌, ◌++◌, length, length-drop, take, drop, slice_index_or, refl, sym, ap, ◌∙◌, arith, Some, None, Bool, false, append_assoc, length-append, append-nil, drop-drop, drop_at, take_at, length-take-le, first_chunks, bytes_eq, Decides, slice_range, Tree, object, Pairs, no_pairs, pair, keys, value_under, field_of, NumberReader, Form, any, number_reader, Decodes, header, entry_word, BeginWith, AreValues, IsContent, key_words, key_bytes, StandBefore, HoldKeys, IsNoneOf, FoundKey, KeysLeft, SameOption, Locates, spot_content, kind_number, Spot, Holds, IsCut, HasPairParts, IsValueEntry, ObjectParts, Entry, Object, ◌⊎◌, inl, inr, Option, Result, Ok, Err, Bor, IsGetRangeResult, IsSomeAnd, IsOkAnd, Ordering, Less, Equal, Greater, AreBelow, IsBlockOf, IsKeyPosition, IsFoundAt, ◌/◌, ordering_reverse, slice_cmp, cases_lt, nat_list_cmp_total, drop_all, take-append-drop, AreKeys, IsBelowFirst, FindsKey, Error}
 use Rattle.jsonb_doc.proofs.WordLemmas.{bytes_eq-true, bytes_eq-same}
 use Rattle.jsonb_doc.proofs.Entries.{BeginWith-long, BeginWith-unique, begin_key, told, told_length, StandBefore-joined, HoldKeys-before, keys_before, IsPart-some}
 use Rattle.jsonb_doc.proofs.ScalarLemmas.{some_injective}
 use Rattle.jsonb_doc.proofs.Containers.{length-key_words, HoldsPairs-keys}
 use Rattle.jsonb_doc.proofs.SpotsLemmas.{Locates-part, some_field, object_held, object_joined}
-use Rattle.std.specs.declared.cmp.Ordering.TheVariants.{Less}
+use Rattle.jsonb_doc.proofs.ObjectLemmas.{equal_key, above}
+use Rattle.jsonb_doc.specs.declared.key_search.KeyPosition.TheVariants.{Found, Missing}
 use Rattle.std.specs.Ordering.{nat_cmp}
 use Rattle.jsonb_doc.proofs.Basics.{below_next}
 
@@ -15,10 +16,12 @@ IsNoneOf-append : (name key : List ℕ) (front : List (List ℕ)) → IsNoneOf n
 IsNoneOf-append name key [] h other = (other, tt)
 IsNoneOf-append name key (k ∷ front) h other = (h.0, IsNoneOf-append name key front h.1 other)
 
-pub KeysLeft-start : (name : List ℕ) (ks : List (List ℕ)) (rest words bytes : List ℕ) → HoldKeys ks words bytes rest → KeysLeft name ks rest words bytes
-KeysLeft-start name ks rest words bytes h = record { front = []; back = ks; joined = refl; first = tt; behind = h }
+abbrev pub KeysLeft-start : (P : List (List ℕ) → Type 0) (ks : List (List ℕ)) (rest words bytes : List ℕ) → P [] → HoldKeys ks words bytes rest
+    → KeysLeft P ks rest words bytes
+KeysLeft-start P ks rest words bytes none h = record { front = []; back = ks; joined = refl; first = none; behind = h }
 
-pub KeysLeft-end : (name : List ℕ) (ks : List (List ℕ)) (rest words bytes : List ℕ) → length words < 4 → KeysLeft name ks rest words bytes → IsNoneOf name ks
+pub KeysLeft-end : (name : List ℕ) (ks : List (List ℕ)) (rest words bytes : List ℕ) → length words < 4 → KeysLeft (IsNoneOf name) ks rest words bytes
+    → IsNoneOf name ks
 KeysLeft-end name ks rest words bytes none l = go l.back l.joined l.behind
   where
     go : (back : List (List ℕ)) → ks ≡ l.front ++ back → HoldKeys back words bytes rest → IsNoneOf name ks
@@ -34,18 +37,19 @@ module _ (words bytes : List ℕ) (kind : ℕ) (key ws bs : List ℕ) (b : Begin
       let same = BeginWith-unique _ _ _ _ _ _ _ _ _ _ b (begin_key words bytes rest first others h.are_keys.0.1 h.words_joined h.bytes_joined) in
       (others, ap (λ (k : List ℕ). k ∷ others) (sym same.1), record { are_keys = h.are_keys.2; words_joined = same.2; bytes_joined = same.3 })
 
-  pub KeysLeft-step : (name : List ℕ) (ks : List (List ℕ)) (rest : List ℕ) → key ≢ name → KeysLeft name ks rest words bytes → KeysLeft name ks rest ws bs
-  KeysLeft-step name ks rest other l =
+  pub KeysLeft-step : (P : List (List ℕ) → Type 0) (ks : List (List ℕ)) (rest : List ℕ) (l : KeysLeft P ks rest words bytes) → P (l.front ++ key ∷ [])
+      → KeysLeft P ks rest ws bs
+  KeysLeft-step P ks rest l more =
       let (others, is, holds) = first_key l.back rest l.behind in
       record {
         front = l.front ++ key ∷ [];
         back = others;
         joined = l.joined ∙ ap (λ (k : List (List ℕ)). l.front ++ k) is ∙ sym (append_assoc l.front (key ∷ []) others);
-        first = IsNoneOf-append name key l.front l.first other;
+        first = more;
         behind = holds;
       }
 
-  pub KeysLeft-found : (name : List ℕ) (ks : List (List ℕ)) (rest : List ℕ) → key ≡ name → KeysLeft name ks rest words bytes → FoundKey name ks rest ws bs
+  pub KeysLeft-found : (name : List ℕ) (ks : List (List ℕ)) (rest : List ℕ) → key ≡ name → KeysLeft (IsNoneOf name) ks rest words bytes → FoundKey name ks rest ws bs
   KeysLeft-found name ks rest h e = grind (arith, first_key)
 
 pub is_other : {r : Bool} {P : Type 0} → Decides r P → r ≡ false → P → ⊥
@@ -70,7 +74,7 @@ record FirstKey (words bytes : List ℕ) : Type 0 where
   pub long : told (take 4 words) ≡ length key
   pub within : length key ≤ length bytes
 
-first_of : (name : List ℕ) (ks : List (List ℕ)) (rest words bytes : List ℕ) → KeysLeft name ks rest words bytes → 4 ≤ length words → FirstKey words bytes
+first_of : (name : List ℕ) (ks : List (List ℕ)) (rest words bytes : List ℕ) → KeysLeft (IsNoneOf name) ks rest words bytes → 4 ≤ length words → FirstKey words bytes
 first_of name ks rest words bytes l some = go l.back l.behind
   where
     go : (back : List (List ℕ)) → HoldKeys back words bytes rest → FirstKey words bytes
@@ -88,7 +92,7 @@ first_of name ks rest words bytes l some = go l.back l.behind
         }
 
 module _ (name : List ℕ) (ks : List (List ℕ)) (rest words bytes : List ℕ) (at end len : ℕ)
-    (l : KeysLeft name ks rest (drop (4 * at) words) (drop end bytes)) (some : 4 * at + 4 ≤ length words) (before : end ≤ length bytes)
+    (l : KeysLeft (IsNoneOf name) ks rest (drop (4 * at) words) (drop end bytes)) (some : 4 * at + 4 ≤ length words) (before : end ≤ length bytes)
     (is : len ≡ told (take 4 (drop (4 * at) words))) where
   first : FirstKey (drop (4 * at) words) (drop end bytes)
   first = first_of name ks rest (drop (4 * at) words) (drop end bytes) l (omega (arith, some, length-drop (4 * at) words))
@@ -111,10 +115,11 @@ module _ (name : List ℕ) (ks : List (List ℕ)) (rest words bytes : List ℕ) 
   pub key_differs : len ≢ length name → take len (drop end bytes) ≢ name
   key_differs h = grind (arith, length-take-le, key_within, length-drop)
 
-  pub key_passed : take len (drop end bytes) ≢ name → KeysLeft name ks rest (drop (4 * (at + 1)) words) (drop (end + len) bytes)
+  pub key_passed : take len (drop end bytes) ≢ name → KeysLeft (IsNoneOf name) ks rest (drop (4 * (at + 1)) words) (drop (end + len) bytes)
   key_passed other =
       rw (← words_behind, ← bytes_behind)
-      (KeysLeft-step _ _ _ _ _ _ first.begin name ks rest (λ (e : first.key ≡ name). other (same_key ∙ e)) l)
+      (KeysLeft-step _ _ _ _ _ _ first.begin (IsNoneOf name) ks rest l
+      (IsNoneOf-append name first.key l.front l.first (λ (e : first.key ≡ name). other (same_key ∙ e))))
 
   pub key_found : take len (drop end bytes) ≡ name → FoundKey name ks rest (drop (4 * (at + 1)) words) (drop (end + len) bytes)
   key_found e = search (arith, words_behind, bytes_behind, KeysLeft-found _ _ _ _ _ _ first.begin name ks rest (sym same_key ∙ e) l)
@@ -304,12 +309,27 @@ below_later low zero ks key back are below is = grind arith
 below_later low (suc n) [] key back are below is = absurd (cc is)
 below_later low (suc n) (k ∷ ks) key back are below is = below_later low n ks key back are.2 (below_next low k ks below are.1) is
 
--- a name that is not below a key is none of the keys before it
-not_before : (name : List ℕ) (n : ℕ) (ks : List (List ℕ)) (key : List ℕ) (back : List (List ℕ)) → AreKeys ks → drop n ks ≡ key ∷ back
-    → slice_cmp nat_cmp name key ≢ Less → IsNoneOf name (take n ks)
-not_before name zero ks key back are is other = tt
-not_before name (suc n) [] key back are is other = tt
-not_before name (suc n) (k ∷ ks) key back are is other = grind (arith, not_before name n ks key back are.2 is other, below_later)
+-- a key below one that the name is not below is below the name
+below_name : (low key name : List ℕ) → slice_cmp nat_cmp low key ≡ Less → slice_cmp nat_cmp name key ≢ Less → slice_cmp nat_cmp low name ≡ Less
+below_name low key name less other = by (slice_cmp nat_cmp name key) refl
+  where
+    by : (o : Ordering) → slice_cmp nat_cmp name key ≡ o → slice_cmp nat_cmp low name ≡ Less
+    by o is = grind (arith, nat_list_cmp_total)
+
+-- if a name is not below a key, those before the key are below the name
+below_before : (name : List ℕ) (n : ℕ) (ks : List (List ℕ)) (key : List ℕ) (back : List (List ℕ)) → AreKeys ks → drop n ks ≡ key ∷ back
+    → slice_cmp nat_cmp name key ≢ Less → AreBelow name (take n ks)
+below_before name zero ks key back are is other = tt
+below_before name (suc n) [] key back are is other = tt
+below_before name (suc n) (k ∷ ks) key back are is other = grind (arith, below_before name n ks key back are.2 is other, below_later, below_name)
+
+pub AreBelow-both : (name : List ℕ) (front back : List (List ℕ)) → AreBelow name front → AreBelow name back → AreBelow name (front ++ back)
+AreBelow-both name [] back below others = others
+AreBelow-both name (key ∷ front) back below others = (below.0, AreBelow-both name front back below.1 others)
+
+none_below : (name : List ℕ) (ks : List (List ℕ)) → AreBelow name ks → IsNoneOf name ks
+none_below name [] below = tt
+none_below name (key ∷ ks) below = (λ e. differs key name below.0 (sym e), none_below name ks below.1)
 
 -- ---- words and bytes of a block
 
@@ -376,8 +396,8 @@ module _ (n : ℕ) (ks : List (List ℕ)) (words bytes rest : List ℕ) (h : Hol
             below_all name (drop n ks) (AreKeys-drop n ks h.are_keys) (rw is less)
 
         -- the name is above the keys of the block
-        pub block_skipped : slice_cmp nat_cmp name key ≢ Less → KeysLeft name ks rest other_words other_bytes
-        block_skipped other = search (arith, first_key other_words other_bytes kind key ws cs b (drop n ks) rest others, take-append-drop, not_before, others)
+        pub block_skipped : slice_cmp nat_cmp name key ≢ Less → KeysLeft (AreBelow name) ks rest other_words other_bytes
+        block_skipped other = search (arith, first_key other_words other_bytes kind key ws cs b (drop n ks) rest others, take-append-drop, below_before, others)
 
 -- ---- the block that a name would be in
 
@@ -393,23 +413,39 @@ IsNoneOf-all name (suc n) [] back enough first others = absurd (omega (arith, en
 IsNoneOf-all name (suc n) (key ∷ front) back enough first others = (first.0, IsNoneOf-all name n front back (omega (arith, enough)) first.1 others)
 
 -- keys that are left after keys that are left
-pub KeysLeft-further : (name : List ℕ) (ks : List (List ℕ)) (rest words bytes other_words other_bytes : List ℕ) (l : KeysLeft name ks rest words bytes)
-    → KeysLeft name l.back rest other_words other_bytes → KeysLeft name ks rest other_words other_bytes
-KeysLeft-further name ks rest words bytes other_words other_bytes l h = grind (arith, append_assoc, IsNoneOf-both)
+abbrev pub KeysLeft-further : (name : List ℕ) (ks : List (List ℕ)) (rest words bytes other_words other_bytes : List ℕ)
+    (l : KeysLeft (AreBelow name) ks rest words bytes) → KeysLeft (AreBelow name) l.back rest other_words other_bytes
+    → KeysLeft (AreBelow name) ks rest other_words other_bytes
+KeysLeft-further name ks rest words bytes other_words other_bytes l h = record {
+  front = l.front ++ h.front;
+  back = h.back;
+  joined = l.joined ∙ ap (λ (k : List (List ℕ)). l.front ++ k) h.joined ∙ sym (append_assoc l.front h.front h.back);
+  first = AreBelow-both name l.front h.front l.first h.first;
+  behind = h.behind;
+}
+
+pub block_among : (name : List ℕ) (n : ℕ) (ks : List (List ℕ)) (rest words bytes : List ℕ) (l : KeysLeft (AreBelow name) ks rest words bytes)
+    (r : Result (Bor (List ℕ) × Bor (List ℕ)) Error) → IsOkAnd r (λ b. IsBlockOf n name l.back rest b.0.now b.1.now)
+    → IsOkAnd r (λ b. IsBlockOf n name ks rest b.0.now b.1.now)
+block_among name n ks rest words bytes l (Ok b) h = record {
+  left = KeysLeft-further name ks rest words bytes b.0.now b.1.now l h.left;
+  others = h.others;
+}
+block_among name n ks rest words bytes l (Err e) h = absurd h
 
 -- what is found among the keys that are left is found among all
-found_left : (name : List ℕ) (ks : List (List ℕ)) (rest words bytes : List ℕ) (l : KeysLeft name ks rest words bytes)
+found_left : (name : List ℕ) (ks : List (List ℕ)) (rest words bytes : List ℕ) (l : KeysLeft (AreBelow name) ks rest words bytes)
     (found : Option (Bor (List ℕ) × Bor (List ℕ))) → FindsKey name l.back rest found → FindsKey name ks rest found
-found_left name ks rest words bytes l None none = rw l.joined (IsNoneOf-both name l.front l.back l.first none)
+found_left name ks rest words bytes l None none = rw l.joined (IsNoneOf-both name l.front l.back (none_below name l.front l.first) none)
 found_left name ks rest words bytes l (Some r) f = record {
   front = l.front ++ f.front;
   back = f.back;
   joined = l.joined ∙ ap (λ (k : List (List ℕ)). l.front ++ k) f.joined ∙ sym (append_assoc l.front f.front (name ∷ f.back));
-  first = IsNoneOf-both name l.front f.front l.first f.first;
+  first = IsNoneOf-both name l.front f.front (none_below name l.front l.first) f.first;
   behind = f.behind;
 }
 
-pub found_among : (name : List ℕ) (ks : List (List ℕ)) (rest words bytes : List ℕ) (l : KeysLeft name ks rest words bytes)
+pub found_among : (name : List ℕ) (ks : List (List ℕ)) (rest words bytes : List ℕ) (l : KeysLeft (AreBelow name) ks rest words bytes)
     (r : Result (Option (Bor (List ℕ) × Bor (List ℕ))) Error) → IsOkAnd r (λ found. FindsKey name l.back rest found)
     → IsOkAnd r (λ found. FindsKey name ks rest found)
 found_among name ks rest words bytes l (Ok found) h = found_left name ks rest words bytes l found h
@@ -417,7 +453,7 @@ found_among name ks rest words bytes l (Err e) h = absurd h
 
 -- a whole block was searched, or all keys
 pub block_searched : (name : List ℕ) (n at : ℕ) (ks : List (List ℕ)) (words bytes rest other_bytes : List ℕ) → HoldKeys ks words bytes rest
-    → KeysLeft name ks rest (drop (4 * at) words) other_bytes → IsNoneOf name (drop n ks) → (4 * at + 4 ≤ length words → n ≤ at) → IsNoneOf name ks
+    → KeysLeft (IsNoneOf name) ks rest (drop (4 * at) words) other_bytes → IsNoneOf name (drop n ks) → (4 * at + 4 ≤ length words → n ≤ at) → IsNoneOf name ks
 block_searched name n at ks words bytes rest other_bytes h l others whole = by (cases_lt (length words) (4 * at + 4))
   where
     by : (length words < 4 * at + 4) ⊎ (4 * at + 4 ≤ length words) → IsNoneOf name ks
@@ -428,3 +464,55 @@ block_searched name n at ks words bytes rest other_bytes h l others whole = by (
         let enough : n ≤ length l.front =
         omega (arith, whole more, all, left, length-drop (4 * at) words, ap length l.joined, length-append l.front l.back, more) in
         rw l.joined (IsNoneOf-all name n l.front l.back enough l.first (rw (← l.joined) others))
+
+-- ---- the position of a name
+
+pub found_at : (name : List ℕ) (ks : List (List ℕ)) (words bytes rest others other_bytes : List ℕ) → HoldKeys ks words bytes rest
+    → FoundKey name ks rest others other_bytes → IsFoundAt name ks (Some ((length words - length others) / 4 - 1))
+found_at name ks words bytes rest others other_bytes h f =
+    let count : (length words - length others) / 4 - 1 ≡ length f.front =
+    omega (
+      arith,
+      ap length h.words_joined ∙ length-key_words ks,
+      ap length f.behind.words_joined ∙ length-key_words f.back,
+      ap length f.joined,
+      length-append f.front (name ∷ f.back),
+    ) in
+    (f.front, f.back, count, f.joined, f.first)
+
+module _ (name : List ℕ) (ks : List (List ℕ)) (words bytes rest left left_bytes : List ℕ) (h : HoldKeys ks words bytes rest)
+    (l : KeysLeft (AreBelow name) ks rest left left_bytes) where
+  -- the number of keys before those that are left
+  passed : (length words - length left) / 4 ≡ length l.front
+  passed =
+      omega (
+        arith,
+        ap length h.words_joined ∙ length-key_words ks,
+        ap length l.behind.words_joined ∙ length-key_words l.back,
+        ap length l.joined,
+        length-append l.front l.back,
+      )
+
+  module _ (kind : ℕ) (key ws bs : List ℕ) (b : BeginWith left left_bytes kind key ws bs) where
+    pub position_after : slice_cmp nat_cmp key name ≡ Less → KeysLeft (AreBelow name) ks rest ws bs
+    position_after less =
+        KeysLeft-step _ _ _ _ _ _ b (AreBelow name) ks rest l (AreBelow-both name l.front (key ∷ []) l.first (less, tt))
+
+    pub position_found : slice_cmp nat_cmp key name ≡ Equal → IsKeyPosition name ks (Found ((length words - length left) / 4))
+    position_found equal =
+        let (others, is, holds) = first_key left left_bytes kind key ws bs b l.back rest l.behind in
+        let same = ap (λ (k : List ℕ). l.front ++ k ∷ others) (bytes_eq-true key name (equal_key key name equal)) in
+        (l.front, others, passed, l.joined ∙ ap (λ (k : List (List ℕ)). l.front ++ k) is ∙ same, l.first)
+
+    pub position_missing : slice_cmp nat_cmp key name ≡ Greater → IsKeyPosition name ks (Missing ((length words - length left) / 4))
+    position_missing greater =
+        let (others, is, holds) = first_key left left_bytes kind key ws bs b l.back rest l.behind in
+        (l.front, l.back, passed, l.joined, l.first, rw is (above key name greater))
+
+  pub position_last : ((kind : ℕ) (key ws bs : List ℕ) → BeginWith left left_bytes kind key ws bs → ⊥)
+      → IsKeyPosition name ks (Missing ((length words - length left) / 4))
+  position_last none = (l.front, l.back, passed, l.joined, l.first, go l.back l.behind)
+    where
+      go : (back : List (List ℕ)) → HoldKeys back left left_bytes rest → IsBelowFirst name back
+      go [] holds = tt
+      go (key ∷ back) holds = absurd (none 1 key _ _ (begin_key left left_bytes rest key back holds.are_keys.0.1 holds.words_joined holds.bytes_joined))

@@ -4,6 +4,7 @@ ghost use Rattle.std.specs.Prelude.{◌≡◌, ◌^◌, ◌<◌, ◌≤◌, ◌-
 
 use crate::entry_iter::StoredEntry;
 use crate::error::Error;
+use crate::key_search::{KeyPosition, find_key, key_position};
 use crate::layout::{WORD, split_entry};
 use crate::lengths::skip_contents;
 
@@ -18,9 +19,11 @@ pub struct Entries<'a> {
 }
 
 impl<'a> Entries<'a> {
-    ghost use Rattle.std.specs.Prelude.{◌≡◌, ℕ, List, take, drop, length, IsOkAnd, IfOk, IfSome, IfErr, ◌+◌, ◌*◌, ◌^◌, ◌<◌, ◌≤◌};
-    ghost use Rattle.jsonb_doc.specs.Tree.{Tree};
+    ghost use Rattle.std.specs.Prelude.{◌≡◌, ℕ, List, map, take, drop, length, IsOkAnd, IfOk, IfSome, IfErr, ◌+◌, ◌*◌, ◌^◌, ◌<◌, ◌≤◌};
+    ghost use Rattle.jsonb_doc.specs.Tree.{Tree, text};
     ghost use Rattle.jsonb_doc.specs.Payload.{Form};
+    ghost use Rattle.jsonb_doc.specs.Format.{AreKeys};
+    ghost use Rattle.jsonb_doc.specs.Private.Lengths.{IsFoundAt, IsKeyPosition};
     ghost use Rattle.jsonb_doc.specs.Answer.{IsDecodingError};
     ghost use Rattle.jsonb_doc.specs.Private.Cursor.{HoldTrees, TakesFirst};
 
@@ -115,5 +118,43 @@ impl<'a> Entries<'a> {
             contents: other_contents,
         };
         Ok((front, back))
+    }
+
+    /// Returns the position of the key that is this name among the entries, which are sorted keys, or `None` if there
+    /// is no such key.
+    ///
+    /// # Errors
+    ///
+    /// `InvalidJsonb` only if there are fewer bytes than the words say, or the entries are not sorted keys.
+    ///
+    /// # Complexity
+    ///
+    /// O(k) for k keys, of which few are compared. Does not allocate.
+    pub fn find_key(&self, name: &[u8]) -> Result<Option<usize>, Error>
+        ensures position { (form : Form) (ks : List (List ℕ)) → HoldTrees form self.now (map text ks) → AreKeys ks
+            → IsOkAnd result (IsFoundAt name.now ks) }
+        ensures errors { IfErr result IsDecodingError }
+    {
+        match find_key(self.words, self.contents, name)? {
+            Some((others, _)) => Ok(Some((self.words.len() - others.len()) / WORD - 1)),
+            None => Ok(None),
+        }
+    }
+
+    /// Returns the position of a name among the entries, which are sorted keys, or that at which it would be inserted.
+    ///
+    /// # Errors
+    ///
+    /// `InvalidJsonb` only if there are fewer bytes than the words say, or the entries are not sorted keys.
+    ///
+    /// # Complexity
+    ///
+    /// O(k) for k keys, of which few are compared. Does not allocate.
+    pub fn key_position(&self, name: &[u8]) -> Result<KeyPosition, Error>
+        ensures position { (form : Form) (ks : List (List ℕ)) → HoldTrees form self.now (map text ks) → AreKeys ks
+            → IsOkAnd result (IsKeyPosition name.now ks) }
+        ensures errors { IfErr result IsDecodingError }
+    {
+        key_position(self.words, self.contents, name)
     }
 }

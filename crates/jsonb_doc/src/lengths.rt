@@ -1,11 +1,14 @@
 //! Skipping contents by the lengths in their entry words.
 
-ghost use Rattle.std.specs.Prelude.{◌≡◌, ℕ, ◌+◌, ◌*◌, ◌^◌, ◌<◌, ◌≤◌, List, ◌++◌, MatchOption, IsSomeAnd, IfSome, length, take, drop};
+ghost use Rattle.std.specs.Prelude.{◌≡◌, ℕ, ◌+◌, ◌*◌, ◌/◌, ◌^◌, ◌<◌, ◌≤◌, List, ◌++◌, MatchOption, IsSomeAnd, IfSome, length, map, sum, take, drop};
 ghost use Rattle.jsonb_doc.specs.Format.{BeginWith};
 ghost use Rattle.jsonb_doc.specs.Kinds.{kind_number};
-ghost use Rattle.jsonb_doc.specs.Private.Lengths.{StandBefore};
+ghost use Rattle.jsonb_doc.specs.Private.Lengths.{StandBefore, lengths_of};
 
 use crate::layout::{Entry, WORD, entry_len, split_entry};
+
+/// The number of bytes of the entry words whose lengths are added at once.
+const GROUP: usize = 128;
 
 /// Returns the total length of the contents of these entry words. The words are a slice, so that many are added at
 /// once.
@@ -31,12 +34,76 @@ pub(crate) fn sum_lengths(words: &[u8]) -> usize
         → result + length rest ≡ length contents }
     ensures bound { result ≤ 2 ^ 26 * length words.now }
 {
+    if words.len() < GROUP {
+        return sum_words(words);
+    }
+    let (groups, others) = words.as_chunks::<GROUP>();
+    sum_groups(groups) + sum_words(others)
+}
+
+/// Returns the sum of the lengths in entry words, of which there are few.
+#[inline(always)]
+fn sum_words(words: &[u8]) -> usize
+    requires { length words.now < 2 ^ 32 }
+    ensures sum { result ≡ lengths_of (length words.now / 4) words.now }
+    ensures bound { result ≤ 2 ^ 26 * length words.now }
+{
     let (chunks, _) = words.as_chunks::<WORD>();
     let mut len = 0;
     for word in chunks {
         len += entry_len(word);
     }
     len
+}
+
+/// Returns the sum of the lengths in groups of entry words. A call, so that the sum of few words saves no registers for it.
+#[inline(never)]
+fn sum_groups(groups: &[[u8; GROUP]]) -> usize
+    requires { length groups.now < 2 ^ 25 }
+    ensures sum { result ≡ sum (map (lengths_of 32) groups.now) }
+    ensures bound { result ≤ 2 ^ 33 * length groups.now }
+{
+    let mut len = 0;
+    for group in groups {
+        len += sum_group(group);
+    }
+    len
+}
+
+/// Returns the sum of the lengths in a group of entry words. Adds every fourth of them in 32 bits, which they fit.
+#[inline(always)]
+fn sum_group(words: &[u8; GROUP]) -> usize
+    ensures sum { result ≡ lengths_of 32 words.now }
+    ensures bound { result ≤ 2 ^ 33 }
+{
+    let (quads, _) = words.as_chunks::<16>();
+    let mut first = 0;
+    let mut second = 0;
+    let mut third = 0;
+    let mut fourth = 0;
+    for quad in quads {
+        let lens = four_lens(quad);
+        first += lens.0;
+        second += lens.1;
+        third += lens.2;
+        fourth += lens.3;
+    }
+    first as usize + second as usize + third as usize + fourth as usize
+}
+
+/// Returns the lengths in four entry words.
+#[inline(always)]
+fn four_lens(quad: &[u8; 16]) -> (u32, u32, u32, u32)
+    ensures sum { result.0 + result.1 + result.2 + result.3 ≡ lengths_of 4 quad.now }
+    ensures bound { (result.0 < 2 ^ 28) × (result.1 < 2 ^ 28) × (result.2 < 2 ^ 28) × (result.3 < 2 ^ 28) }
+{
+    let (words, _) = quad.as_chunks::<WORD>();
+    (
+        entry_len(&words[0]) as u32,
+        entry_len(&words[1]) as u32,
+        entry_len(&words[2]) as u32,
+        entry_len(&words[3]) as u32,
+    )
 }
 
 /// Returns the bytes after the contents of these entry words, or `None` if there are fewer bytes.

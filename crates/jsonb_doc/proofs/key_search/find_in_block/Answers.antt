@@ -1,4 +1,5 @@
 use Rattle.jsonb_doc.proofs.Lemmas.{rules, ◌≡◌, ◌≢◌, ◌≤◌, ◌+◌, ◌*◌, ◌<◌, List, ℕ, [], length, take, drop, slice_index_or, sym, ap, ◌∙◌, arith, inl, inr, take_rest, first_chunks, told, KeysLeft-start, KeysLeft-end, chunk_at, key_cut, key_within, key_differs, key_passed, key_found, is_other, block_searched}
+use Rattle.jsonb_doc.proofs.Common.{length-drop}
 use Rattle.jsonb_doc.proofs.key_search.find_in_block.Goals.{then-len-name+in-Some+else-bytes_equal, else-len-name}
 use Rattle.jsonb_doc.proofs.key_search.find_in_block.Goals as goal
 
@@ -49,4 +50,6 @@ loop-at-preserved c = record {
 }
 
 pub returns-clause-found : goal.returns-clause-found
-returns-clause-found c = search (rules, KeysLeft-end)
+returns-clause-found c = λ ks rest h others.
+    let none : length (drop (4 * c.loop-at.at) c.args.words.now) < 4 = omega (arith, c.as_chunks.ensures.front_len, c.loop-at-test.false, length-drop (4 * c.loop-at.at) c.args.words.now) in
+    KeysLeft-end c.args.name.now ks rest _ _ none (c.loop-at.invariant.left ks rest h).0

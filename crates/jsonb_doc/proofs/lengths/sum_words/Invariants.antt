@@ -1,5 +1,5 @@
 use Rattle.jsonb_doc.proofs.Lemmas.{◌≡◌, ◌+◌, ◌*◌, ◌^◌, ◌≤◌, map, sum, drop, told}
-use Rattle.jsonb_doc.proofs.lengths.sum_lengths.Given as goal
+use Rattle.jsonb_doc.proofs.lengths.sum_words.Given as goal
 
 -- the length so far and those that are left make up all lengths
 abbrev pub invariant-loop-word : goal.invariant-loop-word
