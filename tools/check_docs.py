@@ -23,15 +23,13 @@ ROOT = Path(__file__).resolve().parent.parent
 CRATES = ["jsonb_doc", "jsonb_keypath", "jsonb_raw", "jsonb"]
 USED = "jsonb"
 
-# The conversions of failed allocations: those of the standard library's two errors, of the errors of `read_name` and `read_quoted`, of
-# hex's error in the programs, and of a failed `push` to a status.
+# The conversions of failed allocations: those of the standard library's two errors, of the error of `read_name` and `read_quoted`, of
+# a failed `push` to a status, and of hex's error in jsonb_lines.
 CONVERSIONS = {
     "jsonb_doc/src/error.rt": 2,
-    "jsonb/src/parser/token.rt": 2,
+    "jsonb/src/parser/token.rt": 1,
     "jsonb_c/src/document/names.rt": 1,
     "jsonb_lines/src/problem.rt": 1,
-    "jsonb_tool/src/command.rt": 1,
-    "jsonb_tool/src/problem.rt": 1,
 }
 ONLY_TESTS = {"jsonb_examples", "jsonb_sweep", "jsonb_vectors"}
 

@@ -72,6 +72,15 @@ def numbers(count: int, first: int = 0) -> bytes:
     return document([first + i for i in range(count)])
 
 
+def alike(count: int, first: int = 0) -> bytes:
+    """Numbers that have one hash."""
+    return document([2048 * (first + i) for i in range(count)])
+
+
+def strings(count: int) -> bytes:
+    return document([f"k{i:06}" for i in range(count)])
+
+
 def order(count: int) -> list[int]:
     """The numbers below a count in no order."""
     return random.Random(count).sample(range(count), count)
@@ -116,7 +125,11 @@ def of_arrays() -> Iterator[Series]:
     yield of("`contains`, shuffled", "contains", lambda n: Made(numbers(n), other=shuffled(n)))
     yield of("`contains`, objects in the same order", "contains", lambda n: Made(boxes(range(n)), other=boxes(range(n))))
     yield of("`contains`, shuffled objects", "contains", lambda n: Made(boxes(range(n)), other=boxes(order(n))))
-    yield of("`array_overlap`, disjoint", "array_overlap", lambda n: Made(numbers(n), other=numbers(n, n)))
+    for call in ("array_overlap", "array_overlap_in"):
+        yield of(f"`{call}`, disjoint", call, lambda n: Made(numbers(n), other=numbers(n, n)))
+    yield of("`array_overlap_in`, disjoint, of one hash", "array_overlap_in", lambda n: Made(alike(n), other=alike(n, n)))
+    for call in ("exists_all_keys", "exists_all_keys_in"):
+        yield of(f"`{call}`, n names in reverse order, of an array", call, lambda n: Made(strings(n), names(range(n - 1, -1, -1))))
 
 
 def of_objects() -> Iterator[Series]:
@@ -133,7 +146,8 @@ def of_objects() -> Iterator[Series]:
     yield of("`object_insert`, in the middle", "object_insert", lambda n: Made(wide(n), f"k{n // 2:06}x".encode(), document(7)))
     yield of("`delete_by_keypath`", "delete_by_keypath", lambda n: Made(wide(n), b"{" + names(range(n - 1, n)) + b"}"))
     yield of("`exists_all_keys`, n sorted names", "exists_all_keys", lambda n: Made(wide(n), names(range(n))))
-    yield of("`exists_all_keys`, n names in reverse order", "exists_all_keys", lambda n: Made(wide(n), names(range(n - 1, -1, -1))))
+    for call in ("exists_all_keys", "exists_all_keys_in"):
+        yield of(f"`{call}`, n names in reverse order", call, lambda n: Made(wide(n), names(range(n - 1, -1, -1))))
     yield of("`exists_any_keys`, n missing names", "exists_any_keys", lambda n: Made(wide(n), names(range(n, 2 * n))))
     yield of("`object_pick`, n names", "object_pick", lambda n: Made(wide(n), names(range(n))))
     yield of("`object_delete`, n / 2 names", "object_delete", lambda n: Made(wide(n), names(range(0, n, 2))))

@@ -127,3 +127,8 @@ picked_plain k ts = append-nil (picked_by (single (from_front (pos k))) ts) ∙ 
         picked_between (single (from_front (pos k))) ts (length ts) (length ts) (omega arith) (omega arith)
         (λ i inside. (λ h. absurd (omega (arith, h.0, h.1)), λ h. let same : i ≡ k = cc in absurd (omega arith)))
         ∙ ap (λ n. take n (drop (length ts) ts)) none ∙ sym (ap (λ o. cons_option o []) (past_end ts k past))
+
+pub picked_none : (entries : List Entry) (ts : List Tree) → length ts ≡ 0 → picked entries ts ≡ []
+picked_none [] ts h = refl
+picked_none (entry ∷ entries) [] h = picked_none entries [] h
+picked_none (entry ∷ entries) (t ∷ ts) h = absurd (omega (arith, h))

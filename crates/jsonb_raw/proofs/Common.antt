@@ -94,7 +94,8 @@ pub use Rattle.jsonb_raw.specs.Private.Entries.{HoldPairs, TakesFirstPair, IsFir
 pub use Rattle.jsonb_raw.specs.Private.EqualityParts.{equality_start, equality_part_start}
 pub use Rattle.jsonb_raw.specs.Private.Found.{Finds}
 pub use Rattle.jsonb_raw.specs.Private.Hashes.{value_hash, IsPartHash, AreHashed, IsHashOf, Covers}
-pub use Rattle.jsonb_raw.specs.Private.Inserts.{AreBelow, IsInPlace, IsPlaceAmong, IsPairPlace}
+pub use Rattle.jsonb_raw.specs.Private.Inserts.{IsInPlace, IsPlaceAmong}
+pub use Rattle.jsonb_doc.specs.Private.Lengths.{AreBelow, IsKeyPosition, IsNoneOf, IsFoundAt}
 pub use Rattle.jsonb_raw.specs.Private.KeyErrors.{IsOutOfMemoryOrTooDeep}
 pub use Rattle.jsonb_raw.specs.Private.KeyParts.{start, name_start, part_start, AppendsKey}
 pub use Rattle.jsonb_raw.specs.Private.KeyWidth.{width_of}
@@ -102,7 +103,7 @@ pub use Rattle.jsonb_raw.specs.Private.LargeTexts.{LargeTells, LeavesTexts}
 pub use Rattle.jsonb_raw.specs.Private.LeafSteps.{behind, step_at, step_key, step_keys, IsKept}
 pub use Rattle.jsonb_raw.specs.Private.Levels.{EntryPrefix, parts, parts_of_trees, parts_of_pairs, IsKeyOf, HasPartsLeft, TakesPart, IsSmaller, IsLevelWithin, level_room, level_bound, HasAllLeft, IsLevelOf}
 pub use Rattle.jsonb_raw.specs.Private.Merging.{merged}
-pub use Rattle.jsonb_raw.specs.Private.NameBlocks.{texts_of, is_one_of, decided_by, HasTextsLeft, TakesText, IsPlaced, names_of, IsBlock, AreSeen}
+pub use Rattle.jsonb_raw.specs.Private.NameBlocks.{texts_of, is_one_of, decided_by, HasTextsLeft, HasTexts, AreStrings, TakesText, IsPlaced, names_of, IsBlock, AreSeen}
 pub use Rattle.jsonb_raw.specs.Private.NamePositions.{position_in_some_case}
 pub use Rattle.jsonb_raw.specs.Private.Names.{first_and_others, is_among, IsNotBelow, DecideFrom, DecideForKeys, PartsFirst, all_or_none, names_left}
 pub use Rattle.jsonb_raw.specs.Private.Order.{part_cmp}

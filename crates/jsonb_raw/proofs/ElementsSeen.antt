@@ -1,5 +1,5 @@
 -- How the counts of equality keys change, and what a count says of equal elements.
-use Rattle.jsonb_raw.proofs.Common.{◌≡◌, ◌+◌, ◌-◌, ◌<◌, ◌≤◌, ◌^◌, ℕ, Bool, true, false, not, List, [], ◌∷◌, refl, sym, ap, ap₂, ◌∙◌, cond, Vec, arith, length, Some, unwrap_or, nat_lt, nat_eq, suc, min, take, Result, MatchResult, bytes_eq, nat_cmp, AllByRecursion, slice_cmp, is_eq-slice_cmp, bytes_eq-Decides, count_by-le-length, sum_by-cons, Tree, Fits, is_equal, equality_key, count_of, is_shared, key_cmp, counted, one_at, with_key, CountsKeys, keeps, CountsAfter, in_order, ArePassed, KeyCounts, SetOperation, First, Shared, Unshared, nat_tests, same_test, Form, IsOutOfMemory, Error, Entries, as_elements, HoldTrees, ElementsPassed}
+use Rattle.jsonb_raw.proofs.Common.{◌≡◌, ◌+◌, ◌-◌, ◌<◌, ◌≤◌, ◌^◌, ℕ, Bool, true, false, not, List, [], ◌∷◌, refl, sym, ap, ap₂, ◌∙◌, cond, Vec, arith, length, Some, unwrap_or, nat_lt, nat_eq, suc, min, take, Result, MatchResult, bytes_eq, nat_cmp, AllByRecursion, slice_cmp, is_eq-slice_cmp, bytes_eq-Decides, count_by-le-length, sum_by-cons, Tree, Fits, is_equal, equality_key, count_of, is_shared, key_cmp, counted, one_at, with_key, CountsKeys, keeps, CountsAfter, in_order, ArePassed, KeyCounts, SetOperation, First, Shared, Unshared, nat_tests, same_test, list_any, is_equal_equiv, Form, IsOutOfMemory, Error, Entries, as_elements, HoldTrees, ElementsPassed}
 use Rattle.std.specs.declared.alloc.Global.{Global}
 use Rattle.std.specs.BTreeMap as map
 use Rattle.jsonb_raw.proofs.KeyLawProofs.{equality_keys_tell_apart}
@@ -189,3 +189,14 @@ counted_begun kind r other h e k = grind arith
 pub follows : {P Q : Type 0} (R : Bool → Type 0) (r : Result Bool Error) → (P → Q) → MatchResult r R IsOutOfMemory → MatchResult r (λ _. P) IsOutOfMemory
     → MatchResult r (λ b. R b × Q) IsOutOfMemory
 follows R r h e k = grind arith
+
+-- ---- elements that have a counted key
+
+counted_some : (t : Tree) (us : List Tree) → nat_lt 0 (count_of t us) ≡ list_any (is_equal t) us
+counted_some t [] = refl
+counted_some t (u ∷ us) = grind (arith, nat_tests, count-cons t u us, is_equal_equiv.symm t u, counted_some t us)
+
+-- a tree's key is counted if and only if one of the trees that were counted equals it
+pub key_counted : (m : KeyCounts) (us : List Tree) (t : Tree) (key : Vec ℕ Global) → CountsKeys m us → Fits t → AllByRecursion Fits us
+    → key.items ≡ equality_key t → nat_lt 0 (counted m key) ≡ list_any (is_equal t) us
+key_counted m us t key h f all e = ap (nat_lt 0) (h key ∙ with_key-equality_key t us key f all e) ∙ counted_some t us

@@ -1,5 +1,6 @@
 -- What is inserted and what is concatenated: positions, pairs that are merged, and the entries that result.
-use Rattle.jsonb_raw.proofs.Common.{◌≡◌, ℕ, ◌+◌, ◌<◌, true, false, List, [], ◌∷◌, ◌++◌, length, refl, sym, ap, subst, ◌∙◌, arith, append_assoc, Some, None, Less, Equal, Greater, map, take, drop, append-nil, is_some, length-append, take_at, drop_at, slice_cmp, keys_of, values_of, Equal-is, is_eq-slice_cmp, bytes_eq-Decides, Tree, object, Pairs, no_pairs, pair, keys, value_under, text, members, pairs_of, Form, Decodes, IsBelowFirst, AreKeys, insert_pair, HasKeysLeft, KeyIter, keys_rise, AreRising, decoded_keys, PairPlace, AreBelow, IsInPlace, IsPlaceAmong, IsPairPlace, has_name, length-keys_of, length-values_of, Entries, Make, Around, IsWriting, Writer, keys_of-members, PairEntries, HoldTrees, HoldPairs, many_texts, Bool, not, Option, Ordering, ordering_reverse, match_ordering, nat_list_cmp_total, below_inserted, FirstPair, PairRuns, merged, TakesFirstPair, IsFirstPair, PairsHeld, PairsOpen, below_next, bytes_cmp_refl}
+use Rattle.jsonb_raw.proofs.Common.{◌≡◌, ℕ, ◌+◌, ◌<◌, true, false, List, [], ◌∷◌, ◌++◌, length, refl, sym, ap, subst, ◌∙◌, arith, append_assoc, Some, None, Less, Equal, Greater, map, take, drop, append-nil, is_some, length-append, take_at, drop_at, slice_cmp, keys_of, values_of, Equal-is, is_eq-slice_cmp, bytes_eq-Decides, Tree, object, Pairs, no_pairs, pair, keys, value_under, text, members, pairs_of, Form, IsBelowFirst, AreKeys, insert_pair, keys_rise, AreRising, PairPlace, AreBelow, IsKeyPosition, ArePairsOf, IsInPlace, IsPlaceAmong, has_name, length-keys_of, length-values_of, Entries, Make, Around, IsWriting, Writer, keys_of-members, PairEntries, HoldTrees, HoldPairs, many_texts, Bool, not, Option, Ordering, ordering_reverse, match_ordering, nat_list_cmp_total, below_inserted, Decodes, decoded_keys, FirstPair, PairRuns, merged, TakesFirstPair, IsFirstPair, PairsHeld, PairsOpen, below_next, bytes_cmp_refl}
+use Rattle.jsonb_doc.specs.declared.key_search.KeyPosition.TheVariants.{Found, Missing}
 use Rattle.jsonb_raw.proofs.PartedRuns.{no_value, value_after_less, value_at_equal, turned, same_below, test_of_order}
 use Rattle.jsonb_doc.specs.declared.layout.HeaderKind.TheVariants as header_kind
 use Rattle.jsonb_raw.proofs.RunLemmas.{Member, text_names, all_values, pairs_begun, pair_kept, others_hold, left_holds, pair_taken, no_pair_left}
@@ -54,81 +55,62 @@ module _ (place : PairPlace) (name : List ℕ) (ps : Pairs) (are : AreKeys (keys
   pub is_there : 0 < place.taken → is_some (value_under name ps) ≡ true
   is_there some = grind (arith, found)
 
--- ---- the walk over the keys
+-- ---- the place by the position of the name
 
--- these keys were passed, and others are left
-pub record KeysPassed (name : List ℕ) (ks : List (List ℕ)) (passed : ℕ) (it : KeyIter) : Type 0 where
-  pub front : List (List ℕ)
-  pub left : List (List ℕ)
-  pub joined : ks ≡ front ++ left
-  pub count : passed ≡ length front
-  pub below : AreBelow name front
-  pub holds : HasKeysLeft it left
-
-pub none_passed : (name : List ℕ) (ks : List (List ℕ)) (it : KeyIter) → HasKeysLeft it ks → KeysPassed name ks 0 it
-none_passed name ks it holds = record { front = []; left = ks; joined = refl; count = refl; below = tt; holds = holds }
-
-AreBelow-append : (name key : List ℕ) (front : List (List ℕ)) → AreBelow name front → slice_cmp nat_cmp key name ≡ Less → AreBelow name (front ++ key ∷ [])
-AreBelow-append name key [] below less = (less, tt)
-AreBelow-append name key (low ∷ front) below less = (below.0, AreBelow-append name key front below.1 less)
-
-module _ (name : List ℕ) (ks : List (List ℕ)) (passed : ℕ) (it : KeyIter) (h : KeysPassed name ks passed it) where
-  -- a key below the name is passed
-  pub key_passed : (key : List ℕ) (rest : List (List ℕ)) (after : KeyIter) → h.left ≡ key ∷ rest → HasKeysLeft after rest → slice_cmp nat_cmp key name ≡ Less
-      → KeysPassed name ks (passed + 1) after
-  key_passed key rest after split left less = record {
-    front = h.front ++ key ∷ [];
-    left = rest;
-    joined = h.joined ∙ rw split (sym (append_assoc h.front (key ∷ []) rest));
-    count = omega (arith, h.count, length-append h.front (key ∷ []));
-    below = AreBelow-append name key h.front h.below less;
-    holds = left;
-  }
-
-  -- the name itself is there
-  pub place_there : (key : List ℕ) (rest : List (List ℕ)) → h.left ≡ key ∷ rest → slice_cmp nat_cmp key name ≡ Equal
-      → IsPlaceAmong (record { passed = passed; taken = 1 }) name ks
-  place_there key rest split equal = record {
-    front = h.front;
-    there = key ∷ [];
-    back = rest;
-    joined = h.joined ∙ rw split refl;
-    passed = h.count;
+module _ (name : List ℕ) (ks : List (List ℕ)) (passed : ℕ) where
+  pub place_there : IsKeyPosition name ks (Found passed) → IsPlaceAmong (record { passed = passed; taken = 1 }) name ks
+  place_there (front, back, count, joined, below) = record {
+    front = front;
+    there = name ∷ [];
+    back = back;
+    joined = joined;
+    passed = count;
     taken = refl;
-    below = h.below;
-    is_place = (bytes_eq-Decides key name).0 (test_of_order key name Equal equal);
+    below = below;
+    is_place = refl;
   }
 
-  -- the next key is above the name
-  pub place_before : (key : List ℕ) (rest : List (List ℕ)) → h.left ≡ key ∷ rest → slice_cmp nat_cmp key name ≡ Greater
-      → IsPlaceAmong (record { passed = passed; taken = 0 }) name ks
-  place_before key rest split greater = record {
-    front = h.front;
+  pub place_before : IsKeyPosition name ks (Missing passed) → IsPlaceAmong (record { passed = passed; taken = 0 }) name ks
+  place_before (front, back, count, joined, below, above) = record {
+    front = front;
     there = [];
-    back = key ∷ rest;
-    joined = h.joined ∙ rw split refl;
-    passed = h.count;
+    back = back;
+    joined = joined;
+    passed = count;
     taken = refl;
-    below = h.below;
-    is_place = turned key name Greater greater;
+    below = below;
+    is_place = above;
   }
 
-  -- all keys are below the name
-  pub place_last : h.left ≡ [] → IsPlaceAmong (record { passed = passed; taken = 0 }) name ks
-  place_last none = grind arith
+-- ---- the members of an object
 
-pub in_object : (name : List ℕ) (t : Tree) (ps : Pairs) (place : PairPlace) → t ≡ object ps → IsPlaceAmong place name (keys ps)
-    → IsPairPlace name t (Some place)
-in_object name t ps place is at = rw is at
+-- Holds if the tree is an object, and these are its members.
+pub record IsObjectOf (form : Form) (t : Tree) (pairs : PairEntries) : Type 0 where
+  pub ps : Pairs
+  pub is : t ≡ object ps
+  pub are : AreKeys (keys ps)
+  pub hold : HoldPairs form pairs (members ps)
+  pub names : HoldTrees form pairs.keys (map text (keys ps))
+
+pub object_of_pairs : (form : Form) (bytes : List ℕ) (t : Tree) (pairs : PairEntries) → Decodes form bytes t → ArePairsOf form t (Some pairs)
+    → IsObjectOf form t pairs
+object_of_pairs form bytes (object ps) pairs d h = record {
+  ps = ps;
+  is = refl;
+  are = decoded_keys form bytes ps d;
+  hold = h;
+  names = rw (keys_of-members ps) at h.names;
+}
+object_of_pairs form bytes _ pairs d h = absurd h
 
 -- ---- the result for a name
 
-module _ (form : Form) (bytes : List ℕ) (name : List ℕ) (t : Tree) (place : PairPlace) (d : Decodes form bytes t) (at : IsPairPlace name t (Some place)) where
-  pub name_there : 0 < place.taken → has_name name t ≡ true
-  name_there h = grind (arith, is_there, decoded_keys)
+module _ (name : List ℕ) (ps : Pairs) (place : PairPlace) (are : AreKeys (keys ps)) (at : IsPlaceAmong place name (keys ps)) where
+  pub name_there : 0 < place.taken → has_name name (object ps) ≡ true
+  name_there h = is_there place name ps are at h
 
-  pub name_missing : place.taken ≡ 0 → has_name name t ≡ false
-  name_missing h = grind (arith, not_there, decoded_keys)
+  pub name_missing : place.taken ≡ 0 → has_name name (object ps) ≡ false
+  name_missing h = not_there place name ps are at h
 
 -- ---- pairs split by their keys
 
@@ -201,13 +183,13 @@ pub record IsAround (form : Form) (place : PairPlace) (name : List ℕ) (t : Tre
   pub inserted : insert_pair name t (members ps) ≡ front ++ (name, t) ∷ back
   pub rising : AreRising (keys_of (front ++ (name, t) ∷ back))
 
-pub is_around : (form : Form) (bytes : List ℕ) (place : PairPlace) (name : List ℕ) (t : Tree) (ps : Pairs) (pairs : PairEntries) → Decodes form bytes (object ps)
+pub is_around : (form : Form) (place : PairPlace) (name : List ℕ) (t : Tree) (ps : Pairs) (pairs : PairEntries) → AreKeys (keys ps)
     → HoldPairs form pairs (members ps) → IsPlaceAmong place name (keys ps) → IsAround form place name t ps pairs
-is_around form bytes place name t ps pairs d h at =
+is_around form place name t ps pairs are h at =
     let s = split_around (members ps) at.front at.there at.back (keys_of-members ps ∙ at.joined) in
     let below : AreBelow name (keys_of s.front) = subst (AreBelow name) (sym s.front_are) at.below in
     let in_place : IsInPlace name (keys_of s.there) (keys_of s.back) = rw (s.there_are, s.back_are) at.is_place in
-    let rising : AreRising (keys_of s.front ++ (keys_of s.there ++ keys_of s.back)) = grind (arith, keys_rise, decoded_keys) in
+    let rising : AreRising (keys_of s.front ++ (keys_of s.there ++ keys_of s.back)) = grind (arith, keys_rise) in
     record {
       front = s.front;
       there = s.there;

@@ -4,6 +4,7 @@ pub mod ChildLemmas
 mod Rows
 pub mod NumberKeys
 pub mod KeyLawProofs
+pub mod KeyRoom
 pub mod DigitSteps
 pub mod LevelLemmas
 pub mod LevelKeys

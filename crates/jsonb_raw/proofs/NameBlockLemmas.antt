@@ -1,5 +1,5 @@
 -- Names that are looked up among strings, and what calls decided of strings that are joined.
-use Rattle.jsonb_raw.proofs.Common.{◌≡◌, ◌==◌, ◌||◌, ◌&&◌, ◌<◌, ◌≤◌, ◌+◌, ℕ, Bool, true, false, List, [], ◌∷◌, map, take, drop, length, get_or, Option, Some, None, Result, Ok, Err, refl, sym, ap, ap₂, true≢false, arith, Bor, bytes_eq, beq, list_any, All, All-head, All-tail, bytes_eq-true, Error, EntryIter, StoredEntry, kind_number, Tree, text, array, Trees, no_trees, tree, elements, Form, HasEntriesLeft, Stores, GivesEntry, is_text, has_by, texts_of, is_one_of, decided_by, HasTextsLeft, TakesText, IsPlaced, NameTable, shuffled, ◌++◌, length-append, Any, text_content, FnReturnsAt, get_or_append_left, get_or-append-add, All-append, All-cons, Tells, texts, LargeTells, LeavesTexts, StandsFor, Item, add-one, drop-cons, drop_of_length-le, get_or-take, subst}
+use Rattle.jsonb_raw.proofs.Common.{IsOkAnd, ◌∙◌, cond, nat_cmp, slice_cmp, is_eq, is_eq-slice_cmp, list_any-append, list_all-append, key_trees, TextSet, is_in, ◌≡◌, ◌==◌, ◌||◌, ◌&&◌, ◌<◌, ◌≤◌, ◌+◌, ℕ, Bool, true, false, List, [], ◌∷◌, map, take, drop, length, get_or, Option, Some, None, Result, Ok, Err, refl, sym, ap, ap₂, true≢false, arith, Bor, bytes_eq, beq, list_any, All, All-head, All-tail, bytes_eq-true, Error, EntryIter, StoredEntry, kind_number, Tree, text, array, Trees, no_trees, tree, elements, Form, HasEntriesLeft, Stores, GivesEntry, is_text, has_by, texts_of, is_one_of, decided_by, HasTextsLeft, TakesText, IsPlaced, NameTable, shuffled, ◌++◌, length-append, Any, text_content, FnReturnsAt, get_or_append_left, get_or-append-add, All-append, All-cons, Tells, texts, LargeTells, LeavesTexts, StandsFor, Item, add-one, drop-cons, drop_of_length-le, get_or-take, subst}
 use Rattle.jsonb_raw.proofs.EntriesLeft.{SomeEntries, SomeEntries-first, SomeEntries-error, SomeEntries-none}
 use Rattle.std.proofs.Common.{eqb-true, length-take}
 use Rattle.std.specs.Fn.{Shared}
@@ -105,6 +105,45 @@ next_taken d xs n i few room = rw (add-one, drop-cons (take n xs) i d (omega (ar
 
 pub none_taken : (xs : List (Bor (List ℕ))) (n i : ℕ) → n ≤ i → drop i (take n xs) ≡ []
 none_taken xs n i few = drop_of_length-le (take n xs) (omega (arith, length-take n xs))
+
+-- a name that the strings decide decides all names among which it is
+module _ (ss names others : List (List ℕ)) (name : List ℕ) where
+  pub one_decides : (found has : Bool) → beq has found ≡ true → has ≡ is_one_of ss name → decided_by found ss (names ++ name ∷ others) ≡ found
+  one_decides found has h k = grind (arith, list_any-append, list_all-append)
+
+  pub one_leaves : (found has : Bool) → beq has found ≡ false → has ≡ is_one_of ss name
+      → decided_by found ss (names ++ others) ≡ decided_by found ss (names ++ name ∷ others)
+  one_leaves found has h k = grind (arith, list_any-append, list_all-append)
+
+  -- names that decide do so with others after them
+  pub first_decide : (found : Bool) → decided_by found ss names ≡ found → decided_by found ss (names ++ others) ≡ found
+  first_decide found h = grind (arith, list_any-append, list_all-append)
+
+pub decide_with_others : (found : Bool) (ss names : List (List ℕ)) (name : List ℕ) (r : Result Bool Error)
+    → IsOkAnd r (λ told. told ≡ true → decided_by found ss names ≡ found)
+    → IsOkAnd r (λ told. told ≡ true → (others : List (List ℕ)) → decided_by found ss (names ++ name ∷ others) ≡ found)
+decide_with_others found ss names name (Ok told) h = λ is others. first_decide ss names (name ∷ others) name found (h is)
+decide_with_others found ss names name (Err e) h = h
+
+-- ---- strings in a set
+
+moved : (a b r : Bool) → (cond b true a || r) ≡ (a || (b || r))
+moved a b r = grind arith
+
+-- a set with one string more
+pub text_added : (old new : TextSet) (s : List ℕ) (rest : List (List ℕ)) (q : List ℕ) (whole : Bool)
+    → is_in new q ≡ cond (is_eq (slice_cmp nat_cmp s q)) true (is_in old q) → (is_in old q || is_one_of (s ∷ rest) q) ≡ whole
+    → (is_in new q || is_one_of rest q) ≡ whole
+text_added old new s rest q whole added fact =
+    rw (added ∙ ap (λ b. cond b true (is_in old q)) (is_eq-slice_cmp s q)) (moved (is_in old q) (bytes_eq s q) (is_one_of rest q) ∙ fact)
+
+texts_of-keys : (ks : List (List ℕ)) → texts_of (key_trees ks) ≡ ks
+texts_of-keys [] = refl
+texts_of-keys (k ∷ ks) = ap (λ xs. k ∷ xs) (texts_of-keys ks)
+
+-- the keys of an object are strings
+pub keys_left : (form : Form) (it : EntryIter) (ks : List (List ℕ)) → HasEntriesLeft form it (key_trees ks) → HasTextsLeft form it ks
+keys_left form it ks h = record { trees = key_trees ks; left = h; texts = texts_of-keys ks }
 
 -- ---- some names, and others
 

@@ -1,5 +1,5 @@
 -- Which trees are arrays or objects, and what is made of them.
-use Rattle.jsonb_raw.proofs.Common.{◌≡◌, ◌⊎◌, inl, inr, ℕ, List, ◌∷◌, Global, subst, Option, Some, Result, Ok, refl, sym, ap, ◌∙◌, string_bytes, Bor, Any, arith, values_of, Tree, object, Pairs, keys, Form, IsOutOfMemoryOrTooLarge, IsTooLarge, OutOfMemory, TooLarge, TakesKey, HasKeysLeft, KeyIter, IsPairsOf, IsKeysOf, Error, PairIter, OwnedJsonb, IsPairOf, suc, length, array, Trees, no_trees, tree, elements, count, Decodes, HasElementsLeft, IsElementsOf, ElementIter}
+use Rattle.jsonb_raw.proofs.Common.{◌≡◌, ◌⊎◌, inl, inr, ℕ, List, ◌∷◌, Global, subst, Option, Some, Result, Ok, refl, sym, ap, ◌∙◌, string_bytes, Any, arith, values_of, Tree, object, Pairs, Form, IsOutOfMemoryOrTooLarge, IsTooLarge, OutOfMemory, TooLarge, IsPairsOf, Error, PairIter, OwnedJsonb, IsPairOf, suc, length, array, Trees, no_trees, tree, elements, count, Decodes, HasElementsLeft, IsElementsOf, ElementIter}
 use Rattle.std.proofs.Common.{String}
 use Rattle.jsonb_raw.proofs.RunLemmas.{all_values}
 use Rattle.jsonb_raw.proofs.AnswerLemmas.{Made, any_here, one_of_whole}
@@ -7,23 +7,6 @@ use Rattle.jsonb_raw.proofs.AnswerLemmas.{Made, any_here, one_of_whole}
 -- a tree with an iterator over pairs is an object
 pub object_of : (form : Form) (t : Tree) (found : Option PairIter) (it : PairIter) → found ≡ Some it → IsPairsOf form t found → (ps : Pairs) × (t ≡ object ps)
 object_of form t found it h e = grind arith
-
--- ---- keys
-
--- a tree with an iterator over keys is an object
-pub object_of_keys : (t : Tree) (found : Option KeyIter) (it : KeyIter) → found ≡ Some it → IsKeysOf t found
-    → (ps : Pairs) × (t ≡ object ps) × HasKeysLeft it (keys ps)
-object_of_keys t found it h e = grind arith
-
--- the keys are one that was given, and the rest
-pub record FirstKey (ks : List (List ℕ)) (x : Bor (List ℕ)) (after : KeyIter) : Type 0 where
-  pub rest : List (List ℕ)
-  pub split : ks ≡ x.now ∷ rest
-  pub left : HasKeysLeft after rest
-
-pub first_key : (ks : List (List ℕ)) (r : Result (Bor (List ℕ)) Error) (x : Bor (List ℕ)) (after : KeyIter) → r ≡ Ok x → TakesKey ks (Some r) after
-    → FirstKey ks x after
-first_key ks r x after h e = grind arith
 
 -- ---- documents of the values
 

@@ -1,5 +1,5 @@
 -- The positions of children that steps, indices and keys select, and what is left when a child is taken out.
-use Rattle.jsonb_raw.proofs.Common.{◌≡◌, ℕ, suc, ◌+◌, Bool, false, cond, List, ◌∷◌, Option, Some, None, refl, ◌∙◌, arith, slice_get, sym, ℤ, Result, IsOkAnd, MatchResult, is_some, position, option_and_then, option_map, map, nat_tests, Tree, object, Pairs, no_pairs, pair, elements, keys, values, value_under, field_of, array, Trees, children_of, trees_in, text, Key, index, quoted_name, unquoted_name, asked_key, child_position, tree_at_steps, child_met, SameOption, IsOutOfMemory, KeyPath, key_view, keys_view, signed_decimal, Form, Index, Error, Locates, HasSpotsLeft, Spot, SpotIter, keys_of-members, ContainerEntries, HoldTrees, AreEntriesOf, zero, true, [], ◌++◌, length, ap, subst, is_eq, is_eq-slice_cmp, no_trees, tree, members, trees_of, pairs_of, IsBelowFirst, AreKeys, IsInRange, AreInRange, ValuesAreInRange, bytes_eq-true, children, location, change_at, change_child, remove_at, trees_of-elements, pairs_of-members, not, filter, drop, ap₂, find, none-some, keys_of, values_of, str_eq_ignore_ascii_case, AreRising, keys_rise, AreRising-filter, bytes_eq-same, to_ascii_lowercase, option_or, named_child, position_in_some_case}
+use Rattle.jsonb_raw.proofs.Common.{◌≡◌, ℕ, suc, ◌+◌, Bool, false, cond, List, ◌∷◌, Option, Some, None, refl, ◌∙◌, arith, slice_get, sym, ℤ, Result, IsOkAnd, MatchResult, is_some, position, option_and_then, option_map, map, nat_tests, Tree, object, Pairs, no_pairs, pair, elements, keys, values, value_under, field_of, array, Trees, children_of, trees_in, text, Key, index, quoted_name, unquoted_name, asked_key, child_position, tree_at_steps, child_met, SameOption, IsOutOfMemory, KeyPath, key_view, keys_view, signed_decimal, Form, Index, Error, Locates, HasSpotsLeft, Spot, SpotIter, keys_of-members, ContainerEntries, HoldTrees, AreEntriesOf, zero, true, [], ◌++◌, length, ap, subst, is_eq, is_eq-slice_cmp, no_trees, tree, members, trees_of, pairs_of, IsBelowFirst, AreKeys, IsInRange, AreInRange, ValuesAreInRange, bytes_eq-true, children, location, change_at, change_child, remove_at, trees_of-elements, pairs_of-members, not, filter, drop, ap₂, find, none-some, keys_of, values_of, str_eq_ignore_ascii_case, AreRising, keys_rise, AreRising-filter, bytes_eq-same, to_ascii_lowercase, ◌≢◌, Ok, Err, IsNoneOf, IsFoundAt, option_or, named_child, position_in_some_case}
 use Rattle.jsonb_raw.proofs.AnswerLemmas.{answered}
 use Rattle.std.specs.Str.{bytes_eq}
 use Rattle.jsonb_doc.specs.declared.layout.HeaderKind.TheVariants as header_kind
@@ -84,6 +84,7 @@ pub record OfArray (form : Form) (t : Tree) (e : ContainerEntries) : Type 0 wher
 pub record OfObject (form : Form) (t : Tree) (e : ContainerEntries) : Type 0 where
   pub pairs : Pairs
   pub is : t ≡ object pairs
+  pub are_keys : AreKeys (keys pairs)
   pub hold : HoldTrees form e.keys (map text (keys pairs))
 
 pub of_array : (form : Form) (t : Tree) (e : ContainerEntries) → e.kind ≡ header_kind.Array → AreEntriesOf form t e → OfArray form t e
@@ -93,7 +94,7 @@ of_array form _ e is h = absurd h
 
 pub of_object : (form : Form) (t : Tree) (e : ContainerEntries) → e.kind ≡ header_kind.Object → AreEntriesOf form t e → OfObject form t e
 of_object form (array ts) e is h = let bad : header_kind.Object ≡ header_kind.Array = sym is ∙ h.0 in absurd (cc)
-of_object form (object ps) e is h = record { pairs = ps; is = refl; hold = rw (keys_of-members ps) at h.2.names }
+of_object form (object ps) e is h = record { pairs = ps; is = refl; are_keys = h.1; hold = rw (keys_of-members ps) at h.2.names }
 of_object form _ e is h = absurd h
 
 -- ---- keys
@@ -104,21 +105,18 @@ position_in_object step ps = grind arith
 
 pub met_in_object : (form : Form) (t : Tree) (e : ContainerEntries) (step : KeyPath) (name : List ℕ) (r : Result (Option ℕ) Error)
     → name ≡ asked_key (key_view step) → OfObject form t e
-    → ((ks : List (List ℕ)) → HoldTrees form e.keys (map text ks) → IsOkAnd r (λ found. found ≡ position (λ key. bytes_eq key name) ks))
+    → ((ks : List (List ℕ)) → HoldTrees form e.keys (map text ks) → AreKeys ks → IsOkAnd r (λ found. found ≡ position (λ key. bytes_eq key name) ks))
     → MatchResult r (λ found. found ≡ child_position (key_view step) t) IsOutOfMemory
 met_in_object form t e step name r asked o h =
     rw (o.is, position_in_object (key_view step) o.pairs, ← asked)
-    (answered (λ found. found ≡ position (λ key. bytes_eq key name) (keys o.pairs)) r (h (keys o.pairs) o.hold))
+    (answered (λ found. found ≡ position (λ key. bytes_eq key name) (keys o.pairs)) r (h (keys o.pairs) o.hold o.are_keys))
 
 pub met_by_index : (form : Form) (t : Tree) (e : ContainerEntries) (step : KeyPath) (j i : ℤ) (r : Result (Option ℕ) Error) → j ≡ i → step ≡ Index i
     → OfObject form t e
-    → ((ks : List (List ℕ)) → HoldTrees form e.keys (map text ks)
+    → ((ks : List (List ℕ)) → HoldTrees form e.keys (map text ks) → AreKeys ks
     → MatchResult r (λ found. found ≡ position (λ key. bytes_eq key (signed_decimal j)) ks) IsOutOfMemory)
     → MatchResult r (λ found. found ≡ child_position (key_view step) t) IsOutOfMemory
-met_by_index form t e step j i r same step_is o h = rw (step_is, o.is) (rw same at (h (keys o.pairs) o.hold))
-
-abbrev pub position_behind : ℕ → List ℕ → List (List ℕ) → Option ℕ
-position_behind passed name ks = option_map (λ n. passed + n) (position (λ key. bytes_eq key name) ks)
+met_by_index form t e step j i r same step_is o h = rw (step_is, o.is) (rw same at (h (keys o.pairs) o.hold o.are_keys))
 
 -- ---- what an index selects in a tree, by the spots that it has
 
@@ -165,6 +163,27 @@ below_all name (key ∷ ks) below rising =
 
     lower : (ls : List (List ℕ)) → IsBelowFirst key ls → IsBelowFirst name ls
     lower ls h = grind (arith, nat_list_cmp_total)
+
+module _ (name : List ℕ) where
+  other_key : (key : List ℕ) → key ≢ name → bytes_eq key name ≡ false
+  other_key key other = grind (arith, bytes_eq-true)
+
+  missing_in : (ks : List (List ℕ)) → IsNoneOf name ks → position (λ k. bytes_eq k name) ks ≡ None
+  missing_in [] none = refl
+  missing_in (key ∷ ks) none =
+      position-cons (λ k. bytes_eq k name) key ks false (other_key key none.0) ∙ ap (option_map suc) (missing_in ks none.1)
+
+  found_after : (front back : List (List ℕ)) → IsNoneOf name front → position (λ k. bytes_eq k name) (front ++ name ∷ back) ≡ Some (length front)
+  found_after [] back none = position-cons (λ k. bytes_eq k name) name back true (bytes_eq-same name)
+  found_after (key ∷ front) back none =
+      position-cons (λ k. bytes_eq k name) key (front ++ name ∷ back) false (other_key key none.0) ∙ ap (option_map suc) (found_after front back none.1)
+
+  -- what is found is the position of the first key that is the name
+  pub position_is : (ks : List (List ℕ)) (r : Result (Option ℕ) Error) → IsOkAnd r (IsFoundAt name ks)
+      → IsOkAnd r (λ found. found ≡ position (λ k. bytes_eq k name) ks)
+  position_is ks (Err e) h = absurd h
+  position_is ks (Ok None) none = sym (missing_in ks none)
+  position_is ks (Ok (Some n)) (front, back, count, joined, none) = rw (count, joined) (sym (found_after front back none))
 
 -- if the pair of a key is taken out, no key is that key
 key_gone : (name : List ℕ) (ps : Pairs) (n : ℕ) → AreKeys (keys ps) → position (λ k. bytes_eq k name) (keys ps) ≡ Some n

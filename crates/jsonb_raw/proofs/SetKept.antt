@@ -1,5 +1,5 @@
 -- What the loops of the set functions keep true.
-use Rattle.jsonb_raw.proofs.Common.{ap₂, not, ◌≡◌, ◌+◌, ◌<◌, ◌^◌, Bool, true, false, ◌||◌, cond, List, [], ◌∷◌, ◌++◌, length, map, filter, Option, Some, None, refl, sym, ap, subst, ◌∙◌, append_assoc, append-nil, arith, nat_tests, AllByRecursion, list_any, Tree, array, Trees, no_trees, tree, elements, trees_of, Form, canonical, kind_number, StoredEntry, Fits, AreInRange, HasShortElements, IsOutOfMemoryOrTooLarge, Parts, no_parts, HoldsElements, HasElementsLeft, IsElementsOf, ElementIter, Error, array_too_large-more, as_elements, is_equal, is_equal_equiv, sum_by-cons, occurrences, overlap, intersection_of, difference_of, keeps, kept_one, CountsAfter, HaveSeen, HoldTrees, AreElementsOf, RunsHold, IsFirst, TakesFirst, Holding, Entries, KeyCounts, Seen, SetOperation, or_false}
+use Rattle.jsonb_raw.proofs.Common.{ℕ, zero, suc, drop, ap₂, not, ◌≡◌, ◌+◌, ◌<◌, ◌^◌, Bool, true, false, ◌||◌, cond, List, [], ◌∷◌, ◌++◌, length, map, filter, Option, Some, None, refl, sym, ap, subst, ◌∙◌, append_assoc, append-nil, arith, nat_tests, AllByRecursion, list_any, Tree, array, Trees, no_trees, tree, elements, trees_of, Form, canonical, kind_number, StoredEntry, Fits, AreInRange, HasShortElements, IsOutOfMemoryOrTooLarge, Parts, no_parts, HoldsElements, HasElementsLeft, IsElementsOf, ElementIter, Error, array_too_large-more, as_elements, is_equal, is_equal_equiv, sum_by-cons, occurrences, overlap, intersection_of, difference_of, keeps, kept_one, CountsAfter, HaveSeen, HoldTrees, AreElementsOf, RunsHold, IsFirst, TakesFirst, Holding, Entries, KeyCounts, Seen, SetOperation, or_false}
 use Rattle.jsonb_raw.proofs.RunLemmas.{holding_begun, holding_kept, holding_again, entry_taken}
 use Rattle.jsonb_raw.proofs.ObjectLemmas.{length-elements}
 
@@ -15,6 +15,11 @@ elements_fit ts f = fit_elements ts f.0 f.1.1
 
 pub elements_few : (ts : Trees) → Fits (array ts) → length (elements ts) < 2 ^ 63
 elements_few ts f = omega (arith, f.1.0, length-elements ts)
+
+pub all_dropped : {X : Type 0} (P : X → Type 0) (n : ℕ) (xs : List X) → AllByRecursion P xs → AllByRecursion P (drop n xs)
+all_dropped P zero xs h = h
+all_dropped P (suc n) [] h = h
+all_dropped P (suc n) (x ∷ xs) h = all_dropped P n xs h.1
 
 pub members_fit : (t : Tree) → Fits t → AllByRecursion Fits (as_elements t)
 members_fit t h = grind (arith, elements_fit)

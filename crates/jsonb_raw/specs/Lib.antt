@@ -6,6 +6,7 @@ pub mod NoExtension
 pub mod SortableKey
 pub mod EqualityKey
 pub mod KeyAnswer
+pub mod KeyRoom
 pub mod CompositeKeys
 pub mod Scalars
 pub mod Casts

@@ -1,11 +1,12 @@
 //! The equality key of a document: the types, counts and contents of its items.
 
-ghost use Rattle.std.specs.Prelude.{◌≡◌, ◌≤◌, ◌+◌, ◌++◌, ◌∷◌, ℕ, List, Some, length, take, drop, IfOk, IfErr, MatchResult, OnOk};
+ghost use Rattle.std.specs.Prelude.{◌≡◌, ◌≤◌, ◌+◌, ◌*◌, ◌++◌, ◌∷◌, ℕ, List, Some, None, length, take, drop, IsOk, IsOkAnd, IfOk, IfErr, MatchResult, OnOk, vec_len, vec_capacity};
 ghost use Rattle.std.specs.Int.{w32, w64, to_be_bytes};
 ghost use Rattle.jsonb_doc.specs.Tree.{Tree};
 ghost use Rattle.jsonb_doc.specs.View.{number_view, extension_view};
 ghost use Rattle.jsonb_raw.specs.AnyBytes.Roots.{HasRoot};
 ghost use Rattle.jsonb_raw.specs.EqualityKey.{equality_key};
+ghost use Rattle.jsonb_raw.specs.KeyRoom.{HasKeyRoom};
 ghost use Rattle.jsonb_raw.specs.Private.EqualityParts.{equality_start, equality_part_start, AppendsEqualityStart};
 ghost use Rattle.jsonb_raw.specs.Private.Levels.{EntryPrefix, IsKeyOf, IsLevelOf, IsLevelWithin};
 ghost use Rattle.jsonb_raw.specs.SortableKey.{text_bytes};
@@ -64,7 +65,8 @@ fn push_extension(out: &mut Vec<u8>, value: &ExtensionValue<'_>) -> Result<(), E
 /// Appends the key of a string, also of an object's key.
 #[inline(always)]
 fn push_string(out: &mut Vec<u8>, text: &[u8]) -> Result<(), Error>
-    ensures { MatchResult result (λ _. out.new.items ≡ out.old.items ++ 5 ∷ text_bytes text.now) IsOutOfMemory }
+    ensures key { MatchResult result (λ _. out.new.items ≡ out.old.items ++ 5 ∷ text_bytes text.now) IsOutOfMemory }
+    ensures room { vec_len out.old + (2 * length text.now + 17) ≤ vec_capacity out.old → IsOk result }
 {
     out.push(key_kind::STRING)?;
     push_text(out, text)?;
@@ -73,8 +75,9 @@ fn push_string(out: &mut Vec<u8>, text: &[u8]) -> Result<(), Error>
 
 /// Appends the key of a number.
 fn push_number_key(out: &mut Vec<u8>, number: &Number) -> Result<(), Error>
-    ensures { MatchResult result
+    ensures key { MatchResult result
         (λ _. out.new.items ≡ out.old.items ++ equality_key (Tree.number (number_view number.now))) IsOutOfMemory }
+    ensures room { vec_len out.old + 64 ≤ vec_capacity out.old → IsOk result }
 {
     out.push(key_kind::NUMBER)?;
     push_number(out, *number)?;
@@ -100,6 +103,8 @@ fn push_start<'a>(out: &mut Vec<u8>, item: &Item<'a>) -> Result<Option<ChildCurs
     ensures key { (form : Form) (tree : Tree) → StandsFor form item.now tree
         → AppendsEqualityStart form (equality_start tree) tree out.old.items result out.new.items }
     ensures within { IfOk result (IsLevelWithin (item_size item.now)) }
+    ensures room { (form : Form) (tree : Tree) → StandsFor form item.now tree
+        → HasKeyRoom tree (vec_len out.old) (vec_capacity out.old) → IsOkAnd result (λ found. found ≡ None) }
     ensures errors { IfErr result (IsDecodingError or OutOfMemory) }
 {
     match item {
@@ -193,6 +198,8 @@ fn push_parts(alloc: Global, out: &mut Vec<u8>, found: ChildCursor<'_>) -> Resul
 fn push_item(alloc: Global, out: &mut Vec<u8>, item: &Item<'_>) -> Result<(), Error>
     ensures key { (form : Form) (tree : Tree) → StandsFor form item.now tree
         → MatchResult result (λ _. out.new.items ≡ out.old.items ++ equality_key tree) IsOutOfMemory }
+    ensures room { (form : Form) (tree : Tree) → StandsFor form item.now tree
+        → HasKeyRoom tree (vec_len out.old) (vec_capacity out.old) → IsOk result }
     ensures errors { IfErr result (IsDecodingError or OutOfMemory) }
 {
     match push_start(out, item)? {
@@ -225,6 +232,20 @@ pub fn item_key(alloc: Global, item: &Item<'_>) -> Result<Vec<u8>, Error>
 /// The greatest length of the key of a 64-bit number, and of a Boolean.
 const SHORT_KEY: usize = 25;
 
+/// Appends the equality key of an entry. Out of line, so that the key of a string does not clear the memory of a walk:
+/// 23 instructions.
+#[inline(never)]
+fn push_entry_key(alloc: Global, out: &mut Vec<u8>, entry: &StoredEntry<'_>) -> Result<(), Error>
+    ensures key { (form : Form) (tree : Tree) → Stores form entry.now tree
+        → MatchResult result (λ _. out.new.items ≡ out.old.items ++ equality_key tree) IsOutOfMemory }
+    ensures errors { IfErr result (IsDecodingError or OutOfMemory) }
+{
+    match push_entry(out, entry)? {
+        Some(found) => push_parts(alloc, out, found),
+        None => Ok(()),
+    }
+}
+
 /// Replaces the contents of a vector by the equality key of an entry.
 pub fn write_entry_key(
     alloc: Global,
@@ -237,16 +258,18 @@ pub fn write_entry_key(
 {
     out.clear();
     out.reserve(entry.content.len().saturating_add(SHORT_KEY))?;
-    match push_entry(out, entry)? {
-        Some(found) => push_parts(alloc, out, found),
-        None => Ok(()),
+    if entry.is_text() {
+        return push_string(out, entry.content);
     }
+    push_entry_key(alloc, out, entry)
 }
 
 /// Appends the equality key of a document.
 pub fn push_equality_key(alloc: Global, out: &mut Vec<u8>, bytes: &[u8]) -> Result<(), Error>
     ensures key { (form : Form) (tree : Tree) → Decodes form bytes.now tree
         → MatchResult result (λ _. out.new.items ≡ out.old.items ++ equality_key tree) IsOutOfMemory }
+    ensures room { (form : Form) (tree : Tree) → Decodes form bytes.now tree
+        → HasKeyRoom tree (vec_len out.old + length bytes.now) (vec_capacity out.old) → IsOk result }
     ensures errors { IfErr result (IsDecodingError or OutOfMemory) }
     ensures reads { OnOk result (HasRoot bytes.now) }
 {

@@ -1,7 +1,7 @@
 //! Up to 16 bytes of a key, composed in two words from the last byte on and appended at once. No byte of them is stored
 //! by itself: a load of several bytes would have to wait for such stores.
 
-ghost use Rattle.std.specs.Prelude.{◌≡◌, ◌≤◌, ◌<◌, ◌+◌, ◌++◌, [], ◌∷◌, OnOk, take};
+ghost use Rattle.std.specs.Prelude.{◌≡◌, ◌≤◌, ◌<◌, ◌+◌, ◌++◌, [], ◌∷◌, IsOk, OnOk, take, vec_len, vec_capacity};
 ghost use Rattle.std.specs.Int.{to_le_bytes, w64};
 ghost use Rattle.jsonb_raw.specs.Private.PackedBytes.{packed_bytes};
 
@@ -86,7 +86,10 @@ impl PackedBytes {
     #[inline(always)]
     pub fn push(self, out: &mut Vec<u8>) -> Result<(), AllocError>
         requires { self.len ≤ 16 }
-        ensures { OnOk result (out.new.items ≡ out.old.items ++ packed_bytes self) }
+        ensures bytes { OnOk result (out.new.items ≡ out.old.items ++ packed_bytes self) }
+        ensures len { OnOk result (vec_len out.new ≡ vec_len out.old + self.len) }
+        ensures capacity { vec_capacity out.old ≤ vec_capacity out.new }
+        ensures room { vec_len out.old + 16 ≤ vec_capacity out.old → IsOk result }
     {
         let start = out.len();
         out.extend_from_slice(&self.to_words())?;

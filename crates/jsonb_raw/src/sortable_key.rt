@@ -1,6 +1,6 @@
 //! The sortable key of a document: each item after its depth and its type.
 
-ghost use Rattle.std.specs.Prelude.{◌≡◌, ◌≤◌, ◌<◌, ◌++◌, ℕ, [], length, List, Option, IfOk, IfErr, IfSome, MatchResult, OnOk};
+ghost use Rattle.std.specs.Prelude.{◌≡◌, ◌≤◌, ◌<◌, ◌+◌, ◌*◌, ◌++◌, ℕ, [], length, List, Option, IsOk, IfOk, IfErr, IfSome, MatchResult, OnOk, vec_len, vec_capacity};
 ghost use Rattle.std.specs.Int.{to_be_bytes};
 ghost use Rattle.jsonb_doc.specs.Tree.{Tree};
 ghost use Rattle.jsonb_doc.specs.Payload.{Form, number_reader};
@@ -19,6 +19,7 @@ ghost use Rattle.jsonb_raw.specs.Private.Levels.{IsKeyOf, IsLevelWithin};
 ghost use Rattle.jsonb_raw.specs.Private.KeyParts.{name_start, AppendsItem, AppendsScalar, AppendsStart, AppendsKey};
 ghost use Rattle.jsonb_raw.specs.Private.KeyWidth.{width_of};
 ghost use Rattle.jsonb_raw.specs.KeyAnswer.{GivesKey, RanksAsTree};
+ghost use Rattle.jsonb_raw.specs.KeyRoom.{HasKeyRoom};
 ghost use Rattle.jsonb_raw.specs.Private.KeyErrors.{IsOutOfMemoryOrTooDeep};
 ghost use Rattle.jsonb_doc.specs.Answer.{IsDecodingError, ◌or◌};
 ghost use Rattle.jsonb_doc.specs.declared.error.Error.TheVariants.{OutOfMemory, TooDeep};
@@ -57,7 +58,8 @@ fn behind_depth(item: PackedBytes, depth: Depth) -> Result<PackedBytes, Error>
         (λ p. (packed_bytes p ≡ to_be_bytes (width_of depth.width) depth.value ++ packed_bytes item)
         × (depth.value < depths (width_of depth.width)))
         (IsOutOfMemoryOrTooDeep depth.value (depths (width_of depth.width))) }
-    ensures few { IfOk result (λ p. p.len ≤ 16) }
+    ensures few { IfOk result (λ p. p.len ≤ item.len + 2) }
+    ensures near { depth.value < 256 → IsOk result }
 {
     match depth.width {
         DepthWidth::OneByte => {
@@ -80,7 +82,8 @@ fn behind_depth(item: PackedBytes, depth: Depth) -> Result<PackedBytes, Error>
 #[inline(always)]
 fn push_packed(out: &mut Vec<u8>, depth: Depth, kind: u8, content: PackedBytes) -> Result<(), Error>
     requires { content.len ≤ 13 }
-    ensures { AppendsItem depth kind (packed_bytes content) out.old.items result out.new.items }
+    ensures item { AppendsItem depth kind (packed_bytes content) out.old.items result out.new.items }
+    ensures room { depth.value < 256 → vec_len out.old + 16 ≤ vec_capacity out.old → IsOk result }
 {
     let item = behind_depth(content.prepend(kind), depth)?;
     item.push(out)?;
@@ -90,7 +93,10 @@ fn push_packed(out: &mut Vec<u8>, depth: Depth, kind: u8, content: PackedBytes) 
 /// Appends the depth and the type of an item.
 #[inline(always)]
 fn push_front(out: &mut Vec<u8>, depth: Depth, kind: u8) -> Result<(), Error>
-    ensures { AppendsItem depth kind [] out.old.items result out.new.items }
+    ensures item { AppendsItem depth kind [] out.old.items result out.new.items }
+    ensures len { OnOk result (vec_len out.new ≤ vec_len out.old + 3) }
+    ensures capacity { vec_capacity out.old ≤ vec_capacity out.new }
+    ensures room { depth.value < 256 → vec_len out.old + 16 ≤ vec_capacity out.old → IsOk result }
 {
     let item = behind_depth(PackedBytes::one(kind), depth)?;
     item.push(out)?;
@@ -100,7 +106,9 @@ fn push_front(out: &mut Vec<u8>, depth: Depth, kind: u8) -> Result<(), Error>
 /// Appends the key of a string, also of an object's key.
 #[inline(always)]
 fn push_string(out: &mut Vec<u8>, text: &[u8], depth: Depth) -> Result<(), Error>
-    ensures { AppendsItem depth 5 (text_bytes text.now) out.old.items result out.new.items }
+    ensures item { AppendsItem depth 5 (text_bytes text.now) out.old.items result out.new.items }
+    ensures room { depth.value < 256 → vec_len out.old + (2 * length text.now + 19) ≤ vec_capacity out.old
+        → IsOk result }
 {
     if let Some(packed) = pack_text(text) {
         return push_packed(out, depth, key_kind::STRING, packed);
@@ -113,8 +121,9 @@ fn push_string(out: &mut Vec<u8>, text: &[u8], depth: Depth) -> Result<(), Error
 /// Appends the key of a number whose digits are stored in at most 64 bits.
 #[inline(always)]
 fn push_short(out: &mut Vec<u8>, number: ShortNumber, depth: Depth) -> Result<(), Error>
-    ensures { AppendsItem depth 4 (number_bytes (short_value number).whole (short_value number).scale)
+    ensures item { AppendsItem depth 4 (number_bytes (short_value number).whole (short_value number).scale)
         out.old.items result out.new.items }
+    ensures room { depth.value < 256 → vec_len out.old + 64 ≤ vec_capacity out.old → IsOk result }
 {
     if let Some(packed) = pack_number(number) {
         return push_packed(out, depth, key_kind::NUMBER, packed);
@@ -141,8 +150,9 @@ fn short_of(number: Number) -> Option<ShortNumber>
 /// items.
 #[inline(never)]
 fn push_read_number(out: &mut Vec<u8>, number: Number, depth: Depth) -> Result<(), Error>
-    ensures { AppendsItem depth 4 (number_bytes (number_view number).whole (number_view number).scale)
+    ensures item { AppendsItem depth 4 (number_bytes (number_view number).whole (number_view number).scale)
         out.old.items result out.new.items }
+    ensures room { depth.value < 256 → vec_len out.old + 64 ≤ vec_capacity out.old → IsOk result }
 {
     match short_of(number) {
         Some(short) => push_short(out, short, depth),
@@ -176,6 +186,8 @@ fn push_container<'a>(
 fn push_scalar_item(out: &mut Vec<u8>, item: &Item<'_>, depth: Depth) -> Result<(), Error>
     ensures key { (form : Form) (tree : Tree) → StandsFor form item.now tree
         → AppendsScalar depth tree out.old.items result out.new.items }
+    ensures room { (form : Form) (tree : Tree) → StandsFor form item.now tree → depth.value < 256
+        → HasKeyRoom tree (vec_len out.old) (vec_capacity out.old) → IsOk result }
     ensures errors { IfErr result (IsDecodingError or OutOfMemory or TooDeep) }
 {
     match item {
@@ -305,6 +317,8 @@ pub fn push_sortable_key(
 ) -> Result<(), Error>
     ensures key { (form : Form) (tree : Tree) → Decodes form bytes.now tree
         → AppendsKey (width_of width) tree out.old.items result out.new.items }
+    ensures room { (form : Form) (tree : Tree) → Decodes form bytes.now tree
+        → HasKeyRoom tree (vec_len out.old + length bytes.now) (vec_capacity out.old) → IsOk result }
     ensures errors { IfErr result (IsDecodingError or OutOfMemory or TooDeep) }
     ensures reads { OnOk result (HasRoot bytes.now) }
 {

@@ -11,6 +11,7 @@ mod calls;
 mod deep;
 pub(crate) mod documents;
 mod leaves;
+mod tables;
 
 use super::*;
 use crate::tests::documents::MIXED_ARRAY;

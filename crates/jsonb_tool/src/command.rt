@@ -1,6 +1,7 @@
 //! Commands, read from the words of a command line.
 
-ghost use Rattle.std.specs.Prelude.{◌≡◌, map, option_map, IfOk, IfErr, string_bytes};
+ghost use Rattle.std.specs.Prelude.{◌≡◌, map, option_map, Ok, Err, IfOk, IfErr, MatchResult, string_bytes};
+ghost use Rattle.hex.specs.Hex.{decode_of};
 ghost use Rattle.jsonb.specs.Error.TheVariants.{OutOfMemory};
 ghost use Rattle.jsonb_tool.specs.Requests.{bytes_of, request_of};
 ghost use Rattle.jsonb_tool.specs.Private.Lines.{request};
@@ -74,9 +75,18 @@ fn document_from(alloc: Global, digits: &str) -> Result<Option<Vec<u8>>, Error>
     ensures value { IfOk result (λ found. option_map (λ bytes. bytes.items) found ≡ bytes_of digits.now) }
     ensures err { IfErr result IsOutOfMemory }
 {
-    match hex::decode(alloc, digits) {
-        Ok(bytes) => Ok(Some(bytes)),
-        Err(FromHexError::OutOfMemory) => Err(Error::OutOfMemory),
-        Err(_) => Ok(None),
+    Ok(decode(alloc, digits)?.ok())
+}
+
+/// Returns the bytes of hexadecimal digits of either case, or why text is not that. Fails only if an allocation fails.
+pub(crate) fn decode(alloc: Global, digits: &str) -> Result<Result<Vec<u8>, FromHexError>, Error>
+    ensures value { IfOk result (λ found. MatchResult found
+        (λ bytes. decode_of digits.now ≡ Ok bytes.items) (λ e. decode_of digits.now ≡ Err e)) }
+    ensures err { IfErr result IsOutOfMemory }
+{
+    let mut bytes = vec![in alloc; 0u8; digits.len() / 2]?;
+    match hex::decode_to_slice(digits, bytes.as_mut_slice()) {
+        Ok(()) => Ok(Ok(bytes)),
+        Err(error) => Ok(Err(error)),
     }
 }

@@ -5,7 +5,7 @@ ghost use Rattle.jsonb.specs.Answer.{IsOutOfMemory};
 ghost use Rattle.jsonb_tool.specs.Problems.{IsProblemOf, IsUsage, path_problem as spec_path_problem};
 ghost use Rattle.jsonb_tool.specs.Private.Lines.{request};
 
-use crate::command::Command;
+use crate::command::{Command, decode};
 use crate::output::output;
 use hex::FromHexError;
 use jsonb::{Error, json_path_error_position, key_path_error_position};
@@ -99,9 +99,8 @@ fn usage_problem(alloc: Global, words: &[String]) -> Result<Problem, Error>
     let Some(digits) = document_of(words) else {
         return Ok(Problem::Command);
     };
-    match hex::decode(alloc, digits) {
+    match decode(alloc, digits)? {
         Ok(_) => Ok(Problem::Command),
-        Err(FromHexError::OutOfMemory) => Err(Error::OutOfMemory),
         Err(error) => Ok(Problem::Digits(error)),
     }
 }

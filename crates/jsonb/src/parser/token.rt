@@ -1,6 +1,6 @@
 //! Tokens at the beginning of the input.
 
-ghost use Rattle.std.specs.Prelude.{◌≡◌, ◌+◌, ◌≤◌, length, option_map, IfSome, IfOk};
+ghost use Rattle.std.specs.Prelude.{◌≡◌, ◌+◌, ◌≤◌, length, option_map, Ok, IsErr, IfSome, IfOk, MatchResult};
 ghost use Rattle.std.specs.Cow.{cow_str_bytes};
 ghost use Rattle.jsonb_keypath.specs.Rules.{bytes};
 ghost use Rattle.jsonb_keypath.specs.Tokens.{name, quoted};
@@ -9,6 +9,7 @@ ghost use Rattle.jsonb.specs.PathGrammar.{field, spaced};
 ghost use Rattle.jsonb.specs.Private.Fronts.{in_any_case};
 
 use super::Reading;
+use jsonb_doc::Error;
 use jsonb_keypath::token::{literal, read_name, read_quoted, skip_space};
 use std::alloc::{AllocError, Global};
 use std::borrow::CowStr;
@@ -18,10 +19,7 @@ pub(super) fn name_at(alloc: Global, input: &[u8]) -> Reading<'_, CowStr<'_, Glo
     ensures value { IfOk result (λ found. read_as cow_str_bytes found ≡ name input.now) }
     ensures shrinks { IfOk result (ConsumesInput input.now) }
 {
-    match read_name(alloc, input) {
-        Ok(found) => Ok(found),
-        Err(_) => Err(AllocError),
-    }
+    only_alloc_error(read_name(alloc, input))
 }
 
 /// Reads a quoted string; fails only if an allocation fails.
@@ -29,7 +27,14 @@ pub(super) fn quoted_at(alloc: Global, input: &[u8]) -> Reading<'_, CowStr<'_, G
     ensures value { IfOk result (λ found. read_as cow_str_bytes found ≡ quoted input.now) }
     ensures shrinks { IfOk result (ConsumesInput input.now) }
 {
-    match read_quoted(alloc, input) {
+    only_alloc_error(read_quoted(alloc, input))
+}
+
+/// Returns the result of a call that fails only if an allocation fails.
+fn only_alloc_error<T: Drop>(read: Result<T, Error>) -> Result<T, AllocError>
+    ensures { MatchResult read (λ found. result ≡ Ok found) (λ _. IsErr result) }
+{
+    match read {
         Ok(found) => Ok(found),
         Err(_) => Err(AllocError),
     }

@@ -207,6 +207,9 @@ fn push_picked(
     if let Some(position) = plain_index(entries) {
         return push_nth(elements, position, nodes);
     }
+    if elements.len() == 0 {
+        return Ok(());
+    }
     let mut spots = Vec::new(alloc);
     push_spots(elements, &mut spots)?;
     push_entries(entries, &spots, nodes)

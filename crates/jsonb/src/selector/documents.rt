@@ -66,6 +66,8 @@ pub(crate) fn made_document(alloc: Global, part: &MadeItem<'_>) -> Result<OwnedJ
 }
 
 /// Returns the item at a position of the selection as a document. An item of the document is copied as it is stored.
+/// Out of line, so that a selection of nothing saves no registers for it.
+#[inline(never)]
 fn document_at(
     alloc: Global,
     document: Document<'_>,
@@ -164,6 +166,7 @@ pub(crate) fn array_document(
 
 /// Returns the first selected item as a document, or `None`. Fails with `TooLarge` if it exceeds the limits of a
 /// document.
+#[inline(always)]
 pub(crate) fn first_document(
     alloc: Global,
     document: Document<'_>,

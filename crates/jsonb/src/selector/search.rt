@@ -2,7 +2,7 @@
 
 ghost use Rattle.std.specs.Prelude.{◌≡◌, ◌<◌, ◌++◌, ◌∷◌, [], ℕ, List, map, length, true, false, MatchOption, MatchResult, IfOk, OnOk, IfSome, IfErr, ⊤};
 ghost use Rattle.jsonb_doc.specs.Answer.{Refines, SameOption, IsOutOfMemory, IsDecodingError};
-ghost use Rattle.jsonb_doc.specs.Representation.Positions.{Locates};
+ghost use Rattle.jsonb_doc.specs.Representation.Positions.{Locates, HasSpotsLeft};
 ghost use Rattle.jsonb_doc.specs.Tree.{Tree};
 ghost use Rattle.jsonb.specs.PathTree.{Step, Expression, steps_of, filter};
 ghost use Rattle.jsonb.specs.PathViews.{step_view, steps_view, expression_view};
@@ -565,6 +565,17 @@ fn kept<'a>(truth: Option<bool>, item: Spot) -> StepItems<'a>
     StepItems::AtMostOne(is_true(truth).then_some(spot_by_parts(item)))
 }
 
+/// Returns children as items. Without children, nothing is left to walk.
+#[inline(always)]
+fn child_items<'a>(children: SpotIter<'a>) -> StepItems<'a>
+    ensures { (bytes : List ℕ) (ts : List Tree) → HasSpotsLeft bytes children.entry ts → AreGiven bytes result ts }
+{
+    if children.len() == 0 {
+        return StepItems::AtMostOne(None);
+    }
+    StepItems::Many(Items::Children(children))
+}
+
 /// Returns the values of an object.
 #[inline(always)]
 fn value_items<'a>(bytes: &'a [u8], item: Spot) -> Result<StepItems<'a>, Error>
@@ -572,7 +583,7 @@ fn value_items<'a>(bytes: &'a [u8], item: Spot) -> Result<StepItems<'a>, Error>
     ensures errors { IfErr result IsDecodingError }
 {
     match values(bytes, item)? {
-        Some(children) => Ok(StepItems::Many(Items::Children(children))),
+        Some(children) => Ok(child_items(children)),
         None => Ok(StepItems::AtMostOne(None)),
     }
 }
@@ -584,7 +595,7 @@ fn element_items<'a>(bytes: &'a [u8], item: Spot) -> Result<StepItems<'a>, Error
     ensures errors { IfErr result IsDecodingError }
 {
     match elements(bytes, item)? {
-        Some(children) => Ok(StepItems::Many(Items::Children(children))),
+        Some(children) => Ok(child_items(children)),
         None => Ok(StepItems::AtMostOne(Some(item))),
     }
 }

@@ -78,20 +78,25 @@ fn store_exists_keys(
         truth.old truth.new result }
 {
     match read_names(alloc, &Column::new(names, offsets)) {
-        Ok(names) => store_bool(exists_keys(document, &names, quantity), truth),
+        Ok(names) => store_bool(exists_keys(alloc, document, &names, quantity), truth),
         Err(cause) => cause.to_u32(),
     }
 }
 
-fn exists_keys(document: &[u8], names: &[&str], quantity: Quantity) -> Result<bool, Error>
+fn exists_keys(
+    alloc: Global,
+    document: &[u8],
+    names: &[&str],
+    quantity: Quantity,
+) -> Result<bool, Error>
     ensures keys { OfDocument document.now
         (λ form t said. IsOkAnd said (λ b. b ≡ has_keys quantity (map (λ name. name.now) names.now) t)) result }
     ensures errors { IfErr result IsDecodingError }
 {
     let document = RawJsonb::new(document);
     match quantity {
-        Quantity::All => document.exists_all_keys(names.iter().copied()),
-        Quantity::Any => document.exists_any_keys(names.iter().copied()),
+        Quantity::All => document.exists_all_keys_in(alloc, names.iter().copied()),
+        Quantity::Any => document.exists_any_keys_in(alloc, names.iter().copied()),
     }
 }
 

@@ -69,12 +69,18 @@ pub extern "C" fn jdoc_array_except(
 
 /// Returns whether an element equals one of another document.
 #[unsafe(no_mangle)]
-pub extern "C" fn jdoc_array_overlap(document: &[u8], other: &[u8], truth: &mut u8) -> u32
+pub extern "C" fn jdoc_array_overlap(
+    alloc: Global,
+    document: &[u8],
+    other: &[u8],
+    truth: &mut u8,
+) -> u32
     ensures { WritesResult (λ answer. (form other_form : Form) (t u : Tree)
         → Decodes form document.now t → Decodes other_form other.now u
         → IsOkAnd answer (λ b. b ≡ overlap (as_elements t) (as_elements u)))
         IsDecodingError (ShowsAs from_bool truth.old truth.new result) }
 {
     let document = RawJsonb::new(document);
-    store_bool(document.array_overlap(&RawJsonb::new(other)), truth)
+    let other = RawJsonb::new(other);
+    store_bool(document.array_overlap_in(alloc, &other), truth)
 }

@@ -7,7 +7,9 @@ use Rattle.jsonb_doc.specs.Tree.{text, Trees, no_trees, tree}
 use Rattle.jsonb_doc.specs.Payload.{Form}
 use Rattle.jsonb_doc.specs.Private.Stored.{HasEntriesLeft}
 use Rattle.jsonb_doc.specs.declared.entry_iter.EntryIter.{EntryIter}
+use Rattle.jsonb_raw.specs.Objects.{TextSet, is_in}
 use Rattle.jsonb_raw.specs.Private.Hashes.{text_hash}
+use Rattle.jsonb_raw.specs.declared.functions.path.exists_in.Strings.{Strings}
 use Rattle.jsonb_raw.specs.declared.functions.path.name_block.NameBlock.{NameBlock}
 use Rattle.jsonb_raw.specs.declared.functions.path.name_block.NameTable.{NameTable}
 use Rattle.jsonb_raw.specs.declared.functions.path.name_block.SeenTexts.{SeenTexts}
@@ -56,3 +58,12 @@ IsPlaced table name = slice_index_or table.places (text_hash name) 64 < 64
 pub record AreSeen (ss : List (List ℕ)) (seen : SeenTexts) : Type 0 where
   pub each : All (λ found. IfSome found (λ s. is_one_of ss s.now ≡ true)) seen.texts
   pub size : length seen.texts ≡ 64
+
+-- the table has exactly these strings
+abbrev pub HasTexts : TextSet → List (List ℕ) → Type 0
+HasTexts table ss = (name : List ℕ) → is_in table name ≡ is_one_of ss name
+
+-- the strings are those among the entries, and those of the table if there is one
+pub record AreStrings (form : Form) (strings : Strings) (ss : List (List ℕ)) : Type 0 where
+  pub left : HasTextsLeft form strings.entries ss
+  pub table : IfSome strings.table (λ table. HasTexts table ss)

@@ -19,6 +19,7 @@ ghost use Rattle.jsonb_raw.specs.Arrays.{array_length, array_values, array_inser
 mod counts;
 pub(crate) mod hashes;
 mod overlap;
+mod overlap_in;
 mod seen;
 mod sets;
 

@@ -7,7 +7,7 @@ ghost use Rattle.jsonb_doc.specs.Format.{Decodes, IsContent};
 ghost use Rattle.jsonb_doc.specs.Kinds.{kind_number};
 ghost use Rattle.jsonb_doc.specs.Answer.{IsDecodingError, ◌or◌};
 ghost use Rattle.jsonb_doc.specs.declared.error.Error.TheVariants.{OutOfMemory, TooLarge};
-ghost use Rattle.jsonb_raw.specs.AnyBytes.Roots.{HasRootShape};
+ghost use Rattle.jsonb_raw.specs.AnyBytes.Roots.{HasRoot, HasRootShape};
 ghost use Rattle.jsonb_raw.specs.Documents.{Makes};
 ghost use Rattle.jsonb_raw.specs.Private.Entries.{HoldTrees, AreElementsOf};
 
@@ -22,6 +22,7 @@ use std::alloc::Global;
 pub fn element_entries(bytes: &[u8]) -> Result<Option<Entries<'_>>, Error>
     ensures entries { (form : Form) (t : Tree) → Decodes form bytes.now t → IsOkAnd result (AreElementsOf form t) }
     ensures reads { IfOk result (λ found. IfSome found (λ _. HasRootShape bytes.now)) }
+    ensures root { IfOk result (λ found. IfSome found (λ _. HasRoot bytes.now)) }
     ensures errors { IfErr result IsDecodingError }
 {
     match read_container(bytes)? {

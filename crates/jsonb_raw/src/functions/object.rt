@@ -4,7 +4,7 @@
 
 ghost use Rattle.std.specs.List.{Any, AllZip};
 ghost use Rattle.std.specs.Map.{keys_of, values_of};
-ghost use Rattle.std.specs.Prelude.{◌≡◌, ℕ, List, ◌⊎◌, ◌||◌, false, not, None, Ok, IsSomeAnd, IsTrue, IfErr, IsErrOf, MatchResult, MatchOption, Err, IsUtf8, string_bytes};
+ghost use Rattle.std.specs.Prelude.{◌≡◌, ℕ, List, ◌⊎◌, ◌||◌, false, not, None, Ok, IsSomeAnd, IsTrue, OnOk, IfErr, IsErrOf, MatchResult, MatchOption, Err, IsUtf8, string_bytes};
 ghost use Rattle.jsonb_doc.specs.Tree.{Tree, object, pairs_of};
 ghost use Rattle.jsonb_doc.specs.Payload.{Form, number_reader};
 ghost use Rattle.jsonb_doc.specs.Format.{Decodes, AreKeys, IsContent};
@@ -13,6 +13,7 @@ ghost use Rattle.jsonb_doc.specs.Limits.{IsTooLarge};
 ghost use Rattle.jsonb_doc.specs.Answer.{IsOutOfMemory, IsDecodingError, ◌or◌, ◌or◌when◌};
 ghost use Rattle.jsonb_doc.specs.Private.Errors.{IsOutOfMemoryOrTooLarge};
 ghost use Rattle.jsonb_doc.specs.declared.error.Error.TheVariants.{OutOfMemory, TooLarge, InvalidObject, ObjectDuplicateKey};
+ghost use Rattle.jsonb_raw.specs.AnyBytes.Roots.{HasRootShape};
 ghost use Rattle.jsonb_raw.specs.Documents.{raw_bytes, MakesOption, Makes};
 ghost use Rattle.jsonb_raw.specs.Private.Entries.{HoldPairs};
 ghost use Rattle.jsonb_raw.specs.Private.PairSteps.{parted};
@@ -56,6 +57,7 @@ impl RawJsonb<'_> {
         ensures pairs { (form : Form) (t : Tree) → Decodes form (raw_bytes self.now) t
             → MatchOption (object_pick keys.now t) (result ≡ Err InvalidObject) (λ wanted. Makes form wanted result) }
         ensures errors { IfErr result (IsDecodingError or OutOfMemory or TooLarge or InvalidObject) }
+        ensures reads { OnOk result (HasRootShape (raw_bytes self.now)) }
     {
         let Some(pairs) = pair_entries(self.as_bytes())? else {
             return Err(Error::InvalidObject);
@@ -85,6 +87,7 @@ impl RawJsonb<'_> {
         ensures pairs { (form : Form) (t : Tree) → Decodes form (raw_bytes self.now) t
             → MatchOption (object_delete keys.now t) (result ≡ Err InvalidObject) (λ wanted. Makes form wanted result) }
         ensures errors { IfErr result (IsDecodingError or OutOfMemory or TooLarge or InvalidObject) }
+        ensures reads { OnOk result (HasRootShape (raw_bytes self.now)) }
     {
         let Some(pairs) = pair_entries(self.as_bytes())? else {
             return Err(Error::InvalidObject);
@@ -198,15 +201,24 @@ impl RawJsonb<'_> {
             → IsTrue (has_name new_key.now t) → update_flag ≡ false → IsErrOf result Error.ObjectDuplicateKey }
         ensures errors { IfErr result
             (IsDecodingError or OutOfMemory or TooLarge or InvalidObject or ObjectDuplicateKey) }
+        ensures reads { OnOk result (HasRootShape (raw_bytes self.now) × HasRootShape (raw_bytes new_val.now)) }
     {
         let bytes = self.as_bytes();
-        let Some(place) = pair_place(bytes, new_key)? else {
+        let Some(pairs) = pair_entries(bytes)? else {
             return Err(Error::InvalidObject);
         };
+        let place = pair_place(pairs.keys, new_key)?;
         if !update_flag && place.taken > 0 {
             return Err(Error::ObjectDuplicateKey);
         }
-        object_with_pair(alloc, bytes, place, new_key, new_val.as_bytes())
+        object_with_pair(
+            alloc,
+            pairs,
+            bytes.len(),
+            place,
+            new_key,
+            new_val.as_bytes(),
+        )
     }
 }
 

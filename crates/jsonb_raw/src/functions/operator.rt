@@ -1,6 +1,6 @@
 //! Functions on documents of any type.
 
-ghost use Rattle.std.specs.Prelude.{◌≡◌, [], IfErr, IfOk, MatchResult, OnOk};
+ghost use Rattle.std.specs.Prelude.{◌≡◌, [], length, IsOk, IfErr, IfOk, MatchResult, OnOk, vec_capacity};
 ghost use Rattle.std.specs.Int.{w8, w16};
 ghost use Rattle.jsonb_doc.specs.Tree.{Tree};
 ghost use Rattle.jsonb_doc.specs.Payload.{Form};
@@ -10,6 +10,7 @@ ghost use Rattle.jsonb_doc.specs.declared.error.Error.TheVariants.{OutOfMemory, 
 ghost use Rattle.jsonb_raw.specs.AnyBytes.Roots.{HasRoot};
 ghost use Rattle.jsonb_raw.specs.Documents.{raw_bytes};
 ghost use Rattle.jsonb_raw.specs.KeyAnswer.{GivesKey, RanksAsTree};
+ghost use Rattle.jsonb_raw.specs.KeyRoom.{HasKeyRoom};
 ghost use Rattle.jsonb_raw.specs.SortableKey.{sortable_key};
 ghost use Rattle.jsonb_doc.specs.Depth.{deepest};
 ghost use Rattle.jsonb_raw.specs.EqualityKey.{equality_key};
@@ -135,7 +136,8 @@ impl RawJsonb<'_> {
     ///
     /// # Errors
     ///
-    /// Those of `convert_to_comparable`. The vector is then empty.
+    /// Those of `convert_to_comparable`. The vector is then empty. `OutOfMemory` for null, a Boolean, a number or a
+    /// string of s bytes only if the vector's capacity is less than n + 2 s + 64.
     ///
     /// # Complexity
     ///
@@ -160,6 +162,8 @@ impl RawJsonb<'_> {
         ensures empty { IfErr result (λ _. key.new.items ≡ []) }
         ensures errors { IfErr result (IsDecodingError or OutOfMemory or TooDeep) }
         ensures reads { OnOk result (HasRoot (raw_bytes self.now)) }
+        ensures room { (form : Form) (tree : Tree) → Decodes form (raw_bytes self.now) tree
+            → HasKeyRoom tree (length (raw_bytes self.now)) (vec_capacity key.old) → IsOk result }
     {
         key.clear();
         let written = push_sortable_key(alloc, key, self.as_bytes(), DepthWidth::OneByte);
@@ -170,7 +174,8 @@ impl RawJsonb<'_> {
     ///
     /// # Errors
     ///
-    /// Those of `convert_to_comparable_wide`. The vector is then empty.
+    /// Those of `convert_to_comparable_wide`. The vector is then empty. `OutOfMemory` only as by
+    /// `convert_to_comparable_into`.
     ///
     /// # Complexity
     ///
@@ -193,6 +198,8 @@ impl RawJsonb<'_> {
         ensures empty { IfErr result (λ _. key.new.items ≡ []) }
         ensures errors { IfErr result (IsDecodingError or OutOfMemory or TooDeep) }
         ensures reads { OnOk result (HasRoot (raw_bytes self.now)) }
+        ensures room { (form : Form) (tree : Tree) → Decodes form (raw_bytes self.now) tree
+            → HasKeyRoom tree (length (raw_bytes self.now)) (vec_capacity key.old) → IsOk result }
     {
         key.clear();
         let written = push_sortable_key(alloc, key, self.as_bytes(), DepthWidth::TwoBytes);
@@ -203,7 +210,7 @@ impl RawJsonb<'_> {
     ///
     /// # Errors
     ///
-    /// Those of `equality_key`. The vector is then empty.
+    /// Those of `equality_key`. The vector is then empty. `OutOfMemory` only as by `convert_to_comparable_into`.
     ///
     /// # Complexity
     ///
@@ -223,6 +230,8 @@ impl RawJsonb<'_> {
         ensures empty { IfErr result (λ _. key.new.items ≡ []) }
         ensures errors { IfErr result (IsDecodingError or OutOfMemory) }
         ensures reads { OnOk result (HasRoot (raw_bytes self.now)) }
+        ensures room { (form : Form) (tree : Tree) → Decodes form (raw_bytes self.now) tree
+            → HasKeyRoom tree (length (raw_bytes self.now)) (vec_capacity key.old) → IsOk result }
     {
         key.clear();
         let written = push_equality_key(alloc, key, self.as_bytes());

@@ -22,6 +22,7 @@ mod child;
 mod cut;
 mod delete;
 mod exists;
+mod exists_in;
 mod leaves;
 mod name_block;
 mod parent_entries;

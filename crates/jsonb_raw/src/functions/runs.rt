@@ -6,7 +6,7 @@ ghost use Rattle.jsonb_doc.specs.Tree.{Tree, Pairs, text, object, members};
 ghost use Rattle.jsonb_doc.specs.Payload.{Form, number_reader};
 ghost use Rattle.jsonb_doc.specs.Private.Containers.{Holds};
 ghost use Rattle.jsonb_doc.specs.declared.container.Container.TheVariants.{Object};
-ghost use Rattle.jsonb_doc.specs.Format.{Decodes};
+ghost use Rattle.jsonb_doc.specs.Format.{Decodes, AreKeys};
 ghost use Rattle.jsonb_doc.specs.Answer.{IsDecodingError, IsOutOfMemory, ◌or◌};
 ghost use Rattle.jsonb_doc.specs.declared.error.Error.TheVariants.{OutOfMemory};
 ghost use Rattle.jsonb_doc.specs.Private.Writer.{Around, IsWriting};
@@ -119,22 +119,13 @@ pub fn first_pair(pairs: PairEntries<'_>) -> Result<Option<FirstPair<'_>>, Error
     }))
 }
 
-/// Returns the position of the first of the entries, which are strings, that is this name.
+/// Returns the position of a name among the entries, which are sorted keys.
 pub fn name_position(entries: Entries<'_>, name: &[u8]) -> Result<Option<usize>, Error>
-    ensures position { (form : Form) (ks : List (List ℕ)) → HoldTrees form entries.entry (map text ks)
+    ensures position { (form : Form) (ks : List (List ℕ)) → HoldTrees form entries.entry (map text ks) → AreKeys ks
         → IsOkAnd result (λ found. found ≡ first_position (λ key. bytes_eq key name.now) ks) }
     ensures errors { IfErr result IsDecodingError }
 {
-    let mut passed = 0;
-    let mut left = entries;
-    while let Some((key, others)) = left.first()? {
-        if key.content == name {
-            return Ok(Some(passed));
-        }
-        passed += 1;
-        left = others;
-    }
-    Ok(None)
+    entries.find_key(name)
 }
 
 /// Returns the entries of a run before the remaining ones, or `None` if more remain than the run has.

@@ -60,6 +60,15 @@ fn has_each(document: &RawJsonb<'_>, names: &[&str]) -> Result<bool, Error>
     document.exists_all_keys(names.iter().copied())
 }
 
+/// Returns the result of a call, which that of the call with an allocator must equal.
+fn agreed(found: Result<bool, Error>, made: Result<bool, Error>) -> Result<bool, Error> {
+    if found == made {
+        found
+    } else {
+        Err(Error::TooLarge)
+    }
+}
+
 /// Returns the number of an argument, 0 if it is not one.
 fn index(text: &str) -> i32 {
     text.parse::<i32>().unwrap_or(0)
@@ -198,12 +207,22 @@ impl Asked<'_, '_, '_> {
 
     /// Returns `true` if all, or any, of the names exist.
     fn names_exist(&self, all: bool) -> Result<bool, Error> {
-        let names = names(self.alloc, self.text)?;
+        let (alloc, document) = (self.alloc, &self.document);
+        let names = names(alloc, self.text)?;
         if all {
-            has_each(&self.document, &names)
+            let made = document.exists_all_keys_in(alloc, names.iter().copied());
+            agreed(has_each(document, &names), made)
         } else {
-            self.document.exists_any_keys(names.iter().copied())
+            let made = document.exists_any_keys_in(alloc, names.iter().copied());
+            agreed(document.exists_any_keys(names.iter().copied()), made)
         }
+    }
+
+    /// Returns `true` if the documents share an element.
+    fn overlaps(&self) -> Result<bool, Error> {
+        let (document, other) = (&self.document, &self.other);
+        let made = document.array_overlap_in(self.alloc, other);
+        agreed(document.array_overlap(other), made)
     }
 
     /// Runs functions that return a Boolean.
@@ -214,7 +233,7 @@ impl Asked<'_, '_, '_> {
             "exists_any_keys" => self.names_exist(false),
             "traverse_check_string" => document.traverse_check_string(|s| s == text.as_bytes()),
             "contains" => document.contains(other),
-            "array_overlap" => document.array_overlap(other),
+            "array_overlap" => self.overlaps(),
             "check" => document.check().map(|()| true),
             _ => return scalar_holds(self.alloc, call, document, self.wanted),
         };

@@ -62,6 +62,7 @@ pub(super) fn ask_array(alloc: Global, raw: &RawJsonb<'_>, answers: &mut Answers
     let same = RawJsonb::new(raw.as_bytes());
     let _ = raw.array_length();
     let _ = raw.array_overlap(&same);
+    let _ = raw.array_overlap_in(alloc, &same);
     if let Ok(Some(list)) = raw.array_values(alloc) {
         answers.each(Ok(list));
     }
@@ -118,6 +119,8 @@ pub(super) fn ask_places(
     let names = ["a", "k"];
     let _ = raw.exists_all_keys(names.iter().copied());
     let _ = raw.exists_any_keys(names.iter().copied());
+    let _ = raw.exists_all_keys_in(alloc, names.iter().copied());
+    let _ = raw.exists_any_keys_in(alloc, names.iter().copied());
     for ignore_array in [false, true] {
         let _ = raw.extract_scalar_key_values(alloc, ignore_array);
         if let Ok(leaves) = raw.leaf_documents(alloc, ignore_array) {

@@ -1,10 +1,5 @@
-use Rattle.jsonb_raw.proofs.Lemmas.{rules, [], only_start}
 use Rattle.jsonb_raw.proofs.equality_key.write_entry_key.Goals as goal
 
-pub returns-in-Some-clause-key : goal.returns-in-Some-clause-key
-returns-in-Some-clause-key c = λ form tree stored.
-    let begun = rw c.in-Some.is at (c.in_ok-found.ensures.key form tree stored) in
-    c.push_parts.ensures.key form tree [] begun.1 (rw (c.in_ok-reserve.ensures.items, c.clear.ensures.items) at begun.0)
-
-pub returns-in-None-clause-key : goal.returns-in-None-clause-key
-returns-in-None-clause-key c = search (rules, only_start)
+pub returns-clause-key : goal.returns-clause-key
+returns-clause-key c = λ form tree stored.
+    rw (c.in_ok-reserve.ensures.items, c.clear.ensures.items) at (c.push_entry_key.ensures.key form tree stored)

@@ -1,8 +1,8 @@
 use Rattle.jsonb_raw.proofs.Lemmas.{arith, ap, ◌∙◌, ◌≡◌, ◌+◌, ◌-◌, ◌++◌, length, take, drop, length-drop, take_all, digits_of, buffer_steps}
 use Rattle.jsonb_raw.proofs.key_bytes.push_magnitude.Goals as goal
 
-pub returns : goal.returns
-returns c =
+pub returns-clause-bytes : goal.returns-clause-bytes
+returns-clause-bytes c =
     let buffer = c.write_before-start.new.buffer in
     let start = c.write_before-start.result in
     let exponent : 42 - c.write_digits-first.result + c.without_zeros-shorter.result.1 + 1000 - c.from.result ≡ length

@@ -26,6 +26,16 @@ impl KeyCounts {
         }
     }
 
+    /// Returns `true` if the key is counted.
+    pub(super) fn has(&self, key: &Vec<u8>) -> bool
+        ensures { result ≡ nat_lt 0 (counted self.now key.now) }
+    {
+        match self.counts.get(key) {
+            Some(count) => *count > 0,
+            None => false,
+        }
+    }
+
     /// Increments the key's count, and returns what it was. A copy of the key is inserted at once: a search before it
     /// takes a tenth of the instructions of `array_except` on 200 strings, whose keys are new. Integers that occur
     /// again take 5 to 8 percent more.

@@ -1,10 +1,11 @@
-//! Whether two lists of entries share a value, without allocating. The hashes of some entries of one list exclude most
-//! entries of the other.
+//! Whether two lists of entries share a value. The hashes of some entries of one list exclude most entries of the
+//! other.
 
 ghost use Rattle.std.specs.Prelude.{◌≡◌, ◌⊎◌, ◌<◌, ◌≤◌, true, false, [], take, drop, IsOkAnd, IfOk, IfErr};
 ghost use Rattle.std.specs.List.{list_any};
-ghost use Rattle.jsonb_doc.specs.Tree.{Tree, Trees, elements as elements_of};
+ghost use Rattle.jsonb_doc.specs.Tree.{Tree, Trees, array, elements as elements_of};
 ghost use Rattle.jsonb_doc.specs.Equal.{is_equal};
+ghost use Rattle.jsonb_doc.specs.Limits.{Fits};
 ghost use Rattle.jsonb_doc.specs.Payload.{Form};
 ghost use Rattle.jsonb_doc.specs.Private.Stored.{HasEntriesLeft, Stores, entries_bound};
 ghost use Rattle.jsonb_doc.specs.Answer.{IsDecodingError};
@@ -12,8 +13,10 @@ ghost use Rattle.jsonb_raw.specs.Sets.{overlap};
 ghost use Rattle.jsonb_raw.specs.Private.Hashes.{Covers};
 
 use super::hashes::Hashes;
+use super::overlap_in::{Budget, overlap_by_keys};
 use crate::equal_items::{find_equal, find_equal_among};
 use jsonb_doc::{EntryIter, Error};
+use std::alloc::Global;
 
 /// The number of entries whose hashes are in the table at once. They are so few that most hashes are free.
 const BLOCK: usize = 64;
@@ -50,12 +53,14 @@ fn take_hashes(hashes: &mut Hashes, rest: &mut EntryIter<'_>, count: usize) -> R
     Ok(false)
 }
 
-/// Returns `true` if an entry equals one of the first of the others, whose hashes these are.
+/// Returns `true` if an entry equals one of the first of the others, whose hashes these are. Spends one for each
+/// entry that has one of the hashes and equals none of the others.
 fn block_overlaps(
     found: EntryIter<'_>,
     hashes: &Hashes,
     block: EntryIter<'_>,
     count: usize,
+    budget: &mut Budget,
 ) -> Result<bool, Error>
     ensures overlap { (form other_form : Form) (ts us : Trees) → HasEntriesLeft form found.entry ts
         → HasEntriesLeft other_form block.entry us
@@ -71,14 +76,19 @@ fn block_overlaps(
         if find_equal_among(block, &entry, count)? {
             return Ok(true);
         }
+        budget.spend(1);
     }
     Ok(false)
 }
 
-/// Returns `true` if an entry equals one of the others.
-pub(super) fn entries_overlap(found: EntryIter<'_>, others: EntryIter<'_>) -> Result<bool, Error>
+/// Returns `true` if an entry equals one of the others. Allocates only if there is an allocator.
+pub(super) fn entries_overlap(
+    alloc: Option<Global>,
+    found: EntryIter<'_>,
+    others: EntryIter<'_>,
+) -> Result<bool, Error>
     ensures overlap { (form other_form : Form) (ts us : Trees) → HasEntriesLeft form found.entry ts
-        → HasEntriesLeft other_form others.entry us
+        → HasEntriesLeft other_form others.entry us → Fits (array ts) → Fits (array us)
         → IsOkAnd result (λ b. b ≡ overlap (elements_of ts) (elements_of us)) }
     ensures errors { IfErr result IsDecodingError }
 {
@@ -88,12 +98,15 @@ pub(super) fn entries_overlap(found: EntryIter<'_>, others: EntryIter<'_>) -> Re
         let (few, many) = fewer_first(found, others);
         return pairs_overlap(few, many);
     }
-    blocks_overlap(found, others, BLOCK)
+    blocks_overlap(alloc, found, others, BLOCK)
 }
 
 /// Returns both iterators, first the one with fewer entries.
 #[inline(always)]
-fn fewer_first<'a>(found: EntryIter<'a>, others: EntryIter<'a>) -> (EntryIter<'a>, EntryIter<'a>)
+pub(super) fn fewer_first<'a>(
+    found: EntryIter<'a>,
+    others: EntryIter<'a>,
+) -> (EntryIter<'a>, EntryIter<'a>)
     ensures { ((result.0 ≡ found.entry) × (result.1 ≡ others.entry))
         ⊎ ((result.0 ≡ others.entry) × (result.1 ≡ found.entry)) }
 {
@@ -121,24 +134,35 @@ fn pairs_overlap(found: EntryIter<'_>, others: EntryIter<'_>) -> Result<bool, Er
     Ok(false)
 }
 
-/// Returns `true` if an entry equals one of the others. Compares with `count` of the others at once.
-fn blocks_overlap(found: EntryIter<'_>, others: EntryIter<'_>, count: usize) -> Result<bool, Error>
+/// Returns `true` if an entry equals one of the others. Compares with `count` of the others at once, until equality
+/// keys take less.
+fn blocks_overlap(
+    alloc: Option<Global>,
+    found: EntryIter<'_>,
+    others: EntryIter<'_>,
+    count: usize,
+) -> Result<bool, Error>
     requires { 0 < count }
     ensures overlap { (form other_form : Form) (ts us : Trees) → HasEntriesLeft form found.entry ts
-        → HasEntriesLeft other_form others.entry us
+        → HasEntriesLeft other_form others.entry us → Fits (array ts) → Fits (array us)
         → IsOkAnd result (λ b. b ≡ overlap (elements_of ts) (elements_of us)) }
     ensures errors { IfErr result IsDecodingError }
 {
+    let mut budget = Budget::new(alloc, found.len().saturating_add(others.len()));
     let mut rest = others;
     loop {
+        if let Some(shared) = overlap_by_keys(budget.take_allocator(), found, rest) {
+            return Ok(shared);
+        }
         let block = rest;
         let mut hashes = Hashes::new();
         let ended = take_hashes(&mut hashes, &mut rest, count)?;
-        if block_overlaps(found, &hashes, block, count)? {
+        if block_overlaps(found, &hashes, block, count, &mut budget)? {
             return Ok(true);
         }
         if ended {
             return Ok(false);
         }
+        budget.spend(found.len() / count);
     }
 }

@@ -1,13 +1,14 @@
 //! What decides whether the next element of an array is kept in a set operation: counts of equality keys, or the
 //! elements themselves if they are few.
 
-ghost use Rattle.std.specs.Prelude.{◌≡◌, List, nat_lt, take, IsOkAnd, IfSome, IfErr, ⊤};
+ghost use Rattle.std.specs.Prelude.{◌≡◌, List, nat_lt, take, IsOkAnd, IfOk, IfSome, IfErr, ⊤};
 ghost use Rattle.jsonb_doc.specs.Tree.{Tree};
 ghost use Rattle.jsonb_doc.specs.Payload.{Form, number_reader};
 ghost use Rattle.jsonb_doc.specs.Format.{Decodes, IsContent};
 ghost use Rattle.jsonb_doc.specs.Kinds.{kind_number};
 ghost use Rattle.jsonb_doc.specs.Private.Stored.{Stores};
 ghost use Rattle.jsonb_doc.specs.Answer.{IsDecodingError};
+ghost use Rattle.jsonb_raw.specs.AnyBytes.Roots.{HasRoot};
 ghost use Rattle.jsonb_raw.specs.Arrays.{as_elements};
 ghost use Rattle.jsonb_raw.specs.Sets.{count_of};
 ghost use Rattle.jsonb_raw.specs.Private.Entries.{HoldTrees};
@@ -15,7 +16,7 @@ ghost use Rattle.jsonb_raw.specs.Private.SetCounts.{keeps};
 
 use super::counts::KeyCounts;
 use super::sets::{SetOperation, keep_element};
-use crate::equal_items::stored_equal;
+use crate::equal_items::{container_item, stored_equal};
 use crate::equality_key::write_entry_key;
 use crate::functions::entries::element_entries;
 use crate::functions::parts::Entries;
@@ -144,6 +145,7 @@ pub(super) fn few_elements<'a>(
     ensures few { (form other_form : Form) (t u : Tree) → Decodes form bytes.now t → Decodes other_form others.now u
         → IsOkAnd result (λ found. IfSome found (λ both. HoldTrees form both.0 (as_elements t)
         × HoldTrees other_form both.1 (as_elements u))) }
+    ensures reads { IfOk result (λ found. IfSome found (λ _. HasRoot bytes.now)) }
     ensures errors { IfErr result IsDecodingError }
 {
     let Some(entries) = element_entries(bytes)? else {
@@ -187,7 +189,10 @@ fn read_entry(entry: &StoredEntry<'_>) -> Result<(), Error>
         → IsOkAnd result (λ _. ⊤) }
     ensures errors { IfErr result IsDecodingError }
 {
-    if entry.kind != EntryKind::Text && entry.short_number().is_none() {
+    if entry.kind != EntryKind::Text
+        && entry.short_number().is_none()
+        && container_item(entry).is_none()
+    {
         entry.item()?;
     }
     Ok(())

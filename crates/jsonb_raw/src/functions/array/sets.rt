@@ -1,7 +1,7 @@
 //! Arrays as sets. Elements are compared by their equality keys. They are compared by value if both documents are
 //! scalars, and in functions that do not allocate.
 
-ghost use Rattle.std.specs.Prelude.{◌≡◌, ◌<◌, ◌^◌, List, [], ◌∷◌, ◌++◌, length, cond, IsOkAnd, IfSome, OnOk, IfErr, MatchResult};
+ghost use Rattle.std.specs.Prelude.{◌≡◌, ◌<◌, ◌^◌, List, [], ◌∷◌, ◌++◌, length, cond, IsOkAnd, IfOk, IfSome, OnOk, IfErr, MatchResult};
 ghost use Rattle.std.specs.List.{AllByRecursion, list_any};
 ghost use Rattle.jsonb_doc.specs.Tree.{Tree, Trees, array, trees_of, elements as elements_of};
 ghost use Rattle.jsonb_doc.specs.Equal.{is_equal};
@@ -23,9 +23,10 @@ ghost use Rattle.jsonb_raw.specs.Private.SetCounts.{CountsKeys, CountsAfter, Hav
 
 use super::counts::KeyCounts;
 use super::overlap::entries_overlap;
+use super::overlap_in::count_entries;
 use super::seen::{ElementsPassed, KeysCounted, Seen, few_elements};
 use crate::equal_items::items_equal;
-use crate::equality_key::{item_key, write_entry_key};
+use crate::equality_key::item_key;
 use crate::functions::entries::element_entries;
 use crate::functions::joined::{array_of, array_of_run};
 use crate::functions::parts::{Entries, EntryWithWord};
@@ -148,6 +149,7 @@ fn kept_of_document(
     ensures made { (form : Form) (other : List Tree) (t : Tree) → Decodes form bytes.now t
         → CountsAfter kind counts other []
         → Makes form (array (trees_of (select_occurrences (keeps kind other) (as_elements t)))) result }
+    ensures reads { OnOk result (HasRoot bytes.now) }
     ensures errors { IfErr result (IsDecodingError or OutOfMemory or TooLarge) }
 {
     match element_entries(bytes)? {
@@ -158,23 +160,6 @@ fn kept_of_document(
         }
         None => kept_item(alloc, kind, counts, &root_item(bytes)?),
     }
-}
-
-/// Counts the keys of these elements.
-fn count_elements(alloc: Global, entries: Entries<'_>) -> Result<KeyCounts, Error>
-    ensures counts { (form : Form) (ts : List Tree) → HoldTrees form entries.entry ts
-        → length ts < 2 ^ 63 → MatchResult result (λ m. CountsKeys m ts) IsOutOfMemory }
-    ensures errors { IfErr result (IsDecodingError or OutOfMemory) }
-{
-    let mut counts = KeyCounts::new(alloc);
-    let mut key = Vec::new(alloc);
-    let mut left = entries;
-    while let Some((entry, others)) = left.first()? {
-        write_entry_key(alloc, &mut key, &entry)?;
-        counts.add(alloc, &key)?;
-        left = others;
-    }
-    Ok(counts)
 }
 
 /// Counts the key of an item.
@@ -195,9 +180,9 @@ fn count_document(alloc: Global, bytes: &[u8]) -> Result<KeyCounts, Error>
     ensures fit { (form : Form) (t : Tree) → Decodes form bytes.now t → AllByRecursion Fits (as_elements t) }
     ensures errors { IfErr result (IsDecodingError or OutOfMemory) }
 {
-    match element_entries(bytes)? {
-        Some(entries) => count_elements(alloc, entries),
-        None => count_item(alloc, &root_item(bytes)?),
+    match root_item(bytes)? {
+        Item::Array(array) => count_entries(alloc, array_entries(array)?),
+        item => count_item(alloc, &item),
     }
 }
 
@@ -224,6 +209,7 @@ fn kept_beside(
     ensures made { (form other_form : Form) (t u : Tree) → Decodes form bytes.now t
         → Decodes other_form others.now u
         → Makes form (array (trees_of (select_occurrences (keeps kind (as_elements u)) (as_elements t)))) result }
+    ensures reads { OnOk result (HasRoot bytes.now) }
     ensures errors { IfErr result (IsDecodingError or OutOfMemory or TooLarge) }
 {
     if let Some((entries, few)) = few_elements(bytes, others)? {
@@ -246,9 +232,10 @@ fn lone_root(bytes: &[u8]) -> Result<Option<Item<'_>>, Error>
     ensures reads { OnOk result (HasRoot bytes.now) }
     ensures errors { IfErr result IsDecodingError }
 {
-    match root_item(bytes)? {
+    let item = root_item(bytes)?;
+    match item {
         Item::Array(_) => Ok(None),
-        item => Ok(Some(item)),
+        _ => Ok(Some(item)),
     }
 }
 
@@ -262,6 +249,7 @@ fn lone_roots_equal(bytes: &[u8], other: &[u8]) -> Result<Option<bool>, Error>
         → IsOkAnd result (λ found. IfSome found (λ b. (as_elements t ≡ t ∷ []) × (as_elements u ≡ u ∷ [])
         × (b ≡ is_equal u t))) }
     ensures reads { OnOk result (HasRoot other.now) }
+    ensures reads_both { IfOk result (λ found. IfSome found (λ _. HasRoot bytes.now)) }
     ensures errors { IfErr result IsDecodingError }
 {
     let Some(wanted) = lone_root(other)? else {
@@ -301,14 +289,17 @@ fn has_element(found: ElementIter<'_>, item: &Item<'_>) -> Result<bool, Error>
 }
 
 /// Returns `true` if an element of one document equals one of the other. A root that is not an array counts as one
-/// element.
-fn documents_overlap(bytes: &[u8], other: &[u8]) -> Result<bool, Error>
+/// element. Allocates only if there is an allocator.
+fn documents_overlap(alloc: Option<Global>, bytes: &[u8], other: &[u8]) -> Result<bool, Error>
     ensures overlap { (form other_form : Form) (t u : Tree) → Decodes form bytes.now t
         → Decodes other_form other.now u → IsOkAnd result (λ b. b ≡ overlap (as_elements t) (as_elements u)) }
+    ensures reads { OnOk result (HasRoot bytes.now × HasRoot other.now) }
     ensures errors { IfErr result IsDecodingError }
 {
     match (elements(bytes)?, elements(other)?) {
-        (Some(_), Some(_)) => entries_overlap(array_entries(bytes)?, array_entries(other)?),
+        (Some(_), Some(_)) => {
+            entries_overlap(alloc, array_entries(bytes)?, array_entries(other)?)
+        }
         (Some(found), None) => has_element(found, &root_item(other)?),
         (None, Some(found)) => has_element(found, &root_item(bytes)?),
         (None, None) => items_equal(&root_item(bytes)?, &root_item(other)?),
@@ -388,6 +379,7 @@ impl RawJsonb<'_> {
             → Makes form (array (trees_of (intersection_of (as_elements t) (as_elements u)))) result }
         ensures errors { IfErr result (IsDecodingError or OutOfMemory or TooLarge) }
         ensures reads { OnOk result (HasRoot (raw_bytes other.now)) }
+        ensures reads_self { OnOk result (HasRoot (raw_bytes self.now)) }
     {
         let (bytes, others) = (self.as_bytes(), other.as_bytes());
         if let Some(is_shared) = lone_roots_equal(bytes, others)? {
@@ -423,6 +415,7 @@ impl RawJsonb<'_> {
             → Makes form (array (trees_of (difference_of (as_elements t) (as_elements u)))) result }
         ensures errors { IfErr result (IsDecodingError or OutOfMemory or TooLarge) }
         ensures reads { OnOk result (HasRoot (raw_bytes other.now)) }
+        ensures reads_self { OnOk result (HasRoot (raw_bytes self.now)) }
     {
         let (bytes, others) = (self.as_bytes(), other.as_bytes());
         if let Some(is_shared) = lone_roots_equal(bytes, others)? {
@@ -461,7 +454,38 @@ impl RawJsonb<'_> {
             → Decodes other_form (raw_bytes other.now) u
             → IsOkAnd result (λ b. b ≡ overlap (as_elements t) (as_elements u)) }
         ensures errors { IfErr result IsDecodingError }
+        ensures reads { OnOk result (HasRoot (raw_bytes self.now) × HasRoot (raw_bytes other.now)) }
     {
-        documents_overlap(self.as_bytes(), other.as_bytes())
+        documents_overlap(None, self.as_bytes(), other.as_bytes())
+    }
+
+    /// Returns `true` if an element equals one of the other document by value, as `array_overlap` does.
+    ///
+    /// If an allocation fails, goes on as `array_overlap` does, which does not allocate.
+    ///
+    /// # Errors
+    ///
+    /// Decoding errors.
+    ///
+    /// # Complexity
+    ///
+    /// O(n) of both, and O((k + m) log(k + m)) comparisons of equality keys for m elements of the other document.
+    /// Allocates if hashes exclude too few elements. If an allocation fails, that of `array_overlap`.
+    ///
+    /// # Examples
+    ///
+    /// <!-- rows: calls: array_overlap -->
+    /// | Document | Arguments | Result |
+    /// |---|---|---|
+    /// | `[1]` | `[1.0]` | true |
+    /// | `[10,20,30]` | `[1]` | false |
+    pub fn array_overlap_in(&self, alloc: Global, other: &RawJsonb<'_>) -> Result<bool, Error>
+        ensures overlap { (form other_form : Form) (t u : Tree) → Decodes form (raw_bytes self.now) t
+            → Decodes other_form (raw_bytes other.now) u
+            → IsOkAnd result (λ b. b ≡ overlap (as_elements t) (as_elements u)) }
+        ensures errors { IfErr result IsDecodingError }
+        ensures reads { OnOk result (HasRoot (raw_bytes self.now) × HasRoot (raw_bytes other.now)) }
+    {
+        documents_overlap(Some(alloc), self.as_bytes(), other.as_bytes())
     }
 }

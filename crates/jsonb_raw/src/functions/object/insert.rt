@@ -1,48 +1,39 @@
 //! An object with one more member. Its other entries are copied as they are stored.
 
-ghost use Rattle.std.specs.Prelude.{◌≡◌, List, ◌∷◌, ◌++◌, length, IfErr, IsOkAnd, MatchResult};
-ghost use Rattle.jsonb_doc.specs.Tree.{Tree, Pairs, object, keys as key_list, members, pairs_of};
+ghost use Rattle.std.specs.Prelude.{ℕ, List, ◌∷◌, ◌++◌, map, OnOk, IfErr, IsOkAnd, MatchResult};
+ghost use Rattle.jsonb_doc.specs.Tree.{Tree, Pairs, text, object, keys as key_list, members, pairs_of};
 ghost use Rattle.jsonb_doc.specs.Payload.{Form, number_reader};
-ghost use Rattle.jsonb_doc.specs.Format.{Decodes, IsContent};
+ghost use Rattle.jsonb_doc.specs.Format.{Decodes, AreKeys, IsContent};
 ghost use Rattle.jsonb_doc.specs.Kinds.{kind_number};
 ghost use Rattle.jsonb_doc.specs.Private.Writer.{Around, IsWriting};
 ghost use Rattle.jsonb_doc.specs.ObjectBuilder.{insert_pair};
+ghost use Rattle.jsonb_raw.specs.AnyBytes.Roots.{HasRootShape};
 ghost use Rattle.jsonb_raw.specs.Documents.{Makes};
 ghost use Rattle.jsonb_doc.specs.Answer.{◌or◌, IsDecodingError, IsOutOfMemory};
 ghost use Rattle.jsonb_doc.specs.Private.Errors.{IsOutOfMemoryOrTooLarge};
 ghost use Rattle.jsonb_doc.specs.declared.error.Error.TheVariants.{OutOfMemory, TooLarge};
-ghost use Rattle.jsonb_raw.specs.Private.Entries.{HoldTrees};
-ghost use Rattle.jsonb_raw.specs.Private.Inserts.{IsPairPlace, IsPlaceAmong};
+ghost use Rattle.jsonb_raw.specs.Private.Entries.{HoldTrees, HoldPairs};
+ghost use Rattle.jsonb_raw.specs.Private.Inserts.{IsPlaceAmong};
 
 use super::pair_parts::PairPlace;
 use crate::functions::entries::around_entries;
-use crate::functions::parts::Entries;
-use crate::functions::runs::pair_entries;
+use crate::functions::parts::{Entries, PairEntries};
 use crate::owned::OwnedJsonb;
 use jsonb_doc::layout::{EntryKind, HeaderKind, WORD};
 use jsonb_doc::rewriting::Writer;
-use jsonb_doc::{Error, StoredEntry, keys, root_entry};
+use jsonb_doc::{Error, KeyPosition, StoredEntry, root_entry};
 use std::alloc::Global;
-use std::cmp::Ordering;
 
-/// Returns the position of a member with this key in an object, or `None` if the root is not an object. The search ends
-/// at the first key that is not below this one.
-pub fn pair_place(bytes: &[u8], name: &str) -> Result<Option<PairPlace>, Error>
-    ensures place { (form : Form) (t : Tree) → Decodes form bytes.now t → IsOkAnd result (IsPairPlace name.now t) }
+/// Returns the position of a member with this key among the keys of an object.
+pub fn pair_place(keys: Entries<'_>, name: &str) -> Result<PairPlace, Error>
+    ensures place { (form : Form) (ks : List (List ℕ)) → HoldTrees form keys.entry (map text ks) → AreKeys ks
+        → IsOkAnd result (λ place. IsPlaceAmong place name.now ks) }
     ensures errors { IfErr result IsDecodingError }
 {
-    let Some(keys) = keys(bytes)? else {
-        return Ok(None);
-    };
-    let mut passed = 0;
-    for key in keys {
-        match key?.cmp(&name) {
-            Ordering::Less => passed += 1,
-            Ordering::Equal => return Ok(Some(PairPlace { passed, taken: 1 })),
-            Ordering::Greater => return Ok(Some(PairPlace { passed, taken: 0 })),
-        }
+    match keys.key_position(name.as_bytes())? {
+        KeyPosition::Found(passed) => Ok(PairPlace { passed, taken: 1 }),
+        KeyPosition::Missing(passed) => Ok(PairPlace { passed, taken: 0 }),
     }
-    Ok(Some(PairPlace { passed, taken: 0 }))
 }
 
 /// Appends two runs of entries to a container, with an entry between them.
@@ -65,29 +56,27 @@ fn copy_with(
     Ok(())
 }
 
-/// Returns the object with a member of this key and the root of the other document, at the key's position.
+/// Returns the object of these members, one of this key and the root of the other document at the key's position. The
+/// members are those of a document of `len` bytes.
 pub fn object_with_pair(
     alloc: Global,
-    bytes: &[u8],
+    pairs: PairEntries<'_>,
+    len: usize,
     place: PairPlace,
     key: &str,
     value: &[u8],
 ) -> Result<OwnedJsonb, Error>
-    ensures inserted { (form : Form) (ps : Pairs) (t : Tree) → Decodes form bytes.now (object ps)
-        → Decodes form value.now t
-        → IsPlaceAmong place key.now (key_list ps)
+    ensures inserted { (form : Form) (ps : Pairs) (t : Tree) → HoldPairs form pairs.entry (members ps)
+        → AreKeys (key_list ps) → Decodes form value.now t → IsPlaceAmong place key.now (key_list ps)
         → Makes form (object (pairs_of (insert_pair key.now t (members ps)))) result }
+    ensures reads { OnOk result (HasRootShape value.now) }
     ensures errors { IfErr result (IsDecodingError or OutOfMemory or TooLarge) }
 {
     let value = root_entry(value)?;
-    let Some(pairs) = pair_entries(bytes)? else {
-        return Err(Error::InvalidJsonb);
-    };
     let (keys, other_keys) = around_entries(pairs.keys, place.passed, place.taken)?;
     let (values, other_values) = around_entries(pairs.values, place.passed, place.taken)?;
     let count = keys.len() + 1 + other_keys.len();
-    let room = bytes
-        .len()
+    let room = len
         .saturating_add(2 * WORD)
         .saturating_add(key.len())
         .saturating_add(value.content.len());

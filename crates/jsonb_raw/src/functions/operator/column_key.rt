@@ -1,6 +1,6 @@
 //! Composite keys: the sortable key of one value after another, each of which may be missing.
 
-ghost use Rattle.std.specs.Prelude.{◌≡◌, ◌++◌, ◌+◌, ◌≤◌, [], List, Option, flat_map, None, Some, IsOk, IfErr, IfSome, IsSomeAnd, MatchResult, OnOk, vec_len, vec_capacity};
+ghost use Rattle.std.specs.Prelude.{◌≡◌, ◌++◌, ◌+◌, ◌≤◌, [], List, Option, flat_map, None, Some, IsOk, IfErr, IfSome, IsSomeAnd, MatchResult, OnOk, length, vec_len, vec_capacity};
 ghost use Rattle.std.specs.Int.{w8, w16, byte_len};
 ghost use Rattle.std.specs.List.{AllByRecursion};
 ghost use Rattle.jsonb_doc.specs.Tree.{Tree};
@@ -10,6 +10,7 @@ ghost use Rattle.jsonb_doc.specs.Answer.{IsOutOfMemory, IsDecodingError, ◌or�
 ghost use Rattle.jsonb_doc.specs.declared.error.Error.TheVariants.{OutOfMemory, TooDeep};
 ghost use Rattle.jsonb_raw.specs.CompositeKeys.{column_key, AppendsColumn, AreColumns, deepest_of_columns};
 ghost use Rattle.jsonb_raw.specs.KeyAnswer.{GivesKey};
+ghost use Rattle.jsonb_raw.specs.KeyRoom.{HasKeyRoom};
 ghost use Rattle.jsonb_raw.specs.AnyBytes.Roots.{HasRoot};
 ghost use Rattle.jsonb_raw.specs.Documents.{raw_bytes};
 ghost use Rattle.jsonb_raw.specs.Private.KeyWidth.{width_of};
@@ -27,7 +28,8 @@ use std::alloc::Global;
 ///
 /// # Errors
 ///
-/// The errors of `convert_to_comparable`; `OutOfMemory` if an allocation fails. The key is then empty.
+/// The errors of `convert_to_comparable`; `OutOfMemory` if an allocation fails. The key is then empty. No allocation of
+/// a value fails for which `convert_to_comparable_into` does not fail if the key has that much room left.
 ///
 /// # Complexity
 ///
@@ -51,6 +53,8 @@ pub fn push_column_key(
     ensures empty { IfErr result (λ _. key.new.items ≡ []) }
     ensures reads { OnOk result (IfSome column.entry (λ raw. HasRoot (raw_bytes raw))) }
     ensures room { column.entry ≡ None → vec_len key.old + 2 ≤ vec_capacity key.old → IsOk result }
+    ensures room_of_scalar { (form : Form) (tree : Tree) → IsSomeAnd column.entry (λ raw. Decodes form (raw_bytes raw) tree
+        × HasKeyRoom tree (vec_len key.old + length (raw_bytes raw)) (vec_capacity key.old)) → IsOk result }
     ensures errors { IfErr result (IsDecodingError or OutOfMemory or TooDeep) }
 {
     push_column(alloc, key, column, DepthWidth::OneByte)
@@ -89,6 +93,8 @@ pub fn push_column_key_wide(
     ensures empty { IfErr result (λ _. key.new.items ≡ []) }
     ensures reads { OnOk result (IfSome column.entry (λ raw. HasRoot (raw_bytes raw))) }
     ensures room { column.entry ≡ None → vec_len key.old + 3 ≤ vec_capacity key.old → IsOk result }
+    ensures room_of_scalar { (form : Form) (tree : Tree) → IsSomeAnd column.entry (λ raw. Decodes form (raw_bytes raw) tree
+        × HasKeyRoom tree (vec_len key.old + length (raw_bytes raw)) (vec_capacity key.old)) → IsOk result }
     ensures errors { IfErr result (IsDecodingError or OutOfMemory or TooDeep) }
 {
     push_column(alloc, key, column, DepthWidth::TwoBytes)
@@ -188,6 +194,8 @@ fn push_column(
     ensures reads { OnOk result (IfSome column.entry (λ raw. HasRoot (raw_bytes raw))) }
     ensures room { column.entry ≡ None
         → vec_len key.old + (byte_len (width_of width) + 1) ≤ vec_capacity key.old → IsOk result }
+    ensures room_of_scalar { (form : Form) (tree : Tree) → IsSomeAnd column.entry (λ raw. Decodes form (raw_bytes raw) tree
+        × HasKeyRoom tree (vec_len key.old + length (raw_bytes raw)) (vec_capacity key.old)) → IsOk result }
     ensures errors { IfErr result (IsDecodingError or OutOfMemory or TooDeep) }
 {
     let written = match column {

@@ -169,6 +169,7 @@ impl RawJsonb<'_> {
             → index_position (length (element_list ts)) index ≡ None
             → MatchResult result (λ made. made ≡ raw_bytes self.now) IsOutOfMemory }
         ensures errors { IfErr result (IsDecodingError or OutOfMemory or TooLarge or InvalidJsonType) }
+        ensures reads { OnOk result (HasRootShape (raw_bytes self.now)) }
     {
         let bytes = self.as_bytes();
         let Some(entries) = element_entries(bytes)? else {

@@ -6,7 +6,7 @@ ghost use Rattle.std.specs.Fmt.{signed_decimal};
 ghost use Rattle.std.specs.Str.{bytes_eq};
 ghost use Rattle.jsonb_doc.specs.Tree.{Tree, text};
 ghost use Rattle.jsonb_doc.specs.Payload.{Form};
-ghost use Rattle.jsonb_doc.specs.Format.{Decodes};
+ghost use Rattle.jsonb_doc.specs.Format.{Decodes, AreKeys};
 ghost use Rattle.jsonb_doc.specs.Item.{StandsFor};
 ghost use Rattle.jsonb_doc.specs.Answer.{SameOption, IsOutOfMemory, ◌or◌, IsDecodingError};
 ghost use Rattle.jsonb_doc.specs.declared.error.Error.TheVariants.{OutOfMemory, InvalidJsonType};
@@ -44,7 +44,7 @@ fn element_position(elements: Entries<'_>, index: i32) -> Option<usize>
 
 /// Returns the position of the key that is an index in decimal.
 fn decimal_position(alloc: Global, keys: Entries<'_>, index: i32) -> Result<Option<usize>, Error>
-    ensures position { (form : Form) (ks : List (List ℕ)) → HoldTrees form keys.entry (map text ks)
+    ensures position { (form : Form) (ks : List (List ℕ)) → HoldTrees form keys.entry (map text ks) → AreKeys ks
         → MatchResult result (λ found. found
         ≡ first_position (λ key. bytes_eq key (signed_decimal index)) ks) IsOutOfMemory }
     ensures errors { IfErr result (IsDecodingError or OutOfMemory) }

@@ -14,12 +14,14 @@ ghost use Rattle.jsonb_raw.specs.Computes.{Computes};
 ghost use Rattle.jsonb_raw.specs.Documents.{raw_bytes};
 ghost use Rattle.jsonb_raw.specs.Exists.{is_text, has_text, has_all, has_any};
 ghost use Rattle.jsonb_raw.specs.Private.Cursors.{IsCursorOf, IsTableOf, IsPassed, HoldsTexts, has_by};
-ghost use Rattle.jsonb_raw.specs.Private.NameBlocks.{HasTextsLeft, decided_by, names_of, IsBlock};
+ghost use Rattle.jsonb_raw.specs.Private.NameBlocks.{HasTextsLeft, AreStrings, decided_by, names_of, IsBlock};
 ghost use Rattle.jsonb_raw.specs.Iterators.{YieldsItemsLeft};
 
+use super::exists_in::Strings;
 use super::name_block::{NameBlock, entries_have};
 use crate::raw::RawJsonb;
 use jsonb_doc::{EntryIter, Error, Item, array_entries, bytes_cmp, object_entries, root_item};
+use std::alloc::Global;
 use std::cmp::Ordering;
 
 /// A position among the keys of an object: all of them, and those that remain after the last one visited.
@@ -195,6 +197,11 @@ impl<'a> KeyTable<'a> {
         self.nearest(name)
     }
 
+    /// Returns the number of keys after the cursor at which the last search ended.
+    fn left(&self) -> usize {
+        self.near.cursor.left.len()
+    }
+
     /// Moves forward to this cursor, and stores it if a block begins there.
     fn advance_to(&mut self, cursor: KeyCursor<'a>)
         ensures table { (form : Form) (ks : List (List ℕ)) → IsTableOf form self.old ks
@@ -243,9 +250,36 @@ impl<'a> KeyTable<'a> {
     }
 }
 
+/// Returns whether a key equals the name. Counts the names from the first that is not sorted: the cursors find sorted
+/// names in one traversal.
+fn key_exists<'a>(
+    strings: &mut Strings<'a>,
+    table: &mut KeyTable<'a>,
+    name: &[u8],
+) -> Result<bool, Error>
+    ensures has { (form : Form) (ks : List (List ℕ)) → AreStrings form strings.old ks → IsTableOf form table.old ks
+        → IsOkAnd result (λ b. b ≡ list_any (λ key. bytes_eq key name.now) ks) }
+    ensures table { (form : Form) (ks : List (List ℕ)) → IsTableOf form table.old ks
+        → IfOk result (λ _. IsTableOf form table.new ks) }
+    ensures strings { (form : Form) (ks : List (List ℕ)) → AreStrings form strings.old ks
+        → IfOk result (λ _. AreStrings form strings.new ks) }
+    ensures errors { IfErr result IsDecodingError }
+{
+    if let Some(has) = strings.has(name) {
+        return Ok(has);
+    }
+    let before = table.left();
+    let has = table.has(name)?;
+    if strings.is_counting() || table.left() > before {
+        strings.count_name();
+    }
+    Ok(has)
+}
+
 /// Returns whether the keys of an object include any (`found`) or all of the names, as `short_circuit` does.
 #[inline(never)]
 fn keys_decide<'k, I: Iterator<Item = &'k str> + Drop>(
+    alloc: Option<Global>,
     keys: EntryIter<'_>,
     names: I,
     found: bool,
@@ -257,9 +291,10 @@ fn keys_decide<'k, I: Iterator<Item = &'k str> + Drop>(
         → IsOkAnd result (λ b. b ≡ has_by found (left names) (object ps)) }
     ensures errors { IfErr result IsDecodingError }
 {
+    let mut strings = Strings::new(alloc, keys);
     let mut table = KeyTable::new(keys);
     for name in names {
-        let has = table.has(name.as_bytes())?;
+        let has = key_exists(&mut strings, &mut table, name.as_bytes())?;
         if has == found {
             return Ok(found);
         }
@@ -296,9 +331,39 @@ fn add_name<'k>(
     Ok(false)
 }
 
+/// Looks a name up if the strings are in a set, and otherwise counts it and adds it to a block of names. Returns `true`
+/// if names decide.
+fn look_up<'k>(
+    strings: &mut Strings<'_>,
+    block: &mut NameBlock<'k>,
+    name: &'k [u8],
+    entries: EntryIter<'_>,
+    found: bool,
+) -> Result<bool, Error>
+    requires { IsBlock block.old }
+    ensures block { IsBlock block.new }
+    ensures strings { (form : Form) (ss : List (List ℕ)) → AreStrings form strings.old ss
+        → IfOk result (λ _. AreStrings form strings.new ss) }
+    ensures told { (form : Form) (ss : List (List ℕ)) → HasTextsLeft form entries.entry ss
+        → AreStrings form strings.old ss → IsOkAnd result (λ told. told ≡ true → (others : List (List ℕ))
+        → decided_by found ss (names_of block.old ++ name.now ∷ others) ≡ found) }
+    ensures added { (form : Form) (ss : List (List ℕ)) → HasTextsLeft form entries.entry ss
+        → AreStrings form strings.old ss → IfOk result (λ told. told ≡ false → (others : List (List ℕ))
+        → decided_by found ss (names_of block.new ++ others)
+        ≡ decided_by found ss (names_of block.old ++ name.now ∷ others)) }
+    ensures errors { IfErr result IsDecodingError }
+{
+    if let Some(has) = strings.has(name) {
+        return Ok(has == found);
+    }
+    strings.count_name();
+    add_name(block, name, entries, found)
+}
+
 /// Returns whether the strings of an array include any (`found`) or all of the names, as `short_circuit` does.
 #[inline(never)]
 fn elements_decide<'k, I: Iterator<Item = &'k str> + Drop>(
+    alloc: Option<Global>,
     entries: EntryIter<'_>,
     names: I,
     found: bool,
@@ -310,9 +375,10 @@ fn elements_decide<'k, I: Iterator<Item = &'k str> + Drop>(
         → IsOkAnd result (λ b. b ≡ decided_by found ss (left names)) }
     ensures errors { IfErr result IsDecodingError }
 {
+    let mut strings = Strings::new(alloc, entries);
     let mut block = NameBlock::new();
     for name in names {
-        if add_name(&mut block, name.as_bytes(), entries, found)? {
+        if look_up(&mut strings, &mut block, name.as_bytes(), entries, found)? {
             return Ok(found);
         }
     }
@@ -371,8 +437,9 @@ const FEW_KEYS: usize = 32;
 const FEW_ELEMENTS: usize = 8;
 
 /// Returns whether one of the names exists, if finding one decides, or otherwise each of them does: the first that
-/// decides ends the walk.
+/// decides ends the walk. Allocates only if there is an allocator.
 fn short_circuit<'k, I: Iterator<Item = &'k str> + Drop>(
+    alloc: Option<Global>,
     bytes: &[u8],
     names: I,
     found: bool,
@@ -387,12 +454,12 @@ fn short_circuit<'k, I: Iterator<Item = &'k str> + Drop>(
     let mut texts = document_texts(bytes)?;
     if let Texts::Keys(cursor) = texts {
         if cursor.all.len() > FEW_KEYS {
-            return keys_decide(cursor.all, names, found);
+            return keys_decide(alloc, cursor.all, names, found);
         }
     }
     if let Texts::Elements(entries) = texts {
         if entries.len() > FEW_ELEMENTS {
-            return elements_decide(entries, names, found);
+            return elements_decide(alloc, entries, names, found);
         }
     }
     for name in names {
@@ -439,7 +506,44 @@ impl RawJsonb<'_> {
         ensures errors { IfErr result IsDecodingError }
         ensures reads { OnOk result (HasRoot (raw_bytes self.now)) }
     {
-        short_circuit(self.as_bytes(), names, false)
+        short_circuit(None, self.as_bytes(), names, false)
+    }
+
+    /// Returns `true` if the document has all of these names, as `exists_all_keys` does.
+    ///
+    /// If an allocation fails, goes on as `exists_all_keys` does, which does not allocate.
+    ///
+    /// # Errors
+    ///
+    /// Decoding errors.
+    ///
+    /// # Complexity
+    ///
+    /// O(n) and O(log n) per name for an object of n keys or an array of n elements. Allocates if the names are many,
+    /// for an object only if they are not sorted. If an allocation fails, that of `exists_all_keys`.
+    ///
+    /// # Examples
+    ///
+    /// <!-- rows: calls: exists_all_keys -->
+    /// | Document | Arguments | Result |
+    /// |---|---|---|
+    /// | `"a"` | no names | true |
+    /// | `{"a":null,"b":[null]}` | `b`, `a`, `b` | true |
+    /// | `[1,"a"]` | `a` | true |
+    /// | `[1,"a"]` | `1` | false |
+    pub fn exists_all_keys_in<'k, I: Iterator<Item = &'k str> + Drop>(
+        &self,
+        alloc: Global,
+        names: I,
+    ) -> Result<bool, Error>
+        requires can { I.can_next names }
+        requires ends { IsFinite (I.remaining names) }
+        ensures all { (left : I → List (List ℕ)) → YieldsItemsLeft I.next_gives left
+            → Computes (has_all (left names)) (raw_bytes self.now) result }
+        ensures errors { IfErr result IsDecodingError }
+        ensures reads { OnOk result (HasRoot (raw_bytes self.now)) }
+    {
+        short_circuit(Some(alloc), self.as_bytes(), names, false)
     }
 
     /// Returns `true` if the document has one of these names: as a key of an object, as a string in an array, or as a
@@ -473,7 +577,41 @@ impl RawJsonb<'_> {
         ensures errors { IfErr result IsDecodingError }
         ensures reads { OnOk result (HasRoot (raw_bytes self.now)) }
     {
-        short_circuit(self.as_bytes(), names, true)
+        short_circuit(None, self.as_bytes(), names, true)
+    }
+
+    /// Returns `true` if the document has one of these names, as `exists_any_keys` does.
+    ///
+    /// If an allocation fails, goes on as `exists_any_keys` does, which does not allocate.
+    ///
+    /// # Errors
+    ///
+    /// Decoding errors.
+    ///
+    /// # Complexity
+    ///
+    /// That of `exists_all_keys_in`.
+    ///
+    /// # Examples
+    ///
+    /// <!-- rows: calls: exists_any_keys -->
+    /// | Document | Arguments | Result |
+    /// |---|---|---|
+    /// | `{"asd":"adf"}` | `asd` | true |
+    /// | `"a"` | `a` | true |
+    pub fn exists_any_keys_in<'k, I: Iterator<Item = &'k str> + Drop>(
+        &self,
+        alloc: Global,
+        names: I,
+    ) -> Result<bool, Error>
+        requires can { I.can_next names }
+        requires ends { IsFinite (I.remaining names) }
+        ensures any { (left : I → List (List ℕ)) → YieldsItemsLeft I.next_gives left
+            → Computes (has_any (left names)) (raw_bytes self.now) result }
+        ensures errors { IfErr result IsDecodingError }
+        ensures reads { OnOk result (HasRoot (raw_bytes self.now)) }
+    {
+        short_circuit(Some(alloc), self.as_bytes(), names, true)
     }
 }
 

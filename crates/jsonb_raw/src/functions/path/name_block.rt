@@ -33,7 +33,7 @@ fn reject_float(entry: &StoredEntry<'_>) -> Result<(), Error>
 
 /// Returns the next string among the entries, and advances past it. Fails if a float precedes it.
 #[inline(always)]
-fn next_text<'a>(rest: &mut EntryIter<'a>) -> Result<Option<&'a [u8]>, Error>
+pub(super) fn next_text<'a>(rest: &mut EntryIter<'a>) -> Result<Option<&'a [u8]>, Error>
     ensures takes { (form : Form) (ss : List (List ℕ)) → HasTextsLeft form rest.old ss
         → IsOkAnd result (λ text. TakesText form ss text rest.new) }
     ensures fewer { IfOk result (λ text. IfSome text (λ _. entries_bound rest.new < entries_bound rest.old)) }

@@ -1,37 +1,45 @@
-use Rattle.jsonb_raw.proofs.Common.{rules, ◌≡◌, inl, inr, sym, subst, IsOkAnd, arith}
-use Rattle.jsonb_raw.proofs.ContainLemmas.{contains-extension, contains-array, contains-object, plain_item, array_contains_plain, extension_equals_no_plain, object_equals_no_plain}
+use Rattle.jsonb_raw.proofs.Common.{rules, ◌≡◌, ℕ, List, not, IsTrue, sym, arith, in_any, number_of, Form, Decodes, Tree, is_extension_value, StandsFor, Item, ExtensionValue}
+use Rattle.jsonb_doc.specs.declared.item.Item.TheVariants as item
+use Rattle.jsonb_doc.proofs.OneTree.{document_unique}
+use Rattle.jsonb_raw.proofs.ContainLemmas.{contains-extension}
+use Rattle.jsonb_raw.proofs.ContainsLaws.{contains_refl}
 use Rattle.jsonb_raw.proofs.raw.RawJsonb.contains.Goals as goal
 
 pub returns-in-Extension-clause-answer : goal.returns-in-Extension-clause-answer
 returns-in-Extension-clause-answer c = search (rules, contains-extension)
 
-pub returns-in-Array-clause-answer : goal.returns-in-Array-clause-answer
-returns-in-Array-clause-answer c = λ form other_form tree wanted d e.
-    let stands = c.in_ok-item.ensures.decodes form tree (rw c.as_bytes.ensures d) in
-    let means = c.in_ok-wanted.ensures.decodes other_form wanted (rw c.as_bytes-2.ensures e) in
-    let answer = c.container_matches.ensures.answer form other_form tree wanted stands means in
-    elim c.in-Array.is [
-      | inl h ↦
-          let is = rw h.1 at means in
-          rw is.1 (subst (λ a. IsOkAnd c.container_matches.result (λ b. b ≡ a)) (sym (contains-array tree is.0)) (rw is.1 at answer))
-      | inr h ↦
-          let is = rw h.1 at means in
-          rw is.1 (subst (λ a. IsOkAnd c.container_matches.result (λ b. b ≡ a)) (sym (contains-object tree is.0)) (rw is.1 at answer))
-    ]
+-- the same bytes decode to one tree
+one_tree : (form other_form : Form) (bytes : List ℕ) (t u : Tree) → Decodes form bytes t → Decodes other_form bytes u → t ≡ u
+one_tree form other_form bytes t u d e =
+    document_unique number_of t u bytes (in_any form t bytes d).document (in_any other_form u bytes e).document
 
-pub returns-in-Array-item-clause-answer : goal.returns-in-Array-item-clause-answer
-returns-in-Array-item-clause-answer c = λ form other_form tree wanted d e.
-    let stands = rw c.in-Array-item.is at (c.in_ok-item.ensures.decodes form tree (rw c.as_bytes.ensures d)) in
-    let means = c.in_ok-wanted.ensures.decodes other_form wanted (rw c.as_bytes-2.ensures e) in
-    let plain = plain_item other_form c.in_ok-wanted.wanted wanted means c.in_default.not-Extension c.in_default.not-Array c.in_default.not-Object in
-    rw stands.1 (subst (λ a. IsOkAnd c.element_matches.result (λ b. b ≡ a)) (array_contains_plain stands.0 wanted plain)
-    (c.element_matches.ensures.answer form other_form stands.0 wanted stands.2 means))
+no_extension : (form : Form) (y : Item) (u : Tree) → StandsFor form y u → ((x : ExtensionValue) → y ≡ item.Extension x → ⊥)
+    → IsTrue (not (is_extension_value u))
+no_extension form y u h k = grind arith
 
-pub returns-in_default-item-clause-answer : goal.returns-in_default-item-clause-answer
-returns-in_default-item-clause-answer c = λ form other_form tree wanted d e.
-    let stands = c.in_ok-item.ensures.decodes form tree (rw c.as_bytes.ensures d) in
-    let means = c.in_ok-wanted.ensures.decodes other_form wanted (rw c.as_bytes-2.ensures e) in
-    let plain = plain_item other_form c.in_ok-wanted.wanted wanted means c.in_default.not-Extension c.in_default.not-Array c.in_default.not-Object in
-    subst (λ a. IsOkAnd c.items_equal.result (λ b. b ≡ a))
-    (grind (arith, extension_equals_no_plain, object_equals_no_plain, stands, c.in_default-item.not-Array, plain))
-    (c.items_equal.ensures.equal form other_form tree wanted stands means)
+pub returns-then-bytes_equal-clause-answer : goal.returns-then-bytes_equal-clause-answer
+returns-then-bytes_equal-clause-answer c = λ form other_form tree wanted d e.
+    let e' : Decodes other_form c.as_bytes-others.result.now wanted = rw c.as_bytes-others.ensures e in
+    let same : c.as_bytes-bytes.result.now ≡ c.as_bytes-others.result.now = c.bytes_equal.ensures.0 c.if-bytes_equal.true in
+    let read : Decodes form c.as_bytes-bytes.result.now tree = rw c.as_bytes-bytes.ensures d in
+    let d' : Decodes form c.as_bytes-others.result.now tree = rw same at read in
+    let stands = c.in_ok-wanted.ensures.decodes other_form wanted e' in
+    rw (one_tree form other_form c.as_bytes-others.result.now tree wanted d' e')
+    (sym (contains_refl wanted (no_extension other_form c.in_ok-wanted.wanted wanted stands c.in_default.not-Extension)))
+
+pub returns-then-bytes_equal-clause-reads : goal.returns-then-bytes_equal-clause-reads
+returns-then-bytes_equal-clause-reads c =
+    let same : c.as_bytes-bytes.result.now ≡ c.as_bytes-others.result.now = c.bytes_equal.ensures.0 c.if-bytes_equal.true in (
+      (c.in_ok-wanted.wanted, rw (sym c.as_bytes-bytes.ensures, same) c.in_ok-wanted.ensures.readable),
+      (c.in_ok-wanted.wanted, rw (sym c.as_bytes-others.ensures) c.in_ok-wanted.ensures.readable),
+    )
+
+pub returns-in-Some-clause-answer : goal.returns-in-Some-clause-answer
+returns-in-Some-clause-answer c = λ form other_form tree wanted d e.
+    c.in-Some.ensures form other_form tree wanted (c.in_ok-item.ensures.decodes form tree (rw c.as_bytes-bytes.ensures d))
+    (c.in_ok-wanted.ensures.decodes other_form wanted (rw c.as_bytes-others.ensures e))
+
+pub returns-in-None-clause-answer : goal.returns-in-None-clause-answer
+returns-in-None-clause-answer c = λ form other_form tree wanted d e.
+    c.item_contains.ensures.answer form other_form tree wanted (c.in_ok-item.ensures.decodes form tree (rw c.as_bytes-bytes.ensures d))
+    (c.in_ok-wanted.ensures.decodes other_form wanted (rw c.as_bytes-others.ensures e))

@@ -1,36 +1,25 @@
-use Rattle.jsonb_raw.proofs.Lemmas.{refl, arith, ◌+◌, [], ◌∷◌, ◌++◌, values_of, text, object, failed, given, is_around, keys_around, values_around, all_coming, none_after}
+use Rattle.jsonb_raw.proofs.Lemmas.{refl, arith, ◌+◌, [], ◌∷◌, ◌++◌, values_of, text, failed, given, is_around, keys_around, values_around, all_coming, none_after}
 use Rattle.jsonb_raw.proofs.functions.object.insert.object_with_pair.Goals as goal
 
-pub returns-in_err-pairs-clause-inserted : goal.returns-in_err-pairs-clause-inserted
-returns-in_err-pairs-clause-inserted c = λ form ps t d dv at. absurd (c.in_err-pairs.ensures.entries form (object ps) d)
-
-pub returns-in_default-clause-inserted : goal.returns-in_default-clause-inserted
-returns-in_default-clause-inserted c = λ form ps t d dv at.
-    absurd (rw c.in_default.is at (c.in_ok-pairs.ensures.entries form (object ps) d))
-
 pub returns-in_err-keys-clause-inserted : goal.returns-in_err-keys-clause-inserted
-returns-in_err-keys-clause-inserted c = λ form ps t d dv at.
-    let h = rw c.in-Some.is at (c.in_ok-pairs.ensures.entries form (object ps) d) in
+returns-in_err-keys-clause-inserted c = λ form ps t h are dv at.
     absurd (c.in_err-keys.ensures.around form _ h.names)
 
 pub returns-in_err-values-clause-inserted : goal.returns-in_err-values-clause-inserted
-returns-in_err-values-clause-inserted c = λ form ps t d dv at.
-    let h = rw c.in-Some.is at (c.in_ok-pairs.ensures.entries form (object ps) d) in
+returns-in_err-values-clause-inserted c = λ form ps t h are dv at.
     absurd (c.in_err-values.ensures.around form _ h.parts)
 
 pub returns-in_err-object-clause-inserted : goal.returns-in_err-object-clause-inserted
-returns-in_err-object-clause-inserted c = λ form ps t d dv at.
-    let h = rw c.in-Some.is at (c.in_ok-pairs.ensures.entries form (object ps) d) in
-    given (is_around form _ _ _ t ps c.in-Some.pairs d h at) (λ a.
+returns-in_err-object-clause-inserted c = λ form ps t h are dv at.
+    given (is_around form _ _ t ps _ are h at) (λ a.
     given (keys_around form _ _ t ps _ a _ _ (c.in_ok-keys.ensures.around form _ a.names)) (λ keys.
     given (all_coming form _ _ t ps _ a (c.len.result + 1 + c.len-2.result)
     (omega (arith, c.len.ensures.count form _ keys.0, c.len-2.ensures.count form _ keys.1))) (λ makes.
     failed _ _ _ c.from_residual-in_err-object.ensures.1 (c.in_err-object.ensures.opened form _ _ makes))))
 
 pub returns-in_err-copy_with-clause-inserted : goal.returns-in_err-copy_with-clause-inserted
-returns-in_err-copy_with-clause-inserted c = λ form ps t d dv at.
-    let h = rw c.in-Some.is at (c.in_ok-pairs.ensures.entries form (object ps) d) in
-    given (is_around form _ _ _ t ps c.in-Some.pairs d h at) (λ a.
+returns-in_err-copy_with-clause-inserted c = λ form ps t h are dv at.
+    given (is_around form _ _ t ps _ are h at) (λ a.
     given (keys_around form _ _ t ps _ a _ _ (c.in_ok-keys.ensures.around form _ a.names)) (λ keys.
     given (all_coming form _ _ t ps _ a (c.len.result + 1 + c.len-2.result)
     (omega (arith, c.len.ensures.count form _ keys.0, c.len-2.ensures.count form _ keys.1))) (λ makes.
@@ -39,9 +28,8 @@ returns-in_err-copy_with-clause-inserted c = λ form ps t d dv at.
     failed _ _ _ c.from_residual-in_err-copy_with.ensures.1 (c.in_err-copy_with.ensures.copied form _ (text c.args.key.now) _ rest [] _ keys.0 (refl, c.as_bytes.ensures.value, c.utf8.key) keys.1 begun)))))
 
 pub returns-in_err-copy_with-2-clause-inserted : goal.returns-in_err-copy_with-2-clause-inserted
-returns-in_err-copy_with-2-clause-inserted c = λ form ps t d dv at.
-    let h = rw c.in-Some.is at (c.in_ok-pairs.ensures.entries form (object ps) d) in
-    given (is_around form _ _ _ t ps c.in-Some.pairs d h at) (λ a.
+returns-in_err-copy_with-2-clause-inserted c = λ form ps t h are dv at.
+    given (is_around form _ _ t ps _ are h at) (λ a.
     given (keys_around form _ _ t ps _ a _ _ (c.in_ok-keys.ensures.around form _ a.names)) (λ keys.
     given (values_around form _ _ t ps _ a _ _ (c.in_ok-values.ensures.around form _ a.parts)) (λ values.
     given (all_coming form _ _ t ps _ a (c.len.result + 1 + c.len-2.result)
@@ -53,9 +41,8 @@ returns-in_err-copy_with-2-clause-inserted c = λ form ps t d dv at.
     failed _ _ _ c.from_residual-in_err-copy_with-2.ensures.1 (c.in_err-copy_with-2.ensures.copied form _ t _ [] [] _ values.0 is values.1 (none_after form _ _ _ t [] _ keyed))))))))
 
 pub returns-in_err-finish-clause-inserted : goal.returns-in_err-finish-clause-inserted
-returns-in_err-finish-clause-inserted c = λ form ps t d dv at.
-    let h = rw c.in-Some.is at (c.in_ok-pairs.ensures.entries form (object ps) d) in
-    given (is_around form _ _ _ t ps c.in-Some.pairs d h at) (λ a.
+returns-in_err-finish-clause-inserted c = λ form ps t h are dv at.
+    given (is_around form _ _ t ps _ are h at) (λ a.
     given (keys_around form _ _ t ps _ a _ _ (c.in_ok-keys.ensures.around form _ a.names)) (λ keys.
     given (values_around form _ _ t ps _ a _ _ (c.in_ok-values.ensures.around form _ a.parts)) (λ values.
     given (all_coming form _ _ t ps _ a (c.len.result + 1 + c.len-2.result)
@@ -68,9 +55,8 @@ returns-in_err-finish-clause-inserted c = λ form ps t d dv at.
     absurd (c.in_err-finish.ensures.written form _ all)))))))
 
 pub returns-clause-inserted : goal.returns-clause-inserted
-returns-clause-inserted c = λ form ps t d dv at.
-    let h = rw c.in-Some.is at (c.in_ok-pairs.ensures.entries form (object ps) d) in
-    given (is_around form _ _ _ t ps c.in-Some.pairs d h at) (λ a.
+returns-clause-inserted c = λ form ps t h are dv at.
+    given (is_around form _ _ t ps _ are h at) (λ a.
     given (keys_around form _ _ t ps _ a _ _ (c.in_ok-keys.ensures.around form _ a.names)) (λ keys.
     given (values_around form _ _ t ps _ a _ _ (c.in_ok-values.ensures.around form _ a.parts)) (λ values.
     given (all_coming form _ _ t ps _ a (c.len.result + 1 + c.len-2.result)

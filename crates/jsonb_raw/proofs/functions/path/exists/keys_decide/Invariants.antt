@@ -1,4 +1,4 @@
-use Rattle.jsonb_raw.proofs.Lemmas.{◌≡◌, ℕ, List, Pairs, object, keys, Form, AreKeys, HasEntriesLeft, key_trees, IsTableOf, has_by, YieldsItemsLeft}
+use Rattle.jsonb_raw.proofs.Lemmas.{◌≡◌, ℕ, List, Pairs, object, keys, Form, AreKeys, HasEntriesLeft, key_trees, IsTableOf, AreStrings, has_by, YieldsItemsLeft}
 use Rattle.jsonb_raw.proofs.functions.path.exists.keys_decide.Given as goal
 
 -- the strings that are left decide
@@ -8,5 +8,5 @@ invariant-loop-name g l = record {
   finite : (goal.iterator-loop-name g).is_finite l.name-iterator;
   left : (left : _ → List (List ℕ)) → YieldsItemsLeft (goal.iterator-loop-name g).next_gives left → (form : Form) (ps : Pairs)
       → AreKeys (keys ps) → HasEntriesLeft form l.keys (key_trees (keys ps))
-      → IsTableOf form l.table (keys ps) × (has_by l.found (left l.name-iterator) (object ps) ≡ has_by l.found (left l.fn.names) (object ps));
+      → AreStrings form l.strings (keys ps) × IsTableOf form l.table (keys ps) × (has_by l.found (left l.name-iterator) (object ps) ≡ has_by l.found (left l.fn.names) (object ps));
 }
