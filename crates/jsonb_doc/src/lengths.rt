@@ -56,7 +56,8 @@ fn sum_words(words: &[u8]) -> usize
     len
 }
 
-/// Returns the sum of the lengths in groups of entry words. A call, so that the sum of few words saves no registers for it.
+/// Returns the sum of the lengths in groups of entry words. A call, so that the sum of few words saves no registers for
+/// it.
 #[inline(never)]
 fn sum_groups(groups: &[[u8; GROUP]]) -> usize
     requires { length groups.now < 2 ^ 25 }

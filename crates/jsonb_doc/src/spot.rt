@@ -278,8 +278,9 @@ pub fn child_spots<'a>(bytes: &'a [u8], spot: Spot) -> Result<Option<SpotIter<'a
 ///
 /// # Complexity
 ///
-/// O(k) for k keys: the lengths of all, and of the values before the one found, are added up; one key in 32 is
-/// compared, then those in one block of 32 that are as long as the name. Does not allocate.
+/// O(k) for k keys: the lengths of all, and of the values before the one found, are added up; one key in 128 is
+/// compared, then one in 32 of a block of 128, then those in a block of 32 that are as long as the name. Does not
+/// allocate.
 ///
 /// # Examples
 ///

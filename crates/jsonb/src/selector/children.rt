@@ -207,6 +207,7 @@ fn push_picked(
     if let Some(position) = plain_index(entries) {
         return push_nth(elements, position, nodes);
     }
+    // Without a list: 551 instructions for `select_value` of `$[last]` on `[]` instead of 719.
     if elements.len() == 0 {
         return Ok(());
     }

@@ -53,7 +53,8 @@ pub fn push_column_key(
     ensures empty { IfErr result (λ _. key.new.items ≡ []) }
     ensures reads { OnOk result (IfSome column.entry (λ raw. HasRoot (raw_bytes raw))) }
     ensures room { column.entry ≡ None → vec_len key.old + 2 ≤ vec_capacity key.old → IsOk result }
-    ensures room_of_scalar { (form : Form) (tree : Tree) → IsSomeAnd column.entry (λ raw. Decodes form (raw_bytes raw) tree
+    ensures room_of_scalar { (form : Form) (tree : Tree)
+        → IsSomeAnd column.entry (λ raw. Decodes form (raw_bytes raw) tree
         × HasKeyRoom tree (vec_len key.old + length (raw_bytes raw)) (vec_capacity key.old)) → IsOk result }
     ensures errors { IfErr result (IsDecodingError or OutOfMemory or TooDeep) }
 {
@@ -93,7 +94,8 @@ pub fn push_column_key_wide(
     ensures empty { IfErr result (λ _. key.new.items ≡ []) }
     ensures reads { OnOk result (IfSome column.entry (λ raw. HasRoot (raw_bytes raw))) }
     ensures room { column.entry ≡ None → vec_len key.old + 3 ≤ vec_capacity key.old → IsOk result }
-    ensures room_of_scalar { (form : Form) (tree : Tree) → IsSomeAnd column.entry (λ raw. Decodes form (raw_bytes raw) tree
+    ensures room_of_scalar { (form : Form) (tree : Tree)
+        → IsSomeAnd column.entry (λ raw. Decodes form (raw_bytes raw) tree
         × HasKeyRoom tree (vec_len key.old + length (raw_bytes raw)) (vec_capacity key.old)) → IsOk result }
     ensures errors { IfErr result (IsDecodingError or OutOfMemory or TooDeep) }
 {
@@ -194,7 +196,8 @@ fn push_column(
     ensures reads { OnOk result (IfSome column.entry (λ raw. HasRoot (raw_bytes raw))) }
     ensures room { column.entry ≡ None
         → vec_len key.old + (byte_len (width_of width) + 1) ≤ vec_capacity key.old → IsOk result }
-    ensures room_of_scalar { (form : Form) (tree : Tree) → IsSomeAnd column.entry (λ raw. Decodes form (raw_bytes raw) tree
+    ensures room_of_scalar { (form : Form) (tree : Tree)
+        → IsSomeAnd column.entry (λ raw. Decodes form (raw_bytes raw) tree
         × HasKeyRoom tree (vec_len key.old + length (raw_bytes raw)) (vec_capacity key.old)) → IsOk result }
     ensures errors { IfErr result (IsDecodingError or OutOfMemory or TooDeep) }
 {
