@@ -201,7 +201,7 @@ def words():
 
 
 def run_asked(asked):
-    """Does what the arguments ask for, and returns its status and how many edits can't be tried. An exception that ends it is a failure."""
+    """Runs what the arguments request, and returns its status and how many edits can't be tried. An exception that ends it is a failure."""
     lacks = kit.lacks()
     for it in lacks:
         edits.say(f"gate: this kit needs another tools/kit.py, so rt ci runs as it is: {it}")

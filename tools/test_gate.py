@@ -178,7 +178,7 @@ def fault_of_end(room, command):
 
 
 def fault_of_last(room, proofs, other, seconds):
-    """Returns what is wrong with the end if the proofs and another command fail so many seconds apart, or an empty text.
+    """Returns what is wrong with the end if the proofs and another command fail that many seconds apart, or an empty text.
 
     The lines of the proofs are the last ones, whichever fails first.
     """
@@ -190,7 +190,7 @@ def fault_of_last(room, proofs, other, seconds):
 
 
 def fault_of_not_run(room, proofs, waiting):
-    """Returns what is wrong with what is said of the commands that wait for what the proofs have not built, or an empty text."""
+    """Returns what is wrong with what is printed of the commands that wait for what the proofs have not built, or an empty text."""
     said, last, _ = run(room, {proofs: LONG_FAILURE})
     end = said[-25 - len(waiting) :]
     named = {it.rpartition(": ")[2] for it in end if it.startswith(NOT_RUN)}
