@@ -7,6 +7,7 @@ tools/measure_speed.py, measure_growth.py, measure_stack.py, gate_times.py, verd
 tools/check_quotes.py compares the tables.
 """
 import csv
+import datetime
 import io
 import math
 import os
@@ -38,6 +39,8 @@ COLUMNS = {
     "readers": ["reader", "instructions_298", "instructions_4900"],
     "verdict": ["crate", "functions", "seconds", "processors", "day"],
     "gate": ["step", "minutes"],
+    # When each file was written, and what to say of that if it was before the code that it is to measure.
+    "dates": ["figures", "day", "note"],
 }
 
 # The classes of the cases of speed.csv.
@@ -81,12 +84,33 @@ def as_csv(name, rows):
     return text.getvalue()
 
 
-def save(name, rows):
-    """Writes a file of figures, and the pages that show it."""
+def write(name, rows):
     text = as_csv(name, rows)
     with open(os.path.join(FIGURES, f"{name}.csv"), "w") as file:
         file.write(text)
+
+
+def save(name, rows):
+    """Writes a file of figures and its date, and the pages that show it."""
+    write(name, rows)
+    others = [row for row in read("dates") if row["figures"] != name]
+    today = {"figures": name, "day": datetime.date.today().isoformat(), "note": ""}
+    write("dates", sorted([*others, today], key=lambda row: row["figures"]))
     write_pages()
+
+
+def measured_on(names):
+    """Returns the sentence that says when these figures were measured, or an empty text if they were not."""
+    dates = [row for row in read("dates") if row["figures"] in names]
+    days = sorted({row["day"] for row in dates})
+    when = f"on {days[0]}" if len(days) == 1 else f"from {days[0]} to {days[-1]}" if days else ""
+    notes = "".join(dict.fromkeys(f", {row['note']}" for row in dates if row["note"]))
+    return f"Measured {when}{notes}." if days else ""
+
+
+def dated(made, *names):
+    """Returns what makes a table of figures, with the date of these files of figures below."""
+    return lambda: "\n\n".join(filter(None, [made(), measured_on(names)]))
 
 
 def report(name, rows, is_written):
@@ -321,15 +345,24 @@ def counts():
 
 # The tables of each page, by the marks around them.
 PAGES = {
-    "README.md": {"speed": lambda: f"{speed(README_CASES)}\n\n{means()}", "compared": compared, "counts": counts,
-                  "verdict": verdict},
-    "docs/HACKING.md": {"gate": gate},
-    "docs/C.md": {"c": c, "python": python},
-    "docs/SQL.md": {"sqlite": sqlite, "postgres": postgres},
-    "docs/PERFORMANCE.md": {"classes": classes, "speed": lambda: speed(MORE_CASES), "loops": loops, "growth": growth,
-                            "check": check},
-    "docs/measured/slower.md": {"slower": slower},
-    "docs/STACK.md": {"stack": lambda: stack("stack"), "stack, more": lambda: stack("stack_more")},
+    "README.md": {
+        "speed": dated(lambda: f"{speed(README_CASES)}\n\n{means()}", "speed"),
+        "compared": dated(compared, "sqlite", "postgres", "jq", "python"),
+        "counts": counts,
+        "verdict": verdict,
+    },
+    "docs/HACKING.md": {"gate": dated(gate, "gate")},
+    "docs/C.md": {"c": dated(c, "c"), "python": dated(python, "python")},
+    "docs/SQL.md": {"sqlite": dated(sqlite, "sqlite"), "postgres": dated(postgres, "postgres")},
+    "docs/PERFORMANCE.md": {
+        "classes": dated(classes, "speed"),
+        "speed": lambda: speed(MORE_CASES),
+        "loops": dated(loops, "c"),
+        "growth": dated(growth, "growth"),
+        "check": dated(check, "check"),
+    },
+    "docs/measured/slower.md": {"slower": dated(slower, "speed")},
+    "docs/STACK.md": {"stack": dated(lambda: stack("stack"), "stack"), "stack, more": dated(lambda: stack("stack_more"), "stack_more")},
 }
 
 
