@@ -209,8 +209,9 @@ def run_asked(asked):
         if lacks:
             return run_plain(asked.anew, asked.names)
         return run_some(asked.anew, asked.names) if asked.names else run(asked.anew, asked.built)
-    except Exception:
+    except Exception as why:
         traceback.print_exc()
+        print(f"gate: ended by {why!r}")
         return 1, 0
 
 

@@ -17,6 +17,8 @@ FAILED_TESTS = re.compile(r"^tests: \d+\n((?:(?!tests: ).*\n)*?)rt: (\w+): its t
 PASSED_TEST = re.compile(r"^test (?:\S+ \.\.\. (?:ok|ignored)|result: .*)$")
 # A program that does not end or write as it must.
 PROGRAM = re.compile(r"^rt: (\w+(?: \([^)]*\))?: (?:the program |what the program wrote, |the file ).*|\w+ was not run: .*)$", re.M)
+# An exception that ended tools/gate.py.
+ENDED = re.compile(r"^(gate: ended by .*)$", re.M)
 # A mutant that was not rejected, or not tried.
 MUTANT = re.compile(r"^(?:rt: )?(must-fail \S+: (?:NOT|BAD) .*)$", re.M)
 # The most rows of a proof, and characters of a row, that are kept; and the most rows of all. .ci/run shows two more: that on the time, and
@@ -62,5 +64,5 @@ def first_rows(blocks):
 
 def reasons(said, complained=""):
     """Returns rows that say what has failed and why, from what rt ci printed, and what it complained of."""
-    more = [[it[:LONGEST]] for pattern in (PROGRAM, MUTANT) for it in [*dict.fromkeys(pattern.findall(said))][:MOST]]
+    more = [[it[:LONGEST]] for pattern in (ENDED, PROGRAM, MUTANT) for it in [*dict.fromkeys(pattern.findall(said))][:MOST]]
     return first_rows([*failed_proofs(said, complained), *failed_tests(said), *more])

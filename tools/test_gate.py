@@ -86,6 +86,7 @@ PRINTED = {
          "tests: 2", "test b ... ok", "test c ... FAILED", "    row 5", "test result: FAILED. 1 passed; 1 failed", "rt: high: its tests FAILED"],
         ["tests failed: high", "  test c ... FAILED", "  row 5"],
     ),
+    "an exception": (["rt: low proved", "gate: ended by KeyError('low')"], ["gate: ended by KeyError('low')"]),
     "a program": ([f"rt: {ENDED}", "rt: high ran, and wrote what its file stdout has"], [ENDED]),
     "many proofs": (
         [row for number in range(8) for row in (f"== low{number}", *MANY, f"rt: low{number} NOT PROVED")],
