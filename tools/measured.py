@@ -25,6 +25,7 @@ SIZES = [1, 2, 4, 8, 10, 100, 1_000, 10_000, 100_000, 200_000]
 COLUMNS = {
     "speed": ["class", "case", "rust_instructions", "this_instructions", "rust_ns", "this_ns", "result_copy_ns", "rust_allocations",
               "this_allocations"],
+    "alone": ["type", "call", "document", "instructions", "allocations"],
     "growth": ["unit", "call", *(f"{side}{it}" for side in ("", "rust_") for it in [*SIZES, "exponent"])],
     "check": ["document", "check_ns", "copy_ns", "bytes"],
     "stack": ["call", "shape", "kib_10000", "kib_100000"],
@@ -185,6 +186,30 @@ def slower():
     rows = [[row["class"], row["case"], row["rust_instructions"], row["this_instructions"], f"{ratio(row):.2f}"]
             for cases in by_class(read("speed")).values() for row in above_one(cases)]
     return table(["Class", "Case", "Rust crate", "This crate", "Ratio"], rows)
+
+
+# The documents of alone.csv that have a column of their own in its table.
+ALONE_COLUMNS = ["`[]`", "8 integers", "32 integers", "1,000 integers", "1,000 strings", "1,000 decimals", "1,000 objects", "`{}`", "3 members",
+                 "12 members", "1,000 members"]
+
+
+def alone():
+    """Every call: a mean of the scalars, and some arrays and objects; then the calls on paths and numbers."""
+    if not os.path.exists(os.path.join(FIGURES, "alone.csv")):
+        return "`tools/measure_speed.py --alone --write` has not been run yet."
+    of, scalars, others = {}, {}, []
+    for row in read("alone"):
+        cost = int(row["instructions"])
+        if row["type"] == "scalar":
+            scalars.setdefault(row["call"], []).append(cost)
+        elif row["document"] in ALONE_COLUMNS:
+            of.setdefault(row["call"], {})[row["document"]] = cost
+        elif row["type"] in ("text", "number"):
+            others.append([row["call"], row["document"], f"{cost:,}"])
+    mean = lambda call: f"{statistics.mean(scalars[call]):,.0f}" if call in scalars else ""
+    cost_of = lambda call, what: f"{of[call][what]:,}" if what in of.get(call, {}) else ""
+    cells = [[call, mean(call), *(cost_of(call, it) for it in ALONE_COLUMNS)] for call in dict.fromkeys([*scalars, *of])]
+    return table(["Call", "Scalars, mean", *ALONE_COLUMNS], cells) + "\n\n" + table(["Call", "Of", "Instructions"], others)
 
 
 def per_unit(row, size):
@@ -362,6 +387,7 @@ PAGES = {
         "check": dated(check, "check"),
     },
     "docs/measured/slower.md": {"slower": dated(slower, "speed")},
+    "docs/measured/alone.md": {"alone": dated(alone, "alone")},
     "docs/STACK.md": {"stack": dated(lambda: stack("stack"), "stack"), "stack, more": dated(lambda: stack("stack_more"), "stack_more")},
 }
 
