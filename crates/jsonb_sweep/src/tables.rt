@@ -1,13 +1,10 @@
 //! The calls that make a table of names or elements, and return the same if an allocation fails.
 
-use crate::made::repeated;
+use crate::made::{pairs, repeated};
 use crate::mark::tell;
 use jsonb::{ArrayBuilder, Error, Item, Number, RawJsonb};
 use std::alloc::Global;
 use std::io;
-
-/// More names than the number that is looked up without a table.
-const MANY_NAMES: u64 = 2_100;
 
 /// What a document has the names as.
 #[derive(Clone, Copy)]
@@ -26,7 +23,7 @@ impl Kind {
 
     /// Returns the object of `count` keys, or the array of these as strings.
     fn document(self, alloc: Global, count: u64) -> Result<Vec<u8>, Error> {
-        let object = crate::made::pairs(alloc, count)?;
+        let object = pairs(alloc, count)?;
         match self {
             Kind::Keys => Ok(object),
             Kind::Strings => match RawJsonb::new(&object).object_keys(alloc)? {
@@ -37,8 +34,8 @@ impl Kind {
     }
 }
 
-/// A call with many names: its name, whether it is for all of them, what ends each name that precedes the last and the last one, and the
-/// expected result. A name is there if nothing ends it.
+/// A call with many names: its name, whether it is for all of them, what is added to each of the others and to the last
+/// one, and the expected result. A name exists if nothing is added to it.
 type Case = (&'static str, bool, &'static str, &'static str, bool);
 
 static CASES: [Case; 4] = rows! {
@@ -48,11 +45,11 @@ static CASES: [Case; 4] = rows! {
     "exists_any_keys_in of those that are missing", false, "a", "a", false;
 };
 
-/// Makes the calls on documents of that many parts, and reports each result.
-pub fn cases(rt: &HostRuntime, count: u64) -> io::Result<()> {
+/// Makes the calls on documents of that many parts, with each name that many times, and reports each result.
+pub fn cases(rt: &HostRuntime, count: u64, times: u64) -> io::Result<()> {
     for of in [Kind::Keys, Kind::Strings] {
         for case in &CASES {
-            let is_right = exist(rt, of, count, case);
+            let is_right = exist(rt, of, count, times, case);
             tell(
                 rt,
                 format_args!("{count} {}: {}", of.name(), case.0),
@@ -60,13 +57,13 @@ pub fn cases(rt: &HostRuntime, count: u64) -> io::Result<()> {
             )?;
         }
     }
-    let is_right = overlap(rt, count, count);
+    let is_right = overlap(rt, count, 0);
     tell(
         rt,
         format_args!("{count} numbers: array_overlap_in"),
         is_right,
     )?;
-    let is_right = overlap(rt, count, 0);
+    let is_right = overlap(rt, count, count);
     tell(
         rt,
         format_args!("{count} numbers: array_overlap_in of others"),
@@ -85,18 +82,14 @@ fn decreasing(alloc: Global, count: u64, ending: &str) -> Result<String, Error> 
 }
 
 /// Makes the call of a case. Its last name is looked up in the table, if there is one.
-fn exist(rt: &HostRuntime, of: Kind, count: u64, case: &Case) -> Result<bool, Error> {
+fn exist(rt: &HostRuntime, of: Kind, count: u64, times: u64, case: &Case) -> Result<bool, Error> {
     let alloc = rt.alloc();
     let (_, is_all, ending, last_ending, wanted) = *case;
     let bytes = of.document(alloc, count)?;
     let document = RawJsonb::new(&bytes);
     let each = decreasing(alloc, count, ending)?;
     let last = format!(in alloc; "key 000000{last_ending}")?;
-    let text = repeated(
-        alloc,
-        ["", each.as_str(), last.as_str()],
-        MANY_NAMES / count.max(1) + 1,
-    )?;
+    let text = repeated(alloc, ["", each.as_str(), last.as_str()], times)?;
     let mut names = Vec::new(alloc);
     names.extend(text.as_str().split(','))?;
     let answer = if is_all {
@@ -113,7 +106,7 @@ fn exist(rt: &HostRuntime, of: Kind, count: u64, case: &Case) -> Result<bool, Er
     Ok(answer? == wanted)
 }
 
-/// Returns the array of that many numbers from a first one, and of a last one, each times 2,048. All of them have one hash.
+/// Returns the array of that many numbers from a first one, and of a last one, each times 2,048. All have one hash.
 fn numbers(alloc: Global, first: u64, count: u64, last: u64) -> Result<Vec<u8>, Error> {
     let mut array = ArrayBuilder::new(alloc);
     for number in first..first.saturating_add(count) {
@@ -123,7 +116,7 @@ fn numbers(alloc: Global, first: u64, count: u64, last: u64) -> Result<Vec<u8>, 
     array.build()
 }
 
-/// Whether two arrays overlap if and only if their last elements are equal.
+/// Whether two arrays overlap if and only if their last elements are equal. That of the other array is `last`.
 fn overlap(rt: &HostRuntime, count: u64, last: u64) -> Result<bool, Error> {
     let alloc = rt.alloc();
     let one = numbers(alloc, 1_000_000, count, 0)?;
