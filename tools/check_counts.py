@@ -8,7 +8,7 @@
 A mutant, a test module or a row that is deleted leaves the gate green with a smaller number. So each number is in
 tools/counts.toml, and a change that lowers one has to say so there. Each public call has to be named in docs/API.md, in a row of
 docs/rows/, in a test, in the allocation-failure sweep and in the name of one of its cases, among the calls on damaged documents, in
-a mutant and in the C library.
+a mutant, in the C library and among the calls that tools/measure_speed.py measures, each of which has a case.
 tools/counts.toml lists each exception by its name, below a reason.
 
 Only what runs is counted: source files that a `mod` line includes, and of the sweep and the damaged documents what `main` and the
@@ -32,6 +32,9 @@ import edits
 import measure_stack
 import results
 import rows
+
+sys.path.insert(0, str(Path(__file__).resolve().parent / "speed"))
+import cases as speed
 
 ROOT = Path(__file__).resolve().parent.parent
 CRATES = ROOT / "crates"
@@ -212,6 +215,7 @@ def numbers_of_tools():
     yield "levels of values and paths in a small stack", measure_stack.DECODED
     yield "bytes of the small stack", measure_stack.SMALL_STACK
     yield "witnesses that test the judge", entries_of("tools/test_judge.py", "WITNESSES")
+    yield "groups that test how mutants are tried", sum(entries_of("tools/test_judge.py", it) for it in ("GROUPED", "SAID"))
     yield "mutants that test what has a switch", entries_of("tools/test_judge.py", "SWITCHED")
     yield "folders that test the judge", entries_of("tools/test_judge.py", "FOLDERS")
     yield "cases that test the gate", entries_of("tools/test_gate.py", "CASES")
@@ -222,6 +226,8 @@ def numbers_of_tools():
     kept = tomllib.loads((ROOT / "tools/witnesses.toml").read_text())["prover"]
     yield from ((f"mutants kept for the prover of {crate}", len(named)) for crate, named in kept.items())
     yield "broken outputs in the sweep", len(re.findall(r'"[\w ]+: \$', re.search(r"^for word in (.*); do", text_of(ROOT / "tools/sweep_memory.sh"), re.M)[1]))
+    yield "cases of tools/speed", len([*speed.alone_cases()])
+    yield "cases of tools/speed that the Rust crate runs", len(speed.cases())
     yield "comparisons of the fuzzer", len(re.findall(r"\.(?:compare|makes|truth|value|bytes)\(", text_of(ROOT / "tools/fuzz.py")))
 
 
@@ -310,6 +316,30 @@ def mutated(calls):
     return {call for call in calls if call in names or "::" in call and is_in_impl(call)}
 
 
+def text_of_speed():
+    return text_of(*sorted((ROOT / "tools/speed").glob("*.rt.txt")))
+
+
+def listed_in_speed():
+    """Returns the methods that a macro of tools/speed lists, which have no parentheses there."""
+    listed = re.findall(r"one_of!\(\w+, \w+, \|\w+\| [^,]*,(.*?)\)$", text_of_speed(), re.M | re.S)
+    return {word for it in listed for word in it.split()}
+
+
+def measured_names():
+    """Returns what tools/speed calls."""
+    return {*CALL.findall(text_of_speed()), *listed_in_speed()}
+
+
+def faults_of_speed():
+    """Yields the names by which tools/speed makes calls and that no case of tools/speed/cases.py has, also after a selector's mode."""
+    made = {speed.EMPTY.call, *(case.call for _, case in speed.alone_cases())}
+    made |= {it.removeprefix("strict_").removeprefix("limited_") for it in made}
+    named = {*listed_in_speed(), *re.findall(r'"(\w+[^_\W])"(?=\s*(?:\||=>))', text_of_speed())}
+    yield from (f"tools/speed/cases.py has no case of {it}" for it in sorted(named - made))
+    yield from [""] * len(named & made)
+
+
 def c_names():
     return re.findall(r" \**jdoc_(\w+)\(", (ROOT / "bindings/c/abi.txt").read_text())
 
@@ -328,6 +358,7 @@ def missing():
         "a name of its cases": {call for it in names_of_cases("growths") for call in calls_in_name(it)},
         "damaged documents": reached_names("jsonb_vectors", TEST.findall(source("jsonb_vectors"))),
         "the C library": {*c_names()},
+        "tools/speed": measured_names(),
     }
     lacks = {place: [it for it in calls if not {it, it.rpartition("::")[2]} & names] for place, names in places.items()}
     changed = mutated(calls)
@@ -382,6 +413,7 @@ def faults(run, counts, calls):
         now, then = counts.get(name, 0), numbers_stated.get(name, 0)
         yield "" if now == then else f"{name}: {now}, and {then} in tools/counts.toml"
     yield from faults_of_sweep()
+    yield from faults_of_speed()
     every = len([*public_calls()])
     for place, names in calls.items():
         given = explained(reasons.get(place, {}))

@@ -17,7 +17,7 @@ own program on a copy of the repository, with three things changed:
 So the prover says `incremental=trusted` of each crate: it trusts the files that this run wrote in its own folder. rt ci
 by itself, which trusts none, takes the repository as well, and nothing that is kept here. The work tree gets each program
 and the static library once its crate is proved, for the commands that use them. The last line is 'N passed, M failed'. Before
-it are the first errors of each proof that failed, and the mutants that are not rejected.
+it is what has failed and why, in as many lines as .ci/run repeats.
 
 With a kit that lacks what tools/kit.py uses of rt, this is plain rt ci, and `rt lib` for the static library.
 """
@@ -29,6 +29,7 @@ import shutil
 import subprocess
 import sys
 import tempfile
+import traceback
 from collections import ChainMap
 from pathlib import Path
 
@@ -42,10 +43,10 @@ import reasons
 
 
 class Output:
-    """Standard output that remembers what was written, and its last line."""
+    """Standard output, or standard error, that remembers what was written, and its last line."""
 
     def __init__(self, to):
-        self.to, self.buffer, self.said, self.last = to, to.buffer, [], ""
+        self.to, self.buffer, self.said, self.last = to, Bytes(self), [], ""
 
     def write(self, text):
         self.said.append(text)
@@ -54,6 +55,19 @@ class Output:
 
     def flush(self):
         self.to.flush()
+
+
+class Bytes:
+    """The buffer of an output: what tests print, rt writes there."""
+
+    def __init__(self, output):
+        self.output = output
+
+    def write(self, text):
+        return self.output.write(text.decode(errors="replace"))
+
+    def flush(self):
+        self.output.flush()
 
 
 class Built:
@@ -186,26 +200,39 @@ def words():
     return asked.parse_args()
 
 
-def main():
-    asked = words()
-    sys.stdout.reconfigure(line_buffering=True)
-    sys.stdout = Output(sys.stdout)
+def run_asked(asked):
+    """Runs what the arguments request, and returns its status and how many edits can't be tried. An exception that ends it is a failure."""
     lacks = kit.lacks()
     for it in lacks:
         edits.say(f"gate: this kit needs another tools/kit.py, so rt ci runs as it is: {it}")
-    if lacks:
-        status, faults = run_plain(asked.anew, asked.names)
-    else:
-        status, faults = run_some(asked.anew, asked.names) if asked.names else run(asked.anew, asked.built)
+    try:
+        if lacks:
+            return run_plain(asked.anew, asked.names)
+        return run_some(asked.anew, asked.names) if asked.names else run(asked.anew, asked.built)
+    except Exception as why:
+        traceback.print_exc()
+        print(f"gate: ended by {why!r}")
+        return 1, 0
+
+
+def report(status, faults):
+    """Prints the time that the run took, what has failed and why, and the last line, and returns the status."""
     last = re.match(r"(\d+) passed, (\d+) failed", sys.stdout.last)
     passed, failed = map(int, last.groups()) if last else (0, 1)
     failed = (failed or int(status != 0)) + faults
     processor = sum(os.times()[:4]) / 60
     print(f"gate: {lanes.minutes(lanes.BEGUN)}, {processor:.0f} min of processor, on {kit.processors()} processors")
-    for it in reasons.reasons("".join(sys.stdout.said)):
+    for it in reasons.reasons("".join(sys.stdout.said), "".join(sys.stderr.said)) if failed else []:
         print(it)
     print(f"{passed} passed, {failed} failed")
     return 1 if failed else 0
+
+
+def main():
+    asked = words()
+    sys.stdout.reconfigure(line_buffering=True)
+    sys.stdout, sys.stderr = Output(sys.stdout), Output(sys.stderr)
+    return report(*run_asked(asked))
 
 
 if __name__ == "__main__":

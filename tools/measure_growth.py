@@ -41,8 +41,7 @@ NESTINGS = [1, 2, 4, 8]
 LIMIT = 100_000_000
 PATIENCE = 120
 # The calls that the Rust crate lacks.
-ALONE = {"check", "depth", "to_value", "value_clone", "value_equal", "equality_key", "sort_key_wide", "path_clone", "path_to_owned",
-         "path_equal", "memcpy"}
+ALONE = {"check", "depth", "to_value", "value_clone", "value_equal", "equality_key", "sort_key_wide", "path_to_owned", "memcpy"}
 STACK = 1 << 30
 
 

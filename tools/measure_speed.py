@@ -4,6 +4,8 @@
   measure_speed.py [--only WORD]         prints the figures of the cases with that word in their class or name, and a summary
   measure_speed.py --write               writes docs/measured/speed.csv and the tables of README.md and docs/PERFORMANCE.md
   measure_speed.py [--rounds N] ..       N rounds of times instead of 40; 0 counts instructions alone, and --write then keeps the times
+  measure_speed.py --alone ..            does the same with every call of this library alone, without the Rust crate, for
+                                         docs/measured/alone.csv and alone.md: instructions and allocations
   measure_speed.py --crate FOLDER ..     uses the Rust crate in a folder, without a network: its dependencies are found as its
                                          .cargo/config.toml says, if it has one
 
@@ -13,6 +15,7 @@ of all rounds in four processes, in which the two sides alternate, with one allo
 built for x86-64-v2 at the highest level of optimization. Copies of the results in new vectors are timed as well.
 """
 import argparse
+import glob
 import hashlib
 import math
 import os
@@ -28,7 +31,7 @@ HERE = os.path.join(TOP, "tools", "speed")
 OUT = os.path.join(HERE, "out")
 sys.path[:0] = [os.path.join(TOP, "tools"), HERE]
 import measured
-from cases import EMPTY, cases
+from cases import EMPTY, alone_cases, cases
 
 CRATES = ["jsonb_doc", "jsonb_keypath", "jsonb_raw", "jsonb"]
 PROCESSES = 4
@@ -76,9 +79,11 @@ def our_library():
             shutil.rmtree(target, ignore_errors=True)
             shutil.copytree(source, target, copy_function=copied)
     crate = os.path.join(copy, "crates", "jsonb_speed")
-    # It is not a crate of the repository, so its file has another ending: the gate rejects such files outside of crates/.
+    # It is not a crate of the repository, so its files have another ending: the gate rejects such files outside of crates/.
     os.makedirs(os.path.join(crate, "src"), exist_ok=True)
-    shutil.copy(os.path.join(HERE, "jsonb_speed.rt.txt"), os.path.join(crate, "src", "lib.rt"))
+    for file in glob.glob(os.path.join(HERE, "*.rt.txt")):
+        name = os.path.basename(file).removesuffix(".txt")
+        shutil.copy(file, os.path.join(crate, "src", "lib.rt" if name == "jsonb_speed.rt" else name))
     run(["rt", "lib"], crate)
     return os.path.join(crate, "out", "libjsonb_speed.a")
 
@@ -106,6 +111,30 @@ def driver(rust_crate):
     linked = hashlib.sha256(open(library, "rb").read()).hexdigest()
     flags = f"-C link-arg={library} -C link-arg={c_library()} --cfg made_with_{linked}"
     return os.path.join(cargo_build(rust_crate, flags, "--bin", "speed"), "speed")
+
+
+def c_driver():
+    """The program calls.c with this library alone."""
+    program = os.path.join(OUT, "calls")
+    run(["cc", "-std=gnu11", "-O2", "-Wall", "-Wextra", "-o", program, os.path.join(HERE, "calls.c"), our_library(), c_library()], HERE)
+    return program
+
+
+def write_files(chosen):
+    """Writes cases for calls.c, each with three files."""
+    path, folder = os.path.join(OUT, "alone.tsv"), os.path.join(OUT, "alone")
+    shutil.rmtree(folder, ignore_errors=True)
+    os.makedirs(folder)
+    with open(path, "w") as lines:
+        for number, case in enumerate(chosen):
+            names = []
+            for part in (case.argument.encode(), case.other, case.document):
+                names.append(os.path.join(folder, f"{number}.{len(names)}") if part else "-")
+                if part:
+                    with open(names[-1], "wb") as file:
+                        file.write(part)
+            lines.write("\t".join([case.call, str(number), case.call, *names]) + "\n")
+    return path
 
 
 def write_cases(chosen):
@@ -155,30 +184,38 @@ def dumps(lines):
             allocations = 0
 
 
-def costs(program, path):
-    """The costs of each case on both sides, by the difference of one call and two."""
+def costs(*words):
+    """The costs of each case on each side, by the difference of one call and two."""
     out = os.path.join(OUT, "callgrind.out")
     options = ["--toggle-collect=counted", "--dump-after=counted", "--combine-dumps=yes", f"--callgrind-out-file={out}"]
-    words = ["valgrind", "--tool=callgrind", *options, program, path, "counts"]
-    subprocess.run(words, check=True, capture_output=True, env=KEEPING_HEAP)
+    subprocess.run(["valgrind", "--tool=callgrind", *options, *words], check=True, capture_output=True, env=KEEPING_HEAP)
     with open(out) as file:
         found = list(dumps(file))
     os.remove(out)
     one, two = found[1:-1:3], found[2:-1:3]
-    each = [Cost(t.instructions - o.instructions, t.allocations - o.allocations) for o, t in zip(one, two)]
-    return list(zip(each[0::2], each[1::2]))
+    return [Cost(t.instructions - o.instructions, t.allocations - o.allocations) for o, t in zip(one, two)]
 
 
 def measure(program, chosen, rounds):
     """A row of docs/measured/speed.csv for each case."""
     path = write_cases([EMPTY, *chosen])
-    empty, *counted = costs(program, path)
+    each = costs(program, path, "counts")
+    empty, *counted = zip(each[0::2], each[1::2])
     _, *timed = times(program, path, rounds) if rounds else [["", "", math.inf]] * (1 + len(chosen))
     whole = lambda number: "" if number in ("", math.inf) else f"{number:.0f}"
     for case, sides, nanoseconds in zip(chosen, counted, timed):
         instructions = [side.instructions - loop.instructions for side, loop in zip(sides, empty)]
         figures = [*instructions, *nanoseconds, *(side.allocations for side in sides)]
         yield dict(zip(measured.COLUMNS["speed"], [case.size_class, case.name, *map(whole, figures)]))
+
+
+def measure_alone(program, chosen):
+    """A row of docs/measured/alone.csv for each case with its type."""
+    empty, *counted = costs(program, "twice", write_files([EMPTY, *(case for _, case in chosen)]))
+    for (type_of, case), cost in zip(chosen, counted):
+        call, _, what = case.name.partition(" ") if type_of == "text" else case.name.rpartition(", ")
+        figures = [cost.instructions - empty.instructions, cost.allocations]
+        yield dict(zip(measured.COLUMNS["alone"], [type_of, call, what, *map(str, figures)]))
 
 
 def with_kept_times(rows):
@@ -194,13 +231,19 @@ def main():
     words.add_argument("--rounds", type=int, default=40)
     words.add_argument("--only", default="")
     words.add_argument("--crate")
+    words.add_argument("--alone", action="store_true")
     words.add_argument("--write", action="store_true")
     asked = words.parse_args()
     if asked.write and asked.only:
         words.error("--write takes all cases")
     os.makedirs(OUT, exist_ok=True)
+    is_chosen = lambda case: asked.only in f"{case.size_class}: {case.name}"
+    if asked.alone:
+        rows = list(measure_alone(c_driver(), [(type_of, case) for type_of, case in alone_cases() if is_chosen(case)]))
+        return measured.report("alone", rows, asked.write)
+    chosen = [case for case in cases() if is_chosen(case)]
     program = driver(asked.crate)
-    rows = list(measure(program, [case for case in cases() if asked.only in f"{case.size_class}: {case.name}"], asked.rounds))
+    rows = list(measure(program, chosen, asked.rounds))
     rows = rows if asked.rounds else list(with_kept_times(rows))
     measured.save("speed", rows) if asked.write else print(measured.as_csv("speed", rows), end="")
     print(measured.speed_report(rows), file=sys.stderr)

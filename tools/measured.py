@@ -7,6 +7,7 @@ tools/measure_speed.py, measure_growth.py, measure_stack.py, gate_times.py, verd
 tools/check_quotes.py compares the tables.
 """
 import csv
+import datetime
 import io
 import math
 import os
@@ -24,6 +25,7 @@ SIZES = [1, 2, 4, 8, 10, 100, 1_000, 10_000, 100_000, 200_000]
 COLUMNS = {
     "speed": ["class", "case", "rust_instructions", "this_instructions", "rust_ns", "this_ns", "result_copy_ns", "rust_allocations",
               "this_allocations"],
+    "alone": ["type", "call", "document", "instructions", "allocations"],
     "growth": ["unit", "call", *(f"{side}{it}" for side in ("", "rust_") for it in [*SIZES, "exponent"])],
     "check": ["document", "check_ns", "copy_ns", "bytes"],
     "stack": ["call", "shape", "kib_10000", "kib_100000"],
@@ -38,6 +40,8 @@ COLUMNS = {
     "readers": ["reader", "instructions_298", "instructions_4900"],
     "verdict": ["crate", "functions", "seconds", "processors", "day"],
     "gate": ["step", "minutes"],
+    # When each file was written, and what to say of that if it was before the code that it is to measure.
+    "dates": ["figures", "day", "note"],
 }
 
 # The classes of the cases of speed.csv.
@@ -81,12 +85,33 @@ def as_csv(name, rows):
     return text.getvalue()
 
 
-def save(name, rows):
-    """Writes a file of figures, and the pages that show it."""
+def write(name, rows):
     text = as_csv(name, rows)
     with open(os.path.join(FIGURES, f"{name}.csv"), "w") as file:
         file.write(text)
+
+
+def save(name, rows):
+    """Writes a file of figures and its date, and the pages that show it."""
+    write(name, rows)
+    others = [row for row in read("dates") if row["figures"] != name]
+    today = {"figures": name, "day": datetime.date.today().isoformat(), "note": ""}
+    write("dates", sorted([*others, today], key=lambda row: row["figures"]))
     write_pages()
+
+
+def measured_on(names):
+    """Returns the sentence that says when these figures were measured, or an empty text if they were not."""
+    dates = [row for row in read("dates") if row["figures"] in names]
+    days = sorted({row["day"] for row in dates})
+    when = f"on {days[0]}" if len(days) == 1 else f"from {days[0]} to {days[-1]}" if days else ""
+    notes = "".join(dict.fromkeys(f", {row['note']}" for row in dates if row["note"]))
+    return f"Measured {when}{notes}." if days else ""
+
+
+def dated(made, *names):
+    """Returns what makes a table of figures, with the date of these files of figures below."""
+    return lambda: "\n\n".join(filter(None, [made(), measured_on(names)]))
 
 
 def report(name, rows, is_written):
@@ -161,6 +186,30 @@ def slower():
     rows = [[row["class"], row["case"], row["rust_instructions"], row["this_instructions"], f"{ratio(row):.2f}"]
             for cases in by_class(read("speed")).values() for row in above_one(cases)]
     return table(["Class", "Case", "Rust crate", "This crate", "Ratio"], rows)
+
+
+# The documents of alone.csv that have a column of their own in its table.
+ALONE_COLUMNS = ["`[]`", "8 integers", "32 integers", "1,000 integers", "1,000 strings", "1,000 decimals", "1,000 objects", "`{}`", "3 members",
+                 "12 members", "1,000 members"]
+
+
+def alone():
+    """Every call: a mean of the scalars, and some arrays and objects; then the calls on paths and numbers."""
+    if not os.path.exists(os.path.join(FIGURES, "alone.csv")):
+        return "`tools/measure_speed.py --alone --write` has not been run yet."
+    of, scalars, others = {}, {}, []
+    for row in read("alone"):
+        cost = int(row["instructions"])
+        if row["type"] == "scalar":
+            scalars.setdefault(row["call"], []).append(cost)
+        elif row["document"] in ALONE_COLUMNS:
+            of.setdefault(row["call"], {})[row["document"]] = cost
+        elif row["type"] in ("text", "number"):
+            others.append([row["call"], row["document"], f"{cost:,}"])
+    mean = lambda call: f"{statistics.mean(scalars[call]):,.0f}" if call in scalars else ""
+    cost_of = lambda call, what: f"{of[call][what]:,}" if what in of.get(call, {}) else ""
+    cells = [[call, mean(call), *(cost_of(call, it) for it in ALONE_COLUMNS)] for call in dict.fromkeys([*scalars, *of])]
+    return table(["Call", "Scalars, mean", *ALONE_COLUMNS], cells) + "\n\n" + table(["Call", "Of", "Instructions"], others)
 
 
 def per_unit(row, size):
@@ -321,15 +370,25 @@ def counts():
 
 # The tables of each page, by the marks around them.
 PAGES = {
-    "README.md": {"speed": lambda: f"{speed(README_CASES)}\n\n{means()}", "compared": compared, "counts": counts,
-                  "verdict": verdict},
-    "docs/HACKING.md": {"gate": gate},
-    "docs/C.md": {"c": c, "python": python},
-    "docs/SQL.md": {"sqlite": sqlite, "postgres": postgres},
-    "docs/PERFORMANCE.md": {"classes": classes, "speed": lambda: speed(MORE_CASES), "loops": loops, "growth": growth,
-                            "check": check},
-    "docs/measured/slower.md": {"slower": slower},
-    "docs/STACK.md": {"stack": lambda: stack("stack"), "stack, more": lambda: stack("stack_more")},
+    "README.md": {
+        "speed": dated(lambda: f"{speed(README_CASES)}\n\n{means()}", "speed"),
+        "compared": dated(compared, "sqlite", "postgres", "jq", "python"),
+        "counts": counts,
+        "verdict": verdict,
+    },
+    "docs/HACKING.md": {"gate": dated(gate, "gate")},
+    "docs/C.md": {"c": dated(c, "c"), "python": dated(python, "python")},
+    "docs/SQL.md": {"sqlite": dated(sqlite, "sqlite"), "postgres": dated(postgres, "postgres")},
+    "docs/PERFORMANCE.md": {
+        "classes": dated(classes, "speed"),
+        "speed": lambda: speed(MORE_CASES),
+        "loops": dated(loops, "c"),
+        "growth": dated(growth, "growth"),
+        "check": dated(check, "check"),
+    },
+    "docs/measured/slower.md": {"slower": dated(slower, "speed")},
+    "docs/measured/alone.md": {"alone": dated(alone, "alone")},
+    "docs/STACK.md": {"stack": dated(lambda: stack("stack"), "stack"), "stack, more": dated(lambda: stack("stack_more"), "stack_more")},
 }
 
 

@@ -1,11 +1,12 @@
 #!/usr/bin/env python3
 """Tests .ci/run, with commands that do nothing in the place of those that it counts: it must fail if one of them fails, counts nothing,
-skips a test or is killed, and repeat the last lines of that command at the end; and the library of bindings/c is made by one
-command at a time. Tests which errors tools/gate.py repeats, how many tasks it does at a time, and in which order, how it does
-those of an older kit, and that rt is given all mutants in few files.
+skips a test or is killed, and repeat the last lines of that command at the end, those of the proofs last; and the library of
+bindings/c is made by one command at a time. Tests which errors tools/gate.py repeats, and that they are its last lines, how many
+tasks it does at a time, and in which order, how it does those of an older kit, and that rt is given all mutants in few files.
 
     tools/test_gate.py        the last line is 'N passed, M failed'
 """
+import io
 import re
 import shlex
 import shutil
@@ -20,6 +21,7 @@ from types import SimpleNamespace
 sys.dont_write_bytecode = True
 import check_counts
 import check_edits
+import gate
 import group_edits
 import kit
 import lanes
@@ -31,8 +33,12 @@ TOP = Path(__file__).resolve().parent.parent
 GATE = ".ci/run"
 WELL = "echo 1 passed, 0 failed"
 FAILURE = "echo 1 passed, 1 failed; exit 1"
-# How a line begins that names a failed command, at the end.
+# A failure that prints many lines, and those of them that are repeated.
+LONG_FAILURE = f"seq 100; {FAILURE}"
+REPEATED_ROWS = [*map(str, range(78, 101)), "1 passed, 1 failed"]
+# How a line begins that names a failed command, at the end, and one that names a command which was not run.
 REPEATED = "== failed: "
+NOT_RUN = "not run, as the gate has not built "
 TOTAL = re.compile(r"(\d+) passed, (\d+) failed")
 # What one of the commands does in the place of what all others do, and how many have failed then, at least.
 CASES = {
@@ -52,6 +58,8 @@ CASES = {
 OPEN_GOAL = "note: src/low.rt:3:1: it is not proved that the result is as stated (`returns-clause`)"
 MISSING_NAME = "./proofs/one/Answers.antt:5:55: error: `returns-clause`: it is not in scope"
 NOT_PROVED = "fn low::one: not proved"
+STOPPED = "rt: src/lib.rt:7: this import calls a tactic"
+ENDED = "low: the program ended with status 1, and not 0; it said: no memory"
 CALLER = "fn low::two: not proved; it calls `low::one`, which is not proved"
 PROVED_MUTANT = "must-fail low/b.edit: NOT REFUSED: the crate is still proved with this edit"
 MANY = [f"{MISSING_NAME} {number}" for number in range(20)]
@@ -70,6 +78,19 @@ PRINTED = {
     "its tests": (
         ["== low", "rt: low proved", "== low: its tests", MISSING_NAME, "rt: low: its tests are NOT PROVED"],
         ["not proved: low: its tests", f"  {MISSING_NAME}"],
+    ),
+    "a line without an end": (["== low", MISSING_NAME, "checked low::onert: low NOT PROVED"], ["not proved: low", f"  {MISSING_NAME}"]),
+    "a text that rt rejects": ([STOPPED, "rt: low NOT PROVED", "rt: high NOT PROVED: its library low failed"], ["not proved: low", f"  {STOPPED}"]),
+    "what tests print": (
+        ["tests: 1", "test a ... ok", "test result: ok. 1 passed; 0 failed", "rt: low: its tests passed",
+         "tests: 2", "test b ... ok", "test c ... FAILED", "    row 5", "test result: FAILED. 1 passed; 1 failed", "rt: high: its tests FAILED"],
+        ["tests failed: high", "  test c ... FAILED", "  row 5"],
+    ),
+    "an exception": (["rt: low proved", "gate: ended by KeyError('low')"], ["gate: ended by KeyError('low')"]),
+    "a program": ([f"rt: {ENDED}", "rt: high ran, and wrote what its file stdout has"], [ENDED]),
+    "many proofs": (
+        [row for number in range(8) for row in (f"== low{number}", *MANY, f"rt: low{number} NOT PROVED")],
+        [row for number in range(8) for row in (f"not proved: low{number}", *(f"  {it}" for it in MANY[: 2 if number < 6 else 1]))],
     ),
 }
 # The free memory of a machine with four processors, in GB, and how many crates' tests are proved there at a time.
@@ -96,6 +117,8 @@ BUILT = ("jsonb_c", "jsonb_lines", "jsonb_sweep", "jsonb_tool")
 # The rule that makes the library of bindings/c, and the commands that must begin after it.
 LIBRARY = "all deep: made\nmade:\n\tmkdir begun && sleep 0.3 && touch made\n"
 USES_LIBRARY = ("tools/fuzz.py", "tools/measure_stack.py")
+# The commands that need what the gate builds.
+WAITING = (*USES_LIBRARY, "bindings/test.sh", "tools/sweep_memory.sh")
 
 
 def write_program(path, lines):
@@ -113,14 +136,14 @@ def file_of(command):
     return next(it for it in shlex.split(command) if "/" in it)
 
 
-def run(room, broken=None, how=WELL):
-    """Runs .ci/run with commands of which one is broken, if one is given, and returns its other lines, its last one and its status."""
+def run(room, broken):
+    """Runs .ci/run with commands of which some are broken, each by what it does, and returns its other lines, its last one and its status."""
     shutil.rmtree(room, ignore_errors=True)
     (room / ".ci").mkdir(parents=True)
     shutil.copy(TOP / GATE, room / GATE)
     write_program(room / "bindings/setup.sh", "true")
     for command in check_counts.commands():
-        lines = how if command == broken else WELL
+        lines = broken.get(command, WELL)
         if file_of(command) == "tools/gate.py" and lines == WELL:
             lines = f"for it in {' '.join(BUILT)}; do sleep 0.1; : >\"$2/$it\"; done; {lines}"
         if file_of(command) in USES_LIBRARY and lines == WELL:
@@ -135,7 +158,7 @@ def run(room, broken=None, how=WELL):
 
 def fault_of_run(room, command, how, faults):
     """Returns what is wrong with .ci/run if a command does this, or an empty text. There are as many failures, at least."""
-    said, last, status = run(room, command, how)
+    said, last, status = run(room, {command: how})
     total = TOTAL.fullmatch(last)
     if not total or bool(faults) != bool(int(total[2])) or int(total[2]) < faults or status != (faults > 0):
         return f"expected {faults} failures, got {last!r}, status {status}"
@@ -149,10 +172,59 @@ def fault_of_run(room, command, how, faults):
 
 def fault_of_end(room, command):
     """Returns what is wrong with the end of what .ci/run prints if a command that prints many lines fails, or an empty text."""
-    said, *_ = run(room, command, f"seq 100; {FAILURE}")
+    said, *_ = run(room, {command: LONG_FAILURE})
     heading, *rest = said[-25:]
-    is_right = heading.startswith(REPEATED + command) and rest == [*map(str, range(78, 101)), "1 passed, 1 failed"]
+    is_right = heading.startswith(REPEATED + command) and rest == REPEATED_ROWS
     return "" if is_right else f"expected the last 24 lines of {command} at the end, got {said[-25:]}"
+
+
+def fault_of_last(room, proofs, other, seconds):
+    """Returns what is wrong with the end if the proofs and another command fail that many seconds apart, or an empty text.
+
+    The lines of the proofs are the last ones, whichever fails first.
+    """
+    how = {proofs: f"sleep {max(0, seconds)}; {LONG_FAILURE}", other: f"sleep {max(0, -seconds)}; {LONG_FAILURE}"}
+    said, *_ = run(room, how)
+    headings = [it for it in said[-50:] if it.startswith(REPEATED)]
+    is_right = [*map(str.startswith, headings, (REPEATED + other, REPEATED + proofs))] == [True, True] and said[-24:] == REPEATED_ROWS
+    return "" if is_right else f"{other}, {seconds} s apart: expected the lines of the proofs last, got {headings}, {said[-24:]}"
+
+
+def fault_of_not_run(room, proofs, waiting):
+    """Returns what is wrong with what is printed of the commands that wait for what the proofs have not built, or an empty text."""
+    said, last, _ = run(room, {proofs: LONG_FAILURE})
+    end = said[-25 - len(waiting) :]
+    named = {it.rpartition(": ")[2] for it in end if it.startswith(NOT_RUN)}
+    is_right = named == {*waiting} and end[-25].startswith(REPEATED + proofs) and int(TOTAL.fullmatch(last)[2]) == 1 + len(waiting)
+    return "" if is_right else f"expected a line for each of {waiting} and then those of the proofs, got {last!r}, {end}"
+
+
+def fault_of_errors(room, command):
+    """Returns what is wrong with the end if a command is ended by an exception, which is on its standard error, or an empty text."""
+    said, *_ = run(room, {command: "echo at first; echo error: no memory >&2; exit 1"})
+    return "" if said[-2:] == ["at first", "error: no memory"] else f"expected the error of {command} at the end, got {said[-2:]}"
+
+
+def end_of_gate(status, printed, complained):
+    """Returns what tools/gate.py prints at the end of a run of rt ci that printed these rows, and its status."""
+    outputs, gate.sys.stdout, gate.sys.stderr = (sys.stdout, sys.stderr), gate.Output(io.StringIO()), gate.Output(io.StringIO())
+    try:
+        for it in printed:
+            gate.sys.stdout.buffer.write(f"{it}\n".encode())
+        for it in complained:
+            print(it, file=gate.sys.stderr)
+        ended = gate.report(status, 0)
+        return sys.stdout.to.getvalue().splitlines()[len(printed) :], ended
+    finally:
+        sys.stdout, sys.stderr = outputs
+
+
+def fault_of_gate(status, complained, expected):
+    """Returns what is wrong with the last lines of tools/gate.py after a run of rt ci that failed, or ended well, or an empty text."""
+    printed = ["== low", "rt: low NOT PROVED", "rt: FAILED: low", "0 passed, 1 failed"] if status else ["rt: ok", "1 passed, 0 failed"]
+    (time_of, *end), ended = end_of_gate(status, printed, complained)
+    is_right = end == [*expected, printed[-1]] and ended == status and time_of.startswith("gate: ")
+    return "" if is_right else f"expected {expected} at the end of the gate, got {end}, status {ended}"
 
 
 def fault_of_reasons(printed, expected):
@@ -250,7 +322,12 @@ def faults():
         room = Path(folder) / "repository"
         for command, how, number in [(None, WELL, 0), *tried]:
             yield named(f"{command}: {how}", fault_of_run(room, command, how, number))
-        yield fault_of_end(room, commands[0])
+        yield from (fault_of_end(room, it) for it in commands[:2])
+        yield from (fault_of_last(room, *commands[:2], seconds) for seconds in (1, -1))
+        yield fault_of_not_run(room, commands[0], [it for it in commands if file_of(it) in WAITING])
+        yield fault_of_errors(room, commands[1])
+    yield fault_of_gate(1, [STOPPED], ["not proved: low", f"  {STOPPED}"])
+    yield fault_of_gate(0, [STOPPED], [])
     for words, it in PRINTED.items():
         yield named(words, fault_of_reasons(*it))
     yield from (fault_of_lanes(*it) for it in LANES.items())

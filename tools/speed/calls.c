@@ -5,6 +5,7 @@
                                              call would take more nanoseconds than LIMIT, extrapolated
    calls few CASES LIMIT                     the same, the best of three calls each and not of many
    calls counts CASES                        the same calls once each, for callgrind: a dump a case, by its line's number
+   calls twice CASES                         for callgrind, which dumps each `counted`: three a case, of one call, one and two
 
    A line of CASES has a series, a size, a call and three files, with tabs between; `-` is a missing file. The cases of a series are
    consecutive, by size. */
@@ -159,6 +160,18 @@ static void count_all(FILE *cases)
     }
 }
 
+/* Makes calls, whose cost callgrind dumps when this returns. */
+__attribute__((noinline)) void counted(const Case *c, size_t times);
+void counted(const Case *c, size_t times)
+{
+    if (make_calls(c, times) == REFUSED) fail("was refused", c->series);
+}
+
+static void count_twice(FILE *cases)
+{
+    for (Case c; next_case(cases, &c); let_case_go(&c)) counted(&c, 1), counted(&c, 1), counted(&c, 2);
+}
+
 static int once(char **words)
 {
     Case c = {.argument = read_file(words[1]), .other = read_file(words[2]), .document = read_file(words[3])};
@@ -179,5 +192,6 @@ int main(int argc, char **argv)
     bool is_few = !strcmp(argv[1], "few");
     if (argc == 4 && (is_few || !strcmp(argv[1], "times"))) time_all(cases, atof(argv[3]), is_few);
     if (!strcmp(argv[1], "counts")) count_all(cases);
+    if (!strcmp(argv[1], "twice")) count_twice(cases);
     return 0;
 }

@@ -205,6 +205,8 @@ PATHS = ["select", "select_array", "select_value", "select_first", "exists"]
 PATH_TEXTS = ["$", "$.a", "$.a.b[0]", "$[*]?(@.a > 1)", '$."a b"', "$.a == 1", "$[0, 1 to last]", '$.name starts with "n1"']
 MORE_PATH_TEXTS = ["$" + ".abc" * 20, "$[*]?(" + " && ".join(f"@.f{i} == {i}" for i in range(20)) + ")"]
 KEY_PATH_TEXTS = ["{a}", "{a,b,0}", '{"a b",-1}']
+MORE_TEXT_CALLS = {"path": ["path_clone", "path_equal"],
+                   "keypath": ["keypath_clone", "keypath_to_owned", "keypath_as_key_paths"]}
 
 
 def extension(form, *parts):
@@ -325,7 +327,7 @@ def short_text_cases():
         for text in texts:
             shown = f"`{text}`" if len(text) <= 60 else f"{len(text)} bytes"
             # The Rust crate prints this name without its quotes.
-            calls = [f"parse_{kind}"] if text == '$."a b"' else [f"parse_{kind}", f"{kind}_print"]
+            calls = [f"parse_{kind}", *([] if text == '$."a b"' else [f"{kind}_print"]), *MORE_TEXT_CALLS[kind]]
             yield from (Case(f"`{call}` {shown}", call, text.encode()) for call in calls)
 
 
@@ -381,3 +383,106 @@ def cases():
     ]
 
 
+# ---- every call, with this library alone
+
+ALONE_WHOLE = """check depth to_value value_clone value_equal equality_key sort_key_wide sort_key_into sort_key_wide_into equality_key_into
+push_column_key push_column_key_wide composite_key composite_key_wide leaf_documents root_item encode_item open_children
+child_spots spot_item spot_document build_array_of_documents build_object_of_documents build_document_of_documents""".split()
+ALONE_ARRAY = ["elements", "build_array", "build_array_of_spots", "build_document"]
+ALONE_OBJECT = ["pairs", "keys", "values", "build_object", "build_document_of_members"]
+SELECTIONS = ["select_values", "select_array", "select_first", "select_value", "exists"]
+ALONE_PATHS = ["find_first", "find_values", "limited_most_items", *(f"{mode}_{it}" for mode in ("strict", "limited") for it in SELECTIONS)]
+ALONE_MATCHES = ["strict_predicate_match", "limited_predicate_match"]
+ALONE_NUMBERS = {"7 and 5": (7, 5), "-1234567890 and 1024": (-1234567890, 1024), "12.5 and 0.5": (Decimal("12.5"), Decimal("0.5"))}
+NUMBER_CALLS = [f"number_{it}" for it in ("add", "sub", "mul", "div", "rem", "neg")]
+# How many elements an array has: of 30 to 60 bytes, of 200 bytes, and of 1,000 elements.
+COUNTS = {"integers": (8, 32, 1000), "strings": (4, 22, 1000), "decimals": (4, 14, 1000), "objects": (1, 4, 1000)}
+
+
+def alone_on(what, value):
+    """Yields the calls on any document that the Rust crate lacks."""
+    of = maker(what, value)
+    yield from map(of, ALONE_WHOLE)
+    yield from [of("check_depth", "", "255"), of("compare", "itself", "", value)]
+
+
+def alone_on_container(what, value, path, last):
+    """Yields those on an array or object, with a path to its children and the key path step of the last one."""
+    of = maker(what, document(value))
+    yield from alone_on(what, document(value))
+    yield from (of(call, f"`{path}`", path) for call in ALONE_PATHS)
+    yield from (of(call, f"`{path} == 1`", f"{path} == 1") for call in ALONE_MATCHES)
+    yield of("spot_by_keypath", "last", f"{{{last}}}")
+    if not value:
+        yield from map(of, SCALAR_CALLS)
+
+
+def alone_on_names(what, value, names, others):
+    """Yields the calls that take an allocator and names, as `name_cases` does those that take none."""
+    for case in name_cases(maker(what, value), names, others):
+        call = f"{case.call}_in"
+        yield Case(case.name.replace(f"`{case.call}`", f"`{call}`"), call, case.document, case.argument)
+
+
+def alone_on_array(what, values, others):
+    of, last = maker(what, document(values)), str(max(0, len(values) - 1))
+    yield from alone_on_container(what, values, "$[*]", last)
+    yield from map(of, ALONE_ARRAY)
+    yield from (of(call, "last", last) for call in ["spot_by_index", "spot_behind"])
+    lists = {"itself": values, "reversed": values[::-1], "disjoint": others}
+    yield from (of("array_overlap_in", detail, "", document(other)) for detail, other in lists.items())
+    if values and isinstance(values[0], str):
+        yield from alone_on_names(what, document(values), values, others)
+    if values and isinstance(values[0], int):
+        yield of("document_from_events", "of as many nulls", str(len(values)))
+
+
+def alone_on_object(what, members):
+    of, keys = maker(what, document(members)), sorted(members)
+    last = keys[-1] if keys else "a"
+    yield from alone_on_container(what, members, "$.*", last)
+    yield from map(of, ALONE_OBJECT)
+    yield from (of(call, "last", last) for call in ["spot_by_name", "field_spot"])
+    if keys:
+        yield from alone_on_names(what, document(members), keys, [key + "x" for key in keys])
+
+
+def alone_on_texts():
+    yield from short_text_cases()
+    for kind, texts in (("path", PATH_TEXTS), ("keypath", KEY_PATH_TEXTS)):
+        calls = ["path_error_position", "path_to_owned"] if kind == "path" else ["keypath_error_position"]
+        yield from (Case(f"`{call}` `{text}`", call, text.encode()) for text in texts for call in calls)
+    for call, text in (("read_name", "name"), ("read_name", "\\u0041name"), ("read_quoted", '"name"'), ("read_quoted", '"a \\n name"')):
+        yield Case(f"`{call}` `{text}`", call, text.encode())
+
+
+def arrays():
+    """Yields arrays of each type and size by their names, each with as many values that it lacks."""
+    yield "`[]`", [], []
+    for number in range(3):
+        count = {it: its[number] for it, its in COUNTS.items()}
+        every = range(2 * max(count.values()))
+        made = {
+            "integers": list(every),
+            "strings": [f"s{i:04}" for i in every],
+            "decimals": [Decimal(10 * i + 1) / 100 for i in every],
+            "objects": [{"a": i, "b": [i, i + 1]} for i in every],
+        }
+        for what, values in made.items():
+            of_one = what.removesuffix("s") if count[what] == 1 else what
+            yield f"{count[what]:,} {of_one}", values[: count[what]], values[count[what] : 2 * count[what]]
+
+
+def alone_cases():
+    """Yields every call on documents of each type and size, with the type, and a selector's in each of its modes."""
+    yield from (("scalar", it) for it in scalar_cases() if it.document in SCALARS.values())
+    for what, value in SCALARS.items():
+        yield from (("scalar", it) for it in alone_on(what, value))
+    for what, values, others in arrays():
+        yield from (("array", it) for it in [*cases_of_array(what, values, others), *alone_on_array(what, values, others)])
+    for count in (0, 3, 12, 1000):
+        what, members = f"{count:,} members" if count else "`{}`", wide_object(count)
+        yield from (("object", it) for it in [*cases_of_object(what, members), *alone_on_object(what, members)])
+    yield from (("text", it) for it in alone_on_texts())
+    for what, (one, other) in ALONE_NUMBERS.items():
+        yield from (("number", maker(what, document(one))(call, "", "", document(other))) for call in NUMBER_CALLS)

@@ -62,6 +62,7 @@ mod prints;
 mod reads;
 mod scalars;
 mod selections;
+mod tables;
 mod values;
 mod wholes;
 
@@ -70,6 +71,12 @@ use std::{env, io};
 
 /// The number of parts of documents and text that are long enough for late allocations.
 const MANY: u64 = 40;
+
+/// The number of keys and elements of documents for which calls make tables.
+const MORE: u64 = 200;
+
+/// How often names have each of these keys: a table is made after 2,048 names.
+const TIMES: u64 = 11;
 
 fn main(rt: HostRuntime) -> io::Result<()> {
     // (In a statement of its own, so that the arguments are freed before the calls are counted.)
@@ -87,10 +94,12 @@ fn each_call(rt: &HostRuntime, is_large: bool) -> io::Result<()> {
     without_memory(rt)?;
     many_parts(rt, MANY)?;
     long::depths(rt, 40)?;
+    tables::cases(rt, MORE, TIMES)?;
     if is_large {
         many_parts(rt, 100_000)?;
         long::texts(rt, 1_000_000)?;
         long::depths(rt, 255)?;
+        tables::cases(rt, 100_000, 1)?;
     }
     Ok(())
 }

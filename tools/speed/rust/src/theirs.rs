@@ -153,6 +153,23 @@ fn with_call<T: Task>(case: &Case, task: T) -> T::Done {
         "keypath_print" => {
             task.run(case, |_| parse_key_paths(black_box(&case.document)).expect("a key path").to_string().len())
         }
+        "path_clone" => {
+            task.run(case, |_| parse_json_path(black_box(&case.document)).expect("a path").clone().paths.len())
+        }
+        "path_equal" => task.run(case, |_| {
+            let parse = || parse_json_path(black_box(&case.document)).expect("a path");
+            (parse() == parse()) as usize
+        }),
+        "keypath_clone" => {
+            task.run(case, |_| parse_key_paths(black_box(&case.document)).expect("a key path").clone().paths.len())
+        }
+        "keypath_to_owned" => {
+            task.run(case, |_| parse_key_paths(black_box(&case.document)).expect("a key path").to_owned().paths.len())
+        }
+        "keypath_as_key_paths" => {
+            let path = parse_key_paths(&case.document).expect("a key path").to_owned();
+            task.run(case, |_| black_box(&path).as_key_paths().paths.len())
+        }
         "select" | "select_array" | "select_value" | "select_first" | "exists" | "match" => {
             let path = parse_json_path(&case.argument).expect("a path");
             match case.call.as_str() {
