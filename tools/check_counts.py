@@ -316,26 +316,32 @@ def mutated(calls):
     return {call for call in calls if call in names or "::" in call and is_in_impl(call)}
 
 
-def text_of_speed():
-    return text_of(*sorted((ROOT / "tools/speed").glob("*.rt.txt")))
+def texts_of_speed():
+    return [it.read_text() for it in sorted((ROOT / "tools/speed").glob("*.rt.txt"))]
 
 
 def listed_in_speed():
     """Returns the methods that a macro of tools/speed lists, which have no parentheses there."""
-    listed = re.findall(r"one_of!\(\w+, \w+, \|\w+\| [^,]*,(.*?)\)$", text_of_speed(), re.M | re.S)
+    listed = re.findall(r"one_of!\(\w+, \w+, \|\w+\| [^,]*,(.*?)\)$", "\n".join(texts_of_speed()), re.M | re.S)
     return {word for it in listed for word in it.split()}
 
 
 def measured_names():
-    """Returns what tools/speed calls."""
-    return {*CALL.findall(text_of_speed()), *listed_in_speed()}
+    """Returns what tools/speed calls, except its own functions."""
+    found = listed_in_speed()
+    for text in texts_of_speed():
+        own = {*re.findall(r"\bfn (\w+)", text)}
+        qualified = {f"{it}::" for it in re.findall(r"^mod (\w+);", text, re.M)}
+        calls = re.findall(rf"(\.|\b\w+::|){CALL.pattern}", text)
+        found |= {name for before, name in calls if before not in qualified and (before or name not in own)}
+    return found
 
 
 def faults_of_speed():
     """Yields the names by which tools/speed makes calls and that no case of tools/speed/cases.py has, also after a selector's mode."""
     made = {speed.EMPTY.call, *(case.call for _, case in speed.alone_cases())}
     made |= {it.removeprefix("strict_").removeprefix("limited_") for it in made}
-    named = {*listed_in_speed(), *re.findall(r'"(\w+[^_\W])"(?=\s*(?:\||=>))', text_of_speed())}
+    named = {*listed_in_speed(), *re.findall(r'"(\w+[^_\W])"(?=\s*(?:\||=>))', "\n".join(texts_of_speed()))}
     yield from (f"tools/speed/cases.py has no case of {it}" for it in sorted(named - made))
     yield from [""] * len(named & made)
 
