@@ -1,7 +1,7 @@
 -- Columns of names: one name more of what is read.
 use Rattle.std.proofs.Common.{◌≡◌, ◌⊎◌, inl, inr, ℕ, suc, zero, ◌+◌, List, [], ◌∷◌, ◌++◌, map, drop, length, Option, Some, Result, Ok, Err, refl, ap, sym, ◌∙◌, arith, append_assoc}
 use Rattle.std.specs.Prelude.{slice_get}
-use Rattle.std.proofs.Common.{Bool, true, false, cond}
+use Rattle.std.proofs.Common.{Bool, true, false}
 use Rattle.std.proofs.lemmas.List.{map-append}
 use Rattle.std.proofs.lemmas.Str.{IsUtf8-from_is_utf8, is_utf8-from_IsUtf8}
 use Rattle.std.specs.Borrow.{Bor}
@@ -78,7 +78,7 @@ not_utf8 bytes false is other = is
 pub name_err : (row : Option (List ℕ)) (bytes : List ℕ) → row ≡ Some bytes → ¬ (IsUtf8 bytes) → name_of row ≡ Err NotUtf8
 name_err row bytes is other = rw (is, not_utf8 bytes (is_utf8 bytes) refl other) refl
 
--- the name is put after the others, if there is memory for it
-pub pushed_name : (old new : List (Bor (List ℕ))) (name : Bor (List ℕ)) (b : Bool) → new ≡ cond b (old ++ name ∷ []) old → b ≡ true
+-- the name is put after the others
+pub pushed_name : (old new : List (Bor (List ℕ))) (name : Bor (List ℕ)) → new ≡ old ++ name ∷ []
     → map (λ n. n.now) new ≡ map (λ n. n.now) old ++ name.now ∷ []
-pushed_name old new name b is done = rw (is, done) (map-append (λ n. n.now) old (name ∷ []))
+pushed_name old new name is = rw is (map-append (λ n. n.now) old (name ∷ []))
