@@ -23,15 +23,9 @@ ROOT = Path(__file__).resolve().parent.parent
 CRATES = ["jsonb_doc", "jsonb_keypath", "jsonb_raw", "jsonb"]
 USED = "jsonb"
 
-# The conversions of failed allocations: those of the standard library's two errors, of the error of `read_name` and `read_quoted`, of
-# a failed `push` to a status, and of hex's error in jsonb_lines.
-CONVERSIONS = {
-    "jsonb_doc/src/error.rt": 2,
-    "jsonb/src/parser/token.rt": 1,
-    "jsonb_c/src/document/names.rt": 1,
-    "jsonb_lines/src/problem.rt": 1,
-}
-ONLY_TESTS = {"jsonb_examples", "jsonb_sweep", "jsonb_vectors"}
+# The one module that constructs `OutOfMemory`, from the standard library's two errors, and the one that constructs an `AllocError`, from
+# the error of `read_name` and `read_quoted`.
+CONVERSIONS = {"jsonb_doc/src/error.rt": 2, "jsonb/src/parser/token.rt": 1}
 
 ITEM = re.compile(r"pub (?:const |unsafe )*(fn|struct|enum|trait|const) (\w+)")
 METHOD = re.compile(r"    (?:pub )?(?:const |unsafe )*(fn|const) (\w+)")
@@ -263,8 +257,10 @@ def given_types():
 
 # A module of tests, in this file or in another one.
 TESTS = re.compile(r"^#\[cfg\(test\)\]\n(?:pub(?:\(crate\))? )?mod \w+(?:;| \{.*?^\})", re.M | re.S)
-# The variant outside patterns, by any name of its type, its import, and an `AllocError` that is not a type.
-CONSTRUCTS = re.compile(r"::OutOfMemory\b(?!\)* =>)|^ *(?:pub )?use .*\bOutOfMemory\b|(?<!: )\bAllocError\b(?!>)", re.M)
+# The variant outside patterns, by any name of its type, its import, and an `AllocError` that is neither a type nor converted.
+CONSTRUCTS = re.compile(
+    r"::OutOfMemory\b(?!\)* =>)|^ *(?:pub )?use .*(?:\bOutOfMemory\b|Error::\*)|(?<!: )\bAllocError\b(?!>|::from\b)", re.M
+)
 
 
 def constructs_out_of_memory(text):
@@ -274,11 +270,11 @@ def constructs_out_of_memory(text):
 
 
 def out_of_memory_places():
-    """The sources that users' calls consist of that construct `OutOfMemory`, or should, and how often."""
+    """The sources, except tests, that construct `OutOfMemory` or an `AllocError`, or should, and how often."""
     counts = dict.fromkeys(CONVERSIONS, 0)
     for path in sorted((ROOT / "crates").glob("*/src/**/*.rt")):
         place = path.relative_to(ROOT / "crates")
-        if not {"tests", "tests.rt", *ONLY_TESTS} & set(place.parts):
+        if not {"tests", "tests.rt"} & set(place.parts):
             counts[str(place)] = constructs_out_of_memory(path.read_text())
     return {place: count for place, count in counts.items() if count or place in CONVERSIONS}
 

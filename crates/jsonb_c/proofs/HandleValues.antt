@@ -19,7 +19,7 @@ use Rattle.core.proofs.cell.Inside.{Good}
 use Rattle.std.specs.Prelude.{Option, Some, None}
 use Rattle.std_alloc.specs.Box.Ownership.{box_owns}
 use Rattle.std.specs.contracts.impls.GlobalAllocator.TheImpl.{ghosts}
-use Rattle.jsonb_c.specs.Handles.{owns_kept, the_heap}
+use Rattle.jsonb_c.specs.Representation.Handles.{owns_kept, the_heap}
 use Rattle.jsonb_c.specs.contracts.prepared.path.PreparedPath as prepared
 use Rattle.jsonb_c.specs.declared.prepared.path.PreparedPath.{PreparedPath}
 use Rattle.jsonb_c.specs.contracts.prepared.handle.PathHandle as handle

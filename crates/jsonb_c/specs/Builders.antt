@@ -13,8 +13,7 @@ use Rattle.jsonb_doc.specs.declared.event_error.EventError.{EventError}
 use Rattle.jsonb_doc.specs.declared.event_error.EventError.TheVariants.{Failed}
 use Rattle.jsonb_doc.specs.declared.event_error.EventError.TheVariants as refusal
 use Rattle.jsonb_doc.specs.declared.text_event.TextEvent.{TextEvent}
-use Rattle.jsonb_c.specs.Items.{items_left}
-use Rattle.jsonb_c.specs.Prepared.{json_steps, key_steps}
+use Rattle.jsonb_c.specs.Representation.Prepared.{items_left, json_steps, key_steps}
 use Rattle.jsonb_c.specs.Answers.{DeliversBytes, DeliversNothing, DeliversValue, WritesResult}
 use Rattle.jsonb_c.specs.Status.{code}
 use Rattle.jsonb_c.specs.declared.status.Status.TheVariants.{Answered, NoPath, OutOfOrder, Refused}

@@ -34,7 +34,7 @@ use Rattle.jsonb_c.specs.Answers.{Found, OfDocument, WritesResult}
 
 -- ---- parts
 
--- Holds if the result is a document of the value, or `None` if there is none, which is not allocated.
+-- Holds if the result is a document of the value. If there is none, it is `None`, which cannot fail.
 abbrev pub Finds : Form → Option Tree → Found (List ℕ) → Type 0
 Finds form wanted answer = MakesOption form wanted answer × (wanted ≡ None → answer ≡ Ok None)
 
@@ -79,19 +79,9 @@ FindsWhole {A} value Fits t found =
 
 -- ---- sortable keys
 
+-- The width of depths in sortable keys.
 abbrev pub width_of : Bool → Width
 width_of wide = if wide then w16 else w8
-
--- Holds if the result is the key of the document's tree; it fails if an item is too deep for a key.
-abbrev pub IsSortableKeyOf : Width → List ℕ → Result (List ℕ) Error → Type 0
-IsSortableKeyOf w document answer =
-    OfDocument document (λ form t made. GivesKey w (deepest t) made (λ bytes. bytes ≡ sortable_key w t 0)) answer
-
--- ---- equality keys
-
-abbrev pub IsEqualityKeyOf : List ℕ → Result (List ℕ) Error → Type 0
-IsEqualityKeyOf document answer =
-    OfDocument document (λ form t made. MatchResult made (λ bytes. bytes ≡ equality_key t) IsOutOfMemory) answer
 
 -- ---- `check`
 
@@ -101,8 +91,9 @@ IsCheckOf document status = ((status ≡ code Answered) ↔ ((t : Tree) × Decod
     × ((status ≡ code (Refused UnsupportedNumber)) ↔ IsUnsupportedDocument document)
     × ((status ≡ code (Refused InvalidJsonb)) ↔ IsNoDocument document)
 
--- ---- results that single calls and calls on columns share, and how they are shown
+-- ---- what single calls and calls on columns share. The last argument says how the result is delivered.
 
+-- The mode in which a path is evaluated.
 abbrev pub mode_of : Bool → Mode
 mode_of strict = if strict then Strict else Lax
 
@@ -110,47 +101,50 @@ mode_of strict = if strict then Strict else Lax
 abbrev pub one_array : List Tree → Option Tree
 one_array ts = Some (array (trees_of ts))
 
--- Holds if the result is whether the path selects an item.
+-- Holds if a Boolean is delivered: whether the path selects an item.
 abbrev pub TellsExistence : Mode → List Step → List ℕ → (Result Bool Error → Type 0) → Type 0
 TellsExistence mode path document = WritesResult (ByMeanings mode document path IsFound) (IsSelectionError mode)
 
--- Holds if it is that of the path as a predicate.
+-- Holds if the result of the path as a predicate is delivered.
 abbrev pub TellsTruth : Mode → List Step → List ℕ → (Result Truth Error → Type 0) → Type 0
 TellsTruth mode path document = WritesResult (IsTruthOf mode path document) (IsSelectionError mode)
 
--- Holds if it is a document of the picked item of what the path selects, if there is one.
+-- Holds if a document is delivered, of the item that is picked from the list that the path selects, if there is one.
 abbrev pub SelectsItem : Mode → (List Tree → Option Tree) → List Step → List ℕ → (Found (List ℕ) → Type 0) → Type 0
 SelectsItem mode pick path document =
     WritesResult (ByMeanings mode document path (IsPicked pick)) (IsSelectionError mode or TooLarge)
 
--- Holds if it is the value at the location of the steps, if there is one.
+-- Holds if a document is delivered, of the value at the location of the steps, if there is one.
 abbrev pub FindsPart : List Key → List ℕ → (Found (List ℕ) → Type 0) → Type 0
 FindsPart steps document = WritesResult (OfDocument document (λ form t. MakesOption form (tree_at_steps steps t)))
     (IsDecodingError or OutOfMemory or TooLarge)
 
--- Holds if it is the document without the value at the steps.
+-- Holds if the document without the value at the steps is delivered.
 abbrev pub DeletesPart : List Key → List ℕ → (Result (List ℕ) Error → Type 0) → Type 0
 DeletesPart steps document =
     WritesResult (DeletesPlace steps document) (IsDecodingError or OutOfMemory or InvalidJsonType)
 
--- Holds if it is whether the document contains the other one.
+-- Holds if a Boolean is delivered: whether the document contains the other one.
 abbrev pub TellsContainment : List ℕ → List ℕ → (Result Bool Error → Type 0) → Type 0
 TellsContainment wanted document = WritesResult (λ answer. (form other_form : Form) (t u : Tree)
     → Decodes form document t → Decodes other_form wanted u → IsOkAnd answer (λ b. b ≡ contains t u)) IsDecodingError
 
--- Holds if it is the document as an integer.
+-- Holds if the document is delivered as an integer.
 abbrev pub WritesI64 : List ℕ → (Result ℤ Error → Type 0) → Type 0
 WritesI64 document = WritesResult (OfDocument document (λ form t. Casts (λ z. IsSignedOf t z × FitsSigned w64 z)))
     (IsDecodingError or InvalidCast)
 
--- Holds if it is the document as a string.
+-- Holds if the document is delivered as a string.
 abbrev pub WritesText : List ℕ → (Result (String Global) Error → Type 0) → Type 0
 WritesText document = WritesResult (OfDocument document (λ form t. CastsToText (text_of t)))
     (IsDecodingError or OutOfMemory or InvalidCast)
 
--- Holds if it is the sortable key.
+-- Holds if the sortable key is delivered; the call fails if an item is too deep for one.
 abbrev pub WritesKey : Width → List ℕ → (Result (List ℕ) Error → Type 0) → Type 0
-WritesKey w document = WritesResult (IsSortableKeyOf w document) (IsDecodingError or OutOfMemory or TooDeep)
+WritesKey w document = WritesResult (OfDocument document (λ form t made. GivesKey w (deepest t) made
+    (λ bytes. bytes ≡ sortable_key w t 0))) (IsDecodingError or OutOfMemory or TooDeep)
 
+-- Holds if the equality key is delivered.
 abbrev pub WritesEqualityKey : List ℕ → (Result (List ℕ) Error → Type 0) → Type 0
-WritesEqualityKey document = WritesResult (IsEqualityKeyOf document) (IsDecodingError or OutOfMemory)
+WritesEqualityKey document = WritesResult (OfDocument document (λ form t made. MatchResult made
+    (λ bytes. bytes ≡ equality_key t) IsOutOfMemory)) (IsDecodingError or OutOfMemory)

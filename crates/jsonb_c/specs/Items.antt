@@ -1,5 +1,5 @@
 -- Items that a handle keeps, delivered one at a time.
-use Rattle.std.specs.Prelude.{◌≡◌, ◌⊎◌, ℕ, Bool, true, false, List, [], ◌∷◌, drop, Option, Some, None, option_map, Result, IsOkAnd}
+use Rattle.std.specs.Prelude.{◌≡◌, ◌⊎◌, ℕ, Bool, true, false, List, ◌∷◌, drop, Option, option_map, Result, IsOkAnd}
 use Rattle.std.specs.List.{AllZip}
 use Rattle.jsonb_doc.specs.Answer.{SameOption}
 use Rattle.jsonb_doc.specs.declared.error.Error.{Error}
@@ -14,17 +14,12 @@ use Rattle.jsonb.specs.declared.selector.first_item.FirstItem.{FirstItem}
 use Rattle.jsonb.specs.declared.selector.found.FoundItem.{FoundItem}
 use Rattle.jsonb.specs.declared.selector.found.FoundItem.TheVariants.{At}
 use Rattle.jsonb_c.specs.Answers.{Found}
+use Rattle.jsonb_c.specs.Representation.Prepared.{items_left}
 use Rattle.jsonb_c.specs.Spans.{IsSpanOf}
 use Rattle.jsonb_c.specs.Status.{code}
 use Rattle.jsonb_c.specs.declared.status.Status.TheVariants.{Answered}
 use Rattle.jsonb_c.specs.declared.prepared.path.PreparedPath.{PreparedPath}
-use Rattle.jsonb_c.specs.declared.prepared.path.PreparedPath.TheVariants.{Items}
 use Rattle.jsonb_c.specs.declared.span.Span.{Span}
-
--- The items that are still to be delivered, if the handle keeps items.
-abbrev pub items_left : Option PreparedPath → Option (List FoundItem)
-items_left (Some (Items left)) = Some left.items
-items_left _ = None
 
 -- Holds if the result is a document of the first of the items, or `None` if there is none.
 abbrev pub IsNextOf : List ℕ → List FoundItem → Found (List ℕ) → Type 0

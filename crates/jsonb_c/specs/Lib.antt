@@ -9,8 +9,7 @@ pub mod FirstSpans
 pub mod Cursors
 pub mod Making
 pub mod Leaves
-pub mod Handles
-pub mod Prepared
 pub mod Items
 pub mod Private
 pub mod Builders
+pub mod Representation

@@ -8,19 +8,12 @@ use Rattle.jsonb_raw.specs.Objects.{with_pairs}
 use Rattle.jsonb_c.specs.declared.status.Status.TheVariants.{BadOffsets, NotUtf8}
 use Rattle.jsonb_c.specs.declared.status.Status.{Status}
 
--- The name in a row, which must be UTF-8.
-abbrev pub name_of : Option (List ℕ) → Result (List ℕ) Status
-name_of None = Err BadOffsets
-name_of (Some bytes) = if is_utf8 bytes then Ok bytes else Err NotUtf8
-
-abbrev pub in_front : Result (List ℕ) Status → Result (List (List ℕ)) Status → Result (List (List ℕ)) Status
-in_front (Ok name) others = result_map_both (λ names. name ∷ names) (λ cause. cause) others
-in_front (Err cause) others = Err cause
-
--- The names in the rows, or the status of the first row without one.
+-- The names in the rows, or the status of the first row that has no name: its offsets are wrong, or it is not UTF-8.
 abbrev pub names_of : List (Option (List ℕ)) → Result (List (List ℕ)) Status
 names_of [] = Ok []
-names_of (row ∷ rows) = in_front (name_of row) (names_of rows)
+names_of (None ∷ rows) = Err BadOffsets
+names_of (Some name ∷ rows) =
+    if is_utf8 name then result_map_both (λ names. name ∷ names) (λ cause. cause) (names_of rows) else Err NotUtf8
 
 -- ---- sets of names
 

@@ -8,7 +8,7 @@ ghost use Rattle.jsonb.specs.KeyPathGrammar.{key_path};
 ghost use Rattle.jsonb_c.specs.Answers.{Delivers, DeliversNothing, DeliversValue, Shows, With, WritesResult};
 ghost use Rattle.jsonb_c.specs.Calls.{DeletesPart, FindsPart};
 ghost use Rattle.jsonb_c.specs.Status.{code};
-ghost use Rattle.jsonb_c.specs.Prepared.{key_steps};
+ghost use Rattle.jsonb_c.specs.Representation.Prepared.{key_steps};
 ghost use Rattle.jsonb_c.specs.declared.status.Status.TheVariants.{Answered, NoPath, Refused};
 
 use crate::column::documents::{part_at, without_part};

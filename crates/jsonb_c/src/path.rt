@@ -9,7 +9,7 @@ ghost use Rattle.jsonb_c.specs.Answers.{Delivers, DeliversNothing, Shows, ShowsA
 ghost use Rattle.jsonb_c.specs.Calls.{SelectsItem, TellsExistence, TellsTruth, mode_of, one_array};
 ghost use Rattle.jsonb_c.specs.Status.{code};
 ghost use Rattle.std.specs.Int.{from_bool};
-ghost use Rattle.jsonb_c.specs.Prepared.{json_steps};
+ghost use Rattle.jsonb_c.specs.Representation.Prepared.{json_steps};
 ghost use Rattle.jsonb_c.specs.Private.Views.{pick_of};
 ghost use Rattle.jsonb_c.specs.declared.status.Status.TheVariants.{Answered, NoPath, NotJsonPath};
 

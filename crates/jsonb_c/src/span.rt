@@ -14,7 +14,7 @@ ghost use Rattle.jsonb_c.specs.Answers.{Shows, With, WritesResult};
 ghost use Rattle.jsonb_c.specs.Private.Boxes.{ByPath};
 ghost use Rattle.jsonb_c.specs.Private.Numbers.{tree_kind};
 ghost use Rattle.jsonb_c.specs.Spans.{FindsSpan, HasSpan, IsSpanOf, IsWithin};
-ghost use Rattle.jsonb_c.specs.Prepared.{key_steps};
+ghost use Rattle.jsonb_c.specs.Representation.Prepared.{key_steps};
 ghost use Rattle.jsonb_c.specs.Status.{code};
 ghost use Rattle.jsonb_c.specs.declared.status.Status.TheVariants.{Answered, NoPath, Refused};
 

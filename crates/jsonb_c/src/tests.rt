@@ -99,6 +99,8 @@ fn values(rt: HostRuntime) {
     assert_gives!(rt; jdoc_from_i64(alloc, -100), OK, b"\x20\0\0\0\x20\0\0\x02\x40\x9c");
     assert_gives!(rt; jdoc_from_u64(alloc, 1), OK, b"\x20\0\0\0\x20\0\0\x02\x50\x01");
     assert_gives!(rt; jdoc_from_decimal(alloc, 0, 1234, 2), OK, b"\x20\0\0\0\x20\0\0\x0a\x70\0\0\0\0\0\0\x04\xd2\x02");
+    assert_gives!(rt; jdoc_from_decimal(alloc, 1, 0, 0), OK,
+        b"\x20\0\0\0\x20\0\0\x12\x70\0\0\0\0\0\0\0\x01\0\0\0\0\0\0\0\0\0");
     assert_gives!(rt; jdoc_from_str(alloc, b"adf"), OK, b"\x20\0\0\0\x10\0\0\x03adf");
     assert_gives!(rt; jdoc_from_str(alloc, b"\xff"), NOT_UTF8, b"");
 }

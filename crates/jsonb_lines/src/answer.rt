@@ -7,7 +7,8 @@ use std::alloc::Global;
 
 /// Returns the lines of a command on a document in hexadecimal, each with its line feed.
 pub fn answer(alloc: Global, question: &Question<'_>, digits: &str) -> Result<String, Problem> {
-    let bytes = hex::decode(alloc, digits)?;
+    let mut bytes = vec![in alloc; 0u8; digits.len() / 2].map_err(Error::from)?;
+    hex::decode_to_slice(digits, bytes.as_mut_slice())?;
     Ok(document_answer(alloc, question, bytes.as_slice())?)
 }
 

@@ -54,10 +54,7 @@ impl From<Error> for Problem {
 
 impl From<FromHexError> for Problem {
     fn from(error: FromHexError) -> Problem {
-        match error {
-            FromHexError::OutOfMemory => Problem::Refused(Error::OutOfMemory),
-            error => Problem::Digits(error),
-        }
+        Problem::Digits(error)
     }
 }
 

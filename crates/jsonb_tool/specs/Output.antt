@@ -1,4 +1,4 @@
--- The outcome of a command: the lines that it prints, or its error.
+-- The outcome of a command: the lines that it prints, each with its line feed, or its error.
 use Rattle.std.specs.Prelude.{◌≡◌, ◌⊎◌, ℕ, true, false, List, [], ◌∷◌, ◌++◌, Some, None, Ok, Err, IsOkAnd, IsErrAnd, MatchOption, MatchResult, codes, option_to_list}
 use Rattle.std.specs.Int.{w8}
 use Rattle.std.specs.List.{Any, AllZip, concat}
@@ -25,51 +25,51 @@ use Rattle.jsonb.specs.declared.selector.document.Mode.TheVariants.{Lax}
 use Rattle.hex.specs.Hex.{encode_lower}
 use Rattle.jsonb_tool.specs.Requests.{Request, get, key, leaves, select, path_match}
 
--- The outcome of a command is the lines that it prints, each with its line feed, or its error.
-
--- why bytes are not a document: they would be one if each float and each 256-bit decimal were a number, or not even
--- then
+-- Holds if this error says why the bytes are not a document: they would be one if each float and each 256-bit decimal
+-- were a number, or not even then.
 abbrev pub IsDamage : List ℕ → Error → Type 0
 IsDamage bytes e = ((e ≡ UnsupportedNumber) × IsUnsupportedDocument bytes) ⊎ ((e ≡ InvalidJsonb) × IsNoDocument bytes)
 
--- The outcome satisfies this for the tree that the bytes decode to, in each form in which they do. If they do not
--- decode, it is the error that says why.
+-- Holds if the outcome is as stated for the tree that the bytes decode to, in each form in which they do. If they do
+-- not decode, it is the error that says why.
 abbrev pub OnDocument : List ℕ → (Form → Tree → Outcome (List ℕ) → Type 0) → Outcome (List ℕ) → Type 0
 OnDocument bytes IsOutcomeOn outcome = (((t : Tree) × Decodes any bytes t)
     × ((form : Form) (t : Tree) → Decodes form bytes t → IsOutcomeOn form t outcome))
     ⊎ IsErrAnd outcome (IsDamage bytes)
 
--- The text is these lines, or `none` if there are no lines.
+-- The lines as one text, or `none` if there are no lines.
 abbrev pub text_of : List (List ℕ) → List ℕ
 text_of [] = codes "none\n"
 text_of (line ∷ lines) = concat (line ∷ lines)
 
--- The text is a line for each, in order, or `none`.
+-- Holds if the text is a line for each, in order, or `none`.
 abbrev pub ShowsEach : {A : Type 0} → (A → List ℕ → Type 0) → List A → List ℕ → Type 0
 ShowsEach IsLineOf xs text = (lines : List (List ℕ)) × AllZip IsLineOf xs lines × (text ≡ text_of lines)
 
--- a document of the tree in hexadecimal, and the rest of its line
+-- Holds if the line is a document of the tree in hexadecimal, and this rest.
 abbrev pub IsLineOf : List ℕ → Form → Tree → List ℕ → Type 0
 IsLineOf rest form t line = (bytes : List ℕ) × Decodes form bytes t × (line ≡ encode_lower bytes ++ rest)
 
--- the line of a leaf: a document of it in hexadecimal, a space, and the steps to it as they print
+-- Holds if the line is a document of the leaf in hexadecimal, a space, and the steps to the leaf as they print.
 abbrev pub IsLeafLine : Form → Leaf → List ℕ → Type 0
 IsLeafLine form leaf = IsLineOf (codes " " ++ key_path_text leaf.0 ++ codes "\n") form leaf.1
 
--- Each tree has the line of a document. The error is that one of the trees is too large for a document.
+-- Holds if the text is a line for each tree, with a document of it, or the error is that one of the trees is too large
+-- for a document.
 abbrev pub ShowsTrees : Form → List Tree → Outcome (List ℕ) → Type 0
 ShowsTrees form ts (Ok text) = ShowsEach (IsLineOf (codes "\n") form) ts text
 ShowsTrees form ts (Err e) = (e ≡ TooLarge) × Any (IsTooLarge form) ts
 
+-- The line of a predicate's result.
 abbrev pub truth_line : Truth → List ℕ
 truth_line (Some true) = codes "true\n"
 truth_line (Some false) = codes "false\n"
 truth_line None = codes "unknown\n"
 
--- What comes of a request: of `get` the tree at the location of the steps, of `key` the sortable key in hexadecimal, or
--- the error if an item is too deep for one, of `leaves` the leaves, arrays entered, none of which is too large for a
--- document, of `select` the list of the path in lax mode, and of `match` its result as a predicate in lax mode. The
--- error is that of text that is not a path, or of the path.
+-- Holds if this is an outcome of the request. `get` shows the tree at the location of the steps; `key` the sortable key
+-- in hexadecimal, or fails if an item is too deep for one; `leaves` the leaves, also those in arrays, none of which is
+-- too large for a document; `select` the items of the path in lax mode; `match` its result as a predicate in lax mode.
+-- Text that is not a path is an error, and so is a path that fails on the document.
 abbrev pub IsOutputOf : Request → Outcome (List ℕ) → Type 0
 IsOutputOf (get path document) outcome = MatchOption (key_path path) (outcome ≡ Err InvalidKeyPath)
     (λ steps. OnDocument document (λ form t. ShowsTrees form (option_to_list (tree_at_steps steps t))) outcome)

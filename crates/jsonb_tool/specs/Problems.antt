@@ -8,7 +8,7 @@ use Rattle.jsonb_tool.specs.Requests.{Request, get, key, leaves, select, path_ma
 use Rattle.jsonb_tool.specs.declared.problem.Problem.{Problem}
 use Rattle.jsonb_tool.specs.declared.problem.Problem.TheVariants.{Command, Digits, KeyPath, JsonPath, Refused}
 
--- They are not a command, or the document is not hexadecimal.
+-- Holds for arguments that are not a command, or whose document is not hexadecimal.
 abbrev pub IsUsage : Problem → Type 0
 IsUsage Command = Unit {0}
 IsUsage (Digits error) = Unit {0}
@@ -21,13 +21,14 @@ path_problem (select path document) = option_map JsonPath (json_path_error_posit
 path_problem (path_match path document) = option_map JsonPath (json_path_error_position path)
 path_problem _ = None
 
--- Nothing if the request has lines, or its error, unless an allocation fails.
+-- Holds if nothing is found and the request has lines, or the request's error is found, unless an allocation fails.
 abbrev pub IsRefusal : Request → Option Problem → Type 0
 IsRefusal request None = (text : List ℕ) × IsOutputOf request (Ok text)
 IsRefusal request (Some (Refused e)) = (e ≡ OutOfMemory) ⊎ IsOutputOf request (Err e)
 IsRefusal request (Some _) = ⊥
 
--- Why arguments have no result: they are not a request; its path does not parse; or it fails on the document.
+-- Holds if this is why the arguments have no result: they are not a request; its path does not parse; or it fails on
+-- the document. `None` if they have one.
 abbrev pub IsProblemOf : List (List ℕ) → Option Problem → Type 0
 IsProblemOf words found = MatchOption (request_of words) (MatchOption found ⊥ IsUsage)
     (λ request. MatchOption (path_problem request) (IsRefusal request found) (λ problem. found ≡ Some problem))

@@ -12,7 +12,7 @@ pub data Request : Type 0 where
   select : List ℕ → List ℕ → Request
   path_match : List ℕ → List ℕ → Request
 
--- the bytes of hexadecimal digits, in either case
+-- The bytes of hexadecimal digits in either case, if the text is that.
 abbrev pub bytes_of : List ℕ → Option (List ℕ)
 bytes_of digits = result_ok (decode_of digits)
 

@@ -10,7 +10,7 @@ use Rattle.jsonb_c.specs.Status.{code}
 use Rattle.jsonb_doc.specs.declared.error.Error.{Error}
 use Rattle.jsonb_doc.specs.declared.error.Error.TheVariants.{OutOfMemory}
 use Rattle.jsonb.specs.declared.selector.found.FoundItem.{FoundItem}
-use Rattle.jsonb_c.specs.Items.{items_left}
+use Rattle.jsonb_c.specs.Representation.Prepared.{items_left}
 use Rattle.jsonb.specs.declared.selector.found.FoundItem.TheVariants.{At}
 
 -- a parsed path is kept, or nothing is

@@ -1,8 +1,8 @@
 -- Names that are read of a column, and sets of them.
-use Rattle.std.specs.Prelude.{◌≡◌, ℕ, Bool, List, Option, Result, Ok, Err, IsOkAnd, MatchResult}
+use Rattle.std.specs.Prelude.{◌≡◌, ℕ, Bool, List, Option, Some, None, Result, Ok, Err, IsOkAnd, MatchResult, if◌then◌else◌}
 use Rattle.std.specs.Borrow.{Bor}
 use Rattle.std.specs.List.{list_any}
-use Rattle.std.specs.Str.{bytes_eq}
+use Rattle.std.specs.Str.{bytes_eq, is_utf8}
 use Rattle.jsonb_raw.specs.Objects.{TextSet, is_in}
 use Rattle.jsonb_doc.specs.Answer.{IsDecodingError, ◌or◌}
 use Rattle.jsonb_doc.specs.Tree.{Tree}
@@ -12,12 +12,18 @@ use Rattle.jsonb_c.specs.Answers.{DeliversNothing, DeliversValue, OfDocument, Sh
 use Rattle.jsonb_c.specs.Calls.{MakesOr}
 use Rattle.jsonb_c.specs.Status.{code}
 use Rattle.jsonb_raw.specs.Exists.{has_all, has_any}
-use Rattle.jsonb_c.specs.Names.{dropped_names, name_of, picked_names}
+use Rattle.jsonb_c.specs.Names.{dropped_names, picked_names}
 use Rattle.jsonb_c.specs.declared.document.names.Chosen.{Chosen}
 use Rattle.jsonb_c.specs.declared.document.names.Chosen.TheVariants.{Named, Rest}
 use Rattle.jsonb_c.specs.declared.document.names.Quantity.{Quantity}
 use Rattle.jsonb_c.specs.declared.document.names.Quantity.TheVariants.{All, Any}
 use Rattle.jsonb_c.specs.declared.status.Status.{Status}
+use Rattle.jsonb_c.specs.declared.status.Status.TheVariants.{BadOffsets, NotUtf8}
+
+-- the name in a row, or what is wrong with it
+abbrev pub name_of : Option (List ℕ) → Result (List ℕ) Status
+name_of None = Err BadOffsets
+name_of (Some bytes) = if is_utf8 bytes then Ok bytes else Err NotUtf8
 
 -- the name that was read of a row, or what is wrong with it
 abbrev pub IsNameOf : Result (Bor (List ℕ)) Status → Option (List ℕ) → Type 0

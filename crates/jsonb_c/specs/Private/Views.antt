@@ -1,18 +1,23 @@
 -- What the values of private functions stand for, and spans within the bytes.
-use Rattle.std.specs.Prelude.{ℕ, List, Option, Some, None, Result, Ok, Err, Vec, IfSome, ⊤}
+use Rattle.std.specs.Prelude.{◌≡◌, ℕ, List, Option, Some, None, Result, Ok, Err, Vec, IfSome, MatchResult, ⊤}
 use Rattle.std.specs.Borrow.{Bor}
 use Rattle.std.specs.declared.alloc.Global.{Global}
 use Rattle.jsonb_doc.specs.declared.error.Error.{Error}
 use Rattle.jsonb_doc.specs.declared.event_error.EventError.{EventError}
 use Rattle.jsonb_doc.specs.declared.error.Error.TheVariants.{InvalidJsonPath}
+use Rattle.jsonb_doc.specs.Answer.{IsOutOfMemory}
+use Rattle.jsonb_doc.specs.Depth.{deepest}
 use Rattle.jsonb_doc.specs.Tree.{Tree}
+use Rattle.jsonb_raw.specs.EqualityKey.{equality_key}
+use Rattle.jsonb_raw.specs.KeyAnswer.{GivesKey}
+use Rattle.jsonb_raw.specs.SortableKey.{sortable_key}
 use Rattle.jsonb.specs.SelectorAnswers.{first_item, single_or_array}
-use Rattle.jsonb_c.specs.Answers.{Found, Shows, ShowsAs, ShowsValue, truth_byte}
+use Rattle.jsonb_c.specs.Answers.{Found, OfDocument, Shows, ShowsAs, ShowsValue, truth_byte}
 use Rattle.jsonb_c.specs.Calls.{DeletesPart, FindsPart, TellsExistence, TellsTruth, one_array}
 use Rattle.jsonb.specs.KeyPathGrammar.{Key}
 use Rattle.jsonb.specs.PathTree.{Step}
 use Rattle.jsonb.specs.declared.selector.document.Mode.{Mode}
-use Rattle.std.specs.Int.{from_bool}
+use Rattle.std.specs.Int.{Width, from_bool}
 use Rattle.jsonb_c.specs.declared.column.documents.Operation.{Operation}
 use Rattle.jsonb_c.specs.declared.column.documents.Operation.TheVariants.{Part, Rest}
 use Rattle.jsonb_c.specs.declared.column.truths.Question.{Question}
@@ -42,6 +47,16 @@ abbrev pub found_text : Result (Option (Bor (List ℕ))) Error → Found (List �
 found_text (Ok (Some found)) = Ok (Some found.now)
 found_text (Ok None) = Ok None
 found_text (Err e) = Err e
+
+-- the result is the sortable key of the document
+abbrev pub IsSortableKeyOf : Width → List ℕ → Result (List ℕ) Error → Type 0
+IsSortableKeyOf w document answer =
+    OfDocument document (λ form t made. GivesKey w (deepest t) made (λ bytes. bytes ≡ sortable_key w t 0)) answer
+
+-- the result is the equality key of the document
+abbrev pub IsEqualityKeyOf : List ℕ → Result (List ℕ) Error → Type 0
+IsEqualityKeyOf document answer =
+    OfDocument document (λ form t made. MatchResult made (λ bytes. bytes ≡ equality_key t) IsOutOfMemory) answer
 
 -- which document is made of the items
 abbrev pub pick_of : Pick → List Tree → Option Tree

@@ -208,6 +208,7 @@ fn documents_of_documents(rt: HostRuntime) {
     assert_joins!(rt; jdoc_column_delete_by_keypath(alloc, rows, offsets, b"{a}"),
         b"\x40\0\0\0\x40\0\0\0\x40\0\0\0", [0, 4, 8, 12, 12], DECODED_STATUSES);
     assert_joins!(rt; jdoc_column_select_first(alloc, TENS, &[0, 22], b"$[*]", false), TEN, [0, 10, 9, 9, 9], [0, 9, 9, 9]);
+    assert_joins!(rt; jdoc_column_select_value(alloc, rows, offsets, b"$.a", false), ONE_TWO_ONE, ends, DECODED_STATUSES);
     assert_joins!(rt; jdoc_column_select_array(alloc, rows, offsets, b"$.a", false), LISTS, ends, DECODED_STATUSES);
 }
 

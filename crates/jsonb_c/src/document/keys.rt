@@ -4,8 +4,8 @@ ghost use Rattle.std.specs.Prelude.{IfErr};
 ghost use Rattle.jsonb_doc.specs.Answer.{IsDecodingError, ◌or◌};
 ghost use Rattle.jsonb_doc.specs.declared.error.Error.TheVariants.{OutOfMemory, TooDeep};
 ghost use Rattle.jsonb_c.specs.Answers.{DeliversValue};
-ghost use Rattle.jsonb_c.specs.Calls.{IsEqualityKeyOf, IsSortableKeyOf, WritesEqualityKey, WritesKey, width_of};
-ghost use Rattle.jsonb_c.specs.Private.Views.{vec_answer};
+ghost use Rattle.jsonb_c.specs.Calls.{WritesEqualityKey, WritesKey, width_of};
+ghost use Rattle.jsonb_c.specs.Private.Views.{IsEqualityKeyOf, IsSortableKeyOf, vec_answer};
 ghost use Rattle.jsonb_c.specs.Private.Buffers.{written_key};
 
 use crate::deliver::deliver_vec;

@@ -191,8 +191,8 @@ pub(crate) fn read_names<'a>(alloc: Global, column: &Column<'a>) -> Result<Vec<&
     let mut names = Vec::new(alloc);
     for index in 0..column.len() {
         let name = name_of(column.row(index))?;
-        if names.push(name).is_err() {
-            return Err(Status::Refused(Error::OutOfMemory));
+        if let Err(failed) = names.push(name) {
+            return Err(Status::from(Error::from(failed)));
         }
     }
     Ok(names)

@@ -3,7 +3,7 @@
 
 ghost use Rattle.std.specs.Prelude.{Option};
 ghost use Rattle.std.specs.Coded.{coded_option};
-ghost use Rattle.jsonb_c.specs.Handles.{owns_kept};
+ghost use Rattle.jsonb_c.specs.Representation.Handles.{owns_kept};
 ghost use Rattle.jsonb_c.specs.declared.prepared.path.PreparedPath.{PreparedPath};
 ghost use Rattle.jsonb_c.specs.contracts.prepared.path.PreparedPath.{the_row};
 
@@ -22,7 +22,7 @@ pub struct PathHandle {
 }
 
 impl Model for PathHandle {
-    ghost use Rattle.jsonb_c.specs.Handles.{owns_kept};
+    ghost use Rattle.jsonb_c.specs.Representation.Handles.{owns_kept};
 
     ghost also_owns = { λ h. owns_kept h.is_there h.at h.value };
 }

@@ -6,7 +6,7 @@ ghost use Rattle.jsonb_doc.specs.declared.error.Error.TheVariants.{InvalidJsonPa
 ghost use Rattle.jsonb.specs.KeyPathGrammar.{key_path};
 ghost use Rattle.jsonb.specs.KeyPathViews.{key_view, key_paths_view};
 ghost use Rattle.jsonb.specs.PathGrammar.{json_path};
-ghost use Rattle.jsonb_c.specs.Prepared.{json_steps, key_steps};
+ghost use Rattle.jsonb_c.specs.Representation.Prepared.{json_steps, key_steps};
 ghost use Rattle.jsonb_c.specs.Private.Boxes.{IsTextRefusal};
 ghost use Rattle.jsonb_c.specs.declared.status.Status.TheVariants.{NotJsonPath, Refused};
 

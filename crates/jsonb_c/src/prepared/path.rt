@@ -3,7 +3,7 @@
 ghost use Rattle.std.specs.Prelude.{◌≡◌, MatchOption, Some, None};
 ghost use Rattle.jsonb.specs.KeyPathViews.{key_paths_view};
 ghost use Rattle.jsonb.specs.PathViews.{path_view};
-ghost use Rattle.jsonb_c.specs.Prepared.{json_steps, key_steps};
+ghost use Rattle.jsonb_c.specs.Representation.Prepared.{json_steps, key_steps};
 
 use jsonb::{DocumentBuilder, FoundItem, JsonPath, KeyPaths};
 use std::collections::VecDeque;

@@ -14,7 +14,7 @@ ghost use Rattle.jsonb_c.specs.Answers.{With, WritesResult};
 ghost use Rattle.jsonb_c.specs.Calls.{mode_of};
 ghost use Rattle.jsonb_c.specs.FirstSpans.{FindsFirstSpan, ShowsFirst};
 ghost use Rattle.jsonb_c.specs.Private.Views.{IsFirstWithin};
-ghost use Rattle.jsonb_c.specs.Prepared.{json_steps};
+ghost use Rattle.jsonb_c.specs.Representation.Prepared.{json_steps};
 ghost use Rattle.jsonb_c.specs.Spans.{IsSpanOf, IsWithin};
 ghost use Rattle.jsonb_c.specs.Status.{code};
 ghost use Rattle.jsonb_c.specs.declared.status.Status.TheVariants.{Answered, NoPath, NotJsonPath};

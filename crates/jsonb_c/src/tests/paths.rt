@@ -35,8 +35,10 @@ fn items_of_paths(rt: HostRuntime) {
     let alloc = rt.alloc();
     assert_gives!(rt; jdoc_select_first(alloc, TENS, b"$[*]", false), OK, TEN);
     assert_gives!(rt; jdoc_select_value(alloc, MIXED, b"$[*].k", false), OK, V);
+    assert_gives!(rt; jdoc_select_value(alloc, TENS, b"$[*]", false), OK, TENS);
     assert_gives!(rt; jdoc_select_value(alloc, GREATEST, b"-$[*]", false), OVERFLOW, b"");
     assert_gives!(rt; jdoc_select_value(alloc, TENS, b"$[1,]", false), INVALID_JSON_PATH, b"");
+    assert_gives!(rt; jdoc_select_array(alloc, TENS, b"$[0]", false), OK, b"\x80\0\0\x01\x20\0\0\x02\x50\x0a");
     assert_gives!(rt; jdoc_select_array(alloc, MIXED, b"$[*].k", true), STRICT_PATH, b"");
     assert_stores!(rt; jdoc_exists(alloc, MIXED, b"$[*].k", false), OK, 1);
     assert_stores!(rt; jdoc_match(alloc, NULLS, b"exists($.c)", true), STRICT_PATH, 9);

@@ -1,5 +1,5 @@
 use Rattle.jsonb_doc.specs.declared.error.Error.TheVariants.{InvalidKeyPath}
-use Rattle.jsonb_c.specs.Prepared.{key_steps}
+use Rattle.jsonb_c.specs.Representation.Prepared.{key_steps}
 use Rattle.jsonb_c.specs.declared.status.Status.TheVariants.{Refused}
 use Rattle.jsonb_c.proofs.PreparedLemmas.{prepares}
 use Rattle.jsonb_c.proofs.keypath.jdoc_keypath_read.Goals as goal

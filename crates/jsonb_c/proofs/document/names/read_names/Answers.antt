@@ -1,4 +1,4 @@
-use Rattle.std.proofs.Common.{◌∙◌, ap, sym, inr, not, map, option_copied, Err}
+use Rattle.std.proofs.Common.{◌∙◌, ap, sym, inr, map, option_copied, Err}
 use Rattle.std.proofs.lemmas.Result.{err_from_is_err_and}
 use Rattle.jsonb_c.proofs.Names.{names_more, names_wrong, pushed_name}
 use Rattle.jsonb_c.proofs.document.names.read_names.Goals as goal
@@ -13,7 +13,7 @@ returns-in_err-name c =
 
 pub loop-index-preserved : goal.loop-index-preserved
 loop-index-preserved c =
-    let pushed = pushed_name _ _ _ _ c.push.ensures.items (c.is_err.ensures.negation ∙ ap not c.if-is_err.false) in
+    let pushed = pushed_name _ _ _ c.in_default.ensures.items in
     rw pushed
     (names_more c.args.column.now c.loop-index.index (option_copied c.row.result) (map (λ n. n.now) c.loop-index.names.items) c.in_ok-name.name.now
     c.row.ensures c.in_ok-name.ensures c.loop-index.invariant)

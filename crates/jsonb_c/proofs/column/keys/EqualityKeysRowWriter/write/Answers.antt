@@ -1,4 +1,4 @@
-use Rattle.jsonb_c.specs.Calls.{IsEqualityKeyOf}
+use Rattle.jsonb_c.specs.Private.Views.{IsEqualityKeyOf}
 use Rattle.jsonb_c.proofs.KeyRows.{writes_key}
 use Rattle.jsonb_c.proofs.column.keys.EqualityKeysRowWriter.write.Goals as goal
 

@@ -1,4 +1,5 @@
-use Rattle.jsonb_c.specs.Calls.{IsSortableKeyOf, width_of}
+use Rattle.jsonb_c.specs.Calls.{width_of}
+use Rattle.jsonb_c.specs.Private.Views.{IsSortableKeyOf}
 use Rattle.jsonb_c.proofs.KeyRows.{writes_key}
 use Rattle.jsonb_c.proofs.column.keys.SortKeysRowWriter.write.Goals as goal
 

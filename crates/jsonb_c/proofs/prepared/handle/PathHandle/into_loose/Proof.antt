@@ -34,7 +34,7 @@ use Rattle.std.specs.contracts.impls.GlobalAllocator.TheImpl.{ghosts}
 use Rattle.std.proofs.alloc.Global.TheLaws as global_laws
 use Rattle.std_alloc.specs.Box.Ownership.{box_owns}
 use Rattle.std_alloc.proofs.ResultValues.{and_tt}
-use Rattle.jsonb_c.specs.Handles.{the_heap}
+use Rattle.jsonb_c.specs.Representation.Handles.{the_heap}
 use Rattle.jsonb_c.specs.contracts.prepared.path.PreparedPath as prepared
 use Rattle.jsonb_c.specs.contracts.prepared.handle.PathHandle as handle
 use Rattle.jsonb_c.proofs.LooseValues.{pair, Loose, pair_fits, loose_closes}
