@@ -43,6 +43,7 @@ pub(crate) fn sum_lengths(words: &[u8]) -> usize
 
 /// Returns the sum of the lengths in entry words, of which there are few.
 #[inline(always)]
+#[tactic(auto, using(std::proofs::lemmas::Grind::common_steps))]
 fn sum_words(words: &[u8]) -> usize
     requires { length words.now < 2 ^ 32 }
     ensures sum { result ≡ lengths_of (length words.now / 4) words.now }
@@ -109,6 +110,7 @@ fn four_lens(quad: &[u8; 16]) -> (u32, u32, u32, u32)
 
 /// Returns the bytes after the contents of these entry words, or `None` if there are fewer bytes.
 #[inline(always)]
+#[tactic(auto, using(crate::proofs::Entries::nothing_before))]
 pub fn skip_contents<'a>(words: &[u8], contents: &'a [u8]) -> Option<&'a [u8]>
     requires { length words.now < 2 ^ 32 }
     ensures rest { (parts : List (List ℕ)) (rest : List ℕ) → StandBefore parts words.now contents.now rest
