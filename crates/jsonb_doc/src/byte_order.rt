@@ -24,6 +24,7 @@ pub fn bytes_cmp(bytes: &[u8], other: &[u8]) -> Ordering
 
 /// Compares bytes of which the first 8 differ.
 #[inline(always)]
+#[tactic(auto, using(crate::proofs::WordLemmas::order_of_words))]
 fn first_words_cmp(bytes: &[u8], other: &[u8]) -> Option<Ordering>
     ensures { IfSome result (λ order. order ≡ slice_cmp nat_cmp bytes.now other.now) }
 {

@@ -35,6 +35,7 @@ use std::cmp::Ordering;
 ///     Err(_) => "damaged",
 /// }
 /// ```
+#[tactic(auto, using(crate::proofs::Sets::checking_check))]
 pub fn check(bytes: &[u8]) -> Result<(), Error>
     ensures ok { IsOk result ↔ ((t : Tree) × Decodes any bytes.now t) }
     ensures unsupported { IsErrOf result Error.UnsupportedNumber ↔ IsUnsupportedDocument bytes.now }
@@ -43,6 +44,7 @@ pub fn check(bytes: &[u8]) -> Result<(), Error>
     check_document(bytes)
 }
 
+#[tactic(auto, using(crate::proofs::Sets::checking_check_document))]
 fn check_document(bytes: &[u8]) -> Result<(), Error>
     ensures { Validates (HasDocument bytes.now) result }
 {
@@ -65,6 +67,7 @@ fn check_content(kind: EntryKind, content: &[u8]) -> Result<(), Error>
     }
 }
 
+#[tactic(auto, using(crate::proofs::ScalarLemmas::number_refused))]
 fn check_scalar(kind: EntryKind, content: &[u8]) -> Result<(), Error>
     requires { kind_number kind ≢ 5 }
     ensures { Validates (HasContent (kind_number kind) content.now) result }
@@ -194,6 +197,7 @@ fn check_entries<'a>(words: &[u8], contents: &'a [u8]) -> Option<Entries<'a>>
 }
 
 /// Returns the bytes after the keys of these entry words.
+#[tactic(auto, using(crate::proofs::Sets::checking_skip_keys))]
 pub fn skip_keys<'a>(words: &[u8], bytes: &'a [u8]) -> Option<&'a [u8]>
     ensures { MatchOption result ((rest : List ℕ) → HasKeys words.now bytes.now rest → ⊥)
         (λ rest. HasKeys words.now bytes.now rest.now) }

@@ -120,6 +120,7 @@ pub enum Container<'a> {
 ///
 /// O(1). Does not allocate.
 #[inline(always)]
+#[tactic(auto, using(crate::proofs::Sets::container_read_container))]
 pub fn read_container(bytes: &[u8]) -> Result<Container<'_>, Error>
     ensures cut { MatchResult result (IsCut bytes.now)
         (λ e. (e ≡ Error.InvalidJsonb)

@@ -50,6 +50,7 @@ impl<'a> Entries<'a> {
     ///
     /// O(1). Does not allocate.
     #[inline(always)]
+    #[tactic(auto, using(crate::proofs::Sets::entries_first))]
     pub fn first(&self) -> Result<Option<(StoredEntry<'a>, Entries<'a>)>, Error>
         ensures first { (form : Form) (ts : List Tree) → HoldTrees form self.now ts
             → IsOkAnd result (TakesFirst form self.now ts) }

@@ -11,6 +11,7 @@ ghost use Rattle.jsonb_doc.specs.Private.EqualBytes.{AreEnds};
 ///
 /// O(1) for up to 16 bytes, otherwise O(n) for n bytes. Does not allocate.
 #[inline(always)]
+#[tactic(auto, using(crate::proofs::WordLemmas::ends_tell))]
 pub fn bytes_equal(bytes: &[u8], other: &[u8]) -> bool
     ensures { IsTrue result ↔ (bytes.now ≡ other.now) }
 {

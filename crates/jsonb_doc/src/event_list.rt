@@ -74,6 +74,7 @@ pub fn document_from_events(
 }
 
 /// Returns the document of what was collected.
+#[tactic(auto, using(crate::proofs::EventListLemmas::plain_stands))]
 fn collected_document(
     alloc: Global,
     collected: &Collected<'_>,

@@ -178,6 +178,7 @@ fn skip_block<'w, 'k>(
 
 /// Returns what follows the key that is this name, if it is one of the first block of keys.
 #[inline(always)]
+#[tactic(auto, using(crate::proofs::Sets::key_search_find_in_block))]
 fn find_in_block<'w, 'k>(
     words: &'w [u8],
     bytes: &'k [u8],

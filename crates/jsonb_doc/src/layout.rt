@@ -302,6 +302,7 @@ fn split_lone_entry(bytes: &[u8]) -> Option<(EntryKind, &[u8])>
 ///
 /// O(1). Does not allocate.
 #[inline(always)]
+#[tactic(auto, using(crate::proofs::Sets::layout_split_scalar))]
 pub fn split_scalar(bytes: &[u8]) -> Option<(EntryKind, &[u8])>
     ensures { MatchOption result
         ((kind : ℕ) (words content : List ℕ) → HeadedBy bytes.now scalar_header 0 words
@@ -326,6 +327,7 @@ pub fn split_scalar(bytes: &[u8]) -> Option<(EntryKind, &[u8])>
 ///
 /// O(1). Does not allocate.
 #[inline(always)]
+#[tactic(auto, using(crate::proofs::Sets::layout_split_entry))]
 pub fn split_entry<'w, 'c>(words: &'w [u8], contents: &'c [u8]) -> Option<Entry<'w, 'c>>
     ensures { MatchOption result
         ((kind : ℕ) (content other_words other_contents : List ℕ)

@@ -192,6 +192,7 @@ fn push_timestamp_tz(out: &mut Vec<u8>, offset: i32, value: i64) -> Result<(), A
     push_i64(out, value)
 }
 
+#[tactic(auto, using(crate::proofs::Sets::payload_push_interval))]
 fn push_interval(out: &mut Vec<u8>, months: i32, days: i32, micros: i64) -> Result<(), AllocError>
     ensures pushed { OnOk result (out.new.items ≡ out.old.items ++ extension_payload (interval months days micros)) }
     ensures kept { OnErr result (StaysInFront out.old.items out.new.items) }

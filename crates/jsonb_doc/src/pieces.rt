@@ -16,6 +16,7 @@ pub struct Piece {
 }
 
 /// Returns the bytes of the piece at an index. Each piece is copied once for each piece that refers to it.
+#[tactic(auto, using(crate::proofs::Sets::pieces_joined_pieces))]
 pub fn joined_pieces(alloc: Global, pieces: &[Piece], root: usize) -> Result<Vec<u8>, AllocError>
     ensures { IfOk result (λ v. v.items ≡ bytes_at pieces.now root) }
 {

@@ -143,6 +143,7 @@ impl Writer {
     ///
     /// O(1). Allocates if the capacity is consumed.
     #[inline(always)]
+    #[tactic(auto, using(crate::proofs::Sets::writer_put_number))]
     pub(crate) fn put_number(&mut self, number: Number) -> Result<(), Error>
         ensures put { (form : Form) (coming : List Tree) (around : Around) (whole : Tree)
             → IsWriting form self.old (spec.number (number_view number) ∷ coming) around whole
@@ -263,6 +264,7 @@ impl Writer {
 /// Appends a header, and zeros for the words of the entries. Inlined: as a call, its result is stored in parts and
 /// loaded at once, which takes 5 ns more.
 #[inline(always)]
+#[tactic(auto, using(crate::proofs::WriterLimits::too_many))]
 fn open(out: &mut Vec<u8>, kind: HeaderKind, count: usize) -> Result<OpenContainer, Error>
     ensures opened { (form : Form) (ts : List Tree) (t : Tree) → Make kind count ts t
         → MatchResult result (λ at. IsOpen form out.old.items out.new.items at ts t)

@@ -100,6 +100,7 @@ impl<'a> Iterator for SpotIter<'a> {
     ghost remaining = { λ it. at_most (spots_bound it) };
 
     #[inline(always)]
+    #[tactic(auto, using(crate::proofs::Sets::spot_iter_iterator_next))]
     fn next(&mut self) -> Option<Result<Spot, Error>> {
         if self.words.is_empty() {
             return None;

@@ -33,3 +33,4 @@ pub mod IteratorItems
 pub mod IteratorLemmas
 pub mod ColumnLemmas
 pub mod InsertLemmas
+mod Sets

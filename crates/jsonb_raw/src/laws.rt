@@ -157,6 +157,7 @@ pub fn all_of_no_texts_and_any_of_no_texts()
 
 /// If the steps before the last select an object, so that the last may select a member, the steps select nothing in
 /// the tree without their location.
+#[tactic(auto, using(crate::proofs::PositionLemmas::some_positions, crate::proofs::PositionLemmas::gone))]
 pub fn pairs_that_are_taken_out_are_gone()
     ensures { (t : Tree) → Fits t → (front : List Key) (last : Key) (ps : Pairs)
         → tree_at_steps front t ≡ Some (object ps)
@@ -186,6 +187,7 @@ pub fn contains_is_transitive()
 {}
 
 /// Concatenation of three arrays, or of three objects, is associative.
+#[tactic(auto, using(crate::proofs::Sets::laws_concat_is_associative))]
 pub fn concat_is_associative()
     ensures arrays { (ts us vs : Trees)
         → concat (concat (array ts) (array us)) (array vs) ≡ concat (array ts) (concat (array us) (array vs)) }

@@ -22,6 +22,7 @@ pub enum ChildCursor<'a> {
 
 /// Returns `true` if a container is an array, by its header.
 #[inline(always)]
+#[tactic(auto, using(crate::proofs::LevelLemmas::array_told))]
 pub fn is_array(bytes: &[u8]) -> bool
     ensures { (form : Form) (t : Tree) → IsContent (number_reader form) t container_entry bytes.now
         → result ≡ is_array t }
@@ -35,6 +36,7 @@ pub fn is_array(bytes: &[u8]) -> bool
 impl<'a> ChildCursor<'a> {
     /// Returns all children of an array or an object, by its header. Fails with `InvalidJsonb` for other bytes.
     #[inline(always)]
+    #[tactic(auto, using(crate::proofs::LevelLemmas::no_array, crate::proofs::LevelLemmas::no_object))]
     pub fn of_container(bytes: &'a [u8]) -> Result<ChildCursor<'a>, Error>
         ensures level { (form : Form) (t : Tree) → IsContent (number_reader form) t container_entry bytes.now
             → IsOkAnd result (HasAllLeft form t) }
@@ -52,6 +54,7 @@ impl<'a> ChildCursor<'a> {
     }
 
     /// Returns the number of remaining children.
+    #[tactic(auto, using(crate::proofs::Sets::child_cursor_len))]
     pub fn len(&self) -> usize
         ensures { (form : Form) (ps : List EntryPrefix) → HasPartsLeft form self.now ps → result ≡ length ps }
     {
@@ -63,6 +66,7 @@ impl<'a> ChildCursor<'a> {
 
     /// Removes and returns the first child: the bytes of its key, if it is a value of an object, and its entry.
     #[inline(always)]
+    #[tactic(auto, using(crate::proofs::LevelLemmas::part_is, crate::proofs::LevelLemmas::no_pair_error))]
     pub fn take(&mut self) -> Result<Option<(Option<&'a [u8]>, StoredEntry<'a>)>, Error>
         ensures takes { (form : Form) (ps : List EntryPrefix) → HasPartsLeft form self.old ps
             → TakesPart form ps result self.new }

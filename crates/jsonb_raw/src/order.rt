@@ -269,6 +269,7 @@ fn value_order<'a>(
 
 /// Returns the order of two strings, or of two numbers with at most 64 bits of digits. They are not read as items.
 #[inline(always)]
+#[tactic(auto, using(crate::proofs::LevelLemmas::numbers_told))]
 fn scalars_order(entry: &StoredEntry<'_>, other: &StoredEntry<'_>) -> Option<Ordering>
     ensures { (form other_form : Form) (t u : Tree) → Stores form entry.now t → Stores other_form other.now u
         → IfSome result (λ o. o ≡ tree_cmp t u) }

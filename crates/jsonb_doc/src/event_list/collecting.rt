@@ -279,6 +279,7 @@ impl<'a> Collector<'a> {
 
 /// Takes a string of this many bytes off the text. Returns it, and the rest.
 #[inline(always)]
+#[tactic(auto, using(crate::proofs::Sets::collecting_split_text))]
 fn split_text(text: &str, len: u64) -> Result<(&str, &str), EventError>
     ensures { MatchResult result (λ found. BeginWithText len text.now found.0.now found.1.now)
         (IsDue true (λ _. (s rest : List ℕ) → BeginWithText len text.now s rest → ⊥)) }
@@ -322,6 +323,7 @@ fn push_members<'a>(
 }
 
 /// Appends the members of a container that ends to those of others. Returns their run.
+#[tactic(auto, using(crate::proofs::Sets::collecting_finish_members))]
 fn finish_members<'a>(
     alloc: Global,
     frame: Frame<'a>,

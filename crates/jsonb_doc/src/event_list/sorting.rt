@@ -77,6 +77,7 @@ fn push_last<'a>(ended: &mut Vec<Member<'a>>, members: &[Member<'a>]) -> Result<
 }
 
 /// Returns `true` if each key is below the next one.
+#[tactic(auto, using(crate::proofs::Sets::sorting_are_unique))]
 fn are_unique(members: &[Member<'_>]) -> bool
     ensures { MatchBool result (unique members.now ≡ members.now) (length (unique members.now) < length members.now) }
 {

@@ -215,6 +215,7 @@ fn enter<'m, 'a>(
 
 /// Returns the document of a container, whose members are in a run. The containers around the innermost one are kept in
 /// a `Vec`.
+#[tactic(auto, using(crate::proofs::Sets::writing_write_container))]
 pub(crate) fn write_container(
     alloc: Global,
     all: &[Member<'_>],

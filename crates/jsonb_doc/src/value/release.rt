@@ -95,6 +95,7 @@ fn without_next(waiting: Option<Value<'_>>) -> Option<Remaining<'_>>
 }
 
 /// Returns the values before the last container among them.
+#[tactic(auto, using(crate::proofs::Sets::release_without_value))]
 fn without_value<'a>(
     mut values: Vec<Value<'a>>,
     waiting: Option<Value<'a>>,
@@ -162,6 +163,7 @@ fn without_member<'a>(
 
 /// Returns the value of the last member, and the other members with the waiting value in its place. Without members,
 /// returns the waiting value.
+#[tactic(auto, using(crate::proofs::Sets::release_with_behind))]
 fn with_behind<'a>(mut members: BTreeMap<String, Value<'a>>, behind: Value<'a>) -> Remaining<'a>
     ensures { remaining result < to_release (1 + entries_parts members.entry.entries) (parts behind.entry) }
 {

@@ -18,6 +18,7 @@ use jsonb_doc::rewriting::container_of_runs;
 use std::alloc::Global;
 
 /// Returns the number of entries of all runs, or `None` if a container cannot have as many.
+#[tactic(auto, using(crate::proofs::Sets::joined_count_entries))]
 fn count_entries(runs: &[Entries<'_>]) -> Option<usize>
     ensures { (form : Form) (ts : List Tree) → RunsHold form runs.now ts
         → MatchOption result (2 ^ 29 ≤ length ts) (λ n. n ≡ length ts) }
@@ -49,6 +50,7 @@ fn container_of(
 }
 
 /// Returns the array of the entries of all runs.
+#[tactic(auto, using(crate::proofs::RunLemmas::no_entries))]
 pub fn array_of(alloc: Global, runs: &[Entries<'_>]) -> Result<OwnedJsonb, Error>
     ensures array { (form : Form) (ts : List Tree) → RunsHold form runs.now ts
         → Makes form (array (trees_of ts)) result }
@@ -65,6 +67,7 @@ pub fn array_of(alloc: Global, runs: &[Entries<'_>]) -> Result<OwnedJsonb, Error
 
 /// Returns the empty array: a header alone, for which no runs are visited.
 #[inline(always)]
+#[tactic(auto, using(crate::proofs::Sets::joined_empty_array))]
 fn empty_array(alloc: Global) -> Result<OwnedJsonb, Error>
     ensures array { (form : Form) → Makes form (array (trees_of [])) result }
     ensures errors { IfErr result IsOutOfMemory }
@@ -95,6 +98,7 @@ pub fn object_of(
 /// # Complexity
 ///
 /// O(n) for n bytes. Allocates once.
+#[tactic(auto, using(crate::proofs::RunLemmas::one_run))]
 pub fn array_of_run<'a>(alloc: Global, run: Entries<'a>) -> Result<OwnedJsonb, Error>
     ensures array { (form : Form) (ts : List Tree) → HoldTrees form run.entry ts
         → Makes form (array (trees_of ts)) result }
@@ -104,6 +108,7 @@ pub fn array_of_run<'a>(alloc: Global, run: Entries<'a>) -> Result<OwnedJsonb, E
 }
 
 /// Returns the array of the entries of two runs.
+#[tactic(auto, using(crate::proofs::RunLemmas::two_runs))]
 pub fn array_of_two<'a>(
     alloc: Global,
     front: Entries<'a>,

@@ -223,6 +223,7 @@ impl RawJsonb<'_> {
 }
 
 /// Returns the object of the members whose keys are in the set, or of those whose keys are not.
+#[tactic(auto, using(crate::proofs::Sets::object_pairs_by_set))]
 fn pairs_by_set<'a>(
     alloc: Global,
     pairs: PairEntries<'a>,

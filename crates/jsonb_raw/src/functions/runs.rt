@@ -143,6 +143,7 @@ fn entries_before<'a>(run: Entries<'a>, left: Entries<'a>) -> Option<Entries<'a>
 }
 
 /// Appends the entries of a run before the remaining ones to the runs, if there are any.
+#[tactic(auto, using(crate::proofs::RunLemmas::run_after))]
 pub fn push_run<'a>(
     runs: &mut Vec<Entries<'a>>,
     run: Entries<'a>,
@@ -215,6 +216,7 @@ impl<'a> PairRuns<'a> {
     }
 
     /// Appends members, if there are any.
+    #[tactic(auto, using(crate::proofs::Sets::pair_runs_push))]
     pub fn push(&mut self, pairs: PairEntries<'a>) -> Result<(), Error>
         ensures pushed { (form : Form) (xs ys : List (List ℕ × Tree)) → PairsHeld form self.old xs
             → HoldPairs form pairs.entry ys

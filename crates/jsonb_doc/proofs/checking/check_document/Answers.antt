@@ -3,6 +3,3 @@ use Rattle.jsonb_doc.proofs.checking.check_document.Goals as goal
 
 pub returns-in-Scalar : goal.returns-in-Scalar
 returns-in-Scalar c = search (rules, Validates-along, HasDocument-scalar, (rw c.in-Scalar.is at c.in-Ok.ensures.cut))
-
-pub returns-in_default-container : goal.returns-in_default-container
-returns-in_default-container c = search (rules, Validates-along)

@@ -10,9 +10,6 @@ returns-in_default-split_header-clause-cut c = (
       c.in_default-split_header.ensures kind n rest headed,
 )
 
-pub returns-in-Some-clause-bound : goal.returns-in-Some-clause-bound
-returns-in-Some-clause-bound c = search (rules, HeadedBy-unique)
-
 pub returns-in_default-kind-clause-cut : goal.returns-in_default-kind-clause-cut
 returns-in_default-kind-clause-cut c = (
   refl,

@@ -8,9 +8,6 @@ read : (cs : List (List ℕ)) (k at len : ℕ) (words : List ℕ) → cs ≡ fir
     → len ≡ told (take 4 (drop (4 * at) words))
 read cs k at len words are h e = e ∙ ap told (ap (λ (l : List (List ℕ)). slice_index_or l at []) are ∙ chunk_at k at words h)
 
-pub loop-at-init : goal.loop-at-init
-loop-at-init c = search (rules, KeysLeft-start)
-
 pub returns-in_default-clause-found : goal.returns-in_default-clause-found
 returns-in_default-clause-found c = λ ks rest h others.
     let inv = c.loop-at.invariant.left ks rest h in

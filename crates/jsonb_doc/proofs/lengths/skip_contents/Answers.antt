@@ -9,6 +9,3 @@ returns-clause-size c = IsPart-size _ _ c.get.result c.get.ensures.lookup
 
 pub returns-clause-end : goal.returns-clause-end
 returns-clause-end c = IsPart-end _ _ c.get.result c.get.ensures.lookup
-
-pub returns-then-is_empty-clause-rest : goal.returns-then-is_empty-clause-rest
-returns-then-is_empty-clause-rest c = search (rules, nothing_before)

@@ -12,6 +12,3 @@ returns-clause-pushed c =
     let two = grown old (0x40 ∷ []) months _ _ c.in_ok-push.ensures.items (simp to_z-of_z at c.in_ok-push_i32.ensures.pushed) in
     let three = grown old (0x40 ∷ months) days _ _ two (simp to_z-of_z at c.in_ok-push_i32-2.ensures.pushed) in
     grown_ok c.push_i64.result old (0x40 ∷ months ++ days) (fixed_bytes w64 c.args.micros) _ _ three (simp to_z-of_z at c.push_i64.ensures.pushed)
-
-pub returns-clause-kept : goal.returns-clause-kept
-returns-clause-kept c = grind (arith, common_steps, grown, stays_err)

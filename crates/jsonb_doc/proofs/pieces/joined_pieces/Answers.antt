@@ -1,12 +1,6 @@
 use Rattle.jsonb_doc.proofs.Lemmas.{length-heads_after, nat_lt, get_or_past, ltb-false, rules, ◌≡◌, ◌<◌, ◌++◌, ◌∷◌, ℕ, List, length, arith, sym, ap, ◌∙◌, append_assoc, All, All-append, all_heads, stacked, joined, earlier, stack_steps, earlier_below, within_popped}
 use Rattle.jsonb_doc.proofs.pieces.joined_pieces.Goals as goal
 
-pub loop-index-init : goal.loop-index-init
-loop-index-init c = grind (arith, earlier_below, nat_lt, get_or_past, length-heads_after, ltb-false)
-
-pub loop-index-smaller : goal.loop-index-smaller
-loop-index-smaller c = search (rules, within_popped, stack_steps)
-
 pub loop-index-preserved : goal.loop-index-preserved
 loop-index-preserved c =
     let ps = c.args.pieces.now in

@@ -180,6 +180,7 @@ impl Hashes {
     }
 
     /// Adds the hash of an entry. An entry without one adds all hashes.
+    #[tactic(auto, using(crate::proofs::SetLawProofs::hash_taken))]
     pub(super) fn add(&mut self, entry: &StoredEntry<'_>)
         ensures kept { (t : Tree) → Covers self.old t → Covers self.new t }
         ensures added { (form : Form) (t u : Tree) → Stores form entry.now u → is_equal t u ≡ true → Covers self.new t }

@@ -45,6 +45,7 @@ impl Budget {
 }
 
 /// Counts the keys of these entries.
+#[tactic(auto, using(crate::proofs::Sets::overlap_in_count_entries))]
 pub(super) fn count_entries(alloc: Global, entries: EntryIter<'_>) -> Result<KeyCounts, Error>
     ensures counts { (form : Form) (ts : Trees) → HasEntriesLeft form entries.entry ts
         → length (elements_of ts) < 2 ^ 63 → MatchResult result (λ m. CountsKeys m (elements_of ts)) IsOutOfMemory }

@@ -68,6 +68,7 @@ impl KeysCounted {
     ghost use Rattle.jsonb_raw.specs.Private.SetCounts.{AreCounted, keeps};
 
     /// Returns `true` if the next element, which this entry stores, is kept, and counts it.
+    #[tactic(auto, using(crate::proofs::AnswerLemmas::failed))]
     fn keep_by_key(
         &mut self,
         alloc: Global,
@@ -118,6 +119,7 @@ impl<'a> Seen<'a> {
     ghost use Rattle.jsonb_raw.specs.Private.SetCounts.{HaveSeen, keeps};
 
     /// Returns `true` if the next element, which this entry stores, is kept, and passes it.
+    #[tactic(auto, using(crate::proofs::AnswerLemmas::answered))]
     pub(super) fn keep_next(
         &mut self,
         alloc: Global,
@@ -220,6 +222,7 @@ fn keeps_among(
 
 /// Returns whether more of the others equal an entry by value than of the elements before it, which are visited only if
 /// one of the others does.
+#[tactic(auto, using(crate::proofs::ElementsSeen::none_left, std::proofs::lemmas::Bool::Decides::nat_tests))]
 fn has_more_left(
     all: Entries<'_>,
     passed: usize,
@@ -243,6 +246,7 @@ fn has_more_left(
 }
 
 /// Returns whether more than `count` of the entries equal an entry by value.
+#[tactic(auto, using(crate::proofs::RunLemmas::entry_taken, crate::proofs::RunLemmas::no_entry_left))]
 fn has_more_than(
     entries: Entries<'_>,
     count: usize,
@@ -270,6 +274,7 @@ fn has_more_than(
 }
 
 /// Returns how many of the first `count` entries equal an entry by value.
+#[tactic(auto, using(crate::proofs::RunLemmas::no_entry_left, crate::proofs::EntriesLeft::take_no))]
 fn count_equal(entries: Entries<'_>, count: usize, wanted: &StoredEntry<'_>) -> Result<usize, Error>
     ensures count { (form other_form : Form) (ts : List Tree) (u : Tree) → HoldTrees form entries.entry ts
         → Stores other_form wanted.now u → IsOkAnd result (λ n. n ≡ count_of u (take count ts)) }

@@ -71,6 +71,7 @@ pub(super) fn keep_element(
 
 /// Returns the array of the elements that are kept, copied in runs. Inlined, since callers know the variant of `Seen`.
 #[inline(always)]
+#[tactic(auto, using(crate::proofs::Sets::sets_kept_elements))]
 fn kept_elements(
     alloc: Global,
     kind: SetOperation,
@@ -187,6 +188,7 @@ fn count_document(alloc: Global, bytes: &[u8]) -> Result<KeyCounts, Error>
 }
 
 /// Returns the counts before the first element: those of the other document's elements, if the operation needs them.
+#[tactic(auto, using(crate::proofs::ElementsSeen::counted_begun))]
 fn counts_before(alloc: Global, kind: SetOperation, others: &[u8]) -> Result<KeyCounts, Error>
     ensures counts { (form : Form) (t : Tree) → Decodes form others.now t
         → MatchResult result (λ m. CountsAfter kind m (as_elements t) []) IsOutOfMemory }

@@ -25,6 +25,7 @@ use jsonb_doc::{Error, KeyPosition, StoredEntry, root_entry};
 use std::alloc::Global;
 
 /// Returns the position of a member with this key among the keys of an object.
+#[tactic(auto, using(crate::proofs::InsertLemmas::place_there, crate::proofs::InsertLemmas::place_before))]
 pub fn pair_place(keys: Entries<'_>, name: &str) -> Result<PairPlace, Error>
     ensures place { (form : Form) (ks : List (List ℕ)) → HoldTrees form keys.entry (map text ks) → AreKeys ks
         → IsOkAnd result (λ place. IsPlaceAmong place name.now ks) }

@@ -39,6 +39,7 @@ impl<'s, 'n> SortedNames<'s, 'n> {
     ghost use Rattle.jsonb_raw.specs.Private.Names.{names_left, DecideFrom, DecideForKeys, TakesRun};
 
     /// Returns all names of a set.
+    #[tactic(auto, using(crate::proofs::PartedRuns::name_taken))]
     pub fn new(names: &'s BTreeSet<&'n str>) -> SortedNames<'s, 'n>
         ensures decides { (key : List ℕ) → DecideFrom names.now key (names_left result) }
         ensures names { result.names.now ≡ names.now }
@@ -61,6 +62,7 @@ impl<'s, 'n> SortedNames<'s, 'n> {
 
     /// Returns `true` if a key is one of the names. No later key may be below it.
     #[inline(always)]
+    #[tactic(auto, using(crate::proofs::PartedRuns::first_found, crate::proofs::PartedRuns::first_above))]
     fn has(&mut self, key: &[u8]) -> bool
         ensures found { IsUtf8 key.now → DecideFrom self.old.names.now key.now (names_left self.old)
             → result ≡ is_in self.old.names.now key.now }

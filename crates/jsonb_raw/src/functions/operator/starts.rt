@@ -100,6 +100,7 @@ impl<'a> StartHints<'a> {
     }
 
     /// Looks up positions from which the next entries may be found.
+    #[tactic(auto, using(crate::proofs::EntriesLeft::passes_next))]
     fn fill(&mut self, all: EntryIter<'a>, entries: EntryIter<'_>)
         requires { AreStarts all self.old }
         ensures { AreStarts all.entry self.new }

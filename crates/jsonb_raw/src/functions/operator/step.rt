@@ -11,6 +11,7 @@ use jsonb_doc::{Error, PairEntryIter, StoredEntry};
 use std::cmp::Ordering;
 
 /// Returns the value of a key among the remaining members, and advances past the keys up to it.
+#[tactic(auto, using(crate::proofs::Sets::step_advance_to_key))]
 pub fn advance_to_key<'a>(
     left: &mut PairEntryIter<'a>,
     key: &[u8],

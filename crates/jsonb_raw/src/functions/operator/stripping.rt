@@ -50,6 +50,7 @@ fn stops(kind: EntryKind, is_object: bool) -> bool
 }
 
 /// Returns the number of values that are not null.
+#[tactic(auto, using(crate::proofs::StripWalk::words_of_run))]
 fn count_values(values: Entries<'_>) -> usize
     ensures { (form : Form) (ts : List Tree) → HoldTrees form values.entry ts → result ≡ length (stripped true ts) }
 {
@@ -135,6 +136,7 @@ fn put_keys_kept(writer: &mut Writer, keys: Entries<'_>, values: Entries<'_>) ->
 /// Appends the keys of a container's members, of which `count` remain. If all remain, they are copied as one run. Fails
 /// with `InvalidJsonb` if keys are not sorted.
 #[inline(always)]
+#[tactic(auto, using(crate::proofs::Sets::stripping_put_keys))]
 fn put_keys(
     writer: &mut Writer,
     container: &ContainerEntries<'_>,
@@ -157,6 +159,7 @@ fn put_keys(
 }
 
 /// Returns all values of a container.
+#[tactic(auto, using(crate::proofs::Sets::stripping_all_values))]
 fn all_values<'a>(container: &ContainerEntries<'a>) -> ValuesLeft<'a>
     ensures values { (form : Form) (t : Tree) → AreEntriesOf form t container.now → HoldValues form result t }
     ensures entries { result.entries ≡ container.now.values }

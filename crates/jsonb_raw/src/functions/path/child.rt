@@ -290,6 +290,7 @@ fn value_of_key(
 
 /// Returns the position of the first of the entries, which are strings, that is this name, otherwise of the first that
 /// equals it under ASCII case folding.
+#[tactic(auto, using(crate::proofs::RunLemmas::no_text_left))]
 pub(super) fn position_ignoring_case(
     entries: Entries<'_>,
     name: &[u8],

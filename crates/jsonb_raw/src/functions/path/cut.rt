@@ -29,6 +29,7 @@ struct Outer<'a> {
 /// Returns the number of children that a container keeps, given the containers within it: only the innermost one loses
 /// a child.
 #[inline(always)]
+#[tactic(auto, using(jsonb_doc::proofs::Basics::not_zero_of))]
 fn children_kept(parent: &ParentEntries<'_>, inner: &[ParentEntries<'_>]) -> usize
     ensures { result ≡ children_kept parent.now inner.now }
 {
@@ -41,6 +42,7 @@ fn children_kept(parent: &ParentEntries<'_>, inner: &[ParentEntries<'_>]) -> usi
 
 /// Appends a run of entries to a container, if there are any. An empty run would take 70 instructions.
 #[inline(always)]
+#[tactic(auto, using(crate::proofs::CutLemmas::no_trees_held, jsonb_doc::proofs::Basics::zero_of))]
 fn copy_some(writer: &mut Writer, run: Entries<'_>) -> Result<(), Error>
     ensures copied { (form : Form) (ts coming : List Tree) (around : Around) (whole : Tree)
         → HoldTrees form run.entry ts → IsWriting form writer.old (ts ++ coming) around whole
@@ -56,6 +58,7 @@ fn copy_some(writer: &mut Writer, run: Entries<'_>) -> Result<(), Error>
 }
 
 /// Appends the entries of a container without those of the child.
+#[tactic(auto, using(crate::proofs::CutLemmas::in_runs, crate::proofs::CutLemmas::room_less))]
 fn put_others(writer: &mut Writer, parent: &ParentEntries<'_>) -> Result<(), Error>
     ensures put { (form : Form) (names front after : List Tree) (n : ℕ) (around : Around) (whole : Tree)
         → HoldTrees form parent.now.keys names → HoldTrees form parent.now.front front

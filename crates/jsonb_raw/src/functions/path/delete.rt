@@ -43,6 +43,7 @@ fn element_position(elements: Entries<'_>, index: i32) -> Option<usize>
 }
 
 /// Returns the position of the key that is an index in decimal.
+#[tactic(auto, using(crate::proofs::Sets::delete_decimal_position))]
 fn decimal_position(alloc: Global, keys: Entries<'_>, index: i32) -> Result<Option<usize>, Error>
     ensures position { (form : Form) (ks : List (List ℕ)) → HoldTrees form keys.entry (map text ks) → AreKeys ks
         → MatchResult result (λ found. found
@@ -54,6 +55,7 @@ fn decimal_position(alloc: Global, keys: Entries<'_>, index: i32) -> Result<Opti
 }
 
 /// Returns the position of the child that a step selects.
+#[tactic(auto, using(crate::proofs::PositionLemmas::of_array))]
 fn child_position(
     alloc: Global,
     container: &ContainerEntries<'_>,

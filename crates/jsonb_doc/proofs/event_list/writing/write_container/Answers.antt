@@ -21,9 +21,6 @@ returns-in_err-container-in-Some c = record {
       (c.in_err-container-in-Some.ensures.entered form found.0 found.1 s.outside t found.2 found.4);
 }
 
-pub walk-smaller-in-Some : goal.walk-smaller-in-Some
-walk-smaller-in-Some c = search (rules, walk_falls_inward)
-
 pub walk-preserved-in-Some : goal.walk-preserved-in-Some
 walk-preserved-in-Some c = λ form room t h.
     let s = c.walk.invariant form room t h in
@@ -54,9 +51,6 @@ returns-in_err-leave-in-None c = record {
       let closed = subst (λ (os : Around). IsWriting form c.put_scalars.new.writer [] os t) (p.2 ∙ ap (λ o. o ∷ p.1) p.3.2) done in
       err_is _ _ _ _ c.from_residual-in_err-leave-in-None.ensures.1 (c.in_err-leave-in-None.ensures.left form p.3.0 p.1 t closed);
 }
-
-pub walk-smaller : goal.walk-smaller
-walk-smaller c = search (rules, walk_falls_outward)
 
 pub walk-preserved : goal.walk-preserved
 walk-preserved c = λ form room t h.

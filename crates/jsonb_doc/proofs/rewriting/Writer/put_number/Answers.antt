@@ -2,9 +2,6 @@ use Rattle.jsonb_doc.proofs.Lemmas.{rules, refl, ap, ◌∙◌, entry_word, numb
 use Rattle.jsonb_doc.specs.declared.item.Item.TheVariants.{Number}
 use Rattle.jsonb_doc.proofs.rewriting.Writer.put_number.Goals as goal
 
-pub encode_entry_word-word-requires : goal.encode_entry_word-word-requires
-encode_entry_word-word-requires c = search (rules, length-number_payload)
-
 pub returns-clause-put : goal.returns-clause-put
 returns-clause-put c = λ form coming around whole w.
     let n = c.args.number in

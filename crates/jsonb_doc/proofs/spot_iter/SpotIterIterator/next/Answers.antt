@@ -9,9 +9,6 @@ failed before after e errors reads room none = record {
   takes = λ bytes ts h. absurd (none bytes ts h);
 }
 
-pub returns-then-is_empty-clause-steps : goal.returns-then-is_empty-clause-steps
-returns-then-is_empty-clause-steps c = grind (arith, common_steps, HasSpotsLeft-empty)
-
 pub returns-in_default-clause-steps : goal.returns-in_default-clause-steps
 returns-in_default-clause-steps c =
     failed _ _ _ (search rules)

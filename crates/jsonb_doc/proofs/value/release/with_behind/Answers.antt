@@ -3,6 +3,3 @@ use Rattle.jsonb_doc.proofs.value.release.with_behind.Goals as goal
 
 pub returns-in-None : goal.returns-in-None
 returns-in-None c = search (rules, fewer_parts, parts)
-
-pub returns-in-Some : goal.returns-in-Some
-returns-in-Some c = grind (arith, exchanged, parts-Object, fewer_in_front)

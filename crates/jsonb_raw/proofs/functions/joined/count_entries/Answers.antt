@@ -17,6 +17,3 @@ loop-run-preserved c = record {
       let sum = i.2 in
       (f.ys, f.others_hold, omega (arith, sum, ap length f.joined, length-append f.xs f.ys, c.len-count.ensures.count form f.xs f.holds));
 }
-
-pub returns : goal.returns
-returns c = grind (arith, drop_of_length-le)

@@ -38,6 +38,3 @@ loop-runs-preserved c = record {
       ];
   names = c.in_ok-run.ensures.names ∙ c.loop-runs.invariant.names;
 }
-
-pub returns-clause-pairs : goal.returns-clause-pairs
-returns-clause-pairs c = grind (arith, AreRising-filter, keys_rise, append-nil)

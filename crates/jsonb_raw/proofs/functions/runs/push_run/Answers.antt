@@ -5,6 +5,3 @@ pub returns-then-is_empty-clause-pushed : goal.returns-then-is_empty-clause-push
 returns-then-is_empty-clause-pushed c = λ form xs ys h.
     let piece = rw c.in-Some.is at (c.entries_before.ensures h.run_words h.run_contents h.words_joined h.contents_joined) in
     holding_none form _ _ _ xs ys h (ap length (sym piece.0) ∙ zero_of _ c.if-is_empty.ensures)
-
-pub returns-clause-pushed : goal.returns-clause-pushed
-returns-clause-pushed c = grind (arith, run_after)

@@ -5,12 +5,6 @@ use Rattle.jsonb_raw.proofs.level.ChildCursor.of_container.Goals as goal
 pub returns-in_default-clause-level : goal.returns-in_default-clause-level
 returns-in_default-clause-level c = λ form t content. headed form t c.args.bytes.now content c.in_default.ensures
 
-pub returns-in_err-array_entries-in-Array-clause-level : goal.returns-in_err-array_entries-in-Array-clause-level
-returns-in_err-array_entries-in-Array-clause-level c = search (rules, no_array)
-
-pub returns-in_err-object_entries-in-Object-clause-level : goal.returns-in_err-object_entries-in-Object-clause-level
-returns-in_err-object_entries-in-Object-clause-level c = search (rules, no_object)
-
 pub returns-in-Scalar-clause-level : goal.returns-in-Scalar-clause-level
 returns-in-Scalar-clause-level c = λ form t content.
     let is = ap header_number c.in-Scalar.is in

@@ -8,15 +8,6 @@ loop-entry-init c = λ form ts h few. record {
   fact = CountsLeft-all _ (elements ts) c.new-counts.ensures;
 }
 
-pub returns-in_err-entry-clause-counts : goal.returns-in_err-entry-clause-counts
-returns-in_err-entry-clause-counts c = λ form ts h few.
-    SomeEntries-error form _ _ _ _ _ c.in_err-entry.was c.in-Some.ensures.steps (c.loop-entry.invariant form ts h few)
-
-pub returns-in_err-write_entry_key-clause-counts : goal.returns-in_err-write_entry_key-clause-counts
-returns-in_err-write_entry_key-clause-counts c = λ form ts h few.
-    SomeEntries-first form _ _ _ _ _ c.in_ok-entry.was c.in-Some.ensures.steps (c.loop-entry.invariant form ts h few)
-    (λ first rest left stored fact. grind (arith, failed))
-
 pub loop-entry-preserved : goal.loop-entry-preserved
 loop-entry-preserved c = λ form ts h few.
     SomeEntries-first form _ _ _ _ _ c.in_ok-entry.was c.in-Some.ensures.steps (c.loop-entry.invariant form ts h few)
@@ -26,7 +17,3 @@ loop-entry-preserved c = λ form ts h few.
       fact = CountsLeft-next _ _ c.write_entry_key.new.out first (elements rest) (elements ts) fact (c.in_ok-write_entry_key.ensures.key form first stored) few
           c.in_ok-add.ensures.more;
     })
-
-pub returns-clause-counts : goal.returns-clause-counts
-returns-clause-counts c = λ form ts h few key.
-    omega (arith, (SomeEntries-none form _ _ _ c.in-None.ensures.steps (c.loop-entry.invariant form ts h few)).joined key)

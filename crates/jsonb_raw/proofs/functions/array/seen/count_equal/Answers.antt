@@ -10,9 +10,6 @@ returns-in_err-entry-clause-count c = λ form other_form ts u h k.
     let i = c.loop-more.invariant.left form other_form ts u h k in
     absurd (c.in_err-entry.ensures.first form i.rest i.holds)
 
-pub returns-in_default-clause-count : goal.returns-in_default-clause-count
-returns-in_default-clause-count c = grind (arith, no_entry_left, take_no)
-
 pub returns-in_err-stored_equal-clause-count : goal.returns-in_err-stored_equal-clause-count
 returns-in_err-stored_equal-clause-count c = λ form other_form ts u h k.
     let i = c.loop-more.invariant.left form other_form ts u h k in

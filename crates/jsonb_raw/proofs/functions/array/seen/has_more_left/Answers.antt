@@ -2,12 +2,6 @@ use Rattle.jsonb_raw.proofs.Common.{arith, nat_tests}
 use Rattle.jsonb_raw.proofs.ElementsSeen.{none_left}
 use Rattle.jsonb_raw.proofs.functions.array.seen.has_more_left.Goals as goal
 
-pub returns-then-not-is_found-clause-more : goal.returns-then-not-is_found-clause-more
-returns-then-not-is_found-clause-more c = grind (arith, none_left)
-
-pub returns-then-before-eq0-clause-more : goal.returns-then-before-eq0-clause-more
-returns-then-before-eq0-clause-more c = grind (arith, nat_tests)
-
 pub returns-clause-more : goal.returns-clause-more
 returns-clause-more c = λ form other_form ts other t h k s.
     (rw (c.in_ok-before.ensures.count form form ts t h s) at (c.has_more_than-2.ensures.more other_form form other t k s))

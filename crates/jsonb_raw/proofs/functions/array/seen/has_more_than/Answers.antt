@@ -3,9 +3,6 @@ use Rattle.jsonb_raw.proofs.RunLemmas.{entry_taken, no_entry_left}
 use Rattle.jsonb_raw.proofs.ElementsSeen.{MoreLeft-found, MoreLeft-next}
 use Rattle.jsonb_raw.proofs.functions.array.seen.has_more_than.Goals as goal
 
-pub returns-in_err-stored_equal-clause-more : goal.returns-in_err-stored_equal-clause-more
-returns-in_err-stored_equal-clause-more c = search (rules, entry_taken)
-
 pub returns-then-more-equal-clause-more : goal.returns-then-more-equal-clause-more
 returns-then-more-equal-clause-more c = λ form other_form ts u h k.
     let i = c.loop-entry.invariant form other_form ts u h k in
@@ -21,6 +18,3 @@ loop-entry-preserved c = λ form other_form ts u h k.
     let told = sym (c.in_ok-stored_equal.ensures.equal form other_form f.t u (record { content = f.is_first.part }) k) in
     let one : c.if-branch.equal ≡ cond (is_equal f.t u) 1 0 = grind arith in
     MoreLeft-next form _ _ _ u _ i _ _ _ f.t f.rest f.split f.is_first.others_hold one (omega (arith, c.if-more-equal.false))
-
-pub returns-clause-more : goal.returns-clause-more
-returns-clause-more c = search (rules, no_entry_left)

@@ -1,15 +1,6 @@
 use Rattle.jsonb_raw.proofs.Lemmas.{rules, ◌∙◌, inl, sym, subst, select_occurrences, RunsHold, keeps, arith, append-nil, None, refl, failed, KeptRuns-all, KeptRuns-left, KeptRuns-kept, KeptRuns-dropped, next_of, no_entry_left}
 use Rattle.jsonb_raw.proofs.functions.array.sets.kept_elements.Goals as goal
 
-pub loop-runs-init : goal.loop-runs-init
-loop-runs-init c = search (rules, KeptRuns-all)
-
-pub returns-in_err-entry-clause-made : goal.returns-in_err-entry-clause-made
-returns-in_err-entry-clause-made c = grind (arith, KeptRuns-left)
-
-pub returns-in_err-keep_next-clause-made : goal.returns-in_err-keep_next-clause-made
-returns-in_err-keep_next-clause-made c = search (rules, failed)
-
 pub returns-in_err-push_run-clause-made : goal.returns-in_err-push_run-clause-made
 returns-in_err-push_run-clause-made c = λ form other ts h b.
     let m = c.loop-runs.invariant form other ts h b in

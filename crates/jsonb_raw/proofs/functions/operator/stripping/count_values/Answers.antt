@@ -2,9 +2,6 @@ use Rattle.jsonb_raw.proofs.Lemmas.{rules, true, arith, ap, length, Null, differ
 use Rattle.jsonb_raw.proofs.StripWalk.{is_some}
 use Rattle.jsonb_raw.proofs.functions.operator.stripping.count_values.Goals as goal
 
-pub loop-kind-init : goal.loop-kind-init
-loop-kind-init c = search (rules, words_of_run)
-
 pub loop-kind-preserved-then-ne : goal.loop-kind-preserved-then-ne
 loop-kind-preserved-then-ne c = record {
   bound = let size = c.in-Some.ensures.size in let before = c.loop-kind.invariant.bound in omega (arith, size, before);

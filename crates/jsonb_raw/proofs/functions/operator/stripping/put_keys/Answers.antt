@@ -4,12 +4,6 @@ use Rattle.jsonb_raw.proofs.functions.operator.stripping.put_keys.Goals as goal
 pub returns-then-is_empty-clause-put : goal.returns-then-is_empty-clause-put
 returns-then-is_empty-clause-put c = λ form t around whole h is w. grind (arith, zero_of)
 
-pub returns-in_err-check_keys-clause-put : goal.returns-in_err-check_keys-clause-put
-returns-in_err-check_keys-clause-put c = grind (arith, keys_of-members, keys_rise)
-
-pub returns-then-count-len-clause-put : goal.returns-then-count-len-clause-put
-returns-then-count-len-clause-put c = grind (arith, keys_of-members, all_keys, many_texts, values_of-stripped, length-values_of, many_keys)
-
 pub returns-clause-put : goal.returns-clause-put
 returns-clause-put c = λ form t around whole h is w.
     let k = some_keys_stay form t _ h _ around whole w in

@@ -28,6 +28,3 @@ loop-key-preserved c = record {
       ] in
       (f.rest, f.is_first.others_hold, left ∙ i.2);
 }
-
-pub returns-clause-position : goal.returns-clause-position
-returns-clause-position c = grind (arith, no_text_left)

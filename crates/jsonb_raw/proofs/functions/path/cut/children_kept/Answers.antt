@@ -3,6 +3,3 @@ use Rattle.jsonb_raw.proofs.functions.path.cut.children_kept.Goals as goal
 
 pub returns-then-is_empty : goal.returns-then-is_empty
 returns-then-is_empty c = rw (empty_of _ (zero_of _ c.if-is_empty.ensures)) refl
-
-pub returns-else-is_empty : goal.returns-else-is_empty
-returns-else-is_empty c = grind (arith, not_zero_of)

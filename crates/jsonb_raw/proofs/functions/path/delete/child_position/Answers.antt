@@ -22,8 +22,5 @@ returns-in-Object-Name-clause-position c = λ form t h.
     (rw c.in-Object-Name.is-1 (c.as_bytes-in-Object-Name.ensures.value ∙ c.as_str-in-Object-Name.ensures.value))
     (of_object form t c.args.container.now c.in-Object-Name.is-0 h) (c.name_position-in-Object-Name.ensures.position form)
 
-pub returns-in_default-clause-position : goal.returns-in_default-clause-position
-returns-in_default-clause-position c = grind (arith, of_array)
-
 pub returns-in_default-2-clause-position : goal.returns-in_default-2-clause-position
 returns-in_default-2-clause-position c = grind arith

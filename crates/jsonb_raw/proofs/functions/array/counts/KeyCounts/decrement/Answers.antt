@@ -6,6 +6,3 @@ returns-in-Some-clause-less c = λ other.
     let w = c.saturating_sub.result in
     counted_less c.args.self.now (record { counts = c.get_mut.follows.lender w }) c.args.key.now w ((c.get_mut.follows.holds w).3 (search rules))
     (c.saturating_sub.ensures ∙ ap (λ o. unwrap_or o 0 - 1) c.in-Some.ensures.value) other
-
-pub returns-in-None-clause-less : goal.returns-in-None-clause-less
-returns-in-None-clause-less c = search (rules, counted_none)

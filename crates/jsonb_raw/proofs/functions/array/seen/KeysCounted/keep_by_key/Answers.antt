@@ -3,9 +3,6 @@ use Rattle.jsonb_raw.proofs.AnswerLemmas.{failed}
 use Rattle.jsonb_raw.proofs.ElementsSeen.{follows}
 use Rattle.jsonb_raw.proofs.functions.array.seen.KeysCounted.keep_by_key.Goals as goal
 
-pub returns-in_err-write_entry_key-clause-passed : goal.returns-in_err-write_entry_key-clause-passed
-returns-in_err-write_entry_key-clause-passed c = search (rules, failed)
-
 pub returns-clause-passed : goal.returns-clause-passed
 returns-clause-passed c = λ form other before rest t h s.
     let few : length before + length (t ∷ rest) < 2 ^ 63 = h.2 in

@@ -5,6 +5,3 @@ use Rattle.jsonb_raw.proofs.functions.array.seen.Seen.keep_next.Goals as goal
 pub returns-in-Keys-clause-passed : goal.returns-in-Keys-clause-passed
 returns-in-Keys-clause-passed c = λ form other before rest t h s.
     c.keep_by_key.ensures.passed form other before rest t (subst (λ x. HaveSeen form c.args.kind x other before (t ∷ rest)) c.in-Keys.is h) s
-
-pub returns-in-Elements-clause-passed : goal.returns-in-Elements-clause-passed
-returns-in-Elements-clause-passed c = search (rules, answered)

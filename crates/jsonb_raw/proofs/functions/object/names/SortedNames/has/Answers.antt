@@ -5,12 +5,6 @@ pub returns-in_default-clause-found : goal.returns-in_default-clause-found
 returns-in_default-clause-found c = λ utf8 d.
     (sym ((rw c.in_default.is at (c.loop-step.invariant.decides d)).agree c.args.key.now (not_below_itself c.args.key.now)))
 
-pub returns-in-Equal-clause-found : goal.returns-in-Equal-clause-found
-returns-in-Equal-clause-found c = grind (arith, first_found)
-
-pub returns-in-Greater-clause-found : goal.returns-in-Greater-clause-found
-returns-in-Greater-clause-found c = grind (arith, first_above)
-
 pub loop-step-preserved : goal.loop-step-preserved
 loop-step-preserved c = record {
   decides = λ d.
