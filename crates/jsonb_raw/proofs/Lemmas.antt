@@ -31,5 +31,3 @@ pub use Rattle.jsonb_raw.proofs.SetKept.{all_dropped, no_array_entries, members_
 pub use Rattle.jsonb_raw.proofs.SetLawProofs.{hash_taken, distinct_counts, overlap_is_shared, split_deals, shared_counts, difference_counts}
 pub use Rattle.jsonb_raw.proofs.StripWalk.{values_of-members, kept_makes, begun_with, length-stripped, words_of_run, word_taken, no_word_left, null_kind, is_none, ValuesCounted, some_keys_stay, all_keys, values_of-stripped, many_keys, value_there, key_kept, key_dropped, keys_done, KeysOpen, scalars_begun, scalar_kept, container_next, null_next, no_value_left, ScalarsOpen, rooms-pushed, room, rooms}
 pub use Rattle.jsonb_raw.proofs.TextChunks.{run_copied, front_escaped, word_packed, plain_word, pair_joined, plain_ends, ends_written, plain_written, chunk_escaped, chunk_copied, quad_joined, byte_written, run_ended}
-
-
