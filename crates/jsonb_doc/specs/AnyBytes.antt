@@ -6,3 +6,4 @@ pub mod Items
 pub mod Roots
 pub mod Iterators
 pub mod Spots
+pub mod Events

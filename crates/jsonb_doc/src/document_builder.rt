@@ -1,16 +1,19 @@
 //! The builder of documents from events.
 
-ghost use Rattle.std.specs.Prelude.{◌≡◌, List, OnErr, MatchOption, MatchResult, Err};
+ghost use Rattle.std.specs.Prelude.{◌≡◌, List, IsTrue, IfErr, OnOk, OnErr, MatchOption, MatchResult, Err};
 ghost use Rattle.jsonb_doc.specs.declared.pieces.Piece as pieces;
 ghost use Rattle.jsonb_doc.specs.Tree.{Tree};
 ghost use Rattle.jsonb_doc.specs.Payload.{Form};
 ghost use Rattle.jsonb_doc.specs.Format.{Decodes};
 ghost use Rattle.jsonb_doc.specs.Item.{StandsFor};
-ghost use Rattle.jsonb_doc.specs.Answer.{IsDecodingError};
-ghost use Rattle.jsonb_doc.specs.Events.{Level, State, no_events, next, array_begins, object_begins, key_is, value_is, ends, whole, within};
+ghost use Rattle.jsonb_doc.specs.Answer.{IsOutOfMemory, IsDecodingError, ◌or◌};
+ghost use Rattle.jsonb_doc.specs.AnyBytes.Items.{IsRootOf};
+ghost use Rattle.jsonb_doc.specs.AnyBytes.Events.{IsEventError};
+ghost use Rattle.jsonb_doc.specs.Events.{Level, State, no_events, next, array_begins, object_begins, key_is, value_is, ends, takes_value, whole, within};
 ghost use Rattle.jsonb_doc.specs.DocumentBuilder.{Takes};
 ghost use Rattle.jsonb_doc.specs.Representation.DocumentBuilder.{Holds, HoldsLevel};
-ghost use Rattle.jsonb_doc.specs.declared.error.Error.TheVariants.{OutOfMemory};
+ghost use Rattle.jsonb_doc.specs.declared.item.Item.{Item};
+ghost use Rattle.jsonb_doc.specs.declared.error.Error.TheVariants.{OutOfMemory, TooLarge};
 ghost use Rattle.jsonb_doc.specs.declared.event_error.EventError.TheVariants.{OutOfOrder, Failed};
 
 use crate::builder_entry::BuilderEntry;
@@ -192,6 +195,8 @@ impl DocumentBuilder {
         ensures takes { (form : Form) (s : State) (t : Tree) → Holds form self.old s → StandsFor form item.now t
             → Takes form s (next (value_is t) s) result self.new }
         ensures kept { (form : Form) (s : State) → Holds form self.old s → OnErr result (Holds form self.new s) }
+        ensures order { (form : Form) (s : State) → Holds form self.old s → OnOk result (IsTrue (takes_value s.inner)) }
+        ensures errors { IfErr result (IsEventError (IsOutOfMemory or TooLarge)) }
     {
         if !self.inner.takes_value() {
             return Err(EventError::OutOfOrder);
@@ -237,6 +242,9 @@ impl DocumentBuilder {
         ensures takes { (form : Form) (s : State) (t : Tree) → Holds form self.old s → Decodes form bytes.now t
             → Takes form s (next (value_is t) s) result self.new }
         ensures kept { (form : Form) (s : State) → Holds form self.old s → OnErr result (Holds form self.new s) }
+        ensures reads { OnOk result ((root : Item) × IsRootOf bytes.now root) }
+        ensures order { (form : Form) (s : State) → Holds form self.old s → OnOk result (IsTrue (takes_value s.inner)) }
+        ensures errors { IfErr result (IsEventError (IsDecodingError or OutOfMemory or TooLarge)) }
     {
         let item = root_item(bytes)?;
         self.value(&item)

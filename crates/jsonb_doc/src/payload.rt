@@ -1,6 +1,6 @@
 //! How numbers and extension values are written.
 
-ghost use Rattle.std.specs.Prelude.{◌≡◌, ◌≤◌, ◌++◌, [], ◌∷◌, length, OnOk, OnErr};
+ghost use Rattle.std.specs.Prelude.{◌≡◌, ◌≤◌, ◌+◌, ◌++◌, [], ◌∷◌, length, IsOk, OnOk, OnErr, vec_len, vec_capacity};
 ghost use Rattle.std.specs.Int.{w32, w64};
 ghost use Rattle.byteorder.specs.Endian.{big_bytes};
 ghost use Rattle.jsonb_doc.specs.Number.{FitsNumber};
@@ -82,6 +82,9 @@ fn push_low_bytes(out: &mut Vec<u8>, n: u64, width: usize) -> Result<(), AllocEr
 fn push_i32(out: &mut Vec<u8>, value: i32) -> Result<(), AllocError>
     ensures pushed { OnOk result (out.new.items ≡ out.old.items ++ fixed_bytes w32 value) }
     ensures unchanged { OnErr result (out.new.items ≡ out.old.items) }
+    ensures len { OnOk result (vec_len out.new ≡ vec_len out.old + 4) }
+    ensures capacity { vec_capacity out.old ≤ vec_capacity out.new }
+    ensures room { vec_len out.old + 4 ≤ vec_capacity out.old → IsOk result }
 {
     out.extend_from_slice(&value.to_be_bytes())
 }
@@ -89,6 +92,8 @@ fn push_i32(out: &mut Vec<u8>, value: i32) -> Result<(), AllocError>
 fn push_i64(out: &mut Vec<u8>, value: i64) -> Result<(), AllocError>
     ensures pushed { OnOk result (out.new.items ≡ out.old.items ++ fixed_bytes w64 value) }
     ensures unchanged { OnErr result (out.new.items ≡ out.old.items) }
+    ensures capacity { vec_capacity out.old ≤ vec_capacity out.new }
+    ensures room { vec_len out.old + 8 ≤ vec_capacity out.old → IsOk result }
 {
     out.extend_from_slice(&value.to_be_bytes())
 }
@@ -159,6 +164,8 @@ fn push_binary(out: &mut Vec<u8>, bytes: &[u8]) -> Result<(), AllocError>
     ensures pushed { OnOk result (out.new.items ≡ out.old.items ++ extension_payload (binary bytes.now)) }
     ensures kept { OnErr result (StaysInFront out.old.items out.new.items) }
     ensures fits { FitsExtension (binary bytes.now) }
+    ensures capacity { vec_capacity out.old ≤ vec_capacity out.new }
+    ensures room { vec_len out.old + (length bytes.now + 1) ≤ vec_capacity out.old → IsOk result }
 {
     out.push(BINARY)?;
     out.extend_from_slice(bytes)
@@ -168,6 +175,8 @@ fn push_date(out: &mut Vec<u8>, value: i32) -> Result<(), AllocError>
     ensures pushed { OnOk result (out.new.items ≡ out.old.items ++ extension_payload (date value)) }
     ensures kept { OnErr result (StaysInFront out.old.items out.new.items) }
     ensures fits { FitsExtension (date value) }
+    ensures capacity { vec_capacity out.old ≤ vec_capacity out.new }
+    ensures room { vec_len out.old + 5 ≤ vec_capacity out.old → IsOk result }
 {
     out.push(DATE)?;
     push_i32(out, value)
@@ -177,6 +186,8 @@ fn push_timestamp(out: &mut Vec<u8>, value: i64) -> Result<(), AllocError>
     ensures pushed { OnOk result (out.new.items ≡ out.old.items ++ extension_payload (timestamp value)) }
     ensures kept { OnErr result (StaysInFront out.old.items out.new.items) }
     ensures fits { FitsExtension (timestamp value) }
+    ensures capacity { vec_capacity out.old ≤ vec_capacity out.new }
+    ensures room { vec_len out.old + 9 ≤ vec_capacity out.old → IsOk result }
 {
     out.push(TIMESTAMP)?;
     push_i64(out, value)
@@ -186,6 +197,8 @@ fn push_timestamp_tz(out: &mut Vec<u8>, offset: i32, value: i64) -> Result<(), A
     ensures pushed { OnOk result (out.new.items ≡ out.old.items ++ extension_payload (timestamp_tz offset value)) }
     ensures kept { OnErr result (StaysInFront out.old.items out.new.items) }
     ensures fits { FitsExtension (timestamp_tz offset value) }
+    ensures capacity { vec_capacity out.old ≤ vec_capacity out.new }
+    ensures room { vec_len out.old + 13 ≤ vec_capacity out.old → IsOk result }
 {
     out.push(TIMESTAMP_TZ)?;
     push_i32(out, offset)?;
@@ -197,6 +210,8 @@ fn push_interval(out: &mut Vec<u8>, months: i32, days: i32, micros: i64) -> Resu
     ensures pushed { OnOk result (out.new.items ≡ out.old.items ++ extension_payload (interval months days micros)) }
     ensures kept { OnErr result (StaysInFront out.old.items out.new.items) }
     ensures fits { FitsExtension (interval months days micros) }
+    ensures capacity { vec_capacity out.old ≤ vec_capacity out.new }
+    ensures room { vec_len out.old + 17 ≤ vec_capacity out.old → IsOk result }
 {
     out.push(INTERVAL)?;
     push_i32(out, months)?;
@@ -208,7 +223,7 @@ fn push_interval(out: &mut Vec<u8>, months: i32, days: i32, micros: i64) -> Resu
 ///
 /// # Errors
 ///
-/// `AllocError` if an allocation fails. Then `out` may end with part of the payload.
+/// `AllocError`, only if the capacity of `out` is too small for the payload. Then `out` may end with part of it.
 ///
 /// # Complexity
 ///
@@ -220,6 +235,9 @@ pub fn push_extension_payload(
     ensures pushed { OnOk result (out.new.items ≡ out.old.items ++ extension_payload (extension_view value.now)) }
     ensures kept { OnErr result (StaysInFront out.old.items out.new.items) }
     ensures fits { FitsExtension (extension_view value.now) }
+    ensures capacity { vec_capacity out.old ≤ vec_capacity out.new }
+    ensures room { vec_len out.old + length (extension_payload (extension_view value.now)) ≤ vec_capacity out.old
+        → IsOk result }
 {
     match value {
         ExtensionValue::Binary(bytes) => push_binary(out, bytes),

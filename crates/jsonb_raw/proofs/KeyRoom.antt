@@ -9,7 +9,7 @@ room_kept null len more capacity len' capacity' h e k = omega (arith, h, e, k)
 room_kept (boolean b) len more capacity len' capacity' h e k = omega (arith, h, e, k)
 room_kept (number n) len more capacity len' capacity' h e k = omega (arith, h, e, k)
 room_kept (text s) len more capacity len' capacity' h e k = omega (arith, h, e, k)
-room_kept (extension x) len more capacity len' capacity' h e k = h
+room_kept (extension x) len more capacity len' capacity' h e k = omega (arith, h, e, k)
 room_kept (array ts) len more capacity len' capacity' h e k = h
 room_kept (object ps) len more capacity len' capacity' h e k = h
 
@@ -19,6 +19,6 @@ room_more null len more capacity h = omega (arith, h)
 room_more (boolean b) len more capacity h = omega (arith, h)
 room_more (number n) len more capacity h = omega (arith, h)
 room_more (text s) len more capacity h = omega (arith, h)
-room_more (extension x) len more capacity h = absurd h
+room_more (extension x) len more capacity h = omega (arith, h)
 room_more (array ts) len more capacity h = absurd h
 room_more (object ps) len more capacity h = absurd h

@@ -10,7 +10,7 @@ ghost use Rattle.jsonb_raw.specs.KeyRoom.{HasKeyRoom};
 ghost use Rattle.jsonb_raw.specs.Private.EqualityParts.{equality_start, equality_part_start, AppendsEqualityStart};
 ghost use Rattle.jsonb_raw.specs.Private.Levels.{EntryPrefix, IsKeyOf, IsLevelOf, IsLevelWithin};
 ghost use Rattle.jsonb_raw.specs.SortableKey.{text_bytes};
-ghost use Rattle.jsonb_doc.specs.Payload.{Form, number_reader};
+ghost use Rattle.jsonb_doc.specs.Payload.{Form, number_reader, extension_payload};
 ghost use Rattle.jsonb_doc.specs.Format.{Decodes, IsContent};
 ghost use Rattle.jsonb_doc.specs.Private.EntryKinds.{container_entry};
 ghost use Rattle.jsonb_doc.specs.Item.{StandsFor};
@@ -49,8 +49,10 @@ fn set_len(out: &mut Vec<u8>, at: usize, len: u64)
 /// Appends the type, the length in eight bytes and the payload of an extension. The length is written over zeros, once
 /// the payload follows them.
 fn push_extension(out: &mut Vec<u8>, value: &ExtensionValue<'_>) -> Result<(), Error>
-    ensures { MatchResult result
+    ensures key { MatchResult result
         (λ _. out.new.items ≡ out.old.items ++ equality_key (Tree.extension (extension_view value.now))) IsOutOfMemory }
+    ensures room { vec_len out.old + (length (extension_payload (extension_view value.now)) + 9) ≤ vec_capacity out.old
+        → IsOk result }
 {
     out.push(key_kind::EXTENSION)?;
     let at = out.len();

@@ -1,12 +1,13 @@
 //! A document that owns its bytes.
 
-ghost use Rattle.std.specs.Prelude.{◌≡◌, IfErr, MatchResult};
+ghost use Rattle.std.specs.Prelude.{◌≡◌, IfOk, IfErr, MatchResult};
 ghost use Rattle.jsonb_doc.specs.Tree.{Tree};
 ghost use Rattle.jsonb_doc.specs.Payload.{Form};
 ghost use Rattle.jsonb_doc.specs.Format.{Decodes};
 ghost use Rattle.jsonb_doc.specs.Answer.{IsOutOfMemory, IsDecodingError, ◌or◌};
 ghost use Rattle.jsonb_doc.specs.declared.error.Error.TheVariants.{OutOfMemory, TooLarge};
 ghost use Rattle.jsonb_doc.specs.Representation.Positions.{Locates};
+ghost use Rattle.jsonb_raw.specs.AnyBytes.Roots.{IsWhole};
 ghost use Rattle.jsonb_raw.specs.Documents.{raw_bytes, Makes};
 
 use crate::functions::entries::entry_document;
@@ -54,6 +55,7 @@ impl OwnedJsonb {
     pub(crate) fn from_spot(alloc: Global, bytes: &[u8], spot: Spot) -> Result<OwnedJsonb, Error>
         ensures document { (form : Form) (whole t : Tree) → Decodes form bytes.now whole → Locates bytes.now spot t
             → Makes form t result }
+        ensures whole { IfOk result IsWhole }
         ensures errors { IfErr result (IsDecodingError or OutOfMemory or TooLarge) }
     {
         let entry = spot_entry(bytes, spot)?;

@@ -1,6 +1,6 @@
 //! The root, and the open containers around the next event.
 
-ghost use Rattle.std.specs.Prelude.{◌≡◌, ℕ, ◌<◌, List, length, IsTrue, None, OnErr, MatchResult};
+ghost use Rattle.std.specs.Prelude.{◌≡◌, ℕ, ◌<◌, List, length, IsTrue, None, IfErr, OnErr, MatchResult};
 ghost use Rattle.std.specs.Prelude.{string_cmp, Some};
 ghost use Rattle.std.specs.BTreeMap.{insert_entry};
 ghost use Rattle.std.specs.declared.alloc.Global.{Global};
@@ -14,7 +14,9 @@ ghost use Rattle.jsonb_doc.specs.Events.{Level, root, takes_value, filled};
 ghost use Rattle.jsonb_doc.specs.DocumentBuilder.{IsFailureAt};
 ghost use Rattle.jsonb_doc.specs.Representation.DocumentBuilder.{IsPieceOf, HoldsLevel};
 ghost use Rattle.jsonb_doc.specs.declared.pieces.Piece.{Piece};
-ghost use Rattle.jsonb_doc.specs.declared.error.Error.TheVariants.{OutOfMemory};
+ghost use Rattle.jsonb_doc.specs.Answer.{IsOutOfMemory, ◌or◌};
+ghost use Rattle.jsonb_doc.specs.AnyBytes.Events.{IsEventError};
+ghost use Rattle.jsonb_doc.specs.declared.error.Error.TheVariants.{OutOfMemory, TooLarge};
 ghost use Rattle.jsonb_doc.specs.declared.event_error.EventError.TheVariants.{Failed};
 
 use crate::event_error::EventError;
@@ -60,6 +62,7 @@ impl Frame {
             (λ e. HoldsLevel form ps self.new level × IsFailureAt form (filled t level) e) }
         ensures kept { (form : Form) (ps : List Piece) (level : Level) → HoldsLevel form ps self.old level
             → OnErr result (HoldsLevel form ps self.new level) }
+        ensures errors { IfErr result (IsEventError (IsOutOfMemory or TooLarge)) }
     {
         match self {
             Frame::Root(root) => {
@@ -88,6 +91,7 @@ fn push_member(
         (λ _. (members.new.entries ≡ insert_entry string_cmp members.old.entries name entry) × (key.new ≡ None))
         (λ e. e ≡ Failed OutOfMemory) }
     ensures kept { OnErr result ((members.new.entries ≡ members.old.entries) × (key.new ≡ key.old)) }
+    ensures errors { IfErr result (IsEventError IsOutOfMemory) }
 {
     let Some(name) = key.take() else {
         return Err(EventError::OutOfOrder);

@@ -2,12 +2,12 @@
 //!
 //! On bytes that do not decode each function returns; its result is not specified.
 
-ghost use Rattle.std.specs.Prelude.{◌≡◌, List, [], ◌∷◌, Ok, None, IfErr, IsSomeAnd, MatchOption, MatchResult, OnOk};
-ghost use Rattle.std.specs.List.{insert, Any, AllZip};
+ghost use Rattle.std.specs.Prelude.{◌≡◌, List, [], ◌∷◌, Ok, None, IfOk, IfErr, IfSome, IsSomeAnd, MatchOption, MatchResult, OnOk};
+ghost use Rattle.std.specs.List.{insert, All, Any, AllZip};
 ghost use Rattle.jsonb_doc.specs.Tree.{Tree, array, trees_of};
 ghost use Rattle.jsonb_doc.specs.Payload.{Form};
 ghost use Rattle.jsonb_doc.specs.Format.{Decodes};
-ghost use Rattle.jsonb_raw.specs.AnyBytes.Roots.{HasRootShape};
+ghost use Rattle.jsonb_raw.specs.AnyBytes.Roots.{HasRootShape, IsWhole};
 ghost use Rattle.jsonb_raw.specs.Computes.{Computes};
 ghost use Rattle.jsonb_raw.specs.Documents.{raw_bytes, Makes};
 ghost use Rattle.jsonb_doc.specs.Limits.{IsTooLarge};
@@ -84,6 +84,7 @@ impl RawJsonb<'_> {
             → MatchOption (array_values t) (result ≡ Ok None) (λ ts. MatchResult result
             (λ found. IsSomeAnd found (λ made. AllZip (Decodes form) made.items ts))
             (IsOutOfMemory or TooLarge when Any (IsTooLarge form) ts)) }
+        ensures whole { IfOk result (λ found. IfSome found (λ made. All IsWhole made.items)) }
         ensures errors { IfErr result (IsDecodingError or OutOfMemory or TooLarge) }
     {
         let Some(entries) = element_entries(self.as_bytes())? else {
@@ -139,6 +140,7 @@ fn entry_documents(alloc: Global, entries: Entries<'_>) -> Result<Vec<OwnedJsonb
     ensures documents { (form : Form) (ts : List Tree) → HoldTrees form entries.entry ts
         → MatchResult result (λ made. AllZip (Decodes form) made.items ts)
         (IsOutOfMemory or TooLarge when Any (IsTooLarge form) ts) }
+    ensures whole { IfOk result (λ made. All IsWhole made.items) }
     ensures errors { IfErr result (IsDecodingError or OutOfMemory or TooLarge) }
 {
     let mut documents = Vec::with_capacity(alloc, entry_count(entries))?;

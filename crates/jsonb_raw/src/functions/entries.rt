@@ -1,19 +1,23 @@
 //! Entries of containers, as they are stored, and the documents of single entries.
 
-ghost use Rattle.std.specs.Prelude.{◌≡◌, ◌+◌, ◌≤◌, List, length, take, drop, IsOkAnd, IfOk, IfErr, IfSome};
+ghost use Rattle.std.specs.Prelude.{◌≡◌, ◌≢◌, ◌⊎◌, ◌+◌, ◌≤◌, List, length, take, drop, IsOk, IsOkAnd, IfOk, IfErr, IfSome, OnOk};
 ghost use Rattle.jsonb_doc.specs.Tree.{Tree};
-ghost use Rattle.jsonb_doc.specs.Payload.{Form, number_reader};
-ghost use Rattle.jsonb_doc.specs.Format.{Decodes, IsContent};
+ghost use Rattle.jsonb_doc.specs.Payload.{Form, any, number_reader};
+ghost use Rattle.jsonb_doc.specs.Format.{Decodes, IsContent, array_header, object_header};
 ghost use Rattle.jsonb_doc.specs.Kinds.{kind_number};
 ghost use Rattle.jsonb_doc.specs.Answer.{IsDecodingError, ◌or◌};
 ghost use Rattle.jsonb_doc.specs.declared.error.Error.TheVariants.{OutOfMemory, TooLarge};
-ghost use Rattle.jsonb_raw.specs.AnyBytes.Roots.{HasRoot, HasRootShape};
+ghost use Rattle.jsonb_doc.specs.AnyBytes.Parts.{IsHeaded};
+ghost use Rattle.jsonb_doc.specs.Private.EntryKinds.{container_entry, text_entry};
+ghost use Rattle.jsonb_raw.specs.AnyBytes.Roots.{HasRoot, HasRootShape, IsWhole};
 ghost use Rattle.jsonb_raw.specs.Documents.{Makes};
 ghost use Rattle.jsonb_raw.specs.Private.Entries.{HoldTrees, AreElementsOf};
 
 use crate::functions::parts::{Elements, Entries, EntryWithWord};
 use crate::owned::OwnedJsonb;
-use jsonb_doc::layout::{EntryKind, MAX_CONTENT, WORD, encode_entry_word};
+use jsonb_doc::layout::{
+    EntryKind, HeaderKind, MAX_CONTENT, WORD, encode_entry_word, split_header,
+};
 use jsonb_doc::{Container, Error, StoredEntry, read_container, root_entry, scalar_document};
 use std::alloc::Global;
 
@@ -59,21 +63,57 @@ pub fn around_entries(
     Ok((front, back))
 }
 
+/// Fails for bytes that do not begin with the header of a container.
+#[inline(always)]
+fn check_header(content: &[u8]) -> Result<(), Error>
+    ensures decodes { (form : Form) (t : Tree) → IsContent (number_reader form) t container_entry content.now
+        → IsOk result }
+    ensures headed { OnOk result (IsHeaded array_header content.now ⊎ IsHeaded object_header content.now) }
+    ensures errors { IfErr result IsDecodingError }
+{
+    let Some((kind, _, _)) = split_header(content) else {
+        return Err(Error::InvalidJsonb);
+    };
+    match kind {
+        HeaderKind::Array => Ok(()),
+        HeaderKind::Object => Ok(()),
+        HeaderKind::Scalar => Err(Error::InvalidJsonb),
+    }
+}
+
+/// Fails for a scalar entry that does not decode. No string is read.
+#[inline(always)]
+fn check_scalar(entry: &StoredEntry<'_>) -> Result<(), Error>
+    ensures decodes { (form : Form) (t : Tree)
+        → IsContent (number_reader form) t (kind_number entry.now.kind) entry.now.content.now → IsOk result }
+    ensures whole { kind_number entry.now.kind ≢ container_entry → OnOk result ((kind_number entry.now.kind ≡ text_entry)
+        ⊎ ((t : Tree) × IsContent (number_reader any) t (kind_number entry.now.kind) entry.now.content.now)) }
+    ensures errors { IfErr result IsDecodingError }
+{
+    if entry.is_text() {
+        return Ok(());
+    }
+    if let Some(_) = entry.short_number() {
+        return Ok(());
+    }
+    entry.item()?;
+    Ok(())
+}
+
 /// Returns the entry as a new document, as it is stored. Fails for a number or an extension value that cannot be read,
-/// and for an entry of no type. Strings and containers are copied unread.
+/// for a container without a header, and for an entry of no type. Strings are copied unread.
 #[inline(always)]
 pub fn entry_document(alloc: Global, kind: EntryKind, content: &[u8]) -> Result<OwnedJsonb, Error>
     ensures document { (form : Form) (t : Tree) → IsContent (number_reader form) t (kind_number kind) content.now
         → Makes form t result }
+    ensures whole { IfOk result IsWhole }
     ensures errors { IfErr result (IsDecodingError or OutOfMemory or TooLarge) }
 {
     if kind == EntryKind::Container {
+        check_header(content)?;
         return Ok(OwnedJsonb::new(Vec::from_slice(alloc, content)?));
     }
-    let entry = StoredEntry { kind, content };
-    if kind != EntryKind::Text && entry.short_number().is_none() {
-        entry.item()?;
-    }
+    check_scalar(&StoredEntry { kind, content })?;
     if content.len() > MAX_CONTENT {
         return Err(Error::TooLarge);
     }

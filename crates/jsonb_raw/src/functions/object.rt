@@ -2,9 +2,9 @@
 //!
 //! On bytes that do not decode each function returns; its result is not specified.
 
-ghost use Rattle.std.specs.List.{Any, AllZip};
+ghost use Rattle.std.specs.List.{All, Any, AllZip};
 ghost use Rattle.std.specs.Map.{keys_of, values_of};
-ghost use Rattle.std.specs.Prelude.{◌≡◌, ℕ, List, ◌⊎◌, ◌||◌, false, not, None, Ok, IsSomeAnd, IsTrue, OnOk, IfErr, IsErrOf, MatchResult, MatchOption, Err, IsUtf8, string_bytes};
+ghost use Rattle.std.specs.Prelude.{◌≡◌, ℕ, List, ◌⊎◌, ◌||◌, false, not, None, Ok, IsSomeAnd, IsTrue, OnOk, IfOk, IfErr, IfSome, IsErrOf, MatchResult, MatchOption, Err, IsUtf8, string_bytes};
 ghost use Rattle.jsonb_doc.specs.Tree.{Tree, object, pairs_of};
 ghost use Rattle.jsonb_doc.specs.Payload.{Form, number_reader};
 ghost use Rattle.jsonb_doc.specs.Format.{Decodes, AreKeys, IsContent};
@@ -13,7 +13,7 @@ ghost use Rattle.jsonb_doc.specs.Limits.{IsTooLarge};
 ghost use Rattle.jsonb_doc.specs.Answer.{IsOutOfMemory, IsDecodingError, ◌or◌, ◌or◌when◌};
 ghost use Rattle.jsonb_doc.specs.Private.Errors.{IsOutOfMemoryOrTooLarge};
 ghost use Rattle.jsonb_doc.specs.declared.error.Error.TheVariants.{OutOfMemory, TooLarge, InvalidObject, ObjectDuplicateKey};
-ghost use Rattle.jsonb_raw.specs.AnyBytes.Roots.{HasRootShape};
+ghost use Rattle.jsonb_raw.specs.AnyBytes.Roots.{HasRootShape, IsWholePair};
 ghost use Rattle.jsonb_raw.specs.Documents.{raw_bytes, MakesOption, Makes};
 ghost use Rattle.jsonb_raw.specs.Private.Entries.{HoldPairs};
 ghost use Rattle.jsonb_raw.specs.Private.PairSteps.{parted};
@@ -119,6 +119,7 @@ impl RawJsonb<'_> {
             → MatchOption (object_each t) (result ≡ Ok None) (λ ps. MatchResult result
             (λ found. IsSomeAnd found (λ made. AllZip (IsPairOf string_bytes form) made.items ps))
             (IsOutOfMemory or TooLarge when Any (IsTooLarge form) (values_of ps))) }
+        ensures whole { IfOk result (λ found. IfSome found (λ made. All IsWholePair made.items)) }
         ensures errors { IfErr result (IsDecodingError or OutOfMemory or TooLarge) }
     {
         let Some(pairs) = pair_entries(self.as_bytes())? else {
@@ -256,6 +257,7 @@ fn owned_pairs(alloc: Global, pairs: PairEntries<'_>) -> Result<Vec<(String, Own
     ensures pairs { (form : Form) (ps : List (List ℕ × Tree)) → HoldPairs form pairs.entry ps
         → MatchResult result (λ made. AllZip (IsPairOf string_bytes form) made.items ps)
         (IsOutOfMemory or TooLarge when Any (IsTooLarge form) (values_of ps)) }
+    ensures whole { IfOk result (λ made. All IsWholePair made.items) }
     ensures errors { IfErr result (IsDecodingError or OutOfMemory or TooLarge) }
 {
     let mut each = Vec::with_capacity(alloc, entry_count(pairs.keys))?;
@@ -274,6 +276,7 @@ fn owned_pair(alloc: Global, pair: FirstPair<'_>) -> Result<(String, OwnedJsonb)
         → IsContent (number_reader form) t (kind_number pair.entry.kind) pair.entry.content.now
         → MatchResult result (λ made. IsPairOf string_bytes form made (pair.entry.key.now, t))
         (IsOutOfMemoryOrTooLarge form t) }
+    ensures whole { IfOk result IsWholePair }
     ensures errors { IfErr result (IsDecodingError or OutOfMemory or TooLarge) }
 {
     let Ok(key) = str::from_utf8(pair.key) else {

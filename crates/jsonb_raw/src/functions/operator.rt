@@ -136,8 +136,8 @@ impl RawJsonb<'_> {
     ///
     /// # Errors
     ///
-    /// Those of `convert_to_comparable`. The vector is then empty. `OutOfMemory` for null, a Boolean, a number or a
-    /// string of s bytes only if the vector's capacity is less than n + 2 s + 64.
+    /// Those of `convert_to_comparable`. The vector is then empty. `OutOfMemory` for a scalar only if the vector's
+    /// capacity is less than n + 2 s + 64, with s the number of bytes of a string or an extension value.
     ///
     /// # Complexity
     ///

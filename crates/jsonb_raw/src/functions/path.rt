@@ -1,6 +1,6 @@
 //! The functions on the locations of a document.
 
-ghost use Rattle.std.specs.Prelude.{ℕ, List, map, length, slice_get, option_and_then, IsOkAnd, IfErr, OnOk, MatchResult};
+ghost use Rattle.std.specs.Prelude.{ℕ, List, map, length, slice_get, option_and_then, IsOkAnd, IfOk, IfErr, IfSome, OnOk, MatchResult};
 ghost use Rattle.std.specs.Iterator.{IsFinite};
 ghost use Rattle.std.specs.Fmt.{signed_decimal};
 ghost use Rattle.jsonb_doc.specs.Tree.{Tree, field_of};
@@ -13,6 +13,7 @@ ghost use Rattle.jsonb_doc.specs.Representation.Positions.{Locates, HasSpotsLeft
 ghost use Rattle.jsonb_keypath.specs.declared.key_path.KeyPath.{KeyPath};
 ghost use Rattle.jsonb_keypath.specs.KeyPathGrammar.{index as index_step};
 ghost use Rattle.jsonb_keypath.specs.KeyPathViews.{key_view};
+ghost use Rattle.jsonb_raw.specs.AnyBytes.Roots.{IsWhole};
 ghost use Rattle.jsonb_raw.specs.Documents.{raw_bytes, MakesOption};
 ghost use Rattle.jsonb_raw.specs.Places.{children, index_position, tree_at_steps};
 ghost use Rattle.jsonb_raw.specs.Private.Steps.{child_met};
@@ -164,6 +165,7 @@ impl RawJsonb<'_> {
         ensures place { (left : I → List KeyPath) → YieldsItemsLeft I.next_gives left
             → (form : Form) (t : Tree) → Decodes form (raw_bytes self.now) t
             → MakesOption form (tree_at_steps (map key_view (left steps)) t) result }
+        ensures whole { IfOk result (λ found. IfSome found IsWhole) }
         ensures errors { IfErr result (IsDecodingError or OutOfMemory or TooLarge) }
         ensures readable { OnOk result (HasReadableRoot (raw_bytes self.now)) }
     {

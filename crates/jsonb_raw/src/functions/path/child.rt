@@ -2,7 +2,7 @@
 //!
 //! On bytes that do not decode each function returns; its result is not specified.
 
-ghost use Rattle.std.specs.Prelude.{◌≡◌, ◌↔◌, ℕ, List, not, true, false, None, Ok, filter, map, length, slice_get, ◌^◌, ◌<◌, IsTrue, IfErr, IsOkAnd, MatchResult, MatchOption, Err, OnOk};
+ghost use Rattle.std.specs.Prelude.{◌≡◌, ◌↔◌, ℕ, List, not, true, false, None, Ok, filter, map, length, slice_get, ◌^◌, ◌<◌, IsTrue, IfOk, IfErr, IfSome, IsOkAnd, MatchResult, MatchOption, Err, OnOk};
 ghost use Rattle.std.specs.List.{remove};
 ghost use Rattle.std.specs.Map.{keys_of};
 ghost use Rattle.std.specs.Str.{bytes_eq};
@@ -15,7 +15,7 @@ ghost use Rattle.jsonb_doc.specs.Kinds.{kind_number};
 ghost use Rattle.jsonb_doc.specs.Item.{StandsFor};
 ghost use Rattle.jsonb_doc.specs.Answer.{IsOutOfMemory, IsDecodingError, ◌or◌};
 ghost use Rattle.jsonb_doc.specs.declared.error.Error.TheVariants.{OutOfMemory, TooLarge, InvalidJsonType};
-ghost use Rattle.jsonb_raw.specs.AnyBytes.Roots.{HasRoot, HasRootShape};
+ghost use Rattle.jsonb_raw.specs.AnyBytes.Roots.{HasRoot, HasRootShape, IsWhole};
 ghost use Rattle.jsonb_raw.specs.Private.Entries.{HoldTrees, HoldPairs};
 ghost use Rattle.jsonb_raw.specs.Documents.{raw_bytes, Makes, MakesOption};
 ghost use Rattle.jsonb_raw.specs.Places.{index_position};
@@ -66,6 +66,7 @@ impl RawJsonb<'_> {
     pub fn get_by_index(&self, alloc: Global, index: usize) -> Result<Option<OwnedJsonb>, Error>
         ensures element { (form : Form) (t : Tree) → Decodes form (raw_bytes self.now) t
             → MakesOption form (element_at index t) result }
+        ensures whole { IfOk result (λ found. IfSome found IsWhole) }
         ensures none { (form : Form) (t : Tree) → Decodes form (raw_bytes self.now) t → element_at index t ≡ None
             → result ≡ Ok None }
         ensures errors { IfErr result (IsDecodingError or OutOfMemory or TooLarge) }
@@ -123,6 +124,7 @@ impl RawJsonb<'_> {
     ) -> Result<Option<OwnedJsonb>, Error>
         ensures value { (form : Form) (t : Tree) → Decodes form (raw_bytes self.now) t
             → MakesOption form (named_child name.now ignore_case t) result }
+        ensures whole { IfOk result (λ found. IfSome found IsWhole) }
         ensures none { (form : Form) (t : Tree) → Decodes form (raw_bytes self.now) t
             → named_child name.now ignore_case t ≡ None → result ≡ Ok None }
         ensures errors { IfErr result (IsDecodingError or OutOfMemory or TooLarge) }
@@ -245,6 +247,7 @@ fn eq_ignore_ascii_case(key: &[u8], name: &[u8]) -> bool
 fn found_document(alloc: Global, kind: EntryKind, content: &[u8]) -> Result<OwnedJsonb, Error>
     ensures document { (form : Form) (t : Tree) → IsContent (number_reader form) t (kind_number kind) content.now
         → Makes form t result }
+    ensures whole { IfOk result IsWhole }
     ensures errors { IfErr result (IsDecodingError or OutOfMemory or TooLarge) }
 {
     entry_document(alloc, kind, content)
@@ -260,6 +263,7 @@ fn element_document(
 ) -> Result<Option<OwnedJsonb>, Error>
     ensures found { (form : Form) (ts : List Tree) → HoldTrees form entries.entry ts
         → Finds form (slice_get ts index) result }
+    ensures whole { IfOk result (λ found. IfSome found IsWhole) }
     ensures errors { IfErr result (IsDecodingError or OutOfMemory or TooLarge) }
 {
     let (_, back) = entries.split(index)?;
@@ -280,6 +284,7 @@ fn value_of_key(
     requires paired { length object.value_words.now ≡ length object.key_words.now }
     ensures found { (form : Form) (ps : Pairs) → HasPairParts (number_reader form) ps object.entry
         → Finds form (value_under name.now ps) result }
+    ensures whole { IfOk result (λ found. IfSome found IsWhole) }
     ensures errors { IfErr result (IsDecodingError or OutOfMemory or TooLarge) }
 {
     match object.value_of(name.as_bytes())? {
@@ -319,6 +324,7 @@ pub(super) fn position_ignoring_case(
 fn value_ignoring_case(alloc: Global, bytes: &[u8], name: &str) -> Result<Option<OwnedJsonb>, Error>
     ensures found { (form : Form) (t : Tree) → Decodes form bytes.now t
         → Finds form (named_child name.now true t) result }
+    ensures whole { IfOk result (λ found. IfSome found IsWhole) }
     ensures errors { IfErr result (IsDecodingError or OutOfMemory or TooLarge) }
 {
     let Some(pairs) = pair_entries(bytes)? else {

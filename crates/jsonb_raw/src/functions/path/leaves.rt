@@ -1,7 +1,7 @@
 //! The leaves of a document, with their key paths.
 
 ghost use Rattle.std.specs.Prelude.{◌≡◌, ◌⊎◌, ◌+◌, ◌%◌, ◌^◌, ◌<◌, ◌&&◌, ◌++◌, [], ◌∷◌, ℕ, List, Option, length, vec_len, vec_capacity, IsOkAnd, IfOk, IfErr, map, MatchResult, OnOk};
-ghost use Rattle.std.specs.List.{Any, AllZip};
+ghost use Rattle.std.specs.List.{All, Any, AllZip};
 ghost use Rattle.jsonb_doc.specs.Tree.{Tree, text, number};
 ghost use Rattle.jsonb_doc.specs.Payload.{Form, number_reader};
 ghost use Rattle.jsonb_doc.specs.Format.{Decodes, IsContent};
@@ -171,12 +171,16 @@ trait LeafOutput<'a>: Drop {
     ghost use Rattle.jsonb_doc.specs.Tree.{Tree};
     ghost use Rattle.jsonb_doc.specs.Payload.{Form};
     ghost use Rattle.jsonb_doc.specs.declared.error.Error.{Error};
+    ghost use Rattle.std.specs.Prelude.{OnOk};
+    ghost use Rattle.std.specs.List.{All};
 
     ghost IsOf: { Form → Tree → Self → Type 0 };
 
     ghost IsRefusalOf: { Form → Tree → Error → Type 0 };
 
     ghost Refusals: { Error → Type 0 };
+
+    ghost IsReadable: { Self → Type 0 };
 
     /// Appends the leaf that an entry stores.
     fn push_leaf(
@@ -188,6 +192,8 @@ trait LeafOutput<'a>: Drop {
         ensures leaf { (form : Form) (t : Tree) → Stores form entry.now t
             → MatchResult result (λ _. AppendsLeaf (IsOf form t) path.entry found.old.items found.new.items)
             (IsRefusalOf form t) }
+        ensures whole { All (λ leaf. IsReadable leaf.1) found.old.items
+            → OnOk result (All (λ leaf. IsReadable leaf.1) found.new.items) }
         ensures errors { IfErr result Refusals };
 }
 
@@ -266,6 +272,7 @@ fn push_value<'a>(
 }
 
 impl<'a> LeafOutput<'a> for Value<'a> {
+    ghost use Rattle.std.specs.Prelude.{⊤};
     ghost use Rattle.jsonb_doc.specs.Answer.{IsOutOfMemory, ◌or◌, IsDecodingError};
     ghost use Rattle.jsonb_doc.specs.declared.error.Error.TheVariants.{OutOfMemory};
     ghost use Rattle.jsonb_raw.specs.Private.LeafSteps.{IsValueOf};
@@ -275,6 +282,8 @@ impl<'a> LeafOutput<'a> for Value<'a> {
     ghost IsRefusalOf = { λ form t e. IsOutOfMemory e };
 
     ghost Refusals = { IsDecodingError or OutOfMemory };
+
+    ghost IsReadable = { λ value. ⊤ };
 
     // Strings and null are known by their types, so they are not read as items.
     #[inline(always)]
@@ -302,6 +311,7 @@ fn leaves_within<'a, P: LeafOutput<'a>>(
     ensures leaves { (form : Form) (t : Tree) → StandsFor form item.now t
         → MatchResult result (λ found. AllZip (IsKept (P.IsOf form)) found.items (leaves ignore_array t))
         (λ e. IsOutOfMemory e ⊎ Any (λ leaf. P.IsRefusalOf form leaf.1 e) (leaves ignore_array t)) }
+    ensures whole { IfOk result (λ found. All (λ leaf. P.IsReadable leaf.1) found.items) }
     ensures errors { IfErr result (λ e. (IsDecodingError or OutOfMemory) e ⊎ P.Refusals e) }
 {
     let Some(first) = parts_entered(item, ignore_array)? else {

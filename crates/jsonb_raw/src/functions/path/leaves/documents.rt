@@ -1,15 +1,15 @@
 //! The leaves of a document as new documents, with their key paths.
 
-ghost use Rattle.std.specs.Prelude.{IfErr, MatchResult, OnOk};
+ghost use Rattle.std.specs.Prelude.{IfOk, IfErr, MatchResult, OnOk};
 ghost use Rattle.jsonb_keypath.specs.KeyPathViews.{key_paths_view};
-ghost use Rattle.std.specs.List.{Any, AllZip};
+ghost use Rattle.std.specs.List.{All, Any, AllZip};
 ghost use Rattle.jsonb_doc.specs.Tree.{Tree};
 ghost use Rattle.jsonb_doc.specs.Payload.{Form};
 ghost use Rattle.jsonb_doc.specs.Format.{Decodes};
 ghost use Rattle.jsonb_doc.specs.Limits.{IsTooLarge};
 ghost use Rattle.jsonb_doc.specs.Answer.{◌or◌, ◌or◌when◌, IsDecodingError, IsOutOfMemory};
 ghost use Rattle.jsonb_doc.specs.declared.error.Error.TheVariants.{OutOfMemory, TooLarge};
-ghost use Rattle.jsonb_raw.specs.AnyBytes.Roots.{HasRoot};
+ghost use Rattle.jsonb_raw.specs.AnyBytes.Roots.{HasRoot, IsWholePair};
 ghost use Rattle.jsonb_raw.specs.Documents.{raw_bytes};
 ghost use Rattle.jsonb_raw.specs.Leaves.{leaves};
 ghost use Rattle.jsonb_raw.specs.Making.{IsPairOf};
@@ -28,12 +28,15 @@ impl<'a> LeafOutput<'a> for OwnedJsonb {
     ghost use Rattle.jsonb_doc.specs.Format.{Decodes};
     ghost use Rattle.jsonb_doc.specs.Limits.{IsTooLarge};
     ghost use Rattle.jsonb_doc.specs.declared.error.Error.TheVariants.{OutOfMemory, TooLarge};
+    ghost use Rattle.jsonb_raw.specs.AnyBytes.Roots.{IsWhole};
 
     ghost IsOf = { λ form t document. Decodes form document t };
 
     ghost IsRefusalOf = { λ form t e. IsOutOfMemoryOrTooLarge form t e };
 
     ghost Refusals = { IsDecodingError or OutOfMemory or TooLarge };
+
+    ghost IsReadable = { IsWhole };
 
     #[inline(always)]
     fn push_leaf(
@@ -78,6 +81,7 @@ impl<'a> RawJsonb<'a> {
         ensures leaves { (form : Form) (t : Tree) → Decodes form (raw_bytes self.now) t
             → MatchResult result (λ made. AllZip (IsPairOf key_paths_view form) made.items (leaves ignore_array t))
             (IsOutOfMemory or TooLarge when Any (λ leaf. IsTooLarge form leaf.1) (leaves ignore_array t)) }
+        ensures whole { IfOk result (λ made. All IsWholePair made.items) }
         ensures errors { IfErr result (IsDecodingError or OutOfMemory or TooLarge) }
         ensures reads { OnOk result (HasRoot (raw_bytes self.now)) }
     {

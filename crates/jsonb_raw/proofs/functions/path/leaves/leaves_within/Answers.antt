@@ -6,6 +6,7 @@ use Rattle.jsonb_raw.proofs.functions.path.leaves.leaves_within.Goals as goal
 pub walk-init : goal.walk-init
 walk-init g c = record {
   as_many = omega (arith, ap length c.new-steps.ensures.items, ap length c.new-around.ensures.items);
+  whole = λ k d below. absurd (omega (arith, below, ap length c.in_ok-found.ensures.items));
   left = λ form t stands.
       let entered = rw c.in-Some.is at (c.in_ok-first.ensures.leaf form t stands) in
       parts_left form _ _ _ (parts t) [] entered.1 (rw c.new-around.ensures.items tt)
@@ -35,6 +36,7 @@ walk-smaller-in-Some-3 g c =
 pub walk-preserved-in-Some-3 : goal.walk-preserved-in-Some-3
 walk-preserved-in-Some-3 g c = record {
   as_many = one_more _ _ _ _ _ _ c.walk.invariant.as_many c.in_ok-push-in-Some-3-2.ensures.items c.in_ok-push-in-Some-3.ensures.items;
+  whole = c.walk.invariant.whole;
   left = λ form t stands.
       SomeParts-first form _ _ _ _ _ _ (λ ps h. rw c.in-Some-2.is at (c.in_ok-name.ensures.takes form ps h)) (c.walk.invariant.left form t stands)
       (λ part rest others keyed is left around fact.
@@ -60,6 +62,7 @@ walk-smaller-in-None-2 g c = falls_beside _ _ c.walk.around.items _ (rw c.in-Som
 pub walk-preserved-in-None-2 : goal.walk-preserved-in-None-2
 walk-preserved-in-None-2 g c = record {
   as_many = c.walk.invariant.as_many;
+  whole = c.in_ok-push_leaf-in-None-2.ensures.whole c.walk.invariant.whole;
   left = λ form t stands.
       SomeParts-first form _ _ _ _ _ _ (λ ps h. rw c.in-Some-2.is at (c.in_ok-name.ensures.takes form ps h)) (c.walk.invariant.left form t stands)
       (λ part rest others keyed is left around fact.
@@ -82,6 +85,7 @@ walk-preserved g c =
     let popped = c.pop_step-index.ensures h.front h.last h.joined in
     record {
       as_many = rw popped.0 (grind (arith, length-append, c.walk.invariant.as_many, h.joined, c.in-Some-pop.ensures.items));
+      whole = c.walk.invariant.whole;
       left = λ form t stands.
           SomeParts-none form _ _ _ _ (λ ps h. rw c.in-None.is at (c.in_ok-name.ensures.takes form ps h)) (c.walk.invariant.left form t stands)
           (λ others around fact.
