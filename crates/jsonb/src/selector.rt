@@ -57,7 +57,9 @@ pub use self::found::FoundItem;
 use self::found::found_items;
 pub use self::limited::{LimitError, LimitedSelector};
 use self::selected::Selected;
-use self::whole_path::{expression_truth, first_selection, only_expression, selection};
+use self::whole_path::{
+    expression_truth, first_selection, only_expression, selection, selects_any,
+};
 use crate::path::JsonPath;
 use jsonb_doc::{Error, Spot, root_spot};
 use jsonb_raw::{OwnedJsonb, RawJsonb};
@@ -367,8 +369,7 @@ impl<'a> Selector<'a> {
     {
         let document = at_root(self.root.as_bytes())?;
         let context = context_of(self.alloc, self.mode, document);
-        let selected = first_selection(&context, &path.paths)?;
-        Ok(is_some(&selected))
+        selects_any(&context, &path.paths)
     }
 
     /// Returns the result of a path that is a comparison, `&&`, `||` or `exists`, or `None` if it is unknown.

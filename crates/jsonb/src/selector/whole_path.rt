@@ -1,7 +1,7 @@
 //! A path as a whole: its top steps, or one expression.
 
 ghost use Rattle.std.specs.Prelude.{◌≡◌, ◌++◌, ◌∷◌, [], List, Ok, Err, None, Some, false, MatchOption, IfOk, IfErr, ⊤};
-ghost use Rattle.jsonb_doc.specs.Answer.{Refines, Outcome, and_then, IsOutOfMemory, ◌or◌};
+ghost use Rattle.jsonb_doc.specs.Answer.{Refines, SameOption, Outcome, and_then, IsOutOfMemory, ◌or◌};
 ghost use Rattle.jsonb_doc.specs.Arithmetic.{Operation};
 ghost use Rattle.jsonb_doc.specs.Payload.{Form};
 ghost use Rattle.jsonb_doc.specs.Tree.{Tree};
@@ -10,11 +10,12 @@ ghost use Rattle.jsonb.specs.PathViews.{step_view, steps_view, expression_view, 
 ghost use Rattle.std.specs.List.{AllZip};
 ghost use Rattle.jsonb.specs.PathArithmetic.{operation, each_signed};
 ghost use Rattle.jsonb.specs.Meaning.{operand_values, truth, Means, truth_item};
-ghost use Rattle.jsonb.specs.Private.Calculation.{truth_list, expression_predicate};
-ghost use Rattle.jsonb.specs.Private.Calculation.{calculation};
+ghost use Rattle.jsonb.specs.SelectorAnswers.{first_item, IsFound};
+ghost use Rattle.jsonb.specs.Private.Calculation.{calculation, truth_list, expression_predicate};
+ghost use Rattle.jsonb.specs.Private.Compared.{RefinesIfAny};
 ghost use Rattle.jsonb.specs.Private.Search.{BeginsAs};
 ghost use Rattle.jsonb.specs.Private.Selected.{is_computed};
-ghost use Rattle.jsonb.specs.Private.Selection.{HasTree, GivesMeant, IsMadeItem, IsNumberItem, IsNumberTree, AreSelected, step_expression, only_expression};
+ghost use Rattle.jsonb.specs.Private.Selection.{IsAt, HasTree, GivesMeant, IsMadeItem, IsNumberItem, IsNumberTree, AreSelected, step_expression, only_expression};
 ghost use Rattle.jsonb.specs.declared.selector.document.Document.{Document};
 ghost use Rattle.jsonb.specs.declared.selector.document.Mode.{Mode};
 ghost use Rattle.jsonb.specs.declared.selector.selected.MadeItem.TheVariants as made_item;
@@ -24,6 +25,7 @@ use super::calculate::{binary_number, is_arithmetic, unary_numbers};
 use super::compared_lists::root_truth;
 use super::document::{Context, Current, Expressions, Repeats, TruthResult};
 use super::filter_cache::{is_relative, is_true};
+use super::is_some;
 use super::members::start_spot;
 use super::node_list::NodeList;
 use super::search::search;
@@ -31,7 +33,7 @@ use super::selected::{MadeItem, Selected};
 use super::signed_items::signed_items;
 use super::steps::{listed_steps, operand_values, select_steps};
 use crate::path::{BinaryOperator, Expr, Path, PathValue, UnaryOperator};
-use jsonb_doc::{Error, Item, Number, root_item};
+use jsonb_doc::{Error, Item, Number, Spot, root_item};
 
 /// Returns what a path selects.
 pub(crate) fn selection<'a>(
@@ -59,6 +61,30 @@ pub(crate) fn selection<'a>(
     Ok(Selected::Nodes(spots))
 }
 
+/// Returns whether a path selects an item.
+pub(crate) fn selects_any<'a>(context: &Context<'a>, steps: &'a [Path<'_>]) -> Result<bool, Error>
+    ensures meant { (form : Form) (top : Tree) (outcome : Outcome (List Tree)) → HasTree context.now.document top
+        → Means form context.now.mode (steps_view steps.now) top outcome → IsFound form outcome result }
+    ensures errors { IfErr result (IsSelectionError context.now.mode) }
+{
+    match searched(context, steps)? {
+        Some(first) => Ok(first.is_some()),
+        None => any_listed(context, steps),
+    }
+}
+
+/// Returns whether a path selects an item, if a search does not find the first. It is a separate function so that a
+/// search needs no frame for the list: `exists` of `$.age` takes 339 instructions instead of 449.
+#[inline(never)]
+fn any_listed<'a>(context: &Context<'a>, steps: &'a [Path<'_>]) -> Result<bool, Error>
+    ensures meant { (form : Form) (top : Tree) (outcome : Outcome (List Tree)) → HasTree context.now.document top
+        → Means form context.now.mode (steps_view steps.now) top outcome → IsFound form outcome result }
+    ensures errors { IfErr result (IsSelectionError context.now.mode) }
+{
+    let selected = listed_selection(context, steps)?;
+    Ok(is_some(&selected))
+}
+
 /// Returns what a path selects, for a caller that needs only the first item: others may be left out.
 pub(crate) fn first_selection<'a>(
     context: &Context<'a>,
@@ -68,18 +94,41 @@ pub(crate) fn first_selection<'a>(
     ensures nodes { only_expression (steps_view steps.now) ≡ None → IfOk result (λ found. is_computed found ≡ false) }
     ensures errors { IfErr result (IsSelectionError context.now.mode) }
 {
+    match searched(context, steps)? {
+        Some(first) => Ok(Selected::Nodes(NodeList::at_most_one(context.alloc, first))),
+        None => listed_selection(context, steps),
+    }
+}
+
+/// Returns the first item that a path selects. The outer `None` means that it was not found by a search.
+#[inline(always)]
+fn searched<'a>(context: &Context<'a>, steps: &'a [Path<'_>]) -> Result<Option<Option<Spot>>, Error>
+    ensures meant { (form : Form) (top : Tree) (outcome : Outcome (List Tree)) → HasTree context.now.document top
+        → Means form context.now.mode (steps_view steps.now) top outcome
+        → RefinesIfAny (λ spot ts. SameOption (IsAt context.now.document) spot (first_item ts)) result outcome }
+    ensures errors { IfErr result (IsSelectionError context.now.mode) }
+{
     if only_expression(steps).is_some() || is_relative(steps) || root_filter(steps).is_some() {
+        return Ok(None);
+    }
+    let all = Expressions::AreFilters;
+    search(context, all, steps, context.document.root)
+}
+
+/// Returns what a path selects, for a caller that needs only the first item, which a search has not found.
+#[inline(never)]
+fn listed_selection<'a>(context: &Context<'a>, steps: &'a [Path<'_>]) -> Result<Selected<'a>, Error>
+    ensures meant { GivesMeant BeginsAs context.now.document context.now.mode (steps_view steps.now) result }
+    ensures nodes { only_expression (steps_view steps.now) ≡ None → IfOk result (λ found. is_computed found ≡ false) }
+    ensures errors { IfErr result (IsSelectionError context.now.mode) }
+{
+    if only_expression(steps).is_some() || root_filter(steps).is_some() || is_relative(steps) {
         return selection(context, steps);
     }
     let all = Expressions::AreFilters;
     let root = context.document.root;
-    match search(context, all, steps, root)? {
-        Some(first) => Ok(Selected::Nodes(NodeList::at_most_one(context.alloc, first))),
-        None => {
-            let firsts = listed_steps(context, all, Repeats::AreDropped, steps, root)?;
-            Ok(Selected::Nodes(firsts))
-        }
-    }
+    let firsts = listed_steps(context, all, Repeats::AreDropped, steps, root)?;
+    Ok(Selected::Nodes(firsts))
 }
 
 /// Returns the expression of a filter of the root, if the path is one.

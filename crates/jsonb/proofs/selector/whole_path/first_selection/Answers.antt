@@ -1,33 +1,12 @@
-use Rattle.jsonb.proofs.Common.{sym, ◌∙◌, steps_view}
-use Rattle.jsonb.proofs.RefinesLemmas.{failed_as, same_outcome, refused_as}
-use Rattle.jsonb.proofs.SearchLemmas.{begins_found, begins_same}
-use Rattle.jsonb.proofs.WholeLemmas.{by_taken, none_of}
+use Rattle.jsonb.proofs.RefinesLemmas.{failed_as, refused_as}
+use Rattle.jsonb.proofs.SearchLemmas.{begins_found}
 use Rattle.jsonb.proofs.selector.whole_path.first_selection.Goals as goal
 
 pub returns-in_err-first-clause-meant : goal.returns-in_err-first-clause-meant
 returns-in_err-first-clause-meant c = λ form top outcome r h.
-    let none = rw (none_of c.only_expression.result (sym c.is_some.ensures ∙ c.if-is_some.false)) at c.only_expression.ensures in
-    failed_as c.from_residual.ensures.1 (same_outcome (by_taken form c.args.context.now.mode top outcome (steps_view c.args.steps.now) none
-    (sym c.is_relative.ensures ∙ c.if-is_relative.false) h) (refused_as (c.in_err-first.ensures.meant top top r r)))
+    failed_as c.from_residual.ensures.1 (refused_as (c.in_err-first.ensures.meant form top outcome r h))
 
 pub returns-in-Some-clause-meant : goal.returns-in-Some-clause-meant
 returns-in-Some-clause-meant c = λ form top outcome r h.
-    let none = rw (none_of c.only_expression.result (sym c.is_some.ensures ∙ c.if-is_some.false)) at c.only_expression.ensures in
-    same_outcome (by_taken form c.args.context.now.mode top outcome (steps_view c.args.steps.now) none
-    (sym c.is_relative.ensures ∙ c.if-is_relative.false) h)
-    (begins_found form c.args.context.now.document c.at_most_one.result c.in-Some.first _ c.at_most_one.ensures
-    (rw c.in-Some.is at (c.in_ok-first.ensures.meant top top r r)))
-
-pub returns-in_err-firsts-in-None-clause-meant : goal.returns-in_err-firsts-in-None-clause-meant
-returns-in_err-firsts-in-None-clause-meant c = λ form top outcome r h.
-    let none = rw (none_of c.only_expression.result (sym c.is_some.ensures ∙ c.if-is_some.false)) at c.only_expression.ensures in
-    failed_as c.from_residual-in_err-firsts-in-None.ensures.1
-    (same_outcome (by_taken form c.args.context.now.mode top outcome (steps_view c.args.steps.now) none
-    (sym c.is_relative.ensures ∙ c.if-is_relative.false) h) (refused_as (c.in_err-firsts-in-None.ensures.meant top top r r)))
-
-pub returns-in_ok-firsts-in-None-clause-meant : goal.returns-in_ok-firsts-in-None-clause-meant
-returns-in_ok-firsts-in-None-clause-meant c = λ form top outcome r h.
-    let none = rw (none_of c.only_expression.result (sym c.is_some.ensures ∙ c.if-is_some.false)) at c.only_expression.ensures in
-    same_outcome (by_taken form c.args.context.now.mode top outcome (steps_view c.args.steps.now) none
-    (sym c.is_relative.ensures ∙ c.if-is_relative.false) h)
-    (begins_same form c.args.context.now.document c.in_ok-firsts-in-None.firsts _ (c.in_ok-firsts-in-None.ensures.meant top top r r).ok)
+    begins_found form c.args.context.now.document c.at_most_one.result c.in-Some.first _ c.at_most_one.ensures
+    (rw c.in-Some.is at (c.in_ok-first.ensures.meant form top outcome r h))
