@@ -53,8 +53,8 @@ pub(crate) fn find_key<'w, 'k>(
 
 /// Returns what follows the key that is this name, among many keys.
 ///
-/// Skips blocks of keys before the one that the name would be in, then compares the keys of that block. It is a call: as
-/// part of the callers its loops add 45 instructions to each search among five keys.
+/// Skips blocks of keys before the one that the name would be in, then compares the keys of that block. It is a call:
+/// as part of the callers its loops add 45 instructions to each search among five keys.
 #[inline(never)]
 fn find_in_blocks<'w, 'k>(
     words: &'w [u8],

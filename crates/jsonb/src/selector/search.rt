@@ -565,8 +565,8 @@ fn kept<'a>(truth: Option<bool>, item: Spot) -> StepItems<'a>
     StepItems::AtMostOne(is_true(truth).then_some(spot_by_parts(item)))
 }
 
-/// Returns children as items. Without children, nothing is left to walk: `exists` of `$.*` on `{}` takes 452 instructions
-/// instead of 510.
+/// Returns children as items. Without children, nothing is left to walk: `exists` of `$.*` on `{}` takes 452
+/// instructions instead of 510.
 #[inline(always)]
 fn child_items<'a>(children: SpotIter<'a>) -> StepItems<'a>
     ensures { (bytes : List ℕ) (ts : List Tree) → HasSpotsLeft bytes children.entry ts → AreGiven bytes result ts }

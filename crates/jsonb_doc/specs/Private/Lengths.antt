@@ -83,8 +83,8 @@ IsFoundAt name ks (Some at) =
 
 -- ---- blocks of keys
 
--- The result of a step past a block of this many keys: the keys after it, which follow keys below the name, or `None` if
--- the name is none of the keys after it.
+-- The result of a step past a block of this many keys: the keys after it, which follow keys below the name, or `None`
+-- if the name is none of the keys after it.
 abbrev pub SkipsBlock : ℕ → List ℕ → List (List ℕ) → List ℕ → Option (Bor (List ℕ) × Bor (List ℕ)) → Type 0
 SkipsBlock count name ks rest None = IsNoneOf name (drop count ks)
 SkipsBlock count name ks rest (Some r) = KeysLeft (AreBelow name) ks rest r.0.now r.1.now

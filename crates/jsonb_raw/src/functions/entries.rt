@@ -86,7 +86,8 @@ fn check_header(content: &[u8]) -> Result<(), Error>
 fn check_scalar(entry: &StoredEntry<'_>) -> Result<(), Error>
     ensures decodes { (form : Form) (t : Tree)
         → IsContent (number_reader form) t (kind_number entry.now.kind) entry.now.content.now → IsOk result }
-    ensures whole { kind_number entry.now.kind ≢ container_entry → OnOk result ((kind_number entry.now.kind ≡ text_entry)
+    ensures whole { kind_number entry.now.kind ≢ container_entry → OnOk result
+        ((kind_number entry.now.kind ≡ text_entry)
         ⊎ ((t : Tree) × IsContent (number_reader any) t (kind_number entry.now.kind) entry.now.content.now)) }
     ensures errors { IfErr result IsDecodingError }
 {
