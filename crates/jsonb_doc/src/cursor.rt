@@ -61,9 +61,6 @@ impl<'a> Entries<'a> {
         ensures short { IfOk result (λ found. IfSome found (λ f. length f.0.content.now < 2 ^ 28)) }
         ensures errors { IfErr result IsDecodingError }
     {
-        if self.words.is_empty() {
-            return Ok(None);
-        }
         match split_entry(self.words, self.contents) {
             Some(entry) => Ok(Some((
                 StoredEntry {
@@ -75,6 +72,7 @@ impl<'a> Entries<'a> {
                     contents: entry.other_contents,
                 },
             ))),
+            None if self.words.is_empty() => Ok(None),
             None => Err(Error::InvalidJsonb),
         }
     }

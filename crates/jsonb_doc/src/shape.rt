@@ -5,7 +5,7 @@ ghost use Rattle.jsonb_doc.specs.Tree.{Tree};
 ghost use Rattle.jsonb_doc.specs.Payload.{Form, number_reader};
 ghost use Rattle.jsonb_doc.specs.Format.{Decodes, IsContent};
 ghost use Rattle.jsonb_doc.specs.Kinds.{kind_number};
-ghost use Rattle.jsonb_doc.specs.AnyBytes.Roots.{HasShape, IsRootShape};
+ghost use Rattle.jsonb_doc.specs.AnyBytes.Roots.{HasShape, IsNormalShape, IsRootShape};
 ghost use Rattle.jsonb_doc.specs.Private.ShapeOf.{IsShapeOf};
 ghost use Rattle.jsonb_doc.specs.declared.shape.Shape.{Shape};
 ghost use Rattle.jsonb_doc.specs.Answer.{IsDecodingError};
@@ -51,6 +51,7 @@ pub enum Shape<'a> {
 pub fn root_shape(bytes: &[u8]) -> Result<Shape<'_>, Error>
     ensures shape { (form : Form) (t : Tree) → Decodes form bytes.now t → IsOkAnd result (λ shape. HasShape shape t) }
     ensures readable { IfOk result (IsRootShape bytes.now) }
+    ensures normal { IfOk result IsNormalShape }
     ensures errors { IfErr result IsDecodingError }
 {
     match read_container(bytes)? {
@@ -97,6 +98,7 @@ fn scalar_shape<'a>(entry: StoredEntry<'a>) -> Result<Shape<'a>, Error>
         → IsContent (number_reader form) t (kind_number entry.entry.kind) entry.entry.content.now
         → kind_number entry.entry.kind ≢ 5 → IsOkAnd result (λ shape. HasShape shape t) }
     ensures reads { IfOk result (IsShapeOf (kind_number entry.entry.kind) entry.entry.content.now) }
+    ensures normal { IfOk result IsNormalShape }
     ensures errors { IfErr result IsDecodingError }
 {
     match entry.kind {

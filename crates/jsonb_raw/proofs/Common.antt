@@ -111,6 +111,7 @@ pub use Rattle.jsonb_raw.specs.Private.PackedBytes.{packed_bytes}
 pub use Rattle.jsonb_raw.specs.Private.PairSteps.{pairs_above, parted}
 pub use Rattle.jsonb_raw.specs.Private.PlainWords.{IsPlainWord, is_plain_text}
 pub use Rattle.jsonb_raw.specs.Private.SetCounts.{key_cmp, counted, one_at, with_key, CountsKeys, keeps, CountsAfter, in_order, ArePassed, kept_one, HaveSeen, Occurrence, is_first}
+pub use Rattle.jsonb_raw.specs.Private.KeyTables.{HasKeysOf, TellsMatch, HasTableOf}
 pub use Rattle.jsonb_raw.specs.Private.StartHints.{is_container, scalars_matched, AreStarts}
 pub use Rattle.jsonb_raw.specs.Private.Steps.{child_met}
 pub use Rattle.jsonb_raw.specs.Private.Stripping.{entries_kept, leaves_out, stripped, beside, values_kept, WordsHold, stops, HoldValues, Begins, AreWritten, IsAboveLast, IsStripping}

@@ -5,12 +5,12 @@ use Rattle.jsonb_raw.proofs.ContainLemmas.{contains-extension, contains-array, c
 -- ---- lists
 
 -- a test that an element in the middle passes
-any_middle : {A : Type 0} (p : A → Bool) (before after : List A) (x : A) → p x ≡ true → list_any p (before ++ x ∷ after) ≡ true
+pub any_middle : {A : Type 0} (p : A → Bool) (before after : List A) (x : A) → p x ≡ true → list_any p (before ++ x ∷ after) ≡ true
 any_middle p [] after x h = rw h refl
 any_middle p (y ∷ ys) after x h = grind (arith, any_middle p ys after x h)
 
 -- a weaker test is passed too
-any_more : {A : Type 0} (p q : A → Bool) (xs : List A) → list_any p xs ≡ true → ((x : A) → p x ≡ true → q x ≡ true) → list_any q xs ≡ true
+pub any_more : {A : Type 0} (p q : A → Bool) (xs : List A) → list_any p xs ≡ true → ((x : A) → p x ≡ true → q x ≡ true) → list_any q xs ≡ true
 any_more p q [] h f = absurd (cc)
 any_more {A = A} p q (x ∷ xs) h f =
     let more : list_any p xs ≡ true → list_any q xs ≡ true = λ k. any_more p q xs k f in grind (arith, h, f x, more)

@@ -25,6 +25,7 @@ pub mod PartedRuns
 pub mod CutLemmas
 pub mod LeafLimits
 pub mod ContainsLaws
+pub mod KeyTables
 pub mod Copies
 pub mod EntriesLeft
 pub mod EntryEquals

@@ -19,6 +19,7 @@ pub mod Names
 pub mod SetCounts
 pub mod Hashes
 pub mod StartHints
+pub mod KeyTables
 pub mod Complements
 pub mod WrittenBefore
 pub mod PackedBytes

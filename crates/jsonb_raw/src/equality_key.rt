@@ -197,6 +197,7 @@ fn push_parts(alloc: Global, out: &mut Vec<u8>, found: ChildCursor<'_>) -> Resul
 }
 
 /// Appends the equality key of an item.
+#[tactic(auto, using(crate::proofs::EqualityWalk::only_start))]
 fn push_item(alloc: Global, out: &mut Vec<u8>, item: &Item<'_>) -> Result<(), Error>
     ensures key { (form : Form) (tree : Tree) → StandsFor form item.now tree
         → MatchResult result (λ _. out.new.items ≡ out.old.items ++ equality_key tree) IsOutOfMemory }
@@ -237,6 +238,7 @@ const SHORT_KEY: usize = 25;
 /// Appends the equality key of an entry. Out of line, so that the key of a string does not clear the memory of a walk:
 /// 23 instructions.
 #[inline(never)]
+#[tactic(auto, using(crate::proofs::EqualityWalk::only_start))]
 fn push_entry_key(alloc: Global, out: &mut Vec<u8>, entry: &StoredEntry<'_>) -> Result<(), Error>
     ensures key { (form : Form) (tree : Tree) → Stores form entry.now tree
         → MatchResult result (λ _. out.new.items ≡ out.old.items ++ equality_key tree) IsOutOfMemory }

@@ -100,6 +100,7 @@ pub fn documents_compare_as_keys(document: &[u8], other: &[u8])
 
 /// Concatenated sortable keys of several values are ordered as the lists of values are: the key of an index on
 /// several columns. A missing value is written as an item of type 0, and sorts before all others.
+#[tactic(auto, using(crate::proofs::KeyLawProofs::composite_keys_order))]
 pub fn composite_keys()
     ensures { (w : Width) (ts us : List (Option Tree)) → HaveKeys w ts → HaveKeys w us
         → slice_cmp nat_cmp (flat_map (column_key w) ts) (flat_map (column_key w) us)
@@ -107,6 +108,7 @@ pub fn composite_keys()
 {}
 
 /// Two trees have one equality key if and only if they are equal by value, at every depth, with extensions too.
+#[tactic(auto, using(crate::proofs::KeyLawProofs::equality_keys_tell_apart))]
 pub fn equality_keys()
     ensures { (t u : Tree) → Fits t → Fits u → (equality_key t ≡ equality_key u) ↔ IsTrue (is_equal t u) }
 {}

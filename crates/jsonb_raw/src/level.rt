@@ -22,7 +22,7 @@ pub enum ChildCursor<'a> {
 
 /// Returns `true` if a container is an array, by its header.
 #[inline(always)]
-#[tactic(auto, using(crate::proofs::LevelLemmas::array_told))]
+#[tactic(auto, using(crate::proofs::LevelLemmas::array_told, crate::proofs::LevelLemmas::headed))]
 pub fn is_array(bytes: &[u8]) -> bool
     ensures { (form : Form) (t : Tree) → IsContent (number_reader form) t container_entry bytes.now
         → result ≡ is_array t }

@@ -12,6 +12,7 @@ mod deep;
 pub(crate) mod documents;
 mod leaves;
 mod tables;
+mod unreadable;
 
 use super::*;
 use crate::tests::documents::MIXED_ARRAY;

@@ -18,8 +18,9 @@ ghost use Rattle.jsonb_raw.specs.Arrays.{array_length, array_values, array_inser
 
 mod counts;
 pub(crate) mod hashes;
+pub(crate) mod key_table;
 mod overlap;
-mod overlap_in;
+pub(crate) mod overlap_in;
 mod seen;
 mod sets;
 
@@ -186,6 +187,7 @@ fn array_with_element<'a>(
 }
 
 /// Returns the array of these entries with another one inserted at a position.
+#[tactic(auto, using(crate::proofs::RunLemmas::three_runs))]
 fn array_with_entry<'a>(
     alloc: Global,
     entries: Entries<'a>,

@@ -132,6 +132,7 @@ impl<'a> EntryWithWord<'a> {
     ghost use Rattle.jsonb_raw.specs.Private.Entries.{HoldTrees, HoldsTree, IsTooLongRoot};
 
     /// Returns the root of a document as an element. Fails with `TooLarge` if it is too long for one.
+    #[tactic(auto, using(jsonb_doc::proofs::WriterLimits::not_short))]
     pub fn of_root(document: &'a [u8]) -> Result<EntryWithWord<'a>, Error>
         ensures root { (form : Form) (t : Tree) → Decodes form document.now t
             → MatchResult result (λ entry. HoldsTree form entry t) (IsTooLongRoot form t) }

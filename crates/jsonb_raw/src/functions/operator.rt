@@ -19,6 +19,7 @@ mod column_key;
 mod compare;
 mod concat;
 mod contains;
+mod contains_in;
 mod starts;
 mod step;
 mod strip;

@@ -55,6 +55,7 @@ fn nth_spot(spots: SpotIter<'_>, position: usize) -> Result<Option<Spot>, Error>
 }
 
 /// Returns the child at a position.
+#[tactic(auto, using(crate::proofs::ChildLemmas::all_left))]
 fn nth_child(bytes: &[u8], spot: Spot, position: usize) -> Result<Option<Spot>, Error>
     ensures child { (t : Tree) → Locates bytes.now spot t
         → IsOkAnd result (λ found. SameOption (Locates bytes.now) found (slice_get (children t) position)) }

@@ -95,6 +95,7 @@ pub fn container_entries(bytes: &[u8]) -> Result<Option<ContainerEntries<'_>>, E
 
 /// Returns the first member, or `None` if there is none. Fails with `InvalidJsonb` if its end is not known.
 #[inline(always)]
+#[tactic(auto, using(crate::proofs::RunLemmas::value_there))]
 pub fn first_pair(pairs: PairEntries<'_>) -> Result<Option<FirstPair<'_>>, Error>
     ensures first { (form : Form) (ps : List (List ℕ × Tree)) → HoldPairs form pairs.entry ps
         → IsOkAnd result (TakesFirstPair form pairs.entry ps) }

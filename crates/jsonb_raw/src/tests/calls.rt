@@ -225,6 +225,13 @@ impl Asked<'_, '_, '_> {
         agreed(document.array_overlap(other), made)
     }
 
+    /// Returns `true` if the document contains the other one.
+    fn contains(&self) -> Result<bool, Error> {
+        let (document, other) = (&self.document, &self.other);
+        let made = document.contains_in(self.alloc, other);
+        agreed(document.contains(other), made)
+    }
+
     /// Runs functions that return a Boolean.
     fn truth_holds(&self, call: &str) -> Result<bool, Error> {
         let (document, other, text) = (&self.document, &self.other, self.text);
@@ -232,7 +239,7 @@ impl Asked<'_, '_, '_> {
             "exists_all_keys" => self.names_exist(true),
             "exists_any_keys" => self.names_exist(false),
             "traverse_check_string" => document.traverse_check_string(|s| s == text.as_bytes()),
-            "contains" => document.contains(other),
+            "contains" => self.contains(),
             "array_overlap" => self.overlaps(),
             "check" => document.check().map(|()| true),
             _ => return scalar_holds(self.alloc, call, document, self.wanted),

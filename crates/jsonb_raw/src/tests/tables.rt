@@ -1,4 +1,4 @@
-//! Calls that make tables: many elements that have one hash, and many names.
+//! Calls that make tables: many elements that have one hash, or are not in the same order, and many names.
 
 use super::*;
 use std::alloc::AllocError;
@@ -45,6 +45,77 @@ fn numbers_of_one_hash_overlap(rt: HostRuntime) -> Result<(), Fail> {
         let other = numbers(alloc, first, count)?;
         assert!(rt; overlap_is(alloc, &found, &other, wanted), "{first}");
         assert!(rt; overlap_is(alloc, &other, &found, wanted), "{first}");
+    }
+    Ok(())
+}
+
+/// What the elements of an array are.
+#[derive(Clone, Copy)]
+enum Elements {
+    /// Numbers that have one hash.
+    Numbers,
+    /// Arrays of such a number.
+    Arrays,
+    /// Arrays of such a number and null.
+    Wider,
+}
+
+impl Elements {
+    fn word(self) -> &'static [u8] {
+        match self {
+            Elements::Numbers => b"\x20\0\0\x05",
+            Elements::Arrays => b"\x50\0\0\x0d",
+            Elements::Wider => b"\x50\0\0\x11",
+        }
+    }
+
+    fn head(self) -> &'static [u8] {
+        match self {
+            Elements::Numbers => b"",
+            Elements::Arrays => b"\x80\0\0\x01\x20\0\0\x05",
+            Elements::Wider => b"\x80\0\0\x02\x20\0\0\x05\0\0\0\0",
+        }
+    }
+
+    /// Returns the array of 200 of them, with the numbers from a first one, or these in the reverse order.
+    fn array(self, alloc: Global, first: u16, is_reversed: bool) -> Result<Vec<u8>, AllocError> {
+        let mut bytes = Vec::from_slice(alloc, b"\x80\0\0\xc8")?;
+        push_times(&mut bytes, self.word(), 200)?;
+        for index in 0u16..200 {
+            let place = if is_reversed { 199 - index } else { index };
+            let number = u32::from(first.wrapping_add(place)) * 2048;
+            bytes.extend_from_slice(self.head())?;
+            bytes.push(0x50)?;
+            bytes.extend_from_slice(&number.to_be_bytes())?;
+        }
+        Ok(bytes)
+    }
+}
+
+/// Elements of a document and of another one in the reverse order, how many numbers of the other are missing, and
+/// whether the document contains it.
+static CONTAINED: [(Elements, Elements, u16, bool); 7] = [
+    (Elements::Numbers, Elements::Numbers, 0, true),
+    (Elements::Numbers, Elements::Numbers, 1, false),
+    (Elements::Arrays, Elements::Arrays, 0, true),
+    (Elements::Arrays, Elements::Arrays, 1, false),
+    (Elements::Wider, Elements::Arrays, 0, true),
+    (Elements::Wider, Elements::Arrays, 1, false),
+    (Elements::Arrays, Elements::Wider, 0, false),
+];
+
+#[test]
+fn elements_in_the_reverse_order_are_contained(rt: HostRuntime) -> Result<(), Fail> {
+    let alloc = rt.alloc();
+    for (elements, others, missing, wanted) in &CONTAINED {
+        let bytes = elements.array(alloc, *missing, false)?;
+        let other = others.array(alloc, 0, true)?;
+        let (document, other) = (RawJsonb::new(&bytes), RawJsonb::new(&other));
+        assert!(rt;
+            document.contains_in(alloc, &other) == Ok(*wanted),
+            "{missing}"
+        );
+        assert!(rt; document.contains(&other) == Ok(*wanted), "{missing}");
     }
     Ok(())
 }

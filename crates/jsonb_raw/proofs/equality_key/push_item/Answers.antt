@@ -1,10 +1,6 @@
-use Rattle.jsonb_raw.proofs.Lemmas.{rules, only_start}
 use Rattle.jsonb_raw.proofs.equality_key.push_item.Goals as goal
 
 pub returns-in-Some-clause-key : goal.returns-in-Some-clause-key
 returns-in-Some-clause-key c = λ form tree stands.
     let begun = rw c.in-Some.is at (c.in_ok-found.ensures.key form tree stands) in
     c.push_parts.ensures.key form tree _ begun.1 begun.0
-
-pub returns-in-None-clause-key : goal.returns-in-None-clause-key
-returns-in-None-clause-key c = search (rules, only_start)

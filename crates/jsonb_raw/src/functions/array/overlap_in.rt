@@ -17,26 +17,27 @@ use crate::equality_key::write_entry_key;
 use jsonb_doc::{EntryIter, Error};
 use std::alloc::Global;
 
-/// When equality keys take less than hashes: once hashes have excluded too few entries.
+/// When equality keys take less than other searches: once these have taken about as long.
 #[derive(Drop)]
-pub(super) struct Budget {
+pub(crate) struct Budget {
     alloc: Option<Global>,
     left: usize,
 }
 
 impl Budget {
-    /// A table for this many entries takes about as long as that many that the hashes do not exclude.
-    pub(super) fn new(alloc: Option<Global>, count: usize) -> Budget {
+    /// Creates a budget of `count` entries. A table for this many entries takes about as long as that many that the
+    /// hashes do not exclude.
+    pub(crate) fn new(alloc: Option<Global>, count: usize) -> Budget {
         Budget { alloc, left: count }
     }
 
     /// Counts entries that the hashes did not exclude.
-    pub(super) fn spend(&mut self, count: usize) {
+    pub(crate) fn spend(&mut self, count: usize) {
         self.left = self.left.saturating_sub(count);
     }
 
     /// Returns the allocator once nothing is left, only once.
-    pub(super) fn take_allocator(&mut self) -> Option<Global> {
+    pub(crate) fn take_allocator(&mut self) -> Option<Global> {
         if self.left > 0 {
             return None;
         }

@@ -1,10 +1,10 @@
-//! Whether each of some entries equals one of a list, without allocating: the positions at which searches in the list
-//! begin.
+//! Whether each of some entries equals one of a list: the positions at which searches in the list begin.
 
 ghost use Rattle.std.specs.Prelude.{◌≡◌, ◌<◌, true, IsOkAnd, IfOk, IfErr, IfSome};
-ghost use Rattle.std.specs.List.{list_any};
-ghost use Rattle.jsonb_doc.specs.Tree.{Tree, Trees, elements};
+ghost use Rattle.std.specs.List.{AllByRecursion, list_any};
+ghost use Rattle.jsonb_doc.specs.Tree.{Tree, Trees, array, elements};
 ghost use Rattle.jsonb_doc.specs.Equal.{is_equal};
+ghost use Rattle.jsonb_doc.specs.Limits.{Fits};
 ghost use Rattle.jsonb_doc.specs.Payload.{Form};
 ghost use Rattle.jsonb_doc.specs.Private.Stored.{HasEntriesLeft, Stores};
 ghost use Rattle.jsonb_doc.specs.Answer.{IsDecodingError};
@@ -13,13 +13,19 @@ ghost use Rattle.jsonb_raw.specs.Private.StartHints.{AreStarts, scalars_matched}
 
 use crate::equal_items::{find_equal, next_equals};
 use crate::functions::array::hashes::{HASHES, entry_hash};
+use crate::functions::array::overlap_in::Budget;
+use crate::functions::operator::contains_in::scalars_by_keys;
 use jsonb_doc::{EntryIter, Error, StoredEntry};
+use std::alloc::Global;
 
 /// The number of entries for which a start is looked up at once.
 const BLOCK: usize = 32;
 
 /// The number of entries up to which no start is looked up.
 const FEW: usize = 16;
+
+/// The number of entries that searches visit for each entry of both lists before a table is made.
+const STEPS: usize = 8;
 
 /// The next of the scalar entries to be found, by their hashes.
 #[derive(Drop)]
@@ -84,11 +90,13 @@ struct StartHints<'a> {
     at: [EntryIter<'a>; BLOCK],
     /// The number of these that were used.
     passed: usize,
+    /// The number of entries that searches may still visit without a table.
+    budget: Budget,
 }
 
 impl<'a> StartHints<'a> {
     /// Creates starts of which all are the first entry, after what remains of them.
-    fn new(all: EntryIter<'a>, left: EntryIter<'a>) -> StartHints<'a>
+    fn new(all: EntryIter<'a>, left: EntryIter<'a>, budget: Budget) -> StartHints<'a>
         requires { PassesOver all left }
         ensures { AreStarts all.entry result }
     {
@@ -96,6 +104,7 @@ impl<'a> StartHints<'a> {
             left,
             at: [all; BLOCK],
             passed: BLOCK,
+            budget,
         }
     }
 
@@ -106,6 +115,7 @@ impl<'a> StartHints<'a> {
         ensures { AreStarts all.entry self.new }
     {
         let wanted = NeedleBlock::of(entries);
+        self.budget.spend(all.len());
         self.passed = 0;
         let mut rest = all;
         'walk: loop {
@@ -167,10 +177,13 @@ impl<'a> StartHints<'a> {
             return Ok(true);
         }
         let mut left = self.next(all, entries);
+        let start = left.len();
         if find_equal(&mut left, wanted)? {
+            self.budget.spend(start.saturating_sub(left.len()));
             self.left = left;
             return Ok(true);
         }
+        self.budget.spend(all.len());
         let mut again = all;
         let found = find_equal(&mut again, wanted)?;
         self.left = again;
@@ -179,20 +192,24 @@ impl<'a> StartHints<'a> {
 }
 
 /// Returns `true` if each of the scalar entries equals one of the list, the first of those that remain if they are in
-/// the same order. It is a separate function so that recursive calls hold none of its tables.
+/// the same order. A table is made once searches have taken about as long, if there is an allocator. It is a separate
+/// function so that recursive calls hold none of its tables.
 #[inline(never)]
 fn scattered_matched<'a>(
+    alloc: Option<Global>,
     all: EntryIter<'a>,
     left: EntryIter<'a>,
     wanted: EntryIter<'_>,
 ) -> Result<bool, Error>
     requires { PassesOver all left }
     ensures matched { (form other_form : Form) (xs ys : Trees) → HasEntriesLeft form all.entry xs
-        → HasEntriesLeft other_form wanted.entry ys
+        → HasEntriesLeft other_form wanted.entry ys → Fits (array xs) → AllByRecursion Fits (elements ys)
         → IsOkAnd result (λ b. b ≡ scalars_matched ys (elements xs)) }
     ensures errors { IfErr result IsDecodingError }
 {
-    let mut starts = StartHints::new(all, left);
+    let count = all.len().saturating_add(wanted.len());
+    let budget = Budget::new(alloc, count.saturating_mul(STEPS));
+    let mut starts = StartHints::new(all, left, budget);
     let mut rest = wanted;
     'walk: loop {
         let here = rest;
@@ -203,6 +220,11 @@ fn scattered_matched<'a>(
         if entry.is_container() {
             continue;
         }
+        if let Some(alloc) = starts.budget.take_allocator() {
+            if let Some(matched) = scalars_by_keys(alloc, all, here) {
+                return Ok(matched);
+            }
+        }
         if !starts.find(all, &entry, here)? {
             return Ok(false);
         }
@@ -212,9 +234,13 @@ fn scattered_matched<'a>(
 /// Returns `true` if each of the scalar entries equals one of the list. No start is looked up while the next of the
 /// list is the entry, or if the list is short. Out of line, so that recursive calls hold none of its variables.
 #[inline(never)]
-pub(super) fn scalars_matched(all: EntryIter<'_>, wanted: EntryIter<'_>) -> Result<bool, Error>
+pub(super) fn scalars_matched(
+    alloc: Option<Global>,
+    all: EntryIter<'_>,
+    wanted: EntryIter<'_>,
+) -> Result<bool, Error>
     ensures matched { (form other_form : Form) (xs ys : Trees) → HasEntriesLeft form all.entry xs
-        → HasEntriesLeft other_form wanted.entry ys
+        → HasEntriesLeft other_form wanted.entry ys → Fits (array xs) → AllByRecursion Fits (elements ys)
         → IsOkAnd result (λ b. b ≡ scalars_matched ys (elements xs)) }
     ensures errors { IfErr result IsDecodingError }
 {
@@ -235,7 +261,7 @@ pub(super) fn scalars_matched(all: EntryIter<'_>, wanted: EntryIter<'_>) -> Resu
         }
         let is_long = all.len() > FEW;
         if is_long {
-            return scattered_matched(all, left, here);
+            return scattered_matched(alloc, all, left, here);
         }
         left = all;
         let found = find_equal(&mut left, &entry)?;

@@ -42,6 +42,7 @@ impl RawJsonb<'_> {
     /// |---|---|
     /// | `{"a":null,"b":[null]}` | `{"b":[null]}` |
     /// | `{"a":{"b":null}}` | `{"a":{}}` |
+    #[tactic(auto, using(crate::proofs::AnswerLemmas::failed))]
     pub fn strip_nulls(&self, alloc: Global) -> Result<OwnedJsonb, Error>
         ensures document { (form : Form) (tree : Tree) → Decodes form (raw_bytes self.now) tree
             → Makes form (strip tree) result }

@@ -1,5 +1,6 @@
-use Rattle.jsonb_raw.proofs.Common.{rules, arith, ◌-◌, ◌||◌, take, Bool, Some, None, true, false, ◌≡◌, refl, sym, ◌∙◌, subst, IsOkAnd, bytes_eq-Decides, list_any, keys, elements, members, keys_rise, equal_kind, pairs_above, is_part_of, each_is_matched, each_pair_is_matched, IsOneAnswer, matches, or_second}
+use Rattle.jsonb_raw.proofs.Common.{rules, arith, ◌-◌, ◌||◌, take, Bool, Some, None, true, false, ◌≡◌, refl, sym, ◌∙◌, subst, IsOkAnd, bytes_eq-Decides, list_any, keys, elements, members, keys_rise, equal_kind, pairs_above, is_part_of, each_is_matched, each_pair_is_matched, IsOneAnswer, matches, or_second, array, decoded_fits}
 use Rattle.jsonb_raw.proofs.ContainsLaws.{matched_refl}
+use Rattle.jsonb_raw.proofs.SetKept.{elements_fit}
 use Rattle.jsonb_raw.proofs.EntriesLeft.{take_one, take_no, take_zero, tail_none, tail_next, tail_along, SomeEntries-first, SomeEntries-error, SomeEntries-none, SomePairEntries-first, SomePairEntries-error, SomePairEntries-none}
 use Rattle.jsonb_raw.proofs.EntryEquals.{same_tree, IsAnswer, IsItemAnswer, none_aside, put_aside, part_holds, part_fails, aside_along, put_one_aside, one_fails}
 use Rattle.jsonb_raw.proofs.ContainLemmas.{unmatched_key, matched_pair, no_entry_found, entry_found, scalar_match, matches_if_equal, no_object, scalar_told, scalars_left, scalars_decide, matched_left}
@@ -46,14 +47,16 @@ array_contains-returns-in_err-all-clause-answer t c = λ form other_form xs ys d
 pub array_contains-loop-wanted-init : goal.array_contains-loop-wanted-init
 array_contains-loop-wanted-init t c = record {
   tail = tail_none c.in_ok-all.all;
+  table = rw c.between-table.ensures tt;
   room = search rules;
   size = tt;
   left = λ form other_form xs ys d e. record {
     trees = ys;
     left = rw c.into_iter-wanted-iterator.ensures.into_iter_gives (c.in_ok-entries.ensures.decodes other_form ys e);
     fact = (
+      elements_fit ys (decoded_fits other_form c.args.others.now (array ys) (λ i. omega (arith, c.type_inv.others i)) e),
       sym (c.in_ok-scalars_matched.ensures.matched form other_form xs ys (c.in_ok-all.ensures.decodes form xs d)
-          (c.in_ok-entries.ensures.decodes other_form ys e)) ∙ c.if-not-branch.false,
+          (c.in_ok-entries.ensures.decodes other_form ys e) (decoded_fits form c.args.bytes.now (array xs) (λ i. omega (arith, c.type_inv.bytes i)) d) (elements_fit ys (decoded_fits other_form c.args.others.now (array ys) (λ i. omega (arith, c.type_inv.others i)) e))) ∙ c.if-not-branch.false,
       none_aside (IsItemAnswer matches form other_form None) (each_is_matched ys (elements xs)) refl,
     );
   };
@@ -71,6 +74,7 @@ array_contains-returns-in_err-container_match-clause-answer t c = λ form other_
 pub array_contains-loop-wanted-preserved-in-Known-true : goal.array_contains-loop-wanted-preserved-in-Known-true
 array_contains-loop-wanted-preserved-in-Known-true t c = record {
   tail = c.in_ok-container_match.ensures.tail;
+  table = c.has.ensures.table;
   room = omega (arith, c.in-Some.ensures.steps.room, c.loop-wanted.invariant.room);
   size = c.loop-wanted.invariant.size;
   left = λ form other_form xs ys d e.
@@ -86,7 +90,7 @@ array_contains-returns-in-Known-false-clause-answer t c = λ form other_form xs 
     (λ first rest left stored fact.
     let told = rw c.in-Known-false.is at (c.in_ok-container_match.ensures.answer form other_form xs first (c.in_ok-all.ensures.decodes form xs d) stored) in
     let fails : list_any (is_part_of first) (elements xs) ≡ false = sym told ∙ c.in-Known-false.field-0-test in
-    part_fails _ (list_any (is_part_of first) (elements xs)) (each_is_matched rest (elements xs)) (each_is_matched ys (elements xs)) fails fact.1)
+    part_fails _ (list_any (is_part_of first) (elements xs)) (each_is_matched rest (elements xs)) (each_is_matched ys (elements xs)) fails fact.2)
 
 pub array_contains-loop-wanted-preserved-then-wanted-others : goal.array_contains-loop-wanted-preserved-then-wanted-others
 array_contains-loop-wanted-preserved-then-wanted-others t c =
@@ -95,6 +99,7 @@ array_contains-loop-wanted-preserved-then-wanted-others t c =
     let within = rw c.in-Deferred.is at c.in_ok-container_match.ensures.within in
     record {
       tail = c.in_ok-container_match.ensures.tail;
+      table = c.has.ensures.table;
       room = omega (arith, c.in-Some.ensures.steps.room, c.loop-wanted.invariant.room);
       size = (omega (arith, within.0, c.in_ok-all.ensures.room), omega (arith, within.1, size, c.loop-wanted.invariant.room));
       left = λ form other_form xs ys d e.
@@ -105,7 +110,7 @@ array_contains-loop-wanted-preserved-then-wanted-others t c =
           record {
             trees = rest;
             left = left;
-            fact = search (scalars_left, put_aside);
+            fact = (fact.0.1, scalars_left first rest (elements xs) fact.1, search (put_aside, fact.2));
           });
     }
 
@@ -119,7 +124,7 @@ array_contains-returns-in_err-item_matches-in-Deferred-clause-answer t c = λ fo
 pub array_contains-returns-then-not-branch-clause-answer : goal.array_contains-returns-then-not-branch-clause-answer
 array_contains-returns-then-not-branch-clause-answer t c = λ form other_form xs ys d e.
     let told = c.in_ok-scalars_matched.ensures.matched form other_form xs ys (c.in_ok-all.ensures.decodes form xs d)
-    (c.in_ok-entries.ensures.decodes other_form ys e) in
+    (c.in_ok-entries.ensures.decodes other_form ys e) (decoded_fits form c.args.bytes.now (array xs) (λ i. omega (arith, c.type_inv.bytes i)) d) (elements_fit ys (decoded_fits other_form c.args.others.now (array ys) (λ i. omega (arith, c.type_inv.others i)) e)) in
     sym (scalars_decide ys (elements xs) (sym told ∙ c.if-not-branch.true))
 
 pub array_contains-returns-then-not-branch-2-clause-answer : goal.array_contains-returns-then-not-branch-2-clause-answer
@@ -129,11 +134,12 @@ array_contains-returns-then-not-branch-2-clause-answer t c = λ form other_form 
     let m = rw c.in-Deferred.is at (c.in_ok-container_match.ensures.answer form other_form xs first (c.in_ok-all.ensures.decodes form xs d) stored) in
     let fails : list_any (is_part_of first) (elements xs) ≡ false = sym m.4 ∙ sym (c.in_ok-item_matches-in-Deferred.ensures.answer form other_form m.0 m.1 m.2 m.3)
     ∙ c.if-not-branch-2.true in
-    part_fails _ (list_any (is_part_of first) (elements xs)) (each_is_matched rest (elements xs)) (each_is_matched ys (elements xs)) fails fact.1)
+    part_fails _ (list_any (is_part_of first) (elements xs)) (each_is_matched rest (elements xs)) (each_is_matched ys (elements xs)) fails fact.2)
 
 pub array_contains-loop-wanted-preserved : goal.array_contains-loop-wanted-preserved
 array_contains-loop-wanted-preserved t c = record {
   tail = c.in_ok-container_match.ensures.tail;
+  table = c.has.ensures.table;
   room = omega (arith, c.in-Some.ensures.steps.room, c.loop-wanted.invariant.room);
   size = c.loop-wanted.invariant.size;
   left = λ form other_form xs ys d e.
@@ -146,31 +152,47 @@ array_contains-loop-wanted-preserved t c = record {
 
 pub array_contains-returns-in-Some-large-clause-answer : goal.array_contains-returns-in-Some-large-clause-answer
 array_contains-returns-in-Some-large-clause-answer t c = λ form other_form xs ys d e.
-    let a = rw c.in-Some-large.is at (SomeEntries-none other_form _ _ _ c.in-None.ensures.steps (c.loop-wanted.invariant.left form other_form xs ys d e)).1 in
+    let a = rw c.in-Some-large.is at (SomeEntries-none other_form _ _ _ c.in-None.ensures.steps (c.loop-wanted.invariant.left form other_form xs ys d e)).2 in
     (a.is.0, a.is.1, a.is.2, a.is.3, a.is.4 ∙ a.fact)
 
-pub array_contains-returns-in-None-large-clause-answer : goal.array_contains-returns-in-None-large-clause-answer
-array_contains-returns-in-None-large-clause-answer t c = λ form other_form xs ys d e.
-    let a = rw c.in-None-large.is at (SomeEntries-none other_form _ _ _ c.in-None.ensures.steps (c.loop-wanted.invariant.left form other_form xs ys d e)).1 in
+pub array_contains-returns-clause-answer : goal.array_contains-returns-clause-answer
+array_contains-returns-clause-answer t c = λ form other_form xs ys d e.
+    let a = rw c.in-None-large.is at (SomeEntries-none other_form _ _ _ c.in-None.ensures.steps (c.loop-wanted.invariant.left form other_form xs ys d e)).2 in
     sym a.is ∙ a.fact
 
 -- a scalar was found
 pub array_contains-loop-wanted-preserved-then-not-is_container : goal.array_contains-loop-wanted-preserved-then-not-is_container
 array_contains-loop-wanted-preserved-then-not-is_container t c = record {
   tail = c.loop-wanted.invariant.tail;
+  table = c.loop-wanted.invariant.table;
   room = omega (arith, c.in-Some.ensures.steps.room, c.loop-wanted.invariant.room);
   size = c.loop-wanted.invariant.size;
   left = λ form other_form xs ys d e.
       SomeEntries-first other_form _ _ _ _ _ c.in_ok-wanted.was c.in-Some.ensures.steps (c.loop-wanted.invariant.left form other_form xs ys d e)
       (λ first rest left stored fact.
       let scalar = scalar_told other_form _ first stored (sym c.is_container.ensures ∙ c.if-not-is_container.true) in
-      matched_left other_form _ _ first rest (elements xs) (each_is_matched ys (elements xs)) left (grind (arith, fact.0, scalar)) fact);
+      matched_left other_form _ _ first rest (elements xs) (each_is_matched ys (elements xs)) left (grind (arith, fact.1, scalar)) fact);
 }
 
 pub array_contains-returns-in_err-scalars_matched-clause-answer : goal.array_contains-returns-in_err-scalars_matched-clause-answer
 array_contains-returns-in_err-scalars_matched-clause-answer t c = λ form other_form xs ys d e.
     absurd (c.in_err-scalars_matched.ensures.matched form other_form xs ys (c.in_ok-all.ensures.decodes form xs d)
-    (c.in_ok-entries.ensures.decodes other_form ys e))
+    (c.in_ok-entries.ensures.decodes other_form ys e) (decoded_fits form c.args.bytes.now (array xs) (λ i. omega (arith, c.type_inv.bytes i)) d) (elements_fit ys (decoded_fits other_form c.args.others.now (array ys) (λ i. omega (arith, c.type_inv.others i)) e)))
+
+-- one that equals it was found
+pub array_contains-loop-wanted-preserved-then-has : goal.array_contains-loop-wanted-preserved-then-has
+array_contains-loop-wanted-preserved-then-has t c = record {
+  tail = c.loop-wanted.invariant.tail;
+  table = c.has.ensures.table;
+  room = omega (arith, c.in-Some.ensures.steps.room, c.loop-wanted.invariant.room);
+  size = c.loop-wanted.invariant.size;
+  left = λ form other_form xs ys d e.
+      SomeEntries-first other_form _ _ _ _ _ c.in_ok-wanted.was c.in-Some.ensures.steps (c.loop-wanted.invariant.left form other_form xs ys d e)
+      (λ first rest left stored fact.
+      matched_left other_form _ _ first rest (elements xs) (each_is_matched ys (elements xs)) left
+      (c.has.ensures.told form other_form xs first (c.in_ok-all.ensures.decodes form xs d) stored
+      (decoded_fits form c.args.bytes.now (array xs) (λ i. omega (arith, c.type_inv.bytes i)) d) fact.0.0 c.if-has.true) fact);
+}
 
 -- ---- entries
 

@@ -1,4 +1,4 @@
-use Rattle.jsonb_raw.proofs.Common.{◌≡◌, ℕ, ◌<◌, ◌≤◌, ◌+◌, ◌*◌, ◌||◌, Bool, true, length, take, IfSome, list_any, Tree, Trees, Pairs, array, object, keys, elements, members, Form, Decodes, StandsFor, item_size, HasEntriesLeft, Stores, entries_room, AreRising, is_part_of, each_is_matched, each_pair_is_matched, IsOneAnswer, IsTailOf, matches, scalars_matched}
+use Rattle.jsonb_raw.proofs.Common.{◌≡◌, ℕ, ◌<◌, ◌≤◌, ◌+◌, ◌*◌, ◌||◌, Bool, true, length, take, IfSome, list_any, Tree, Trees, Pairs, array, object, keys, elements, members, Form, Decodes, StandsFor, item_size, HasEntriesLeft, Stores, entries_room, AreRising, is_part_of, each_is_matched, each_pair_is_matched, IsOneAnswer, IsTailOf, HasTableOf, AllByRecursion, Fits, matches, scalars_matched}
 use Rattle.jsonb_raw.proofs.EntriesLeft.{SomeEntries, SomePairEntries}
 use Rattle.jsonb_raw.proofs.EntryEquals.{Aside, IsAnswer, IsItemAnswer, OneAside}
 use Rattle.jsonb_raw.proofs.functions.operator.contains.+contains.Given as goal
@@ -39,11 +39,12 @@ decreases-item_matches-loop-answer l = item_size l.left + item_size l.right
 abbrev pub invariant-array_contains-loop-wanted : goal.invariant-array_contains-loop-wanted
 invariant-array_contains-loop-wanted l = record {
   tail : IsTailOf l.all l.last.left;
+  table : HasTableOf l.all l.table.table;
   room : entries_room l.wanted-iterator < length l.fn.others;
   size : IfSome l.large (λ pair. (item_size pair.0 < length l.fn.bytes) × (item_size pair.1 < length l.fn.others));
   left : (form other_form : Form) (xs ys : Trees) → Decodes form l.fn.bytes (array xs) → Decodes other_form l.fn.others (array ys)
       → SomeEntries other_form l.wanted-iterator
-      (λ left. (scalars_matched left (elements xs) ≡ true)
+      (λ left. AllByRecursion Fits (elements left) × (scalars_matched left (elements xs) ≡ true)
       × Aside (IsItemAnswer matches form other_form l.large) (each_is_matched left (elements xs)) (each_is_matched ys (elements xs)));
 }
 
