@@ -14,7 +14,7 @@ pub use Rattle.jsonb.specs.FoundItems.{IsItemOf}
 pub use Rattle.jsonb.specs.ItemSteps.{list_or, values_of, picked, is_meant, picked_by, field_step}
 pub use Rattle.jsonb.specs.LevelTable.{at_level}
 pub use Rattle.jsonb.specs.LimitedAnswers.{UnlessExceeded}
-pub use Rattle.jsonb.specs.Meaning.{step_meaning, steps_meaning, truth, filtered, operand_values, start, meaning, predicate, as_filter, expression_meaning, Means, is_some_item, list_truth, truth_item}
+pub use Rattle.jsonb.specs.Meaning.{step_meaning, steps_meaning, truth, filtered, operand_values, start, meaning, predicate, as_filter, expression_meaning, Means, list_truth, truth_item}
 pub use Rattle.jsonb.specs.MostItems.{capped, steps_items, after_steps, is_single, most_items}
 pub use Rattle.jsonb.specs.PathArithmetic.{two_numbers, all_numbers, signed_number, each_signed, operation}
 pub use Rattle.jsonb.specs.PathDocuments.{is_document, HasNoDocument}
@@ -26,14 +26,14 @@ pub use Rattle.jsonb.specs.PathText.{operator_text, needs_parentheses, side_text
 pub use Rattle.jsonb.specs.PathTree.{Expression, Step, Steps, steps_of, filter, Levels, UnaryOp, number, binary, BinaryOp, and_op, or_op, plus, minus, root, current, whole_expression, no_steps, step, paths, value, unary, exists, Literal, raw, boolean, string, Entry, eq, not_eq, lt, lte, gt, gte, starts_with_op, add, subtract, multiply, divide, modulo, is_predicate, dot_field, LevelEnd, Place, from_front, from_last, single, slice, level, last_level, dot_wildcard, recursive_dot_wildcard, bracket_wildcard, colon_field, object_field, array_indices}
 pub use Rattle.jsonb.specs.PathViews.{step_view, steps_view, expression_view, literal_view, path_view, step_layer, expression_layer}
 pub use Rattle.jsonb.specs.Positions.{IsPosition}
-pub use Rattle.jsonb.specs.Preorder.{taken_item, preorder, answer_at, preorder_elements, preorder_values}
+pub use Rattle.jsonb.specs.Preorder.{taken_item, preorder, preorder_elements, preorder_values}
 pub use Rattle.jsonb.specs.Private.Alike.{AreAlike, AlikeOutcomes, HasSame, SameOutcomes}
 pub use Rattle.jsonb.specs.Private.Asking.{asking_tests, IsCached, IsWaiting, IsTurn, IsFiltering, IsFilter, IsFilterWaiting, IsFilterTurn, IsAround, IsOnward, filtered_later, at_first, IsAsking, IsTested}
-pub use Rattle.jsonb.specs.Private.Below.{KeepsLevel, PassesLeaves, is_shut, AreLevelsOf}
+pub use Rattle.jsonb.specs.Private.Below.{answer_at, KeepsLevel, PassesLeaves, is_shut, AreLevelsOf}
 pub use Rattle.jsonb.specs.Private.Calculation.{number_list, binary_meaning, truth_list, expression_predicate, calculation, starts_with_truth}
 pub use Rattle.jsonb.specs.Private.Chain.{left_of, below}
 pub use Rattle.jsonb.specs.Private.ChainText.{front_text, fronts_text, link_text, links_text}
-pub use Rattle.jsonb.specs.Private.Compared.{IsMemberCompared, IsListCompared, items_truth, mirrored, RefinesIfAny}
+pub use Rattle.jsonb.specs.Private.Compared.{AreChildrenCompared, IsRootCompared, IsMemberCompared, IsListCompared, items_truth, mirrored, RefinesIfAny}
 pub use Rattle.jsonb.specs.Private.Copying.{IsOwningError, listed, held, around, framed, frame_waiting, waiting, frame_has_document, have_document, leaf_view, leaf_parts, progress_view, progress_has_document, leaf_has_document, so_far_has_document}
 pub use Rattle.jsonb.specs.Private.Counted.{waiting_parts, total}
 pub use Rattle.jsonb.specs.Private.Documents.{step_has_document, expression_has_document, has_document, steps_have_document}
@@ -42,10 +42,12 @@ pub use Rattle.jsonb.specs.Private.FilterCache.{is_condition, AreKept, is_compar
 pub use Rattle.jsonb.specs.Private.Frames.{joined_from, joined_view, joined_behind, IsUnclosed, IsPartial, closed, filter_step, steps_behind, IsOpened, AreFrames, goes_in_filter, as_path, IsOpening, opening_size, exists_closed}
 unfoldable pub use Rattle.jsonb.specs.Private.Frames.{partial_outcome, filter_front, opened_outcome, resumed, opening_outcome, after_condition_outcome}
 pub use Rattle.jsonb.specs.Private.Fronts.{filter_with, operand_steps, in_any_case}
+pub use Rattle.jsonb.specs.Private.ItemSteps.{AreGiven}
 pub use Rattle.jsonb.specs.Private.Jumps.{evaluated, next_jump, Branch, branches_of_whole, jump_truth, branches_of, taken, passed}
 pub use Rattle.jsonb.specs.Private.Last.{but_last, last_step, held_by, held_by_last, last_of, down, steps_down, step_down, step_before, last_before, steps_before, text_before, ends_in_filter, closing, is_same_opening, are_same_before, is_same_before}
 pub use Rattle.jsonb.specs.Private.Limited.{lifted}
-pub use Rattle.jsonb.specs.Private.Members.{is_member, are_members}
+pub use Rattle.jsonb.specs.Private.ItemSteps.{values_step}
+pub use Rattle.jsonb.specs.Private.Members.{is_member, are_members, root_name}
 pub use Rattle.jsonb.specs.Private.Operands.{IsAnswer, HasLeft, comparison_view, values_found, ComesNext, IsHeld, waits_expression, IsPending, IsOperand}
 pub use Rattle.jsonb.specs.Private.Pairs.{is_joined, IsPairOf}
 pub use Rattle.jsonb.specs.Private.Parts.{step_parts, expression_parts, parts, steps_parts, remaining}
@@ -53,9 +55,9 @@ pub use Rattle.jsonb.specs.Private.Positions.{IsBetween}
 pub use Rattle.jsonb.specs.Private.Repeated.{another_atom, another_and, another_entry, entry_list}
 pub use Rattle.jsonb.specs.Private.Running.{IsRunning, IsAtFilter, IsProgress, IsBeforeFilter, running_steps}
 pub use Rattle.jsonb.specs.Private.SamePath.{SameStep, SameExpression, path_value_order, is_same_literal, is_same_place, is_same_entry, is_same_end, is_same_level, is_same_sign, is_same_step, is_same_operator, are_same_steps, is_same_expression}
-pub use Rattle.jsonb.specs.Private.Search.{has_condition, IsSearched, FirstAhead, AreAhead, IsAhead, TakesStep, HasItems, TakesItem, AreGiven, IsReached, BeginsAs, conditions_in}
+pub use Rattle.jsonb.specs.Private.Search.{has_condition, IsSearched, FirstAhead, AreAhead, IsAhead, TakesStep, HasItems, TakesItem, IsReached, BeginsAs, conditions_in}
 pub use Rattle.jsonb.specs.Private.Selected.{array_of, selected_len}
-pub use Rattle.jsonb.specs.Private.Selection.{IsAt, node_spots, taken_step, only_number, IsNumberTree, IsNumberItem, value_view, only_expression, IsMadeItem, values_view, is_filter, option_spots, fail_if_strict, IsPlain, AreSelected, IsKept, step_expression, is_relative, HasTree}
+pub use Rattle.jsonb.specs.Private.Selection.{IsAt, node_spots, taken_step, only_number, IsNumberTree, IsNumberItem, value_view, only_expression, IsMadeItem, values_view, is_filter, option_spots, IsPlain, AreSelected, IsKept, step_expression, is_relative, HasTree}
 pub use Rattle.jsonb.specs.Private.Tests.{IsQuestionOf, AreTestsOf, tests_conditions, AreBranches, item_tests, question_conditions, tests_in, ArePlainTestsOf, AreMembersCompared, IsPlainQuestionOf, IsTestOf, is_plain, are_plain, test_conditions, is_settled, jump_to, right_of, pending, waiting_left, parts_to_compile}
 pub use Rattle.jsonb.specs.Private.Weights.{weight, step_weight, steps_weight, running_weight, question_weight, tests_weight, asked_weight, at_filter_weight, progress_weight, frame_weight, around_weight, asking_weight, items_weight, operand_weight, next_weight}
 pub use Rattle.jsonb.specs.Proofs.PathOrder.{container_with_none, antisymmetric, literal-same}
@@ -128,7 +130,7 @@ pub use Rattle.jsonb.specs.declared.selector.running.Running.{Running}
 pub use Rattle.jsonb.specs.declared.selector.search.Ahead.{Ahead}
 pub use Rattle.jsonb.specs.declared.selector.search.Items.{Items}
 pub use Rattle.jsonb.specs.declared.selector.search.SearchStep.{SearchStep}
-pub use Rattle.jsonb.specs.declared.selector.search.StepItems.{StepItems}
+pub use Rattle.jsonb.specs.declared.selector.children.StepItems.{StepItems}
 pub use Rattle.jsonb.specs.declared.selector.search.Waiting.{Waiting}
 pub use Rattle.jsonb.specs.declared.selector.selected.MadeItem.{MadeItem}
 pub use Rattle.jsonb.specs.declared.selector.selected.Selected.{Selected}

@@ -1,5 +1,5 @@
 -- What the type of an item says of its tree.
-use Rattle.jsonb.proofs.Common.{◌≡◌, List, ℕ, flat_map, Option, Some, None, Result, IsOkAnd, SameOption, HasSpotsLeft, Tree, Error, SpotIter, array_values, values_of, values_of_item, value_of_item, arith}
+use Rattle.jsonb.proofs.Common.{◌≡◌, List, ℕ, flat_map, Option, Some, None, Result, IsOkAnd, SameOption, HasSpotsLeft, Tree, Error, SpotIter, array_values, values_of, values_of_item, value_of_item, append-nil, arith}
 use Rattle.jsonb_doc.specs.Tree as tree
 
 -- the elements of an array, and the values of an object, as lists
@@ -19,4 +19,4 @@ pub values_of_array : (t : Tree) (ts : List Tree) → array_values t ≡ Some ts
 values_of_array t ts is = grind arith
 
 pub other_values : (t : Tree) → array_values t ≡ None → values_of_item t ≡ value_of_item t
-other_values t is = grind arith
+other_values t is = rw is (append-nil (value_of_item t))

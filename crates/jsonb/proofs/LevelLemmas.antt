@@ -14,6 +14,11 @@ pub shut_below : (levels : Option Levels) (n : ℕ) → (answer_at levels n).1 �
     → ((answer_at levels (n + 1)).0 ≡ false) × ((answer_at levels (n + 1)).1 ≡ false)
 shut_below levels n h = grind (arith, shut_level)
 
+-- an item is taken if its level is selected
+pub taken_is : (levels : Option Levels) (n : ℕ) (t : Tree) → taken_item levels n t ≡ (if (answer_at levels n).0 then t ∷ [] else [])
+taken_is None n t = refl
+taken_is (Some levels) n t = refl
+
 module _ (levels : Option Levels) where
   elements-is : (n : ℕ) (ts : Trees) → preorder_elements levels n ts ≡ flat_map (preorder levels n) (elements ts)
   elements-is n no_trees = refl
@@ -34,7 +39,7 @@ module _ (levels : Option Levels) where
 
   -- an item of a level that is not selected
   untaken : (n : ℕ) (t : Tree) → (answer_at levels n).0 ≡ false → taken_item levels n t ≡ []
-  untaken n t h = ap (λ b. if b then t ∷ [] else []) h
+  untaken n t h = taken_is levels n t ∙ ap (λ b. if b then t ∷ [] else []) h
 
   -- where neither this level nor one below it is selected
   mutual

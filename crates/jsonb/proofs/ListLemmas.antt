@@ -1,9 +1,9 @@
 -- Comparisons of members of the items of a list, in lax mode, in which none fails.
-use Rattle.jsonb.proofs.Common.{◌≡◌, List, [], ◌∷◌, ◌++◌, flat_map, map, true, false, Some, None, Ok, Err, IsOkAnd, refl, sym, ap, ◌∙◌, append_assoc, beq, flat_map-append, option_eq, not, Outcome, and_then, try_flat_map, Refines, IsOutOfMemory, Tree, Error, Expression, steps_of, steps_view, Truth, compare, first_decisive, Value, values_of_item, step_meaning, steps_meaning, truth, operand_values, start, IsMemberCompared, IsListCompared, items_truth, is_comparison, taken_step, MemberCompared, ListCompared, AreRefused, Mode, Lax, arith}
+use Rattle.jsonb.proofs.Common.{◌≡◌, List, [], ◌∷◌, ◌++◌, flat_map, map, true, false, Some, None, Ok, Err, IsOkAnd, refl, sym, ap, ◌∙◌, append_assoc, beq, flat_map-append, option_eq, not, Outcome, and_then, try_flat_map, Refines, IsOutOfMemory, Tree, Error, Expression, steps_of, steps_view, Truth, compare, first_decisive, Value, values_of_item, values_step, step_meaning, steps_meaning, truth, operand_values, start, IsMemberCompared, IsListCompared, items_truth, is_comparison, taken_step, MemberCompared, ListCompared, AreRefused, Mode, Lax, arith}
 use Rattle.jsonb.specs.PathTree as math
-use Rattle.jsonb.proofs.ComparedLemmas.{Any, AreTotal, all_total, members_are_total, members_total, comparison_total, told_by}
+use Rattle.jsonb.proofs.ComparedLemmas.{Any, AreTotal, all_total, compares_member, members_are_total, members_total, comparison_total, told_by}
 use Rattle.jsonb.proofs.KeptLemmas.{comparison_is}
-use Rattle.jsonb.proofs.MemberLemmas.{none_left}
+use Rattle.jsonb.proofs.MemberLemmas.{none_left, nothing_behind}
 use Rattle.jsonb.proofs.StepLemmas.{refused_steps}
 
 -- ---- a list in two parts
@@ -101,7 +101,7 @@ module _ (c : MemberCompared) where
 
 -- ---- steps to items, and then names of their members
 
-steps-append : (mode : Mode) (front names : List math.Step) (top : Tree) (us : List Tree) → steps_meaning mode (steps_of (front ++ names)) top us
+pub steps-append : (mode : Mode) (front names : List math.Step) (top : Tree) (us : List Tree) → steps_meaning mode (steps_of (front ++ names)) top us
     ≡ and_then (steps_meaning mode (steps_of front) top us) (steps_meaning mode (steps_of names) top)
 steps-append mode [] names top us = refl
 steps-append mode (s ∷ front) names top us = grind (arith, (steps-append mode front names top))
@@ -126,3 +126,18 @@ by_front list e top k = grind (arith, refused_steps)
 pub by_names : (list : ListCompared) (e : Expression) (top : Tree) (k : IsListCompared list e) → list.front.now ≡ []
     → truth Lax e top top ≡ truth Lax k.each top top
 by_names list e top k none = grind arith
+
+-- ---- children of a member
+
+only_values : (mode : Mode) (top : Tree) (us : List Tree) → steps_meaning mode (steps_of (math.dot_wildcard ∷ [])) top us ≡ try_flat_map (values_step mode) us
+only_values mode top us = nothing_behind mode top (try_flat_map (values_step mode) us)
+
+-- an expression whose operands are the children of the member and the literal
+pub compares_children : (mode : Mode) (op : math.BinaryOp) (names : List math.Step) (r : Expression) (literal : Value) (top t : Tree) → is_comparison op ≡ true →
+    operand_values mode r top t ≡ Ok (literal ∷ [])
+    → truth mode (math.binary op (math.paths (math.step math.current (steps_of (names ++ math.dot_wildcard ∷ [])))) r) top t
+    ≡ and_then (steps_meaning mode (steps_of names) top (t ∷ []))
+    (λ us. and_then (try_flat_map (values_step mode) us) (λ ts. Ok (compare op (flat_map values_of_item ts) (literal ∷ []))))
+compares_children mode op names r literal top t compares is =
+    compares_member mode op (steps_of (names ++ math.dot_wildcard ∷ [])) r literal top t compares is
+    ∙ grind (arith, steps-append mode names (math.dot_wildcard ∷ []) top (t ∷ []), only_values mode top)

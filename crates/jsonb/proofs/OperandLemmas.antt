@@ -1,5 +1,5 @@
 -- Comparisons and `exists` that wait for a path.
-use Rattle.jsonb.proofs.Common.{◌≡◌, ◌⊎◌, ℕ, List, length, flat_map, true, Option, Some, None, Ok, Err, IsOkAnd, ap, ◌∙◌, inl, inr, not, ◌==◌, AllZip, Outcome, and_then, IsOutOfMemory, Locates, Tree, Error, Spot, Expression, expression_view, Truth, Value, values_of_item, truth, operand_values, is_some_item, AreAlike, HasSame, is_comparison, comparison_view, values_found, ComesNext, HasLeft, IsHeld, waits_expression, values_view, Mode, AreDropped, FilterCache, OperandValues, Comparison, Waits, arith}
+use Rattle.jsonb.proofs.Common.{◌≡◌, ◌⊎◌, ℕ, List, length, flat_map, true, Option, Some, None, Ok, Err, IsOkAnd, ap, ◌∙◌, inl, inr, not, ◌==◌, AllZip, Outcome, and_then, IsOutOfMemory, Locates, Tree, Error, Spot, Expression, expression_view, Truth, Value, values_of_item, truth, operand_values, is_some, first_item, AreAlike, HasSame, is_comparison, comparison_view, values_found, ComesNext, HasLeft, IsHeld, waits_expression, values_view, Mode, AreDropped, FilterCache, OperandValues, Comparison, Waits, arith}
 use Rattle.jsonb.specs.declared.selector.filter_cache.CachedPart.TheVariants as part
 use Rattle.jsonb.specs.declared.selector.operands.Waits.TheVariants as waits
 use Rattle.jsonb.proofs.AlikeLemmas.{alike_then, alike_flat_map}
@@ -10,7 +10,7 @@ use Rattle.jsonb.proofs.RepeatLemmas.{alike_some}
 -- ---- what a path has selected
 
 pub exists_found : (bytes : List ℕ) (spots : List Spot) (o : Outcome (List Tree)) (whole : Outcome Truth) → whole
-    ≡ and_then o (λ us. Ok (Some (is_some_item us))) → IsOkAnd o (HasSame AreDropped bytes spots) → whole ≡ Ok (Some (not (length spots == 0)))
+    ≡ and_then o (λ us. Ok (Some (is_some (first_item us)))) → IsOkAnd o (HasSame AreDropped bytes spots) → whole ≡ Ok (Some (not (length spots == 0)))
 exists_found bytes spots o whole is h = grind (arith, some_related, alike_some)
 
 pub values_known : (bytes : List ℕ) (spots : List Spot) (o : Outcome (List Tree)) (values : Outcome (List Value)) (ls : List Value)
@@ -45,7 +45,7 @@ left_known mode top t all more cache c None next has =
 
 pub path_refused : (mode : Mode) (top t : Tree) (all more : List Expression) (cache : FilterCache) (w : Waits) (o : Outcome (List Tree)) (e : Error)
     → IsHeld mode top t all more cache w o → o ≡ Err e → truth mode (waits_expression w) top t ≡ Err e
-path_refused mode top t all more cache (waits.Exists found) o e held is = held.1 ∙ ap (λ p. and_then p (λ us. Ok (Some (is_some_item us)))) is
+path_refused mode top t all more cache (waits.Exists found) o e held is = held.1 ∙ ap (λ p. and_then p (λ us. Ok (Some (is_some (first_item us))))) is
 path_refused mode top t all more cache (waits.Left c) o e held is = left_refused mode top t c held.0.0 e ((held.1 ∙ ap values_found is))
 path_refused mode top t all more cache (waits.Right c lefts) o e held is =
     let known = left_known mode top t all more cache c lefts held.0 held.1 in

@@ -1,5 +1,5 @@
 -- The tree of a step and of an expression, one level opened.
-use Rattle.jsonb.proofs.Common.{◌≡◌, ap, ◌∙◌, Option, Vec, Box, Global, cow_str_bytes, CowStr, Step, Expression, steps_of, step_layer, expression_layer, step_view, expression_view, steps_view, literal_view, ArrayIndex, RecursiveLevel, BinaryOperator, UnaryOperator, PathValue, Path, out-Path, map-Path, fold_out-Path, Expr, out-Expr, map-Expr, fold_out-Expr, Expr-F, Path-F}
+use Rattle.jsonb.proofs.Common.{◌≡◌, List, [], ◌∷◌, ◌++◌, map-append, ap, ◌∙◌, Option, Vec, Box, Global, cow_str_bytes, CowStr, Step, Expression, steps_of, step_layer, expression_layer, step_view, expression_view, steps_view, literal_view, ArrayIndex, RecursiveLevel, BinaryOperator, UnaryOperator, PathValue, Path, out-Path, map-Path, fold_out-Path, Expr, out-Expr, map-Expr, fold_out-Expr, Expr-F, Path-F}
 use Rattle.jsonb.specs.PathTree as math
 use Rattle.jsonb.specs.declared.path.Path.TheVariants as step
 use Rattle.jsonb.specs.declared.path.Expr.TheVariants as expr
@@ -52,6 +52,14 @@ whole_is s e h = ap step_view h ∙ step_is _ _ (step.outs-Expr e)
 
 pub paths_is : (e : Expr) (steps : Vec Path Global) → e ≡ expr.Paths steps → expression_view e ≡ math.paths (steps_of (steps_view steps.items))
 paths_is e steps h = ap expression_view h ∙ expression_is _ _ (expr.outs-Paths steps)
+
+-- the children of a member: `@`, names, and `.*` at the end
+pub children_are : (e : Expr) (steps : Vec Path Global) (front names : List Path) (last : Path) → e ≡ expr.Paths steps → steps.items ≡ front ++ last ∷ []
+    → last ≡ step.DotWildcard → steps_view front ≡ math.current ∷ steps_view names
+    → expression_view e ≡ math.paths (math.step math.current (steps_of (steps_view names ++ math.dot_wildcard ∷ [])))
+children_are e steps front names last is whole wildcard begins =
+    paths_is e steps is ∙ ap (λ ss. math.paths (steps_of ss)) (ap steps_view whole ∙ map-append step_view front (last ∷ [])
+    ∙ ap (λ ss. ss ++ step_view last ∷ []) begins ∙ ap (λ s. math.current ∷ (steps_view names ++ s ∷ [])) (values_is last wildcard))
 
 pub literal_is : (e : Expr) (l : Box PathValue Global) → e ≡ expr.Value l → expression_view e ≡ math.value (literal_view l.value)
 literal_is e l h = ap expression_view h ∙ expression_is _ _ (expr.outs-Value l)

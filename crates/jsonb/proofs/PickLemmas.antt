@@ -1,5 +1,5 @@
 -- The elements that an index entry picks are those between its bounds.
-use Rattle.jsonb.proofs.Common.{◌≡◌, ℕ, zero, suc, ◌+◌, ◌-◌, ◌<◌, ◌≤◌, ◌↔◌, ℤ, pos, ◌≤ℤ◌, Bool, true, false, List, [], ◌∷◌, ◌++◌, length, take, drop, filter_map, slice_get, Some, None, nat_lt, refl, sym, ap, ◌∙◌, arith, append-nil, int_le, slice_range, Decides, cons_option, range_with_len, AllZip, nat_tests, ints, Tree, Entry, single, from_front, IsPosition, is_meant, picked_by, picked}
+use Rattle.jsonb.proofs.Common.{◌≡◌, ℕ, zero, suc, ◌+◌, ◌-◌, ◌<◌, ◌≤◌, ◌↔◌, ℤ, ◌≤ℤ◌, Bool, true, false, List, [], ◌∷◌, ◌++◌, length, take, drop, filter_map, slice_get, Some, None, refl, sym, ap, ◌∙◌, arith, append-nil, int_le, slice_range, Decides, cons_option, range_with_len, AllZip, ints, Tree, Entry, IsPosition, is_meant, picked_by, picked}
 use Rattle.std.proofs.Common.{filter}
 
 -- ---- the test and the relation agree
@@ -105,30 +105,18 @@ get_further ts first others k whole later = grind arith
 pub get_none : {B : Type 0} (ts : List B) (k : ℕ) → ts ≡ [] → slice_get ts k ≡ None
 get_none ts k is = rw is refl
 
-past_end : {B : Type 0} (ts : List B) (k : ℕ) → length ts ≤ k → slice_get ts k ≡ None
-past_end [] k h = refl
-past_end (t ∷ ts) zero h = absurd (omega (arith, h))
-past_end (t ∷ ts) (suc k) h = past_end ts k (omega (arith, h))
+-- ---- one subscript alone
 
-pub picked_plain : (k : ℕ) (ts : List Tree) → picked (single (from_front (pos k)) ∷ []) ts ≡ filter_map (slice_get ts) (k ∷ [])
-picked_plain k ts = append-nil (picked_by (single (from_front (pos k))) ts) ∙ by_order (nat_lt k (length ts)) refl
-  where
-    by_order : (b : Bool) → nat_lt k (length ts) ≡ b → picked_by (single (from_front (pos k))) ts ≡ filter_map (slice_get ts) (k ∷ [])
-    by_order true e =
-        let short : k < length ts = grind (arith, nat_tests) in
-        let here = get-drop ts k short in
-        let one : k + 1 - k ≡ 1 = omega arith in
-        picked_between (single (from_front (pos k))) ts k (k + 1) (omega arith) (omega arith)
-        (λ i inside. (λ h. (inside, let same : i ≡ k = omega (arith, h.0, h.1) in ap pos same), λ h. let same : i ≡ k = cc in (omega arith, omega arith)))
-        ∙ ap (λ n. take n (drop k ts)) one ∙ ap (take 1) here.2 ∙ sym (ap (λ o. cons_option o []) here.1)
-    by_order false e =
-        let past : length ts ≤ k = grind (arith, nat_tests) in
-        let none : length ts - length ts ≡ 0 = omega arith in
-        picked_between (single (from_front (pos k))) ts (length ts) (length ts) (omega arith) (omega arith)
-        (λ i inside. (λ h. absurd (omega (arith, h.0, h.1)), λ h. let same : i ≡ k = cc in absurd (omega arith)))
-        ∙ ap (λ n. take n (drop (length ts) ts)) none ∙ sym (ap (λ o. cons_option o []) (past_end ts k past))
+pub picked_only : (entries : List Entry) (entry : Entry) (ts : List Tree) (n start end : ℕ) → entries ≡ entry ∷ [] → n ≡ length ts → start ≤ end → end ≤ n →
+    ((k : ℕ) → k < n → ((start ≤ k) × (k < end)) ↔ IsPosition entry n k) → picked entries ts ≡ slice_range ts start end
+picked_only entries entry ts n start end is len h k meant =
+    ap (λ l. picked l ts) is ∙ append-nil (picked_by entry ts) ∙ picked_between entry ts start end h (rw len at k) (rw len at meant)
 
-pub picked_none : (entries : List Entry) (ts : List Tree) → length ts ≡ 0 → picked entries ts ≡ []
-picked_none [] ts h = refl
-picked_none (entry ∷ entries) [] h = picked_none entries [] h
-picked_none (entry ∷ entries) (t ∷ ts) h = absurd (omega (arith, h))
+pub between_none : (ts : List Tree) (start end : ℕ) → start ≡ end → slice_range ts start end ≡ []
+between_none ts start end same = let none : end - start ≡ 0 = omega arith in ap (λ n. take n (drop start ts)) none
+
+pub between_one : (ts : List Tree) (n start end : ℕ) → n ≡ length ts → end ≤ n → end - start ≡ 1
+    → slice_range ts start end ≡ filter_map (slice_get ts) (start ∷ [])
+between_one ts n start end len h one =
+    let here = get-drop ts start (omega (arith, len, h, one)) in
+    ap (λ m. take m (drop start ts)) one ∙ ap (take 1) here.2 ∙ sym (ap (λ o. cons_option o []) here.1)

@@ -1,5 +1,5 @@
 -- Results that refine meanings: what the result for a part says of the whole.
-use Rattle.jsonb.proofs.Common.{◌≡◌, ◌⊎◌, List, [], ◌∷◌, ◌++◌, Option, Some, None, option_map, Result, Ok, Err, OnOk, IfErr, IsOkAnd, IsErrAnd, refl, inl, inr, subst, sym, append-nil, length, map, rules, not, ◌==◌, Outcome, and_then, Refines, SameOption, IsOutOfMemory, Error, Tree, AllZip, is_some_item, list_or, fail_if_strict, Mode, arith}
+use Rattle.jsonb.proofs.Common.{◌≡◌, ◌⊎◌, List, [], ◌∷◌, ◌++◌, Option, Some, None, option_map, Result, Ok, Err, OnOk, IfErr, IsOkAnd, IsErrAnd, refl, inl, inr, subst, sym, append-nil, length, map, rules, not, ◌==◌, Outcome, and_then, Refines, SameOption, IsOutOfMemory, Error, Tree, AllZip, is_some, first_item, list_or, Mode, arith}
 
 -- ---- related lists
 
@@ -9,7 +9,7 @@ AllZip-append R (x ∷ xs) ys (u ∷ us) vs p q = (p.0, AllZip-append R xs ys us
 AllZip-append R _ ys _ vs p q = absurd p
 
 -- related lists are empty together
-pub some_related : {A : Type 0} (R : A → Tree → Type 0) (xs : List A) (ts : List Tree) → AllZip R xs ts → not (length xs == 0) ≡ is_some_item ts
+pub some_related : {A : Type 0} (R : A → Tree → Type 0) (xs : List A) (ts : List Tree) → AllZip R xs ts → not (length xs == 0) ≡ is_some (first_item ts)
 some_related R [] [] h = refl
 some_related R (x ∷ xs) (t ∷ ts) h = search rules
 some_related R _ _ h = absurd h
@@ -40,11 +40,6 @@ pushed R r old new x before u is none a h = pushed_all R r old new (x ∷ []) be
 pub unchanged : {A B : Type 0} (R : A → B → Type 0) (xs : List A) (before : List B) → AllZip R xs before →
     Refines {A = Unit {0}} (λ _ ts. AllZip R xs (before ++ ts)) IsOutOfMemory (Ok tt) (Ok [])
 unchanged R xs before a = record { ok = rw (sym (append-nil before)) at a; err = tt }
-
--- a step that doesn't fit yields nothing, or fails
-pub mismatches : {A : Type 0} (mode : Mode) (R : A → Tree → Type 0) (xs : List A) (before : List Tree) → AllZip R xs before →
-    Refines (λ _ ts. AllZip R xs (before ++ ts)) IsOutOfMemory (fail_if_strict mode) (list_or mode [] None)
-mismatches mode R xs before a = grind (arith, unchanged)
 
 -- ---- two parts, one after the other
 
@@ -143,12 +138,6 @@ module _ {A V : Type 0} {S : A → List Tree → Type 0} {r : Outcome A} (mode :
   pub unlisted : (o : Option (List Tree)) → SameOption R None o → Refines S IsOutOfMemory r (list_or mode otherwise None)
       → Refines S IsOutOfMemory r (list_or mode otherwise o)
   unlisted o h g = grind arith
-
--- one part that was found
-pub found_one : {A V : Type 0} {S : A → List Tree → Type 0} {r : Outcome A} (mode : Mode) (otherwise : List Tree) (R : V → Tree → Type 0)
-    (g : Tree → List Tree) (v : V) (o : Option Tree) →
-    SameOption R (Some v) o → ((u : Tree) → R v u → Refines S IsOutOfMemory r (Ok (g u))) → Refines S IsOutOfMemory r (list_or mode otherwise (option_map g o))
-found_one mode otherwise R g v o h go = grind arith
 
 -- nothing that was found
 pub none_found : {A V T : Type 0} {S : A → List Tree → Type 0} {r : Outcome A} (mode : Mode) (otherwise : List Tree) (R : V → T → Type 0)

@@ -1,5 +1,5 @@
 -- What an expression makes of lists that differ in repeats alone.
-use Rattle.jsonb.proofs.Common.{◌≡◌, ◌⊎◌, inl, inr, ℕ, ◌<◌, zero, suc, length, List, [], ◌∷◌, ◌++◌, map, flat_map, Bool, true, false, Some, None, Option, Ok, IsOkAnd, refl, sym, ap, subst, ◌∙◌, append_assoc, append-nil, arith, find, Contains, slice_index_or, AllZip, Outcome, and_then, Refines, IsOutOfMemory, kind_number, any, number_reader, Locates, spot_content, Tree, Spot, content_unique, steps_of, steps_view, Truth, compare, pair_truth, first_decisive, Value, step_meaning, steps_meaning, is_some_item, first_item, AreAlike, HasSame, AlikeOutcomes, SameOutcomes, items_truth, Mode, Lax, Repeats, MemberCompared}
+use Rattle.jsonb.proofs.Common.{◌≡◌, ◌⊎◌, inl, inr, ℕ, ◌<◌, zero, suc, length, List, [], ◌∷◌, ◌++◌, map, flat_map, Bool, true, false, Some, None, Option, Ok, IsOkAnd, refl, sym, ap, subst, ◌∙◌, append_assoc, append-nil, arith, find, Contains, slice_index_or, AllZip, Outcome, and_then, Refines, IsOutOfMemory, kind_number, any, number_reader, Locates, spot_content, Tree, Spot, content_unique, steps_of, steps_view, Truth, compare, pair_truth, first_decisive, Value, step_meaning, steps_meaning, is_some, first_item, AreAlike, HasSame, AlikeOutcomes, SameOutcomes, items_truth, Mode, Lax, Repeats, MemberCompared}
 use Rattle.jsonb.specs.PathTree as math
 use Rattle.jsonb.specs.Private.Alike.{AreSame}
 use Rattle.jsonb.specs.declared.selector.document.Repeats.TheVariants.{AreKept}
@@ -62,14 +62,14 @@ alike_first us ts h = found us ∙ h.finds (λ t. true) ∙ sym (found ts)
     found [] = refl
     found (t ∷ ts) = refl
 
-pub alike_some : (us ts : List Tree) → AreAlike us ts → is_some_item us ≡ is_some_item ts
+pub alike_some : (us ts : List Tree) → AreAlike us ts → is_some (first_item us) ≡ is_some (first_item ts)
 alike_some us ts h = found us ∙ ap is_found (h.finds (λ t. true)) ∙ sym (found ts)
   where
     is_found : Option Tree → Bool
     is_found None = false
     is_found (Some t) = true
 
-    found : (ts : List Tree) → is_some_item ts ≡ is_found (find (λ t. true) ts)
+    found : (ts : List Tree) → is_some (first_item ts) ≡ is_found (find (λ t. true) ts)
     found [] = refl
     found (t ∷ ts) = refl
 

@@ -1,11 +1,11 @@
 -- A walk to the first item that steps lead to, in lax mode: what is left, the innermost first, gives the list of the
 -- whole.
-use Rattle.jsonb.proofs.Common.{◌≡◌, ℕ, ◌+◌, ◌<◌, List, [], ◌∷◌, ◌++◌, length, take, get_or, map, inl, Bool, true, false, Option, Some, None, is_some, Result, Ok, Err, IsOkAnd, refl, sym, ap, subst, ◌∙◌, append-nil, reverse, map-append, reverse-append, take_more, Outcome, and_then, Refines, SameOption, IsOutOfMemory, Form, Locates, Tree, Error, Spot, Step, Expression, steps_of, step_view, steps_view, AllZip, step_meaning, steps_meaning, truth, filtered, is_some_item, first_item, RefinesIfAny, has_condition, IsSearched, FirstAhead, AreAhead, IsAhead, TakesStep, HasItems, TakesItem, AreGiven, IsReached, BeginsAs, IsAt, IsPlain, is_filter, node_spots, option_spots, taken_step, tests_in, ArePlainTestsOf, HasSame, AreDropped, Document, Path, Expressions, Lax, Condition, Ahead, SearchStep, Items, StepItems, NodeList, arith, Waiting}
+use Rattle.jsonb.proofs.Common.{◌≡◌, ℕ, ◌+◌, ◌<◌, List, [], ◌∷◌, ◌++◌, length, take, get_or, map, inl, Bool, true, false, Option, Some, None, is_some, Result, Ok, Err, IsOkAnd, refl, sym, ap, subst, ◌∙◌, append-nil, reverse, map-append, reverse-append, take_more, Outcome, and_then, Refines, SameOption, IsOutOfMemory, Form, Locates, Tree, Error, Spot, Step, Expression, steps_of, step_view, steps_view, AllZip, step_meaning, steps_meaning, truth, filtered, first_item, RefinesIfAny, has_condition, IsSearched, FirstAhead, AreAhead, IsAhead, TakesStep, HasItems, TakesItem, AreGiven, IsReached, BeginsAs, IsAt, IsPlain, is_filter, node_spots, option_spots, taken_step, tests_in, ArePlainTestsOf, HasSame, AreDropped, Document, Path, Expressions, Lax, Condition, Ahead, SearchStep, Items, StepItems, NodeList, arith, Waiting}
 use Rattle.jsonb.specs.PathTree as math
 use Rattle.jsonb.specs.Private.Search.{IsTested}
 use Rattle.jsonb.proofs.RepeatLemmas.{alike_first}
 use Rattle.jsonb.specs.declared.selector.search.SearchStep.TheVariants as search
-use Rattle.jsonb.specs.declared.selector.search.StepItems.TheVariants as given
+use Rattle.jsonb.specs.declared.selector.children.StepItems.TheVariants as given
 use Rattle.jsonb.specs.declared.selector.search.Reached.TheVariants as reached
 use Rattle.jsonb.specs.declared.selector.selected.Selected.TheVariants as selected
 use Rattle.jsonb.proofs.ComparedLemmas.{Any, AreTotal, listed_total, steps_total}
@@ -293,7 +293,7 @@ refused_if_any R r o is memory = subst (λ x. RefinesIfAny R x o) (sym is) (reco
 -- whether it is there
 pub found_any : (R : Spot → Tree → Type 0) (found : Option Spot) (b : Bool) (o : Outcome (List Tree)) → b ≡ is_some found
     → Refines {A = Option Spot} (λ f us. SameOption R f (first_item us)) IsOutOfMemory (Ok found) o
-    → Refines {A = Bool} (λ c us. c ≡ is_some_item us) IsOutOfMemory (Ok b) o
+    → Refines {A = Bool} (λ c us. c ≡ is_some (first_item us)) IsOutOfMemory (Ok b) o
 found_any R found b o is h = grind arith
 
 module _ (form : Form) (document : Document) where

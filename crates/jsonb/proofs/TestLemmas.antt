@@ -1,10 +1,10 @@
 -- Conditions that are compiled to tests.
-use Rattle.jsonb.proofs.Common.{◌≡◌, ℕ, ◌+◌, ◌≤◌, List, [], ◌∷◌, ◌++◌, length, take, get_or, map, flat_map, option_to_list, true, false, Option, Some, None, is_some, Ok, IsOkAnd, refl, sym, ap, ◌∙◌, subst, arith, length-append, reverse, not, ◌==◌, ◌&&◌, MatchOption, ⊤, AllZip, eqb-true, lt-leb, reverse-append, length-reverse, length-take-le, take_more, Outcome, and_then, Tree, Spot, Truth, compare, steps_meaning, truth, filtered, is_some_item, BinaryOp, and_op, or_op, current, Steps, step, Expression, paths, binary, steps_of, steps_view, expression_view, is_comparison, Branch, branches_of, branches_of_whole, next_jump, jump_truth, evaluated, option_spots, taken_step, is_joined, IsPairOf, AreMembersCompared, IsPlainQuestionOf, IsQuestionOf, IsTestOf, AreBranches, AreTestsOf, ArePlainTestsOf, is_plain, are_plain, test_conditions, tests_conditions, is_settled, jump_to, right_of, pending, waiting_left, values_of_item, AreRefused, Mode, Lax, Strict, Jump, MembersCompared, Question, Test, Pair, zip_along}
+use Rattle.jsonb.proofs.Common.{◌≡◌, ℕ, ◌+◌, ◌≤◌, List, [], ◌∷◌, ◌++◌, length, take, get_or, map, flat_map, option_to_list, true, false, Option, Some, None, is_some, Ok, IsOkAnd, refl, sym, ap, ◌∙◌, subst, arith, length-append, reverse, not, ◌==◌, ◌&&◌, MatchOption, ⊤, AllZip, eqb-true, lt-leb, reverse-append, length-reverse, length-take-le, take_more, Outcome, and_then, Tree, Spot, Truth, compare, steps_meaning, truth, filtered, first_item, BinaryOp, and_op, or_op, current, Steps, step, Expression, paths, binary, steps_of, steps_view, expression_view, is_comparison, Branch, branches_of, branches_of_whole, next_jump, jump_truth, evaluated, option_spots, taken_step, is_joined, IsPairOf, AreMembersCompared, IsPlainQuestionOf, IsQuestionOf, IsTestOf, AreBranches, AreTestsOf, ArePlainTestsOf, is_plain, are_plain, test_conditions, tests_conditions, is_settled, jump_to, right_of, pending, waiting_left, values_of_item, AreRefused, Mode, Lax, Strict, Jump, MembersCompared, Question, Test, Pair, zip_along}
 use Rattle.jsonb.specs.declared.selector.compile.Waiting.{Waiting}
 use Rattle.jsonb.specs.Private.Tests.{left_of}
 use Rattle.jsonb.specs.declared.selector.plan.Question.TheVariants as question
 pub use Rattle.jsonb_doc.proofs.Basics.{empty_of as none_waiting, innermost as last_first}
-use Rattle.jsonb.proofs.ComparedLemmas.{Any, comparison_total, members_total}
+use Rattle.jsonb.proofs.ComparedLemmas.{Any, children_total, comparison_total, members_total}
 use Rattle.jsonb.proofs.RefinesLemmas.{with_ok}
 use Rattle.jsonb.proofs.JumpLemmas.{evaluated-taken, at_end}
 use Rattle.jsonb.proofs.KeptLemmas.{comparison_is}
@@ -178,6 +178,7 @@ no_tests (x ∷ xs) e none a = cc
 
 pub question_total : (q : Question) (e : Expression) (top t : Tree) → IsPlainQuestionOf q e → IsOkAnd (truth Lax e top t) Any
 question_total (question.Compared c) e top t h = comparison_total c e top t h
+question_total (question.ChildrenCompared c) e top t h = children_total c e top t h
 question_total (question.MembersCompared c) e top t h =
     subst (λ o. IsOkAnd o Any) (sym (h.compares Lax top t))
     (with_ok Any (λ o. IsOkAnd o Any) (steps_meaning Lax (steps_of (steps_view c.left.now)) top (t ∷ []))
@@ -189,7 +190,7 @@ question_total (question.MembersCompared c) e top t h =
     (members_total (steps_view c.right.now) top (t ∷ []) h.right) (λ rs _. tt)))
 question_total (question.MemberFound found) e top t h =
     subst (λ o. IsOkAnd o Any) (sym (h.finds Lax top t))
-    (with_ok Any (λ o. IsOkAnd o Any) (steps_meaning Lax (steps_of (steps_view found.names.now)) top (t ∷ [])) (λ ts. Ok (Some (is_some_item ts)))
+    (with_ok Any (λ o. IsOkAnd o Any) (steps_meaning Lax (steps_of (steps_view found.names.now)) top (t ∷ [])) (λ ts. Ok (Some (is_some (first_item ts))))
     (members_total (steps_view found.names.now) top (t ∷ []) h.members) (λ ts _. tt))
 question_total (question.Expression part) e top t h = absurd h
 question_total question.Unknown e top t h = subst (λ o. IsOkAnd o Any) (sym (h Lax top t)) tt
@@ -232,7 +233,7 @@ settled _ _ Lax state top t h a = absurd a
 -- ---- members
 
 -- what was found is there if and only if the list has an item
-pub found_is_item : (R : Spot → Tree → Type 0) (found : Option Spot) (ts : List Tree) → AllZip R (option_spots found) ts → is_some found ≡ is_some_item ts
+pub found_is_item : (R : Spot → Tree → Type 0) (found : Option Spot) (ts : List Tree) → AllZip R (option_spots found) ts → is_some found ≡ is_some (first_item ts)
 found_is_item R found ts a = grind arith
 
 -- the truth by the steps as they are evaluated within an operand

@@ -1,8 +1,10 @@
 -- Paths that are one expression, and all others.
-use Rattle.jsonb.proofs.Common.{◌≡◌, List, [], ◌∷◌, map, Some, None, is_some, Option, true, false, Ok, refl, ap, sym, ◌∙◌, Box, Global, Outcome, and_then, Form, Tree, Step, Expression, steps_of, step_view, steps_meaning, truth, filtered, as_filter, Means, step_expression, only_expression, is_relative, taken_step, AreFilters, Mode, Expr, Path-F, roll-Path, roll-out-Path, Path, out-Path, arith}
+use Rattle.jsonb.proofs.Common.{◌≡◌, List, [], ◌∷◌, map, Some, None, is_some, Option, true, false, Ok, refl, ap, sym, ◌∙◌, Box, Global, Outcome, and_then, Form, Tree, Step, Expression, steps_of, step_view, steps_meaning, truth, filtered, as_filter, Means, step_expression, only_expression, is_relative, taken_step, AreFilters, has_condition, Mode, Expr, Path-F, roll-Path, roll-out-Path, Path, out-Path, arith, ℕ, flat_map, compare, field_step, expression_predicate, is_comparison, operand_values, operation, root_name, start, Value, values_of_item}
 use Rattle.jsonb.specs.PathTree as math
 use Rattle.jsonb.specs.declared.path.Path.TheVariants as step
+use Rattle.jsonb.proofs.KeptLemmas.{comparison_is}
 use Rattle.jsonb.proofs.PathNodes.{step_is}
+use Rattle.jsonb.proofs.PredicateLemmas.{binary_predicate, predicate_by_cases}
 use Rattle.jsonb.proofs.StepLemmas.{filter_steps, joined_one}
 
 -- a step that is not an expression is the same as a filter
@@ -13,6 +15,16 @@ others s _ h n = (ap as_filter (step_is s _ h) ∙ sym (step_is s _ h), ap step_
 
 pub no_step_expression : (s : Path) → ((e : Box Expr Global) → s ≡ step.Expr e → ⊥) → step_expression (step_view s) ≡ None
 no_step_expression s n = (others s (out-Path s) refl n).1
+
+no_condition_in : (s : Path) (x : Path-F Expr Path) → out-Path s ≡ x → ((e : Box Expr Global) → s ≡ step.FilterExpr e → ⊥)
+    → ((e : Box Expr Global) → s ≡ step.Expr e → ⊥) → has_condition (step_view s) ≡ false
+no_condition_in s (Path-F.FilterExpr e) h f w = absurd (f e (sym (roll-out-Path s) ∙ ap roll-Path h ∙ step.rolls-FilterExpr e))
+no_condition_in s (Path-F.Expr e) h f w = absurd (w e (sym (roll-out-Path s) ∙ ap roll-Path h ∙ step.rolls-Expr e))
+no_condition_in s _ h f w = ap has_condition (step_is s _ h)
+
+pub no_condition : (s : Path) → ((e : Box Expr Global) → s ≡ step.FilterExpr e → ⊥) → ((e : Box Expr Global) → s ≡ step.Expr e → ⊥)
+    → has_condition (step_view s) ≡ false
+no_condition s f w = no_condition_in s (out-Path s) refl f w
 
 pub lone_is : (path : List Step) (e : Expression) → only_expression path ≡ Some e → path ≡ math.whole_expression e ∷ []
 lone_is path e h = grind arith
@@ -43,3 +55,42 @@ some_of None h = cc
 
 pub none_of : {A : Type 0} (o : Option A) → is_some o ≡ false → o ≡ None
 none_of o h = grind arith
+
+-- ---- `$` and a name
+
+one_field : (mode : Mode) (o : Outcome (List Tree)) (top : Tree) → and_then o (steps_meaning mode math.no_steps top) ≡ o
+one_field mode o top = grind arith
+
+named_steps : (mode : Mode) (path : List Step) (name : List ℕ) (top : Tree) → root_name path ≡ Some name
+    → steps_meaning mode (steps_of path) top (top ∷ []) ≡ field_step mode name top
+named_steps mode (math.root ∷ math.dot_field n ∷ []) name top is = grind (arith, joined_one (field_step mode n) top, one_field)
+named_steps mode (math.root ∷ math.colon_field n ∷ []) name top is = grind (arith, joined_one (field_step mode n) top, one_field)
+named_steps mode (math.root ∷ math.object_field n ∷ []) name top is = grind (arith, joined_one (field_step mode n) top, one_field)
+named_steps mode _ name top is = cc
+
+pub named_meaning : (form : Form) (mode : Mode) (path : List Step) (name : List ℕ) (top : Tree) (outcome : Outcome (List Tree)) → root_name path ≡ Some name
+    → Means form mode path top outcome → outcome ≡ field_step mode name top
+named_meaning form mode (math.root ∷ math.dot_field n ∷ []) name top outcome is h = h ∙ named_steps mode (math.root ∷ math.dot_field n ∷ []) name top is
+named_meaning form mode (math.root ∷ math.colon_field n ∷ []) name top outcome is h = h ∙ named_steps mode (math.root ∷ math.colon_field n ∷ []) name top is
+named_meaning form mode (math.root ∷ math.object_field n ∷ []) name top outcome is h = h ∙ named_steps mode (math.root ∷ math.object_field n ∷ []) name top is
+named_meaning form mode _ name top outcome is h = cc
+
+named_start : (path : List Step) (name : List ℕ) (top t : Tree) → root_name path ≡ Some name → start (steps_of path) top t ≡ top
+named_start (math.root ∷ math.dot_field n ∷ []) name top t is = refl
+named_start (math.root ∷ math.colon_field n ∷ []) name top t is = refl
+named_start (math.root ∷ math.object_field n ∷ []) name top t is = refl
+named_start _ name top t is = cc
+
+no_operation : (op : math.BinaryOp) → is_comparison op ≡ true → operation op ≡ None
+no_operation op h = grind arith
+
+-- a comparison of such a path with a literal, as a predicate
+pub named_compared : (mode : Mode) (op : math.BinaryOp) (path : List Step) (name : List ℕ) (r : Expression) (literal : Value) (top : Tree) → root_name path ≡ Some name
+    → is_comparison op ≡ true → operand_values mode r top top ≡ Ok (literal ∷ [])
+    → expression_predicate mode (math.binary op (math.paths (steps_of path)) r) top
+    ≡ and_then (field_step mode name top) (λ ts. Ok (compare op (flat_map values_of_item ts) (literal ∷ [])))
+named_compared mode op path name r literal top named compares is =
+    predicate_by_cases mode (math.binary op (math.paths (steps_of path)) r) top
+    ∙ ap (λ o. binary_predicate mode o op (math.paths (steps_of path)) r top) (no_operation op compares)
+    ∙ rw (comparison_is mode op (math.paths (steps_of path)) r top top compares, is)
+    (grind (arith, named_start path name top top named, named_steps mode path name top named))

@@ -28,7 +28,6 @@ pub use Rattle.jsonb_doc.specs.Depth
 pub use Rattle.jsonb_doc.specs.Payload
 pub use Rattle.jsonb_doc.specs.Format
 pub use Rattle.jsonb_doc.specs.AnyBytes.Unsupported
-pub use Rattle.jsonb_doc.specs.AnyBytes.Unsupported
 pub use Rattle.jsonb_doc.specs.Limits
 pub use Rattle.jsonb_doc.specs.Answer
 pub use Rattle.jsonb_doc.specs.declared.value.Value as DecodedValue

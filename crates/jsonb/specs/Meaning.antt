@@ -1,5 +1,5 @@
 -- The meaning of a path on a tree: a list of items, or the first error.
-use Rattle.std.specs.Prelude.{◌≡◌, ◌&&◌, ◌||◌, Bool, true, List, [], ◌∷◌, map, flat_map, slice_get, Some, None, is_some, option_map, unwrap_or, Ok, Err, if◌then◌else◌}
+use Rattle.std.specs.Prelude.{◌≡◌, ◌&&◌, ◌||◌, true, List, [], ◌∷◌, map, flat_map, slice_get, Option, Some, None, is_some, option_map, unwrap_or, Ok, Err, if◌then◌else◌}
 use Rattle.std.specs.Option.{ok_or, option_map_or}
 use Rattle.jsonb_doc.specs.Answer.{Outcome, and_then, try_flat_map}
 use Rattle.jsonb_doc.specs.declared.error.Error.TheVariants.{InvalidJsonPath}
@@ -26,8 +26,9 @@ abbrev pub start : Steps → Tree → Tree → Tree
 start (step current rest) top item = item
 start _ top item = top
 
-abbrev pub is_some_item : List Tree → Bool
-is_some_item ts = is_some (slice_get ts 0)
+-- The first item.
+abbrev pub first_item : List Tree → Option Tree
+first_item ts = slice_get ts 0
 
 abbrev mutual
   -- One step, for one item of the document `top`.
@@ -69,7 +70,7 @@ abbrev mutual
       if is_some (operation op) then Ok None else and_then (operand_values mode l top item)
       (λ ls. and_then (operand_values mode r top item) (λ rs. Ok (compare op ls rs)))
   truth mode (exists steps) top item =
-      and_then (steps_meaning mode steps top (start steps top item ∷ [])) (λ ts. Ok (Some (is_some_item ts)))
+      and_then (steps_meaning mode steps top (start steps top item ∷ [])) (λ ts. Ok (Some (is_some (first_item ts))))
   truth mode _ top item = Err InvalidJsonPath
 
 -- ---- one expression as the whole path; the root is the item
@@ -79,16 +80,15 @@ abbrev pub truth_item : Truth → Tree
 truth_item b = unwrap_or (option_map tree.boolean b) tree.null
 
 -- Of a literal an array of it; for a document as a literal see `Means`. Of an arithmetic operator, which takes the
--- values of both operands first, a number; of another one a three-valued result.
+-- values of both operands first, a number; of another expression a three-valued result. A path alone has none.
 abbrev pub expression_meaning : Mode → Expression → Tree → Outcome (List Tree)
-expression_meaning mode (paths steps) top = Err InvalidJsonPath
 expression_meaning mode (value l) top =
     ok_or (option_map (λ t. tree.array (tree.trees_of (t ∷ [])) ∷ []) (literal_item l)) InvalidJsonPath
 expression_meaning mode (unary op e) top = and_then (operand_values mode e top top) (each_signed op)
 expression_meaning mode (binary op l r) top = option_map_or
     (λ o. and_then (operand_values mode l top top) (λ ls. and_then (operand_values mode r top top) (two_numbers o ls)))
     (operation op) (as_list truth_item (truth mode (binary op l r) top top))
-expression_meaning mode (exists steps) top = as_list truth_item (truth mode (exists steps) top top)
+expression_meaning mode e top = as_list truth_item (truth mode e top top)
 
 -- ---- whole paths
 

@@ -1,17 +1,13 @@
 -- The items that a recursive step selects.
-use Rattle.std.specs.Prelude.{ℕ, ◌+◌, Bool, true, List, [], ◌∷◌, ◌++◌, Option, Some, None, if◌then◌else◌}
+use Rattle.std.specs.Prelude.{ℕ, ◌+◌, List, [], ◌∷◌, ◌++◌, Option, Some, None, if◌then◌else◌}
 use Rattle.jsonb_doc.specs.Tree.{Tree, array, object, Trees, no_trees, tree, Pairs, no_pairs, pair}
 use Rattle.jsonb.specs.PathTree.{Levels}
 use Rattle.jsonb.specs.LevelTable.{at_level}
 
--- Whether an item of this level is selected, and whether one of a deeper level may be; without levels both.
-abbrev pub answer_at : Option Levels → ℕ → Bool × Bool
-answer_at (Some levels) n = at_level levels.end levels.start n
-answer_at None n = (true, true)
-
--- The item itself, if its level is selected.
+-- The item itself, if its level is selected; without levels each is.
 abbrev pub taken_item : Option Levels → ℕ → Tree → List Tree
-taken_item levels n t = if (answer_at levels n).0 then t ∷ [] else []
+taken_item (Some levels) n t = if (at_level levels.end levels.start n).0 then t ∷ [] else []
+taken_item None n t = t ∷ []
 
 -- The items from this one down, each before its children.
 abbrev mutual

@@ -1,5 +1,5 @@
 -- The results of a selector's calls, by the list of their path.
-use Rattle.std.specs.Prelude.{◌≡◌, ℕ, Bool, List, ◌∷◌, slice_get, Option, Some, Result, Vec, IsOkAnd, IsSomeAnd}
+use Rattle.std.specs.Prelude.{◌≡◌, ℕ, Bool, List, ◌∷◌, is_some, Option, Some, Result, Vec, IsOkAnd, IsSomeAnd}
 use Rattle.std.specs.declared.alloc.Global.{Global}
 use Rattle.std.specs.List.{AllZip, Any}
 use Rattle.jsonb_doc.specs.declared.error.Error.{Error}
@@ -11,13 +11,10 @@ use Rattle.jsonb_doc.specs.Limits.{IsTooLarge}
 use Rattle.jsonb_doc.specs.Tree.{Tree, array, trees_of}
 use Rattle.jsonb_raw.specs.declared.owned.OwnedJsonb.{OwnedJsonb}
 use Rattle.jsonb.specs.Compare.{Truth}
-use Rattle.jsonb.specs.Meaning.{Means, is_some_item, predicate}
+pub use Rattle.jsonb.specs.Meaning.{first_item}
+use Rattle.jsonb.specs.Meaning.{Means, predicate}
 use Rattle.jsonb.specs.PathTree.{Step}
 use Rattle.jsonb.specs.declared.selector.document.Mode.{Mode}
-
--- The first item.
-abbrev pub first_item : List Tree → Option Tree
-first_item ts = slice_get ts 0
 
 -- An array of several items, otherwise the only one, if there is one.
 abbrev pub single_or_array : List Tree → Option Tree
@@ -50,7 +47,7 @@ IsPicked pick form outcome answer = Refines (λ found ts. SameOption (Decodes fo
 
 -- Holds if the result is whether the path selects an item.
 abbrev pub IsFound : Form → Outcome (List Tree) → Result Bool Error → Type 0
-IsFound form outcome answer = Refines (λ b ts. b ≡ is_some_item ts) IsOutOfMemory answer outcome
+IsFound form outcome answer = Refines (λ b ts. b ≡ is_some (first_item ts)) IsOutOfMemory answer outcome
 
 -- Holds if the result is that of the path as a predicate on the document.
 abbrev pub IsTruthOf : Mode → List Step → List ℕ → Result Truth Error → Type 0

@@ -3,7 +3,8 @@ use Rattle.std.specs.Prelude.{ℕ, Bool, List, [], ◌∷◌, flat_map, slice_ge
 use Rattle.jsonb_doc.specs.Number.{Number}
 use Rattle.jsonb_doc.specs.View.{number_view}
 use Rattle.jsonb_doc.specs.Tree as tree
-use Rattle.jsonb_doc.specs.Tree.{Tree, elements}
+use Rattle.jsonb_doc.specs.Tree.{Tree}
+use Rattle.jsonb_raw.specs.Arrays.{as_elements}
 use Rattle.jsonb.specs.PathTree as path
 use Rattle.jsonb.specs.PathTree.{Literal}
 
@@ -26,8 +27,7 @@ value_of_item _ = container ∷ []
 
 -- The values of an item: of an array those of its elements.
 abbrev pub values_of_item : Tree → List Value
-values_of_item (tree.array ts) = flat_map value_of_item (elements ts)
-values_of_item t = value_of_item t
+values_of_item t = flat_map value_of_item (as_elements t)
 
 -- The item that a literal is, unless it is a document.
 abbrev pub literal_item : Literal → Option Tree

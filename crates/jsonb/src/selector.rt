@@ -3,10 +3,10 @@
 //! A selection is a list of positions in the bytes. Each step maps it to the next list. No item is copied before it is
 //! returned.
 
-ghost use Rattle.std.specs.Prelude.{◌≡◌, List, IsOkAnd, IfErr, OnOk};
+ghost use Rattle.std.specs.Prelude.{◌≡◌, List, IsOkAnd, IfErr, OnOk, is_some as has_value};
 ghost use Rattle.jsonb_doc.specs.Payload.{Form};
 ghost use Rattle.jsonb_doc.specs.Tree.{Tree};
-ghost use Rattle.jsonb.specs.Meaning.{is_some_item};
+ghost use Rattle.jsonb.specs.Meaning.{first_item};
 ghost use Rattle.jsonb_doc.specs.Format.{Decodes};
 ghost use Rattle.jsonb_doc.specs.Answer.{IsDecodingError, ◌or◌};
 ghost use Rattle.jsonb_doc.specs.AnyBytes.Roots.{HasReadableRoot};
@@ -49,6 +49,7 @@ mod values;
 mod whole_path;
 
 pub use self::by_path::SelectByPath;
+use self::compared_lists::{root_compared, root_compared_truth};
 use self::document::{Context, Document, Mode};
 use self::documents::{array_document, documents, first_document, value_document};
 pub use self::first_item::FirstItem;
@@ -58,7 +59,7 @@ use self::found::found_items;
 pub use self::limited::{LimitError, LimitedSelector};
 use self::selected::Selected;
 use self::whole_path::{
-    expression_truth, first_selection, only_expression, selection, selects_any,
+    expression_truth, first_selection, only_expression, root_member, selection, selects_any,
 };
 use crate::path::JsonPath;
 use jsonb_doc::{Error, Spot, root_spot};
@@ -367,7 +368,11 @@ impl<'a> Selector<'a> {
         ensures errors { IfErr result (IsSelectionError self.old.mode) }
         ensures readable { OnOk result (HasReadableRoot (raw_bytes self.old.root)) }
     {
-        let document = at_root(self.root.as_bytes())?;
+        let bytes = self.root.as_bytes();
+        if let Some(found) = root_member(self.mode, bytes, &path.paths)? {
+            return Ok(found.is_some());
+        }
+        let document = at_root(bytes)?;
         let context = context_of(self.alloc, self.mode, document);
         selects_any(&context, &path.paths)
     }
@@ -401,6 +406,9 @@ impl<'a> Selector<'a> {
         match only_expression(&path.paths) {
             Some(e) => {
                 let bytes = self.root.as_bytes();
+                if let Some(compared) = root_compared(e) {
+                    return root_compared_truth(self.mode, compared, bytes);
+                }
                 let document = at_root(bytes)?;
                 let context = context_of(self.alloc, self.mode, document);
                 expression_truth(&context, e)
@@ -456,7 +464,7 @@ fn selected_at<'s>(
 /// Returns `true` if anything is selected.
 fn is_some(selected: &Selected<'_>) -> bool
     ensures { (form : Form) (document : Document) (ts : List Tree) → AreSelected form document selected.now ts
-        → result ≡ is_some_item ts }
+        → result ≡ has_value (first_item ts) }
 {
     match selected {
         Selected::Nodes(spots) => !spots.as_slice().is_empty(),

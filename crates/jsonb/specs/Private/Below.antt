@@ -5,10 +5,16 @@ use Rattle.jsonb_doc.specs.declared.spot.Spot.{Spot}
 use Rattle.jsonb_doc.specs.declared.spot_iter.SpotIter.{SpotIter}
 use Rattle.jsonb_doc.specs.Tree.{Tree}
 use Rattle.jsonb.specs.PathTree.{Levels}
-use Rattle.jsonb.specs.Preorder.{answer_at, taken_item, preorder}
+use Rattle.jsonb.specs.LevelTable.{at_level}
+use Rattle.jsonb.specs.Preorder.{taken_item, preorder}
 use Rattle.std.specs.List.{AllZip}
 use Rattle.jsonb.specs.declared.selector.levels.LevelRange.{LevelRange}
 use Rattle.jsonb.specs.declared.selector.levels.OpenLevel.{OpenLevel}
+
+-- whether an item of this level is selected, and whether one of a deeper level may be; without levels both
+abbrev pub answer_at : Option Levels → ℕ → Bool × Bool
+answer_at (Some levels) n = at_level levels.end levels.start n
+answer_at None n = (true, true)
 
 -- these items are left at this level, of which more than 256 count as 256
 abbrev pub HasLeft : List ℕ → OpenLevel → List Tree → ℕ → Type 0

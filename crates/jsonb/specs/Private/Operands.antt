@@ -1,12 +1,12 @@
 -- A comparison or `exists` that waits for the path of an operand, or for its own.
-use Rattle.std.specs.Prelude.{◌≡◌, ◌⊎◌, true, List, ◌∷◌, flat_map, Option, Some, None, Ok, Err, IsOkAnd}
+use Rattle.std.specs.Prelude.{◌≡◌, ◌⊎◌, true, List, ◌∷◌, flat_map, Option, Some, None, is_some, Ok, Err, IsOkAnd}
 use Rattle.jsonb_doc.specs.Answer.{Outcome, and_then, IsOutOfMemory}
 use Rattle.jsonb_doc.specs.Tree.{Tree}
 use Rattle.jsonb.specs.PathTree.{Expression, binary, exists, steps_of}
 use Rattle.jsonb.specs.PathViews.{expression_view, steps_view}
 use Rattle.jsonb.specs.Compare.{Truth}
 use Rattle.jsonb.specs.Values.{Value, values_of_item}
-use Rattle.jsonb.specs.Meaning.{truth, operand_values, is_some_item}
+use Rattle.jsonb.specs.Meaning.{truth, operand_values, first_item}
 use Rattle.jsonb.specs.Private.Alike.{AreAlike}
 use Rattle.jsonb.specs.Private.FilterCache.{is_comparison, AreKept, kept_part}
 use Rattle.jsonb.specs.Private.Running.{IsAtFilter}
@@ -63,7 +63,7 @@ abbrev pub IsHeld : Mode → Tree → Tree → List Expression → List Expressi
 IsHeld mode top t all more cache (waits.Exists found) o =
     AreKept mode top cache all (exists (steps_of (steps_view found.steps.now)) ∷ more)
     × (truth mode (exists (steps_of (steps_view found.steps.now))) top t
-    ≡ and_then o (λ us. Ok (Some (is_some_item us))))
+    ≡ and_then o (λ us. Ok (Some (is_some (first_item us)))))
 IsHeld mode top t all more cache (waits.Left c) o =
     ComesNext mode top all more cache c × (operand_values mode (expression_view c.left.now) top t ≡ values_found o)
 IsHeld mode top t all more cache (waits.Right c lefts) o =

@@ -1,16 +1,18 @@
 -- The first item that steps select, in lax mode. Each step is evaluated item by item.
-use Rattle.std.specs.Prelude.{◌≡◌, ℕ, Bool, true, false, List, [], ◌∷◌, ◌++◌, reverse, Option, Some, None, Result, Ok, IfOk}
-use Rattle.jsonb_doc.specs.Answer.{Outcome, Refines, IsOutOfMemory}
+use Rattle.std.specs.Prelude.{◌≡◌, ℕ, Bool, true, false, List, [], ◌∷◌, ◌++◌, reverse, map, Option, Some, None, Result, Ok, IfOk}
+use Rattle.jsonb_doc.specs.Answer.{Outcome, Refines, SameOption, IsOutOfMemory}
 use Rattle.jsonb_doc.specs.Payload.{Form}
 use Rattle.jsonb_doc.specs.Representation.Positions.{Locates, HasSpotsLeft}
 use Rattle.jsonb_doc.specs.Tree.{Tree}
 use Rattle.jsonb_doc.specs.declared.error.Error.{Error}
 use Rattle.jsonb_doc.specs.declared.spot.Spot.{Spot}
 use Rattle.jsonb.specs.PathTree.{Step, filter, whole_expression, Expression, steps_of}
-use Rattle.jsonb.specs.PathViews.{step_view}
+use Rattle.jsonb.specs.PathViews.{step_view, steps_view}
 use Rattle.std.specs.List.{AllZip}
 use Rattle.jsonb.specs.Meaning.{steps_meaning}
-use Rattle.jsonb.specs.Private.Selection.{AreSelected, option_spots, taken_step}
+use Rattle.jsonb.specs.Private.Compared.{RefinesIfAny}
+use Rattle.jsonb.specs.Private.ItemSteps.{AreGiven}
+use Rattle.jsonb.specs.Private.Selection.{IsAt, AreSelected, option_spots, taken_step}
 use Rattle.jsonb.specs.Private.Tests.{tests_in, ArePlainTestsOf}
 use Rattle.jsonb.specs.SelectorAnswers.{first_item}
 use Rattle.jsonb.specs.declared.path.Path.{Path}
@@ -25,8 +27,7 @@ use Rattle.jsonb.specs.declared.selector.search.SearchStep.{SearchStep}
 use Rattle.jsonb.specs.declared.selector.search.SearchStep.TheVariants as search
 use Rattle.jsonb.specs.declared.selector.search.Items.{Items}
 use Rattle.jsonb.specs.declared.selector.search.Items.TheVariants as items
-use Rattle.jsonb.specs.declared.selector.search.StepItems.{StepItems}
-use Rattle.jsonb.specs.declared.selector.search.StepItems.TheVariants as given
+use Rattle.jsonb.specs.declared.selector.children.StepItems.{StepItems}
 use Rattle.jsonb.specs.declared.selector.search.Reached.{Reached}
 use Rattle.jsonb.specs.declared.selector.search.Reached.TheVariants as reached
 use Rattle.jsonb.specs.declared.selector.selected.Selected.{Selected}
@@ -91,15 +92,10 @@ TakesItem bytes [] None after = HasItems bytes after []
 TakesItem bytes (t ∷ ts) (Some (Ok spot)) after = Locates bytes spot t × HasItems bytes after ts
 TakesItem bytes _ _ after = ⊥
 
--- these are the items that a step gives
-abbrev pub AreGiven : List ℕ → StepItems → List Tree → Type 0
-AreGiven bytes (given.AtMostOne found) ts = AllZip (Locates bytes) (option_spots found) ts
-AreGiven bytes (given.Many left) ts = HasItems bytes left ts
-
--- Holds if the result is what the step selects of the tree at a position.
-abbrev pub GivesItems : List ℕ → Spot → Result StepItems Error → (Tree → Outcome (List Tree)) → Type 0
-GivesItems bytes item answer step =
-    (t : Tree) → Locates bytes item t → Refines (AreGiven bytes) IsOutOfMemory answer (step t)
+-- the result is what a step selects, as the items that are left
+abbrev pub GivesLeft : List ℕ → StepItems → Outcome Items → Type 0
+GivesLeft bytes given answer =
+    (ts : List Tree) → AreGiven bytes given ts → Refines (HasItems bytes) IsOutOfMemory answer (Ok ts)
 
 -- the steps lead from the item to one at most, or to those that are left, with steps before them
 abbrev pub IsReached : List ℕ → Tree → Tree → List Step → Reached → Type 0
@@ -110,6 +106,12 @@ IsReached bytes top t ss (reached.Many inner) =
     (us : List Tree) × (rest : List Step) × HasItems bytes inner.items us
     × IsAhead inner.ahead rest
     × (steps_meaning Lax (steps_of ss) top (t ∷ []) ≡ steps_meaning Lax (steps_of rest) top us)
+
+-- the result is the first item that the steps select from an item, if it is known
+abbrev pub FindsFirst : Document → Expressions → List Path → Spot → Outcome (Option (Option Spot)) → Type 0
+FindsFirst document expressions steps first answer = (top t : Tree) → IsAt document first t
+    → RefinesIfAny (λ found us. SameOption (IsAt document) found (first_item us)) answer
+    (steps_meaning Lax (steps_of (map (taken_step expressions) (steps_view steps))) top (t ∷ []))
 
 -- what is selected begins as these trees do
 abbrev pub BeginsAs : Form → Document → Selected → List Tree → Type 0

@@ -1,8 +1,7 @@
 -- What a path selects: places of the document, or what an expression makes.
-use Rattle.std.specs.Prelude.{◌≡◌, ℕ, Bool, true, false, List, [], ◌∷◌, ◌++◌, map, Option, Some, None, Result, Ok, Err, if◌then◌else◌}
+use Rattle.std.specs.Prelude.{◌≡◌, ℕ, Bool, true, false, List, [], ◌∷◌, map, Option, Some, None, Result, if◌then◌else◌}
 use Rattle.jsonb_doc.specs.Answer.{Outcome, Refines, IsOutOfMemory}
 use Rattle.jsonb_doc.specs.declared.error.Error.{Error}
-use Rattle.jsonb_doc.specs.declared.error.Error.TheVariants.{InvalidJsonPath, StrictPath}
 use Rattle.jsonb_doc.specs.declared.spot.Spot.{Spot}
 use Rattle.jsonb_doc.specs.declared.number.Number.{Number as CodeNumber}
 use Rattle.jsonb_doc.specs.Number.{Number}
@@ -18,7 +17,6 @@ use Rattle.std.specs.List.{AllZip}
 use Rattle.jsonb.specs.Values as val
 use Rattle.jsonb.specs.declared.selector.document.Document.{Document}
 use Rattle.jsonb.specs.declared.selector.document.Mode.{Mode}
-use Rattle.jsonb.specs.declared.selector.document.Mode.TheVariants.{Lax, Strict}
 use Rattle.jsonb.specs.declared.selector.document.Expressions.{Expressions}
 use Rattle.jsonb.specs.declared.selector.document.Expressions.TheVariants as expressions
 use Rattle.jsonb.specs.declared.selector.operand_value.OperandValue.{OperandValue}
@@ -38,18 +36,6 @@ IsAt document spot t = Locates document.bytes.now spot t
 
 abbrev pub HasTree : Document → Tree → Type 0
 HasTree document t = IsAt document document.root t
-
--- what a step selects from the tree at a position is appended to the positions that the list had
-abbrev pub PushesStep : List ℕ → Spot → List Spot → List Spot → Result (Unit {0}) Error
-    → (Tree → Outcome (List Tree)) → Type 0
-PushesStep bytes item old new answer step =
-    (t : Tree) (before : List Tree) → Locates bytes item t → AllZip (Locates bytes) old before
-    → Refines (λ _ ts. AllZip (Locates bytes) new (before ++ ts)) IsOutOfMemory answer (step t)
-
--- the result of a step that does not apply to the item: an error in strict mode
-abbrev pub fail_if_strict : Mode → Result (Unit {0}) Error
-fail_if_strict Lax = Ok tt
-fail_if_strict Strict = Err StrictPath
 
 -- the value that an operand's value is
 abbrev pub value_view : OperandValue → val.Value

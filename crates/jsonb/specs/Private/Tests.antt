@@ -1,5 +1,5 @@
 -- The tests that a condition is compiled to.
-use Rattle.std.specs.Prelude.{◌≡◌, ◌==◌, ◌&&◌, ◌+◌, ℕ, Bool, true, false, not, List, [], ◌∷◌, length, flat_map, reverse, sum_by, Option, Some, None, Result, Ok}
+use Rattle.std.specs.Prelude.{◌≡◌, ◌==◌, ◌&&◌, ◌+◌, ℕ, Bool, true, false, not, List, [], ◌∷◌, length, flat_map, reverse, sum_by, Option, Some, None, is_some, Result, Ok}
 use Rattle.std.specs.List.{AllZip}
 use Rattle.jsonb_doc.specs.Answer.{and_then, Refines, IsOutOfMemory}
 use Rattle.jsonb_doc.specs.Tree.{Tree}
@@ -8,8 +8,8 @@ use Rattle.jsonb.specs.PathTree.{Expression, steps_of}
 use Rattle.jsonb.specs.PathViews.{steps_view, expression_view}
 use Rattle.jsonb.specs.Compare.{Truth, compare}
 use Rattle.jsonb.specs.Values.{values_of_item}
-use Rattle.jsonb.specs.Meaning.{steps_meaning, truth, is_some_item}
-use Rattle.jsonb.specs.Private.Compared.{IsMemberCompared}
+use Rattle.jsonb.specs.Meaning.{steps_meaning, truth, first_item}
+use Rattle.jsonb.specs.Private.Compared.{IsMemberCompared, AreChildrenCompared}
 use Rattle.jsonb.specs.Private.FilterCache.{is_condition}
 use Rattle.jsonb.specs.Private.Jumps.{Branch, branches_of, branches_of_whole}
 use Rattle.jsonb.specs.Private.Members.{are_members}
@@ -49,11 +49,12 @@ pub record IsMemberFound (found : MemberFound) (e : Expression) : Type 0 where
   pub members : are_members (steps_view found.names.now) ≡ true
   pub finds : (mode : Mode) (top t : Tree) → truth mode e top t
       ≡ and_then (steps_meaning mode (steps_of (steps_view found.names.now)) top (t ∷ []))
-      (λ ts. Ok (Some (is_some_item ts)))
+      (λ ts. Ok (Some (is_some (first_item ts))))
 
 -- the question is of members of the item, or unknown, and has the truth of the expression
 abbrev pub IsPlainQuestionOf : Question → Expression → Type 0
 IsPlainQuestionOf (question.Compared c) e = IsMemberCompared c e
+IsPlainQuestionOf (question.ChildrenCompared c) e = AreChildrenCompared c e
 IsPlainQuestionOf (question.MembersCompared c) e = AreMembersCompared c e
 IsPlainQuestionOf (question.MemberFound found) e = IsMemberFound found e
 IsPlainQuestionOf question.Unknown e = (mode : Mode) (top t : Tree) → truth mode e top t ≡ Ok None

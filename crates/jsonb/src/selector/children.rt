@@ -1,26 +1,25 @@
 //! The positions of an item's children, and of what a step without an expression selects.
 
-ghost use Rattle.std.specs.Prelude.{◌≡◌, ℕ, ◌<◌, ◌^◌, ◌++◌, ◌∷◌, [], map, List, Ok, false, IfOk, IfSome, IfErr, OnOk, IsOkAnd, if◌then◌else◌, pos, ⊤, MatchOption, filter_map, slice_get};
+ghost use Rattle.std.specs.Prelude.{◌≡◌, ℕ, ◌<◌, ◌^◌, ◌++◌, ◌∷◌, [], List, Ok, None, false, IfOk, IfSome, IfErr, OnOk, IsOkAnd, if◌then◌else◌, ⊤, MatchOption, filter_map, slice_get};
 ghost use Rattle.jsonb_doc.specs.Answer.{Refines, SameOption, IsOutOfMemory, ◌or◌, IsDecodingError};
-ghost use Rattle.jsonb_doc.specs.declared.error.Error.TheVariants.{OutOfMemory, StrictPath};
+ghost use Rattle.jsonb_doc.specs.declared.error.Error.TheVariants.{OutOfMemory};
 ghost use Rattle.jsonb_doc.specs.Representation.Positions.{Locates, HasSpotsLeft};
 ghost use Rattle.jsonb_doc.specs.AnyBytes.Spots.{spots_bound};
 ghost use Rattle.jsonb_doc.specs.Tree.{Tree};
 ghost use Rattle.jsonb_raw.specs.Arrays.{array_values};
-ghost use Rattle.jsonb.specs.PathTree.{single, from_front};
 ghost use Rattle.jsonb.specs.PathViews.{step_view};
 ghost use Rattle.std.specs.List.{AllZip};
-ghost use Rattle.jsonb.specs.ItemSteps.{values_of, field_step, picked_by, picked};
-ghost use Rattle.jsonb.specs.Private.ItemSteps.{values_step, elements_step, indices_step};
+ghost use Rattle.jsonb.specs.ItemSteps.{values_of, list_or, picked_by, picked};
+ghost use Rattle.jsonb.specs.Private.ItemSteps.{values_step, elements_step, indices_step, AreGiven, GivesItems};
 ghost use Rattle.jsonb.specs.Meaning.{step_meaning};
-ghost use Rattle.jsonb.specs.Private.Selection.{PushesStep, is_filter, fail_if_strict};
+ghost use Rattle.jsonb.specs.Private.Selection.{is_filter, option_spots};
 ghost use Rattle.jsonb.specs.SelectionErrors.{IsSelectionError};
-ghost use Rattle.jsonb.specs.declared.selector.document.Mode.TheVariants.{Lax, Strict};
 
 use super::document::Mode;
 use super::levels::push_levels;
-use crate::path::{ArrayIndex, Index, Path};
-use jsonb_doc::{Error, Spot, SpotIter, element_spots, field_spot, spot_by_parts, value_spots};
+use super::members::member_of;
+use crate::path::{ArrayIndex, Path, RecursiveLevel};
+use jsonb_doc::{Error, Spot, SpotIter, element_spots, spot_by_parts, value_spots};
 use std::alloc::Global;
 
 /// Returns the elements of an array, or `None` for another item.
@@ -85,113 +84,171 @@ pub(crate) fn push_spots(spots: SpotIter<'_>, nodes: &mut Vec<Spot>) -> Result<(
     Ok(())
 }
 
-/// Appends what a step that is not a filter selects of one item.
+/// What a step without an expression selects of an item.
+#[derive(Clone, Copy)]
+pub(crate) enum StepItems<'t> {
+    AtMostOne(Option<Spot>),
+    Children(SpotIter<'t>),
+    /// The elements at the positions of the subscripts.
+    Picked(&'t [ArrayIndex], SpotIter<'t>),
+    /// The items from this one down.
+    Levels(Option<RecursiveLevel>, Spot),
+}
+
+impl<'t> StepItems<'t> {
+    /// Appends the items.
+    #[inline(always)]
+    pub(crate) fn push(
+        self,
+        alloc: Global,
+        bytes: &[u8],
+        nodes: &mut Vec<Spot>,
+    ) -> Result<(), Error>
+        ensures meant { (ts before : List Tree) → AreGiven bytes.now self.entry ts
+            → AllZip (Locates bytes.now) nodes.old.items before
+            → Refines (λ _ us. AllZip (Locates bytes.now) nodes.new.items (before ++ us)) IsOutOfMemory result (Ok ts) }
+        ensures errors { IfErr result (IsDecodingError or OutOfMemory) }
+    {
+        match self {
+            StepItems::AtMostOne(Some(item)) => push_spot(nodes, item),
+            StepItems::AtMostOne(None) => Ok(()),
+            StepItems::Children(children) => push_spots(children, nodes),
+            StepItems::Picked(entries, elements) => push_picked(alloc, elements, entries, nodes),
+            StepItems::Levels(levels, item) => push_levels(alloc, bytes, levels, 0, item, nodes),
+        }
+    }
+}
+
+/// Returns what a step without an expression selects of an item.
 #[inline(always)]
-pub(crate) fn push_step(
-    alloc: Global,
+pub(crate) fn plain_items<'t>(
     mode: Mode,
-    step: &Path<'_>,
-    bytes: &[u8],
+    step: &'t Path<'_>,
+    bytes: &'t [u8],
     item: Spot,
-    nodes: &mut Vec<Spot>,
-) -> Result<(), Error>
-    ensures meant { (top t : Tree) (before : List Tree) → is_filter (step_view step.now) ≡ false
-        → Locates bytes.now item t → AllZip (Locates bytes.now) nodes.old.items before
-        → Refines (λ _ ts. AllZip (Locates bytes.now) nodes.new.items (before ++ ts))
-        IsOutOfMemory result (step_meaning mode (step_view step.now) top t) }
+) -> Result<StepItems<'t>, Error>
+    ensures meant { (top t : Tree) → is_filter (step_view step.now) ≡ false → Locates bytes.now item t
+        → Refines (AreGiven bytes.now) IsOutOfMemory result (step_meaning mode (step_view step.now) top t) }
     ensures errors { IfErr result (IsSelectionError mode) }
 {
     match step {
-        Path::DotWildcard => push_values(bytes, mode, item, nodes),
-        Path::BracketWildcard => push_elements(bytes, mode, item, nodes),
-        Path::ArrayIndices(entries) => push_positions(alloc, bytes, mode, entries, item, nodes),
-        Path::RecursiveDotWildcard(levels) => push_levels(alloc, bytes, *levels, 0, item, nodes),
-        Path::Root | Path::Current => push_spot(nodes, item),
-        Path::DotField(name) => push_field(bytes, mode, name.as_str(), item, nodes),
-        Path::ColonField(name) => push_field(bytes, mode, name.as_str(), item, nodes),
-        Path::ObjectField(name) => push_field(bytes, mode, name.as_str(), item, nodes),
+        Path::DotWildcard => value_items(mode, bytes, item),
+        Path::BracketWildcard => element_items(mode, bytes, item),
+        Path::ArrayIndices(entries) => picked_items(mode, entries, bytes, item),
+        Path::RecursiveDotWildcard(levels) => Ok(StepItems::Levels(*levels, item)),
+        Path::Root
+        | Path::Current
+        | Path::DotField(_)
+        | Path::ColonField(_)
+        | Path::ObjectField(_) => {
+            let found = member_of(mode, step, bytes, item)?;
+            Ok(StepItems::AtMostOne(found))
+        }
         Path::FilterExpr(_) | Path::Expr(_) => Err(Error::InvalidJsonPath),
     }
 }
 
-/// Returns the result of a step that does not apply to an item: in strict mode an error.
+/// Returns children as items. Without children, nothing is left to visit.
 #[inline(always)]
-pub(crate) fn fail_if_strict(mode: Mode) -> Result<(), Error>
-    ensures answer { result ≡ fail_if_strict mode }
-    ensures lax { OnOk result (mode ≡ Lax) }
-    ensures strict { IfErr result (λ e. (mode ≡ Strict) × (e ≡ StrictPath)) }
+fn child_items<'t>(children: SpotIter<'t>) -> StepItems<'t>
+    ensures { (bytes : List ℕ) (ts : List Tree) → HasSpotsLeft bytes children.entry ts → AreGiven bytes result ts }
+{
+    if children.len() == 0 {
+        return StepItems::AtMostOne(None);
+    }
+    StepItems::Children(children)
+}
+
+/// Returns the values of an object.
+#[inline(always)]
+fn value_items<'t>(mode: Mode, bytes: &'t [u8], item: Spot) -> Result<StepItems<'t>, Error>
+    ensures meant { GivesItems bytes.now item result (values_step mode) }
+    ensures errors { IfErr result (IsSelectionError mode) }
+{
+    match values(bytes, item)? {
+        Some(children) => Ok(child_items(children)),
+        None => at_mismatch(mode, None),
+    }
+}
+
+/// Returns the elements of an array. In lax mode another item is its own element.
+#[inline(always)]
+fn element_items<'t>(mode: Mode, bytes: &'t [u8], item: Spot) -> Result<StepItems<'t>, Error>
+    ensures meant { GivesItems bytes.now item result (elements_step mode) }
+    ensures errors { IfErr result (IsSelectionError mode) }
+{
+    match elements(bytes, item)? {
+        Some(children) => Ok(child_items(children)),
+        None => at_mismatch(mode, Some(item)),
+    }
+}
+
+/// Returns the elements of an array at the positions of the subscripts.
+#[inline(always)]
+fn picked_items<'t>(
+    mode: Mode,
+    entries: &'t [ArrayIndex],
+    bytes: &'t [u8],
+    item: Spot,
+) -> Result<StepItems<'t>, Error>
+    ensures meant { GivesItems bytes.now item result (indices_step mode entries.now) }
+    ensures errors { IfErr result (IsSelectionError mode) }
+{
+    match elements(bytes, item)? {
+        Some(elements) => picked_elements(entries, elements),
+        None => at_mismatch(mode, None),
+    }
+}
+
+/// Returns the elements at the positions of the subscripts. For a single position the array is visited up to it.
+#[inline(always)]
+fn picked_elements<'t>(
+    entries: &'t [ArrayIndex],
+    elements: SpotIter<'t>,
+) -> Result<StepItems<'t>, Error>
+    ensures meant { (bytes : List ℕ) (ts : List Tree) → HasSpotsLeft bytes elements.entry ts
+        → Refines (AreGiven bytes) IsOutOfMemory result (Ok (picked entries.now ts)) }
+    ensures errors { IfErr result IsDecodingError }
+{
+    let Some(entry) = only_entry(entries) else {
+        return Ok(StepItems::Picked(entries, elements));
+    };
+    let (start, end) = entry.bounds(elements.len());
+    if start == end {
+        return Ok(StepItems::AtMostOne(None));
+    }
+    if end - start > 1 {
+        return Ok(StepItems::Picked(entries, elements));
+    }
+    let found = nth(elements, start)?;
+    Ok(StepItems::AtMostOne(found))
+}
+
+/// Returns the subscript if there is one alone.
+#[inline(always)]
+fn only_entry(entries: &[ArrayIndex]) -> Option<&ArrayIndex>
+    ensures { MatchOption result ⊤ (λ entry. entries.now ≡ entry.now ∷ []) }
+{
+    match entries {
+        [entry] => Some(entry),
+        _ => None,
+    }
+}
+
+/// Returns what a step selects of an item to which it does not apply: in strict mode it fails.
+#[inline(always)]
+fn at_mismatch<'t>(mode: Mode, otherwise: Option<Spot>) -> Result<StepItems<'t>, Error>
+    ensures meant { (bytes : List ℕ) (us : List Tree) → AllZip (Locates bytes) (option_spots otherwise) us
+        → Refines (AreGiven bytes) IsOutOfMemory result (list_or mode us None) }
     ensures errors { IfErr result (IsSelectionError mode) }
 {
     match mode {
-        Mode::Lax => Ok(()),
+        Mode::Lax => Ok(StepItems::AtMostOne(otherwise)),
         Mode::Strict => Err(Error::StrictPath),
     }
 }
 
-/// Appends the value of a key of an object.
-#[inline(always)]
-pub(crate) fn push_field(
-    bytes: &[u8],
-    mode: Mode,
-    name: &str,
-    item: Spot,
-    nodes: &mut Vec<Spot>,
-) -> Result<(), Error>
-    ensures meant { PushesStep bytes.now item nodes.old.items nodes.new.items result (field_step mode name.now) }
-    ensures errors { IfErr result (IsSelectionError mode) }
-{
-    match field_spot(bytes, item, name)? {
-        Some(value) => push_spot(nodes, value),
-        None => fail_if_strict(mode),
-    }
-}
-
-/// Appends the values of an object.
-fn push_values(bytes: &[u8], mode: Mode, item: Spot, nodes: &mut Vec<Spot>) -> Result<(), Error>
-    ensures meant { PushesStep bytes.now item nodes.old.items nodes.new.items result (values_step mode) }
-    ensures errors { IfErr result (IsSelectionError mode) }
-{
-    match values(bytes, item)? {
-        Some(values) => push_spots(values, nodes),
-        None => fail_if_strict(mode),
-    }
-}
-
-/// Appends the elements of an array.
-fn push_elements(bytes: &[u8], mode: Mode, item: Spot, nodes: &mut Vec<Spot>) -> Result<(), Error>
-    ensures meant { PushesStep bytes.now item nodes.old.items nodes.new.items result (elements_step mode) }
-    ensures errors { IfErr result (IsSelectionError mode) }
-{
-    match elements(bytes, item)? {
-        Some(elements) => push_spots(elements, nodes),
-        None => match mode {
-            Mode::Lax => push_spot(nodes, item),
-            Mode::Strict => Err(Error::StrictPath),
-        },
-    }
-}
-
-/// Appends the elements at the positions of the subscripts.
-pub(crate) fn push_positions(
-    alloc: Global,
-    bytes: &[u8],
-    mode: Mode,
-    entries: &[ArrayIndex],
-    item: Spot,
-    nodes: &mut Vec<Spot>,
-) -> Result<(), Error>
-    ensures meant { PushesStep bytes.now item nodes.old.items nodes.new.items result
-        (indices_step mode entries.now) }
-    ensures errors { IfErr result (IsSelectionError mode) }
-{
-    match elements(bytes, item)? {
-        Some(elements) => push_picked(alloc, elements, entries, nodes),
-        None => fail_if_strict(mode),
-    }
-}
-
-/// Appends the elements at the positions of the subscripts. For a single index from the start the traversal ends there;
-/// otherwise all elements are visited once.
+/// Appends the elements at the positions of the subscripts. All elements are visited once.
 fn push_picked(
     alloc: Global,
     elements: SpotIter<'_>,
@@ -204,45 +261,28 @@ fn push_picked(
         (Ok (picked entries.now ts)) }
     ensures errors { IfErr result (IsDecodingError or OutOfMemory) }
 {
-    if let Some(position) = plain_index(entries) {
-        return push_nth(elements, position, nodes);
-    }
-    // Without a list: 551 instructions for `select_value` of `$[last]` on `[]` instead of 719.
-    if elements.len() == 0 {
-        return Ok(());
-    }
     let mut spots = Vec::new(alloc);
     push_spots(elements, &mut spots)?;
     push_entries(entries, &spots, nodes)
 }
 
-/// Returns the position of a single index that counts from the start.
-fn plain_index(entries: &[ArrayIndex]) -> Option<usize>
-    ensures { MatchOption result ⊤ (λ k. entries.now ≡ single (from_front (pos k)) ∷ []) }
-{
-    match entries {
-        [ArrayIndex::Index(Index::Index(at))] if *at >= 0 => Some(*at as usize),
-        _ => None,
-    }
-}
-
-/// Appends the element at a position.
-fn push_nth(elements: SpotIter<'_>, position: usize, nodes: &mut Vec<Spot>) -> Result<(), Error>
-    ensures meant { (bytes : List ℕ) (ts before : List Tree) → HasSpotsLeft bytes elements.entry ts
-        → AllZip (Locates bytes) nodes.old.items before
-        → Refines (λ _ us. AllZip (Locates bytes) nodes.new.items (before ++ us)) IsOutOfMemory result
+/// Returns the element at a position.
+#[inline(always)]
+fn nth(elements: SpotIter<'_>, position: usize) -> Result<Option<Spot>, Error>
+    ensures meant { (bytes : List ℕ) (ts : List Tree) → HasSpotsLeft bytes elements.entry ts
+        → Refines (λ found us. AllZip (Locates bytes) (option_spots found) us) IsOutOfMemory result
         (Ok (filter_map (slice_get ts) (position ∷ []))) }
-    ensures errors { IfErr result (IsDecodingError or OutOfMemory) }
+    ensures errors { IfErr result IsDecodingError }
 {
     let mut before = position;
     for element in elements {
         let element = element?;
         if before == 0 {
-            return push_spot(nodes, element);
+            return Ok(Some(element));
         }
         before -= 1;
     }
-    Ok(())
+    Ok(None)
 }
 
 /// Appends the elements at the positions of each subscript, one subscript after the other.

@@ -1,28 +1,32 @@
 //! Comparisons of members of items with a literal, such as `$[*].age > 1000`. The members are not collected in a list.
 
-ghost use Rattle.std.specs.Prelude.{◌≡◌, ◌≤◌, drop, length, List, true, MatchOption, ⊤, IfErr};
+ghost use Rattle.std.specs.Prelude.{◌≡◌, ◌≤◌, drop, length, List, true, MatchOption, ⊤, IfErr, OnOk};
 ghost use Rattle.jsonb_doc.specs.Answer.{Refines, IsOutOfMemory};
+ghost use Rattle.jsonb_doc.specs.AnyBytes.Roots.{HasReadableRoot};
+ghost use Rattle.jsonb_doc.specs.Format.{Decodes};
+ghost use Rattle.jsonb_doc.specs.Payload.{Form};
 ghost use Rattle.jsonb_doc.specs.Representation.Positions.{Locates};
 ghost use Rattle.jsonb_doc.specs.Tree.{Tree};
 ghost use Rattle.jsonb.specs.PathTree.{Expression, steps_of, paths};
 ghost use Rattle.jsonb.specs.PathViews.{steps_view, expression_view};
 ghost use Rattle.std.specs.List.{AllZip};
 ghost use Rattle.jsonb.specs.Meaning.{truth};
-ghost use Rattle.jsonb.specs.Private.Compared.{IsMemberCompared, IsListCompared, items_truth};
+ghost use Rattle.jsonb.specs.Private.Calculation.{expression_predicate};
+ghost use Rattle.jsonb.specs.Private.Compared.{IsMemberCompared, IsListCompared, IsRootCompared, items_truth};
 ghost use Rattle.jsonb.specs.Private.Members.{are_members};
 ghost use Rattle.jsonb.specs.Private.Selection.{HasTree};
 ghost use Rattle.jsonb.specs.SelectionErrors.{IsSelectionError};
 ghost use Rattle.jsonb.specs.declared.selector.document.Mode.TheVariants.{Lax};
 
-use super::compared_member::{compared_member, item_truth, literal_truth};
-use super::compile::literal_of;
+use super::compared_member::{compared_member, compared_with, item_truth, literal_truth};
+use super::compile::{literal_of, operand_literal};
 use super::document::{Context, Current, Document, Expressions, Mode, Repeats, TruthResult};
 use super::filter_cache::is_comparison;
-use super::members::is_member;
+use super::members::{is_member, root_field, root_name};
 use super::plan::MemberCompared;
 use super::search::search;
 use super::steps::{listed_steps, truth};
-use crate::path::{Expr, Path};
+use crate::path::{BinaryOperator, Expr, Path, PathValue};
 use jsonb_doc::Spot;
 use std::alloc::Global;
 
@@ -31,6 +35,57 @@ use std::alloc::Global;
 pub(crate) struct ListCompared<'s, 'a> {
     front: &'s [Path<'a>],
     comparison: MemberCompared<'s, 'a>,
+}
+
+/// A comparison of a member of the root with a literal, such as `$.age > 1000`.
+#[derive(Clone, Copy)]
+pub(crate) struct RootCompared<'s, 'a> {
+    op: BinaryOperator,
+    name: &'s str,
+    literal: &'s PathValue<'a>,
+}
+
+/// Returns the comparison of a member of the root with a literal that an expression is, if it is one.
+#[inline(always)]
+pub(crate) fn root_compared<'s, 'a>(e: &'s Expr<'a>) -> Option<RootCompared<'s, 'a>>
+    ensures { MatchOption result ⊤ (λ compared. IsRootCompared compared (expression_view e.now)) }
+{
+    match e {
+        Expr::BinaryOp { op, left, right } => {
+            let steps = operand_steps(left)?;
+            let name = root_name(steps)?;
+            let literal = operand_literal(right)?;
+            if !is_comparison(*op) {
+                return None;
+            }
+            Some(RootCompared {
+                op: *op,
+                name,
+                literal,
+            })
+        }
+        Expr::Paths(_) | Expr::Value(_) | Expr::UnaryOp { .. } | Expr::ExistsFunc(_) => None,
+    }
+}
+
+/// Returns the result of a comparison of a member of the root.
+#[inline(always)]
+pub(crate) fn root_compared_truth(
+    mode: Mode,
+    compared: RootCompared<'_, '_>,
+    bytes: &[u8],
+) -> TruthResult
+    ensures meant { (form : Form) (e : Expression) (top : Tree) → IsRootCompared compared.entry e
+        → Decodes form bytes.now top
+        → Refines (λ b c. b ≡ c) IsOutOfMemory result (expression_predicate mode e top) }
+    ensures errors { IfErr result (IsSelectionError mode) }
+    ensures readable { OnOk result (HasReadableRoot bytes.now) }
+{
+    let RootCompared { op, name, literal } = compared;
+    match root_field(mode, bytes, name)? {
+        Some(found) => compared_with(op, bytes, found, literal),
+        None => Ok(Some(false)),
+    }
 }
 
 /// Returns whether an expression is true of the root, or `None` if it is unknown.

@@ -2,15 +2,17 @@
 //! and strings are not validated.
 
 ghost use Rattle.std.specs.Prelude.{◌≡◌, ◌∷◌, [], Ok, List, map, flat_map, true, IfErr};
-ghost use Rattle.jsonb_doc.specs.Answer.{Refines, and_then, IsOutOfMemory, IsDecodingError};
+ghost use Rattle.jsonb_doc.specs.Answer.{Refines, and_then, IsOutOfMemory, IsDecodingError, ◌or◌};
+ghost use Rattle.jsonb_doc.specs.declared.error.Error.TheVariants.{OutOfMemory};
 ghost use Rattle.jsonb_doc.specs.Representation.Positions.{Locates, HasSpotsLeft};
 ghost use Rattle.jsonb_doc.specs.Tree.{Tree};
 ghost use Rattle.jsonb.specs.PathTree.{Expression, steps_of, paths};
-ghost use Rattle.jsonb.specs.PathViews.{steps_view};
+ghost use Rattle.jsonb.specs.PathViews.{literal_view, steps_view};
 ghost use Rattle.jsonb.specs.Compare.{compare};
-ghost use Rattle.jsonb.specs.Values.{values_of_item, value_of_item};
+ghost use Rattle.jsonb.specs.Values.{literal_value, values_of_item, value_of_item};
 ghost use Rattle.jsonb.specs.Meaning.{steps_meaning, operand_values, truth};
-ghost use Rattle.jsonb.specs.Private.Compared.{IsMemberCompared};
+ghost use Rattle.jsonb.specs.Private.Compared.{AreChildrenCompared, IsMemberCompared};
+ghost use Rattle.jsonb.specs.Private.ItemSteps.{values_step};
 ghost use Rattle.jsonb.specs.Private.Members.{are_members};
 ghost use Rattle.std.specs.List.{AllZip};
 ghost use Rattle.jsonb.specs.Private.Selection.{IsAt, HasTree, option_spots, taken_step, value_view};
@@ -18,13 +20,18 @@ ghost use Rattle.jsonb.specs.declared.selector.document.Expressions.TheVariants.
 ghost use Rattle.jsonb.specs.declared.selector.document.Mode.{Mode};
 ghost use Rattle.jsonb.specs.SelectionErrors.{IsSelectionError};
 
-use super::children::elements;
+use super::children::{elements, values};
 use super::document::{Current, Mode, TruthResult};
 use super::members::{member, member_of, start_spot};
-use super::operand_value::{OperandValue, compare_one, compare_short, value_of_item};
+use super::node_list::NodeList;
+use super::operand_value::{
+    OperandValue, compare_one, compare_short, numbers_truth, value_of_item, value_of_literal,
+};
 use super::plan::MemberCompared;
-use crate::path::{BinaryOperator, Path};
+use super::values::found_values;
+use crate::path::{BinaryOperator, Path, PathValue};
 use jsonb_doc::{Error, Spot, SpotIter, spot_by_parts, spot_number, spot_value};
+use std::alloc::Global;
 use std::slice;
 
 /// The member that a comparison is of. One name alone is looked up without a call.
@@ -106,6 +113,76 @@ pub(crate) fn member_truth(
     found_truth(op, context.document.bytes, found, rights)
 }
 
+/// Returns how the children of a member compare with the literal. They are not collected in a list.
+#[inline(never)]
+pub(crate) fn children_truth(
+    mode: Mode,
+    comparison: &MemberCompared<'_, '_>,
+    bytes: &[u8],
+    item: Spot,
+) -> TruthResult
+    ensures meant { (e : Expression) (top t : Tree) → AreChildrenCompared comparison.now e
+        → Locates bytes.now item t
+        → Refines (λ b c. b ≡ c) IsOutOfMemory result (truth mode e top t) }
+    ensures errors { IfErr result (IsSelectionError mode) }
+{
+    if comparison.names.is_empty() {
+        return values_truth(mode, comparison, bytes, item);
+    }
+    match member(mode, comparison.names, bytes, item)? {
+        Some(parent) => values_truth(mode, comparison, bytes, parent),
+        None => Ok(Some(false)),
+    }
+}
+
+/// Returns how the children of an item compare with the literal.
+#[inline(always)]
+fn values_truth(
+    mode: Mode,
+    comparison: &MemberCompared<'_, '_>,
+    bytes: &[u8],
+    item: Spot,
+) -> TruthResult
+    ensures meant { (t : Tree) → Locates bytes.now item t
+        → Refines (λ b c. b ≡ c) IsOutOfMemory result
+        (and_then (values_step mode t) (λ ts. Ok (compare comparison.now.op (flat_map values_of_item ts)
+        (value_view comparison.now.literal ∷ [])))) }
+    ensures errors { IfErr result (IsSelectionError mode) }
+{
+    match values(bytes, item)? {
+        Some(values) => {
+            let rights = slice::from_ref(&comparison.literal);
+            each_truth(comparison.op, bytes, values, rights)
+        }
+        None => match mode {
+            Mode::Lax => Ok(Some(false)),
+            Mode::Strict => Err(Error::StrictPath),
+        },
+    }
+}
+
+/// Returns how the values of items compare with others: the first result that is true or unknown decides.
+#[inline(always)]
+fn each_truth(
+    op: BinaryOperator,
+    bytes: &[u8],
+    items: SpotIter<'_>,
+    rights: &[OperandValue<'_>],
+) -> TruthResult
+    ensures meant { (ts : List Tree) → HasSpotsLeft bytes.now items.entry ts
+        → Refines (λ b c. b ≡ c) IsOutOfMemory result
+        (Ok (compare op (flat_map values_of_item ts) (map value_view rights.now))) }
+    ensures errors { IfErr result IsDecodingError }
+{
+    for item in items {
+        let said = compared_truth(op, bytes, item?, rights)?;
+        if said != Some(false) {
+            return Ok(said);
+        }
+    }
+    Ok(Some(false))
+}
+
 /// Returns how the values of a member compare with others, if there is one.
 #[inline(always)]
 pub(crate) fn found_truth(
@@ -142,6 +219,82 @@ pub(crate) fn compared_truth(
         Some(number) => Ok(compare_short(op, number, rights)),
         None => other_truth(op, bytes, spot_by_parts(item), rights),
     }
+}
+
+/// Returns how the values of two members compare, if there are both.
+#[inline(always)]
+pub(crate) fn members_compared(
+    alloc: Global,
+    op: BinaryOperator,
+    bytes: &[u8],
+    left: Option<Spot>,
+    right: Option<Spot>,
+) -> TruthResult
+    ensures meant { (ts us : List Tree) → AllZip (Locates bytes.now) (option_spots left) ts
+        → AllZip (Locates bytes.now) (option_spots right) us
+        → Refines (λ b c. b ≡ c) IsOutOfMemory result
+        (Ok (compare op (flat_map values_of_item ts) (flat_map values_of_item us))) }
+    ensures errors { IfErr result (IsDecodingError or OutOfMemory) }
+{
+    match (left, right) {
+        (Some(left), Some(right)) => items_compared(alloc, op, bytes, left, right),
+        (Some(_), None) | (None, _) => Ok(Some(false)),
+    }
+}
+
+/// Returns how the values of two items compare. Two short numbers are compared without a list of values.
+#[inline(always)]
+fn items_compared(
+    alloc: Global,
+    op: BinaryOperator,
+    bytes: &[u8],
+    left: Spot,
+    right: Spot,
+) -> TruthResult
+    ensures meant { (t u : Tree) → Locates bytes.now left t → Locates bytes.now right u
+        → Refines (λ b c. b ≡ c) IsOutOfMemory result (Ok (compare op (values_of_item t) (values_of_item u))) }
+    ensures errors { IfErr result (IsDecodingError or OutOfMemory) }
+{
+    let l = spot_number(bytes, left)?;
+    let r = spot_number(bytes, right)?;
+    if let (Some(l), Some(r)) = (l, r) {
+        return Ok(numbers_truth(op, l, &r.to_number()));
+    }
+    let rights = found_values(alloc, bytes, NodeList::One(right))?;
+    compared_truth(op, bytes, left, rights.as_slice())
+}
+
+/// Returns how the values of an item compare with a literal, which is not copied if both are short numbers.
+#[inline(always)]
+pub(crate) fn compared_with(
+    op: BinaryOperator,
+    bytes: &[u8],
+    item: Spot,
+    literal: &PathValue<'_>,
+) -> TruthResult
+    ensures meant { (t : Tree) → Locates bytes.now item t
+        → Refines (λ b c. b ≡ c) IsOutOfMemory result
+        (Ok (compare op (values_of_item t) (literal_value (literal_view literal.now) ∷ []))) }
+    ensures errors { IfErr result IsDecodingError }
+{
+    if let PathValue::Number(right) = literal {
+        if let Some(left) = spot_number(bytes, item)? {
+            return Ok(numbers_truth(op, left, right));
+        }
+    }
+    other_with(op, bytes, spot_by_parts(item), literal)
+}
+
+/// Returns how the values of an item compare with a literal.
+#[inline(never)]
+fn other_with(op: BinaryOperator, bytes: &[u8], item: Spot, literal: &PathValue<'_>) -> TruthResult
+    ensures meant { (t : Tree) → Locates bytes.now item t
+        → Refines (λ b c. b ≡ c) IsOutOfMemory result
+        (Ok (compare op (values_of_item t) (literal_value (literal_view literal.now) ∷ []))) }
+    ensures errors { IfErr result IsDecodingError }
+{
+    let right = value_of_literal(literal);
+    other_truth(op, bytes, item, slice::from_ref(&right))
 }
 
 /// Returns how the values of an item that is not a short number compare with others.

@@ -1,10 +1,11 @@
 //! Compiles an expression to the tests of a condition.
 
-ghost use Rattle.std.specs.Prelude.{◌≡◌, ◌<◌, ◌+◌, ◌∷◌, [], List, Ok, Some, true, false, reverse, MatchOption, ⊤, IfOk, IfErr};
+ghost use Rattle.std.specs.Prelude.{◌≡◌, ◌<◌, ◌+◌, ◌++◌, ◌∷◌, [], List, Ok, Some, true, false, reverse, MatchOption, ⊤, IfOk, IfErr};
 ghost use Rattle.jsonb_doc.specs.Answer.{IsOutOfMemory};
 ghost use Rattle.jsonb_doc.specs.Tree.{Tree};
-ghost use Rattle.jsonb.specs.PathTree.{steps_of, step, current, paths, binary, exists};
-ghost use Rattle.jsonb.specs.PathViews.{expression_view, steps_view};
+ghost use Rattle.jsonb.specs.PathTree.{steps_of, step, current, dot_wildcard, paths, binary, exists};
+ghost use Rattle.jsonb.specs.PathViews.{expression_view, literal_view, steps_view};
+ghost use Rattle.jsonb.specs.Values.{literal_value};
 ghost use Rattle.jsonb.specs.Meaning.{operand_values};
 ghost use Rattle.jsonb.specs.Private.Compared.{mirrored};
 ghost use Rattle.jsonb.specs.Private.Jumps.{Branch};
@@ -24,7 +25,7 @@ use super::plan::{
     Compiled, Condition, MemberCompared, MemberFound, MembersCompared, Question, Test, Tests,
     are_plain,
 };
-use crate::path::{BinaryOperator, Expr, Path};
+use crate::path::{BinaryOperator, Expr, Path, PathValue};
 use jsonb_doc::Error;
 use std::alloc::Global;
 
@@ -215,7 +216,8 @@ fn may_be_of_members(part: &Expr<'_>) -> bool {
 #[inline(always)]
 fn may_be_member(operand: &Expr<'_>) -> bool {
     match operand {
-        Expr::Paths(steps) | Expr::ExistsFunc(steps) => is_relative(steps) && are_members(steps),
+        Expr::Paths(_) => names_of(operand).is_some() || children_names(operand).is_some(),
+        Expr::ExistsFunc(steps) => is_relative(steps) && are_members(steps),
         Expr::Value(_) | Expr::BinaryOp { .. } | Expr::UnaryOp { .. } => true,
     }
 }
@@ -251,7 +253,8 @@ fn plain_question<'s, 'p>(e: &'s Expr<'p>) -> Option<Question<'s, 'p>>
 }
 
 /// Returns the question that a comparison of two operands is, if one is a member of the item, and the other a member
-/// or a literal. A literal on the left is compared from the right, except by `starts with`.
+/// or a literal. A literal on the left is compared from the right, except by `starts with`. The left one may also be
+/// the children of a member.
 #[inline(always)]
 fn comparison_of<'s, 'p>(
     op: BinaryOperator,
@@ -278,7 +281,11 @@ fn comparison_of<'s, 'p>(
         (Some(left), Some(right)) => {
             Some(Question::MembersCompared(MembersCompared { op, left, right }))
         }
-        (None, None) => None,
+        (None, None) => {
+            let names = children_names(left)?;
+            let literal = literal_of(right)?;
+            Some(Question::ChildrenCompared(MemberCompared { op, names, literal }))
+        }
     }
 }
 
@@ -308,14 +315,53 @@ fn names_of<'s, 'p>(operand: &'s Expr<'p>) -> Option<&'s [Path<'p>]>
     }
 }
 
+/// Returns the steps between `@` and `.*` of an operand that is the children of a member of the item.
+fn children_names<'s, 'p>(operand: &'s Expr<'p>) -> Option<&'s [Path<'p>]>
+    ensures { MatchOption result ⊤ (λ names. (are_members (steps_view names.now) ≡ true)
+        × (expression_view operand.now
+        ≡ paths (step current (steps_of (steps_view names.now ++ dot_wildcard ∷ []))))) }
+{
+    let Expr::Paths(steps) = operand else {
+        return None;
+    };
+    let (last, front) = steps.as_slice().split_last()?;
+    let names = names_in(front)?;
+    match last {
+        Path::DotWildcard => Some(names),
+        _ => None,
+    }
+}
+
+/// Returns the steps after `@` of steps that name a member of the item.
+fn names_in<'s, 'p>(steps: &'s [Path<'p>]) -> Option<&'s [Path<'p>]>
+    ensures { MatchOption result ⊤ (λ names. (are_members (steps_view names.now) ≡ true)
+        × (steps_view steps.now ≡ current ∷ steps_view names.now)) }
+{
+    match steps {
+        [Path::Current, names @ ..] if are_members(names) => Some(names),
+        _ => None,
+    }
+}
+
 /// The value of an operand that is a literal.
 #[inline(always)]
 pub(crate) fn literal_of<'s>(operand: &'s Expr<'_>) -> Option<OperandValue<'s>>
     ensures { MatchOption result ⊤ (λ literal. (mode : Mode) (top t : Tree)
         → operand_values mode (expression_view operand.now) top t ≡ Ok (value_view literal ∷ [])) }
 {
+    let literal = operand_literal(operand)?;
+    Some(value_of_literal(literal))
+}
+
+/// Returns the literal that an operand is, if it is one.
+#[inline(always)]
+pub(crate) fn operand_literal<'s, 'p>(operand: &'s Expr<'p>) -> Option<&'s PathValue<'p>>
+    ensures { MatchOption result ⊤ (λ literal. (mode : Mode) (top t : Tree)
+        → operand_values mode (expression_view operand.now) top t
+        ≡ Ok (literal_value (literal_view literal.now) ∷ [])) }
+{
     match operand {
-        Expr::Value(literal) => Some(value_of_literal(literal)),
+        Expr::Value(literal) => Some(literal),
         Expr::Paths(_) | Expr::BinaryOp { .. } | Expr::UnaryOp { .. } | Expr::ExistsFunc(_) => None,
     }
 }

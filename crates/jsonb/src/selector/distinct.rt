@@ -24,10 +24,10 @@ const SHORT: usize = 16;
 /// Returns `true` if a step may select an item again that it has selected before: several subscripts, and a recursive
 /// step of many items.
 #[inline(always)]
-pub(crate) fn can_repeat(step: &Path<'_>, items: &NodeList) -> bool {
-    match (step, items) {
-        (Path::ArrayIndices(entries), _) => entries.len() > 1,
-        (Path::RecursiveDotWildcard(_), NodeList::Many(_)) => true,
+pub(crate) fn can_repeat(step: &Path<'_>, many: bool) -> bool {
+    match step {
+        Path::ArrayIndices(entries) => entries.len() > 1,
+        Path::RecursiveDotWildcard(_) => many,
         _ => false,
     }
 }

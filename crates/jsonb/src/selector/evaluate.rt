@@ -13,13 +13,14 @@ ghost use Rattle.jsonb.specs.Private.Selection.{node_spots};
 ghost use Rattle.jsonb.specs.SelectionErrors.{IsSelectionError};
 
 use super::children::push_if;
-use super::compared_member::{compared_member, found_truth, item_truth, literal_truth};
+use super::compared_member::{
+    children_truth, compared_member, item_truth, literal_truth, members_compared,
+};
 use super::document::{Mode, TruthResult};
 use super::filter_cache::is_true;
 use super::members::member;
 use super::node_list::NodeList;
 use super::plan::{Jump, MembersCompared, Question, Test};
-use super::values::found_values;
 use jsonb_doc::{Error, Spot, spot_by_parts};
 use std::alloc::Global;
 
@@ -238,6 +239,9 @@ pub(crate) fn question_truth(
             let found = member(mode, asked.names, bytes, spot_by_parts(item))?;
             Ok(Some(found.is_some()))
         }
+        Question::ChildrenCompared(comparison) => {
+            children_truth(mode, comparison, bytes, spot_by_parts(item))
+        }
         Question::Unknown => Ok(None),
         Question::Expression(_) => Err(Error::InvalidJsonPath),
     }
@@ -258,6 +262,5 @@ fn members_truth(
 {
     let left = member(mode, comparison.left, bytes, item)?;
     let right = member(mode, comparison.right, bytes, item)?;
-    let rights = found_values(alloc, bytes, NodeList::at_most_one(alloc, right))?;
-    found_truth(comparison.op, bytes, left, rights.as_slice())
+    members_compared(alloc, comparison.op, bytes, left, right)
 }

@@ -1,6 +1,6 @@
 //! The items below an item, level by level.
 
-ghost use Rattle.std.specs.Prelude.{◌≡◌, ℕ, ◌<◌, ◌≤◌, ◌^◌, ◌++◌, ◌+◌, min, List, Ok, Option, option_map, IfOk, IfErr, OnOk, IfSome, MatchResult};
+ghost use Rattle.std.specs.Prelude.{◌≡◌, ◌&&◌, nat_le, ℕ, ◌<◌, ◌≤◌, ◌^◌, ◌++◌, ◌+◌, min, List, Ok, Option, IfOk, IfErr, OnOk, IfSome, MatchResult};
 ghost use Rattle.jsonb_doc.specs.Answer.{Refines, IsOutOfMemory, IsDecodingError, ◌or◌};
 ghost use Rattle.jsonb_doc.specs.declared.error.Error.TheVariants.{OutOfMemory};
 ghost use Rattle.jsonb_doc.specs.Representation.Positions.{Locates, HasSpotsLeft};
@@ -8,8 +8,8 @@ ghost use Rattle.jsonb_doc.specs.AnyBytes.Spots.{spot_size, spots_room, spots_bo
 ghost use Rattle.jsonb_doc.specs.Tree.{Tree};
 ghost use Rattle.jsonb.specs.PathTree.{Levels};
 ghost use Rattle.std.specs.List.{AllZip};
-ghost use Rattle.jsonb.specs.Preorder.{answer_at, taken_item, preorder};
-ghost use Rattle.jsonb.specs.Private.Below.{AreBelow, KeepsLevel, PassesLeaves, AreLevelsOf};
+ghost use Rattle.jsonb.specs.Preorder.{taken_item, preorder};
+ghost use Rattle.jsonb.specs.Private.Below.{answer_at, AreBelow, KeepsLevel, PassesLeaves, AreLevelsOf};
 
 use super::children::push_if;
 use crate::path::{RecursiveLevel, RecursiveLevelEnd};
@@ -24,9 +24,6 @@ struct LevelRange {
 }
 
 impl LevelRange {
-    ghost use Rattle.std.specs.Prelude.{◌≡◌, ◌&&◌, nat_le, option_map};
-    ghost use Rattle.jsonb.specs.Private.Below.{AreLevelsOf};
-
     /// Returns the levels of a step: without levels all.
     fn of_step(levels: Option<RecursiveLevel>) -> LevelRange
         ensures { AreLevelsOf levels result }

@@ -1,7 +1,10 @@
 //! Paths that name at most one member: `$` or `@`, and the names of fields.
 
-ghost use Rattle.std.specs.Prelude.{◌≡◌, ◌∷◌, [], Ok, map, true, MatchOption, ⊤, IfErr};
+ghost use Rattle.std.specs.Prelude.{◌≡◌, ◌∷◌, [], Ok, Some, map, true, MatchOption, ⊤, IfErr, OnOk};
 ghost use Rattle.jsonb_doc.specs.Answer.{Refines, IsOutOfMemory};
+ghost use Rattle.jsonb_doc.specs.AnyBytes.Roots.{HasReadableRoot};
+ghost use Rattle.jsonb_doc.specs.Format.{Decodes};
+ghost use Rattle.jsonb_doc.specs.Payload.{Form};
 ghost use Rattle.jsonb_doc.specs.Representation.Positions.{Locates};
 ghost use Rattle.jsonb_doc.specs.Tree.{Tree};
 ghost use Rattle.jsonb.specs.PathTree.{steps_of, paths};
@@ -9,17 +12,16 @@ ghost use Rattle.jsonb.specs.PathViews.{step_view, steps_view, expression_view};
 ghost use Rattle.std.specs.List.{AllZip};
 ghost use Rattle.jsonb.specs.Meaning.{step_meaning, steps_meaning, start};
 ghost use Rattle.jsonb.specs.ItemSteps.{field_step};
-ghost use Rattle.jsonb.specs.Private.Members.{is_member, are_members};
+ghost use Rattle.jsonb.specs.Private.Members.{is_member, are_members, root_name};
 ghost use Rattle.jsonb.specs.Private.Selection.{IsAt, HasTree, option_spots, taken_step};
 ghost use Rattle.jsonb.specs.declared.selector.document.Expressions.{Expressions};
 ghost use Rattle.jsonb.specs.declared.selector.document.Mode.{Mode};
 ghost use Rattle.jsonb.specs.SelectionErrors.{IsSelectionError};
 
-use super::children::fail_if_strict;
 use super::document::{Document, Mode};
 use super::filter_cache::is_relative;
 use crate::path::{Expr, Path};
-use jsonb_doc::{Error, Spot, field_spot, spot_by_parts};
+use jsonb_doc::{Error, Spot, field_spot, root_spot, spot_by_parts};
 
 /// Returns the item at which a path within an expression starts.
 #[inline(always)]
@@ -76,10 +78,10 @@ fn field(bytes: &[u8], mode: Mode, name: &str, item: Spot) -> Result<Option<Spot
 {
     match field_spot(bytes, item, name)? {
         Some(value) => Ok(Some(value)),
-        None => {
-            fail_if_strict(mode)?;
-            Ok(None)
-        }
+        None => match mode {
+            Mode::Lax => Ok(None),
+            Mode::Strict => Err(Error::StrictPath),
+        },
     }
 }
 
@@ -104,6 +106,35 @@ pub(crate) fn member_name<'s>(step: &'s Path<'_>) -> Option<&'s str>
         | Path::FilterExpr(_)
         | Path::Expr(_) => None,
     }
+}
+
+/// Returns the name of a path that is `$` and a name.
+#[inline(always)]
+pub(crate) fn root_name<'s>(steps: &'s [Path<'_>]) -> Option<&'s str>
+    ensures { MatchOption result ⊤ (λ name. root_name (steps_view steps.now) ≡ Some name.now) }
+{
+    match steps {
+        [Path::Root, step] => match step {
+            Path::DotField(name) => Some(name.as_str()),
+            Path::ColonField(name) => Some(name.as_str()),
+            Path::ObjectField(name) => Some(name.as_str()),
+            _ => None,
+        },
+        _ => None,
+    }
+}
+
+/// Returns the value of a key of the root.
+#[inline(always)]
+pub(crate) fn root_field(mode: Mode, bytes: &[u8], name: &str) -> Result<Option<Spot>, Error>
+    ensures meant { (form : Form) (top : Tree) → Decodes form bytes.now top
+        → Refines (λ found us. AllZip (Locates bytes.now) (option_spots found) us) IsOutOfMemory result
+        (field_step mode name.now top) }
+    ensures errors { IfErr result (IsSelectionError mode) }
+    ensures readable { OnOk result (HasReadableRoot bytes.now) }
+{
+    let root = root_spot(bytes)?;
+    field(bytes, mode, name, root)
 }
 
 /// Returns what one of these steps selects of an item.

@@ -2,6 +2,7 @@
 
 ghost use Rattle.std.specs.Prelude.{◌≡◌, ◌∷◌, [], map, Some};
 ghost use Rattle.jsonb_doc.specs.Tree.{Tree};
+ghost use Rattle.jsonb_doc.specs.View.{number_view};
 ghost use Rattle.jsonb_doc.specs.Private.StoredValue.{IsStoredAs};
 ghost use Rattle.jsonb.specs.PathViews.{literal_view};
 ghost use Rattle.jsonb_doc.specs.Private.Short.{short_value};
@@ -147,6 +148,17 @@ fn short_number_truth(op: BinaryOperator, l: ShortNumber, r: &OperandValue<'_>) 
         (_, OperandValue::Number(r)) => truth_of_order(op, Some(short_cmp(l, r))),
         (_, OperandValue::Container) => None,
         _ => truth_of_order(op, None),
+    }
+}
+
+/// Compares a number that is stored in at most 64 bits with another one.
+#[inline(always)]
+pub(crate) fn numbers_truth(op: BinaryOperator, l: ShortNumber, r: &Number) -> Option<bool>
+    ensures { result ≡ pair_truth op (number (short_value l)) (number (number_view r.now)) }
+{
+    match op {
+        BinaryOperator::StartsWith => None,
+        _ => truth_of_order(op, Some(short_cmp(l, r))),
     }
 }
 

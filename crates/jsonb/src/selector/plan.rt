@@ -38,6 +38,8 @@ pub(crate) struct MemberFound<'s, 'p> {
 pub(crate) enum Question<'s, 'p> {
     /// Whether a comparison of a member with a literal is true.
     Compared(MemberCompared<'s, 'p>),
+    /// Whether a comparison of the children of a member with a literal is true.
+    ChildrenCompared(MemberCompared<'s, 'p>),
     /// Whether a comparison of two members is true.
     MembersCompared(MembersCompared<'s, 'p>),
     /// Whether there is a member.
@@ -57,6 +59,7 @@ impl<'s, 'p> Question<'s, 'p> {
         match self {
             Question::Expression(e) => Some(*e),
             Question::Compared(_)
+            | Question::ChildrenCompared(_)
             | Question::MembersCompared(_)
             | Question::MemberFound(_)
             | Question::Unknown => None,

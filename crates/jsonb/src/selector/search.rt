@@ -1,33 +1,33 @@
 //! The first item that steps select, in lax mode: a traversal down to it that visits nothing after it.
 
 ghost use Rattle.std.specs.Prelude.{◌≡◌, ◌<◌, ◌++◌, ◌∷◌, [], ℕ, List, map, length, true, false, MatchOption, MatchResult, IfOk, OnOk, IfSome, IfErr, ⊤};
-ghost use Rattle.jsonb_doc.specs.Answer.{Refines, SameOption, IsOutOfMemory, IsDecodingError};
-ghost use Rattle.jsonb_doc.specs.Representation.Positions.{Locates, HasSpotsLeft};
+ghost use Rattle.jsonb_doc.specs.Answer.{Refines, SameOption, IsOutOfMemory, IsDecodingError, ◌or◌};
+ghost use Rattle.jsonb_doc.specs.declared.error.Error.TheVariants.{OutOfMemory};
+ghost use Rattle.jsonb_doc.specs.Representation.Positions.{Locates};
 ghost use Rattle.jsonb_doc.specs.Tree.{Tree};
 ghost use Rattle.jsonb.specs.PathTree.{Step, Expression, steps_of, filter};
-ghost use Rattle.jsonb.specs.PathViews.{step_view, steps_view, expression_view};
+ghost use Rattle.jsonb.specs.PathViews.{step_view, steps_view};
 ghost use Rattle.std.specs.List.{AllZip};
-ghost use Rattle.jsonb.specs.Private.ItemSteps.{values_step, elements_step};
+ghost use Rattle.jsonb.specs.Private.ItemSteps.{AreGiven};
 ghost use Rattle.jsonb.specs.Meaning.{step_meaning, steps_meaning, filtered};
 ghost use Rattle.jsonb.specs.SelectorAnswers.{first_item};
 ghost use Rattle.jsonb.specs.Private.Compared.{RefinesIfAny};
-ghost use Rattle.jsonb.specs.Private.Search.{has_condition, IsSearched, IsAhead, AreAhead, AddsStep, conditions_in, TakesStep, HasItems, TakesItem, AreGiven, GivesItems, IsReached};
+ghost use Rattle.jsonb.specs.Private.Search.{has_condition, IsSearched, IsAhead, AreAhead, AddsStep, FindsFirst, conditions_in, TakesStep, HasItems, GivesLeft, TakesItem, IsReached};
 ghost use Rattle.jsonb.specs.Private.Selection.{IsAt, HasTree, IsPlain, taken_step};
 ghost use Rattle.jsonb.specs.Private.Tests.{tests_in, ArePlainTestsOf};
-ghost use Rattle.jsonb.specs.declared.path.Path.{Path};
 ghost use Rattle.jsonb.specs.SelectionErrors.{IsSelectionError};
-ghost use Rattle.jsonb.specs.declared.selector.document.Expressions.{Expressions};
 ghost use Rattle.jsonb.specs.declared.selector.document.Mode.TheVariants.{Lax};
 
-use super::children::{elements, push_step, values};
+use super::children::{StepItems, plain_items};
 use super::compile::{compiled, may_be_plain};
+use super::distinct::can_repeat;
 use super::document::{Context, Expressions, Mode};
 use super::evaluate::tested_truth;
 use super::filter_cache::is_true;
-use super::members::{are_members, member, member_of};
+use super::members::{are_members, member};
 use super::plan::{Compiled, Condition};
 use super::steps::filter_of;
-use crate::path::{Expr, Path};
+use crate::path::Path;
 use jsonb_doc::{Error, Spot, SpotIter, spot_by_parts};
 use std::alloc::Global;
 use std::mem::replace;
@@ -67,31 +67,24 @@ pub(crate) struct Outline {
 
 /// The remaining items, in order.
 #[derive(Drop)]
-pub(crate) enum Items<'a> {
-    Children(SpotIter<'a>),
+pub(crate) enum Items<'t> {
+    Children(SpotIter<'t>),
     /// Positions of a list, the first one last.
     Listed(Vec<Spot>),
 }
 
-/// What steps select of an item.
-#[derive(Drop)]
-pub(crate) enum StepItems<'a> {
-    AtMostOne(Option<Spot>),
-    Many(Items<'a>),
-}
-
 /// The remaining items, and the steps that each of them has before it.
 #[derive(Drop)]
-pub(crate) struct Waiting<'t, 's, 'p, 'a> {
-    items: Items<'a>,
+pub(crate) struct Waiting<'t, 's, 'p> {
+    items: Items<'t>,
     ahead: Ahead<'t, 's, 'p>,
 }
 
 /// What steps reach from an item: at most one item, or many with steps before them.
 #[derive(Drop)]
-pub(crate) enum Reached<'t, 's, 'p, 'a> {
+pub(crate) enum Reached<'t, 's, 'p> {
     AtMostOne(Option<Spot>),
-    Many(Waiting<'t, 's, 'p, 'a>),
+    Many(Waiting<'t, 's, 'p>),
 }
 
 impl<'t, 's, 'p> Ahead<'t, 's, 'p> {
@@ -115,7 +108,40 @@ impl<'t, 's, 'p> Ahead<'t, 's, 'p> {
     }
 }
 
-impl<'a> Items<'a> {
+impl<'t> Items<'t> {
+    /// Returns what a step selects, as the remaining items.
+    #[inline(always)]
+    fn of_step(alloc: Global, bytes: &[u8], given: StepItems<'t>) -> Result<Items<'t>, Error>
+        ensures meant { GivesLeft bytes.now given.entry result }
+        ensures errors { IfErr result (IsDecodingError or OutOfMemory) }
+    {
+        match given {
+            StepItems::Children(children) => Ok(Items::Children(children)),
+            given => Items::listed(alloc, bytes, given),
+        }
+    }
+
+    /// Returns what a step selects, as a list.
+    #[inline(never)]
+    fn listed(alloc: Global, bytes: &[u8], given: StepItems<'t>) -> Result<Items<'t>, Error>
+        ensures meant { GivesLeft bytes.now given.entry result }
+        ensures errors { IfErr result (IsDecodingError or OutOfMemory) }
+    {
+        let mut spots = Vec::new(alloc);
+        given.push(alloc, bytes, &mut spots)?;
+        Ok(Items::of_list(spots))
+    }
+
+    /// Returns the positions of a list.
+    #[inline(always)]
+    fn of_list(mut spots: Vec<Spot>) -> Items<'t>
+        ensures { (bytes : List ℕ) (ts : List Tree) → AllZip (Locates bytes) spots.items ts
+            → HasItems bytes result ts }
+    {
+        spots.reverse();
+        Items::Listed(spots)
+    }
+
     /// Returns the first of the remaining items.
     #[inline(always)]
     fn next(&mut self) -> Option<Result<Spot, Error>>
@@ -156,13 +182,7 @@ pub(crate) fn search<'s>(
     }
     match context.mode {
         Mode::Strict => Ok(None),
-        Mode::Lax => lax_search(
-            context.alloc,
-            expressions,
-            steps,
-            context.document.bytes,
-            first,
-        ),
+        Mode::Lax => lax_search(context, expressions, steps, first),
     }
 }
 
@@ -170,47 +190,43 @@ pub(crate) fn search<'s>(
 /// for it.
 #[inline(never)]
 fn lax_search<'s>(
-    alloc: Global,
+    context: &Context<'_>,
     expressions: Expressions,
     steps: &'s [Path<'_>],
-    bytes: &[u8],
     first: Spot,
 ) -> Result<Option<Option<Spot>>, Error>
-    ensures meant { (top t : Tree) → Locates bytes.now first t
-        → RefinesIfAny (λ found us. SameOption (Locates bytes.now) found (first_item us)) result
-        (steps_meaning Lax (steps_of (map (taken_step expressions) (steps_view steps.now))) top (t ∷ [])) }
+    ensures meant { FindsFirst context.now.document expressions steps.now first result }
     ensures errors { IfErr result (IsSelectionError Lax) }
 {
     let Some(outline) = outline_of(expressions, steps) else {
         return Ok(None);
     };
+    let bytes = context.document.bytes;
     let most = most_visits(outline.repeating, bytes);
     if outline.has_filter {
-        return filtered_search(alloc, expressions, steps, most, bytes, first);
+        return filtered_search(context, expressions, steps, most, first);
     }
     let ahead = Ahead {
         steps,
         conditions: &[],
     };
-    first_found(alloc, ahead, most, bytes, first)
+    first_found(context.alloc, ahead, most, bytes, first)
 }
 
 /// Returns the first item that steps with a filter select in lax mode. It is a separate function so that other steps
 /// need no frame for the conditions.
 #[inline(never)]
 fn filtered_search<'s>(
-    alloc: Global,
+    context: &Context<'_>,
     expressions: Expressions,
     steps: &'s [Path<'_>],
     most_visits: usize,
-    bytes: &[u8],
     first: Spot,
 ) -> Result<Option<Option<Spot>>, Error>
-    ensures meant { (top t : Tree) → Locates bytes.now first t
-        → RefinesIfAny (λ found us. SameOption (Locates bytes.now) found (first_item us)) result
-        (steps_meaning Lax (steps_of (map (taken_step expressions) (steps_view steps.now))) top (t ∷ [])) }
+    ensures meant { FindsFirst context.now.document expressions steps.now first result }
     ensures errors { IfErr result (IsSelectionError Lax) }
 {
+    let alloc = context.alloc;
     let mut conditions = Conditions::Many(Vec::new(alloc));
     if !conditions.add_all(alloc, expressions, steps)? {
         return Ok(None);
@@ -219,7 +235,7 @@ fn filtered_search<'s>(
         steps,
         conditions: conditions.as_slice(),
     };
-    first_found(alloc, ahead, most_visits, bytes, first)
+    first_found(alloc, ahead, most_visits, context.document.bytes, first)
 }
 
 /// Returns the outline of steps, or `None` if one of them cannot be one of a search. A filter by an expression is
@@ -248,7 +264,7 @@ impl Outline {
             × (has_condition (step_view step.now) ≡ false) × IsPlain expressions (step_view step.now) }
     {
         let Some(e) = filter_of(expressions, step) else {
-            let repeats = usize::from(may_repeat(step));
+            let repeats = usize::from(can_repeat(step, true));
             self.repeating = self.repeating.saturating_add(repeats);
             return !has_condition(step);
         };
@@ -336,16 +352,6 @@ impl<'s, 'p> Conditions<'s, 'p> {
         let Some(e) = filter_of(expressions, step) else {
             return Ok(!has_condition(step));
         };
-        self.add_filter(alloc, e)
-    }
-
-    /// Adds a filter by its expression. Returns `false` if its condition is not one by members of the item.
-    fn add_filter(&mut self, alloc: Global, e: &'s Expr<'p>) -> Result<bool, Error>
-        ensures added { (expressions : Expressions) (path : Path)
-            → taken_step expressions (step_view path) ≡ filter (expression_view e.now)
-            → AddsStep expressions path (conditions_in self.old) result (conditions_in self.new) }
-        ensures errors { IfErr result IsOutOfMemory }
-    {
         match compiled(alloc, e)? {
             Compiled::Plain(condition) => {
                 self.push(alloc, condition)?;
@@ -363,15 +369,7 @@ fn has_condition(step: &Path<'_>) -> bool
 {
     match step {
         Path::FilterExpr(_) | Path::Expr(_) => true,
-        Path::Root
-        | Path::Current
-        | Path::DotWildcard
-        | Path::RecursiveDotWildcard(_)
-        | Path::BracketWildcard
-        | Path::DotField(_)
-        | Path::ColonField(_)
-        | Path::ObjectField(_)
-        | Path::ArrayIndices(_) => false,
+        _ => false,
     }
 }
 
@@ -383,16 +381,6 @@ fn most_visits(repeating: usize, bytes: &[u8]) -> usize {
         usize::MAX
     } else {
         bytes.len()
-    }
-}
-
-/// Returns `true` if a step may select an item again that it has selected before.
-#[inline(always)]
-fn may_repeat(step: &Path<'_>) -> bool {
-    match step {
-        Path::ArrayIndices(entries) => entries.len() > 1,
-        Path::RecursiveDotWildcard(_) => true,
-        _ => false,
     }
 }
 
@@ -439,12 +427,12 @@ fn first_found(
 /// Returns what the steps reach from an item: each step that selects at most one item is evaluated, up to one that
 /// selects many.
 #[inline(always)]
-fn reach<'t, 's, 'p, 'a>(
+fn reach<'t, 's, 'p>(
     alloc: Global,
     ahead: Ahead<'t, 's, 'p>,
-    bytes: &'a [u8],
+    bytes: &'t [u8],
     first: Spot,
-) -> Result<Reached<'t, 's, 'p, 'a>, Error>
+) -> Result<Reached<'t, 's, 'p>, Error>
     ensures meant { (top t : Tree) (ss : List Step) → IsAhead ahead.entry ss → Locates bytes.now first t
         → MatchResult result (IsReached bytes.now top t ss) IsOutOfMemory }
     ensures errors { IfErr result (IsSelectionError Lax) }
@@ -453,10 +441,14 @@ fn reach<'t, 's, 'p, 'a>(
     let mut ahead = ahead;
     while let Some((step, others)) = ahead.first() {
         ahead = others;
-        match step_items(alloc, step, bytes, item)? {
+        let given = step_items(alloc, step, bytes, item)?;
+        match given {
             StepItems::AtMostOne(Some(next)) => item = spot_by_parts(next),
             StepItems::AtMostOne(None) => return Ok(Reached::AtMostOne(None)),
-            StepItems::Many(items) => return Ok(Reached::Many(Waiting { items, ahead })),
+            _ => {
+                let items = Items::of_step(alloc, bytes, given)?;
+                return Ok(Reached::Many(Waiting { items, ahead }));
+            }
         }
     }
     Ok(Reached::AtMostOne(Some(item)))
@@ -464,87 +456,30 @@ fn reach<'t, 's, 'p, 'a>(
 
 /// Returns what a step selects of an item.
 #[inline(always)]
-fn step_items<'a>(
+fn step_items<'t>(
     alloc: Global,
-    step: SearchStep<'_, '_, '_>,
-    bytes: &'a [u8],
+    step: SearchStep<'t, '_, '_>,
+    bytes: &'t [u8],
     item: Spot,
-) -> Result<StepItems<'a>, Error>
+) -> Result<StepItems<'t>, Error>
     ensures meant { (top t : Tree) (s : Step) → IsSearched step.entry s → Locates bytes.now item t
         → Refines (AreGiven bytes.now) IsOutOfMemory result (step_meaning Lax s top t) }
     ensures errors { IfErr result (IsSelectionError Lax) }
 {
     match step {
-        SearchStep::Plain(path) => plain_items(alloc, path, bytes, item),
+        SearchStep::Plain(path) => plain_items(Mode::Lax, path, bytes, item),
         SearchStep::Tested(condition) => tested_item(alloc, condition, bytes, item),
     }
 }
 
-/// Returns what a step without an expression selects of an item.
-#[inline(always)]
-fn plain_items<'a>(
-    alloc: Global,
-    step: &Path<'_>,
-    bytes: &'a [u8],
-    item: Spot,
-) -> Result<StepItems<'a>, Error>
-    ensures meant { (top t : Tree) → has_condition (step_view step.now) ≡ false → Locates bytes.now item t
-        → Refines (AreGiven bytes.now) IsOutOfMemory result (step_meaning Lax (step_view step.now) top t) }
-    ensures errors { IfErr result (IsSelectionError Lax) }
-{
-    match step {
-        Path::DotWildcard => value_items(bytes, item),
-        Path::BracketWildcard => element_items(bytes, item),
-        Path::ArrayIndices(_) | Path::RecursiveDotWildcard(_) => {
-            listed_items(alloc, step, bytes, item)
-        }
-        Path::Root
-        | Path::Current
-        | Path::DotField(_)
-        | Path::ColonField(_)
-        | Path::ObjectField(_) => {
-            let found = member_of(Mode::Lax, step, bytes, item)?;
-            Ok(StepItems::AtMostOne(found))
-        }
-        Path::FilterExpr(_) | Path::Expr(_) => Err(Error::InvalidJsonPath),
-    }
-}
-
-/// Returns what a step without an expression selects of an item, as a list.
-#[inline(never)]
-fn listed_items<'a>(
-    alloc: Global,
-    step: &Path<'_>,
-    bytes: &[u8],
-    item: Spot,
-) -> Result<StepItems<'a>, Error>
-    ensures meant { (top t : Tree) → has_condition (step_view step.now) ≡ false → Locates bytes.now item t
-        → Refines (AreGiven bytes.now) IsOutOfMemory result (step_meaning Lax (step_view step.now) top t) }
-    ensures errors { IfErr result (IsSelectionError Lax) }
-{
-    let mut spots = Vec::new(alloc);
-    push_step(alloc, Mode::Lax, step, bytes, item, &mut spots)?;
-    Ok(listed(spots))
-}
-
-/// Returns the positions of a list.
-#[inline(always)]
-fn listed<'a>(mut spots: Vec<Spot>) -> StepItems<'a>
-    ensures given { (bytes : List ℕ) (ts : List Tree) → AllZip (Locates bytes) spots.items ts
-        → AreGiven bytes result ts }
-{
-    spots.reverse();
-    StepItems::Many(Items::Listed(spots))
-}
-
 /// Returns the item if a condition of its members is true.
 #[inline(always)]
-fn tested_item<'a>(
+fn tested_item<'t>(
     alloc: Global,
     condition: &Condition<'_, '_>,
     bytes: &[u8],
     item: Spot,
-) -> Result<StepItems<'a>, Error>
+) -> Result<StepItems<'t>, Error>
     ensures meant { (e : Expression) (top t : Tree) → ArePlainTestsOf (tests_in condition.now) e
         → Locates bytes.now item t
         → Refines (AreGiven bytes.now) IsOutOfMemory result (step_meaning Lax (filter e) top t) }
@@ -559,46 +494,10 @@ fn tested_item<'a>(
 
 /// Returns an item if a filter is true of it.
 #[inline(always)]
-fn kept<'a>(truth: Option<bool>, item: Spot) -> StepItems<'a>
+fn kept<'t>(truth: Option<bool>, item: Spot) -> StepItems<'t>
     ensures kept { (bytes : List ℕ) (t : Tree) → Locates bytes item t → AreGiven bytes result (filtered t truth) }
 {
     StepItems::AtMostOne(is_true(truth).then_some(spot_by_parts(item)))
-}
-
-/// Returns children as items. Without children, nothing is left to walk: `exists` of `$.*` on `{}` takes 452
-/// instructions instead of 510.
-#[inline(always)]
-fn child_items<'a>(children: SpotIter<'a>) -> StepItems<'a>
-    ensures { (bytes : List ℕ) (ts : List Tree) → HasSpotsLeft bytes children.entry ts → AreGiven bytes result ts }
-{
-    if children.len() == 0 {
-        return StepItems::AtMostOne(None);
-    }
-    StepItems::Many(Items::Children(children))
-}
-
-/// Returns the values of an object.
-#[inline(always)]
-fn value_items<'a>(bytes: &'a [u8], item: Spot) -> Result<StepItems<'a>, Error>
-    ensures meant { GivesItems bytes.now item result (values_step Lax) }
-    ensures errors { IfErr result IsDecodingError }
-{
-    match values(bytes, item)? {
-        Some(children) => Ok(child_items(children)),
-        None => Ok(StepItems::AtMostOne(None)),
-    }
-}
-
-/// Returns the elements of an array, or another item itself.
-#[inline(always)]
-fn element_items<'a>(bytes: &'a [u8], item: Spot) -> Result<StepItems<'a>, Error>
-    ensures meant { GivesItems bytes.now item result (elements_step Lax) }
-    ensures errors { IfErr result IsDecodingError }
-{
-    match elements(bytes, item)? {
-        Some(children) => Ok(child_items(children)),
-        None => Ok(StepItems::AtMostOne(Some(item))),
-    }
 }
 
 #[cfg(test)]

@@ -3,10 +3,8 @@
 ghost use Rattle.std.specs.Prelude.{◌≡◌, ◌∷◌, ◌+◌, ◌≤◌, [], List, Ok, false, IfOk, IfErr, IsOkAnd, MatchOption, reverse, OnOk, ◌++◌};
 ghost use Rattle.std.specs.List.{AllZip};
 ghost use Rattle.jsonb_doc.specs.Answer.{Outcome, Refines, try_flat_map, IsOutOfMemory};
-ghost use Rattle.jsonb_doc.specs.Representation.Positions.{Locates};
 ghost use Rattle.jsonb_doc.specs.Tree.{Tree};
-ghost use Rattle.jsonb.specs.PathTree.{Expression, filter};
-ghost use Rattle.jsonb.specs.ItemSteps.{field_step};
+ghost use Rattle.jsonb.specs.PathTree.{filter};
 ghost use Rattle.jsonb.specs.PathViews.{step_view, expression_view};
 ghost use Rattle.jsonb.specs.Meaning.{step_meaning, steps_meaning, operand_values};
 ghost use Rattle.jsonb.specs.SelectionErrors.{IsSelectionError};
@@ -15,20 +13,19 @@ ghost use Rattle.jsonb.specs.Private.Asking.{IsFilterWaiting, IsAround, IsOnward
 ghost use Rattle.jsonb.specs.Private.Running.{running_steps, IsRunning, IsAtFilter, IsProgress, IsBeforeFilter, IsFiltered};
 ghost use Rattle.jsonb.specs.Private.Selection.{IsAt, HasTree, node_spots, values_view, taken_step, is_filter, IsPlain};
 ghost use Rattle.jsonb.specs.Private.Steps.{RefinesTruth, SelectsSteps};
-ghost use Rattle.jsonb.specs.Private.Tests.{ArePlainTestsOf, tests_in};
 ghost use Rattle.jsonb.specs.Private.Weights.{step_weight, running_weight, frame_weight, around_weight, progress_weight, IsFewer};
 ghost use Rattle.jsonb.specs.declared.selector.document.Context.{Context};
 ghost use Rattle.jsonb.specs.declared.selector.document.Repeats.TheVariants.{AreDropped};
 ghost use Rattle.jsonb.specs.declared.selector.running.Progress.TheVariants as progress;
 
-use super::children::{push_field, push_step};
+use super::children::{StepItems, plain_items};
 use super::compile::compiled;
 use super::distinct::{can_repeat, distinct};
-use super::document::{Context, Current, Expressions, Mode, Repeats, TruthResult};
+use super::document::{Context, Current, Expressions, Repeats, TruthResult};
 use super::evaluate::{question_truth, tested_items};
 use super::filter_cache::{FilterCache, is_true};
 use super::filters::{Asking, Filter, Frame};
-use super::members::{are_members, is_member, member, member_name, member_of, start_spot};
+use super::members::{are_members, member, start_spot};
 use super::node_list::NodeList;
 use super::operand_value::{OperandValues, value_of_literal};
 use super::operands::Pending;
@@ -41,68 +38,40 @@ use std::alloc::Global;
 
 /// Evaluates a step that is not a filter for one item. Does not allocate for at most one item.
 #[inline(never)]
-fn plain_step(
-    alloc: Global,
-    mode: Mode,
-    step: &Path<'_>,
-    bytes: &[u8],
-    item: Spot,
-) -> Result<NodeList, Error>
-    ensures meant { (top t : Tree) → is_filter (step_view step.now) ≡ false → Locates bytes.now item t
-        → Refines (λ found ts. AllZip (Locates bytes.now) (node_spots found) ts)
-        IsOutOfMemory result (step_meaning mode (step_view step.now) top t) }
-    ensures errors { IfErr result (IsSelectionError mode) }
+fn plain_step<'t>(context: &Context<'t>, step: &'t Path<'_>, item: Spot) -> Result<NodeList, Error>
+    ensures meant { (top t : Tree) → is_filter (step_view step.now) ≡ false → IsAt context.now.document item t
+        → Refines (λ found ts. AllZip (IsAt context.now.document) (node_spots found) ts)
+        IsOutOfMemory result (step_meaning context.now.mode (step_view step.now) top t) }
+    ensures errors { IfErr result (IsSelectionError context.now.mode) }
 {
-    if is_member(step) {
-        let found = member_of(mode, step, bytes, item)?;
-        return Ok(NodeList::at_most_one(alloc, found));
+    let bytes = context.document.bytes;
+    let given = plain_items(context.mode, step, bytes, item)?;
+    if let StepItems::AtMostOne(found) = given {
+        return Ok(NodeList::at_most_one(context.alloc, found));
     }
-    let mut nodes = Vec::new(alloc);
-    push_step(alloc, mode, step, bytes, item, &mut nodes)?;
+    let mut nodes = Vec::new(context.alloc);
+    given.push(context.alloc, bytes, &mut nodes)?;
     Ok(NodeList::Many(nodes))
 }
 
 /// Evaluates a step that is not a filter for each of many items, in order.
-fn plain_steps(
-    alloc: Global,
-    mode: Mode,
-    step: &Path<'_>,
-    bytes: &[u8],
+#[inline(never)]
+fn plain_steps<'t>(
+    context: &Context<'t>,
+    step: &'t Path<'_>,
     items: &[Spot],
 ) -> Result<NodeList, Error>
     ensures meant { (top : Tree) (ts : List Tree) → is_filter (step_view step.now) ≡ false
-        → AllZip (Locates bytes.now) items.now ts
-        → Refines (λ found us. AllZip (Locates bytes.now) (node_spots found) us)
-        IsOutOfMemory result (try_flat_map (step_meaning mode (step_view step.now) top) ts) }
-    ensures errors { IfErr result (IsSelectionError mode) }
+        → AllZip (IsAt context.now.document) items.now ts
+        → Refines (λ found us. AllZip (IsAt context.now.document) (node_spots found) us)
+        IsOutOfMemory result (try_flat_map (step_meaning context.now.mode (step_view step.now) top) ts) }
+    ensures errors { IfErr result (IsSelectionError context.now.mode) }
 {
-    if let Some(name) = member_name(step) {
-        return named_values(alloc, mode, name, bytes, items);
-    }
-    let mut nodes = Vec::with_capacity(alloc, items.len())?;
+    let bytes = context.document.bytes;
+    let mut nodes = Vec::with_capacity(context.alloc, items.len())?;
     for item in items {
-        push_step(alloc, mode, step, bytes, *item, &mut nodes)?;
-    }
-    Ok(NodeList::Many(nodes))
-}
-
-/// Returns the values of a name in each of many items, in order.
-#[inline(never)]
-fn named_values(
-    alloc: Global,
-    mode: Mode,
-    name: &str,
-    bytes: &[u8],
-    items: &[Spot],
-) -> Result<NodeList, Error>
-    ensures meant { (ts : List Tree) → AllZip (Locates bytes.now) items.now ts
-        → Refines (λ found us. AllZip (Locates bytes.now) (node_spots found) us)
-        IsOutOfMemory result (try_flat_map (field_step mode name.now) ts) }
-    ensures errors { IfErr result (IsSelectionError mode) }
-{
-    let mut nodes = Vec::with_capacity(alloc, items.len())?;
-    for item in items {
-        push_field(bytes, mode, name, *item, &mut nodes)?;
+        let given = plain_items(context.mode, step, bytes, *item)?;
+        given.push(context.alloc, bytes, &mut nodes)?;
     }
     Ok(NodeList::Many(nodes))
 }
@@ -137,7 +106,7 @@ fn plain_list(
         result (try_flat_map (step_meaning context.now.mode (step_view step.now) top) ts) }
     ensures errors { IfErr result (IsSelectionError context.now.mode) }
 {
-    let selects_again = can_repeat(step, &items);
+    let selects_again = can_repeat(step, items.as_slice().len() > 1);
     let found = plain_found(context, step, items)?;
     distinct(context.alloc, repeats, selects_again, found)
 }
@@ -152,16 +121,11 @@ fn plain_found(context: &Context<'_>, step: &Path<'_>, items: NodeList) -> Resul
         result (try_flat_map (step_meaning context.now.mode (step_view step.now) top) ts) }
     ensures errors { IfErr result (IsSelectionError context.now.mode) }
 {
-    let Context {
-        alloc,
-        mode,
-        document,
-    } = *context;
     match step {
         Path::Root | Path::Current => Ok(items),
         _ => match items {
-            NodeList::One(item) => plain_step(alloc, mode, step, document.bytes, item),
-            NodeList::Many(items) => plain_steps(alloc, mode, step, document.bytes, &items),
+            NodeList::One(item) => plain_step(context, step, item),
+            NodeList::Many(items) => plain_steps(context, step, &items),
         },
     }
 }
@@ -242,7 +206,13 @@ impl<'a, 'p> Running<'a, 'p> {
     {
         match compiled(context.alloc, e)? {
             Compiled::Plain(condition) => {
-                let found = tested_list(context, &condition, &self.items)?;
+                let found = tested_items(
+                    context.alloc,
+                    context.mode,
+                    condition.as_slice(),
+                    context.document.bytes,
+                    self.items.as_slice(),
+                )?;
                 Ok(Progress::Complete(found))
             }
             Compiled::Items(tests) => {
@@ -257,33 +227,6 @@ impl<'a, 'p> Running<'a, 'p> {
             }
         }
     }
-}
-
-/// Returns the items of a list for which a condition of members is true, in order.
-#[inline(always)]
-fn tested_list(
-    context: &Context<'_>,
-    condition: &Condition<'_, '_>,
-    items: &NodeList,
-) -> Result<NodeList, Error>
-    ensures meant { (e : Expression) (top : Tree) (ts : List Tree) → ArePlainTestsOf (tests_in condition.now) e
-        → AllZip (IsAt context.now.document) (node_spots items.now) ts
-        → Refines (λ found us. AllZip (IsAt context.now.document) (node_spots found) us) IsOutOfMemory result
-        (try_flat_map (step_meaning context.now.mode (filter e) top) ts) }
-    ensures errors { IfErr result (IsSelectionError context.now.mode) }
-{
-    let Context {
-        alloc,
-        mode,
-        document,
-    } = *context;
-    tested_items(
-        alloc,
-        mode,
-        condition.as_slice(),
-        document.bytes,
-        items.as_slice(),
-    )
 }
 
 /// Begins a filter of the items that the steps before it have selected.

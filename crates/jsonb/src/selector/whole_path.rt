@@ -1,9 +1,12 @@
 //! A path as a whole: its top steps, or one expression.
 
-ghost use Rattle.std.specs.Prelude.{◌≡◌, ◌++◌, ◌∷◌, [], List, Ok, Err, None, Some, false, MatchOption, IfOk, IfErr, ⊤};
+ghost use Rattle.std.specs.Prelude.{◌≡◌, ◌++◌, ◌∷◌, [], List, Ok, Err, None, Some, false, true, MatchOption, IfOk, IfSome, IfErr, ⊤};
 ghost use Rattle.jsonb_doc.specs.Answer.{Refines, SameOption, Outcome, and_then, IsOutOfMemory, ◌or◌};
+ghost use Rattle.jsonb_doc.specs.AnyBytes.Roots.{HasReadableRoot};
 ghost use Rattle.jsonb_doc.specs.Arithmetic.{Operation};
+ghost use Rattle.jsonb_doc.specs.Format.{Decodes};
 ghost use Rattle.jsonb_doc.specs.Payload.{Form};
+ghost use Rattle.jsonb_doc.specs.Representation.Positions.{Locates};
 ghost use Rattle.jsonb_doc.specs.Tree.{Tree};
 ghost use Rattle.jsonb.specs.PathTree.{root, filter, whole_expression, value};
 ghost use Rattle.jsonb.specs.PathViews.{step_view, steps_view, expression_view, literal_view};
@@ -15,7 +18,7 @@ ghost use Rattle.jsonb.specs.Private.Calculation.{calculation, truth_list, expre
 ghost use Rattle.jsonb.specs.Private.Compared.{RefinesIfAny};
 ghost use Rattle.jsonb.specs.Private.Search.{BeginsAs};
 ghost use Rattle.jsonb.specs.Private.Selected.{is_computed};
-ghost use Rattle.jsonb.specs.Private.Selection.{IsAt, HasTree, GivesMeant, IsMadeItem, IsNumberItem, IsNumberTree, AreSelected, step_expression, only_expression};
+ghost use Rattle.jsonb.specs.Private.Selection.{IsAt, HasTree, GivesMeant, IsMadeItem, IsNumberItem, IsNumberTree, AreSelected, step_expression, only_expression, is_relative};
 ghost use Rattle.jsonb.specs.declared.selector.document.Document.{Document};
 ghost use Rattle.jsonb.specs.declared.selector.document.Mode.{Mode};
 ghost use Rattle.jsonb.specs.declared.selector.selected.MadeItem.TheVariants as made_item;
@@ -23,10 +26,10 @@ ghost use Rattle.jsonb.specs.SelectionErrors.{IsSelectionError};
 
 use super::calculate::{binary_number, is_arithmetic, unary_numbers};
 use super::compared_lists::root_truth;
-use super::document::{Context, Current, Expressions, Repeats, TruthResult};
+use super::document::{Context, Current, Document, Expressions, Mode, Repeats, TruthResult};
 use super::filter_cache::{is_relative, is_true};
 use super::is_some;
-use super::members::start_spot;
+use super::members::{root_field, root_name, start_spot};
 use super::node_list::NodeList;
 use super::search::search;
 use super::selected::{MadeItem, Selected};
@@ -59,6 +62,27 @@ pub(crate) fn selection<'a>(
     }
     let spots = select_steps(context, all, Repeats::AreKept, steps, root)?;
     Ok(Selected::Nodes(spots))
+}
+
+/// Returns the member that a path of `$` and a name selects. The outer `None` means that it is another path. It needs
+/// no context: `exists` of `$.age` for a row takes 206 instructions instead of 345.
+#[inline(always)]
+pub(crate) fn root_member(
+    mode: Mode,
+    bytes: &[u8],
+    steps: &[Path<'_>],
+) -> Result<Option<Option<Spot>>, Error>
+    ensures meant { (form : Form) (top : Tree) (outcome : Outcome (List Tree)) → Decodes form bytes.now top
+        → Means form mode (steps_view steps.now) top outcome
+        → RefinesIfAny (λ spot ts. SameOption (Locates bytes.now) spot (first_item ts)) result outcome }
+    ensures errors { IfErr result (IsSelectionError mode) }
+    ensures readable { IfOk result (λ found. IfSome found (λ _. HasReadableRoot bytes.now)) }
+{
+    let Some(name) = root_name(steps) else {
+        return Ok(None);
+    };
+    let found = root_field(mode, bytes, name)?;
+    Ok(Some(found))
 }
 
 /// Returns whether a path selects an item.
@@ -108,7 +132,7 @@ fn searched<'a>(context: &Context<'a>, steps: &'a [Path<'_>]) -> Result<Option<O
         → RefinesIfAny (λ spot ts. SameOption (IsAt context.now.document) spot (first_item ts)) result outcome }
     ensures errors { IfErr result (IsSelectionError context.now.mode) }
 {
-    if only_expression(steps).is_some() || is_relative(steps) || root_filter(steps).is_some() {
+    if !is_walked(steps) {
         return Ok(None);
     }
     let all = Expressions::AreFilters;
@@ -122,13 +146,26 @@ fn listed_selection<'a>(context: &Context<'a>, steps: &'a [Path<'_>]) -> Result<
     ensures nodes { only_expression (steps_view steps.now) ≡ None → IfOk result (λ found. is_computed found ≡ false) }
     ensures errors { IfErr result (IsSelectionError context.now.mode) }
 {
-    if only_expression(steps).is_some() || root_filter(steps).is_some() || is_relative(steps) {
+    if !is_walked(steps) {
         return selection(context, steps);
     }
     let all = Expressions::AreFilters;
     let root = context.document.root;
     let firsts = listed_steps(context, all, Repeats::AreDropped, steps, root)?;
     Ok(Selected::Nodes(firsts))
+}
+
+/// Returns `true` if a path is evaluated step by step: not an expression, nor a filter of the root, nor one that begins
+/// with `@`, which fails.
+#[inline(always)]
+fn is_walked(steps: &[Path<'_>]) -> bool
+    ensures { result ≡ true → (only_expression (steps_view steps.now) ≡ None)
+        × (is_relative (steps_view steps.now) ≡ false) }
+{
+    if only_expression(steps).is_some() || is_relative(steps) {
+        return false;
+    }
+    root_filter(steps).is_none()
 }
 
 /// Returns the expression of a filter of the root, if the path is one.

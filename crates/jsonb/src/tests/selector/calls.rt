@@ -55,7 +55,17 @@ const ANSWERS: &str = r#"
 [1] 1 == -1 => false;[false];false;false;Ok(true);Ok(Some(false))
 [10,20,30] $[*] > 25 => true;[true];true;true;Ok(true);Ok(Some(true))
 [1,"a"] $[0] == 1 || $[1] == 1 => null;[null];null;null;Ok(true);Ok(None)
-[1] $.a => ;[];none;none;Ok(false);Ok(None)"#;
+[1] $.a => ;[];none;none;Ok(false);Ok(None)
+{"a":null,"b":[null]} $.a => null;[null];null;null;Ok(true);Ok(None)
+{"a":null,"b":[null]} $:a => null;[null];null;null;Ok(true);Ok(None)
+{"a":null,"b":[null]} $["a"] => null;[null];null;null;Ok(true);Ok(None)
+{"a":null,"b":[null]} $.c => ;[];none;none;Ok(false);Ok(None)
+{"a":null,"b":[null]} $.b == null => true;[true];true;true;Ok(true);Ok(Some(true))
+{"k":"v"} $.k == 5 => null;[null];null;null;Ok(true);Ok(None)
+[1] $.k == 5 => false;[false];false;false;Ok(true);Ok(Some(false))
+{"number":3720453,"type":"home"} $.number > 3 => true;[true];true;true;Ok(true);Ok(Some(true))
+{"number":3720453,"type":"home"} $.number < 3 => false;[false];false;false;Ok(true);Ok(Some(false))
+{"number":3720453,"type":"home"} $.number starts with "3" => null;[null];null;null;Ok(true);Ok(None)"#;
 
 /// Returns `true` if the calls of a selector, and those on the document itself, have this result.
 fn all_answer(alloc: Global, document: &str, path: &str, wanted: &str) -> Result<bool, Fail> {

@@ -9,6 +9,10 @@ const INDICES: &str = r#"
 [10,20,30] $[0, 0 to 1] => 10 10 20
 [] $[0 to 1] =>
 [10,20,30] $[-1] =>
+[10,20,30] $[last] => 30
+[10,20,30] $[last - 1 to 1] => 20
+[10,20,30] $[1 to 2] => 20 30
+[10,20,30] $[2 to 1] =>
 [10,20,30] $[last + 2147483647] =>
 [10,20,30] $[-2147483648 to 2147483647] => 10 20 30
 [10,20,30] $[last - 2147483647 to last] => 10 20 30"#;
@@ -47,7 +51,13 @@ FRED $.phones[*]?(@.type == "home" || exists(@.code) || @.type > 5) =>
 [] $[*]?(-@.a) =>
 [1] $[*]?(-@.a) => InvalidJsonPath
 DATE $?(@ == 2 || 1 == 1) => DATE
-FRED $.phones[*]?(@.number == 3720453) => {"number":3720453,"type":"home"}"#;
+FRED $.phones[*]?(@.number == 3720453) => {"number":3720453,"type":"home"}
+FRED $.phones[*]?(@.* == 3720453) => {"number":3720453,"type":"home"}
+FRED $.phones[*]?(@.* == "home") =>
+FRED $?(@.phones.* == "home") =>
+[5,{"b":2},{"a":1},{"a":[1]}] $[*]?(@.* == 1).a => 1 [1]
+{"a":{"b":[{"c":1}]}} $.a.b[*]?(@.* == 1).c => 1
+{"a":{"b":[{"c":1}]}} $?(@.a.* == 1) =>"#;
 
 /// Strings are compared by their bytes.
 const STRINGS: &str = r#"

@@ -37,7 +37,9 @@ FRED $.phones[*]?(@.type == "work" && @.number < 5 || @.number == 3720453) => {"
 [false,10,{"k":"v"}] $[*]?(exists($?(-@.a)) && @.k == 1) => InvalidJsonPath;InvalidJsonPath
 [10,20,30] $[*] + $.c => StrictPath;InvalidJsonPath
 [10,20,30] $[*]?(@.a + 1) => ;
-[1] $[*]?(-@.a) => InvalidJsonPath;InvalidJsonPath"#;
+[1] $[*]?(-@.a) => InvalidJsonPath;InvalidJsonPath
+[5,{"b":2},{"a":1},{"a":[1]}] $[*]?(@.* == 1).a => StrictPath;1 [1]
+[{"a":1},{"b":2}] $[*]?(@.* == 1).a => 1;1"#;
 
 /// Returns the results of both selectors.
 fn answers(alloc: Global, path: &str, document: &str) -> Result<String, Fail> {

@@ -10,3 +10,10 @@ returns-in_ok-document-in-Some-clause-truth c = λ form top d.
     (lone_is (path_view c.args.path.now) (expression_view c.in-Some.e.now)
     (ap (λ l. only_expression (steps_view l)) (sym c.deref.ensures.value) ∙ c.in-Some.ensures)))
     ((rw (c.context_of-context.ensures.mode, c.context_of-context.ensures.document) at c.expression_truth.ensures.meant) top k.1)
+
+pub returns-in-Some-root_compared-clause-truth : goal.returns-in-Some-root_compared-clause-truth
+returns-in-Some-root_compared-clause-truth c = λ form top d.
+    same_outcome (ap (λ p. predicate c.args.self.now.mode p top)
+    (lone_is (path_view c.args.path.now) (expression_view c.in-Some.e.now)
+    (ap (λ l. only_expression (steps_view l)) (sym c.deref.ensures.value) ∙ c.in-Some.ensures)))
+    (c.root_compared_truth.ensures.meant form (expression_view c.in-Some.e.now) top c.in-Some-root_compared.ensures (rw (sym c.as_bytes-bytes.ensures) at d))

@@ -1,4 +1,4 @@
-use Rattle.jsonb.proofs.Common.{rules, ◌≡◌, Bool, List, Option, Some, Ok, ap, ◌∙◌, Outcome, and_then, Tree, Truth, truth, is_some_item, IsAt}
+use Rattle.jsonb.proofs.Common.{rules, ◌≡◌, Bool, List, Option, Some, Ok, ap, ◌∙◌, Outcome, and_then, Tree, Truth, truth, is_some, first_item, IsAt}
 use Rattle.jsonb.proofs.PathNodes.{exists_is}
 use Rattle.jsonb.proofs.RefinesLemmas.{failed_as, same_outcome, first_refused, one_ok}
 use Rattle.jsonb.proofs.SearchLemmas.{found_any}
@@ -14,7 +14,7 @@ returns-in_default-3-clause-meant c = λ top r. c.truth.ensures.meant top top r 
 pub returns-in_err-found-clause-meant : goal.returns-in_err-found-clause-meant
 returns-in_err-found-clause-meant c = λ top r.
     let mode = c.args.context.now.mode in
-    let told : List Tree → Outcome Truth = λ ts. Ok (Some (is_some_item ts)) in
+    let told : List Tree → Outcome Truth = λ ts. Ok (Some (is_some (first_item ts))) in
     let view = ap (λ x. truth mode x top top) (exists_is c.args.e.now c.in-ExistsFunc.steps c.in-ExistsFunc.is)
     ∙ ap (λ o. and_then o told) (from_root mode c.in-ExistsFunc.steps.items _ top c.deref.ensures.value) in
     failed_as c.from_residual.ensures.1 (same_outcome view (first_refused told (c.in_err-found.ensures.meant top top r r)))
@@ -22,7 +22,7 @@ returns-in_err-found-clause-meant c = λ top r.
 pub returns-in-Some-clause-meant : goal.returns-in-Some-clause-meant
 returns-in-Some-clause-meant c = λ top r.
     let mode = c.args.context.now.mode in
-    let told : List Tree → Outcome Truth = λ ts. Ok (Some (is_some_item ts)) in
+    let told : List Tree → Outcome Truth = λ ts. Ok (Some (is_some (first_item ts))) in
     let view = ap (λ x. truth mode x top top) (exists_is c.args.e.now c.in-ExistsFunc.steps c.in-ExistsFunc.is)
     ∙ ap (λ o. and_then o told) (from_root mode c.in-ExistsFunc.steps.items _ top c.deref.ensures.value) in
     same_outcome view (one_ok {S = λ (b : Option Bool) d. b ≡ d} {z = Some c.is_some.result} told

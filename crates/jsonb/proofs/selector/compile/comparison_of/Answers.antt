@@ -1,5 +1,6 @@
 use Rattle.jsonb.proofs.Common.{ap, sym, ◌∙◌, steps_of, steps_view, expression_view, truth, value_view, arith}
 use Rattle.jsonb.proofs.ComparedLemmas.{compares_member}
+use Rattle.jsonb.proofs.ListLemmas.{compares_children}
 use Rattle.jsonb.proofs.MirrorLemmas.{member_mirrored}
 use Rattle.jsonb.proofs.TestLemmas.{compares_members}
 use Rattle.jsonb.specs.PathTree as math
@@ -36,4 +37,15 @@ returns-in_ok-turned-in-None-Some c = λ _.
           ap (λ x. truth mode (math.binary c.args.op (expression_view c.args.left.now) x) top t) k.ensures'.1
           ∙ member_mirrored mode c.args.op turned.turned (expression_view c.args.left.now)
           (value_view literal.literal) (steps_of (steps_view k.names.now)) top t (sym turned.ensures) (literal.ensures mode top t);
+    }
+
+pub returns-in_ok-literal-in-None-None : goal.returns-in_ok-literal-in-None-None
+returns-in_ok-literal-in-None-None c = λ compares.
+    let names = c.in_ok-names-in-None-None in
+    let literal = c.in_ok-literal-in-None-None in
+    record {
+      members = names.ensures.0;
+      compares = λ mode top t.
+          ap (λ x. truth mode (math.binary c.args.op x (expression_view c.args.right.now)) top t) names.ensures.1
+          ∙ compares_children mode c.args.op (steps_view names.names.now) (expression_view c.args.right.now) (value_view literal.literal) top t compares (literal.ensures mode top t);
     }

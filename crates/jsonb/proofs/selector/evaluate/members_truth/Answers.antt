@@ -1,5 +1,5 @@
-use Rattle.jsonb.proofs.Common.{◌≡◌, Ok, ap, sym, ◌∙◌, flat_map, compare, values_view, values_of_item, AreRefused}
-use Rattle.jsonb.proofs.RefinesLemmas.{failed_as, same_outcome, first_refused, second_refused, followed, only_memory}
+use Rattle.jsonb.proofs.Common.{Ok, flat_map, compare, values_of_item, AreRefused}
+use Rattle.jsonb.proofs.RefinesLemmas.{failed_as, same_outcome, first_refused, second_refused, followed}
 use Rattle.jsonb.proofs.TestLemmas.{both_members}
 use Rattle.jsonb.proofs.selector.evaluate.members_truth.Goals as goal
 
@@ -14,19 +14,8 @@ returns-in_err-right-clause-meant c = λ e top t k m.
     (second_refused (λ ls rs. Ok (compare c.args.comparison.now.op (flat_map values_of_item ls) (flat_map values_of_item rs)))
     (c.in_ok-left.ensures.meant AreRefused top t k.left m) (c.in_err-right.ensures.meant AreRefused top t k.right m)))
 
-pub returns-in_err-rights-clause-meant : goal.returns-in_err-rights-clause-meant
-returns-in_err-rights-clause-meant c = λ e top t k m.
-    failed_as c.from_residual-in_err-rights.ensures.1 (same_outcome (both_members c.args.comparison.now e c.args.mode top t k)
-    (followed _ (c.in_ok-left.ensures.meant AreRefused top t k.left m) (λ ls a.
-    followed _ (c.in_ok-right.ensures.meant AreRefused top t k.right m) (λ rs b.
-    only_memory (c.in_err-rights.ensures.meant rs (rw (sym c.at_most_one.ensures) at b))))))
-
 pub returns-clause-meant : goal.returns-clause-meant
 returns-clause-meant c = λ e top t k m.
     same_outcome (both_members c.args.comparison.now e c.args.mode top t k)
     (followed _ (c.in_ok-left.ensures.meant AreRefused top t k.left m) (λ ls a.
-    followed _ (c.in_ok-right.ensures.meant AreRefused top t k.right m) (λ rs b.
-    let values : values_view c.in_ok-rights.rights ≡ flat_map values_of_item rs =
-    (c.in_ok-rights.ensures.meant rs (rw (sym c.at_most_one.ensures) at b)).ok in
-    same_outcome (ap (λ v. Ok (compare c.args.comparison.now.op (flat_map values_of_item ls) v)) (sym values ∙ sym c.as_slice.ensures))
-    (c.found_truth.ensures.meant ls a))))
+    followed _ (c.in_ok-right.ensures.meant AreRefused top t k.right m) (λ rs b. c.members_compared.ensures.meant ls rs a b)))

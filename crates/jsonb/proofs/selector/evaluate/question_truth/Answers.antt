@@ -1,4 +1,4 @@
-use Rattle.jsonb.proofs.Common.{rules, [], ◌∷◌, Ok, Some, ap, sym, ◌∙◌, and_then, Locates, steps_meaning, is_some_item, steps_of, steps_view, AreRefused, arith}
+use Rattle.jsonb.proofs.Common.{rules, [], ◌∷◌, Ok, Some, ap, sym, ◌∙◌, and_then, Locates, steps_meaning, is_some, first_item, steps_of, steps_view, AreRefused, arith}
 use Rattle.jsonb.proofs.RefinesLemmas.{same_outcome, one_ok}
 use Rattle.jsonb.proofs.KeptLemmas.{known}
 use Rattle.jsonb.proofs.StepLemmas.{refused_steps}
@@ -26,9 +26,12 @@ pub returns-in_ok-found-in-MemberFound-clause-meant : goal.returns-in_ok-found-i
 returns-in_ok-found-in-MemberFound-clause-meant c = λ e top t q m.
     let k = rw c.in-MemberFound.is at q in
     same_outcome (k.finds c.args.mode top t
-    ∙ ap (λ l. and_then (steps_meaning c.args.mode (steps_of l) top (t ∷ [])) (λ ts. Ok (Some (is_some_item ts)))) (sym (refused_steps (steps_view c.in-MemberFound.asked.names.now))))
-    (one_ok (λ ts. Ok (Some (is_some_item ts))) (c.in_ok-found-in-MemberFound.ensures.meant AreRefused top t k.members (rw c.spot_by_parts-in-MemberFound.ensures m))
+    ∙ ap (λ l. and_then (steps_meaning c.args.mode (steps_of l) top (t ∷ [])) (λ ts. Ok (Some (is_some (first_item ts))))) (sym (refused_steps (steps_view c.in-MemberFound.asked.names.now))))
+    (one_ok (λ ts. Ok (Some (is_some (first_item ts)))) (c.in_ok-found-in-MemberFound.ensures.meant AreRefused top t k.members (rw c.spot_by_parts-in-MemberFound.ensures m))
     (λ us related. ap Some (c.is_some.ensures ∙ found_is_item (Locates c.args.bytes.now) _ us related)))
+
+pub returns-in-ChildrenCompared-clause-meant : goal.returns-in-ChildrenCompared-clause-meant
+returns-in-ChildrenCompared-clause-meant c = λ e top t q m. grind (arith, c.children_truth.ensures.meant, c.in-ChildrenCompared.is, c.spot_by_parts-in-ChildrenCompared.ensures)
 
 pub returns-in-Unknown-clause-meant : goal.returns-in-Unknown-clause-meant
 returns-in-Unknown-clause-meant c = search (rules, known)

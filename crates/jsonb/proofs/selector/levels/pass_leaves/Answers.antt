@@ -1,6 +1,6 @@
 use Rattle.jsonb.proofs.Common.{rules, ◌≡◌, ◌∷◌, [], ◌<◌, ap, sym, ◌∙◌, arith, if◌then◌else◌, no_refusal, spots_bound, children_of, preorder}
 use Rattle.jsonb.proofs.BelowLemmas.{none_passed, leaf_passed, next_left, none_left}
-use Rattle.jsonb.proofs.LevelLemmas.{preorder-leaf}
+use Rattle.jsonb.proofs.LevelLemmas.{preorder-leaf, taken_is}
 use Rattle.jsonb.proofs.Progress.{spot_first, spot_end}
 use Rattle.jsonb.proofs.WholeLemmas.{none_of}
 use Rattle.jsonb.proofs.selector.levels.pass_leaves.Goals as goal
@@ -37,7 +37,7 @@ loop-child-preserved c =
           let f = spot_first bytes c.in_ok-child.was c.in-Some.ensures.steps w.rest w.left in
           let leaf = none_of (children_of f.first) (sym (c.is_container.ensures bytes f.first f.holds) ∙ c.if-is_container.false) in
           let own_is : (if c.args.is_taken then f.first ∷ [] else []) ≡ preorder levels n f.first =
-          ap (λ b. if b then f.first ∷ [] else []) l ∙ sym (preorder-leaf levels n f.first leaf) in
+          ap (λ b. if b then f.first ∷ [] else []) l ∙ sym (taken_is levels n f.first) ∙ sym (preorder-leaf levels n f.first leaf) in
           leaf_passed bytes levels n ts before _ _ _ _ _ w f
           (λ given done. rw own_is at ((c.in_ok-push_if.ensures.meant bytes f.first given f.holds done).ok));
     }

@@ -1,0 +1,8 @@
+use Rattle.jsonb.proofs.Common.{decodes_any}
+use Rattle.jsonb.proofs.selector.members.root_field.Goals as goal
+
+pub returns-in_err-root-clause-meant : goal.returns-in_err-root-clause-meant
+returns-in_err-root-clause-meant c = λ form top d. absurd (c.in_err-root.ensures.marks top (decodes_any form c.args.bytes.now top d))
+
+pub returns-clause-meant : goal.returns-clause-meant
+returns-clause-meant c = λ form top d. c.field.ensures.meant top (c.in_ok-root.ensures.marks top (decodes_any form c.args.bytes.now top d))
