@@ -11,6 +11,7 @@ pub mod HandleValues
 pub mod PreparedLemmas
 pub mod BuilderLemmas
 pub mod ItemLemmas
+pub mod LimitLemmas
 mod SpanLemmas
 mod StatusNames
 mod KindLemmas

@@ -9,7 +9,7 @@ use Rattle.jsonb_c.specs.Private.Numbers.{status_name}
 use Rattle.jsonb_c.specs.Private.Views.{found_text}
 use Rattle.jsonb_c.specs.Status.{code, number_and_name}
 use Rattle.jsonb_c.specs.declared.status.Status.{Status}
-use Rattle.jsonb_c.specs.declared.status.Status.TheVariants.{Answered, Absent, BufferTooSmall, BadOffsets, NotUtf8, NoPath, Computed, OutOfOrder, NotJsonPath, Refused}
+use Rattle.jsonb_c.specs.declared.status.Status.TheVariants.{Answered, Absent, BufferTooSmall, BadOffsets, NotUtf8, NoPath, Computed, OutOfOrder, NotJsonPath, LimitExceeded, Refused}
 
 -- the name of a status is that of its number
 named : (s : Status) → status_name (code s) ≡ Some (number_and_name s).1
@@ -34,6 +34,7 @@ named (Refused TooDeep) = refl
 named (Refused OutOfMemory) = refl
 named (Refused StrictPath) = refl
 named (Refused InvalidJsonPath) = refl
+named LimitExceeded = refl
 named (Refused (Arithmetic Overflow)) = refl
 named (Refused (Arithmetic ZeroDivisor)) = refl
 named (Refused (Arithmetic Inexact)) = refl
@@ -73,6 +74,7 @@ no_name n none =
     other n 26 _ _ (none (Refused OutOfMemory)) ∙
     other n 27 _ _ (none (Refused StrictPath)) ∙
     other n 28 _ _ (none (Refused InvalidJsonPath)) ∙
+    other n 29 _ _ (none LimitExceeded) ∙
     other n 48 _ _ (none (Refused (Arithmetic Overflow))) ∙
     other n 49 _ _ (none (Refused (Arithmetic ZeroDivisor))) ∙
     other n 50 _ _ (none (Refused (Arithmetic Inexact))) ∙

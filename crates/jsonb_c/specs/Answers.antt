@@ -1,5 +1,5 @@
 -- Results written to the caller's memory, and the status of each.
-use Rattle.std.specs.Prelude.{◌≡◌, ◌⊎◌, ◌≤◌, ◌++◌, ℕ, List, [], ◌∷◌, drop, length, Option, Some, None, option_map, unwrap_or, Result, Ok, Err, IfErr, MatchResult}
+use Rattle.std.specs.Prelude.{◌≡◌, ◌⊎◌, ◌≤◌, ◌++◌, ℕ, List, [], ◌∷◌, drop, length, Option, Some, None, option_map, unwrap_or, Result, Ok, Err, IfErr, MatchOption, MatchResult}
 use Rattle.std.specs.List.{AllZip, zip}
 use Rattle.jsonb_doc.specs.declared.error.Error.{Error}
 use Rattle.jsonb_doc.specs.declared.error.Error.TheVariants.{OutOfMemory}
@@ -11,7 +11,7 @@ use Rattle.std.specs.Int.{from_bool}
 use Rattle.jsonb.specs.Compare.{Truth}
 use Rattle.jsonb_c.specs.Status.{code}
 use Rattle.jsonb_c.specs.declared.status.Status.{Status}
-use Rattle.jsonb_c.specs.declared.status.Status.TheVariants.{Absent, Answered, BufferTooSmall, Refused}
+use Rattle.jsonb_c.specs.declared.status.Status.TheVariants.{Absent, Answered, BufferTooSmall, NoPath, Refused}
 
 -- The result of a call: a value, `None`, or an error.
 abbrev pub Found : Type 0 → Type 0
@@ -41,7 +41,11 @@ WritesAll lists old new status =
 abbrev pub DeliversBytes : List ℕ → List ℕ → List ℕ → ℕ → ℕ → Type 0
 DeliversBytes bytes old new len status = (len ≡ length bytes) × WritesAll (bytes ∷ []) (old ∷ []) (new ∷ []) status
 
--- Holds if nothing is delivered, with this status, and the buffer is unchanged.
+-- Holds if the caller's value is unchanged, and this is the status.
+abbrev pub ShowsNothing : {A : Type 0} → Status → A → A → ℕ → Type 0
+ShowsNothing cause old new status = (new ≡ old) × (status ≡ code cause)
+
+-- Holds if no bytes are delivered: the buffer is unchanged, and this is the status.
 abbrev pub DeliversNothing : Status → List ℕ → List ℕ → ℕ → ℕ → Type 0
 DeliversNothing cause old new len status = (len ≡ 0) × (new ≡ old) × (status ≡ code cause)
 
@@ -57,11 +61,11 @@ Delivers (Err e) old new len status = DeliversNothing (Refused e) old new len st
 abbrev pub truth_byte : Truth → ℕ
 truth_byte truth = unwrap_or (option_map from_bool truth) 2
 
--- Holds if the value is delivered; it is unchanged if there is none or the call fails.
+-- Holds if the value is delivered; the caller's is unchanged if there is none or the call fails.
 abbrev pub Shows : {A : Type 0} → Found A → A → A → ℕ → Type 0
 Shows (Ok (Some x)) old new status = (new ≡ x) × (status ≡ code Answered)
-Shows (Ok None) old new status = (new ≡ old) × (status ≡ code Absent)
-Shows (Err e) old new status = (new ≡ old) × (status ≡ code (Refused e))
+Shows (Ok None) old new status = ShowsNothing Absent old new status
+Shows (Err e) old new status = ShowsNothing (Refused e) old new status
 
 -- ---- values that always exist
 
@@ -79,7 +83,7 @@ ShowsAs written old new status answer = Shows (found_as written (always answer))
 
 -- ---- what a call promises
 
--- Holds for a document that decodes, in any form.
+-- Holds if the promise does for the tree that the document decodes to, in each form in which it does.
 abbrev pub OfDocument : {A : Type 0} → List ℕ → (Form → Tree → A → Type 0) → A → Type 0
 OfDocument document Promise answer = (form : Form) (t : Tree) → Decodes form document t → Promise form t answer
 
@@ -99,3 +103,9 @@ abbrev pub DeliversBy : {P : Type 0} → Result P Status → (P → (Found (List
     → ℕ → ℕ → Type 0
 DeliversBy read Call old new len status = With read (λ input. Call input (λ answer. Delivers answer old new len status))
     (λ cause. DeliversNothing cause old new len status)
+
+-- Holds if what the call finds with the kept path or items is delivered. If the handle keeps none, nothing is.
+abbrev pub DeliversKept : {P : Type 0} → Option P → (P → (Found (List ℕ) → Type 0) → Type 0) → List ℕ → List ℕ
+    → ℕ → ℕ → Type 0
+DeliversKept kept Call old new len status = MatchOption kept (DeliversNothing NoPath old new len status)
+    (λ input. Call input (λ answer. Delivers answer old new len status))

@@ -14,7 +14,7 @@ use Rattle.jsonb_doc.specs.declared.event_error.EventError.TheVariants.{Failed}
 use Rattle.jsonb_doc.specs.declared.event_error.EventError.TheVariants as refusal
 use Rattle.jsonb_doc.specs.declared.text_event.TextEvent.{TextEvent}
 use Rattle.jsonb_c.specs.Representation.Prepared.{items_left, json_steps, key_steps}
-use Rattle.jsonb_c.specs.Answers.{DeliversBytes, DeliversNothing, DeliversValue, WritesResult}
+use Rattle.jsonb_c.specs.Answers.{DeliversBytes, DeliversNothing, DeliversValue, ShowsNothing, WritesResult}
 use Rattle.jsonb_c.specs.Status.{code}
 use Rattle.jsonb_c.specs.declared.status.Status.TheVariants.{Answered, NoPath, OutOfOrder, Refused}
 use Rattle.jsonb_c.specs.declared.prepared.path.PreparedPath.{PreparedPath}
@@ -49,7 +49,7 @@ TakesEvent form before meaning status kept =
 pub record Follows (form : Form) (event : Event) (old : Option PreparedPath) (status : ℕ)
     (new : Option PreparedPath) : Type 0 where
   pub takes : (s : State) → HoldsEvents form old s → TakesEvent form s (next event s) status new
-  pub other : KeepsOther old → (new ≡ old) × (status ≡ code NoPath)
+  pub other : KeepsOther old → ShowsNothing NoPath old new status
 
 -- ---- the document
 

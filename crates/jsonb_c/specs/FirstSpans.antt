@@ -8,6 +8,7 @@ use Rattle.jsonb.specs.SelectorAnswers.{ByMeanings, first_item}
 use Rattle.jsonb.specs.declared.selector.document.Mode.{Mode}
 use Rattle.jsonb.specs.declared.selector.first_item.FirstItem.{FirstItem}
 use Rattle.jsonb.specs.declared.selector.first_item.FirstItem.TheVariants as item
+use Rattle.jsonb_c.specs.Answers.{ShowsNothing}
 use Rattle.jsonb_c.specs.Spans.{IsSpanOf}
 use Rattle.jsonb_c.specs.Status.{code}
 use Rattle.jsonb_c.specs.declared.status.Status.TheVariants.{Absent, Answered, Computed, Refused}
@@ -19,9 +20,9 @@ FindsFirstSpan mode document path = ByMeanings mode document path (λ form outco
     (λ found ts. SameOption (IsFirstItem (IsSpanOf form document) (is_predicate path)) found (first_item ts))
     IsOutOfMemory answer outcome)
 
--- Holds if the span is delivered; it is unchanged if there is none or the call fails.
+-- Holds if the span is delivered; the caller's is unchanged if there is none, the item is computed, or the call fails.
 abbrev pub ShowsFirst : Result (Option (FirstItem Span)) Error → Span → Span → ℕ → Type 0
 ShowsFirst (Ok (Some (item.At span))) old new status = (new ≡ span) × (status ≡ code Answered)
-ShowsFirst (Ok (Some item.Computed)) old new status = (new ≡ old) × (status ≡ code Computed)
-ShowsFirst (Ok None) old new status = (new ≡ old) × (status ≡ code Absent)
-ShowsFirst (Err e) old new status = (new ≡ old) × (status ≡ code (Refused e))
+ShowsFirst (Ok (Some item.Computed)) old new status = ShowsNothing Computed old new status
+ShowsFirst (Ok None) old new status = ShowsNothing Absent old new status
+ShowsFirst (Err e) old new status = ShowsNothing (Refused e) old new status

@@ -5,6 +5,7 @@ pub mod Kinds
 pub mod Columns
 pub mod Names
 pub mod Spans
+pub mod Limits
 pub mod FirstSpans
 pub mod Cursors
 pub mod Making

@@ -3,7 +3,7 @@ use Rattle.std.specs.Prelude.{ℕ, List, codes}
 use Rattle.jsonb_doc.specs.declared.error.Error.TheVariants.{InvalidJsonb, UnsupportedNumber, InvalidJsonPath, InvalidKeyPath, InvalidCast, InvalidObject, InvalidJsonType, ObjectDuplicateKey, Arithmetic, TooLarge, TooDeep, OutOfMemory, StrictPath}
 use Rattle.jsonb_doc.specs.declared.error.ArithmeticFault.TheVariants.{Overflow, ZeroDivisor, Inexact, DecimalOperand}
 use Rattle.jsonb_c.specs.declared.status.Status.{Status}
-use Rattle.jsonb_c.specs.declared.status.Status.TheVariants.{Answered, Absent, BufferTooSmall, BadOffsets, NotUtf8, NoPath, Computed, OutOfOrder, NotJsonPath, Refused}
+use Rattle.jsonb_c.specs.declared.status.Status.TheVariants.{Answered, Absent, BufferTooSmall, BadOffsets, NotUtf8, NoPath, Computed, OutOfOrder, NotJsonPath, LimitExceeded, Refused}
 
 -- The number and the name of a status. Text that is not a JSON path and a path that fails on a document have different
 -- statuses.
@@ -29,10 +29,12 @@ number_and_name (Refused TooDeep) = (25, codes "JDOC_TOO_DEEP")
 number_and_name (Refused OutOfMemory) = (26, codes "JDOC_OUT_OF_MEMORY")
 number_and_name (Refused StrictPath) = (27, codes "JDOC_STRICT_PATH")
 number_and_name (Refused InvalidJsonPath) = (28, codes "JDOC_PATH_FAILED")
+number_and_name LimitExceeded = (29, codes "JDOC_LIMIT_EXCEEDED")
 number_and_name (Refused (Arithmetic Overflow)) = (48, codes "JDOC_OVERFLOW")
 number_and_name (Refused (Arithmetic ZeroDivisor)) = (49, codes "JDOC_ZERO_DIVISOR")
 number_and_name (Refused (Arithmetic Inexact)) = (50, codes "JDOC_INEXACT")
 number_and_name (Refused (Arithmetic DecimalOperand)) = (51, codes "JDOC_DECIMAL_OPERAND")
 
+-- The number of a status, which is what a call returns.
 abbrev pub code : Status → ℕ
 code status = (number_and_name status).0

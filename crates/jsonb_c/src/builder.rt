@@ -9,6 +9,7 @@ ghost use Rattle.jsonb_doc.specs.Number.{int64, number_from, uint64};
 ghost use Rattle.jsonb_doc.specs.Payload.{Form};
 ghost use Rattle.jsonb_doc.specs.Tree as spec;
 ghost use Rattle.jsonb_doc.specs.Tree.{Tree};
+ghost use Rattle.jsonb_c.specs.Answers.{ShowsNothing};
 ghost use Rattle.jsonb_c.specs.Builders.{Finishes, Follows, HoldsEvents};
 ghost use Rattle.jsonb_c.specs.Making.{IsDecimalOf};
 ghost use Rattle.jsonb_c.specs.Status.{code};
@@ -55,7 +56,7 @@ pub extern "C" fn jdoc_builder_end(alloc: Global, builder: &mut PathHandle) -> u
 pub extern "C" fn jdoc_builder_key(alloc: Global, builder: &mut PathHandle, key: &[u8]) -> u32
     ensures key { IsUtf8 key.now
         → (form : Form) → Follows form (key_is key.now) builder.old.value result builder.new.value }
-    ensures other { ¬ (IsUtf8 key.now) → (builder.new.value ≡ builder.old.value) × (result ≡ code NotUtf8) }
+    ensures other { ¬ (IsUtf8 key.now) → ShowsNothing NotUtf8 builder.old.value builder.new.value result }
 {
     let Ok(key) = str::from_utf8(key) else {
         return Status::NotUtf8.to_u32();
@@ -119,7 +120,7 @@ pub extern "C" fn jdoc_builder_decimal(
 pub extern "C" fn jdoc_builder_str(alloc: Global, builder: &mut PathHandle, text: &[u8]) -> u32
     ensures text { IsUtf8 text.now
         → (form : Form) → Follows form (value_is (spec.text text.now)) builder.old.value result builder.new.value }
-    ensures other { ¬ (IsUtf8 text.now) → (builder.new.value ≡ builder.old.value) × (result ≡ code NotUtf8) }
+    ensures other { ¬ (IsUtf8 text.now) → ShowsNothing NotUtf8 builder.old.value builder.new.value result }
 {
     let Ok(text) = str::from_utf8(text) else {
         return Status::NotUtf8.to_u32();

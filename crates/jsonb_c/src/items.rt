@@ -7,10 +7,11 @@ ghost use Rattle.jsonb.specs.FoundItems.{IsItemOf};
 ghost use Rattle.jsonb.specs.PathViews.{path_view};
 ghost use Rattle.jsonb.specs.SelectionErrors.{IsSelectionError};
 ghost use Rattle.jsonb.specs.SelectorAnswers.{ByMeanings, AreAll};
-ghost use Rattle.jsonb_c.specs.Answers.{Delivers, DeliversNothing, WritesResult};
+ghost use Rattle.jsonb_c.specs.Answers.{Delivers, DeliversKept, WritesResult};
 ghost use Rattle.jsonb_c.specs.Calls.{mode_of};
+ghost use Rattle.jsonb_c.specs.Limits.{WithPath};
 ghost use Rattle.jsonb_c.specs.Items.{IsNextOf, LeavesItems};
-ghost use Rattle.jsonb_c.specs.Representation.Prepared.{items_left, json_steps};
+ghost use Rattle.jsonb_c.specs.Representation.Prepared.{items_left, json_limit, json_steps};
 ghost use Rattle.jsonb_c.specs.Private.Boxes.{HoldsItems};
 ghost use Rattle.jsonb_c.specs.Status.{code};
 ghost use Rattle.jsonb_c.specs.declared.status.Status.TheVariants.{Answered, NoPath, Refused};
@@ -36,11 +37,12 @@ pub extern "C" fn jdoc_path_items(
     items: &mut PathHandle,
 ) -> u32
     ensures kept { path.new.value ≡ path.old.value }
-    ensures items { MatchOption (json_steps path.old.value) ((items.new.value ≡ None) × (result ≡ code NoPath))
+    ensures items { WithPath (json_limit path.old.value) (json_steps path.old.value) document.now
         (λ steps. WritesResult (ByMeanings (mode_of strict) document.now steps (AreAll (IsItemOf document.now)))
         (IsSelectionError (mode_of strict) or TooLarge) (λ answer. MatchResult answer
         (λ found. (result ≡ code Answered) × (items_left items.new.value ≡ Some found.items))
-        (λ e. (result ≡ code (Refused e)) × (items.new.value ≡ None)))) }
+        (λ e. (result ≡ code (Refused e)) × (items.new.value ≡ None))))
+        (λ cause. (result ≡ code cause) × (items.new.value ≡ None)) }
 {
     let Some(kept) = path.take(alloc) else {
         return items.keep(alloc, Err(Status::NoPath));
@@ -51,20 +53,20 @@ pub extern "C" fn jdoc_path_items(
 }
 
 /// Returns what a path selects, or the status if it is not a JSON path or fails.
+#[tactic(auto, using(crate::proofs::LimitLemmas::admitted))]
 fn items_of(
     alloc: Global,
     path: &PreparedPath,
     document: &[u8],
     strict: bool,
 ) -> Result<Box<PreparedPath>, Status>
-    ensures { MatchOption (json_steps (Some path.now)) (result ≡ Err NoPath)
+    ensures { WithPath (json_limit (Some path.now)) (json_steps (Some path.now)) document.now
         (λ steps. WritesResult (ByMeanings (mode_of strict) document.now steps (AreAll (IsItemOf document.now)))
-        (IsSelectionError (mode_of strict) or TooLarge) (λ answer. HoldsItems answer result)) }
+        (IsSelectionError (mode_of strict) or TooLarge) (λ answer. HoldsItems answer result))
+        (λ cause. result ≡ Err cause) }
 {
-    match path.json() {
-        Some(steps) => boxed_items(alloc, steps, document, strict),
-        None => Err(Status::NoPath),
-    }
+    let steps = path.admitted(alloc, document)?;
+    boxed_items(alloc, steps, document, strict)
 }
 
 fn boxed_items(
@@ -97,10 +99,9 @@ pub extern "C" fn jdoc_items_next(
     out: &mut [u8],
     out_len: &mut usize,
 ) -> u32
-    ensures item { MatchOption (items_left items.old.value)
-        (DeliversNothing NoPath out.old out.new out_len.new result)
-        (λ left. WritesResult (IsNextOf document.now left) (IsDecodingError or OutOfMemory or TooLarge)
-        (λ answer. Delivers answer out.old out.new out_len.new result)) }
+    ensures item { DeliversKept (items_left items.old.value)
+        (λ left. WritesResult (IsNextOf document.now left) (IsDecodingError or OutOfMemory or TooLarge))
+        out.old out.new out_len.new result }
     ensures left { LeavesItems result items.old.value items.new.value }
 {
     let Some(mut kept) = items.take(alloc) else {
@@ -119,10 +120,9 @@ fn deliver_next(
     out: &mut [u8],
     out_len: &mut usize,
 ) -> u32
-    ensures item { MatchOption (items_left (Some kept.old))
-        (DeliversNothing NoPath out.old out.new out_len.new result)
-        (λ left. WritesResult (IsNextOf document.now left) (IsDecodingError or OutOfMemory or TooLarge)
-        (λ answer. Delivers answer out.old out.new out_len.new result)) }
+    ensures item { DeliversKept (items_left (Some kept.old))
+        (λ left. WritesResult (IsNextOf document.now left) (IsDecodingError or OutOfMemory or TooLarge))
+        out.old out.new out_len.new result }
     ensures left { LeavesItems result (Some kept.old) (Some kept.new) }
 {
     match kept {

@@ -1,11 +1,11 @@
 //! Functions on a prepared key path and one document.
 
-ghost use Rattle.std.specs.Prelude.{◌≡◌, MatchOption, MatchResult, Some, None, ok_or};
+ghost use Rattle.std.specs.Prelude.{◌≡◌, MatchResult, Some, None, ok_or};
 ghost use Rattle.jsonb_doc.specs.Answer.{IsOutOfMemory};
 ghost use Rattle.jsonb_doc.specs.declared.error.Error.TheVariants.{InvalidKeyPath};
 ghost use Rattle.jsonb.specs.ErrorPosition.{key_path_error_position as spec_key_path_error_position};
 ghost use Rattle.jsonb.specs.KeyPathGrammar.{key_path};
-ghost use Rattle.jsonb_c.specs.Answers.{Delivers, DeliversNothing, DeliversValue, Shows, With, WritesResult};
+ghost use Rattle.jsonb_c.specs.Answers.{DeliversKept, Shows, With, WritesResult, always};
 ghost use Rattle.jsonb_c.specs.Calls.{DeletesPart, FindsPart};
 ghost use Rattle.jsonb_c.specs.Status.{code};
 ghost use Rattle.jsonb_c.specs.Representation.Prepared.{key_steps};
@@ -59,9 +59,8 @@ pub extern "C" fn jdoc_keypath_get(
     out_len: &mut usize,
 ) -> u32
     ensures kept { path.new.value ≡ path.old.value }
-    ensures part { MatchOption (key_steps path.old.value) (DeliversNothing NoPath out.old out.new out_len.new result)
-        (λ steps. FindsPart steps document.now
-        (λ answer. Delivers answer out.old out.new out_len.new result)) }
+    ensures part { DeliversKept (key_steps path.old.value)
+        (λ steps. FindsPart steps document.now) out.old out.new out_len.new result }
 {
     let Some(kept) = path.take(alloc) else {
         return deliver_nothing(Status::NoPath, out_len);
@@ -79,9 +78,8 @@ fn deliver_part(
     out: &mut [u8],
     out_len: &mut usize,
 ) -> u32
-    ensures { MatchOption (key_steps (Some path.now)) (DeliversNothing NoPath out.old out.new out_len.new result)
-        (λ steps. FindsPart steps document.now
-        (λ answer. Delivers answer out.old out.new out_len.new result)) }
+    ensures { DeliversKept (key_steps (Some path.now))
+        (λ steps. FindsPart steps document.now) out.old out.new out_len.new result }
 {
     match path.keys() {
         Some(steps) => {
@@ -102,8 +100,9 @@ pub extern "C" fn jdoc_keypath_delete(
     out_len: &mut usize,
 ) -> u32
     ensures kept { path.new.value ≡ path.old.value }
-    ensures rest { MatchOption (key_steps path.old.value) (DeliversNothing NoPath out.old out.new out_len.new result)
-        (λ steps. DeletesPart steps document.now (DeliversValue out.old out.new out_len.new result)) }
+    ensures rest { DeliversKept (key_steps path.old.value)
+        (λ steps IsShown. DeletesPart steps document.now (λ answer. IsShown (always answer)))
+        out.old out.new out_len.new result }
 {
     let Some(kept) = path.take(alloc) else {
         return deliver_nothing(Status::NoPath, out_len);
@@ -121,8 +120,9 @@ fn deliver_rest(
     out: &mut [u8],
     out_len: &mut usize,
 ) -> u32
-    ensures { MatchOption (key_steps (Some path.now)) (DeliversNothing NoPath out.old out.new out_len.new result)
-        (λ steps. DeletesPart steps document.now (DeliversValue out.old out.new out_len.new result)) }
+    ensures { DeliversKept (key_steps (Some path.now))
+        (λ steps IsShown. DeletesPart steps document.now (λ answer. IsShown (always answer)))
+        out.old out.new out_len.new result }
 {
     match path.keys() {
         Some(steps) => {

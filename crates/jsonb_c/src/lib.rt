@@ -20,6 +20,7 @@ mod items;
 mod keypath;
 mod laws;
 mod leaves;
+mod limit;
 mod path;
 mod prepared;
 mod read;

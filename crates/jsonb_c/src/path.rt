@@ -1,17 +1,18 @@
 //! Functions on a prepared JSON path and one document.
 
-ghost use Rattle.std.specs.Prelude.{◌≡◌, MatchOption, MatchResult, Some, None, ok_or};
+ghost use Rattle.std.specs.Prelude.{◌≡◌, MatchResult, Some, None, ok_or};
 ghost use Rattle.jsonb_doc.specs.Answer.{IsOutOfMemory};
 ghost use Rattle.jsonb.specs.PathErrorPosition.{json_path_error_position as spec_json_path_error_position};
 ghost use Rattle.jsonb.specs.PathGrammar.{json_path};
 ghost use Rattle.jsonb.specs.SelectorAnswers.{first_item, single_or_array};
-ghost use Rattle.jsonb_c.specs.Answers.{Delivers, DeliversNothing, Shows, ShowsAs, With, WritesResult, truth_byte};
+ghost use Rattle.jsonb_c.specs.Answers.{Shows, ShowsAs, ShowsNothing, With, WritesResult, truth_byte};
 ghost use Rattle.jsonb_c.specs.Calls.{SelectsItem, TellsExistence, TellsTruth, mode_of, one_array};
+ghost use Rattle.jsonb_c.specs.Limits.{DeliversPath, WithPath};
 ghost use Rattle.jsonb_c.specs.Status.{code};
 ghost use Rattle.std.specs.Int.{from_bool};
-ghost use Rattle.jsonb_c.specs.Representation.Prepared.{json_steps};
+ghost use Rattle.jsonb_c.specs.Representation.Prepared.{json_limit, json_steps, predicate_limit};
 ghost use Rattle.jsonb_c.specs.Private.Views.{pick_of};
-ghost use Rattle.jsonb_c.specs.declared.status.Status.TheVariants.{Answered, NoPath, NotJsonPath};
+ghost use Rattle.jsonb_c.specs.declared.status.Status.TheVariants.{Answered, NotJsonPath};
 
 use crate::deliver::{deliver, deliver_nothing, store_bool, store_found, store_truth};
 use crate::document::select::{Pick, exists_by_path, match_by_path, pick_by_path};
@@ -58,9 +59,8 @@ pub extern "C" fn jdoc_path_select_first(
     out_len: &mut usize,
 ) -> u32
     ensures kept { path.new.value ≡ path.old.value }
-    ensures item { MatchOption (json_steps path.old.value) (DeliversNothing NoPath out.old out.new out_len.new result)
-        (λ steps. SelectsItem (mode_of strict) first_item steps document.now
-        (λ answer. Delivers answer out.old out.new out_len.new result)) }
+    ensures item { DeliversPath (json_limit path.old.value) (json_steps path.old.value) document.now
+        (λ steps. SelectsItem (mode_of strict) first_item steps document.now) out.old out.new out_len.new result }
 {
     select(alloc, path, document, strict, Pick::First, out, out_len)
 }
@@ -76,9 +76,8 @@ pub extern "C" fn jdoc_path_select_value(
     out_len: &mut usize,
 ) -> u32
     ensures kept { path.new.value ≡ path.old.value }
-    ensures item { MatchOption (json_steps path.old.value) (DeliversNothing NoPath out.old out.new out_len.new result)
-        (λ steps. SelectsItem (mode_of strict) single_or_array steps document.now
-        (λ answer. Delivers answer out.old out.new out_len.new result)) }
+    ensures item { DeliversPath (json_limit path.old.value) (json_steps path.old.value) document.now
+        (λ steps. SelectsItem (mode_of strict) single_or_array steps document.now) out.old out.new out_len.new result }
 {
     select(alloc, path, document, strict, Pick::Value, out, out_len)
 }
@@ -94,9 +93,8 @@ pub extern "C" fn jdoc_path_select_array(
     out_len: &mut usize,
 ) -> u32
     ensures kept { path.new.value ≡ path.old.value }
-    ensures array { MatchOption (json_steps path.old.value) (DeliversNothing NoPath out.old out.new out_len.new result)
-        (λ steps. SelectsItem (mode_of strict) one_array steps document.now
-        (λ answer. Delivers answer out.old out.new out_len.new result)) }
+    ensures array { DeliversPath (json_limit path.old.value) (json_steps path.old.value) document.now
+        (λ steps. SelectsItem (mode_of strict) one_array steps document.now) out.old out.new out_len.new result }
 {
     select(alloc, path, document, strict, Pick::Array, out, out_len)
 }
@@ -112,9 +110,8 @@ fn select(
     out_len: &mut usize,
 ) -> u32
     ensures kept { path.new.value ≡ path.old.value }
-    ensures item { MatchOption (json_steps path.old.value) (DeliversNothing NoPath out.old out.new out_len.new result)
-        (λ steps. SelectsItem (mode_of strict) (pick_of pick) steps document.now
-        (λ answer. Delivers answer out.old out.new out_len.new result)) }
+    ensures item { DeliversPath (json_limit path.old.value) (json_steps path.old.value) document.now
+        (λ steps. SelectsItem (mode_of strict) (pick_of pick) steps document.now) out.old out.new out_len.new result }
 {
     let Some(kept) = path.take(alloc) else {
         return deliver_nothing(Status::NoPath, out_len);
@@ -125,6 +122,7 @@ fn select(
 }
 
 /// Stores one document of what a path selects, if it is a JSON path.
+#[tactic(auto, using(crate::proofs::LimitLemmas::admitted))]
 fn deliver_item(
     alloc: Global,
     path: &PreparedPath,
@@ -134,16 +132,15 @@ fn deliver_item(
     out: &mut [u8],
     out_len: &mut usize,
 ) -> u32
-    ensures { MatchOption (json_steps (Some path.now)) (DeliversNothing NoPath out.old out.new out_len.new result)
-        (λ steps. SelectsItem (mode_of strict) (pick_of pick) steps document.now
-        (λ answer. Delivers answer out.old out.new out_len.new result)) }
+    ensures { DeliversPath (json_limit (Some path.now)) (json_steps (Some path.now)) document.now
+        (λ steps. SelectsItem (mode_of strict) (pick_of pick) steps document.now) out.old out.new out_len.new result }
 {
-    match path.json() {
-        Some(steps) => {
+    match path.admitted(alloc, document) {
+        Ok(steps) => {
             let item = pick_by_path(alloc, document, steps, strict, pick);
             deliver(item, out, out_len)
         }
-        None => deliver_nothing(Status::NoPath, out_len),
+        Err(cause) => deliver_nothing(cause, out_len),
     }
 }
 
@@ -157,8 +154,9 @@ pub extern "C" fn jdoc_path_exists(
     truth: &mut u8,
 ) -> u32
     ensures kept { path.new.value ≡ path.old.value }
-    ensures exists { MatchOption (json_steps path.old.value) ((truth.new ≡ truth.old) × (result ≡ code NoPath))
-        (λ steps. TellsExistence (mode_of strict) steps document.now (ShowsAs from_bool truth.old truth.new result)) }
+    ensures exists { WithPath (json_limit path.old.value) (json_steps path.old.value) document.now
+        (λ steps. TellsExistence (mode_of strict) steps document.now (ShowsAs from_bool truth.old truth.new result))
+        (λ cause. ShowsNothing cause truth.old truth.new result) }
 {
     let Some(kept) = path.take(alloc) else {
         return Status::NoPath.to_u32();
@@ -169,6 +167,7 @@ pub extern "C" fn jdoc_path_exists(
 }
 
 /// Stores whether a path selects an item, if it is a JSON path.
+#[tactic(auto, using(crate::proofs::LimitLemmas::admitted))]
 fn store_exists(
     alloc: Global,
     path: &PreparedPath,
@@ -176,15 +175,16 @@ fn store_exists(
     strict: bool,
     truth: &mut u8,
 ) -> u32
-    ensures { MatchOption (json_steps (Some path.now)) ((truth.new ≡ truth.old) × (result ≡ code NoPath))
-        (λ steps. TellsExistence (mode_of strict) steps document.now (ShowsAs from_bool truth.old truth.new result)) }
+    ensures { WithPath (json_limit (Some path.now)) (json_steps (Some path.now)) document.now
+        (λ steps. TellsExistence (mode_of strict) steps document.now (ShowsAs from_bool truth.old truth.new result))
+        (λ cause. ShowsNothing cause truth.old truth.new result) }
 {
-    match path.json() {
-        Some(steps) => {
+    match path.admitted(alloc, document) {
+        Ok(steps) => {
             let exists = exists_by_path(alloc, document, steps, strict);
             store_bool(exists, truth)
         }
-        None => Status::NoPath.to_u32(),
+        Err(cause) => cause.to_u32(),
     }
 }
 
@@ -198,8 +198,9 @@ pub extern "C" fn jdoc_path_match(
     truth: &mut u8,
 ) -> u32
     ensures kept { path.new.value ≡ path.old.value }
-    ensures truth { MatchOption (json_steps path.old.value) ((truth.new ≡ truth.old) × (result ≡ code NoPath))
-        (λ steps. TellsTruth (mode_of strict) steps document.now (ShowsAs truth_byte truth.old truth.new result)) }
+    ensures truth { WithPath (predicate_limit path.old.value) (json_steps path.old.value) document.now
+        (λ steps. TellsTruth (mode_of strict) steps document.now (ShowsAs truth_byte truth.old truth.new result))
+        (λ cause. ShowsNothing cause truth.old truth.new result) }
 {
     let Some(kept) = path.take(alloc) else {
         return Status::NoPath.to_u32();
@@ -210,6 +211,7 @@ pub extern "C" fn jdoc_path_match(
 }
 
 /// Stores the result of a path as a predicate, if it is a JSON path.
+#[tactic(auto, using(crate::proofs::LimitLemmas::admitted))]
 fn store_match(
     alloc: Global,
     path: &PreparedPath,
@@ -217,14 +219,15 @@ fn store_match(
     strict: bool,
     truth: &mut u8,
 ) -> u32
-    ensures { MatchOption (json_steps (Some path.now)) ((truth.new ≡ truth.old) × (result ≡ code NoPath))
-        (λ steps. TellsTruth (mode_of strict) steps document.now (ShowsAs truth_byte truth.old truth.new result)) }
+    ensures { WithPath (predicate_limit (Some path.now)) (json_steps (Some path.now)) document.now
+        (λ steps. TellsTruth (mode_of strict) steps document.now (ShowsAs truth_byte truth.old truth.new result))
+        (λ cause. ShowsNothing cause truth.old truth.new result) }
 {
-    match path.json() {
-        Some(steps) => {
+    match path.admitted_predicate(alloc, document) {
+        Ok(steps) => {
             let said = match_by_path(alloc, document, steps, strict);
             store_truth(said, truth)
         }
-        None => Status::NoPath.to_u32(),
+        Err(cause) => cause.to_u32(),
     }
 }

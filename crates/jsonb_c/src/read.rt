@@ -1,6 +1,6 @@
 //! Reading containers by position.
 
-ghost use Rattle.std.specs.Prelude.{◌≡◌, ◌∷◌, [], ℕ, List, Option, Result, IfErr, IsOkAnd, length, option_map};
+ghost use Rattle.std.specs.Prelude.{◌≡◌, ◌∷◌, [], Option, Result, IfErr, IsOkAnd, length, option_map};
 ghost use Rattle.jsonb_doc.specs.Answer.{IsDecodingError, ◌or◌};
 ghost use Rattle.jsonb_doc.specs.declared.error.Error.{Error};
 ghost use Rattle.jsonb_doc.specs.declared.error.Error.TheVariants.{OutOfMemory, TooLarge};
@@ -49,11 +49,10 @@ pub extern "C" fn jdoc_pair(
     value: &mut [u8],
     value_len: &mut usize,
 ) -> u32
-    ensures { (answer : Result (Option (List ℕ × List ℕ)) Error)
-        × OfDocument document.now (λ form t. FindsPair form index t) answer
-        × IfErr answer (IsDecodingError or OutOfMemory or TooLarge)
-        × DeliversPair answer (key.old ∷ value.old ∷ []) (key.new ∷ value.new ∷ [])
-        (key_len.new, value_len.new) result }
+    ensures { WritesResult (OfDocument document.now (λ form t. FindsPair form index t))
+        (IsDecodingError or OutOfMemory or TooLarge)
+        (λ answer. DeliversPair answer (key.old ∷ value.old ∷ []) (key.new ∷ value.new ∷ [])
+        (key_len.new, value_len.new) result) }
 {
     deliver_pair(
         pair_at(alloc, document, index),

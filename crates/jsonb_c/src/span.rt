@@ -10,7 +10,7 @@ ghost use Rattle.jsonb_doc.specs.Representation.Positions.{Locates};
 ghost use Rattle.jsonb_doc.specs.Tree.{Tree};
 ghost use Rattle.jsonb.specs.KeyPathGrammar.{key_path};
 ghost use Rattle.jsonb.specs.KeyPathViews.{key_paths_view};
-ghost use Rattle.jsonb_c.specs.Answers.{Shows, With, WritesResult};
+ghost use Rattle.jsonb_c.specs.Answers.{Shows, ShowsNothing, With, WritesResult};
 ghost use Rattle.jsonb_c.specs.Private.Boxes.{ByPath};
 ghost use Rattle.jsonb_c.specs.Private.Numbers.{tree_kind};
 ghost use Rattle.jsonb_c.specs.Spans.{FindsSpan, HasSpan, IsSpanOf, IsWithin};
@@ -52,7 +52,7 @@ pub extern "C" fn jdoc_find_by_keypath(
     ensures span { With (ok_or (key_path path.now) (Refused InvalidKeyPath))
         (λ steps. WritesResult (FindsSpan steps document.now) (IsDecodingError or OutOfMemory)
         (λ answer. Shows answer span.old span.new result))
-        (λ cause. (span.new ≡ span.old) × (result ≡ code cause)) }
+        (λ cause. ShowsNothing cause span.old span.new result) }
     ensures within { result ≡ code Answered → IsWithin document.now span.new }
 {
     store_found(find_by_keypath(alloc, document, path), span)
@@ -78,7 +78,7 @@ pub extern "C" fn jdoc_keypath_find(
     span: &mut Span,
 ) -> u32
     ensures kept { path.new.value ≡ path.old.value }
-    ensures span { MatchOption (key_steps path.old.value) ((span.new ≡ span.old) × (result ≡ code NoPath))
+    ensures span { MatchOption (key_steps path.old.value) (ShowsNothing NoPath span.old span.new result)
         (λ steps. WritesResult (FindsSpan steps document.now) (IsDecodingError or OutOfMemory)
         (λ answer. Shows answer span.old span.new result)) }
     ensures within { result ≡ code Answered → IsWithin document.now span.new }
@@ -93,7 +93,7 @@ pub extern "C" fn jdoc_keypath_find(
 
 /// Stores the span of the value at the location of a path, if it is a key path.
 fn store_span(alloc: Global, path: &PreparedPath, document: &[u8], span: &mut Span) -> u32
-    ensures span { MatchOption (key_steps (Some path.now)) ((span.new ≡ span.old) × (result ≡ code NoPath))
+    ensures span { MatchOption (key_steps (Some path.now)) (ShowsNothing NoPath span.old span.new result)
         (λ steps. WritesResult (FindsSpan steps document.now) (IsDecodingError or OutOfMemory)
         (λ answer. Shows answer span.old span.new result)) }
     ensures within { result ≡ code Answered → IsWithin document.now span.new }

@@ -28,6 +28,8 @@ pub(crate) enum Status {
     OutOfOrder,
     /// The text is not a JSON path.
     NotJsonPath,
+    /// The bound of the path on this document is above its limit.
+    LimitExceeded,
     /// The call failed. Of `InvalidJsonPath`: a path failed on a document.
     Refused(Error),
 }
@@ -67,6 +69,7 @@ impl Status {
             Status::Computed => 6,
             Status::OutOfOrder => 7,
             Status::NotJsonPath => 18,
+            Status::LimitExceeded => 29,
             Status::Refused(error) => refusal_code(error),
         }
     }

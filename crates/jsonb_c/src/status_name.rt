@@ -45,6 +45,7 @@ fn name(status: u32) -> Option<&'static str>
         26 => Some("JDOC_OUT_OF_MEMORY"),
         27 => Some("JDOC_STRICT_PATH"),
         28 => Some("JDOC_PATH_FAILED"),
+        29 => Some("JDOC_LIMIT_EXCEEDED"),
         48 => Some("JDOC_OVERFLOW"),
         49 => Some("JDOC_ZERO_DIVISOR"),
         50 => Some("JDOC_INEXACT"),

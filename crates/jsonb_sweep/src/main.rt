@@ -50,6 +50,7 @@ mod deep;
 mod documents;
 mod equals;
 mod events;
+mod limits;
 mod long;
 mod made;
 mod many;
@@ -119,7 +120,8 @@ fn small(rt: &HostRuntime) -> io::Result<()> {
     paths::json_paths(rt)?;
     parts::of_json_paths(rt)?;
     selections::calls(rt)?;
-    selections::others(rt)
+    selections::others(rt)?;
+    limits::calls(rt)
 }
 
 /// The calls that do not allocate.

@@ -134,7 +134,7 @@ const WORK: &[u8] =
 const BOTH: &[u8] = b"$.phones[*]?(@.number > 1 && exists(@.type?(@ != \"fax\")))";
 
 /// The six calls, each with the name of its method on a selector and in `SelectByPath`.
-static CALLS: [(&str, &str, Asked<'static>); 6] = rows! {
+pub static CALLS: [(&str, &str, Asked<'static>); 6] = rows! {
     "select_values", "select_by_path", (Selection::Values, BOTH, PHONES, Wanted::Documents(&[HOME, WORK]));
     "select_array", "select_array_by_path", (Selection::Array, BOTH, PHONES, Wanted::Bytes(BOTH_PHONES));
     "select_first", "select_first_by_path", (Selection::First, BOTH, PHONES, Wanted::Bytes(HOME));

@@ -1,5 +1,5 @@
 -- The path in a box that may be away, why there is none, and items that a handle keeps.
-use Rattle.std.specs.Prelude.{◌≡◌, ◌⊎◌, ℕ, Option, Some, None, Result, Ok, Err, Vec, Bool, true, false}
+use Rattle.std.specs.Prelude.{◌≡◌, ◌⊎◌, ℕ, Option, Some, None, List, Result, Ok, Err, Vec, Bool, IsOkAnd, true, false}
 use Rattle.std.specs.declared.alloc.Global.{Global}
 use Rattle.std.specs.declared.boxed.Box.{Box}
 use Rattle.jsonb_c.specs.declared.prepared.path.PreparedPath.{PreparedPath}
@@ -11,6 +11,11 @@ use Rattle.jsonb_doc.specs.declared.error.Error.{Error}
 use Rattle.jsonb_doc.specs.declared.error.Error.TheVariants.{OutOfMemory}
 use Rattle.jsonb.specs.declared.selector.found.FoundItem.{FoundItem}
 use Rattle.jsonb_c.specs.Representation.Prepared.{items_left}
+use Rattle.jsonb_c.specs.Limits.{WithPath}
+use Rattle.std.specs.Borrow.{Bor}
+use Rattle.jsonb.specs.PathTree.{Step}
+use Rattle.jsonb.specs.PathViews.{path_view}
+use Rattle.jsonb.specs.declared.path.JsonPath.{JsonPath}
 use Rattle.jsonb.specs.declared.selector.found.FoundItem.TheVariants.{At}
 
 -- a parsed path is kept, or nothing is
@@ -41,6 +46,11 @@ abbrev pub HoldsItems : Result (Vec FoundItem Global) Error → Result (Box Prep
 HoldsItems (Ok found) (Ok made) = items_left (Some made.value) ≡ Some found.items
 HoldsItems (Err e) (Err cause) = cause ≡ Refused e
 HoldsItems _ _ = ⊥
+
+-- the path that a call runs with: what the handle keeps, if the limit allows it; or the status
+abbrev pub Admits : Option ℕ → Option (List Step) → List ℕ → Result (Bor JsonPath) Status → Type 0
+Admits limit kept document answer = WithPath limit kept document
+    (λ steps. IsOkAnd answer (λ path. path_view path.now ≡ steps)) (λ cause. answer ≡ Err cause)
 
 -- whether the item is computed; otherwise it is in the document
 abbrev pub is_computed : FoundItem → Bool

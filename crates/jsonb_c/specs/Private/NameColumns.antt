@@ -8,9 +8,8 @@ use Rattle.jsonb_doc.specs.Answer.{IsDecodingError, ◌or◌}
 use Rattle.jsonb_doc.specs.Tree.{Tree}
 use Rattle.jsonb_doc.specs.declared.error.Error.TheVariants.{InvalidObject, OutOfMemory, TooLarge}
 use Rattle.std.specs.Int.{from_bool}
-use Rattle.jsonb_c.specs.Answers.{DeliversNothing, DeliversValue, OfDocument, ShowsAs, With, WritesResult}
+use Rattle.jsonb_c.specs.Answers.{DeliversNothing, DeliversValue, OfDocument, ShowsAs, ShowsNothing, With, WritesResult}
 use Rattle.jsonb_c.specs.Calls.{MakesOr}
-use Rattle.jsonb_c.specs.Status.{code}
 use Rattle.jsonb_raw.specs.Exists.{has_all, has_any}
 use Rattle.jsonb_c.specs.Names.{dropped_names, picked_names}
 use Rattle.jsonb_c.specs.declared.document.names.Chosen.{Chosen}
@@ -48,7 +47,7 @@ abbrev pub ShowsKeys : (List (List ℕ) → Tree → Bool) → List ℕ → Resu
 ShowsKeys has document names old new status = With names (λ wanted. WritesResult
     (OfDocument document (λ form t said. IsOkAnd said (λ b. b ≡ has wanted t))) IsDecodingError
     (ShowsAs from_bool old new status))
-    (λ cause. (new ≡ old) × (status ≡ code cause))
+    (λ cause. ShowsNothing cause old new status)
 
 -- the object of the remaining members is delivered
 abbrev pub DeliversPairs : (List (List ℕ) → Tree → Option Tree) → List ℕ → Result (List (List ℕ)) Status

@@ -66,6 +66,7 @@ status_name n =
     if nat_eq n 26 then Some (codes "JDOC_OUT_OF_MEMORY") else
     if nat_eq n 27 then Some (codes "JDOC_STRICT_PATH") else
     if nat_eq n 28 then Some (codes "JDOC_PATH_FAILED") else
+    if nat_eq n 29 then Some (codes "JDOC_LIMIT_EXCEEDED") else
     if nat_eq n 48 then Some (codes "JDOC_OVERFLOW") else
     if nat_eq n 49 then Some (codes "JDOC_ZERO_DIVISOR") else
     if nat_eq n 50 then Some (codes "JDOC_INEXACT") else

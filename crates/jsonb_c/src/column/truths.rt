@@ -80,18 +80,18 @@ impl RowCall<u8> for Holds<'_> {
     ghost Writes = { λ call document old new status.
         TellsContainment call.wanted.now document (ShowsAs from_bool old new status) };
 
-    fn answer(&self, _alloc: Global, document: &[u8]) -> Result<Option<u8>, Error> {
-        let contains = contains(document, self.wanted)?;
+    fn answer(&self, alloc: Global, document: &[u8]) -> Result<Option<u8>, Error> {
+        let contains = contains(alloc, document, self.wanted)?;
         Ok(Some(bool_byte(contains)))
     }
 }
 
-fn contains(document: &[u8], wanted: &[u8]) -> Result<bool, Error>
+fn contains(alloc: Global, document: &[u8], wanted: &[u8]) -> Result<bool, Error>
     ensures contains { (form other_form : Form) (t u : Tree) → Decodes form document.now t
         → Decodes other_form wanted.now u → IsOkAnd result (λ b. b ≡ contains t u) }
     ensures errors { IfErr result IsDecodingError }
 {
-    RawJsonb::new(document).contains(&RawJsonb::new(wanted))
+    RawJsonb::new(document).contains_in(alloc, &RawJsonb::new(wanted))
 }
 
 /// Returns whether a JSON path selects an item of each document.

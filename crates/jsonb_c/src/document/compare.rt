@@ -13,15 +13,16 @@ ghost use Rattle.jsonb_c.specs.Calls.{TellsContainment};
 
 use crate::deliver::{store, store_bool};
 use jsonb::{Error, RawJsonb};
+use std::alloc::Global;
 use std::cmp::Ordering;
 
 /// Returns whether a document contains another.
 #[unsafe(no_mangle)]
-pub extern "C" fn jdoc_contains(document: &[u8], other: &[u8], truth: &mut u8) -> u32
+pub extern "C" fn jdoc_contains(alloc: Global, document: &[u8], other: &[u8], truth: &mut u8) -> u32
     ensures { TellsContainment other.now document.now (ShowsAs from_bool truth.old truth.new result) }
 {
     let document = RawJsonb::new(document);
-    store_bool(document.contains(&RawJsonb::new(other)), truth)
+    store_bool(document.contains_in(alloc, &RawJsonb::new(other)), truth)
 }
 
 /// Returns the order of two documents: -1, 0 or 1. Without extension values it is that of their sortable keys.

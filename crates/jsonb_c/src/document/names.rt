@@ -4,8 +4,7 @@ ghost use Rattle.std.specs.Prelude.{◌≡◌, ◌⊎◌, ℕ, List, Err, IfErr,
 ghost use Rattle.jsonb_doc.specs.Answer.{IsDecodingError, IsOutOfMemory, ◌or◌};
 ghost use Rattle.jsonb_doc.specs.declared.error.Error.TheVariants.{InvalidObject, OutOfMemory, TooLarge};
 ghost use Rattle.jsonb_raw.specs.Exists.{has_all, has_any};
-ghost use Rattle.jsonb_c.specs.Answers.{DeliversNothing, DeliversValue, OfDocument, ShowsAs, With, WritesResult};
-ghost use Rattle.jsonb_c.specs.Status.{code};
+ghost use Rattle.jsonb_c.specs.Answers.{DeliversNothing, DeliversValue, OfDocument, ShowsAs, ShowsNothing, With, WritesResult};
 ghost use Rattle.std.specs.Int.{from_bool};
 ghost use Rattle.jsonb_c.specs.Calls.{MakesOr};
 ghost use Rattle.jsonb_c.specs.Columns.{rows};
@@ -33,7 +32,7 @@ pub extern "C" fn jdoc_exists_all_keys(
     ensures { With (names_of (rows names.now offsets.now)) (λ wanted. WritesResult
         (OfDocument document.now (λ form t said. IsOkAnd said (λ b. b ≡ has_all wanted t))) IsDecodingError
         (ShowsAs from_bool truth.old truth.new result))
-        (λ cause. (truth.new ≡ truth.old) × (result ≡ code cause)) }
+        (λ cause. ShowsNothing cause truth.old truth.new result) }
 {
     store_exists_keys(alloc, document, names, offsets, Quantity::All, truth)
 }
@@ -51,7 +50,7 @@ pub extern "C" fn jdoc_exists_any_keys(
     ensures { With (names_of (rows names.now offsets.now)) (λ wanted. WritesResult
         (OfDocument document.now (λ form t said. IsOkAnd said (λ b. b ≡ has_any wanted t))) IsDecodingError
         (ShowsAs from_bool truth.old truth.new result))
-        (λ cause. (truth.new ≡ truth.old) × (result ≡ code cause)) }
+        (λ cause. ShowsNothing cause truth.old truth.new result) }
 {
     store_exists_keys(alloc, document, names, offsets, Quantity::Any, truth)
 }

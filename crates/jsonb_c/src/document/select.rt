@@ -8,10 +8,9 @@ ghost use Rattle.jsonb.specs.PathViews.{path_view};
 ghost use Rattle.jsonb.specs.SelectionErrors.{IsSelectionError};
 ghost use Rattle.jsonb_raw.specs.Documents.{raw_bytes};
 ghost use Rattle.jsonb.specs.SelectorAnswers.{first_item, single_or_array, IsArrayOf, IsFound, IsPicked, IsTruthOf, ByMeanings};
-ghost use Rattle.jsonb_c.specs.Answers.{DeliversBy, ShowsAs, With, truth_byte};
+ghost use Rattle.jsonb_c.specs.Answers.{DeliversBy, ShowsAs, ShowsNothing, With, truth_byte};
 ghost use Rattle.jsonb_c.specs.Private.Views.{pick_of};
 ghost use Rattle.jsonb_c.specs.Calls.{SelectsItem, TellsExistence, TellsTruth, mode_of, one_array};
-ghost use Rattle.jsonb_c.specs.Status.{code};
 ghost use Rattle.std.specs.Int.{from_bool};
 ghost use Rattle.jsonb_c.specs.declared.status.Status.TheVariants.{NotJsonPath};
 
@@ -112,7 +111,7 @@ pub extern "C" fn jdoc_match(
 ) -> u32
     ensures { With (ok_or (json_path path.now) NotJsonPath)
         (λ steps. TellsTruth (mode_of strict) steps document.now (ShowsAs truth_byte truth.old truth.new result))
-        (λ cause. (truth.new ≡ truth.old) × (result ≡ code cause)) }
+        (λ cause. ShowsNothing cause truth.old truth.new result) }
 {
     match parse_json_path(alloc, path) {
         Ok(steps) => {
@@ -134,7 +133,7 @@ pub extern "C" fn jdoc_exists(
 ) -> u32
     ensures { With (ok_or (json_path path.now) NotJsonPath)
         (λ steps. TellsExistence (mode_of strict) steps document.now (ShowsAs from_bool truth.old truth.new result))
-        (λ cause. (truth.new ≡ truth.old) × (result ≡ code cause)) }
+        (λ cause. ShowsNothing cause truth.old truth.new result) }
 {
     match parse_json_path(alloc, path) {
         Ok(steps) => {

@@ -7,7 +7,7 @@ ghost use Rattle.jsonb_doc.specs.Payload.{Form};
 ghost use Rattle.jsonb_doc.specs.Tree.{Tree};
 ghost use Rattle.jsonb.specs.FirstItems.{IsFirstItem};
 ghost use Rattle.jsonb.specs.FoundItems.{IsItemOf};
-ghost use Rattle.jsonb_c.specs.Answers.{WritesResult};
+ghost use Rattle.jsonb_c.specs.Answers.{ShowsNothing, WritesResult};
 ghost use Rattle.jsonb_c.specs.FirstSpans.{ShowsFirst};
 ghost use Rattle.jsonb_c.specs.Private.Boxes.{is_computed};
 ghost use Rattle.jsonb_c.specs.Private.Views.{IsFirstWithin};
@@ -35,7 +35,7 @@ pub extern "C" fn jdoc_items_find_next(
     document: &[u8],
     span: &mut Span,
 ) -> u32
-    ensures item { MatchOption (items_left items.old.value) ((span.new ≡ span.old) × (result ≡ code NoPath))
+    ensures item { MatchOption (items_left items.old.value) (ShowsNothing NoPath span.old span.new result)
         (λ left. WritesResult (IsNextSpan document.now left) IsDecodingError
         (λ answer. ShowsFirst answer span.old span.new result)) }
     ensures within { result ≡ code Answered → IsWithin document.now span.new }
@@ -51,7 +51,7 @@ pub extern "C" fn jdoc_items_find_next(
 
 /// Stores the span of the next item, if items are kept.
 fn find_next(kept: &mut PreparedPath, document: &[u8], span: &mut Span) -> u32
-    ensures item { MatchOption (items_left (Some kept.old)) ((span.new ≡ span.old) × (result ≡ code NoPath))
+    ensures item { MatchOption (items_left (Some kept.old)) (ShowsNothing NoPath span.old span.new result)
         (λ left. WritesResult (IsNextSpan document.now left) IsDecodingError
         (λ answer. ShowsFirst answer span.old span.new result)) }
     ensures within { result ≡ code Answered → IsWithin document.now span.new }

@@ -10,7 +10,7 @@ ghost use Rattle.jsonb_c.specs.Representation.Prepared.{json_steps, key_steps};
 ghost use Rattle.jsonb_c.specs.Private.Boxes.{IsTextRefusal};
 ghost use Rattle.jsonb_c.specs.declared.status.Status.TheVariants.{NotJsonPath, Refused};
 
-use super::path::PreparedPath;
+use super::path::{LimitedPath, PreparedPath};
 use crate::status::Status;
 use jsonb::{Error, KeyPath, KeyPaths, OwnedKeyPath, parse_json_path, parse_key_paths};
 use std::alloc::Global;
@@ -35,7 +35,11 @@ fn boxed_json(alloc: Global, text: &[u8]) -> Result<Box<PreparedPath>, Error>
 {
     let path = parse_json_path(alloc, text)?;
     let copy = path.to_owned(alloc)?;
-    Ok(Box::new(alloc, PreparedPath::Json(copy))?)
+    let kept = LimitedPath {
+        path: copy,
+        limit: None,
+    };
+    Ok(Box::new(alloc, PreparedPath::Json(kept))?)
 }
 
 /// Parses a key path. Fails with the status of the text.

@@ -2,17 +2,32 @@
 
 ghost use Rattle.std.specs.Prelude.{◌≡◌, MatchOption, Some, None};
 ghost use Rattle.jsonb.specs.KeyPathViews.{key_paths_view};
-ghost use Rattle.jsonb.specs.PathViews.{path_view};
-ghost use Rattle.jsonb_c.specs.Representation.Prepared.{json_steps, key_steps};
+ghost use Rattle.jsonb_c.specs.Answers.{ShowsNothing};
+ghost use Rattle.jsonb_c.specs.Limits.{limit_of};
+ghost use Rattle.jsonb_c.specs.Private.Boxes.{Admits};
+ghost use Rattle.jsonb_c.specs.Representation.Prepared.{json_limit, json_steps, key_steps, predicate_limit};
+ghost use Rattle.jsonb_c.specs.Status.{code};
+ghost use Rattle.jsonb_c.specs.declared.prepared.path.PreparedPath.TheVariants.{Json};
+ghost use Rattle.jsonb_c.specs.declared.status.Status.TheVariants.{Answered, NoPath};
 
+use crate::limit::admit;
+use crate::status::Status;
 use jsonb::{DocumentBuilder, FoundItem, JsonPath, KeyPaths};
+use std::alloc::Global;
 use std::collections::VecDeque;
+
+/// A JSON path with owned strings, and its limit of items, if it has one.
+#[derive(Drop)]
+pub(crate) struct LimitedPath {
+    pub(crate) path: JsonPath<'static>,
+    pub(crate) limit: Option<u64>,
+}
 
 /// A path with owned strings, the items that one selected, or a builder.
 #[derive(Drop)]
 pub(crate) enum PreparedPath {
     /// A JSON path.
-    Json(JsonPath<'static>),
+    Json(LimitedPath),
     /// A key path.
     Keys(KeyPaths<'static>),
     /// Items of a document that are still to be delivered.
@@ -22,13 +37,12 @@ pub(crate) enum PreparedPath {
 }
 
 impl PreparedPath {
-    /// Returns the path, if it is a JSON path.
-    pub(crate) fn json(&self) -> Option<&JsonPath<'static>>
-        ensures { MatchOption result (json_steps (Some self.now) ≡ None)
-            (λ path. json_steps (Some self.now) ≡ Some (path_view path.now)) }
+    /// Returns the path with its limit, if it is a JSON path.
+    pub(crate) fn json(&self) -> Option<&LimitedPath>
+        ensures { MatchOption result (json_steps (Some self.now) ≡ None) (λ kept. self.now ≡ Json kept.now) }
     {
         match self {
-            PreparedPath::Json(path) => Some(path),
+            PreparedPath::Json(kept) => Some(kept),
             _ => None,
         }
     }
@@ -42,5 +56,54 @@ impl PreparedPath {
             PreparedPath::Keys(path) => Some(path),
             _ => None,
         }
+    }
+
+    /// Sets the limit, if it is a JSON path. The greatest number is none.
+    pub(crate) fn set_limit(&mut self, limit: u64) -> u32
+        ensures { MatchOption (json_steps (Some self.old)) (ShowsNothing NoPath self.old self.new result)
+            (λ steps. (result ≡ code Answered) × (json_steps (Some self.new) ≡ Some steps)
+            × (json_limit (Some self.new) ≡ limit_of limit)) }
+    {
+        let PreparedPath::Json(kept) = self else {
+            return Status::NoPath.to_u32();
+        };
+        kept.limit = if limit == u64::MAX { None } else { Some(limit) };
+        Status::Answered.to_u32()
+    }
+
+    /// Returns the path, if it is a JSON path whose bound on the document is not above its limit.
+    #[inline(always)]
+    #[tactic(auto, using(crate::proofs::LimitLemmas::checked))]
+    pub(crate) fn admitted(
+        &self,
+        alloc: Global,
+        document: &[u8],
+    ) -> Result<&JsonPath<'static>, Status>
+        ensures { Admits (json_limit (Some self.now)) (json_steps (Some self.now)) document.now result }
+    {
+        let Some(kept) = self.json() else {
+            return Err(Status::NoPath);
+        };
+        admit(alloc, document, &kept.path, kept.limit)?;
+        Ok(&kept.path)
+    }
+
+    /// Returns the path, if it is a JSON path. If it is a predicate, its bound on the document is not above its limit.
+    #[inline(always)]
+    #[tactic(auto, using(crate::proofs::LimitLemmas::checked))]
+    pub(crate) fn admitted_predicate(
+        &self,
+        alloc: Global,
+        document: &[u8],
+    ) -> Result<&JsonPath<'static>, Status>
+        ensures { Admits (predicate_limit (Some self.now)) (json_steps (Some self.now)) document.now result }
+    {
+        let Some(kept) = self.json() else {
+            return Err(Status::NoPath);
+        };
+        if kept.path.is_predicate() {
+            admit(alloc, document, &kept.path, kept.limit)?;
+        }
+        Ok(&kept.path)
     }
 }

@@ -6,7 +6,7 @@ ghost use Rattle.jsonb_doc.specs.Answer.{IsDecodingError};
 ghost use Rattle.jsonb_doc.specs.Tree.{text};
 ghost use Rattle.jsonb_raw.specs.Children.{element_at, named_child};
 ghost use Rattle.jsonb_raw.specs.Scalars.{text_in};
-ghost use Rattle.jsonb_c.specs.Answers.{OfDocument, Shows, WritesResult};
+ghost use Rattle.jsonb_c.specs.Answers.{OfDocument, Shows, ShowsNothing, WritesResult};
 ghost use Rattle.jsonb_c.specs.Spans.{HasSpan, IsWithin};
 ghost use Rattle.jsonb_c.specs.Status.{code};
 ghost use Rattle.jsonb_c.specs.declared.status.Status.TheVariants.{Answered, NotUtf8};
@@ -72,7 +72,7 @@ pub extern "C" fn jdoc_find_by_name(
         (OfDocument document.now (λ form t. HasSpan document.now form (named_child name.now ignore_case t)))
         IsDecodingError (λ answer. Shows answer span.old span.new result) }
     ensures within { result ≡ code Answered → IsWithin document.now span.new }
-    ensures other { ¬ (IsUtf8 name.now) → (span.new ≡ span.old) × (result ≡ code NotUtf8) }
+    ensures other { ¬ (IsUtf8 name.now) → ShowsNothing NotUtf8 span.old span.new result }
 {
     let Ok(name) = str::from_utf8(name) else {
         return Status::NotUtf8.to_u32();

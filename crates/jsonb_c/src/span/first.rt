@@ -1,6 +1,6 @@
 //! The span of the first item that a JSON path selects.
 
-ghost use Rattle.std.specs.Prelude.{◌≡◌, Bool, MatchOption, Option, Some, IsOkAnd, IfErr, IfOk, IfSome, ok_or};
+ghost use Rattle.std.specs.Prelude.{◌≡◌, Bool, Option, Some, IsOkAnd, IfErr, IfOk, IfSome, ok_or};
 ghost use Rattle.jsonb_doc.specs.Answer.{SameOption, IsDecodingError};
 ghost use Rattle.jsonb_doc.specs.Format.{Decodes};
 ghost use Rattle.jsonb_doc.specs.Payload.{Form};
@@ -10,14 +10,15 @@ ghost use Rattle.jsonb.specs.FirstItems.{IsFirstItem};
 ghost use Rattle.jsonb.specs.PathGrammar.{json_path};
 ghost use Rattle.jsonb.specs.PathViews.{path_view};
 ghost use Rattle.jsonb.specs.SelectionErrors.{IsSelectionError};
-ghost use Rattle.jsonb_c.specs.Answers.{With, WritesResult};
+ghost use Rattle.jsonb_c.specs.Answers.{ShowsNothing, With, WritesResult};
 ghost use Rattle.jsonb_c.specs.Calls.{mode_of};
+ghost use Rattle.jsonb_c.specs.Limits.{WithPath};
 ghost use Rattle.jsonb_c.specs.FirstSpans.{FindsFirstSpan, ShowsFirst};
 ghost use Rattle.jsonb_c.specs.Private.Views.{IsFirstWithin};
-ghost use Rattle.jsonb_c.specs.Representation.Prepared.{json_steps};
+ghost use Rattle.jsonb_c.specs.Representation.Prepared.{json_limit, json_steps};
 ghost use Rattle.jsonb_c.specs.Spans.{IsSpanOf, IsWithin};
 ghost use Rattle.jsonb_c.specs.Status.{code};
-ghost use Rattle.jsonb_c.specs.declared.status.Status.TheVariants.{Answered, NoPath, NotJsonPath};
+ghost use Rattle.jsonb_c.specs.declared.status.Status.TheVariants.{Answered, NotJsonPath};
 
 use super::{Span, span_of};
 use crate::document::select::selector;
@@ -38,7 +39,7 @@ pub extern "C" fn jdoc_find_first(
     ensures span { With (ok_or (json_path path.now) NotJsonPath)
         (λ steps. WritesResult (FindsFirstSpan (mode_of strict) document.now steps)
         (IsSelectionError (mode_of strict)) (λ answer. ShowsFirst answer span.old span.new result))
-        (λ cause. (span.new ≡ span.old) × (result ≡ code cause)) }
+        (λ cause. ShowsNothing cause span.old span.new result) }
     ensures within { result ≡ code Answered → IsWithin document.now span.new }
 {
     match parse_json_path(alloc, path) {
@@ -60,9 +61,10 @@ pub extern "C" fn jdoc_path_find_first(
     span: &mut Span,
 ) -> u32
     ensures kept { path.new.value ≡ path.old.value }
-    ensures span { MatchOption (json_steps path.old.value) ((span.new ≡ span.old) × (result ≡ code NoPath))
+    ensures span { WithPath (json_limit path.old.value) (json_steps path.old.value) document.now
         (λ steps. WritesResult (FindsFirstSpan (mode_of strict) document.now steps)
-        (IsSelectionError (mode_of strict)) (λ answer. ShowsFirst answer span.old span.new result)) }
+        (IsSelectionError (mode_of strict)) (λ answer. ShowsFirst answer span.old span.new result))
+        (λ cause. ShowsNothing cause span.old span.new result) }
     ensures within { result ≡ code Answered → IsWithin document.now span.new }
 {
     let Some(kept) = path.take(alloc) else {
@@ -74,6 +76,7 @@ pub extern "C" fn jdoc_path_find_first(
 }
 
 /// Stores the span of the first item that a path selects, if it is a JSON path.
+#[tactic(auto, using(crate::proofs::LimitLemmas::admitted))]
 fn store_first_of(
     alloc: Global,
     path: &PreparedPath,
@@ -81,17 +84,18 @@ fn store_first_of(
     strict: bool,
     span: &mut Span,
 ) -> u32
-    ensures span { MatchOption (json_steps (Some path.now)) ((span.new ≡ span.old) × (result ≡ code NoPath))
+    ensures span { WithPath (json_limit (Some path.now)) (json_steps (Some path.now)) document.now
         (λ steps. WritesResult (FindsFirstSpan (mode_of strict) document.now steps)
-        (IsSelectionError (mode_of strict)) (λ answer. ShowsFirst answer span.old span.new result)) }
+        (IsSelectionError (mode_of strict)) (λ answer. ShowsFirst answer span.old span.new result))
+        (λ cause. ShowsNothing cause span.old span.new result) }
     ensures within { result ≡ code Answered → IsWithin document.now span.new }
 {
-    match path.json() {
-        Some(steps) => {
+    match path.admitted(alloc, document) {
+        Ok(steps) => {
             let found = first_by_path(alloc, document, steps, strict);
             store_first(found, span)
         }
-        None => Status::NoPath.to_u32(),
+        Err(cause) => cause.to_u32(),
     }
 }
 

@@ -94,7 +94,7 @@ fn sets_of_elements(rt: HostRuntime) {
         b"\x80\0\0\x03\x20\0\0\x02\x20\0\0\x02\x20\0\0\x0a\x50\x01\x50\x02\x70\0\0\0\0\0\0\0\x0a\x01");
     assert_stores!(rt; jdoc_array_overlap(alloc, REPEATED, TWO), OK, 1);
     assert_stores!(rt; jdoc_array_overlap(alloc, REPEATED, NULLS), OK, 0);
-    assert_stores!(rt; jdoc_contains(ONES, ONE), OK, 1);
+    assert_stores!(rt; jdoc_contains(alloc, ONES, ONE), OK, 1);
 }
 
 #[test]

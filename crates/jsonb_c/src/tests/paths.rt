@@ -1,15 +1,18 @@
 //! Worked rows of the calls that take a path, as text or prepared.
 
 use super::{
-    Answer, INVALID_JSON_PATH, MIXED, NO_PATH, NULLS, OK, STRICT_PATH, TENS, UNTOUCHED, parts,
+    Answer, INVALID_JSON_PATH, INVALID_JSONB, MIXED, NO_PATH, NULLS, OK, STRICT_PATH, TENS,
+    UNTOUCHED, parts,
 };
 use crate::document::select::{
     jdoc_exists, jdoc_match, jdoc_select_array, jdoc_select_first, jdoc_select_value,
 };
+use crate::items::{jdoc_items_free, jdoc_path_items};
 use crate::keypath::{
     jdoc_keypath_delete, jdoc_keypath_error_position, jdoc_keypath_free, jdoc_keypath_get,
     jdoc_keypath_read,
 };
+use crate::limit::{jdoc_path_limit, jdoc_path_most_items};
 use crate::path::{
     jdoc_path_error_position, jdoc_path_exists, jdoc_path_free, jdoc_path_match, jdoc_path_read,
     jdoc_path_select_array, jdoc_path_select_first, jdoc_path_select_value,
@@ -18,6 +21,8 @@ use crate::prepared::{PathHandle, PreparedPath, parsing};
 use crate::span::first::jdoc_path_find_first;
 use crate::span::jdoc_keypath_find;
 use jsonb::KeyPath;
+
+const LIMIT_EXCEEDED: u32 = 29;
 
 const OVERFLOW: u32 = 48;
 
@@ -76,6 +81,52 @@ fn prepared_predicates(rt: HostRuntime) {
     assert_stores!(rt; jdoc_path_match(alloc, &mut path, TENS, false), OK, 1);
     assert!(rt; jdoc_path_read(alloc, b"$.", &mut path) == INVALID_JSON_PATH);
     assert_stores!(rt; jdoc_path_match(alloc, &mut path, TENS, false), NO_PATH, 9);
+}
+
+#[test]
+fn limits_of_prepared_paths(rt: HostRuntime) {
+    let alloc = rt.alloc();
+    let mut path = PathHandle::none();
+    let mut items = PathHandle::none();
+    let mut span = UNTOUCHED;
+    assert!(rt; jdoc_path_limit(alloc, &mut path, 5) == NO_PATH);
+    assert!(rt; jdoc_path_read(alloc, b"$[*]", &mut path) == OK);
+    assert_stores!(rt; jdoc_path_most_items(alloc, &mut path, TENS), OK, 6);
+    assert!(rt; jdoc_path_limit(alloc, &mut path, 5) == OK);
+    assert_gives!(rt; jdoc_path_select_first(alloc, &mut path, TENS, false), LIMIT_EXCEEDED, b"");
+    assert_gives!(rt; jdoc_path_select_value(alloc, &mut path, TENS, false), LIMIT_EXCEEDED, b"");
+    assert_gives!(rt; jdoc_path_select_array(alloc, &mut path, TENS, false), LIMIT_EXCEEDED, b"");
+    assert_stores!(rt; jdoc_path_exists(alloc, &mut path, TENS, false), LIMIT_EXCEEDED, 9);
+    let found = jdoc_path_find_first(alloc, &mut path, TENS, false, &mut span);
+    let listed = jdoc_path_items(alloc, &mut path, TENS, false, &mut items);
+    assert!(rt; (found, listed) == (LIMIT_EXCEEDED, LIMIT_EXCEEDED));
+    assert!(rt; jdoc_path_limit(alloc, &mut path, 6) == OK);
+    assert_gives!(rt; jdoc_path_select_array(alloc, &mut path, TENS, false), OK, TENS);
+    assert!(rt; jdoc_path_limit(alloc, &mut path, 0) == OK);
+    assert_stores!(rt; jdoc_path_match(alloc, &mut path, TENS, false), OK, 2);
+    assert!(rt; jdoc_path_limit(alloc, &mut path, u64::MAX) == OK);
+    assert_stores!(rt; jdoc_path_exists(alloc, &mut path, TENS, false), OK, 1);
+    jdoc_items_free(alloc, &mut items);
+    jdoc_path_free(alloc, &mut path);
+}
+
+#[test]
+fn limits_of_predicates(rt: HostRuntime) {
+    let alloc = rt.alloc();
+    let mut path = PathHandle::none();
+    assert!(rt; jdoc_path_read(alloc, b"$[0] == 10", &mut path) == OK);
+    assert!(rt; jdoc_path_limit(alloc, &mut path, 13) == OK);
+    assert_stores!(rt; jdoc_path_match(alloc, &mut path, TENS, false), LIMIT_EXCEEDED, 9);
+    assert_stores!(rt; jdoc_path_match(alloc, &mut path, b"?", false), INVALID_JSONB, 9);
+    assert!(rt; jdoc_path_limit(alloc, &mut path, 14) == OK);
+    assert_stores!(rt; jdoc_path_match(alloc, &mut path, TENS, false), OK, 1);
+    assert!(rt; jdoc_path_limit(alloc, &mut path, 0) == OK);
+    assert_stores!(rt; jdoc_path_match(alloc, &mut path, TENS, false), LIMIT_EXCEEDED, 9);
+    jdoc_path_free(alloc, &mut path);
+    assert!(rt; jdoc_keypath_read(alloc, b"{a}", &mut path) == OK);
+    assert!(rt; jdoc_path_limit(alloc, &mut path, 14) == NO_PATH);
+    assert_stores!(rt; jdoc_path_most_items(alloc, &mut path, TENS), NO_PATH, 9);
+    jdoc_keypath_free(alloc, &mut path);
 }
 
 #[test]

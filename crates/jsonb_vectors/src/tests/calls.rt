@@ -139,6 +139,9 @@ pub(super) fn ask_whole(alloc: Global, raw: &RawJsonb<'_>, answers: &mut Answers
     let _ = raw.contains(&one);
     let _ = one.contains(raw);
     let _ = raw.contains(&same);
+    let _ = raw.contains_in(alloc, &one);
+    let _ = one.contains_in(alloc, raw);
+    let _ = raw.contains_in(alloc, &same);
     let _ = raw.compare(&one);
     let _ = one.compare(raw);
     let _ = raw.compare(&same);
