@@ -31,9 +31,9 @@
  * Memory. A function frees what it allocates before it returns, except a prepared path, its items and a builder. It
  * calls malloc, realloc and free of the C library, whose blocks have to be aligned to 16 bytes. These do not allocate:
  * jdoc_version, jdoc_status_name, jdoc_check, jdoc_type, jdoc_len, jdoc_as_.., jdoc_find_str, jdoc_find_by_index,
- * jdoc_find_by_name, jdoc_span_document, jdoc_cursor_.., jdoc_items_find_next, jdoc_to_bool, jdoc_to_i64, jdoc_to_u64,
- * jdoc_contains, jdoc_compare, jdoc_column_check, jdoc_column_contains, jdoc_column_to_i64. Most functions use little
- * stack at any depth; docs/STACK.md lists those that use more.
+ * jdoc_find_by_name, jdoc_span_document, jdoc_cursor_.., jdoc_path_limit, jdoc_items_find_next, jdoc_to_bool,
+ * jdoc_to_i64, jdoc_to_u64, jdoc_compare, jdoc_column_check, jdoc_column_to_i64. Most functions use little stack at any
+ * depth; docs/STACK.md lists those that use more.
  *
  * Errors of any function, which are not listed with each:
  *   JDOC_INVALID_JSONB       the bytes are not a document
@@ -114,6 +114,7 @@ enum jdoc_status {
     JDOC_OUT_OF_MEMORY = 26,
     JDOC_STRICT_PATH = 27,
     JDOC_PATH_FAILED = 28,
+    JDOC_LIMIT_EXCEEDED = 29,
     JDOC_OVERFLOW = 48,
     JDOC_ZERO_DIVISOR = 49,
     JDOC_INEXACT = 50,
@@ -169,6 +170,8 @@ static inline const char *jdoc_status_text(uint32_t status) {
         return "a step of the strict path does not apply: no such key, or a value of another type";
     case JDOC_PATH_FAILED:
         return "the path cannot be evaluated: an operand of arithmetic is not one number";
+    case JDOC_LIMIT_EXCEEDED:
+        return "the path may list or compare more items of the document than its limit";
     case JDOC_OVERFLOW:
         return "arithmetic: below -2^63 or above 2^64 - 1";
     case JDOC_ZERO_DIVISOR:
@@ -649,7 +652,8 @@ JDOC_NODISCARD enum jdoc_status jdoc_column_delete_by_keypath(const uint8_t *byt
  *
  * Statuses. `.._read` returns JDOC_OK, JDOC_OUT_OF_MEMORY, or JDOC_INVALID_JSON_PATH (JDOC_INVALID_KEY_PATH) if and
  * only if the text is not such a path. Calls on documents return JDOC_NO_PATH if the struct contains no path of their
- * kind; nothing is written then, except 0 to *out_len. Otherwise they return what the calls that parse the path return.
+ * kind; nothing is written then, except 0 to *out_len. Otherwise they return what the calls that parse the path return,
+ * unless the path has a limit (jdoc_path_limit).
  */
 
 typedef struct jdoc_path {
@@ -671,6 +675,19 @@ JDOC_NODISCARD enum jdoc_status jdoc_path_error_position(const char *text, size_
 
 /* Free the path. */
 void jdoc_path_free(jdoc_path *path);
+
+/* Limit the items of a path from an untrusted source: a short path, such as $.**.**.**.**, can select more items than
+ * memory holds. Then calls with the path fail with JDOC_LIMIT_EXCEEDED if and only if its bound on the document
+ * (jdoc_path_most_items) is above the limit; otherwise they return what they return without a limit. A limit has no
+ * effect on jdoc_path_match of a path that is not a predicate. UINT64_MAX limits nothing, as after jdoc_path_read. With a
+ * limit each call first visits the whole document to find its depth. JDOC_NO_PATH: the struct contains no JSON path. */
+JDOC_NODISCARD enum jdoc_status jdoc_path_limit(jdoc_path *path, uint64_t limit);
+
+/* *bound: at most how many items the path lists on the document and how many values its filters compare, or UINT64_MAX
+ * if that is less (docs/PATHS.md). It is computed from the path, the length of the document and its depth, without an
+ * evaluation, in linear time. */
+JDOC_NODISCARD enum jdoc_status jdoc_path_most_items(jdoc_path *path, const uint8_t *document, size_t document_len,
+                                                     uint64_t *bound);
 
 /* As jdoc_select_value. */
 JDOC_NODISCARD enum jdoc_status jdoc_path_select_value(jdoc_path *path, const uint8_t *document, size_t document_len,

@@ -783,6 +783,15 @@ class path {
     }
     ~path() { jdoc_path_free(&path_); }
 
+    /* Calls fail with JDOC_LIMIT_EXCEEDED if most_items of a document is above the limit. UINT64_MAX is no limit. */
+    jdoc_status limit(std::uint64_t most) { return jdoc_path_limit(&path_, most); }
+
+    /* The bound: at most how many items the path lists on a document, and how many values its filters compare. */
+    result<std::uint64_t> most_items(view it) {
+        return detail::value<std::uint64_t>(
+            [&](std::uint64_t *made) { return jdoc_path_most_items(&path_, it.data(), it.size(), made); });
+    }
+
     result<std::optional<document>> select_value(view it, bool strict = false) {
         return detail::some_bytes<document>(64, [&](std::uint8_t *out, std::size_t size, std::size_t *len) {
             return jdoc_path_select_value(&path_, it.data(), it.size(), strict, out, size, len);

@@ -35,6 +35,7 @@ static int sqlstate_of(uint32_t status) {
         return ERRCODE_DUPLICATE_JSON_OBJECT_KEY_VALUE;
     case JDOC_TOO_LARGE:
     case JDOC_TOO_DEEP:
+    case JDOC_LIMIT_EXCEEDED:
         return ERRCODE_PROGRAM_LIMIT_EXCEEDED;
     case JDOC_OUT_OF_MEMORY:
         return ERRCODE_OUT_OF_MEMORY;
@@ -127,6 +128,7 @@ static void refuse_variables(const bytea *variables) {
 typedef struct prepared {
     jdoc_path path;
     bool strict;
+    uint64_t limit;
     char *text;
     size_t len, size;
 } prepared;
@@ -140,6 +142,15 @@ static void keep_text(prepared *it, const char *text, size_t len) {
     memcpy(it->text, text, len);
 }
 
+/* The limit of items of the session. */
+static void limit_path(prepared *it) {
+    uint64_t limit = path_limit_setting ? (uint64_t)path_limit_setting : UINT64_MAX;
+    if (limit == it->limit) return;
+    uint32_t status = jdoc_path_limit(&it->path, limit);
+    if (status != JDOC_OK) fail(status);
+    it->limit = limit;
+}
+
 static void read_path(prepared *it, const char *text, size_t len) {
     sql_path of = sql_path_of(text, len);
     uint32_t status;
@@ -147,6 +158,7 @@ static void read_path(prepared *it, const char *text, size_t len) {
     RUN_KEPT(status, jdoc_path_read(of.text, of.len, &it->path));
     if (status != JDOC_OK) fail(status);
     it->strict = of.strict;
+    it->limit = UINT64_MAX;
     keep_text(it, text, len);
 }
 
@@ -164,6 +176,7 @@ static void take_path(FunctionCallInfo fcinfo, int at, bool keeps, given *it) {
         read_path(kept, VARDATA_ANY(path), len);
         MemoryContextSwitchTo(before);
     }
+    limit_path(kept);
     it->path = &kept->path;
     it->strict = kept->strict;
 }

@@ -66,6 +66,9 @@ extern arena *heap_arena;
 /* Raise the error of a status. */
 void fail(uint32_t status) pg_attribute_noreturn();
 
+/* The setting jdoc.path_limit: a limit of the items of paths, or 0. */
+extern int path_limit_setting;
+
 /* The name of a document's type, as jdoc_typeof returns it. */
 const char *type_of(const uint8_t *document, size_t len);
 

@@ -37,8 +37,9 @@ typedef enum jdoc_status maker(const arguments *it, uint8_t *out, size_t size, s
 typedef enum jdoc_status asker(const arguments *it, uint8_t *truth);
 
 /* `takes` has a letter for each argument: d a document, p a JSON path, k a key path or the index of an element, n a
- * name, i an index. The result is a BLOB that `makes` writes, a Boolean that `asks` writes, or what `does` sets. If it
- * fails for documents of some types, `expects` is how the sentence about a type begins. */
+ * name, i an index, l a limit of the items of the path before it. The result is a BLOB that `makes` writes, a Boolean
+ * that `asks` writes, or what `does` sets. If it fails for documents of some types, `expects` is how the sentence about
+ * a type begins. */
 struct function {
     const char *name, *takes;
     maker *makes;
@@ -129,6 +130,14 @@ static bool take_path(sqlite3_context *to, sqlite3_value *value, bool is_key, ar
                   : read_json_path(text, len, &path->json, &path->strict, why);
 }
 
+/* As after LIMIT of a SELECT, a negative number limits nothing. */
+static bool take_limit(sqlite3_value *value, const arguments *it, fault *why) {
+    sqlite3_int64 limit = sqlite3_value_int64(value);
+    if (!has_type(value, SQLITE_INTEGER, "expected an INTEGER as the limit, found", why)) return false;
+    why->status = jdoc_path_limit(&it->path->json, limit < 0 ? UINT64_MAX : (uint64_t)limit);
+    return why->status == JDOC_OK;
+}
+
 static bool take(sqlite3_context *to, sqlite3_value *value, char letter, int at, arguments *it, fault *why) {
     switch (letter) {
     case 'd':
@@ -141,6 +150,8 @@ static bool take(sqlite3_context *to, sqlite3_value *value, char letter, int at,
         return it->is_index || take_path(to, value, true, it, why);
     case 'n':
         return take_text(value, NAME_EXPECTED, &it->text, &it->text_len, why);
+    case 'l':
+        return take_limit(value, it, why);
     default:
         it->index = index_of(value);
         return has_type(value, SQLITE_INTEGER, "expected an INTEGER as the index, found", why);
@@ -298,6 +309,11 @@ static const function functions[] = {
     {"jdoc_select", "dp", .makes = chosen},
     {"jdoc_exists", "dp", .asks = exists},
     {"jdoc_match", "dp", .asks = match},
+    {"jdoc_first", "dpl", .makes = first},
+    {"jdoc_array", "dpl", .makes = array},
+    {"jdoc_select", "dpl", .makes = chosen},
+    {"jdoc_exists", "dpl", .asks = exists},
+    {"jdoc_match", "dpl", .asks = match},
     {"jdoc_contains", "dd", .asks = contains},
     {"jdoc_overlap", "dd", .asks = overlap},
     {"jdoc_concat", "dd", .makes = concat},

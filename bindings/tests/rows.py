@@ -399,6 +399,34 @@ def positions():
     ])
 
 
+# The bounds of paths on V[2] = [10,20,30], which has 22 bytes and two levels: 5 items, as many as its length has room for. The root is
+# one item with 5 at and below it, [*] and .* list as many, .** twice as many, and each subscript all again.
+BOUNDS = [
+    ("$", 1), ("1", 1), ("$[*]", 6), ("$.*", 6), ("$.a.a", 3), ("$.**.**", 16), ("$.**{1}.a", 11), ("$[0,1]", 3), ("$[0 to last, 0]", 11),
+    ("$[*]?(@ > 10)", 31), ("$[*]?(@ == $[0])", 81), ("$[*]?(@ > 1 && @ > 2)", 51), ("$[0] == 10", 14), ("-$[*]", 12),
+    ("$" + ".**" * 70, 2**64 - 1),
+]
+
+
+def limits():
+    """Paths with a limit, and their bounds."""
+    exceeded = "JDOC_LIMIT_EXCEEDED"
+    yield from table("by_most_items", [(V[2], path, bound) for path, bound in BOUNDS])
+    yield from table("by_most_items", [(DAMAGED, "$", INVALID_JSONB), (FLOAT, "$", UNSUPPORTED_NUMBER), (V[2], "$.", INVALID_JSON_PATH)])
+    for call in ("select_value", "select_first", "select_array", "items", "find_first", "exists"):
+        call = "by_limit_" + call
+        yield from table(call, [(V[2], path, bound - 1, exceeded) for path, bound in BOUNDS])
+        yield from table(call, [(DAMAGED, "$", 9, INVALID_JSONB), (FLOAT, "$", 9, UNSUPPORTED_NUMBER), (V[2], "$.", 9, INVALID_JSON_PATH)])
+    for call in ("select_value", "select_first", "items", "find_first"):
+        yield from table("by_limit_" + call, [(V[2], "$[0]", 2, number(10)), (V[2], "$[0]", 1, exceeded), (V[2], "$[9]", 2, NONE)])
+    yield from table("by_limit_select_array", [(V[2], "$[*]", 6, V[2]), (V[2], "$[*]", 5, exceeded), (V[2], "$.a", 2, EMPTY_ARRAY)])
+    yield from table("by_limit_exists", [(V[2], "$[*]", 6, TRUE), (V[2], "$.a", 2, FALSE), (V[2], "$[*] > 1", 0, exceeded)])
+    yield from table("by_limit_match", [
+        (V[2], "$[0] == 10", 14, TRUE), (V[2], "$[0] == 10", 13, exceeded), (V[2], "$[*]", 0, UNKNOWN), (V[2], "$", 2**64 - 1, UNKNOWN),
+        (DAMAGED, "$ == 1", 9, INVALID_JSONB), (V[2], "$.", 9, INVALID_JSON_PATH),
+    ])
+
+
 def array_of(parts):
     """The array of documents that are arrays."""
     header = (0x80000000 + len(parts)).to_bytes(4, "big")
@@ -529,7 +557,7 @@ def prepared(rows):
 
 
 def all_rows():
-    parts = (places, edits, places_of_names, sets, scalars, keys, paths, positions, making, events, reading, leaves)
+    parts = (places, edits, places_of_names, sets, scalars, keys, paths, positions, limits, making, events, reading, leaves)
     yield from prepared(row for part in parts for row in part())
 
 

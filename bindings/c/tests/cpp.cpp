@@ -147,6 +147,10 @@ void prepared() {
     moved = *jdoc::path::read("$.asd");
     EXPECT(is(moved.exists(tens), false));
     EXPECT(is(moved.exists(object), true));
+    jdoc::path every = *jdoc::path::read("$[*]");
+    EXPECT(is(every.most_items(tens), std::uint64_t{6}) && every.limit(5) == JDOC_OK);
+    EXPECT(every.exists(tens).error() == JDOC_LIMIT_EXCEEDED && every.limit(6) == JDOC_OK);
+    EXPECT(is(every.exists(tens), true) && items.limit(6) == JDOC_NO_PATH);
     jdoc::result<jdoc::keypath> key = jdoc::keypath::read("{2,k}");
     EXPECT(key && is_some(key->get(mixed), v));
     EXPECT(is_none(key->get(tens)));

@@ -248,6 +248,86 @@ static enum jdoc_status jdoc_by_path_first_span SELECTION {
     return status;
 }
 
+/* A path with a limit, in lax mode. It has none before, and none after it is set to UINT64_MAX or read again. */
+static enum jdoc_status read_limited(jdoc_path *path, const char *text, size_t text_len, uint64_t limit) {
+    if (jdoc_path_limit(path, limit) != JDOC_NO_PATH) return (enum jdoc_status)WROTE_WITHOUT_PATH;
+    enum jdoc_status status = jdoc_path_read(text, text_len, path);
+    if (status == JDOC_OK) status = jdoc_path_limit(path, 0);
+    if (status == JDOC_OK) status = jdoc_path_limit(path, limit);
+    return status;
+}
+
+/* Whether a call without a limit fails with JDOC_LIMIT_EXCEEDED. */
+static bool stays_limited(jdoc_path *path, const char *text, size_t text_len, uint64_t limit) {
+    const uint8_t null[] = {0x20, 0, 0, 0, 0, 0, 0, 0};
+    uint8_t truth = FILL;
+    if (jdoc_path_limit(path, UINT64_MAX) != JDOC_OK) return true;
+    if (jdoc_path_exists(path, null, sizeof null, false, &truth) == JDOC_LIMIT_EXCEEDED) return true;
+    if (jdoc_path_limit(path, limit) != JDOC_OK) return true;
+    enum jdoc_status status = jdoc_path_read(text, text_len, path);
+    return status == JDOC_OK && jdoc_path_exists(path, null, sizeof null, false, &truth) == JDOC_LIMIT_EXCEEDED;
+}
+
+#define LIMITED (BYTES_IN_NAMED, TEXT_IN_NAMED, uint64_t limit, BYTES_OUT_NAMED)
+#define BY_LIMIT(call, PARAMETERS, BEFORE, ...)                                                                        \
+    static enum jdoc_status jdoc_by_limit_##call PARAMETERS {                                                          \
+        jdoc_path path = {0};                                                                                          \
+        BEFORE;                                                                                                        \
+        enum jdoc_status status = read_limited(&path, text, text_len, limit);                                          \
+        if (status == JDOC_OK) {                                                                                       \
+            status = jdoc_path_##call(&path, document, document_len, false, __VA_ARGS__);                              \
+            if (status != JDOC_OUT_OF_MEMORY && stays_limited(&path, text, text_len, limit))                           \
+                status = (enum jdoc_status)CHANGED_PATH;                                                               \
+        }                                                                                                              \
+        jdoc_path_free(&path);                                                                                         \
+        return status;                                                                                                 \
+    }
+BY_LIMIT(select_value, LIMITED, *out_len = 0, out, size, out_len)
+BY_LIMIT(select_first, LIMITED, *out_len = 0, out, size, out_len)
+BY_LIMIT(select_array, LIMITED, *out_len = 0, out, size, out_len)
+BY_LIMIT(exists, (BYTES_IN_NAMED, TEXT_IN_NAMED, uint64_t limit, uint8_t *truth), (void)0, truth)
+BY_LIMIT(match, (BYTES_IN_NAMED, TEXT_IN_NAMED, uint64_t limit, uint8_t *truth), (void)0, truth)
+
+/* The span of the first item, copied. */
+static enum jdoc_status jdoc_by_limit_find_first LIMITED {
+    jdoc_path path = {0};
+    jdoc_span span = {.at = 99};
+    enum jdoc_status status = read_limited(&path, text, text_len, limit);
+    if (status == JDOC_OK) status = jdoc_path_find_first(&path, document, document_len, false, &span);
+    jdoc_path_free(&path);
+    return copied(status, &span, document, document_len, out, size, out_len);
+}
+
+/* The first of the items. If the call fails, there are none, even if there were before. */
+static enum jdoc_status jdoc_by_limit_items LIMITED {
+    jdoc_path path = {0};
+    jdoc_items items = {0};
+    enum jdoc_status status = jdoc_path_read("$", 1, &path);
+    *out_len = 0;
+    if (status == JDOC_OK) status = jdoc_path_items(&path, document, document_len, false, &items);
+    jdoc_path_free(&path);
+    if (status == JDOC_OK) status = read_limited(&path, text, text_len, limit);
+    if (status == JDOC_OK) {
+        status = jdoc_path_items(&path, document, document_len, false, &items);
+        enum jdoc_status next = jdoc_items_next(&items, document, document_len, out, size, out_len);
+        if (status == JDOC_OK) status = next;
+        else if (next != JDOC_NO_PATH) status = (enum jdoc_status)WROTE_WITHOUT_PATH;
+    }
+    jdoc_path_free(&path);
+    jdoc_items_free(&items);
+    return status;
+}
+
+static enum jdoc_status jdoc_by_most_items(BYTES_IN_NAMED, TEXT_IN_NAMED, uint64_t *bound) {
+    READ(path);
+    uint64_t nothing = FILL;
+    if (status == JDOC_OK) status = jdoc_path_most_items(&path, document, document_len, bound);
+    jdoc_path_free(&path);
+    if (jdoc_path_most_items(&path, document, document_len, &nothing) != JDOC_NO_PATH || nothing != FILL)
+        return (enum jdoc_status)WROTE_WITHOUT_PATH;
+    return status;
+}
+
 /* The next item by its span, or copied if it is computed. */
 static enum jdoc_status next_in_place(jdoc_items *items, const uint8_t *document, size_t document_len, uint8_t *out,
                                       size_t size, size_t *out_len) {
@@ -403,6 +483,7 @@ static enum jdoc_status jdoc_by_wrong_kind SELECTION {
             jdoc_path_select_first(as_path, document, document_len, strict, out, size, &len) != JDOC_NO_PATH ||
             jdoc_path_exists(as_path, document, document_len, strict, &truth) != JDOC_NO_PATH ||
             jdoc_path_exists(of_items, document, document_len, strict, &truth) != JDOC_NO_PATH ||
+            jdoc_path_limit(as_path, 0) != JDOC_NO_PATH || jdoc_path_limit(of_items, 0) != JDOC_NO_PATH ||
             jdoc_items_next(as_items, document, document_len, out, size, &len) != JDOC_NO_PATH || len != 0 ||
             jdoc_items_find_next(of_events, document, document_len, &span) != JDOC_NO_PATH || span.at != 99 ||
             jdoc_path_exists(of_events, document, document_len, strict, &truth) != JDOC_NO_PATH ||

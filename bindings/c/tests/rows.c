@@ -40,6 +40,9 @@ typedef enum jdoc_status bbiO_fn(BYTES_IN, BYTES_IN, int32_t, BYTES_OUT);
 typedef enum jdoc_status bbtfO_fn(BYTES_IN, BYTES_IN, TEXT_IN, bool, BYTES_OUT);
 typedef enum jdoc_status btO_fn(BYTES_IN, TEXT_IN, BYTES_OUT);
 typedef enum jdoc_status btfO_fn(BYTES_IN, TEXT_IN, bool, BYTES_OUT);
+typedef enum jdoc_status btuO_fn(BYTES_IN, TEXT_IN, uint64_t, BYTES_OUT);
+typedef enum jdoc_status btuT_fn(BYTES_IN, TEXT_IN, uint64_t, uint8_t *);
+typedef enum jdoc_status btW_fn(BYTES_IN, TEXT_IN, uint64_t *);
 typedef enum jdoc_status btfT_fn(BYTES_IN, TEXT_IN, bool, uint8_t *);
 typedef enum jdoc_status bnO_fn(BYTES_IN, NAMES_IN, BYTES_OUT);
 typedef enum jdoc_status bnT_fn(BYTES_IN, NAMES_IN, uint8_t *);
@@ -123,7 +126,7 @@ LEAVES_BY(document_positions, LEAF_DOCUMENT_POSITIONS)
 #define SHAPES(X)                                                                                                      \
     X(b)                                                                                                               \
     X(bT) X(bN) X(bW) X(bC) X(bD) X(bO) X(bS) X(bfO) X(bsO) X(biO) X(bbO) X(bbT) X(bbR) X(bbiO) X(bbtfO) X(btO) X(btfO)       \
-        X(btfT) X(bnO) X(bnT) X(cO) X(cfO) X(ncO) X(O) X(tO) X(tC) X(fO) X(lO) X(uO) X(luyO)
+        X(btfT) X(btuO) X(btuT) X(btW) X(bnO) X(bnT) X(cO) X(cfO) X(ncO) X(O) X(tO) X(tC) X(fO) X(lO) X(uO) X(luyO)
 #define SHAPE_NAME(s)    SHAPE_##s,
 #define SHAPE_FIELD(s)   s##_fn *s;
 #define SHAPE_LETTERS(s) #s,
@@ -214,6 +217,9 @@ static struct result run(const struct row *row, uint8_t *out, size_t size) {
         RUN(btO, BYTES(0), TEXT(1), OUT)
         RUN(btfO, BYTES(0), TEXT(1), row->flag, OUT)
         RUN(btfT, BYTES(0), TEXT(1), row->flag, &r.truth)
+        RUN(btuO, BYTES(0), TEXT(1), row->whole, OUT)
+        RUN(btuT, BYTES(0), TEXT(1), row->whole, &r.truth)
+        RUN(btW, BYTES(0), TEXT(1), &r.whole)
         RUN(bnO, BYTES(0), NAMES(0), OUT)
         RUN(bnT, BYTES(0), NAMES(0), &r.truth)
         RUN(cO, COLUMN(0), OUT)

@@ -92,6 +92,7 @@ def add_words(command: argparse.ArgumentParser, name: str) -> None:
     command.add_argument("--limit", type=count, metavar="N", help="end after N results")
     if name in PATHS:
         command.add_argument("--strict", action="store_true", help="strict mode: a step that does not apply to an item is an error")
+        command.add_argument("--path-limit", type=count, metavar="N", help="for an untrusted path: a row is an error if it may list or compare more items")
         command.add_argument("--arg", nargs=2, action="append", default=[], metavar=("NAME", "STRING"), help="a string for $NAME in the path")
         command.add_argument("--argjson", nargs=2, action="append", default=[], metavar=("NAME", "JSON"), help="a scalar for $NAME in the path")
         command.add_argument("path", metavar="PATH")
@@ -203,7 +204,7 @@ class Query:
         self.asked = asked
         try:
             if asked.command in PATHS:
-                self.path = Path(with_variables(asked), strict=asked.strict)
+                self.path = Path(with_variables(asked), strict=asked.strict, limit=asked.path_limit)
                 if asked.command in PREDICATES and not self.path.is_predicate:
                     raise Stop(NO_PATH, f"{asked.command} takes a predicate, such as $.age > 40, not {plain(asked.path)}")
             if asked.command in KEY_PATHS:

@@ -269,13 +269,13 @@ class Column(Sequence[Optional[bytes]]):
         """Raises an exception if a row is not a document."""
         _sort_out(_core.column_check(self.data, self.offsets, self.validity), errors)
 
-    def exists(self, path: "Union[str, Path]", *, strict: bool = False, errors: Errors = None) -> "Booleans":
+    def exists(self, path: "Union[str, Path]", *, strict: bool = False, limit: Optional[int] = None, errors: Errors = None) -> "Booleans":
         """Returns for each row whether a JSON path selects an item."""
-        return self._booleans(*_core.column_exists(self.data, self.offsets, self.validity, *_path(path, strict)), errors)
+        return self._decided("exists", path, strict, limit, errors)
 
-    def match(self, path: "Union[str, Path]", *, strict: bool = False, errors: Errors = None) -> "Booleans":
+    def match(self, path: "Union[str, Path]", *, strict: bool = False, limit: Optional[int] = None, errors: Errors = None) -> "Booleans":
         """Returns for each row the value of a JSON path that is a predicate; None if it is unknown."""
-        return self._booleans(*_core.column_match(self.data, self.offsets, self.validity, *_path(path, strict)), errors)
+        return self._decided("match", path, strict, limit, errors)
 
     def contains(self, other: "Document", *, errors: Errors = None) -> "Booleans":
         """Returns for each row whether it contains a document."""
@@ -291,17 +291,17 @@ class Column(Sequence[Optional[bytes]]):
         """Returns for each row the item at a key path, or None."""
         return self._results(*_core.column_get(self.data, self.offsets, self.validity, _key_path(path)), errors)
 
-    def select_first(self, path: "Union[str, Path]", *, strict: bool = False, errors: Errors = None) -> "Results":
+    def select_first(self, path: "Union[str, Path]", *, strict: bool = False, limit: Optional[int] = None, errors: Errors = None) -> "Results":
         """Returns for each row the first item that a JSON path selects, or None."""
-        return self._results(*_core.column_select_first(self.data, self.offsets, self.validity, *_path(path, strict)), errors)
+        return self._selected("select_first", path, strict, limit, errors)
 
-    def select_value(self, path: "Union[str, Path]", *, strict: bool = False, errors: Errors = None) -> "Results":
+    def select_value(self, path: "Union[str, Path]", *, strict: bool = False, limit: Optional[int] = None, errors: Errors = None) -> "Results":
         """Returns for each row None, the only item that a JSON path selects, or an array of several."""
-        return self._results(*_core.column_select_value(self.data, self.offsets, self.validity, *_path(path, strict)), errors)
+        return self._selected("select_value", path, strict, limit, errors)
 
-    def select_array(self, path: "Union[str, Path]", *, strict: bool = False, errors: Errors = None) -> "Results":
+    def select_array(self, path: "Union[str, Path]", *, strict: bool = False, limit: Optional[int] = None, errors: Errors = None) -> "Results":
         """Returns for each row an array of all items that a JSON path selects."""
-        return self._results(*_core.column_select_array(self.data, self.offsets, self.validity, *_path(path, strict)), errors)
+        return self._selected("select_array", path, strict, limit, errors)
 
     def delete(self, path: "Union[str, KeyPath]", *, errors: Errors = None) -> "Results":
         """Returns each row without the item at a key path."""
@@ -328,6 +328,40 @@ class Column(Sequence[Optional[bytes]]):
         known = self._known()
         statuses = None if known is None else known.translate(bytes([1, 0]) + bytes(254))
         return _core.lines_out(self.data, self.offsets, statuses, 0)[0]
+
+    def _decided(self, call: str, path: "Union[str, Path]", strict: bool, limit: Optional[int], errors: Errors) -> "Booleans":
+        """What a call with a JSON path decides of each row. With a limit it is made row by row."""
+        text, strict, limit = _path(path, strict, limit)
+        if limit is None:
+            booleans, statuses = getattr(_core, f"column_{call}")(self.data, self.offsets, self.validity, text, strict)
+            return self._booleans(booleans, statuses, errors)
+        found, statuses = self._row_by_row(getattr(_core.Path(text, strict=strict, limit=limit), call))
+        return self._booleans(bytes(2 if it is None else it for it in found), statuses, errors)
+
+    def _selected(self, call: str, path: "Union[str, Path]", strict: bool, limit: Optional[int], errors: Errors) -> "Results":
+        """The documents that a call with a JSON path returns. With a limit it is made row by row."""
+        text, strict, limit = _path(path, strict, limit)
+        if limit is None:
+            data, offsets, statuses = getattr(_core, f"column_{call}")(self.data, self.offsets, self.validity, text, strict)
+            return self._results(data, offsets, statuses, errors)
+        found, statuses = self._row_by_row(getattr(_core.Path(text, strict=strict, limit=limit), call))
+        rows, places = joined(b"" if it is None else it for it in found)
+        return self._results(memoryview(rows), memoryview(places).cast("B"), statuses, errors)
+
+    def _row_by_row(self, call: Callable[[bytes], Any]) -> Tuple[List[Any], bytes]:
+        """What a call returns for each row, and the statuses."""
+        found, statuses = [], bytearray()
+        for row in range(len(self)):
+            made, status = None, NONE
+            try:
+                document = self[row]
+                made = None if document is None else call(document)
+                status = NONE if made is None else OK
+            except JsonbError as fault:
+                status = fault.status
+            found.append(made)
+            statuses.append(status)
+        return found, bytes(statuses)
 
     def _booleans(self, booleans: "Document", statuses: "Document", errors: Errors) -> "Booleans":
         _sort_out(statuses, errors)
@@ -485,12 +519,12 @@ def _numbers(data: bytes, statuses: bytes) -> Numbers:
     return Numbers(memoryview(data).cast("q"), statuses)
 
 
-def _path(path: "Union[str, Path]", strict: bool) -> Tuple[str, bool]:
+def _path(path: "Union[str, Path]", strict: bool, limit: Optional[int]) -> Tuple[str, bool, Optional[int]]:
     if isinstance(path, _core.Path):
-        return path.text, strict or path.strict
+        return path.text, strict or path.strict, path.limit if limit is None else limit
     if not isinstance(path, str):
         raise TypeError(f"a JSON path is a str or a Path, not {type(path)}")
-    return path, strict
+    return path, strict, limit
 
 
 def _key_path(path: "Union[str, KeyPath]") -> str:

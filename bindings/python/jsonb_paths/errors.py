@@ -94,6 +94,10 @@ class PathFailed(InvalidJsonPath):
     status, meaning = 28, "the path cannot be evaluated: an operand of arithmetic is not one number"
 
 
+class LimitExceeded(JsonbError, OverflowError):
+    status, meaning = 29, "the path may list or compare more items of the document than its limit"
+
+
 class Overflow(JsonbError, OverflowError):
     status, meaning = 48, "arithmetic: below -2^63 or above 2^64 - 1"
 

@@ -21,11 +21,14 @@ template <auto CALL> PyCFunction call_of_many() {
 }
 
 constexpr int MANY = METH_FASTCALL | METH_KEYWORDS;
-constexpr char STRICT[] = "strict", CASE[] = "ignore_case", UPDATE[] = "update", WIDE[] = "wide", NO_WORD[] = "";
+constexpr char CASE[] = "ignore_case", UPDATE[] = "update", WIDE[] = "wide", NO_WORD[] = "";
 
 // A call on one document: name, call in C, word of a Flag, result, signature, doc comment, arguments.
 #define ONE(name, call, word, result, signature, doc, ...)                                                             \
     { name, call_of_many<one<call, word, result, __VA_ARGS__>>(), MANY, name signature "\n--\n\n" doc }
+// A call with a JSON path: its text, or prepared if there is a limit.
+#define PATH_CALL(name, call, path_call, result, doc)                                                                  \
+    { name, call_of_many<evaluate<call, path_call, result>>(), MANY, name EVALUATION "\n--\n\n" doc }
 // Another call of several arguments, and of one.
 #define CALL(name, call, signature, doc)                                                                               \
     { name, call_of_many<call>(), MANY, name signature "\n--\n\n" doc }
@@ -37,7 +40,7 @@ constexpr char STRICT[] = "strict", CASE[] = "ignore_case", UPDATE[] = "update",
 
 #define DOCUMENT    "($module, document, /)"
 #define OTHER       "($module, document, other, /)"
-#define PATH_STRICT "($module, document, path, /, *, strict=False)"
+#define EVALUATION  "($module, document, path, /, *, strict=False, limit=None)"
 
 PyMethodDef METHODS[] = {
     ONE("check", jdoc_check, NO_WORD, Nothing, DOCUMENT,
@@ -53,19 +56,17 @@ PyMethodDef METHODS[] = {
         "Returns the value of a key, or None. With ignore_case, a key that differs only in the case of ASCII letters "
         "matches too.",
         Document, Text, Flag),
-    CALL("select", select_items, PATH_STRICT, "Returns each item that a JSON path selects, in order with repeats."),
-    ONE("select_first", jdoc_select_first, STRICT, Bytes, PATH_STRICT,
-        "Returns the first item that a JSON path selects, or None.", Document, Text, Flag),
-    ONE("select_value", jdoc_select_value, STRICT, Bytes, PATH_STRICT,
-        "Returns None, the only item that a JSON path selects, or an array of several.", Document, Text, Flag),
-    ONE("select_array", jdoc_select_array, STRICT, Bytes, PATH_STRICT,
-        "Returns an array of all items that a JSON path selects.", Document, Text, Flag),
-    ONE("exists", jdoc_exists, STRICT, Ternary, PATH_STRICT,
-        "Returns whether a JSON path selects an item. A predicate selects its result: for that call match.", Document,
-        Text, Flag),
-    ONE("match", jdoc_match, STRICT, Ternary, PATH_STRICT,
-        "Returns the value of a JSON path that is a predicate. None: unknown, or not a predicate.", Document, Text,
-        Flag),
+    CALL("select", select_items, EVALUATION, "Returns each item that a JSON path selects, in order with repeats."),
+    PATH_CALL("select_first", jdoc_select_first, jdoc_path_select_first, Bytes,
+        "Returns the first item that a JSON path selects, or None."),
+    PATH_CALL("select_value", jdoc_select_value, jdoc_path_select_value, Bytes,
+        "Returns None, the only item that a JSON path selects, or an array of several."),
+    PATH_CALL("select_array", jdoc_select_array, jdoc_path_select_array, Bytes,
+        "Returns an array of all items that a JSON path selects."),
+    PATH_CALL("exists", jdoc_exists, jdoc_path_exists, Ternary,
+        "Returns whether a JSON path selects an item. A predicate selects its result: for that call match."),
+    PATH_CALL("match", jdoc_match, jdoc_path_match, Ternary,
+        "Returns the value of a JSON path that is a predicate. None: unknown, or not a predicate."),
     ONE("delete", jdoc_delete_by_keypath, NO_WORD, Bytes, "($module, document, path, /)",
         "Returns the document without the item at a key path.", Document, Text),
     ONE("delete_by_index", jdoc_delete_by_index, NO_WORD, Bytes, "($module, document, index, /)",

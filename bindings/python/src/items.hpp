@@ -1,6 +1,7 @@
 // The items of a document as separate documents: elements, members, leaves, and what a path selects.
 #pragma once
 
+#include "limits.hpp"
 #include "values.hpp"
 
 inline PyObject *document_of(const jdoc_event &item) {
@@ -52,16 +53,10 @@ template <typename Select> PyObject *selected(State *state, PyObject *const *pat
 }
 
 inline PyObject *select_items(PyObject *module, PyObject *const *arguments, Py_ssize_t count, PyObject *names) {
-    Document document;
-    Text path;
-    Flag strict;
-    Py_ssize_t named = names ? PyTuple_Size(names) : 0;
-    if (count != 2) return wrong_count(2, count), nullptr;
-    if (named > 1) return wrong_names("strict"), nullptr;
-    if (!document.take(arguments[0]) || !path.take(arguments[1])) return nullptr;
-    if (named && !take_word(strict, PyTuple_GetItem(names, 0), "strict", arguments[2])) return nullptr;
+    Evaluated<jdoc_select_array, jdoc_path_select_array> it;
+    if (!it.take(arguments, count, names)) return nullptr;
     return selected(state_of(module), arguments + 1, [&](uint8_t *out, size_t size, size_t *length) {
-        return jdoc_select_array(document.at, document.length, path.at, path.length, strict.value, out, size, length);
+        return it.call(std::make_tuple(out, size, length));
     });
 }
 

@@ -8,6 +8,7 @@
 struct PathObject {
     PyObject_HEAD PyObject *text;
     bool strict;
+    uint64_t limit;    // of a Path, and UINT64_MAX if it has none
     jdoc_path json;    // of a Path
     jdoc_keypath keys; // of a KeyPath
 };
@@ -24,30 +25,40 @@ inline void path_free(PyObject *self) {
 }
 
 template <bool KEY> PyObject *path_new(PyTypeObject *type, PyObject *arguments, PyObject *names) {
-    static const char *words[] = {"text", KEY ? nullptr : "strict", nullptr};
-    PyObject *text, *module = PyType_GetModule(type);
+    static const char *words[] = {"text", KEY ? nullptr : "strict", KEY ? nullptr : "limit", nullptr};
+    PyObject *text, *most = Py_None, *module = PyType_GetModule(type);
     int strict = 0;
+    Limit limit;
     Text utf8;
-    if (!PyArg_ParseTupleAndKeywords(arguments, names, KEY ? "U" : "U|$p", const_cast<char **>(words), &text, &strict))
+    if (!PyArg_ParseTupleAndKeywords(arguments, names, KEY ? "U" : "U|$pO", const_cast<char **>(words), &text, &strict,
+                                     &most))
         return nullptr;
-    if (!module || !utf8.take(text)) return nullptr;
+    if (!module || !utf8.take(text) || !limit.take(most)) return nullptr;
     Ref self(reinterpret_cast<allocfunc>(PyType_GetSlot(type, Py_tp_alloc))(type, 0)); // of zeros
     if (!self.it) return nullptr;
     PathObject *it = path_of(self.it);
-    it->text = Py_NewRef(text), it->strict = strict;
+    it->text = Py_NewRef(text), it->strict = strict, it->limit = limit.value;
     uint32_t status =
         KEY ? jdoc_keypath_read(utf8.at, utf8.length, &it->keys) : jdoc_path_read(utf8.at, utf8.length, &it->json);
+    if (!KEY && status == JDOC_OK) status = jdoc_path_limit(&it->json, it->limit);
     return status == JDOC_OK ? self.release() : fail(state_of(module), status, Shown{&text, 1});
 }
 
-template <bool KEY> PyObject *path_repr(PyObject *self) {
-    const char *form = KEY ? "KeyPath(%R)" : path_of(self)->strict ? "Path(%R, strict=True)" : "Path(%R)";
-    return PyUnicode_FromFormat(form, path_of(self)->text);
+inline PyObject *key_path_repr(PyObject *self) { return PyUnicode_FromFormat("KeyPath(%R)", path_of(self)->text); }
+inline PyObject *path_repr(PyObject *self) {
+    const PathObject *it = path_of(self);
+    std::string words = it->strict ? ", strict=True" : "";
+    if (it->limit != UINT64_MAX) words += ", limit=" + std::to_string(it->limit);
+    return PyUnicode_FromFormat("Path(%R%s)", it->text, words.c_str());
 }
 
 inline PyObject *path_text(PyObject *self, void *) { return Py_NewRef(path_of(self)->text); }
 inline PyObject *path_str(PyObject *self) { return path_text(self, nullptr); }
 inline PyObject *path_strict(PyObject *self, void *) { return PyBool_FromLong(path_of(self)->strict); }
+inline PyObject *path_limit(PyObject *self, void *) {
+    uint64_t limit = path_of(self)->limit;
+    return limit == UINT64_MAX ? Py_NewRef(Py_None) : PyLong_FromUnsignedLongLong(limit);
+}
 inline PyObject *path_predicate(PyObject *self, void *) {
     PyObject *module = PyType_GetModule(Py_TYPE(self));
     Text text;
@@ -64,14 +75,16 @@ inline PyObject *path_compare(PyObject *self, PyObject *other, int how) {
     if ((how != Py_EQ && how != Py_NE) || Py_TYPE(self) != Py_TYPE(other)) return Py_NewRef(Py_NotImplemented);
     int same = PyObject_RichCompareBool(path_of(self)->text, path_of(other)->text, Py_EQ);
     if (same < 0) return nullptr;
-    return PyBool_FromLong((same && path_of(self)->strict == path_of(other)->strict) == (how == Py_EQ));
+    bool alike = path_of(self)->strict == path_of(other)->strict && path_of(self)->limit == path_of(other)->limit;
+    return PyBool_FromLong((same && alike) == (how == Py_EQ));
 }
 
 // For pickle: a function of jsonb_paths.paths that parses the path again.
 template <bool KEY> PyObject *path_reduce(PyObject *self, PyObject *) {
     Ref module(PyImport_ImportModule("jsonb_paths.paths"));
     Ref make(module.it ? PyObject_GetAttrString(module.it, KEY ? "_key_path" : "_path") : nullptr);
-    return make.it ? Py_BuildValue("O(Oi)", make.it, path_of(self)->text, path_of(self)->strict) : nullptr;
+    const PathObject *it = path_of(self);
+    return make.it ? Py_BuildValue("O(OiK)", make.it, it->text, it->strict, (unsigned long long)it->limit) : nullptr;
 }
 
 // A call on one document with this path.
@@ -101,9 +114,19 @@ inline PyObject *path_select(PyObject *self, PyObject *argument) {
     });
 }
 
+inline PyObject *path_most_items(PyObject *self, PyObject *argument) {
+    PyObject *module = PyType_GetModule(Py_TYPE(self));
+    Document document;
+    uint64_t bound = 0;
+    if (!module || !document.take(argument)) return nullptr;
+    uint32_t status = jdoc_path_most_items(&path_of(self)->json, document.at, document.length, &bound);
+    return status == JDOC_OK ? PyLong_FromUnsignedLongLong(bound) : fail(state_of(module), status);
+}
+
 inline PyGetSetDef PATH_GETS[] = {
     {"text", path_text, nullptr, "The text of the path.", nullptr},
     {"strict", path_strict, nullptr, "Whether the path is strict.", nullptr},
+    {"limit", path_limit, nullptr, "The limit of items, or None.", nullptr},
     {"is_predicate", path_predicate, nullptr,
      "Whether the path is a predicate: a comparison, &&, || or exists(..). Other paths have no Boolean result.",
      nullptr},
@@ -120,6 +143,9 @@ inline PyMethodDef PATH_CALLS[] = {
      "match($self, document, /)\n--\n\nReturns the value of the predicate. None: unknown, or the path is not a "
      "predicate."},
     {"select", path_select, METH_O, "select($self, document, /)\n--\n\nReturns each item that the path selects."},
+    {"most_items", path_most_items, METH_O,
+     "most_items($self, document, /)\n--\n\nReturns the bound of the path on the document, with which a limit is "
+     "compared."},
     {"select_first", by_path<jdoc_path_select_first, Bytes>, METH_O,
      "select_first($self, document, /)\n--\n\nReturns the first item that the path selects, or None."},
     {"select_value", by_path<jdoc_path_select_value, Bytes>, METH_O,
@@ -143,19 +169,19 @@ template <typename It> void *slot(It it) { return const_cast<void *>(reinterpret
 inline PyType_Slot PATH_SLOTS[] = {
     {Py_tp_new, slot(path_new<false>)},
     {Py_tp_dealloc, slot(path_free)},
-    {Py_tp_repr, slot(path_repr<false>)},
+    {Py_tp_repr, slot(path_repr)},
     {Py_tp_str, slot(path_str)},
     {Py_tp_hash, slot(path_hash)},
     {Py_tp_richcompare, slot(path_compare)},
     {Py_tp_getset, PATH_GETS},
     {Py_tp_methods, PATH_CALLS},
-    {Py_tp_doc, slot("Path(text, *, strict=False)\n--\n\nA JSON path such as $.phones[*].type.")},
+    {Py_tp_doc, slot("Path(text, *, strict=False, limit=None)\n--\n\nA JSON path such as $.phones[*].type.")},
     {0, nullptr},
 };
 inline PyType_Slot KEY_PATH_SLOTS[] = {
     {Py_tp_new, slot(path_new<true>)},
     {Py_tp_dealloc, slot(path_free)},
-    {Py_tp_repr, slot(path_repr<true>)},
+    {Py_tp_repr, slot(key_path_repr)},
     {Py_tp_str, slot(path_str)},
     {Py_tp_hash, slot(path_hash)},
     {Py_tp_richcompare, slot(path_compare)},

@@ -29,6 +29,11 @@ def read_terminal(terminal):
 
 
 class Commands(unittest.TestCase):
+    def test_a_path_above_its_limit_is_an_error_of_the_row(self):
+        status, out, said = run("select", "--path-limit", "5", "$[*]", text="[1,2,3]\n[1]\n")
+        self.assertEqual((status, out), (5, "1\n"))
+        self.assertIn("-:1: LimitExceeded: ", said)
+
     def test_results_and_exit_status(self):
         for words, text, status, expected in [
             (["select", "$.name"], PEOPLE, 0, '"Ann"\n"Bob"\n'),
@@ -39,6 +44,7 @@ class Commands(unittest.TestCase):
             (["select", "$.none"], PEOPLE, 0, ""),
             (["select", "--strict", "$.name"], PEOPLE, 0, '"Ann"\n"Bob"\n'),
             (["select", "$[*]", "--limit", "2"], "[1,2]\n[3]\n", 0, "1\n2\n"),
+            (["exists", "--path-limit", "6", "$[*]"], "[1,2,3]\n[]\n", 0, "true\nfalse\n"),
             (["filter", "$.age > 40"], PEOPLE, 0, '{"age":47.5,"name":"Bob","tags":["x",null]}\n'),
             (["filter", "$.name == $who", "--arg", "who", 'Ann'], PEOPLE, 0, '{"age":31,"name":"Ann"}\n'),
             (["filter", '$.name == $who && "$who" != $.name', "--arg", "who", 'A"nn'], '{"name":"A\\"nn"}', 0, '{"name":"A\\"nn"}\n'),

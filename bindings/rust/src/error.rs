@@ -46,6 +46,8 @@ pub enum Error {
     OutOfMemory,
     /// A step of a path in strict mode does not apply to an item.
     StrictPath,
+    /// The bound of a path on the document is above the limit of the `Selector`.
+    LimitExceeded,
     /// The text is not JSON.
     InvalidJson,
     /// An escape in JSON text is half of a surrogate pair, or the text is not UTF-8.
@@ -73,6 +75,7 @@ impl Error {
             sys::JDOC_TOO_DEEP => Error::TooDeep,
             sys::JDOC_OUT_OF_MEMORY => Error::OutOfMemory,
             sys::JDOC_STRICT_PATH => Error::StrictPath,
+            sys::JDOC_LIMIT_EXCEEDED => Error::LimitExceeded,
             sys::JDOC_OVERFLOW => Error::Arithmetic(ArithmeticFault::Overflow),
             sys::JDOC_ZERO_DIVISOR => Error::Arithmetic(ArithmeticFault::ZeroDivisor),
             sys::JDOC_INEXACT => Error::Arithmetic(ArithmeticFault::Inexact),
@@ -126,6 +129,6 @@ mod tests {
             };
             assert!(error == wanted || error == format!("Arithmetic({wanted})"), "{name}: {error}");
         }
-        assert_eq!(rows.len(), 25);
+        assert_eq!(rows.len(), 26);
     }
 }

@@ -4,7 +4,7 @@ use crate::call::{all_bytes, at, bytes, done, one, truth, Out};
 use crate::children::Node;
 use crate::{Error, OwnedJsonb, RawJsonb, Result};
 use jdoc_sys as sys;
-use std::cell::UnsafeCell;
+use std::cell::{Cell, UnsafeCell};
 use std::fmt;
 use std::ptr;
 
@@ -25,6 +25,8 @@ use std::ptr;
 pub struct JsonPath<'a> {
     text: &'a str,
     path: UnsafeCell<sys::jdoc_path>,
+    /// The limit that the path has in the library.
+    limit: Cell<u64>,
 }
 
 // SAFETY: the library lets another thread use and free a path after an ordering, and every way to send a value is one.
@@ -41,7 +43,7 @@ pub fn parse_json_path(input: &[u8]) -> Result<JsonPath<'_>> {
     let mut path = sys::jdoc_path { at: ptr::null_mut(), is_there: false };
     // SAFETY: the slice is a pointer and its length, and a struct of zeros contains no path.
     done(unsafe { sys::jdoc_path_read(at(input), input.len(), &mut path) })?;
-    Ok(JsonPath { text, path: UnsafeCell::new(path) })
+    Ok(JsonPath { text, path: UnsafeCell::new(path), limit: Cell::new(u64::MAX) })
 }
 
 /// Returns the byte at which text is not a JSON path (docs/PATHS.md), or `None` if it is one.
@@ -107,6 +109,7 @@ impl fmt::Debug for JsonPath<'_> {
 pub struct Selector<'a> {
     root: RawJsonb<'a>,
     strict: bool,
+    limit: u64,
 }
 
 type SelectBytes = unsafe extern "C" fn(*mut sys::jdoc_path, *const u8, usize, bool, *mut u8, usize, *mut usize) -> u32;
@@ -115,12 +118,41 @@ type SelectTruth = unsafe extern "C" fn(*mut sys::jdoc_path, *const u8, usize, b
 impl<'a> Selector<'a> {
     /// A selector in lax mode: a step that does not apply to an item selects nothing.
     pub fn new(root_jsonb: RawJsonb<'a>) -> Selector<'a> {
-        Selector { root: root_jsonb, strict: false }
+        Selector { root: root_jsonb, strict: false, limit: u64::MAX }
     }
 
     /// A selector in strict mode: a step that does not apply to an item is an error.
     pub fn new_strict(root_jsonb: RawJsonb<'a>) -> Selector<'a> {
-        Selector { root: root_jsonb, strict: true }
+        Selector { root: root_jsonb, strict: true, limit: u64::MAX }
+    }
+
+    /// Limits the items of paths from untrusted sources: a call fails with `LimitExceeded` if and only if
+    /// [`Selector::most_items`] of its path is above the limit. `u64::MAX` limits nothing. With a limit each call first
+    /// visits the whole document, which has to be one.
+    ///
+    /// ```
+    /// # use jsonb_paths::{parse_json_path, parse_value, Error, Selector};
+    /// let document = parse_value(b"[[[[[1]]]]]").unwrap().to_vec();
+    /// let path = parse_json_path(b"$.**.**.**").unwrap();
+    /// let mut selector = Selector::new(jsonb_paths::RawJsonb::new(&document)).with_limit(400);
+    /// assert_eq!(selector.most_items(&path), Ok(431));
+    /// assert_eq!(selector.exists(&path), Err(Error::LimitExceeded));
+    /// ```
+    #[must_use]
+    pub fn with_limit(self, limit: u64) -> Selector<'a> {
+        Selector { limit, ..self }
+    }
+
+    /// Returns the bound of the path on the document: at most how many items it lists, and how many values its filters
+    /// compare (docs/PATHS.md).
+    pub fn most_items(&self, json_path: &JsonPath<'_>) -> Result<u64> {
+        let document = self.root.as_bytes();
+        let mut bound = 0;
+        // SAFETY: as in `write`.
+        done(unsafe {
+            sys::jdoc_path_most_items(json_path.path.get(), document.as_ptr(), document.len(), &mut bound)
+        })?;
+        Ok(bound)
     }
 
     /// Returns each item that the path selects as a document, in order, with repeats.
@@ -161,17 +193,26 @@ impl<'a> Selector<'a> {
         })
     }
 
+    /// Returns the path with the limit of this selector.
+    fn limited(&self, path: &JsonPath<'_>) -> *mut sys::jdoc_path {
+        if path.limit.replace(self.limit) != self.limit {
+            // SAFETY: as in `write`. It fails only without a path, and then the call that follows fails too.
+            let _ = unsafe { sys::jdoc_path_limit(path.path.get(), self.limit) };
+        }
+        path.path.get()
+    }
+
     fn write(&self, path: &JsonPath<'_>, call: SelectBytes, out: Out) -> u32 {
         let document = self.root.as_bytes();
         // SAFETY: the path is there, and calls on it do not overlap, since it is not `Sync` and the library calls
         // nothing back. A slice is a pointer and its length, and an `Out` a buffer of its size.
-        unsafe { call(path.path.get(), document.as_ptr(), document.len(), self.strict, out.at, out.size, out.len) }
+        unsafe { call(self.limited(path), document.as_ptr(), document.len(), self.strict, out.at, out.size, out.len) }
     }
 
     fn decide(&self, path: &JsonPath<'_>, call: SelectTruth, truth: *mut u8) -> u32 {
         let document = self.root.as_bytes();
         // SAFETY: as in `write`.
-        unsafe { call(path.path.get(), document.as_ptr(), document.len(), self.strict, truth) }
+        unsafe { call(self.limited(path), document.as_ptr(), document.len(), self.strict, truth) }
     }
 }
 

@@ -21,6 +21,7 @@ ERRORS = [
     ("byte 11 of the path: equality is written ==", "jdoc_match(jdoc('{}'), 'strict $.a = 1')"), ("byte 0 of the path: JSON paths begin with $, key paths with {", "jdoc_get('{}', '$.a')"),
     ("byte 0 of the path: a key path is in braces JDOC_INVALID_KEY_PATH", "jdoc_value('{}', 'a')"),
     ("byte 6 exists", "jdoc_first(jdoc('{}'), '$?(@.a) ')"), ("byte 12 such as", "jdoc_first(jdoc('{}'), '$?(@.a == 1))')"),
+    ("JDOC_LIMIT_EXCEEDED jdoc_array", "jdoc_array('[1,2,3]', '$[*]', 5)"), ("JDOC_LIMIT_EXCEEDED", "jdoc_match('1', '$ == 1', 0)"),
     ("JDOC_PATH_FAILED jdoc_first", "jdoc_first(jdoc('[1,2]'), '$[*] + 1')"),
     ("JDOC_STRICT_PATH", "jdoc_first(jdoc('{}'), 'strict $.a')"), ("JDOC_INVALID_JSONB", "jdoc_get(x'00', '{a}')"),
     ("JDOC_INVALID_JSONB", "jdoc(x'00')"), ("JDOC_INVALID_JSONB", "jdoc_value(x'2000000020000001')"),
@@ -57,23 +58,25 @@ MESSAGES = [
     ("jdoc_each: expected a document (JDOC_INVALID_ARGUMENT)", "* FROM jdoc_each"),
 ]
 
-# The arguments of each function: d a document, p a JSON path, k a key path or an index, n a name, i an index, v any value.
+# The arguments of each function: d a document, p a JSON path, k a key path or an index, n a name, i an index, l a limit, v any value.
 ARGUMENTS = [
     ("jdoc", "d"), ("jdoc_json", "d"), ("jdoc_quote", "v"), ("jdoc_value", "d"), ("jdoc_value", "dk"), ("jdoc_get", "dk"), ("jdoc_first", "dp"),
     ("jdoc_select", "dp"), ("jdoc_array", "dp"), ("jdoc_exists", "dp"), ("jdoc_match", "dp"), ("jdoc_contains", "dd"), ("jdoc_overlap", "dd"),
     ("jdoc_concat", "dd"), ("jdoc_intersection", "dd"), ("jdoc_except", "dd"), ("jdoc_distinct", "d"), ("jdoc_strip_nulls", "d"),
     ("jdoc_delete", "dk"), ("jdoc_insert", "dnd"), ("jdoc_set", "dnd"), ("jdoc_array_insert", "did"), ("jdoc_equality_key", "d"),
     ("jdoc_type", "d"), ("jdoc_length", "d"), ("jdoc_check", "v"), ("jdoc_array_agg", "d"), ("jdoc_object_agg", "nd"), ("jdoc_path_is_predicate", "p"),
+    ("jdoc_first", "dpl"), ("jdoc_select", "dpl"), ("jdoc_array", "dpl"), ("jdoc_exists", "dpl"), ("jdoc_match", "dpl"),
 ]
 # A value of each SQL type, one that each argument accepts, the types that it does not accept, and the error.
 TYPED = {"INTEGER": "1", "REAL": "0.5", "TEXT": "'x'", "BLOB": "x'7b7d'"}
-ACCEPTED = {"d": "'[{}]'", "p": "'$'", "k": "'{0}'", "n": "'a'", "i": "0", "v": "1"}
+ACCEPTED = {"d": "'[{}]'", "p": "'$'", "k": "'{0}'", "n": "'a'", "i": "0", "l": "9", "v": "1"}
 REJECTED = {
     "d": (["REAL"], "a REAL is not exact: pass its text, such as '1.5' (JDOC_UNSUPPORTED_NUMBER)"),
     "p": (["INTEGER", "REAL", "BLOB"], "expected TEXT as the path, found {} (JDOC_INVALID_ARGUMENT)"),
     "k": (["REAL", "BLOB"], "expected a key path, which is TEXT, or an INTEGER, found {} (JDOC_INVALID_ARGUMENT)"),
     "n": (["INTEGER", "REAL", "BLOB"], "expected TEXT as the name, found {} (JDOC_INVALID_ARGUMENT)"),
     "i": (["REAL", "TEXT", "BLOB"], "expected an INTEGER as the index, found {} (JDOC_INVALID_ARGUMENT)"),
+    "l": (["REAL", "TEXT", "BLOB"], "expected an INTEGER as the limit, found {} (JDOC_INVALID_ARGUMENT)"),
     "v": ([], ""),
 }
 
@@ -104,6 +107,7 @@ DOCUMENT = '{"a":[1,2,3],"b":{"c":"x"},"n":null}'
 CALLS = [
     ("jdoc_json(jdoc_get(:d, '{a,-1}'))", "3"), ("jdoc_json(jdoc_get('[7,8]', 1))", "8"), ("jdoc_value(:d, '{b,c}')", "x"),
     ("jdoc_value('[7,8]', 0)", 7), ("jdoc_json(jdoc_first(:d, '$.a[*]?(@ > 1)'))", "2"), ("jdoc_json(jdoc_array(:d, '$.a[*]?(@ > 1)'))", "[2,3]"),
+    ("jdoc_json(jdoc_array('[1,2,3]', '$[*]', 6))", "[1,2,3]"), ("jdoc_exists(:d, '$.**.**', -1)", 1), ("jdoc_match(:d, '$.a', 0)", None),
     ("jdoc_json(jdoc_array(:d, 'lax $.z'))", "[]"), ("jdoc_json(jdoc_select(:d, '$.b.c'))", '"x"'), ("jdoc_exists(:d, '$.b.c')", 1),
     ("jdoc_exists(:d, ' strict$.b.c')", 1), ("jdoc_exists(:d, '$.z')", 0), ("jdoc_match(:d, '$.a[*] > 2')", 1), ("jdoc_match(:d, '$.a[*] > 3')", 0),
     ("jdoc_contains(:d, '{\"a\":[2]}')", 1), ("jdoc_contains(:d, '{\"a\":[4]}')", 0),

@@ -34,6 +34,7 @@ pub const JDOC_TOO_DEEP: jdoc_status = 25;
 pub const JDOC_OUT_OF_MEMORY: jdoc_status = 26;
 pub const JDOC_STRICT_PATH: jdoc_status = 27;
 pub const JDOC_PATH_FAILED: jdoc_status = 28;
+pub const JDOC_LIMIT_EXCEEDED: jdoc_status = 29;
 pub const JDOC_OVERFLOW: jdoc_status = 48;
 pub const JDOC_ZERO_DIVISOR: jdoc_status = 49;
 pub const JDOC_INEXACT: jdoc_status = 50;
@@ -1109,6 +1110,17 @@ extern "C" {
 }
 extern "C" {
     pub fn jdoc_path_free(path: *mut jdoc_path);
+}
+extern "C" {
+    pub fn jdoc_path_limit(path: *mut jdoc_path, limit: u64) -> jdoc_status;
+}
+extern "C" {
+    pub fn jdoc_path_most_items(
+        path: *mut jdoc_path,
+        document: *const u8,
+        document_len: usize,
+        bound: *mut u64,
+    ) -> jdoc_status;
 }
 extern "C" {
     pub fn jdoc_path_select_value(
