@@ -9,7 +9,8 @@ A mutant, a test module or a row that is deleted leaves the gate green with a sm
 tools/counts.toml, and a change that lowers one has to say so there. Each public call has to be named in docs/API.md, in a row of
 docs/rows/, in a test, in the allocation-failure sweep and in the name of one of its cases, among the calls on damaged documents, in
 a mutant, in the C library and among the calls that tools/measure_speed.py measures, each of which has a case.
-tools/counts.toml lists each exception by its name, below a reason.
+tools/counts.toml lists each exception by its name, below a reason. It also has the lines of definitions that a reader of contracts must
+agree with, so that they do not grow unseen.
 
 Only what runs is counted: source files that a `mod` line includes, and of the sweep and the damaged documents what `main` and the
 tests reach.
@@ -47,6 +48,8 @@ MODULE = re.compile(r"^ *(?:pub(?:\([^)]*\))? )?mod (\w+);", re.M)
 TEST = re.compile(r"^ *#\[test\]\n(?: *#\[.*\n)* *fn (\w+)", re.M)
 # The size with which the name of a case of the sweep begins.
 SIZE = re.compile(r"((?:16 \* |depth )?)\d+(?=:| \w+(?: \w+)?:)")
+# The folders of specs/ with what only unexported functions and proofs use, what is for bytes that may not decode, and what is stored.
+ELSEWHERE = ("Private", "Proofs", "AnyBytes", "Representation")
 # The beginning of a function, a table or a macro.
 PART = re.compile(r"^(?= *(?:pub(?:\([^)]*\))? )?(?:fn|static|const|macro_rules!) (\w+))", re.M)
 
@@ -121,6 +124,25 @@ def numbers_of_crate(crate):
     # (The type of a table says how many entries it has.)
     yield "table entries", sum(map(int, re.findall(r"^(?:pub )?static \w+: \[.*; (\d+)\] =", text, re.M)))
     yield "laws", len(re.findall(r"^pub fn ", sources(crate).get("laws.rt", ""), re.M))
+
+
+def lines_of_definitions(crates, *folders):
+    """Returns how many lines the definitions of crates have in these folders of specs/, or outside of those that ELSEWHERE names."""
+    found = 0
+    for path in (it for crate in crates for it in sorted((CRATES / crate / "specs").rglob("*.antt"))):
+        folder = path.relative_to(CRATES).parts[2]
+        if folder in folders or not folders and folder not in ELSEWHERE:
+            found += sum(not re.match(r" *(?:--.*|(?:pub )?(?:use|mod) .*)?$", line) for line in path.read_text().splitlines())
+    return found
+
+
+def numbers_of_definitions():
+    """Yields how long the definitions are that a reader of contracts must agree with (docs/PROOFS.md)."""
+    programs = ["jsonb_c", "jsonb_tool"]
+    yield "lines of definitions of the libraries", lines_of_definitions(check_docs.CRATES)
+    yield "lines of definitions of jsonb_c and jsonb_tool", lines_of_definitions(programs)
+    for folder in ("AnyBytes", "Representation"):
+        yield f"lines of definitions in {folder}", lines_of_definitions([*check_docs.CRATES, *programs], folder)
 
 
 def names_of_cases(file):
@@ -217,6 +239,7 @@ def numbers_of_tools():
     yield "witnesses that test the judge", entries_of("tools/test_judge.py", "WITNESSES")
     yield "groups that test how mutants are tried", sum(entries_of("tools/test_judge.py", it) for it in ("GROUPED", "SAID"))
     yield "mutants that test what has a switch", entries_of("tools/test_judge.py", "SWITCHED")
+    yield "texts that test where a mutant is", entries_of("tools/test_judge.py", "NAMED")
     yield "folders that test the judge", entries_of("tools/test_judge.py", "FOLDERS")
     yield "cases that test the gate", entries_of("tools/test_gate.py", "CASES")
     yield "outputs that test what the gate repeats", entries_of("tools/test_gate.py", "PRINTED")
@@ -239,7 +262,7 @@ def numbers():
     for file in sorted(CRATES.rglob("rows.rt")):
         if "out" not in file.parts:
             found[f"rows of {file.relative_to(CRATES)}"] = file.read_text().count("\n")
-    more = numbers_of_sweep, numbers_of_bindings, assertions_of_bindings, numbers_of_tools, numbers_of_fuzzer, numbers_of_pages
+    more = numbers_of_definitions, numbers_of_sweep, numbers_of_bindings, assertions_of_bindings, numbers_of_tools, numbers_of_fuzzer, numbers_of_pages
     found |= dict(it for its in more for it in its())
     return {name: count for name, count in found.items() if count}
 

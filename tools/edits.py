@@ -45,6 +45,19 @@ class Function:
         return f"{'' if '(?:' in self.module else self.module}{self.name}".replace(r"\w*", "")
 
 
+@dataclass(frozen=True)
+class Pair:
+    """What an edit replaces in a file, or in one function of it if that is named. `old` occurs there once."""
+
+    path: str
+    function: str
+    old: str
+    new: str
+
+    def applied(self, text, place):
+        return text[:place] + self.new + text[place + len(self.old) :]
+
+
 def indent(row):
     return len(row) - len(row.lstrip(" "))
 
@@ -90,11 +103,11 @@ def function_below(path, rows, header):
     return Function(r"(?:\w+::)*", f"{owner}::{name}", cycle)
 
 
-def function_of(path, text, old, new):
+def function_of(path, text, pair, place):
     """Returns the function whose body a pair changes in a file's text, or None if it does not change one body only."""
-    end = text.find("\n", text.index(old) + indent(old))
+    end = text.find("\n", place + indent(pair.old))
     rows = text[: end if end >= 0 else len(text)].split("\n")
-    begins_body = FUNCTION.match(rows[-1]) and old.endswith("{") and new.startswith(old)
+    begins_body = FUNCTION.match(rows[-1]) and pair.old.endswith("{") and pair.new.startswith(pair.old)
     header = len(rows) - 1 if begins_body else header_above(rows)
     return function_below(path, rows, header) if header is not None and path.startswith("src/") else None
 
@@ -109,46 +122,62 @@ def function_at(path, text, line):
     return function_below(path, rows, header) if header is not None else None
 
 
-def edited(edit, folder):
-    """Returns the contents of the files that an edit changes, by their path in the crate, and why it can't be applied, if it can't.
-
-    This is what rt reads in it (tools/test_judge.py compares them), so that the tools which try no proof need no kit for it.
-    """
-    texts, unchanged, path, old = {}, {}, "", ""
+def pairs_of(edit):
+    """Yields the pairs of an edit's text. `function:` counts for the next pair only."""
+    path = old = function = ""
     for row in edit.split("\n"):
         if row.startswith("file: "):
             path = row.removeprefix("file: ").strip()
+        elif row.startswith("function: "):
+            function = row.removeprefix("function: ").strip()
         elif row.startswith("old: "):
             old = row.removeprefix("old: ")
         elif row.startswith("new:"):
-            file = os.path.join(folder, path)
-            if not path.startswith(("src/", "specs/", "proofs/")) or os.path.normpath(path) != path or not os.path.isfile(file):
-                return None, f"there is no file {path!r}"
-            if path not in texts:
-                with open(file, encoding="utf-8") as it:
-                    texts[path] = unchanged[path] = it.read()
-            if not old or texts[path].count(old) != 1:
-                return None, f"{old!r} is not in {path} once"
-            texts[path] = texts[path].replace(old, row.removeprefix("new:").removeprefix(" "))
-            old = ""
+            yield Pair(path, function, old, row.removeprefix("new:").removeprefix(" "))
+            old = function = ""
+
+
+def place_of(text, pair):
+    """Returns the index of a pair's old text in a file, or None if that, or the function that is named, does not have it once."""
+    bodies = [(0, len(text))]
+    if pair.function:
+        bodies = [it.span() for it in re.finditer(rf"^( *)(?:\w.* )?fn {pair.function}\b(?s:.*?)\n\1}}$", text, re.M)]
+    if len(bodies) != 1 or not pair.old or text.count(pair.old, *bodies[0]) != 1:
+        return None
+    return text.index(pair.old, *bodies[0])
+
+
+def edited(edit, folder):
+    """Returns the contents of the files that an edit changes, by their path in the crate, and why it can't be applied, if it can't.
+
+    This is what rt reads in it (tools/test_judge.py compares them), so that the tools which try no proof need no kit for it. rt knows no
+    row `function:`, so only mutants that a test rejects have one.
+    """
+    texts, unchanged = {}, {}
+    for pair in pairs_of(edit):
+        path, file = pair.path, os.path.join(folder, pair.path)
+        if not path.startswith(("src/", "specs/", "proofs/")) or os.path.normpath(path) != path or not os.path.isfile(file):
+            return None, f"there is no file {path!r}"
+        if path not in texts:
+            with open(file, encoding="utf-8") as it:
+                texts[path] = unchanged[path] = it.read()
+        place = place_of(texts[path], pair)
+        if place is None:
+            return None, f"{pair.old!r} is not in {pair.function or path} once"
+        texts[path] = pair.applied(texts[path], place)
     return (texts, None) if texts != unchanged else (None, "it changes nothing")
 
 
 def functions_of(edit, folder):
     """Returns the functions that an edit's text changes, each once; None stands for a pair outside of bodies."""
-    path, old, texts, found = "", "", {}, []
-    for row in edit.split("\n"):
-        if row.startswith("file: "):
-            path = row.removeprefix("file: ").strip()
-            if path not in texts:
-                with open(f"{folder}/{path}", encoding="utf-8") as it:
-                    texts[path] = it.read()
-        elif row.startswith("old: "):
-            old = row.removeprefix("old: ")
-        elif row.startswith("new:"):
-            new = row.removeprefix("new:").removeprefix(" ")
-            found.append(function_of(path, texts[path], old, new))
-            texts[path] = texts[path].replace(old, new)
+    texts, found = {}, []
+    for pair in pairs_of(edit):
+        if pair.path not in texts:
+            with open(f"{folder}/{pair.path}", encoding="utf-8") as it:
+                texts[pair.path] = it.read()
+        text, place = texts[pair.path], place_of(texts[pair.path], pair)
+        found.append(None if place is None else function_of(pair.path, text, pair, place))
+        texts[pair.path] = text if place is None else pair.applied(text, place)
     return list(dict.fromkeys(found))
 
 

@@ -20,6 +20,7 @@ sys.dont_write_bytecode = True
 TOP = Path(__file__).resolve().parent.parent
 sys.path.insert(0, str(TOP / "tools/fuzz"))
 import meaning
+from bound import MOST, Bound
 from grammar import JsonPath, KeyPath
 from library import Library, c_bool, c_int32, c_int64, c_size_t, c_uint8, c_uint64, column_of, names_of
 from meaning import Fails, Path as Meaning
@@ -142,6 +143,24 @@ class Comparison:
             self.makes("select_value", given, lambda: single_or_array(items()))
             self.truth("exists", given, lambda: bool(items()))
             self.truth("match", given, lambda: path(strict).match(steps))
+        self.limits(text, steps)
+
+    def limits(self, text, steps):
+        """Compares the bound of a path, and a call with a limit at it, below it or above it."""
+        bound = 0 if steps is None else Bound(self.document, self.tree).of(steps)
+        limit = min(MOST, max(0, bound + self.cases.random.randrange(-1, 2)))
+
+        def known():
+            fail_if(steps is None, "INVALID_JSON_PATH")
+            return bound
+
+        def exists():
+            fail_if(known() > limit, "LIMIT_EXCEEDED")
+            return int(bool(Meaning(self.tree, False).items(steps)))
+
+        found, decided = self.library.within(self.document, text, limit)
+        self.compare("path_most_items", [text], outcome(known), found)
+        self.compare("path_exists", [text, limit], outcome(exists), decided)
 
     def key_paths(self):
         text = self.cases.key_path()

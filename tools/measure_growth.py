@@ -120,10 +120,11 @@ def of_arrays() -> Iterator[Series]:
     yield of("`concat` of two", "concat", lambda n: Made(numbers(n), other=numbers(n)))
     yield of("`array_intersection`", "array_intersection", lambda n: Made(numbers(n), other=shuffled(n)))
     yield of("`array_except`", "array_except", lambda n: Made(numbers(n), other=shuffled(n)))
-    yield of("`contains`, same order", "contains", lambda n: Made(numbers(n), other=numbers(n)))
-    yield of("`contains`, shuffled", "contains", lambda n: Made(numbers(n), other=shuffled(n)))
-    yield of("`contains`, objects in the same order", "contains", lambda n: Made(boxes(range(n)), other=boxes(range(n))))
-    yield of("`contains`, shuffled objects", "contains", lambda n: Made(boxes(range(n)), other=boxes(order(n))))
+    for call in ("contains", "contains_in"):
+        yield of(f"`{call}`, same order", call, lambda n: Made(numbers(n), other=numbers(n)))
+        yield of(f"`{call}`, shuffled", call, lambda n: Made(numbers(n), other=shuffled(n)))
+        yield of(f"`{call}`, objects in the same order", call, lambda n: Made(boxes(range(n)), other=boxes(range(n))))
+        yield of(f"`{call}`, shuffled objects", call, lambda n: Made(boxes(range(n)), other=boxes(order(n))))
     for call in ("array_overlap", "array_overlap_in"):
         yield of(f"`{call}`, disjoint", call, lambda n: Made(numbers(n), other=numbers(n, n)))
     yield of("`array_overlap_in`, disjoint, of one hash", "array_overlap_in", lambda n: Made(alike(n), other=alike(n, n)))

@@ -105,6 +105,13 @@ SWITCHED = [
     ([("len <= MOST", "len < MOST"), ("!is_short", "is_short")], False),
 ]
 
+# What an edit replaces in SOURCE, the function that it names, and whether that occurs there once.
+NAMED = [
+    ("usize", "", False),
+    ("usize", "is_long", True),
+    ("(len", "is_long", False),
+    ("usize", "is_gone", False),
+]
 
 # Folders of a mutant, what tools/witnesses.toml says of the test that fails with it, and whether the mutant may be there.
 FOLDERS = [
@@ -228,7 +235,8 @@ def read_otherwise():
     by_rt = kit.owned("rt", "edited") or edits.edited
     for crate in check_counts.crate_names():
         folder = str(witness.TOP / "crates" / crate)
-        texts = [file.read_text() for file in edits.files_of(Path(folder))]
+        found = [it.text for file in edits.files_of(Path(folder)) for it in group_edits.read_edits(file, folder)]
+        texts = [it for it in found if "\nfunction: " not in it]
         broken = [change(it) for it in texts[:3] for change in (str.upper, lambda it: it.replace("old: ", "old: no "), lambda it: f"{it}\nnew: \n")]
         for text in [*texts, *broken, "file: src/lib.rt\nold: //!\nnew: /!\n", "file: Cargo\nold: a\nnew: b\n", "file: src/../crates.txt\nold: a\nnew: b\n", "file: src/lib.rt\n", SAME]:
             if edits.edited(text, folder)[0] != by_rt(text, folder)[0]:
@@ -245,6 +253,9 @@ def faults():
         yield "" if witness.stated().is_determined(text) == wanted else f"{text}: {'not ' * wanted}determined"
     for pairs, wanted in SWITCHED:
         yield "" if can_have_test(pairs) == wanted else f"{pairs}: {'no test' if wanted else 'a test'} is accepted as its witness"
+    for old, function, wanted in NAMED:
+        is_right = (edits.place_of(SOURCE, edits.Pair("src/short.rt", function, old, "")) is not None) == wanted
+        yield "" if is_right else f"{old!r} is {'not ' * wanted}found in {function or 'the file'} once"
     for folder, listed, wanted in FOLDERS:
         is_right = can_have_test(SWITCHED[0][0], folder, listed) == wanted
         yield "" if is_right else f"{folder}/: a mutant whose test is {listed or 'in no list'} is {'not ' * wanted}accepted"

@@ -77,6 +77,17 @@ class Library:
         self.function("items_free")(items)
         return ("OK", found[:-1]) if status == "NONE" else (status, None)
 
+    def within(self, document, text, limit):
+        """Returns the bound of a path, and whether it selects an item within a limit, each after a status."""
+        path = byref(Handle())
+        status = self.status("path_read", [*flat([text]), path])
+        bound = self.value_of(c_uint64, "path_most_items", path, document) if status == "OK" else (status, None)
+        if status == "OK":
+            status = self.status("path_limit", [path, c_uint64(limit)])
+        exists = self.value_of(c_uint8, "path_exists", path, document, c_bool(False)) if status == "OK" else (status, None)
+        self.function("path_free")(path)
+        return bound, exists
+
     def next_item(self, items, document):
         """Returns the status, and the next of the items: that at its span, which has to be in the document, or a copy if it is computed."""
         span = Span()

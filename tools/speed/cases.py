@@ -430,7 +430,8 @@ def alone_on_array(what, values, others):
     yield from map(of, ALONE_ARRAY)
     yield from (of(call, "last", last) for call in ["spot_by_index", "spot_behind"])
     lists = {"itself": values, "reversed": values[::-1], "disjoint": others}
-    yield from (of("array_overlap_in", detail, "", document(other)) for detail, other in lists.items())
+    for call in ["array_overlap_in", "contains_in"]:
+        yield from (of(call, detail, "", document(other)) for detail, other in lists.items())
     if values and isinstance(values[0], str):
         yield from alone_on_names(what, document(values), values, others)
     if values and isinstance(values[0], int):

@@ -200,7 +200,7 @@ fn with_call<T: Task>(case: &Case, task: T) -> T::Done {
         "exists_any_keys" | "exists_any_keys_in" => task.run(case, |d| d.exists_any_keys(names.iter().copied()).unwrap() as usize),
         "object_pick" => task.run(case, |d| d.object_pick(&keys).unwrap()),
         "object_delete" => task.run(case, |d| d.object_delete(&keys).unwrap()),
-        "contains" => task.run(case, |d| d.contains(&other).unwrap() as usize),
+        "contains" | "contains_in" => task.run(case, |d| d.contains(&other).unwrap() as usize),
         "array_overlap" | "array_overlap_in" => task.run(case, |d| d.array_overlap(&other).unwrap() as usize),
         "concat" => task.run(case, |d| d.concat(&other).unwrap()),
         "array_intersection" => task.run(case, |d| d.array_intersection(&other).unwrap()),
