@@ -60,6 +60,8 @@ enum Elements {
     Wider,
 }
 
+use Elements::{Arrays, Numbers, Wider};
+
 impl Elements {
     fn word(self) -> &'static [u8] {
         match self {
@@ -77,12 +79,23 @@ impl Elements {
         }
     }
 
-    /// Returns the array of 200 of them, with the numbers from a first one, or these in the reverse order.
-    fn array(self, alloc: Global, first: u16, is_reversed: bool) -> Result<Vec<u8>, AllocError> {
-        let mut bytes = Vec::from_slice(alloc, b"\x80\0\0\xc8")?;
-        push_times(&mut bytes, self.word(), 200)?;
-        for index in 0u16..200 {
-            let place = if is_reversed { 199 - index } else { index };
+    /// Returns the array of `count` of them, with the numbers from a first one, or these in the reverse order.
+    fn array(
+        self,
+        alloc: Global,
+        count: u16,
+        first: u16,
+        is_reversed: bool,
+    ) -> Result<Vec<u8>, AllocError> {
+        let mut bytes = Vec::from_slice(alloc, &[0x80, 0])?;
+        bytes.extend_from_slice(&count.to_be_bytes())?;
+        push_times(&mut bytes, self.word(), count)?;
+        for index in 0..count {
+            let place = if is_reversed {
+                count.wrapping_sub(index).wrapping_sub(1)
+            } else {
+                index
+            };
             let number = u32::from(first.wrapping_add(place)) * 2048;
             bytes.extend_from_slice(self.head())?;
             bytes.push(0x50)?;
@@ -92,30 +105,32 @@ impl Elements {
     }
 }
 
-/// Elements of a document and of another one in the reverse order, how many numbers of the other are missing, and
-/// whether the document contains it.
-static CONTAINED: [(Elements, Elements, u16, bool); 7] = [
-    (Elements::Numbers, Elements::Numbers, 0, true),
-    (Elements::Numbers, Elements::Numbers, 1, false),
-    (Elements::Arrays, Elements::Arrays, 0, true),
-    (Elements::Arrays, Elements::Arrays, 1, false),
-    (Elements::Wider, Elements::Arrays, 0, true),
-    (Elements::Wider, Elements::Arrays, 1, false),
-    (Elements::Arrays, Elements::Wider, 0, false),
+/// Elements of a document and of another one in the reverse order, how many both have, how many numbers of the other
+/// are missing, and whether the document contains it.
+static CONTAINED: [(&str, Elements, Elements, u16, u16, bool); 9] = [
+    ("20 arrays but one", Arrays, Arrays, 20, 1, false),
+    ("20 arrays", Arrays, Arrays, 20, 0, true),
+    ("numbers", Numbers, Numbers, 200, 0, true),
+    ("numbers but one", Numbers, Numbers, 200, 1, false),
+    ("arrays", Arrays, Arrays, 200, 0, true),
+    ("arrays but one", Arrays, Arrays, 200, 1, false),
+    ("parts of arrays", Wider, Arrays, 200, 0, true),
+    ("parts of arrays but one", Wider, Arrays, 200, 1, false),
+    ("arrays of more", Arrays, Wider, 200, 0, false),
 ];
 
 #[test]
 fn elements_in_the_reverse_order_are_contained(rt: HostRuntime) -> Result<(), Fail> {
     let alloc = rt.alloc();
-    for (elements, others, missing, wanted) in &CONTAINED {
-        let bytes = elements.array(alloc, *missing, false)?;
-        let other = others.array(alloc, 0, true)?;
+    for (name, elements, others, count, missing, wanted) in &CONTAINED {
+        let bytes = elements.array(alloc, *count, *missing, false)?;
+        let other = others.array(alloc, *count, 0, true)?;
         let (document, other) = (RawJsonb::new(&bytes), RawJsonb::new(&other));
         assert!(rt;
             document.contains_in(alloc, &other) == Ok(*wanted),
-            "{missing}"
+            "{name}"
         );
-        assert!(rt; document.contains(&other) == Ok(*wanted), "{missing}");
+        assert!(rt; document.contains(&other) == Ok(*wanted), "{name}");
     }
     Ok(())
 }
