@@ -94,9 +94,9 @@ def mutants(crate, *kinds):
 def public_clauses(text):
     """Returns how many clauses the public functions and traits of a source text have.
 
-    The head of a function with clauses ends at a row `{`.
+    The head of a function with clauses ends at a row `{`, or `{}` if it is a law, and may have comments between clauses.
     """
-    heads = re.findall(r"^( *)pub (?:const |unsafe |extern \"C\" )*fn .*\n((?:\1[ )].*\n)*)\1\{$", text, re.M)
+    heads = re.findall(r"^( *)pub (?:const |unsafe |extern \"C\" )*fn .*\n((?:(?:\1[ )].*)?\n)*)\1\{\}?$", text, re.M)
     traits = re.findall(r"^pub trait .*?^\}$", text, re.M | re.S)
     return len(re.findall(r"^ *ensures ", "".join([*(head for _, head in heads), *traits]), re.M))
 
@@ -122,7 +122,7 @@ def numbers_of_crate(crate):
     yield "assertions", len(re.findall(r"\bassert\w*!\(", text))
     yield "lines of tests", sum(map(lines_of_code, test_texts(crate)))
     # (The type of a table says how many entries it has.)
-    yield "table entries", sum(map(int, re.findall(r"^(?:pub )?static \w+: \[.*; (\d+)\] =", text, re.M)))
+    yield "table entries", sum(map(int, re.findall(r"^ *(?:pub(?:\([^)]*\))? )?(?:static|const) \w+: \[.*; (\d+)\] =", text, re.M)))
     yield "laws", len(re.findall(r"^pub fn ", sources(crate).get("laws.rt", ""), re.M))
 
 
@@ -171,8 +171,18 @@ def numbers_of_sweep():
     yield "sizes of the large cases", sum(int(it) for it in re.findall(r"^(?:16 \* |depth )?(\d+)", text_of(CRATES / "jsonb_sweep/large"), re.M))
     allocations = [it.split()[0] for it in text_of(CRATES / "jsonb_sweep/growths").splitlines()]
     yield "allocations of the sweep", sum(int(it) for it in allocations if it.isdigit())
-    yield "runs of jsonb_tool in the sweep", len(re.findall(r"^(?:sweep|large)_tool ", text_of(ROOT / "tools/sweep_memory.sh"), re.M))
-    yield "lines of jsonb_lines", len(text_of(CRATES / "jsonb_lines/stdout").splitlines())
+    script = text_of(ROOT / "tools/sweep_memory.sh")
+    yield "runs of jsonb_tool in the sweep", len(re.findall(r"^(?:sweep|large)_tool ", script, re.M))
+    yield "faults that the sweep finds", len(re.findall(r"\bfault \S", script)) + len(re.findall(r"\) why = ", script))
+
+
+def numbers_of_programs():
+    """Yields how many files say what a program is run on and must print. The lines of the sweep are its cases."""
+    for crate in crate_names():
+        files = [it for it in (CRATES / crate / name for name in ("args", "stdin", "stdout", "status")) if it.is_file()]
+        yield f"files of the run of {crate}", len(files)
+    for crate in ("jsonb_tool", "jsonb_lines"):
+        yield f"lines of {crate}", len(text_of(CRATES / crate / "stdout").splitlines())
 
 
 def lines_written(program):
@@ -262,7 +272,7 @@ def numbers():
     for file in sorted(CRATES.rglob("rows.rt")):
         if "out" not in file.parts:
             found[f"rows of {file.relative_to(CRATES)}"] = file.read_text().count("\n")
-    more = numbers_of_definitions, numbers_of_sweep, numbers_of_bindings, assertions_of_bindings, numbers_of_tools, numbers_of_fuzzer, numbers_of_pages
+    more = numbers_of_definitions, numbers_of_sweep, numbers_of_programs, numbers_of_bindings, assertions_of_bindings, numbers_of_tools, numbers_of_fuzzer, numbers_of_pages
     found |= dict(it for its in more for it in its())
     return {name: count for name, count in found.items() if count}
 
