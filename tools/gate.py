@@ -39,6 +39,7 @@ import edits
 import kit
 import lanes
 import library
+import processor
 import reasons
 
 
@@ -216,12 +217,13 @@ def run_asked(asked):
 
 
 def report(status, faults):
-    """Prints the time that the run took, what has failed and why, and the last line, and returns the status."""
+    """Prints the time that the run and its commands took, what has failed and why, and the last line, and returns the status."""
     last = re.match(r"(\d+) passed, (\d+) failed", sys.stdout.last)
     passed, failed = map(int, last.groups()) if last else (0, 1)
     failed = (failed or int(status != 0)) + faults
-    processor = sum(os.times()[:4]) / 60
-    print(f"gate: {lanes.minutes(lanes.BEGUN)}, {processor:.0f} min of processor, on {kit.processors()} processors")
+    for it in processor.lines():
+        print(f"gate: {it}")
+    print(f"gate: {lanes.minutes(lanes.BEGUN)}, {sum(os.times()[:4]) / 60:.0f} min of processor, on {kit.processors()} processors")
     for it in reasons.reasons("".join(sys.stdout.said), "".join(sys.stderr.said)) if failed else []:
         print(it)
     print(f"{passed} passed, {failed} failed")
@@ -232,6 +234,7 @@ def main():
     asked = words()
     sys.stdout.reconfigure(line_buffering=True)
     sys.stdout, sys.stderr = Output(sys.stdout), Output(sys.stderr)
+    processor.count()
     return report(*run_asked(asked))
 
 

@@ -2,7 +2,8 @@
 """Tests .ci/run, with commands that do nothing in the place of those that it counts: it must fail if one of them fails, counts nothing,
 skips a test or is killed, and repeat the last lines of that command at the end, those of the proofs last; and the library of
 bindings/c is made by one command at a time. Tests which errors tools/gate.py repeats, and that they are its last lines, how many
-tasks it does at a time, and in which order, how it does those of an older kit, and that rt is given all mutants in few files.
+tasks it does at a time, and in which order, how it does those of an older kit, and that rt is given all mutants in few files. Tests which
+times are counted.
 
     tools/test_gate.py        the last line is 'N passed, M failed'
 """
@@ -26,6 +27,7 @@ import group_edits
 import kit
 import lanes
 import older_rt
+import processor
 import reasons
 import results
 
@@ -92,6 +94,13 @@ PRINTED = {
         [row for number in range(8) for row in (f"== low{number}", *MANY, f"rt: low{number} NOT PROVED")],
         [row for number in range(8) for row in (f"not proved: low{number}", *(f"  {it}" for it in MANY[: 2 if number < 6 else 1]))],
     ),
+}
+# Commands of the toolchain, and what each does with which crate.
+COMMANDS = {
+    "rattle build --crate-name low src/lib.rt --incremental out": ("proofs", "low"),
+    "rattle build --crate-name low src/lib.rt --test": ("tests", "low"),
+    "rattle check --crate-name low src/lib.rt --only one": ("mutants", "low"),
+    "rattle check --help": None,
 }
 # The free memory of a machine with four processors, in GB, and how many crates' tests are proved there at a time.
 LANES = {30: 4, 15: 2, 3: 1}
@@ -203,6 +212,30 @@ def fault_of_errors(room, command):
     """Returns what is wrong with the end if a command is ended by an exception, which is on its standard error, or an empty text."""
     said, *_ = run(room, {command: "echo at first; echo error: no memory >&2; exit 1"})
     return "" if said[-2:] == ["at first", "error: no memory"] else f"expected the error of {command} at the end, got {said[-2:]}"
+
+
+def fault_of_times(room):
+    """Returns what is wrong with the times that .ci/run prints of its commands, or an empty text."""
+    said, *_ = run(room, {})
+    told = [it[1].split()[0] for it in (re.fullmatch(r"time: \d+\.\d min, \d+\.\d min of processor: +(?:python3 )?(.*)", row) for row in said) if it]
+    wanted = [file_of(it) for it in check_counts.commands()]
+    return "" if sorted(told) == sorted(wanted) else f"expected the times of {wanted}, got {told}"
+
+
+def fault_of_processor():
+    """Returns what is wrong with the times that are counted of the toolchain's commands, or an empty text."""
+    found = [processor.what_of(it.split()) for it in COMMANDS]
+    if found != [*COMMANDS.values()]:
+        return f"expected {[*COMMANDS.values()]}, got {found}"
+    before, wait = processor.taken.copy(), subprocess.Popen._try_wait
+    processor.count()
+    try:
+        subprocess.run([sys.executable, "-c", "for it in range(10 ** 6): pass", *next(iter(COMMANDS)).split()], check=True)
+    finally:
+        subprocess.Popen._try_wait = wait
+    took = processor.taken - before
+    processor.taken.clear()
+    return "" if [*took] == [("proofs", "low")] and took.total() > 0.01 else f"expected the time of one proof, got {took}"
 
 
 def end_of_gate(status, printed, complained):
@@ -326,6 +359,8 @@ def faults():
         yield from (fault_of_last(room, *commands[:2], seconds) for seconds in (1, -1))
         yield fault_of_not_run(room, commands[0], [it for it in commands if file_of(it) in WAITING])
         yield fault_of_errors(room, commands[1])
+        yield fault_of_times(room)
+    yield fault_of_processor()
     yield fault_of_gate(1, [STOPPED], ["not proved: low", f"  {STOPPED}"])
     yield fault_of_gate(0, [STOPPED], [])
     for words, it in PRINTED.items():
