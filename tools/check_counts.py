@@ -255,6 +255,8 @@ def numbers_of_tools():
     yield "outputs that test what the gate repeats", entries_of("tools/test_gate.py", "PRINTED")
     yield "cases that test the gate's lanes", sum(entries_of("tools/test_gate.py", it) for it in ("LANES", "JOBS", "CHAINS"))
     yield "rules of the lint", entries_of("tools/lint.py", "RULES")
+    for name in ("check_counts", "check_docs", "check_quotes", "lint", "test_gate", "test_judge", "witness"):
+        yield f"places that yield in {name}.py", len(re.findall(r"\byield\b", text_of(ROOT / f"tools/{name}.py")))
     yield "tests that count work", len(tomllib.loads((ROOT / "tools/witnesses.toml").read_text())["counted"])
     kept = tomllib.loads((ROOT / "tools/witnesses.toml").read_text())["prover"]
     yield from ((f"mutants kept for the prover of {crate}", len(named)) for crate, named in kept.items())
@@ -266,7 +268,7 @@ def numbers_of_tools():
 
 def numbers():
     """Returns each number by its name; a zero is left out."""
-    found = {"crates": len(crate_names())}
+    found = {"crates": len(crate_names()), "public calls": len([*public_calls()])}
     for crate in crate_names():
         found |= {f"{what} of {crate}": count for what, count in numbers_of_crate(crate)}
     for file in sorted(CRATES.rglob("rows.rt")):
