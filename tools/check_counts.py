@@ -247,6 +247,7 @@ def numbers_of_tools():
     yield "levels of values and paths in a small stack", measure_stack.DECODED
     yield "bytes of the small stack", measure_stack.SMALL_STACK
     yield "witnesses that test the judge", entries_of("tools/test_judge.py", "WITNESSES")
+    yield "messages that test the judge", entries_of("tools/test_judge.py", "MESSAGES")
     yield "groups that test how mutants are tried", sum(entries_of("tools/test_judge.py", it) for it in ("GROUPED", "SAID"))
     yield "mutants that test what has a switch", entries_of("tools/test_judge.py", "SWITCHED")
     yield "texts that test where a mutant is", entries_of("tools/test_judge.py", "NAMED")

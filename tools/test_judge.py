@@ -58,6 +58,16 @@ def fault(edit):
     return judge.fault_of_function(crate, function, edit["said"], {edit["file"]: text})
 
 
+# What the prover says of an error in a proof, and whether the proof names something which the edit took away.
+MESSAGES = [
+    ("the record has no field `left`", True),
+    ("the module has no `left`", True),
+    ("`left` is not in scope", True),
+    ("`left` is not in scope here, so what is shown may differ", False),
+    ("`left` was not admitted", True),
+    ("this has type `ℕ`, and `Bool` is expected", False),
+]
+
 CALLS = "jsonb_raw tests::calls::answers_are_as_the_tables_say"
 # Witnesses, and whether the contracts determine the result.
 WITNESSES = [
@@ -75,6 +85,7 @@ WITNESSES = [
     (f"{CALLS}: delete_by_index 8000000120000003500005 0 => 80000000", False),
     # no result of the test
     (f"{CALLS}: error: OutOfMemory", False),
+    (f"{CALLS}: error: AllocError", False),
     (f"{CALLS}: status 139", False),
     ("jsonb_keypath tests::prints_key_paths: AddressSanitizer:DEADLYSIGNAL", False),
     # a test that is not listed, and rows that are excepted
@@ -249,6 +260,8 @@ def faults():
         yield "" if is_noticed(it) else f"{it} of another kit is not noticed"
     yield from read_otherwise()
     yield from faults_of_groups()
+    for text, wanted in MESSAGES:
+        yield "" if bool(judge.NAMES_WHAT_IS_GONE.search(text)) == wanted else f"{text}: {'not ' * wanted}of what the edit took away"
     for text, wanted in WITNESSES:
         yield "" if witness.stated().is_determined(text) == wanted else f"{text}: {'not ' * wanted}determined"
     for pairs, wanted in SWITCHED:
