@@ -1,7 +1,8 @@
 #!/usr/bin/env python3
 """The toolchain's program rt, as a module: all that these tools use of it, and all that they change in it.
 
-  kit.py     prints what rt of this kit lacks of that; the last line is 'N passed, M failed'
+  kit.py               prints what rt of this kit lacks of that; the last line is 'N passed, M failed'
+  kit.py try WORDS..   rt try, without the check that rt runs at the same time for a hint, and which takes as long
 
 rt has no other interface for what tools/gate.py and tools/check_edits.py do. tools/older_rt.py adds what an older kit lacks. If a kit lacks
 something else, gate.py runs `rt ci` as it is.
@@ -31,7 +32,7 @@ CALLED = {
         "ci": "anew names", "edits_alone": "names", "add_edits": "tasks crate edits first waits is_well kept start in_ci",
         "must_fail": "crate edit flags kept", "checked": "crate texts flags kept", "seeded": "crate flags start", "linked": "folder to",
         "in_lanes": "tasks", "ending": "_", "edits_of": "crate", "read_edit": "edit folder", "share_work": "is_alone", "say": "text out",
-        "processors": "", "free": "",
+        "processors": "", "free": "", "main": "words",
     },
     "rt.Kept": {"key": "self crate", "of_edit": "self edit sum"},
     "rt.Crate": {
@@ -41,7 +42,7 @@ CALLED = {
     "rt.rtlib": {"crates_below": "top", "help_of": "verb"},
 }
 # What else is used: constants, what each crate knows of itself, and the kinds of tasks that rt ci does, those that others wait for first.
-VALUES = {"rt": "KIT SEEDS REFUSED MISSED UNSURE", "rt.rtlib": "VERDICT"}
+VALUES = {"rt": "KIT SEEDS REFUSED MISSED UNSURE", "rt.rtlib": "RATTLE VERDICT"}
 OF_A_CRATE = "name folder is_program is_static"
 KINDS = ("proof", "seed", "tests", "edits", "sound", "again")
 # How the pattern of a verdict ends.
@@ -303,8 +304,16 @@ def try_edits(verdict, in_lanes, how, grouped):
     rt.Kept.of_edit = lambda kept, edit, sum: of_edit(kept, edit, f"{sum} {how}")
 
 
+def run_alone(words):
+    """Does rt try, with a program that does nothing in place of its check. With another kit it is plain rt try."""
+    if lacks():
+        return subprocess.run([RT, *words]).returncode
+    rt.rtlib.RATTLE = "true"
+    return rt.main(words)
+
+
 def main():
-    return results.report(faults())
+    return run_alone(sys.argv[1:]) if sys.argv[1:2] == ["try"] else results.report(faults())
 
 
 if __name__ == "__main__":

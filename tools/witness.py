@@ -188,7 +188,7 @@ def copy_crates(top, is_left_out):
 def run_tests(crate, top):
     """Builds and runs a crate's tests without a proof, and returns whether they passed, and the output."""
     # (One step for the interpreter: the compiled tests are enough.)
-    words = [os.environ.get("RT", "rt"), "try", "--test", "--steps", "1", "--seconds", str(SECONDS)]
+    words = [sys.executable, TOP / "tools/kit.py", "try", "--test", "--steps", "1", "--seconds", str(SECONDS)]
     how = {"cwd": top / "crates" / crate, "env": {**os.environ, "RT_ALLOW_C": "1"}, "errors": "replace"}
     ran = subprocess.run(words, stdout=subprocess.PIPE, stderr=subprocess.STDOUT, stdin=subprocess.DEVNULL, text=True, **how)
     return not ran.returncode, ran.stdout
