@@ -92,8 +92,17 @@ pub fn root_entry(bytes: &[u8]) -> Result<StoredEntry<'_>, Error>
 }
 
 /// Returns the shape of an entry that is not a container.
+///
+/// # Errors
+///
+/// `InvalidJsonb` or `UnsupportedNumber`, only if the bytes do not decode or the entry is a container. No string is
+/// read.
+///
+/// # Complexity
+///
+/// O(1). Does not allocate.
 #[inline(always)]
-fn scalar_shape<'a>(entry: StoredEntry<'a>) -> Result<Shape<'a>, Error>
+pub fn scalar_shape<'a>(entry: StoredEntry<'a>) -> Result<Shape<'a>, Error>
     ensures shape { (form : Form) (t : Tree)
         → IsContent (number_reader form) t (kind_number entry.entry.kind) entry.entry.content.now
         → kind_number entry.entry.kind ≢ 5 → IsOkAnd result (λ shape. HasShape shape t) }
