@@ -29,7 +29,7 @@ unfoldable pub use Rattle.jsonb_doc.proofs.Weights.{weight_of}
 pub use Rattle.jsonb_doc.proofs.WordLemmas.{bytes_eq-same, bytes_eq-true, word_cancel}
 pub use Rattle.jsonb_doc.proofs.WriterLemmas.{entries_append, one_entry}
 pub use Rattle.jsonb_doc.proofs.WriterLimits.{too_many, within_parts, not_short}
-pub use Rattle.jsonb_doc.specs.AnyBytes.Roots.{HasShape}
+pub use Rattle.jsonb_doc.specs.AnyBytes.Roots.{HasShape, IsNormalShape}
 pub use Rattle.jsonb_doc.specs.Elements.{GivesElement}
 pub use Rattle.jsonb_doc.specs.Equal.{are_equal, pairs_are_equal}
 pub use Rattle.jsonb_doc.specs.Number.{Number}
@@ -109,7 +109,7 @@ pub use Rattle.jsonb_raw.specs.Private.Names.{first_and_others, is_among, IsNotB
 pub use Rattle.jsonb_raw.specs.Private.Order.{part_cmp}
 pub use Rattle.jsonb_raw.specs.Private.PackedBytes.{packed_bytes}
 pub use Rattle.jsonb_raw.specs.Private.PairSteps.{pairs_above, parted}
-pub use Rattle.jsonb_raw.specs.Private.PlainWords.{IsPlainWord, is_plain_text}
+pub use Rattle.jsonb_raw.specs.Private.PlainWords.{IsPlainWord, is_plain_text, is_plain_ascii}
 pub use Rattle.jsonb_raw.specs.Private.SetCounts.{key_cmp, counted, one_at, with_key, CountsKeys, keeps, CountsAfter, in_order, ArePassed, kept_one, HaveSeen, Occurrence, is_first}
 pub use Rattle.jsonb_raw.specs.Private.KeyTables.{HasKeysOf, TellsMatch, HasTableOf}
 pub use Rattle.jsonb_raw.specs.Private.StartHints.{is_container, scalars_matched, AreStarts}

@@ -20,6 +20,7 @@ pub mod LeafPlaces
 pub mod PositionLemmas
 pub mod ObjectLemmas
 pub mod ContainLemmas
+pub mod RootShapes
 pub mod RunLemmas
 pub mod PartedRuns
 pub mod CutLemmas

@@ -1,11 +1,11 @@
-use Rattle.jsonb_raw.proofs.Lemmas.{sym, ◌∙◌, arith, chunk_escaped, chunk_copied}
+use Rattle.jsonb_raw.proofs.Lemmas.{arith, chunk_escaped, chunk_copied}
 use Rattle.jsonb_raw.proofs.key_bytes.push_long_text.Goals as goal
 
 pub loop-left-preserved-in_ok-extend_from_slice : goal.loop-left-preserved-in_ok-extend_from_slice
 loop-left-preserved-in_ok-extend_from_slice c =
     let inv = c.loop-left.invariant in
     record {
-      whole = chunk_copied _ _ _ _ _ _ _ (sym c.is_plain.ensures ∙ c.if-is_plain.true) c.in_ok-extend_from_slice.ensures.items
+      whole = chunk_copied _ _ _ _ _ _ _ (c.is_plain_chunk.ensures c.if-is_plain_chunk.true) c.in_ok-extend_from_slice.ensures.items
           c.split_at.ensures.front c.split_at.ensures.back inv.whole;
       len = grind arith;
       capacity = omega (arith, inv.capacity);

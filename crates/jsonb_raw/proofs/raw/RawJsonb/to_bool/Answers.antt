@@ -1,22 +1,15 @@
-use Rattle.jsonb_raw.proofs.Lemmas.{rules, ◌≡◌, ℕ, suc, List, [], ◌∷◌, map, Bool, true, false, Result, Ok, Err, inl, inr, refl, arith, Bor, IsAscii, IsUtf8, codes, OnOk, nat_lt, list_all, to_ascii_lowercase, nat_tests, IsUtf8-from_ascii, IsAscii-nil, IsAscii-cons, any, number_reader, IsContent, IsRootOf, IsRootShape, Error, Text, Boolean, String, IsBoolOf, Casts, HasRoot}
+use Rattle.jsonb_raw.proofs.Lemmas.{rules, ascii_text, text_read, ◌≡◌, ℕ, suc, List, [], ◌∷◌, map, Bool, true, false, Result, Ok, Err, inl, inr, refl, arith, Bor, IsAscii, IsUtf8, codes, OnOk, nat_lt, list_all, to_ascii_lowercase, nat_tests, IsUtf8-from_ascii, IsAscii-nil, IsAscii-cons, IsRootShape, Error, Text, Boolean, IsBoolOf, Casts, HasRoot}
 use Rattle.jsonb_doc.specs.declared.shape.Shape.TheVariants.{Boolean as BooleanShape}
 use Rattle.jsonb_doc.specs.Tree as spec
-use Rattle.std.proofs.lemmas.Bool.{and_parts}
 use Rattle.jsonb_raw.proofs.raw.RawJsonb.to_bool.Goals as goal
 
 ascii_bytes : (s : List ℕ) → IsAscii (map to_ascii_lowercase s) → IsAscii s
 ascii_bytes [] h = IsAscii-nil
 ascii_bytes (b ∷ s) h = IsAscii-cons b s (grind (arith, nat_tests, h 0)) (ascii_bytes s (λ i. h (suc i)))
 
-ascii_word : (s : List ℕ) → list_all (λ b. nat_lt b 128) s ≡ true → IsAscii s
-ascii_word [] h = IsAscii-nil
-ascii_word (b ∷ s) h =
-    let parts = and_parts (nat_lt b 128) (list_all (λ b. nat_lt b 128) s) h in
-    IsAscii-cons b s (grind (arith, nat_tests, parts.0)) (ascii_word s parts.1)
-
 -- a string that spells a word of ASCII is ASCII
 spelled : (word s : List ℕ) → list_all (λ b. nat_lt b 128) word ≡ true → map to_ascii_lowercase s ≡ word → IsUtf8 s
-spelled word s all e = IsUtf8-from_ascii s (ascii_bytes s (rw e (ascii_word word all)))
+spelled word s all e = IsUtf8-from_ascii s (ascii_bytes s (rw e (ascii_text word all)))
 
 spelled_bool : (b : Bool) (s : List ℕ) → IsBoolOf (spec.text s) b → IsUtf8 s
 spelled_bool true s (inl e) = spelled (codes "true") s refl e
@@ -28,30 +21,7 @@ spelled_bool false s (inr e) = spelled (codes "no") s refl e
 text_root : (bytes : List ℕ) (s : Bor (List ℕ)) (r : Result Bool Error) → IsRootShape bytes (Text s) → Casts (IsBoolOf (spec.text s.now)) r
     → OnOk r (HasRoot bytes)
 text_root bytes s (Err e) h cast = tt
-text_root bytes s (Ok b) h cast =
-    let part = h.parts.part in
-    let content : IsContent (number_reader any) (spec.text s.now) h.parts.kind h.parts.content = (part.0, part.1, spelled_bool b s.now cast) in
-    let root : IsRootOf bytes (String s) = (
-      spec.text s.now,
-      record {
-        document = inr (record {
-          words = h.words;
-          contents = h.contents;
-          headed = h.headed;
-          parts = record {
-            kind = h.parts.kind;
-            content = h.parts.content;
-            other_words = h.parts.other_words;
-            other_contents = h.parts.other_contents;
-            begin = h.parts.begin;
-            part = (rw part.0 (λ e. cc), content);
-            others = h.parts.others;
-          };
-        });
-      },
-      refl,
-    ) in
-    (String s, root)
+text_root bytes s (Ok b) h cast = text_read bytes s h (spelled_bool b s.now cast)
 
 boolean_root : (bytes : List ℕ) (b : Bool) → IsRootShape bytes (BooleanShape b) → HasRoot bytes
 boolean_root bytes b h = (Boolean b, h)
