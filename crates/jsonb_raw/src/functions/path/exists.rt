@@ -20,7 +20,9 @@ ghost use Rattle.jsonb_raw.specs.Iterators.{YieldsItemsLeft};
 use super::exists_in::Strings;
 use super::name_block::{NameBlock, entries_have};
 use crate::raw::RawJsonb;
-use jsonb_doc::{EntryIter, Error, Item, array_entries, bytes_cmp, object_entries, root_item};
+use jsonb_doc::{
+    EntryIter, Error, Shape, array_entries, bytes_cmp, is_utf8, object_entries, root_shape,
+};
 use std::alloc::Global;
 use std::cmp::Ordering;
 
@@ -393,7 +395,7 @@ pub(crate) enum Texts<'a> {
     /// The strings among the elements of an array.
     Elements(EntryIter<'a>),
     /// The root.
-    Root(&'a str),
+    Root(&'a [u8]),
     /// There are none.
     Without,
 }
@@ -405,10 +407,11 @@ fn document_texts(bytes: &[u8]) -> Result<Texts<'_>, Error>
     ensures errors { IfErr result IsDecodingError }
     ensures reads { OnOk result (HasRoot bytes.now) }
 {
-    match root_item(bytes)? {
-        Item::Object(object) => Ok(Texts::Keys(KeyCursor::new(object_entries(object)?.keys()))),
-        Item::Array(array) => Ok(Texts::Elements(array_entries(array)?)),
-        Item::String(text) => Ok(Texts::Root(text)),
+    match root_shape(bytes)? {
+        Shape::Object => Ok(Texts::Keys(KeyCursor::new(object_entries(bytes)?.keys()))),
+        Shape::Array => Ok(Texts::Elements(array_entries(bytes)?)),
+        Shape::Text(text) if is_utf8(text) => Ok(Texts::Root(text)),
+        Shape::Text(_) => Err(Error::InvalidJsonb),
         _ => Ok(Texts::Without),
     }
 }
@@ -424,7 +427,7 @@ fn texts_have(texts: &mut Texts<'_>, name: &str) -> Result<bool, Error>
     match texts {
         Texts::Keys(keys) => keys.has(name.as_bytes()),
         Texts::Elements(entries) => entries_have(*entries, name.as_bytes()),
-        Texts::Root(text) => Ok(*text == name),
+        Texts::Root(text) => Ok(*text == name.as_bytes()),
         Texts::Without => Ok(false),
     }
 }
