@@ -3,6 +3,9 @@ use Rattle.jsonb_raw.proofs.Common.{◌≡◌, inr, ℕ, ◌+◌, ◌^◌, ◌<�
 use Rattle.jsonb_doc.specs.declared.container.Container.TheVariants.{Array, Object}
 use Rattle.jsonb_doc.specs.declared.layout.HeaderKind.TheVariants as header_kind
 use Rattle.jsonb_raw.proofs.AnswerLemmas.{drop_first}
+use Rattle.std.proofs.Math.Seq.{take-append_seam, drop-append_seam}
+use Rattle.std.proofs.lemmas.Str.{IsUtf8-nil, IsUtf8-append, IsCharBoundary-at_seam}
+use Rattle.std.specs.Str.{IsUtf8, IsCharBoundary}
 
 -- ---- runs one after the other
 
@@ -271,3 +274,37 @@ pair_taken form left ps found first h e = grind arith
 pub no_pair_left : (form : Form) (pairs : PairEntries) (ps : List Member) (found : Option FirstPair) → found ≡ None
     → TakesFirstPair form pairs ps found → ps ≡ []
 no_pair_left form pairs ps found h e = grind arith
+
+-- ---- names that are one after the other
+
+names_utf8 : (form : Form) (ks : List (List ℕ)) (words contents : List ℕ) → AreEntries (number_reader form) (trees_of (map text ks)) words contents
+    → IsUtf8 contents
+names_utf8 form [] words contents h = subst IsUtf8 (sym h.1) IsUtf8-nil
+names_utf8 form (k ∷ ks) words contents h =
+    subst IsUtf8 (sym h.begin.contents_joined)
+    (IsUtf8-append h.content h.other_contents (subst IsUtf8 (sym h.part.1) h.part.2) (names_utf8 form ks h.other_words h.other_contents h.others))
+
+-- all of them are one string
+pub names_read : (form : Form) (pairs : PairEntries) (ps : List Member) → HoldPairs form pairs ps → IsUtf8 pairs.keys.contents.now
+names_read form pairs ps h = names_utf8 form (keys_of ps) _ _ h.names.entries
+
+pub no_members : (form : Form) (pairs : PairEntries) (ps : List Member) (count : ℕ) → HoldPairs form pairs ps
+    → ((form : Form) (ts : List Tree) → HoldTrees form pairs.keys ts → count ≡ length ts) → count ≡ 0 → ps ≡ []
+no_members form pairs [] count h counted none = refl
+no_members form pairs (p ∷ ps) count h counted none = absurd (omega (arith, counted form _ h.names, none))
+
+module _ (form : Form) (run : PairEntries) (p : Member) (ps : List Member) (first : FirstPair) (names : List ℕ) (h : IsFirstPair form run p ps first)
+    (is : names ≡ run.keys.contents.now) where
+  name_first : names ≡ first.key.now ++ first.others.keys.contents.now
+  name_first = is ∙ h.name.begin.contents_joined ∙ ap (λ key. key ++ first.others.keys.contents.now) (sym h.key)
+
+  -- it is split behind the first
+  pub name_boundary : IsCharBoundary names (length first.key.now)
+  name_boundary = IsCharBoundary-at_seam names first.key.now first.others.keys.contents.now name_first (names_utf8 form (keys_of ps) _ _ h.name.others_hold.entries)
+
+  pub name_split : (front back : List ℕ) → front ≡ take (length first.key.now) names → back ≡ drop (length first.key.now) names
+      → (front ≡ first.key.now) × (back ≡ first.others.keys.contents.now)
+  name_split front back one other = (
+    one ∙ ap (take (length first.key.now)) name_first ∙ take-append_seam first.key.now first.others.keys.contents.now,
+    other ∙ ap (drop (length first.key.now)) name_first ∙ drop-append_seam first.key.now first.others.keys.contents.now,
+  )

@@ -4,7 +4,7 @@
 
 ghost use Rattle.std.specs.List.{All, Any, AllZip};
 ghost use Rattle.std.specs.Map.{keys_of, values_of};
-ghost use Rattle.std.specs.Prelude.{◌≡◌, ℕ, List, ◌⊎◌, ◌||◌, false, not, None, Ok, IsSomeAnd, IsTrue, OnOk, IfOk, IfErr, IfSome, IsErrOf, MatchResult, MatchOption, Err, IsUtf8, string_bytes};
+ghost use Rattle.std.specs.Prelude.{◌≡◌, ℕ, List, ◌⊎◌, ◌||◌, false, not, None, Ok, IsSomeAnd, IsTrue, OnOk, IfOk, IfErr, IfSome, IsErrOf, MatchResult, MatchOption, Err, string_bytes};
 ghost use Rattle.jsonb_doc.specs.Tree.{Tree, object, pairs_of};
 ghost use Rattle.jsonb_doc.specs.Payload.{Form, number_reader};
 ghost use Rattle.jsonb_doc.specs.Format.{Decodes, AreKeys, IsContent};
@@ -252,7 +252,8 @@ fn pairs_by_set<'a>(
     runs.object(alloc)
 }
 
-/// Returns the keys of these members, each with its value as a new document.
+/// Returns the keys of these members, each with its value as a new document. The keys are one after the other, so that
+/// all of them are read as one string, which is then split: to read each takes 70 instructions more.
 fn owned_pairs(alloc: Global, pairs: PairEntries<'_>) -> Result<Vec<(String, OwnedJsonb)>, Error>
     ensures pairs { (form : Form) (ps : List (List ℕ × Tree)) → HoldPairs form pairs.entry ps
         → MatchResult result (λ made. AllZip (IsPairOf string_bytes form) made.items ps)
@@ -260,28 +261,36 @@ fn owned_pairs(alloc: Global, pairs: PairEntries<'_>) -> Result<Vec<(String, Own
     ensures whole { IfOk result (λ made. All IsWholePair made.items) }
     ensures errors { IfErr result (IsDecodingError or OutOfMemory or TooLarge) }
 {
+    if entry_count(pairs.keys) == 0 {
+        return Ok(Vec::new(alloc));
+    }
+    let Ok(names) = str::from_utf8(pairs.keys.contents) else {
+        return Err(Error::InvalidJsonb);
+    };
     let mut each = Vec::with_capacity(alloc, entry_count(pairs.keys))?;
     let mut left = pairs;
+    let mut others = names;
     while let Some(pair) = first_pair(left)? {
-        each.push(owned_pair(alloc, pair)?)?;
+        let Some((name, behind)) = others.split_at_checked(pair.key.len()) else {
+            return Err(Error::InvalidJsonb);
+        };
+        each.push(owned_pair(alloc, name, pair)?)?;
         left = pair.others;
+        others = behind;
     }
     Ok(each)
 }
 
 /// Returns the key of a member, and the value as a new document.
 #[inline(always)]
-fn owned_pair(alloc: Global, pair: FirstPair<'_>) -> Result<(String, OwnedJsonb), Error>
-    ensures pair { (form : Form) (t : Tree) → IsUtf8 pair.entry.key.now
+fn owned_pair(alloc: Global, name: &str, pair: FirstPair<'_>) -> Result<(String, OwnedJsonb), Error>
+    ensures pair { (form : Form) (t : Tree)
         → IsContent (number_reader form) t (kind_number pair.entry.kind) pair.entry.content.now
-        → MatchResult result (λ made. IsPairOf string_bytes form made (pair.entry.key.now, t))
+        → MatchResult result (λ made. IsPairOf string_bytes form made (name.now, t))
         (IsOutOfMemoryOrTooLarge form t) }
     ensures whole { IfOk result IsWholePair }
     ensures errors { IfErr result (IsDecodingError or OutOfMemory or TooLarge) }
 {
-    let Ok(key) = str::from_utf8(pair.key) else {
-        return Err(Error::InvalidJsonb);
-    };
     let document = entry_document(alloc, pair.kind, pair.content)?;
-    Ok((String::from_str(alloc, key)?, document))
+    Ok((String::from_str(alloc, name)?, document))
 }
