@@ -20,7 +20,7 @@ pub use Rattle.jsonb_raw.proofs.KeyTables.{key_tells, KeysLeft, KeysLeft-all, Ke
 pub use Rattle.jsonb_raw.proofs.LeafPlaces.{leaves_are_in_place}
 pub use Rattle.jsonb_raw.proofs.LeafWalk.{last_of, item_leaves, leaf_found, leaf_of_whole, part_entered, level_done, walk_done, parts_leaves, LeavesToward}
 pub use Rattle.jsonb_raw.proofs.LevelKeys.{part_begun_at, first_refused, part_written, IsWithin}
-pub use Rattle.jsonb_raw.proofs.LevelLemmas.{all_left, count_of_trees, count_of_pairs, parts_left, pushed_around, popped_around, SomeParts-first, SomeParts-none, SomeParts-error, falls_within, falls_beside, falls_done, SomeParts, weights, stored_container, count_of_keys, headed, no_object, no_pair_error, part_is, array_told, child_told, first_falls, decides_along, equal_passes, next_children, ended, children_ended, parts_in_order, container_rank, container_content, SomeOfBoth, numbers_told, as_many_around, scalar_item}
+pub use Rattle.jsonb_raw.proofs.LevelLemmas.{all_left, count_of_trees, count_of_pairs, parts_left, pushed_around, popped_around, SomeParts-first, SomeParts-none, SomeParts-error, falls_within, falls_beside, falls_done, SomeParts, weights, stored_container, count_of_keys, headed, no_object, no_pair_error, part_is, array_told, child_told, first_falls, decides_along, equal_passes, next_children, ended, children_ended, parts_in_order, container_rank, container_content, SomeOfBoth, numbers_told, as_many_around}
 unfoldable pub use Rattle.jsonb_raw.proofs.LevelLemmas.{weight}
 pub use Rattle.jsonb_raw.proofs.NameBlockLemmas.{decide_with_others, one_decides, one_leaves, first_decide, text_added, keys_left, told_none, told_alone, told_first, told_head, told_after, leaves_all, leaves_after, leaves_aside, leaves_told, text_stored, Leaves, array_decided, text_among, SomeTexts-first, SomeTexts-none, names_have, placed_one, none_of_none, one_string, SomeTexts, name_decides, name_leaves, next_taken, none_taken, later_is_one, text_passed, text_taken, some_stored, no_text_error, text_none}
 pub use Rattle.jsonb_raw.proofs.NumberKeys.{value, value-cons, all_zero}

@@ -133,12 +133,6 @@ module _ (form : Form) (t : Tree) (bytes : List ℕ) (content : IsContent (numbe
   pub headed : ((kind : HeaderKind) (n : ℕ) (rest : List ℕ) → HeadedBy bytes (header_number kind) n rest → ⊥) → ⊥
   headed none = let (kind, n, rest, h) = HasContent-headed (number_reader form) bytes (t, content) in none kind n rest h
 
--- any other item stands for a tree that has no parts
-pub scalar_item : (form : Form) (item : Item) (t : Tree) → ((bytes : Bor (List ℕ)) → item ≡ Array bytes → ⊥) →
-    ((bytes : Bor (List ℕ)) → item ≡ Object bytes → ⊥)
-    → StandsFor form item t → (is_container t ≡ false) × (deepest t ≡ 0)
-scalar_item form item t h e k = grind arith
-
 pub stored_container : (form : Form) (e : StoredEntry) (t : Tree) → Stores form e t → (kind_number e.kind == 5) ≡ true
     → IsContent (number_reader form) t 5 e.content.now
 stored_container form e t h k = let is : kind_number e.kind ≡ 5 = grind (arith, nat_tests) in rw is at h.content

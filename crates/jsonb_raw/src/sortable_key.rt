@@ -1,12 +1,12 @@
 //! The sortable key of a document: each item after its depth and its type.
 
-ghost use Rattle.std.specs.Prelude.{◌≡◌, ◌≤◌, ◌<◌, ◌+◌, ◌*◌, ◌++◌, ℕ, [], length, List, Option, IsOk, IfOk, IfErr, IfSome, MatchResult, OnOk, vec_len, vec_capacity};
+ghost use Rattle.std.specs.Prelude.{◌≡◌, ◌≤◌, ◌<◌, ◌+◌, ◌*◌, ◌++◌, ◌∷◌, ℕ, [], IsUtf8, length, List, Option, IsOk, IfOk, IfErr, IfSome, MatchResult, OnOk, vec_len, vec_capacity};
 ghost use Rattle.std.specs.Int.{to_be_bytes};
 ghost use Rattle.jsonb_doc.specs.Tree.{Tree};
 ghost use Rattle.jsonb_doc.specs.Payload.{Form, number_reader};
 ghost use Rattle.jsonb_doc.specs.Format.{Decodes, IsContent};
 ghost use Rattle.jsonb_doc.specs.Private.EntryKinds.{container_entry, number_entry};
-ghost use Rattle.jsonb_doc.specs.Item.{StandsFor};
+ghost use Rattle.jsonb_doc.specs.AnyBytes.Roots.{HasShape};
 ghost use Rattle.jsonb_doc.specs.Kinds.{kind_number};
 ghost use Rattle.jsonb_doc.specs.Private.Stored.{Stores};
 ghost use Rattle.jsonb_raw.specs.AnyBytes.Roots.{HasRoot};
@@ -14,7 +14,8 @@ ghost use Rattle.jsonb_raw.specs.SortableKey.{text_bytes, number_bytes, sortable
 ghost use Rattle.jsonb_doc.specs.Depth.{deepest};
 ghost use Rattle.jsonb_raw.specs.Private.PackedBytes.{packed_bytes};
 ghost use Rattle.jsonb_doc.specs.Private.Short.{short_value};
-ghost use Rattle.jsonb_doc.specs.View.{number_view};
+ghost use Rattle.jsonb_doc.specs.View.{number_view, extension_view};
+ghost use Rattle.jsonb_doc.specs.Payload.{extension_payload};
 ghost use Rattle.jsonb_raw.specs.Private.Levels.{IsKeyOf, IsLevelWithin};
 ghost use Rattle.jsonb_raw.specs.Private.KeyParts.{name_start, AppendsItem, AppendsScalar, AppendsStart, AppendsKey};
 ghost use Rattle.jsonb_raw.specs.Private.KeyWidth.{width_of};
@@ -25,13 +26,17 @@ ghost use Rattle.jsonb_doc.specs.Answer.{IsDecodingError, ◌or◌};
 ghost use Rattle.jsonb_doc.specs.declared.error.Error.TheVariants.{OutOfMemory, TooDeep};
 
 use crate::key_bytes::{
-    pack_number, pack_text, push_number, push_unpacked_number, push_unpacked_text,
+    is_long_plain_ascii, pack_number, pack_text, push_number, push_plain_text,
+    push_unpacked_number, push_unpacked_text,
 };
 use crate::key_kind;
 use crate::level::ChildCursor;
 use crate::packed::{PackedBytes, ROOM};
-use jsonb_doc::layout::EntryKind;
-use jsonb_doc::{Error, Item, Number, ShortNumber, StoredEntry, push_extension_payload, root_item};
+use jsonb_doc::layout::{EntryKind, WORD};
+use jsonb_doc::{
+    Error, ExtensionValue, Number, Shape, ShortNumber, StoredEntry, is_utf8,
+    push_extension_payload, root_shape, scalar_shape,
+};
 use std::alloc::Global;
 
 /// The number of bytes that a key has for each depth.
@@ -181,36 +186,46 @@ fn push_container<'a>(
     Ok(level)
 }
 
-/// Appends the key of a scalar item.
+/// Appends the key of an extension value.
 #[inline(always)]
-fn push_scalar_item(out: &mut Vec<u8>, item: &Item<'_>, depth: Depth) -> Result<(), Error>
-    ensures key { (form : Form) (tree : Tree) → StandsFor form item.now tree
-        → AppendsScalar depth tree out.old.items result out.new.items }
-    ensures room { (form : Form) (tree : Tree) → StandsFor form item.now tree → depth.value < 256
-        → HasKeyRoom tree (vec_len out.old) (vec_capacity out.old) → IsOk result }
-    ensures errors { IfErr result (IsDecodingError or OutOfMemory or TooDeep) }
+fn push_extension(out: &mut Vec<u8>, value: &ExtensionValue<'_>, depth: Depth) -> Result<(), Error>
+    ensures item { AppendsItem depth 1 (extension_payload (extension_view value.now) ++ 0 ∷ [])
+        out.old.items result out.new.items }
+    ensures room { depth.value < 256
+        → vec_len out.old + (length (extension_payload (extension_view value.now)) + 64) ≤ vec_capacity out.old
+        → IsOk result }
 {
-    match item {
-        Item::Null => push_front(out, depth, key_kind::NULL)?,
-        Item::Boolean(false) => push_front(out, depth, key_kind::FALSE)?,
-        Item::Boolean(true) => push_front(out, depth, key_kind::TRUE)?,
-        Item::Number(number) => push_read_number(out, *number, depth)?,
-        Item::String(text) => push_string(out, text.as_bytes(), depth)?,
-        Item::Extension(value) => {
-            push_front(out, depth, key_kind::EXTENSION)?;
-            let own = *value; // so that only this type of item is in memory
-            push_extension_payload(out, &own)?;
-            out.push(0)?;
-        }
-        Item::Array(_) | Item::Object(_) => return Err(Error::InvalidJsonb),
-    }
+    push_front(out, depth, key_kind::EXTENSION)?;
+    let own = *value; // so that only this type of item is in memory
+    push_extension_payload(out, &own)?;
+    out.push(0)?;
     Ok(())
 }
 
-/// Appends the key of a scalar entry of this type, by its item. It is a separate function so that traversing the most
-/// common entries needs no space for items. It takes the entry's parts, so that the caller keeps no entry in memory.
+/// Appends the key of a scalar whose shape was read.
+#[inline(always)]
+fn push_shape(out: &mut Vec<u8>, shape: Shape<'_>, depth: Depth) -> Result<(), Error>
+    ensures key { (tree : Tree) → HasShape shape.entry tree
+        → AppendsScalar depth tree out.old.items result out.new.items }
+    ensures room { (tree : Tree) → HasShape shape.entry tree → depth.value < 256
+        → HasKeyRoom tree (vec_len out.old) (vec_capacity out.old) → IsOk result }
+    ensures errors { IfErr result (IsDecodingError or OutOfMemory or TooDeep) }
+{
+    match shape {
+        Shape::Null => push_front(out, depth, key_kind::NULL),
+        Shape::Boolean(false) => push_front(out, depth, key_kind::FALSE),
+        Shape::Boolean(true) => push_front(out, depth, key_kind::TRUE),
+        Shape::Number(number) => push_read_number(out, number, depth),
+        Shape::Text(text) => push_string(out, text, depth),
+        Shape::Extension(value) => push_extension(out, &value, depth),
+        Shape::Array | Shape::Object => Err(Error::InvalidJsonb),
+    }
+}
+
+/// Appends the key of a scalar entry of this type, by its shape. It is a separate function so that traversing the most
+/// common entries needs no space for shapes. It takes the entry's parts, so that the caller keeps no entry in memory.
 #[inline(never)]
-fn push_stored_item(
+fn push_stored_shape(
     out: &mut Vec<u8>,
     kind: EntryKind,
     content: &[u8],
@@ -220,8 +235,7 @@ fn push_stored_item(
         → AppendsScalar depth tree out.old.items result out.new.items }
     ensures errors { IfErr result (IsDecodingError or OutOfMemory or TooDeep) }
 {
-    let entry = StoredEntry { kind, content };
-    push_scalar_item(out, &entry.item()?, depth)
+    push_shape(out, scalar_shape(StoredEntry { kind, content })?, depth)
 }
 
 /// Appends the key of a number, as it is stored. It is a separate function so that a packed number takes no space while
@@ -235,11 +249,11 @@ fn push_stored_number(out: &mut Vec<u8>, content: &[u8], depth: Depth) -> Result
     let kind = EntryKind::Number;
     match (StoredEntry { kind, content }).short_number() {
         Some(number) => push_short(out, number, depth),
-        None => push_stored_item(out, kind, content, depth),
+        None => push_stored_shape(out, kind, content, depth),
     }
 }
 
-/// Appends the key of a scalar entry. Only an extension value and a long decimal are read as items.
+/// Appends the key of a scalar entry. Only an extension value and a long decimal are read as shapes.
 #[inline(always)]
 fn push_scalar(out: &mut Vec<u8>, entry: &StoredEntry<'_>, depth: Depth) -> Result<(), Error>
     ensures key { (form : Form) (tree : Tree) → Stores form entry.now tree
@@ -254,7 +268,7 @@ fn push_scalar(out: &mut Vec<u8>, entry: &StoredEntry<'_>, depth: Depth) -> Resu
     }
     match key_kind::of_literal(entry) {
         Some(kind) => push_front(out, depth, kind),
-        None => push_stored_item(out, entry.kind, entry.content, depth),
+        None => push_stored_shape(out, entry.kind, entry.content, depth),
     }
 }
 
@@ -307,7 +321,30 @@ fn push_parts(
     }
 }
 
-/// Appends the sortable key of a document.
+/// Appends the key of a root that is a string. Fails with `InvalidJsonb` if it is not UTF-8. No `str` is made of it, so
+/// a long one in ASCII is read once, for what must be escaped: 300 bytes take 490 instructions instead of 750.
+#[inline(always)]
+fn push_root_text(out: &mut Vec<u8>, text: &[u8], depth: Depth) -> Result<(), Error>
+    ensures item { IsUtf8 text.now
+        → AppendsItem depth 5 (text_bytes text.now) out.old.items result out.new.items }
+    ensures utf8 { OnOk result (IsUtf8 text.now) }
+    ensures room { IsUtf8 text.now → depth.value < 256
+        → vec_len out.old + (2 * length text.now + 19) ≤ vec_capacity out.old → IsOk result }
+    ensures errors { IfErr result (IsDecodingError or OutOfMemory or TooDeep) }
+{
+    if is_long_plain_ascii(text) {
+        push_front(out, depth, key_kind::STRING)?;
+        push_plain_text(out, text)?;
+        return Ok(());
+    }
+    if !is_utf8(text) {
+        return Err(Error::InvalidJsonb);
+    }
+    push_string(out, text, depth)
+}
+
+/// Appends the sortable key of a document. An empty container is a header alone. It is not traversed: `[]` takes 200
+/// instructions instead of 330.
 #[inline(always)]
 pub fn push_sortable_key(
     alloc: Global,
@@ -322,11 +359,15 @@ pub fn push_sortable_key(
     ensures errors { IfErr result (IsDecodingError or OutOfMemory or TooDeep) }
     ensures reads { OnOk result (HasRoot bytes.now) }
 {
-    let root = root_item(bytes)?;
+    let root = root_shape(bytes)?;
     out.reserve(bytes.len().saturating_add(ROOM))?;
-    match &root {
-        Item::Array(parts) | Item::Object(parts) => push_parts(alloc, out, parts, width),
-        scalar => push_scalar_item(out, scalar, Depth { value: 0, width }),
+    let depth = Depth { value: 0, width };
+    match root {
+        Shape::Array if bytes.len() == WORD => push_front(out, depth, key_kind::ARRAY),
+        Shape::Object if bytes.len() == WORD => push_front(out, depth, key_kind::OBJECT),
+        Shape::Array | Shape::Object => push_parts(alloc, out, bytes, width),
+        Shape::Text(text) => push_root_text(out, text, depth),
+        scalar => push_shape(out, scalar, depth),
     }
 }
 

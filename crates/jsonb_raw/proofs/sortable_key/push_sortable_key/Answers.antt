@@ -1,23 +1,41 @@
-use Rattle.jsonb_raw.proofs.Lemmas.{arith, ℕ, List, rules, subst, AppendsKey, width_of, array_document, object_document, scalar_item}
+use Rattle.jsonb_raw.proofs.Lemmas.{arith, ℕ, List, subst, AppendsKey, width_of, text_reads, other_reads, plain_shape, scalar_tree}
 use Rattle.jsonb_raw.proofs.KeyRoom.{room_kept, room_more}
+use Rattle.jsonb_doc.specs.declared.shape.Shape.TheVariants.{Array, Object}
 use Rattle.jsonb_raw.proofs.sortable_key.push_sortable_key.Goals as goal
+use Rattle.jsonb_raw.proofs.sortable_key.push_sortable_key.Goals.{in-Array+else-bytes-eq-WORD, in-Object+else-bytes-eq-WORD-2}
 
-pub returns-in-Array-clause-key : goal.returns-in-Array-clause-key
-returns-in-Array-clause-key c = grind (arith, array_document, object_document)
+pub returns-in-Array-clause-reads : goal.returns-in-Array-clause-reads
+returns-in-Array-clause-reads c = other_reads c.args.bytes Array _ tt (rw c.in-Array.is at c.in_ok-root.ensures.readable) tt
 
-pub returns-in_default : goal.returns-in_default
-returns-in_default c = record {
-  key = λ form tree decodes.
-      let stands = c.in_ok-root.ensures.decodes form tree decodes in
-      let scalar = scalar_item form _ tree c.in_default.not-Array c.in_default.not-Object stands in
-      subst (λ (old : List ℕ). AppendsKey (width_of c.args.width) tree old c.push_scalar_item.result c.push_scalar_item.new.out.items) c.reserve.ensures.items
-      (rw scalar.1 (c.push_scalar_item.ensures.key form tree stands scalar.0));
-  room = λ form tree decodes room.
-      let stands = c.in_ok-root.ensures.decodes form tree decodes in
-      c.push_scalar_item.ensures.room form tree stands (omega arith) (room_kept tree _ _ _ _ _ room c.reserve.ensures.len c.reserve.ensures.capacity);
-  errors = search rules;
-  reads = search rules;
-}
+pub returns-in-Object-clause-reads : goal.returns-in-Object-clause-reads
+returns-in-Object-clause-reads c = other_reads c.args.bytes Object _ tt (rw c.in-Object.is at c.in_ok-root.ensures.readable) tt
+
+pub returns-in-Array-2-clause-reads : goal.returns-in-Array-2-clause-reads
+returns-in-Array-2-clause-reads c =
+    elim c.in-Array-2-1.branch [
+      | in-Array+else-bytes-eq-WORD w ↦ other_reads c.args.bytes Array _ tt (rw w.in-Array.is at c.in_ok-root.ensures.readable) tt
+      | in-Object+else-bytes-eq-WORD-2 w ↦ other_reads c.args.bytes Object _ tt (rw w.in-Object.is at c.in_ok-root.ensures.readable) tt
+    ]
+
+pub returns-in-Text-clause-reads : goal.returns-in-Text-clause-reads
+returns-in-Text-clause-reads c =
+    text_reads c.args.bytes.now c.in-Text.text _ (rw c.in-Text.is at c.in_ok-root.ensures.readable) c.push_root_text.ensures.utf8
+
+pub returns-in_default-clause-key : goal.returns-in_default-clause-key
+returns-in_default-clause-key c = λ form tree decodes.
+    let shape = c.in_ok-root.ensures.shape form tree decodes in
+    let scalar = scalar_tree _ tree shape c.in_default.not-Array c.in_default.not-Object in
+    subst (λ (old : List ℕ). AppendsKey (width_of c.args.width) tree old c.push_shape.result c.push_shape.new.out.items) c.reserve.ensures.items
+    (rw scalar.1 (c.push_shape.ensures.key tree shape scalar.0))
+
+pub returns-in_default-clause-room : goal.returns-in_default-clause-room
+returns-in_default-clause-room c = λ form tree decodes room.
+    c.push_shape.ensures.room tree (c.in_ok-root.ensures.shape form tree decodes) (omega arith)
+    (room_kept tree _ _ _ _ _ room c.reserve.ensures.len c.reserve.ensures.capacity)
+
+pub returns-in_default-clause-reads : goal.returns-in_default-clause-reads
+returns-in_default-clause-reads c =
+    other_reads c.args.bytes _ _ (plain_shape _ c.in_default.not-Text) c.in_ok-root.ensures.readable c.in_ok-root.ensures.normal
 
 pub returns-in_err-reserve-clause-room : goal.returns-in_err-reserve-clause-room
 returns-in_err-reserve-clause-room c = λ form tree decodes room.

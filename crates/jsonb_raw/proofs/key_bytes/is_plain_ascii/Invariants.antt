@@ -1,0 +1,8 @@
+use Rattle.jsonb_raw.proofs.Lemmas.{◌≡◌, take, list_all}
+use Rattle.jsonb_raw.specs.Private.PlainWords.{is_plain_ascii}
+use Rattle.std.specs.Prelude.{int_lt, pos}
+use Rattle.jsonb_raw.proofs.key_bytes.is_plain_ascii.Given as goal
+
+-- so far
+abbrev pub invariant-loop-byte : goal.invariant-loop-byte
+invariant-loop-byte l = int_lt (pos 1) l.least ≡ list_all is_plain_ascii (take l.byte-index l.bytes)
