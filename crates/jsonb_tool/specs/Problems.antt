@@ -1,5 +1,6 @@
 -- Why arguments have no result.
 use Rattle.std.specs.Prelude.{◌≡◌, ◌⊎◌, ℕ, List, Option, Some, None, Ok, Err, option_map, MatchOption}
+use Rattle.hex.specs.declared.error.FromHexError.{FromHexError}
 use Rattle.jsonb.specs.Error.TheVariants.{OutOfMemory}
 use Rattle.jsonb.specs.ErrorPosition.{key_path_error_position}
 use Rattle.jsonb.specs.PathErrorPosition.{json_path_error_position}
@@ -10,9 +11,7 @@ use Rattle.jsonb_tool.specs.declared.problem.Problem.TheVariants.{Command, Digit
 
 -- Holds for arguments that are not a command, or whose document is not hexadecimal.
 abbrev pub IsUsage : Problem → Type 0
-IsUsage Command = Unit {0}
-IsUsage (Digits error) = Unit {0}
-IsUsage _ = ⊥
+IsUsage problem = (problem ≡ Command) ⊎ ((error : FromHexError) × (problem ≡ Digits error))
 
 -- The position of the error in the text of the request's path, if that does not parse.
 abbrev pub path_problem : Request → Option Problem
