@@ -42,7 +42,7 @@ status_takes form s (Err d) (Err e) b status is h = inr (h.1, (e, is, inl (same_
 
 pub follows : (form : Form) (event : Event) (old b : DocumentBuilder) (r : Result (Unit {0}) EventError) (status : ℕ)
     → MatchResult r (λ _. status ≡ code Answered) (λ e. status ≡ event_status e) → ((s : State) → Holds form old s → Takes form s (next event s) r b)
-    → Follows form event (Some (Events old)) status (Some (Events b))
+    → Follows form event (Some (Events old)) (Some (Events b)) status
 follows form event old b r status is h = record {
   takes = λ s held. status_takes form s (next event s) r b status is (h s held);
   other = λ k. absurd (keeps_no_other k);
@@ -57,7 +57,7 @@ status_kept (Err e) status R is h fails = h
 -- ---- the handle
 
 pub follows_kept : (form : Form) (event : Event) (old : Option PreparedPath) (kept : PreparedPath) (status : ℕ) (new : Option PreparedPath)
-    → IsKeptOrNew old kept → Follows form event (Some kept) status new → Follows form event old status new
+    → IsKeptOrNew old kept → Follows form event (Some kept) new status → Follows form event old new status
 follows_kept form event (Some x) kept status new is h = rw is at h
 follows_kept form event None kept status new is h = record {
   takes = λ s empty. h.takes s (rw empty (is form));
@@ -75,7 +75,7 @@ out_of_memory form s (Ok after) status is empty = inr (empty, (Failed OutOfMemor
 out_of_memory form s (Err d) status is empty = inr (empty, (Failed OutOfMemory, is, inr refl))
 
 -- before the first event, an allocation fails
-pub fails_first : (form : Form) (event : Event) (status : ℕ) → status ≡ code (Refused OutOfMemory) → Follows form event None status None
+pub fails_first : (form : Form) (event : Event) (status : ℕ) → status ≡ code (Refused OutOfMemory) → Follows form event None None status
 fails_first form event status is = record {
   takes = λ s empty. out_of_memory form s (next event s) status is empty;
   other = λ k. absurd (keeps_no_other k);
@@ -86,13 +86,13 @@ fails_first form event status is = record {
 -- a document of the tree is delivered; without a tree the root is not complete
 abbrev WritesWhole : Form → Option Tree → List ℕ → List ℕ → ℕ → ℕ → Type 0
 WritesWhole form found old new len status =
-    MatchOption found (DeliversNothing causes.OutOfOrder old new len status)
+    MatchOption found (DeliversNothing old new len status causes.OutOfOrder)
     (λ t. WritesResult (λ answer. MatchResult answer (λ made. Decodes form made t) IsOutOfMemory) IsOutOfMemory
     (DeliversValue old new len status))
 
 pub finish_writes : (form : Form) (found : Option Tree) (r : Result (Vec ℕ Global) EventError) (made : Vec ℕ Global) (old new : List ℕ) (len status : ℕ)
     → r ≡ Ok made → MatchOption found (r ≡ Err OutOfOrder) (λ t. MatchResult r (λ v. Decodes form v.items t) (λ e. e ≡ Failed OutOfMemory))
-    → DeliversBytes made.items old new len status → WritesWhole form found old new len status
+    → DeliversBytes old new len status made.items → WritesWhole form found old new len status
 finish_writes form None r made old new len status is h written = absurd (cc)
 finish_writes form (Some t) r made old new len status is h written =
     let decodes : Decodes form made.items t = rw is at h in (Ok made.items, decodes, tt, written)

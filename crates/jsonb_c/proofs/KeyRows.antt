@@ -10,7 +10,7 @@ use Rattle.jsonb_c.specs.Answers.{Shows, ShowsValue, WritesResult}
 -- the row is the key, or why there is none
 pub writes_key : (written : Result (Unit {0}) Error) (made : Vec ℕ Global) (IsKey : Result (List ℕ) Error → Type 0) (Refusals : Error → Type 0)
     (old new : List ℕ) (status : ℕ) → IsKey (written_key written made.items) → IfErr written Refusals
-    → Shows (written_answer (result_and written (Ok true)) made.items) old new status
+    → Shows old new status (written_answer (result_and written (Ok true)) made.items)
     → WritesResult IsKey Refusals (ShowsValue old new status)
 writes_key (Ok _) made IsKey Refusals old new status is errors shown = (Ok made.items, is, tt, shown)
 writes_key (Err e) made IsKey Refusals old new status is errors shown = (Err e, is, errors, shown)

@@ -6,7 +6,7 @@ use Rattle.jsonb_doc.specs.declared.error.Error.{Error}
 use Rattle.jsonb.specs.PathTree.{Step}
 use Rattle.jsonb.specs.PathViews.{path_view}
 use Rattle.jsonb.specs.declared.path.JsonPath.{JsonPath}
-use Rattle.jsonb_c.specs.Limits.{RunsWithin, WithPath}
+use Rattle.jsonb_c.specs.Limits.{WithPath}
 use Rattle.std.specs.Prelude.{Vec}
 use Rattle.std.specs.declared.alloc.Global.{Global}
 use Rattle.std.specs.declared.boxed.Box.{Box}
@@ -27,9 +27,11 @@ module _ (R S : Type 0) (F G : Status → Type 0) (runs : R → S) (fails : (cau
   compared limit (Ok bound) (inr h) = inr (h.0, fails LimitExceeded h.1)
   compared limit (Err e) h = fails (Refused e) h
 
-  within : (limit : Option ℕ) (path : List Step) (document : List ℕ) → RunsWithin limit path document R F → RunsWithin limit path document S G
-  within None path document h = runs h
-  within (Some limit) path document (said, is, errors, h) = (said, is, errors, compared limit said h)
+module _ (R S : List Step → Type 0) (F G : Status → Type 0) (path : List Step) (runs : R path → S path)
+    (fails : (cause : Status) → F cause → G cause) where
+  within : (limit : Option ℕ) (document : List ℕ) → WithPath limit (Some path) document R F → WithPath limit (Some path) document S G
+  within None document h = runs h
+  within (Some limit) document (said, is, errors, h) = (said, is, errors, compared (R path) (S path) F G runs fails limit said h)
 
 abbrev ok_part : {A B : Type 0} → Result A B → Option A
 ok_part (Ok x) = Some x
@@ -46,21 +48,21 @@ same_cause : {A B : Type 0} (answer : Result A B) (x y : B) → answer ≡ Err x
 same_cause answer x y is other = sym (ap (err_part x) is) ∙ ap (err_part x) other
 
 -- the limit allows the path, or the call fails with the status
-pub checked : (limit : Option ℕ) (path : List Step) (document : List ℕ) (said : Result ⊤ Status) (Runs : Type 0) (Fails : Status → Type 0)
-    → RunsWithin limit path document (said ≡ Ok tt) (λ cause. said ≡ Err cause) → MatchResult said (λ _. Runs) Fails
-    → RunsWithin limit path document Runs Fails
-checked limit path document (Ok x) Runs Fails h runs = within (Ok x ≡ Ok tt) Runs (λ cause. Ok x ≡ Err cause) Fails (λ is. runs)
-    (λ cause is. absurd (apart (Ok x) x cause refl is)) limit path document h
-checked limit path document (Err cause) Runs Fails h fails = within (Err cause ≡ Ok tt) Runs (λ said. Err cause ≡ Err said) Fails
+pub checked : (limit : Option ℕ) (path : List Step) (document : List ℕ) (said : Result ⊤ Status) (Runs : List Step → Type 0) (Fails : Status → Type 0)
+    → WithPath limit (Some path) document (λ _. said ≡ Ok tt) (λ cause. said ≡ Err cause) → MatchResult said (λ _. Runs path) Fails
+    → WithPath limit (Some path) document Runs Fails
+checked limit path document (Ok x) Runs Fails h runs = within (λ _. Ok x ≡ Ok tt) Runs (λ cause. Ok x ≡ Err cause) Fails path (λ is. runs)
+    (λ cause is. absurd (apart (Ok x) x cause refl is)) limit document h
+checked limit path document (Err cause) Runs Fails h fails = within (λ _. Err cause ≡ Ok tt) Runs (λ said. Err cause ≡ Err said) Fails path
     (λ is. absurd (apart (Err cause) tt cause is refl)) (λ said is. subst Fails (same_cause (Err cause) cause said refl is) fails)
-    limit path document h
+    limit document h
 
 module _ (limit : Option ℕ) (document : List ℕ) (R S : List Step → Type 0) (F G : Status → Type 0) where
   -- what holds of a call that runs, and of one that fails, in place of other facts
   pub with_path : (kept : Option (List Step)) → ((path : List Step) → R path → S path) → ((cause : Status) → F cause → G cause)
       → WithPath limit kept document R F → WithPath limit kept document S G
   with_path None runs fails h = fails NoPath h
-  with_path (Some path) runs fails h = within (R path) (S path) F G (runs path) fails limit path document h
+  with_path (Some path) runs fails h = within R S F G path (runs path) fails limit document h
 
 module _ (limit : Option ℕ) (kept : Option (List Step)) (document : List ℕ) (Runs : List Step → Type 0) (Fails : Status → Type 0) where
   ran : (answer : Result (Bor JsonPath) Status) (path : Bor JsonPath) → answer ≡ Ok path → Admits limit kept document answer

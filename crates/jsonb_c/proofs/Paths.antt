@@ -4,6 +4,10 @@ use Rattle.std.specs.Prelude.{IfErr, MatchResult, ok_or}
 use Rattle.jsonb_doc.specs.declared.error.Error.{Error}
 use Rattle.jsonb_doc.specs.declared.error.Error.TheVariants.{InvalidJsonPath, InvalidKeyPath, OutOfMemory}
 use Rattle.jsonb_doc.specs.Answer.{IsOutOfMemory, ◌or◌when◌}
+use Rattle.jsonb_doc.specs.Format.{Decodes}
+use Rattle.jsonb_doc.specs.Payload.{Form}
+use Rattle.jsonb_doc.specs.Tree.{Tree}
+use Rattle.jsonb_raw.specs.Deletes.{MeetNoPart, without}
 use Rattle.jsonb.specs.KeyPathGrammar.{Key}
 use Rattle.jsonb.specs.PathGrammar.{json_path}
 use Rattle.jsonb.specs.PathTree.{Step}
@@ -59,12 +63,19 @@ by_path_refused refusal e None Promise answer is (inr other) promised = inr (rw 
 by_path_refused refusal e (Some path) Promise answer is (inl memory) promised = rw (is, memory) (promised path)
 by_path_refused refusal e (Some path) Promise answer is (inr other) promised = cc
 
+-- the document without a value, which is as it was if there is none
+pub as_it_was : (form : Form) (document : List ℕ) (steps : List Key) (t : Tree) (answer : Result (List ℕ) Error)
+    → MatchResult answer (λ made. Decodes form made (without steps t)) IsOutOfMemory
+    → (MeetNoPart steps t → MatchResult answer (λ made. made ≡ document) IsOutOfMemory)
+    → MatchResult answer (λ made. Decodes form made (without steps t) × (MeetNoPart steps t → made ≡ document)) IsOutOfMemory
+as_it_was form document steps t (Ok made) first second = (first, second)
+as_it_was form document steps t (Err e) first second = first
+
 -- the promises of calls on places, if an allocation fails
 pub deletes_without_memory : (document : List ℕ) (steps : List Key) → DeletesPlace steps document (Err OutOfMemory)
 deletes_without_memory document steps = record {
   scalar = λ form t d is. inl refl;
   without = λ form t d is. refl;
-  same = λ form t d is none. refl;
 }
 
 -- the errors of a result are those that it may have

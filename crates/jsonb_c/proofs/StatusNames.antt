@@ -82,6 +82,6 @@ no_name n none =
 
 -- what is delivered is the name
 pub delivers : (found : Option (Bor (List ℕ))) (wanted : Option (List ℕ)) (old new : List ℕ) (len status : ℕ) → option_copied found ≡ wanted
-    → Delivers (found_text (Ok found)) old new len status → Delivers (Ok wanted) old new len status
+    → Delivers old new len status (found_text (Ok found)) → Delivers old new len status (Ok wanted)
 delivers (Some text) wanted old new len status is h = rw (← is) h
 delivers None wanted old new len status is h = rw (← is) h

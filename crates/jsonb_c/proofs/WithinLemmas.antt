@@ -34,13 +34,13 @@ refused (Arithmetic DecimalOperand) is = let k : 51 ≡ 0 = is in omega (arith, 
 
 module _ (document : List ℕ) where
   pub shown : (answer : Result (Option Span) Error) (old new : Span) (status : ℕ) → IfOk answer (λ found. IfSome found (IsWithin document))
-      → Shows answer old new status → status ≡ code Answered → IsWithin document new
+      → Shows old new status answer → status ≡ code Answered → IsWithin document new
   shown (Ok (Some span)) old new status within is done = rw is.0 within
   shown (Ok None) old new status within is done = let k : 1 ≡ 0 = sym is.1 ∙ done in absurd (omega (arith, k))
   shown (Err e) old new status within is done = absurd (refused e (sym is.1 ∙ done))
 
   pub shown_first : (answer : Result (Option (FirstItem Span)) Error) (old new : Span) (status : ℕ)
-      → IfOk answer (λ found. IfSome found (IsFirstWithin document)) → ShowsFirst answer old new status → status ≡ code Answered → IsWithin document new
+      → IfOk answer (λ found. IfSome found (IsFirstWithin document)) → ShowsFirst old new status answer → status ≡ code Answered → IsWithin document new
   shown_first (Ok (Some (At span))) old new status within is done = rw is.0 within
   shown_first (Ok (Some Computed)) old new status within is done = let k : 6 ≡ 0 = sym is.1 ∙ done in absurd (omega (arith, k))
   shown_first (Ok None) old new status within is done = let k : 1 ≡ 0 = sym is.1 ∙ done in absurd (omega (arith, k))

@@ -3,7 +3,7 @@ use Rattle.std.specs.Prelude.{◌≡◌, ◌⊎◌, ◌≤◌, ◌++◌, ℕ, Li
 use Rattle.std.specs.List.{AllZip, zip}
 use Rattle.jsonb_doc.specs.declared.error.Error.{Error}
 use Rattle.jsonb_doc.specs.declared.error.Error.TheVariants.{OutOfMemory}
-use Rattle.jsonb_doc.specs.Answer.{and_then}
+use Rattle.jsonb_doc.specs.Answer.{Outcome, and_then}
 use Rattle.jsonb_doc.specs.Payload.{Form}
 use Rattle.jsonb_doc.specs.Format.{Decodes}
 use Rattle.jsonb_doc.specs.Tree.{Tree}
@@ -15,10 +15,10 @@ use Rattle.jsonb_c.specs.declared.status.Status.TheVariants.{Absent, Answered, B
 
 -- The result of a call: a value, `None`, or an error.
 abbrev pub Found : Type 0 → Type 0
-Found A = Result (Option A) Error
+Found A = Outcome (Option A)
 
 -- A value that always exists, as a result.
-abbrev pub always : {A : Type 0} → Result A Error → Found A
+abbrev pub always : {A : Type 0} → Outcome A → Found A
 always answer = and_then answer (λ x. Ok (Some x))
 
 -- The result with the value in its written form.
@@ -38,22 +38,22 @@ WritesAll lists old new status =
     ⊎ ((status ≡ code BufferTooSmall) × (AllZip (λ list room. length list ≤ length room) lists old → ⊥) × (new ≡ old))
 
 -- Holds if the bytes and their length are delivered.
-abbrev pub DeliversBytes : List ℕ → List ℕ → List ℕ → ℕ → ℕ → Type 0
-DeliversBytes bytes old new len status = (len ≡ length bytes) × WritesAll (bytes ∷ []) (old ∷ []) (new ∷ []) status
+abbrev pub DeliversBytes : List ℕ → List ℕ → ℕ → ℕ → List ℕ → Type 0
+DeliversBytes old new len status bytes = (len ≡ length bytes) × WritesAll (bytes ∷ []) (old ∷ []) (new ∷ []) status
 
 -- Holds if the caller's value is unchanged, and this is the status.
-abbrev pub ShowsNothing : {A : Type 0} → Status → A → A → ℕ → Type 0
-ShowsNothing cause old new status = (new ≡ old) × (status ≡ code cause)
+abbrev pub ShowsNothing : {A : Type 0} → A → A → ℕ → Status → Type 0
+ShowsNothing old new status cause = (new ≡ old) × (status ≡ code cause)
 
 -- Holds if no bytes are delivered: the buffer is unchanged, and this is the status.
-abbrev pub DeliversNothing : Status → List ℕ → List ℕ → ℕ → ℕ → Type 0
-DeliversNothing cause old new len status = (len ≡ 0) × (new ≡ old) × (status ≡ code cause)
+abbrev pub DeliversNothing : List ℕ → List ℕ → ℕ → ℕ → Status → Type 0
+DeliversNothing old new len status cause = (len ≡ 0) × (new ≡ old) × (status ≡ code cause)
 
 -- Holds if the result is delivered; the buffer is unchanged if there are no bytes.
-abbrev pub Delivers : Found (List ℕ) → List ℕ → List ℕ → ℕ → ℕ → Type 0
-Delivers (Ok (Some bytes)) old new len status = DeliversBytes bytes old new len status
-Delivers (Ok None) old new len status = DeliversNothing Absent old new len status
-Delivers (Err e) old new len status = DeliversNothing (Refused e) old new len status
+abbrev pub Delivers : List ℕ → List ℕ → ℕ → ℕ → Found (List ℕ) → Type 0
+Delivers old new len status (Ok (Some bytes)) = DeliversBytes old new len status bytes
+Delivers old new len status (Ok None) = DeliversNothing old new len status Absent
+Delivers old new len status (Err e) = DeliversNothing old new len status (Refused e)
 
 -- ---- one value
 
@@ -62,24 +62,24 @@ abbrev pub truth_byte : Truth → ℕ
 truth_byte truth = unwrap_or (option_map from_bool truth) 2
 
 -- Holds if the value is delivered; the caller's is unchanged if there is none or the call fails.
-abbrev pub Shows : {A : Type 0} → Found A → A → A → ℕ → Type 0
-Shows (Ok (Some x)) old new status = (new ≡ x) × (status ≡ code Answered)
-Shows (Ok None) old new status = ShowsNothing Absent old new status
-Shows (Err e) old new status = ShowsNothing (Refused e) old new status
+abbrev pub Shows : {A : Type 0} → A → A → ℕ → Found A → Type 0
+Shows old new status (Ok (Some x)) = (new ≡ x) × (status ≡ code Answered)
+Shows old new status (Ok None) = ShowsNothing old new status Absent
+Shows old new status (Err e) = ShowsNothing old new status (Refused e)
 
 -- ---- values that always exist
 
 -- Holds if the bytes are delivered, or the error.
-abbrev pub DeliversValue : List ℕ → List ℕ → ℕ → ℕ → Result (List ℕ) Error → Type 0
-DeliversValue old new len status answer = Delivers (always answer) old new len status
+abbrev pub DeliversValue : List ℕ → List ℕ → ℕ → ℕ → Outcome (List ℕ) → Type 0
+DeliversValue old new len status answer = Delivers old new len status (always answer)
 
 -- Holds if the value is delivered, or the error.
-abbrev pub ShowsValue : {A : Type 0} → A → A → ℕ → Result A Error → Type 0
-ShowsValue old new status answer = Shows (always answer) old new status
+abbrev pub ShowsValue : {A : Type 0} → A → A → ℕ → Outcome A → Type 0
+ShowsValue old new status answer = Shows old new status (always answer)
 
 -- Holds if the value in its written form is delivered, or the error.
-abbrev pub ShowsAs : {A B : Type 0} → (A → B) → B → B → ℕ → Result A Error → Type 0
-ShowsAs written old new status answer = Shows (found_as written (always answer)) old new status
+abbrev pub ShowsAs : {A B : Type 0} → (A → B) → B → B → ℕ → Outcome A → Type 0
+ShowsAs written old new status answer = Shows old new status (found_as written (always answer))
 
 -- ---- what a call promises
 
@@ -88,24 +88,24 @@ abbrev pub OfDocument : {A : Type 0} → List ℕ → (Form → Tree → A → T
 OfDocument document Promise answer = (form : Form) (t : Tree) → Decodes form document t → Promise form t answer
 
 -- Holds if there is such a result, which fails only with the stated errors, and it is delivered.
-abbrev pub WritesResult : {A : Type 0} → (Result A Error → Type 0) → (Error → Type 0) → (Result A Error → Type 0)
-    → Type 0
+abbrev pub WritesResult : {A : Type 0} → (Outcome A → Type 0) → (Error → Type 0) → (Outcome A → Type 0) → Type 0
 WritesResult {A} IsAnswer Refusals IsShown =
-    (answer : Result A Error) × IsAnswer answer × IfErr answer Refusals × IsShown answer
+    (answer : Outcome A) × IsAnswer answer × IfErr answer Refusals × IsShown answer
+
+-- ---- what a call runs with, and how it fails without
 
 -- Holds if the call runs with what is read of its input, or fails with the status if it cannot be read, or because an
 -- allocation fails.
 abbrev pub With : {P : Type 0} → Result P Status → (P → Type 0) → (Status → Type 0) → Type 0
 With read Runs Fails = MatchResult read Runs Fails ⊎ Fails (Refused OutOfMemory)
 
--- Holds if what the call finds with its input is delivered. If the input cannot be read, nothing is.
-abbrev pub DeliversBy : {P : Type 0} → Result P Status → (P → (Found (List ℕ) → Type 0) → Type 0) → List ℕ → List ℕ
-    → ℕ → ℕ → Type 0
-DeliversBy read Call old new len status = With read (λ input. Call input (λ answer. Delivers answer old new len status))
-    (λ cause. DeliversNothing cause old new len status)
+-- Holds if the call runs with the path or the items that the handle keeps, or fails if it keeps none.
+abbrev pub WithKept : {P : Type 0} → Option P → (P → Type 0) → (Status → Type 0) → Type 0
+WithKept kept Runs Fails = MatchOption kept (Fails NoPath) Runs
 
--- Holds if what the call finds with the kept path or items is delivered. If the handle keeps none, nothing is.
-abbrev pub DeliversKept : {P : Type 0} → Option P → (P → (Found (List ℕ) → Type 0) → Type 0) → List ℕ → List ℕ
-    → ℕ → ℕ → Type 0
-DeliversKept kept Call old new len status = MatchOption kept (DeliversNothing NoPath old new len status)
-    (λ input. Call input (λ answer. Delivers answer old new len status))
+-- Holds if what the call finds is delivered, or nothing if it fails. `Input` says with what it runs: `With read`,
+-- `WithKept kept` or `WithPath limit kept document`.
+abbrev pub DeliversBy : {P : Type 0} → ((P → Type 0) → (Status → Type 0) → Type 0)
+    → (P → (Found (List ℕ) → Type 0) → Type 0) → List ℕ → List ℕ → ℕ → ℕ → Type 0
+DeliversBy Input Call old new len status =
+    Input (λ input. Call input (Delivers old new len status)) (DeliversNothing old new len status)

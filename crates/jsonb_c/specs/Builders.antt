@@ -46,10 +46,9 @@ TakesEvent form before meaning status kept =
     × MatchResult meaning (λ after. IsFailureAt form after.inner e) (λ d. (e ≡ d) ⊎ (e ≡ refusal.Failed OutOfMemory))))
 
 -- Holds if the event was passed to the builder. A handle that keeps a path or items is unchanged.
-pub record Follows (form : Form) (event : Event) (old : Option PreparedPath) (status : ℕ)
-    (new : Option PreparedPath) : Type 0 where
+pub record Follows (form : Form) (event : Event) (old new : Option PreparedPath) (status : ℕ) : Type 0 where
   pub takes : (s : State) → HoldsEvents form old s → TakesEvent form s (next event s) status new
-  pub other : KeepsOther old → ShowsNothing NoPath old new status
+  pub other : KeepsOther old → ShowsNothing old new status NoPath
 
 -- ---- the document
 
@@ -57,10 +56,10 @@ pub record Follows (form : Form) (event : Event) (old : Option PreparedPath) (st
 -- or items.
 pub record Finishes (kept : Option PreparedPath) (old new : List ℕ) (len status : ℕ) : Type 0 where
   pub document : (form : Form) (s : State) → HoldsEvents form kept s
-      → MatchOption (whole s.inner) (DeliversNothing OutOfOrder old new len status)
+      → MatchOption (whole s.inner) (DeliversNothing old new len status OutOfOrder)
       (λ t. WritesResult (λ answer. MatchResult answer (λ made. Decodes form made t) IsOutOfMemory) IsOutOfMemory
       (DeliversValue old new len status))
-  pub other : KeepsOther kept → DeliversNothing NoPath old new len status
+  pub other : KeepsOther kept → DeliversNothing old new len status NoPath
 
 -- ---- a list of events
 
@@ -73,6 +72,6 @@ pub record MakesDocumentOf (keep_last : Bool) (events : List TextEvent) (text : 
   pub errors : (form : Form) → IfErr r (FailsWith form keep_last events text)
 
 -- Holds if the document is delivered, or nothing, with the status of the error.
-abbrev pub DeliversAnswer : Result (List ℕ) EventError → List ℕ → List ℕ → ℕ → ℕ → Type 0
-DeliversAnswer (Ok made) old new len status = DeliversBytes made old new len status
-DeliversAnswer (Err e) old new len status = (len ≡ 0) × (new ≡ old) × (status ≡ event_status e)
+abbrev pub DeliversAnswer : List ℕ → List ℕ → ℕ → ℕ → Result (List ℕ) EventError → Type 0
+DeliversAnswer old new len status (Ok made) = DeliversBytes old new len status made
+DeliversAnswer old new len status (Err e) = (len ≡ 0) × (new ≡ old) × (status ≡ event_status e)

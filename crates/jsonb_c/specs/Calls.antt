@@ -8,7 +8,7 @@ use Rattle.jsonb_doc.specs.Tree.{Tree, Trees, array, elements, trees_of}
 use Rattle.jsonb_doc.specs.Payload.{Form, any}
 use Rattle.jsonb_doc.specs.Format.{Decodes}
 use Rattle.jsonb_doc.specs.AnyBytes.Unsupported.{IsUnsupportedDocument, IsNoDocument}
-use Rattle.jsonb_doc.specs.Answer.{IsDecodingError, IsOutOfMemory, ◌or◌}
+use Rattle.jsonb_doc.specs.Answer.{Outcome, IsDecodingError, IsOutOfMemory, ◌or◌}
 use Rattle.jsonb_raw.specs.Casts.{Casts, IsSignedOf, CastsToText, text_of}
 use Rattle.jsonb_raw.specs.Children.{without_index}
 use Rattle.jsonb_raw.specs.Contains.{contains}
@@ -56,15 +56,12 @@ pub record DeletesIndex (index : ℤ) (document : List ℕ) (answer : Result (Li
 pub record DeletesPlace (steps : List Key) (document : List ℕ) (answer : Result (List ℕ) Error) : Type 0 where
   pub scalar : OfDocument document (λ form t said. IsTrue (is_json_scalar t)
       → (said ≡ Err OutOfMemory) ⊎ (said ≡ Err InvalidJsonType)) answer
-  pub without : OfDocument document (λ form t said. IsTrue (not (is_json_scalar t))
-      → MatchResult said (λ made. Decodes form made (without steps t)) IsOutOfMemory) answer
-  pub same : OfDocument document (λ form t said. IsTrue (not (is_json_scalar t)) → MeetNoPart steps t
-      → MatchResult said (λ made. made ≡ document) IsOutOfMemory) answer
+  pub without : OfDocument document (λ form t said. IsTrue (not (is_json_scalar t)) → MatchResult said
+      (λ made. Decodes form made (without steps t) × (MeetNoPart steps t → made ≡ document)) IsOutOfMemory) answer
 
 -- Holds if the result is the object with the member. If the key exists and its value is not to be replaced, the call
 -- fails.
-pub record InsertsPair (name : List ℕ) (update : Bool) (document value : List ℕ)
-    (answer : Result (List ℕ) Error) : Type 0 where
+pub record InsertsPair (document value name : List ℕ) (update : Bool) (answer : Outcome (List ℕ)) : Type 0 where
   pub inserted : (form : Form) (t v : Tree) → Decodes form document t → Decodes form value v
       → IsTrue (update || not (has_name name t)) → MakesOr InvalidObject form (object_insert name v t) answer
   pub duplicate : OfDocument document (λ form t said. IsTrue (has_name name t) → update ≡ false

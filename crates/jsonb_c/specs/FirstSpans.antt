@@ -21,8 +21,8 @@ FindsFirstSpan mode document path = ByMeanings mode document path (λ form outco
     IsOutOfMemory answer outcome)
 
 -- Holds if the span is delivered; the caller's is unchanged if there is none, the item is computed, or the call fails.
-abbrev pub ShowsFirst : Result (Option (FirstItem Span)) Error → Span → Span → ℕ → Type 0
-ShowsFirst (Ok (Some (item.At span))) old new status = (new ≡ span) × (status ≡ code Answered)
-ShowsFirst (Ok (Some item.Computed)) old new status = ShowsNothing Computed old new status
-ShowsFirst (Ok None) old new status = ShowsNothing Absent old new status
-ShowsFirst (Err e) old new status = ShowsNothing (Refused e) old new status
+abbrev pub ShowsFirst : Span → Span → ℕ → Result (Option (FirstItem Span)) Error → Type 0
+ShowsFirst old new status (Ok (Some (item.At span))) = (new ≡ span) × (status ≡ code Answered)
+ShowsFirst old new status (Ok (Some item.Computed)) = ShowsNothing old new status Computed
+ShowsFirst old new status (Ok None) = ShowsNothing old new status Absent
+ShowsFirst old new status (Err e) = ShowsNothing old new status (Refused e)

@@ -29,8 +29,8 @@ HasSizes found sizes = (sizes.rows ≡ length found.0) × (sizes.rows ≡ length
 
 -- Holds if the columns are delivered: the rows of each one after the other, and the offsets between them; the sizes are
 -- reported. Nothing is written if they do not fit, or the call fails.
-abbrev pub DeliversLeaves : Result (List (List ℕ) × List (List ℕ)) Error → List (List ℕ) → List (List ℕ) → LeafSizes
-    → ℕ → Type 0
-DeliversLeaves (Ok found) old new sizes status = HasSizes found sizes × WritesAll
+abbrev pub DeliversLeaves : List (List ℕ) → List (List ℕ) → LeafSizes → ℕ
+    → Result (List (List ℕ) × List (List ℕ)) Error → Type 0
+DeliversLeaves old new sizes status (Ok found) = HasSizes found sizes × WritesAll
     (concat found.0 ∷ positions_from 0 found.0 ∷ concat found.1 ∷ positions_from 0 found.1 ∷ []) old new status
-DeliversLeaves (Err e) old new sizes status = HasSizes ([], []) sizes × (new ≡ old) × (status ≡ code (Refused e))
+DeliversLeaves old new sizes status (Err e) = HasSizes ([], []) sizes × (new ≡ old) × (status ≡ code (Refused e))

@@ -1,12 +1,12 @@
 -- Results of the functions that build and count documents.
-use Rattle.std.specs.Prelude.{◌≡◌, ◌⊎◌, ℕ, ℤ, Bool, List, [], ◌∷◌, length, Option, Some, None, is_some, option_and_then, flat_map, slice_get, Result, Ok, Err, FitsSigned, MatchOption, MatchResult, IsSomeAnd, if◌then◌else◌}
+use Rattle.std.specs.Prelude.{◌≡◌, ◌⊎◌, ℕ, ℤ, Bool, List, [], ◌∷◌, length, Option, Some, None, is_some, option_and_then, flat_map, slice_get, Result, Ok, Err, FitsSigned, MatchOption, IsSomeAnd, if◌then◌else◌}
 use Rattle.std.specs.Int.{Width, w64}
 use Rattle.jsonb_doc.specs.declared.error.Error.{Error}
 use Rattle.std.specs.List.{zip, AllZip, list_all}
 use Rattle.jsonb_doc.specs.declared.error.Error.TheVariants.{ObjectDuplicateKey, TooLarge}
 use Rattle.jsonb_doc.specs.Answer.{Refines, Outcome, IsOutOfMemory, ◌or◌when◌}
 use Rattle.jsonb_doc.specs.EventList.{whole_of}
-use Rattle.jsonb_doc.specs.Limits.{IsTooLarge}
+use Rattle.jsonb_doc.specs.Limits.{Builds, IsTooLarge}
 use Rattle.jsonb_doc.specs.ObjectBuilder.{has_key, insert_pair}
 use Rattle.jsonb_doc.specs.Number.{Number, number_from, decimal64, decimal128}
 use Rattle.jsonb_doc.specs.Tree.{Tree, array, number, object, pairs_of, trees_of}
@@ -86,13 +86,12 @@ MakesObject names column answer =
 abbrev pub FindsPair : Form → ℕ → Tree → Result (Option (List ℕ × List ℕ)) Error → Type 0
 FindsPair form index t answer =
     MatchOption (option_and_then (λ ps. slice_get ps index) (object_each t)) (answer ≡ Ok None)
-    (λ p. MatchResult answer (λ found. IsSomeAnd found (λ made. (made.0 ≡ p.0) × Decodes form made.1 p.1))
-    (IsOutOfMemory or TooLarge when IsTooLarge form p.1))
+    (λ p. Builds form p.1 answer (λ found. IsSomeAnd found (λ made. (made.0 ≡ p.0) × Decodes form made.1 p.1)))
 
 -- Holds if the key and the document of the value are delivered, each to its buffer. Neither is written if one does not
 -- fit, if there is no such member, or if the call fails.
-abbrev pub DeliversPair : Result (Option (List ℕ × List ℕ)) Error → List (List ℕ) → List (List ℕ) → ℕ × ℕ → ℕ → Type 0
-DeliversPair (Ok (Some found)) old new lens status =
+abbrev pub DeliversPair : List (List ℕ) → List (List ℕ) → ℕ × ℕ → ℕ → Result (Option (List ℕ × List ℕ)) Error → Type 0
+DeliversPair old new lens status (Ok (Some found)) =
     (lens ≡ (length found.0, length found.1)) × WritesAll (found.0 ∷ found.1 ∷ []) old new status
-DeliversPair (Ok None) old new lens status = (lens ≡ (0, 0)) × (new ≡ old) × (status ≡ code Absent)
-DeliversPair (Err e) old new lens status = (lens ≡ (0, 0)) × (new ≡ old) × (status ≡ code (Refused e))
+DeliversPair old new lens status (Ok None) = (lens ≡ (0, 0)) × (new ≡ old) × (status ≡ code Absent)
+DeliversPair old new lens status (Err e) = (lens ≡ (0, 0)) × (new ≡ old) × (status ≡ code (Refused e))

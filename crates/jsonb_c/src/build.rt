@@ -116,7 +116,7 @@ pub extern "C" fn jdoc_from_str(
     ensures text { IsUtf8 text.now
         → WritesResult (Encodes (spec.text text.now)) (IsOutOfMemory or TooLarge)
         (DeliversValue out.old out.new out_len.new result) }
-    ensures other { ¬ (IsUtf8 text.now) → DeliversNothing NotUtf8 out.old out.new out_len.new result }
+    ensures other { ¬ (IsUtf8 text.now) → DeliversNothing out.old out.new out_len.new result NotUtf8 }
 {
     let Ok(text) = str::from_utf8(text) else {
         return deliver_nothing(Status::NotUtf8, out_len);
@@ -145,7 +145,7 @@ pub extern "C" fn jdoc_array_from_column(
         → WritesResult (MakesArray (rows bytes.now offsets.now)) (IsDecodingError or OutOfMemory or TooLarge)
         (DeliversValue out.old out.new out_len.new result) }
     ensures other { is_placed (rows bytes.now offsets.now) ≡ false
-        → DeliversNothing BadOffsets out.old out.new out_len.new result }
+        → DeliversNothing out.old out.new out_len.new result BadOffsets }
 {
     let column = Column::new(bytes, offsets);
     if column.is_placed() {

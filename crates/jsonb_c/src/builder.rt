@@ -30,7 +30,7 @@ pub(crate) mod list;
 /// Begins an array.
 #[unsafe(no_mangle)]
 pub extern "C" fn jdoc_builder_begin_array(alloc: Global, builder: &mut PathHandle) -> u32
-    ensures { (form : Form) → Follows form array_begins builder.old.value result builder.new.value }
+    ensures { (form : Form) → Follows form array_begins builder.old.value builder.new.value result }
 {
     add(alloc, builder, &Event::BeginArray)
 }
@@ -38,7 +38,7 @@ pub extern "C" fn jdoc_builder_begin_array(alloc: Global, builder: &mut PathHand
 /// Begins an object.
 #[unsafe(no_mangle)]
 pub extern "C" fn jdoc_builder_begin_object(alloc: Global, builder: &mut PathHandle) -> u32
-    ensures { (form : Form) → Follows form object_begins builder.old.value result builder.new.value }
+    ensures { (form : Form) → Follows form object_begins builder.old.value builder.new.value result }
 {
     add(alloc, builder, &Event::BeginObject)
 }
@@ -46,7 +46,7 @@ pub extern "C" fn jdoc_builder_begin_object(alloc: Global, builder: &mut PathHan
 /// Ends the innermost container.
 #[unsafe(no_mangle)]
 pub extern "C" fn jdoc_builder_end(alloc: Global, builder: &mut PathHandle) -> u32
-    ensures { (form : Form) → Follows form ends builder.old.value result builder.new.value }
+    ensures { (form : Form) → Follows form ends builder.old.value builder.new.value result }
 {
     add(alloc, builder, &Event::End)
 }
@@ -55,8 +55,8 @@ pub extern "C" fn jdoc_builder_end(alloc: Global, builder: &mut PathHandle) -> u
 #[unsafe(no_mangle)]
 pub extern "C" fn jdoc_builder_key(alloc: Global, builder: &mut PathHandle, key: &[u8]) -> u32
     ensures key { IsUtf8 key.now
-        → (form : Form) → Follows form (key_is key.now) builder.old.value result builder.new.value }
-    ensures other { ¬ (IsUtf8 key.now) → ShowsNothing NotUtf8 builder.old.value builder.new.value result }
+        → (form : Form) → Follows form (key_is key.now) builder.old.value builder.new.value result }
+    ensures other { ¬ (IsUtf8 key.now) → ShowsNothing builder.old.value builder.new.value result NotUtf8 }
 {
     let Ok(key) = str::from_utf8(key) else {
         return Status::NotUtf8.to_u32();
@@ -67,7 +67,7 @@ pub extern "C" fn jdoc_builder_key(alloc: Global, builder: &mut PathHandle, key:
 /// Adds null.
 #[unsafe(no_mangle)]
 pub extern "C" fn jdoc_builder_null(alloc: Global, builder: &mut PathHandle) -> u32
-    ensures { (form : Form) → Follows form (value_is spec.null) builder.old.value result builder.new.value }
+    ensures { (form : Form) → Follows form (value_is spec.null) builder.old.value builder.new.value result }
 {
     add_item(alloc, builder, Item::Null)
 }
@@ -76,7 +76,7 @@ pub extern "C" fn jdoc_builder_null(alloc: Global, builder: &mut PathHandle) -> 
 #[unsafe(no_mangle)]
 pub extern "C" fn jdoc_builder_bool(alloc: Global, builder: &mut PathHandle, value: bool) -> u32
     ensures { (form : Form)
-        → Follows form (value_is (spec.boolean value)) builder.old.value result builder.new.value }
+        → Follows form (value_is (spec.boolean value)) builder.old.value builder.new.value result }
 {
     add_item(alloc, builder, Item::Boolean(value))
 }
@@ -85,7 +85,7 @@ pub extern "C" fn jdoc_builder_bool(alloc: Global, builder: &mut PathHandle, val
 #[unsafe(no_mangle)]
 pub extern "C" fn jdoc_builder_i64(alloc: Global, builder: &mut PathHandle, value: i64) -> u32
     ensures { (form : Form) → Follows form (value_is (spec.number (number_from int64 value 0)))
-        builder.old.value result builder.new.value }
+        builder.old.value builder.new.value result }
 {
     add_item(alloc, builder, Item::Number(Number::Int64(value)))
 }
@@ -94,7 +94,7 @@ pub extern "C" fn jdoc_builder_i64(alloc: Global, builder: &mut PathHandle, valu
 #[unsafe(no_mangle)]
 pub extern "C" fn jdoc_builder_u64(alloc: Global, builder: &mut PathHandle, value: u64) -> u32
     ensures { (form : Form) → Follows form (value_is (spec.number (number_from uint64 (pos value) 0)))
-        builder.old.value result builder.new.value }
+        builder.old.value builder.new.value result }
 {
     add_item(alloc, builder, Item::Number(Number::UInt64(value)))
 }
@@ -109,7 +109,7 @@ pub extern "C" fn jdoc_builder_decimal(
     scale: u8,
 ) -> u32
     ensures { (form : Form) (t : Tree) → IsDecimalOf (whole_of high low) scale t
-        → Follows form (value_is t) builder.old.value result builder.new.value }
+        → Follows form (value_is t) builder.old.value builder.new.value result }
 {
     let number = decimal(whole_of(high, low), scale);
     add_item(alloc, builder, Item::Number(number))
@@ -119,8 +119,8 @@ pub extern "C" fn jdoc_builder_decimal(
 #[unsafe(no_mangle)]
 pub extern "C" fn jdoc_builder_str(alloc: Global, builder: &mut PathHandle, text: &[u8]) -> u32
     ensures text { IsUtf8 text.now
-        → (form : Form) → Follows form (value_is (spec.text text.now)) builder.old.value result builder.new.value }
-    ensures other { ¬ (IsUtf8 text.now) → ShowsNothing NotUtf8 builder.old.value builder.new.value result }
+        → (form : Form) → Follows form (value_is (spec.text text.now)) builder.old.value builder.new.value result }
+    ensures other { ¬ (IsUtf8 text.now) → ShowsNothing builder.old.value builder.new.value result NotUtf8 }
 {
     let Ok(text) = str::from_utf8(text) else {
         return Status::NotUtf8.to_u32();
@@ -130,7 +130,7 @@ pub extern "C" fn jdoc_builder_str(alloc: Global, builder: &mut PathHandle, text
 
 fn add_item(alloc: Global, builder: &mut PathHandle, item: Item<'_>) -> u32
     ensures { (form : Form) (t : Tree) → StandsFor form item.entry t
-        → Follows form (value_is t) builder.old.value result builder.new.value }
+        → Follows form (value_is t) builder.old.value builder.new.value result }
 {
     add(alloc, builder, &Event::Value(item))
 }
@@ -143,7 +143,7 @@ pub extern "C" fn jdoc_builder_document(
     document: &[u8],
 ) -> u32
     ensures value { (form : Form) (t : Tree) → Decodes form document.now t
-        → Follows form (value_is t) builder.old.value result builder.new.value }
+        → Follows form (value_is t) builder.old.value builder.new.value result }
     ensures kept { (form : Form) (s : State) → HoldsEvents form builder.old.value s
         → (result ≡ code Answered → ⊥) → HoldsEvents form builder.new.value s }
 {

@@ -26,7 +26,7 @@ use jsonb::{Child, ChildPositions, Error, Spot, open_children};
 pub extern "C" fn jdoc_cursor_open(document: &[u8], cursor: &mut ChildPositions) -> u32
     ensures { WritesResult
         (OfDocument document.now (λ form t answer. IsOkAnd answer (OpensChildren document.now t)))
-        IsDecodingError (λ answer. Shows answer cursor.old cursor.new result) }
+        IsDecodingError (Shows cursor.old cursor.new result) }
 {
     store_found(open(document), cursor)
 }
@@ -49,8 +49,8 @@ pub extern "C" fn jdoc_cursor_next(
 ) -> u32
     ensures child { WritesResult (λ answer. TakesSpans document.now cursor.old answer cursor.new) IsDecodingError
         (λ answer. Shows {A = ChildPositions × Span × Span}
-        (found_as (λ child. (cursor.new, unwrap_or child.key key.old, child.value)) answer)
-        (cursor.old, key.old, value.old) (cursor.new, key.new, value.new) result) }
+        (cursor.old, key.old, value.old) (cursor.new, key.new, value.new) result
+        (found_as (λ child. (cursor.new, unwrap_or child.key key.old, child.value)) answer)) }
     ensures within { result ≡ code Answered → IsWithin document.now value.new
         × ((key.new ≡ key.old) ⊎ IsWithin document.now key.new) }
 {

@@ -30,7 +30,7 @@ pub(crate) fn deliver(
     out: &mut [u8],
     out_len: &mut usize,
 ) -> u32
-    ensures { Delivers answer out.old out.new out_len.new result }
+    ensures { Delivers out.old out.new out_len.new result answer }
 {
     match answer {
         Ok(Some(document)) => deliver_bytes(document.as_raw().as_bytes(), out, out_len),
@@ -45,7 +45,7 @@ pub(crate) fn deliver_made(
     out: &mut [u8],
     out_len: &mut usize,
 ) -> u32
-    ensures { Delivers (always answer) out.old out.new out_len.new result }
+    ensures { Delivers out.old out.new out_len.new result (always answer) }
 {
     match answer {
         Ok(document) => deliver_bytes(document.as_raw().as_bytes(), out, out_len),
@@ -59,7 +59,7 @@ pub(crate) fn deliver_vec(
     out: &mut [u8],
     out_len: &mut usize,
 ) -> u32
-    ensures { Delivers (always (vec_answer answer)) out.old out.new out_len.new result }
+    ensures { Delivers out.old out.new out_len.new result (always (vec_answer answer)) }
 {
     match answer {
         Ok(made) => deliver_bytes(&made, out, out_len),
@@ -69,7 +69,7 @@ pub(crate) fn deliver_vec(
 
 /// Stores bytes in the caller's buffer, and returns the status.
 pub(crate) fn deliver_bytes(bytes: &[u8], out: &mut [u8], out_len: &mut usize) -> u32
-    ensures { DeliversBytes bytes.now out.old out.new out_len.new result }
+    ensures { DeliversBytes out.old out.new out_len.new result bytes.now }
 {
     *out_len = bytes.len();
     if write_at(bytes, out, 0) {
@@ -106,7 +106,7 @@ pub(crate) fn bool_byte(value: bool) -> u8
 
 /// Stores a three-valued result, or returns the status of the error.
 pub(crate) fn store_truth(answer: Result<Option<bool>, Error>, truth: &mut u8) -> u32
-    ensures { Shows (found_as truth_byte (always answer)) truth.old truth.new result }
+    ensures { Shows truth.old truth.new result (found_as truth_byte (always answer)) }
 {
     match answer {
         Ok(value) => {
@@ -119,7 +119,7 @@ pub(crate) fn store_truth(answer: Result<Option<bool>, Error>, truth: &mut u8) -
 
 /// Stores a Boolean, or returns the status of the error.
 pub(crate) fn store_bool(answer: Result<bool, Error>, truth: &mut u8) -> u32
-    ensures { Shows (found_as from_bool (always answer)) truth.old truth.new result }
+    ensures { Shows truth.old truth.new result (found_as from_bool (always answer)) }
 {
     match answer {
         Ok(value) => {
@@ -132,7 +132,7 @@ pub(crate) fn store_bool(answer: Result<bool, Error>, truth: &mut u8) -> u32
 
 /// Stores a Boolean, or returns the status if there is none or the call failed.
 pub(crate) fn store_found_bool(answer: Result<Option<bool>, Error>, truth: &mut u8) -> u32
-    ensures { Shows (found_as from_bool answer) truth.old truth.new result }
+    ensures { Shows truth.old truth.new result (found_as from_bool answer) }
 {
     match answer {
         Ok(Some(value)) => {
@@ -146,7 +146,7 @@ pub(crate) fn store_found_bool(answer: Result<Option<bool>, Error>, truth: &mut 
 
 /// Stores a value, or returns the status of the error.
 pub(crate) fn store<T: Copy>(answer: Result<T, Error>, out: &mut T) -> u32
-    ensures { Shows (always answer) out.old out.new result }
+    ensures { Shows out.old out.new result (always answer) }
 {
     match answer {
         Ok(value) => {
@@ -159,7 +159,7 @@ pub(crate) fn store<T: Copy>(answer: Result<T, Error>, out: &mut T) -> u32
 
 /// Stores a value, or returns the status if there is none or the call failed.
 pub(crate) fn store_found<T: Copy>(answer: Result<Option<T>, Error>, out: &mut T) -> u32
-    ensures { Shows answer out.old out.new result }
+    ensures { Shows out.old out.new result answer }
 {
     match answer {
         Ok(Some(value)) => {
@@ -177,7 +177,7 @@ pub(crate) fn deliver_text(
     out: &mut [u8],
     out_len: &mut usize,
 ) -> u32
-    ensures { Delivers (found_as string_bytes (always answer)) out.old out.new out_len.new result }
+    ensures { Delivers out.old out.new out_len.new result (found_as string_bytes (always answer)) }
 {
     match answer {
         Ok(text) => deliver_bytes(text.as_bytes(), out, out_len),
@@ -191,7 +191,7 @@ pub(crate) fn deliver_found_text(
     out: &mut [u8],
     out_len: &mut usize,
 ) -> u32
-    ensures { Delivers (found_text answer.entry) out.old out.new out_len.new result }
+    ensures { Delivers out.old out.new out_len.new result (found_text answer.entry) }
 {
     match answer {
         Ok(Some(text)) => deliver_bytes(text.as_bytes(), out, out_len),

@@ -1,13 +1,13 @@
 //! The items that a prepared JSON path selects from a document, delivered one at a time.
 
-ghost use Rattle.std.specs.Prelude.{◌≡◌, IfErr, MatchOption, MatchResult, Some, None, Err};
+ghost use Rattle.std.specs.Prelude.{◌≡◌, IfErr, MatchResult, Some, None, Err};
 ghost use Rattle.jsonb_doc.specs.Answer.{IsDecodingError, IsOutOfMemory, ◌or◌};
 ghost use Rattle.jsonb_doc.specs.declared.error.Error.TheVariants.{OutOfMemory, TooLarge};
 ghost use Rattle.jsonb.specs.FoundItems.{IsItemOf};
 ghost use Rattle.jsonb.specs.PathViews.{path_view};
 ghost use Rattle.jsonb.specs.SelectionErrors.{IsSelectionError};
 ghost use Rattle.jsonb.specs.SelectorAnswers.{ByMeanings, AreAll};
-ghost use Rattle.jsonb_c.specs.Answers.{Delivers, DeliversKept, WritesResult};
+ghost use Rattle.jsonb_c.specs.Answers.{Delivers, DeliversBy, WithKept, WritesResult};
 ghost use Rattle.jsonb_c.specs.Calls.{mode_of};
 ghost use Rattle.jsonb_c.specs.Limits.{WithPath};
 ghost use Rattle.jsonb_c.specs.Items.{IsNextOf, LeavesItems};
@@ -99,7 +99,7 @@ pub extern "C" fn jdoc_items_next(
     out: &mut [u8],
     out_len: &mut usize,
 ) -> u32
-    ensures item { DeliversKept (items_left items.old.value)
+    ensures item { DeliversBy (WithKept (items_left items.old.value))
         (λ left. WritesResult (IsNextOf document.now left) (IsDecodingError or OutOfMemory or TooLarge))
         out.old out.new out_len.new result }
     ensures left { LeavesItems result items.old.value items.new.value }
@@ -120,7 +120,7 @@ fn deliver_next(
     out: &mut [u8],
     out_len: &mut usize,
 ) -> u32
-    ensures item { DeliversKept (items_left (Some kept.old))
+    ensures item { DeliversBy (WithKept (items_left (Some kept.old)))
         (λ left. WritesResult (IsNextOf document.now left) (IsDecodingError or OutOfMemory or TooLarge))
         out.old out.new out_len.new result }
     ensures left { LeavesItems result (Some kept.old) (Some kept.new) }
@@ -142,7 +142,7 @@ fn deliver_front(
     out_len: &mut usize,
 ) -> u32
     ensures item { WritesResult (IsNextOf document.now items.old.items) (IsDecodingError or OutOfMemory or TooLarge)
-        (λ answer. Delivers answer out.old out.new out_len.new result) }
+        (Delivers out.old out.new out_len.new result) }
     ensures left { LeavesItems result (Some (Items items.old)) (Some (Items items.new)) }
 {
     let status = deliver(front_document(alloc, items, document), out, out_len);

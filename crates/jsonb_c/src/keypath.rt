@@ -5,7 +5,7 @@ ghost use Rattle.jsonb_doc.specs.Answer.{IsOutOfMemory};
 ghost use Rattle.jsonb_doc.specs.declared.error.Error.TheVariants.{InvalidKeyPath};
 ghost use Rattle.jsonb.specs.ErrorPosition.{key_path_error_position as spec_key_path_error_position};
 ghost use Rattle.jsonb.specs.KeyPathGrammar.{key_path};
-ghost use Rattle.jsonb_c.specs.Answers.{DeliversKept, Shows, With, WritesResult, always};
+ghost use Rattle.jsonb_c.specs.Answers.{DeliversBy, Shows, With, WithKept, WritesResult, always};
 ghost use Rattle.jsonb_c.specs.Calls.{DeletesPart, FindsPart};
 ghost use Rattle.jsonb_c.specs.Status.{code};
 ghost use Rattle.jsonb_c.specs.Representation.Prepared.{key_steps};
@@ -36,7 +36,7 @@ pub extern "C" fn jdoc_keypath_error_position(
     position: &mut usize,
 ) -> u32
     ensures { WritesResult (λ answer. MatchResult answer (λ found. found ≡ spec_key_path_error_position text.now)
-        IsOutOfMemory) IsOutOfMemory (λ answer. Shows answer position.old position.new result) }
+        IsOutOfMemory) IsOutOfMemory (Shows position.old position.new result) }
 {
     store_found(key_path_error_position(alloc, text), position)
 }
@@ -59,7 +59,7 @@ pub extern "C" fn jdoc_keypath_get(
     out_len: &mut usize,
 ) -> u32
     ensures kept { path.new.value ≡ path.old.value }
-    ensures part { DeliversKept (key_steps path.old.value)
+    ensures part { DeliversBy (WithKept (key_steps path.old.value))
         (λ steps. FindsPart steps document.now) out.old out.new out_len.new result }
 {
     let Some(kept) = path.take(alloc) else {
@@ -78,7 +78,7 @@ fn deliver_part(
     out: &mut [u8],
     out_len: &mut usize,
 ) -> u32
-    ensures { DeliversKept (key_steps (Some path.now))
+    ensures { DeliversBy (WithKept (key_steps (Some path.now)))
         (λ steps. FindsPart steps document.now) out.old out.new out_len.new result }
 {
     match path.keys() {
@@ -100,7 +100,7 @@ pub extern "C" fn jdoc_keypath_delete(
     out_len: &mut usize,
 ) -> u32
     ensures kept { path.new.value ≡ path.old.value }
-    ensures rest { DeliversKept (key_steps path.old.value)
+    ensures rest { DeliversBy (WithKept (key_steps path.old.value))
         (λ steps IsShown. DeletesPart steps document.now (λ answer. IsShown (always answer)))
         out.old out.new out_len.new result }
 {
@@ -120,7 +120,7 @@ fn deliver_rest(
     out: &mut [u8],
     out_len: &mut usize,
 ) -> u32
-    ensures { DeliversKept (key_steps (Some path.now))
+    ensures { DeliversBy (WithKept (key_steps (Some path.now)))
         (λ steps IsShown. DeletesPart steps document.now (λ answer. IsShown (always answer)))
         out.old out.new out_len.new result }
 {

@@ -10,13 +10,13 @@ ghost use Rattle.jsonb_c.specs.declared.status.Status.TheVariants.{Answered};
 pub(crate) fn results_are_determined<A>()
     ensures bytes { (answer : Found (List ℕ)) (old new other : List ℕ)
         (len other_len status other_status : ℕ)
-        → Delivers answer old new len status → Delivers answer old other other_len other_status
+        → Delivers old new len status answer → Delivers old other other_len other_status answer
         → (other ≡ new) × (other_len ≡ len) × (other_status ≡ status) }
     ensures found { (answer : Found A) (old new other : A) (status other_status : ℕ)
-        → Shows answer old new status → Shows answer old other other_status
+        → Shows old new status answer → Shows old other other_status answer
         → (other ≡ new) × (other_status ≡ status) }
     ensures successes { (r s : Found (List ℕ)) (old new other : List ℕ) (len other_len : ℕ)
         → IfOk r (λ x. IfOk s (λ y. y ≡ x))
-        → Delivers r old new len (code Answered) → Delivers s old other other_len (code Answered)
+        → Delivers old new len (code Answered) r → Delivers old other other_len (code Answered) s
         → (other ≡ new) × (other_len ≡ len) }
 {}

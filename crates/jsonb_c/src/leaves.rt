@@ -39,7 +39,7 @@ pub extern "C" fn jdoc_leaves(
 ) -> u32
     ensures { WritesResult (OfDocument document.now (λ form t. AreLeavesOf form t))
         (IsDecodingError or OutOfMemory or TooLarge)
-        (λ answer. DeliversLeaves answer (paths.old ∷ path_positions.old ∷ documents.old ∷ positions.old ∷ [])
+        (DeliversLeaves (paths.old ∷ path_positions.old ∷ documents.old ∷ positions.old ∷ [])
         (paths.new ∷ path_positions.new ∷ documents.new ∷ positions.new ∷ []) sizes.new result) }
 {
     match leaf_columns(alloc, document) {

@@ -5,9 +5,9 @@ ghost use Rattle.jsonb_doc.specs.Answer.{IsOutOfMemory};
 ghost use Rattle.jsonb.specs.PathErrorPosition.{json_path_error_position as spec_json_path_error_position};
 ghost use Rattle.jsonb.specs.PathGrammar.{json_path};
 ghost use Rattle.jsonb.specs.SelectorAnswers.{first_item, single_or_array};
-ghost use Rattle.jsonb_c.specs.Answers.{Shows, ShowsAs, ShowsNothing, With, WritesResult, truth_byte};
+ghost use Rattle.jsonb_c.specs.Answers.{DeliversBy, Shows, ShowsAs, ShowsNothing, With, WritesResult, truth_byte};
 ghost use Rattle.jsonb_c.specs.Calls.{SelectsItem, TellsExistence, TellsTruth, mode_of, one_array};
-ghost use Rattle.jsonb_c.specs.Limits.{DeliversPath, WithPath};
+ghost use Rattle.jsonb_c.specs.Limits.{WithPath};
 ghost use Rattle.jsonb_c.specs.Status.{code};
 ghost use Rattle.std.specs.Int.{from_bool};
 ghost use Rattle.jsonb_c.specs.Representation.Prepared.{json_limit, json_steps, predicate_limit};
@@ -35,7 +35,7 @@ pub extern "C" fn jdoc_path_read(alloc: Global, text: &[u8], path: &mut PathHand
 #[unsafe(no_mangle)]
 pub extern "C" fn jdoc_path_error_position(alloc: Global, text: &[u8], position: &mut usize) -> u32
     ensures { WritesResult (λ answer. MatchResult answer (λ found. found ≡ spec_json_path_error_position text.now)
-        IsOutOfMemory) IsOutOfMemory (λ answer. Shows answer position.old position.new result) }
+        IsOutOfMemory) IsOutOfMemory (Shows position.old position.new result) }
 {
     store_found(json_path_error_position(alloc, text), position)
 }
@@ -59,7 +59,7 @@ pub extern "C" fn jdoc_path_select_first(
     out_len: &mut usize,
 ) -> u32
     ensures kept { path.new.value ≡ path.old.value }
-    ensures item { DeliversPath (json_limit path.old.value) (json_steps path.old.value) document.now
+    ensures item { DeliversBy (WithPath (json_limit path.old.value) (json_steps path.old.value) document.now)
         (λ steps. SelectsItem (mode_of strict) first_item steps document.now) out.old out.new out_len.new result }
 {
     select(alloc, path, document, strict, Pick::First, out, out_len)
@@ -76,7 +76,7 @@ pub extern "C" fn jdoc_path_select_value(
     out_len: &mut usize,
 ) -> u32
     ensures kept { path.new.value ≡ path.old.value }
-    ensures item { DeliversPath (json_limit path.old.value) (json_steps path.old.value) document.now
+    ensures item { DeliversBy (WithPath (json_limit path.old.value) (json_steps path.old.value) document.now)
         (λ steps. SelectsItem (mode_of strict) single_or_array steps document.now) out.old out.new out_len.new result }
 {
     select(alloc, path, document, strict, Pick::Value, out, out_len)
@@ -93,7 +93,7 @@ pub extern "C" fn jdoc_path_select_array(
     out_len: &mut usize,
 ) -> u32
     ensures kept { path.new.value ≡ path.old.value }
-    ensures array { DeliversPath (json_limit path.old.value) (json_steps path.old.value) document.now
+    ensures array { DeliversBy (WithPath (json_limit path.old.value) (json_steps path.old.value) document.now)
         (λ steps. SelectsItem (mode_of strict) one_array steps document.now) out.old out.new out_len.new result }
 {
     select(alloc, path, document, strict, Pick::Array, out, out_len)
@@ -110,7 +110,7 @@ fn select(
     out_len: &mut usize,
 ) -> u32
     ensures kept { path.new.value ≡ path.old.value }
-    ensures item { DeliversPath (json_limit path.old.value) (json_steps path.old.value) document.now
+    ensures item { DeliversBy (WithPath (json_limit path.old.value) (json_steps path.old.value) document.now)
         (λ steps. SelectsItem (mode_of strict) (pick_of pick) steps document.now) out.old out.new out_len.new result }
 {
     let Some(kept) = path.take(alloc) else {
@@ -132,7 +132,7 @@ fn deliver_item(
     out: &mut [u8],
     out_len: &mut usize,
 ) -> u32
-    ensures { DeliversPath (json_limit (Some path.now)) (json_steps (Some path.now)) document.now
+    ensures { DeliversBy (WithPath (json_limit (Some path.now)) (json_steps (Some path.now)) document.now)
         (λ steps. SelectsItem (mode_of strict) (pick_of pick) steps document.now) out.old out.new out_len.new result }
 {
     match path.admitted(alloc, document) {
@@ -156,7 +156,7 @@ pub extern "C" fn jdoc_path_exists(
     ensures kept { path.new.value ≡ path.old.value }
     ensures exists { WithPath (json_limit path.old.value) (json_steps path.old.value) document.now
         (λ steps. TellsExistence (mode_of strict) steps document.now (ShowsAs from_bool truth.old truth.new result))
-        (λ cause. ShowsNothing cause truth.old truth.new result) }
+        (ShowsNothing truth.old truth.new result) }
 {
     let Some(kept) = path.take(alloc) else {
         return Status::NoPath.to_u32();
@@ -177,7 +177,7 @@ fn store_exists(
 ) -> u32
     ensures { WithPath (json_limit (Some path.now)) (json_steps (Some path.now)) document.now
         (λ steps. TellsExistence (mode_of strict) steps document.now (ShowsAs from_bool truth.old truth.new result))
-        (λ cause. ShowsNothing cause truth.old truth.new result) }
+        (ShowsNothing truth.old truth.new result) }
 {
     match path.admitted(alloc, document) {
         Ok(steps) => {
@@ -200,7 +200,7 @@ pub extern "C" fn jdoc_path_match(
     ensures kept { path.new.value ≡ path.old.value }
     ensures truth { WithPath (predicate_limit path.old.value) (json_steps path.old.value) document.now
         (λ steps. TellsTruth (mode_of strict) steps document.now (ShowsAs truth_byte truth.old truth.new result))
-        (λ cause. ShowsNothing cause truth.old truth.new result) }
+        (ShowsNothing truth.old truth.new result) }
 {
     let Some(kept) = path.take(alloc) else {
         return Status::NoPath.to_u32();
@@ -221,7 +221,7 @@ fn store_match(
 ) -> u32
     ensures { WithPath (predicate_limit (Some path.now)) (json_steps (Some path.now)) document.now
         (λ steps. TellsTruth (mode_of strict) steps document.now (ShowsAs truth_byte truth.old truth.new result))
-        (λ cause. ShowsNothing cause truth.old truth.new result) }
+        (ShowsNothing truth.old truth.new result) }
 {
     match path.admitted_predicate(alloc, document) {
         Ok(steps) => {

@@ -20,7 +20,7 @@ use std::alloc::Global;
 pub extern "C" fn jdoc_len(document: &[u8], len: &mut usize) -> u32
     ensures { WritesResult
         (OfDocument document.now (λ form t answer. IsOkAnd answer (λ found. found ≡ option_map length (children_of t))))
-        IsDecodingError (λ answer. Shows answer len.old len.new result) }
+        IsDecodingError (Shows len.old len.new result) }
 {
     store_found(children_count(document), len)
 }
@@ -51,7 +51,7 @@ pub extern "C" fn jdoc_pair(
 ) -> u32
     ensures { WritesResult (OfDocument document.now (λ form t. FindsPair form index t))
         (IsDecodingError or OutOfMemory or TooLarge)
-        (λ answer. DeliversPair answer (key.old ∷ value.old ∷ []) (key.new ∷ value.new ∷ [])
+        (DeliversPair (key.old ∷ value.old ∷ []) (key.new ∷ value.new ∷ [])
         (key_len.new, value_len.new) result) }
 {
     deliver_pair(
@@ -96,8 +96,8 @@ fn deliver_pair(
     value: &mut [u8],
     value_len: &mut usize,
 ) -> u32
-    ensures { DeliversPair (pair_answer answer.entry) (key.old ∷ value.old ∷ []) (key.new ∷ value.new ∷ [])
-        (key_len.new, value_len.new) result }
+    ensures { DeliversPair (key.old ∷ value.old ∷ []) (key.new ∷ value.new ∷ [])
+        (key_len.new, value_len.new) result (pair_answer answer.entry) }
 {
     *key_len = 0;
     *value_len = 0;

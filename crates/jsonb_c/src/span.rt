@@ -1,6 +1,6 @@
 //! Spans of values in a document.
 
-ghost use Rattle.std.specs.Prelude.{◌≡◌, ◌⊎◌, Option, Some, None, IfErr, IfOk, IfSome, IsOkAnd, MatchOption, ok_or};
+ghost use Rattle.std.specs.Prelude.{◌≡◌, ◌⊎◌, Option, Some, None, IfErr, IfOk, IfSome, IsOkAnd, ok_or};
 ghost use Rattle.jsonb_doc.specs.Answer.{SameOption, IsDecodingError, ◌or◌};
 ghost use Rattle.jsonb_doc.specs.declared.error.Error.TheVariants.{InvalidKeyPath, OutOfMemory};
 ghost use Rattle.jsonb_doc.specs.Format.{Decodes, IsContent};
@@ -10,13 +10,13 @@ ghost use Rattle.jsonb_doc.specs.Representation.Positions.{Locates};
 ghost use Rattle.jsonb_doc.specs.Tree.{Tree};
 ghost use Rattle.jsonb.specs.KeyPathGrammar.{key_path};
 ghost use Rattle.jsonb.specs.KeyPathViews.{key_paths_view};
-ghost use Rattle.jsonb_c.specs.Answers.{Shows, ShowsNothing, With, WritesResult};
+ghost use Rattle.jsonb_c.specs.Answers.{Shows, ShowsNothing, With, WithKept, WritesResult};
 ghost use Rattle.jsonb_c.specs.Private.Boxes.{ByPath};
 ghost use Rattle.jsonb_c.specs.Private.Numbers.{tree_kind};
 ghost use Rattle.jsonb_c.specs.Spans.{FindsSpan, HasSpan, IsSpanOf, IsWithin};
 ghost use Rattle.jsonb_c.specs.Representation.Prepared.{key_steps};
 ghost use Rattle.jsonb_c.specs.Status.{code};
-ghost use Rattle.jsonb_c.specs.declared.status.Status.TheVariants.{Answered, NoPath, Refused};
+ghost use Rattle.jsonb_c.specs.declared.status.Status.TheVariants.{Answered, Refused};
 
 pub(crate) mod child;
 pub(crate) mod document;
@@ -51,8 +51,7 @@ pub extern "C" fn jdoc_find_by_keypath(
 ) -> u32
     ensures span { With (ok_or (key_path path.now) (Refused InvalidKeyPath))
         (λ steps. WritesResult (FindsSpan steps document.now) (IsDecodingError or OutOfMemory)
-        (λ answer. Shows answer span.old span.new result))
-        (λ cause. ShowsNothing cause span.old span.new result) }
+        (Shows span.old span.new result)) (ShowsNothing span.old span.new result) }
     ensures within { result ≡ code Answered → IsWithin document.now span.new }
 {
     store_found(find_by_keypath(alloc, document, path), span)
@@ -78,9 +77,9 @@ pub extern "C" fn jdoc_keypath_find(
     span: &mut Span,
 ) -> u32
     ensures kept { path.new.value ≡ path.old.value }
-    ensures span { MatchOption (key_steps path.old.value) (ShowsNothing NoPath span.old span.new result)
+    ensures span { WithKept (key_steps path.old.value)
         (λ steps. WritesResult (FindsSpan steps document.now) (IsDecodingError or OutOfMemory)
-        (λ answer. Shows answer span.old span.new result)) }
+        (Shows span.old span.new result)) (ShowsNothing span.old span.new result) }
     ensures within { result ≡ code Answered → IsWithin document.now span.new }
 {
     let Some(kept) = path.take(alloc) else {
@@ -93,9 +92,9 @@ pub extern "C" fn jdoc_keypath_find(
 
 /// Stores the span of the value at the location of a path, if it is a key path.
 fn store_span(alloc: Global, path: &PreparedPath, document: &[u8], span: &mut Span) -> u32
-    ensures span { MatchOption (key_steps (Some path.now)) (ShowsNothing NoPath span.old span.new result)
+    ensures span { WithKept (key_steps (Some path.now))
         (λ steps. WritesResult (FindsSpan steps document.now) (IsDecodingError or OutOfMemory)
-        (λ answer. Shows answer span.old span.new result)) }
+        (Shows span.old span.new result)) (ShowsNothing span.old span.new result) }
     ensures within { result ≡ code Answered → IsWithin document.now span.new }
 {
     match path.keys() {

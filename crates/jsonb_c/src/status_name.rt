@@ -13,9 +13,9 @@ use crate::deliver::deliver_found_text;
 #[unsafe(no_mangle)]
 pub extern "C" fn jdoc_status_name(status: u32, out: &mut [u8], out_len: &mut usize) -> u32
     ensures name { (s : Status) → code s ≡ status
-        → DeliversBytes (number_and_name s).1 out.old out.new out_len.new result }
+        → DeliversBytes out.old out.new out_len.new result (number_and_name s).1 }
     ensures other { ((s : Status) → code s ≡ status → ⊥)
-        → DeliversNothing Absent out.old out.new out_len.new result }
+        → DeliversNothing out.old out.new out_len.new result Absent }
 {
     deliver_found_text(Ok(name(status)), out, out_len)
 }

@@ -49,7 +49,7 @@ cell_bytes cell = cell_value [] cell
 -- the row's value and status are delivered
 abbrev pub ShowsCell : {A : Type 0} → Cell A → A → A → ℕ → Type 0
 ShowsCell None old new status = (new ≡ old) × (status ≡ code BadOffsets)
-ShowsCell (Some answer) old new status = Shows answer old new status
+ShowsCell (Some answer) old new status = Shows old new status answer
 
 -- the result of a row whose bytes are in a buffer, or `None` if its offsets are wrong
 abbrev pub written_cell : Option (Result Bool Error) → List ℕ → Cell (List ℕ)

@@ -47,7 +47,7 @@ abbrev pub ShowsKeys : (List (List ℕ) → Tree → Bool) → List ℕ → Resu
 ShowsKeys has document names old new status = With names (λ wanted. WritesResult
     (OfDocument document (λ form t said. IsOkAnd said (λ b. b ≡ has wanted t))) IsDecodingError
     (ShowsAs from_bool old new status))
-    (λ cause. ShowsNothing cause old new status)
+    (ShowsNothing old new status)
 
 -- the object of the remaining members is delivered
 abbrev pub DeliversPairs : (List (List ℕ) → Tree → Option Tree) → List ℕ → Result (List (List ℕ)) Status
@@ -56,4 +56,4 @@ DeliversPairs kept document names old new len status = With names (λ wanted. Wr
     (OfDocument document (λ form t. MakesOr InvalidObject form (kept wanted t)))
     (IsDecodingError or OutOfMemory or TooLarge or InvalidObject)
     (DeliversValue old new len status))
-    (λ cause. DeliversNothing cause old new len status)
+    (DeliversNothing old new len status)

@@ -73,10 +73,8 @@ told Truth mode path = λ document old new status.
 
 -- the value at the location of the steps, or the document without it
 abbrev pub place_of : Operation → List Key → List ℕ → List ℕ → List ℕ → ℕ → Type 0
-place_of Part steps = λ document old new status.
-    FindsPart steps document (λ answer. Shows answer old new status)
-place_of Rest steps = λ document old new status.
-    DeletesPart steps document (ShowsValue old new status)
+place_of Part steps = λ document old new status. FindsPart steps document (Shows old new status)
+place_of Rest steps = λ document old new status. DeletesPart steps document (ShowsValue old new status)
 
 abbrev pub pair_answer : Result (Option KeyValue) Error → Result (Option (List ℕ × List ℕ)) Error
 pair_answer (Ok (Some found)) = Ok (Some (found.key.now, found.value.items))

@@ -34,11 +34,11 @@ pub extern "C" fn jdoc_object_from_columns(
         (λ read. WritesResult (MakesObject read (rows bytes.now offsets.now))
         (IsDecodingError or OutOfMemory or TooLarge or ObjectDuplicateKey)
         (DeliversValue out.old out.new out_len.new result))
-        (λ cause. DeliversNothing cause out.old out.new out_len.new result) }
+        (DeliversNothing out.old out.new out_len.new result) }
     ensures count { ¬ (length (rows names.now name_offsets.now) ≡ length (rows bytes.now offsets.now))
-        → DeliversNothing BadOffsets out.old out.new out_len.new result }
+        → DeliversNothing out.old out.new out_len.new result BadOffsets }
     ensures other { is_placed (rows bytes.now offsets.now) ≡ false
-        → DeliversNothing BadOffsets out.old out.new out_len.new result }
+        → DeliversNothing out.old out.new out_len.new result BadOffsets }
 {
     let names = Column::new(names, name_offsets);
     let documents = Column::new(bytes, offsets);

@@ -38,7 +38,7 @@ pub(crate) enum Event<'a> {
 /// Passes an event to the builder that the handle keeps, or to a new one. Returns the status.
 pub(crate) fn add(alloc: Global, builder: &mut PathHandle, event: &Event<'_>) -> u32
     ensures follows { (form : Form) (e : spec.Event) → IsEvent form event.now e
-        → Follows form e builder.old.value result builder.new.value }
+        → Follows form e builder.old.value builder.new.value result }
     ensures kept { KeepsState builder.old.value result builder.new.value }
 {
     let mut kept = match kept_or_new(alloc, builder) {
@@ -65,7 +65,7 @@ fn kept_or_new(alloc: Global, builder: &mut PathHandle) -> Result<Box<PreparedPa
 /// Passes an event to a builder. Returns the status.
 fn add_to(kept: &mut PreparedPath, event: &Event<'_>) -> u32
     ensures follows { (form : Form) (e : spec.Event) → IsEvent form event.now e
-        → Follows form e (Some kept.old) result (Some kept.new) }
+        → Follows form e (Some kept.old) (Some kept.new) result }
     ensures kept { KeepsState (Some kept.old) result (Some kept.new) }
 {
     match kept {

@@ -27,8 +27,8 @@ pub extern "C" fn jdoc_from_events(
 ) -> u32
     ensures text { IsUtf8 text.now → (answer : Result (List ℕ) EventError)
         × MakesDocumentOf keep_last events.now text.now answer
-        × DeliversAnswer answer out.old out.new out_len.new result }
-    ensures other { ¬ (IsUtf8 text.now) → DeliversNothing NotUtf8 out.old out.new out_len.new result }
+        × DeliversAnswer out.old out.new out_len.new result answer }
+    ensures other { ¬ (IsUtf8 text.now) → DeliversNothing out.old out.new out_len.new result NotUtf8 }
 {
     let Ok(text) = str::from_utf8(text) else {
         return deliver_nothing(Status::NotUtf8, out_len);
@@ -42,7 +42,7 @@ pub extern "C" fn jdoc_from_events(
 
 /// Stores the document, or returns the status of the error.
 fn deliver_made(answer: Result<Vec<u8>, EventError>, out: &mut [u8], out_len: &mut usize) -> u32
-    ensures { DeliversAnswer (list_answer answer) out.old out.new out_len.new result }
+    ensures { DeliversAnswer out.old out.new out_len.new result (list_answer answer) }
 {
     match answer {
         Ok(document) => deliver_bytes(&document, out, out_len),

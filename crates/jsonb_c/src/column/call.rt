@@ -18,7 +18,7 @@ pub(crate) trait RowCall<A> {
     /// Returns the result of the call for a row's document.
     fn answer(&self, alloc: Global, document: &[u8]) -> Result<Option<A>, Error>
         ensures { (old new : A) (status : ℕ)
-            → Shows result old new status → Writes self.now document.now old new status };
+            → Shows old new status result → Writes self.now document.now old new status };
 }
 
 /// Returns the result of a row, or `None` if its offsets are wrong.
@@ -67,7 +67,7 @@ pub(crate) trait RowWriter {
     /// Replaces the contents of the buffer by the result of the call for a row's document. Returns whether there is
     /// one.
     fn write(&self, alloc: Global, document: &[u8], out: &mut Vec<u8>) -> Result<bool, Error>
-        ensures { (old new : List ℕ) (status : ℕ) → Shows (written_answer result out.new.items) old new status
+        ensures { (old new : List ℕ) (status : ℕ) → Shows old new status (written_answer result out.new.items)
             → Writes self.now document.now old new status };
 }
 

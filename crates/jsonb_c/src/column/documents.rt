@@ -50,8 +50,7 @@ impl RowWriter for Selects<'_> {
     ghost use Rattle.jsonb_c.specs.Private.Views.{pick_of};
 
     ghost Writes = { λ call document old new status.
-        SelectsItem (mode_of call.strict) (pick_of call.pick) (path_view call.path) document
-        (λ answer. Shows answer old new status) };
+        SelectsItem (mode_of call.strict) (pick_of call.pick) (path_view call.path) document (Shows old new status) };
 
     fn write(&self, alloc: Global, document: &[u8], out: &mut Vec<u8>) -> Result<bool, Error> {
         let picked = pick_by_path(alloc, document, &self.path, self.strict, self.pick)?;
@@ -200,7 +199,7 @@ pub extern "C" fn jdoc_column_get(
     progress: &mut Progress,
 ) -> u32
     ensures { JoinsBy (ok_or (key_path path.now) (Refused InvalidKeyPath))
-        (λ steps document old new status. FindsPart steps document (λ answer. Shows answer old new status))
+        (λ steps document old new status. FindsPart steps document (Shows old new status))
         (rows bytes.now offsets.now)
         (out.old, positions.old, statuses.old) (out.new, positions.new, statuses.new) progress.new result }
 {
@@ -244,7 +243,7 @@ pub extern "C" fn jdoc_column_select_first(
 ) -> u32
     ensures { JoinsBy (ok_or (json_path path.now) NotJsonPath)
         (λ steps document old new status. SelectsItem (mode_of strict) first_item steps document
-        (λ answer. Shows answer old new status)) (rows bytes.now offsets.now)
+        (Shows old new status)) (rows bytes.now offsets.now)
         (out.old, positions.old, statuses.old) (out.new, positions.new, statuses.new) progress.new result }
 {
     let asked = PathColumn::new(alloc, bytes, offsets, path);
@@ -266,7 +265,7 @@ pub extern "C" fn jdoc_column_select_value(
 ) -> u32
     ensures { JoinsBy (ok_or (json_path path.now) NotJsonPath)
         (λ steps document old new status. SelectsItem (mode_of strict) single_or_array steps document
-        (λ answer. Shows answer old new status)) (rows bytes.now offsets.now)
+        (Shows old new status)) (rows bytes.now offsets.now)
         (out.old, positions.old, statuses.old) (out.new, positions.new, statuses.new) progress.new result }
 {
     let asked = PathColumn::new(alloc, bytes, offsets, path);
@@ -288,7 +287,7 @@ pub extern "C" fn jdoc_column_select_array(
 ) -> u32
     ensures { JoinsBy (ok_or (json_path path.now) NotJsonPath)
         (λ steps document old new status. SelectsItem (mode_of strict) one_array steps document
-        (λ answer. Shows answer old new status)) (rows bytes.now offsets.now)
+        (Shows old new status)) (rows bytes.now offsets.now)
         (out.old, positions.old, statuses.old) (out.new, positions.new, statuses.new) progress.new result }
 {
     let asked = PathColumn::new(alloc, bytes, offsets, path);
@@ -331,7 +330,7 @@ impl PathColumn<'_> {
     ) -> u32
         ensures { JoinsBy (ok_or (json_path self.now.path.now) NotJsonPath)
             (λ steps document old new status. SelectsItem (mode_of strict) (pick_of pick) steps document
-            (λ answer. Shows answer old new status)) self.now.column
+            (Shows old new status)) self.now.column
             (out.old, positions.old, statuses.old) (out.new, positions.new, statuses.new) progress.new result }
     {
         match parse_json_path(self.alloc, self.path) {

@@ -20,7 +20,7 @@ use std::alloc::Global;
 #[unsafe(no_mangle)]
 pub extern "C" fn jdoc_as_bool(document: &[u8], truth: &mut u8) -> u32
     ensures { WritesResult (OfDocument document.now (λ form t answer. IsOkAnd answer (λ found. found ≡ boolean_in t)))
-        IsDecodingError (λ answer. Shows (found_as from_bool answer) truth.old truth.new result) }
+        IsDecodingError (λ answer. Shows truth.old truth.new result (found_as from_bool answer)) }
 {
     store_found_bool(RawJsonb::new(document).as_bool(), truth)
 }
@@ -30,7 +30,7 @@ pub extern "C" fn jdoc_as_bool(document: &[u8], truth: &mut u8) -> u32
 pub extern "C" fn jdoc_as_i64(document: &[u8], number: &mut i64) -> u32
     ensures { WritesResult
         (OfDocument document.now (λ form t answer. IsOkAnd answer (FindsWhole (λ z. z) (FitsSigned w64) t)))
-        IsDecodingError (λ answer. Shows answer number.old number.new result) }
+        IsDecodingError (Shows number.old number.new result) }
 {
     store_found(RawJsonb::new(document).as_i64(), number)
 }
@@ -40,7 +40,7 @@ pub extern "C" fn jdoc_as_i64(document: &[u8], number: &mut i64) -> u32
 pub extern "C" fn jdoc_as_u64(document: &[u8], number: &mut u64) -> u32
     ensures { WritesResult
         (OfDocument document.now (λ form t answer. IsOkAnd answer (FindsWhole pos (λ n. n < 2 ^ 64) t)))
-        IsDecodingError (λ answer. Shows answer number.old number.new result) }
+        IsDecodingError (Shows number.old number.new result) }
 {
     store_found(RawJsonb::new(document).as_u64(), number)
 }
@@ -49,8 +49,7 @@ pub extern "C" fn jdoc_as_u64(document: &[u8], number: &mut u64) -> u32
 #[unsafe(no_mangle)]
 pub extern "C" fn jdoc_as_str(document: &[u8], out: &mut [u8], out_len: &mut usize) -> u32
     ensures { WritesResult (OfDocument document.now (λ form t answer. IsOkAnd answer (λ found. found ≡ text_in t)))
-        IsDecodingError
-        (λ answer. Delivers answer out.old out.new out_len.new result) }
+        IsDecodingError (Delivers out.old out.new out_len.new result) }
 {
     deliver_found_text(as_str(document), out, out_len)
 }
@@ -101,7 +100,7 @@ pub extern "C" fn jdoc_to_str(
     out_len: &mut usize,
 ) -> u32
     ensures { WritesText document.now
-        (λ answer. Delivers (found_as string_bytes (always answer)) out.old out.new out_len.new result) }
+        (λ answer. Delivers out.old out.new out_len.new result (found_as string_bytes (always answer))) }
 {
     deliver_text(to_str(alloc, document), out, out_len)
 }

@@ -36,7 +36,7 @@ pub extern "C" fn jdoc_composite_key(
         → WritesResult (MakesCompositeKey (width_of wide) (rows bytes.now offsets.now))
         (IsDecodingError or OutOfMemory or TooDeep) (DeliversValue out.old out.new out_len.new result) }
     ensures other { is_placed (rows bytes.now offsets.now) ≡ false
-        → DeliversNothing BadOffsets out.old out.new out_len.new result }
+        → DeliversNothing out.old out.new out_len.new result BadOffsets }
 {
     let column = Column::new(bytes, offsets);
     if column.is_placed() {

@@ -26,8 +26,7 @@ pub extern "C" fn jdoc_as_decimal(
 ) -> u32
     ensures { WritesResult
         (OfDocument document.now (λ form t answer. IsOkAnd answer (λ found. SameOption ArePartsOf found (number_in t))))
-        IsDecodingError
-        (λ answer. Shows answer (high.old, low.old, scale.old) (high.new, low.new, scale.new) result) }
+        IsDecodingError (Shows (high.old, low.old, scale.old) (high.new, low.new, scale.new) result) }
 {
     match as_parts(document) {
         Ok(Some(parts)) => {

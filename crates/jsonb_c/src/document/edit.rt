@@ -13,7 +13,7 @@ ghost use Rattle.jsonb_raw.specs.Concat.{concat};
 ghost use Rattle.jsonb_raw.specs.Documents.{Makes};
 ghost use Rattle.jsonb_raw.specs.Strip.{strip};
 ghost use Rattle.jsonb.specs.KeyPathGrammar.{key_path};
-ghost use Rattle.jsonb_c.specs.Answers.{DeliversBy, DeliversNothing, DeliversValue, OfDocument, WritesResult, always};
+ghost use Rattle.jsonb_c.specs.Answers.{DeliversBy, DeliversNothing, DeliversValue, OfDocument, With, WritesResult, always};
 ghost use Rattle.jsonb_c.specs.Calls.{DeletesIndex, DeletesPart, DeletesPlace, InsertsPair, MakesOr};
 ghost use Rattle.jsonb_c.specs.Private.Boxes.{ByPath};
 ghost use Rattle.jsonb_c.specs.declared.status.Status.TheVariants.{NotUtf8, Refused};
@@ -32,7 +32,7 @@ pub extern "C" fn jdoc_delete_by_keypath(
     out: &mut [u8],
     out_len: &mut usize,
 ) -> u32
-    ensures { DeliversBy (ok_or (key_path path.now) (Refused InvalidKeyPath))
+    ensures { DeliversBy (With (ok_or (key_path path.now) (Refused InvalidKeyPath)))
         (λ steps IsShown. DeletesPart steps document.now (λ answer. IsShown (always answer)))
         out.old out.new out_len.new result }
 {
@@ -61,7 +61,7 @@ pub extern "C" fn jdoc_delete_by_name(
         → WritesResult (OfDocument document.now (λ form t. MakesOr InvalidJsonType form (without_name name.now t)))
         (IsDecodingError or OutOfMemory or TooLarge or InvalidJsonType)
         (DeliversValue out.old out.new out_len.new result) }
-    ensures other { ¬ (IsUtf8 name.now) → DeliversNothing NotUtf8 out.old out.new out_len.new result }
+    ensures other { ¬ (IsUtf8 name.now) → DeliversNothing out.old out.new out_len.new result NotUtf8 }
 {
     let Ok(name) = str::from_utf8(name) else {
         return deliver_nothing(Status::NotUtf8, out_len);
@@ -135,10 +135,10 @@ pub extern "C" fn jdoc_object_insert(
     out_len: &mut usize,
 ) -> u32
     ensures named { IsUtf8 name.now
-        → WritesResult (InsertsPair name.now update document.now value.now)
+        → WritesResult (InsertsPair document.now value.now name.now update)
         (IsDecodingError or OutOfMemory or TooLarge or InvalidObject or ObjectDuplicateKey)
         (DeliversValue out.old out.new out_len.new result) }
-    ensures other { ¬ (IsUtf8 name.now) → DeliversNothing NotUtf8 out.old out.new out_len.new result }
+    ensures other { ¬ (IsUtf8 name.now) → DeliversNothing out.old out.new out_len.new result NotUtf8 }
 {
     let Ok(name) = str::from_utf8(name) else {
         return deliver_nothing(Status::NotUtf8, out_len);

@@ -32,7 +32,7 @@ pub extern "C" fn jdoc_exists_all_keys(
     ensures { With (names_of (rows names.now offsets.now)) (λ wanted. WritesResult
         (OfDocument document.now (λ form t said. IsOkAnd said (λ b. b ≡ has_all wanted t))) IsDecodingError
         (ShowsAs from_bool truth.old truth.new result))
-        (λ cause. ShowsNothing cause truth.old truth.new result) }
+        (ShowsNothing truth.old truth.new result) }
 {
     store_exists_keys(alloc, document, names, offsets, Quantity::All, truth)
 }
@@ -50,7 +50,7 @@ pub extern "C" fn jdoc_exists_any_keys(
     ensures { With (names_of (rows names.now offsets.now)) (λ wanted. WritesResult
         (OfDocument document.now (λ form t said. IsOkAnd said (λ b. b ≡ has_any wanted t))) IsDecodingError
         (ShowsAs from_bool truth.old truth.new result))
-        (λ cause. ShowsNothing cause truth.old truth.new result) }
+        (ShowsNothing truth.old truth.new result) }
 {
     store_exists_keys(alloc, document, names, offsets, Quantity::Any, truth)
 }
@@ -113,7 +113,7 @@ pub extern "C" fn jdoc_object_pick(
         (OfDocument document.now (λ form t. MakesOr InvalidObject form (picked_names wanted t)))
         (IsDecodingError or OutOfMemory or TooLarge or InvalidObject)
         (DeliversValue out.old out.new out_len.new result))
-        (λ cause. DeliversNothing cause out.old out.new out_len.new result) }
+        (DeliversNothing out.old out.new out_len.new result) }
 {
     deliver_pairs(alloc, document, names, offsets, Chosen::Named, out, out_len)
 }
@@ -132,7 +132,7 @@ pub extern "C" fn jdoc_object_delete(
         (OfDocument document.now (λ form t. MakesOr InvalidObject form (dropped_names wanted t)))
         (IsDecodingError or OutOfMemory or TooLarge or InvalidObject)
         (DeliversValue out.old out.new out_len.new result))
-        (λ cause. DeliversNothing cause out.old out.new out_len.new result) }
+        (DeliversNothing out.old out.new out_len.new result) }
 {
     deliver_pairs(alloc, document, names, offsets, Chosen::Rest, out, out_len)
 }

@@ -8,7 +8,7 @@ ghost use Rattle.jsonb_raw.specs.Children.{element_at, named_child};
 ghost use Rattle.jsonb_raw.specs.Documents.{MakesOption};
 ghost use Rattle.jsonb_raw.specs.Places.{tree_at_steps};
 ghost use Rattle.jsonb.specs.KeyPathGrammar.{key_path};
-ghost use Rattle.jsonb_c.specs.Answers.{Delivers, DeliversBy, DeliversNothing, OfDocument, WritesResult};
+ghost use Rattle.jsonb_c.specs.Answers.{Delivers, DeliversBy, DeliversNothing, OfDocument, With, WritesResult};
 ghost use Rattle.jsonb_c.specs.Calls.{Finds, FindsPart};
 ghost use Rattle.jsonb_c.specs.Private.Boxes.{ByPath};
 ghost use Rattle.jsonb_c.specs.declared.status.Status.TheVariants.{NotUtf8, Refused};
@@ -28,8 +28,7 @@ pub extern "C" fn jdoc_get_by_index(
     out_len: &mut usize,
 ) -> u32
     ensures { WritesResult (OfDocument document.now (λ form t. Finds form (element_at index t)))
-        (IsDecodingError or OutOfMemory or TooLarge)
-        (λ answer. Delivers answer out.old out.new out_len.new result) }
+        (IsDecodingError or OutOfMemory or TooLarge) (Delivers out.old out.new out_len.new result) }
 {
     let document = RawJsonb::new(document);
     deliver(document.get_by_index(alloc, index), out, out_len)
@@ -48,9 +47,8 @@ pub extern "C" fn jdoc_get_by_name(
 ) -> u32
     ensures named { IsUtf8 name.now
         → WritesResult (OfDocument document.now (λ form t. Finds form (named_child name.now ignore_case t)))
-        (IsDecodingError or OutOfMemory or TooLarge)
-        (λ answer. Delivers answer out.old out.new out_len.new result) }
-    ensures other { ¬ (IsUtf8 name.now) → DeliversNothing NotUtf8 out.old out.new out_len.new result }
+        (IsDecodingError or OutOfMemory or TooLarge) (Delivers out.old out.new out_len.new result) }
+    ensures other { ¬ (IsUtf8 name.now) → DeliversNothing out.old out.new out_len.new result NotUtf8 }
 {
     let Ok(name) = str::from_utf8(name) else {
         return deliver_nothing(Status::NotUtf8, out_len);
@@ -68,7 +66,7 @@ pub extern "C" fn jdoc_get_by_keypath(
     out: &mut [u8],
     out_len: &mut usize,
 ) -> u32
-    ensures { DeliversBy (ok_or (key_path path.now) (Refused InvalidKeyPath))
+    ensures { DeliversBy (With (ok_or (key_path path.now) (Refused InvalidKeyPath)))
         (λ steps. FindsPart steps document.now) out.old out.new out_len.new result }
 {
     deliver(get_by_keypath(alloc, document, path), out, out_len)

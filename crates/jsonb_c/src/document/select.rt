@@ -29,7 +29,7 @@ pub extern "C" fn jdoc_select_value(
     out: &mut [u8],
     out_len: &mut usize,
 ) -> u32
-    ensures { DeliversBy (ok_or (json_path path.now) NotJsonPath)
+    ensures { DeliversBy (With (ok_or (json_path path.now) NotJsonPath))
         (λ steps. SelectsItem (mode_of strict) single_or_array steps document.now) out.old out.new out_len.new result }
 {
     select(alloc, document, path, strict, Pick::Value, out, out_len)
@@ -45,7 +45,7 @@ pub extern "C" fn jdoc_select_first(
     out: &mut [u8],
     out_len: &mut usize,
 ) -> u32
-    ensures { DeliversBy (ok_or (json_path path.now) NotJsonPath)
+    ensures { DeliversBy (With (ok_or (json_path path.now) NotJsonPath))
         (λ steps. SelectsItem (mode_of strict) first_item steps document.now) out.old out.new out_len.new result }
 {
     select(alloc, document, path, strict, Pick::First, out, out_len)
@@ -61,7 +61,7 @@ pub extern "C" fn jdoc_select_array(
     out: &mut [u8],
     out_len: &mut usize,
 ) -> u32
-    ensures { DeliversBy (ok_or (json_path path.now) NotJsonPath)
+    ensures { DeliversBy (With (ok_or (json_path path.now) NotJsonPath))
         (λ steps. SelectsItem (mode_of strict) one_array steps document.now) out.old out.new out_len.new result }
 {
     select(alloc, document, path, strict, Pick::Array, out, out_len)
@@ -88,7 +88,7 @@ fn select(
     out: &mut [u8],
     out_len: &mut usize,
 ) -> u32
-    ensures { DeliversBy (ok_or (json_path path.now) NotJsonPath)
+    ensures { DeliversBy (With (ok_or (json_path path.now) NotJsonPath))
         (λ steps. SelectsItem (mode_of strict) (pick_of pick) steps document.now) out.old out.new out_len.new result }
 {
     match parse_json_path(alloc, path) {
@@ -111,7 +111,7 @@ pub extern "C" fn jdoc_match(
 ) -> u32
     ensures { With (ok_or (json_path path.now) NotJsonPath)
         (λ steps. TellsTruth (mode_of strict) steps document.now (ShowsAs truth_byte truth.old truth.new result))
-        (λ cause. ShowsNothing cause truth.old truth.new result) }
+        (ShowsNothing truth.old truth.new result) }
 {
     match parse_json_path(alloc, path) {
         Ok(steps) => {
@@ -133,7 +133,7 @@ pub extern "C" fn jdoc_exists(
 ) -> u32
     ensures { With (ok_or (json_path path.now) NotJsonPath)
         (λ steps. TellsExistence (mode_of strict) steps document.now (ShowsAs from_bool truth.old truth.new result))
-        (λ cause. ShowsNothing cause truth.old truth.new result) }
+        (ShowsNothing truth.old truth.new result) }
 {
     match parse_json_path(alloc, path) {
         Ok(steps) => {

@@ -1,13 +1,13 @@
 //! The items that a prepared JSON path selects from a document, found in place one at a time.
 
-ghost use Rattle.std.specs.Prelude.{◌≡◌, IfErr, IfOk, IfSome, IsOkAnd, MatchOption, Some};
+ghost use Rattle.std.specs.Prelude.{◌≡◌, IfErr, IfOk, IfSome, IsOkAnd, Some};
 ghost use Rattle.jsonb_doc.specs.Answer.{IsDecodingError};
 ghost use Rattle.jsonb_doc.specs.Format.{Decodes};
 ghost use Rattle.jsonb_doc.specs.Payload.{Form};
 ghost use Rattle.jsonb_doc.specs.Tree.{Tree};
 ghost use Rattle.jsonb.specs.FirstItems.{IsFirstItem};
 ghost use Rattle.jsonb.specs.FoundItems.{IsItemOf};
-ghost use Rattle.jsonb_c.specs.Answers.{ShowsNothing, WritesResult};
+ghost use Rattle.jsonb_c.specs.Answers.{ShowsNothing, WithKept, WritesResult};
 ghost use Rattle.jsonb_c.specs.FirstSpans.{ShowsFirst};
 ghost use Rattle.jsonb_c.specs.Private.Boxes.{is_computed};
 ghost use Rattle.jsonb_c.specs.Private.Views.{IsFirstWithin};
@@ -15,7 +15,7 @@ ghost use Rattle.jsonb_c.specs.Items.{IsNextSpan, LeavesItems};
 ghost use Rattle.jsonb_c.specs.Representation.Prepared.{items_left};
 ghost use Rattle.jsonb_c.specs.Spans.{IsSpanOf, IsWithin};
 ghost use Rattle.jsonb_c.specs.Status.{code};
-ghost use Rattle.jsonb_c.specs.declared.status.Status.TheVariants.{Answered, NoPath};
+ghost use Rattle.jsonb_c.specs.declared.status.Status.TheVariants.{Answered};
 ghost use Rattle.jsonb_c.specs.declared.prepared.path.PreparedPath.TheVariants.{Items};
 
 use super::pop_delivered;
@@ -35,9 +35,9 @@ pub extern "C" fn jdoc_items_find_next(
     document: &[u8],
     span: &mut Span,
 ) -> u32
-    ensures item { MatchOption (items_left items.old.value) (ShowsNothing NoPath span.old span.new result)
-        (λ left. WritesResult (IsNextSpan document.now left) IsDecodingError
-        (λ answer. ShowsFirst answer span.old span.new result)) }
+    ensures item { WithKept (items_left items.old.value)
+        (λ left. WritesResult (IsNextSpan document.now left) IsDecodingError (ShowsFirst span.old span.new result))
+        (ShowsNothing span.old span.new result) }
     ensures within { result ≡ code Answered → IsWithin document.now span.new }
     ensures left { LeavesItems result items.old.value items.new.value }
 {
@@ -51,9 +51,9 @@ pub extern "C" fn jdoc_items_find_next(
 
 /// Stores the span of the next item, if items are kept.
 fn find_next(kept: &mut PreparedPath, document: &[u8], span: &mut Span) -> u32
-    ensures item { MatchOption (items_left (Some kept.old)) (ShowsNothing NoPath span.old span.new result)
-        (λ left. WritesResult (IsNextSpan document.now left) IsDecodingError
-        (λ answer. ShowsFirst answer span.old span.new result)) }
+    ensures item { WithKept (items_left (Some kept.old))
+        (λ left. WritesResult (IsNextSpan document.now left) IsDecodingError (ShowsFirst span.old span.new result))
+        (ShowsNothing span.old span.new result) }
     ensures within { result ≡ code Answered → IsWithin document.now span.new }
     ensures left { LeavesItems result (Some kept.old) (Some kept.new) }
 {
@@ -68,7 +68,7 @@ fn find_next(kept: &mut PreparedPath, document: &[u8], span: &mut Span) -> u32
 /// Stores the span of the first of the items, and removes it if it is delivered.
 fn find_front(items: &mut VecDeque<FoundItem>, document: &[u8], span: &mut Span) -> u32
     ensures item { WritesResult (IsNextSpan document.now items.old.items) IsDecodingError
-        (λ answer. ShowsFirst answer span.old span.new result) }
+        (ShowsFirst span.old span.new result) }
     ensures within { result ≡ code Answered → IsWithin document.now span.new }
     ensures left { LeavesItems result (Some (Items items.old)) (Some (Items items.new)) }
 {

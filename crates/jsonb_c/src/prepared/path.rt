@@ -2,13 +2,13 @@
 
 ghost use Rattle.std.specs.Prelude.{◌≡◌, MatchOption, Some, None};
 ghost use Rattle.jsonb.specs.KeyPathViews.{key_paths_view};
-ghost use Rattle.jsonb_c.specs.Answers.{ShowsNothing};
+ghost use Rattle.jsonb_c.specs.Answers.{ShowsNothing, WithKept};
 ghost use Rattle.jsonb_c.specs.Limits.{limit_of};
 ghost use Rattle.jsonb_c.specs.Private.Boxes.{Admits};
 ghost use Rattle.jsonb_c.specs.Representation.Prepared.{json_limit, json_steps, key_steps, predicate_limit};
 ghost use Rattle.jsonb_c.specs.Status.{code};
 ghost use Rattle.jsonb_c.specs.declared.prepared.path.PreparedPath.TheVariants.{Json};
-ghost use Rattle.jsonb_c.specs.declared.status.Status.TheVariants.{Answered, NoPath};
+ghost use Rattle.jsonb_c.specs.declared.status.Status.TheVariants.{Answered};
 
 use crate::limit::admit;
 use crate::status::Status;
@@ -60,9 +60,10 @@ impl PreparedPath {
 
     /// Sets the limit, if it is a JSON path. The greatest number is none.
     pub(crate) fn set_limit(&mut self, limit: u64) -> u32
-        ensures { MatchOption (json_steps (Some self.old)) (ShowsNothing NoPath self.old self.new result)
+        ensures { WithKept (json_steps (Some self.old))
             (λ steps. (result ≡ code Answered) × (json_steps (Some self.new) ≡ Some steps)
-            × (json_limit (Some self.new) ≡ limit_of limit)) }
+            × (json_limit (Some self.new) ≡ limit_of limit))
+            (ShowsNothing self.old self.new result) }
     {
         let PreparedPath::Json(kept) = self else {
             return Status::NoPath.to_u32();

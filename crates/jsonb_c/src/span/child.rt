@@ -21,7 +21,7 @@ use jsonb::{Error, Item, RawJsonb, root_spot, spot_item};
 pub extern "C" fn jdoc_find_str(document: &[u8], span: &mut Span) -> u32
     ensures span { WritesResult
         (OfDocument document.now (λ form t. HasSpan document.now form (option_map text (text_in t))))
-        IsDecodingError (λ answer. Shows answer span.old span.new result) }
+        IsDecodingError (Shows span.old span.new result) }
     ensures within { result ≡ code Answered → IsWithin document.now span.new }
 {
     store_found(find_str(document), span)
@@ -44,7 +44,7 @@ fn find_str(document: &[u8]) -> Result<Option<Span>, Error>
 #[unsafe(no_mangle)]
 pub extern "C" fn jdoc_find_by_index(document: &[u8], index: usize, span: &mut Span) -> u32
     ensures span { WritesResult (OfDocument document.now (λ form t. HasSpan document.now form (element_at index t)))
-        IsDecodingError (λ answer. Shows answer span.old span.new result) }
+        IsDecodingError (Shows span.old span.new result) }
     ensures within { result ≡ code Answered → IsWithin document.now span.new }
 {
     store_found(find_by_index(document, index), span)
@@ -70,9 +70,9 @@ pub extern "C" fn jdoc_find_by_name(
 ) -> u32
     ensures named { IsUtf8 name.now → WritesResult
         (OfDocument document.now (λ form t. HasSpan document.now form (named_child name.now ignore_case t)))
-        IsDecodingError (λ answer. Shows answer span.old span.new result) }
+        IsDecodingError (Shows span.old span.new result) }
     ensures within { result ≡ code Answered → IsWithin document.now span.new }
-    ensures other { ¬ (IsUtf8 name.now) → ShowsNothing NotUtf8 span.old span.new result }
+    ensures other { ¬ (IsUtf8 name.now) → ShowsNothing span.old span.new result NotUtf8 }
 {
     let Ok(name) = str::from_utf8(name) else {
         return Status::NotUtf8.to_u32();

@@ -34,7 +34,7 @@ pub extern "C" fn jdoc_span_document(
         → MatchResult made (λ bytes. Decodes form bytes t) (λ e. (e ≡ TooLarge) × (2 ^ 28 ≤ span.now.len)))
         (λ e. (e ≡ InvalidJsonb) ⊎ (e ≡ TooLarge)) (DeliversValue out.old out.new out_len.new result) }
     ensures other { (IsWithin document.now span.now → span.now.entry < 7 → ⊥)
-        → DeliversNothing (Refused InvalidJsonb) out.old out.new out_len.new result }
+        → DeliversNothing out.old out.new out_len.new result (Refused InvalidJsonb) }
 {
     match entry_at(document, span) {
         Some(entry) => deliver_entry(&entry, out, out_len),
@@ -78,9 +78,8 @@ fn deliver_entry(entry: &StoredEntry<'_>, out: &mut [u8], out_len: &mut usize) -
 /// Stores the document of a scalar: the words of a header and of its entry, and its content.
 fn deliver_scalar(kind: EntryKind, content: &[u8], out: &mut [u8], out_len: &mut usize) -> u32
     requires { length content.now < 2 ^ 28 }
-    ensures { DeliversBytes
-        (header scalar_header 0 ++ (entry_word (kind_number kind) (length content.now) ++ content.now))
-        out.old out.new out_len.new result }
+    ensures { DeliversBytes out.old out.new out_len.new result
+        (header scalar_header 0 ++ (entry_word (kind_number kind) (length content.now) ++ content.now)) }
 {
     let len = 2 * WORD + content.len();
     *out_len = len;

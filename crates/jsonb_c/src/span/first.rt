@@ -38,8 +38,8 @@ pub extern "C" fn jdoc_find_first(
 ) -> u32
     ensures span { With (ok_or (json_path path.now) NotJsonPath)
         (λ steps. WritesResult (FindsFirstSpan (mode_of strict) document.now steps)
-        (IsSelectionError (mode_of strict)) (λ answer. ShowsFirst answer span.old span.new result))
-        (λ cause. ShowsNothing cause span.old span.new result) }
+        (IsSelectionError (mode_of strict)) (ShowsFirst span.old span.new result))
+        (ShowsNothing span.old span.new result) }
     ensures within { result ≡ code Answered → IsWithin document.now span.new }
 {
     match parse_json_path(alloc, path) {
@@ -63,8 +63,8 @@ pub extern "C" fn jdoc_path_find_first(
     ensures kept { path.new.value ≡ path.old.value }
     ensures span { WithPath (json_limit path.old.value) (json_steps path.old.value) document.now
         (λ steps. WritesResult (FindsFirstSpan (mode_of strict) document.now steps)
-        (IsSelectionError (mode_of strict)) (λ answer. ShowsFirst answer span.old span.new result))
-        (λ cause. ShowsNothing cause span.old span.new result) }
+        (IsSelectionError (mode_of strict)) (ShowsFirst span.old span.new result))
+        (ShowsNothing span.old span.new result) }
     ensures within { result ≡ code Answered → IsWithin document.now span.new }
 {
     let Some(kept) = path.take(alloc) else {
@@ -86,8 +86,8 @@ fn store_first_of(
 ) -> u32
     ensures span { WithPath (json_limit (Some path.now)) (json_steps (Some path.now)) document.now
         (λ steps. WritesResult (FindsFirstSpan (mode_of strict) document.now steps)
-        (IsSelectionError (mode_of strict)) (λ answer. ShowsFirst answer span.old span.new result))
-        (λ cause. ShowsNothing cause span.old span.new result) }
+        (IsSelectionError (mode_of strict)) (ShowsFirst span.old span.new result))
+        (ShowsNothing span.old span.new result) }
     ensures within { result ≡ code Answered → IsWithin document.now span.new }
 {
     match path.admitted(alloc, document) {
@@ -148,7 +148,7 @@ fn item_span(document: &[u8], item: FirstItem<Spot>) -> Result<FirstItem<Span>, 
 
 /// Stores the span of an item, or returns the status if there is none, if it is computed or if the call failed.
 pub(crate) fn store_first(answer: Result<Option<FirstItem<Span>>, Error>, span: &mut Span) -> u32
-    ensures { ShowsFirst answer span.old span.new result }
+    ensures { ShowsFirst span.old span.new result answer }
 {
     match answer {
         Ok(Some(FirstItem::At(found))) => {

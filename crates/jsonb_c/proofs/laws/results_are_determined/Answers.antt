@@ -15,7 +15,7 @@ nothing : {old new other : List ℕ} {cause len other_len status other_status : 
 nothing h k = (k.1 ∙ sym h.1, k.0 ∙ sym h.0, k.2 ∙ sym h.2)
 
 some_bytes : (made old new other : List ℕ) (len other_len status other_status : ℕ)
-    → DeliversBytes made old new len status → DeliversBytes made old other other_len other_status
+    → DeliversBytes old new len status made → DeliversBytes old other other_len other_status made
     → (other ≡ new) × (other_len ≡ len) × (other_status ≡ status)
 some_bytes made old new other len other_len status other_status (l, inl h) (m, inl k) =
     (k.1.0.1 ∙ sym h.1.0.1, m ∙ sym l, k.0 ∙ sym h.0)
@@ -26,7 +26,7 @@ some_bytes made old new other len other_len status other_status (l, inl h) (m, i
 some_bytes made old new other len other_len status other_status (l, inr h) (m, inl k) = absurd (h.1 (k.1.0.0, tt))
 
 bytes : (answer : Found (List ℕ)) (old new other : List ℕ) (len other_len status other_status : ℕ)
-    → Delivers answer old new len status → Delivers answer old other other_len other_status
+    → Delivers old new len status answer → Delivers old other other_len other_status answer
     → (other ≡ new) × (other_len ≡ len) × (other_status ≡ status)
 bytes (Ok (Some made)) old new other len other_len status other_status h k =
     some_bytes made old new other len other_len status other_status h k
@@ -34,7 +34,7 @@ bytes (Ok None) old new other len other_len status other_status h k = nothing h 
 bytes (Err e) old new other len other_len status other_status h k = nothing h k
 
 found : {A : Type 0} (answer : Found A) (old new other : A) (status other_status : ℕ)
-    → Shows answer old new status → Shows answer old other other_status
+    → Shows old new status answer → Shows old other other_status answer
     → (other ≡ new) × (other_status ≡ status)
 found (Ok (Some x)) old new other status other_status h k = one_value h k
 found (Ok None) old new other status other_status h k = one_value h k
@@ -42,11 +42,11 @@ found (Err e) old new other status other_status h k = one_value h k
 
 successes : (r s : Found (List ℕ)) (old new other : List ℕ) (len other_len : ℕ)
     → IfOk r (λ x. IfOk s (λ y. y ≡ x))
-    → Delivers r old new len (code Answered) → Delivers s old other other_len (code Answered)
+    → Delivers old new len (code Answered) r → Delivers old other other_len (code Answered) s
     → (other ≡ new) × (other_len ≡ len)
 successes (Ok x) (Ok y) old new other len other_len same h k =
     let both = bytes (Ok x) old new other len other_len _ _ h
-    (subst (λ it. Delivers (Ok it) old other other_len (code Answered)) same k) in (both.0, both.1)
+    (subst (λ it. Delivers old other other_len (code Answered) (Ok it)) same k) in (both.0, both.1)
 successes (Ok x) (Err e) old new other len other_len same h k = absurd (refused e (sym k.2))
 successes (Err e) s old new other len other_len same h k = absurd (refused e (sym h.2))
 
