@@ -91,7 +91,6 @@ impl PreparedPath {
 
     /// Returns the path, if it is a JSON path. If it is a predicate, its bound on the document is not above its limit.
     #[inline(always)]
-    #[tactic(auto, using(crate::proofs::LimitLemmas::checked))]
     pub(crate) fn admitted_predicate(
         &self,
         alloc: Global,
@@ -103,7 +102,7 @@ impl PreparedPath {
             return Err(Status::NoPath);
         };
         if kept.path.is_predicate() {
-            admit(alloc, document, &kept.path, kept.limit)?;
+            return self.admitted(alloc, document);
         }
         Ok(&kept.path)
     }
