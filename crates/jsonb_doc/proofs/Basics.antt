@@ -1,6 +1,5 @@
 -- Lemmas on lists, tests and results that do not mention documents, and on the keys and values of pairs.
-use Rattle.jsonb_doc.proofs.Common.{◌≡◌, ℕ, suc, ◌*◌, ◌^◌, ◌<◌, ◌==◌, ◌||◌, Bool, true, false, List, [], ◌∷◌, ◌++◌, length, map, Ordering, Equal, Less, Result, MatchResult, IsOkAnd, IfOk, mul-pos, refl, ap, ◌∙◌, arith, reverse, ordering_then, slice_cmp, AllZip, keys_of, length-keys_of, one-le-pow, nat_tests, reverse-append, nat_list_cmp_total, nat_cmp_refl, exact_bytes, Tree, text, IsBelowFirst, IsOutOfMemory, Error}
-use Rattle.std.specs.Ordering.{nat_cmp}
+use Rattle.jsonb_doc.proofs.Common.{◌≡◌, ℕ, suc, ◌*◌, ◌^◌, ◌<◌, ◌==◌, ◌||◌, Bool, true, false, List, [], ◌∷◌, ◌++◌, length, map, Ordering, Equal, Less, Result, MatchResult, IsOkAnd, IfOk, mul-pos, refl, ap, ◌∙◌, arith, reverse, ordering_then, slice_cmp, AllZip, keys_of, length-keys_of, one-le-pow, nat_tests, reverse-append, nat_list_cmp_total, nat_cmp_refl, exact_bytes, Tree, text, IsBelowFirst, IsOutOfMemory, Error, nat_cmp}
 
 -- ---- tests
 

@@ -1,9 +1,9 @@
 -- Checks and depths: what is left of a whole decides it, how often a length can be halved, and the depth of items by their parts.
-use Rattle.jsonb_doc.proofs.Common.{◌≡◌, ◌≢◌, ℕ, ◌+◌, ◌/◌, ◌<◌, ◌≤◌, List, length, Option, Some, None, Bool, true, false, ◌&&◌, ◌↔◌, arith, NumberReader, number_of, number_or_unsupported, IsValidationError, ReducesTo, HasContent, HasEntries, HasParts, HasLarge, IsNoLonger, Error, UnsupportedNumber, zero, suc, refl, max, rules, inl, ap, ord_max, Tree, object, Trees, no_trees, tree, Pairs, no_pairs, pair, values, Form, number_reader, BeginWith, Decodes, IsContent, AreEntries, deepest, deepest_of_trees, deepest_of_pairs, Holds, parts_of, LiesBelow, AreDeep, ArrayParts, ObjectParts, Array, Object}
-use Rattle.std.specs.Ordering.{nat_cmp}
+use Rattle.jsonb_doc.proofs.Common.{◌≡◌, ◌≢◌, ℕ, ◌+◌, ◌/◌, ◌<◌, ◌≤◌, List, length, Option, Some, None, Bool, true, false, ◌&&◌, ◌↔◌, arith, NumberReader, number_of, number_or_unsupported, IsValidationError, ReducesTo, HasContent, HasEntries, HasParts, HasLarge, Error, UnsupportedNumber, zero, suc, refl, max, rules, inl, ap, ord_max, Tree, object, Trees, no_trees, tree, Pairs, no_pairs, pair, values, Form, number_reader, BeginWith, Decodes, IsContent, AreEntries, deepest, deepest_of_trees, deepest_of_pairs, Holds, parts_of, LiesBelow, AreDeep, ObjectParts, Object, nat_cmp, ArrayParts, Array}
 use Rattle.jsonb_doc.proofs.Containers.{entries_of}
 use Rattle.jsonb_doc.proofs.Entries.{AreEntries-first}
 use Rattle.jsonb_doc.proofs.PairsLemmas.{SkipsKeys, HoldsPairs-values}
+use Rattle.std.specs.Ordering.{nat_cmp}
 
 -- one child is checked, and the others are left
 module _ (supported : Bool) (Whole Left Part Others : NumberReader → Type 0) (l : ReducesTo supported Whole Left)
@@ -53,9 +53,6 @@ pub IsApart-one : (large : Option (List ℕ)) (left whole other : List ℕ) → 
     → length whole / 2 < length other → large ≡ None
 IsApart-one large left whole other h e k = grind arith
 
-pub IsApart-large : (large : Option (List ℕ)) (left whole : List ℕ) → IsApart large left whole → IsNoLonger large whole
-IsApart-large large left whole h = grind arith
-
 unfoldable pub halvings_within : ℕ → ℕ → ℕ
 halvings_within zero n = 0
 halvings_within (suc f) zero = 0
@@ -101,13 +98,11 @@ max_of greatest a b is = search rules
 -- ---- the parts of a document that is cut
 
 module _ (number_at : NumberReader) where
-  -- what is not a container has no parts
-  pub scalar_parts : (t : Tree) (kind : ℕ) (bytes : List ℕ) → kind ≢ 5 → IsContent number_at t kind bytes → parts_of t ≡ no_trees
-  scalar_parts t kind bytes h e = grind arith
-
+  -- the parts of an array are its elements
   pub array_parts : (t : Tree) (p : ArrayParts) → Holds number_at t (Array p) → AreEntries number_at (parts_of t) p.words.now p.contents.now
   array_parts t p h = grind arith
 
+  -- the parts of an object are its values
   pub object_parts : (t : Tree) (p : ObjectParts) (found : List ℕ) → SkipsKeys p found → Holds number_at t (Object p)
       → AreEntries number_at (parts_of t) p.value_words.now found
   object_parts (object ps) p found skips h =

@@ -1,5 +1,5 @@
 -- Events that are collected: members of containers in runs, walks over runs, and what the collector holds after each event.
-use Rattle.jsonb_doc.proofs.Common.{◌≡◌, ℕ, ◌+◌, ◌<◌, ◌≤◌, List, [], ◌∷◌, ◌++◌, length, refl, ◌^◌, arith, slice_range, reverse, Result, MatchResult, keys_of, values_of, length-append, take-append-le, drop_at, between_is, between_to_end, Tree, array, object, Trees, no_trees, tree, Pairs, no_pairs, pair, elements, members, keys, Form, IsOutOfMemory, IsOutOfMemoryOrTooLarge, Error, OpenContainer, AreSortedKeys, Make, IsPart, AreElements, HoldParts, keys_first, Run, Part, Plain, Text, Nested, Member, Left, Outer, length-values_of, AllZip-long, suc, map, sym, ap, ◌∙◌, Bool, true, false, Some, None, Option, IsTrue, subst, slice_get, option_copied, is_some, unwrap_or, ◌-◌, IfErr, IsSome, Ok, Err, OnOk, Bor, AllZip, IsSortedBy, IsStableBy, mid_of, true≢false, length-map, append-nil, take_at, trees_of, pairs_of, insert_pair, Level, State, root, array_of, object_of, takes_value, whole, has_lower_key, unique, as_pair, insert_all, appended, EndsAs, Ends, TakesTree, LeadsTo, IsMemberOf, HoldsFrame, HoldsState, WaitsFor, AreAround, Keeps, IsDue, IsRepeated, IsPushRefused, HeaderKind, Frame, Collector, EventError, common_steps}
+use Rattle.jsonb_doc.proofs.Common.{◌≡◌, ℕ, ◌+◌, ◌<◌, ◌≤◌, List, [], ◌∷◌, ◌++◌, length, refl, ◌^◌, arith, slice_range, reverse, Result, MatchResult, keys_of, values_of, length-append, take-append-le, drop_at, between_is, between_to_end, Tree, array, object, Trees, no_trees, tree, Pairs, no_pairs, pair, elements, members, keys, OpenContainer, AreSortedKeys, Make, IsPart, AreElements, HoldParts, keys_first, Run, Part, Plain, Text, Nested, Member, Left, Outer, length-values_of, AllZip-long, suc, map, sym, ap, ◌∙◌, Bool, true, false, Some, None, Option, IsTrue, subst, slice_get, option_copied, is_some, unwrap_or, ◌-◌, IfErr, Ok, Err, OnOk, Bor, AllZip, IsSortedBy, IsStableBy, mid_of, true≢false, length-map, append-nil, take_at, trees_of, pairs_of, insert_pair, Level, State, root, array_of, object_of, takes_value, whole, has_lower_key, unique, as_pair, insert_all, appended, EndsAs, Ends, TakesTree, LeadsTo, IsMemberOf, HoldsFrame, HoldsState, WaitsFor, AreAround, Keeps, IsDue, IsRepeated, IsPushRefused, HeaderKind, Frame, Collector, EventError, common_steps}
 use Rattle.jsonb_doc.specs.Private.EventParts.{AreMembers, member_keys}
 use Rattle.jsonb_doc.specs.declared.layout.HeaderKind.TheVariants.{Object, Array, Scalar}
 use Rattle.jsonb_doc.proofs.Weights.{weight_of, weight-pos, weight_of_all, inner_weighs, falls_inward, falls_outward}
@@ -51,10 +51,6 @@ mutual
   members_stay ds more room (m ∷ ms) (pair key t ps) h = (h.0, part_stays ds more room room m.part t (omega arith) h.1, members_stay ds more room ms ps h.2)
   members_stay ds more room _ _ h = absurd h
 
--- the members of a container that has just ended are the last ones
-pub last_run : (ds ms : List Member) → slice_range (ds ++ ms) (length ds) (length ds + length ms) ≡ ms
-last_run ds ms = grind (arith, between_to_end, length-append, drop_at)
-
 -- ---- a container that is opened
 
 pub record PartOpened (ds : List Member) (run : Run) (ms : List Member) (t : Tree) : Type 0 where
@@ -94,10 +90,6 @@ no_parts ds room (m ∷ ms) us none h = absurd (omega (arith, none))
 
 -- ---- errors
 
-pub not_too_large : {A : Type 0} (P : A → Type 0) (form : Form) (whole : Tree) (r : Result A Error) → MatchResult r P IsOutOfMemory
-    → MatchResult r P (IsOutOfMemoryOrTooLarge form whole)
-not_too_large P form whole r h = grind arith
-
 -- ---- how a walk ends
 
 abbrev pub left_weight : Left → ℕ
@@ -110,15 +102,11 @@ pub walk_falls_inward : (left left' inner : Left) (at : OpenContainer) (around a
     → length left'.members.now < length left.members.now → left'.room ≤ left.room → inner.room < left.room → length inner.members.now < 2 ^ 64
     → around' ≡ around ++ record { container = at; left = left' } ∷ []
     → left_weight inner + weight_of_all outer_weight (reverse around') < left_weight left + weight_of_all outer_weight (reverse around)
-walk_falls_inward left left' inner at around around' fewer less within few e =
-    falls_inward outer_weight (record { container = at; left = left }) (record { container = at; left = left' }) (record { container = at; left = inner })
-    around around' (inner_weighs _ _ _ _ _ _ fewer less within few) e
+walk_falls_inward left left' inner at around around' fewer less within few e = grind (arith, common_steps, falls_inward, inner_weighs)
 
 pub walk_falls_outward : (left : Left) (outer : Outer) (around around' : List Outer) → around ≡ around' ++ outer ∷ []
     → left_weight outer.left + weight_of_all outer_weight (reverse around') < left_weight left + weight_of_all outer_weight (reverse around)
-walk_falls_outward left outer around around' e =
-    falls_outward outer_weight (record { container = outer.container; left = left }) outer around around'
-    (weight-pos (length left.members.now) left.room) e
+walk_falls_outward left outer around around' e = grind (arith, common_steps, falls_outward, weight-pos)
 
 -- ---- more members after those of containers that have ended
 
@@ -158,12 +146,6 @@ pub named_frame : (ds : List Member) (f g : Frame) (ms : List Member) (key : Lis
 named_frame ds f g ms key level h e k i q = grind arith
 
 -- ---- the containers around
-
--- one more container, whose members come next
-pub around_more : (ds : List Member) (kind : HeaderKind) → (kind ≡ Scalar → ⊥) → (earlier ms : List Member) (m : Member) (run : Run) (l : Level) (ls : List Level)
-    → m.part ≡ Nested run → run.first ≡ length earlier → WaitsFor ds run.kind m.key.now ms l → AreAround ds run.kind earlier ls
-    → AreAround ds kind ((earlier ++ ms) ++ m ∷ []) (l ∷ ls)
-around_more ds kind h earlier ms m run l ls e k f g = grind arith
 
 pub record OpenedAround (ds before : List Member) (l : Level) (ls : List Level) : Type 0 where
   pub earlier : List Member
@@ -248,14 +230,14 @@ module _ (ds : List Member) where
 
   pub object_part : (run : Run) (ms : List Member) (qs : List (List ℕ × Tree)) → run.kind ≡ Object → run.first ≡ length ds → run.end ≡ length (ds ++ ms)
       → AllZip (IsMemberOf ds) ms (insert_all [] qs) → IsPart (ds ++ ms) (suc (length (ds ++ ms))) (Nested run) (object (pairs_of (insert_all [] qs)))
-  object_part run ms qs h e k f = grind (arith, length-append, last_run, keys-pairs_of, sorted_keys, all_rise, members_in)
+  object_part run ms qs h e k f = grind (arith, length-append, between_to_end, drop_at, keys-pairs_of, sorted_keys, all_rise, members_in)
 
 -- ---- the end of a container
 
 pub array_ends : (keep_last : Bool) (ds new : List Member) (f : Frame) (ms : List Member) (level : Level) (run : Run) → f.kind ≡ Array → HoldsFrame ds f ms level
     → new ≡ ds ++ ms → run.kind ≡ Array → run.first ≡ length ds → run.end ≡ length new → Ends keep_last ds new level run
 array_ends keep_last ds new f ms (array_of ts) run is h joined kind first end =
-    search (arith, array (trees_of ts), ms, joined, length-append, last_run, elements_in)
+    search (arith, array (trees_of ts), ms, joined, length-append, between_to_end, drop_at, elements_in)
 array_ends keep_last ds new f ms level run is h joined kind first end = grind arith
 
 pub object_ends : (keep_last : Bool) (ds new : List Member) (f : Frame) (ms : List Member) (level : Level) (run : Run) → f.kind ≡ Object
@@ -314,7 +296,7 @@ refused_stays keep_last ds f ms (object_of qs None) t h refused ends =
 refused_stays keep_last ds f ms _ t h refused ends = absurd ends
 
 -- nor may one that does not end even if the last value of a key is kept
-stays_refused : (ds : List Member) (f : Frame) (ms : List Member) (level : Level) → HoldsFrame ds f ms level → option_copied f.key ≡ None
+pub stays_refused : (ds : List Member) (f : Frame) (ms : List Member) (level : Level) → HoldsFrame ds f ms level → option_copied f.key ≡ None
     → ((t : Tree) → EndsAs true level t → ⊥) → IsPushRefused true f.kind ms
 stays_refused ds f ms (array_of ts) h none never = absurd (never (array (trees_of ts)) refl)
 stays_refused ds f ms (object_of ps None) h none never =
@@ -336,12 +318,6 @@ end_leads c s h never t is =
 
 -- ---- the reasons of errors
 
--- members that may not be those of a container are why it does not end
-pub end_due : (keep_last : Bool) (ds : List Member) (f : Frame) (ms : List Member) (level : Level) (e : EventError) → HoldsFrame ds f ms level
-    → option_copied f.key ≡ None → IsDue keep_last (λ last. IsPushRefused last f.kind ms) e
-    → IsDue keep_last (λ last. (t : Tree) → EndsAs last level t → ⊥) e
-end_due keep_last ds f ms level e h k g = grind (arith, due_along, refused_stays, stays_refused)
-
 -- and so why the event may not come next
 pub end_event_due : (keep_last : Bool) (c : Collector) (s : State) (e : EventError) → HoldsState c s
     → IsDue keep_last (λ last. (t : Tree) → EndsAs last s.inner t → ⊥) e
@@ -355,6 +331,3 @@ pub outer_due : (keep_last : Bool) (Q : Bool → Type 0) (ds : List Member) (kin
     (ls : List Level) (e : EventError) → AreAround ds kind before (l ∷ ls) → IsDue true (λ _. (after : State) → TakesTree t l ls after → ⊥) e
     → IsDue keep_last Q e
 outer_due keep_last Q ds kind before t l ls e h k = grind (arith, due_anyway, outer_takes)
-
-pub no_some : {A : Type 0} (o : Option A) → o ≡ None → IsSome o → ⊥
-no_some o h e = grind arith

@@ -127,7 +127,7 @@ pub use Rattle.jsonb_doc.specs.declared.value.release.Remaining.{Remaining}
 pub use Rattle.jsonb_doc.specs.declared.value_iter.ValueIter.{ValueIter}
 pub use Rattle.std.proofs.Math.Facts.{sfits_to_z, Fits-bits}
 pub use Rattle.std.proofs.Math.ListN.{drop_of_length-le}
-pub use Rattle.std.proofs.Math.Nat.{add-zero, zero-add, mul-mod_left, add-mul-div_right, div-eq_of_lt, eq_of_mul-eq-mul_right, pow-le-pow_right, mul-le-mul_right}
+pub use Rattle.std.proofs.Math.Nat.{add-zero, zero-add, mul-mod_left, add-mul-div_right, div-eq_of_lt, eq_of_mul-eq-mul_right, pow-le-pow_right, mul-le-mul_right, suc-mul}
 pub use Rattle.std.proofs.Math.Seq.{take-add}
 pub use Rattle.std.proofs.Output.{has_written_append}
 pub use Rattle.std.proofs.lemmas.Bool.{cases_lt, lt-ltb, le-ltb, true≢false, eqb-true, eq-eqb, ltb-true, ltb-false, false≢true}

@@ -1,5 +1,5 @@
 -- Containers, by their headers.
-use Rattle.jsonb_doc.proofs.Common.{◌≡◌, ◌≢◌, ℕ, suc, ◌+◌, ◌*◌, ◌≤◌, List, [], ◌∷◌, ◌++◌, length, take, drop, refl, sym, ap, ◌∙◌, arith, true, false, ◌↔◌, ◌⊎◌, inl, inr, length-append, take_at, drop_at, append-nil, Tree, boolean, array, object, Trees, no_trees, tree, Pairs, no_pairs, pair, count, keys, values, NumberReader, Form, number_reader, Holds, HasPairParts, IsLoneEntry, IsCut, HoldKeys, kind_number, header_number, HeaderKind, StoredEntry, ArrayParts, ObjectParts, Array, Object, Decodes, HeadedBy, BeginWith, entry_word, AreMembers, AreKeys, key_words, key_bytes, IsContent, AreEntries, AreValues, IsDocument, HasContent, HasEntries, HasDocument, HasKeys, common_steps, Scalar}
+use Rattle.jsonb_doc.proofs.Common.{◌≡◌, ◌≢◌, ℕ, suc, ◌*◌, ◌≤◌, List, [], ◌∷◌, ◌++◌, length, take, drop, refl, sym, ap, ◌∙◌, arith, true, false, ◌↔◌, ◌⊎◌, inl, inr, length-append, take_at, drop_at, append-nil, Tree, boolean, array, object, Trees, no_trees, tree, Pairs, no_pairs, pair, count, keys, values, NumberReader, Form, number_reader, Holds, HasPairParts, IsLoneEntry, IsCut, HoldKeys, kind_number, header_number, HeaderKind, StoredEntry, ArrayParts, ObjectParts, Array, Object, Decodes, HeadedBy, BeginWith, entry_word, AreMembers, AreKeys, key_words, key_bytes, IsContent, AreEntries, AreValues, IsDocument, HasContent, HasEntries, HasDocument, HasKeys, common_steps, Scalar}
 use Rattle.jsonb_doc.specs.declared.layout.HeaderKind.TheVariants as header
 use Rattle.jsonb_doc.specs.declared.container.Container.{Container}
 use Rattle.jsonb_doc.specs.Format.{IsContainer as FormatContainer}
@@ -187,26 +187,7 @@ module _ (number_at : NumberReader) (bytes : List ℕ) where
 
 -- ---- documents that are cut
 
--- the one entry of a scalar is one
-lone_unique : (bytes : List ℕ) (k k' : ℕ) (content content' : List ℕ) → IsLoneEntry bytes k content → IsLoneEntry bytes k' content'
-    → (k ≡ k') × (content ≡ content')
-lone_unique bytes k k' content content' h e = grind (arith, word_cancel)
-
-module _ (number_at : NumberReader) (bytes : List ℕ) where
-  -- the document of an array or an object
-  array_from : (p : ArrayParts) (n : ℕ) → HeadedBy bytes 4 n (p.words.now ++ p.contents.now) → length p.words.now ≡ 4 * n → (t : Tree)
-      → Holds number_at t (Array p) → IsContent number_at t 5 bytes
-  array_from p n h e t k = grind (arith, length-words)
-
-  object_from : (p : ObjectParts) (n : ℕ) → HeadedBy bytes 2 n ((p.key_words.now ++ p.value_words.now) ++ p.contents.now) → length p.key_words.now ≡ 4 * n
-      → (t : Tree) → Holds number_at t (Object p) → IsContent number_at t 5 bytes
-  object_from p n h e t k = grind (arith, length-key_words)
-
--- the parts of an array or an object are those of its document
-array_to : (number_at : NumberReader) (p : ArrayParts) (n : ℕ) → length p.words.now ≡ 4 * n → (t : Tree)
-    → ArrayIn number_at t n (p.words.now ++ p.contents.now) → Holds number_at t (Array p)
-array_to number_at p n h t e = grind (arith, append_cancel)
-
+-- the parts of an object are those of its document
 object_to : (number_at : NumberReader) (p : ObjectParts) (n : ℕ) → length p.key_words.now ≡ 4 * n → length p.value_words.now ≡ 4 * n → (t : Tree)
     → ObjectIn number_at t n ((p.key_words.now ++ p.value_words.now) ++ p.contents.now) → Holds number_at t (Object p)
 object_to number_at p n h e t k = grind (arith, common_steps, length-append, append_cancel)
@@ -217,7 +198,7 @@ pub IsCut-same : (bytes : List ℕ) (found : Container) → IsCut bytes found �
 IsCut-same bytes (Scalar e) (rest, h, lone) number_at t = (
   λ d.
       let s = document_scalar number_at bytes 0 rest h t d in
-      let same = lone_unique rest (kind_number e.kind) s.kind e.content.now s.content lone s.lone in
+      let same : ((kind_number e.kind) ≡ s.kind) × (e.content.now ≡ s.content) = grind (arith, word_cancel, s.lone) in
       (lone.scalar, rw (same.0, same.1) s.part),
   λ k. inr (record {
     words = entry_word (kind_number e.kind) (length e.content.now);
@@ -227,12 +208,12 @@ IsCut-same bytes (Scalar e) (rest, h, lone) number_at t = (
   }),
 )
 IsCut-same bytes (Array p) (n, h, len) number_at t = (
-  λ d. array_to number_at p n len t (document_array number_at bytes n _ h t (container_document number_at bytes 4 n _ h (omega arith) t d)),
-  λ k. inl (array_from number_at bytes p n h len t k),
+  λ d. (grind (arith, append_cancel, document_array number_at bytes n _ h t (container_document number_at bytes 4 n _ h (omega arith) t d))),
+  λ k. inl (grind (arith, length-words)),
 )
 IsCut-same bytes (Object p) (n, h, len, value_len) number_at t = (
   λ d. object_to number_at p n len value_len t (document_object number_at bytes n _ h t (container_document number_at bytes 2 n _ h (omega arith) t d)),
-  λ k. inl (object_from number_at bytes p n h len t k),
+  λ k. inl (grind (arith, length-key_words)),
 )
 
 -- a document with the header of an array or an object has as many bytes as its words
@@ -309,13 +290,9 @@ module _ (bytes : List ℕ) where
 
   module _ (p : ObjectParts) (cut : IsCut bytes (Object p)) where
     -- an object's content decodes if its keys do, and the entries after them
-    HoldsPairs-found : (number_at : NumberReader) (t : Tree) → Holds number_at t (Object p)
-        → (rest : List ℕ) × HasKeys p.key_words.now p.contents.now rest × HasEntries p.value_words.now rest number_at
-    HoldsPairs-found number_at t h = grind (arith, entries_of)
-
     found_within : (number_at : NumberReader) → HasContent 5 bytes number_at
         → (rest : List ℕ) × HasKeys p.key_words.now p.contents.now rest × HasEntries p.value_words.now rest number_at
-    found_within number_at h = HoldsPairs-found number_at h.0 ((IsCut-same bytes (Object p) cut number_at h.0).0 (inl h.1))
+    found_within number_at h = grind (arith, entries_of, (IsCut-same bytes (Object p) cut number_at h.0).0 (inl h.1))
 
     pub HasContent-keys : (number_at : NumberReader) → ((rest : List ℕ) → HasKeys p.key_words.now p.contents.now rest → ⊥) → HasContent 5 bytes number_at → ⊥
     HasContent-keys number_at none h = let found = found_within number_at h in none found.0 found.1

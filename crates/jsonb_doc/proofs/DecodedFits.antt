@@ -1,14 +1,10 @@
 -- What a payload of bytes is read as fits, is read from no shorter payload than the one that is written, and so the tree that bytes decode to fits.
-use Rattle.jsonb_doc.proofs.Common.{◌≡◌, ◌⊎◌, ℕ, zero, suc, ◌+◌, ◌*◌, ◌/◌, ◌^◌, ◌<◌, ◌≤◌, List, [], ◌∷◌, ◌++◌, length, take, drop, refl, sym, ap, ◌∙◌, arith, true, Some, inl, inr, ℤ, pos, ◌==◌, FitsSigned, slice_index, Width, w32, w64, w128, byte_len, cast_signed, cast_unsigned, sfits_to_z, Fits-bits, drop_of_length-le, div-mul-add, append-nil, length-take-le, take-append-drop, drop-drop, get_or_append_left, get_or-append-add, get_or_past, cases_lt, lt-ltb, le-ltb, nat_tests, of_z-to_z, big_number, big_bytes, twos_complement, big_from-lt, big_from-cons, AreBytes, Variant, int64, uint64, decimal64, decimal128, number_from, zero_number, FitsNumber, Extension, binary, date, timestamp, timestamp_tz, interval, FitsExtension, is_width, signed, fixed, fixed_bytes, signed_size, unsigned_width, number_of, number_payload, number_payload_of, extension_payload, extension_of, Tree, null, boolean, number, text, extension, array, object, Trees, no_trees, tree, Pairs, no_pairs, pair, count, keys, Form, canonical, header, HeadedBy, AreKeys, key_bytes, IsContent, AreEntries, AreValues, IsDocument, Decodes, content_size, elements_size, values_size, IsInRange, AreInRange, ValuesAreInRange, HasShortParts, HasShortElements, HasShortValues, AreShortKeys, IsWithinLimits, Fits}
-use Rattle.std.proofs.lemmas.List.{length-drop}
+use Rattle.jsonb_doc.proofs.Common.{◌≡◌, ◌⊎◌, ℕ, zero, suc, ◌+◌, ◌*◌, ◌/◌, ◌^◌, ◌<◌, ◌≤◌, List, [], ◌∷◌, ◌++◌, length, take, drop, refl, sym, ap, ◌∙◌, arith, true, Some, inl, inr, ℤ, pos, ◌==◌, FitsSigned, slice_index, Width, w32, w64, w128, byte_len, cast_signed, cast_unsigned, sfits_to_z, Fits-bits, drop_of_length-le, div-mul-add, append-nil, length-take-le, take-append-drop, drop-drop, get_or_append_left, get_or-append-add, get_or_past, cases_lt, lt-ltb, le-ltb, nat_tests, of_z-to_z, big_number, big_bytes, twos_complement, big_from-lt, big_from-cons, AreBytes, Variant, int64, uint64, decimal64, decimal128, number_from, zero_number, FitsNumber, Extension, binary, date, timestamp, timestamp_tz, interval, FitsExtension, is_width, signed, fixed, fixed_bytes, signed_size, unsigned_width, number_of, number_payload, number_payload_of, extension_payload, extension_of, Tree, null, boolean, number, text, extension, array, object, Trees, no_trees, tree, Pairs, no_pairs, pair, count, keys, Form, canonical, header, HeadedBy, AreKeys, key_bytes, IsContent, AreEntries, AreValues, IsDocument, Decodes, content_size, elements_size, values_size, IsInRange, AreInRange, ValuesAreInRange, HasShortParts, HasShortElements, HasShortValues, AreShortKeys, IsWithinLimits, Fits, length-drop}
 use Rattle.jsonb_doc.specs.Number.{Number}
 use Rattle.jsonb_doc.proofs.CanonicalLemmas.{fits_from, width_bound, in_any}
 use Rattle.jsonb_doc.proofs.LimitLemmas.{same_length, number_cases, extension_cases, length-array, length-object, length-contents}
 
 -- ---- bytes
-
-pub AreBytes-left : (a b : List ℕ) → AreBytes (a ++ b) → AreBytes a
-AreBytes-left a b h = grind (arith, cases_lt, get_or_append_left, get_or_past)
 
 pub AreBytes-right : (a b : List ℕ) → AreBytes (a ++ b) → AreBytes b
 AreBytes-right a b h = λ i. let e = get_or-append-add a b i 0 in rw (← e) (h (length a + i))
@@ -36,12 +32,9 @@ bytes_from (suc n) (x ∷ xs) (y ∷ ys) hx hy bx by e =
     (rw (big_from-cons 0 n x xs, big_from-cons 0 n y ys) at e) in
     cc (both.0, bytes_from n xs ys (omega arith) (omega arith) fx fy both.1)
 
-at_place : (x : ℕ) (xs : List ℕ) → x < 256 → AreBytes xs → AreBytes (x ∷ xs)
-at_place x xs h e = grind arith
-
 written_are_bytes : (n x : ℕ) → AreBytes (big_bytes n x)
 written_are_bytes zero x = λ i. omega arith
-written_are_bytes (suc n) x = at_place _ (big_bytes n x) (grind arith) (written_are_bytes n x)
+written_are_bytes (suc n) x = grind (arith, written_are_bytes n x)
 
 -- ---- fields of fixed width
 
@@ -72,32 +65,20 @@ width_cases k h = grind (arith, nat_tests)
 width_1 : (n : ℕ) → n < 2 ^ 8 → unsigned_width n ≤ 1
 width_1 n h = grind (arith, nat_tests)
 
-width_2 : (n : ℕ) → n < 2 ^ 16 → unsigned_width n ≤ 2
-width_2 n h = grind (arith, nat_tests)
-
-width_4 : (n : ℕ) → n < 2 ^ 32 → unsigned_width n ≤ 4
-width_4 n h = grind (arith, nat_tests)
-
--- the number in k bytes, read as a signed one, needs no more than they hold
-signed_1 : (n : ℕ) → n < 2 ^ 8 → FitsSigned w64 (twos_complement 1 n) × (signed_size (twos_complement 1 n) < 2 ^ 8)
-signed_1 n h = grind (arith, cases_lt, lt-ltb, le-ltb)
-
-signed_8 : (n : ℕ) → n < 2 ^ 64 → FitsSigned w64 (twos_complement 8 n)
-signed_8 n h = grind (arith, cases_lt, lt-ltb, le-ltb)
-
 -- an integer in k bytes fits, and is written in no more
 signed_within : (k : ℕ) (xs : List ℕ) → is_width k ≡ true → AreBytes xs → FitsSigned w64 (signed k xs) × (unsigned_width (signed_size (signed k xs)) ≤ k)
 signed_within k xs is bytes = elim (width_cases k is) [
   | inl e ↦
-      let both = signed_1 (big_number 1 xs) (big_from-lt 0 1 xs bytes) in
+      let both : FitsSigned w64 (twos_complement 1 (big_number 1 xs)) × (signed_size (twos_complement 1 (big_number 1 xs)) < 2 ^ 8) =
+      grind (arith, cases_lt, lt-ltb, le-ltb, big_from-lt 0 1 xs bytes) in
       rw e (both.0, width_1 (signed_size (signed 1 xs)) both.1)
-  | inr (inl e) ↦ grind (arith, cases_lt, lt-ltb, le-ltb, width_2)
-  | inr (inr (inl e)) ↦ grind (arith, cases_lt, lt-ltb, le-ltb, width_4)
-  | inr (inr (inr e)) ↦ grind (arith, signed_8, width_bound)
+  | inr (inl e) ↦ grind (arith, cases_lt, lt-ltb, le-ltb, nat_tests)
+  | inr (inr (inl e)) ↦ grind (arith, cases_lt, lt-ltb, le-ltb, nat_tests)
+  | inr (inr (inr e)) ↦ grind (arith, cases_lt, lt-ltb, le-ltb, width_bound)
 ]
 
 unsigned_within : (k : ℕ) (xs : List ℕ) → is_width k ≡ true → AreBytes xs → (big_number k xs < 2 ^ 64) × (unsigned_width (big_number k xs) ≤ k)
-unsigned_within k xs h e = grind (arith, width_cases, width_1, width_2, width_4, width_bound)
+unsigned_within k xs h e = grind (arith, width_cases, width_1, nat_tests, width_bound)
 
 -- ---- numbers
 
@@ -196,7 +177,7 @@ extension_within (first ∷ rest) x all e =
 pub joined_bytes : (bytes front back : List ℕ) → bytes ≡ front ++ back → AreBytes bytes → AreBytes front × AreBytes back
 joined_bytes bytes front back e all =
     let joined : AreBytes (front ++ back) = rw (← e) all in
-    (AreBytes-left front back joined, AreBytes-right front back joined)
+    (grind (arith, cases_lt, get_or_append_left, get_or_past), AreBytes-right front back joined)
 
 pub headed_bytes : (bytes : List ℕ) (kind n : ℕ) (ws cs : List ℕ) → HeadedBy bytes kind n (ws ++ cs) → AreBytes bytes → AreBytes cs
 headed_bytes bytes kind n ws cs h all =

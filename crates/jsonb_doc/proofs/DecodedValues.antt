@@ -1,5 +1,6 @@
 -- Iterators of a document, the values decoded from what they yielded, and containers that are filled with them part by part.
-use Rattle.jsonb_doc.proofs.Common.{◌≡◌, ℕ, List, [], ◌∷◌, ◌++◌, Some, None, Result, Ok, Err, String, Global, Less, Greater, string_bytes, string_cmp, nat_cmp, refl, ap, ◌∙◌, append_assoc, IfOk, Bor, insert_entry, ordering_reverse, slice_cmp, nat_list_cmp_total, map-append, Tree, Trees, no_trees, tree, Pairs, no_pairs, pair, elements, members, keys, trees_of, pairs_of, Form, AreKeys, IsBelowFirst, StandsFor, IsNormal, TakesElement, HasElementsLeft, HasPairsLeft, TakesPair, insert_pair, number_view, tree_seen, trees_seen, members_seen, KeepsNormal, SeesItem, Item, ElementIter, PairIter, Error, Number, Value, arith, append-nil, suc, max, sym, subst, MatchResult, IsOkAnd, reverse, reverse-append, array, object, IsOutOfMemory, open_room, IsWhole, FillsTo, MakesWhole, Whole}
+use Rattle.jsonb_doc.proofs.Common.{common_steps, ◌≡◌, ℕ, List, [], ◌∷◌, ◌++◌, Some, None, Result, Ok, String, Global, Less, Greater, string_bytes, string_cmp, nat_cmp, refl, ap, ◌∙◌, append_assoc, IfOk, Bor, insert_entry, ordering_reverse, slice_cmp, nat_list_cmp_total, map-append, Tree, Trees, no_trees, tree, Pairs, no_pairs, pair, elements, members, keys, trees_of, pairs_of, Form, AreKeys, IsBelowFirst, StandsFor, IsNormal, TakesElement, HasElementsLeft, HasPairsLeft, TakesPair, insert_pair, tree_seen, trees_seen, members_seen, KeepsNormal, SeesItem, Item, ElementIter, PairIter, Error, Number, Value, arith, append-nil, suc, max, sym, subst, MatchResult, IsOkAnd, reverse, array, object, IsOutOfMemory, open_room, IsWhole, FillsTo, MakesWhole, Whole}
+use Rattle.jsonb_doc.proofs.Basics.{innermost}
 use Rattle.jsonb_doc.specs.Number as spec
 use Rattle.jsonb_doc.proofs.ValueTrees.{Entry, members_seen-insert_entry}
 use Rattle.jsonb_doc.proofs.TreeLists.{trees_of-elements, pairs_of-members}
@@ -21,13 +22,6 @@ pub first_element : (form : Form) (before : Trees) (r : Result Item Error) (x : 
     → TakesElement form before (Some r) after → FirstElement form before x after
 first_element form before r x after h e = grind arith
 
-pub element_read : (form : Form) (before : Trees) (r : Result Item Error) (e : Error) (after : ElementIter) → r ≡ Err e
-    → TakesElement form before (Some r) after → ⊥
-element_read form before r e after h k = grind arith
-
-pub no_element : (form : Form) (before : Trees) (after : ElementIter) → TakesElement form before None after → before ≡ no_trees
-no_element form before after h = grind arith
-
 -- the key and the item stand for the first of the remaining members
 pub record FirstMember (form : Form) (before : Pairs) (x : Bor (List ℕ) × Item) (after : PairIter) : Type 0 where
   pub value : Tree
@@ -40,10 +34,6 @@ pub first_member : (form : Form) (before : Pairs) (r : Result (Bor (List ℕ) ×
     → TakesPair form before (Some r) after → FirstMember form before x after
 first_member form before r x after h e = grind arith
 
-pub member_read : (form : Form) (before : Pairs) (r : Result (Bor (List ℕ) × Item) Error) (e : Error) (after : PairIter) → r ≡ Err e
-    → TakesPair form before (Some r) after → ⊥
-member_read form before r e after h k = grind arith
-
 pub no_member : (form : Form) (before : Pairs) (after : PairIter) → TakesPair form before None after → before ≡ no_pairs
 no_member form before after h = grind arith
 
@@ -55,9 +45,6 @@ sees_normal seen h r x e k = grind arith
 pub sees_normal_member : (seen : Number → spec.Number) → KeepsNormal seen → (r : Result (Bor (List ℕ) × Item) Error) (x : Bor (List ℕ) × Item) → r ≡ Ok x
     → IfOk r (λ given. IsNormal given.1) → SeesItem seen x.1
 sees_normal_member seen keeps r x is h = sees_normal seen keeps (Ok x.1) x.1 refl (rw is at h)
-
-pub sees_view : (x : Item) → SeesItem number_view x
-sees_view x = grind arith
 
 -- ---- decoded values
 
@@ -109,9 +96,6 @@ abbrev pub widest : List Open → ℕ
 widest [] = 0
 widest (o ∷ around) = max (suc (open_room o)) (widest around)
 
-innermost : (around : List Open) (o : Open) → reverse (around ++ o ∷ []) ≡ o ∷ reverse around
-innermost around o = reverse-append around (o ∷ [])
-
 -- one container more, as the innermost
 pub widest_with : (around around' : List Open) (o : Open) → around' ≡ around ++ o ∷ [] → widest (reverse around') ≡ max (suc (open_room o))
     (widest (reverse around))
@@ -121,9 +105,7 @@ module _ (seen : Number → spec.Number) where
   -- the value that was missing is there
   pub array_goes_on : (vs vs' : List Value) (v : Value) (ts : Trees) (whole : Tree) → vs' ≡ vs ++ v ∷ []
       → array (trees_of (trees_seen seen vs ++ tree_seen seen v ∷ elements ts)) ≡ whole → array (trees_of (trees_seen seen vs' ++ elements ts)) ≡ whole
-  array_goes_on vs vs' v ts whole is made =
-      ap array (elements_go_on seen vs vs' v (tree (tree_seen seen v) ts) ts (trees_of (trees_seen seen vs ++ tree_seen seen v ∷ elements ts))
-      (tree_seen seen v) refl refl is refl) ∙ made
+  array_goes_on vs vs' v ts whole is made = grind (arith, common_steps, elements_go_on)
 
   pub object_goes_on : (es es' : List Entry) (name : String Global) (v : Value) (ps : Pairs) (whole : Tree) → es' ≡ insert_entry string_cmp es name v
       → AreKeys (keys (pairs_of (members_seen seen es ++ (string_bytes name, tree_seen seen v) ∷ members ps)))
@@ -146,8 +128,3 @@ module _ (seen : Number → spec.Number) where
     pub LeadsTo-popped : (around around' : List Open) (o : Open) (part whole : Tree) → around ≡ around' ++ o ∷ []
         → LeadsTo seen form (reverse around) part whole → (t : Tree) × MakesWhole seen form o part t × LeadsTo seen form (reverse around') t whole
     LeadsTo-popped around around' o part whole h e = grind (arith, innermost)
-
-    -- one more container is within the others
-    pub LeadsTo-pushed : (around around' : List Open) (o : Open) (part t whole : Tree) → around' ≡ around ++ o ∷ [] → MakesWhole seen form o part t
-        → LeadsTo seen form (reverse around) t whole → LeadsTo seen form (reverse around') part whole
-    LeadsTo-pushed around around' o part t whole h e k = grind (arith, innermost)

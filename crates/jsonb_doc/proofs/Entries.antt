@@ -1,7 +1,6 @@
 -- Entries are split into the first one and the others, and joined again; so are keys; contents are passed over by the lengths in their words.
-use Rattle.jsonb_doc.proofs.Common.{option_and_then, ◌≡◌, ℕ, ◌<◌, ◌≤◌, List, [], length, refl, ap, arith, Option, Some, None, true, false, if◌then◌else◌, ◌↔◌, inl, inr, length-append, Tree, null, boolean, number, text, extension, array, object, Trees, no_trees, tree, Pairs, no_pairs, pair, count, keys, NumberReader, Form, canonical, number_reader, number_payload, number_of, number_or_unsupported, bytes_eq, BeginWith, HasFirstEntry, IsContainer, AreMembers, array_header, object_header, scalar_header, IsDocument, IsContent, AreEntries, AreValues, HasContent, HasEntries, ◌^◌, ◌∷◌, ◌++◌, append_assoc, ⊤, AreKeys, IsBelowFirst, key_words, key_bytes, HasKeys, IsAbove, IsNextKey, zero, suc, ◌+◌, ◌/◌, ◌%◌, take, map, sum, Bor, IsGetRangeResult, drop_at, take-append-drop, sum_by-cons, between_to_end, IsSomeAnd, IfSome, w32, from_be_bytes, from_be_bytes-to_be_bytes_4, first_chunks, drop, sym, ◌∙◌, slice_index_or, ◌-◌, ◌*◌, drop-drop, drop-take, take-take, lengths_of, StandBefore, HoldKeys, common_steps}
+use Rattle.jsonb_doc.proofs.Common.{rules, option_and_then, ◌≡◌, ℕ, ◌<◌, ◌≤◌, List, [], length, refl, ap, arith, Option, Some, None, true, false, if◌then◌else◌, ◌↔◌, inl, inr, length-append, Tree, null, boolean, number, text, extension, array, object, Trees, no_trees, tree, Pairs, no_pairs, pair, count, keys, NumberReader, Form, canonical, number_reader, number_payload, number_of, number_or_unsupported, bytes_eq, BeginWith, HasFirstEntry, IsContainer, AreMembers, array_header, object_header, IsDocument, IsContent, AreEntries, AreValues, HasContent, HasEntries, ◌^◌, ◌∷◌, ◌++◌, append_assoc, ⊤, AreKeys, IsBelowFirst, key_words, key_bytes, HasKeys, IsAbove, IsNextKey, zero, suc, ◌+◌, ◌/◌, ◌%◌, take, map, sum, Bor, IsGetRangeResult, drop_at, take-append-drop, sum_by-cons, between_to_end, IsSomeAnd, IfSome, w32, from_be_bytes, from_be_bytes-to_be_bytes_4, first_chunks, drop, sym, ◌∙◌, slice_index_or, ◌-◌, ◌*◌, drop-drop, drop-take, take-take, lengths_of, StandBefore, HoldKeys, common_steps, suc-mul}
 use Rattle.jsonb_doc.specs.Number.{Number}
-use Rattle.std.proofs.Math.Nat.{suc-mul}
 use Rattle.jsonb_doc.proofs.WordLemmas.{bytes_eq-true, bytes_eq-same, word_cancel, append_cancel}
 
 pub BeginWith-long : (words contents : List ℕ) (kind : ℕ) (content ws cs : List ℕ) → BeginWith words contents kind content ws cs → 4 ≤ length words
@@ -106,8 +105,7 @@ module _ (strict lenient : NumberReader) (more : (bytes : List ℕ) (n : Number)
 
   pub document_map : (t : Tree) (bytes : List ℕ) → IsDocument strict t bytes → IsDocument lenient t bytes
   document_map t bytes (inl h) = inl (content_map t 5 bytes h)
-  document_map t bytes (inr h) =
-      inr (Container-map scalar_header 0 (Entry-map (λ kind content k. (k.0, content_map t kind content k.1)) (λ words contents k. k)) bytes h)
+  document_map t bytes (inr h) = search (rules, Container-map, Entry-map, content_map)
 
 -- what decodes would decode with unsupported payloads as numbers
 number_lenient : (bytes : List ℕ) (n : Number) → number_of bytes ≡ Some n → number_or_unsupported bytes ≡ Some n
@@ -164,9 +162,6 @@ KeysAfter-none words bytes rest h = grind arith
 pub HasKeys-from : (words bytes rest : List ℕ) → KeysAfter None words bytes rest → HasKeys words bytes rest
 HasKeys-from words bytes rest k = (k.ks, k.are_keys, k.words_joined, k.bytes_joined)
 
-pub KeysAfter-nil : (last : Option (List ℕ)) (words bytes : List ℕ) → words ≡ [] → KeysAfter last words bytes bytes
-KeysAfter-nil last words bytes h = grind arith
-
 -- the first of some keys is the first entry
 pub begin_key : (words bytes rest key : List ℕ) (ks : List (List ℕ)) → length key < 2 ^ 28 → words ≡ key_words (key ∷ ks) → bytes ≡ key_bytes (key ∷ ks) ++ rest
     → BeginWith words bytes 1 key (key_words ks) (key_bytes ks ++ rest)
@@ -222,11 +217,7 @@ lengths_first n words = sum_by-cons (λ (x : ℕ). x) (told (take 4 words)) (map
 
 -- the lengths in the first words, and in those after them
 lengths_both : (n m : ℕ) (words : List ℕ) → lengths_of (n + m) words ≡ lengths_of n words + lengths_of m (drop (4 * n) words)
-lengths_both zero m words =
-    let none : 4 * 0 ≡ 0 = omega arith in
-    let left : 0 + m ≡ m = omega arith in
-    let zero : lengths_of 0 words ≡ 0 = refl in
-    omega (arith, zero, ap (λ (k : ℕ). lengths_of k words) left, ap (λ (k : ℕ). lengths_of m (drop k words)) none)
+lengths_both zero m words = grind (arith, common_steps)
 lengths_both (suc n) m words =
     let others : drop (4 * n) (drop 4 words) ≡ drop (4 * suc n) words = drop-drop (4 * n) 4 words ∙ ap (λ (k : ℕ). drop k words) (omega arith) in
     let size : suc n + m ≡ suc (n + m) = omega arith in
@@ -257,17 +248,7 @@ lengths_within (suc n) k words enough =
 -- the sums of groups of words make up that of all
 pub lengths_grouped : (n k : ℕ) (words : List ℕ) → sum (map (lengths_of n) (first_chunks (4 * n) k words)) ≡ lengths_of (k * n) words
 lengths_grouped n zero words = let none : 0 ≡ 0 * n = omega arith in ap (λ (m : ℕ). lengths_of m words) none
-lengths_grouped n (suc k) words =
-    let first = lengths_of n (take (4 * n) words) in
-    let size : suc k * n ≡ n + k * n = omega (arith, suc-mul k n) in
-    omega (
-      arith,
-      sum_by-cons (λ (x : ℕ). x) first (map (lengths_of n) (first_chunks (4 * n) k (drop (4 * n) words))),
-      lengths_within n (4 * n) words (omega arith),
-      lengths_grouped n k (drop (4 * n) words),
-      lengths_both n (k * n) words,
-      ap (λ (m : ℕ). lengths_of m words) size,
-    )
+lengths_grouped n (suc k) words = grind (arith, common_steps, suc-mul, sum_by-cons, lengths_within, lengths_both, (lengths_grouped n k))
 
 -- what is left from a position on is the element there, and the others
 pub sum_left : {A : Type 0} (f : A → ℕ) (xs : List A) (i : ℕ) (or : A) → i < length xs

@@ -1,6 +1,5 @@
 -- Entries as new documents.
-use Rattle.jsonb_doc.proofs.Common.{◌≡◌, ◌≢◌, ℕ, zero, suc, ◌-◌, ◌<◌, ◌≤◌, ◌^◌, List, [], ◌∷◌, ◌++◌, length, take, refl, ap, arith, inr, slice_range, take-take, take_rest, Tree, NumberReader, IsContent, IsDocument, header, scalar_header, entry_word}
-use Rattle.std.proofs.Common.{append-nil}
+use Rattle.jsonb_doc.proofs.Common.{◌≡◌, ◌≢◌, ℕ, zero, suc, ◌<◌, ◌≤◌, ◌^◌, List, [], ◌∷◌, ◌++◌, length, take, refl, ap, arith, inr, slice_range, take-take, take_rest, Tree, NumberReader, IsContent, IsDocument, header, scalar_header, entry_word, append-nil}
 
 -- an entry that is not a container, as a document
 pub entry_decodes : (number_at : NumberReader) (t : Tree) (kind : ℕ) (content : List ℕ) → kind < 8 → kind ≢ 5 → length content < 2 ^ 28

@@ -1,6 +1,5 @@
 -- Equality of values part by part.
-use Rattle.jsonb_doc.proofs.Common.{◌≡◌, ℕ, ◌^◌, ◌≤◌, ℤ, sym, ap, ◌∙◌, arith, Equal, eq_by_cmp, is_eq, int_eq, one-le-pow, tied_itself, alike_right, Variant, decimal64, number_cmp, number_from, number_cmp_total, int_cmp_scaled, short_value, short_parts, number_parts, number_view, Number, ShortNumber}
-use Rattle.std.specs.Ordering.{int_cmp}
+use Rattle.jsonb_doc.proofs.Common.{common_steps, ◌≡◌, ℕ, ◌^◌, ◌≤◌, ℤ, sym, ap, ◌∙◌, arith, Equal, eq_by_cmp, is_eq, int_eq, one-le-pow, tied_itself, alike_right, Variant, decimal64, number_cmp, number_from, number_cmp_total, int_cmp_scaled, short_value, short_parts, number_parts, number_view, Number, ShortNumber, int_cmp}
 use Rattle.jsonb_doc.specs.Number.{Number as Number'}
 
 -- a number of these parts has their value, for each variant of zero
@@ -30,10 +29,7 @@ short_cmp m n =
 
 -- a number whose digits are stored in at most 64 bits compares with another as its parts do
 pub short_number_cmp : (m : ShortNumber) (n : Number) → number_cmp (short_value m) (number_view n) ≡ number_cmp (short_parts m) (number_parts n)
-short_number_cmp m n =
-    number_cmp_total.congr (short_value m) (short_parts m) (number_view n) (same_short m)
-    ∙ alike_right number_cmp_total (number_view n) (number_parts n) (short_parts m)
-    (same_value (number_parts n).variant (number_parts n).whole (number_parts n).scale)
+short_number_cmp m n = grind (arith, common_steps, number_cmp_total, same_short, same_value)
 
 -- numbers of one scale compare as their digits do
 pub digits_tell : (v w : Variant) (a b : ℤ) (scale : ℕ)

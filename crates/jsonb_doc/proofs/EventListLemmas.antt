@@ -1,6 +1,5 @@
 -- Lists of events: pairs in their order and sorted are the same states, events lead to at most one state, and which errors lists have.
-use Rattle.jsonb_doc.proofs.Common.{◌≡◌, ℕ, ◌+◌, ◌≤◌, List, [], ◌∷◌, ◌++◌, length, map, refl, sym, ap, subst, ◌∙◌, arith, Bool, true, false, Some, None, Option, nat_cmp, IsTrue, Result, Ok, Err, IsOkAnd, ⊤, if◌then◌else◌, slice_cmp, IsStrictlySortedBy, keys_of, true≢false, Tree, has_key, insert_pair, Level, root, array_of, object_of, State, Event, array_begins, object_begins, key_is, value_is, ends, no_events, takes_value, filled, container, whole, within, with_inner, with_key, with_value, closed, AreEvents, with_key_again, next_of, AreEventsOf, insert_all, appended, TakesTree, Opens, LeadsTo, Happen, EventError, OutOfOrder, Failed, ObjectDuplicateKey, TextEvent, take, drop, ◌==◌, IsSome, take_at, drop_at, text, scalar_of, Reads, Refuses, Form, StandsFor, IsPlain, IsPlainItem, Item, ◌⊎◌, suc, inl, inr, IsTooLarge, HasDuplicateKey, FailsWith, IsDue, IsOutOfMemoryOrTooLarge, Error, OutOfMemory, TooLarge}
-use Rattle.std.proofs.Common.{unwrap_or}
+use Rattle.jsonb_doc.proofs.Common.{◌≡◌, ℕ, ◌+◌, ◌≤◌, List, [], ◌∷◌, ◌++◌, length, map, refl, sym, ap, subst, ◌∙◌, arith, Bool, true, false, Some, None, Option, nat_cmp, IsTrue, Result, Ok, Err, IsOkAnd, ⊤, if◌then◌else◌, slice_cmp, IsStrictlySortedBy, keys_of, true≢false, Tree, has_key, insert_pair, Level, root, array_of, object_of, State, Event, array_begins, object_begins, key_is, value_is, ends, no_events, takes_value, filled, container, whole, within, with_inner, with_key, with_value, closed, AreEvents, with_key_again, next_of, AreEventsOf, insert_all, appended, TakesTree, Opens, LeadsTo, Happen, EventError, OutOfOrder, Failed, ObjectDuplicateKey, TextEvent, take, drop, ◌==◌, IsSome, take_at, drop_at, text, scalar_of, Reads, Refuses, Form, StandsFor, IsPlain, IsPlainItem, Item, ◌⊎◌, suc, inl, inr, IsTooLarge, HasDuplicateKey, FailsWith, IsDue, IsOutOfMemoryOrTooLarge, Error, OutOfMemory, TooLarge, unwrap_or}
 use Rattle.jsonb_doc.specs.EventList as lists
 use Rattle.jsonb_doc.proofs.ObjectLemmas.{length-inserted}
 use Rattle.jsonb_doc.proofs.UniqueLemmas.{rise_inserted, none_rise, one_more}
@@ -261,10 +260,6 @@ pub happen_anyway : (keep_last : Bool) (es : List TextEvent) (bytes : List ℕ) 
 happen_anyway keep_last [] bytes s rest s' h = h
 happen_anyway keep_last (e ∷ es) bytes s rest s' h = grind (arith, happen_anyway keep_last es h.1 h.2 rest s' h.5)
 
--- an event that may then come next also may if all keys are new
-pub leads_anew : (e : Event) (s s' : State) → IsNewState s → LeadsTo true e s s' → LeadsTo false e s s'
-leads_anew e s s' h k = grind (arith, new_len)
-
 -- ---- all events of a tree
 
 pub record Happens (keep_last : Bool) (es : List TextEvent) (bytes : List ℕ) (s after : State) : Type 0 where
@@ -351,25 +346,17 @@ pub one_read : (e : TextEvent) (bytes : List ℕ) (event other : Event) (rest le
     → (event ≡ other) × (rest ≡ left)
 one_read e bytes event other rest left h k = grind (arith, reads_is)
 
--- only the event that is read may come next
-pub only_event : (keep_last : Bool) (e : TextEvent) (bytes : List ℕ) (event : Event) (rest : List ℕ) (s : State) → Reads e bytes event rest
-    → ((after : State) → LeadsTo keep_last event s after → ⊥) → Refuses keep_last e bytes s
-only_event keep_last e bytes event rest s h k = grind (arith, one_read)
-
 -- a scalar stands for its tree
 pub plain_stands : (form : Form) (item : Item) (t : Tree) → IsPlainItem item t → StandsFor form item t
 plain_stands form item t h = grind arith
 
 -- ---- states
 
-pub one_lead : (keep_last : Bool) (e : Event) (s after other : State) → LeadsTo keep_last e s after → LeadsTo keep_last e s other → after ≡ other
-one_lead keep_last e s after other h k = grind arith
-
 -- the same events lead to the same state
 pub one_run : (keep_last : Bool) (es : List TextEvent) (bytes : List ℕ) (s : State) (rest left : List ℕ) (after other : State)
     → Happen keep_last es bytes s rest after → Happen keep_last es bytes s left other → after ≡ other
 one_run keep_last [] bytes s rest left after other h g = sym h.1 ∙ g.1
-one_run keep_last (e ∷ es) bytes s rest left after other h g = grind (arith, one_run keep_last es h.1 h.2 rest left after other h.5, one_read, one_lead)
+one_run keep_last (e ∷ es) bytes s rest left after other h g = grind (arith, one_run keep_last es h.1 h.2 rest left after other h.5, one_read)
 
 -- the events of a tree lead to it
 pub same_tree : (keep_last : Bool) (es : List TextEvent) (bytes rest : List ℕ) (s : State) (t u : Tree) → Happen keep_last es bytes no_events rest s
@@ -392,7 +379,7 @@ happen_more keep_last (x ∷ es) bytes s mid s' e event rest after h reads leads
 one_step : (keep_last : Bool) (e : TextEvent) (es : List TextEvent) (bytes : List ℕ) (s : State) (event : Event) (left : List ℕ) (next : State)
     (rest : List ℕ) (after : State) → Reads e bytes event left → LeadsTo keep_last event s next → Happen keep_last (e ∷ es) bytes s rest after
     → Happen keep_last es left next rest after
-one_step keep_last e es bytes s event left next rest after h k f = grind (arith, one_read, one_lead)
+one_step keep_last e es bytes s event left next rest after h k f = grind (arith, one_read)
 
 -- after the first events there are those that are left
 happen_rest : (keep_last : Bool) (es later : List TextEvent) (bytes : List ℕ) (s : State) (mid : List ℕ) (s' : State) (rest : List ℕ) (after : State)
@@ -430,7 +417,7 @@ duplicate es later bytes mid s e h refuses may =
     go all (inl same) =
         let back = all_back false es bytes all.events no_events (sorted_state s) all.are same (λ ne. (tt, tt)) in
         let new = subst IsNewState (sym (one_run false es bytes no_events mid back.rest s back.state h back.happen)) (back.new refl) in
-        absurd (may (λ event rest after reads leads. refuses event rest after reads (leads_anew event s after new leads)))
+        absurd (may (λ event rest after reads leads. refuses event rest after reads (grind (arith, new_len))))
     go all (inr twice) =
         (length es, all.events, subst (λ (xs : List TextEvent). AreEvents xs bytes all.events) (sym (take_at es later (length es) refl)) all.are, twice)
 
@@ -443,20 +430,16 @@ error_stays (suc n) (x ∷ es) bytes (event ∷ xs) (other ∷ ys) (Ok s) e are 
     grind (arith, error_stays n es are.0 xs ys (next_of false event s) e are.2, one_read)
 error_stays n es bytes (event ∷ xs) ys r e are all is = grind arith
 
--- a list with a duplicate key has no tree unless the last value is kept
-duplicate_fails : (es : List TextEvent) (bytes : List ℕ) (t : Tree) → HasDuplicateKey es bytes → AreEventsOf false es bytes t → ⊥
-duplicate_fails es bytes t h e = grind (arith, error_stays)
-
 -- ---- errors of a list
 
 -- the event that is read may not come next
 pub event_due : (keep_last : Bool) (e : TextEvent) (bytes : List ℕ) (event : Event) (rest : List ℕ) (s : State) (d : EventError) → Reads e bytes event rest
     → IsDue keep_last (λ last. (after : State) → LeadsTo last event s after → ⊥) d → IsDue keep_last (λ last. Refuses last e bytes s) d
-event_due keep_last e bytes event rest s d h k = grind (arith, due_along, only_event)
+event_due keep_last e bytes event rest s d h k = grind (arith, due_along, one_read)
 
 pub event_due_anyway : (keep_last : Bool) (e : TextEvent) (bytes : List ℕ) (event : Event) (rest : List ℕ) (s : State) (d : EventError)
     → Reads e bytes event rest → IsDue true (λ _. (after : State) → LeadsTo true event s after → ⊥) d → IsDue keep_last (λ last. Refuses last e bytes s) d
-event_due_anyway keep_last e bytes event rest s d h k = grind (arith, due_anyway, only_event)
+event_due_anyway keep_last e bytes event rest s d h k = grind (arith, due_anyway, one_read)
 
 -- no tree has events of which one may not come next
 stopped : (es later : List TextEvent) (bytes mid : List ℕ) (s : State) (e : TextEvent) → Happen true es bytes no_events mid s → Refuses true e mid s
@@ -502,7 +485,7 @@ tree_fails form keep_last es bytes t e of (inl memory) = inl memory
 tree_fails form keep_last es bytes t e of (inr (inl order)) = absurd (order.1 t (let run = happen_of keep_last es bytes t of in
     complete true es bytes run.1 t run.3 (all_last es bytes no_events run.0 run.1 (happen_anyway keep_last es bytes no_events run.0 run.1 run.2))))
 tree_fails form keep_last es bytes t e of (inr (inr (inl twice))) =
-    absurd (duplicate_fails es bytes t twice.2 (subst (λ (last : Bool). AreEventsOf last es bytes t) twice.1 of))
+    absurd (grind (arith, error_stays, twice.2, subst (λ (last : Bool). AreEventsOf last es bytes t) twice.1 of))
 tree_fails form keep_last es bytes t e of (inr (inr (inr large))) =
     let run = happen_of keep_last es bytes large.1 large.2 in
     inr (large.0, subst (IsTooLarge form) (same_tree keep_last es bytes run.0 run.1 large.1 t run.2 run.3 of) large.3)

@@ -1,5 +1,5 @@
 -- The search for a key, one after the other and by blocks, and the value under it.
-use Rattle.jsonb_doc.proofs.Common.{◌≡◌, ◌≢◌, ℕ, zero, suc, ◌+◌, ◌-◌, ◌*◌, ◌<◌, ◌≤◌, List, [], ◌∷◌, ◌++◌, length, length-drop, take, drop, slice_index_or, refl, sym, ap, ◌∙◌, arith, Some, None, Bool, false, append_assoc, length-append, append-nil, drop-drop, drop_at, take_at, length-take-le, first_chunks, bytes_eq, Decides, slice_range, Tree, object, Pairs, no_pairs, pair, keys, value_under, field_of, NumberReader, Form, any, number_reader, Decodes, header, entry_word, BeginWith, AreValues, IsContent, key_words, key_bytes, StandBefore, HoldKeys, IsNoneOf, FoundKey, KeysLeft, SameOption, Locates, spot_content, kind_number, Spot, Holds, IsCut, HasPairParts, IsValueEntry, ObjectParts, Entry, Object, ◌⊎◌, inl, inr, Option, Result, Ok, Err, Bor, IsGetRangeResult, IsSomeAnd, IsOkAnd, Ordering, Less, Equal, Greater, AreBelow, IsBlockOf, IsKeyPosition, IsFoundAt, ◌/◌, ordering_reverse, slice_cmp, cases_lt, nat_list_cmp_total, drop_all, take-append-drop, AreKeys, IsBelowFirst, FindsKey, Error}
+use Rattle.jsonb_doc.proofs.Common.{rules, common_steps, ◌≡◌, ◌≢◌, ℕ, zero, suc, ◌+◌, ◌-◌, ◌*◌, ◌<◌, ◌≤◌, List, [], ◌∷◌, ◌++◌, length, length-drop, take, drop, slice_index_or, refl, sym, ap, ◌∙◌, arith, Some, None, Bool, false, append_assoc, length-append, append-nil, drop-drop, drop_at, take_at, length-take-le, first_chunks, bytes_eq, Decides, slice_range, Tree, object, Pairs, no_pairs, pair, keys, value_under, field_of, NumberReader, Form, any, number_reader, Decodes, header, entry_word, BeginWith, AreValues, IsContent, key_words, key_bytes, StandBefore, HoldKeys, IsNoneOf, FoundKey, KeysLeft, SameOption, Locates, spot_content, kind_number, Spot, Holds, IsCut, HasPairParts, IsValueEntry, ObjectParts, Entry, Object, ◌⊎◌, inl, inr, Option, Result, Ok, Err, Bor, IsGetRangeResult, IsSomeAnd, IsOkAnd, Ordering, Less, Equal, Greater, AreBelow, IsBlockOf, IsKeyPosition, IsFoundAt, ◌/◌, ordering_reverse, slice_cmp, cases_lt, nat_list_cmp_total, drop_all, take-append-drop, AreKeys, IsBelowFirst, FindsKey, Error, nat_cmp}
 use Rattle.jsonb_doc.proofs.WordLemmas.{bytes_eq-true, bytes_eq-same}
 use Rattle.jsonb_doc.proofs.Entries.{BeginWith-long, BeginWith-unique, begin_key, told, told_length, StandBefore-joined, HoldKeys-before, keys_before, IsPart-some}
 use Rattle.jsonb_doc.proofs.ScalarLemmas.{some_injective}
@@ -7,7 +7,6 @@ use Rattle.jsonb_doc.proofs.Containers.{length-key_words, HoldsPairs-keys}
 use Rattle.jsonb_doc.proofs.SpotsLemmas.{Locates-part, some_field, object_held, object_joined}
 use Rattle.jsonb_doc.proofs.ObjectLemmas.{equal_key, above}
 use Rattle.jsonb_doc.specs.declared.key_search.KeyPosition.TheVariants.{Found, Missing}
-use Rattle.std.specs.Ordering.{nat_cmp}
 use Rattle.jsonb_doc.proofs.Basics.{below_next}
 
 -- ---- the search
@@ -361,18 +360,13 @@ module _ (n : ℕ) (ks : List (List ℕ)) (words bytes rest : List ℕ) (h : Hol
 
     -- the keys of the block precede the others
     pub block_before : StandBefore (take n ks) (take (4 * n) words) bytes (key_bytes (drop n ks) ++ rest)
-    block_before =
-        keys_before (take n ks) (take (4 * n) words) bytes (key_bytes (drop n ks) ++ rest) (AreKeys-take n ks h.are_keys)
-        (ap (take (4 * n)) h.words_joined ∙ split.0) (h.bytes_joined ∙ bytes_split n ks rest)
+    block_before = search (rules, keys_before, AreKeys-take, split, bytes_split)
 
     -- the bytes of the others follow those of the block
     pub bytes_after : (block : List ℕ) (len : ℕ) (r : Option (Bor (List ℕ))) → block ≡ take (4 * n) words
         → ((parts : List (List ℕ)) (contents left : List ℕ) → StandBefore parts block contents left → len + length left ≡ length contents)
         → IsGetRangeResult bytes len (length bytes) r → IsSomeAnd r (λ x. x.now ≡ key_bytes (drop n ks) ++ rest)
-    bytes_after block len r is sum cut =
-        let others = key_bytes (drop n ks) ++ rest in
-        let joined = StandBefore-joined (take n ks) _ _ others block_before in
-        IsPart-some bytes joined.0 others len r joined.1 (sum (take n ks) bytes others (rw is block_before)) cut
+    bytes_after block len r is sum cut = grind (arith, common_steps, StandBefore-joined, block_before, IsPart-some, is)
 
     module _ (other_words other_bytes : List ℕ) (words_are : other_words ≡ drop (4 * n) words)
         (bytes_are : other_bytes ≡ key_bytes (drop n ks) ++ rest) where
@@ -469,29 +463,13 @@ block_searched name n at ks words bytes rest other_bytes h l others whole = by (
 
 pub found_at : (name : List ℕ) (ks : List (List ℕ)) (words bytes rest others other_bytes : List ℕ) → HoldKeys ks words bytes rest
     → FoundKey name ks rest others other_bytes → IsFoundAt name ks (Some ((length words - length others) / 4 - 1))
-found_at name ks words bytes rest others other_bytes h f =
-    let count : (length words - length others) / 4 - 1 ≡ length f.front =
-    omega (
-      arith,
-      ap length h.words_joined ∙ length-key_words ks,
-      ap length f.behind.words_joined ∙ length-key_words f.back,
-      ap length f.joined,
-      length-append f.front (name ∷ f.back),
-    ) in
-    (f.front, f.back, count, f.joined, f.first)
+found_at name ks words bytes rest others other_bytes h f = search (rules, others, length-key_words, length-append)
 
 module _ (name : List ℕ) (ks : List (List ℕ)) (words bytes rest left left_bytes : List ℕ) (h : HoldKeys ks words bytes rest)
     (l : KeysLeft (AreBelow name) ks rest left left_bytes) where
   -- the number of keys before those that are left
   passed : (length words - length left) / 4 ≡ length l.front
-  passed =
-      omega (
-        arith,
-        ap length h.words_joined ∙ length-key_words ks,
-        ap length l.behind.words_joined ∙ length-key_words l.back,
-        ap length l.joined,
-        length-append l.front l.back,
-      )
+  passed = grind (arith, common_steps, length-key_words, length-append)
 
   module _ (kind : ℕ) (key ws bs : List ℕ) (b : BeginWith left left_bytes kind key ws bs) where
     pub position_after : slice_cmp nat_cmp key name ≡ Less → KeysLeft (AreBelow name) ks rest ws bs

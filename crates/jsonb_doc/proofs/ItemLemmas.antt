@@ -1,5 +1,5 @@
 -- Items: as entries and as documents, and those that are read of any bytes.
-use Rattle.jsonb_doc.proofs.Common.{◌≡◌, ◌≢◌, ℕ, ◌<◌, ◌≤◌, ◌^◌, List, length, refl, arith, true, false, Bor, Tree, null, boolean, number, text, extension, array, object, Form, any, canonical, number_reader, number_payload, IsContent, Decodes, content_size, number_view, extension_view, StandsFor, item_content, IsTooLong, IsTooLargeItem, item_kind, scalar_bytes, FitsItem, Item, Null, Boolean, ◌++◌, Result, inl, inr, sym, subst, MatchResult, IfOk, length-append, append-nil, HeadedBy, entry_word, IsContainer, HasFirstEntry, AreNone, HasItsWords, IsItemOf, IsRootOf, AreBytes, IsShapeOf, IsRootShape, HasReadableRoot, Shape, IsCut, kind_number, header_number, HeaderKind, ArrayParts, ObjectParts, StoredEntry, Error, Scalar}
+use Rattle.jsonb_doc.proofs.Common.{◌≡◌, ◌≢◌, ℕ, ◌<◌, ◌≤◌, ◌^◌, List, length, refl, arith, true, false, Bor, Tree, null, boolean, number, text, extension, array, object, Form, any, canonical, number_reader, number_payload, IsContent, Decodes, content_size, number_view, extension_view, StandsFor, item_content, IsTooLong, item_kind, scalar_bytes, FitsItem, Item, Null, Boolean, ◌++◌, Result, inl, inr, sym, subst, MatchResult, IfOk, length-append, append-nil, HeadedBy, entry_word, IsContainer, HasFirstEntry, AreNone, HasItsWords, IsItemOf, IsRootOf, AreBytes, IsShapeOf, IsRootShape, HasReadableRoot, Shape, IsCut, kind_number, header_number, HeaderKind, ArrayParts, ObjectParts, StoredEntry, Error, Scalar}
 use Rattle.jsonb_doc.specs.declared.item.Item.TheVariants.{Number, String, Extension, Array, Object}
 use Rattle.jsonb_doc.proofs.Containers.{array_document, object_document, HasContent-headed, IsCut-same}
 use Rattle.jsonb_doc.proofs.CanonicalLemmas.{scalar_is, number_back, length-number_payload}
@@ -36,10 +36,6 @@ long_content form (Array bytes) t (ts, is, decodes) long =
     rw is (omega (arith, size_within form (array ts) 5 bytes.now (array_document (number_reader form) ts bytes.now decodes.document)))
 long_content form (Object bytes) t (ps, is, decodes) long =
     rw is (omega (arith, size_within form (object ps) 5 bytes.now (object_document (number_reader form) ps bytes.now decodes.document)))
-
--- an item whose document exceeds the limits has a content that is too long
-pub long_alone : (item : Item) → IsTooLargeItem item → IsTooLong (item_content item)
-long_alone item h = grind arith
 
 -- the kind of an item that is not a container
 pub scalar_kind : (item : Item) → ((x : Bor (List ℕ)) → item ≡ Array x → ⊥) → ((x : Bor (List ℕ)) → item ≡ Object x → ⊥) → item_kind item ≢ 5

@@ -1,5 +1,5 @@
 -- How long the contents of trees are, and which trees exceed the limits if a child or a prefix of them does; keys of documents.
-use Rattle.jsonb_doc.proofs.Common.{◌≡◌, ℕ, ◌+◌, ◌*◌, ◌≤◌, List, [], ◌∷◌, length, refl, ap, ◌∙◌, arith, Some, None, inl, inr, true, false, ℤ, pos, Bool, ◌⊎◌, ◌==◌, if◌then◌else◌, slice_index, w64, w128, big_number, length-append, nat_tests, then_some, Variant, int64, uint64, decimal64, decimal128, number_from, zero_number, Extension, Tree, null, boolean, number, text, extension, array, object, Trees, no_trees, tree, Pairs, no_pairs, pair, count, keys, values, Form, any, canonical, NumberReader, number_reader, is_width, signed, fixed, number_of, array_header, object_header, BeginWith, IsContainer, AreMembers, IsContent, AreEntries, AreValues, key_bytes, content, words, contents, value_words, value_contents, widest_number, content_size, elements_size, values_size, ◌++◌, members, trees_of, AreKeys, Decodes, keys_of, IsShort, HasShortParts, HasShortElements, IsWithinLimits, IsTooLarge}
+use Rattle.jsonb_doc.proofs.Common.{◌≡◌, ℕ, ◌+◌, ◌*◌, ◌≤◌, List, [], ◌∷◌, length, refl, ap, ◌∙◌, arith, Some, None, inl, inr, true, false, ℤ, pos, Bool, ◌⊎◌, ◌==◌, if◌then◌else◌, slice_index, w64, w128, big_number, length-append, nat_tests, then_some, Variant, int64, uint64, decimal64, decimal128, number_from, zero_number, Extension, Tree, null, boolean, number, text, extension, array, object, Trees, no_trees, tree, Pairs, no_pairs, pair, count, keys, values, Form, any, canonical, NumberReader, number_reader, is_width, signed, fixed, number_of, array_header, object_header, BeginWith, IsContainer, AreMembers, IsContent, AreEntries, AreValues, key_bytes, content, words, contents, value_words, value_contents, widest_number, content_size, elements_size, values_size, ◌++◌, members, trees_of, AreKeys, Decodes, keys_of, HasShortElements, IsWithinLimits, IsTooLarge}
 use Rattle.jsonb_doc.proofs.ScalarLemmas.{some_injective}
 use Rattle.jsonb_doc.specs.Number.{Number}
 use Rattle.jsonb_doc.proofs.Entries.{canonical_payload}
@@ -74,13 +74,6 @@ length-value_words : (ps : Pairs) → length (value_words ps) ≡ 4 * length (ke
 length-value_words no_pairs = refl
 length-value_words (pair key t ps) = omega (arith, length-value_words ps)
 
-pub length-canonical_array : (ts : Trees) → length (content (array ts)) ≡ 4 + (4 * count ts + length (contents ts))
-length-canonical_array ts = omega (arith, length-append (words ts) (contents ts), length-canonical_words ts)
-
-pub length-canonical_object : (ps : Pairs)
-    → length (content (object ps)) ≡ 4 + (8 * length (keys ps) + (length (key_bytes (keys ps)) + length (value_contents ps)))
-length-canonical_object ps = grind (arith, length-append, length-key_words, length-value_words)
-
 -- the contents of the first and of the others make the whole
 pub length-contents : (words contents : List ℕ) (kind : ℕ) (content other_words other_contents : List ℕ)
     → BeginWith words contents kind content other_words other_contents → length contents ≡ length content + length other_contents
@@ -111,8 +104,8 @@ mutual
 mutual
   -- a canonical content is as long as stated
   pub length-content : (t : Tree) → length (content t) ≡ content_size canonical t
-  length-content (array ts) = omega (arith, length-canonical_array ts, length-elements ts)
-  length-content (object ps) = omega (arith, length-canonical_object ps, length-values ps)
+  length-content (array ts) = omega (arith, length-append (words ts) (contents ts), length-canonical_words ts, length-elements ts)
+  length-content (object ps) = grind (arith, length-append, length-key_words, length-value_words, length-values ps)
   length-content null = refl
   length-content _ = refl
 
@@ -165,11 +158,8 @@ pub array_too_large-more : (form : Form) (ts us : List Tree) → IsTooLarge form
 array_too_large-more form ts us h = grind (arith, fewer_trees, short_front)
 
 -- a tree that fits in a container is within the limits
-short_part : (form : Form) (t : Tree) → IsShort form t → HasShortParts form t → IsWithinLimits form t
-short_part form t h e = grind arith
-
 short_middle : (form : Form) (ts us : List Tree) (t : Tree) → HasShortElements form (trees_of (ts ++ t ∷ us)) → IsWithinLimits form t
-short_middle form [] us t h = short_part form t h.0 h.1
+short_middle form [] us t h = grind (arith, h.0, h.1)
 short_middle form (v ∷ ts) us t h = short_middle form ts us t h.2
 
 -- an array exceeds the limits if an element does

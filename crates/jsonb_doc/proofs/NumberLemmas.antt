@@ -1,5 +1,5 @@
 -- Numbers: exact order by one scaling and by signs, and the integers at and near a number.
-use Rattle.jsonb_doc.proofs.Common.{◌≡◌, ℕ, suc, ◌-◌, ◌*◌, ◌^◌, ◌<◌, ◌≤◌, ℤ, pos, ◌*ℤ◌, sym, ap, ◌∙◌, arith, nat_cmp, Less, mul_assoc, int_lt, zero, mul_comm, pow-suc, mul-le-mul_left, one-le-pow, pow-add, nat_cmp_scaled, nat_cmp-lt, ◌≢◌, ◌+◌, ◌/◌, ◌%◌, inl, inr, Option, FitsSigned, MatchOption, div-add-mod', mul-pos, neg_ℤ, unsigned_abs, w64, add-mul-div_right, div-eq_of_lt, eq_of_mul-eq-mul_right, pow-le-pow_right, mod_below, cases_lt, nat_tests, with_sign, nearest}
+use Rattle.jsonb_doc.proofs.Common.{◌≡◌, ℕ, suc, ◌-◌, ◌*◌, ◌^◌, ◌<◌, ◌≤◌, ℤ, pos, ◌*ℤ◌, sym, ap, ◌∙◌, arith, nat_cmp, Less, mul_assoc, int_lt, zero, mul_comm, pow-suc, mul-le-mul_left, one-le-pow, pow-add, nat_cmp_scaled, nat_cmp-lt, ◌≢◌, ◌+◌, ◌/◌, ◌%◌, inl, inr, Option, FitsSigned, MatchOption, div-add-mod', neg_ℤ, unsigned_abs, w64, add-mul-div_right, eq_of_mul-eq-mul_right, pow-le-pow_right, cases_lt, nat_tests, with_sign, nearest}
 
 pub power_step : (b k : ℕ) → 0 < k → b * 10 * 10 ^ (k - 1) ≡ b * 10 ^ k
 power_step b zero h = absurd (omega arith)
@@ -25,12 +25,6 @@ pub by_rest : (n p : ℕ) → 0 < p → nearest n p ≡ (2 * (n % p) + p) / (2 *
 by_rest n p some =
     ap (λ x. x / (2 * p)) (omega (arith, div-add-mod' n p)) ∙ add-mul-div_right (2 * (n % p) + p) (n / p) (omega arith)
 
-pub rounded_up : (n p : ℕ) → 0 < p → p ≤ 2 * (n % p) → n / p + 1 ≡ nearest n p
-rounded_up n p some most = search (arith, mod_below n p some, by_rest n p some)
-
-pub rounded_to_zero : (n p : ℕ) → 2 * n < p → 0 ≡ nearest n p
-rounded_to_zero n p h = grind (arith, div-eq_of_lt)
-
 -- no power of ten is just past 128 bits
 pub past_128_bits : (s : ℕ) → 2 ^ 128 ≤ 10 ^ s → 2 ^ 128 < 10 ^ s
 past_128_bits s h = elim (cases_lt s 39) [
@@ -47,17 +41,13 @@ size_of z y p e = ap unsigned_abs e ∙ (grind arith)
 whole_is : (z : ℤ) (p q : ℕ) → unsigned_abs z ≡ q * p → z ≡ with_sign (int_lt z (pos 0)) q *ℤ pos p
 whole_is z p q h = grind (arith, nat_tests, neg_ℤ)
 
--- there is no other one
-whole_only : (z y : ℤ) (p q : ℕ) → 0 < p → unsigned_abs z ≡ q * p → z ≡ y *ℤ pos p → with_sign (int_lt z (pos 0)) q ≡ y
-whole_only z y p q h e k = grind (arith, eq_of_mul-eq-mul_right, size_of, nat_tests, mul-pos, neg_ℤ)
-
 -- the result of a conversion of the sign and the quotient
 pub as_signed : (z : ℤ) (p q : ℕ) (r : Option ℤ) → 0 < p → unsigned_abs z ≡ q * p
     → MatchOption r (FitsSigned w64 (with_sign (int_lt z (pos 0)) q) → ⊥) (λ y. with_sign (int_lt z (pos 0)) q ≡ y)
     → MatchOption r ((y : ℤ) → z ≡ y *ℤ pos p → FitsSigned w64 y → ⊥) (λ y. z ≡ y *ℤ pos p)
-as_signed z p q r h e k = grind (arith, whole_only, whole_is)
+as_signed z p q r h e k = grind (arith, eq_of_mul-eq-mul_right, size_of, nat_tests, neg_ℤ, whole_is)
 
 pub as_unsigned : (z : ℤ) (p q : ℕ) (r : Option ℕ) → 0 < p → unsigned_abs z ≡ q * p
     → MatchOption r ((m : ℕ) → with_sign (int_lt z (pos 0)) q ≡ pos m → m < 2 ^ 64 → ⊥) (λ m. with_sign (int_lt z (pos 0)) q ≡ pos m)
     → MatchOption r ((m : ℕ) → z ≡ pos m *ℤ pos p → m < 2 ^ 64 → ⊥) (λ m. z ≡ pos m *ℤ pos p)
-as_unsigned z p q r h e k = grind (arith, whole_only, whole_is)
+as_unsigned z p q r h e k = grind (arith, eq_of_mul-eq-mul_right, size_of, nat_tests, neg_ℤ, whole_is)

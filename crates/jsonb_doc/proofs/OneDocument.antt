@@ -1,5 +1,5 @@
 -- A tree has one canonical document.
-use Rattle.jsonb_doc.proofs.Common.{◌≡◌, ℕ, ◌∙◌, List, ◌++◌, length, ap, ap₂, arith, true, false, inl, inr, append-nil, AreBytes, Tree, null, boolean, number, text, extension, array, object, Trees, no_trees, tree, Pairs, no_pairs, pair, count, keys, canonical, number_reader, header, entry_word, scalar_header, array_header, object_header, key_words, key_bytes, IsContent, AreEntries, AreValues, Decodes, IsDocument, kind_of, content, words, contents, value_words, value_contents, scalar_document, document}
+use Rattle.jsonb_doc.proofs.Common.{◌≡◌, ℕ, ◌∙◌, List, ◌++◌, length, ap, ap₂, arith, true, false, inl, inr, append-nil, AreBytes, Tree, null, boolean, number, text, extension, array, object, Trees, no_trees, tree, Pairs, no_pairs, pair, count, keys, canonical, number_reader, header, entry_word, scalar_header, array_header, object_header, key_words, key_bytes, IsContent, AreEntries, AreValues, Decodes, IsDocument, kind_of, content, words, contents, value_words, value_contents, document}
 use Rattle.jsonb_doc.proofs.Entries.{canonical_payload}
 use Rattle.jsonb_doc.proofs.DecodedFits.{headed_bytes, joined_bytes}
 
@@ -51,10 +51,7 @@ mutual
             ∙ ap₂ (λ bytes cs. bytes ++ cs) first.1 others.1,
       )
 
--- the document of a tree that is not a container
-document_of_scalar : (t : Tree) (kind : ℕ) (bytes : List ℕ) → (kind ≡ 5 → ⊥) → IsContent (number_reader canonical) t kind bytes → scalar_document t ≡ document t
-document_of_scalar t kind bytes h e = grind arith
-
+-- canonical bytes are the document of their tree
 canonical_bytes : (bytes : List ℕ) (t : Tree) → AreBytes bytes → IsDocument (number_reader canonical) t bytes → bytes ≡ document t
 canonical_bytes bytes t all (inl h) = grind (arith, canonical_content)
 canonical_bytes bytes t all (inr c) =
@@ -66,7 +63,7 @@ canonical_bytes bytes t all (inr c) =
     ∙ ap₂ (λ front ws. front ++ ws) (ap₂ (λ kind bytes. entry_word kind (length bytes)) same.0 same.1) e.others.0
     ∙ append-nil (entry_word (kind_of t) (length (content t))) in
     let last : c.contents ≡ content t = b.contents_joined ∙ ap₂ (λ front cs. front ++ cs) same.1 e.others.1 ∙ append-nil (content t) in
-    c.headed.joined ∙ ap₂ (λ ws cs. header scalar_header 0 ++ (ws ++ cs)) word last ∙ document_of_scalar t e.kind e.content e.part.0 e.part.1
+    c.headed.joined ∙ ap₂ (λ ws cs. header scalar_header 0 ++ (ws ++ cs)) word last ∙ (grind (arith, e.part.0, e.part.1))
 
 pub one_canonical_document : (bytes : List ℕ) (t : Tree) → AreBytes bytes → Decodes canonical bytes t → bytes ≡ document t
 one_canonical_document bytes t all d = canonical_bytes bytes t all d.document

@@ -62,10 +62,6 @@ pub IsPairsOf-refused : (form : Form) (t : Tree) (p : ObjectParts) → Holds (nu
     → ((f : Form) (ps : Pairs) → HasPairParts (number_reader f) ps p → ⊥) → ⊥
 IsPairsOf-refused form t p h e = grind arith
 
-pub IsKeysOf-some : (form : Form) (t : Tree) (it : KeyIter) (p : ObjectParts) → it.key_words.now ≡ p.key_words.now → it.key_bytes.now ≡ p.contents.now
-    → Holds (number_reader form) t (Object p) → IsKeysOf t (Some it)
-IsKeysOf-some form t it p h e k = grind arith
-
 pub IsValuesOf-some : (form : Form) (t : Tree) (it : ValueIter) (p : ObjectParts) → it.elements.entries.words.now ≡ p.value_words.now
     → SkipsKeys p it.elements.entries.contents.now → Holds (number_reader form) t (Object p) → IsValuesOf form t (Some it)
 IsValuesOf-some form (object ps) it p words skips held =

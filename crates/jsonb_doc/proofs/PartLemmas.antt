@@ -1,18 +1,15 @@
 -- The nodes of a value, as they are dropped one by one.
-use Rattle.jsonb_doc.proofs.Common.{◌≡◌, ℕ, ◌+◌, ◌*◌, ◌<◌, ◌≤◌, List, [], ◌∷◌, ◌++◌, Option, None, Some, IfSome, length, drop, String, Vec, BTreeMap, Global, Ordering, Less, Equal, Greater, string_cmp, ap, arith, cond, insert_entry, is_at, keys_of, lookup, is_eq, match_ordering, mul-le, Tree, number_view, tree_parts, parts, values_parts, entries_parts, waiting_parts, to_release, remaining, Value, Remaining}
+use Rattle.jsonb_doc.proofs.Common.{◌≡◌, ℕ, ◌+◌, ◌*◌, ◌<◌, ◌≤◌, List, [], ◌∷◌, ◌++◌, Option, None, Some, length, drop, String, Vec, BTreeMap, Global, Ordering, Less, Equal, Greater, string_cmp, ap, arith, cond, insert_entry, is_at, keys_of, lookup, is_eq, match_ordering, mul-le, Tree, number_view, tree_parts, parts, values_parts, entries_parts, to_release, remaining, Value, Remaining}
 use Rattle.jsonb_doc.specs.declared.value.Value.{Array, Object}
 use Rattle.jsonb_doc.proofs.ValueTrees.{Entry, tree_seen-Array, tree_seen-Object}
 
 -- ---- the measure
 
-square_more : (a : ℕ) → (a + 1) * (a + 1) ≡ a * a + a + a + 1
-square_more a = grind arith
-
 pub fewer_parts : (n w n' w' : ℕ) → n' + w' < n + w → to_release n' w' < to_release n w
 unfolding to_release
 fewer_parts n w n' w' less =
     let squares = mul-le (n' + w' + 1) (n' + w' + 1) (n + w) (n + w) (omega arith) (omega arith) in
-    let more = square_more (n' + w') in
+    let more : ((n' + w') + 1) * ((n' + w') + 1) ≡ (n' + w') * (n' + w') + (n' + w') + (n' + w') + 1 = grind arith in
     omega arith
 
 pub fewer_in_front : (n w n' w' : ℕ) → n' + w' ≤ n + w → n' < n → to_release n' w' < to_release n w
@@ -46,10 +43,6 @@ values_parts-last (w ∷ vs) v = let rest = values_parts-last vs v in omega arit
 pub entries_parts-last : (es : List Entry) (e : Entry) → entries_parts (es ++ e ∷ []) ≡ entries_parts es + parts e.1
 entries_parts-last [] e = omega arith
 entries_parts-last (f ∷ es) e = let rest = entries_parts-last es e in omega arith
-
--- what waits is the container, or nothing
-pub waiting_parts-container : (waiting : Option Value) (v : Value) → IfSome waiting (λ inner. inner ≡ v) → waiting_parts waiting ≤ parts v
-waiting_parts-container waiting v h = grind arith
 
 -- the value w in place of v
 abbrev Exchanges : List Entry → List Entry → Value → Value → Type 0

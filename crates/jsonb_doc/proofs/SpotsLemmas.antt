@@ -1,6 +1,5 @@
 -- Spots of children within the content of a spot, by the type of the item, and by their positions.
-use Rattle.jsonb_doc.proofs.Common.{◌≡◌, ◌≢◌, ℕ, zero, suc, ◌+◌, ◌-◌, ◌*◌, ◌/◌, ◌^◌, ◌<◌, ◌≤◌, List, [], ◌∷◌, ◌++◌, length, take, drop, refl, sym, ap, ◌∙◌, arith, inl, Some, None, Ok, append_assoc, length-append, length-take-le, drop_at, drop-take, drop-drop, take-append-drop, append-nil, take-add, between_to_end, ◌==◌, is_some, slice_range, Tree, array, object, Trees, tree, trees_of, elements, values, keys, children_of, field_of, NumberReader, Form, any, number_reader, number_of, Decodes, header, entry_word, BeginWith, IsContent, IsDocument, AreEntries, key_bytes, SameOption, StandBefore, StartWith, IsCut, Holds, TakesSpot, Locates, spot_content, HasSpotsLeft, PassesSpot, kind_number, Spot, SpotIter, StoredEntry, ArrayParts, ObjectParts, Array, Object, common_steps, Scalar, trees_in, pairs_in, map, Result, Err, text, no_trees, count, no_pairs, pair, GivesSpot, AreAt, HasChildrenLeft, TakesChild, HasPairParts, key_trees, ChildPositions, EntryPositions, Error}
-use Rattle.std.proofs.lemmas.List.{length-drop}
+use Rattle.jsonb_doc.proofs.Common.{◌≡◌, ◌≢◌, ℕ, zero, suc, ◌+◌, ◌-◌, ◌*◌, ◌/◌, ◌^◌, ◌<◌, ◌≤◌, List, [], ◌∷◌, ◌++◌, length, take, drop, refl, sym, ap, ◌∙◌, arith, inl, Some, None, Ok, append_assoc, length-append, length-take-le, drop_at, drop-take, drop-drop, take-append-drop, append-nil, take-add, between_to_end, ◌==◌, is_some, slice_range, Tree, array, object, Trees, tree, trees_of, elements, values, keys, children_of, field_of, NumberReader, Form, any, number_reader, number_of, Decodes, header, entry_word, BeginWith, IsContent, IsDocument, AreEntries, key_bytes, SameOption, StandBefore, StartWith, IsCut, Holds, TakesSpot, Locates, spot_content, HasSpotsLeft, PassesSpot, kind_number, Spot, SpotIter, StoredEntry, ArrayParts, ObjectParts, Array, Object, common_steps, Scalar, trees_in, pairs_in, map, Result, text, no_trees, count, no_pairs, pair, GivesSpot, AreAt, HasChildrenLeft, TakesChild, HasPairParts, key_trees, ChildPositions, EntryPositions, Error, length-drop}
 use Rattle.jsonb_doc.proofs.KindLemmas.{kind_known}
 use Rattle.jsonb_doc.proofs.WordLemmas.{append_cancel, word_cancel}
 use Rattle.jsonb_doc.proofs.Entries.{BeginWith-long, BeginWith-room, BeginWith-unique, StandBefore-joined}
@@ -67,8 +66,7 @@ StartWith-begin words contents others kind len h e = grind (arith, length-take-l
 -- the word of the first entry determines how long it is
 pub StartWith-length : (words contents others : List ℕ) (kind len : ℕ) (k : ℕ) (content ws cs : List ℕ) → StartWith words kind len others
     → BeginWith words contents k content ws cs → len ≤ length contents
-StartWith-length words contents others kind len k content ws cs w b =
-    search (arith, w.known, w.fits, b.known, b.fits, BeginWith-room words contents k content ws cs b)
+StartWith-length words contents others kind len k content ws cs w b = grind (arith, common_steps, BeginWith-room)
 
 first_part : (number_at : NumberReader) (t : Tree) (ts : Trees) (words contents : List ℕ) (kind : ℕ) (content ws cs : List ℕ)
     → BeginWith words contents kind content ws cs → AreEntries number_at (tree t ts) words contents
@@ -338,15 +336,6 @@ module _ (bytes : List ℕ) (parent : Spot) (t : Tree) (m : Locates bytes parent
     pub object_skipped : ((parts : List (List ℕ)) (rest : List ℕ) → StandBefore parts p.key_words.now p.contents.now rest → ⊥) → ⊥
     object_skipped none = Holds-skipped any p none t (object_held any m.whole m.decodes)
 
--- an item without children has neither elements nor values
-pub no_elements : (bytes : List ℕ) (t : Tree) → children_of t ≡ None
-    → SameOption (λ it ts. HasSpotsLeft bytes it (elements ts)) None (trees_in t)
-no_elements bytes t h = grind arith
-
-pub no_values : (bytes : List ℕ) (t : Tree) → children_of t ≡ None
-    → SameOption (λ it ps. HasSpotsLeft bytes it (elements (values ps))) None (pairs_in t)
-no_values bytes t h = grind arith
-
 module _ (bytes : List ℕ) (parent : Spot) (t : Tree) (m : Locates bytes parent t) (content : List ℕ) (is : content ≡ spot_content bytes parent)
     (container : kind_number parent.kind ≡ 5) where
   module _ (p : ArrayParts) (cut : IsCut content (Array p)) where
@@ -409,10 +398,6 @@ pub first_read : (bytes : List ℕ) (t : Tree) (ts : List Tree) (it : SpotIter) 
 first_read bytes t ts it r spot after g is h =
     let taken : TakesSpot bytes (t ∷ ts) (Some (Ok spot)) after = rw is at (g.takes bytes (t ∷ ts) h) in
     record { passes = rw is at g.any_bytes.reads; marks = taken.0; rest = taken.1 }
-
-pub first_not_read : (bytes : List ℕ) (t : Tree) (ts : List Tree) (it : SpotIter) (r : Result Spot Error) (e : Error) (after : SpotIter)
-    → GivesSpot it (Some r) after → r ≡ Err e → HasSpotsLeft bytes it (t ∷ ts) → ⊥
-first_not_read bytes t ts it r e after g is h = rw is at (g.takes bytes (t ∷ ts) h)
 
 -- ---- a first child
 

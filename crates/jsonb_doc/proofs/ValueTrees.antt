@@ -41,9 +41,6 @@ abbrev pub around_parts : List Open → ℕ
 around_parts [] = 0
 around_parts (o ∷ around) = 1 + 2 * left_parts o + around_parts around
 
-innermost : (around around' : List Open) (o : Open) → around' ≡ around ++ o ∷ [] → reverse around' ≡ o ∷ reverse around
-innermost around around' o e = ap reverse e ∙ reverse-append around (o ∷ [])
-
 module _ (seen : Number → spec.Number) where
   -- the tree with these containers around it, the innermost first
   abbrev pub tree_within : List Open → Tree → Tree
@@ -52,7 +49,7 @@ module _ (seen : Number → spec.Number) where
 
   pub tree_within-with : (around around' : List Open) (o : Open) (t : Tree) → around' ≡ around ++ o ∷ []
       → tree_within (reverse around') t ≡ tree_within (reverse around) (with_part seen o t)
-  tree_within-with around around' o t e = ap (λ (os : List Open). tree_within os t) (innermost around around' o e)
+  tree_within-with around around' o t e = ap (λ (os : List Open). tree_within os t) (ap reverse e ∙ reverse-append around (o ∷ []))
 
   -- one value more is copied
   pub value_copied : (vs vs' : List Value) (v : Value) (t : Tree) (more : List Tree) → vs' ≡ vs ++ v ∷ [] → tree_seen seen v ≡ t

@@ -23,10 +23,7 @@ shrunk m b c i r s j pos fewer less inner few =
     let more : (i + 2) * m ^ j ≤ m * m ^ j = mul-le-mul_right (m ^ j) few in
     let up : m ^ (j + 1) ≤ m ^ r = pow-le-pow_right pos (omega arith) in
     let one : 1 ≤ m ^ j = power_pos m j pos in
-    summed (m ^ j) (m ^ s) (m ^ r) m i b c (mul-le (c + 1) (m ^ s) b (m ^ r) (omega arith) (pow-le-pow_right pos less)) more (rw (pow_more m j) at up) one
-  where
-    summed : (x y z m i b c : ℕ) → (c + 1) * y ≤ b * z → (i + 2) * x ≤ m * x → x * m ≤ z → 1 ≤ x → (i + 1) * x + (c + 1) * y < (b + 1) * z
-    summed x y z m i b c left more up one = grind (arith, left, more, up, one)
+    (grind (arith, mul-le (c + 1) (m ^ s) b (m ^ r) (omega arith) (pow-le-pow_right pos less), more, rw (pow_more m j) at up, one))
 
 -- a level that yields at most `bound` items, each smaller than `room`
 unfoldable pub weight_of : (bound room : ℕ) → ℕ

@@ -1,9 +1,8 @@
 -- Entries as they are stored: the first one, and the first `n` of them; containers that are being written: begun, gone on with, closed.
-use Rattle.jsonb_doc.proofs.Common.{◌≡◌, ◌≢◌, ℕ, zero, suc, min, ◌*◌, ◌-◌, List, [], ◌∷◌, ◌++◌, length, take, drop, Some, ap, ◌∙◌, arith, append_assoc, ◌≤◌, length-append, take_at, drop_at, take_all, Tree, trees_of, NumberReader, Form, number_reader, AreEntries, BeginWith, entry_word, kind_number, Entries, StoredEntry, HoldTrees, TakesFirst, StandBefore, inl, ◌+◌, ◌^◌, ◌<◌, map, refl, sym, subst, replicate, values_of, length-take, take-append-drop, text, pairs_of, tree, no_trees, Decodes, IsContent, AreValues, AreKeys, header, key_words, key_bytes, container_entry, header_number, HeaderKind, OpenContainer, RunsHold, words_of_runs, contents_of_runs, Make, AreSortedKeys, IsOpen, length-values_of, length-keys_of, common_steps, append-nil}
+use Rattle.jsonb_doc.proofs.Common.{◌≡◌, ◌≢◌, ℕ, zero, suc, min, ◌*◌, ◌-◌, List, [], ◌∷◌, ◌++◌, length, take, drop, Some, ap, ◌∙◌, arith, append_assoc, ◌≤◌, length-append, take_at, drop_at, Tree, trees_of, NumberReader, Form, number_reader, AreEntries, BeginWith, entry_word, kind_number, Entries, StoredEntry, HoldTrees, TakesFirst, StandBefore, inl, ◌+◌, ◌^◌, ◌<◌, map, refl, sym, subst, values_of, length-take, take-append-drop, text, pairs_of, tree, no_trees, Decodes, IsContent, AreValues, AreKeys, header, key_words, key_bytes, container_entry, header_number, HeaderKind, OpenContainer, RunsHold, words_of_runs, contents_of_runs, Make, AreSortedKeys, IsOpen, length-values_of, length-keys_of, common_steps, append-nil, length-drop}
 use Rattle.jsonb_doc.proofs.Entries.{BeginWith-unique, kind_below}
 use Rattle.jsonb_doc.proofs.Containers.{length-words}
 use Rattle.jsonb_doc.proofs.TreeLists.{count-trees_of, keys-pairs_of}
-use Rattle.std.proofs.lemmas.List.{length-drop}
 use Rattle.jsonb_doc.specs.declared.layout.HeaderKind.TheVariants.{Object}
 use Rattle.jsonb_doc.specs.Private.Writer.{AreAround}
 use Rattle.jsonb_doc.proofs.Basics.{many_keys}
@@ -103,14 +102,7 @@ one_entry number_at t kind content h e = grind (arith, kind_below, append-nil)
 pub entries_object : (kind : HeaderKind) (n : ℕ) (ts : List Tree) (t : Tree) → kind ≡ Object → Make kind n ts t → 2 * n ≡ length ts
 entries_object kind n ts t h e = grind (arith, length-append, values_of, many_keys, length-values_of)
 
-pub entries_array : (kind : HeaderKind) (n : ℕ) (ts : List Tree) (t : Tree) → (kind ≡ Object → ⊥) → Make kind n ts t → n ≡ length ts
-entries_array kind n ts t h e = grind arith
-
--- bytes that are filled up
-pub filled_up : (one : List ℕ) (word len n : ℕ) → word ≡ length one → len ≡ word
-    → take (word + n) one ++ replicate (word + n - len) 0 ≡ one ++ replicate n 0
-filled_up one word len n h e = grind (arith, take_all)
-
+-- a container that is opened
 pub opened : (form : Form) (kind : HeaderKind) (n : ℕ) (ts : List Tree) (t : Tree) (before one out : List ℕ) (at : OpenContainer) (zeros : List ℕ)
     → Make kind n ts t → n < 2 ^ 29 → at.start ≡ length before → at.word ≡ length one → one ≡ before ++ header (header_number kind) n → out ≡ one ++ zeros
     → length zeros ≡ 4 * length ts
@@ -156,11 +148,8 @@ splice before head words room contents added new old after word four at fits is 
 
 module _ (form : Form) (before out : List ℕ) (at : OpenContainer) (ts coming : List Tree) (t : Tree) (o : IsOpen form before out at (ts ++ coming) t)
     (new added : List ℕ) (are : AreEntries (number_reader form) (trees_of ts) new added) where
-  new_count : length new ≡ 4 * length ts
-  new_count = omega (arith, length-words (number_reader form) (trees_of ts) new added are, count-trees_of ts)
-
   new_fits : length new ≤ length o.room
-  new_fits = let room = o.room_is in omega (arith, new_count, room, length-append ts coming)
+  new_fits = let room = o.room_is in omega (arith, length-words, count-trees_of, room, length-append ts coming)
 
   -- there is room for the words
   pub room_there : (old : List ℕ) → old ≡ out ++ added → at.word + length new ≤ length old
@@ -182,7 +171,7 @@ module _ (form : Form) (before out : List ℕ) (at : OpenContainer) (ts coming :
         word_is = omega (arith, word, o.word_is, length-append o.words new);
         joined = splice before (header (header_number o.kind) o.total) o.words o.room o.contents added new old after at.word refl o.word_is new_fits
             (is ∙ ap (λ (l : List ℕ). l ++ added) o.joined) set;
-        room_is = omega (arith, length-drop (length new) o.room, new_count, o.room_is, length-append ts coming);
+        room_is = omega (arith, length-drop (length new) o.room, length-words, count-trees_of, o.room_is, length-append ts coming);
         held = entries_append (number_reader form) o.made ts o.words o.contents new added o.held are;
         makes = subst (λ (us : List Tree). Make o.kind o.total us t) (sym (append_assoc o.made ts coming)) o.makes;
       }

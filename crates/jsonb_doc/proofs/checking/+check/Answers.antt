@@ -1,4 +1,4 @@
-use Rattle.jsonb_doc.proofs.Lemmas.{rules, ◌≡◌, ◌≢◌, ℕ, ◌+◌, ◌<◌, arith, nat_eq, if◌then◌else◌, sym, ap, ◌∙◌, length, Some, None, ◌↔◌, option_copied, false≢true, nat_tests, nil_from_length, length-append, common_steps, NumberReader, number_or_unsupported, HasContent, HasEntries, HasLarge, kind_number, Container, HasEntries-nil, HasEntries-empty, HasEntries-stop, HasEntries-step, has_content_lenient, halvings-more, halvings-fewer, Leaves-along, Leaves-entries, Leaves-good, Leaves-unsupported, IsValidationError-other, IsApart-within, IsApart-less, IsApart-one, IsApart-large, same_kind, other_kind}
+use Rattle.jsonb_doc.proofs.Lemmas.{rules, ◌≡◌, ◌+◌, arith, sym, ap, ◌∙◌, length, Some, None, ◌↔◌, option_copied, false≢true, nat_tests, nil_from_length, length-append, common_steps, NumberReader, number_or_unsupported, HasContent, HasEntries, HasLarge, kind_number, Container, HasEntries-nil, HasEntries-empty, HasEntries-stop, HasEntries-step, has_content_lenient, halvings-more, halvings-fewer, Leaves-along, Leaves-entries, Leaves-good, Leaves-unsupported, IsValidationError-other, IsApart-within, IsApart-less, IsApart-one, same_kind, other_kind}
 use Rattle.jsonb_doc.proofs.checking.+check.Goals.{check_entries-then-eq+then-entry-half, check_entries-else-eq+in-Ok, check_entries-else-eq+in-Err+in-UnsupportedNumber}
 use Rattle.jsonb_doc.proofs.checking.+check.Goals as goal
 
@@ -34,11 +34,8 @@ check_entries-returns-in_default t c = λ h.
     HasEntries-stop number_or_unsupported _ _ (grind (arith, common_steps)) c.in_default.ensures (c.loop-words_left.invariant.left.lenient.0 h).1
 
 -- what is not a container makes no more calls
-other_below : (kind calls t : ℕ) → kind ≢ 5 → 0 < t → (if nat_eq kind 5 then calls else 0) < t
-other_below kind calls t other some = grind (arith, nat_tests)
-
 pub check_entries-check_content-requires : goal.check_entries-check_content-requires
-check_entries-check_content-requires c = grind (arith, halvings-fewer, same_kind, other_below, other_kind)
+check_entries-check_content-requires c = grind (arith, halvings-fewer, same_kind, nat_tests, other_kind)
 
 pub check_entries-returns-in_default-error : goal.check_entries-returns-in_default-error
 check_entries-returns-in_default-error t c = λ h.
@@ -88,4 +85,4 @@ check_entries-returns-then-not-is_empty t c = λ h.
     grind (arith, common_steps)
 
 pub check_entries-returns : goal.check_entries-returns
-check_entries-returns t c = grind (arith, common_steps, IsApart-large, Leaves-along, HasEntries-nil)
+check_entries-returns t c = grind (arith, common_steps, Leaves-along, HasEntries-nil)

@@ -1,4 +1,4 @@
-use Rattle.jsonb_doc.proofs.Lemmas.{rules, arith, refl, HeadedBy-unique, HasDocument-headed, document_scalar, array_long, object_long}
+use Rattle.jsonb_doc.proofs.Lemmas.{arith, refl, HasDocument-headed, document_scalar, array_long, object_long}
 use Rattle.jsonb_doc.proofs.container.read_container.Goals.{in_default-kind-via-in_default-kind, in_default-kind-via-in-Array+else-len-rest, in_default-kind-via-in-Object+else-len-rest-2}
 use Rattle.jsonb_doc.proofs.container.read_container.Goals as goal
 

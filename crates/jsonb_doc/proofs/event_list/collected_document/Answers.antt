@@ -1,4 +1,3 @@
-use Rattle.jsonb_doc.proofs.Lemmas.{rules, plain_stands}
 use Rattle.jsonb_doc.proofs.event_list.collected_document.Goals as goal
 
 pub returns-in-Text : goal.returns-in-Text

@@ -1,5 +1,4 @@
-use Rattle.jsonb_doc.proofs.Lemmas.{rules, ◌≡◌, ◌≢◌, ◌≤◌, ◌+◌, ◌*◌, ◌<◌, List, ℕ, [], length, take, drop, slice_index_or, sym, ap, ◌∙◌, arith, inl, inr, take_rest, first_chunks, told, KeysLeft-start, KeysLeft-end, chunk_at, key_cut, key_within, key_differs, key_passed, key_found, is_other, block_searched}
-use Rattle.jsonb_doc.proofs.Common.{length-drop}
+use Rattle.jsonb_doc.proofs.Lemmas.{◌≡◌, ◌≢◌, ◌≤◌, ◌+◌, ◌*◌, ◌<◌, List, ℕ, [], length, take, drop, slice_index_or, sym, ap, ◌∙◌, arith, inl, inr, take_rest, first_chunks, told, KeysLeft-end, chunk_at, key_cut, key_within, key_differs, key_passed, key_found, is_other, block_searched, length-drop}
 use Rattle.jsonb_doc.proofs.key_search.find_in_block.Goals.{then-len-name+in-Some+else-bytes_equal, else-len-name}
 use Rattle.jsonb_doc.proofs.key_search.find_in_block.Goals as goal
 

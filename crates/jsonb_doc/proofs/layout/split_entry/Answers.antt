@@ -1,4 +1,4 @@
-use Rattle.jsonb_doc.proofs.Lemmas.{rules, arith, common_steps, StartWith-begin, StartWith-length}
+use Rattle.jsonb_doc.proofs.Lemmas.{arith, common_steps, StartWith-length}
 use Rattle.jsonb_doc.proofs.layout.split_entry.Goals as goal
 
 pub returns-then-contents-len : goal.returns-then-contents-len

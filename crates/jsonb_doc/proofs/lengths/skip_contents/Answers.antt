@@ -1,4 +1,4 @@
-use Rattle.jsonb_doc.proofs.Lemmas.{rules, arith, common_steps, nothing_before, StandBefore-joined, IsPart-some, IsPart-end, IsPart-size}
+use Rattle.jsonb_doc.proofs.Lemmas.{arith, common_steps, StandBefore-joined, IsPart-some, IsPart-end, IsPart-size}
 use Rattle.jsonb_doc.proofs.lengths.skip_contents.Goals as goal
 
 pub returns-clause-rest : goal.returns-clause-rest

@@ -1,4 +1,4 @@
-use Rattle.jsonb_doc.proofs.Lemmas.{rules, ◌≡◌, ◌+◌, arith, ap, length, sym, ◌∙◌, option_copied, length-append, number_reader, parts_of, Container, halvings-more, halvings-fewer, IsApart-within, IsApart-less, IsApart-one, max_of, no_parts, scalar_parts, container_decodes, AreDeep-large, AreDeep-whole, EntriesLeft-none, EntriesLeft-next, EntriesLeft-aside, same_kind, other_kind}
+use Rattle.jsonb_doc.proofs.Lemmas.{rules, ◌≡◌, ◌+◌, arith, ap, length, sym, ◌∙◌, option_copied, length-append, parts_of, Container, halvings-more, halvings-fewer, IsApart-within, IsApart-less, IsApart-one, max_of, no_parts, container_decodes, AreDeep-large, AreDeep-whole, EntriesLeft-none, EntriesLeft-next, EntriesLeft-aside, same_kind, other_kind}
 use Rattle.jsonb_doc.proofs.nesting.+depth.Goals.{entries_depth-then-eq+then-entry-half, entries_depth-then-eq+else-entry-half, entries_depth-else-eq, document_depth-in-Some+in_default-large, document_depth-in_default}
 use Rattle.jsonb_doc.proofs.nesting.+depth.Goals as goal
 
@@ -67,7 +67,7 @@ entries_depth-loop-entry-preserved t c =
           })
       | entries_depth-else-eq w ↦ rw (greatest, w.within-is, w.large-is) (record {
         left = λ form ts h. EntriesLeft-next form ts _ _ _ _ _ _ _ _ b (inv.left form ts h) 0
-            (λ tree k. sym (no_parts tree (scalar_parts (number_reader form) tree _ _ (other_kind _ _ Container c.eq.ensures w.if-eq.false) k)));
+            (λ tree k. sym (no_parts tree (grind (arith, other_kind _ _ Container c.eq.ensures w.if-eq.false))));
         apart = IsApart-less large _ others _ (omega (arith, len)) inv.apart;
         bound = omega arith;
       })

@@ -1,4 +1,4 @@
-use Rattle.jsonb_doc.proofs.Lemmas.{arith, [], ◌∷◌, ◌++◌, w32, w64, to_z-of_z, fixed_bytes, common_steps, grown, grown_ok, stays_err}
+use Rattle.jsonb_doc.proofs.Lemmas.{[], ◌∷◌, ◌++◌, w32, w64, to_z-of_z, fixed_bytes, grown, grown_ok}
 use Rattle.jsonb_doc.proofs.payload.push_interval.Goals as goal
 
 pub returns-clause-pushed : goal.returns-clause-pushed

@@ -1,4 +1,4 @@
-use Rattle.jsonb_doc.proofs.Lemmas.{length-heads_after, nat_lt, get_or_past, ltb-false, rules, ◌≡◌, ◌<◌, ◌++◌, ◌∷◌, ℕ, List, length, arith, sym, ap, ◌∙◌, append_assoc, All, All-append, all_heads, stacked, joined, earlier, stack_steps, earlier_below, within_popped}
+use Rattle.jsonb_doc.proofs.Lemmas.{◌≡◌, ◌<◌, ◌++◌, ◌∷◌, ℕ, List, length, arith, sym, ap, ◌∙◌, append_assoc, All, All-append, all_heads, stacked, joined, earlier, stack_steps, earlier_below, within_popped}
 use Rattle.jsonb_doc.proofs.pieces.joined_pieces.Goals as goal
 
 pub loop-index-preserved : goal.loop-index-preserved

@@ -1,4 +1,4 @@
-use Rattle.jsonb_doc.proofs.Lemmas.{◌≡◌, ◌∙◌, ◌++◌, ◌∷◌, [], length, refl, sym, subst, arith, true, Some, length-append, EntryParts, number_reader, IsContent, Decodes, kind_number, bytes_at, State, takes_value, filled, IsPieceOf, HoldsLevel, Piece, Root, content_stands, long_content, root_filled, level_stays, too_long, result_along, err_along, leads, value_taken, holds_more, lone_piece, lone_part, frame_of_root}
+use Rattle.jsonb_doc.proofs.Lemmas.{◌≡◌, ◌∙◌, ◌++◌, ◌∷◌, [], length, refl, sym, subst, arith, true, Some, length-append, EntryParts, number_reader, IsContent, Decodes, kind_number, bytes_at, State, takes_value, filled, IsPieceOf, HoldsLevel, Piece, Root, content_stands, long_content, root_filled, level_stays, too_long, result_along, err_along, leads, value_taken, holds_more, lone_piece, lone_part}
 use Rattle.jsonb_doc.proofs.document_builder.DocumentBuilder.value.Goals as goal
 
 pub returns-in-Root-clause-takes : goal.returns-in-Root-clause-takes
@@ -37,7 +37,7 @@ returns-clause-takes c = λ form s t h stands.
     leads form s after _ c.fill.result _ (value_taken s t takes)
     (result_along c.fill.result _ _ _ _
     (c.fill.ensures.filled form (ps ++ p ∷ []) s.inner t inner takes part
-    (λ is. absurd (frame_of_root form ps b.inner _ (rw is at h.inner) c.in_default.not-Root)))
+    (λ is. absurd (grind (arith, rw is at h.inner, c.in_default.not-Root))))
     (λ x held. holds_more form s b _ p (filled t s.inner) h c.in_ok-push-2.ensures.items refl held)
     (λ e failed. (holds_more form s b _ p s.inner h c.in_ok-push-2.ensures.items refl failed.0, failed.1)))
 

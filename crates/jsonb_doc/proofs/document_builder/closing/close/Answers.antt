@@ -1,10 +1,10 @@
-use Rattle.jsonb_doc.proofs.Lemmas.{object_closes, array_closes, arith, ◌≡◌, ◌∙◌, sym, true, is_none, is_none_from, array_fails, object_fails}
+use Rattle.jsonb_doc.proofs.Lemmas.{object_closes, array_closes, arith, ◌≡◌, ◌∙◌, sym, true, is_none, is_none_from, object_fails, AllZip-long, count-trees_of}
 use Rattle.jsonb_doc.proofs.document_builder.closing.close.Goals as goal
 
 pub returns-in_err-close_array-in-Array : goal.returns-in_err-close_array-in-Array
 returns-in_err-close_array-in-Array c = λ form ps level h.
     let why = c.in_err-close_array-in-Array.ensures in
-    array_fails form ps c.in-Array.entries level _ _ (rw c.in-Array.is at h) c.from_residual.ensures.1 (rw c.deref.ensures.value at why)
+    (grind (arith, count-trees_of, AllZip-long, rw c.in-Array.is at h, c.from_residual.ensures.1, rw c.deref.ensures.value at why))
 
 pub returns-in_ok-close_array-in-Array : goal.returns-in_ok-close_array-in-Array
 returns-in_ok-close_array-in-Array c = grind (arith, array_closes)

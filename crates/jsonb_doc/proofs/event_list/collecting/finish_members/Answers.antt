@@ -1,7 +1,7 @@
-use Rattle.jsonb_doc.proofs.Lemmas.{array_ends, object_ends, end_due, err_is, arith}
+use Rattle.jsonb_doc.proofs.Lemmas.{err_is, arith, refused_stays, stays_refused, due_along}
 use Rattle.jsonb_doc.proofs.event_list.collecting.finish_members.Goals as goal
 
 pub returns-in_err-push_members : goal.returns-in_err-push_members
 returns-in_err-push_members c = λ level h none.
     err_is _ _ _ _ c.from_residual.ensures.1
-    (end_due c.args.keep_last c.args.ended.now.items c.args.frame c.args.members.now level _ h none c.in_err-push_members.ensures)
+    (grind (arith, due_along, refused_stays, stays_refused, c.in_err-push_members.ensures))

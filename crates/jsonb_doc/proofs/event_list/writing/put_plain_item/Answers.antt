@@ -1,4 +1,4 @@
-use Rattle.jsonb_doc.proofs.Lemmas.{◌∷◌, refl, subst, Tree, IsWriting, not_too_large}
+use Rattle.jsonb_doc.proofs.Lemmas.{◌∷◌, refl, subst, Tree, IsWriting, arith, arith}
 use Rattle.jsonb_doc.proofs.event_list.writing.put_plain_item.Goals as goal
 
 pub returns-in-Null : goal.returns-in-Null
@@ -12,6 +12,5 @@ pub returns-in-Number : goal.returns-in-Number
 returns-in-Number c = record {
   put = λ form t coming around whole is w.
       let same = rw c.in-Number.is at is in
-      not_too_large (λ _. IsWriting form c.put_number.new.self coming around whole) form whole c.put_number.result
-      (c.put_number.ensures.put form coming around whole (subst (λ (u : Tree). IsWriting form c.args.writer.now (u ∷ coming) around whole) same w));
+      (grind (arith, c.put_number.ensures.put form coming around whole (subst (λ (u : Tree). IsWriting form c.args.writer.now (u ∷ coming) around whole) same w)));
 }

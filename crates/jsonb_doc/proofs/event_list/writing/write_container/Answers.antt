@@ -1,4 +1,4 @@
-use Rattle.jsonb_doc.proofs.Lemmas.{rules, ℕ, Vec, Global, [], ◌∷◌, arith, refl, ap, ◌∙◌, subst, nil_from_length, Decodes, IsOutOfMemoryOrTooLarge, Around, IsWriting, walk_falls_inward, walk_falls_outward, pushed, popped, none_around, only_ok, err_is}
+use Rattle.jsonb_doc.proofs.Lemmas.{ℕ, Vec, Global, [], ◌∷◌, arith, refl, ap, ◌∙◌, subst, nil_from_length, Decodes, IsOutOfMemoryOrTooLarge, Around, IsWriting, pushed, popped, none_around, only_ok, err_is}
 use Rattle.jsonb_doc.proofs.event_list.writing.write_container.Goals as goal
 
 pub walk-init : goal.walk-init

@@ -1,4 +1,4 @@
-use Rattle.jsonb_doc.proofs.Lemmas.{rules, refl, ap, ◌∙◌, entry_word, number_view, number, length-number_payload, content_stands, room_for_one, one_filled}
+use Rattle.jsonb_doc.proofs.Lemmas.{refl, ap, ◌∙◌, entry_word, number_view, number, length-number_payload, content_stands, room_for_one, one_filled}
 use Rattle.jsonb_doc.specs.declared.item.Item.TheVariants.{Number}
 use Rattle.jsonb_doc.proofs.rewriting.Writer.put_number.Goals as goal
 

@@ -1,8 +1,8 @@
-use Rattle.jsonb_doc.proofs.Lemmas.{any, number_reader, Container, Locates-scalar, Locates-document, Locates-no-scalar, object_skipped, object_values, array_no_values, no_values, differing_kind, equal_kind}
+use Rattle.jsonb_doc.proofs.Lemmas.{any, number_reader, Container, Locates-scalar, Locates-document, Locates-no-scalar, object_skipped, object_values, array_no_values, differing_kind, equal_kind, arith, arith}
 use Rattle.jsonb_doc.proofs.spot.content.value_spots.Goals as goal
 
 pub returns-then-ne-clause-spots : goal.returns-then-ne-clause-spots
-returns-then-ne-clause-spots c = λ t m. no_values c.args.bytes.now t (Locates-scalar _ _ t m (differing_kind _ _ Container c.ne.ensures c.if-ne.true)).0
+returns-then-ne-clause-spots c = λ t m. (grind (arith, (Locates-scalar _ _ t m (differing_kind _ _ Container c.ne.ensures c.if-ne.true)).0))
 
 pub returns-in_err-read_container-clause-spots : goal.returns-in_err-read_container-clause-spots
 returns-in_err-read_container-clause-spots c = λ t m.

@@ -1,4 +1,4 @@
-use Rattle.jsonb_doc.proofs.Lemmas.{arith, rules, common_steps, refl, ◌≡◌, ◌<◌, ◌≤◌, ◌+◌, ◌-◌, List, ℕ, Some, Err, Tree, HasSpotsLeft, IsDecodingError, Error, SpotIter, ReadsSpot, spots_room, GivesSpot, kind_known, HasSpotsLeft-empty, HasSpotsLeft-word, HasSpotsLeft-fits, HasSpotsLeft-first, PassesSpot-fits}
+use Rattle.jsonb_doc.proofs.Lemmas.{arith, rules, common_steps, refl, ◌≡◌, ◌<◌, ◌≤◌, ◌+◌, ◌-◌, List, ℕ, Some, Err, Tree, HasSpotsLeft, IsDecodingError, Error, SpotIter, ReadsSpot, spots_room, GivesSpot, kind_known, HasSpotsLeft-word, HasSpotsLeft-fits, HasSpotsLeft-first, PassesSpot-fits}
 use Rattle.jsonb_doc.proofs.spot_iter.SpotIterIterator.next.Goals as goal
 use Rattle.jsonb_doc.proofs.spot_iter.SpotIterIterator.next.Goals.{in_default-checked_add-via-in-Some-checked_add+else-end-self, in_default-checked_add-via-in_default-checked_add}
 

@@ -1,5 +1,4 @@
-use Rattle.jsonb_doc.proofs.Lemmas.{◌≡◌, ◌∷◌, ◌++◌, sym, ap, ◌∙◌, arith, nil_from_length, iter_rest, array, trees_of, number_view, tree_seen, trees_seen, tree_parts, values_parts, tree_seen-Array, value_copied}
-use Rattle.std.proofs.Common.{append-nil}
+use Rattle.jsonb_doc.proofs.Lemmas.{◌≡◌, ◌∷◌, ◌++◌, sym, ap, ◌∙◌, arith, nil_from_length, iter_rest, array, trees_of, number_view, tree_seen, trees_seen, tree_parts, values_parts, tree_seen-Array, value_copied, append-nil}
 use Rattle.jsonb_doc.proofs.value.copy.fill_array.Goals as goal
 
 pub loop-value-preserved : goal.loop-value-preserved

@@ -1,4 +1,4 @@
-use Rattle.jsonb_doc.proofs.Lemmas.{◌≡◌, ℕ, ◌∷◌, ◌++◌, List, string_bytes, arith, refl, sym, ap, subst, ◌∙◌, reverse, nil_from_length, Tree, Trees, Pairs, array, object, elements, members, keys, trees_of, pairs_of, AreKeys, tree_seen, trees_seen, members_seen, decoded_keys, tree_seen-Array, tree_seen-Object, first_element, element_read, no_element, first_member, member_read, no_member, sees_normal, sees_normal_member, elements_begin, elements_go_on, elements_end, members_begin, members_go_on, members_end, widest_with, array_goes_on, object_goes_on, whole_of, LeadsTo-popped, LeadsTo-pushed, err_is}
+use Rattle.jsonb_doc.proofs.Lemmas.{◌≡◌, ℕ, ◌∷◌, ◌++◌, List, string_bytes, arith, refl, sym, ap, subst, ◌∙◌, reverse, nil_from_length, Tree, Trees, Pairs, array, object, elements, members, keys, trees_of, pairs_of, AreKeys, tree_seen, trees_seen, members_seen, decoded_keys, tree_seen-Array, tree_seen-Object, first_element, first_member, no_member, sees_normal, sees_normal_member, elements_begin, elements_go_on, elements_end, members_begin, members_go_on, members_end, widest_with, array_goes_on, object_goes_on, whole_of, LeadsTo-popped, err_is, innermost}
 use Rattle.jsonb_doc.specs.Private.Filling.{LeadsTo}
 use Rattle.jsonb_doc.proofs.value.decode.+decode.Goals as goal
 
@@ -71,7 +71,7 @@ container_value-loop-around-preserved t c =
       left = λ seen keeps sees form whole stands.
           let (part, part_stands, part_sees, leads) = inv.left seen keeps sees form whole stands in
           let (inner, inner_stands, inner_sees, makes) = rw c.in-Within.is at (c.in_ok-value.ensures.decodes seen keeps part_sees form part part_stands) in
-          (inner, inner_stands, inner_sees, LeadsTo-pushed seen form c.loop-around.around.items _ c.in-Within.outer inner part whole pushed makes leads);
+          (inner, inner_stands, inner_sees, grind (arith, innermost));
       shorter = omega (arith, inv.shorter, size.0);
       room = omega (arith, widest_with c.loop-around.around.items _ c.in-Within.outer pushed, inv.shorter, inv.room, size.1);
     }
@@ -106,7 +106,7 @@ opened-returns-in_ok-left-in-Object-clause-decodes t c = λ seen keeps sees form
 pub fill_array-returns-in_err-item-clause-decodes : goal.fill_array-returns-in_err-item-clause-decodes
 fill_array-returns-in_err-item-clause-decodes t c = λ seen keeps form ts h.
     let (left, has, joined) = c.loop-item.invariant.left seen keeps form ts h in
-    absurd (element_read form left c.in-Some.item _ _ c.in_err-item.was (c.in-Some.ensures.steps.takes form left has))
+    absurd (grind (arith, c.in_err-item.was, c.in-Some.ensures.steps.takes form left has))
 
 pub fill_array-returns-then-is_longer-clause-decodes : goal.fill_array-returns-then-is_longer-clause-decodes
 fill_array-returns-then-is_longer-clause-decodes t c = λ seen keeps form ts h.
@@ -136,14 +136,14 @@ fill_array-loop-item-preserved t c = record {
 pub fill_array-returns-clause-decodes : goal.fill_array-returns-clause-decodes
 fill_array-returns-clause-decodes t c = λ seen keeps form ts h.
     let (left, has, joined) = c.loop-item.invariant.left seen keeps form ts h in
-    tree_seen-Array seen _ ∙ ap array (elements_end seen _ left _ joined (no_element form left _ (c.in_default.ensures.steps.takes form left has)))
+    tree_seen-Array seen _ ∙ ap array (elements_end seen _ left _ joined (grind (arith, c.in_default.ensures.steps.takes form left has)))
 
 -- ---- objects
 
 pub fill_object-returns-in_err-key-clause-decodes : goal.fill_object-returns-in_err-key-clause-decodes
 fill_object-returns-in_err-key-clause-decodes t c = λ seen keeps form ps h rising.
     let (left, has, joined) = c.loop-pair.invariant.left seen keeps form ps h rising in
-    absurd (member_read form left c.in-Some.pair _ _ c.in_err-key.was (c.in-Some.ensures.steps.takes form left has))
+    absurd (grind (arith, c.in_err-key.was, c.in-Some.ensures.steps.takes form left has))
 
 pub fill_object-returns-then-is_longer-clause-decodes : goal.fill_object-returns-then-is_longer-clause-decodes
 fill_object-returns-then-is_longer-clause-decodes t c = λ seen keeps form ps h rising.

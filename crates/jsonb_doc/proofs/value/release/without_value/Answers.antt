@@ -1,4 +1,4 @@
-use Rattle.jsonb_doc.proofs.Lemmas.{rules, ◌+◌, ap, ◌∙◌, arith, parts, values_parts, waiting_parts, remaining, as_many_parts, values_parts-last}
+use Rattle.jsonb_doc.proofs.Lemmas.{◌+◌, ap, ◌∙◌, arith, parts, values_parts, waiting_parts, remaining, as_many_parts, values_parts-last}
 use Rattle.jsonb_doc.proofs.value.release.without_value.Goals as goal
 
 pub returns-in-Some-container : goal.returns-in-Some-container

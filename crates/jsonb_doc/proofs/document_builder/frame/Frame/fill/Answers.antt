@@ -1,4 +1,4 @@
-use Rattle.jsonb_doc.proofs.Lemmas.{rules, sym, inl, subst, Some, Option, String, Global, HoldsLevel, IsEntryOf, filled, array_filled, array_too_long, object_filled, object_too_long, object_named, object_same, err_is, err_along, both, result_along}
+use Rattle.jsonb_doc.proofs.Lemmas.{rules, sym, inl, subst, Some, Option, String, Global, HoldsLevel, IsEntryOf, filled, array_too_long, object_filled, object_too_long, object_named, object_same, err_is, err_along, both, result_along, zip_more, arith, arith}
 use Rattle.jsonb_doc.specs.declared.document_builder.frame.Frame.TheVariants.{Object}
 use Rattle.jsonb_doc.proofs.document_builder.frame.Frame.fill.Goals as goal
 
@@ -12,7 +12,7 @@ pub returns-in_ok-push-in-Array-clause-filled : goal.returns-in_ok-push-in-Array
 returns-in_ok-push-in-Array-clause-filled c = λ form ps level t h takes part decodes.
     let made = c.in_ok-new-in-Array.ensures in
     let entry : IsEntryOf form ps c.in_ok-new-in-Array.field-0 t = rw (made.0, made.1, made.2) part in
-    array_filled form ps c.in-Array.entries c.push.new.self _ t level (rw c.in-Array.is at h) c.in_ok-push-in-Array.ensures.items entry
+    (grind (arith, zip_more, rw c.in-Array.is at h, c.in_ok-push-in-Array.ensures.items))
 
 pub returns-in_ok-new-in-Object-clause-filled : goal.returns-in_ok-new-in-Object-clause-filled
 returns-in_ok-new-in-Object-clause-filled c = λ form ps level t h takes part decodes.

@@ -1,4 +1,4 @@
-use Rattle.jsonb_doc.proofs.Lemmas.{rules, ◌++◌, ◌∷◌, [], ◌∙◌, List, ap, refl, sym, length, arith, None, append-nil, Run, Nested, Member, Frame, waits_takes, around_more}
+use Rattle.jsonb_doc.proofs.Lemmas.{rules, ◌++◌, ◌∷◌, [], ◌∙◌, List, ap, refl, sym, length, arith, None, append-nil, Run, Nested, Member, Frame, waits_takes}
 use Rattle.jsonb_doc.proofs.event_list.collecting.Collector.begin.Goals as goal
 
 pub returns-in_default : goal.returns-in_default
@@ -24,7 +24,6 @@ returns c = λ s level h some empty.
         joined = pushed ∙ sym (append-nil before);
         start = omega (arith, c.len.ensures, ap (λ (ms : List Member). length ms) pushed);
         inner = empty ds inner refl refl;
-        around = around_more ds c.args.kind some h.before h.ms m outer s.inner s.around refl (key.kept.1 ∙ h.start) (rw (← key.kept.0) at waits)
-            (rw (← key.kept.0) at h.around);
+        around = grind (arith, key.kept.1 ∙ h.start, rw (← key.kept.0) at waits, rw (← key.kept.0) at h.around);
       },
     )
