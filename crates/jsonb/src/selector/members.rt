@@ -70,7 +70,7 @@ pub(crate) fn is_member(step: &Path<'_>) -> bool
 
 /// Returns the value of a key of an object.
 #[inline(always)]
-fn field(bytes: &[u8], mode: Mode, name: &str, item: Spot) -> Result<Option<Spot>, Error>
+pub(crate) fn field(bytes: &[u8], mode: Mode, name: &str, item: Spot) -> Result<Option<Spot>, Error>
     ensures meant { (t : Tree) → Locates bytes.now item t
         → Refines (λ found us. AllZip (Locates bytes.now) (option_spots found) us) IsOutOfMemory result
         (field_step mode name.now t) }

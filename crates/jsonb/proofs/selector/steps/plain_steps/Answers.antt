@@ -1,7 +1,11 @@
-use Rattle.jsonb.proofs.Common.{Locates}
-use Rattle.jsonb.proofs.RefinesLemmas.{answered, failed_with, given_by}
+use Rattle.jsonb.proofs.Common.{ap, try_flat_map, Locates}
+use Rattle.jsonb.proofs.RefinesLemmas.{answered, failed_with, given_by, same_outcome}
 use Rattle.jsonb.proofs.Progress.{no_spot, one_more, refused_in, at_end, list_first, list_end}
 use Rattle.jsonb.proofs.selector.steps.plain_steps.Goals as goal
+
+pub returns-in-Some-clause-meant : goal.returns-in-Some-clause-meant
+returns-in-Some-clause-meant c = λ top ts n a.
+    same_outcome (ap (λ f. try_flat_map f ts) (c.in-Some.ensures c.args.context.now.mode top)) (c.named_values.ensures.meant ts a)
 
 pub returns-in_err-given-clause-meant : goal.returns-in_err-given-clause-meant
 returns-in_err-given-clause-meant c = λ top ts n a.
