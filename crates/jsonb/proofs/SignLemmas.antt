@@ -1,11 +1,10 @@
 -- Numbers of the items that were found, each with a sign.
-use Rattle.jsonb.proofs.Common.{◌≡◌, ℕ, ◌+◌, ◌<◌, ◌≤◌, List, [], ◌∷◌, ◌++◌, Ok, Err, OnOk, IfErr, IsOkAnd, refl, ap, ◌∙◌, inl, map, flat_map, append_assoc, length, get_or, set, take, drop, arith, map-append, take_all, take_more_set, drop-set-lt, Outcome, and_then, try_flat_map, Refines, IsOutOfMemory, IsStoredAs, Number, Tree, number_view, Error, InvalidJsonPath, StoredValue, all_numbers, signed_number, UnaryOp, paths, steps_of, steps_view, operand_values, start, steps_meaning, AllZip, IsNumberTree, IsNumberItem, taken_step, Value, value_of_item, values_of_item, Path, AreRefused, Mode}
+use Rattle.jsonb.proofs.Common.{◌≡◌, ℕ, ◌+◌, ◌<◌, ◌≤◌, List, [], ◌∷◌, ◌++◌, Ok, Err, IsOkAnd, refl, map, append_assoc, length, get_or, set, take, drop, arith, map-append, take_all, take_more_set, drop-set-lt, Outcome, and_then, try_flat_map, Refines, IsOutOfMemory, Number, Tree, number_view, Error, all_numbers, signed_number, UnaryOp, AllZip, IsNumberTree, IsNumberItem, Value}
 use Rattle.jsonb_doc.specs.declared.spot.content.StoredValue.TheVariants as stored
 use Rattle.jsonb_doc.specs.declared.number.Number.{Number as CodeNumber}
 use Rattle.jsonb.proofs.CalculateLemmas.{as_memory, number_added}
 use Rattle.jsonb.proofs.RefinesLemmas.{Is, related_of_map}
 use Rattle.jsonb.proofs.Progress.{Progress, at_start, one_more, refused_in, at_end, list_first, list_end}
-use Rattle.jsonb.proofs.StepLemmas.{from_start}
 
 -- ---- the numbers of a list are those of its parts
 
@@ -16,32 +15,14 @@ numbers-append : (xs ys : List Value) → all_numbers (xs ++ ys) ≡ and_then (a
 numbers-append [] ys = same_number (all_numbers ys)
 numbers-append (v ∷ xs) ys = grind (arith, numbers-append xs ys)
 
-pub numbers_of_parts : (g : Tree → List Value) (ts : List Tree) → all_numbers (flat_map g ts) ≡ try_flat_map (λ t. all_numbers (g t)) ts
-numbers_of_parts g [] = refl
-numbers_of_parts g (t ∷ ts) = grind (arith, (numbers_of_parts g ts), numbers-append)
-
 pub numbers_of_values : (vs : List Value) → all_numbers vs ≡ try_flat_map (λ v. all_numbers (v ∷ [])) vs
 numbers_of_values [] = refl
 numbers_of_values (v ∷ vs) = grind (arith, (numbers_of_values vs), (numbers-append (v ∷ []) vs))
-
--- an item that is neither a number nor an extension value
-pub no_number : (value : StoredValue) (t : Tree) → ((n : CodeNumber) → value ≡ stored.Number n → ⊥) → (value ≡ stored.Extension → ⊥)
-    → IsStoredAs value t → all_numbers (value_of_item t) ≡ Err InvalidJsonPath
-no_number value t a b h = grind arith
 
 -- ---- numbers after the existing ones
 
 abbrev pub Behind : List CodeNumber → List CodeNumber → List Number → Type 0
 Behind old new ns = map number_view new ≡ map number_view old ++ ns
-
-pub number_pushed : (r : Outcome (Unit {0})) (old new : List CodeNumber) (n : CodeNumber) → OnOk r (new ≡ old ++ n ∷ []) → IfErr r IsOutOfMemory
-    → Refines {A = Unit {0}} (λ _ ns. Behind old new ns) IsOutOfMemory r (Ok (number_view n ∷ []))
-number_pushed (Ok v) old new n is none = record { ok = ap (map number_view) is ∙ map-append number_view old (n ∷ []); err = tt }
-number_pushed (Err e) old new n is none = record { ok = tt; err = inl none }
-
-pub more_behind : (old mid new : List CodeNumber) (o : Outcome (List Number)) (before : List Number) → Behind old mid before → IsOkAnd o (Behind mid new)
-    → IsOkAnd o (λ us. Behind old new (before ++ us))
-more_behind old mid new o before first then = grind (arith, append_assoc)
 
 -- one more number, which a value is
 pub number_behind : (old mid new : List CodeNumber) (n : CodeNumber) (o : Outcome (List Number)) (before : List Number) → Behind old mid before
@@ -74,12 +55,3 @@ module _ (op : UnaryOp) (xs : List CodeNumber) (i : ℕ) (d : CodeNumber) (outco
 pub all_signed : (op : UnaryOp) (xs : List CodeNumber) (i : ℕ) (outcome : Outcome (List Tree)) → SignedUntil op xs i outcome → length xs ≤ i
     → IsOkAnd outcome (AllZip IsNumberItem xs)
 all_signed op xs i outcome done end = rw (take_all i xs end) at (at_end done (list_end (Is number_view) xs i end))
-
--- ---- what follows the values of an operand
-
--- the path of an operand, by the slices that are passed on
-pub by_path : {C : Type 0} (next : List Value → Outcome C) (mode : Mode) (vs d1 d2 : List Path) (top u : Tree) → d1 ≡ vs → d2 ≡ vs →
-    and_then (operand_values mode (paths (steps_of (steps_view vs))) top u) next
-    ≡ and_then (steps_meaning mode (steps_of (map (taken_step AreRefused) (steps_view d1))) top (start (steps_of (steps_view d2)) top u ∷ []))
-    (λ ts. next (flat_map values_of_item ts))
-by_path next mode vs d1 d2 top u p q = grind (arith, from_start)

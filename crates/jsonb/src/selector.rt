@@ -43,7 +43,6 @@ mod plan;
 mod running;
 mod search;
 mod selected;
-mod signed_items;
 mod steps;
 mod values;
 mod whole_path;

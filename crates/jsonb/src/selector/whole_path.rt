@@ -1,6 +1,6 @@
 //! A path as a whole: its top steps, or one expression.
 
-ghost use Rattle.std.specs.Prelude.{◌≡◌, ◌++◌, ◌∷◌, [], List, Ok, Err, None, Some, false, true, MatchOption, IfOk, IfSome, IfErr, ⊤};
+ghost use Rattle.std.specs.Prelude.{◌≡◌, ◌∷◌, [], List, Ok, Err, None, Some, false, true, MatchOption, IfOk, IfSome, IfErr, ⊤};
 ghost use Rattle.jsonb_doc.specs.Answer.{Refines, SameOption, Outcome, and_then, IsOutOfMemory, ◌or◌};
 ghost use Rattle.jsonb_doc.specs.AnyBytes.Roots.{HasReadableRoot};
 ghost use Rattle.jsonb_doc.specs.Arithmetic.{Operation};
@@ -29,11 +29,10 @@ use super::compared_lists::root_truth;
 use super::document::{Context, Current, Document, Expressions, Mode, Repeats, TruthResult};
 use super::filter_cache::{is_relative, is_true};
 use super::is_some;
-use super::members::{root_field, root_name, start_spot};
+use super::members::{root_field, root_name};
 use super::node_list::NodeList;
 use super::search::search;
 use super::selected::{MadeItem, Selected};
-use super::signed_items::signed_items;
 use super::steps::{listed_steps, operand_values, select_steps};
 use crate::path::{BinaryOperator, Expr, Path, PathValue, UnaryOperator};
 use jsonb_doc::{Error, Item, Number, Spot, root_item};
@@ -261,24 +260,9 @@ fn whole_unary<'a>(
         (each_signed op)) }
     ensures errors { IfErr result (IsSelectionError context.now.mode) }
 {
-    let Context {
-        alloc,
-        document,
-        ..
-    } = *context;
-    match operand {
-        Expr::Paths(steps) => {
-            let first = start_spot(steps, document, document.root);
-            let all = Expressions::AreRefused;
-            let found = select_steps(context, all, Repeats::AreKept, steps, first)?;
-            signed_items(alloc, op, document.bytes, found.as_slice())
-        }
-        Expr::Value(_) | Expr::BinaryOp { .. } | Expr::UnaryOp { .. } | Expr::ExistsFunc(_) => {
-            let item = document.root;
-            let values = operand_values(Current { context, item }, Repeats::AreKept, operand)?;
-            unary_numbers(alloc, op, values.as_slice())
-        }
-    }
+    let item = context.document.root;
+    let values = operand_values(Current { context, item }, Repeats::AreKept, operand)?;
+    unary_numbers(context.alloc, op, values.as_slice())
 }
 
 /// Returns the number of two operands. The values of both are taken first.
