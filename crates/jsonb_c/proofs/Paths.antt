@@ -63,7 +63,7 @@ by_path_refused refusal e None Promise answer is (inr other) promised = inr (rw 
 by_path_refused refusal e (Some path) Promise answer is (inl memory) promised = rw (is, memory) (promised path)
 by_path_refused refusal e (Some path) Promise answer is (inr other) promised = cc
 
--- the document without a value, which is as it was if there is none
+-- the document without a value, which is unchanged if there is none
 pub as_it_was : (form : Form) (document : List ℕ) (steps : List Key) (t : Tree) (answer : Result (List ℕ) Error)
     → MatchResult answer (λ made. Decodes form made (without steps t)) IsOutOfMemory
     → (MeetNoPart steps t → MatchResult answer (λ made. made ≡ document) IsOutOfMemory)

@@ -83,7 +83,7 @@ plain_shape Object none = tt
 pub scalar_tree : (shape : Shape) (t : Tree) → HasShape shape t → (shape ≡ Array → ⊥) → (shape ≡ Object → ⊥) → (is_container t ≡ false) × (deepest t ≡ 0)
 scalar_tree shape t is array object = grind arith
 
--- a root that is no string and no container has no strings
+-- a root that is neither a string nor a container has no strings
 pub no_texts : (shape : Shape) (t : Tree) → HasShape shape t → ((s : Bor (List ℕ)) → shape ≡ Text s → ⊥) → (shape ≡ Array → ⊥) → (shape ≡ Object → ⊥)
     → (name : List ℕ) → has_text name t ≡ false
 no_texts Null t is text array object name = rw is refl

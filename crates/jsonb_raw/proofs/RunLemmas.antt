@@ -298,7 +298,7 @@ module _ (form : Form) (run : PairEntries) (p : Member) (ps : List Member) (firs
   name_first : names ≡ first.key.now ++ first.others.keys.contents.now
   name_first = is ∙ h.name.begin.contents_joined ∙ ap (λ key. key ++ first.others.keys.contents.now) (sym h.key)
 
-  -- it is split behind the first
+  -- it is split after the first
   pub name_boundary : IsCharBoundary names (length first.key.now)
   name_boundary = IsCharBoundary-at_seam names first.key.now first.others.keys.contents.now name_first (names_utf8 form (keys_of ps) _ _ h.name.others_hold.entries)
 
