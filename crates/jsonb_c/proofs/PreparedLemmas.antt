@@ -1,9 +1,10 @@
 -- A path that was parsed is kept.
 use Rattle.std.proofs.Common.{◌≡◌, ◌∙◌, refl, ap, ℕ, Option, Some, None, Result, Ok, Err}
-use Rattle.std.specs.Prelude.{IsSomeAnd, MatchResult, ok_or}
+use Rattle.std.specs.Prelude.{IfOk, IsSomeAnd, MatchResult, ok_or}
 use Rattle.std.specs.declared.alloc.Global.{Global}
 use Rattle.std.specs.declared.boxed.Box.{Box}
 use Rattle.jsonb_c.specs.Answers.{With}
+use Rattle.jsonb_c.specs.Representation.Prepared.{json_limit}
 use Rattle.jsonb_c.specs.Private.Boxes.{IsTextRefusal, Keeps}
 use Rattle.jsonb_c.proofs.Paths.{by_text, runs}
 use Rattle.jsonb_c.specs.Status.{code}
@@ -27,3 +28,9 @@ module _ {P : Type 0} (refusal : Status) (steps_of : Option PreparedPath → Opt
       → Keeps parsed kept status → Prepares read
   prepares read (Ok made) is keeps = kept_path read made.value (steps_of (Some made.value)) refl is keeps.0 keeps.1
   prepares read (Err cause) is keeps = by_text refusal cause read _ _ is keeps
+
+-- what is kept has no limit, if what was parsed has none
+pub unlimited : (parsed : Result (Box PreparedPath Global) Status) (kept : Option PreparedPath) (status : ℕ)
+    → IfOk parsed (λ made. json_limit (Some made.value) ≡ None) → Keeps parsed kept status → json_limit kept ≡ None
+unlimited (Ok made) kept status none keeps = ap json_limit keeps.1 ∙ none
+unlimited (Err cause) kept status none keeps = ap json_limit keeps.1

@@ -21,12 +21,13 @@ use crate::status::Status;
 use jsonb::json_path_error_position;
 use std::alloc::Global;
 
-/// Parses a JSON path and keeps it in the handle, in place of the path that it keeps.
+/// Parses a JSON path and keeps it in the handle, without a limit, in place of the path that it keeps.
 #[unsafe(no_mangle)]
 pub extern "C" fn jdoc_path_read(alloc: Global, text: &[u8], path: &mut PathHandle) -> u32
-    ensures { With (ok_or (json_path text.now) NotJsonPath)
+    ensures path { With (ok_or (json_path text.now) NotJsonPath)
         (λ steps. (result ≡ code Answered) × (json_steps path.new.value ≡ Some steps))
         (λ cause. (result ≡ code cause) × (path.new.value ≡ None)) }
+    ensures limit { json_limit path.new.value ≡ None }
 {
     path.keep(alloc, parsing::parse_json(alloc, text))
 }

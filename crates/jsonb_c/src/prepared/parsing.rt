@@ -1,12 +1,12 @@
 //! Parsing of paths that are kept. Their strings are copied, so that the text may be freed.
 
-ghost use Rattle.std.specs.Prelude.{◌≡◌, IsSomeAnd, MatchResult, Some, None};
+ghost use Rattle.std.specs.Prelude.{◌≡◌, IfOk, IsSomeAnd, MatchResult, Some, None};
 ghost use Rattle.jsonb_doc.specs.Answer.{IsOutOfMemory, ◌or◌when◌};
 ghost use Rattle.jsonb_doc.specs.declared.error.Error.TheVariants.{InvalidJsonPath, InvalidKeyPath};
 ghost use Rattle.jsonb.specs.KeyPathGrammar.{key_path};
 ghost use Rattle.jsonb.specs.KeyPathViews.{key_view, key_paths_view};
 ghost use Rattle.jsonb.specs.PathGrammar.{json_path};
-ghost use Rattle.jsonb_c.specs.Representation.Prepared.{json_steps, key_steps};
+ghost use Rattle.jsonb_c.specs.Representation.Prepared.{json_limit, json_steps, key_steps};
 ghost use Rattle.jsonb_c.specs.Private.Boxes.{IsTextRefusal};
 ghost use Rattle.jsonb_c.specs.declared.status.Status.TheVariants.{NotJsonPath, Refused};
 
@@ -16,11 +16,12 @@ use jsonb::{Error, KeyPath, KeyPaths, OwnedKeyPath, parse_json_path, parse_key_p
 use std::alloc::Global;
 use std::borrow::CowStr;
 
-/// Parses a JSON path. Fails with the status of the text.
+/// Parses a JSON path, which has no limit. Fails with the status of the text.
 pub(crate) fn parse_json(alloc: Global, text: &[u8]) -> Result<Box<PreparedPath>, Status>
-    ensures { MatchResult result
+    ensures path { MatchResult result
         (λ made. IsSomeAnd (json_steps (Some made.value)) (λ steps. json_path text.now ≡ Some steps))
         (IsTextRefusal NotJsonPath (json_path text.now)) }
+    ensures limit { IfOk result (λ made. json_limit (Some made.value) ≡ None) }
 {
     match boxed_json(alloc, text) {
         Ok(path) => Ok(path),
@@ -29,9 +30,10 @@ pub(crate) fn parse_json(alloc: Global, text: &[u8]) -> Result<Box<PreparedPath>
 }
 
 fn boxed_json(alloc: Global, text: &[u8]) -> Result<Box<PreparedPath>, Error>
-    ensures { MatchResult result
+    ensures path { MatchResult result
         (λ made. IsSomeAnd (json_steps (Some made.value)) (λ steps. json_path text.now ≡ Some steps))
         (IsOutOfMemory or InvalidJsonPath when (json_path text.now ≡ None)) }
+    ensures limit { IfOk result (λ made. json_limit (Some made.value) ≡ None) }
 {
     let path = parse_json_path(alloc, text)?;
     let copy = path.to_owned(alloc)?;
