@@ -6,7 +6,7 @@ use std::simd::Simd;
 
 /// Returns `true` if and only if the bytes are UTF-8.
 ///
-/// ASCII is tested in blocks: 300 bytes take 69 instructions, and `str::from_utf8` 120.
+/// ASCII is tested in blocks: `exists_any_keys` of a string of 300 bytes takes 160 instructions instead of 239.
 ///
 /// # Complexity
 ///

@@ -322,7 +322,7 @@ fn push_parts(
 }
 
 /// Appends the key of a root that is a string. Fails with `InvalidJsonb` if it is not UTF-8. No `str` is made of it, so
-/// a long one in ASCII is read once, for what must be escaped: 300 bytes take 490 instructions instead of 750.
+/// a long one in ASCII is read once, for what must be escaped: 300 bytes take 538 instructions instead of 750.
 #[inline(always)]
 fn push_root_text(out: &mut Vec<u8>, text: &[u8], depth: Depth) -> Result<(), Error>
     ensures item { IsUtf8 text.now
@@ -343,7 +343,7 @@ fn push_root_text(out: &mut Vec<u8>, text: &[u8], depth: Depth) -> Result<(), Er
     push_string(out, text, depth)
 }
 
-/// Appends the sortable key of a document. An empty container is a header alone. It is not traversed: `[]` takes 200
+/// Appends the sortable key of a document. An empty container is a header alone. It is not traversed: `[]` takes 319
 /// instructions instead of 330.
 #[inline(always)]
 pub fn push_sortable_key(
