@@ -192,11 +192,9 @@ fn find_in_block<'w, 'k>(
     ensures errors { IfErr result IsDecodingError }
 {
     let (key_words, _) = words.as_chunks::<WORD>();
+    let block = &key_words[..key_words.len().min(BLOCK)];
     let mut end = 0;
-    for (at, word) in key_words.iter().enumerate() {
-        if at == BLOCK {
-            return Ok(None);
-        }
+    for (at, word) in block.iter().enumerate() {
         let start = end;
         let len = entry_len(word);
         end += len;
