@@ -10,11 +10,7 @@ at_least a b = cond (leb a b) 255 0
 
 none_high : (xs : List ℕ) → mask_l (map (top 7) (zip2 at_least (replicate (length xs) 128) xs)) ≡ 0 → (i : ℕ) → get_or xs i 0 < 128
 none_high [] e i = omega arith
-none_high (x ∷ xs) e zero = go (leb 128 x) refl (omega arith)
-  where
-    go : (t : Bool) → leb 128 x ≡ t → ◌≡◌ {A = ℕ} (cond (top 7 (cond t 255 0)) 1 0) 0 → x < 128
-    go true p q = absurd (omega arith)
-    go false p q = leb-false _ _ p
+none_high (x ∷ xs) e zero = grind (arith, leb-false)
 none_high (x ∷ xs) e (suc i) = none_high xs (omega arith) i
 
 -- the test of n bytes

@@ -4,7 +4,7 @@ use Rattle.jsonb_doc.proofs.Entries.{kind_below}
 use Rattle.jsonb_doc.proofs.Containers.{length-words}
 use Rattle.jsonb_doc.proofs.TreeLists.{count-trees_of}
 use Rattle.jsonb_doc.proofs.ItemLemmas.{content_stands}
-use Rattle.jsonb_doc.proofs.LimitLemmas.{array_too_large-more}
+use Rattle.jsonb_doc.proofs.LimitLemmas.{well_among, array_too_large-more}
 
 -- the builder's entries are as many as the trees that it holds
 pub held_count : (form : Form) (parts : Parts) (ts : List Tree) → HoldsElements form parts ts → entry_count parts ≡ length ts
@@ -36,8 +36,7 @@ pub element_held : (form : Form) (before after : Parts) (ts : List Tree) (item :
 element_held form before after ts item t h e k f g = grind (arith, stored_held, content_stands)
 
 pub last_is_short : (form : Form) (ts : List Tree) (t : Tree) → HasShortElements form (trees_of (ts ++ t ∷ [])) → content_size form t < 2 ^ 28
-last_is_short form [] t h = h.0
-last_is_short form (u ∷ us) t h = last_is_short form us t h.2
+last_is_short form ts t h = (well_among form ts [] t h).0
 
 -- the array of what is held
 pub array_built : (form : Form) (ts : List Tree) (parts : Parts) (bytes : List ℕ) → HoldsElements form parts ts → entry_count parts < 2 ^ 29

@@ -1,10 +1,10 @@
 -- Containers, by their headers.
-use Rattle.jsonb_doc.proofs.Common.{◌≡◌, ◌≢◌, ℕ, suc, ◌*◌, ◌≤◌, List, [], ◌∷◌, ◌++◌, length, take, drop, refl, sym, ap, ◌∙◌, arith, true, false, ◌↔◌, ◌⊎◌, inl, inr, length-append, take_at, drop_at, append-nil, Tree, boolean, array, object, Trees, no_trees, tree, Pairs, no_pairs, pair, count, keys, values, NumberReader, Form, number_reader, Holds, HasPairParts, IsLoneEntry, IsCut, HoldKeys, kind_number, header_number, HeaderKind, StoredEntry, ArrayParts, ObjectParts, Array, Object, Decodes, HeadedBy, BeginWith, entry_word, AreMembers, AreKeys, key_words, key_bytes, IsContent, AreEntries, AreValues, IsDocument, HasContent, HasEntries, HasDocument, HasKeys, common_steps, Scalar}
+use Rattle.jsonb_doc.proofs.Common.{◌≡◌, ◌≢◌, ℕ, suc, ◌*◌, ◌≤◌, List, [], ◌∷◌, ◌++◌, length, take, drop, refl, sym, ap, ◌∙◌, arith, true, false, ◌↔◌, ◌⊎◌, inl, inr, length-append, take_at, drop_at, append-nil, Tree, boolean, array, object, Trees, no_trees, tree, Pairs, no_pairs, pair, count, keys, values, NumberReader, Form, number_reader, Holds, HasPairParts, IsLoneEntry, IsCut, HoldKeys, kind_number, header_number, HeaderKind, StoredEntry, ArrayParts, ObjectParts, Array, Object, Decodes, HeadedBy, BeginWith, entry_word, AreMembers, AreKeys, key_words, key_bytes, IsContent, AreEntries, AreValues, IsDocument, HasContent, HasEntries, HasDocument, HasKeys, common_steps, Scalar, append_assoc}
 use Rattle.jsonb_doc.specs.declared.layout.HeaderKind.TheVariants as header
 use Rattle.jsonb_doc.specs.declared.container.Container.{Container}
 use Rattle.jsonb_doc.specs.Format.{IsContainer as FormatContainer}
 use Rattle.jsonb_doc.proofs.WordLemmas.{word_cancel, append_cancel}
-use Rattle.jsonb_doc.proofs.Entries.{BeginWith-unique, Entry-join, begin_key}
+use Rattle.jsonb_doc.proofs.Entries.{BeginWith-unique, Entry-join}
 
 -- a header is one
 pub HeadedBy-unique : (bytes : List ℕ) (k k' n n' : ℕ) (rest rest' : List ℕ) → HeadedBy bytes k n rest → HeadedBy bytes k' n' rest'
@@ -43,19 +43,26 @@ length-key_words (key ∷ ks) = omega (arith, length-key_words ks)
 pub HasKeys-room : (words bytes rest : List ℕ) → HasKeys words bytes rest → length rest ≤ length bytes
 HasKeys-room words bytes rest (ks, are, is, joined) = omega (arith, ap length joined, length-append (key_bytes ks) rest)
 
+-- keys after as many keys in the same bytes are the same
+pub keys_unique : (ks ls : List (List ℕ)) (v v' x x' words bytes : List ℕ) → AreKeys ks → AreKeys ls
+    → length ks ≡ length ls
+    → words ≡ key_words ks ++ v → words ≡ key_words ls ++ v' → bytes ≡ key_bytes ks ++ x → bytes ≡ key_bytes ls ++ x'
+    → (ks ≡ ls) × (v ≡ v') × (x ≡ x')
+keys_unique [] [] v v' x x' words bytes p q n e f g h = (refl, sym e ∙ f, sym g ∙ h)
+keys_unique [] (l ∷ ls) v v' x x' words bytes p q n e f g h = absurd (omega arith)
+keys_unique (k ∷ ks) [] v v' x x' words bytes p q n e f g h = absurd (omega arith)
+keys_unique (k ∷ ks) (l ∷ ls) v v' x x' words bytes p q n e f g h =
+    let first : BeginWith words bytes 1 k (key_words ks ++ v) (key_bytes ks ++ x) = grind (arith, append_assoc) in
+    let other : BeginWith words bytes 1 l (key_words ls ++ v') (key_bytes ls ++ x') = grind (arith, append_assoc) in
+    let same = BeginWith-unique _ _ _ _ _ _ _ _ _ _ first other in
+    grind (arith, same, keys_unique ks ls v v' x x' (key_words ks ++ v) (key_bytes ks ++ x) p.2 q.2)
+
 -- what follows the keys is one
 pub HasKeys-unique : (words bytes a b : List ℕ) → HasKeys words bytes a → HasKeys words bytes b → a ≡ b
-HasKeys-unique words bytes a b x y = go x.0 y.0 words bytes x.1 y.1 x.2 y.2 x.3 y.3
-  where
-    go : (ks ls : List (List ℕ)) (words bytes : List ℕ) → AreKeys ks → AreKeys ls → words ≡ key_words ks → words ≡ key_words ls → bytes ≡ key_bytes ks ++ a
-        → bytes ≡ key_bytes ls ++ b → a ≡ b
-    go [] [] words bytes p q e f g h = sym g ∙ h
-    go [] (l ∷ ls) words bytes p q e f g h = absurd (omega (arith, ap length e, ap length f))
-    go (k ∷ ks) [] words bytes p q e f g h = absurd (omega (arith, ap length e, ap length f))
-    go (k ∷ ks) (l ∷ ls) words bytes p q e f g h =
-        let same = BeginWith-unique words bytes 1 1 k l (key_words ks) (key_words ls) (key_bytes ks ++ a) (key_bytes ls ++ b)
-        (begin_key words bytes a k ks p.0.1 e g) (begin_key words bytes b l ls q.0.1 f h) in
-        go ks ls (key_words ks) (key_bytes ks ++ a) p.2 q.2 refl same.2 refl same.3
+HasKeys-unique words bytes a b (ks, are, is, joined) (ls, are', is', joined') =
+    let many : length ks ≡ length ls =
+    omega (arith, ap length is, ap length is', length-key_words ks, length-key_words ls) in
+    (keys_unique ks ls [] [] a b words bytes are are' many (rw append-nil is) (rw append-nil is') joined joined').2
 
 -- the content of an entry for a container is an array or an object
 container_cases : (number_at : NumberReader) (bytes : List ℕ) → HasContent 5 bytes number_at
@@ -207,10 +214,8 @@ IsCut-same bytes (Scalar e) (rest, h, lone) number_at t = (
     parts = grind (arith, append-nil);
   }),
 )
-IsCut-same bytes (Array p) (n, h, len) number_at t = (
-  λ d. (grind (arith, append_cancel, document_array number_at bytes n _ h t (container_document number_at bytes 4 n _ h (omega arith) t d))),
-  λ k. inl (grind (arith, length-words)),
-)
+IsCut-same bytes (Array p) (n, h, len) number_at t =
+    grind (arith, append_cancel, document_array, container_document, length-words)
 IsCut-same bytes (Object p) (n, h, len, value_len) number_at t = (
   λ d. object_to number_at p n len value_len t (document_object number_at bytes n _ h t (container_document number_at bytes 2 n _ h (omega arith) t d)),
   λ k. inl (grind (arith, length-key_words)),
@@ -220,8 +225,8 @@ IsCut-same bytes (Object p) (n, h, len, value_len) number_at t = (
 module _ (number_at : NumberReader) (bytes : List ℕ) (n : ℕ) (rest : List ℕ) (t : Tree) (d : IsDocument number_at t bytes) where
   pub array_long : HeadedBy bytes 4 n rest → 4 * n ≤ length rest
   array_long h =
-      let a = document_array number_at bytes n rest h t (container_document number_at bytes 4 n rest h (omega arith) t d) in
-      omega (arith, ap length a.joined, length-append a.words a.contents, a.counted)
+      let content = container_document number_at bytes 4 n rest h (omega arith) t d in
+      grind (arith, length-append, document_array number_at bytes n rest h t content)
 
   pub object_long : HeadedBy bytes 2 n rest → 2 * (4 * n) ≤ length rest
   object_long h = search (arith, document_object number_at bytes n rest h t (container_document number_at bytes 2 n rest h (omega arith) t d), length-append)

@@ -1,5 +1,5 @@
 -- What a payload of bytes is read as fits, is read from no shorter payload than the one that is written, and so the tree that bytes decode to fits.
-use Rattle.jsonb_doc.proofs.Common.{◌≡◌, ◌⊎◌, ℕ, zero, suc, ◌+◌, ◌*◌, ◌/◌, ◌^◌, ◌<◌, ◌≤◌, List, [], ◌∷◌, ◌++◌, length, take, drop, refl, sym, ap, ◌∙◌, arith, true, Some, inl, inr, ℤ, pos, ◌==◌, FitsSigned, slice_index, Width, w32, w64, w128, byte_len, cast_signed, cast_unsigned, sfits_to_z, Fits-bits, drop_of_length-le, div-mul-add, append-nil, length-take-le, take-append-drop, drop-drop, get_or_append_left, get_or-append-add, get_or_past, cases_lt, lt-ltb, le-ltb, nat_tests, of_z-to_z, big_number, big_bytes, twos_complement, big_from-lt, big_from-cons, AreBytes, Variant, int64, uint64, decimal64, decimal128, number_from, zero_number, FitsNumber, Extension, binary, date, timestamp, timestamp_tz, interval, FitsExtension, is_width, signed, fixed, fixed_bytes, signed_size, unsigned_width, number_of, number_payload, number_payload_of, extension_payload, extension_of, Tree, null, boolean, number, text, extension, array, object, Trees, no_trees, tree, Pairs, no_pairs, pair, count, keys, Form, canonical, header, HeadedBy, AreKeys, key_bytes, IsContent, AreEntries, AreValues, IsDocument, Decodes, content_size, elements_size, values_size, IsInRange, AreInRange, ValuesAreInRange, HasShortParts, HasShortElements, HasShortValues, AreShortKeys, IsWithinLimits, Fits, length-drop}
+use Rattle.jsonb_doc.proofs.Common.{◌≡◌, ◌⊎◌, ℕ, zero, suc, ◌+◌, ◌*◌, ◌/◌, ◌^◌, ◌<◌, ◌≤◌, List, [], ◌∷◌, ◌++◌, length, take, drop, refl, sym, ap, ◌∙◌, arith, true, Some, inl, inr, ℤ, pos, ◌==◌, FitsSigned, slice_index, Width, w32, w64, w128, byte_len, cast_signed, cast_unsigned, sfits_to_z, Fits-bits, drop_of_length-le, div-mul-add, append-nil, length-take-le, take-append-drop, drop-drop, get_or_append_left, get_or-append-add, get_or_past, cases_lt, lt-ltb, le-ltb, nat_tests, of_z-to_z, big_number, big_bytes, twos_complement, big_from-lt, big_from-cons, AreBytes, Variant, int64, uint64, decimal64, decimal128, number_from, zero_number, FitsNumber, Extension, binary, date, timestamp, timestamp_tz, interval, FitsExtension, is_width, signed, fixed, fixed_bytes, signed_size, unsigned_width, number_of, number_payload, number_payload_of, extension_payload, extension_of, Tree, null, boolean, number, text, extension, array, object, Trees, no_trees, tree, Pairs, no_pairs, pair, count, keys, Form, canonical, header, HeadedBy, AreKeys, key_bytes, IsContent, AreEntries, AreValues, IsDocument, Decodes, content_size, elements_size, values_size, IsInRange, AreInRange, ValuesAreInRange, HasShortParts, HasShortElements, HasShortValues, AreShortKeys, Fits, length-drop}
 use Rattle.jsonb_doc.specs.Number.{Number}
 use Rattle.jsonb_doc.proofs.CanonicalLemmas.{fits_from, width_bound, in_any}
 use Rattle.jsonb_doc.proofs.LimitLemmas.{same_length, number_cases, extension_cases, length-array, length-object, length-contents}
@@ -183,112 +183,61 @@ pub headed_bytes : (bytes : List ℕ) (kind n : ℕ) (ws cs : List ℕ) → Head
 headed_bytes bytes kind n ws cs h all =
     AreBytes-right ws cs (joined_bytes bytes (header kind n) (ws ++ cs) h.joined all).1
 
-mutual
-  -- what is read is within the ranges of its types
-  content_in_range : (t : Tree) (kind : ℕ) (bytes : List ℕ) → AreBytes bytes → IsContent number_of t kind bytes → IsInRange t
-  content_in_range null kind bytes all h = tt
-  content_in_range (boolean b) kind bytes all h = tt
-  content_in_range (number n) kind bytes all h = (number_within bytes n all h.1).0
-  content_in_range (text s) kind bytes all h = h.2
-  content_in_range (extension x) kind bytes all h = h.1
-  content_in_range (array ts) kind bytes all (is, c) =
-      entries_in_range ts c.words c.contents (headed_bytes bytes 4 (count ts) c.words c.contents c.headed all) c.parts
-  content_in_range (object ps) kind bytes all (is, c) =
-      let m = c.parts in
-      let inner = headed_bytes bytes 2 (length (keys ps)) c.words c.contents c.headed all in
-      let rest = joined_bytes c.contents (key_bytes (keys ps)) m.value_contents m.contents_joined inner in
-      (m.are_keys, values_in_range ps m.value_words m.value_contents rest.1 m.values)
-
-  entries_in_range : (ts : Trees) (ws cs : List ℕ) → AreBytes cs → AreEntries number_of ts ws cs → AreInRange ts
-  entries_in_range no_trees ws cs all h = tt
-  entries_in_range (tree t ts) ws cs all e =
-      let rest = joined_bytes cs e.content e.other_contents e.begin.contents_joined all in
-      (content_in_range t e.kind e.content rest.0 e.part, entries_in_range ts e.other_words e.other_contents rest.1 e.others)
-
-  values_in_range : (ps : Pairs) (ws cs : List ℕ) → AreBytes cs → AreValues number_of ps ws cs → ValuesAreInRange ps
-  values_in_range no_pairs ws cs all h = tt
-  values_in_range (pair key t ps) ws cs all e =
-      let rest = joined_bytes cs e.content e.other_contents e.begin.contents_joined all in
-      (content_in_range t e.kind e.content rest.0 e.part, values_in_range ps e.other_words e.other_contents rest.1 e.others)
-
-mutual
-  -- no content is shorter than the canonical one
-  canonical_is_shortest : (t : Tree) (kind : ℕ) (bytes : List ℕ) → AreBytes bytes → IsContent number_of t kind bytes
-      → content_size canonical t ≤ length bytes
-  canonical_is_shortest null kind bytes all h = omega arith
-  canonical_is_shortest (boolean b) kind bytes all h = omega arith
-  canonical_is_shortest (number n) kind bytes all h = (number_within bytes n all h.1).1
-  canonical_is_shortest (text s) kind bytes all h = omega (arith, ap length h.1)
-  canonical_is_shortest (extension x) kind bytes all h = omega (arith, ap length h.2)
-  canonical_is_shortest (array ts) kind bytes all (is, c) =
-      let inner = headed_bytes bytes 4 (count ts) c.words c.contents c.headed all in
-      omega (arith, length-array number_of bytes ts c, entries_are_shortest ts c.words c.contents inner c.parts)
-  canonical_is_shortest (object ps) kind bytes all (is, c) =
-      let m = c.parts in
-      let inner = headed_bytes bytes 2 (length (keys ps)) c.words c.contents c.headed all in
-      let rest = joined_bytes c.contents (key_bytes (keys ps)) m.value_contents m.contents_joined inner in
-      omega (arith, length-object number_of bytes ps c, values_are_shortest ps m.value_words m.value_contents rest.1 m.values)
-
-  entries_are_shortest : (ts : Trees) (ws cs : List ℕ) → AreBytes cs → AreEntries number_of ts ws cs → elements_size canonical ts ≤ length cs
-  entries_are_shortest no_trees ws cs all h = omega arith
-  entries_are_shortest (tree t ts) ws cs all e =
-      let rest = joined_bytes cs e.content e.other_contents e.begin.contents_joined all in
-      let first = canonical_is_shortest t e.kind e.content rest.0 e.part in
-      let others = entries_are_shortest ts e.other_words e.other_contents rest.1 e.others in
-      omega (arith, length-contents _ _ _ _ _ _ e.begin, first, others)
-
-  values_are_shortest : (ps : Pairs) (ws cs : List ℕ) → AreBytes cs → AreValues number_of ps ws cs → values_size canonical ps ≤ length cs
-  values_are_shortest no_pairs ws cs all h = omega arith
-  values_are_shortest (pair key t ps) ws cs all e =
-      let rest = joined_bytes cs e.content e.other_contents e.begin.contents_joined all in
-      let first = canonical_is_shortest t e.kind e.content rest.0 e.part in
-      let others = values_are_shortest ps e.other_words e.other_contents rest.1 e.others in
-      omega (arith, length-contents _ _ _ _ _ _ e.begin, first, others)
-
 short_keys : (ks : List (List ℕ)) → AreKeys ks → AreShortKeys ks
 short_keys [] h = tt
 short_keys (key ∷ ks) h = (h.0.1, short_keys ks h.2)
 
 mutual
-  -- the parts of what is read are no longer than the format allows
-  content_is_short : (t : Tree) (kind : ℕ) (bytes : List ℕ) → AreBytes bytes → IsContent number_of t kind bytes → HasShortParts canonical t
-  content_is_short (array ts) kind bytes all (is, c) =
+  -- what is read is within the ranges of its types and the limits, and is no shorter than its canonical content
+  content_fits : (t : Tree) (kind : ℕ) (bytes : List ℕ) → AreBytes bytes → IsContent number_of t kind bytes
+      → IsInRange t × HasShortParts canonical t × (content_size canonical t ≤ length bytes)
+  content_fits null kind bytes all h = (tt, tt, omega arith)
+  content_fits (boolean b) kind bytes all h = (tt, tt, omega arith)
+  content_fits (number n) kind bytes all h = let (fits, least) = number_within bytes n all h.1 in (fits, tt, least)
+  content_fits (text s) kind bytes all h = (h.2, tt, omega (arith, ap length h.1))
+  content_fits (extension x) kind bytes all h = (h.1, tt, omega (arith, ap length h.2))
+  content_fits (array ts) kind bytes all (is, c) =
       let inner = headed_bytes bytes 4 (count ts) c.words c.contents c.headed all in
-      (c.headed.fits, entries_are_short ts c.words c.contents inner c.parts)
-  content_is_short (object ps) kind bytes all (is, c) =
+      let (range, short, least) = entries_fit ts c.words c.contents inner c.parts in
+      (range, (c.headed.fits, short), omega (arith, length-array number_of bytes ts c, least))
+  content_fits (object ps) kind bytes all (is, c) =
       let m = c.parts in
       let inner = headed_bytes bytes 2 (length (keys ps)) c.words c.contents c.headed all in
       let rest = joined_bytes c.contents (key_bytes (keys ps)) m.value_contents m.contents_joined inner in
-      (c.headed.fits, short_keys (keys ps) m.are_keys, values_are_short ps m.value_words m.value_contents rest.1 m.values)
-  content_is_short null kind bytes all h = tt
-  content_is_short _ kind bytes all h = tt
+      let (range, short, least) = values_fit ps m.value_words m.value_contents rest.1 m.values in
+      let size : content_size canonical (object ps) ≤ length bytes =
+      omega (arith, length-object number_of bytes ps c, least) in
+      ((m.are_keys, range), (c.headed.fits, short_keys (keys ps) m.are_keys, short), size)
 
-  entries_are_short : (ts : Trees) (ws cs : List ℕ) → AreBytes cs → AreEntries number_of ts ws cs → HasShortElements canonical ts
-  entries_are_short no_trees ws cs all h = tt
-  entries_are_short (tree t ts) ws cs all e =
+  entries_fit : (ts : Trees) (ws cs : List ℕ) → AreBytes cs → AreEntries number_of ts ws cs
+      → AreInRange ts × HasShortElements canonical ts × (elements_size canonical ts ≤ length cs)
+  entries_fit no_trees ws cs all h = (tt, tt, omega arith)
+  entries_fit (tree t ts) ws cs all e =
       let rest = joined_bytes cs e.content e.other_contents e.begin.contents_joined all in
+      let (range, short, least) = content_fits t e.kind e.content rest.0 e.part in
+      let (ranges, shorts, leasts) = entries_fit ts e.other_words e.other_contents rest.1 e.others in
+      let size = length-contents _ _ _ _ _ _ e.begin in
       let fits = e.begin.fits in
-      let least = canonical_is_shortest t e.kind e.content rest.0 e.part in
-      (omega (arith, fits, least), content_is_short t e.kind e.content rest.0 e.part, entries_are_short ts e.other_words e.other_contents rest.1 e.others)
+      ((range, ranges), (omega (arith, fits, least), short, shorts), omega (arith, size, least, leasts))
 
-  values_are_short : (ps : Pairs) (ws cs : List ℕ) → AreBytes cs → AreValues number_of ps ws cs → HasShortValues canonical ps
-  values_are_short no_pairs ws cs all h = tt
-  values_are_short (pair key t ps) ws cs all e =
+  values_fit : (ps : Pairs) (ws cs : List ℕ) → AreBytes cs → AreValues number_of ps ws cs
+      → ValuesAreInRange ps × HasShortValues canonical ps × (values_size canonical ps ≤ length cs)
+  values_fit no_pairs ws cs all h = (tt, tt, omega arith)
+  values_fit (pair key t ps) ws cs all e =
       let rest = joined_bytes cs e.content e.other_contents e.begin.contents_joined all in
+      let (range, short, least) = content_fits t e.kind e.content rest.0 e.part in
+      let (ranges, shorts, leasts) = values_fit ps e.other_words e.other_contents rest.1 e.others in
+      let size = length-contents _ _ _ _ _ _ e.begin in
       let fits = e.begin.fits in
-      let least = canonical_is_shortest t e.kind e.content rest.0 e.part in
-      (omega (arith, fits, least), content_is_short t e.kind e.content rest.0 e.part, values_are_short ps e.other_words e.other_contents rest.1 e.others)
-
--- a content that is short enough for an entry is that of a tree within the limits
-within_limits : (t : Tree) (kind : ℕ) (bytes : List ℕ) → AreBytes bytes → length bytes < 2 ^ 28 → IsContent number_of t kind bytes → IsWithinLimits canonical t
-within_limits t kind bytes h e k = grind (arith, canonical_is_shortest, content_is_short)
+      ((range, ranges), (omega (arith, fits, least), short, shorts), omega (arith, size, least, leasts))
 
 document_fits : (t : Tree) (bytes : List ℕ) → AreBytes bytes → IsDocument number_of t bytes → Fits t
-document_fits t bytes all (inl h) = (content_in_range t 5 bytes all h, grind (arith, content_is_short))
+document_fits t bytes all (inl h) = grind (arith, content_fits t 5 bytes all h)
 document_fits t bytes all (inr c) =
     let e = c.parts in
     let rest = joined_bytes c.contents e.content e.other_contents e.begin.contents_joined (headed_bytes bytes 1 0 c.words c.contents c.headed all) in
-    (content_in_range t e.kind e.content rest.0 e.part.1, within_limits t e.kind e.content rest.0 e.begin.fits e.part.1)
+    let fits = e.begin.fits in
+    grind (arith, content_fits t e.kind e.content rest.0 e.part.1, fits)
 
 pub decoded_fits : (form : Form) (bytes : List ℕ) (t : Tree) → AreBytes bytes → Decodes form bytes t → Fits t
 decoded_fits form bytes t all h = document_fits t bytes all (in_any form t bytes h).document

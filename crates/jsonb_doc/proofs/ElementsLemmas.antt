@@ -1,5 +1,5 @@
 -- The iterator over elements and its first item.
-use Rattle.jsonb_doc.proofs.Common.{◌≡◌, ◌≢◌, ℕ, List, Option, Some, Tree, Trees, array, trees_in, Form, number_reader, Decodes, HasElementsLeft, SameOption, IsCut, Holds, ArrayParts, Array, ElementIter, arith}
+use Rattle.jsonb_doc.proofs.Common.{common_steps, ◌≡◌, ◌≢◌, ℕ, List, Option, Some, Tree, Trees, array, trees_in, Form, number_reader, Decodes, HasElementsLeft, SameOption, IsCut, Holds, ArrayParts, Array, ElementIter, arith}
 use Rattle.jsonb_doc.proofs.Containers.{Decodes-array, Holds-elements}
 
 -- the iterator of a tree's elements
@@ -15,5 +15,4 @@ IsElementsOf-some form t it p h e k = grind arith
 pub only_array : (form : Form) (bytes : List ℕ) (p : ArrayParts) → IsCut bytes (Array p) → (t : Tree) → Decodes form bytes t
     → ((ts : Trees) → t ≢ array ts) → ⊥
 only_array form bytes p cut t h other =
-    let found = Holds-elements form bytes t p (Decodes-array form bytes p cut t h) h in
-    other found.0 found.1
+    grind (arith, Holds-elements form bytes t p (Decodes-array form bytes p cut t h) h)

@@ -46,19 +46,6 @@ module _ (number_at : NumberReader) where
   HasEntries-stop words contents some none (no_trees, h) = omega (arith, ap length h.0)
   HasEntries-stop words contents some none (tree t ts, n) = search (arith, none n.kind n.content n.other_words n.other_contents n.begin)
 
-  pub HasEntries-step : (words contents : List ℕ) (kind : ℕ) (content ws cs : List ℕ) → BeginWith words contents kind content ws cs
-      → HasEntries words contents number_at ↔ (HasContent kind content number_at × HasEntries ws cs number_at)
-  HasEntries-step words contents kind content ws cs b = (split, join)
-    where
-      split : HasEntries words contents number_at → HasContent kind content number_at × HasEntries ws cs number_at
-      split (no_trees, h) = grind (arith, BeginWith-long)
-      split (tree t ts, e) =
-          let parts = Entry-split {P = IsContent number_at t} {Q = AreEntries number_at ts} words contents kind content ws cs b e in
-          ((t, parts.0), (ts, parts.1))
-
-      join : HasContent kind content number_at × HasEntries ws cs number_at → HasEntries words contents number_at
-      join h = (tree h.0.0 h.1.0, Entry-join {P = IsContent number_at h.0.0} {Q = AreEntries number_at h.1.0} words contents kind content ws cs b h.0.1 h.1.1)
-
   -- the first tree is that of the first entry
   pub AreEntries-first : (ts : Trees) (words contents : List ℕ) (kind : ℕ) (content ws cs : List ℕ) → BeginWith words contents kind content ws cs
       → AreEntries number_at ts words contents
@@ -67,6 +54,15 @@ module _ (number_at : NumberReader) where
   AreEntries-first (tree t ts) words contents kind content ws cs b e =
       let parts = Entry-split {P = IsContent number_at t} {Q = AreEntries number_at ts} words contents kind content ws cs b e in
       (t, ts, refl, parts.0, parts.1)
+
+  pub HasEntries-step : (words contents : List ℕ) (kind : ℕ) (content ws cs : List ℕ)
+      → BeginWith words contents kind content ws cs
+      → HasEntries words contents number_at ↔ (HasContent kind content number_at × HasEntries ws cs number_at)
+  HasEntries-step words contents kind content ws cs b = (
+    λ h. let (t, others, is, part, entries) =
+        AreEntries-first h.0 words contents kind content ws cs b h.1 in ((t, part), (others, entries)),
+    λ h. (tree h.0.0 h.1.0, Entry-join words contents kind content ws cs b h.0.1 h.1.1),
+  )
 
 -- a property of entries may be replaced by what follows from it
 Entry-map : {P P' : ℕ → List ℕ → Type 0} {Q Q' : List ℕ → List ℕ → Type 0} → ((kind : ℕ) (content : List ℕ) → P kind content → P' kind content)

@@ -1,15 +1,6 @@
 -- Entries as new documents.
-use Rattle.jsonb_doc.proofs.Common.{◌≡◌, ◌≢◌, ℕ, zero, suc, ◌<◌, ◌≤◌, ◌^◌, List, [], ◌∷◌, ◌++◌, length, take, refl, ap, arith, inr, slice_range, take-take, take_rest, Tree, NumberReader, IsContent, IsDocument, header, scalar_header, entry_word, append-nil}
-
--- an entry that is not a container, as a document
-pub entry_decodes : (number_at : NumberReader) (t : Tree) (kind : ℕ) (content : List ℕ) → kind < 8 → kind ≢ 5 → length content < 2 ^ 28
-    → IsContent number_at t kind content → IsDocument number_at t (header scalar_header 0 ++ (entry_word kind (length content) ++ content))
-entry_decodes number_at t kind content known scalar short part = inr (record {
-  words = entry_word kind (length content);
-  contents = content;
-  headed = record { known = omega arith; fits = omega arith; joined = refl };
-  parts = grind (arith, append-nil);
-})
+use Rattle.jsonb_doc.proofs.Common.{◌≡◌, ℕ, zero, suc, ◌≤◌, List, [], ◌∷◌, length, take, refl, ap, arith, slice_range, take-take, take_rest}
+pub use Rattle.jsonb_doc.proofs.CanonicalLemmas.{entry_decodes}
 
 take_own : (m : ℕ) (xs : List ℕ) → take (length (take m xs)) xs ≡ take m xs
 take_own zero xs = refl

@@ -1,5 +1,5 @@
 -- Lists of events: pairs in their order and sorted are the same states, events lead to at most one state, and which errors lists have.
-use Rattle.jsonb_doc.proofs.Common.{◌≡◌, ℕ, ◌+◌, ◌≤◌, List, [], ◌∷◌, ◌++◌, length, map, refl, sym, ap, subst, ◌∙◌, arith, Bool, true, false, Some, None, Option, nat_cmp, IsTrue, Result, Ok, Err, IsOkAnd, ⊤, if◌then◌else◌, slice_cmp, IsStrictlySortedBy, keys_of, true≢false, Tree, has_key, insert_pair, Level, root, array_of, object_of, State, Event, array_begins, object_begins, key_is, value_is, ends, no_events, takes_value, filled, container, whole, within, with_inner, with_key, with_value, closed, AreEvents, with_key_again, next_of, AreEventsOf, insert_all, appended, TakesTree, Opens, LeadsTo, Happen, EventError, OutOfOrder, Failed, ObjectDuplicateKey, TextEvent, take, drop, ◌==◌, IsSome, take_at, drop_at, text, scalar_of, Reads, Refuses, Form, StandsFor, IsPlain, IsPlainItem, Item, ◌⊎◌, suc, inl, inr, IsTooLarge, HasDuplicateKey, FailsWith, IsDue, IsOutOfMemoryOrTooLarge, Error, OutOfMemory, TooLarge, unwrap_or}
+use Rattle.jsonb_doc.proofs.Common.{common_steps, ◌≡◌, ℕ, ◌+◌, ◌≤◌, List, [], ◌∷◌, ◌++◌, length, map, refl, sym, ap, subst, ◌∙◌, arith, Bool, true, false, Some, None, Option, nat_cmp, IsTrue, Result, Ok, Err, IsOkAnd, ⊤, if◌then◌else◌, slice_cmp, IsStrictlySortedBy, keys_of, true≢false, Tree, has_key, insert_pair, Level, root, array_of, object_of, State, Event, array_begins, object_begins, key_is, value_is, ends, no_events, takes_value, filled, container, whole, within, with_inner, with_key, with_value, closed, AreEvents, with_key_again, next_of, AreEventsOf, insert_all, appended, TakesTree, Opens, LeadsTo, Happen, EventError, OutOfOrder, Failed, ObjectDuplicateKey, TextEvent, take, drop, ◌==◌, IsSome, take_at, drop_at, text, scalar_of, Reads, Refuses, Form, StandsFor, IsPlain, IsPlainItem, Item, ◌⊎◌, suc, inl, inr, IsTooLarge, HasDuplicateKey, FailsWith, IsDue, IsOutOfMemoryOrTooLarge, Error, OutOfMemory, TooLarge}
 use Rattle.jsonb_doc.specs.EventList as lists
 use Rattle.jsonb_doc.proofs.ObjectLemmas.{length-inserted}
 use Rattle.jsonb_doc.proofs.UniqueLemmas.{rise_inserted, none_rise, one_more}
@@ -362,9 +362,7 @@ one_run keep_last (e ∷ es) bytes s rest left after other h g = grind (arith, o
 pub same_tree : (keep_last : Bool) (es : List TextEvent) (bytes rest : List ℕ) (s : State) (t u : Tree) → Happen keep_last es bytes no_events rest s
     → whole s.inner ≡ Some t → AreEventsOf keep_last es bytes u → t ≡ u
 same_tree keep_last es bytes rest s t u happen is of =
-    let other = happen_of keep_last es bytes u of in
-    let same = one_run keep_last es bytes no_events rest other.0 s other.1 happen other.2 in
-    ap (λ (o : Option Tree). unwrap_or o t) (sym is ∙ ap (λ (x : State). whole x.inner) same ∙ other.3)
+    grind (arith, common_steps, happen_of, one_run, happen_of keep_last es bytes u of)
 
 -- ---- the first events
 
@@ -445,9 +443,7 @@ event_due_anyway keep_last e bytes event rest s d h k = grind (arith, due_anyway
 stopped : (es later : List TextEvent) (bytes mid : List ℕ) (s : State) (e : TextEvent) → Happen true es bytes no_events mid s → Refuses true e mid s
     → (t : Tree) → AreEventsOf true (es ++ e ∷ later) bytes t → ⊥
 stopped es later bytes mid s e h refuses t of =
-    let run = happen_of true (es ++ e ∷ later) bytes t of in
-    let g = happen_rest true es (e ∷ later) bytes no_events mid s run.0 run.1 h run.2 in
-    refuses g.0 g.1 g.2 g.3 g.4
+    grind (arith, common_steps, happen_of, happen_rest, happen_of true (es ++ e ∷ later) bytes t of)
 
 pub refused : (form : Form) (keep_last : Bool) (all es later : List TextEvent) (bytes mid : List ℕ) (s : State) (e : TextEvent) (d : EventError)
     → all ≡ es ++ e ∷ later → Happen keep_last es bytes no_events mid s → IsDue keep_last (λ last. Refuses last e mid s) d

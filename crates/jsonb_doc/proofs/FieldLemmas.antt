@@ -1,9 +1,11 @@
 -- The search for a key, one after the other and by blocks, and the value under it.
-use Rattle.jsonb_doc.proofs.Common.{rules, common_steps, ◌≡◌, ◌≢◌, ℕ, zero, suc, ◌+◌, ◌-◌, ◌*◌, ◌<◌, ◌≤◌, List, [], ◌∷◌, ◌++◌, length, length-drop, take, drop, slice_index_or, refl, sym, ap, ◌∙◌, arith, Some, None, Bool, false, append_assoc, length-append, append-nil, drop-drop, drop_at, take_at, length-take-le, first_chunks, bytes_eq, Decides, slice_range, Tree, object, Pairs, no_pairs, pair, keys, value_under, field_of, NumberReader, Form, any, number_reader, Decodes, header, entry_word, BeginWith, AreValues, IsContent, key_words, key_bytes, StandBefore, HoldKeys, IsNoneOf, FoundKey, KeysLeft, SameOption, Locates, spot_content, kind_number, Spot, Holds, IsCut, HasPairParts, IsValueEntry, ObjectParts, Entry, Object, ◌⊎◌, inl, inr, Option, Result, Ok, Err, Bor, IsGetRangeResult, IsSomeAnd, IsOkAnd, Ordering, Less, Equal, Greater, AreBelow, IsBlockOf, IsKeyPosition, IsFoundAt, ◌/◌, ordering_reverse, slice_cmp, cases_lt, nat_list_cmp_total, drop_all, take-append-drop, AreKeys, IsBelowFirst, FindsKey, Error, nat_cmp}
+use Rattle.jsonb_doc.proofs.Common.{rules, common_steps, elements, values, ◌≡◌, ◌≢◌, ℕ, zero, suc, ◌+◌, ◌-◌, ◌*◌, ◌<◌, ◌≤◌, List, [], ◌∷◌, ◌++◌, length, length-drop, take, drop, slice_index_or, refl, sym, ap, ◌∙◌, arith, Some, None, Bool, false, append_assoc, length-append, append-nil, drop-drop, drop_at, take_at, length-take-le, first_chunks, bytes_eq, Decides, slice_range, Tree, object, Pairs, no_pairs, pair, keys, value_under, field_of, NumberReader, Form, any, number_reader, Decodes, header, BeginWith, AreValues, IsContent, key_words, key_bytes, StandBefore, HoldKeys, IsNoneOf, FoundKey, KeysLeft, SameOption, Locates, spot_content, kind_number, Spot, Holds, IsCut, HasPairParts, IsValueEntry, ObjectParts, Entry, Object, ◌⊎◌, inl, inr, Option, Result, Ok, Err, Bor, IsGetRangeResult, IsSomeAnd, IsOkAnd, Ordering, Less, Equal, Greater, AreBelow, IsBlockOf, IsKeyPosition, IsFoundAt, ◌/◌, ordering_reverse, slice_cmp, cases_lt, nat_list_cmp_total, drop_all, take-append-drop, AreKeys, IsBelowFirst, FindsKey, Error, nat_cmp}
 use Rattle.jsonb_doc.proofs.WordLemmas.{bytes_eq-true, bytes_eq-same}
 use Rattle.jsonb_doc.proofs.Entries.{BeginWith-long, BeginWith-unique, begin_key, told, told_length, StandBefore-joined, HoldKeys-before, keys_before, IsPart-some}
 use Rattle.jsonb_doc.proofs.ScalarLemmas.{some_injective}
-use Rattle.jsonb_doc.proofs.Containers.{length-key_words, HoldsPairs-keys}
+use Rattle.jsonb_doc.proofs.Containers.{length-key_words, HoldsPairs-keys, entries_of}
+use Rattle.jsonb_doc.proofs.TreeLists.{trees_of-elements}
+use Rattle.jsonb_doc.proofs.WriterLemmas.{split_at}
 use Rattle.jsonb_doc.proofs.SpotsLemmas.{Locates-part, some_field, object_held, object_joined}
 use Rattle.jsonb_doc.proofs.ObjectLemmas.{equal_key, above}
 use Rattle.jsonb_doc.specs.declared.key_search.KeyPosition.TheVariants.{Found, Missing}
@@ -11,9 +13,10 @@ use Rattle.jsonb_doc.proofs.Basics.{below_next}
 
 -- ---- the search
 
-IsNoneOf-append : (name key : List ℕ) (front : List (List ℕ)) → IsNoneOf name front → key ≢ name → IsNoneOf name (front ++ key ∷ [])
-IsNoneOf-append name key [] h other = (other, tt)
-IsNoneOf-append name key (k ∷ front) h other = (h.0, IsNoneOf-append name key front h.1 other)
+IsNoneOf-both : (name : List ℕ) (front back : List (List ℕ)) → IsNoneOf name front → IsNoneOf name back
+    → IsNoneOf name (front ++ back)
+IsNoneOf-both name [] back first others = others
+IsNoneOf-both name (key ∷ front) back first others = (first.0, IsNoneOf-both name front back first.1 others)
 
 abbrev pub KeysLeft-start : (P : List (List ℕ) → Type 0) (ks : List (List ℕ)) (rest words bytes : List ℕ) → P [] → HoldKeys ks words bytes rest
     → KeysLeft P ks rest words bytes
@@ -38,15 +41,7 @@ module _ (words bytes : List ℕ) (kind : ℕ) (key ws bs : List ℕ) (b : Begin
 
   pub KeysLeft-step : (P : List (List ℕ) → Type 0) (ks : List (List ℕ)) (rest : List ℕ) (l : KeysLeft P ks rest words bytes) → P (l.front ++ key ∷ [])
       → KeysLeft P ks rest ws bs
-  KeysLeft-step P ks rest l more =
-      let (others, is, holds) = first_key l.back rest l.behind in
-      record {
-        front = l.front ++ key ∷ [];
-        back = others;
-        joined = l.joined ∙ ap (λ (k : List (List ℕ)). l.front ++ k) is ∙ sym (append_assoc l.front (key ∷ []) others);
-        first = more;
-        behind = holds;
-      }
+  KeysLeft-step P ks rest l more = grind (arith, first_key, append_assoc)
 
   pub KeysLeft-found : (name : List ℕ) (ks : List (List ℕ)) (rest : List ℕ) → key ≡ name → KeysLeft (IsNoneOf name) ks rest words bytes → FoundKey name ks rest ws bs
   KeysLeft-found name ks rest h e = grind (arith, first_key)
@@ -118,7 +113,7 @@ module _ (name : List ℕ) (ks : List (List ℕ)) (rest words bytes : List ℕ) 
   key_passed other =
       rw (← words_behind, ← bytes_behind)
       (KeysLeft-step _ _ _ _ _ _ first.begin (IsNoneOf name) ks rest l
-      (IsNoneOf-append name first.key l.front l.first (λ (e : first.key ≡ name). other (same_key ∙ e))))
+      (IsNoneOf-both name l.front (first.key ∷ []) l.first (λ (e : first.key ≡ name). other (same_key ∙ e), tt)))
 
   pub key_found : take len (drop end bytes) ≡ name → FoundKey name ks rest (drop (4 * (at + 1)) words) (drop (end + len) bytes)
   key_found e = search (arith, words_behind, bytes_behind, KeysLeft-found _ _ _ _ _ _ first.begin name ks rest (sym same_key ∙ e) l)
@@ -137,24 +132,6 @@ pub record ValueAt (number_at : NumberReader) (value : Tree) (passed : ℕ) (wor
   pub begin : BeginWith (drop passed words) left kind content ws cs
   pub part : IsContent number_at value kind content
 
-ValueAt-more : (number_at : NumberReader) (value : Tree) (n : ℕ) (words contents : List ℕ) (kind : ℕ) (content ws cs : List ℕ)
-    → BeginWith words contents kind content ws cs → ValueAt number_at value (4 * n) ws cs → ValueAt number_at value (4 * suc n) words contents
-ValueAt-more number_at value n words contents kind content ws cs b v =
-    let four : 4 * suc n ≡ suc (suc (suc (suc (4 * n)))) = omega arith in
-    let taken : take (4 * suc n) words ≡ entry_word kind (length content) ++ take (4 * n) ws = ap (λ (m : ℕ). take m words) four
-    ∙ ap (take (suc (suc (suc (suc (4 * n)))))) b.words_joined in
-    record {
-      parts = content ∷ v.parts;
-      left = v.left;
-      before = grind arith;
-      kind = v.kind;
-      content = v.content;
-      ws = v.ws;
-      cs = v.cs;
-      begin = rw (ap (λ (m : ℕ). drop m words) four ∙ ap (drop (suc (suc (suc (suc (4 * n)))))) b.words_joined) v.begin;
-      part = v.part;
-    }
-
 bytes_eq-other : (xs ys : List ℕ) → xs ≢ ys → bytes_eq xs ys ≡ false
 bytes_eq-other xs ys h = grind (arith, bytes_eq-true)
 
@@ -163,29 +140,27 @@ no_value name no_pairs none = refl
 no_value name (pair key t ps) none = rw (bytes_eq-other key name none.0) (no_value name ps none.1)
 
 -- the value under the name is after as many others as its key
-pub value_at : (number_at : NumberReader) (name : List ℕ) (ps : Pairs) (front back : List (List ℕ)) → keys ps ≡ front ++ name ∷ back → IsNoneOf name front
-    → (words contents : List ℕ) → AreValues number_at ps words contents
+value_at : (name : List ℕ) (ps : Pairs) (front back : List (List ℕ)) → keys ps ≡ front ++ name ∷ back
+    → IsNoneOf name front
+    → (value : Tree) × (others : List Tree) × (value_under name ps ≡ Some value)
+    × (drop (length front) (elements (values ps)) ≡ value ∷ others)
+value_at name no_pairs [] back joined none = absurd (cc joined)
+value_at name no_pairs (k ∷ front) back joined none = absurd (cc joined)
+value_at name (pair key t ps) [] back joined none =
+    let same : key ≡ name = cc joined in (t, elements (values ps), rw (same, bytes_eq-same name) refl, refl)
+value_at name (pair key t ps) (k ∷ front) back joined none =
+    grind (arith, value_at name ps front back (cc joined) none.1, bytes_eq-other)
+
+-- the entry of that value
+value_split : (number_at : NumberReader) (name : List ℕ) (ps : Pairs) (front back : List (List ℕ))
+    (words contents : List ℕ) → keys ps ≡ front ++ name ∷ back
+    → IsNoneOf name front → AreValues number_at ps words contents
     → (value : Tree) × (value_under name ps ≡ Some value) × ValueAt number_at value (4 * length front) words contents
-value_at number_at name no_pairs [] back joined none words contents e = absurd (cc joined)
-value_at number_at name no_pairs (k ∷ front) back joined none words contents e = absurd (cc joined)
-value_at number_at name (pair key t ps) [] back joined none words contents e =
-    let same : key ≡ name = cc joined in (
-      t,
-      rw (same, bytes_eq-same name) refl,
-      record {
-        parts = [];
-        left = contents;
-        before = (refl, refl);
-        kind = e.kind;
-        content = e.content;
-        ws = e.other_words;
-        cs = e.other_contents;
-        begin = e.begin;
-        part = e.part;
-      },
-    )
-value_at number_at name (pair key t ps) (k ∷ front) back joined none words contents e =
-    search (arith, value_at number_at name ps front back (cc joined) none.1 e.other_words e.other_contents e.others, bytes_eq-other, ValueAt-more)
+value_split number_at name ps front back words contents joined none e =
+    let (value, others, under, is) = value_at name ps front back joined none in
+    let entries = rw (← trees_of-elements (values ps)) at (entries_of number_at ps words contents e) in
+    let s = split_at number_at (length front) (elements (values ps)) words contents entries in
+    grind (arith, s, under, is)
 
 -- ---- the entry of the value
 
@@ -215,7 +190,7 @@ module _ (number_at : NumberReader) (name : List ℕ) (ps : Pairs) (p : ObjectPa
 
       -- the value, after the contents of the keys
       pub value_there : (value : Tree) × (value_under name ps ≡ Some value) × ValueAt number_at value passed p.value_words.now contents
-      value_there = grind (arith, key_found_at, value_at, length-key_words, length-append, skipped)
+      value_there = grind (arith, key_found_at, value_split, length-key_words, length-append, skipped)
 
       module _ (e : Entry)
           (entry : (parts : List (List ℕ)) (left : List ℕ) → StandBefore parts (take passed p.value_words.now) contents left
@@ -394,10 +369,6 @@ module _ (n : ℕ) (ks : List (List ℕ)) (words bytes rest : List ℕ) (h : Hol
         block_skipped other = search (arith, first_key other_words other_bytes kind key ws cs b (drop n ks) rest others, take-append-drop, below_before, others)
 
 -- ---- the block that a name would be in
-
-IsNoneOf-both : (name : List ℕ) (front back : List (List ℕ)) → IsNoneOf name front → IsNoneOf name back → IsNoneOf name (front ++ back)
-IsNoneOf-both name [] back first others = others
-IsNoneOf-both name (key ∷ front) back first others = (first.0, IsNoneOf-both name front back first.1 others)
 
 -- of the keys after these the first n are not needed
 IsNoneOf-all : (name : List ℕ) (n : ℕ) (front back : List (List ℕ)) → n ≤ length front → IsNoneOf name front → IsNoneOf name (drop n (front ++ back))

@@ -1,9 +1,9 @@
 -- Items: as entries and as documents, and those that are read of any bytes.
-use Rattle.jsonb_doc.proofs.Common.{◌≡◌, ◌≢◌, ℕ, ◌<◌, ◌≤◌, ◌^◌, List, length, refl, arith, true, false, Bor, Tree, null, boolean, number, text, extension, array, object, Form, any, canonical, number_reader, number_payload, IsContent, Decodes, content_size, number_view, extension_view, StandsFor, item_content, IsTooLong, item_kind, scalar_bytes, FitsItem, Item, Null, Boolean, ◌++◌, Result, inl, inr, sym, subst, MatchResult, IfOk, length-append, append-nil, HeadedBy, entry_word, IsContainer, HasFirstEntry, AreNone, HasItsWords, IsItemOf, IsRootOf, AreBytes, IsShapeOf, IsRootShape, HasReadableRoot, Shape, IsCut, kind_number, header_number, HeaderKind, ArrayParts, ObjectParts, StoredEntry, Error, Scalar}
+use Rattle.jsonb_doc.proofs.Common.{◌≡◌, ◌≢◌, ℕ, ◌<◌, ◌≤◌, ◌^◌, List, length, refl, arith, true, false, Bor, Tree, extension, array, object, Form, any, canonical, number_reader, number_payload, IsContent, Decodes, content_size, number_view, extension_view, StandsFor, item_content, IsTooLong, item_kind, scalar_bytes, FitsItem, Item, Null, Boolean, ◌++◌, Result, inl, inr, sym, subst, MatchResult, IfOk, length-append, append-nil, HeadedBy, entry_word, IsContainer, HasFirstEntry, AreNone, HasItsWords, IsItemOf, IsRootOf, AreBytes, IsShapeOf, IsRootShape, HasReadableRoot, Shape, IsCut, kind_number, header_number, HeaderKind, ArrayParts, ObjectParts, StoredEntry, Error, Scalar}
 use Rattle.jsonb_doc.specs.declared.item.Item.TheVariants.{Number, String, Extension, Array, Object}
 use Rattle.jsonb_doc.proofs.Containers.{array_document, object_document, HasContent-headed, IsCut-same}
-use Rattle.jsonb_doc.proofs.CanonicalLemmas.{scalar_is, number_back, length-number_payload}
-use Rattle.jsonb_doc.proofs.Entries.{reads_canonical, reads_written}
+use Rattle.jsonb_doc.proofs.CanonicalLemmas.{entry_decodes, number_back, length-number_payload}
+use Rattle.jsonb_doc.proofs.Entries.{kind_below, reads_canonical, reads_written}
 use Rattle.jsonb_doc.proofs.LimitLemmas.{size_within}
 use Rattle.jsonb_doc.specs.declared.shape.Shape.TheVariants as shapes
 use Rattle.jsonb_doc.specs.declared.container.Container.{Container}
@@ -44,21 +44,10 @@ scalar_kind item h e = grind arith
 -- the document of the entry of an item that is not a container
 pub scalar_decodes : (form : Form) (item : Item) (t : Tree) → item_kind item ≢ 5 → StandsFor form item t → FitsItem item → length (item_content item) < 2 ^ 28
     → Decodes form (scalar_bytes item) t
-scalar_decodes form Null t scalar is fits short =
-    rw is (record { document = scalar_is (number_reader form) null _ short scalar (content_stands form Null null refl fits) })
-scalar_decodes form (Boolean false) t scalar is fits short =
-    rw is (record { document = scalar_is (number_reader form) (boolean false) _ short scalar (content_stands form (Boolean false) (boolean false) refl fits) })
-scalar_decodes form (Boolean true) t scalar is fits short =
-    rw is (record { document = scalar_is (number_reader form) (boolean true) _ short scalar (content_stands form (Boolean true) (boolean true) refl fits) })
-scalar_decodes form (Number n) t scalar is fits short =
-    let more = scalar_is (number_reader form) (number (number_view n)) _ short scalar (content_stands form (Number n) (number (number_view n)) refl fits) in
-    search (arith, is, more)
-scalar_decodes form (String s) t scalar is fits short =
-    rw is (record { document = scalar_is (number_reader form) (text s.now) _ short scalar (content_stands form (String s) (text s.now) refl fits) })
-scalar_decodes form (Extension x) t scalar is fits short =
-    let stands = content_stands form (Extension x) (extension (extension_view x)) refl fits in
-    rw is (record { document = scalar_is (number_reader form) (extension (extension_view x)) _ short scalar stands })
-scalar_decodes form item t scalar is fits short = grind arith
+scalar_decodes form item t scalar is fits short =
+    let stands = content_stands form item t is fits in
+    let known = kind_below (number_reader form) t (item_kind item) (item_content item) stands in
+    record { document = entry_decodes (number_reader form) t _ _ (omega (arith, known)) scalar short stands }
 
 -- a container that is read has a header
 pub item_headed : (content : List ℕ) (item : Item) → IsItemOf 5 content item

@@ -1,5 +1,5 @@
 -- How long the contents of trees are, and which trees exceed the limits if a child or a prefix of them does; keys of documents.
-use Rattle.jsonb_doc.proofs.Common.{◌≡◌, ℕ, ◌+◌, ◌*◌, ◌≤◌, List, [], ◌∷◌, length, refl, ap, ◌∙◌, arith, Some, None, inl, inr, true, false, ℤ, pos, Bool, ◌⊎◌, ◌==◌, if◌then◌else◌, slice_index, w64, w128, big_number, length-append, nat_tests, then_some, Variant, int64, uint64, decimal64, decimal128, number_from, zero_number, Extension, Tree, null, boolean, number, text, extension, array, object, Trees, no_trees, tree, Pairs, no_pairs, pair, count, keys, values, Form, any, canonical, NumberReader, number_reader, is_width, signed, fixed, number_of, array_header, object_header, BeginWith, IsContainer, AreMembers, IsContent, AreEntries, AreValues, key_bytes, content, words, contents, value_words, value_contents, widest_number, content_size, elements_size, values_size, ◌++◌, members, trees_of, AreKeys, Decodes, keys_of, HasShortElements, IsWithinLimits, IsTooLarge}
+use Rattle.jsonb_doc.proofs.Common.{◌≡◌, ℕ, ◌+◌, ◌*◌, ◌≤◌, List, [], ◌∷◌, length, refl, ap, ◌∙◌, arith, Some, None, inl, inr, true, false, ℤ, pos, Bool, ◌⊎◌, ◌==◌, if◌then◌else◌, slice_index, w64, w128, big_number, length-append, nat_tests, then_some, Variant, int64, uint64, decimal64, decimal128, number_from, zero_number, Extension, Tree, null, boolean, number, text, extension, array, object, Trees, no_trees, tree, Pairs, no_pairs, pair, count, keys, Form, any, canonical, NumberReader, number_reader, is_width, signed, fixed, number_of, array_header, object_header, BeginWith, IsContainer, AreMembers, IsContent, AreEntries, AreValues, key_bytes, content, words, contents, value_words, value_contents, widest_number, content_size, elements_size, values_size, ◌++◌, members, trees_of, AreKeys, Decodes, keys_of, HasShortElements, IsTooLarge, IsShort, HasShortParts}
 use Rattle.jsonb_doc.proofs.ScalarLemmas.{some_injective}
 use Rattle.jsonb_doc.specs.Number.{Number}
 use Rattle.jsonb_doc.proofs.Entries.{canonical_payload}
@@ -80,28 +80,6 @@ pub length-contents : (words contents : List ℕ) (kind : ℕ) (content other_wo
 length-contents words contents kind content other_words other_contents b = ap length b.contents_joined ∙ length-append content other_contents
 
 mutual
-  widest : (t : Tree) (kind : ℕ) (bytes : List ℕ) → IsContent number_of t kind bytes → length bytes ≤ content_size any t
-  widest null kind bytes h = omega (arith, ap length h.1)
-  widest (boolean true) kind bytes h = omega (arith, ap length h.1)
-  widest (boolean false) kind bytes h = omega (arith, ap length h.1)
-  widest (number n) kind bytes h = number_size bytes n h.1
-  widest (text s) kind bytes h = omega (arith, ap length h.1)
-  widest (extension x) kind bytes h = omega (arith, ap length h.2)
-  widest (array ts) kind bytes (is, c) = omega (arith, length-array number_of bytes ts c, widest_entries ts c.words c.contents c.parts)
-  widest (object ps) kind bytes (is, c) =
-      omega (arith, length-object number_of bytes ps c, widest_pairs ps c.parts.value_words c.parts.value_contents c.parts.values)
-
-  widest_entries : (ts : Trees) (ws cs : List ℕ) → AreEntries number_of ts ws cs → length cs ≤ elements_size any ts
-  widest_entries no_trees ws cs h = omega (arith, ap length h.1)
-  widest_entries (tree t ts) ws cs e =
-      omega (arith, length-contents _ _ _ _ _ _ e.begin, widest t e.kind e.content e.part, widest_entries ts e.other_words e.other_contents e.others)
-
-  widest_pairs : (ps : Pairs) (ws cs : List ℕ) → AreValues number_of ps ws cs → length cs ≤ values_size any ps
-  widest_pairs no_pairs ws cs h = omega (arith, ap length h.1)
-  widest_pairs (pair key t ps) ws cs e =
-      omega (arith, length-contents _ _ _ _ _ _ e.begin, widest t e.kind e.content e.part, widest_pairs ps e.other_words e.other_contents e.others)
-
-mutual
   -- a canonical content is as long as stated
   pub length-content : (t : Tree) → length (content t) ≡ content_size canonical t
   length-content (array ts) = omega (arith, length-append (words ts) (contents ts), length-canonical_words ts, length-elements ts)
@@ -117,33 +95,42 @@ mutual
   length-values no_pairs = refl
   length-values (pair key t ps) = omega (arith, length-append (content t) (value_contents ps), length-content t, length-values ps)
 
-mutual
-  shortest : (t : Tree) (kind : ℕ) (bytes : List ℕ) → IsContent (number_reader canonical) t kind bytes → length bytes ≡ content_size canonical t
-  shortest null kind bytes h = ap length h.1
-  shortest (boolean true) kind bytes h = ap length h.1
-  shortest (boolean false) kind bytes h = ap length h.1
-  shortest (number n) kind bytes h = ap length (canonical_payload bytes n h.1)
-  shortest (text s) kind bytes h = ap length h.1
-  shortest (extension x) kind bytes h = ap length h.2
-  shortest (array ts) kind bytes (is, c) =
-      omega (arith, length-array (number_reader canonical) bytes ts c, shortest_entries ts c.words c.contents c.parts)
-  shortest (object ps) kind bytes (is, c) =
-      let m = c.parts in
-      omega (arith, length-object (number_reader canonical) bytes ps c, shortest_values ps m.value_words m.value_contents m.values)
+payload_size : (form : Form) (bytes : List ℕ) (n : Number) → number_reader form bytes ≡ Some n
+    → length bytes ≤ content_size form (number n)
+payload_size any bytes n h = number_size bytes n h
+payload_size canonical bytes n h = omega (arith, ap length (canonical_payload bytes n h))
 
-  shortest_entries : (ts : Trees) (ws cs : List ℕ) → AreEntries (number_reader canonical) ts ws cs → length cs ≡ elements_size canonical ts
-  shortest_entries no_trees ws cs h = ap length h.1
-  shortest_entries (tree t ts) ws cs e =
-      omega (arith, length-contents _ _ _ _ _ _ e.begin, shortest t e.kind e.content e.part, shortest_entries ts e.other_words e.other_contents e.others)
+module _ (form : Form) where
+  mutual
+    -- a content is no longer than the tree may be in its form
+    pub size_within : (t : Tree) (kind : ℕ) (bytes : List ℕ) → IsContent (number_reader form) t kind bytes
+        → length bytes ≤ content_size form t
+    size_within null kind bytes h = omega (arith, ap length h.1)
+    size_within (boolean true) kind bytes h = omega (arith, ap length h.1)
+    size_within (boolean false) kind bytes h = omega (arith, ap length h.1)
+    size_within (number n) kind bytes h = payload_size form bytes n h.1
+    size_within (text s) kind bytes h = omega (arith, ap length h.1)
+    size_within (extension x) kind bytes h = omega (arith, ap length h.2)
+    size_within (array ts) kind bytes (is, c) =
+        omega (arith, length-array (number_reader form) bytes ts c, entries_within ts c.words c.contents c.parts)
+    size_within (object ps) kind bytes (is, c) =
+        let m = c.parts in
+        let inner = values_within ps m.value_words m.value_contents m.values in
+        omega (arith, length-object (number_reader form) bytes ps c, inner)
 
-  shortest_values : (ps : Pairs) (ws cs : List ℕ) → AreValues (number_reader canonical) ps ws cs → length cs ≡ values_size canonical ps
-  shortest_values no_pairs ws cs h = ap length h.1
-  shortest_values (pair key t ps) ws cs e =
-      omega (arith, length-contents _ _ _ _ _ _ e.begin, shortest t e.kind e.content e.part, shortest_values ps e.other_words e.other_contents e.others)
+    entries_within : (ts : Trees) (ws cs : List ℕ) → AreEntries (number_reader form) ts ws cs
+        → length cs ≤ elements_size form ts
+    entries_within no_trees ws cs h = omega (arith, ap length h.1)
+    entries_within (tree t ts) ws cs e =
+        let others = entries_within ts e.other_words e.other_contents e.others in
+        omega (arith, length-contents _ _ _ _ _ _ e.begin, size_within t e.kind e.content e.part, others)
 
--- a content is no longer than the tree may be in its form
-pub size_within : (form : Form) (t : Tree) (kind : ℕ) (bytes : List ℕ) → IsContent (number_reader form) t kind bytes → length bytes ≤ content_size form t
-size_within form t kind bytes h = grind (arith, widest, shortest)
+    values_within : (ps : Pairs) (ws cs : List ℕ) → AreValues (number_reader form) ps ws cs
+        → length cs ≤ values_size form ps
+    values_within no_pairs ws cs h = omega (arith, ap length h.1)
+    values_within (pair key t ps) ws cs e =
+        let others = values_within ps e.other_words e.other_contents e.others in
+        omega (arith, length-contents _ _ _ _ _ _ e.begin, size_within t e.kind e.content e.part, others)
 
 fewer_trees : (ts us : List Tree) → count (trees_of ts) ≤ count (trees_of (ts ++ us))
 fewer_trees [] us = omega arith
@@ -157,14 +144,15 @@ short_front form (t ∷ ts) us h = (h.0, h.1, short_front form ts us h.2)
 pub array_too_large-more : (form : Form) (ts us : List Tree) → IsTooLarge form (array (trees_of ts)) → IsTooLarge form (array (trees_of (ts ++ us)))
 array_too_large-more form ts us h = grind (arith, fewer_trees, short_front)
 
--- a tree that fits in a container is within the limits
-short_middle : (form : Form) (ts us : List Tree) (t : Tree) → HasShortElements form (trees_of (ts ++ t ∷ us)) → IsWithinLimits form t
-short_middle form [] us t h = grind (arith, h.0, h.1)
-short_middle form (v ∷ ts) us t h = short_middle form ts us t h.2
+-- each element of a container within the limits is short, and within them itself
+pub well_among : (form : Form) (xs ys : List Tree) (t : Tree) → HasShortElements form (trees_of (xs ++ t ∷ ys))
+    → IsShort form t × HasShortParts form t
+well_among form [] ys t h = (h.0, h.1)
+well_among form (x ∷ xs) ys t h = well_among form xs ys t h.2
 
 -- an array exceeds the limits if an element does
 pub array_too_large-element : (form : Form) (ts us : List Tree) (t : Tree) → IsTooLarge form t → IsTooLarge form (array (trees_of (ts ++ t ∷ us)))
-array_too_large-element form ts us t large = λ short. large (short_middle form ts us t short.1)
+array_too_large-element form ts us t large = grind (arith, well_among)
 
 -- the keys of an object that bytes decode to are sorted
 pub decoded_keys : (form : Form) (bytes : List ℕ) (ps : Pairs) → Decodes form bytes (object ps) → AreKeys (keys ps)

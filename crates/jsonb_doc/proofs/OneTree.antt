@@ -1,23 +1,10 @@
 -- Bytes decode to one tree at most.
-use Rattle.jsonb_doc.proofs.Common.{◌≡◌, ℕ, List, [], ◌∷◌, ◌++◌, length, refl, sym, ap, ◌∙◌, arith, true, false, inl, inr, append_assoc, length-append, Tree, null, boolean, number, text, extension, array, object, Trees, no_trees, tree, Pairs, no_pairs, pair, keys, values, NumberReader, BeginWith, AreKeys, key_words, key_bytes, IsContent, AreEntries, AreValues, IsDocument}
+use Rattle.jsonb_doc.proofs.Common.{◌≡◌, ℕ, List, ◌++◌, length, refl, sym, ap, ◌∙◌, arith, true, false, inl, inr, length-append, Tree, null, boolean, number, text, extension, array, object, Trees, no_trees, tree, Pairs, no_pairs, pair, keys, values, NumberReader, key_words, IsContent, AreEntries, AreValues, IsDocument, HeadedBy}
 use Rattle.jsonb_doc.proofs.WordLemmas.{append_cancel}
 use Rattle.jsonb_doc.proofs.Entries.{BeginWith-unique, BeginWith-long}
 use Rattle.jsonb_doc.proofs.ExtensionsRead.{extension_back}
 use Rattle.jsonb_doc.proofs.ScalarLemmas.{null_content, false_content, true_content, text_content, number_content, extension_content, some_injective}
-use Rattle.jsonb_doc.proofs.Containers.{HeadedBy-unique, length-words, entries_of, count-values, length-key_words, scalar_document}
-
--- keys after as many keys in the same bytes are the same
-keys_unique : (ks ls : List (List ℕ)) (v v' x x' words bytes : List ℕ) → AreKeys ks → AreKeys ls → length ks ≡ length ls
-    → words ≡ key_words ks ++ v → words ≡ key_words ls ++ v' → bytes ≡ key_bytes ks ++ x → bytes ≡ key_bytes ls ++ x'
-    → (ks ≡ ls) × (v ≡ v') × (x ≡ x')
-keys_unique [] [] v v' x x' words bytes p q n e f g h = (refl, sym e ∙ f, sym g ∙ h)
-keys_unique [] (l ∷ ls) v v' x x' words bytes p q n e f g h = absurd (omega arith)
-keys_unique (k ∷ ks) [] v v' x x' words bytes p q n e f g h = absurd (omega arith)
-keys_unique (k ∷ ks) (l ∷ ls) v v' x x' words bytes p q n e f g h =
-    let first : BeginWith words bytes 1 k (key_words ks ++ v) (key_bytes ks ++ x) = grind (arith, append_assoc) in
-    let other : BeginWith words bytes 1 l (key_words ls ++ v') (key_bytes ls ++ x') = grind (arith, append_assoc) in
-    let same = BeginWith-unique _ _ _ _ _ _ _ _ _ _ first other in
-    grind (arith, same, keys_unique ks ls v v' x x' (key_words ks ++ v) (key_bytes ks ++ x) p.2 q.2)
+use Rattle.jsonb_doc.proofs.Containers.{keys_unique, HeadedBy-unique, length-words, entries_of, count-values, length-key_words, scalar_document}
 
 module _ (number_at : NumberReader) where
   mutual
@@ -30,10 +17,7 @@ module _ (number_at : NumberReader) where
     content_unique (extension x) t' kind bytes h g = grind (arith, extension_content, some_injective, extension_back)
     content_unique (array ts) (array ts') kind bytes h g =
         grind (arith, entries_unique ts ts' h.1.words h.1.contents h.1.parts, HeadedBy-unique, length-words, append_cancel)
-    content_unique (array ts) (object ps) kind bytes h g = grind (arith, HeadedBy-unique)
-    content_unique (array ts) (boolean false) kind bytes h g = absurd (omega (arith, h.0, g.0))
-    content_unique (array ts) (boolean true) kind bytes h g = absurd (omega (arith, h.0, g.0))
-    content_unique (array ts) _ kind bytes h g = absurd (omega (arith, h.0, g.0))
+    content_unique (array ts) t' kind bytes h g = grind (arith, HeadedBy-unique)
     content_unique (object ps) (object ps') kind bytes h g =
         let a = h.1 in
         let b = g.1 in
@@ -54,10 +38,7 @@ module _ (number_at : NumberReader) where
         (keys ps') m.value_words m'.value_words m.value_contents m'.value_contents a.words a.contents m.are_keys m'.are_keys same_count m.words_joined
         (same_words ∙ m'.words_joined) m.contents_joined (same_contents ∙ m'.contents_joined) in
         ap object (values_unique ps ps' same_keys m.value_words m.value_contents m.values (rw (same_value_words, same_value_contents) m'.values))
-    content_unique (object ps) (array ts) kind bytes h g = grind (arith, HeadedBy-unique)
-    content_unique (object ps) (boolean false) kind bytes h g = absurd (omega (arith, h.0, g.0))
-    content_unique (object ps) (boolean true) kind bytes h g = absurd (omega (arith, h.0, g.0))
-    content_unique (object ps) _ kind bytes h g = absurd (omega (arith, h.0, g.0))
+    content_unique (object ps) t' kind bytes h g = grind (arith, HeadedBy-unique)
 
     pub entries_unique : (ts ts' : Trees) (words contents : List ℕ) → AreEntries number_at ts words contents → AreEntries number_at ts' words contents
         → ts ≡ ts'
@@ -75,19 +56,20 @@ module _ (number_at : NumberReader) where
     values_unique (pair k t ps) no_pairs same words contents h g = absurd (omega (arith, ap length same))
     values_unique (pair k t ps) (pair k' t' ps') same words contents h g =
         let is = BeginWith-unique _ _ _ _ _ _ _ _ _ _ h.begin g.begin in
-        let first = content_unique t t' h.kind h.content h.part (rw (is.0, is.1) g.part) in
-        let others = values_unique ps ps' (cc same) h.other_words h.other_contents h.others (rw (is.2, is.3) g.others) in
-        cc (same, first, others)
+        let others = values_unique ps ps' (cc same) h.other_words h.other_contents h.others in
+        grind (arith, is, content_unique t t' h.kind h.content h.part, others)
 
-  pub document_unique : (t t' : Tree) (bytes : List ℕ) → IsDocument number_at t bytes → IsDocument number_at t' bytes → t ≡ t'
+  -- a scalar's header determines the one entry
+  headed_unique : (t t' : Tree) (bytes rest : List ℕ) → HeadedBy bytes 1 0 rest → IsDocument number_at t bytes
+      → IsDocument number_at t' bytes → t ≡ t'
+  headed_unique t t' bytes rest headed h g =
+      let mine = scalar_document number_at bytes 1 0 rest headed t refl h in
+      let other = scalar_document number_at bytes 1 0 rest headed t' refl g in
+      let same = BeginWith-unique _ _ _ _ _ _ _ _ _ _ mine.4 other.4 in
+      content_unique t t' mine.2 mine.3 mine.6 (rw (same.0, same.1) other.6)
+
+  pub document_unique : (t t' : Tree) (bytes : List ℕ) → IsDocument number_at t bytes → IsDocument number_at t' bytes
+      → t ≡ t'
   document_unique t t' bytes (inl h) (inl g) = content_unique t t' 5 bytes h g
-  document_unique t t' bytes (inr s) g =
-      let mine = scalar_document number_at bytes 1 0 (s.words ++ s.contents) s.headed t refl (inr s) in
-      let other = scalar_document number_at bytes 1 0 (s.words ++ s.contents) s.headed t' refl g in
-      let same = BeginWith-unique _ _ _ _ _ _ _ _ _ _ mine.4 other.4 in
-      content_unique t t' mine.2 mine.3 mine.6 (rw (same.0, same.1) other.6)
-  document_unique t t' bytes (inl h) (inr s) =
-      let mine = scalar_document number_at bytes 1 0 (s.words ++ s.contents) s.headed t refl (inl h) in
-      let other = scalar_document number_at bytes 1 0 (s.words ++ s.contents) s.headed t' refl (inr s) in
-      let same = BeginWith-unique _ _ _ _ _ _ _ _ _ _ mine.4 other.4 in
-      content_unique t t' mine.2 mine.3 mine.6 (rw (same.0, same.1) other.6)
+  document_unique t t' bytes (inr s) g = headed_unique t t' bytes (s.words ++ s.contents) s.headed (inr s) g
+  document_unique t t' bytes (inl h) (inr s) = headed_unique t t' bytes (s.words ++ s.contents) s.headed (inl h) (inr s)

@@ -1,5 +1,5 @@
 -- The iterator over pairs and its first item.
-use Rattle.jsonb_doc.proofs.Common.{◌≡◌, ◌≢◌, ℕ, ◌<◌, List, [], ◌∷◌, ◌++◌, length, Option, Some, ap, arith, IsUtf8, Tree, object, Pairs, no_pairs, pair, keys, values, pairs_in, NumberReader, Form, number_reader, Decodes, AreValues, AreKeys, key_words, key_bytes, BeginWith, HasFirstEntry, IsContent, HasPairsLeft, HasKeysLeft, HasElementsLeft, SameOption, KeyIter, ValueIter, PairIter, StandBefore, IsCut, Holds, HasPairParts, ObjectParts, Object}
+use Rattle.jsonb_doc.proofs.Common.{common_steps, ◌≡◌, ◌≢◌, ℕ, ◌<◌, List, [], ◌∷◌, ◌++◌, length, Option, Some, ap, arith, IsUtf8, Tree, object, Pairs, no_pairs, pair, keys, values, pairs_in, NumberReader, Form, number_reader, Decodes, AreValues, AreKeys, key_words, key_bytes, BeginWith, HasFirstEntry, IsContent, HasPairsLeft, HasKeysLeft, HasElementsLeft, SameOption, KeyIter, ValueIter, PairIter, StandBefore, IsCut, Holds, HasPairParts, ObjectParts, Object}
 use Rattle.jsonb_doc.proofs.Entries.{begin_key, HoldKeys-before}
 use Rattle.jsonb_doc.proofs.Containers.{entries_of, HoldsPairs-keys, Decodes-object, Holds-pairs}
 
@@ -51,8 +51,7 @@ pub HoldsPairs-left : (form : Form) (ps : Pairs) (it : PairIter) (p : ObjectPart
     → it.value_words.now ≡ p.value_words.now
     → SkipsKeys p it.value_contents.now → HasPairParts (number_reader form) ps p → HasPairsLeft form it ps
 HoldsPairs-left form ps it p key_words key_bytes value_words skips held =
-    let more = HoldsPairs-values (number_reader form) ps p _ held skips in
-    search (arith, held.rest, held.are_keys, key_words, held.words, key_bytes, held.bytes, value_words, more, held.values)
+    grind (arith, common_steps, HoldsPairs-values, HoldsPairs-values (number_reader form) ps p _ held skips)
 
 pub IsPairsOf-some : (form : Form) (t : Tree) (it : PairIter) (p : ObjectParts) → Holds (number_reader form) t (Object p)
     → ((f : Form) (ps : Pairs) → HasPairParts (number_reader f) ps p → HasPairsLeft f it ps) → IsPairsOf form t (Some it)
@@ -72,8 +71,7 @@ IsValuesOf-some form _ it p words skips held = absurd held
 pub only_object : (form : Form) (bytes : List ℕ) (p : ObjectParts) → IsCut bytes (Object p) → (t : Tree) → Decodes form bytes t
     → ((ps : Pairs) → t ≢ object ps) → ⊥
 only_object form bytes p cut t h other =
-    let found = Holds-pairs form bytes t p (Decodes-object form bytes p cut t h) h in
-    other found.0 found.1
+    grind (arith, Holds-pairs form bytes t p (Decodes-object form bytes p cut t h) h)
 
 -- the first of the keys, as the bytes hold it
 pub record FirstKey (it : KeyIter) (ks : List (List ℕ)) : Type 0 where

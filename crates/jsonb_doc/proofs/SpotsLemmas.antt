@@ -1,14 +1,15 @@
 -- Spots of children within the content of a spot, by the type of the item, and by their positions.
-use Rattle.jsonb_doc.proofs.Common.{◌≡◌, ◌≢◌, ℕ, zero, suc, ◌+◌, ◌-◌, ◌*◌, ◌/◌, ◌^◌, ◌<◌, ◌≤◌, List, [], ◌∷◌, ◌++◌, length, take, drop, refl, sym, ap, ◌∙◌, arith, inl, Some, None, Ok, append_assoc, length-append, length-take-le, drop_at, drop-take, drop-drop, take-append-drop, append-nil, take-add, between_to_end, ◌==◌, is_some, slice_range, Tree, array, object, Trees, tree, trees_of, elements, values, keys, children_of, field_of, NumberReader, Form, any, number_reader, number_of, Decodes, header, entry_word, BeginWith, IsContent, IsDocument, AreEntries, key_bytes, SameOption, StandBefore, StartWith, IsCut, Holds, TakesSpot, Locates, spot_content, HasSpotsLeft, PassesSpot, kind_number, Spot, SpotIter, StoredEntry, ArrayParts, ObjectParts, Array, Object, common_steps, Scalar, trees_in, pairs_in, map, Result, text, no_trees, count, no_pairs, pair, GivesSpot, AreAt, HasChildrenLeft, TakesChild, HasPairParts, key_trees, ChildPositions, EntryPositions, Error, length-drop}
+use Rattle.jsonb_doc.proofs.Common.{◌≡◌, ◌≢◌, ℕ, ◌+◌, ◌-◌, ◌*◌, ◌/◌, ◌^◌, ◌<◌, ◌≤◌, List, [], ◌∷◌, ◌++◌, length, take, drop, refl, sym, ap, ◌∙◌, arith, inl, Some, None, Ok, append_assoc, length-append, length-take-le, drop_at, drop-take, drop-drop, take-append-drop, append-nil, take-add, between_to_end, ◌==◌, is_some, slice_range, Tree, array, object, Trees, tree, trees_of, elements, values, keys, children_of, field_of, NumberReader, Form, any, number_reader, number_of, Decodes, header, entry_word, BeginWith, IsContent, IsDocument, AreEntries, key_bytes, SameOption, StandBefore, StartWith, IsCut, Holds, TakesSpot, Locates, spot_content, HasSpotsLeft, PassesSpot, kind_number, Spot, SpotIter, StoredEntry, ArrayParts, ObjectParts, Array, Object, common_steps, Scalar, trees_in, pairs_in, map, Result, text, no_trees, count, no_pairs, pair, GivesSpot, AreAt, HasChildrenLeft, TakesChild, HasPairParts, key_trees, ChildPositions, EntryPositions, Error, length-drop}
 use Rattle.jsonb_doc.proofs.KindLemmas.{kind_known}
 use Rattle.jsonb_doc.proofs.WordLemmas.{append_cancel, word_cancel}
 use Rattle.jsonb_doc.proofs.Entries.{BeginWith-long, BeginWith-room, BeginWith-unique, StandBefore-joined}
-use Rattle.jsonb_doc.proofs.Containers.{IsCut-same, IsCut-scalar, entries_of, Decodes-array, Decodes-object, length-words, length-key_words, count-values}
+use Rattle.jsonb_doc.proofs.Containers.{IsCut-same, IsCut-scalar, entries_of, Decodes-array, Decodes-object, length-words}
 use Rattle.jsonb_doc.proofs.PairsLemmas.{SkipsKeys, HoldsPairs-values, Holds-skipped, HoldsPairs-skipped}
 use Rattle.jsonb_doc.proofs.CanonicalLemmas.{in_any}
 use Rattle.jsonb_doc.proofs.OneTree.{document_unique}
 use Rattle.jsonb_doc.proofs.TreeLists.{trees_of-elements, count-trees_of}
 use Rattle.jsonb_doc.proofs.KeyEntries.{key_entries}
+use Rattle.jsonb_doc.proofs.WriterLemmas.{SplitAt, split_at}
 
 -- ---- parts of bytes
 
@@ -21,20 +22,21 @@ pub range_part : (bytes : List ℕ) (s e a b : ℕ) (front part back : List ℕ)
     → (a ≤ b) × (b ≤ e) × (slice_range bytes a b ≡ part)
 range_part bytes s e a b front part back ordered within joined ends begins =
     let whole = length_range bytes s e ordered within in
-    let sum = ap length joined ∙ length-append front (part ++ back) in
     let both = length-append part back in
-    let from : s + length front ≡ a = omega (arith, whole, sum, both) in
-    let size : e - s ≡ length front + (length part + length back) = omega (arith, whole, sum, both) in
-    let behind : take (length part + length back) (drop (length front) (drop s bytes)) ≡ part ++ back =
-    sym (drop-take (length front) (length part + length back) (drop s bytes)) ∙ ap (λ (n : ℕ). drop (length front) (take n (drop s bytes))) (sym size)
-    ∙ ap (drop (length front)) joined ∙ drop_at front (part ++ back) (length front) refl in
-    let there : drop (length front) (drop s bytes) ≡ drop a bytes = drop-drop (length front) s bytes ∙ ap (λ (n : ℕ). drop n bytes) from in
-    let split : part ++ back ≡ take (length part) (drop a bytes) ++ take (length back) (drop (length part) (drop a bytes)) =
-    sym behind ∙ ap (take (length part + length back)) there ∙ take-add (length part) (length back) (drop a bytes) in
-    let long : length (take (length part) (drop a bytes))
-    ≡ length part = length-take-le (length part) (drop a bytes) (omega (arith, length-drop a bytes, whole, sum, both)) in
-    let cut = append_cancel part back (take (length part) (drop a bytes)) (take (length back) (drop (length part) (drop a bytes))) (sym long) split in
-    (omega arith, omega arith, ap (λ (n : ℕ). take n (drop a bytes)) (omega (arith, whole, sum, both)) ∙ sym cut.0)
+    grind (
+      arith,
+      common_steps,
+      whole,
+      both,
+      length-append,
+      drop-take,
+      drop_at,
+      drop-drop,
+      take-add,
+      length-take-le,
+      length-drop,
+      append_cancel,
+    )
 
 -- the prefix and the rest of a range
 pub range_front : (bytes : List ℕ) (s e n : ℕ) → s + n ≤ e → e ≤ length bytes → slice_range bytes s (s + n) ≡ take n (slice_range bytes s e)
@@ -79,9 +81,7 @@ first_part number_at t ts words contents kind content ws cs b e =
 module _ (bytes : List ℕ) (it : SpotIter) where
   pub HasSpotsLeft-empty : (ts : List Tree) (after : SpotIter) → length it.words.now ≡ 0 → after ≡ it → HasSpotsLeft bytes it ts → TakesSpot bytes ts None after
   HasSpotsLeft-empty [] after none same h = rw same h
-  HasSpotsLeft-empty (t ∷ ts) after none same h =
-      let e = h.entries any h.whole h.decodes in
-      absurd (omega (arith, BeginWith-long _ _ e.kind e.content e.other_words e.other_contents e.begin))
+  HasSpotsLeft-empty (t ∷ ts) after none same h = grind (arith, BeginWith-long, h.entries any h.whole h.decodes)
 
   -- words that are not empty begin with one
   pub HasSpotsLeft-word : (ts : List Tree) → 0 < length it.words.now → ((kind len : ℕ) (others : List ℕ) → StartWith it.words.now kind len others → ⊥)
@@ -129,36 +129,10 @@ module _ (bytes : List ℕ) (it : SpotIter) where
 
 -- ---- an iterator after that many of its spots
 
--- entries after that many others, whose contents are passed over
-record EntriesBehind (number_at : NumberReader) (count : ℕ) (ts : List Tree) (words contents : List ℕ) : Type 0 where
-  pub parts : List (List ℕ)
-  pub rest : List ℕ
-  pub before : StandBefore parts (take (4 * count) words) contents rest
-  pub behind : AreEntries number_at (trees_of (drop count ts)) (drop (4 * count) words) rest
-
-entries_behind : (number_at : NumberReader) (count : ℕ) (ts : List Tree) (words contents : List ℕ) → count ≤ length ts
-    → AreEntries number_at (trees_of ts) words contents → EntriesBehind number_at count ts words contents
-entries_behind number_at zero ts words contents few e = record { parts = []; rest = contents; before = (refl, refl); behind = e }
-entries_behind number_at (suc n) [] words contents few e = absurd (omega arith)
-entries_behind number_at (suc n) (t ∷ ts) words contents few e =
-    let b = e.begin in
-    let more = entries_behind number_at n ts e.other_words e.other_contents (omega arith) e.others in
-    let four : 4 * suc n ≡ suc (suc (suc (suc (4 * n)))) = omega arith in
-    let taken : take (4 * suc n) words ≡ entry_word e.kind (length e.content) ++ take (4 * n) e.other_words = ap (λ (m : ℕ). take m words) four
-    ∙ ap (take (suc (suc (suc (suc (4 * n)))))) b.words_joined in
-    let dropped : drop (4 * suc n) words ≡ drop (4 * n) e.other_words = ap (λ (m : ℕ). drop m words) four
-    ∙ ap (drop (suc (suc (suc (suc (4 * n)))))) b.words_joined in
-    record {
-      parts = e.content ∷ more.parts;
-      rest = more.rest;
-      before = grind arith;
-      behind = rw dropped more.behind;
-    }
-
 words_counted : (number_at : NumberReader) (ts : List Tree) (words contents : List ℕ) → AreEntries number_at (trees_of ts) words contents
     → length words ≡ 4 * length ts
-words_counted number_at [] words contents e = omega (arith, ap length e.0)
-words_counted number_at (t ∷ ts) words contents e = search (arith, words_counted number_at ts e.other_words e.other_contents e.others)
+words_counted number_at ts words contents e =
+    omega (arith, length-words number_at (trees_of ts) words contents e, count-trees_of ts)
 
 -- what follows contents that are passed over
 rest_behind : (parts : List (List ℕ)) (words contents rest : List ℕ) (len : ℕ) → StandBefore parts words contents rest → len + length rest ≡ length contents
@@ -172,19 +146,16 @@ module _ (bytes : List ℕ) (it : SpotIter) (ts : List Tree) (h : HasSpotsLeft b
   module _ (count len : ℕ) (few : count ≤ length it.words.now / 4)
       (sum : (parts : List (List ℕ)) (contents rest : List ℕ) → StandBefore parts (take (4 * count) it.words.now) contents rest
       → len + length rest ≡ length contents) where
-    inside : count ≤ length ts
-    inside = omega (arith, few, spots_counted)
-
     found : (form : Form) (top : Tree) → Decodes form bytes top
-        → EntriesBehind (number_reader form) count ts it.words.now (slice_range bytes it.start it.end)
-    found form top d = entries_behind (number_reader form) count ts _ _ inside (h.entries form top d)
+        → SplitAt (number_reader form) count ts it.words.now (slice_range bytes it.start it.end)
+    found form top d = split_at (number_reader form) count ts _ _ (h.entries form top d)
 
     -- the contents that are passed over are within the container
     pub HasSpotsLeft-passed : it.start + len ≤ it.end
     HasSpotsLeft-passed =
-        let more = (sum (found any h.whole h.decodes).parts _ (found any h.whole h.decodes).rest (found any h.whole h.decodes).before) in
-        let step = sum (found any h.whole h.decodes).parts _ (found any h.whole h.decodes).rest (found any h.whole h.decodes).before in
-        search (arith, found any h.whole h.decodes, step, h.ordered, more, length_range bytes it.start it.end h.ordered h.within)
+        let first = found any h.whole h.decodes in
+        let step = sum first.parts _ first.back_contents first.stand in
+        search (arith, step, h.ordered, length_range bytes it.start it.end h.ordered h.within)
 
     pub HasSpotsLeft-behind : (after : SpotIter) → after.words.now ≡ drop (4 * count) it.words.now → after.start ≡ it.start + len → after.end ≡ it.end
         → HasSpotsLeft bytes after (drop count ts)
@@ -239,18 +210,11 @@ module _ (bytes : List ℕ) (parent : Spot) (t : Tree) (m : Locates bytes parent
 
   -- a scalar has no children and no fields
   pub Locates-scalar : kind_number parent.kind ≢ 5 → (children_of t ≡ None) × ((name : List ℕ) → field_of name t ≡ None)
-  Locates-scalar scalar = go t (m.content any m.whole m.decodes)
-    where
-      go : (u : Tree) → IsContent number_of u (kind_number parent.kind) (spot_content bytes parent)
-          → (children_of u ≡ None) × ((name : List ℕ) → field_of name u ≡ None)
-      go u h = grind arith
+  Locates-scalar scalar = grind (arith, m.content any m.whole m.decodes)
 
 -- an item is a container if it has children
 pub Locates-has_children : (bytes : List ℕ) (spot : Spot) (t : Tree) → Locates bytes spot t → (kind_number spot.kind == 5) ≡ is_some (children_of t)
-Locates-has_children bytes spot t m = go t (m.content any m.whole m.decodes)
-  where
-    go : (u : Tree) → IsContent number_of u (kind_number spot.kind) (spot_content bytes spot) → (kind_number spot.kind == 5) ≡ is_some (children_of u)
-    go u h = grind arith
+Locates-has_children bytes spot t m = grind (arith, m.content any m.whole m.decodes)
 
 pub no_children : (bytes : List ℕ) (t : Tree) → children_of t ≡ None → SameOption (HasSpotsLeft bytes) None (children_of t)
 no_children bytes t none = rw none tt
@@ -442,9 +406,7 @@ module _ (bytes : List ℕ) (at : ChildPositions) (some : 0 < at.left) where
       member_taken (array ts) word more h = let none = h.0 in absurd (omega (arith, none))
       member_taken (object no_pairs) word more h = let none = h.1.counted in absurd (omega (arith, none))
       member_taken (object (pair name t ps)) word more h =
-          let f = first t (elements (values ps)) h.2 in
-          let k = first_name (text name) (map text (keys ps)) h.1 in
-          (k.0, f.0, (more, k.1, f.1))
+          grind (arith, first t (elements (values ps)) h.2, first_name (text name) (map text (keys ps)) h.1)
       member_taken _ word more h = absurd h
 
 -- ---- a root
@@ -454,14 +416,39 @@ part_at : (bytes front part back : List ℕ) (a b : ℕ) → bytes ≡ front ++ 
     → (b ≤ length bytes) × (slice_range bytes a b ≡ part)
 part_at bytes front part back a b h e k = grind (arith, common_steps, between_to_end, length-append, range_part)
 
+-- entries whose words and contents are parts of the bytes
+entries_at : (bytes : List ℕ) (t : Tree) → Decodes any bytes t
+    → (left : ℕ) (at : EntryPositions) (ts : List Tree) (front words mid contents back : List ℕ)
+    → bytes ≡ front ++ (words ++ (mid ++ (contents ++ back))) → left ≡ length words / 4 → length words < 2 ^ 31
+    → at.word ≡ length front
+    → at.content ≡ length bytes - length back - length contents → at.end ≡ length bytes - length back
+    → ((form : Form) (top : Tree) → Decodes form bytes top → AreEntries (number_reader form) (trees_of ts) words contents)
+    → AreAt bytes left at ts
+entries_at bytes t d left at ts front words mid contents back joined count short word content end entries =
+    let many = words_counted (number_reader any) ts words contents (entries any t d) in
+    let counted : left ≡ length ts = omega (arith, count, many) in
+    let words_at = part_at bytes front words (mid ++ (contents ++ back)) at.word (at.word + 4 * left) joined word
+    (omega (arith, word, many, counted)) in
+    let before = front ++ (words ++ mid) in
+    let whole : bytes ≡ before ++ (contents ++ back) = rw joined (simp append_assoc) in
+    let size : length bytes ≡ length before + (length contents + length back) = rw whole (simp length-append) in
+    let contents_at = part_at bytes before contents back at.content at.end whole (omega (arith, content, size))
+    (omega (arith, end, size)) in
+    record {
+      whole = t;
+      decodes = d;
+      counted = counted;
+      few = omega (arith, count, short);
+      words_within = words_at.0;
+      ordered = omega (arith, content, end);
+      within = contents_at.0;
+      entries = λ form top e. rw (words_at.1, contents_at.1) (entries form top e);
+    }
+
 -- keys as strings
 texts_of : (ks : List (List ℕ)) → trees_of (map text ks) ≡ key_trees ks
 texts_of [] = refl
 texts_of (key ∷ ks) = ap (tree (text key)) (texts_of ks)
-
-keys_counted : (ks : List (List ℕ)) → length ks ≡ length (map text ks)
-keys_counted [] = refl
-keys_counted (key ∷ ks) = ap suc (keys_counted ks)
 
 module _ (bytes : List ℕ) (t : Tree) (d : Decodes any bytes t) where
   -- in each form the bytes decode to the same tree
@@ -474,30 +461,14 @@ module _ (bytes : List ℕ) (t : Tree) (d : Decodes any bytes t) where
     array_opened left key word content end = go t refl (Decodes-array any bytes p cut t d)
       where
         go : (u : Tree) → t ≡ u → Holds (number_reader any) u (Array p) → HasChildrenLeft bytes at u
-        go (array ts) is held =
-            let many = length-words (number_reader any) ts p.words.now p.contents.now held in
-            let n : at.left ≡ count ts = omega (arith, left, many) in
-            let size = ap length (cut.1.joined) in
-            let words = part_at bytes (header 4 cut.0) p.words.now p.contents.now at.values.word (at.values.word + 4 * at.left) cut.1.joined
-            word (omega (arith, word, n, many)) in
-            let inner = part_at bytes (header 4 cut.0 ++ p.words.now) p.contents.now [] at.values.content at.values.end
-            (cut.1.joined ∙ sym (append_assoc (header 4 cut.0) p.words.now p.contents.now)
-            ∙ sym (ap (λ w. (header 4 cut.0 ++ p.words.now) ++ w) (append-nil p.contents.now)))
-            (omega (arith, size, content, length-append (header 4 cut.0) p.words.now, length-append p.words.now p.contents.now))
-            (omega (arith, size, end, length-append (header 4 cut.0) p.words.now, length-append p.words.now p.contents.now)) in (
-              key,
-              record {
-                whole = t;
-                decodes = d;
-                counted = n ∙ sym (ap count (trees_of-elements ts)) ∙ count-trees_of (elements ts);
-                few = omega (arith, cut.1.fits, cut.2, many, n);
-                words_within = words.0;
-                ordered = omega (arith, content, end);
-                within = omega (arith, end);
-                entries = λ form top e.
-                    rw (words.1, inner.1, trees_of-elements ts) (rw (same_tree form top e ∙ is) at (Decodes-array form bytes p cut top e));
-              },
-            )
+        go (array ts) is held = (
+          key,
+          entries_at bytes t d at.left at.values (elements ts) (header 4 cut.0) p.words.now [] p.contents.now []
+              (rw append-nil cut.1.joined) left (omega (arith, cut.1.fits, cut.2)) word (omega (arith, content))
+              (omega (arith, end)) (λ form top e.
+              let o = Decodes-array form bytes p cut top e in
+              rw (trees_of-elements ts) (rw (same_tree form top e ∙ is) at o)),
+        )
         go _ is held = absurd held
 
   module _ (p : ObjectParts) (cut : IsCut bytes (Object p)) where
@@ -520,51 +491,25 @@ module _ (bytes : List ℕ) (t : Tree) (d : Decodes any bytes t) where
               let h = header 2 cut.0 in
               let kw = p.key_words.now in
               let vw = p.value_words.now in
-              let same : found ≡ held.rest = HoldsPairs-values (number_reader any) ps p found held skips in
               let kb = key_bytes (keys ps) in
+              let same : found ≡ held.rest = HoldsPairs-values (number_reader any) ps p found held skips in
               let inside : p.contents.now ≡ kb ++ found = held.bytes ∙ ap (λ r. kb ++ r) (sym same) in
-              let many : length kw ≡ 4 * length (keys ps) = ap length held.words ∙ length-key_words (keys ps) in
-              let n : at.left ≡ length (keys ps) = omega (arith, left, many) in
-              let alike : length vw ≡ length kw = omega (arith, cut.2, cut.3) in
-              let whole : length bytes ≡ 4 + (length kw + length vw + length p.contents.now) =
-              omega (arith, ap length cut.1.joined, length-append kw vw, length-append (kw ++ vw) p.contents.now) in
-              let sum : length p.contents.now ≡ length kb + length found = omega (arith, ap length inside, length-append kb found) in
-              let key_words_at = part_at bytes h kw (vw ++ p.contents.now) at.keys.word (at.keys.word + 4 * at.left)
-              (cut.1.joined ∙ ap (λ w. h ++ w) (append_assoc kw vw p.contents.now)) key_word (omega (arith, key_word, n, many)) in
-              let words_at = part_at bytes (h ++ kw) vw p.contents.now at.values.word (at.values.word + 4 * at.left)
-              (cut.1.joined ∙ ap (λ w. h ++ w) (append_assoc kw vw p.contents.now) ∙ sym (append_assoc h kw (vw ++ p.contents.now)))
-              (omega (arith, word, length-append h kw)) (omega (arith, word, length-append h kw, n, many, alike)) in
-              let front = h ++ (kw ++ vw) in
-              let front_len : length front ≡ 4 + (length kw + length vw) = omega (arith, length-append h (kw ++ vw), length-append kw vw) in
-              let after_words : bytes ≡ front ++ p.contents.now = cut.1.joined ∙ sym (append_assoc h (kw ++ vw) p.contents.now) in
-              let keys_at = part_at bytes front kb found at.keys.content at.keys.end (after_words ∙ ap (λ c. front ++ c) inside)
-              (omega (arith, key, whole, front_len)) (omega (arith, key_end, whole, front_len, sum)) in
-              let values_at = part_at bytes (front ++ kb) found [] at.values.content at.values.end
-              (after_words ∙ ap (λ c. front ++ c) inside ∙ sym (append_assoc front kb found) ∙ sym (ap (λ w. (front ++ kb) ++ w) (append-nil found)))
-              (omega (arith, content, whole, front_len, sum, length-append front kb)) (omega (arith, end, whole, front_len, sum, length-append front kb)) in (
+              let joined : bytes ≡ h ++ (kw ++ (vw ++ (kb ++ found))) = cut.1.joined
+              ∙ ap (λ c. h ++ ((kw ++ vw) ++ c)) inside ∙ ap (λ w. h ++ w) (append_assoc kw vw (kb ++ found)) in
+              let sum : length p.contents.now ≡ length kb + length found =
+              omega (arith, ap length inside, length-append kb found) in (
                 omega (arith, key_word),
-                record {
-                  whole = t;
-                  decodes = d;
-                  counted = n ∙ keys_counted (keys ps);
-                  few = omega (arith, cut.1.fits, cut.2, many, n);
-                  words_within = key_words_at.0;
-                  ordered = omega (arith, key, key_end, sum);
-                  within = keys_at.0;
-                  entries = grind (arith, texts_of, key_entries);
-                },
-                record {
-                  whole = t;
-                  decodes = d;
-                  counted = n ∙ sym (count-values ps) ∙ sym (ap count (trees_of-elements (values ps))) ∙ count-trees_of (elements (values ps));
-                  few = omega (arith, cut.1.fits, cut.2, many, n);
-                  words_within = words_at.0;
-                  ordered = omega (arith, content, end);
-                  within = omega (arith, end);
-                  entries = λ form top e.
-                      let held' : HasPairParts (number_reader form) ps p = rw (same_tree form top e ∙ is) at (Decodes-object form bytes p cut top e) in
-                      let same' : found ≡ held'.rest = HoldsPairs-values (number_reader form) ps p found held' skips in
-                      rw (words_at.1, values_at.1, trees_of-elements (values ps), same') (entries_of (number_reader form) ps vw held'.rest held'.values);
-                },
+                entries_at bytes t d at.left at.keys (map text (keys ps)) h kw vw kb found joined left
+                    (omega (arith, cut.1.fits, cut.2)) key_word (omega (arith, key, sum)) key_end (λ form top e.
+                    let entries = key_entries (number_reader form) (keys ps) held.are_keys in
+                    rw (texts_of (keys ps), held.words) entries),
+                entries_at bytes t d at.left at.values (elements (values ps)) (h ++ kw) vw kb found []
+                    (rw append-nil (joined ∙ sym (append_assoc h kw (vw ++ (kb ++ found)))))
+                    (omega (arith, left, cut.2, cut.3)) (omega (arith, cut.1.fits, cut.3))
+                    (omega (arith, word, length-append h kw)) (omega (arith, content)) (omega (arith, end)) (λ form top e.
+                    let o : HasPairParts (number_reader form) ps p =
+                    rw (same_tree form top e ∙ is) at (Decodes-object form bytes p cut top e) in
+                    rw (trees_of-elements (values ps), HoldsPairs-values (number_reader form) ps p found o skips)
+                    (entries_of (number_reader form) ps vw o.rest o.values)),
               )
           go _ is held = absurd held

@@ -1,20 +1,15 @@
 -- Sorted members without duplicate keys are those that are inserted one after the other.
-use Rattle.jsonb_doc.proofs.Common.{◌≡◌, ℕ, suc, ◌≤◌, List, [], ◌∷◌, length, map, refl, sym, ap, subst, ◌∙◌, arith, Bool, true, false, cond, Some, None, Option, Ordering, Less, Equal, Greater, nat_cmp, filter, unwrap_or, Result, OnOk, if◌then◌else◌, not, ◌&&◌, ⊤, AllByRecursion, IsSortedBy, IsStableBy, IsStrictlySortedBy, ties, keys_of, lookup, is_at, is_lt, is_eq, ordering_reverse, slice_cmp, nat_list_cmp_total, nil_from_length, is_eq-slice_cmp, bytes_eq-Decides, has_key, insert_pair, insert_all, AreSortedKeys, has_lower_key, unique, as_pair, is_below_first, Part, Nested, Member, common_steps}
+use Rattle.jsonb_doc.proofs.Common.{◌≡◌, ℕ, suc, ◌≤◌, List, [], ◌∷◌, length, map, refl, sym, ap, subst, ◌∙◌, arith, Bool, true, false, cond, Some, None, Option, Ordering, Less, Equal, Greater, nat_cmp, filter, unwrap_or, Result, OnOk, if◌then◌else◌, not, ◌&&◌, ⊤, AllByRecursion, IsSortedBy, IsStableBy, IsStrictlySortedBy, ties, keys_of, lookup, is_at, is_lt, is_eq, ordering_reverse, slice_cmp, nat_list_cmp_total, nil_from_length, is_eq-slice_cmp, has_key, insert_pair, insert_all, AreSortedKeys, has_lower_key, unique, as_pair, is_below_first, Part, Nested, Member, common_steps}
 use Rattle.jsonb_doc.specs.declared.layout.HeaderKind.TheVariants.{Array}
+use Rattle.jsonb_doc.proofs.Basics.{same_from_bytes_cmp as equal_key, bytes_cmp_refl as self_equal}
 
 abbrev cmp : List ℕ → List ℕ → Ordering
 cmp = slice_cmp nat_cmp
 
 -- ---- orders
 
-equal_key : (key name : List ℕ) → cmp key name ≡ Equal → key ≡ name
-equal_key key name e = (bytes_eq-Decides key name).0 (sym (is_eq-slice_cmp key name) ∙ ap is_eq e)
-
 turned : (a b : List ℕ) (o : Ordering) → cmp a b ≡ o → cmp b a ≡ ordering_reverse o
 turned a b o e = nat_list_cmp_total.antisymm b a ∙ ap ordering_reverse e
-
-self_equal : (a : List ℕ) → cmp a a ≡ Equal
-self_equal a = grind (arith, common_steps, turned)
 
 -- both sides of a test by the order of two keys
 same_test : (a b : List ℕ) → is_eq (cmp a b) ≡ is_eq (cmp b a)

@@ -4,9 +4,7 @@ use Rattle.jsonb_doc.proofs.Common.{◌≡◌, ℕ, ◌^◌, ◌<◌, List, ◌+
 -- two cuts of a list at the same position are the same cut
 pub append_cancel : (a b c d : List ℕ) → length a ≡ length c → a ++ b ≡ c ++ d → (a ≡ c) × (b ≡ d)
 append_cancel a b c d same e =
-    let more = take_at c d (length a) (sym same) in
-    let step = drop_at c d (length a) (sym same) in
-    search (arith, take_at a b (length a) refl, ap (take (length a)) e, more, drop_at a b (length a) refl, ap (drop (length a)) e, step)
+    grind (arith, take_at a b, drop_at a b, take_at c d (length a) (sym same), drop_at c d (length a) (sym same))
 
 -- two words before bytes are one word
 pub word_cancel : (m n : ℕ) (xs ys : List ℕ) → m < 2 ^ 32 → n < 2 ^ 32 → big_bytes 4 m ++ xs ≡ big_bytes 4 n ++ ys → (m ≡ n) × (xs ≡ ys)
@@ -33,11 +31,8 @@ stays old a new e = grind (arith, common_steps)
 abbrev pub AreSmall : List ℕ → Type 0
 AreSmall xs = (i : ℕ) → get_or xs i 0 < 256
 
-none_small : AreSmall []
-none_small = grind arith
-
 take_small : (n : ℕ) (xs : List ℕ) → AreSmall xs → AreSmall (take n xs)
-take_small zero xs h i = none_small i
+take_small zero xs h i = grind arith
 take_small (suc n) [] h i = h i
 take_small (suc n) (x ∷ xs) h zero = h zero
 take_small (suc n) (x ∷ xs) h (suc i) = take_small n xs (λ j. h (suc j)) i
@@ -64,12 +59,8 @@ word_of w n h xs part x e k f g = grind arith
 pub ends_are : (w : Width) (n : ℕ) → HasWords w n → (bytes first last : List ℕ) (x y : ℕ) → n ≤ length bytes → AreSmall bytes
     → first ≡ take n bytes → last ≡ drop (length bytes - n) bytes → x ≡ from_be_bytes w first → y ≡ from_be_bytes w last
     → AreEnds w n bytes (Some (x, y))
-ends_are w n words bytes first last x y enough small front back e f = (
-  enough,
-  word_of w n words (take n bytes) first x (length-take-le n bytes enough) (take_small n bytes small) front e,
-  word_of w n words (drop (length bytes - n) bytes) last y (omega (arith, length-drop (length bytes - n) bytes, enough))
-      (drop_small (length bytes - n) bytes small) back f,
-)
+ends_are w n words bytes first last x y enough small front back e f =
+    grind (arith, word_of, length-take-le, take_small, length-drop, drop_small)
 
 -- ---- what they determine
 

@@ -1,5 +1,5 @@
 -- Entries as they are stored: the first one, and the first `n` of them; containers that are being written: begun, gone on with, closed.
-use Rattle.jsonb_doc.proofs.Common.{◌≡◌, ◌≢◌, ℕ, zero, suc, min, ◌*◌, ◌-◌, List, [], ◌∷◌, ◌++◌, length, take, drop, Some, ap, ◌∙◌, arith, append_assoc, ◌≤◌, length-append, take_at, drop_at, Tree, trees_of, NumberReader, Form, number_reader, AreEntries, BeginWith, entry_word, kind_number, Entries, StoredEntry, HoldTrees, TakesFirst, StandBefore, inl, ◌+◌, ◌^◌, ◌<◌, map, refl, sym, subst, values_of, length-take, take-append-drop, text, pairs_of, tree, no_trees, Decodes, IsContent, AreValues, AreKeys, header, key_words, key_bytes, container_entry, header_number, HeaderKind, OpenContainer, RunsHold, words_of_runs, contents_of_runs, Make, AreSortedKeys, IsOpen, length-values_of, length-keys_of, common_steps, append-nil, length-drop}
+use Rattle.jsonb_doc.proofs.Common.{◌≡◌, ◌≢◌, ℕ, zero, suc, min, ◌*◌, ◌-◌, List, [], ◌∷◌, ◌++◌, length, take, drop, Some, ap, ◌∙◌, arith, ap₂, cases_lt, take_all, drop_all, append_assoc, ◌≤◌, length-append, take_at, drop_at, Tree, trees_of, NumberReader, Form, number_reader, AreEntries, BeginWith, entry_word, kind_number, Entries, StoredEntry, HoldTrees, TakesFirst, StandBefore, ◌+◌, ◌^◌, ◌<◌, map, refl, sym, subst, values_of, length-take, take-append-drop, text, pairs_of, tree, no_trees, Decodes, IsContent, AreValues, AreKeys, header, key_words, key_bytes, container_entry, header_number, HeaderKind, OpenContainer, RunsHold, words_of_runs, contents_of_runs, Make, AreSortedKeys, IsOpen, length-values_of, length-keys_of, common_steps, append-nil, length-drop}
 use Rattle.jsonb_doc.proofs.Entries.{BeginWith-unique, kind_below}
 use Rattle.jsonb_doc.proofs.Containers.{length-words}
 use Rattle.jsonb_doc.proofs.TreeLists.{count-trees_of, keys-pairs_of}
@@ -30,61 +30,48 @@ first_there form run (t ∷ ts) h some none = none h.entries.kind h.entries.cont
 
 -- the first `n` entries, and those after them
 pub record SplitAt (number_at : NumberReader) (n : ℕ) (ts : List Tree) (words contents : List ℕ) : Type 0 where
-  pub front_words : List ℕ
   pub front_contents : List ℕ
-  pub back_words : List ℕ
   pub back_contents : List ℕ
-  pub words_joined : words ≡ front_words ++ back_words
   pub contents_joined : contents ≡ front_contents ++ back_contents
-  pub count : length front_words ≡ 4 * min n (length ts)
-  pub front : AreEntries number_at (trees_of (take n ts)) front_words front_contents
-  pub back : AreEntries number_at (trees_of (drop n ts)) back_words back_contents
+  pub front : AreEntries number_at (trees_of (take n ts)) (take (4 * n) words) front_contents
+  pub back : AreEntries number_at (trees_of (drop n ts)) (drop (4 * n) words) back_contents
   pub parts : List (List ℕ)
-  pub stand : StandBefore parts front_words contents back_contents
+  pub stand : StandBefore parts (take (4 * n) words) contents back_contents
 
 pub split_at : (number_at : NumberReader) (n : ℕ) (ts : List Tree) (words contents : List ℕ) → AreEntries number_at (trees_of ts) words contents
     → SplitAt number_at n ts words contents
 split_at number_at zero ts words contents h = grind arith
-split_at number_at (suc n) [] words contents h = grind arith
+split_at number_at (suc n) [] words contents h = grind (arith, take_all, drop_all)
 split_at number_at (suc n) (t ∷ ts) words contents e =
     let s = split_at number_at n ts e.other_words e.other_contents e.others in
+    let four : 4 * suc n ≡ suc (suc (suc (suc (4 * n)))) = omega arith in
+    let taken : take (4 * suc n) words ≡ entry_word e.kind (length e.content) ++ take (4 * n) e.other_words =
+    ap₂ take four e.begin.words_joined in
+    let dropped : drop (4 * suc n) words ≡ drop (4 * n) e.other_words = ap₂ drop four e.begin.words_joined in
     record {
-      front_words = entry_word e.kind (length e.content) ++ s.front_words;
       front_contents = e.content ++ s.front_contents;
-      back_words = s.back_words;
       back_contents = s.back_contents;
-      words_joined = grind (arith, append_assoc);
       contents_joined = grind (arith, append_assoc);
-      count = let count = s.count in omega (arith, count);
       front = grind arith;
-      back = s.back;
+      back = rw dropped s.back;
       parts = e.content ∷ s.parts;
       stand = grind arith;
     }
 
 module _ (form : Form) (run : Entries) (ts : List Tree) (n m : ℕ) (h : HoldTrees form run ts) (few : m ≡ min n (length ts)) where
-  cut : SplitAt (number_reader form) n ts run.words.now run.contents.now
-  cut = split_at (number_reader form) n ts run.words.now run.contents.now h.entries
-
-  front_len : length cut.front_words ≡ 4 * m
-  front_len = let count = cut.count in omega (arith, count, few)
-
-  taken : (w : List ℕ) → w ≡ take (4 * m) run.words.now → w ≡ cut.front_words
-  taken w is = is ∙ ap (take (4 * m)) cut.words_joined ∙ take_at cut.front_words cut.back_words (4 * m) front_len
-
-  dropped : (w : List ℕ) → w ≡ drop (4 * m) run.words.now → w ≡ cut.back_words
-  dropped w is = is ∙ ap (drop (4 * m)) cut.words_joined ∙ drop_at cut.front_words cut.back_words (4 * m) front_len
+  cut : SplitAt (number_reader form) m ts run.words.now run.contents.now
+  cut = split_at (number_reader form) m ts run.words.now run.contents.now h.entries
 
   -- the contents are at least as long as the words of the first entries state
   pub contents_there : (w : List ℕ) → w ≡ take (4 * m) run.words.now
       → ((parts : List (List ℕ)) (rest : List ℕ) → StandBefore parts w run.contents.now rest → ⊥) → ⊥
-  contents_there w is none = none cut.parts cut.back_contents (rw (taken w is) cut.stand)
+  contents_there w is none = none cut.parts cut.back_contents (rw is cut.stand)
 
   pub both_hold : (front back : Entries) → front.words.now ≡ take (4 * m) run.words.now → back.words.now ≡ drop (4 * m) run.words.now
       → ((parts : List (List ℕ)) (rest : List ℕ) → StandBefore parts front.words.now run.contents.now rest → back.contents.now ≡ rest)
       → front.contents.now ≡ take (length run.contents.now - length back.contents.now) run.contents.now
       → HoldTrees form front (take n ts) × HoldTrees form back (drop n ts)
-  both_hold front back h e k f = grind (arith, taken, length-append, take_at, dropped)
+  both_hold front back h e k f = grind (arith, cases_lt, take_all, drop_all, cut, length-append, take_at)
 
 -- ---- entries one after the other
 
@@ -211,9 +198,7 @@ done_len form before out at t d = let start = d.start_is in omega (arith, start,
 -- the outermost container is the document
 pub whole_done : (form : Form) (out : List ℕ) (at : OpenContainer) (before : List ℕ) (t whole : Tree) → IsOpen form before out at [] t
     → AreAround form before [] t whole → Decodes form out whole
-whole_done form out at before t whole o a =
-    let d = closed form before out at t o in
-    record { document = inl (rw (d.joined ∙ ap (λ (l : List ℕ). l ++ d.bytes) a.0, sym a.1) d.content) }
+whole_done form out at before t whole o a = grind (arith, common_steps, closed, closed form before out at t o)
 
 -- ---- a container of runs
 

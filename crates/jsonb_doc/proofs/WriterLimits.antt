@@ -1,10 +1,10 @@
 -- Containers that are being written: if a part exceeds the limits, the whole does.
-use Rattle.jsonb_doc.proofs.Common.{◌≡◌, inr, ℕ, ◌^◌, ◌≤◌, List, [], ◌∷◌, ◌++◌, length, map, sym, subst, arith, keys_of, values_of, Tree, text, trees_of, pairs_of, Form, number_reader, IsContent, IsShort, HasShortParts, HasShortElements, HasShortValues, AreShortKeys, IsTooLarge, IsWithinLimits, IsOutOfMemory, ◌or◌when◌, IsOutOfMemoryOrTooLarge, Error, TooLarge, HeaderKind, OpenContainer, Make, ExceedsLimits, IsOpen, Around, length-keys_of}
+use Rattle.jsonb_doc.proofs.Common.{◌≡◌, inr, ℕ, ◌^◌, ◌≤◌, List, [], ◌∷◌, ◌++◌, length, map, sym, subst, arith, keys_of, values_of, Tree, text, pairs_of, Form, number_reader, IsContent, IsShort, HasShortParts, HasShortValues, AreShortKeys, IsTooLarge, IsWithinLimits, IsOutOfMemory, ◌or◌when◌, IsOutOfMemoryOrTooLarge, Error, TooLarge, HeaderKind, OpenContainer, Make, ExceedsLimits, IsOpen, Around, length-keys_of}
 use Rattle.jsonb_doc.specs.declared.layout.HeaderKind.TheVariants.{Scalar}
 use Rattle.jsonb_doc.specs.declared.layout.HeaderKind.TheVariants.{Object, Array}
 use Rattle.jsonb_doc.specs.Private.Writer.{AreAround}
 use Rattle.jsonb_doc.proofs.TreeLists.{count-trees_of, keys-pairs_of}
-use Rattle.jsonb_doc.proofs.LimitLemmas.{size_within}
+use Rattle.jsonb_doc.proofs.LimitLemmas.{well_among, size_within}
 
 Member : Type 0
 Member = List ℕ × Tree
@@ -14,10 +14,6 @@ Member = List ℕ × Tree
 -- each entry of a container within the limits is short, and within them itself
 abbrev IsWell : Form → Tree → Type 0
 IsWell form t = IsShort form t × HasShortParts form t
-
-well_among : (form : Form) (xs ys : List Tree) (t : Tree) → HasShortElements form (trees_of (xs ++ t ∷ ys)) → IsWell form t
-well_among form [] ys t h = (h.0, h.1)
-well_among form (x ∷ xs) ys t h = well_among form xs ys t h.2
 
 well_value : (form : Form) (ps : List (List ℕ × Tree)) (xs ys : List Tree) (t : Tree) → values_of ps ≡ xs ++ t ∷ ys → HasShortValues form (pairs_of ps) → IsWell form t
 well_value form [] [] ys t is h = absurd (cc is)
