@@ -55,9 +55,8 @@ pub innermost : {A : Type 0} (xs : List A) (x : A) → reverse (xs ++ x ∷ []) 
 innermost xs x = reverse-append xs (x ∷ [])
 
 pub zip_along : {A B : Type 0} (R S : A → B → Type 0) → ((x : A) (y : B) → R x y → S x y) → (xs : List A) (ys : List B) → AllZip R xs ys → AllZip S xs ys
-zip_along R S along [] [] h = tt
 zip_along R S along (x ∷ xs) (y ∷ ys) h = (along x y h.0, zip_along R S along xs ys h.1)
-zip_along R S along _ _ h = absurd h
+zip_along _ _ along _ _ h = grind arith
 
 pub zip_more : {A B : Type 0} (R : A → B → Type 0) (xs : List A) (ys : List B) (x : A) (y : B) → AllZip R xs ys → R x y
     → AllZip R (xs ++ x ∷ []) (ys ++ y ∷ [])

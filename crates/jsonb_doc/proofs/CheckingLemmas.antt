@@ -64,10 +64,8 @@ halvings n = halvings_within n n
 
 within_more : (f a b : ℕ) → a ≤ b → halvings_within f a ≤ halvings_within f b
 unfolding halvings_within
-within_more zero a b le = omega arith
-within_more (suc f) zero b le = omega arith
-within_more (suc f) (suc a) zero le = absurd (omega arith)
 within_more (suc f) (suc a) (suc b) le = grind (arith, within_more f (suc a / 2) (suc b / 2) (omega arith))
+within_more _ _ _ le = grind arith
 
 within_same : (f g n : ℕ) → n ≤ f → n ≤ g → halvings_within f n ≡ halvings_within g n
 unfolding halvings_within

@@ -11,19 +11,16 @@ use Rattle.jsonb_doc.proofs.Basics.{zip_along, zip_more}
 -- ---- children as lists
 
 elements_hold : (ds : List Member) (room : ℕ) (ms : List Member) (ts : Trees) → AreElements ds room ms ts → HoldParts ds room ms (elements ts)
-elements_hold ds room [] no_trees h = tt
 elements_hold ds room (m ∷ ms) (tree t ts) h = (h.0, elements_hold ds room ms ts h.1)
-elements_hold ds room _ _ h = absurd h
+elements_hold ds room _ _ h = grind arith
 
 values_hold : (ds : List Member) (room : ℕ) (ms : List Member) (ps : Pairs) → AreMembers ds room ms ps → HoldParts ds room ms (values_of (members ps))
-values_hold ds room [] no_pairs h = tt
 values_hold ds room (m ∷ ms) (pair key t ps) h = (h.1, values_hold ds room ms ps h.2)
-values_hold ds room _ _ h = absurd h
+values_hold ds room _ _ h = grind arith
 
 keys_hold : (ds : List Member) (room : ℕ) (ms : List Member) (ps : Pairs) → AreMembers ds room ms ps → member_keys ms ≡ keys_of (members ps)
-keys_hold ds room [] no_pairs h = refl
 keys_hold ds room (m ∷ ms) (pair key t ps) h = rw (h.0, keys_hold ds room ms ps h.2) refl
-keys_hold ds room _ _ h = absurd h
+keys_hold ds room _ _ h = grind arith
 
 -- ---- more members after those of containers that have ended
 
@@ -42,14 +39,12 @@ mutual
   part_stays ds more room room' (Nested run) _ le h = absurd h
 
   elements_stay : (ds more : List Member) (room : ℕ) (ms : List Member) (ts : Trees) → AreElements ds room ms ts → AreElements (ds ++ more) room ms ts
-  elements_stay ds more room [] no_trees h = tt
   elements_stay ds more room (m ∷ ms) (tree t ts) h = (part_stays ds more room room m.part t (omega arith) h.0, elements_stay ds more room ms ts h.1)
-  elements_stay ds more room _ _ h = absurd h
+  elements_stay ds more room _ _ h = grind arith
 
   members_stay : (ds more : List Member) (room : ℕ) (ms : List Member) (ps : Pairs) → AreMembers ds room ms ps → AreMembers (ds ++ more) room ms ps
-  members_stay ds more room [] no_pairs h = tt
   members_stay ds more room (m ∷ ms) (pair key t ps) h = (h.0, part_stays ds more room room m.part t (omega arith) h.1, members_stay ds more room ms ps h.2)
-  members_stay ds more room _ _ h = absurd h
+  members_stay ds more room _ _ h = grind arith
 
 -- ---- a container that is opened
 
@@ -87,8 +82,6 @@ first_part ds room ms us m others h e = search (arith, Member)
 pub no_parts : (ds : List Member) (room : ℕ) (ms : List Member) (us : List Tree) → length ms ≡ 0 → HoldParts ds room ms us → us ≡ []
 no_parts ds room [] us none h = grind arith
 no_parts ds room (m ∷ ms) us none h = absurd (omega (arith, none))
-
--- ---- errors
 
 -- ---- how a walk ends
 
@@ -183,14 +176,12 @@ module _ (ds : List Member) where
   IsPairOf e p = (e.0 ≡ p.0) × IsPart ds (suc (length ds)) e.1 p.1
 
   pub as_pairs : (ms : List Member) (ps : List (List ℕ × Tree)) → AllZip (IsMemberOf ds) ms ps → AllZip IsPairOf (map as_pair ms) ps
-  as_pairs [] [] h = tt
   as_pairs (m ∷ ms) (p ∷ ps) h = (h.0, as_pairs ms ps h.1)
-  as_pairs _ _ h = absurd h
+  as_pairs _ _ h = grind arith
 
   as_members : (ms : List Member) (ps : List (List ℕ × Tree)) → AllZip IsPairOf (map as_pair ms) ps → AllZip (IsMemberOf ds) ms ps
-  as_members [] [] h = tt
   as_members (m ∷ ms) (p ∷ ps) h = (h.0, as_members ms ps h.1)
-  as_members _ _ h = absurd h
+  as_members _ _ h = grind arith
 
   pair_inserted : (k key : List ℕ) (part : Part) (t : Tree) (es : List (List ℕ × Part)) (ps : List (List ℕ × Tree)) → k ≡ key
       → IsPart ds (suc (length ds)) part t → AllZip IsPairOf es ps → AllZip IsPairOf (insert_pair k part es) (insert_pair key t ps)
@@ -218,15 +209,13 @@ module _ (ds : List Member) where
 
   elements_in : (more : List Member) (room : ℕ) (ms : List Member) (ts : List Tree) → (0 < length ms → suc (length ds) ≤ room) → HoldParts ds (suc (length ds)) ms ts
       → AreElements (ds ++ more) room ms (trees_of ts)
-  elements_in more room [] [] within h = tt
   elements_in more room (m ∷ ms) (t ∷ ts) within h = grind (arith, elements_in more room ms ts, part_stays)
-  elements_in more room _ _ within h = absurd h
+  elements_in more room _ _ within h = grind arith
 
   members_in : (more : List Member) (room : ℕ) (ms : List Member) (ps : List (List ℕ × Tree)) → (0 < length ms → suc (length ds) ≤ room)
       → AllZip (IsMemberOf ds) ms ps → AreMembers (ds ++ more) room ms (pairs_of ps)
-  members_in more room [] [] within h = tt
   members_in more room (m ∷ ms) (p ∷ ps) within h = grind (arith, members_in more room ms ps, part_stays)
-  members_in more room _ _ within h = absurd h
+  members_in more room _ _ within h = grind arith
 
   pub object_part : (run : Run) (ms : List Member) (qs : List (List ℕ × Tree)) → run.kind ≡ Object → run.first ≡ length ds → run.end ≡ length (ds ++ ms)
       → AllZip (IsMemberOf ds) ms (insert_all [] qs) → IsPart (ds ++ ms) (suc (length (ds ++ ms))) (Nested run) (object (pairs_of (insert_all [] qs)))

@@ -49,13 +49,12 @@ pub keys_unique : (ks ls : List (List ℕ)) (v v' x x' words bytes : List ℕ) �
     → words ≡ key_words ks ++ v → words ≡ key_words ls ++ v' → bytes ≡ key_bytes ks ++ x → bytes ≡ key_bytes ls ++ x'
     → (ks ≡ ls) × (v ≡ v') × (x ≡ x')
 keys_unique [] [] v v' x x' words bytes p q n e f g h = (refl, sym e ∙ f, sym g ∙ h)
-keys_unique [] (l ∷ ls) v v' x x' words bytes p q n e f g h = absurd (omega arith)
-keys_unique (k ∷ ks) [] v v' x x' words bytes p q n e f g h = absurd (omega arith)
 keys_unique (k ∷ ks) (l ∷ ls) v v' x x' words bytes p q n e f g h =
     let first : BeginWith words bytes 1 k (key_words ks ++ v) (key_bytes ks ++ x) = grind (arith, append_assoc) in
     let other : BeginWith words bytes 1 l (key_words ls ++ v') (key_bytes ls ++ x') = grind (arith, append_assoc) in
     let same = BeginWith-unique _ _ _ _ _ _ _ _ _ _ first other in
     grind (arith, same, keys_unique ks ls v v' x x' (key_words ks ++ v) (key_bytes ks ++ x) p.2 q.2)
+keys_unique _ _ v v' x x' words bytes p q n e f g h = grind arith
 
 -- what follows the keys is one
 pub HasKeys-unique : (words bytes a b : List ℕ) → HasKeys words bytes a → HasKeys words bytes b → a ≡ b

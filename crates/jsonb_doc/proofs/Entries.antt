@@ -82,14 +82,10 @@ Members-map ks h words contents e = grind arith
 module _ (strict lenient : NumberReader) (more : (bytes : List ℕ) (n : Number) → strict bytes ≡ Some n → lenient bytes ≡ Some n) where
   mutual
     pub content_map : (t : Tree) (kind : ℕ) (bytes : List ℕ) → IsContent strict t kind bytes → IsContent lenient t kind bytes
-    content_map null kind bytes h = h
-    content_map (boolean true) kind bytes h = h
-    content_map (boolean false) kind bytes h = h
     content_map (number n) kind bytes h = (h.0, more bytes n h.1)
-    content_map (text s) kind bytes h = h
-    content_map (extension x) kind bytes h = h
     content_map (array ts) kind bytes h = (h.0, Container-map array_header (count ts) (entries_map ts) bytes h.1)
     content_map (object ps) kind bytes h = (h.0, Container-map object_header (length (keys ps)) (Members-map (keys ps) (values_map ps)) bytes h.1)
+    content_map _ kind bytes h = grind arith
 
     pub entries_map : (ts : Trees) (words contents : List ℕ) → AreEntries strict ts words contents → AreEntries lenient ts words contents
     entries_map no_trees words contents h = h

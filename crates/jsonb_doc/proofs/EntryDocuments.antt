@@ -3,9 +3,8 @@ use Rattle.jsonb_doc.proofs.Common.{◌≡◌, ℕ, zero, suc, ◌≤◌, List, 
 pub use Rattle.jsonb_doc.proofs.CanonicalLemmas.{entry_decodes}
 
 take_own : (m : ℕ) (xs : List ℕ) → take (length (take m xs)) xs ≡ take m xs
-take_own zero xs = refl
-take_own (suc m) [] = refl
 take_own (suc m) (x ∷ xs) = ap (λ (l : List ℕ). x ∷ l) (take_own m xs)
+take_own _ _ = grind arith
 
 -- the prefix of bytes that begin with a content is that content
 pub front_is_content : (bytes content front : List ℕ) (start end n : ℕ) → content ≡ slice_range bytes start end

@@ -51,10 +51,9 @@ is_other decides differ p = let same = decides.1 p in cc (same, differ)
 
 -- the word at a position of all words
 pub chunk_at : (k i : ℕ) (words : List ℕ) → i < k → slice_index_or (first_chunks 4 k words) i [] ≡ take 4 (drop (4 * i) words)
-chunk_at zero i words h = absurd (omega (arith, h))
-chunk_at (suc k) zero words h = refl
 chunk_at (suc k) (suc i) words h =
     chunk_at k i (drop 4 words) (omega (arith, h)) ∙ ap (take 4) (drop-drop (4 * i) 4 words ∙ ap (λ (n : ℕ). drop n words) (omega arith))
+chunk_at _ _ words h = grind arith
 
 -- a key that was cut from all bytes
 pub key_cut : (bytes key : List ℕ) (end len : ℕ) → key ≡ slice_range bytes end (end + len) → key ≡ take len (drop end bytes)
@@ -216,17 +215,11 @@ module _ (bytes : List ℕ) (parent : Spot) (t : Tree) (m : Locates bytes parent
   held_in = object_held bytes parent t m content is container p cut
 
   pub field_searched : ((number_at : NumberReader) (ps : Pairs) → HasPairParts number_at ps p → ⊥) → ⊥
-  field_searched none = go t (held_in any m.whole m.decodes)
-    where
-      go : (u : Tree) → Holds (number_reader any) u (Object p) → ⊥
-      go u h = grind arith
+  field_searched none = grind (arith, held_in any m.whole m.decodes, none (number_reader any))
 
   pub field_absent : ((number_at : NumberReader) (ps : Pairs) → HasPairParts number_at ps p → value_under name ps ≡ None)
       → SameOption (Locates bytes) None (field_of name t)
-  field_absent none = go t (held_in any m.whole m.decodes)
-    where
-      go : (u : Tree) → Holds (number_reader any) u (Object p) → SameOption (Locates bytes) None (field_of name u)
-      go u h = grind arith
+  field_absent none = grind (arith, held_in any m.whole m.decodes, none (number_reader any))
 
   pub field_marks : (e : Entry) (spot : Spot) → spot.kind ≡ e.kind → spot.end ≡ parent.end - length e.other_contents.now
       → spot.start ≡ spot.end - length e.content.now
@@ -253,19 +246,17 @@ module _ (bytes : List ℕ) (parent : Spot) (t : Tree) (m : Locates bytes parent
 -- ---- keys in order
 
 AreKeys-take : (n : ℕ) (ks : List (List ℕ)) → AreKeys ks → AreKeys (take n ks)
-AreKeys-take zero ks are = tt
-AreKeys-take (suc n) [] are = tt
 AreKeys-take (suc n) (key ∷ ks) are = (are.0, first n ks are.1, AreKeys-take n ks are.2)
   where
     first : (m : ℕ) (others : List (List ℕ)) → IsBelowFirst key others → IsBelowFirst key (take m others)
     first zero others below = tt
     first (suc m) [] below = tt
     first (suc m) (next ∷ others) below = below
+AreKeys-take _ _ are = grind arith
 
 AreKeys-drop : (n : ℕ) (ks : List (List ℕ)) → AreKeys ks → AreKeys (drop n ks)
-AreKeys-drop zero ks are = are
-AreKeys-drop (suc n) [] are = tt
 AreKeys-drop (suc n) (key ∷ ks) are = AreKeys-drop n ks are.2
+AreKeys-drop _ _ are = grind arith
 
 differs : (low key : List ℕ) → slice_cmp nat_cmp low key ≡ Less → key ≢ low
 differs low key less same =
@@ -293,9 +284,8 @@ below_name low key name less other = by (slice_cmp nat_cmp name key) refl
 -- if a name is not below a key, those before the key are below the name
 below_before : (name : List ℕ) (n : ℕ) (ks : List (List ℕ)) (key : List ℕ) (back : List (List ℕ)) → AreKeys ks → drop n ks ≡ key ∷ back
     → slice_cmp nat_cmp name key ≢ Less → AreBelow name (take n ks)
-below_before name zero ks key back are is other = tt
-below_before name (suc n) [] key back are is other = tt
 below_before name (suc n) (k ∷ ks) key back are is other = grind (arith, below_before name n ks key back are.2 is other, below_later, below_name)
+below_before name _ _ key back are is other = grind arith
 
 pub AreBelow-both : (name : List ℕ) (front back : List (List ℕ)) → AreBelow name front → AreBelow name back → AreBelow name (front ++ back)
 AreBelow-both name [] back below others = others
@@ -309,17 +299,15 @@ none_below name (key ∷ ks) below = (λ e. differs key name below.0 (sym e), no
 
 words_split : (n : ℕ) (ks : List (List ℕ)) → n ≤ length ks
     → (take (4 * n) (key_words ks) ≡ key_words (take n ks)) × (drop (4 * n) (key_words ks) ≡ key_words (drop n ks))
-words_split zero ks enough = (refl, refl)
-words_split (suc n) [] enough = absurd (omega (arith, enough))
 words_split (suc n) (key ∷ ks) enough =
     let four : 4 * suc n ≡ suc (suc (suc (suc (4 * n)))) = omega arith in
     let others = words_split n ks (omega (arith, enough)) in
     search arith
+words_split _ _ enough = grind arith
 
 bytes_split : (n : ℕ) (ks : List (List ℕ)) (rest : List ℕ) → key_bytes ks ++ rest ≡ key_bytes (take n ks) ++ (key_bytes (drop n ks) ++ rest)
-bytes_split zero ks rest = refl
-bytes_split (suc n) [] rest = refl
 bytes_split (suc n) (key ∷ ks) rest = grind (arith, bytes_split n ks rest, append_assoc)
+bytes_split _ _ rest = grind arith
 
 module _ (n : ℕ) (ks : List (List ℕ)) (words bytes rest : List ℕ) (h : HoldKeys ks words bytes rest) where
   counted : length words ≡ 4 * length ks

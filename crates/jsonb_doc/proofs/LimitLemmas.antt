@@ -105,18 +105,14 @@ module _ (form : Form) where
     -- a content is no longer than the tree may be in its form
     pub size_within : (t : Tree) (kind : ℕ) (bytes : List ℕ) → IsContent (number_reader form) t kind bytes
         → length bytes ≤ content_size form t
-    size_within null kind bytes h = omega (arith, ap length h.1)
-    size_within (boolean true) kind bytes h = omega (arith, ap length h.1)
-    size_within (boolean false) kind bytes h = omega (arith, ap length h.1)
     size_within (number n) kind bytes h = payload_size form bytes n h.1
-    size_within (text s) kind bytes h = omega (arith, ap length h.1)
-    size_within (extension x) kind bytes h = omega (arith, ap length h.2)
     size_within (array ts) kind bytes (is, c) =
         omega (arith, length-array (number_reader form) bytes ts c, entries_within ts c.words c.contents c.parts)
     size_within (object ps) kind bytes (is, c) =
         let m = c.parts in
         let inner = values_within ps m.value_words m.value_contents m.values in
         omega (arith, length-object (number_reader form) bytes ps c, inner)
+    size_within _ kind bytes h = grind arith
 
     entries_within : (ts : Trees) (ws cs : List ℕ) → AreEntries (number_reader form) ts ws cs
         → length cs ≤ elements_size form ts

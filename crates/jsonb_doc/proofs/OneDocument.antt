@@ -7,12 +7,6 @@ mutual
   -- what a canonical content is
   canonical_content : (t : Tree) (kind : ℕ) (bytes : List ℕ) → AreBytes bytes → IsContent (number_reader canonical) t kind bytes
       → (kind ≡ kind_of t) × (bytes ≡ content t)
-  canonical_content null kind bytes all h = h
-  canonical_content (boolean true) kind bytes all h = h
-  canonical_content (boolean false) kind bytes all h = h
-  canonical_content (number n) kind bytes all h = (h.0, canonical_payload bytes n h.1)
-  canonical_content (text s) kind bytes all h = (h.0, h.1)
-  canonical_content (extension x) kind bytes all h = (h.0, h.2)
   canonical_content (array ts) kind bytes all (is, c) =
       let inner = headed_bytes bytes 4 (count ts) c.words c.contents c.headed all in
       grind (arith, canonical_entries ts c.words c.contents inner c.parts)
@@ -21,6 +15,7 @@ mutual
       let inner = headed_bytes bytes 2 (length (keys ps)) c.words c.contents c.headed all in
       let rest = joined_bytes c.contents (key_bytes (keys ps)) m.value_contents m.contents_joined inner in
       grind (arith, canonical_values ps m.value_words m.value_contents rest.1 m.values)
+  canonical_content _ kind bytes all h = grind (arith, canonical_payload)
 
   canonical_entries : (ts : Trees) (ws cs : List ℕ) → AreBytes cs → AreEntries (number_reader canonical) ts ws cs → (ws ≡ words ts) × (cs ≡ contents ts)
   canonical_entries no_trees ws cs all h = h

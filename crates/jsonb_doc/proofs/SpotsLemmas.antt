@@ -264,10 +264,7 @@ module _ (bytes : List ℕ) (parent : Spot) (t : Tree) (m : Locates bytes parent
         go _ k held = absurd (held any m.whole m.decodes)
 
     pub array_no_field : (name : List ℕ) → SameOption (Locates bytes) None (field_of name t)
-    array_no_field name = go t (array_held any m.whole m.decodes)
-      where
-        go : (u : Tree) → Holds (number_reader any) u (Array p) → SameOption (Locates bytes) None (field_of name u)
-        go u h = grind arith
+    array_no_field name = grind (arith, array_held any m.whole m.decodes)
 
   module _ (p : ObjectParts) (cut : IsCut content (Object p)) where
     pub object_held : (form : Form) (top : Tree) → Decodes form bytes top → Holds (number_reader form) t (Object p)
@@ -304,39 +301,27 @@ module _ (bytes : List ℕ) (parent : Spot) (t : Tree) (m : Locates bytes parent
     (container : kind_number parent.kind ≡ 5) where
   module _ (p : ArrayParts) (cut : IsCut content (Array p)) where
     pub array_no_values : SameOption (λ it ps. HasSpotsLeft bytes it (elements (values ps))) None (pairs_in t)
-    array_no_values = go t (array_held bytes parent t m content is container p cut any m.whole m.decodes)
-      where
-        go : (u : Tree) → Holds (number_reader any) u (Array p) → SameOption (λ it ps. HasSpotsLeft bytes it (elements (values ps))) None (pairs_in u)
-        go u h = grind arith
+    array_no_values =
+        grind (arith, array_held bytes parent t m content is container p cut any m.whole m.decodes)
 
     -- the children of an array are its elements
     pub array_elements : (it : SpotIter) → it.words.now ≡ p.words.now → it.start ≡ parent.end - length p.contents.now → it.end ≡ parent.end
         → SameOption (λ found ts. HasSpotsLeft bytes found (elements ts)) (Some it) (trees_in t)
     array_elements it words start end =
-        go t (array_held bytes parent t m content is container p cut any m.whole m.decodes)
-        (array_children bytes parent t m content is container p cut it words start end)
-      where
-        go : (u : Tree) → Holds (number_reader any) u (Array p) → SameOption (HasSpotsLeft bytes) (Some it) (children_of u)
-            → SameOption (λ found ts. HasSpotsLeft bytes found (elements ts)) (Some it) (trees_in u)
-        go u h e = grind arith
+        let children = array_children bytes parent t m content is container p cut it words start end in
+        grind (arith, array_held bytes parent t m content is container p cut any m.whole m.decodes, children)
 
   module _ (p : ObjectParts) (cut : IsCut content (Object p)) where
     pub object_no_elements : SameOption (λ it ts. HasSpotsLeft bytes it (elements ts)) None (trees_in t)
-    object_no_elements = go t (object_held bytes parent t m content is container p cut any m.whole m.decodes)
-      where
-        go : (u : Tree) → Holds (number_reader any) u (Object p) → SameOption (λ it ts. HasSpotsLeft bytes it (elements ts)) None (trees_in u)
-        go u h = grind arith
+    object_no_elements =
+        grind (arith, object_held bytes parent t m content is container p cut any m.whole m.decodes)
 
     -- the children of an object are its values
     pub object_values : (it : SpotIter) (found : List ℕ) → SkipsKeys p found → it.words.now ≡ p.value_words.now → it.start ≡ parent.end - length found
         → it.end ≡ parent.end → SameOption (λ it ps. HasSpotsLeft bytes it (elements (values ps))) (Some it) (pairs_in t)
     object_values it found skips words start end =
-        go t (object_held bytes parent t m content is container p cut any m.whole m.decodes)
-        (object_children bytes parent t m content is container p cut it found skips words start end)
-      where
-        go : (u : Tree) → Holds (number_reader any) u (Object p) → SameOption (HasSpotsLeft bytes) (Some it) (children_of u)
-            → SameOption (λ it ps. HasSpotsLeft bytes it (elements (values ps))) (Some it) (pairs_in u)
-        go u h e = grind arith
+        let children = object_children bytes parent t m content is container p cut it found skips words start end in
+        grind (arith, object_held bytes parent t m content is container p cut any m.whole m.decodes, children)
 
 -- ---- entries
 
@@ -474,11 +459,7 @@ module _ (bytes : List ℕ) (t : Tree) (d : Decodes any bytes t) where
   module _ (p : ObjectParts) (cut : IsCut bytes (Object p)) where
     -- the keys of an object end within its bytes
     pub keys_end : ((parts : List (List ℕ)) (rest : List ℕ) → StandBefore parts p.key_words.now p.contents.now rest → ⊥) → ⊥
-    keys_end none = go t (Decodes-object any bytes p cut t d)
-      where
-        go : (u : Tree) → Holds (number_reader any) u (Object p) → ⊥
-        go (object ps) held = HoldsPairs-skipped any p none ps held
-        go _ held = held
+    keys_end none = Holds-skipped any p none t (Decodes-object any bytes p cut t d)
 
     module _ (at : ChildPositions) (found : List ℕ) (skips : SkipsKeys p found) where
       pub object_opened : at.left ≡ length p.key_words.now / 4 → at.keys.word ≡ 4 → at.keys.content ≡ length bytes - length p.contents.now

@@ -38,9 +38,8 @@ take_small (suc n) (x ∷ xs) h zero = h zero
 take_small (suc n) (x ∷ xs) h (suc i) = take_small n xs (λ j. h (suc j)) i
 
 drop_small : (n : ℕ) (xs : List ℕ) → AreSmall xs → AreSmall (drop n xs)
-drop_small zero xs h = h
-drop_small (suc n) [] h = h
 drop_small (suc n) (x ∷ xs) h = drop_small n xs (λ j. h (suc j))
+drop_small _ _ h = grind arith
 
 -- that many bytes are those of their number
 abbrev pub HasWords : Width → ℕ → Type 0
@@ -97,10 +96,9 @@ word_spelled _ long = absurd (omega (arith, long))
 
 below_spelled : (n a b : ℕ) (us vs : List ℕ) → n ≤ length us → n ≤ length vs → AreSmall us → a < b → spelled a (take n us) < spelled b (take n vs)
 below_spelled zero a b us vs p q small less = less
-below_spelled (suc n) a b [] vs p q small less = absurd (omega (arith, p))
-below_spelled (suc n) a b (u ∷ us) [] p q small less = absurd (omega (arith, q))
 below_spelled (suc n) a b (u ∷ us) (v ∷ vs) p q small less =
     below_spelled n (a * 256 + u) (b * 256 + v) us vs (omega (arith, p)) (omega (arith, q)) (λ k. small (suc k)) (omega (arith, small 0, less))
+below_spelled _ a b _ _ p q small less = grind arith
 
 pub order_spelled : (n a : ℕ) (us vs : List ℕ) → n ≤ length us → n ≤ length vs → AreSmall us → AreSmall vs → spelled a (take n us) ≢ spelled a (take n vs)
     → nat_cmp (spelled a (take n us)) (spelled a (take n vs)) ≡ slice_cmp nat_cmp us vs

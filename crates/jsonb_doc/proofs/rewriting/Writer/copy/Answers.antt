@@ -13,6 +13,3 @@ returns-clause-copied c = λ form ts coming around whole h w.
       are_around = w.are_around;
       within = set.0 ∙ w.within;
     }
-
-pub returns-clause-room : goal.returns-clause-room
-returns-clause-room c = search rules

@@ -24,6 +24,3 @@ returns-clause-left c = λ form coming around whole w.
       are_around = rest;
       within = set.0 ∙ w.within;
     }
-
-pub returns-clause-room : goal.returns-clause-room
-returns-clause-room c = search rules

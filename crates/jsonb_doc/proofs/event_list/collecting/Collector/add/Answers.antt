@@ -1,9 +1,6 @@
 use Rattle.jsonb_doc.proofs.Lemmas.{rules, ◌++◌, ◌∷◌, [], ◌∙◌, List, ap, refl, sym, subst, append_assoc, appended, AreAround, HeaderKind, Member, filled_frame}
 use Rattle.jsonb_doc.proofs.event_list.collecting.Collector.add.Goals as goal
 
-pub returns-in_default : goal.returns-in_default
-returns-in_default c = search rules
-
 pub returns : goal.returns
 returns c = λ s t h part.
     let b = c.args.self.now in

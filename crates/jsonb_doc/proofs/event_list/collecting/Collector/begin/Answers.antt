@@ -1,9 +1,6 @@
 use Rattle.jsonb_doc.proofs.Lemmas.{rules, ◌++◌, ◌∷◌, [], ◌∙◌, List, ap, refl, sym, length, arith, None, append-nil, Run, Nested, Member, Frame, waits_takes}
 use Rattle.jsonb_doc.proofs.event_list.collecting.Collector.begin.Goals as goal
 
-pub returns-in_default : goal.returns-in_default
-returns-in_default c = search rules
-
 pub returns : goal.returns
 returns c = λ s level h some empty.
     let b = c.args.self.now in
