@@ -15,12 +15,9 @@ module _ (supported : Bool) (Whole Left Part Others : NumberReader → Type 0) (
   Leaves-unsupported h e = grind arith
 
 -- a reduction of what is left is a reduction of the whole
-and_true : (a b : Bool) → ((a && b) ≡ true) ↔ ((a ≡ true) × (b ≡ true))
-and_true a b = grind arith
-
 pub Leaves-then : (first second : Bool) (Whole Left Less : NumberReader → Type 0) → ReducesTo first Whole Left → ReducesTo second Left Less
     → ReducesTo (first && second) Whole Less
-Leaves-then first second Whole Left Less h e = grind (arith, and_true)
+Leaves-then first second Whole Left Less h e = grind arith
 
 -- what is left may be replaced by what is equivalent
 pub Leaves-along : (supported : Bool) (Whole Left Other : NumberReader → Type 0) → ((number_at : NumberReader) → Left number_at ↔ Other number_at)

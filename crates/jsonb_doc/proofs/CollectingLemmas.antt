@@ -34,9 +34,7 @@ mutual
       grind (arith, elements_stay ds more run.end (slice_range ds run.first run.end) ts h.4, length-append, run_stays)
   part_stays ds more room room' (Nested run) (object ps) le h =
       grind (arith, members_stay ds more run.end (slice_range ds run.first run.end) ps h.5, length-append, run_stays)
-  part_stays ds more room room' (Text s) t le h = h
-  part_stays ds more room room' (Plain e) t le h = h
-  part_stays ds more room room' (Nested run) _ le h = absurd h
+  part_stays ds more room room' _ _ le h = grind arith
 
   elements_stay : (ds more : List Member) (room : ℕ) (ms : List Member) (ts : Trees) → AreElements ds room ms ts → AreElements (ds ++ more) room ms ts
   elements_stay ds more room (m ∷ ms) (tree t ts) h = (part_stays ds more room room m.part t (omega arith) h.0, elements_stay ds more room ms ts h.1)
@@ -155,12 +153,8 @@ pub opened_around : (ds : List Member) (kind : HeaderKind) (before : List Member
     → OpenedAround ds before l ls
 opened_around ds kind before l ls h = grind arith
 
-abbrev run_of : Run → Part → Run
-run_of none (Nested run) = run
-run_of none _ = none
-
 pub same_run : (run other : Run) (part : Part) → part ≡ Nested run → part ≡ Nested other → run ≡ other
-same_run run other part e f = ap (run_of run) (sym e ∙ f)
+same_run run other part e f = cc
 
 -- the root, once it is complete
 pub root_finished : (ds : List Member) (f : Frame) (ms : List Member) (m : Member) (level : Level) → f.kind ≡ Scalar → Some m ≡ slice_get ms 0
@@ -191,10 +185,9 @@ module _ (ds : List Member) where
 
   all_inserted : (es fs : List (List ℕ × Part)) (ps qs : List (List ℕ × Tree)) → AllZip IsPairOf es ps → AllZip IsPairOf fs qs
       → AllZip IsPairOf (insert_all es fs) (insert_all ps qs)
-  all_inserted es [] ps [] h g = h
   all_inserted es (f ∷ fs) ps (q ∷ qs) h g =
       all_inserted (insert_pair f.0 f.1 es) fs (insert_pair q.0 q.1 ps) qs (pair_inserted f.0 q.0 f.1 q.1 es ps g.0.0 g.0.1 h) g.1
-  all_inserted es _ ps _ h g = absurd g
+  all_inserted es _ ps _ h g = grind arith
 
   -- the members that are kept are the pairs, inserted one after the other
   pub kept_members : (ms kept : List Member) (qs : List (List ℕ × Tree)) → AllZip (IsMemberOf ds) ms qs

@@ -170,9 +170,6 @@ module _ (number_at : NumberReader) (bytes : List ℕ) where
     document_array h t c = grind (arith, HeadedBy-unique, length-words)
 
     pub document_object : HeadedBy bytes 2 n rest → (t : Tree) → IsContent number_at t 5 bytes → ObjectIn number_at t n rest
-    document_object h (boolean true) c = absurd (omega (arith, c.0))
-    document_object h (boolean false) c = absurd (omega (arith, c.0))
-    document_object h (array ts) (is, c) = grind (arith, HeadedBy-unique)
     document_object h (object ps) (is, c) =
         let (same_kind, same_n, same_rest) = HeadedBy-unique bytes 2 2 n (length (keys ps)) rest (c.words ++ c.contents) h c.headed in
         let m = c.parts in
@@ -189,7 +186,7 @@ module _ (number_at : NumberReader) (bytes : List ℕ) where
           are_keys = m.are_keys;
           values = m.values;
         }
-    document_object h _ c = absurd (omega (arith, c.0))
+    document_object h _ c = grind (arith, HeadedBy-unique)
 
 -- ---- documents that are cut
 

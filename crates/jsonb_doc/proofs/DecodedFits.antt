@@ -191,11 +191,7 @@ mutual
   -- what is read is within the ranges of its types and the limits, and is no shorter than its canonical content
   content_fits : (t : Tree) (kind : ℕ) (bytes : List ℕ) → AreBytes bytes → IsContent number_of t kind bytes
       → IsInRange t × HasShortParts canonical t × (content_size canonical t ≤ length bytes)
-  content_fits null kind bytes all h = (tt, tt, omega arith)
-  content_fits (boolean b) kind bytes all h = (tt, tt, omega arith)
   content_fits (number n) kind bytes all h = let (fits, least) = number_within bytes n all h.1 in (fits, tt, least)
-  content_fits (text s) kind bytes all h = (h.2, tt, omega (arith, ap length h.1))
-  content_fits (extension x) kind bytes all h = (h.1, tt, omega (arith, ap length h.2))
   content_fits (array ts) kind bytes all (is, c) =
       let inner = headed_bytes bytes 4 (count ts) c.words c.contents c.headed all in
       let (range, short, least) = entries_fit ts c.words c.contents inner c.parts in
@@ -208,6 +204,7 @@ mutual
       let size : content_size canonical (object ps) ≤ length bytes =
       omega (arith, length-object number_of bytes ps c, least) in
       ((m.are_keys, range), (c.headed.fits, short_keys (keys ps) m.are_keys, short), size)
+  content_fits _ kind bytes all h = grind arith
 
   entries_fit : (ts : Trees) (ws cs : List ℕ) → AreBytes cs → AreEntries number_of ts ws cs
       → AreInRange ts × HasShortElements canonical ts × (elements_size canonical ts ≤ length cs)

@@ -61,10 +61,8 @@ abbrev pub IsNewState : State → Type 0
 IsNewState s = IsNew s.inner × AreAllNew s.around
 
 new_before : (t : Tree) (level : Level) → IsTrue (takes_value level) → IsNew (appended t level) → IsNew level
-new_before t (root u) takes new = tt
-new_before t (array_of ts) takes new = tt
 new_before t (object_of ps (Some key)) takes new = more_new [] ps (key, t) new
-new_before t (object_of ps None) takes new = let bad : false ≡ true = takes in absurd (cc)
+new_before t _ takes new = grind arith
 
 -- ---- events
 
@@ -154,12 +152,8 @@ abbrev ok_or : {A E : Type 0} → A → Result A E → A
 ok_or x (Ok y) = y
 ok_or x (Err e) = x
 
-abbrev is_value : Result State EventError → Bool
-is_value (Ok s) = true
-is_value (Err e) = false
-
 pub not_ok : (e : EventError) (s : State) → Err e ≡ Ok s → ⊥
-not_ok e s is = true≢false (sym (ap is_value is))
+not_ok e s is = cc
 
 -- a container that begins
 within_back : (level : Level) (s after : State) → within level s ≡ Ok after
@@ -269,9 +263,12 @@ pub record Happens (keep_last : Bool) (es : List TextEvent) (bytes : List ℕ) (
   pub is : after ≡ sorted_state state
   pub new : keep_last ≡ false → IsNewState state
 
+failed_stays : (keep_last : Bool) (xs : List Event) (e : EventError) → lists.after keep_last xs (Err e) ≡ Err e
+failed_stays keep_last [] e = refl
+failed_stays keep_last (x ∷ xs) e = refl
+
 pub stuck : (keep_last : Bool) (xs : List Event) (e : EventError) (after : State) → lists.after keep_last xs (Err e) ≡ Ok after → Err e ≡ Ok after
-stuck keep_last [] e after is = is
-stuck keep_last (x ∷ xs) e after is = is
+stuck keep_last xs e after is = sym (failed_stays keep_last xs e) ∙ is
 
 pub all_back : (keep_last : Bool) (es : List TextEvent) (bytes : List ℕ) (events : List Event) (s after : State) → AreEvents es bytes events
     → lists.after keep_last events (Ok (sorted_state s)) ≡ Ok after → (keep_last ≡ false → IsNewState s) → Happens keep_last es bytes s after
@@ -387,10 +384,6 @@ happen_rest keep_last (e ∷ es) later bytes s mid s' rest after h g =
     happen_rest keep_last es later h.1 h.2 mid s' rest after h.5 (one_step keep_last e (es ++ later) bytes s h.0 h.1 h.2 rest after h.3 h.4 g)
 
 -- ---- duplicate keys
-
-failed_stays : (keep_last : Bool) (xs : List Event) (e : EventError) → lists.after keep_last xs (Err e) ≡ Err e
-failed_stays keep_last [] e = refl
-failed_stays keep_last (x ∷ xs) e = refl
 
 after_either : (xs : List Event) (s s' : State) → lists.after true xs (Ok s) ≡ Ok s'
     → (lists.after false xs (Ok s) ≡ Ok s') ⊎ (lists.after false xs (Ok s) ≡ Err (Failed ObjectDuplicateKey))

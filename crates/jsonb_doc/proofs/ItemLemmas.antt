@@ -13,29 +13,20 @@ use Rattle.jsonb_doc.proofs.DecodedFits.{headed_bytes, extension_within}
 -- what an item is written as is a content of its tree
 pub content_stands : (form : Form) (item : Item) (t : Tree) → StandsFor form item t → FitsItem item
     → IsContent (number_reader form) t (item_kind item) (item_content item)
-content_stands form Null t is fits = rw is (refl, refl)
-content_stands form (Boolean false) t is fits = rw is (refl, refl)
-content_stands form (Boolean true) t is fits = rw is (refl, refl)
 content_stands form (Number n) t is fits =
     rw is (refl, reads_canonical form (number_payload (number_view n)) (number_view n) (reads_written (number_view n) (number_back (number_view n) fits)))
-content_stands form (String s) t is fits = rw is (refl, refl, fits)
-content_stands form (Extension x) t is fits = rw is (refl, fits, refl)
 content_stands form (Array bytes) t (ts, is, decodes) fits = grind (arith, array_document)
 content_stands form (Object bytes) t (ps, is, decodes) fits = grind (arith, object_document)
+content_stands form _ t is fits = grind arith
 
 -- a content that is too long is that of a tree that is
 pub long_content : (form : Form) (item : Item) (t : Tree) → StandsFor form item t → IsTooLong (item_content item) → 2 ^ 28 ≤ content_size form t
-long_content form Null t is long = absurd (omega arith)
-long_content form (Boolean b) t is long = absurd (omega arith)
 long_content form (Number n) t is long = grind (arith, length-number_payload)
-long_content any (String s) t is long = rw is long
-long_content canonical (String s) t is long = rw is long
-long_content any (Extension x) t is long = rw is long
-long_content canonical (Extension x) t is long = rw is long
 long_content form (Array bytes) t (ts, is, decodes) long =
     rw is (omega (arith, size_within form (array ts) 5 bytes.now (array_document (number_reader form) ts bytes.now decodes.document)))
 long_content form (Object bytes) t (ps, is, decodes) long =
     rw is (omega (arith, size_within form (object ps) 5 bytes.now (object_document (number_reader form) ps bytes.now decodes.document)))
+long_content form _ t is long = grind arith
 
 -- the kind of an item that is not a container
 pub scalar_kind : (item : Item) → ((x : Bor (List ℕ)) → item ≡ Array x → ⊥) → ((x : Bor (List ℕ)) → item ≡ Object x → ⊥) → item_kind item ≢ 5

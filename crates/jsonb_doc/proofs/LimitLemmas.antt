@@ -84,7 +84,6 @@ mutual
   pub length-content : (t : Tree) → length (content t) ≡ content_size canonical t
   length-content (array ts) = omega (arith, length-append (words ts) (contents ts), length-canonical_words ts, length-elements ts)
   length-content (object ps) = grind (arith, length-append, length-key_words, length-value_words, length-values ps)
-  length-content null = refl
   length-content _ = refl
 
   length-elements : (ts : Trees) → length (contents ts) ≡ elements_size canonical ts

@@ -25,9 +25,6 @@ module _ {A : Type 0} where
   abbrev found : List (List ℕ × A) → List ℕ → Option A
   found ps q = lookup (is_at (cmp q)) ps
 
-  twice : (b : Bool) (x y z : Option A) → cond b x z ≡ cond b x (cond b y z)
-  twice b x y z = grind arith
-
   apart : (key : List ℕ) (x : A) (p : List ℕ × A) (ps : List (List ℕ × A)) (q : List ℕ) → cmp key p.0 ≡ Greater → (a b : Ordering) → cmp q p.0 ≡ a → cmp q key ≡ b
       → cond (is_eq a) (Some p.1) (cond (is_eq b) (Some x) (found ps q)) ≡ cond (is_eq b) (Some x) (cond (is_eq a) (Some p.1) (found ps q))
   apart key x p ps q e Equal Equal f g = cc (e, ap (cmp key) (sym (equal_key q p.0 f) ∙ equal_key q key g), self_equal key)
@@ -37,7 +34,7 @@ module _ {A : Type 0} where
   found_inserted : (key : List ℕ) (x : A) (ps : List (List ℕ × A)) (q : List ℕ)
       → found (insert_pair key x ps) q ≡ cond (is_eq (cmp q key)) (Some x) (found ps q)
   found_inserted key x [] q = refl
-  found_inserted key x (p ∷ ps) q = grind (arith, found_inserted key x ps q, equal_key, twice, apart)
+  found_inserted key x (p ∷ ps) q = grind (arith, found_inserted key x ps q, equal_key, apart)
 
   -- The value that is inserted last at a key, or `o`.
   abbrev last_at : List ℕ → Option A → List (List ℕ × A) → Option A

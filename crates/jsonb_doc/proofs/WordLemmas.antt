@@ -51,15 +51,12 @@ short_words xs long small = be_bytes_4 xs (from_be_bytes w32 xs) long small refl
 pub long_words : HasWords w64 8
 long_words xs long small = be_bytes_8 xs (from_be_bytes w64 xs) long small refl
 
-word_of : (w : Width) (n : ℕ) → HasWords w n → (xs part : List ℕ) (x : ℕ) → length xs ≡ n → AreSmall xs → part ≡ xs → x ≡ from_be_bytes w part → IsWordOf w xs x
-word_of w n h xs part x e k f g = grind arith
-
 -- the numbers of the first bytes and of the last
 pub ends_are : (w : Width) (n : ℕ) → HasWords w n → (bytes first last : List ℕ) (x y : ℕ) → n ≤ length bytes → AreSmall bytes
     → first ≡ take n bytes → last ≡ drop (length bytes - n) bytes → x ≡ from_be_bytes w first → y ≡ from_be_bytes w last
     → AreEnds w n bytes (Some (x, y))
 ends_are w n words bytes first last x y enough small front back e f =
-    grind (arith, word_of, length-take-le, take_small, length-drop, drop_small)
+    grind (arith, length-take-le, take_small, length-drop, drop_small)
 
 -- ---- what they determine
 
