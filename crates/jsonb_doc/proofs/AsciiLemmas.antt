@@ -1,5 +1,5 @@
 -- Blocks of bytes in which no top bit is set.
-use Rattle.std.proofs.Common.{◌≡◌, ℕ, zero, suc, ◌+◌, ◌-◌, ◌%◌, ◌^◌, ◌<◌, ◌≤◌, Bool, true, false, cond, leb, eqb, List, [], ◌∷◌, ◌++◌, map, length, get_or, take, drop, replicate, IsAscii, refl, sym, ap, ◌∙◌, subst, inl, inr, arith, leb-false, eqb-true, length-take-le, get_or-take, get_or-drop, take-add}
+use Rattle.std.proofs.Common.{◌≡◌, ℕ, zero, suc, ◌+◌, ◌-◌, ◌%◌, ◌^◌, ◌<◌, ◌≤◌, true, cond, leb, eqb, List, [], ◌∷◌, ◌++◌, map, length, get_or, take, drop, replicate, IsAscii, sym, ap, ◌∙◌, subst, inl, inr, arith, leb-false, eqb-true, get_or-take, get_or-drop, take-add}
 use Rattle.std.proofs.lemmas.Bool.{cases_lt}
 use Rattle.std.proofs.lemmas.List.{get_or_past, length-map, length-replicate}
 use Rattle.std.proofs.lemmas.Simd.{length-zip2, mask_l-mod}

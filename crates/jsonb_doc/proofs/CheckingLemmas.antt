@@ -1,5 +1,5 @@
 -- Checks and depths: what is left of a whole decides it, how often a length can be halved, and the depth of items by their parts.
-use Rattle.jsonb_doc.proofs.Common.{◌≡◌, ◌≢◌, ℕ, ◌+◌, ◌/◌, ◌<◌, ◌≤◌, List, length, Option, Some, None, Bool, true, false, ◌&&◌, ◌↔◌, arith, NumberReader, number_of, number_or_unsupported, IsValidationError, ReducesTo, HasContent, HasEntries, HasParts, HasLarge, Error, UnsupportedNumber, zero, suc, refl, max, rules, inl, ap, ord_max, Tree, object, Trees, no_trees, tree, Pairs, no_pairs, pair, values, Form, number_reader, BeginWith, Decodes, IsContent, AreEntries, deepest, deepest_of_trees, deepest_of_pairs, Holds, parts_of, LiesBelow, AreDeep, ObjectParts, Object, nat_cmp, ArrayParts, Array}
+use Rattle.jsonb_doc.proofs.Common.{◌≡◌, ◌≢◌, ℕ, ◌+◌, ◌/◌, ◌<◌, ◌≤◌, List, length, Option, Some, None, Bool, false, ◌&&◌, ◌↔◌, arith, NumberReader, number_of, number_or_unsupported, IsValidationError, ReducesTo, HasContent, HasEntries, HasParts, HasLarge, Error, UnsupportedNumber, zero, suc, refl, max, rules, inl, ap, ord_max, Tree, object, Trees, no_trees, tree, Pairs, no_pairs, pair, values, Form, number_reader, BeginWith, Decodes, IsContent, AreEntries, deepest, deepest_of_trees, deepest_of_pairs, Holds, parts_of, LiesBelow, AreDeep, ObjectParts, Object, nat_cmp, ArrayParts, Array}
 use Rattle.jsonb_doc.proofs.Containers.{entries_of}
 use Rattle.jsonb_doc.proofs.Entries.{AreEntries-first}
 use Rattle.jsonb_doc.proofs.PairsLemmas.{SkipsKeys, HoldsPairs-values}

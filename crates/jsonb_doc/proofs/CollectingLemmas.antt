@@ -1,5 +1,5 @@
 -- Events that are collected: members of containers in runs, walks over runs, and what the collector holds after each event.
-use Rattle.jsonb_doc.proofs.Common.{◌≡◌, ℕ, ◌+◌, ◌<◌, ◌≤◌, List, [], ◌∷◌, ◌++◌, length, refl, ◌^◌, arith, slice_range, reverse, Result, MatchResult, keys_of, values_of, length-append, take-append-le, drop_at, between_is, between_to_end, Tree, array, object, Trees, no_trees, tree, Pairs, no_pairs, pair, elements, members, keys, OpenContainer, AreSortedKeys, Make, IsPart, AreElements, HoldParts, keys_first, Run, Part, Plain, Text, Nested, Member, Left, Outer, length-values_of, AllZip-long, suc, map, sym, ap, ◌∙◌, Bool, true, false, Some, None, Option, IsTrue, subst, slice_get, option_copied, is_some, unwrap_or, ◌-◌, IfErr, Ok, Err, OnOk, Bor, AllZip, IsSortedBy, IsStableBy, mid_of, true≢false, length-map, append-nil, take_at, trees_of, pairs_of, insert_pair, Level, State, root, array_of, object_of, takes_value, whole, has_lower_key, unique, as_pair, insert_all, appended, EndsAs, Ends, TakesTree, LeadsTo, IsMemberOf, HoldsFrame, HoldsState, WaitsFor, AreAround, Keeps, IsDue, IsRepeated, IsPushRefused, HeaderKind, Frame, Collector, EventError, common_steps}
+use Rattle.jsonb_doc.proofs.Common.{◌≡◌, ℕ, ◌+◌, ◌<◌, ◌≤◌, List, [], ◌∷◌, ◌++◌, length, refl, ◌^◌, arith, slice_range, reverse, Result, MatchResult, keys_of, values_of, length-append, take-append-le, drop_at, between_is, between_to_end, Tree, array, object, Trees, tree, Pairs, pair, elements, members, keys, OpenContainer, AreSortedKeys, Make, IsPart, AreElements, HoldParts, keys_first, Run, Part, Nested, Member, Left, Outer, length-values_of, AllZip-long, suc, map, sym, ap, ◌∙◌, Bool, true, false, Some, None, Option, IsTrue, subst, slice_get, option_copied, is_some, unwrap_or, ◌-◌, IfErr, Ok, Err, OnOk, Bor, AllZip, IsSortedBy, IsStableBy, mid_of, true≢false, length-map, append-nil, take_at, trees_of, pairs_of, insert_pair, Level, State, root, array_of, object_of, takes_value, whole, has_lower_key, unique, as_pair, insert_all, appended, EndsAs, Ends, TakesTree, LeadsTo, IsMemberOf, HoldsFrame, HoldsState, WaitsFor, AreAround, Keeps, IsDue, IsRepeated, IsPushRefused, HeaderKind, Frame, Collector, EventError, common_steps}
 use Rattle.jsonb_doc.specs.Private.EventParts.{AreMembers, member_keys}
 use Rattle.jsonb_doc.specs.declared.layout.HeaderKind.TheVariants.{Object, Array, Scalar}
 use Rattle.jsonb_doc.proofs.Weights.{weight_of, weight-pos, weight_of_all, inner_weighs, falls_inward, falls_outward}

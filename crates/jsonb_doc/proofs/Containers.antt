@@ -1,5 +1,5 @@
 -- Containers, by their headers.
-use Rattle.jsonb_doc.proofs.Common.{◌≡◌, ◌≢◌, ℕ, suc, ◌*◌, ◌≤◌, List, [], ◌∷◌, ◌++◌, length, take, drop, refl, sym, ap, ◌∙◌, arith, true, false, ◌↔◌, ◌⊎◌, inl, inr, length-append, take_at, drop_at, append-nil, Tree, boolean, array, object, Trees, no_trees, tree, Pairs, no_pairs, pair, count, keys, values, NumberReader, Form, number_reader, Holds, HasPairParts, IsLoneEntry, IsCut, HoldKeys, kind_number, header_number, HeaderKind, StoredEntry, ArrayParts, ObjectParts, Array, Object, Decodes, HeadedBy, BeginWith, entry_word, AreMembers, AreKeys, key_words, key_bytes, IsContent, AreEntries, AreValues, IsDocument, HasContent, HasEntries, HasDocument, HasKeys, common_steps, Scalar, append_assoc}
+use Rattle.jsonb_doc.proofs.Common.{◌≡◌, ◌≢◌, ℕ, suc, ◌*◌, ◌≤◌, List, [], ◌∷◌, ◌++◌, length, take, drop, refl, sym, ap, ◌∙◌, arith, true, ◌↔◌, ◌⊎◌, inl, inr, length-append, take_at, drop_at, append-nil, Tree, boolean, array, object, Trees, no_trees, tree, Pairs, no_pairs, pair, count, keys, values, NumberReader, Form, number_reader, Holds, HasPairParts, IsLoneEntry, IsCut, HoldKeys, kind_number, header_number, HeaderKind, StoredEntry, ArrayParts, ObjectParts, Array, Object, Decodes, HeadedBy, BeginWith, entry_word, AreMembers, AreKeys, key_words, key_bytes, IsContent, AreEntries, AreValues, IsDocument, HasContent, HasEntries, HasDocument, HasKeys, common_steps, Scalar, append_assoc}
 use Rattle.jsonb_doc.specs.declared.layout.HeaderKind.TheVariants as header
 use Rattle.jsonb_doc.specs.declared.container.Container.{Container}
 use Rattle.jsonb_doc.specs.Format.{IsContainer as FormatContainer}

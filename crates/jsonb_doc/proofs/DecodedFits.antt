@@ -1,5 +1,5 @@
 -- What a payload of bytes is read as fits, is read from no shorter payload than the one that is written, and so the tree that bytes decode to fits.
-use Rattle.jsonb_doc.proofs.Common.{◌≡◌, ◌⊎◌, ℕ, zero, suc, ◌+◌, ◌*◌, ◌/◌, ◌^◌, ◌<◌, ◌≤◌, List, [], ◌∷◌, ◌++◌, length, take, drop, refl, sym, ap, ◌∙◌, arith, true, Some, inl, inr, ℤ, pos, ◌==◌, FitsSigned, slice_index, Width, w32, w64, w128, byte_len, cast_signed, cast_unsigned, sfits_to_z, Fits-bits, drop_of_length-le, div-mul-add, append-nil, length-take-le, take-append-drop, drop-drop, get_or_append_left, get_or-append-add, get_or_past, cases_lt, lt-ltb, le-ltb, nat_tests, of_z-to_z, big_number, big_bytes, twos_complement, big_from-lt, big_from-cons, AreBytes, Variant, int64, uint64, decimal64, decimal128, number_from, zero_number, FitsNumber, Extension, binary, date, timestamp, timestamp_tz, interval, FitsExtension, is_width, signed, fixed, fixed_bytes, signed_size, unsigned_width, number_of, number_payload, number_payload_of, extension_payload, extension_of, Tree, null, boolean, number, text, extension, array, object, Trees, no_trees, tree, Pairs, no_pairs, pair, count, keys, Form, canonical, header, HeadedBy, AreKeys, key_bytes, IsContent, AreEntries, AreValues, IsDocument, Decodes, content_size, elements_size, values_size, IsInRange, AreInRange, ValuesAreInRange, HasShortParts, HasShortElements, HasShortValues, AreShortKeys, Fits, length-drop}
+use Rattle.jsonb_doc.proofs.Common.{◌≡◌, ◌⊎◌, ℕ, zero, suc, ◌+◌, ◌*◌, ◌/◌, ◌^◌, ◌<◌, ◌≤◌, List, [], ◌∷◌, ◌++◌, length, take, drop, refl, sym, ap, ◌∙◌, arith, true, Some, inl, inr, ℤ, pos, ◌==◌, FitsSigned, slice_index, Width, w32, w64, w128, byte_len, cast_signed, cast_unsigned, sfits_to_z, Fits-bits, drop_of_length-le, div-mul-add, append-nil, length-take-le, take-append-drop, drop-drop, get_or_append_left, get_or-append-add, get_or_past, cases_lt, lt-ltb, le-ltb, nat_tests, of_z-to_z, big_number, big_bytes, twos_complement, big_from-lt, big_from-cons, AreBytes, Variant, int64, uint64, decimal64, decimal128, number_from, zero_number, FitsNumber, Extension, binary, date, timestamp, timestamp_tz, interval, FitsExtension, is_width, signed, fixed, fixed_bytes, signed_size, unsigned_width, number_of, number_payload, number_payload_of, extension_payload, extension_of, Tree, number, array, object, Trees, no_trees, tree, Pairs, no_pairs, pair, count, keys, Form, canonical, header, HeadedBy, AreKeys, key_bytes, IsContent, AreEntries, AreValues, IsDocument, Decodes, content_size, elements_size, values_size, IsInRange, AreInRange, ValuesAreInRange, HasShortParts, HasShortElements, HasShortValues, AreShortKeys, Fits, length-drop}
 use Rattle.jsonb_doc.specs.Number.{Number}
 use Rattle.jsonb_doc.proofs.CanonicalLemmas.{fits_from, width_bound, in_any}
 use Rattle.jsonb_doc.proofs.LimitLemmas.{same_length, number_cases, extension_cases, length-array, length-object, length-contents}
@@ -188,7 +188,7 @@ short_keys [] h = tt
 short_keys (key ∷ ks) h = (h.0.1, short_keys ks h.2)
 
 mutual
-  -- what is read is within the ranges of its types and the limits, and is no shorter than its canonical content
+  -- what is read is within the ranges of its types and the limits, and at least as long as its canonical content
   content_fits : (t : Tree) (kind : ℕ) (bytes : List ℕ) → AreBytes bytes → IsContent number_of t kind bytes
       → IsInRange t × HasShortParts canonical t × (content_size canonical t ≤ length bytes)
   content_fits (number n) kind bytes all h = let (fits, least) = number_within bytes n all h.1 in (fits, tt, least)

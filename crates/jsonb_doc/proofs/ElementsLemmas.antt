@@ -1,5 +1,5 @@
 -- The iterator over elements and its first item.
-use Rattle.jsonb_doc.proofs.Common.{common_steps, ◌≡◌, ◌≢◌, ℕ, List, Option, Some, Tree, Trees, array, trees_in, Form, number_reader, Decodes, HasElementsLeft, SameOption, IsCut, Holds, ArrayParts, Array, ElementIter, arith}
+use Rattle.jsonb_doc.proofs.Common.{◌≡◌, ◌≢◌, ℕ, List, Option, Some, Tree, Trees, array, trees_in, Form, number_reader, Decodes, HasElementsLeft, SameOption, IsCut, Holds, ArrayParts, Array, ElementIter, arith}
 use Rattle.jsonb_doc.proofs.Containers.{Decodes-array, Holds-elements}
 
 -- the iterator of a tree's elements

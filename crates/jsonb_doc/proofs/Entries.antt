@@ -1,5 +1,5 @@
 -- Entries are split into the first one and the others, and joined again; so are keys; contents are passed over by the lengths in their words.
-use Rattle.jsonb_doc.proofs.Common.{rules, option_and_then, ◌≡◌, ℕ, ◌<◌, ◌≤◌, List, [], length, refl, ap, arith, Option, Some, None, true, false, if◌then◌else◌, ◌↔◌, inl, inr, length-append, Tree, null, boolean, number, text, extension, array, object, Trees, no_trees, tree, Pairs, no_pairs, pair, count, keys, NumberReader, Form, canonical, number_reader, number_payload, number_of, number_or_unsupported, bytes_eq, BeginWith, HasFirstEntry, IsContainer, AreMembers, array_header, object_header, IsDocument, IsContent, AreEntries, AreValues, HasContent, HasEntries, ◌^◌, ◌∷◌, ◌++◌, append_assoc, ⊤, AreKeys, IsBelowFirst, key_words, key_bytes, HasKeys, IsAbove, IsNextKey, zero, suc, ◌+◌, ◌/◌, ◌%◌, take, map, sum, Bor, IsGetRangeResult, drop_at, take-append-drop, sum_by-cons, between_to_end, IsSomeAnd, IfSome, w32, from_be_bytes, from_be_bytes-to_be_bytes_4, first_chunks, drop, sym, ◌∙◌, slice_index_or, ◌-◌, ◌*◌, drop-drop, drop-take, take-take, lengths_of, StandBefore, HoldKeys, common_steps, suc-mul}
+use Rattle.jsonb_doc.proofs.Common.{rules, option_and_then, ◌≡◌, ℕ, ◌<◌, ◌≤◌, List, [], length, refl, ap, arith, Option, Some, None, true, if◌then◌else◌, ◌↔◌, inl, inr, length-append, Tree, boolean, number, array, object, Trees, no_trees, tree, Pairs, no_pairs, pair, count, keys, NumberReader, Form, canonical, number_reader, number_payload, number_of, number_or_unsupported, bytes_eq, BeginWith, HasFirstEntry, IsContainer, AreMembers, array_header, object_header, IsDocument, IsContent, AreEntries, AreValues, HasContent, HasEntries, ◌^◌, ◌∷◌, ◌++◌, append_assoc, ⊤, AreKeys, IsBelowFirst, key_words, key_bytes, HasKeys, IsAbove, IsNextKey, zero, suc, ◌+◌, ◌/◌, ◌%◌, take, map, sum, Bor, IsGetRangeResult, drop_at, take-append-drop, sum_by-cons, between_to_end, IsSomeAnd, IfSome, w32, from_be_bytes, from_be_bytes-to_be_bytes_4, first_chunks, drop, sym, ◌∙◌, slice_index_or, ◌-◌, ◌*◌, drop-drop, drop-take, take-take, lengths_of, StandBefore, HoldKeys, common_steps, suc-mul}
 use Rattle.jsonb_doc.specs.Number.{Number}
 use Rattle.jsonb_doc.proofs.WordLemmas.{bytes_eq-true, bytes_eq-same, word_cancel, append_cancel}
 

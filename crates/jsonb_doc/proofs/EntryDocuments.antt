@@ -1,5 +1,5 @@
 -- Entries as new documents.
-use Rattle.jsonb_doc.proofs.Common.{◌≡◌, ℕ, zero, suc, ◌≤◌, List, [], ◌∷◌, length, take, refl, ap, arith, slice_range, take-take, take_rest}
+use Rattle.jsonb_doc.proofs.Common.{◌≡◌, ℕ, suc, ◌≤◌, List, ◌∷◌, length, take, ap, arith, slice_range, take-take, take_rest}
 pub use Rattle.jsonb_doc.proofs.CanonicalLemmas.{entry_decodes}
 
 take_own : (m : ℕ) (xs : List ℕ) → take (length (take m xs)) xs ≡ take m xs

@@ -1,6 +1,6 @@
 -- Items: as entries and as documents, and those that are read of any bytes.
-use Rattle.jsonb_doc.proofs.Common.{◌≡◌, ◌≢◌, ℕ, ◌<◌, ◌≤◌, ◌^◌, List, length, refl, arith, true, false, Bor, Tree, extension, array, object, Form, any, canonical, number_reader, number_payload, IsContent, Decodes, content_size, number_view, extension_view, StandsFor, item_content, IsTooLong, item_kind, scalar_bytes, FitsItem, Item, Null, Boolean, ◌++◌, Result, inl, inr, sym, subst, MatchResult, IfOk, length-append, append-nil, HeadedBy, entry_word, IsContainer, HasFirstEntry, AreNone, HasItsWords, IsItemOf, IsRootOf, AreBytes, IsShapeOf, IsRootShape, HasReadableRoot, Shape, IsCut, kind_number, header_number, HeaderKind, ArrayParts, ObjectParts, StoredEntry, Error, Scalar}
-use Rattle.jsonb_doc.specs.declared.item.Item.TheVariants.{Number, String, Extension, Array, Object}
+use Rattle.jsonb_doc.proofs.Common.{◌≡◌, ◌≢◌, ℕ, ◌<◌, ◌≤◌, ◌^◌, List, length, refl, arith, Bor, Tree, extension, array, object, Form, any, number_reader, number_payload, IsContent, Decodes, content_size, number_view, extension_view, StandsFor, item_content, IsTooLong, item_kind, scalar_bytes, FitsItem, Item, ◌++◌, Result, inl, inr, sym, subst, MatchResult, IfOk, length-append, append-nil, HeadedBy, entry_word, IsContainer, HasFirstEntry, AreNone, HasItsWords, IsItemOf, IsRootOf, AreBytes, IsShapeOf, IsRootShape, HasReadableRoot, Shape, IsCut, kind_number, header_number, HeaderKind, ArrayParts, ObjectParts, StoredEntry, Error, Scalar}
+use Rattle.jsonb_doc.specs.declared.item.Item.TheVariants.{Number, Extension, Array, Object}
 use Rattle.jsonb_doc.proofs.Containers.{array_document, object_document, HasContent-headed, IsCut-same}
 use Rattle.jsonb_doc.proofs.CanonicalLemmas.{entry_decodes, number_back, length-number_payload}
 use Rattle.jsonb_doc.proofs.Entries.{kind_below, reads_canonical, reads_written}

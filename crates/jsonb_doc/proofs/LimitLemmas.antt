@@ -1,5 +1,5 @@
 -- How long the contents of trees are, and which trees exceed the limits if a child or a prefix of them does; keys of documents.
-use Rattle.jsonb_doc.proofs.Common.{◌≡◌, ℕ, ◌+◌, ◌*◌, ◌≤◌, List, [], ◌∷◌, length, refl, ap, ◌∙◌, arith, Some, None, inl, inr, true, false, ℤ, pos, Bool, ◌⊎◌, ◌==◌, if◌then◌else◌, slice_index, w64, w128, big_number, length-append, nat_tests, then_some, Variant, int64, uint64, decimal64, decimal128, number_from, zero_number, Extension, Tree, null, boolean, number, text, extension, array, object, Trees, no_trees, tree, Pairs, no_pairs, pair, count, keys, Form, any, canonical, NumberReader, number_reader, is_width, signed, fixed, number_of, array_header, object_header, BeginWith, IsContainer, AreMembers, IsContent, AreEntries, AreValues, key_bytes, content, words, contents, value_words, value_contents, widest_number, content_size, elements_size, values_size, ◌++◌, members, trees_of, AreKeys, Decodes, keys_of, HasShortElements, IsTooLarge, IsShort, HasShortParts}
+use Rattle.jsonb_doc.proofs.Common.{◌≡◌, ℕ, ◌+◌, ◌*◌, ◌≤◌, List, [], ◌∷◌, length, refl, ap, ◌∙◌, arith, Some, None, inl, inr, true, ℤ, pos, Bool, ◌⊎◌, ◌==◌, if◌then◌else◌, slice_index, w64, w128, big_number, length-append, nat_tests, then_some, Variant, int64, uint64, decimal64, decimal128, number_from, zero_number, Extension, Tree, number, array, object, Trees, no_trees, tree, Pairs, no_pairs, pair, count, keys, Form, any, canonical, NumberReader, number_reader, is_width, signed, fixed, number_of, array_header, object_header, BeginWith, IsContainer, AreMembers, IsContent, AreEntries, AreValues, key_bytes, content, words, contents, value_words, value_contents, widest_number, content_size, elements_size, values_size, ◌++◌, members, trees_of, AreKeys, Decodes, keys_of, HasShortElements, IsTooLarge, IsShort, HasShortParts}
 use Rattle.jsonb_doc.proofs.ScalarLemmas.{some_injective}
 use Rattle.jsonb_doc.specs.Number.{Number}
 use Rattle.jsonb_doc.proofs.Entries.{canonical_payload}

@@ -1,5 +1,5 @@
 -- A tree has one canonical document.
-use Rattle.jsonb_doc.proofs.Common.{◌≡◌, ℕ, List, length, arith, true, false, inl, inr, append-nil, AreBytes, Tree, null, boolean, number, text, extension, array, object, Trees, no_trees, tree, Pairs, no_pairs, pair, count, keys, canonical, number_reader, key_bytes, IsContent, AreEntries, AreValues, Decodes, IsDocument, kind_of, content, words, contents, value_words, value_contents, document}
+use Rattle.jsonb_doc.proofs.Common.{◌≡◌, ℕ, List, length, arith, inl, inr, append-nil, AreBytes, Tree, array, object, Trees, no_trees, tree, Pairs, no_pairs, pair, count, keys, canonical, number_reader, key_bytes, IsContent, AreEntries, AreValues, Decodes, IsDocument, kind_of, content, words, contents, value_words, value_contents, document}
 use Rattle.jsonb_doc.proofs.Entries.{canonical_payload}
 use Rattle.jsonb_doc.proofs.DecodedFits.{headed_bytes, joined_bytes}
 

@@ -1,5 +1,5 @@
 -- The nodes of a value, as they are dropped one by one.
-use Rattle.jsonb_doc.proofs.Common.{common_steps, ◌≡◌, ℕ, ◌+◌, ◌<◌, ◌≤◌, List, [], ◌∷◌, ◌++◌, Option, None, Some, length, drop, String, Vec, BTreeMap, Global, Ordering, Less, Equal, Greater, string_cmp, ap, arith, cond, insert_entry, is_at, keys_of, lookup, is_eq, match_ordering, mul-le, Tree, number_view, tree_parts, parts, values_parts, entries_parts, to_release, remaining, Value, Remaining}
+use Rattle.jsonb_doc.proofs.Common.{◌≡◌, ℕ, ◌+◌, ◌<◌, ◌≤◌, List, [], ◌∷◌, ◌++◌, Option, None, Some, length, drop, String, Vec, BTreeMap, Global, Ordering, Less, Equal, Greater, string_cmp, ap, arith, cond, insert_entry, is_at, keys_of, lookup, is_eq, match_ordering, mul-le, Tree, number_view, tree_parts, parts, values_parts, entries_parts, to_release, remaining, Value, Remaining}
 use Rattle.jsonb_doc.specs.declared.value.Value.{Array, Object}
 use Rattle.jsonb_doc.proofs.ValueTrees.{Entry, tree_seen-Array, tree_seen-Object}
 

@@ -1,5 +1,5 @@
 -- Bytes: words before others, lists that grow at their end, and equality and order by words of eight bytes.
-use Rattle.jsonb_doc.proofs.Common.{◌≡◌, ℕ, ◌^◌, ◌<◌, List, ◌++◌, length, take, drop, refl, sym, ap, true, bytes_eq, bytes_eq-Decides, take_at, drop_at, big_bytes, arith, ◌∙◌, append_assoc, Result, OnOk, common_steps, StaysInFront, zero, suc, ◌-◌, ◌*◌, ◌≤◌, [], ◌∷◌, length-drop, get_or, Option, Some, Bool, nat_eq, IsTrue, ◌&&◌, Width, w32, w64, from_be_bytes, to_be_bytes, option_eq, eqb-true, eq-eqb, take-take, take-append-drop, length-take-le, be_bytes_4, be_bytes_8, IsWordOf, AreEnds, ◌≢◌, ◌+◌, Ordering, Less, Equal, Greater, ordering_then, MatchOrdering, ranks, nat_cmp_is, slice_cmp, nat_cmp}
+use Rattle.jsonb_doc.proofs.Common.{◌≡◌, ℕ, ◌^◌, ◌<◌, List, ◌++◌, length, take, drop, refl, sym, ap, true, bytes_eq, bytes_eq-Decides, take_at, drop_at, big_bytes, arith, ◌∙◌, append_assoc, Result, OnOk, common_steps, StaysInFront, zero, suc, ◌-◌, ◌*◌, ◌≤◌, [], ◌∷◌, length-drop, get_or, Option, Some, Bool, nat_eq, IsTrue, ◌&&◌, Width, w32, w64, from_be_bytes, to_be_bytes, option_eq, eqb-true, eq-eqb, take-take, take-append-drop, length-take-le, be_bytes_4, be_bytes_8, AreEnds, ◌≢◌, ◌+◌, Ordering, Less, Equal, Greater, ordering_then, MatchOrdering, ranks, nat_cmp_is, slice_cmp, nat_cmp}
 
 -- two cuts of a list at the same position are the same cut
 pub append_cancel : (a b c d : List ℕ) → length a ≡ length c → a ++ b ≡ c ++ d → (a ≡ c) × (b ≡ d)

@@ -1,4 +1,4 @@
-use Rattle.jsonb_doc.proofs.Lemmas.{rules, ◌∙◌, room_there}
+use Rattle.jsonb_doc.proofs.Lemmas.{◌∙◌, room_there}
 use Rattle.jsonb_doc.proofs.WriterLemmas.{filled}
 use Rattle.jsonb_doc.proofs.rewriting.Writer.copy.Goals as goal
 

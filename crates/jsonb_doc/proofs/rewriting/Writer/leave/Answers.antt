@@ -1,4 +1,4 @@
-use Rattle.jsonb_doc.proofs.Lemmas.{rules, ◌≡◌, length, arith, refl, ap, ◌∙◌, entry_word, container_entry, room_for_one, one_filled, closed, done_len, coming_passes, not_short, refused}
+use Rattle.jsonb_doc.proofs.Lemmas.{◌≡◌, length, arith, refl, ap, ◌∙◌, entry_word, container_entry, room_for_one, one_filled, closed, done_len, coming_passes, not_short, refused}
 use Rattle.jsonb_doc.proofs.rewriting.Writer.leave.Goals as goal
 
 pub returns-then-len-gt-MAX_CONTENT-clause-left : goal.returns-then-len-gt-MAX_CONTENT-clause-left

@@ -1,4 +1,4 @@
-use Rattle.jsonb_doc.proofs.Lemmas.{rules, ◌++◌, ◌∷◌, [], ◌∙◌, List, ap, refl, sym, subst, append_assoc, appended, AreAround, HeaderKind, Member, filled_frame}
+use Rattle.jsonb_doc.proofs.Lemmas.{◌++◌, ◌∷◌, [], ◌∙◌, List, ap, refl, sym, subst, append_assoc, appended, AreAround, HeaderKind, Member, filled_frame}
 use Rattle.jsonb_doc.proofs.event_list.collecting.Collector.add.Goals as goal
 
 pub returns : goal.returns

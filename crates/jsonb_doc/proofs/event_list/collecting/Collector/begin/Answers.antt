@@ -1,4 +1,4 @@
-use Rattle.jsonb_doc.proofs.Lemmas.{rules, ◌++◌, ◌∷◌, [], ◌∙◌, List, ap, refl, sym, length, arith, None, append-nil, Run, Nested, Member, Frame, waits_takes}
+use Rattle.jsonb_doc.proofs.Lemmas.{◌++◌, ◌∷◌, [], ◌∙◌, List, ap, refl, sym, length, arith, None, append-nil, Run, Nested, Member, Frame, waits_takes}
 use Rattle.jsonb_doc.proofs.event_list.collecting.Collector.begin.Goals as goal
 
 pub returns : goal.returns
