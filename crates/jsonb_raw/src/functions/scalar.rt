@@ -344,6 +344,7 @@ impl<'a> RawJsonb<'a> {
     /// | Document | Result |
     /// |---|---|
     /// | `1.0` | `1.0` |
+    #[inline(always)]
     pub fn as_number(&self) -> Result<Option<Number>, Error>
         ensures value { (form : Form) (tree : Tree) → Decodes form (raw_bytes self.now) tree
             → IsOkAnd result (λ found. SameOption (λ n m. number_parts n ≡ m) found (number_in tree)) }
