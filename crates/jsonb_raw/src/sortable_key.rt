@@ -32,7 +32,7 @@ use crate::key_bytes::{
 use crate::key_kind;
 use crate::level::ChildCursor;
 use crate::packed::{PackedBytes, ROOM};
-use jsonb_doc::layout::{EntryKind, WORD};
+use jsonb_doc::layout::EntryKind;
 use jsonb_doc::{
     Error, ExtensionValue, Number, Shape, ShortNumber, StoredEntry, is_utf8,
     push_extension_payload, root_shape, scalar_shape,
@@ -343,8 +343,7 @@ fn push_root_text(out: &mut Vec<u8>, text: &[u8], depth: Depth) -> Result<(), Er
     push_string(out, text, depth)
 }
 
-/// Appends the sortable key of a document. An empty container is a header alone. It is not traversed: `[]` takes 319
-/// instructions instead of 330.
+/// Appends the sortable key of a document.
 #[inline(always)]
 pub fn push_sortable_key(
     alloc: Global,
@@ -363,8 +362,6 @@ pub fn push_sortable_key(
     out.reserve(bytes.len().saturating_add(ROOM))?;
     let depth = Depth { value: 0, width };
     match root {
-        Shape::Array if bytes.len() == WORD => push_front(out, depth, key_kind::ARRAY),
-        Shape::Object if bytes.len() == WORD => push_front(out, depth, key_kind::OBJECT),
         Shape::Array | Shape::Object => push_parts(alloc, out, bytes, width),
         Shape::Text(text) => push_root_text(out, text, depth),
         scalar => push_shape(out, scalar, depth),

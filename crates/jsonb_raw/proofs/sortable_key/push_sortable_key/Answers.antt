@@ -1,20 +1,13 @@
-use Rattle.jsonb_raw.proofs.Lemmas.{arith, ℕ, List, subst, AppendsKey, width_of, text_reads, other_reads, plain_shape, scalar_tree}
+use Rattle.jsonb_raw.proofs.Lemmas.{arith, inl, inr, ℕ, List, subst, AppendsKey, width_of, text_reads, other_reads, plain_shape, scalar_tree}
 use Rattle.jsonb_raw.proofs.KeyRoom.{room_kept, room_more}
 use Rattle.jsonb_doc.specs.declared.shape.Shape.TheVariants.{Array, Object}
 use Rattle.jsonb_raw.proofs.sortable_key.push_sortable_key.Goals as goal
-use Rattle.jsonb_raw.proofs.sortable_key.push_sortable_key.Goals.{in-Array+else-bytes-eq-WORD, in-Object+else-bytes-eq-WORD-2}
 
 pub returns-in-Array-clause-reads : goal.returns-in-Array-clause-reads
-returns-in-Array-clause-reads c = other_reads c.args.bytes Array _ tt (rw c.in-Array.is at c.in_ok-root.ensures.readable) tt
-
-pub returns-in-Object-clause-reads : goal.returns-in-Object-clause-reads
-returns-in-Object-clause-reads c = other_reads c.args.bytes Object _ tt (rw c.in-Object.is at c.in_ok-root.ensures.readable) tt
-
-pub returns-in-Array-2-clause-reads : goal.returns-in-Array-2-clause-reads
-returns-in-Array-2-clause-reads c =
-    elim c.in-Array-2-1.branch [
-      | in-Array+else-bytes-eq-WORD w ↦ other_reads c.args.bytes Array _ tt (rw w.in-Array.is at c.in_ok-root.ensures.readable) tt
-      | in-Object+else-bytes-eq-WORD-2 w ↦ other_reads c.args.bytes Object _ tt (rw w.in-Object.is at c.in_ok-root.ensures.readable) tt
+returns-in-Array-clause-reads c =
+    elim c.in-Array.is [
+      | inl e ↦ other_reads c.args.bytes Array _ tt (rw e at c.in_ok-root.ensures.readable) tt
+      | inr e ↦ other_reads c.args.bytes Object _ tt (rw e at c.in_ok-root.ensures.readable) tt
     ]
 
 pub returns-in-Text-clause-reads : goal.returns-in-Text-clause-reads
