@@ -1,5 +1,5 @@
 -- A tree contains itself, and what the trees that it contains do.
-use Rattle.jsonb_raw.proofs.Common.{◌≡◌, ℕ, Bool, true, false, ◌&&◌, ◌||◌, not, IsTrue, List, [], ◌∷◌, ◌++◌, refl, sym, ◌∙◌, append_assoc, bytes_eq, arith, list_any, bytes_eq-Decides, Tree, null, boolean, number, text, extension, array, object, Trees, no_trees, tree, Pairs, no_pairs, pair, elements, members, is_equal, is_equal_equiv, both, first_of_both, second_of_both, partial_equiv_from_equiv, is_extension_value, is_json_scalar, contains, is_part_of, each_is_matched, each_pair_is_matched, bytes_eq-same}
+use Rattle.jsonb_raw.proofs.Common.{◌≡◌, ℕ, Bool, true, false, ◌&&◌, ◌||◌, not, IsTrue, List, [], ◌∷◌, ◌++◌, refl, sym, ◌∙◌, append_assoc, bytes_eq, arith, list_any, bytes_eq-Decides, Tree, extension, array, object, Trees, no_trees, tree, Pairs, no_pairs, pair, elements, members, is_equal, is_equal_equiv, both, first_of_both, second_of_both, partial_equiv_from_equiv, is_extension_value, is_json_scalar, contains, is_part_of, each_is_matched, each_pair_is_matched, bytes_eq-same}
 use Rattle.jsonb_raw.proofs.ContainLemmas.{contains-extension, contains-array, contains-object, array_contains_plain, object_equals_no_plain, extension_equals_no_plain}
 
 -- ---- lists
@@ -42,13 +42,9 @@ each_pair_any (pair l u us) xs p q h k f = by (p (l, u)) refl k
 
 mutual
   pub matched_refl : (t : Tree) → is_part_of t t ≡ true
-  matched_refl null = refl
-  matched_refl (boolean b) = is_equal_equiv.refl (boolean b)
-  matched_refl (number n) = is_equal_equiv.refl (number n)
-  matched_refl (text s) = is_equal_equiv.refl (text s)
-  matched_refl (extension x) = is_equal_equiv.refl (extension x)
   matched_refl (array ts) = each_refl ts (elements ts) [] refl
   matched_refl (object ps) = each_pair_refl ps (members ps) [] refl
+  matched_refl t = is_equal_equiv.refl t
 
   -- each of the elements that are left is in the whole list
   each_refl : (ts : Trees) (whole before : List Tree) → whole ≡ before ++ elements ts → each_is_matched ts whole ≡ true
@@ -64,13 +60,10 @@ mutual
       (each_pair_refl ps whole (before ++ (k, t) ∷ []) (e ∙ sym (append_assoc before ((k, t) ∷ []) (members ps))))
 
 pub contains_refl : (t : Tree) → IsTrue (not (is_extension_value t)) → contains t t ≡ true
-contains_refl null e = refl
-contains_refl (boolean b) e = is_equal_equiv.refl (boolean b)
-contains_refl (number n) e = is_equal_equiv.refl (number n)
-contains_refl (text s) e = is_equal_equiv.refl (text s)
 contains_refl (extension x) e = absurd (cc)
 contains_refl (array ts) e = each_refl ts (elements ts) [] refl
 contains_refl (object ps) e = each_pair_refl ps (members ps) [] refl
+contains_refl t e = is_equal_equiv.refl t
 
 -- ---- what matches is passed on
 
@@ -101,11 +94,7 @@ mutual
       let k' = rw e at k in
       let (xs, f) = from_object us x k' in
       rw f (each_pair_trans ys us (members xs) (rw e at h) (rw f at k'))
-  matched_trans null u x h k = equal_passed null u x refl h k
-  matched_trans (boolean b) u x h k = equal_passed (boolean b) u x refl h k
-  matched_trans (number n) u x h k = equal_passed (number n) u x refl h k
-  matched_trans (text s) u x h k = equal_passed (text s) u x refl h k
-  matched_trans (extension y) u x h k = equal_passed (extension y) u x refl h k
+  matched_trans y u x h k = equal_passed y u x refl h k
 
   each_trans : (ys us : Trees) (xs : List Tree) → each_is_matched ys (elements us) ≡ true → each_is_matched us xs ≡ true → each_is_matched ys xs ≡ true
   each_trans no_trees us xs h k = refl
@@ -133,13 +122,8 @@ contains_plain : (t v : Tree) → is_json_scalar v ≡ true → contains t v ≡
 contains_plain t v h = grind (arith, extension_equals_no_plain, array_contains_plain, object_equals_no_plain)
 
 plain_in_trans : (v u t : Tree) → is_part_of v u ≡ true → plain_in u t ≡ true → plain_in v t ≡ true
-plain_in_trans v u null h k = matched_trans v u null h k
-plain_in_trans v u (boolean b) h k = matched_trans v u (boolean b) h k
-plain_in_trans v u (number n) h k = matched_trans v u (number n) h k
-plain_in_trans v u (text s) h k = matched_trans v u (text s) h k
-plain_in_trans v u (extension x) h k = matched_trans v u (extension x) h k
-plain_in_trans v u (object ps) h k = matched_trans v u (object ps) h k
 plain_in_trans v u (array ts) h k = any_more (is_part_of u) (is_part_of v) (elements ts) k (λ x a. matched_trans v u x h a)
+plain_in_trans v u t h k = matched_trans v u t h k
 
 plain_trans : (t u v : Tree) → is_json_scalar v ≡ true → contains t u ≡ true → contains u v ≡ true → plain_in v t ≡ true
 plain_trans t (array us) v p h k =
@@ -151,10 +135,7 @@ plain_trans t (object us) v p h k = absurd (cc (sym (object_equals_no_plain us v
     none : (us : Pairs) (v : Tree) → is_json_scalar v ≡ true → is_equal (object us) v ≡ false
     none us v h = grind arith
 plain_trans t (extension x) v p h k = absurd (cc (contains-extension t x, h))
-plain_trans t null v p h k = plain_in_trans v null t (sym (contains_plain null v p) ∙ k) (sym (contains_plain t null refl) ∙ h)
-plain_trans t (boolean b) v p h k = plain_in_trans v (boolean b) t (sym (contains_plain (boolean b) v p) ∙ k) (sym (contains_plain t (boolean b) refl) ∙ h)
-plain_trans t (number n) v p h k = plain_in_trans v (number n) t (sym (contains_plain (number n) v p) ∙ k) (sym (contains_plain t (number n) refl) ∙ h)
-plain_trans t (text s) v p h k = plain_in_trans v (text s) t (sym (contains_plain (text s) v p) ∙ k) (sym (contains_plain t (text s) refl) ∙ h)
+plain_trans t u v p h k = plain_in_trans v u t (sym (contains_plain u v p) ∙ k) (sym (contains_plain t u refl) ∙ h)
 
 pub contains_trans : (t u v : Tree) → contains t u ≡ true → contains u v ≡ true → contains t v ≡ true
 contains_trans t u (array vs) h k =
@@ -166,7 +147,4 @@ contains_trans t u (object vs) h k =
     let (us, e) = from_object vs u m in
     contains-object t vs ∙ matched_trans (object vs) u t m (rw e (sym (contains-object t us) ∙ rw e at h))
 contains_trans t u (extension x) h k = absurd (cc (contains-extension u x, k))
-contains_trans t u null h k = contains_plain t null refl ∙ plain_trans t u null refl h k
-contains_trans t u (boolean b) h k = contains_plain t (boolean b) refl ∙ plain_trans t u (boolean b) refl h k
-contains_trans t u (number n) h k = contains_plain t (number n) refl ∙ plain_trans t u (number n) refl h k
-contains_trans t u (text s) h k = contains_plain t (text s) refl ∙ plain_trans t u (text s) refl h k
+contains_trans t u v h k = contains_plain t v refl ∙ plain_trans t u v refl h k

@@ -94,29 +94,7 @@ pub magnitude_packed : (negative : Bool) (exponent digits : List ℕ) (n shorter
     → digits ≡ complement_bytes negative (map suc (digits_of 10 shorter) ++ 0 ∷ []) → exponent ++ digits ≡ complement_bytes negative (magnitude_bytes n scale)
 unfolding magnitude_bytes
 magnitude_packed negative exponent digits n shorter scale e moved same front back =
-    ap₂ (λ xs ys. xs ++ ys) (front ∙ ap (λ k. complement_bytes negative (to_be_bytes w16 k)) moved)
-    (back ∙ ap (λ ds. complement_bytes negative (map suc ds ++ 0 ∷ [])) same)
-    ∙ sym (map-append (complement_byte negative) (to_be_bytes w16 (length (digits_of 10 n) + 1000 - scale)) (map suc (significant (digits_of 10 n)) ++ 0 ∷ []))
-
-pub magnitude_pushed : (negative : Bool) (old : List ℕ) (n scale e : ℕ) → e ≡ length (digits_of 10 n) + 1000 - scale
-    → ((old ++ complement_bytes negative (to_be_bytes w16 e)) ++ complement_bytes negative (map suc (significant (digits_of 10 n))))
-    ++ complement_byte negative 0 ∷ [] ≡ old ++ complement_bytes negative (magnitude_bytes n scale)
-unfolding magnitude_bytes
-magnitude_pushed negative old n scale e h =
-    append_assoc (old ++ exponent) digits end ∙ append_assoc old exponent (digits ++ end)
-    ∙ ap (λ x. old ++ x)
-    (ap (λ x. exponent ++ x) (sym (map-append (complement_byte negative) (map suc (significant (digits_of 10 n))) (0 ∷ [])))
-    ∙ sym (map-append (complement_byte negative) (to_be_bytes w16 e) (map suc (significant (digits_of 10 n)) ++ 0 ∷ []))
-    ∙ ap (λ k. complement_bytes negative (to_be_bytes w16 k ++ (map suc (significant (digits_of 10 n)) ++ 0 ∷ []))) h)
-  where
-    exponent : List ℕ
-    exponent = complement_bytes negative (to_be_bytes w16 e)
-
-    digits : List ℕ
-    digits = complement_bytes negative (map suc (significant (digits_of 10 n)))
-
-    end : List ℕ
-    end = complement_byte negative 0 ∷ []
+    rw (front, back, same, moved) (simp map-append)
 
 same_bytes : (bs : List ℕ) → complement_bytes false bs ≡ bs
 same_bytes [] = refl
@@ -131,18 +109,6 @@ pub buffer_steps : (negative : Bool) (old last whole front tail : List ℕ) (sig
     → whole ≡ sign ∷ front → front ≡ complement_bytes negative (to_be_bytes w16 e) ++ tail
     → tail ≡ complement_bytes negative (map suc (significant (digits_of 10 n))) ++ byte ∷ [] → byte ≡ complement_byte negative 0 → last ≡ old ++ whole
     → last ≡ (old ++ sign ∷ []) ++ complement_bytes negative (magnitude_bytes n scale)
+unfolding magnitude_bytes
 buffer_steps negative old last whole front tail sign n scale e byte h w f t b l =
-    l ∙ ap (λ x. old ++ x) w ∙ sym (append_assoc old (sign ∷ []) front)
-    ∙ ap (λ x. (old ++ sign ∷ []) ++ x) (f ∙ ap (λ x. exponent ++ x) (t ∙ ap (λ c. digits ++ c ∷ []) b))
-    ∙ sym (append_assoc (old ++ sign ∷ []) exponent (digits ++ end))
-    ∙ sym (append_assoc ((old ++ sign ∷ []) ++ exponent) digits end)
-    ∙ magnitude_pushed negative (old ++ sign ∷ []) n scale e h
-  where
-    exponent : List ℕ
-    exponent = complement_bytes negative (to_be_bytes w16 e)
-
-    digits : List ℕ
-    digits = complement_bytes negative (map suc (significant (digits_of 10 n)))
-
-    end : List ℕ
-    end = complement_byte negative 0 ∷ []
+    rw (l, w, f, t, b, h) (simp (map-append, append_assoc))

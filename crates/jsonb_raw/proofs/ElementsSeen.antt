@@ -77,16 +77,15 @@ with_key-equality_key t (u ∷ us) key f all e =
 -- ---- which occurrences are kept
 
 module _ (m : KeyCounts) (other before : List Tree) (t : Tree) (key : Vec ℕ Global) (f : Fits t) (e : key.items ≡ equality_key t) where
-  first_test : CountsAfter First m other before → nat_eq (counted m key) 0 ≡ keeps First other (before, t)
-  first_test h = ap (λ n. nat_eq n 0) (h.counts key ∙ with_key-equality_key t before key f h.fit_before e)
-
   left_test : counted m key ≡ with_key key other - with_key key before → AllByRecursion Fits other → AllByRecursion Fits before
       → nat_lt 0 (counted m key) ≡ is_shared other (before, t)
   left_test left all all_before =
       grind (arith, left, with_key-equality_key t other key f all e, with_key-equality_key t before key f all_before e)
 
   pub test_first : (kind : SetOperation) → kind ≡ First → CountsAfter kind m other before → nat_eq (counted m key) 0 ≡ keeps kind other (before, t)
-  test_first kind is = rw is first_test
+  test_first kind is =
+      rw is (λ (h : CountsAfter First m other before).
+      ap (λ n. nat_eq n 0) (h.counts key ∙ with_key-equality_key t before key f h.fit_before e))
 
   pub test_shared : (kind : SetOperation) → kind ≡ Shared → CountsAfter kind m other before → nat_lt 0 (counted m key) ≡ keeps kind other (before, t)
   test_shared kind is = rw is (λ (h : CountsAfter Shared m other before). left_test (h.counts key) h.fit_other h.fit_before)

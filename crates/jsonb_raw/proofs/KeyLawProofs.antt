@@ -1,79 +1,48 @@
 -- The keys of trees rank as the trees do; laws of sortable, composite and equality keys.
-use Rattle.jsonb_raw.proofs.Common.{◌≡◌, ℕ, suc, ◌%◌, ◌^◌, ◌<◌, List, [], ◌∷◌, ◌++◌, length, refl, sym, ap, ap₂, ◌∙◌, arith, nat_cmp, Bool, Ordering, Equal, append_assoc, mod-eq_of_lt, ◌↔◌, inl, Less, append-nil, flat_map, Option, None, Some, IfSome, Greater, IsTrue, bytes_high_first, Width, byte_len, nat_cmp-equal, then_Equal, extension_back, some_injective, FitsExtension, canonical, extension_payload, Form, extension_of, Fits, IsShort, HasShortParts, HasShortElements, HasShortValues, IsInRange, AreInRange, ValuesAreInRange, Tree, Trees, Pairs, count, keys, Number, FitsNumber, number_cmp, rank, tree_cmp, IsEqual, AreEqual, PairsAreEqual, number_bytes, text_bytes, sortable_key, depths, HasKey, IsRest, item_bytes, equality_key, equality_keys_of_trees, equality_keys_of_pairs, both_equal, bytes_cmp, same_from_bytes_cmp, bytes_cmp_refl, ordering_then, equal_from_tree_cmp, tree_cmp-equal, AreBytes, Decodes, decoded_fits, deepest, HasNoExtension, is_equal, equal_from_test, is_equal-true, slice_cmp, option_cmp, one-le-pow, column_key, HaveKeys, ◌≢◌, ◌+◌, ◌≤◌, false, inr, to_be_bytes, cases_order, nat_cmp_refl, then_assoc, deepest_of_trees, deepest_of_pairs, trees_cmp, pairs_cmp, keys_of_trees, keys_of_pairs, pos, not, AllByRecursion, values_of, extension, array, object, no_trees, tree, no_pairs, pair, Key, index, unquoted_name, Leaf, leaves_at, leaves, leaves_of_trees, leaves_of_pairs, behind, is_extension_value}
+use Rattle.jsonb_raw.proofs.Common.{◌≡◌, ℕ, suc, ◌%◌, ◌^◌, ◌<◌, List, [], ◌∷◌, ◌++◌, length, refl, sym, ap, ap₂, ◌∙◌, arith, nat_cmp, Bool, Ordering, Equal, append_assoc, mod-eq_of_lt, ◌↔◌, inl, Less, append-nil, flat_map, Option, None, Some, IfSome, Greater, IsTrue, bytes_high_first, Width, byte_len, nat_cmp-equal, then_Equal, extension_back, some_injective, canonical, extension_payload, Form, extension_of, Fits, IsShort, HasShortParts, HasShortElements, HasShortValues, IsInRange, AreInRange, ValuesAreInRange, Tree, Trees, Pairs, count, keys, Number, FitsNumber, number_cmp, rank, tree_cmp, IsEqual, AreEqual, PairsAreEqual, number_bytes, text_bytes, sortable_key, depths, HasKey, IsRest, item_bytes, equality_key, equality_keys_of_trees, equality_keys_of_pairs, both_equal, bytes_cmp, same_from_bytes_cmp, bytes_cmp_refl, ordering_then, equal_from_tree_cmp, tree_cmp-equal, AreBytes, Decodes, decoded_fits, deepest, HasNoExtension, is_equal, equal_from_test, is_equal-true, slice_cmp, option_cmp, one-le-pow, column_key, HaveKeys, ◌≢◌, ◌+◌, ◌≤◌, false, inr, to_be_bytes, cases_order, nat_cmp_refl, then_assoc, deepest_of_trees, deepest_of_pairs, trees_cmp, pairs_cmp, keys_of_trees, keys_of_pairs, pos, not, AllByRecursion, values_of, extension, array, object, no_trees, tree, no_pairs, pair, Key, index, unquoted_name, Leaf, leaves_at, leaves, leaves_of_trees, leaves_of_pairs, behind, is_extension_value}
 use Rattle.jsonb_raw.proofs.NumberKeys.{Ranks, Ranks-bytes_high_first, Ranks-text_bytes, Ranks-number_bytes, bounded_from_fits, ranks_alone}
-
-abbrev mutual
-  pub LacksExtension : Tree → Type 0
-  LacksExtension (extension x) = ⊥
-  LacksExtension (array ts) = LackExtension ts
-  LacksExtension (object ps) = ValuesLackExtension ps
-  LacksExtension _ = Unit {0}
-
-  pub LackExtension : Trees → Type 0
-  LackExtension no_trees = Unit {0}
-  LackExtension (tree t ts) = LacksExtension t × LackExtension ts
-
-  pub ValuesLackExtension : Pairs → Type 0
-  ValuesLackExtension no_pairs = Unit {0}
-  ValuesLackExtension (pair key t ps) = LacksExtension t × ValuesLackExtension ps
 
 abbrev IsOther : Tree → Type 0
 IsOther t = IsTrue (not (is_extension_value t))
 
 abbrev AreOthers : List Leaf → Type 0
-AreOthers found = AllByRecursion (λ leaf. IsOther leaf.1) found
+AreOthers found = AllByRecursion IsOther (values_of found)
 
-front : (xs ys : List Leaf) → AreOthers (xs ++ ys) → AreOthers xs
-front [] ys h = tt
-front (x ∷ xs) ys h = (h.0, front xs ys h.1)
-
-back : (xs ys : List Leaf) → AreOthers (xs ++ ys) → AreOthers ys
-back [] ys h = h
-back (x ∷ xs) ys h = back xs ys h.1
+parts_of : (xs ys : List Leaf) → AreOthers (xs ++ ys) → AreOthers xs × AreOthers ys
+parts_of [] ys h = (tt, h)
+parts_of (x ∷ xs) ys h = let rest = parts_of xs ys h.1 in ((h.0, rest.0), rest.1)
 
 within : (step : Key) (found : List Leaf) → AreOthers (behind (step ∷ []) found) → AreOthers found
 within step [] h = tt
 within step (leaf ∷ found) h = (h.0, within step found h.1)
 
-mutual
-  part : (step : Key) (t : Tree) → AreOthers (leaves_at false step t (leaves false t)) → LacksExtension t
-  part step (extension x) h = absurd (cc h.0)
-  part step (array no_trees) h = tt
-  part step (array (tree t ts)) h = elements 0 (tree t ts) (within step (leaves_of_trees false 0 (tree t ts)) h)
-  part step (object no_pairs) h = tt
-  part step (object (pair key t ps)) h = values (pair key t ps) (within step (leaves_of_pairs false (pair key t ps)) h)
-  part step _ h = tt
+-- no extension occurs in a child if none is among the leaves at it
+child : (step : Key) (t : Tree) → AreOthers (leaves_at false step t (leaves false t)) → HasNoExtension t
+child step (array (tree t ts)) h = (refl, within step (leaves_of_trees false 0 (tree t ts)) h)
+child step (object (pair key t ps)) h = (refl, within step (leaves_of_pairs false (pair key t ps)) h)
+child step _ h = h
 
-  elements : (n : ℕ) (ts : Trees) → AreOthers (leaves_of_trees false n ts) → LackExtension ts
-  elements n no_trees h = tt
-  elements n (tree t ts) h =
-      let first = leaves_at false (index (pos n)) t (leaves false t) in
-      let others = leaves_of_trees false (suc n) ts in
-      (part (index (pos n)) t (front first others h), elements (suc n) ts (back first others h))
+-- Elements, and values, at the depth after this one have keys.
+abbrev AreSortable : Width → Trees → ℕ → Type 0
+AreSortable w ts d =
+    AreInRange ts × ((n : ℕ) × AreOthers (leaves_of_trees false n ts)) × (d + deepest_of_trees ts < depths w)
 
-  values : (ps : Pairs) → AreOthers (leaves_of_pairs false ps) → ValuesLackExtension ps
-  values no_pairs h = tt
-  values (pair key t ps) h =
-      let first = leaves_at false (unquoted_name key) t (leaves false t) in
-      let others = leaves_of_pairs false ps in
-      (part (unquoted_name key) t (front first others h), values ps (back first others h))
+abbrev HasSortableValues : Width → Pairs → ℕ → Type 0
+HasSortableValues w ps d =
+    ValuesAreInRange ps × AreOthers (leaves_of_pairs false ps) × (d + deepest_of_pairs ps < depths w)
 
-by_leaf : (found : List Leaf) → AllByRecursion IsOther (values_of found) → AreOthers found
-by_leaf [] h = tt
-by_leaf (leaf ∷ found) h = (h.0, by_leaf found h.1)
+first_element : (w : Width) (t : Tree) (ts : Trees) (d : ℕ) → AreSortable w (tree t ts) d
+    → HasKey w t (suc d) × AreSortable w ts d
+first_element w t ts d (range, (n, others), deep) =
+    let here = leaves_at false (index (pos n)) t (leaves false t) in
+    let parts = parts_of here (leaves_of_trees false (suc n) ts) others in
+    ((range.0, child (index (pos n)) t parts.0, omega arith), (range.1, (suc n, parts.1), omega arith))
 
-pub lacks_extension : (t : Tree) → HasNoExtension t → LacksExtension t
-lacks_extension t h = grind (arith, elements, by_leaf, values)
-
--- The parts are in range, and no extension occurs: what sortable keys put in order.
-abbrev pub IsSortable : Tree → Type 0
-IsSortable t = IsInRange t × LacksExtension t
-
-abbrev pub AreSortable : Trees → Type 0
-AreSortable ts = AreInRange ts × LackExtension ts
-
-abbrev pub HasSortableValues : Pairs → Type 0
-HasSortableValues ps = ValuesAreInRange ps × ValuesLackExtension ps
+first_value : (w : Width) (key : List ℕ) (t : Tree) (ps : Pairs) (d : ℕ) → HasSortableValues w (pair key t ps) d
+    → HasKey w t (suc d) × HasSortableValues w ps d
+first_value w key t ps d (range, others, deep) =
+    let parts = parts_of (leaves_at false (unquoted_name key) t (leaves false t)) (leaves_of_pairs false ps) others in
+    ((range.0, child (unquoted_name key) t parts.0, omega arith), (range.1, parts.1, omega arith))
 
 -- depths rank as numbers
 depth_ranks : (w : Width) (d e : ℕ) (r s : List ℕ) → d < depths w → e < depths w
@@ -105,11 +74,22 @@ pub IsRest-item : (w : Width) (d k : ℕ) (xs r : List ℕ) → IsRest w d (item
 IsRest-item w d k xs r = inr (d, k ∷ xs ++ r, omega arith, append_assoc (to_be_bytes w d) (k ∷ xs) r)
 
 -- a rest is below an item that is deeper
-rest_below : (w : Width) (d k : ℕ) (xs r s : List ℕ) → suc d < depths w → IsRest w d r → bytes_cmp r (item_bytes w (suc d) k xs ++ s) ≡ Less
-rest_below w d k xs r s h e = grind (arith, append_assoc, depth_ranks)
+rest_below : (w : Width) (d k : ℕ) (xs more r s : List ℕ) → suc d < depths w → IsRest w d r
+    → bytes_cmp r ((item_bytes w (suc d) k xs ++ more) ++ s) ≡ Less
+rest_below w d k xs more r s h e = grind (arith, append_assoc, depth_ranks)
 
-rest_above : (w : Width) (d k : ℕ) (xs r s : List ℕ) → suc d < depths w → IsRest w d s → bytes_cmp (item_bytes w (suc d) k xs ++ r) s ≡ Greater
-rest_above w d k xs r s h e = grind (arith, append_assoc, depth_ranks)
+rest_above : (w : Width) (d k : ℕ) (xs more r s : List ℕ) → suc d < depths w → IsRest w d s
+    → bytes_cmp ((item_bytes w (suc d) k xs ++ more) ++ r) s ≡ Greater
+rest_above w d k xs more r s h e = grind (arith, append_assoc, depth_ranks)
+
+-- lists whose fronts rank so, and then what follows these
+then_ranked : (a b x y r s : List ℕ) (o p : Ordering)
+    → bytes_cmp (a ++ (x ++ r)) (b ++ (y ++ s)) ≡ ordering_then o (bytes_cmp (x ++ r) (y ++ s))
+    → bytes_cmp (x ++ r) (y ++ s) ≡ ordering_then p (bytes_cmp r s)
+    → bytes_cmp ((a ++ x) ++ r) ((b ++ y) ++ s) ≡ ordering_then (ordering_then o p) (bytes_cmp r s)
+then_ranked a b x y r s o p h k =
+    ap₂ bytes_cmp (append_assoc a x r) (append_assoc b y s) ∙ h ∙ ap (ordering_then o) k
+    ∙ sym (then_assoc o p (bytes_cmp r s))
 
 -- a key is an item
 pub key_is_item : (w : Width) (t : Tree) (d : ℕ) → (xs : List ℕ) × (sortable_key w t d ≡ item_bytes w d (rank t) xs)
@@ -135,110 +115,80 @@ pub rank_boolean : (b : Bool) → (2 ≤ rank (Tree.boolean b)) × (rank (Tree.b
 rank_boolean b = grind arith
 
 mutual
-  pub keys_rank : (w : Width) (t u : Tree) (d : ℕ) (r s : List ℕ) → IsSortable t → IsSortable u → d + deepest t < depths w → d + deepest u < depths w
-      → IsRest w d r → IsRest w d s
+  -- the laws of keys follow from the order of keys with rests
+  pub keys_rank : (w : Width) (t u : Tree) (d : ℕ) (r s : List ℕ) → HasKey w t d → HasKey w u d → IsRest w d r
+      → IsRest w d s
       → bytes_cmp (sortable_key w t d ++ r) (sortable_key w u d ++ s) ≡ ordering_then (tree_cmp t u) (bytes_cmp r s)
-  keys_rank w Tree.null Tree.null d r s ht hu dt du hr hs = items_rank w d 8 8 [] [] r s (omega arith)
-  keys_rank w (Tree.boolean a) (Tree.boolean b) d r s ht hu dt du hr hs = items_rank w d (rank (Tree.boolean a)) (rank (Tree.boolean b)) [] [] r s (omega arith)
-  keys_rank w (Tree.number m) (Tree.number n) d r s ht hu dt du hr hs = same_kind w d 4 (number_bytes m.whole m.scale) (number_bytes n.whole n.scale) r s
-      (tree_cmp (Tree.number m) (Tree.number n)) (omega arith)
+  keys_rank w Tree.null Tree.null d r s ht hu hr hs = items_rank w d 8 8 [] [] r s (omega arith)
+  keys_rank w (Tree.boolean a) (Tree.boolean b) d r s ht hu hr hs =
+      items_rank w d (rank (Tree.boolean a)) (rank (Tree.boolean b)) [] [] r s (omega arith)
+  keys_rank w (Tree.number m) (Tree.number n) d r s ht hu hr hs =
+      same_kind w d 4 (number_bytes m.whole m.scale) (number_bytes n.whole n.scale) r s (number_cmp m n) (omega arith)
       ((Ranks-number_bytes m.whole n.whole m.scale n.scale (bounded_from_fits m ht.0) (bounded_from_fits n hu.0)).ranks r s)
-  keys_rank w (Tree.text a) (Tree.text b) d r s ht hu dt du hr hs = same_kind w d 5 (text_bytes a) (text_bytes b) r s (bytes_cmp a b) (omega arith)
-      ((Ranks-text_bytes a b).ranks r s)
-  keys_rank w (Tree.extension a) u d r s ht hu dt du hr hs = absurd ht.1
-  keys_rank w t (Tree.extension b) d r s ht hu dt du hr hs = absurd hu.1
-  keys_rank w (Tree.array ts) (Tree.array us) d r s ht hu dt du hr hs = same_kind w d 7 (keys_of_trees w ts (suc d)) (keys_of_trees w us (suc d)) r s
-      (trees_cmp ts us) (omega arith) (trees_rank w ts us d r s ht hu dt du hr hs)
-  keys_rank w (Tree.object ps) (Tree.object qs) d r s ht hu dt du hr hs = same_kind w d 6 (keys_of_pairs w ps (suc d)) (keys_of_pairs w qs (suc d)) r s
-      (pairs_cmp ps qs) (omega arith) (pairs_rank w ps qs d r s (ht.0.1, ht.1) (hu.0.1, hu.1) dt du hr hs)
-  keys_rank w t u d r s ht hu dt du hr hs = other_kind w d (rank t) (rank u) _ _ r s (omega arith) (omega (arith, rank_boolean))
+  keys_rank w (Tree.text a) (Tree.text b) d r s ht hu hr hs =
+      same_kind w d 5 (text_bytes a) (text_bytes b) r s (bytes_cmp a b) (omega arith) ((Ranks-text_bytes a b).ranks r s)
+  keys_rank w (Tree.extension a) u d r s ht hu hr hs = absurd (cc ht.1.0)
+  keys_rank w t (Tree.extension b) d r s ht hu hr hs = absurd (cc hu.1.0)
+  keys_rank w (Tree.array ts) (Tree.array us) d r s ht hu hr hs =
+      same_kind w d 7 (keys_of_trees w ts (suc d)) (keys_of_trees w us (suc d)) r s (trees_cmp ts us) (omega arith)
+      (trees_rank w ts us d r s (ht.0, (0, ht.1.1), ht.2) (hu.0, (0, hu.1.1), hu.2) hr hs)
+  keys_rank w (Tree.object ps) (Tree.object qs) d r s ht hu hr hs =
+      same_kind w d 6 (keys_of_pairs w ps (suc d)) (keys_of_pairs w qs (suc d)) r s (pairs_cmp ps qs) (omega arith)
+      (pairs_rank w ps qs d r s (ht.0.1, ht.1.1, ht.2) (hu.0.1, hu.1.1, hu.2) hr hs)
+  keys_rank w t u d r s ht hu hr hs =
+      other_kind w d (rank t) (rank u) _ _ r s (omega arith) (omega (arith, rank_boolean))
 
-  pub trees_rank : (w : Width) (ts us : Trees) (d : ℕ) (r s : List ℕ) → AreSortable ts → AreSortable us → d + deepest_of_trees ts < depths w
-      → d + deepest_of_trees us < depths w → IsRest w d r → IsRest w d s
+  trees_rank : (w : Width) (ts us : Trees) (d : ℕ) (r s : List ℕ) → AreSortable w ts d → AreSortable w us d
+      → IsRest w d r → IsRest w d s
       → bytes_cmp (keys_of_trees w ts (suc d) ++ r) (keys_of_trees w us (suc d) ++ s) ≡ ordering_then (trees_cmp ts us) (bytes_cmp r s)
-  trees_rank w Trees.no_trees Trees.no_trees d r s ht hu dt du hr hs = refl
-  trees_rank w Trees.no_trees (Trees.tree u us) d r s ht hu dt du hr hs =
+  trees_rank w Trees.no_trees Trees.no_trees d r s ht hu hr hs = refl
+  trees_rank w Trees.no_trees (Trees.tree u us) d r s ht hu hr hs =
       let i = key_is_item w u (suc d) in
-      ap (bytes_cmp r) (append_assoc (sortable_key w u (suc d)) (keys_of_trees w us (suc d)) s ∙ ap (λ x. x ++ (keys_of_trees w us (suc d) ++ s)) i.1)
-      ∙ rest_below w d (rank u) i.0 r (keys_of_trees w us (suc d) ++ s) (omega arith) hr
-  trees_rank w (Trees.tree t ts) Trees.no_trees d r s ht hu dt du hr hs =
+      rw i.1 (rest_below w d (rank u) i.0 (keys_of_trees w us (suc d)) r s (omega arith) hr)
+  trees_rank w (Trees.tree t ts) Trees.no_trees d r s ht hu hr hs =
       let i = key_is_item w t (suc d) in
-      ap (λ x. bytes_cmp x s) (append_assoc (sortable_key w t (suc d)) (keys_of_trees w ts (suc d)) r ∙ ap (λ x. x ++ (keys_of_trees w ts (suc d) ++ r)) i.1)
-      ∙ rest_above w d (rank t) i.0 (keys_of_trees w ts (suc d) ++ r) s (omega arith) hs
-  trees_rank w (Trees.tree t ts) (Trees.tree u us) d r s ht hu dt du hr hs =
-      ap₂ bytes_cmp (append_assoc (sortable_key w t (suc d)) (keys_of_trees w ts (suc d)) r)
-      (append_assoc (sortable_key w u (suc d)) (keys_of_trees w us (suc d)) s)
-      ∙ keys_rank w t u (suc d) (keys_of_trees w ts (suc d) ++ r) (keys_of_trees w us (suc d) ++ s) (ht.0.0, ht.1.0) (hu.0.0, hu.1.0)
-      (omega arith) (omega arith) (IsRest-trees w ts d r hr) (IsRest-trees w us d s hs)
-      ∙ ap (ordering_then (tree_cmp t u)) (trees_rank w ts us d r s (ht.0.1, ht.1.1) (hu.0.1, hu.1.1) (omega arith) (omega arith) hr hs)
-      ∙ sym (then_assoc (tree_cmp t u) (trees_cmp ts us) (bytes_cmp r s))
+      rw i.1 (rest_above w d (rank t) i.0 (keys_of_trees w ts (suc d)) r s (omega arith) hs)
+  trees_rank w (Trees.tree t ts) (Trees.tree u us) d r s ht hu hr hs =
+      let (a, more) = first_element w t ts d ht in
+      let (b, others) = first_element w u us d hu in
+      let x = keys_of_trees w ts (suc d) in
+      let y = keys_of_trees w us (suc d) in
+      then_ranked (sortable_key w t (suc d)) (sortable_key w u (suc d)) x y r s (tree_cmp t u) (trees_cmp ts us)
+      (keys_rank w t u (suc d) (x ++ r) (y ++ s) a b (IsRest-trees w ts d r hr) (IsRest-trees w us d s hs))
+      (trees_rank w ts us d r s more others hr hs)
 
-  pub pairs_rank : (w : Width) (ps qs : Pairs) (d : ℕ) (r s : List ℕ) → HasSortableValues ps → HasSortableValues qs → d + deepest_of_pairs ps < depths w
-      → d + deepest_of_pairs qs < depths w → IsRest w d r → IsRest w d s
+  pairs_rank : (w : Width) (ps qs : Pairs) (d : ℕ) (r s : List ℕ) → HasSortableValues w ps d → HasSortableValues w qs d
+      → IsRest w d r → IsRest w d s
       → bytes_cmp (keys_of_pairs w ps (suc d) ++ r) (keys_of_pairs w qs (suc d) ++ s) ≡ ordering_then (pairs_cmp ps qs) (bytes_cmp r s)
-  pairs_rank w Pairs.no_pairs Pairs.no_pairs d r s ht hu dt du hr hs = refl
-  pairs_rank w Pairs.no_pairs (Pairs.pair l u qs) d r s ht hu dt du hr hs =
-      ap (bytes_cmp r) (append_assoc (item_bytes w (suc d) 5 (text_bytes l)) (sortable_key w u (suc d) ++ keys_of_pairs w qs (suc d)) s)
-      ∙ rest_below w d 5 (text_bytes l) r ((sortable_key w u (suc d) ++ keys_of_pairs w qs (suc d)) ++ s) (omega arith) hr
-  pairs_rank w (Pairs.pair k t ps) Pairs.no_pairs d r s ht hu dt du hr hs =
-      ap (λ x. bytes_cmp x s) (append_assoc (item_bytes w (suc d) 5 (text_bytes k)) (sortable_key w t (suc d) ++ keys_of_pairs w ps (suc d)) r)
-      ∙ rest_above w d 5 (text_bytes k) ((sortable_key w t (suc d) ++ keys_of_pairs w ps (suc d)) ++ r) s (omega arith) hs
-  pairs_rank w (Pairs.pair k t ps) (Pairs.pair l u qs) d r s ht hu dt du hr hs =
-      ap₂ bytes_cmp (apart k t ps r) (apart l u qs s)
-      ∙ same_kind w (suc d) 5 (text_bytes k) (text_bytes l) (sortable_key w t (suc d) ++ (keys_of_pairs w ps (suc d) ++ r))
-      (sortable_key w u (suc d) ++ (keys_of_pairs w qs (suc d) ++ s)) (bytes_cmp k l) (omega arith)
-      ((Ranks-text_bytes k l).ranks (sortable_key w t (suc d) ++ (keys_of_pairs w ps (suc d) ++ r))
-      (sortable_key w u (suc d) ++ (keys_of_pairs w qs (suc d) ++ s)))
-      ∙ ap (ordering_then (bytes_cmp k l))
-      (keys_rank w t u (suc d) (keys_of_pairs w ps (suc d) ++ r) (keys_of_pairs w qs (suc d) ++ s) (ht.0.0, ht.1.0) (hu.0.0, hu.1.0) (omega arith) (omega arith)
-      (IsRest-pairs w ps d r hr) (IsRest-pairs w qs d s hs)
-      ∙ ap (ordering_then (tree_cmp t u)) (pairs_rank w ps qs d r s (ht.0.1, ht.1.1) (hu.0.1, hu.1.1) (omega arith) (omega arith) hr hs)
-      ∙ sym (then_assoc (tree_cmp t u) (pairs_cmp ps qs) (bytes_cmp r s)))
-      ∙ sym (then_assoc (bytes_cmp k l) (ordering_then (tree_cmp t u) (pairs_cmp ps qs)) (bytes_cmp r s))
-    where
-      apart : (k : List ℕ) (t : Tree) (ps : Pairs) (r : List ℕ)
-          → keys_of_pairs w (Pairs.pair k t ps) (suc d) ++ r
-          ≡ item_bytes w (suc d) 5 (text_bytes k) ++ (sortable_key w t (suc d) ++ (keys_of_pairs w ps (suc d) ++ r))
-      apart k t ps r = grind (arith, append_assoc)
+  pairs_rank w Pairs.no_pairs Pairs.no_pairs d r s ht hu hr hs = refl
+  pairs_rank w Pairs.no_pairs (Pairs.pair l u qs) d r s ht hu hr hs =
+      rest_below w d 5 (text_bytes l) (sortable_key w u (suc d) ++ keys_of_pairs w qs (suc d)) r s (omega arith) hr
+  pairs_rank w (Pairs.pair k t ps) Pairs.no_pairs d r s ht hu hr hs =
+      rest_above w d 5 (text_bytes k) (sortable_key w t (suc d) ++ keys_of_pairs w ps (suc d)) r s (omega arith) hs
+  pairs_rank w (Pairs.pair k t ps) (Pairs.pair l u qs) d r s ht hu hr hs =
+      let (a, more) = first_value w k t ps d ht in
+      let (b, others) = first_value w l u qs d hu in
+      let x = keys_of_pairs w ps (suc d) in
+      let y = keys_of_pairs w qs (suc d) in
+      let m = sortable_key w t (suc d) in
+      let n = sortable_key w u (suc d) in
+      then_ranked (item_bytes w (suc d) 5 (text_bytes k)) (item_bytes w (suc d) 5 (text_bytes l)) (m ++ x) (n ++ y) r s
+      (bytes_cmp k l) (ordering_then (tree_cmp t u) (pairs_cmp ps qs))
+      (same_kind w (suc d) 5 (text_bytes k) (text_bytes l) ((m ++ x) ++ r) ((n ++ y) ++ s) (bytes_cmp k l) (omega arith)
+      ((Ranks-text_bytes k l).ranks ((m ++ x) ++ r) ((n ++ y) ++ s)))
+      (then_ranked m n x y r s (tree_cmp t u) (pairs_cmp ps qs)
+      (keys_rank w t u (suc d) (x ++ r) (y ++ s) a b (IsRest-pairs w ps d r hr) (IsRest-pairs w qs d s hs))
+      (pairs_rank w ps qs d r s more others hr hs))
 
--- Numbers and extensions lie in the ranges of their types, and counts and lengths within the limits.
-abbrev mutual
-  pub IsKeyable : Tree → Type 0
-  IsKeyable (Tree.number n) = FitsNumber n
-  IsKeyable (Tree.extension x) = FitsExtension x × (length (extension_payload x) < 2 ^ 28)
-  IsKeyable (Tree.array ts) = (count ts < 2 ^ 29) × AreKeyable ts
-  IsKeyable (Tree.object ps) = (length (keys ps) < 2 ^ 29) × HasKeyableValues ps
-  IsKeyable _ = Unit {0}
+-- The elements, and the values, of a container that fits.
+abbrev AreFit : Trees → Type 0
+AreFit ts = AreInRange ts × HasShortElements canonical ts
 
-  pub AreKeyable : Trees → Type 0
-  AreKeyable Trees.no_trees = Unit {0}
-  AreKeyable (Trees.tree t ts) = IsKeyable t × AreKeyable ts
+abbrev HasFitValues : Pairs → Type 0
+HasFitValues ps = ValuesAreInRange ps × HasShortValues canonical ps
 
-  pub HasKeyableValues : Pairs → Type 0
-  HasKeyableValues Pairs.no_pairs = Unit {0}
-  HasKeyableValues (Pairs.pair k v ps) = IsKeyable v × HasKeyableValues ps
-
--- such are the trees that fit
-mutual
-  keyable_part : (t : Tree) → IsInRange t → HasShortParts canonical t → IsShort canonical t → IsKeyable t
-  keyable_part Tree.null r p s = tt
-  keyable_part (Tree.boolean b) r p s = tt
-  keyable_part (Tree.number n) r p s = r
-  keyable_part (Tree.text bytes) r p s = tt
-  keyable_part (Tree.extension x) r p s = (r, s)
-  keyable_part (Tree.array ts) r p s = (p.0, keyable_elements ts r p.1)
-  keyable_part (Tree.object ps) r p s = (p.0, keyable_values ps r.1 p.2)
-
-  keyable_elements : (ts : Trees) → AreInRange ts → HasShortElements canonical ts → AreKeyable ts
-  keyable_elements Trees.no_trees r p = tt
-  keyable_elements (Trees.tree t ts) r p = (keyable_part t r.0 p.1 p.0, keyable_elements ts r.1 p.2)
-
-  keyable_values : (ps : Pairs) → ValuesAreInRange ps → HasShortValues canonical ps → HasKeyableValues ps
-  keyable_values Pairs.no_pairs r p = tt
-  keyable_values (Pairs.pair k v ps) r p = (keyable_part v r.0 p.1 p.0, keyable_values ps r.1 p.2)
-
-pub keyable : (t : Tree) → Fits t → IsKeyable t
-keyable t h = grind (arith, keyable_elements, keyable_values)
+part_fits : (t : Tree) → IsInRange t → IsShort canonical t → HasShortParts canonical t → Fits t
+part_fits t range short parts = (range, grind (arith, short, parts))
 
 same_rank_boolean : (a b : Bool) → rank (Tree.boolean a) ≡ rank (Tree.boolean b) → a ≡ b
 same_rank_boolean a b h = grind arith
@@ -265,18 +215,19 @@ counted k m n xs ys r s hm hn e = grind (arith, same_count, append_assoc)
 -- fronts of one length
 same_front : (xs ys r s : List ℕ) → length xs ≡ length ys → xs ++ r ≡ ys ++ s → (xs ≡ ys) × (r ≡ s)
 same_front [] [] r s l e = (refl, e)
-same_front [] (y ∷ ys) r s l e = absurd (omega arith)
-same_front (x ∷ xs) [] r s l e = absurd (omega arith)
 same_front (x ∷ xs) (y ∷ ys) r s l e = grind (arith, same_front xs ys r s, heads)
+same_front xs ys r s l e = absurd (omega arith)
 
 mutual
-  pub equal_from_keys : (t u : Tree) (r s : List ℕ) → IsKeyable t → IsKeyable u → equality_key t ++ r ≡ equality_key u ++ s → IsEqual t u × (r ≡ s)
+  pub equal_from_keys : (t u : Tree) (r s : List ℕ) → Fits t → Fits u → equality_key t ++ r ≡ equality_key u ++ s
+      → IsEqual t u × (r ≡ s)
   equal_from_keys Tree.null Tree.null r s ht hu e = (tt, (heads 8 8 r s e).1)
   equal_from_keys (Tree.boolean a) (Tree.boolean b) r s ht hu e = let h = heads (rank (Tree.boolean a)) (rank (Tree.boolean b)) r s e in
       (same_rank_boolean a b h.0, h.1)
   equal_from_keys (Tree.number m) (Tree.number n) r s ht hu e =
       ranks_apart (number_bytes m.whole m.scale) (number_bytes n.whole n.scale) r s (number_cmp m n)
-      (Ranks-number_bytes m.whole n.whole m.scale n.scale (bounded_from_fits m ht) (bounded_from_fits n hu)) (heads 4 4 _ _ e).1
+      (Ranks-number_bytes m.whole n.whole m.scale n.scale (bounded_from_fits m ht.0) (bounded_from_fits n hu.0))
+      (heads 4 4 _ _ e).1
   equal_from_keys (Tree.text a) (Tree.text b) r s ht hu e =
       let h = ranks_apart (text_bytes a) (text_bytes b) r s (bytes_cmp a b) (Ranks-text_bytes a b) (heads 5 5 _ _ e).1 in
       (same_from_bytes_cmp a b h.0, h.1)
@@ -287,40 +238,41 @@ mutual
       (some_injective (sym (extension_back a ht.0) ∙ ap extension_of same.0 ∙ extension_back b hu.0), same.1)
   equal_from_keys (Tree.array ts) (Tree.array us) r s ht hu e =
       let h = counted 4 (count ts) (count us) (equality_keys_of_trees ts) (equality_keys_of_trees us) r s (omega arith) (omega arith) (heads 7 7 _ _ e).1 in
-      equal_from_keys_of_trees ts us r s ht.1 hu.1 h.0 h.1
+      equal_from_keys_of_trees ts us r s (ht.0, ht.1.1) (hu.0, hu.1.1) h.0 h.1
   equal_from_keys (Tree.object ps) (Tree.object qs) r s ht hu e =
       let h = counted 4 (length (keys ps)) (length (keys qs)) (equality_keys_of_pairs ps) (equality_keys_of_pairs qs) r s (omega arith) (omega arith)
       (heads 6 6 _ _ e).1 in
-      equal_from_keys_of_pairs ps qs r s ht.1 hu.1 h.0 h.1
+      equal_from_keys_of_pairs ps qs r s (ht.0.1, ht.1.2) (hu.0.1, hu.1.2) h.0 h.1
   equal_from_keys t u r s ht hu e = absurd (let h = heads (rank t) (rank u) _ _ e in omega (arith, h.0, rank_boolean))
 
-  pub equal_from_keys_of_trees : (ts us : Trees) (r s : List ℕ) → AreKeyable ts → AreKeyable us → count ts ≡ count us
+  pub equal_from_keys_of_trees : (ts us : Trees) (r s : List ℕ) → AreFit ts → AreFit us → count ts ≡ count us
       → equality_keys_of_trees ts ++ r ≡ equality_keys_of_trees us ++ s → AreEqual ts us × (r ≡ s)
   equal_from_keys_of_trees Trees.no_trees Trees.no_trees r s ht hu c e = (tt, e)
-  equal_from_keys_of_trees Trees.no_trees (Trees.tree u us) r s ht hu c e = absurd (omega arith)
-  equal_from_keys_of_trees (Trees.tree t ts) Trees.no_trees r s ht hu c e = absurd (omega arith)
   equal_from_keys_of_trees (Trees.tree t ts) (Trees.tree u us) r s ht hu c e =
-      let h = equal_from_keys t u (equality_keys_of_trees ts ++ r) (equality_keys_of_trees us ++ s) ht.0 hu.0
+      let h = equal_from_keys t u (equality_keys_of_trees ts ++ r) (equality_keys_of_trees us ++ s)
+      (part_fits t ht.0.0 ht.1.0 ht.1.1) (part_fits u hu.0.0 hu.1.0 hu.1.1)
       (sym (append_assoc (equality_key t) (equality_keys_of_trees ts) r) ∙ e ∙ append_assoc (equality_key u) (equality_keys_of_trees us) s) in
-      let k = equal_from_keys_of_trees ts us r s ht.1 hu.1 (omega arith) h.1 in
+      let k = equal_from_keys_of_trees ts us r s (ht.0.1, ht.1.2) (hu.0.1, hu.1.2) (omega arith) h.1 in
       ((h.0, k.0), k.1)
+  equal_from_keys_of_trees ts us r s ht hu c e = absurd (omega arith)
 
-  pub equal_from_keys_of_pairs : (ps qs : Pairs) (r s : List ℕ) → HasKeyableValues ps → HasKeyableValues qs → length (keys ps) ≡ length (keys qs)
+  pub equal_from_keys_of_pairs : (ps qs : Pairs) (r s : List ℕ) → HasFitValues ps → HasFitValues qs
+      → length (keys ps) ≡ length (keys qs)
       → equality_keys_of_pairs ps ++ r ≡ equality_keys_of_pairs qs ++ s → PairsAreEqual ps qs × (r ≡ s)
   equal_from_keys_of_pairs Pairs.no_pairs Pairs.no_pairs r s ht hu c e = (tt, e)
-  equal_from_keys_of_pairs Pairs.no_pairs (Pairs.pair l u qs) r s ht hu c e = absurd (omega arith)
-  equal_from_keys_of_pairs (Pairs.pair k t ps) Pairs.no_pairs r s ht hu c e = absurd (omega arith)
   equal_from_keys_of_pairs (Pairs.pair k t ps) (Pairs.pair l u qs) r s ht hu c e =
       let f = ranks_apart (text_bytes k) (text_bytes l) (equality_key t ++ (equality_keys_of_pairs ps ++ r))
       (equality_key u ++ (equality_keys_of_pairs qs ++ s)) (bytes_cmp k l) (Ranks-text_bytes k l)
       (heads 5 5 _ _ (sym (apart k t ps r) ∙ e ∙ apart l u qs s)).1 in
-      let h = equal_from_keys t u (equality_keys_of_pairs ps ++ r) (equality_keys_of_pairs qs ++ s) ht.0 hu.0 f.1 in
-      let g = equal_from_keys_of_pairs ps qs r s ht.1 hu.1 (omega arith) h.1 in
+      let h = equal_from_keys t u (equality_keys_of_pairs ps ++ r) (equality_keys_of_pairs qs ++ s)
+      (part_fits t ht.0.0 ht.1.0 ht.1.1) (part_fits u hu.0.0 hu.1.0 hu.1.1) f.1 in
+      let g = equal_from_keys_of_pairs ps qs r s (ht.0.1, ht.1.2) (hu.0.1, hu.1.2) (omega arith) h.1 in
       ((same_from_bytes_cmp k l f.0, h.0, g.0), g.1)
     where
       apart : (k : List ℕ) (t : Tree) (ps : Pairs) (r : List ℕ)
           → equality_keys_of_pairs (Pairs.pair k t ps) ++ r ≡ (5 ∷ text_bytes k) ++ (equality_key t ++ (equality_keys_of_pairs ps ++ r))
       apart k t ps r = grind (arith, append_assoc)
+  equal_from_keys_of_pairs ps qs r s ht hu c e = absurd (omega arith)
 
 -- numbers of one exact value have one spelling
 same_number : (m n : Number) → FitsNumber m → FitsNumber n → number_cmp m n ≡ Equal → number_bytes m.whole m.scale ≡ number_bytes n.whole n.scale
@@ -329,51 +281,45 @@ same_number m n hm hn e =
     (ranks_alone (number_bytes m.whole m.scale) (number_bytes n.whole n.scale) (number_cmp m n)
     (Ranks-number_bytes m.whole n.whole m.scale n.scale (bounded_from_fits m hm) (bounded_from_fits n hn)) ∙ e)
 
-same_count_of_trees : (ts us : Trees) → AreEqual ts us → count ts ≡ count us
-same_count_of_trees Trees.no_trees Trees.no_trees h = refl
-same_count_of_trees (Trees.tree t ts) (Trees.tree u us) h = ap suc (same_count_of_trees ts us h.1)
-same_count_of_trees ts us h = absurd h
-
-same_count_of_pairs : (ps qs : Pairs) → PairsAreEqual ps qs → length (keys ps) ≡ length (keys qs)
-same_count_of_pairs Pairs.no_pairs Pairs.no_pairs h = refl
-same_count_of_pairs (Pairs.pair k t ps) (Pairs.pair l u qs) h = ap suc (same_count_of_pairs ps qs h.2)
-same_count_of_pairs ps qs h = absurd h
-
 mutual
-  pub same_key : (t u : Tree) → IsKeyable t → IsKeyable u → IsEqual t u → equality_key t ≡ equality_key u
+  same_key : (t u : Tree) → Fits t → Fits u → IsEqual t u → equality_key t ≡ equality_key u
   same_key Tree.null Tree.null ht hu h = refl
   same_key (Tree.boolean a) (Tree.boolean b) ht hu h = ap (λ b. equality_key (Tree.boolean b)) h
-  same_key (Tree.number m) (Tree.number n) ht hu h = ap (λ x. 4 ∷ x) (same_number m n ht hu h)
+  same_key (Tree.number m) (Tree.number n) ht hu h = ap (λ x. 4 ∷ x) (same_number m n ht.0 hu.0 h)
   same_key (Tree.text a) (Tree.text b) ht hu h = ap (λ b. equality_key (Tree.text b)) h
   same_key (Tree.extension a) (Tree.extension b) ht hu h = ap (λ b. equality_key (Tree.extension b)) h
-  same_key (Tree.array ts) (Tree.array us) ht hu h = cc (same_count_of_trees ts us h, same_keys_of_trees ts us ht.1 hu.1 h)
-  same_key (Tree.object ps) (Tree.object qs) ht hu h = cc (same_count_of_pairs ps qs h, same_keys_of_pairs ps qs ht.1 hu.1 h)
+  same_key (Tree.array ts) (Tree.array us) ht hu h =
+      let same = same_keys_of_trees ts us (ht.0, ht.1.1) (hu.0, hu.1.1) h in cc (same.0, same.1)
+  same_key (Tree.object ps) (Tree.object qs) ht hu h =
+      let same = same_keys_of_pairs ps qs (ht.0.1, ht.1.2) (hu.0.1, hu.1.2) h in cc (same.0, same.1)
   same_key t u ht hu h = absurd h
 
-  pub same_keys_of_trees : (ts us : Trees) → AreKeyable ts → AreKeyable us → AreEqual ts us → equality_keys_of_trees ts ≡ equality_keys_of_trees us
-  same_keys_of_trees Trees.no_trees Trees.no_trees ht hu h = refl
-  same_keys_of_trees (Trees.tree t ts) (Trees.tree u us) ht hu h = ap₂ (λ x y. x ++ y) (same_key t u ht.0 hu.0 h.0) (same_keys_of_trees ts us ht.1 hu.1 h.1)
+  same_keys_of_trees : (ts us : Trees) → AreFit ts → AreFit us → AreEqual ts us
+      → (count ts ≡ count us) × (equality_keys_of_trees ts ≡ equality_keys_of_trees us)
+  same_keys_of_trees Trees.no_trees Trees.no_trees ht hu h = (refl, refl)
+  same_keys_of_trees (Trees.tree t ts) (Trees.tree u us) ht hu h =
+      let first = same_key t u (part_fits t ht.0.0 ht.1.0 ht.1.1) (part_fits u hu.0.0 hu.1.0 hu.1.1) h.0 in
+      let rest = same_keys_of_trees ts us (ht.0.1, ht.1.2) (hu.0.1, hu.1.2) h.1 in
+      (ap suc rest.0, ap₂ (λ x y. x ++ y) first rest.1)
   same_keys_of_trees ts us ht hu h = absurd h
 
-  pub same_keys_of_pairs : (ps qs : Pairs) → HasKeyableValues ps → HasKeyableValues qs → PairsAreEqual ps qs
-      → equality_keys_of_pairs ps ≡ equality_keys_of_pairs qs
-  same_keys_of_pairs Pairs.no_pairs Pairs.no_pairs ht hu h = refl
-  same_keys_of_pairs (Pairs.pair k t ps) (Pairs.pair l u qs) ht hu h = cc (same_key t u ht.0 hu.0 h.1, same_keys_of_pairs ps qs ht.1 hu.1 h.2)
+  same_keys_of_pairs : (ps qs : Pairs) → HasFitValues ps → HasFitValues qs → PairsAreEqual ps qs
+      → (length (keys ps) ≡ length (keys qs)) × (equality_keys_of_pairs ps ≡ equality_keys_of_pairs qs)
+  same_keys_of_pairs Pairs.no_pairs Pairs.no_pairs ht hu h = (refl, refl)
+  same_keys_of_pairs (Pairs.pair k t ps) (Pairs.pair l u qs) ht hu h =
+      let first = same_key t u (part_fits t ht.0.0 ht.1.0 ht.1.1) (part_fits u hu.0.0 hu.1.0 hu.1.1) h.1 in
+      let rest = same_keys_of_pairs ps qs (ht.0.1, ht.1.2) (hu.0.1, hu.1.2) h.2 in
+      (ap suc rest.0, cc (first, rest.1))
   same_keys_of_pairs ps qs ht hu h = absurd h
-
--- ---- the laws of keys, from the one equation on keys with rests
-
-pub ranked : (w : Width) (t u : Tree) (d : ℕ) (r s : List ℕ) → HasKey w t d → HasKey w u d → IsRest w d r → IsRest w d s
-    → bytes_cmp (sortable_key w t d ++ r) (sortable_key w u d ++ s) ≡ ordering_then (tree_cmp t u) (bytes_cmp r s)
-ranked w t u d r s h k hr hs = keys_rank w t u d r s (h.0, lacks_extension t h.1) (k.0, lacks_extension u k.1) h.2 k.2 hr hs
 
 alone : (w : Width) (t u : Tree) (d : ℕ) → HasKey w t d → HasKey w u d → bytes_cmp (sortable_key w t d) (sortable_key w u d) ≡ tree_cmp t u
 alone w t u d h k =
-    cc (append-nil (sortable_key w t d), append-nil (sortable_key w u d), ranked w t u d [] [] h k (inl refl) (inl refl), then_Equal (tree_cmp t u))
+    let ranked = keys_rank w t u d [] [] h k (inl refl) (inl refl) in
+    cc (append-nil (sortable_key w t d), append-nil (sortable_key w u d), then_Equal (tree_cmp t u), ranked)
 
 pub keys_keep_below : (w : Width) (t u : Tree) (d : ℕ) (r s : List ℕ) → HasKey w t d → HasKey w u d → IsRest w d r → IsRest w d s → tree_cmp t u ≡ Less
     → bytes_cmp (sortable_key w t d ++ r) (sortable_key w u d ++ s) ≡ Less
-keys_keep_below w t u d r s h k hr hs e = ranked w t u d r s h k hr hs ∙ ap (λ o. ordering_then o (bytes_cmp r s)) e
+keys_keep_below w t u d r s h k hr hs e = keys_rank w t u d r s h k hr hs ∙ ap (λ o. ordering_then o (bytes_cmp r s)) e
 
 pub keys_keep_equal : (w : Width) (t u : Tree) (d : ℕ) → HasKey w t d → HasKey w u d → IsTrue (is_equal t u) → sortable_key w t d ≡ sortable_key w u d
 keys_keep_equal w t u d h k e = same_from_bytes_cmp (sortable_key w t d) (sortable_key w u d) (alone w t u d h k ∙ tree_cmp-equal t u (equal_from_test t u e))
@@ -391,8 +337,8 @@ keys_tell_apart w t u h k = (
 pub equality_keys_tell_apart : (t u : Tree) → Fits t → Fits u → (equality_key t ≡ equality_key u) ↔ IsTrue (is_equal t u)
 equality_keys_tell_apart t u h k = (
   λ e. is_equal-true t u
-      (equal_from_keys t u [] [] (keyable t h) (keyable u k) (append-nil (equality_key t) ∙ e ∙ sym (append-nil (equality_key u)))).0,
-  λ e. same_key t u (keyable t h) (keyable u k) (equal_from_test t u e),
+      (equal_from_keys t u [] [] h k (append-nil (equality_key t) ∙ e ∙ sym (append-nil (equality_key u)))).0,
+  λ e. same_key t u h k (equal_from_test t u e),
 )
 
 -- the bytes rank with the key of the tree u as the tree t does
@@ -440,7 +386,7 @@ columns_rank : (w : Width) (t u : Option Tree) (r s : List ℕ) → IfSome t (λ
 columns_rank w None None r s ht hu hr hs = items_rank w 0 0 0 [] [] r s (some_depth w)
 columns_rank w None (Some u) r s ht hu hr hs = grind (arith, key_is_item, items_rank, some_depth)
 columns_rank w (Some t) None r s ht hu hr hs = grind (arith, key_is_item, items_rank, some_depth)
-columns_rank w (Some t) (Some u) r s ht hu hr hs = ranked w t u 0 r s ht hu hr hs
+columns_rank w (Some t) (Some u) r s ht hu hr hs = keys_rank w t u 0 r s ht hu hr hs
 
 pub composite_keys_order : (w : Width) (ts us : List (Option Tree)) → HaveKeys w ts → HaveKeys w us
     → bytes_cmp (composite_key w ts) (composite_key w us) ≡ slice_cmp (option_cmp tree_cmp) ts us

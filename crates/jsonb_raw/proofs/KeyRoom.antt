@@ -1,24 +1,16 @@
 -- A vector whose capacity does not fall keeps its room for the key of a value.
 use Rattle.std.proofs.Common.{◌≡◌, ◌≤◌, ◌+◌, ℕ, arith}
-use Rattle.jsonb_doc.specs.Tree.{Tree, null, boolean, number, text, extension, array, object}
+use Rattle.jsonb_doc.specs.Tree.{Tree, array, object}
 use Rattle.jsonb_raw.specs.KeyRoom.{HasKeyRoom}
 
 pub room_kept : (t : Tree) (len more capacity len' capacity' : ℕ) → HasKeyRoom t (len + more) capacity → len' ≡ len → capacity ≤ capacity'
     → HasKeyRoom t len' capacity'
-room_kept null len more capacity len' capacity' h e k = omega (arith, h, e, k)
-room_kept (boolean b) len more capacity len' capacity' h e k = omega (arith, h, e, k)
-room_kept (number n) len more capacity len' capacity' h e k = omega (arith, h, e, k)
-room_kept (text s) len more capacity len' capacity' h e k = omega (arith, h, e, k)
-room_kept (extension x) len more capacity len' capacity' h e k = omega (arith, h, e, k)
 room_kept (array ts) len more capacity len' capacity' h e k = h
 room_kept (object ps) len more capacity len' capacity' h e k = h
+room_kept t len more capacity len' capacity' h e k = omega (arith, h, e, k)
 
 -- there are 64 bytes more than these
 pub room_more : (t : Tree) (len more capacity : ℕ) → HasKeyRoom t (len + more) capacity → len + (more + 64) ≤ capacity
-room_more null len more capacity h = omega (arith, h)
-room_more (boolean b) len more capacity h = omega (arith, h)
-room_more (number n) len more capacity h = omega (arith, h)
-room_more (text s) len more capacity h = omega (arith, h)
-room_more (extension x) len more capacity h = omega (arith, h)
 room_more (array ts) len more capacity h = absurd h
 room_more (object ps) len more capacity h = absurd h
+room_more t len more capacity h = omega (arith, h)

@@ -1,5 +1,5 @@
 -- Tables of equality keys: what they have while elements are added, and what they say of a value.
-use Rattle.jsonb_raw.proofs.Common.{◌≡◌, ◌+◌, ◌<◌, ◌≤◌, ◌^◌, ◌||◌, ◌++◌, ℕ, Bool, true, false, List, [], ◌∷◌, refl, sym, ap, ap₂, ◌∙◌, arith, length, nat_lt, append_assoc, Vec, bytes_eq, bytes_eq-Decides, count_by-le-length, sum_by-cons, AllByRecursion, list_any, Tree, null, boolean, number, text, extension, array, object, Trees, no_trees, tree, Pairs, no_pairs, pair, elements, members, Fits, is_equal, are_equal, pairs_are_equal, is_equal_equiv, both, first_of_both, second_of_both, equality_key, counted, one_at, with_key, CountsKeys, KeyCounts, is_container, is_part_of, each_is_matched, each_pair_is_matched, or_false, ◌&&◌, HasKeysOf, TellsMatch}
+use Rattle.jsonb_raw.proofs.Common.{◌≡◌, ◌+◌, ◌<◌, ◌≤◌, ◌^◌, ◌||◌, ◌++◌, ℕ, Bool, true, false, List, [], ◌∷◌, refl, sym, ap, ap₂, ◌∙◌, arith, length, nat_lt, append_assoc, Vec, bytes_eq, bytes_eq-Decides, count_by-le-length, sum_by-cons, AllByRecursion, list_any, Tree, array, object, Trees, no_trees, tree, Pairs, no_pairs, pair, elements, members, Fits, is_equal, are_equal, pairs_are_equal, is_equal_equiv, both, first_of_both, second_of_both, equality_key, counted, one_at, with_key, CountsKeys, KeyCounts, is_container, is_part_of, each_is_matched, each_pair_is_matched, or_false, ◌&&◌, HasKeysOf, TellsMatch}
 use Rattle.std.specs.declared.alloc.Global.{Global}
 use Rattle.jsonb_raw.specs.declared.functions.array.key_table.KeyTable.{KeyTable}
 use Rattle.jsonb_raw.proofs.ContainsLaws.{any_middle, any_more}
@@ -9,25 +9,9 @@ use Rattle.jsonb_raw.proofs.ElementsSeen.{key_counted}
 
 mutual
   pub equal_matches : (y x : Tree) → is_equal y x ≡ true → is_part_of y x ≡ true
-  equal_matches null x h = is_equal_equiv.symm x null ∙ h
-  equal_matches (boolean b) x h = is_equal_equiv.symm x (boolean b) ∙ h
-  equal_matches (number n) x h = is_equal_equiv.symm x (number n) ∙ h
-  equal_matches (text s) x h = is_equal_equiv.symm x (text s) ∙ h
-  equal_matches (extension e) x h = is_equal_equiv.symm x (extension e) ∙ h
   equal_matches (array ys) (array xs) h = each_equal ys xs (elements xs) [] refl h
-  equal_matches (array ys) null h = absurd (cc)
-  equal_matches (array ys) (boolean b) h = absurd (cc)
-  equal_matches (array ys) (number n) h = absurd (cc)
-  equal_matches (array ys) (text s) h = absurd (cc)
-  equal_matches (array ys) (extension e) h = absurd (cc)
-  equal_matches (array ys) (object ps) h = absurd (cc)
   equal_matches (object qs) (object ps) h = pairs_equal qs ps (members ps) [] refl h
-  equal_matches (object qs) null h = absurd (cc)
-  equal_matches (object qs) (boolean b) h = absurd (cc)
-  equal_matches (object qs) (number n) h = absurd (cc)
-  equal_matches (object qs) (text s) h = absurd (cc)
-  equal_matches (object qs) (extension e) h = absurd (cc)
-  equal_matches (object qs) (array xs) h = absurd (cc)
+  equal_matches y x h = is_equal_equiv.symm x y ∙ h
 
   -- each of the elements is in the whole list, whose last equal them one by one
   each_equal : (ys xs : Trees) (whole before : List Tree) → whole ≡ before ++ elements xs → are_equal ys xs ≡ true → each_is_matched ys whole ≡ true
@@ -52,13 +36,9 @@ mutual
 
 -- a scalar matches what it equals
 scalar_equal : (y x : Tree) → is_container y ≡ false → is_part_of y x ≡ is_equal y x
-scalar_equal null x h = is_equal_equiv.symm x null
-scalar_equal (boolean b) x h = is_equal_equiv.symm x (boolean b)
-scalar_equal (number n) x h = is_equal_equiv.symm x (number n)
-scalar_equal (text s) x h = is_equal_equiv.symm x (text s)
-scalar_equal (extension e) x h = is_equal_equiv.symm x (extension e)
 scalar_equal (array ys) x h = absurd (cc)
 scalar_equal (object qs) x h = absurd (cc)
+scalar_equal y x h = is_equal_equiv.symm x y
 
 scalars_equal : (y : Tree) (xs : List Tree) → is_container y ≡ false → list_any (is_part_of y) xs ≡ list_any (is_equal y) xs
 scalars_equal y [] h = refl

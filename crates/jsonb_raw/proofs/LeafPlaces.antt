@@ -1,6 +1,7 @@
 -- The places of leaves.
-use Rattle.jsonb_raw.proofs.Common.{◌≡◌, ◌⊎◌, ℕ, zero, suc, pos, Bool, true, false, List, [], ◌∷◌, ◌++◌, drop, Some, Less, nat_cmp, refl, sym, ◌∙◌, arith, inl, inr, Contains, if◌then◌else◌, bytes_eq, slice_cmp, nat_list_cmp_total, AllByRecursion, Tree, array, object, Trees, no_trees, tree, Pairs, no_pairs, pair, elements, keys, value_under, AreKeys, IsBelowFirst, IsInRange, AreInRange, ValuesAreInRange, Fits, bytes_eq-true, bytes_eq-same, Key, index, unquoted_name, Leaf, is_leaf, leaves_at, leaves, leaves_of_trees, leaves_of_pairs, behind, tree_at_steps, child_met}
+use Rattle.jsonb_raw.proofs.Common.{keys_rise, ◌≡◌, ℕ, zero, suc, pos, Bool, true, false, List, [], ◌∷◌, ◌++◌, drop, Some, refl, ◌∙◌, arith, Contains, if◌then◌else◌, bytes_eq, AllByRecursion, Tree, array, object, Trees, no_trees, tree, Pairs, no_pairs, pair, elements, keys, value_under, AreKeys, IsBelowFirst, IsInRange, AreInRange, ValuesAreInRange, Fits, bytes_eq-true, bytes_eq-same, Key, index, unquoted_name, Leaf, is_leaf, leaves_at, leaves, leaves_of_trees, leaves_of_pairs, behind, tree_at_steps, child_met}
 use Rattle.jsonb_raw.proofs.ChildLemmas.{split_at, from_front}
+use Rattle.jsonb_raw.proofs.PartedRuns.{no_value}
 use Rattle.jsonb_raw.proofs.PositionLemmas.{field_met, step_by_step}
 
 -- the leaf is at its place in the tree
@@ -29,33 +30,16 @@ at_child ignore_array whole t step within met h = further_in whole t step _ met 
 
 -- ---- the keys of an object
 
--- the name is one of the keys
-abbrev IsAmong : List ℕ → List (List ℕ) → Type 0
-IsAmong name [] = ⊥
-IsAmong name (key ∷ ks) = (name ≡ key) ⊎ IsAmong name ks
-
-below_each : (key name : List ℕ) (ks : List (List ℕ)) → IsBelowFirst key ks → AreKeys ks → IsAmong name ks → slice_cmp nat_cmp key name ≡ Less
-below_each key name [] below rising among = absurd among
-below_each key name (k ∷ ks) below rising (inl same) = rw same below
-below_each key name (k ∷ ks) below rising (inr among) = nat_list_cmp_total.trans key k name below (below_each k name ks rising.1 rising.2 among)
-
-not_below_itself : (key : List ℕ) → slice_cmp nat_cmp key key ≡ Less → ⊥
-not_below_itself key below = let turned = rw below at (nat_list_cmp_total.antisymm key key) in cc
-
-other_key : (key name : List ℕ) → slice_cmp nat_cmp key name ≡ Less → bytes_eq key name ≡ false
-other_key key name below = go (bytes_eq key name) refl
-  where
-    go : (b : Bool) → bytes_eq key name ≡ b → b ≡ false
-    go true same = let e = bytes_eq-true key name same in absurd (not_below_itself key (rw (sym e) at below))
-    go false same = refl
-
--- under the keys of the back of an object is what is there under them
+-- what is under a key in the back of an object is under it in the object
 abbrev IsBack : Pairs → Pairs → Type 0
-IsBack ps back = (name : List ℕ) → IsAmong name (keys back) → value_under name ps ≡ value_under name back
+IsBack ps back = (name : List ℕ) (u : Tree) → value_under name back ≡ Some u → value_under name ps ≡ Some u
 
 behind_first : (ps rest : Pairs) (key : List ℕ) (t : Tree) → IsBelowFirst key (keys rest) → AreKeys (keys rest) → IsBack ps (pair key t rest) → IsBack ps rest
-behind_first ps rest key t below rising back =
-    λ name among. back name (inr among) ∙ rw (other_key key name (below_each key name (keys rest) below rising among)) refl
+behind_first ps rest key t below are back name u found = back name u (skipped (bytes_eq key name) refl)
+  where
+    skipped : (b : Bool) → bytes_eq key name ≡ b → value_under name (pair key t rest) ≡ Some u
+    skipped true same = cc (found, no_value key rest below (keys_rise (keys rest) are), bytes_eq-true key name same)
+    skipped false other = rw other found
 
 -- ---- all leaves
 
@@ -63,7 +47,7 @@ mutual
   pub each_in_place : (ignore_array : Bool) (t : Tree) → IsInRange t → AllByRecursion (IsInPlace t) (leaves ignore_array t)
   each_in_place true (array ts) r = tt
   each_in_place false (array ts) r = trees_in_place false ts 0 ts refl r
-  each_in_place ignore_array (object ps) r = pairs_in_place ignore_array ps ps (λ name among. refl) r.0 r.1
+  each_in_place ignore_array (object ps) r = pairs_in_place ignore_array ps ps (λ name u found. found) r.0 r.1
   each_in_place ignore_array _ r = tt
 
   trees_in_place : (ignore_array : Bool) (all : Trees) (n : ℕ) (ts : Trees) → drop n (elements all) ≡ elements ts → AreInRange ts
@@ -80,9 +64,8 @@ mutual
   pairs_in_place ignore_array all no_pairs back rising r = tt
   pairs_in_place ignore_array all (pair key t ps) back rising r =
       AllByRecursion-append (IsInPlace (object all)) _ _
-      (at_child ignore_array (object all) t (unquoted_name key) (leaves ignore_array t) (field_met (unquoted_name key) all ∙
-      (back key (inl refl) ∙ rw (bytes_eq-same key) refl))
-      (each_in_place ignore_array t r.0))
+      (at_child ignore_array (object all) t (unquoted_name key) (leaves ignore_array t)
+      (field_met (unquoted_name key) all ∙ back key t (rw (bytes_eq-same key) refl)) (each_in_place ignore_array t r.0))
       (pairs_in_place ignore_array all ps (behind_first all ps key t rising.1 rising.2 back) rising.2 r.1)
 
 of_AllByRecursion : {A : Type 0} (P : A → Type 0) (xs : List A) (x : A) → AllByRecursion P xs → Contains xs x → P x

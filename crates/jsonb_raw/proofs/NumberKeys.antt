@@ -108,17 +108,24 @@ view : (d : ℕ) (ds : List ℕ) → View d ds
 view d ds = ⊎_elim (λ (e : list_all (λ d. d == 0) (d ∷ ds) ≡ true). inl (all_zero (d ∷ ds) e, rw e))
     (λ (e : list_all (λ d. d == 0) (d ∷ ds) ≡ false). inr (not_all_zero (d ∷ ds) e, rw e)) (cases_Bool (list_all (λ d. d == 0) (d ∷ ds)))
 
-both_end : (xs ys : List ℕ) (a b : ℕ) → xs ≡ 0 ∷ [] → ys ≡ 0 ∷ [] → a ≡ 0 → b ≡ 0 → Ranks xs ys (nat_cmp a b)
-both_end xs ys a b ex ey ea eb = rw (ex, ey, ea, eb) (Ranks-same_head 0 [] [] Equal Ranks-nil)
-
-first_ends : (xs ys zs : List ℕ) (z a b : ℕ) → xs ≡ 0 ∷ [] → ys ≡ suc z ∷ zs → a ≡ 0 → 0 < b → Ranks xs ys (nat_cmp a b)
-first_ends xs ys zs z a b ex ey ea hb = rw (ex, ey, ea, nat_cmp-lt 0 b hb) (Ranks-lower 0 (suc z) [] zs (omega arith))
-
-second_ends : (xs ys zs : List ℕ) (z a b : ℕ) → xs ≡ suc z ∷ zs → ys ≡ 0 ∷ [] → 0 < a → b ≡ 0 → Ranks xs ys (nat_cmp a b)
-second_ends xs ys zs z a b ex ey ha eb = rw (ex, ey, eb, nat_cmp-gt a 0 ha) (Ranks-higher (suc z) 0 zs [] (omega arith))
-
 no_product : (v p : ℕ) → v ≡ 0 → v * p ≡ 0
 no_product v p e = rw e (omega arith)
+
+-- two fractions of which one, or both, are 0
+module _ {xs ys : List ℕ} {v w : ℕ} (p q : ℕ) where
+  both_end : xs ≡ 0 ∷ [] → v ≡ 0 → ys ≡ 0 ∷ [] → w ≡ 0 → Ranks xs ys (nat_cmp (v * p) (w * q))
+  both_end ex ev ey ew = rw (ex, ey, no_product v p ev, no_product w q ew) (Ranks-same_head 0 [] [] Equal Ranks-nil)
+
+  first_ends : {z : ℕ} {zs : List ℕ} → 0 < q → xs ≡ 0 ∷ [] → v ≡ 0 → ys ≡ suc z ∷ zs → 0 < w
+      → Ranks xs ys (nat_cmp (v * p) (w * q))
+  first_ends {z} {zs} some ex ev ey hw =
+      rw (ex, ey, no_product v p ev, nat_cmp-lt 0 (w * q) (mul-pos hw some)) (Ranks-lower 0 (suc z) [] zs (omega arith))
+
+  second_ends : {z : ℕ} {zs : List ℕ} → 0 < p → xs ≡ suc z ∷ zs → 0 < v → ys ≡ 0 ∷ [] → w ≡ 0
+      → Ranks xs ys (nat_cmp (v * p) (w * q))
+  second_ends {z} {zs} some ex hv ey ew =
+      rw (ex, ey, no_product w q ew, nat_cmp-gt (v * p) 0 (mul-pos hv some))
+      (Ranks-higher (suc z) 0 zs [] (omega arith))
 
 -- the first digits decide, and otherwise the other digits, here with the fractions' common scale
 first_digits : (x y v w p q : ℕ) → v < p → w < q
@@ -137,41 +144,29 @@ pub Ranks-marked : (xs ys : List ℕ) → AllBelowBase 10 xs → AllBelowBase 10
     → Ranks (marked xs) (marked ys) (nat_cmp (value xs * 10 ^ length ys) (value ys * 10 ^ length xs))
 Ranks-marked [] [] hx hy = Ranks-same_head 0 [] [] Equal Ranks-nil
 Ranks-marked [] (y ∷ ys) hx hy = elim (view y ys) [
-  | inl h ↦ both_end (marked []) (marked (y ∷ ys)) (value [] * 10 ^ suc (length ys)) (value (y ∷ ys) * 1) refl h.1 (no_product 0 (10 ^ suc (length ys)) refl)
-      (no_product (value (y ∷ ys)) 1 h.0)
-  | inr h ↦ first_ends (marked []) (marked (y ∷ ys)) (marked ys) y (value [] * 10 ^ suc (length ys)) (value (y ∷ ys) * 1) refl h.1
-      (no_product 0 (10 ^ suc (length ys)) refl) (mul-pos h.0 (one-le-pow 0 10 (omega arith)))
+  | inl h ↦ both_end (10 ^ suc (length ys)) 1 refl refl h.1 h.0
+  | inr h ↦ first_ends (10 ^ suc (length ys)) 1 (omega arith) refl refl h.1 h.0
 ]
 Ranks-marked (x ∷ xs) [] hx hy = elim (view x xs) [
-  | inl h ↦ both_end (marked (x ∷ xs)) (marked []) (value (x ∷ xs) * 1) (value [] * 10 ^ suc (length xs)) h.1 refl (no_product (value (x ∷ xs)) 1 h.0)
-      (no_product 0 (10 ^ suc (length xs)) refl)
-  | inr h ↦ second_ends (marked (x ∷ xs)) (marked []) (marked xs) x (value (x ∷ xs) * 1) (value [] * 10 ^ suc (length xs)) h.1 refl
-      (mul-pos h.0 (one-le-pow 0 10 (omega arith))) (no_product 0 (10 ^ suc (length xs)) refl)
+  | inl h ↦ both_end 1 (10 ^ suc (length xs)) h.1 h.0 refl refl
+  | inr h ↦ second_ends 1 (10 ^ suc (length xs)) (omega arith) h.1 h.0 refl refl
 ]
 Ranks-marked (x ∷ xs) (y ∷ ys) hx hy = by_views (view x xs) (view y ys) (Ranks-marked xs ys hx.1 hy.1)
   where
+    some : (n : ℕ) → 0 < 10 ^ n
+    some n = one-le-pow n 10 (omega arith)
+
     by_views : View x xs → View y ys → Ranks (marked xs) (marked ys) (nat_cmp (value xs * 10 ^ length ys) (value ys * 10 ^ length xs))
         → Ranks (marked (x ∷ xs)) (marked (y ∷ ys)) (nat_cmp (value (x ∷ xs) * 10 ^ suc (length ys)) (value (y ∷ ys) * 10 ^ suc (length xs)))
-    by_views (inl h) (inl k) more = both_end (marked (x ∷ xs)) (marked (y ∷ ys)) (value (x ∷ xs) * 10 ^ suc (length ys))
-        (value (y ∷ ys) * 10 ^ suc (length xs)) h.1 k.1 (no_product (value (x ∷ xs)) (10 ^ suc (length ys)) h.0)
-        (no_product (value (y ∷ ys)) (10 ^ suc (length xs)) k.0)
-    by_views (inl h) (inr k) more = first_ends (marked (x ∷ xs)) (marked (y ∷ ys)) (marked ys) y (value (x ∷ xs) * 10 ^ suc (length ys))
-        (value (y ∷ ys) * 10 ^ suc (length xs)) h.1 k.1 (no_product (value (x ∷ xs)) (10 ^ suc (length ys)) h.0)
-        (mul-pos k.0 (one-le-pow (suc (length xs)) 10 (omega arith)))
-    by_views (inr h) (inl k) more = second_ends (marked (x ∷ xs)) (marked (y ∷ ys)) (marked xs) x (value (x ∷ xs) * 10 ^ suc (length ys))
-        (value (y ∷ ys) * 10 ^ suc (length xs)) h.1 k.1 (mul-pos h.0 (one-le-pow (suc (length ys)) 10 (omega arith)))
-        (no_product (value (y ∷ ys)) (10 ^ suc (length xs)) k.0)
+    by_views (inl h) (inl k) more = both_end (10 ^ suc (length ys)) (10 ^ suc (length xs)) h.1 h.0 k.1 k.0
+    by_views (inl h) (inr k) more =
+        first_ends (10 ^ suc (length ys)) (10 ^ suc (length xs)) (some (suc (length xs))) h.1 h.0 k.1 k.0
+    by_views (inr h) (inl k) more =
+        second_ends (10 ^ suc (length ys)) (10 ^ suc (length xs)) (some (suc (length ys))) h.1 h.0 k.1 k.0
     by_views (inr h) (inr k) more =
-        rw (
-          h.1,
-          k.1,
-          value-cons x xs,
-          value-cons y ys,
-          pow-suc 10 (length xs),
-          pow-suc 10 (length ys),
-          first_digits x y (value xs) (value ys) (10 ^ length xs)
-              (10 ^ length ys) (number_lt 10 xs hx.1) (number_lt 10 ys hy.1),
-        )
+        let decided = first_digits x y (value xs) (value ys) (10 ^ length xs) (10 ^ length ys)
+        (number_lt 10 xs hx.1) (number_lt 10 ys hy.1) in
+        rw (h.1, k.1, value-cons x xs, value-cons y ys, pow-suc 10 (length xs), pow-suc 10 (length ys), decided)
         (Ranks-head (suc x) (suc y) (marked xs) (marked ys) (nat_cmp (value xs * 10 ^ length ys) (value ys * 10 ^ length xs)) more)
 
 -- a number below its decade, times a power of ten, is below one that begins a later decade
@@ -188,37 +183,26 @@ decades_apart m n s t l k mu nl h =
 pub number_order : (m n s t l k : ℕ) → 10 ^ l ≤ m → m < 10 ^ suc l → 10 ^ k ≤ n → n < 10 ^ suc k → s ≤ 1000 → t ≤ 1000
     → nat_cmp (m * 10 ^ t) (n * 10 ^ s) ≡ ordering_then (nat_cmp (suc l + 1000 - s) (suc k + 1000 - t)) (nat_cmp (m * 10 ^ suc k) (n * 10 ^ suc l))
 number_order m n s t l k ml mu nl nu hs ht =
-    ⊎_elim (λ (e : suc l + t ≡ suc k + s). same e) (λ h. ⊎_elim (λ (h : suc l + t < suc k + s). below h) (λ (h : suc k + s < suc l + t). above h) h)
-    (cases_order (suc l + t) (suc k + s))
+    by_exponents (cases_order (suc l + t) (suc k + s))
   where
-    below : suc l + t < suc k + s
-        → nat_cmp (m * 10 ^ t) (n * 10 ^ s) ≡ ordering_then (nat_cmp (suc l + 1000 - s) (suc k + 1000 - t)) (nat_cmp (m * 10 ^ suc k) (n * 10 ^ suc l))
-    below h = rw (
-      nat_cmp-lt (m * 10 ^ t) (n * 10 ^ s) (decades_apart m n s t l k mu nl (omega arith)),
-      nat_cmp-lt (suc l + 1000 - s) (suc k + 1000 - t)
-          (omega arith),
-    ) refl
-
-    above : suc k + s < suc l + t
-        → nat_cmp (m * 10 ^ t) (n * 10 ^ s) ≡ ordering_then (nat_cmp (suc l + 1000 - s) (suc k + 1000 - t)) (nat_cmp (m * 10 ^ suc k) (n * 10 ^ suc l))
-    above h = rw (
-      nat_cmp-gt (m * 10 ^ t) (n * 10 ^ s) (decades_apart n m t s k l nu ml (omega arith)),
-      nat_cmp-gt (suc l + 1000 - s) (suc k + 1000 - t)
-          (omega arith),
-    ) refl
-
     regroup : suc l + t ≡ suc k + s → m * 10 ^ t * 10 ^ suc l ≡ m * 10 ^ suc k * 10 ^ s
     regroup e = cc (mul_assoc m (10 ^ t) (10 ^ suc l), pow-add 10 t (suc l), add_comm t (suc l), e, pow-add 10 (suc k) s, mul_assoc m (10 ^ suc k) (10 ^ s))
 
-    same : suc l + t ≡ suc k + s
+    by_exponents : (suc l + t ≡ suc k + s) ⊎ ((suc l + t < suc k + s) ⊎ (suc k + s < suc l + t))
         → nat_cmp (m * 10 ^ t) (n * 10 ^ s) ≡ ordering_then (nat_cmp (suc l + 1000 - s) (suc k + 1000 - t)) (nat_cmp (m * 10 ^ suc k) (n * 10 ^ suc l))
-    same e =
+    by_exponents (inl e) =
         let exponents : suc l + 1000 - s ≡ suc k + 1000 - t = omega arith in
         sym (nat_cmp_scaled (10 ^ suc l) (m * 10 ^ t) (n * 10 ^ s) (one-le-pow (suc l) 10 (omega arith)))
         ∙ ap₂ nat_cmp (regroup e) (mul_right_comm n (10 ^ s) (10 ^ suc l))
         ∙ nat_cmp_scaled (10 ^ s) (m * 10 ^ suc k) (n * 10 ^ suc l) (one-le-pow s 10 (omega arith))
         ∙ sym (ap (λ o. ordering_then o (nat_cmp (m * 10 ^ suc k) (n * 10 ^ suc l)))
         (ap (λ x. nat_cmp x (suc k + 1000 - t)) exponents ∙ nat_cmp_refl (suc k + 1000 - t)))
+    by_exponents (inr (inl h)) =
+        let first = nat_cmp-lt (m * 10 ^ t) (n * 10 ^ s) (decades_apart m n s t l k mu nl (omega arith)) in
+        rw (first, nat_cmp-lt (suc l + 1000 - s) (suc k + 1000 - t) (omega arith)) refl
+    by_exponents (inr (inr h)) =
+        let first = nat_cmp-gt (m * 10 ^ t) (n * 10 ^ s) (decades_apart n m t s k l nu ml (omega arith)) in
+        rw (first, nat_cmp-gt (suc l + 1000 - s) (suc k + 1000 - t) (omega arith)) refl
 
 -- the count of a number's digits says between which powers of ten it lies
 decade : (m : ℕ) → 0 < m → (l : ℕ) × (length (digits_of 10 m) ≡ suc l) × (10 ^ l ≤ m) × (m < 10 ^ suc l)

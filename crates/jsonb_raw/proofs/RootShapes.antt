@@ -71,13 +71,8 @@ text_utf8 form bytes s d = by d.document
     by (inr h) = let content : IsContent (number_reader form) (spec.text s) h.parts.kind h.parts.content = h.parts.part.1 in content.2
 
 pub plain_shape : (shape : Shape) → ((s : Bor (List ℕ)) → shape ≡ Text s → ⊥) → IsNoText shape
-plain_shape Null none = tt
-plain_shape (Boolean b) none = tt
-plain_shape (Number n) none = tt
 plain_shape (Text s) none = none s refl
-plain_shape (Extension x) none = tt
-plain_shape Array none = tt
-plain_shape Object none = tt
+plain_shape _ none = tt
 
 -- the tree of a scalar has no parts
 pub scalar_tree : (shape : Shape) (t : Tree) → HasShape shape t → (shape ≡ Array → ⊥) → (shape ≡ Object → ⊥) → (is_container t ≡ false) × (deepest t ≡ 0)
@@ -86,10 +81,7 @@ scalar_tree shape t is array object = grind arith
 -- a root that is neither a string nor a container has no strings
 pub no_texts : (shape : Shape) (t : Tree) → HasShape shape t → ((s : Bor (List ℕ)) → shape ≡ Text s → ⊥) → (shape ≡ Array → ⊥) → (shape ≡ Object → ⊥)
     → (name : List ℕ) → has_text name t ≡ false
-no_texts Null t is text array object name = rw is refl
-no_texts (Boolean b) t is text array object name = rw is refl
-no_texts (Number n) t is text array object name = rw is refl
 no_texts (Text s) t is text array object name = absurd (text s refl)
-no_texts (Extension x) t is text array object name = rw is refl
 no_texts Array t is text array object name = absurd (array refl)
 no_texts Object t is text array object name = absurd (object refl)
+no_texts _ t is text array object name = rw is refl

@@ -1,5 +1,5 @@
 -- What the loops of the set functions keep true.
-use Rattle.jsonb_raw.proofs.Common.{ℕ, zero, suc, drop, ap₂, not, ◌≡◌, ◌+◌, ◌<◌, ◌^◌, Bool, true, false, ◌||◌, cond, List, [], ◌∷◌, ◌++◌, length, map, filter, Option, Some, None, refl, sym, ap, subst, ◌∙◌, append_assoc, append-nil, arith, nat_tests, AllByRecursion, list_any, Tree, array, Trees, no_trees, tree, elements, trees_of, Form, canonical, kind_number, StoredEntry, Fits, AreInRange, HasShortElements, IsOutOfMemoryOrTooLarge, Parts, no_parts, HoldsElements, HasElementsLeft, IsElementsOf, ElementIter, Error, array_too_large-more, as_elements, is_equal, is_equal_equiv, sum_by-cons, occurrences, overlap, intersection_of, difference_of, keeps, kept_one, CountsAfter, HaveSeen, HoldTrees, AreElementsOf, RunsHold, IsFirst, TakesFirst, Holding, Entries, KeyCounts, Seen, SetOperation, or_false}
+use Rattle.jsonb_raw.proofs.Common.{ℕ, zero, suc, drop, ap₂, not, ◌≡◌, ◌+◌, ◌<◌, ◌^◌, Bool, true, false, ◌||◌, cond, List, [], ◌∷◌, ◌++◌, length, map, filter, Option, Some, None, refl, sym, ap, subst, ◌∙◌, append_assoc, append-nil, arith, nat_tests, AllByRecursion, list_any, Tree, array, Trees, no_trees, tree, elements, trees_of, Form, canonical, kind_number, StoredEntry, Fits, AreInRange, HasShortElements, IsOutOfMemoryOrTooLarge, Parts, no_parts, HoldsElements, IsElementsOf, Error, array_too_large-more, as_elements, is_equal, is_equal_equiv, sum_by-cons, occurrences, overlap, intersection_of, difference_of, keeps, kept_one, CountsAfter, HaveSeen, HoldTrees, AreElementsOf, RunsHold, IsFirst, TakesFirst, Holding, Entries, KeyCounts, Seen, SetOperation, or_false}
 use Rattle.jsonb_raw.proofs.RunLemmas.{holding_begun, holding_kept, holding_again, entry_taken}
 use Rattle.jsonb_raw.proofs.ObjectLemmas.{length-elements}
 
@@ -23,15 +23,6 @@ all_dropped P (suc n) (x ∷ xs) h = all_dropped P n xs h.1
 
 pub members_fit : (t : Tree) → Fits t → AllByRecursion Fits (as_elements t)
 members_fit t h = grind (arith, elements_fit)
-
--- Holds if the tree is an array whose elements the iterator has. Without an iterator the tree counts as one element.
-pub record IsArrayOf (form : Form) (it : ElementIter) (t : Tree) : Type 0 where
-  pub trees : Trees
-  pub is : t ≡ array trees
-  pub left : HasElementsLeft form it trees
-
-pub array_found : (form : Form) (t : Tree) (it : ElementIter) → IsElementsOf form t (Some it) → IsArrayOf form it t
-array_found form t it h = grind arith
 
 pub no_array : (form : Form) (t : Tree) → IsElementsOf form t None → as_elements t ≡ t ∷ []
 no_array form t h = grind arith

@@ -110,22 +110,16 @@ distinct_counts ts t =
 
 -- a tree is counted if it occurs
 counted : (t x : Tree) (ts : List Tree) → is_equal x t ≡ true → 0 < count_of t (x ∷ ts)
-counted t x ts e = let h : count_of t (x ∷ ts) ≡ 1 + count_of t ts = count-cons t x ts ∙ ap (λ b. cond b 1 0 + count_of t ts) e in omega arith
-
-counted_behind : (t x : Tree) (ts : List Tree) → 0 < count_of t ts → 0 < count_of t (x ∷ ts)
-counted_behind t x ts h = let e = count-cons t x ts in omega arith
-
-behind_another : (t x : Tree) (ts : List Tree) → is_equal x t ≡ false → 0 < count_of t (x ∷ ts) → 0 < count_of t ts
-behind_another t x ts e h = let h' : count_of t (x ∷ ts) ≡ 0 + count_of t ts = count-cons t x ts ∙ ap (λ b. cond b 1 0 + count_of t ts) e in omega arith
+counted t x ts e = grind (arith, count-cons t x ts, e)
 
 -- some tree equals it if and only if it is counted
 any_from_count : (t : Tree) (ts : List Tree) → 0 < count_of t ts → list_any (λ u. is_equal t u) ts ≡ true
 any_from_count t [] h = absurd (omega (arith, h))
-any_from_count t (x ∷ ts) h = grind (arith, equal_per.symm t x, any_from_count t ts, behind_another t x ts, h)
+any_from_count t (x ∷ ts) h = grind (arith, equal_per.symm t x, any_from_count t ts, count-cons t x ts, h)
 
 count_from_any : (t : Tree) (ts : List Tree) → list_any (λ u. is_equal t u) ts ≡ true → 0 < count_of t ts
 count_from_any t [] h = absurd (cc)
-count_from_any t (x ∷ ts) h = grind (arith, equal_per.symm t x, count_from_any t ts, counted t x ts, counted_behind t x ts, h)
+count_from_any t (x ∷ ts) h = grind (arith, equal_per.symm t x, count_from_any t ts, count-cons t x ts, h)
 
 -- a value that both lists have
 pub record HasBoth (ts other : List Tree) : Type 0 where
@@ -140,10 +134,9 @@ overlap_value (x ∷ ts) other h = by (list_any (λ u. is_equal x u) other) refl
     by : (b : Bool) → list_any (λ u. is_equal x u) other ≡ b → (overlap ts other ≡ true → HasBoth ts other) → (b || overlap ts other) ≡ true
         → HasBoth (x ∷ ts) other
     by true e rest h' = record { value = x; first = counted x x ts (is_equal_equiv.refl x); second = count_from_any x other e }
-    by false e rest h' = let v = rest h' in record { value = v.value; first = counted_behind v.value x ts v.first; second = v.second }
-
-or_true : (b : Bool) → (b || true) ≡ true
-or_true b = grind arith
+    by false e rest h' =
+        let v = rest h' in
+        record { value = v.value; first = omega (arith, count-cons v.value x ts, v.first); second = v.second }
 
 value_overlaps : (ts other : List Tree) (t : Tree) → 0 < count_of t ts → 0 < count_of t other → overlap ts other ≡ true
 value_overlaps [] other t h k = absurd (omega (arith, h))
@@ -154,7 +147,9 @@ value_overlaps (x ∷ ts) other t h k = by (is_equal x t) refl (λ h'. value_ove
         let same = same_counts x t other e in
         let here : list_any (λ u. is_equal x u) other ≡ true = any_from_count x other (omega arith) in
         ap (λ b. b || overlap ts other) here
-    by false e rest = ap (λ b. list_any (λ u. is_equal x u) other || b) (rest (behind_another t x ts e h)) ∙ or_true (list_any (λ u. is_equal x u) other)
+    by false e rest =
+        let behind : 0 < count_of t ts = grind (arith, count-cons t x ts, e, h) in
+        rw (rest behind) (grind arith)
 
 pub overlap_is_shared : (ts other : List Tree) → IsTrue (overlap ts other) ↔ (intersection_of ts other ≢ [])
 overlap_is_shared ts other = (
@@ -190,16 +185,14 @@ lists_hashed (tree t ts) (tree u us) before a b e p q =
     let same = and_parts (is_equal t u) (are_equal ts us) e in
     let one : p.0 ≡ q.0 = one_part_hash t u p.0 q.0 same.0 p.1 q.1 in
     lists_hashed ts us ((before * 31 + q.0) % 65536) a b same.1 (rw one at p.2) q.2
-lists_hashed no_trees (tree u us) before a b e p q = absurd (true≢false (sym e))
-lists_hashed (tree t ts) no_trees before a b e p q = absurd (true≢false (sym e))
+lists_hashed ts us before a b e p q = absurd (true≢false (sym e))
 
 equal_values : (ps qs : Pairs) → pairs_are_equal ps qs ≡ true → are_equal (values ps) (values qs) ≡ true
 equal_values no_pairs no_pairs e = refl
 equal_values (pair k t ps) (pair l u qs) e =
     let first = and_parts (bytes_eq k l && is_equal t u) (pairs_are_equal ps qs) e in
     rw (and_parts (bytes_eq k l) (is_equal t u) first.0).1 (equal_values ps qs first.1)
-equal_values no_pairs (pair l u qs) e = absurd (true≢false (sym e))
-equal_values (pair k t ps) no_pairs e = absurd (true≢false (sym e))
+equal_values ps qs e = absurd (true≢false (sym e))
 
 -- trees that are equal by value have one hash
 pub one_hash : (t u : Tree) (a b : ℕ) → is_equal t u ≡ true → IsHashOf t a → IsHashOf u b → a ≡ b

@@ -1,24 +1,17 @@
--- The place of a new pair of an object.
-use Rattle.std.specs.Prelude.{◌≡◌, ℕ, List, [], ◌∷◌, ◌++◌, length}
-use Rattle.jsonb_doc.specs.Format.{IsBelowFirst}
-use Rattle.jsonb_doc.specs.Private.Lengths.{AreBelow}
+-- The place of a new member of an object.
+use Rattle.std.specs.Prelude.{◌≡◌, ◌<◌, ℕ, true, false, List, ◌∷◌, ◌++◌, take, drop}
+use Rattle.jsonb_doc.specs.Tree.{Tree, object, Pairs, members}
+use Rattle.jsonb_doc.specs.ObjectBuilder.{insert_pair}
+use Rattle.jsonb_raw.specs.Objects.{has_name}
 use Rattle.jsonb_raw.specs.declared.functions.object.pair_parts.PairPlace.{PairPlace}
 
--- ---- the place of a name
+-- Holds if a member with this key and value is inserted at this place among the members.
+abbrev pub IsInPlace : PairPlace → List ℕ → Tree → List (List ℕ × Tree) → Type 0
+IsInPlace place name t ps =
+    insert_pair name t ps ≡ take place.passed ps ++ (name, t) ∷ drop place.taken (drop place.passed ps)
 
--- Holds if the key in the name's place is the name, or, if there is none, the keys after it are above the name.
-abbrev pub IsInPlace : List ℕ → List (List ℕ) → List (List ℕ) → Type 0
-IsInPlace name [] back = IsBelowFirst name back
-IsInPlace name (key ∷ []) back = key ≡ name
-IsInPlace name _ back = ⊥
-
--- Holds if the name is inserted after these keys, in place of itself if it is among them.
-pub record IsPlaceAmong (place : PairPlace) (name : List ℕ) (ks : List (List ℕ)) : Type 0 where
-  pub front : List (List ℕ)
-  pub there : List (List ℕ)
-  pub back : List (List ℕ)
-  pub joined : ks ≡ front ++ (there ++ back)
-  pub passed : place.passed ≡ length front
-  pub taken : place.taken ≡ length there
-  pub below : AreBelow name front
-  pub is_place : IsInPlace name there back
+-- Holds if members with this key are inserted at this place, in place of the member with the key if there is one.
+pub record IsPlaceAmong (place : PairPlace) (name : List ℕ) (ps : Pairs) : Type 0 where
+  pub there : 0 < place.taken → has_name name (object ps) ≡ true
+  pub missing : place.taken ≡ 0 → has_name name (object ps) ≡ false
+  pub inserted : (t : Tree) → IsInPlace place name t (members ps)

@@ -27,8 +27,8 @@ use std::alloc::Global;
 /// Returns the position of a member with this key among the keys of an object.
 #[tactic(auto, using(crate::proofs::InsertLemmas::place_there, crate::proofs::InsertLemmas::place_before))]
 pub fn pair_place(keys: Entries<'_>, name: &str) -> Result<PairPlace, Error>
-    ensures place { (form : Form) (ks : List (List ℕ)) → HoldTrees form keys.entry (map text ks) → AreKeys ks
-        → IsOkAnd result (λ place. IsPlaceAmong place name.now ks) }
+    ensures place { (form : Form) (ps : Pairs) → HoldTrees form keys.entry (map text (key_list ps))
+        → AreKeys (key_list ps) → IsOkAnd result (λ place. IsPlaceAmong place name.now ps) }
     ensures errors { IfErr result IsDecodingError }
 {
     match keys.key_position(name.as_bytes())? {
@@ -68,7 +68,7 @@ pub fn object_with_pair(
     value: &[u8],
 ) -> Result<OwnedJsonb, Error>
     ensures inserted { (form : Form) (ps : Pairs) (t : Tree) → HoldPairs form pairs.entry (members ps)
-        → AreKeys (key_list ps) → Decodes form value.now t → IsPlaceAmong place key.now (key_list ps)
+        → AreKeys (key_list ps) → Decodes form value.now t → IsPlaceAmong place key.now ps
         → Makes form (object (pairs_of (insert_pair key.now t (members ps)))) result }
     ensures reads { OnOk result (HasRootShape value.now) }
     ensures errors { IfErr result (IsDecodingError or OutOfMemory or TooLarge) }

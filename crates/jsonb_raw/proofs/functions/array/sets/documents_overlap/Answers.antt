@@ -1,5 +1,4 @@
-use Rattle.jsonb_raw.proofs.Lemmas.{◌++◌, refl, arith, List, ℕ, Bor, Result, Ok, Err, Error, OnOk, HasRoot, elements, or_false, array_found, no_array, overlap_one, decoded_fits}
-use Rattle.std.proofs.Common.{length-append}
+use Rattle.jsonb_raw.proofs.Lemmas.{◌++◌, refl, arith, List, ℕ, Bor, Result, Ok, Err, Error, OnOk, HasRoot, elements, or_false, array_of, no_array, overlap_one, decoded_fits, length-append}
 use Rattle.jsonb_doc.specs.AnyBytes.Iterators.{HasWholeArray}
 use Rattle.jsonb_doc.specs.declared.element_iter.ElementIter.{ElementIter}
 use Rattle.jsonb_doc.specs.declared.item.Item.TheVariants as items
@@ -7,26 +6,26 @@ use Rattle.jsonb_raw.proofs.functions.array.sets.documents_overlap.Goals as goal
 
 pub returns-in_ok-array_entries-in-Some-Some-2-clause-overlap : goal.returns-in_ok-array_entries-in-Some-Some-2-clause-overlap
 returns-in_ok-array_entries-in-Some-Some-2-clause-overlap c = λ form other_form t u d e.
-    let a = array_found form t _ (rw c.in-Some-Some.is-0 at (c.in_ok-elements.ensures.decodes form t d)) in
-    let b = array_found other_form u _ (rw c.in-Some-Some.is-1 at (c.in_ok-elements-2.ensures.decodes other_form u e)) in
-    rw (a.is, b.is) (c.entries_overlap.ensures.overlap form other_form a.trees b.trees
-    (c.in_ok-array_entries-in-Some-Some.ensures.decodes form a.trees (rw a.is at d))
-    (c.in_ok-array_entries-in-Some-Some-2.ensures.decodes other_form b.trees (rw b.is at e))
-    (rw a.is at (decoded_fits form c.args.bytes.now t (λ i. omega (arith, c.type_inv.bytes i)) d))
-    (rw b.is at (decoded_fits other_form c.args.other.now u (λ i. omega (arith, c.type_inv.other i)) e)))
+    let a = array_of form t _ _ c.in-Some-Some.is-0 (c.in_ok-elements.ensures.decodes form t d) in
+    let b = array_of other_form u _ _ c.in-Some-Some.is-1 (c.in_ok-elements-2.ensures.decodes other_form u e) in
+    rw (a.1, b.1) (c.entries_overlap.ensures.overlap form other_form a.0 b.0
+    (c.in_ok-array_entries-in-Some-Some.ensures.decodes form a.0 (rw a.1 at d))
+    (c.in_ok-array_entries-in-Some-Some-2.ensures.decodes other_form b.0 (rw b.1 at e))
+    (rw a.1 at (decoded_fits form c.args.bytes.now t (λ i. omega (arith, c.type_inv.bytes i)) d))
+    (rw b.1 at (decoded_fits other_form c.args.other.now u (λ i. omega (arith, c.type_inv.other i)) e)))
 
 pub returns-in_ok-root_item-in-Some-None-clause-overlap : goal.returns-in_ok-root_item-in-Some-None-clause-overlap
 returns-in_ok-root_item-in-Some-None-clause-overlap c = λ form other_form t u d e.
-    let a = array_found form t c.in-Some-None.found (rw c.in-Some-None.is-0 at (c.in_ok-elements.ensures.decodes form t d)) in
+    let a = array_of form t _ _ c.in-Some-None.is-0 (c.in_ok-elements.ensures.decodes form t d) in
     let one = no_array other_form u (rw c.in-Some-None.is-1 at (c.in_ok-elements-2.ensures.decodes other_form u e)) in
-    rw (a.is, one, overlap_one (elements a.trees) u) (c.has_element.ensures.has form other_form a.trees u a.left
+    rw (a.1, one, overlap_one (elements a.0) u) (c.has_element.ensures.has form other_form a.0 u a.2
     (c.in_ok-root_item-in-Some-None.ensures.decodes other_form u e))
 
 pub returns-in_ok-root_item-in-None-Some-clause-overlap : goal.returns-in_ok-root_item-in-None-Some-clause-overlap
 returns-in_ok-root_item-in-None-Some-clause-overlap c = λ form other_form t u d e.
     let one = no_array form t (rw c.in-None-Some.is-0 at (c.in_ok-elements.ensures.decodes form t d)) in
-    let b = array_found other_form u c.in-None-Some.found (rw c.in-None-Some.is-1 at (c.in_ok-elements-2.ensures.decodes other_form u e)) in
-    rw (one, b.is, or_false) (c.has_element-in-None-Some.ensures.has other_form form b.trees t b.left
+    let b = array_of other_form u _ _ c.in-None-Some.is-1 (c.in_ok-elements-2.ensures.decodes other_form u e) in
+    rw (one, b.1, or_false) (c.has_element-in-None-Some.ensures.has other_form form b.0 t b.2
     (c.in_ok-root_item-in-None-Some.ensures.decodes form t d))
 
 pub returns-in_ok-root_item-in-None-None-2-clause-overlap : goal.returns-in_ok-root_item-in-None-None-2-clause-overlap
