@@ -1,5 +1,5 @@
 -- The children of a list, what the iterator over their positions gives, and what calls on children return.
-use Rattle.jsonb_raw.proofs.Common.{slice_get_past, ◌≡◌, ℕ, zero, suc, ◌<◌, pos, List, [], ◌∷◌, length, drop, Option, Some, None, Result, Ok, Err, IsOkAnd, unwrap_or, refl, arith, slice_get, sym, option_and_then, nat_tests, Tree, SameOption, TakesSpot, Locates, HasSpotsLeft, Error, Spot, SpotIter, index_position, ◌↔◌, ℤ, Bool, IsTrue, map, ap, to_ascii_lowercase, bytes_eq-Decides, str_eq_ignore_ascii_case, array, Trees, elements, trees_of-elements, without_index, drop-drop, add-one}
+use Rattle.jsonb_raw.proofs.Common.{Bool, true, false, ◌∙◌, false≢true, slice_get_past, ◌≡◌, ℕ, zero, suc, ◌<◌, pos, List, [], ◌∷◌, length, drop, Option, Some, None, Result, Ok, Err, IsOkAnd, unwrap_or, refl, arith, slice_get, sym, option_and_then, nat_tests, Tree, SameOption, TakesSpot, Locates, HasSpotsLeft, Error, Spot, SpotIter, index_position, ◌↔◌, ℤ, IsTrue, map, ap, to_ascii_lowercase, bytes_eq-Decides, str_eq_ignore_ascii_case, array, Trees, elements, trees_of-elements, without_index, drop-drop, add-one}
 
 -- at first all children are left
 pub all_left : (bytes : List ℕ) (it : SpotIter) (o : Option (List Tree)) → SameOption (HasSpotsLeft bytes) (Some it) o
@@ -70,8 +70,10 @@ drop_one_more n xs = rw (drop-drop 1 n xs, add-one)
 pub without_none : (i : ℤ) (ts : Trees) → index_position (length (elements ts)) i ≡ None → without_index i (array ts) ≡ Some (array ts)
 without_none i ts is = rw is (ap (λ us. Some (array us)) (trees_of-elements ts))
 
--- ---- names
-
 -- a test of the code decides whether strings are the same
 pub decided : (a b : List ℕ) (r : Bool) → (IsTrue r ↔ (map to_ascii_lowercase a ≡ map to_ascii_lowercase b)) → str_eq_ignore_ascii_case a b ≡ r
 decided a b r h = grind (arith, bytes_eq-Decides)
+
+-- a root that is not a scalar
+pub not_scalar : {A : Type 0} (told is : Bool) → told ≡ is → told ≡ false → is ≡ true → A
+not_scalar told is same other scalar = absurd (false≢true (sym other ∙ same ∙ scalar))

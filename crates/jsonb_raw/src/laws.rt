@@ -77,6 +77,7 @@ pub fn printed_key_paths_keep_their_place(text: &[u8])
 /// has the lesser key, whatever may follow each of the two, and trees that are equal by value have one key. So the
 /// byte order of the keys of two documents is the order of the documents, and they have one key if and only if they
 /// are equal by value.
+#[tactic(auto, using(crate::proofs::Sets::laws_sortable_keys))]
 pub fn sortable_keys()
     ensures below { (w : Width) (t u : Tree) (d : ℕ) (r s : List ℕ)
         → HasKey w t d → HasKey w u d → IsRest w d r → IsRest w d s → tree_cmp t u ≡ Less

@@ -52,6 +52,7 @@ impl RawJsonb<'_> {
     /// |---|---|
     /// | `[false,10,{"k":"v"}]` | `3` |
     /// | `{"asd":"adf"}` | none |
+    #[tactic(auto, using(crate::proofs::ObjectLemmas::array_of, crate::proofs::Sets::rawjsonb_array_length))]
     pub fn array_length(&self) -> Result<Option<usize>, Error>
         ensures length { Computes array_length (raw_bytes self.now) result }
         ensures errors { IfErr result IsDecodingError }
@@ -137,6 +138,7 @@ impl RawJsonb<'_> {
 }
 
 /// Returns each of these entries as a new document.
+#[tactic(auto, using(crate::proofs::AnswerLemmas::all_made, crate::proofs::RunLemmas::no_entry_left))]
 fn entry_documents(alloc: Global, entries: Entries<'_>) -> Result<Vec<OwnedJsonb>, Error>
     ensures documents { (form : Form) (ts : List Tree) → HoldTrees form entries.entry ts
         → MatchResult result (λ made. AllZip (Decodes form) made.items ts)

@@ -134,6 +134,7 @@ impl RawJsonb<'_> {
     /// |---|---|
     /// | `-0.005` | `-0.005` |
     /// | `null` | refused: `InvalidCast` |
+    #[tactic(auto, using(crate::proofs::AnswerLemmas::no_text))]
     pub fn to_str(&self, alloc: Global) -> Result<String, Error>
         ensures value { (form : Form) (tree : Tree) → Decodes form (raw_bytes self.now) tree
             → CastsToText (text_of tree) result }

@@ -53,6 +53,7 @@ impl RawJsonb<'_> {
     /// | Document | Arguments | Result |
     /// |---|---|---|
     /// | `{"a":null,"b":[null]}` | `a`, `missing` | `{"a":null}` |
+    #[tactic(auto, using(crate::proofs::PartedRuns::no_pairs_there))]
     pub fn object_pick(&self, alloc: Global, keys: &BTreeSet<&str>) -> Result<OwnedJsonb, Error>
         ensures pairs { (form : Form) (t : Tree) → Decodes form (raw_bytes self.now) t
             → MatchOption (object_pick keys.now t) (result ≡ Err InvalidObject) (λ wanted. Makes form wanted result) }
@@ -83,6 +84,7 @@ impl RawJsonb<'_> {
     /// | Document | Arguments | Result |
     /// |---|---|---|
     /// | `{"a":null,"b":[null]}` | `a`, `missing` | `{"b":[null]}` |
+    #[tactic(auto, using(crate::proofs::PartedRuns::no_pairs_there))]
     pub fn object_delete(&self, alloc: Global, keys: &BTreeSet<&str>) -> Result<OwnedJsonb, Error>
         ensures pairs { (form : Form) (t : Tree) → Decodes form (raw_bytes self.now) t
             → MatchOption (object_delete keys.now t) (result ≡ Err InvalidObject) (λ wanted. Makes form wanted result) }
@@ -255,6 +257,7 @@ fn pairs_by_set<'a>(
 /// Returns the keys of these members, each with its value as a new document. The keys are one after the other, so that
 /// all of them are read as one string, which is then split: for 40 members `object_each` takes 37,277 instructions
 /// instead of 40,870.
+#[tactic(auto, using(crate::proofs::AnswerLemmas::all_made, crate::proofs::RunLemmas::no_pair_left))]
 fn owned_pairs(alloc: Global, pairs: PairEntries<'_>) -> Result<Vec<(String, OwnedJsonb)>, Error>
     ensures pairs { (form : Form) (ps : List (List ℕ × Tree)) → HoldPairs form pairs.entry ps
         → MatchResult result (λ made. AllZip (IsPairOf string_bytes form) made.items ps)

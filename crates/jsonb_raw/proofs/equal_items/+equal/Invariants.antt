@@ -1,5 +1,4 @@
-use Rattle.jsonb_raw.proofs.Common.{◌≤◌, ◌+◌, ◌*◌, length, IfSome, Tree, Trees, is_equal, are_equal, Form, StandsFor, item_size, HasEntriesLeft, entries_room, Decides}
-use Rattle.jsonb_raw.proofs.EntriesLeft.{SomeEntries}
+use Rattle.jsonb_raw.proofs.Lemmas.{◌≤◌, ◌+◌, ◌*◌, length, IfSome, Tree, Trees, is_equal, are_equal, Form, StandsFor, item_size, HasEntriesLeft, entries_room, Decides, SomeEntries}
 use Rattle.jsonb_raw.proofs.EntryEquals.{Aside, IsAnswer, first_left}
 use Rattle.jsonb_raw.proofs.equal_items.+equal.Given as goal
 

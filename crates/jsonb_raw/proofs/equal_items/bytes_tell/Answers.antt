@@ -1,5 +1,4 @@
-use Rattle.jsonb_raw.proofs.Common.{Some, sym, ◌∙◌, bytes_eq-Decides, equal_kind}
-use Rattle.jsonb_raw.proofs.EntryEquals.{same_tell, numbers_tell}
+use Rattle.jsonb_raw.proofs.Lemmas.{Some, sym, ◌∙◌, bytes_eq-Decides, equal_kind, same_tell, numbers_tell}
 use Rattle.jsonb_raw.proofs.equal_items.bytes_tell.Goals as goal
 
 pub returns-in-Some-Some : goal.returns-in-Some-Some

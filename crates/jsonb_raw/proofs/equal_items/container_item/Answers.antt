@@ -1,5 +1,4 @@
-use Rattle.jsonb_raw.proofs.Common.{◌≡◌, ap, arith}
-use Rattle.jsonb_doc.proofs.Common.{header_number}
+use Rattle.jsonb_raw.proofs.Lemmas.{ap, header_number}
 use Rattle.jsonb_doc.proofs.Containers.{array_content, object_content}
 use Rattle.jsonb_raw.proofs.equal_items.container_item.Goals as goal
 

@@ -1,5 +1,4 @@
-use Rattle.jsonb_raw.proofs.Common.{◌≡◌, false, sym, ◌∙◌, is_equal}
-use Rattle.jsonb_raw.proofs.EntriesLeft.{SomeEntries-first, SomeEntries-none, passes_next}
+use Rattle.jsonb_raw.proofs.Lemmas.{◌≡◌, false, sym, ◌∙◌, is_equal, SomeEntries-first, SomeEntries-none, passes_next}
 use Rattle.jsonb_raw.proofs.equal_items.find_equal.Goals as goal
 
 pub loop-entry-preserved : goal.loop-entry-preserved

@@ -1,6 +1,5 @@
-use Rattle.jsonb_raw.proofs.Common.{◌≡◌, list_any, Tree, Trees, elements, is_equal, Form, HasEntriesLeft, Stores, entries_bound, PassesOver}
+use Rattle.jsonb_raw.proofs.Lemmas.{◌≡◌, list_any, Tree, Trees, elements, is_equal, Form, HasEntriesLeft, Stores, entries_bound, PassesOver, SomeEntries}
 use Rattle.jsonb_raw.proofs.equal_items.find_equal.Given as goal
-use Rattle.jsonb_raw.proofs.EntriesLeft.{SomeEntries}
 
 -- no entry so far is equal, so those that are left decide
 abbrev pub invariant-loop-entry : goal.invariant-loop-entry

@@ -1,5 +1,4 @@
-use Rattle.jsonb_raw.proofs.Common.{◌≡◌, true, false, sym, ◌∙◌, elements, is_equal}
-use Rattle.jsonb_raw.proofs.EntriesLeft.{SomeEntries-first, SomeEntries-error, SomeEntries-none, take_one, take_no, take_zero}
+use Rattle.jsonb_raw.proofs.Lemmas.{◌≡◌, true, false, sym, ◌∙◌, elements, is_equal, SomeEntries-first, SomeEntries-error, SomeEntries-none, take_one, take_no, take_zero}
 use Rattle.jsonb_raw.proofs.equal_items.find_equal_among.Goals as goal
 
 pub returns-in_default-clause-found : goal.returns-in_default-clause-found

@@ -1,6 +1,5 @@
-use Rattle.jsonb_raw.proofs.Common.{◌≡◌, take, list_any, Tree, Trees, elements, is_equal, Form, HasEntriesLeft, Stores}
+use Rattle.jsonb_raw.proofs.Lemmas.{◌≡◌, take, list_any, Tree, Trees, elements, is_equal, Form, HasEntriesLeft, Stores, SomeEntries}
 use Rattle.jsonb_raw.proofs.equal_items.find_equal_among.Given as goal
-use Rattle.jsonb_raw.proofs.EntriesLeft.{SomeEntries}
 
 -- no entry so far is equal, so the next of those that are left decide
 abbrev pub invariant-loop-more : goal.invariant-loop-more

@@ -1,4 +1,4 @@
-use Rattle.jsonb_raw.proofs.Common.{◌∙◌, sym, equal_in_trees}
+use Rattle.jsonb_raw.proofs.Lemmas.{◌∙◌, sym, equal_in_trees}
 use Rattle.jsonb_raw.proofs.equal_items.numbers_equal.Goals as goal
 
 pub returns : goal.returns

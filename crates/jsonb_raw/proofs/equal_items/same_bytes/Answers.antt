@@ -1,4 +1,4 @@
-use Rattle.jsonb_raw.proofs.Common.{bytes_eq-Decides, same_from_decides}
+use Rattle.jsonb_raw.proofs.Lemmas.{bytes_eq-Decides, same_from_decides}
 use Rattle.jsonb_raw.proofs.equal_items.same_bytes.Goals as goal
 
 pub returns : goal.returns

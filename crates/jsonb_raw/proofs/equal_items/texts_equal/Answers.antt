@@ -1,5 +1,4 @@
-use Rattle.jsonb_raw.proofs.Common.{rules, ◌≡◌, Bool, true, false, sym, ◌∙◌, is_equal, are_equal, key_trees, arith}
-use Rattle.jsonb_raw.proofs.EntriesLeft.{SomeEntries-first, SomeEntries-error, SomeEntries-none}
+use Rattle.jsonb_raw.proofs.Lemmas.{rules, ◌≡◌, Bool, true, false, sym, ◌∙◌, is_equal, are_equal, key_trees, arith, SomeEntries-first, SomeEntries-error, SomeEntries-none}
 use Rattle.jsonb_raw.proofs.EntryEquals.{told_none, key_trees_are_texts, first_text, texts_by_bytes, entries_ended}
 use Rattle.jsonb_raw.proofs.equal_items.texts_equal.Goals as goal
 

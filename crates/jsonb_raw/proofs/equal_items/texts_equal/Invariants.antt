@@ -1,6 +1,4 @@
-use Rattle.jsonb_raw.proofs.Common.{◌≡◌, ℕ, List, are_equal, Form, HasEntriesLeft, key_trees}
-use Rattle.jsonb_raw.proofs.EntriesLeft.{SomeEntries}
-use Rattle.jsonb_raw.proofs.EntryEquals.{AreTexts}
+use Rattle.jsonb_raw.proofs.Lemmas.{◌≡◌, ℕ, List, are_equal, Form, HasEntriesLeft, key_trees, SomeEntries, AreTexts}
 use Rattle.jsonb_raw.proofs.equal_items.texts_equal.Given as goal
 
 -- what is left of both decides what all decides

@@ -1,5 +1,4 @@
-use Rattle.jsonb_raw.proofs.Lemmas.{arith, ap₂, ◌∙◌, ◌++◌, ◌∷◌, [], append_assoc, to_be_bytes}
-use Rattle.std.specs.Int.{w32}
+use Rattle.jsonb_raw.proofs.Lemmas.{arith, ap₂, ◌∙◌, ◌++◌, ◌∷◌, [], append_assoc, to_be_bytes, w32}
 use Rattle.jsonb_raw.proofs.equality_key.push_count.Goals as goal
 
 pub returns : goal.returns

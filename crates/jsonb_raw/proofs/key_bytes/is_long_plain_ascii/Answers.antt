@@ -1,5 +1,4 @@
-use Rattle.jsonb_raw.proofs.Lemmas.{◌≡◌, ◌*◌, ◌/◌, ◌-◌, length, drop, arith, all_ends}
-use Rattle.jsonb_raw.specs.Private.PlainWords.{is_plain_ascii}
+use Rattle.jsonb_raw.proofs.Lemmas.{◌≡◌, ◌*◌, ◌/◌, ◌-◌, length, drop, arith, all_ends, is_plain_ascii}
 use Rattle.jsonb_raw.proofs.key_bytes.is_long_plain_ascii.Goals as goal
 
 pub returns-then-is_plain_ascii : goal.returns-then-is_plain_ascii

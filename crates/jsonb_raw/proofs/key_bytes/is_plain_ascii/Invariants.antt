@@ -1,6 +1,4 @@
-use Rattle.jsonb_raw.proofs.Lemmas.{◌≡◌, take, list_all}
-use Rattle.jsonb_raw.specs.Private.PlainWords.{is_plain_ascii}
-use Rattle.std.specs.Prelude.{int_lt, pos}
+use Rattle.jsonb_raw.proofs.Lemmas.{◌≡◌, take, list_all, is_plain_ascii, int_lt, pos}
 use Rattle.jsonb_raw.proofs.key_bytes.is_plain_ascii.Given as goal
 
 -- so far

@@ -1,8 +1,5 @@
-use Rattle.jsonb_raw.proofs.Lemmas.{refl, ap, ◌∙◌, arith, complement_byte, length-digits_of-le, map-append, digit_packed}
+use Rattle.jsonb_raw.proofs.Lemmas.{refl, ap, ◌∙◌, arith, complement_byte, digit_packed}
 use Rattle.jsonb_raw.proofs.key_bytes.pack_digits.Goals as goal
-
-pub loop-left-init : goal.loop-left-init
-loop-left-init c = grind (arith, length-digits_of-le, map-append)
 
 pub loop-left-preserved : goal.loop-left-preserved
 loop-left-preserved c =

@@ -1,4 +1,4 @@
-use Rattle.jsonb_raw.proofs.Lemmas.{rules, arith, refl, ap, ◌∙◌, complement_byte, room_left, digit_passed, all_digits, no_digits}
+use Rattle.jsonb_raw.proofs.Lemmas.{arith, refl, ap, ◌∙◌, complement_byte, room_left, digit_passed}
 use Rattle.jsonb_raw.proofs.key_bytes.write_digits.Goals as goal
 
 pub write_before-first-requires-clause-some : goal.write_before-first-requires-clause-some
@@ -17,9 +17,3 @@ loop-left-preserved c =
     digit_passed _ _ _ _ _ _ _ c.loop-left.invariant _ _ _ _ c.requires.room (omega arith) refl
     (c.complement_byte-in-loop-left.ensures ∙ ap (complement_byte c.args.negative) (omega arith))
     c.write_before-first-in-loop-left.ensures.place c.write_before-first-in-loop-left.ensures.buffer
-
-pub returns-clause-first : goal.returns-clause-first
-returns-clause-first c = search (rules, no_digits)
-
-pub returns-clause-buffer : goal.returns-clause-buffer
-returns-clause-buffer c = search (rules, all_digits)

@@ -141,6 +141,7 @@ fn kept_item(
 }
 
 /// Returns the array of the elements of a document that are kept. A root that is not an array counts as one element.
+#[tactic(auto, using(crate::proofs::Sets::sets_kept_of_document))]
 fn kept_of_document(
     alloc: Global,
     kind: SetOperation,

@@ -85,6 +85,7 @@ impl<'s, 'n> SortedNames<'s, 'n> {
 
     /// Returns the first of these keys and those after it that are all among the names, or all not, or `None` if there
     /// is no key. No later key may be below them.
+    #[tactic(auto, using(crate::proofs::PartedRuns::no_member_left, crate::proofs::PartedRuns::next_member))]
     pub fn next_run<'a>(&mut self, keys: Entries<'a>) -> Result<Option<KeyRun<'a>>, Error>
         ensures run { (form : Form) (ps : List (List ℕ × Tree)) → HoldTrees form keys.entry (map text (keys_of ps))
             → AreKeys (keys_of ps) → DecideForKeys self.old.names.now (names_left self.old) (keys_of ps)

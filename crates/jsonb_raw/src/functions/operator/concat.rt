@@ -73,6 +73,7 @@ impl RawJsonb<'_> {
 
 /// Returns the object of the members of both, sorted by key. Both are visited in step, and consecutive members of one
 /// are copied as one run. If both have a key, the member of the first is left out.
+#[tactic(auto, using(crate::proofs::InsertLemmas::merging_begun, crate::proofs::Sets::concat_merged_pairs))]
 fn merged_pairs<'a>(
     alloc: Global,
     first: PairEntries<'a>,

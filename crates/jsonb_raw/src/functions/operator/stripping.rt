@@ -172,6 +172,7 @@ fn all_values<'a>(container: &ContainerEntries<'a>) -> ValuesLeft<'a>
 
 /// Appends the values before the next container, without the nulls that are left out. Returns that container and the
 /// entries after it, or `None` if there is none.
+#[tactic(auto, using(crate::proofs::StripWalk::scalars_begun))]
 fn put_scalars<'a>(
     writer: &mut Writer,
     left: ValuesLeft<'a>,
@@ -202,6 +203,7 @@ fn put_scalars<'a>(
 }
 
 /// Creates a writer of a container without nulls, and appends its keys.
+#[tactic(auto, using(crate::proofs::StripWalk::begun_with, crate::proofs::StripWalk::kept_makes))]
 fn begin<'a>(
     alloc: Global,
     container: &ContainerEntries<'a>,
@@ -243,6 +245,7 @@ fn enter<'a>(
 
 /// Returns the document of a container without the null members of its objects. The containers around the innermost one
 /// are kept in a `Vec`.
+#[tactic(auto, using(crate::proofs::Sets::stripping_strip_container))]
 pub fn strip_container(
     alloc: Global,
     container: &ContainerEntries<'_>,

@@ -63,6 +63,7 @@ impl RawJsonb<'_> {
     /// |---|---|---|
     /// | `[10,20,30]` | `1` | `20` |
     /// | `[10,20,30]` | `3` | none |
+    #[tactic(auto, using(crate::proofs::Sets::rawjsonb_get_by_index))]
     pub fn get_by_index(&self, alloc: Global, index: usize) -> Result<Option<OwnedJsonb>, Error>
         ensures element { (form : Form) (t : Tree) → Decodes form (raw_bytes self.now) t
             → MakesOption form (element_at index t) result }
@@ -116,6 +117,7 @@ impl RawJsonb<'_> {
     /// | `get_by_name` | `{"a":` a float `}` | `a` | refused: `UnsupportedNumber` |
     // Inlined: as a call, a root without members takes 75 instructions, since the search saves registers.
     #[inline(always)]
+    #[tactic(auto, using(crate::proofs::Sets::rawjsonb_get_by_name))]
     pub fn get_by_name(
         &self,
         alloc: Global,
@@ -164,6 +166,7 @@ impl RawJsonb<'_> {
     /// | `[10,20,30]` | `-1` | `[10,20]` |
     /// | `[10,20,30]` | `3` | `[10,20,30]` |
     /// | `{"asd":"adf"}` | `0` | refused: `InvalidJsonType` |
+    #[tactic(auto, using(crate::proofs::Sets::rawjsonb_delete_by_index))]
     pub fn delete_by_index(&self, alloc: Global, index: i32) -> Result<OwnedJsonb, Error>
         ensures deleted { (form : Form) (t : Tree) → Decodes form (raw_bytes self.now) t
             → MatchOption (without_index index t) (result ≡ Err InvalidJsonType) (λ wanted. Makes form wanted result) }
@@ -255,6 +258,7 @@ fn found_document(alloc: Global, kind: EntryKind, content: &[u8]) -> Result<Owne
 
 /// Returns one of the entries as a new document. Inlined: as a call it takes 40 instructions more.
 #[inline(always)]
+#[tactic(auto, using(crate::proofs::Sets::child_element_document))]
 fn element_document(
     alloc: Global,
     entries: Entries<'_>,
@@ -320,6 +324,7 @@ pub(super) fn position_ignoring_case(
 }
 
 /// Returns the value of the key, otherwise that of the first key that equals it under ASCII case folding.
+#[tactic(auto, using(crate::proofs::Sets::child_value_ignoring_case))]
 fn value_ignoring_case(alloc: Global, bytes: &[u8], name: &str) -> Result<Option<OwnedJsonb>, Error>
     ensures found { (form : Form) (t : Tree) → Decodes form bytes.now t
         → Finds form (named_child name.now true t) result }
@@ -376,6 +381,7 @@ fn is_text(item: &Item<'_>, name: &str) -> bool
 }
 
 /// Returns the array without the strings that equal the name.
+#[tactic(auto, using(crate::proofs::IteratorItems::elements_begun))]
 fn array_without_text(alloc: Global, bytes: &[u8], name: &str) -> Result<OwnedJsonb, Error>
     ensures deleted { (form : Form) (ts : Trees) → Decodes form bytes.now (array ts)
         → Makes form (array (trees_of (filter (λ t. not (is_text name.now t)) (element_list ts)))) result }

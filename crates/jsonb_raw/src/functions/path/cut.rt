@@ -79,6 +79,7 @@ fn put_others(writer: &mut Writer, parent: &ParentEntries<'_>) -> Result<(), Err
 
 /// Returns the document of a container without the child. Its words are written once: in an array of 1,000 elements a
 /// `Writer`, which clears their room first, takes up to three times the instructions.
+#[tactic(auto, using(crate::proofs::Sets::cut_container_of_others))]
 fn container_of_others(alloc: Global, parent: &ParentEntries<'_>) -> Result<Vec<u8>, Error>
     ensures container { (form : Form) (names front after : List Tree) (n : ℕ) (t : Tree)
         → HoldTrees form parent.now.keys names → HoldTrees form parent.now.front front
@@ -100,6 +101,7 @@ fn container_of_others(alloc: Global, parent: &ParentEntries<'_>) -> Result<Vec<
 
 /// Writes the containers, each within the one before it, without the innermost child. They remain open. Returns the
 /// writer, and the containers around the innermost one.
+#[tactic(auto, using(crate::proofs::CutLemmas::room_less))]
 fn write_down<'a>(
     alloc: Global,
     outermost: &ParentEntries<'a>,

@@ -55,7 +55,7 @@ fn decimal_position(alloc: Global, keys: Entries<'_>, index: i32) -> Result<Opti
 }
 
 /// Returns the position of the child that a step selects.
-#[tactic(auto, using(crate::proofs::PositionLemmas::of_array))]
+#[tactic(auto, using(crate::proofs::PositionLemmas::of_array, crate::proofs::Sets::delete_child_position))]
 fn child_position(
     alloc: Global,
     container: &ContainerEntries<'_>,
@@ -81,6 +81,7 @@ fn child_position(
 }
 
 /// Returns the entries of a container around the child that a step selects, and the child.
+#[tactic(auto, using(crate::proofs::Sets::delete_split_container))]
 fn split_container<'a>(
     alloc: Global,
     container: &'a [u8],
@@ -113,6 +114,7 @@ fn split_container<'a>(
 }
 
 /// Returns the child that a step selects, with the entries around it.
+#[tactic(auto, using(crate::proofs::CutLemmas::no_children, crate::proofs::Sets::delete_split_at_step))]
 fn split_at_step<'a>(
     alloc: Global,
     entry: StoredEntry<'a>,
@@ -204,6 +206,7 @@ impl RawJsonb<'_> {
     /// | `[false,10,{"k":"v"}]` | `{2,k}` | `[false,10,{}]` |
     /// | `[false,10,{"k":"v"}]` | `{-4}` | `[false,10,{"k":"v"}]` |
     /// | `5` | `{0}` | refused: `InvalidJsonType` |
+    #[tactic(auto, using(crate::proofs::ChildLemmas::not_scalar))]
     pub fn delete_by_keypath<'k, I: Iterator<Item = &'k KeyPath<'k>> + Drop>(
         &self,
         alloc: Global,

@@ -136,6 +136,7 @@ fn parts_entered<'a>(item: &Item<'a>, ignore_array: bool) -> Result<Option<Child
 
 /// Returns the children of an entry that is entered, or `None` for a leaf.
 #[inline(always)]
+#[tactic(auto, using(crate::proofs::LevelLemmas::stored_container, crate::proofs::Sets::leaves_entry_entered))]
 fn entry_entered<'a>(
     entry: &StoredEntry<'a>,
     ignore_array: bool,
@@ -223,6 +224,7 @@ fn text_value(characters: &str) -> Value<'_>
 
 /// Appends the leaf of a string with these bytes.
 #[inline(always)]
+#[tactic(auto, using(crate::proofs::Sets::leaves_push_text))]
 fn push_text<'a>(
     bytes: &'a [u8],
     path: KeyPaths<'a>,
@@ -250,6 +252,7 @@ fn number_value<'a>(short: ShortNumber) -> Value<'a>
 /// Appends the leaf of a value of another type. It takes the entry's parts, so that the walk keeps no entry in
 /// memory. A 64-bit number is not read as an item.
 #[inline(never)]
+#[tactic(auto, using(crate::proofs::Sets::leaves_push_value))]
 fn push_value<'a>(
     alloc: Global,
     kind: EntryKind,

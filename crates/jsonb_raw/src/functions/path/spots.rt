@@ -79,6 +79,7 @@ impl RawJsonb<'_> {
 }
 
 /// Returns the spot of the value of the key, otherwise that of the first key that equals it under ASCII case folding.
+#[tactic(auto, using(crate::proofs::PartedRuns::pairs_there, crate::proofs::PositionLemmas::named_at_none))]
 fn spot_ignoring_case(bytes: &[u8], root: Spot, name: &str) -> Result<Option<Spot>, Error>
     ensures value { (form : Form) (t : Tree) → Decodes form bytes.now t → Locates bytes.now root t
         → IsOkAnd result (λ found. SameOption (Locates bytes.now) found (named_child name.now true t)) }

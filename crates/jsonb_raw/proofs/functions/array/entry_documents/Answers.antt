@@ -1,6 +1,4 @@
-use Rattle.jsonb_raw.proofs.Lemmas.{rules, arith, ap, length, failed, none_made, one_made, all_made, element_refused_in_list, entry_taken, no_entry_left}
-use Rattle.std.proofs.lemmas.List.Elements.{All-same, All-push}
-use Rattle.jsonb_raw.specs.AnyBytes.Roots.{IsWhole}
+use Rattle.jsonb_raw.proofs.Lemmas.{rules, arith, ap, length, failed, none_made, one_made, element_refused_in_list, entry_taken, All-same, All-push, IsWhole}
 use Rattle.jsonb_raw.proofs.functions.array.entry_documents.Goals as goal
 
 pub loop-documents-init : goal.loop-documents-init
@@ -21,6 +19,3 @@ returns-in_err-entry_document-clause-documents c = λ form ts h.
     let f = entry_taken form _ i.0 _ _ _ c.in-Some.is (c.in_ok-entry.ensures.first form _ i.1) in
     failed _ _ _ c.from_residual-in_err-entry_document.ensures.1 (element_refused_in_list form _ f.t f.rest ts c.in_err-entry_document.field-0.0 (rw f.split at i.2)
     (c.in_err-entry_document.ensures.document form f.t f.is_first.part))
-
-pub returns-clause-documents : goal.returns-clause-documents
-returns-clause-documents c = search (rules, all_made, no_entry_left)

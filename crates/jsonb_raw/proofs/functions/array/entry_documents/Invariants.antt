@@ -1,6 +1,4 @@
-use Rattle.jsonb_raw.proofs.Lemmas.{List, length, Tree, Form, Decodes, HoldTrees, Made}
-use Rattle.std.specs.List.{All}
-use Rattle.jsonb_raw.specs.AnyBytes.Roots.{IsWhole}
+use Rattle.jsonb_raw.proofs.Lemmas.{List, length, Tree, Form, Decodes, HoldTrees, Made, All, IsWhole}
 use Rattle.jsonb_raw.proofs.functions.array.entry_documents.Given as goal
 
 -- the documents that were made, followed by the entries that are left, are the whole

@@ -1,5 +1,4 @@
-use Rattle.jsonb_raw.proofs.Lemmas.{◌≡◌, inl, inr, sym, subst, ap, arith, ℕ, number_reader, header_number, HasContent-kind, headed}
-use Rattle.jsonb_doc.specs.AnyBytes.Parts.{IsHeaded}
+use Rattle.jsonb_raw.proofs.Lemmas.{◌≡◌, inl, inr, subst, ap, arith, ℕ, number_reader, header_number, HasContent-kind, headed, IsHeaded}
 use Rattle.jsonb_raw.proofs.functions.entries.check_header.Goals as goal
 
 pub returns-in_default-clause-decodes : goal.returns-in_default-clause-decodes

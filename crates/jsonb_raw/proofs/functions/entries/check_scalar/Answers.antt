@@ -1,7 +1,5 @@
-use Rattle.jsonb_raw.proofs.Lemmas.{◌≡◌, ◌≢◌, ◌⊎◌, ℕ, List, inl, inr, sym, ◌∙◌, number_reader, any, Tree, IsContent, kind_number}
-use Rattle.jsonb_raw.proofs.Common.{eqb-true, number, short_value}
+use Rattle.jsonb_raw.proofs.Lemmas.{◌≢◌, ℕ, List, inl, inr, sym, ◌∙◌, number_reader, any, Tree, IsContent, eqb-true, number, short_value, Item}
 use Rattle.jsonb_doc.specs.AnyBytes.Items.{IsItemOf}
-use Rattle.jsonb_doc.specs.declared.item.Item.{Item}
 use Rattle.jsonb_doc.specs.declared.item.Item.TheVariants.{Array, Object}
 use Rattle.jsonb_raw.proofs.functions.entries.check_scalar.Goals as goal
 

@@ -1,5 +1,4 @@
-use Rattle.jsonb_doc.proofs.ItemLemmas.{array_root}
-use Rattle.jsonb_raw.proofs.Lemmas.{refl, Decodes-array, entries_of_array}
+use Rattle.jsonb_raw.proofs.Lemmas.{refl, Decodes-array, entries_of_array, array_root}
 use Rattle.jsonb_doc.specs.declared.shape.Shape.TheVariants as shapes
 use Rattle.jsonb_doc.specs.declared.item.Item.TheVariants as items
 use Rattle.jsonb_raw.proofs.functions.entries.element_entries.Goals as goal

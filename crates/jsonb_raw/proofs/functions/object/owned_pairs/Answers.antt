@@ -1,6 +1,4 @@
-use Rattle.jsonb_raw.proofs.Lemmas.{rules, false≢true, arith, ap, length, ◌≡◌, ◌++◌, [], ◌∷◌, string_bytes, IsPairOf, failed, none_made, one_made, all_made, pair_refused_in_list, others_hold, pair_taken, no_pair_left, no_members, names_read, name_split, name_boundary}
-use Rattle.std.proofs.lemmas.List.Elements.{All-same, All-push}
-use Rattle.jsonb_raw.specs.AnyBytes.Roots.{IsWholePair}
+use Rattle.jsonb_raw.proofs.Lemmas.{rules, false≢true, arith, ap, length, ◌≡◌, ◌++◌, [], ◌∷◌, string_bytes, IsPairOf, failed, none_made, one_made, pair_refused_in_list, others_hold, pair_taken, no_members, names_read, name_split, name_boundary, All-same, All-push, IsWholePair}
 use Rattle.jsonb_raw.proofs.functions.object.owned_pairs.Goals as goal
 
 pub returns-then-entry_count-eq0-clause-pairs : goal.returns-then-entry_count-eq0-clause-pairs
@@ -52,6 +50,3 @@ returns-in_err-owned_pair-clause-pairs c = λ form ps h.
     let f = pair_taken form _ i.0 _ _ c.in-Some.is (c.in_ok-pair.ensures.first form _ i.1) in
     failed _ _ _ c.from_residual-in_err-owned_pair.ensures.1 (pair_refused_in_list form _ c.in-Some.pair.key.now f.value f.rest ps c.in_err-owned_pair.field-0.0 (rw f.split at i.2)
     (c.in_err-owned_pair.ensures.pair form f.value f.is_first.value.part))
-
-pub returns-clause-pairs : goal.returns-clause-pairs
-returns-clause-pairs c = search (rules, all_made, no_pair_left)

@@ -1,8 +1,6 @@
-use Rattle.jsonb_raw.proofs.Lemmas.{List, ℕ, ◌≡◌, length, string_bytes, Tree, Form, IsPairOf, HoldPairs, Made}
-use Rattle.std.specs.List.{All}
+use Rattle.jsonb_raw.proofs.Lemmas.{List, ℕ, ◌≡◌, length, string_bytes, Tree, Form, IsPairOf, HoldPairs, Made, All, IsWholePair}
 use denote.Shadow.{shadow}
 use denote.Text.{Utf8}
-use Rattle.jsonb_raw.specs.AnyBytes.Roots.{IsWholePair}
 use Rattle.jsonb_raw.proofs.functions.object.owned_pairs.Given as goal
 
 -- the pairs that were made, followed by those that are left, are the whole, and the names of these are left of the text

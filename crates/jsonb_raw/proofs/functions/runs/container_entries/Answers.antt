@@ -1,7 +1,5 @@
-use Rattle.jsonb_raw.proofs.Lemmas.{refl, Decodes-array, Decodes-object, arith, array_entries_are, object_entries_are, no_parts}
+use Rattle.jsonb_raw.proofs.Lemmas.{refl, Decodes-array, Decodes-object, arith, array_entries_are, object_entries_are, no_parts, length-append, array_root, object_root}
 use Rattle.jsonb_raw.proofs.Common.{many_keys}
-use Rattle.std.proofs.lemmas.List.{length-append}
-use Rattle.jsonb_doc.proofs.ItemLemmas.{array_root, object_root}
 use Rattle.jsonb_doc.specs.declared.shape.Shape.TheVariants as shapes
 use Rattle.jsonb_raw.proofs.functions.runs.container_entries.Goals as goal
 

@@ -1,5 +1,4 @@
-use Rattle.jsonb_raw.proofs.Common.{subst, array, trees_of, Decodes, Makes}
-use Rattle.jsonb_raw.proofs.SetKept.{shared_one}
+use Rattle.jsonb_raw.proofs.Lemmas.{subst, array, trees_of, Decodes, Makes, shared_one}
 use Rattle.jsonb_raw.proofs.raw.RawJsonb.array_intersection.Goals as goal
 
 pub returns-in-Some-clause-shared : goal.returns-in-Some-clause-shared

@@ -1,4 +1,4 @@
-use Rattle.jsonb_raw.proofs.Lemmas.{arith, ◌≡◌, Some, length, sym, ap, ◌∙◌, w32, remove, to_z-of_z, array, elements, trees_of, HoldTrees, index_position, without_index, refl, array_of_entries, without_none}
+use Rattle.jsonb_raw.proofs.Lemmas.{arith, ◌≡◌, Some, length, sym, ap, ◌∙◌, w32, remove, to_z-of_z, array, elements, trees_of, HoldTrees, index_position, without_index, refl, array_of_entries}
 use Rattle.jsonb_raw.proofs.raw.RawJsonb.delete_by_index.Goals as goal
 
 pub returns-in-Some-index_position-clause-deleted : goal.returns-in-Some-index_position-clause-deleted
@@ -9,9 +9,6 @@ returns-in-Some-index_position-clause-deleted c = λ form t d.
     ≡ Some (array (trees_of (remove (elements o.0) c.in-Some-index_position.position))) = ap (without_index c.args.index) o.1
     ∙ rw found refl in
     rw is (c.array_without_element.ensures.deleted form (elements o.0) o.2)
-
-pub returns-in_ok-from_slice-in-None-clause-deleted : goal.returns-in_ok-from_slice-in-None-clause-deleted
-returns-in_ok-from_slice-in-None-clause-deleted c = grind (arith, array_of_entries, to_z-of_z, without_none)
 
 pub returns-in_err-entries-clause-unchanged : goal.returns-in_err-entries-clause-unchanged
 returns-in_err-entries-clause-unchanged c = λ form ts d none.

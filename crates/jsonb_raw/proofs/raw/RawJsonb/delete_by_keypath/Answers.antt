@@ -1,9 +1,6 @@
-use Rattle.jsonb_raw.proofs.Lemmas.{rules, ◌≡◌, Bool, true, false, arith, sym, ◌∙◌, false≢true, err_from_is_err_and, Decodes, empty_of, keys_view, AreShort, refl, no_place, some_place, no_way, same_decodes, without_part, part_met, part_out}
+use Rattle.jsonb_raw.proofs.Lemmas.{rules, sym, ◌∙◌, err_from_is_err_and, Decodes, empty_of, keys_view, AreShort, refl, no_place, some_place, no_way, same_decodes, without_part, part_met, part_out}
 use Rattle.jsonb_raw.proofs.CutLemmas.{without_none}
 use Rattle.jsonb_raw.proofs.raw.RawJsonb.delete_by_keypath.Goals as goal
-
-not_scalar : {A : Type 0} (told is : Bool) → told ≡ is → told ≡ false → is ≡ true → A
-not_scalar told is same other scalar = absurd (false≢true (sym other ∙ same ∙ scalar))
 
 pub without_child-requires : goal.without_child-requires
 without_child-requires c = search (rules, AreShort)
@@ -59,24 +56,3 @@ returns-clause-same g c = λ left tells form t d other none.
     let split = sym c.as_slice.ensures.value ∙ c.in-Some-split_first.ensures.cases.0 in
     let o = part_out form t c.in-Some.parents _ _ _ split (rw c.in-Some.is at (c.in_ok-parents.ensures.place left tells form t d')) in
     absurd (part_met (keys_view (left c.args.steps)) t o.n o.ns o.is none)
-
-pub returns-in_err-parents-clause-scalar : goal.returns-in_err-parents-clause-scalar
-returns-in_err-parents-clause-scalar g c = grind (arith, not_scalar)
-
-pub returns-in_default-clause-scalar : goal.returns-in_default-clause-scalar
-returns-in_default-clause-scalar g c = grind (arith, not_scalar)
-
-pub returns-in_default-split_first-clause-scalar : goal.returns-in_default-split_first-clause-scalar
-returns-in_default-split_first-clause-scalar g c = grind (arith, not_scalar)
-
-pub returns-in_err-document-clause-scalar : goal.returns-in_err-document-clause-scalar
-returns-in_err-document-clause-scalar g c = grind (arith, not_scalar)
-
-pub returns-clause-scalar : goal.returns-clause-scalar
-returns-clause-scalar g c = grind (arith, not_scalar)
-
-pub returns-in_default-clause-same : goal.returns-in_default-clause-same
-returns-in_default-clause-same g c = grind arith
-
-pub returns-in_default-split_first-clause-same : goal.returns-in_default-split_first-clause-same
-returns-in_default-split_first-clause-same g c = grind arith

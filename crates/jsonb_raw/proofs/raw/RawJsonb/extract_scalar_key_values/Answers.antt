@@ -1,5 +1,4 @@
-use Rattle.jsonb_raw.proofs.Common.{value_tree, value_parts, if_answered}
-use Rattle.jsonb_raw.proofs.LeafWalk.{values_found}
+use Rattle.jsonb_raw.proofs.Lemmas.{value_tree, value_parts, if_answered, values_found}
 use Rattle.jsonb_raw.proofs.raw.RawJsonb.extract_scalar_key_values.Goals as goal
 
 pub returns-clause-leaves : goal.returns-clause-leaves

@@ -1,4 +1,4 @@
-use Rattle.jsonb_raw.proofs.Lemmas.{◌≡◌, Option, None, false, sym, ap, ◌∙◌, arith, option_or, Tree, Pairs, object, value_under, Form, number_reader, Holds, HasPairParts, ObjectParts, IsCut-same, Decodes-object, named_child, found_made, found_none}
+use Rattle.jsonb_raw.proofs.Lemmas.{◌≡◌, Option, None, false, sym, ap, ◌∙◌, arith, option_or, Tree, Pairs, object, value_under, Form, number_reader, Holds, HasPairParts, ObjectParts, Decodes-object, named_child, found_made, found_none}
 use Rattle.jsonb_doc.specs.declared.container.Container.TheVariants.{Object}
 use Rattle.jsonb_raw.proofs.raw.RawJsonb.get_by_name.Goals as goal
 
@@ -9,12 +9,6 @@ or_none found = grind arith
 object_with : (form : Form) (t : Tree) (p : ObjectParts) → Holds (number_reader form) t (Object p)
     → (ps : Pairs) × (t ≡ object ps) × HasPairParts (number_reader form) ps p
 object_with form t p h = grind arith
-
-pub returns-then-ignore_case-clause-value : goal.returns-then-ignore_case-clause-value
-returns-then-ignore_case-clause-value c = grind (arith, found_made)
-
-pub returns-then-ignore_case-clause-none : goal.returns-then-ignore_case-clause-none
-returns-then-ignore_case-clause-none c = grind (arith, found_none)
 
 pub returns-in-Object-clause-value : goal.returns-in-Object-clause-value
 returns-in-Object-clause-value c = λ form t d.
@@ -33,6 +27,3 @@ returns-in-Object-clause-none c = λ form t d none.
     let is : named_child name c.args.ignore_case t ≡ value_under name o.0 =
     ap (λ b. named_child name b t) c.if-ignore_case.false ∙ ap (named_child name false) o.1 ∙ or_none (value_under name o.0) in
     found_none form _ _ (c.value_of_key.ensures.found form o.0 o.2) (sym is ∙ none)
-
-pub returns-in_default-clause-value : goal.returns-in_default-clause-value
-returns-in_default-clause-value c = grind (arith, IsCut-same)

@@ -1,8 +1,5 @@
-use Rattle.jsonb_raw.proofs.Lemmas.{rules, members, Decodes, decoded_members, pairs_there, no_pairs_there}
+use Rattle.jsonb_raw.proofs.Lemmas.{members, Decodes, decoded_members, pairs_there}
 use Rattle.jsonb_raw.proofs.raw.RawJsonb.object_delete.Goals as goal
-
-pub returns-in_default-clause-pairs : goal.returns-in_default-clause-pairs
-returns-in_default-clause-pairs c = search (rules, no_pairs_there)
 
 pub returns-clause-pairs : goal.returns-clause-pairs
 returns-clause-pairs c = λ form t d.

@@ -1,8 +1,5 @@
-use Rattle.jsonb_raw.proofs.Common.{◌≡◌, ◌+◌, cond, true, false, refl, sym, ◌∙◌, arith, is_equal}
-use Rattle.jsonb_raw.proofs.RunLemmas.{entry_taken, no_entry_left}
-use Rattle.jsonb_raw.proofs.ElementsSeen.{EqualLeft-next}
+use Rattle.jsonb_raw.proofs.Lemmas.{◌≡◌, ◌+◌, cond, true, false, refl, sym, ◌∙◌, arith, is_equal, entry_taken, EqualLeft-next, take_zero}
 use Rattle.jsonb_raw.proofs.functions.array.seen.count_equal.Goals.{then-branch, else-branch}
-use Rattle.jsonb_raw.proofs.EntriesLeft.{take_zero, take_no}
 use Rattle.jsonb_raw.proofs.functions.array.seen.count_equal.Goals as goal
 
 pub returns-in_err-entry-clause-count : goal.returns-in_err-entry-clause-count

@@ -1,5 +1,4 @@
-use Rattle.jsonb_raw.proofs.Common.{◌+◌, ◌≤◌, List, take, Tree, Form, Stores, count_of, HoldTrees}
-use Rattle.jsonb_raw.proofs.ElementsSeen.{EqualLeft}
+use Rattle.jsonb_raw.proofs.Lemmas.{◌+◌, ◌≤◌, List, take, Tree, Form, Stores, count_of, HoldTrees, EqualLeft}
 use Rattle.jsonb_raw.proofs.functions.array.seen.count_equal.Given as goal
 
 abbrev pub invariant-loop-more : goal.invariant-loop-more

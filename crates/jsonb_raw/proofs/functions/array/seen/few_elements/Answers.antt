@@ -1,4 +1,4 @@
-use Rattle.jsonb_raw.proofs.RunLemmas.{array_of_entries}
+use Rattle.jsonb_raw.proofs.Lemmas.{array_of_entries}
 use Rattle.jsonb_raw.proofs.functions.array.seen.few_elements.Goals as goal
 
 pub returns-clause-few : goal.returns-clause-few

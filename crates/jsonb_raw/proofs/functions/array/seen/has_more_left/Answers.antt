@@ -1,5 +1,3 @@
-use Rattle.jsonb_raw.proofs.Common.{arith, nat_tests}
-use Rattle.jsonb_raw.proofs.ElementsSeen.{none_left}
 use Rattle.jsonb_raw.proofs.functions.array.seen.has_more_left.Goals as goal
 
 pub returns-clause-more : goal.returns-clause-more

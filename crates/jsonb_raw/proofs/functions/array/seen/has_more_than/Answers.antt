@@ -1,6 +1,4 @@
-use Rattle.jsonb_raw.proofs.Common.{rules, ◌≡◌, cond, true, false, sym, arith, is_equal}
-use Rattle.jsonb_raw.proofs.RunLemmas.{entry_taken, no_entry_left}
-use Rattle.jsonb_raw.proofs.ElementsSeen.{MoreLeft-found, MoreLeft-next}
+use Rattle.jsonb_raw.proofs.Lemmas.{◌≡◌, cond, true, false, sym, arith, is_equal, entry_taken, MoreLeft-found, MoreLeft-next}
 use Rattle.jsonb_raw.proofs.functions.array.seen.has_more_than.Goals as goal
 
 pub returns-then-more-equal-clause-more : goal.returns-then-more-equal-clause-more

@@ -1,5 +1,4 @@
-use Rattle.jsonb_raw.proofs.Common.{List, length, Tree, Form, Stores, count_of, HoldTrees}
-use Rattle.jsonb_raw.proofs.ElementsSeen.{MoreLeft}
+use Rattle.jsonb_raw.proofs.Lemmas.{List, length, Tree, Form, Stores, count_of, HoldTrees, MoreLeft}
 use Rattle.jsonb_raw.proofs.functions.array.seen.has_more_than.Given as goal
 
 abbrev pub invariant-loop-entry : goal.invariant-loop-entry

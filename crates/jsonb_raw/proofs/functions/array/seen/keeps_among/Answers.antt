@@ -1,4 +1,4 @@
-use Rattle.jsonb_raw.proofs.Common.{◌∙◌, refl, ap, not}
+use Rattle.jsonb_raw.proofs.Lemmas.{◌∙◌, refl, ap, not}
 use Rattle.jsonb_raw.proofs.functions.array.seen.keeps_among.Goals as goal
 
 pub returns-in_ok-count_equal-in-First-clause-kept : goal.returns-in_ok-count_equal-in-First-clause-kept

@@ -3,6 +3,3 @@ use Rattle.jsonb_raw.proofs.functions.array.sets.kept_of_document.Goals as goal
 
 pub returns-in-Some-clause-made : goal.returns-in-Some-clause-made
 returns-in-Some-clause-made c = search (rules, array_of_entries, decoded_fits, elements_few, elements_fit)
-
-pub returns-in_ok-root_item-in-None-clause-made : goal.returns-in_ok-root_item-in-None-clause-made
-returns-in_ok-root_item-in-None-clause-made c = search (rules, no_array_entries, decoded_fits)

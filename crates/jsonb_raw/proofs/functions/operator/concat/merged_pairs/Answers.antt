@@ -1,8 +1,5 @@
-use Rattle.jsonb_raw.proofs.Lemmas.{rules, ◌≡◌, ◌++◌, ◌∙◌, Some, inl, sym, subst, keys_of, keys_rise, merged, PairsHeld, FirstPair, arith, failed, merged_rising, merging_begun, left_of, merging_less, merging_equal_second, merging_equal, merging_greater, merging_ended}
+use Rattle.jsonb_raw.proofs.Lemmas.{◌≡◌, ◌++◌, ◌∙◌, Some, inl, sym, subst, keys_of, keys_rise, merged, PairsHeld, FirstPair, arith, failed, merged_rising, left_of, merging_less, merging_equal_second, merging_equal, merging_greater, merging_ended}
 use Rattle.jsonb_raw.proofs.functions.operator.concat.merged_pairs.Goals as goal
-
-pub loop-runs-init : goal.loop-runs-init
-loop-runs-init c = search (rules, merging_begun, keys_rise)
 
 pub returns-in_err-first_pair-clause-merged : goal.returns-in_err-first_pair-clause-merged
 returns-in_err-first_pair-clause-merged c = λ form ps qs h g a b.

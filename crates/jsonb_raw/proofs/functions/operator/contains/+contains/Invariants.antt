@@ -1,6 +1,4 @@
-use Rattle.jsonb_raw.proofs.Common.{◌≡◌, ℕ, ◌<◌, ◌≤◌, ◌+◌, ◌*◌, ◌||◌, Bool, true, length, take, IfSome, list_any, Tree, Trees, Pairs, array, object, keys, elements, members, Form, Decodes, StandsFor, item_size, HasEntriesLeft, Stores, entries_room, AreRising, is_part_of, each_is_matched, each_pair_is_matched, IsOneAnswer, IsTailOf, HasTableOf, AllByRecursion, Fits, matches, scalars_matched}
-use Rattle.jsonb_raw.proofs.EntriesLeft.{SomeEntries, SomePairEntries}
-use Rattle.jsonb_raw.proofs.EntryEquals.{Aside, IsAnswer, IsItemAnswer, OneAside}
+use Rattle.jsonb_raw.proofs.Lemmas.{◌≡◌, ℕ, ◌<◌, ◌≤◌, ◌+◌, ◌*◌, ◌||◌, Bool, true, length, take, IfSome, list_any, Tree, Trees, Pairs, array, object, keys, elements, members, Form, Decodes, StandsFor, item_size, HasEntriesLeft, Stores, entries_room, AreRising, is_part_of, each_is_matched, each_pair_is_matched, IsOneAnswer, IsTailOf, HasTableOf, AllByRecursion, Fits, matches, scalars_matched, SomeEntries, SomePairEntries, Aside, IsAnswer, IsItemAnswer, OneAside}
 use Rattle.jsonb_raw.proofs.functions.operator.contains.+contains.Given as goal
 
 abbrev pub decreases-item_matches : goal.decreases-item_matches

@@ -1,5 +1,4 @@
-use Rattle.jsonb_raw.proofs.Common.{◌≡◌, array, object}
-use Rattle.jsonb_raw.proofs.ContainLemmas.{arrays_decided, objects_decided, contains-array, contains-object}
+use Rattle.jsonb_raw.proofs.Lemmas.{array, object, arrays_decided, objects_decided, contains-array, contains-object}
 use Rattle.jsonb_raw.proofs.functions.operator.contains.decided_by_header.Goals as goal
 
 pub returns-in-Array-Array : goal.returns-in-Array-Array

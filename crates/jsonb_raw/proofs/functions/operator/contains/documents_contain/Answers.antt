@@ -1,8 +1,6 @@
-use Rattle.jsonb_raw.proofs.Common.{rules, ◌≡◌, ℕ, List, not, IsTrue, sym, arith, in_any, number_of, Form, Decodes, Tree, is_extension_value, StandsFor, Item, ExtensionValue}
+use Rattle.jsonb_raw.proofs.Lemmas.{rules, ◌≡◌, ℕ, List, not, IsTrue, sym, arith, in_any, number_of, Form, Decodes, Tree, is_extension_value, StandsFor, Item, ExtensionValue, contains-extension, contains_refl}
 use Rattle.jsonb_doc.specs.declared.item.Item.TheVariants as item
 use Rattle.jsonb_doc.proofs.OneTree.{document_unique}
-use Rattle.jsonb_raw.proofs.ContainLemmas.{contains-extension}
-use Rattle.jsonb_raw.proofs.ContainsLaws.{contains_refl}
 use Rattle.jsonb_raw.proofs.functions.operator.contains.documents_contain.Goals as goal
 
 pub returns-in-Extension-clause-answer : goal.returns-in-Extension-clause-answer

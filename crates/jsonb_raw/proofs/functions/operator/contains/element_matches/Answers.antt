@@ -1,5 +1,4 @@
-use Rattle.jsonb_raw.proofs.Common.{rules, arith, true, false, ◌≡◌, sym, ◌∙◌, array, is_part_of}
-use Rattle.jsonb_raw.proofs.IteratorItems.{SomeElements-all, SomeElements-first, SomeElements-error, SomeElements-none}
+use Rattle.jsonb_raw.proofs.Lemmas.{rules, arith, true, false, ◌≡◌, sym, ◌∙◌, array, is_part_of, SomeElements-all, SomeElements-first, SomeElements-error, SomeElements-none}
 use Rattle.jsonb_raw.proofs.functions.operator.contains.element_matches.Goals as goal
 
 pub returns-in_err-found-clause-answer : goal.returns-in_err-found-clause-answer

@@ -1,5 +1,4 @@
-use Rattle.jsonb_raw.proofs.Common.{◌≡◌, ◌<◌, length, list_any, Tree, Trees, array, elements, Form, Decodes, StandsFor, is_part_of}
-use Rattle.jsonb_raw.proofs.IteratorItems.{SomeElements}
+use Rattle.jsonb_raw.proofs.Lemmas.{◌≡◌, ◌<◌, length, list_any, Tree, Trees, array, elements, Form, Decodes, StandsFor, is_part_of, SomeElements}
 use Rattle.jsonb_raw.proofs.functions.operator.contains.element_matches.Given as goal
 
 -- no element so far matches, so those that are left decide

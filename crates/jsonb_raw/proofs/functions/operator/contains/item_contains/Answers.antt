@@ -1,5 +1,4 @@
-use Rattle.jsonb_raw.proofs.Common.{◌≡◌, inl, inr, sym, subst, IsOkAnd, arith}
-use Rattle.jsonb_raw.proofs.ContainLemmas.{contains-extension, contains-array, contains-object, plain_item, array_contains_plain, extension_equals_no_plain, object_equals_no_plain}
+use Rattle.jsonb_raw.proofs.Lemmas.{◌≡◌, inl, inr, sym, subst, IsOkAnd, arith, contains-extension, contains-array, contains-object, plain_item, array_contains_plain, extension_equals_no_plain, object_equals_no_plain}
 use Rattle.jsonb_raw.proofs.functions.operator.contains.item_contains.Goals as goal
 
 pub returns-in-Extension-clause-answer : goal.returns-in-Extension-clause-answer

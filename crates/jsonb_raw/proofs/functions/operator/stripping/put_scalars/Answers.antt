@@ -1,8 +1,5 @@
-use Rattle.jsonb_raw.proofs.Lemmas.{rules, arith, sym, ◌∙◌, Container, same_kind, other_kind, failed, no_entry_left, entry_taken, scalars_begun, scalar_kept, container_next, null_next, no_value_left}
+use Rattle.jsonb_raw.proofs.Lemmas.{arith, sym, ◌∙◌, Container, same_kind, other_kind, failed, no_entry_left, entry_taken, scalar_kept, container_next, null_next, no_value_left}
 use Rattle.jsonb_raw.proofs.functions.operator.stripping.put_scalars.Goals as goal
-
-pub loop-entry-init : goal.loop-entry-init
-loop-entry-init c = search (rules, scalars_begun)
 
 pub returns-in_err-entry-clause-put : goal.returns-in_err-entry-clause-put
 returns-in_err-entry-clause-put c = λ form ts around whole h w.

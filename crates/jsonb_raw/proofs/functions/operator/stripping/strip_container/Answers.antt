@@ -1,4 +1,4 @@
-use Rattle.jsonb_raw.proofs.Lemmas.{rules, ℕ, Vec, Global, [], ◌∷◌, arith, inl, refl, ap, ◌∙◌, subst, Decodes, IsOutOfMemoryOrTooLarge, Around, IsWriting, strip, stripped, pushed, popped, none_around, empty_of, only_ok, failed, rooms-pushed}
+use Rattle.jsonb_raw.proofs.Lemmas.{ℕ, Vec, Global, [], ◌∷◌, arith, inl, refl, ap, ◌∙◌, subst, Decodes, IsOutOfMemoryOrTooLarge, Around, IsWriting, strip, stripped, pushed, popped, none_around, empty_of, only_ok, failed, rooms-pushed}
 use Rattle.jsonb_raw.proofs.functions.operator.stripping.strip_container.Goals as goal
 
 pub returns-in_err-container-clause-stripped : goal.returns-in_err-container-clause-stripped
@@ -47,6 +47,3 @@ returns-in_err-leave-in-None-clause-stripped c = λ form t h.
 
 pub walk-smaller : goal.walk-smaller
 walk-smaller c = omega (arith, rooms-pushed _ _ _ c.in-Some-pop.ensures.items)
-
-pub walk-preserved : goal.walk-preserved
-walk-preserved c = search (rules, popped)

@@ -4,9 +4,6 @@ use Rattle.jsonb_raw.proofs.functions.path.child.array_without_text.Goals as goa
 pub returns-in_err-elements-clause-deleted : goal.returns-in_err-elements-clause-deleted
 returns-in_err-elements-clause-deleted c = λ form ts d. absurd (c.in_err-elements.ensures.decodes form ts d)
 
-pub loop-element-init : goal.loop-element-init
-loop-element-init c = search (rules, elements_begun)
-
 pub returns-in_err-element-clause-deleted : goal.returns-in_err-element-clause-deleted
 returns-in_err-element-clause-deleted c = λ form ts d.
     absurd (SomeElements-error form _ _ _ _ _ c.in_err-element.was c.in-Some.ensures.steps (c.loop-element.invariant form ts d))

@@ -1,8 +1,5 @@
-use Rattle.jsonb_raw.proofs.Lemmas.{rules, drop, err_from_is_err_and, no_such_element, split_at, entry_taken, no_entry_left}
+use Rattle.jsonb_raw.proofs.Lemmas.{drop, err_from_is_err_and, split_at, entry_taken}
 use Rattle.jsonb_raw.proofs.functions.path.child.element_document.Goals as goal
-
-pub returns-in_default-clause-found : goal.returns-in_default-clause-found
-returns-in_default-clause-found c = search (rules, no_entry_left, no_such_element)
 
 pub returns-in_err-found_document-clause-found : goal.returns-in_err-found_document-clause-found
 returns-in_err-found_document-clause-found c = λ form ts h.
@@ -10,6 +7,3 @@ returns-in_err-found_document-clause-found c = λ form ts h.
     let f = entry_taken form _ (drop c.args.index ts) _ _ _ c.in-Some.is (c.in_ok-entry.ensures.first form _ parts.1) in
     let p = err_from_is_err_and c.from_residual-in_err-found_document.result c.from_residual-in_err-found_document.ensures.1 in
     rw (p.1, p.2, (split_at ts c.args.index f.t f.rest f.split).at) (c.in_err-found_document.ensures.document form f.t f.is_first.part)
-
-pub returns-clause-found : goal.returns-clause-found
-returns-clause-found c = search (rules, entry_taken, split_at)

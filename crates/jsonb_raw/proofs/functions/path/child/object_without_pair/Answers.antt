@@ -1,5 +1,4 @@
-use Rattle.jsonb_raw.proofs.Lemmas.{keys_rise, remove, drop_one_more, two_runs, names_around}
-use Rattle.jsonb_raw.proofs.PositionLemmas.{values_around}
+use Rattle.jsonb_raw.proofs.Lemmas.{keys_rise, remove, drop_one_more, two_runs, names_around, values_around}
 use Rattle.jsonb_raw.proofs.functions.path.child.object_without_pair.Goals as goal
 
 pub returns-clause-deleted : goal.returns-clause-deleted

@@ -1,11 +1,5 @@
-use Rattle.jsonb_raw.proofs.Lemmas.{rules, ◌++◌, sym, ◌∙◌, zero_of, arith, remove, held_around, no_trees_held, none_left, two_runs}
+use Rattle.jsonb_raw.proofs.Lemmas.{◌++◌, sym, ◌∙◌, remove, held_around, two_runs}
 use Rattle.jsonb_raw.proofs.functions.path.cut.container_of_others.Goals as goal
-
-pub returns-in_err-keys-clause-container : goal.returns-in_err-keys-clause-container
-returns-in_err-keys-clause-container c = grind arith
-
-pub returns-then-is_empty-clause-container : goal.returns-then-is_empty-clause-container
-returns-then-is_empty-clause-container c = search (rules, two_runs, no_trees_held, zero_of, none_left)
 
 pub returns-clause-container : goal.returns-clause-container
 returns-clause-container c = λ form names front after n t names_hold front_hold after_hold passed makes.

@@ -1,4 +1,4 @@
-use Rattle.jsonb_raw.proofs.Lemmas.{rules, ◌≡◌, ◌≤◌, ◌+◌, ◌++◌, ◌∷◌, length, take, drop, suc, arith, refl, sym, ap, subst, ◌∙◌, reverse, err_from_is_err_and, Rooms, HasRoom, head_size, pushed, change_child, remove_at, children, children_kept, contents_size, size, sizes, rooms_after, drop_first, drop_of_length-le, makes_kept, opens_next, opens_none, kept_at_most, head_less, room_less, rooms_pushed, opening_begun, all_behind}
+use Rattle.jsonb_raw.proofs.Lemmas.{◌≡◌, ◌≤◌, ◌+◌, ◌++◌, ◌∷◌, length, take, drop, suc, arith, refl, sym, ap, subst, ◌∙◌, reverse, err_from_is_err_and, Rooms, HasRoom, head_size, pushed, change_child, remove_at, children, children_kept, contents_size, size, sizes, rooms_after, drop_first, drop_of_length-le, makes_kept, opens_next, opens_none, kept_at_most, head_less, room_less, rooms_pushed, opening_begun, all_behind}
 use Rattle.jsonb_raw.specs.Private.Cuts.{entries_kept}
 use Rattle.jsonb_raw.proofs.functions.path.cut.write_down.Goals as goal
 
@@ -28,9 +28,6 @@ returns-clause-written c = λ form t end n ns led.
       are_left = o.are_left;
       writing = c.in_ok-put_others.ensures.put form _ _ _ o.n o.outside _ o.parent.keys_hold o.parent.front_hold o.parent.after_hold o.parent.passed w;
     }
-
-pub returns-clause-room : goal.returns-clause-room
-returns-clause-room c = search (rules, room_less)
 
 pub loop-index-preserved : goal.loop-index-preserved
 loop-index-preserved c =

@@ -1,8 +1,5 @@
-use Rattle.jsonb_raw.proofs.Lemmas.{arith, rules, w32, ◌∙◌, SFits, to_z-of_z, of_array, of_object, met_in_object, met_by_index}
+use Rattle.jsonb_raw.proofs.Lemmas.{rules, w32, ◌∙◌, SFits, to_z-of_z, of_object, met_in_object, met_by_index}
 use Rattle.jsonb_raw.proofs.functions.path.delete.child_position.Goals as goal
-
-pub returns-in-Array-Index-clause-position : goal.returns-in-Array-Index-clause-position
-returns-in-Array-Index-clause-position c = grind (arith, rules, to_z-of_z, of_array)
 
 pub returns-in-Object-Index-clause-position : goal.returns-in-Object-Index-clause-position
 returns-in-Object-Index-clause-position c = λ form t h.
@@ -21,6 +18,3 @@ returns-in-Object-Name-clause-position c = λ form t h.
     met_in_object form t c.args.container.now c.args.step.now _ _
     (rw c.in-Object-Name.is-1 (c.as_bytes-in-Object-Name.ensures.value ∙ c.as_str-in-Object-Name.ensures.value))
     (of_object form t c.args.container.now c.in-Object-Name.is-0 h) (c.name_position-in-Object-Name.ensures.position form)
-
-pub returns-in_default-2-clause-position : goal.returns-in_default-2-clause-position
-returns-in_default-2-clause-position c = grind arith

@@ -1,24 +1,8 @@
-use Rattle.jsonb_raw.proofs.Lemmas.{rules, ◌+◌, arith, refl, ap₂, err_from_is_err_and, key_view, children, values_hold, child_taken, no_children, no_position, no_child, step_into}
-use Rattle.jsonb_raw.proofs.CutLemmas.{no_entries}
+use Rattle.jsonb_raw.proofs.Lemmas.{◌+◌, refl, ap₂, key_view, children, values_hold, child_taken, no_child, step_into}
 use Rattle.jsonb_raw.proofs.functions.path.delete.split_container.Goals as goal
 
 pub returns-in_err-entries-clause-child : goal.returns-in_err-entries-clause-child
 returns-in_err-entries-clause-child c = λ form t d. absurd (c.in_err-entries.ensures.entries form t d)
-
-pub returns-in_default-clause-child : goal.returns-in_default-clause-child
-returns-in_default-clause-child c = search (rules, no_children, no_entries)
-
-pub returns-in_err-position-clause-child : goal.returns-in_err-position-clause-child
-returns-in_err-position-clause-child c = grind (arith, err_from_is_err_and)
-
-pub returns-in_default-2-clause-child : goal.returns-in_default-2-clause-child
-returns-in_default-2-clause-child c = grind (arith, no_position)
-
-pub returns-in_err-front-clause-child : goal.returns-in_err-front-clause-child
-returns-in_err-front-clause-child c = search (rules, values_hold)
-
-pub returns-in_err-child-clause-child : goal.returns-in_err-child-clause-child
-returns-in_err-child-clause-child c = search (rules, values_hold)
 
 pub returns-in_default-3-clause-child : goal.returns-in_default-3-clause-child
 returns-in_default-3-clause-child c = λ form t d.
@@ -36,6 +20,3 @@ returns-clause-child c = λ form t d.
     let f = child_taken form (children t) n _ _ _ _ c.in-Some-3.is (c.in_ok-child.ensures.first form _ parts.1) in
     step_into form t (key_view c.args.step.now) c.in-Some.entries _ n _ h at refl refl f parts.0
     (ap₂ (λ a b. a + b) (c.len.ensures.count form _ parts.0) (c.len-2.ensures.count form _ f.after_hold))
-
-pub returns-clause-short : goal.returns-clause-short
-returns-clause-short c = grind arith

@@ -1,6 +1,5 @@
-use Rattle.jsonb_raw.proofs.Lemmas.{arith, inr, [], ◌∷◌, ap, length, parts, IsKept, empty_of, failed, parts_left, pushed_around, popped_around, SomeParts-first, SomeParts-none, SomeParts-error, falls_within, falls_beside, falls_done, count_of_trees, count_of_pairs, last_of, item_leaves, leaf_found, leaf_of_whole, part_entered, level_done, walk_done, parts_leaves}
+use Rattle.jsonb_raw.proofs.Lemmas.{arith, inr, [], ◌∷◌, ap, length, parts, IsKept, empty_of, failed, parts_left, pushed_around, popped_around, SomeParts-first, SomeParts-none, SomeParts-error, falls_within, falls_beside, falls_done, count_of_trees, count_of_pairs, last_of, item_leaves, leaf_found, leaf_of_whole, part_entered, level_done, walk_done, parts_leaves, length-append}
 use Rattle.jsonb_raw.proofs.LeafWalk.{one_more, walk_begun}
-use Rattle.std.proofs.lemmas.List.{length-append}
 use Rattle.jsonb_raw.proofs.functions.path.leaves.leaves_within.Goals as goal
 
 pub walk-init : goal.walk-init

@@ -1,5 +1,4 @@
-use Rattle.jsonb_raw.proofs.Lemmas.{◌≡◌, ◌+◌, length, reverse, Tree, Form, StandsFor, leaves, IsKept, SomeParts, weight, weights, LeavesToward}
-use Rattle.std.specs.List.{All}
+use Rattle.jsonb_raw.proofs.Lemmas.{◌≡◌, ◌+◌, length, reverse, Tree, Form, StandsFor, leaves, IsKept, SomeParts, weight, weights, LeavesToward, All}
 use Rattle.jsonb_raw.proofs.functions.path.leaves.leaves_within.Given as goal
 
 -- what is found, and then the leaves of what each level has left, the innermost first, are the leaves of the whole

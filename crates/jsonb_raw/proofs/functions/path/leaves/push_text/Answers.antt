@@ -1,4 +1,4 @@
-use Rattle.jsonb_raw.proofs.Lemmas.{arith, ◌≡◌, sym, ◌∙◌, refl, MatchResult-weaker, text, number_reader, text_content}
+use Rattle.jsonb_raw.proofs.Lemmas.{◌≡◌, sym, ◌∙◌, refl, MatchResult-weaker, text, number_reader, text_content}
 use Rattle.jsonb_raw.proofs.functions.path.leaves.push_text.Goals as goal
 
 pub returns-in-Ok-clause-leaf : goal.returns-in-Ok-clause-leaf
@@ -10,6 +10,3 @@ returns-in-Ok-clause-leaf c = λ form t content.
       pushed = pushed;
       is = (c.text_value.ensures.tree ∙ same, c.text_value.ensures.parts ∙ same);
     }) (λ e refused. refused)
-
-pub returns-in-Err-clause-leaf : goal.returns-in-Err-clause-leaf
-returns-in-Err-clause-leaf c = grind (arith, text_content)

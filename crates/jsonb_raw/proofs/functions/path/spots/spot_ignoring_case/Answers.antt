@@ -1,8 +1,5 @@
-use Rattle.jsonb_raw.proofs.Lemmas.{rules, ◌≡◌, Some, sym, ◌∙◌, keys_of, members, position_in_some_case, named_place, named_at_none, pairs_there}
+use Rattle.jsonb_raw.proofs.Lemmas.{◌≡◌, Some, sym, ◌∙◌, keys_of, members, position_in_some_case, named_place, pairs_there}
 use Rattle.jsonb_raw.proofs.functions.path.spots.spot_ignoring_case.Goals as goal
-
-pub returns-in_default-2-clause-value : goal.returns-in_default-2-clause-value
-returns-in_default-2-clause-value c = search (rules, pairs_there, named_at_none)
 
 pub returns-clause-value : goal.returns-clause-value
 returns-clause-value c = λ form t d l.

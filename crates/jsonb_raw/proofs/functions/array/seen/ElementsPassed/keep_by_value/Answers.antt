@@ -1,5 +1,4 @@
-use Rattle.jsonb_raw.proofs.Common.{◌∷◌, in_order}
-use Rattle.jsonb_raw.proofs.ElementsSeen.{passed_count, passed_next}
+use Rattle.jsonb_raw.proofs.Lemmas.{◌∷◌, in_order, passed_count, passed_next}
 use Rattle.jsonb_raw.proofs.functions.array.seen.ElementsPassed.keep_by_value.Goals as goal
 
 pub returns-in_err-is_kept-clause-passed : goal.returns-in_err-is_kept-clause-passed

@@ -1,6 +1,4 @@
-use Rattle.jsonb_raw.proofs.Common.{rules, ◌≡◌, ◌^◌, ◌+◌, ◌<◌, ◌∷◌, length, arith, keeps}
-use Rattle.jsonb_raw.proofs.AnswerLemmas.{failed}
-use Rattle.jsonb_raw.proofs.ElementsSeen.{follows}
+use Rattle.jsonb_raw.proofs.Lemmas.{◌≡◌, ◌^◌, ◌+◌, ◌<◌, ◌∷◌, length, arith, keeps, follows}
 use Rattle.jsonb_raw.proofs.functions.array.seen.KeysCounted.keep_by_key.Goals as goal
 
 pub returns-clause-passed : goal.returns-clause-passed

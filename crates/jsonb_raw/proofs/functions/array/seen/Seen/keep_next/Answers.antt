@@ -1,5 +1,4 @@
-use Rattle.jsonb_raw.proofs.Common.{rules, ◌∷◌, subst, HaveSeen}
-use Rattle.jsonb_raw.proofs.AnswerLemmas.{answered}
+use Rattle.jsonb_raw.proofs.Lemmas.{◌∷◌, subst, HaveSeen}
 use Rattle.jsonb_raw.proofs.functions.array.seen.Seen.keep_next.Goals as goal
 
 pub returns-in-Keys-clause-passed : goal.returns-in-Keys-clause-passed

@@ -1,8 +1,5 @@
-use Rattle.jsonb_raw.proofs.Lemmas.{◌∙◌, sym, rules, names_left, DecideFrom, arith, run_first, run_more, next_member, no_member_left, key_decided, key_is_utf8}
+use Rattle.jsonb_raw.proofs.Lemmas.{◌∙◌, sym, rules, names_left, DecideFrom, arith, run_first, run_more, next_member, key_decided, key_is_utf8}
 use Rattle.jsonb_raw.proofs.functions.object.names.SortedNames.next_run.Goals as goal
-
-pub returns-in_default-clause-run : goal.returns-in_default-clause-run
-returns-in_default-clause-run c = search (rules, no_member_left)
 
 pub loop-key-init : goal.loop-key-init
 loop-key-init c = record {
@@ -13,9 +10,6 @@ loop-key-init c = record {
       run_first form c.args.self.now.names.now (names_left c.args.self.now) _ c.args.keys ps h a d _ _ n _ c.has-is_in.ensures.decides c.has-is_in.ensures.found;
   names = c.has-is_in.ensures.names;
 }
-
-pub returns-then-has-is_in-clause-run : goal.returns-then-has-is_in-clause-run
-returns-then-has-is_in-clause-run c = search (rules, next_member)
 
 pub loop-key-preserved : goal.loop-key-preserved
 loop-key-preserved c = record {

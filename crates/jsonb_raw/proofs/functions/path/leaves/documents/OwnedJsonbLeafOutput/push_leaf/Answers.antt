@@ -1,8 +1,4 @@
-use Rattle.std.proofs.Common.{◌≡◌, List, [], ◌∷◌, ◌++◌, Result, Ok, Err, OnOk, MatchResult}
-use Rattle.std.specs.List.{All}
-use Rattle.std.proofs.lemmas.List.Elements.{All-same, All-push}
-use Rattle.jsonb_doc.specs.Answer.{IsOutOfMemory}
-use Rattle.jsonb_raw.specs.AnyBytes.Roots.{IsWholePair}
+use Rattle.jsonb_raw.proofs.Lemmas.{◌≡◌, List, [], ◌∷◌, ◌++◌, Result, Ok, Err, OnOk, MatchResult, All, All-same, All-push, IsOutOfMemory, IsWholePair}
 use Rattle.jsonb_raw.proofs.functions.path.leaves.documents.OwnedJsonbLeafOutput.push_leaf.Goals as goal
 
 one_more : {A B E : Type 0} (P : A → Type 0) (old new : List A) (x : A) (F : E → Type 0) (r : Result B E)
