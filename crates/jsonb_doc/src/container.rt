@@ -7,6 +7,7 @@ ghost use Rattle.jsonb_doc.specs.Format.{HeadedBy, IsDocument, scalar_header};
 ghost use Rattle.jsonb_doc.specs.Kinds.{kind_number};
 ghost use Rattle.jsonb_doc.specs.Private.Containers.{container_words, container_room, IsLoneEntry, IsCut};
 
+use crate::cursor::{Entries, PairEntries};
 use crate::entry_iter::StoredEntry;
 use crate::error::Error;
 use crate::key_search::find_key;
@@ -36,10 +37,11 @@ pub struct ObjectParts<'a> {
 impl<'a> ObjectParts<'a> {
     ghost use Rattle.std.specs.Prelude.{◌≡◌, ◌+◌, ◌^◌, ◌<◌, ◌≤◌, List, ◌++◌, ℕ, length, IfErr, IfOk, IfSome, IsOkAnd};
     ghost use Rattle.jsonb_doc.specs.Tree.{Pairs};
-    ghost use Rattle.jsonb_doc.specs.Payload.{NumberReader};
+    ghost use Rattle.jsonb_doc.specs.Payload.{NumberReader, Form, number_reader};
     ghost use Rattle.jsonb_doc.specs.Private.Containers.{HasPairParts};
     ghost use Rattle.jsonb_doc.specs.Private.Fields.{FindsValue};
     ghost use Rattle.jsonb_doc.specs.Private.Lengths.{StandBefore};
+    ghost use Rattle.jsonb_doc.specs.Private.Stored.{HasPairEntriesLeft};
     ghost use Rattle.jsonb_doc.specs.Answer.{IsDecodingError};
 
     /// Returns the contents of the values, which follow those of the keys.
@@ -63,6 +65,40 @@ impl<'a> ObjectParts<'a> {
             Some(contents) => Ok(contents),
             None => Err(Error::InvalidJsonb),
         }
+    }
+
+    /// Returns the entries of the members.
+    ///
+    /// # Errors
+    ///
+    /// `InvalidJsonb` or `UnsupportedNumber`, only if the keys are longer than the bytes.
+    ///
+    /// # Complexity
+    ///
+    /// O(k) for k keys. Does not allocate.
+    #[inline(always)]
+    pub fn entries(&self) -> Result<PairEntries<'a>, Error>
+        requires keys { length self.now.key_words.now < 2 ^ 32 }
+        requires values { length self.now.value_words.now < 2 ^ 32 }
+        ensures entries { (form : Form) (ps : Pairs) → HasPairParts (number_reader form) ps self.now
+            → IsOkAnd result (λ pairs. HasPairEntriesLeft form pairs ps) }
+        ensures words { IfOk result (λ pairs. pairs.values.words.now ≡ self.now.value_words.now) }
+        ensures size { IfOk result (λ pairs. length pairs.keys.contents.now + length pairs.values.contents.now
+            ≤ length self.now.contents.now) }
+        ensures errors { IfErr result IsDecodingError }
+    {
+        let values = self.value_contents()?;
+        let (keys, _) = self.contents.split_at(self.contents.len() - values.len());
+        Ok(PairEntries {
+            keys: Entries {
+                words: self.key_words,
+                contents: keys,
+            },
+            values: Entries {
+                words: self.value_words,
+                contents: values,
+            },
+        })
     }
 
     /// Returns the entry of the value of a key, and the entries after it, or `None` if there is no such key.

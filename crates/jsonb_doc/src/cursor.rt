@@ -1,4 +1,4 @@
-//! The entries of a container as they are stored, read one by one or split into two runs.
+//! The entries of a container as they are stored, read one by one or split into two runs, and the members of an object.
 
 ghost use Rattle.std.specs.Prelude.{◌≡◌, ◌^◌, ◌<◌, ◌≤◌, ◌-◌, length};
 
@@ -8,7 +8,13 @@ use crate::key_search::{KeyPosition, find_key, key_position};
 use crate::layout::{WORD, split_entry};
 use crate::lengths::skip_contents;
 
-/// A run of entries: their words and their contents, in stored order.
+/// A run of entries, their words and their contents, and an iterator over them, in stored order.
+///
+/// Yields each entry and then `None`. It ends after an entry whose end is not known, which is `InvalidJsonb`.
+///
+/// # Complexity
+///
+/// A step is O(1). Does not allocate.
 #[derive(Clone, Copy)]
 pub struct Entries<'a> {
     /// The entry words.
@@ -20,12 +26,13 @@ pub struct Entries<'a> {
 
 impl<'a> Entries<'a> {
     ghost use Rattle.std.specs.Prelude.{◌≡◌, ℕ, List, map, take, drop, length, IsOkAnd, IfOk, IfSome, IfErr, ◌+◌, ◌*◌, ◌^◌, ◌<◌, ◌≤◌};
-    ghost use Rattle.jsonb_doc.specs.Tree.{Tree, text};
+    ghost use Rattle.jsonb_doc.specs.Tree.{Tree, text, Trees, count};
     ghost use Rattle.jsonb_doc.specs.Payload.{Form};
     ghost use Rattle.jsonb_doc.specs.Format.{AreKeys};
     ghost use Rattle.jsonb_doc.specs.Private.Lengths.{IsFoundAt, IsKeyPosition};
     ghost use Rattle.jsonb_doc.specs.Answer.{IsDecodingError};
     ghost use Rattle.jsonb_doc.specs.Private.Cursor.{HoldTrees, TakesFirst};
+    ghost use Rattle.jsonb_doc.specs.Private.Stored.{HasEntriesLeft};
 
     /// Returns the number of entries.
     ///
@@ -35,6 +42,7 @@ impl<'a> Entries<'a> {
     #[inline(always)]
     pub fn len(&self) -> usize
         ensures count { (form : Form) (ts : List Tree) → HoldTrees form self.now ts → result ≡ length ts }
+        ensures left { (form : Form) (ts : Trees) → HasEntriesLeft form self.now ts → result ≡ count ts }
         ensures bound { 4 * result ≤ length self.now.words.now }
     {
         self.words.len() / WORD
@@ -61,19 +69,11 @@ impl<'a> Entries<'a> {
         ensures short { IfOk result (λ found. IfSome found (λ f. length f.0.content.now < 2 ^ 28)) }
         ensures errors { IfErr result IsDecodingError }
     {
-        match split_entry(self.words, self.contents) {
-            Some(entry) => Ok(Some((
-                StoredEntry {
-                    kind: entry.kind,
-                    content: entry.content,
-                },
-                Entries {
-                    words: entry.other_words,
-                    contents: entry.other_contents,
-                },
-            ))),
-            None if self.words.is_empty() => Ok(None),
-            None => Err(Error::InvalidJsonb),
+        let mut others = *self;
+        match others.next() {
+            Some(Ok(entry)) => Ok(Some((entry, others))),
+            Some(Err(error)) => Err(error),
+            None => Ok(None),
         }
     }
 
@@ -155,5 +155,73 @@ impl<'a> Entries<'a> {
         ensures errors { IfErr result IsDecodingError }
     {
         key_position(self.words, self.contents, name)
+    }
+}
+
+impl<'a> Iterator for Entries<'a> {
+    ghost use Rattle.std.specs.Iterator.{at_most};
+    ghost use Rattle.jsonb_doc.specs.Private.Stored.{GivesEntry, entries_bound};
+
+    type Item = Result<StoredEntry<'a>, Error>;
+
+    ghost next_gives = { GivesEntry };
+
+    ghost remaining = { λ it. at_most (entries_bound it) };
+
+    #[inline(always)]
+    fn next(&mut self) -> Option<Result<StoredEntry<'a>, Error>> {
+        let Some(entry) = split_entry(self.words, self.contents) else {
+            if self.words.is_empty() {
+                return None;
+            }
+            self.words = &[];
+            return Some(Err(Error::InvalidJsonb));
+        };
+        self.words = entry.other_words;
+        self.contents = entry.other_contents;
+        Some(Ok(StoredEntry {
+            kind: entry.kind,
+            content: entry.content,
+        }))
+    }
+}
+
+/// Members of an object, the entries of their keys and those of their values, and an iterator over them, in stored
+/// order: the bytes of each key, and the entry of its value.
+///
+/// Yields each member and then `None`. It ends after a member whose end is not known, which is `InvalidJsonb`.
+///
+/// # Complexity
+///
+/// A step is O(1). Does not allocate.
+#[derive(Clone, Copy)]
+pub struct PairEntries<'a> {
+    /// The entries of the keys, which are strings.
+    pub keys: Entries<'a>,
+    /// The entries of the values.
+    pub values: Entries<'a>,
+}
+
+impl<'a> Iterator for PairEntries<'a> {
+    ghost use Rattle.std.specs.Iterator.{at_most};
+    ghost use Rattle.jsonb_doc.specs.Private.Stored.{GivesPairEntry, entries_bound};
+
+    type Item = Result<(&'a [u8], StoredEntry<'a>), Error>;
+
+    ghost next_gives = { GivesPairEntry };
+
+    ghost remaining = { λ it. at_most (entries_bound it.keys) };
+
+    #[inline(always)]
+    fn next(&mut self) -> Option<Result<(&'a [u8], StoredEntry<'a>), Error>> {
+        match self.keys.next() {
+            None => None,
+            Some(Err(error)) => Some(Err(error)),
+            Some(Ok(key)) => match self.values.next() {
+                None => Some(Err(Error::InvalidJsonb)),
+                Some(Err(error)) => Some(Err(error)),
+                Some(Ok(value)) => Some(Ok((key.content, value))),
+            },
+        }
     }
 }

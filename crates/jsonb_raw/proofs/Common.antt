@@ -1,6 +1,6 @@
 -- The names that most proofs cite, passed on from one place. Declares nothing.
 pub use Rattle.std.proofs.Common.{◌≡◌, Option, None, Result, Ok, IsOkAnd, IsErrAnd, MatchResult, arith, ◌⊎◌, inl, inr, suc, List, ◌∷◌, length, Some, refl, ap, Any, ◌↔◌, ℕ, zero, ℤ, Bool, true, false, IsTrue, [], map, drop, slice_get, ◌<◌, ◌≤◌, pos, Err, unwrap_or, sym, option_and_then, ◌++◌, subst, ◌∙◌, append_assoc, append-nil, ◌+◌, flat_map, get_or, IsSomeAnd, not, Ordering, Less, Equal, Greater, nat_cmp, ◌&&◌, ◌||◌, ap₂, ◌≢◌, bytes_eq, Bor, length-append, ◌==◌, IfSome, is_eq, replicate, slice_index_or, slice_set, true≢false, ◌-◌, ◌^◌, take, reverse, option_map, length-drop, take_all, Vec, Global, ◌/◌, ◌%◌, cond, w16, ne_eqb, nat_lt, nat_eq, min, is_some, drop_at, position, ◌*◌, take_at, mod-eq_of_lt, if◌then◌else◌, Contains, w32, max, add-one, drop-cons, filter, find, ⊎_elim, pow-suc, mul_comm, mul-lt-mul_of_pos_right, mul-pos, mul-le-mul_right, zero-add, le_trans, le_of_eq, lt_of_lt_of_le, mul_assoc, mul_right_comm, add_comm, lit<, negsuc, ◌*ℤ◌, nat_abs, pow-add, string_bytes, option_copied, IsUtf8, int_lt, codes, w8, insert, length-set, rules, SFits, vec_len, vec_capacity, OnOk, to_z, of_z, ltb-true, IfOk, drop_of_length-le, MatchOption, FitsSigned, IsAscii}
-pub use Rattle.jsonb_doc.proofs.Common.{Tree, Form, IsOutOfMemory, array, Trees, no_trees, tree, elements, count, Decodes, IsOutOfMemoryOrTooLarge, IsTooLarge, HasElementsLeft, bytes_eq-Decides, nat_tests, SameOption, TakesSpot, Locates, HasSpotsLeft, AllZip, Width, keys_of, ordering_reverse, match_ordering, slice_cmp, IsBelowFirst, insert_pair, kind_number, number_reader, StandsFor, object, Pairs, no_pairs, pair, keys, members, value_under, extension, is_equal, key_words, Extension, null, boolean, number, text, is_equal_equiv, values_of, length-take-le, length-values_of, values, trees_of, pairs_of, children_of, AreKeys, IsContent, container_entry, Make, AreSortedKeys, Around, Rooms, IsWriting, EndsWithin, map-append, take-take, to_be_bytes, AllByRecursion, is_eq-slice_cmp, sum_by-cons, Fits, false≢true, ⊤, eq_by_cmp, number_cmp, short_value, key_trees, item_size, IsInRange, AreInRange, ValuesAreInRange, HasKeysLeft, length-keys_of, HasPairsLeft, TakesPair, GivesPair, Parts, no_parts, HoldsElements, HoldsFront, iter_rest, bytes_high_first, byte_len, nat_cmp-equal, FitsExtension, canonical, extension_payload, IsShort, HasShortParts, HasShortElements, HasShortValues, FitsNumber, rank, tree_cmp, IsEqual, AreEqual, PairsAreEqual, ordering_then, AreBytes, deepest, equal_from_test, is_equal-true, one-le-pow, ◌or◌when◌, IsWithinLimits, cast_signed, value_tree, value_parts, deepest_of_trees, deepest_of_pairs, length-reverse, HeadedBy, header_number, All, All-head, All-tail, none-some, field_of, cases_lt, eqb-true, nat_cmp-lt, nat_cmp_refl, nat_cmp_scaled, trees_cmp, pairs_cmp, trees_in, mod_below, number_from, uint64, decimal64, date, NumberReader, AreEntries, AreValues, entry_word, key_bytes, Holds, StandBefore, StartWith, take-append-drop, get_or_append_left, get_or-append-add, All-append, All-cons, w64, to_z-of_z, err_from_is_err_and, w128, binary, HasPairParts, any, IsRootOf, IsRootShape, number_parts, number_view}
+pub use Rattle.jsonb_doc.proofs.Common.{Tree, Form, IsOutOfMemory, array, Trees, no_trees, tree, elements, count, Decodes, IsOutOfMemoryOrTooLarge, IsTooLarge, HasElementsLeft, bytes_eq-Decides, nat_tests, SameOption, TakesSpot, Locates, HasSpotsLeft, AllZip, Width, keys_of, ordering_reverse, match_ordering, slice_cmp, IsBelowFirst, insert_pair, kind_number, number_reader, StandsFor, object, Pairs, no_pairs, pair, keys, members, value_under, extension, is_equal, key_words, Extension, null, boolean, number, text, is_equal_equiv, values_of, length-take-le, length-values_of, values, trees_of, pairs_of, children_of, AreKeys, IsContent, container_entry, Make, AreSortedKeys, Around, Rooms, IsWriting, EndsWithin, map-append, take-take, to_be_bytes, AllByRecursion, is_eq-slice_cmp, sum_by-cons, Fits, false≢true, ⊤, eq_by_cmp, number_cmp, short_value, key_trees, item_size, IsInRange, AreInRange, ValuesAreInRange, HasKeysLeft, length-keys_of, HasPairsLeft, TakesPair, GivesPair, Parts, no_parts, HoldsElements, HoldsFront, iter_rest, bytes_high_first, byte_len, nat_cmp-equal, FitsExtension, canonical, extension_payload, IsShort, HasShortParts, HasShortElements, HasShortValues, FitsNumber, rank, tree_cmp, IsEqual, AreEqual, PairsAreEqual, ordering_then, AreBytes, deepest, equal_from_test, is_equal-true, one-le-pow, ◌or◌when◌, IsWithinLimits, cast_signed, value_tree, value_parts, deepest_of_trees, deepest_of_pairs, length-reverse, HeadedBy, header_number, All, All-head, All-tail, none-some, field_of, cases_lt, eqb-true, nat_cmp-lt, nat_cmp_refl, nat_cmp_scaled, trees_cmp, pairs_cmp, trees_in, mod_below, number_from, uint64, decimal64, date, AreEntries, entry_word, key_bytes, Holds, StartWith, take-append-drop, get_or_append_left, get_or-append-add, All-append, All-cons, w64, to_z-of_z, err_from_is_err_and, w128, binary, HasPairParts, any, IsRootOf, IsRootShape, number_parts, number_view}
 unfoldable pub use Rattle.jsonb_doc.proofs.Common.{number_of, extension_of, IsStrictlySortedBy}
 pub use Rattle.jsonb_keypath.proofs.Common.{Key, list_all, index, unquoted_name, key_paths_view, option_or, quoted_name, key_view, keys_view, signed_decimal, without_quotes, IsUtf8-from_ascii}
 pub use Rattle.jsonb_doc.proofs.Basics.{zip_more, below_next, bytes_cmp_refl, or_false, innermost, same_test, or_second, shuffled, many_texts, empty_of, both_equal, bytes_cmp, same_from_bytes_cmp, scaled_pos, many_keys, zero_of, pushed, popped, none_around, only_ok, not_zero_of, if_answered}
@@ -13,13 +13,12 @@ pub use Rattle.jsonb_doc.proofs.Entries.{content_map, reads_number}
 pub use Rattle.jsonb_doc.proofs.EntryDocuments.{entry_decodes}
 pub use Rattle.jsonb_doc.proofs.EqualValues.{equal_in_trees}
 pub use Rattle.jsonb_doc.proofs.ExtensionsRead.{extension_back}
-pub use Rattle.jsonb_doc.proofs.KeyEntries.{front_of}
 pub use Rattle.jsonb_doc.proofs.KindLemmas.{equal_kind, kind_known, other_kind, differing_kind, same_kind}
 pub use Rattle.jsonb_doc.proofs.LimitLemmas.{decoded_keys, array_too_large-more, decoded_members}
 pub use Rattle.jsonb_doc.proofs.ObjectLemmas.{below_inserted}
 pub use Rattle.jsonb_doc.proofs.OneDocument.{one_canonical_document}
 pub use Rattle.jsonb_doc.proofs.OneTree.{content_unique}
-pub use Rattle.jsonb_doc.proofs.PairsLemmas.{IsPairsOf, IsKeysOf, HoldsPairs-skipped, HoldsPairs-values}
+pub use Rattle.jsonb_doc.proofs.PairsLemmas.{IsPairsOf, IsKeysOf}
 pub use Rattle.jsonb_doc.proofs.ScalarLemmas.{number_content, some_injective, text_content, null_content}
 pub use Rattle.jsonb_doc.proofs.SpotsTaken.{no_spots_left}
 pub use Rattle.jsonb_doc.proofs.TreeLists.{trees_of-elements, keys_of-members, pairs_of-members, members-pairs_of, elements-trees_of}
@@ -45,8 +44,6 @@ pub use Rattle.jsonb_doc.specs.declared.container.ArrayParts.{ArrayParts}
 pub use Rattle.jsonb_doc.specs.declared.container.ObjectParts.{ObjectParts}
 pub use Rattle.jsonb_doc.specs.declared.cursor.Entries.{Entries}
 pub use Rattle.jsonb_doc.specs.declared.element_iter.ElementIter.{ElementIter}
-pub use Rattle.jsonb_doc.specs.declared.entry_iter.EntryIter.{EntryIter}
-pub use Rattle.jsonb_doc.specs.declared.entry_iter.PairEntryIter.{PairEntryIter}
 pub use Rattle.jsonb_doc.specs.declared.entry_iter.StoredEntry.{StoredEntry}
 pub use Rattle.jsonb_doc.specs.declared.error.Error.{Error}
 pub use Rattle.jsonb_doc.specs.declared.error.Error.TheVariants.{OutOfMemory, TooLarge}
@@ -133,7 +130,7 @@ pub use Rattle.jsonb_raw.specs.declared.functions.object.pair_parts.PairPlace.{P
 pub use Rattle.jsonb_raw.specs.declared.functions.operator.stripping.ValuesLeft.{ValuesLeft}
 pub use Rattle.jsonb_raw.specs.declared.functions.parts.ContainerEntries.{ContainerEntries}
 pub use Rattle.jsonb_raw.specs.declared.functions.parts.FirstPair.{FirstPair}
-pub use Rattle.jsonb_raw.specs.declared.functions.parts.PairEntries.{PairEntries}
+pub use Rattle.jsonb_doc.specs.declared.cursor.PairEntries.{PairEntries}
 pub use Rattle.jsonb_raw.specs.declared.functions.parts.PairRuns.{PairRuns}
 pub use Rattle.jsonb_raw.specs.declared.functions.path.cut.Outer.{Outer}
 pub use Rattle.jsonb_raw.specs.declared.functions.path.exists.KeyCursor.{KeyCursor}

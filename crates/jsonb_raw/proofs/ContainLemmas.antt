@@ -1,5 +1,5 @@
 -- Which items and which roots contain which, and the starts of the searches.
-use Rattle.jsonb_raw.proofs.Common.{◌≡◌, ℕ, Bool, true, false, ◌&&◌, ◌||◌, List, [], ◌∷◌, arith, Option, Some, None, refl, sym, ap, ap₂, ◌∙◌, Ordering, Less, Equal, Greater, ◌≢◌, ◌⊎◌, inl, inr, length, bytes_eq, Bor, length-append, ◌==◌, IfSome, nat_cmp, is_eq, zero, suc, replicate, slice_index_or, slice_set, true≢false, nat_tests, option_map_or, slice_cmp, nat_list_cmp_total, list_any, kind_number, Item, Form, number_reader, StandsFor, Stores, HasEntriesLeft, StoredEntry, SameOption, Tree, array, object, Pairs, no_pairs, pair, keys, members, value_under, extension, Trees, no_trees, tree, elements, is_equal, IsBelowFirst, Decodes, key_words, AreRising, pairs_above, is_part_of, each_pair_is_matched, contains, each_is_matched, or_false, below_next, ExtensionValue, Extension, array_document, object_document, length-words, length-key_words, is_json_scalar, EntryIter, is_container, scalars_matched, AllByRecursion, Fits}
+use Rattle.jsonb_raw.proofs.Common.{◌≡◌, ℕ, Bool, true, false, ◌&&◌, ◌||◌, List, [], ◌∷◌, arith, Option, Some, None, refl, sym, ap, ap₂, ◌∙◌, Ordering, Less, Equal, Greater, ◌≢◌, ◌⊎◌, inl, inr, length, bytes_eq, Bor, length-append, ◌==◌, IfSome, nat_cmp, is_eq, zero, suc, replicate, slice_index_or, slice_set, true≢false, nat_tests, option_map_or, slice_cmp, nat_list_cmp_total, list_any, kind_number, Item, Form, number_reader, StandsFor, Stores, HasEntriesLeft, StoredEntry, SameOption, Tree, array, object, Pairs, no_pairs, pair, keys, members, value_under, extension, Trees, no_trees, tree, elements, is_equal, IsBelowFirst, Decodes, key_words, AreRising, pairs_above, is_part_of, each_pair_is_matched, contains, each_is_matched, or_false, below_next, ExtensionValue, Extension, array_document, object_document, length-words, length-key_words, is_json_scalar, Entries, is_container, scalars_matched, AllByRecursion, Fits}
 use Rattle.jsonb_doc.specs.declared.item.Item.TheVariants as item
 use Rattle.jsonb_raw.proofs.PartedRuns.{test_of_order, same_below, no_value}
 use Rattle.jsonb_raw.proofs.EntryEquals.{Aside, part_holds}
@@ -205,7 +205,7 @@ pub scalars_left : (y : Tree) (ys : Trees) (xs : List Tree) → scalars_matched 
 scalars_left y ys xs h = grind (arith, h)
 
 -- an element that is matched leaves the others to match, with the pair that was put aside
-pub matched_left : (form : Form) (it : EntryIter) (Large : Bool → Type 0) (y : Tree) (ys : Trees) (xs : List Tree) (whole : Bool) → HasEntriesLeft form it ys
+pub matched_left : (form : Form) (it : Entries) (Large : Bool → Type 0) (y : Tree) (ys : Trees) (xs : List Tree) (whole : Bool) → HasEntriesLeft form it ys
     → list_any (is_part_of y) xs ≡ true
     → AllByRecursion Fits (elements (tree y ys)) × (scalars_matched (tree y ys) xs ≡ true) × Aside Large (each_is_matched (tree y ys) xs) whole
     → SomeEntries form it (λ left. AllByRecursion Fits (elements left) × (scalars_matched left xs ≡ true) × Aside Large (each_is_matched left xs) whole)

@@ -6,8 +6,7 @@ use Rattle.jsonb_doc.specs.declared.layout.HeaderKind.TheVariants as header_kind
 use Rattle.jsonb_raw.specs.Private.Cuts.{entries_kept}
 use Rattle.jsonb_raw.proofs.ChildLemmas.{no_such_element, drop_one_more, split_at}
 use Rattle.jsonb_raw.proofs.PositionLemmas.{names_around, values_around}
-use Rattle.jsonb_raw.proofs.StripWalk.{values_of-members}
-use Rattle.jsonb_raw.proofs.RunLemmas.{Member, entry_taken, no_entry_left}
+use Rattle.jsonb_raw.proofs.RunLemmas.{values_of-members, Member, entry_taken, no_entry_left}
 
 -- ---- lists with an element changed or left out
 

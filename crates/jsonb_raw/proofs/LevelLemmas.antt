@@ -1,5 +1,5 @@
 -- What walks have left of containers: a level's first part, the levels around it, and two walks up to a difference.
-use Rattle.jsonb_raw.proofs.Common.{◌≡◌, ℕ, suc, ◌+◌, ◌<◌, List, [], ◌∷◌, ◌++◌, length, Option, Some, None, Result, Ok, Err, refl, sym, ap, subst, ◌∙◌, arith, reverse, Bor, length-reverse, Error, StoredEntry, PairEntryIter, Trees, count, keys, Form, Stores, TakesPairEntry, key_trees, weight_of, weight-pos, inner_weighs, taken_weighs, weight_of_all, falls_inward, falls_outward, ChildCursor, EntryPrefix, parts_of_trees, parts_of_pairs, HasPartsLeft, TakesPart, IsKeyOf, IsSmaller, IsLevelWithin, level_room, level_bound, innermost, ◌==◌, true, false, nat_tests, Tree, deepest, number_reader, Decodes, IsContent, HeadedBy, StandsFor, kind_number, header_number, HeaderKind, Item, Array, Object, HasContent-headed, HasContent-kind, array_content, object_content, is_array, parts, HasAllLeft, is_container, ◌≤◌, Bool, ◌⊎◌, Ordering, Less, IsOkAnd, IfSome, is_some, slice_cmp, ordering_then, is_ne, ShortNumber, no_trees, tree, number_cmp, rank, tree_cmp, trees_cmp, pairs_cmp, number_of, short_value, then_assoc, part_cmp, reads_number, number_content, some_injective}
+use Rattle.jsonb_raw.proofs.Common.{◌≡◌, ℕ, suc, ◌+◌, ◌<◌, List, [], ◌∷◌, ◌++◌, length, Option, Some, None, Result, Ok, Err, refl, sym, ap, subst, ◌∙◌, arith, reverse, Bor, length-reverse, Error, StoredEntry, PairEntries, Trees, count, keys, Form, Stores, TakesPairEntry, key_trees, weight_of, weight-pos, inner_weighs, taken_weighs, weight_of_all, falls_inward, falls_outward, ChildCursor, EntryPrefix, parts_of_trees, parts_of_pairs, HasPartsLeft, TakesPart, IsKeyOf, IsSmaller, IsLevelWithin, level_room, level_bound, innermost, ◌==◌, true, false, nat_tests, Tree, deepest, number_reader, Decodes, IsContent, HeadedBy, StandsFor, kind_number, header_number, HeaderKind, Item, Array, Object, HasContent-headed, HasContent-kind, array_content, object_content, is_array, parts, HasAllLeft, is_container, ◌≤◌, Bool, ◌⊎◌, Ordering, Less, IsOkAnd, IfSome, is_some, slice_cmp, ordering_then, is_ne, ShortNumber, no_trees, tree, number_cmp, rank, tree_cmp, trees_cmp, pairs_cmp, number_of, short_value, then_assoc, part_cmp, reads_number, number_content, some_injective}
 use Rattle.jsonb_doc.specs.Tree as spec
 use Rattle.jsonb_raw.specs.declared.level.ChildCursor.TheVariants.{Pairs}
 use Rattle.jsonb_raw.specs.Private.Order.{Decides}
@@ -11,7 +11,7 @@ pub part_is : (form : Form) (level : ChildCursor) (r : Result (Option (Option (B
     → TakesPart form ps r level
 part_is form level r ps qs e h = subst (λ (xs : List EntryPrefix). TakesPart form xs r level) (sym e) h
 
-pub no_pair_error : (form : Form) (it : PairEntryIter) (e : Error) (qs : spec.Pairs) → TakesPairEntry form qs (Some (Err e)) it → ⊥
+pub no_pair_error : (form : Form) (it : PairEntries) (e : Error) (qs : spec.Pairs) → TakesPairEntry form qs (Some (Err e)) it → ⊥
 no_pair_error form it e qs h = grind arith
 
 -- how many parts a container has

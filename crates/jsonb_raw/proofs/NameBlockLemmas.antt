@@ -1,5 +1,5 @@
 -- Names that are looked up among strings, and what calls decided of strings that are joined.
-use Rattle.jsonb_raw.proofs.Common.{IsOkAnd, ◌∙◌, cond, nat_cmp, slice_cmp, is_eq, is_eq-slice_cmp, list_any-append, list_all-append, key_trees, TextSet, is_in, ◌≡◌, ◌==◌, ◌||◌, ◌&&◌, ◌<◌, ◌≤◌, ◌+◌, ℕ, Bool, true, false, List, [], ◌∷◌, map, take, drop, length, get_or, Option, Some, None, Result, Ok, Err, refl, sym, ap, ap₂, true≢false, arith, Bor, bytes_eq, beq, list_any, All, All-head, All-tail, bytes_eq-true, Error, EntryIter, StoredEntry, kind_number, Tree, text, array, Trees, no_trees, tree, elements, Form, HasEntriesLeft, Stores, GivesEntry, is_text, has_by, texts_of, is_one_of, decided_by, HasTextsLeft, TakesText, IsPlaced, NameTable, shuffled, ◌++◌, length-append, Any, text_content, FnReturnsAt, get_or_append_left, get_or-append-add, All-append, All-cons, Tells, texts, LargeTells, LeavesTexts, StandsFor, Item, add-one, drop-cons, drop_of_length-le, get_or-take, subst}
+use Rattle.jsonb_raw.proofs.Common.{IsOkAnd, ◌∙◌, cond, nat_cmp, slice_cmp, is_eq, is_eq-slice_cmp, list_any-append, list_all-append, key_trees, TextSet, is_in, ◌≡◌, ◌==◌, ◌||◌, ◌&&◌, ◌<◌, ◌≤◌, ◌+◌, ℕ, Bool, true, false, List, [], ◌∷◌, map, take, drop, length, get_or, Option, Some, None, Result, Ok, Err, refl, sym, ap, ap₂, true≢false, arith, Bor, bytes_eq, beq, list_any, All, All-head, All-tail, bytes_eq-true, Error, Entries, StoredEntry, kind_number, Tree, text, array, Trees, no_trees, tree, elements, Form, HasEntriesLeft, Stores, GivesEntry, is_text, has_by, texts_of, is_one_of, decided_by, HasTextsLeft, TakesText, IsPlaced, NameTable, shuffled, ◌++◌, length-append, Any, text_content, FnReturnsAt, get_or_append_left, get_or-append-add, All-append, All-cons, Tells, texts, LargeTells, LeavesTexts, StandsFor, Item, add-one, drop-cons, drop_of_length-le, get_or-take, subst}
 use Rattle.jsonb_raw.proofs.EntriesLeft.{SomeEntries, SomeEntries-first, SomeEntries-error, SomeEntries-none}
 use Rattle.std.proofs.Common.{eqb-true, length-take}
 use Rattle.std.specs.Fn.{Shared}
@@ -10,11 +10,11 @@ module _ (form : Form) (e : StoredEntry) where
   no_text : (t : Tree) (ts : Trees) → Stores form e t → (kind_number e.kind == 1) ≡ false → texts_of (tree t ts) ≡ texts_of ts
   no_text t ts h k = grind arith
 
-  one_text : (it : EntryIter) (t : Tree) (ts : Trees) → Stores form e t → (kind_number e.kind == 1) ≡ true → HasEntriesLeft form it ts
+  one_text : (it : Entries) (t : Tree) (ts : Trees) → Stores form e t → (kind_number e.kind == 1) ≡ true → HasEntriesLeft form it ts
       → TakesText form (texts_of (tree t ts)) (Some e.content) it
   one_text it t ts h e k = grind arith
 
-module _ (form : Form) (it it' : EntryIter) (ss : List (List ℕ)) (h : HasTextsLeft form it ss) where
+module _ (form : Form) (it it' : Entries) (ss : List (List ℕ)) (h : HasTextsLeft form it ss) where
   these : SomeEntries form it (λ ts. texts_of ts ≡ ss)
   these = record { trees = h.trees; left = h.left; fact = h.texts }
 
@@ -34,17 +34,17 @@ module _ (form : Form) (it it' : EntryIter) (ss : List (List ℕ)) (h : HasTexts
   pub no_text_error : {G : Type 0} → (r : Result StoredEntry Error) (e : Error) → r ≡ Err e → GivesEntry it (Some r) it' → G
   no_text_error r e is n = SomeEntries-error form it it' r e (λ ts. texts_of ts ≡ ss) is n these
 
-  pub text_none : (after : EntryIter) → GivesEntry it None it' → TakesText form ss None after
+  pub text_none : (after : Entries) → GivesEntry it None it' → TakesText form ss None after
   text_none after n = grind (arith, SomeEntries-none, these)
 
 -- ---- the strings that are left of a walk
 
-pub record SomeTexts (form : Form) (it : EntryIter) (Q : List (List ℕ) → Type 0) : Type 0 where
+pub record SomeTexts (form : Form) (it : Entries) (Q : List (List ℕ) → Type 0) : Type 0 where
   pub strings : List (List ℕ)
   pub left : HasTextsLeft form it strings
   pub fact : Q strings
 
-module _ (form : Form) (it it' : EntryIter) (Q : List (List ℕ) → Type 0) (s : SomeTexts form it Q) (r : Option (Bor (List ℕ)))
+module _ (form : Form) (it it' : Entries) (Q : List (List ℕ) → Type 0) (s : SomeTexts form it Q) (r : Option (Bor (List ℕ)))
     (takes : (ss : List (List ℕ)) → HasTextsLeft form it ss → TakesText form ss r it') where
   pub SomeTexts-first : {G : Type 0} → (x : Bor (List ℕ)) → r ≡ Some x
       → ((rest : List (List ℕ)) → HasTextsLeft form it' rest → Q (x.now ∷ rest) → G) → G
@@ -142,7 +142,7 @@ texts_of-keys [] = refl
 texts_of-keys (k ∷ ks) = ap (λ xs. k ∷ xs) (texts_of-keys ks)
 
 -- the keys of an object are strings
-pub keys_left : (form : Form) (it : EntryIter) (ks : List (List ℕ)) → HasEntriesLeft form it (key_trees ks) → HasTextsLeft form it ks
+pub keys_left : (form : Form) (it : Entries) (ks : List (List ℕ)) → HasEntriesLeft form it (key_trees ks) → HasTextsLeft form it ks
 keys_left form it ks h = record { trees = key_trees ks; left = h; texts = texts_of-keys ks }
 
 -- ---- some names, and others

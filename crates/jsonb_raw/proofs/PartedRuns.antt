@@ -1,5 +1,5 @@
 -- Steps along pairs whose keys are sorted, and runs of those that have a name or have none.
-use Rattle.jsonb_raw.proofs.Common.{◌≡◌, ℕ, true, false, List, [], ◌∷◌, Option, Some, None, Ordering, refl, sym, ◌∙◌, option_copied, Bor, ◌+◌, Bool, ◌++◌, length, take, drop, map, ap, arith, append_assoc, length-append, IsUtf8, slice_cmp, nat_list_cmp_total, AllByRecursion, IsStrictlySortedBy, deref, IsBelowFirst, AreKeys, TextSet, is_in, with_pairs, first_and_others, is_among, IsNotBelow, DecideFrom, DecideForKeys, PartsFirst, all_or_none, keys_of, values_of, beq, Tree, text, object, Pairs, members, Form, Entries, StoredEntry, PairEntries, PairRuns, parted, HoldTrees, HoldPairs, ArePairsOf, TakesFirst, PairsHeld, Result, Ok, Err, subst, not, bytes_eq, ordering_reverse, is_eq-slice_cmp, no_pairs, pair, keys, value_under, AreRising, keys_rise, pairs_above, below_next, list_any, Error, EntryIter, HasEntriesLeft, GivesEntry, TakesEntry, key_trees, IsCursorOf, IsPassed, has_by, KeyCursor, has_text}
+use Rattle.jsonb_raw.proofs.Common.{◌≡◌, ℕ, true, false, List, [], ◌∷◌, Option, Some, None, Ordering, refl, sym, ◌∙◌, option_copied, Bor, ◌+◌, Bool, ◌++◌, length, take, drop, map, ap, arith, append_assoc, length-append, IsUtf8, slice_cmp, nat_list_cmp_total, AllByRecursion, IsStrictlySortedBy, deref, IsBelowFirst, AreKeys, TextSet, is_in, with_pairs, first_and_others, is_among, IsNotBelow, DecideFrom, DecideForKeys, PartsFirst, all_or_none, keys_of, values_of, beq, Tree, text, object, Pairs, members, Form, Entries, StoredEntry, PairEntries, PairRuns, parted, HoldTrees, HoldPairs, ArePairsOf, TakesFirst, PairsHeld, Result, Ok, Err, subst, not, bytes_eq, ordering_reverse, is_eq-slice_cmp, no_pairs, pair, keys, value_under, AreRising, keys_rise, pairs_above, below_next, list_any, Error, HasEntriesLeft, GivesEntry, TakesEntry, key_trees, IsCursorOf, IsPassed, has_by, KeyCursor, has_text}
 use Rattle.std.specs.Map.Iter.{TakesFirst as TakesName}
 use Rattle.std.specs.declared.cmp.Ordering.TheVariants.{Less, Equal, Greater}
 use Rattle.jsonb_raw.proofs.RunLemmas.{Member}
@@ -37,7 +37,7 @@ none_below : (key : List ℕ) (ks : List (List ℕ)) → IsBelowFirst key ks →
 none_below key [] below rising = refl
 none_below key (k ∷ ks) below rising = grind (arith, test_of_order, turned, below_next, none_below key ks (below_next key k ks below rising.0) rising.1)
 
-module _ (form : Form) (ks : List (List ℕ)) (c : KeyCursor) (ahead' : EntryIter) (h : IsCursorOf form c ks) where
+module _ (form : Form) (ks : List (List ℕ)) (c : KeyCursor) (ahead' : Entries) (h : IsCursorOf form c ks) where
   module _ (r : Result StoredEntry Error) (x : StoredEntry) (e : r ≡ Ok x) (n : GivesEntry c.left (Some r) ahead') where
     -- the key that was given is the first of those after the cursor
     pub record FirstKey : Type 0 where

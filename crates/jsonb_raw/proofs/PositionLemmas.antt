@@ -6,7 +6,7 @@ use Rattle.jsonb_doc.specs.declared.layout.HeaderKind.TheVariants as header_kind
 use Rattle.std.proofs.lemmas.Cmp.{nat_list_cmp_total}
 use Rattle.std.proofs.Common.{remove}
 use Rattle.jsonb_raw.proofs.ChildLemmas.{split_at}
-use Rattle.jsonb_raw.proofs.StripWalk.{values_of-members}
+use Rattle.jsonb_raw.proofs.RunLemmas.{values_of-members}
 
 -- ---- the child that a step selects
 

@@ -1,5 +1,5 @@
 -- Runs of entries, the containers that they make, and walks that keep some of them.
-use Rattle.jsonb_raw.proofs.Common.{◌≡◌, inr, ℕ, ◌+◌, ◌^◌, ◌<◌, ◌≤◌, List, [], ◌∷◌, ◌++◌, length, map, take, drop, get_or, Option, Some, Result, refl, sym, ap, subst, ◌∙◌, arith, append-nil, ◌-◌, None, append_assoc, insert, keys_of, values_of, Tree, Trees, text, array, object, trees_of, pairs_of, elements, Pairs, no_pairs, pair, keys, values, members, Form, number_reader, NumberReader, AreEntries, AreValues, AreKeys, entry_word, key_words, key_bytes, IsShort, HasShortElements, IsTooLarge, IsOutOfMemoryOrTooLarge, Error, trees_of-elements, keys_of-members, Holds, ArrayParts, Entries, HeaderKind, Make, AreSortedKeys, too_many, within_parts, OwnedJsonb, Makes, as_elements, HoldTrees, RunsHold, AreElementsOf, IsTooLongRoot, IsTooLongElement, IsFirst, TakesFirst, HoldPairs, ArePairsOf, AreContainerEntries, Holding, PairsHeld, PairsOpen, IsFirstPair, TakesFirstPair, many_keys, kind_number, front_of, HoldsPairs-skipped, HoldsPairs-values, StandBefore, ObjectParts, ContainerEntries, StoredEntry, PairEntries, FirstPair, PairRuns, entries_append, one_entry, zero, suc}
+use Rattle.jsonb_raw.proofs.Common.{◌≡◌, inr, ℕ, ◌+◌, ◌^◌, ◌<◌, ◌≤◌, List, [], ◌∷◌, ◌++◌, length, map, take, drop, get_or, Option, Some, Result, refl, sym, ap, subst, ◌∙◌, arith, append-nil, ◌-◌, None, append_assoc, insert, keys_of, values_of, Tree, Trees, text, array, object, trees_of, pairs_of, elements, Pairs, no_pairs, pair, keys, values, members, Form, number_reader, AreEntries, entry_word, IsShort, HasShortElements, IsTooLarge, IsOutOfMemoryOrTooLarge, Error, trees_of-elements, keys_of-members, Holds, ArrayParts, Entries, HeaderKind, Make, AreSortedKeys, too_many, within_parts, OwnedJsonb, Makes, as_elements, HoldTrees, RunsHold, AreElementsOf, IsTooLongRoot, IsTooLongElement, IsFirst, TakesFirst, HoldPairs, ArePairsOf, AreContainerEntries, Holding, PairsHeld, PairsOpen, IsFirstPair, TakesFirstPair, many_keys, kind_number, ObjectParts, ContainerEntries, StoredEntry, PairEntries, FirstPair, PairRuns, entries_append, one_entry, zero, suc, HasPairEntriesLeft}
 use Rattle.jsonb_doc.specs.declared.container.Container.TheVariants.{Array, Object}
 use Rattle.jsonb_doc.specs.declared.layout.HeaderKind.TheVariants as header_kind
 use Rattle.jsonb_raw.proofs.AnswerLemmas.{drop_first}
@@ -143,44 +143,30 @@ module _ (form : Form) (runs : List Entries) (run left : Entries) (xs ys : List 
 
 -- ---- the pairs of an object as it is stored
 
-pub keys_as_entries : (number_at : NumberReader) (ks : List (List ℕ)) → AreKeys ks → AreEntries number_at (trees_of (map text ks)) (key_words ks) (key_bytes ks)
-keys_as_entries number_at [] are = (refl, refl)
-keys_as_entries number_at (key ∷ ks) are = grind (arith, keys_as_entries number_at ks are.2)
-
-pub values_as_entries : (number_at : NumberReader) (ps : Pairs) (words contents : List ℕ) → AreValues number_at ps words contents
-    → AreEntries number_at (trees_of (values_of (members ps))) words contents
-values_as_entries number_at no_pairs words contents h = h
-values_as_entries number_at (pair key t ps) words contents h = grind (arith, values_as_entries number_at ps h.other_words h.other_contents h.others)
+pub values_of-members : (ps : Pairs) → values_of (members ps) ≡ elements (values ps)
+values_of-members no_pairs = refl
+values_of-members (pair key t ps) = ap (λ us. t ∷ us) (values_of-members ps)
 
 module _ (form : Form) where
-  pub values_skipped : (t : Tree) (p : ObjectParts)
-      → ((parts : List (List ℕ)) (rest : List ℕ) → StandBefore parts p.key_words.now p.contents.now rest → ⊥) → Holds (number_reader form) t (Object p) → ⊥
-  values_skipped t p h k = grind (arith, HoldsPairs-skipped)
-
-  pub pairs_of_object : (ps : Pairs) (p : ObjectParts) (pairs : PairEntries) (rest : List ℕ)
-      → ((parts : List (List ℕ)) (left : List ℕ) → StandBefore parts p.key_words.now p.contents.now left → rest ≡ left)
-      → pairs.keys.words.now ≡ p.key_words.now → pairs.keys.contents.now ≡ take (length p.contents.now - length rest) p.contents.now
-      → pairs.values.words.now ≡ p.value_words.now → pairs.values.contents.now ≡ rest
-      → Holds (number_reader form) (object ps) (Object p) → HoldPairs form pairs (members ps)
-  pairs_of_object ps p pairs rest found words front values contents h =
-      let same = HoldsPairs-values (number_reader form) ps p rest h found in
-      let names : take (length p.contents.now - length rest) p.contents.now ≡ key_bytes (keys ps) =
-      rw same (front_of p.contents.now (key_bytes (keys ps)) h.rest h.bytes) in
-      search (arith, keys_of-members, keys_as_entries, values, values_as_entries)
+  pub pairs_are : (ps : Pairs) (pairs : PairEntries) → HasPairEntriesLeft form pairs ps → HoldPairs form pairs (members ps)
+  pairs_are ps pairs h =
+      record { names = rw (keys_of-members ps) h.names; parts = rw (values_of-members ps, trees_of-elements (values ps)) h.parts }
 
   -- the pairs of an object, by its parts
   pub pairs_by_parts : (t : Tree) (p : ObjectParts) (pairs : PairEntries) → Holds (number_reader form) t (Object p)
-      → ((ps : Pairs) → Holds (number_reader form) (object ps) (Object p) → HoldPairs form pairs (members ps)) → ArePairsOf form t (Some pairs)
-  pairs_by_parts t p pairs h e = grind arith
+      → ((ps : Pairs) → Holds (number_reader form) (object ps) (Object p) → HasPairEntriesLeft form pairs ps) → ArePairsOf form t (Some pairs)
+  pairs_by_parts (object ps) p pairs h e = pairs_are ps pairs (e ps h)
+  pairs_by_parts _ p pairs h e = absurd h
 
   pub no_parts : (t : Tree) (p : ObjectParts) → Holds (number_reader form) t (Object p)
       → ((ps : Pairs) → Holds (number_reader form) (object ps) (Object p) → ⊥) → ⊥
   no_parts t p h k = grind arith
 
   pub object_entries_are : (t : Tree) (p : ObjectParts) (e : ContainerEntries) → e.kind ≡ header_kind.Object → Holds (number_reader form) t (Object p)
-      → ((ps : Pairs) → Holds (number_reader form) (object ps) (Object p) → HoldPairs form (record { keys = e.keys; values = e.values }) (members ps))
+      → ((ps : Pairs) → Holds (number_reader form) (object ps) (Object p) → HasPairEntriesLeft form (record { keys = e.keys; values = e.values }) ps)
       → AreContainerEntries form t (Some e)
-  object_entries_are t p e h k f = grind arith
+  object_entries_are (object ps) p e kind h f = (kind, h.are_keys, pairs_are ps _ (f ps h))
+  object_entries_are _ p e kind h f = absurd h
 
   pub array_entries_are : (t : Tree) (p : ArrayParts) (e : ContainerEntries) → e.kind ≡ header_kind.Array → e.keys.words.now ≡ [] → e.keys.contents.now ≡ []
       → e.values.words.now ≡ p.words.now → e.values.contents.now ≡ p.contents.now → Holds (number_reader form) t (Array p)
@@ -291,7 +277,7 @@ names_read form pairs ps h = names_utf8 form (keys_of ps) _ _ h.names.entries
 pub no_members : (form : Form) (pairs : PairEntries) (ps : List Member) (count : ℕ) → HoldPairs form pairs ps
     → ((form : Form) (ts : List Tree) → HoldTrees form pairs.keys ts → count ≡ length ts) → count ≡ 0 → ps ≡ []
 no_members form pairs [] count h counted none = refl
-no_members form pairs (p ∷ ps) count h counted none = absurd (omega (arith, counted form _ h.names, none))
+no_members form pairs (p ∷ ps) count h counted none = absurd (omega (arith, counted form (map text (keys_of (p ∷ ps))) h.names, none))
 
 module _ (form : Form) (run : PairEntries) (p : Member) (ps : List Member) (first : FirstPair) (names : List ℕ) (h : IsFirstPair form run p ps first)
     (is : names ≡ run.keys.contents.now) where

@@ -1,7 +1,7 @@
 -- Containers without the nulls of their objects: what is stripped, and the walk that writes the rest.
 use Rattle.jsonb_raw.proofs.Common.{◌≡◌, ℕ, ◌+◌, ◌≤◌, ap₂, Bool, true, false, List, [], ◌∷◌, ◌++◌, Some, length, map, refl, sym, ap, subst, ◌∙◌, arith, append_assoc, kind_number, Tree, text, array, object, elements, values, keys, Form, number_reader, IsContent, container_entry, StoredEntry, Entries, Writer, StartWith, Around, IsWriting, word_cancel, keys_of-members, ValuesLeft, ContainerEntries, HoldTrees, AreEntriesOf, Holding, WordsHold, stops, stripped, beside, entries_kept, values_kept, HoldValues, Begins, AreWritten, is_null, cond, suc, ◌==◌, ◌||◌, Pairs, no_pairs, pair, Trees, no_trees, tree, members, trees_of, IsBelowFirst, AreKeys, AreRising, keys_rise, strip, strip_pairs, strip_trees, values_of, nat_tests, null_entry, Make, pairs_of-members, leaves_out, length-values_of}
 use Rattle.jsonb_raw.specs.declared.functions.operator.stripping.Outer.{Outer}
-use Rattle.jsonb_raw.proofs.RunLemmas.{holding_begun, holding_kept, EntryTaken, TextFirst}
+use Rattle.jsonb_raw.proofs.RunLemmas.{holding_begun, holding_kept, EntryTaken, TextFirst, values_of-members}
 use Rattle.std.proofs.lemmas.Cmp.{nat_list_cmp_total}
 
 -- a key below those of all pairs is below those of the pairs that stay
@@ -28,10 +28,6 @@ length-stripped (t ∷ ts) = ap suc (length-stripped ts)
 pub values_of-stripped : (ps : Pairs) → values_of (members (strip_pairs ps)) ≡ stripped true (elements (values ps))
 values_of-stripped no_pairs = refl
 values_of-stripped (pair key t ps) = grind (arith, values_of-stripped ps)
-
-pub values_of-members : (ps : Pairs) → values_of (members ps) ≡ elements (values ps)
-values_of-members no_pairs = refl
-values_of-members (pair key t ps) = ap (λ us. t ∷ us) (values_of-members ps)
 
 -- ---- kinds
 

@@ -18,10 +18,11 @@ ghost use Rattle.jsonb_doc.specs.Answer.{IsDecodingError};
 ghost use Rattle.jsonb_raw.specs.Private.Compared.{Decides, IsShorter, IsShortOf, PassesOver};
 
 use crate::compared::{Compared, is_container_longer_than};
+use jsonb_doc::cursor::Entries;
 use jsonb_doc::layout::{EntryKind, HeaderKind, split_header};
 use jsonb_doc::{
-    EntryIter, Error, ExtensionValue, Item, Number, ShortNumber, StoredEntry, array_entries,
-    bytes_equal, object_entries, short_equal,
+    Error, ExtensionValue, Item, Number, ShortNumber, StoredEntry, array_entries, bytes_equal,
+    object_entries, short_equal,
 };
 
 /// Returns `true` if two items are equal by value: of one type, with numbers of one exact value and extensions of the
@@ -91,14 +92,14 @@ fn objects_equal<'a>(bytes: &'a [u8], others: &'a [u8]) -> Result<Compared<'a>, 
 {
     let found = object_entries(bytes)?;
     let wanted = object_entries(others)?;
-    if !texts_equal(found.keys(), wanted.keys())? {
+    if !texts_equal(found.keys, wanted.keys)? {
         return Ok(Compared::Known(false));
     }
-    entries_equal(found.values(), wanted.values(), bytes.len() / 2)
+    entries_equal(found.values, wanted.values, bytes.len() / 2)
 }
 
 /// Returns whether the remaining entries, which are strings, are equal, one by one.
-fn texts_equal(found: EntryIter<'_>, others: EntryIter<'_>) -> Result<bool, Error>
+fn texts_equal(found: Entries<'_>, others: Entries<'_>) -> Result<bool, Error>
     ensures equal { (form other_form : Form) (ks ls : List (List ℕ))
         → HasEntriesLeft form found.entry (key_trees ks) → HasEntriesLeft other_form others.entry (key_trees ls)
         → IsOkAnd result (λ b. b ≡ are_equal (key_trees ks) (key_trees ls)) }
@@ -122,8 +123,8 @@ fn texts_equal(found: EntryIter<'_>, others: EntryIter<'_>) -> Result<bool, Erro
 /// than `half`.
 #[cycle(equal)]
 fn entries_equal<'a>(
-    found: EntryIter<'a>,
-    others: EntryIter<'a>,
+    found: Entries<'a>,
+    others: Entries<'a>,
     half: usize,
 ) -> Result<Compared<'a>, Error>
     ensures equal { (form other_form : Form) (ts us : Trees)
@@ -249,7 +250,7 @@ fn bytes_tell(
 }
 
 /// Returns whether one of the remaining entries equals the given one, and advances past the first that does.
-pub(crate) fn find_equal(found: &mut EntryIter<'_>, wanted: &StoredEntry<'_>) -> Result<bool, Error>
+pub(crate) fn find_equal(found: &mut Entries<'_>, wanted: &StoredEntry<'_>) -> Result<bool, Error>
     ensures found { (form other_form : Form) (ts : Trees) (u : Tree) → HasEntriesLeft form found.old ts
         → Stores other_form wanted.now u → IsOkAnd result (λ b. b ≡ list_any (λ t. is_equal t u) (elements ts)) }
     ensures passed { IfOk result (λ _. PassesOver found.old found.new) }
@@ -268,10 +269,7 @@ pub(crate) fn find_equal(found: &mut EntryIter<'_>, wanted: &StoredEntry<'_>) ->
 }
 
 /// Returns whether the next of the entries equals the given one, and advances past it if so.
-pub(crate) fn next_equals(
-    found: &mut EntryIter<'_>,
-    wanted: &StoredEntry<'_>,
-) -> Result<bool, Error>
+pub(crate) fn next_equals(found: &mut Entries<'_>, wanted: &StoredEntry<'_>) -> Result<bool, Error>
     ensures found { (form other_form : Form) (ts : Trees) (u : Tree) → HasEntriesLeft form found.old ts
         → Stores other_form wanted.now u
         → IsOkAnd result (λ b. b ≡ true → list_any (λ t. is_equal t u) (elements ts) ≡ true) }
@@ -291,7 +289,7 @@ pub(crate) fn next_equals(
 
 /// Returns whether one of the first `count` entries equals the given one.
 pub(crate) fn find_equal_among(
-    found: EntryIter<'_>,
+    found: Entries<'_>,
     wanted: &StoredEntry<'_>,
     count: usize,
 ) -> Result<bool, Error>

@@ -10,14 +10,15 @@ ghost use Rattle.jsonb_doc.specs.Answer.{IsDecodingError};
 ghost use Rattle.jsonb_raw.specs.Scalars.{is_array};
 ghost use Rattle.jsonb_raw.specs.Private.Levels.{EntryPrefix, HasPartsLeft, HasAllLeft, IsLevelWithin, TakesPart, IsSmaller};
 
+use jsonb_doc::cursor::{Entries, PairEntries};
 use jsonb_doc::layout::{HeaderKind, split_header};
-use jsonb_doc::{EntryIter, Error, PairEntryIter, StoredEntry, array_entries, object_entries};
+use jsonb_doc::{Error, StoredEntry, array_entries, object_entries};
 
 /// The remaining elements or members of a container, as they are stored.
 #[derive(Clone, Copy)]
 pub enum ChildCursor<'a> {
-    Elements(EntryIter<'a>),
-    Pairs(PairEntryIter<'a>),
+    Elements(Entries<'a>),
+    Pairs(PairEntries<'a>),
 }
 
 /// Returns `true` if a container is an array, by its header.
@@ -60,7 +61,7 @@ impl<'a> ChildCursor<'a> {
     {
         match self {
             ChildCursor::Elements(left) => left.len(),
-            ChildCursor::Pairs(left) => left.keys().len(),
+            ChildCursor::Pairs(left) => left.keys.len(),
         }
     }
 

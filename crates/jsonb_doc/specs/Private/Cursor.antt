@@ -2,14 +2,15 @@
 use Rattle.std.specs.Prelude.{◌≡◌, List, [], ◌∷◌, ◌++◌, flat_map, ℕ, Option, Some, None, ⊤}
 use Rattle.jsonb_doc.specs.Tree.{Tree, trees_of}
 use Rattle.jsonb_doc.specs.Payload.{Form, number_reader}
-use Rattle.jsonb_doc.specs.Format.{AreEntries, BeginWith, IsContent}
+use Rattle.jsonb_doc.specs.Format.{BeginWith, IsContent}
+use Rattle.jsonb_doc.specs.Private.Stored.{HasEntriesLeft}
 use Rattle.jsonb_doc.specs.Kinds.{kind_number}
 use Rattle.jsonb_doc.specs.declared.entry_iter.StoredEntry.{StoredEntry}
 use Rattle.jsonb_doc.specs.declared.cursor.Entries.{Entries}
 
 -- Holds if the words and the contents are those of these trees.
-pub record HoldTrees (form : Form) (run : Entries) (ts : List Tree) : Type 0 where
-  pub entries : AreEntries (number_reader form) (trees_of ts) run.words.now run.contents.now
+abbrev pub HoldTrees : Form → Entries → List Tree → Type 0
+HoldTrees form run ts = HasEntriesLeft form run (trees_of ts)
 
 -- Holds if the run begins with an entry of this tree, of this kind and content, and the others hold the trees after it.
 pub record IsFirst (form : Form) (run : Entries) (t : Tree) (ts : List Tree) (kind : ℕ) (content : List ℕ)

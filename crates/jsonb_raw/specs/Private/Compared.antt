@@ -10,7 +10,7 @@ use Rattle.jsonb_doc.specs.Private.Stored.{HasEntriesLeft, Stores, entries_room}
 use Rattle.jsonb_doc.specs.Kinds.{kind_number}
 use Rattle.jsonb_doc.specs.declared.short_number.ShortNumber.{ShortNumber}
 use Rattle.jsonb_doc.specs.declared.entry_iter.StoredEntry.{StoredEntry}
-use Rattle.jsonb_doc.specs.declared.entry_iter.EntryIter.{EntryIter}
+use Rattle.jsonb_doc.specs.declared.cursor.Entries.{Entries}
 use Rattle.jsonb_raw.specs.Contains.{is_part_of}
 use Rattle.jsonb_raw.specs.declared.compared.Compared.{Compared}
 use Rattle.jsonb_raw.specs.declared.functions.operator.contains.EntryPrefix.{EntryPrefix}
@@ -42,13 +42,13 @@ pub record IsShortOf (entry : StoredEntry) (short : Option ShortNumber) : Type 0
   pub number : IfSome short (λ n. number_of entry.content.now ≡ Some (short_value n))
 
 -- what is left afterwards was left before
-pub record PassesOver (before after : EntryIter) : Type 0 where
+pub record PassesOver (before after : Entries) : Type 0 where
   pub others : (form : Form) (ts : Trees) → HasEntriesLeft form before ts
       → (us : Trees) × HasEntriesLeft form after us
       × ((test : Tree → Bool) → list_any test (elements us) ≡ true → list_any test (elements ts) ≡ true)
 
 -- what is left in the second was the last that is left in the first
-pub record IsTailOf (all left : EntryIter) : Type 0 where
+pub record IsTailOf (all left : Entries) : Type 0 where
   pub room : entries_room left ≤ entries_room all
   pub last : (form : Form) (ts : Trees) → HasEntriesLeft form all ts
       → (us : Trees) × HasEntriesLeft form left us × ((front : List Tree) × (elements ts ≡ front ++ elements us))
@@ -59,7 +59,7 @@ IsOneAnswer test form None b = b ≡ false
 IsOneAnswer test form (Some entry) b = (t : Tree) × Stores form entry t × (test t ≡ b)
 
 -- a search finds that the test holds of one, or leaves that to the entry that was put aside
-abbrev pub FindsOne : (Tree → Bool) → Form → Bool → Option EntryIter → Option StoredEntry → Type 0
+abbrev pub FindsOne : (Tree → Bool) → Form → Bool → Option Entries → Option StoredEntry → Type 0
 FindsOne test form whole (Some rest) large = whole ≡ true
 FindsOne test form whole None large = IsOneAnswer test form large whole
 

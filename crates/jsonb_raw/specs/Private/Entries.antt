@@ -14,7 +14,7 @@ use Rattle.jsonb_doc.specs.declared.error.Error.TheVariants.{TooLarge}
 use Rattle.jsonb_raw.specs.Arrays.{as_elements}
 use Rattle.jsonb_doc.specs.declared.cursor.Entries.{Entries}
 use Rattle.jsonb_raw.specs.declared.functions.parts.EntryWithWord.{EntryWithWord}
-use Rattle.jsonb_raw.specs.declared.functions.parts.PairEntries.{PairEntries}
+use Rattle.jsonb_doc.specs.declared.cursor.PairEntries.{PairEntries}
 use Rattle.jsonb_raw.specs.declared.functions.parts.FirstPair.{FirstPair}
 use Rattle.jsonb_raw.specs.declared.functions.parts.PairRuns.{PairRuns}
 use Rattle.jsonb_raw.specs.declared.functions.parts.Elements.{Elements}

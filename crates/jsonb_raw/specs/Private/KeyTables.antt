@@ -6,7 +6,7 @@ use Rattle.jsonb_doc.specs.Equal.{is_equal}
 use Rattle.jsonb_doc.specs.Limits.{Fits}
 use Rattle.jsonb_doc.specs.Payload.{Form}
 use Rattle.jsonb_doc.specs.Private.Stored.{HasEntriesLeft}
-use Rattle.jsonb_doc.specs.declared.entry_iter.EntryIter.{EntryIter}
+use Rattle.jsonb_doc.specs.declared.cursor.Entries.{Entries}
 use Rattle.jsonb_raw.specs.Contains.{is_part_of}
 use Rattle.jsonb_raw.specs.Private.SetCounts.{CountsKeys}
 use Rattle.jsonb_raw.specs.Private.StartHints.{is_container}
@@ -27,6 +27,6 @@ TellsMatch t ts b = (b ≡ true → list_any (is_part_of t) ts ≡ true)
     × (is_container t ≡ false → b ≡ list_any (is_part_of t) ts)
 
 -- the table, if there is one, has keys of what is left
-abbrev pub HasTableOf : EntryIter → Option KeyTable → Type 0
+abbrev pub HasTableOf : Entries → Option KeyTable → Type 0
 HasTableOf all table = IfSome table
     (λ found. (form : Form) (ts : Trees) → HasEntriesLeft form all ts → Fits (array ts) → HasKeysOf found (elements ts))

@@ -6,7 +6,7 @@ use Rattle.std.specs.Str.{bytes_eq}
 use Rattle.jsonb_doc.specs.Tree.{text, Trees, no_trees, tree}
 use Rattle.jsonb_doc.specs.Payload.{Form}
 use Rattle.jsonb_doc.specs.Private.Stored.{HasEntriesLeft}
-use Rattle.jsonb_doc.specs.declared.entry_iter.EntryIter.{EntryIter}
+use Rattle.jsonb_doc.specs.declared.cursor.Entries.{Entries}
 use Rattle.jsonb_raw.specs.Objects.{TextSet, is_in}
 use Rattle.jsonb_raw.specs.Private.Hashes.{text_hash}
 use Rattle.jsonb_raw.specs.declared.functions.path.exists_in.Strings.{Strings}
@@ -30,13 +30,13 @@ decided_by true ss names = list_any (is_one_of ss) names
 decided_by false ss names = list_all (is_one_of ss) names
 
 -- the strings among the remaining entries
-pub record HasTextsLeft (form : Form) (it : EntryIter) (ss : List (List ℕ)) : Type 0 where
+pub record HasTextsLeft (form : Form) (it : Entries) (ss : List (List ℕ)) : Type 0 where
   pub trees : Trees
   pub left : HasEntriesLeft form it trees
   pub texts : texts_of trees ≡ ss
 
 -- the result is the first of the strings, and the others remain
-abbrev pub TakesText : Form → List (List ℕ) → Option (Bor (List ℕ)) → EntryIter → Type 0
+abbrev pub TakesText : Form → List (List ℕ) → Option (Bor (List ℕ)) → Entries → Type 0
 TakesText form [] None after = ⊤
 TakesText form (s ∷ ss) (Some given) after = (given.now ≡ s) × HasTextsLeft form after ss
 TakesText form _ _ after = ⊥

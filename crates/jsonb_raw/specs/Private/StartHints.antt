@@ -2,13 +2,13 @@
 use Rattle.std.specs.Prelude.{◌≡◌, ℕ, length, Bool, true, false, ◌&&◌, ◌||◌, List, slice_index_or}
 use Rattle.std.specs.List.{list_any}
 use Rattle.jsonb_doc.specs.Tree.{Tree, array, object, Trees, no_trees, tree}
-use Rattle.jsonb_doc.specs.declared.entry_iter.EntryIter.{EntryIter}
+use Rattle.jsonb_doc.specs.declared.cursor.Entries.{Entries}
 use Rattle.jsonb_raw.specs.Contains.{is_part_of}
 use Rattle.jsonb_raw.specs.Private.Compared.{PassesOver}
 use Rattle.jsonb_raw.specs.declared.functions.operator.starts.StartHints.{StartHints}
 
 -- what a search begins with is left of all
-pub record AreStarts (all : EntryIter) (starts : StartHints) : Type 0 where
+pub record AreStarts (all : Entries) (starts : StartHints) : Type 0 where
   pub left : PassesOver all starts.left
   pub many : length starts.at ≡ 32
   pub at : (k : ℕ) → PassesOver all (slice_index_or starts.at k all)

@@ -189,7 +189,6 @@ fn array_with_element<'a>(
 }
 
 /// Returns the array of these entries with another one inserted at a position.
-#[tactic(auto, using(crate::proofs::RunLemmas::three_runs))]
 fn array_with_entry<'a>(
     alloc: Global,
     entries: Entries<'a>,

@@ -1,6 +1,6 @@
 //! The parts that containers are cut into and composed of: their entries, as they are stored.
 
-pub use jsonb_doc::cursor::Entries;
+pub use jsonb_doc::cursor::{Entries, PairEntries};
 use jsonb_doc::layout::{EntryKind, HeaderKind, WORD};
 
 /// An entry with its word.
@@ -15,13 +15,6 @@ pub struct EntryWithWord<'a> {
 pub enum Elements<'a> {
     Array(Entries<'a>),
     Root(EntryWithWord<'a>),
-}
-
-/// The members of an object: the entries of their keys, and those of their values.
-#[derive(Clone, Copy)]
-pub struct PairEntries<'a> {
-    pub keys: Entries<'a>,
-    pub values: Entries<'a>,
 }
 
 /// The key of the first of some members, the entry of its value, and the other members.

@@ -4,8 +4,6 @@ ghost use Rattle.std.specs.Prelude.{◌≡◌, ◌+◌, ◌^◌, ◌<◌, ◌≤
 ghost use Rattle.std.specs.Str.{bytes_eq};
 ghost use Rattle.jsonb_doc.specs.Tree.{Tree, Pairs, text, object, members};
 ghost use Rattle.jsonb_doc.specs.Payload.{Form, number_reader};
-ghost use Rattle.jsonb_doc.specs.Private.Containers.{Holds};
-ghost use Rattle.jsonb_doc.specs.declared.container.Container.TheVariants.{Object};
 ghost use Rattle.jsonb_doc.specs.Format.{Decodes, AreKeys};
 ghost use Rattle.jsonb_doc.specs.Answer.{IsDecodingError, IsOutOfMemory, ◌or◌};
 ghost use Rattle.jsonb_doc.specs.declared.error.Error.TheVariants.{OutOfMemory};
@@ -18,34 +16,8 @@ use crate::functions::parts::{ContainerEntries, Entries, FirstPair, PairEntries,
 use crate::owned::OwnedJsonb;
 use jsonb_doc::layout::HeaderKind;
 use jsonb_doc::rewriting::Writer;
-use jsonb_doc::{Container, Error, ObjectParts, read_container};
+use jsonb_doc::{Container, Error, read_container};
 use std::alloc::Global;
-
-/// Returns the entries of an object's pairs.
-fn entries_of_pairs(parts: ObjectParts<'_>) -> Result<PairEntries<'_>, Error>
-    requires keys { length parts.key_words.now < 2 ^ 32 }
-    requires values { length parts.value_words.now < 2 ^ 32 }
-    ensures entries { (form : Form) (ps : Pairs) → Holds (number_reader form) (object ps) (Object parts.entry)
-        → IsOkAnd result (λ pairs. HoldPairs form pairs (members ps)) }
-    ensures room { IfOk result (λ pairs. (pairs.values.words.now ≡ parts.entry.value_words.now)
-        × (length pairs.values.contents.now ≤ length parts.entry.contents.now)) }
-    ensures size { IfOk result (λ pairs. length pairs.keys.contents.now + length pairs.values.contents.now
-        ≤ length parts.entry.contents.now) }
-    ensures errors { IfErr result IsDecodingError }
-{
-    let values = parts.value_contents()?;
-    let (keys, _) = parts.contents.split_at(parts.contents.len() - values.len());
-    Ok(PairEntries {
-        keys: Entries {
-            words: parts.key_words,
-            contents: keys,
-        },
-        values: Entries {
-            words: parts.value_words,
-            contents: values,
-        },
-    })
-}
 
 /// Returns the entries of an object's pairs, or `None` if the root is not an object.
 pub fn pair_entries(bytes: &[u8]) -> Result<Option<PairEntries<'_>>, Error>
@@ -56,7 +28,7 @@ pub fn pair_entries(bytes: &[u8]) -> Result<Option<PairEntries<'_>>, Error>
     let Container::Object(parts) = read_container(bytes)? else {
         return Ok(None);
     };
-    Ok(Some(entries_of_pairs(parts)?))
+    Ok(Some(parts.entries()?))
 }
 
 /// Returns the entries of a container, or `None` if the root is not one.
@@ -83,7 +55,7 @@ pub fn container_entries(bytes: &[u8]) -> Result<Option<ContainerEntries<'_>>, E
             },
         })),
         Container::Object(parts) => {
-            let PairEntries { keys, values } = entries_of_pairs(parts)?;
+            let PairEntries { keys, values } = parts.entries()?;
             Ok(Some(ContainerEntries {
                 kind: HeaderKind::Object,
                 keys,

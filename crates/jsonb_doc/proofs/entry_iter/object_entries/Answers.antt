@@ -7,7 +7,7 @@ returns-in_err-parts-clause-decodes c = λ form ps h.
 
 pub returns-in-Object-clause-decodes : goal.returns-in-Object-clause-decodes
 returns-in-Object-clause-decodes c = λ form ps h.
-    c.pair_entries.ensures.entries form ps (Decodes-object form _ _ (rw c.in-Object.is at c.in_ok-parts.ensures.cut) (object ps) h)
+    c.entries.ensures.entries form ps (Decodes-object form _ _ (rw c.in-Object.is at c.in_ok-parts.ensures.cut) (object ps) h)
 
 pub returns-in-Object-clause-refused : goal.returns-in-Object-clause-refused
 returns-in-Object-clause-refused c = λ form t h other.

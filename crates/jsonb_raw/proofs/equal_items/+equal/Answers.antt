@@ -138,14 +138,14 @@ objects_equal-returns-in_err-wanted-clause-equal t c = λ form other_form ps qs 
 
 pub objects_equal-returns-in_err-texts_equal-clause-equal : goal.objects_equal-returns-in_err-texts_equal-clause-equal
 objects_equal-returns-in_err-texts_equal-clause-equal t c = λ form other_form ps qs d e.
-    let found = c.keys.ensures.entries form ps (c.in_ok-found.ensures.decodes form ps d) in
-    let wanted = c.keys-2.ensures.entries other_form qs (c.in_ok-wanted.ensures.decodes other_form qs e) in
+    let found = (c.in_ok-found.ensures.decodes form ps d).names in
+    let wanted = (c.in_ok-wanted.ensures.decodes other_form qs e).names in
     absurd (c.in_err-texts_equal.ensures.equal form other_form (keys ps) (keys qs) found wanted)
 
 pub objects_equal-returns-then-not-branch-clause-equal : goal.objects_equal-returns-then-not-branch-clause-equal
 objects_equal-returns-then-not-branch-clause-equal t c = λ form other_form ps qs d e.
-    let found = c.keys.ensures.entries form ps (c.in_ok-found.ensures.decodes form ps d) in
-    let wanted = c.keys-2.ensures.entries other_form qs (c.in_ok-wanted.ensures.decodes other_form qs e) in
+    let found = (c.in_ok-found.ensures.decodes form ps d).names in
+    let wanted = (c.in_ok-wanted.ensures.decodes other_form qs e).names in
     let fails : are_equal (key_trees (keys ps)) (key_trees (keys qs))
     ≡ false = sym (c.in_ok-texts_equal.ensures.equal form other_form (keys ps) (keys qs) found wanted) ∙ c.if-not-branch.true in
     rw fails at (equal_by_parts ps qs)
@@ -157,8 +157,7 @@ objects_equal-returns-clause-equal t c = λ form other_form ps qs d e.
     let holds : are_equal (key_trees (keys ps)) (key_trees (keys qs)) ≡ true = grind arith in
     let same : are_equal (values ps) (values qs) ≡ pairs_are_equal ps qs = rw holds at (equal_by_parts ps qs) in
     subst (λ (b : Bool). IsOkAnd c.entries_equal.result (λ told. Decides is_equal form other_form told b)) same
-    (c.entries_equal.ensures.equal form other_form (values ps) (values qs) (c.values.ensures.entries form ps left)
-    (c.values-2.ensures.entries other_form qs right))
+    (c.entries_equal.ensures.equal form other_form (values ps) (values qs) left.parts right.parts)
 
 pub objects_equal-returns-clause-shorter : goal.objects_equal-returns-clause-shorter
 objects_equal-returns-clause-shorter t c = grind arith

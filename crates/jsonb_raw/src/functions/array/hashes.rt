@@ -10,8 +10,9 @@ ghost use Rattle.jsonb_doc.specs.Private.Short.{short_value};
 ghost use Rattle.jsonb_doc.specs.Private.Stored.{HasEntriesLeft, Stores};
 ghost use Rattle.jsonb_raw.specs.Private.Hashes.{IsPartHash, AreHashed, IsHashOf, Covers, value_hash, text_hash};
 
+use jsonb_doc::cursor::Entries;
 use jsonb_doc::layout::EntryKind;
-use jsonb_doc::{EntryIter, Item, ShortNumber, StoredEntry, array_entries, object_entries};
+use jsonb_doc::{Item, ShortNumber, StoredEntry, array_entries, object_entries};
 use std::hash::{FoldHasher, Hasher};
 
 /// The number of hashes.
@@ -99,7 +100,7 @@ fn part_hash(entry: &StoredEntry<'_>) -> Option<usize>
 }
 
 /// Returns the hash of a list of entries, or `None` if one of them has none.
-fn entries_hash(entries: EntryIter<'_>) -> Option<usize>
+fn entries_hash(entries: Entries<'_>) -> Option<usize>
     ensures hash { (form : Form) (ts : Trees) → HasEntriesLeft form entries.entry ts
         → IfSome result (AreHashed ts 5) }
     ensures few { IfSome result (λ m. m < 4096) }
@@ -133,7 +134,7 @@ fn object_hash(bytes: &[u8]) -> Option<usize>
     ensures few { IfSome result (λ m. m < 4096) }
 {
     match object_entries(bytes) {
-        Ok(pairs) => entries_hash(pairs.values()),
+        Ok(pairs) => entries_hash(pairs.values),
         Err(_) => None,
     }
 }

@@ -12,7 +12,8 @@ ghost use Rattle.jsonb_raw.specs.Private.KeyTables.{HasKeysOf, TellsMatch};
 
 use super::counts::KeyCounts;
 use crate::equality_key::write_entry_key;
-use jsonb_doc::{EntryIter, Error, StoredEntry};
+use jsonb_doc::cursor::Entries;
+use jsonb_doc::{Error, StoredEntry};
 use std::alloc::Global;
 
 /// The equality keys of entries, and a vector for the key of another one.
@@ -27,7 +28,7 @@ impl KeyTable {
     /// Returns the table of these entries, without containers longer than `longest`.
     pub(crate) fn new(
         alloc: Global,
-        entries: EntryIter<'_>,
+        entries: Entries<'_>,
         longest: usize,
     ) -> Result<KeyTable, Error>
         ensures keys { (form : Form) (ts : Trees) → HasEntriesLeft form entries.entry ts

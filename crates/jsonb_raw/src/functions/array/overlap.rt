@@ -15,7 +15,8 @@ ghost use Rattle.jsonb_raw.specs.Private.Hashes.{Covers};
 use super::hashes::Hashes;
 use super::overlap_in::{Budget, overlap_by_keys};
 use crate::equal_items::{find_equal, find_equal_among};
-use jsonb_doc::{EntryIter, Error};
+use jsonb_doc::Error;
+use jsonb_doc::cursor::Entries;
 use std::alloc::Global;
 
 /// The number of entries whose hashes are in the table at once. They are so few that most hashes are free.
@@ -27,7 +28,7 @@ const FEW: usize = 8;
 
 /// Adds the hashes of the next entries, at most this many, and advances past them. Returns whether all entries were
 /// added.
-fn take_hashes(hashes: &mut Hashes, rest: &mut EntryIter<'_>, count: usize) -> Result<bool, Error>
+fn take_hashes(hashes: &mut Hashes, rest: &mut Entries<'_>, count: usize) -> Result<bool, Error>
     requires { 0 < count }
     ensures passed { (form : Form) (us : Trees) → HasEntriesLeft form rest.old us
         → IsOkAnd result (λ _. (ws : Trees) × HasEntriesLeft form rest.new ws
@@ -56,9 +57,9 @@ fn take_hashes(hashes: &mut Hashes, rest: &mut EntryIter<'_>, count: usize) -> R
 /// Returns `true` if an entry equals one of the first of the others, whose hashes these are. Spends one for each
 /// entry that has one of the hashes and equals none of the others.
 fn block_overlaps(
-    found: EntryIter<'_>,
+    found: Entries<'_>,
     hashes: &Hashes,
-    block: EntryIter<'_>,
+    block: Entries<'_>,
     count: usize,
     budget: &mut Budget,
 ) -> Result<bool, Error>
@@ -84,8 +85,8 @@ fn block_overlaps(
 /// Returns `true` if an entry equals one of the others. Allocates only if there is an allocator.
 pub(super) fn entries_overlap(
     alloc: Option<Global>,
-    found: EntryIter<'_>,
-    others: EntryIter<'_>,
+    found: Entries<'_>,
+    others: Entries<'_>,
 ) -> Result<bool, Error>
     ensures overlap { (form other_form : Form) (ts us : Trees) → HasEntriesLeft form found.entry ts
         → HasEntriesLeft other_form others.entry us → Fits (array ts) → Fits (array us)
@@ -103,10 +104,7 @@ pub(super) fn entries_overlap(
 
 /// Returns both iterators, first the one with fewer entries.
 #[inline(always)]
-pub(super) fn fewer_first<'a>(
-    found: EntryIter<'a>,
-    others: EntryIter<'a>,
-) -> (EntryIter<'a>, EntryIter<'a>)
+pub(super) fn fewer_first<'a>(found: Entries<'a>, others: Entries<'a>) -> (Entries<'a>, Entries<'a>)
     ensures { ((result.0 ≡ found.entry) × (result.1 ≡ others.entry))
         ⊎ ((result.0 ≡ others.entry) × (result.1 ≡ found.entry)) }
 {
@@ -118,7 +116,7 @@ pub(super) fn fewer_first<'a>(
 }
 
 /// Returns `true` if an entry equals one of the others. Compares all pairs, fastest if there are more others.
-fn pairs_overlap(found: EntryIter<'_>, others: EntryIter<'_>) -> Result<bool, Error>
+fn pairs_overlap(found: Entries<'_>, others: Entries<'_>) -> Result<bool, Error>
     ensures overlap { (form other_form : Form) (ts us : Trees) → HasEntriesLeft form found.entry ts
         → HasEntriesLeft other_form others.entry us
         → IsOkAnd result (λ b. b ≡ overlap (elements_of ts) (elements_of us)) }
@@ -138,8 +136,8 @@ fn pairs_overlap(found: EntryIter<'_>, others: EntryIter<'_>) -> Result<bool, Er
 /// keys take less.
 fn blocks_overlap(
     alloc: Option<Global>,
-    found: EntryIter<'_>,
-    others: EntryIter<'_>,
+    found: Entries<'_>,
+    others: Entries<'_>,
     count: usize,
 ) -> Result<bool, Error>
     requires { 0 < count }

@@ -14,7 +14,8 @@ ghost use Rattle.jsonb_raw.specs.Private.SetCounts.{CountsKeys};
 use super::counts::KeyCounts;
 use super::overlap::fewer_first;
 use crate::equality_key::write_entry_key;
-use jsonb_doc::{EntryIter, Error};
+use jsonb_doc::Error;
+use jsonb_doc::cursor::Entries;
 use std::alloc::Global;
 
 /// When equality keys take less than other searches: once these have taken about as long.
@@ -47,7 +48,7 @@ impl Budget {
 
 /// Counts the keys of these entries.
 #[tactic(auto, using(crate::proofs::Sets::overlap_in_count_entries))]
-pub(super) fn count_entries(alloc: Global, entries: EntryIter<'_>) -> Result<KeyCounts, Error>
+pub(super) fn count_entries(alloc: Global, entries: Entries<'_>) -> Result<KeyCounts, Error>
     ensures counts { (form : Form) (ts : Trees) → HasEntriesLeft form entries.entry ts
         → length (elements_of ts) < 2 ^ 63 → MatchResult result (λ m. CountsKeys m (elements_of ts)) IsOutOfMemory }
     ensures errors { IfErr result (IsDecodingError or OutOfMemory) }
@@ -62,7 +63,7 @@ pub(super) fn count_entries(alloc: Global, entries: EntryIter<'_>) -> Result<Key
 }
 
 /// Returns `true` if the key of an entry is counted.
-fn has_counted(alloc: Global, counts: &KeyCounts, entries: EntryIter<'_>) -> Result<bool, Error>
+fn has_counted(alloc: Global, counts: &KeyCounts, entries: Entries<'_>) -> Result<bool, Error>
     ensures overlap { (form : Form) (ts : Trees) (us : List Tree) → HasEntriesLeft form entries.entry ts
         → CountsKeys counts.now us → AllByRecursion Fits (elements_of ts) → AllByRecursion Fits us
         → MatchResult result (λ b. b ≡ overlap (elements_of ts) us) IsOutOfMemory }
@@ -79,7 +80,7 @@ fn has_counted(alloc: Global, counts: &KeyCounts, entries: EntryIter<'_>) -> Res
 }
 
 /// Returns `true` if an entry equals one of the others. The keys of the fewer of both are in the table.
-fn keys_overlap(alloc: Global, found: EntryIter<'_>, others: EntryIter<'_>) -> Result<bool, Error>
+fn keys_overlap(alloc: Global, found: Entries<'_>, others: Entries<'_>) -> Result<bool, Error>
     ensures overlap { (form other_form : Form) (ts us : Trees) → HasEntriesLeft form found.entry ts
         → HasEntriesLeft other_form others.entry us → AllByRecursion Fits (elements_of ts)
         → AllByRecursion Fits (elements_of us) → length (elements_of ts) < 2 ^ 63 → length (elements_of us) < 2 ^ 63
@@ -95,8 +96,8 @@ fn keys_overlap(alloc: Global, found: EntryIter<'_>, others: EntryIter<'_>) -> R
 /// entry cannot be read.
 pub(super) fn overlap_by_keys(
     alloc: Option<Global>,
-    found: EntryIter<'_>,
-    others: EntryIter<'_>,
+    found: Entries<'_>,
+    others: Entries<'_>,
 ) -> Option<bool>
     ensures { (form other_form : Form) (ts us : Trees) → HasEntriesLeft form found.entry ts
         → HasEntriesLeft other_form others.entry us → AllByRecursion Fits (elements_of ts)

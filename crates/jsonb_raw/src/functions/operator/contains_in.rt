@@ -14,11 +14,12 @@ ghost use Rattle.jsonb_raw.specs.Private.StartHints.{scalars_matched};
 
 use crate::functions::array::key_table::KeyTable;
 use crate::functions::array::overlap_in::Budget;
-use jsonb_doc::{EntryIter, Error, StoredEntry};
+use jsonb_doc::cursor::Entries;
+use jsonb_doc::{Error, StoredEntry};
 use std::alloc::Global;
 
 /// Returns `true` if the table has the key of each of the scalar entries.
-fn scalars_in_table(table: &mut KeyTable, wanted: EntryIter<'_>) -> Result<bool, Error>
+fn scalars_in_table(table: &mut KeyTable, wanted: Entries<'_>) -> Result<bool, Error>
     ensures matched { (form : Form) (xs : List Tree) (ys : Trees) → HasKeysOf table.old xs
         → HasEntriesLeft form wanted.entry ys → AllByRecursion Fits (elements ys)
         → IfOk result (λ b. b ≡ scalars_matched ys xs) }
@@ -37,7 +38,7 @@ fn scalars_in_table(table: &mut KeyTable, wanted: EntryIter<'_>) -> Result<bool,
 }
 
 /// Returns `true` if each of the scalar entries equals one of the list, by a table of its scalars.
-fn scalars_found(alloc: Global, all: EntryIter<'_>, wanted: EntryIter<'_>) -> Result<bool, Error>
+fn scalars_found(alloc: Global, all: Entries<'_>, wanted: Entries<'_>) -> Result<bool, Error>
     ensures matched { (form other_form : Form) (xs ys : Trees) → HasEntriesLeft form all.entry xs
         → HasEntriesLeft other_form wanted.entry ys → Fits (array xs) → AllByRecursion Fits (elements ys)
         → IfOk result (λ b. b ≡ scalars_matched ys (elements xs)) }
@@ -50,11 +51,7 @@ fn scalars_found(alloc: Global, all: EntryIter<'_>, wanted: EntryIter<'_>) -> Re
 /// Returns `true` if each of the scalar entries equals one of the list, or `None` if an allocation fails, or an entry
 /// cannot be read. Out of line, so that loops hold none of its variables.
 #[inline(never)]
-pub(super) fn scalars_by_keys(
-    alloc: Global,
-    all: EntryIter<'_>,
-    wanted: EntryIter<'_>,
-) -> Option<bool>
+pub(super) fn scalars_by_keys(alloc: Global, all: Entries<'_>, wanted: Entries<'_>) -> Option<bool>
     ensures { (form other_form : Form) (xs ys : Trees) → HasEntriesLeft form all.entry xs
         → HasEntriesLeft other_form wanted.entry ys → Fits (array xs) → AllByRecursion Fits (elements ys)
         → IfSome result (λ b. b ≡ scalars_matched ys (elements xs)) }
@@ -91,7 +88,7 @@ impl LateTable {
     }
 
     /// Makes the table of these entries, if there is an allocator and nothing is left of the budget.
-    fn make(&mut self, all: EntryIter<'_>)
+    fn make(&mut self, all: Entries<'_>)
         requires { HasTableOf all self.old.table }
         ensures { HasTableOf all.entry self.new.table }
     {
@@ -105,12 +102,7 @@ impl LateTable {
 
     /// Returns `true` only if one of all entries equals the given one, as the table says. It is made once searches
     /// have visited many entries, with these.
-    pub(super) fn has(
-        &mut self,
-        all: EntryIter<'_>,
-        wanted: &StoredEntry<'_>,
-        visited: usize,
-    ) -> bool
+    pub(super) fn has(&mut self, all: Entries<'_>, wanted: &StoredEntry<'_>, visited: usize) -> bool
         requires { HasTableOf all self.old.table }
         ensures told { (form other_form : Form) (xs : Trees) (y : Tree) → HasEntriesLeft form all.entry xs
             → Stores other_form wanted.now y → Fits (array xs) → Fits y → result ≡ true

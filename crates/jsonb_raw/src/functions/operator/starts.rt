@@ -15,7 +15,8 @@ use crate::equal_items::{find_equal, next_equals};
 use crate::functions::array::hashes::{HASHES, entry_hash};
 use crate::functions::array::overlap_in::Budget;
 use crate::functions::operator::contains_in::scalars_by_keys;
-use jsonb_doc::{EntryIter, Error, StoredEntry};
+use jsonb_doc::cursor::Entries;
+use jsonb_doc::{Error, StoredEntry};
 use std::alloc::Global;
 
 /// The number of entries for which a start is looked up at once.
@@ -37,7 +38,7 @@ struct NeedleBlock<'a> {
 
 impl<'a> NeedleBlock<'a> {
     /// Returns the first of the entries.
-    fn of(entries: EntryIter<'a>) -> NeedleBlock<'a> {
+    fn of(entries: Entries<'a>) -> NeedleBlock<'a> {
         let mut wanted = NeedleBlock {
             contents: [&[]; BLOCK],
             places: [BLOCK as u8; HASHES],
@@ -85,9 +86,9 @@ impl<'a> NeedleBlock<'a> {
 #[derive(Drop)]
 struct StartHints<'a> {
     /// The entries after the one found last.
-    left: EntryIter<'a>,
+    left: Entries<'a>,
     /// A position from which each of the next entries may be found.
-    at: [EntryIter<'a>; BLOCK],
+    at: [Entries<'a>; BLOCK],
     /// The number of these that were used.
     passed: usize,
     /// The number of entries that searches may still visit without a table.
@@ -96,7 +97,7 @@ struct StartHints<'a> {
 
 impl<'a> StartHints<'a> {
     /// Creates starts of which all are the first entry, after what remains of them.
-    fn new(all: EntryIter<'a>, left: EntryIter<'a>, budget: Budget) -> StartHints<'a>
+    fn new(all: Entries<'a>, left: Entries<'a>, budget: Budget) -> StartHints<'a>
         requires { PassesOver all left }
         ensures { AreStarts all.entry result }
     {
@@ -110,7 +111,7 @@ impl<'a> StartHints<'a> {
 
     /// Looks up positions from which the next entries may be found.
     #[tactic(auto, using(crate::proofs::EntriesLeft::passes_next))]
-    fn fill(&mut self, all: EntryIter<'a>, entries: EntryIter<'_>)
+    fn fill(&mut self, all: Entries<'a>, entries: Entries<'_>)
         requires { AreStarts all self.old }
         ensures { AreStarts all.entry self.new }
     {
@@ -124,13 +125,14 @@ impl<'a> StartHints<'a> {
                 return;
             };
             if let Some(place) = wanted.place_of(&entry) {
-                self.at[place] = here;
+                let starts = &mut self.at[..];
+                starts[place] = here;
             }
         }
     }
 
     /// Returns the start of the search for the next entry, or all entries if it is not known.
-    fn take(&mut self, all: EntryIter<'a>) -> EntryIter<'a>
+    fn take(&mut self, all: Entries<'a>) -> Entries<'a>
         requires { AreStarts all self.old }
         ensures starts { AreStarts all.entry self.new }
         ensures start { PassesOver all.entry result }
@@ -140,11 +142,12 @@ impl<'a> StartHints<'a> {
             return all;
         }
         self.passed = place + 1;
-        self.at[place]
+        let starts = &self.at[..];
+        starts[place]
     }
 
     /// Returns the start of the search for the next entry, which is the first of these.
-    fn next(&mut self, all: EntryIter<'a>, entries: EntryIter<'_>) -> EntryIter<'a>
+    fn next(&mut self, all: Entries<'a>, entries: Entries<'_>) -> Entries<'a>
         requires { AreStarts all self.old }
         ensures starts { AreStarts all.entry self.new }
         ensures start { PassesOver all.entry result }
@@ -160,9 +163,9 @@ impl<'a> StartHints<'a> {
     /// after the entry found last, continues at a position from which it may be found, and then visits all.
     fn find(
         &mut self,
-        all: EntryIter<'a>,
+        all: Entries<'a>,
         wanted: &StoredEntry<'_>,
-        entries: EntryIter<'_>,
+        entries: Entries<'_>,
     ) -> Result<bool, Error>
         requires { AreStarts all self.old }
         ensures found { (form other_form : Form) (xs : Trees) (y : Tree) → HasEntriesLeft form all.entry xs
@@ -197,9 +200,9 @@ impl<'a> StartHints<'a> {
 #[inline(never)]
 fn scattered_matched<'a>(
     alloc: Option<Global>,
-    all: EntryIter<'a>,
-    left: EntryIter<'a>,
-    wanted: EntryIter<'_>,
+    all: Entries<'a>,
+    left: Entries<'a>,
+    wanted: Entries<'_>,
 ) -> Result<bool, Error>
     requires { PassesOver all left }
     ensures matched { (form other_form : Form) (xs ys : Trees) → HasEntriesLeft form all.entry xs
@@ -236,8 +239,8 @@ fn scattered_matched<'a>(
 #[inline(never)]
 pub(super) fn scalars_matched(
     alloc: Option<Global>,
-    all: EntryIter<'_>,
-    wanted: EntryIter<'_>,
+    all: Entries<'_>,
+    wanted: Entries<'_>,
 ) -> Result<bool, Error>
     ensures matched { (form other_form : Form) (xs ys : Trees) → HasEntriesLeft form all.entry xs
         → HasEntriesLeft other_form wanted.entry ys → Fits (array xs) → AllByRecursion Fits (elements ys)

@@ -7,13 +7,14 @@ ghost use Rattle.jsonb_doc.specs.Private.Stored.{HasPairEntriesLeft, Stores, ent
 ghost use Rattle.jsonb_doc.specs.Answer.{SameOption, IsDecodingError};
 ghost use Rattle.jsonb_raw.specs.Private.PairSteps.{pairs_above};
 
-use jsonb_doc::{Error, PairEntryIter, StoredEntry};
+use jsonb_doc::cursor::PairEntries;
+use jsonb_doc::{Error, StoredEntry};
 use std::cmp::Ordering;
 
 /// Returns the value of a key among the remaining members, and advances past the keys up to it.
 #[tactic(auto, using(crate::proofs::Sets::step_advance_to_key))]
 pub fn advance_to_key<'a>(
-    left: &mut PairEntryIter<'a>,
+    left: &mut PairEntries<'a>,
     key: &[u8],
 ) -> Result<Option<StoredEntry<'a>>, Error>
     ensures value { (form : Form) (ps : Pairs) → HasPairEntriesLeft form left.old ps

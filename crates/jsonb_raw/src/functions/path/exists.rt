@@ -20,9 +20,8 @@ ghost use Rattle.jsonb_raw.specs.Iterators.{YieldsItemsLeft};
 use super::exists_in::Strings;
 use super::name_block::{NameBlock, entries_have};
 use crate::raw::RawJsonb;
-use jsonb_doc::{
-    EntryIter, Error, Shape, array_entries, bytes_cmp, is_utf8, object_entries, root_shape,
-};
+use jsonb_doc::cursor::Entries;
+use jsonb_doc::{Error, Shape, array_entries, bytes_cmp, is_utf8, object_entries, root_shape};
 use std::alloc::Global;
 use std::cmp::Ordering;
 
@@ -32,13 +31,13 @@ use std::cmp::Ordering;
 /// key visited last is searched from there.
 #[derive(Clone, Copy)]
 pub(crate) struct KeyCursor<'a> {
-    all: EntryIter<'a>,
-    left: EntryIter<'a>,
+    all: Entries<'a>,
+    left: Entries<'a>,
     last_key: Option<&'a [u8]>,
 }
 
 impl<'a> KeyCursor<'a> {
-    fn new(keys: EntryIter<'a>) -> KeyCursor<'a>
+    fn new(keys: Entries<'a>) -> KeyCursor<'a>
         ensures { (form : Form) (ks : List (List ℕ)) → AreKeys ks → HasEntriesLeft form keys.entry (key_trees ks)
             → IsCursorOf form result ks }
     {
@@ -135,7 +134,7 @@ pub(crate) struct KeyTable<'a> {
 }
 
 impl<'a> KeyTable<'a> {
-    fn new(keys: EntryIter<'a>) -> KeyTable<'a>
+    fn new(keys: Entries<'a>) -> KeyTable<'a>
         ensures { (form : Form) (ks : List (List ℕ)) → AreKeys ks → HasEntriesLeft form keys.entry (key_trees ks)
             → IsTableOf form result ks }
     {
@@ -165,7 +164,8 @@ impl<'a> KeyTable<'a> {
         let mut high = self.known.min(PLACES);
         while low < high {
             let middle = low + (high - low) / 2;
-            let place = self.places[middle];
+            let places = &self.places[..];
+            let place = places[middle];
             if place.is_below(name) {
                 cursor = place;
                 at = middle;
@@ -184,7 +184,8 @@ impl<'a> KeyTable<'a> {
     /// Returns `true` if the cursor before the next block is stored and its key is less than the name.
     fn is_past_block(&self, name: &[u8]) -> bool {
         let next = usize::from(self.near.at) + 1;
-        next < self.known.min(PLACES) && self.places[next].is_below(name)
+        let places = &self.places[..];
+        next < self.known.min(PLACES) && places[next].is_below(name)
     }
 
     /// Returns the cursor at which the search for the name begins.
@@ -217,7 +218,8 @@ impl<'a> KeyTable<'a> {
         }
         let next = usize::from(self.near.at) + 1;
         if next < PLACES {
-            self.places[next] = cursor;
+            let places = &mut self.places[..];
+            places[next] = cursor;
             self.known = self.known.max(next + 1);
             self.near.at = next as u8;
             self.near.run = 0;
@@ -282,7 +284,7 @@ fn key_exists<'a>(
 #[inline(never)]
 fn keys_decide<'k, I: Iterator<Item = &'k str> + Drop>(
     alloc: Option<Global>,
-    keys: EntryIter<'_>,
+    keys: Entries<'_>,
     names: I,
     found: bool,
 ) -> Result<bool, Error>
@@ -309,7 +311,7 @@ fn keys_decide<'k, I: Iterator<Item = &'k str> + Drop>(
 fn add_name<'k>(
     block: &mut NameBlock<'k>,
     name: &'k [u8],
-    entries: EntryIter<'_>,
+    entries: Entries<'_>,
     found: bool,
 ) -> Result<bool, Error>
     requires { IsBlock block.old }
@@ -339,7 +341,7 @@ fn look_up<'k>(
     strings: &mut Strings<'_>,
     block: &mut NameBlock<'k>,
     name: &'k [u8],
-    entries: EntryIter<'_>,
+    entries: Entries<'_>,
     found: bool,
 ) -> Result<bool, Error>
     requires { IsBlock block.old }
@@ -366,7 +368,7 @@ fn look_up<'k>(
 #[inline(never)]
 fn elements_decide<'k, I: Iterator<Item = &'k str> + Drop>(
     alloc: Option<Global>,
-    entries: EntryIter<'_>,
+    entries: Entries<'_>,
     names: I,
     found: bool,
 ) -> Result<bool, Error>
@@ -393,7 +395,7 @@ pub(crate) enum Texts<'a> {
     /// The keys of an object.
     Keys(KeyCursor<'a>),
     /// The strings among the elements of an array.
-    Elements(EntryIter<'a>),
+    Elements(Entries<'a>),
     /// The root.
     Root(&'a [u8]),
     /// There are none.
@@ -408,7 +410,7 @@ fn document_texts(bytes: &[u8]) -> Result<Texts<'_>, Error>
     ensures reads { OnOk result (HasRoot bytes.now) }
 {
     match root_shape(bytes)? {
-        Shape::Object => Ok(Texts::Keys(KeyCursor::new(object_entries(bytes)?.keys()))),
+        Shape::Object => Ok(Texts::Keys(KeyCursor::new(object_entries(bytes)?.keys))),
         Shape::Array => Ok(Texts::Elements(array_entries(bytes)?)),
         Shape::Text(text) if is_utf8(text) => Ok(Texts::Root(text)),
         Shape::Text(_) => Err(Error::InvalidJsonb),

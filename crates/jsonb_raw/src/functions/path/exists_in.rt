@@ -7,7 +7,8 @@ ghost use Rattle.jsonb_doc.specs.declared.error.Error.TheVariants.{OutOfMemory};
 ghost use Rattle.jsonb_raw.specs.Private.NameBlocks.{HasTextsLeft, HasTexts, AreStrings, is_one_of};
 
 use super::name_block::next_text;
-use jsonb_doc::{EntryIter, Error};
+use jsonb_doc::Error;
+use jsonb_doc::cursor::Entries;
 use std::alloc::Global;
 use std::collections::BTreeSet;
 
@@ -19,14 +20,14 @@ const MANY_NAMES: usize = 2_048;
 #[derive(Drop)]
 pub(crate) struct Strings<'a> {
     alloc: Option<Global>,
-    entries: EntryIter<'a>,
+    entries: Entries<'a>,
     /// The number of names that were looked up without the table.
     names: usize,
     table: Option<BTreeSet<&'a [u8]>>,
 }
 
 impl<'a> Strings<'a> {
-    pub(super) fn new(alloc: Option<Global>, entries: EntryIter<'a>) -> Strings<'a>
+    pub(super) fn new(alloc: Option<Global>, entries: Entries<'a>) -> Strings<'a>
         ensures { (form : Form) (ss : List (List ℕ)) → HasTextsLeft form entries.entry ss
             → AreStrings form result ss }
     {
@@ -69,7 +70,7 @@ impl<'a> Strings<'a> {
 
 /// Returns the strings among the entries, or `None` if there is no allocator, an allocation fails, or an entry cannot
 /// be read.
-fn set_if_allocated<'a>(alloc: Option<Global>, entries: EntryIter<'a>) -> Option<BTreeSet<&'a [u8]>>
+fn set_if_allocated<'a>(alloc: Option<Global>, entries: Entries<'a>) -> Option<BTreeSet<&'a [u8]>>
     ensures { (form : Form) (ss : List (List ℕ)) → HasTextsLeft form entries.entry ss
         → IfSome result (λ table. HasTexts table ss) }
 {
@@ -81,7 +82,7 @@ fn set_if_allocated<'a>(alloc: Option<Global>, entries: EntryIter<'a>) -> Option
 }
 
 /// Returns the strings among the entries.
-fn text_set<'a>(alloc: Global, entries: EntryIter<'a>) -> Result<BTreeSet<&'a [u8]>, Error>
+fn text_set<'a>(alloc: Global, entries: Entries<'a>) -> Result<BTreeSet<&'a [u8]>, Error>
     ensures texts { (form : Form) (ss : List (List ℕ)) → HasTextsLeft form entries.entry ss
         → MatchResult result (λ table. HasTexts table ss) IsOutOfMemory }
     ensures errors { IfErr result (IsDecodingError or OutOfMemory) }

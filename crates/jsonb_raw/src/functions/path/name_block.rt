@@ -10,8 +10,9 @@ ghost use Rattle.jsonb_doc.specs.Answer.{IsDecodingError};
 ghost use Rattle.jsonb_raw.specs.Private.NameBlocks.{HasTextsLeft, TakesText, is_one_of, decided_by, names_of, IsBlock, IsPlaced, AreSeen};
 
 use crate::functions::array::hashes::{HASHES, text_hash};
+use jsonb_doc::cursor::Entries;
 use jsonb_doc::layout::EntryKind;
-use jsonb_doc::{EntryIter, Error, StoredEntry};
+use jsonb_doc::{Error, StoredEntry};
 
 /// The number of names that are looked up in one traversal.
 const BLOCK: usize = 64;
@@ -33,7 +34,7 @@ fn reject_float(entry: &StoredEntry<'_>) -> Result<(), Error>
 
 /// Returns the next string among the entries, and advances past it. Fails if a float precedes it.
 #[inline(always)]
-pub(super) fn next_text<'a>(rest: &mut EntryIter<'a>) -> Result<Option<&'a [u8]>, Error>
+pub(super) fn next_text<'a>(rest: &mut Entries<'a>) -> Result<Option<&'a [u8]>, Error>
     ensures takes { (form : Form) (ss : List (List ℕ)) → HasTextsLeft form rest.old ss
         → IsOkAnd result (λ text. TakesText form ss text rest.new) }
     ensures fewer { IfOk result (λ text. IfSome text (λ _. entries_bound rest.new < entries_bound rest.old)) }
@@ -52,7 +53,7 @@ pub(super) fn next_text<'a>(rest: &mut EntryIter<'a>) -> Result<Option<&'a [u8]>
 }
 
 /// Returns whether the name is a string among the entries.
-pub(super) fn entries_have(entries: EntryIter<'_>, name: &[u8]) -> Result<bool, Error>
+pub(super) fn entries_have(entries: Entries<'_>, name: &[u8]) -> Result<bool, Error>
     ensures has { (form : Form) (ss : List (List ℕ)) → HasTextsLeft form entries.entry ss
         → IsOkAnd result (λ b. b ≡ is_one_of ss name.now) }
     ensures errors { IfErr result IsDecodingError }
@@ -117,7 +118,7 @@ impl<'k> NameBlock<'k> {
     }
 
     /// Returns whether one of the names (`found`) or each of them is among the strings of the entries.
-    pub(super) fn decides(&self, entries: EntryIter<'_>, found: bool) -> Result<bool, Error>
+    pub(super) fn decides(&self, entries: Entries<'_>, found: bool) -> Result<bool, Error>
         requires { IsBlock self.now }
         ensures has { (form : Form) (ss : List (List ℕ)) → HasTextsLeft form entries.entry ss
             → IsOkAnd result (λ b. b ≡ decided_by found ss (names_of self.now)) }
@@ -136,7 +137,7 @@ impl<'k> NameBlock<'k> {
     /// Returns whether one of the names is among the strings of the entries. A string is compared with the names if one
     /// of them has its hash.
     #[inline(never)]
-    fn any_among(&self, entries: EntryIter<'_>) -> Result<bool, Error>
+    fn any_among(&self, entries: Entries<'_>) -> Result<bool, Error>
         requires { IsBlock self.now }
         ensures has { (form : Form) (ss : List (List ℕ)) → HasTextsLeft form entries.entry ss
             → IsOkAnd result (λ b. b ≡ list_any (is_one_of ss) (names_of self.now)) }
@@ -154,7 +155,7 @@ impl<'k> NameBlock<'k> {
 
     /// Returns whether one of the names (`found`) or each of them is among the strings of the entries, of which some
     /// were seen. A name that was not seen is searched.
-    fn each(&self, seen: &SeenTexts<'_>, entries: EntryIter<'_>, found: bool) -> Result<bool, Error>
+    fn each(&self, seen: &SeenTexts<'_>, entries: Entries<'_>, found: bool) -> Result<bool, Error>
         requires { IsBlock self.now }
         ensures has { (form : Form) (ss : List (List ℕ)) → HasTextsLeft form entries.entry ss → AreSeen ss seen.now
             → IsOkAnd result (λ b. b ≡ decided_by found ss (names_of self.now)) }
@@ -229,7 +230,7 @@ impl<'a> SeenTexts<'a> {
 
     /// Returns the strings of the entries that equal one of the names.
     #[inline(never)]
-    fn of(block: &NameBlock<'_>, entries: EntryIter<'a>) -> Result<SeenTexts<'a>, Error>
+    fn of(block: &NameBlock<'_>, entries: Entries<'a>) -> Result<SeenTexts<'a>, Error>
         requires { IsBlock block.now }
         ensures seen { (form : Form) (ss : List (List ℕ)) → HasTextsLeft form entries.entry ss
             → IsOkAnd result (AreSeen ss) }
@@ -260,7 +261,7 @@ impl<'a> SeenTexts<'a> {
     }
 
     /// Returns whether the name is among the strings of the entries.
-    fn find(&self, at: usize, name: &[u8], entries: EntryIter<'_>) -> Result<bool, Error>
+    fn find(&self, at: usize, name: &[u8], entries: Entries<'_>) -> Result<bool, Error>
         requires { at < 64 }
         ensures has { (form : Form) (ss : List (List ℕ)) → HasTextsLeft form entries.entry ss → AreSeen ss self.now
             → IsOkAnd result (λ b. b ≡ is_one_of ss name.now) }

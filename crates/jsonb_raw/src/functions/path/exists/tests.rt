@@ -56,7 +56,7 @@ static SEARCHES: [(u16, u16, u16, usize); 3] = [
 
 /// Returns how many keys such searches pass.
 fn passed_by_searches(
-    keys: EntryIter<'_>,
+    keys: Entries<'_>,
     first: u16,
     distance: u16,
     count: u16,
@@ -75,7 +75,7 @@ fn passed_by_searches(
 #[test]
 fn a_table_passes_few_keys(rt: HostRuntime) -> Result<(), Fail> {
     let bytes = object(rt.alloc())?;
-    let keys = object_entries(&bytes)?.keys();
+    let keys = object_entries(&bytes)?.keys;
     for (first, distance, count, most) in &SEARCHES {
         let passed = passed_by_searches(keys, *first, *distance, *count)?;
         assert!(rt;
@@ -89,7 +89,7 @@ fn a_table_passes_few_keys(rt: HostRuntime) -> Result<(), Fail> {
 #[test]
 fn a_cursor_passes_each_key_once(rt: HostRuntime) -> Result<(), Fail> {
     let bytes = object(rt.alloc())?;
-    let mut cursor = KeyCursor::new(object_entries(&bytes)?.keys());
+    let mut cursor = KeyCursor::new(object_entries(&bytes)?.keys);
     let mut all = 0usize;
     for index in 0..COUNT {
         all = all.saturating_add(passed_by_cursor(&mut cursor, &index.to_be_bytes())?);

@@ -1,7 +1,7 @@
-use Rattle.jsonb_raw.proofs.Lemmas.{rules, ◌≡◌, true, false, sym, ◌∙◌, list_any, elements, EntryIter, is_part_of, PassesOver, arith, SomeEntries-first, SomeEntries-error, SomeEntries-none, passes_none, scalar_matches, container_told, scalar_told, container_passed, found_passed, missing_tells}
+use Rattle.jsonb_raw.proofs.Lemmas.{rules, ◌≡◌, true, false, sym, ◌∙◌, list_any, elements, Entries, is_part_of, PassesOver, arith, SomeEntries-first, SomeEntries-error, SomeEntries-none, passes_none, scalar_matches, container_told, scalar_told, container_passed, found_passed, missing_tells}
 use Rattle.jsonb_raw.proofs.functions.operator.starts.scalars_matched.Goals as goal
 
-passes_both : (all left right : EntryIter) → PassesOver all left → PassesOver left right → PassesOver all right
+passes_both : (all left right : Entries) → PassesOver all left → PassesOver left right → PassesOver all right
 passes_both all left right p q = grind arith
 
 pub walk-init : goal.walk-init
