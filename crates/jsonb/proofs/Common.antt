@@ -55,7 +55,7 @@ pub use Rattle.jsonb.specs.Private.Positions.{IsBetween}
 pub use Rattle.jsonb.specs.Private.Repeated.{another_atom, another_and, another_entry, entry_list}
 pub use Rattle.jsonb.specs.Private.Running.{IsRunning, IsAtFilter, IsProgress, IsBeforeFilter, running_steps}
 pub use Rattle.jsonb.specs.Private.SamePath.{SameStep, SameExpression, path_value_order, is_same_literal, is_same_place, is_same_entry, is_same_end, is_same_level, is_same_sign, is_same_step, is_same_operator, are_same_steps, is_same_expression}
-pub use Rattle.jsonb.specs.Private.Search.{has_condition, IsSearched, FirstAhead, AreAhead, IsAhead, TakesStep, HasItems, TakesItem, IsReached, BeginsAs, conditions_in}
+pub use Rattle.jsonb.specs.Private.Search.{has_condition, FirstAhead, AreAhead, IsAhead, TakesStep, HasItems, TakesItem, IsReached, BeginsAs, conditions_in}
 pub use Rattle.jsonb.specs.Private.Selected.{array_of, selected_len}
 pub use Rattle.jsonb.specs.Private.Selection.{IsAt, node_spots, taken_step, only_number, IsNumberTree, IsNumberItem, value_view, only_expression, IsMadeItem, values_view, is_filter, option_spots, IsPlain, AreSelected, IsKept, step_expression, is_relative, HasTree}
 pub use Rattle.jsonb.specs.Private.Tests.{IsQuestionOf, AreTestsOf, tests_conditions, AreBranches, item_tests, question_conditions, tests_in, ArePlainTestsOf, AreMembersCompared, IsPlainQuestionOf, IsTestOf, is_plain, are_plain, test_conditions, is_settled, jump_to, right_of, pending, waiting_left, parts_to_compile}
@@ -129,7 +129,6 @@ pub use Rattle.jsonb.specs.declared.selector.running.Progress.{Progress}
 pub use Rattle.jsonb.specs.declared.selector.running.Running.{Running}
 pub use Rattle.jsonb.specs.declared.selector.search.Ahead.{Ahead}
 pub use Rattle.jsonb.specs.declared.selector.search.Items.{Items}
-pub use Rattle.jsonb.specs.declared.selector.search.SearchStep.{SearchStep}
 pub use Rattle.jsonb.specs.declared.selector.children.StepItems.{StepItems}
 pub use Rattle.jsonb.specs.declared.selector.search.Waiting.{Waiting}
 pub use Rattle.jsonb.specs.declared.selector.selected.MadeItem.{MadeItem}
@@ -170,7 +169,7 @@ pub use Rattle.std.proofs.Output.{writes_in_calls_nil}
 pub use Rattle.std.proofs.lemmas.Bool.{le-leb, lt-leb}
 pub use Rattle.std.proofs.lemmas.Bool.Decides.{Decides-and}
 pub use Rattle.std.proofs.lemmas.Int.{by_lt_z}
-pub use Rattle.std.proofs.lemmas.List.{drop-set-lt, with_items_is}
+pub use Rattle.std.proofs.lemmas.List.{reverse-reverse, drop-set-lt, with_items_is}
 pub use Rattle.std.proofs.lemmas.List.Folds.{find-append}
 pub use Rattle.std.proofs.lemmas.List.Sums.{sum_by-append}
 pub use Rattle.std.proofs.lemmas.Nat.{row_fits}

@@ -1,10 +1,9 @@
 -- A walk to the first item that steps lead to, in lax mode: what is left, the innermost first, gives the list of the
 -- whole.
-use Rattle.jsonb.proofs.Common.{◌≡◌, ℕ, ◌+◌, ◌<◌, List, [], ◌∷◌, ◌++◌, length, take, get_or, map, inl, Bool, true, false, Option, Some, None, is_some, Result, Ok, Err, IsOkAnd, refl, sym, ap, subst, ◌∙◌, append-nil, reverse, map-append, reverse-append, take_more, Outcome, and_then, Refines, SameOption, IsOutOfMemory, Form, Locates, Tree, Error, Spot, Step, Expression, steps_of, step_view, steps_view, AllZip, step_meaning, steps_meaning, truth, filtered, first_item, RefinesIfAny, has_condition, IsSearched, FirstAhead, AreAhead, IsAhead, TakesStep, HasItems, TakesItem, AreGiven, IsReached, BeginsAs, IsAt, IsPlain, is_filter, node_spots, option_spots, taken_step, tests_in, ArePlainTestsOf, HasSame, AreDropped, Document, Path, Expressions, Lax, Condition, Ahead, SearchStep, Items, StepItems, NodeList, arith, Waiting}
+use Rattle.jsonb.proofs.Common.{◌≡◌, ℕ, ◌+◌, ◌<◌, List, [], ◌∷◌, ◌++◌, length, take, get_or, map, inl, Bool, true, false, Option, Some, None, is_some, Result, Ok, Err, IsOkAnd, refl, sym, ap, subst, ◌∙◌, append-nil, reverse, map-append, reverse-append, take_more, Outcome, and_then, Refines, SameOption, IsOutOfMemory, Form, Locates, Tree, Error, Spot, Step, Expression, steps_of, step_view, steps_view, AllZip, step_meaning, steps_meaning, truth, filtered, first_item, RefinesIfAny, has_condition, FirstAhead, AreAhead, IsAhead, TakesStep, HasItems, TakesItem, AreGiven, IsReached, BeginsAs, IsAt, IsPlain, is_filter, node_spots, option_spots, taken_step, tests_in, ArePlainTestsOf, HasSame, AreDropped, Document, Path, Expressions, Lax, Condition, Ahead, Items, StepItems, NodeList, arith, Waiting}
 use Rattle.jsonb.specs.PathTree as math
 use Rattle.jsonb.specs.Private.Search.{IsTested}
 use Rattle.jsonb.proofs.RepeatLemmas.{alike_first}
-use Rattle.jsonb.specs.declared.selector.search.SearchStep.TheVariants as search
 use Rattle.jsonb.specs.declared.selector.children.StepItems.TheVariants as given
 use Rattle.jsonb.specs.declared.selector.search.Reached.TheVariants as reached
 use Rattle.jsonb.specs.declared.selector.selected.Selected.TheVariants as selected
@@ -21,17 +20,16 @@ use Rattle.jsonb.proofs.TestLemmas.{condition_total}
 pub no_filter : (s : Step) → has_condition s ≡ false → is_filter s ≡ false
 no_filter s h = grind arith
 
-plain_total : (s : Step) (top t : Tree) → has_condition s ≡ false → IsOkAnd (step_meaning Lax s top t) Any
+pub plain_total : (s : Step) (top t : Tree) → has_condition s ≡ false → IsOkAnd (step_meaning Lax s top t) Any
 plain_total s top t h = grind (arith, listed_total)
 
-tested_total : (condition : Condition) (s : Step) (top t : Tree) → IsTested condition s → IsOkAnd (step_meaning Lax s top t) Any
-tested_total condition s top t h = subst (λ z. IsOkAnd (step_meaning Lax z top t) Any) (sym h.1)
-    (with_ok Any (λ o. IsOkAnd o Any) (truth Lax h.0 top t) (λ b. Ok (filtered t b)) (condition_total (tests_in condition) h.0 top t h.2) (λ b _. tt))
+pub filter_total : (condition : Condition) (e : Expression) (top t : Tree) → ArePlainTestsOf (tests_in condition) e
+    → IsOkAnd (step_meaning Lax (math.filter e) top t) Any
+filter_total condition e top t h =
+    with_ok Any (λ o. IsOkAnd o Any) (truth Lax e top t) (λ b. Ok (filtered t b)) (condition_total (tests_in condition) e top t h) (λ b _. tt)
 
-pub searched_total : (x : SearchStep) (s : Step) (top t : Tree) → IsSearched x s → IsOkAnd (step_meaning Lax s top t) Any
-searched_total (search.Plain path) s top t h =
-    subst (λ z. IsOkAnd (step_meaning Lax z top t) Any) (sym h.0) (plain_total (step_view path.now) top t h.1)
-searched_total (search.Tested condition) s top t h = tested_total condition.now s top t h
+tested_total : (condition : Condition) (s : Step) (top t : Tree) → IsTested condition s → IsOkAnd (step_meaning Lax s top t) Any
+tested_total condition s top t h = subst (λ z. IsOkAnd (step_meaning Lax z top t) Any) (sym h.1) (filter_total condition h.0 top t h.2)
 
 -- the first of the steps
 first_total : (b : Bool) (path : Path) (s : Step) (conditions : List Condition) (Others : List Condition → Type 0) (top t : Tree)
@@ -60,17 +58,30 @@ all_searched ahead ss h = all_ahead ahead.steps.now ss ahead.conditions.now h
 
 -- ---- the steps ahead, one after the other
 
-pub no_steps_ahead : (paths : List Path) (ss : List Step) (conditions : List Condition) → paths ≡ [] → AreAhead paths ss conditions
-    → TakesStep ss None
+pub no_steps_ahead : (paths : List Path) (ss : List Step) (conditions : List Condition) → paths ≡ [] → AreAhead paths ss conditions → ss ≡ []
 no_steps_ahead paths ss conditions none h = grind arith
 
--- the step that is taken is the first
-pub first_step : (ss : List Step) (x : SearchStep) (after : Ahead) → TakesStep ss (Some (x, after)) → First (IsAhead after) (IsSearched x) ss
-first_step [] x after h = absurd h
-first_step (s ∷ ss) x after h = record { first = s; others = ss; whole = refl; holds = h.0; left = h.1 }
+-- the first step is not a filter
+pub plain_ahead : (paths : List Path) (ss : List Step) (conditions : List Condition) (path : Path) (others : List Path) → paths ≡ path ∷ others
+    → has_condition (step_view path) ≡ false → AreAhead paths ss conditions
+    → (rest : List Step) × (ss ≡ step_view path ∷ rest) × AreAhead others rest conditions
+plain_ahead [] ss conditions path others is plain h = cc
+plain_ahead (p ∷ ps) [] conditions path others is plain h = absurd h
+plain_ahead (p ∷ ps) (s ∷ ss) conditions path others is plain h = grind arith
 
-pub no_step : (ss : List Step) → TakesStep ss None → ss ≡ []
-no_step ss h = grind arith
+-- the first step is a filter
+pub tested_ahead : (paths : List Path) (ss : List Step) (conditions : List Condition) (path : Path) (others : List Path) (condition : Condition)
+    (more : List Condition) → paths ≡ path ∷ others → has_condition (step_view path) ≡ true → conditions ≡ condition ∷ more → AreAhead paths ss conditions
+    → (e : Expression) × (rest : List Step) × (ss ≡ math.filter e ∷ rest) × ArePlainTestsOf (tests_in condition) e × AreAhead others rest more
+tested_ahead [] ss conditions path others condition more is tested begins h = cc
+tested_ahead (p ∷ ps) [] conditions path others condition more is tested begins h = absurd h
+tested_ahead (p ∷ ps) (s ∷ ss) conditions path others condition more is tested begins h = grind arith
+
+pub no_condition_ahead : {A : Type 0} (paths : List Path) (ss : List Step) (conditions : List Condition) (path : Path) (others : List Path)
+    → paths ≡ path ∷ others → has_condition (step_view path) ≡ true → conditions ≡ [] → AreAhead paths ss conditions → A
+no_condition_ahead [] ss conditions path others is tested none h = cc
+no_condition_ahead (p ∷ ps) [] conditions path others is tested none h = absurd h
+no_condition_ahead (p ∷ ps) (s ∷ ss) conditions path others is tested none h = grind arith
 
 -- if there is a value, only an allocation fails
 pub memory_alone : {A : Type 0} {R : A → List Tree → Type 0} {e : Error} (o : Outcome (List Tree)) → IsOkAnd o Any → Refines R IsOutOfMemory (Err e) o
@@ -78,7 +89,7 @@ pub memory_alone : {A : Type 0} {R : A → List Tree → Type 0} {e : Error} (o 
 memory_alone o a h = grind arith
 
 -- one step of an item, and those after it
-pub step_taken : (P : List Tree → Type 0) (s : Step) (ss rest : List Step) (top u : Tree) → rest ≡ s ∷ ss → IsOkAnd (step_meaning Lax s top u) P
+step_taken : (P : List Tree → Type 0) (s : Step) (ss rest : List Step) (top u : Tree) → rest ≡ s ∷ ss → IsOkAnd (step_meaning Lax s top u) P
     → (us : List Tree) × P us × (steps_meaning Lax (steps_of rest) top (u ∷ []) ≡ steps_meaning Lax (steps_of ss) top us)
 step_taken P s ss rest top u is h =
     let k = continued P (step_meaning Lax s top u) (steps_meaning Lax (steps_of ss) top) h in (
@@ -88,6 +99,12 @@ step_taken P s ss rest top u is h =
           ∙ ap (λ o. and_then o (steps_meaning Lax (steps_of ss) top)) (joined_one (step_meaning Lax s top) u)
           ∙ k.2,
     )
+
+pub step_given : (bytes : List ℕ) (s : Step) (rest ss : List Step) (top t : Tree) (g : StepItems) (after : Ahead) → ss ≡ s ∷ rest → IsAhead after rest
+    → Refines (AreGiven bytes) IsOutOfMemory (Ok g) (step_meaning Lax s top t) → TakesStep bytes top t ss (Some (g, after))
+step_given bytes s rest ss top t g after is left h =
+    let k = step_taken (AreGiven bytes g) s rest ss top t is h.ok in
+    (k.0, rest, k.1, left, k.2)
 
 -- ---- the conditions of the steps so far
 

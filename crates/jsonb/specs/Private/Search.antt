@@ -23,8 +23,6 @@ use Rattle.jsonb.specs.declared.selector.plan.Condition.{Condition}
 use Rattle.jsonb.specs.declared.selector.search.Ahead.{Ahead}
 use Rattle.jsonb.specs.declared.selector.search.Conditions.{Conditions}
 use Rattle.jsonb.specs.declared.selector.search.Conditions.TheVariants as conditions
-use Rattle.jsonb.specs.declared.selector.search.SearchStep.{SearchStep}
-use Rattle.jsonb.specs.declared.selector.search.SearchStep.TheVariants as search
 use Rattle.jsonb.specs.declared.selector.search.Items.{Items}
 use Rattle.jsonb.specs.declared.selector.search.Items.TheVariants as items
 use Rattle.jsonb.specs.declared.selector.children.StepItems.{StepItems}
@@ -41,11 +39,6 @@ has_condition _ = false
 -- the step is a filter by this condition
 abbrev pub IsTested : Condition → Step → Type 0
 IsTested condition s = (e : Expression) × (s ≡ filter e) × ArePlainTestsOf (tests_in condition) e
-
--- the step of a search is this one
-abbrev pub IsSearched : SearchStep → Step → Type 0
-IsSearched (search.Plain path) s = (s ≡ step_view path.now) × (has_condition (step_view path.now) ≡ false)
-IsSearched (search.Tested condition) s = IsTested condition.now s
 
 -- Holds if the first of the steps is this one, with the first of the conditions if it is a filter, and the others have
 -- the other conditions.
@@ -75,11 +68,11 @@ AddsStep expressions path before answer after = (paths : List Path) (ss : List S
 abbrev pub IsAhead : Ahead → List Step → Type 0
 IsAhead ahead ss = AreAhead ahead.steps.now ss ahead.conditions.now
 
--- Holds if the result is the first of the steps, and the others.
-abbrev pub TakesStep : List Step → Option (SearchStep × Ahead) → Type 0
-TakesStep [] None = Unit {0}
-TakesStep (s ∷ ss) (Some taken) = IsSearched taken.0 s × IsAhead taken.1 ss
-TakesStep _ _ = ⊥
+-- Holds if the result is what the first of the steps selects of an item, and the steps after it.
+abbrev pub TakesStep : List ℕ → Tree → Tree → List Step → Option (StepItems × Ahead) → Type 0
+TakesStep bytes top t ss None = ss ≡ []
+TakesStep bytes top t ss (Some taken) = (us : List Tree) × (rest : List Step) × AreGiven bytes taken.0 us
+    × IsAhead taken.1 rest × (steps_meaning Lax (steps_of ss) top (t ∷ []) ≡ steps_meaning Lax (steps_of rest) top us)
 
 -- these items are left
 abbrev pub HasItems : List ℕ → Items → List Tree → Type 0

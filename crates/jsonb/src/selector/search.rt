@@ -1,6 +1,6 @@
 //! The first item that steps select, in lax mode: a traversal down to it that visits nothing after it.
 
-ghost use Rattle.std.specs.Prelude.{◌≡◌, ◌<◌, ◌++◌, ◌∷◌, [], ℕ, List, map, length, true, false, MatchOption, MatchResult, IfOk, OnOk, IfSome, IfErr, ⊤};
+ghost use Rattle.std.specs.Prelude.{◌≡◌, ◌<◌, ◌++◌, ◌∷◌, [], ℕ, List, map, length, Some, true, false, MatchResult, IfOk, OnOk, IfSome, IfErr};
 ghost use Rattle.jsonb_doc.specs.Answer.{Refines, SameOption, IsOutOfMemory, IsDecodingError, ◌or◌};
 ghost use Rattle.jsonb_doc.specs.declared.error.Error.TheVariants.{OutOfMemory};
 ghost use Rattle.jsonb_doc.specs.Representation.Positions.{Locates};
@@ -9,18 +9,17 @@ ghost use Rattle.jsonb.specs.PathTree.{Step, Expression, steps_of, filter};
 ghost use Rattle.jsonb.specs.PathViews.{step_view, steps_view};
 ghost use Rattle.std.specs.List.{AllZip};
 ghost use Rattle.jsonb.specs.Private.ItemSteps.{AreGiven};
-ghost use Rattle.jsonb.specs.Meaning.{step_meaning, steps_meaning, filtered};
+ghost use Rattle.jsonb.specs.Meaning.{step_meaning, steps_meaning};
 ghost use Rattle.jsonb.specs.SelectorAnswers.{first_item};
 ghost use Rattle.jsonb.specs.Private.Compared.{RefinesIfAny};
-ghost use Rattle.jsonb.specs.Private.Search.{has_condition, IsSearched, IsAhead, AreAhead, AddsStep, FindsFirst, conditions_in, TakesStep, HasItems, GivesLeft, TakesItem, IsReached};
-ghost use Rattle.jsonb.specs.Private.Selection.{IsAt, HasTree, IsPlain, taken_step};
+ghost use Rattle.jsonb.specs.Private.Search.{has_condition, IsAhead, AreAhead, AddsStep, FindsFirst, conditions_in, TakesStep, HasItems, GivesLeft, TakesItem, IsReached};
+ghost use Rattle.jsonb.specs.Private.Selection.{IsAt, HasTree, taken_step};
 ghost use Rattle.jsonb.specs.Private.Tests.{tests_in, ArePlainTestsOf};
 ghost use Rattle.jsonb.specs.SelectionErrors.{IsSelectionError};
 ghost use Rattle.jsonb.specs.declared.selector.document.Mode.TheVariants.{Lax};
 
 use super::children::{StepItems, plain_items};
 use super::compile::{compiled, may_be_plain};
-use super::distinct::can_repeat;
 use super::document::{Context, Expressions, Mode};
 use super::evaluate::tested_truth;
 use super::filter_cache::is_true;
@@ -32,15 +31,6 @@ use jsonb_doc::{Error, Spot, SpotIter, spot_by_parts};
 use std::alloc::Global;
 use std::mem::replace;
 use std::slice;
-
-/// A step that does not fail for any item in lax mode.
-#[derive(Clone, Copy)]
-pub(crate) enum SearchStep<'t, 's, 'p> {
-    /// A step without an expression.
-    Plain(&'t Path<'p>),
-    /// A filter by members of the item.
-    Tested(&'t Condition<'s, 'p>),
-}
 
 /// The steps that an item has before it, and the conditions of the filters among them, in order.
 #[derive(Clone, Copy)]
@@ -55,14 +45,6 @@ pub(crate) struct Ahead<'t, 's, 'p> {
 pub(crate) enum Conditions<'s, 'p> {
     One(Condition<'s, 'p>),
     Many(Vec<Condition<'s, 'p>>),
-}
-
-/// What is known of the steps of a search before their filters are compiled.
-#[derive(Clone, Copy)]
-pub(crate) struct Outline {
-    has_filter: bool,
-    /// How many of the steps may select an item again.
-    repeating: usize,
 }
 
 /// The remaining items, in order.
@@ -88,23 +70,33 @@ pub(crate) enum Reached<'t, 's, 'p> {
 }
 
 impl<'t, 's, 'p> Ahead<'t, 's, 'p> {
-    /// Returns the first of the steps, and those after it.
+    /// Returns what the first of the steps selects of an item, and the steps after it. Returns `None` if there is none.
     #[inline(always)]
-    fn first(self) -> Option<(SearchStep<'t, 's, 'p>, Ahead<'t, 's, 'p>)>
-        ensures takes { (ss : List Step) → IsAhead self.entry ss → TakesStep ss result }
-        ensures fewer { IfSome result (λ taken. length taken.1.steps.now < length self.entry.steps.now) }
+    fn take(
+        self,
+        alloc: Global,
+        bytes: &'t [u8],
+        item: Spot,
+    ) -> Result<Option<(StepItems<'t>, Ahead<'t, 's, 'p>)>, Error>
+        ensures takes { (top t : Tree) (ss : List Step) → IsAhead self.entry ss → Locates bytes.now item t
+            → MatchResult result (TakesStep bytes.now top t ss) IsOutOfMemory }
+        ensures fewer { IfOk result (λ found. IfSome found
+            (λ taken. length taken.1.steps.now < length self.entry.steps.now)) }
+        ensures errors { IfErr result (IsSelectionError Lax) }
     {
         let Some((step, steps)) = self.steps.split_first() else {
-            return None;
+            return Ok(None);
         };
         if !has_condition(step) {
             let conditions = self.conditions;
-            return Some((SearchStep::Plain(step), Ahead { steps, conditions }));
+            let selected = plain_items(Mode::Lax, step, bytes, item)?;
+            return Ok(Some((selected, Ahead { steps, conditions })));
         }
         let Some((condition, conditions)) = self.conditions.split_first() else {
-            return None;
+            return Ok(None);
         };
-        Some((SearchStep::Tested(condition), Ahead { steps, conditions }))
+        let kept = tested_item(alloc, condition, bytes, item)?;
+        Ok(Some((kept, Ahead { steps, conditions })))
     }
 }
 
@@ -129,17 +121,8 @@ impl<'t> Items<'t> {
     {
         let mut spots = Vec::new(alloc);
         given.push(alloc, bytes, &mut spots)?;
-        Ok(Items::of_list(spots))
-    }
-
-    /// Returns the positions of a list.
-    #[inline(always)]
-    fn of_list(mut spots: Vec<Spot>) -> Items<'t>
-        ensures { (bytes : List ℕ) (ts : List Tree) → AllZip (Locates bytes) spots.items ts
-            → HasItems bytes result ts }
-    {
         spots.reverse();
-        Items::Listed(spots)
+        Ok(Items::Listed(spots))
     }
 
     /// Returns the first of the remaining items.
@@ -198,19 +181,16 @@ fn lax_search<'s>(
     ensures meant { FindsFirst context.now.document expressions steps.now first result }
     ensures errors { IfErr result (IsSelectionError Lax) }
 {
-    let Some(outline) = outline_of(expressions, steps) else {
-        return Ok(None);
-    };
-    let bytes = context.document.bytes;
-    let most = most_visits(outline.repeating, bytes);
-    if outline.has_filter {
-        return filtered_search(context, expressions, steps, most, first);
+    match has_filter(expressions, steps) {
+        Some(false) => {}
+        Some(true) => return filtered_search(context, expressions, steps, first),
+        None => return Ok(None),
     }
     let ahead = Ahead {
         steps,
         conditions: &[],
     };
-    first_found(context.alloc, ahead, most, bytes, first)
+    first_found(context.alloc, ahead, context.document.bytes, first)
 }
 
 /// Returns the first item that steps with a filter select in lax mode. It is a separate function so that other steps
@@ -220,7 +200,6 @@ fn filtered_search<'s>(
     context: &Context<'_>,
     expressions: Expressions,
     steps: &'s [Path<'_>],
-    most_visits: usize,
     first: Spot,
 ) -> Result<Option<Option<Spot>>, Error>
     ensures meant { FindsFirst context.now.document expressions steps.now first result }
@@ -235,42 +214,24 @@ fn filtered_search<'s>(
         steps,
         conditions: conditions.as_slice(),
     };
-    first_found(alloc, ahead, most_visits, context.document.bytes, first)
+    first_found(alloc, ahead, context.document.bytes, first)
 }
 
-/// Returns the outline of steps, or `None` if one of them cannot be one of a search. A filter by an expression is
+/// Returns whether steps have a filter, or `None` if one of them cannot be one of a search. A filter by an expression is
 /// rejected before it is compiled: on a path with one filter, 110 instructions instead of 300.
-fn outline_of(expressions: Expressions, steps: &[Path<'_>]) -> Option<Outline>
-    ensures { MatchOption result ⊤ (λ outline. outline.has_filter ≡ false → AreAhead steps.now
-        (map (taken_step expressions) (steps_view steps.now)) []) }
+fn has_filter(expressions: Expressions, steps: &[Path<'_>]) -> Option<bool>
+    ensures { result ≡ Some false → AreAhead steps.now (map (taken_step expressions) (steps_view steps.now)) [] }
 {
-    let mut outline = Outline {
-        has_filter: false,
-        repeating: 0,
-    };
+    let mut has_filter = false;
     for step in steps {
-        if !outline.add(expressions, step) {
-            return None;
+        match filter_of(expressions, step) {
+            Some(e) if may_be_plain(e) => has_filter = true,
+            Some(_) => return None,
+            None if has_condition(step) => return None,
+            None => {}
         }
     }
-    Some(outline)
-}
-
-impl Outline {
-    /// Adds a step. Returns `false` if it cannot be one of a search.
-    #[inline(always)]
-    fn add(&mut self, expressions: Expressions, step: &Path<'_>) -> bool
-        ensures { result ≡ true → self.new.has_filter ≡ false → (self.old.has_filter ≡ false)
-            × (has_condition (step_view step.now) ≡ false) × IsPlain expressions (step_view step.now) }
-    {
-        let Some(e) = filter_of(expressions, step) else {
-            let repeats = usize::from(can_repeat(step, true));
-            self.repeating = self.repeating.saturating_add(repeats);
-            return !has_condition(step);
-        };
-        self.has_filter = true;
-        may_be_plain(e)
-    }
+    Some(has_filter)
 }
 
 impl<'s, 'p> Conditions<'s, 'p> {
@@ -373,24 +334,13 @@ fn has_condition(step: &Path<'_>) -> bool
     }
 }
 
-/// Returns at most how many items a search visits. If three steps may select an item again, it visits no more of them
-/// than there are bytes: each could double its items.
-#[inline(always)]
-fn most_visits(repeating: usize, bytes: &[u8]) -> usize {
-    if repeating < 3 {
-        usize::MAX
-    } else {
-        bytes.len()
-    }
-}
-
-/// Returns the first item that the steps select from one item, or the outer `None` if the search ends before. What
-/// remains of the enclosing items is in a `Vec`. Inlined: as a call it takes 41 of 650 instructions more.
+/// Returns the first item that the steps select from one item, or the outer `None` if the search ends before: it visits
+/// at most as many items as there are bytes, since steps that select items again could double them. What remains of the
+/// enclosing items is in a `Vec`. Inlined: as a call it takes 41 of 650 instructions more.
 #[inline(always)]
 fn first_found(
     alloc: Global,
     ahead: Ahead<'_, '_, '_>,
-    most_visits: usize,
     bytes: &[u8],
     first: Spot,
 ) -> Result<Option<Option<Spot>>, Error>
@@ -404,7 +354,7 @@ fn first_found(
         Reached::Many(inner) => inner,
     };
     let mut around = Vec::new(alloc);
-    'walk: for _ in 0..most_visits {
+    'walk: for _ in 0..bytes.len() {
         match within.items.next() {
             Some(item) => match reach(alloc, within.ahead, bytes, item?)? {
                 Reached::AtMostOne(Some(found)) => return Ok(Some(Some(found))),
@@ -439,9 +389,8 @@ fn reach<'t, 's, 'p>(
 {
     let mut item = first;
     let mut ahead = ahead;
-    while let Some((step, others)) = ahead.first() {
+    while let Some((given, others)) = ahead.take(alloc, bytes, item)? {
         ahead = others;
-        let given = step_items(alloc, step, bytes, item)?;
         match given {
             StepItems::AtMostOne(Some(next)) => item = spot_by_parts(next),
             StepItems::AtMostOne(None) => return Ok(Reached::AtMostOne(None)),
@@ -452,24 +401,6 @@ fn reach<'t, 's, 'p>(
         }
     }
     Ok(Reached::AtMostOne(Some(item)))
-}
-
-/// Returns what a step selects of an item.
-#[inline(always)]
-fn step_items<'t>(
-    alloc: Global,
-    step: SearchStep<'t, '_, '_>,
-    bytes: &'t [u8],
-    item: Spot,
-) -> Result<StepItems<'t>, Error>
-    ensures meant { (top t : Tree) (s : Step) → IsSearched step.entry s → Locates bytes.now item t
-        → Refines (AreGiven bytes.now) IsOutOfMemory result (step_meaning Lax s top t) }
-    ensures errors { IfErr result (IsSelectionError Lax) }
-{
-    match step {
-        SearchStep::Plain(path) => plain_items(Mode::Lax, path, bytes, item),
-        SearchStep::Tested(condition) => tested_item(alloc, condition, bytes, item),
-    }
 }
 
 /// Returns the item if a condition of its members is true.
@@ -489,15 +420,7 @@ fn tested_item<'t>(
         return Ok(StepItems::AtMostOne(None));
     };
     let truth = tested_truth(alloc, Mode::Lax, first, others, bytes, item)?;
-    Ok(kept(truth, item))
-}
-
-/// Returns an item if a filter is true of it.
-#[inline(always)]
-fn kept<'t>(truth: Option<bool>, item: Spot) -> StepItems<'t>
-    ensures kept { (bytes : List ℕ) (t : Tree) → Locates bytes item t → AreGiven bytes result (filtered t truth) }
-{
-    StepItems::AtMostOne(is_true(truth).then_some(spot_by_parts(item)))
+    Ok(StepItems::AtMostOne(is_true(truth).then_some(spot_by_parts(item))))
 }
 
 #[cfg(test)]

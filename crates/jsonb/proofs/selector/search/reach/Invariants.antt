@@ -2,10 +2,10 @@ use Rattle.jsonb.proofs.Common.{◌≡◌, ◌∷◌, [], List, length, Locates,
 use Rattle.jsonb.proofs.selector.search.reach.Given as goal
 
 -- what the steps that are left make of the item is what all make of the first
-abbrev pub invariant-loop-step : goal.invariant-loop-step
-invariant-loop-step l = (top t : Tree) (ss : List Step) → IsAhead l.fn.ahead ss → Locates l.bytes l.fn.first t →
+abbrev pub invariant-loop-given : goal.invariant-loop-given
+invariant-loop-given l = (top t : Tree) (ss : List Step) → IsAhead l.fn.ahead ss → Locates l.bytes l.fn.first t →
     (u : Tree) × (rest : List Step) × Locates l.bytes l.item u × IsAhead l.ahead rest
     × (steps_meaning Lax (steps_of ss) top (t ∷ []) ≡ steps_meaning Lax (steps_of rest) top (u ∷ []))
 
-abbrev pub decreases-loop-step : goal.decreases-loop-step
-decreases-loop-step l = length l.ahead.steps.now
+abbrev pub decreases-loop-given : goal.decreases-loop-given
+decreases-loop-given l = length l.ahead.steps.now

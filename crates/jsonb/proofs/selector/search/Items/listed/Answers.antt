@@ -1,4 +1,4 @@
-use Rattle.jsonb.proofs.Common.{[], Ok, sym, subst, Locates, AllZip}
+use Rattle.jsonb.proofs.Common.{[], Ok, sym, subst, Locates, AllZip, reverse-reverse, arith}
 use Rattle.jsonb.proofs.RefinesLemmas.{failed_as, refused_as, answered}
 use Rattle.jsonb.proofs.selector.search.Items.listed.Goals as goal
 
@@ -9,5 +9,5 @@ returns-in_err-push-clause-meant c = λ ts h.
 
 pub returns-clause-meant : goal.returns-clause-meant
 returns-clause-meant c = λ ts h.
-    answered {o = Ok ts} (c.of_list.ensures c.args.bytes.now ts
-    (c.in_ok-push.ensures.meant ts [] h (subst (λ l. AllZip (Locates c.args.bytes.now) l []) (sym c.new-spots.ensures.items) tt)).ok)
+    let k = (c.in_ok-push.ensures.meant ts [] h (subst (λ l. AllZip (Locates c.args.bytes.now) l []) (sym c.new-spots.ensures.items) tt)).ok in
+    answered {o = Ok ts} (grind (arith, reverse-reverse))

@@ -1,6 +1,6 @@
 use Rattle.jsonb.proofs.Common.{◌≡◌, [], false, map, take, steps_view, AreAhead, taken_step}
-use Rattle.jsonb.proofs.selector.search.outline_of.Given as goal
+use Rattle.jsonb.proofs.selector.search.has_filter.Given as goal
 
 abbrev pub invariant-loop-step : goal.invariant-loop-step
-invariant-loop-step l = l.outline.has_filter ≡ false
+invariant-loop-step l = l.has_filter ≡ false
     → AreAhead (take l.step-index l.steps) (map (taken_step l.expressions) (steps_view (take l.step-index l.steps))) []
